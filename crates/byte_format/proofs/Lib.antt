@@ -1,0 +1,9 @@
+pub mod Steps
+pub mod NumberLaws
+pub mod PartLaws
+pub mod SeveralLaws
+pub mod ChoiceLaws
+pub mod FormatLaws
+pub mod ReadingLaws
+pub mod Loop
+pub mod ExampleLaws

@@ -1,0 +1,5 @@
+pub mod Str
+pub mod Name
+pub mod Order
+pub mod Apply
+pub mod Texts

@@ -1,0 +1,96 @@
+//! What is answered to a call, and what is said of a command beside it.
+ghost use Rattle.std.specs.Prelude.{◌≡◌};
+
+use crate::{Duplicate, Rows, Texts};
+use std::alloc::{AllocError, Global};
+
+/// The code of ORA-00900, invalid SQL statement.
+pub const INVALID_SQL: u16 = 900;
+
+/// The code of ORA-00001, unique constraint violated.
+pub const UNIQUE_VIOLATED: u16 = 1;
+
+/// The rows that a query found, behind the names of what it asked for.
+#[derive(Debug, Drop)]
+pub struct RowSet {
+    /// A head for each column, in order.
+    pub heads: Texts,
+    pub rows: Rows,
+}
+
+impl Duplicate for RowSet {
+    fn copy(&self, alloc: Global) -> Result<RowSet, AllocError> {
+        Ok(RowSet {
+            heads: self.heads.copy(alloc)?,
+            rows: self.rows.copy(alloc)?,
+        })
+    }
+}
+
+/// A refusal: its code, as 900 for ORA-00900, and what its text names.
+#[derive(Debug, Drop)]
+pub struct Refusal {
+    pub code: u16,
+    /// What stands in the places that the text of this code leaves open, in order.
+    pub args: Texts,
+}
+
+impl Duplicate for Refusal {
+    fn copy(&self, alloc: Global) -> Result<Refusal, AllocError> {
+        let args = self.args.copy(alloc)?;
+        Ok(Refusal {
+            code: self.code,
+            args,
+        })
+    }
+}
+
+/// What was done.
+#[derive(Clone, Copy, Debug, PartialEq, Eq)]
+pub enum Done {
+    /// Rows were inserted.
+    Created,
+    Committed,
+    TableMade,
+}
+
+impl Duplicate for Done {
+    fn copy(&self, _alloc: Global) -> Result<Done, AllocError> {
+        Ok(*self)
+    }
+}
+
+/// What a node answers to a call.
+#[derive(Debug, Drop)]
+pub enum Answer {
+    /// It was done, to so many rows.
+    Did(Done, u32),
+    /// A query found these rows, which may be none.
+    Found(RowSet),
+    Refused(Refusal),
+}
+
+impl Duplicate for Answer {
+    fn copy(&self, alloc: Global) -> Result<Answer, AllocError> {
+        match self {
+            Answer::Did(done, rows) => Ok(Answer::Did(*done, *rows)),
+            Answer::Found(found) => Ok(Answer::Found(found.copy(alloc)?)),
+            Answer::Refused(refusal) => Ok(Answer::Refused(refusal.copy(alloc)?)),
+        }
+    }
+}
+
+/// What is said of a command that no node answers.
+#[derive(Debug, Drop)]
+pub enum Notice {
+    /// The command was carried out.
+    Fine,
+}
+
+impl Duplicate for Notice {
+    fn copy(&self, _alloc: Global) -> Result<Notice, AllocError> {
+        match self {
+            Notice::Fine => Ok(Notice::Fine),
+        }
+    }
+}

@@ -1,0 +1,36 @@
+//! The values that nodes keep: rows, changes and tables, what a node answers, and the lists that hold them.
+//!
+//! Contracts see a list as the list of its items, a name and a text as their bytes, and a table's rows as a finite map,
+//! so that any two values of these types can be compared by what they say.
+#![tactic(auto)]
+
+mod answer;
+mod duplicate;
+mod identifier;
+mod listing;
+mod name;
+mod name_err;
+mod printing;
+mod row;
+mod row_map;
+mod str;
+mod table;
+mod text_err;
+mod value;
+
+pub use answer::{Answer, Done, INVALID_SQL, Notice, Refusal, RowSet, UNIQUE_VIOLATED};
+pub use duplicate::Duplicate;
+pub use identifier::{IDENTIFIER_LIMIT, NAME_LIMIT, is_identifier};
+pub use listing::Listing;
+pub use name::{Name, Names};
+pub use name_err::NameErr;
+pub use printing::value_text;
+pub use row::{Change, Changes, Row, Rows};
+pub use row_map::RowMap;
+pub use str::{Str, TEXT_LIMIT};
+pub use table::{Column, Columns, Table};
+pub use text_err::TextErr;
+pub use value::{Bytes, Cells, Texts, Value};
+
+#[cfg(test)]
+mod tests;

@@ -1,0 +1,47 @@
+//! Tables and their columns.
+ghost use Rattle.std.specs.Prelude.{◌≡◌};
+
+use crate::{Duplicate, Listing, Name};
+use std::alloc::{AllocError, Global};
+
+/// A column of a table.
+#[derive(Debug, Drop)]
+pub struct Column {
+    pub name: Name,
+    /// The most bytes of a text, or nothing where the column is of numbers.
+    pub text_max: Option<u16>,
+    pub not_null: bool,
+    /// Whether this is the primary key.
+    pub key: bool,
+}
+
+/// The columns of a table, in order.
+pub type Columns = Listing<Column>;
+
+impl Duplicate for Column {
+    fn copy(&self, alloc: Global) -> Result<Column, AllocError> {
+        let name = self.name.copy(alloc)?;
+        Ok(Column {
+            name,
+            text_max: self.text_max,
+            not_null: self.not_null,
+            key: self.key,
+        })
+    }
+}
+
+/// A table as it was created.
+#[derive(Debug, Drop)]
+pub struct Table {
+    pub name: Name,
+    pub columns: Columns,
+}
+
+impl Duplicate for Table {
+    fn copy(&self, alloc: Global) -> Result<Table, AllocError> {
+        Ok(Table {
+            name: self.name.copy(alloc)?,
+            columns: self.columns.copy(alloc)?,
+        })
+    }
+}

@@ -1,0 +1,73 @@
+use super::*;
+use std::alloc::Global;
+use std::test::Fail;
+
+/// The line of the first bad command: 0 where there is none.
+fn bad_line(alloc: Global, script: &str) -> Result<u32, Fail> {
+    if script.len() >= 1 << 31 {
+        return Err(Fail::new("too long a script"));
+    }
+    match read_script(alloc, script.as_bytes()) {
+        Ok(_commands) => Ok(0),
+        Err(ScriptErr::Bad { line }) => Ok(line),
+        Err(ScriptErr::NoMemory) => Err(Fail::new("out of memory")),
+    }
+}
+
+#[test]
+fn names_the_line_of_a_bad_command(rt: HostRuntime) -> Result<(), Fail> {
+    for (script, want) in [
+        ("", 0),
+        (" \t\r\n\n", 0),
+        ("-- nothing; at all", 0),
+        ("NODE A;", 0),
+        ("node a.b$c ;\n-- done", 0),
+        ("NODE A; AT a SESSION 1: COMMIT;\n", 0),
+        ("NODE A; AT A SESSION 001 :;", 0),
+        ("NODE A-- the only node;\n; AT A SESSION 1: --\n;", 0),
+        ("NODE A;\nFROB;", 2),
+        ("FROB;\nFROB;", 1),
+        ("\n\nFROB;", 3),
+        ("-- one\n -- two\n\tFROB;", 3),
+        ("NODE A;\n\nAT A SESSION 1: COMMIT", 3),
+        ("NODE A;\n\n;", 3),
+        (";", 1),
+        ("NODE A;\nAT B SESSION 1: COMMIT;", 2),
+        ("NODE A;\nAT A SESSION 2: COMMIT;", 2),
+        ("NODE A;\nAT A SESSION 0: COMMIT;", 2),
+        ("NODE A;\nAT A SESSION ONE: COMMIT;", 2),
+        ("NODE A;\nAT A SESSION 1 COMMIT;", 2),
+        ("NODE A;\nAT A SESSION 1 -- : COMMIT;\n;", 2),
+        ("NODE A;\nNODE B;", 2),
+        ("AT A SESSION 1: COMMIT;", 1),
+        ("NODE A B;", 1),
+        ("NODE Select;", 1),
+        ("NODE A.;", 1),
+        ("NODE -A;", 1),
+    ] {
+        assert_eq!(rt; bad_line(rt.alloc(), script)?, want, "{script}");
+    }
+    Ok(())
+}
+
+const ORDERS: &[u8] = b"-- orders\nNODE Sales.Example; at SALES.example session 1: a:b -- no;\n c;";
+
+#[test]
+fn reads_the_node_and_each_text(rt: HostRuntime) -> Result<(), Fail> {
+    let commands = read_script(rt.alloc(), ORDERS)?;
+    let [
+        Command::Node { name },
+        Command::At {
+            node,
+            session,
+            text,
+        },
+    ] = commands.as_slice()
+    else {
+        return Err(Fail::new("not a node and a call"));
+    };
+    assert_eq!(rt; name.as_bytes(), b"SALES.EXAMPLE".as_slice());
+    assert_eq!(rt; (*node, *session), (1, 1));
+    assert_eq!(rt; text.as_slice(), b" a:b \n c".as_slice());
+    Ok(())
+}

@@ -1,0 +1,25 @@
+-- What a run claims.
+use Rattle.std.specs.Prelude.{◌≡◌, []}
+use Rattle.book.specs.Book.{book_of}
+use Rattle.book.specs.Agreement.{Agreement}
+use Rattle.run_laws.specs.Past.{start}
+use Rattle.run_laws.specs.Lawful.{IsLawful}
+use Rattle.run_laws.specs.Standing.{nothing_yet}
+use Rattle.run_laws.specs.Told.{told, WritesOwed, AnswersEach}
+use Rattle.script_run.specs.declared.outcome.Run.{Run}
+
+-- The book is that of the trace, in which only what may happen happened. Each line is the one that the trace and the
+-- book so far give: for a query, its meaning over the rows that the book's committed transactions leave, with the
+-- asker's own changes. The lines answer the commands from the first on, one each. Each turn wrote what it owes, and no
+-- transaction is decided twice.
+pub record IsRun (run : Run) : Type 0 where
+  pub book : run.book ≡ book_of run.trace
+  pub lawful : IsLawful (start run.commands) run.trace
+  pub told : run.answers ≡ told run.commands run.trace
+  pub in_order : AnswersEach 1 run.answers
+  pub writes : WritesOwed nothing_yet run.trace
+  pub agreement : Agreement run.book
+
+-- the run of a call that was refused
+abbrev pub nothing_done : Run
+nothing_done = record { commands = []; answers = []; book = []; trace = [] }

@@ -1,0 +1,167 @@
+//! The report: the answers as lines of text, each behind the number of its command.
+ghost use Rattle.std.specs.Prelude.{◌≡◌, ◌+◌, ◌∷◌, ◌++◌, [], map, codes, decimal, IfOk, OnOk};
+ghost use Rattle.std.specs.List.{flat_map};
+ghost use Rattle.script_run.specs.Report.{joined as joined_of, row_text as row_text_of, count_text as count_text_of, found_lines as found_lines_of, done_text as done_text_of, first_of, refusal_text as refusal_text_of, lines_of, numbered, report_of};
+
+use book::{AnswerLine, Said};
+use dtx_values::{
+    Answer, Bytes, Done, Listing, Notice, Refusal, Row, RowSet, UNIQUE_VIOLATED, value_text,
+};
+use itoa::Buffer;
+use std::alloc::{AllocError, Global};
+
+/// The pieces, with a bar between each two.
+fn joined(alloc: Global, pieces: &[Bytes]) -> Result<Bytes, AllocError>
+    ensures { IfOk result (λ text. text ≡ joined_of pieces.now) }
+{
+    let mut out = Vec::new(alloc);
+    if let [first, others @ ..] = pieces {
+        out.extend_from_slice(first.as_slice())?;
+        for other in others {
+            out.push(b'|')?;
+            out.extend_from_slice(other.as_slice())?;
+        }
+    }
+    Ok(Listing::of(out))
+}
+
+fn text(alloc: Global, text: &[u8]) -> Result<Bytes, AllocError>
+    ensures { IfOk result (λ copy. copy ≡ text.now) }
+{
+    Ok(Listing::of(Vec::from_slice(alloc, text)?))
+}
+
+fn row_text(alloc: Global, row: &Row) -> Result<Bytes, AllocError>
+    ensures { IfOk result (λ text. text ≡ row_text_of row.now) }
+{
+    let mut cells = Vec::new(alloc);
+    for cell in row.cells.as_slice() {
+        cells.push(value_text(alloc, cell)?)?;
+    }
+    joined(alloc, &cells)
+}
+
+fn put_number(out: &mut Vec<u8>, number: u64) -> Result<(), AllocError>
+    ensures { OnOk result (out.new.items ≡ out.old.items ++ decimal number) }
+{
+    let mut buffer = Buffer::new();
+    out.extend_from_slice(buffer.format(number).as_bytes())
+}
+
+/// `1 row selected.` and its like.
+fn count_text(alloc: Global, count: u64, what: &[u8]) -> Result<Bytes, AllocError>
+    ensures { IfOk result (λ text. text ≡ count_text_of count what.now) }
+{
+    let mut out = Vec::new(alloc);
+    put_number(&mut out, count)?;
+    if count == 1 {
+        out.extend_from_slice(b" row ")?;
+    } else {
+        out.extend_from_slice(b" rows ")?;
+    }
+    out.extend_from_slice(what)?;
+    Ok(Listing::of(out))
+}
+
+fn found_lines(alloc: Global, found: &RowSet) -> Result<Vec<Bytes>, AllocError>
+    ensures { IfOk result (λ lines. lines.items ≡ found_lines_of found.now) }
+{
+    let rows = found.rows.as_slice();
+    if rows.is_empty() {
+        return one_line(alloc, text(alloc, b"no rows selected")?);
+    }
+    let mut lines = one_line(alloc, joined(alloc, found.heads.as_slice())?)?;
+    put_rows(alloc, &mut lines, rows)?;
+    lines.push(count_text(alloc, rows.len() as u64, b"selected.")?)?;
+    Ok(lines)
+}
+
+fn put_rows(alloc: Global, lines: &mut Vec<Bytes>, rows: &[Row]) -> Result<(), AllocError>
+    ensures { OnOk result (lines.new.items ≡ lines.old.items ++ map row_text_of rows.now) }
+{
+    for row in rows {
+        lines.push(row_text(alloc, row)?)?;
+    }
+    Ok(())
+}
+
+fn done_text(alloc: Global, done: Done, count: u32) -> Result<Bytes, AllocError>
+    ensures { IfOk result (λ text. text ≡ done_text_of done count) }
+{
+    match done {
+        Done::Created => count_text(alloc, u64::from(count), b"created."),
+        Done::Committed => text(alloc, b"Commit complete."),
+        Done::TableMade => text(alloc, b"Table created."),
+    }
+}
+
+/// The table that a refusal names.
+fn first_argument(arguments: &[Bytes]) -> &[u8]
+    ensures { result.now ≡ first_of arguments.now }
+{
+    match arguments {
+        [first, ..] => first.as_slice(),
+        [] => &[],
+    }
+}
+
+fn refusal_text(alloc: Global, refusal: &Refusal) -> Result<Bytes, AllocError>
+    ensures { IfOk result (λ text. text ≡ refusal_text_of refusal.now) }
+{
+    if refusal.code != UNIQUE_VIOLATED {
+        return text(alloc, b"ORA-00900: invalid SQL statement");
+    }
+    let mut out = Vec::from_slice(alloc, b"ORA-00001: unique constraint (APP.")?;
+    out.extend_from_slice(first_argument(refusal.args.as_slice()))?;
+    out.extend_from_slice(b"_PK) violated")?;
+    Ok(Listing::of(out))
+}
+
+fn one_line(alloc: Global, line: Bytes) -> Result<Vec<Bytes>, AllocError>
+    ensures { IfOk result (λ lines. lines.items ≡ line ∷ []) }
+{
+    Ok(vec![in alloc; line]?)
+}
+
+fn lines(alloc: Global, said: &Said) -> Result<Vec<Bytes>, AllocError>
+    ensures { IfOk result (λ lines. lines.items ≡ lines_of said.now) }
+{
+    match said {
+        Said::World(Notice::Fine) => one_line(alloc, text(alloc, b"ok")?),
+        Said::Node(Answer::Did(done, count)) => one_line(alloc, done_text(alloc, *done, *count)?),
+        Said::Node(Answer::Found(found)) => found_lines(alloc, found),
+        Said::Node(Answer::Refused(refusal)) => one_line(alloc, refusal_text(alloc, refusal)?),
+    }
+}
+
+fn put_line(out: &mut Vec<u8>, command: u32, line: &[u8]) -> Result<(), AllocError>
+    ensures { OnOk result (out.new.items ≡ out.old.items ++ numbered command line.now) }
+{
+    put_number(out, u64::from(command))?;
+    out.push(b' ')?;
+    out.extend_from_slice(line)?;
+    out.push(b'\n')?;
+    Ok(())
+}
+
+/// One line behind another, each with the command's number.
+fn put_lines(out: &mut Vec<u8>, command: u32, lines: &[Bytes]) -> Result<(), AllocError>
+    ensures { OnOk result (out.new.items ≡ out.old.items ++ flat_map (numbered command) lines.now) }
+{
+    for line in lines {
+        put_line(out, command, line.as_slice())?;
+    }
+    Ok(())
+}
+
+/// The report of the answers.
+pub fn report(alloc: Global, answers: &[AnswerLine]) -> Result<Vec<u8>, AllocError>
+    ensures { IfOk result (λ text. text.items ≡ report_of answers.now) }
+{
+    let mut out = Vec::new(alloc);
+    for answer in answers {
+        let lines = lines(alloc, &answer.said)?;
+        put_lines(&mut out, answer.command, &lines)?;
+    }
+    Ok(out)
+}

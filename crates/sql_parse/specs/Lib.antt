@@ -1,0 +1,4 @@
+pub mod Reading
+pub mod Tokens
+pub mod Grammar
+pub mod Statements

@@ -1,0 +1,15 @@
+pub mod Options
+pub mod Loop
+pub mod Digits
+pub mod Quotes
+pub mod Runs
+pub mod QuoteLaws
+pub mod TokenLaws
+pub mod TextLaws
+pub mod Beginnings
+pub mod OneToken
+pub mod Parts
+pub mod Values
+pub mod WholeLaws
+pub mod Example
+pub mod PrintLaws

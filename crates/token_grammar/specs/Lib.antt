@@ -1,0 +1,11 @@
+pub mod Marks
+pub mod Bytes
+pub mod Tokens
+pub mod Steps
+pub mod Lexing
+pub mod Grammar
+pub mod Exact
+pub mod Gives
+pub mod Text
+pub mod Printing
+pub mod Example

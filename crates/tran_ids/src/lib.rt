@@ -1,0 +1,13 @@
+//! The ids of branches and transactions, their texts, and the clock that numbers commits.
+#![tactic(auto)]
+
+mod branch;
+mod clock;
+mod texts;
+
+pub use branch::BranchId;
+pub use clock::Clock;
+pub use texts::{global_text, local_text, read_local};
+
+#[cfg(test)]
+mod tests;

@@ -1,0 +1,61 @@
+#!/usr/bin/env python3
+"""Runs the cases below tests/cases and the examples on the built program.
+
+    tests/run_cases.py [PROGRAM]
+
+PROGRAM is ./dtx where it is left out. A case is a folder with the files
+
+    script      the bytes of standard input
+    make-input  in place of script: a Python expression that gives those bytes
+    args        optional: the words of the command line, one a line
+    expected    the whole standard output, byte for byte
+    status      the exit status
+
+and an example is a pair examples/NAME.dtx and examples/NAME.out, with the status 0. Each failure is one line. The last
+line is `N passed, M failed`; the exit status is 1 where one failed.
+"""
+
+import pathlib
+import subprocess
+import sys
+
+TOP = pathlib.Path(__file__).resolve().parent.parent
+
+
+def cases():
+    """Each case: its name, its input, its words, the output and the status that are due."""
+    for status in sorted(TOP.glob("tests/cases/**/status")):
+        folder = status.parent
+        script, make, args = folder / "script", folder / "make-input", folder / "args"
+        data = script.read_bytes() if script.exists() else eval(make.read_text(), {"__builtins__": {}})
+        words = args.read_text().splitlines() if args.exists() else []
+        yield folder.relative_to(TOP), data, words, (folder / "expected").read_bytes(), int(status.read_text())
+    for script in sorted(TOP.glob("examples/*.dtx")):
+        yield script.relative_to(TOP), script.read_bytes(), [], script.with_suffix(".out").read_bytes(), 0
+
+
+def why_wrong(program, data, words, expected, status):
+    """None where the program prints and answers what is due, else the difference."""
+    done = subprocess.run([program, *words], input=data, capture_output=True, timeout=60)
+    if done.returncode != status:
+        return f"status {done.returncode}, not {status}"
+    if done.stdout != expected:
+        return f"printed {done.stdout[:200]!r}, not {expected[:200]!r}"
+    return None
+
+
+def main(program):
+    passed = failed = 0
+    for name, *case in cases():
+        why = why_wrong(program, *case)
+        if why is None:
+            passed += 1
+        else:
+            failed += 1
+            print(f"FAIL {name}: {why}")
+    print(f"{passed} passed, {failed} failed")
+    return 1 if failed or not passed else 0
+
+
+if __name__ == "__main__":
+    sys.exit(main(sys.argv[1] if len(sys.argv) > 1 else str(TOP / "dtx")))
