@@ -1,9 +1,8 @@
 //! The entries of the book.
-ghost use Rattle.std.specs.Prelude.{◌≡◌, IfOk};
-ghost use Rattle.book.specs.Book.{entries_of};
+ghost use Rattle.std.specs.Prelude.{◌≡◌};
 
 use dtx_values::{Changes, Duplicate, Listing, Table};
-use redo_codec::RedoRecord;
+use redo_codec::Decision;
 use std::alloc::{AllocError, Global};
 use tran_ids::BranchId;
 
@@ -15,49 +14,96 @@ pub enum Entry {
         node: u8,
         table: Table,
     },
-    /// A branch decided its transaction, which its root names.
+    /// A branch is prepared. The root of its transaction names the transaction.
+    Sealed {
+        branch: BranchId,
+        global: BranchId,
+        changes: Changes,
+        /// The node's SCN.
+        scn: u64,
+    },
+    /// The commit point site decided to commit.
     Decided {
         branch: BranchId,
         global: BranchId,
         changes: Changes,
+        /// The commit SCN.
         scn: u64,
+    },
+    /// The decision reached a sealed branch.
+    Ended {
+        branch: BranchId,
+        outcome: Decision,
+    },
+    /// An administrator ended a sealed branch.
+    Forced {
+        branch: BranchId,
+        outcome: Decision,
+    },
+    /// The decision reached a forced branch.
+    Met {
+        branch: BranchId,
+        decision: Decision,
+        /// Whether it is another outcome than the forced one.
+        mixed: bool,
     },
 }
 
 /// The entries in the order in which their records came to stand.
 pub type Book = Listing<Entry>;
 
-/// The entries of what a node wrote in a turn.
-pub fn entries(
-    alloc: Global,
-    node: u8,
-    wrote: &Option<RedoRecord>,
-) -> Result<Vec<Entry>, AllocError>
-    ensures { IfOk result (λ entries. entries.items ≡ entries_of node wrote.now) }
-{
-    let mut entries = Vec::new(alloc);
-    match wrote {
-        None => {}
-        Some(RedoRecord::Table(table)) => {
-            let table = table.copy(alloc)?;
-            entries.push(Entry::Made { node, table })?;
-        }
-        Some(
-            RedoRecord::Decided {
-                me,
-                root,
+impl Duplicate for Entry {
+    fn copy(&self, alloc: Global) -> Result<Entry, AllocError> {
+        match self {
+            Entry::Made { node, table } => {
+                let table = table.copy(alloc)?;
+                Ok(Entry::Made { node: *node, table })
+            }
+            Entry::Sealed {
+                branch,
+                global,
+                changes,
                 scn,
+            } => {
+                let changes = changes.copy(alloc)?;
+                Ok(Entry::Sealed {
+                    branch: *branch,
+                    global: *global,
+                    changes,
+                    scn: *scn,
+                })
+            }
+            Entry::Decided {
+                branch,
+                global,
                 changes,
-            },
-        ) => {
-            let changes = changes.copy(alloc)?;
-            entries.push(Entry::Decided {
-                branch: *me,
-                global: *root,
-                changes,
-                scn: *scn,
-            })?;
+                scn,
+            } => {
+                let changes = changes.copy(alloc)?;
+                Ok(Entry::Decided {
+                    branch: *branch,
+                    global: *global,
+                    changes,
+                    scn: *scn,
+                })
+            }
+            Entry::Ended { branch, outcome } => Ok(Entry::Ended {
+                branch: *branch,
+                outcome: *outcome,
+            }),
+            Entry::Forced { branch, outcome } => Ok(Entry::Forced {
+                branch: *branch,
+                outcome: *outcome,
+            }),
+            Entry::Met {
+                branch,
+                decision,
+                mixed,
+            } => Ok(Entry::Met {
+                branch: *branch,
+                decision: *decision,
+                mixed: *mixed,
+            }),
         }
     }
-    Ok(entries)
 }

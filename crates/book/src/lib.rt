@@ -1,10 +1,11 @@
-//! What happens in a run, and the book of it: what an administrator is told of the redo records.
+//! What happens in a run, what is told of it, and the book, as plain data. The book is what an administrator is told of
+//! the redo records.
 #![tactic(auto)]
 
 mod entry;
 mod happening;
 mod line;
 
-pub use entry::{Book, Entry, entries};
-pub use happening::{Happening, Happenings};
+pub use entry::{Book, Entry};
+pub use happening::{Happening, Took, Trace};
 pub use line::{AnswerLine, AnswerLines, Said};

@@ -50,8 +50,19 @@ impl Duplicate for Refusal {
 pub enum Done {
     /// Rows were inserted.
     Created,
+    Updated,
+    Deleted,
     Committed,
+    RolledBack,
     TableMade,
+    LinkMade,
+    SynonymMade,
+    /// ALTER SESSION.
+    SessionAltered,
+    /// ALTER SYSTEM.
+    SystemAltered,
+    /// A row of the pending transactions is no longer shown.
+    Purged,
 }
 
 impl Duplicate for Done {
@@ -85,12 +96,20 @@ impl Duplicate for Answer {
 pub enum Notice {
     /// The command was carried out.
     Fine,
+    /// The call is out; a later line answers it.
+    Waiting,
+    Refused(Refusal),
+    /// These lines.
+    Shown(Texts),
 }
 
 impl Duplicate for Notice {
-    fn copy(&self, _alloc: Global) -> Result<Notice, AllocError> {
+    fn copy(&self, alloc: Global) -> Result<Notice, AllocError> {
         match self {
             Notice::Fine => Ok(Notice::Fine),
+            Notice::Waiting => Ok(Notice::Waiting),
+            Notice::Refused(refusal) => Ok(Notice::Refused(refusal.copy(alloc)?)),
+            Notice::Shown(lines) => Ok(Notice::Shown(lines.copy(alloc)?)),
         }
     }
 }

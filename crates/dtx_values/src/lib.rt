@@ -4,6 +4,7 @@
 //! so that any two values of these types can be compared by what they say.
 #![tactic(auto)]
 
+mod advice;
 mod answer;
 mod duplicate;
 mod identifier;
@@ -18,6 +19,7 @@ mod table;
 mod text_err;
 mod value;
 
+pub use advice::Advice;
 pub use answer::{Answer, Done, INVALID_SQL, Notice, Refusal, RowSet, UNIQUE_VIOLATED};
 pub use duplicate::Duplicate;
 pub use identifier::{IDENTIFIER_LIMIT, NAME_LIMIT, is_identifier};
@@ -28,7 +30,7 @@ pub use printing::value_text;
 pub use row::{Change, Changes, Row, Rows};
 pub use row_map::RowMap;
 pub use str::{Str, TEXT_LIMIT};
-pub use table::{Column, Columns, Table};
+pub use table::{Column, Columns, Link, Synonym, Table};
 pub use text_err::TextErr;
 pub use value::{Bytes, Cells, Texts, Value};
 

@@ -1,4 +1,4 @@
-//! Tables and their columns.
+//! What a node has names for: tables with their columns, database links, and synonyms.
 ghost use Rattle.std.specs.Prelude.{◌≡◌};
 
 use crate::{Duplicate, Listing, Name};
@@ -42,6 +42,41 @@ impl Duplicate for Table {
         Ok(Table {
             name: self.name.copy(alloc)?,
             columns: self.columns.copy(alloc)?,
+        })
+    }
+}
+
+/// A database link, and the node that it leads to.
+#[derive(Debug, Drop)]
+pub struct Link {
+    pub name: Name,
+    /// The name of the node.
+    pub target: Name,
+}
+
+impl Duplicate for Link {
+    fn copy(&self, alloc: Global) -> Result<Link, AllocError> {
+        Ok(Link {
+            name: self.name.copy(alloc)?,
+            target: self.target.copy(alloc)?,
+        })
+    }
+}
+
+/// A name for a table that is reached over a database link.
+#[derive(Debug, Drop)]
+pub struct Synonym {
+    pub name: Name,
+    pub table: Name,
+    pub link: Name,
+}
+
+impl Duplicate for Synonym {
+    fn copy(&self, alloc: Global) -> Result<Synonym, AllocError> {
+        Ok(Synonym {
+            name: self.name.copy(alloc)?,
+            table: self.table.copy(alloc)?,
+            link: self.link.copy(alloc)?,
         })
     }
 }

@@ -1,149 +1,150 @@
--- What a node keeps from turn to turn, and what a turn of it answers, writes and leaves.
-use Rattle.std.specs.Prelude.{ℕ, ◌+◌, Bool, true, false, List, [], ◌∷◌, ◌++◌, Option, None, Some, if◌then◌else◌, is_some, unwrap_or}
-use Rattle.std.specs.Option.{option_map_or}
-use Rattle.std.specs.FinMap.{empty}
-use Rattle.dtx_values.specs.Apply.{Rows, apply}
-use Rattle.dtx_values.specs.declared.table.Table.{Table}
-use Rattle.dtx_values.specs.declared.row.Change.{Change}
-use Rattle.dtx_values.specs.declared.answer.Done.TheVariants.{Committed, TableMade}
-use Rattle.dtx_values.specs.declared.answer.Answer.{Answer}
-use Rattle.dtx_values.specs.declared.answer.Answer.TheVariants.{Did}
-use Rattle.tran_ids.specs.declared.branch.BranchId.{BranchId}
-use Rattle.redo_codec.specs.declared.record.RedoRecord.{RedoRecord}
-use Rattle.redo_codec.specs.declared.record.RedoRecord.TheVariants as records
-use Rattle.redo_codec.specs.declared.input.Input.{Input}
-use Rattle.redo_codec.specs.declared.input.Input.TheVariants as inputs
-use Rattle.sql_parse.specs.Statements.{statement_of}
-use Rattle.sql_parse.specs.declared.statement.Stmt.{Stmt}
-use Rattle.sql_parse.specs.declared.statement.Stmt.TheVariants.{CreateTable, Insert, Select, Commit}
-use Rattle.node_rules.specs.Meaning.{invalid, meant, changes_meant, is_understood, keep_if}
+-- What one turn of a node does: the state after it, its record, its messages and the calls that it ends,
+-- each a function of the place, of what the node keeps and of the input.
+use Rattle.std.specs.Prelude.{ℕ, ◌+◌, ◌==◌, Bool, if◌then◌else◌, List, [], ◌∷◌, ◌++◌, map, max, replicate, Option, Some, None}
+use Rattle.node_rules.specs.Data.{Stmt, Answer, Advice, BranchId, Decision, RedoRecord, Standing, Vote, Kind, Msg, Place, Input}
+use Rattle.node_rules.specs.Data.decisions
+use Rattle.node_rules.specs.Data.kinds
+use Rattle.node_rules.specs.Data.votes
+use Rattle.node_rules.specs.Data.inputs
+use Rattle.node_rules.specs.Data.records
+use Rattle.node_rules.specs.Words.{one}
+use Rattle.node_rules.specs.Records.{nothing_stored, stored_by, applied}
+use Rattle.node_rules.specs.Calls.{on_open, on_opened, on_exec, on_reply, gone_reply}
+use Rattle.node_rules.specs.Prepare.{drops, on_prepare, on_answer, on_commit_point}
+use Rattle.node_rules.specs.Commit.{on_decision, on_ack, on_forgotten, on_commit_point_kept, on_prepare_kept}
+use Rattle.node_rules.specs.Recovery.{on_ask, on_ask_kept, recovery}
+use Rattle.node_rules.specs.Client.{read_turn, give_up_turn}
+use Rattle.node_rules.specs.Kept.{Kept, Stored, Branch, Session, Deed, Post, Outcome, nothing, saying, post, live_at, standing_at, fresh_session, raised}
+use Rattle.node_rules.specs.Words.{is_branch}
 
--- the number of the one node
-abbrev pub the_node : ℕ
-the_node = 1
+-- What a branch is at its node.
+pub data Stand : Type 0 where
+  Is_live : (branch : Branch) → Stand
+  Is_kept : (standing : Standing) → Stand
+  Is_gone : Stand
 
--- A node: its table; the table's rows as the open transaction sees them; what that transaction has changed, where one
--- is open; how many have ended; the greatest commit SCN.
-pub record Kept : Type 0 where
-  pub table : Option Table
-  pub rows : Rows
-  pub transaction : Option (List Change)
-  pub ended : ℕ
-  pub scn : ℕ
+abbrev pub kept_or_gone : Option Standing → Stand
+kept_or_gone None = Is_gone
+kept_or_gone (Some s) = Is_kept s
 
--- a new node
-abbrev pub fresh : Kept
-fresh = record { table = None; rows = empty; transaction = None; ended = 0; scn = 0 }
+abbrev pub live_or : Option Branch → Option Standing → Stand
+live_or (Some x) s = Is_live x
+live_or None s = kept_or_gone s
 
--- What a turn of a node answers and writes, and what the node keeps afterwards.
-pub record Outcome : Type 0 where
-  pub answer : Answer
-  pub wrote : Option RedoRecord
-  pub after : Kept
+unfoldable pub stand_of : Kept → BranchId → Stand
+stand_of k b = live_or (live_at k b) (standing_at k b)
 
--- the statement that a text is, where the node understands it
-abbrev pub understood : Option Table → List ℕ → Option Stmt
-understood table text = keep_if (is_understood table) (statement_of text)
+-- each kind of message, at a branch that is live, kept or gone
+abbrev pub exec_turn : Place → Kept → BranchId → BranchId → ℕ → ℕ → Option Advice → Stmt → Stand → Deed
+exec_turn p k from to call given advice s (Is_live x) = on_exec p k x from call given advice s
+exec_turn p k from to call given advice s (Is_kept y) = nothing k
+exec_turn p k from to call given advice s Is_gone = saying k (gone_reply to from call)
 
--- ---- what a statement does at a node with this table, over these rows
+abbrev pub opened_turn : Kept → BranchId → ℕ → ℕ → Stand → Deed
+opened_turn k from edge strength (Is_live x) = on_opened k x from edge strength
+opened_turn k from edge strength _ = nothing k
 
--- the answer of a statement that speaks of the table
-abbrev pub answer_over : Option Table → Rows → Stmt → Answer
-answer_over table rows statement = option_map_or (λ t. meant statement t rows) table invalid
+abbrev pub reply_turn : Kept → BranchId → ℕ → Option ℕ → ℕ → Answer → Stand → Deed
+reply_turn k from call weight count a (Is_live x) = on_reply k x from call weight count a
+reply_turn k from call weight count a _ = nothing k
 
--- and its changes
-abbrev pub changes_over : Option Table → Rows → Stmt → List Change
-changes_over table rows statement = option_map_or (λ t. changes_meant statement t rows) table []
+abbrev pub prepare_turn : Kept → BranchId → BranchId → Bool → List ℕ → Stand → Deed
+prepare_turn k from to site_below comment (Is_live x) = on_prepare k x site_below comment
+prepare_turn k from to site_below comment (Is_kept s) = on_prepare_kept k s from
+prepare_turn k from to site_below comment Is_gone = saying k (post to from kinds.Abort)
 
--- the answer
-abbrev pub answer_of : Option Table → Rows → Option Stmt → Answer
-answer_of table rows None = invalid
-answer_of table rows (Some (CreateTable made)) = Did TableMade 0
-answer_of table rows (Some Commit) = Did Committed 0
-answer_of table rows (Some (Insert name key value)) = answer_over table rows (Insert name key value)
-answer_of table rows (Some (Select name column key)) = answer_over table rows (Select name column key)
+abbrev pub answer_turn : Kept → BranchId → Vote → Stand → Deed
+answer_turn k from v (Is_live x) = on_answer k x from v
+answer_turn k from v _ = nothing k
 
--- the changes
-abbrev pub changes_of : Option Table → Rows → Option Stmt → List Change
-changes_of table rows None = []
-changes_of table rows (Some (CreateTable made)) = []
-changes_of table rows (Some Commit) = []
-changes_of table rows (Some (Insert name key value)) = changes_over table rows (Insert name key value)
-changes_of table rows (Some (Select name column key)) = []
+abbrev pub commit_point_turn : Kept → BranchId → BranchId → Stand → Deed
+commit_point_turn k from to (Is_live x) = on_commit_point k x from
+commit_point_turn k from to (Is_kept s) = on_commit_point_kept k s from
+commit_point_turn k from to Is_gone = saying k (post to from kinds.RolledBack)
 
--- what a transaction has changed
-abbrev pub own_of : Option (List Change) → List Change
-own_of transaction = unwrap_or transaction []
+abbrev pub committed_turn : Kept → BranchId → BranchId → ℕ → Stand → Deed
+committed_turn k from to n (Is_live x) = nothing k
+committed_turn k from to n (Is_kept s) = on_decision k s from (decisions.Commit n)
+committed_turn k from to n Is_gone = saying k (post to from kinds.Ack)
 
--- the transaction afterwards: INSERT and SELECT begin one where none is open, and COMMIT ends it
-abbrev pub transaction_after : Option (List Change) → List Change → Option Stmt → Option (List Change)
-transaction_after transaction changes None = transaction
-transaction_after transaction changes (Some (CreateTable made)) = transaction
-transaction_after transaction changes (Some Commit) = None
-transaction_after transaction changes (Some (Insert name key value)) = Some (own_of transaction ++ changes)
-transaction_after transaction changes (Some (Select name column key)) = Some (own_of transaction)
+-- Rollback ends a live branch, RolledBack does where it comes from the parent
+abbrev pub rollback_turn : Kept → BranchId → Stand → Deed
+rollback_turn k from (Is_live x) = drops k x []
+rollback_turn k from (Is_kept s) = on_decision k s from decisions.Rollback
+rollback_turn k from Is_gone = nothing k
 
--- how many transactions have ended then
-abbrev pub ended_after : ℕ → Option (List Change) → Option Stmt → ℕ
-ended_after ended transaction None = ended
-ended_after ended transaction (Some (CreateTable made)) = ended
-ended_after ended transaction (Some Commit) = if is_some transaction then ended + 1 else ended
-ended_after ended transaction (Some (Insert name key value)) = ended
-ended_after ended transaction (Some (Select name column key)) = ended
+abbrev pub rolled_back_turn : Kept → BranchId → Stand → Deed
+rolled_back_turn k from (Is_live x) = if is_branch from x.live.parent then drops k x [] else nothing k
+rolled_back_turn k from (Is_kept s) = on_decision k s from decisions.Rollback
+rolled_back_turn k from Is_gone = nothing k
 
--- the branch of the open transaction, the root of its tree
-abbrev pub branch_of : ℕ → BranchId
-branch_of ended = record { node = the_node; boot = 1; session = 1; seq = ended + 1 }
+abbrev pub ack_turn : Kept → BranchId → BranchId → Stand → Deed
+ack_turn k from to (Is_live x) = nothing k
+ack_turn k from to (Is_kept s) = on_ack k s from
+ack_turn k from to Is_gone = saying k (post to from kinds.Forgotten)
 
--- COMMIT decides what the transaction has changed, if anything
-abbrev pub decision_of : BranchId → ℕ → List Change → Option RedoRecord
-decision_of branch scn [] = None
-decision_of branch scn (change ∷ changes) = Some (records.Decided branch branch scn (change ∷ changes))
+abbrev pub forgotten_turn : Kept → BranchId → Stand → Deed
+forgotten_turn k from (Is_kept s) = on_forgotten k s from
+forgotten_turn k from _ = nothing k
 
--- the record, where a decision comes at this branch with this SCN on these changes
-abbrev pub record_of : BranchId → ℕ → List Change → Option Stmt → Option RedoRecord
-record_of branch scn own None = None
-record_of branch scn own (Some (CreateTable made)) = Some (records.Table made)
-record_of branch scn own (Some Commit) = decision_of branch scn own
-record_of branch scn own (Some (Insert name key value)) = None
-record_of branch scn own (Some (Select name column key)) = None
+abbrev pub ask_turn : Kept → BranchId → BranchId → Stand → Deed
+ask_turn k from to (Is_live x) = on_ask k x from
+ask_turn k from to (Is_kept s) = on_ask_kept k s from
+ask_turn k from to Is_gone = saying k (post to from kinds.RolledBack)
 
--- ---- a turn
+abbrev pub kind_turn : Place → Kept → BranchId → BranchId → Kind → Stand → Deed
+kind_turn p k from to (kinds.Open edge root depth) stand = on_open p k from edge root depth
+kind_turn p k from to (kinds.Opened edge strength) stand = opened_turn k from edge strength stand
+kind_turn p k from to (kinds.Exec call given advice s) stand = exec_turn p k from to call given advice s stand
+kind_turn p k from to (kinds.Reply call weight count result) stand = reply_turn k from call weight count result stand
+kind_turn p k from to (kinds.Prepare site_below comment) stand = prepare_turn k from to site_below comment stand
+kind_turn p k from to kinds.Prepared stand = answer_turn k from votes.Prepared stand
+kind_turn p k from to kinds.ReadOnly stand = answer_turn k from votes.ReadOnly stand
+kind_turn p k from to kinds.Ready stand = answer_turn k from votes.Ready stand
+kind_turn p k from to kinds.Abort stand = answer_turn k from votes.Abort stand
+kind_turn p k from to kinds.CommitPoint stand = commit_point_turn k from to stand
+kind_turn p k from to (kinds.Committed n) stand = committed_turn k from to n stand
+kind_turn p k from to kinds.RolledBack stand = rolled_back_turn k from stand
+kind_turn p k from to kinds.InDoubt stand = nothing k
+kind_turn p k from to kinds.Ack stand = ack_turn k from to stand
+kind_turn p k from to kinds.Forgotten stand = forgotten_turn k from stand
+kind_turn p k from to kinds.Rollback stand = rollback_turn k from stand
+kind_turn p k from to kinds.Ask stand = ask_turn k from to stand
 
--- the table, after what was written
-abbrev pub table_after : Option Table → Option RedoRecord → Option Table
-table_after table None = table
-table_after table (Some (records.Table made)) = Some made
-table_after table (Some (records.Decided me root scn changes)) = table
+-- a message raises the clock, and Committed does so by its SCN too
+abbrev pub kind_scn : Kind → ℕ
+kind_scn (kinds.Committed n) = n
+kind_scn _ = 0
 
--- the greatest commit SCN, after what was written
-abbrev pub scn_after : ℕ → Option RedoRecord → ℕ
-scn_after greatest None = greatest
-scn_after greatest (Some (records.Table made)) = greatest
-scn_after greatest (Some (records.Decided me root scn changes)) = scn
+abbrev pub met_message : Kept → Msg → Kept
+met_message k m = raised k (max m.scn (kind_scn m.kind))
 
--- what the node wrote, at the next SCN
-abbrev pub wrote_by : Kept → Option Stmt → Option RedoRecord
-wrote_by kept statement = record_of (branch_of kept.ended) (kept.scn + 1) (own_of kept.transaction) statement
+abbrev pub message_turn : Place → Kept → Msg → Deed
+message_turn p k m = kind_turn p (met_message k m) m.from m.to m.kind (stand_of k m.to)
 
--- what the node keeps after a statement that changed and wrote this
-abbrev pub after_by : Kept → Option Stmt → List Change → Option RedoRecord → Kept
-after_by kept statement changes wrote = record {
-  table = table_after kept.table wrote;
-  rows = apply kept.rows changes;
-  transaction = transaction_after kept.transaction changes statement;
-  ended = ended_after kept.ended kept.transaction statement;
-  scn = scn_after kept.scn wrote;
-}
+abbrev pub deed_of : Place → Kept → Input → Deed
+deed_of p k (inputs.Call session statement) = read_turn p k session statement
+deed_of p k (inputs.GiveUp session) = give_up_turn k session
+deed_of p k (inputs.Message m) = message_turn p k m
+deed_of p k inputs.Reco = recovery k
 
--- the turn of a statement, or of a text that is none
-abbrev pub statement_turn : Kept → Option Stmt → Outcome
-statement_turn kept statement = record {
-  answer = answer_of kept.table kept.rows statement;
-  wrote = wrote_by kept statement;
-  after = after_by kept statement (changes_of kept.table kept.rows statement) (wrote_by kept statement);
-}
+-- every message carries the clock after the turn
+abbrev pub stamped : ℕ → Post → Msg
+stamped scn x = record { from = x.from; to = x.to; scn = scn; kind = x.kind }
 
--- the turn of an input
-abbrev pub turn_of : Kept → Input → Outcome
-turn_of kept (inputs.Call session text) = statement_turn kept (understood kept.table text)
+abbrev pub outcome_of : Deed → Outcome
+outcome_of d = record { after = d.after; wrote = d.wrote; sent = map (stamped d.after.clock) d.says; ended = d.ended }
+
+unfoldable pub turn_of : Place → Kept → Input → Outcome
+turn_of p k input = outcome_of (deed_of p k input)
+
+-- what a start makes of the records: nobody is live, no acknowledgement has come, and the clock is the greatest SCN
+abbrev pub kept_by : Stored → Kept
+kept_by s = record { stored = s; lives = []; clock = s.scn; opens = []; sessions = replicate 64 fresh_session }
+
+unfoldable pub start_of : List RedoRecord → Kept
+start_of rs = kept_by (stored_by nothing_stored rs)
+
+-- a node that has just been made
+abbrev pub made : Kept
+made = start_of (records.Boot 1 ∷ [])

@@ -1,35 +1,100 @@
--- Which happening may come next.
-use Rattle.std.specs.Prelude.{◌≡◌, ◌+◌, ℕ, List, [], ◌∷◌, Option, None, Some, is_none, IsTrue, length, ◌<◌}
-use Rattle.redo_codec.specs.declared.record.RedoRecord.{RedoRecord}
-use Rattle.redo_codec.specs.declared.input.Input.{Input}
-use Rattle.script_read.specs.declared.command.Command.{Command}
-use Rattle.book.specs.declared.happening.Happening.{Happening}
-use Rattle.book.specs.declared.happening.Happening.TheVariants.{Begun, Turn}
-use Rattle.node_rules.specs.Turn.{the_node, turn_of}
-use Rattle.run_laws.specs.Past.{Past, start, next, History}
+-- Which happening may come after those before it.
+use Rattle.std.specs.Prelude.{◌≡◌, ℕ, ◌+◌, ◌-◌, ◌≤◌, ◌⊎◌, Bool, true, false, List, [], ◌∷◌, length, Option, Some, None}
+use Rattle.run_laws.specs.Data.{RedoRecord, Msg, Packet, Place, Input, Took, Happening, Command}
+use Rattle.run_laws.specs.Data.fates
+use Rattle.run_laws.specs.Data.records
+use Rattle.run_laws.specs.Data.inputs
+use Rattle.run_laws.specs.Data.happenings
+use Rattle.node_rules.specs.Kept.{Kept, Call_out, No_call, session_at}
+use Rattle.node_rules.specs.Turn.{turn_of}
+use Rattle.run_laws.specs.Net.{Net, packet_at, is_blocked}
+use Rattle.run_laws.specs.Past.{Past, start, next, past, place_at, node_at, records_at}
 
--- a command begins in its order, once the call before has ended
-pub record MayBegin (p : Past) (number : ℕ) : Type 0 where
-  pub in_order : number ≡ p.command + 1
-  pub is_asked : 0 < length p.left
-  pub is_idle : p.out ≡ None
+-- nothing must come before: no loss to tell, no node to fall
+pub record IsSettled (p : Past) : Type 0 where
+  pub told : p.untold ≡ []
+  pub upright : p.falling ≡ None
 
--- the node serves the call that is out, and writes what it owes
-pub record MayTurn (p : Past) (node : ℕ) (input : Input) (wrote : Option RedoRecord) : Type 0 where
-  pub here : node ≡ the_node
-  pub is_out : p.out ≡ Some input
-  pub owed : wrote ≡ (turn_of p.node input).wrote
+-- message t.number was sent to this node, word for word; its pair is joined and its target is up; it is in flight, unless it comes again
+pub record MayCome (p : Past) (node : ℕ) (m : Msg) (t : Took) (x : Packet) : Type 0 where
+  pub sent : packet_at p.net t.number ≡ Some x
+  pub same : x.msg ≡ m
+  pub here : m.to.node ≡ node
+  pub passes : is_blocked p.net m ≡ false
+  pub once : t.again ≡ false → x.fate ≡ fates.InFlight
 
--- this happening may come next
+abbrev pub IsSession : ℕ → Type 0
+IsSession n = (1 ≤ n) × (n ≤ 64)
+
+-- a session has at most one call out, and only that is given up
+abbrev pub HasCall : Call_out → Type 0
+HasCall No_call = ⊥
+HasCall _ = Unit {0}
+
+abbrev pub Comes : Past → Kept → ℕ → Input → Option Took → Type 0
+Comes p k node (inputs.Message m) (Some t) = (x : Packet) × MayCome p node m t x
+Comes p k node (inputs.Call session statement) None = IsSession session × ((session_at k session).call ≡ No_call)
+Comes p k node (inputs.GiveUp session) None = IsSession session × HasCall (session_at k session).call
+Comes p k node inputs.Reco None = Unit {0}
+Comes p k node _ _ = ⊥
+
+-- an uncut turn writes and sends what its input asks for; a cut one sends nothing, and its record stands or not
+abbrev pub IsOwed : Place → Kept → Input → Option RedoRecord → List Msg → Bool → Type 0
+IsOwed place k input wrote sent false = (wrote ≡ (turn_of place k input).wrote) × (sent ≡ (turn_of place k input).sent)
+IsOwed place k input wrote sent true = ((wrote ≡ None) ⊎ (wrote ≡ (turn_of place k input).wrote)) × (sent ≡ [])
+
+pub record MayTurn (p : Past) (node : ℕ) (input : Input) (took : Option Took) (wrote : Option RedoRecord) (sent : List Msg) (cut : Bool) (k : Kept) : Type 0 where
+  pub settled : IsSettled p
+  pub up : node_at p node ≡ Some k
+  pub comes : Comes p k node input took
+  pub owed : IsOwed (place_at p node) k input wrote sent cut
+
+-- a loss is told right after what lost it; any other message in flight may be lost
+pub record IsFlying (p : Past) (k : ℕ) (x : Packet) : Type 0 where
+  pub sent : packet_at p.net k ≡ Some x
+  pub flying : x.fate ≡ fates.InFlight
+
+abbrev pub MayBeLost : Past → ℕ → List ℕ → Type 0
+MayBeLost p k [] = (x : Packet) × IsFlying p k x
+MayBeLost p k (j ∷ js) = j ≡ k
+
+-- the node of a cut turn stops right after it
+abbrev pub MayStop : Past → ℕ → Option ℕ → Type 0
+MayStop p n (Some m) = (p.untold ≡ []) × (m ≡ n)
+MayStop p n None = p.untold ≡ []
+
+abbrev pub boots : List RedoRecord → ℕ
+boots [] = 0
+boots (records.Boot n ∷ rs) = 1 + boots rs
+boots (_ ∷ rs) = boots rs
+
+pub record MayStart (p : Past) (n boot : ℕ) : Type 0 where
+  pub settled : IsSettled p
+  pub down : node_at p n ≡ None
+  pub next : boot ≡ boots (records_at p n) + 1
+
 abbrev pub MayHappen : Past → Happening → Type 0
-MayHappen p (Begun number) = MayBegin p number
-MayHappen p (Turn node input wrote) = MayTurn p node input wrote
+MayHappen p (happenings.Begun c) = IsSettled p × ((c ≡ p.command + 1) × (c ≤ length p.commands))
+MayHappen p (happenings.Turn node input took wrote sent cut) = (k : Kept) × MayTurn p node input took wrote sent cut k
+MayHappen p (happenings.Cut a b) = IsSettled p
+MayHappen p (happenings.Join a b) = IsSettled p
+MayHappen p (happenings.Lost k) = MayBeLost p k p.untold
+MayHappen p (happenings.Stopped n) = MayStop p n p.falling
+MayHappen p (happenings.Started n boot) = MayStart p n boot
 
--- each happening may come behind those before it
+-- each happening may happen after those before it
 unfoldable pub IsLawful : Past → List Happening → Type 0
 IsLawful p [] = Unit {0}
-IsLawful p (happening ∷ happenings) = MayHappen p happening × IsLawful (next p happening) happenings
+IsLawful p (h ∷ hs) = MayHappen p h × IsLawful (next p h) hs
 
--- a run of what was asked for, from its start
+-- A run: its places, its commands, its happenings.
+pub record History : Type 0 where
+  pub places : List Place
+  pub commands : List Command
+  pub trace : List Happening
+
+abbrev pub past_of : History → Past
+past_of t = past (start t.places t.commands) t.trace
+
 abbrev pub IsLawfulRun : History → Type 0
-IsLawfulRun history = IsLawful (start history.asked) history.happenings
+IsLawfulRun t = IsLawful (start t.places t.commands) t.trace

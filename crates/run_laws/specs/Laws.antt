@@ -1,25 +1,18 @@
--- What holds of every lawful run.
-use Rattle.std.specs.Prelude.{◌≡◌, ◌+◌, ℕ, None, length}
-use Rattle.book.specs.Book.{book_of}
-use Rattle.book.specs.Agreement.{Agreement}
-use Rattle.run_laws.specs.Past.{History, past_of}
-use Rattle.run_laws.specs.Lawful.{IsLawfulRun}
-use Rattle.run_laws.specs.Standing.{nothing_yet}
-use Rattle.run_laws.specs.Told.{told, WritesOwed, AnswersEach}
+-- Laws of the definitions themselves.
+use Rattle.std.specs.Prelude.{◌≡◌, ℕ, List, [], ◌∷◌, ◌++◌}
+use Rattle.run_laws.specs.Data.{RedoRecord, Happening}
+use Rattle.run_laws.specs.Past.{Past, past, book_of}
+use Rattle.run_laws.specs.Lawful.{IsLawful, MayHappen}
+use Rattle.run_laws.specs.Past.{next}
 
--- The lines, the records and the book of a run are what its trace and its book say.
-pub record IsAsTold (history : History) : Type 0 where
-  pub lines : (past_of history).lines ≡ told history.asked history.happenings
-  pub writes : WritesOwed nothing_yet history.happenings
-  pub agreement : Agreement (book_of history.happenings)
-  pub in_order : AnswersEach 1 (past_of history).lines
+-- the book that the fold keeps is the book of the trace
+abbrev pub BookIsOfTrace : Type 0
+BookIsOfTrace = (p : Past) (hs : List Happening) → (past p hs).book ≡ p.book ++ book_of hs
 
--- every lawful run is so
-abbrev pub LawfulRunsAreAsTold : Type 0
-LawfulRunsAreAsTold = (history : History) → IsLawfulRun history → IsAsTold history
+-- a past can be gone on from
+abbrev pub PastGoesOn : Type 0
+PastGoesOn = (p : Past) (before hs : List Happening) → past p (before ++ hs) ≡ past (past p before) hs
 
--- and where no call is out, each command that began has its line
-abbrev pub EachBegunIsAnswered : Type 0
-EachBegunIsAnswered =
-    (history : History) → IsLawfulRun history → (past_of history).out ≡ None
-    → length (past_of history).lines + length (past_of history).left ≡ length history.asked
+-- a lawful trace stays lawful with one more happening that may come
+abbrev pub LawfulGoesOn : Type 0
+LawfulGoesOn = (p : Past) (hs : List Happening) (h : Happening) → IsLawful p hs → MayHappen (past p hs) h → IsLawful p (hs ++ h ∷ [])

@@ -1,6 +1,14 @@
+pub mod Data
+pub mod Net
+pub mod Disks
+pub mod Shown
 pub mod Past
 pub mod Lawful
-pub mod Recorded
-pub mod Standing
-pub mod Told
+pub mod Due
+pub mod Report
+pub mod Book
+pub mod Site
+pub mod Runs
+pub mod Knowledge
+pub mod Headline
 pub mod Laws

@@ -1,12 +1,19 @@
-//! What may happen in a run, what the happenings so far leave, and the laws that hold of every run in which only that
-//! happens.
-//!
-//! A run is a list of happenings. `past` folds what they leave, `MayHappen` says which one may come next, and a `Trace`
-//! takes no other. The laws speak of such traces alone: they name no node's code, no store and no disk.
+//! The rules of distributed transactions.
 #![tactic(auto)]
 
-mod laws;
-mod trace;
+ghost use Rattle.run_laws.specs.Laws.{BookIsOfTrace, PastGoesOn, LawfulGoesOn};
 
-pub use laws::{each_begun_is_answered, lawful_runs_are_as_told};
-pub use trace::{Recorded, Trace};
+/// Law: the book that the fold over a trace keeps is the book of the trace.
+pub fn book_is_of_trace()
+    ensures { BookIsOfTrace }
+{}
+
+/// Law: the fold over a trace may be stopped and gone on with anywhere.
+pub fn past_goes_on()
+    ensures { PastGoesOn }
+{}
+
+/// Law: a lawful trace and a happening that may come after it are a lawful trace.
+pub fn lawful_goes_on()
+    ensures { LawfulGoesOn }
+{}

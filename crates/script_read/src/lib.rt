@@ -1,18 +1,9 @@
-//! The commands of a script, and how they are read.
+//! The commands of a script, as plain data.
 //!
-//! A script is read in three steps: its comments are taken out, the text is cut into pieces at each `;`, and each piece
-//! is read as a command. `specs/Script.antt` says what a script asks for, and `read_script` gives exactly that.
+//! Every form that a script may hold stands here. How a script is read comes with the whole grammar; the few forms that
+//! a run understands today are read by the crate one_node_script.
 #![tactic(auto)]
 
 mod command;
-mod comment;
-mod error;
-mod piece;
-mod script;
 
-pub use command::{Command, Commands};
-pub use error::ScriptErr;
-pub use script::read_script;
-
-#[cfg(test)]
-mod tests;
+pub use command::{Command, Commands, How};

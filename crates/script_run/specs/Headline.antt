@@ -1,11 +1,11 @@
 -- What a run claims.
 use Rattle.std.specs.Prelude.{◌≡◌, []}
-use Rattle.book.specs.Book.{book_of}
-use Rattle.book.specs.Agreement.{Agreement}
-use Rattle.run_laws.specs.Past.{start}
-use Rattle.run_laws.specs.Lawful.{IsLawful}
-use Rattle.run_laws.specs.Standing.{nothing_yet}
-use Rattle.run_laws.specs.Told.{told, WritesOwed, AnswersEach}
+use Rattle.one_node_book.specs.Book.{book_of}
+use Rattle.one_node_book.specs.Agreement.{Agreement}
+use Rattle.one_node_laws.specs.Past.{start}
+use Rattle.one_node_laws.specs.Lawful.{IsLawful}
+use Rattle.one_node_laws.specs.Standing.{nothing_yet}
+use Rattle.one_node_laws.specs.Told.{told, WritesOwed, AnswersEach}
 use Rattle.script_run.specs.declared.outcome.Run.{Run}
 
 -- The book is that of the trace, in which only what may happen happened. Each line is the one that the trace and the

@@ -1,5 +1,5 @@
 -- What a node keeps, by its fields.
-use Rattle.node_rules.specs.Turn.{Kept}
+use Rattle.one_node_rules.specs.Turn.{Kept}
 use Rattle.script_run.specs.declared.node.Node.{Node}
 
 -- what this node keeps

@@ -1,9 +1,9 @@
 -- How a run in progress stands to its trace.
 use Rattle.std.specs.Prelude.{◌≡◌, ℕ, ◌+◌, List, ◌∷◌, drop, None}
-use Rattle.script_read.specs.declared.command.Command.{Command}
-use Rattle.node_rules.specs.Turn.{Kept}
-use Rattle.book.specs.declared.line.AnswerLine.{AnswerLine}
-use Rattle.run_laws.specs.Past.{Past, past_of}
+use Rattle.one_node_script.specs.declared.command.Command.{Command}
+use Rattle.one_node_rules.specs.Turn.{Kept}
+use Rattle.one_node_book.specs.declared.line.AnswerLine.{AnswerLine}
+use Rattle.one_node_laws.specs.Past.{Past, past_of}
 use Rattle.script_run.specs.KeptBy.{kept_by}
 use Rattle.script_run.specs.declared.progress.Progress.{Progress}
 

@@ -6,13 +6,13 @@ use Rattle.dtx_values.specs.declared.row.Row.{Row}
 use Rattle.dtx_values.specs.declared.answer.RowSet.{RowSet}
 use Rattle.dtx_values.specs.declared.answer.Refusal.{Refusal}
 use Rattle.dtx_values.specs.declared.answer.Done.{Done}
-use Rattle.dtx_values.specs.declared.answer.Done.TheVariants.{Created, Committed, TableMade}
+use Rattle.dtx_values.specs.declared.answer.Done.TheVariants.{Created, Updated, Deleted, Committed, RolledBack, TableMade, LinkMade, SynonymMade, SessionAltered, SystemAltered, Purged}
 use Rattle.dtx_values.specs.declared.answer.Answer.{Answer}
 use Rattle.dtx_values.specs.declared.answer.Answer.TheVariants.{Did, Found, Refused}
-use Rattle.dtx_values.specs.declared.answer.Notice.TheVariants.{Fine}
-use Rattle.book.specs.declared.line.Said.{Said}
-use Rattle.book.specs.declared.line.Said.TheVariants.{Node, World}
-use Rattle.book.specs.declared.line.AnswerLine.{AnswerLine}
+use Rattle.dtx_values.specs.declared.answer.Notice.TheVariants as notices
+use Rattle.one_node_book.specs.declared.line.Said.{Said}
+use Rattle.one_node_book.specs.declared.line.Said.TheVariants.{Node, World}
+use Rattle.one_node_book.specs.declared.line.AnswerLine.{AnswerLine}
 
 -- the pieces, with a bar between each two
 abbrev pub joined : List (List ℕ) → List ℕ
@@ -36,8 +36,16 @@ found_lines found =
 -- what was done
 abbrev pub done_text : Done → ℕ → List ℕ
 done_text Created n = count_text n (codes "created.")
+done_text Updated n = count_text n (codes "updated.")
+done_text Deleted n = count_text n (codes "deleted.")
 done_text Committed n = codes "Commit complete."
+done_text RolledBack n = codes "Rollback complete."
 done_text TableMade n = codes "Table created."
+done_text LinkMade n = codes "Database link created."
+done_text SynonymMade n = codes "Synonym created."
+done_text SessionAltered n = codes "Session altered."
+done_text SystemAltered n = codes "System altered."
+done_text Purged n = codes "PL/SQL procedure successfully completed."
 
 -- the first argument of a refusal, where it has one
 abbrev pub first_of : List (List ℕ) → List ℕ
@@ -52,7 +60,10 @@ refusal_text refusal =
 
 -- the lines of one answer
 abbrev pub lines_of : Said → List (List ℕ)
-lines_of (World Fine) = codes "ok" ∷ []
+lines_of (World notices.Fine) = codes "ok" ∷ []
+lines_of (World notices.Waiting) = codes "waiting" ∷ []
+lines_of (World (notices.Refused refusal)) = refusal_text refusal ∷ []
+lines_of (World (notices.Shown lines)) = lines
 lines_of (Node (Did done n)) = done_text done n ∷ []
 lines_of (Node (Found found)) = found_lines found
 lines_of (Node (Refused refusal)) = refusal_text refusal ∷ []

@@ -2,18 +2,18 @@
 ghost use Rattle.std.specs.Prelude.{◌≡◌, ◌+◌, ◌<◌, ◌^◌, ◌≤◌, [], ◌∷◌, map, Some, None, IfOk, OnOk};
 ghost use Rattle.std.specs.Option.{option_to_list};
 ghost use Rattle.std.specs.FinMap as finite;
-ghost use Rattle.sql_parse.specs.Reading.{Gives};
-ghost use Rattle.sql_parse.specs.declared.statement.Stmt.TheVariants.{CreateTable, Insert, Select, Commit};
-ghost use Rattle.node_rules.specs.Meaning.{invalid as invalid_statement, not_unique, row_of, is_understood as understands, is_key_of};
-ghost use Rattle.node_rules.specs.Turn.{fresh, understood, turn_of, statement_turn};
+ghost use Rattle.one_node_sql.specs.Reading.{Gives};
+ghost use Rattle.one_node_sql.specs.declared.statement.Stmt.TheVariants.{CreateTable, Insert, Select, Commit};
+ghost use Rattle.one_node_rules.specs.Meaning.{invalid as invalid_statement, not_unique, row_of, is_understood as understands, is_key_of};
+ghost use Rattle.one_node_rules.specs.Turn.{fresh, understood, turn_of, statement_turn};
 ghost use Rattle.script_run.specs.KeptBy.{kept_by};
 
 use dtx_values::{
     Answer, Change, Changes, Column, Done, Duplicate, INVALID_SQL, Listing, Name, Refusal, Row,
     RowMap, RowSet, Rows, Table, Texts, UNIQUE_VIOLATED, Value,
 };
-use redo_codec::{Input, RedoRecord};
-use sql_parse::{ParseErr, Stmt, parse};
+use one_node_book::{Input, RedoRecord};
+use one_node_sql::{ParseErr, Stmt, parse};
 use std::alloc::{AllocError, Global};
 use tran_ids::{BranchId, Clock};
 

@@ -2,9 +2,9 @@
 ghost use Rattle.std.specs.Prelude.{◌≡◌};
 ghost use Rattle.script_run.specs.Headline.{IsRun, nothing_done};
 
-use book::{AnswerLines, Book, Happenings};
 use dtx_values::Listing;
-use script_read::Commands;
+use one_node_book::{AnswerLines, Book, Happenings};
+use one_node_script::Commands;
 use std::alloc::Global;
 
 /// How a run of the program ends; its number is the exit status.
@@ -37,7 +37,7 @@ pub struct Run {
 
 impl Run {
     /// Nothing was done.
-    #[tactic(auto, unfolding(run_laws::specs::Lawful::IsLawful))]
+    #[tactic(auto, unfolding(one_node_laws::specs::Lawful::IsLawful))]
     pub fn empty(alloc: Global) -> Run
         ensures empty { result ≡ nothing_done }
         ensures run { IsRun result }

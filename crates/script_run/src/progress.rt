@@ -1,8 +1,8 @@
 //! A run in progress: the node, what happened so far, and what was told.
 ghost use Rattle.std.specs.Prelude.{◌≡◌, ◌+◌, ◌<◌, ◌≤◌, ◌^◌, [], ◌∷◌, ◌++◌, length, vec_len, drop, Some, None, IfOk, OnOk, OnErr};
-ghost use Rattle.script_read.specs.declared.command.Command.TheVariants as commands;
-ghost use Rattle.node_rules.specs.Turn.{turn_of};
-ghost use Rattle.run_laws.specs.Past.{start, past_of, begun, turned};
+ghost use Rattle.one_node_script.specs.declared.command.Command.TheVariants as commands;
+ghost use Rattle.one_node_rules.specs.Turn.{turn_of};
+ghost use Rattle.one_node_laws.specs.Past.{start, past_of, begun, turned};
 ghost use Rattle.script_run.specs.Ending.{IsWhole};
 ghost use Rattle.script_run.specs.Headline.{IsRun};
 ghost use Rattle.script_run.specs.KeptBy.{kept_by};
@@ -10,11 +10,10 @@ ghost use Rattle.script_run.specs.Linked.{IsLinked, IsNext, IsDone};
 
 use crate::node::{NODE, Node};
 use crate::outcome::Run;
-use book::{AnswerLine, Happening, Said};
 use dtx_values::{Answer, Duplicate, Listing, Notice};
-use redo_codec::Input;
-use run_laws::{Trace, each_begun_is_answered, lawful_runs_are_as_told};
-use script_read::{Command, Commands};
+use one_node_book::{AnswerLine, Happening, Input, Said};
+use one_node_laws::{Trace, each_begun_is_answered, lawful_runs_are_as_told};
+use one_node_script::{Command, Commands};
 use std::alloc::{AllocError, Global};
 
 /// A run in progress.
@@ -56,7 +55,7 @@ fn serve(
 
 impl Progress {
     /// A run of these commands, in which nothing has happened.
-    #[tactic(auto, unfolding(run_laws::specs::Past::past))]
+    #[tactic(auto, unfolding(one_node_laws::specs::Past::past))]
     pub fn new(alloc: Global, asked: Commands) -> Progress
         ensures linked { IsLinked result }
         ensures fresh { IsDone (past_of result.trace) 0 asked }

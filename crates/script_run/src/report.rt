@@ -3,11 +3,12 @@ ghost use Rattle.std.specs.Prelude.{◌≡◌, ◌+◌, ◌∷◌, ◌++◌, [],
 ghost use Rattle.std.specs.List.{flat_map};
 ghost use Rattle.script_run.specs.Report.{joined as joined_of, row_text as row_text_of, count_text as count_text_of, found_lines as found_lines_of, done_text as done_text_of, first_of, refusal_text as refusal_text_of, lines_of, numbered, report_of};
 
-use book::{AnswerLine, Said};
 use dtx_values::{
-    Answer, Bytes, Done, Listing, Notice, Refusal, Row, RowSet, UNIQUE_VIOLATED, value_text,
+    Answer, Bytes, Done, Duplicate, Listing, Notice, Refusal, Row, RowSet, UNIQUE_VIOLATED,
+    value_text,
 };
 use itoa::Buffer;
+use one_node_book::{AnswerLine, Said};
 use std::alloc::{AllocError, Global};
 
 /// The pieces, with a bar between each two.
@@ -90,8 +91,16 @@ fn done_text(alloc: Global, done: Done, count: u32) -> Result<Bytes, AllocError>
 {
     match done {
         Done::Created => count_text(alloc, u64::from(count), b"created."),
+        Done::Updated => count_text(alloc, u64::from(count), b"updated."),
+        Done::Deleted => count_text(alloc, u64::from(count), b"deleted."),
         Done::Committed => text(alloc, b"Commit complete."),
+        Done::RolledBack => text(alloc, b"Rollback complete."),
         Done::TableMade => text(alloc, b"Table created."),
+        Done::LinkMade => text(alloc, b"Database link created."),
+        Done::SynonymMade => text(alloc, b"Synonym created."),
+        Done::SessionAltered => text(alloc, b"Session altered."),
+        Done::SystemAltered => text(alloc, b"System altered."),
+        Done::Purged => text(alloc, b"PL/SQL procedure successfully completed."),
     }
 }
 
@@ -128,6 +137,9 @@ fn lines(alloc: Global, said: &Said) -> Result<Vec<Bytes>, AllocError>
 {
     match said {
         Said::World(Notice::Fine) => one_line(alloc, text(alloc, b"ok")?),
+        Said::World(Notice::Waiting) => one_line(alloc, text(alloc, b"waiting")?),
+        Said::World(Notice::Refused(refusal)) => one_line(alloc, refusal_text(alloc, refusal)?),
+        Said::World(Notice::Shown(lines)) => Ok(lines.copy(alloc)?.into_vec()),
         Said::Node(Answer::Did(done, count)) => one_line(alloc, done_text(alloc, *done, *count)?),
         Said::Node(Answer::Found(found)) => found_lines(alloc, found),
         Said::Node(Answer::Refused(refusal)) => one_line(alloc, refusal_text(alloc, refusal)?),

@@ -6,10 +6,10 @@ ghost use Rattle.script_run.specs.Ending.{EndsUnread, EndsRefused, EndsReported,
 use crate::outcome::{Outcome, Run, Status};
 use crate::progress::run_commands;
 use crate::report::report;
-use book::AnswerLine;
 use dtx_ports::{ReadErr, Sink, Source, read_whole, write_whole};
 use dtx_values::Listing;
-use script_read::{ScriptErr, read_script};
+use one_node_book::AnswerLine;
+use one_node_script::{ScriptErr, read_script};
 use std::alloc::Global;
 
 /// The longest script, in bytes.

@@ -1,16 +1,15 @@
-//! The statements of the SQL subset, and how they are read.
+//! The statements of the SQL subset, as plain data.
 //!
-//! A text is first taken apart into tokens, and then each statement is read as its grammar is spelled, one item after
-//! the other. `specs/Statements.antt` says which statement a text is, and `parse` gives exactly that.
+//! Every form that a script may hold stands here. How a text is read as a statement comes with the grammar of the whole
+//! subset; the few forms that a run understands today are read by the crate one_node_sql.
 #![tactic(auto)]
 
-mod error;
-pub mod grammar;
+mod condition;
+mod query;
 mod statement;
-pub mod token;
+mod sum;
 
-pub use error::ParseErr;
-pub use statement::{Stmt, parse};
-
-#[cfg(test)]
-mod tests;
+pub use condition::{Cond, Conds, Sign};
+pub use query::Picked;
+pub use statement::{Set, Sets, Stmt, TableRef};
+pub use sum::{Step, Steps, Sum, Sums, Term};

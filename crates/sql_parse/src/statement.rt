@@ -1,140 +1,196 @@
-//! Statements, and how they are read.
+//! Statements.
 ghost use Rattle.std.specs.Prelude.{◌≡◌, IfOk};
-ghost use Rattle.sql_parse.specs.Reading.{Gives};
-ghost use Rattle.sql_parse.specs.Statements.{create_at, insert_at, select_at, commit_at, statement_of, number_column as column_of, two_columns as columns_of};
+ghost use Rattle.sql_parse.specs.declared.statement.Stmt.TheVariants.{Insert, Update, Delete, Select};
 
-use crate::error::ParseErr;
-use crate::grammar::{end, identifier, keyword, number, sign};
-use crate::token::{Token, tokens};
-use dtx_values::{Column, Listing, Name, Table, Value};
+use crate::condition::Conds;
+use crate::query::Picked;
+use crate::sum::{Sum, Sums};
+use dtx_values::{Advice, Bytes, Duplicate, Link, Listing, Name, Names, Synonym, Table};
 use std::alloc::{AllocError, Global};
+
+/// A table by its name, or a table behind a link: `T` or `T@LINK`.
+#[derive(Debug, Drop)]
+pub struct TableRef {
+    pub name: Name,
+    pub link: Option<Name>,
+}
+
+impl Duplicate for TableRef {
+    fn copy(&self, alloc: Global) -> Result<TableRef, AllocError> {
+        Ok(TableRef {
+            name: self.name.copy(alloc)?,
+            link: self.link.copy(alloc)?,
+        })
+    }
+}
+
+/// An assignment of an UPDATE.
+#[derive(Debug, Drop)]
+pub struct Set {
+    pub column: Name,
+    pub to: Sum,
+}
+
+/// The assignments of an UPDATE, in the order of its text.
+pub type Sets = Listing<Set>;
+
+impl Duplicate for Set {
+    fn copy(&self, alloc: Global) -> Result<Set, AllocError> {
+        Ok(Set {
+            column: self.column.copy(alloc)?,
+            to: self.to.copy(alloc)?,
+        })
+    }
+}
 
 /// A statement.
 #[derive(Debug, Drop)]
 pub enum Stmt {
     CreateTable(Table),
-    /// A row of a key and a value.
+    CreateLink(Link),
+    CreateSynonym(Synonym),
     Insert {
-        table: Name,
-        key: Value,
-        value: Value,
+        table: TableRef,
+        /// The columns that get values, or all of them.
+        columns: Option<Names>,
+        values: Sums,
     },
-    /// The row at a key, where the column is named as the key.
+    Update {
+        table: TableRef,
+        sets: Sets,
+        conds: Conds,
+    },
+    Delete {
+        table: TableRef,
+        conds: Conds,
+    },
     Select {
-        table: Name,
-        column: Name,
-        key: Value,
+        list: Picked,
+        table: TableRef,
+        conds: Conds,
+        for_update: bool,
     },
-    Commit,
+    Commit {
+        comment: Option<Bytes>,
+    },
+    /// COMMIT FORCE, with the SCN where the user gives one.
+    CommitForce {
+        id: Bytes,
+        scn: Option<u64>,
+    },
+    Rollback,
+    /// ROLLBACK FORCE
+    RollbackForce {
+        id: Bytes,
+    },
+    /// ALTER SESSION ADVISE, with nothing for NOTHING.
+    Advise(Option<Advice>),
+    /// ALTER SYSTEM ENABLE or DISABLE DISTRIBUTED RECOVERY.
+    Recovery(bool),
+    /// EXECUTE DBMS_TRANSACTION.PURGE_MIXED
+    PurgeMixed {
+        id: Bytes,
+    },
+    /// EXECUTE DBMS_TRANSACTION.PURGE_LOST_DB_ENTRY
+    PurgeLost {
+        id: Bytes,
+    },
 }
 
-/// `CREATE TABLE table (key NUMBER PRIMARY KEY, other NUMBER)`
-#[tactic(auto, unfolding(crate::specs::Statements::create_at))]
-fn create(alloc: Global, tokens: &[Token]) -> Result<Stmt, ParseErr>
-    ensures { Gives (λ x. x) result (create_at tokens.now) }
-{
-    let rest = keyword(tokens, b"CREATE")?;
-    let rest = keyword(rest, b"TABLE")?;
-    let (table, rest) = identifier(alloc, rest)?;
-    let rest = sign(rest, b'(')?;
-    let (key, rest) = identifier(alloc, rest)?;
-    let rest = keyword(rest, b"NUMBER")?;
-    let rest = keyword(rest, b"PRIMARY")?;
-    let rest = keyword(rest, b"KEY")?;
-    let rest = sign(rest, b',')?;
-    let (other, rest) = identifier(alloc, rest)?;
-    let rest = keyword(rest, b"NUMBER")?;
-    let rest = sign(rest, b')')?;
-    end(rest)?;
-    if key.is(&other) {
-        return Err(ParseErr::BadSql);
+impl Duplicate for Stmt {
+    fn copy(&self, alloc: Global) -> Result<Stmt, AllocError> {
+        match self {
+            Stmt::CreateTable(table) => Ok(Stmt::CreateTable(table.copy(alloc)?)),
+            Stmt::CreateLink(link) => Ok(Stmt::CreateLink(link.copy(alloc)?)),
+            Stmt::CreateSynonym(synonym) => Ok(Stmt::CreateSynonym(synonym.copy(alloc)?)),
+            Stmt::Insert {
+                table,
+                columns,
+                values,
+            } => copy_insert(alloc, table, columns, values),
+            Stmt::Update { table, sets, conds } => copy_update(alloc, table, sets, conds),
+            Stmt::Delete { table, conds } => copy_delete(alloc, table, conds),
+            Stmt::Select {
+                list,
+                table,
+                conds,
+                for_update,
+            } => copy_select(alloc, list, table, conds, *for_update),
+            Stmt::Commit { comment } => Ok(Stmt::Commit {
+                comment: comment.copy(alloc)?,
+            }),
+            Stmt::CommitForce { id, scn } => Ok(Stmt::CommitForce {
+                id: id.copy(alloc)?,
+                scn: *scn,
+            }),
+            Stmt::Rollback => Ok(Stmt::Rollback),
+            Stmt::RollbackForce { id } => Ok(Stmt::RollbackForce {
+                id: id.copy(alloc)?,
+            }),
+            Stmt::Advise(advice) => Ok(Stmt::Advise(*advice)),
+            Stmt::Recovery(on) => Ok(Stmt::Recovery(*on)),
+            Stmt::PurgeMixed { id } => Ok(Stmt::PurgeMixed {
+                id: id.copy(alloc)?,
+            }),
+            Stmt::PurgeLost { id } => Ok(Stmt::PurgeLost {
+                id: id.copy(alloc)?,
+            }),
+        }
     }
-    Ok(Stmt::CreateTable(two_columns(alloc, table, key, other)?))
 }
 
-/// A column of numbers.
-fn number_column(name: Name, key: bool) -> Column
-    ensures { result ≡ column_of name key }
+fn copy_insert(
+    alloc: Global,
+    table: &TableRef,
+    columns: &Option<Names>,
+    values: &Sums,
+) -> Result<Stmt, AllocError>
+    ensures { IfOk result (λ copy. copy ≡ Insert table.now columns.now values.now) }
 {
-    Column {
-        name,
-        text_max: None,
-        not_null: false,
-        key,
-    }
+    Ok(Stmt::Insert {
+        table: table.copy(alloc)?,
+        columns: columns.copy(alloc)?,
+        values: values.copy(alloc)?,
+    })
 }
 
-/// A table of a key and one more column, both of numbers.
-fn two_columns(alloc: Global, name: Name, key: Name, other: Name) -> Result<Table, AllocError>
-    ensures { IfOk result (λ table. table ≡ columns_of name key other) }
+fn copy_update(
+    alloc: Global,
+    table: &TableRef,
+    sets: &Sets,
+    conds: &Conds,
+) -> Result<Stmt, AllocError>
+    ensures { IfOk result (λ copy. copy ≡ Update table.now sets.now conds.now) }
 {
-    let key = number_column(key, true);
-    let other = number_column(other, false);
-    let columns = Listing::of(vec![in alloc; key, other]?);
-    Ok(Table { name, columns })
+    Ok(Stmt::Update {
+        table: table.copy(alloc)?,
+        sets: sets.copy(alloc)?,
+        conds: conds.copy(alloc)?,
+    })
 }
 
-/// `INSERT INTO table VALUES (key, value)`
-#[tactic(auto, unfolding(crate::specs::Statements::insert_at))]
-fn insert(alloc: Global, tokens: &[Token]) -> Result<Stmt, ParseErr>
-    ensures { Gives (λ x. x) result (insert_at tokens.now) }
+fn copy_delete(alloc: Global, table: &TableRef, conds: &Conds) -> Result<Stmt, AllocError>
+    ensures { IfOk result (λ copy. copy ≡ Delete table.now conds.now) }
 {
-    let rest = keyword(tokens, b"INSERT")?;
-    let rest = keyword(rest, b"INTO")?;
-    let (table, rest) = identifier(alloc, rest)?;
-    let rest = keyword(rest, b"VALUES")?;
-    let rest = sign(rest, b'(')?;
-    let (key, rest) = number(rest)?;
-    let rest = sign(rest, b',')?;
-    let (value, rest) = number(rest)?;
-    let rest = sign(rest, b')')?;
-    end(rest)?;
-    Ok(Stmt::Insert { table, key, value })
+    Ok(Stmt::Delete {
+        table: table.copy(alloc)?,
+        conds: conds.copy(alloc)?,
+    })
 }
 
-/// `SELECT * FROM table WHERE column = key`
-#[tactic(auto, unfolding(crate::specs::Statements::select_at))]
-fn select(alloc: Global, tokens: &[Token]) -> Result<Stmt, ParseErr>
-    ensures { Gives (λ x. x) result (select_at tokens.now) }
+fn copy_select(
+    alloc: Global,
+    list: &Picked,
+    table: &TableRef,
+    conds: &Conds,
+    for_update: bool,
+) -> Result<Stmt, AllocError>
+    ensures { IfOk result (λ copy. copy ≡ Select list.now table.now conds.now for_update) }
 {
-    let rest = keyword(tokens, b"SELECT")?;
-    let rest = sign(rest, b'*')?;
-    let rest = keyword(rest, b"FROM")?;
-    let (table, rest) = identifier(alloc, rest)?;
-    let rest = keyword(rest, b"WHERE")?;
-    let (column, rest) = identifier(alloc, rest)?;
-    let rest = sign(rest, b'=')?;
-    let (key, rest) = number(rest)?;
-    end(rest)?;
-    Ok(Stmt::Select { table, column, key })
-}
-
-/// `COMMIT`
-#[tactic(auto, unfolding(crate::specs::Statements::commit_at))]
-fn commit(tokens: &[Token]) -> Result<Stmt, ParseErr>
-    ensures { Gives (λ x. x) result (commit_at tokens.now) }
-{
-    let rest = keyword(tokens, b"COMMIT")?;
-    end(rest)?;
-    Ok(Stmt::Commit)
-}
-
-/// The statement that a text is: `BadSql` where it is none.
-pub fn parse(alloc: Global, text: &[u8]) -> Result<Stmt, ParseErr>
-    ensures { Gives (λ statement. statement) result (statement_of text.now) }
-{
-    let tokens = tokens(alloc, text)?;
-    match create(alloc, &tokens) {
-        Err(ParseErr::BadSql) => {}
-        read => return read,
-    }
-    match insert(alloc, &tokens) {
-        Err(ParseErr::BadSql) => {}
-        read => return read,
-    }
-    match select(alloc, &tokens) {
-        Err(ParseErr::BadSql) => {}
-        read => return read,
-    }
-    commit(&tokens)
+    Ok(Stmt::Select {
+        list: list.copy(alloc)?,
+        table: table.copy(alloc)?,
+        conds: conds.copy(alloc)?,
+        for_update,
+    })
 }

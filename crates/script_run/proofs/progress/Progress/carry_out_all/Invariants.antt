@@ -1,5 +1,5 @@
 use Rattle.std.proofs.Common.{◌≡◌, ◌≤◌, drop, length}
-use Rattle.run_laws.specs.Past.{past_of}
+use Rattle.one_node_laws.specs.Past.{past_of}
 use Rattle.script_run.specs.Linked.{IsLinked, IsDone}
 use Rattle.script_run.proofs.progress.Progress.carry_out_all.Given as goal
 

@@ -1,0 +1,41 @@
+//! Messages that were sent, and what became of them.
+ghost use Rattle.std.specs.Prelude.{◌≡◌};
+
+use dtx_values::{Duplicate, Listing};
+use std::alloc::{AllocError, Global};
+use wire_msg::Msg;
+
+/// What became of a message.
+#[derive(Clone, Copy, Debug, PartialEq, Eq)]
+pub enum Fate {
+    /// It was sent, and is neither delivered nor lost.
+    InFlight,
+    Delivered,
+    Lost,
+}
+
+impl Duplicate for Fate {
+    fn copy(&self, _alloc: Global) -> Result<Fate, AllocError> {
+        Ok(*self)
+    }
+}
+
+/// A message that was sent.
+#[derive(Debug, Drop)]
+pub struct Packet {
+    pub msg: Msg,
+    pub fate: Fate,
+}
+
+/// Messages in the order in which they were sent: the first has the number 1.
+pub type Packets = Listing<Packet>;
+
+impl Duplicate for Packet {
+    fn copy(&self, alloc: Global) -> Result<Packet, AllocError> {
+        let msg = self.msg.copy(alloc)?;
+        Ok(Packet {
+            msg,
+            fate: self.fate,
+        })
+    }
+}

@@ -1,0 +1,28 @@
+-- The printed ids of branches and transactions.
+use Rattle.std.specs.Prelude.{ℕ, ◌+◌, ◌-◌, ◌/◌, ◌%◌, ◌^◌, ◌==◌, Bool, if◌then◌else◌, List, [], ◌∷◌, ◌++◌, map, unwrap_or, slice_get, nat_lt, codes, zero, suc}
+use Rattle.node_rules.specs.Data.{BranchId, Place}
+use Rattle.node_rules.specs.Words.{same_text}
+
+-- a number in decimal digits, of which the greatest has twenty
+abbrev pub digits : ℕ → ℕ → List ℕ
+digits zero n = []
+digits (suc more) n = if nat_lt n 10 then (48 + n) ∷ [] else digits more (n / 10) ++ (48 + n % 10) ∷ []
+
+abbrev pub decimal : ℕ → List ℕ
+decimal n = digits 20 n
+
+abbrev pub local_text : BranchId → List ℕ
+local_text b = decimal b.boot ++ codes "." ++ decimal b.session ++ codes "." ++ decimal b.seq
+
+-- eight digits, the greatest place first
+abbrev pub hex_digit : ℕ → ℕ
+hex_digit d = if nat_lt d 10 then 48 + d else 87 + d
+
+abbrev pub hex8 : ℕ → List ℕ
+hex8 n = map (λ k. hex_digit ((n / (16 ^ k)) % 16)) (7 ∷ 6 ∷ 5 ∷ 4 ∷ 3 ∷ 2 ∷ 1 ∷ 0 ∷ [])
+
+abbrev pub name_of : List (List ℕ) → ℕ → List ℕ
+name_of names node = unwrap_or (slice_get names (node - 1)) []
+
+abbrev pub global_text : List (List ℕ) → BranchId → List ℕ
+global_text names root = name_of names root.node ++ codes "." ++ hex8 root.node ++ codes "." ++ local_text root

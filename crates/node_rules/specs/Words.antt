@@ -1,0 +1,46 @@
+-- Words that all the rules use: equal names, equal branches, the order of both, and lists by what stands in them.
+use Rattle.std.specs.Prelude.{ℕ, ◌+◌, ◌==◌, ◌&&◌, ◌||◌, not, Bool, true, false, if◌then◌else◌, List, [], ◌∷◌, ◌++◌, map, filter, find, is_some, Option, Some, None, nat_lt}
+use Rattle.std.specs.List.{list_any}
+use Rattle.node_rules.specs.Data.{BranchId}
+
+-- two texts, byte for byte
+abbrev pub same_text : List ℕ → List ℕ → Bool
+same_text [] [] = true
+same_text [] (y ∷ ys) = false
+same_text (x ∷ xs) [] = false
+same_text (x ∷ xs) (y ∷ ys) = (x == y) && same_text xs ys
+
+-- of two texts the first, by their bytes
+abbrev pub text_below : List ℕ → List ℕ → Bool
+text_below xs [] = false
+text_below [] (y ∷ ys) = true
+text_below (x ∷ xs) (y ∷ ys) = nat_lt x y || ((x == y) && text_below xs ys)
+
+abbrev pub same : BranchId → BranchId → Bool
+same a b = (a.node == b.node) && ((a.boot == b.boot) && ((a.session == b.session) && (a.seq == b.seq)))
+
+abbrev pub is_branch : BranchId → Option BranchId → Bool
+is_branch b None = false
+is_branch b (Some c) = same c b
+
+-- in order of boot, session, seq
+abbrev pub branch_below : BranchId → BranchId → Bool
+branch_below a b =
+    nat_lt a.boot b.boot || ((a.boot == b.boot) && (nat_lt a.session b.session || ((a.session == b.session) && nat_lt a.seq b.seq)))
+
+-- every item that passes is replaced
+abbrev pub change_where : {A : Type 0} → (A → Bool) → (A → A) → List A → List A
+change_where p f xs = map (λ x. if p x then f x else x) xs
+
+abbrev pub drop_where : {A : Type 0} → (A → Bool) → List A → List A
+drop_where p xs = filter (λ x. not (p x)) xs
+
+abbrev pub one : {A : Type 0} → A → List A
+one x = x ∷ []
+
+-- the greatest, none of no numbers; the first of equals
+abbrev pub place_of_greatest : ℕ → List (Option ℕ) → Option (ℕ × ℕ) → Option (ℕ × ℕ)
+place_of_greatest i [] best = best
+place_of_greatest i (None ∷ ws) best = place_of_greatest (i + 1) ws best
+place_of_greatest i (Some w ∷ ws) None = place_of_greatest (i + 1) ws (Some (w, i))
+place_of_greatest i (Some w ∷ ws) (Some b) = place_of_greatest (i + 1) ws (if nat_lt b.0 w then Some (w, i) else Some b)

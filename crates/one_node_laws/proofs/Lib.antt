@@ -1,0 +1,4 @@
+pub mod PastLemmas
+pub mod BookLemmas
+pub mod Refines
+pub mod RunsAreTold

@@ -1,0 +1,69 @@
+-- A run so far by its records alone: the book, the changes of the open transaction, and the rows that it sees.
+use Rattle.std.specs.Prelude.{ℕ, ◌+◌, List, [], ◌∷◌, ◌++◌, Option, None, Some}
+use Rattle.std.specs.FinMap.{empty}
+use Rattle.dtx_values.specs.Apply.{Rows, apply, at_table}
+use Rattle.dtx_values.specs.declared.table.Table.{Table}
+use Rattle.dtx_values.specs.declared.row.Change.{Change}
+use Rattle.dtx_values.specs.declared.answer.Answer.{Answer}
+use Rattle.one_node_book.specs.declared.record.RedoRecord.{RedoRecord}
+use Rattle.one_node_book.specs.declared.input.Input.{Input}
+use Rattle.one_node_book.specs.declared.input.Input.TheVariants as inputs
+use Rattle.one_node_sql.specs.declared.statement.Stmt.{Stmt}
+use Rattle.one_node_book.specs.declared.entry.Entry.{Entry}
+use Rattle.one_node_book.specs.declared.happening.Happening.{Happening}
+use Rattle.one_node_book.specs.declared.happening.Happening.TheVariants.{Begun, Turn}
+use Rattle.one_node_book.specs.Book.{entries_of, rows_of, table_of, scn_of}
+use Rattle.one_node_rules.specs.Turn.{the_node, understood, answer_of, changes_of, own_of, transaction_after, ended_after, record_of, branch_of}
+
+-- The book so far; the changes of the open transaction, where one is open; how many have ended.
+pub record Standing : Type 0 where
+  pub book : List Entry
+  pub transaction : Option (List Change)
+  pub ended : ℕ
+
+-- before anything happened
+abbrev pub nothing_yet : Standing
+nothing_yet = record { book = []; transaction = None; ended = 0 }
+
+-- the rows that the book's committed transactions leave in a table, with own changes
+abbrev pub view_of : List Entry → List Change → Option Table → Rows
+view_of book own None = empty
+view_of book own (Some table) = apply (rows_of book the_node table.name) (at_table table.name own)
+
+-- the node's table
+abbrev pub table_in : Standing → Option Table
+table_in s = table_of s.book the_node
+
+-- the rows that the open transaction sees
+abbrev pub view : Standing → Rows
+view s = view_of s.book (own_of s.transaction) (table_in s)
+
+-- what a text asks for, where the node understands it
+abbrev pub statement_in : Standing → List ℕ → Option Stmt
+statement_in s text = understood (table_in s) text
+
+-- what it is answered: its meaning over the rows that the transaction sees
+abbrev pub answer_in : Standing → List ℕ → Answer
+answer_in s text = answer_of (table_in s) (view s) (statement_in s text)
+
+-- the record that it owes
+abbrev pub record_in : Standing → List ℕ → Option RedoRecord
+record_in s text = record_of (branch_of s.ended) (scn_of s.book + 1) (own_of s.transaction) (statement_in s text)
+
+-- how the run stands after a statement that wrote these entries
+abbrev pub served : Standing → Option Stmt → List Entry → Standing
+served s statement entries = record {
+  book = s.book ++ entries;
+  transaction = transaction_after s.transaction (changes_of (table_in s) (view s) statement) statement;
+  ended = ended_after s.ended s.transaction statement;
+}
+
+-- how the run stands after a happening
+abbrev pub after : Standing → Happening → Standing
+after s (Begun number) = s
+after s (Turn node (inputs.Call session text) wrote) = served s (statement_in s text) (entries_of node wrote)
+
+-- how a run stands after these happenings
+unfoldable pub standing_after : Standing → List Happening → Standing
+standing_after s [] = s
+standing_after s (happening ∷ happenings) = standing_after (after s happening) happenings

@@ -1,0 +1,34 @@
+-- The pieces of a script, and the lines on which they stand.
+use Rattle.std.specs.Prelude.{ℕ, ◌+◌, ◌==◌, Bool, List, [], ◌∷◌, if◌then◌else◌, count_by, take_while}
+use Rattle.one_node_sql.specs.Tokens.{is_blank}
+
+-- the byte that ends a command
+abbrev pub is_semicolon : ℕ → Bool
+is_semicolon b = b == 59
+
+-- the byte that ends a line
+abbrev pub is_line_feed : ℕ → Bool
+is_line_feed b = b == 10
+
+-- the byte between the head of a call and its text
+abbrev pub is_colon : ℕ → Bool
+is_colon b = b == 58
+
+-- a byte in front of the first piece, or of the rest where there is no piece
+abbrev pub with_byte : ℕ → List (List ℕ) × List ℕ → List (List ℕ) × List ℕ
+with_byte b ([], rest) = ([], b ∷ rest)
+with_byte b (piece ∷ pieces, rest) = ((b ∷ piece) ∷ pieces, rest)
+
+-- what stands before each `;`, and what stands behind the last
+abbrev pub pieces_of : List ℕ → List (List ℕ) × List ℕ
+pieces_of [] = ([], [])
+pieces_of (b ∷ bs) = if is_semicolon b then ([] ∷ (pieces_of bs).0, (pieces_of bs).1) else with_byte b (pieces_of bs)
+
+-- how many lines end in these bytes
+abbrev pub line_ends : List ℕ → ℕ
+line_ends bytes = count_by is_line_feed bytes
+
+-- The line on which a piece begins that stands on this line and those after it: that of its first byte that is no
+-- blank, or else of its end.
+abbrev pub begins : ℕ → List ℕ → ℕ
+begins line piece = line + line_ends (take_while is_blank piece)

@@ -1,0 +1,83 @@
+-- What a script asks for.
+use Rattle.std.specs.Prelude.{◌≡◌, ℕ, ◌+◌, ◌-◌, ◌^◌, ◌==◌, false, List, [], ◌∷◌, Option, None, Some, Result, Ok, Err, if◌then◌else◌, codes, position, take, drop, ⊤}
+use Rattle.std.specs.List.{list_all}
+use Rattle.std.specs.Option.{option_map_or}
+use Rattle.one_node_sql.specs.Reading.{◌>>=◌}
+use Rattle.one_node_sql.specs.Tokens.{is_blank, tokens_of}
+use Rattle.one_node_sql.specs.Grammar.{keyword_at, name_at, natural_at, end_at}
+use Rattle.one_node_script.specs.declared.command.Command.{Command}
+use Rattle.one_node_script.specs.declared.command.Command.TheVariants.{Node, At}
+use Rattle.one_node_script.specs.declared.error.ScriptErr.{ScriptErr}
+use Rattle.one_node_script.specs.declared.error.ScriptErr.TheVariants.{Bad, NoMemory}
+use Rattle.one_node_script.specs.Comments.{outside_comments}
+use Rattle.one_node_script.specs.Pieces.{is_colon, pieces_of, line_ends, begins}
+
+-- NODE name: the name
+unfoldable pub node_of : List ℕ → Option (List ℕ)
+node_of piece = do
+  a ← keyword_at (codes "NODE") (tokens_of piece)
+  name ← name_at a
+  _ ← end_at name.1
+  Some name.0
+
+-- AT name SESSION number : text, at this node and session 1: the text
+unfoldable pub at_of : List ℕ → List ℕ → Option (List ℕ)
+at_of node piece = do
+  colon ← position is_colon piece
+  a ← keyword_at (codes "AT") (tokens_of (take colon piece))
+  b ← keyword_at node a
+  c ← keyword_at (codes "SESSION") b
+  session ← natural_at (2 ^ 32 - 1) c
+  _ ← end_at session.1
+  if session.0 == 1 then Some (drop (colon + 1) piece) else None
+
+-- the commands, or the line of the first piece that is none
+abbrev pub Asked : Type 0
+Asked = Result (List Command) ℕ
+
+-- a command in front of those that are asked for behind it
+abbrev pub then_asked : Command → Asked → Asked
+then_asked command (Ok commands) = Ok (command ∷ commands)
+then_asked command (Err line) = Err line
+
+-- behind the last `;` stand blanks alone
+abbrev pub asked_at_end : ℕ → List ℕ → Asked
+asked_at_end line rest = if list_all is_blank rest then Ok [] else Err (begins line rest)
+
+-- the pieces from this line on are calls at the node
+abbrev pub asked_of : ℕ → List ℕ → List (List ℕ) → List ℕ → Asked
+asked_of line node [] rest = asked_at_end line rest
+asked_of line node (piece ∷ pieces) rest =
+    option_map_or (λ text. then_asked (At 1 1 text) (asked_of (line + line_ends piece) node pieces rest)) (at_of node piece) (Err (begins line piece))
+
+-- the first piece makes the node
+abbrev pub asked_first : List (List ℕ) → List ℕ → Asked
+asked_first [] rest = asked_at_end 1 rest
+asked_first (piece ∷ pieces) rest =
+    option_map_or (λ name. then_asked (Node name) (asked_of (1 + line_ends piece) name pieces rest)) (node_of piece) (Err (begins 1 piece))
+
+-- what a script asks for
+abbrev pub asked : List ℕ → Asked
+asked bytes =
+    let cut = pieces_of (outside_comments false bytes) in
+    asked_first cut.0 cut.1
+
+-- a reader failed where this is asked for: on the line of the first bad command, or as memory ran out
+abbrev pub FailsOn : ScriptErr → Asked → Type 0
+FailsOn (Bad line) asked_for = asked_for ≡ Err line
+FailsOn NoMemory asked_for = ⊤
+
+-- what a function returned, seen by view, is what is asked for, unless memory ran out
+abbrev pub AsksFor : {X : Type 0} → (X → List Command) → Result X ScriptErr → Asked → Type 0
+AsksFor view (Ok x) asked_for = asked_for ≡ Ok (view x)
+AsksFor view (Err error) asked_for = FailsOn error asked_for
+
+-- a piece from this line on failed: it is no command, and named by the line on which it begins, or memory ran out
+abbrev pub FailsAt : {Y : Type 0} → ℕ → List ℕ → ScriptErr → Option Y → Type 0
+FailsAt line piece (Bad bad) reading = (reading ≡ None) × (bad ≡ begins line piece)
+FailsAt line piece NoMemory reading = ⊤
+
+-- what a function returned for a piece from this line on
+abbrev pub GivesOn : {X : Type 0} → ℕ → List ℕ → Result X ScriptErr → Option X → Type 0
+GivesOn line piece (Ok x) reading = reading ≡ Some x
+GivesOn line piece (Err error) reading = FailsAt line piece error reading

@@ -1,0 +1,153 @@
+//! How a script is read.
+ghost use Rattle.std.specs.Prelude.{◌≡◌, ◌+◌, ◌<◌, ◌≤◌, ◌^◌, [], length, IfOk};
+ghost use Rattle.one_node_sql.specs.Reading.{Gives};
+ghost use Rattle.one_node_script.specs.Pieces.{pieces_of, begins};
+ghost use Rattle.one_node_script.specs.Script.{node_of, at_of, asked_at_end, asked_of, asked_first, asked, AsksFor, GivesOn};
+
+use crate::command::Command;
+use crate::comment::without_comments;
+use crate::error::ScriptErr;
+use crate::piece::{around, colon_at, cut, first_line, is_blank_text, line_ends};
+use dtx_values::{Bytes, Listing, Name};
+use one_node_sql::ParseErr;
+use one_node_sql::grammar::{end, keyword, name, natural};
+use one_node_sql::token::tokens;
+use std::alloc::Global;
+
+/// The number of the one node that a script has.
+const NODE: u8 = 1;
+
+/// The number of the one session that a script has.
+const SESSION: u32 = 1;
+
+/// `NODE name`: the name.
+#[tactic(auto, unfolding(crate::specs::Script::node_of))]
+fn node_name(alloc: Global, piece: &[u8]) -> Result<Name, ParseErr>
+    ensures { Gives (λ name. name) result (node_of piece.now) }
+{
+    let tokens = tokens(alloc, piece)?;
+    let rest = keyword(&tokens, b"NODE")?;
+    let (node, rest) = name(alloc, rest)?;
+    end(rest)?;
+    Ok(node)
+}
+
+/// `AT name SESSION number : text`, at this node and the one session: the text.
+#[tactic(auto, unfolding(crate::specs::Script::at_of))]
+fn at_text(alloc: Global, node: &Name, piece: &[u8]) -> Result<Bytes, ParseErr>
+    ensures { Gives (λ text. text) result (at_of node.now piece.now) }
+{
+    let Some(colon) = colon_at(piece) else {
+        return Err(ParseErr::BadSql);
+    };
+    let (head, text) = around(piece, colon);
+    let tokens = tokens(alloc, head)?;
+    let rest = keyword(&tokens, b"AT")?;
+    let rest = keyword(rest, node.as_bytes())?;
+    let rest = keyword(rest, b"SESSION")?;
+    let (session, rest) = natural(rest, u64::from(u32::MAX))?;
+    end(rest)?;
+    if session != u64::from(SESSION) {
+        return Err(ParseErr::BadSql);
+    }
+    Ok(Listing::of(Vec::from_slice(alloc, text)?))
+}
+
+/// The node that the first piece of a script makes.
+fn node_command(alloc: Global, piece: &[u8]) -> Result<Name, ScriptErr>
+    requires { length piece.now < 2 ^ 31 }
+    ensures { GivesOn 1 piece.now result (node_of piece.now) }
+{
+    match node_name(alloc, piece) {
+        Ok(name) => Ok(name),
+        Err(ParseErr::NoMemory) => Err(ScriptErr::NoMemory),
+        Err(ParseErr::BadSql) => Err(bad(1, piece)),
+    }
+}
+
+/// The text of a command that stands on this line and those after it.
+fn at_command(alloc: Global, node: &Name, line: usize, piece: &[u8]) -> Result<Bytes, ScriptErr>
+    requires { line + length piece.now < 2 ^ 32 }
+    ensures { GivesOn line piece.now result (at_of node.now piece.now) }
+{
+    match at_text(alloc, node, piece) {
+        Ok(text) => Ok(text),
+        Err(ParseErr::NoMemory) => Err(ScriptErr::NoMemory),
+        Err(ParseErr::BadSql) => Err(bad(line, piece)),
+    }
+}
+
+/// The refusal of a piece that stands on this line and those after it.
+fn bad(line: usize, piece: &[u8]) -> ScriptErr
+    requires { line + length piece.now < 2 ^ 32 }
+    ensures { result ≡ ScriptErr.Bad (begins line piece.now) }
+{
+    let line = first_line(line, piece);
+    ScriptErr::Bad { line }
+}
+
+/// Behind the last `;` stand blanks alone.
+fn ended(line: usize, rest: &[u8]) -> Result<(), ScriptErr>
+    requires { line + length rest.now < 2 ^ 32 }
+    ensures { AsksFor (λ _. []) result (asked_at_end line rest.now) }
+{
+    if !is_blank_text(rest) {
+        return Err(bad(line, rest));
+    }
+    Ok(())
+}
+
+/// The commands behind the first, from this line on.
+fn at_commands(
+    alloc: Global,
+    node: &Name,
+    first_line: usize,
+    text: &[u8],
+) -> Result<Vec<Command>, ScriptErr>
+    requires { first_line + length text.now < 2 ^ 32 }
+    ensures few { IfOk result (λ v. length v.items ≤ length text.now) }
+    ensures asked { AsksFor (λ v. v.items) result (asked_of first_line node.now (pieces_of text.now).0 (pieces_of text.now).1) }
+{
+    let mut commands = Vec::new(alloc);
+    let mut rest = text;
+    let mut line = first_line;
+    while let Some((piece, behind)) = cut(rest) {
+        let text = at_command(alloc, node, line, piece)?;
+        commands.push(Command::At {
+            node: NODE,
+            session: SESSION,
+            text,
+        })?;
+        line += line_ends(piece);
+        rest = behind;
+    }
+    ended(line, rest)?;
+    Ok(commands)
+}
+
+/// The commands of a text without comments.
+fn read_commands(alloc: Global, text: &[u8]) -> Result<Vec<Command>, ScriptErr>
+    requires { length text.now < 2 ^ 31 }
+    ensures few { IfOk result (λ v. length v.items ≤ length text.now) }
+    ensures asked { AsksFor (λ v. v.items) result (asked_first (pieces_of text.now).0 (pieces_of text.now).1) }
+{
+    let Some((piece, rest)) = cut(text) else {
+        ended(1, text)?;
+        return Ok(Vec::new(alloc));
+    };
+    let name = node_command(alloc, piece)?;
+    let mut others = at_commands(alloc, &name, 1 + line_ends(piece), rest)?;
+    let mut commands = vec![in alloc; Command::Node { name }]?;
+    commands.append(&mut others)?;
+    Ok(commands)
+}
+
+/// What a script asks for: its commands in order, or the line of the first that is bad.
+pub fn read_script(alloc: Global, bytes: &[u8]) -> Result<Vec<Command>, ScriptErr>
+    requires short { length bytes.now < 2 ^ 31 }
+    ensures few { IfOk result (λ v. length v.items ≤ length bytes.now) }
+    ensures asked { AsksFor (λ v. v.items) result (asked bytes.now) }
+{
+    let text = without_comments(alloc, bytes)?;
+    read_commands(alloc, &text)
+}

@@ -1,0 +1,12 @@
+use Rattle.std.proofs.Common.{◌≡◌, ◌+◌, ◌-◌, ◌*◌, ◌^◌, ◌<◌, ◌≤◌, min, arith, take, get_or}
+use Rattle.std.proofs.lemmas.Int.Digits.{digits_value_more}
+use Rattle.one_node_sql.proofs.DigitLemmas.{digit_value_at}
+use Rattle.one_node_sql.proofs.grammar.value_of.Goals as goal
+
+pub loop-digit-preserved : goal.loop-digit-preserved
+loop-digit-preserved c =
+    let digits = c.args.digits.now in
+    let i = c.loop-digit.digit-index in
+    let h = c.loop-digit-test.true in
+    let d = digit_value_at digits i h c.requires in
+    rw (digits_value_more 10 digits i h) (omega (arith, d))

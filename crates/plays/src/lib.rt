@@ -1,0 +1,2 @@
+//! Worked scenarios, played by the definitions alone.
+#![tactic(auto)]

@@ -1,0 +1,5 @@
+use Rattle.run_laws.proofs.PastLemmas.{lawful-on}
+use Rattle.run_laws.proofs.lawful_goes_on.Goals as goal
+
+pub returns : goal.returns
+returns c = lawful-on

@@ -1,0 +1,76 @@
+-- The orders that stop a node in a disk write or let a disk call fail, and which turn or start they strike.
+-- An append writes length, body and a closed gate, syncs, opens its own gate, syncs. A start syncs, asks the length and reads first.
+use Rattle.std.specs.Prelude.{ℕ, ◌+◌, ◌-◌, ◌==◌, ◌&&◌, Bool, true, false, if◌then◌else◌, nat_le, nat_lt, option_map, List, [], ◌∷◌, Option, Some, None}
+use Rattle.run_laws.specs.Data.{How}
+use Rattle.run_laws.specs.Data.hows
+
+-- A write that leaves its first byte as an open gate, or not.
+pub record Stop_order : Type 0 where
+  pub write : ℕ  -- counted from now
+  pub opens : Bool
+
+pub record Plan : Type 0 where
+  pub stop : Option Stop_order
+  pub fault : Option ℕ
+
+abbrev pub no_plan : Plan
+no_plan = record { stop = None; fault = None }
+
+-- whether the first byte that a write leaves is that of an open gate: an open gate is a byte 1
+abbrev pub is_open : List ℕ → Bool
+is_open [] = false
+is_open (b ∷ bs) = b == 1
+
+abbrev pub opens_gate : How → Bool
+opens_gate (hows.Keep count) = nat_lt 0 count
+opens_gate (hows.Leave bytes) = is_open bytes
+
+-- Which call of an append, made after so many others, an order strikes, and whether it is a stop.
+pub record Strike : Type 0 where
+  pub call : ℕ
+  pub is_stop : Bool
+  pub stands : Bool  -- the record
+
+abbrev pub strike : ℕ → Bool → Bool → Option Strike
+strike call is_stop stands = Some (record { call = call; is_stop = is_stop; stands = stands })
+
+abbrev pub stop_in : ℕ → Option Stop_order → Option Strike
+stop_in before None = None
+stop_in before (Some o) =
+    if o.write == 1 then strike (before + 1) true false else (if o.write == 2 then strike (before + 3) true o.opens else None)
+
+abbrev pub fault_in : ℕ → Option ℕ → Option Strike
+fault_in before None = None
+fault_in before (Some c) = if nat_le c (before + 4) then strike c false (c == before + 4) else None
+
+-- where both strike one call, the stop counts
+abbrev pub first_strike : Option Strike → Option Strike → Option Strike
+first_strike None f = f
+first_strike (Some s) None = Some s
+first_strike (Some s) (Some f) = if nat_le s.call f.call then Some s else Some f
+
+unfoldable pub struck : ℕ → Plan → Option Strike
+struck before plan = first_strike (stop_in before plan.stop) (fault_in before plan.fault)
+
+-- the orders that are left after so many calls, of which so many were writes
+abbrev pub stop_left : ℕ → Option Stop_order → Option Stop_order
+stop_left writes None = None
+stop_left writes (Some o) = if nat_lt writes o.write then Some (record o { write = o.write - writes }) else None
+
+abbrev pub fault_left : ℕ → Option ℕ → Option ℕ
+fault_left calls None = None
+fault_left calls (Some c) = if nat_lt calls c then Some (c - calls) else None
+
+abbrev pub writes_by : ℕ → ℕ → ℕ
+writes_by before call = (if nat_le (before + 1) call then 1 else 0) + (if nat_le (before + 3) call then 1 else 0)
+
+-- the calls that were made, up to the one that an order struck
+abbrev pub calls_made : ℕ → Option Strike → ℕ
+calls_made before None = before + 4
+calls_made before (Some s) = s.call
+
+abbrev pub plan_left : ℕ → Plan → ℕ → Plan
+plan_left before plan calls = record { stop = stop_left (writes_by before calls) plan.stop; fault = fault_left calls plan.fault }
+
+unfoldable pub after_append : ℕ → Plan → Plan
+after_append before plan = plan_left before plan (calls_made before (struck before plan))

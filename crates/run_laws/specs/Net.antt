@@ -1,0 +1,175 @@
+-- The messages of a run with their fates, the pairs that are cut, the nodes that are down, and the orders to lose.
+-- Messages are numbered from 1 on, in the order of sending.
+use Rattle.std.specs.Prelude.{◌≡◌, ℕ, ◌+◌, ◌-◌, ◌==◌, ◌&&◌, ◌||◌, not, Bool, true, false, if◌then◌else◌, List, [], ◌∷◌, ◌++◌, map, filter, length, position, option_map, slice_get, slice_set, nat_lt, unwrap_or, Option, Some, None}
+use Rattle.std.specs.List.{list_any}
+use Rattle.run_laws.specs.Data.{BranchId, Kind, KindName, Msg, Fate, Packet}
+use Rattle.run_laws.specs.Data.kinds
+use Rattle.run_laws.specs.Data.kind_names
+use Rattle.run_laws.specs.Data.fates
+
+-- an order to lose the next message of a kind from a node to a node
+pub record Order : Type 0 where
+  pub kind : KindName
+  pub from : ℕ
+  pub to : ℕ
+
+pub record Net : Type 0 where
+  pub packets : List Packet
+  pub cuts : List (ℕ × ℕ)
+  pub down : List ℕ
+  pub orders : List Order
+
+abbrev pub still : Net
+still = record { packets = []; cuts = []; down = []; orders = [] }
+
+-- the kind of a message by its name
+abbrev pub name_of_kind : Kind → KindName
+name_of_kind (kinds.Open edge root depth) = kind_names.Open
+name_of_kind (kinds.Opened edge strength) = kind_names.Opened
+name_of_kind (kinds.Exec call given advice s) = kind_names.Exec
+name_of_kind (kinds.Reply call weight count result) = kind_names.Reply
+name_of_kind (kinds.Prepare site_below comment) = kind_names.Prepare
+name_of_kind kinds.Prepared = kind_names.Prepared
+name_of_kind kinds.ReadOnly = kind_names.ReadOnly
+name_of_kind kinds.Ready = kind_names.Ready
+name_of_kind kinds.Abort = kind_names.Abort
+name_of_kind kinds.CommitPoint = kind_names.CommitPoint
+name_of_kind (kinds.Committed n) = kind_names.Committed
+name_of_kind kinds.RolledBack = kind_names.RolledBack
+name_of_kind kinds.InDoubt = kind_names.InDoubt
+name_of_kind kinds.Ack = kind_names.Ack
+name_of_kind kinds.Forgotten = kind_names.Forgotten
+name_of_kind kinds.Rollback = kind_names.Rollback
+name_of_kind kinds.Ask = kind_names.Ask
+
+-- the place of a kind among the kinds
+abbrev pub place_of_kind : KindName → ℕ
+place_of_kind kind_names.Open = 1
+place_of_kind kind_names.Opened = 2
+place_of_kind kind_names.Exec = 3
+place_of_kind kind_names.Reply = 4
+place_of_kind kind_names.Prepare = 5
+place_of_kind kind_names.Prepared = 6
+place_of_kind kind_names.ReadOnly = 7
+place_of_kind kind_names.Ready = 8
+place_of_kind kind_names.Abort = 9
+place_of_kind kind_names.CommitPoint = 10
+place_of_kind kind_names.Committed = 11
+place_of_kind kind_names.RolledBack = 12
+place_of_kind kind_names.InDoubt = 13
+place_of_kind kind_names.Ack = 14
+place_of_kind kind_names.Forgotten = 15
+place_of_kind kind_names.Rollback = 16
+place_of_kind kind_names.Ask = 17
+
+abbrev pub same_kind : KindName → KindName → Bool
+same_kind a b = place_of_kind a == place_of_kind b
+
+abbrev pub is_pair : ℕ → ℕ → ℕ × ℕ → Bool
+is_pair a b pair = ((pair.0 == a) && (pair.1 == b)) || ((pair.0 == b) && (pair.1 == a))
+
+abbrev pub is_cut : Net → ℕ → ℕ → Bool
+is_cut net a b = list_any (is_pair a b) net.cuts
+
+abbrev pub is_down : Net → ℕ → Bool
+is_down net n = list_any (λ m. m == n) net.down
+
+-- a message can't pass where its pair is cut or its target is down
+abbrev pub is_blocked : Net → Msg → Bool
+is_blocked net m = is_cut net m.from.node m.to.node || is_down net m.to.node
+
+abbrev pub is_order_for : Msg → Order → Bool
+is_order_for m o = same_kind o.kind (name_of_kind m.kind) && ((o.from == m.from.node) && (o.to == m.to.node))
+
+-- the earliest order that fits is used up
+abbrev pub use_order : Msg → List Order → List Order
+use_order m [] = []
+use_order m (o ∷ os) = if is_order_for m o then os else o ∷ use_order m os
+
+abbrev pub packet : Msg → Fate → Packet
+packet m fate = record { msg = m; fate = fate }
+
+abbrev pub add_packet : Net → Packet → Net
+add_packet net x = record net { packets = net.packets ++ x ∷ [] }
+
+-- a message that cannot pass is lost at once, and uses up no order
+abbrev pub sent_one : Net → Msg → Net
+sent_one net m =
+    if is_blocked net m then add_packet net (packet m fates.Lost)
+    else (if list_any (is_order_for m) net.orders then add_packet (record net { orders = use_order m net.orders }) (packet m fates.Lost)
+    else add_packet net (packet m fates.InFlight))
+
+unfoldable pub sent_on : Net → List Msg → Net
+sent_on net [] = net
+sent_on net (m ∷ ms) = sent_on (sent_one net m) ms
+
+abbrev pub flies : Packet → Bool
+flies x = is_flying x.fate where
+  is_flying : Fate → Bool
+  is_flying fates.InFlight = true
+  is_flying _ = false
+
+abbrev pub packet_at : Net → ℕ → Option Packet
+packet_at net k = if k == 0 then None else slice_get net.packets (k - 1)
+
+abbrev pub fated : Fate → Packet → Packet
+fated fate x = if flies x then packet x.msg fate else x
+
+abbrev pub fate_on : Net → ℕ → Fate → Option Packet → Net
+fate_on net k fate None = net
+fate_on net k fate (Some x) = record net { packets = slice_set net.packets (k - 1) (fated fate x) }
+
+unfoldable pub delivered : Net → ℕ → Net
+delivered net k = fate_on net k fates.Delivered (packet_at net k)
+
+unfoldable pub lost : Net → ℕ → Net
+lost net k = fate_on net k fates.Lost (packet_at net k)
+
+abbrev pub lost_over : ℕ → ℕ → Packet → Packet
+lost_over a b x = if is_pair a b (x.msg.from.node, x.msg.to.node) then fated fates.Lost x else x
+
+unfoldable pub cut_over : Net → ℕ → ℕ → Net
+cut_over net a b = record net { packets = map (lost_over a b) net.packets; cuts = (a, b) ∷ net.cuts }
+
+unfoldable pub joined : Net → ℕ → ℕ → Net
+joined net a b = record net { cuts = filter (λ pair. not (is_pair a b pair)) net.cuts }
+
+abbrev pub lost_to : ℕ → Packet → Packet
+lost_to n x = if x.msg.to.node == n then fated fates.Lost x else x
+
+unfoldable pub stopped : Net → ℕ → Net
+stopped net n = record net { packets = map (lost_to n) net.packets; down = n ∷ net.down }
+
+unfoldable pub started : Net → ℕ → Net
+started net n = record net { down = filter (λ m. not (m == n)) net.down }
+
+-- the message in flight with the least number
+abbrev pub first_flying : Net → Option ℕ
+first_flying net = option_map (λ i. i + 1) (position flies net.packets)
+
+abbrev pub is_flying_at : Option Packet → Bool
+is_flying_at None = false
+is_flying_at (Some x) = flies x
+
+abbrev pub may_deliver : Net → ℕ → Bool
+may_deliver net k = is_flying_at (packet_at net k)
+
+abbrev pub may_pass : Net → Option Packet → Bool
+may_pass net None = false
+may_pass net (Some x) = not (is_blocked net x.msg)
+
+-- any message ever sent whose pair is joined and whose target is up
+abbrev pub may_repeat : Net → ℕ → Bool
+may_repeat net k = may_pass net (packet_at net k)
+
+-- the messages that are lost now and were in flight, or were not sent yet
+abbrev pub is_lost : Packet → Bool
+is_lost x = is_lost_fate x.fate where
+  is_lost_fate : Fate → Bool
+  is_lost_fate fates.Lost = true
+  is_lost_fate _ = false
+
+abbrev pub newly_lost : ℕ → List Packet → List Packet → List ℕ
+newly_lost k before [] = []
+newly_lost k [] (y ∷ ys) = if is_lost y then k ∷ newly_lost (k + 1) [] ys else newly_lost (k + 1) [] ys
+newly_lost k (x ∷ xs) (y ∷ ys) = if flies x && is_lost y then k ∷ newly_lost (k + 1) xs ys else newly_lost (k + 1) xs ys

@@ -1,0 +1,11 @@
+//! A live branch and its place in the session tree, as plain data.
+//!
+//! The weight of a branch, the walk to the commit point site and the room in a tree are defined among the rules of a
+//! node.
+#![tactic(auto)]
+
+mod edge;
+mod live;
+
+pub use edge::{Edge, Edges, Vote};
+pub use live::{Live, Lives, Phase};
