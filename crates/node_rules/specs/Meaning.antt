@@ -226,7 +226,7 @@ written _ t view = []
 
 -- refusals that name a column
 abbrev pub column_refusal : ℕ → Table → Column → Refusal
-column_refusal code t c = refusal code (t.name ∷ c.name ∷ [])
+column_refusal code t c = ora code (t.name ∷ c.name ∷ [])
 
 abbrev pub text_length : Value → ℕ
 text_length (values.Text t) = length t

@@ -263,10 +263,10 @@ answer_in k x from v _ = nothing k
 abbrev pub on_answer : Kept → Branch → BranchId → Vote → Deed
 on_answer k x from v = answer_in k x from v x.live.phase
 
--- CommitPoint at a live branch that answered Ready to its parent
+-- CommitPoint, which a parent alone sends, at a live branch that answered Ready
 abbrev pub commit_point_in : Kept → Branch → Phase → Deed
 commit_point_in k x phases.Ready = acts k x true (commit_point_act (step x.live))
 commit_point_in k x _ = nothing k
 
-abbrev pub on_commit_point : Kept → Branch → BranchId → Deed
-on_commit_point k x from = if is_branch from x.live.parent then commit_point_in k x x.live.phase else nothing k
+abbrev pub on_commit_point : Kept → Branch → Deed
+on_commit_point k x = commit_point_in k x x.live.phase

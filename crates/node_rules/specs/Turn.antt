@@ -58,7 +58,7 @@ answer_turn k from v (Is_live x) = on_answer k x from v
 answer_turn k from v _ = nothing k
 
 abbrev pub commit_point_turn : Kept → BranchId → BranchId → Stand → Deed
-commit_point_turn k from to (Is_live x) = on_commit_point k x from
+commit_point_turn k from to (Is_live x) = on_commit_point k x
 commit_point_turn k from to (Is_kept s) = on_commit_point_kept k s from
 commit_point_turn k from to Is_gone = saying k (post to from kinds.RolledBack)
 

@@ -1,7 +1,7 @@
 -- Which happening must come next, by the script: the losses and stops that must be told, the command's own act, the
 -- deliveries in order up to 4,096, the give-ups in order of command, and then the next command.
 use Rattle.std.specs.Prelude.{◌≡◌, ℕ, ◌+◌, ◌-◌, ◌==◌, ◌&&◌, ◌||◌, not, Bool, true, false, if◌then◌else◌, List, [], ◌∷◌, ◌++◌, find, length, min, nat_lt, nat_le, is_some, unwrap_or, slice_get, Option, Some, None}
-use Rattle.run_laws.specs.Data.{Stmt, BranchId, Msg, Packet, RedoRecord, Input, Took, Happening, Command}
+use Rattle.run_laws.specs.Data.{Stmt, BranchId, Msg, Packet, RedoRecord, Input, Took, Turn, Happening, Command}
 use Rattle.run_laws.specs.Data.inputs
 use Rattle.run_laws.specs.Data.happenings
 use Rattle.run_laws.specs.Data.commands
@@ -100,13 +100,17 @@ abbrev pub IsTook : ℕ → Bool → Option Took → Type 0
 IsTook k again None = ⊥
 IsTook k again (Some t) = (t.number ≡ k) × (t.again ≡ again)
 
+abbrev pub IsMessage : Input → Type 0
+IsMessage (inputs.Message m) = Unit {0}
+IsMessage _ = ⊥
+
 abbrev pub IsDue : Due → Happening → Type 0
 IsDue (Tells k) (happenings.Lost j) = j ≡ k
 IsDue (Falls n) (happenings.Stopped m) = m ≡ n
-IsDue (Calls o) (happenings.Turn node (inputs.Call session statement) took wrote sent cut) = (node ≡ o.node) × (session ≡ o.session) × (statement ≡ o.statement)
-IsDue (Gives_up n session) (happenings.Turn node (inputs.GiveUp s) took wrote sent cut) = (node ≡ n) × (s ≡ session)
-IsDue (Delivers k again) (happenings.Turn node (inputs.Message m) took wrote sent cut) = IsTook k again took
-IsDue (Recovers n) (happenings.Turn node inputs.Reco took wrote sent cut) = node ≡ n
+IsDue (Calls o) (happenings.Turn t) = (t.node ≡ o.node) × (t.input ≡ inputs.Call o.session o.statement)
+IsDue (Gives_up n session) (happenings.Turn t) = (t.node ≡ n) × (t.input ≡ inputs.GiveUp session)
+IsDue (Delivers k again) (happenings.Turn t) = IsMessage t.input × IsTook k again t.took
+IsDue (Recovers n) (happenings.Turn t) = (t.node ≡ n) × (t.input ≡ inputs.Reco)
 IsDue (Cuts a b) (happenings.Cut c d) = (c ≡ a) × (d ≡ b)
 IsDue (Joins a b) (happenings.Join c d) = (c ≡ a) × (d ≡ b)
 IsDue (Loses k) (happenings.Lost j) = j ≡ k
@@ -118,12 +122,16 @@ IsDue _ _ = ⊥
 
 -- what happens next: a turn is cut where an order strikes its append or a comment's point is reached
 abbrev pub whole_turn : ℕ → Input → Option Took → Outcome → Happening
-whole_turn node input took o = happenings.Turn node input took o.wrote o.sent false
+whole_turn node input took o = happenings.Turn (record { node = node; input = input; took = took; wrote = o.wrote; sent = o.sent; cut = false })
+
+-- of a cut turn the record stands or not, and nothing is sent
+abbrev pub cut_turn : ℕ → Input → Option Took → Outcome → Bool → Happening
+cut_turn node input took o stands = happenings.Turn (record { node = node; input = input; took = took; wrote = if stands then o.wrote else None; sent = []; cut = true })
 
 abbrev pub turn_by : ℕ → Input → Option Took → Outcome → Cut_by → Happening
 turn_by node input took o By_nothing = whole_turn node input took o
-turn_by node input took o (By_strike stands) = happenings.Turn node input took (if stands then o.wrote else None) [] true
-turn_by node input took o (By_point root numbers stands) = happenings.Turn node input took (if stands then o.wrote else None) [] true
+turn_by node input took o (By_strike stands) = cut_turn node input took o stands
+turn_by node input took o (By_point root numbers stands) = cut_turn node input took o stands
 
 abbrev pub turn_at : Past → ℕ → Input → Option Took → Option Kept → List Happening
 turn_at p node input took None = []

@@ -103,10 +103,10 @@ MayForget k input (records.Forgot b) = (s : Standing) × (standing_at k b ≡ So
 MayForget k input _ = Unit {0}
 
 abbrev pub Knowledge : Past → Happening → Type 0
-Knowledge p (happenings.Turn node input took (Some r) sent cut) = (k : Kept) → node_at p node ≡ Some k → MayWrite k input r × MayForget k input r
+Knowledge p (happenings.Turn t) = (k : Kept) (r : RedoRecord) → node_at p t.node ≡ Some k → t.wrote ≡ Some r → MayWrite k t.input r × MayForget k t.input r
 Knowledge p _ = Unit {0}
 
 abbrev pub Says : Past → Happening → Type 0
-Says p (happenings.Turn node input took wrote sent false) =
-    (k : Kept) (i : ℕ) (m : Msg) → node_at p node ≡ Some k → slice_get sent i ≡ Some m → MaySay k (turn_of (place_at p node) k input).after input m.from m.kind
+Says p (happenings.Turn t) =
+    (k : Kept) (i : ℕ) (m : Msg) → node_at p t.node ≡ Some k → slice_get t.sent i ≡ Some m → MaySay k (turn_of (place_at p t.node) k t.input).after t.input m.from m.kind
 Says p _ = Unit {0}

@@ -1,6 +1,6 @@
 -- Which happening may come after those before it.
 use Rattle.std.specs.Prelude.{◌≡◌, ℕ, ◌+◌, ◌-◌, ◌≤◌, ◌⊎◌, Bool, true, false, List, [], ◌∷◌, length, Option, Some, None}
-use Rattle.run_laws.specs.Data.{RedoRecord, Msg, Packet, Place, Input, Took, Happening, Command}
+use Rattle.run_laws.specs.Data.{RedoRecord, Msg, Packet, Place, Input, Took, Turn, Happening, Command}
 use Rattle.run_laws.specs.Data.fates
 use Rattle.run_laws.specs.Data.records
 use Rattle.run_laws.specs.Data.inputs
@@ -43,11 +43,11 @@ abbrev pub IsOwed : Place → Kept → Input → Option RedoRecord → List Msg 
 IsOwed place k input wrote sent false = (wrote ≡ (turn_of place k input).wrote) × (sent ≡ (turn_of place k input).sent)
 IsOwed place k input wrote sent true = ((wrote ≡ None) ⊎ (wrote ≡ (turn_of place k input).wrote)) × (sent ≡ [])
 
-pub record MayTurn (p : Past) (node : ℕ) (input : Input) (took : Option Took) (wrote : Option RedoRecord) (sent : List Msg) (cut : Bool) (k : Kept) : Type 0 where
+pub record MayTurn (p : Past) (t : Turn) (k : Kept) : Type 0 where
   pub settled : IsSettled p
-  pub up : node_at p node ≡ Some k
-  pub comes : Comes p k node input took
-  pub owed : IsOwed (place_at p node) k input wrote sent cut
+  pub up : node_at p t.node ≡ Some k
+  pub comes : Comes p k t.node t.input t.took
+  pub owed : IsOwed (place_at p t.node) k t.input t.wrote t.sent t.cut
 
 -- a loss is told right after what lost it; any other message in flight may be lost
 pub record IsFlying (p : Past) (k : ℕ) (x : Packet) : Type 0 where
@@ -75,7 +75,7 @@ pub record MayStart (p : Past) (n boot : ℕ) : Type 0 where
 
 abbrev pub MayHappen : Past → Happening → Type 0
 MayHappen p (happenings.Begun c) = IsSettled p × ((c ≡ p.command + 1) × (c ≤ length p.commands))
-MayHappen p (happenings.Turn node input took wrote sent cut) = (k : Kept) × MayTurn p node input took wrote sent cut k
+MayHappen p (happenings.Turn t) = (k : Kept) × MayTurn p t k
 MayHappen p (happenings.Cut a b) = IsSettled p
 MayHappen p (happenings.Join a b) = IsSettled p
 MayHappen p (happenings.Lost k) = MayBeLost p k p.untold

@@ -190,7 +190,7 @@ entry_of n (records.Met me d mixed) = one (entries.Met me d mixed)
 entry_of n _ = []
 
 abbrev pub entries_in : Happening → List Entry
-entries_in (happenings.Turn node input took wrote sent cut) = flat_map (entry_of node) (option_to_list wrote)
+entries_in (happenings.Turn t) = flat_map (entry_of t.node) (option_to_list t.wrote)
 entries_in _ = []
 
 -- the book of a trace
@@ -341,11 +341,18 @@ abbrev pub tells_loss : Past → ℕ → List ℕ → Past
 tells_loss p k [] = record p { net = lost p.net k }
 tells_loss p k (j ∷ js) = record p { untold = js }
 
--- a node stops: `node X stopped` stands for every stop but a STOP's own
+-- `node X stopped` stands for every stop but a STOP's own
+abbrev pub stopped_line : Past → ℕ → Said
+stopped_line p n = said.World (notices.Shown (one (codes "node " ++ node_name p n ++ codes " stopped")))
+
+abbrev pub with_stop : Past → ℕ → Past
+with_stop p n = record p { page = record p.page { stops = p.page.stops ++ one (stopped_line p n) } }
+
+-- a START during which its node stops is refused
 abbrev pub stop_line : Past → ℕ → Command → Past
 stop_line p n (commands.Stop m) = p
-stop_line p n (commands.Start m) = record (with_own p (one (refuses_with (dtx 1 (one (node_name p n)))))) { page = record p.page { own = one (refuses_with (dtx 1 (one (node_name p n)))); stops = p.page.stops ++ one (said.World (notices.Shown (one (codes "node " ++ node_name p n ++ codes " stopped")))) } }
-stop_line p n _ = record p { page = record p.page { stops = p.page.stops ++ one (said.World (notices.Shown (one (codes "node " ++ node_name p n ++ codes " stopped")))) } }
+stop_line p n (commands.Start m) = with_stop (if m == n then with_own p (one (refuses_with (dtx 1 (one (node_name p n))))) else p) n
+stop_line p n _ = with_stop p n
 
 abbrev pub command_at : Past → ℕ → Command
 command_at p c = unwrap_or (slice_get p.commands (c - 1)) commands.ShowBook
@@ -459,8 +466,8 @@ acts p = record p { acted = true }
 
 unfoldable pub next : Past → Happening → Past
 next p (happenings.Begun c) = begins p c (command_at p c)
-next p (happenings.Turn node input took wrote sent cut) =
-    acts (turns (without_following (taken (turn_appends (entered (with_record_at p node wrote) (flat_map (entry_of node) (option_to_list wrote))) node input (node_at p node)) took) input) node input (node_at p node) sent cut)
+next p (happenings.Turn t) =
+    acts (turns (without_following (taken (turn_appends (entered (with_record_at p t.node t.wrote) (flat_map (entry_of t.node) (option_to_list t.wrote))) t.node t.input (node_at p t.node)) t.took) t.input) t.node t.input (node_at p t.node) t.sent t.cut)
 next p (happenings.Cut a b) = acts (loses p (cut_over p.net a b))
 next p (happenings.Join a b) = acts (record p { net = joined p.net a b })
 next p (happenings.Lost k) = acts (tells_loss p k p.untold)

@@ -59,7 +59,7 @@ node_run p None input = None
 node_run p (Some k) input = input_run p k input
 
 unfoldable pub run_in : Past → Happening → Option Ran_at
-run_in p (happenings.Turn node input took wrote sent false) = node_run (place_at p node) (node_at p node) input
+run_in p (happenings.Turn t) = if t.cut then None else node_run (place_at p t.node) (node_at p t.node) t.input
 run_in p _ = None
 
 -- What each branch has changed so far.

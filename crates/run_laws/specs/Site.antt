@@ -1,7 +1,7 @@
 -- The session tree of a transaction at a moment, the weights in it, its commit point site, and what the decision and the
 -- seals have of it.
 use Rattle.std.specs.Prelude.{◌≡◌, ◌≢◌, ℕ, zero, suc, ◌+◌, ◌<◌, Bool, true, false, if◌then◌else◌, List, [], ◌∷◌, ◌++◌, map, flat_map, option_map, slice_get, is_some, Option, Some, None}
-use Rattle.run_laws.specs.Data.{Change, Stmt, BranchId, RedoRecord, Input, Entry, Took, Msg, Happening, Place}
+use Rattle.run_laws.specs.Data.{Change, Stmt, BranchId, RedoRecord, Input, Entry, Turn, Happening, Place}
 use Rattle.run_laws.specs.Data.stmts
 use Rattle.run_laws.specs.Data.inputs
 use Rattle.run_laws.specs.Data.entries
@@ -79,15 +79,14 @@ tree p root = tree_below most_depth p root
 -- A COMMIT of a transaction in a run: what stood before it, its turn, and what came after.
 pub record CommitOf (t : History) (g : BranchId) (p : Past) (later : List Happening) : Type 0 where
   pub before : List Happening
+  pub turn : Turn
   pub comment : Option (List ℕ)
-  pub took : Option Took
-  pub wrote : Option RedoRecord
-  pub sent : List Msg
-  pub cut : Bool
   pub kept : Kept
   pub session : ℕ
   pub stood : p ≡ past (start t.places t.commands) before
-  pub whole : t.trace ≡ before ++ happenings.Turn g.node (inputs.Call session (Some (stmts.Commit comment))) took wrote sent cut ∷ later
+  pub whole : t.trace ≡ before ++ happenings.Turn turn ∷ later
+  pub here : turn.node ≡ g.node
+  pub call : turn.input ≡ inputs.Call session (Some (stmts.Commit comment))
   pub up : node_at p g.node ≡ Some kept
   pub root : (session_at kept session).root ≡ Some g
 
