@@ -17,9 +17,11 @@ use Rattle.node_rules.specs.Force.{to_force, force_commit, force_rollback, purge
 use Rattle.node_rules.specs.Data.kinds
 use Rattle.node_rules.specs.Kept.{Kept, Deed, Branch, Session, Going, Waits, For_opened, For_reply, Call_out, No_call, Statement_out, Commit_out, nothing, ending, with_branch, without_branch, add_branch, live_at, standing_at, fresh_live, fresh_branch, session_at, with_session}
 
+-- the call ends with a refusal
 abbrev pub refuses : Kept → ℕ → Refusal → Deed
 refuses k session refusal = ending k session (answers.Refused refusal)
 
+-- the call ends with this done
 abbrev pub did : Kept → ℕ → Done → Deed
 did k session d = ending k session (answers.Did d 0)
 
@@ -27,20 +29,25 @@ did k session d = ending k session (answers.Did d 0)
 abbrev pub new_root : Place → Kept → ℕ → BranchId
 new_root p k n = record { node = p.number; boot = k.stored.durable.boot; session = n; seq = (session_at k n).seq + 1 }
 
+-- a session with a new transaction
 abbrev pub with_root : Kept → ℕ → BranchId → Kept
 with_root k n root = with_session k n (record (session_at k n) { seq = root.seq; root = Some root })
 
+-- a new root, where there is no transaction
 abbrev pub begins : Place → Kept → ℕ → Option BranchId → Kept
 begins p k n (Some root) = k
 begins p k n None = add_branch (with_root k n (new_root p k n)) (fresh_branch (fresh_live (new_root p k n) (new_root p k n) None 1 (strength_of p k)))
 
+-- the node with a transaction in this session
 abbrev pub begun : Place → Kept → ℕ → Kept
 begun p k n = begins p k n (session_at k n).root
 
+-- a root by its id
 abbrev pub root_by : Kept → Option BranchId → Option Branch
 root_by k None = None
 root_by k (Some root) = live_at k root
 
+-- the live root of a session
 abbrev pub root_at : Kept → ℕ → Option Branch
 root_at k n = root_by k (session_at k n).root
 
@@ -50,6 +57,7 @@ statement_of p k n s code None = nothing k
 statement_of p k n s (Some c) (Some x) = refuses k n (ora 2067 (one (decimal c)))
 statement_of p k n s None (Some x) = statement_at p k x s 0
 
+-- by the session's root: ORA-02067 where the transaction needs a rollback
 abbrev pub statement_call : Place → Kept → ℕ → Stmt → Deed
 statement_call p k n s = statement_of p k n s (session_at k n).code (root_at k n)
 
@@ -59,6 +67,7 @@ commit_of k n comment code None = did k n dones.Committed
 commit_of k n comment (Some c) (Some x) = refuses k n (ora 2067 (one (decimal c)))
 commit_of k n comment None (Some x) = collects (with_call k n Commit_out) (with_comment x comment) true
 
+-- COMMIT, with its comment
 abbrev pub commit_call : Kept → ℕ → Option (List ℕ) → Deed
 commit_call k n comment = commit_of k n (unwrap_or comment []) (session_at k n).code (root_at k n)
 
@@ -76,21 +85,27 @@ rollback_of k n (Some x) = record {
 abbrev pub writes : Kept → ℕ → RedoRecord → Done → Deed
 writes k n r d = record { after = with_record k r; wrote = Some r; says = []; ended = (record { session = n; answer = answers.Did d 0 }) ∷ [] }
 
+-- whether a table or a synonym has this name
 abbrev pub is_used : Durable → List ℕ → Bool
 is_used d name = list_any (λ t. same_text t.name name) d.tables || list_any (λ y. same_text y.name name) d.synonyms
 
+-- CREATE TABLE, or ORA-00955
 abbrev pub create_table : Kept → ℕ → Table → Deed
 create_table k n t = if is_used k.stored.durable t.name then refuses k n (ora 955 []) else writes k n (records.Table t) dones.TableMade
 
+-- CREATE DATABASE LINK, or ORA-02011
 abbrev pub create_link : Kept → ℕ → Link → Deed
 create_link k n l = if list_any (λ x. same_text x.name l.name) k.stored.durable.links then refuses k n (ora 2011 []) else writes k n (records.Link l) dones.LinkMade
 
+-- CREATE SYNONYM, or ORA-00955
 abbrev pub create_synonym : Kept → ℕ → Synonym → Deed
 create_synonym k n y = if is_used k.stored.durable y.name then refuses k n (ora 955 []) else writes k n (records.Synonym y) dones.SynonymMade
 
+-- ALTER SESSION ADVISE
 abbrev pub advise : Kept → ℕ → Option Advice → Deed
 advise k n a = did (with_session k n (record (session_at k n) { advice = a })) n dones.SessionAltered
 
+-- ALTER SYSTEM ENABLE or DISABLE DISTRIBUTED RECOVERY
 abbrev pub set_recovery : Kept → ℕ → Bool → Deed
 set_recovery k n on = writes k n (records.Param (params.Recovery on)) dones.SystemAltered
 
@@ -122,6 +137,7 @@ abbrev pub given_up_code : Option Standing → ℕ
 given_up_code None = 2054
 given_up_code (Some s) = if is_some s.decision then 2053 else 2054
 
+-- ORA-02050, ORA-02053 or ORA-02054
 abbrev pub commit_given_up : Kept → BranchId → Option Branch → Deed
 commit_given_up k root (Some x) = root_drops k x (tran_refusal 2050 root)
 commit_given_up k root None = record {
@@ -135,24 +151,29 @@ commit_given_up k root None = record {
 abbrev pub link_at : Live → ℕ → List ℕ
 link_at l i = unwrap_or (option_map (λ e. e.link) (slice_get l.edges i)) []
 
+-- the link that a statement waits for
 abbrev pub waits_on : Branch → Waits → List ℕ
 waits_on x (For_opened link) = link
 waits_on x (For_reply i) = link_at x.live i
 
+-- the link of the root that a call waits for
 abbrev pub waited_link : Branch → Option Going → List ℕ
 waited_link x None = []
 waited_link x (Some g) = waits_on x g.waits
 
+-- DTX-03, which names the root's link
 abbrev pub statement_given_up : Kept → ℕ → Option Branch → Deed
 statement_given_up k n None = nothing k
 statement_given_up k n (Some x) =
     refuses (needs_rollback (with_call (with_branch k (record x { going = None })) n No_call) n (dtx 3 []).code) n (dtx 3 (one (waited_link x x.going)))
 
+-- by what is out
 abbrev pub give_up_of : Kept → ℕ → Option BranchId → Call_out → Deed
 give_up_of k n None c = nothing k
 give_up_of k n (Some root) No_call = nothing k
 give_up_of k n (Some root) Statement_out = statement_given_up k n (live_at k root)
 give_up_of k n (Some root) Commit_out = commit_given_up k root (live_at k root)
 
+-- a call is given up
 abbrev pub give_up_turn : Kept → ℕ → Deed
 give_up_turn k n = give_up_of k n (session_at k n).root (session_at k n).call

@@ -13,6 +13,7 @@ use Rattle.node_rules.specs.Records.{with_record}
 use Rattle.node_rules.specs.Prepare.{commit_ended, commit_answer, tran_refusal}
 use Rattle.node_rules.specs.Kept.{Kept, Deed, ending}
 
+-- whether a branch is neither ended nor forced
 abbrev pub is_sealed : State → Bool
 is_sealed states.Sealed = true
 is_sealed _ = false
@@ -21,11 +22,13 @@ is_sealed _ = false
 abbrev pub is_named_by : Place → List ℕ → Standing → Bool
 is_named_by p id s = is_sealed s.state && (same_text (local_text s.me) id || same_text (global_text p.names s.root) id)
 
+-- ORA-02058 where the id names none, DTX-07 where it names several
 abbrev pub only_one : List ℕ → List Standing → Result BranchId Refusal
 only_one id [] = Err (ora 2058 (one id))
 only_one id (s ∷ []) = Ok s.me
 only_one id (s ∷ t ∷ ss) = Err (dtx 7 (id ∷ local_text s.me ∷ local_text t.me ∷ []))
 
+-- the branch that an id of COMMIT FORCE or ROLLBACK FORCE names
 unfoldable pub to_force : Place → Kept → List ℕ → Result BranchId Refusal
 to_force p k id = only_one id (filter (is_named_by p id) k.stored.durable.kept)
 
@@ -44,6 +47,7 @@ force_commit k session scn (Err r) = ending k session (answers.Refused r)
 force_commit k session (Some n) (Ok b) = forces k session b (decisions.Commit n) true (answers.Did dones.Committed 0)
 force_commit k session None (Ok b) = forces (record k { clock = k.clock + 1 }) session b (decisions.Commit (k.clock + 1)) false (answers.Did dones.Committed 0)
 
+-- ROLLBACK FORCE
 abbrev pub force_rollback : Kept → ℕ → Result BranchId Refusal → Deed
 force_rollback k session (Err r) = ending k session (answers.Refused r)
 force_rollback k session (Ok b) = forces k session b decisions.Rollback false (answers.Did dones.RolledBack 0)
@@ -52,6 +56,7 @@ force_rollback k session (Ok b) = forces k session b decisions.Rollback false (a
 abbrev pub may_purge : Bool → List ℕ → Standing → Bool
 may_purge mixed id s = not s.hidden && (same_text (local_text s.me) id && (if mixed then s.mixed else not (is_sealed s.state)))
 
+-- the row is hidden, or DTX-06
 abbrev pub hides : Kept → ℕ → List ℕ → Option Standing → Deed
 hides k session id None = ending k session (answers.Refused (dtx 6 (one id)))
 hides k session id (Some s) = record {
@@ -61,5 +66,6 @@ hides k session id (Some s) = record {
   ended = (record { session = session; answer = answers.Did dones.Purged 0 }) ∷ [];
 }
 
+-- PURGE_MIXED, or else PURGE_LOST_DB_ENTRY
 unfoldable pub purge : Kept → ℕ → Bool → List ℕ → Deed
 purge k session mixed id = hides k session id (find (may_purge mixed id) k.stored.durable.kept)

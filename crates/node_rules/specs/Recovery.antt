@@ -13,6 +13,7 @@ abbrev pub on_ask : Kept → Branch → BranchId → Deed
 on_ask k x from =
     if is_branch from x.live.parent then drops k x (post x.live.me from kinds.RolledBack) else saying k (post x.live.me from kinds.InDoubt)
 
+-- what is known
 abbrev pub tells : Option Decision → Kind
 tells None = kinds.InDoubt
 tells (Some (decisions.Commit n)) = kinds.Committed n
@@ -27,17 +28,21 @@ pub record Asking : Type 0 where
   pub me : BranchId
   pub says : List Post
 
+-- a live branch asks its parent
 abbrev pub asks_live : Branch → Asking
 asks_live x = record { me = x.live.me; says = to_one x.live.me kinds.Ask x.live.parent }
 
+-- and Ack toward where nobody is missing
 abbrev pub acks_again : Standing → List Post
 acks_again s = if all_acked s && not s.forgot then to_one s.me kinds.Ack s.toward else []
 
+-- an unknown decision is asked for toward; a known commit is told to those whose Ack is missing
 abbrev pub recovers : Standing → Option Decision → List Post
 recovers s None = to_one s.me kinds.Ask s.toward
 recovers s (Some (decisions.Commit n)) = to_each s.me (kinds.Committed n) (map (λ b. b.branch) (filter (λ b. not b.acked) (beyond s))) ++ acks_again s
 recovers s (Some decisions.Rollback) = []
 
+-- what a kept branch sends
 abbrev pub asks_kept : Standing → Asking
 asks_kept s = record { me = s.me; says = recovers s s.decision }
 
@@ -46,8 +51,10 @@ abbrev pub put_asking : List Asking → Asking → List Asking
 put_asking [] a = a ∷ []
 put_asking (b ∷ bs) a = if branch_below a.me b.me then a ∷ b ∷ bs else b ∷ put_asking bs a
 
+-- what all branches of a node send
 abbrev pub askings : Kept → List Asking
 askings k = fold put_asking [] (map asks_live k.lives ++ map asks_kept k.stored.durable.kept)
 
+-- RECO: one turn without a record
 unfoldable pub recovery : Kept → Deed
 recovery k = saying k (flat_map (λ a. a.says) (askings k))

@@ -11,11 +11,13 @@ best_child l = place_of_greatest 0 (map (λ e. e.weight) l.edges) None
 unfoldable pub weight : Live → Option ℕ
 weight l = if l.changed then Some l.strength else option_map (λ b. b.0) (best_child l)
 
+-- One step of the walk: the branch is the site, the walk goes to a child, or there is no site.
 pub data Walk : Type 0 where
   Here : Walk
   Down : (edge : ℕ) → Walk  -- the place of the edge
   Nowhere : Walk
 
+-- the step, by the branch's own strength, where it has changes, and by the best child
 abbrev pub walk_by : Bool → ℕ → Option (ℕ × ℕ) → Walk
 walk_by true strength None = Here
 walk_by true strength (Some b) = if nat_lt strength b.0 then Down b.1 else Here
@@ -26,9 +28,11 @@ walk_by false strength (Some b) = Down b.1
 unfoldable pub step : Live → Walk
 step l = walk_by l.changed l.strength (best_child l)
 
+-- the most branches of a tree
 abbrev pub most_branches : ℕ
 most_branches = 64
 
+-- the greatest depth of a branch
 abbrev pub most_depth : ℕ
 most_depth = 8
 

@@ -16,9 +16,11 @@ text_below xs [] = false
 text_below [] (y ∷ ys) = true
 text_below (x ∷ xs) (y ∷ ys) = nat_lt x y || ((x == y) && text_below xs ys)
 
+-- two branch ids are equal
 abbrev pub same : BranchId → BranchId → Bool
 same a b = (a.node == b.node) && ((a.boot == b.boot) && ((a.session == b.session) && (a.seq == b.seq)))
 
+-- it is this branch, where it is one
 abbrev pub is_branch : BranchId → Option BranchId → Bool
 is_branch b None = false
 is_branch b (Some c) = same c b
@@ -32,9 +34,11 @@ branch_below a b =
 abbrev pub change_where : {A : Type 0} → (A → Bool) → (A → A) → List A → List A
 change_where p f xs = map (λ x. if p x then f x else x) xs
 
+-- the items that do not pass
 abbrev pub drop_where : {A : Type 0} → (A → Bool) → List A → List A
 drop_where p xs = filter (λ x. not (p x)) xs
 
+-- a list of one item
 abbrev pub one : {A : Type 0} → A → List A
 one x = x ∷ []
 

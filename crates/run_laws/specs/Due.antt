@@ -12,6 +12,7 @@ use Rattle.run_laws.specs.Past.{Past, Out, next, node_at, place_at, is_up, is_en
 use Rattle.run_laws.specs.Disks.{Strike, struck}
 use Rattle.run_laws.specs.Lawful.{boots}
 
+-- What is due next.
 pub data Due : Type 0 where
   Tells : (k : ℕ) → Due
   Falls : (node : ℕ) → Due
@@ -27,10 +28,12 @@ pub data Due : Type 0 where
   Begins : (command : ℕ) → Due
   Ends : Due
 
+-- this, where the test holds
 abbrev pub if_due : Bool → Due → Option Due
 if_due true d = Some d
 if_due false d = None
 
+-- the call of the command that runs
 abbrev pub calls_due : Past → Option Out → Option Due
 calls_due p None = None
 calls_due p (Some o) = if_due (o.command == p.command) (Calls o)
@@ -49,13 +52,16 @@ act_of p (commands.GiveUp n session) = if_due (is_up p n && is_some (out_at p n 
 act_of p (commands.Reco n) = if_due (is_enabled (node_at p n)) (Recovers n)
 act_of p _ = None
 
+-- the next command, or the end of the script
 abbrev pub next_command : Past → Due
 next_command p = if nat_lt p.command (length p.commands) then Begins (p.command + 1) else Ends
 
+-- the first call that is out is given up
 abbrev pub next_give_up : Past → List Out → Due
 next_give_up p [] = next_command p
 next_give_up p (o ∷ os) = Gives_up o.node o.session
 
+-- the next message in flight, or else a call is given up
 abbrev pub next_delivery : Past → Option ℕ → Due
 next_delivery p None = next_give_up p p.outs
 next_delivery p (Some k) = if spent p.deliveries then next_give_up p p.outs else Delivers k false
@@ -66,32 +72,40 @@ most_of (commands.Pump None) = 4096
 most_of (commands.Pump (Some n)) = min n 4096
 most_of _ = 0
 
+-- the next message in flight, while PUMP delivers
 abbrev pub next_pumped : Past → ℕ → Option ℕ → Due
 next_pumped p most None = next_command p
 next_pumped p most (Some k) = if nat_lt p.deliveries most then Delivers k false else next_command p
 
+-- what comes by itself
 abbrev pub flows : Past → Due
 flows p = if p.hold then next_pumped p (most_of (command_at p p.command)) (first_flying p.net) else next_delivery p (first_flying p.net)
 
+-- a command's own act comes before what comes by itself
 abbrev pub acts_first : Past → Option Due → Due
 acts_first p None = flows p
 acts_first p (Some d) = d
 
+-- and comes once
 abbrev pub acts_once : Past → Due
 acts_once p = if p.acted then flows p else acts_first p (act_of p (command_at p p.command))
 
+-- the statement of a CREATE comes right after its COMMIT
 abbrev pub follows_first : Past → Option Out → Due
 follows_first p None = acts_once p
 follows_first p (Some o) = Calls o
 
+-- the stop of a cut turn's node comes before that
 abbrev pub falls_first : Past → Option ℕ → Due
 falls_first p None = follows_first p p.following
 falls_first p (Some n) = Falls n
 
+-- and the losses that are to be told come first of all
 abbrev pub tells_first : Past → List ℕ → Due
 tells_first p [] = falls_first p p.falling
 tells_first p (k ∷ ks) = Tells k
 
+-- what is due next
 unfoldable pub due_of : Past → Due
 due_of p = tells_first p p.untold
 
@@ -100,10 +114,12 @@ abbrev pub IsTook : ℕ → Bool → Option Took → Type 0
 IsTook k again None = ⊥
 IsTook k again (Some t) = (t.number ≡ k) × (t.again ≡ again)
 
+-- whether an input is a message
 abbrev pub IsMessage : Input → Type 0
 IsMessage (inputs.Message m) = Unit {0}
 IsMessage _ = ⊥
 
+-- a happening is of the kind that is due
 abbrev pub IsDue : Due → Happening → Type 0
 IsDue (Tells k) (happenings.Lost j) = j ≡ k
 IsDue (Falls n) (happenings.Stopped m) = m ≡ n
@@ -128,11 +144,13 @@ whole_turn node input took o = happenings.Turn (record { node = node; input = in
 abbrev pub cut_turn : ℕ → Input → Option Took → Outcome → Bool → Happening
 cut_turn node input took o stands = happenings.Turn (record { node = node; input = input; took = took; wrote = if stands then o.wrote else None; sent = []; cut = true })
 
+-- a turn, cut or whole
 abbrev pub turn_by : ℕ → Input → Option Took → Outcome → Cut_by → Happening
 turn_by node input took o By_nothing = whole_turn node input took o
 turn_by node input took o (By_strike stands) = cut_turn node input took o stands
 turn_by node input took o (By_point root numbers stands) = cut_turn node input took o stands
 
+-- a turn of a node that is up
 abbrev pub turn_at : Past → ℕ → Input → Option Took → Option Kept → List Happening
 turn_at p node input took None = []
 turn_at p node input took (Some k) = turn_by node input took (turn_of (place_at p node) k input) (cut_by p node k input (turn_of (place_at p node) k input)) ∷ []
@@ -142,10 +160,12 @@ abbrev pub start_by : Past → ℕ → Option Strike → Happening
 start_by p n None = happenings.Started n (boots (records_at p n) + 1)
 start_by p n (Some s) = if s.stands then happenings.Started n (boots (records_at p n) + 1) else happenings.Stopped n
 
+-- the turn that a message comes to
 abbrev pub delivery_at : Past → ℕ → Bool → Option Packet → List Happening
 delivery_at p k again None = []
 delivery_at p k again (Some x) = turn_at p x.msg.to.node (inputs.Message x.msg) (Some (record { number = k; again = again })) (node_at p x.msg.to.node)
 
+-- what is due, as a happening
 abbrev pub happens : Past → Due → List Happening
 happens p (Tells k) = happenings.Lost k ∷ []
 happens p (Falls n) = happenings.Stopped n ∷ []
@@ -172,9 +192,11 @@ abbrev pub one_on : Past → List Happening → Past
 one_on p [] = p
 one_on p (h ∷ hs) = next p h
 
+-- one happening on
 abbrev pub step_on : Past → Past
 step_on p = one_on p (happens p (due_of p))
 
+-- so many happenings on
 unfoldable pub runs_on : List ℕ → Past → Past
 runs_on [] p = p
 runs_on (x ∷ xs) p = runs_on xs (step_on p)

@@ -10,9 +10,11 @@ use Rattle.run_laws.specs.Book.{Agreement, MixedIsMarked, ScnLaw}
 use Rattle.run_laws.specs.Site.{SiteDecides, Coverage}
 use Rattle.run_laws.specs.Runs.{QueriesAreMeant}
 
+-- the history of a run
 abbrev pub history : List Place → List Command → List Happening → History
 history places commands trace = record { places = places; commands = commands; trace = trace }
 
+-- What holds of every run.
 pub record Headline (places : List Place) (commands : List Command) (answers : List AnswerLine) (book : List Entry) (trace : List Happening) : Type 0 where
   pub lawful : IsLawfulRun (history places commands trace)
   pub due : IsTheRun (start places commands) trace
@@ -32,17 +34,22 @@ TheRunIsLawful = (t : History) → IsTheRun (start t.places t.commands) t.trace 
 abbrev pub EveryBookAgrees : Type 0
 EveryBookAgrees = (t : History) → IsLawfulRun t → Agreement (book_of t.trace)
 
+-- of every lawful run mixed outcomes are marked
 abbrev pub EveryMixedIsMarked : Type 0
 EveryMixedIsMarked = (t : History) → IsLawfulRun t → MixedIsMarked (book_of t.trace)
 
+-- and the SCN law holds
 abbrev pub EveryScnIsLater : Type 0
 EveryScnIsLater = (t : History) → IsLawfulRun t → ScnLaw (book_of t.trace)
 
+-- and the commit point site decides
 abbrev pub EverySiteDecides : Type 0
 EverySiteDecides = (t : History) → IsLawfulRun t → SiteDecides t
 
+-- and every other branch with changes is sealed before
 abbrev pub EveryDecisionCovers : Type 0
 EveryDecisionCovers = (t : History) → IsLawfulRun t → Coverage t
 
+-- and each query is answered by its meaning
 abbrev pub EveryQueryIsMeant : Type 0
 EveryQueryIsMeant = (t : History) → IsLawfulRun t → QueriesAreMeant t

@@ -23,6 +23,7 @@ pub record MayCome (p : Past) (node : ℕ) (m : Msg) (t : Took) (x : Packet) : T
   pub passes : is_blocked p.net m ≡ false
   pub once : t.again ≡ false → x.fate ≡ fates.InFlight
 
+-- client sessions are 1 to 64
 abbrev pub IsSession : ℕ → Type 0
 IsSession n = (1 ≤ n) × (n ≤ 64)
 
@@ -31,6 +32,7 @@ abbrev pub HasCall : Call_out → Type 0
 HasCall No_call = ⊥
 HasCall _ = Unit {0}
 
+-- an input comes to a node
 abbrev pub Comes : Past → Kept → ℕ → Input → Option Took → Type 0
 Comes p k node (inputs.Message m) (Some t) = (x : Packet) × MayCome p node m t x
 Comes p k node (inputs.Call session statement) None = IsSession session × ((session_at k session).call ≡ No_call)
@@ -43,6 +45,7 @@ abbrev pub IsOwed : Place → Kept → Input → Option RedoRecord → List Msg 
 IsOwed place k input wrote sent false = (wrote ≡ (turn_of place k input).wrote) × (sent ≡ (turn_of place k input).sent)
 IsOwed place k input wrote sent true = ((wrote ≡ None) ⊎ (wrote ≡ (turn_of place k input).wrote)) × (sent ≡ [])
 
+-- a node that is up serves an input that may come, and writes and sends what it owes
 pub record MayTurn (p : Past) (t : Turn) (k : Kept) : Type 0 where
   pub settled : IsSettled p
   pub up : node_at p t.node ≡ Some k
@@ -54,6 +57,7 @@ pub record IsFlying (p : Past) (k : ℕ) (x : Packet) : Type 0 where
   pub sent : packet_at p.net k ≡ Some x
   pub flying : x.fate ≡ fates.InFlight
 
+-- the next loss that is to be told, or any message in flight
 abbrev pub MayBeLost : Past → ℕ → List ℕ → Type 0
 MayBeLost p k [] = (x : Packet) × IsFlying p k x
 MayBeLost p k (j ∷ js) = j ≡ k
@@ -63,16 +67,19 @@ abbrev pub MayStop : Past → ℕ → Option ℕ → Type 0
 MayStop p n (Some m) = (p.untold ≡ []) × (m ≡ n)
 MayStop p n None = p.untold ≡ []
 
+-- how often a node was started, by its records
 abbrev pub boots : List RedoRecord → ℕ
 boots [] = 0
 boots (records.Boot n ∷ rs) = 1 + boots rs
 boots (_ ∷ rs) = boots rs
 
+-- a node that is down starts, for the next time
 pub record MayStart (p : Past) (n boot : ℕ) : Type 0 where
   pub settled : IsSettled p
   pub down : node_at p n ≡ None
   pub next : boot ≡ boots (records_at p n) + 1
 
+-- this happening may come next
 abbrev pub MayHappen : Past → Happening → Type 0
 MayHappen p (happenings.Begun c) = IsSettled p × ((c ≡ p.command + 1) × (c ≤ length p.commands))
 MayHappen p (happenings.Turn t) = (k : Kept) × MayTurn p t k
@@ -93,8 +100,10 @@ pub record History : Type 0 where
   pub commands : List Command
   pub trace : List Happening
 
+-- what a whole run leaves
 abbrev pub past_of : History → Past
 past_of t = past (start t.places t.commands) t.trace
 
+-- each happening of a run may come where it came
 abbrev pub IsLawfulRun : History → Type 0
 IsLawfulRun t = IsLawful (start t.places t.commands) t.trace

@@ -27,6 +27,7 @@ pub record Ran_at : Type 0 where
   pub node : Kept
   pub at : Branch
 
+-- where the way of a statement ends at a table of this node
 abbrev pub run_way : Kept → Branch → Stmt → Way → Option Ran_at
 run_way k x s (Runs_here t) = Some (record { branch = x.live.me; statement = s; table = t; node = k; at = x })
 run_way k x s _ = None
@@ -41,23 +42,28 @@ abbrev pub exec_admitted : Place → Kept → Branch → ℕ → ℕ → Option 
 exec_admitted p k x call given advice s Run = run_way k (takes_call x call advice) s (way_of p k (takes_call x call advice) given s)
 exec_admitted p k x call given advice s _ = None
 
+-- an Exec at a live branch
 abbrev pub exec_run : Place → Kept → ℕ → ℕ → Option Advice → Stmt → Option Branch → Option Ran_at
 exec_run p k call given advice s None = None
 exec_run p k call given advice s (Some x) = exec_admitted p k x call given advice s (admit x call)
 
+-- only an Exec runs a statement
 abbrev pub kind_run : Place → Kept → BranchId → Kind → Option Ran_at
 kind_run p k to (kinds.Exec call given advice s) = exec_run p k call given advice s (live_at k to)
 kind_run p k to _ = None
 
+-- a client's call, or a message
 abbrev pub input_run : Place → Kept → Input → Option Ran_at
 input_run p k (inputs.Call session (Some s)) = call_run p (begun p k session) s (root_at (begun p k session) session)
 input_run p k (inputs.Message m) = kind_run p (met_message k m) m.to m.kind
 input_run p k _ = None
 
+-- at a node that is up
 abbrev pub node_run : Place → Option Kept → Input → Option Ran_at
 node_run p None input = None
 node_run p (Some k) input = input_run p k input
 
+-- the run of a statement in a happening, where it is one; a cut turn runs none
 unfoldable pub run_in : Past → Happening → Option Ran_at
 run_in p (happenings.Turn t) = if t.cut then None else node_run (place_at p t.node) (node_at p t.node) t.input
 run_in p _ = None
@@ -67,10 +73,12 @@ pub record Own : Type 0 where
   pub branch : BranchId
   pub changes : List Change
 
+-- what this branch has changed
 abbrev pub own_in : List Own → BranchId → List Change
 own_in [] b = []
 own_in (o ∷ os) b = if same o.branch b then o.changes else own_in os b
 
+-- with further changes of a branch
 abbrev pub own_more : List Own → BranchId → List Change → List Own
 own_more [] b cs = (record { branch = b; changes = cs }) ∷ []
 own_more (o ∷ os) b cs = if same o.branch b then (record { branch = b; changes = o.changes ++ cs }) ∷ os else o ∷ own_more os b cs
@@ -81,10 +89,12 @@ ran_changes (Refuses r) = []
 ran_changes (Reads rows keys) = []
 ran_changes (Writes d n cs keys) = cs
 
+-- what each branch has changed after a happening
 abbrev pub owns_next : Past → List Own → Option Ran_at → List Own
 owns_next p owns None = owns
 owns_next p owns (Some r) = own_more owns r.branch (ran_changes (ran (place_at p r.branch.node) r.node r.at r.statement r.table))
 
+-- what each branch has changed after these happenings
 unfoldable pub owns : Past → List Own → List Happening → List Own
 owns p os [] = os
 owns p os (h ∷ hs) = owns (next p h) (owns_next p os (run_in p h)) hs
@@ -104,6 +114,7 @@ pub record ReadAt (t : History) (before later : List Happening) (h : Happening) 
 abbrev pub is_key_of : List ℕ → Value → Change → Bool
 is_key_of table key c = same_text c.table table && same_value c.key key
 
+-- a key that a branch in doubt at this node has changed
 abbrev pub IsInDoubt : List Entry → ℕ → List ℕ → Value → Type 0
 IsInDoubt book n table key = (i : ℕ) × (b : BranchId) × (slice_get (in_doubt book n) i ≡ Some b) × (list_any (is_key_of table key) (changes_of book b) ≡ true)
 
@@ -113,6 +124,7 @@ pub record QueryIsMeant (book : List Entry) (os : List Own) (r : Ran_at) (rows :
   pub certain : (i : ℕ) (key : Value) → slice_get (examined r.statement r.table (view_by book os r.branch r.table.name) (locked_keys r.node r.table.name)) i ≡ Some key
       → IsInDoubt book r.branch.node r.table.name key → ⊥
 
+-- every run that gives rows gives the meaning of its query
 abbrev pub QueriesAreMeant : History → Type 0
 QueriesAreMeant t = (before later : List Happening) (h : Happening) (p : Past) (r : Ran_at) (rows : RowSet) (keys : List Value)
     → ReadAt t before later h p r rows keys → QueryIsMeant (book_of before) (owns (start t.places t.commands) [] before) r rows

@@ -17,13 +17,16 @@ abbrev pub branch_at : Option Kept → BranchId → Option Branch
 branch_at None b = None
 branch_at (Some k) b = live_at k b
 
+-- the live branch of this id, at its node
 abbrev pub branch_in : Past → BranchId → Option Branch
 branch_in p b = branch_at (node_at p b.node) b
 
+-- its changes
 abbrev pub own_by : Option Branch → List Change
 own_by None = []
 own_by (Some x) = x.own
 
+-- its children
 abbrev pub children_by : Option Branch → List BranchId
 children_by None = []
 children_by (Some x) = children_of x.live
@@ -32,12 +35,15 @@ children_by (Some x) = children_of x.live
 abbrev pub own_in : Past → BranchId → List Change
 own_in p b = own_by (branch_in p b)
 
+-- the children of a branch
 abbrev pub children_in : Past → BranchId → List BranchId
 children_in p b = children_by (branch_in p b)
 
+-- whether a branch has changes
 abbrev pub has_changes : Past → BranchId → Bool
 has_changes p b = is_some (slice_get (own_in p b) 0)
 
+-- the strength of a branch's node
 abbrev pub strength_in : Past → BranchId → ℕ
 strength_in p b = (place_at p b.node).strength
 
@@ -53,11 +59,13 @@ abbrev pub goes_down : (BranchId → Option BranchId) → Option BranchId → Op
 goes_down f None = None
 goes_down f (Some c) = f c
 
+-- where the walk goes from a branch
 abbrev pub walks : (BranchId → Option BranchId) → BranchId → List BranchId → Walk → Option BranchId
 walks f b cs Here = Some b
 walks f b cs Nowhere = None
 walks f b cs (Down i) = goes_down f (slice_get cs i)
 
+-- the walk from a branch on, through so many levels
 abbrev pub site_below : ℕ → Past → BranchId → Option BranchId
 site_below zero p b = None
 site_below (suc levels) p b =
@@ -73,6 +81,7 @@ abbrev pub tree_below : ℕ → Past → BranchId → List BranchId
 tree_below zero p b = []
 tree_below (suc levels) p b = b ∷ flat_map (tree_below levels p) (children_in p b)
 
+-- the session tree of a root
 unfoldable pub tree : Past → BranchId → List BranchId
 tree p root = tree_below most_depth p root
 
