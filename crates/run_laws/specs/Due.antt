@@ -1,6 +1,6 @@
 -- Which happening must come next, by the script: the losses and stops that must be told, the command's own act, the
 -- deliveries in order up to 4,096, the give-ups in order of command, and then the next command.
-use Rattle.std.specs.Prelude.{◌≡◌, ℕ, ◌+◌, ◌-◌, ◌==◌, ◌&&◌, ◌||◌, not, Bool, true, false, if◌then◌else◌, List, [], ◌∷◌, ◌++◌, find, length, min, nat_lt, nat_le, is_some, unwrap_or, slice_get, Option, Some, None}
+use Rattle.std.specs.Prelude.{◌≡◌, ℕ, ◌+◌, ◌-◌, ◌==◌, ◌&&◌, ◌||◌, not, Bool, true, false, if◌then◌else◌, List, [], ◌∷◌, ◌++◌, find, length, min, nat_lt, nat_le, is_some, unwrap_or, slice_get, option_to_list, Option, Some, None}
 use Rattle.run_laws.specs.Data.{Stmt, BranchId, Msg, Packet, RedoRecord, Input, Took, Turn, Happening, Command}
 use Rattle.run_laws.specs.Data.inputs
 use Rattle.run_laws.specs.Data.happenings
@@ -151,9 +151,9 @@ turn_by node input took o (By_strike stands) = cut_turn node input took o stands
 turn_by node input took o (By_point root numbers stands) = cut_turn node input took o stands
 
 -- a turn of a node that is up
-abbrev pub turn_at : Past → ℕ → Input → Option Took → Option Kept → List Happening
-turn_at p node input took None = []
-turn_at p node input took (Some k) = turn_by node input took (turn_of (place_at p node) k input) (cut_by p node k input (turn_of (place_at p node) k input)) ∷ []
+abbrev pub turn_at : Past → ℕ → Input → Option Took → Option Kept → Option Happening
+turn_at p node input took None = None
+turn_at p node input took (Some k) = Some (turn_by node input took (turn_of (place_at p node) k input) (cut_by p node k input (turn_of (place_at p node) k input)))
 
 -- a start has its Boot unless an order strikes before it stands
 abbrev pub start_by : Past → ℕ → Option Strike → Happening
@@ -161,42 +161,47 @@ start_by p n None = happenings.Started n (boots (records_at p n) + 1)
 start_by p n (Some s) = if s.stands then happenings.Started n (boots (records_at p n) + 1) else happenings.Stopped n
 
 -- the turn that a message comes to
-abbrev pub delivery_at : Past → ℕ → Bool → Option Packet → List Happening
-delivery_at p k again None = []
+abbrev pub delivery_at : Past → ℕ → Bool → Option Packet → Option Happening
+delivery_at p k again None = None
 delivery_at p k again (Some x) = turn_at p x.msg.to.node (inputs.Message x.msg) (Some (record { number = k; again = again })) (node_at p x.msg.to.node)
 
 -- what is due, as a happening
-abbrev pub happens : Past → Due → List Happening
-happens p (Tells k) = happenings.Lost k ∷ []
-happens p (Falls n) = happenings.Stopped n ∷ []
+abbrev pub happens : Past → Due → Option Happening
+happens p (Tells k) = Some (happenings.Lost k)
+happens p (Falls n) = Some (happenings.Stopped n)
 happens p (Calls o) = turn_at p o.node (inputs.Call o.session o.statement) None (node_at p o.node)
 happens p (Gives_up n session) = turn_at p n (inputs.GiveUp session) None (node_at p n)
 happens p (Delivers k again) = delivery_at p k again (packet_at p.net k)
 happens p (Recovers n) = turn_at p n inputs.Reco None (node_at p n)
-happens p (Cuts a b) = happenings.Cut a b ∷ []
-happens p (Joins a b) = happenings.Join a b ∷ []
-happens p (Loses k) = happenings.Lost k ∷ []
-happens p (Stops n) = happenings.Stopped n ∷ []
-happens p (Starts n) = start_by p n (struck 3 (plan_at p n)) ∷ []
-happens p (Begins c) = happenings.Begun c ∷ []
-happens p Ends = []
+happens p (Cuts a b) = Some (happenings.Cut a b)
+happens p (Joins a b) = Some (happenings.Join a b)
+happens p (Loses k) = Some (happenings.Lost k)
+happens p (Stops n) = Some (happenings.Stopped n)
+happens p (Starts n) = Some (start_by p n (struck 3 (plan_at p n)))
+happens p (Begins c) = Some (happenings.Begun c)
+happens p Ends = None
 
 -- each happening is the one that is due, with the record, the messages and the cut that the rules give: a run is a
 -- function of its places and commands, and want of memory leaves a first part of it
 unfoldable pub IsTheRun : Past → List Happening → Type 0
 IsTheRun p [] = Unit {0}
-IsTheRun p (h ∷ hs) = (happens p (due_of p) ≡ h ∷ []) × IsTheRun (next p h) hs
+IsTheRun p (h ∷ hs) = (happens p (due_of p) ≡ Some h) × IsTheRun (next p h) hs
 
--- so many happenings on, as far as the script goes
-abbrev pub one_on : Past → List Happening → Past
-one_on p [] = p
-one_on p (h ∷ hs) = next p h
+-- one happening on, where one is due
+abbrev pub one_on : Past → Option Happening → Past
+one_on p None = p
+one_on p (Some h) = next p h
 
--- one happening on
+-- what is due has happened
 abbrev pub step_on : Past → Past
 step_on p = one_on p (happens p (due_of p))
 
--- so many happenings on
+-- so many happenings on, as far as the script goes
 unfoldable pub runs_on : List ℕ → Past → Past
 runs_on [] p = p
 runs_on (x ∷ xs) p = runs_on xs (step_on p)
+
+-- and the happenings on the way
+unfoldable pub happened : List ℕ → Past → List Happening
+happened [] p = []
+happened (x ∷ xs) p = option_to_list (happens p (due_of p)) ++ happened xs (step_on p)

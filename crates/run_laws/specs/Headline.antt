@@ -8,7 +8,8 @@ use Rattle.run_laws.specs.Due.{IsTheRun}
 use Rattle.run_laws.specs.Lawful.{History, past_of, IsLawfulRun}
 use Rattle.run_laws.specs.Book.{Agreement, MixedIsMarked, ScnLaw}
 use Rattle.run_laws.specs.Site.{SiteDecides, Coverage}
-use Rattle.run_laws.specs.Runs.{QueriesAreMeant}
+use Rattle.run_laws.specs.Runs.{QueriesAreMeant, WritesAreMeant}
+use Rattle.run_laws.specs.Places.{AnswersHavePlaces}
 
 -- the history of a run
 abbrev pub history : List Place → List Command → List Happening → History
@@ -21,6 +22,8 @@ pub record Headline (places : List Place) (commands : List Command) (answers : L
   pub booked : book ≡ book_of trace
   pub answered : answers ≡ told (past_of (history places commands trace))
   pub queries : QueriesAreMeant (history places commands trace)
+  pub writes : WritesAreMeant (history places commands trace)
+  pub placed : AnswersHavePlaces (history places commands trace)
   pub agrees : Agreement book
   pub marked : MixedIsMarked book
   pub scns : ScnLaw book
@@ -53,3 +56,11 @@ EveryDecisionCovers = (t : History) → IsLawfulRun t → Coverage t
 -- and each query is answered by its meaning
 abbrev pub EveryQueryIsMeant : Type 0
 EveryQueryIsMeant = (t : History) → IsLawfulRun t → QueriesAreMeant t
+
+-- and each change is what its statement means
+abbrev pub EveryWriteIsMeant : Type 0
+EveryWriteIsMeant = (t : History) → IsLawfulRun t → WritesAreMeant t
+
+-- and each answer is that of a turn that ran the statement
+abbrev pub EveryAnswerHasItsPlace : Type 0
+EveryAnswerHasItsPlace = (t : History) → IsTheRun (start t.places t.commands) t.trace → AnswersHavePlaces t

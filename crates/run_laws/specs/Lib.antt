@@ -9,6 +9,7 @@ pub mod Report
 pub mod Book
 pub mod Site
 pub mod Runs
+pub mod Places
 pub mod Knowledge
 pub mod Headline
 pub mod Laws

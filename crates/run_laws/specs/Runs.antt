@@ -129,7 +129,15 @@ abbrev pub QueriesAreMeant : History → Type 0
 QueriesAreMeant t = (before later : List Happening) (h : Happening) (p : Past) (r : Ran_at) (rows : RowSet) (keys : List Value)
     → ReadAt t before later h p r rows keys → QueryIsMeant (book_of before) (owns (start t.places t.commands) [] before) r rows
 
--- the changes that a run adds are its meaning too
-pub record WriteIsMeant (book : List Entry) (os : List Own) (r : Ran_at) (n : ℕ) (cs : List Change) : Type 0 where
-  pub done : Done
-  pub makes : meant r.statement r.table (view_by book os r.branch r.table.name) ≡ Changes done n cs
+-- A turn in which a run changes rows: before it, the run, and its place in the trace.
+pub record WroteAt (t : History) (before later : List Happening) (h : Happening) (p : Past) (r : Ran_at) (done : Done) (n : ℕ) (cs : List Change) (keys : List Value) : Type 0 where
+  pub whole : t.trace ≡ before ++ h ∷ later
+  pub stood : p ≡ past (start t.places t.commands) before
+  pub runs : run_in p h ≡ Some r
+  pub writes : ran (place_at p r.branch.node) r.node r.at r.statement r.table ≡ Writes done n cs keys
+
+-- every run that changes rows makes the changes that its statement means over the view, and so many
+abbrev pub WritesAreMeant : History → Type 0
+WritesAreMeant t = (before later : List Happening) (h : Happening) (p : Past) (r : Ran_at) (done : Done) (n : ℕ) (cs : List Change) (keys : List Value)
+    → WroteAt t before later h p r done n cs keys
+    → meant r.statement r.table (view_by (book_of before) (owns (start t.places t.commands) [] before) r.branch r.table.name) ≡ Changes done n cs
