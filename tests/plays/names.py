@@ -14,7 +14,7 @@ UNFOLDED = (
     (f"{RULES}.Calls", "way_of admit reply_of"),
     (f"{RULES}.Commit", "beyond next_on_decision next_on_ack next_on_forgotten"),
     (f"{RULES}.Recovery", "recovery"),
-    (f"{RULES}.Force", "to_force purge"),
+    (f"{RULES}.Force", "branch_to_force purge"),
     (f"{RULES}.Turn", "turn_of start_of stand_of"),
     (f"{RULES}.Points", "passes point_of"),
     (f"{RULES}.Views", "pending_rows neighbor_rows"),

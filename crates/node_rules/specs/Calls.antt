@@ -9,7 +9,7 @@ use Rattle.node_rules.specs.Words.{same, same_text, is_branch, one}
 use Rattle.node_rules.specs.Meaning.{ora, dtx}
 use Rattle.node_rules.specs.Tree.{weight, count, room, most_depth}
 use Rattle.node_rules.specs.Statement.{Ran, ran, after_run, answer_of_run}
-use Rattle.node_rules.specs.Kept.{Kept, Deed, Branch, Session, Told, Going, Waits, For_opened, For_reply, Opening, Post, Call_out, No_call, Statement_out, nothing, saying, ending, post, with_branch, add_branch, fresh_live, fresh_branch, session_at, with_session}
+use Rattle.node_rules.specs.Kept.{Kept, Deed, Branch, Session, Reply_fields, Going, Waits, For_opened, For_reply, Opening, Post, Call_out, No_call, Statement_out, nothing, saying, ending, post, with_branch, add_branch, fresh_live, fresh_branch, session_at, with_session}
 
 -- What a statement's table name means at a node.
 pub data Named : Type 0 where
@@ -102,7 +102,7 @@ way_named p d l given (Behind link table) = way_target p l given link table (tar
 unfoldable pub way_of : Place → Kept → Branch → ℕ → Stmt → Way
 way_of p k x given s = way_named p k.stored.durable x.live given (ref_named k.stored.durable (ref_of s).name (ref_of s).link)
 
--- the session of a root while its call is out, and when it ends
+-- a session with this call out
 abbrev pub with_call : Kept → ℕ → Call_out → Kept
 with_call k n c = with_session k n (record (session_at k n) { call = c })
 
@@ -110,24 +110,24 @@ with_call k n c = with_session k n (record (session_at k n) { call = c })
 abbrev pub call_goes_out : Kept → Branch → Kept
 call_goes_out k x = if is_none x.live.parent then with_call k x.live.me.session Statement_out else k
 
--- the answer of a statement: to the session at the root, as a Reply to the parent elsewhere
-abbrev pub told : Branch → Answer → Told
-told x a = record { weight = weight x.live; count = count x.live; result = a }
+-- the fields of a Reply: the result, the weight, the branches of the subtree
+abbrev pub reply_fields : Branch → Answer → Reply_fields
+reply_fields x a = record { weight = weight x.live; count = count x.live; result = a }
 
 -- a Reply to the parent
-abbrev pub replies : Branch → BranchId → Told → List Post
+abbrev pub replies : Branch → BranchId → Reply_fields → List Post
 replies x to t = post x.live.me to (kinds.Reply x.last_call t.weight t.count t.result)
 
 -- the answer ends the call at a root; elsewhere it is kept and goes to the parent
 abbrev pub answered_to : Kept → Branch → Answer → Option BranchId → Deed
 answered_to k x a None = ending (with_call (with_branch k x) x.live.me.session No_call) x.live.me.session a
-answered_to k x a (Some parent) = saying (with_branch k (record x { reply = Some (told x a) })) (replies x parent (told x a))
+answered_to k x a (Some parent) = saying (with_branch k (record x { reply = Some (reply_fields x a) })) (replies x parent (reply_fields x a))
 
 -- the statement at this branch is answered
 abbrev pub answered : Kept → Branch → Answer → Deed
 answered k x a = answered_to k (record x { going = None }) a x.live.parent
 
--- Exec over an edge, under its next call number
+-- the advice that an Exec carries: at a root the session's, elsewhere that of the last Exec taken
 abbrev pub advice_of : Kept → Live → Option Advice
 advice_of k l = if is_none l.parent then (session_at k l.me.session).advice else l.advice
 
@@ -152,7 +152,7 @@ called x i s given = record x { calls = slice_set x.calls i (next_call x i); goi
 abbrev pub calls_over : Kept → Branch → ℕ → Stmt → ℕ → Deed
 calls_over k x i s given = saying (call_goes_out (with_branch k (called x i s given)) x) (exec_to k x i s given (peer_of x.live i))
 
--- Open at the node of a link
+-- the receiver of an Open: a node, and no branch of it yet
 abbrev pub nobody_at : ℕ → BranchId
 nobody_at node = record { node = node; boot = 0; session = 0; seq = 0 }
 
@@ -177,7 +177,7 @@ goes p k x s given (Through node link table) = opens_through k x node link (pass
 abbrev pub statement_at : Place → Kept → Branch → Stmt → ℕ → Deed
 statement_at p k x s given = goes p k x s given (way_of p k x given s)
 
--- a message Open: one branch for each parent and edge, and the same answer each time
+-- whether an Open of this parent and edge was answered so
 abbrev pub is_opening : BranchId → ℕ → Opening → Bool
 is_opening parent edge o = same o.parent parent && (o.edge == edge)
 
@@ -208,7 +208,7 @@ open_by p k parent edge root depth None =
 abbrev pub on_open : Place → Kept → BranchId → ℕ → BranchId → ℕ → Deed
 on_open p k parent edge root depth = open_by p k parent edge root depth (find (is_opening parent edge) k.opens)
 
--- a message Opened, at a live branch: the first for the edge that waits makes the child
+-- a new child: it has told its strength alone
 abbrev pub new_edge : BranchId → List ℕ → ℕ → Edge
 new_edge peer link strength = record { peer = peer; link = link; strength = strength; weight = None; count = 1; vote = votes.Unasked }
 
@@ -233,11 +233,11 @@ on_opened k x from edge strength = opened_going k x from edge strength x.going
 -- a message Exec, at a live branch: each number is run once, the last is answered again, all else is ignored
 pub data Admit : Type 0 where
   Run : Admit
-  Again : (reply : Told) → Admit
+  Again : (reply : Reply_fields) → Admit
   Ignore : Admit
 
 -- answered again, once there is an answer
-abbrev pub again : Option Told → Admit
+abbrev pub again : Option Reply_fields → Admit
 again None = Ignore
 again (Some t) = Again t
 
@@ -249,7 +249,7 @@ admit x call = if nat_lt x.last_call call then Run else (if call == x.last_call 
 abbrev pub takes_call : Branch → ℕ → Option Advice → Branch
 takes_call x call advice = record x { last_call = call; reply = None; live = record x.live { advice = advice } }
 
--- by that question
+-- a first number is run, the last one answered again, any other ignored
 abbrev pub exec_by : Place → Kept → Branch → BranchId → ℕ → ℕ → Option Advice → Stmt → Admit → Deed
 exec_by p k x from call given advice s Ignore = nothing k
 exec_by p k x from call given advice s (Again t) = saying k (replies x from t)
@@ -259,11 +259,11 @@ exec_by p k x from call given advice s Run = statement_at p k (takes_call x call
 abbrev pub on_exec : Place → Kept → Branch → BranchId → ℕ → ℕ → Option Advice → Stmt → Deed
 on_exec p k x from call given advice s = exec_by p k x from call given advice s (admit x call)
 
--- a message Reply, at a live branch: to the last call of the edge that waits
+-- the child with the weight and the branches that its Reply tells
 abbrev pub hears_reply : Branch → ℕ → Option ℕ → ℕ → Edge → Branch
 hears_reply x i weight count e = record x { live = record x.live { edges = slice_set x.live.edges i (record e { weight = weight; count = count }) } }
 
--- what comes back from a gone branch: the transaction needs a rollback, and the root names its link
+-- whether a result is the refusal of a gone branch
 abbrev pub is_gone : Answer → Bool
 is_gone (answers.Refused r) = r.code == (dtx 8 []).code
 is_gone _ = false
@@ -272,11 +272,11 @@ is_gone _ = false
 abbrev pub needs_rollback : Kept → ℕ → ℕ → Kept
 needs_rollback k n code = with_session k n (record (session_at k n) { code = Some code })
 
--- DTX-08, which names the root's link
+-- the transaction needs a rollback, and the answer is DTX-08 with the root's link
 abbrev pub gone_at_root : Kept → Branch → List ℕ → Deed
 gone_at_root k x link = answered (needs_rollback k x.live.me.session (dtx 8 []).code) x (answers.Refused (dtx 8 (one link)))
 
--- the result is the answer here too
+-- the result is the answer here too, but for a gone branch at a root
 abbrev pub reply_heard : Kept → Branch → List ℕ → Answer → Deed
 reply_heard k x link a = if is_none x.live.parent && is_gone a then gone_at_root k x link else answered k x a
 
@@ -285,12 +285,12 @@ abbrev pub reply_edge : Branch → BranchId → ℕ → ℕ → Option Edge → 
 reply_edge x from call i None = None
 reply_edge x from call i (Some e) = if same e.peer from && (unwrap_or (slice_get x.calls i) 0 == call) then Some (i, e) else None
 
--- where it waits for a Reply
+-- the edge, where the statement waits for a Reply
 abbrev pub reply_waits : Branch → BranchId → ℕ → Waits → Option (ℕ × Edge)
 reply_waits x from call (For_opened link) = None
 reply_waits x from call (For_reply i) = reply_edge x from call i (slice_get x.live.edges i)
 
--- where a statement is under way
+-- the edge, where a statement is under way
 abbrev pub reply_going : Branch → BranchId → ℕ → Option Going → Option (ℕ × Edge)
 reply_going x from call None = None
 reply_going x from call (Some g) = reply_waits x from call g.waits

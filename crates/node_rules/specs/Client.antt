@@ -13,7 +13,7 @@ use Rattle.node_rules.specs.Meaning.{ora, dtx}
 use Rattle.node_rules.specs.Records.{with_record}
 use Rattle.node_rules.specs.Calls.{with_call, statement_at, strength_of, needs_rollback}
 use Rattle.node_rules.specs.Prepare.{collects, with_comment, root_drops, commit_ended, commit_answer, no_transaction, to_children, tran_refusal, is_committing}
-use Rattle.node_rules.specs.Force.{to_force, force_commit, force_rollback, purge}
+use Rattle.node_rules.specs.Force.{branch_to_force, force_commit, force_rollback, purge}
 use Rattle.node_rules.specs.Data.kinds
 use Rattle.node_rules.specs.Kept.{Kept, Deed, Branch, Session, Going, Waits, For_opened, For_reply, Call_out, No_call, Statement_out, Commit_out, nothing, ending, with_branch, without_branch, add_branch, live_at, standing_at, fresh_live, fresh_branch, session_at, with_session}
 
@@ -25,7 +25,7 @@ refuses k session refusal = ending k session (answers.Refused refusal)
 abbrev pub did : Kept → ℕ → Done → Deed
 did k session d = ending k session (answers.Did d 0)
 
--- a statement begins a transaction where the session has none
+-- the id of the session's next root
 abbrev pub new_root : Place → Kept → ℕ → BranchId
 new_root p k n = record { node = p.number; boot = k.stored.durable.boot; session = n; seq = (session_at k n).seq + 1 }
 
@@ -51,13 +51,13 @@ root_by k (Some root) = live_at k root
 abbrev pub root_at : Kept → ℕ → Option Branch
 root_at k n = root_by k (session_at k n).root
 
--- INSERT, UPDATE, DELETE and SELECT
+-- ORA-02067 where the transaction needs a rollback; a session with a transaction and no call out has a live root
 abbrev pub statement_of : Place → Kept → ℕ → Stmt → Option ℕ → Option Branch → Deed
 statement_of p k n s code None = nothing k
 statement_of p k n s (Some c) (Some x) = refuses k n (ora 2067 (one (decimal c)))
 statement_of p k n s None (Some x) = statement_at p k x s 0
 
--- by the session's root: ORA-02067 where the transaction needs a rollback
+-- INSERT, UPDATE, DELETE and SELECT, at the session's root
 abbrev pub statement_call : Place → Kept → ℕ → Stmt → Deed
 statement_call p k n s = statement_of p k n s (session_at k n).code (root_at k n)
 
@@ -119,9 +119,9 @@ call_turn p k n (stmts.Update table sets cs) = statement_call p (begun p k n) n 
 call_turn p k n (stmts.Delete table cs) = statement_call p (begun p k n) n (stmts.Delete table cs)
 call_turn p k n (stmts.Select list table cs for_update) = statement_call p (begun p k n) n (stmts.Select list table cs for_update)
 call_turn p k n (stmts.Commit comment) = commit_call k n comment
-call_turn p k n (stmts.CommitForce id scn) = force_commit k n scn (to_force p k id)
+call_turn p k n (stmts.CommitForce id scn) = force_commit k n scn (branch_to_force p k id)
 call_turn p k n stmts.Rollback = rollback_of k n (root_at k n)
-call_turn p k n (stmts.RollbackForce id) = force_rollback k n (to_force p k id)
+call_turn p k n (stmts.RollbackForce id) = force_rollback k n (branch_to_force p k id)
 call_turn p k n (stmts.Advise a) = advise k n a
 call_turn p k n (stmts.Recovery on) = set_recovery k n on
 call_turn p k n (stmts.PurgeMixed id) = purge k n true id
@@ -132,12 +132,12 @@ abbrev pub read_turn : Place → Kept → ℕ → Option Stmt → Deed
 read_turn p k n None = refuses k n (ora 900 [])
 read_turn p k n (Some s) = call_turn p k n s
 
--- a COMMIT that is given up: a live root rolls back; a kept one knows the commit, or is in doubt
+-- ORA-02053 where the root knows the commit, else ORA-02054
 abbrev pub given_up_code : Option Standing → ℕ
 given_up_code None = 2054
 given_up_code (Some s) = if is_some s.decision then 2053 else 2054
 
--- ORA-02050, ORA-02053 or ORA-02054
+-- a live root rolls back, ORA-02050; a kept one answers what it knows
 abbrev pub commit_given_up : Kept → BranchId → Option Branch → Deed
 commit_given_up k root (Some x) = root_drops k x (tran_refusal 2050 root)
 commit_given_up k root None = record {
@@ -147,7 +147,7 @@ commit_given_up k root None = record {
   ended = commit_answer k root (tran_refusal (given_up_code (standing_at k root)) root);
 }
 
--- any other call that is given up has no answer from its link, and the transaction needs a rollback
+-- the link of the child at a place
 abbrev pub link_at : Live → ℕ → List ℕ
 link_at l i = unwrap_or (option_map (λ e. e.link) (slice_get l.edges i)) []
 
@@ -167,7 +167,7 @@ statement_given_up k n None = nothing k
 statement_given_up k n (Some x) =
     refuses (needs_rollback (with_call (with_branch k (record x { going = None })) n No_call) n (dtx 3 []).code) n (dtx 3 (one (waited_link x x.going)))
 
--- by what is out
+-- a statement, or a COMMIT, is given up
 abbrev pub give_up_of : Kept → ℕ → Option BranchId → Call_out → Deed
 give_up_of k n None c = nothing k
 give_up_of k n (Some root) No_call = nothing k

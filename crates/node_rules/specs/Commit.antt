@@ -47,11 +47,11 @@ is_neighbor s from = is_branch from s.parent || list_any (λ c. same c.branch fr
 abbrev pub to_beyond : Standing → Kind → List Post
 to_beyond s kind = to_each s.me kind (map (λ b. b.branch) (beyond s))
 
--- What a kept branch does next.
+-- What a kept branch does next: nothing, take a decision, meet one after it was forced, acknowledge to toward, forget, or answer the sender.
 pub data Next : Type 0 where
   Rest : Next
-  End : Next
-  Meet : (mixed : Bool) → Next
+  End : (decision : Decision) → Next
+  Meet : (decision : Decision) (mixed : Bool) → Next
   Ack_toward : Next
   Forget : Next
   Say_forgotten : Next
@@ -65,10 +65,10 @@ is_mixed _ _ = false
 
 -- the first decision from toward ends a sealed branch, and is met by a forced one
 abbrev pub first_decision : State → Decision → Next
-first_decision states.Sealed d = End
+first_decision states.Sealed d = End d
 first_decision states.Committed d = Rest
-first_decision (states.ForcedCommit n) d = Meet (is_mixed (states.ForcedCommit n) d)
-first_decision states.ForcedRollback d = Meet (is_mixed states.ForcedRollback d)
+first_decision (states.ForcedCommit n) d = Meet d (is_mixed (states.ForcedCommit n) d)
+first_decision states.ForcedRollback d = Meet d (is_mixed states.ForcedRollback d)
 
 -- a decision that is known: Committed again is acknowledged, once all beyond have
 abbrev pub known_decision : Standing → Decision → Decision → Next
@@ -122,20 +122,20 @@ forgets k s = record {
 }
 
 -- what a kept branch does next, as a turn
-abbrev pub does : Kept → Standing → BranchId → Decision → Next → Deed
-does k s from d Rest = nothing k
-does k s from d End = learns k s d (records.Ended s.me d)
-does k s from d (Meet mixed) = learns k s d (records.Met s.me d mixed)
-does k s from d Ack_toward = saying k (to_one s.me kinds.Ack s.toward)
-does k s from d Forget = forgets k s
-does k s from d Say_forgotten = saying k (post s.me from kinds.Forgotten)
-does k s from d Say_ack = saying k (post s.me from kinds.Ack)
+abbrev pub does : Kept → Standing → BranchId → Next → Deed
+does k s from Rest = nothing k
+does k s from (End d) = learns k s d (records.Ended s.me d)
+does k s from (Meet d mixed) = learns k s d (records.Met s.me d mixed)
+does k s from Ack_toward = saying k (to_one s.me kinds.Ack s.toward)
+does k s from Forget = forgets k s
+does k s from Say_forgotten = saying k (post s.me from kinds.Forgotten)
+does k s from Say_ack = saying k (post s.me from kinds.Ack)
 
 -- Committed, RolledBack or Rollback at a kept branch
 abbrev pub on_decision : Kept → Standing → BranchId → Decision → Deed
-on_decision k s from d = does k s from d (next_on_decision s from d)
+on_decision k s from d = does k s from (next_on_decision s from d)
 
--- an acknowledgement from beyond is counted; acknowledgements are kept in memory alone
+-- the child with its Ack counted
 abbrev pub acks_kid : BranchId → Kid → Kid
 acks_kid from c = if same c.branch from then record c { acked = true } else c
 
@@ -169,7 +169,7 @@ after_ack s from = if knows_commit s.decision && is_beyond s from then acked_by 
 
 -- a message Ack at a kept branch
 abbrev pub on_ack : Kept → Standing → BranchId → Deed
-on_ack k s from = does (with_standing k (after_ack s from)) (after_ack s from) from decisions.Rollback (next_on_ack s from)
+on_ack k s from = does (with_standing k (after_ack s from)) (after_ack s from) from (next_on_ack s from)
 
 -- a branch that knows the commit forgets when toward has forgotten, once
 unfoldable pub next_on_forgotten : Standing → BranchId → Next
@@ -177,9 +177,9 @@ next_on_forgotten s from = if knows_commit s.decision && (is_branch from s.towar
 
 -- a message Forgotten at a kept branch
 abbrev pub on_forgotten : Kept → Standing → BranchId → Deed
-on_forgotten k s from = does k s from decisions.Rollback (next_on_forgotten s from)
+on_forgotten k s from = does k s from (next_on_forgotten s from)
 
--- CommitPoint and a repeated Prepare at a kept branch
+-- CommitPoint at a kept branch that knows this decision
 abbrev pub commit_point_known : Kept → Standing → BranchId → Option Decision → Deed
 commit_point_known k s from None = nothing k
 commit_point_known k s from (Some (decisions.Commit n)) = saying k (post s.me from (kinds.Committed n))

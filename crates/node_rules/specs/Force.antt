@@ -29,8 +29,8 @@ only_one id (s ∷ []) = Ok s.me
 only_one id (s ∷ t ∷ ss) = Err (dtx 7 (id ∷ local_text s.me ∷ local_text t.me ∷ []))
 
 -- the branch that an id of COMMIT FORCE or ROLLBACK FORCE names
-unfoldable pub to_force : Place → Kept → List ℕ → Result BranchId Refusal
-to_force p k id = only_one id (filter (is_named_by p id) k.stored.durable.kept)
+unfoldable pub branch_to_force : Place → Kept → List ℕ → Result BranchId Refusal
+branch_to_force p k id = only_one id (filter (is_named_by p id) k.stored.durable.kept)
 
 -- the root of a COMMIT that is out is in doubt from then on
 abbrev pub forces : Kept → ℕ → BranchId → Decision → Bool → Answer → Deed
@@ -52,7 +52,7 @@ abbrev pub force_rollback : Kept → ℕ → Result BranchId Refusal → Deed
 force_rollback k session (Err r) = ending k session (answers.Refused r)
 force_rollback k session (Ok b) = forces k session b decisions.Rollback false (answers.Did dones.RolledBack 0)
 
--- a purge hides a shown row: of a mixed branch, or of one that is not sealed
+-- a shown row with this local id: mixed, or else committed or forced
 abbrev pub may_purge : Bool → List ℕ → Standing → Bool
 may_purge mixed id s = not s.hidden && (same_text (local_text s.me) id && (if mixed then s.mixed else not (is_sealed s.state)))
 

@@ -16,11 +16,11 @@ decimal n = digits 20 n
 abbrev pub local_text : BranchId → List ℕ
 local_text b = decimal b.boot ++ codes "." ++ decimal b.session ++ codes "." ++ decimal b.seq
 
--- eight digits, the greatest place first
+-- one hexadecimal digit
 abbrev pub hex_digit : ℕ → ℕ
 hex_digit d = if nat_lt d 10 then 48 + d else 87 + d
 
--- a number as eight hexadecimal digits
+-- a number as eight hexadecimal digits, the greatest place first
 abbrev pub hex8 : ℕ → List ℕ
 hex8 n = map (λ k. hex_digit ((n / (16 ^ k)) % 16)) (7 ∷ 6 ∷ 5 ∷ 4 ∷ 3 ∷ 2 ∷ 1 ∷ 0 ∷ [])
 

@@ -10,7 +10,7 @@ pub record Doubt : Type 0 where
   pub me : BranchId
   pub changes : List Change
 
--- What the records of a node say: catalog and kept branches, committed rows, changes in doubt, and the greatest SCN.
+-- What the records of a node say: catalog and kept branches, committed rows, changes in doubt, and the greatest SCN but for those that users gave. Acknowledgements, which are kept in memory alone, are counted in it too.
 pub record Stored : Type 0 where
   pub durable : Durable
   pub rows : List TableRows
@@ -24,7 +24,7 @@ pub record Held : Type 0 where
   pub writes : Bool
 
 -- The fields of a Reply, which a repeated call is answered with.
-pub record Told : Type 0 where
+pub record Reply_fields : Type 0 where
   pub weight : Option ℕ
   pub count : ℕ
   pub result : Answer
@@ -40,13 +40,13 @@ pub record Going : Type 0 where
   pub room : ℕ
   pub waits : Waits
 
--- A live branch: what its lives show, its own changes, the keys it holds, the calls that came and that it made.
+-- A live branch: its place in the session tree, its own changes, the keys it holds, the calls that came and those it made.
 pub record Branch : Type 0 where
   pub live : Live
   pub own : List Change
   pub held : List Held
   pub last_call : ℕ
-  pub reply : Option Told
+  pub reply : Option Reply_fields
   pub calls : List ℕ  -- the last call number of each edge
   pub going : Option Going
 
@@ -134,7 +134,7 @@ abbrev pub to_one : BranchId → Kind → Option BranchId → List Post
 to_one from kind None = []
 to_one from kind (Some to) = post from to kind
 
--- branches
+-- whether a live branch has this id
 abbrev pub is_at : BranchId → Branch → Bool
 is_at b x = same x.live.me b
 

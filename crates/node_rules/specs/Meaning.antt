@@ -11,7 +11,7 @@ use Rattle.node_rules.specs.Data.picks
 use Rattle.node_rules.specs.Data.stmts
 use Rattle.node_rules.specs.Data.dones
 use Rattle.node_rules.specs.Ids.{decimal}
-use Rattle.node_rules.specs.Words.{same_text, one}
+use Rattle.node_rules.specs.Words.{same_text, one, first_some}
 use Rattle.node_rules.specs.Rows.{Keyed, is_null, value_below, same_value, get, keys_of, keys_in_order}
 
 -- an Oracle refusal, with what its text names
@@ -32,7 +32,7 @@ abbrev pub refuse_if : Bool → Refusal → Option Refusal
 refuse_if true r = Some r
 refuse_if false r = None
 
--- columns
+-- a column of texts
 abbrev pub is_text : Column → Bool
 is_text c = is_some c.text_max
 
@@ -60,7 +60,7 @@ key_of_row t cells = unwrap_or (slice_get cells (unwrap_or (position (λ c. c.ke
 abbrev pub cell : Table → Row → List ℕ → Value
 cell t row name = unwrap_or (slice_get row.cells (unwrap_or (place_of t name) (length row.cells))) values.Null
 
--- the columns that a statement names, in the order of its text
+-- the columns in one term
 abbrev pub term_columns : Term → List (List ℕ)
 term_columns (terms.Column name) = one name
 term_columns (terms.Literal v) = []
@@ -148,7 +148,7 @@ statement_fits t (stmts.Delete table cs) = list_all (cond_fits t) cs
 statement_fits t (stmts.Select list table cs for_update) = picked_fits t list && list_all (cond_fits t) cs
 statement_fits t _ = true
 
--- sums over one row; no value where a partial result is out of range
+-- whether a number fits 64 bits
 abbrev pub in_range : ℤ → Bool
 in_range n = int_le (negsuc (2 ^ 63 - 1)) n && int_le n (pos (2 ^ 63 - 1))
 
@@ -176,7 +176,7 @@ steps_value t row (Some v) (p ∷ ps) = steps_value t row (step_value p.minus v 
 abbrev pub sum_value : Table → Row → Sum → Option Value
 sum_value t row s = steps_value t row (Some (term_value t row s.first)) s.rest
 
--- conditions: a comparison with NULL is not true
+-- what a sign says of two values, neither of which is NULL
 abbrev pub compares : Sign → Value → Value → Bool
 compares signs.Eq a b = same_value a b
 compares signs.Ne a b = not (same_value a b)
@@ -201,18 +201,12 @@ conds_of _ = []
 abbrev pub found : Stmt → Table → List Keyed → List Keyed
 found s t rows = filter (λ r. list_all (holds t r.row) (conds_of s)) rows
 
--- the key that a WHERE fixes: the first comparison for equality of the key with a literal that is not NULL
+-- the key that one condition fixes: by a comparison for equality with a literal that is not NULL
 abbrev pub fixes : Table → Cond → Option Value
 fixes t (conds.Compare column signs.Eq literal) = if is_key t column && not (is_null literal) then Some literal else None
 fixes t _ = None
 
--- the first value that there is
-abbrev pub first_of : List (Option Value) → Option Value
-first_of [] = None
-first_of (None ∷ vs) = first_of vs
-first_of (Some v ∷ vs) = Some v
-
--- the cells of an INSERT in table order; a column that the list leaves out is NULL
+-- a row without cells, over which the values of an INSERT are worked
 abbrev pub no_row : Row
 no_row = record { cells = [] }
 
@@ -229,15 +223,10 @@ inserted_cells t columns given = map (λ c. given_value t (zip (given_columns t 
 abbrev pub cells_of : List (Option Value) → List Value
 cells_of vs = map (λ v. unwrap_or v values.Null) vs
 
--- the cells that an INSERT puts into the table
-abbrev pub inserted_row : Table → Stmt → List Value
-inserted_row t (stmts.Insert table columns given) = cells_of (inserted_cells t columns given)
-inserted_row t _ = []
-
 -- the key that a statement fixes by itself
 abbrev pub fixed_key : Stmt → Table → Option Value
 fixed_key (stmts.Insert table columns given) t = Some (key_of_row t (cells_of (inserted_cells t columns given)))
-fixed_key s t = first_of (map (fixes t) (conds_of s))
+fixed_key s t = first_some (map (fixes t) (conds_of s))
 
 -- the keys that a statement examines: the one that it fixes, else every key in the view or locked
 abbrev pub examined_by : List Keyed → List Value → Option Value → List Value
@@ -271,13 +260,7 @@ too_long t c v =
     refuse_if (is_some c.text_max && nat_lt (unwrap_or c.text_max 0) (text_length v))
     (ora 12899 (t.name ∷ c.name ∷ decimal (text_length v) ∷ decimal (unwrap_or c.text_max 0) ∷ []))
 
--- the first refusal that there is
-abbrev pub first_refusal : List (Option Refusal) → Option Refusal
-first_refusal [] = None
-first_refusal (Some r ∷ rs) = Some r
-first_refusal (None ∷ rs) = first_refusal rs
-
--- what is wrong with a statement before any row is seen
+-- ORA-00904: the first column in the text that the table has not
 abbrev pub unknown_column : Stmt → Table → Option Refusal
 unknown_column s t = option_map (λ name. ora 904 (one name)) (find (λ name. is_none (place_of t name)) (named_columns s))
 
@@ -301,8 +284,8 @@ cell_null t p = refuse_if ((p.0.key || p.0.not_null) && is_null p.1) (column_ref
 abbrev pub ill_inserted : Stmt → Table → Option Refusal
 ill_inserted (stmts.Insert table columns given) t =
     else_refuse (refuse_if (list_any is_none (inserted_cells t columns given)) (dtx 9 []))
-    (else_refuse (first_refusal (map (cell_null t) (zip t.columns (cells_of (inserted_cells t columns given)))))
-    (first_refusal (map (λ p. too_long t p.0 p.1) (zip t.columns (cells_of (inserted_cells t columns given))))))
+    (else_refuse (first_some (map (cell_null t) (zip t.columns (cells_of (inserted_cells t columns given)))))
+    (first_some (map (λ p. too_long t p.0 p.1) (zip t.columns (cells_of (inserted_cells t columns given))))))
 ill_inserted _ t = None
 
 -- the refusal of a statement before any row is seen: its columns, its key column, its count of values, its types, its values
@@ -319,7 +302,7 @@ pub data Meant : Type 0 where
   Changes : (done : Done) (count : ℕ) (changes : List Change) → Meant
   Says_no : (refusal : Refusal) → Meant
 
--- the row of an UPDATE: every sum reads the row from before
+-- ORA-01407, then ORA-12899, else the row with this cell
 abbrev pub set_cell : Table → Column → ℕ → Row → Value → Result Row Refusal
 set_cell t c i after v =
     if is_null v && c.not_null then Err (column_refusal 1407 t c)
@@ -360,7 +343,7 @@ removal t r = record { table = t.name; key = r.key; after = None }
 abbrev pub deleted : Table → List Keyed → List Change
 deleted t rows = map (removal t) rows
 
--- the sum of the values that are not NULL, NULL of none
+-- the total with one value more
 abbrev pub sum_with : Value → Value → Option Value
 sum_with total values.Null = Some total
 sum_with values.Null (values.Number n) = Some (values.Number n)

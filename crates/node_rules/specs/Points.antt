@@ -25,7 +25,7 @@ pub record Passes : Type 0 where
   pub before : List ℕ
   pub after : List ℕ
 
--- the collect is complete in every such turn but that of CommitPoint
+-- whether the input is CommitPoint
 abbrev pub is_commit_point : Input → Bool
 is_commit_point (inputs.Message m) = is_kind m.kind where
   is_kind : Kind → Bool
@@ -33,7 +33,7 @@ is_commit_point (inputs.Message m) = is_kind m.kind where
   is_kind _ = false
 is_commit_point _ = false
 
--- the points of a complete collect, but for CommitPoint
+-- the point of a complete collect, 1 or 2, unless CommitPoint came
 abbrev pub collected : Input → ℕ → List ℕ
 collected input n = if is_commit_point input then [] else one n
 
@@ -64,7 +64,7 @@ record_points k input (records.Ended me (decisions.Commit n)) = kept_points (one
 record_points k input (records.Forgot me) = forgot_points (standing_at k me)
 record_points k input _ = None
 
--- Ready is said without a record
+-- 1 at the site, 2 at another branch
 abbrev pub ready_number : Walk → ℕ
 ready_number Here = 1
 ready_number _ = 2

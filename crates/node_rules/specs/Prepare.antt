@@ -14,12 +14,13 @@ use Rattle.node_rules.specs.Ids.{local_text}
 use Rattle.node_rules.specs.Meaning.{ora, dtx}
 use Rattle.node_rules.specs.Records.{with_record}
 use Rattle.node_rules.specs.Tree.{Walk, Here, Down, Nowhere, weight, step}
+use Rattle.node_rules.specs.Calls.{peer_of}
 use Rattle.node_rules.specs.Kept.{Kept, Deed, Finished, Branch, Post, Session, Call_out, No_call, Statement_out, Commit_out, nothing, saying, post, to_each, to_one, with_branch, without_branch, children_of, session_at, with_session, fresh_session}
 
--- What a branch does next in its prepare phase.
+-- What a branch does next in its prepare phase: nothing yet, Prepare to its children, one of its answers, a record and what follows it, or the end of a COMMIT without a site.
 pub data Act : Type 0 where
   Rest : Act
-  Ask_down : Act
+  Send_prepare : Act
   Say_read_only : Act
   Say_ready : Act
   Seal : Act
@@ -40,9 +41,9 @@ collected_act l true = if is_none l.parent then root_act (step l) else Say_ready
 collected_act l false = if is_none (weight l) then Say_read_only else Seal
 
 -- COMMIT or Prepare at a working branch
-abbrev pub asked_act : Live → Bool → List Edge → Act
-asked_act l site_below [] = collected_act l site_below
-asked_act l site_below (e ∷ es) = Ask_down
+abbrev pub first_act : Live → Bool → List Edge → Act
+first_act l site_below [] = collected_act l site_below
+first_act l site_below (e ∷ es) = Send_prepare
 
 -- CommitPoint at a branch that answered Ready
 abbrev pub commit_point_act : Walk → Act
@@ -69,24 +70,24 @@ prepares me comment path i (e ∷ es) =
     (record { from = me; to = e.peer; kind = kinds.Prepare (is_place i path) comment }) ∷ prepares me comment path (i + 1) es
 
 -- a child that was sent Prepare
-abbrev pub asked_edge : Edge → Edge
-asked_edge e = record e { vote = votes.Asked }
+abbrev pub with_prepare_sent : Edge → Edge
+with_prepare_sent e = record e { vote = votes.Asked }
 
 -- the collect begins: keys that FOR UPDATE alone holds are released
 abbrev pub collecting : Branch → Bool → Branch
 collecting x site_below = record x {
-  live = record x.live { phase = phases.Collecting site_below; edges = map asked_edge x.live.edges };
+  live = record x.live { phase = phases.Collecting site_below; edges = map with_prepare_sent x.live.edges };
   held = filter (λ h. h.writes) x.held;
 }
 
 -- whether an answer is Prepared
-abbrev pub is_yes : Vote → Bool
-is_yes votes.Prepared = true
-is_yes _ = false
+abbrev pub is_prepared_answer : Vote → Bool
+is_prepared_answer votes.Prepared = true
+is_prepared_answer _ = false
 
 -- whether a child answered Prepared
 abbrev pub is_prepared : Edge → Bool
-is_prepared e = is_yes e.vote
+is_prepared e = is_prepared_answer e.vote
 
 -- a child as a record names it
 abbrev pub peer_record : Edge → Peer
@@ -97,7 +98,7 @@ abbrev pub named_children : Option ℕ → ℕ → List Edge → List Peer
 named_children path i [] = []
 named_children path i (e ∷ es) = if is_prepared e || is_place i path then peer_record e ∷ named_children path (i + 1) es else named_children path (i + 1) es
 
--- the way to the site: the path child, by the number of prepared ones before it, or the parent
+-- how many children before this place answered Prepared
 abbrev pub prepared_before : ℕ → List Edge → ℕ
 prepared_before path es = length (filter is_prepared (take path es))
 
@@ -141,7 +142,7 @@ decided_of k x = record {
 abbrev pub decided_record : Kept → Branch → RedoRecord
 decided_record k x = records.Decided (decided_of k x)
 
--- the end of the COMMIT of a root, where it is out; the session has no transaction then
+-- whether the call that is out is COMMIT
 abbrev pub is_committing : Call_out → Bool
 is_committing No_call = false
 is_committing Statement_out = false
@@ -171,7 +172,7 @@ commit_complete = answers.Did dones.Committed 0
 abbrev pub tran_refusal : ℕ → BranchId → Answer
 tran_refusal code root = answers.Refused (ora code (one (local_text root)))
 
--- a live branch rolls back and is gone, and its children are told
+-- one message to each child
 abbrev pub to_children : Live → Kind → List Post
 to_children l kind = to_each l.me kind (children_of l)
 
@@ -196,10 +197,6 @@ abandons k x (Some parent) = drops k x (post x.live.me parent kinds.Abort)
 -- a branch is prepared: its record stands and it is live no more
 abbrev pub seals : Kept → Branch → Option ℕ → List Post → Deed
 seals k x path says = record { after = with_record (without_branch k x.live.me) (sealed_record k x path); wrote = Some (sealed_record k x path); says = says; ended = [] }
-
--- the child at a place
-abbrev pub peer_at : Live → ℕ → Option BranchId
-peer_at l i = option_map (λ e. e.peer) (slice_get l.edges i)
 
 -- the neighbours of the site: its parent, then the children that answered Prepared
 abbrev pub site_neighbors : Live → List BranchId
@@ -231,24 +228,24 @@ abbrev pub ready : Branch → Branch
 ready x = record x { live = record x.live { phase = phases.Ready } }
 
 -- Prepare goes to all children
-abbrev pub asks_down : Kept → Branch → Bool → Deed
-asks_down k x site_below = saying (with_branch k x) (prepares x.live.me x.live.comment (path_of site_below (step x.live)) 0 x.live.edges)
+abbrev pub sends_prepare : Kept → Branch → Bool → Deed
+sends_prepare k x site_below = saying (with_branch k x) (prepares x.live.me x.live.comment (path_of site_below (step x.live)) 0 x.live.edges)
 
 -- what a branch does next, as a turn
 abbrev pub acts : Kept → Branch → Bool → Act → Deed
 acts k x site_below Rest = saying (with_branch k x) []
-acts k x site_below Ask_down = asks_down k x site_below
+acts k x site_below Send_prepare = sends_prepare k x site_below
 acts k x site_below Say_read_only = saying (without_branch k x.live.me) (to_one x.live.me kinds.ReadOnly x.live.parent)
 acts k x site_below Say_ready = saying (with_branch k (ready x)) (to_one x.live.me kinds.Ready x.live.parent)
 acts k x site_below Seal = seals k x None (to_one x.live.me kinds.Prepared x.live.parent)
-acts k x site_below (Seal_and_pass i) = seals k x (Some i) (to_one x.live.me kinds.CommitPoint (peer_at x.live i))
+acts k x site_below (Seal_and_pass i) = seals k x (Some i) (to_one x.live.me kinds.CommitPoint (peer_of x.live i))
 acts k x site_below Decide = decides k x
 acts k x site_below Finish = finishes k x
 acts k x site_below Abandon = abandons k x x.live.parent
 
 -- COMMIT at a root, Prepare at any other branch
 abbrev pub collects : Kept → Branch → Bool → Deed
-collects k x site_below = acts k (collecting x site_below) site_below (asked_act x.live site_below x.live.edges)
+collects k x site_below = acts k (collecting x site_below) site_below (first_act x.live site_below x.live.edges)
 
 -- with the comment of the COMMIT
 abbrev pub with_comment : Branch → List ℕ → Branch
@@ -263,14 +260,14 @@ prepare_in k x site_below comment _ = nothing k
 abbrev pub on_prepare : Kept → Branch → Bool → List ℕ → Deed
 on_prepare k x site_below comment = prepare_in k x site_below comment x.live.phase
 
--- a child's first answer counts
-abbrev pub is_asked : Vote → Bool
-is_asked votes.Asked = true
-is_asked _ = false
+-- whether Prepare was sent and no answer has come
+abbrev pub is_awaited : Vote → Bool
+is_awaited votes.Asked = true
+is_awaited _ = false
 
 -- whether this is the first answer of this child
 abbrev pub answers_first : BranchId → Edge → Bool
-answers_first from e = same e.peer from && is_asked e.vote
+answers_first from e = same e.peer from && is_awaited e.vote
 
 -- the child with its answer
 abbrev pub has_voted : BranchId → Vote → Edge → Edge
@@ -282,7 +279,7 @@ voted x from v = record x { live = record x.live { edges = map (has_voted from v
 
 -- whether every child has answered
 abbrev pub all_answered : Live → Bool
-all_answered l = not (list_any (λ e. is_asked e.vote) l.edges)
+all_answered l = not (list_any (λ e. is_awaited e.vote) l.edges)
 
 -- an Abort abandons at once; else the last answer completes the collect
 abbrev pub answer_act : Live → Bool → Vote → Act

@@ -19,9 +19,9 @@ abbrev pub nothing_stored : Stored
 nothing_stored = record { durable = no_durable; rows = []; doubts = []; scn = 0 }
 
 -- the greater of an SCN and a commit's
-abbrev pub met_scn : ℕ → Decision → ℕ
-met_scn scn (decisions.Commit n) = max scn n
-met_scn scn decisions.Rollback = scn
+abbrev pub raised_by : ℕ → Decision → ℕ
+raised_by scn (decisions.Commit n) = max scn n
+raised_by scn decisions.Rollback = scn
 
 -- kept branches stand in order of boot, session, seq
 abbrev pub keep : List Standing → Standing → List Standing
@@ -105,8 +105,8 @@ abbrev pub add_kept : Stored → Standing → Stored
 add_kept s x = record s { durable = record s.durable { kept = keep s.durable.kept x } }
 
 -- a decided branch is kept where it has neighbours
-abbrev pub decided : Stored → Standing → Stored
-decided s x = if has_neighbors x then add_kept s x else s
+abbrev pub keep_decided : Stored → Standing → Stored
+keep_decided s x = if has_neighbors x then add_kept s x else s
 
 -- a branch that has committed at this SCN
 abbrev pub ended_commit : ℕ → Standing → Standing
@@ -164,7 +164,7 @@ with_scn scn s = record s { scn = max s.scn scn }
 -- the SCN that the user gave does not count
 abbrev pub forced_scn : ℕ → Decision → Bool → ℕ
 forced_scn scn d true = scn
-forced_scn scn d false = met_scn scn d
+forced_scn scn d false = raised_by scn d
 
 -- what is stored after one record
 unfoldable pub applied : Stored → RedoRecord → Stored
@@ -174,10 +174,10 @@ applied s (records.Link l) = record s { durable = record s.durable { links = s.d
 applied s (records.Synonym y) = record s { durable = record s.durable { synonyms = s.durable.synonyms ++ y ∷ [] } }
 applied s (records.Param setting) = record s { durable = set_param s.durable setting }
 applied s (records.Sealed r) = record (add_kept (with_scn r.scn s) (sealed_as r)) { doubts = s.doubts ++ (record { me = r.me; changes = r.changes }) ∷ [] }
-applied s (records.Decided r) = decided (committed (with_scn r.scn s) r.changes) (decided_as r)
-applied s (records.Ended me d) = ended (record s { scn = met_scn s.scn d }) me d
+applied s (records.Decided r) = keep_decided (committed (with_scn r.scn s) r.changes) (decided_as r)
+applied s (records.Ended me d) = ended (record s { scn = raised_by s.scn d }) me d
 applied s (records.Forced me d given) = forced (record s { scn = forced_scn s.scn d given }) me d
-applied s (records.Met me d mixed) = met (record s { scn = met_scn s.scn d }) me d mixed
+applied s (records.Met me d mixed) = met (record s { scn = raised_by s.scn d }) me d mixed
 applied s (records.Forgot b) = forgotten s b
 applied s (records.Hidden b) = change_kept s b hidden_as
 

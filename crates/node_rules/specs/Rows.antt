@@ -75,9 +75,9 @@ abbrev pub apply_all : List TableRows → List Change → List TableRows
 apply_all tables cs = map (apply_to cs) tables
 
 -- the rows of the table of a name
-abbrev pub rows_at : List TableRows → List ℕ → List Keyed
-rows_at [] table = []
-rows_at (t ∷ ts) table = if same_text t.table table then t.rows else rows_at ts table
+abbrev pub rows_of_table : List TableRows → List ℕ → List Keyed
+rows_of_table [] table = []
+rows_of_table (t ∷ ts) table = if same_text t.table table then t.rows else rows_of_table ts table
 
 -- the keys of rows
 abbrev pub keys_of : List Keyed → List Value
@@ -92,7 +92,7 @@ put_key (k ∷ ks) key = if same_value k key then k ∷ ks else (if value_below 
 abbrev pub keys_in_order : List Value → List Value
 keys_in_order ks = fold put_key [] ks
 
--- the bytes of a change
+-- the bytes of a value
 abbrev pub value_length : Value → ℕ
 value_length values.Null = 1
 value_length (values.Number n) = 9
@@ -107,11 +107,11 @@ row_length (Some r) = 2 + sum_by value_length r.cells
 abbrev pub change_length : Change → ℕ
 change_length c = 1 + length c.table + value_length c.key + row_length c.after
 
--- the undo of changes: each change with the row from before it
+-- the undo of changes: each change with the row from before it; the rows of now serve, since a changed key stays locked until its branch ends
 abbrev pub undo_of : List TableRows → List Change → List Change
 undo_of rows [] = []
-undo_of rows (c ∷ cs) = record c { after = get (rows_at rows c.table) c.key } ∷ undo_of (apply_all rows (c ∷ [])) cs
+undo_of rows (c ∷ cs) = record c { after = get (rows_of_table rows c.table) c.key } ∷ undo_of (apply_all rows (c ∷ [])) cs
 
--- the extents that so many bytes of undo take
+-- the bytes of the undo
 abbrev pub undo_length : List TableRows → List Change → ℕ
 undo_length rows cs = sum_by change_length (undo_of rows cs)

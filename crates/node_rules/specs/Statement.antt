@@ -4,15 +4,15 @@ use Rattle.std.specs.List.{list_any}
 use Rattle.node_rules.specs.Data.{Value, Change, Table, Stmt, RowSet, Refusal, Done, Answer, BranchId, Live, Place}
 use Rattle.node_rules.specs.Data.answers
 use Rattle.node_rules.specs.Data.stmts
-use Rattle.node_rules.specs.Words.{same, same_text, one}
-use Rattle.node_rules.specs.Rows.{Keyed, TableRows, same_value, apply, rows_at, change_length, undo_length}
+use Rattle.node_rules.specs.Words.{same, same_text, one, first_some}
+use Rattle.node_rules.specs.Rows.{Keyed, TableRows, same_value, apply, rows_of_table, change_length, undo_length}
 use Rattle.node_rules.specs.Meaning.{Meant, Gives, Changes, Says_no, ora, dtx, else_refuse, refuse_if, checked, examined, written, meant_over}
 use Rattle.node_rules.specs.Ids.{decimal, local_text}
 use Rattle.node_rules.specs.Kept.{Kept, Branch, Held, Doubt}
 
 -- the committed rows of the node with the branch's own changes
 abbrev pub view : Kept → Branch → List ℕ → List Keyed
-view k x table = apply table (rows_at k.stored.rows table) x.own
+view k x table = apply table (rows_of_table k.stored.rows table) x.own
 
 -- whether a change is at this key
 abbrev pub is_change_of : List ℕ → Value → Change → Bool
@@ -39,12 +39,6 @@ locked_keys k table =
     flat_map (λ d. map (λ c. c.key) (filter (λ c. same_text c.table table) d.changes)) k.stored.doubts
     ++ flat_map (λ x. map (λ h. h.key) (filter (λ h. same_text h.table table) x.held)) k.lives
 
--- the first holder that there is
-abbrev pub first_holder : List (Option BranchId) → Option BranchId
-first_holder [] = None
-first_holder (Some b ∷ bs) = Some b
-first_holder (None ∷ bs) = first_holder bs
-
 -- the refusal that names a holder
 abbrev pub held_refusal : ℕ → Option BranchId → Option Refusal
 held_refusal code None = None
@@ -52,13 +46,13 @@ held_refusal code (Some b) = Some (ora code (one (local_text b)))
 
 -- an examined key is in doubt
 abbrev pub in_doubt_refusal : Kept → Table → List Value → Option Refusal
-in_doubt_refusal k t keys = held_refusal 1591 (first_holder (map (doubt_on k.stored.doubts t.name) keys))
+in_doubt_refusal k t keys = held_refusal 1591 (first_some (map (doubt_on k.stored.doubts t.name) keys))
 
 -- a written key is held by another live branch
 abbrev pub locked_refusal : Kept → BranchId → Table → List Value → Option Refusal
-locked_refusal k me t keys = held_refusal 2049 (first_holder (map (hold_on k.lives me t.name) keys))
+locked_refusal k me t keys = held_refusal 2049 (first_some (map (hold_on k.lives me t.name) keys))
 
--- extents of undo
+-- so many bytes over 4,096, rounded up
 abbrev pub extents : ℕ → ℕ
 extents bytes = (bytes + 4095) / 4096
 
@@ -116,11 +110,11 @@ ran_checked p k x s t None =
 unfoldable pub ran : Place → Kept → Branch → Stmt → Table → Ran
 ran p k x s t = ran_checked p k x s t (checked s t)
 
--- a key that the branch has stays, and counts as written once it was taken for a change
+-- a key that is held
 abbrev pub new_hold : List ℕ → Value → Bool → Held
 new_hold table key writes = record { table = table; key = key; writes = writes }
 
--- the branch's keys with one more
+-- the held keys with this one; a key stays written once it was taken for a change
 abbrev pub take_key : List ℕ → Bool → List Held → Value → List Held
 take_key table writes [] key = new_hold table key writes ∷ []
 take_key table writes (h ∷ hs) key =

@@ -40,6 +40,6 @@ most_depth = 8
 abbrev pub count : Live → ℕ
 count l = 1 + sum_by (λ e. e.count) l.edges
 
--- the room that is left in the tree
+-- the room that is left in the tree: at a root by its own count, elsewhere what the Exec carried
 abbrev pub room : Live → ℕ → ℕ
 room l given = if is_none l.parent then most_branches - count l else given

@@ -37,7 +37,7 @@ live_or None s = kept_or_gone s
 unfoldable pub stand_of : Kept → BranchId → Stand
 stand_of k b = live_or (live_at k b) (standing_at k b)
 
--- each kind of message, at a branch that is live, kept or gone
+-- Exec: a kept branch ignores it, a gone one refuses it
 abbrev pub exec_turn : Place → Kept → BranchId → BranchId → ℕ → ℕ → Option Advice → Stmt → Stand → Deed
 exec_turn p k from to call given advice s (Is_live x) = on_exec p k x from call given advice s
 exec_turn p k from to call given advice s (Is_kept y) = nothing k
@@ -130,13 +130,13 @@ abbrev pub kind_scn : Kind → ℕ
 kind_scn (kinds.Committed n) = n
 kind_scn _ = 0
 
--- the node's clock after a message has come
-abbrev pub met_message : Kept → Msg → Kept
-met_message k m = raised k (max m.scn (kind_scn m.kind))
+-- the node with its clock raised by a message
+abbrev pub clock_raised_by : Kept → Msg → Kept
+clock_raised_by k m = raised k (max m.scn (kind_scn m.kind))
 
 -- a message
 abbrev pub message_turn : Place → Kept → Msg → Deed
-message_turn p k m = kind_turn p (met_message k m) m.from m.to m.kind (stand_of k m.to)
+message_turn p k m = kind_turn p (clock_raised_by k m) m.from m.to m.kind (stand_of k m.to)
 
 -- what comes to a node
 abbrev pub deed_of : Place → Kept → Input → Deed
@@ -157,7 +157,7 @@ outcome_of d = record { after = d.after; wrote = d.wrote; sent = map (stamped d.
 unfoldable pub turn_of : Place → Kept → Input → Outcome
 turn_of p k input = outcome_of (deed_of p k input)
 
--- what a start makes of the records: nobody is live, no acknowledgement has come, and the clock is the greatest SCN
+-- what a node keeps after a start: nobody is live, no acknowledgement has come, and the clock is the greatest SCN
 abbrev pub kept_by : Stored → Kept
 kept_by s = record { stored = s; lives = []; clock = s.scn; opens = []; sessions = replicate 64 fresh_session }
 

@@ -62,12 +62,12 @@ pending_live x = record {
   number = None;
 }
 
--- a live branch that has sent Prepare
+-- whether the collect has not begun
 abbrev pub is_working : Phase → Bool
 is_working phases.Working = true
 is_working _ = false
 
--- a live branch that has asked its children
+-- whether a live branch has sent Prepare
 abbrev pub has_sent_prepare : Branch → Bool
 has_sent_prepare x = not (is_working x.live.phase) && is_some (slice_get x.live.edges 0)
 

@@ -42,9 +42,15 @@ drop_where p xs = filter (λ x. not (p x)) xs
 abbrev pub one : {A : Type 0} → A → List A
 one x = x ∷ []
 
--- the greatest, none of no numbers; the first of equals
+-- the greatest number and the place where it stands first, of those from place i on, and of the best before them
 abbrev pub place_of_greatest : ℕ → List (Option ℕ) → Option (ℕ × ℕ) → Option (ℕ × ℕ)
 place_of_greatest i [] best = best
 place_of_greatest i (None ∷ ws) best = place_of_greatest (i + 1) ws best
 place_of_greatest i (Some w ∷ ws) None = place_of_greatest (i + 1) ws (Some (w, i))
 place_of_greatest i (Some w ∷ ws) (Some b) = place_of_greatest (i + 1) ws (if nat_lt b.0 w then Some (w, i) else Some b)
+
+-- the first that there is
+abbrev pub first_some : {A : Type 0} → List (Option A) → Option A
+first_some [] = None
+first_some (Some x ∷ xs) = Some x
+first_some (None ∷ xs) = first_some xs

@@ -13,7 +13,7 @@ use Rattle.node_rules.specs.Meaning.{Meant, Gives, Changes, Says_no, meant, exam
 use Rattle.node_rules.specs.Statement.{Ran, Refuses, Reads, Writes, ran, locked_keys}
 use Rattle.node_rules.specs.Calls.{Way, Runs_here, way_of, Admit, Run, admit, takes_call}
 use Rattle.node_rules.specs.Client.{begun, root_at}
-use Rattle.node_rules.specs.Turn.{met_message}
+use Rattle.node_rules.specs.Turn.{clock_raised_by}
 use Rattle.node_rules.specs.Kept.{Kept, Branch, Held, live_at}
 use Rattle.run_laws.specs.Book.{rows_of, in_doubt, changes_of}
 use Rattle.run_laws.specs.Past.{Past, past, start, next, node_at, place_at, book_of}
@@ -55,7 +55,7 @@ kind_run p k to _ = None
 -- a client's call, or a message
 abbrev pub input_run : Place → Kept → Input → Option Ran_at
 input_run p k (inputs.Call session (Some s)) = call_run p (begun p k session) s (root_at (begun p k session) session)
-input_run p k (inputs.Message m) = kind_run p (met_message k m) m.to m.kind
+input_run p k (inputs.Message m) = kind_run p (clock_raised_by k m) m.to m.kind
 input_run p k _ = None
 
 -- at a node that is up
