@@ -65,7 +65,7 @@ fallen-book p n (o ∷ os) =
     (fallen-book p n os)
 
 pub waiting-book : (p : Past) (o : Out) → (waits p o).book ≡ p.book
-waiting-book p o = if-book (p.hold && is_none p.following) (with_own p (one (said.World notices.Waiting))) p p.book refl refl
+waiting-book p o = if-book (p.hold && is_none p.next_call) (with_own p (one (said.World notices.Waiting))) p p.book refl refl
 
 pub waits-book : (p : Past) (o : Option Out) → (waits_if_out p o).book ≡ p.book
 waits-book p None = refl
@@ -104,10 +104,10 @@ appends-book p n input (Some k) =
     ∙ cut-book p n (is_some (turn_of (place_at p n) k input).wrote) (cut_by p n k input (turn_of (place_at p n) k input))
 
 pub start-book : (p : Past) (n : ℕ) → (start_appends p n).book ≡ p.book
-start-book p n = if-book (is_start (command_at p p.command) && is_none p.falling) (appends p n 3) p p.book refl refl
+start-book p n = if-book (is_start (command_at p p.command) && is_none p.node_to_stop) (appends p n 3) p p.book refl refl
 
-pub following-book : (p : Past) (input : Input) → (without_following p input).book ≡ p.book
-following-book p input = if-book _ _ _ p.book refl refl
+pub next_call-book : (p : Past) (input : Input) → (without_following p input).book ≡ p.book
+next_call-book p input = if-book _ _ _ p.book refl refl
 
 pub turned-book : (p : Past) (node : ℕ) (input : Input) (o : Outcome) (sent : List Msg) → (turned p node input o sent).book ≡ p.book
 turned-book p node input o sent =
@@ -123,7 +123,7 @@ loss-book p k [] = refl
 loss-book p k (j ∷ js) = refl
 
 pub stop-book : (p : Past) (n : ℕ) (c : Command) → (stop_line p n c).book ≡ p.book
-stop-book p n (commands.Stop m) = refl
+stop-book p n (commands.Stop m) = if-book (m == n) p _ p.book refl refl
 stop-book p n (commands.Start m) = if-book (m == n) _ p p.book refl refl
 stop-book p n _ = refl
 
@@ -136,10 +136,10 @@ unfolding next
 next-book p (happenings.Begun c) = orders-book _ c (command_at p c) ∙ sym (append-nil p.book)
 next-book p (happenings.Turn t) =
     turns-book _ t.node t.input (node_at p t.node) t.sent t.cut
-    ∙ (following-book _ t.input ∙ (taken-book _ t.took ∙ appends-book (entered (with_record_at p t.node t.wrote) (flat_map (entry_of t.node) (option_to_list t.wrote))) t.node t.input (node_at p t.node)))
+    ∙ (next_call-book _ t.input ∙ (taken-book _ t.took ∙ appends-book (entered (with_record_at p t.node t.wrote) (flat_map (entry_of t.node) (option_to_list t.wrote))) t.node t.input (node_at p t.node)))
 next-book p (happenings.Cut a b) = sym (append-nil p.book)
 next-book p (happenings.Join a b) = sym (append-nil p.book)
-next-book p (happenings.Lost k) = loss-book p k p.untold ∙ sym (append-nil p.book)
+next-book p (happenings.Lost k) = loss-book p k p.losses_to_tell ∙ sym (append-nil p.book)
 next-book p (happenings.Stopped n) = stops-book p n ∙ sym (append-nil p.book)
 next-book p (happenings.Started n boot) = sym (append-nil p.book)
 

@@ -4,7 +4,7 @@ use Rattle.std.specs.Prelude.{ℕ, ◌+◌, ◌-◌, ◌==◌, ◌&&◌, Bool, t
 use Rattle.run_laws.specs.Data.{How}
 use Rattle.run_laws.specs.Data.hows
 
--- A write that leaves its first byte as an open gate, or not.
+-- An order to stop in a write, and whether what it leaves opens the log's gate.
 pub record Stop_order : Type 0 where
   pub write : ℕ  -- counted from now
   pub opens : Bool

@@ -97,44 +97,17 @@ follows_first p (Some o) = Calls o
 
 -- the stop of a cut turn's node comes before that
 abbrev pub falls_first : Past → Option ℕ → Due
-falls_first p None = follows_first p p.following
+falls_first p None = follows_first p p.next_call
 falls_first p (Some n) = Falls n
 
 -- and the losses that are to be told come first of all
 abbrev pub tells_first : Past → List ℕ → Due
-tells_first p [] = falls_first p p.falling
+tells_first p [] = falls_first p p.node_to_stop
 tells_first p (k ∷ ks) = Tells k
 
 -- what is due next
 unfoldable pub due_of : Past → Due
-due_of p = tells_first p p.untold
-
--- a happening is of the kind that is due; nodes and disks add the record, the messages and whether the turn is cut
-abbrev pub IsTook : ℕ → Bool → Option Took → Type 0
-IsTook k again None = ⊥
-IsTook k again (Some t) = (t.number ≡ k) × (t.again ≡ again)
-
--- whether an input is a message
-abbrev pub IsMessage : Input → Type 0
-IsMessage (inputs.Message m) = Unit {0}
-IsMessage _ = ⊥
-
--- a happening is of the kind that is due
-abbrev pub IsDue : Due → Happening → Type 0
-IsDue (Tells k) (happenings.Lost j) = j ≡ k
-IsDue (Falls n) (happenings.Stopped m) = m ≡ n
-IsDue (Calls o) (happenings.Turn t) = (t.node ≡ o.node) × (t.input ≡ inputs.Call o.session o.statement)
-IsDue (Gives_up n session) (happenings.Turn t) = (t.node ≡ n) × (t.input ≡ inputs.GiveUp session)
-IsDue (Delivers k again) (happenings.Turn t) = IsMessage t.input × IsTook k again t.took
-IsDue (Recovers n) (happenings.Turn t) = (t.node ≡ n) × (t.input ≡ inputs.Reco)
-IsDue (Cuts a b) (happenings.Cut c d) = (c ≡ a) × (d ≡ b)
-IsDue (Joins a b) (happenings.Join c d) = (c ≡ a) × (d ≡ b)
-IsDue (Loses k) (happenings.Lost j) = j ≡ k
-IsDue (Stops n) (happenings.Stopped m) = m ≡ n
-IsDue (Starts n) (happenings.Started m boot) = m ≡ n
-IsDue (Starts n) (happenings.Stopped m) = m ≡ n
-IsDue (Begins c) (happenings.Begun d) = d ≡ c
-IsDue _ _ = ⊥
+due_of p = tells_first p p.losses_to_tell
 
 -- what happens next: a turn is cut where an order strikes its append or a comment's point is reached
 abbrev pub whole_turn : ℕ → Input → Option Took → Outcome → Happening

@@ -12,8 +12,8 @@ use Rattle.run_laws.specs.Past.{Past, start, next, past, place_at, node_at, reco
 
 -- nothing must come before: no loss to tell, no node to fall
 pub record IsSettled (p : Past) : Type 0 where
-  pub told : p.untold ≡ []
-  pub upright : p.falling ≡ None
+  pub told : p.losses_to_tell ≡ []
+  pub upright : p.node_to_stop ≡ None
 
 -- message t.number was sent to this node, word for word; its pair is joined and its target is up; it is in flight, unless it comes again
 pub record MayCome (p : Past) (node : ℕ) (m : Msg) (t : Took) (x : Packet) : Type 0 where
@@ -59,13 +59,13 @@ pub record IsFlying (p : Past) (k : ℕ) (x : Packet) : Type 0 where
 
 -- the next loss that is to be told, or any message in flight
 abbrev pub MayBeLost : Past → ℕ → List ℕ → Type 0
-MayBeLost p k [] = (x : Packet) × IsFlying p k x
+MayBeLost p k [] = (p.node_to_stop ≡ None) × (x : Packet) × IsFlying p k x
 MayBeLost p k (j ∷ js) = j ≡ k
 
--- the node of a cut turn stops right after it
+-- the node of a cut turn stops right after it; any other node may stop at any time
 abbrev pub MayStop : Past → ℕ → Option ℕ → Type 0
-MayStop p n (Some m) = (p.untold ≡ []) × (m ≡ n)
-MayStop p n None = p.untold ≡ []
+MayStop p n (Some m) = (p.losses_to_tell ≡ []) × (m ≡ n)
+MayStop p n None = p.losses_to_tell ≡ []
 
 -- how often a node was started, by its records
 abbrev pub boots : List RedoRecord → ℕ
@@ -85,8 +85,8 @@ MayHappen p (happenings.Begun c) = IsSettled p × ((c ≡ p.command + 1) × (c �
 MayHappen p (happenings.Turn t) = (k : Kept) × MayTurn p t k
 MayHappen p (happenings.Cut a b) = IsSettled p
 MayHappen p (happenings.Join a b) = IsSettled p
-MayHappen p (happenings.Lost k) = MayBeLost p k p.untold
-MayHappen p (happenings.Stopped n) = MayStop p n p.falling
+MayHappen p (happenings.Lost k) = MayBeLost p k p.losses_to_tell
+MayHappen p (happenings.Stopped n) = MayStop p n p.node_to_stop
 MayHappen p (happenings.Started n boot) = MayStart p n boot
 
 -- each happening may happen after those before it

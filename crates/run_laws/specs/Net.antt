@@ -187,7 +187,7 @@ may_pass net (Some x) = not (is_blocked net x.msg)
 abbrev pub may_repeat : Net → ℕ → Bool
 may_repeat net k = may_pass net (packet_at net k)
 
--- the messages that are lost now and were in flight, or were not sent yet
+-- whether a message is lost
 abbrev pub is_lost : Packet → Bool
 is_lost x = is_lost_fate x.fate where
   is_lost_fate : Fate → Bool

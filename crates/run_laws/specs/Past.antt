@@ -50,9 +50,9 @@ pub record Past : Type 0 where
   pub points : List Point  -- of crash-test comments
   pub net : Net
   -- what must come at once: losses that are not told yet, the node whose turn was cut, the second call of a CREATE
-  pub untold : List ℕ
-  pub falling : Option ℕ
-  pub following : Option Out
+  pub losses_to_tell : List ℕ
+  pub node_to_stop : Option ℕ
+  pub next_call : Option Out
   -- the command that runs
   pub command : ℕ
   pub acted : Bool  -- something happened since it began
@@ -78,9 +78,9 @@ start places commands = record {
   plans = map (λ p. no_plan) places;
   points = [];
   net = still;
-  untold = [];
-  falling = None;
-  following = None;
+  losses_to_tell = [];
+  node_to_stop = None;
+  next_call = None;
   command = 0;
   acted = true;
   deliveries = 0;
@@ -170,7 +170,7 @@ cut_before p n wrote (Some x) = if reaches p.points x.root x.before then By_poin
 unfoldable pub cut_by : Past → ℕ → Kept → Input → Outcome → Cut_by
 cut_by p n k input o = cut_before p n o.wrote (passes k input o)
 
--- a turn with a record makes one append, unless a point before it was reached; a point is reached once
+-- the points of these numbers are reached, each once
 abbrev pub reach : BranchId → List ℕ → Point → Point
 reach root numbers x = if is_armed root numbers x then record x { reached = true } else x
 
@@ -178,7 +178,7 @@ reach root numbers x = if is_armed root numbers x then record x { reached = true
 abbrev pub appends_if : Past → ℕ → Bool → Past
 appends_if p n writes = if writes then appends p n 0 else p
 
--- the calls and the points that a turn leaves counted
+-- a turn with a record makes one append, unless a point before it was reached
 abbrev pub cut_appends : Past → ℕ → Bool → Cut_by → Past
 cut_appends p n writes By_nothing = appends_if p n writes
 cut_appends p n writes (By_strike stands) = appends_if p n writes
@@ -304,7 +304,7 @@ second_of o s = record o { statement = Some s; follows = None }
 
 -- the statement of a CREATE is the next call
 abbrev pub call_follows : Past → Out → Past
-call_follows p o = record p { outs = map (change_out o) p.outs; following = Some o }
+call_follows p o = record p { outs = map (change_out o) p.outs; next_call = Some o }
 
 -- a call is out no more, and is answered
 abbrev pub call_ends : Past → Out → Finished → Past
@@ -333,7 +333,7 @@ fallen p n (o ∷ os) =
 
 -- with HOLD on a call that its own turn does not end is waiting
 abbrev pub waits : Past → Out → Past
-waits p o = if p.hold && is_none p.following then with_own p (one (said.World notices.Waiting)) else p
+waits p o = if p.hold && is_none p.next_call then with_own p (one (said.World notices.Waiting)) else p
 
 -- a call of the command that runs, where it is still out after its turn
 abbrev pub waits_if_out : Past → Option Out → Past
@@ -357,7 +357,7 @@ is_call _ = false
 
 -- the second call of a CREATE has come
 abbrev pub without_following : Past → Input → Past
-without_following p input = if is_call input then record p { following = None } else p
+without_following p input = if is_call input then record p { next_call = None } else p
 
 -- with these entries in the book
 abbrev pub entered : Past → List Entry → Past
@@ -365,7 +365,7 @@ entered p es = record p { book = p.book ++ es }
 
 -- with these messages sent; what is lost at once is to be told
 abbrev pub sends : Past → List Msg → Past
-sends p ms = record p { net = sent_on p.net ms; untold = newly_lost 1 p.net.packets (sent_on p.net ms).packets }
+sends p ms = record p { net = sent_on p.net ms; losses_to_tell = newly_lost 1 p.net.packets (sent_on p.net ms).packets }
 
 -- a whole turn
 abbrev pub turned : Past → ℕ → Input → Outcome → List Msg → Past
@@ -373,7 +373,7 @@ turned p node input o sent = after_input (finished (sends (with_node p node (Som
 
 -- a cut turn sends nothing, and its node falls
 abbrev pub cut_short : Past → ℕ → Past
-cut_short p node = record (with_node p node None) { falling = Some node }
+cut_short p node = record (with_node p node None) { node_to_stop = Some node }
 
 -- a turn, cut or whole
 abbrev pub turns : Past → ℕ → Input → Option Kept → List Msg → Bool → Past
@@ -383,12 +383,12 @@ turns p node input (Some k) sent false = turned p node input (turn_of (place_at 
 
 -- losses are told right after what lost them
 abbrev pub loses : Past → Net → Past
-loses p net = record p { net = net; untold = newly_lost 1 p.net.packets net.packets }
+loses p net = record p { net = net; losses_to_tell = newly_lost 1 p.net.packets net.packets }
 
 -- a loss that was to be told, or the command LOSE
 abbrev pub tells_loss : Past → ℕ → List ℕ → Past
 tells_loss p k [] = record p { net = lost p.net k }
-tells_loss p k (j ∷ js) = record p { untold = js }
+tells_loss p k (j ∷ js) = record p { losses_to_tell = js }
 
 -- `node X stopped` stands for every stop but a STOP's own
 abbrev pub stopped_line : Past → ℕ → Said
@@ -400,7 +400,7 @@ with_stop p n = record p { page = record p.page { stops = p.page.stops ++ one (s
 
 -- a START during which its node stops is refused
 abbrev pub stop_line : Past → ℕ → Command → Past
-stop_line p n (commands.Stop m) = p
+stop_line p n (commands.Stop m) = if m == n then p else with_stop p n
 stop_line p n (commands.Start m) = with_stop (if m == n then with_own p (one (refuses_with (dtx 1 (one (node_name p n))))) else p) n
 stop_line p n _ = with_stop p n
 
@@ -408,18 +408,18 @@ stop_line p n _ = with_stop p n
 abbrev pub command_at : Past → ℕ → Command
 command_at p c = unwrap_or (slice_get p.commands (c - 1)) commands.ShowBook
 
--- and one that is struck before has no happening but its Stopped
+-- whether the command is a START
 abbrev pub is_start : Command → Bool
 is_start (commands.Start n) = true
 is_start _ = false
 
--- the calls of a start that is struck
+-- a start that is struck before its Boot stands has no happening but its Stopped
 abbrev pub start_appends : Past → ℕ → Past
-start_appends p n = if is_start (command_at p p.command) && is_none p.falling then appends p n 3 else p
+start_appends p n = if is_start (command_at p p.command) && is_none p.node_to_stop then appends p n 3 else p
 
 -- a node stops: its calls end, and what is in flight to it is lost
 abbrev pub stops : Past → ℕ → Past
-stops p n = stop_line (fallen (loses (record (with_node (start_appends p n) n None) { falling = None }) (stopped p.net n)) n p.outs) n (command_at p p.command)
+stops p n = stop_line (fallen (loses (record (with_node (start_appends p n) n None) { node_to_stop = None }) (stopped p.net n)) n p.outs) n (command_at p p.command)
 
 -- a start that an order strikes after its Boot stands falls at once
 abbrev pub falls_if : ℕ → Option Strike → Option ℕ
@@ -434,7 +434,7 @@ starts_up p n boot =
 
 -- a node starts, with the calls of its Boot's append counted
 abbrev pub starts : Past → ℕ → ℕ → Past
-starts p n boot = record (appends (starts_up p n boot) n 3) { falling = falls_if n (struck 3 (plan_at p n)) }
+starts p n boot = record (appends (starts_up p n boot) n 3) { node_to_stop = falls_if n (struck 3 (plan_at p n)) }
 
 -- a command begins: what it says of itself at once
 abbrev pub fine : List Said
@@ -538,7 +538,7 @@ next p (happenings.Turn t) =
     acts (turns (without_following (taken (turn_appends (entered (with_record_at p t.node t.wrote) (flat_map (entry_of t.node) (option_to_list t.wrote))) t.node t.input (node_at p t.node)) t.took) t.input) t.node t.input (node_at p t.node) t.sent t.cut)
 next p (happenings.Cut a b) = acts (loses p (cut_over p.net a b))
 next p (happenings.Join a b) = acts (record p { net = joined p.net a b })
-next p (happenings.Lost k) = acts (tells_loss p k p.untold)
+next p (happenings.Lost k) = acts (tells_loss p k p.losses_to_tell)
 next p (happenings.Stopped n) = acts (stops p n)
 next p (happenings.Started n boot) = acts (starts p n boot)
 

@@ -1,14 +1,15 @@
 -- Where the answer of a statement comes from: the turn that ran it, at the node of its table, for a branch of the asker's
 -- transaction, not before its call.
 use Rattle.std.specs.Prelude.{◌≡◌, ℕ, ◌≤◌, Bool, true, false, List, [], ◌∷◌, ◌++◌, slice_get, Option, Some, None}
-use Rattle.run_laws.specs.Data.{Value, Change, Stmt, RowSet, Done, AnswerLine, Happening, Command}
+use Rattle.run_laws.specs.Data.{BranchId, Value, Change, Stmt, RowSet, Done, AnswerLine, Happening, Command}
 use Rattle.run_laws.specs.Data.answers
 use Rattle.run_laws.specs.Data.dones
 use Rattle.run_laws.specs.Data.said
 use Rattle.run_laws.specs.Data.commands
+use Rattle.node_rules.specs.Kept.{Kept, session_at}
 use Rattle.node_rules.specs.Calls.{passed_on}
 use Rattle.node_rules.specs.Statement.{Ran, Reads, Writes, ran}
-use Rattle.run_laws.specs.Past.{Past, start, past, told, command_at, place_at}
+use Rattle.run_laws.specs.Past.{Past, Out, start, past, told, command_at, place_at, node_at, out_at}
 use Rattle.run_laws.specs.Lawful.{History, past_of}
 use Rattle.run_laws.specs.Runs.{Ran_at, run_in}
 
@@ -16,7 +17,13 @@ use Rattle.run_laws.specs.Runs.{Ran_at, run_in}
 abbrev pub past_before : History → List Happening → Past
 past_before t before = past (start t.places t.commands) before
 
--- The place of a command's answer: the turn, and the run in it.
+-- the root of a session's transaction
+abbrev pub root_of : Option Kept → ℕ → Option BranchId
+root_of None session = None
+root_of (Some k) session = (session_at k session).root
+
+-- The place of a command's answer: the turn that ran its statement, while its call was out, for a branch of the
+-- transaction of its session.
 pub record PlaceOf (t : History) (command : ℕ) (before : List Happening) (r : Ran_at) : Type 0 where
   pub turn : Happening
   pub later : List Happening
@@ -25,11 +32,12 @@ pub record PlaceOf (t : History) (command : ℕ) (before : List Happening) (r : 
   pub statement : Stmt
   pub whole : t.trace ≡ before ++ turn ∷ later
   pub asked : command_at (past_before t before) command ≡ commands.At node session (Some statement)
-  pub not_before : command ≤ (past_before t before).command
+  pub out : Out
+  pub is_out : out_at (past_before t before) node session ≡ Some out
+  pub its_call : out.command ≡ command
   pub runs : run_in (past_before t before) turn ≡ Some r
   pub same : r.statement ≡ passed_on statement r.table.name
-  pub asker_node : r.at.live.root.node ≡ node
-  pub asker_session : r.at.live.root.session ≡ session
+  pub asker : root_of (node_at (past_before t (before ++ turn ∷ [])) node) session ≡ Some r.at.live.root
 
 -- what a run came to
 abbrev pub ran_by : Past → Ran_at → Ran

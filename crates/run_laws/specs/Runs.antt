@@ -14,7 +14,7 @@ use Rattle.node_rules.specs.Statement.{Ran, Refuses, Reads, Writes, ran, locked_
 use Rattle.node_rules.specs.Calls.{Way, Runs_here, way_of, Admit, Run, admit, takes_call}
 use Rattle.node_rules.specs.Client.{begun, root_at}
 use Rattle.node_rules.specs.Turn.{clock_raised_by}
-use Rattle.node_rules.specs.Kept.{Kept, Branch, Held, live_at}
+use Rattle.node_rules.specs.Kept.{Kept, Branch, Held, live_at, session_at}
 use Rattle.run_laws.specs.Book.{rows_of, in_doubt, changes_of}
 use Rattle.run_laws.specs.Past.{Past, past, start, next, node_at, place_at, book_of}
 use Rattle.run_laws.specs.Lawful.{History}
@@ -32,12 +32,12 @@ abbrev pub run_way : Kept → Branch → Stmt → Way → Option Ran_at
 run_way k x s (Runs_here t) = Some (record { branch = x.live.me; statement = s; table = t; node = k; at = x })
 run_way k x s _ = None
 
--- a client call at a root without a refusal before
-abbrev pub call_run : Place → Kept → Stmt → Option Branch → Option Ran_at
-call_run p k s None = None
-call_run p k s (Some x) = run_way k x s (way_of p k x 0 s)
+-- a client's call, where its transaction needs no rollback
+abbrev pub call_run : Place → Kept → Stmt → Option ℕ → Option Branch → Option Ran_at
+call_run p k s None (Some x) = run_way k x s (way_of p k x 0 s)
+call_run p k s _ _ = None
 
--- an Exec whose number no earlier turn at the branch took
+-- an Exec whose number is greater than every number that the branch took
 abbrev pub exec_admitted : Place → Kept → Branch → ℕ → ℕ → Option Advice → Stmt → Admit → Option Ran_at
 exec_admitted p k x call given advice s Run = run_way k (takes_call x call advice) s (way_of p k (takes_call x call advice) given s)
 exec_admitted p k x call given advice s _ = None
@@ -54,7 +54,7 @@ kind_run p k to _ = None
 
 -- a client's call, or a message
 abbrev pub input_run : Place → Kept → Input → Option Ran_at
-input_run p k (inputs.Call session (Some s)) = call_run p (begun p k session) s (root_at (begun p k session) session)
+input_run p k (inputs.Call session (Some s)) = call_run p (begun p k session) s (session_at (begun p k session) session).code (root_at (begun p k session) session)
 input_run p k (inputs.Message m) = kind_run p (clock_raised_by k m) m.to m.kind
 input_run p k _ = None
 
@@ -74,9 +74,9 @@ pub record Own : Type 0 where
   pub changes : List Change
 
 -- what this branch has changed
-abbrev pub own_in : List Own → BranchId → List Change
-own_in [] b = []
-own_in (o ∷ os) b = if same o.branch b then o.changes else own_in os b
+abbrev pub changed_by : List Own → BranchId → List Change
+changed_by [] b = []
+changed_by (o ∷ os) b = if same o.branch b then o.changes else changed_by os b
 
 -- with further changes of a branch
 abbrev pub own_more : List Own → BranchId → List Change → List Own
@@ -101,7 +101,7 @@ owns p os (h ∷ hs) = owns (next p h) (owns_next p os (run_in p h)) hs
 
 -- the view of a branch: the rows that the book leaves at its node, with its own changes
 unfoldable pub view_by : List Entry → List Own → BranchId → List ℕ → List Keyed
-view_by book os b table = apply table (rows_of book b.node table) (own_in os b)
+view_by book os b table = apply table (rows_of book b.node table) (changed_by os b)
 
 -- A turn in which a run answers with rows: before it, the run, and its place in the trace.
 pub record ReadAt (t : History) (before later : List Happening) (h : Happening) (p : Past) (r : Ran_at) (rows : RowSet) (keys : List Value) : Type 0 where

@@ -58,7 +58,7 @@ abbrev pub shown_neighbors : List (List ℕ) → Option (Option Kept) → List (
 shown_neighbors names (Some (Some k)) = view_lines (codes "LOCAL_TRAN_ID|IN_OUT|DATABASE|DBUSER_OWNER|INTERFACE") (map neighbor_text (neighbor_rows names k))
 shown_neighbors names _ = []
 
--- the messages in flight, by number
+-- a kind of messages as it is printed
 abbrev pub kind_text : KindName → List ℕ
 kind_text kind_names.Open = codes "OPEN"
 kind_text kind_names.Opened = codes "OPENED"
@@ -82,12 +82,12 @@ kind_text kind_names.Ask = codes "ASK"
 abbrev pub packet_text : List (List ℕ) → ℕ → Packet → List ℕ
 packet_text names k x = decimal k ++ codes " " ++ kind_text (name_of_kind x.msg.kind) ++ codes " " ++ name_of names x.msg.from.node ++ codes " " ++ name_of names x.msg.to.node
 
--- the messages in flight, from this number on
+-- the messages in flight, by number, from this number on
 abbrev pub flying_lines : List (List ℕ) → ℕ → List Packet → List (List ℕ)
 flying_lines names k [] = []
 flying_lines names k (x ∷ xs) = if flies x then packet_text names k x ∷ flying_lines names (k + 1) xs else flying_lines names (k + 1) xs
 
--- the bytes of a disk are printed elsewhere
+-- what SHOW prints; the bytes of a disk are said apart, with its log
 abbrev pub shown : List Place → List (Option Kept) → Net → List Entry → Command → List (List ℕ)
 shown places nodes net book (commands.ShowPending n) = shown_pending (names_in places) (slice_get nodes (n - 1))
 shown places nodes net book (commands.ShowNeighbors n) = shown_neighbors (names_in places) (slice_get nodes (n - 1))

@@ -98,11 +98,13 @@ pub record CommitOf (t : History) (g : BranchId) (p : Past) (later : List Happen
   pub call : turn.input ≡ inputs.Call session (Some (stmts.Commit comment))
   pub up : node_at p g.node ≡ Some kept
   pub root : (session_at kept session).root ≡ Some g
+  pub accepted : (session_at kept session).code ≡ None
 
--- the branch that decides is the site of the tree at the turn of the COMMIT call
-abbrev pub SiteDecides : History → Type 0
-SiteDecides t = (g b : BranchId) (p : Past) (later : List Happening) (i scn : ℕ) (cs : List Change) → CommitOf t g p later
-    → slice_get (book_of t.trace) i ≡ Some (entries.Decided b g cs scn) → site p g ≡ Some b
+-- each decision follows a COMMIT of its root, and the branch that decides is the site of the tree at the turn of that call
+pub record SiteDecides (t : History) : Type 0 where
+  pub has_commit : (g b : BranchId) (i scn : ℕ) (cs : List Change) → slice_get (book_of t.trace) i ≡ Some (entries.Decided b g cs scn) → (p : Past) × (later : List Happening) × CommitOf t g p later
+  pub is_site : (g b : BranchId) (p : Past) (later : List Happening) (i scn : ℕ) (cs : List Change) → CommitOf t g p later
+      → slice_get (book_of t.trace) i ≡ Some (entries.Decided b g cs scn) → site p g ≡ Some b
 
 -- before the decision each other branch of the tree with changes on it or below it is sealed; what a seal or a decision
 -- has is the branch's own
