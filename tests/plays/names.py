@@ -21,7 +21,8 @@ UNFOLDED = (
     (f"{LAWS}.Net", "sent_on delivered lost cut_over joined stopped started"),
     (f"{LAWS}.Shown", "book_lines"),
     (f"{LAWS}.Disks", "struck after_append"),
-    (f"{LAWS}.Past", "next cut_by"),
+    (f"{LAWS}.Cuts", "cut_by"),
+    (f"{LAWS}.Next", "next"),
     (f"{LAWS}.Due", "due_of runs_on"),
     (f"{LAWS}.Report", "report"),
 )
@@ -29,7 +30,7 @@ UNFOLDED = (
 # the words that may stand in a play, beside those of an opening
 CITED = (
     ("Rattle.std.proofs.Common", "◌≡◌ ℕ true false List [] ◌∷◌ ◌++◌ Some None negsuc codes refl"),
-    (f"{LAWS}.Past", "told"),
+    (f"{LAWS}.Lines", "told"),
     (f"{LAWS}.Report", "report"),
     (f"{LAWS}.Shown", "book_lines"),
     (DATA, "Place Command"),

@@ -1,15 +1,15 @@
 -- Statements on their way: names, links, Open and Opened, Exec with its call numbers, Reply, and the end of a call.
-use Rattle.std.specs.Prelude.{ℕ, ◌+◌, ◌-◌, ◌≤◌, ◌==◌, ◌&&◌, ◌||◌, not, Bool, true, false, if◌then◌else◌, List, [], ◌∷◌, ◌++◌, map, find, length, position, slice_get, slice_set, unwrap_or, nat_lt, nat_le, is_none, option_map, Option, Some, None}
-use Rattle.node_rules.specs.Data.{Value, Change, Table, TableRef, Link, Synonym, Stmt, Refusal, Answer, Advice, BranchId, Durable, Edge, Live, Kind, Place}
+use Rattle.std.specs.Prelude.{ℕ, ◌+◌, ◌-◌, ◌==◌, ◌&&◌, ◌||◌, Bool, false, if◌then◌else◌, List, [], ◌∷◌, ◌++◌, find, length, position, slice_get, slice_set, unwrap_or, nat_lt, nat_le, is_none, option_map, Option, Some, None}
+use Rattle.node_rules.specs.Data.{Table, TableRef, Link, Synonym, Stmt, Refusal, Answer, Advice, BranchId, Durable, Edge, Live, Place}
 use Rattle.node_rules.specs.Data.answers
 use Rattle.node_rules.specs.Data.stmts
 use Rattle.node_rules.specs.Data.kinds
 use Rattle.node_rules.specs.Data.votes
-use Rattle.node_rules.specs.Words.{same, same_text, is_branch, one}
-use Rattle.node_rules.specs.Meaning.{ora, dtx}
+use Rattle.node_rules.specs.Words.{same, same_text, one}
+use Rattle.node_rules.specs.Refusals.{ora, dtx}
 use Rattle.node_rules.specs.Tree.{weight, count, room, most_depth}
-use Rattle.node_rules.specs.Statement.{Ran, ran, after_run, answer_of_run}
-use Rattle.node_rules.specs.Kept.{Kept, Deed, Branch, Session, Reply_fields, Going, Waits, For_opened, For_reply, Opening, Post, Call_out, No_call, Statement_out, nothing, saying, ending, post, with_branch, add_branch, fresh_live, fresh_branch, session_at, with_session}
+use Rattle.node_rules.specs.Statement.{ran, after_run, answer_of_run}
+use Rattle.node_rules.specs.Kept.{Kept, Deed, Branch, Reply_fields, Going, Waits, For_opened, For_reply, Opening, Post, Call_out, No_call, Statement_out, nothing, saying, ending, post, with_branch, add_branch, fresh_live, fresh_branch, session_at, with_session}
 
 -- What a statement's table name means at a node.
 pub data Named : Type 0 where

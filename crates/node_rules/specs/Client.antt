@@ -1,7 +1,7 @@
 -- The calls of clients: each form of statement in a session, and a call that is given up.
-use Rattle.std.specs.Prelude.{ℕ, ◌+◌, ◌-◌, ◌==◌, ◌&&◌, ◌||◌, not, Bool, true, false, if◌then◌else◌, List, [], ◌∷◌, ◌++◌, find, unwrap_or, is_some, slice_get, option_map, Option, Some, None}
+use Rattle.std.specs.Prelude.{ℕ, ◌+◌, ◌||◌, Bool, true, false, if◌then◌else◌, List, [], ◌∷◌, unwrap_or, is_some, slice_get, option_map, Option, Some, None}
 use Rattle.std.specs.List.{list_any}
-use Rattle.node_rules.specs.Data.{Table, Link, Synonym, Stmt, Answer, Done, Advice, Refusal, BranchId, RedoRecord, Standing, Durable, Live, Place}
+use Rattle.node_rules.specs.Data.{Table, Link, Synonym, Stmt, Done, Advice, Refusal, BranchId, RedoRecord, Standing, Durable, Live, Place}
 use Rattle.node_rules.specs.Data.answers
 use Rattle.node_rules.specs.Data.dones
 use Rattle.node_rules.specs.Data.records
@@ -9,13 +9,13 @@ use Rattle.node_rules.specs.Data.params
 use Rattle.node_rules.specs.Data.stmts
 use Rattle.node_rules.specs.Ids.{decimal}
 use Rattle.node_rules.specs.Words.{same_text, one}
-use Rattle.node_rules.specs.Meaning.{ora, dtx}
+use Rattle.node_rules.specs.Refusals.{ora, dtx}
 use Rattle.node_rules.specs.Records.{with_record}
 use Rattle.node_rules.specs.Calls.{with_call, statement_at, strength_of, needs_rollback}
-use Rattle.node_rules.specs.Prepare.{collects, with_comment, root_drops, commit_ended, commit_answer, no_transaction, to_children, tran_refusal, is_committing}
+use Rattle.node_rules.specs.Prepare.{collects, with_comment, root_drops, commit_ended, commit_answer, no_transaction, to_children, tran_refusal}
 use Rattle.node_rules.specs.Force.{branch_to_force, force_commit, force_rollback, purge}
 use Rattle.node_rules.specs.Data.kinds
-use Rattle.node_rules.specs.Kept.{Kept, Deed, Branch, Session, Going, Waits, For_opened, For_reply, Call_out, No_call, Statement_out, Commit_out, nothing, ending, with_branch, without_branch, add_branch, live_at, standing_at, fresh_live, fresh_branch, session_at, with_session}
+use Rattle.node_rules.specs.Kept.{Kept, Deed, Branch, Going, Waits, For_opened, For_reply, Call_out, No_call, Statement_out, Commit_out, nothing, ending, with_branch, without_branch, add_branch, live_at, standing_at, fresh_live, fresh_branch, session_at, with_session}
 
 -- the call ends with a refusal
 abbrev pub refuses : Kept → ℕ → Refusal → Deed

@@ -1,16 +1,16 @@
 -- The commit and forget phases: decisions come from toward and go to those beyond, acknowledgements come back, and
 -- a branch forgets. All at a branch that the node keeps a row of.
-use Rattle.std.specs.Prelude.{ℕ, ◌+◌, ◌==◌, ◌&&◌, ◌||◌, not, Bool, true, false, if◌then◌else◌, List, [], ◌∷◌, ◌++◌, map, filter, is_none, Option, Some, None}
+use Rattle.std.specs.Prelude.{ℕ, ◌&&◌, ◌||◌, not, Bool, true, false, if◌then◌else◌, List, [], ◌∷◌, ◌++◌, map, filter, is_none, Option, Some, None}
 use Rattle.std.specs.List.{list_all, list_any}
-use Rattle.node_rules.specs.Data.{Answer, BranchId, Decision, RedoRecord, State, Kid, Standing, Kind}
+use Rattle.node_rules.specs.Data.{BranchId, Decision, RedoRecord, State, Kid, Standing, Kind}
 use Rattle.node_rules.specs.Data.decisions
 use Rattle.node_rules.specs.Data.kinds
 use Rattle.node_rules.specs.Data.records
 use Rattle.node_rules.specs.Data.states
-use Rattle.node_rules.specs.Words.{same, is_branch, one}
+use Rattle.node_rules.specs.Words.{same, is_branch}
 use Rattle.node_rules.specs.Records.{with_record}
 use Rattle.node_rules.specs.Prepare.{commit_ended, commit_answer, commit_complete, tran_refusal}
-use Rattle.node_rules.specs.Kept.{Kept, Deed, Finished, Post, nothing, saying, post, post_one, to_each, to_one, raised, with_standing}
+use Rattle.node_rules.specs.Kept.{Kept, Deed, Finished, Post, nothing, saying, post, post_one, to_each, to_one, with_standing}
 
 -- A neighbour away from the site, and whether it has acknowledged.
 pub record Beyond : Type 0 where

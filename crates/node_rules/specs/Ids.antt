@@ -1,7 +1,6 @@
 -- The printed ids of branches and transactions.
-use Rattle.std.specs.Prelude.{ℕ, ◌+◌, ◌-◌, ◌/◌, ◌%◌, ◌^◌, ◌==◌, Bool, if◌then◌else◌, List, [], ◌∷◌, ◌++◌, map, unwrap_or, slice_get, nat_lt, codes, zero, suc}
-use Rattle.node_rules.specs.Data.{BranchId, Place}
-use Rattle.node_rules.specs.Words.{same_text}
+use Rattle.std.specs.Prelude.{ℕ, ◌+◌, ◌-◌, ◌/◌, ◌%◌, ◌^◌, if◌then◌else◌, List, [], ◌∷◌, ◌++◌, map, unwrap_or, slice_get, nat_lt, codes, zero, suc}
+use Rattle.node_rules.specs.Data.{BranchId}
 
 -- a number in decimal digits, of which the greatest has twenty
 abbrev pub digits : ℕ → ℕ → List ℕ

@@ -1,8 +1,8 @@
 -- What a node keeps from turn to turn, and what a turn does.
-use Rattle.std.specs.Prelude.{ℕ, ◌+◌, ◌-◌, ◌==◌, ◌&&◌, Bool, true, false, if◌then◌else◌, List, [], ◌∷◌, ◌++◌, map, filter, find, max, replicate, slice_get, slice_set, unwrap_or, Option, Some, None}
-use Rattle.node_rules.specs.Data.{Value, Change, Stmt, BranchId, Decision, RedoRecord, Standing, Durable, Live, Kind, Msg, Answer, Advice}
+use Rattle.std.specs.Prelude.{ℕ, ◌-◌, Bool, false, List, [], ◌∷◌, ◌++◌, map, find, max, slice_get, slice_set, unwrap_or, Option, Some, None}
+use Rattle.node_rules.specs.Data.{Value, Change, Stmt, BranchId, RedoRecord, Standing, Durable, Live, Kind, Msg, Answer, Advice}
 use Rattle.node_rules.specs.Data.phases
-use Rattle.node_rules.specs.Words.{same, change_where, drop_where, is_branch, one}
+use Rattle.node_rules.specs.Words.{same, change_where, drop_where}
 use Rattle.node_rules.specs.Rows.{TableRows}
 
 -- A branch in doubt and the changes that it holds back.

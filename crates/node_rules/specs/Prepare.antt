@@ -1,7 +1,7 @@
 -- The prepare phase: COMMIT and Prepare start a branch's collect, children vote, and the branch answers, seals or decides.
-use Rattle.std.specs.Prelude.{ℕ, ◌+◌, ◌-◌, ◌==◌, ◌&&◌, ◌||◌, not, Bool, true, false, if◌then◌else◌, List, [], ◌∷◌, ◌++◌, map, filter, length, take, position, slice_get, slice_set, is_none, is_some, option_map, option_to_list, Option, Some, None}
+use Rattle.std.specs.Prelude.{ℕ, ◌+◌, ◌==◌, ◌&&◌, ◌||◌, not, Bool, true, false, if◌then◌else◌, List, [], ◌∷◌, ◌++◌, map, filter, length, take, slice_get, is_none, option_to_list, Option, Some, None}
 use Rattle.std.specs.List.{list_any}
-use Rattle.node_rules.specs.Data.{Change, Answer, BranchId, Peer, Toward, Sealed, Decided, RedoRecord, Edge, Vote, Phase, Live, Kind}
+use Rattle.node_rules.specs.Data.{Answer, BranchId, Peer, Toward, Sealed, Decided, RedoRecord, Edge, Vote, Phase, Live, Kind}
 use Rattle.node_rules.specs.Data.answers
 use Rattle.node_rules.specs.Data.dones
 use Rattle.node_rules.specs.Data.kinds
@@ -11,11 +11,11 @@ use Rattle.node_rules.specs.Data.votes
 use Rattle.node_rules.specs.Data.phases
 use Rattle.node_rules.specs.Words.{same, is_branch, one}
 use Rattle.node_rules.specs.Ids.{local_text}
-use Rattle.node_rules.specs.Meaning.{ora, dtx}
+use Rattle.node_rules.specs.Refusals.{ora}
 use Rattle.node_rules.specs.Records.{with_record}
 use Rattle.node_rules.specs.Tree.{Walk, Here, Down, Nowhere, weight, step}
 use Rattle.node_rules.specs.Calls.{peer_of}
-use Rattle.node_rules.specs.Kept.{Kept, Deed, Finished, Branch, Post, Session, Call_out, No_call, Statement_out, Commit_out, nothing, saying, post, to_each, to_one, with_branch, without_branch, children_of, session_at, with_session, fresh_session}
+use Rattle.node_rules.specs.Kept.{Kept, Deed, Finished, Branch, Post, Session, Call_out, No_call, Statement_out, Commit_out, nothing, saying, post, to_each, to_one, with_branch, without_branch, children_of, session_at, with_session}
 
 -- What a branch does next in its prepare phase: nothing yet, Prepare to its children, one of its answers, a record and what follows it, or the end of a COMMIT without a site.
 pub data Act : Type 0 where

@@ -1,13 +1,13 @@
 -- What each redo record makes of what is stored: a fold over the records, which a start makes again from the disk.
-use Rattle.std.specs.Prelude.{ℕ, ◌+◌, ◌-◌, ◌==◌, ◌&&◌, ◌||◌, not, Bool, true, false, if◌then◌else◌, List, [], ◌∷◌, ◌++◌, map, filter, find, fold, max, slice_get, is_some, unwrap_or, option_map, option_to_list, option_and_then, Option, Some, None}
-use Rattle.node_rules.specs.Data.{Change, Table, Link, Synonym, BranchId, Peer, Decision, Toward, Param, Sealed, Decided, RedoRecord, State, Kid, Standing, Durable, Advice}
+use Rattle.std.specs.Prelude.{ℕ, ◌&&◌, ◌||◌, not, Bool, true, false, if◌then◌else◌, List, [], ◌∷◌, ◌++◌, map, max, slice_get, is_some, option_map, Option, Some, None}
+use Rattle.node_rules.specs.Data.{Change, BranchId, Peer, Decision, Toward, Param, Sealed, Decided, RedoRecord, State, Kid, Standing, Durable}
 use Rattle.node_rules.specs.Data.decisions
 use Rattle.node_rules.specs.Data.records
 use Rattle.node_rules.specs.Data.params
 use Rattle.node_rules.specs.Data.towards
 use Rattle.node_rules.specs.Data.states
 use Rattle.node_rules.specs.Words.{same, change_where, drop_where, branch_below}
-use Rattle.node_rules.specs.Rows.{TableRows, apply_all}
+use Rattle.node_rules.specs.Rows.{apply_all}
 use Rattle.node_rules.specs.Kept.{Doubt, Stored, Kept, stands_at}
 
 -- before any record

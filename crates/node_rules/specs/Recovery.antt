@@ -1,11 +1,11 @@
 -- Recovery: what RECO asks, and what a branch tells one that asks.
-use Rattle.std.specs.Prelude.{ℕ, ◌==◌, ◌&&◌, ◌||◌, not, Bool, true, false, if◌then◌else◌, List, [], ◌∷◌, ◌++◌, map, filter, flat_map, fold, is_none, Option, Some, None}
+use Rattle.std.specs.Prelude.{◌&&◌, not, if◌then◌else◌, List, [], ◌∷◌, ◌++◌, map, filter, flat_map, fold, Option, Some, None}
 use Rattle.node_rules.specs.Data.{BranchId, Decision, Standing, Kind}
 use Rattle.node_rules.specs.Data.decisions
 use Rattle.node_rules.specs.Data.kinds
-use Rattle.node_rules.specs.Words.{same, is_branch, branch_below}
+use Rattle.node_rules.specs.Words.{is_branch, branch_below}
 use Rattle.node_rules.specs.Prepare.{drops}
-use Rattle.node_rules.specs.Commit.{Beyond, beyond, all_acked, is_neighbor}
+use Rattle.node_rules.specs.Commit.{beyond, all_acked, is_neighbor}
 use Rattle.node_rules.specs.Kept.{Kept, Deed, Branch, Post, saying, post, to_each, to_one}
 
 -- a live branch that its parent asks rolls back; another that asks is told that nothing is known

@@ -1,5 +1,5 @@
 -- Values and their order, tables as rows in key order, and what changes do to them.
-use Rattle.std.specs.Prelude.{◌≡◌, ℕ, ◌+◌, ◌==◌, ◌&&◌, ◌||◌, not, Bool, true, false, if◌then◌else◌, List, [], ◌∷◌, ◌++◌, map, filter, length, fold, sum_by, Option, Some, None, ℤ, int_lt, int_le}
+use Rattle.std.specs.Prelude.{ℕ, ◌+◌, ◌&&◌, not, Bool, true, false, if◌then◌else◌, List, [], ◌∷◌, map, filter, length, fold, sum_by, Option, Some, None, int_lt}
 use Rattle.node_rules.specs.Data.{Value, Row, Change}
 use Rattle.node_rules.specs.Data.values
 use Rattle.node_rules.specs.Words.{same_text, text_below}

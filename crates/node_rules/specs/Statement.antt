@@ -1,12 +1,12 @@
 -- One statement at the node of its table: what the branch sees, who holds its keys, and what the statement does there.
-use Rattle.std.specs.Prelude.{ℕ, ◌+◌, ◌-◌, ◌*◌, ◌/◌, ◌==◌, ◌&&◌, ◌||◌, not, Bool, true, false, if◌then◌else◌, List, [], ◌∷◌, ◌++◌, map, filter, filter_map, find, flat_map, fold, sum_by, length, nat_lt, is_some, option_map, Option, Some, None}
+use Rattle.std.specs.Prelude.{ℕ, ◌+◌, ◌-◌, ◌/◌, ◌&&◌, ◌||◌, not, Bool, true, false, if◌then◌else◌, List, [], ◌∷◌, ◌++◌, map, filter, flat_map, fold, sum_by, length, nat_lt, Option, Some, None}
 use Rattle.std.specs.List.{list_any}
-use Rattle.node_rules.specs.Data.{Value, Change, Table, Stmt, RowSet, Refusal, Done, Answer, BranchId, Live, Place}
+use Rattle.node_rules.specs.Data.{Value, Change, Table, Stmt, RowSet, Refusal, Done, Answer, BranchId, Place}
 use Rattle.node_rules.specs.Data.answers
-use Rattle.node_rules.specs.Data.stmts
 use Rattle.node_rules.specs.Words.{same, same_text, one, first_some}
-use Rattle.node_rules.specs.Rows.{Keyed, TableRows, same_value, apply, rows_of_table, change_length, undo_length}
-use Rattle.node_rules.specs.Meaning.{Meant, Gives, Changes, Says_no, ora, dtx, else_refuse, refuse_if, checked, examined, written, meant_over}
+use Rattle.node_rules.specs.Rows.{Keyed, same_value, apply, rows_of_table, change_length, undo_length}
+use Rattle.node_rules.specs.Meaning.{Meant, Gives, Changes, Says_no, checked, examined, written, meant_over}
+use Rattle.node_rules.specs.Refusals.{ora, dtx, else_refuse, refuse_if}
 use Rattle.node_rules.specs.Ids.{decimal, local_text}
 use Rattle.node_rules.specs.Kept.{Kept, Branch, Held, Doubt}
 

@@ -1,6 +1,6 @@
 -- The weight of a branch, one step of the walk to the commit point site, and the room in a tree.
-use Rattle.std.specs.Prelude.{ℕ, ◌+◌, ◌-◌, ◌==◌, Bool, true, false, if◌then◌else◌, List, [], ◌∷◌, map, sum_by, nat_lt, is_none, is_some, option_map, Option, Some, None}
-use Rattle.node_rules.specs.Data.{Edge, Live}
+use Rattle.std.specs.Prelude.{ℕ, ◌+◌, ◌-◌, Bool, true, false, if◌then◌else◌, map, sum_by, nat_lt, is_none, option_map, Option, Some, None}
+use Rattle.node_rules.specs.Data.{Live}
 use Rattle.node_rules.specs.Words.{place_of_greatest}
 
 -- the greatest weight of the children, and the place of the first that has it

@@ -1,20 +1,19 @@
 -- What one turn of a node does: the state after it, its record, its messages and the calls that it ends,
 -- each a function of the place, of what the node keeps and of the input.
-use Rattle.std.specs.Prelude.{ℕ, ◌+◌, ◌==◌, Bool, if◌then◌else◌, List, [], ◌∷◌, ◌++◌, map, max, replicate, Option, Some, None}
-use Rattle.node_rules.specs.Data.{Stmt, Answer, Advice, BranchId, Decision, RedoRecord, Standing, Vote, Kind, Msg, Place, Input}
+use Rattle.std.specs.Prelude.{ℕ, Bool, if◌then◌else◌, List, [], ◌∷◌, map, max, replicate, Option, Some, None}
+use Rattle.node_rules.specs.Data.{Stmt, Answer, Advice, BranchId, RedoRecord, Standing, Vote, Kind, Msg, Place, Input}
 use Rattle.node_rules.specs.Data.decisions
 use Rattle.node_rules.specs.Data.kinds
 use Rattle.node_rules.specs.Data.votes
 use Rattle.node_rules.specs.Data.inputs
 use Rattle.node_rules.specs.Data.records
-use Rattle.node_rules.specs.Words.{one}
-use Rattle.node_rules.specs.Records.{nothing_stored, stored_by, applied}
+use Rattle.node_rules.specs.Records.{nothing_stored, stored_by}
 use Rattle.node_rules.specs.Calls.{on_open, on_opened, on_exec, on_reply, gone_reply}
 use Rattle.node_rules.specs.Prepare.{drops, on_prepare, on_answer, on_commit_point}
 use Rattle.node_rules.specs.Commit.{on_decision, on_ack, on_forgotten, on_commit_point_kept, on_prepare_kept}
 use Rattle.node_rules.specs.Recovery.{on_ask, on_ask_kept, recovery}
 use Rattle.node_rules.specs.Client.{read_turn, give_up_turn}
-use Rattle.node_rules.specs.Kept.{Kept, Stored, Branch, Session, Deed, Post, Outcome, nothing, saying, post, live_at, standing_at, fresh_session, raised}
+use Rattle.node_rules.specs.Kept.{Kept, Stored, Branch, Deed, Post, Outcome, nothing, saying, post, live_at, standing_at, fresh_session, raised}
 use Rattle.node_rules.specs.Words.{is_branch}
 
 -- What a branch is at its node.

@@ -1,6 +1,6 @@
 -- The two views of pending transactions: their rows, and how the rows are printed.
-use Rattle.std.specs.Prelude.{ℕ, ◌+◌, ◌-◌, ◌==◌, ◌&&◌, not, Bool, true, false, if◌then◌else◌, List, [], ◌∷◌, ◌++◌, map, filter, flat_map, fold, length, slice_get, unwrap_or, codes, is_some, Option, Some, None}
-use Rattle.node_rules.specs.Data.{BranchId, Decision, State, Kid, Standing, Live, Phase, Advice}
+use Rattle.std.specs.Prelude.{ℕ, ◌==◌, ◌&&◌, not, Bool, true, false, if◌then◌else◌, List, [], ◌∷◌, ◌++◌, map, filter, flat_map, fold, length, slice_get, codes, is_some, Option, Some, None}
+use Rattle.node_rules.specs.Data.{BranchId, Decision, State, Kid, Standing, Phase, Advice}
 use Rattle.node_rules.specs.Data.decisions
 use Rattle.node_rules.specs.Data.states
 use Rattle.node_rules.specs.Data.phases

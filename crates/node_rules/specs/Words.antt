@@ -1,6 +1,5 @@
 -- Words that all the rules use: equal names, equal branches, the order of both, and lists by what stands in them.
-use Rattle.std.specs.Prelude.{ℕ, ◌+◌, ◌==◌, ◌&&◌, ◌||◌, not, Bool, true, false, if◌then◌else◌, List, [], ◌∷◌, ◌++◌, map, filter, find, is_some, Option, Some, None, nat_lt}
-use Rattle.std.specs.List.{list_any}
+use Rattle.std.specs.Prelude.{ℕ, ◌+◌, ◌==◌, ◌&&◌, ◌||◌, not, Bool, true, false, if◌then◌else◌, List, [], ◌∷◌, map, filter, Option, Some, None, nat_lt}
 use Rattle.node_rules.specs.Data.{BranchId}
 
 -- two texts, byte for byte

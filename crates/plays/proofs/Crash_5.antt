@@ -1,6 +1,6 @@
 -- Plays of the topic crash.
 use Rattle.std.proofs.Common.{◌≡◌, [], ◌∷◌, ◌++◌, codes, refl}
-use Rattle.run_laws.specs.Past.{told}
+use Rattle.run_laws.specs.Lines.{told}
 use Rattle.run_laws.specs.Report.{report}
 use Rattle.run_laws.specs.Data.commands
 use Rattle.plays.proofs.Script.{here, count, commit_comment, at, crash_keep, played}

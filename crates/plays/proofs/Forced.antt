@@ -1,6 +1,6 @@
 -- Plays of the topic forced.
 use Rattle.std.proofs.Common.{◌≡◌, ℕ, List, [], ◌∷◌, ◌++◌, Some, None, codes, refl}
-use Rattle.run_laws.specs.Past.{told}
+use Rattle.run_laws.specs.Lines.{told}
 use Rattle.run_laws.specs.Report.{report}
 use Rattle.run_laws.specs.Data.{Place, Command}
 use Rattle.run_laws.specs.Data.stmts

@@ -1,6 +1,6 @@
 -- Plays of the topic one node.
 use Rattle.std.proofs.Common.{◌≡◌, ℕ, List, [], ◌∷◌, codes, refl}
-use Rattle.run_laws.specs.Past.{told}
+use Rattle.run_laws.specs.Lines.{told}
 use Rattle.run_laws.specs.Report.{report}
 use Rattle.run_laws.specs.Data.{Place}
 use Rattle.run_laws.specs.Data.commands

@@ -1,17 +1,22 @@
 -- No happening changes the book but by the entries of its record.
-use Rattle.std.proofs.Common.{◌≡◌, ℕ, ◌+◌, ◌==◌, ◌&&◌, Bool, true, false, if◌then◌else◌, List, [], ◌∷◌, ◌++◌, flat_map, Option, Some, None, refl, sym, ◌∙◌, ap, append-nil, append_assoc}
+use Rattle.std.proofs.Common.{◌≡◌, ℕ, ◌==◌, ◌&&◌, Bool, true, false, if◌then◌else◌, List, [], ◌∷◌, ◌++◌, flat_map, Option, Some, None, refl, sym, ◌∙◌, ap, append-nil, append_assoc}
 use Rattle.std.specs.Option.{option_to_list}
-use Rattle.run_laws.specs.Data.{Stmt, Input, Took, RedoRecord, BranchId, Msg, Entry, Happening, Said, Command}
+use Rattle.run_laws.specs.Data.{Stmt, Input, Took, BranchId, Msg, Entry, Happening, Said, Command}
 use Rattle.run_laws.specs.Data.inputs
 use Rattle.run_laws.specs.Data.happenings
 use Rattle.run_laws.specs.Data.commands
-use Rattle.run_laws.specs.Net.{cut_over, stopped}
 use Rattle.node_rules.specs.Kept.{Kept, Finished, Outcome}
 use Rattle.node_rules.specs.Turn.{turn_of}
-use Rattle.run_laws.specs.Past.{Past, Out, past, next, book_of, entry_of, entries_in, begins, command_at, orders_at_once, finished, finished_out, out_at, out_ends, call_ends, call_line, fallen, waits, waits_if_out, after_input, taken, without_following, entered, with_record_at, sends, with_node, turned, turns, tells_loss, loses, stop_line, stops, place_at, node_at, node_name, without_out, refuses_with, with_own, appends, turn_appends, start_appends, is_start, call_line_of, reached_line, is_reached, appends_if, cut_appends, Cut_by, By_nothing, By_strike, By_point, cut_by, arms_point, arms}
+use Rattle.run_laws.specs.Past.{Past, Out, command_at, with_record_at, with_node, place_at, node_at, node_name}
+use Rattle.run_laws.specs.Next.{past, next, taken, without_following, entered, sends, turned, turns, tells_loss, stop_line, stops, start_appends, is_start}
+use Rattle.run_laws.specs.Entries.{book_of, entry_of, entries_in}
+use Rattle.run_laws.specs.Commands.{orders_at_once}
+use Rattle.run_laws.specs.Calls_out.{finished, finished_out, out_at, out_ends, call_ends, fallen, waits, waits_if_out, after_input, without_out}
+use Rattle.run_laws.specs.Lines.{call_line, refuses_with, with_own, call_line_of, reached_line, is_reached}
+use Rattle.run_laws.specs.Cuts.{appends, turn_appends, appends_if, cut_appends, Cut_by, By_nothing, By_strike, By_point, cut_by, arms_point, arms}
 use Rattle.node_rules.specs.Points.{Point, point_of}
 use Rattle.node_rules.specs.Ids.{decimal}
-use Rattle.node_rules.specs.Meaning.{ora, dtx}
+use Rattle.node_rules.specs.Refusals.{ora, dtx}
 use Rattle.node_rules.specs.Kept.{session_at}
 use Rattle.run_laws.specs.Data.stmts
 use Rattle.std.specs.Prelude.{find, is_some}

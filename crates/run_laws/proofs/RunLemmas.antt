@@ -2,7 +2,8 @@
 use Rattle.std.proofs.Common.{◌≡◌, ℕ, List, [], ◌∷◌, ◌++◌, Option, Some, None, refl, ◌∙◌}
 use Rattle.std.specs.Option.{option_to_list}
 use Rattle.run_laws.specs.Data.{Happening}
-use Rattle.run_laws.specs.Past.{Past, past, next}
+use Rattle.run_laws.specs.Past.{Past}
+use Rattle.run_laws.specs.Next.{past}
 use Rattle.run_laws.specs.Due.{happens, due_of, one_on, step_on, runs_on, happened, IsTheRun}
 
 -- one happening, and then those after it

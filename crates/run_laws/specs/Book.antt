@@ -1,8 +1,8 @@
 -- The book in the subject's words: the rows that its committed transactions leave, who is in doubt, and what every
 -- entry needs of those before it.
-use Rattle.std.specs.Prelude.{◌≡◌, ℕ, ◌+◌, ◌<◌, ◌==◌, ◌&&◌, ◌||◌, not, Bool, true, false, if◌then◌else◌, List, [], ◌∷◌, ◌++◌, map, filter, flat_map, slice_get, IsTrue, Option, Some, None}
-use Rattle.std.specs.List.{list_any, list_all}
-use Rattle.run_laws.specs.Data.{Value, Change, BranchId, Decision, Entry}
+use Rattle.std.specs.Prelude.{◌≡◌, ℕ, ◌<◌, ◌==◌, ◌&&◌, not, Bool, true, false, if◌then◌else◌, List, [], ◌∷◌, ◌++◌, flat_map, slice_get, IsTrue, Option, Some, None}
+use Rattle.std.specs.List.{list_any}
+use Rattle.run_laws.specs.Data.{Change, BranchId, Decision, Entry}
 use Rattle.run_laws.specs.Data.decisions
 use Rattle.run_laws.specs.Data.entries
 use Rattle.node_rules.specs.Words.{same, same_text, one}

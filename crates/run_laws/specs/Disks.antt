@@ -1,6 +1,6 @@
 -- The orders that stop a node in a disk write or let a disk call fail, and which turn or start they strike.
 -- An append writes length, body and a closed gate, syncs, opens its own gate, syncs. A start syncs, asks the length and reads first.
-use Rattle.std.specs.Prelude.{ℕ, ◌+◌, ◌-◌, ◌==◌, ◌&&◌, Bool, true, false, if◌then◌else◌, nat_le, nat_lt, option_map, List, [], ◌∷◌, Option, Some, None}
+use Rattle.std.specs.Prelude.{ℕ, ◌+◌, ◌-◌, ◌==◌, Bool, true, false, if◌then◌else◌, nat_le, nat_lt, List, [], ◌∷◌, Option, Some, None}
 use Rattle.run_laws.specs.Data.{How}
 use Rattle.run_laws.specs.Data.hows
 

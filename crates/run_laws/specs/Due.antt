@@ -1,14 +1,19 @@
 -- Which happening must come next, by the script: the losses and stops that must be told, the command's own act, the
 -- deliveries in order up to 4,096, the give-ups in order of command, and then the next command.
-use Rattle.std.specs.Prelude.{◌≡◌, ℕ, ◌+◌, ◌-◌, ◌==◌, ◌&&◌, ◌||◌, not, Bool, true, false, if◌then◌else◌, List, [], ◌∷◌, ◌++◌, find, length, min, nat_lt, nat_le, is_some, unwrap_or, slice_get, option_to_list, Option, Some, None}
-use Rattle.run_laws.specs.Data.{Stmt, BranchId, Msg, Packet, RedoRecord, Input, Took, Turn, Happening, Command}
+use Rattle.std.specs.Prelude.{◌≡◌, ℕ, ◌+◌, ◌==◌, ◌&&◌, not, Bool, true, false, if◌then◌else◌, List, [], ◌∷◌, ◌++◌, length, min, nat_lt, is_some, option_to_list, Option, Some, None}
+use Rattle.run_laws.specs.Data.{Packet, Input, Took, Happening, Command}
 use Rattle.run_laws.specs.Data.inputs
 use Rattle.run_laws.specs.Data.happenings
 use Rattle.run_laws.specs.Data.commands
 use Rattle.run_laws.specs.Net.{first_flying, may_deliver, may_repeat, packet_at}
 use Rattle.node_rules.specs.Kept.{Kept, Outcome}
 use Rattle.node_rules.specs.Turn.{turn_of}
-use Rattle.run_laws.specs.Past.{Past, Out, next, node_at, place_at, is_up, is_enabled, out_at, command_at, records_at, spent, plan_at, Cut_by, By_nothing, By_strike, By_point, cut_by}
+use Rattle.run_laws.specs.Past.{Past, Out, node_at, place_at, is_up, command_at, records_at, plan_at}
+use Rattle.run_laws.specs.Next.{next}
+use Rattle.run_laws.specs.Commands.{is_enabled}
+use Rattle.run_laws.specs.Calls_out.{out_at}
+use Rattle.run_laws.specs.Lines.{spent}
+use Rattle.run_laws.specs.Cuts.{Cut_by, By_nothing, By_strike, By_point, cut_by}
 use Rattle.run_laws.specs.Disks.{Strike, struck}
 use Rattle.run_laws.specs.Lawful.{boots}
 

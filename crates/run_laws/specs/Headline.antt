@@ -7,7 +7,10 @@ use Rattle.run_laws.specs.Data.commands
 use Rattle.run_laws.specs.Data.said
 use Rattle.run_laws.specs.Data.notices
 use Rattle.node_rules.specs.Words.{drop_where}
-use Rattle.run_laws.specs.Past.{Past, start, past, told, book_of, command_at}
+use Rattle.run_laws.specs.Past.{Past, start, command_at}
+use Rattle.run_laws.specs.Next.{past}
+use Rattle.run_laws.specs.Lines.{told}
+use Rattle.run_laws.specs.Entries.{book_of}
 use Rattle.run_laws.specs.Due.{Ends, IsTheRun, due_of}
 use Rattle.run_laws.specs.Knowledge.{Knowledge, Says}
 use Rattle.run_laws.specs.Lawful.{History, past_of, IsLawfulRun}

@@ -1,8 +1,8 @@
 -- Who may write or say what: each record and each message of a turn against its input and what stood before. It follows
 -- from the turns, and is no premise of the laws.
-use Rattle.std.specs.Prelude.{◌≡◌, ℕ, ◌⊎◌, ◌||◌, Bool, true, false, List, [], ◌∷◌, ◌++◌, slice_get, Option, Some, None}
+use Rattle.std.specs.Prelude.{◌≡◌, ℕ, ◌⊎◌, ◌||◌, Bool, true, false, List, [], slice_get, Option, Some, None}
 use Rattle.std.specs.List.{list_all, list_any}
-use Rattle.run_laws.specs.Data.{BranchId, Peer, Change, Decision, RedoRecord, Stmt, Kind, Msg, Vote, Input, Took, Happening, Standing}
+use Rattle.run_laws.specs.Data.{BranchId, Decision, RedoRecord, Stmt, Kind, Msg, Vote, Input, Happening, Standing}
 use Rattle.run_laws.specs.Data.decisions
 use Rattle.run_laws.specs.Data.records
 use Rattle.run_laws.specs.Data.params
@@ -11,11 +11,11 @@ use Rattle.run_laws.specs.Data.stmts
 use Rattle.run_laws.specs.Data.kinds
 use Rattle.run_laws.specs.Data.inputs
 use Rattle.run_laws.specs.Data.happenings
-use Rattle.node_rules.specs.Words.{same, is_branch}
+use Rattle.node_rules.specs.Words.{same}
 use Rattle.node_rules.specs.Kept.{Kept, Branch, live_at, standing_at, session_at}
 use Rattle.node_rules.specs.Prepare.{answers_first, voted, all_answered}
 use Rattle.node_rules.specs.Tree.{weight}
-use Rattle.node_rules.specs.Commit.{Beyond, beyond}
+use Rattle.node_rules.specs.Commit.{beyond}
 use Rattle.node_rules.specs.Turn.{turn_of}
 use Rattle.run_laws.specs.Past.{Past, node_at, place_at}
 

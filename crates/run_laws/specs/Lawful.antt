@@ -1,5 +1,5 @@
 -- Which happening may come after those before it.
-use Rattle.std.specs.Prelude.{◌≡◌, ℕ, ◌+◌, ◌-◌, ◌≤◌, ◌⊎◌, Bool, true, false, List, [], ◌∷◌, length, Option, Some, None}
+use Rattle.std.specs.Prelude.{◌≡◌, ℕ, ◌+◌, ◌≤◌, ◌⊎◌, Bool, true, false, List, [], ◌∷◌, length, Option, Some, None}
 use Rattle.run_laws.specs.Data.{RedoRecord, Msg, Packet, Place, Input, Took, Turn, Happening, Command}
 use Rattle.run_laws.specs.Data.fates
 use Rattle.run_laws.specs.Data.records
@@ -7,8 +7,9 @@ use Rattle.run_laws.specs.Data.inputs
 use Rattle.run_laws.specs.Data.happenings
 use Rattle.node_rules.specs.Kept.{Kept, Call_out, No_call, session_at}
 use Rattle.node_rules.specs.Turn.{turn_of}
-use Rattle.run_laws.specs.Net.{Net, packet_at, is_blocked}
-use Rattle.run_laws.specs.Past.{Past, start, next, past, place_at, node_at, records_at}
+use Rattle.run_laws.specs.Net.{packet_at, is_blocked}
+use Rattle.run_laws.specs.Past.{Past, start, place_at, node_at, records_at}
+use Rattle.run_laws.specs.Next.{next, past}
 
 -- nothing must come before: no loss to tell, no node to fall
 pub record IsSettled (p : Past) : Type 0 where

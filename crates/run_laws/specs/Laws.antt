@@ -1,9 +1,10 @@
 -- Laws of the definitions themselves.
 use Rattle.std.specs.Prelude.{◌≡◌, ℕ, List, [], ◌∷◌, ◌++◌}
-use Rattle.run_laws.specs.Data.{RedoRecord, Happening}
-use Rattle.run_laws.specs.Past.{Past, past, book_of}
+use Rattle.run_laws.specs.Data.{Happening}
+use Rattle.run_laws.specs.Past.{Past}
+use Rattle.run_laws.specs.Next.{past}
+use Rattle.run_laws.specs.Entries.{book_of}
 use Rattle.run_laws.specs.Lawful.{IsLawful, MayHappen}
-use Rattle.run_laws.specs.Past.{next}
 use Rattle.run_laws.specs.Due.{IsTheRun, happened, runs_on}
 
 -- the book that the fold keeps is the book of the trace

@@ -3,6 +3,12 @@ pub mod Net
 pub mod Disks
 pub mod Shown
 pub mod Past
+pub mod Cuts
+pub mod Entries
+pub mod Lines
+pub mod Calls_out
+pub mod Commands
+pub mod Next
 pub mod Lawful
 pub mod Due
 pub mod Report

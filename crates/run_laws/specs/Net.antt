@@ -1,8 +1,8 @@
 -- The messages of a run with their fates, the pairs that are cut, the nodes that are down, and the orders to lose.
 -- Messages are numbered from 1 on, in the order of sending.
-use Rattle.std.specs.Prelude.{◌≡◌, ℕ, ◌+◌, ◌-◌, ◌==◌, ◌&&◌, ◌||◌, not, Bool, true, false, if◌then◌else◌, List, [], ◌∷◌, ◌++◌, map, filter, length, position, option_map, slice_get, slice_set, nat_lt, unwrap_or, Option, Some, None}
+use Rattle.std.specs.Prelude.{ℕ, ◌+◌, ◌-◌, ◌==◌, ◌&&◌, ◌||◌, not, Bool, true, false, if◌then◌else◌, List, [], ◌∷◌, ◌++◌, map, filter, position, option_map, slice_get, slice_set, Option, Some, None}
 use Rattle.std.specs.List.{list_any}
-use Rattle.run_laws.specs.Data.{BranchId, Kind, KindName, Msg, Fate, Packet}
+use Rattle.run_laws.specs.Data.{Kind, KindName, Msg, Fate, Packet}
 use Rattle.run_laws.specs.Data.kinds
 use Rattle.run_laws.specs.Data.kind_names
 use Rattle.run_laws.specs.Data.fates

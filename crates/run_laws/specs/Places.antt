@@ -1,7 +1,7 @@
 -- Where the answer of a statement comes from: the turn that ran it, at the node of its table, for a branch of the asker's
 -- transaction, not before its call.
-use Rattle.std.specs.Prelude.{◌≡◌, ℕ, ◌≤◌, Bool, true, false, List, [], ◌∷◌, ◌++◌, slice_get, Option, Some, None}
-use Rattle.run_laws.specs.Data.{BranchId, Value, Change, Stmt, RowSet, Done, AnswerLine, Happening, Command}
+use Rattle.std.specs.Prelude.{◌≡◌, ℕ, Bool, true, false, List, [], ◌∷◌, ◌++◌, slice_get, Option, Some, None}
+use Rattle.run_laws.specs.Data.{BranchId, Value, Change, Stmt, RowSet, Done, AnswerLine, Happening}
 use Rattle.run_laws.specs.Data.answers
 use Rattle.run_laws.specs.Data.dones
 use Rattle.run_laws.specs.Data.said
@@ -9,7 +9,10 @@ use Rattle.run_laws.specs.Data.commands
 use Rattle.node_rules.specs.Kept.{Kept, session_at}
 use Rattle.node_rules.specs.Calls.{passed_on}
 use Rattle.node_rules.specs.Statement.{Ran, Reads, Writes, ran}
-use Rattle.run_laws.specs.Past.{Past, Out, start, past, told, command_at, place_at, node_at, out_at}
+use Rattle.run_laws.specs.Past.{Past, Out, start, command_at, place_at, node_at}
+use Rattle.run_laws.specs.Next.{past}
+use Rattle.run_laws.specs.Lines.{told}
+use Rattle.run_laws.specs.Calls_out.{out_at}
 use Rattle.run_laws.specs.Lawful.{History, past_of}
 use Rattle.run_laws.specs.Runs.{Ran_at, run_in}
 

@@ -1,5 +1,5 @@
 -- The printed lines of the answers of a run.
-use Rattle.std.specs.Prelude.{ℕ, ◌+◌, ◌-◌, ◌==◌, Bool, true, false, if◌then◌else◌, List, [], ◌∷◌, ◌++◌, map, flat_map, length, slice_get, unwrap_or, nat_lt, codes, Option, Some, None, ℤ, pos, negsuc}
+use Rattle.std.specs.Prelude.{ℕ, ◌+◌, ◌-◌, ◌==◌, if◌then◌else◌, List, [], ◌∷◌, ◌++◌, map, flat_map, slice_get, unwrap_or, nat_lt, codes, ℤ, pos, negsuc}
 use Rattle.run_laws.specs.Data.{Value, Row, RowSet, Refusal, Done, Answer, Notice, Said, AnswerLine}
 use Rattle.run_laws.specs.Data.values
 use Rattle.run_laws.specs.Data.dones

@@ -1,22 +1,23 @@
 -- Which turns run a statement at its table, for which branch, and what a branch has changed and holds so far: computed
 -- from the trace, with the meaning of statements over the rows that the book leaves.
-use Rattle.std.specs.Prelude.{◌≡◌, ℕ, ◌+◌, ◌==◌, ◌&&◌, ◌||◌, not, Bool, true, false, if◌then◌else◌, List, [], ◌∷◌, ◌++◌, map, filter, slice_get, Option, Some, None}
+use Rattle.std.specs.Prelude.{◌≡◌, ℕ, ◌&&◌, Bool, true, if◌then◌else◌, List, [], ◌∷◌, ◌++◌, slice_get, Option, Some, None}
 use Rattle.std.specs.List.{list_any}
-use Rattle.run_laws.specs.Data.{Advice, Value, Change, Table, Stmt, RowSet, Refusal, Done, Answer, BranchId, Kind, Msg, Input, Took, RedoRecord, Happening, Place, Entry}
-use Rattle.run_laws.specs.Data.answers
+use Rattle.run_laws.specs.Data.{Advice, Value, Change, Table, Stmt, RowSet, Done, BranchId, Kind, Input, Happening, Place, Entry}
 use Rattle.run_laws.specs.Data.kinds
 use Rattle.run_laws.specs.Data.inputs
 use Rattle.run_laws.specs.Data.happenings
-use Rattle.node_rules.specs.Words.{same, same_text, one}
+use Rattle.node_rules.specs.Words.{same, same_text}
 use Rattle.node_rules.specs.Rows.{Keyed, same_value, apply}
-use Rattle.node_rules.specs.Meaning.{Meant, Gives, Changes, Says_no, meant, examined, written}
+use Rattle.node_rules.specs.Meaning.{Gives, Changes, meant, examined}
 use Rattle.node_rules.specs.Statement.{Ran, Refuses, Reads, Writes, ran, locked_keys}
 use Rattle.node_rules.specs.Calls.{Way, Runs_here, way_of, Admit, Run, admit, takes_call}
 use Rattle.node_rules.specs.Client.{begun, root_at}
 use Rattle.node_rules.specs.Turn.{clock_raised_by}
-use Rattle.node_rules.specs.Kept.{Kept, Branch, Held, live_at, session_at}
+use Rattle.node_rules.specs.Kept.{Kept, Branch, live_at, session_at}
 use Rattle.run_laws.specs.Book.{rows_of, in_doubt, changes_of}
-use Rattle.run_laws.specs.Past.{Past, past, start, next, node_at, place_at, book_of}
+use Rattle.run_laws.specs.Past.{Past, start, node_at, place_at}
+use Rattle.run_laws.specs.Next.{past, next}
+use Rattle.run_laws.specs.Entries.{book_of}
 use Rattle.run_laws.specs.Lawful.{History}
 
 -- A run: the branch, the statement, the table, and what the node had.

@@ -1,9 +1,8 @@
 -- What SHOW prints: the views, the book, and the messages in flight.
-use Rattle.std.specs.Prelude.{ℕ, ◌+◌, ◌-◌, ◌==◌, ◌&&◌, not, Bool, true, false, if◌then◌else◌, List, [], ◌∷◌, ◌++◌, map, length, slice_get, unwrap_or, codes, Option, Some, None}
-use Rattle.run_laws.specs.Data.{BranchId, Decision, Place, Entry, Packet, Kind, KindName, Command}
+use Rattle.std.specs.Prelude.{ℕ, ◌+◌, ◌-◌, if◌then◌else◌, List, [], ◌∷◌, ◌++◌, map, length, slice_get, codes, Option, Some}
+use Rattle.run_laws.specs.Data.{BranchId, Decision, Place, Entry, Packet, KindName, Command}
 use Rattle.run_laws.specs.Data.decisions
 use Rattle.run_laws.specs.Data.entries
-use Rattle.run_laws.specs.Data.kinds
 use Rattle.run_laws.specs.Data.kind_names
 use Rattle.run_laws.specs.Data.commands
 use Rattle.node_rules.specs.Words.{one}

@@ -1,16 +1,18 @@
 -- The session tree of a transaction at a moment, the weights in it, its commit point site, and what the decision and the
 -- seals have of it.
-use Rattle.std.specs.Prelude.{◌≡◌, ◌≢◌, ℕ, zero, suc, ◌+◌, ◌<◌, Bool, true, false, if◌then◌else◌, List, [], ◌∷◌, ◌++◌, map, flat_map, option_map, slice_get, is_some, Option, Some, None}
-use Rattle.run_laws.specs.Data.{Change, Stmt, BranchId, RedoRecord, Input, Entry, Turn, Happening, Place}
+use Rattle.std.specs.Prelude.{◌≡◌, ◌≢◌, ℕ, zero, suc, ◌<◌, Bool, if◌then◌else◌, List, [], ◌∷◌, ◌++◌, map, flat_map, option_map, slice_get, is_some, Option, Some, None}
+use Rattle.run_laws.specs.Data.{Change, BranchId, Turn, Happening}
 use Rattle.run_laws.specs.Data.stmts
 use Rattle.run_laws.specs.Data.inputs
 use Rattle.run_laws.specs.Data.entries
 use Rattle.run_laws.specs.Data.happenings
-use Rattle.node_rules.specs.Words.{same, place_of_greatest}
+use Rattle.node_rules.specs.Words.{place_of_greatest}
 use Rattle.node_rules.specs.Tree.{Walk, Here, Down, Nowhere, walk_by, most_depth}
 use Rattle.node_rules.specs.Kept.{Kept, Branch, live_at, session_at, children_of}
-use Rattle.run_laws.specs.Past.{Past, past, start, next, node_at, place_at, book_of}
-use Rattle.run_laws.specs.Lawful.{History, past_of}
+use Rattle.run_laws.specs.Past.{Past, start, node_at, place_at}
+use Rattle.run_laws.specs.Next.{past}
+use Rattle.run_laws.specs.Entries.{book_of}
+use Rattle.run_laws.specs.Lawful.{History}
 
 -- a live branch, wherever it is
 abbrev pub branch_at : Option Kept → BranchId → Option Branch
