@@ -91,6 +91,12 @@ abbrev pub is_decision_at : BranchId → ℕ → Entry → Bool
 is_decision_at g n (entries.Decided b h cs m) = same h g && (m == n)
 is_decision_at g n _ = false
 
+-- the SCN at which a book commits a transaction, none where it does not
+abbrev pub decided : List Entry → BranchId → Option ℕ
+decided [] g = None
+decided (entries.Decided b h cs n ∷ es) g = if same h g then Some n else decided es g
+decided (_ ∷ es) g = decided es g
+
 -- the transaction of a sealed branch
 abbrev pub global_in : BranchId → List Entry → Option BranchId
 global_in b [] = None
