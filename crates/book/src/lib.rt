@@ -7,5 +7,5 @@ mod happening;
 mod line;
 
 pub use entry::{Book, Entry};
-pub use happening::{Happening, Took, Trace};
+pub use happening::{Happening, Took, Trace, Turn};
 pub use line::{AnswerLine, AnswerLines, Said};

@@ -1,8 +1,8 @@
 -- What a node keeps from turn to turn, and what a turn does.
-use Rattle.std.specs.Prelude.{ℕ, ◌+◌, ◌-◌, ◌==◌, ◌&&◌, Bool, true, false, if◌then◌else◌, List, [], ◌∷◌, ◌++◌, map, filter, find, max, replicate, slice_get, slice_set, unwrap_or, Option, Some, None}
-use Rattle.node_rules.specs.Data.{Value, Change, Stmt, BranchId, Decision, RedoRecord, Standing, Durable, Live, Kind, Msg, Answer, Advice}
+use Rattle.std.specs.Prelude.{ℕ, ◌-◌, Bool, false, List, [], ◌∷◌, ◌++◌, map, find, max, slice_get, slice_set, unwrap_or, Option, Some, None}
+use Rattle.node_rules.specs.Data.{Value, Change, Stmt, BranchId, RedoRecord, Standing, Durable, Live, Kind, Msg, Answer, Advice}
 use Rattle.node_rules.specs.Data.phases
-use Rattle.node_rules.specs.Words.{same, change_where, drop_where, is_branch, one}
+use Rattle.node_rules.specs.Words.{same, change_where, drop_where}
 use Rattle.node_rules.specs.Rows.{TableRows}
 
 -- A branch in doubt and the changes that it holds back.
@@ -10,7 +10,7 @@ pub record Doubt : Type 0 where
   pub me : BranchId
   pub changes : List Change
 
--- What the records of a node say: catalog and kept branches, committed rows, changes in doubt, and the greatest SCN.
+-- What the records of a node say: catalog and kept branches, committed rows, changes in doubt, and the greatest SCN but for those that users gave. Acknowledgements, which are kept in memory alone, are counted in it too.
 pub record Stored : Type 0 where
   pub durable : Durable
   pub rows : List TableRows
@@ -24,7 +24,7 @@ pub record Held : Type 0 where
   pub writes : Bool
 
 -- The fields of a Reply, which a repeated call is answered with.
-pub record Told : Type 0 where
+pub record Reply_fields : Type 0 where
   pub weight : Option ℕ
   pub count : ℕ
   pub result : Answer
@@ -40,13 +40,13 @@ pub record Going : Type 0 where
   pub room : ℕ
   pub waits : Waits
 
--- A live branch: what its lives show, its own changes, the keys it holds, the calls that came and that it made.
+-- A live branch: its place in the session tree, its own changes, the keys it holds, the calls that came and those it made.
 pub record Branch : Type 0 where
   pub live : Live
   pub own : List Change
   pub held : List Held
   pub last_call : ℕ
-  pub reply : Option Told
+  pub reply : Option Reply_fields
   pub calls : List ℕ  -- the last call number of each edge
   pub going : Option Going
 
@@ -72,6 +72,7 @@ pub record Opening : Type 0 where
   pub child : BranchId
   pub strength : ℕ
 
+-- What a node keeps: its records' fold; and what a stop loses: live branches, the clock, the Opens that it answered, and the client sessions.
 pub record Kept : Type 0 where
   pub stored : Stored
   pub lives : List Branch
@@ -97,44 +98,55 @@ pub record Deed : Type 0 where
   pub says : List Post
   pub ended : List Finished
 
+-- What a turn does, with the clock on its messages.
 pub record Outcome : Type 0 where
   pub after : Kept
   pub wrote : Option RedoRecord
   pub sent : List Msg
   pub ended : List Finished
 
+-- nothing happens
 abbrev pub nothing : Kept → Deed
 nothing k = record { after = k; wrote = None; says = []; ended = [] }
 
+-- only messages are sent
 abbrev pub saying : Kept → List Post → Deed
 saying k says = record { after = k; wrote = None; says = says; ended = [] }
 
+-- only the session's call ends
 abbrev pub ending : Kept → ℕ → Answer → Deed
 ending k session answer = record { after = k; wrote = None; says = []; ended = (record { session = session; answer = answer }) ∷ [] }
 
+-- one message
 abbrev pub post : BranchId → BranchId → Kind → List Post
 post from to kind = (record { from = from; to = to; kind = kind }) ∷ []
 
+-- a message, to one of several
 abbrev pub post_one : BranchId → Kind → BranchId → Post
 post_one from kind to = record { from = from; to = to; kind = kind }
 
+-- the same message to each
 abbrev pub to_each : BranchId → Kind → List BranchId → List Post
 to_each from kind tos = map (post_one from kind) tos
 
+-- a message to somebody, where there is one
 abbrev pub to_one : BranchId → Kind → Option BranchId → List Post
 to_one from kind None = []
 to_one from kind (Some to) = post from to kind
 
--- branches
+-- whether a live branch has this id
 abbrev pub is_at : BranchId → Branch → Bool
 is_at b x = same x.live.me b
 
+-- the live branch of this id
 abbrev pub live_at : Kept → BranchId → Option Branch
 live_at k b = find (is_at b) k.lives
 
+-- with a live branch changed
 abbrev pub with_branch : Kept → Branch → Kept
 with_branch k x = record k { lives = change_where (is_at x.live.me) (λ old. x) k.lives }
 
+-- with one more live branch
 abbrev pub add_branch : Kept → Branch → Kept
 add_branch k x = record k { lives = k.lives ++ x ∷ [] }
 
@@ -142,15 +154,19 @@ add_branch k x = record k { lives = k.lives ++ x ∷ [] }
 abbrev pub without_branch : Kept → BranchId → Kept
 without_branch k b = record k { lives = drop_where (is_at b) k.lives }
 
+-- whether a kept branch has this id
 abbrev pub stands_at : BranchId → Standing → Bool
 stands_at b s = same s.me b
 
+-- the kept branch of this id
 abbrev pub standing_at : Kept → BranchId → Option Standing
 standing_at k b = find (stands_at b) k.stored.durable.kept
 
+-- with a kept branch changed
 abbrev pub with_standing : Kept → Standing → Kept
 with_standing k s = record k { stored = record k.stored { durable = record k.stored.durable { kept = change_where (stands_at s.me) (λ old. s) k.stored.durable.kept } } }
 
+-- the children of a live branch, in order of reference
 abbrev pub children_of : Live → List BranchId
 children_of l = map (λ e. e.peer) l.edges
 
@@ -158,12 +174,15 @@ children_of l = map (λ e. e.peer) l.edges
 abbrev pub fresh_session : Session
 fresh_session = record { seq = 0; root = None; advice = None; code = None; call = No_call }
 
+-- a client session
 abbrev pub session_at : Kept → ℕ → Session
 session_at k n = unwrap_or (slice_get k.sessions (n - 1)) fresh_session
 
+-- with a client session changed
 abbrev pub with_session : Kept → ℕ → Session → Kept
 with_session k n s = record k { sessions = slice_set k.sessions (n - 1) s }
 
+-- with the clock raised to this SCN
 abbrev pub raised : Kept → ℕ → Kept
 raised k scn = record k { clock = max k.clock scn }
 
@@ -182,5 +201,6 @@ fresh_live me root parent depth strength = record {
   comment = [];
 }
 
+-- a branch without changes, keys and calls
 abbrev pub fresh_branch : Live → Branch
 fresh_branch l = record { live = l; own = []; held = []; last_call = 0; reply = None; calls = []; going = None }

@@ -1,8 +1,8 @@
 -- What one statement says over one plain table: the columns it names, what it tests, the keys that it examines and writes,
 -- the rows that it gives and the changes that it makes. It knows no locks and no nodes.
-use Rattle.std.specs.Prelude.{ℕ, ◌+◌, ◌-◌, ◌*◌, ◌^◌, ◌==◌, ◌&&◌, ◌||◌, not, Bool, true, false, if◌then◌else◌, cond, List, [], ◌∷◌, ◌++◌, map, filter, length, position, find, flat_map, zip, replicate, is_some, is_none, unwrap_or, option_map, slice_get, slice_set, nat_lt, codes, Option, Some, None, Result, Ok, Err, ℤ, pos, negsuc, ◌+ℤ◌, ◌-ℤ◌, int_le}
+use Rattle.std.specs.Prelude.{ℕ, ◌-◌, ◌^◌, ◌&&◌, ◌||◌, not, Bool, true, false, if◌then◌else◌, List, [], ◌∷◌, ◌++◌, map, filter, length, find, zip, is_some, is_none, unwrap_or, option_map, slice_set, nat_lt, codes, Option, Some, None, Result, Ok, Err, ℤ, pos, negsuc, ◌+ℤ◌, ◌-ℤ◌, int_le}
 use Rattle.std.specs.List.{list_all, list_any}
-use Rattle.node_rules.specs.Data.{Value, Row, Change, Column, Table, TableRef, Term, Step, Sum, Set, Sign, Cond, Picked, Stmt, RowSet, Refusal, Done}
+use Rattle.node_rules.specs.Data.{Value, Row, Change, Column, Table, Term, Step, Sum, Set, Sign, Cond, Picked, Stmt, RowSet, Refusal, Done}
 use Rattle.node_rules.specs.Data.values
 use Rattle.node_rules.specs.Data.terms
 use Rattle.node_rules.specs.Data.signs
@@ -11,132 +11,21 @@ use Rattle.node_rules.specs.Data.picks
 use Rattle.node_rules.specs.Data.stmts
 use Rattle.node_rules.specs.Data.dones
 use Rattle.node_rules.specs.Ids.{decimal}
-use Rattle.node_rules.specs.Words.{same_text, one}
+use Rattle.node_rules.specs.Words.{same_text, one, first_some}
 use Rattle.node_rules.specs.Rows.{Keyed, is_null, value_below, same_value, get, keys_of, keys_in_order}
+use Rattle.node_rules.specs.Columns.{cell, column_of, given_columns, is_key, key_of_row, named_columns, place_of, same_bool, statement_fits}
+use Rattle.node_rules.specs.Refusals.{dtx, else_refuse, ora, refuse_if}
 
--- an Oracle refusal, with what its text names
-abbrev pub ora : ℕ → List (List ℕ) → Refusal
-ora code args = record { code = code; args = args }
-
--- a refusal of dtx's own
-abbrev pub dtx : ℕ → List (List ℕ) → Refusal
-dtx code args = record { code = 60000 + code; args = args }
-
--- the first of two refusals
-abbrev pub else_refuse : Option Refusal → Option Refusal → Option Refusal
-else_refuse (Some r) other = Some r
-else_refuse None other = other
-
-abbrev pub refuse_if : Bool → Refusal → Option Refusal
-refuse_if true r = Some r
-refuse_if false r = None
-
--- columns
-abbrev pub is_text : Column → Bool
-is_text c = is_some c.text_max
-
-abbrev pub is_named : List ℕ → Column → Bool
-is_named name c = same_text c.name name
-
-abbrev pub place_of : Table → List ℕ → Option ℕ
-place_of t name = position (is_named name) t.columns
-
-abbrev pub column_of : Table → List ℕ → Option Column
-column_of t name = find (is_named name) t.columns
-
-abbrev pub is_key : Table → List ℕ → Bool
-is_key t name = list_any (λ c. c.key && is_named name c) t.columns
-
-abbrev pub key_of_row : Table → List Value → Value
-key_of_row t cells = unwrap_or (slice_get cells (unwrap_or (position (λ c. c.key) t.columns) 0)) values.Null
-
-abbrev pub cell : Table → Row → List ℕ → Value
-cell t row name = unwrap_or (slice_get row.cells (unwrap_or (place_of t name) (length row.cells))) values.Null
-
--- the columns that a statement names, in the order of its text
-abbrev pub term_columns : Term → List (List ℕ)
-term_columns (terms.Column name) = one name
-term_columns (terms.Literal v) = []
-
-abbrev pub sum_columns : Sum → List (List ℕ)
-sum_columns s = term_columns s.first ++ flat_map (λ p. term_columns p.term) s.rest
-
-abbrev pub cond_column : Cond → List ℕ
-cond_column (conds.Compare column sign literal) = column
-cond_column (conds.IsNull column negated) = column
-
-abbrev pub picked_columns : Picked → List (List ℕ)
-picked_columns picks.All = []
-picked_columns picks.Count = []
-picked_columns (picks.Sum name) = one name
-picked_columns (picks.Columns names) = names
-
-abbrev pub named_columns : Stmt → List (List ℕ)
-named_columns (stmts.Insert table (Some columns) given) = columns
-named_columns (stmts.Update table sets cs) = flat_map (λ s. s.column ∷ sum_columns s.to) sets ++ map cond_column cs
-named_columns (stmts.Delete table cs) = map cond_column cs
-named_columns (stmts.Select list table cs for_update) = picked_columns list ++ map cond_column cs
-named_columns _ = []
-
--- types: Null fits every column
-abbrev pub fits : Column → Value → Bool
-fits c values.Null = true
-fits c (values.Number n) = not (is_text c)
-fits c (values.Text t) = is_text c
-
-abbrev pub same_bool : Bool → Bool → Bool
-same_bool true b = b
-same_bool false b = not b
-
-abbrev pub fits_column : Column → Option Column → Bool
-fits_column c None = false
-fits_column c (Some d) = same_bool (is_text c) (is_text d)
-
-abbrev pub term_fits : Table → Column → Term → Bool
-term_fits t c (terms.Literal v) = fits c v
-term_fits t c (terms.Column name) = fits_column c (column_of t name)
-
--- a sum of one term is that term; a sum of several takes numbers and is one
-abbrev pub sum_fits_by : Table → Column → Term → List Step → Bool
-sum_fits_by t c first [] = term_fits t c first
-sum_fits_by t c first (p ∷ ps) = not (is_text c) && (term_fits t c first && list_all (λ q. term_fits t c q.term) (p ∷ ps))
-
-abbrev pub sum_fits : Table → Sum → Option Column → Bool
-sum_fits t s None = false
-sum_fits t s (Some c) = sum_fits_by t c s.first s.rest
-
-abbrev pub literal_fits : Option Column → Value → Bool
-literal_fits None v = false
-literal_fits (Some c) v = fits c v
-
-abbrev pub cond_fits : Table → Cond → Bool
-cond_fits t (conds.Compare column sign literal) = literal_fits (column_of t column) literal
-cond_fits t (conds.IsNull column negated) = true
-
-abbrev pub picked_fits : Table → Picked → Bool
-picked_fits t (picks.Sum name) = fits_column (record { name = []; text_max = None; not_null = false; key = false }) (column_of t name)
-picked_fits t _ = true
-
--- the columns that an INSERT gives values
-abbrev pub given_columns : Table → Option (List (List ℕ)) → List (List ℕ)
-given_columns t None = map (λ c. c.name) t.columns
-given_columns t (Some names) = names
-
-abbrev pub statement_fits : Table → Stmt → Bool
-statement_fits t (stmts.Insert table columns given) = list_all (λ p. sum_fits t p.1 (column_of t p.0)) (zip (given_columns t columns) given)
-statement_fits t (stmts.Update table sets cs) = list_all (λ s. sum_fits t s.to (column_of t s.column)) sets && list_all (cond_fits t) cs
-statement_fits t (stmts.Delete table cs) = list_all (cond_fits t) cs
-statement_fits t (stmts.Select list table cs for_update) = picked_fits t list && list_all (cond_fits t) cs
-statement_fits t _ = true
-
--- sums over one row; no value where a partial result is out of range
+-- whether a number fits 64 bits
 abbrev pub in_range : ℤ → Bool
 in_range n = int_le (negsuc (2 ^ 63 - 1)) n && int_le n (pos (2 ^ 63 - 1))
 
+-- the value of a term
 abbrev pub term_value : Table → Row → Term → Value
 term_value t row (terms.Column name) = cell t row name
 term_value t row (terms.Literal v) = v
 
+-- a number, where it is in range
 abbrev pub ranged : ℤ → Option Value
 ranged n = if in_range n then Some (values.Number n) else None
 
@@ -145,15 +34,17 @@ abbrev pub step_value : Bool → Value → Value → Option Value
 step_value minus (values.Number a) (values.Number b) = ranged (if minus then a -ℤ b else a +ℤ b)
 step_value minus _ _ = Some values.Null
 
+-- the value after further terms, from left to right
 abbrev pub steps_value : Table → Row → Option Value → List Step → Option Value
 steps_value t row None ps = None
 steps_value t row (Some v) [] = Some v
 steps_value t row (Some v) (p ∷ ps) = steps_value t row (step_value p.minus v (term_value t row p.term)) ps
 
+-- the value of a sum over a row
 abbrev pub sum_value : Table → Row → Sum → Option Value
 sum_value t row s = steps_value t row (Some (term_value t row s.first)) s.rest
 
--- conditions: a comparison with NULL is not true
+-- what a sign says of two values, neither of which is NULL
 abbrev pub compares : Sign → Value → Value → Bool
 compares signs.Eq a b = same_value a b
 compares signs.Ne a b = not (same_value a b)
@@ -162,10 +53,12 @@ compares signs.Le a b = not (value_below b a)
 compares signs.Gt a b = value_below b a
 compares signs.Ge a b = not (value_below a b)
 
+-- whether a condition is true of a row
 abbrev pub holds : Table → Row → Cond → Bool
 holds t row (conds.Compare column sign literal) = not (is_null (cell t row column)) && (not (is_null literal) && compares sign (cell t row column) literal)
 holds t row (conds.IsNull column negated) = same_bool (is_null (cell t row column)) (not negated)
 
+-- the conditions of a statement
 abbrev pub conds_of : Stmt → List Cond
 conds_of (stmts.Update table sets cs) = cs
 conds_of (stmts.Delete table cs) = cs
@@ -176,43 +69,39 @@ conds_of _ = []
 abbrev pub found : Stmt → Table → List Keyed → List Keyed
 found s t rows = filter (λ r. list_all (holds t r.row) (conds_of s)) rows
 
--- the key that a WHERE fixes: the first comparison for equality of the key with a literal that is not NULL
+-- the key that one condition fixes: by a comparison for equality with a literal that is not NULL
 abbrev pub fixes : Table → Cond → Option Value
 fixes t (conds.Compare column signs.Eq literal) = if is_key t column && not (is_null literal) then Some literal else None
 fixes t _ = None
 
-abbrev pub first_of : List (Option Value) → Option Value
-first_of [] = None
-first_of (None ∷ vs) = first_of vs
-first_of (Some v ∷ vs) = Some v
-
--- the cells of an INSERT in table order; a column that the list leaves out is NULL
+-- a row without cells, over which the values of an INSERT are worked
 abbrev pub no_row : Row
 no_row = record { cells = [] }
 
+-- what an INSERT gives the column of this name
 abbrev pub given_value : Table → List (List ℕ × Sum) → List ℕ → Option Value
 given_value t [] name = Some values.Null
 given_value t (p ∷ ps) name = if same_text p.0 name then sum_value t no_row p.1 else given_value t ps name
 
+-- the cells of the new row, none where a sum is out of range
 abbrev pub inserted_cells : Table → Option (List (List ℕ)) → List Sum → List (Option Value)
 inserted_cells t columns given = map (λ c. given_value t (zip (given_columns t columns) given) c.name) t.columns
 
+-- cells, with NULL in place of none
 abbrev pub cells_of : List (Option Value) → List Value
 cells_of vs = map (λ v. unwrap_or v values.Null) vs
 
-abbrev pub inserted_row : Table → Stmt → List Value
-inserted_row t (stmts.Insert table columns given) = cells_of (inserted_cells t columns given)
-inserted_row t _ = []
-
+-- the key that a statement fixes by itself
 abbrev pub fixed_key : Stmt → Table → Option Value
 fixed_key (stmts.Insert table columns given) t = Some (key_of_row t (cells_of (inserted_cells t columns given)))
-fixed_key s t = first_of (map (fixes t) (conds_of s))
+fixed_key s t = first_some (map (fixes t) (conds_of s))
 
 -- the keys that a statement examines: the one that it fixes, else every key in the view or locked
 abbrev pub examined_by : List Keyed → List Value → Option Value → List Value
 examined_by view locked (Some key) = one key
 examined_by view locked None = keys_in_order (keys_of view ++ locked)
 
+-- the keys that a statement examines, where these others are locked
 unfoldable pub examined : Stmt → Table → List Keyed → List Value → List Value
 examined s t view locked = examined_by view locked (fixed_key s t)
 
@@ -226,46 +115,48 @@ written _ t view = []
 
 -- refusals that name a column
 abbrev pub column_refusal : ℕ → Table → Column → Refusal
-column_refusal code t c = refusal code (t.name ∷ c.name ∷ [])
+column_refusal code t c = ora code (t.name ∷ c.name ∷ [])
 
+-- the bytes of a text
 abbrev pub text_length : Value → ℕ
 text_length (values.Text t) = length t
 text_length _ = 0
 
+-- ORA-12899: a text is longer than its column
 abbrev pub too_long : Table → Column → Value → Option Refusal
 too_long t c v =
     refuse_if (is_some c.text_max && nat_lt (unwrap_or c.text_max 0) (text_length v))
     (ora 12899 (t.name ∷ c.name ∷ decimal (text_length v) ∷ decimal (unwrap_or c.text_max 0) ∷ []))
 
-abbrev pub first_refusal : List (Option Refusal) → Option Refusal
-first_refusal [] = None
-first_refusal (Some r ∷ rs) = Some r
-first_refusal (None ∷ rs) = first_refusal rs
-
--- what is wrong with a statement before any row is seen
+-- ORA-00904: the first column in the text that the table has not
 abbrev pub unknown_column : Stmt → Table → Option Refusal
 unknown_column s t = option_map (λ name. ora 904 (one name)) (find (λ name. is_none (place_of t name)) (named_columns s))
 
+-- whether an UPDATE sets the key column
 abbrev pub sets_key : Stmt → Table → Bool
 sets_key (stmts.Update table sets cs) t = list_any (λ s. is_key t s.column) sets
 sets_key _ t = false
 
+-- ORA-00947 and ORA-00913: an INSERT has fewer values than columns, or more
 abbrev pub miscounted : Stmt → Table → Option Refusal
 miscounted (stmts.Insert table columns given) t =
     else_refuse (refuse_if (nat_lt (length given) (length (given_columns t columns))) (ora 947 []))
     (refuse_if (nat_lt (length (given_columns t columns)) (length given)) (ora 913 []))
 miscounted _ t = None
 
+-- ORA-01400: a column that may not be NULL is NULL
 abbrev pub cell_null : Table → Column × Value → Option Refusal
 cell_null t p = refuse_if ((p.0.key || p.0.not_null) && is_null p.1) (column_refusal 1400 t p.0)
 
+-- what is wrong with the values of an INSERT
 abbrev pub ill_inserted : Stmt → Table → Option Refusal
 ill_inserted (stmts.Insert table columns given) t =
     else_refuse (refuse_if (list_any is_none (inserted_cells t columns given)) (dtx 9 []))
-    (else_refuse (first_refusal (map (cell_null t) (zip t.columns (cells_of (inserted_cells t columns given)))))
-    (first_refusal (map (λ p. too_long t p.0 p.1) (zip t.columns (cells_of (inserted_cells t columns given))))))
+    (else_refuse (first_some (map (cell_null t) (zip t.columns (cells_of (inserted_cells t columns given)))))
+    (first_some (map (λ p. too_long t p.0 p.1) (zip t.columns (cells_of (inserted_cells t columns given))))))
 ill_inserted _ t = None
 
+-- the refusal of a statement before any row is seen: its columns, its key column, its count of values, its types, its values
 unfoldable pub checked : Stmt → Table → Option Refusal
 checked s t =
     else_refuse (unknown_column s t)
@@ -279,25 +170,29 @@ pub data Meant : Type 0 where
   Changes : (done : Done) (count : ℕ) (changes : List Change) → Meant
   Says_no : (refusal : Refusal) → Meant
 
--- the row of an UPDATE: every sum reads the row from before
+-- ORA-01407, then ORA-12899, else the row with this cell
 abbrev pub set_cell : Table → Column → ℕ → Row → Value → Result Row Refusal
 set_cell t c i after v =
     if is_null v && c.not_null then Err (column_refusal 1407 t c)
     else elim (too_long t c v) [ Some r ↦ Err r | None ↦ Ok (record { cells = slice_set after.cells i v }) ]
 
+-- one column set to a value, or the refusal of that
 abbrev pub set_value : Table → Option Column → ℕ → Row → Option Value → Result Row Refusal
 set_value t c i after None = Err (dtx 9 [])
 set_value t None i after (Some v) = Ok after
 set_value t (Some c) i after (Some v) = set_cell t c i after v
 
+-- one assignment of an UPDATE, over the row from before
 abbrev pub set_one : Table → Row → Result Row Refusal → Set → Result Row Refusal
 set_one t before (Err r) s = Err r
 set_one t before (Ok after) s = set_value t (column_of t s.column) (unwrap_or (place_of t s.column) 0) after (sum_value t before s.to)
 
+-- all assignments, in the order of the text
 abbrev pub set_all : Table → Row → Result Row Refusal → List Set → Result Row Refusal
 set_all t before r [] = r
 set_all t before r (s ∷ ss) = set_all t before (set_one t before r s) ss
 
+-- a changed row and those behind it, or the first refusal
 abbrev pub and_updated : Table → Value → Result Row Refusal → Result (List Change) Refusal → Result (List Change) Refusal
 and_updated t key (Err r) rest = Err r
 and_updated t key (Ok row) (Err r) = Err r
@@ -308,47 +203,57 @@ abbrev pub updated : Table → List Set → List Keyed → Result (List Change) 
 updated t sets [] = Ok []
 updated t sets (r ∷ rs) = and_updated t r.key (set_all t r.row (Ok r.row) sets) (updated t sets rs)
 
+-- the change that removes a row
 abbrev pub removal : Table → Keyed → Change
 removal t r = record { table = t.name; key = r.key; after = None }
 
+-- the changes of a DELETE
 abbrev pub deleted : Table → List Keyed → List Change
 deleted t rows = map (removal t) rows
 
--- the sum of the values that are not NULL, NULL of none
+-- the total with one value more
 abbrev pub sum_with : Value → Value → Option Value
 sum_with total values.Null = Some total
 sum_with values.Null (values.Number n) = Some (values.Number n)
 sum_with (values.Number m) (values.Number n) = ranged (m +ℤ n)
 sum_with total _ = Some total
 
+-- the sum of values, each partial sum in range
 abbrev pub summed : List Value → Option Value → Option Value
 summed vs None = None
 summed [] (Some total) = Some total
 summed (v ∷ vs) (Some total) = summed vs (sum_with total v)
 
+-- a row of these cells
 abbrev pub row_of : List Value → Row
 row_of cells = record { cells = cells }
 
+-- rows under heads
 abbrev pub row_set : List (List ℕ) → List (List Value) → RowSet
 row_set heads rows = record { heads = heads; rows = map row_of rows }
 
+-- the one row of a SUM
 abbrev pub summed_set : List ℕ → Option Value → Meant
 summed_set name None = Says_no (dtx 9 [])
 summed_set name (Some v) = Gives (row_set (one (codes "SUM(" ++ name ++ codes ")")) (one (one v)))
 
+-- what a SELECT gives of the rows that it found
 abbrev pub picked : Picked → Table → List Keyed → Meant
 picked picks.All t rows = Gives (row_set (map (λ c. c.name) t.columns) (map (λ r. r.row.cells) rows))
 picked picks.Count t rows = Gives (row_set (one (codes "COUNT(*)")) (one (one (values.Number (pos (length rows))))))
 picked (picks.Sum name) t rows = summed_set name (summed (map (λ r. cell t r.row name) rows) (Some values.Null))
 picked (picks.Columns names) t rows = Gives (row_set names (map (λ r. map (cell t r.row) names) rows))
 
+-- changes and their number, or the refusal
 abbrev pub changing : Done → Result (List Change) Refusal → Meant
 changing d (Err r) = Says_no r
 changing d (Ok cs) = Changes d (length cs) cs
 
+-- the change that puts a new row
 abbrev pub insertion : Table → List Value → Change
 insertion t cells = record { table = t.name; key = key_of_row t cells; after = Some (row_of cells) }
 
+-- ORA-00001: the key is there already
 abbrev pub inserting : Table → List Value → Option Row → Meant
 inserting t cells (Some old) = Says_no (ora 1 (one t.name))
 inserting t cells None = Changes dones.Created 1 (one (insertion t cells))
@@ -361,9 +266,11 @@ meant_over (stmts.Delete table cs) t rows = changing dones.Deleted (Ok (deleted 
 meant_over (stmts.Select list table cs for_update) t rows = picked list t (found (stmts.Select list table cs for_update) t rows)
 meant_over _ t rows = Says_no (ora 900 [])
 
+-- a refusal, or else the meaning
 abbrev pub unless : Option Refusal → Meant → Meant
 unless (Some r) m = Says_no r
 unless None m = m
 
+-- what a statement means over a table with these rows
 unfoldable pub meant : Stmt → Table → List Keyed → Meant
 meant s t rows = unless (checked s t) (meant_over s t rows)

@@ -1,9 +1,10 @@
 -- Values and their order, tables as rows in key order, and what changes do to them.
-use Rattle.std.specs.Prelude.{◌≡◌, ℕ, ◌+◌, ◌==◌, ◌&&◌, ◌||◌, not, Bool, true, false, if◌then◌else◌, List, [], ◌∷◌, ◌++◌, map, filter, length, fold, sum_by, Option, Some, None, ℤ, int_lt, int_le}
+use Rattle.std.specs.Prelude.{ℕ, ◌+◌, ◌&&◌, not, Bool, true, false, if◌then◌else◌, List, [], ◌∷◌, map, filter, length, fold, sum_by, Option, Some, None, int_lt}
 use Rattle.node_rules.specs.Data.{Value, Row, Change}
 use Rattle.node_rules.specs.Data.values
 use Rattle.node_rules.specs.Words.{same_text, text_below}
 
+-- whether a value is NULL
 abbrev pub is_null : Value → Bool
 is_null values.Null = true
 is_null (values.Number n) = false
@@ -21,6 +22,7 @@ value_below (values.Text s) values.Null = false
 value_below (values.Text s) (values.Number n) = false
 value_below (values.Text s) (values.Text t) = text_below s t
 
+-- neither value is below the other
 abbrev pub same_value : Value → Value → Bool
 same_value a b = not (value_below a b) && not (value_below b a)
 
@@ -29,16 +31,19 @@ pub record Keyed : Type 0 where
   pub key : Value
   pub row : Row
 
+-- the row at a key
 abbrev pub get : List Keyed → Value → Option Row
 get [] key = None
 get (r ∷ rs) key = if same_value r.key key then Some r.row else get rs key
 
+-- with this row at the key, in key order
 abbrev pub put : List Keyed → Value → Row → List Keyed
 put [] key row = record { key = key; row = row } ∷ []
 put (r ∷ rs) key row =
     if same_value r.key key then record { key = key; row = row } ∷ rs
     else (if value_below key r.key then record { key = key; row = row } ∷ r ∷ rs else r ∷ put rs key row)
 
+-- with no row at the key
 abbrev pub without : List Keyed → Value → List Keyed
 without rows key = filter (λ r. not (same_value r.key key)) rows
 
@@ -47,6 +52,7 @@ abbrev pub set_to : List Keyed → Value → Option Row → List Keyed
 set_to rows key None = without rows key
 set_to rows key (Some row) = put rows key row
 
+-- one change, where it is of this table
 abbrev pub change_one : List ℕ → List Keyed → Change → List Keyed
 change_one table rows c = if same_text c.table table then set_to rows c.key c.after else rows
 
@@ -60,16 +66,20 @@ pub record TableRows : Type 0 where
   pub table : List ℕ
   pub rows : List Keyed
 
+-- the changes of this table's name, to its rows
 abbrev pub apply_to : List Change → TableRows → TableRows
 apply_to cs t = record { table = t.table; rows = apply t.table t.rows cs }
 
+-- the rows of all tables with these changes
 abbrev pub apply_all : List TableRows → List Change → List TableRows
 apply_all tables cs = map (apply_to cs) tables
 
-abbrev pub rows_at : List TableRows → List ℕ → List Keyed
-rows_at [] table = []
-rows_at (t ∷ ts) table = if same_text t.table table then t.rows else rows_at ts table
+-- the rows of the table of a name
+abbrev pub rows_of_table : List TableRows → List ℕ → List Keyed
+rows_of_table [] table = []
+rows_of_table (t ∷ ts) table = if same_text t.table table then t.rows else rows_of_table ts table
 
+-- the keys of rows
 abbrev pub keys_of : List Keyed → List Value
 keys_of rows = map (λ r. r.key) rows
 
@@ -78,27 +88,30 @@ abbrev pub put_key : List Value → Value → List Value
 put_key [] key = key ∷ []
 put_key (k ∷ ks) key = if same_value k key then k ∷ ks else (if value_below key k then key ∷ k ∷ ks else k ∷ put_key ks key)
 
+-- these keys in order, each once
 abbrev pub keys_in_order : List Value → List Value
 keys_in_order ks = fold put_key [] ks
 
--- the bytes of a change
+-- the bytes of a value
 abbrev pub value_length : Value → ℕ
 value_length values.Null = 1
 value_length (values.Number n) = 9
 value_length (values.Text t) = 3 + length t
 
+-- the bytes of a row, or of no row
 abbrev pub row_length : Option Row → ℕ
 row_length None = 1
 row_length (Some r) = 2 + sum_by value_length r.cells
 
+-- the bytes of a change
 abbrev pub change_length : Change → ℕ
 change_length c = 1 + length c.table + value_length c.key + row_length c.after
 
--- the undo of changes: each change with the row from before it
+-- the undo of changes: each change with the row from before it; the rows of now serve, since a changed key stays locked until its branch ends
 abbrev pub undo_of : List TableRows → List Change → List Change
 undo_of rows [] = []
-undo_of rows (c ∷ cs) = record c { after = get (rows_at rows c.table) c.key } ∷ undo_of (apply_all rows (c ∷ [])) cs
+undo_of rows (c ∷ cs) = record c { after = get (rows_of_table rows c.table) c.key } ∷ undo_of (apply_all rows (c ∷ [])) cs
 
--- the extents that so many bytes of undo take
+-- the bytes of the undo
 abbrev pub undo_length : List TableRows → List Change → ℕ
 undo_length rows cs = sum_by change_length (undo_of rows cs)

@@ -1,6 +1,5 @@
 -- Words that all the rules use: equal names, equal branches, the order of both, and lists by what stands in them.
-use Rattle.std.specs.Prelude.{ℕ, ◌+◌, ◌==◌, ◌&&◌, ◌||◌, not, Bool, true, false, if◌then◌else◌, List, [], ◌∷◌, ◌++◌, map, filter, find, is_some, Option, Some, None, nat_lt}
-use Rattle.std.specs.List.{list_any}
+use Rattle.std.specs.Prelude.{ℕ, ◌+◌, ◌==◌, ◌&&◌, ◌||◌, not, Bool, true, false, if◌then◌else◌, List, [], ◌∷◌, map, filter, Option, Some, None, nat_lt}
 use Rattle.node_rules.specs.Data.{BranchId}
 
 -- two texts, byte for byte
@@ -16,9 +15,11 @@ text_below xs [] = false
 text_below [] (y ∷ ys) = true
 text_below (x ∷ xs) (y ∷ ys) = nat_lt x y || ((x == y) && text_below xs ys)
 
+-- two branch ids are equal
 abbrev pub same : BranchId → BranchId → Bool
 same a b = (a.node == b.node) && ((a.boot == b.boot) && ((a.session == b.session) && (a.seq == b.seq)))
 
+-- it is this branch, where it is one
 abbrev pub is_branch : BranchId → Option BranchId → Bool
 is_branch b None = false
 is_branch b (Some c) = same c b
@@ -32,15 +33,23 @@ branch_below a b =
 abbrev pub change_where : {A : Type 0} → (A → Bool) → (A → A) → List A → List A
 change_where p f xs = map (λ x. if p x then f x else x) xs
 
+-- the items that do not pass
 abbrev pub drop_where : {A : Type 0} → (A → Bool) → List A → List A
 drop_where p xs = filter (λ x. not (p x)) xs
 
+-- a list of one item
 abbrev pub one : {A : Type 0} → A → List A
 one x = x ∷ []
 
--- the greatest, none of no numbers; the first of equals
+-- the greatest number and the place where it stands first, of those from place i on, and of the best before them
 abbrev pub place_of_greatest : ℕ → List (Option ℕ) → Option (ℕ × ℕ) → Option (ℕ × ℕ)
 place_of_greatest i [] best = best
 place_of_greatest i (None ∷ ws) best = place_of_greatest (i + 1) ws best
 place_of_greatest i (Some w ∷ ws) None = place_of_greatest (i + 1) ws (Some (w, i))
 place_of_greatest i (Some w ∷ ws) (Some b) = place_of_greatest (i + 1) ws (if nat_lt b.0 w then Some (w, i) else Some b)
+
+-- the first that there is
+abbrev pub first_some : {A : Type 0} → List (Option A) → Option A
+first_some [] = None
+first_some (Some x ∷ xs) = Some x
+first_some (None ∷ xs) = first_some xs

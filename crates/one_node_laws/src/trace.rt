@@ -4,8 +4,8 @@ ghost use Rattle.one_node_book.specs.Book.{entries_in, book_of};
 ghost use Rattle.one_node_laws.specs.Past.{start, past, past_of, next};
 ghost use Rattle.one_node_laws.specs.Lawful.{MayHappen, IsLawful, IsLawfulRun};
 
-use one_node_book::{Book, Entry, Happening, Happenings, entries};
 use dtx_values::Listing;
+use one_node_book::{Book, Entry, Happening, Happenings, entries};
 use one_node_script::{Command, Commands};
 use std::alloc::{AllocError, Global};
 use std::marker::Model;

@@ -1,16 +1,22 @@
 -- No happening changes the book but by the entries of its record.
-use Rattle.std.proofs.Common.{◌≡◌, ℕ, ◌+◌, ◌==◌, ◌&&◌, Bool, true, false, if◌then◌else◌, List, [], ◌∷◌, ◌++◌, flat_map, Option, Some, None, refl, sym, ◌∙◌, ap, append-nil, append_assoc}
+use Rattle.std.proofs.Common.{◌≡◌, ℕ, ◌==◌, ◌&&◌, Bool, true, false, if◌then◌else◌, List, [], ◌∷◌, ◌++◌, flat_map, Option, Some, None, refl, sym, ◌∙◌, ap, append-nil, append_assoc}
 use Rattle.std.specs.Option.{option_to_list}
-use Rattle.run_laws.specs.Data.{Stmt, Finished, Input, Took, RedoRecord, BranchId, Msg, Entry, Happening, Said, Command}
+use Rattle.run_laws.specs.Data.{Stmt, Input, Took, BranchId, Msg, Entry, Happening, Said, Command}
 use Rattle.run_laws.specs.Data.inputs
 use Rattle.run_laws.specs.Data.happenings
 use Rattle.run_laws.specs.Data.commands
-use Rattle.run_laws.specs.Net.{cut_over, stopped}
-use Rattle.node_rules.specs.Kept.{Kept, Outcome}
+use Rattle.node_rules.specs.Kept.{Kept, Finished, Outcome}
 use Rattle.node_rules.specs.Turn.{turn_of}
-use Rattle.run_laws.specs.Past.{Past, Out, past, next, book_of, entry_of, entries_in, begins, command_at, orders_at_once, finished, finished_out, out_at, out_ends, call_ends, call_line, fallen, waits, waits_if_out, after_input, taken, without_following, entered, with_record_at, sends, with_node, turned, turns, tells_loss, loses, stop_line, stops, place_at, node_at, node_name, without_out, refuses_with, with_own, appends, turn_appends, start_appends, is_start, call_line_of, reached_line, is_reached, appends_if, cut_appends, Cut_by, By_nothing, By_strike, By_point, cut_by, arms_point, arms}
+use Rattle.run_laws.specs.Past.{Past, Out, command_at, with_record_at, with_node, place_at, node_at, node_name}
+use Rattle.run_laws.specs.Next.{past, next, taken, without_following, entered, sends, turned, turns, tells_loss, stop_line, stops, start_appends, is_start}
+use Rattle.run_laws.specs.Entries.{book_of, entry_of, entries_in}
+use Rattle.run_laws.specs.Commands.{orders_at_once}
+use Rattle.run_laws.specs.Calls_out.{finished, finished_out, out_at, out_ends, call_ends, fallen, waits, waits_if_out, after_input, without_out}
+use Rattle.run_laws.specs.Lines.{call_line, refuses_with, with_own, call_line_of, reached_line, is_reached}
+use Rattle.run_laws.specs.Cuts.{appends, turn_appends, appends_if, cut_appends, Cut_by, By_nothing, By_strike, By_point, cut_by, arms_point, arms}
 use Rattle.node_rules.specs.Points.{Point, point_of}
 use Rattle.node_rules.specs.Ids.{decimal}
+use Rattle.node_rules.specs.Refusals.{ora, dtx}
 use Rattle.node_rules.specs.Kept.{session_at}
 use Rattle.run_laws.specs.Data.stmts
 use Rattle.std.specs.Prelude.{find, is_some}
@@ -35,13 +41,13 @@ line-one-book p c s = if-book _ _ _ p.book refl refl
 
 pub reached-book : (p : Past) (c : ℕ) (x : Option Point) → (reached_line p c x).book ≡ p.book
 reached-book p c None = refl
-reached-book p c (Some x) = line-one-book p c (refuses_with 2059 (one (decimal x.number)))
+reached-book p c (Some x) = line-one-book p c (refuses_with (ora 2059 (one (decimal x.number))))
 
 pub line-book : (p : Past) (c : ℕ) (s : Said) → (call_line p c s).book ≡ p.book
 line-book p c s = reached-book (call_line_of p c s) c (find (is_reached c) p.points) ∙ line-one-book p c s
 
 pub ends-book : (p : Past) (o : Out) (f : Finished) → (call_ends p o f).book ≡ p.book
-ends-book p o f = line-book (without_out p o.node o.session) o.command (said.Node f)
+ends-book p o f = line-book (without_out p o.node o.session) o.command (said.Node f.answer)
 
 pub out-book : (p : Past) (o : Out) (f : Finished) (s : Option Stmt) → (out_ends p o f s).book ≡ p.book
 out-book p o f None = ends-book p o f
@@ -59,12 +65,12 @@ pub fallen-book : (p : Past) (n : ℕ) (os : List Out) → (fallen p n os).book 
 fallen-book p n [] = refl
 fallen-book p n (o ∷ os) =
     if-book (o.node == n) _ _ p.book
-    (fallen-book (call_line (without_out p o.node o.session) o.command (refuses_with 60001 (one (node_name p n)))) n os
-    ∙ line-book (without_out p o.node o.session) o.command (refuses_with 60001 (one (node_name p n))))
+    (fallen-book (call_line (without_out p o.node o.session) o.command (refuses_with (dtx 1 (one (node_name p n))))) n os
+    ∙ line-book (without_out p o.node o.session) o.command (refuses_with (dtx 1 (one (node_name p n)))))
     (fallen-book p n os)
 
 pub waiting-book : (p : Past) (o : Out) → (waits p o).book ≡ p.book
-waiting-book p o = if-book (p.hold && is_none p.following) (with_own p (one (said.World notices.Waiting))) p p.book refl refl
+waiting-book p o = if-book (p.hold && is_none p.next_call) (with_own p (one (said.World notices.Waiting))) p p.book refl refl
 
 pub waits-book : (p : Past) (o : Option Out) → (waits_if_out p o).book ≡ p.book
 waits-book p None = refl
@@ -103,10 +109,10 @@ appends-book p n input (Some k) =
     ∙ cut-book p n (is_some (turn_of (place_at p n) k input).wrote) (cut_by p n k input (turn_of (place_at p n) k input))
 
 pub start-book : (p : Past) (n : ℕ) → (start_appends p n).book ≡ p.book
-start-book p n = if-book (is_start (command_at p p.command) && is_none p.falling) (appends p n 3) p p.book refl refl
+start-book p n = if-book (is_start (command_at p p.command) && is_none p.node_to_stop) (appends p n 3) p p.book refl refl
 
-pub following-book : (p : Past) (input : Input) → (without_following p input).book ≡ p.book
-following-book p input = if-book _ _ _ p.book refl refl
+pub next_call-book : (p : Past) (input : Input) → (without_following p input).book ≡ p.book
+next_call-book p input = if-book _ _ _ p.book refl refl
 
 pub turned-book : (p : Past) (node : ℕ) (input : Input) (o : Outcome) (sent : List Msg) → (turned p node input o sent).book ≡ p.book
 turned-book p node input o sent =
@@ -122,8 +128,8 @@ loss-book p k [] = refl
 loss-book p k (j ∷ js) = refl
 
 pub stop-book : (p : Past) (n : ℕ) (c : Command) → (stop_line p n c).book ≡ p.book
-stop-book p n (commands.Stop m) = refl
-stop-book p n (commands.Start m) = refl
+stop-book p n (commands.Stop m) = if-book (m == n) p _ p.book refl refl
+stop-book p n (commands.Start m) = if-book (m == n) _ p p.book refl refl
 stop-book p n _ = refl
 
 pub stops-book : (p : Past) (n : ℕ) → (stops p n).book ≡ p.book
@@ -133,12 +139,12 @@ stops-book p n = stop-book _ n (command_at p p.command) ∙ (fallen-book _ n p.o
 pub next-book : (p : Past) (h : Happening) → (next p h).book ≡ p.book ++ entries_in h
 unfolding next
 next-book p (happenings.Begun c) = orders-book _ c (command_at p c) ∙ sym (append-nil p.book)
-next-book p (happenings.Turn node input took wrote sent cut) =
-    turns-book _ node input (node_at p node) sent cut
-    ∙ (following-book _ input ∙ (taken-book _ took ∙ appends-book (entered (with_record_at p node wrote) (flat_map (entry_of node) (option_to_list wrote))) node input (node_at p node)))
+next-book p (happenings.Turn t) =
+    turns-book _ t.node t.input (node_at p t.node) t.sent t.cut
+    ∙ (next_call-book _ t.input ∙ (taken-book _ t.took ∙ appends-book (entered (with_record_at p t.node t.wrote) (flat_map (entry_of t.node) (option_to_list t.wrote))) t.node t.input (node_at p t.node)))
 next-book p (happenings.Cut a b) = sym (append-nil p.book)
 next-book p (happenings.Join a b) = sym (append-nil p.book)
-next-book p (happenings.Lost k) = loss-book p k p.untold ∙ sym (append-nil p.book)
+next-book p (happenings.Lost k) = loss-book p k p.losses_to_tell ∙ sym (append-nil p.book)
 next-book p (happenings.Stopped n) = stops-book p n ∙ sym (append-nil p.book)
 next-book p (happenings.Started n boot) = sym (append-nil p.book)
 

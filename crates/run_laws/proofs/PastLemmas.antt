@@ -1,7 +1,8 @@
 -- The fold over a trace, and lawfulness, one happening further.
-use Rattle.std.proofs.Common.{◌≡◌, ℕ, List, [], ◌∷◌, ◌++◌, refl}
+use Rattle.std.proofs.Common.{◌≡◌, List, [], ◌∷◌, ◌++◌, refl}
 use Rattle.run_laws.specs.Data.{Happening}
-use Rattle.run_laws.specs.Past.{Past, past, next}
+use Rattle.run_laws.specs.Past.{Past}
+use Rattle.run_laws.specs.Next.{past, next}
 use Rattle.run_laws.specs.Lawful.{IsLawful, MayHappen}
 
 pub past-on : (p : Past) (before hs : List Happening) → past p (before ++ hs) ≡ past (past p before) hs

@@ -1,8 +1,8 @@
 -- The book in the subject's words: the rows that its committed transactions leave, who is in doubt, and what every
 -- entry needs of those before it.
-use Rattle.std.specs.Prelude.{◌≡◌, ℕ, ◌+◌, ◌<◌, ◌==◌, ◌&&◌, ◌||◌, not, Bool, true, false, if◌then◌else◌, List, [], ◌∷◌, ◌++◌, map, filter, flat_map, slice_get, IsTrue, Option, Some, None}
-use Rattle.std.specs.List.{list_any, list_all}
-use Rattle.run_laws.specs.Data.{Value, Change, BranchId, Decision, Entry}
+use Rattle.std.specs.Prelude.{◌≡◌, ℕ, ◌<◌, ◌==◌, ◌&&◌, not, Bool, true, false, if◌then◌else◌, List, [], ◌∷◌, ◌++◌, flat_map, slice_get, IsTrue, Option, Some, None}
+use Rattle.std.specs.List.{list_any}
+use Rattle.run_laws.specs.Data.{Change, BranchId, Decision, Entry}
 use Rattle.run_laws.specs.Data.decisions
 use Rattle.run_laws.specs.Data.entries
 use Rattle.node_rules.specs.Words.{same, same_text, one}
@@ -13,10 +13,12 @@ abbrev pub is_sealed_of : BranchId → Entry → Bool
 is_sealed_of b (entries.Sealed c g cs n) = same c b
 is_sealed_of b _ = false
 
+-- whether an entry is the Decided of this branch
 abbrev pub is_decided_of : BranchId → Entry → Bool
 is_decided_of b (entries.Decided c g cs n) = same c b
 is_decided_of b _ = false
 
+-- whether it is its Forced
 abbrev pub is_forced_of : BranchId → Entry → Bool
 is_forced_of b (entries.Forced c o) = same c b
 is_forced_of b _ = false
@@ -27,10 +29,12 @@ is_end_of b (entries.Ended c d) = same c b
 is_end_of b (entries.Forced c o) = same c b
 is_end_of b _ = false
 
+-- whether it is its Met
 abbrev pub is_met_of : BranchId → Entry → Bool
 is_met_of b (entries.Met c d mixed) = same c b
 is_met_of b _ = false
 
+-- whether such an entry stands in a book
 abbrev pub stands : (Entry → Bool) → List Entry → Bool
 stands f book = list_any f book
 
@@ -40,6 +44,7 @@ changes_in b (entries.Sealed c g cs n) = if same c b then cs else []
 changes_in b (entries.Decided c g cs n) = if same c b then cs else []
 changes_in b _ = []
 
+-- the changes of a branch, by the book
 abbrev pub changes_of : List Entry → BranchId → List Change
 changes_of book b = flat_map (changes_in b) book
 
@@ -47,11 +52,13 @@ changes_of book b = flat_map (changes_in b) book
 abbrev pub unforced_at : List Entry → ℕ → BranchId → BranchId → BranchId → List Change → List Change
 unforced_at book n g b h cs = if same h g && ((b.node == n) && not (stands (is_forced_of b) book)) then cs else []
 
+-- what an entry has of a transaction's changes at a node
 abbrev pub transaction_in : List Entry → ℕ → BranchId → Entry → List Change
 transaction_in book n g (entries.Sealed b h cs scn) = unforced_at book n g b h cs
 transaction_in book n g (entries.Decided b h cs scn) = unforced_at book n g b h cs
 transaction_in book n g _ = []
 
+-- the changes that a transaction's decision commits at a node
 abbrev pub transaction_at : List Entry → ℕ → BranchId → List Change
 transaction_at book n g = flat_map (transaction_in book n g) book
 
@@ -70,6 +77,7 @@ abbrev pub doubt_in : List Entry → ℕ → Entry → List BranchId
 doubt_in book n (entries.Sealed b g cs scn) = if (b.node == n) && not (stands (is_end_of b) book) then one b else []
 doubt_in book n _ = []
 
+-- the branches of a node that are sealed and neither ended nor forced
 unfoldable pub in_doubt : List Entry → ℕ → List BranchId
 in_doubt book n = flat_map (doubt_in book n) book
 
@@ -78,9 +86,16 @@ abbrev pub is_decision_on : BranchId → Entry → Bool
 is_decision_on g (entries.Decided b h cs n) = same h g
 is_decision_on g _ = false
 
+-- whether an entry decides this transaction at this SCN
 abbrev pub is_decision_at : BranchId → ℕ → Entry → Bool
 is_decision_at g n (entries.Decided b h cs m) = same h g && (m == n)
 is_decision_at g n _ = false
+
+-- the SCN at which a book commits a transaction, none where it does not
+abbrev pub decided : List Entry → BranchId → Option ℕ
+decided [] g = None
+decided (entries.Decided b h cs n ∷ es) g = if same h g then Some n else decided es g
+decided (_ ∷ es) g = decided es g
 
 -- the transaction of a sealed branch
 abbrev pub global_in : BranchId → List Entry → Option BranchId
@@ -93,6 +108,7 @@ abbrev pub is_of : Option BranchId → BranchId → Bool
 is_of None g = false
 is_of (Some h) g = same h g
 
+-- whether a branch of this transaction learned a rollback by this entry
 abbrev pub is_rollback_of : List Entry → BranchId → Entry → Bool
 is_rollback_of book g (entries.Ended b decisions.Rollback) = is_of (global_in b book) g
 is_rollback_of book g (entries.Met b decisions.Rollback mixed) = is_of (global_in b book) g
@@ -122,6 +138,7 @@ abbrev pub EachAgainst : (List Entry → Entry → Type 0) → List Entry → Li
 EachAgainst P older [] = Unit {0}
 EachAgainst P older (e ∷ es) = P older e × EachAgainst P (older ++ e ∷ []) es
 
+-- each entry agrees with those before it
 abbrev pub Agreement : List Entry → Type 0
 Agreement book = EachAgainst Follows [] book
 
@@ -138,10 +155,12 @@ differ (decisions.Commit m) decisions.Rollback = true
 differ decisions.Rollback (decisions.Commit n) = true
 differ decisions.Rollback decisions.Rollback = false
 
+-- a Met is marked mixed exactly where the forced outcome and the decision differ
 abbrev pub Marks : List Entry → Entry → Type 0
 Marks older (entries.Met b d mixed) = (o : Decision) × ((forced_in b older ≡ Some o) × (mixed ≡ differ o d))
 Marks older _ = Unit {0}
 
+-- every Met of a book is marked so
 abbrev pub MixedIsMarked : List Entry → Type 0
 MixedIsMarked book = EachAgainst Marks [] book
 
@@ -153,6 +172,7 @@ At book i e = slice_get book i ≡ Some e
 abbrev pub is_key_in : List Change → Change → Bool
 is_key_in cs c = list_any (λ d. same_text d.table c.table && same_value d.key c.key) cs
 
+-- whether two lists of changes have a key in common
 abbrev pub share_a_key : List Change → List Change → Bool
 share_a_key cs ds = list_any (is_key_in cs) ds
 

@@ -68,6 +68,7 @@ pub use Rattle.net_bag.specs.declared.packet.Packet.{Packet}
 pub use Rattle.book.specs.declared.entry.Entry.{Entry}
 pub use Rattle.book.specs.declared.entry.Entry.TheVariants as entries
 pub use Rattle.book.specs.declared.happening.Took.{Took}
+pub use Rattle.book.specs.declared.happening.Turn.{Turn}
 pub use Rattle.book.specs.declared.happening.Happening.{Happening}
 pub use Rattle.book.specs.declared.happening.Happening.TheVariants as happenings
 pub use Rattle.book.specs.declared.line.Said.{Said}

@@ -1,8 +1,8 @@
 -- The messages of a run with their fates, the pairs that are cut, the nodes that are down, and the orders to lose.
 -- Messages are numbered from 1 on, in the order of sending.
-use Rattle.std.specs.Prelude.{◌≡◌, ℕ, ◌+◌, ◌-◌, ◌==◌, ◌&&◌, ◌||◌, not, Bool, true, false, if◌then◌else◌, List, [], ◌∷◌, ◌++◌, map, filter, length, position, option_map, slice_get, slice_set, nat_lt, unwrap_or, Option, Some, None}
+use Rattle.std.specs.Prelude.{ℕ, ◌+◌, ◌-◌, ◌==◌, ◌&&◌, ◌||◌, not, Bool, true, false, if◌then◌else◌, List, [], ◌∷◌, ◌++◌, map, filter, position, option_map, slice_get, slice_set, Option, Some, None}
 use Rattle.std.specs.List.{list_any}
-use Rattle.run_laws.specs.Data.{BranchId, Kind, KindName, Msg, Fate, Packet}
+use Rattle.run_laws.specs.Data.{Kind, KindName, Msg, Fate, Packet}
 use Rattle.run_laws.specs.Data.kinds
 use Rattle.run_laws.specs.Data.kind_names
 use Rattle.run_laws.specs.Data.fates
@@ -13,12 +13,14 @@ pub record Order : Type 0 where
   pub from : ℕ
   pub to : ℕ
 
+-- The network: every message that was sent, with its fate; the pairs that are cut; the nodes that are down; the orders to lose.
 pub record Net : Type 0 where
   pub packets : List Packet
   pub cuts : List (ℕ × ℕ)
   pub down : List ℕ
   pub orders : List Order
 
+-- before any message
 abbrev pub still : Net
 still = record { packets = []; cuts = []; down = []; orders = [] }
 
@@ -62,15 +64,19 @@ place_of_kind kind_names.Forgotten = 15
 place_of_kind kind_names.Rollback = 16
 place_of_kind kind_names.Ask = 17
 
+-- whether two kinds are the same
 abbrev pub same_kind : KindName → KindName → Bool
 same_kind a b = place_of_kind a == place_of_kind b
 
+-- whether these are the two nodes of a pair
 abbrev pub is_pair : ℕ → ℕ → ℕ × ℕ → Bool
 is_pair a b pair = ((pair.0 == a) && (pair.1 == b)) || ((pair.0 == b) && (pair.1 == a))
 
+-- whether the pair of two nodes is cut
 abbrev pub is_cut : Net → ℕ → ℕ → Bool
 is_cut net a b = list_any (is_pair a b) net.cuts
 
+-- whether a node is down
 abbrev pub is_down : Net → ℕ → Bool
 is_down net n = list_any (λ m. m == n) net.down
 
@@ -78,6 +84,7 @@ is_down net n = list_any (λ m. m == n) net.down
 abbrev pub is_blocked : Net → Msg → Bool
 is_blocked net m = is_cut net m.from.node m.to.node || is_down net m.to.node
 
+-- whether an order fits a message
 abbrev pub is_order_for : Msg → Order → Bool
 is_order_for m o = same_kind o.kind (name_of_kind m.kind) && ((o.from == m.from.node) && (o.to == m.to.node))
 
@@ -86,9 +93,11 @@ abbrev pub use_order : Msg → List Order → List Order
 use_order m [] = []
 use_order m (o ∷ os) = if is_order_for m o then os else o ∷ use_order m os
 
+-- a message with its fate
 abbrev pub packet : Msg → Fate → Packet
 packet m fate = record { msg = m; fate = fate }
 
+-- with one more message
 abbrev pub add_packet : Net → Packet → Net
 add_packet net x = record net { packets = net.packets ++ x ∷ [] }
 
@@ -99,47 +108,60 @@ sent_one net m =
     else (if list_any (is_order_for m) net.orders then add_packet (record net { orders = use_order m net.orders }) (packet m fates.Lost)
     else add_packet net (packet m fates.InFlight))
 
+-- these messages are sent, in order
 unfoldable pub sent_on : Net → List Msg → Net
 sent_on net [] = net
 sent_on net (m ∷ ms) = sent_on (sent_one net m) ms
 
+-- whether a message is in flight
 abbrev pub flies : Packet → Bool
 flies x = is_flying x.fate where
   is_flying : Fate → Bool
   is_flying fates.InFlight = true
   is_flying _ = false
 
+-- the message of this number, from 1
 abbrev pub packet_at : Net → ℕ → Option Packet
 packet_at net k = if k == 0 then None else slice_get net.packets (k - 1)
 
+-- a message in flight meets its fate
 abbrev pub fated : Fate → Packet → Packet
 fated fate x = if flies x then packet x.msg fate else x
 
+-- the message of this number meets its fate, where it is in flight
 abbrev pub fate_on : Net → ℕ → Fate → Option Packet → Net
 fate_on net k fate None = net
 fate_on net k fate (Some x) = record net { packets = slice_set net.packets (k - 1) (fated fate x) }
 
+-- message k is delivered
 unfoldable pub delivered : Net → ℕ → Net
 delivered net k = fate_on net k fates.Delivered (packet_at net k)
 
+-- message k is lost
 unfoldable pub lost : Net → ℕ → Net
 lost net k = fate_on net k fates.Lost (packet_at net k)
 
+-- a message in flight over a pair is lost
 abbrev pub lost_over : ℕ → ℕ → Packet → Packet
 lost_over a b x = if is_pair a b (x.msg.from.node, x.msg.to.node) then fated fates.Lost x else x
 
+-- a pair is cut, and what is in flight over it is lost
 unfoldable pub cut_over : Net → ℕ → ℕ → Net
 cut_over net a b = record net { packets = map (lost_over a b) net.packets; cuts = (a, b) ∷ net.cuts }
 
+-- a pair is joined
 unfoldable pub joined : Net → ℕ → ℕ → Net
 joined net a b = record net { cuts = filter (λ pair. not (is_pair a b pair)) net.cuts }
 
+-- a message in flight to a node is lost
 abbrev pub lost_to : ℕ → Packet → Packet
 lost_to n x = if x.msg.to.node == n then fated fates.Lost x else x
 
+-- a node is down, and what is in flight to it is lost
 unfoldable pub stopped : Net → ℕ → Net
 stopped net n = record net { packets = map (lost_to n) net.packets; down = n ∷ net.down }
 
+-- a node is up
 unfoldable pub started : Net → ℕ → Net
 started net n = record net { down = filter (λ m. not (m == n)) net.down }
 
@@ -147,13 +169,16 @@ started net n = record net { down = filter (λ m. not (m == n)) net.down }
 abbrev pub first_flying : Net → Option ℕ
 first_flying net = option_map (λ i. i + 1) (position flies net.packets)
 
+-- whether there is such a message and it is in flight
 abbrev pub is_flying_at : Option Packet → Bool
 is_flying_at None = false
 is_flying_at (Some x) = flies x
 
+-- DELIVER and LOSE take messages in flight
 abbrev pub may_deliver : Net → ℕ → Bool
 may_deliver net k = is_flying_at (packet_at net k)
 
+-- whether a message could pass now
 abbrev pub may_pass : Net → Option Packet → Bool
 may_pass net None = false
 may_pass net (Some x) = not (is_blocked net x.msg)
@@ -162,13 +187,14 @@ may_pass net (Some x) = not (is_blocked net x.msg)
 abbrev pub may_repeat : Net → ℕ → Bool
 may_repeat net k = may_pass net (packet_at net k)
 
--- the messages that are lost now and were in flight, or were not sent yet
+-- whether a message is lost
 abbrev pub is_lost : Packet → Bool
 is_lost x = is_lost_fate x.fate where
   is_lost_fate : Fate → Bool
   is_lost_fate fates.Lost = true
   is_lost_fate _ = false
 
+-- the numbers of the messages that are lost now and were not lost before
 abbrev pub newly_lost : ℕ → List Packet → List Packet → List ℕ
 newly_lost k before [] = []
 newly_lost k [] (y ∷ ys) = if is_lost y then k ∷ newly_lost (k + 1) [] ys else newly_lost (k + 1) [] ys

@@ -1,5 +1,5 @@
 -- The printed lines of the answers of a run.
-use Rattle.std.specs.Prelude.{ℕ, ◌+◌, ◌-◌, ◌==◌, Bool, true, false, if◌then◌else◌, List, [], ◌∷◌, ◌++◌, map, flat_map, length, slice_get, unwrap_or, nat_lt, codes, Option, Some, None, ℤ, pos, negsuc}
+use Rattle.std.specs.Prelude.{ℕ, ◌+◌, ◌-◌, ◌==◌, if◌then◌else◌, List, [], ◌∷◌, ◌++◌, map, flat_map, slice_get, unwrap_or, nat_lt, codes, ℤ, pos, negsuc}
 use Rattle.run_laws.specs.Data.{Value, Row, RowSet, Refusal, Done, Answer, Notice, Said, AnswerLine}
 use Rattle.run_laws.specs.Data.values
 use Rattle.run_laws.specs.Data.dones
@@ -10,6 +10,7 @@ use Rattle.node_rules.specs.Words.{one}
 use Rattle.node_rules.specs.Ids.{decimal}
 use Rattle.node_rules.specs.Views.{bars, view_lines}
 
+-- a number with its sign
 abbrev pub number_text : ℤ → List ℕ
 number_text (pos n) = decimal n
 number_text (negsuc n) = codes "-" ++ decimal (n + 1)
@@ -19,20 +20,25 @@ abbrev pub quoted : List ℕ → List ℕ
 quoted [] = []
 quoted (c ∷ cs) = (if c == 39 then 39 ∷ 39 ∷ [] else c ∷ []) ++ quoted cs
 
+-- a value as it stands in a statement
 abbrev pub value_text : Value → List ℕ
 value_text values.Null = codes "NULL"
 value_text (values.Number n) = number_text n
 value_text (values.Text t) = codes "'" ++ quoted t ++ codes "'"
 
+-- a row, its cells joined by bars
 abbrev pub row_text : Row → List ℕ
 row_text r = bars (map value_text r.cells)
 
+-- what a query found
 abbrev pub rows_text : RowSet → List (List ℕ)
 rows_text s = view_lines (bars s.heads) (map row_text s.rows)
 
+-- so many rows
 abbrev pub counted : ℕ → List ℕ → List ℕ
 counted n word = decimal n ++ (if n == 1 then codes " row " else codes " rows ") ++ word
 
+-- what was done
 abbrev pub done_text : Done → ℕ → List ℕ
 done_text dones.Created n = counted n (codes "created.")
 done_text dones.Updated n = counted n (codes "updated.")
@@ -50,22 +56,24 @@ done_text dones.Purged n = codes "PL/SQL procedure successfully completed."
 abbrev pub arg : Refusal → ℕ → List ℕ
 arg r i = unwrap_or (slice_get r.args i) []
 
+-- a column by schema, table and name
 abbrev pub column_text : Refusal → List ℕ
 column_text r = codes "\"APP\".\"" ++ arg r 0 ++ codes "\".\"" ++ arg r 1 ++ codes "\""
 
-abbrev pub digit_at : ℕ → ℕ → List ℕ
-digit_at width n = if nat_lt n 10 then codes "0" else []
-
+-- the zeros in front of a code of five digits
 abbrev pub zeros : ℕ → List ℕ
 zeros n = if nat_lt n 10 then codes "0000" else (if nat_lt n 100 then codes "000" else (if nat_lt n 1000 then codes "00" else (if nat_lt n 10000 then codes "0" else [])))
 
+-- the code of a refusal: above 60,000 it is one of dtx's own
 abbrev pub code_text : ℕ → List ℕ
 code_text n = if nat_lt 60000 n then codes "DTX-" ++ (if nat_lt (n - 60000) 10 then codes "0" else []) ++ decimal (n - 60000) else codes "ORA-" ++ zeros n ++ decimal n
 
+-- the text of this code
 abbrev pub pick : ℕ → List (ℕ × List ℕ) → List ℕ
 pick n [] = []
 pick n (p ∷ ps) = if p.0 == n then p.1 else pick n ps
 
+-- the text behind each code
 abbrev pub reason : Refusal → List ℕ
 reason r = pick r.code (
     (1, codes "unique constraint (APP." ++ arg r 0 ++ codes "_PK) violated")
@@ -108,29 +116,36 @@ reason r = pick r.code (
     ∷ (60016, codes "changes of one branch too large")
     ∷ [])
 
+-- a refusal
 abbrev pub refusal_text : Refusal → List ℕ
 refusal_text r = code_text r.code ++ codes ": " ++ reason r
 
+-- the lines of a node's answer
 abbrev pub answer_text : Answer → List (List ℕ)
 answer_text (answers.Did d n) = one (done_text d n)
 answer_text (answers.Found rows) = rows_text rows
 answer_text (answers.Refused r) = one (refusal_text r)
 
+-- the lines of what the world says
 abbrev pub notice_text : Notice → List (List ℕ)
 notice_text notices.Fine = one (codes "ok")
 notice_text notices.Waiting = one (codes "waiting")
 notice_text (notices.Refused r) = one (refusal_text r)
 notice_text (notices.Shown lines) = lines
 
+-- the lines of what is said
 abbrev pub said_text : Said → List (List ℕ)
 said_text (said.Node answer) = answer_text answer
 said_text (said.World n) = notice_text n
 
+-- a line behind its command's number
 abbrev pub numbered : ℕ → List ℕ → List ℕ
 numbered command text = decimal command ++ codes " " ++ text
 
+-- the lines of an answer, each numbered
 abbrev pub line_text : AnswerLine → List (List ℕ)
 line_text l = map (numbered l.command) (said_text l.said)
 
+-- all lines of a report
 unfoldable pub report : List AnswerLine → List (List ℕ)
 report ls = flat_map line_text ls

@@ -1,9 +1,8 @@
 -- What SHOW prints: the views, the book, and the messages in flight.
-use Rattle.std.specs.Prelude.{ℕ, ◌+◌, ◌-◌, ◌==◌, ◌&&◌, not, Bool, true, false, if◌then◌else◌, List, [], ◌∷◌, ◌++◌, map, length, slice_get, unwrap_or, codes, Option, Some, None}
-use Rattle.run_laws.specs.Data.{BranchId, Decision, Place, Entry, Packet, Kind, KindName, Command}
+use Rattle.std.specs.Prelude.{ℕ, ◌+◌, ◌-◌, if◌then◌else◌, List, [], ◌∷◌, ◌++◌, map, length, slice_get, codes, Option, Some}
+use Rattle.run_laws.specs.Data.{BranchId, Decision, Place, Entry, Packet, KindName, Command}
 use Rattle.run_laws.specs.Data.decisions
 use Rattle.run_laws.specs.Data.entries
-use Rattle.run_laws.specs.Data.kinds
 use Rattle.run_laws.specs.Data.kind_names
 use Rattle.run_laws.specs.Data.commands
 use Rattle.node_rules.specs.Words.{one}
@@ -12,16 +11,20 @@ use Rattle.node_rules.specs.Kept.{Kept}
 use Rattle.node_rules.specs.Views.{view_lines, pending_text, pending_rows, neighbor_text, neighbor_rows}
 use Rattle.run_laws.specs.Net.{Net, flies, name_of_kind}
 
+-- an outcome in the book
 abbrev pub decision_text : Decision → List ℕ
 decision_text (decisions.Commit n) = codes " commit scn " ++ decimal n
 decision_text decisions.Rollback = codes " rollback"
 
+-- a branch in the book, by its node's name and its local id
 abbrev pub branch_text : List (List ℕ) → BranchId → List ℕ
 branch_text names b = name_of names b.node ++ codes " " ++ local_text b
 
+-- a sealed or decided branch in the book
 abbrev pub changes_text : List (List ℕ) → BranchId → BranchId → ℕ → ℕ → List ℕ
 changes_text names b g scn n = branch_text names b ++ codes " " ++ global_text names g ++ codes " scn " ++ decimal scn ++ codes " changes " ++ decimal n
 
+-- an entry of the book
 abbrev pub entry_text : List (List ℕ) → Entry → List ℕ
 entry_text names (entries.Made n t) = codes "made " ++ name_of names n ++ codes " " ++ t.name
 entry_text names (entries.Sealed b g cs scn) = codes "sealed " ++ changes_text names b g scn (length cs)
@@ -30,26 +33,31 @@ entry_text names (entries.Ended b d) = codes "ended " ++ branch_text names b ++ 
 entry_text names (entries.Forced b d) = codes "forced " ++ branch_text names b ++ decision_text d
 entry_text names (entries.Met b d mixed) = codes "met " ++ branch_text names b ++ decision_text d ++ (if mixed then codes " mixed yes" else codes " mixed no")
 
+-- the book, a line for each entry
 unfoldable pub book_lines : List (List ℕ) → List Entry → List (List ℕ)
 book_lines names es = map (entry_text names) es
 
+-- a line that says so, where there is none
 abbrev pub or_none : List ℕ → List (List ℕ) → List (List ℕ)
 or_none none [] = one none
 or_none none (x ∷ xs) = x ∷ xs
 
+-- the names of the nodes
 abbrev pub names_in : List Place → List (List ℕ)
 names_in [] = []
 names_in (p ∷ ps) = p.names
 
+-- SHOW PENDING
 abbrev pub shown_pending : List (List ℕ) → Option (Option Kept) → List (List ℕ)
 shown_pending names (Some (Some k)) = view_lines (codes "LOCAL_TRAN_ID|GLOBAL_TRAN_ID|STATE|MIXED|ADVICE|TRAN_COMMENT|COMMIT#") (map (pending_text names) (pending_rows k))
 shown_pending names _ = []
 
+-- SHOW NEIGHBORS
 abbrev pub shown_neighbors : List (List ℕ) → Option (Option Kept) → List (List ℕ)
 shown_neighbors names (Some (Some k)) = view_lines (codes "LOCAL_TRAN_ID|IN_OUT|DATABASE|DBUSER_OWNER|INTERFACE") (map neighbor_text (neighbor_rows names k))
 shown_neighbors names _ = []
 
--- the messages in flight, by number
+-- a kind of messages as it is printed
 abbrev pub kind_text : KindName → List ℕ
 kind_text kind_names.Open = codes "OPEN"
 kind_text kind_names.Opened = codes "OPENED"
@@ -69,14 +77,16 @@ kind_text kind_names.Forgotten = codes "FORGOTTEN"
 kind_text kind_names.Rollback = codes "ROLLBACK"
 kind_text kind_names.Ask = codes "ASK"
 
+-- a message in SHOW NET
 abbrev pub packet_text : List (List ℕ) → ℕ → Packet → List ℕ
 packet_text names k x = decimal k ++ codes " " ++ kind_text (name_of_kind x.msg.kind) ++ codes " " ++ name_of names x.msg.from.node ++ codes " " ++ name_of names x.msg.to.node
 
+-- the messages in flight, by number, from this number on
 abbrev pub flying_lines : List (List ℕ) → ℕ → List Packet → List (List ℕ)
 flying_lines names k [] = []
 flying_lines names k (x ∷ xs) = if flies x then packet_text names k x ∷ flying_lines names (k + 1) xs else flying_lines names (k + 1) xs
 
--- the bytes of a disk are printed elsewhere
+-- what SHOW prints; the bytes of a disk are said apart, with its log
 abbrev pub shown : List Place → List (Option Kept) → Net → List Entry → Command → List (List ℕ)
 shown places nodes net book (commands.ShowPending n) = shown_pending (names_in places) (slice_get nodes (n - 1))
 shown places nodes net book (commands.ShowNeighbors n) = shown_neighbors (names_in places) (slice_get nodes (n - 1))

@@ -1,19 +1,28 @@
-//! The rules of distributed transactions.
+//! What a run is: which happening may come next, which one is due, what the happenings so far leave, what is told of them,
+//! and what has to hold of every run.
+//!
+//! Here are the definitions, and the laws of theirs that are proved. The laws of agreement, of marked mixed outcomes, of
+//! SCNs and of the commit point site stand as statements (`specs/Headline.antt`) and are not proved yet.
 #![tactic(auto)]
 
-ghost use Rattle.run_laws.specs.Laws.{BookIsOfTrace, PastGoesOn, LawfulGoesOn};
+ghost use Rattle.run_laws.specs.Laws.{BookIsOfTrace, PastGoesOn, LawfulGoesOn, RunsArePlayed};
 
-/// Law: the book that the fold over a trace keeps is the book of the trace.
+/// The book that the fold over a trace keeps is the book of the trace.
 pub fn book_is_of_trace()
     ensures { BookIsOfTrace }
 {}
 
-/// Law: the fold over a trace may be stopped and gone on with anywhere.
+/// The fold over a trace may be stopped and gone on with anywhere.
 pub fn past_goes_on()
     ensures { PastGoesOn }
 {}
 
-/// Law: a lawful trace and a happening that may come after it are a lawful trace.
+/// A lawful trace, and a happening that may come after it, are a lawful trace.
 pub fn lawful_goes_on()
     ensures { LawfulGoesOn }
+{}
+
+/// What a play computes is the run of its script: each happening is the one that is due.
+pub fn runs_are_played()
+    ensures { RunsArePlayed }
 {}

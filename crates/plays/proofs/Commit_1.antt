@@ -1,0 +1,320 @@
+-- Plays of the topic commit.
+use Rattle.std.proofs.Common.{◌≡◌, [], ◌∷◌, ◌++◌, codes, refl}
+use Rattle.run_laws.specs.Lines.{told}
+use Rattle.run_laws.specs.Report.{report}
+use Rattle.run_laws.specs.Data.stmts
+use Rattle.run_laws.specs.Data.kind_names
+use Rattle.run_laws.specs.Data.commands
+use Rattle.plays.proofs.Script.{number_key, table, link, synonym, here, over, num, text, literal, minus, set, equal, insert, rows, count, commit, node, at, hold, pump, pump_all, played}
+use Rattle.plays.proofs.Playing.{playing}
+use Rattle.plays.proofs.Commit_shared.{places_1, places_2, places_3, opening_1, opening_1_lines, opening_2, opening_2_lines}
+
+-- of two children of equal strength the one that was used first is the site
+equal_strengths_first_referenced_is_the_site :
+    report (told (played 290 places_1 (
+    node (codes "R") 1
+    ∷ node (codes "A") 100
+    ∷ node (codes "B") 100
+    ∷ node (codes "C") 200
+    ∷ at 2 1 (table (codes "T") (number_key (codes "K") ∷ []))
+    ∷ at 3 1 (table (codes "T") (number_key (codes "K") ∷ []))
+    ∷ at 4 1 (table (codes "T") (number_key (codes "K") ∷ []))
+    ∷ at 3 1 (link (codes "LC") (codes "C"))
+    ∷ at 3 1 (synonym (codes "TC") (codes "T") (codes "LC"))
+    ∷ at 1 1 (link (codes "LA") (codes "A"))
+    ∷ at 1 1 (link (codes "LB") (codes "B"))
+    ∷ at 1 1 (insert (over (codes "T") (codes "LB")) (num 1 ∷ []))
+    ∷ at 1 1 (insert (over (codes "T") (codes "LA")) (num 1 ∷ []))
+    ∷ at 1 1 commit
+    ∷ commands.ShowBook
+    ∷ [])))
+    ≡
+    codes "1 ok"
+    ∷ codes "2 ok"
+    ∷ codes "3 ok"
+    ∷ codes "4 ok"
+    ∷ codes "5 Table created."
+    ∷ codes "6 Table created."
+    ∷ codes "7 Table created."
+    ∷ codes "8 Database link created."
+    ∷ codes "9 Synonym created."
+    ∷ codes "10 Database link created."
+    ∷ codes "11 Database link created."
+    ∷ codes "12 1 row created."
+    ∷ codes "13 1 row created."
+    ∷ codes "14 Commit complete."
+    ∷ codes "15 made A T"
+    ∷ codes "15 made B T"
+    ∷ codes "15 made C T"
+    ∷ codes "15 sealed A 1.65.1 R.00000001.1.1.1 scn 0 changes 1"
+    ∷ codes "15 sealed R 1.1.1 R.00000001.1.1.1 scn 0 changes 0"
+    ∷ codes "15 decided B 1.65.1 R.00000001.1.1.1 scn 1 changes 1"
+    ∷ codes "15 ended R 1.1.1 commit scn 1"
+    ∷ codes "15 ended A 1.65.1 commit scn 1"
+    ∷ []
+unfolding playing
+equal_strengths_first_referenced_is_the_site = refl
+
+-- two sessions update one remote row with delivery held; the second waits for the first commit
+held_commits_one_after_the_other :
+    report (told (played 388 places_2 (opening_1 ++
+    hold
+    ∷ at 1 1 (stmts.Update (over (codes "STOCK") (codes "WH")) (set (codes "N") (literal (num 45)) ∷ []) (equal (codes "ITEM") (text (codes "BOLT")) ∷ []))
+    ∷ pump_all
+    ∷ at 1 2 (stmts.Update (over (codes "STOCK") (codes "WH")) (set (codes "N") (literal (num 44)) ∷ []) (equal (codes "ITEM") (text (codes "BOLT")) ∷ []))
+    ∷ pump_all
+    ∷ at 1 1 commit
+    ∷ pump_all
+    ∷ at 1 2 (stmts.Update (over (codes "STOCK") (codes "WH")) (set (codes "N") (literal (num 44)) ∷ []) (equal (codes "ITEM") (text (codes "BOLT")) ∷ []))
+    ∷ pump_all
+    ∷ at 1 2 commit
+    ∷ pump_all
+    ∷ commands.ShowBook
+    ∷ [])))
+    ≡ opening_1_lines ++
+    codes "11 ok"
+    ∷ codes "12 waiting"
+    ∷ codes "13 ok"
+    ∷ codes "12 1 row updated."
+    ∷ codes "14 waiting"
+    ∷ codes "15 ok"
+    ∷ codes "14 ORA-02049: timeout: distributed transaction waiting for lock"
+    ∷ codes "16 waiting"
+    ∷ codes "17 ok"
+    ∷ codes "16 Commit complete."
+    ∷ codes "18 waiting"
+    ∷ codes "19 ok"
+    ∷ codes "18 1 row updated."
+    ∷ codes "20 waiting"
+    ∷ codes "21 ok"
+    ∷ codes "20 Commit complete."
+    ∷ codes "22 made SALES ORDERS"
+    ∷ codes "22 made WAREHOUSE STOCK"
+    ∷ codes "22 decided WAREHOUSE 1.1.1 WAREHOUSE.00000002.1.1.1 scn 1 changes 1"
+    ∷ codes "22 made HQ LEDGER"
+    ∷ codes "22 sealed SALES 1.1.1 SALES.00000001.1.1.1 scn 1 changes 0"
+    ∷ codes "22 decided WAREHOUSE 1.65.1 SALES.00000001.1.1.1 scn 2 changes 1"
+    ∷ codes "22 ended SALES 1.1.1 commit scn 2"
+    ∷ codes "22 sealed SALES 1.2.1 SALES.00000001.1.2.1 scn 2 changes 0"
+    ∷ codes "22 decided WAREHOUSE 1.66.1 SALES.00000001.1.2.1 scn 3 changes 1"
+    ∷ codes "22 ended SALES 1.2.1 commit scn 3"
+    ∷ []
+unfolding playing
+held_commits_one_after_the_other = refl
+
+-- a transaction that only queried is rolled back where its prepare is lost
+lost_prepare_of_a_query_alone_rolls_back :
+    report (told (played 276 places_3 (opening_2 ++
+    at 1 1 (rows (over (codes "T") (codes "LA")) [])
+    ∷ commands.LoseNext kind_names.Prepare 1 2
+    ∷ at 1 1 commit
+    ∷ [])))
+    ≡ opening_2_lines ++
+    codes "12 no rows selected"
+    ∷ codes "13 ok"
+    ∷ codes "14 ORA-02050: transaction 1.1.1 rolled back, some remote DBs may be in-doubt"
+    ∷ []
+unfolding playing
+lost_prepare_of_a_query_alone_rolls_back = refl
+
+-- a lost answer to prepare: the commit is given up and every branch is rolled back
+lost_prepared_rolls_back :
+    report (told (played 318 places_2 (opening_1 ++
+    at 1 1 (insert (here (codes "ORDERS")) (num 1 ∷ num 10 ∷ []))
+    ∷ at 1 1 (stmts.Update (over (codes "STOCK") (codes "WH")) (set (codes "N") (minus (codes "N") 10) ∷ []) (equal (codes "ITEM") (text (codes "BOLT")) ∷ []))
+    ∷ at 1 1 (insert (over (codes "LEDGER") (codes "HQ")) (num 1 ∷ num 250 ∷ []))
+    ∷ commands.LoseNext kind_names.Prepared 3 1
+    ∷ at 1 1 commit
+    ∷ at 1 1 (count (here (codes "ORDERS")) [])
+    ∷ at 3 2 (rows (here (codes "LEDGER")) [])
+    ∷ [])))
+    ≡ opening_1_lines ++
+    codes "11 1 row created."
+    ∷ codes "12 1 row updated."
+    ∷ codes "13 1 row created."
+    ∷ codes "14 ok"
+    ∷ codes "15 ORA-02050: transaction 1.1.1 rolled back, some remote DBs may be in-doubt"
+    ∷ codes "16 COUNT(*)"
+    ∷ codes "16 0"
+    ∷ codes "16 1 row selected."
+    ∷ codes "17 no rows selected"
+    ∷ []
+unfolding playing
+lost_prepared_rolls_back = refl
+
+-- the eleven messages of a commit over three nodes, one after the other
+messages_of_a_commit_in_order :
+    report (told (played 570 places_2 (opening_1 ++
+    at 1 1 (insert (here (codes "ORDERS")) (num 1 ∷ num 10 ∷ []))
+    ∷ at 1 1 (stmts.Update (over (codes "STOCK") (codes "WH")) (set (codes "N") (minus (codes "N") 10) ∷ []) (equal (codes "ITEM") (text (codes "BOLT")) ∷ []))
+    ∷ at 1 1 (insert (over (codes "LEDGER") (codes "HQ")) (num 1 ∷ num 250 ∷ []))
+    ∷ hold
+    ∷ at 1 1 commit
+    ∷ commands.ShowNet
+    ∷ pump 1
+    ∷ pump 1
+    ∷ commands.ShowNet
+    ∷ pump 2
+    ∷ commands.ShowNet
+    ∷ pump 1
+    ∷ commands.ShowNet
+    ∷ pump 1
+    ∷ commands.ShowNet
+    ∷ pump 1
+    ∷ commands.ShowNet
+    ∷ pump 1
+    ∷ commands.ShowNet
+    ∷ pump 1
+    ∷ commands.ShowNet
+    ∷ pump 1
+    ∷ commands.ShowNet
+    ∷ pump_all
+    ∷ commands.ShowNet
+    ∷ [])))
+    ≡ opening_1_lines ++
+    codes "11 1 row created."
+    ∷ codes "12 1 row updated."
+    ∷ codes "13 1 row created."
+    ∷ codes "14 ok"
+    ∷ codes "15 waiting"
+    ∷ codes "16 9 PREPARE SALES WAREHOUSE"
+    ∷ codes "16 10 PREPARE SALES HQ"
+    ∷ codes "17 ok"
+    ∷ codes "18 ok"
+    ∷ codes "19 11 READY WAREHOUSE SALES"
+    ∷ codes "19 12 PREPARED HQ SALES"
+    ∷ codes "20 ok"
+    ∷ codes "21 13 COMMITPOINT SALES WAREHOUSE"
+    ∷ codes "22 ok"
+    ∷ codes "23 14 COMMITTED WAREHOUSE SALES"
+    ∷ codes "24 ok"
+    ∷ codes "25 15 COMMITTED SALES HQ"
+    ∷ codes "26 ok"
+    ∷ codes "27 16 ACK HQ SALES"
+    ∷ codes "28 ok"
+    ∷ codes "29 17 ACK SALES WAREHOUSE"
+    ∷ codes "30 ok"
+    ∷ codes "31 18 FORGOTTEN WAREHOUSE SALES"
+    ∷ codes "32 ok"
+    ∷ codes "15 Commit complete."
+    ∷ codes "33 19 FORGOTTEN SALES HQ"
+    ∷ codes "34 ok"
+    ∷ codes "35 no messages in flight"
+    ∷ []
+unfolding playing
+messages_of_a_commit_in_order = refl
+
+-- a transaction that only queried commits without a site and leaves no pending row
+query_alone_leaves_no_row_behind :
+    report (told (played 276 places_3 (opening_2 ++
+    at 1 1 (rows (over (codes "T") (codes "LA")) [])
+    ∷ at 1 1 commit
+    ∷ commands.ShowPending 1
+    ∷ [])))
+    ≡ opening_2_lines ++
+    codes "12 no rows selected"
+    ∷ codes "13 Commit complete."
+    ∷ codes "14 no rows selected"
+    ∷ []
+unfolding playing
+query_alone_leaves_no_row_behind = refl
+
+-- a transaction that only queried over a link commits without a site
+query_alone_needs_no_site :
+    report (told (played 262 places_3 (opening_2 ++
+    at 1 1 (rows (over (codes "T") (codes "LA")) [])
+    ∷ at 1 1 commit
+    ∷ [])))
+    ≡ opening_2_lines ++
+    codes "12 no rows selected"
+    ∷ codes "13 Commit complete."
+    ∷ []
+unfolding playing
+query_alone_needs_no_site = refl
+
+-- a repeated word to commit after all is forgotten changes nothing; a message never sent is refused
+repeated_messages_after_the_end :
+    report (told (played 332 places_2 (opening_1 ++
+    at 1 1 (insert (here (codes "ORDERS")) (num 1 ∷ num 10 ∷ []))
+    ∷ at 1 1 (stmts.Update (over (codes "STOCK") (codes "WH")) (set (codes "N") (minus (codes "N") 10) ∷ []) (equal (codes "ITEM") (text (codes "BOLT")) ∷ []))
+    ∷ at 1 1 (insert (over (codes "LEDGER") (codes "HQ")) (num 1 ∷ num 250 ∷ []))
+    ∷ at 1 1 commit
+    ∷ commands.Again 13
+    ∷ at 2 2 (rows (here (codes "STOCK")) [])
+    ∷ commands.ShowPending 2
+    ∷ commands.Again 99
+    ∷ [])))
+    ≡ opening_1_lines ++
+    codes "11 1 row created."
+    ∷ codes "12 1 row updated."
+    ∷ codes "13 1 row created."
+    ∷ codes "14 Commit complete."
+    ∷ codes "15 ok"
+    ∷ codes "16 ITEM|N"
+    ∷ codes "16 'BOLT'|40"
+    ∷ codes "16 1 row selected."
+    ∷ codes "17 no rows selected"
+    ∷ codes "18 DTX-11: message 99 cannot be delivered"
+    ∷ []
+unfolding playing
+repeated_messages_after_the_end = refl
+
+-- the root is the site: it collects while the other branch is prepared, then commits
+root_is_the_site :
+    report (told (played 346 places_2 (opening_1 ++
+    at 2 2 (link (codes "SALES") (codes "SALES"))
+    ∷ at 2 2 (stmts.Update (here (codes "STOCK")) (set (codes "N") (literal (num 40)) ∷ []) (equal (codes "ITEM") (text (codes "BOLT")) ∷ []))
+    ∷ at 2 2 (insert (over (codes "ORDERS") (codes "SALES")) (num 1 ∷ num 10 ∷ []))
+    ∷ hold
+    ∷ at 2 2 commit
+    ∷ commands.Deliver 5
+    ∷ commands.ShowPending 2
+    ∷ commands.ShowPending 1
+    ∷ pump_all
+    ∷ [])))
+    ≡ opening_1_lines ++
+    codes "11 Database link created."
+    ∷ codes "12 1 row updated."
+    ∷ codes "13 1 row created."
+    ∷ codes "14 ok"
+    ∷ codes "15 waiting"
+    ∷ codes "16 ok"
+    ∷ codes "17 LOCAL_TRAN_ID|GLOBAL_TRAN_ID|STATE|MIXED|ADVICE|TRAN_COMMENT|COMMIT#"
+    ∷ codes "17 1.2.1|WAREHOUSE.00000002.1.2.1|collecting|no|||"
+    ∷ codes "17 1 row selected."
+    ∷ codes "18 LOCAL_TRAN_ID|GLOBAL_TRAN_ID|STATE|MIXED|ADVICE|TRAN_COMMENT|COMMIT#"
+    ∷ codes "18 1.65.1|WAREHOUSE.00000002.1.2.1|prepared|no|||"
+    ∷ codes "18 1 row selected."
+    ∷ codes "19 ok"
+    ∷ codes "15 Commit complete."
+    ∷ []
+unfolding playing
+root_is_the_site = refl
+
+-- the site is the root's strongest child, though a node further down is stronger
+site_is_strongest_child_not_strongest_node :
+    report (told (played 304 places_3 (opening_2 ++
+    at 1 1 (insert (over (codes "T") (codes "LA")) (num 1 ∷ []))
+    ∷ at 1 1 (insert (over (codes "T") (codes "LB")) (num 1 ∷ []))
+    ∷ at 1 1 (insert (over (codes "TC") (codes "LB")) (num 1 ∷ []))
+    ∷ at 1 1 commit
+    ∷ commands.ShowBook
+    ∷ [])))
+    ≡ opening_2_lines ++
+    codes "12 1 row created."
+    ∷ codes "13 1 row created."
+    ∷ codes "14 1 row created."
+    ∷ codes "15 Commit complete."
+    ∷ codes "16 made A T"
+    ∷ codes "16 made B T"
+    ∷ codes "16 made C T"
+    ∷ codes "16 sealed C 1.65.1 R.00000001.1.1.1 scn 0 changes 1"
+    ∷ codes "16 sealed B 1.65.1 R.00000001.1.1.1 scn 0 changes 1"
+    ∷ codes "16 sealed R 1.1.1 R.00000001.1.1.1 scn 0 changes 0"
+    ∷ codes "16 decided A 1.65.1 R.00000001.1.1.1 scn 1 changes 1"
+    ∷ codes "16 ended R 1.1.1 commit scn 1"
+    ∷ codes "16 ended B 1.65.1 commit scn 1"
+    ∷ codes "16 ended C 1.65.1 commit scn 1"
+    ∷ []
+unfolding playing
+site_is_strongest_child_not_strongest_node = refl

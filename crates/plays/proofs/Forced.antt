@@ -1,0 +1,226 @@
+-- Plays of the topic forced.
+use Rattle.std.proofs.Common.{◌≡◌, ℕ, List, [], ◌∷◌, ◌++◌, Some, None, codes, refl}
+use Rattle.run_laws.specs.Lines.{told}
+use Rattle.run_laws.specs.Report.{report}
+use Rattle.run_laws.specs.Data.{Place, Command}
+use Rattle.run_laws.specs.Data.stmts
+use Rattle.run_laws.specs.Data.advices
+use Rattle.run_laws.specs.Data.kind_names
+use Rattle.run_laws.specs.Data.commands
+use Rattle.plays.proofs.Script.{place, number_column, number_key, text_key, table, link, synonym, here, over, num, text, literal, minus, set, equal, insert, rows, commit, commit_comment, node, at, played}
+use Rattle.plays.proofs.Playing.{playing}
+
+abbrev names_1 : List (List ℕ)
+names_1 = codes "SALES" ∷ codes "WAREHOUSE" ∷ codes "HQ" ∷ []
+
+abbrev names_2 : List (List ℕ)
+names_2 = codes "R" ∷ codes "A" ∷ codes "B" ∷ codes "C" ∷ []
+
+abbrev places_1 : List Place
+places_1 = place names_1 1 100 ∷ place names_1 2 140 ∷ place names_1 3 75 ∷ []
+
+abbrev places_2 : List Place
+places_2 = place names_2 1 1 ∷ place names_2 2 100 ∷ place names_2 3 50 ∷ place names_2 4 200 ∷ []
+
+abbrev opening_1 : List Command
+opening_1 =
+    node (codes "SALES") 100
+    ∷ node (codes "WAREHOUSE") 140
+    ∷ node (codes "HQ") 75
+    ∷ at 1 1 (table (codes "ORDERS") (number_key (codes "ID") ∷ number_column (codes "QTY") ∷ []))
+    ∷ at 1 1 (link (codes "WH") (codes "WAREHOUSE"))
+    ∷ at 1 1 (link (codes "HQ") (codes "HQ"))
+    ∷ at 2 1 (table (codes "STOCK") (text_key (codes "ITEM") 20 ∷ number_column (codes "N") ∷ []))
+    ∷ at 2 1 (insert (here (codes "STOCK")) (text (codes "BOLT") ∷ num 50 ∷ []))
+    ∷ at 2 1 commit
+    ∷ at 3 1 (table (codes "LEDGER") (number_key (codes "ID") ∷ number_column (codes "AMOUNT") ∷ []))
+    ∷ []
+
+abbrev opening_1_lines : List (List ℕ)
+opening_1_lines =
+    codes "1 ok"
+    ∷ codes "2 ok"
+    ∷ codes "3 ok"
+    ∷ codes "4 Table created."
+    ∷ codes "5 Database link created."
+    ∷ codes "6 Database link created."
+    ∷ codes "7 Table created."
+    ∷ codes "8 1 row created."
+    ∷ codes "9 Commit complete."
+    ∷ codes "10 Table created."
+    ∷ []
+
+-- the session's advice and the comment of COMMIT stand in the row of a prepared branch
+advice_and_comment_in_the_view :
+    report (told (played 318 places_1 (opening_1 ++
+    at 1 1 (stmts.Advise (Some advices.Commit))
+    ∷ at 1 1 (insert (here (codes "ORDERS")) (num 1 ∷ num 10 ∷ []))
+    ∷ at 1 1 (stmts.Update (over (codes "STOCK") (codes "WH")) (set (codes "N") (minus (codes "N") 10) ∷ []) (equal (codes "ITEM") (text (codes "BOLT")) ∷ []))
+    ∷ at 1 1 (insert (over (codes "LEDGER") (codes "HQ")) (num 1 ∷ num 250 ∷ []))
+    ∷ commands.LoseNext kind_names.Committed 1 3
+    ∷ at 1 1 (commit_comment (codes "order 1"))
+    ∷ commands.ShowPending 3
+    ∷ [])))
+    ≡ opening_1_lines ++
+    codes "11 Session altered."
+    ∷ codes "12 1 row created."
+    ∷ codes "13 1 row updated."
+    ∷ codes "14 1 row created."
+    ∷ codes "15 ok"
+    ∷ codes "16 ORA-02053: transaction 1.1.1 committed, some remote DBs may be in-doubt"
+    ∷ codes "17 LOCAL_TRAN_ID|GLOBAL_TRAN_ID|STATE|MIXED|ADVICE|TRAN_COMMENT|COMMIT#"
+    ∷ codes "17 1.65.1|SALES.00000001.1.1.1|prepared|no|C|order 1|"
+    ∷ codes "17 1 row selected."
+    ∷ []
+unfolding playing
+advice_and_comment_in_the_view = refl
+
+-- a prepared branch is forced to commit by its global id; it meets the commit and its row goes
+commit_with_the_commit_is_not_mixed :
+    report (told (played 360 places_1 (opening_1 ++
+    at 1 1 (insert (here (codes "ORDERS")) (num 1 ∷ num 10 ∷ []))
+    ∷ at 1 1 (stmts.Update (over (codes "STOCK") (codes "WH")) (set (codes "N") (minus (codes "N") 10) ∷ []) (equal (codes "ITEM") (text (codes "BOLT")) ∷ []))
+    ∷ at 1 1 (insert (over (codes "LEDGER") (codes "HQ")) (num 1 ∷ num 250 ∷ []))
+    ∷ commands.LoseNext kind_names.Committed 1 3
+    ∷ at 1 1 commit
+    ∷ at 3 2 (stmts.CommitForce (codes "9.9.9") None)
+    ∷ at 3 2 (stmts.CommitForce (codes "SALES.00000001.1.1.1") None)
+    ∷ at 3 2 (stmts.CommitForce (codes "1.65.1") None)
+    ∷ commands.Reco 3
+    ∷ commands.ShowPending 3
+    ∷ [])))
+    ≡ opening_1_lines ++
+    codes "11 1 row created."
+    ∷ codes "12 1 row updated."
+    ∷ codes "13 1 row created."
+    ∷ codes "14 ok"
+    ∷ codes "15 ORA-02053: transaction 1.1.1 committed, some remote DBs may be in-doubt"
+    ∷ codes "16 ORA-02058: no prepared transaction found with ID 9.9.9"
+    ∷ codes "17 Commit complete."
+    ∷ codes "18 ORA-02058: no prepared transaction found with ID 1.65.1"
+    ∷ codes "19 ok"
+    ∷ codes "20 no rows selected"
+    ∷ []
+unfolding playing
+commit_with_the_commit_is_not_mixed = refl
+
+-- two prepared branches of one transaction at one node cannot be forced by the global id
+global_id_names_several_branches :
+    report (told (played 318 places_1 (opening_1 ++
+    at 1 1 (link (codes "HQ2") (codes "HQ"))
+    ∷ at 1 1 (insert (over (codes "LEDGER") (codes "HQ")) (num 1 ∷ num 1 ∷ []))
+    ∷ at 1 1 (insert (over (codes "LEDGER") (codes "HQ2")) (num 2 ∷ num 2 ∷ []))
+    ∷ at 1 1 (stmts.Update (over (codes "STOCK") (codes "WH")) (set (codes "N") (literal (num 1)) ∷ []) [])
+    ∷ commands.LoseNext kind_names.Committed 2 1
+    ∷ at 1 1 commit
+    ∷ at 3 1 (stmts.CommitForce (codes "SALES.00000001.1.1.1") None)
+    ∷ [])))
+    ≡ opening_1_lines ++
+    codes "11 Database link created."
+    ∷ codes "12 1 row created."
+    ∷ codes "13 1 row created."
+    ∷ codes "14 1 row updated."
+    ∷ codes "15 ok"
+    ∷ codes "16 ORA-02054: transaction 1.1.1 in-doubt"
+    ∷ codes "17 DTX-07: ID SALES.00000001.1.1.1 names several branches"
+    ∷ []
+unfolding playing
+global_id_names_several_branches = refl
+
+-- a mixed branch that has forgotten keeps its row and still tells the branch beyond it to forget
+mixed_branch_that_forgot_answers_those_beyond :
+    report (told (played 388 places_2 (
+    node (codes "R") 1
+    ∷ node (codes "A") 100
+    ∷ node (codes "B") 50
+    ∷ node (codes "C") 200
+    ∷ at 2 1 (table (codes "T") (number_key (codes "K") ∷ []))
+    ∷ at 3 1 (table (codes "T") (number_key (codes "K") ∷ []))
+    ∷ at 4 1 (table (codes "T") (number_key (codes "K") ∷ []))
+    ∷ at 3 1 (link (codes "LC") (codes "C"))
+    ∷ at 3 1 (synonym (codes "TC") (codes "T") (codes "LC"))
+    ∷ at 1 1 (link (codes "LA") (codes "A"))
+    ∷ at 1 1 (link (codes "LB") (codes "B"))
+    ∷ at 1 1 (insert (over (codes "T") (codes "LA")) (num 1 ∷ []))
+    ∷ at 1 1 (insert (over (codes "T") (codes "LB")) (num 1 ∷ []))
+    ∷ at 1 1 (insert (over (codes "TC") (codes "LB")) (num 1 ∷ []))
+    ∷ commands.LoseNext kind_names.Committed 1 3
+    ∷ at 1 1 commit
+    ∷ at 3 2 (stmts.RollbackForce (codes "1.65.1"))
+    ∷ commands.LoseNext kind_names.Forgotten 3 4
+    ∷ commands.Reco 3
+    ∷ commands.ShowPending 4
+    ∷ commands.Reco 4
+    ∷ commands.ShowPending 4
+    ∷ [])))
+    ≡
+    codes "1 ok"
+    ∷ codes "2 ok"
+    ∷ codes "3 ok"
+    ∷ codes "4 ok"
+    ∷ codes "5 Table created."
+    ∷ codes "6 Table created."
+    ∷ codes "7 Table created."
+    ∷ codes "8 Database link created."
+    ∷ codes "9 Synonym created."
+    ∷ codes "10 Database link created."
+    ∷ codes "11 Database link created."
+    ∷ codes "12 1 row created."
+    ∷ codes "13 1 row created."
+    ∷ codes "14 1 row created."
+    ∷ codes "15 ok"
+    ∷ codes "16 ORA-02053: transaction 1.1.1 committed, some remote DBs may be in-doubt"
+    ∷ codes "17 Rollback complete."
+    ∷ codes "18 ok"
+    ∷ codes "19 ok"
+    ∷ codes "20 LOCAL_TRAN_ID|GLOBAL_TRAN_ID|STATE|MIXED|ADVICE|TRAN_COMMENT|COMMIT#"
+    ∷ codes "20 1.65.1|R.00000001.1.1.1|committed|no|||1"
+    ∷ codes "20 1 row selected."
+    ∷ codes "21 ok"
+    ∷ codes "22 no rows selected"
+    ∷ []
+unfolding playing
+mixed_branch_that_forgot_answers_those_beyond = refl
+
+-- a prepared branch is forced to roll back; it meets the commit, is mixed, and is purged once
+rollback_against_the_commit_is_mixed :
+    report (told (played 416 places_1 (opening_1 ++
+    at 1 1 (insert (here (codes "ORDERS")) (num 1 ∷ num 10 ∷ []))
+    ∷ at 1 1 (stmts.Update (over (codes "STOCK") (codes "WH")) (set (codes "N") (minus (codes "N") 10) ∷ []) (equal (codes "ITEM") (text (codes "BOLT")) ∷ []))
+    ∷ at 1 1 (insert (over (codes "LEDGER") (codes "HQ")) (num 1 ∷ num 250 ∷ []))
+    ∷ commands.LoseNext kind_names.Committed 1 3
+    ∷ at 1 1 commit
+    ∷ at 3 2 (stmts.RollbackForce (codes "1.65.1"))
+    ∷ commands.ShowPending 3
+    ∷ commands.Reco 3
+    ∷ commands.ShowPending 3
+    ∷ at 3 2 (rows (here (codes "LEDGER")) [])
+    ∷ at 1 1 (rows (here (codes "ORDERS")) [])
+    ∷ at 3 2 (stmts.PurgeMixed (codes "1.65.1"))
+    ∷ commands.ShowPending 3
+    ∷ at 3 2 (stmts.PurgeMixed (codes "1.65.1"))
+    ∷ [])))
+    ≡ opening_1_lines ++
+    codes "11 1 row created."
+    ∷ codes "12 1 row updated."
+    ∷ codes "13 1 row created."
+    ∷ codes "14 ok"
+    ∷ codes "15 ORA-02053: transaction 1.1.1 committed, some remote DBs may be in-doubt"
+    ∷ codes "16 Rollback complete."
+    ∷ codes "17 LOCAL_TRAN_ID|GLOBAL_TRAN_ID|STATE|MIXED|ADVICE|TRAN_COMMENT|COMMIT#"
+    ∷ codes "17 1.65.1|SALES.00000001.1.1.1|forced rollback|no|||"
+    ∷ codes "17 1 row selected."
+    ∷ codes "18 ok"
+    ∷ codes "19 LOCAL_TRAN_ID|GLOBAL_TRAN_ID|STATE|MIXED|ADVICE|TRAN_COMMENT|COMMIT#"
+    ∷ codes "19 1.65.1|SALES.00000001.1.1.1|forced rollback|yes|||"
+    ∷ codes "19 1 row selected."
+    ∷ codes "20 no rows selected"
+    ∷ codes "21 ID|QTY"
+    ∷ codes "21 1|10"
+    ∷ codes "21 1 row selected."
+    ∷ codes "22 PL/SQL procedure successfully completed."
+    ∷ codes "23 no rows selected"
+    ∷ codes "24 DTX-06: purge of 1.65.1 refused"
+    ∷ []
+unfolding playing
+rollback_against_the_commit_is_mixed = refl

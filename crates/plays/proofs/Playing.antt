@@ -1,0 +1,24 @@
+-- What a play unfolds to compute what is printed.
+use Rattle.std.specs.Prelude.{⊤}
+use Rattle.node_rules.specs.Meaning.{checked, examined, written, meant_over}
+use Rattle.node_rules.specs.Records.{applied, stored_by}
+use Rattle.node_rules.specs.Tree.{weight, step}
+use Rattle.node_rules.specs.Statement.{ran}
+use Rattle.node_rules.specs.Calls.{way_of, admit, reply_of}
+use Rattle.node_rules.specs.Commit.{beyond, next_on_decision, next_on_ack, next_on_forgotten}
+use Rattle.node_rules.specs.Recovery.{recovery}
+use Rattle.node_rules.specs.Force.{branch_to_force, purge}
+use Rattle.node_rules.specs.Turn.{turn_of, start_of, stand_of}
+use Rattle.node_rules.specs.Points.{passes, point_of}
+use Rattle.node_rules.specs.Views.{pending_rows, neighbor_rows}
+use Rattle.run_laws.specs.Net.{sent_on, delivered, lost, cut_over, joined, stopped, started}
+use Rattle.run_laws.specs.Shown.{book_lines}
+use Rattle.run_laws.specs.Disks.{struck, after_append}
+use Rattle.run_laws.specs.Cuts.{cut_by}
+use Rattle.run_laws.specs.Next.{next}
+use Rattle.run_laws.specs.Due.{due_of, runs_on}
+use Rattle.run_laws.specs.Report.{report}
+
+unfoldable pub playing : ⊤
+unfolding checked examined written meant_over applied stored_by weight step ran way_of admit reply_of beyond next_on_decision next_on_ack next_on_forgotten recovery branch_to_force purge turn_of start_of stand_of passes point_of pending_rows neighbor_rows sent_on delivered lost cut_over joined stopped started book_lines struck after_append cut_by next due_of runs_on report
+playing = tt

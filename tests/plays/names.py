@@ -1,0 +1,78 @@
+"""Every name of the definitions that the plays cite, by its module. A name that moves is changed here alone."""
+
+RULES = "Rattle.node_rules.specs"
+LAWS = "Rattle.run_laws.specs"
+DATA = f"{LAWS}.Data"
+PROOFS = "Rattle.plays.proofs"
+
+# what a play unfolds to compute what is printed
+UNFOLDED = (
+    (f"{RULES}.Meaning", "checked examined written meant_over"),
+    (f"{RULES}.Records", "applied stored_by"),
+    (f"{RULES}.Tree", "weight step"),
+    (f"{RULES}.Statement", "ran"),
+    (f"{RULES}.Calls", "way_of admit reply_of"),
+    (f"{RULES}.Commit", "beyond next_on_decision next_on_ack next_on_forgotten"),
+    (f"{RULES}.Recovery", "recovery"),
+    (f"{RULES}.Force", "branch_to_force purge"),
+    (f"{RULES}.Turn", "turn_of start_of stand_of"),
+    (f"{RULES}.Points", "passes point_of"),
+    (f"{RULES}.Views", "pending_rows neighbor_rows"),
+    (f"{LAWS}.Net", "sent_on delivered lost cut_over joined stopped started"),
+    (f"{LAWS}.Shown", "book_lines"),
+    (f"{LAWS}.Disks", "struck after_append"),
+    (f"{LAWS}.Cuts", "cut_by"),
+    (f"{LAWS}.Next", "next"),
+    (f"{LAWS}.Due", "due_of runs_on"),
+    (f"{LAWS}.Report", "report"),
+)
+
+# the words that may stand in a play, beside those of an opening
+CITED = (
+    ("Rattle.std.proofs.Common", "◌≡◌ ℕ true false List [] ◌∷◌ ◌++◌ Some None negsuc codes refl"),
+    (f"{LAWS}.Lines", "told"),
+    (f"{LAWS}.Report", "report"),
+    (f"{LAWS}.Shown", "book_lines"),
+    (DATA, "Place Command"),
+    (
+        f"{PROOFS}.Script",
+        "place place_within column number_column number_key text_column text_key table link synonym here over"
+        " num text repeated literal minus step sum set equal insert rows count commit commit_comment"
+        " node at no_statement crash_keep crash_leave hold let_go pump pump_all played",
+    ),
+    (f"{PROOFS}.Playing", "playing"),
+)
+
+# the modules of variants that may stand in a play
+VARIANTS = "values terms signs conds picks stmts advices kind_names commands".split()
+
+WORDS_OF_OPERATORS = {"◌≡◌": "≡", "◌∷◌": "∷", "◌++◌": "++"}
+
+
+def imports(body):
+    """The import lines that a text of plays needs."""
+    words = words_of(body)
+    lines = []
+    for module, names in CITED:
+        used = [name for name in names.split() if WORDS_OF_OPERATORS.get(name, name) in words]
+        if used:
+            lines.append(f"use {module}.{{{', '.join(used)}}}")
+        if module == DATA:
+            lines += [f"use {DATA}.{name}" for name in VARIANTS if any(word.startswith(f"{name}.") for word in words)]
+    return lines
+
+
+def words_of(body):
+    """The words of a text outside its comments and quoted texts."""
+    lines = [line.replace('\\"', "") for line in body.split("\n") if not line.startswith("--")]
+    outside = " ".join(piece for line in lines for piece in line.split('"')[::2])
+    return set(outside.replace("(", " ").replace(")", " ").split())
+
+
+def playing_text():
+    """The file Playing.antt."""
+    lines = ["-- What a play unfolds to compute what is printed.", "use Rattle.std.specs.Prelude.{⊤}"]
+    lines += [f"use {module}.{{{', '.join(names.split())}}}" for module, names in UNFOLDED]
+    names = " ".join(names for _, names in UNFOLDED)
+    lines += ["", "unfoldable pub playing : ⊤", f"unfolding {names}", "playing = tt"]
+    return "\n".join(lines) + "\n"
