@@ -1,5 +1,5 @@
 -- The words of a book, with one decision more at its end.
-use Rattle.std.proofs.Common.{◌≡◌, ℕ, ◌+◌, ◌≤◌, max, Bool, true, false, cond, List, [], ◌∷◌, ◌++◌, Option, None, Some, refl, ap, subst, ◌∙◌, append_assoc, sym, arith}
+use Rattle.std.proofs.Common.{◌≡◌, ℕ, ◌+◌, ◌≤◌, max, Bool, false, cond, List, [], ◌∷◌, ◌++◌, Some, refl, ap, subst, ◌∙◌, append_assoc, sym, arith}
 use Rattle.std.proofs.lemmas.Bool.Decides.{nat_tests}
 use Rattle.std.specs.Prelude.{◌==◌, ◌&&◌, ◌||◌}
 use Rattle.std.specs.List.{flat_map, list_any, AllByRecursion}
@@ -7,14 +7,13 @@ use Rattle.std.specs.FinMap.{empty}
 use Rattle.std.proofs.lemmas.List.{append-nil}
 use Rattle.std.proofs.lemmas.Grind.{flat_map-append}
 use Rattle.dtx_values.specs.Apply.{Rows, with_row, apply, at_table}
-use Rattle.dtx_values.specs.declared.table.Table.{Table}
 use Rattle.dtx_values.specs.declared.row.Change.{Change}
 use Rattle.tran_ids.specs.Branch.{same}
 use Rattle.tran_ids.specs.declared.branch.BranchId.{BranchId}
 use Rattle.one_node_book.specs.declared.entry.Entry.{Entry}
 use Rattle.one_node_book.specs.declared.entry.Entry.TheVariants.{Made, Decided}
 use Rattle.one_node_book.specs.Book.{committed_by, rows_of, table_of, scn_of}
-use Rattle.one_node_book.specs.Agreement.{decides, Follows, EachAgainst, Agreement}
+use Rattle.one_node_book.specs.Agreement.{decides, EachAgainst}
 use Rattle.one_node_rules.specs.Turn.{the_node, branch_of}
 
 pub apply-append : (rows : Rows) (xs ys : List Change) → apply rows (xs ++ ys) ≡ apply (apply rows xs) ys

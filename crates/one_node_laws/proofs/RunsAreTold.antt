@@ -15,15 +15,15 @@ use Rattle.one_node_book.specs.declared.happening.Happening.{Happening}
 use Rattle.one_node_book.specs.declared.happening.Happening.TheVariants.{Begun, Turn}
 use Rattle.one_node_book.specs.declared.line.Said.TheVariants as said
 use Rattle.one_node_book.specs.declared.line.AnswerLine.{AnswerLine}
-use Rattle.one_node_book.specs.Book.{entries_of, entries_in, book_of}
+use Rattle.one_node_book.specs.Book.{entries_of, book_of}
 use Rattle.one_node_book.specs.Agreement.{Agreement}
 use Rattle.one_node_rules.specs.Meaning.{is_understood, keep_if}
-use Rattle.one_node_rules.specs.Turn.{the_node, Kept, fresh, understood, turn_of}
+use Rattle.one_node_rules.specs.Turn.{the_node, Kept, fresh, turn_of}
 use Rattle.one_node_laws.specs.Past.{Past, start, line, begun, next, past, History, past_of}
-use Rattle.one_node_laws.specs.Lawful.{MayBegin, MayTurn, MayHappen, IsLawful, IsLawfulRun}
+use Rattle.one_node_laws.specs.Lawful.{MayBegin, MayHappen, IsLawful, IsLawfulRun}
 use Rattle.one_node_laws.specs.Standing.{Standing, nothing_yet, table_in, statement_in, answer_in, record_in, served, after, standing_after}
-use Rattle.one_node_laws.specs.Told.{lines_from, told, WritesOwed, AnswersEach}
-use Rattle.one_node_laws.specs.Laws.{IsAsTold, LawfulRunsAreAsTold, EachBegunIsAnswered}
+use Rattle.one_node_laws.specs.Told.{lines_from, WritesOwed, AnswersEach}
+use Rattle.one_node_laws.specs.Laws.{LawfulRunsAreAsTold, EachBegunIsAnswered}
 use Rattle.one_node_laws.proofs.Refines.{kept_in, IsSound, Fits, wrote_in, refines, sound_step}
 
 -- ---- one turn

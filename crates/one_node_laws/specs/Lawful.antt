@@ -1,8 +1,7 @@
 -- Which happening may come next.
-use Rattle.std.specs.Prelude.{◌≡◌, ◌+◌, ℕ, List, [], ◌∷◌, Option, None, Some, is_none, IsTrue, length, ◌<◌}
+use Rattle.std.specs.Prelude.{◌≡◌, ◌+◌, ℕ, List, [], ◌∷◌, Option, None, Some, length, ◌<◌}
 use Rattle.one_node_book.specs.declared.record.RedoRecord.{RedoRecord}
 use Rattle.one_node_book.specs.declared.input.Input.{Input}
-use Rattle.one_node_script.specs.declared.command.Command.{Command}
 use Rattle.one_node_book.specs.declared.happening.Happening.{Happening}
 use Rattle.one_node_book.specs.declared.happening.Happening.TheVariants.{Begun, Turn}
 use Rattle.one_node_rules.specs.Turn.{the_node, turn_of}

@@ -1,5 +1,5 @@
 -- What holds of every lawful run.
-use Rattle.std.specs.Prelude.{◌≡◌, ◌+◌, ℕ, None, length}
+use Rattle.std.specs.Prelude.{◌≡◌, ◌+◌, None, length}
 use Rattle.one_node_book.specs.Book.{book_of}
 use Rattle.one_node_book.specs.Agreement.{Agreement}
 use Rattle.one_node_laws.specs.Past.{History, past_of}

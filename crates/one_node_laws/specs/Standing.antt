@@ -6,7 +6,6 @@ use Rattle.dtx_values.specs.declared.table.Table.{Table}
 use Rattle.dtx_values.specs.declared.row.Change.{Change}
 use Rattle.dtx_values.specs.declared.answer.Answer.{Answer}
 use Rattle.one_node_book.specs.declared.record.RedoRecord.{RedoRecord}
-use Rattle.one_node_book.specs.declared.input.Input.{Input}
 use Rattle.one_node_book.specs.declared.input.Input.TheVariants as inputs
 use Rattle.one_node_sql.specs.declared.statement.Stmt.{Stmt}
 use Rattle.one_node_book.specs.declared.entry.Entry.{Entry}

@@ -1,5 +1,5 @@
 -- One item at the front of a list of tokens: its value and the tokens behind it.
-use Rattle.std.specs.Prelude.{ℕ, ◌-◌, ◌^◌, ◌&&◌, ◌==◌, nat_le, not, Bool, List, [], ◌∷◌, length, ℤ, pos, neg_ℤ, Option, None, Some, if◌then◌else◌, codes}
+use Rattle.std.specs.Prelude.{ℕ, ◌-◌, ◌^◌, ◌&&◌, ◌==◌, nat_le, not, Bool, List, [], ◌∷◌, length, pos, neg_ℤ, Option, None, Some, if◌then◌else◌, codes}
 use Rattle.std.specs.Char.{is_ascii_digit}
 use Rattle.std.specs.Str.{bytes_eq}
 use Rattle.std.specs.Str.Parse.{digits_value}

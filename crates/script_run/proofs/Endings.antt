@@ -1,16 +1,15 @@
 -- How a run ends: the writing of what is due, and that good ends give the report.
-use Rattle.std.proofs.Common.{◌≡◌, ◌⊎◌, ℕ, ◌+◌, ◌≤◌, Bool, true, false, List, [], ◌++◌, length, Option, None, Some, Result, Ok, Err, refl, sym, ap, subst, ◌∙◌, inl, inr, arith, length-append}
+use Rattle.std.proofs.Common.{◌≡◌, ◌⊎◌, ℕ, ◌+◌, ◌≤◌, true, false, List, [], ◌++◌, length, Option, None, Some, Ok, Err, refl, sym, ap, subst, ◌∙◌, inl, inr, arith, length-append}
 use Rattle.std.specs.Prelude.{IsOk, IsErr}
 use Rattle.std.specs.Io.KnownBytes.{Consumes, IsAtEnd, Appends}
 use Rattle.std.proofs.lemmas.List.{append-nil}
-use Rattle.dtx_ports.specs.Causes.{Rose}
-use Rattle.dtx_ports.specs.Whole.{IsAll, IsTooLong}
+use Rattle.dtx_ports.specs.Whole.{IsTooLong}
 use Rattle.one_node_script.specs.Script.{Asked, asked}
 use Rattle.script_run.specs.declared.outcome.Run.{Run}
 use Rattle.script_run.specs.declared.outcome.Status.{Status}
 use Rattle.script_run.specs.declared.outcome.Status.TheVariants.{Done, BadScript, Usage, NoMemory, ReadFault, WriteFault, TooLong}
 use Rattle.script_run.specs.Headline.{nothing_done}
-use Rattle.script_run.specs.Ending.{Read, Written, IsCut, due_of, IsAskedBy, IsWhole, EndsRefused, EndsReported, EndsOn, EndsWithin, EndsRead, longest, IsComplete}
+use Rattle.script_run.specs.Ending.{Read, Written, IsCut, due_of, IsAskedBy, IsWhole, EndsRefused, EndsReported, EndsOn, EndsRead, longest, IsComplete}
 
 -- the report of a run of all the commands that the bytes ask for
 pub reported : (bytes : List ℕ) (w : Written) (run : Run) (status : Status) → IsAskedBy bytes run → IsWhole run → EndsReported w run.answers status → EndsOn bytes w run status

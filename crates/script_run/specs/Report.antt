@@ -7,7 +7,6 @@ use Rattle.dtx_values.specs.declared.answer.RowSet.{RowSet}
 use Rattle.dtx_values.specs.declared.answer.Refusal.{Refusal}
 use Rattle.dtx_values.specs.declared.answer.Done.{Done}
 use Rattle.dtx_values.specs.declared.answer.Done.TheVariants.{Created, Updated, Deleted, Committed, RolledBack, TableMade, LinkMade, SynonymMade, SessionAltered, SystemAltered, Purged}
-use Rattle.dtx_values.specs.declared.answer.Answer.{Answer}
 use Rattle.dtx_values.specs.declared.answer.Answer.TheVariants.{Did, Found, Refused}
 use Rattle.dtx_values.specs.declared.answer.Notice.TheVariants as notices
 use Rattle.one_node_book.specs.declared.line.Said.{Said}
