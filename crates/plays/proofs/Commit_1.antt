@@ -7,7 +7,7 @@ use Rattle.run_laws.specs.Data.kind_names
 use Rattle.run_laws.specs.Data.commands
 use Rattle.plays.proofs.Script.{number_key, table, link, synonym, here, over, num, text, literal, minus, set, equal, insert, rows, count, commit, node, at, hold, pump, pump_all, played}
 use Rattle.plays.proofs.Playing.{playing}
-use Rattle.plays.proofs.Commit_shared.{places_1, places_2, places_3, opening_1, opening_1_lines, opening_2, opening_2_lines}
+use Rattle.plays.proofs.Commit_shared.{places_1, places_2, places_3, places_4, places_5, opening_1, opening_1_lines, opening_2, opening_2_lines}
 
 -- of two children of equal strength the one that was used first is the site
 equal_strengths_first_referenced_is_the_site :
@@ -204,6 +204,37 @@ messages_of_a_commit_in_order :
 unfolding playing
 messages_of_a_commit_in_order = refl
 
+-- a branch acknowledges once everybody beyond has: one of two does not hear of the commit
+one_of_two_beyond_has_not_acknowledged :
+    report (told (played 234 places_4 (
+    node (codes "R") 1
+    ∷ node (codes "B") 1
+    ∷ at 2 1 (table (codes "T") (number_key (codes "K") ∷ []))
+    ∷ at 1 1 (link (codes "L1") (codes "B"))
+    ∷ at 1 1 (link (codes "L2") (codes "B"))
+    ∷ at 1 1 (link (codes "L3") (codes "B"))
+    ∷ at 1 1 (insert (over (codes "T") (codes "L1")) (num 1 ∷ []))
+    ∷ at 1 1 (insert (over (codes "T") (codes "L2")) (num 2 ∷ []))
+    ∷ at 1 1 (insert (over (codes "T") (codes "L3")) (num 3 ∷ []))
+    ∷ commands.LoseNext kind_names.Committed 1 2
+    ∷ at 1 1 commit
+    ∷ [])))
+    ≡
+    codes "1 ok"
+    ∷ codes "2 ok"
+    ∷ codes "3 Table created."
+    ∷ codes "4 Database link created."
+    ∷ codes "5 Database link created."
+    ∷ codes "6 Database link created."
+    ∷ codes "7 1 row created."
+    ∷ codes "8 1 row created."
+    ∷ codes "9 1 row created."
+    ∷ codes "10 ok"
+    ∷ codes "11 ORA-02053: transaction 1.1.1 committed, some remote DBs may be in-doubt"
+    ∷ []
+unfolding playing
+one_of_two_beyond_has_not_acknowledged = refl
+
 -- a transaction that only queried commits without a site and leaves no pending row
 query_alone_leaves_no_row_behind :
     report (told (played 276 places_3 (opening_2 ++
@@ -259,62 +290,29 @@ repeated_messages_after_the_end :
 unfolding playing
 repeated_messages_after_the_end = refl
 
--- the root is the site: it collects while the other branch is prepared, then commits
-root_is_the_site :
-    report (told (played 346 places_2 (opening_1 ++
-    at 2 2 (link (codes "SALES") (codes "SALES"))
-    ∷ at 2 2 (stmts.Update (here (codes "STOCK")) (set (codes "N") (literal (num 40)) ∷ []) (equal (codes "ITEM") (text (codes "BOLT")) ∷ []))
-    ∷ at 2 2 (insert (over (codes "ORDERS") (codes "SALES")) (num 1 ∷ num 10 ∷ []))
-    ∷ hold
-    ∷ at 2 2 commit
-    ∷ commands.Deliver 5
-    ∷ commands.ShowPending 2
-    ∷ commands.ShowPending 1
-    ∷ pump_all
-    ∷ [])))
-    ≡ opening_1_lines ++
-    codes "11 Database link created."
-    ∷ codes "12 1 row updated."
-    ∷ codes "13 1 row created."
-    ∷ codes "14 ok"
-    ∷ codes "15 waiting"
-    ∷ codes "16 ok"
-    ∷ codes "17 LOCAL_TRAN_ID|GLOBAL_TRAN_ID|STATE|MIXED|ADVICE|TRAN_COMMENT|COMMIT#"
-    ∷ codes "17 1.2.1|WAREHOUSE.00000002.1.2.1|collecting|no|||"
-    ∷ codes "17 1 row selected."
-    ∷ codes "18 LOCAL_TRAN_ID|GLOBAL_TRAN_ID|STATE|MIXED|ADVICE|TRAN_COMMENT|COMMIT#"
-    ∷ codes "18 1.65.1|WAREHOUSE.00000002.1.2.1|prepared|no|||"
-    ∷ codes "18 1 row selected."
-    ∷ codes "19 ok"
-    ∷ codes "15 Commit complete."
-    ∷ []
-unfolding playing
-root_is_the_site = refl
-
--- the site is the root's strongest child, though a node further down is stronger
-site_is_strongest_child_not_strongest_node :
-    report (told (played 304 places_3 (opening_2 ++
-    at 1 1 (insert (over (codes "T") (codes "LA")) (num 1 ∷ []))
-    ∷ at 1 1 (insert (over (codes "T") (codes "LB")) (num 1 ∷ []))
-    ∷ at 1 1 (insert (over (codes "TC") (codes "LB")) (num 1 ∷ []))
+-- a child that its node's restart has lost answers Abort to Prepare, and the COMMIT is rolled back
+restarted_child_rolls_the_commit_back :
+    report (told (played 206 places_5 (
+    node (codes "A") 1
+    ∷ node (codes "B") 1
+    ∷ at 1 1 (table (codes "T") (number_key (codes "K") ∷ []))
+    ∷ at 1 1 (link (codes "B") (codes "B"))
+    ∷ at 1 1 (insert (here (codes "T")) (num 1 ∷ []))
+    ∷ at 1 1 (rows (over (codes "T") (codes "B")) [])
+    ∷ commands.Stop 2
+    ∷ commands.Start 2
     ∷ at 1 1 commit
-    ∷ commands.ShowBook
     ∷ [])))
-    ≡ opening_2_lines ++
-    codes "12 1 row created."
-    ∷ codes "13 1 row created."
-    ∷ codes "14 1 row created."
-    ∷ codes "15 Commit complete."
-    ∷ codes "16 made A T"
-    ∷ codes "16 made B T"
-    ∷ codes "16 made C T"
-    ∷ codes "16 sealed C 1.65.1 R.00000001.1.1.1 scn 0 changes 1"
-    ∷ codes "16 sealed B 1.65.1 R.00000001.1.1.1 scn 0 changes 1"
-    ∷ codes "16 sealed R 1.1.1 R.00000001.1.1.1 scn 0 changes 0"
-    ∷ codes "16 decided A 1.65.1 R.00000001.1.1.1 scn 1 changes 1"
-    ∷ codes "16 ended R 1.1.1 commit scn 1"
-    ∷ codes "16 ended B 1.65.1 commit scn 1"
-    ∷ codes "16 ended C 1.65.1 commit scn 1"
+    ≡
+    codes "1 ok"
+    ∷ codes "2 ok"
+    ∷ codes "3 Table created."
+    ∷ codes "4 Database link created."
+    ∷ codes "5 1 row created."
+    ∷ codes "6 ORA-00942: table or view does not exist"
+    ∷ codes "7 ok"
+    ∷ codes "8 ok"
+    ∷ codes "9 ORA-02050: transaction 1.1.1 rolled back, some remote DBs may be in-doubt"
     ∷ []
 unfolding playing
-site_is_strongest_child_not_strongest_node = refl
+restarted_child_rolls_the_commit_back = refl

@@ -6,9 +6,69 @@ use Rattle.run_laws.specs.Shown.{book_lines}
 use Rattle.run_laws.specs.Data.{Command}
 use Rattle.run_laws.specs.Data.stmts
 use Rattle.run_laws.specs.Data.commands
-use Rattle.plays.proofs.Script.{here, over, num, text, minus, set, equal, insert, rows, commit, at, played}
+use Rattle.plays.proofs.Script.{link, here, over, num, text, literal, minus, set, equal, insert, rows, commit, at, hold, pump_all, played}
 use Rattle.plays.proofs.Playing.{playing}
 use Rattle.plays.proofs.Commit_shared.{names_2, places_2, places_3, opening_1, opening_1_lines, opening_2, opening_2_lines}
+
+-- the root is the site: it collects while the other branch is prepared, then commits
+root_is_the_site :
+    report (told (played 346 places_2 (opening_1 ++
+    at 2 2 (link (codes "SALES") (codes "SALES"))
+    ∷ at 2 2 (stmts.Update (here (codes "STOCK")) (set (codes "N") (literal (num 40)) ∷ []) (equal (codes "ITEM") (text (codes "BOLT")) ∷ []))
+    ∷ at 2 2 (insert (over (codes "ORDERS") (codes "SALES")) (num 1 ∷ num 10 ∷ []))
+    ∷ hold
+    ∷ at 2 2 commit
+    ∷ commands.Deliver 5
+    ∷ commands.ShowPending 2
+    ∷ commands.ShowPending 1
+    ∷ pump_all
+    ∷ [])))
+    ≡ opening_1_lines ++
+    codes "11 Database link created."
+    ∷ codes "12 1 row updated."
+    ∷ codes "13 1 row created."
+    ∷ codes "14 ok"
+    ∷ codes "15 waiting"
+    ∷ codes "16 ok"
+    ∷ codes "17 LOCAL_TRAN_ID|GLOBAL_TRAN_ID|STATE|MIXED|ADVICE|TRAN_COMMENT|COMMIT#"
+    ∷ codes "17 1.2.1|WAREHOUSE.00000002.1.2.1|collecting|no|||"
+    ∷ codes "17 1 row selected."
+    ∷ codes "18 LOCAL_TRAN_ID|GLOBAL_TRAN_ID|STATE|MIXED|ADVICE|TRAN_COMMENT|COMMIT#"
+    ∷ codes "18 1.65.1|WAREHOUSE.00000002.1.2.1|prepared|no|||"
+    ∷ codes "18 1 row selected."
+    ∷ codes "19 ok"
+    ∷ codes "15 Commit complete."
+    ∷ []
+unfolding playing
+root_is_the_site = refl
+
+-- the site is the root's strongest child, though a node further down is stronger
+site_is_strongest_child_not_strongest_node :
+    report (told (played 304 places_3 (opening_2 ++
+    at 1 1 (insert (over (codes "T") (codes "LA")) (num 1 ∷ []))
+    ∷ at 1 1 (insert (over (codes "T") (codes "LB")) (num 1 ∷ []))
+    ∷ at 1 1 (insert (over (codes "TC") (codes "LB")) (num 1 ∷ []))
+    ∷ at 1 1 commit
+    ∷ commands.ShowBook
+    ∷ [])))
+    ≡ opening_2_lines ++
+    codes "12 1 row created."
+    ∷ codes "13 1 row created."
+    ∷ codes "14 1 row created."
+    ∷ codes "15 Commit complete."
+    ∷ codes "16 made A T"
+    ∷ codes "16 made B T"
+    ∷ codes "16 made C T"
+    ∷ codes "16 sealed C 1.65.1 R.00000001.1.1.1 scn 0 changes 1"
+    ∷ codes "16 sealed B 1.65.1 R.00000001.1.1.1 scn 0 changes 1"
+    ∷ codes "16 sealed R 1.1.1 R.00000001.1.1.1 scn 0 changes 0"
+    ∷ codes "16 decided A 1.65.1 R.00000001.1.1.1 scn 1 changes 1"
+    ∷ codes "16 ended R 1.1.1 commit scn 1"
+    ∷ codes "16 ended B 1.65.1 commit scn 1"
+    ∷ codes "16 ended C 1.65.1 commit scn 1"
+    ∷ []
+unfolding playing
+site_is_strongest_child_not_strongest_node = refl
 
 -- the strongest child was only queried, so the site is the one with changes
 site_is_strongest_with_changes :

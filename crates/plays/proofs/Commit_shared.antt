@@ -9,6 +9,12 @@ names_1 = codes "R" ∷ codes "A" ∷ codes "B" ∷ codes "C" ∷ []
 abbrev pub names_2 : List (List ℕ)
 names_2 = codes "SALES" ∷ codes "WAREHOUSE" ∷ codes "HQ" ∷ []
 
+abbrev pub names_3 : List (List ℕ)
+names_3 = codes "R" ∷ codes "B" ∷ []
+
+abbrev pub names_4 : List (List ℕ)
+names_4 = codes "A" ∷ codes "B" ∷ []
+
 abbrev pub places_1 : List Place
 places_1 = place names_1 1 1 ∷ place names_1 2 100 ∷ place names_1 3 100 ∷ place names_1 4 200 ∷ []
 
@@ -17,6 +23,12 @@ places_2 = place names_2 1 100 ∷ place names_2 2 140 ∷ place names_2 3 75 �
 
 abbrev pub places_3 : List Place
 places_3 = place names_1 1 1 ∷ place names_1 2 100 ∷ place names_1 3 50 ∷ place names_1 4 200 ∷ []
+
+abbrev pub places_4 : List Place
+places_4 = place names_3 1 1 ∷ place names_3 2 1 ∷ []
+
+abbrev pub places_5 : List Place
+places_5 = place names_4 1 1 ∷ place names_4 2 1 ∷ []
 
 abbrev pub opening_1 : List Command
 opening_1 =

@@ -3,9 +3,9 @@ use Rattle.std.proofs.Common.{◌≡◌, [], ◌∷◌, ◌++◌, codes, refl}
 use Rattle.run_laws.specs.Lines.{told}
 use Rattle.run_laws.specs.Report.{report}
 use Rattle.run_laws.specs.Data.commands
-use Rattle.plays.proofs.Script.{number_column, number_key, table, here, num, equal, insert, rows, count, commit, node, at, crash_keep, crash_leave, played}
+use Rattle.plays.proofs.Script.{number_column, number_key, table, link, here, over, num, equal, insert, rows, commit, node, at, crash_keep, crash_leave, hold, played}
 use Rattle.plays.proofs.Playing.{playing}
-use Rattle.plays.proofs.Crash_shared.{places_1, places_2, opening_1, opening_1_lines, ending_1, ending_1_lines_2, ending_2, ending_2_lines_1}
+use Rattle.plays.proofs.Crash_shared.{places_1, places_2, places_3, opening_1, opening_1_lines, ending_1, ending_1_lines_2}
 
 -- WAREHOUSE makes fewer than 5 writes in a commit, so it does not stop
 any_write_warehouse_5_keep_1 :
@@ -296,35 +296,25 @@ disk_call_4_of_a_prepare_fails :
 unfolding playing
 disk_call_4_of_a_prepare_fails = refl
 
--- a gate byte that is neither shut nor open counts as shut: the branch is not prepared
-prepared_record_behind_an_odd_gate :
-    report (told (played 332 places_1 (opening_1 ++
-    crash_leave 3 2 (255 ∷ 1 ∷ [])
-    ∷ at 1 1 commit
-    ∷ commands.Start 3
-    ∷ commands.ShowPending 3
-    ∷ at 1 1 (count (here (codes "ORDERS")) [])
+-- the answers of earlier calls stand before the nodes that stopped
+earlier_calls_are_answered_before_the_stop_is_told :
+    report (told (played 164 places_3 (
+    node (codes "A") 1
+    ∷ at 1 1 (link (codes "L") (codes "A"))
+    ∷ hold
+    ∷ at 1 1 (rows (over (codes "T") (codes "L")) [])
+    ∷ crash_keep 1 1 0
+    ∷ at 1 2 (table (codes "T") (number_key (codes "K") ∷ []))
     ∷ [])))
-    ≡ opening_1_lines ++
-    codes "14 ok"
-    ∷ codes "15 ORA-02050: transaction 1.1.1 rolled back, some remote DBs may be in-doubt"
-    ∷ codes "15 node HQ stopped"
-    ∷ codes "16 ok"
-    ∷ codes "17 no rows selected"
-    ∷ codes "18 COUNT(*)"
-    ∷ codes "18 0"
-    ∷ codes "18 1 row selected."
+    ≡
+    codes "1 ok"
+    ∷ codes "2 Database link created."
+    ∷ codes "3 ok"
+    ∷ codes "4 waiting"
+    ∷ codes "5 ok"
+    ∷ codes "6 DTX-01: node A is stopped"
+    ∷ codes "4 DTX-01: node A is stopped"
+    ∷ codes "6 node A stopped"
     ∷ []
 unfolding playing
-prepared_record_behind_an_odd_gate = refl
-
--- the site stops with its record whole but the gate shut: the transaction is rolled back everywhere
-site_record_behind_a_shut_gate :
-    report (told (played 360 places_1 (opening_1 ++
-    crash_leave 2 2 (0 ∷ [])
-    ∷ ending_2)))
-    ≡ opening_1_lines ++
-    codes "14 ok"
-    ∷ ending_2_lines_1
-unfolding playing
-site_record_behind_a_shut_gate = refl
+earlier_calls_are_answered_before_the_stop_is_told = refl

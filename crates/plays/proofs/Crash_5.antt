@@ -3,9 +3,60 @@ use Rattle.std.proofs.Common.{◌≡◌, [], ◌∷◌, ◌++◌, codes, refl}
 use Rattle.run_laws.specs.Lines.{told}
 use Rattle.run_laws.specs.Report.{report}
 use Rattle.run_laws.specs.Data.commands
-use Rattle.plays.proofs.Script.{here, count, commit_comment, at, crash_keep, played}
+use Rattle.plays.proofs.Script.{number_key, table, here, count, commit, commit_comment, node, at, crash_keep, crash_leave, played}
 use Rattle.plays.proofs.Playing.{playing}
-use Rattle.plays.proofs.Crash_shared.{places_1, opening_1, opening_1_lines, ending_2, ending_2_lines_1, ending_2_lines_2}
+use Rattle.plays.proofs.Crash_shared.{places_1, places_2, opening_1, opening_1_lines, ending_2, ending_2_lines_1, ending_2_lines_2}
+
+-- a gate byte that is neither shut nor open counts as shut: the branch is not prepared
+prepared_record_behind_an_odd_gate :
+    report (told (played 332 places_1 (opening_1 ++
+    crash_leave 3 2 (255 ∷ 1 ∷ [])
+    ∷ at 1 1 commit
+    ∷ commands.Start 3
+    ∷ commands.ShowPending 3
+    ∷ at 1 1 (count (here (codes "ORDERS")) [])
+    ∷ [])))
+    ≡ opening_1_lines ++
+    codes "14 ok"
+    ∷ codes "15 ORA-02050: transaction 1.1.1 rolled back, some remote DBs may be in-doubt"
+    ∷ codes "15 node HQ stopped"
+    ∷ codes "16 ok"
+    ∷ codes "17 no rows selected"
+    ∷ codes "18 COUNT(*)"
+    ∷ codes "18 0"
+    ∷ codes "18 1 row selected."
+    ∷ []
+unfolding playing
+prepared_record_behind_an_odd_gate = refl
+
+-- a record whose gate a stop still opened stands, and is in the book
+record_of_a_cut_turn_stands_in_the_book :
+    report (told (played 136 places_2 (
+    node (codes "SALES") 1
+    ∷ crash_keep 1 2 1
+    ∷ at 1 1 (table (codes "ORDERS") (number_key (codes "ID") ∷ []))
+    ∷ commands.ShowBook
+    ∷ [])))
+    ≡
+    codes "1 ok"
+    ∷ codes "2 ok"
+    ∷ codes "3 DTX-01: node SALES is stopped"
+    ∷ codes "3 node SALES stopped"
+    ∷ codes "4 made SALES ORDERS"
+    ∷ []
+unfolding playing
+record_of_a_cut_turn_stands_in_the_book = refl
+
+-- the site stops with its record whole but the gate shut: the transaction is rolled back everywhere
+site_record_behind_a_shut_gate :
+    report (told (played 360 places_1 (opening_1 ++
+    crash_leave 2 2 (0 ∷ [])
+    ∷ ending_2)))
+    ≡ opening_1_lines ++
+    codes "14 ok"
+    ∷ ending_2_lines_1
+unfolding playing
+site_record_behind_a_shut_gate = refl
 
 -- the site stops with its record's gate open: the transaction is committed everywhere
 site_record_behind_an_open_gate :

@@ -11,11 +11,17 @@ names_1 = codes "SALES" ∷ codes "WAREHOUSE" ∷ codes "HQ" ∷ []
 abbrev pub names_2 : List (List ℕ)
 names_2 = codes "SALES" ∷ []
 
+abbrev pub names_3 : List (List ℕ)
+names_3 = codes "A" ∷ []
+
 abbrev pub places_1 : List Place
 places_1 = place names_1 1 100 ∷ place names_1 2 140 ∷ place names_1 3 75 ∷ []
 
 abbrev pub places_2 : List Place
 places_2 = place names_2 1 1 ∷ []
+
+abbrev pub places_3 : List Place
+places_3 = place names_3 1 1 ∷ []
 
 abbrev pub opening_1 : List Command
 opening_1 =

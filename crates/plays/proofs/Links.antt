@@ -6,7 +6,7 @@ use Rattle.run_laws.specs.Data.{Place, Command}
 use Rattle.run_laws.specs.Data.stmts
 use Rattle.run_laws.specs.Data.kind_names
 use Rattle.run_laws.specs.Data.commands
-use Rattle.plays.proofs.Script.{place, place_within, number_column, number_key, text_key, table, link, synonym, here, over, num, text, literal, set, equal, insert, rows, count, commit, node, at, hold, let_go, pump_all, played}
+use Rattle.plays.proofs.Script.{place, place_within, number_column, number_key, text_key, table, link, synonym, here, over, num, text, literal, minus, set, equal, insert, rows, count, commit, node, at, hold, let_go, pump_all, played}
 use Rattle.plays.proofs.Playing.{playing}
 
 abbrev names_1 : List (List ℕ)
@@ -218,6 +218,33 @@ repeated_message_adds_no_row :
     ∷ []
 unfolding playing
 repeated_message_adds_no_row = refl
+
+-- a repeated Exec of an UPDATE is answered again and not run again
+repeated_update_runs_once :
+    report (told (played 192 places_1 (
+    node (codes "R") 1
+    ∷ node (codes "A") 1
+    ∷ at 2 1 (table (codes "T") (number_key (codes "K") ∷ number_column (codes "N") ∷ []))
+    ∷ at 1 1 (link (codes "LA") (codes "A"))
+    ∷ at 1 1 (insert (over (codes "T") (codes "LA")) (num 1 ∷ num 10 ∷ []))
+    ∷ at 1 1 (stmts.Update (over (codes "T") (codes "LA")) (set (codes "N") (minus (codes "N") 1) ∷ []) [])
+    ∷ commands.Again 5
+    ∷ at 1 1 (rows (over (codes "T") (codes "LA")) [])
+    ∷ [])))
+    ≡
+    codes "1 ok"
+    ∷ codes "2 ok"
+    ∷ codes "3 Table created."
+    ∷ codes "4 Database link created."
+    ∷ codes "5 1 row created."
+    ∷ codes "6 1 row updated."
+    ∷ codes "7 ok"
+    ∷ codes "8 K|N"
+    ∷ codes "8 1|9"
+    ∷ codes "8 1 row selected."
+    ∷ []
+unfolding playing
+repeated_update_runs_once = refl
 
 -- a branch at a restarted node is gone; the transaction takes a rollback alone; a cut link gives no answer
 restarted_node_has_lost_the_branch :
