@@ -13,9 +13,9 @@ use Rattle.node_rules.specs.Kept.{Kept, Deed, Branch, Reply_fields, Going, Waits
 
 -- What a statement's table name means at a node.
 pub data Named : Type 0 where
-  A_table : (table : Table) → Named
-  Behind : (link table : List ℕ) → Named
-  Unknown : Named
+  A_table : (table : Table) → Named  -- of this node
+  Behind : (link table : List ℕ) → Named  -- a table behind a link
+  Unknown : Named  -- neither table nor synonym
 
 -- a synonym's table behind its link, or nothing
 abbrev pub synonym_named : Option Synonym → Named
@@ -71,10 +71,10 @@ edge_by_link l link = position (λ e. same_text e.link link) l.edges
 
 -- Where a statement goes from a branch.
 pub data Way : Type 0 where
-  Runs_here : (table : Table) → Way
-  Over : (edge : ℕ) (table : List ℕ) → Way
-  Through : (node : ℕ) (link table : List ℕ) → Way
-  Nowhere_to : (refusal : Refusal) → Way
+  Runs_here : (table : Table) → Way  -- it runs at this node
+  Over : (edge : ℕ) (table : List ℕ) → Way  -- to a child that is there
+  Through : (node : ℕ) (link table : List ℕ) → Way  -- over a link that is used for the first time
+  Nowhere_to : (refusal : Refusal) → Way  -- it is refused
 
 -- a link without a child yet: DTX-02 where the tree is too deep or too wide, then ORA-02020 where the branch has too many links
 abbrev pub way_new : Place → Live → ℕ → ℕ → List ℕ → List ℕ → Way
@@ -232,9 +232,9 @@ on_opened k x from edge strength = opened_going k x from edge strength x.going
 
 -- a message Exec, at a live branch: each number is run once, the last is answered again, all else is ignored
 pub data Admit : Type 0 where
-  Run : Admit
-  Again : (reply : Reply_fields) → Admit
-  Ignore : Admit
+  Run : Admit  -- a number that comes for the first time
+  Again : (reply : Reply_fields) → Admit  -- the last number, which was answered
+  Ignore : Admit  -- a lower number, or one that is still under way
 
 -- answered again, once there is an answer
 abbrev pub again : Option Reply_fields → Admit

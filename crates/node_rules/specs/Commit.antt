@@ -49,13 +49,13 @@ to_beyond s kind = to_each s.me kind (map (λ b. b.branch) (beyond s))
 
 -- What a kept branch does next: nothing, take a decision, meet one after it was forced, acknowledge to toward, forget, or answer the sender.
 pub data Next : Type 0 where
-  Rest : Next
-  End : (decision : Decision) → Next
-  Meet : (decision : Decision) (mixed : Bool) → Next
-  Ack_toward : Next
-  Forget : Next
-  Say_forgotten : Next
-  Say_ack : Next
+  Rest : Next  -- nothing
+  End : (decision : Decision) → Next  -- take the decision, at a sealed branch
+  Meet : (decision : Decision) (mixed : Bool) → Next  -- take note of it, at a forced one
+  Ack_toward : Next  -- everybody beyond has acknowledged
+  Forget : Next  -- there is nobody left to tell
+  Say_forgotten : Next  -- to one that acknowledges too late
+  Say_ack : Next  -- to toward, which tells the commit again
 
 -- the forced outcome and the decision differ
 abbrev pub is_mixed : State → Decision → Bool

@@ -31,8 +31,8 @@ pub record Reply_fields : Type 0 where
 
 -- Where a statement that was passed on waits.
 pub data Waits : Type 0 where
-  For_opened : (link : List ℕ) → Waits
-  For_reply : (edge : ℕ) → Waits
+  For_opened : (link : List ℕ) → Waits  -- for the child that an Open asks for
+  For_reply : (edge : ℕ) → Waits  -- for the Reply of a child
 
 -- A statement under way, with the room left in the tree.
 pub record Going : Type 0 where
@@ -52,9 +52,9 @@ pub record Branch : Type 0 where
 
 -- What a session's call is, if one is out.
 pub data Call_out : Type 0 where
-  No_call : Call_out
-  Statement_out : Call_out
-  Commit_out : Call_out
+  No_call : Call_out  -- none
+  Statement_out : Call_out  -- a statement
+  Commit_out : Call_out  -- COMMIT
 
 -- A client session: its newest transaction's number, the root that it has, its advice, the answer after which the
 -- transaction needs a rollback, and its call.

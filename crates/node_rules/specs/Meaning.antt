@@ -166,9 +166,9 @@ checked s t =
 
 -- What a statement says of a table.
 pub data Meant : Type 0 where
-  Gives : (rows : RowSet) → Meant
-  Changes : (done : Done) (count : ℕ) (changes : List Change) → Meant
-  Says_no : (refusal : Refusal) → Meant
+  Gives : (rows : RowSet) → Meant  -- a query finds rows
+  Changes : (done : Done) (count : ℕ) (changes : List Change) → Meant  -- rows are changed
+  Says_no : (refusal : Refusal) → Meant  -- it is refused
 
 -- ORA-01407, then ORA-12899, else the row with this cell
 abbrev pub set_cell : Table → Column → ℕ → Row → Value → Result Row Refusal

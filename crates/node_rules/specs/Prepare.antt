@@ -19,15 +19,15 @@ use Rattle.node_rules.specs.Kept.{Kept, Deed, Finished, Branch, Post, Session, C
 
 -- What a branch does next in its prepare phase: nothing yet, Prepare to its children, one of its answers, a record and what follows it, or the end of a COMMIT without a site.
 pub data Act : Type 0 where
-  Rest : Act
-  Send_prepare : Act
-  Say_read_only : Act
-  Say_ready : Act
-  Seal : Act
-  Seal_and_pass : (edge : ℕ) → Act
-  Decide : Act
-  Finish : Act
-  Abandon : Act
+  Rest : Act  -- answers are missing
+  Send_prepare : Act  -- to every child
+  Say_read_only : Act  -- nothing was changed here or below
+  Say_ready : Act  -- the walk comes here
+  Seal : Act  -- and answer Prepared
+  Seal_and_pass : (edge : ℕ) → Act  -- and send CommitPoint down the walk
+  Decide : Act  -- this is the site
+  Finish : Act  -- a root without a site
+  Abandon : Act  -- a child said Abort
 
 -- once every child has answered
 abbrev pub root_act : Walk → Act

@@ -78,9 +78,9 @@ space_refusal p k x cs =
 
 -- What a run does: it refuses, it gives rows and locks keys, or it makes changes and locks keys.
 pub data Ran : Type 0 where
-  Refuses : (refusal : Refusal) → Ran
-  Reads : (rows : RowSet) (keys : List Value) → Ran
-  Writes : (done : Done) (count : ℕ) (changes : List Change) (keys : List Value) → Ran
+  Refuses : (refusal : Refusal) → Ran  -- nothing is changed and nothing is locked
+  Reads : (rows : RowSet) (keys : List Value) → Ran  -- rows, and the keys that FOR UPDATE locks
+  Writes : (done : Done) (count : ℕ) (changes : List Change) (keys : List Value) → Ran  -- changes, and their keys
 
 -- changes, where there is space
 abbrev pub ran_within : Option Refusal → Done → ℕ → List Change → List Value → Ran

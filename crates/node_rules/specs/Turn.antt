@@ -18,9 +18,9 @@ use Rattle.node_rules.specs.Words.{is_branch}
 
 -- What a branch is at its node.
 pub data Stand : Type 0 where
-  Is_live : (branch : Branch) → Stand
-  Is_kept : (standing : Standing) → Stand
-  Is_gone : Stand
+  Is_live : (branch : Branch) → Stand  -- it takes part in its transaction
+  Is_kept : (standing : Standing) → Stand  -- the node keeps a row of it
+  Is_gone : Stand  -- the node knows nothing of it
 
 -- where it is not live
 abbrev pub kept_or_gone : Option Standing → Stand

@@ -15,9 +15,9 @@ appends p n before = with_plan p n (after_append before (plan_at p n))
 
 -- What cuts a turn: a point before its record, an order that strikes its append, a point after it.
 pub data Cut_by : Type 0 where
-  By_nothing : Cut_by
-  By_point : (root : BranchId) (numbers : List ℕ) (stands : Bool) → Cut_by
-  By_strike : (stands : Bool) → Cut_by
+  By_nothing : Cut_by  -- the turn is whole
+  By_point : (root : BranchId) (numbers : List ℕ) (stands : Bool) → Cut_by  -- a crash-test comment's point was reached, and the record stands or not
+  By_strike : (stands : Bool) → Cut_by  -- an order struck the append, and the record stands or not
 
 -- a point after the record
 abbrev pub cut_after : Past → Option Passes → Cut_by

@@ -19,19 +19,19 @@ use Rattle.run_laws.specs.Lawful.{boots}
 
 -- What is due next.
 pub data Due : Type 0 where
-  Tells : (k : ℕ) → Due
-  Falls : (node : ℕ) → Due
-  Calls : (out : Out) → Due
-  Gives_up : (node session : ℕ) → Due
-  Delivers : (k : ℕ) (again : Bool) → Due
-  Recovers : (node : ℕ) → Due
-  Cuts : (a b : ℕ) → Due
-  Joins : (a b : ℕ) → Due
-  Loses : (k : ℕ) → Due
-  Stops : (node : ℕ) → Due
-  Starts : (node : ℕ) → Due
-  Begins : (command : ℕ) → Due
-  Ends : Due
+  Tells : (k : ℕ) → Due  -- a loss that is to be told
+  Falls : (node : ℕ) → Due  -- the stop of a node whose turn was cut
+  Calls : (out : Out) → Due  -- a client's call
+  Gives_up : (node session : ℕ) → Due  -- a call is given up
+  Delivers : (k : ℕ) (again : Bool) → Due  -- a message, or a copy of one
+  Recovers : (node : ℕ) → Due  -- RECO
+  Cuts : (a b : ℕ) → Due  -- CUT
+  Joins : (a b : ℕ) → Due  -- JOIN
+  Loses : (k : ℕ) → Due  -- LOSE
+  Stops : (node : ℕ) → Due  -- STOP
+  Starts : (node : ℕ) → Due  -- START
+  Begins : (command : ℕ) → Due  -- the next command
+  Ends : Due  -- nothing: the script was run
 
 -- this, where the test holds
 abbrev pub if_due : Bool → Due → Option Due

@@ -42,8 +42,8 @@ places_of cs = places_from (names_asked cs) 1 cs
 
 -- How a run ended: its script was run, or memory ran out.
 pub data Ending : Type 0 where
-  All_run : Ending
-  Out_of_memory : Ending
+  All_run : Ending  -- its script was run to the end
+  Out_of_memory : Ending  -- memory ran out
 
 -- whether something was shown
 abbrev pub is_shown : Said → Bool
