@@ -8,7 +8,6 @@ The scenarios stand below tests/plays/scenarios, and what each shows in SHOWS.ts
 """
 
 import pathlib
-import subprocess
 import sys
 import tempfile
 
