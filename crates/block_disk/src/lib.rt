@@ -1,0 +1,11 @@
+//! A disk of bytes that may stop in the middle of a write.
+//!
+//! Between two syncs each written range, and the part past the old end, may hold any bytes after a crash; bytes outside
+//! stay. After a sync that succeeds a crash leaves what a read gives. The trait `Disk` says so in its clauses, of each
+//! moment of each call.
+#![tactic(auto)]
+
+mod disk;
+
+pub use disk::Disk;
+pub use dtx_ports::Failed;
