@@ -22,7 +22,7 @@ pub trait Disk {
     /// The contents that a crash at this moment or a later one, up to now, might have left.
     ghost images_since: { Self → ℕ → List ℕ → Type 0 };
 
-    /// How many bytes it may still grow without more memory.
+    /// How many bytes may still be written without more memory: what it holds, and what it keeps of each write.
     ghost spare: { Self → ℕ };
 
     /// How often it has failed: a `u64` that never falls and, once at 2^64 - 1, stays there.
@@ -48,7 +48,7 @@ pub trait Disk {
         ensures writes { writes self.new ≡ writes self.old }
         ensures plan { GoesByPlan (plan self.old) (plan self.new) false result };
 
-    /// Makes sure that it can grow by so many bytes. It is no counted call.
+    /// Makes sure that so many bytes can be written. It is no counted call.
     fn room(&mut self, more: u64) -> Result<(), AllocError>
         ensures room { OnOk result (more ≤ spare self.new) }
         ensures content { content self.new ≡ content self.old }
@@ -78,11 +78,11 @@ pub trait Disk {
     fn write_at(&mut self, at: u64, bytes: &[u8]) -> Result<(), Failed>
         requires within { at ≤ length (content self.old) }
         requires some { 0 < length bytes.now }
-        requires growth { at + length bytes.now - length (content self.old) ≤ spare self.old }
+        requires room { length bytes.now ≤ spare self.old }
         ensures written { OnOk result (IsWritten (content self.old) at bytes.now (content self.new)) }
         ensures images { TearsOnly at (length bytes.now) (images self.old) (images self.new) }
         ensures time { GoesOn (moment self.old) (moment self.new) (images_since self.old) (images_since self.new) (images self.new) }
-        ensures spare { OnOk result (spare self.new ≡ spare self.old - (at + length bytes.now - length (content self.old))) }
+        ensures spare { OnOk result (spare self.new ≡ spare self.old - length bytes.now) }
         ensures cause { HasCause (faults self.old) (faults self.new) result }
         ensures calls { calls self.new ≡ next_count (calls self.old) }
         ensures writes { writes self.new ≡ next_count (writes self.old) }

@@ -6,6 +6,9 @@
 #![tactic(auto)]
 
 mod disk;
+mod mem_disk;
+mod past;
 
 pub use disk::Disk;
 pub use dtx_ports::Failed;
+pub use mem_disk::MemDisk;
