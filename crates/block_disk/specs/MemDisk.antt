@@ -1,5 +1,5 @@
 -- What a disk in memory is, as its callers see it, and what its calls make of it.
-use Rattle.std.specs.Prelude.{ℕ, ◌-◌, List, ◌∷◌, length}
+use Rattle.std.specs.Prelude.{ℕ, ◌-◌, List, [], ◌∷◌, length, max}
 use Rattle.block_disk.specs.Images.{MayBeTorn}
 use Rattle.block_disk.specs.Counts.{next_count}
 use Rattle.block_disk.specs.Happenings.{Happening, Wrote, synced}
@@ -12,9 +12,17 @@ pub record DiskState : Type 0 where
   pub calls : ℕ
   pub writes : ℕ
 
+-- one that nothing was done to
+abbrev pub blank : DiskState
+blank = record { happenings = []; spare = 0; calls = 0; writes = 0 }
+
 -- after a call that changes nothing
 abbrev pub after_look : DiskState → DiskState
 after_look disk = record disk { calls = next_count disk.calls }
+
+-- with room for so many bytes
+abbrev pub after_room : DiskState → ℕ → DiskState
+after_room disk more = record disk { spare = max disk.spare more }
 
 -- after a write
 abbrev pub after_write : DiskState → ℕ → List ℕ → DiskState

@@ -1,8 +1,8 @@
 //! A disk in memory.
-ghost use Rattle.std.specs.Prelude.{◌≡◌, ◌+◌, ◌≤◌, ◌<◌, [], ◌++◌, Some, max, length, take, drop, vec_len, vec_capacity, IsOk};
+ghost use Rattle.std.specs.Prelude.{◌≡◌, ◌+◌, ◌≤◌, ◌<◌, [], ◌++◌, Some, max, length, take, drop, vec_len, vec_capacity, IsOk, OnOk, OnErr};
 ghost use Rattle.block_disk.specs.Plan.{free};
 ghost use Rattle.block_disk.specs.Happenings.{content_of, IsImage, IsImageSince};
-ghost use Rattle.block_disk.specs.MemDisk.{after_look, after_write, after_sync, RisksEach};
+ghost use Rattle.block_disk.specs.MemDisk.{blank, after_look, after_room, after_write, after_sync, RisksEach};
 ghost use Rattle.block_disk.specs.ImageLaws.{IsImage-content_of, IsImageSince-now, IsImageSince-length};
 
 use crate::past::Past;
@@ -35,17 +35,16 @@ impl Model for MemDisk {
     } };
 
     ghost invariant = { λ disk.
-      (disk.bytes.items ≡ content_of disk.past.happenings)
-      × (vec_len disk.bytes + disk.past.spare ≤ vec_capacity disk.bytes) };
+        (disk.bytes.items ≡ content_of disk.past.happenings)
+        × (vec_len disk.bytes + disk.past.spare ≤ vec_capacity disk.bytes) };
 }
 
 impl MemDisk {
     /// An empty disk.
     pub fn new(alloc: Global) -> MemDisk
-        ensures happenings { result.happenings ≡ [] }
-        ensures spare { result.spare ≡ 0 }
-        ensures calls { result.calls ≡ 0 }
-        ensures writes { result.writes ≡ 0 }
+        ensures blank { result ≡ blank }
+        ensures content { ⟦<MemDisk as Disk>⟧.content result ≡ [] }
+        ensures plan { ⟦<MemDisk as Disk>⟧.plan result ≡ Some free }
     {
         MemDisk {
             bytes: Vec::new(alloc),
@@ -96,7 +95,10 @@ impl Disk for MemDisk {
         Ok(self.bytes.len() as u64)
     }
 
-    fn room(&mut self, more: u64) -> Result<(), AllocError> {
+    fn room(&mut self, more: u64) -> Result<(), AllocError>
+        ensures ok { OnOk result (self.new ≡ after_room self.old more) }
+        ensures err { OnErr result (self.new ≡ self.old) }
+    {
         let more = more as usize;
         self.bytes.reserve(more)?;
         self.past.reserve(more)
@@ -133,8 +135,8 @@ impl Disk for MemDisk {
         ensures ok { IsOk result }
         ensures state { self.new ≡ after_sync self.old }
     {
-        self.calls = self.calls.wrapping_add(1);
         self.past.push_sync();
+        self.calls = self.calls.wrapping_add(1);
         Ok(())
     }
 }

@@ -35,9 +35,9 @@ impl Model for Past {
     } };
 
     ghost invariant = { λ past.
-      (past.is_synced ≡ is_settled (happenings_of (reverse past.events.items) past.written.items))
-      × (vec_len past.events + 2 * past.spare + (if past.is_synced then 0 else 1) ≤ vec_capacity past.events)
-      × (vec_len past.written + past.spare ≤ vec_capacity past.written) };
+        (past.is_synced ≡ is_settled (happenings_of (reverse past.events.items) past.written.items))
+        × (vec_len past.events + 2 * past.spare + (if past.is_synced then 0 else 1) ≤ vec_capacity past.events)
+        × (vec_len past.written + past.spare ≤ vec_capacity past.written) };
 }
 
 impl Past {
