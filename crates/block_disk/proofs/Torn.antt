@@ -1,5 +1,5 @@
 -- A write that stands whole is one that a crash may leave, so each image after a write comes of one before it.
-use Rattle.std.proofs.Common.{◌≡◌, ◌+◌, ◌-◌, ◌≤◌, inl, inr, ℕ, List, ◌∷◌, ◌++◌, length, take, drop, refl, sym, ◌∙◌, ap, subst, arith, append_assoc, length-append, length-drop}
+use Rattle.std.proofs.Common.{◌≡◌, ◌+◌, ◌≤◌, inl, inr, ℕ, List, ◌∷◌, ◌++◌, length, take, drop, sym, ◌∙◌, ap, subst, arith, append_assoc, length-append, length-drop}
 use Rattle.std.proofs.lemmas.List.{take_at, drop_at, length-take}
 use Rattle.block_disk.specs.Images.{MayBeTorn, TearsOnly}
 use Rattle.block_disk.specs.Happenings.{Happening, Wrote, content_of, IsImage}
@@ -13,6 +13,7 @@ module _ (before bytes : List ℕ) (at : ℕ) (within : at ≤ length before) wh
   length-written : length (take at before ++ bytes) ≡ at + length bytes
   length-written = omega (arith, length-front, length-append (take at before) bytes)
 
+  -- the write that stands whole is one of its tears
   pub whole_may_be_torn : MayBeTorn at (length bytes) before (take at before ++ bytes ++ drop (at + length bytes) before)
   whole_may_be_torn = record {
     front = ap (λ (l : List ℕ). take at l) (append_assoc (take at before) bytes (drop (at + length bytes) before)) ∙ take_at (take at before) (bytes ++ drop (at + length bytes) before) at length-front;

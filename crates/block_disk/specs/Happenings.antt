@@ -1,6 +1,5 @@
 -- What a disk in memory has done, newest first, and what a crash may have left of it at each moment.
-use Rattle.std.specs.Prelude.{◌≡◌, ◌⊎◌, ◌+◌, ◌≤◌, ℕ, List, [], ◌∷◌, ◌++◌, length, take, drop, Bool, true, false, if◌then◌else◌, refl}
-use mathlib.Core.Logic.{inl, inr}
+use Rattle.std.specs.Prelude.{◌≡◌, ◌⊎◌, ◌+◌, ◌≤◌, ℕ, List, [], ◌∷◌, ◌++◌, length, take, drop, Bool, true, false, if◌then◌else◌}
 use Rattle.block_disk.specs.Images.{MayBeTorn}
 
 -- a write of these bytes at a place, or a sync
@@ -33,6 +32,6 @@ is_settled [] = true
 is_settled (Wrote at bytes ∷ earlier) = false
 is_settled (Synced ∷ earlier) = true
 
--- after a sync, which counts where something was written
+-- after a sync, which is one where something was written since the last
 abbrev pub synced : List Happening → List Happening
 synced happenings = if is_settled happenings then happenings else Synced ∷ happenings

@@ -1,5 +1,5 @@
 -- The laws that each disk keeps, for a disk in memory.
-use Rattle.std.specs.Prelude.{◌≡◌, ◌≤◌, ℕ, List, [], ◌∷◌, length, refl}
+use Rattle.std.specs.Prelude.{ℕ, List, [], ◌∷◌, length, refl}
 use mathlib.Core.Logic.{inl, inr}
 use Rattle.std.proofs.Math.Nat.{not-suc-le_self}
 use Rattle.block_disk.specs.Happenings.{Happening, Wrote, Synced, content_of, IsImage, IsImageSince}

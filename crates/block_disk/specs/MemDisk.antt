@@ -16,7 +16,7 @@ pub record DiskState : Type 0 where
 abbrev pub blank : DiskState
 blank = record { happenings = []; spare = 0; calls = 0; writes = 0 }
 
--- after a call that changes nothing
+-- after a counted call that changes nothing
 abbrev pub after_look : DiskState → DiskState
 after_look disk = record disk { calls = next_count disk.calls }
 

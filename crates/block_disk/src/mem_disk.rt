@@ -34,6 +34,7 @@ impl Model for MemDisk {
       writes = disk.writes;
     } };
 
+    // The bytes are what was written to an empty disk, and what may still be written has place.
     ghost invariant = { λ disk.
         (disk.bytes.items ≡ content_of disk.past.happenings)
         × (vec_len disk.bytes + disk.past.spare ≤ vec_capacity disk.bytes) };

@@ -34,6 +34,7 @@ impl Model for Past {
       spare = past.spare;
     } };
 
+    // Each byte has place among the written ones, and for two events; so has the sync after the last write.
     ghost invariant = { λ past.
         (past.is_synced ≡ is_settled (happenings_of (reverse past.events.items) past.written.items))
         × (vec_len past.events + 2 * past.spare + (if past.is_synced then 0 else 1) ≤ vec_capacity past.events)

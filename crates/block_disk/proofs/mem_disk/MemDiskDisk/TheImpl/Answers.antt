@@ -1,6 +1,5 @@
 -- A write in memory leaves as images only what a write of any disk may.
-use Rattle.std.proofs.Common.{rules, sym, subst, length, arith}
-use Rattle.std.proofs.lemmas.Grind.{common_steps}
+use Rattle.std.proofs.Common.{rules, sym, subst, length}
 use Rattle.block_disk.specs.Images.{TearsOnly}
 use Rattle.block_disk.specs.Happenings.{IsImage}
 use Rattle.block_disk.specs.MemDisk.{DiskState}
