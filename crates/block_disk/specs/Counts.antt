@@ -1,0 +1,6 @@
+-- Counts of disk calls, which begin anew after 2^64 - 1.
+use Rattle.std.specs.Prelude.{ℕ, ◌+◌, ◌%◌, ◌^◌}
+
+-- the count after one call more
+abbrev pub next_count : ℕ → ℕ
+next_count count = (count + 1) % 2 ^ 64

@@ -1,0 +1,17 @@
+-- What the events that a disk in memory keeps stand for.
+use Rattle.std.specs.Prelude.{ℕ, ◌-◌, List, [], ◌∷◌, length, take, drop}
+use Rattle.block_disk.specs.Happenings.{Happening, Wrote, Synced}
+use Rattle.block_disk.specs.declared.past.Event.{Event}
+use Rattle.block_disk.specs.declared.past.Event.TheVariants.{Write, Sync}
+
+-- what happened, newest first, and how many bytes may still be written without more memory
+pub record PastState : Type 0 where
+  pub happenings : List Happening
+  pub spare : ℕ
+
+-- the happenings of these events, newest first: the bytes of the last write stand at the end of all bytes
+abbrev pub happenings_of : List Event → List ℕ → List Happening
+happenings_of [] written = []
+happenings_of (Write at count ∷ events) written =
+    Wrote at (drop (length written - count) written) ∷ happenings_of events (take (length written - count) written)
+happenings_of (Sync ∷ events) written = Synced ∷ happenings_of events written

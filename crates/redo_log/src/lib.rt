@@ -1,0 +1,2 @@
+//! A log of bodies behind gates.
+#![tactic(auto)]
