@@ -1,9 +1,8 @@
 -- What a crash leaves while the first gate is written.
-use Rattle.std.proofs.Common.{◌≡◌, inl, inr, ℕ, ◌≤◌, List, [], ◌∷◌, length, Option, Some, None, refl, ◌∙◌, ap, subst, arith}
+use Rattle.std.proofs.Common.{◌≡◌, inl, inr, ℕ, ◌≤◌, List, [], ◌∷◌, length, Option, refl, ap, subst, arith}
 use Rattle.std.specs.Option.{unwrap_or}
 use Rattle.std.proofs.lemmas.Bool.{cases_eq}
 use Rattle.block_disk.specs.Images.{MayBeTorn, TearsOnly, IsOnly}
-use Rattle.redo_log.specs.Cells.{bodies, held}
 use Rattle.redo_log.specs.Log.{MayBeBegun}
 use Rattle.redo_log.proofs.Cells.{closed, none_of_nothing, cut_off_at}
 

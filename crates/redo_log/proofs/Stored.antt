@@ -1,8 +1,8 @@
 -- What a crash leaves while bytes are written behind a gate, and while the gate is opened.
-use Rattle.std.proofs.Common.{◌≡◌, inl, inr, ℕ, ◌+◌, ◌<◌, ◌≤◌, List, [], ◌∷◌, ◌++◌, length, get_or, take, drop, refl, sym, ◌∙◌, ap, subst, arith, append_assoc, length-append, take-append-drop}
-use Rattle.std.proofs.lemmas.List.{take_at, drop_at, drop_more, take-take, take-append-le, length-take-le}
+use Rattle.std.proofs.Common.{◌≡◌, inl, inr, ℕ, ◌+◌, ◌<◌, List, ◌∷◌, ◌++◌, length, get_or, take, drop, sym, ◌∙◌, ap, subst, arith, append_assoc, length-append, take-append-drop}
+use Rattle.std.proofs.lemmas.List.{drop_at, drop_more, take-take, take-append-le, length-take-le}
 use Rattle.block_disk.specs.Images.{IsWritten, MayBeTorn, TearsOnly, IsOnly}
-use Rattle.redo_log.specs.Log.{with_gate, MayBeStored}
+use Rattle.redo_log.specs.Log.{MayBeStored}
 
 -- the closed gate stands in each image of the first write
 pub first_torn : (gate count : ℕ) (behind before : List ℕ) (images images' : List ℕ → Type 0) → IsOnly before images → TearsOnly (gate + 1) count images images'

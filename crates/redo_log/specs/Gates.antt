@@ -1,5 +1,5 @@
 -- What a reader finds at the first gate of a log.
-use Rattle.std.specs.Prelude.{◌≡◌, ◌<◌, ◌^◌, ℕ, List, [], ◌∷◌, ◌++◌, length, Option, Some, None}
+use Rattle.std.specs.Prelude.{◌≡◌, ◌<◌, ◌^◌, ℕ, List, ◌++◌, length, None}
 use Rattle.redo_log.specs.Cells.{cell_of, bodies, IsClosed}
 use Rattle.redo_log.specs.declared.gate.Gate.{Gate}
 use Rattle.redo_log.specs.declared.gate.Gate.TheVariants.{Open, Closed, CutOff}

@@ -1,5 +1,5 @@
 -- What a log keeps on its disk, and what a crash may leave of it.
-use Rattle.std.specs.Prelude.{◌≡◌, ◌⊎◌, ◌+◌, ◌<◌, ◌≤◌, ℕ, zero, suc, Bool, true, false, List, [], ◌∷◌, ◌++◌, length, take, drop, Some, Result, Ok, Err, ⊤}
+use Rattle.std.specs.Prelude.{◌≡◌, ◌⊎◌, ◌+◌, ◌≤◌, ℕ, zero, suc, true, false, List, [], ◌∷◌, ◌++◌, length, take, drop, Some, Result, Ok, Err, ⊤}
 use Rattle.std.specs.Int.{to_be_bytes, w32}
 use Rattle.block_disk.specs.Images.{IsOnly}
 use Rattle.block_disk.specs.Counts.{next_count}

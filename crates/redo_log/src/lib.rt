@@ -13,8 +13,8 @@ mod log;
 mod make;
 mod plain;
 
-pub use bodies::Bodies;
 pub use block_disk::Failed;
+pub use bodies::Bodies;
 pub use err::{LoadErr, LoadWhy, LogErr, MakeErr, MakeWhy};
 pub use log::Log;
 pub use plain::{cell, count};

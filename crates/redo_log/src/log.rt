@@ -116,7 +116,9 @@ impl<D: Disk> Log<D> {
             (HoldsWithOrWithout (held (D.content (disk_of self.old))) body.now) }
 
         ensures usable { IsUsable D.content D.images self.new }
-        ensures broken { IsErrOf result LogErr.Fault ↔ IsBroken self.new }
+        ensures intact { OnOk result (IsIntact self.new) }
+        ensures still_intact { OnRefused result (IsIntact self.new) }
+        ensures broken { IsErrOf result LogErr.Fault → IsBroken self.new }
         ensures stays_broken { IsBroken self.old → IsErrOf result LogErr.Fault }
         ensures untouched { IsBroken self.old → disk_of self.new ≡ disk_of self.old }
 
@@ -201,6 +203,5 @@ fn store<D: Disk>(disk: &mut D, gate: u64, behind: &[u8]) -> Result<(), Failed>
     // What stands behind an open gate counts, so it has to be on the disk first.
     disk.sync()?;
     disk.write_at(gate, &[OPEN])?;
-    disk.sync()?;
-    Ok(())
+    disk.sync()
 }

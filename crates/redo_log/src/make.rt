@@ -23,6 +23,5 @@ pub(crate) fn lay_gate<D: Disk>(disk: &mut D) -> Result<(), MakeWhy>
 {
     disk.room(1)?;
     disk.write_at(0, &[CLOSED])?;
-    disk.sync()?;
-    Ok(())
+    Ok(disk.sync()?)
 }

@@ -1,6 +1,4 @@
 -- At each moment there is at most one byte, which holds no body.
-use Rattle.std.proofs.Common.{List, ℕ, [], subst}
-use Rattle.block_disk.specs.Images.{IsOnly}
 use Rattle.redo_log.specs.Log.{MayBeBegun}
 use Rattle.redo_log.proofs.Moments.{started, goes_on}
 use Rattle.redo_log.proofs.Begun.{nothing_begun, gate_torn}

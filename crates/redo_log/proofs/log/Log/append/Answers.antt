@@ -1,5 +1,5 @@
 -- What is proved of the disk's content holds of the log's bodies, since the log was settled.
-use Rattle.std.proofs.Common.{◌≡◌, ℕ, ◌+◌, ◌<◌, ◌^◌, List, length, refl, sym, ◌∙◌, arith}
+use Rattle.std.proofs.Common.{◌≡◌, refl, ◌∙◌, arith}
 use Rattle.redo_log.specs.Log.{staged}
 use Rattle.redo_log.proofs.Appended.{at_start, with_room, while_stored, stored, settled_again}
 use Rattle.redo_log.proofs.log.Log.append.Goals as goal

@@ -1,5 +1,5 @@
 -- A closed gate alone is the log of no body.
-use Rattle.std.proofs.Common.{List, ℕ, [], ◌∷◌, arith, refl}
+use Rattle.std.proofs.Common.{[], ◌∷◌, arith, refl}
 use Rattle.redo_log.proofs.Settled.{settled, is_log, log_holds}
 use Rattle.redo_log.proofs.log.Log.create.Goals as goal
 
