@@ -4,6 +4,7 @@ ghost use Rattle.dtx_ports.specs.Causes.{Rose};
 ghost use Rattle.block_disk.specs.Images.{IsOnly, AtEachMoment};
 ghost use Rattle.redo_log.specs.Cells.{bodies, IsLogTo};
 ghost use Rattle.redo_log.specs.Log.{count_after, calls_to_load};
+ghost use Rattle.redo_log.specs.Loads.{IsLoadCount};
 
 use crate::gate::{Gate, first_gate};
 use crate::{Bodies, LoadWhy};
@@ -22,6 +23,7 @@ pub(crate) fn read_log<D: Disk>(alloc: Global, disk: &mut D) -> Result<(Bodies, 
     ensures later { D.faults disk.old ≤ D.faults disk.new }
     ensures calls { OnOk result (D.calls disk.new ≡ count_after 3 (D.calls disk.old)) }
     ensures calls_for_nothing { IsErrOf result LoadWhy.NotALog → D.calls disk.new ≡ count_after (calls_to_load (D.content disk.old)) (D.calls disk.old) }
+    ensures fault_calls { IsErrOf result LoadWhy.Fault → IsLoadCount (D.calls disk.old) (D.calls disk.new) }
     ensures writes { D.writes disk.new ≡ D.writes disk.old }
 {
     let bytes = read_synced(alloc, disk)?;
@@ -39,6 +41,7 @@ fn read_synced<D: Disk>(alloc: Global, disk: &mut D) -> Result<Vec<u8>, LoadWhy>
     ensures fault { IsErrOf result LoadWhy.Fault → Rose (D.faults disk.old) (D.faults disk.new) }
     ensures later { D.faults disk.old ≤ D.faults disk.new }
     ensures calls { OnOk result (D.calls disk.new ≡ count_after (calls_to_load (D.content disk.old)) (D.calls disk.old)) }
+    ensures fault_calls { IsErrOf result LoadWhy.Fault → IsLoadCount (D.calls disk.old) (D.calls disk.new) }
     ensures writes { D.writes disk.new ≡ D.writes disk.old }
 {
     disk.sync()?;

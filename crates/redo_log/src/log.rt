@@ -5,6 +5,7 @@ ghost use Rattle.block_disk.specs.Images.{AtEachMoment, IsOnly};
 ghost use Rattle.redo_log.specs.declared.err.MakeWhy.{MakeWhy};
 ghost use Rattle.redo_log.specs.declared.err.LoadWhy.{LoadWhy};
 ghost use Rattle.redo_log.specs.Cells.{bodies, held};
+ghost use Rattle.redo_log.specs.Loads.{IsLoadCount};
 ghost use Rattle.redo_log.specs.Log.{disk_of, IsBroken, IsIntact, IsSettled, IsUsable, MayBeBegun, calls_to_load, HoldsWithOrWithout, count_after, OnRefused, staged, with_gate, MayBeStored};
 
 use crate::gate::{CLOSED, OPEN};
@@ -85,6 +86,7 @@ impl<D: Disk> Log<D> {
 
         ensures calls { IfOk result (λ loaded. D.calls (disk_of loaded.0) ≡ count_after 3 (D.calls disk)) }
         ensures calls_for_nothing { IfErr result (λ err. err.why ≡ LoadWhy.NotALog → D.calls err.disk ≡ count_after (calls_to_load (D.content disk)) (D.calls disk)) }
+        ensures fault_calls { IfErr result (λ err. err.why ≡ LoadWhy.Fault → IsLoadCount (D.calls disk) (D.calls err.disk)) }
         ensures writes { MatchResult result (λ loaded. D.writes (disk_of loaded.0) ≡ D.writes disk) (λ err. D.writes err.disk ≡ D.writes disk) }
     {
         match read_log(alloc, &mut disk) {
