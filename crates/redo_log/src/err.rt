@@ -12,7 +12,7 @@ use std::alloc::{AllocError, AllocFailed};
 pub enum LogErr {
     /// The disk failed, now or in an earlier append.
     Fault,
-    /// There was no room on the disk or no memory; nothing was done.
+    /// There was no room on the disk, or no memory; nothing was done.
     NoMemory,
     /// The body is longer than a log takes; nothing was done.
     TooLong,
@@ -38,17 +38,21 @@ pub enum LoadWhy {
     NoMemory,
 }
 
-/// Why a log was not made, and the disk that was given.
+/// A log that was not made.
 #[derive(Debug, Drop)]
 pub struct MakeErr<D> {
+    /// The disk that was given.
     pub disk: D,
+    /// Why no log was made.
     pub why: MakeWhy,
 }
 
-/// Why a log was not loaded, and the disk that was given.
+/// A log that was not loaded.
 #[derive(Debug, Drop)]
 pub struct LoadErr<D> {
+    /// The disk that was given.
     pub disk: D,
+    /// Why no log was loaded.
     pub why: LoadWhy,
 }
 
