@@ -1,0 +1,7 @@
+mod Appended
+mod Begun
+mod Cells
+mod Moments
+mod Settled
+mod Stored
+mod Walk

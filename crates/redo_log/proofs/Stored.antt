@@ -1,0 +1,50 @@
+-- What a crash leaves while bytes are written behind a gate, and while the gate is opened.
+use Rattle.std.proofs.Common.{◌≡◌, inl, inr, ℕ, ◌+◌, ◌<◌, List, ◌∷◌, ◌++◌, length, get_or, take, drop, sym, ◌∙◌, ap, subst, arith, append_assoc, length-append, take-append-drop}
+use Rattle.std.proofs.lemmas.List.{drop_at, drop_more, take-take, take-append-le, length-take-le}
+use Rattle.block_disk.specs.Images.{IsWritten, MayBeTorn, TearsOnly, IsOnly}
+use Rattle.redo_log.specs.Log.{MayBeStored}
+
+-- the closed gate stands in each image of the first write
+pub first_torn : (gate count : ℕ) (behind before : List ℕ) (images images' : List ℕ → Type 0) → IsOnly before images → TearsOnly (gate + 1) count images images'
+    → (image : List ℕ) → images' image → MayBeStored gate behind before image
+first_torn gate count behind before images images' only tears image is =
+    let from = tears image is in
+    inl (from.2.front ∙ ap (λ (l : List ℕ). take (gate + 1) l) (only from.0 from.1))
+
+module _ (gate : ℕ) (behind before : List ℕ) (within : gate < length before) where
+  abbrev rest : List ℕ
+  rest = drop (gate + 1 + length behind) before
+
+  abbrev written : List ℕ
+  written = take (gate + 1) before ++ behind ++ rest
+
+  length-front : length (take (gate + 1) before) ≡ gate + 1
+  length-front = length-take-le (gate + 1) before (omega arith)
+
+  split : written ≡ take (gate + 1) before ++ (behind ++ rest)
+  split = append_assoc (take (gate + 1) before) behind rest
+
+  front : take gate written ≡ take gate before
+  front = ap (λ (l : List ℕ). take gate l) split ∙ take-append-le gate (take (gate + 1) before) (behind ++ rest) (omega (arith, length-front)) ∙ take-take gate (gate + 1) before (omega arith)
+
+  back : drop (gate + 1) written ≡ behind ++ rest
+  back = ap (λ (l : List ℕ). drop (gate + 1) l) split ∙ drop_at (take (gate + 1) before) (behind ++ rest) (gate + 1) length-front
+
+  long : gate < length written
+  long = omega (arith, ap (λ (l : List ℕ). length l) split, length-front, length-append (take (gate + 1) before) (behind ++ rest))
+
+  -- the bytes stand whole in each image of the second
+  torn_gate : (image : List ℕ) → MayBeTorn gate 1 written image → MayBeStored gate behind before image
+  torn_gate image torn =
+      let byte = get_or image gate 0 in
+      let rest_is : drop gate image ≡ byte ∷ (behind ++ rest) =
+      drop_more image gate 0 (omega (arith, torn.no_shorter, long)) ∙ ap (λ (l : List ℕ). byte ∷ l) (torn.back ∙ back) in
+      let whole : image ≡ take gate before ++ (byte ∷ (behind ++ rest)) =
+      sym (take-append-drop gate image) ∙ ap (λ (l : List ℕ). l ++ drop gate image) (torn.front ∙ front) ∙ ap (λ (l : List ℕ). take gate before ++ l) rest_is in
+      inr (byte, whole ∙ sym (append_assoc (take gate before) (byte ∷ behind) rest))
+
+  pub second_torn : (one : List ℕ) (images images' : List ℕ → Type 0) → IsWritten before (gate + 1) behind one → IsOnly one images → TearsOnly gate 1 images images'
+      → (image : List ℕ) → images' image → MayBeStored gate behind before image
+  second_torn one images images' is only tears image now =
+      let from = tears image now in
+      torn_gate image (subst (λ (l : List ℕ). MayBeTorn gate 1 l image) (only from.0 from.1 ∙ is) from.2)

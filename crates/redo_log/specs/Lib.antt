@@ -1,0 +1,4 @@
+pub mod Cells
+pub mod Log
+pub mod Gates
+pub mod Loads
