@@ -145,7 +145,8 @@ impl<D: Disk> Log<D> {
         let Some(end) = self.end.checked_add(size) else {
             return Err(LogErr::NoMemory);
         };
-        self.disk.room(size)?;
+        // The gate is written twice: closed behind the cell before it, and then open.
+        self.disk.room(size + 1)?;
         let behind = stage(self.alloc, body)?;
         match store(&mut self.disk, self.end, &behind) {
             Ok(()) => {
@@ -191,7 +192,7 @@ fn store<D: Disk>(disk: &mut D, gate: u64, behind: &[u8]) -> Result<(), Failed>
     requires gate { gate < length (D.content disk.old) }
     requires fits { gate + 1 < 2 ^ 64 }
     requires some { 0 < length behind.now }
-    requires room { gate + 1 + length behind.now - length (D.content disk.old) ≤ D.spare disk.old }
+    requires room { length behind.now + 1 ≤ D.spare disk.old }
     requires durable { IsOnly (D.content disk.old) (D.images disk.old) }
 
     ensures stored { OnOk result (D.content disk.new ≡ with_gate 1 gate behind.now (D.content disk.old)) }
