@@ -1,0 +1,4 @@
+pub mod Branch
+pub mod Name
+pub mod Value
+pub mod Change

@@ -1,0 +1,19 @@
+//! The bytes of redo records, both ways.
+//!
+//! Each part of a record has a format, a value of `byte_format`'s, in `specs/`: it says which bytes spell which value,
+//! and is shown to be exact, so that no bytes spell two records. `encode` writes the body of a record, and `decode`
+//! reads it back. A body is a byte 1, a byte that names the kind of the record, and the record's fields; numbers stand
+//! most significant byte first.
+#![tactic(auto)]
+
+mod branch;
+mod lists;
+mod name;
+mod part;
+mod whole;
+
+pub use branch::{put_branch, take_branch};
+pub use name::{put_name, take_name};
+pub use lists::{put_list_u8, put_list_u32, take_list_u8, take_list_u32};
+pub use part::Part;
+pub use whole::{read_front, read_whole, write_whole};
