@@ -7,13 +7,19 @@
 #![tactic(auto)]
 
 mod branch;
+mod change;
 mod lists;
 mod name;
 mod part;
+mod row;
+mod value;
 mod whole;
 
 pub use branch::{put_branch, take_branch};
+pub use change::{put_change, take_change};
 pub use name::{put_name, take_name};
 pub use lists::{put_list_u8, put_list_u32, take_list_u8, take_list_u32};
 pub use part::Part;
+pub use row::{put_row, take_row};
+pub use value::{put_value, take_value};
 pub use whole::{read_front, read_whole, write_whole};
