@@ -2,3 +2,5 @@ pub mod Branch
 pub mod Name
 pub mod Value
 pub mod Change
+pub mod Decision
+pub mod Table

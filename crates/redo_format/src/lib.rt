@@ -8,10 +8,12 @@
 
 mod branch;
 mod change;
+mod decision;
 mod lists;
 mod name;
 mod part;
 mod row;
+mod table;
 mod value;
 mod whole;
 
