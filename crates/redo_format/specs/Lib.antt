@@ -4,3 +4,5 @@ pub mod Value
 pub mod Change
 pub mod Decision
 pub mod Table
+pub mod Sealed
+pub mod Record

@@ -6,22 +6,31 @@
 //! most significant byte first.
 #![tactic(auto)]
 
+mod body;
 mod branch;
 mod change;
 mod decision;
+mod decode_err;
+mod kept;
+mod laws;
 mod lists;
 mod name;
+mod paper;
+mod param;
 mod part;
+mod putting;
+mod record;
 mod row;
 mod table;
+mod taking;
 mod value;
 mod whole;
 
+pub use body::{decode, encode};
 pub use branch::{put_branch, take_branch};
 pub use change::{put_change, take_change};
 pub use name::{put_name, take_name};
-pub use lists::{put_list_u8, put_list_u32, take_list_u8, take_list_u32};
-pub use part::Part;
+pub use decode_err::DecodeErr;
+pub use laws::{parts_are_exact, records_are_exact};
 pub use row::{put_row, take_row};
 pub use value::{put_value, take_value};
-pub use whole::{read_front, read_whole, write_whole};

@@ -10,7 +10,7 @@ use byte_format::{TakeErr, put_u8};
 use std::alloc::{AllocError, Global};
 
 /// What can be put at the end of some bytes, and taken from the front of some.
-pub trait Part: Sized + Drop {
+pub(crate) trait Part: Sized + Drop {
     /// How a value is spelled.
     ghost format: { Format Self };
 

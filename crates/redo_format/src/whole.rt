@@ -7,7 +7,7 @@ use byte_format::TakeErr;
 use std::alloc::{AllocError, Global};
 
 /// The value whose spelling these bytes begin with, and the bytes after it.
-pub fn read_front<P: Part>(alloc: Global, bytes: &[u8]) -> Result<(P, &[u8]), TakeErr>
+pub(crate) fn read_front<P: Part>(alloc: Global, bytes: &[u8]) -> Result<(P, &[u8]), TakeErr>
     requires { IsExact P.format }
     ensures found { IfOk result (λ x. IsFront P.format bytes.now x.0 x.1.now) }
     ensures refused { IsErrOf result TakeErr.NoSpelling → HasNoFront P.format bytes.now }
@@ -16,7 +16,7 @@ pub fn read_front<P: Part>(alloc: Global, bytes: &[u8]) -> Result<(P, &[u8]), Ta
 }
 
 /// The value whose spelling these bytes are, with nothing after it.
-pub fn read_whole<P: Part>(alloc: Global, bytes: &[u8]) -> Result<P, TakeErr>
+pub(crate) fn read_whole<P: Part>(alloc: Global, bytes: &[u8]) -> Result<P, TakeErr>
     requires { IsExact P.format }
     ensures found { IfOk result (λ value. IsSpelling P.format bytes.now value) }
     ensures refused { IsErrOf result TakeErr.NoSpelling → (v : P) → IsSpelling P.format bytes.now v → ⊥ }
@@ -30,7 +30,7 @@ pub fn read_whole<P: Part>(alloc: Global, bytes: &[u8]) -> Result<P, TakeErr>
 }
 
 /// The value's spelling.
-pub fn write_whole<P: Part>(alloc: Global, value: &P) -> Result<Vec<u8>, AllocError>
+pub(crate) fn write_whole<P: Part>(alloc: Global, value: &P) -> Result<Vec<u8>, AllocError>
     requires { P.format.Fits value.now }
     ensures { IfOk result (λ bytes. IsSpelling P.format bytes.items value.now) }
 {
