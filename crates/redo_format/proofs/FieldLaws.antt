@@ -6,8 +6,7 @@ use Rattle.dtx_values.specs.declared.value.Value.{Value}
 use Rattle.dtx_values.specs.declared.value.Value.TheVariants as cell
 use Rattle.byte_format.specs.Format.{IsExact}
 use Rattle.byte_format.specs.Number.{number8, number16, signed64}
-use Rattle.byte_format.specs.Part.{run, tested}
-use Rattle.byte_format.proofs.Steps.{some_is}
+use Rattle.byte_format.specs.Part.{run}
 use Rattle.byte_format.proofs.NumberLaws.{number8_exact, number16_exact, number32_exact, signed64_exact}
 use Rattle.byte_format.proofs.PartLaws.{pair_exact, run_exact, optional_exact, mapped_exact, tested_exact}
 use Rattle.byte_format.proofs.SeveralLaws.{counted_exact}

@@ -1,5 +1,5 @@
 -- Names as bytes.
-use Rattle.std.specs.Prelude.{ℕ, Bool, false, List, Option}
+use Rattle.std.specs.Prelude.{ℕ, Bool, false, List}
 use Rattle.std.specs.Option.{option_map_or}
 use Rattle.std.specs.Str.{bytes_eq}
 use Rattle.dtx_values.specs.Name.{name_of}

@@ -1,7 +1,7 @@
 -- Redo records as bytes.
 --
 --   record = 1, a byte that names the kind, and the fields of that kind
-use Rattle.std.specs.Prelude.{ℕ, Bool, List, [], ◌∷◌, Option, Some, None, ⊤}
+use Rattle.std.specs.Prelude.{ℕ, Bool, [], ◌∷◌, Option, Some, None}
 use Rattle.dtx_values.specs.declared.table.Table.{Table}
 use Rattle.dtx_values.specs.declared.table.Link.{Link}
 use Rattle.dtx_values.specs.declared.table.Synonym.{Synonym}

@@ -1,5 +1,5 @@
 -- Values and rows as bytes.
-use Rattle.std.specs.Prelude.{ℕ, ℤ, Bool, List, [], Option, Some, None, ⊤}
+use Rattle.std.specs.Prelude.{ℕ, ℤ, List, [], Option, Some, None, ⊤}
 use Rattle.dtx_values.specs.Str.{is_text}
 use Rattle.dtx_values.specs.declared.value.Value.{Value}
 use Rattle.dtx_values.specs.declared.value.Value.TheVariants as cell

@@ -21,6 +21,7 @@ mod part;
 mod putting;
 mod record;
 mod row;
+mod size;
 mod table;
 mod taking;
 mod value;
@@ -29,8 +30,12 @@ mod whole;
 pub use body::{decode, encode};
 pub use branch::{put_branch, take_branch};
 pub use change::{put_change, take_change};
-pub use name::{put_name, take_name};
 pub use decode_err::DecodeErr;
 pub use laws::{parts_are_exact, records_are_exact};
+pub use name::{put_name, take_name};
 pub use row::{put_row, take_row};
+pub use size::change_len;
 pub use value::{put_value, take_value};
+
+#[cfg(test)]
+mod tests;

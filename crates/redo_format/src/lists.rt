@@ -79,7 +79,10 @@ pub(crate) fn put_list_u32<P: Part>(out: &mut Vec<u8>, items: &[P]) -> Result<()
 }
 
 /// The items behind their count of four bytes, and the bytes after them.
-pub(crate) fn take_list_u32<P: Part>(alloc: Global, bytes: &[u8]) -> Result<(Vec<P>, &[u8]), TakeErr>
+pub(crate) fn take_list_u32<P: Part>(
+    alloc: Global,
+    bytes: &[u8],
+) -> Result<(Vec<P>, &[u8]), TakeErr>
     ensures { ReadsInMemory (λ x. (x.0.items, x.1.now)) result ((counted number32 P.format).read bytes.now) }
 {
     let (count, rest) = take_u32(bytes)?;

@@ -14,7 +14,11 @@ use redo_codec::RedoRecord;
 use std::alloc::Global;
 
 /// The record of this kind whose fields are at the front, and the bytes after them.
-pub(crate) fn take_fields(alloc: Global, kind: u8, bytes: &[u8]) -> Result<(RedoRecord, &[u8]), TakeErr>
+pub(crate) fn take_fields(
+    alloc: Global,
+    kind: u8,
+    bytes: &[u8],
+) -> Result<(RedoRecord, &[u8]), TakeErr>
     ensures { ReadsInMemory (λ x. (x.0, x.1.now)) result ((record_fields kind).read bytes.now) }
 {
     match kind {

@@ -1,4 +1,4 @@
-use Rattle.std.proofs.Common.{◌≡◌, ℕ, zero, suc, ◌-◌, false, eqb, refl, ap, arith}
+use Rattle.std.proofs.Common.{◌≡◌, ℕ, zero, suc, ◌-◌, refl, ap, arith}
 use Rattle.redo_codec.specs.declared.record.Toward.TheVariants as towards
 use Rattle.redo_format.specs.Sealed.{toward_at}
 use Rattle.redo_format.proofs.paper.toward_at.Goals as goal
