@@ -2,8 +2,8 @@
 ghost use Rattle.std.specs.Prelude.{◌≡◌, ◌++◌, OnOk};
 ghost use Rattle.redo_format.specs.Sealed.{is_sealed, sealed_format, decided_format};
 
+use crate::attributes::{put_advice, put_comment, take_advice, take_comment};
 use crate::branch::put_branch;
-use crate::paper::{put_advice, put_comment, take_advice, take_comment};
 use crate::part::Part;
 use byte_format::{TakeErr, put_u48, take_u48};
 use redo_codec::{Decided, Sealed, Toward};

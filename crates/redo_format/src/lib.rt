@@ -6,6 +6,7 @@
 //! most significant byte first.
 #![tactic(auto)]
 
+mod attributes;
 mod body;
 mod branch;
 mod change;
@@ -15,7 +16,6 @@ mod kept;
 mod laws;
 mod lists;
 mod name;
-mod paper;
 mod param;
 mod part;
 mod putting;

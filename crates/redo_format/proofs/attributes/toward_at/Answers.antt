@@ -1,7 +1,7 @@
 use Rattle.std.proofs.Common.{◌≡◌, ℕ, zero, suc, ◌-◌, refl, ap, arith}
 use Rattle.redo_codec.specs.declared.record.Toward.TheVariants as towards
 use Rattle.redo_format.specs.Sealed.{toward_at}
-use Rattle.redo_format.proofs.paper.toward_at.Goals as goal
+use Rattle.redo_format.proofs.attributes.toward_at.Goals as goal
 
 child_at : (n : ℕ) → (n ≡ 0 → ⊥) → towards.Child (n - 1) ≡ toward_at n
 child_at zero h = absurd (h refl)
