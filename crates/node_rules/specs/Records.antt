@@ -6,7 +6,7 @@ use Rattle.node_rules.specs.Data.records
 use Rattle.node_rules.specs.Data.params
 use Rattle.node_rules.specs.Data.towards
 use Rattle.node_rules.specs.Data.states
-use Rattle.node_rules.specs.Words.{same, change_where, drop_where, branch_below}
+use Rattle.node_rules.specs.Words.{same, change_where, drop_where, put_by_branch}
 use Rattle.node_rules.specs.Rows.{apply_all}
 use Rattle.node_rules.specs.Kept.{Doubt, Stored, Kept, stands_at}
 
@@ -22,11 +22,6 @@ nothing_stored = record { durable = no_durable; rows = []; doubts = []; scn = 0 
 abbrev pub raised_by : ℕ → Decision → ℕ
 raised_by scn (decisions.Commit n) = max scn n
 raised_by scn decisions.Rollback = scn
-
--- kept branches stand in order of boot, session, seq
-abbrev pub keep : List Standing → Standing → List Standing
-keep [] s = s ∷ []
-keep (x ∷ xs) s = if branch_below s.me x.me then s ∷ x ∷ xs else x ∷ keep xs s
 
 -- a child, not yet acknowledged
 abbrev pub kid_of : Peer → Kid
@@ -102,7 +97,7 @@ drop_kept s b = record s { durable = record s.durable { kept = drop_where (stand
 
 -- with one more kept branch
 abbrev pub add_kept : Stored → Standing → Stored
-add_kept s x = record s { durable = record s.durable { kept = keep s.durable.kept x } }
+add_kept s x = record s { durable = record s.durable { kept = put_by_branch (λ y. y.me) s.durable.kept x } }
 
 -- a decided branch is kept where it has neighbours
 abbrev pub keep_decided : Stored → Standing → Stored

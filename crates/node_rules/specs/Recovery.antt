@@ -3,7 +3,7 @@ use Rattle.std.specs.Prelude.{◌&&◌, not, if◌then◌else◌, List, [], ◌�
 use Rattle.node_rules.specs.Data.{BranchId, Decision, Standing, Kind}
 use Rattle.node_rules.specs.Data.decisions
 use Rattle.node_rules.specs.Data.kinds
-use Rattle.node_rules.specs.Words.{is_branch, branch_below}
+use Rattle.node_rules.specs.Words.{is_branch, put_by_branch}
 use Rattle.node_rules.specs.Prepare.{drops}
 use Rattle.node_rules.specs.Commit.{beyond, all_acked, is_neighbor}
 use Rattle.node_rules.specs.Kept.{Kept, Deed, Branch, Post, saying, post, to_each, to_one}
@@ -46,14 +46,9 @@ recovers s (Some decisions.Rollback) = []
 abbrev pub asks_kept : Standing → Asking
 asks_kept s = record { me = s.me; says = recovers s s.decision }
 
--- branches in order of boot, session, seq
-abbrev pub put_asking : List Asking → Asking → List Asking
-put_asking [] a = a ∷ []
-put_asking (b ∷ bs) a = if branch_below a.me b.me then a ∷ b ∷ bs else b ∷ put_asking bs a
-
 -- what all branches of a node send
 abbrev pub askings : Kept → List Asking
-askings k = fold put_asking [] (map asks_live k.lives ++ map asks_kept k.stored.durable.kept)
+askings k = fold (put_by_branch (λ a. a.me)) [] (map asks_live k.lives ++ map asks_kept k.stored.durable.kept)
 
 -- RECO: one turn without a record
 unfoldable pub recovery : Kept → Deed

@@ -5,7 +5,7 @@ use Rattle.node_rules.specs.Data.decisions
 use Rattle.node_rules.specs.Data.states
 use Rattle.node_rules.specs.Data.phases
 use Rattle.node_rules.specs.Data.advices
-use Rattle.node_rules.specs.Words.{is_branch, branch_below, one}
+use Rattle.node_rules.specs.Words.{is_branch, put_by_branch, one}
 use Rattle.node_rules.specs.Ids.{decimal, local_text, global_text, name_of}
 use Rattle.node_rules.specs.Kept.{Kept, Branch}
 
@@ -71,14 +71,9 @@ is_working _ = false
 abbrev pub has_sent_prepare : Branch → Bool
 has_sent_prepare x = not (is_working x.live.phase) && is_some (slice_get x.live.edges 0)
 
--- a row among rows in order
-abbrev pub put_pending : List Pending → Pending → List Pending
-put_pending [] r = r ∷ []
-put_pending (x ∷ xs) r = if branch_below r.me x.me then r ∷ x ∷ xs else x ∷ put_pending xs r
-
 -- in order of boot, session, seq
 unfoldable pub pending_rows : Kept → List Pending
-pending_rows k = fold put_pending [] (map pending_live (filter has_sent_prepare k.lives) ++ map pending_kept (filter (λ s. not s.hidden) k.stored.durable.kept))
+pending_rows k = fold (put_by_branch (λ r. r.me)) [] (map pending_live (filter has_sent_prepare k.lives) ++ map pending_kept (filter (λ s. not s.hidden) k.stored.durable.kept))
 
 -- A row of DBA_2PC_NEIGHBORS.
 pub record Neighbor : Type 0 where

@@ -53,3 +53,8 @@ abbrev pub first_some : {A : Type 0} → List (Option A) → Option A
 first_some [] = None
 first_some (Some x ∷ xs) = Some x
 first_some (None ∷ xs) = first_some xs
+
+-- with one more item, where items stand in order of their branches
+abbrev pub put_by_branch : {A : Type 0} → (A → BranchId) → List A → A → List A
+put_by_branch id [] x = x ∷ []
+put_by_branch id (y ∷ ys) x = if branch_below (id x) (id y) then x ∷ y ∷ ys else y ∷ put_by_branch id ys x
