@@ -1,7 +1,7 @@
 -- What every trace keeps.
 use Rattle.std.specs.Prelude.{◌≡◌, List}
+use Rattle.book.specs.declared.entry.Entry.{Entry}
 use Rattle.one_node_script.specs.declared.command.Command.{Command}
-use Rattle.one_node_book.specs.declared.entry.Entry.{Entry}
 use Rattle.one_node_book.specs.declared.happening.Happening.{Happening}
 use Rattle.one_node_book.specs.Book.{book_of}
 use Rattle.one_node_laws.specs.Past.{start}
