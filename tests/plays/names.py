@@ -1,5 +1,6 @@
 """Every name of the definitions that the plays cite, by its module. A name that moves is changed here alone."""
 
+IDS = "Rattle.tran_ids.specs"
 RULES = "Rattle.node_rules.specs"
 LAWS = "Rattle.run_laws.specs"
 DATA = f"{LAWS}.Data"
@@ -7,6 +8,7 @@ PROOFS = "Rattle.plays.proofs"
 
 # what a play unfolds to compute what is printed
 UNFOLDED = (
+    (f"{IDS}.Numbers", "decimal hex8"),
     (f"{RULES}.Meaning", "checked examined written meant_over"),
     (f"{RULES}.Records", "applied stored_by"),
     (f"{RULES}.Tree", "weight step"),

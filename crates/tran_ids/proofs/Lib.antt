@@ -1,2 +1,3 @@
 pub mod BranchLemmas
+pub mod NumberLemmas
 pub mod TextLemmas

@@ -1,19 +1,20 @@
 -- A local text is cut at its dots into the numbers that it is made of.
 use Rattle.std.proofs.Common.{◌≡◌, ◌≢◌, ℕ, ◌+◌, ◌-◌, ◌<◌, ◌^◌, Bool, true, false, ◌==◌, cond, nat_lt, List, [], ◌∷◌, ◌++◌, length, get_or, take, drop, replicate, Option, Some, None, refl, sym, ap, subst, ◌∙◌, add-one, arith}
 use Rattle.std.proofs.lemmas.Bool.Decides.{nat_tests}
-use Rattle.std.proofs.lemmas.Fmt.{IsAscii-decimal, digits_decimal}
+use Rattle.std.proofs.lemmas.Fmt.{IsAscii-from_digits, digits_decimal}
 use Rattle.std.proofs.lemmas.Grind.{common_steps}
-use Rattle.std.proofs.lemmas.List.{append-nil, take_at, drop_at, append_assoc, get_or_append_left, get_or_at, length_push}
+use Rattle.std.proofs.lemmas.List.{take_at, drop_at, append_assoc, get_or_append_left, get_or_at, length_push}
 use Rattle.std.proofs.lemmas.List.Sums.{position_or_len_is, passes_at_first}
 use Rattle.std.proofs.lemmas.Str.{IsUtf8-from_ascii}
 use Rattle.std.proofs.lemmas.Str.Parse.{IsNumeralModel, numerals_by_value, tells_digits, not_in_digits}
 use Rattle.std.proofs.Math.Seq.{split_at}
-use Rattle.std.specs.Fmt.{decimal, digits, format_spec, char_count, padded_integral}
 use Rattle.std.specs.List.{position_or_len}
 use Rattle.std.specs.Option.{option_map}
 use Rattle.std.specs.Str.{IsUtf8}
 use Rattle.std.specs.Str.Parse.{AllDigits, digits_value}
-use Rattle.tran_ids.specs.Texts.{eight_digits, cut_of}
+use Rattle.tran_ids.specs.Numbers.{decimal}
+use Rattle.tran_ids.specs.Texts.{local_of, cut_of}
+use Rattle.tran_ids.proofs.NumberLemmas.{decimal_is}
 
 abbrev is_dot : ℕ → Bool
 is_dot b = b == 46
@@ -24,9 +25,12 @@ some_is e = cc
 own : IsNumeralModel (AllDigits 10) (digits_value 10)
 own = numerals_by_value _ tells_digits
 
+all_digits : (n : ℕ) → n < 2 ^ 64 → AllDigits 10 (decimal n)
+all_digits n small = subst (AllDigits 10) (decimal_is n small) (digits_decimal own n small)
+
 -- no digit of a number is a dot
 no_dot : (n k : ℕ) → n < 2 ^ 64 → k < length (decimal n) → get_or (decimal n) k 0 ≢ 46
-no_dot n k small lt = not_in_digits own (decimal n) 46 (digits_decimal own n small) (λ h. omega arith) k lt
+no_dot n k small lt = not_in_digits own (decimal n) 46 (all_digits n small) (λ h. omega arith) k lt
 
 first_dot : (n : ℕ) (ys : List ℕ) → n < 2 ^ 64 → position_or_len is_dot (decimal n ++ 46 ∷ ys) ≡ length (decimal n)
 first_dot n ys small =
@@ -76,13 +80,10 @@ first_part text x y n rest small e cut =
 pub is_cut : (text : List ℕ) (n : ℕ) (rest : List ℕ) → n < 2 ^ 32 → decimal n ++ 46 ∷ rest ≡ text → None ≡ cut_of text → ⊥
 is_cut text n rest small e cut = absurd (cc (sym (cut_number n rest (omega arith)) ∙ ap cut_of e, cut))
 
+-- a local text begins with the boot and a dot
+pub parts_of : (boot session seq : ℕ) → local_of boot session seq ≡ decimal boot ++ 46 ∷ (decimal session ++ 46 ∷ decimal seq)
+parts_of boot session seq = simp append_assoc
+
 -- what is written of a number is UTF-8
 pub number_utf8 : (n : ℕ) (ds : List ℕ) → n < 2 ^ 32 → decimal n ≡ ds → IsUtf8 ds
-number_utf8 n ds small e = subst IsUtf8 e (IsUtf8-from_ascii (decimal n) (IsAscii-decimal n (omega arith)))
-
--- a number that is written in hexadecimal at width eight, with zeros in front
-pub padded_is : (n : ℕ) → padded_integral (format_spec 32 0 4 8 (2 ^ 64 - 1)) false [] (digits 16 false n) ≡ eight_digits n
-unfolding padded_integral char_count
-padded_is n =
-    let none : 8 - length (digits 16 false n) - 0 - 0 ≡ 8 - length (digits 16 false n) = omega arith in
-    rw append-nil (ap (λ k. replicate k 48 ++ digits 16 false n) none)
+number_utf8 n ds small e = subst IsUtf8 e (IsUtf8-from_ascii (decimal n) (IsAscii-from_digits (decimal n) (all_digits n (omega arith))))

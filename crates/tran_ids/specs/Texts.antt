@@ -1,25 +1,24 @@
 -- How ids are written.
-use Rattle.std.specs.Prelude.{ℕ, ◌-◌, ◌==◌, List, [], ◌∷◌, ◌++◌, length, replicate, false, Option, take, drop, position, ◌+◌}
+use Rattle.std.specs.Prelude.{ℕ, ◌+◌, ◌-◌, ◌==◌, List, [], ◌++◌, codes, take, drop, position, slice_get, unwrap_or, Option}
 use Rattle.std.specs.Option.{option_map}
-use Rattle.std.specs.Fmt.{decimal, digits}
-use Rattle.std.specs.List.{join_with_byte}
 use Rattle.tran_ids.specs.declared.branch.BranchId.{BranchId}
+use Rattle.tran_ids.specs.Numbers.{decimal, hex8}
 
--- parts with a dot between one and the next
-abbrev pub dotted : List (List ℕ) → List ℕ
-dotted parts = join_with_byte 46 parts
-
--- the decimal numbers of a boot, a session and a transaction, joined by dots
+-- a boot, a session and a transaction's number, joined by dots
 abbrev pub local_of : ℕ → ℕ → ℕ → List ℕ
-local_of boot session seq = dotted (decimal boot ∷ decimal session ∷ decimal seq ∷ [])
+local_of boot session seq = decimal boot ++ codes "." ++ decimal session ++ codes "." ++ decimal seq
 
--- a number in lower-case hexadecimal, with zeros before it up to eight digits
-abbrev pub eight_digits : ℕ → List ℕ
-eight_digits n = replicate (8 - length (digits 16 false n)) 48 ++ digits 16 false n
+-- the local id of a branch
+abbrev pub local_text : BranchId → List ℕ
+local_text b = local_of b.boot b.session b.seq
 
--- the name of the root's node, the node's number and the root's local text, joined by dots
-abbrev pub global_of : BranchId → List ℕ → List ℕ
-global_of root name = dotted (name ∷ eight_digits root.node ∷ local_of root.boot root.session root.seq ∷ [])
+-- the name of the node of this number
+abbrev pub name_of : List (List ℕ) → ℕ → List ℕ
+name_of names node = unwrap_or (slice_get names (node - 1)) []
+
+-- the global id: the root's node by name and by number, and the root's local id
+abbrev pub global_text : List (List ℕ) → BranchId → List ℕ
+global_text names root = name_of names root.node ++ codes "." ++ hex8 root.node ++ codes "." ++ local_text root
 
 -- what stands before the first dot and what stands behind it, where there is a dot
 abbrev pub cut_of : List ℕ → Option (List ℕ × List ℕ)

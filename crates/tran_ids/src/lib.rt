@@ -7,7 +7,9 @@ mod texts;
 
 pub use branch::BranchId;
 pub use clock::Clock;
-pub use texts::{global_text, local_text, read_local};
+pub use texts::{
+    global_text, local_text, node_name, put_decimal, put_global, put_local, read_local,
+};
 
 #[cfg(test)]
 mod tests;

@@ -17,7 +17,8 @@ fn ids_are_written(rt: HostRuntime) -> Result<(), Fail> {
         b"1.65.1".as_slice()
     );
     let name = Name::from_bytes(alloc, b"HQ").map_err(|_| "it is a name")?;
-    let text = global_text(alloc, &BRANCH, &name)?;
+    let names = [name];
+    let text = global_text(alloc, &names, &BRANCH)?;
     assert_eq!(rt; text.as_slice(), b"HQ.00000001.1.65.1".as_slice());
     let last = BranchId {
         node: 255,
@@ -25,8 +26,8 @@ fn ids_are_written(rt: HostRuntime) -> Result<(), Fail> {
         session: 64,
         seq: 10,
     };
-    let text = global_text(alloc, &last, &name)?;
-    assert_eq!(rt; text.as_slice(), b"HQ.000000ff.4294967295.64.10".as_slice());
+    let text = global_text(alloc, &names, &last)?;
+    assert_eq!(rt; text.as_slice(), b".000000ff.4294967295.64.10".as_slice());
     Ok(())
 }
 

@@ -1,40 +1,97 @@
 //! The texts of ids: the local text of a branch, and the global text of the transaction that it is the root of.
-ghost use Rattle.std.specs.Prelude.{◌≡◌, ℕ, ◌<◌, ◌^◌, Some, IfOk, IfSome};
-ghost use Rattle.std.specs.Fmt.{decimal};
+ghost use Rattle.std.specs.Prelude.{◌≡◌, ℕ, ◌<◌, ◌^◌, ◌++◌, Some, IfOk, IfSome, OnOk};
 ghost use Rattle.std.specs.Option.{option_map};
-ghost use Rattle.std.specs.String.{string_bytes};
-ghost use Rattle.tran_ids.specs.Texts.{local_of, eight_digits, global_of, cut_of};
+ghost use Rattle.tran_ids.specs.Numbers.{decimal, hex8, hex_digit as hex_digit_of};
+ghost use Rattle.tran_ids.specs.Texts.{local_of, local_text as local_text_of, name_of, global_text as global_text_of, cut_of};
 
 use crate::BranchId;
 use dtx_values::{Bytes, Listing, Name};
 use itoa::Buffer;
 use std::alloc::{AllocError, Global};
 
-/// The boot, session and number of a branch in decimal, joined by dots, as `1.65.1`.
-pub fn local_text(alloc: Global, id: &BranchId) -> Result<Bytes, AllocError>
-    ensures { IfOk result (λ text. text ≡ local_of id.now.boot id.now.session id.now.seq) }
+// A number in decimal.
+#[tactic(auto, using(crate::proofs::NumberLemmas::decimal_is))]
+fn written(buffer: &mut Buffer, number: u64) -> &[u8]
+    ensures { result.now ≡ decimal number }
 {
-    let text = format!(in alloc; "{}.{}.{}", id.boot, id.session, id.seq)?;
-    Ok(Listing::of(text.into_bytes()))
+    buffer.format(number).as_bytes()
 }
 
-/// The text of the transaction whose root is this branch of the node of this name, as `HQ.00000001.1.65.1`.
-pub fn global_text(alloc: Global, root: &BranchId, name: &Name) -> Result<Bytes, AllocError>
-    ensures { IfOk result (λ text. text ≡ global_of root.now name.now) }
+/// Adds a number in decimal at the end.
+pub fn put_decimal(out: &mut Vec<u8>, number: u64) -> Result<(), AllocError>
+    ensures { OnOk result (out.new.items ≡ out.old.items ++ decimal number) }
 {
-    let mut text = Vec::from_slice(alloc, name.as_bytes())?;
-    text.push(b'.')?;
-    text.extend_from_slice(node_digits(alloc, root.node)?.as_bytes())?;
-    text.push(b'.')?;
-    text.extend_from_slice(local_text(alloc, root)?.as_slice())?;
+    out.extend_from_slice(written(&mut Buffer::new(), number))
+}
+
+/// Adds the boot, session and number of a branch in decimal, joined by dots, as `1.65.1`.
+pub fn put_local(out: &mut Vec<u8>, id: &BranchId) -> Result<(), AllocError>
+    ensures { OnOk result (out.new.items ≡ out.old.items ++ local_text_of id.now) }
+{
+    put_decimal(out, u64::from(id.boot))?;
+    out.push(b'.')?;
+    put_decimal(out, u64::from(id.session))?;
+    out.push(b'.')?;
+    put_decimal(out, u64::from(id.seq))
+}
+
+/// The boot, session and number of a branch in decimal, joined by dots, as `1.65.1`.
+pub fn local_text(alloc: Global, id: &BranchId) -> Result<Bytes, AllocError>
+    ensures { IfOk result (λ text. text ≡ local_text_of id.now) }
+{
+    let mut text = Vec::new(alloc);
+    put_local(&mut text, id)?;
     Ok(Listing::of(text))
 }
 
-#[tactic(auto, using(crate::proofs::TextLemmas::padded_is))]
-fn node_digits(alloc: Global, node: u8) -> Result<String, AllocError>
-    ensures { IfOk result (λ digits. string_bytes digits ≡ eight_digits node) }
+/// The name of the node of this number, where the names of all nodes are in the order of their numbers.
+pub fn node_name(names: &[Name], node: u8) -> &[u8]
+    ensures { result.now ≡ name_of names.now node }
 {
-    format!(in alloc; "{node:08x}")
+    match names.get(usize::from(node).saturating_sub(1)) {
+        None => &[],
+        Some(name) => name.as_bytes(),
+    }
+}
+
+/// Adds the text of the transaction whose root is this branch, as `HQ.00000001.1.65.1`.
+pub fn put_global(out: &mut Vec<u8>, names: &[Name], root: &BranchId) -> Result<(), AllocError>
+    ensures { OnOk result (out.new.items ≡ out.old.items ++ global_text_of names.now root.now) }
+{
+    out.extend_from_slice(node_name(names, root.node))?;
+    out.push(b'.')?;
+    out.extend_from_slice(&node_digits(root.node))?;
+    out.push(b'.')?;
+    put_local(out, root)
+}
+
+/// The text of the transaction whose root is this branch, as `HQ.00000001.1.65.1`.
+pub fn global_text(alloc: Global, names: &[Name], root: &BranchId) -> Result<Bytes, AllocError>
+    ensures { IfOk result (λ text. text ≡ global_text_of names.now root.now) }
+{
+    let mut text = Vec::new(alloc);
+    put_global(&mut text, names, root)?;
+    Ok(Listing::of(text))
+}
+
+// A node's number as eight hexadecimal digits, of which a byte needs only the last two.
+#[tactic(auto, using(crate::proofs::NumberLemmas::byte_is))]
+fn node_digits(node: u8) -> [u8; 8]
+    ensures { result ≡ hex8 node }
+{
+    let (high, low) = (hex_digit(node / 16), hex_digit(node % 16));
+    [b'0', b'0', b'0', b'0', b'0', b'0', high, low]
+}
+
+fn hex_digit(digit: u8) -> u8
+    requires { digit < 16 }
+    ensures { result ≡ hex_digit_of digit }
+{
+    if digit < 10 {
+        b'0' + digit
+    } else {
+        b'a' - 10 + digit
+    }
 }
 
 /// The boot, session and number that a local text gives, or nothing where it is the local text of no branch. So no
@@ -66,7 +123,7 @@ fn read_number(digits: &[u8]) -> Option<u32>
 {
     let number = parsed(digits)?;
     // A sign, or a zero before the number, would not be written again.
-    if Buffer::new().format(number).as_bytes() != digits {
+    if written(&mut Buffer::new(), u64::from(number)) != digits {
         return None;
     }
     Some(number)

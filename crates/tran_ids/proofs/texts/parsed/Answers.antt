@@ -2,6 +2,7 @@ use Rattle.std.proofs.Common.{◌≡◌, List, ℕ, Bor, Result, Ok, Err, Some, 
 use Rattle.std.specs.Result.{result_ok}
 use Rattle.std.specs.Str.{IsUtf8}
 use Rattle.std.proofs.lemmas.Fmt.{parse-decimal}
+use Rattle.tran_ids.proofs.NumberLemmas.{decimal_is}
 use Rattle.tran_ids.proofs.TextLemmas.{number_utf8}
 use Rattle.tran_ids.proofs.texts.parsed.Goals as goal
 
@@ -22,5 +23,5 @@ returns-in_err-ok c number small is =
 pub returns : goal.returns
 returns c number small is =
     let text = text_is c.from_utf8.result c.args.digits.now c.in_ok-ok.field-0 _ c.from_utf8.ensures.cases (sym c.ok.ensures.value ∙ c.in_ok-ok.was) in
-    let read = parse-decimal 32 number c.in_ok-ok.field-0.now c.parse.result small (omega arith) (text ∙ sym is) c.parse.ensures.value.0 in
+    let read = parse-decimal 32 number c.in_ok-ok.field-0.now c.parse.result small (omega arith) (text ∙ sym (decimal_is number (omega arith) ∙ is)) c.parse.ensures.value.0 in
     c.ok-2.ensures.value ∙ ap result_ok read
