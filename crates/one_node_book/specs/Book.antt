@@ -9,13 +9,9 @@ use Rattle.redo_codec.specs.declared.record.RedoRecord.{RedoRecord}
 use Rattle.redo_codec.specs.declared.record.RedoRecord.TheVariants as records
 use Rattle.book.specs.declared.entry.Entry.{Entry}
 use Rattle.book.specs.declared.entry.Entry.TheVariants.{Made, Decided}
-use Rattle.book.specs.Entries.{entry_of}
+use Rattle.book.specs.Entries.{entries_of}
 use Rattle.one_node_book.specs.declared.happening.Happening.{Happening}
 use Rattle.one_node_book.specs.declared.happening.Happening.TheVariants.{Begun, Turn, Stopped, Started}
-
--- the entries of what a node wrote in a turn
-abbrev pub entries_of : ℕ → Option RedoRecord → List Entry
-entries_of node wrote = flat_map (entry_of node) (option_to_list wrote)
 
 -- the entries of a happening
 abbrev pub entries_in : Happening → List Entry

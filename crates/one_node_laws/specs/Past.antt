@@ -8,17 +8,17 @@ use Rattle.book.specs.declared.entry.Entry.{Entry}
 use Rattle.book.specs.declared.line.Said.{Said}
 use Rattle.book.specs.declared.line.Said.TheVariants as said
 use Rattle.book.specs.declared.line.AnswerLine.{AnswerLine}
-use Rattle.run_laws.specs.Shown.{shown_book}
 use Rattle.one_node_book.specs.declared.input.Input.{Input}
 use Rattle.one_node_book.specs.declared.input.Input.TheVariants as inputs
 use Rattle.one_node_book.specs.declared.happening.Happening.{Happening}
 use Rattle.one_node_book.specs.declared.happening.Happening.TheVariants.{Begun, Turn, Stopped, Started}
-use Rattle.one_node_book.specs.Book.{entries_of}
+use Rattle.book.specs.Entries.{entries_of}
 use Rattle.one_node_script.specs.declared.command.Command.{Command}
 use Rattle.one_node_script.specs.declared.command.Command.TheVariants as commands
 use Rattle.one_node_rules.specs.Turn.{Kept, Outcome, turn_of, start_of}
 use Rattle.one_node_rules.specs.Disk.{disk_bytes}
 use Rattle.one_node_laws.specs.Shown.{shown_disk}
+use Rattle.book.specs.Texts.{shown_book}
 
 -- What is due next.
 pub data Due : Type 0 where

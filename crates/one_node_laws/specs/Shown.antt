@@ -1,7 +1,7 @@
 -- What SHOW DISK prints: the bytes of a disk in hexadecimal, 32 in a line behind the place of the first.
 use Rattle.std.specs.Prelude.{ℕ, ◌+◌, ◌*◌, ◌/◌, ◌%◌, List, [], ◌∷◌, ◌++◌, map, flat_map, length, take, drop, codes}
 use Rattle.std.specs.List.{range_with_len}
-use Rattle.node_rules.specs.Ids.{hex_digit, hex8}
+use Rattle.tran_ids.specs.Numbers.{hex_digit, hex8}
 
 -- a byte as two digits
 abbrev pub hex2 : ℕ → List ℕ

@@ -13,7 +13,8 @@ use Rattle.one_node_sql.specs.declared.statement.Stmt.{Stmt}
 use Rattle.one_node_book.specs.declared.input.Input.TheVariants as inputs
 use Rattle.one_node_book.specs.declared.happening.Happening.{Happening}
 use Rattle.one_node_book.specs.declared.happening.Happening.TheVariants.{Begun, Turn, Stopped, Started}
-use Rattle.one_node_book.specs.Book.{entries_of, rows_of, table_of, scn_of}
+use Rattle.book.specs.Entries.{entries_of}
+use Rattle.one_node_book.specs.Book.{rows_of, table_of, scn_of}
 use Rattle.one_node_rules.specs.Turn.{the_node, understood, answer_of, changes_of, own_of, transaction_after, ended_after, record_of, branch_of}
 use Rattle.one_node_laws.specs.Past.{first_records}
 
