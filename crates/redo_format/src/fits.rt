@@ -2,7 +2,7 @@
 //!
 //! `encode` asks for a record that has a spelling. What names, values and the like are made of is an invariant of their
 //! types, which is known where they are read: these functions read them, and say it in the words of the formats.
-ghost use Rattle.std.specs.Prelude.{◌≡◌, ◌≤◌, ◌<◌, length, IsTrue, IfSome};
+ghost use Rattle.std.specs.Prelude.{◌≤◌, length, IsTrue, IfSome};
 ghost use Rattle.std.specs.List.{All, AllByRecursion};
 ghost use Rattle.redo_format.specs.Branch.{branch_format};
 ghost use Rattle.redo_format.specs.Name.{name_format};
