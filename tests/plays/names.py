@@ -21,7 +21,6 @@ UNFOLDED = (
     (f"{RULES}.Points", "passes point_of"),
     (f"{RULES}.Views", "pending_rows neighbor_rows"),
     (f"{LAWS}.Net", "sent_on delivered lost cut_over joined stopped started"),
-    (f"{LAWS}.Shown", "book_lines"),
     (f"{LAWS}.Disks", "struck after_append"),
     (f"{LAWS}.Cuts", "cut_by"),
     (f"{LAWS}.Next", "next"),
