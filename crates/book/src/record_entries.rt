@@ -1,11 +1,13 @@
 //! The entries of records.
 ghost use Rattle.std.specs.Prelude.{◌≡◌, [], ◌∷◌, IfOk};
-ghost use Rattle.book.specs.Entries.{entry_of, entries_of};
+ghost use Rattle.book.specs.Entries.{entry_of_sealed, entry_of_decided, entry_of, entries_of};
+ghost use Rattle.book.specs.declared.entry.Entry.TheVariants.{Met};
 
 use crate::Entry;
 use dtx_values::Duplicate;
-use redo_codec::RedoRecord;
+use redo_codec::{Decided, Decision, RedoRecord, Sealed};
 use std::alloc::{AllocError, Global};
+use tran_ids::BranchId;
 
 /// The entries of what a node wrote in a turn.
 pub fn entries(
@@ -21,7 +23,7 @@ pub fn entries(
     }
 }
 
-// Catalog entries other than tables, settings, and what is kept of a branch that is told are no news to an administrator.
+// Of links, synonyms, settings and starts, and of what is forgotten or hidden, the book does not tell.
 fn entries_of_record(alloc: Global, node: u8, record: &RedoRecord) -> Result<Vec<Entry>, AllocError>
     ensures { IfOk result (λ entries. entries.items ≡ entry_of node record.now) }
 {
@@ -30,63 +32,60 @@ fn entries_of_record(alloc: Global, node: u8, record: &RedoRecord) -> Result<Vec
             let table = table.copy(alloc)?;
             one(alloc, Entry::Made { node, table })
         }
-        RedoRecord::Sealed(sealed) => {
-            let changes = sealed.changes.copy(alloc)?;
-            let (branch, global, scn) = (sealed.me, sealed.root, sealed.scn);
-            one(
-                alloc,
-                Entry::Sealed {
-                    branch,
-                    global,
-                    changes,
-                    scn,
-                },
-            )
+        RedoRecord::Sealed(record) => one(alloc, sealed(alloc, record)?),
+        RedoRecord::Decided(record) => one(alloc, decided(alloc, record)?),
+        RedoRecord::Ended { me, decision } => {
+            let (branch, outcome) = (*me, *decision);
+            one(alloc, Entry::Ended { branch, outcome })
         }
-        RedoRecord::Decided(decided) => {
-            let changes = decided.changes.copy(alloc)?;
-            let (branch, global, scn) = (decided.me, decided.root, decided.scn);
-            one(
-                alloc,
-                Entry::Decided {
-                    branch,
-                    global,
-                    changes,
-                    scn,
-                },
-            )
-        }
-        RedoRecord::Ended { me, decision } => one(
-            alloc,
-            Entry::Ended {
-                branch: *me,
-                outcome: *decision,
-            },
-        ),
         RedoRecord::Forced {
             me,
             decision,
             given: _given,
-        } => one(
-            alloc,
-            Entry::Forced {
-                branch: *me,
-                outcome: *decision,
-            },
-        ),
+        } => {
+            let (branch, outcome) = (*me, *decision);
+            one(alloc, Entry::Forced { branch, outcome })
+        }
         RedoRecord::Met {
             me,
             decision,
             mixed,
-        } => one(
-            alloc,
-            Entry::Met {
-                branch: *me,
-                decision: *decision,
-                mixed: *mixed,
-            },
-        ),
+        } => one(alloc, met(*me, *decision, *mixed)),
         _ => Ok(Vec::new(alloc)),
+    }
+}
+
+fn sealed(alloc: Global, record: &Sealed) -> Result<Entry, AllocError>
+    ensures { IfOk result (λ entry. entry ≡ entry_of_sealed record.now) }
+{
+    let changes = record.changes.copy(alloc)?;
+    Ok(Entry::Sealed {
+        branch: record.me,
+        global: record.root,
+        changes,
+        scn: record.scn,
+    })
+}
+
+fn decided(alloc: Global, record: &Decided) -> Result<Entry, AllocError>
+    ensures { IfOk result (λ entry. entry ≡ entry_of_decided record.now) }
+{
+    let changes = record.changes.copy(alloc)?;
+    Ok(Entry::Decided {
+        branch: record.me,
+        global: record.root,
+        changes,
+        scn: record.scn,
+    })
+}
+
+fn met(branch: BranchId, decision: Decision, mixed: bool) -> Entry
+    ensures { result ≡ Met branch decision mixed }
+{
+    Entry::Met {
+        branch,
+        decision,
+        mixed,
     }
 }
 
