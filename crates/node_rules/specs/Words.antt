@@ -1,5 +1,7 @@
 -- Words that all the rules use: equal names, equal branches, the order of both, and lists by what stands in them.
-use Rattle.std.specs.Prelude.{ℕ, ◌+◌, ◌==◌, ◌&&◌, ◌||◌, not, Bool, true, false, if◌then◌else◌, List, [], ◌∷◌, map, filter, Option, Some, None, nat_lt}
+pub use Rattle.tran_ids.specs.Branch.{same, branch_below, put_by_branch}
+pub use Rattle.redo_codec.specs.Lists.{change_where, drop_where}
+use Rattle.std.specs.Prelude.{ℕ, ◌+◌, ◌==◌, ◌&&◌, ◌||◌, Bool, true, false, if◌then◌else◌, List, [], ◌∷◌, Option, Some, None, nat_lt}
 use Rattle.node_rules.specs.Data.{BranchId}
 
 -- two texts, byte for byte
@@ -15,27 +17,10 @@ text_below xs [] = false
 text_below [] (y ∷ ys) = true
 text_below (x ∷ xs) (y ∷ ys) = nat_lt x y || ((x == y) && text_below xs ys)
 
--- two branch ids are equal
-abbrev pub same : BranchId → BranchId → Bool
-same a b = (a.node == b.node) && ((a.boot == b.boot) && ((a.session == b.session) && (a.seq == b.seq)))
-
 -- it is this branch, where it is one
 abbrev pub is_branch : BranchId → Option BranchId → Bool
 is_branch b None = false
 is_branch b (Some c) = same c b
-
--- in order of boot, session, seq
-abbrev pub branch_below : BranchId → BranchId → Bool
-branch_below a b =
-    nat_lt a.boot b.boot || ((a.boot == b.boot) && (nat_lt a.session b.session || ((a.session == b.session) && nat_lt a.seq b.seq)))
-
--- every item that passes is replaced
-abbrev pub change_where : {A : Type 0} → (A → Bool) → (A → A) → List A → List A
-change_where p f xs = map (λ x. if p x then f x else x) xs
-
--- the items that do not pass
-abbrev pub drop_where : {A : Type 0} → (A → Bool) → List A → List A
-drop_where p xs = filter (λ x. not (p x)) xs
 
 -- a list of one item
 abbrev pub one : {A : Type 0} → A → List A
@@ -53,8 +38,3 @@ abbrev pub first_some : {A : Type 0} → List (Option A) → Option A
 first_some [] = None
 first_some (Some x ∷ xs) = Some x
 first_some (None ∷ xs) = first_some xs
-
--- with one more item, where items stand in order of their branches
-abbrev pub put_by_branch : {A : Type 0} → (A → BranchId) → List A → A → List A
-put_by_branch id [] x = x ∷ []
-put_by_branch id (y ∷ ys) x = if branch_below (id x) (id y) then x ∷ y ∷ ys else y ∷ put_by_branch id ys x
