@@ -183,13 +183,13 @@ Rises older _ = Unit {0}
 
 -- what stands at a place of a book of which all entries have P
 at_place : (P : Entry → Type 0) (book : List Entry) (i : ℕ) (e : Entry) → AllByRecursion P book → slice_get book i ≡ Some e → P e
-at_place P [] i e all at = let none : None {A = Entry} ≡ Some e = at in absurd cc
+at_place P [] i e all at = let nothing : Option Entry = None in let clash : nothing ≡ Some e = at in absurd cc
 at_place P (x ∷ book) zero e all at = let is : Some x ≡ Some e = at in subst P (grind arith) all.0
 at_place P (x ∷ book) (suc i) e all at = at_place P book i e all.1 at
 
 -- a decision further on is above all before
 above : (older book : List Entry) (j : ℕ) (b g : BranchId) (cs : List Change) (n : ℕ) → EachAgainst Rises older book → slice_get book j ≡ Some (Decided b g cs n) → scn_of older < n
-above older [] j b g cs n each at = let none : None {A = Entry} ≡ Some (Decided b g cs n) = at in absurd cc
+above older [] j b g cs n each at = let nothing : Option Entry = None in let clash : nothing ≡ Some (Decided b g cs n) = at in absurd cc
 above older (x ∷ book) zero b g cs n each at =
     let is : Some x ≡ Some (Decided b g cs n) = at in
     let same : x ≡ Decided b g cs n = grind arith in subst (Rises older) same each.0
@@ -198,7 +198,7 @@ above older (x ∷ book) (suc j) b g cs n each at =
 
 in_order : (older book : List Entry) (i j : ℕ) (b c g h : BranchId) (cs ds : List Change) (m n : ℕ) → EachAgainst Rises older book → i < j
     → slice_get book i ≡ Some (Decided b g cs m) → slice_get book j ≡ Some (Decided c h ds n) → m < n
-in_order older [] i j b c g h cs ds m n each before at later = let none : None {A = Entry} ≡ Some (Decided b g cs m) = at in absurd cc
+in_order older [] i j b c g h cs ds m n each before at later = let nothing : Option Entry = None in let clash : nothing ≡ Some (Decided b g cs m) = at in absurd cc
 in_order older (x ∷ book) i zero b c g h cs ds m n each before at later = absurd (omega (arith, before))
 in_order older (x ∷ book) zero (suc j) b c g h cs ds m n each before at later =
     let is : Some x ≡ Some (Decided b g cs m) = at in

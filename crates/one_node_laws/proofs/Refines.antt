@@ -24,6 +24,7 @@ use Rattle.run_laws.specs.Book.{Agreement, Follows, Marks, EachAgainst}
 use Rattle.one_node_book.specs.Book.{rows_of, table_of, scn_of}
 use Rattle.one_node_rules.specs.Meaning.{insertion, changes_meant, is_understood}
 use Rattle.one_node_rules.specs.Turn.{the_node, Kept, fresh, own_of, branch_of, decided_by, changes_over, changes_of, record_of, wrote_by, after_by, with_put, put_all, changes_at, after_record, after_records, start_of}
+use Rattle.one_node_rules.proofs.RecordLemmas.{after_records-push}
 use Rattle.one_node_laws.specs.Standing.{Standing, view_of, table_in, view, served}
 use Rattle.one_node_laws.proofs.BookLemmas.{apply-append, table_of-decided, scn_of-decided, rows_of-decided, EachAgainst-push, ArePlain, all-push, IsPlain, DecidesPast, ArePast, ArePast-more, decision_follows, Rises}
 
@@ -116,7 +117,7 @@ stored_decided book own (Some t) puts = puts_are (rows_of book the_node t.name) 
 -- ---- each statement
 
 -- where there is no table nothing is there
-none_there : (s : Standing) (t : Table) → IsSound s → is_understood (table_in s) (CreateTable t) ≡ true → (s.book ≡ []) × (s.transaction ≡ None)
+pub none_there : (s : Standing) (t : Table) → IsSound s → is_understood (table_in s) (CreateTable t) ≡ true → (s.book ≡ []) × (s.transaction ≡ None)
 none_there s t sound fits =
     elim (table_in s) as (λ o. IfNone o ((s.book ≡ []) × (s.transaction ≡ None)) → is_understood o (CreateTable t) ≡ true → (s.book ≡ []) × (s.transaction ≡ None)) [
       | None ↦ λ h f. h
@@ -124,7 +125,7 @@ none_there s t sound fits =
     ] sound.fresh fits
 
 -- such a run, with other parts
-abbrev with_parts : Standing → List RedoRecord → List Entry → Option (List Change) → ℕ → Standing
+abbrev pub with_parts : Standing → List RedoRecord → List Entry → Option (List Change) → ℕ → Standing
 with_parts s rs book transaction ended = record { records = rs; book = book; up = s.up; boot = s.boot; transaction = transaction; ended = ended }
 
 -- nothing is written: the book stays
@@ -163,11 +164,6 @@ refines s (Some (Insert name key value)) sound fits =
 refines s (Some (Select name column key)) sound fits = quiet s (s.records ++ []) (Some (own_of s.transaction)) s.ended
 
 -- ---- a start finds it again
-
-after_records-push : (k : Kept) (rs : List RedoRecord) (r : RedoRecord) → after_records k (rs ++ r ∷ []) ≡ after_record (after_records k rs) r
-unfolding after_records
-after_records-push k [] r = refl
-after_records-push k (x ∷ rs) r = after_records-push (after_record k x) rs r
 
 -- the records say how the run stands, but for what is open
 abbrev pub Rests : Standing → Type 0

@@ -18,7 +18,7 @@ use Rattle.one_node_book.specs.Book.{table_of, scn_of}
 use Rattle.one_node_rules.specs.Meaning.{insertion, is_understood}
 use Rattle.one_node_rules.specs.Turn.{the_node, own_of, branch_of, changes_over}
 use Rattle.one_node_laws.specs.Standing.{Standing, table_in, view, nothing_yet}
-use Rattle.one_node_laws.proofs.BookLemmas.{table_of-decided, EachAgainst-push, IsPlain, all-push, DecidesPast, ArePast-more, decision_follows, Rises}
+use Rattle.one_node_laws.proofs.BookLemmas.{table_of-decided, EachAgainst-push, IsPlain, all-push, DecidesPast, ArePast, ArePast-more, ArePast-started, decision_follows, Rises}
 use Rattle.one_node_laws.proofs.Refines.{IsSound, ArePuts, Fits, served_in, none_there, with_parts}
 
 -- nothing is written, and the transaction is this one
@@ -44,7 +44,7 @@ no_table book transaction more c cs changed fresh same after =
     ] fresh)
 
 -- a transaction that ended
-closed : (book : List Entry) (transaction : Option (List Change)) (table : Option Table) → IfNone table ((book ≡ []) × (transaction ≡ None)) →
+pub closed : (book : List Entry) (transaction : Option (List Change)) (table : Option Table) → IfNone table ((book ≡ []) × (transaction ≡ None)) →
     let none : Option (List Change) = None in IfNone table ((book ≡ []) × (none ≡ None))
 closed book transaction None h = (h.0, refl)
 closed book transaction (Some t) h = tt
@@ -115,6 +115,30 @@ sound_step s (Some (Insert name key value)) sound fits =
     begins_sound s (own_of s.transaction ++ changes_over (table_in s) (view s) (Insert name key value)) (Insert name key value) refl fits
       (puts_append (own_of s.transaction) (changes_over (table_in s) (view s) (Insert name key value)) sound.puts (inserted_puts (table_in s) (view s) name key value)) sound
 sound_step s (Some (Select name column key)) sound fits = begins_sound s (own_of s.transaction) (Select name column key) refl fits sound.puts sound
+
+-- a stop loses the open transaction
+pub stop_sound : (s : Standing) → IsSound s → IsSound (record s { up = false; transaction = None })
+stop_sound s sound = record {
+  fresh = closed s.book s.transaction (table_in s) sound.fresh;
+  puts = tt;
+  plain = sound.plain;
+  low = sound.low;
+  agreed = sound.agreed;
+  marked = sound.marked;
+  rising = sound.rising;
+}
+
+-- a start counts its transactions anew
+pub start_sound : (s : Standing) (rs : List RedoRecord) (boot : ℕ) → IsSound s → boot ≡ s.boot + 1 → IsSound (record s { records = rs; up = true; boot = boot; ended = 0 })
+start_sound s rs boot sound next_one = record {
+  fresh = sound.fresh;
+  puts = sound.puts;
+  plain = sound.plain;
+  low = subst (λ (n : ℕ). ArePast n 0 s.book) (sym next_one) (ArePast-started s.boot s.ended s.book sound.low);
+  agreed = sound.agreed;
+  marked = sound.marked;
+  rising = sound.rising;
+}
 
 -- a run in which nothing has happened
 pub nothing_is_sound : IsSound nothing_yet

@@ -66,12 +66,12 @@ served s statement wrote entries = record s {
   ended = ended_after s.ended s.transaction statement;
 }
 
--- how the run stands after a happening: a stop loses the open transaction
+-- how the run stands after a happening: a stop loses the open transaction, and a start counts its own anew
 abbrev pub after : Standing → Happening → Standing
 after s (Begun number) = s
 after s (Turn node (inputs.Call session text) wrote) = served s (statement_in s text) wrote (entries_of node wrote)
-after s (Stopped node) = record s { up = false; transaction = None; ended = 0 }
-after s (Started node boot) = record s { records = s.records ++ records.Boot boot ∷ []; up = true; boot = boot }
+after s (Stopped node) = record s { up = false; transaction = None }
+after s (Started node boot) = record s { records = s.records ++ records.Boot boot ∷ []; up = true; boot = boot; ended = 0 }
 
 -- how a run stands after these happenings
 unfoldable pub standing_after : Standing → List Happening → Standing

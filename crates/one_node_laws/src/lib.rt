@@ -5,8 +5,8 @@
 //! takes no other. The laws speak of such traces alone: they name no node's code, no store and no disk.
 #![tactic(auto)]
 
-
+mod laws;
 mod trace;
 
-
+pub use laws::{each_begun_is_answered, lawful_runs_are_as_told};
 pub use trace::{Recorded, Trace};

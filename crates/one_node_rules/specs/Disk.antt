@@ -3,7 +3,7 @@ use Rattle.std.specs.Prelude.{◌≡◌, ◌<◌, ◌≤◌, ◌^◌, ℕ, List,
 use Rattle.std.specs.List.{AllByRecursion}
 use Rattle.redo_codec.specs.declared.record.RedoRecord.{RedoRecord}
 use Rattle.redo_format.specs.Record.{record_format}
-use Rattle.redo_log.specs.Cells.{cells_of}
+use Rattle.redo_log.specs.Cells.{log_of}
 
 -- a record that can be written: it has a spelling, which is not too long for a log
 pub record IsSpelled (r : RedoRecord) : Type 0 where
@@ -16,7 +16,7 @@ bodies_of rs = map record_format.text rs
 
 -- the bytes of a disk that nothing but these records was written to
 abbrev pub disk_bytes : List RedoRecord → List ℕ
-disk_bytes rs = cells_of (bodies_of rs) ++ 0 ∷ []
+disk_bytes rs = log_of (bodies_of rs)
 
 -- the bytes are those of these records, each of which can be written
 pub record IsLogOf (rs : List RedoRecord) (bytes : List ℕ) : Type 0 where

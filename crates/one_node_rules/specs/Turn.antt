@@ -1,6 +1,7 @@
 -- What a node keeps from turn to turn, what a turn of it answers, writes and leaves, and what a start makes of its records.
 use Rattle.std.specs.Prelude.{ℕ, ◌+◌, max, List, [], ◌∷◌, ◌++◌, Option, None, Some, if◌then◌else◌, is_some, unwrap_or}
 use Rattle.std.specs.Option.{option_map_or}
+use Rattle.std.specs.Str.{bytes_eq}
 use Rattle.std.specs.FinMap.{empty, insert}
 use Rattle.dtx_values.specs.Apply.{Rows, apply, at_table}
 use Rattle.dtx_values.specs.declared.table.Table.{Table}
@@ -181,11 +182,19 @@ abbrev pub changes_at : Option Table → List Change → List Change
 changes_at None changes = []
 changes_at (Some table) changes = at_table table.name changes
 
+-- the rows with the one that a change puts, where it is one of this table
+abbrev pub put_at : List ℕ → Rows → Change → Rows
+put_at table rows change = if bytes_eq change.table table then with_put rows change.key change.after else rows
+
+-- what the node keeps once one more decision stands
+abbrev pub after_decision : Kept → Decided → Kept
+after_decision kept d = record kept { rows = put_all kept.rows (changes_at kept.table d.changes); scn = max kept.scn d.scn }
+
 -- what the node keeps once one more of its records stands
 abbrev pub after_record : Kept → RedoRecord → Kept
 after_record kept (records.Boot number) = record kept { boot = number }
 after_record kept (records.Table made) = record kept { table = Some made }
-after_record kept (records.Decided d) = record kept { rows = put_all kept.rows (changes_at kept.table d.changes); scn = max kept.scn d.scn }
+after_record kept (records.Decided d) = after_decision kept d
 after_record kept _ = kept
 
 -- what it keeps once these stand
