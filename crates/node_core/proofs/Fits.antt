@@ -2,6 +2,7 @@
 use Rattle.std.proofs.Common.{◌≡◌, ℕ, zero, suc, ◌+◌, ◌<◌, ◌^◌, Bool, true, false, List, [], ◌∷◌, ◌++◌, Option, None, Some, refl, sym, ap, subst, ◌∙◌, arith, length}
 use Rattle.std.specs.Prelude.{◌&&◌, not, is_none, IsTrue, IfSome}
 use Rattle.std.specs.List.{All, AllByRecursion}
+use Rattle.std.proofs.lemmas.Str.{IsUtf8-nil, is_utf8-from_IsUtf8}
 use Rattle.dtx_values.specs.declared.table.Column.{Column}
 use Rattle.dtx_values.specs.declared.table.Table.{Table}
 use Rattle.dtx_values.specs.declared.value.Value.{Value}
@@ -51,19 +52,19 @@ pair_widths (k ∷ o ∷ []) h =
   widths first second (suc (suc i)) d low = absurd (omega (arith, low))
 pair_widths (k ∷ o ∷ x ∷ xs) h = absurd cc
 
-table_fits : (t : Table) → table_format.Fits t → record_format.Fits (records.Table t)
+pub table_fits : (t : Table) → table_format.Fits t → record_format.Fits (records.Table t)
 table_fits t fits = (tt, fits)
 
 pub ruleset table_record = (pair_columns, pair_widths, table_fits)
 
 -- ---- changes
 
-number_is_key : (v : Value) → is_number v ≡ true → IsTrue (is_key v)
+pub number_is_key : (v : Value) → is_number v ≡ true → IsTrue (is_key v)
 number_is_key values.Null h = absurd cc
 number_is_key (values.Number n) h = refl
 number_is_key (values.Text t) h = absurd cc
 
-all-push : (own : List Change) (c : Change) → AllByRecursion change_format.Fits own → change_format.Fits c → AllByRecursion change_format.Fits (own ++ c ∷ [])
+pub all-push : (own : List Change) (c : Change) → AllByRecursion change_format.Fits own → change_format.Fits c → AllByRecursion change_format.Fits (own ++ c ∷ [])
 all-push [] c all last = (last, tt)
 all-push (x ∷ own) c all last = (all.0, all-push own c all.1 last)
 
@@ -71,8 +72,8 @@ pub ruleset own_changes = (number_is_key, all-push)
 
 -- ---- decisions
 
-decided_fits : (b : BranchId) (scn : ℕ) (changes : List Change) → branch_format.Fits b → scn < 2 ^ 48 → length changes < 2 ^ 32 → AllByRecursion change_format.Fits changes
+pub decided_fits : (b : BranchId) (scn : ℕ) (changes : List Change) → branch_format.Fits b → scn < 2 ^ 48 → length changes < 2 ^ 32 → AllByRecursion change_format.Fits changes
     → decided_format.Fits (decided_by b scn changes)
-decided_fits b scn changes branch low few fit = (branch, (branch, (low, (tt, ((omega arith, tt), (tt, ((omega arith, refl), (few, fit))))))))
+decided_fits b scn changes branch low few fit = (branch, (branch, (low, (tt, ((omega arith, tt), (tt, ((omega arith, is_utf8-from_IsUtf8 [] IsUtf8-nil), (few, fit))))))))
 
 pub ruleset decided_record = (decided_fits)

@@ -1,1 +1,3 @@
 pub mod Fits
+pub mod Growing
+pub mod Replays

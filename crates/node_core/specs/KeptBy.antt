@@ -1,8 +1,14 @@
 -- What a node keeps in memory, by its fields.
-use Rattle.std.specs.Prelude.{◌≡◌, ◌<◌, ◌≤◌, ◌+◌, ◌^◌, length}
+use Rattle.std.specs.Prelude.{◌≡◌, ◌<◌, ◌≤◌, ◌+◌, ◌^◌, List, [], Option, length}
 use Rattle.std.specs.List.{AllByRecursion}
 use Rattle.redo_format.specs.Change.{change_format}
-use Rattle.one_node_rules.specs.Turn.{Kept, own_of}
+use Rattle.dtx_values.specs.Apply.{Rows}
+use Rattle.dtx_values.specs.declared.table.Table.{Table}
+use Rattle.dtx_values.specs.declared.value.Value.{Value}
+use Rattle.dtx_values.specs.declared.row.Change.{Change}
+use Rattle.dtx_values.specs.declared.answer.Answer.{Answer}
+use Rattle.one_node_sql.specs.declared.statement.Stmt.TheVariants.{Insert}
+use Rattle.one_node_rules.specs.Turn.{Kept, own_of, changes_over, answer_over}
 use Rattle.node_core.specs.declared.core.Core.{Core}
 
 -- what this state is
@@ -23,3 +29,11 @@ pub record GoesOn (before after : Kept) : Type 0 where
   pub scn : after.scn ≤ before.scn + 1
   pub few : length (own_of after.transaction) ≤ length (own_of before.transaction) + 1
   pub own : AllByRecursion change_format.Fits (own_of after.transaction)
+
+-- what an INSERT changes in the table that there is
+abbrev pub inserted : Option Table → Rows → Value → Value → List Change
+inserted there rows key value = changes_over there rows (Insert [] key value)
+
+-- and what it is answered
+abbrev pub insert_answer : Option Table → Rows → Value → Value → Answer
+insert_answer there rows key value = answer_over there rows (Insert [] key value)

@@ -7,6 +7,8 @@ use Rattle.redo_format.specs.Record.{record_format}
 use Rattle.redo_log.specs.Cells.{bodies}
 use Rattle.redo_log.specs.Log.{disk_of, IsIntact, IsSettled, HoldsWithOrWithout}
 use Rattle.redo_log.specs.declared.log.Log.{Log}
+use Rattle.one_node_book.specs.declared.input.Input.{Input}
+use Rattle.one_node_book.specs.declared.input.Input.TheVariants as inputs
 use Rattle.one_node_rules.specs.Turn.{Kept, start_of}
 use Rattle.one_node_rules.specs.Disk.{bodies_of, IsLogOf}
 use Rattle.node_core.specs.declared.node.Node.{Node}
@@ -62,7 +64,15 @@ pub record MayStart (rs : List RedoRecord) (bytes : List ℕ) : Type 0 where
   pub log : IsLogOf rs bytes
   pub boots : (start_of rs).boot + 1 < 2 ^ 32
 
+-- what a start makes of these records, to which it writes one more
+abbrev pub StartsWith : {D : Type 0} → (D → List ℕ) → List RedoRecord → List ℕ → Node D → Type 0
+StartsWith content rs before node = (kept_of node ≡ start_of (rs ++ next_boot rs ∷ [])) × GrowsByRecord (next_boot rs) before (content (node_disk node))
+
 -- what a start makes of the records of the disk, which it writes one more to
 abbrev pub StartsFrom : {D : Type 0} → (D → List ℕ) → List ℕ → Node D → Type 0
 StartsFrom content before node = (rs : List RedoRecord) → IsLogOf rs before
     → (kept_of node ≡ start_of (rs ++ next_boot rs ∷ [])) × IsLogOf (rs ++ next_boot rs ∷ []) (content (node_disk node))
+
+-- the session whose input this is
+abbrev pub session_in : Input → ℕ
+session_in (inputs.Call session text) = session

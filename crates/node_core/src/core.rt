@@ -1,5 +1,5 @@
 //! What a node does, in memory alone.
-ghost use Rattle.std.specs.Prelude.{◌≡◌, ◌+◌, ◌<◌, ◌^◌, ◌≤◌, [], ◌∷◌, length, map, true, Some, None, IfOk, IfSome, OnOk};
+ghost use Rattle.std.specs.Prelude.{◌≡◌, ◌+◌, ◌<◌, ◌^◌, ◌≤◌, [], ◌∷◌, ◌++◌, length, map, true, Some, None, IfOk, IfSome, OnOk};
 ghost use Rattle.std.specs.List.{AllByRecursion};
 ghost use Rattle.std.specs.Option.{option_to_list};
 ghost use Rattle.std.specs.FinMap as finite;
@@ -11,7 +11,8 @@ ghost use Rattle.one_node_sql.specs.Shape.{is_pair, is_number, HasShape};
 ghost use Rattle.one_node_sql.specs.declared.statement.Stmt.TheVariants.{CreateTable, Insert, Select, Commit};
 ghost use Rattle.one_node_rules.specs.Meaning.{invalid as invalid_statement, not_unique, row_of, is_understood as understands, is_key_of};
 ghost use Rattle.one_node_rules.specs.Turn.{fresh, own_of, understood, turn_of, statement_turn, branch_of, decided_by};
-ghost use Rattle.node_core.specs.KeptBy.{kept_by, IsReady, GoesOn};
+ghost use Rattle.dtx_values.specs.Apply.{apply};
+ghost use Rattle.node_core.specs.KeptBy.{kept_by, inserted, insert_answer, IsReady, GoesOn};
 
 use dtx_values::{
     Answer, Change, Changes, Column, Done, Duplicate, INVALID_SQL, Listing, Name, Refusal, Row,
@@ -142,6 +143,43 @@ fn understand(alloc: Global, there: &Option<Table>, text: &[u8]) -> Result<Stmt,
     Ok(statement)
 }
 
+/// A row of a key and a value in the table, where its key is free: the own changes afterwards, and the answer.
+#[tactic(auto, using(crate::proofs::Fits::own_changes))]
+fn put_row(
+    alloc: Global,
+    there: &Option<Table>,
+    rows: &mut RowMap,
+    own: Changes,
+    key: Value,
+    value: Value,
+) -> Result<(Changes, Answer), AllocError>
+    requires number { is_number key ≡ true }
+    requires fit { AllByRecursion change_format.Fits own }
+    ensures own { IfOk result (λ x. x.0 ≡ own ++ inserted there.now rows.old key value) }
+    ensures answer { IfOk result (λ x. x.1 ≡ insert_answer there.now rows.old key value) }
+    ensures rows { OnOk result (rows.new ≡ apply rows.old (inserted there.now rows.old key value)) }
+    ensures fit { IfOk result (λ x. AllByRecursion change_format.Fits x.0) }
+    ensures few { IfOk result (λ x. length x.0 ≤ length own + 1) }
+{
+    let Some(there) = there else {
+        return Ok((own, invalid(alloc)));
+    };
+    if rows.contains_key(&key) {
+        return Ok((own, unique_violated(alloc, &there.name)?));
+    }
+    let row = new_row(alloc, &key, value)?;
+    let change = Change {
+        table: there.name.copy(alloc)?,
+        key: key.copy(alloc)?,
+        after: Some(row.copy(alloc)?),
+    };
+    change_fits(&change);
+    let mut own = own;
+    own.push(change)?;
+    rows.insert(key, row)?;
+    Ok((own, Answer::Did(Done::Created, 1)))
+}
+
 /// The decision of a root without other branches.
 #[tactic(auto, using(crate::proofs::Fits::decided_record))]
 fn decision(alloc: Global, branch: BranchId, scn: u64, changes: Changes) -> Decided
@@ -251,36 +289,17 @@ impl Core {
         })
     }
 
-    #[tactic(auto, using(crate::proofs::Fits::own_changes))]
-    fn insert(&mut self, table: Name, key: Value, value: Value) -> Result<Served, AllocError>
+    fn insert(&mut self, _table: Name, key: Value, value: Value) -> Result<Served, AllocError>
         requires ready { IsReady (kept_by self.old) }
         requires shaped { is_number key ≡ true }
-        ensures answer { IfOk result (λ served. served.answer ≡ (statement_turn (kept_by self.old) (Some (Insert table key value))).answer) }
-        ensures wrote { IfOk result (λ served. served.wrote ≡ (statement_turn (kept_by self.old) (Some (Insert table key value))).wrote) }
+        ensures answer { IfOk result (λ served. served.answer ≡ (statement_turn (kept_by self.old) (Some (Insert _table key value))).answer) }
+        ensures wrote { IfOk result (λ served. served.wrote ≡ (statement_turn (kept_by self.old) (Some (Insert _table key value))).wrote) }
         ensures fits { IfOk result (λ served. IfSome served.wrote record_format.Fits) }
-        ensures after { OnOk result (kept_by self.new ≡ (statement_turn (kept_by self.old) (Some (Insert table key value))).after) }
+        ensures after { OnOk result (kept_by self.new ≡ (statement_turn (kept_by self.old) (Some (Insert _table key value))).after) }
         ensures next { OnOk result (GoesOn (kept_by self.old) (kept_by self.new)) }
     {
-        let mut own = self.transaction.take().unwrap_or(Listing::new(self.alloc));
-        let answer = match &self.table {
-            None => invalid(self.alloc),
-            Some(there) => {
-                if self.rows.contains_key(&key) {
-                    unique_violated(self.alloc, &there.name)?
-                } else {
-                    let row = new_row(self.alloc, &key, value)?;
-                    let change = Change {
-                        table: there.name.copy(self.alloc)?,
-                        key: key.copy(self.alloc)?,
-                        after: Some(row.copy(self.alloc)?),
-                    };
-                    change_fits(&change);
-                    own.push(change)?;
-                    self.rows.insert(key, row)?;
-                    Answer::Did(Done::Created, 1)
-                }
-            }
-        };
+        let own = self.transaction.take().unwrap_or(Listing::new(self.alloc));
+        let (own, answer) = put_row(self.alloc, &self.table, &mut self.rows, own, key, value)?;
         self.transaction = Some(own);
         Ok(Served {
             answer,

@@ -1,5 +1,5 @@
 //! A node and its disk.
-ghost use Rattle.std.specs.Prelude.{◌≡◌, ◌×◌, ◌+◌, ◌<◌, ◌≤◌, ◌^◌, List, [], ◌∷◌, length, IfOk, IfErr, IfSome, OnOk, IsErrOf, MatchResult};
+ghost use Rattle.std.specs.Prelude.{◌≡◌, ◌+◌, ◌<◌, ◌≤◌, ◌^◌, List, [], ◌∷◌, length, IfOk, IfErr, IfSome, OnOk, IsErrOf, MatchResult};
 ghost use Rattle.dtx_ports.specs.Causes.{Rose};
 ghost use Rattle.block_disk.specs.Images.{IsOnly, AtEachMoment};
 ghost use Rattle.redo_codec.specs.declared.record.RedoRecord.{RedoRecord};
@@ -7,14 +7,14 @@ ghost use Rattle.redo_format.specs.Record.{record_format};
 ghost use Rattle.redo_log.specs.Cells.{held};
 ghost use Rattle.redo_log.specs.Log.{disk_of, count_after, HoldsWithOrWithout};
 ghost use Rattle.redo_codec.specs.declared.record.RedoRecord.TheVariants as records;
-ghost use Rattle.one_node_rules.specs.Turn.{turn_of, after_record, start_of};
-ghost use Rattle.one_node_laws.specs.Past.{first_records};
+ghost use Rattle.one_node_rules.specs.Turn.{turn_of, after_record, start_of, first_records};
 ghost use Rattle.one_node_rules.specs.Disk.{IsSpelled, IsLogOf};
-ghost use Rattle.node_core.specs.declared.err.MakeWhy.TheVariants as why;
+ghost use Rattle.redo_log.specs.declared.err.LoadWhy.TheVariants as loads;
+ghost use Rattle.node_core.specs.declared.err.MakeWhy.TheVariants as makes;
 ghost use Rattle.node_core.specs.declared.err.TurnErr.TheVariants as turns;
 ghost use Rattle.node_core.specs.Finished.{session_of, answer_of};
 ghost use Rattle.node_core.specs.KeptBy.{kept_by, IsReady, GoesOn};
-ghost use Rattle.node_core.specs.OnDisk.{kept_of, node_disk, IsWritable, IsRunning, GrowsByRecord, GrowsBy, calls_of, MayStand, MayStart, HoldRecords, StartsFrom};
+ghost use Rattle.node_core.specs.OnDisk.{kept_of, node_disk, IsWritable, IsRunning, GrowsByRecord, GrowsBy, calls_of, MayStand, MayStart, HoldRecords, StartsWith, StartsFrom, session_in};
 
 use crate::core::Core;
 use crate::effects::Effects;
@@ -24,7 +24,7 @@ use crate::records::records;
 use block_disk::Disk;
 use one_node_book::Input;
 use redo_codec::RedoRecord;
-use redo_format::encode;
+use redo_format::{encode, records_are_exact};
 use redo_log::{Bodies, LoadErr, LoadWhy, Log, LogErr};
 use std::alloc::Global;
 
@@ -89,21 +89,11 @@ fn write<D: Disk>(
 fn replayed(alloc: Global, bodies: &Bodies) -> Result<Core, MakeWhy>
     requires { (rs : List RedoRecord) × HoldRecords rs bodies.now }
     ensures kept { IfOk result (λ core. (rs : List RedoRecord) → HoldRecords rs bodies.now → kept_by core ≡ start_of rs) }
-    ensures no_fault { IsErrOf result why.Fault → ⊥ }
+    ensures no_fault { IsErrOf result makes.Fault → ⊥ }
 {
     let records = records(alloc, bodies)?;
+    records_are_exact();
     Ok(Core::replay(alloc, &records)?)
-}
-
-impl From<redo_log::MakeWhy> for MakeWhy {
-    fn from(why: redo_log::MakeWhy) -> MakeWhy
-        ensures { result ≡ made_why why }
-    {
-        match why {
-            redo_log::MakeWhy::Fault => MakeWhy::Fault,
-            redo_log::MakeWhy::NoMemory => MakeWhy::NoMemory,
-        }
-    }
 }
 
 /// A node whose log has the records of this state: it takes the number of its next start.
@@ -115,7 +105,7 @@ fn begin<D: Disk>(alloc: Global, log: Log<D>, core: Core) -> Result<Node<D>, Mak
     ensures stored { IfOk result (λ node. GrowsByRecord (records.Boot (core.boot + 1)) (D.content (disk_of log)) (D.content (node_disk node))) }
     ensures running { IfOk result (λ node. IsRunning D.content D.images node) }
     ensures spelled { IfOk result (λ node. IsSpelled (records.Boot (core.boot + 1))) }
-    ensures fault { IfErr result (λ err. err.why ≡ why.Fault → Rose (D.faults (disk_of log)) (D.faults err.disk)) }
+    ensures fault { IfErr result (λ err. err.why ≡ makes.Fault → Rose (D.faults (disk_of log)) (D.faults err.disk)) }
     ensures later { MatchResult result (λ node. D.faults (disk_of log) ≤ D.faults (node_disk node)) (λ err. D.faults (disk_of log) ≤ D.faults err.disk) }
 {
     let mut core = core;
@@ -145,7 +135,7 @@ fn begin_from<D: Disk>(
     requires held { (rs : List RedoRecord) × HoldRecords rs bodies.now × ((start_of rs).boot + 1 < 2 ^ 32) }
     ensures kept { IfOk result (λ node. (rs : List RedoRecord) → HoldRecords rs bodies.now → StartsWith D.content rs (D.content (disk_of log)) node) }
     ensures running { IfOk result (λ node. IsRunning D.content D.images node) }
-    ensures fault { IfErr result (λ err. err.why ≡ why.Fault → Rose (D.faults (disk_of log)) (D.faults err.disk)) }
+    ensures fault { IfErr result (λ err. err.why ≡ makes.Fault → Rose (D.faults (disk_of log)) (D.faults err.disk)) }
     ensures later { MatchResult result (λ node. D.faults (disk_of log) ≤ D.faults (node_disk node)) (λ err. D.faults (disk_of log) ≤ D.faults err.disk) }
 {
     match replayed(alloc, bodies) {
@@ -165,13 +155,23 @@ impl<D: Disk> Node<D> {
         ensures kept { IfOk result (λ node. kept_of node ≡ start_of first_records) }
         ensures stored { IfOk result (λ node. IsLogOf first_records (D.content (node_disk node))) }
         ensures running { IfOk result (λ node. IsRunning D.content D.images node) }
-        ensures fault { IfErr result (λ err. err.why ≡ why.Fault → Rose (D.faults disk) (D.faults err.disk)) }
+        ensures fault { IfErr result (λ err. err.why ≡ makes.Fault → Rose (D.faults disk) (D.faults err.disk)) }
     {
         match Log::create(alloc, disk) {
             Ok(log) => begin(alloc, log, Core::new(alloc)),
-            Err(redo_log::MakeErr { disk, why }) => Err(MakeErr {
+            Err(redo_log::MakeErr {
                 disk,
-                why: why.into(),
+                why: redo_log::MakeWhy::Fault,
+            }) => Err(MakeErr {
+                disk,
+                why: MakeWhy::Fault,
+            }),
+            Err(redo_log::MakeErr {
+                disk,
+                why: redo_log::MakeWhy::NoMemory,
+            }) => Err(MakeErr {
+                disk,
+                why: MakeWhy::NoMemory,
             }),
         }
     }
@@ -184,7 +184,7 @@ impl<D: Disk> Node<D> {
         // What it keeps is what its records say, and the record of this start is behind them.
         ensures started { IfOk result (StartsFrom D.content (D.content disk)) }
         ensures running { IfOk result (λ node. IsRunning D.content D.images node) }
-        ensures fault { IfErr result (λ err. err.why ≡ why.Fault → Rose (D.faults disk) (D.faults err.disk)) }
+        ensures fault { IfErr result (λ err. err.why ≡ makes.Fault → Rose (D.faults disk) (D.faults err.disk)) }
     {
         match Log::load(alloc, disk) {
             Ok((log, bodies)) => begin_from(alloc, log, &bodies),
@@ -254,7 +254,8 @@ fn session_of_input(input: &Input) -> u32
 
 /// Why a node is not started whose log was not loaded.
 fn load_why(why: LoadWhy) -> MakeWhy
-    requires { IsErrOf_not_a_log }
+    requires { why ≡ loads.NotALog → ⊥ }
+    ensures { result ≡ makes.Fault → why ≡ loads.Fault }
 {
     match why {
         LoadWhy::Fault => MakeWhy::Fault,

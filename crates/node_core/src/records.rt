@@ -4,7 +4,7 @@ ghost use Rattle.redo_codec.specs.declared.record.RedoRecord.{RedoRecord};
 ghost use Rattle.byte_format.specs.Format.{IsSpelling};
 ghost use Rattle.redo_format.specs.Record.{record_format};
 ghost use Rattle.node_core.specs.OnDisk.{HoldRecords};
-ghost use Rattle.node_core.specs.declared.err.MakeWhy.TheVariants as why;
+ghost use Rattle.node_core.specs.declared.err.MakeWhy.TheVariants as makes;
 
 use crate::err::MakeWhy;
 use redo_codec::RedoRecord;
@@ -16,7 +16,7 @@ use std::alloc::Global;
 fn read(alloc: Global, body: &[u8]) -> Result<RedoRecord, MakeWhy>
     requires { (r : RedoRecord) × IsSpelling record_format body.now r }
     ensures read { IfOk result (λ r. IsSpelling record_format body.now r) }
-    ensures no_fault { IsErrOf result why.Fault → ⊥ }
+    ensures no_fault { IsErrOf result makes.Fault → ⊥ }
 {
     match decode(alloc, body) {
         Ok(record) => Ok(record),
@@ -26,10 +26,11 @@ fn read(alloc: Global, body: &[u8]) -> Result<RedoRecord, MakeWhy>
 }
 
 /// The records of these bodies, each of which has to be one's.
+#[tactic(auto, using(crate::proofs::Growing::growing))]
 pub(crate) fn records(alloc: Global, bodies: &Bodies) -> Result<Vec<RedoRecord>, MakeWhy>
     requires { (rs : List RedoRecord) × HoldRecords rs bodies.now }
     ensures read { IfOk result (λ found. HoldRecords found.items bodies.now) }
-    ensures no_fault { IsErrOf result why.Fault → ⊥ }
+    ensures no_fault { IsErrOf result makes.Fault → ⊥ }
 {
     let mut found = Vec::new(alloc);
     for i in 0..bodies.len() {

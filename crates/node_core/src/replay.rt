@@ -19,6 +19,7 @@ fn put(alloc: Global, rows: &mut RowMap, change: &Change) -> Result<(), AllocErr
 }
 
 /// Puts the rows of the changes of this table.
+#[tactic(auto, using(crate::proofs::Replays::replays))]
 fn put_changes(
     alloc: Global,
     rows: &mut RowMap,
@@ -80,6 +81,7 @@ impl Core {
     }
 
     /// A node of which these records stand.
+    #[tactic(auto, using(crate::proofs::Replays::replays))]
     pub(crate) fn replay(alloc: Global, records: &[RedoRecord]) -> Result<Core, AllocError>
         ensures { IfOk result (λ core. kept_by core ≡ start_of records.now) }
     {

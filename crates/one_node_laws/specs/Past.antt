@@ -15,7 +15,7 @@ use Rattle.one_node_book.specs.declared.happening.Happening.TheVariants.{Begun, 
 use Rattle.book.specs.Entries.{entries_of}
 use Rattle.one_node_script.specs.declared.command.Command.{Command}
 use Rattle.one_node_script.specs.declared.command.Command.TheVariants as commands
-use Rattle.one_node_rules.specs.Turn.{Kept, Outcome, turn_of, start_of}
+use Rattle.one_node_rules.specs.Turn.{Kept, Outcome, turn_of, start_of, first_records}
 use Rattle.one_node_rules.specs.Disk.{disk_bytes}
 use Rattle.one_node_laws.specs.Shown.{shown_disk}
 use Rattle.book.specs.Texts.{shown_book}
@@ -38,10 +38,6 @@ pub record Past : Type 0 where
   pub records : List RedoRecord
   pub book : List Entry
   pub lines : List AnswerLine
-
--- the records of a node that was just made
-abbrev pub first_records : List RedoRecord
-first_records = records.Boot 1 ∷ []
 
 -- before anything happened: the node is made
 abbrev pub start : List Command → Past

@@ -15,8 +15,7 @@ use Rattle.one_node_book.specs.declared.happening.Happening.{Happening}
 use Rattle.one_node_book.specs.declared.happening.Happening.TheVariants.{Begun, Turn, Stopped, Started}
 use Rattle.book.specs.Entries.{entries_of}
 use Rattle.one_node_book.specs.Book.{rows_of, table_of, scn_of}
-use Rattle.one_node_rules.specs.Turn.{the_node, understood, answer_of, changes_of, own_of, transaction_after, ended_after, record_of, branch_of}
-use Rattle.one_node_laws.specs.Past.{first_records}
+use Rattle.one_node_rules.specs.Turn.{the_node, understood, answer_of, changes_of, own_of, transaction_after, ended_after, record_of, branch_of, first_records}
 
 -- The records so far, and the book; whether the node is up; how often it was started; the changes of the open
 -- transaction, where one is open; how many have ended since the start.

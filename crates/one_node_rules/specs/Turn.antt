@@ -205,3 +205,7 @@ after_records kept (r ∷ rs) = after_records (after_record kept r) rs
 -- what a start makes of a node's records: no transaction is open
 abbrev pub start_of : List RedoRecord → Kept
 start_of rs = after_records fresh rs
+
+-- the records of a node that was just made
+abbrev pub first_records : List RedoRecord
+first_records = records.Boot 1 ∷ []

@@ -2,7 +2,7 @@ mod Appended
 mod Begun
 mod Cells
 pub mod Logs
-mod Moments
-mod Settled
+pub mod Moments
+pub mod Settled
 mod Stored
 mod Walk
