@@ -1,15 +1,29 @@
-//! The statements of the SQL subset, as plain data.
-//!
-//! Every form that a script may hold stands here. How a text is read as a statement comes with the grammar of the whole
-//! subset; the few forms that a run understands today are read by the crate one_node_sql.
+//! The statements of the SQL subset, and how a text is read as one.
 #![tactic(auto)]
 
+mod catalog;
+mod changes;
+mod columns;
 mod condition;
+mod conditions;
+mod lists;
+mod laws;
+mod literals;
+mod parse_err;
+mod parsing;
+mod parts;
+mod queries;
 mod query;
+mod rule;
 mod statement;
 mod sum;
+mod sums;
+mod transactions;
 
 pub use condition::{Cond, Conds, Sign};
+pub use laws::{one_reading, spelled_statements_are_found};
+pub use parse_err::ParseErr;
+pub use parsing::parse;
 pub use query::Picked;
 pub use statement::{Set, Sets, Stmt, TableRef};
 pub use sum::{Step, Steps, Sum, Sums, Term};
