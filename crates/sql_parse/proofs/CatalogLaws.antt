@@ -122,7 +122,7 @@ abbrev other_words : List (List ℕ)
 other_words = codes "SYNONYM" ∷ link_words
 
 leads_other : Leads other_part (is_word_of other_words)
-leads_other = leads_or_else _ create_synonym create_link _ (λ v ts s. word_is_one (codes "SYNONYM") other_words refl ts (leads_synonym v ts s))
+leads_other = leads_or_else (begins (is_word (codes "SYNONYM"))) create_synonym create_link _ (λ v ts s. word_is_one (codes "SYNONYM") other_words refl ts (leads_synonym v ts s))
     (λ v ts s. later_word (codes "SYNONYM") link_words ts (leads_link v ts s))
 
 other_exact : IsExact other_part nothing

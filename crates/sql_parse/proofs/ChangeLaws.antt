@@ -8,7 +8,7 @@ use Rattle.token_grammar.specs.declared.mark.Mark.TheVariants as marks
 use Rattle.token_grammar.specs.declared.token.Token.{Token}
 use Rattle.token_grammar.specs.declared.token.Token.TheVariants as token
 use Rattle.token_grammar.specs.Steps.{begins}
-use Rattle.token_grammar.specs.Grammar.{Grammar, is_word, is_mark, nothing, anything, either, begins_two, word, mark, meant, identifier, identifier_of, identifier_in, ◌·◌, ◌▹◌, maybe, optional, commas, tested}
+use Rattle.token_grammar.specs.Grammar.{Grammar, is_word, is_mark, nothing, anything, either, begins_two, word, mark, meant, identifier, identifier_of, identifier_in, ◌·◌, ◌▹◌, ◌◃◌, maybe, optional, commas, tested}
 use Rattle.token_grammar.specs.Exact.{IsExact, Leads, Apart, Meets, Shows}
 use Rattle.token_grammar.proofs.Beginnings.{begins-append, begins-apart, begins_nothing, either_right, is_word_is, is_mark_is, leads_word, leads_mark, leads_after, leads_optional, leads_pair, led, apart_words, apart_word_mark, apart_mark_word, apart_marks, apart_nothing, apart_either, apart_from_either, optional_meets, ends_all}
 use Rattle.token_grammar.proofs.OneToken.{word_exact, mark_exact, meant_exact, maybe_exact}
@@ -43,7 +43,7 @@ apart_sum_word : (w : List ℕ) → Apart after_sum (is_word w)
 apart_sum_word w = apart_either _ _ _ (step_is_no_word w) (apart_nothing _)
 
 apart_sum_mark : (m : Mark) → is_step (token.Mark m) ≡ false → Apart after_sum (is_mark m)
-apart_sum_mark m no = apart_either _ _ _ (λ t h. rw (is_mark_is m t h) no) (apart_nothing _)
+apart_sum_mark m other = apart_either _ _ _ (λ t h. rw (is_mark_is m t h) other) (apart_nothing _)
 
 -- ---- INSERT
 
@@ -155,14 +155,14 @@ abbrev sum_or_columns : Grammar Picked
 sum_or_columns = or_else (opens (codes "SUM")) sum_of columns
 
 sum_shows : Shows sum_of (opens (codes "SUM")) after_list true
-sum_shows v ts rest s ends = shows_two (codes "SUM") (in_brackets identifier) (is_mark marks.Open) after_list (leads_after (mark marks.Open) _ _ (leads_mark marks.Open)) s.0 ts rest s.1 ends
+sum_shows v ts rest s ends = shows_two (codes "SUM") (in_brackets identifier) (is_mark marks.Open) after_list (leads_after (mark marks.Open) (identifier ◃ mark marks.Close) _ (leads_mark marks.Open)) s.0 ts rest s.1 ends
 
 sum_or_columns_exact : IsExact sum_or_columns after_list
 sum_or_columns_exact = or_else_exact (opens (codes "SUM")) sum_of columns after_list (widened sum_of nothing after_list sum_of_exact from_nothing)
     (widened columns _ after_list columns_exact (λ ts h. either_right _ _ ts h)) sum_shows (columns_do_not_open (codes "SUM"))
 
 count_shows : Shows count (opens (codes "COUNT")) after_list true
-count_shows v ts rest s ends = shows_two (codes "COUNT") (in_brackets (mark marks.Star)) (is_mark marks.Open) after_list (leads_after (mark marks.Open) _ _ (leads_mark marks.Open)) s.0 ts rest s.1 ends
+count_shows v ts rest s ends = shows_two (codes "COUNT") (in_brackets (mark marks.Star)) (is_mark marks.Open) after_list (leads_after (mark marks.Open) (mark marks.Star ◃ mark marks.Close) _ (leads_mark marks.Open)) s.0 ts rest s.1 ends
 
 no_count : Shows sum_or_columns (opens (codes "COUNT")) after_list false
 no_count v ts rest (inl s) ends = rw (s.1.4, s.1.2) refl

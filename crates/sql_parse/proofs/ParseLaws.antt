@@ -1,6 +1,6 @@
 -- A text is read as the statement that it spells, and as no other.
 use Rattle.std.proofs.Common.{◌≡◌, ℕ, List, Option, Some, None, refl, sym, ◌∙◌}
-use Rattle.token_grammar.specs.Text.{IsTextOf, value_in}
+use Rattle.token_grammar.specs.Text.{IsTextOf}
 use Rattle.token_grammar.proofs.WholeLaws.{text_takes, text_again}
 use Rattle.token_grammar.proofs.Options.{some_is}
 use Rattle.sql_parse.specs.declared.statement.Stmt.{Stmt}
@@ -29,13 +29,10 @@ pub none_found : (text : List ℕ) → ((s : Stmt) → IsStatement s text → �
 none_found text h = none_of text (statement_of text) refl h
 
 -- the same of the grammar's own relation
-pub text_is_found : (text : List ℕ) (s : Stmt) → IsTextOf statement_grammar s text → statement_of text ≡ Some s
-unfolding statement_of
-text_is_found text s h = text_again statement_grammar statement_exact text s h
+pub text_is_statement : (text : List ℕ) (s : Stmt) → IsTextOf statement_grammar s text → IsStatement s text
+unfolding IsStatement
+text_is_statement text s h = h
 
-pub none_of_text : (text : List ℕ) → ((s : Stmt) → IsTextOf statement_grammar s text → ⊥) → statement_of text ≡ None
-none_of_text text h = none_found text (λ s p. h s (text_of s p))
-  where
-    text_of : (s : Stmt) → IsStatement s text → IsTextOf statement_grammar s text
-    unfolding IsStatement
-    text_of s p = p
+pub statement_is_text : (text : List ℕ) (s : Stmt) → IsStatement s text → IsTextOf statement_grammar s text
+unfolding IsStatement
+statement_is_text text s h = h

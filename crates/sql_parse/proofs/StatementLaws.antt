@@ -63,7 +63,7 @@ leads_execute v ts s = rw (s.4, s.2.1) s.2.2
 
 module _ (w : List ℕ) (ws : List (List ℕ)) (form others : Grammar Stmt) (first : Leads form (is_word w)) (second : Leads others (is_word_of ws)) (itself : bytes_eq w w ≡ true) where
   pub leads_led : Leads (led_by w form others) (is_word_of (w ∷ ws))
-  leads_led = leads_or_else _ form others _ (λ v ts s. word_is_one w (w ∷ ws) (rw itself refl) ts (first v ts s)) (λ v ts s. later_word w ws ts (second v ts s))
+  leads_led = leads_or_else (begins (is_word w)) form others _ (λ v ts s. word_is_one w (w ∷ ws) (rw itself refl) ts (first v ts s)) (λ v ts s. later_word w ws ts (second v ts s))
 
   pub exact_led : list_any (λ v. bytes_eq w v) ws ≡ false → IsExact form anything → IsExact others anything → IsExact (led_by w form others) anything
   exact_led none x y = led_exact form others _ _ anything x y first second (apart_word_of w ws none)
