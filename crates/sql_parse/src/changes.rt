@@ -30,10 +30,7 @@ fn take_column_names(alloc: Global, tokens: &[Token]) -> Result<(Names, &[Token]
     Ok((Listing::of(names), rest))
 }
 
-fn maybe_column_names(
-    alloc: Global,
-    tokens: &[Token],
-) -> Result<(Option<Names>, &[Token]), ReadErr>
+fn maybe_column_names(alloc: Global, tokens: &[Token]) -> Result<(Option<Names>, &[Token]), ReadErr>
     ensures { Gives (λ x. (x.0, x.1.now)) result ((optional (is_mark marks.Open) spec.column_names).read tokens.now) }
 {
     if !begins_mark(tokens, Mark::Open) {

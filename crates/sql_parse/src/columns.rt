@@ -173,10 +173,7 @@ fn are_of_a_table(columns: &[Column]) -> bool
 }
 
 /// The columns of a table, between brackets.
-pub(crate) fn take_columns(
-    alloc: Global,
-    tokens: &[Token],
-) -> Result<(Columns, &[Token]), ReadErr>
+pub(crate) fn take_columns(alloc: Global, tokens: &[Token]) -> Result<(Columns, &[Token]), ReadErr>
     ensures { Gives (λ x. (x.0, x.1.now)) result (spec.table_columns.read tokens.now) }
 {
     let (columns, rest) = bracketed::<TableColumn>(alloc, tokens)?;

@@ -101,10 +101,7 @@ impl Separator for And {
 
 /// The conditions behind WHERE, or none where it does not stand.
 #[tactic(auto, unfolding(crate::specs::Conditions::conditions))]
-pub(crate) fn take_conditions(
-    alloc: Global,
-    tokens: &[Token],
-) -> Result<(Conds, &[Token]), ReadErr>
+pub(crate) fn take_conditions(alloc: Global, tokens: &[Token]) -> Result<(Conds, &[Token]), ReadErr>
     ensures { Gives (λ x. (x.0, x.1.now)) result (spec.conditions.read tokens.now) }
 {
     if !begins_word(tokens, b"WHERE") {

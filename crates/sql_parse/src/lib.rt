@@ -6,8 +6,8 @@ mod changes;
 mod columns;
 mod condition;
 mod conditions;
-mod lists;
 mod laws;
+mod lists;
 mod literals;
 mod parse_err;
 mod parsing;
@@ -27,3 +27,6 @@ pub use parsing::parse;
 pub use query::Picked;
 pub use statement::{Set, Sets, Stmt, TableRef};
 pub use sum::{Step, Steps, Sum, Sums, Term};
+
+#[cfg(test)]
+mod tests;

@@ -13,8 +13,8 @@ use crate::statement::Stmt;
 use dtx_values::Listing;
 use std::alloc::Global;
 use token_grammar::{
-    Mark, ReadErr, Token, begins_mark, begins_word, begins_word_mark, take_identifier,
-    take_mark, take_word,
+    Mark, ReadErr, Token, begins_mark, begins_word, begins_word_mark, take_identifier, take_mark,
+    take_word,
 };
 
 /// The most columns of a list.

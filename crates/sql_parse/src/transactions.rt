@@ -170,8 +170,9 @@ fn take_execute_word(tokens: &[Token]) -> Result<&[Token], ReadErr>
     ensures { Gives (λ rest. (tt, rest.now)) result ((passed spec.is_execute).read tokens.now) }
 {
     match tokens {
-        [Token::Word(word), rest @ ..] if word.as_slice() == b"EXECUTE".as_slice()
-            || word.as_slice() == b"EXEC".as_slice() => Ok(rest),
+        [Token::Word(word), rest @ ..]
+            if word.as_slice() == b"EXECUTE".as_slice() || word.as_slice() == b"EXEC".as_slice() =>
+            Ok(rest),
         _ => Err(ReadErr::Bad),
     }
 }

@@ -1,0 +1,175 @@
+//! Texts that are statements and texts that are none, with what the few of them say that are looked into.
+use super::*;
+use dtx_values::Value;
+use std::alloc::{AllocError, Global};
+use std::test::*;
+
+fn is_statement(rt: &HostRuntime, text: &[u8]) -> bool {
+    parse(rt.alloc(), text).is_ok()
+}
+
+fn is_refused(rt: &HostRuntime, text: &[u8]) -> bool {
+    matches!(parse(rt.alloc(), text), Err(ParseErr::BadSql))
+}
+
+#[test]
+fn an_update_is_read(rt: HostRuntime) -> Result<(), Fail> {
+    let text = b"update stock set n=n-10 where item='BOLT'".as_slice();
+    match parse(rt.alloc(), text)? {
+        Stmt::Update { table, sets, conds } => {
+            assert_eq!(rt; table.name.as_bytes(), b"STOCK".as_slice());
+            assert!(rt; table.link.is_none());
+            let sum = &sets.as_slice()[0].to;
+            assert!(rt;
+                matches!(&sum.first, Term::Column(name) if name.as_bytes() == b"N".as_slice())
+            );
+            let step = &sum.rest.as_slice()[0];
+            assert!(rt; step.minus);
+            assert!(rt; matches!(&step.term, Term::Literal(Value::Number(10))));
+            match &conds.as_slice()[0] {
+                Cond::Compare {
+                    column,
+                    sign,
+                    literal,
+                } => {
+                    assert_eq!(rt; column.as_bytes(), b"ITEM".as_slice());
+                    assert_eq!(rt; *sign, Sign::Eq);
+                    assert!(rt;
+                        matches!(literal, Value::Text(text) if text.as_bytes() == b"BOLT".as_slice())
+                    );
+                }
+                Cond::IsNull { .. } => assert!(rt; false),
+            }
+        }
+        _ => assert!(rt; false),
+    }
+    Ok(())
+}
+
+#[test]
+fn literals_mean_what_they_say(rt: HostRuntime) -> Result<(), Fail> {
+    let text = b"INSERT INTO T VALUES (- 5, '', 'it''s', NULL, -9223372036854775808)".as_slice();
+    match parse(rt.alloc(), text)? {
+        Stmt::Insert { values, .. } => {
+            let values = values.as_slice();
+            assert!(rt; matches!(&values[0].first, Term::Literal(Value::Number(-5))));
+            assert!(rt; matches!(&values[1].first, Term::Literal(Value::Null)));
+            assert!(rt;
+                matches!(&values[2].first, Term::Literal(Value::Text(text)) if text.as_bytes() == b"it's".as_slice())
+            );
+            assert!(rt; matches!(&values[3].first, Term::Literal(Value::Null)));
+            assert!(rt; matches!(&values[4].first, Term::Literal(Value::Number(i64::MIN))));
+        }
+        _ => assert!(rt; false),
+    }
+    Ok(())
+}
+
+#[test]
+fn statements_are_read(rt: HostRuntime) {
+    for text in [
+        b"create table stock (item varchar2(2000) primary key not null, n number)".as_slice(),
+        b"CREATE DATABASE LINK hq.acme.com USING 'hq'".as_slice(),
+        b"CREATE PUBLIC DATABASE LINK L CONNECT TO scott IDENTIFIED BY tiger USING 'a.b'".as_slice(),
+        b"CREATE DATABASE LINK CONNECT USING 'X'".as_slice(),
+        b"CREATE SYNONYM S FOR T@hq.acme.com".as_slice(),
+        b"INSERT INTO T (A, B) VALUES (1 - -2 + NULL, 'x')".as_slice(),
+        b"INSERT INTO T @ L VALUES (9223372036854775807)".as_slice(),
+        b"UPDATE T@L SET A = B + 1 - C, B = '' WHERE K <> 1AND V IS NOT NULL".as_slice(),
+        b"DELETE FROM T WHERE A != 'x' AND B >= -1 AND C <= 2 AND D < 3 AND E > 4".as_slice(),
+        b"delete t".as_slice(),
+        b"SELECT * FROM T FOR UPDATE".as_slice(),
+        b"SELECT COUNT ( * ) FROM T@L WHERE A IS NULL".as_slice(),
+        b"SELECT SUM(N) FROM T".as_slice(),
+        b"SELECT COUNT, SUM, WORK FROM COMMIT FOR UPDATE".as_slice(),
+        b" COMMIT\r\n\tWORK ".as_slice(),
+        b"COMMIT COMMENT ''".as_slice(),
+        b"COMMIT WORK FORCE '1.65.1', 281474976710655".as_slice(),
+        b"COMMIT FORCE ''".as_slice(),
+        b"ROLLBACK".as_slice(),
+        b"ROLLBACK WORK FORCE 'HQ.00000001.1.65.1'".as_slice(),
+        b"ALTER SESSION ADVISE NOTHING".as_slice(),
+        b"alter session advise commit".as_slice(),
+        b"ALTER SYSTEM DISABLE DISTRIBUTED RECOVERY".as_slice(),
+        b"exec dbms_transaction.purge_mixed('1.65.1')".as_slice(),
+        b"EXECUTE DBMS_TRANSACTION.PURGE_LOST_DB_ENTRY ( '' )".as_slice(),
+    ] {
+        assert!(rt; is_statement(&rt, text));
+    }
+}
+
+#[test]
+fn other_texts_are_refused(rt: HostRuntime) {
+    for text in [
+        b"".as_slice(),
+        b"SELECT COUNT(*) FROM T FOR UPDATE".as_slice(),
+        b"SELECT SUM(N) FROM T FOR UPDATE".as_slice(),
+        b"SELECT A, COUNT(*) FROM T".as_slice(),
+        b"SELECT A FROM SELECT".as_slice(),
+        b"SELECT A FROM T.U".as_slice(),
+        b"SELECT * FROM T WHERE A = B".as_slice(),
+        b"SELECT * FROM T WHERE A < = 1".as_slice(),
+        b"SELECT * FROM T;".as_slice(),
+        b"INSERT INTO T VALUES (1, A)".as_slice(),
+        b"INSERT INTO T VALUES (1 + A)".as_slice(),
+        b"INSERT INTO T (A, a) VALUES (1, 2)".as_slice(),
+        b"INSERT INTO T VALUES (9223372036854775808)".as_slice(),
+        b"INSERT INTO T VALUES (-9223372036854775809)".as_slice(),
+        b"INSERT INTO T VALUES ('\xFF')".as_slice(),
+        b"INSERT INTO T VALUES ()".as_slice(),
+        b"UPDATE T SET A = 1, a = 2".as_slice(),
+        b"UPDATE T SET A = 1 WHERE".as_slice(),
+        b"CREATE TABLE T (A NUMBER)".as_slice(),
+        b"CREATE TABLE T (A NUMBER PRIMARY KEY, B NUMBER PRIMARY KEY)".as_slice(),
+        b"CREATE TABLE T (A NUMBER PRIMARY KEY PRIMARY KEY)".as_slice(),
+        b"CREATE TABLE T (A NUMBER NOT NULL PRIMARY KEY NOT NULL)".as_slice(),
+        b"CREATE TABLE T (A NUMBER PRIMARY KEY, a NUMBER)".as_slice(),
+        b"CREATE TABLE T (A VARCHAR2(2001) PRIMARY KEY)".as_slice(),
+        b"CREATE TABLE T (A VARCHAR2(0) PRIMARY KEY)".as_slice(),
+        b"CREATE DATABASE LINK L USING ''".as_slice(),
+        b"CREATE SYNONYM S FOR T".as_slice(),
+        b"COMMIT COMMENT".as_slice(),
+        b"COMMIT COMMENT '\xC3'".as_slice(),
+        b"COMMIT FORCE '1', 281474976710656".as_slice(),
+        b"COMMIT WORK WORK".as_slice(),
+        b"ROLLBACK FORCE".as_slice(),
+        b"ALTER SESSION ADVISE ABORT".as_slice(),
+        b"ALTER SYSTEM ENABLE RECOVERY".as_slice(),
+        b"EXEC DBMS_TRANSACTION .PURGE_MIXED('1')".as_slice(),
+        b"EXEC DBMS_TRANSACTION.PURGE_MIXED '1'".as_slice(),
+    ] {
+        assert!(rt; is_refused(&rt, text));
+    }
+}
+
+// The front, so many times the piece, and the end.
+fn repeated(
+    alloc: Global,
+    front: &[u8],
+    piece: &[u8],
+    count: usize,
+    end: &[u8],
+) -> Result<Vec<u8>, AllocError> {
+    let mut text = front.to_vec(alloc)?;
+    for _ in 0..count {
+        text.extend_from_slice(piece)?;
+    }
+    text.extend_from_slice(end)?;
+    Ok(text)
+}
+
+#[test]
+fn texts_end_at_their_limits(rt: HostRuntime) -> Result<(), Fail> {
+    let alloc = rt.alloc();
+    let cases: [(&[u8], &[u8], usize, &[u8]); 4] = [
+        (b"COMMIT COMMENT '", b"x", 255, b"'"),
+        (b"ROLLBACK FORCE '", b"''", 2000, b"'"),
+        (b"INSERT INTO T VALUES ('", b"x", 2000, b"')"),
+        (b"SELECT A", b", A", 254, b" FROM T"),
+    ];
+    for (front, piece, most, end) in cases {
+        assert!(rt; is_statement(&rt, &repeated(alloc, front, piece, most, end)?));
+        assert!(rt; is_refused(&rt, &repeated(alloc, front, piece, most + 1, end)?));
+    }
+    Ok(())
+}
