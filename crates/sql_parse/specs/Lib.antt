@@ -5,3 +5,4 @@ pub mod Changes
 pub mod Catalog
 pub mod Transactions
 pub mod Statement
+pub mod Printing
