@@ -6,3 +6,4 @@ pub mod CatalogLaws
 pub mod TransactionLaws
 pub mod StatementLaws
 pub mod ParseLaws
+pub mod Appends
