@@ -7,3 +7,9 @@ pub mod TransactionLaws
 pub mod StatementLaws
 pub mod ParseLaws
 pub mod Appends
+pub mod WriteLaws
+pub mod PrintLaws
+pub mod FormLaws
+pub mod CatalogForms
+pub mod TransactionForms
+pub mod RoundTrip

@@ -23,7 +23,7 @@ mod sums;
 mod transactions;
 
 pub use condition::{Cond, Conds, Sign};
-pub use laws::{one_reading, spelled_statements_are_found};
+pub use laws::{one_reading, printed_statements_are_read, spelled_statements_are_found};
 pub use parse_err::ParseErr;
 pub use parsing::parse;
 pub use printing::print_stmt;
