@@ -72,8 +72,11 @@ abbrev rules_part : Grammar (List Rule)
 rules_part = tested are_once (many is_rule rule)
 
 prints_rules : (not_null key : Bool) → (us : List Token) × rules_part.Spells (rules_of not_null key) us × Writes goes_on us (rules_text not_null key)
-prints_rules true true = (not_null_tokens ++ key_tokens, ((not_null_tokens, key_tokens, not_null_spelled, (key_tokens, [], key_spelled, refl, refl), refl), refl),
-    then_written goes_on goes_on not_null_tokens key_tokens (codes " NOT NULL") (codes " PRIMARY KEY") not_null_written key_written (λ rest h. refl))
+prints_rules true true = (
+  not_null_tokens ++ key_tokens,
+  ((not_null_tokens, key_tokens, not_null_spelled, (key_tokens, [], key_spelled, refl, refl), refl), refl),
+  then_written goes_on goes_on not_null_tokens key_tokens (codes " NOT NULL") (codes " PRIMARY KEY") not_null_written key_written (λ rest h. refl),
+)
 prints_rules true false = (not_null_tokens, ((not_null_tokens, [], not_null_spelled, refl, refl), refl), not_null_written)
 prints_rules false true = (key_tokens, ((key_tokens, [], key_spelled, refl, refl), refl), key_written)
 prints_rules false false = ([], (refl, refl), nothing_written goes_on)
@@ -106,12 +109,13 @@ prints_column v ts m s =
     let c : column_of s.0 ≡ v = some_is (column_of s.0) v s.2 in
     let z = prints_rules v.not_null v.key in
     let named : s.0.0 ≡ v.name = ap (λ (d : Column). d.name) c in
-    let typed : s.0.1.0 ≡ v.text_max = ap (λ (d : Column). d.text_max) c in
-    (x.0 ++ (y.0 ++ z.0),
-     ((v.name, (v.text_max, rules_of v.not_null v.key)), (x.0, y.0 ++ z.0, subst (λ n. identifier.Spells n x.0) named x.1, (y.0, z.0, subst (λ w. column_type.Spells w y.0) typed y.1, z.1, refl), refl), ap (λ (d : Column). Some d) (same_column v.name v.text_max v.not_null v.key)),
-     then_written goes_on goes_on x.0 (y.0 ++ z.0) v.name (type_text v.text_max ++ rules_text v.not_null v.key) (subst (λ n. Writes goes_on x.0 n) named x.2)
-       (then_written goes_on goes_on y.0 z.0 (type_text v.text_max) (rules_text v.not_null v.key) (subst (λ w. Writes goes_on y.0 (type_text w)) typed y.2) z.2 (λ rest h. rules_quiet v.not_null v.key rest h))
-       (λ rest h. type_quiet v.text_max (rules_text v.not_null v.key) rest))
+    let typed : s.0.1.0 ≡ v.text_max = ap (λ (d : Column). d.text_max) c in (
+      x.0 ++ (y.0 ++ z.0),
+      ((v.name, (v.text_max, rules_of v.not_null v.key)), (x.0, y.0 ++ z.0, subst (λ n. identifier.Spells n x.0) named x.1, (y.0, z.0, subst (λ w. column_type.Spells w y.0) typed y.1, z.1, refl), refl), ap (λ (d : Column). Some d) (same_column v.name v.text_max v.not_null v.key)),
+      then_written goes_on goes_on x.0 (y.0 ++ z.0) v.name (type_text v.text_max ++ rules_text v.not_null v.key) (subst (λ n. Writes goes_on x.0 n) named x.2)
+          (then_written goes_on goes_on y.0 z.0 (type_text v.text_max) (rules_text v.not_null v.key) (subst (λ w. Writes goes_on y.0 (type_text w)) typed y.2) z.2 (λ rest h. rules_quiet v.not_null v.key rest h))
+          (λ rest h. type_quiet v.text_max (rules_text v.not_null v.key) rest),
+    )
 
 -- ---- CREATE TABLE
 
@@ -184,14 +188,34 @@ prints_create_link v ts m s =
     let o = n.3 in
     let made = rest_made k.1 l.0 l.1 l.4 (rest_made j.1 k.0 k.1 k.4 (rest_made s.1 j.0 j.1 j.4 (rest_made ts s.0 s.1 s.4 m))) in
     let x = prints_name a.0 n.0 (front_made l.1 n.0 n.1 n.4 made) n.2 in
-    let y = prints_using a.1.1 o.1 (rest_made n.1 o.0 o.1 o.4 (rest_made l.1 n.0 n.1 n.4 made)) o.3 in
-    (token.Word (codes "CREATE") ∷ token.Word (codes "DATABASE") ∷ token.Word (codes "LINK") ∷ (x.0 ++ y.0),
-     (token.Word (codes "CREATE") ∷ [], token.Word (codes "DATABASE") ∷ token.Word (codes "LINK") ∷ (x.0 ++ y.0), refl,
-      ((a.0, (None, a.1.1)), ([], token.Word (codes "DATABASE") ∷ token.Word (codes "LINK") ∷ (x.0 ++ y.0), inl refl,
-        (token.Word (codes "DATABASE") ∷ [], token.Word (codes "LINK") ∷ (x.0 ++ y.0), refl,
-        (token.Word (codes "LINK") ∷ [], x.0 ++ y.0, refl, (x.0, y.0, x.1, ([], y.0, refl, y.1, refl), refl), refl), refl), refl), s.3.2), refl),
-     subst (λ z. Writes goes_on (token.Word (codes "CREATE") ∷ token.Word (codes "DATABASE") ∷ token.Word (codes "LINK") ∷ (x.0 ++ y.0)) (printed z)) (some_is (statements.CreateLink (record { name = a.0; target = a.1.1 })) v s.3.2)
-       (link_written x.0 y.0 a.0 (quoted_text a.1.1) x.2 y.2))
+    let y = prints_using a.1.1 o.1 (rest_made n.1 o.0 o.1 o.4 (rest_made l.1 n.0 n.1 n.4 made)) o.3 in (
+      token.Word (codes "CREATE") ∷ token.Word (codes "DATABASE") ∷ token.Word (codes "LINK") ∷ (x.0 ++ y.0),
+      (
+        token.Word (codes "CREATE") ∷ [],
+        token.Word (codes "DATABASE") ∷ token.Word (codes "LINK") ∷ (x.0 ++ y.0),
+        refl,
+        (
+          (a.0, (None, a.1.1)),
+          (
+            [],
+            token.Word (codes "DATABASE") ∷ token.Word (codes "LINK") ∷ (x.0 ++ y.0),
+            inl refl,
+            (
+              token.Word (codes "DATABASE") ∷ [],
+              token.Word (codes "LINK") ∷ (x.0 ++ y.0),
+              refl,
+              (token.Word (codes "LINK") ∷ [], x.0 ++ y.0, refl, (x.0, y.0, x.1, ([], y.0, refl, y.1, refl), refl), refl),
+              refl,
+            ),
+            refl,
+          ),
+          s.3.2,
+        ),
+        refl,
+      ),
+      subst (λ z. Writes goes_on (token.Word (codes "CREATE") ∷ token.Word (codes "DATABASE") ∷ token.Word (codes "LINK") ∷ (x.0 ++ y.0)) (printed z)) (some_is (statements.CreateLink (record { name = a.0; target = a.1.1 })) v s.3.2)
+          (link_written x.0 y.0 a.0 (quoted_text a.1.1) x.2 y.2),
+    )
 
 pub prints_create : Prints create printed
 unfolding create

@@ -135,9 +135,11 @@ lock_text locks = if_text locks (codes " FOR UPDATE")
 
 prints_lock : Prints (stands (is_word (codes "FOR")) lock_part) lock_text
 prints_lock false ts m s = ([], refl, nothing_written goes_on)
-prints_lock true ts m s =
-    (token.Word (codes "FOR") ∷ token.Word (codes "UPDATE") ∷ [], (token.Word (codes "FOR") ∷ [], token.Word (codes "UPDATE") ∷ [], refl, refl, refl),
-     joined_written goes_on (token.Word (codes "FOR") ∷ []) (token.Word (codes "UPDATE") ∷ []) (codes " FOR ") (codes "UPDATE") (inner_written (codes "FOR") (refl, refl, refl)) (word_written (codes "UPDATE") (refl, refl, refl)))
+prints_lock true ts m s = (
+  token.Word (codes "FOR") ∷ token.Word (codes "UPDATE") ∷ [],
+  (token.Word (codes "FOR") ∷ [], token.Word (codes "UPDATE") ∷ [], refl, refl, refl),
+  joined_written goes_on (token.Word (codes "FOR") ∷ []) (token.Word (codes "UPDATE") ∷ []) (codes " FOR ") (codes "UPDATE") (inner_written (codes "FOR") (refl, refl, refl)) (word_written (codes "UPDATE") (refl, refl, refl)),
+)
 
 lock_quiet : Quiet lock_text
 lock_quiet false rest h = h

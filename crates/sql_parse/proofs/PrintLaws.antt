@@ -96,9 +96,11 @@ unfolding literal
 negative_again zero v ts m s e =
     (token.Number 0 ∷ [], inr (token.Number 0, refl, e), subst (λ x. Writes goes_on (token.Number 0 ∷ []) (text_of_value x)) (some_is (values.Number (pos 0)) v e) (number_written 0 (omega arith)))
 negative_again (suc k) v ts m s e =
-    let x = prints_number smallest (suc k) s.1 (rest_made ts s.0 s.1 s.4 m) s.3 in
-    (token.Mark marks.Minus ∷ x.0, inl (suc k, (token.Mark marks.Minus ∷ [], x.0, refl, x.1, refl), e),
-     subst (λ y. Writes goes_on (token.Mark marks.Minus ∷ x.0) (text_of_value y)) (some_is (values.Number (neg_ℤ (pos (suc k)))) v e) (joined_written goes_on (token.Mark marks.Minus ∷ []) x.0 (codes "-") (decimal (suc k)) minus_written x.2))
+    let x = prints_number smallest (suc k) s.1 (rest_made ts s.0 s.1 s.4 m) s.3 in (
+      token.Mark marks.Minus ∷ x.0,
+      inl (suc k, (token.Mark marks.Minus ∷ [], x.0, refl, x.1, refl), e),
+      subst (λ y. Writes goes_on (token.Mark marks.Minus ∷ x.0) (text_of_value y)) (some_is (values.Number (neg_ℤ (pos (suc k)))) v e) (joined_written goes_on (token.Mark marks.Minus ∷ []) x.0 (codes "-") (decimal (suc k)) minus_written x.2),
+    )
 
 pub prints_literal : Prints literal text_of_value
 unfolding literal
@@ -174,15 +176,17 @@ abbrev null_part : Grammar Bool
 null_part = word (codes "IS") ▹ (stands (is_word (codes "NOT")) (word (codes "NOT")) ◃ word (codes "NULL"))
 
 prints_null : Prints null_part null_text
-prints_null true ts m s =
-    (token.Word (codes "IS") ∷ token.Word (codes "NOT") ∷ token.Word (codes "NULL") ∷ [],
-     (token.Word (codes "IS") ∷ [], token.Word (codes "NOT") ∷ token.Word (codes "NULL") ∷ [], refl, (token.Word (codes "NOT") ∷ [], token.Word (codes "NULL") ∷ [], refl, refl, refl), refl),
-     joined_written goes_on (token.Word (codes "IS") ∷ []) (token.Word (codes "NOT") ∷ token.Word (codes "NULL") ∷ []) (codes " IS ") (codes "NOT NULL") (inner_written (codes "IS") (refl, refl, refl))
-     (joined_written goes_on (token.Word (codes "NOT") ∷ []) (token.Word (codes "NULL") ∷ []) (codes "NOT ") (codes "NULL") (keyword_written (codes "NOT") (refl, refl, refl)) null_written))
-prints_null false ts m s =
-    (token.Word (codes "IS") ∷ token.Word (codes "NULL") ∷ [],
-     (token.Word (codes "IS") ∷ [], token.Word (codes "NULL") ∷ [], refl, ([], token.Word (codes "NULL") ∷ [], refl, refl, refl), refl),
-     joined_written goes_on (token.Word (codes "IS") ∷ []) (token.Word (codes "NULL") ∷ []) (codes " IS ") (codes "NULL") (inner_written (codes "IS") (refl, refl, refl)) null_written)
+prints_null true ts m s = (
+  token.Word (codes "IS") ∷ token.Word (codes "NOT") ∷ token.Word (codes "NULL") ∷ [],
+  (token.Word (codes "IS") ∷ [], token.Word (codes "NOT") ∷ token.Word (codes "NULL") ∷ [], refl, (token.Word (codes "NOT") ∷ [], token.Word (codes "NULL") ∷ [], refl, refl, refl), refl),
+  joined_written goes_on (token.Word (codes "IS") ∷ []) (token.Word (codes "NOT") ∷ token.Word (codes "NULL") ∷ []) (codes " IS ") (codes "NOT NULL") (inner_written (codes "IS") (refl, refl, refl))
+      (joined_written goes_on (token.Word (codes "NOT") ∷ []) (token.Word (codes "NULL") ∷ []) (codes "NOT ") (codes "NULL") (keyword_written (codes "NOT") (refl, refl, refl)) null_written),
+)
+prints_null false ts m s = (
+  token.Word (codes "IS") ∷ token.Word (codes "NULL") ∷ [],
+  (token.Word (codes "IS") ∷ [], token.Word (codes "NULL") ∷ [], refl, ([], token.Word (codes "NULL") ∷ [], refl, refl, refl), refl),
+  joined_written goes_on (token.Word (codes "IS") ∷ []) (token.Word (codes "NULL") ∷ []) (codes " IS ") (codes "NULL") (inner_written (codes "IS") (refl, refl, refl)) null_written,
+)
 
 null_quiet : Quiet null_text
 null_quiet true rest h = refl

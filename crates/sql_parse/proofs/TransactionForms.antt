@@ -120,9 +120,11 @@ prints_switch true ts m s = (token.Word (codes "ENABLE") ∷ [], (token.Word (co
 prints_switch false ts m s = (token.Word (codes "DISABLE") ∷ [], (token.Word (codes "DISABLE"), refl, refl), word_written (codes "DISABLE") (refl, refl, refl))
 
 prints_recovery_words : Prints (word (codes "DISTRIBUTED") ▹ word (codes "RECOVERY")) (λ x. codes " DISTRIBUTED RECOVERY")
-prints_recovery_words x ts m s =
-    (token.Word (codes "DISTRIBUTED") ∷ token.Word (codes "RECOVERY") ∷ [], (token.Word (codes "DISTRIBUTED") ∷ [], token.Word (codes "RECOVERY") ∷ [], refl, refl, refl),
-     joined_written goes_on (token.Word (codes "DISTRIBUTED") ∷ []) (token.Word (codes "RECOVERY") ∷ []) (codes " DISTRIBUTED ") (codes "RECOVERY") (inner_written (codes "DISTRIBUTED") (refl, refl, refl)) (word_written (codes "RECOVERY") (refl, refl, refl)))
+prints_recovery_words x ts m s = (
+  token.Word (codes "DISTRIBUTED") ∷ token.Word (codes "RECOVERY") ∷ [],
+  (token.Word (codes "DISTRIBUTED") ∷ [], token.Word (codes "RECOVERY") ∷ [], refl, refl, refl),
+  joined_written goes_on (token.Word (codes "DISTRIBUTED") ∷ []) (token.Word (codes "RECOVERY") ∷ []) (codes " DISTRIBUTED ") (codes "RECOVERY") (inner_written (codes "DISTRIBUTED") (refl, refl, refl)) (word_written (codes "RECOVERY") (refl, refl, refl)),
+)
 
 same_recovery : (on : Bool) → codes "ALTER " ++ (codes "SYSTEM " ++ (switch_text on ++ codes " DISTRIBUTED RECOVERY")) ≡ printed (statements.Recovery on)
 unfolding printed

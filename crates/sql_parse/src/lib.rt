@@ -1,4 +1,12 @@
-//! The statements of the SQL subset, and how a text is read as one.
+//! The statements of the SQL subset: as data, as texts that are read, and as texts that are printed.
+//!
+//! `Stmt` and its parts are plain data. Which texts spell a statement is said by `IsStatement` in `specs/Statement.antt`:
+//! the text is cut into tokens, and these are spelled as a grammar says, a form of statement a definition, in the other
+//! files of `specs/`. The grammar is made of the combinators of token_grammar, and so are its proofs of being exact: no
+//! text spells two statements (`one_reading`), and `parse` finds the one that it spells, or says that there is none.
+//!
+//! `print_stmt` writes a statement in one way, that of `specs/Printing.antt`, and what it writes is read as the same
+//! statement again.
 #![tactic(auto)]
 
 mod catalog;

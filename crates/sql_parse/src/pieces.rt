@@ -102,11 +102,7 @@ pub(crate) fn put_number(out: &mut Vec<u8>, number: u64) -> Result<(), AllocErro
 }
 
 /// Adds a value.
-pub(crate) fn put_value(
-    alloc: Global,
-    out: &mut Vec<u8>,
-    value: &Value,
-) -> Result<(), AllocError>
+pub(crate) fn put_value(alloc: Global, out: &mut Vec<u8>, value: &Value) -> Result<(), AllocError>
     ensures { OnOk result (out.new.items ≡ out.old.items ++ text_of_value value.now) }
 {
     let text = value_text(alloc, value)?;

@@ -2,6 +2,7 @@
 ghost use Rattle.std.specs.Prelude.{◌≡◌, ◌++◌, ℕ, List, IfOk, OnOk};
 ghost use Rattle.sql_parse.specs.Printing as spec;
 ghost use Rattle.sql_parse.specs.Printing.{printed};
+ghost use Rattle.sql_parse.specs.Statement.{IsStatement};
 
 use crate::condition::{Cond, Conds, Sign};
 use crate::pieces::{
@@ -438,6 +439,8 @@ fn put_statement(alloc: Global, out: &mut Vec<u8>, statement: &Stmt) -> Result<(
 /// The one text that a statement is printed as.
 pub fn print_stmt(alloc: Global, statement: &Stmt) -> Result<Bytes, AllocError>
     ensures text { IfOk result (λ text. text ≡ printed statement.now) }
+    // It is read as the same statement, if any text is.
+    ensures again { (text : List ℕ) → IsStatement statement.now text → IfOk result (λ text. IsStatement statement.now text) }
 {
     let mut out = Vec::new(alloc);
     put_statement(alloc, &mut out, statement)?;

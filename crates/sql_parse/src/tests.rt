@@ -142,6 +142,46 @@ fn other_texts_are_refused(rt: HostRuntime) {
     }
 }
 
+#[test]
+fn statements_are_printed_in_one_way(rt: HostRuntime) -> Result<(), Fail> {
+    let cases: [(&[u8], &[u8]); 8] = [
+        (
+            b"update stock set n=n-10 where item='BOLT'",
+            b"UPDATE STOCK SET N = N - 10 WHERE ITEM = 'BOLT'",
+        ),
+        (
+            b"create table t(a varchar2(010)primary key not null,b number)",
+            b"CREATE TABLE T (A VARCHAR2(10) NOT NULL PRIMARY KEY, B NUMBER)",
+        ),
+        (
+            b"create public database link l connect to a identified by b using 'c.d'",
+            b"CREATE DATABASE LINK L USING 'C.D'",
+        ),
+        (
+            b"insert into t@l(a,b)values('',-0- -5+'it''s')",
+            b"INSERT INTO T@L (A, B) VALUES (NULL, 0 - -5 + 'it''s')",
+        ),
+        (
+            b"delete t where a!=null and b is not null",
+            b"DELETE FROM T WHERE A <> NULL AND B IS NOT NULL",
+        ),
+        (b"select sum ( n ) from t", b"SELECT SUM(N) FROM T"),
+        (
+            b"commit work force '1.65.1',007",
+            b"COMMIT FORCE '1.65.1', 7",
+        ),
+        (
+            b"exec dbms_transaction.purge_mixed ( '' )",
+            b"EXECUTE DBMS_TRANSACTION.PURGE_MIXED('')",
+        ),
+    ];
+    for (text, printed) in cases {
+        let statement = parse(rt.alloc(), text)?;
+        assert_eq!(rt; print_stmt(rt.alloc(), &statement)?.as_slice(), printed);
+    }
+    Ok(())
+}
+
 // The front, so many times the piece, and the end.
 fn repeated(
     alloc: Global,
