@@ -11,6 +11,7 @@
 
 mod catalog;
 mod changes;
+mod clauses;
 mod columns;
 mod condition;
 mod conditions;

@@ -1,6 +1,5 @@
-//! Texts that are statements and texts that are none, with what the few of them say that are looked into.
+//! Texts that are statements, texts that are none, and how statements are printed.
 use super::*;
-use dtx_values::Value;
 use std::alloc::{AllocError, Global};
 use std::test::*;
 
@@ -10,59 +9,6 @@ fn is_statement(rt: &HostRuntime, text: &[u8]) -> bool {
 
 fn is_refused(rt: &HostRuntime, text: &[u8]) -> bool {
     matches!(parse(rt.alloc(), text), Err(ParseErr::BadSql))
-}
-
-#[test]
-fn an_update_is_read(rt: HostRuntime) -> Result<(), Fail> {
-    let text = b"update stock set n=n-10 where item='BOLT'".as_slice();
-    match parse(rt.alloc(), text)? {
-        Stmt::Update { table, sets, conds } => {
-            assert_eq!(rt; table.name.as_bytes(), b"STOCK".as_slice());
-            assert!(rt; table.link.is_none());
-            let sum = &sets.as_slice()[0].to;
-            assert!(rt;
-                matches!(&sum.first, Term::Column(name) if name.as_bytes() == b"N".as_slice())
-            );
-            let step = &sum.rest.as_slice()[0];
-            assert!(rt; step.minus);
-            assert!(rt; matches!(&step.term, Term::Literal(Value::Number(10))));
-            match &conds.as_slice()[0] {
-                Cond::Compare {
-                    column,
-                    sign,
-                    literal,
-                } => {
-                    assert_eq!(rt; column.as_bytes(), b"ITEM".as_slice());
-                    assert_eq!(rt; *sign, Sign::Eq);
-                    assert!(rt;
-                        matches!(literal, Value::Text(text) if text.as_bytes() == b"BOLT".as_slice())
-                    );
-                }
-                Cond::IsNull { .. } => assert!(rt; false),
-            }
-        }
-        _ => assert!(rt; false),
-    }
-    Ok(())
-}
-
-#[test]
-fn literals_mean_what_they_say(rt: HostRuntime) -> Result<(), Fail> {
-    let text = b"INSERT INTO T VALUES (- 5, '', 'it''s', NULL, -9223372036854775808)".as_slice();
-    match parse(rt.alloc(), text)? {
-        Stmt::Insert { values, .. } => {
-            let values = values.as_slice();
-            assert!(rt; matches!(&values[0].first, Term::Literal(Value::Number(-5))));
-            assert!(rt; matches!(&values[1].first, Term::Literal(Value::Null)));
-            assert!(rt;
-                matches!(&values[2].first, Term::Literal(Value::Text(text)) if text.as_bytes() == b"it's".as_slice())
-            );
-            assert!(rt; matches!(&values[3].first, Term::Literal(Value::Null)));
-            assert!(rt; matches!(&values[4].first, Term::Literal(Value::Number(i64::MIN))));
-        }
-        _ => assert!(rt; false),
-    }
-    Ok(())
 }
 
 #[test]
@@ -144,7 +90,7 @@ fn other_texts_are_refused(rt: HostRuntime) {
 
 #[test]
 fn statements_are_printed_in_one_way(rt: HostRuntime) -> Result<(), Fail> {
-    let cases: [(&[u8], &[u8]); 8] = [
+    let cases: [(&[u8], &[u8]); 9] = [
         (
             b"update stock set n=n-10 where item='BOLT'",
             b"UPDATE STOCK SET N = N - 10 WHERE ITEM = 'BOLT'",
@@ -164,6 +110,10 @@ fn statements_are_printed_in_one_way(rt: HostRuntime) -> Result<(), Fail> {
         (
             b"delete t where a!=null and b is not null",
             b"DELETE FROM T WHERE A <> NULL AND B IS NOT NULL",
+        ),
+        (
+            b"insert into t values(- 5,NULL,'',-9223372036854775808,00)",
+            b"INSERT INTO T VALUES (-5, NULL, NULL, -9223372036854775808, 0)",
         ),
         (b"select sum ( n ) from t", b"SELECT SUM(N) FROM T"),
         (
