@@ -1,15 +1,44 @@
-//! The statements of the SQL subset, as plain data.
+//! The statements of the SQL subset: as data, as texts that are read, and as texts that are printed.
 //!
-//! Every form that a script may hold stands here. How a text is read as a statement comes with the grammar of the whole
-//! subset; the few forms that a run understands today are read by the crate one_node_sql.
+//! `Stmt` and its parts are plain data. Which texts spell a statement is said by `IsStatement` in `specs/Statement.antt`:
+//! the text is cut into tokens, and these are spelled as a grammar says, a form of statement a definition, in the other
+//! files of `specs/`. The grammar is made of the combinators of token_grammar, and so are its proofs of being exact: no
+//! text spells two statements (`one_reading`), and `parse` finds the one that it spells, or says that there is none.
+//!
+//! `print_stmt` writes a statement in one way, that of `specs/Printing.antt`, and what it writes is read as the same
+//! statement again.
 #![tactic(auto)]
 
+mod catalog;
+mod changes;
+mod clauses;
+mod columns;
 mod condition;
+mod conditions;
+mod laws;
+mod lists;
+mod literals;
+mod parse_err;
+mod parsing;
+mod parts;
+mod pieces;
+mod printing;
+mod queries;
 mod query;
+mod rule;
 mod statement;
 mod sum;
+mod sums;
+mod transactions;
 
 pub use condition::{Cond, Conds, Sign};
+pub use laws::{one_reading, printed_statements_are_read, spelled_statements_are_found};
+pub use parse_err::ParseErr;
+pub use parsing::parse;
+pub use printing::print_stmt;
 pub use query::Picked;
 pub use statement::{Set, Sets, Stmt, TableRef};
 pub use sum::{Step, Steps, Sum, Sums, Term};
+
+#[cfg(test)]
+mod tests;

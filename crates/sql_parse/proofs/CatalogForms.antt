@@ -1,0 +1,222 @@
+-- What is printed of a CREATE is tokens that spell it again.
+use Rattle.std.proofs.Common.{◌≡◌, ℕ, Bool, true, false, List, [], ◌∷◌, ◌++◌, map, Option, Some, None, refl, sym, ap, subst, ◌∙◌, ◌⊎◌, inl, inr}
+use Rattle.std.specs.Prelude.{codes, decimal, nat_le}
+use Rattle.std.specs.Char.{to_ascii_uppercase}
+use Rattle.dtx_values.specs.Name.{is_name, name_of}
+use Rattle.dtx_values.specs.declared.table.Column.{Column}
+use Rattle.dtx_values.proofs.NameLemmas.{name_of_upper}
+use Rattle.token_grammar.proofs.Options.{test_some, some_is}
+use Rattle.token_grammar.specs.declared.mark.Mark.TheVariants as marks
+use Rattle.token_grammar.specs.declared.token.Token.{Token}
+use Rattle.token_grammar.specs.declared.token.Token.TheVariants as token
+use Rattle.token_grammar.specs.Steps.{begins}
+use Rattle.token_grammar.specs.Grammar.{Grammar, is_word, is_mark, word, mark, meant, identifier, name, number_to, ◌·◌, ◌▹◌, maybe, optional, many, commas, tested}
+use Rattle.sql_parse.specs.declared.rule.Rule.{Rule}
+use Rattle.sql_parse.specs.declared.rule.Rule.TheVariants as rules
+use Rattle.sql_parse.specs.declared.statement.Stmt.{Stmt}
+use Rattle.sql_parse.specs.declared.statement.Stmt.TheVariants as statements
+use Rattle.sql_parse.specs.Parts.{or_else, built, in_brackets, itself}
+use Rattle.sql_parse.specs.Catalog.{width_limit, width, column_type, rule, is_rule, are_once, column_of, column, are_of_a_table, table_columns, create_table, target_in, account, create_link, create_synonym, create}
+use Rattle.sql_parse.specs.Printing.{bracketed_text, separated_text, quoted_text, type_text, if_text, column_text, create_table_text, create_link_text, create_synonym_text, printed}
+use Rattle.sql_parse.proofs.WriteLaws.{goes_on, no_byte, Writes, nothing_written, blank_written, then_written, joined_written, ended, spaced, at_written, word_written, quoted_written, IsMade, AreMade, front_made, rest_made, Prints, Quiet, prints_pair, prints_after, prints_before, prints_built, prints_tested, prints_or_else, prints_optional, prints_meant, prints_blank, prints_word, prints_word_alone, prints_brackets, prints_commas, prints_after_or, prints_after_built, keyword_written, inner_written}
+use Rattle.sql_parse.proofs.PrintLaws.{prints_identifier, prints_name, prints_number}
+
+-- ---- Columns.
+
+abbrev number_part : Grammar (Option ℕ)
+number_part = built (λ x. None) (word (codes "NUMBER"))
+
+abbrev text_part : Grammar (Option ℕ)
+text_part = built (λ n. Some n) (word (codes "VARCHAR2") ▹ in_brackets width)
+
+prints_type : Prints column_type type_text
+unfolding column_type
+prints_type = prints_or_else (begins (is_word (codes "NUMBER"))) number_part text_part type_text
+    (prints_built (λ x. None) (word (codes "NUMBER")) (λ x. codes " " ++ codes "NUMBER") type_text (λ a. refl) (prints_blank (word (codes "NUMBER")) (λ x. codes "NUMBER") (prints_word_alone (codes "NUMBER") (refl, refl, refl))))
+    (prints_built (λ n. Some n) (word (codes "VARCHAR2") ▹ in_brackets width) (λ n. codes " " ++ (codes "VARCHAR2" ++ (codes "(" ++ (decimal n ++ codes ")")))) type_text (λ a. refl)
+    (prints_blank (word (codes "VARCHAR2") ▹ in_brackets width) (λ n. codes "VARCHAR2" ++ (codes "(" ++ (decimal n ++ codes ")")))
+    (prints_word (codes "VARCHAR2") (in_brackets width) (λ n. codes "(" ++ (decimal n ++ codes ")")) (refl, refl, refl)
+    (prints_brackets width decimal (prints_tested (nat_le 1) (number_to width_limit) decimal (prints_number width_limit))) (λ n rest h. refl))))
+
+-- the rules of a column, in the order in which they are printed
+abbrev rules_of : Bool → Bool → List Rule
+rules_of true true = rules.NotNull ∷ rules.PrimaryKey ∷ []
+rules_of true false = rules.NotNull ∷ []
+rules_of false true = rules.PrimaryKey ∷ []
+rules_of false false = []
+
+abbrev rules_text : Bool → Bool → List ℕ
+rules_text not_null key = if_text not_null (codes " NOT NULL") ++ if_text key (codes " PRIMARY KEY")
+
+abbrev not_null_tokens : List Token
+not_null_tokens = token.Word (codes "NOT") ∷ token.Word (codes "NULL") ∷ []
+
+abbrev key_tokens : List Token
+key_tokens = token.Word (codes "PRIMARY") ∷ token.Word (codes "KEY") ∷ []
+
+not_null_spelled : rule.Spells rules.NotNull not_null_tokens
+unfolding rule
+not_null_spelled = inl (tt, (token.Word (codes "NOT") ∷ [], token.Word (codes "NULL") ∷ [], refl, refl, refl), refl)
+
+key_spelled : rule.Spells rules.PrimaryKey key_tokens
+unfolding rule
+key_spelled = inr (tt, (token.Word (codes "PRIMARY") ∷ [], token.Word (codes "KEY") ∷ [], refl, refl, refl), refl)
+
+not_null_written : Writes goes_on not_null_tokens (codes " NOT NULL")
+not_null_written = joined_written goes_on (token.Word (codes "NOT") ∷ []) (token.Word (codes "NULL") ∷ []) (codes " NOT ") (codes "NULL") (inner_written (codes "NOT") (refl, refl, refl)) (word_written (codes "NULL") (refl, refl, refl))
+
+key_written : Writes goes_on key_tokens (codes " PRIMARY KEY")
+key_written = joined_written goes_on (token.Word (codes "PRIMARY") ∷ []) (token.Word (codes "KEY") ∷ []) (codes " PRIMARY ") (codes "KEY") (inner_written (codes "PRIMARY") (refl, refl, refl)) (word_written (codes "KEY") (refl, refl, refl))
+
+abbrev rules_part : Grammar (List Rule)
+rules_part = tested are_once (many is_rule rule)
+
+prints_rules : (not_null key : Bool) → (us : List Token) × rules_part.Spells (rules_of not_null key) us × Writes goes_on us (rules_text not_null key)
+prints_rules true true = (
+  not_null_tokens ++ key_tokens,
+  ((not_null_tokens, key_tokens, not_null_spelled, (key_tokens, [], key_spelled, refl, refl), refl), refl),
+  then_written goes_on goes_on not_null_tokens key_tokens (codes " NOT NULL") (codes " PRIMARY KEY") not_null_written key_written (λ rest h. refl),
+)
+prints_rules true false = (not_null_tokens, ((not_null_tokens, [], not_null_spelled, refl, refl), refl), not_null_written)
+prints_rules false true = (key_tokens, ((key_tokens, [], key_spelled, refl, refl), refl), key_written)
+prints_rules false false = ([], (refl, refl), nothing_written goes_on)
+
+rules_quiet : (not_null key : Bool) (rest : List ℕ) → begins goes_on rest ≡ false → begins goes_on (rules_text not_null key ++ rest) ≡ false
+rules_quiet true key rest h = refl
+rules_quiet false true rest h = refl
+rules_quiet false false rest h = h
+
+type_quiet : (width : Option ℕ) (x rest : List ℕ) → begins goes_on ((type_text width ++ x) ++ rest) ≡ false
+type_quiet None x rest = refl
+type_quiet (Some n) x rest = refl
+
+abbrev flags_text : Option ℕ × (Bool × Bool) → List ℕ
+flags_text x = type_text x.0 ++ rules_text x.1.0 x.1.1
+
+same_column : (called : List ℕ) (most : Option ℕ) (not_null key : Bool) → column_of (called, (most, rules_of not_null key)) ≡ record { name = called; text_max = most; not_null = not_null; key = key }
+same_column called most true true = refl
+same_column called most true false = refl
+same_column called most false true = refl
+same_column called most false false = refl
+
+prints_column : Prints column column_text
+unfolding column
+prints_column v ts m s =
+    let j = s.1 in
+    let x = prints_identifier s.0.0 j.0 (front_made ts j.0 j.1 j.4 m) j.2 in
+    let k = j.3 in
+    let y = prints_type s.0.1.0 k.0 (front_made j.1 k.0 k.1 k.4 (rest_made ts j.0 j.1 j.4 m)) k.2 in
+    let c : column_of s.0 ≡ v = some_is (column_of s.0) v s.2 in
+    let z = prints_rules v.not_null v.key in
+    let named : s.0.0 ≡ v.name = ap (λ (d : Column). d.name) c in
+    let typed : s.0.1.0 ≡ v.text_max = ap (λ (d : Column). d.text_max) c in (
+      x.0 ++ (y.0 ++ z.0),
+      ((v.name, (v.text_max, rules_of v.not_null v.key)), (x.0, y.0 ++ z.0, subst (λ n. identifier.Spells n x.0) named x.1, (y.0, z.0, subst (λ w. column_type.Spells w y.0) typed y.1, z.1, refl), refl), ap (λ (d : Column). Some d) (same_column v.name v.text_max v.not_null v.key)),
+      then_written goes_on goes_on x.0 (y.0 ++ z.0) v.name (type_text v.text_max ++ rules_text v.not_null v.key) (subst (λ n. Writes goes_on x.0 n) named x.2)
+          (then_written goes_on goes_on y.0 z.0 (type_text v.text_max) (rules_text v.not_null v.key) (subst (λ w. Writes goes_on y.0 (type_text w)) typed y.2) z.2 (λ rest h. rules_quiet v.not_null v.key rest h))
+          (λ rest h. type_quiet v.text_max (rules_text v.not_null v.key) rest),
+    )
+
+-- ---- CREATE TABLE
+
+-- CREATE before a part
+abbrev created : {V : Type 0} → Grammar V → Grammar V
+created g = word (codes "CREATE") ▹ g
+
+prints_created : {V : Type 0} (g : Grammar V) (f : V → List ℕ) → Prints g f → Prints (created g) (λ v. codes "CREATE " ++ f v)
+prints_created g f pg = prints_after (word (codes "CREATE")) g (token.Word (codes "CREATE") ∷ []) (codes "CREATE ") f refl (keyword_written (codes "CREATE") (refl, refl, refl)) pg
+
+prints_table_columns : Prints table_columns (bracketed_text column_text)
+prints_table_columns = prints_tested are_of_a_table (in_brackets (commas column)) (bracketed_text column_text) (prints_brackets (commas column) (separated_text (codes ", ") column_text) (prints_commas column column_text prints_column))
+
+prints_create_table : Prints (created create_table) printed
+unfolding create_table printed
+prints_create_table = prints_after_built (word (codes "CREATE")) _ (word (codes "TABLE") ▹ (identifier · table_columns)) (λ x. codes "CREATE " ++ (codes "TABLE " ++ (x.0 ++ (codes " " ++ bracketed_text column_text x.1)))) printed (λ a. refl)
+    (prints_created (word (codes "TABLE") ▹ (identifier · table_columns)) (λ x. codes "TABLE " ++ (x.0 ++ (codes " " ++ bracketed_text column_text x.1)))
+    (prints_after (word (codes "TABLE")) (identifier · table_columns) (token.Word (codes "TABLE") ∷ []) (codes "TABLE ") (λ x. x.0 ++ (codes " " ++ bracketed_text column_text x.1)) refl (keyword_written (codes "TABLE") (refl, refl, refl))
+    (prints_pair identifier table_columns itself (λ x. codes " " ++ bracketed_text column_text x) prints_identifier (prints_blank table_columns (bracketed_text column_text) prints_table_columns) (λ x rest h. refl))))
+
+-- ---- CREATE SYNONYM
+
+prints_at_name : Prints (mark marks.At ▹ name) (λ x. codes "@" ++ x)
+prints_at_name = prints_after (mark marks.At) name (token.Mark marks.At ∷ []) (codes "@") itself refl at_written prints_name
+
+abbrev synonym_part : Grammar (List ℕ × (List ℕ × List ℕ))
+synonym_part = word (codes "SYNONYM") ▹ (identifier · (word (codes "FOR") ▹ (identifier · (mark marks.At ▹ name))))
+
+prints_create_synonym : Prints (created create_synonym) printed
+unfolding create_synonym printed
+prints_create_synonym = prints_after_built (word (codes "CREATE")) _ synonym_part (λ x. codes "CREATE " ++ (codes "SYNONYM " ++ (x.0 ++ (codes " FOR " ++ (x.1.0 ++ (codes "@" ++ x.1.1)))))) printed (λ a. refl)
+    (prints_created synonym_part (λ x. codes "SYNONYM " ++ (x.0 ++ (codes " FOR " ++ (x.1.0 ++ (codes "@" ++ x.1.1)))))
+    (prints_after (word (codes "SYNONYM")) (identifier · (word (codes "FOR") ▹ (identifier · (mark marks.At ▹ name)))) (token.Word (codes "SYNONYM") ∷ []) (codes "SYNONYM ") (λ x. x.0 ++ (codes " FOR " ++ (x.1.0 ++ (codes "@" ++ x.1.1)))) refl (keyword_written (codes "SYNONYM") (refl, refl, refl))
+    (prints_pair identifier (word (codes "FOR") ▹ (identifier · (mark marks.At ▹ name))) itself (λ x. codes " FOR " ++ (x.0 ++ (codes "@" ++ x.1))) prints_identifier
+    (prints_after (word (codes "FOR")) (identifier · (mark marks.At ▹ name)) (token.Word (codes "FOR") ∷ []) (codes " FOR ") (λ x. x.0 ++ (codes "@" ++ x.1)) refl (inner_written (codes "FOR") (refl, refl, refl))
+    (prints_pair identifier (mark marks.At ▹ name) itself (λ x. codes "@" ++ x) prints_identifier prints_at_name (λ x rest h. refl))) (λ x rest h. refl))))
+
+-- ---- CREATE DATABASE LINK
+
+target_again : (t : Token) (v : List ℕ) → IsMade t → target_in t ≡ Some v → (u : Token) × (target_in u ≡ Some v) × Writes goes_on (u ∷ []) (quoted_text v)
+target_again (token.Word w) v m e = absurd cc
+target_again (token.Number n) v m e = absurd cc
+target_again (token.Quoted q) v m e =
+    let h = test_some (is_name q) (map to_ascii_uppercase q) v e in
+    (token.Quoted v, subst (λ n. name_of n ≡ Some n) h.1 (name_of_upper q h.0), quoted_written v)
+target_again (token.Mark k) v m e = absurd cc
+
+abbrev using_part : Grammar (List ℕ)
+using_part = word (codes "USING") ▹ meant target_in
+
+prints_using : Prints using_part (λ x. codes " USING " ++ quoted_text x)
+prints_using = prints_after (word (codes "USING")) (meant target_in) (token.Word (codes "USING") ∷ []) (codes " USING ") quoted_text refl (inner_written (codes "USING") (refl, refl, refl)) (prints_meant target_in quoted_text target_again)
+
+link_written : (us vs : List Token) (x : List ℕ) (y : List ℕ) → Writes goes_on us x → Writes goes_on vs (codes " USING " ++ y)
+    → Writes goes_on (token.Word (codes "CREATE") ∷ token.Word (codes "DATABASE") ∷ token.Word (codes "LINK") ∷ (us ++ vs)) (codes "CREATE DATABASE LINK " ++ (x ++ (codes " USING " ++ y)))
+link_written us vs x y a b =
+    joined_written goes_on (token.Word (codes "CREATE") ∷ []) (token.Word (codes "DATABASE") ∷ token.Word (codes "LINK") ∷ (us ++ vs)) (codes "CREATE ") (codes "DATABASE LINK " ++ (x ++ (codes " USING " ++ y))) (keyword_written (codes "CREATE") (refl, refl, refl))
+    (joined_written goes_on (token.Word (codes "DATABASE") ∷ []) (token.Word (codes "LINK") ∷ (us ++ vs)) (codes "DATABASE ") (codes "LINK " ++ (x ++ (codes " USING " ++ y))) (keyword_written (codes "DATABASE") (refl, refl, refl))
+    (joined_written goes_on (token.Word (codes "LINK") ∷ []) (us ++ vs) (codes "LINK ") (x ++ (codes " USING " ++ y)) (keyword_written (codes "LINK") (refl, refl, refl))
+    (then_written goes_on goes_on us vs x (codes " USING " ++ y) a b (λ rest h. refl))))
+
+prints_create_link : Prints (created create_link) printed
+unfolding create_link printed
+prints_create_link v ts m s =
+    let a = s.3.0 in
+    let j = s.3.1 in
+    let k = j.3 in
+    let l = k.3 in
+    let n = l.3 in
+    let o = n.3 in
+    let made = rest_made k.1 l.0 l.1 l.4 (rest_made j.1 k.0 k.1 k.4 (rest_made s.1 j.0 j.1 j.4 (rest_made ts s.0 s.1 s.4 m))) in
+    let x = prints_name a.0 n.0 (front_made l.1 n.0 n.1 n.4 made) n.2 in
+    let y = prints_using a.1.1 o.1 (rest_made n.1 o.0 o.1 o.4 (rest_made l.1 n.0 n.1 n.4 made)) o.3 in (
+      token.Word (codes "CREATE") ∷ token.Word (codes "DATABASE") ∷ token.Word (codes "LINK") ∷ (x.0 ++ y.0),
+      (
+        token.Word (codes "CREATE") ∷ [],
+        token.Word (codes "DATABASE") ∷ token.Word (codes "LINK") ∷ (x.0 ++ y.0),
+        refl,
+        (
+          (a.0, (None, a.1.1)),
+          (
+            [],
+            token.Word (codes "DATABASE") ∷ token.Word (codes "LINK") ∷ (x.0 ++ y.0),
+            inl refl,
+            (
+              token.Word (codes "DATABASE") ∷ [],
+              token.Word (codes "LINK") ∷ (x.0 ++ y.0),
+              refl,
+              (token.Word (codes "LINK") ∷ [], x.0 ++ y.0, refl, (x.0, y.0, x.1, ([], y.0, refl, y.1, refl), refl), refl),
+              refl,
+            ),
+            refl,
+          ),
+          s.3.2,
+        ),
+        refl,
+      ),
+      subst (λ z. Writes goes_on (token.Word (codes "CREATE") ∷ token.Word (codes "DATABASE") ∷ token.Word (codes "LINK") ∷ (x.0 ++ y.0)) (printed z)) (some_is (statements.CreateLink (record { name = a.0; target = a.1.1 })) v s.3.2)
+          (link_written x.0 y.0 a.0 (quoted_text a.1.1) x.2 y.2),
+    )
+
+pub prints_create : Prints create printed
+unfolding create
+prints_create = prints_after_or (word (codes "CREATE")) (begins (is_word (codes "TABLE"))) create_table (or_else (begins (is_word (codes "SYNONYM"))) create_synonym create_link) printed prints_create_table (prints_after_or (word (codes "CREATE")) (begins (is_word (codes "SYNONYM"))) create_synonym create_link printed prints_create_synonym prints_create_link)

@@ -1,0 +1,8 @@
+pub mod Parts
+pub mod Literals
+pub mod Conditions
+pub mod Changes
+pub mod Catalog
+pub mod Transactions
+pub mod Statement
+pub mod Printing

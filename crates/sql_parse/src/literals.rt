@@ -1,0 +1,69 @@
+//! Literals, and tables behind links.
+ghost use Rattle.std.specs.Prelude.{◌≡◌};
+ghost use Rattle.token_grammar.specs.Gives.{Gives};
+ghost use Rattle.token_grammar.specs.Grammar.{meant};
+ghost use Rattle.sql_parse.specs.Literals as spec;
+
+use crate::statement::TableRef;
+use dtx_values::{Name, Str, TextErr, Value};
+use std::alloc::Global;
+use token_grammar::{
+    Mark, ReadErr, Token, begins_mark, take_identifier, take_mark, take_name, take_number,
+};
+
+fn text_value(alloc: Global, text: &[u8]) -> Result<Value, ReadErr>
+    ensures { Gives (λ value. value) result (spec.text_value text.now) }
+{
+    match Str::from_bytes(alloc, text) {
+        Ok(text) => Ok(Value::Text(text)),
+        Err(TextErr::Empty) => Ok(Value::Null),
+        Err(TextErr::NoMemory) => Err(ReadErr::NoMemory),
+        Err(TextErr::TooLong | TextErr::NotUtf8) => Err(ReadErr::Bad),
+    }
+}
+
+fn take_constant(alloc: Global, tokens: &[Token]) -> Result<(Value, &[Token]), ReadErr>
+    ensures { Gives (λ x. (x.0, x.1.now)) result ((meant spec.constant_in).read tokens.now) }
+{
+    match tokens {
+        [Token::Number(number), rest @ ..] if *number <= i64::MAX as u64 => {
+            Ok((Value::Number(*number as i64), rest))
+        }
+        [Token::Quoted(text), rest @ ..] => Ok((text_value(alloc, text.as_slice())?, rest)),
+        [Token::Word(word), rest @ ..] if word.as_slice() == b"NULL".as_slice() => {
+            Ok((Value::Null, rest))
+        }
+        _ => Err(ReadErr::Bad),
+    }
+}
+
+/// A number with its sign, a text in quotes, or NULL.
+#[tactic(auto, unfolding(crate::specs::Literals::literal))]
+pub(crate) fn take_literal(alloc: Global, tokens: &[Token]) -> Result<(Value, &[Token]), ReadErr>
+    ensures { Gives (λ x. (x.0, x.1.now)) result (spec.literal.read tokens.now) }
+{
+    if begins_mark(tokens, Mark::Minus) {
+        let rest = take_mark(tokens, Mark::Minus)?;
+        let (size, rest) = take_number(rest, i64::MIN.unsigned_abs())?;
+        return Ok((Value::Number(-(size as i128) as i64), rest));
+    }
+    take_constant(alloc, tokens)
+}
+
+/// A table by its name, and its link where one is named.
+#[tactic(auto, unfolding(crate::specs::Literals::table_ref))]
+pub(crate) fn take_table_ref(
+    alloc: Global,
+    tokens: &[Token],
+) -> Result<(TableRef, &[Token]), ReadErr>
+    ensures { Gives (λ x. (x.0, x.1.now)) result (spec.table_ref.read tokens.now) }
+{
+    let (name, rest) = take_identifier(alloc, tokens)?;
+    if !begins_mark(rest, Mark::At) {
+        return Ok((TableRef { name, link: None }, rest));
+    }
+    let rest = take_mark(rest, Mark::At)?;
+    let (link, rest) = take_name(alloc, rest)?;
+    let link = Some(link);
+    Ok((TableRef { name, link }, rest))
+}

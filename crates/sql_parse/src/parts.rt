@@ -1,0 +1,72 @@
+//! What several forms of statements share: texts in quotes, brackets, and names that stand once.
+ghost use Rattle.std.specs.Prelude.{◌≡◌, ℕ, Bool, List};
+ghost use Rattle.std.specs.List.{list_any};
+ghost use Rattle.std.specs.Str.{bytes_eq, is_utf8};
+ghost use Rattle.token_grammar.specs.Gives.{Gives};
+ghost use Rattle.sql_parse.specs.Parts as spec;
+
+use dtx_values::{Bytes, Listing, Name};
+use std::alloc::Global;
+use token_grammar::{ReadErr, Token, take_quoted};
+
+fn is_utf8(bytes: &[u8]) -> bool
+    ensures { result ≡ is_utf8 bytes.now }
+{
+    std::str::from_utf8(bytes).is_ok()
+}
+
+fn is_text_to(bytes: &[u8], most: usize) -> bool
+    ensures { result ≡ spec.is_text_to most bytes.now }
+{
+    bytes.len() <= most && is_utf8(bytes)
+}
+
+/// A text in quotes, of at most `most` bytes, in UTF-8.
+pub(crate) fn take_text(
+    alloc: Global,
+    tokens: &[Token],
+    most: usize,
+) -> Result<(Bytes, &[Token]), ReadErr>
+    ensures { Gives (λ x. (x.0, x.1.now)) result ((spec.text_to most).read tokens.now) }
+{
+    let (text, rest) = take_quoted(tokens)?;
+    if !is_text_to(text, most) {
+        return Err(ReadErr::Bad);
+    }
+    Ok((Listing::of(text.to_vec(alloc)?), rest))
+}
+
+/// What is called by a name.
+pub(crate) trait Called {
+    ghost called: { Self → List ℕ };
+
+    fn called(&self) -> &Name
+        ensures { result.now ≡ called self.now };
+}
+
+impl Called for Name {
+    ghost called = { spec.itself };
+
+    fn called(&self) -> &Name {
+        self
+    }
+}
+
+fn is_among<C: Called>(item: &C, others: &[C]) -> bool
+    ensures { result ≡ list_any (λ other. bytes_eq (C.called other) (C.called item.now)) others.now }
+{
+    others.iter().any(|other| other.called().is(item.called()))
+}
+
+/// Whether all items are called by different names.
+pub(crate) fn are_distinct<C: Called>(items: &[C]) -> bool
+    ensures { result ≡ spec.are_distinct C.called items.now }
+{
+    for index in 0..items.len() {
+        let (_, others) = items.split_at(index + 1);
+        if is_among(&items[index], others) {
+            return false;
+        }
+    }
+    true
+}

@@ -1,0 +1,165 @@
+//! Texts that are statements, texts that are none, and how statements are printed.
+use super::*;
+use std::alloc::{AllocError, Global};
+use std::test::*;
+
+fn is_statement(rt: &HostRuntime, text: &[u8]) -> bool {
+    parse(rt.alloc(), text).is_ok()
+}
+
+fn is_refused(rt: &HostRuntime, text: &[u8]) -> bool {
+    matches!(parse(rt.alloc(), text), Err(ParseErr::BadSql))
+}
+
+#[test]
+fn statements_are_read(rt: HostRuntime) {
+    for text in [
+        b"create table stock (item varchar2(2000) primary key not null, n number)".as_slice(),
+        b"CREATE DATABASE LINK hq.acme.com USING 'hq'".as_slice(),
+        b"CREATE PUBLIC DATABASE LINK L CONNECT TO scott IDENTIFIED BY tiger USING 'a.b'".as_slice(),
+        b"CREATE DATABASE LINK CONNECT USING 'X'".as_slice(),
+        b"CREATE SYNONYM S FOR T@hq.acme.com".as_slice(),
+        b"INSERT INTO T (A, B) VALUES (1 - -2 + NULL, 'x')".as_slice(),
+        b"INSERT INTO T @ L VALUES (9223372036854775807)".as_slice(),
+        b"UPDATE T@L SET A = B + 1 - C, B = '' WHERE K <> 1AND V IS NOT NULL".as_slice(),
+        b"DELETE FROM T WHERE A != 'x' AND B >= -1 AND C <= 2 AND D < 3 AND E > 4".as_slice(),
+        b"delete t".as_slice(),
+        b"SELECT * FROM T FOR UPDATE".as_slice(),
+        b"SELECT COUNT ( * ) FROM T@L WHERE A IS NULL".as_slice(),
+        b"SELECT SUM(N) FROM T".as_slice(),
+        b"SELECT COUNT, SUM, WORK FROM COMMIT FOR UPDATE".as_slice(),
+        b" COMMIT\r\n\tWORK ".as_slice(),
+        b"COMMIT COMMENT ''".as_slice(),
+        b"COMMIT WORK FORCE '1.65.1', 281474976710655".as_slice(),
+        b"COMMIT FORCE ''".as_slice(),
+        b"ROLLBACK".as_slice(),
+        b"ROLLBACK WORK FORCE 'HQ.00000001.1.65.1'".as_slice(),
+        b"ALTER SESSION ADVISE NOTHING".as_slice(),
+        b"alter session advise commit".as_slice(),
+        b"ALTER SYSTEM DISABLE DISTRIBUTED RECOVERY".as_slice(),
+        b"exec dbms_transaction.purge_mixed('1.65.1')".as_slice(),
+        b"EXECUTE DBMS_TRANSACTION.PURGE_LOST_DB_ENTRY ( '' )".as_slice(),
+    ] {
+        assert!(rt; is_statement(&rt, text));
+    }
+}
+
+#[test]
+fn other_texts_are_refused(rt: HostRuntime) {
+    for text in [
+        b"".as_slice(),
+        b"SELECT COUNT(*) FROM T FOR UPDATE".as_slice(),
+        b"SELECT SUM(N) FROM T FOR UPDATE".as_slice(),
+        b"SELECT A, COUNT(*) FROM T".as_slice(),
+        b"SELECT A FROM SELECT".as_slice(),
+        b"SELECT A FROM T.U".as_slice(),
+        b"SELECT * FROM T WHERE A = B".as_slice(),
+        b"SELECT * FROM T WHERE A < = 1".as_slice(),
+        b"SELECT * FROM T;".as_slice(),
+        b"INSERT INTO T VALUES (1, A)".as_slice(),
+        b"INSERT INTO T VALUES (1 + A)".as_slice(),
+        b"INSERT INTO T (A, a) VALUES (1, 2)".as_slice(),
+        b"INSERT INTO T VALUES (9223372036854775808)".as_slice(),
+        b"INSERT INTO T VALUES (-9223372036854775809)".as_slice(),
+        b"INSERT INTO T VALUES ('\xFF')".as_slice(),
+        b"INSERT INTO T VALUES ()".as_slice(),
+        b"UPDATE T SET A = 1, a = 2".as_slice(),
+        b"UPDATE T SET A = 1 WHERE".as_slice(),
+        b"CREATE TABLE T (A NUMBER)".as_slice(),
+        b"CREATE TABLE T (A NUMBER PRIMARY KEY, B NUMBER PRIMARY KEY)".as_slice(),
+        b"CREATE TABLE T (A NUMBER PRIMARY KEY PRIMARY KEY)".as_slice(),
+        b"CREATE TABLE T (A NUMBER NOT NULL PRIMARY KEY NOT NULL)".as_slice(),
+        b"CREATE TABLE T (A NUMBER PRIMARY KEY, a NUMBER)".as_slice(),
+        b"CREATE TABLE T (A VARCHAR2(2001) PRIMARY KEY)".as_slice(),
+        b"CREATE TABLE T (A VARCHAR2(0) PRIMARY KEY)".as_slice(),
+        b"CREATE DATABASE LINK L USING ''".as_slice(),
+        b"CREATE SYNONYM S FOR T".as_slice(),
+        b"COMMIT COMMENT".as_slice(),
+        b"COMMIT COMMENT '\xC3'".as_slice(),
+        b"COMMIT FORCE '1', 281474976710656".as_slice(),
+        b"COMMIT WORK WORK".as_slice(),
+        b"ROLLBACK FORCE".as_slice(),
+        b"ALTER SESSION ADVISE ABORT".as_slice(),
+        b"ALTER SYSTEM ENABLE RECOVERY".as_slice(),
+        b"EXEC DBMS_TRANSACTION .PURGE_MIXED('1')".as_slice(),
+        b"EXEC DBMS_TRANSACTION.PURGE_MIXED '1'".as_slice(),
+    ] {
+        assert!(rt; is_refused(&rt, text));
+    }
+}
+
+#[test]
+fn statements_are_printed_in_one_way(rt: HostRuntime) -> Result<(), Fail> {
+    let cases: [(&[u8], &[u8]); 9] = [
+        (
+            b"update stock set n=n-10 where item='BOLT'",
+            b"UPDATE STOCK SET N = N - 10 WHERE ITEM = 'BOLT'",
+        ),
+        (
+            b"create table t(a varchar2(010)primary key not null,b number)",
+            b"CREATE TABLE T (A VARCHAR2(10) NOT NULL PRIMARY KEY, B NUMBER)",
+        ),
+        (
+            b"create public database link l connect to a identified by b using 'c.d'",
+            b"CREATE DATABASE LINK L USING 'C.D'",
+        ),
+        (
+            b"insert into t@l(a,b)values('',-0- -5+'it''s')",
+            b"INSERT INTO T@L (A, B) VALUES (NULL, 0 - -5 + 'it''s')",
+        ),
+        (
+            b"delete t where a!=null and b is not null",
+            b"DELETE FROM T WHERE A <> NULL AND B IS NOT NULL",
+        ),
+        (
+            b"insert into t values(- 5,NULL,'',-9223372036854775808,00)",
+            b"INSERT INTO T VALUES (-5, NULL, NULL, -9223372036854775808, 0)",
+        ),
+        (b"select sum ( n ) from t", b"SELECT SUM(N) FROM T"),
+        (
+            b"commit work force '1.65.1',007",
+            b"COMMIT FORCE '1.65.1', 7",
+        ),
+        (
+            b"exec dbms_transaction.purge_mixed ( '' )",
+            b"EXECUTE DBMS_TRANSACTION.PURGE_MIXED('')",
+        ),
+    ];
+    for (text, printed) in cases {
+        let statement = parse(rt.alloc(), text)?;
+        assert_eq!(rt; print_stmt(rt.alloc(), &statement)?.as_slice(), printed);
+    }
+    Ok(())
+}
+
+// The front, so many times the piece, and the end.
+fn repeated(
+    alloc: Global,
+    front: &[u8],
+    piece: &[u8],
+    count: usize,
+    end: &[u8],
+) -> Result<Vec<u8>, AllocError> {
+    let mut text = front.to_vec(alloc)?;
+    for _ in 0..count {
+        text.extend_from_slice(piece)?;
+    }
+    text.extend_from_slice(end)?;
+    Ok(text)
+}
+
+#[test]
+fn texts_end_at_their_limits(rt: HostRuntime) -> Result<(), Fail> {
+    let alloc = rt.alloc();
+    let cases: [(&[u8], &[u8], usize, &[u8]); 4] = [
+        (b"COMMIT COMMENT '", b"x", 255, b"'"),
+        (b"ROLLBACK FORCE '", b"''", 2000, b"'"),
+        (b"INSERT INTO T VALUES ('", b"x", 2000, b"')"),
+        (b"SELECT A", b", A", 254, b" FROM T"),
+    ];
+    for (front, piece, most, end) in cases {
+        assert!(rt; is_statement(&rt, &repeated(alloc, front, piece, most, end)?));
+        assert!(rt; is_refused(&rt, &repeated(alloc, front, piece, most + 1, end)?));
+    }
+    Ok(())
+}

@@ -1,0 +1,187 @@
+//! COMMIT, ROLLBACK, ALTER and EXECUTE, as they are read.
+ghost use Rattle.std.specs.Prelude.{◌≡◌, codes};
+ghost use Rattle.token_grammar.specs.declared.mark.Mark.TheVariants as marks;
+ghost use Rattle.token_grammar.specs.Gives.{Gives};
+ghost use Rattle.token_grammar.specs.Grammar.{meant, optional, is_word, is_mark, passed, mark, number_to, ◌▹◌};
+ghost use Rattle.sql_parse.specs.Transactions as spec;
+
+use crate::parts::take_text;
+use crate::statement::Stmt;
+use dtx_values::{Advice, Bytes};
+use std::alloc::Global;
+use token_grammar::{
+    Mark, ReadErr, Token, begins_mark, begins_word, maybe_word, take_mark, take_number, take_word,
+};
+
+/// The most bytes of a comment.
+const COMMENT_LIMIT: usize = 255;
+
+/// The most bytes of an id.
+const ID_LIMIT: usize = 2000;
+
+/// The largest SCN.
+const LARGEST_SCN: u64 = (1 << 48) - 1;
+
+fn take_plain_commit(alloc: Global, tokens: &[Token]) -> Result<(Stmt, &[Token]), ReadErr>
+    ensures { Gives (λ x. (x.0, x.1.now)) result (spec.plain_commit.read tokens.now) }
+{
+    if !begins_word(tokens, b"COMMENT") {
+        return Ok((Stmt::Commit { comment: None }, tokens));
+    }
+    let rest = take_word(tokens, b"COMMENT")?;
+    let (comment, rest) = take_text(alloc, rest, COMMENT_LIMIT)?;
+    let comment = Some(comment);
+    Ok((Stmt::Commit { comment }, rest))
+}
+
+fn maybe_scn(tokens: &[Token]) -> Result<(Option<u64>, &[Token]), ReadErr>
+    ensures { Gives (λ x. (x.0, x.1.now)) result ((optional (is_mark marks.Comma) (mark marks.Comma ▹ number_to spec.largest_scn)).read tokens.now) }
+{
+    if !begins_mark(tokens, Mark::Comma) {
+        return Ok((None, tokens));
+    }
+    let rest = take_mark(tokens, Mark::Comma)?;
+    let (scn, rest) = take_number(rest, LARGEST_SCN)?;
+    Ok((Some(scn), rest))
+}
+
+fn take_forced_commit(alloc: Global, tokens: &[Token]) -> Result<(Stmt, &[Token]), ReadErr>
+    ensures { Gives (λ x. (x.0, x.1.now)) result (spec.forced_commit.read tokens.now) }
+{
+    let rest = take_word(tokens, b"FORCE")?;
+    let (id, rest) = take_text(alloc, rest, ID_LIMIT)?;
+    let (scn, rest) = maybe_scn(rest)?;
+    Ok((Stmt::CommitForce { id, scn }, rest))
+}
+
+/// COMMIT, with a comment or without, or COMMIT FORCE.
+#[tactic(auto, unfolding(crate::specs::Transactions::commit))]
+pub(crate) fn take_commit(alloc: Global, tokens: &[Token]) -> Result<(Stmt, &[Token]), ReadErr>
+    ensures { Gives (λ x. (x.0, x.1.now)) result (spec.commit.read tokens.now) }
+{
+    let rest = take_word(tokens, b"COMMIT")?;
+    let rest = maybe_word(rest, b"WORK");
+    if begins_word(rest, b"FORCE") {
+        return take_forced_commit(alloc, rest);
+    }
+    take_plain_commit(alloc, rest)
+}
+
+/// ROLLBACK or ROLLBACK FORCE.
+#[tactic(auto, unfolding(crate::specs::Transactions::rollback))]
+pub(crate) fn take_rollback(alloc: Global, tokens: &[Token]) -> Result<(Stmt, &[Token]), ReadErr>
+    ensures { Gives (λ x. (x.0, x.1.now)) result (spec.rollback.read tokens.now) }
+{
+    let rest = take_word(tokens, b"ROLLBACK")?;
+    let rest = maybe_word(rest, b"WORK");
+    if !begins_word(rest, b"FORCE") {
+        return Ok((Stmt::Rollback, rest));
+    }
+    let rest = take_word(rest, b"FORCE")?;
+    let (id, rest) = take_text(alloc, rest, ID_LIMIT)?;
+    Ok((Stmt::RollbackForce { id }, rest))
+}
+
+fn take_advice(tokens: &[Token]) -> Result<(Option<Advice>, &[Token]), ReadErr>
+    ensures { Gives (λ x. (x.0, x.1.now)) result ((meant spec.advice_in).read tokens.now) }
+{
+    match tokens {
+        [Token::Word(word), rest @ ..] if word.as_slice() == b"COMMIT".as_slice() => {
+            Ok((Some(Advice::Commit), rest))
+        }
+        [Token::Word(word), rest @ ..] if word.as_slice() == b"ROLLBACK".as_slice() => {
+            Ok((Some(Advice::Rollback), rest))
+        }
+        [Token::Word(word), rest @ ..] if word.as_slice() == b"NOTHING".as_slice() => {
+            Ok((None, rest))
+        }
+        _ => Err(ReadErr::Bad),
+    }
+}
+
+fn take_advise(tokens: &[Token]) -> Result<(Stmt, &[Token]), ReadErr>
+    ensures { Gives (λ x. (x.0, x.1.now)) result (spec.advise.read tokens.now) }
+{
+    let rest = take_word(tokens, b"SESSION")?;
+    let rest = take_word(rest, b"ADVISE")?;
+    let (advice, rest) = take_advice(rest)?;
+    Ok((Stmt::Advise(advice), rest))
+}
+
+fn take_switch(tokens: &[Token]) -> Result<(bool, &[Token]), ReadErr>
+    ensures { Gives (λ x. (x.0, x.1.now)) result ((meant spec.switch_in).read tokens.now) }
+{
+    match tokens {
+        [Token::Word(word), rest @ ..] if word.as_slice() == b"ENABLE".as_slice() => {
+            Ok((true, rest))
+        }
+        [Token::Word(word), rest @ ..] if word.as_slice() == b"DISABLE".as_slice() => {
+            Ok((false, rest))
+        }
+        _ => Err(ReadErr::Bad),
+    }
+}
+
+fn take_recovery(tokens: &[Token]) -> Result<(Stmt, &[Token]), ReadErr>
+    ensures { Gives (λ x. (x.0, x.1.now)) result (spec.recovery.read tokens.now) }
+{
+    let rest = take_word(tokens, b"SYSTEM")?;
+    let (on, rest) = take_switch(rest)?;
+    let rest = take_word(rest, b"DISTRIBUTED")?;
+    let rest = take_word(rest, b"RECOVERY")?;
+    Ok((Stmt::Recovery(on), rest))
+}
+
+/// ALTER SESSION or ALTER SYSTEM.
+#[tactic(auto, unfolding(crate::specs::Transactions::alter))]
+pub(crate) fn take_alter(tokens: &[Token]) -> Result<(Stmt, &[Token]), ReadErr>
+    ensures { Gives (λ x. (x.0, x.1.now)) result (spec.alter.read tokens.now) }
+{
+    let rest = take_word(tokens, b"ALTER")?;
+    if begins_word(rest, b"SESSION") {
+        return take_advise(rest);
+    }
+    take_recovery(rest)
+}
+
+fn take_argument(alloc: Global, tokens: &[Token]) -> Result<(Bytes, &[Token]), ReadErr>
+    ensures { Gives (λ x. (x.0, x.1.now)) result (spec.argument.read tokens.now) }
+{
+    let rest = take_mark(tokens, Mark::Open)?;
+    let (id, rest) = take_text(alloc, rest, ID_LIMIT)?;
+    let rest = take_mark(rest, Mark::Close)?;
+    Ok((id, rest))
+}
+
+fn take_purge(alloc: Global, tokens: &[Token]) -> Result<(Stmt, &[Token]), ReadErr>
+    ensures { Gives (λ x. (x.0, x.1.now)) result (spec.purge.read tokens.now) }
+{
+    if begins_word(tokens, b"DBMS_TRANSACTION.PURGE_MIXED") {
+        let rest = take_word(tokens, b"DBMS_TRANSACTION.PURGE_MIXED")?;
+        let (id, rest) = take_argument(alloc, rest)?;
+        return Ok((Stmt::PurgeMixed { id }, rest));
+    }
+    let rest = take_word(tokens, b"DBMS_TRANSACTION.PURGE_LOST_DB_ENTRY")?;
+    let (id, rest) = take_argument(alloc, rest)?;
+    Ok((Stmt::PurgeLost { id }, rest))
+}
+
+fn take_execute_word(tokens: &[Token]) -> Result<&[Token], ReadErr>
+    ensures { Gives (λ rest. (tt, rest.now)) result ((passed spec.is_execute).read tokens.now) }
+{
+    match tokens {
+        [Token::Word(word), rest @ ..]
+            if word.as_slice() == b"EXECUTE".as_slice() || word.as_slice() == b"EXEC".as_slice() =>
+            Ok(rest),
+        _ => Err(ReadErr::Bad),
+    }
+}
+
+/// EXECUTE, or EXEC for short, of a purge.
+#[tactic(auto, unfolding(crate::specs::Transactions::execute))]
+pub(crate) fn take_execute(alloc: Global, tokens: &[Token]) -> Result<(Stmt, &[Token]), ReadErr>
+    ensures { Gives (λ x. (x.0, x.1.now)) result (spec.execute.read tokens.now) }
+{
+    let rest = take_execute_word(tokens)?;
+    take_purge(alloc, rest)
+}
