@@ -1,19 +1,7 @@
 -- Words that all the rules use: equal names, equal branches, the order of both, and lists by what stands in them.
 use Rattle.std.specs.Prelude.{ℕ, ◌+◌, ◌==◌, ◌&&◌, ◌||◌, not, Bool, true, false, if◌then◌else◌, List, [], ◌∷◌, map, filter, Option, Some, None, nat_lt}
+pub use Rattle.sql_eval.specs.Words.{same_text, text_below, one, first_some}
 use Rattle.node_rules.specs.Data.{BranchId}
-
--- two texts, byte for byte
-abbrev pub same_text : List ℕ → List ℕ → Bool
-same_text [] [] = true
-same_text [] (y ∷ ys) = false
-same_text (x ∷ xs) [] = false
-same_text (x ∷ xs) (y ∷ ys) = (x == y) && same_text xs ys
-
--- of two texts the first, by their bytes
-abbrev pub text_below : List ℕ → List ℕ → Bool
-text_below xs [] = false
-text_below [] (y ∷ ys) = true
-text_below (x ∷ xs) (y ∷ ys) = nat_lt x y || ((x == y) && text_below xs ys)
 
 -- two branch ids are equal
 abbrev pub same : BranchId → BranchId → Bool
@@ -37,22 +25,12 @@ change_where p f xs = map (λ x. if p x then f x else x) xs
 abbrev pub drop_where : {A : Type 0} → (A → Bool) → List A → List A
 drop_where p xs = filter (λ x. not (p x)) xs
 
--- a list of one item
-abbrev pub one : {A : Type 0} → A → List A
-one x = x ∷ []
-
 -- the greatest number and the place where it stands first, of those from place i on, and of the best before them
 abbrev pub place_of_greatest : ℕ → List (Option ℕ) → Option (ℕ × ℕ) → Option (ℕ × ℕ)
 place_of_greatest i [] best = best
 place_of_greatest i (None ∷ ws) best = place_of_greatest (i + 1) ws best
 place_of_greatest i (Some w ∷ ws) None = place_of_greatest (i + 1) ws (Some (w, i))
 place_of_greatest i (Some w ∷ ws) (Some b) = place_of_greatest (i + 1) ws (if nat_lt b.0 w then Some (w, i) else Some b)
-
--- the first that there is
-abbrev pub first_some : {A : Type 0} → List (Option A) → Option A
-first_some [] = None
-first_some (Some x ∷ xs) = Some x
-first_some (None ∷ xs) = first_some xs
 
 -- with one more item, where items stand in order of their branches
 abbrev pub put_by_branch : {A : Type 0} → (A → BranchId) → List A → A → List A
