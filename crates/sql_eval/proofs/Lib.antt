@@ -1,5 +1,6 @@
 mod ChangeLemmas
 mod FindLemmas
+pub mod KeyLaws
 mod ListLemmas
 mod OrderLemmas
 mod RangeLemmas

@@ -6,3 +6,4 @@ pub mod Refusals
 pub mod Meaning
 pub mod Places
 pub mod Outcomes
+pub mod Laws

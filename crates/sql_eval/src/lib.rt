@@ -12,6 +12,7 @@ mod fitting;
 mod insert;
 mod keyed;
 mod keys;
+pub mod laws;
 mod meaning;
 mod meant;
 mod naming;

@@ -1,0 +1,39 @@
+-- A statement that fixes a key depends on what stands at that key alone.
+use Rattle.std.specs.Prelude.{◌≡◌, ℕ, true, List, [], ◌∷◌, Some, filter, map, position, unwrap_or, ⊤}
+use Rattle.sql_eval.specs.Data.{Value, Table, Keyed, Stmt}
+use Rattle.sql_eval.specs.Words.{first_some}
+use Rattle.sql_eval.specs.Rows.{same_value}
+use Rattle.sql_eval.specs.Columns.{is_key, key_of_row, place_of}
+use Rattle.sql_eval.specs.Meaning.{conds_of, fixes, found, fixed_key, written, meant_over}
+
+-- the place of the key column
+abbrev pub key_place : Table → ℕ
+key_place t = unwrap_or (position (λ c. c.key) t.columns) 0
+
+-- a name of a key column stands at the key's place, as in each table with one key column and columns of different names
+abbrev pub HasOneKey : Table → Type 0
+HasOneKey t = (name : List ℕ) → is_key t name ≡ true → place_of t name ≡ Some (key_place t)
+
+-- each row has its key in the key column
+abbrev pub AreKeyed : Table → List Keyed → Type 0
+AreKeyed t [] = ⊤
+AreKeyed t (r ∷ rs) = (key_of_row t r.row.cells ≡ r.key) × AreKeyed t rs
+
+-- the rows at a key
+abbrev pub at_key : List Keyed → Value → List Keyed
+at_key rows key = filter (λ r. same_value r.key key) rows
+
+-- a WHERE that fixes a key finds only rows at it
+abbrev pub FoundAtKey : Type 0
+FoundAtKey = (s : Stmt) (t : Table) (rows : List Keyed) (key : Value) → HasOneKey t → AreKeyed t rows
+    → first_some (map (fixes t) (conds_of s)) ≡ Some key → found s t rows ≡ found s t (at_key rows key)
+
+-- a statement that fixes a key writes what it would write if there were no other rows
+abbrev pub WrittenAtKey : Type 0
+WrittenAtKey = (s : Stmt) (t : Table) (rows : List Keyed) (key : Value) → HasOneKey t → AreKeyed t rows
+    → fixed_key s t ≡ Some key → written s t rows ≡ written s t (at_key rows key)
+
+-- and means what it would mean
+abbrev pub MeantAtKey : Type 0
+MeantAtKey = (s : Stmt) (t : Table) (rows : List Keyed) (key : Value) → HasOneKey t → AreKeyed t rows
+    → fixed_key s t ≡ Some key → meant_over s t rows ≡ meant_over s t (at_key rows key)
