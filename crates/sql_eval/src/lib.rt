@@ -33,3 +33,6 @@ pub use meant::Meant;
 pub use order::{is_null, same_value, value_below};
 pub use rows::get;
 pub use sql_err::SqlErr;
+
+#[cfg(test)]
+mod tests;
