@@ -1,5 +1,5 @@
 -- The first that passes, in two lists joined.
-use Rattle.std.proofs.Common.{◌≡◌, Bool, true, false, List, [], ◌∷◌, ◌++◌, Option, Some, None, find, refl, arith}
+use Rattle.std.proofs.Common.{◌≡◌, Bool, List, [], ◌∷◌, ◌++◌, Option, Some, None, find, refl, arith}
 
 abbrev pub or_else_of : {A : Type 0} → Option A → Option A → Option A
 or_else_of (Some x) other = Some x

@@ -1,17 +1,16 @@
 -- A statement that fixes a key depends on what stands at that key alone.
-use Rattle.std.proofs.Common.{◌≡◌, ℕ, ◌&&◌, not, Bool, true, false, cond, List, [], ◌∷◌, Option, None, Some, Ok, filter, map, length, slice_get, unwrap_or, refl, sym, ap, subst, ◌∙◌}
-use Rattle.std.specs.List.{list_all}
-use Rattle.sql_eval.specs.Data.{Value, Table, Keyed, Stmt, Cond}
+use Rattle.std.proofs.Common.{◌≡◌, ℕ, ◌&&◌, Bool, true, false, cond, List, [], ◌∷◌, Option, None, Some, Ok, filter, map, length, slice_get, unwrap_or, refl, sym, ap, subst, ◌∙◌}
+use Rattle.sql_eval.specs.Data.{Value, Table, Keyed, Cond}
 use Rattle.sql_eval.specs.Data.values
 use Rattle.sql_eval.specs.Data.signs
 use Rattle.sql_eval.specs.Data.conds
 use Rattle.sql_eval.specs.Data.stmts
 use Rattle.sql_eval.specs.Data.dones
 use Rattle.sql_eval.specs.Words.{first_some}
-use Rattle.sql_eval.specs.Rows.{is_null, same_value, get, keys_of}
-use Rattle.sql_eval.specs.Columns.{is_key, key_of_row, place_of, cell}
-use Rattle.sql_eval.specs.Meaning.{cells_of, changing, conds_of, deleted, fixes, found, holds, inserted_cells, inserting, meant_over, picked, satisfies, updated, written}
-use Rattle.sql_eval.specs.Laws.{AreKeyed, HasOneKey, at_key, key_place, FoundAtKey, WrittenAtKey, MeantAtKey}
+use Rattle.sql_eval.specs.Rows.{same_value, get, keys_of}
+use Rattle.sql_eval.specs.Columns.{is_key, key_of_row, cell}
+use Rattle.sql_eval.specs.Meaning.{cells_of, changing, conds_of, deleted, fixes, holds, inserted_cells, inserting, meant_over, picked, satisfies, updated, written}
+use Rattle.sql_eval.specs.Laws.{AreKeyed, HasOneKey, at_key, FoundAtKey, WrittenAtKey, MeantAtKey}
 
 left : (a b : Bool) → (a && b) ≡ true → a ≡ true
 left true b h = refl
@@ -29,7 +28,7 @@ given false v key e = absurd cc
 -- what a row has in the key column is its key
 key_cell : (t : Table) (r : Keyed) (name : List ℕ) → HasOneKey t → key_of_row t r.row.cells ≡ r.key → is_key t name ≡ true → cell t r.row name ≡ r.key
 key_cell t r name one keyed is =
-    ap (λ (place : Option ℕ). unwrap_or (slice_get r.row.cells (unwrap_or place (length r.row.cells))) values.Null) (one name is) ∙ keyed
+    ap (λ (place : Option ℕ). unwrap_or (slice_get r.row.cells (unwrap_or place (length r.row.cells))) values.Null) ((one name).0 is) ∙ keyed
 
 -- a row of which a condition is true has the key that this condition fixes
 fixes-holds : (t : Table) (r : Keyed) (c : Cond) (key : Value) → HasOneKey t → key_of_row t r.row.cells ≡ r.key → fixes t c ≡ Some key → holds t r.row c ≡ true → same_value r.key key ≡ true

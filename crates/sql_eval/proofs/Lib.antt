@@ -5,4 +5,5 @@ mod ListLemmas
 mod OrderLemmas
 mod RangeLemmas
 mod SetLemmas
+pub mod StayLaws
 mod ZipLemmas

@@ -1,9 +1,8 @@
 -- A number is in range where it fits 64 bits.
-use Rattle.std.proofs.Common.{◌≡◌, ℕ, ℤ, ◌^◌, ◌-◌, ◌<◌, ◌≤◌, Option, None, Some, true, false, refl, sym, ap, ◌∙◌, arith}
+use Rattle.std.proofs.Common.{◌≡◌, ℤ, ◌^◌, ◌<◌, Option, None, Some, true, false, refl, ap, arith}
 use Rattle.std.specs.Prelude.{SomeIff, pos, negsuc, FitsSigned}
 use Rattle.std.specs.Int.{w64}
 use Rattle.std.proofs.lemmas.Bool.Decides.{nat_tests}
-use Rattle.std.proofs.lemmas.Bool.{le-leb, lt-leb}
 use Rattle.sql_eval.specs.Data.{Value}
 use Rattle.sql_eval.specs.Data.values
 use Rattle.sql_eval.specs.Meaning.{in_range, ranged}

@@ -1,18 +1,20 @@
 -- A statement that fixes a key depends on what stands at that key alone.
-use Rattle.std.specs.Prelude.{◌≡◌, ℕ, true, List, [], ◌∷◌, Some, filter, map, position, unwrap_or, ⊤}
-use Rattle.sql_eval.specs.Data.{Value, Table, Keyed, Stmt}
+use Rattle.std.specs.Prelude.{◌≡◌, ℕ, true, false, List, [], ◌∷◌, Some, filter, map, position, unwrap_or, ⊤}
+use Rattle.sql_eval.specs.Data.{Value, Change, Table, Keyed, Stmt, Done}
+use Rattle.sql_eval.specs.Data.meants
 use Rattle.sql_eval.specs.Words.{first_some}
-use Rattle.sql_eval.specs.Rows.{same_value}
+use Rattle.sql_eval.specs.Rows.{same_value, apply}
 use Rattle.sql_eval.specs.Columns.{is_key, key_of_row, place_of}
-use Rattle.sql_eval.specs.Meaning.{conds_of, fixes, found, fixed_key, written, meant_over}
+use Rattle.sql_eval.specs.Meaning.{conds_of, fixes, found, fixed_key, written, sets_key, meant_over}
 
 -- the place of the key column
 abbrev pub key_place : Table → ℕ
 key_place t = unwrap_or (position (λ c. c.key) t.columns) 0
 
--- a name of a key column stands at the key's place, as in each table with one key column and columns of different names
+-- a name is that of the key column exactly where it stands at the key's place, as in each table with one key column and
+-- columns of different names
 abbrev pub HasOneKey : Table → Type 0
-HasOneKey t = (name : List ℕ) → is_key t name ≡ true → place_of t name ≡ Some (key_place t)
+HasOneKey t = (name : List ℕ) → (is_key t name ≡ true → place_of t name ≡ Some (key_place t)) × (place_of t name ≡ Some (key_place t) → is_key t name ≡ true)
 
 -- each row has its key in the key column
 abbrev pub AreKeyed : Table → List Keyed → Type 0
@@ -37,3 +39,8 @@ WrittenAtKey = (s : Stmt) (t : Table) (rows : List Keyed) (key : Value) → HasO
 abbrev pub MeantAtKey : Type 0
 MeantAtKey = (s : Stmt) (t : Table) (rows : List Keyed) (key : Value) → HasOneKey t → AreKeyed t rows
     → fixed_key s t ≡ Some key → meant_over s t rows ≡ meant_over s t (at_key rows key)
+
+-- what changes of an accepted statement leave has its keys in the key column too
+abbrev pub StaysKeyed : Type 0
+StaysKeyed = (s : Stmt) (t : Table) (rows : List Keyed) (done : Done) (count : ℕ) (changes : List Change) → HasOneKey t → AreKeyed t rows
+    → sets_key s t ≡ false → meant_over s t rows ≡ meants.Changes done count changes → AreKeyed t (apply t.name rows changes)

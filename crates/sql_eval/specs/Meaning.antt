@@ -175,11 +175,16 @@ checked s t =
     (else_refuse (miscounted s t)
     (else_refuse (refuse_if (not (statement_fits t s)) (dtx 10 [])) (ill_inserted s t))))
 
+-- a row, unless it is refused
+abbrev pub row_unless : Option Refusal → Row → Result Row Refusal
+row_unless (Some r) row = Err r
+row_unless None row = Ok row
+
 -- ORA-01407, then ORA-12899, else the row with this cell
 abbrev pub set_cell : Table → Column → ℕ → Row → Value → Result Row Refusal
 set_cell t c i after v =
     if is_null v && c.not_null then Err (column_refusal 1407 t c)
-    else elim (too_long t c v) [ Some r ↦ Err r | None ↦ Ok (record { cells = slice_set after.cells i v }) ]
+    else row_unless (too_long t c v) (record { cells = slice_set after.cells i v })
 
 -- one column set to a value, or the refusal of that
 abbrev pub set_value : Table → Option Column → ℕ → Row → Option Value → Result Row Refusal

@@ -1,7 +1,7 @@
 //! The laws of statements that fix a key, each the contract of a function that does nothing.
 //!
 //! They let a node look at the one row of the key in place of all rows of the table.
-ghost use Rattle.sql_eval.specs.Laws.{FoundAtKey, WrittenAtKey, MeantAtKey};
+ghost use Rattle.sql_eval.specs.Laws.{FoundAtKey, WrittenAtKey, MeantAtKey, StaysKeyed};
 
 /// A WHERE that fixes a key finds only rows at it.
 pub fn found_at_key()
@@ -16,4 +16,9 @@ pub fn written_at_key()
 /// A statement that fixes a key means what it would mean if there were no other rows.
 pub fn meant_at_key()
     ensures { MeantAtKey }
+{}
+
+/// What the changes of an accepted statement leave has its keys in the key column, as the rows before.
+pub fn stays_keyed()
+    ensures { StaysKeyed }
 {}

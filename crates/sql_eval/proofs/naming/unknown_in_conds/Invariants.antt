@@ -1,5 +1,5 @@
-use Rattle.std.proofs.Common.{◌≡◌, ◌∷◌, map, find, flat_map, is_none, drop}
-use Rattle.sql_eval.specs.Columns.{place_of as place_in, term_columns, sum_columns, cond_column}
+use Rattle.std.proofs.Common.{◌≡◌, map, find, is_none, drop}
+use Rattle.sql_eval.specs.Columns.{place_of as place_in, cond_column}
 use Rattle.sql_eval.proofs.naming.unknown_in_conds.Given as goal
 
 -- the name is among those that are left
