@@ -1,4 +1,5 @@
-//! The conditions of a statement, and the rows that satisfy them.
+//! The conditions of a statement, and the rows that satisfy them: SQL Language Reference, "Comparison Conditions" and
+//! "Null Conditions".
 ghost use Rattle.std.specs.Prelude.{◌≡◌, [], ◌∷◌, ◌++◌, filter, IfOk, OnOk};
 ghost use Rattle.std.specs.Option.{option_copied};
 ghost use Rattle.sql_eval.specs.Places.{or_null};
@@ -87,7 +88,7 @@ fn add_where(
     Ok(())
 }
 
-/// The rows that satisfy the WHERE of a statement, in their order.
+/// The rows that satisfy the WHERE of a statement, in their order. A comparison with NULL is true of no row.
 pub fn found(
     alloc: Global,
     statement: &Stmt,

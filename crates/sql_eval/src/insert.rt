@@ -1,4 +1,4 @@
-//! The row that an INSERT gives.
+//! The row that an INSERT gives: SQL Language Reference, "INSERT".
 ghost use Rattle.std.specs.Prelude.{◌≡◌, zip, map, IfOk};
 ghost use Rattle.std.specs.Option.{option_copied};
 ghost use Rattle.sql_eval.specs.Words.{first_some};

@@ -3,6 +3,9 @@
 //! A statement is checked against its table before any row is seen; then the keys that it examines and writes, the rows
 //! that it gives and the changes that it makes are functions of the rows of that table alone. Locks, nodes and
 //! transactions are not known here. Each function computes the definition of its name in specs/.
+//!
+//! The meanings are those of the SQL Language Reference ("Nulls", "Comparison Conditions", "Arithmetic Operators", "SUM",
+//! "COUNT", "INSERT", "UPDATE", "DELETE", "SELECT"), over the two types NUMBER, here of 64 bits, and VARCHAR2.
 #![tactic(auto)]
 
 mod checking;
@@ -32,7 +35,6 @@ pub use meaning::meant_over;
 pub use meant::Meant;
 pub use order::{is_null, same_value, value_below};
 pub use rows::get;
-pub use sql_err::SqlErr;
 
 #[cfg(test)]
 mod tests;

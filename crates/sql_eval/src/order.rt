@@ -1,4 +1,4 @@
-//! NULL, and the order of values.
+//! NULL, and the order of values: SQL Language Reference, "Nulls" and "Data Type Comparison Rules".
 ghost use Rattle.std.specs.Prelude.{◌≡◌};
 ghost use Rattle.sql_eval.specs.Words.{text_below as text_below_of};
 ghost use Rattle.sql_eval.specs.Rows.{is_null as is_null_of, value_below as value_below_of, same_value as same_value_of};

@@ -1,4 +1,4 @@
-//! What a SELECT gives.
+//! What a SELECT gives: SQL Language Reference, "SELECT", "COUNT" and "SUM".
 ghost use Rattle.std.specs.Prelude.{◌≡◌, ◌++◌, [], ◌∷◌, map, pos, length, codes, Some, IfOk};
 ghost use Rattle.std.specs.Option.{option_copied};
 ghost use Rattle.dtx_values.specs.declared.value.Value.TheVariants.{Null, Number};

@@ -1,4 +1,4 @@
-//! The value of a sum over a row.
+//! The value of a sum over a row: SQL Language Reference, "Arithmetic Operators". A sum with NULL is NULL.
 ghost use Rattle.std.specs.Prelude.{◌≡◌, ◌+ℤ◌, ◌-ℤ◌, Some, IfOk};
 ghost use Rattle.std.specs.Option.{option_copied};
 ghost use Rattle.sql_eval.specs.Places.{or_null};
