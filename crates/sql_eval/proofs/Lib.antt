@@ -6,4 +6,5 @@ mod OrderLemmas
 mod RangeLemmas
 mod SetLemmas
 pub mod StayLaws
+pub mod TableLaws
 mod ZipLemmas

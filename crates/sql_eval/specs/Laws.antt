@@ -1,10 +1,11 @@
 -- A statement that fixes a key depends on what stands at that key alone.
-use Rattle.std.specs.Prelude.{◌≡◌, ℕ, true, false, List, [], ◌∷◌, Some, filter, map, position, unwrap_or, ⊤}
-use Rattle.sql_eval.specs.Data.{Value, Change, Table, Keyed, Stmt, Done}
+use Rattle.std.specs.Prelude.{◌≡◌, ◌==◌, ◌&&◌, not, ℕ, Bool, true, false, List, [], ◌∷◌, Some, filter, map, position, count_by, unwrap_or, ⊤}
+use Rattle.std.specs.List.{list_any}
+use Rattle.sql_eval.specs.Data.{Value, Change, Column, Table, Keyed, Stmt, Done}
 use Rattle.sql_eval.specs.Data.meants
 use Rattle.sql_eval.specs.Words.{first_some}
 use Rattle.sql_eval.specs.Rows.{same_value, apply}
-use Rattle.sql_eval.specs.Columns.{is_key, key_of_row, place_of}
+use Rattle.sql_eval.specs.Columns.{is_key, is_named, key_of_row, place_of}
 use Rattle.sql_eval.specs.Meaning.{conds_of, fixes, found, fixed_key, written, sets_key, meant_over}
 
 -- the place of the key column
@@ -12,9 +13,22 @@ abbrev pub key_place : Table → ℕ
 key_place t = unwrap_or (position (λ c. c.key) t.columns) 0
 
 -- a name is that of the key column exactly where it stands at the key's place, as in each table with one key column and
--- columns of different names
+-- columns of different names (TablesHaveOneKey)
 abbrev pub HasOneKey : Table → Type 0
 HasOneKey t = (name : List ℕ) → (is_key t name ≡ true → place_of t name ≡ Some (key_place t)) × (place_of t name ≡ Some (key_place t) → is_key t name ≡ true)
+
+-- columns of different names
+abbrev pub names_differ : List Column → Bool
+names_differ [] = true
+names_differ (c ∷ cs) = not (list_any (is_named c.name) cs) && names_differ cs
+
+-- one column is the key, and all have different names
+abbrev pub has_one_key : Table → Bool
+has_one_key t = (count_by (λ c. c.key) t.columns == 1) && names_differ t.columns
+
+-- such a table has one key
+abbrev pub TablesHaveOneKey : Type 0
+TablesHaveOneKey = (t : Table) → has_one_key t ≡ true → HasOneKey t
 
 -- each row has its key in the key column
 abbrev pub AreKeyed : Table → List Keyed → Type 0

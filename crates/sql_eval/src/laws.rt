@@ -1,7 +1,13 @@
 //! The laws of statements that fix a key, each the contract of a function that does nothing.
 //!
 //! They let a node look at the one row of the key in place of all rows of the table.
-ghost use Rattle.sql_eval.specs.Laws.{FoundAtKey, WrittenAtKey, MeantAtKey, StaysKeyed};
+ghost use Rattle.sql_eval.specs.Laws.{FoundAtKey, WrittenAtKey, MeantAtKey, StaysKeyed, TablesHaveOneKey};
+
+/// In a table with one key column and columns of different names, a name is that of the key exactly where it stands at
+/// the key's place.
+pub fn tables_have_one_key()
+    ensures { TablesHaveOneKey }
+{}
 
 /// A WHERE that fixes a key finds only rows at it.
 pub fn found_at_key()
