@@ -1,6 +1,7 @@
 """Every name of the definitions that the plays cite, by its module. A name that moves is changed here alone."""
 
 IDS = "Rattle.tran_ids.specs"
+REDO = "Rattle.redo_codec.specs"
 RULES = "Rattle.node_rules.specs"
 LAWS = "Rattle.run_laws.specs"
 DATA = f"{LAWS}.Data"
@@ -9,6 +10,8 @@ PROOFS = "Rattle.plays.proofs"
 # what a play unfolds to compute what is printed
 UNFOLDED = (
     (f"{IDS}.Numbers", "decimal hex8"),
+    (f"{REDO}.Kept", "kept_after"),
+    (f"{REDO}.Durable", "durable_after"),
     (f"{RULES}.Meaning", "checked examined written meant_over"),
     (f"{RULES}.Records", "applied stored_by"),
     (f"{RULES}.Tree", "weight step"),
@@ -21,7 +24,6 @@ UNFOLDED = (
     (f"{RULES}.Points", "passes point_of"),
     (f"{RULES}.Views", "pending_rows neighbor_rows"),
     (f"{LAWS}.Net", "sent_on delivered lost cut_over joined stopped started"),
-    (f"{LAWS}.Shown", "book_lines"),
     (f"{LAWS}.Disks", "struck after_append"),
     (f"{LAWS}.Cuts", "cut_by"),
     (f"{LAWS}.Next", "next"),

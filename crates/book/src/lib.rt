@@ -5,7 +5,14 @@
 mod entry;
 mod happening;
 mod line;
+mod printing;
+mod record_entries;
 
 pub use entry::{Book, Entry};
 pub use happening::{Happening, Took, Trace, Turn};
 pub use line::{AnswerLine, AnswerLines, Said};
+pub use printing::{book_lines, book_text, entry_text};
+pub use record_entries::entries;
+
+#[cfg(test)]
+mod tests;

@@ -1,4 +1,5 @@
 -- What a node keeps from turn to turn, and what a turn does.
+pub use Rattle.redo_codec.specs.Kept.{stands_at}
 use Rattle.std.specs.Prelude.{ℕ, ◌-◌, Bool, false, List, [], ◌∷◌, ◌++◌, map, find, max, slice_get, slice_set, unwrap_or, Option, Some, None}
 use Rattle.node_rules.specs.Data.{Value, Change, Stmt, BranchId, RedoRecord, Standing, Durable, Live, Kind, Msg, Answer, Advice}
 use Rattle.node_rules.specs.Data.phases
@@ -153,10 +154,6 @@ add_branch k x = record k { lives = k.lives ++ x ∷ [] }
 -- a branch that is no longer live, whatever became of it
 abbrev pub without_branch : Kept → BranchId → Kept
 without_branch k b = record k { lives = drop_where (is_at b) k.lives }
-
--- whether a kept branch has this id
-abbrev pub stands_at : BranchId → Standing → Bool
-stands_at b s = same s.me b
 
 -- the kept branch of this id
 abbrev pub standing_at : Kept → BranchId → Option Standing

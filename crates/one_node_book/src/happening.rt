@@ -1,6 +1,7 @@
 //! What happens in a run.
-use crate::{Input, RedoRecord};
+use crate::Input;
 use dtx_values::Listing;
+use redo_codec::RedoRecord;
 
 /// One step of a run.
 #[derive(Debug, Drop)]
@@ -14,6 +15,15 @@ pub enum Happening {
         node: u8,
         input: Input,
         wrote: Option<RedoRecord>,
+    },
+    /// A node stops, and loses all that its disk does not hold.
+    Stopped {
+        node: u8,
+    },
+    /// A node starts from its disk, and writes a record of this start.
+    Started {
+        node: u8,
+        boot: u32,
     },
 }
 

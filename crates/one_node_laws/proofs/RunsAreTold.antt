@@ -1,90 +1,37 @@
--- Every lawful run is as its trace and its book say.
-use Rattle.std.proofs.Common.{◌≡◌, ℕ, ◌+◌, ◌<◌, Bool, true, false, cond, List, [], ◌∷◌, ◌++◌, length, Option, None, Some, refl, sym, ap, subst, ◌∙◌, append_assoc, arith, length-append}
-use Rattle.std.specs.Prelude.{IfSome}
+-- Every lawful run is as told: what its records say, what its disk stands for, and one answer a command.
+use Rattle.std.proofs.Common.{◌≡◌, ℕ, ◌+◌, ◌<◌, ◌≤◌, ◌^◌, Bool, true, false, List, [], ◌∷◌, ◌++◌, length, map, Option, None, Some, refl, sym, ap, subst, ◌∙◌, append_assoc, arith, length-append}
+use Rattle.std.specs.Prelude.{IfSome, is_some, option_to_list, option_map}
+use Rattle.std.specs.List.{flat_map, AllByRecursion}
 use Rattle.std.proofs.lemmas.List.{append-nil}
-use Rattle.dtx_values.specs.declared.answer.Notice.TheVariants as notices
-use Rattle.one_node_book.specs.declared.record.RedoRecord.{RedoRecord}
-use Rattle.one_node_book.specs.declared.input.Input.{Input}
-use Rattle.one_node_book.specs.declared.input.Input.TheVariants as inputs
-use Rattle.one_node_sql.specs.Statements.{statement_of}
-use Rattle.one_node_sql.specs.declared.statement.Stmt.{Stmt}
+use Rattle.redo_codec.specs.declared.record.RedoRecord.{RedoRecord}
+use Rattle.redo_codec.specs.declared.record.RedoRecord.TheVariants as records
+use Rattle.redo_format.specs.Record.{record_format}
+use Rattle.redo_log.specs.Cells.{bodies, log_of, AllFit}
+use Rattle.redo_log.proofs.Logs.{log_is_read}
+use Rattle.book.specs.declared.entry.Entry.{Entry}
+use Rattle.book.specs.declared.line.Said.{Said}
+use Rattle.book.specs.declared.line.Said.TheVariants as said
+use Rattle.book.specs.declared.line.AnswerLine.{AnswerLine}
+use Rattle.book.specs.Entries.{entries_of}
+use Rattle.run_laws.specs.Book.{Agreement, MixedIsMarked, ScnLaw}
 use Rattle.one_node_script.specs.declared.command.Command.{Command}
 use Rattle.one_node_script.specs.declared.command.Command.TheVariants as commands
-use Rattle.one_node_book.specs.declared.entry.Entry.{Entry}
+use Rattle.one_node_book.specs.declared.input.Input.{Input}
+use Rattle.one_node_book.specs.declared.input.Input.TheVariants as inputs
 use Rattle.one_node_book.specs.declared.happening.Happening.{Happening}
-use Rattle.one_node_book.specs.declared.happening.Happening.TheVariants.{Begun, Turn}
-use Rattle.one_node_book.specs.declared.line.Said.TheVariants as said
-use Rattle.one_node_book.specs.declared.line.AnswerLine.{AnswerLine}
-use Rattle.one_node_book.specs.Book.{entries_of, book_of}
-use Rattle.one_node_book.specs.Agreement.{Agreement}
-use Rattle.one_node_rules.specs.Meaning.{is_understood, keep_if}
-use Rattle.one_node_rules.specs.Turn.{the_node, Kept, fresh, turn_of}
-use Rattle.one_node_laws.specs.Past.{Past, start, line, begun, next, past, History, past_of}
-use Rattle.one_node_laws.specs.Lawful.{MayBegin, MayHappen, IsLawful, IsLawfulRun}
-use Rattle.one_node_laws.specs.Standing.{Standing, nothing_yet, table_in, statement_in, answer_in, record_in, served, after, standing_after}
-use Rattle.one_node_laws.specs.Told.{lines_from, WritesOwed, AnswersEach}
+use Rattle.one_node_book.specs.declared.happening.Happening.TheVariants.{Begun, Turn, Stopped, Started}
+use Rattle.one_node_book.specs.Book.{book_of, records_in, records_of}
+use Rattle.one_node_rules.specs.Turn.{Kept, turn_of, start_of}
+use Rattle.one_node_rules.specs.Disk.{IsSpelled, bodies_of, disk_bytes}
+use Rattle.one_node_laws.specs.Past.{Past, Due, Begins, Serves, Stops, Starts, start, line, lines_of, said_at_once, due_by, begun, turned_at, next, past, History, past_of}
+use Rattle.one_node_laws.specs.Lawful.{MayBegin, MayTurn, MayHappen, IsLawful, IsLawfulRun}
+use Rattle.one_node_laws.specs.Standing.{Standing, nothing_yet, after, standing_after}
+use Rattle.one_node_laws.specs.Told.{AnswersEach}
 use Rattle.one_node_laws.specs.Laws.{LawfulRunsAreAsTold, EachBegunIsAnswered}
-use Rattle.one_node_laws.proofs.Refines.{kept_in, IsSound, Fits, wrote_in, refines, sound_step}
-
--- ---- one turn
-
-kept_passes : (test : Stmt → Bool) (o : Option Stmt) → IfSome (keep_if test o) (λ x. test x ≡ true)
-kept_passes test None = tt
-kept_passes test (Some x) = elim (test x) as (λ b. test x ≡ b → IfSome (cond b (Some x) None) (λ y. test y ≡ true)) [ true ↦ λ e. e | false ↦ λ e. tt ] refl
-
--- a turn of a node that stands as the records say
-record Turned (s : Standing) (node : Kept) (at : ℕ) (text : List ℕ) (wrote : Option RedoRecord) : Type 0 where
-  answers : (turn_of node (inputs.Call 1 text)).answer ≡ answer_in s text
-  writes : wrote ≡ record_in s text
-  stands : (turn_of node (inputs.Call 1 text)).after ≡ kept_in (served s (statement_in s text) (entries_of at wrote))
-  sound : IsSound (served s (statement_in s text) (entries_of at wrote))
-
-turned : (s : Standing) (node : Kept) (at : ℕ) (text : List ℕ) (wrote : Option RedoRecord) → node ≡ kept_in s → IsSound s → at ≡ the_node
-    → wrote ≡ (turn_of node (inputs.Call 1 text)).wrote → Turned s node at text wrote
-turned s node at text wrote stands sound here owed =
-    let statement = statement_in s text in
-    let fits : Fits s statement = kept_passes (is_understood (table_in s)) (statement_of text) in
-    let writes : wrote ≡ record_in s text = owed ∙ ap (λ (k : Kept). (turn_of k (inputs.Call 1 text)).wrote) stands in
-    let entries : entries_of at wrote ≡ wrote_in s statement = λ i. entries_of (here i) (writes i) in
-    record {
-      answers = ap (λ (k : Kept). (turn_of k (inputs.Call 1 text)).answer) stands;
-      writes = writes;
-      stands = ap (λ (k : Kept). (turn_of k (inputs.Call 1 text)).after) stands ∙ sym (refines s statement sound fits) ∙ sym (ap (λ (es : List Entry). kept_in (served s statement es)) entries);
-      sound = subst (λ (es : List Entry). IsSound (served s statement es)) (sym entries) (sound_step s statement sound fits);
-    }
-
--- ---- the happenings in order
-
--- what a lawful run tells and writes from here on, and how it stands then
-record Tells (p : Past) (s : Standing) (happenings : List Happening) : Type 0 where
-  lines : (past p happenings).lines ≡ p.lines ++ lines_from p.left p.command s happenings
-  writes : WritesOwed s happenings
-  sound : IsSound (standing_after s happenings)
-
-tells : (left : List Command) (command : ℕ) (out : Option Input) (node : Kept) (lines : List AnswerLine) (s : Standing) (happenings : List Happening) →
-    let p : Past = record { left = left; command = command; out = out; node = node; lines = lines } in
-    node ≡ kept_in s → IsSound s → IsLawful p happenings → Tells p s happenings
-unfolding past IsLawful standing_after
-tells left command out node lines s [] stands sound lawful = record { lines = sym (append-nil lines); writes = tt; sound = sound }
-tells [] command out node lines s (Begun number ∷ happenings) stands sound lawful = absurd (let none : 0 < 0 = lawful.0.is_asked in omega arith)
-tells (commands.Node name ∷ left) command out node lines s (Begun number ∷ happenings) stands sound lawful =
-    let l = line number (said.World notices.Fine) in
-    let rest = tells left number out node (lines ++ l ∷ []) s happenings stands sound lawful.1 in
-    record { lines = rest.lines ∙ append_assoc lines (l ∷ []) (lines_from left number s happenings); writes = rest.writes; sound = rest.sound }
-tells (commands.At at session text ∷ left) command out node lines s (Begun number ∷ happenings) stands sound lawful =
-    let rest = tells left number (Some (inputs.Call session text)) node lines s happenings stands sound lawful.1 in
-    record { lines = rest.lines; writes = rest.writes; sound = rest.sound }
-tells left command out node lines s (Turn at (inputs.Call session text) wrote ∷ happenings) stands sound lawful =
-    let t = turned s node at text wrote stands sound lawful.0.here lawful.0.owed in
-    let l = line command (said.Node (turn_of node (inputs.Call 1 text)).answer) in
-    let s' = served s (statement_in s text) (entries_of at wrote) in
-    let rest = tells left command None (turn_of node (inputs.Call 1 text)).after (lines ++ l ∷ []) s' happenings t.stands t.sound lawful.1 in
-    record {
-      lines = rest.lines ∙ append_assoc lines (l ∷ []) (lines_from left command s' happenings)
-          ∙ ap (λ (answer : AnswerLine). lines ++ (answer ∷ lines_from left command s' happenings)) (ap (λ answer. line command (said.Node answer)) t.answers);
-      writes = (t.writes, rest.writes);
-      sound = rest.sound;
-    }
+use Rattle.one_node_laws.proofs.BookLemmas.{rising_scns}
+use Rattle.one_node_laws.proofs.Refines.{IsSound}
+use Rattle.one_node_laws.proofs.Sound.{nothing_is_sound}
+use Rattle.one_node_laws.proofs.Tells.{Stands, tells}
 
 standing_after-book : (s : Standing) (happenings : List Happening) → (standing_after s happenings).book ≡ s.book ++ book_of happenings
 unfolding standing_after
@@ -92,6 +39,40 @@ standing_after-book s [] = sym (append-nil s.book)
 standing_after-book s (Begun number ∷ happenings) = standing_after-book s happenings
 standing_after-book s (Turn at (inputs.Call session text) wrote ∷ happenings) =
     standing_after-book (after s (Turn at (inputs.Call session text) wrote)) happenings ∙ append_assoc s.book (entries_of at wrote) (book_of happenings)
+standing_after-book s (Stopped node ∷ happenings) = standing_after-book (after s (Stopped node)) happenings
+standing_after-book s (Started node boot ∷ happenings) = standing_after-book (after s (Started node boot)) happenings
+
+-- ---- what the disk stands for
+
+all-append : (xs ys : List RedoRecord) → AllByRecursion IsSpelled xs → AllByRecursion IsSpelled ys → AllByRecursion IsSpelled (xs ++ ys)
+all-append [] ys first second = second
+all-append (x ∷ xs) ys first second = (first.0, all-append xs ys first.1 second)
+
+wrote_spelled : (wrote : Option RedoRecord) → IfSome wrote IsSpelled → AllByRecursion IsSpelled (option_to_list wrote)
+wrote_spelled None spelled = tt
+wrote_spelled (Some r) spelled = (spelled, tt)
+
+happening_spelled : (p : Past) (h : Happening) → MayHappen p h → AllByRecursion IsSpelled (records_in h)
+happening_spelled p (Begun number) may = tt
+happening_spelled p (Turn at input wrote) may = wrote_spelled wrote may.spelled
+happening_spelled p (Stopped node) may = tt
+happening_spelled p (Started node boot) may = (may.spelled, tt)
+
+all_spelled : (p : Past) (happenings : List Happening) → IsLawful p happenings → AllByRecursion IsSpelled (flat_map records_in happenings)
+unfolding past IsLawful
+all_spelled p [] lawful = tt
+all_spelled p (h ∷ happenings) lawful = all-append (records_in h) (flat_map records_in happenings) (happening_spelled p h lawful.0) (all_spelled (next p h) happenings lawful.1)
+
+bodies_fit : (rs : List RedoRecord) → AllByRecursion IsSpelled rs → AllFit (bodies_of rs)
+bodies_fit [] all = tt
+bodies_fit (r ∷ rs) all = (omega (arith, all.0.short), bodies_fit rs all.1)
+
+first_spelled : IsSpelled (records.Boot 1)
+first_spelled = record { fits = (tt, omega arith); short = omega arith }
+
+stands : (history : History) → IsLawfulRun history → bodies (disk_bytes (records_of history.happenings)) ≡ Some (bodies_of (records_of history.happenings))
+stands history lawful =
+    log_is_read (bodies_of (records_of history.happenings)) (bodies_fit (records_of history.happenings) (first_spelled, all_spelled (start history.asked) history.happenings lawful))
 
 -- ---- one answer a command
 
@@ -101,46 +82,78 @@ unfolding past IsLawful
 keeps I step p [] now lawful = now
 keeps I step p (h ∷ happenings) now lawful = keeps I step (next p h) happenings (step p h now lawful.0) lawful.1
 
-abbrev calls_out : Option Input → ℕ
-calls_out None = 0
-calls_out (Some input) = 1
+-- what is due is one line more
+abbrev due_lines : Due → ℕ
+due_lines Begins = 0
+due_lines (Serves input) = 1
+due_lines Stops = 1
+due_lines Starts = 1
 
--- each command that began has its line or its call out
+-- each command that began has its line or is due to get it
 record Counts (total : ℕ) (p : Past) : Type 0 where
   each : AnswersEach 1 p.lines
-  begun : length p.lines + calls_out p.out ≡ p.command
+  begun : length p.lines + due_lines p.due ≡ p.command
   all : p.command + length p.left ≡ total
 
 AnswersEach-push : (number : ℕ) (answers : List AnswerLine) (answer : AnswerLine) → AnswersEach number answers → answer.command ≡ number + length answers → AnswersEach number (answers ++ answer ∷ [])
 AnswersEach-push number [] answer each is = (omega arith, tt)
 AnswersEach-push number (x ∷ answers) answer each is = (each.0, AnswersEach-push (number + 1) answers answer each.1 (omega arith))
 
-begins_counted : (total : ℕ) (left : List Command) (command number : ℕ) (out : Option Input) (node : Kept) (lines : List AnswerLine) →
-    let p : Past = record { left = left; command = command; out = out; node = node; lines = lines } in
-    Counts total p → MayBegin p number → Counts total (begun p number left)
-begins_counted total [] command number out node lines counts may = counts
-begins_counted total (commands.Node name ∷ left) command number out node lines counts may =
-    let none : calls_out out ≡ 0 = ap calls_out may.is_idle in
-    let l = line number (said.World notices.Fine) in
-    record {
-      each = AnswersEach-push 1 lines l counts.each (omega (arith, counts.begun, may.in_order));
-      begun = omega (arith, counts.begun, may.in_order, length-append lines (l ∷ []));
-      all = omega (arith, counts.all, may.in_order);
-    }
-begins_counted total (commands.At at session text ∷ left) command number out node lines counts may =
-    let none : calls_out out ≡ 0 = ap calls_out may.is_idle in
-    record { each = counts.each; begun = omega (arith, counts.begun, may.in_order); all = omega (arith, counts.all, may.in_order) }
+-- a command has its line at once, or is due to get it
+record AtOnce (lines : List AnswerLine) (number : ℕ) (due : Due) (what : List Said) : Type 0 where
+  each : AnswersEach 1 (lines ++ lines_of number what)
+  counted : length (lines ++ lines_of number what) + due_lines due ≡ length lines + 1
+
+said_one : (lines : List AnswerLine) (number : ℕ) (what : Said) → AnswersEach 1 lines → number ≡ length lines + 1 → AtOnce lines number Begins (what ∷ [])
+said_one lines number what each is =
+    record { each = AnswersEach-push 1 lines (line number what) each (omega (arith, is)); counted = omega (arith, length-append lines (line number what ∷ [])) }
+
+due_one : (lines : List AnswerLine) (number : ℕ) (due : Due) → due_lines due ≡ 1 → AnswersEach 1 lines → AtOnce lines number due []
+due_one lines number due one each =
+    record { each = subst (AnswersEach 1) (sym (append-nil lines)) each; counted = omega (arith, one, length-append lines []) }
+
+at_once : (lines : List AnswerLine) (number : ℕ) (up : Bool) (name : List ℕ) (rs : List RedoRecord) (book : List Entry) (command : Command) → AnswersEach 1 lines → number ≡ length lines + 1
+    → AtOnce lines number (due_by up command) (said_at_once up name rs book command)
+at_once lines number up name rs book (commands.Node made) each is = said_one lines number _ each is
+at_once lines number true name rs book (commands.At at session text) each is = due_one lines number _ refl each
+at_once lines number false name rs book (commands.At at session text) each is = said_one lines number _ each is
+at_once lines number true name rs book (commands.Stop at) each is = due_one lines number _ refl each
+at_once lines number false name rs book (commands.Stop at) each is = said_one lines number _ each is
+at_once lines number true name rs book (commands.Start at) each is = said_one lines number _ each is
+at_once lines number false name rs book (commands.Start at) each is = due_one lines number _ refl each
+at_once lines number up name rs book commands.ShowBook each is = said_one lines number _ each is
+at_once lines number up name rs book (commands.ShowDisk at) each is = said_one lines number _ each is
+
+begins_counted : (total : ℕ) (p : Past) (number : ℕ) (left : List Command) → p.left ≡ left → Counts total p → MayBegin p number → Counts total (begun p number left)
+begins_counted total p number [] is counts may = record { each = counts.each; begun = counts.begun; all = counts.all }
+begins_counted total p number (command ∷ left) is counts may =
+    let none : due_lines p.due ≡ 0 = ap due_lines may.is_idle in
+    let count : length p.left ≡ length left + 1 = ap length is ∙ omega arith in
+    let here = at_once p.lines number (is_some p.node) p.name p.records p.book command counts.each (omega (arith, counts.begun, may.in_order, none)) in
+    record { each = here.each; begun = omega (arith, here.counted, counts.begun, may.in_order, none); all = omega (arith, counts.all, may.in_order, count) }
+
+-- the command that runs gets its line
+answered_counted : (total : ℕ) (p : Past) (what : Said) → Counts total p → due_lines p.due ≡ 1 → AtOnce p.lines p.command Begins (what ∷ [])
+answered_counted total p what counts one = said_one p.lines p.command what counts.each (omega (arith, counts.begun, one))
+
+turn_counted : (total : ℕ) (p : Past) (at : ℕ) (input : Input) (wrote : Option RedoRecord) (kept : Option Kept) → option_map (λ k. (turn_of k input).wrote) kept ≡ Some wrote
+    → Counts total p → due_lines p.due ≡ 1 → Counts total (turned_at p at input wrote kept)
+turn_counted total p at input wrote None owed counts one = absurd cc
+turn_counted total p at input wrote (Some k) owed counts one =
+    let here = answered_counted total p (said.Node (turn_of k input).answer) counts one in
+    record { each = here.each; begun = omega (arith, here.counted, counts.begun, one); all = counts.all }
 
 counts_step : (total : ℕ) (p : Past) (h : Happening) → Counts total p → MayHappen p h → Counts total (next p h)
-counts_step total p (Begun number) counts may = begins_counted total p.left p.command number p.out p.node p.lines counts may
-counts_step total p (Turn at input wrote) counts may =
-    let one : calls_out p.out ≡ 1 = ap calls_out may.is_out in
-    let l = line p.command (said.Node (turn_of p.node input).answer) in
-    record {
-      each = AnswersEach-push 1 p.lines l counts.each (omega (arith, counts.begun));
-      begun = omega (arith, counts.begun, length-append p.lines (l ∷ []));
-      all = counts.all;
-    }
+counts_step total p (Begun number) counts may = begins_counted total p number p.left refl counts may
+counts_step total p (Turn at input wrote) counts may = turn_counted total p at input wrote p.node may.owed counts (ap due_lines may.is_out)
+counts_step total p (Stopped node) counts may =
+    let one : due_lines p.due ≡ 1 = ap due_lines may.is_due in
+    let here = answered_counted total p Rattle.one_node_laws.specs.Past.fine counts one in
+    record { each = here.each; begun = omega (arith, here.counted, counts.begun, one); all = counts.all }
+counts_step total p (Started node boot) counts may =
+    let one : due_lines p.due ≡ 1 = ap due_lines may.is_due in
+    let here = answered_counted total p Rattle.one_node_laws.specs.Past.fine counts one in
+    record { each = here.each; begun = omega (arith, here.counted, counts.begun, one); all = counts.all }
 
 counts : (history : History) → IsLawfulRun history → Counts (length history.asked) (past_of history)
 counts history lawful =
@@ -148,21 +161,26 @@ counts history lawful =
 
 -- ---- the laws
 
-nothing_is_sound : IsSound nothing_yet
-nothing_is_sound = record { fresh = (refl, refl); low = tt; agreed = tt }
+nothing_stands : (asked : List Command) → Stands (start asked) nothing_yet
+unfolding Rattle.one_node_rules.specs.Turn.after_records
+nothing_stands asked = record { node_is = refl; records_are = refl; book_is = refl; rests = refl; closed = λ down. refl; sound = nothing_is_sound }
 
 pub lawful_runs_are_as_told : LawfulRunsAreAsTold
 lawful_runs_are_as_told history lawful =
-    let t = tells history.asked 0 None fresh [] nothing_yet history.happenings refl nothing_is_sound lawful in
+    let t = tells (start history.asked) nothing_yet history.happenings (nothing_stands history.asked) lawful in
+    let book : (standing_after nothing_yet history.happenings).book ≡ book_of history.happenings = standing_after-book nothing_yet history.happenings in
     record {
       lines = t.lines;
-      writes = t.writes;
-      agreement = subst Agreement (standing_after-book nothing_yet history.happenings) t.sound.agreed;
       in_order = (counts history lawful).each;
+      writes = t.writes;
+      agreement = subst Agreement book t.sound.agreed;
+      marked = subst MixedIsMarked book t.sound.marked;
+      scns = subst ScnLaw book (rising_scns (standing_after nothing_yet history.happenings).book t.sound.plain t.sound.rising);
+      stands = stands history lawful;
     }
 
 pub each_begun_is_answered : EachBegunIsAnswered
 each_begun_is_answered history lawful idle =
     let c = counts history lawful in
-    let none : calls_out (past_of history).out ≡ 0 = ap calls_out idle in
+    let none : due_lines (past_of history).due ≡ 0 = ap due_lines idle in
     omega (arith, c.begun, c.all)

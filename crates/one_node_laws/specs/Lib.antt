@@ -1,3 +1,4 @@
+pub mod Shown
 pub mod Past
 pub mod Lawful
 pub mod Recorded

@@ -4,8 +4,9 @@ ghost use Rattle.one_node_book.specs.Book.{entries_in, book_of};
 ghost use Rattle.one_node_laws.specs.Past.{start, past, past_of, next};
 ghost use Rattle.one_node_laws.specs.Lawful.{MayHappen, IsLawful, IsLawfulRun};
 
+use book::{Book, Entry, entries};
 use dtx_values::Listing;
-use one_node_book::{Book, Entry, Happening, Happenings, entries};
+use one_node_book::{Happening, Happenings};
 use one_node_script::{Command, Commands};
 use std::alloc::{AllocError, Global};
 use std::marker::Model;
@@ -43,12 +44,14 @@ fn entered(alloc: Global, happening: &Happening) -> Result<Vec<Entry>, AllocErro
     ensures { IfOk result (λ entries. entries.items ≡ entries_in happening.now) }
 {
     match happening {
-        Happening::Begun { command: _number } => Ok(Vec::new(alloc)),
         Happening::Turn {
             node,
             input: _input,
             wrote,
         } => entries(alloc, *node, wrote),
+        Happening::Begun { .. } | Happening::Stopped { .. } | Happening::Started { .. } => {
+            Ok(Vec::new(alloc))
+        }
     }
 }
 
@@ -70,6 +73,13 @@ impl Trace {
         ensures { result.now ≡ self.now.asked }
     {
         self.asked.as_slice()
+    }
+
+    /// The book so far.
+    pub fn book(&self) -> &[Entry]
+        ensures { result.now ≡ (past_of self.now).book }
+    {
+        &self.book
     }
 
     /// Adds what happens next with its entries, or nothing.

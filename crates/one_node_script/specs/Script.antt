@@ -1,35 +1,15 @@
 -- What a script asks for.
-use Rattle.std.specs.Prelude.{◌≡◌, ℕ, ◌+◌, ◌-◌, ◌^◌, ◌==◌, false, List, [], ◌∷◌, Option, None, Some, Result, Ok, Err, if◌then◌else◌, codes, position, take, drop, ⊤}
+use Rattle.std.specs.Prelude.{◌≡◌, ℕ, ◌+◌, false, List, [], ◌∷◌, Option, None, Some, Result, Ok, Err, if◌then◌else◌, ⊤}
 use Rattle.std.specs.List.{list_all}
 use Rattle.std.specs.Option.{option_map_or}
-use Rattle.one_node_sql.specs.Reading.{◌>>=◌}
-use Rattle.one_node_sql.specs.Tokens.{is_blank, tokens_of}
-use Rattle.one_node_sql.specs.Grammar.{keyword_at, name_at, natural_at, end_at}
+use Rattle.one_node_sql.specs.Tokens.{is_blank}
 use Rattle.one_node_script.specs.declared.command.Command.{Command}
-use Rattle.one_node_script.specs.declared.command.Command.TheVariants.{Node, At}
+use Rattle.one_node_script.specs.declared.command.Command.TheVariants.{Node}
 use Rattle.one_node_script.specs.declared.error.ScriptErr.{ScriptErr}
 use Rattle.one_node_script.specs.declared.error.ScriptErr.TheVariants.{Bad, NoMemory}
 use Rattle.one_node_script.specs.Comments.{outside_comments}
-use Rattle.one_node_script.specs.Pieces.{is_colon, pieces_of, line_ends, begins}
-
--- NODE name: the name
-unfoldable pub node_of : List ℕ → Option (List ℕ)
-node_of piece = do
-  a ← keyword_at (codes "NODE") (tokens_of piece)
-  name ← name_at a
-  _ ← end_at name.1
-  Some name.0
-
--- AT name SESSION number : text, at this node and session 1: the text
-unfoldable pub at_of : List ℕ → List ℕ → Option (List ℕ)
-at_of node piece = do
-  colon ← position is_colon piece
-  a ← keyword_at (codes "AT") (tokens_of (take colon piece))
-  b ← keyword_at node a
-  c ← keyword_at (codes "SESSION") b
-  session ← natural_at (2 ^ 32 - 1) c
-  _ ← end_at session.1
-  if session.0 == 1 then Some (drop (colon + 1) piece) else None
+use Rattle.one_node_script.specs.Forms.{node_of, command_of}
+use Rattle.one_node_script.specs.Pieces.{pieces_of, line_ends, begins}
 
 -- the commands, or the line of the first piece that is none
 abbrev pub Asked : Type 0
@@ -44,11 +24,11 @@ then_asked command (Err line) = Err line
 abbrev pub asked_at_end : ℕ → List ℕ → Asked
 asked_at_end line rest = if list_all is_blank rest then Ok [] else Err (begins line rest)
 
--- the pieces from this line on are calls at the node
+-- the pieces from this line on are commands of the node
 abbrev pub asked_of : ℕ → List ℕ → List (List ℕ) → List ℕ → Asked
 asked_of line node [] rest = asked_at_end line rest
 asked_of line node (piece ∷ pieces) rest =
-    option_map_or (λ text. then_asked (At 1 1 text) (asked_of (line + line_ends piece) node pieces rest)) (at_of node piece) (Err (begins line piece))
+    option_map_or (λ command. then_asked command (asked_of (line + line_ends piece) node pieces rest)) (command_of node piece) (Err (begins line piece))
 
 -- the first piece makes the node
 abbrev pub asked_first : List (List ℕ) → List ℕ → Asked

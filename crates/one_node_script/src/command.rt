@@ -11,6 +11,14 @@ pub enum Command {
     Node { name: Name },
     /// A client's call at a session of a node: the text of a statement.
     At { node: u8, session: u32, text: Bytes },
+    /// Stops a node, as a crash does.
+    Stop { node: u8 },
+    /// Starts a node that stands still.
+    Start { node: u8 },
+    /// Tells what was booked so far.
+    ShowBook,
+    /// Tells the bytes of a node's disk.
+    ShowDisk { node: u8 },
 }
 
 /// Commands in the order in which they are run.
@@ -35,6 +43,10 @@ impl Duplicate for Command {
                     text,
                 })
             }
+            Command::Stop { node } => Ok(Command::Stop { node: *node }),
+            Command::Start { node } => Ok(Command::Start { node: *node }),
+            Command::ShowBook => Ok(Command::ShowBook),
+            Command::ShowDisk { node } => Ok(Command::ShowDisk { node: *node }),
         }
     }
 }

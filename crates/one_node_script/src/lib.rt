@@ -1,12 +1,14 @@
 //! The commands of a script, and how they are read.
 //!
 //! A script is read in three steps: its comments are taken out, the text is cut into pieces at each `;`, and each piece
-//! is read as a command. `specs/Script.antt` says what a script asks for, and `read_script` gives exactly that.
+//! is read as a command, in one of the forms of `specs/Forms.antt`. `specs/Script.antt` says what a script asks for, and
+//! `read_script` gives exactly that.
 #![tactic(auto)]
 
 mod command;
 mod comment;
 mod error;
+mod form;
 mod piece;
 mod script;
 

@@ -1,57 +1,17 @@
 //! How a script is read.
 ghost use Rattle.std.specs.Prelude.{◌≡◌, ◌+◌, ◌<◌, ◌≤◌, ◌^◌, [], length, IfOk};
-ghost use Rattle.one_node_sql.specs.Reading.{Gives};
 ghost use Rattle.one_node_script.specs.Pieces.{pieces_of, begins};
-ghost use Rattle.one_node_script.specs.Script.{node_of, at_of, asked_at_end, asked_of, asked_first, asked, AsksFor, GivesOn};
+ghost use Rattle.one_node_script.specs.Forms.{node_of, command_of};
+ghost use Rattle.one_node_script.specs.Script.{asked_at_end, asked_of, asked_first, asked, AsksFor, GivesOn};
 
 use crate::command::Command;
 use crate::comment::without_comments;
 use crate::error::ScriptErr;
-use crate::piece::{around, colon_at, cut, first_line, is_blank_text, line_ends};
-use dtx_values::{Bytes, Listing, Name};
+use crate::form::{command, node_name};
+use crate::piece::{cut, first_line, is_blank_text, line_ends};
+use dtx_values::Name;
 use one_node_sql::ParseErr;
-use one_node_sql::grammar::{end, keyword, name, natural};
-use one_node_sql::token::tokens;
 use std::alloc::Global;
-
-/// The number of the one node that a script has.
-const NODE: u8 = 1;
-
-/// The number of the one session that a script has.
-const SESSION: u32 = 1;
-
-/// `NODE name`: the name.
-#[tactic(auto, unfolding(crate::specs::Script::node_of))]
-fn node_name(alloc: Global, piece: &[u8]) -> Result<Name, ParseErr>
-    ensures { Gives (λ name. name) result (node_of piece.now) }
-{
-    let tokens = tokens(alloc, piece)?;
-    let rest = keyword(&tokens, b"NODE")?;
-    let (node, rest) = name(alloc, rest)?;
-    end(rest)?;
-    Ok(node)
-}
-
-/// `AT name SESSION number : text`, at this node and the one session: the text.
-#[tactic(auto, unfolding(crate::specs::Script::at_of))]
-fn at_text(alloc: Global, node: &Name, piece: &[u8]) -> Result<Bytes, ParseErr>
-    ensures { Gives (λ text. text) result (at_of node.now piece.now) }
-{
-    let Some(colon) = colon_at(piece) else {
-        return Err(ParseErr::BadSql);
-    };
-    let (head, text) = around(piece, colon);
-    let tokens = tokens(alloc, head)?;
-    let rest = keyword(&tokens, b"AT")?;
-    let rest = keyword(rest, node.as_bytes())?;
-    let rest = keyword(rest, b"SESSION")?;
-    let (session, rest) = natural(rest, u64::from(u32::MAX))?;
-    end(rest)?;
-    if session != u64::from(SESSION) {
-        return Err(ParseErr::BadSql);
-    }
-    Ok(Listing::of(Vec::from_slice(alloc, text)?))
-}
 
 /// The node that the first piece of a script makes.
 fn node_command(alloc: Global, piece: &[u8]) -> Result<Name, ScriptErr>
@@ -65,13 +25,13 @@ fn node_command(alloc: Global, piece: &[u8]) -> Result<Name, ScriptErr>
     }
 }
 
-/// The text of a command that stands on this line and those after it.
-fn at_command(alloc: Global, node: &Name, line: usize, piece: &[u8]) -> Result<Bytes, ScriptErr>
+/// The command that stands on this line and those after it.
+fn command_on(alloc: Global, node: &Name, line: usize, piece: &[u8]) -> Result<Command, ScriptErr>
     requires { line + length piece.now < 2 ^ 32 }
-    ensures { GivesOn line piece.now result (at_of node.now piece.now) }
+    ensures { GivesOn line piece.now result (command_of node.now piece.now) }
 {
-    match at_text(alloc, node, piece) {
-        Ok(text) => Ok(text),
+    match command(alloc, node, piece) {
+        Ok(command) => Ok(command),
         Err(ParseErr::NoMemory) => Err(ScriptErr::NoMemory),
         Err(ParseErr::BadSql) => Err(bad(line, piece)),
     }
@@ -98,7 +58,7 @@ fn ended(line: usize, rest: &[u8]) -> Result<(), ScriptErr>
 }
 
 /// The commands behind the first, from this line on.
-fn at_commands(
+fn commands_behind(
     alloc: Global,
     node: &Name,
     first_line: usize,
@@ -112,12 +72,7 @@ fn at_commands(
     let mut rest = text;
     let mut line = first_line;
     while let Some((piece, behind)) = cut(rest) {
-        let text = at_command(alloc, node, line, piece)?;
-        commands.push(Command::At {
-            node: NODE,
-            session: SESSION,
-            text,
-        })?;
+        commands.push(command_on(alloc, node, line, piece)?)?;
         line += line_ends(piece);
         rest = behind;
     }
@@ -136,7 +91,7 @@ fn read_commands(alloc: Global, text: &[u8]) -> Result<Vec<Command>, ScriptErr>
         return Ok(Vec::new(alloc));
     };
     let name = node_command(alloc, piece)?;
-    let mut others = at_commands(alloc, &name, 1 + line_ends(piece), rest)?;
+    let mut others = commands_behind(alloc, &name, 1 + line_ends(piece), rest)?;
     let mut commands = vec![in alloc; Command::Node { name }]?;
     commands.append(&mut others)?;
     Ok(commands)

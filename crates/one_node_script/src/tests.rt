@@ -25,6 +25,20 @@ fn names_the_line_of_a_bad_command(rt: HostRuntime) -> Result<(), Fail> {
         ("NODE A; AT a SESSION 1: COMMIT;\n", 0),
         ("NODE A; AT A SESSION 001 :;", 0),
         ("NODE A-- the only node;\n; AT A SESSION 1: --\n;", 0),
+        ("NODE A; STOP A; START A; SHOW BOOK; SHOW DISK A;", 0),
+        ("NODE a.b; stop A.B;\tStart\r\na.b ; -- now\nshow  book;", 0),
+        ("NODE A;\nSTOP;", 2),
+        ("NODE A;\nSTOP A B;", 2),
+        ("NODE A;\nSTOP B;", 2),
+        ("NODE A;\nSTOP A: COMMIT;", 2),
+        ("NODE A;\nSTOP A;\nSTART A 1;", 3),
+        ("NODE A;\nSTOPA;", 2),
+        ("NODE A;\nSHOW;", 2),
+        ("NODE A;\nSHOW BOOK A;", 2),
+        ("NODE A;\nSHOW DISK;", 2),
+        ("NODE A;\nSHOW DISK B;", 2),
+        ("NODE A;\nSHOW A;", 2),
+        ("SHOW BOOK;", 1),
         ("NODE A;\nFROB;", 2),
         ("FROB;\nFROB;", 1),
         ("\n\nFROB;", 3),
@@ -69,5 +83,23 @@ fn reads_the_node_and_each_text(rt: HostRuntime) -> Result<(), Fail> {
     assert_eq!(rt; name.as_bytes(), b"SALES.EXAMPLE".as_slice());
     assert_eq!(rt; (*node, *session), (1, 1));
     assert_eq!(rt; text.as_slice(), b" a:b \n c".as_slice());
+    Ok(())
+}
+
+#[test]
+fn reads_each_form_without_a_text(rt: HostRuntime) -> Result<(), Fail> {
+    let script = b"NODE a; stop A; Start\tA;\nSHOW -- all of it\nBOOK; show disk a;";
+    let commands = read_script(rt.alloc(), script)?;
+    let [
+        Command::Node { name: _ },
+        Command::Stop { node: stopped },
+        Command::Start { node: started },
+        Command::ShowBook,
+        Command::ShowDisk { node: shown },
+    ] = commands.as_slice()
+    else {
+        return Err(Fail::new("not a node and the four others"));
+    };
+    assert_eq!(rt; (*stopped, *started, *shown), (1, 1, 1));
     Ok(())
 }

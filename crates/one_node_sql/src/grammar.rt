@@ -5,6 +5,7 @@ ghost use Rattle.std.specs.Char.{is_ascii_digit};
 ghost use Rattle.std.specs.Str.Parse.{digits_value};
 ghost use Rattle.dtx_values.specs.Name.{name_of};
 ghost use Rattle.one_node_sql.specs.Reading.{Gives};
+ghost use Rattle.one_node_sql.specs.Shape.{is_number};
 ghost use Rattle.one_node_sql.specs.Grammar.{word_at, keyword_at, sign_at, identifier_at, name_at, is_natural, natural_at, negative_at, positive_at, number_at, end_at};
 
 use crate::error::ParseErr;
@@ -127,7 +128,8 @@ pub fn natural(tokens: &[Token], limit: u64) -> Result<(u64, &[Token]), ParseErr
 /// A minus and a number behind it.
 #[tactic(auto, unfolding(crate::specs::Grammar::negative_at))]
 fn negative(tokens: &[Token]) -> Result<(Value, &[Token]), ParseErr>
-    ensures { Gives (λ x. (x.0, x.1.now)) result (negative_at tokens.now) }
+    ensures read { Gives (λ x. (x.0, x.1.now)) result (negative_at tokens.now) }
+    ensures number { IfOk result (λ x. is_number x.0 ≡ true) }
 {
     let rest = sign(tokens, b'-')?;
     let (size, rest) = natural(rest, 1 << 63)?;
@@ -137,7 +139,8 @@ fn negative(tokens: &[Token]) -> Result<(Value, &[Token]), ParseErr>
 /// A number without a sign.
 #[tactic(auto, unfolding(crate::specs::Grammar::positive_at))]
 fn positive(tokens: &[Token]) -> Result<(Value, &[Token]), ParseErr>
-    ensures { Gives (λ x. (x.0, x.1.now)) result (positive_at tokens.now) }
+    ensures read { Gives (λ x. (x.0, x.1.now)) result (positive_at tokens.now) }
+    ensures number { IfOk result (λ x. is_number x.0 ≡ true) }
 {
     let (size, rest) = natural(tokens, (1 << 63) - 1)?;
     Ok((Value::Number(size as i64), rest))
@@ -145,7 +148,8 @@ fn positive(tokens: &[Token]) -> Result<(Value, &[Token]), ParseErr>
 
 /// A number with or without a minus, in the range of `i64`.
 pub fn number(tokens: &[Token]) -> Result<(Value, &[Token]), ParseErr>
-    ensures { Gives (λ x. (x.0, x.1.now)) result (number_at tokens.now) }
+    ensures read { Gives (λ x. (x.0, x.1.now)) result (number_at tokens.now) }
+    ensures number { IfOk result (λ x. is_number x.0 ≡ true) }
 {
     match negative(tokens) {
         Err(ParseErr::BadSql) => positive(tokens),

@@ -1,6 +1,7 @@
 //! Statements, and how they are read.
 ghost use Rattle.std.specs.Prelude.{◌≡◌, IfOk};
 ghost use Rattle.one_node_sql.specs.Reading.{Gives};
+ghost use Rattle.one_node_sql.specs.Shape.{HasShape};
 ghost use Rattle.one_node_sql.specs.Statements.{create_at, insert_at, select_at, commit_at, statement_of, number_column as column_of, two_columns as columns_of};
 
 use crate::error::ParseErr;
@@ -31,7 +32,8 @@ pub enum Stmt {
 /// `CREATE TABLE table (key NUMBER PRIMARY KEY, other NUMBER)`
 #[tactic(auto, unfolding(crate::specs::Statements::create_at))]
 fn create(alloc: Global, tokens: &[Token]) -> Result<Stmt, ParseErr>
-    ensures { Gives (λ x. x) result (create_at tokens.now) }
+    ensures read { Gives (λ x. x) result (create_at tokens.now) }
+    ensures shaped { IfOk result HasShape }
 {
     let rest = keyword(tokens, b"CREATE")?;
     let rest = keyword(rest, b"TABLE")?;
@@ -77,7 +79,8 @@ fn two_columns(alloc: Global, name: Name, key: Name, other: Name) -> Result<Tabl
 /// `INSERT INTO table VALUES (key, value)`
 #[tactic(auto, unfolding(crate::specs::Statements::insert_at))]
 fn insert(alloc: Global, tokens: &[Token]) -> Result<Stmt, ParseErr>
-    ensures { Gives (λ x. x) result (insert_at tokens.now) }
+    ensures read { Gives (λ x. x) result (insert_at tokens.now) }
+    ensures shaped { IfOk result HasShape }
 {
     let rest = keyword(tokens, b"INSERT")?;
     let rest = keyword(rest, b"INTO")?;
@@ -95,7 +98,8 @@ fn insert(alloc: Global, tokens: &[Token]) -> Result<Stmt, ParseErr>
 /// `SELECT * FROM table WHERE column = key`
 #[tactic(auto, unfolding(crate::specs::Statements::select_at))]
 fn select(alloc: Global, tokens: &[Token]) -> Result<Stmt, ParseErr>
-    ensures { Gives (λ x. x) result (select_at tokens.now) }
+    ensures read { Gives (λ x. x) result (select_at tokens.now) }
+    ensures shaped { IfOk result HasShape }
 {
     let rest = keyword(tokens, b"SELECT")?;
     let rest = sign(rest, b'*')?;
@@ -112,7 +116,8 @@ fn select(alloc: Global, tokens: &[Token]) -> Result<Stmt, ParseErr>
 /// `COMMIT`
 #[tactic(auto, unfolding(crate::specs::Statements::commit_at))]
 fn commit(tokens: &[Token]) -> Result<Stmt, ParseErr>
-    ensures { Gives (λ x. x) result (commit_at tokens.now) }
+    ensures read { Gives (λ x. x) result (commit_at tokens.now) }
+    ensures shaped { IfOk result HasShape }
 {
     let rest = keyword(tokens, b"COMMIT")?;
     end(rest)?;
@@ -121,7 +126,8 @@ fn commit(tokens: &[Token]) -> Result<Stmt, ParseErr>
 
 /// The statement that a text is: `BadSql` where it is none.
 pub fn parse(alloc: Global, text: &[u8]) -> Result<Stmt, ParseErr>
-    ensures { Gives (λ statement. statement) result (statement_of text.now) }
+    ensures read { Gives (λ statement. statement) result (statement_of text.now) }
+    ensures shaped { IfOk result HasShape }
 {
     let tokens = tokens(alloc, text)?;
     match create(alloc, &tokens) {

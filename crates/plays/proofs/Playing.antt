@@ -1,6 +1,8 @@
 -- What a play unfolds to compute what is printed.
 use Rattle.std.specs.Prelude.{⊤}
 use Rattle.tran_ids.specs.Numbers.{decimal, hex8}
+use Rattle.redo_codec.specs.Kept.{kept_after}
+use Rattle.redo_codec.specs.Durable.{durable_after}
 use Rattle.node_rules.specs.Meaning.{checked, examined, written, meant_over}
 use Rattle.node_rules.specs.Records.{applied, stored_by}
 use Rattle.node_rules.specs.Tree.{weight, step}
@@ -13,7 +15,6 @@ use Rattle.node_rules.specs.Turn.{turn_of, start_of, stand_of}
 use Rattle.node_rules.specs.Points.{passes, point_of}
 use Rattle.node_rules.specs.Views.{pending_rows, neighbor_rows}
 use Rattle.run_laws.specs.Net.{sent_on, delivered, lost, cut_over, joined, stopped, started}
-use Rattle.run_laws.specs.Shown.{book_lines}
 use Rattle.run_laws.specs.Disks.{struck, after_append}
 use Rattle.run_laws.specs.Cuts.{cut_by}
 use Rattle.run_laws.specs.Next.{next}
@@ -21,5 +22,5 @@ use Rattle.run_laws.specs.Due.{due_of, runs_on}
 use Rattle.run_laws.specs.Report.{report}
 
 unfoldable pub playing : ⊤
-unfolding decimal hex8 checked examined written meant_over applied stored_by weight step ran way_of admit reply_of beyond next_on_decision next_on_ack next_on_forgotten recovery branch_to_force purge turn_of start_of stand_of passes point_of pending_rows neighbor_rows sent_on delivered lost cut_over joined stopped started book_lines struck after_append cut_by next due_of runs_on report
+unfolding decimal hex8 kept_after durable_after checked examined written meant_over applied stored_by weight step ran way_of admit reply_of beyond next_on_decision next_on_ack next_on_forgotten recovery branch_to_force purge turn_of start_of stand_of passes point_of pending_rows neighbor_rows sent_on delivered lost cut_over joined stopped started struck after_append cut_by next due_of runs_on report
 playing = tt

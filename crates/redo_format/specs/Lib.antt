@@ -6,3 +6,4 @@ pub mod Decision
 pub mod Table
 pub mod Sealed
 pub mod Record
+pub mod Fits

@@ -1,9 +1,10 @@
 -- What an append makes of a settled log, at each moment and at its end.
 use Rattle.std.proofs.Common.{◌≡◌, ℕ, ◌+◌, ◌<◌, ◌^◌, List, [], ◌∷◌, ◌++◌, length, drop, Some, sym, ◌∙◌, ap, subst, arith, inl}
 use Rattle.block_disk.specs.Images.{IsOnly, AddsNone, GoesOn, AtEachMoment}
-use Rattle.redo_log.specs.Cells.{bodies, held}
+use Rattle.redo_log.specs.Cells.{bodies, held, GrowsBy}
 use Rattle.redo_log.specs.Log.{IsSettled, HoldsWithOrWithout, staged, with_gate, MayBeStored}
 use Rattle.redo_log.specs.declared.log.Log.{Log}
+use Rattle.redo_log.proofs.Logs.{grows}
 use Rattle.redo_log.proofs.Moments.{started, goes_on, followed_by}
 use Rattle.redo_log.proofs.Settled.{settled, log_holds, is_log, is_open, length-open, opened_holds, with_or_without, fits_push}
 
@@ -39,6 +40,9 @@ module _ {D : Type 0} (content : D → List ℕ) (images : D → List ℕ → Ty
 
     pub stored : bodies after ≡ Some (list ++ body ∷ [])
     stored = ap bodies is_after ∙ opened_holds log.end list (content log.disk) is.cells body fits
+
+    pub exact : GrowsBy body (content log.disk) after
+    exact prior fit was = is_after ∙ grows log.end (content log.disk) is.cells body fits prior fit was
 
     pub settled_again : (new : Log D) → content new.disk ≡ after → new.end ≡ log.end + (length body + 5) → IsOnly (content new.disk) (images new.disk) → IsSettled content images new
     settled_again new now ends only =

@@ -12,6 +12,10 @@ cell_of body = 1 ∷ to_be_bytes w32 (length body) ++ body
 abbrev pub cells_of : List (List ℕ) → List ℕ
 cells_of bodies = flat_map cell_of bodies
 
+-- the log of these bodies and nothing behind it: their cells, and then one closed gate
+abbrev pub log_of : List (List ℕ) → List ℕ
+log_of list = cells_of list ++ 0 ∷ []
+
 -- the length that stands behind a gate
 unfoldable pub stated_length : List ℕ → ℕ
 stated_length behind = from_be_bytes w32 (take 4 behind)
@@ -56,6 +60,18 @@ IsClosed (gate ∷ behind) = gate ≢ 1
 -- each body's length fits four bytes
 abbrev pub AllFit : List (List ℕ) → Type 0
 AllFit list = AllByRecursion (λ body. length body < 2 ^ 32) list
+
+-- bytes that were the log of some bodies, and nothing behind it, are now that of the same bodies and this one
+abbrev pub GrowsBy : List ℕ → List ℕ → List ℕ → Type 0
+GrowsBy body before now = (list : List (List ℕ)) → AllFit list → before ≡ log_of list → now ≡ log_of (list ++ body ∷ [])
+
+-- the log of any bodies holds these bodies
+abbrev pub LogsAreRead : Type 0
+LogsAreRead = (list : List (List ℕ)) → AllFit list → bodies (log_of list) ≡ Some list
+
+-- bodies that fit and one more that fits all fit
+abbrev pub FitsOneMore : Type 0
+FitsOneMore = (list : List (List ℕ)) (body : List ℕ) → AllFit list → length body < 2 ^ 32 → AllFit (list ++ body ∷ [])
 
 -- These bytes are the cells of these bodies, then a closed gate at the end that is told, then anything.
 pub record IsLogTo (end : ℕ) (list : List (List ℕ)) (bytes : List ℕ) : Type 0 where

@@ -8,6 +8,7 @@
 mod bodies;
 mod err;
 mod gate;
+mod laws;
 mod load;
 mod log;
 mod make;
@@ -16,5 +17,6 @@ mod plain;
 pub use block_disk::Failed;
 pub use bodies::Bodies;
 pub use err::{LoadErr, LoadWhy, LogErr, MakeErr, MakeWhy};
+pub use laws::{fits_one_more, logs_are_read};
 pub use log::Log;
 pub use plain::{cell, count};

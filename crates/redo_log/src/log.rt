@@ -4,7 +4,7 @@ ghost use Rattle.dtx_ports.specs.Causes.{Rose, HasCause};
 ghost use Rattle.block_disk.specs.Images.{AtEachMoment, IsOnly};
 ghost use Rattle.redo_log.specs.declared.err.MakeWhy.{MakeWhy};
 ghost use Rattle.redo_log.specs.declared.err.LoadWhy.{LoadWhy};
-ghost use Rattle.redo_log.specs.Cells.{bodies, held};
+ghost use Rattle.redo_log.specs.Cells.{bodies, held, log_of, GrowsBy};
 ghost use Rattle.redo_log.specs.Loads.{IsLoadCount};
 ghost use Rattle.redo_log.specs.Log.{disk_of, IsBroken, IsIntact, IsSettled, IsUsable, MayBeBegun, calls_to_load, HoldsWithOrWithout, count_after, OnRefused, staged, with_gate, MayBeStored};
 
@@ -36,6 +36,7 @@ impl<D: Disk> Log<D> {
         requires { D.content disk ≡ [] }
 
         ensures made { IfOk result (λ log. bodies (D.content (disk_of log)) ≡ Some []) }
+        ensures exact { IfOk result (λ log. D.content (disk_of log) ≡ log_of []) }
         ensures settled { IfOk result (λ log. IsSettled D.content D.images log) }
         ensures intact { IfOk result (λ log. IsIntact log) }
 
@@ -111,6 +112,7 @@ impl<D: Disk> Log<D> {
         requires some { 0 < length body.now }
 
         ensures stored { OnOk result (bodies (D.content (disk_of self.new)) ≡ Some (held (D.content (disk_of self.old)) ++ body.now ∷ [])) }
+        ensures exact { OnOk result (GrowsBy body.now (D.content (disk_of self.old)) (D.content (disk_of self.new))) }
         ensures durable { OnOk result (IsOnly (D.content (disk_of self.new)) (D.images (disk_of self.new))) }
 
         // A crash at any moment of the call leaves the bodies from before it, with the new one or without.
@@ -124,6 +126,7 @@ impl<D: Disk> Log<D> {
         ensures stays_broken { IsBroken self.old → IsErrOf result LogErr.Fault }
         ensures untouched { IsBroken self.old → disk_of self.new ≡ disk_of self.old }
 
+        ensures fits { OnOk result (length body.now ≤ 16_777_216) }
         ensures too_long { IsErrOf result LogErr.TooLong ↔ (IsIntact self.old × (16_777_216 < length body.now)) }
         ensures refused { OnRefused result (D.content (disk_of self.new) ≡ D.content (disk_of self.old)) }
 

@@ -1,41 +1,14 @@
 -- What SHOW prints: the views, the book, and the messages in flight.
-use Rattle.std.specs.Prelude.{ℕ, ◌+◌, ◌-◌, if◌then◌else◌, List, [], ◌∷◌, ◌++◌, map, length, slice_get, codes, Option, Some}
-use Rattle.run_laws.specs.Data.{BranchId, Decision, Place, Entry, Packet, KindName, Command}
-use Rattle.run_laws.specs.Data.decisions
-use Rattle.run_laws.specs.Data.entries
+pub use Rattle.book.specs.Texts.{book_lines, shown_book, book_text}
+use Rattle.std.specs.Prelude.{ℕ, ◌+◌, ◌-◌, if◌then◌else◌, List, [], ◌∷◌, ◌++◌, map, slice_get, codes, Option, Some}
+use Rattle.run_laws.specs.Data.{Place, Entry, Packet, KindName, Command}
 use Rattle.run_laws.specs.Data.kind_names
 use Rattle.run_laws.specs.Data.commands
 use Rattle.node_rules.specs.Words.{one}
-use Rattle.node_rules.specs.Ids.{decimal, local_text, global_text, name_of}
+use Rattle.node_rules.specs.Ids.{decimal, name_of}
 use Rattle.node_rules.specs.Kept.{Kept}
 use Rattle.node_rules.specs.Views.{view_lines, pending_text, pending_rows, neighbor_text, neighbor_rows}
 use Rattle.run_laws.specs.Net.{Net, flies, name_of_kind}
-
--- an outcome in the book
-abbrev pub decision_text : Decision → List ℕ
-decision_text (decisions.Commit n) = codes " commit scn " ++ decimal n
-decision_text decisions.Rollback = codes " rollback"
-
--- a branch in the book, by its node's name and its local id
-abbrev pub branch_text : List (List ℕ) → BranchId → List ℕ
-branch_text names b = name_of names b.node ++ codes " " ++ local_text b
-
--- a sealed or decided branch in the book
-abbrev pub changes_text : List (List ℕ) → BranchId → BranchId → ℕ → ℕ → List ℕ
-changes_text names b g scn n = branch_text names b ++ codes " " ++ global_text names g ++ codes " scn " ++ decimal scn ++ codes " changes " ++ decimal n
-
--- an entry of the book
-abbrev pub entry_text : List (List ℕ) → Entry → List ℕ
-entry_text names (entries.Made n t) = codes "made " ++ name_of names n ++ codes " " ++ t.name
-entry_text names (entries.Sealed b g cs scn) = codes "sealed " ++ changes_text names b g scn (length cs)
-entry_text names (entries.Decided b g cs scn) = codes "decided " ++ changes_text names b g scn (length cs)
-entry_text names (entries.Ended b d) = codes "ended " ++ branch_text names b ++ decision_text d
-entry_text names (entries.Forced b d) = codes "forced " ++ branch_text names b ++ decision_text d
-entry_text names (entries.Met b d mixed) = codes "met " ++ branch_text names b ++ decision_text d ++ (if mixed then codes " mixed yes" else codes " mixed no")
-
--- the book, a line for each entry
-unfoldable pub book_lines : List (List ℕ) → List Entry → List (List ℕ)
-book_lines names es = map (entry_text names) es
 
 -- a line that says so, where there is none
 abbrev pub or_none : List ℕ → List (List ℕ) → List (List ℕ)
@@ -90,6 +63,6 @@ flying_lines names k (x ∷ xs) = if flies x then packet_text names k x ∷ flyi
 abbrev pub shown : List Place → List (Option Kept) → Net → List Entry → Command → List (List ℕ)
 shown places nodes net book (commands.ShowPending n) = shown_pending (names_in places) (slice_get nodes (n - 1))
 shown places nodes net book (commands.ShowNeighbors n) = shown_neighbors (names_in places) (slice_get nodes (n - 1))
-shown places nodes net book commands.ShowBook = or_none (codes "no entries") (book_lines (names_in places) book)
+shown places nodes net book commands.ShowBook = shown_book (names_in places) book
 shown places nodes net book commands.ShowNet = or_none (codes "no messages in flight") (flying_lines (names_in places) 1 net.packets)
 shown places nodes net book _ = []

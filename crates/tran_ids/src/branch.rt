@@ -1,5 +1,6 @@
 //! Branches of transactions.
 ghost use Rattle.std.specs.Prelude.{◌≡◌};
+ghost use Rattle.tran_ids.specs.Branch.{same, branch_below};
 
 use dtx_values::Duplicate;
 use std::alloc::{AllocError, Global};
@@ -15,6 +16,32 @@ pub struct BranchId {
     pub session: u32,
     /// The transaction's number within its session and boot, from 1.
     pub seq: u32,
+}
+
+impl BranchId {
+    /// Whether two ids are the same.
+    pub fn is(&self, other: &BranchId) -> bool
+        ensures { result ≡ same self.now other.now }
+    {
+        self.node == other.node
+            && self.boot == other.boot
+            && self.session == other.session
+            && self.seq == other.seq
+    }
+
+    /// Whether this branch comes before the other in the order of boot, session and number. Branches of one node are
+    /// kept in this order.
+    pub fn is_before(&self, other: &BranchId) -> bool
+        ensures { result ≡ branch_below self.now other.now }
+    {
+        if self.boot != other.boot {
+            self.boot < other.boot
+        } else if self.session != other.session {
+            self.session < other.session
+        } else {
+            self.seq < other.seq
+        }
+    }
 }
 
 impl Duplicate for BranchId {

@@ -1,7 +1,7 @@
 -- What is proved of the disk's content holds of the log's bodies, since the log was settled.
 use Rattle.std.proofs.Common.{◌≡◌, refl, ◌∙◌, arith}
 use Rattle.redo_log.specs.Log.{staged}
-use Rattle.redo_log.proofs.Appended.{at_start, with_room, while_stored, stored, settled_again}
+use Rattle.redo_log.proofs.Appended.{at_start, with_room, while_stored, stored, exact, settled_again}
 use Rattle.redo_log.proofs.log.Log.append.Goals as goal
 
 pub returns-then-body-gt-MAX_BODY-clause-any_moment : goal.returns-then-body-gt-MAX_BODY-clause-any_moment
@@ -66,3 +66,11 @@ returns-in-Ok-clause-usable g c =
     let is_staged : c.deref.result.now ≡ staged body = c.deref.ensures.value ∙ c.in_ok-behind.ensures in
     λ intact. settled_again d.content d.images log (c.requires.usable intact) body (d.content c.room.new.self) c.deref.result.now (d.content c.store.new.disk) c.room.ensures.content is_staged (omega arith) c.in-Ok.ensures.stored
     _ refl (omega (arith, c.in-Some.ensures)) c.in-Ok.ensures.durable
+
+pub returns-in-Ok-clause-exact : goal.returns-in-Ok-clause-exact
+returns-in-Ok-clause-exact g c =
+    let d = g.D.Disk in
+    let log = c.args.self.now in
+    let body = c.args.body.now in
+    let is_staged : c.deref.result.now ≡ staged body = c.deref.ensures.value ∙ c.in_ok-behind.ensures in
+    exact d.content d.images log (c.requires.usable c.if-self.false) body (d.content c.room.new.self) c.deref.result.now (d.content c.store.new.disk) c.room.ensures.content is_staged (omega arith) c.in-Ok.ensures.stored

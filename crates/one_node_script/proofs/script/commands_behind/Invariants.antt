@@ -2,7 +2,7 @@ use Rattle.std.proofs.Common.{◌≡◌, ◌+◌, ◌≤◌, length}
 use Rattle.one_node_script.specs.Pieces.{pieces_of}
 use Rattle.one_node_script.specs.Script.{asked_of}
 use Rattle.one_node_script.proofs.PieceLemmas.{then_all}
-use Rattle.one_node_script.proofs.script.at_commands.Given as goal
+use Rattle.one_node_script.proofs.script.commands_behind.Given as goal
 
 -- the commands so far and those of what is left
 abbrev pub invariant-loop-piece : goal.invariant-loop-piece

@@ -1,0 +1,68 @@
+-- A node and its disk.
+use Rattle.std.specs.Prelude.{◌≡◌, ◌⊎◌, ◌+◌, ◌<◌, ◌^◌, ℕ, List, [], ◌∷◌, ◌++◌, Option, None, Some}
+use Rattle.std.specs.List.{AllByRecursion}
+use Rattle.redo_codec.specs.declared.record.RedoRecord.{RedoRecord}
+use Rattle.redo_codec.specs.declared.record.RedoRecord.TheVariants as records
+use Rattle.redo_format.specs.Record.{record_format}
+use Rattle.redo_log.specs.Cells.{bodies}
+use Rattle.redo_log.specs.Log.{disk_of, IsIntact, IsSettled, HoldsWithOrWithout}
+use Rattle.redo_log.specs.declared.log.Log.{Log}
+use Rattle.one_node_rules.specs.Turn.{Kept, start_of}
+use Rattle.one_node_rules.specs.Disk.{bodies_of, IsLogOf}
+use Rattle.node_core.specs.declared.node.Node.{Node}
+use Rattle.node_core.specs.KeptBy.{kept_by}
+
+-- what a node keeps in memory
+abbrev pub kept_of : {D : Type 0} → Node D → Kept
+kept_of node = kept_by node.core
+
+-- its disk
+abbrev pub node_disk : {D : Type 0} → Node D → D
+node_disk node = disk_of node.log
+
+-- records can be appended to the log
+pub record IsWritable {D : Type 0} (content : D → List ℕ) (images : D → List ℕ → Type 0) (log : Log D) : Type 0 where
+  pub intact : IsIntact log
+  pub settled : IsSettled content images log
+
+-- the node can have a turn
+abbrev pub IsRunning : {D : Type 0} → (D → List ℕ) → (D → List ℕ → Type 0) → Node D → Type 0
+IsRunning content images node = IsWritable content images node.log
+
+-- the disk was the log of some records, and is that of the same and this one
+abbrev pub GrowsByRecord : RedoRecord → List ℕ → List ℕ → Type 0
+GrowsByRecord r before now = (rs : List RedoRecord) → IsLogOf rs before → IsLogOf (rs ++ r ∷ []) now
+
+-- and this one, where there is one
+abbrev pub GrowsBy : Option RedoRecord → List ℕ → List ℕ → Type 0
+GrowsBy None before now = now ≡ before
+GrowsBy (Some r) before now = GrowsByRecord r before now
+
+-- how many disk calls a turn makes that writes this
+abbrev pub calls_of : Option RedoRecord → ℕ
+calls_of None = 0
+calls_of (Some r) = 4
+
+-- an image holds the bodies from before, and that of the record or not
+abbrev pub MayStand : List (List ℕ) → Option RedoRecord → List ℕ → Type 0
+MayStand list None image = bodies image ≡ Some list
+MayStand list (Some r) image = HoldsWithOrWithout list (record_format.text r) image
+
+-- the record of the next start
+abbrev pub next_boot : List RedoRecord → RedoRecord
+next_boot rs = records.Boot ((start_of rs).boot + 1)
+
+-- the bodies are those of these records
+pub record HoldRecords (rs : List RedoRecord) (list : List (List ℕ)) : Type 0 where
+  pub fit : AllByRecursion record_format.Fits rs
+  pub bodies : list ≡ bodies_of rs
+
+-- Bytes that a node can start from: the log of its records, of which fewer than 2^32 - 1 are of starts.
+pub record MayStart (rs : List RedoRecord) (bytes : List ℕ) : Type 0 where
+  pub log : IsLogOf rs bytes
+  pub boots : (start_of rs).boot + 1 < 2 ^ 32
+
+-- what a start makes of the records of the disk, which it writes one more to
+abbrev pub StartsFrom : {D : Type 0} → (D → List ℕ) → List ℕ → Node D → Type 0
+StartsFrom content before node = (rs : List RedoRecord) → IsLogOf rs before
+    → (kept_of node ≡ start_of (rs ++ next_boot rs ∷ [])) × IsLogOf (rs ++ next_boot rs ∷ []) (content (node_disk node))

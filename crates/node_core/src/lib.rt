@@ -1,0 +1,18 @@
+//! A node on its disk.
+//!
+//! What a node does is decided in memory by a state machine that knows no disk (`core`); a node puts the record of a turn
+//! on its disk before the turn is over, and a start makes the state again from the records of the disk alone.
+#![tactic(auto)]
+
+mod core;
+mod effects;
+mod err;
+mod finished;
+mod node;
+mod records;
+mod replay;
+
+pub use effects::Effects;
+pub use err::{MakeErr, MakeWhy, TurnErr};
+pub use finished::Finished;
+pub use node::Node;

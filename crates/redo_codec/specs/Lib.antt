@@ -1,0 +1,5 @@
+pub mod Data
+pub mod Lists
+pub mod Rows
+pub mod Kept
+pub mod Durable
