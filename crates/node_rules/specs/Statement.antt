@@ -5,7 +5,7 @@ use Rattle.node_rules.specs.Data.{Value, Change, Table, Stmt, RowSet, Refusal, D
 use Rattle.node_rules.specs.Data.answers
 use Rattle.node_rules.specs.Words.{same, same_text, one, first_some}
 use Rattle.node_rules.specs.Rows.{Keyed, same_value, apply, rows_of_table, change_length, undo_length}
-use Rattle.node_rules.specs.Meaning.{Meant, Gives, Changes, Says_no, checked, examined, written, meant_over}
+use Rattle.node_rules.specs.Meaning.{Meant, Gives, Changes, Refused, checked, examined, written, meant_over}
 use Rattle.node_rules.specs.Refusals.{ora, dtx, else_refuse, refuse_if}
 use Rattle.node_rules.specs.Ids.{decimal, local_text}
 use Rattle.node_rules.specs.Kept.{Kept, Branch, Held, Doubt}
@@ -89,7 +89,7 @@ ran_within None d n cs keys = Writes d n cs keys
 
 -- what the meaning comes to
 abbrev pub ran_meant : Place → Kept → Branch → List Value → Meant → Ran
-ran_meant p k x keys (Says_no r) = Refuses r
+ran_meant p k x keys (Refused r) = Refuses r
 ran_meant p k x keys (Gives rows) = Reads rows keys
 ran_meant p k x keys (Changes d n cs) = ran_within (space_refusal p k x cs) d n cs keys
 

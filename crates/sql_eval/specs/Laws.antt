@@ -1,0 +1,60 @@
+-- A statement that fixes a key depends on what stands at that key alone.
+use Rattle.std.specs.Prelude.{◌≡◌, ◌==◌, ◌&&◌, not, ℕ, Bool, true, false, List, [], ◌∷◌, Some, filter, map, position, count_by, unwrap_or, ⊤}
+use Rattle.std.specs.List.{list_any}
+use Rattle.sql_eval.specs.Data.{Value, Change, Column, Table, Keyed, Stmt, Done}
+use Rattle.sql_eval.specs.Data.meants
+use Rattle.sql_eval.specs.Words.{first_some}
+use Rattle.sql_eval.specs.Rows.{same_value, apply}
+use Rattle.sql_eval.specs.Columns.{is_key, is_named, key_of_row, place_of}
+use Rattle.sql_eval.specs.Meaning.{conds_of, fixes, found, fixed_key, written, sets_key, meant_over}
+
+-- the place of the key column
+abbrev pub key_place : Table → ℕ
+key_place t = unwrap_or (position (λ c. c.key) t.columns) 0
+
+-- a name is that of the key column exactly where it stands at the key's place, as in each table with one key column and
+-- columns of different names (TablesHaveOneKey)
+abbrev pub HasOneKey : Table → Type 0
+HasOneKey t = (name : List ℕ) → (is_key t name ≡ true → place_of t name ≡ Some (key_place t)) × (place_of t name ≡ Some (key_place t) → is_key t name ≡ true)
+
+-- columns of different names
+abbrev pub names_differ : List Column → Bool
+names_differ [] = true
+names_differ (c ∷ cs) = not (list_any (is_named c.name) cs) && names_differ cs
+
+-- one column is the key, and all have different names
+abbrev pub has_one_key : Table → Bool
+has_one_key t = (count_by (λ c. c.key) t.columns == 1) && names_differ t.columns
+
+-- such a table has one key
+abbrev pub TablesHaveOneKey : Type 0
+TablesHaveOneKey = (t : Table) → has_one_key t ≡ true → HasOneKey t
+
+-- each row has its key in the key column
+abbrev pub AreKeyed : Table → List Keyed → Type 0
+AreKeyed t [] = ⊤
+AreKeyed t (r ∷ rs) = (key_of_row t r.row.cells ≡ r.key) × AreKeyed t rs
+
+-- the rows at a key
+abbrev pub at_key : List Keyed → Value → List Keyed
+at_key rows key = filter (λ r. same_value r.key key) rows
+
+-- a WHERE that fixes a key finds only rows at it
+abbrev pub FoundAtKey : Type 0
+FoundAtKey = (s : Stmt) (t : Table) (rows : List Keyed) (key : Value) → HasOneKey t → AreKeyed t rows
+    → first_some (map (fixes t) (conds_of s)) ≡ Some key → found s t rows ≡ found s t (at_key rows key)
+
+-- a statement that fixes a key writes what it would write if there were no other rows
+abbrev pub WrittenAtKey : Type 0
+WrittenAtKey = (s : Stmt) (t : Table) (rows : List Keyed) (key : Value) → HasOneKey t → AreKeyed t rows
+    → fixed_key s t ≡ Some key → written s t rows ≡ written s t (at_key rows key)
+
+-- and means what it would mean
+abbrev pub MeantAtKey : Type 0
+MeantAtKey = (s : Stmt) (t : Table) (rows : List Keyed) (key : Value) → HasOneKey t → AreKeyed t rows
+    → fixed_key s t ≡ Some key → meant_over s t rows ≡ meant_over s t (at_key rows key)
+
+-- what changes of an accepted statement leave has its keys in the key column too
+abbrev pub StaysKeyed : Type 0
+StaysKeyed = (s : Stmt) (t : Table) (rows : List Keyed) (done : Done) (count : ℕ) (changes : List Change) → HasOneKey t → AreKeyed t rows
+    → sets_key s t ≡ false → meant_over s t rows ≡ meants.Changes done count changes → AreKeyed t (apply t.name rows changes)

@@ -1,0 +1,106 @@
+//! The conditions of a statement, and the rows that satisfy them: SQL Language Reference, "Comparison Conditions" and
+//! "Null Conditions".
+ghost use Rattle.std.specs.Prelude.{◌≡◌, [], ◌∷◌, ◌++◌, filter, IfOk, OnOk};
+ghost use Rattle.std.specs.Option.{option_copied};
+ghost use Rattle.sql_eval.specs.Places.{or_null};
+ghost use Rattle.sql_eval.specs.Rows.{is_null as is_null_of};
+ghost use Rattle.sql_eval.specs.Meaning.{compares as compares_of, holds as holds_of, conds_of as conds_in, satisfies as satisfies_of, found as found_of};
+
+use crate::Keyed;
+use crate::column::cell;
+use crate::order::{is_null, same_value, value_below};
+use dtx_values::{Duplicate, Row, Table, Value};
+use sql_parse::{Cond, Sign, Stmt};
+use std::alloc::{AllocError, Global};
+
+// What a sign says of two values, neither of which is NULL.
+fn compares(sign: Sign, value: &Value, other: &Value) -> bool
+    ensures { result ≡ compares_of sign value.now other.now }
+{
+    match sign {
+        Sign::Eq => same_value(value, other),
+        Sign::Ne => !same_value(value, other),
+        Sign::Lt => value_below(value, other),
+        Sign::Le => !value_below(other, value),
+        Sign::Gt => value_below(other, value),
+        Sign::Ge => !value_below(value, other),
+    }
+}
+
+// Whether a cell has NULL, or is not there.
+fn is_no_value(cell: Option<&Value>) -> bool
+    ensures { result ≡ is_null_of (or_null (option_copied cell.entry)) }
+{
+    match cell {
+        None => true,
+        Some(value) => is_null(value),
+    }
+}
+
+// Whether a condition is true of a row. A comparison with NULL is not.
+fn holds(table: &Table, row: &Row, cond: &Cond) -> bool
+    ensures { result ≡ holds_of table.now row.now cond.now }
+{
+    match cond {
+        Cond::Compare {
+            column,
+            sign,
+            literal,
+        } => match cell(table, row, column) {
+            None => false,
+            Some(value) => !is_null(value) && !is_null(literal) && compares(*sign, value, literal),
+        },
+        Cond::IsNull { column, negated } => is_no_value(cell(table, row, column)) != *negated,
+    }
+}
+
+fn satisfies(table: &Table, conds: &[Cond], keyed: &Keyed) -> bool
+    ensures { result ≡ satisfies_of table.now conds.now keyed.now }
+{
+    conds.iter().all(|cond| holds(table, &keyed.row, cond))
+}
+
+/// The conditions of a statement's WHERE.
+pub fn conds_of(statement: &Stmt) -> &[Cond]
+    ensures { result.now ≡ conds_in statement.now }
+{
+    match statement {
+        Stmt::Update { conds, .. } | Stmt::Delete { conds, .. } | Stmt::Select { conds, .. } => {
+            conds.as_slice()
+        }
+        _ => &[],
+    }
+}
+
+// Adds a row where it satisfies the conditions.
+fn add_where(
+    alloc: Global,
+    found: &mut Vec<Keyed>,
+    table: &Table,
+    conds: &[Cond],
+    keyed: &Keyed,
+) -> Result<(), AllocError>
+    ensures { OnOk result (found.new.items ≡ found.old.items ++ filter (satisfies_of table.now conds.now) (keyed.now ∷ [])) }
+{
+    if satisfies(table, conds, keyed) {
+        found.push(keyed.copy(alloc)?)?;
+    }
+    Ok(())
+}
+
+/// The rows that satisfy the WHERE of a statement, in their order. A comparison with NULL is true of no row.
+pub fn found(
+    alloc: Global,
+    statement: &Stmt,
+    table: &Table,
+    rows: &[Keyed],
+) -> Result<Vec<Keyed>, AllocError>
+    ensures { IfOk result (λ found. found.items ≡ found_of statement.now table.now rows.now) }
+{
+    let conds = conds_of(statement);
+    let mut found = Vec::new(alloc);
+    for keyed in rows {
+        add_where(alloc, &mut found, table, conds, keyed)?;
+    }
+    Ok(found)
+}

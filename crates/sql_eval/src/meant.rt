@@ -1,0 +1,18 @@
+//! What a statement says of a table.
+
+use dtx_values::{Changes, Done, Refusal, RowSet};
+
+/// What a statement says of a table, once it has passed the checks that need no row.
+#[derive(Debug, Drop)]
+pub enum Meant {
+    /// A query finds rows.
+    Gives(RowSet),
+    /// So many rows are changed, by these changes.
+    Changes {
+        done: Done,
+        count: usize,
+        changes: Changes,
+    },
+    /// It is refused.
+    Refused(Refusal),
+}
