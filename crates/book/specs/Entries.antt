@@ -6,18 +6,18 @@ use Rattle.book.specs.Data.entries
 use Rattle.book.specs.Data.happenings
 
 -- a branch is prepared
-abbrev pub entry_of_sealed : Sealed → Entry
-entry_of_sealed r = entries.Sealed r.me r.root r.changes r.scn
+abbrev pub sealed_entry : Sealed → Entry
+sealed_entry r = entries.Sealed r.me r.root r.changes r.scn
 
 -- a commit is decided
-abbrev pub entry_of_decided : Decided → Entry
-entry_of_decided r = entries.Decided r.me r.root r.changes r.scn
+abbrev pub decided_entry : Decided → Entry
+decided_entry r = entries.Decided r.me r.root r.changes r.scn
 
 -- the entry of a record, where it has one
 abbrev pub entry_of : ℕ → RedoRecord → List Entry
 entry_of n (records.Table t) = entries.Made n t ∷ []
-entry_of n (records.Sealed r) = entry_of_sealed r ∷ []
-entry_of n (records.Decided r) = entry_of_decided r ∷ []
+entry_of n (records.Sealed r) = sealed_entry r ∷ []
+entry_of n (records.Decided r) = decided_entry r ∷ []
 entry_of n (records.Ended me d) = entries.Ended me d ∷ []
 entry_of n (records.Forced me d given) = entries.Forced me d ∷ []
 entry_of n (records.Met me d mixed) = entries.Met me d mixed ∷ []

@@ -1,6 +1,6 @@
 //! The entries of records.
 ghost use Rattle.std.specs.Prelude.{◌≡◌, [], ◌∷◌, IfOk};
-ghost use Rattle.book.specs.Entries.{entry_of_sealed, entry_of_decided, entry_of, entries_of};
+ghost use Rattle.book.specs.Entries.{sealed_entry, decided_entry, entry_of, entries_of};
 ghost use Rattle.book.specs.declared.entry.Entry.TheVariants.{Met};
 
 use crate::Entry;
@@ -19,21 +19,21 @@ pub fn entries(
 {
     match wrote {
         None => Ok(Vec::new(alloc)),
-        Some(record) => entries_of_record(alloc, node, record),
+        Some(item) => entries_of_record(alloc, node, item),
     }
 }
 
 // Of links, synonyms, settings and starts, and of what is forgotten or hidden, the book does not tell.
-fn entries_of_record(alloc: Global, node: u8, record: &RedoRecord) -> Result<Vec<Entry>, AllocError>
-    ensures { IfOk result (λ entries. entries.items ≡ entry_of node record.now) }
+fn entries_of_record(alloc: Global, node: u8, item: &RedoRecord) -> Result<Vec<Entry>, AllocError>
+    ensures { IfOk result (λ entries. entries.items ≡ entry_of node item.now) }
 {
-    match record {
+    match item {
         RedoRecord::Table(table) => {
             let table = table.copy(alloc)?;
             one(alloc, Entry::Made { node, table })
         }
-        RedoRecord::Sealed(record) => one(alloc, sealed(alloc, record)?),
-        RedoRecord::Decided(record) => one(alloc, decided(alloc, record)?),
+        RedoRecord::Sealed(sealed) => one(alloc, entry_of_sealed(alloc, sealed)?),
+        RedoRecord::Decided(decided) => one(alloc, entry_of_decided(alloc, decided)?),
         RedoRecord::Ended { me, decision } => {
             let (branch, outcome) = (*me, *decision);
             one(alloc, Entry::Ended { branch, outcome })
@@ -50,36 +50,36 @@ fn entries_of_record(alloc: Global, node: u8, record: &RedoRecord) -> Result<Vec
             me,
             decision,
             mixed,
-        } => one(alloc, met(*me, *decision, *mixed)),
+        } => one(alloc, entry_of_met(*me, *decision, *mixed)),
         _ => Ok(Vec::new(alloc)),
     }
 }
 
-fn sealed(alloc: Global, record: &Sealed) -> Result<Entry, AllocError>
-    ensures { IfOk result (λ entry. entry ≡ entry_of_sealed record.now) }
+fn entry_of_sealed(alloc: Global, sealed: &Sealed) -> Result<Entry, AllocError>
+    ensures { IfOk result (λ entry. entry ≡ sealed_entry sealed.now) }
 {
-    let changes = record.changes.copy(alloc)?;
+    let changes = sealed.changes.copy(alloc)?;
     Ok(Entry::Sealed {
-        branch: record.me,
-        global: record.root,
+        branch: sealed.me,
+        global: sealed.root,
         changes,
-        scn: record.scn,
+        scn: sealed.scn,
     })
 }
 
-fn decided(alloc: Global, record: &Decided) -> Result<Entry, AllocError>
-    ensures { IfOk result (λ entry. entry ≡ entry_of_decided record.now) }
+fn entry_of_decided(alloc: Global, decided: &Decided) -> Result<Entry, AllocError>
+    ensures { IfOk result (λ entry. entry ≡ decided_entry decided.now) }
 {
-    let changes = record.changes.copy(alloc)?;
+    let changes = decided.changes.copy(alloc)?;
     Ok(Entry::Decided {
-        branch: record.me,
-        global: record.root,
+        branch: decided.me,
+        global: decided.root,
         changes,
-        scn: record.scn,
+        scn: decided.scn,
     })
 }
 
-fn met(branch: BranchId, decision: Decision, mixed: bool) -> Entry
+fn entry_of_met(branch: BranchId, decision: Decision, mixed: bool) -> Entry
     ensures { result ≡ Met branch decision mixed }
 {
     Entry::Met {

@@ -92,22 +92,40 @@ fn names(alloc: Global) -> Result<Vec<Name>, Fail> {
     Ok(names)
 }
 
+fn put_goods(alloc: Global, book: &mut Vec<Entry>) -> Result<(), Fail> {
+    let stock = branch(WAREHOUSE, 1);
+    book.push(made(alloc, SALES, b"ORDERS")?)?;
+    book.push(made(alloc, WAREHOUSE, b"STOCK")?)?;
+    book.push(decided(alloc, stock, stock, 1)?)?;
+    Ok(())
+}
+
+fn put_order(alloc: Global, book: &mut Vec<Entry>) -> Result<(), Fail> {
+    book.push(made(alloc, HQ, b"LEDGER")?)?;
+    book.push(sealed(alloc, branch(HQ, 65), b"LEDGER")?)?;
+    book.push(sealed(alloc, branch_of_order(), b"ORDERS")?)?;
+    Ok(())
+}
+
+fn put_commit(alloc: Global, book: &mut Vec<Entry>) -> Result<(), Fail> {
+    book.push(decided(alloc, branch(WAREHOUSE, 65), branch_of_order(), 2)?)?;
+    book.push(ended(branch_of_order()))?;
+    book.push(ended(branch(HQ, 65)))?;
+    Ok(())
+}
+
+fn order_book(alloc: Global) -> Result<Vec<Entry>, Fail> {
+    let mut book = Vec::new(alloc);
+    put_goods(alloc, &mut book)?;
+    put_order(alloc, &mut book)?;
+    put_commit(alloc, &mut book)?;
+    Ok(book)
+}
+
 #[test]
 fn the_book_of_a_commit_is_printed(rt: HostRuntime) -> Result<(), Fail> {
     let alloc = rt.alloc();
-    let order = branch_of_order();
-    let stock = branch(WAREHOUSE, 1);
-    let book = vec![in alloc;
-        made(alloc, SALES, b"ORDERS")?,
-        made(alloc, WAREHOUSE, b"STOCK")?,
-        decided(alloc, stock, stock, 1)?,
-        made(alloc, HQ, b"LEDGER")?,
-        sealed(alloc, branch(HQ, 65), b"LEDGER")?,
-        sealed(alloc, order, b"ORDERS")?,
-        decided(alloc, branch(WAREHOUSE, 65), order, 2)?,
-        ended(order),
-        ended(branch(HQ, 65)),
-    ]?;
+    let book = order_book(alloc)?;
     let names = names(alloc)?;
     let text = book_text(alloc, &book, &names)?;
     assert_eq!(rt; text.as_slice(), TEXT.as_bytes());

@@ -1,5 +1,5 @@
 -- What each record makes of the rows of kept branches.
-use Rattle.std.specs.Prelude.{ℕ, ◌&&◌, not, Bool, true, false, if◌then◌else◌, List, Option, Some}
+use Rattle.std.specs.Prelude.{ℕ, ◌&&◌, not, Bool, true, false, if◌then◌else◌, List, Some}
 use Rattle.tran_ids.specs.Branch.{same, put_by_branch}
 use Rattle.redo_codec.specs.Data.{BranchId, Decision, RedoRecord, State, Standing}
 use Rattle.redo_codec.specs.Data.decisions
@@ -35,12 +35,12 @@ forced_state (decisions.Commit n) = states.ForcedCommit n
 forced_state decisions.Rollback = states.ForcedRollback
 
 -- a forced branch: its decision stays unknown
-abbrev pub forced_as : Decision → Standing → Standing
-forced_as d x = record x { state = forced_state d }
+abbrev pub in_state : State → Standing → Standing
+in_state state x = record x { state = state }
 
 -- Forced: the branch stays kept, whatever it was forced to
 abbrev pub forced : List Standing → BranchId → Decision → List Standing
-forced ks b d = change_where (stands_at b) (forced_as d) ks
+forced ks b d = change_where (stands_at b) (in_state (forced_state d)) ks
 
 -- a hidden row that is found mixed is shown again
 abbrev pub met_as : Decision → Bool → Standing → Standing

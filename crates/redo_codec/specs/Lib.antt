@@ -2,4 +2,5 @@ pub mod Data
 pub mod Lists
 pub mod Rows
 pub mod Kept
+pub mod News
 pub mod Durable

@@ -1,5 +1,5 @@
 -- The row that a branch has when its first record stands.
-use Rattle.std.specs.Prelude.{Bool, true, false, ◌||◌, List, map, slice_get, is_some, option_map, Option, Some, None}
+use Rattle.std.specs.Prelude.{Bool, false, ◌||◌, map, slice_get, is_some, option_map, Option, Some, None}
 use Rattle.redo_codec.specs.Data.{BranchId, Peer, Toward, Sealed, Decided, Kid, Standing}
 use Rattle.redo_codec.specs.Data.decisions
 use Rattle.redo_codec.specs.Data.towards

@@ -1,9 +1,13 @@
 //! What the records of a node leave: its catalog, and the branches that it keeps rows of.
-ghost use Rattle.std.specs.Prelude.{◌≡◌};
+ghost use Rattle.std.specs.Prelude.{◌≡◌, IfOk, OnOk, OnErr};
+ghost use Rattle.redo_codec.specs.Durable.{no_durable, set_param, with_kept, durable_after, durable};
+ghost use Rattle.redo_codec.specs.Kept.{kept_after};
 
-use crate::decision::Decision;
+use crate::kept::apply_record;
+use crate::{Decision, Param, RedoRecord};
 use dtx_values::{Advice, Bytes, Duplicate, Link, Listing, Name, Synonym, Table};
 use std::alloc::{AllocError, Global};
+use std::mem;
 use tran_ids::BranchId;
 
 /// The state of a kept branch, as its row among the pending transactions shows it.
@@ -113,6 +117,70 @@ pub struct Durable {
     pub kept: Standings,
     /// The commit point strength that was set, where one was.
     pub strength: Option<u8>,
+}
+
+impl Durable {
+    /// What a node has before any record.
+    pub fn new(alloc: Global) -> Durable
+        ensures { result ≡ no_durable }
+    {
+        Durable {
+            boot: 0,
+            recovery: true,
+            tables: Listing::new(alloc),
+            links: Listing::new(alloc),
+            synonyms: Listing::new(alloc),
+            kept: Listing::new(alloc),
+            strength: None,
+        }
+    }
+
+    /// What the records of a node leave, oldest first.
+    pub fn of(alloc: Global, records: &[RedoRecord]) -> Result<Durable, AllocError>
+        ensures { IfOk result (λ left. left ≡ durable records.now) }
+    {
+        let mut left = Durable::new(alloc);
+        for item in records {
+            left.apply(alloc, item)?;
+        }
+        Ok(left)
+    }
+
+    /// Takes one more record of the node in. Where memory runs out, nothing changes.
+    #[tactic(auto, unfolding(crate::specs::Durable::durable_after))]
+    pub fn apply(&mut self, alloc: Global, item: &RedoRecord) -> Result<(), AllocError>
+        ensures ok { OnOk result (self.new ≡ durable_after self.old item.now) }
+        ensures err { OnErr result (self.new ≡ self.old) }
+    {
+        match item {
+            RedoRecord::Boot(boot) => self.boot = *boot,
+            RedoRecord::Table(table) => self.tables.push(table.copy(alloc)?)?,
+            RedoRecord::Link(link) => self.links.push(link.copy(alloc)?)?,
+            RedoRecord::Synonym(synonym) => self.synonyms.push(synonym.copy(alloc)?)?,
+            RedoRecord::Param(param) => self.set(*param),
+            _ => self.apply_to_kept(alloc, item)?,
+        }
+        Ok(())
+    }
+
+    fn set(&mut self, param: Param)
+        ensures { self.new ≡ set_param self.old param }
+    {
+        match param {
+            Param::Recovery(on) => self.recovery = on,
+            Param::Strength(strength) => self.strength = Some(strength),
+        }
+    }
+
+    fn apply_to_kept(&mut self, alloc: Global, item: &RedoRecord) -> Result<(), AllocError>
+        ensures ok { OnOk result (self.new ≡ with_kept self.old (kept_after self.old.kept item.now)) }
+        ensures err { OnErr result (self.new ≡ self.old) }
+    {
+        let mut kept = mem::replace(&mut self.kept, Listing::new(alloc)).into_vec();
+        let done = apply_record(&mut kept, alloc, item);
+        self.kept = Listing::of(kept);
+        done
+    }
 }
 
 impl Duplicate for Durable {
