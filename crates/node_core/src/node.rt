@@ -228,6 +228,13 @@ impl<D: Disk> Node<D> {
         })
     }
 
+    /// Which start of the node this is, from 1.
+    pub fn boot(&self) -> u32
+        ensures { result ≡ (kept_of self.now).boot }
+    {
+        self.core.boot
+    }
+
     /// The disk.
     pub fn disk(&self) -> &D
         ensures { result.now ≡ node_disk self.now }

@@ -112,24 +112,24 @@ due_one : (lines : List AnswerLine) (number : ℕ) (due : Due) → due_lines due
 due_one lines number due one each =
     record { each = subst (AnswersEach 1) (sym (append-nil lines)) each; counted = omega (arith, one, length-append lines []) }
 
-at_once : (lines : List AnswerLine) (number : ℕ) (up : Bool) (name : List ℕ) (rs : List RedoRecord) (book : List Entry) (command : Command) → AnswersEach 1 lines → number ≡ length lines + 1
-    → AtOnce lines number (due_by up command) (said_at_once up name rs book command)
-at_once lines number up name rs book (commands.Node made) each is = said_one lines number _ each is
-at_once lines number true name rs book (commands.At at session text) each is = due_one lines number _ refl each
-at_once lines number false name rs book (commands.At at session text) each is = said_one lines number _ each is
-at_once lines number true name rs book (commands.Stop at) each is = due_one lines number _ refl each
-at_once lines number false name rs book (commands.Stop at) each is = said_one lines number _ each is
-at_once lines number true name rs book (commands.Start at) each is = said_one lines number _ each is
-at_once lines number false name rs book (commands.Start at) each is = due_one lines number _ refl each
-at_once lines number up name rs book commands.ShowBook each is = said_one lines number _ each is
-at_once lines number up name rs book (commands.ShowDisk at) each is = said_one lines number _ each is
+at_once : (lines : List AnswerLine) (number : ℕ) (up : Bool) (names : List (List ℕ)) (rs : List RedoRecord) (book : List Entry) (command : Command) → AnswersEach 1 lines → number ≡ length lines + 1
+    → AtOnce lines number (due_by up command) (said_at_once up names rs book command)
+at_once lines number up names rs book (commands.Node made) each is = said_one lines number _ each is
+at_once lines number true names rs book (commands.At at session text) each is = due_one lines number _ refl each
+at_once lines number false names rs book (commands.At at session text) each is = said_one lines number _ each is
+at_once lines number true names rs book (commands.Stop at) each is = due_one lines number _ refl each
+at_once lines number false names rs book (commands.Stop at) each is = said_one lines number _ each is
+at_once lines number true names rs book (commands.Start at) each is = said_one lines number _ each is
+at_once lines number false names rs book (commands.Start at) each is = due_one lines number _ refl each
+at_once lines number up names rs book commands.ShowBook each is = said_one lines number _ each is
+at_once lines number up names rs book (commands.ShowDisk at) each is = said_one lines number _ each is
 
 begins_counted : (total : ℕ) (p : Past) (number : ℕ) (left : List Command) → p.left ≡ left → Counts total p → MayBegin p number → Counts total (begun p number left)
 begins_counted total p number [] is counts may = record { each = counts.each; begun = counts.begun; all = counts.all }
 begins_counted total p number (command ∷ left) is counts may =
     let none : due_lines p.due ≡ 0 = ap due_lines may.is_idle in
     let count : length p.left ≡ length left + 1 = ap length is ∙ omega arith in
-    let here = at_once p.lines number (is_some p.node) p.name p.records p.book command counts.each (omega (arith, counts.begun, may.in_order, none)) in
+    let here = at_once p.lines number (is_some p.node) p.names p.records p.book command counts.each (omega (arith, counts.begun, may.in_order, none)) in
     record { each = here.each; begun = omega (arith, here.counted, counts.begun, may.in_order, none); all = omega (arith, counts.all, may.in_order, count) }
 
 -- the command that runs gets its line

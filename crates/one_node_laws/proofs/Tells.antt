@@ -19,7 +19,7 @@ use Rattle.one_node_book.specs.declared.happening.Happening.TheVariants.{Begun, 
 use Rattle.one_node_book.specs.Book.{scn_of}
 use Rattle.one_node_rules.specs.Meaning.{is_understood, keep_if}
 use Rattle.one_node_rules.specs.Turn.{Kept, own_of, turn_of, start_of}
-use Rattle.one_node_laws.specs.Past.{Past, line, lines_of, said_at_once, name_by, begun, turned, turned_at, stopped, started, next, past, fine}
+use Rattle.one_node_laws.specs.Past.{Past, line, lines_of, said_at_once, names_by, begun, turned, turned_at, stopped, started, next, past, fine}
 use Rattle.one_node_laws.specs.Lawful.{MayBegin, MayTurn, MayStop, MayStart, MayHappen, IsLawful}
 use Rattle.one_node_laws.specs.Standing.{Standing, view_of, table_in, statement_in, answer_in, record_in, served, after, standing_after}
 use Rattle.one_node_laws.specs.Told.{lines_from, WritesOwed}
@@ -145,14 +145,14 @@ stands_begun p s number [] stands = stands
 stands_begun p s number (command ∷ left) stands = record { node_is = stands.node_is; records_are = stands.records_are; book_is = stands.book_is; rests = stands.rests; closed = stands.closed; sound = stands.sound }
 
 -- what a command is told at once, by the records
-at_once : (p : Past) (s : Standing) (command : Command) → Stands p s → said_at_once (is_some p.node) p.name p.records p.book command ≡ said_at_once s.up p.name s.records s.book command
-at_once p s command stands = λ i. said_at_once (up_by p s stands i) p.name (stands.records_are i) (stands.book_is i) command
+at_once : (p : Past) (s : Standing) (command : Command) → Stands p s → said_at_once (is_some p.node) p.names p.records p.book command ≡ said_at_once s.up p.names s.records s.book command
+at_once p s command stands = λ i. said_at_once (up_by p s stands i) p.names (stands.records_are i) (stands.book_is i) command
 
 -- ---- the happenings in order
 
 -- what a lawful run tells and writes from here on, and how it stands then
 pub record Tells (p : Past) (s : Standing) (happenings : List Happening) : Type 0 where
-  pub lines : (past p happenings).lines ≡ p.lines ++ lines_from p.name p.left p.command s happenings
+  pub lines : (past p happenings).lines ≡ p.lines ++ lines_from p.names p.left p.command s happenings
   pub writes : WritesOwed s happenings
   pub sound : IsSound (standing_after s happenings)
 
@@ -161,13 +161,13 @@ tells_begun : (p : Past) (s : Standing) (number : ℕ) (left : List Command) (ha
 unfolding past standing_after
 tells_begun p s number [] happenings is some stands rest = absurd (omega (arith, some))
 tells_begun p s number (command ∷ left) happenings is some stands rest =
-    let said_there = lines_of number (said_at_once s.up p.name s.records s.book command) in
+    let said_there = lines_of number (said_at_once s.up p.names s.records s.book command) in
     record {
       lines = ap (λ (cs : List Command). (past (begun p number cs) happenings).lines) is
           ∙ (rest.lines
-          ∙ (append_assoc p.lines (lines_of number (said_at_once (is_some p.node) p.name p.records p.book command)) (lines_from (name_by p.name command) left number s happenings)
-          ∙ (ap (λ (what : List Said). p.lines ++ (lines_of number what ++ lines_from (name_by p.name command) left number s happenings)) (at_once p s command stands)
-          ∙ ap (λ (cs : List Command). p.lines ++ lines_from p.name cs p.command s (Begun number ∷ happenings)) (sym is))));
+          ∙ (append_assoc p.lines (lines_of number (said_at_once (is_some p.node) p.names p.records p.book command)) (lines_from (names_by p.names command) left number s happenings)
+          ∙ (ap (λ (what : List Said). p.lines ++ (lines_of number what ++ lines_from (names_by p.names command) left number s happenings)) (at_once p s command stands)
+          ∙ ap (λ (cs : List Command). p.lines ++ lines_from p.names cs p.command s (Begun number ∷ happenings)) (sym is))));
       writes = rest.writes;
       sound = rest.sound;
     }
@@ -181,7 +181,7 @@ tells_turned p s at session text wrote happenings up t rest =
     let s' = served s (statement_in s text) wrote (entries_of at wrote) in
     record {
       lines = ap (λ (k : Option Kept). (past (turned_at p at (inputs.Call session text) wrote k) happenings).lines) up
-          ∙ (rest.lines ∙ append_assoc p.lines (l ∷ []) (lines_from p.name p.left p.command s' happenings));
+          ∙ (rest.lines ∙ append_assoc p.lines (l ∷ []) (lines_from p.names p.left p.command s' happenings));
       writes = (t.up, t.writes, rest.writes);
       sound = rest.sound;
     }
@@ -201,7 +201,7 @@ tells p s (Stopped node ∷ happenings) stands lawful =
     let l = line p.command fine in
     let rest = tells (stopped p) (after s (Stopped node)) happenings (stands_stopped p s node stands) lawful.1 in
     record {
-      lines = rest.lines ∙ append_assoc p.lines (l ∷ []) (lines_from p.name p.left p.command (after s (Stopped node)) happenings);
+      lines = rest.lines ∙ append_assoc p.lines (l ∷ []) (lines_from p.names p.left p.command (after s (Stopped node)) happenings);
       writes = (sym (up_by p s stands) ∙ lawful.0.up, rest.writes);
       sound = rest.sound;
     }
@@ -211,7 +211,7 @@ tells p s (Started node boot ∷ happenings) stands lawful =
     let next_one : boot ≡ s.boot + 1 = boot_is p s boot stands lawful.0.in_order in
     let rest = tells (started p boot) (after s (Started node boot)) happenings (stands_started p s node boot stands down next_one) lawful.1 in
     record {
-      lines = rest.lines ∙ append_assoc p.lines (l ∷ []) (lines_from p.name p.left p.command (after s (Started node boot)) happenings);
+      lines = rest.lines ∙ append_assoc p.lines (l ∷ []) (lines_from p.names p.left p.command (after s (Started node boot)) happenings);
       writes = (down, next_one, rest.writes);
       sound = rest.sound;
     }

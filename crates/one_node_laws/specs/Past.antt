@@ -15,10 +15,11 @@ use Rattle.one_node_book.specs.declared.happening.Happening.TheVariants.{Begun, 
 use Rattle.book.specs.Entries.{entries_of}
 use Rattle.one_node_script.specs.declared.command.Command.{Command}
 use Rattle.one_node_script.specs.declared.command.Command.TheVariants as commands
-use Rattle.one_node_rules.specs.Turn.{Kept, Outcome, turn_of, start_of, first_records}
+use Rattle.one_node_rules.specs.Turn.{the_node, Kept, Outcome, turn_of, start_of, first_records}
 use Rattle.one_node_rules.specs.Disk.{disk_bytes}
 use Rattle.one_node_laws.specs.Shown.{shown_disk}
 use Rattle.book.specs.Texts.{shown_book}
+use Rattle.tran_ids.specs.Texts.{name_of}
 
 -- What is due next.
 pub data Due : Type 0 where
@@ -28,12 +29,12 @@ pub data Due : Type 0 where
   Starts : Due  -- the node's start
 
 -- A run so far: the commands that have not begun; the number of the one that runs, 0 before the first; what is due; the
--- node's name; what the node keeps, where it is up; the records on its disk; the book; the lines that were told.
+-- names of the nodes; what the node keeps, where it is up; the records on its disk; the book; the lines that were told.
 pub record Past : Type 0 where
   pub left : List Command
   pub command : ℕ
   pub due : Due
-  pub name : List ℕ
+  pub names : List (List ℕ)
   pub node : Option Kept
   pub records : List RedoRecord
   pub book : List Entry
@@ -41,7 +42,7 @@ pub record Past : Type 0 where
 
 -- before anything happened: the node is made
 abbrev pub start : List Command → Past
-start asked = record { left = asked; command = 0; due = Begins; name = []; node = Some (start_of first_records); records = first_records; book = []; lines = [] }
+start asked = record { left = asked; command = 0; due = Begins; names = []; node = Some (start_of first_records); records = first_records; book = []; lines = [] }
 
 -- what is said of the command of this number
 abbrev pub line : ℕ → Said → AnswerLine
@@ -52,29 +53,30 @@ abbrev pub fine : Said
 fine = said.World notices.Fine
 
 -- a refusal of dtx's own that names the node
-abbrev pub refused : ℕ → List ℕ → Said
-refused code name = said.World (notices.Refused (record { code = 60000 + code; args = name ∷ [] }))
+abbrev pub refused : ℕ → List (List ℕ) → Said
+refused code names = said.World (notices.Refused (record { code = 60000 + code; args = name_of names the_node ∷ [] }))
 
 -- what SHOW prints
 abbrev pub shows : List (List ℕ) → Said
 shows lines = said.World (notices.Shown lines)
 
 -- what needs a node that is up is refused with DTX-01 where it is down
-abbrev pub if_up : Bool → List ℕ → List Said
-if_up up name = if up then [] else refused 1 name ∷ []
+abbrev pub if_up : Bool → List (List ℕ) → List Said
+if_up up names = if up then [] else refused 1 names ∷ []
 
 -- START of a node that is up is refused with DTX-13
-abbrev pub if_down : Bool → List ℕ → List Said
-if_down up name = if up then refused 13 name ∷ [] else []
+abbrev pub if_down : Bool → List (List ℕ) → List Said
+if_down up names = if up then refused 13 names ∷ [] else []
 
--- what a command is told as it begins, where the node of this name is up or not, with these records and this book
-abbrev pub said_at_once : Bool → List ℕ → List RedoRecord → List Entry → Command → List Said
-said_at_once up name rs book (commands.Node made) = fine ∷ []
-said_at_once up name rs book (commands.At node session text) = if_up up name
-said_at_once up name rs book (commands.Stop node) = if_up up name
-said_at_once up name rs book (commands.Start node) = if_down up name
-said_at_once up name rs book commands.ShowBook = shows (shown_book (name ∷ []) book) ∷ []
-said_at_once up name rs book (commands.ShowDisk node) = shows (shown_disk (disk_bytes rs)) ∷ []
+-- what a command is told as it begins, where the node is up or not and the nodes have these names, with these records
+-- and this book
+abbrev pub said_at_once : Bool → List (List ℕ) → List RedoRecord → List Entry → Command → List Said
+said_at_once up names rs book (commands.Node made) = fine ∷ []
+said_at_once up names rs book (commands.At node session text) = if_up up names
+said_at_once up names rs book (commands.Stop node) = if_up up names
+said_at_once up names rs book (commands.Start node) = if_down up names
+said_at_once up names rs book commands.ShowBook = shows (shown_book names book) ∷ []
+said_at_once up names rs book (commands.ShowDisk node) = shows (shown_disk (disk_bytes rs)) ∷ []
 
 -- the lines of what is said
 abbrev pub lines_of : ℕ → List Said → List AnswerLine
@@ -90,10 +92,10 @@ due_by up (commands.Start node) = if up then Begins else Starts
 due_by up commands.ShowBook = Begins
 due_by up (commands.ShowDisk node) = Begins
 
--- the node's name, which NODE gives
-abbrev pub name_by : List ℕ → Command → List ℕ
-name_by name (commands.Node made) = made
-name_by name _ = name
+-- the names of the nodes, each of which NODE gives
+abbrev pub names_by : List (List ℕ) → Command → List (List ℕ)
+names_by names (commands.Node made) = names ++ made ∷ []
+names_by names _ = names
 
 -- a command begins
 abbrev pub begun : Past → ℕ → List Command → Past
@@ -102,8 +104,8 @@ begun p number (command ∷ rest) = record p {
   left = rest;
   command = number;
   due = due_by (is_some p.node) command;
-  name = name_by p.name command;
-  lines = p.lines ++ lines_of number (said_at_once (is_some p.node) p.name p.records p.book command);
+  names = names_by p.names command;
+  lines = p.lines ++ lines_of number (said_at_once (is_some p.node) p.names p.records p.book command);
 }
 
 -- the command that runs is answered, and the next one is due

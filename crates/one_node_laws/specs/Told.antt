@@ -6,21 +6,21 @@ use Rattle.one_node_book.specs.declared.input.Input.TheVariants as inputs
 use Rattle.one_node_script.specs.declared.command.Command.{Command}
 use Rattle.one_node_book.specs.declared.happening.Happening.{Happening}
 use Rattle.one_node_book.specs.declared.happening.Happening.TheVariants.{Begun, Turn, Stopped, Started}
-use Rattle.one_node_laws.specs.Past.{line, lines_of, fine, said_at_once, name_by}
+use Rattle.one_node_laws.specs.Past.{line, lines_of, fine, said_at_once, names_by}
 use Rattle.one_node_laws.specs.Standing.{Standing, nothing_yet, answer_in, record_in, after}
 
--- The lines that come with these happenings, where the node has this name, these commands have not begun and this one
+-- The lines that come with these happenings, where the nodes have these names, these commands have not begun and this one
 -- runs: what a command is told at once; with a turn the meaning of the call's text over the book so far and the caller's
 -- own changes; `ok` with a stop and with a start.
-abbrev pub lines_from : List ℕ → List Command → ℕ → Standing → List Happening → List AnswerLine
-lines_from name left running s [] = []
-lines_from name [] running s (Begun number ∷ happenings) = lines_from name [] number s happenings
-lines_from name (command ∷ left) running s (Begun number ∷ happenings) =
-    lines_of number (said_at_once s.up name s.records s.book command) ++ lines_from (name_by name command) left number s happenings
-lines_from name left running s (Turn node (inputs.Call session text) wrote ∷ happenings) =
-    line running (said.Node (answer_in s text)) ∷ lines_from name left running (after s (Turn node (inputs.Call session text) wrote)) happenings
-lines_from name left running s (Stopped node ∷ happenings) = line running fine ∷ lines_from name left running (after s (Stopped node)) happenings
-lines_from name left running s (Started node boot ∷ happenings) = line running fine ∷ lines_from name left running (after s (Started node boot)) happenings
+abbrev pub lines_from : List (List ℕ) → List Command → ℕ → Standing → List Happening → List AnswerLine
+lines_from names left running s [] = []
+lines_from names [] running s (Begun number ∷ happenings) = lines_from names [] number s happenings
+lines_from names (command ∷ left) running s (Begun number ∷ happenings) =
+    lines_of number (said_at_once s.up names s.records s.book command) ++ lines_from (names_by names command) left number s happenings
+lines_from names left running s (Turn node (inputs.Call session text) wrote ∷ happenings) =
+    line running (said.Node (answer_in s text)) ∷ lines_from names left running (after s (Turn node (inputs.Call session text) wrote)) happenings
+lines_from names left running s (Stopped node ∷ happenings) = line running fine ∷ lines_from names left running (after s (Stopped node)) happenings
+lines_from names left running s (Started node boot ∷ happenings) = line running fine ∷ lines_from names left running (after s (Started node boot)) happenings
 
 -- the lines of a run
 abbrev pub told : List Command → List Happening → List AnswerLine

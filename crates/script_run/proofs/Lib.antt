@@ -1,1 +1,5 @@
 pub mod Endings
+pub mod DiskLines
+pub mod Beginning
+pub mod Acting
+pub mod Below

@@ -1,4 +1,5 @@
-pub mod KeptBy
+pub mod Lines
+pub mod Site
 pub mod Linked
 pub mod Report
 pub mod Headline

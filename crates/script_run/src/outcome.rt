@@ -2,8 +2,10 @@
 ghost use Rattle.std.specs.Prelude.{◌≡◌};
 ghost use Rattle.script_run.specs.Headline.{IsRun, nothing_done};
 
+use crate::line::AnswerLines;
+use book::Book;
 use dtx_values::Listing;
-use one_node_book::{AnswerLines, Book, Happenings};
+use one_node_book::Happenings;
 use one_node_script::Commands;
 use std::alloc::Global;
 
@@ -36,6 +38,20 @@ pub struct Run {
 }
 
 impl Run {
+    /// None of these commands has begun.
+    #[tactic(auto, unfolding(one_node_laws::specs::Lawful::IsLawful))]
+    pub fn not_begun(alloc: Global, commands: Commands) -> Run
+        ensures asked { result.commands ≡ commands }
+        ensures run { IsRun result }
+    {
+        Run {
+            commands,
+            answers: Listing::new(alloc),
+            book: Listing::new(alloc),
+            trace: Listing::new(alloc),
+        }
+    }
+
     /// Nothing was done.
     #[tactic(auto, unfolding(one_node_laws::specs::Lawful::IsLawful))]
     pub fn empty(alloc: Global) -> Run

@@ -1,17 +1,18 @@
 //! A run in progress: the node, what happened so far, and what was told.
-ghost use Rattle.std.specs.Prelude.{◌≡◌, ◌+◌, ◌<◌, ◌≤◌, ◌^◌, [], ◌∷◌, ◌++◌, length, vec_len, drop, Some, None, IfOk, OnOk, OnErr};
-ghost use Rattle.one_node_script.specs.declared.command.Command.TheVariants as commands;
-ghost use Rattle.one_node_rules.specs.Turn.{turn_of};
-ghost use Rattle.one_node_laws.specs.Past.{start, past_of, begun, turned};
+ghost use Rattle.std.specs.Prelude.{◌≡◌, ◌+◌, ◌-◌, ◌<◌, ◌≤◌, ◌^◌, [], ◌∷◌, length, vec_len, vec_capacity, drop, true, false, is_some, Some, None, IfOk, OnOk, OnErr};
+ghost use Rattle.one_node_script.specs.declared.command.Command.{Command};
+ghost use Rattle.one_node_laws.specs.Past.{start, past_of, said_at_once, names_by};
 ghost use Rattle.script_run.specs.Ending.{IsWhole};
 ghost use Rattle.script_run.specs.Headline.{IsRun};
-ghost use Rattle.script_run.specs.KeptBy.{kept_by};
-ghost use Rattle.script_run.specs.Linked.{IsLinked, IsNext, IsDone};
+ghost use Rattle.script_run.specs.Lines.{told_by, told_of};
+ghost use Rattle.script_run.specs.Linked.{SiteIs, IsLinked, IsNext, BeginsAs, EndsAs, IsDone, AreBelow};
 
-use crate::node::{NODE, Node};
+use crate::acts::{act, begin};
+use crate::at_once::said_at_once;
+use crate::line::{AnswerLine, Said};
 use crate::outcome::Run;
-use dtx_values::{Answer, Duplicate, Listing, Notice};
-use one_node_book::{AnswerLine, Happening, Input, Said};
+use crate::site::{Site, made};
+use dtx_values::{Duplicate, Listing, Names};
 use one_node_laws::{Trace, each_begun_is_answered, lawful_runs_are_as_told};
 use one_node_script::{Command, Commands};
 use std::alloc::{AllocError, Global};
@@ -19,52 +20,36 @@ use std::alloc::{AllocError, Global};
 /// A run in progress.
 #[derive(Drop)]
 pub struct Progress {
-    pub node: Node,
+    pub site: Site,
+    /// The names of the nodes that were made.
+    pub names: Names,
     pub trace: Trace,
     pub answers: Vec<AnswerLine>,
 }
 
-/// The node serves the call that is out.
-fn serve(
-    alloc: Global,
-    node: &mut Node,
-    trace: &mut Trace,
-    input: Input,
-) -> Result<Answer, AllocError>
-    requires kept { kept_by node.old ≡ (past_of trace.old).node }
-    requires out { (past_of trace.old).out ≡ Some input }
-    requires ended { node.old.ended + 1 < 2 ^ 32 }
-    requires clock { node.old.clock + 1 < 2 ^ 48 }
-    ensures answer { IfOk result (λ answer. answer ≡ (turn_of (kept_by node.old) input).answer) }
-    ensures kept { OnOk result (kept_by node.new ≡ (turn_of (kept_by node.old) input).after) }
-    ensures past { OnOk result (past_of trace.new ≡ turned (past_of trace.old) (turn_of (kept_by node.old) input)) }
-    ensures asked { trace.new.asked ≡ trace.old.asked }
-    ensures err { OnErr result (trace.new ≡ trace.old) }
-    ensures few { OnOk result (node.new.ended ≤ node.old.ended + 1) }
-    ensures low { OnOk result (node.new.clock ≤ node.old.clock + 1) }
+/// The names of the nodes once this command has begun.
+fn take_name(alloc: Global, names: &mut Names, command: &Command) -> Result<(), AllocError>
+    ensures { OnOk result (names.new ≡ names_by names.old command.now) }
 {
-    let served = node.turn(&input)?;
-    let turn = Happening::Turn {
-        node: NODE,
-        input,
-        wrote: served.wrote,
-    };
-    trace.push(alloc, turn)?;
-    Ok(served.answer)
+    if let Command::Node { name } = command {
+        names.push(name.copy(alloc)?)?;
+    }
+    Ok(())
 }
 
 impl Progress {
-    /// A run of these commands, in which nothing has happened.
-    #[tactic(auto, unfolding(one_node_laws::specs::Past::past))]
-    pub fn new(alloc: Global, asked: Commands) -> Progress
+    /// A run of these commands with the node just made, in which nothing has happened.
+    #[tactic(auto, using(crate::proofs::Below::beginnings), unfolding(one_node_laws::specs::Past::past))]
+    pub fn new(alloc: Global, asked: Commands, site: Site) -> Progress
+        requires site { SiteIs (start asked) site }
         ensures linked { IsLinked result }
         ensures fresh { IsDone (past_of result.trace) 0 asked }
         ensures asked { result.trace.asked ≡ asked }
-        ensures ended { result.node.ended ≡ 0 }
-        ensures clock { result.node.clock ≡ 0 }
+        ensures below { AreBelow 0 (past_of result.trace) }
     {
         Progress {
-            node: Node::new(alloc),
+            site,
+            names: Listing::new(alloc),
             trace: Trace::new(alloc, asked),
             answers: Vec::new(alloc),
         }
@@ -75,32 +60,27 @@ impl Progress {
     fn carry_out(&mut self, alloc: Global, number: u32, command: Command) -> Result<(), AllocError>
         requires linked { IsLinked self.old }
         requires is_next { IsNext (past_of self.old.trace) number command }
-        requires ended { self.old.node.ended + 1 < 2 ^ 32 }
-        requires clock { self.old.node.clock + 1 < 2 ^ 48 }
+        requires below { AreBelow (number - 1) (past_of self.old.trace) }
+        requires few { number < 2 ^ 31 }
         ensures told { self.new.answers.items ≡ (past_of self.new.trace).lines }
         ensures asked { self.new.trace.asked ≡ self.old.trace.asked }
         ensures linked { OnOk result (IsLinked self.new) }
         ensures done { OnOk result (IsDone (past_of self.new.trace) number (drop 1 (past_of self.old.trace).left)) }
-        ensures few { OnOk result (self.new.node.ended ≤ self.old.node.ended + 1) }
-        ensures low { OnOk result (self.new.node.clock ≤ self.old.node.clock + 1) }
+        ensures below { OnOk result (AreBelow number (past_of self.new.trace)) }
     {
         self.answers.try_reserve(1)?;
-        self.trace
-            .push(alloc, Happening::Begun { command: number })?;
-        let said = match command {
-            Command::Node { name: _name } => Said::World(Notice::Fine),
-            Command::At {
-                node: _node,
-                session,
-                text,
-            } => {
-                let input = Input::Call { session, text };
-                Said::Node(serve(alloc, &mut self.node, &mut self.trace, input)?)
-            }
-        };
-        let line = AnswerLine {
-            command: number,
-            said,
+        let said = said_at_once(
+            alloc,
+            &self.site,
+            self.names.as_slice(),
+            self.trace.book(),
+            &command,
+        )?;
+        take_name(alloc, &mut self.names, &command)?;
+        begin(alloc, &mut self.trace, number, &command)?;
+        let line = match said {
+            Some(said) => AnswerLine::new(number, said),
+            None => act(alloc, number, &mut self.site, &mut self.trace, command)?,
         };
         match self.answers.push(line) {
             Ok(()) => Ok(()),
@@ -110,11 +90,10 @@ impl Progress {
 
     /// Carries out all the commands in order.
     fn carry_out_all(&mut self, alloc: Global) -> Result<(), AllocError>
-        requires few { length self.old.trace.asked < 2 ^ 31 }
+        requires few { length self.old.trace.asked < 2 ^ 30 }
         requires linked { IsLinked self.old }
         requires fresh { IsDone (past_of self.old.trace) 0 self.old.trace.asked }
-        requires ended { self.old.node.ended ≡ 0 }
-        requires clock { self.old.node.clock ≡ 0 }
+        requires below { AreBelow 0 (past_of self.old.trace) }
         ensures told { self.new.answers.items ≡ (past_of self.new.trace).lines }
         ensures asked { self.new.trace.asked ≡ self.old.trace.asked }
         ensures done { OnOk result (IsDone (past_of self.new.trace) (length self.old.trace.asked) []) }
@@ -131,12 +110,16 @@ impl Progress {
 
 /// Runs these commands in order: what was done of them, and whether all were.
 pub fn run_commands(alloc: Global, asked: Commands) -> (Run, Result<(), AllocError>)
-    requires few { length asked < 2 ^ 31 }
+    requires few { length asked < 2 ^ 30 }
     ensures run { IsRun result.0 }
     ensures asked { result.0.commands ≡ asked }
     ensures whole { OnOk result.1 (IsWhole result.0) }
 {
-    let mut progress = Progress::new(alloc, asked);
+    let site = match made(alloc) {
+        Ok(site) => site,
+        Err(err) => return (Run::not_begun(alloc, asked), Err(err)),
+    };
+    let mut progress = Progress::new(alloc, asked, site);
     let ran = progress.carry_out_all(alloc);
     lawful_runs_are_as_told();
     each_begun_is_answered();

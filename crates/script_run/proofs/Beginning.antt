@@ -1,0 +1,41 @@
+-- What the beginning of a command makes of a run.
+use Rattle.std.proofs.Common.{◌≡◌, ℕ, ◌+◌, ◌-◌, ◌<◌, ◌≤◌, ◌^◌, Bool, true, false, List, [], ◌∷◌, ◌++◌, length, drop, Option, Some, None, refl, sym, ap, subst, ◌∙◌, arith}
+use Rattle.std.specs.Prelude.{IfSome, is_some}
+use Rattle.std.proofs.lemmas.List.{append-nil}
+use Rattle.redo_codec.specs.declared.record.RedoRecord.{RedoRecord}
+use Rattle.book.specs.declared.entry.Entry.{Entry}
+use Rattle.book.specs.declared.line.AnswerLine.{AnswerLine}
+use Rattle.one_node_script.specs.declared.command.Command.{Command}
+use Rattle.one_node_script.specs.declared.command.Command.TheVariants as commands
+use Rattle.one_node_rules.specs.Turn.{Kept, start_of, first_records}
+use Rattle.one_node_rules.specs.Disk.{IsLogOf}
+use Rattle.one_node_laws.specs.Past.{Past, start, begun, lines_of, said_at_once}
+use Rattle.one_node_laws.specs.Lawful.{MayBegin}
+use Rattle.script_run.specs.Site.{site_kept, site_bytes, IsReadySite}
+use Rattle.script_run.specs.declared.site.Site.{Site}
+use Rattle.script_run.specs.Linked.{SiteIs, IsNext, BeginsAs, EndsAs, AreBelow, IsBelow, IsRunningAt, IsSilent, IsDone}
+
+pub may_begin : (p : Past) (number : ℕ) (command : Command) → IsNext p number command → MayBegin p number
+may_begin p number command next = record { in_order = next.numbered; is_asked = subst (λ (cs : List Command). 0 < length cs) (sym next.first) (omega arith); is_idle = next.idle }
+
+begins_by : (p : Past) (number : ℕ) (command : Command) (rest left : List Command) → left ≡ command ∷ rest → rest ≡ drop 1 p.left → BeginsAs p (begun p number left) number command
+begins_by p number command rest left is behind =
+    subst (λ (cs : List Command). BeginsAs p (begun p number cs) number command) (sym is)
+      (record { left = behind; number = refl; due = refl; names = refl; node = refl; records = refl; lines = refl })
+
+pub begins_as : (p : Past) (number : ℕ) (command : Command) → IsNext p number command → BeginsAs p (begun p number p.left) number command
+begins_as p number command next = begins_by p number command (drop 1 p.left) p.left next.first refl
+
+-- what is told nothing is silent
+pub silent : (up : Bool) (names : List (List ℕ)) (rs : List RedoRecord) (book : List Entry) (command : Command) → [] ≡ said_at_once up names rs book command → IsSilent up command
+silent up names rs book (commands.Node made) nothing = absurd cc
+silent true names rs book (commands.At node session text) nothing = refl
+silent false names rs book (commands.At node session text) nothing = absurd cc
+silent true names rs book (commands.Stop node) nothing = refl
+silent false names rs book (commands.Stop node) nothing = absurd cc
+silent true names rs book (commands.Start node) nothing = absurd cc
+silent false names rs book (commands.Start node) nothing = refl
+silent up names rs book commands.ShowBook nothing = absurd cc
+silent up names rs book (commands.ShowDisk node) nothing = absurd cc
+
+pub ruleset begins = (may_begin, begins_as)

@@ -1,0 +1,35 @@
+-- A site by its parts.
+use Rattle.std.specs.Prelude.{◌≡◌, ℕ, List, [], ◌∷◌, ◌++◌, Option, Some, None}
+use Rattle.block_disk.specs.Happenings.{content_of, IsImage}
+use Rattle.block_disk.specs.MemDisk.{DiskState}
+use Rattle.redo_codec.specs.declared.record.RedoRecord.{RedoRecord}
+use Rattle.one_node_rules.specs.Turn.{Kept, start_of}
+use Rattle.one_node_rules.specs.Disk.{IsLogOf}
+use Rattle.node_core.specs.OnDisk.{kept_of, node_disk, next_boot, IsRunning}
+use Rattle.script_run.specs.declared.site.Site.{Site}
+use Rattle.script_run.specs.declared.site.Site.TheVariants.{Up, Down}
+
+-- what the node keeps, where it is up
+abbrev pub site_kept : Site → Option Kept
+site_kept (Up node) = Some (kept_of node)
+site_kept (Down disk) = None
+
+-- its disk
+abbrev pub site_disk : Site → DiskState
+site_disk (Up node) = node_disk node
+site_disk (Down disk) = disk
+
+-- the bytes of its disk
+abbrev pub site_bytes : Site → List ℕ
+site_bytes site = content_of (site_disk site).happenings
+
+-- a node that is up can have turns
+abbrev pub IsReadySite : Site → Type 0
+IsReadySite (Up node) = IsRunning (λ disk. content_of disk.happenings) (λ disk. IsImage disk.happenings) node
+IsReadySite (Down disk) = Unit {0}
+
+-- what a start of this number makes of these records on the disk
+pub record StartsAs (rs : List RedoRecord) (site : Site) (boot : ℕ) : Type 0 where
+  pub number : boot ≡ (start_of (rs ++ next_boot rs ∷ [])).boot
+  pub kept : site_kept site ≡ Some (start_of (rs ++ next_boot rs ∷ []))
+  pub disk : IsLogOf (rs ++ next_boot rs ∷ []) (site_bytes site)

@@ -1,0 +1,117 @@
+//! Where the node of a run stands: up, or its disk alone.
+ghost use Rattle.std.specs.Prelude.{◌≡◌, List, Some, None, true, is_some, IfOk};
+ghost use Rattle.block_disk.specs.Happenings.{content_of};
+ghost use Rattle.redo_codec.specs.declared.record.RedoRecord.{RedoRecord};
+ghost use Rattle.one_node_rules.specs.Turn.{start_of, first_records};
+ghost use Rattle.one_node_rules.specs.Disk.{IsLogOf};
+ghost use Rattle.node_core.specs.OnDisk.{MayStart};
+ghost use Rattle.script_run.specs.declared.site.Site.TheVariants.{Up};
+ghost use Rattle.script_run.specs.Site.{site_kept, site_disk, site_bytes, IsReadySite, StartsAs};
+
+use block_disk::MemDisk;
+use node_core::{MakeErr, MakeWhy, Node};
+use std::alloc::{AllocError, Global};
+
+/// A node that is up, or the disk of one that is down.
+#[derive(Drop)]
+pub enum Site {
+    Up(Node<MemDisk>),
+    Down(MemDisk),
+}
+
+impl Site {
+    /// The node's disk.
+    pub fn disk(&self) -> &MemDisk
+        ensures { result.now ≡ site_disk self.now }
+    {
+        match self {
+            Site::Up(node) => node.disk(),
+            Site::Down(disk) => disk,
+        }
+    }
+
+    /// Whether the node is up.
+    pub fn is_up(&self) -> bool
+        ensures { result ≡ is_some (site_kept self.now) }
+    {
+        matches!(self, Site::Up(_))
+    }
+}
+
+/// A node that was just made.
+pub fn made(alloc: Global) -> Result<Site, AllocError>
+    ensures kept { IfOk result (λ site. site_kept site ≡ Some (start_of first_records)) }
+    ensures disk { IfOk result (λ site. IsLogOf first_records (site_bytes site)) }
+    ensures ready { IfOk result IsReadySite }
+{
+    match Node::make(alloc, MemDisk::new(alloc)) {
+        Ok(node) => Ok(Site::Up(node)),
+        Err(MakeErr {
+            disk: _disk,
+            why: MakeWhy::NoMemory,
+        }) => Err(AllocError),
+        Err(MakeErr {
+            disk: _disk,
+            why: MakeWhy::Fault,
+        }) => unreachable!(),
+    }
+}
+
+/// The node of a site that is up.
+pub fn running(site: Site) -> Node<MemDisk>
+    requires { is_some (site_kept site) ≡ true }
+    ensures { site ≡ Up result }
+{
+    match site {
+        Site::Up(node) => node,
+        Site::Down(_disk) => unreachable!(),
+    }
+}
+
+/// A node that stops leaves its disk.
+pub fn stopped(site: Site) -> Site
+    ensures kept { site_kept result ≡ None }
+    ensures disk { site_disk result ≡ site_disk site }
+    ensures ready { IsReadySite result }
+{
+    match site {
+        Site::Up(node) => Site::Down(node.into_disk()),
+        Site::Down(disk) => Site::Down(disk),
+    }
+}
+
+/// A node that starts from its disk, and the number of this start.
+pub fn started(alloc: Global, site: Site) -> Result<(Site, u32), AllocError>
+    requires down { site_kept site ≡ None }
+    requires sound { (rs : List RedoRecord) × MayStart rs (site_bytes site) }
+    ensures starts { IfOk result (λ x. (rs : List RedoRecord) → IsLogOf rs (site_bytes site) → StartsAs rs x.0 x.1) }
+    ensures ready { IfOk result (λ x. IsReadySite x.0) }
+{
+    match site {
+        Site::Down(disk) => start_disk(alloc, disk),
+        Site::Up(_node) => unreachable!(),
+    }
+}
+
+/// The node of a disk, and the number of this start.
+fn start_disk(alloc: Global, disk: MemDisk) -> Result<(Site, u32), AllocError>
+    requires sound { (rs : List RedoRecord) × MayStart rs (content_of disk.happenings) }
+    ensures starts { IfOk result (λ x. (rs : List RedoRecord) → IsLogOf rs (content_of disk.happenings) → StartsAs rs x.0 x.1) }
+    ensures ready { IfOk result (λ x. IsReadySite x.0) }
+{
+    let _bytes = disk.bytes().len();
+    match Node::start(alloc, disk) {
+        Ok(node) => {
+            let boot = node.boot();
+            Ok((Site::Up(node), boot))
+        }
+        Err(MakeErr {
+            disk: _disk,
+            why: MakeWhy::NoMemory,
+        }) => Err(AllocError),
+        Err(MakeErr {
+            disk: _disk,
+            why: MakeWhy::Fault,
+        }) => unreachable!(),
+    }
+}
