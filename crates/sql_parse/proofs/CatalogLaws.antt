@@ -1,22 +1,18 @@
 -- CREATE is exact.
-use Rattle.std.proofs.Common.{◌≡◌, ℕ, Bool, true, false, List, [], ◌∷◌, ◌++◌, Option, Some, None, refl, ◌⊎◌, inl, inr}
+use Rattle.std.proofs.Common.{ℕ, Bool, List, [], ◌∷◌, Option, refl, inl, inr}
 use Rattle.std.specs.Prelude.{codes, nat_le}
-use Rattle.std.specs.Str.{bytes_eq}
-use Rattle.dtx_values.specs.declared.table.Column.{Column}
 use Rattle.token_grammar.specs.declared.mark.Mark.{Mark}
 use Rattle.token_grammar.specs.declared.mark.Mark.TheVariants as marks
 use Rattle.token_grammar.specs.declared.token.Token.{Token}
-use Rattle.token_grammar.specs.declared.token.Token.TheVariants as token
 use Rattle.token_grammar.specs.Steps.{begins}
-use Rattle.token_grammar.specs.Grammar.{Grammar, is_word, is_mark, nothing, anything, either, word, mark, meant, identifier, identifier_in, name, name_in, number_to, number_to_in, ◌·◌, ◌▹◌, maybe, optional, many, commas, tested}
+use Rattle.token_grammar.specs.Grammar.{Grammar, is_word, is_mark, nothing, anything, either, word, mark, meant, identifier, identifier_in, name, name_in, number_to, number_to_in, ◌·◌, ◌▹◌, maybe, optional, many, commas}
 use Rattle.token_grammar.specs.Exact.{IsExact, Leads, Apart}
 use Rattle.token_grammar.proofs.Beginnings.{leads_word, leads_after, led, apart_words, apart_word_mark, apart_marks, apart_nothing, apart_either, ends_all}
 use Rattle.token_grammar.proofs.OneToken.{word_exact, mark_exact, meant_exact, maybe_exact}
 use Rattle.token_grammar.proofs.Parts.{after, after_exact, seq, seq_led, optional_exact, many_exact}
 use Rattle.token_grammar.proofs.Values.{tested_exact}
-use Rattle.sql_parse.specs.declared.rule.Rule.{Rule}
 use Rattle.sql_parse.specs.declared.statement.Stmt.{Stmt}
-use Rattle.sql_parse.specs.Parts.{or_else, built, is_word_of, in_brackets}
+use Rattle.sql_parse.specs.Parts.{or_else, is_word_of, in_brackets}
 use Rattle.sql_parse.specs.Catalog.{width_limit, width, column_type, rule, is_rule, are_once, column_of, column, are_of_a_table, table_columns, create_table, target_in, account, create_link, create_synonym, create}
 use Rattle.sql_parse.proofs.PartLaws.{led_exact, leads_or_else, built_exact, leads_built, word_is_one, apart_word_of, leads_maybe, later_word, brackets_exact, commas_exact}
 

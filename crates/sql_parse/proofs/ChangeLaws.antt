@@ -1,30 +1,28 @@
 -- INSERT, UPDATE, DELETE and SELECT are exact.
-use Rattle.std.proofs.Common.{◌≡◌, ℕ, Bool, true, false, List, [], ◌∷◌, ◌++◌, Option, Some, None, refl, append_assoc, ◌⊎◌, inl, inr}
-use Rattle.std.specs.Prelude.{codes, nat_le, length}
+use Rattle.std.proofs.Common.{◌≡◌, ℕ, Bool, true, false, List, [], ◌∷◌, ◌++◌, Some, None, refl, append_assoc, inl, inr}
+use Rattle.std.specs.Prelude.{codes}
 use Rattle.std.specs.List.{list_all}
-use Rattle.std.specs.Str.{bytes_eq}
 use Rattle.token_grammar.specs.declared.mark.Mark.{Mark}
 use Rattle.token_grammar.specs.declared.mark.Mark.TheVariants as marks
 use Rattle.token_grammar.specs.declared.token.Token.{Token}
 use Rattle.token_grammar.specs.declared.token.Token.TheVariants as token
 use Rattle.token_grammar.specs.Steps.{begins}
-use Rattle.token_grammar.specs.Grammar.{Grammar, is_word, is_mark, nothing, anything, either, begins_two, word, mark, meant, identifier, identifier_of, identifier_in, ◌·◌, ◌▹◌, ◌◃◌, maybe, optional, commas, tested}
+use Rattle.token_grammar.specs.Grammar.{Grammar, is_word, is_mark, nothing, anything, either, word, mark, identifier, identifier_of, identifier_in, ◌·◌, ◌▹◌, ◌◃◌, maybe, optional, commas}
 use Rattle.token_grammar.specs.Exact.{IsExact, Leads, Apart, Meets, Shows}
-use Rattle.token_grammar.proofs.Beginnings.{begins-append, begins-apart, begins_nothing, either_right, is_word_is, is_mark_is, leads_word, leads_mark, leads_after, leads_optional, leads_pair, led, apart_words, apart_word_mark, apart_mark_word, apart_marks, apart_nothing, apart_either, apart_from_either, optional_meets, ends_all}
+use Rattle.token_grammar.proofs.Beginnings.{begins-append, begins_nothing, either_right, is_word_is, is_mark_is, leads_word, leads_mark, leads_after, leads_optional, leads_pair, led, apart_words, apart_mark_word, apart_marks, apart_nothing, apart_either, apart_from_either, optional_meets, ends_all}
 use Rattle.token_grammar.proofs.OneToken.{word_exact, mark_exact, meant_exact, maybe_exact}
 use Rattle.token_grammar.proofs.Parts.{after, after_exact, pair_exact, seq, seq_led, optional_exact}
 use Rattle.token_grammar.proofs.Values.{mapped_exact, tested_exact, shows_two, list_shows_none}
 use Rattle.sql_parse.specs.declared.query.Picked.{Picked}
 use Rattle.sql_parse.specs.declared.query.Picked.TheVariants as picked
-use Rattle.sql_parse.specs.declared.statement.Set.{Set}
 use Rattle.sql_parse.specs.declared.statement.TableRef.{TableRef}
 use Rattle.sql_parse.specs.declared.condition.Cond.{Cond}
 use Rattle.sql_parse.specs.declared.sum.Sum.{Sum}
 use Rattle.sql_parse.specs.Parts.{or_else, built, mark_of, stands, in_brackets, are_distinct, itself}
 use Rattle.sql_parse.specs.Literals.{table_ref, is_step, sum, is_constant}
 use Rattle.sql_parse.specs.Conditions.{conditions}
-use Rattle.sql_parse.specs.Changes.{column_names, constants, insert, assignment, left_side, assignments, update, delete, count, sum_of, list_limit, columns, opens, picks, may_lock, select}
-use Rattle.sql_parse.proofs.PartLaws.{or_else_exact, built_exact, leads_built, widened, meant_leads, fails, fails_so, fails_apart, reserved_is_no_name, stands_exact, optional_misses, brackets_exact, commas_exact}
+use Rattle.sql_parse.specs.Changes.{column_names, constants, insert, assignment, left_side, assignments, update, delete, count, sum_of, columns, opens, picks, may_lock, select}
+use Rattle.sql_parse.proofs.PartLaws.{or_else_exact, built_exact, widened, fails, fails_so, fails_apart, reserved_is_no_name, stands_exact, optional_misses, brackets_exact, commas_exact}
 use Rattle.sql_parse.proofs.LiteralLaws.{after_table, table_ref_exact, after_sum, sum_exact}
 use Rattle.sql_parse.proofs.ConditionLaws.{after_conditions, conditions_exact, conditions_meet}
 

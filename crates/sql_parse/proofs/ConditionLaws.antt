@@ -1,12 +1,9 @@
 -- Conditions are exact.
-use Rattle.std.proofs.Common.{◌≡◌, ℕ, Bool, true, false, cond, List, [], ◌∷◌, ◌++◌, Option, Some, None, refl, sym, ap, ◌∙◌, append_assoc, ◌⊎◌, inl, inr}
+use Rattle.std.proofs.Common.{◌≡◌, ℕ, Bool, true, false, List, [], ◌∷◌, Option, Some, None, refl}
 use Rattle.std.specs.Prelude.{codes, unwrap_or}
-use Rattle.dtx_values.specs.declared.value.Value.{Value}
-use Rattle.token_grammar.specs.declared.mark.Mark.TheVariants as marks
 use Rattle.token_grammar.specs.declared.token.Token.{Token}
 use Rattle.token_grammar.specs.declared.token.Token.TheVariants as token
-use Rattle.token_grammar.specs.Steps.{begins}
-use Rattle.token_grammar.specs.Grammar.{Grammar, is_word, nothing, anything, either, begins_two, word, meant, identifier, identifier_in, ◌·◌, ◌▹◌, ◌◃◌, optional, separated}
+use Rattle.token_grammar.specs.Grammar.{Grammar, is_word, nothing, anything, either, begins_two, word, identifier_in, ◌▹◌, ◌◃◌, optional, separated}
 use Rattle.token_grammar.specs.Exact.{IsExact, Leads, Apart, Meets, Shows}
 use Rattle.token_grammar.proofs.Beginnings.{begins-append, leads_word, leads_after, apart_words, apart_nothing, apart_either, optional_meets}
 use Rattle.token_grammar.proofs.OneToken.{word_exact, meant_exact}
@@ -15,7 +12,6 @@ use Rattle.token_grammar.proofs.Values.{mapped_exact}
 use Rattle.sql_parse.specs.declared.condition.Sign.{Sign}
 use Rattle.sql_parse.specs.declared.condition.Cond.{Cond}
 use Rattle.sql_parse.specs.Parts.{stands}
-use Rattle.sql_parse.specs.Literals.{literal}
 use Rattle.sql_parse.specs.Conditions.{sign_in, compared, is_null, condition, some_conds, where_part, conditions}
 use Rattle.sql_parse.proofs.PartLaws.{or_else_exact, built_exact, stands_exact}
 use Rattle.sql_parse.proofs.LiteralLaws.{literal_exact}

@@ -1,12 +1,11 @@
 -- What is printed of a statement is tokens that spell it again.
-use Rattle.std.proofs.Common.{◌≡◌, ℕ, Bool, true, false, List, [], ◌∷◌, ◌++◌, Option, Some, None, refl, sym, ap, subst, ◌∙◌, ◌⊎◌, inl, inr}
-use Rattle.std.specs.Prelude.{codes, decimal, nat_le, length}
+use Rattle.std.proofs.Common.{◌≡◌, ℕ, Bool, true, false, List, [], ◌∷◌, ◌++◌, Option, Some, None, refl, inr}
+use Rattle.std.specs.Prelude.{codes, nat_le, length}
 use Rattle.std.specs.List.{list_all}
 use Rattle.token_grammar.specs.declared.mark.Mark.TheVariants as marks
-use Rattle.token_grammar.specs.declared.token.Token.{Token}
 use Rattle.token_grammar.specs.declared.token.Token.TheVariants as token
 use Rattle.token_grammar.specs.Steps.{begins}
-use Rattle.token_grammar.specs.Grammar.{Grammar, is_word, is_mark, passed, word, mark, meant, identifier, name, number_to, ◌·◌, ◌▹◌, maybe, optional, many, commas, tested}
+use Rattle.token_grammar.specs.Grammar.{Grammar, is_word, is_mark, word, mark, identifier, ◌·◌, ◌▹◌, maybe, optional, commas, tested}
 use Rattle.sql_parse.specs.declared.statement.Stmt.{Stmt}
 use Rattle.sql_parse.specs.declared.statement.Stmt.TheVariants as statements
 use Rattle.sql_parse.specs.declared.query.Picked.{Picked}
@@ -15,12 +14,12 @@ use Rattle.sql_parse.specs.declared.condition.Cond.{Cond}
 use Rattle.sql_parse.specs.declared.statement.TableRef.{TableRef}
 use Rattle.sql_parse.specs.declared.statement.Set.{Set}
 use Rattle.sql_parse.specs.declared.sum.Sum.{Sum}
-use Rattle.sql_parse.specs.Parts.{or_else, built, mark_of, stands, in_brackets, are_distinct, itself}
+use Rattle.sql_parse.specs.Parts.{or_else, built, stands, in_brackets, are_distinct, itself}
 use Rattle.sql_parse.specs.Literals.{table_ref, sum, is_constant}
 use Rattle.sql_parse.specs.Conditions.{conditions}
 use Rattle.sql_parse.specs.Changes.{column_names, constants, insert, assignment, left_side, assignments, update, delete, count, sum_of, list_limit, columns, opens, picks, may_lock, select}
-use Rattle.sql_parse.specs.Printing.{bracketed_text, separated_text, each_text, table_text, sum_text, set_text, where_text, if_text, names_text, picked_text, printed}
-use Rattle.sql_parse.proofs.WriteLaws.{goes_on, no_byte, Writes, nothing_written, then_written, joined_written, ended, spaced, star_written, word_written, AreMade, Prints, Quiet, prints_pair, prints_after, prints_built, prints_tested, prints_or_else, prints_optional, prints_blank, prints_word, prints_brackets, prints_commas, keyword_written, inner_written}
+use Rattle.sql_parse.specs.Printing.{bracketed_text, separated_text, table_text, sum_text, set_text, where_text, if_text, names_text, picked_text, printed}
+use Rattle.sql_parse.proofs.WriteLaws.{goes_on, nothing_written, joined_written, ended, star_written, word_written, Prints, Quiet, prints_pair, prints_after, prints_built, prints_tested, prints_or_else, prints_optional, prints_blank, prints_word, prints_brackets, prints_commas, keyword_written, inner_written}
 use Rattle.sql_parse.proofs.PrintLaws.{sign_written, prints_identifier, prints_table, prints_sum, prints_conditions, where_quiet}
 
 -- ---- INSERT

@@ -1,17 +1,14 @@
 -- Literals, tables behind links and sums are exact.
-use Rattle.std.proofs.Common.{◌≡◌, ℕ, Bool, true, false, cond, List, [], ◌∷◌, ◌++◌, Option, Some, None, refl, sym, ap, ◌∙◌, append_assoc, ◌⊎◌, inl, inr}
+use Rattle.std.proofs.Common.{◌≡◌, ℕ, Bool, true, List, Some, None, refl, inl, inr}
 use Rattle.std.specs.Prelude.{codes}
 use Rattle.std.specs.Str.{bytes_eq}
 use Rattle.std.proofs.lemmas.Bool.{cases_Bool}
-use Rattle.dtx_values.specs.Name.{name_of}
 use Rattle.dtx_values.specs.declared.value.Value.{Value}
-use Rattle.token_grammar.specs.declared.mark.Mark.{Mark}
 use Rattle.token_grammar.specs.declared.mark.Mark.TheVariants as marks
 use Rattle.token_grammar.specs.declared.token.Token.{Token}
 use Rattle.token_grammar.specs.declared.token.Token.TheVariants as token
-use Rattle.token_grammar.specs.Steps.{begins}
-use Rattle.token_grammar.specs.Grammar.{Grammar, is_mark, nothing, either, mark, meant, identifier, identifier_of, identifier_in, name, name_in, number_to, number_to_in, ◌·◌, ◌▹◌, many}
-use Rattle.token_grammar.specs.Exact.{IsExact, Leads, Apart, Shows}
+use Rattle.token_grammar.specs.Grammar.{Grammar, is_mark, nothing, either, mark, meant, identifier, identifier_of, identifier_in, name, name_in, number_to, number_to_in, ◌▹◌}
+use Rattle.token_grammar.specs.Exact.{IsExact, Leads}
 use Rattle.token_grammar.proofs.Beginnings.{leads_mark, leads_after, leads_pair, apart_nothing}
 use Rattle.token_grammar.proofs.OneToken.{mark_exact, meant_exact}
 use Rattle.token_grammar.proofs.Parts.{after, seq, optional_exact, many_exact}

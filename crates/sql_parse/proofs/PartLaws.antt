@@ -8,7 +8,7 @@ use Rattle.token_grammar.specs.declared.mark.Mark.TheVariants as marks
 use Rattle.token_grammar.specs.declared.token.Token.{Token}
 use Rattle.token_grammar.specs.declared.token.Token.TheVariants as token
 use Rattle.token_grammar.specs.Steps.{begins}
-use Rattle.token_grammar.specs.Grammar.{Grammar, is_word, is_mark, nothing, anything, either, word, mark, meant, quoted, quoted_in, identifier_of, identifier_in, ◌▹◌, ◌◃◌, maybe, Optional, optional, commas}
+use Rattle.token_grammar.specs.Grammar.{Grammar, is_word, is_mark, nothing, anything, either, mark, meant, quoted, quoted_in, identifier_of, identifier_in, ◌▹◌, maybe, Optional, optional, commas}
 use Rattle.token_grammar.specs.Exact.{Takes, IsExact, Leads, Apart, Shows}
 use Rattle.token_grammar.proofs.Options.{chosen, some_of}
 use Rattle.token_grammar.proofs.Beginnings.{begins-append, begins-apart, is_word_is, leads_mark, at_end}

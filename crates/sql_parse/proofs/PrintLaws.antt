@@ -1,5 +1,5 @@
 -- What is printed of names, literals, sums and conditions is tokens that spell them again.
-use Rattle.std.proofs.Common.{◌≡◌, ℕ, zero, suc, ◌<◌, ◌^◌, pos, neg_ℤ, Bool, true, false, List, [], ◌∷◌, ◌++◌, map, Option, Some, None, refl, sym, ap, subst, ◌∙◌, arith, append_assoc, ◌⊎◌, inl, inr}
+use Rattle.std.proofs.Common.{◌≡◌, ℕ, zero, suc, pos, neg_ℤ, Bool, true, false, List, [], ◌∷◌, ◌++◌, map, Some, None, refl, ap, subst, ◌∙◌, arith, append_assoc, inl, inr}
 use Rattle.std.specs.Prelude.{codes, decimal, nat_le}
 use Rattle.std.specs.Str.{bytes_eq}
 use Rattle.std.specs.Char.{to_ascii_uppercase}
@@ -12,19 +12,17 @@ use Rattle.token_grammar.specs.declared.mark.Mark.TheVariants as marks
 use Rattle.token_grammar.specs.declared.token.Token.{Token}
 use Rattle.token_grammar.specs.declared.token.Token.TheVariants as token
 use Rattle.token_grammar.specs.Steps.{begins}
-use Rattle.token_grammar.specs.Tokens.{TokenText, Ends, Tokens}
-use Rattle.token_grammar.specs.Grammar.{Grammar, is_word, is_mark, anything, begins_two, word, mark, meant, identifier, identifier_in, name, name_in, number_to, number_to_in, quoted, quoted_in, ◌·◌, ◌▹◌, ◌◃◌, optional, many, separated, commas}
+use Rattle.token_grammar.specs.Tokens.{TokenText, Ends}
+use Rattle.token_grammar.specs.Grammar.{Grammar, is_word, is_mark, anything, begins_two, word, mark, meant, identifier, identifier_in, name, name_in, number_to, number_to_in, quoted, quoted_in, ◌·◌, ◌▹◌, ◌◃◌, optional, many, separated}
 use Rattle.token_grammar.proofs.Options.{test_some, chosen, some_is}
 use Rattle.sql_parse.specs.declared.condition.Sign.{Sign}
 use Rattle.sql_parse.specs.declared.condition.Sign.TheVariants as signs
-use Rattle.sql_parse.specs.declared.condition.Cond.{Cond}
-use Rattle.sql_parse.specs.declared.condition.Cond.TheVariants as conds
 use Rattle.sql_parse.specs.declared.sum.Term.TheVariants as terms
-use Rattle.sql_parse.specs.Parts.{or_else, built, stands, text_to, is_text_to, in_brackets, itself}
-use Rattle.sql_parse.specs.Literals.{largest, smallest, constant_in, negative, literal, table_ref, is_naming, term, minus_in, is_step, step, sum}
+use Rattle.sql_parse.specs.Parts.{built, stands, text_to, is_text_to, itself}
+use Rattle.sql_parse.specs.Literals.{largest, smallest, constant_in, literal, table_ref, is_naming, term, minus_in, is_step, step, sum}
 use Rattle.sql_parse.specs.Conditions.{sign_in, compared, is_null, condition, where_part, conditions}
 use Rattle.sql_parse.specs.Printing.{quoted_text, separated_text, each_text, link_text, table_text, term_text, minus_text, step_text, sum_text, sign_text, null_text, cond_text, where_text}
-use Rattle.sql_parse.proofs.WriteLaws.{goes_on, no_byte, Writes, word_written, quoted_written, number_written, at_written, minus_written, plus_written, blank_first, blank_written, nothing_written, then_written, joined_written, ended, spaced, IsMade, AreMade, rest_made, Prints, PrintsEnded, Quiet, prints_pair, prints_ended_pair, prints_after, prints_built, prints_tested, prints_or_else, prints_optional, prints_meant, prints_many, many_quiet, prints_separated, keyword_written, inner_written}
+use Rattle.sql_parse.proofs.WriteLaws.{goes_on, no_byte, Writes, word_written, quoted_written, number_written, at_written, minus_written, plus_written, blank_first, blank_written, nothing_written, joined_written, ended, spaced, IsMade, AreMade, rest_made, Prints, PrintsEnded, Quiet, prints_pair, prints_ended_pair, prints_after, prints_built, prints_tested, prints_or_else, prints_optional, prints_meant, prints_many, many_quiet, prints_separated, keyword_written, inner_written}
 
 -- ---- One token.
 

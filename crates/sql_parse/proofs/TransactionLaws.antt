@@ -1,19 +1,17 @@
 -- COMMIT, ROLLBACK, ALTER and EXECUTE are exact.
-use Rattle.std.proofs.Common.{◌≡◌, ℕ, Bool, true, false, List, [], ◌∷◌, ◌++◌, Option, Some, None, refl, inl, inr}
+use Rattle.std.proofs.Common.{◌≡◌, ℕ, false, List, ◌++◌, refl, inl, inr}
 use Rattle.std.specs.Prelude.{codes}
 use Rattle.std.specs.Str.{bytes_eq}
-use Rattle.std.proofs.lemmas.Bool.{cases_Bool}
 use Rattle.token_grammar.specs.declared.mark.Mark.TheVariants as marks
 use Rattle.token_grammar.specs.declared.token.Token.{Token}
-use Rattle.token_grammar.specs.declared.token.Token.TheVariants as token
 use Rattle.token_grammar.specs.Steps.{begins}
-use Rattle.token_grammar.specs.Grammar.{Grammar, is_word, is_mark, nothing, anything, either, passed, word, mark, meant, number_to, number_to_in, ◌·◌, ◌▹◌, maybe, optional}
-use Rattle.token_grammar.specs.Exact.{IsExact, Leads, Apart}
+use Rattle.token_grammar.specs.Grammar.{Grammar, is_word, is_mark, nothing, anything, passed, word, mark, meant, number_to, number_to_in, ◌·◌, ◌▹◌, maybe, optional}
+use Rattle.token_grammar.specs.Exact.{IsExact, Leads}
 use Rattle.token_grammar.proofs.Beginnings.{begins-append, begins-apart, leads_word, leads_mark, leads_after, apart_words, apart_nothing, ends_all}
 use Rattle.token_grammar.proofs.OneToken.{word_exact, mark_exact, meant_exact, passed_exact, maybe_exact}
 use Rattle.token_grammar.proofs.Parts.{after, after_exact, seq, optional_exact}
 use Rattle.sql_parse.specs.declared.statement.Stmt.{Stmt}
-use Rattle.sql_parse.specs.Parts.{or_else, built, text_to, in_brackets}
+use Rattle.sql_parse.specs.Parts.{or_else, built, text_to}
 use Rattle.sql_parse.specs.Transactions.{comment_limit, id_limit, largest_scn, plain_commit, forced_commit, commit, rollback_of, rollback, advice_in, advise, switch_in, recovery, alter, argument, purge, is_execute, execute}
 use Rattle.sql_parse.proofs.PartLaws.{or_else_exact, led_exact, built_exact, leads_built, text_exact, brackets_exact, optional_misses}
 

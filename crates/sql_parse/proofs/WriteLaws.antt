@@ -1,7 +1,7 @@
 -- Bytes that are tokens, whatever follows that makes them no longer; and grammars whose values are written so.
-use Rattle.std.proofs.Common.{◌≡◌, ℕ, ◌<◌, ◌^◌, Bool, true, false, List, [], ◌∷◌, ◌++◌, length, map, Option, Some, None, rules, refl, sym, ap, subst, ◌∙◌, append_assoc, arith, ◌⊎◌, inl, inr}
+use Rattle.std.proofs.Common.{◌≡◌, ℕ, ◌<◌, ◌^◌, Bool, true, false, List, [], ◌∷◌, ◌++◌, length, map, Option, Some, None, rules, refl, sym, ap, subst, ◌∙◌, append_assoc, arith, inl, inr}
 use Rattle.std.specs.Prelude.{codes, decimal, ◌||◌, ◌&&◌}
-use Rattle.std.specs.List.{flat_map, list_all}
+use Rattle.std.specs.List.{list_all}
 use Rattle.std.specs.Char.{to_ascii_uppercase}
 use Rattle.std.proofs.Math.Path.{ap₂}
 use Rattle.std.proofs.lemmas.Bool.Decides.{nat_tests}
@@ -9,15 +9,13 @@ use Rattle.std.proofs.lemmas.Bool.{cases_Bool}
 use Rattle.std.proofs.lemmas.List.Concat.{flat_map-cons}
 use Rattle.std.proofs.lemmas.Fmt.{digits_value-decimal, digits_decimal, decimal_nonempty}
 use Rattle.std.proofs.lemmas.Str.Parse.{IsNumeralModel, numerals_by_fold}
-use Rattle.dtx_values.specs.Texts.{quoted_byte}
-use Rattle.token_grammar.specs.declared.mark.Mark.{Mark}
 use Rattle.token_grammar.specs.declared.mark.Mark.TheVariants as marks
 use Rattle.token_grammar.specs.declared.token.Token.{Token}
 use Rattle.token_grammar.specs.declared.token.Token.TheVariants as token
 use Rattle.token_grammar.specs.Bytes.{is_letter, is_digit, is_word_byte, is_quote, value_from, two_marks}
 use Rattle.token_grammar.specs.Steps.{begins}
 use Rattle.token_grammar.specs.Tokens.{TokenText, MarkEnds, Ends, Tokens}
-use Rattle.token_grammar.specs.Grammar.{Grammar, is_mark, word, mark, meant, commas, ◌·◌, ◌▹◌, ◌◃◌, Optional, optional, Each, many, separated, mapped, tested}
+use Rattle.token_grammar.specs.Grammar.{Grammar, is_mark, word, mark, meant, commas, ◌·◌, ◌▹◌, ◌◃◌, optional, Each, many, separated, tested}
 use Rattle.token_grammar.proofs.Options.{some_is}
 use Rattle.sql_parse.specs.Parts.{or_else, built, in_brackets}
 use Rattle.sql_parse.specs.Printing.{each_text, separated_text, quoted_text}

@@ -1,5 +1,5 @@
 -- INSERT, UPDATE, DELETE and SELECT.
-use Rattle.std.specs.Prelude.{ℕ, Bool, true, false, List, length, Option, Some, None, nat_le, not, ◌||◌, codes}
+use Rattle.std.specs.Prelude.{ℕ, Bool, true, false, List, length, nat_le, not, ◌||◌, codes}
 use Rattle.std.specs.List.{list_all}
 use Rattle.token_grammar.specs.declared.mark.Mark.TheVariants as marks
 use Rattle.token_grammar.specs.declared.token.Token.{Token}

@@ -1,5 +1,5 @@
 -- The conditions of a WHERE.
-use Rattle.std.specs.Prelude.{Bool, List, [], ◌∷◌, Option, Some, None, unwrap_or, codes}
+use Rattle.std.specs.Prelude.{List, [], ◌∷◌, Option, Some, None, unwrap_or, codes}
 use Rattle.token_grammar.specs.declared.mark.Mark.TheVariants as marks
 use Rattle.token_grammar.specs.declared.token.Token.{Token}
 use Rattle.token_grammar.specs.declared.token.Token.TheVariants as token

@@ -1,5 +1,5 @@
 -- Literals, tables behind links, and sums.
-use Rattle.std.specs.Prelude.{ℕ, ℤ, pos, neg_ℤ, Bool, true, false, ◌&&◌, List, [], ◌∷◌, Option, Some, None, nat_le, codes, if◌then◌else◌}
+use Rattle.std.specs.Prelude.{ℕ, pos, neg_ℤ, Bool, true, false, ◌&&◌, List, [], ◌∷◌, Option, Some, None, nat_le, codes, if◌then◌else◌}
 use Rattle.std.specs.List.{list_all}
 use Rattle.std.specs.Str.{bytes_eq}
 use Rattle.dtx_values.specs.Str.{is_text}

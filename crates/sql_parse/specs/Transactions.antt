@@ -10,7 +10,7 @@ use Rattle.token_grammar.specs.Steps.{begins}
 use Rattle.token_grammar.specs.Grammar.{Grammar, is_word, is_mark, passed, word, mark, meant, number_to, ◌·◌, ◌▹◌, maybe, optional}
 use Rattle.sql_parse.specs.declared.statement.Stmt.{Stmt}
 use Rattle.sql_parse.specs.declared.statement.Stmt.TheVariants as statements
-use Rattle.sql_parse.specs.Parts.{or_else, built, is_word_of, in_brackets, text_to, stands}
+use Rattle.sql_parse.specs.Parts.{or_else, built, is_word_of, in_brackets, text_to}
 
 -- ---- COMMIT and ROLLBACK
 
