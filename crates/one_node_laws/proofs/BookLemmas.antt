@@ -68,7 +68,7 @@ AreAmong-push n (x ∷ book) e h last = (omega (arith, h.0), AreAmong-push n boo
 other_seq : (n : ℕ) (h g : BranchId) → h.seq ≤ n → g.seq ≡ n + 1 → same h g ≡ false
 other_seq n h g low new =
     let apart : (h.seq == g.seq) ≡ false = grind (arith, nat_tests) in
-    ap (λ (b : Bool). b && (h.session == g.session) && (h.boot == g.boot) && (h.node == g.node)) apart
+    grind (arith, nat_tests, apart)
 
 -- the next transaction is not decided yet
 pub none_decides : (n : ℕ) (book : List Entry) (g : BranchId) → AreAmong n book → g.seq ≡ n + 1 → list_any (decides g) book ≡ false
