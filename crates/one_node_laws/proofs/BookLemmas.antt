@@ -131,16 +131,10 @@ pub ArePast-started : (boot ended : ℕ) (book : List Entry) → ArePast boot en
 ArePast-started boot ended book past = map_all (DecidesPast boot ended) (DecidesPast (boot + 1) 0) (past_started boot ended) book past
 
 other_seq : (h g : BranchId) → (h.seq == g.seq) ≡ false → same h g ≡ false
-other_seq h g apart =
-    let inner : (h.session == g.session) && (h.seq == g.seq) ≡ false = elim (h.session == g.session) as (λ b. b && (h.seq == g.seq) ≡ false) [ true ↦ apart | false ↦ refl ] in
-    let middle : (h.boot == g.boot) && ((h.session == g.session) && (h.seq == g.seq)) ≡ false =
-    elim (h.boot == g.boot) as (λ b. b && ((h.session == g.session) && (h.seq == g.seq)) ≡ false) [ true ↦ inner | false ↦ refl ] in
-    elim (h.node == g.node) as (λ b. b && ((h.boot == g.boot) && ((h.session == g.session) && (h.seq == g.seq))) ≡ false) [ true ↦ middle | false ↦ refl ]
+other_seq h g apart = grind (arith, nat_tests, apart)
 
 other_boot : (h g : BranchId) → (h.boot == g.boot) ≡ false → same h g ≡ false
-other_boot h g apart =
-    let middle : (h.boot == g.boot) && ((h.session == g.session) && (h.seq == g.seq)) ≡ false = ap (λ (b : Bool). b && ((h.session == g.session) && (h.seq == g.seq))) apart in
-    elim (h.node == g.node) as (λ b. b && ((h.boot == g.boot) && ((h.session == g.session) && (h.seq == g.seq))) ≡ false) [ true ↦ middle | false ↦ refl ]
+other_boot h g apart = grind (arith, nat_tests, apart)
 
 apart_seq : (m n k : ℕ) → m ≤ n → k ≡ n + 1 → (m == k) ≡ false
 apart_seq m n k low new = grind (arith, nat_tests)
