@@ -1,5 +1,5 @@
 -- How a run ends: the writing of what is due, and that good ends give the report.
-use Rattle.std.proofs.Common.{◌≡◌, ◌⊎◌, ℕ, ◌+◌, ◌≤◌, true, false, List, [], ◌++◌, length, Option, None, Some, Ok, Err, refl, sym, ap, subst, ◌∙◌, inl, inr, arith, length-append}
+use Rattle.std.proofs.Common.{◌≡◌, ◌⊎◌, ℕ, ◌+◌, ◌≤◌, Bool, true, false, List, [], ◌++◌, length, Option, None, Some, Ok, Err, refl, sym, ap, subst, ◌∙◌, inl, inr, arith, length-append}
 use Rattle.std.specs.Prelude.{IsOk, IsErr}
 use Rattle.std.specs.Io.KnownBytes.{Consumes, IsAtEnd, Appends}
 use Rattle.std.proofs.lemmas.List.{append-nil}
@@ -9,29 +9,30 @@ use Rattle.script_run.specs.declared.outcome.Run.{Run}
 use Rattle.script_run.specs.declared.outcome.Status.{Status}
 use Rattle.script_run.specs.declared.outcome.Status.TheVariants.{Done, BadScript, Usage, NoMemory, ReadFault, WriteFault, TooLong}
 use Rattle.script_run.specs.Headline.{nothing_done}
+use Rattle.script_run.specs.Report.{output_of}
 use Rattle.script_run.specs.Ending.{Read, Written, IsCut, due_of, IsAskedBy, IsWhole, EndsRefused, EndsReported, EndsOn, EndsRead, longest, IsComplete}
 
 -- the report of a run of all the commands that the bytes ask for
-pub reported : (bytes : List ℕ) (w : Written) (run : Run) (status : Status) → IsAskedBy bytes run → IsWhole run → EndsReported w run.answers status → EndsOn bytes w run status
-reported bytes w run Done asks whole ends = (asks, whole, ends)
-reported bytes w run WriteFault asks whole ends = (inl (asks, whole), subst (λ (a : Asked). IsCut w (due_of a run.answers)) (sym asks) ends)
-reported bytes w run NoMemory asks whole ends = (inl asks, ends)
-reported bytes w run BadScript asks whole ends = absurd ends
-reported bytes w run Usage asks whole ends = absurd ends
-reported bytes w run ReadFault asks whole ends = absurd ends
-reported bytes w run TooLong asks whole ends = absurd ends
+pub reported : (bytes : List ℕ) (with_book : Bool) (w : Written) (run : Run) (status : Status) → IsAskedBy bytes run → IsWhole run → EndsReported w (output_of with_book run) status → EndsOn bytes with_book w run status
+reported bytes with_book w run Done asks whole ends = (asks, whole, ends)
+reported bytes with_book w run WriteFault asks whole ends = (inl (asks, whole), subst (λ (a : Asked). IsCut w (due_of a with_book run)) (sym asks) ends)
+reported bytes with_book w run NoMemory asks whole ends = (inl asks, ends)
+reported bytes with_book w run BadScript asks whole ends = absurd ends
+reported bytes with_book w run Usage asks whole ends = absurd ends
+reported bytes with_book w run ReadFault asks whole ends = absurd ends
+reported bytes with_book w run TooLong asks whole ends = absurd ends
 
 -- the refusal of a script that is bad on this line
-pub refused : (bytes : List ℕ) (line : ℕ) (w : Written) (run : Run) (status : Status) → asked bytes ≡ Err line → run ≡ nothing_done → EndsRefused w line status → EndsOn bytes w run status
-refused bytes line w run BadScript bad nothing ends =
-    subst (λ (a : Asked). IsErr a × (run ≡ nothing_done) × Appends w.before w.now (due_of a [])) (sym bad) (refl, nothing, ends)
-refused bytes line w run WriteFault bad nothing ends =
-    subst (λ (a : Asked). ((a ≡ Ok run.commands) × IsWhole run ⊎ (IsErr a × (run ≡ nothing_done))) × IsCut w (due_of a run.answers)) (sym bad) (inr (refl, nothing), ends)
-refused bytes line w run NoMemory bad nothing ends = (inr nothing, ends)
-refused bytes line w run Done bad nothing ends = absurd ends
-refused bytes line w run Usage bad nothing ends = absurd ends
-refused bytes line w run ReadFault bad nothing ends = absurd ends
-refused bytes line w run TooLong bad nothing ends = absurd ends
+pub refused : (bytes : List ℕ) (with_book : Bool) (line : ℕ) (w : Written) (run : Run) (status : Status) → asked bytes ≡ Err line → run ≡ nothing_done → EndsRefused w line status → EndsOn bytes with_book w run status
+refused bytes with_book line w run BadScript bad nothing ends =
+    subst (λ (a : Asked). IsErr a × (run ≡ nothing_done) × Appends w.before w.now (due_of a with_book run)) (sym bad) (refl, nothing, ends)
+refused bytes with_book line w run WriteFault bad nothing ends =
+    subst (λ (a : Asked). ((a ≡ Ok run.commands) × IsWhole run ⊎ (IsErr a × (run ≡ nothing_done))) × IsCut w (due_of a with_book run)) (sym bad) (inr (refl, nothing), ends)
+refused bytes with_book line w run NoMemory bad nothing ends = (inr nothing, ends)
+refused bytes with_book line w run Done bad nothing ends = absurd ends
+refused bytes with_book line w run Usage bad nothing ends = absurd ends
+refused bytes with_book line w run ReadFault bad nothing ends = absurd ends
+refused bytes with_book line w run TooLong bad nothing ends = absurd ends
 
 pub ruleset endings = (reported, refused)
 
@@ -53,14 +54,14 @@ not_both : (a : Asked) → IsOk a → IsErr a → ⊥
 not_both (Ok commands) ok err = let clash : false ≡ true = err in absurd cc
 not_both (Err line) ok err = let clash : false ≡ true = ok in absurd cc
 
-pub is_complete : (r : Read) (w : Written) (run : Run) (status : Status) → EndsRead r w run status → IsComplete r w status
-is_complete r w run Done ends bytes before short reads source sink = inl refl
-is_complete r w run NoMemory ends bytes before short reads source sink = inr refl
-is_complete r w run Usage ends bytes before short reads source sink = absurd ends
-is_complete r w run ReadFault ends bytes before short reads source sink = absurd (source ends.2)
-is_complete r w run TooLong ends bytes before short reads source sink =
+pub is_complete : (with_book : Bool) (r : Read) (w : Written) (run : Run) (status : Status) → EndsRead with_book r w run status → IsComplete r w status
+is_complete with_book r w run Done ends bytes before short reads source sink = inl refl
+is_complete with_book r w run NoMemory ends bytes before short reads source sink = inr refl
+is_complete with_book r w run Usage ends bytes before short reads source sink = absurd ends
+is_complete with_book r w run ReadFault ends bytes before short reads source sink = absurd (source ends.2)
+is_complete with_book r w run TooLong ends bytes before short reads source sink =
     absurd (not_too_long longest r.now bytes short (subst (λ (b : Option (List ℕ)). IsTooLong longest b r.now) before ends.2))
-is_complete r w run WriteFault ends bytes before short reads source sink = absurd (sink ends.2.1.failed)
-is_complete r w run BadScript ends bytes before short reads source sink =
+is_complete with_book r w run WriteFault ends bytes before short reads source sink = absurd (sink ends.2.1.failed)
+is_complete with_book r w run BadScript ends bytes before short reads source sink =
     let same : ends.0 ≡ bytes = whole_read r.now ends.0 bytes (subst (λ (b : Option (List ℕ)). Consumes b r.now ends.0) before ends.1.consumed) ends.1.ended in
     absurd (not_both (asked bytes) reads (subst (λ (bs : List ℕ). IsErr (asked bs)) same ends.2.0))

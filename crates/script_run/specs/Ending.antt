@@ -1,15 +1,14 @@
 -- How a run of the program ends: each status with its cause, and the bytes read and written.
-use Rattle.std.specs.Prelude.{◌≡◌, ◌++◌, ◌≤◌, ◌⊎◌, ℕ, List, [], Option, Some, Ok, Err, IsOk, IsErr, length, codes, decimal}
+use Rattle.std.specs.Prelude.{◌≡◌, ◌++◌, ◌≤◌, ◌⊎◌, ℕ, Bool, List, [], Option, Some, Ok, Err, IsOk, IsErr, length, codes, decimal}
 use Rattle.std.specs.Io.KnownBytes.{Keeps, Appends}
 use Rattle.dtx_ports.specs.Causes.{Rose}
 use Rattle.dtx_ports.specs.Whole.{IsAll, IsTooLong, AppendsPrefix}
-use Rattle.one_node_book.specs.declared.line.AnswerLine.{AnswerLine}
 use Rattle.one_node_script.specs.Script.{Asked, asked}
 use Rattle.script_run.specs.declared.outcome.Run.{Run}
 use Rattle.script_run.specs.declared.outcome.Status.{Status}
 use Rattle.script_run.specs.declared.outcome.Status.TheVariants.{Done, BadScript, Usage, NoMemory, ReadFault, WriteFault, TooLong}
 use Rattle.script_run.specs.Headline.{nothing_done}
-use Rattle.script_run.specs.Report.{report_of}
+use Rattle.script_run.specs.Report.{output_of}
 
 -- the longest script, in bytes
 abbrev pub longest : ℕ
@@ -23,10 +22,10 @@ usage_line = codes "usage: dtx [--book] [--make N]\n"
 abbrev pub refusal_line : ℕ → List ℕ
 refusal_line line = codes "line " ++ decimal line ++ codes ": bad command\n"
 
--- what is due of a script: the report, or the line of its first bad command
-abbrev pub due_of : Asked → List AnswerLine → List ℕ
-due_of (Ok commands) answers = report_of answers
-due_of (Err line) answers = refusal_line line
+-- what is due of a script: what its run prints, or the line of its first bad command
+abbrev pub due_of : Asked → Bool → Run → List ℕ
+due_of (Ok commands) with_book run = output_of with_book run
+due_of (Err line) with_book run = refusal_line line
 
 -- what a source has left and its count of faults, before and after
 pub record Read : Type 0 where
@@ -75,39 +74,39 @@ EndsRefused w line Usage = ⊥
 EndsRefused w line ReadFault = ⊥
 EndsRefused w line TooLong = ⊥
 
--- how the writing of the report of these answers ends
-abbrev pub EndsReported : Written → List AnswerLine → Status → Type 0
-EndsReported w answers Done = Appends w.before w.now (report_of answers)
-EndsReported w answers WriteFault = IsCut w (report_of answers)
-EndsReported w answers NoMemory = Keeps w.before w.now
-EndsReported w answers BadScript = ⊥
-EndsReported w answers Usage = ⊥
-EndsReported w answers ReadFault = ⊥
-EndsReported w answers TooLong = ⊥
+-- how the writing of this output ends
+abbrev pub EndsReported : Written → List ℕ → Status → Type 0
+EndsReported w output Done = Appends w.before w.now output
+EndsReported w output WriteFault = IsCut w output
+EndsReported w output NoMemory = Keeps w.before w.now
+EndsReported w output BadScript = ⊥
+EndsReported w output Usage = ⊥
+EndsReported w output ReadFault = ⊥
+EndsReported w output TooLong = ⊥
 
 -- how a run over these bytes ends, which were all that the source gave
-abbrev pub EndsOn : List ℕ → Written → Run → Status → Type 0
-EndsOn bytes w run Done = IsAskedBy bytes run × IsWhole run × Appends w.before w.now (report_of run.answers)
-EndsOn bytes w run BadScript = IsErr (asked bytes) × (run ≡ nothing_done) × Appends w.before w.now (due_of (asked bytes) [])
-EndsOn bytes w run WriteFault = ((IsAskedBy bytes run × IsWhole run) ⊎ (IsErr (asked bytes) × (run ≡ nothing_done))) × IsCut w (due_of (asked bytes) run.answers)
-EndsOn bytes w run NoMemory = (IsAskedBy bytes run ⊎ (run ≡ nothing_done)) × Keeps w.before w.now
-EndsOn bytes w run Usage = ⊥
-EndsOn bytes w run ReadFault = ⊥
-EndsOn bytes w run TooLong = ⊥
+abbrev pub EndsOn : List ℕ → Bool → Written → Run → Status → Type 0
+EndsOn bytes with_book w run Done = IsAskedBy bytes run × IsWhole run × Appends w.before w.now (output_of with_book run)
+EndsOn bytes with_book w run BadScript = IsErr (asked bytes) × (run ≡ nothing_done) × Appends w.before w.now (due_of (asked bytes) with_book run)
+EndsOn bytes with_book w run WriteFault = ((IsAskedBy bytes run × IsWhole run) ⊎ (IsErr (asked bytes) × (run ≡ nothing_done))) × IsCut w (due_of (asked bytes) with_book run)
+EndsOn bytes with_book w run NoMemory = (IsAskedBy bytes run ⊎ (run ≡ nothing_done)) × Keeps w.before w.now
+EndsOn bytes with_book w run Usage = ⊥
+EndsOn bytes with_book w run ReadFault = ⊥
+EndsOn bytes with_book w run TooLong = ⊥
 
 -- the source was read to its end, within the limit, and the run over its bytes ends so
-abbrev pub EndsWithin : Read → Written → Run → Status → Type 0
-EndsWithin r w run status = (bytes : List ℕ) × IsAll longest r.before r.now bytes × EndsOn bytes w run status
+abbrev pub EndsWithin : Bool → Read → Written → Run → Status → Type 0
+EndsWithin with_book r w run status = (bytes : List ℕ) × IsAll longest r.before r.now bytes × EndsOn bytes with_book w run status
 
--- how a run without words ends
-abbrev pub EndsRead : Read → Written → Run → Status → Type 0
-EndsRead r w run ReadFault = (run ≡ nothing_done) × Keeps w.before w.now × Rose r.faults_before r.faults_now
-EndsRead r w run TooLong = (run ≡ nothing_done) × Keeps w.before w.now × IsTooLong longest r.before r.now
-EndsRead r w run NoMemory = ((run ≡ nothing_done) × Keeps w.before w.now) ⊎ EndsWithin r w run NoMemory
-EndsRead r w run Usage = ⊥
-EndsRead r w run Done = EndsWithin r w run Done
-EndsRead r w run BadScript = EndsWithin r w run BadScript
-EndsRead r w run WriteFault = EndsWithin r w run WriteFault
+-- how a run over the program's words ends, which want the book or not
+abbrev pub EndsRead : Bool → Read → Written → Run → Status → Type 0
+EndsRead with_book r w run ReadFault = (run ≡ nothing_done) × Keeps w.before w.now × Rose r.faults_before r.faults_now
+EndsRead with_book r w run TooLong = (run ≡ nothing_done) × Keeps w.before w.now × IsTooLong longest r.before r.now
+EndsRead with_book r w run NoMemory = ((run ≡ nothing_done) × Keeps w.before w.now) ⊎ EndsWithin with_book r w run NoMemory
+EndsRead with_book r w run Usage = ⊥
+EndsRead with_book r w run Done = EndsWithin with_book r w run Done
+EndsRead with_book r w run BadScript = EndsWithin with_book r w run BadScript
+EndsRead with_book r w run WriteFault = EndsWithin with_book r w run WriteFault
 
 -- the end of all that goes well, want of memory aside
 abbrev pub EndsWell : Status → Type 0

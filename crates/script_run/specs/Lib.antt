@@ -4,3 +4,4 @@ pub mod Linked
 pub mod Report
 pub mod Headline
 pub mod Ending
+pub mod Words

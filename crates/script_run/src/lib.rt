@@ -4,11 +4,17 @@
 //! `specs/Ending.antt` how it ends.
 #![tactic(auto)]
 
-mod node;
+mod acts;
+mod at_once;
+mod disk_lines;
+mod line;
 mod outcome;
 mod progress;
 mod report;
 mod run;
+mod site;
+mod words;
 
+pub use line::{AnswerLine, AnswerLines, Said};
 pub use outcome::{Outcome, Run, Status};
 pub use run::run_script;

@@ -28,7 +28,7 @@ pub struct Progress {
 }
 
 /// The names of the nodes once this command has begun.
-fn take_name(alloc: Global, names: &mut Names, command: &Command) -> Result<(), AllocError>
+pub fn take_name(alloc: Global, names: &mut Names, command: &Command) -> Result<(), AllocError>
     ensures { OnOk result (names.new ≡ names_by names.old command.now) }
 {
     if let Command::Node { name } = command {

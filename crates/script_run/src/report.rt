@@ -1,14 +1,22 @@
 //! The report: the answers as lines of text, each behind the number of its command.
-ghost use Rattle.std.specs.Prelude.{◌≡◌, ◌+◌, ◌∷◌, ◌++◌, [], map, codes, decimal, IfOk, OnOk};
+ghost use Rattle.std.specs.Prelude.{◌≡◌, ◌+◌, ◌∷◌, ◌++◌, [], map, codes, decimal, if◌then◌else◌, IfOk, OnOk};
 ghost use Rattle.std.specs.List.{flat_map};
-ghost use Rattle.script_run.specs.Report.{joined as joined_of, row_text as row_text_of, count_text as count_text_of, found_lines as found_lines_of, done_text as done_text_of, first_of, refusal_text as refusal_text_of, lines_of, numbered, report_of};
+ghost use Rattle.script_run.specs.Report.{joined as joined_of, row_text as row_text_of, count_text as count_text_of, found_lines as found_lines_of, done_text as done_text_of, first_of, refusal_text as refusal_text_of, lines_of, numbered, report_of, node_names as node_names_of, output_of};
+ghost use Rattle.script_run.specs.Lines.{told_by};
+ghost use Rattle.book.specs.declared.line.Said.TheVariants.{Node};
+ghost use Rattle.book.specs.Texts.{book_text as book_text_of};
 
+use book::book_text;
 use dtx_values::{
-    Answer, Bytes, Done, Duplicate, Listing, Notice, Refusal, Row, RowSet, UNIQUE_VIOLATED,
+    Answer, Bytes, Done, Duplicate, Listing, Names, Notice, Refusal, Row, RowSet, UNIQUE_VIOLATED,
     value_text,
 };
+use crate::at_once::{RUNNING, STOPPED};
+use crate::line::{AnswerLine, Said};
+use crate::outcome::Run;
+use crate::progress::take_name;
 use itoa::Buffer;
-use one_node_book::{AnswerLine, Said};
+use one_node_script::Command;
 use std::alloc::{AllocError, Global};
 
 /// The pieces, with a bar between each two.
@@ -104,7 +112,7 @@ fn done_text(alloc: Global, done: Done, count: u32) -> Result<Bytes, AllocError>
     }
 }
 
-/// The table that a refusal names.
+/// The table or node that a refusal names.
 fn first_argument(arguments: &[Bytes]) -> &[u8]
     ensures { result.now ≡ first_of arguments.now }
 {
@@ -114,16 +122,35 @@ fn first_argument(arguments: &[Bytes]) -> &[u8]
     }
 }
 
+/// What a refusal names, between these words.
+fn naming(
+    alloc: Global,
+    before: &[u8],
+    refusal: &Refusal,
+    after: &[u8],
+) -> Result<Bytes, AllocError>
+    ensures { IfOk result (λ text. text ≡ before.now ++ first_of refusal.now.args ++ after.now) }
+{
+    let mut out = Vec::from_slice(alloc, before)?;
+    out.extend_from_slice(first_argument(refusal.args.as_slice()))?;
+    out.extend_from_slice(after)?;
+    Ok(Listing::of(out))
+}
+
 fn refusal_text(alloc: Global, refusal: &Refusal) -> Result<Bytes, AllocError>
     ensures { IfOk result (λ text. text ≡ refusal_text_of refusal.now) }
 {
-    if refusal.code != UNIQUE_VIOLATED {
-        return text(alloc, b"ORA-00900: invalid SQL statement");
+    match refusal.code {
+        UNIQUE_VIOLATED => naming(
+            alloc,
+            b"ORA-00001: unique constraint (APP.",
+            refusal,
+            b"_PK) violated",
+        ),
+        STOPPED => naming(alloc, b"DTX-01: node ", refusal, b" is stopped"),
+        RUNNING => naming(alloc, b"DTX-13: node ", refusal, b" is running"),
+        _ => text(alloc, b"ORA-00900: invalid SQL statement"),
     }
-    let mut out = Vec::from_slice(alloc, b"ORA-00001: unique constraint (APP.")?;
-    out.extend_from_slice(first_argument(refusal.args.as_slice()))?;
-    out.extend_from_slice(b"_PK) violated")?;
-    Ok(Listing::of(out))
 }
 
 fn one_line(alloc: Global, line: Bytes) -> Result<Vec<Bytes>, AllocError>
@@ -132,17 +159,25 @@ fn one_line(alloc: Global, line: Bytes) -> Result<Vec<Bytes>, AllocError>
     Ok(vec![in alloc; line]?)
 }
 
+fn answer_lines(alloc: Global, answer: &Answer) -> Result<Vec<Bytes>, AllocError>
+    ensures { IfOk result (λ lines. lines.items ≡ lines_of (Node answer.now)) }
+{
+    match answer {
+        Answer::Did(done, count) => one_line(alloc, done_text(alloc, *done, *count)?),
+        Answer::Found(found) => found_lines(alloc, found),
+        Answer::Refused(refusal) => one_line(alloc, refusal_text(alloc, refusal)?),
+    }
+}
+
 fn lines(alloc: Global, said: &Said) -> Result<Vec<Bytes>, AllocError>
-    ensures { IfOk result (λ lines. lines.items ≡ lines_of said.now) }
+    ensures { IfOk result (λ lines. lines.items ≡ lines_of (told_by said.now)) }
 {
     match said {
         Said::World(Notice::Fine) => one_line(alloc, text(alloc, b"ok")?),
         Said::World(Notice::Waiting) => one_line(alloc, text(alloc, b"waiting")?),
         Said::World(Notice::Refused(refusal)) => one_line(alloc, refusal_text(alloc, refusal)?),
         Said::World(Notice::Shown(lines)) => Ok(lines.copy(alloc)?.into_vec()),
-        Said::Node(Answer::Did(done, count)) => one_line(alloc, done_text(alloc, *done, *count)?),
-        Said::Node(Answer::Found(found)) => found_lines(alloc, found),
-        Said::Node(Answer::Refused(refusal)) => one_line(alloc, refusal_text(alloc, refusal)?),
+        Said::Node(finished) => answer_lines(alloc, finished.answer()),
     }
 }
 
@@ -167,13 +202,50 @@ fn put_lines(out: &mut Vec<u8>, command: u32, lines: &[Bytes]) -> Result<(), All
 }
 
 /// The report of the answers.
-pub fn report(alloc: Global, answers: &[AnswerLine]) -> Result<Vec<u8>, AllocError>
+fn report(alloc: Global, answers: &[AnswerLine]) -> Result<Vec<u8>, AllocError>
     ensures { IfOk result (λ text. text.items ≡ report_of answers.now) }
 {
     let mut out = Vec::new(alloc);
     for answer in answers {
-        let lines = lines(alloc, &answer.said)?;
-        put_lines(&mut out, answer.command, &lines)?;
+        let lines = lines(alloc, answer.said())?;
+        put_lines(&mut out, answer.command(), &lines)?;
     }
+    Ok(out)
+}
+
+/// The names of the nodes that these commands make.
+fn node_names(alloc: Global, commands: &[Command]) -> Result<Names, AllocError>
+    ensures { IfOk result (λ names. names ≡ node_names_of commands.now) }
+{
+    let mut names = Listing::new(alloc);
+    for command in commands {
+        take_name(alloc, &mut names, command)?;
+    }
+    Ok(names)
+}
+
+/// The book behind a report, where it is wanted.
+fn put_book(
+    alloc: Global,
+    out: &mut Vec<u8>,
+    with_book: bool,
+    run: &Run,
+) -> Result<(), AllocError>
+    ensures { OnOk result (out.new.items ≡ out.old.items ++ (if with_book then book_text_of (node_names_of run.now.commands) run.now.book else [])) }
+{
+    if !with_book {
+        return Ok(());
+    }
+    let names = node_names(alloc, run.commands.as_slice())?;
+    let text = book_text(alloc, run.book.as_slice(), names.as_slice())?;
+    out.extend_from_slice(text.as_slice())
+}
+
+/// What a run prints: its report, and the book behind it where that is wanted.
+pub fn output(alloc: Global, with_book: bool, run: &Run) -> Result<Vec<u8>, AllocError>
+    ensures { IfOk result (λ text. text.items ≡ output_of with_book run.now) }
+{
+    let mut out = report(alloc, run.answers.as_slice())?;
+    put_book(alloc, &mut out, with_book, run)?;
     Ok(out)
 }

@@ -1,14 +1,17 @@
 //! The top call: from the bytes of a script to the bytes of its report.
-ghost use Rattle.std.specs.Prelude.{◌≡◌, ◌<◌, ◌^◌, [], length, vec_len};
+ghost use Rattle.std.specs.Prelude.{◌≡◌, ◌<◌, ◌^◌, Bool, Some, None, map, length};
+ghost use Rattle.std.specs.String.{string_bytes};
+ghost use Rattle.script_run.specs.Words.{wanted as wanted_by};
+ghost use Rattle.script_run.specs.Report.{output_of};
 ghost use Rattle.script_run.specs.Headline.{IsRun, nothing_done};
 ghost use Rattle.script_run.specs.Ending.{EndsUnread, EndsRefused, EndsReported, EndsOn, EndsRead, IsComplete};
 
 use crate::outcome::{Outcome, Run, Status};
 use crate::progress::run_commands;
-use crate::report::report;
+use crate::report::output;
+use crate::words::wanted;
 use dtx_ports::{ReadErr, Sink, Source, read_whole, write_whole};
 use dtx_values::Listing;
-use one_node_book::AnswerLine;
 use one_node_script::{ScriptErr, read_script};
 use std::alloc::Global;
 
@@ -39,11 +42,11 @@ fn explain_line<K: Sink>(alloc: Global, line: u32, sink: &mut K) -> Status
     }
 }
 
-/// Writes the report.
-fn write_report<K: Sink>(alloc: Global, answers: &[AnswerLine], sink: &mut K) -> Status
-    ensures { EndsReported (record { before = K.written sink.old; now = K.written sink.new; faults_before = K.faults sink.old; faults_now = K.faults sink.new }) answers.now result }
+/// Writes what a run prints.
+fn write_output<K: Sink>(alloc: Global, with_book: bool, run: &Run, sink: &mut K) -> Status
+    ensures { EndsReported (record { before = K.written sink.old; now = K.written sink.new; faults_before = K.faults sink.old; faults_now = K.faults sink.new }) (output_of with_book run.now) result }
 {
-    match report(alloc, answers) {
+    match output(alloc, with_book, run) {
         Ok(text) => match write_whole(sink, &text) {
             Ok(()) => Status::Done,
             Err(_) => Status::WriteFault,
@@ -54,10 +57,10 @@ fn write_report<K: Sink>(alloc: Global, answers: &[AnswerLine], sink: &mut K) ->
 
 /// Runs what the bytes ask for, and writes the report.
 #[tactic(auto, using(crate::proofs::Endings::endings))]
-fn run_bytes<K: Sink>(alloc: Global, bytes: &[u8], sink: &mut K) -> Outcome
-    requires { length bytes.now < 2 ^ 31 }
+fn run_bytes<K: Sink>(alloc: Global, with_book: bool, bytes: &[u8], sink: &mut K) -> Outcome
+    requires { length bytes.now < 2 ^ 30 }
     ensures run { IsRun result.run }
-    ensures ends { EndsOn bytes.now (record { before = K.written sink.old; now = K.written sink.new; faults_before = K.faults sink.old; faults_now = K.faults sink.new }) result.run result.status }
+    ensures ends { EndsOn bytes.now with_book (record { before = K.written sink.old; now = K.written sink.new; faults_before = K.faults sink.old; faults_now = K.faults sink.new }) result.run result.status }
 {
     let commands = match read_script(alloc, bytes) {
         Ok(commands) => commands,
@@ -73,7 +76,7 @@ fn run_bytes<K: Sink>(alloc: Global, bytes: &[u8], sink: &mut K) -> Outcome
     let (run, ran) = run_commands(alloc, Listing::of(commands));
     match ran {
         Ok(()) => {
-            let status = write_report(alloc, run.answers.as_slice(), sink);
+            let status = write_output(alloc, with_book, &run, sink);
             Outcome { status, run }
         }
         Err(_) => Outcome {
@@ -84,13 +87,18 @@ fn run_bytes<K: Sink>(alloc: Global, bytes: &[u8], sink: &mut K) -> Outcome
 }
 
 /// Reads the source, runs what it asks for, and writes the report.
-fn run_source<S: Source, K: Sink>(alloc: Global, source: &mut S, sink: &mut K) -> Outcome
+fn run_source<S: Source, K: Sink>(
+    alloc: Global,
+    with_book: bool,
+    source: &mut S,
+    sink: &mut K,
+) -> Outcome
     ensures run { IsRun result.run }
-    ensures ends { EndsRead (record { before = S.left source.old; now = S.left source.new; faults_before = S.faults source.old; faults_now = S.faults source.new })
+    ensures ends { EndsRead with_book (record { before = S.left source.old; now = S.left source.new; faults_before = S.faults source.old; faults_now = S.faults source.new })
         (record { before = K.written sink.old; now = K.written sink.new; faults_before = K.faults sink.old; faults_now = K.faults sink.new }) result.run result.status }
 {
     let status = match read_whole(alloc, source, LONGEST) {
-        Ok(bytes) => return run_bytes(alloc, &bytes, sink),
+        Ok(bytes) => return run_bytes(alloc, with_book, &bytes, sink),
         Err(ReadErr::Fault) => Status::ReadFault,
         Err(ReadErr::TooLong) => Status::TooLong,
         Err(ReadErr::NoMemory) => Status::NoMemory,
@@ -102,7 +110,7 @@ fn run_source<S: Source, K: Sink>(alloc: Global, source: &mut S, sink: &mut K) -
 }
 
 /// Reads a script from the source, runs it, and writes its report to the sink. The words are those of the command line
-/// behind the program's name; none is known yet, so any word is answered by the usage line.
+/// behind the program's name: none, or `--book` for the book behind the report. Others are answered by the usage line.
 #[tactic(auto, using(crate::proofs::Endings::is_complete))]
 pub fn run_script<S: Source, K: Sink>(
     alloc: Global,
@@ -110,23 +118,28 @@ pub fn run_script<S: Source, K: Sink>(
     source: &mut S,
     sink: &mut K,
 ) -> Outcome
-    // Each answer is the one that the rules give over the book's committed transactions, and no transaction is decided
-    // twice.
+    // Each answer is the one that the rules give over the book's committed transactions, over stops and starts; branches
+    // end as their site decided, and the SCN law holds.
     ensures run { IsRun result.run }
 
     // Each status has its cause.
-    ensures words { 0 < vec_len words.now → EndsUnread (record { before = K.written sink.old; now = K.written sink.new; faults_before = K.faults sink.old; faults_now = K.faults sink.new }) result.run result.status }
-    ensures no_words { vec_len words.now ≡ 0 → EndsRead (record { before = S.left source.old; now = S.left source.new; faults_before = S.faults source.old; faults_now = S.faults source.new })
+    ensures words { wanted_by (map string_bytes words.now.items) ≡ None
+        → EndsUnread (record { before = K.written sink.old; now = K.written sink.new; faults_before = K.faults sink.old; faults_now = K.faults sink.new }) result.run result.status }
+    ensures read { (with_book : Bool) → wanted_by (map string_bytes words.now.items) ≡ Some with_book
+        → EndsRead with_book (record { before = S.left source.old; now = S.left source.new; faults_before = S.faults source.old; faults_now = S.faults source.new })
         (record { before = K.written sink.old; now = K.written sink.new; faults_before = K.faults sink.old; faults_now = K.faults sink.new }) result.run result.status }
 
     // Good words, bytes and ends give the report.
-    ensures complete { vec_len words.now ≡ 0 → IsComplete (record { before = S.left source.old; now = S.left source.new; faults_before = S.faults source.old; faults_now = S.faults source.new })
+    ensures complete { (with_book : Bool) → wanted_by (map string_bytes words.now.items) ≡ Some with_book
+        → IsComplete (record { before = S.left source.old; now = S.left source.new; faults_before = S.faults source.old; faults_now = S.faults source.new })
         (record { before = K.written sink.old; now = K.written sink.new; faults_before = K.faults sink.old; faults_now = K.faults sink.new }) result.status }
 {
-    if !words.is_empty() {
-        let run = Run::empty(alloc);
-        let status = explain_words(sink, &run);
-        return Outcome { status, run };
+    match wanted(words) {
+        Some(with_book) => run_source(alloc, with_book, source, sink),
+        None => {
+            let run = Run::empty(alloc);
+            let status = explain_words(sink, &run);
+            Outcome { status, run }
+        }
     }
-    run_source(alloc, source, sink)
 }
