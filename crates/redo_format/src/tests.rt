@@ -1,7 +1,7 @@
 //! What no clause says: the bytes themselves, by examples from outside, and that calls succeed.
 use super::*;
 use byte_format::TakeErr;
-use dtx_values::{Advice, Bytes, Change, Name, Str, Value};
+use dtx_values::{Advice, Bytes, Cells, Change, Column, Columns, Name, Row, Str, Table, Value};
 use redo_codec::{Decision, RedoRecord, Toward};
 use std::alloc::{AllocError, Global};
 use std::test::Fail;
@@ -252,5 +252,53 @@ fn changes_and_rows_are_written_and_taken(rt: HostRuntime) -> Result<(), Fail> {
     assert_eq!(rt; out.as_slice(), [2, 0, 2, 0, 1, b'a'].as_slice());
     parts_are_exact();
     records_are_exact();
+    Ok(())
+}
+
+#[test]
+fn what_was_made_is_written(rt: HostRuntime) -> Result<(), Fail> {
+    let alloc = rt.alloc();
+    let name = Name::from_bytes(alloc, b"t").map_err(|_| "it is a name")?;
+    let key = Name::from_bytes(alloc, b"k").map_err(|_| "it is a name")?;
+    name_fits(&name);
+    let mut columns = Columns::new(alloc);
+    columns.push(Column {
+        name: key,
+        text_max: Some(10),
+        not_null: true,
+        key: true,
+    })?;
+    let table = Table { name, columns };
+    table_fits(&table);
+    let body = encode(alloc, &RedoRecord::Table(table))?;
+    assert_eq!(rt;
+        body.as_slice(),
+        [1, 2, 1, b'T', 1, 1, b'K', 2, 0, 10, 1, 1].as_slice()
+    );
+    branch_fits(&BRANCH);
+    let body = encode(alloc, &RedoRecord::Hidden(BRANCH))?;
+    assert_eq!(rt; body.as_slice().len(), 15);
+    Ok(())
+}
+
+#[test]
+fn a_change_that_was_made_is_written(rt: HostRuntime) -> Result<(), Fail> {
+    let alloc = rt.alloc();
+    let table = Name::from_bytes(alloc, b"t").map_err(|_| "it is a name")?;
+    let mut cells = Cells::new(alloc);
+    cells.push(Value::Number(7))?;
+    let row = Row { cells };
+    row_fits(&row);
+    let key = Value::Number(7);
+    value_fits(&key);
+    let change = Change {
+        table,
+        key,
+        after: Some(row),
+    };
+    change_fits(&change);
+    let mut out = Vec::new(alloc);
+    put_change(&mut out, &change)?;
+    assert_eq!(rt; out.len(), 22);
     Ok(())
 }
