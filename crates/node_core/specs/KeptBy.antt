@@ -9,11 +9,11 @@ use Rattle.dtx_values.specs.declared.row.Change.{Change}
 use Rattle.dtx_values.specs.declared.answer.Answer.{Answer}
 use Rattle.one_node_sql.specs.declared.statement.Stmt.TheVariants.{Insert}
 use Rattle.one_node_rules.specs.Turn.{Kept, own_of, changes_over, answer_over}
-use Rattle.node_core.specs.declared.core.Core.{Core}
+use Rattle.node_core.specs.declared.machine.Machine.{Machine}
 
 -- what this state is
-abbrev pub kept_by : Core → Kept
-kept_by core = record { boot = core.boot; table = core.table; rows = core.rows; transaction = core.transaction; ended = core.ended; scn = core.clock }
+abbrev pub kept_by : Machine → Kept
+kept_by machine = record { boot = machine.boot; table = machine.table; rows = machine.rows; transaction = machine.transaction; ended = machine.ended; scn = machine.clock }
 
 -- Numbers that are given out in a turn are below their limits, and what the open transaction changed can be written.
 pub record IsReady (kept : Kept) : Type 0 where

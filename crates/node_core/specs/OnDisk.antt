@@ -16,7 +16,7 @@ use Rattle.node_core.specs.KeptBy.{kept_by}
 
 -- what a node keeps in memory
 abbrev pub kept_of : {D : Type 0} → Node D → Kept
-kept_of node = kept_by node.core
+kept_of node = kept_by node.machine
 
 -- its disk
 abbrev pub node_disk : {D : Type 0} → Node D → D

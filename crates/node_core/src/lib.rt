@@ -1,10 +1,10 @@
 //! A node on its disk.
 //!
-//! What a node does is decided in memory by a state machine that knows no disk (`core`); a node puts the record of a turn
+//! What a node does is decided in memory by a state machine that knows no disk (`machine`); a node puts the record of a turn
 //! on its disk before the turn is over, and a start makes the state again from the records of the disk alone.
 #![tactic(auto)]
 
-mod core;
+mod machine;
 mod effects;
 mod err;
 mod finished;

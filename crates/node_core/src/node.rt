@@ -16,7 +16,7 @@ ghost use Rattle.node_core.specs.Finished.{session_of, answer_of};
 ghost use Rattle.node_core.specs.KeptBy.{kept_by, IsReady, GoesOn};
 ghost use Rattle.node_core.specs.OnDisk.{kept_of, node_disk, IsWritable, IsRunning, GrowsByRecord, GrowsBy, calls_of, MayStand, MayStart, HoldRecords, StartsWith, StartsFrom, session_in};
 
-use crate::core::Core;
+use crate::machine::Machine;
 use crate::effects::Effects;
 use crate::err::{MakeErr, MakeWhy, TurnErr};
 use crate::finished::Finished;
@@ -32,7 +32,7 @@ use std::alloc::Global;
 #[derive(Drop)]
 pub struct Node<D: Disk> {
     alloc: Global,
-    core: Core,
+    machine: Machine,
     log: Log<D>,
 }
 
@@ -86,33 +86,33 @@ fn write<D: Disk>(
 
 /// What the node kept of which the log has these bodies.
 #[tactic(auto, using(crate::proofs::Growing::growing))]
-fn replayed(alloc: Global, bodies: &Bodies) -> Result<Core, MakeWhy>
+fn replayed(alloc: Global, bodies: &Bodies) -> Result<Machine, MakeWhy>
     requires { (rs : List RedoRecord) × HoldRecords rs bodies.now }
-    ensures kept { IfOk result (λ core. (rs : List RedoRecord) → HoldRecords rs bodies.now → kept_by core ≡ start_of rs) }
+    ensures kept { IfOk result (λ machine. (rs : List RedoRecord) → HoldRecords rs bodies.now → kept_by machine ≡ start_of rs) }
     ensures no_fault { IsErrOf result makes.Fault → ⊥ }
 {
     let records = records(alloc, bodies)?;
     records_are_exact();
-    Ok(Core::replay(alloc, &records)?)
+    Ok(Machine::replay(alloc, &records)?)
 }
 
 /// A node whose log has the records of this state: it takes the number of its next start.
 #[tactic(auto, using(crate::proofs::Growing::growing))]
-fn begin<D: Disk>(alloc: Global, log: Log<D>, core: Core) -> Result<Node<D>, MakeErr<D>>
+fn begin<D: Disk>(alloc: Global, log: Log<D>, machine: Machine) -> Result<Node<D>, MakeErr<D>>
     requires writable { IsWritable D.content D.images log }
-    requires boots { core.boot + 1 < 2 ^ 32 }
-    ensures kept { IfOk result (λ node. kept_of node ≡ after_record (kept_by core) (records.Boot (core.boot + 1))) }
-    ensures stored { IfOk result (λ node. GrowsByRecord (records.Boot (core.boot + 1)) (D.content (disk_of log)) (D.content (node_disk node))) }
+    requires boots { machine.boot + 1 < 2 ^ 32 }
+    ensures kept { IfOk result (λ node. kept_of node ≡ after_record (kept_by machine) (records.Boot (machine.boot + 1))) }
+    ensures stored { IfOk result (λ node. GrowsByRecord (records.Boot (machine.boot + 1)) (D.content (disk_of log)) (D.content (node_disk node))) }
     ensures running { IfOk result (λ node. IsRunning D.content D.images node) }
-    ensures spelled { IfOk result (λ node. IsSpelled (records.Boot (core.boot + 1))) }
+    ensures spelled { IfOk result (λ node. IsSpelled (records.Boot (machine.boot + 1))) }
     ensures fault { IfErr result (λ err. err.why ≡ makes.Fault → Rose (D.faults (disk_of log)) (D.faults err.disk)) }
     ensures later { MatchResult result (λ node. D.faults (disk_of log) ≤ D.faults (node_disk node)) (λ err. D.faults (disk_of log) ≤ D.faults err.disk) }
 {
-    let mut core = core;
+    let mut machine = machine;
     let mut log = log;
-    core.boot += 1;
-    match append(alloc, &mut log, &RedoRecord::Boot(core.boot)) {
-        Ok(()) => Ok(Node { alloc, core, log }),
+    machine.boot += 1;
+    match append(alloc, &mut log, &RedoRecord::Boot(machine.boot)) {
+        Ok(()) => Ok(Node { alloc, machine, log }),
         Err(TurnErr::Halted) => Err(MakeErr {
             disk: log.into_disk(),
             why: MakeWhy::Fault,
@@ -139,7 +139,7 @@ fn begin_from<D: Disk>(
     ensures later { MatchResult result (λ node. D.faults (disk_of log) ≤ D.faults (node_disk node)) (λ err. D.faults (disk_of log) ≤ D.faults err.disk) }
 {
     match replayed(alloc, bodies) {
-        Ok(core) => begin(alloc, log, core),
+        Ok(machine) => begin(alloc, log, machine),
         Err(why) => Err(MakeErr {
             disk: log.into_disk(),
             why,
@@ -158,7 +158,7 @@ impl<D: Disk> Node<D> {
         ensures fault { IfErr result (λ err. err.why ≡ makes.Fault → Rose (D.faults disk) (D.faults err.disk)) }
     {
         match Log::create(alloc, disk) {
-            Ok(log) => begin(alloc, log, Core::new(alloc)),
+            Ok(log) => begin(alloc, log, Machine::new(alloc)),
             Err(redo_log::MakeErr {
                 disk,
                 why: redo_log::MakeWhy::Fault,
@@ -220,7 +220,7 @@ impl<D: Disk> Node<D> {
         ensures calls { IfOk result (λ e. D.calls (node_disk self.new) ≡ count_after (calls_of e.wrote) (D.calls (node_disk self.old))) }
         ensures untouched { IsErrOf result turns.NoMemory → D.calls (node_disk self.new) ≡ D.calls (node_disk self.old) }
     {
-        let served = self.core.turn(input)?;
+        let served = self.machine.turn(input)?;
         write(self.alloc, &mut self.log, &served.wrote)?;
         Ok(Effects {
             finished: Finished::new(session_of_input(input), served.answer),
@@ -232,7 +232,7 @@ impl<D: Disk> Node<D> {
     pub fn boot(&self) -> u32
         ensures { result ≡ (kept_of self.now).boot }
     {
-        self.core.boot
+        self.machine.boot
     }
 
     /// The disk.

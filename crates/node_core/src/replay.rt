@@ -3,7 +3,7 @@ ghost use Rattle.std.specs.Prelude.{◌≡◌, Some, OnOk, IfOk};
 ghost use Rattle.one_node_rules.specs.Turn.{with_put, put_at, put_all, changes_at, after_decision, after_record, start_of};
 ghost use Rattle.node_core.specs.KeptBy.{kept_by};
 
-use crate::core::Core;
+use crate::machine::Machine;
 use dtx_values::{Change, Duplicate, RowMap, Table};
 use redo_codec::{Decided, RedoRecord};
 use std::alloc::{AllocError, Global};
@@ -50,7 +50,7 @@ fn put_where(
     }
 }
 
-impl Core {
+impl Machine {
     /// Takes in what one more of the node's records says.
     fn apply(&mut self, record: &RedoRecord) -> Result<(), AllocError>
         ensures { OnOk result (kept_by self.new ≡ after_record (kept_by self.old) «record».now) }
@@ -82,13 +82,13 @@ impl Core {
 
     /// A node of which these records stand.
     #[tactic(auto, using(crate::proofs::Replays::replays))]
-    pub(crate) fn replay(alloc: Global, records: &[RedoRecord]) -> Result<Core, AllocError>
-        ensures { IfOk result (λ core. kept_by core ≡ start_of records.now) }
+    pub(crate) fn replay(alloc: Global, records: &[RedoRecord]) -> Result<Machine, AllocError>
+        ensures { IfOk result (λ machine. kept_by machine ≡ start_of records.now) }
     {
-        let mut core = Core::new(alloc);
+        let mut machine = Machine::new(alloc);
         for record in records {
-            core.apply(record)?;
+            machine.apply(record)?;
         }
-        Ok(core)
+        Ok(machine)
     }
 }

@@ -1,5 +1,5 @@
 use Rattle.node_core.proofs.Fits.{decided_fits}
-use Rattle.node_core.proofs.core.decision.Goals as goal
+use Rattle.node_core.proofs.machine.decision.Goals as goal
 
 pub returns-clause-fits : goal.returns-clause-fits
 returns-clause-fits c =

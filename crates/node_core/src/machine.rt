@@ -33,7 +33,7 @@ const SESSION: u32 = 1;
 
 /// A node with one table and one session, but for its disk.
 #[derive(Drop)]
-pub(crate) struct Core {
+pub(crate) struct Machine {
     pub(crate) alloc: Global,
     /// Which start of the node this is, from 1.
     pub(crate) boot: u32,
@@ -202,12 +202,12 @@ fn decision(alloc: Global, branch: BranchId, scn: u64, changes: Changes) -> Deci
     }
 }
 
-impl Core {
+impl Machine {
     /// A node of which no record stands.
-    pub(crate) fn new(alloc: Global) -> Core
+    pub(crate) fn new(alloc: Global) -> Machine
         ensures { kept_by result ≡ fresh }
     {
-        Core {
+        Machine {
             alloc,
             boot: 0,
             table: None,
