@@ -12,3 +12,5 @@ mod one_node;
 mod play;
 #[cfg(test)]
 mod script_errors;
+#[cfg(test)]
+mod stops;
