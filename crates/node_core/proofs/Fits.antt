@@ -46,10 +46,10 @@ pair_widths (k ∷ []) h = absurd cc
 pair_widths (k ∷ o ∷ []) h =
     let none = both (is_none k.text_max) (is_none o.text_max) (both (is_none k.text_max && is_none o.text_max) (k.key && not o.key) h).0 in
     widths none.0 none.1 where
-  widths : is_none k.text_max ≡ true → is_none o.text_max ≡ true → All HasWidth (k ∷ o ∷ [])
-  widths first second zero d low = no_width k first
-  widths first second (suc zero) d low = no_width o second
-  widths first second (suc (suc i)) d low = absurd (omega (arith, low))
+      widths : is_none k.text_max ≡ true → is_none o.text_max ≡ true → All HasWidth (k ∷ o ∷ [])
+      widths first second zero d low = no_width k first
+      widths first second (suc zero) d low = no_width o second
+      widths first second (suc (suc i)) d low = absurd (omega (arith, low))
 pair_widths (k ∷ o ∷ x ∷ xs) h = absurd cc
 
 pub table_fits : (t : Table) → table_format.Fits t → record_format.Fits (records.Table t)

@@ -90,12 +90,13 @@ same_records one (x ∷ xs) (y ∷ ys) fx fy same =
     let here : x ≡ y = (one x y [] [] fx.0 fy.0 heads).0 in
     let there : xs ≡ ys = same_records one xs ys fx.1 fy.1 (ap rest same) in
     λ i. here i ∷ there i where
-  first : List (List ℕ) → List ℕ
-  first [] = []
-  first (l ∷ ls) = l
-  rest : List (List ℕ) → List (List ℕ)
-  rest [] = []
-  rest (l ∷ ls) = ls
+      first : List (List ℕ) → List ℕ
+      first [] = []
+      first (l ∷ ls) = l
+
+      rest : List (List ℕ) → List (List ℕ)
+      rest [] = []
+      rest (l ∷ ls) = ls
 
 pub boot_fits : (n : ℕ) → n < 2 ^ 32 → record_format.Fits (records.Boot n)
 boot_fits n low = (tt, low)

@@ -4,10 +4,10 @@
 //! on its disk before the turn is over, and a start makes the state again from the records of the disk alone.
 #![tactic(auto)]
 
-mod machine;
 mod effects;
 mod err;
 mod finished;
+mod machine;
 mod node;
 mod records;
 mod replay;

@@ -356,12 +356,7 @@ impl Machine {
             None
         } else {
             let scn = self.clock.next();
-            Some(RedoRecord::Decided(decision(
-                self.alloc,
-                branch,
-                scn,
-                changes,
-            )))
+            Some(RedoRecord::Decided(decision(self.alloc, branch, scn, changes)))
         };
         Served { answer, wrote }
     }

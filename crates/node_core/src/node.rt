@@ -16,10 +16,10 @@ ghost use Rattle.node_core.specs.Finished.{session_of, answer_of};
 ghost use Rattle.node_core.specs.KeptBy.{kept_by, IsReady, GoesOn};
 ghost use Rattle.node_core.specs.OnDisk.{kept_of, node_disk, IsWritable, IsRunning, GrowsByRecord, GrowsBy, calls_of, MayStand, MayStart, HoldRecords, StartsWith, StartsFrom, session_in};
 
-use crate::machine::Machine;
 use crate::effects::Effects;
 use crate::err::{MakeErr, MakeWhy, TurnErr};
 use crate::finished::Finished;
+use crate::machine::Machine;
 use crate::records::records;
 use block_disk::Disk;
 use one_node_book::Input;
@@ -112,7 +112,11 @@ fn begin<D: Disk>(alloc: Global, log: Log<D>, machine: Machine) -> Result<Node<D
     let mut log = log;
     machine.boot += 1;
     match append(alloc, &mut log, &RedoRecord::Boot(machine.boot)) {
-        Ok(()) => Ok(Node { alloc, machine, log }),
+        Ok(()) => Ok(Node {
+            alloc,
+            machine,
+            log,
+        }),
         Err(TurnErr::Halted) => Err(MakeErr {
             disk: log.into_disk(),
             why: MakeWhy::Fault,
@@ -126,11 +130,7 @@ fn begin<D: Disk>(alloc: Global, log: Log<D>, machine: Machine) -> Result<Node<D
 
 /// The node of which the log has these bodies.
 #[tactic(auto, using(crate::proofs::Growing::growing))]
-fn begin_from<D: Disk>(
-    alloc: Global,
-    log: Log<D>,
-    bodies: &Bodies,
-) -> Result<Node<D>, MakeErr<D>>
+fn begin_from<D: Disk>(alloc: Global, log: Log<D>, bodies: &Bodies) -> Result<Node<D>, MakeErr<D>>
     requires writable { IsWritable D.content D.images log }
     requires held { (rs : List RedoRecord) × HoldRecords rs bodies.now × ((start_of rs).boot + 1 < 2 ^ 32) }
     ensures kept { IfOk result (λ node. (rs : List RedoRecord) → HoldRecords rs bodies.now → StartsWith D.content rs (D.content (disk_of log)) node) }
@@ -159,17 +159,21 @@ impl<D: Disk> Node<D> {
     {
         match Log::create(alloc, disk) {
             Ok(log) => begin(alloc, log, Machine::new(alloc)),
-            Err(redo_log::MakeErr {
-                disk,
-                why: redo_log::MakeWhy::Fault,
-            }) => Err(MakeErr {
+            Err(
+                redo_log::MakeErr {
+                    disk,
+                    why: redo_log::MakeWhy::Fault,
+                },
+            ) => Err(MakeErr {
                 disk,
                 why: MakeWhy::Fault,
             }),
-            Err(redo_log::MakeErr {
-                disk,
-                why: redo_log::MakeWhy::NoMemory,
-            }) => Err(MakeErr {
+            Err(
+                redo_log::MakeErr {
+                    disk,
+                    why: redo_log::MakeWhy::NoMemory,
+                },
+            ) => Err(MakeErr {
                 disk,
                 why: MakeWhy::NoMemory,
             }),
@@ -255,7 +259,10 @@ fn session_of_input(input: &Input) -> u32
     ensures { result ≡ session_in input.now }
 {
     match input {
-        Input::Call { session, text: _text } => *session,
+        Input::Call {
+            session,
+            text: _text,
+        } => *session,
     }
 }
 

@@ -76,7 +76,12 @@ impl Machine {
         self.clock.meet(decided.scn);
         match &self.table {
             None => Ok(()),
-            Some(table) => put_changes(self.alloc, &mut self.rows, table, decided.changes.as_slice()),
+            Some(table) => put_changes(
+                self.alloc,
+                &mut self.rows,
+                table,
+                decided.changes.as_slice(),
+            ),
         }
     }
 

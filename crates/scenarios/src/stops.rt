@@ -27,7 +27,7 @@ const SCENARIOS: [Scenario; 9] = [
     Scenario {
         name: "transactions are counted from 1 in each start, commits on from the last",
         script: "NODE A; AT A SESSION 1: CREATE TABLE T (K NUMBER PRIMARY KEY, V NUMBER); AT A SESSION 1: INSERT INTO T VALUES (1, 1); AT A SESSION 1: INSERT INTO T VALUES (2, 1); AT A SESSION 1: COMMIT; STOP A; START A; AT A SESSION 1: INSERT INTO T VALUES (3, 1); AT A SESSION 1: COMMIT; AT A SESSION 1: INSERT INTO T VALUES (4, 1); AT A SESSION 1: COMMIT; SHOW BOOK;",
-        printed: "1 ok\n2 Table created.\n3 1 row created.\n4 1 row created.\n5 Commit complete.\n6 ok\n7 ok\n8 1 row created.\n9 Commit complete.\n10 1 row created.\n11 Commit complete.\n12 made A T\n12 decided A 1.1.1 A.00000001.1.1.1 scn 1 changes 2\n12 decided A 1.1.1 A.00000002.1.1.1 scn 2 changes 1\n12 decided A 1.1.2 A.00000002.1.1.2 scn 3 changes 1\n",
+        printed: "1 ok\n2 Table created.\n3 1 row created.\n4 1 row created.\n5 Commit complete.\n6 ok\n7 ok\n8 1 row created.\n9 Commit complete.\n10 1 row created.\n11 Commit complete.\n12 made A T\n12 decided A 1.1.1 A.00000001.1.1.1 scn 1 changes 2\n12 decided A 2.1.1 A.00000001.2.1.1 scn 2 changes 1\n12 decided A 2.1.2 A.00000001.2.1.2 scn 3 changes 1\n",
     },
     Scenario {
         name: "a book without an entry says so",
@@ -74,6 +74,6 @@ fn the_book_stands_behind_the_report(rt: HostRuntime) -> Result<(), Fail> {
 fn a_book_without_an_entry_adds_nothing(rt: HostRuntime) -> Result<(), Fail> {
     let played = run(rt.alloc(), &["--book"], b"NODE A;", &[], &[])?;
     assert_eq!(rt; played.status, Status::Done);
-    assert_eq!(rt; played.written.as_slice(), b"1 ok\n");
+    assert_eq!(rt; played.written.as_slice(), b"1 ok\n".as_slice());
     Ok(())
 }

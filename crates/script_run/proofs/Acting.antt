@@ -94,7 +94,7 @@ turn_below p k input wrote number node running owed goes =
     let here : IsBelow n k = subst (λ (o : Option Kept). IfSome o (IsBelow n)) (sym node) running.below.here in
     let owes : OwesBelow (n + 1) (start_of (p.records ++ option_to_list wrote)) =
     subst (λ (w : Option RedoRecord). OwesBelow (n + 1) (start_of (p.records ++ option_to_list w))) (sym owed)
-      (turn_owes n k input p.records here.scn (record { boot = running.below.boots; scn = running.below.scns })) in
+    (turn_owes n k input p.records here.scn (record { boot = running.below.boots; scn = running.below.scns })) in
     subst (AreBelow number) (sym (turn_is p k input wrote node)) (record {
       here = record { ended = omega (arith, goes.ended, here.ended, is); scn = omega (arith, goes.scn, here.scn, is); few = omega (arith, goes.few, here.few, is); own = goes.own };
       boots = omega (arith, owes.boot, is);

@@ -6,15 +6,15 @@ ghost use Rattle.script_run.specs.Lines.{told_by};
 ghost use Rattle.book.specs.declared.line.Said.TheVariants.{Node};
 ghost use Rattle.book.specs.Texts.{book_text as book_text_of};
 
+use crate::at_once::{RUNNING, STOPPED};
+use crate::line::{AnswerLine, Said};
+use crate::outcome::Run;
+use crate::progress::take_name;
 use book::book_text;
 use dtx_values::{
     Answer, Bytes, Done, Duplicate, Listing, Names, Notice, Refusal, Row, RowSet, UNIQUE_VIOLATED,
     value_text,
 };
-use crate::at_once::{RUNNING, STOPPED};
-use crate::line::{AnswerLine, Said};
-use crate::outcome::Run;
-use crate::progress::take_name;
 use itoa::Buffer;
 use one_node_script::Command;
 use std::alloc::{AllocError, Global};
@@ -225,12 +225,7 @@ fn node_names(alloc: Global, commands: &[Command]) -> Result<Names, AllocError>
 }
 
 /// The book behind a report, where it is wanted.
-fn put_book(
-    alloc: Global,
-    out: &mut Vec<u8>,
-    with_book: bool,
-    run: &Run,
-) -> Result<(), AllocError>
+fn put_book(alloc: Global, out: &mut Vec<u8>, with_book: bool, run: &Run) -> Result<(), AllocError>
     ensures { OnOk result (out.new.items ≡ out.old.items ++ (if with_book then book_text_of (node_names_of run.now.commands) run.now.book else [])) }
 {
     if !with_book {

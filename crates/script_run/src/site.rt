@@ -46,14 +46,18 @@ pub fn made(alloc: Global) -> Result<Site, AllocError>
 {
     match Node::make(alloc, MemDisk::new(alloc)) {
         Ok(node) => Ok(Site::Up(node)),
-        Err(MakeErr {
-            disk: _disk,
-            why: MakeWhy::NoMemory,
-        }) => Err(AllocError),
-        Err(MakeErr {
-            disk: _disk,
-            why: MakeWhy::Fault,
-        }) => unreachable!(),
+        Err(
+            MakeErr {
+                disk: _disk,
+                why: MakeWhy::NoMemory,
+            },
+        ) => Err(AllocError),
+        Err(
+            MakeErr {
+                disk: _disk,
+                why: MakeWhy::Fault,
+            },
+        ) => unreachable!(),
     }
 }
 
@@ -105,13 +109,17 @@ fn start_disk(alloc: Global, disk: MemDisk) -> Result<(Site, u32), AllocError>
             let boot = node.boot();
             Ok((Site::Up(node), boot))
         }
-        Err(MakeErr {
-            disk: _disk,
-            why: MakeWhy::NoMemory,
-        }) => Err(AllocError),
-        Err(MakeErr {
-            disk: _disk,
-            why: MakeWhy::Fault,
-        }) => unreachable!(),
+        Err(
+            MakeErr {
+                disk: _disk,
+                why: MakeWhy::NoMemory,
+            },
+        ) => Err(AllocError),
+        Err(
+            MakeErr {
+                disk: _disk,
+                why: MakeWhy::Fault,
+            },
+        ) => unreachable!(),
     }
 }

@@ -18,5 +18,9 @@ pub fn wanted(words: &[String]) -> Option<bool>
 fn wanted_word(word: &[u8]) -> Option<bool>
     ensures { result ≡ wanted_by (word.now ∷ []) }
 {
-    if word == b"--book".as_slice() { Some(true) } else { None }
+    if word == b"--book".as_slice() {
+        Some(true)
+    } else {
+        None
+    }
 }

@@ -11,6 +11,7 @@ pub returns-in-Ok-clause-kept : goal.returns-in-Ok-clause-kept
 returns-in-Ok-clause-kept g c =
     let content = g.D.Disk.content in
     at_ok c.begin.result c.begin.ensures.kept c.begin.ensures.stored (λ node kept stored. λ rs hold.
-      let is = c.in-Ok.ensures.kept rs hold in
-      (kept ∙ started_from rs (kept_by c.in-Ok.machine) is,
-        subst (λ (n : ℕ). GrowsByRecord (records.Boot (n + 1)) (content (disk_of c.args.log)) (content (node_disk node))) (ap (λ (k : Kept). k.boot) is) stored))
+    let is = c.in-Ok.ensures.kept rs hold in (
+      kept ∙ started_from rs (kept_by c.in-Ok.machine) is,
+      subst (λ (n : ℕ). GrowsByRecord (records.Boot (n + 1)) (content (disk_of c.args.log)) (content (node_disk node))) (ap (λ (k : Kept). k.boot) is) stored,
+    ))

@@ -10,4 +10,4 @@ read-requires c =
     let rs = c.requires.0 in
     let hold = c.requires.1 in
     subst (λ (text : List ℕ). (r : RedoRecord) × IsSpelling record_format text r) (ap (λ (list : List (List ℕ)). slice_index_or list c.loop-i.i []) (sym hold.bodies) ∙ sym c.at.ensures)
-      (body_at rs c.loop-i.i hold.fit (omega (arith, c.loop-i-test.true, c.len-i-end.ensures, ap length hold.bodies)))
+    (body_at rs c.loop-i.i hold.fit (omega (arith, c.loop-i-test.true, c.len-i-end.ensures, ap length hold.bodies)))

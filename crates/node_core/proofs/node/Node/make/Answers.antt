@@ -12,4 +12,4 @@ pub returns-in-Ok-clause-stored : goal.returns-in-Ok-clause-stored
 returns-in-Ok-clause-stored g c =
     let content = g.D.Disk.content in
     at_ok c.begin.result c.begin.ensures.stored c.begin.ensures.stored (λ node stored again.
-      made_log (kept_by c.new.result) (content (disk_of c.in-Ok.log)) (content (node_disk node)) c.new.ensures c.in-Ok.ensures.exact stored)
+    made_log (kept_by c.new.result) (content (disk_of c.in-Ok.log)) (content (node_disk node)) c.new.ensures c.in-Ok.ensures.exact stored)

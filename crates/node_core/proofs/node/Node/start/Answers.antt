@@ -17,5 +17,5 @@ pub returns-in-Ok-clause-started : goal.returns-in-Ok-clause-started
 returns-in-Ok-clause-started g c =
     let content = g.D.Disk.content in
     at_ok c.begin_from.result c.begin_from.ensures.kept c.begin_from.ensures.kept (λ node starts again. λ rs log.
-      let here = starts rs (log_holds_records rs (content c.args.disk) c.in-Ok.bodies log c.in-Ok.ensures.loaded) in
-      (here.0, here.1 rs (subst (λ (bytes : List ℕ). IsLogOf rs bytes) (sym c.in-Ok.ensures.content) log)))
+    let here = starts rs (log_holds_records rs (content c.args.disk) c.in-Ok.bodies log c.in-Ok.ensures.loaded) in
+    (here.0, here.1 rs (subst (λ (bytes : List ℕ). IsLogOf rs bytes) (sym c.in-Ok.ensures.content) log)))
