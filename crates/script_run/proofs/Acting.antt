@@ -20,7 +20,9 @@ use Rattle.one_node_laws.specs.Past.{Past, Begins, Serves, Stops, Starts, line, 
 use Rattle.one_node_laws.specs.Lawful.{MayTurn, MayStop, MayStart}
 use Rattle.node_core.specs.KeptBy.{IsReady, GoesOn}
 use Rattle.node_core.specs.OnDisk.{GrowsBy, MayStart as MayStartFrom, next_boot}
-use Rattle.script_run.specs.Linked.{IsBelow, AreBelow, IsRunningAt, EndsAs}
+use Rattle.script_run.specs.Site.{site_bytes, IsReadySite, StartsAs}
+use Rattle.script_run.specs.declared.site.Site.{Site}
+use Rattle.script_run.specs.Linked.{SiteIs, IsBelow, AreBelow, IsRunningAt, EndsAs}
 
 -- ---- a turn
 
@@ -136,6 +138,16 @@ records_started p boot is = ap (λ (n : ℕ). p.records ++ records.Boot n ∷ []
 
 pub start_ends : (p : Past) (boot : ℕ) (l : AnswerLine) → l ≡ line p.command fine → EndsAs p (started p boot) l
 start_ends p boot l is = record { left = refl; number = refl; due = refl; names = refl; lines = ap (λ (x : AnswerLine). p.lines ++ x ∷ []) (sym is) }
+
+-- the node and its disk are those of the start
+pub start_links : (p : Past) (boot : ℕ) (site : Site) → StartsAs p.records site boot → IsReadySite site → SiteIs (started p boot) site
+start_links p boot site starts ready =
+    let same = records_started p boot starts.number in
+    record {
+      node_is = starts.kept ∙ ap (λ (rs : List RedoRecord). Some (start_of rs)) (sym same);
+      disk_is = subst (λ (rs : List RedoRecord). IsLogOf rs (site_bytes site)) (sym same) starts.disk;
+      ready = ready;
+    }
 
 start_is : (rs : List RedoRecord) (boot : ℕ) → start_of (rs ++ records.Boot boot ∷ []) ≡ after_record (start_of rs) (records.Boot boot)
 start_is rs boot = after_records-push Rattle.one_node_rules.specs.Turn.fresh rs (records.Boot boot)

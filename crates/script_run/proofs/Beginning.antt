@@ -21,7 +21,7 @@ may_begin p number command next = record { in_order = next.numbered; is_asked = 
 begins_by : (p : Past) (number : ℕ) (command : Command) (rest left : List Command) → left ≡ command ∷ rest → rest ≡ drop 1 p.left → BeginsAs p (begun p number left) number command
 begins_by p number command rest left is behind =
     subst (λ (cs : List Command). BeginsAs p (begun p number cs) number command) (sym is)
-    (record { left = behind; number = refl; due = refl; names = refl; node = refl; records = refl; lines = refl })
+    (record { left = behind; numbered = refl; due = refl; names = refl; node = refl; records = refl; lines = refl })
 
 pub begins_as : (p : Past) (number : ℕ) (command : Command) → IsNext p number command → BeginsAs p (begun p number p.left) number command
 begins_as p number command next = begins_by p number command (drop 1 p.left) p.left next.first refl

@@ -2,11 +2,11 @@
 use Rattle.std.proofs.Common.{◌≡◌, ℕ, ◌+◌, List, [], refl, arith, sym, ◌∙◌}
 use Rattle.one_node_script.specs.declared.command.Command.{Command}
 use Rattle.one_node_rules.specs.Turn.{after_records}
-use Rattle.one_node_laws.specs.Past.{start}
+use Rattle.one_node_laws.specs.Past.{past, past_of}
 use Rattle.script_run.specs.Linked.{AreBelow, IsBelow}
 
-pub nothing_given : (asked : List Command) → AreBelow 0 (start asked)
-unfolding after_records
+pub nothing_given : (asked : List Command) → AreBelow 0 (past_of (record { asked = asked; happenings = [] }))
+unfolding past after_records
 nothing_given asked = record {
   here = record { ended = omega arith; scn = omega arith; few = omega arith; own = tt };
   boots = omega arith;

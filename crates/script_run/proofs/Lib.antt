@@ -1,5 +1,6 @@
 pub mod Endings
 pub mod DiskLines
+pub mod Names
 pub mod Beginning
 pub mod Acting
 pub mod Below

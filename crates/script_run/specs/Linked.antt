@@ -61,7 +61,7 @@ pub record IsNext (p : Past) (number : ℕ) (command : Command) : Type 0 where
 -- what the beginning of a command makes of a run
 pub record BeginsAs (before after : Past) (number : ℕ) (command : Command) : Type 0 where
   pub left : after.left ≡ drop 1 before.left
-  pub number : after.command ≡ number
+  pub numbered : after.command ≡ number
   pub due : after.due ≡ due_by (is_some before.node) command
   pub names : after.names ≡ names_by before.names command
   pub node : after.node ≡ before.node

@@ -22,6 +22,7 @@ fn hex_digit(digit: u8) -> u8
 }
 
 /// A place as eight hexadecimal digits.
+#[tactic(auto, using(crate::proofs::DiskLines::hex8_is))]
 fn put_place(out: &mut Vec<u8>, place: usize) -> Result<(), AllocError>
     ensures { OnOk result (out.new.items ≡ out.old.items ++ hex8_of place) }
 {
@@ -48,6 +49,7 @@ fn put_bytes(out: &mut Vec<u8>, bytes: &[u8]) -> Result<(), AllocError>
 }
 
 /// The line of bytes that begins at a place.
+#[tactic(auto, using(crate::proofs::DiskLines::bytes_of_line))]
 fn disk_line(alloc: Global, bytes: &[u8], place: usize) -> Result<Bytes, AllocError>
     requires { place < length bytes.now }
     ensures { IfOk result (λ line. line ≡ line_of bytes.now place) }
@@ -56,7 +58,7 @@ fn disk_line(alloc: Global, bytes: &[u8], place: usize) -> Result<Bytes, AllocEr
     put_place(&mut out, place)?;
     out.push(b' ')?;
     let (_, rest) = bytes.split_at(place);
-    let (line, _) = rest.split_at(rest.len().min(LINE));
+    let (line, _) = rest.split_at(LINE.min(rest.len()));
     put_bytes(&mut out, line)?;
     Ok(Listing::of(out))
 }

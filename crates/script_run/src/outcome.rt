@@ -1,11 +1,14 @@
 //! How a run of the program ends, and what was done.
-ghost use Rattle.std.specs.Prelude.{◌≡◌};
+ghost use Rattle.std.specs.Prelude.{◌≡◌, []};
+ghost use Rattle.one_node_book.specs.Book.{book_of};
+ghost use Rattle.one_node_laws.specs.Past.{past_of};
 ghost use Rattle.script_run.specs.Headline.{IsRun, nothing_done};
 
-use crate::line::AnswerLines;
+use crate::line::{AnswerLine, AnswerLines};
 use book::Book;
 use dtx_values::Listing;
 use one_node_book::Happenings;
+use one_node_laws::{Trace, lawful_runs_are_as_told};
 use one_node_script::Commands;
 use std::alloc::Global;
 
@@ -38,32 +41,37 @@ pub struct Run {
 }
 
 impl Run {
-    /// None of these commands has begun.
-    #[tactic(auto, unfolding(one_node_laws::specs::Lawful::IsLawful))]
-    pub fn not_begun(alloc: Global, commands: Commands) -> Run
-        ensures asked { result.commands ≡ commands }
+    /// The run that a trace and its lines tell.
+    pub fn told(trace: Trace, answers: Vec<AnswerLine>) -> Run
+        requires { answers.items ≡ (past_of trace).lines }
+        ensures is { result ≡ record { commands = trace.asked; answers = answers.items; book = book_of trace.happenings; trace = trace.happenings } }
         ensures run { IsRun result }
     {
+        lawful_runs_are_as_told();
+        let recorded = trace.into_recorded();
         Run {
-            commands,
-            answers: Listing::new(alloc),
-            book: Listing::new(alloc),
-            trace: Listing::new(alloc),
+            commands: recorded.asked,
+            answers: Listing::of(answers),
+            book: recorded.book,
+            trace: recorded.happenings,
         }
     }
 
+    /// None of these commands has begun.
+    #[tactic(auto, unfolding(one_node_laws::specs::Past::past))]
+    pub fn not_begun(alloc: Global, commands: Commands) -> Run
+        ensures is { result ≡ record { commands = commands; answers = []; book = []; trace = [] } }
+        ensures run { IsRun result }
+    {
+        Run::told(Trace::new(alloc, commands), Vec::new(alloc))
+    }
+
     /// Nothing was done.
-    #[tactic(auto, unfolding(one_node_laws::specs::Lawful::IsLawful))]
     pub fn empty(alloc: Global) -> Run
         ensures empty { result ≡ nothing_done }
         ensures run { IsRun result }
     {
-        Run {
-            commands: Listing::new(alloc),
-            answers: Listing::new(alloc),
-            book: Listing::new(alloc),
-            trace: Listing::new(alloc),
-        }
+        Run::not_begun(alloc, Listing::new(alloc))
     }
 }
 

@@ -13,7 +13,7 @@ use crate::line::{AnswerLine, Said};
 use crate::outcome::Run;
 use crate::site::{Site, made};
 use dtx_values::{Duplicate, Listing, Names};
-use one_node_laws::{Trace, each_begun_is_answered, lawful_runs_are_as_told};
+use one_node_laws::{Trace, each_begun_is_answered};
 use one_node_script::{Command, Commands};
 use std::alloc::{AllocError, Global};
 
@@ -121,14 +121,6 @@ pub fn run_commands(alloc: Global, asked: Commands) -> (Run, Result<(), AllocErr
     };
     let mut progress = Progress::new(alloc, asked, site);
     let ran = progress.carry_out_all(alloc);
-    lawful_runs_are_as_told();
     each_begun_is_answered();
-    let recorded = progress.trace.into_recorded();
-    let run = Run {
-        commands: recorded.asked,
-        answers: Listing::of(progress.answers),
-        book: recorded.book,
-        trace: recorded.happenings,
-    };
-    (run, ran)
+    (Run::told(progress.trace, progress.answers), ran)
 }

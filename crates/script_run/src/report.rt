@@ -214,6 +214,7 @@ fn report(alloc: Global, answers: &[AnswerLine]) -> Result<Vec<u8>, AllocError>
 }
 
 /// The names of the nodes that these commands make.
+#[tactic(auto, using(crate::proofs::Names::names_more))]
 fn node_names(alloc: Global, commands: &[Command]) -> Result<Names, AllocError>
     ensures { IfOk result (λ names. names ≡ node_names_of commands.now) }
 {
