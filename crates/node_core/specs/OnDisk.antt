@@ -54,12 +54,12 @@ MayStand list (Some r) image = HoldsWithOrWithout list (record_format.text r) im
 abbrev pub next_boot : List RedoRecord → RedoRecord
 next_boot rs = records.Boot ((start_of rs).boot + 1)
 
--- the bodies are those of these records
+-- the bodies are those of these records, each of which has a spelling
 pub record HoldRecords (rs : List RedoRecord) (list : List (List ℕ)) : Type 0 where
   pub fit : AllByRecursion record_format.Fits rs
   pub bodies : list ≡ bodies_of rs
 
--- Bytes that a node can start from: the log of its records, of which fewer than 2^32 - 1 are of starts.
+-- Bytes that a node can start from: the log of its records, after which one more start has a number of four bytes.
 pub record MayStart (rs : List RedoRecord) (bytes : List ℕ) : Type 0 where
   pub log : IsLogOf rs bytes
   pub boots : (start_of rs).boot + 1 < 2 ^ 32

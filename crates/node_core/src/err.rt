@@ -10,7 +10,7 @@ use std::alloc::{AllocError, AllocFailed};
 pub enum MakeWhy {
     /// The disk failed.
     Fault,
-    /// There was no memory, or no room on the disk.
+    /// There was no memory, or no room on the disk or in the log.
     NoMemory,
 }
 
@@ -23,12 +23,12 @@ pub struct MakeErr<D> {
     pub why: MakeWhy,
 }
 
-/// Why a turn came to no end. The node is used no more.
+/// Why a turn came to no end. Nothing is promised of the node from then on.
 #[derive(Clone, Copy, Debug, PartialEq, Eq)]
 pub enum TurnErr {
     /// The disk failed as the turn's record was written.
     Halted,
-    /// There was no memory, or no room on the disk; nothing was written.
+    /// There was no memory, or no room on the disk or in the log; nothing was written.
     NoMemory,
 }
 

@@ -2,7 +2,8 @@
 //! happens.
 //!
 //! A run is a list of happenings. `past` folds what they leave, `MayHappen` says which one may come next, and a `Trace`
-//! takes no other. The laws speak of such traces alone: they name no node's code, no store and no disk.
+//! takes no other. The laws speak of such traces alone, and name no node's code; of a disk they have the bytes that the
+//! records so far spell.
 #![tactic(auto)]
 
 mod laws;

@@ -13,7 +13,7 @@ const LONGEST: u32 = 1_048_576;
 const USAGE: &[u8] = b"usage: dtx [--book] [--make N]\n";
 
 #[test]
-fn any_word_is_answered_by_the_usage_line(rt: HostRuntime) -> Result<(), Fail> {
+fn an_unknown_word_is_answered_by_the_usage_line(rt: HostRuntime) -> Result<(), Fail> {
     let played = run(rt.alloc(), &["--frob"], SCRIPT, &[], &[])?;
     assert_eq!(rt; played.status, Status::Usage);
     assert_eq!(rt; played.written.as_slice(), USAGE);

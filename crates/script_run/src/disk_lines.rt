@@ -1,5 +1,5 @@
 //! The bytes of a disk as SHOW DISK prints them.
-ghost use Rattle.std.specs.Prelude.{◌≡◌, ◌*◌, ◌<◌, ◌^◌, ◌++◌, length, map, flat_map, IfOk, OnOk};
+ghost use Rattle.std.specs.Prelude.{◌≡◌, ◌*◌, ◌<◌, ◌^◌, ◌++◌, length, take, drop, map, flat_map, IfOk, OnOk};
 ghost use Rattle.tran_ids.specs.Numbers.{hex_digit as digit_of, hex8 as hex8_of};
 ghost use Rattle.one_node_laws.specs.Shown.{hex2, disk_line as line_of, disk_lines as lines_of, shown_disk};
 
@@ -48,8 +48,18 @@ fn put_bytes(out: &mut Vec<u8>, bytes: &[u8]) -> Result<(), AllocError>
     Ok(())
 }
 
-/// The line of bytes that begins at a place.
+/// The bytes of the line that begins at a place.
 #[tactic(auto, using(crate::proofs::DiskLines::bytes_of_line))]
+fn line_at(bytes: &[u8], place: usize) -> &[u8]
+    requires { place < length bytes.now }
+    ensures { result.now ≡ take 32 (drop place bytes.now) }
+{
+    let (_, rest) = bytes.split_at(place);
+    let (line, _) = rest.split_at(LINE.min(rest.len()));
+    line
+}
+
+/// The line of bytes that begins at a place.
 fn disk_line(alloc: Global, bytes: &[u8], place: usize) -> Result<Bytes, AllocError>
     requires { place < length bytes.now }
     ensures { IfOk result (λ line. line ≡ line_of bytes.now place) }
@@ -57,9 +67,7 @@ fn disk_line(alloc: Global, bytes: &[u8], place: usize) -> Result<Bytes, AllocEr
     let mut out = Vec::new(alloc);
     put_place(&mut out, place)?;
     out.push(b' ')?;
-    let (_, rest) = bytes.split_at(place);
-    let (line, _) = rest.split_at(LINE.min(rest.len()));
-    put_bytes(&mut out, line)?;
+    put_bytes(&mut out, line_at(bytes, place))?;
     Ok(Listing::of(out))
 }
 
