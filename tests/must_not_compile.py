@@ -3,7 +3,7 @@
 
     tests/must_not_compile.py
 
-Each program tests/must-not-compile/NAME.rt is compiled over the crates of this repository, in a copy. Where there is a
+Each program tests/must-not-compile/NAME.program is compiled over the crates of this repository, in a copy. Where there is a
 file NAME.error, its text has to stand in what the compiler says; else the program has to compile. Each failure is one
 line. The last line is `N passed, M failed`; the exit status is 1 where one failed.
 """
@@ -35,7 +35,7 @@ def main():
         lines = (TOP / "crates.txt").read_text().splitlines()
         needs = next(line.partition(":")[2] for line in lines if line.startswith(f"{LIBRARY}:"))
         (copy / "crates.txt").write_text("\n".join([*lines, f"forged:{needs} {LIBRARY}"]) + "\n")
-        for program in sorted((TOP / "tests/must-not-compile").glob("*.rt")):
+        for program in sorted((TOP / "tests/must-not-compile").glob("*.program")):
             error = program.with_suffix(".error")
             due = error.read_text().strip() if error.exists() else "run=ended status=0"
             if due in said(copy, program):
