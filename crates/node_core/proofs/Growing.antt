@@ -1,5 +1,5 @@
 -- A log that grows by the record of a turn, and what a start finds in it.
-use Rattle.std.proofs.Common.{◌≡◌, ◌⊎◌, inl, ℕ, zero, suc, ◌+◌, ◌<◌, ◌≤◌, ◌^◌, List, [], ◌∷◌, ◌++◌, length, map, take, slice_index_or, Option, None, Some, refl, sym, ap, subst, ◌∙◌, arith}
+use Rattle.std.proofs.Common.{◌≡◌, inl, ℕ, zero, suc, ◌+◌, ◌<◌, ◌≤◌, ◌^◌, List, [], ◌∷◌, ◌++◌, length, take, slice_index_or, Option, None, Some, refl, sym, ap, subst, ◌∙◌, arith}
 use Rattle.std.proofs.lemmas.List.{take_more}
 use Rattle.std.specs.Prelude.{IfOk, Result, Ok, Err}
 use Rattle.std.specs.List.{AllByRecursion}
@@ -12,10 +12,10 @@ use Rattle.redo_log.specs.Cells.{bodies, held, log_of, AllFit, GrowsBy as GrowsB
 use Rattle.redo_log.specs.Log.{disk_of}
 use Rattle.redo_log.specs.declared.log.Log.{Log}
 use Rattle.redo_log.proofs.Logs.{log_is_read}
-use Rattle.redo_log.proofs.Settled.{log_holds, fits_push}
+use Rattle.redo_log.proofs.Settled.{log_holds}
 use Rattle.redo_log.proofs.Moments.{started}
 use Rattle.one_node_rules.specs.Turn.{Kept, fresh, after_record, after_records, start_of, first_records}
-use Rattle.one_node_rules.specs.Disk.{IsSpelled, IsLogOf, bodies_of, disk_bytes}
+use Rattle.one_node_rules.specs.Disk.{IsSpelled, IsLogOf, bodies_of}
 use Rattle.one_node_rules.proofs.RecordLemmas.{after_records-push}
 use Rattle.node_core.specs.OnDisk.{IsWritable, GrowsByRecord, HoldRecords, MayStand, next_boot}
 

@@ -1,5 +1,5 @@
 -- Records and changes that are taken in one after the other.
-use Rattle.std.proofs.Common.{◌≡◌, ℕ, ◌+◌, ◌<◌, true, false, List, [], ◌∷◌, ◌++◌, length, take, slice_index_or, Some, refl, sym, ap, ◌∙◌, cond}
+use Rattle.std.proofs.Common.{◌≡◌, ℕ, ◌+◌, ◌<◌, true, false, List, [], ◌∷◌, ◌++◌, length, take, slice_index_or, Some, refl, ap, ◌∙◌, cond}
 use Rattle.std.specs.Str.{bytes_eq}
 use Rattle.std.proofs.lemmas.List.{take_more}
 use Rattle.std.proofs.lemmas.List.Elements.{filter-append}
@@ -7,7 +7,7 @@ use Rattle.dtx_values.specs.Apply.{Rows, at_table}
 use Rattle.dtx_values.specs.declared.table.Table.{Table}
 use Rattle.dtx_values.specs.declared.row.Change.{Change}
 use Rattle.redo_codec.specs.declared.record.RedoRecord.{RedoRecord}
-use Rattle.one_node_rules.specs.Turn.{Kept, fresh, with_put, put_at, put_all, changes_at, after_record, start_of}
+use Rattle.one_node_rules.specs.Turn.{fresh, with_put, put_at, put_all, changes_at, after_record, start_of}
 use Rattle.one_node_rules.proofs.RecordLemmas.{after_records-push, after_records-none}
 
 put_all-append : (rows : Rows) (xs ys : List Change) → put_all rows (xs ++ ys) ≡ put_all (put_all rows xs) ys

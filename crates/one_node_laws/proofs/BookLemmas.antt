@@ -1,19 +1,18 @@
 -- The words of a book, with one entry more at its end.
-use Rattle.std.proofs.Common.{◌≡◌, ◌⊎◌, inl, inr, ℕ, zero, suc, ◌+◌, ◌<◌, ◌≤◌, max, Bool, true, false, cond, List, [], ◌∷◌, ◌++◌, Option, Some, None, refl, ap, subst, ◌∙◌, append_assoc, sym, arith}
+use Rattle.std.proofs.Common.{◌≡◌, ℕ, zero, suc, ◌+◌, ◌<◌, ◌≤◌, max, Bool, true, false, List, [], ◌∷◌, ◌++◌, Option, Some, None, refl, ap, subst, ◌∙◌, append_assoc, sym, arith}
 use Rattle.std.proofs.lemmas.Bool.Decides.{nat_tests}
-use Rattle.std.specs.Prelude.{◌==◌, ◌&&◌, ◌||◌, IsTrue}
+use Rattle.std.specs.Prelude.{◌==◌, ◌||◌}
 use Rattle.std.specs.List.{flat_map, list_any, slice_get, AllByRecursion}
 use Rattle.std.specs.FinMap.{empty}
 use Rattle.std.proofs.lemmas.List.{append-nil}
 use Rattle.std.proofs.lemmas.Grind.{flat_map-append}
 use Rattle.dtx_values.specs.Apply.{Rows, with_row, apply, at_table}
-use Rattle.dtx_values.specs.declared.table.Table.{Table}
 use Rattle.dtx_values.specs.declared.row.Change.{Change}
 use Rattle.tran_ids.specs.declared.branch.BranchId.{BranchId}
 use Rattle.node_rules.specs.Words.{same}
 use Rattle.book.specs.declared.entry.Entry.{Entry}
 use Rattle.book.specs.declared.entry.Entry.TheVariants.{Made, Sealed, Decided, Ended, Forced, Met}
-use Rattle.run_laws.specs.Book.{is_sealed_of, is_decided_of, is_end_of, is_decision_on, is_rollback_of, stands, Follows, Marks, EachAgainst, ScnLaw, transaction_at, share_a_key}
+use Rattle.run_laws.specs.Book.{is_sealed_of, is_end_of, is_decision_on, is_rollback_of, Follows, EachAgainst, ScnLaw}
 use Rattle.one_node_book.specs.Book.{committed_by, rows_of, made_by, first_of, table_of, scn_by, scn_of}
 use Rattle.one_node_rules.specs.Turn.{the_node, branch_of}
 
@@ -164,9 +163,12 @@ none_decides boot ended (Met b d mixed ∷ book) g past here new = none_decides 
 pub decision_follows : (boot ended : ℕ) (book : List Entry) (cs : List Change) (n : ℕ) → ArePlain book → ArePast boot ended book
     → Follows book (Decided (branch_of boot ended) (branch_of boot ended) cs n)
 decision_follows boot ended book cs n plain past =
-    let b = branch_of boot ended in
-    (none_decides boot ended book b past refl refl, none_stands (is_rollback_of book b) (no_rollback book b) book plain, none_stands (is_sealed_of b) (no_seal b) book plain,
-        none_stands (is_end_of b) (no_end b) book plain)
+    let b = branch_of boot ended in (
+      none_decides boot ended book b past refl refl,
+      none_stands (is_rollback_of book b) (no_rollback book b) book plain,
+      none_stands (is_sealed_of b) (no_seal b) book plain,
+      none_stands (is_end_of b) (no_end b) book plain,
+    )
 
 -- ---- SCNs rise
 

@@ -1,9 +1,9 @@
 -- A node that stands as the run's records say stands so after each statement, and a start finds it again.
 use Rattle.std.proofs.Common.{◌≡◌, ℕ, ◌+◌, max, Bool, true, false, cond, List, [], ◌∷◌, ◌++◌, Option, None, Some, refl, sym, ap, subst, ◌∙◌, arith, rules}
-use Rattle.std.specs.Prelude.{IfSome, IfNone, is_some, option_to_list, filter}
+use Rattle.std.specs.Prelude.{IfSome, IfNone, is_some, filter}
 use Rattle.std.specs.Str.{bytes_eq}
 use Rattle.std.specs.List.{AllByRecursion}
-use Rattle.std.specs.FinMap.{contains_key, empty}
+use Rattle.std.specs.FinMap.{contains_key}
 use Rattle.std.proofs.lemmas.List.{append-nil}
 use Rattle.std.proofs.lemmas.List.Elements.{filter-append}
 use Rattle.std.proofs.lemmas.Slice.Eq.{bytes_eq-Decides}
@@ -20,13 +20,13 @@ use Rattle.redo_codec.specs.declared.record.RedoRecord.TheVariants as records
 use Rattle.book.specs.declared.entry.Entry.{Entry}
 use Rattle.book.specs.declared.entry.Entry.TheVariants.{Made, Decided}
 use Rattle.book.specs.Entries.{entries_of}
-use Rattle.run_laws.specs.Book.{Agreement, Follows, Marks, EachAgainst}
+use Rattle.run_laws.specs.Book.{Agreement, Marks, EachAgainst}
 use Rattle.one_node_book.specs.Book.{rows_of, table_of, scn_of}
 use Rattle.one_node_rules.specs.Meaning.{insertion, changes_meant, is_understood}
-use Rattle.one_node_rules.specs.Turn.{the_node, Kept, fresh, own_of, branch_of, decided_by, changes_over, changes_of, record_of, wrote_by, after_by, with_put, put_all, changes_at, after_record, after_records, start_of}
+use Rattle.one_node_rules.specs.Turn.{the_node, Kept, fresh, own_of, branch_of, decided_by, changes_over, changes_of, record_of, wrote_by, after_by, with_put, put_all, changes_at, after_record, start_of}
 use Rattle.one_node_rules.proofs.RecordLemmas.{after_records-push}
 use Rattle.one_node_laws.specs.Standing.{Standing, view_of, table_in, view, served}
-use Rattle.one_node_laws.proofs.BookLemmas.{apply-append, table_of-decided, scn_of-decided, rows_of-decided, EachAgainst-push, ArePlain, all-push, IsPlain, DecidesPast, ArePast, ArePast-more, decision_follows, Rises}
+use Rattle.one_node_laws.proofs.BookLemmas.{apply-append, table_of-decided, scn_of-decided, rows_of-decided, ArePlain, ArePast, Rises}
 
 -- what the node keeps where a run stands so
 abbrev pub kept_in : Standing → Kept

@@ -1,12 +1,11 @@
 -- Every lawful run is as told: what its records say, what its disk stands for, and one answer a command.
-use Rattle.std.proofs.Common.{◌≡◌, ℕ, ◌+◌, ◌<◌, ◌≤◌, ◌^◌, Bool, true, false, List, [], ◌∷◌, ◌++◌, length, map, Option, None, Some, refl, sym, ap, subst, ◌∙◌, append_assoc, arith, length-append}
+use Rattle.std.proofs.Common.{◌≡◌, ℕ, ◌+◌, Bool, true, false, List, [], ◌∷◌, ◌++◌, length, Option, None, Some, refl, sym, ap, subst, ◌∙◌, append_assoc, arith, length-append}
 use Rattle.std.specs.Prelude.{IfSome, is_some, option_to_list, option_map}
 use Rattle.std.specs.List.{flat_map, AllByRecursion}
 use Rattle.std.proofs.lemmas.List.{append-nil}
 use Rattle.redo_codec.specs.declared.record.RedoRecord.{RedoRecord}
 use Rattle.redo_codec.specs.declared.record.RedoRecord.TheVariants as records
-use Rattle.redo_format.specs.Record.{record_format}
-use Rattle.redo_log.specs.Cells.{bodies, log_of, AllFit}
+use Rattle.redo_log.specs.Cells.{bodies, AllFit}
 use Rattle.redo_log.proofs.Logs.{log_is_read}
 use Rattle.book.specs.declared.entry.Entry.{Entry}
 use Rattle.book.specs.declared.line.Said.{Said}
@@ -24,12 +23,11 @@ use Rattle.one_node_book.specs.Book.{book_of, records_in, records_of}
 use Rattle.one_node_rules.specs.Turn.{Kept, turn_of, start_of}
 use Rattle.one_node_rules.specs.Disk.{IsSpelled, bodies_of, disk_bytes}
 use Rattle.one_node_laws.specs.Past.{Past, Due, Begins, Serves, Stops, Starts, start, line, lines_of, said_at_once, due_by, begun, turned_at, next, past, History, past_of}
-use Rattle.one_node_laws.specs.Lawful.{MayBegin, MayTurn, MayHappen, IsLawful, IsLawfulRun}
+use Rattle.one_node_laws.specs.Lawful.{MayBegin, MayHappen, IsLawful, IsLawfulRun}
 use Rattle.one_node_laws.specs.Standing.{Standing, nothing_yet, after, standing_after}
 use Rattle.one_node_laws.specs.Told.{AnswersEach}
 use Rattle.one_node_laws.specs.Laws.{LawfulRunsAreAsTold, EachBegunIsAnswered}
 use Rattle.one_node_laws.proofs.BookLemmas.{rising_scns}
-use Rattle.one_node_laws.proofs.Refines.{IsSound}
 use Rattle.one_node_laws.proofs.Sound.{nothing_is_sound}
 use Rattle.one_node_laws.proofs.Tells.{Stands, tells}
 

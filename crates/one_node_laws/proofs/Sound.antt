@@ -1,7 +1,6 @@
 -- Each statement keeps a run sound.
-use Rattle.std.proofs.Common.{◌≡◌, ℕ, ◌+◌, Bool, true, false, cond, List, [], ◌∷◌, ◌++◌, Option, None, Some, refl, sym, ap, subst, ◌∙◌, arith}
-use Rattle.std.specs.Prelude.{IfSome, IfNone, is_some}
-use Rattle.std.specs.List.{AllByRecursion}
+use Rattle.std.proofs.Common.{◌≡◌, ℕ, ◌+◌, Bool, true, false, cond, List, [], ◌∷◌, ◌++◌, Option, None, Some, refl, sym, subst, ◌∙◌, arith}
+use Rattle.std.specs.Prelude.{IfNone}
 use Rattle.std.specs.FinMap.{contains_key}
 use Rattle.std.proofs.lemmas.List.{append-nil}
 use Rattle.dtx_values.specs.Apply.{Rows}
@@ -113,7 +112,7 @@ sound_step s (Some (CreateTable t)) sound fits = create_sound s t (s.records ++ 
 sound_step s (Some Commit) sound fits = commit_sound s s.transaction (record { fresh = sound.fresh; puts = sound.puts; plain = sound.plain; low = sound.low; agreed = sound.agreed; marked = sound.marked; rising = sound.rising })
 sound_step s (Some (Insert name key value)) sound fits =
     begins_sound s (own_of s.transaction ++ changes_over (table_in s) (view s) (Insert name key value)) (Insert name key value) refl fits
-      (puts_append (own_of s.transaction) (changes_over (table_in s) (view s) (Insert name key value)) sound.puts (inserted_puts (table_in s) (view s) name key value)) sound
+    (puts_append (own_of s.transaction) (changes_over (table_in s) (view s) (Insert name key value)) sound.puts (inserted_puts (table_in s) (view s) name key value)) sound
 sound_step s (Some (Select name column key)) sound fits = begins_sound s (own_of s.transaction) (Select name column key) refl fits sound.puts sound
 
 -- a stop loses the open transaction

@@ -7,7 +7,6 @@ use Rattle.redo_codec.specs.declared.record.RedoRecord.TheVariants as records
 use Rattle.book.specs.declared.entry.Entry.{Entry}
 use Rattle.book.specs.declared.line.Said.{Said}
 use Rattle.book.specs.declared.line.Said.TheVariants as said
-use Rattle.book.specs.declared.line.AnswerLine.{AnswerLine}
 use Rattle.book.specs.Entries.{entries_of}
 use Rattle.one_node_sql.specs.Statements.{statement_of}
 use Rattle.one_node_sql.specs.declared.statement.Stmt.{Stmt}
@@ -19,11 +18,11 @@ use Rattle.one_node_book.specs.declared.happening.Happening.TheVariants.{Begun, 
 use Rattle.one_node_book.specs.Book.{scn_of}
 use Rattle.one_node_rules.specs.Meaning.{is_understood, keep_if}
 use Rattle.one_node_rules.specs.Turn.{Kept, own_of, turn_of, start_of}
-use Rattle.one_node_laws.specs.Past.{Past, line, lines_of, said_at_once, names_by, begun, turned, turned_at, stopped, started, next, past, fine}
-use Rattle.one_node_laws.specs.Lawful.{MayBegin, MayTurn, MayStop, MayStart, MayHappen, IsLawful}
+use Rattle.one_node_laws.specs.Past.{Past, line, lines_of, said_at_once, names_by, begun, turned, turned_at, stopped, started, past, fine}
+use Rattle.one_node_laws.specs.Lawful.{MayTurn, IsLawful}
 use Rattle.one_node_laws.specs.Standing.{Standing, view_of, table_in, statement_in, answer_in, record_in, served, after, standing_after}
 use Rattle.one_node_laws.specs.Told.{lines_from, WritesOwed}
-use Rattle.one_node_laws.proofs.Refines.{kept_in, stored_in, IsSound, Fits, owed_in, served_in, refines, Rests, rests_more, rests_step}
+use Rattle.one_node_laws.proofs.Refines.{kept_in, IsSound, Fits, owed_in, served_in, refines, Rests, rests_more, rests_step}
 use Rattle.one_node_laws.proofs.Sound.{sound_step, stop_sound, start_sound}
 
 -- what the node is where a run stands so: nothing while it is down

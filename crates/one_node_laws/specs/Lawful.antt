@@ -1,5 +1,5 @@
 -- Which happening may come next.
-use Rattle.std.specs.Prelude.{◌≡◌, ◌+◌, ◌<◌, ℕ, true, false, List, [], ◌∷◌, Option, None, Some, IfSome, is_some, option_map, length}
+use Rattle.std.specs.Prelude.{◌≡◌, ◌+◌, ◌<◌, ℕ, true, false, List, [], ◌∷◌, Option, Some, IfSome, is_some, option_map, length}
 use Rattle.redo_codec.specs.declared.record.RedoRecord.{RedoRecord}
 use Rattle.redo_codec.specs.declared.record.RedoRecord.TheVariants as records
 use Rattle.one_node_book.specs.declared.input.Input.{Input}
@@ -7,7 +7,7 @@ use Rattle.one_node_book.specs.declared.happening.Happening.{Happening}
 use Rattle.one_node_book.specs.declared.happening.Happening.TheVariants.{Begun, Turn, Stopped, Started}
 use Rattle.one_node_rules.specs.Turn.{the_node, turn_of, start_of}
 use Rattle.one_node_rules.specs.Disk.{IsSpelled}
-use Rattle.one_node_laws.specs.Past.{Past, Due, Begins, Serves, Stops, Starts, start, next, History}
+use Rattle.one_node_laws.specs.Past.{Past, Begins, Serves, Stops, Starts, start, next, History}
 
 -- a command begins in its order, once the one before has ended
 pub record MayBegin (p : Past) (number : ℕ) : Type 0 where

@@ -1,6 +1,5 @@
 -- What the happenings so far leave: a fold over the trace, oldest happening first.
-use Rattle.std.specs.Prelude.{ℕ, ◌+◌, Bool, true, false, if◌then◌else◌, List, [], ◌∷◌, ◌++◌, Option, None, Some, is_some, option_to_list}
-use Rattle.dtx_values.specs.declared.answer.Refusal.{Refusal}
+use Rattle.std.specs.Prelude.{ℕ, ◌+◌, Bool, if◌then◌else◌, List, [], ◌∷◌, ◌++◌, Option, None, Some, is_some, option_to_list}
 use Rattle.dtx_values.specs.declared.answer.Notice.TheVariants as notices
 use Rattle.redo_codec.specs.declared.record.RedoRecord.{RedoRecord}
 use Rattle.redo_codec.specs.declared.record.RedoRecord.TheVariants as records

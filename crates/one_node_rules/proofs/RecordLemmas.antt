@@ -1,7 +1,7 @@
 -- What a start makes of records, with one record more.
 use Rattle.std.proofs.Common.{◌≡◌, List, [], ◌∷◌, ◌++◌, refl}
 use Rattle.redo_codec.specs.declared.record.RedoRecord.{RedoRecord}
-use Rattle.one_node_rules.specs.Turn.{Kept, fresh, after_record, after_records, start_of}
+use Rattle.one_node_rules.specs.Turn.{Kept, after_record, after_records}
 
 pub after_records-push : (k : Kept) (rs : List RedoRecord) (r : RedoRecord) → after_records k (rs ++ r ∷ []) ≡ after_record (after_records k rs) r
 unfolding after_records

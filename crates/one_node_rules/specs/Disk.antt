@@ -1,5 +1,5 @@
 -- What a disk holds of a node's records: the cells of their spellings, and a closed gate behind the last.
-use Rattle.std.specs.Prelude.{◌≡◌, ◌<◌, ◌≤◌, ◌^◌, ℕ, List, [], ◌∷◌, ◌++◌, map, length}
+use Rattle.std.specs.Prelude.{◌≡◌, ◌≤◌, ℕ, List, map, length}
 use Rattle.std.specs.List.{AllByRecursion}
 use Rattle.redo_codec.specs.declared.record.RedoRecord.{RedoRecord}
 use Rattle.redo_format.specs.Record.{record_format}

@@ -1,12 +1,11 @@
 -- What an act of a command makes of a run.
-use Rattle.std.proofs.Common.{◌≡◌, ℕ, ◌+◌, ◌-◌, ◌<◌, ◌≤◌, ◌^◌, max, Bool, true, false, List, [], ◌∷◌, ◌++◌, length, Option, Some, None, refl, sym, ap, subst, ◌∙◌, arith}
+use Rattle.std.proofs.Common.{◌≡◌, ℕ, ◌+◌, ◌-◌, ◌≤◌, true, false, List, [], ◌∷◌, ◌++◌, length, Option, Some, None, refl, sym, ap, subst, ◌∙◌, arith}
 use Rattle.std.specs.Prelude.{IfSome, is_some, option_map, option_to_list}
 use Rattle.std.specs.List.{AllByRecursion}
 use Rattle.std.proofs.lemmas.List.{append-nil}
 use Rattle.redo_codec.specs.declared.record.RedoRecord.{RedoRecord}
 use Rattle.redo_codec.specs.declared.record.RedoRecord.TheVariants as records
 use Rattle.dtx_values.specs.declared.row.Change.{Change}
-use Rattle.book.specs.declared.line.Said.{Said}
 use Rattle.book.specs.declared.line.Said.TheVariants as said
 use Rattle.book.specs.declared.line.AnswerLine.{AnswerLine}
 use Rattle.one_node_sql.specs.declared.statement.Stmt.{Stmt}
@@ -16,7 +15,7 @@ use Rattle.one_node_book.specs.declared.input.Input.TheVariants as inputs
 use Rattle.one_node_rules.specs.Turn.{the_node, Kept, own_of, branch_of, decision_of, record_of, understood, wrote_by, turn_of, after_record, after_records, start_of}
 use Rattle.one_node_rules.specs.Disk.{IsSpelled, IsLogOf}
 use Rattle.one_node_rules.proofs.RecordLemmas.{after_records-push}
-use Rattle.one_node_laws.specs.Past.{Past, Begins, Serves, Stops, Starts, line, fine, turned, turned_at, stopped, started}
+use Rattle.one_node_laws.specs.Past.{Past, Serves, Stops, Starts, line, fine, turned, turned_at, stopped, started}
 use Rattle.one_node_laws.specs.Lawful.{MayTurn, MayStop, MayStart}
 use Rattle.node_core.specs.KeptBy.{IsReady, GoesOn}
 use Rattle.node_core.specs.OnDisk.{GrowsBy, MayStart as MayStartFrom, next_boot}

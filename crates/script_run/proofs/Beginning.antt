@@ -1,19 +1,12 @@
 -- What the beginning of a command makes of a run.
-use Rattle.std.proofs.Common.{◌≡◌, ℕ, ◌+◌, ◌-◌, ◌<◌, ◌≤◌, ◌^◌, Bool, true, false, List, [], ◌∷◌, ◌++◌, length, drop, Option, Some, None, refl, sym, ap, subst, ◌∙◌, arith}
-use Rattle.std.specs.Prelude.{IfSome, is_some}
-use Rattle.std.proofs.lemmas.List.{append-nil}
+use Rattle.std.proofs.Common.{◌≡◌, ℕ, ◌<◌, Bool, true, false, List, [], ◌∷◌, length, drop, refl, sym, subst, arith}
 use Rattle.redo_codec.specs.declared.record.RedoRecord.{RedoRecord}
 use Rattle.book.specs.declared.entry.Entry.{Entry}
-use Rattle.book.specs.declared.line.AnswerLine.{AnswerLine}
 use Rattle.one_node_script.specs.declared.command.Command.{Command}
 use Rattle.one_node_script.specs.declared.command.Command.TheVariants as commands
-use Rattle.one_node_rules.specs.Turn.{Kept, start_of, first_records}
-use Rattle.one_node_rules.specs.Disk.{IsLogOf}
-use Rattle.one_node_laws.specs.Past.{Past, start, begun, lines_of, said_at_once}
+use Rattle.one_node_laws.specs.Past.{Past, begun, said_at_once}
 use Rattle.one_node_laws.specs.Lawful.{MayBegin}
-use Rattle.script_run.specs.Site.{site_kept, site_bytes, IsReadySite}
-use Rattle.script_run.specs.declared.site.Site.{Site}
-use Rattle.script_run.specs.Linked.{SiteIs, IsNext, BeginsAs, EndsAs, AreBelow, IsBelow, IsRunningAt, IsSilent, IsDone}
+use Rattle.script_run.specs.Linked.{IsNext, BeginsAs, IsSilent}
 
 pub may_begin : (p : Past) (number : ℕ) (command : Command) → IsNext p number command → MayBegin p number
 may_begin p number command next = record { in_order = next.numbered; is_asked = subst (λ (cs : List Command). 0 < length cs) (sym next.first) (omega arith); is_idle = next.idle }

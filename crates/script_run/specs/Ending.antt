@@ -1,5 +1,5 @@
 -- How a run of the program ends: each status with its cause, and the bytes read and written.
-use Rattle.std.specs.Prelude.{◌≡◌, ◌++◌, ◌≤◌, ◌⊎◌, ℕ, Bool, List, [], Option, Some, Ok, Err, IsOk, IsErr, length, codes, decimal}
+use Rattle.std.specs.Prelude.{◌≡◌, ◌++◌, ◌≤◌, ◌⊎◌, ℕ, Bool, List, Option, Some, Ok, Err, IsOk, IsErr, length, codes, decimal}
 use Rattle.std.specs.Io.KnownBytes.{Keeps, Appends}
 use Rattle.dtx_ports.specs.Causes.{Rose}
 use Rattle.dtx_ports.specs.Whole.{IsAll, IsTooLong, AppendsPrefix}

@@ -1,8 +1,7 @@
 -- How a run in progress stands to its trace.
-use Rattle.std.specs.Prelude.{◌≡◌, ◌≤◌, ◌<◌, ◌^◌, ◌+◌, ◌-◌, ℕ, Bool, true, false, List, [], ◌∷◌, ◌++◌, drop, length, is_some, Option, Some, None, IfSome}
+use Rattle.std.specs.Prelude.{◌≡◌, ◌≤◌, ◌<◌, ◌^◌, ◌+◌, ◌-◌, ℕ, Bool, true, false, List, [], ◌∷◌, ◌++◌, drop, length, is_some, IfSome}
 use Rattle.std.specs.List.{AllByRecursion}
 use Rattle.book.specs.declared.line.AnswerLine.{AnswerLine}
-use Rattle.redo_codec.specs.declared.record.RedoRecord.{RedoRecord}
 use Rattle.redo_format.specs.Change.{change_format}
 use Rattle.one_node_script.specs.declared.command.Command.{Command}
 use Rattle.one_node_script.specs.declared.command.Command.TheVariants as commands

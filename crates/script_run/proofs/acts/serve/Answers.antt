@@ -1,6 +1,5 @@
 use Rattle.std.proofs.Common.{◌≡◌, ap, sym, subst, ◌∙◌, Some}
-use Rattle.one_node_rules.specs.Turn.{Kept}
-use Rattle.one_node_laws.specs.Past.{Past, past_of}
+use Rattle.one_node_laws.specs.Past.{past_of}
 use Rattle.node_core.specs.KeptBy.{GoesOn}
 use Rattle.node_core.specs.OnDisk.{kept_of}
 use Rattle.script_run.specs.Site.{site_kept}

@@ -1,5 +1,4 @@
-use Rattle.std.proofs.Common.{ap, sym, subst, ◌∙◌, List, ℕ}
-use Rattle.redo_log.specs.Log.{disk_of}
+use Rattle.std.proofs.Common.{sym, subst, List, ℕ}
 use Rattle.one_node_rules.specs.Disk.{IsLogOf}
 use Rattle.node_core.proofs.Growing.{at_ok, log_holds_records, log_is_there}
 use Rattle.node_core.proofs.node.Node.start.Goals as goal
