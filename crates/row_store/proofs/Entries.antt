@@ -6,7 +6,8 @@ use Rattle.std.specs.declared.cmp.Ordering.TheVariants.{Less, Equal, Greater}
 use Rattle.std.specs.Ordering.{is_eq, match_ordering, nat_cmp}
 use Rattle.std.specs.Cmp.Lexicographic.{slice_cmp}
 use Rattle.std.specs.BTreeMap.{insert_entry, is_at}
-use Rattle.std.specs.Map.{lookup, remove_entry}
+use Rattle.std.specs.List.Sorted.{IsStrictlySortedBy}
+use Rattle.std.specs.Map.{lookup, remove_entry, keys_of as entry_keys}
 use Rattle.dtx_values.specs.declared.value.Value.{Value}
 use Rattle.dtx_values.specs.declared.value.Value.TheVariants.{Null, Number, Text}
 use Rattle.dtx_values.specs.declared.row.Row.{Row}
@@ -14,7 +15,7 @@ use Rattle.dtx_values.specs.Order.{value_cmp}
 use Rattle.dtx_values.proofs.RowLookups.{derived, derived_is, values_exact}
 use Rattle.sql_eval.specs.declared.keyed.Keyed.{Keyed}
 use Rattle.sql_eval.specs.Words.{text_below}
-use Rattle.sql_eval.specs.Rows.{value_below, same_value, get, put, without}
+use Rattle.sql_eval.specs.Rows.{value_below, same_value, get, put, without, keys_of}
 use Rattle.row_store.specs.Listed.{row_of, rows_of}
 
 -- ---- the two orders
@@ -46,8 +47,16 @@ equal_is false true = refl
 equal_is true false = refl
 equal_is true true = refl
 
-same_is : (k q : Value) → is_eq (value_cmp q k) ≡ same_value k q
+pub same_is : (k q : Value) → is_eq (value_cmp q k) ≡ same_value k q
 same_is k q = ap is_eq (compared q k) ∙ equal_is (value_below q k) (value_below k q)
+
+equal_from : (o : Ordering) → is_eq o ≡ true → o ≡ Equal
+equal_from Less e = absurd cc
+equal_from Equal e = refl
+equal_from Greater e = absurd cc
+
+pub same_key : (k q : Value) → same_value k q ≡ true → k ≡ q
+same_key k q same = sym (values_exact q k (equal_from (value_cmp q k) (same_is k q ∙ same)))
 
 -- ---- a lookup
 
@@ -113,3 +122,12 @@ without_is es fs k left none =
     let left-value : fs ≡ remove_entry (is_at (value_cmp k)) es = subst (λ (R : Value → Value → Ordering). fs ≡ remove_entry (is_at (R k)) es) derived_is left in
     let none-value : lookup (is_at (value_cmp k)) fs ≡ None = subst (λ (R : Value → Value → Ordering). lookup (is_at (R k)) fs ≡ None) derived_is none in
     ap rows_of left-value ∙ removed k es (subst (λ (gs : List (Value × Row)). lookup (is_at (value_cmp k)) gs ≡ None) left-value none-value)
+
+-- ---- the keys rise
+
+keys_are : (es : List (Value × Row)) → entry_keys es ≡ keys_of (rows_of es)
+keys_are [] = refl
+keys_are (e ∷ es) = ap (λ (ks : List Value). e.0 ∷ ks) (keys_are es)
+
+pub ordered_is : (es : List (Value × Row)) → IsStrictlySortedBy derived (entry_keys es) → IsStrictlySortedBy value_cmp (keys_of (rows_of es))
+ordered_is es ordered = subst (IsStrictlySortedBy value_cmp) (keys_are es) (subst (λ (R : Value → Value → Ordering). IsStrictlySortedBy R (entry_keys es)) derived_is ordered)

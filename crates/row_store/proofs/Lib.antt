@@ -1,1 +1,2 @@
+mod AtKey
 mod Entries

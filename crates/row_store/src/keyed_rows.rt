@@ -1,7 +1,10 @@
 //! The rows of a table, found by their keys.
 ghost use Rattle.std.specs.Prelude.{◌≡◌, ◌↔◌, [], length, IsTrue, IfOk, OnOk, OnErr};
 ghost use Rattle.std.specs.Option.{option_copied};
-ghost use Rattle.sql_eval.specs.Rows.{get as get_of, put as put_of, without as without_of};
+ghost use Rattle.std.specs.List.Sorted.{IsStrictlySortedBy};
+ghost use Rattle.dtx_values.specs.Order.{value_cmp};
+ghost use Rattle.sql_eval.specs.Laws.{at_key as at_key_of};
+ghost use Rattle.sql_eval.specs.Rows.{get as get_of, put as put_of, without as without_of, keys_of};
 
 use dtx_values::{Duplicate, Row, Value};
 use sql_eval::Keyed;
@@ -39,7 +42,10 @@ impl KeyedRows {
 
     /// How many rows there are.
     pub fn len(&self) -> usize
-        ensures { result ≡ length self.now }
+        ensures length { result ≡ length self.now }
+
+        // The keys rise.
+        ensures ordered { IsStrictlySortedBy value_cmp (keys_of self.now) }
     {
         self.rows.len()
     }
@@ -58,18 +64,33 @@ impl KeyedRows {
         self.rows.get(key)
     }
 
-    /// All rows with their keys, copied, in key order.
-    pub fn keyed(&self, alloc: Global) -> Result<Vec<Keyed>, AllocError>
-        ensures { IfOk result (λ keyed. keyed.items ≡ self.now) }
+    /// A copy of the row at a key, if there is one: all that a statement that fixes the key depends on.
+    #[tactic(auto, using(crate::proofs::AtKey::at_key_is))]
+    pub fn at_key(&self, alloc: Global, key: &Value) -> Result<Vec<Keyed>, AllocError>
+        ensures { IfOk result (λ keyed. keyed.items ≡ at_key_of self.now key.now) }
     {
-        let mut copies = Vec::with_capacity(alloc, self.rows.len())?;
-        for (key, row) in self.rows.iter() {
+        let mut copies = Vec::with_capacity(alloc, self.len().min(1))?;
+        if let Some(row) = self.get(key) {
             copies.push(Keyed {
                 key: key.copy(alloc)?,
                 row: row.copy(alloc)?,
             })?;
         }
         Ok(copies)
+    }
+
+    /// A copy of all rows, in key order.
+    pub fn keyed(&self, alloc: Global) -> Result<Vec<Keyed>, AllocError>
+        ensures { IfOk result (λ keyed. keyed.items ≡ self.now) }
+    {
+        let mut all = Vec::with_capacity(alloc, self.len())?;
+        for (key, row) in self.rows.iter() {
+            all.push(Keyed {
+                key: key.copy(alloc)?,
+                row: row.copy(alloc)?,
+            })?;
+        }
+        Ok(all)
     }
 
     /// Puts a row at a key, in place of the one that may be there.

@@ -41,6 +41,9 @@ fn a_key_has_its_last_row(rt: HostRuntime) -> Result<(), Fail> {
     }
     let there = rows.get(&Value::Number(1)).ok_or("the row is there")?;
     assert_eq!(rt; there.cells.as_slice(), [Value::Number(30)].as_slice());
+    let copies = rows.at_key(alloc, &Value::Number(2))?;
+    assert_eq!(rt; copies.len(), 1);
+    assert_eq!(rt; copies[0].key, Value::Number(2));
     assert_eq!(rt; rows.len(), 2);
     Ok(())
 }
@@ -54,6 +57,7 @@ fn a_removed_key_has_no_row(rt: HostRuntime) -> Result<(), Fail> {
     assert!(rt; !rows.is_empty());
     rows.remove(&Value::Number(1));
     assert!(rt; rows.get(&Value::Number(1)).is_none());
+    assert!(rt; rows.at_key(alloc, &Value::Number(1))?.is_empty());
     assert!(rt; rows.is_empty());
     Ok(())
 }

@@ -3,4 +3,4 @@ use Rattle.row_store.specs.Listed.{rows_of}
 use Rattle.row_store.proofs.keyed_rows.KeyedRows.keyed.Given as goal
 
 abbrev pub invariant-loop-key : goal.invariant-loop-key
-invariant-loop-key l = l.copies.items ++ rows_of l.key-iterator ≡ l.self
+invariant-loop-key l = l.all.items ++ rows_of l.key-iterator ≡ l.self
