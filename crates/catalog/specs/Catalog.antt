@@ -1,6 +1,6 @@
 -- What a catalog says: the items in the order in which they were made, and which names are taken.
-use Rattle.std.specs.Prelude.{ℕ, Bool, true, ◌||◌, List, [], ◌∷◌, ◌++◌, Option, find}
-use Rattle.std.specs.List.{list_any}
+use Rattle.std.specs.Prelude.{ℕ, Bool, true, ◌||◌, List, [], ◌∷◌, ◌++◌, Option, find, map}
+use Rattle.std.specs.List.{list_any, IsDistinct}
 use Rattle.std.specs.Str.{bytes_eq}
 use Rattle.dtx_values.specs.declared.table.Table.{Table}
 use Rattle.dtx_values.specs.declared.table.Link.{Link}
@@ -52,3 +52,15 @@ is_used c name = list_any (λ t. bytes_eq t.name name) c.tables || list_any (λ 
 -- whether a link has this name
 abbrev pub is_link_used : Listed → List ℕ → Bool
 is_link_used c name = list_any (λ l. bytes_eq l.name name) c.links
+
+-- the names that tables and synonyms have
+abbrev pub shared_names : Listed → List (List ℕ)
+shared_names c = map (λ t. t.name) c.tables ++ map (λ y. y.name) c.synonyms
+
+-- the names that links have
+abbrev pub link_names : Listed → List (List ℕ)
+link_names c = map (λ l. l.name) c.links
+
+-- no two of the tables and synonyms have one name, nor have two of the links
+abbrev pub HasOwnNames : Listed → Type 0
+HasOwnNames c = IsDistinct bytes_eq (shared_names c) × IsDistinct bytes_eq (link_names c)

@@ -1,7 +1,7 @@
 //! The catalog of a node.
 ghost use Rattle.std.specs.Prelude.{◌≡◌, ◌↔◌, true, OnOk, OnErr, IsErrOf};
 ghost use Rattle.std.specs.Option.{option_copied};
-ghost use Rattle.catalog.specs.Catalog.{nothing_listed, with_table, with_link, with_synonym, with_recovery, table_of, link_of, synonym_of, is_used, is_link_used};
+ghost use Rattle.catalog.specs.Catalog.{nothing_listed, with_table, with_link, with_synonym, with_recovery, table_of, link_of, synonym_of, is_used, is_link_used, HasOwnNames};
 ghost use Rattle.catalog.specs.declared.cat_err.CatErr.TheVariants.{Used};
 
 use crate::CatErr;
@@ -20,11 +20,13 @@ pub struct Catalog {
 }
 
 impl Model for Catalog {
-    ghost use Rattle.catalog.specs.Catalog.{Listed};
+    ghost use Rattle.catalog.specs.Catalog.{Listed, HasOwnNames};
 
     ghost Value = { Listed };
 
     ghost view = { λ c. record { recovery = c.recovery; tables = c.tables; links = c.links; synonyms = c.synonyms } };
+
+    ghost invariant = { λ c. HasOwnNames (record { recovery = c.recovery; tables = c.tables; links = c.links; synonyms = c.synonyms }) };
 }
 
 impl Catalog {
@@ -70,7 +72,8 @@ impl Catalog {
 
     /// Whether a table or a synonym has this name.
     pub fn is_used(&self, name: &Name) -> bool
-        ensures { result ≡ is_used self.now name.now }
+        ensures used { result ≡ is_used self.now name.now }
+        ensures own_names { HasOwnNames self.now }
     {
         if self.tables.contains(name) {
             true
@@ -81,7 +84,8 @@ impl Catalog {
 
     /// Whether a link has this name.
     pub fn is_link_used(&self, name: &Name) -> bool
-        ensures { result ≡ is_link_used self.now name.now }
+        ensures used { result ≡ is_link_used self.now name.now }
+        ensures own_names { HasOwnNames self.now }
     {
         self.links.contains(name)
     }
