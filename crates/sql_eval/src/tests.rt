@@ -204,7 +204,10 @@ fn sum_leaves_nulls_out(rt: HostRuntime) -> Result<(), Fail> {
         row(alloc, 1, Value::Null)?,
         row(alloc, 2, Value::Number(-7))?,
     ];
-    assert_eq!(rt; only_cell(&sum_of(alloc, &mixed)?), Some(&Value::Number(-7)));
+    assert_eq!(rt;
+        only_cell(&sum_of(alloc, &mixed)?),
+        Some(&Value::Number(-7))
+    );
     let least = i64::MIN;
     let past = [
         row(alloc, 1, Value::Number(least))?,
