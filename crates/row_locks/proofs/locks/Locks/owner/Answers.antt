@@ -1,0 +1,11 @@
+use Rattle.std.proofs.Common.{ap, ◌∙◌}
+use Rattle.std.specs.declared.borrow.Cow.TheVariants.{Borrowed}
+use Rattle.row_locks.specs.Locks.{owner_of}
+use Rattle.row_locks.proofs.Entries.{lookup_is}
+use Rattle.row_locks.proofs.locks.Locks.owner.Goals as goal
+
+pub returns-clause-owner : goal.returns-clause-owner
+returns-clause-owner c =
+    c.copied.ensures ∙ c.get.ensures.value
+    ∙ lookup_is (record { table = Borrowed c.args.table; key = Borrowed c.args.key }) c.self.inside.locks.entries
+    ∙ ap (λ ls. owner_of ls c.args.table.now c.args.key.now) c.self.view_is
