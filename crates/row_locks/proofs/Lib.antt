@@ -1,1 +1,3 @@
 mod Entries
+pub mod Held
+pub mod Keys

@@ -2,7 +2,7 @@
 ghost use Rattle.std.specs.Prelude.{◌≡◌};
 ghost use Rattle.row_locks.specs.declared.lock_err.LockErr.TheVariants.{NoMemory};
 
-use std::alloc::{AllocError, AllocFailed};
+use std::alloc::AllocError;
 use tran_ids::BranchId;
 
 /// Why a key was not taken.
@@ -23,14 +23,6 @@ impl From<AllocError> for LockErr {
     ghost from_gives = { λ _ e. e ≡ NoMemory };
 
     fn from(_e: AllocError) -> LockErr {
-        LockErr::NoMemory
-    }
-}
-
-impl<T: Drop> From<AllocFailed<T>> for LockErr {
-    ghost from_gives = { λ _ e. e ≡ NoMemory };
-
-    fn from(_e: AllocFailed<T>) -> LockErr {
         LockErr::NoMemory
     }
 }
