@@ -1,5 +1,5 @@
 -- What the map of locks does, told by the list of locks.
-use Rattle.std.proofs.Common.{◌≡◌, ℕ, Bool, true, false, ◌&&◌, cond, List, [], ◌∷◌, map, filter, Option, Some, refl, ap, sym, subst, ◌∙◌}
+use Rattle.std.proofs.Common.{◌≡◌, ℕ, Bool, true, false, ◌&&◌, cond, List, [], ◌∷◌, map, filter, find, Option, None, Some, refl, ap, sym, subst, ◌∙◌}
 use Rattle.std.specs.Cow.{cow_value}
 use Rattle.std.specs.Map.{lookup, keys_of}
 use Rattle.std.specs.Str.{bytes_eq}
@@ -16,7 +16,8 @@ use Rattle.row_locks.specs.declared.lock_key.LockKey.{LockKey}
 use Rattle.row_locks.specs.declared.owner.Owner.{Owner}
 use Rattle.row_locks.specs.contracts.lock_key.LockKeyPartialEq.TheImpl as of_key
 use Rattle.row_locks.specs.contracts.lock_key.LockKeyEq.TheImpl.Laws.{laws-law}
-use Rattle.row_locks.specs.Locks.{Lock, lock_of, owner_in, same_key, is_lock_on, are_on_one_key, AreOnDistinctKeys, owner_of, owner_with, with_owner, taken, keys_held, keys_among}
+use Rattle.row_locks.specs.Locks.{Lock, named, same_key, is_lock_on, are_on_one_key, AreOnDistinctKeys, holder_of, taken, keys_held}
+use Rattle.row_locks.specs.Owners.{lock_of, owner_in, branch_in, owner_of, owner_with, with_owner, keys_among}
 
 -- the test by which the map finds a key
 abbrev pub found_as : LockKey → LockKey → Bool
@@ -61,6 +62,14 @@ lookup_is q [] = refl
 lookup_is q (e ∷ es) =
     ap (λ b. cond b (Some e.1) (lookup (found_as q) es)) (found_is q e)
     ∙ owner_step (is_lock_on (cow_value q.table) (cow_value q.key) (lock_of e)) e.1 _ (lock_of e) _ refl (lookup_is q es)
+
+branch_is : (found : Option Lock) → option_map branch_in (option_map owner_in found) ≡ option_map named found
+branch_is None = refl
+branch_is (Some l) = refl
+
+-- the holder is the owner's branch
+pub holder_is : (ls : List Lock) (table : List ℕ) (key : Value) → option_map branch_in (owner_of ls table key) ≡ holder_of ls table key
+holder_is ls table key = branch_is (find (is_lock_on table key) ls)
 
 put_step : (hit : Bool) (e f : LockKey × Owner) (es more : List (LockKey × Owner)) (ls : List Lock)
     → map lock_of more ≡ ls → map lock_of (cond hit (f ∷ es) (e ∷ more)) ≡ cond hit (lock_of f ∷ map lock_of es) (lock_of e ∷ ls)

@@ -4,7 +4,6 @@ use Rattle.std.specs.Ordering.{int_eq}
 use Rattle.std.specs.Str.{bytes_eq}
 use Rattle.std.specs.List.{IsDistinct}
 use Rattle.std.specs.Option.{option_map}
-use Rattle.std.specs.Cow.{cow_value}
 use Rattle.std.specs.declared.result.Result.{Result}
 use Rattle.std.specs.declared.result.Result.TheVariants.{Ok, Err}
 use Rattle.dtx_values.specs.declared.value.Value.{Value}
@@ -13,8 +12,6 @@ use Rattle.tran_ids.specs.declared.branch.BranchId.{BranchId}
 use Rattle.tran_ids.specs.Branch.{same}
 use Rattle.row_locks.specs.declared.lock_err.LockErr.{LockErr}
 use Rattle.row_locks.specs.declared.lock_err.LockErr.TheVariants.{Held, NoMemory}
-use Rattle.row_locks.specs.declared.lock_key.LockKey.{LockKey}
-use Rattle.row_locks.specs.declared.owner.Owner.{Owner}
 
 -- A key of a table that a branch holds: whether it writes the row of the key, and whether the branch is in doubt.
 pub record Lock : Type 0 where
@@ -23,18 +20,6 @@ pub record Lock : Type 0 where
   pub branch : BranchId
   pub writes : Bool
   pub in_doubt : Bool
-
--- the lock of a key that has this owner
-abbrev pub lock : List ℕ → Value → Owner → Lock
-lock table key o = record { table = table; key = key; branch = o.branch; writes = o.writes; in_doubt = o.in_doubt }
-
--- the lock that is kept as this entry
-abbrev pub lock_of : LockKey × Owner → Lock
-lock_of e = lock (cow_value e.0.table) (cow_value e.0.key) e.1
-
--- the owner of a lock
-abbrev pub owner_in : Lock → Owner
-owner_in l = record { branch = l.branch; writes = l.writes; in_doubt = l.in_doubt }
 
 -- two keys are equal
 abbrev pub same_key : Value → Value → Bool
@@ -59,17 +44,13 @@ AreOnDistinctKeys locks = IsDistinct are_on_one_key locks
 abbrev pub is_held_by : BranchId → Lock → Bool
 is_held_by branch l = same l.branch branch
 
--- the owner of a key
-abbrev pub owner_of : List Lock → List ℕ → Value → Option Owner
-owner_of locks table key = option_map owner_in (find (is_lock_on table key) locks)
-
--- the branch that an owner is, and whether it is in doubt
-abbrev pub named : Owner → BranchId × Bool
-named o = (o.branch, o.in_doubt)
+-- the branch that has a lock, and whether it is in doubt
+abbrev pub named : Lock → BranchId × Bool
+named l = (l.branch, l.in_doubt)
 
 -- the holder of a key, and whether it is in doubt
 abbrev pub holder_of : List Lock → List ℕ → Value → Option (BranchId × Bool)
-holder_of locks table key = option_map named (owner_of locks table key)
+holder_of locks table key = option_map named (find (is_lock_on table key) locks)
 
 -- a holder, where it is another branch
 abbrev pub another : BranchId → Option (BranchId × Bool) → Option (BranchId × Bool)
@@ -100,31 +81,13 @@ taken [] branch table key writes = new_lock branch table key writes ∷ []
 taken (l ∷ ls) branch table key writes =
     if is_lock_on table key l then record l { writes = l.writes || writes } ∷ ls else l ∷ taken ls branch table key writes
 
--- the owner of a key once the branch has taken it
-abbrev pub owner_with : Option Owner → BranchId → Bool → Owner
-owner_with None branch writes = record { branch = branch; writes = writes; in_doubt = false }
-owner_with (Some o) branch writes = record o { writes = o.writes || writes }
-
--- the locks with this owner at the key
-abbrev pub with_owner : List Lock → List ℕ → Value → Owner → List Lock
-with_owner [] table key o = lock table key o ∷ []
-with_owner (l ∷ ls) table key o = if is_lock_on table key l then lock l.table l.key o ∷ ls else l ∷ with_owner ls table key o
-
 -- every key of the table that a branch holds
 abbrev pub keys_held : List Lock → List ℕ → List Value
 keys_held locks table = map (λ l. l.key) (filter (λ l. bytes_eq l.table table) locks)
 
--- the keys of the table among those that a map has
-abbrev pub keys_among : List LockKey → List ℕ → List Value
-keys_among held table = map (λ k. cow_value k.key) (filter (λ k. bytes_eq (cow_value k.table) table) held)
-
 -- a lock from the moment when the branch is in doubt
 abbrev pub doubted : BranchId → Lock → Lock
 doubted branch l = record l { in_doubt = l.in_doubt || is_held_by branch l }
-
--- its owner from then on
-abbrev pub doubted_owner : BranchId → Owner → Owner
-doubted_owner branch o = record o { in_doubt = o.in_doubt || same o.branch branch }
 
 -- the locks from then on
 abbrev pub in_doubt_from_now : List Lock → BranchId → List Lock

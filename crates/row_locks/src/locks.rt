@@ -2,7 +2,8 @@
 ghost use Rattle.std.specs.Prelude.{◌≡◌, [], true, not, ◌||◌, IfOk, OnOk, OnErr};
 ghost use Rattle.std.specs.Option.{option_map};
 ghost use Rattle.tran_ids.specs.Branch.{same};
-ghost use Rattle.row_locks.specs.Locks.{AreOnDistinctKeys, holder_of, another, other_holder, named_holder, named, owner_of, owner_with, with_owner, doubted_owner, taken, keys_held, keys_among, in_doubt_from_now, without_reads, without};
+ghost use Rattle.row_locks.specs.Locks.{AreOnDistinctKeys, holder_of, another, other_holder, named_holder, taken, keys_held, in_doubt_from_now, without_reads, without};
+ghost use Rattle.row_locks.specs.Owners.{branch_in, owner_of, owner_with, with_owner, doubted_owner, keys_among};
 
 use crate::LockErr;
 use crate::lock_key::LockKey;
@@ -25,7 +26,8 @@ pub struct Locks {
 
 impl Model for Locks {
     ghost use Rattle.std.specs.Prelude.{List, map};
-    ghost use Rattle.row_locks.specs.Locks.{Lock, lock_of, AreOnDistinctKeys};
+    ghost use Rattle.row_locks.specs.Locks.{Lock, AreOnDistinctKeys};
+    ghost use Rattle.row_locks.specs.Owners.{lock_of};
 
     ghost Value = { List Lock };
 
@@ -47,6 +49,8 @@ impl Locks {
     /// The branch that holds a key, and whether it is in doubt.
     pub fn holder(&self, table: &Name, key: &Value) -> Option<(BranchId, bool)>
         ensures holder { result ≡ holder_of self.now table.now key.now }
+
+        // Two locks are never on the same key.
         ensures distinct { AreOnDistinctKeys self.now }
     {
         let owner = self.owner(table, key)?;
@@ -118,6 +122,7 @@ impl Locks {
     // Who holds a key, and how.
     fn owner(&self, table: &Name, key: &Value) -> Option<Owner>
         ensures owner { result ≡ owner_of self.now table.now key.now }
+        ensures holder { option_map branch_in result ≡ holder_of self.now table.now key.now }
         ensures distinct { AreOnDistinctKeys self.now }
     {
         let asked = LockKey {
@@ -163,7 +168,7 @@ fn keys_at(alloc: Global, held: &[LockKey<'static>], table: &Name) -> Result<Key
 // Who holds a key once the branch has taken it.
 fn owner_after(found: Option<Owner>, branch: &BranchId, writes: bool) -> Result<Owner, LockErr>
     ensures owner { IfOk result (λ owner. owner ≡ owner_with found branch.now writes) }
-    ensures held { named_holder result ≡ another branch.now (option_map named found) }
+    ensures held { named_holder result ≡ another branch.now (option_map branch_in found) }
 {
     match found {
         None => Ok(Owner {

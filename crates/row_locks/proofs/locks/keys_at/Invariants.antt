@@ -1,5 +1,5 @@
 use Rattle.std.proofs.Common.{◌≡◌, take}
-use Rattle.row_locks.specs.Locks.{keys_among}
+use Rattle.row_locks.specs.Owners.{keys_among}
 use Rattle.row_locks.proofs.locks.keys_at.Given as goal
 
 abbrev pub invariant-loop-lock : goal.invariant-loop-lock

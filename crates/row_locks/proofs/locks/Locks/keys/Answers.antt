@@ -1,6 +1,7 @@
 use Rattle.std.proofs.Common.{◌≡◌, ap, subst, ◌∙◌}
 use Rattle.std.specs.Prelude.{IfOk}
-use Rattle.row_locks.specs.Locks.{keys_held, keys_among}
+use Rattle.row_locks.specs.Locks.{keys_held}
+use Rattle.row_locks.specs.Owners.{keys_among}
 use Rattle.row_locks.proofs.Entries.{keys_are}
 use Rattle.row_locks.proofs.locks.Locks.keys.Goals as goal
 

@@ -1,5 +1,6 @@
 use Rattle.std.proofs.Common.{rules, refl, ap, ◌∙◌}
-use Rattle.row_locks.specs.Locks.{doubted_owner, doubted, in_doubt_from_now}
+use Rattle.row_locks.specs.Locks.{doubted, in_doubt_from_now}
+use Rattle.row_locks.specs.Owners.{doubted_owner}
 use Rattle.row_locks.proofs.Entries.{distinct_are, changed_is}
 use Rattle.row_locks.proofs.locks.Locks.mark_in_doubt.Goals as goal
 

@@ -1,6 +1,6 @@
 use Rattle.std.proofs.Common.{map, ap, ◌∙◌}
 use Rattle.std.specs.declared.borrow.Cow.TheVariants.{Owned}
-use Rattle.row_locks.specs.Locks.{lock_of, with_owner}
+use Rattle.row_locks.specs.Owners.{lock_of, with_owner}
 use Rattle.row_locks.proofs.Entries.{distinct_are, insert_is}
 use Rattle.row_locks.proofs.locks.Locks.put.Goals as goal
 

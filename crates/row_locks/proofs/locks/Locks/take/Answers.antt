@@ -1,5 +1,5 @@
 use Rattle.std.proofs.Common.{ap, ◌∙◌}
-use Rattle.row_locks.specs.Locks.{owner_with, with_owner}
+use Rattle.row_locks.specs.Owners.{owner_with, with_owner}
 use Rattle.row_locks.proofs.Entries.{taken_by_owner}
 use Rattle.row_locks.proofs.locks.Locks.take.Goals as goal
 
