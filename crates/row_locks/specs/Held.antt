@@ -1,12 +1,18 @@
 -- What one branch holds, and who holds a key, by the list of all locks.
-use Rattle.std.specs.Prelude.{ℕ, Bool, if◌then◌else◌, List, filter, Option, None, Some}
+use Rattle.std.specs.Prelude.{ℕ, Bool, false, if◌then◌else◌, List, filter, Option, None, Some}
 use Rattle.dtx_values.specs.declared.value.Value.{Value}
 use Rattle.tran_ids.specs.declared.branch.BranchId.{BranchId}
+use Rattle.tran_ids.specs.Branch.{same}
 use Rattle.row_locks.specs.Locks.{Lock, is_held_by, holder_of, other_holder}
 
 -- the locks of a branch in the order in which it took them
 abbrev pub held_by : List Lock → BranchId → List Lock
 held_by locks branch = filter (is_held_by branch) locks
+
+-- whether it is this branch that holds a key
+abbrev pub is_holder : BranchId → Option (BranchId × Bool) → Bool
+is_holder branch None = false
+is_holder branch (Some h) = same h.0 branch
 
 -- those of keys that are written
 abbrev pub written_of : List Lock → List Lock
