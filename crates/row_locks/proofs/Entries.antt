@@ -1,5 +1,5 @@
 -- What the map of locks does, told by the list of locks.
-use Rattle.std.proofs.Common.{◌≡◌, ℕ, Bool, true, false, ◌&&◌, cond, List, [], ◌∷◌, map, filter, find, Option, None, Some, refl, ap, sym, subst, ◌∙◌}
+use Rattle.std.proofs.Common.{◌≡◌, ℕ, Bool, true, false, ◌&&◌, cond, List, [], ◌∷◌, map, filter, find, position, Option, None, Some, refl, ap, sym, subst, ◌∙◌}
 use Rattle.std.specs.Cow.{cow_value}
 use Rattle.std.specs.Map.{lookup, keys_of}
 use Rattle.std.specs.Str.{bytes_eq}
@@ -11,6 +11,8 @@ use Rattle.dtx_values.specs.contracts.value.ValuePartialEq.TheImpl as of_value
 use Rattle.tran_ids.specs.declared.branch.BranchId.{BranchId}
 use Rattle.std.specs.Map.Calls.{RetainsPairs}
 use Rattle.indexmap.specs.IndexMap.{insert_entry}
+use Rattle.indexmap.specs.Layout.{set_value_at}
+use Rattle.indexmap.proofs.MapLemmas.{insert_entry-first, Found-position}
 use Rattle.indexmap.proofs.CallerLemmas.{filter-RetainsPairs}
 use Rattle.row_locks.specs.declared.lock_key.LockKey.{LockKey}
 use Rattle.row_locks.specs.declared.owner.Owner.{Owner}
@@ -106,6 +108,11 @@ pub taken_by_owner : (ls : List Lock) (table : List ℕ) (key : Value) (branch :
     → with_owner ls table key (owner_with (owner_of ls table key) branch writes) ≡ taken ls branch table key writes
 taken_by_owner [] table key branch writes = refl
 taken_by_owner (l ∷ ls) table key branch writes = owned_step (is_lock_on table key l) l ls table key branch writes (taken_by_owner ls table key branch writes) refl
+
+-- an owner that is put at a place
+pub placed_is : (es : List (LockKey × Owner)) (i : ℕ) (q : LockKey) (o : Owner) → position (found_as q) (keys_of es) ≡ Some i
+    → map lock_of (set_value_at es i o) ≡ with_owner (map lock_of es) (cow_value q.table) (cow_value q.key) o
+placed_is es i q o p = ap (map lock_of) (sym (insert_entry-first found_as q o es i (Found-position (found_as q) es i p).first)) ∙ insert_is es q o
 
 filter_step : (hit : Bool) (e : LockKey × Owner) (es : List (LockKey × Owner)) (ls : List Lock)
     → map lock_of es ≡ ls → map lock_of (cond hit (e ∷ es) es) ≡ cond hit (lock_of e ∷ ls) ls
