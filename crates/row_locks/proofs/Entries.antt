@@ -1,5 +1,5 @@
 -- What the map of locks does, told by the list of locks.
-use Rattle.std.proofs.Common.{◌≡◌, ℕ, Bool, true, false, ◌&&◌, cond, List, [], ◌∷◌, map, filter, find, position, Option, None, Some, refl, ap, sym, subst, ◌∙◌}
+use Rattle.std.proofs.Common.{◌≡◌, ℕ, Bool, true, false, ◌&&◌, cond, List, [], ◌∷◌, map, filter, find, position, Option, None, Some, refl, ap, sym, subst, ◌∙◌, true≢false, is_some}
 use Rattle.std.specs.Cow.{cow_value}
 use Rattle.std.specs.Map.{lookup, keys_of}
 use Rattle.std.specs.Str.{bytes_eq}
@@ -64,6 +64,15 @@ lookup_is q [] = refl
 lookup_is q (e ∷ es) =
     ap (λ b. cond b (Some e.1) (lookup (found_as q) es)) (found_is q e)
     ∙ owner_step (is_lock_on (cow_value q.table) (cow_value q.key) (lock_of e)) e.1 _ (lock_of e) _ refl (lookup_is q es)
+
+none_from : (found : Option Owner) → is_some found ≡ false → found ≡ None
+none_from None h = refl
+none_from (Some o) h = absurd (true≢false h)
+
+-- no owner where the map finds none
+pub free_is : (q : LockKey) (es : List (LockKey × Owner)) (ls : List Lock) → map lock_of es ≡ ls → false ≡ is_some (lookup (found_as q) es)
+    → owner_of ls (cow_value q.table) (cow_value q.key) ≡ None
+free_is q es ls same h = ap (λ all. owner_of all (cow_value q.table) (cow_value q.key)) (sym same) ∙ sym (lookup_is q es) ∙ none_from (lookup (found_as q) es) (sym h)
 
 branch_is : (found : Option Lock) → option_map branch_in (option_map owner_in found) ≡ option_map named found
 branch_is None = refl

@@ -15,7 +15,7 @@ pub enum LockErr {
         /// Whether it is in doubt.
         in_doubt: bool,
     },
-    /// The key is free or the branch's own, but there is no memory for the lock.
+    /// The key is free, but there is no memory for the lock.
     NoMemory,
 }
 

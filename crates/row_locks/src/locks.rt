@@ -1,7 +1,8 @@
 //! The locks of a node.
-ghost use Rattle.std.specs.Prelude.{◌≡◌, [], true, not, ◌||◌, IfOk, OnOk, OnErr};
+ghost use Rattle.std.specs.Prelude.{◌≡◌, [], true, not, ◌||◌, None, IfOk, OnOk, OnErr, IsErrOf};
 ghost use Rattle.std.specs.Option.{option_map};
 ghost use Rattle.tran_ids.specs.Branch.{same};
+ghost use Rattle.row_locks.specs.declared.lock_err.LockErr.TheVariants.{NoMemory};
 ghost use Rattle.row_locks.specs.Locks.{AreOnDistinctKeys, holder_of, another, other_holder, named_holder, taken, keys_held, in_doubt_from_now, without_reads, without};
 ghost use Rattle.row_locks.specs.Owners.{branch_in, owner_of, owner_with, with_owner, doubted_owner, keys_among};
 
@@ -76,6 +77,11 @@ impl Locks {
     ) -> Result<(), LockErr>
         ensures taken { OnOk result (self.new ≡ taken self.old branch.now table.now key.now writes) }
         ensures held { named_holder result ≡ other_holder self.old branch.now table.now key.now }
+
+        // A key that the branch has is taken again without memory.
+        ensures memory { IsErrOf result NoMemory → holder_of self.old table.now key.now ≡ None }
+
+        // After an error nothing has changed.
         ensures err { OnErr result (self.new ≡ self.old) }
     {
         let owner = owner_after(self.owner(table, key), branch, writes)?;
@@ -141,6 +147,7 @@ impl Locks {
         owner: Owner,
     ) -> Result<(), AllocError>
         ensures ok { OnOk result (self.new ≡ with_owner self.old table.now key.now owner) }
+        ensures free { OnErr result (owner_of self.old table.now key.now ≡ None) }
         ensures err { OnErr result (self.new ≡ self.old) }
     {
         let asked = LockKey {
@@ -177,6 +184,7 @@ fn keys_at(alloc: Global, held: &[LockKey<'static>], table: &Name) -> Result<Key
 fn owner_after(found: Option<Owner>, branch: &BranchId, writes: bool) -> Result<Owner, LockErr>
     ensures owner { IfOk result (λ owner. owner ≡ owner_with found branch.now writes) }
     ensures held { named_holder result ≡ another branch.now (option_map branch_in found) }
+    ensures memory { IsErrOf result NoMemory → ⊥ }
 {
     match found {
         None => Ok(Owner {
