@@ -1,0 +1,4 @@
+mod Entries
+pub mod Held
+pub mod Keys
+pub mod Holders
