@@ -8,7 +8,7 @@ use Rattle.node_rules.specs.Data.votes
 use Rattle.node_rules.specs.Words.{same, same_text, one}
 use Rattle.node_rules.specs.Refusals.{ora, dtx}
 use Rattle.node_rules.specs.Tree.{weight, count, room, most_depth}
-use Rattle.node_rules.specs.Statement.{ran, after_run, answer_of_run}
+use Rattle.node_rules.specs.Statement.{ran, node_after_run, after_run, answer_of_run}
 use Rattle.node_rules.specs.Kept.{Kept, Deed, Branch, Reply_fields, Going, Waits, For_opened, For_reply, Opening, Post, Call_out, No_call, Statement_out, nothing, saying, ending, post, with_branch, add_branch, fresh_live, fresh_branch, session_at, with_session}
 
 -- What a statement's table name means at a node.
@@ -168,7 +168,7 @@ opens_through k x node link s given =
 
 -- the statement runs here, is refused, or goes on
 abbrev pub goes : Place → Kept → Branch → Stmt → ℕ → Way → Deed
-goes p k x s given (Runs_here t) = answered k (after_run x t (ran p k x s t)) (answer_of_run (ran p k x s t))
+goes p k x s given (Runs_here t) = answered (node_after_run k x.live.me t (ran p k x s t)) (after_run x (ran p k x s t)) (answer_of_run (ran p k x s t))
 goes p k x s given (Nowhere_to r) = answered k x (answers.Refused r)
 goes p k x s given (Over i table) = calls_over k x i (passed_on s table) given
 goes p k x s given (Through node link table) = opens_through k x node link (passed_on s table) given

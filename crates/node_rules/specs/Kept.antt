@@ -4,7 +4,8 @@ use Rattle.std.specs.Prelude.{ℕ, ◌-◌, Bool, false, List, [], ◌∷◌, �
 use Rattle.node_rules.specs.Data.{Value, Change, Stmt, BranchId, RedoRecord, Standing, Durable, Live, Kind, Msg, Answer, Advice}
 use Rattle.node_rules.specs.Data.phases
 use Rattle.node_rules.specs.Words.{same, change_where, drop_where}
-use Rattle.node_rules.specs.Rows.{TableRows}
+use Rattle.row_locks.specs.Locks.{Lock, without}
+use Rattle.node_rules.specs.Rows.{TableRows, Own, nothing_changed}
 
 -- A branch in doubt and the changes that it holds back.
 pub record Doubt : Type 0 where
@@ -17,12 +18,6 @@ pub record Stored : Type 0 where
   pub rows : List TableRows
   pub doubts : List Doubt
   pub scn : ℕ
-
--- A key that a live branch holds, by a change or by FOR UPDATE alone.
-pub record Held : Type 0 where
-  pub table : List ℕ
-  pub key : Value
-  pub writes : Bool
 
 -- The fields of a Reply, which a repeated call is answered with.
 pub record Reply_fields : Type 0 where
@@ -41,11 +36,10 @@ pub record Going : Type 0 where
   pub room : ℕ
   pub waits : Waits
 
--- A live branch: its place in the session tree, its own changes, the keys it holds, the calls that came and those it made.
+-- A live branch: its place in the session tree, its own changes and their undo, the calls that came and those it made.
 pub record Branch : Type 0 where
   pub live : Live
-  pub own : List Change
-  pub held : List Held
+  pub own : Own
   pub last_call : ℕ
   pub reply : Option Reply_fields
   pub calls : List ℕ  -- the last call number of each edge
@@ -73,10 +67,12 @@ pub record Opening : Type 0 where
   pub child : BranchId
   pub strength : ℕ
 
--- What a node keeps: its records' fold; and what a stop loses: live branches, the clock, the Opens that it answered, and the client sessions.
+-- What a node keeps: its records' fold; and what a stop loses: live branches, the locks in the order in which they were
+-- taken, the clock, the Opens that it answered, and the client sessions.
 pub record Kept : Type 0 where
   pub stored : Stored
   pub lives : List Branch
+  pub locks : List Lock
   pub clock : ℕ
   pub opens : List Opening
   pub sessions : List Session
@@ -151,9 +147,9 @@ with_branch k x = record k { lives = change_where (is_at x.live.me) (λ old. x) 
 abbrev pub add_branch : Kept → Branch → Kept
 add_branch k x = record k { lives = k.lives ++ x ∷ [] }
 
--- a branch that is no longer live, whatever became of it
+-- a branch that is no longer live, and holds no key
 abbrev pub without_branch : Kept → BranchId → Kept
-without_branch k b = record k { lives = drop_where (is_at b) k.lives }
+without_branch k b = record k { lives = drop_where (is_at b) k.lives; locks = without k.locks b }
 
 -- the kept branch of this id
 abbrev pub standing_at : Kept → BranchId → Option Standing
@@ -200,4 +196,4 @@ fresh_live me root parent depth strength = record {
 
 -- a branch without changes, keys and calls
 abbrev pub fresh_branch : Live → Branch
-fresh_branch l = record { live = l; own = []; held = []; last_call = 0; reply = None; calls = []; going = None }
+fresh_branch l = record { live = l; own = nothing_changed; last_call = 0; reply = None; calls = []; going = None }

@@ -10,6 +10,7 @@ use Rattle.node_rules.specs.Data.towards
 use Rattle.node_rules.specs.Data.votes
 use Rattle.node_rules.specs.Data.phases
 use Rattle.node_rules.specs.Words.{same, is_branch, one}
+use Rattle.row_locks.specs.Locks.{without_reads}
 use Rattle.node_rules.specs.Ids.{local_text}
 use Rattle.node_rules.specs.Refusals.{ora}
 use Rattle.node_rules.specs.Records.{with_record}
@@ -73,12 +74,13 @@ prepares me comment path i (e ∷ es) =
 abbrev pub with_prepare_sent : Edge → Edge
 with_prepare_sent e = record e { vote = votes.Asked }
 
--- the collect begins: keys that FOR UPDATE alone holds are released
+-- the collect begins
 abbrev pub collecting : Branch → Bool → Branch
-collecting x site_below = record x {
-  live = record x.live { phase = phases.Collecting site_below; edges = map with_prepare_sent x.live.edges };
-  held = filter (λ h. h.writes) x.held;
-}
+collecting x site_below = record x { live = record x.live { phase = phases.Collecting site_below; edges = map with_prepare_sent x.live.edges } }
+
+-- keys that FOR UPDATE alone holds are released
+abbrev pub without_read_keys : Kept → BranchId → Kept
+without_read_keys k b = record k { locks = without_reads k.locks b }
 
 -- whether an answer is Prepared
 abbrev pub is_prepared_answer : Vote → Bool
@@ -118,7 +120,7 @@ sealed_of k x path = record {
   children = named_children path 0 x.live.edges;
   advice = x.live.advice;
   comment = x.live.comment;
-  changes = x.own;
+  changes = x.own.changes;
 }
 
 -- as a record
@@ -135,7 +137,7 @@ decided_of k x = record {
   children = named_children None 0 x.live.edges;
   advice = x.live.advice;
   comment = x.live.comment;
-  changes = x.own;
+  changes = x.own.changes;
 }
 
 -- as a record
@@ -245,7 +247,7 @@ acts k x site_below Abandon = abandons k x x.live.parent
 
 -- COMMIT at a root, Prepare at any other branch
 abbrev pub collects : Kept → Branch → Bool → Deed
-collects k x site_below = acts k (collecting x site_below) site_below (first_act x.live site_below x.live.edges)
+collects k x site_below = acts (without_read_keys k x.live.me) (collecting x site_below) site_below (first_act x.live site_below x.live.edges)
 
 -- with the comment of the COMMIT
 abbrev pub with_comment : Branch → List ℕ → Branch

@@ -6,6 +6,7 @@ use Rattle.redo_codec.specs.Durable.{durable_after}
 use Rattle.node_rules.specs.Meaning.{checked, examined, written, meant_over}
 use Rattle.node_rules.specs.Records.{applied, stored_by}
 use Rattle.node_rules.specs.Tree.{weight, step}
+use Rattle.stmt_run.specs.Run.{ran_over}
 use Rattle.node_rules.specs.Statement.{ran}
 use Rattle.node_rules.specs.Calls.{way_of, admit, reply_of}
 use Rattle.node_rules.specs.Commit.{beyond, next_on_decision, next_on_ack, next_on_forgotten}
@@ -22,5 +23,5 @@ use Rattle.run_laws.specs.Due.{due_of, runs_on}
 use Rattle.run_laws.specs.Report.{report}
 
 unfoldable pub playing : ⊤
-unfolding decimal hex8 kept_after durable_after checked examined written meant_over applied stored_by weight step ran way_of admit reply_of beyond next_on_decision next_on_ack next_on_forgotten recovery branch_to_force purge turn_of start_of stand_of passes point_of pending_rows neighbor_rows sent_on delivered lost cut_over joined stopped started struck after_append cut_by next due_of runs_on report
+unfolding decimal hex8 kept_after durable_after checked examined written meant_over applied stored_by weight step ran_over ran way_of admit reply_of beyond next_on_decision next_on_ack next_on_forgotten recovery branch_to_force purge turn_of start_of stand_of passes point_of pending_rows neighbor_rows sent_on delivered lost cut_over joined stopped started struck after_append cut_by next due_of runs_on report
 playing = tt

@@ -1,6 +1,6 @@
 -- Where the answer of a statement comes from: the turn that ran it, at the node of its table, for a branch of the asker's
 -- transaction, not before its call.
-use Rattle.std.specs.Prelude.{◌≡◌, ℕ, Bool, true, false, List, [], ◌∷◌, ◌++◌, slice_get, Option, Some, None}
+use Rattle.std.specs.Prelude.{◌≡◌, ℕ, Bool, true, false, List, [], ◌∷◌, ◌++◌, length, slice_get, Option, Some, None}
 use Rattle.run_laws.specs.Data.{BranchId, Value, Change, Stmt, RowSet, Done, AnswerLine, Happening}
 use Rattle.run_laws.specs.Data.answers
 use Rattle.run_laws.specs.Data.dones
@@ -66,4 +66,5 @@ pub record AnswersHavePlaces (t : History) : Type 0 where
   pub queries : (i command : ℕ) (rows : RowSet) → slice_get (told (past_of t)) i ≡ Some (found_line command rows)
       → (before : List Happening) × (r : Ran_at) × (keys : List Value) × PlaceOf t command before r × (ran_by (past_before t before) r ≡ Reads rows keys)
   pub changes : (i command n : ℕ) (d : Done) → is_of_rows d ≡ true → slice_get (told (past_of t)) i ≡ Some (done_line command d n)
-      → (before : List Happening) × (r : Ran_at) × (cs : List Change) × (keys : List Value) × PlaceOf t command before r × (ran_by (past_before t before) r ≡ Writes d n cs keys)
+      → (before : List Happening) × (r : Ran_at) × (cs : List Change) × (keys : List Value) × (undo : ℕ) × PlaceOf t command before r
+      × (ran_by (past_before t before) r ≡ Writes d cs keys undo) × (n ≡ length cs)

@@ -1,6 +1,6 @@
 -- Which turns run a statement at its table, for which branch, and what a branch has changed and holds so far: computed
 -- from the trace, with the meaning of statements over the rows that the book leaves.
-use Rattle.std.specs.Prelude.{◌≡◌, ℕ, ◌&&◌, Bool, true, if◌then◌else◌, List, [], ◌∷◌, ◌++◌, slice_get, Option, Some, None}
+use Rattle.std.specs.Prelude.{◌≡◌, ℕ, ◌&&◌, Bool, true, if◌then◌else◌, List, [], ◌∷◌, ◌++◌, length, slice_get, Option, Some, None}
 use Rattle.std.specs.List.{list_any}
 use Rattle.run_laws.specs.Data.{Advice, Value, Change, Table, Stmt, RowSet, Done, BranchId, Kind, Input, Happening, Place, Entry}
 use Rattle.run_laws.specs.Data.kinds
@@ -88,7 +88,7 @@ own_more (o ∷ os) b cs = if same o.branch b then (record { branch = b; changes
 abbrev pub ran_changes : Ran → List Change
 ran_changes (Refuses r) = []
 ran_changes (Reads rows keys) = []
-ran_changes (Writes d n cs keys) = cs
+ran_changes (Writes d cs keys undo) = cs
 
 -- what each branch has changed after a happening
 abbrev pub owns_next : Past → List Own → Option Ran_at → List Own
@@ -131,14 +131,14 @@ QueriesAreMeant t = (before later : List Happening) (h : Happening) (p : Past) (
     → ReadAt t before later h p r rows keys → QueryIsMeant (book_of before) (owns (start t.places t.commands) [] before) r rows
 
 -- A turn in which a run changes rows: before it, the run, and its place in the trace.
-pub record WroteAt (t : History) (before later : List Happening) (h : Happening) (p : Past) (r : Ran_at) (done : Done) (n : ℕ) (cs : List Change) (keys : List Value) : Type 0 where
+pub record WroteAt (t : History) (before later : List Happening) (h : Happening) (p : Past) (r : Ran_at) (done : Done) (cs : List Change) (keys : List Value) (undo : ℕ) : Type 0 where
   pub whole : t.trace ≡ before ++ h ∷ later
   pub stood : p ≡ past (start t.places t.commands) before
   pub runs : run_in p h ≡ Some r
-  pub writes : ran (place_at p r.branch.node) r.node r.at r.statement r.table ≡ Writes done n cs keys
+  pub writes : ran (place_at p r.branch.node) r.node r.at r.statement r.table ≡ Writes done cs keys undo
 
 -- every run that changes rows makes the changes that its statement means over the view, and so many
 abbrev pub WritesAreMeant : History → Type 0
-WritesAreMeant t = (before later : List Happening) (h : Happening) (p : Past) (r : Ran_at) (done : Done) (n : ℕ) (cs : List Change) (keys : List Value)
-    → WroteAt t before later h p r done n cs keys
-    → meant r.statement r.table (view_by (book_of before) (owns (start t.places t.commands) [] before) r.branch r.table.name) ≡ Changes done n cs
+WritesAreMeant t = (before later : List Happening) (h : Happening) (p : Past) (r : Ran_at) (done : Done) (cs : List Change) (keys : List Value) (undo : ℕ)
+    → WroteAt t before later h p r done cs keys undo
+    → meant r.statement r.table (view_by (book_of before) (owns (start t.places t.commands) [] before) r.branch r.table.name) ≡ Changes done (length cs) cs

@@ -1,0 +1,52 @@
+-- What a branch has changed, what it sees of a table, and the undo that it holds.
+use Rattle.std.specs.Prelude.{ℕ, ◌+◌, ◌/◌, ◌&&◌, Bool, if◌then◌else◌, List, [], ◌∷◌, ◌++◌, sum_by, Option, Some, None}
+use Rattle.dtx_values.specs.declared.value.Value.{Value}
+use Rattle.dtx_values.specs.declared.row.Row.{Row}
+use Rattle.dtx_values.specs.declared.row.Change.{Change}
+use Rattle.sql_eval.specs.declared.keyed.Keyed.{Keyed}
+use Rattle.sql_eval.specs.Words.{same_text}
+use Rattle.sql_eval.specs.Rows.{same_value, get, apply, change_length}
+use Rattle.row_store.specs.Tables.{TableRows, rows_of_table}
+
+-- What a branch has changed so far, in order, and how many bytes the undo of that takes.
+pub record Own : Type 0 where
+  pub changes : List Change
+  pub undo : ℕ
+
+-- a branch that has changed nothing
+abbrev pub nothing_changed : Own
+nothing_changed = record { changes = []; undo = 0 }
+
+-- with the changes of one more statement, and their undo
+abbrev pub with_changes : Own → List Change → ℕ → Own
+with_changes own cs undo = record { changes = own.changes ++ cs; undo = own.undo + undo }
+
+-- the bytes of these changes
+abbrev pub changes_length : List Change → ℕ
+changes_length cs = sum_by change_length cs
+
+-- whether a change is at this key
+abbrev pub is_change_of : List ℕ → Value → Change → Bool
+is_change_of table key c = same_text c.table table && same_value c.key key
+
+-- what the last of these changes at a key leaves there, where one of them is at it
+abbrev pub last_at : List Change → List ℕ → Value → Option (Option Row) → Option (Option Row)
+last_at [] table key last = last
+last_at (c ∷ cs) table key last = last_at cs table key (if is_change_of table key c then Some c.after else last)
+
+-- what a branch sees of a table: its committed rows, with the branch's own changes
+abbrev pub view_of : List TableRows → List Change → List ℕ → List Keyed
+view_of tables own table = apply table (rows_of_table tables table) own
+
+-- a change with the row from before it
+abbrev pub before : List Keyed → Change → Change
+before view c = record c { after = get view c.key }
+
+-- the bytes of the undo of a statement's changes, over the rows that the branch saw before it: each change with the row
+-- from before
+abbrev pub undo_length : List Keyed → List Change → ℕ
+undo_length view cs = sum_by (λ c. change_length (before view c)) cs
+
+-- so many bytes over 4,096, rounded up
+abbrev pub extents : ℕ → ℕ
+extents bytes = (bytes + 4095) / 4096

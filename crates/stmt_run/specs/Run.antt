@@ -1,0 +1,87 @@
+-- One statement at the node of its table: what it meets there, and what it does.
+use Rattle.std.specs.Prelude.{ℕ, ◌+◌, ◌-◌, Bool, List, [], ◌∷◌, map, length, nat_lt, Option, Some, None}
+use Rattle.dtx_values.specs.declared.value.Value.{Value}
+use Rattle.dtx_values.specs.declared.row.Change.{Change}
+use Rattle.dtx_values.specs.declared.table.Table.{Table}
+use Rattle.dtx_values.specs.declared.answer.Refusal.{Refusal}
+use Rattle.dtx_values.specs.declared.answer.Done.{Done}
+use Rattle.tran_ids.specs.declared.branch.BranchId.{BranchId}
+use Rattle.tran_ids.specs.Numbers.{decimal}
+use Rattle.tran_ids.specs.Texts.{local_text}
+use Rattle.sql_parse.specs.declared.statement.Stmt.{Stmt}
+use Rattle.sql_eval.specs.declared.keyed.Keyed.{Keyed}
+use Rattle.sql_eval.specs.declared.meant.Meant.{Meant}
+use Rattle.sql_eval.specs.declared.meant.Meant.TheVariants as meants
+use Rattle.sql_eval.specs.Words.{one, first_some}
+use Rattle.sql_eval.specs.Refusals.{ora, dtx, else_refuse, refuse_if}
+use Rattle.sql_eval.specs.Meaning.{checked, examined, written, meant_over}
+use Rattle.row_locks.specs.Locks.{Lock, keys_held}
+use Rattle.row_locks.specs.Held.{doubt_on, hold_on}
+use Rattle.row_store.specs.Own.{changes_length, undo_length, extents}
+use Rattle.stmt_run.specs.declared.ran.Ran.{Ran}
+use Rattle.stmt_run.specs.declared.ran.Ran.TheVariants.{Refuses, Reads, Writes}
+
+-- What a statement meets: the branch that makes it, what the branch sees of the table, the locks of the node, the bytes
+-- of the branch's changes and of their undo, and the undo extents that are free.
+pub record Ground : Type 0 where
+  pub me : BranchId
+  pub view : List Keyed
+  pub locks : List Lock
+  pub bytes : ℕ
+  pub undo : ℕ
+  pub free : ℕ
+
+-- the refusal that names a holder
+abbrev pub held_refusal : ℕ → Option BranchId → Option Refusal
+held_refusal code None = None
+held_refusal code (Some b) = Some (ora code (one (local_text b)))
+
+-- ORA-01591: an examined key is in doubt
+abbrev pub in_doubt_refusal : Ground → Table → List Value → Option Refusal
+in_doubt_refusal g t keys = held_refusal 1591 (first_some (map (doubt_on g.locks t.name) keys))
+
+-- ORA-02049: a written key is held by another live branch
+abbrev pub locked_refusal : Ground → Table → List Value → Option Refusal
+locked_refusal g t keys = held_refusal 2049 (first_some (map (hold_on g.locks g.me t.name) keys))
+
+-- the extents that further changes need
+abbrev pub needed_extents : Ground → List Change → ℕ
+needed_extents g cs = extents (g.undo + undo_length g.view cs) - extents g.undo
+
+-- whether the branch's changes with these take more than 8,388,608 bytes
+abbrev pub too_many_changes : Ground → List Change → Bool
+too_many_changes g cs = nat_lt 8388608 (g.bytes + changes_length cs)
+
+-- DTX-16 and ORA-30036: too many changes, or not enough extents
+abbrev pub space_refusal : Ground → List Change → Option Refusal
+space_refusal g cs =
+    else_refuse (refuse_if (too_many_changes g cs) (dtx 16 []))
+    (refuse_if (nat_lt g.free (needed_extents g cs)) (ora 30036 (decimal (needed_extents g cs) ∷ decimal g.free ∷ [])))
+
+-- changes, where there is space
+abbrev pub ran_within : Ground → Option Refusal → Done → List Change → List Value → Ran
+ran_within g (Some r) d cs keys = Refuses r
+ran_within g None d cs keys = Writes d cs keys (undo_length g.view cs)
+
+-- what the meaning comes to
+abbrev pub ran_meant : Ground → List Value → Meant → Ran
+ran_meant g keys (meants.Refused r) = Refuses r
+ran_meant g keys (meants.Gives rows) = Reads rows keys
+ran_meant g keys (meants.Changes d n cs) = ran_within g (space_refusal g cs) d cs keys
+
+-- after the locks were tested
+abbrev pub ran_locked : Ground → Stmt → Table → Option Refusal → Ran
+ran_locked g s t (Some r) = Refuses r
+ran_locked g s t None = ran_meant g (written s t g.view) (meant_over s t g.view)
+
+-- after the checks: the examined keys, the written keys, the meaning, the space
+abbrev pub ran_checked : Ground → Stmt → Table → Option Refusal → Ran
+ran_checked g s t (Some r) = Refuses r
+ran_checked g s t None =
+    ran_locked g s t
+    (else_refuse (in_doubt_refusal g t (examined s t g.view (keys_held g.locks t.name))) (locked_refusal g t (written s t g.view)))
+
+-- what a statement does at its table's node: the checks, the keys in doubt, the keys that others hold, the meaning, the
+-- space, in this order
+unfoldable pub ran_over : Ground → Stmt → Table → Ran
+ran_over g s t = ran_checked g s t (checked s t)

@@ -1,0 +1,10 @@
+//! One statement at the node of its table.
+//!
+//! What a statement does is a function of what it meets there: the rows that its branch sees, the locks of the node, and
+//! the space that is left to the branch. It is refused, or gives rows and locks keys, or makes changes and locks keys; the
+//! causes of a refusal are tested in their order.
+#![tactic(auto)]
+
+mod ran;
+
+pub use ran::Ran;
