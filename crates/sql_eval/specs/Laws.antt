@@ -1,10 +1,10 @@
 -- A statement that fixes a key depends on what stands at that key alone.
-use Rattle.std.specs.Prelude.{◌≡◌, ◌==◌, ◌&&◌, not, ℕ, Bool, true, false, List, [], ◌∷◌, Some, filter, map, position, count_by, unwrap_or, ⊤}
-use Rattle.std.specs.List.{list_any}
-use Rattle.sql_eval.specs.Data.{Value, Change, Column, Table, Keyed, Stmt, Done}
+use Rattle.std.specs.Prelude.{◌≡◌, ◌==◌, ◌&&◌, not, ℕ, Bool, true, false, List, [], ◌∷◌, Some, IfSome, filter, length, map, position, count_by, unwrap_or, ⊤}
+use Rattle.std.specs.List.{AllByRecursion, list_any}
+use Rattle.sql_eval.specs.Data.{Value, Row, Change, Column, Table, Keyed, Stmt, Done}
 use Rattle.sql_eval.specs.Data.meants
 use Rattle.sql_eval.specs.Words.{first_some}
-use Rattle.sql_eval.specs.Rows.{same_value, apply}
+use Rattle.sql_eval.specs.Rows.{is_null, same_value, apply}
 use Rattle.sql_eval.specs.Columns.{is_key, is_named, key_of_row, place_of}
 use Rattle.sql_eval.specs.Meaning.{conds_of, fixes, found, fixed_key, written, sets_key, meant_over}
 
@@ -58,3 +58,15 @@ MeantAtKey = (s : Stmt) (t : Table) (rows : List Keyed) (key : Value) → HasOne
 abbrev pub StaysKeyed : Type 0
 StaysKeyed = (s : Stmt) (t : Table) (rows : List Keyed) (done : Done) (count : ℕ) (changes : List Change) → HasOneKey t → AreKeyed t rows
     → sets_key s t ≡ false → meant_over s t rows ≡ meants.Changes done count changes → AreKeyed t (apply t.name rows changes)
+
+-- a row that stands at this key in the table: with a cell for each column, and the key, which is not NULL, in the key column
+abbrev pub IsRowAt : Table → Value → Row → Type 0
+IsRowAt t key row = (length row.cells ≡ length t.columns) × (key_of_row t row.cells ≡ key) × (is_null key ≡ false)
+
+-- each row stands at its key
+abbrev pub AreRowsOf : Table → List Keyed → Type 0
+AreRowsOf t rows = AllByRecursion (λ r. IsRowAt t r.key r.row) rows
+
+-- a change of the table: at a key that is not NULL, to a row that stands there or to none
+abbrev pub IsChangeOf : Table → Change → Type 0
+IsChangeOf t c = (c.table ≡ t.name) × (is_null c.key ≡ false) × IfSome c.after (IsRowAt t c.key)

@@ -1,10 +1,12 @@
 -- One statement at the node of its table: what it meets there, and what it does.
-use Rattle.std.specs.Prelude.{ℕ, ◌+◌, ◌-◌, Bool, List, [], ◌∷◌, map, length, nat_lt, Option, Some, None}
+use Rattle.std.specs.Prelude.{ℕ, ◌+◌, ◌-◌, Bool, true, false, List, [], ◌∷◌, map, fold, length, nat_lt, Option, Some, None}
 use Rattle.dtx_values.specs.declared.value.Value.{Value}
 use Rattle.dtx_values.specs.declared.row.Change.{Change}
 use Rattle.dtx_values.specs.declared.table.Table.{Table}
 use Rattle.dtx_values.specs.declared.answer.Refusal.{Refusal}
 use Rattle.dtx_values.specs.declared.answer.Done.{Done}
+use Rattle.dtx_values.specs.declared.answer.Answer.{Answer}
+use Rattle.dtx_values.specs.declared.answer.Answer.TheVariants as answers
 use Rattle.tran_ids.specs.declared.branch.BranchId.{BranchId}
 use Rattle.tran_ids.specs.Numbers.{decimal}
 use Rattle.tran_ids.specs.Texts.{local_text}
@@ -15,9 +17,9 @@ use Rattle.sql_eval.specs.declared.meant.Meant.TheVariants as meants
 use Rattle.sql_eval.specs.Words.{one, first_some}
 use Rattle.sql_eval.specs.Refusals.{ora, dtx, else_refuse, refuse_if}
 use Rattle.sql_eval.specs.Meaning.{checked, examined, written, meant_over}
-use Rattle.row_locks.specs.Locks.{Lock, keys_held}
+use Rattle.row_locks.specs.Locks.{Lock, keys_held, taken}
 use Rattle.row_locks.specs.Held.{doubt_on, hold_on}
-use Rattle.row_store.specs.Own.{changes_length, undo_length, extents}
+use Rattle.row_store.specs.Own.{Own, with_changes, changes_length, undo_length, extents}
 use Rattle.stmt_run.specs.declared.ran.Ran.{Ran}
 use Rattle.stmt_run.specs.declared.ran.Ran.TheVariants.{Refuses, Reads, Writes}
 
@@ -85,3 +87,25 @@ ran_checked g s t None =
 -- space, in this order
 unfoldable pub ran_over : Ground → Stmt → Table → Ran
 ran_over g s t = ran_checked g s t (checked s t)
+
+-- the locks with several more keys of a branch
+abbrev pub take_keys : List Lock → BranchId → List ℕ → Bool → List Value → List Lock
+take_keys locks me table writes keys = fold (λ ls key. taken ls me table key writes) locks keys
+
+-- the locks after a run
+abbrev pub locks_after : List Lock → BranchId → Table → Ran → List Lock
+locks_after locks me t (Refuses r) = locks
+locks_after locks me t (Reads rows keys) = take_keys locks me t.name false keys
+locks_after locks me t (Writes d cs keys undo) = take_keys locks me t.name true keys
+
+-- what the branch has changed after a run
+abbrev pub own_after : Own → Ran → Own
+own_after own (Refuses r) = own
+own_after own (Reads rows keys) = own
+own_after own (Writes d cs keys undo) = with_changes own cs undo
+
+-- what is answered to a run
+abbrev pub answer_of_run : Ran → Answer
+answer_of_run (Refuses r) = answers.Refused r
+answer_of_run (Reads rows keys) = answers.Found rows
+answer_of_run (Writes d cs keys undo) = answers.Did d (length cs)

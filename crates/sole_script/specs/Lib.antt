@@ -1,0 +1,4 @@
+pub mod Comments
+pub mod Pieces
+pub mod Forms
+pub mod Script
