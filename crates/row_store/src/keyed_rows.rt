@@ -110,12 +110,7 @@ impl KeyedRows {
     }
 
     /// Puts a copy of a row at a key, or removes the row that is there.
-    pub fn set(
-        &mut self,
-        alloc: Global,
-        key: &Value,
-        after: &Option<Row>,
-    ) -> Result<(), AllocError>
+    pub fn set(&mut self, alloc: Global, key: &Value, after: &Option<Row>) -> Result<(), AllocError>
         ensures ok { OnOk result (self.new ≡ set_to self.old key.now after.now) }
         ensures err { OnErr result (self.new ≡ self.old) }
     {
