@@ -2,6 +2,7 @@
 ghost use Rattle.std.specs.Prelude.{◌≡◌, ◌+◌, ◌^◌, ◌<◌, ◌≤◌, [], ◌∷◌, ◌++◌, length, None, OnOk, OnErr};
 ghost use Rattle.std.specs.Option.{option_copied};
 ghost use Rattle.row_store.specs.Own.{nothing_changed, with_changes, changes_length, last_at as last_at_of};
+ghost use Rattle.row_store.specs.Kept.{last_place, after_at as after_at_of};
 
 use crate::changed_key::{ChangedKey, owned_key};
 use crate::lengths::change_len;
@@ -73,23 +74,12 @@ impl OwnChanges {
     pub fn last_at(&self, table: &Name, key: &Value) -> Option<&Option<Row>>
         ensures { option_copied result ≡ last_at_of self.now.changes table.now key.now None }
     {
-        let asked = ChangedKey {
-            table: Cow::Borrowed(table),
-            key: Cow::Borrowed(key),
-        };
-        let place = *self.places.get(&asked)?;
-        let change = self.changes.get(place)?;
-        Some(&change.after)
+        after_at(self.changes.as_slice(), self.place(table, key))
     }
 
     /// Adds the changes of one more statement, and the bytes of their undo. After an error some of them may be there, and
     /// their undo is not.
-    pub fn push_all(
-        &mut self,
-        alloc: Global,
-        changes: Changes,
-        undo: u64,
-    ) -> Result<(), AllocError>
+    pub fn push_all(&mut self, alloc: Global, changes: Changes, undo: u64) -> Result<(), AllocError>
         requires room { changes_length (self.old.changes ++ changes) ≤ 8388608 }
         requires undo { self.old.undo + undo < 2 ^ 64 }
         ensures { OnOk result (self.new ≡ with_changes self.old changes undo) }
@@ -109,6 +99,17 @@ impl OwnChanges {
         Listing::of(self.changes)
     }
 
+    // The place of the last change at a key.
+    fn place(&self, table: &Name, key: &Value) -> Option<usize>
+        ensures { result ≡ last_place 0 self.now.changes table.now key.now None }
+    {
+        let asked = ChangedKey {
+            table: Cow::Borrowed(table),
+            key: Cow::Borrowed(key),
+        };
+        self.places.get(&asked).copied()
+    }
+
     // Adds a change behind the others.
     fn push(&mut self, alloc: Global, change: Change) -> Result<(), AllocError>
         requires { changes_length (self.old.changes ++ change ∷ []) ≤ 8388608 }
@@ -123,4 +124,12 @@ impl OwnChanges {
         self.bytes = bytes;
         Ok(())
     }
+}
+
+// What the change at a place leaves.
+fn after_at(changes: &[Change], place: Option<usize>) -> Option<&Option<Row>>
+    ensures { option_copied result ≡ after_at_of changes.now place }
+{
+    let change = changes.get(place?)?;
+    Some(&change.after)
 }
