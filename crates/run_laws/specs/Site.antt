@@ -26,7 +26,7 @@ branch_in p b = branch_at (node_at p b.node) b
 -- its changes
 abbrev pub own_by : Option Branch → List Change
 own_by None = []
-own_by (Some x) = x.own
+own_by (Some x) = x.own.changes
 
 -- its children
 abbrev pub children_by : Option Branch → List BranchId
