@@ -1,27 +1,19 @@
 -- What a node keeps from turn to turn, where it is the only one.
 use Rattle.std.specs.Prelude.{ℕ, ◌+◌, ◌-◌, ◌&&◌, Bool, if◌then◌else◌, List, [], ◌∷◌, ◌++◌, find, filter, map, not, length, nat_lt, replicate, sum_by, slice_get, slice_set, unwrap_or, Option, None, Some}
 use Rattle.std.specs.Str.{bytes_eq}
-use Rattle.std.specs.List.{list_any}
+use Rattle.std.specs.List.{list_any, position_or_len}
 use Rattle.dtx_values.specs.declared.table.Table.{Table}
 use Rattle.tran_ids.specs.declared.branch.BranchId.{BranchId}
 use Rattle.tran_ids.specs.Branch.{same}
 use Rattle.row_locks.specs.Locks.{Lock, without, without_reads}
 use Rattle.row_store.specs.Tables.{TableRows}
-use Rattle.row_store.specs.Own.{Own, nothing_changed, extents}
+use Rattle.row_store.specs.Own.{nothing_changed, extents}
+pub use Rattle.sole_node.specs.declared.root.Root.{Root}
+pub use Rattle.sole_node.specs.declared.root.Session.{Session}
 
 -- the number of the one node
 abbrev pub the_node : ℕ
 the_node = 1
-
--- A transaction that is open: the branch that is its root, and what that has changed.
-pub record Root : Type 0 where
-  pub me : BranchId
-  pub own : Own
-
--- A client session: the number of its newest transaction since the start, and its root where it is open.
-pub record Session : Type 0 where
-  pub seq : ℕ
-  pub root : Option BranchId
 
 -- A node: which start it runs in, from 1; its tables and their committed rows; the greatest commit SCN. A stop loses the
 -- rest: the open transactions in the order in which they began, the locks in the order in which they were taken, the 64
@@ -74,7 +66,7 @@ root_at k n = root_of k (session_at k n).root
 
 -- with what one of them has changed
 abbrev pub with_root : Kept → Root → Kept
-with_root k x = record k { roots = map (λ y. if is_of x.me y then x else y) k.roots }
+with_root k x = record k { roots = slice_set k.roots (position_or_len (is_of x.me) k.roots) x }
 
 -- the id of the session's next transaction
 abbrev pub next_root : Kept → ℕ → BranchId
