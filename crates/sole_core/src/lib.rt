@@ -1,2 +1,0 @@
-//! A node on its disk.
-#![tactic(auto)]
