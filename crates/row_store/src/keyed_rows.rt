@@ -144,18 +144,18 @@ impl KeyedRows {
     pub fn into_keyed(self, alloc: Global) -> Result<Vec<Keyed>, AllocError>
         ensures { IfOk result (λ keyed. keyed.items ≡ self) }
     {
-        let mut all = Vec::with_capacity(alloc, self.len())?;
+        let mut rows = Vec::with_capacity(alloc, self.len())?;
         for (key, row) in self.rows {
-            all.push(Keyed { key, row })?;
+            rows.push(Keyed { key, row })?;
         }
-        Ok(all)
+        Ok(rows)
     }
 }
 
 impl Duplicate for KeyedRows {
     fn copy(&self, alloc: Global) -> Result<KeyedRows, AllocError> {
         let mut copy = KeyedRows::new(alloc);
-        for (key, row) in self.rows.iter() {
+        for (key, row) in &self.rows {
             copy.put(key.copy(alloc)?, row.copy(alloc)?)?;
         }
         Ok(copy)

@@ -10,5 +10,5 @@ loop-key-preserved c =
     let more = rows_of c.next.new.self in
     let next = ap rows_of c.in-Some.ensures.steps in
     let left = (λ i. c.loop-key.copy ++ record { key = c.in_ok-copy.ensures i; row = c.in_ok-copy-2.ensures i } ∷ more) ∙ ap (λ (rows : List Keyed). c.loop-key.copy ++ rows) (sym next) ∙ c.loop-key.invariant in
-    let ordered = subst are_in_order c.self.view_is (ordered_is c.self.inside.rows.entries c.iter-key-items.ensures.ordered) in
+    let ordered = subst are_in_order c.self.view_is (ordered_is c.self.inside.rows.entries c.into_iter-key-iterator.ensures.into_iter_gives.5) in
     ap (λ (rows : List Keyed). rows ++ more) c.in_ok-put.ensures.ok ∙ put_next c.in_ok-copy.field-0 c.in_ok-copy-2.field-0 c.loop-key.copy more c.args.self.now left ordered
