@@ -1,5 +1,5 @@
 -- A statement examines each key that it writes.
-use Rattle.std.proofs.Common.{◌≡◌, ℕ, Bool, true, false, cond, List, [], ◌∷◌, ◌++◌, Option, None, Some, filter, fold, map, refl, sym, ap, subst, ◌∙◌}
+use Rattle.std.proofs.Common.{◌≡◌, Bool, true, false, cond, List, [], ◌∷◌, ◌++◌, Option, None, Some, filter, fold, map, refl, sym, subst}
 use Rattle.std.specs.List.{AllByRecursion}
 use Rattle.dtx_values.specs.declared.value.Value.{Value}
 use Rattle.dtx_values.specs.declared.table.Table.{Table}
@@ -8,8 +8,8 @@ use Rattle.sql_parse.specs.declared.condition.Cond.{Cond}
 use Rattle.sql_eval.specs.declared.keyed.Keyed.{Keyed}
 use Rattle.sql_parse.specs.declared.statement.Stmt.TheVariants as stmts
 use Rattle.sql_eval.specs.Words.{first_some, one}
-use Rattle.sql_eval.specs.Rows.{value_below, same_value, keys_of, put_key, keys_in_order}
-use Rattle.sql_eval.specs.Meaning.{examined, examined_by, fixed_key, fixes, conds_of, found, satisfies, written}
+use Rattle.sql_eval.specs.Rows.{value_below, same_value, keys_of, put_key}
+use Rattle.sql_eval.specs.Meaning.{examined, examined_by, fixes, conds_of, found, satisfies, written}
 use Rattle.sql_eval.specs.Laws.{HasOneKey, AreKeyed, at_key}
 use Rattle.sql_eval.proofs.KeyLaws.{found_at_key}
 use Rattle.stmt_run.proofs.Values.{equal_from_same}

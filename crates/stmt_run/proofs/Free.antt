@@ -1,9 +1,8 @@
 -- The keys that a run locks are free or the branch's own, and stay so while they are taken.
-use Rattle.std.proofs.Common.{◌≡◌, ℕ, Bool, true, false, cond, ◌||◌, List, [], ◌∷◌, Option, None, Some, map, refl, sym, ap, subst, ◌∙◌, arith}
+use Rattle.std.proofs.Common.{◌≡◌, ℕ, Bool, List, [], ◌∷◌, Option, None, Some, map, refl, subst, arith}
 use Rattle.std.specs.List.{All, AllByRecursion}
-use Rattle.std.proofs.lemmas.List.Elements.{All-from_recursion, All-weaker}
+use Rattle.std.proofs.lemmas.List.Elements.{All-from_recursion}
 use Rattle.tran_ids.specs.declared.branch.BranchId.{BranchId}
-use Rattle.tran_ids.specs.Branch.{same}
 use Rattle.tran_ids.proofs.BranchLemmas.{same_from_equal}
 use Rattle.dtx_values.specs.declared.answer.Refusal.{Refusal}
 use Rattle.dtx_values.specs.declared.answer.Done.{Done}
@@ -17,10 +16,9 @@ use Rattle.sql_eval.specs.Words.{first_some}
 use Rattle.sql_eval.specs.Refusals.{else_refuse}
 use Rattle.sql_eval.specs.Meaning.{checked, examined, written, meant_over}
 use Rattle.sql_eval.specs.Laws.{HasOneKey, AreKeyed}
-use Rattle.row_locks.specs.Locks.{Lock, new_lock, is_lock_on, another, holder_of, other_holder, taken, keys_held}
+use Rattle.row_locks.specs.Locks.{Lock, another, holder_of, taken, keys_held}
 use Rattle.row_locks.specs.Held.{in_doubt_one, live_one, doubt_on, hold_on}
 use Rattle.stmt_run.specs.declared.ran.Ran.{Ran}
-use Rattle.stmt_run.specs.declared.ran.Ran.TheVariants.{Refuses, Reads, Writes}
 use Rattle.stmt_run.specs.Run.{Ground, held_refusal, in_doubt_refusal, locked_refusal, space_refusal, ran_within, ran_meant, ran_locked, ran_checked, ran_over}
 use Rattle.stmt_run.specs.Sites.{IsFree, LocksFreeKeys}
 use Rattle.stmt_run.proofs.Examined.{written_examined}
@@ -89,8 +87,8 @@ module _ (g : Ground) (t : Table) where
         let doubt = none_of (doubt_on g.locks t.name) (examined s t g.view (keys_held g.locks t.name)) (nobody 1591 _ refused.0) in
         let live = none_of (hold_on g.locks g.me t.name) (written s t g.view) (nobody 2049 _ refused.1) in
         let free =
-            free_each g.locks g.me t.name (written s t g.view)
-            (written_examined (λ (key : Value). doubt_on g.locks t.name key ≡ None) s t g.view (keys_held g.locks t.name) one keyed doubt) live in
+        free_each g.locks g.me t.name (written s t g.view)
+        (written_examined (λ (key : Value). doubt_on g.locks t.name key ≡ None) s t g.view (keys_held g.locks t.name) one keyed doubt) live in
         meant_free (written s t g.view) (meant_over s t g.view) r (All-from_recursion (IsFree g.locks g.me t.name) (written s t g.view) free) e
 
     checked_free : (o : Option Refusal) (r : Ran) → ran_checked g s t o ≡ r → IsSafe r

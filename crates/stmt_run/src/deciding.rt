@@ -35,7 +35,13 @@ pub fn ran_over(
     let sight = Sight::new(alloc, statement, table, site)?;
     let rows = sight.rows.as_slice();
     let keys = written(alloc, statement, table, rows)?;
-    let refusal = lock_refusal(alloc, table, site, sight.examined.as_slice(), keys.as_slice())?;
+    let refusal = lock_refusal(
+        alloc,
+        table,
+        site,
+        sight.examined.as_slice(),
+        keys.as_slice(),
+    )?;
     if let Some(refusal) = refusal {
         return Ok(Ran::Refuses(refusal));
     }

@@ -25,7 +25,7 @@ pub fn lock_refusal(
 ) -> Result<Option<Refusal>, AllocError>
     ensures { IfOk result (λ refusal.
         refusal ≡ else_refuse (in_doubt_refusal (ground_of site.now) table.now examined.now)
-            (locked_refusal (ground_of site.now) table.now written.now)) }
+        (locked_refusal (ground_of site.now) table.now written.now)) }
 {
     let in_doubt = first_in_doubt(site.locks, &table.name, examined);
     if let Some(refusal) = held(alloc, 1591, in_doubt)? {

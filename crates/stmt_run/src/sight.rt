@@ -43,8 +43,13 @@ impl Sight {
             None => {
                 let rows = site.view.keyed(alloc)?;
                 let locked = site.locks.keys(alloc, &table.name)?;
-                let examined =
-                    examined(alloc, statement, table, rows.as_slice(), locked.as_slice())?;
+                let examined = examined(
+                    alloc,
+                    statement,
+                    table,
+                    rows.as_slice(),
+                    locked.as_slice(),
+                )?;
                 Ok(Sight { rows, examined })
             }
         }

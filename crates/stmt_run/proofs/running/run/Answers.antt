@@ -1,5 +1,5 @@
 -- The keys of the run are free or the branch's own, and its changes are few.
-use Rattle.std.proofs.Common.{◌≡◌, ◌≤◌, List, length, ap, sym, subst, ◌∙◌, arith}
+use Rattle.std.proofs.Common.{List, length, ap, sym, subst, ◌∙◌, arith}
 use Rattle.std.specs.List.{All}
 use Rattle.dtx_values.specs.declared.value.Value.{Value}
 use Rattle.sql_eval.proofs.TableLaws.{tables_have_one_key}

@@ -1,7 +1,7 @@
 -- The key that is fixed is the one examined key, and what is written and meant depends on the row there alone.
-use Rattle.std.proofs.Common.{◌≡◌, List, sym, ap, ◌∙◌}
+use Rattle.std.proofs.Common.{sym, ap, ◌∙◌}
 use Rattle.row_locks.specs.Locks.{keys_held}
-use Rattle.sql_eval.specs.Meaning.{examined, examined_by, fixed_key, meant_over, written}
+use Rattle.sql_eval.specs.Meaning.{examined, examined_by, meant_over, written}
 use Rattle.sql_eval.proofs.KeyLaws.{meant_at_key, written_at_key}
 use Rattle.sql_eval.proofs.RowLaws.{rows_are_keyed}
 use Rattle.sql_eval.proofs.TableLaws.{tables_have_one_key}
