@@ -5,8 +5,19 @@
 //! causes of a refusal are tested in their order.
 #![tactic(auto)]
 
+mod deciding;
+mod holders;
 mod ran;
-mod run;
+mod refusal;
+mod running;
+mod sight;
+mod site;
+mod space;
 
+pub use deciding::ran_over;
 pub use ran::Ran;
-pub use run::run;
+pub use running::run;
+pub use site::Site;
+
+#[cfg(test)]
+mod tests;

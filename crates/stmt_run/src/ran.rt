@@ -9,7 +9,10 @@ pub enum Ran {
     /// It is refused: nothing is changed and nothing is locked.
     Refuses(Refusal),
     /// It gives rows, and locks keys where it is FOR UPDATE.
-    Reads { rows: RowSet, keys: Keys },
+    Reads {
+        rows: RowSet,
+        keys: Keys,
+    },
     /// It makes changes, and locks their keys.
     Writes {
         done: Done,

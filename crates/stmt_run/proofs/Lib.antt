@@ -1,0 +1,4 @@
+mod Values
+mod Examined
+mod Free
+mod Lengths

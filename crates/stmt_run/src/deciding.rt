@@ -1,0 +1,58 @@
+//! What a statement does, before anything is changed.
+ghost use Rattle.std.specs.Prelude.{◌≡◌, true, IfOk};
+ghost use Rattle.sql_eval.specs.Laws.{has_one_key, AreRowsOf};
+ghost use Rattle.stmt_run.specs.Run.{ran_over as ran_over_of};
+ghost use Rattle.stmt_run.specs.Sites.{ground_of, HasRoom};
+
+use crate::holders::lock_refusal;
+use crate::sight::Sight;
+use crate::space::ran_within;
+use crate::{Ran, Site};
+use dtx_values::{Listing, Table};
+use sql_eval::{Meant, checked, meant_over, written};
+use sql_parse::Stmt;
+use std::alloc::{AllocError, Global};
+
+/// What a statement does at its table's node: the checks that need no row, the keys in doubt, the keys that others hold, its
+/// meaning, and the space, in this order.
+#[tactic(auto, unfolding(crate::specs::Run::ran_over))]
+pub fn ran_over(
+    alloc: Global,
+    statement: &Stmt,
+    table: &Table,
+    site: &Site,
+) -> Result<Ran, AllocError>
+    requires one_key { has_one_key table.now ≡ true }
+    requires rows { AreRowsOf table.now site.now.view }
+    ensures ran { IfOk result (λ ran. ran ≡ ran_over_of (ground_of site.now) statement.now table.now) }
+
+    // Changes that it makes have room.
+    ensures room { IfOk result (HasRoom site.now.own.now) }
+{
+    if let Some(refusal) = checked(alloc, statement, table)? {
+        return Ok(Ran::Refuses(refusal));
+    }
+    let sight = Sight::new(alloc, statement, table, site)?;
+    let rows = sight.rows.as_slice();
+    let keys = written(alloc, statement, table, rows)?;
+    let refusal = lock_refusal(
+        alloc,
+        table,
+        site,
+        sight.examined.as_slice(),
+        keys.as_slice(),
+    )?;
+    if let Some(refusal) = refusal {
+        return Ok(Ran::Refuses(refusal));
+    }
+    let keys = Listing::of(keys);
+    match meant_over(alloc, statement, table, rows)? {
+        Meant::Refused(refusal) => Ok(Ran::Refuses(refusal)),
+        Meant::Gives(rows) => Ok(Ran::Reads { rows, keys }),
+        Meant::Changes {
+            done,
+            count: _count,
+            changes,
+        } => ran_within(alloc, site, done, changes, keys),
+    }
+}

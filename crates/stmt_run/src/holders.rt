@@ -1,0 +1,102 @@
+//! Who holds the keys of a statement, and taking them.
+ghost use Rattle.std.specs.Prelude.{◌≡◌, map, IfOk, OnOk};
+ghost use Rattle.std.specs.List.{All};
+ghost use Rattle.sql_eval.specs.Words.{first_some};
+ghost use Rattle.sql_eval.specs.Refusals.{else_refuse};
+ghost use Rattle.row_locks.specs.Held.{doubt_on as doubt_on_of, hold_on as hold_on_of};
+ghost use Rattle.stmt_run.specs.Run.{in_doubt_refusal, locked_refusal, take_keys};
+ghost use Rattle.stmt_run.specs.Sites.{ground_of, IsFree};
+
+use crate::Site;
+use crate::refusal::held;
+use dtx_values::{Name, Refusal, Table, Value};
+use row_locks::{LockErr, Locks};
+use std::alloc::{AllocError, Global};
+use tran_ids::BranchId;
+
+/// ORA-01591 for the first of the examined keys that is in doubt, or else ORA-02049 for the first of the written keys that
+/// another live branch holds.
+pub fn lock_refusal(
+    alloc: Global,
+    table: &Table,
+    site: &Site,
+    examined: &[Value],
+    written: &[Value],
+) -> Result<Option<Refusal>, AllocError>
+    ensures { IfOk result (λ refusal.
+        refusal ≡ else_refuse (in_doubt_refusal (ground_of site.now) table.now examined.now)
+        (locked_refusal (ground_of site.now) table.now written.now)) }
+{
+    let in_doubt = first_in_doubt(site.locks, &table.name, examined);
+    if let Some(refusal) = held(alloc, 1591, in_doubt)? {
+        return Ok(Some(refusal));
+    }
+    let holder = first_holder(site.locks, site.me, &table.name, written);
+    held(alloc, 2049, holder)
+}
+
+/// Takes keys, to write their rows or only to read them.
+pub fn take_all(
+    alloc: Global,
+    locks: &mut Locks,
+    me: &BranchId,
+    table: &Name,
+    keys: &[Value],
+    writes: bool,
+) -> Result<(), AllocError>
+    requires { All (IsFree locks.old me.now table.now) keys.now }
+    ensures { OnOk result (locks.new ≡ take_keys locks.old me.now table.now writes keys.now) }
+{
+    for key in keys {
+        match locks.take(alloc, me, table, key, writes) {
+            Ok(()) => {}
+            Err(LockErr::NoMemory) => return Err(AllocError),
+            Err(LockErr::Held { .. }) => unreachable!(),
+        }
+    }
+    Ok(())
+}
+
+// The branch in doubt that holds a key.
+fn doubt_on(locks: &Locks, table: &Name, key: &Value) -> Option<BranchId>
+    ensures { result ≡ doubt_on_of locks.now table.now key.now }
+{
+    let (branch, in_doubt) = locks.holder(table, key)?;
+    if in_doubt { Some(branch) } else { None }
+}
+
+// Another live branch that holds a key.
+fn hold_on(locks: &Locks, me: &BranchId, table: &Name, key: &Value) -> Option<BranchId>
+    ensures { result ≡ hold_on_of locks.now me.now table.now key.now }
+{
+    let (branch, in_doubt) = locks.holder(table, key)?;
+    if branch.is(me) || in_doubt {
+        None
+    } else {
+        Some(branch)
+    }
+}
+
+// The branch that holds the first key in doubt.
+fn first_in_doubt(locks: &Locks, table: &Name, keys: &[Value]) -> Option<BranchId>
+    ensures { result ≡ first_some (map (doubt_on_of locks.now table.now) keys.now) }
+{
+    for key in keys {
+        if let Some(branch) = doubt_on(locks, table, key) {
+            return Some(branch);
+        }
+    }
+    None
+}
+
+// The branch that holds the first key that another live branch holds.
+fn first_holder(locks: &Locks, me: &BranchId, table: &Name, keys: &[Value]) -> Option<BranchId>
+    ensures { result ≡ first_some (map (hold_on_of locks.now me.now table.now) keys.now) }
+{
+    for key in keys {
+        if let Some(branch) = hold_on(locks, me, table, key) {
+            return Some(branch);
+        }
+    }
+    None
+}
