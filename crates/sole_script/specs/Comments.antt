@@ -5,7 +5,7 @@ use Rattle.sole_script.specs.declared.part.Part.{Part}
 use Rattle.sole_script.specs.declared.part.Part.TheVariants.{Plain, Quoted, Comment}
 use Rattle.sole_script.specs.Pieces.{is_line_feed, is_quote}
 
--- a comment begins here, where no quoted text and no comment has begun before
+-- two dashes, which begin a comment where none has begun and no quoted text
 abbrev pub begins_comment : List ℕ → Bool
 begins_comment bytes = starts_with nat_eq bytes (codes "--")
 

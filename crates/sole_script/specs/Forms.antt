@@ -1,11 +1,11 @@
 -- The forms of a command, as they are spelled.
-use Rattle.std.specs.Prelude.{ℕ, ◌+◌, ◌==◌, List, Option, None, Some, if◌then◌else◌, codes, position, take, drop}
+use Rattle.std.specs.Prelude.{ℕ, ◌+◌, ◌≤◌, ◌==◌, ⊤, List, Option, None, Some, if◌then◌else◌, codes, position, take, drop}
 use Rattle.std.specs.Option.{option_or}
 use Rattle.one_node_sql.specs.Reading.{◌>>=◌}
 use Rattle.one_node_sql.specs.Tokens.{tokens_of}
 use Rattle.one_node_sql.specs.Grammar.{Tokens, keyword_at, name_at, natural_at, end_at}
 use Rattle.sole_script.specs.declared.command.Command.{Command}
-use Rattle.sole_script.specs.declared.command.Command.TheVariants.{At, Stop, Start, ShowBook, ShowDisk}
+use Rattle.sole_script.specs.declared.command.Command.TheVariants.{Node, At, Stop, Start, ShowBook, ShowDisk}
 use Rattle.sole_script.specs.Pieces.{is_colon}
 
 -- the sessions of a node have the numbers from 1 to this
@@ -19,6 +19,23 @@ undo_limit = 1024
 -- the extents of undo of a node whose command names none
 abbrev pub undo_default : ℕ
 undo_default = 64
+
+-- a session of a node has this number
+abbrev pub IsSession : ℕ → Type 0
+IsSession n = (1 ≤ n) × (n ≤ session_limit)
+
+-- a node may have so many extents of undo
+abbrev pub IsUndo : ℕ → Type 0
+IsUndo n = (1 ≤ n) × (n ≤ undo_limit)
+
+-- the numbers of a command are in their ranges
+abbrev pub IsInRange : Command → Type 0
+IsInRange (Node name undo) = IsUndo undo
+IsInRange (At node session text) = IsSession session
+IsInRange (Stop node) = ⊤
+IsInRange (Start node) = ⊤
+IsInRange ShowBook = ⊤
+IsInRange (ShowDisk node) = ⊤
 
 -- a number from 1 to the limit
 unfoldable pub count_at : ℕ → Tokens → Option (ℕ × Tokens)

@@ -1,8 +1,8 @@
 //! The forms of a command, and how each is read.
-ghost use Rattle.std.specs.Prelude.{◌≡◌, Some};
+ghost use Rattle.std.specs.Prelude.{◌≡◌, ◌≤◌, Some, IfOk};
 ghost use Rattle.std.specs.Option.{option_or};
 ghost use Rattle.one_node_sql.specs.Reading.{Gives};
-ghost use Rattle.sole_script.specs.Forms.{undo_default, count_at, undo_at, node_of, at_of, stop_at, start_at, show_book_at, show_disk_at, command_of};
+ghost use Rattle.sole_script.specs.Forms.{undo_default, IsUndo, IsInRange, count_at, undo_at, node_of, at_of, stop_at, start_at, show_book_at, show_disk_at, command_of};
 
 use crate::command::Command;
 use crate::piece::{around, colon_at};
@@ -27,7 +27,8 @@ const USUAL_UNDO: u32 = 64;
 /// A number from 1 to the limit.
 #[tactic(auto, unfolding(crate::specs::Forms::count_at))]
 fn count(tokens: &[Token], limit: u32) -> Result<(u32, &[Token]), ParseErr>
-    ensures { Gives (λ x. (x.0, x.1.now)) result (count_at limit tokens.now) }
+    ensures value { Gives (λ x. (x.0, x.1.now)) result (count_at limit tokens.now) }
+    ensures within { IfOk result (λ x. (1 ≤ x.0) × (x.0 ≤ limit)) }
 {
     let (number, rest) = natural(tokens, u64::from(limit))?;
     if number == 0 {
@@ -39,7 +40,8 @@ fn count(tokens: &[Token], limit: u32) -> Result<(u32, &[Token]), ParseErr>
 /// `UNDO number`: so many extents.
 #[tactic(auto, unfolding(crate::specs::Forms::undo_at))]
 fn undo(tokens: &[Token]) -> Result<(u32, &[Token]), ParseErr>
-    ensures { Gives (λ x. (x.0, x.1.now)) result (undo_at tokens.now) }
+    ensures value { Gives (λ x. (x.0, x.1.now)) result (undo_at tokens.now) }
+    ensures within { IfOk result (λ x. IsUndo x.0) }
 {
     let rest = keyword(tokens, b"UNDO")?;
     count(rest, MOST_UNDO)
@@ -47,7 +49,8 @@ fn undo(tokens: &[Token]) -> Result<(u32, &[Token]), ParseErr>
 
 /// The extents that `UNDO` names, or else the usual ones.
 fn undo_or_usual(tokens: &[Token]) -> Result<(u32, &[Token]), ParseErr>
-    ensures { Gives (λ x. (x.0, x.1.now)) result (option_or (undo_at tokens.now) (Some (undo_default, tokens.now))) }
+    ensures value { Gives (λ x. (x.0, x.1.now)) result (option_or (undo_at tokens.now) (Some (undo_default, tokens.now))) }
+    ensures within { IfOk result (λ x. IsUndo x.0) }
 {
     match undo(tokens) {
         Err(ParseErr::BadSql) => Ok((USUAL_UNDO, tokens)),
@@ -58,7 +61,8 @@ fn undo_or_usual(tokens: &[Token]) -> Result<(u32, &[Token]), ParseErr>
 /// `NODE name [UNDO number]`: the name and the extents.
 #[tactic(auto, unfolding(crate::specs::Forms::node_of))]
 pub fn node(alloc: Global, piece: &[u8]) -> Result<(Name, u32), ParseErr>
-    ensures { Gives (λ x. (x.0, x.1)) result (node_of piece.now) }
+    ensures value { Gives (λ x. (x.0, x.1)) result (node_of piece.now) }
+    ensures within { IfOk result (λ x. IsUndo x.1) }
 {
     let tokens = tokens(alloc, piece)?;
     let rest = keyword(&tokens, b"NODE")?;
@@ -71,7 +75,8 @@ pub fn node(alloc: Global, piece: &[u8]) -> Result<(Name, u32), ParseErr>
 /// `AT name SESSION number : text`, at a session of this node.
 #[tactic(auto, unfolding(crate::specs::Forms::at_of))]
 fn at(alloc: Global, node: &Name, piece: &[u8]) -> Result<Command, ParseErr>
-    ensures { Gives (λ command. command) result (at_of node.now piece.now) }
+    ensures value { Gives (λ command. command) result (at_of node.now piece.now) }
+    ensures within { IfOk result IsInRange }
 {
     let Some(colon) = colon_at(piece) else {
         return Err(ParseErr::BadSql);
@@ -93,7 +98,8 @@ fn at(alloc: Global, node: &Name, piece: &[u8]) -> Result<Command, ParseErr>
 /// `STOP name`, of this node.
 #[tactic(auto, unfolding(crate::specs::Forms::stop_at))]
 fn stop(node: &Name, tokens: &[Token]) -> Result<Command, ParseErr>
-    ensures { Gives (λ command. command) result (stop_at node.now tokens.now) }
+    ensures value { Gives (λ command. command) result (stop_at node.now tokens.now) }
+    ensures within { IfOk result IsInRange }
 {
     let rest = keyword(tokens, b"STOP")?;
     let rest = keyword(rest, node.as_bytes())?;
@@ -104,7 +110,8 @@ fn stop(node: &Name, tokens: &[Token]) -> Result<Command, ParseErr>
 /// `START name`, of this node.
 #[tactic(auto, unfolding(crate::specs::Forms::start_at))]
 fn start(node: &Name, tokens: &[Token]) -> Result<Command, ParseErr>
-    ensures { Gives (λ command. command) result (start_at node.now tokens.now) }
+    ensures value { Gives (λ command. command) result (start_at node.now tokens.now) }
+    ensures within { IfOk result IsInRange }
 {
     let rest = keyword(tokens, b"START")?;
     let rest = keyword(rest, node.as_bytes())?;
@@ -115,7 +122,8 @@ fn start(node: &Name, tokens: &[Token]) -> Result<Command, ParseErr>
 /// `SHOW BOOK`
 #[tactic(auto, unfolding(crate::specs::Forms::show_book_at))]
 fn show_book(tokens: &[Token]) -> Result<Command, ParseErr>
-    ensures { Gives (λ command. command) result (show_book_at tokens.now) }
+    ensures value { Gives (λ command. command) result (show_book_at tokens.now) }
+    ensures within { IfOk result IsInRange }
 {
     let rest = keyword(tokens, b"SHOW")?;
     let rest = keyword(rest, b"BOOK")?;
@@ -126,7 +134,8 @@ fn show_book(tokens: &[Token]) -> Result<Command, ParseErr>
 /// `SHOW DISK name`, of this node.
 #[tactic(auto, unfolding(crate::specs::Forms::show_disk_at))]
 fn show_disk(node: &Name, tokens: &[Token]) -> Result<Command, ParseErr>
-    ensures { Gives (λ command. command) result (show_disk_at node.now tokens.now) }
+    ensures value { Gives (λ command. command) result (show_disk_at node.now tokens.now) }
+    ensures within { IfOk result IsInRange }
 {
     let rest = keyword(tokens, b"SHOW")?;
     let rest = keyword(rest, b"DISK")?;
@@ -137,7 +146,8 @@ fn show_disk(node: &Name, tokens: &[Token]) -> Result<Command, ParseErr>
 
 /// The command that a piece is, behind the one that made this node: `BadSql` where it is none.
 pub fn command(alloc: Global, node: &Name, piece: &[u8]) -> Result<Command, ParseErr>
-    ensures { Gives (λ command. command) result (command_of node.now piece.now) }
+    ensures value { Gives (λ command. command) result (command_of node.now piece.now) }
+    ensures within { IfOk result IsInRange }
 {
     match at(alloc, node, piece) {
         Err(ParseErr::BadSql) => {}

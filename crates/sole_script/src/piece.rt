@@ -17,7 +17,9 @@ pub fn cut(bytes: &[u8]) -> Option<(&[u8], &[u8])>
         if *byte == b';' && !quoted {
             return Some((&bytes[..place], &bytes[place + 1..]));
         }
-        quoted = quoted != (*byte == b'\'');
+        if *byte == b'\'' {
+            quoted = !quoted;
+        }
     }
     None
 }

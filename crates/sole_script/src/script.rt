@@ -1,7 +1,8 @@
 //! How a script is read.
 ghost use Rattle.std.specs.Prelude.{◌≡◌, ◌+◌, ◌<◌, ◌≤◌, ◌^◌, [], length, IfOk};
+ghost use Rattle.std.specs.List.{All};
 ghost use Rattle.sole_script.specs.Pieces.{pieces_of, begins};
-ghost use Rattle.sole_script.specs.Forms.{node_of, command_of};
+ghost use Rattle.sole_script.specs.Forms.{IsUndo, IsInRange, node_of, command_of};
 ghost use Rattle.sole_script.specs.Script.{asked_at_end, asked_of, asked_first, asked, AsksFor, GivesOn};
 
 use crate::command::Command;
@@ -16,7 +17,8 @@ use std::alloc::Global;
 /// The node that the first piece of a script makes, and its extents of undo.
 fn node_on(alloc: Global, piece: &[u8]) -> Result<(Name, u32), ScriptErr>
     requires { length piece.now < 2 ^ 31 }
-    ensures { GivesOn 1 piece.now result (node_of piece.now) }
+    ensures value { GivesOn 1 piece.now result (node_of piece.now) }
+    ensures within { IfOk result (λ x. IsUndo x.1) }
 {
     match node(alloc, piece) {
         Ok(node) => Ok(node),
@@ -28,7 +30,8 @@ fn node_on(alloc: Global, piece: &[u8]) -> Result<(Name, u32), ScriptErr>
 /// The command that stands on this line and those after it.
 fn command_on(alloc: Global, node: &Name, line: usize, piece: &[u8]) -> Result<Command, ScriptErr>
     requires { line + length piece.now < 2 ^ 32 }
-    ensures { GivesOn line piece.now result (command_of node.now piece.now) }
+    ensures value { GivesOn line piece.now result (command_of node.now piece.now) }
+    ensures within { IfOk result IsInRange }
 {
     match command(alloc, node, piece) {
         Ok(command) => Ok(command),
@@ -66,6 +69,7 @@ fn commands_behind(
 ) -> Result<Vec<Command>, ScriptErr>
     requires { first_line + length text.now < 2 ^ 32 }
     ensures few { IfOk result (λ v. length v.items ≤ length text.now) }
+    ensures within { IfOk result (λ v. All IsInRange v.items) }
     ensures asked { AsksFor (λ v. v.items) result (asked_of first_line node.now (pieces_of text.now).0 (pieces_of text.now).1) }
 {
     let mut commands = Vec::new(alloc);
@@ -84,6 +88,7 @@ fn commands_behind(
 fn read_commands(alloc: Global, text: &[u8]) -> Result<Vec<Command>, ScriptErr>
     requires { length text.now < 2 ^ 31 }
     ensures few { IfOk result (λ v. length v.items ≤ length text.now) }
+    ensures within { IfOk result (λ v. All IsInRange v.items) }
     ensures asked { AsksFor (λ v. v.items) result (asked_first (pieces_of text.now).0 (pieces_of text.now).1) }
 {
     let Some((piece, rest)) = cut(text) else {
@@ -101,6 +106,7 @@ fn read_commands(alloc: Global, text: &[u8]) -> Result<Vec<Command>, ScriptErr>
 pub fn read_script(alloc: Global, bytes: &[u8]) -> Result<Vec<Command>, ScriptErr>
     requires short { length bytes.now < 2 ^ 31 }
     ensures few { IfOk result (λ v. length v.items ≤ length bytes.now) }
+    ensures within { IfOk result (λ v. All IsInRange v.items) }
     ensures asked { AsksFor (λ v. v.items) result (asked bytes.now) }
 {
     let text = without_comments(alloc, bytes)?;

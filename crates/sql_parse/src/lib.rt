@@ -32,7 +32,10 @@ mod sums;
 mod transactions;
 
 pub use condition::{Cond, Conds, Sign};
-pub use laws::{one_reading, printed_statements_are_read, spelled_statements_are_found};
+pub use laws::{
+    created_tables_are_whole, one_reading, printed_statements_are_read, spelled_statements_are_found,
+    spelled_statements_are_whole,
+};
 pub use parse_err::ParseErr;
 pub use parsing::parse;
 pub use printing::print_stmt;
