@@ -1,25 +1,14 @@
 //! The bytes of a disk as SHOW DISK prints them.
 ghost use Rattle.std.specs.Prelude.{◌≡◌, ◌*◌, ◌<◌, ◌^◌, ◌++◌, length, take, drop, map, flat_map, IfOk, OnOk};
-ghost use Rattle.tran_ids.specs.Numbers.{hex_digit as digit_of, hex8 as hex8_of};
+ghost use Rattle.tran_ids.specs.Numbers.{hex8 as hex8_of};
 ghost use Rattle.one_node_laws.specs.Shown.{hex2, disk_line as line_of, disk_lines as lines_of, shown_disk};
 
 use dtx_values::{Bytes, Listing, Texts};
 use std::alloc::{AllocError, Global};
+use tran_ids::hex_digit;
 
 /// How many bytes stand in a line.
 const LINE: usize = 32;
-
-/// One hexadecimal digit.
-fn hex_digit(digit: u8) -> u8
-    requires { digit < 16 }
-    ensures { result ≡ digit_of digit }
-{
-    if digit < 10 {
-        b'0' + digit
-    } else {
-        b'a' + (digit - 10)
-    }
-}
 
 /// A place as eight hexadecimal digits.
 #[tactic(auto, using(crate::proofs::DiskLines::hex8_is))]

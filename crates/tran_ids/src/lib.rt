@@ -8,7 +8,7 @@ mod texts;
 pub use branch::BranchId;
 pub use clock::Clock;
 pub use texts::{
-    global_text, local_text, node_name, put_decimal, put_global, put_local, read_local,
+    global_text, hex_digit, local_text, node_name, put_decimal, put_global, put_local, read_local,
 };
 
 #[cfg(test)]

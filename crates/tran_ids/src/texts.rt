@@ -83,7 +83,8 @@ fn node_digits(node: u8) -> [u8; 8]
     [b'0', b'0', b'0', b'0', b'0', b'0', high, low]
 }
 
-fn hex_digit(digit: u8) -> u8
+/// One hexadecimal digit, in lower case.
+pub fn hex_digit(digit: u8) -> u8
     requires { digit < 16 }
     ensures { result ≡ hex_digit_of digit }
 {
