@@ -1,17 +1,11 @@
 -- How bytes are gone through cell by cell.
-use Rattle.std.proofs.Common.{◌≡◌, ◌⊎◌, inl, inr, ℕ, zero, suc, ◌+◌, ◌-◌, ◌<◌, ◌^◌, List, [], ◌∷◌, ◌++◌, length, Option, Some, None, true, refl, sym, ◌∙◌, ap, arith, append_assoc, length-append}
+use Rattle.std.proofs.Common.{◌≡◌, ◌⊎◌, inl, inr, ℕ, zero, suc, ◌+◌, ◌-◌, ◌<◌, ◌^◌, List, [], ◌∷◌, ◌++◌, length, Option, Some, None, true, refl, sym, ◌∙◌, ap, arith, length-append}
 use Rattle.std.specs.Option.{option_map, is_some}
 use Rattle.redo_log.specs.Cells.{cell_of, cells_of, bodies, numbered_in, IsClosed, AllFit}
 use Rattle.redo_log.specs.Gates.{IsGateOf}
 use Rattle.redo_log.specs.declared.gate.Gate.{Gate}
 use Rattle.redo_log.specs.declared.gate.Gate.TheVariants.{Open, Closed, CutOff}
 use Rattle.redo_log.proofs.Cells.{closed, bodies-cell, bodies-cells}
-use Rattle.redo_log.proofs.Settled.{cells-push}
-
--- the cells gone through, with one more
-pub cells_more : (bytes : List ℕ) (list : List (List ℕ)) (rest body behind : List ℕ) → bytes ≡ cells_of list ++ rest → rest ≡ cell_of body ++ behind → bytes ≡ cells_of (list ++ body ∷ []) ++ behind
-cells_more bytes list rest body behind is cell =
-    is ∙ ap (λ (l : List ℕ). cells_of list ++ l) cell ∙ sym (append_assoc (cells_of list) (cell_of body) behind) ∙ ap (λ (l : List ℕ). l ++ behind) (sym (cells-push list body))
 
 -- behind whole cells the bytes are no log
 pub none_behind : (bytes : List ℕ) (list : List (List ℕ)) (rest : List ℕ) → bytes ≡ cells_of list ++ rest → AllFit list → bodies rest ≡ None → bodies bytes ≡ None

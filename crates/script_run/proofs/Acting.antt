@@ -2,7 +2,6 @@
 use Rattle.std.proofs.Common.{◌≡◌, ℕ, ◌+◌, ◌-◌, ◌≤◌, true, false, List, [], ◌∷◌, ◌++◌, length, Option, Some, None, refl, sym, ap, subst, ◌∙◌, arith}
 use Rattle.std.specs.Prelude.{IfSome, is_some, option_map, option_to_list}
 use Rattle.std.specs.List.{AllByRecursion}
-use Rattle.std.proofs.lemmas.List.{append-nil}
 use Rattle.redo_codec.specs.declared.record.RedoRecord.{RedoRecord}
 use Rattle.redo_codec.specs.declared.record.RedoRecord.TheVariants as records
 use Rattle.dtx_values.specs.declared.row.Change.{Change}
@@ -12,13 +11,13 @@ use Rattle.one_node_sql.specs.declared.statement.Stmt.{Stmt}
 use Rattle.one_node_sql.specs.declared.statement.Stmt.TheVariants.{CreateTable, Insert, Select, Commit}
 use Rattle.one_node_book.specs.declared.input.Input.{Input}
 use Rattle.one_node_book.specs.declared.input.Input.TheVariants as inputs
-use Rattle.one_node_rules.specs.Turn.{the_node, Kept, own_of, branch_of, decision_of, record_of, understood, wrote_by, turn_of, after_record, after_records, start_of}
+use Rattle.one_node_rules.specs.Turn.{the_node, Kept, own_of, branch_of, decision_of, understood, wrote_by, turn_of, after_record, after_records, start_of}
 use Rattle.one_node_rules.specs.Disk.{IsSpelled, IsLogOf}
 use Rattle.one_node_rules.proofs.RecordLemmas.{after_records-push}
 use Rattle.one_node_laws.specs.Past.{Past, Serves, Stops, Starts, line, fine, turned, turned_at, stopped, started}
 use Rattle.one_node_laws.specs.Lawful.{MayTurn, MayStop, MayStart}
 use Rattle.node_core.specs.KeptBy.{IsReady, GoesOn}
-use Rattle.node_core.specs.OnDisk.{GrowsBy, MayStart as MayStartFrom, next_boot}
+use Rattle.node_core.specs.OnDisk.{MayStart as MayStartFrom, next_boot}
 use Rattle.script_run.specs.Site.{site_bytes, IsReadySite, StartsAs}
 use Rattle.script_run.specs.declared.site.Site.{Site}
 use Rattle.script_run.specs.Linked.{SiteIs, IsBelow, AreBelow, IsRunningAt, EndsAs}
@@ -40,19 +39,7 @@ pub turn_ends : (p : Past) (k : Kept) (input : Input) (wrote : Option RedoRecord
 turn_ends p k input wrote l node is =
     subst (λ (q : Past). EndsAs p q l) (sym (turn_is p k input wrote node)) (record { left = refl; number = refl; due = refl; names = refl; lines = ap (λ (x : AnswerLine). p.lines ++ x ∷ []) (sym is) })
 
--- the log with what the turn wrote
-pub log_grown : (rs : List RedoRecord) (wrote : Option RedoRecord) (before now : List ℕ) → IsLogOf rs before → GrowsBy wrote before now → IsLogOf (rs ++ option_to_list wrote) now
-log_grown rs None before now log grown = subst (λ (xs : List RedoRecord). IsLogOf xs now) (sym (append-nil rs)) (subst (λ (bytes : List ℕ). IsLogOf rs bytes) (sym grown) log)
-log_grown rs (Some r) before now log grown = grown rs log
-
 -- ---- the numbers that a node has given out
-
-below_more : (m n : ℕ) (k : Kept) → m ≤ n → IsBelow m k → IsBelow n k
-below_more m n k le below = record { ended = omega (arith, le, below.ended); scn = omega (arith, le, below.scn); few = omega (arith, le, below.few); own = below.own }
-
-below_if : (m n : ℕ) (o : Option Kept) → m ≤ n → IfSome o (IsBelow m) → IfSome o (IsBelow n)
-below_if m n None le below = tt
-below_if m n (Some k) le below = below_more m n k le below
 
 pub is_ready : (p : Past) (k : Kept) (number : ℕ) → Some k ≡ p.node → IsRunningAt p number → IsReady k
 is_ready p k number node running =

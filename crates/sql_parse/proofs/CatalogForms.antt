@@ -89,9 +89,6 @@ type_quiet : (width : Option ℕ) (x rest : List ℕ) → begins goes_on ((type_
 type_quiet None x rest = refl
 type_quiet (Some n) x rest = refl
 
-abbrev flags_text : Option ℕ × (Bool × Bool) → List ℕ
-flags_text x = type_text x.0 ++ rules_text x.1.0 x.1.1
-
 same_column : (called : List ℕ) (most : Option ℕ) (not_null key : Bool) → column_of (called, (most, rules_of not_null key)) ≡ record { name = called; text_max = most; not_null = not_null; key = key }
 same_column called most true true = refl
 same_column called most true false = refl

@@ -3,11 +3,10 @@ use Rattle.std.proofs.Common.{◌≡◌, ℕ, Bool, true, false, cond, List, [],
 use Rattle.std.specs.Prelude.{◌&&◌}
 use Rattle.token_grammar.specs.declared.token.Token.{Token}
 use Rattle.token_grammar.specs.Steps.{◌>>=◌, begins}
-use Rattle.token_grammar.specs.Grammar.{Grammar, is_word, nothing, either, begins_two, word, meant, ◌▹◌, Each, many, separated, choice, choice_at, mapped, made, tested, options}
+use Rattle.token_grammar.specs.Grammar.{Grammar, is_word, nothing, either, begins_two, word, meant, ◌▹◌, Each, separated, choice, choice_at, mapped, made, tested}
 use Rattle.token_grammar.specs.Exact.{Takes, IsExact, Leads, Apart, Shows}
 use Rattle.token_grammar.proofs.Options.{bind_some, test_some, chosen, some_is}
-use Rattle.token_grammar.proofs.Beginnings.{either_left, either_right, begins-append, begins-apart, is_word-same, leads_after}
-use Rattle.token_grammar.proofs.Parts.{many_exact}
+use Rattle.token_grammar.proofs.Beginnings.{either_left, begins-append, begins-apart, is_word-same, leads_after}
 
 -- ---- the same tokens for other values
 
@@ -45,9 +44,6 @@ tested_exact test g p x = record {
   again = λ v front rest s ends. rw (x.again v front rest s.0 ends, s.1) refl;
 }
 
-pub options_exact : {V : Type 0} (kind : V → ℕ) (starts p : Token → Bool) (g : Grammar V) → IsExact g p → Leads g starts → Apart p starts → IsExact (options kind starts g) (either starts p)
-options_exact kind starts p g x leads apart = tested_exact _ (many starts g) _ (many_exact g starts p x leads apart)
-
 -- ---- one or the other
 
 module _ {A B : Type 0} (looks : List Token → Bool) (a : Grammar A) (b : Grammar B) (p q r : Token → Bool) (ax : IsExact a p) (bx : IsExact b q)
@@ -74,12 +70,6 @@ module _ {A B : Type 0} (looks : List Token → Bool) (a : Grammar A) (b : Gramm
 
 -- ---- looks at the tokens ahead
 
--- a look at the first token alone tells the two
-pub choice_led : {A B : Type 0} (a : Grammar A) (b : Grammar B) (starts others p q : Token → Bool) → IsExact a p → IsExact b q → Leads a starts → Leads b others → Apart starts others → IsExact (choice (begins starts) a b) (either p q)
-choice_led a b starts others p q ax bx first second apart = choice_exact (begins starts) a b p q (either p q) ax bx
-    (λ v ts rest s ends. begins-append starts ts rest (first v ts s)) (λ v ts rest s ends. begins-apart starts others apart ts rest (second v ts s))
-    (λ ts h. either_left p q ts h) (λ ts h. either_right p q ts h)
-
 -- a word and what leads the part behind it are seen
 pub shows_two : {B : Type 0} (w : List ℕ) (b : Grammar B) (q r : Token → Bool) → Leads b q → Shows (word w ▹ b) (begins_two (is_word w) q) r true
 shows_two w b q r leads v ts rest s ends = rw (s.4, s.2, is_word-same w) (begins-append q s.1 rest (leads v s.1 s.3))
@@ -92,10 +82,6 @@ each_next g starts q leads apart (v ∷ vs) ts rest s ends = rw (s.4, append_ass
 not_both : (a b : Bool) → b ≡ false → (a && b) ≡ false
 not_both true b h = h
 not_both false b h = refl
-
--- where one token means a value, the second token is that behind it
-pub one_shows_none : {V : Type 0} (meaning : Token → Option V) (p q : Token → Bool) → Shows (meant meaning) (begins_two p q) q false
-one_shows_none meaning p q v ts rest s ends = rw s.1 (not_both (p s.0) (begins q rest) ends)
 
 -- in a list of such tokens, the second token is a separator, or that behind the list
 pub list_shows_none : {V : Type 0} (meaning : Token → Option V) (separator : Grammar (Unit {0})) (p q starts : Token → Bool) → Leads separator starts → Apart q starts

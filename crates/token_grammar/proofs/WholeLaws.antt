@@ -1,5 +1,5 @@
 -- A whole text is read exactly, where its grammar is exact.
-use Rattle.std.proofs.Common.{◌≡◌, ℕ, eqb, List, [], ◌++◌, length, Option, Some, refl, sym, ap, subst, ◌∙◌}
+use Rattle.std.proofs.Common.{◌≡◌, ℕ, eqb, List, [], ◌++◌, length, Some, refl, sym, ap, subst, ◌∙◌}
 use Rattle.std.specs.Prelude.{IfOk, Result, Ok, Err}
 use Rattle.std.proofs.lemmas.Bool.{eqb-true}
 use Rattle.std.proofs.lemmas.List.{append-nil, nil_from_length}
@@ -14,11 +14,6 @@ use Rattle.token_grammar.specs.Exact.{IsExact}
 use Rattle.token_grammar.specs.Text.{IsTextOf, value_in}
 use Rattle.token_grammar.proofs.Options.{bind_some, test_some, some_is}
 use Rattle.token_grammar.proofs.TextLaws.{tokens_take, tokens_again}
-
--- what was returned is spelled by the text
-pub is_found : {X V : Type 0} (view : X → V) (r : Result X ReadErr) (o : Option V) (P : V → Type 0) → ((v : V) → o ≡ Some v → P v) → Gives view r o → IfOk r (λ x. P (view x))
-is_found view (Ok x) o P all h = all (view x) h
-is_found view (Err e) o P all h = tt
 
 module _ {V : Type 0} (g : Grammar V) (x : IsExact g anything) where
   whole_takes : (ts : List Token) (v : V) → (g.read ts >>= whole_of) ≡ Some v → g.Spells v ts

@@ -1,5 +1,5 @@
 -- Tokens as they are printed.
-use Rattle.std.specs.Prelude.{ℕ, Bool, true, false, List, [], ◌∷◌, ◌++◌, codes, decimal, if◌then◌else◌}
+use Rattle.std.specs.Prelude.{ℕ, Bool, List, [], ◌∷◌, ◌++◌, codes, decimal, if◌then◌else◌}
 use Rattle.std.specs.List.{flat_map}
 use Rattle.token_grammar.specs.declared.mark.Mark.{Mark}
 use Rattle.token_grammar.specs.declared.mark.Mark.TheVariants as mark
@@ -36,14 +36,6 @@ token_text (token.Mark m) = mark_text m
 pub record Printed : Type 0 where
   pub spaced : Bool
   pub token : Token
-
--- a token behind a space
-abbrev pub behind_space : Token → Printed
-behind_space t = record { spaced = true; token = t }
-
--- a token right behind what stands before it
-abbrev pub right_behind : Token → Printed
-right_behind t = record { spaced = false; token = t }
 
 -- a token with its space
 abbrev pub piece : Printed → List ℕ
