@@ -1,7 +1,6 @@
 -- Grammars: which lists of tokens spell a value, and how a value is read from the front of some tokens.
-use Rattle.std.specs.Prelude.{◌≡◌, ℕ, Bool, true, false, ◌&&◌, not, List, [], ◌∷◌, ◌++◌, length, map, Option, Some, None, IsTrue, nat_le, ◌==◌, if◌then◌else◌, ◌⊎◌}
+use Rattle.std.specs.Prelude.{◌≡◌, ℕ, Bool, true, false, ◌&&◌, List, [], ◌∷◌, ◌++◌, length, Option, Some, None, IsTrue, nat_le, if◌then◌else◌, ◌⊎◌}
 use Rattle.std.proofs.Common.{inl, inr}
-use Rattle.std.specs.List.{list_any}
 use Rattle.std.specs.Str.{bytes_eq}
 use Rattle.dtx_values.specs.Name.{is_identifier, name_of}
 use Rattle.token_grammar.specs.declared.mark.Mark.{Mark}
@@ -264,12 +263,3 @@ tested test g = record {
     x ← g.read ts
     if test x.0 then Some x else None;
 }
-
--- whether no number stands twice
-abbrev pub are_distinct : List ℕ → Bool
-are_distinct [] = true
-are_distinct (n ∷ ns) = not (list_any (λ m. n == m) ns) && are_distinct ns
-
--- options in any order, each kind at most once
-abbrev pub options : {V : Type 0} → (V → ℕ) → (Token → Bool) → Grammar V → Grammar (List V)
-options kind starts g = tested (λ vs. are_distinct (map kind vs)) (many starts g)

@@ -27,7 +27,6 @@
 //! | `maybe w` | a word, or none | none |
 //! | `optional starts g` | those of `g`, which begin with such a token, or none | an `Option` |
 //! | `many starts g` | those of `g`, any number of times | a list |
-//! | `options kind starts g` | the same, each kind at most once, in any order | a list |
 //! | `separated starts s g`, `commas g` | those of `g` once or more, with `s` between them | a list |
 //! | `choice looks a b` | those of `a` or of `b`, as a look at the tokens ahead says | the one or the other |
 //! | `mapped`, `made`, `tested` | those of a grammar | another value for its value; only some of its values |
