@@ -1,5 +1,7 @@
-//! What happens in a run, what is told of it, and the book, as plain data. The book is what an administrator is told of
-//! the redo records.
+//! The book, by which an administrator is told of the redo records.
+//!
+//! [`entries`] are those of what a node wrote in a turn, and [`book_lines`] and [`book_text`] print them. Beside the book
+//! stand what happens in a run, its [`Trace`], and what is told of its commands, the [`AnswerLines`].
 #![tactic(auto)]
 
 mod entry;

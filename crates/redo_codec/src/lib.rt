@@ -1,7 +1,8 @@
-//! Redo records, and what they leave of branches, as plain data.
+//! Redo records, and what they leave of branches and catalog.
 //!
 //! A node writes at most one record a turn. What they leave, oldest first, is a [`Durable`]: its catalog, its settings and
-//! the branches that it keeps rows of. A start makes it again from the disk.
+//! the branches that it keeps rows of. [`Durable::apply`] takes one more record in, and [`Durable::of`] all of them, from
+//! which a start makes it again.
 #![tactic(auto)]
 
 mod decision;

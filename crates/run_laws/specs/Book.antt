@@ -8,7 +8,7 @@ use Rattle.run_laws.specs.Data.entries
 use Rattle.node_rules.specs.Words.{same, same_text, one}
 use Rattle.node_rules.specs.Rows.{Keyed, same_value, apply}
 
--- what an entry is of a branch
+-- whether an entry is the Sealed of this branch
 abbrev pub is_sealed_of : BranchId → Entry → Bool
 is_sealed_of b (entries.Sealed c g cs n) = same c b
 is_sealed_of b _ = false
@@ -168,7 +168,7 @@ MixedIsMarked book = EachAgainst Marks [] book
 abbrev pub At : List Entry → ℕ → Entry → Type 0
 At book i e = slice_get book i ≡ Some e
 
--- a key that unforced branches of both transactions changed at one node
+-- whether one of these changes is to the key of this one, in its table
 abbrev pub is_key_in : List Change → Change → Bool
 is_key_in cs c = list_any (λ d. same_text d.table c.table && same_value d.key c.key) cs
 
