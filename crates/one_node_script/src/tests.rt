@@ -14,52 +14,67 @@ fn bad_line(alloc: Global, script: &str) -> Result<u32, Fail> {
     }
 }
 
+/// Scripts with no bad command.
+const GOOD: [&str; 10] = [
+    "",
+    " \t\r\n\n",
+    "-- nothing; at all",
+    "NODE A;",
+    "node a.b$c ;\n-- done",
+    "NODE A; AT a SESSION 1: COMMIT;\n",
+    "NODE A; AT A SESSION 001 :;",
+    "NODE A-- the only node;\n; AT A SESSION 1: --\n;",
+    "NODE A; STOP A; START A; SHOW BOOK; SHOW DISK A;",
+    "NODE a.b; stop A.B;\tStart\r\na.b ; -- now\nshow  book;",
+];
+
+/// Scripts, each with the line of its first bad command.
+const BAD: [(&str, u32); 31] = [
+    ("NODE A;\nSTOP;", 2),
+    ("NODE A;\nSTOP A B;", 2),
+    ("NODE A;\nSTOP B;", 2),
+    ("NODE A;\nSTOP A: COMMIT;", 2),
+    ("NODE A;\nSTOP A;\nSTART A 1;", 3),
+    ("NODE A;\nSTOPA;", 2),
+    ("NODE A;\nSHOW;", 2),
+    ("NODE A;\nSHOW BOOK A;", 2),
+    ("NODE A;\nSHOW DISK;", 2),
+    ("NODE A;\nSHOW DISK B;", 2),
+    ("NODE A;\nSHOW A;", 2),
+    ("SHOW BOOK;", 1),
+    ("NODE A;\nFROB;", 2),
+    ("FROB;\nFROB;", 1),
+    ("\n\nFROB;", 3),
+    ("-- one\n -- two\n\tFROB;", 3),
+    ("NODE A;\n\nAT A SESSION 1: COMMIT", 3),
+    ("NODE A;\n\n;", 3),
+    (";", 1),
+    ("NODE A;\nAT B SESSION 1: COMMIT;", 2),
+    ("NODE A;\nAT A SESSION 2: COMMIT;", 2),
+    ("NODE A;\nAT A SESSION 0: COMMIT;", 2),
+    ("NODE A;\nAT A SESSION ONE: COMMIT;", 2),
+    ("NODE A;\nAT A SESSION 1 COMMIT;", 2),
+    ("NODE A;\nAT A SESSION 1 -- : COMMIT;\n;", 2),
+    ("NODE A;\nNODE B;", 2),
+    ("AT A SESSION 1: COMMIT;", 1),
+    ("NODE A B;", 1),
+    ("NODE Select;", 1),
+    ("NODE A.;", 1),
+    ("NODE -A;", 1),
+];
+
+#[test]
+fn reads_a_script_with_no_bad_command(rt: HostRuntime) -> Result<(), Fail> {
+    for script in GOOD {
+        assert_eq!(rt; bad_line(rt.alloc(), script)?, 0, "{script}");
+    }
+    Ok(())
+}
+
 #[test]
 fn names_the_line_of_a_bad_command(rt: HostRuntime) -> Result<(), Fail> {
-    for (script, want) in [
-        ("", 0),
-        (" \t\r\n\n", 0),
-        ("-- nothing; at all", 0),
-        ("NODE A;", 0),
-        ("node a.b$c ;\n-- done", 0),
-        ("NODE A; AT a SESSION 1: COMMIT;\n", 0),
-        ("NODE A; AT A SESSION 001 :;", 0),
-        ("NODE A-- the only node;\n; AT A SESSION 1: --\n;", 0),
-        ("NODE A; STOP A; START A; SHOW BOOK; SHOW DISK A;", 0),
-        ("NODE a.b; stop A.B;\tStart\r\na.b ; -- now\nshow  book;", 0),
-        ("NODE A;\nSTOP;", 2),
-        ("NODE A;\nSTOP A B;", 2),
-        ("NODE A;\nSTOP B;", 2),
-        ("NODE A;\nSTOP A: COMMIT;", 2),
-        ("NODE A;\nSTOP A;\nSTART A 1;", 3),
-        ("NODE A;\nSTOPA;", 2),
-        ("NODE A;\nSHOW;", 2),
-        ("NODE A;\nSHOW BOOK A;", 2),
-        ("NODE A;\nSHOW DISK;", 2),
-        ("NODE A;\nSHOW DISK B;", 2),
-        ("NODE A;\nSHOW A;", 2),
-        ("SHOW BOOK;", 1),
-        ("NODE A;\nFROB;", 2),
-        ("FROB;\nFROB;", 1),
-        ("\n\nFROB;", 3),
-        ("-- one\n -- two\n\tFROB;", 3),
-        ("NODE A;\n\nAT A SESSION 1: COMMIT", 3),
-        ("NODE A;\n\n;", 3),
-        (";", 1),
-        ("NODE A;\nAT B SESSION 1: COMMIT;", 2),
-        ("NODE A;\nAT A SESSION 2: COMMIT;", 2),
-        ("NODE A;\nAT A SESSION 0: COMMIT;", 2),
-        ("NODE A;\nAT A SESSION ONE: COMMIT;", 2),
-        ("NODE A;\nAT A SESSION 1 COMMIT;", 2),
-        ("NODE A;\nAT A SESSION 1 -- : COMMIT;\n;", 2),
-        ("NODE A;\nNODE B;", 2),
-        ("AT A SESSION 1: COMMIT;", 1),
-        ("NODE A B;", 1),
-        ("NODE Select;", 1),
-        ("NODE A.;", 1),
-        ("NODE -A;", 1),
-    ] {
-        assert_eq!(rt; bad_line(rt.alloc(), script)?, want, "{script}");
+    for (script, line) in BAD {
+        assert_eq!(rt; bad_line(rt.alloc(), script)?, line, "{script}");
     }
     Ok(())
 }

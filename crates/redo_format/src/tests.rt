@@ -172,7 +172,7 @@ fn is_refused(alloc: Global, body: &[u8]) -> bool {
 }
 
 #[test]
-fn what_is_no_table_or_prepared_branch_is_refused(rt: HostRuntime) {
+fn what_is_no_table_is_refused(rt: HostRuntime) {
     let cases = [
         ("two keys", 18, 1),
         ("a width for numbers", 9, 1),
@@ -184,6 +184,10 @@ fn what_is_no_table_or_prepared_branch_is_refused(rt: HostRuntime) {
         body[place] = byte;
         assert!(rt; is_refused(rt.alloc(), &body), "{what}");
     }
+}
+
+#[test]
+fn what_is_no_prepared_branch_is_refused(rt: HostRuntime) {
     let cases = [
         ("no parent to lead to", 34, 0),
         ("no second child to lead to", 34, 2),

@@ -44,88 +44,93 @@ fn statements_are_read(rt: HostRuntime) {
     }
 }
 
+/// Texts that are no statement.
+const NO_STATEMENTS: [&[u8]; 36] = [
+    b"",
+    b"SELECT COUNT(*) FROM T FOR UPDATE",
+    b"SELECT SUM(N) FROM T FOR UPDATE",
+    b"SELECT A, COUNT(*) FROM T",
+    b"SELECT A FROM SELECT",
+    b"SELECT A FROM T.U",
+    b"SELECT * FROM T WHERE A = B",
+    b"SELECT * FROM T WHERE A < = 1",
+    b"SELECT * FROM T;",
+    b"INSERT INTO T VALUES (1, A)",
+    b"INSERT INTO T VALUES (1 + A)",
+    b"INSERT INTO T (A, a) VALUES (1, 2)",
+    b"INSERT INTO T VALUES (9223372036854775808)",
+    b"INSERT INTO T VALUES (-9223372036854775809)",
+    b"INSERT INTO T VALUES ('\xFF')",
+    b"INSERT INTO T VALUES ()",
+    b"UPDATE T SET A = 1, a = 2",
+    b"UPDATE T SET A = 1 WHERE",
+    b"CREATE TABLE T (A NUMBER)",
+    b"CREATE TABLE T (A NUMBER PRIMARY KEY, B NUMBER PRIMARY KEY)",
+    b"CREATE TABLE T (A NUMBER PRIMARY KEY PRIMARY KEY)",
+    b"CREATE TABLE T (A NUMBER NOT NULL PRIMARY KEY NOT NULL)",
+    b"CREATE TABLE T (A NUMBER PRIMARY KEY, a NUMBER)",
+    b"CREATE TABLE T (A VARCHAR2(2001) PRIMARY KEY)",
+    b"CREATE TABLE T (A VARCHAR2(0) PRIMARY KEY)",
+    b"CREATE DATABASE LINK L USING ''",
+    b"CREATE SYNONYM S FOR T",
+    b"COMMIT COMMENT",
+    b"COMMIT COMMENT '\xC3'",
+    b"COMMIT FORCE '1', 281474976710656",
+    b"COMMIT WORK WORK",
+    b"ROLLBACK FORCE",
+    b"ALTER SESSION ADVISE ABORT",
+    b"ALTER SYSTEM ENABLE RECOVERY",
+    b"EXEC DBMS_TRANSACTION .PURGE_MIXED('1')",
+    b"EXEC DBMS_TRANSACTION.PURGE_MIXED '1'",
+];
+
 #[test]
 fn other_texts_are_refused(rt: HostRuntime) {
-    for text in [
-        b"".as_slice(),
-        b"SELECT COUNT(*) FROM T FOR UPDATE".as_slice(),
-        b"SELECT SUM(N) FROM T FOR UPDATE".as_slice(),
-        b"SELECT A, COUNT(*) FROM T".as_slice(),
-        b"SELECT A FROM SELECT".as_slice(),
-        b"SELECT A FROM T.U".as_slice(),
-        b"SELECT * FROM T WHERE A = B".as_slice(),
-        b"SELECT * FROM T WHERE A < = 1".as_slice(),
-        b"SELECT * FROM T;".as_slice(),
-        b"INSERT INTO T VALUES (1, A)".as_slice(),
-        b"INSERT INTO T VALUES (1 + A)".as_slice(),
-        b"INSERT INTO T (A, a) VALUES (1, 2)".as_slice(),
-        b"INSERT INTO T VALUES (9223372036854775808)".as_slice(),
-        b"INSERT INTO T VALUES (-9223372036854775809)".as_slice(),
-        b"INSERT INTO T VALUES ('\xFF')".as_slice(),
-        b"INSERT INTO T VALUES ()".as_slice(),
-        b"UPDATE T SET A = 1, a = 2".as_slice(),
-        b"UPDATE T SET A = 1 WHERE".as_slice(),
-        b"CREATE TABLE T (A NUMBER)".as_slice(),
-        b"CREATE TABLE T (A NUMBER PRIMARY KEY, B NUMBER PRIMARY KEY)".as_slice(),
-        b"CREATE TABLE T (A NUMBER PRIMARY KEY PRIMARY KEY)".as_slice(),
-        b"CREATE TABLE T (A NUMBER NOT NULL PRIMARY KEY NOT NULL)".as_slice(),
-        b"CREATE TABLE T (A NUMBER PRIMARY KEY, a NUMBER)".as_slice(),
-        b"CREATE TABLE T (A VARCHAR2(2001) PRIMARY KEY)".as_slice(),
-        b"CREATE TABLE T (A VARCHAR2(0) PRIMARY KEY)".as_slice(),
-        b"CREATE DATABASE LINK L USING ''".as_slice(),
-        b"CREATE SYNONYM S FOR T".as_slice(),
-        b"COMMIT COMMENT".as_slice(),
-        b"COMMIT COMMENT '\xC3'".as_slice(),
-        b"COMMIT FORCE '1', 281474976710656".as_slice(),
-        b"COMMIT WORK WORK".as_slice(),
-        b"ROLLBACK FORCE".as_slice(),
-        b"ALTER SESSION ADVISE ABORT".as_slice(),
-        b"ALTER SYSTEM ENABLE RECOVERY".as_slice(),
-        b"EXEC DBMS_TRANSACTION .PURGE_MIXED('1')".as_slice(),
-        b"EXEC DBMS_TRANSACTION.PURGE_MIXED '1'".as_slice(),
-    ] {
+    for text in NO_STATEMENTS {
         assert!(rt; is_refused(&rt, text));
     }
 }
 
+/// Statements, each with the text that it is printed as.
+const PRINTED: [(&[u8], &[u8]); 9] = [
+    (
+        b"update stock set n=n-10 where item='BOLT'",
+        b"UPDATE STOCK SET N = N - 10 WHERE ITEM = 'BOLT'",
+    ),
+    (
+        b"create table t(a varchar2(010)primary key not null,b number)",
+        b"CREATE TABLE T (A VARCHAR2(10) NOT NULL PRIMARY KEY, B NUMBER)",
+    ),
+    (
+        b"create public database link l connect to a identified by b using 'c.d'",
+        b"CREATE DATABASE LINK L USING 'C.D'",
+    ),
+    (
+        b"insert into t@l(a,b)values('',-0- -5+'it''s')",
+        b"INSERT INTO T@L (A, B) VALUES (NULL, 0 - -5 + 'it''s')",
+    ),
+    (
+        b"delete t where a!=null and b is not null",
+        b"DELETE FROM T WHERE A <> NULL AND B IS NOT NULL",
+    ),
+    (
+        b"insert into t values(- 5,NULL,'',-9223372036854775808,00)",
+        b"INSERT INTO T VALUES (-5, NULL, NULL, -9223372036854775808, 0)",
+    ),
+    (b"select sum ( n ) from t", b"SELECT SUM(N) FROM T"),
+    (
+        b"commit work force '1.65.1',007",
+        b"COMMIT FORCE '1.65.1', 7",
+    ),
+    (
+        b"exec dbms_transaction.purge_mixed ( '' )",
+        b"EXECUTE DBMS_TRANSACTION.PURGE_MIXED('')",
+    ),
+];
+
 #[test]
 fn statements_are_printed_in_one_way(rt: HostRuntime) -> Result<(), Fail> {
-    let cases: [(&[u8], &[u8]); 9] = [
-        (
-            b"update stock set n=n-10 where item='BOLT'",
-            b"UPDATE STOCK SET N = N - 10 WHERE ITEM = 'BOLT'",
-        ),
-        (
-            b"create table t(a varchar2(010)primary key not null,b number)",
-            b"CREATE TABLE T (A VARCHAR2(10) NOT NULL PRIMARY KEY, B NUMBER)",
-        ),
-        (
-            b"create public database link l connect to a identified by b using 'c.d'",
-            b"CREATE DATABASE LINK L USING 'C.D'",
-        ),
-        (
-            b"insert into t@l(a,b)values('',-0- -5+'it''s')",
-            b"INSERT INTO T@L (A, B) VALUES (NULL, 0 - -5 + 'it''s')",
-        ),
-        (
-            b"delete t where a!=null and b is not null",
-            b"DELETE FROM T WHERE A <> NULL AND B IS NOT NULL",
-        ),
-        (
-            b"insert into t values(- 5,NULL,'',-9223372036854775808,00)",
-            b"INSERT INTO T VALUES (-5, NULL, NULL, -9223372036854775808, 0)",
-        ),
-        (b"select sum ( n ) from t", b"SELECT SUM(N) FROM T"),
-        (
-            b"commit work force '1.65.1',007",
-            b"COMMIT FORCE '1.65.1', 7",
-        ),
-        (
-            b"exec dbms_transaction.purge_mixed ( '' )",
-            b"EXECUTE DBMS_TRANSACTION.PURGE_MIXED('')",
-        ),
-    ];
-    for (text, printed) in cases {
+    for (text, printed) in PRINTED {
         let statement = parse(rt.alloc(), text)?;
         assert_eq!(rt; print_stmt(rt.alloc(), &statement)?.as_slice(), printed);
     }
