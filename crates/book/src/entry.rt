@@ -1,5 +1,6 @@
 //! The entries of the book.
-ghost use Rattle.std.specs.Prelude.{◌≡◌};
+ghost use Rattle.std.specs.Prelude.{◌≡◌, IfOk};
+ghost use Rattle.book.specs.declared.entry.Entry.TheVariants.{Made, Sealed, Decided};
 
 use dtx_values::{Changes, Duplicate, Listing, Table};
 use redo_codec::Decision;
@@ -55,38 +56,19 @@ pub type Book = Listing<Entry>;
 impl Duplicate for Entry {
     fn copy(&self, alloc: Global) -> Result<Entry, AllocError> {
         match self {
-            Entry::Made { node, table } => {
-                let table = table.copy(alloc)?;
-                Ok(Entry::Made { node: *node, table })
-            }
+            Entry::Made { node, table } => made(alloc, *node, table),
             Entry::Sealed {
                 branch,
                 global,
                 changes,
                 scn,
-            } => {
-                let changes = changes.copy(alloc)?;
-                Ok(Entry::Sealed {
-                    branch: *branch,
-                    global: *global,
-                    changes,
-                    scn: *scn,
-                })
-            }
+            } => sealed(alloc, *branch, *global, changes, *scn),
             Entry::Decided {
                 branch,
                 global,
                 changes,
                 scn,
-            } => {
-                let changes = changes.copy(alloc)?;
-                Ok(Entry::Decided {
-                    branch: *branch,
-                    global: *global,
-                    changes,
-                    scn: *scn,
-                })
-            }
+            } => decided(alloc, *branch, *global, changes, *scn),
             Entry::Ended { branch, outcome } => Ok(Entry::Ended {
                 branch: *branch,
                 outcome: *outcome,
@@ -106,4 +88,47 @@ impl Duplicate for Entry {
             }),
         }
     }
+}
+
+fn made(alloc: Global, node: u8, table: &Table) -> Result<Entry, AllocError>
+    ensures { IfOk result (λ entry. entry ≡ Made node table.now) }
+{
+    let table = table.copy(alloc)?;
+    Ok(Entry::Made { node, table })
+}
+
+fn sealed(
+    alloc: Global,
+    branch: BranchId,
+    global: BranchId,
+    changes: &Changes,
+    scn: u64,
+) -> Result<Entry, AllocError>
+    ensures { IfOk result (λ entry. entry ≡ Sealed branch global changes.now scn) }
+{
+    let changes = changes.copy(alloc)?;
+    Ok(Entry::Sealed {
+        branch,
+        global,
+        changes,
+        scn,
+    })
+}
+
+fn decided(
+    alloc: Global,
+    branch: BranchId,
+    global: BranchId,
+    changes: &Changes,
+    scn: u64,
+) -> Result<Entry, AllocError>
+    ensures { IfOk result (λ entry. entry ≡ Decided branch global changes.now scn) }
+{
+    let changes = changes.copy(alloc)?;
+    Ok(Entry::Decided {
+        branch,
+        global,
+        changes,
+        scn,
+    })
 }
