@@ -20,10 +20,10 @@ use tran_ids::node_name;
 const NODE: u8 = 1;
 
 /// The code of DTX-01, a node is stopped.
-pub const STOPPED: u16 = 60_001;
+const STOPPED: u16 = 60_001;
 
 /// The code of DTX-13, a node is running.
-pub const RUNNING: u16 = 60_013;
+const RUNNING: u16 = 60_013;
 
 /// A refusal that names the node.
 fn refused(alloc: Global, code: u16, names: &[Name]) -> Result<Said, AllocError>
