@@ -1,9 +1,12 @@
 mod ChangeLemmas
+pub mod EachLemmas
 mod FindLemmas
 pub mod KeyLaws
 mod ListLemmas
+pub mod MadeLemmas
 mod OrderLemmas
 mod RangeLemmas
+pub mod RowLaws
 mod SetLemmas
 pub mod StayLaws
 pub mod TableLaws

@@ -8,13 +8,13 @@ use Rattle.sql_eval.specs.Data.{Column}
 use Rattle.sql_eval.specs.Columns.{is_named}
 use Rattle.sql_eval.specs.Laws.{key_place, names_differ, TablesHaveOneKey}
 
-abbrev is_of_key : Column → Bool
+abbrev pub is_of_key : Column → Bool
 is_of_key c = c.key
 
 abbrev is_key_named : List ℕ → Column → Bool
 is_key_named name c = c.key && is_named name c
 
-left : (a b : Bool) → (a && b) ≡ true → a ≡ true
+pub left : (a b : Bool) → (a && b) ≡ true → a ≡ true
 left true b h = refl
 left false b h = absurd cc
 
@@ -37,7 +37,7 @@ any_named name [] e = absurd cc
 any_named name (c ∷ cs) e = named_step c.key (is_named name c) (list_any (is_key_named name) cs) (list_any (is_named name) cs) e (any_named name cs)
 
 -- how many key columns there are with one column more
-keys_of_more : (c : Column) (cs : List Column) → count_by is_of_key (c ∷ cs) ≡ cond c.key 1 0 + count_by is_of_key cs
+pub keys_of_more : (c : Column) (cs : List Column) → count_by is_of_key (c ∷ cs) ≡ cond c.key 1 0 + count_by is_of_key cs
 keys_of_more c cs = sum_by-cons (λ d. cond (is_of_key d) 1 0) c cs
 
 -- and a key column
@@ -89,11 +89,11 @@ key_step : (k : Bool) (m i l : ℕ) → (1 ≤ m → i < l) → 1 ≤ cond k 1 0
 key_step true m i l f h = omega arith
 key_step false m i l f h = let later : i < l = f (omega arith) in omega arith
 
-key_within : (cs : List Column) → 1 ≤ count_by is_of_key cs → position_or_len is_of_key cs < length cs
+pub key_within : (cs : List Column) → 1 ≤ count_by is_of_key cs → position_or_len is_of_key cs < length cs
 key_within [] h = absurd (omega arith)
 key_within (c ∷ cs) h = let here = key_step c.key (count_by is_of_key cs) (position_or_len is_of_key cs) (length cs) (key_within cs) (rw (keys_of_more c cs) at h) in omega (arith, here)
 
-placed : (p : Column → Bool) (cs : List Column) → position_or_len p cs < length cs → position p cs ≡ Some (position_or_len p cs)
+pub placed : (p : Column → Bool) (cs : List Column) → position_or_len p cs < length cs → position p cs ≡ Some (position_or_len p cs)
 placed p cs h = rw (lt-ltb _ _ h) refl
 
 place_is : (b : Bool) (i k : ℕ) → cond b (Some i) None ≡ Some k → (b ≡ true) × (i ≡ k)

@@ -1,12 +1,13 @@
--- A statement that fixes a key depends on what stands at that key alone.
-use Rattle.std.specs.Prelude.{◌≡◌, ◌==◌, ◌&&◌, not, ℕ, Bool, true, false, List, [], ◌∷◌, Some, IfSome, filter, length, map, position, count_by, unwrap_or, ⊤}
-use Rattle.std.specs.List.{AllByRecursion, list_any}
+-- A statement that fixes a key depends on what stands at that key alone, and each change of an accepted statement is one
+-- of its table.
+use Rattle.std.specs.Prelude.{◌≡◌, ◌==◌, ◌&&◌, not, ℕ, Bool, true, false, List, [], ◌∷◌, Some, None, IfSome, filter, length, map, position, count_by, unwrap_or}
+use Rattle.std.specs.List.{All, AllByRecursion, list_any}
 use Rattle.sql_eval.specs.Data.{Value, Row, Change, Column, Table, Keyed, Stmt, Done}
 use Rattle.sql_eval.specs.Data.meants
-use Rattle.sql_eval.specs.Words.{first_some}
+use Rattle.sql_eval.specs.Words.{first_some, same_text}
 use Rattle.sql_eval.specs.Rows.{is_null, same_value, apply}
 use Rattle.sql_eval.specs.Columns.{is_key, is_named, key_of_row, place_of}
-use Rattle.sql_eval.specs.Meaning.{conds_of, fixes, found, fixed_key, written, sets_key, meant_over}
+use Rattle.sql_eval.specs.Meaning.{checked, conds_of, fixes, found, fixed_key, written, sets_key, meant_over}
 
 -- the place of the key column
 abbrev pub key_place : Table → ℕ
@@ -32,8 +33,7 @@ TablesHaveOneKey = (t : Table) → has_one_key t ≡ true → HasOneKey t
 
 -- each row has its key in the key column
 abbrev pub AreKeyed : Table → List Keyed → Type 0
-AreKeyed t [] = ⊤
-AreKeyed t (r ∷ rs) = (key_of_row t r.row.cells ≡ r.key) × AreKeyed t rs
+AreKeyed t rows = AllByRecursion (λ r. key_of_row t r.row.cells ≡ r.key) rows
 
 -- the rows at a key
 abbrev pub at_key : List Keyed → Value → List Keyed
@@ -70,3 +70,31 @@ AreRowsOf t rows = AllByRecursion (λ r. IsRowAt t r.key r.row) rows
 -- a change of the table: at a key that is not NULL, to a row that stands there or to none
 abbrev pub IsChangeOf : Table → Change → Type 0
 IsChangeOf t c = (c.table ≡ t.name) × (is_null c.key ≡ false) × IfSome c.after (IsRowAt t c.key)
+
+-- changes of the table
+abbrev pub AreChangesOf : Table → List Change → Type 0
+AreChangesOf t changes = All (IsChangeOf t) changes
+
+-- the changes of an accepted statement are of its table
+abbrev pub ChangesAreOfTable : Type 0
+ChangesAreOfTable = (s : Stmt) (t : Table) (rows : List Keyed) (done : Done) (count : ℕ) (changes : List Change) → has_one_key t ≡ true → AreRowsOf t rows
+    → checked s t ≡ None → meant_over s t rows ≡ meants.Changes done count changes → AreChangesOf t changes
+
+-- changes leave rows of the table, where those under its name are of the table
+abbrev pub RowsStay : Type 0
+RowsStay = (t : Table) (rows : List Keyed) (changes : List Change) → AreRowsOf t rows
+    → All (λ c. same_text c.table t.name ≡ true → IsChangeOf t c) changes → AreRowsOf t (apply t.name rows changes)
+
+-- rows of the table have their keys in the key column
+abbrev pub RowsAreKeyed : Type 0
+RowsAreKeyed = (t : Table) (rows : List Keyed) → AreRowsOf t rows → AreKeyed t rows
+
+-- a statement tells how many changes it makes
+abbrev pub CountIsLength : Type 0
+CountIsLength = (s : Stmt) (t : Table) (rows : List Keyed) (done : Done) (count : ℕ) (changes : List Change)
+    → meant_over s t rows ≡ meants.Changes done count changes → count ≡ length changes
+
+-- a statement changes the keys that it writes, in their order
+abbrev pub ChangesAreOfWritten : Type 0
+ChangesAreOfWritten = (s : Stmt) (t : Table) (rows : List Keyed) (done : Done) (count : ℕ) (changes : List Change)
+    → meant_over s t rows ≡ meants.Changes done count changes → map (λ c. c.key) changes ≡ written s t rows
