@@ -9,5 +9,5 @@
 mod laws;
 mod trace;
 
-pub use laws::{each_begun_is_answered, lawful_runs_are_as_told};
+pub use laws::{each_begun_is_answered, lawful_runs_are_as_told, nodes_are_in_order};
 pub use trace::{Recorded, Trace};

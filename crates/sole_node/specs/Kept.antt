@@ -1,7 +1,7 @@
 -- What a node keeps from turn to turn, where it is the only one.
 use Rattle.std.specs.Prelude.{ℕ, ◌+◌, ◌-◌, ◌&&◌, Bool, if◌then◌else◌, List, [], ◌∷◌, ◌++◌, find, filter, map, not, length, nat_lt, replicate, sum_by, slice_get, slice_set, unwrap_or, Option, None, Some}
 use Rattle.std.specs.Str.{bytes_eq}
-use Rattle.std.specs.List.{list_any}
+use Rattle.std.specs.List.{list_any, position_or_len}
 use Rattle.dtx_values.specs.declared.table.Table.{Table}
 use Rattle.tran_ids.specs.declared.branch.BranchId.{BranchId}
 use Rattle.tran_ids.specs.Branch.{same}
@@ -74,7 +74,7 @@ root_at k n = root_of k (session_at k n).root
 
 -- with what one of them has changed
 abbrev pub with_root : Kept → Root → Kept
-with_root k x = record k { roots = map (λ y. if is_of x.me y then x else y) k.roots }
+with_root k x = record k { roots = slice_set k.roots (position_or_len (is_of x.me) k.roots) x }
 
 -- the id of the session's next transaction
 abbrev pub next_root : Kept → ℕ → BranchId

@@ -39,7 +39,7 @@ pub record IsSane (k : Kept) : Type 0 where
   pub names : map (λ t. t.table) k.rows ≡ map (λ t. t.name) k.tables
   pub roots : AllByRecursion (IsRootAt k) k.roots
   pub sessions : length k.sessions ≡ 64
-  pub open : (n : ℕ) (b : BranchId) → (session_at k n).root ≡ Some b → is_some (root_of k (Some b)) ≡ true
+  pub begun : (n : ℕ) (b : BranchId) → (session_at k n).root ≡ Some b → is_some (root_of k (Some b)) ≡ true
 
 -- The numbers that a turn gives out are below their limits.
 pub record HasNumbers (k : Kept) : Type 0 where
