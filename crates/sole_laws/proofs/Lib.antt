@@ -2,3 +2,5 @@ pub mod PastLemmas
 pub mod ListLemmas
 pub mod BookLemmas
 pub mod RowsLemmas
+pub mod KindLemmas
+pub mod LiveLemmas

@@ -1,7 +1,7 @@
 -- What each item of a list has, and the first item that passes a test.
-use Rattle.std.proofs.Common.{◌≡◌, ℕ, zero, suc, ◌||◌, Bool, true, false, cond, List, [], ◌∷◌, ◌++◌, map, find, filter, replicate, slice_get, slice_set, unwrap_or, Option, Some, None, refl, sym, ap, subst, ◌∙◌}
+use Rattle.std.proofs.Common.{◌≡◌, ℕ, zero, suc, ◌+◌, ◌||◌, not, Bool, true, false, cond, List, [], ◌∷◌, ◌++◌, map, find, filter, replicate, slice_get, slice_set, unwrap_or, Option, Some, None, refl, sym, ap, subst, ◌∙◌, arith}
 use Rattle.std.specs.Prelude.{is_some}
-use Rattle.std.specs.List.{AllByRecursion, list_any}
+use Rattle.std.specs.List.{AllByRecursion, list_any, position_or_len}
 
 module _ {A : Type 0} (P : A → Type 0) where
 
@@ -129,12 +129,22 @@ module _ {A : Type 0} (p : A → Bool) where
   some_filtered q [] passes some = absurd cc
   some_filtered q (y ∷ ys) passes some = some_kept q y ys (p y) (q y) (passes y) some refl (some_filtered q ys passes)
 
-  some_changed : (f : A → A) (y : A) (ys : List A) (b : Bool) → is_some (cond b (Some y) (find p ys)) ≡ true → p (f y) ≡ b → (is_some (find p ys) ≡ true → is_some (find p (map f ys)) ≡ true)
-      → is_some (cond (p (f y)) (Some (f y)) (find p (map f ys))) ≡ true
-  some_changed f y ys true some is later = ap (λ (b : Bool). is_some (cond b (Some (f y)) (find p (map f ys)))) is
-  some_changed f y ys false some is later = ap (λ (b : Bool). is_some (cond b (Some (f y)) (find p (map f ys)))) is ∙ later some
+  some_any : (b : Bool) (y x : A) (o : Option A) → is_some (cond b (Some y) o) ≡ true → is_some (cond b (Some x) o) ≡ true
+  some_any true y x o some = refl
+  some_any false y x o some = some
 
-  -- it is changed to one that passes too
-  pub some_mapped : (f : A → A) (xs : List A) → ((x : A) → p (f x) ≡ p x) → is_some (find p xs) ≡ true → is_some (find p (map f xs)) ≡ true
-  some_mapped f [] keeps some = absurd cc
-  some_mapped f (y ∷ ys) keeps some = some_changed f y ys (p y) some (keeps y) (some_mapped f ys keeps)
+  some_later : (b : Bool) (y : A) (o more : Option A) → is_some (cond b (Some y) o) ≡ true → (is_some o ≡ true → is_some more ≡ true) → is_some (cond b (Some y) more) ≡ true
+  some_later true y o more some later = refl
+  some_later false y o more some later = later some
+
+  some_put : (q : A → Bool) (y x : A) (ys : List A) (b : Bool) → q y ≡ b → ((z : A) → q z ≡ true → p x ≡ p z) → is_some (find p (y ∷ ys)) ≡ true
+      → (is_some (find p ys) ≡ true → is_some (find p (slice_set ys (position_or_len q ys) x)) ≡ true)
+      → is_some (find p (slice_set (y ∷ ys) (cond (not b) (1 + position_or_len q ys) 0) x)) ≡ true
+  some_put q y x ys true is passes some later = ap (λ (b : Bool). is_some (cond b (Some x) (find p ys))) (passes y is) ∙ some_any (p y) y x (find p ys) some
+  some_put q y x ys false is passes some later = let next_one : 1 + position_or_len q ys ≡ suc (position_or_len q ys) = omega arith in
+      subst (λ (i : ℕ). is_some (find p (slice_set (y ∷ ys) i x)) ≡ true) (sym next_one) (some_later (p y) y (find p ys) (find p (slice_set ys (position_or_len q ys) x)) some later)
+
+  -- it is changed to one that passes where it passes
+  pub some_set : (q : A → Bool) (xs : List A) (x : A) → ((z : A) → q z ≡ true → p x ≡ p z) → is_some (find p xs) ≡ true → is_some (find p (slice_set xs (position_or_len q xs) x)) ≡ true
+  some_set q [] x passes some = absurd cc
+  some_set q (y ∷ ys) x passes some = some_put q y x ys (q y) refl passes some (some_set q ys x passes)

@@ -1,4 +1,6 @@
 use Rattle.sole_laws.proofs.RowsLemmas as rows
+use Rattle.sole_laws.proofs.KindLemmas as kinds
+use Rattle.sole_laws.proofs.LiveLemmas as live
 use Rattle.sole_laws.proofs.laws.nodes_are_in_order.Goals as goal
 
 pub returns : goal.returns
