@@ -4,3 +4,7 @@ pub mod BookLemmas
 pub mod RowsLemmas
 pub mod KindLemmas
 pub mod LiveLemmas
+pub mod RanLemmas
+pub mod LastLemmas
+pub mod StandLemmas
+pub mod NumberLemmas

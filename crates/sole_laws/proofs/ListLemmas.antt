@@ -42,6 +42,10 @@ module _ {A : Type 0} (P : A → Type 0) where
   all-get (x ∷ xs) zero d all other = all.0
   all-get (x ∷ xs) (suc i) d all other = all-get xs i d all.1 other
 
+  pub all-replicate : (x : A) → P x → (n : ℕ) → AllByRecursion P (replicate n x)
+  all-replicate x is zero = tt
+  all-replicate x is (suc n) = (is, all-replicate x is n)
+
   found_or : (p : A → Bool) (y x : A) (xs : List A) (b : Bool) → cond b (Some y) (find p xs) ≡ Some x → P y → (find p xs ≡ Some x → P x) → P x
   found_or p y x xs true found here later = subst P (let is : Some y ≡ Some x = found in cc) here
   found_or p y x xs false found here later = later found

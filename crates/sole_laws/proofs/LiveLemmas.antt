@@ -2,19 +2,25 @@
 use Rattle.std.proofs.Common.{◌≡◌, ℕ, ◌+◌, ◌-◌, ◌<◌, ◌≤◌, ◌⊎◌, inl, inr, not, Bool, true, false, cond, List, [], ◌∷◌, ◌++◌, find, filter, map, length, replicate, slice_get, slice_set, unwrap_or, Option, Some, None, refl, sym, ap, subst, ◌∙◌, arith, zero, suc}
 use Rattle.std.specs.Prelude.{is_some}
 use Rattle.std.specs.List.{AllByRecursion, position_or_len}
+use Rattle.std.specs.Str.{bytes_eq}
 use Rattle.std.proofs.lemmas.Bool.Decides.{eqb_tells, leb_tells}
 use Rattle.std.proofs.lemmas.List.{get_or-set_other, set_past, length-set}
 use Rattle.std.proofs.lemmas.Grind.{get_or-set_at}
 use Rattle.std.proofs.lemmas.Option.{unwrap_or-slice_get, slice_get_past}
+use Rattle.dtx_values.specs.declared.row.Change.{Change}
+use Rattle.dtx_values.specs.declared.table.Table.{Table}
 use Rattle.tran_ids.specs.declared.branch.BranchId.{BranchId}
 use Rattle.tran_ids.specs.Branch.{same}
 use Rattle.tran_ids.proofs.BranchLemmas.{equal_from_same, same_from_equal}
+use Rattle.row_locks.specs.Locks.{Lock}
+use Rattle.row_store.specs.Tables.{TableRows}
 use Rattle.row_store.specs.Own.{nothing_changed}
 use Rattle.book.specs.declared.entry.Entry.{Entry}
+use Rattle.book.specs.declared.entry.Entry.TheVariants.{Made, Decided}
 use Rattle.sole_node.specs.Kept.{the_node, Root, Session, Kept, fresh_session, session_at, with_session, is_of, root_of, root_at, with_root, next_root, fresh_root, with_new_root, begun_by, begun, ended}
 use Rattle.sole_node.specs.Ready.{IsChangeAt, IsRootAt}
-use Rattle.sole_laws.proofs.ListLemmas.{all-push, all-filter, all-set, all-found, found_passes, some_in_more, some_last, some_filtered, some_set}
-use Rattle.sole_laws.proofs.BookLemmas.{DecideOnly, DecideOnly-more, IsOther, not_same}
+use Rattle.sole_laws.proofs.ListLemmas.{all-push, all-weaker, all-filter, all-set, all-get, all-replicate, all-found, found_passes, found_in_more, some_in_more, some_last, some_filtered, some_set}
+use Rattle.sole_laws.proofs.BookLemmas.{DecidesOnly, DecideOnly, DecideOnly-more, IsOther, not_same}
 
 -- what a stop leaves of a node, and its start finds
 abbrev pub rest_of : Kept → Kept
@@ -207,8 +213,8 @@ open_is_other k n x at g past e =
 same_as : (a b c : BranchId) → a ≡ b → same a c ≡ same b c
 same_as a b c e = ap (λ (x : BranchId). same x c) e
 
-pub Lives-with_root : (k : Kept) (book : List Entry) (x y : Root) → Lives k book → x.me ≡ y.me → IsRootAt k x → Lives (with_root k x) book
-Lives-with_root k book x y lives me is = record {
+pub Lives-with_root : (k : Kept) (book : List Entry) (x : Root) → Lives k book → IsRootAt k x → Lives (with_root k x) book
+Lives-with_root k book x lives is = record {
   roots = all-set (IsRootAt k) k.roots (position_or_len (is_of x.me) k.roots) x lives.roots is;
   sessions = lives.sessions;
   owned = λ m c root. let old = lives.owned m c root in record {
@@ -219,4 +225,57 @@ Lives-with_root k book x y lives me is = record {
     newest = old.newest;
   };
   past = lives.past;
+}
+
+-- other locks
+pub Lives-locks : (k : Kept) (book : List Entry) (locks : List Lock) → Lives k book → Lives (record k { locks = locks }) book
+Lives-locks k book locks lives = record {
+  roots = lives.roots;
+  sessions = lives.sessions;
+  owned = λ m c root. let old = lives.owned m c root in record { among = old.among; slot = old.slot; here = old.here; now = old.now; newest = old.newest };
+  past = lives.past;
+}
+
+-- what an open transaction has changed is of the node's tables
+of_root : (k : Kept) (book : List Entry) (x : Root) (o : Option BranchId) → Lives k book → root_of k o ≡ Some x → IsRootAt k x
+of_root k book x None lives found = absurd cc
+of_root k book x (Some b) lives found = all-found (IsRootAt k) (is_of b) k.roots x lives.roots found
+
+pub root_is : (k : Kept) (n : ℕ) (book : List Entry) (x : Root) → Lives k book → root_at k n ≡ Some x → IsRootAt k x
+root_is k n book x lives found = of_root k book x (session_at k n).root lives found
+
+-- ---- a record stands
+
+-- a decision of the transaction
+pub Lives-decided : (k : Kept) (book : List Entry) (rows : List TableRows) (scn : ℕ) (b : BranchId) (cs : List Change) (n : ℕ) → Lives k book → IsPast k b → Lives (record k { rows = rows; scn = scn }) (book ++ Decided b b cs n ∷ [])
+Lives-decided k book rows scn b cs n lives past = record {
+  roots = lives.roots;
+  sessions = lives.sessions;
+  owned = λ m c root. let old = lives.owned m c root in record { among = old.among; slot = old.slot; here = old.here; now = old.now; newest = old.newest };
+  past = all-push (DecidesOnly (IsPast k)) book (Decided b b cs n) lives.past past;
+}
+
+-- a change is of a table though there is one more
+change_more : (k : Kept) (t : Table) (c : Change) → IsChangeAt k c → IsChangeAt (record k { tables = k.tables ++ t ∷ [] }) c
+change_more k t c at = (at.0, found_in_more (λ (u : Table). bytes_eq u.name c.table) k.tables (t ∷ []) at.0 at.1, at.2)
+
+pub Lives-made : (k : Kept) (book : List Entry) (rows : List TableRows) (t : Table) → Lives k book → Lives (record k { tables = k.tables ++ t ∷ []; rows = rows }) (book ++ Made the_node t ∷ [])
+Lives-made k book rows t lives = record {
+  roots = all-weaker (IsRootAt k) (IsRootAt (record k { tables = k.tables ++ t ∷ [] })) (λ x is. all-weaker (IsChangeAt k) (IsChangeAt (record k { tables = k.tables ++ t ∷ [] })) (change_more k t) x.own.changes is) k.roots lives.roots;
+  sessions = lives.sessions;
+  owned = λ m c root. let old = lives.owned m c root in record { among = old.among; slot = old.slot; here = old.here; now = old.now; newest = old.newest };
+  past = all-push (DecidesOnly (IsPast k)) book (Made the_node t) lives.past tt;
+}
+
+-- ---- a start
+
+no_root : (k : Kept) (m : ℕ) → (session_at (rest_of k) m).root ≡ None
+no_root k m = all-get (λ (s : Session). s.root ≡ None) (replicate 64 fresh_session) (m - 1) fresh_session (all-replicate (λ (s : Session). s.root ≡ None) fresh_session refl 64) refl
+
+pub Lives-started : (k : Kept) (book : List Entry) (boot : ℕ) → DecideOnly (λ g. g.boot ≤ boot) book → k.boot ≡ boot + 1 → Lives (rest_of k) book
+Lives-started k book boot earlier is = record {
+  roots = tt;
+  sessions = refl;
+  owned = λ m c root. let clash : None ≡ Some c = sym (no_root k m) ∙ root in absurd cc;
+  past = DecideOnly-more (λ g. g.boot ≤ boot) (IsPast (rest_of k)) (λ g low now. absurd (omega (arith, low, now, is))) book earlier;
 }
