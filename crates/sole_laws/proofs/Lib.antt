@@ -8,3 +8,5 @@ pub mod RanLemmas
 pub mod LastLemmas
 pub mod StandLemmas
 pub mod NumberLemmas
+pub mod CreatedLemmas
+pub mod HoldLemmas

@@ -67,7 +67,7 @@ start_push rs s r is = after_records-push fresh rs r ∙ ap (λ (k : Kept). afte
 module _ (rs : List RedoRecord) (book : List Entry) (k : Kept) (stands : Stands rs book (Some k)) where
 
   -- what stands once a turn has come to this
-  pub After : Outcome → Type 0
+  abbrev pub After : Outcome → Type 0
   After o = Stands (rs ++ option_to_list o.wrote) (book ++ entries_of the_node o.wrote) (Some o.after)
 
   -- what the records say of the node
@@ -126,7 +126,7 @@ module _ (rs : List RedoRecord) (book : List Entry) (k : Kept) (stands : Stands 
 
   -- each kind of turn
   pub stands_after : (undo n : ℕ) → OfEach After undo k n
-  unfolding After
+
   stands_after undo n = record {
     answers = λ a. quiet k a refl stands.up.lives;
     begins = λ a. quiet (begun k n) a (rest_of-begun k n) (Lives-begun k n book stands.up.lives);

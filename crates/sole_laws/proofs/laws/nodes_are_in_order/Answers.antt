@@ -1,4 +1,5 @@
 use Rattle.sole_laws.proofs.RowsLemmas as rows
+use Rattle.sole_laws.proofs.HoldLemmas as hold
 use Rattle.sole_laws.proofs.StandLemmas as stand
 use Rattle.sole_laws.proofs.NumberLemmas as number
 use Rattle.sole_laws.proofs.RanLemmas as ran
