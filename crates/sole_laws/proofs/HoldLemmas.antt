@@ -1,5 +1,5 @@
 -- What holds of a lawful run so far: how it stands, and what is due.
-use Rattle.std.proofs.Common.{◌≡◌, ℕ, ◌+◌, ◌*◌, ◌≤◌, ◌<◌, ◌&&◌, Bool, true, false, cond, List, [], ◌∷◌, ◌++◌, length, Option, None, Some, refl, sym, ap, subst, ◌∙◌, arith}
+use Rattle.std.proofs.Common.{◌≡◌, ℕ, ◌+◌, ◌*◌, ◌≤◌, ◌<◌, ◌&&◌, Bool, true, false, cond, List, [], ◌∷◌, ◌++◌, replicate, Option, None, Some, refl, sym, ap, subst, ◌∙◌, arith}
 use Rattle.std.specs.Prelude.{IfSome, is_some, option_map, option_to_list}
 use Rattle.std.specs.List.{AllByRecursion}
 use Rattle.dtx_values.specs.declared.answer.Answer.{Answer}
@@ -16,13 +16,14 @@ use Rattle.sole_node.specs.declared.input.Input.TheVariants as inputs
 use Rattle.sole_node.specs.declared.happening.Happening.{Happening}
 use Rattle.sole_node.specs.declared.happening.Happening.TheVariants.{Begun, Turn, Stopped, Started}
 use Rattle.sole_node.specs.Statements.{is_create}
-use Rattle.sole_node.specs.Kept.{the_node, Kept}
+use Rattle.sole_node.specs.Kept.{the_node, Kept, fresh_session}
 use Rattle.sole_node.specs.Turn.{Outcome, turn_of, start_of, first_records}
 use Rattle.sole_laws.specs.Past.{Past, Due, Begins, Serves, Stops, Starts, start, is_open, commit_call, call_due, due_by, begun, is_committed, following, behind, told_or_goes_on, turned, turned_at, stopped, started, next, past}
 use Rattle.sole_laws.specs.Lawful.{served_by, MayBegin, MayTurn, MayHappen, IsLawful}
 use Rattle.sole_laws.proofs.KindLemmas.{MakesWhole, CallsWhole, turn_is}
 use Rattle.sole_laws.proofs.CreatedLemmas.{text_is_whole}
-use Rattle.sole_laws.proofs.StandLemmas.{Stands, After, stands_after, stands_stopped, stands_started, stands_first}
+use Rattle.sole_laws.proofs.StandLemmas.{Stands, After, stands_after, stands_stopped, stands_started, stands_first, start_push, start_rests}
+use Rattle.sole_laws.proofs.ListLemmas.{all-replicate}
 use Rattle.sole_laws.proofs.NumberLemmas.{IsLow, AreLow, low_after}
 
 -- what each happening that may come keeps, a lawful trace keeps
@@ -183,8 +184,81 @@ low_turned : (limit undo : ℕ) (k : Kept) (input : Input) → AreLow limit k �
 low_turned limit undo k (inputs.Call n s) low whole = turn_is (λ o. AreLow (limit + 1) o.after) undo k n (low_after limit undo k n low) s whole
 
 -- the records say what the node has
-pub boot_by : (rs : List RedoRecord) (book : List Entry) (k : Kept) → Stands rs book (Some k) → (start_of rs).boot ≡ k.boot
+boot_by : (rs : List RedoRecord) (book : List Entry) (k : Kept) → Stands rs book (Some k) → (start_of rs).boot ≡ k.boot
 boot_by rs book k stands = ap (λ (s : Kept). s.boot) stands.up.rests
 
-pub scn_by : (rs : List RedoRecord) (book : List Entry) (k : Kept) → Stands rs book (Some k) → (start_of rs).scn ≡ k.scn
+scn_by : (rs : List RedoRecord) (book : List Entry) (k : Kept) → Stands rs book (Some k) → (start_of rs).scn ≡ k.scn
 scn_by rs book k stands = ap (λ (s : Kept). s.scn) stands.up.rests
+
+turned_numbered : (p : Past) (at : ℕ) (input : Input) (wrote : Option RedoRecord) (node : Option Kept) → p.node ≡ node → Holds (turned_at p at input wrote node) → Holds p → Numbered p → MayTurn p at input wrote
+    → option_map (λ k. (turn_of p.undo k input).wrote) node ≡ Some wrote → Numbered (turned_at p at input wrote node)
+turned_numbered p at input wrote None is after holds n may owed = absurd cc
+turned_numbered p at input wrote (Some k) is after holds n may owed =
+    let o = turn_of p.undo k input in
+    let few : n.limit + turns_due p.due ≤ 2 * p.command = n.few in
+    let low : AreLow (n.limit + 1) o.after = low_turned n.limit p.undo k input (subst (λ (node : Option Kept). IfSome node (AreLow n.limit)) is n.low) (out_whole p.due input holds.whole may.is_out) in
+    let boot : o.after.boot ≤ n.limit + 1 + 1 = low.boot in
+    let scn : o.after.scn ≤ n.limit + 1 = low.scn in
+    record {
+      limit = n.limit + 1;
+      few = omega (arith, few, turns_fewer p input o.answer p.due may.is_out, goes_on_command p o.answer (following o.answer (behind p.due)));
+      boot = omega (arith, boot, boot_by (p.records ++ option_to_list wrote) (p.book ++ entries_of at wrote) o.after after.stands);
+      scn = omega (arith, scn, scn_by (p.records ++ option_to_list wrote) (p.book ++ entries_of at wrote) o.after after.stands);
+      low = low;
+    }
+
+started_numbered : (p : Past) (boot : ℕ) → Numbered p → p.due ≡ Starts → boot ≡ (start_of p.records).boot + 1 → Numbered (started p boot)
+started_numbered p boot n is next_one =
+    let rs = p.records ++ records.Boot boot ∷ [] in
+    let s = start_of p.records in
+    let more : start_of rs ≡ record s { boot = boot } = start_push p.records s (records.Boot boot) refl in
+    let few : n.limit + turns_due p.due ≤ 2 * p.command = n.few in
+    let one : turns_due p.due ≡ 1 = ap turns_due is in
+    let old_boot : s.boot ≤ n.limit + 1 = n.boot in
+    let old_scn : s.scn ≤ n.limit = n.scn in
+    let new_boot : (start_of rs).boot ≡ boot = ap (λ (k : Kept). k.boot) more in
+    let new_scn : (start_of rs).scn ≡ s.scn = ap (λ (k : Kept). k.scn) more in
+    let sessions : (start_of rs).sessions ≡ replicate 64 fresh_session = ap (λ (k : Kept). k.sessions) (start_rests rs) in
+    record {
+      limit = n.limit + 1;
+      few = omega (arith, few, one);
+      boot = omega (arith, old_boot, new_boot, next_one);
+      scn = omega (arith, old_scn, new_scn);
+      low = record {
+        seqs = subst (AllByRecursion (IsLow (n.limit + 1))) (sym sessions) (all-replicate (IsLow (n.limit + 1)) fresh_session (omega arith) 64);
+        scn = omega (arith, old_scn, new_scn);
+        boot = omega (arith, old_boot, new_boot, next_one);
+      };
+    }
+
+stopped_numbered : (p : Past) → Numbered p → Numbered (stopped p)
+stopped_numbered p n =
+    let few : n.limit + turns_due p.due ≤ 2 * p.command = n.few in
+    record { limit = n.limit; few = omega (arith, few); boot = n.boot; scn = n.scn; low = tt }
+
+-- what holds of a run so far, and of its numbers
+pub record Goes (p : Past) : Type 0 where
+  pub holds : Holds p
+  pub numbered : Numbered p
+
+pub goes_step : (p : Past) (h : Happening) → Goes p → MayHappen p h → Goes (next p h)
+goes_step p (Begun number) goes may = record { holds = holds_step p (Begun number) goes.holds may; numbered = begun_numbered p number p.left goes.numbered may }
+goes_step p (Turn at input wrote) goes may =
+    let after = holds_step p (Turn at input wrote) goes.holds may in
+    record { holds = after; numbered = turned_numbered p at input wrote p.node refl after goes.holds goes.numbered may may.owed }
+goes_step p (Stopped node) goes may = record { holds = holds_step p (Stopped node) goes.holds may; numbered = stopped_numbered p goes.numbered }
+goes_step p (Started node boot) goes may =
+    record { holds = holds_step p (Started node boot) goes.holds may; numbered = started_numbered p boot goes.numbered may.is_due may.in_order }
+
+pub goes_first : (asked : List Command) → Goes (start asked)
+unfolding Rattle.sole_node.specs.Turn.after_records
+goes_first asked = record {
+  holds = holds_first asked;
+  numbered = record {
+    limit = 0;
+    few = omega arith;
+    boot = omega arith;
+    scn = omega arith;
+    low = record { seqs = all-replicate (IsLow 0) fresh_session (omega arith) 64; scn = omega arith; boot = omega arith };
+  };
+}

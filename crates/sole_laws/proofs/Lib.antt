@@ -10,3 +10,4 @@ pub mod StandLemmas
 pub mod NumberLemmas
 pub mod CreatedLemmas
 pub mod HoldLemmas
+pub mod RunsAreTold

@@ -41,7 +41,7 @@ turned-book : (p : Past) (node : ℕ) (input : Input) (wrote : Option RedoRecord
 turned-book p node input wrote None owed = absurd cc
 turned-book p node input wrote (Some k) owed = refl
 
-next-book : (p : Past) (h : Happening) → MayHappen p h → (next p h).book ≡ p.book ++ entries_in h
+pub next-book : (p : Past) (h : Happening) → MayHappen p h → (next p h).book ≡ p.book ++ entries_in h
 next-book p (Begun number) may = begun-book p number p.left ∙ sym (append-nil p.book)
 next-book p (Turn node input wrote) may = turned-book p node input wrote p.node may.owed
 next-book p (Stopped node) may = sym (append-nil p.book)

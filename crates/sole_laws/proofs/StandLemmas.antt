@@ -59,7 +59,7 @@ rest_records k (r ∷ rs) is = rest_records (after_record k r) rs (ap (λ (s : K
 pub start_rests : (rs : List RedoRecord) → start_of rs ≡ rest_of (start_of rs)
 start_rests rs = rest_records fresh rs refl
 
-start_push : (rs : List RedoRecord) (s : Kept) (r : RedoRecord) → start_of rs ≡ s → start_of (rs ++ r ∷ []) ≡ after_record s r
+pub start_push : (rs : List RedoRecord) (s : Kept) (r : RedoRecord) → start_of rs ≡ s → start_of (rs ++ r ∷ []) ≡ after_record s r
 start_push rs s r is = after_records-push fresh rs r ∙ ap (λ (k : Kept). after_record k r) is
 
 -- ---- a turn
