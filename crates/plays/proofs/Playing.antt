@@ -1,5 +1,6 @@
 -- What a play unfolds to compute what is printed.
 use Rattle.std.specs.Prelude.{⊤}
+use Rattle.std.specs.Fmt.{digits}
 use Rattle.tran_ids.specs.Numbers.{decimal, hex8}
 use Rattle.redo_codec.specs.Kept.{kept_after}
 use Rattle.redo_codec.specs.Durable.{durable_after}
@@ -20,8 +21,9 @@ use Rattle.run_laws.specs.Disks.{struck, after_append}
 use Rattle.run_laws.specs.Cuts.{cut_by}
 use Rattle.run_laws.specs.Next.{next}
 use Rattle.run_laws.specs.Due.{due_of, runs_on}
+use Rattle.report.specs.Refusals.{ora_texts, dtx_texts}
 use Rattle.run_laws.specs.Report.{report}
 
 unfoldable pub playing : ⊤
-unfolding decimal hex8 kept_after durable_after checked examined written meant_over applied stored_by weight step ran_over ran way_of admit reply_of beyond next_on_decision next_on_ack next_on_forgotten recovery branch_to_force purge turn_of start_of stand_of passes point_of pending_rows neighbor_rows sent_on delivered lost cut_over joined stopped started struck after_append cut_by next due_of runs_on report
+unfolding digits decimal hex8 kept_after durable_after checked examined written meant_over applied stored_by weight step ran_over ran way_of admit reply_of beyond next_on_decision next_on_ack next_on_forgotten recovery branch_to_force purge turn_of start_of stand_of passes point_of pending_rows neighbor_rows sent_on delivered lost cut_over joined stopped started struck after_append cut_by next due_of runs_on ora_texts dtx_texts report
 playing = tt

@@ -1,5 +1,5 @@
 -- A lookup in a map's entries, an entry put in and one removed are those of the table's rows.
-use Rattle.std.proofs.Common.{◌≡◌, ℕ, Bool, true, false, cond, not, ◌&&◌, List, [], ◌∷◌, None, Some, filter, refl, sym, ap, subst, ◌∙◌, arith}
+use Rattle.std.proofs.Common.{◌≡◌, ℕ, Bool, true, false, cond, not, ◌&&◌, List, [], ◌∷◌, None, Some, filter, refl, sym, ap, subst, ◌∙◌, arith, true≢false}
 use Rattle.std.proofs.lemmas.Bool.Decides.{nat_tests}
 use Rattle.std.specs.declared.cmp.Ordering.{Ordering}
 use Rattle.std.specs.declared.cmp.Ordering.TheVariants.{Less, Equal, Greater}
@@ -57,6 +57,18 @@ equal_from Greater e = absurd cc
 
 pub same_key : (k q : Value) → same_value k q ≡ true → k ≡ q
 same_key k q same = sym (values_exact q k (equal_from (value_cmp q k) (same_is k q ∙ same)))
+
+pub below_less : (a b : Value) → value_below a b ≡ true → value_cmp a b ≡ Less
+below_less a b below = compared a b ∙ ap (λ t. by_below t (value_below b a)) below
+
+below_from : (below above : Bool) → (not below && not above) ≡ false → above ≡ false → below ≡ true
+below_from true above apart none = refl
+below_from false true apart none = absurd (true≢false none)
+below_from false false apart none = absurd (true≢false apart)
+
+-- of two keys that differ the first is below, where the second is not
+pub apart_less : (a b : Value) → same_value a b ≡ false → value_below b a ≡ false → value_cmp a b ≡ Less
+apart_less a b apart none = below_less a b (below_from (value_below a b) (value_below b a) apart none)
 
 -- ---- a lookup
 

@@ -1,3 +1,5 @@
 pub mod Listed
 pub mod Tables
 pub mod Own
+pub mod Kept
+pub mod Named

@@ -1,5 +1,5 @@
 -- What a branch has changed, what it sees of a table, and the undo that it holds.
-use Rattle.std.specs.Prelude.{ℕ, ◌+◌, ◌/◌, ◌&&◌, Bool, if◌then◌else◌, List, [], ◌∷◌, ◌++◌, sum_by, Option, Some, None}
+use Rattle.std.specs.Prelude.{ℕ, ◌+◌, ◌/◌, ◌&&◌, Bool, if◌then◌else◌, List, [], ◌∷◌, ◌++◌, sum_by, Option, Some}
 use Rattle.dtx_values.specs.declared.value.Value.{Value}
 use Rattle.dtx_values.specs.declared.row.Row.{Row}
 use Rattle.dtx_values.specs.declared.row.Change.{Change}

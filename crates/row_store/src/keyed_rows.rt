@@ -4,9 +4,9 @@ ghost use Rattle.std.specs.Option.{option_copied};
 ghost use Rattle.std.specs.List.Sorted.{IsStrictlySortedBy};
 ghost use Rattle.dtx_values.specs.Order.{value_cmp};
 ghost use Rattle.sql_eval.specs.Laws.{at_key as at_key_of};
-ghost use Rattle.sql_eval.specs.Rows.{get as get_of, put as put_of, without as without_of, keys_of};
+ghost use Rattle.sql_eval.specs.Rows.{get as get_of, put as put_of, without as without_of, set_to, apply as apply_of, keys_of};
 
-use dtx_values::{Duplicate, Row, Value};
+use dtx_values::{Change, Duplicate, Name, Row, Value};
 use sql_eval::Keyed;
 use std::alloc::{AllocError, Global};
 use std::collections::BTreeMap;
@@ -107,5 +107,57 @@ impl KeyedRows {
         ensures { self.new ≡ without_of self.old key.now }
     {
         self.rows.remove(key);
+    }
+
+    /// Puts a copy of a row at a key, or removes the row that is there.
+    pub fn set(&mut self, alloc: Global, key: &Value, after: &Option<Row>) -> Result<(), AllocError>
+        ensures ok { OnOk result (self.new ≡ set_to self.old key.now after.now) }
+        ensures err { OnErr result (self.new ≡ self.old) }
+    {
+        match after {
+            None => {
+                self.remove(key);
+                Ok(())
+            }
+            Some(row) => self.put(key.copy(alloc)?, row.copy(alloc)?),
+        }
+    }
+
+    /// Makes the changes of a table in their order. After an error some of them may have been made.
+    pub fn apply(
+        &mut self,
+        alloc: Global,
+        table: &Name,
+        changes: &[Change],
+    ) -> Result<(), AllocError>
+        ensures { OnOk result (self.new ≡ apply_of table.now self.old changes.now) }
+    {
+        for change in changes {
+            if change.table.is(table) {
+                self.set(alloc, &change.key, &change.after)?;
+            }
+        }
+        Ok(())
+    }
+
+    /// All rows, in key order.
+    pub fn into_keyed(self, alloc: Global) -> Result<Vec<Keyed>, AllocError>
+        ensures { IfOk result (λ keyed. keyed.items ≡ self) }
+    {
+        let mut rows = Vec::with_capacity(alloc, self.len())?;
+        for (key, row) in self.rows {
+            rows.push(Keyed { key, row })?;
+        }
+        Ok(rows)
+    }
+}
+
+impl Duplicate for KeyedRows {
+    fn copy(&self, alloc: Global) -> Result<KeyedRows, AllocError> {
+        let mut copy = KeyedRows::new(alloc);
+        for (key, row) in &self.rows {
+            copy.put(key.copy(alloc)?, row.copy(alloc)?)?;
+        }
+        Ok(copy)
     }
 }

@@ -7,8 +7,8 @@ ghost use Rattle.script_run.specs.Headline.{IsRun, nothing_done};
 ghost use Rattle.script_run.specs.Ending.{EndsUnread, EndsRefused, EndsReported, EndsOn, EndsRead, IsComplete};
 
 use crate::outcome::{Outcome, Run, Status};
+use crate::output::output;
 use crate::progress::run_commands;
-use crate::report::output;
 use crate::words::wanted;
 use dtx_ports::{ReadErr, Sink, Source, read_whole, write_whole};
 use dtx_values::Listing;

@@ -7,21 +7,13 @@ use Rattle.tran_ids.specs.declared.branch.BranchId.{BranchId}
 use Rattle.tran_ids.specs.Branch.{same}
 use Rattle.row_locks.specs.Locks.{Lock, without, without_reads}
 use Rattle.row_store.specs.Tables.{TableRows}
-use Rattle.row_store.specs.Own.{Own, nothing_changed, extents}
+use Rattle.row_store.specs.Own.{nothing_changed, extents}
+pub use Rattle.sole_node.specs.declared.root.Root.{Root}
+pub use Rattle.sole_node.specs.declared.root.Session.{Session}
 
 -- the number of the one node
 abbrev pub the_node : ℕ
 the_node = 1
-
--- A transaction that is open: the branch that is its root, and what that has changed.
-pub record Root : Type 0 where
-  pub me : BranchId
-  pub own : Own
-
--- A client session: the number of its newest transaction since the start, and its root where it is open.
-pub record Session : Type 0 where
-  pub seq : ℕ
-  pub root : Option BranchId
 
 -- A node: which start it runs in, from 1; its tables and their committed rows; the greatest commit SCN. A stop loses the
 -- rest: the open transactions in the order in which they began, the locks in the order in which they were taken, the 64

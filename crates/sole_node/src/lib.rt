@@ -4,6 +4,8 @@
 
 mod happening;
 mod input;
+mod root;
 
 pub use happening::{Happening, Happenings};
 pub use input::Input;
+pub use root::{Root, Session};

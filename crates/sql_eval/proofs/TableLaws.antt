@@ -1,12 +1,14 @@
--- In a table with one key column and columns of different names, a name is that of the key exactly where it stands at the key's place.
-use Rattle.std.proofs.Common.{◌≡◌, ℕ, ◌+◌, ◌<◌, ◌≤◌, ◌&&◌, ◌||◌, not, Bool, true, false, cond, List, [], ◌∷◌, Option, None, Some, nat_lt, position, count_by, length, unwrap_or, refl, sym, ap, subst, ◌∙◌, arith}
+-- In a table with one key column and columns of different names, a name is that of the key exactly where it stands at the key's place; and each table that a text creates is one.
+use Rattle.std.proofs.Common.{◌≡◌, ℕ, ◌+◌, ◌<◌, ◌≤◌, ◌==◌, ◌&&◌, ◌||◌, not, Bool, true, false, cond, List, [], ◌∷◌, Option, None, Some, nat_lt, position, count_by, length, unwrap_or, refl, sym, ap, subst, ◌∙◌, arith}
 use Rattle.std.specs.List.{list_any, position_or_len}
 use Rattle.std.specs.Cmp.Lexicographic.{bytes_decides}
 use Rattle.std.proofs.lemmas.List.Sums.{sum_by-cons}
 use Rattle.std.proofs.lemmas.Bool.{lt-ltb, ltb-true, eqb-true}
+use Rattle.sql_parse.specs.Parts.{are_distinct}
+use Rattle.sql_parse.specs.Catalog.{column_name}
 use Rattle.sql_eval.specs.Data.{Column}
 use Rattle.sql_eval.specs.Columns.{is_named}
-use Rattle.sql_eval.specs.Laws.{key_place, names_differ, TablesHaveOneKey}
+use Rattle.sql_eval.specs.Laws.{key_place, names_differ, TablesHaveOneKey, WholeTablesHaveOneKey}
 
 abbrev pub is_of_key : Column → Bool
 is_of_key c = c.key
@@ -114,3 +116,14 @@ tables_have_one_key t h name =
           let found = place_is (nat_lt (position_or_len (is_named name) cs) (length cs)) (position_or_len (is_named name) cs) (key_place t) e in
           same_column name cs (found.1 ∙ key) (ltb-true _ _ found.0),
     )
+
+-- ---- tables that a text creates
+
+same_names : (cs : List Column) → names_differ cs ≡ are_distinct column_name cs
+same_names [] = refl
+same_names (c ∷ cs) = ap (λ (b : Bool). not (list_any (is_named c.name) cs) && b) (same_names cs)
+
+pub whole_tables_have_one_key : WholeTablesHaveOneKey
+whole_tables_have_one_key t whole =
+    let named : names_differ t.columns ≡ true = same_names t.columns ∙ whole.distinct in
+    ap (λ (n : ℕ). (n == 1) && names_differ t.columns) whole.one_key ∙ named

@@ -2,6 +2,7 @@
 -- of its table.
 use Rattle.std.specs.Prelude.{◌≡◌, ◌==◌, ◌&&◌, not, ℕ, Bool, true, false, List, [], ◌∷◌, Some, None, IfSome, filter, length, map, position, count_by, unwrap_or}
 use Rattle.std.specs.List.{All, AllByRecursion, list_any}
+use Rattle.sql_parse.specs.Whole.{IsWholeTable}
 use Rattle.sql_eval.specs.Data.{Value, Row, Change, Column, Table, Keyed, Stmt, Done}
 use Rattle.sql_eval.specs.Data.meants
 use Rattle.sql_eval.specs.Words.{first_some, same_text}
@@ -30,6 +31,10 @@ has_one_key t = (count_by (λ c. c.key) t.columns == 1) && names_differ t.column
 -- such a table has one key
 abbrev pub TablesHaveOneKey : Type 0
 TablesHaveOneKey = (t : Table) → has_one_key t ≡ true → HasOneKey t
+
+-- each table that a text creates is of that kind
+abbrev pub WholeTablesHaveOneKey : Type 0
+WholeTablesHaveOneKey = (t : Table) → IsWholeTable t → has_one_key t ≡ true
 
 -- each row has its key in the key column
 abbrev pub AreKeyed : Table → List Keyed → Type 0

@@ -3,12 +3,17 @@
 //! Those of statements that fix a key let a node look at the one row of the key in place of all rows of the table. Those of
 //! the changes that a statement makes let it keep them without a look at them: each is one of the statement's table, and
 //! leaves rows of that table.
-ghost use Rattle.sql_eval.specs.Laws.{ChangesAreOfTable, ChangesAreOfWritten, CountIsLength, FoundAtKey, MeantAtKey, RowsAreKeyed, RowsStay, StaysKeyed, TablesHaveOneKey, WrittenAtKey};
+ghost use Rattle.sql_eval.specs.Laws.{ChangesAreOfTable, ChangesAreOfWritten, CountIsLength, FoundAtKey, MeantAtKey, RowsAreKeyed, RowsStay, StaysKeyed, TablesHaveOneKey, WholeTablesHaveOneKey, WrittenAtKey};
 
 /// In a table with one key column and columns of different names, a name is that of the key exactly where it stands at
 /// the key's place.
 pub fn tables_have_one_key()
     ensures { TablesHaveOneKey }
+{}
+
+/// Each table that a text creates has one key column and columns of different names.
+pub fn whole_tables_have_one_key()
+    ensures { WholeTablesHaveOneKey }
 {}
 
 /// A WHERE that fixes a key finds only rows at it.

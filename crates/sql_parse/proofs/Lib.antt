@@ -13,3 +13,5 @@ pub mod FormLaws
 pub mod CatalogForms
 pub mod TransactionForms
 pub mod RoundTrip
+pub mod SpellLaws
+pub mod WholeLaws

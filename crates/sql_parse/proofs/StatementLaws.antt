@@ -90,22 +90,22 @@ abbrev words_2 : List (List ℕ)
 words_2 = codes "INSERT" ∷ words_3
 
 -- and the forms from there on
-abbrev forms_8 : Grammar Stmt
+abbrev pub forms_8 : Grammar Stmt
 forms_8 = led_by (codes "ALTER") alter execute
 
-abbrev forms_7 : Grammar Stmt
+abbrev pub forms_7 : Grammar Stmt
 forms_7 = led_by (codes "ROLLBACK") rollback forms_8
 
-abbrev forms_6 : Grammar Stmt
+abbrev pub forms_6 : Grammar Stmt
 forms_6 = led_by (codes "COMMIT") commit forms_7
 
-abbrev forms_5 : Grammar Stmt
+abbrev pub forms_5 : Grammar Stmt
 forms_5 = led_by (codes "CREATE") create forms_6
 
-abbrev forms_4 : Grammar Stmt
+abbrev pub forms_4 : Grammar Stmt
 forms_4 = led_by (codes "DELETE") delete forms_5
 
-abbrev forms_3 : Grammar Stmt
+abbrev pub forms_3 : Grammar Stmt
 forms_3 = led_by (codes "UPDATE") update forms_4
 
 abbrev forms_2 : Grammar Stmt

@@ -6,3 +6,4 @@ pub mod Catalog
 pub mod Transactions
 pub mod Statement
 pub mod Printing
+pub mod Whole

@@ -19,7 +19,8 @@ use Rattle.sql_eval.specs.Refusals.{ora, dtx, else_refuse, refuse_if}
 use Rattle.sql_eval.specs.Meaning.{checked, examined, written, meant_over}
 use Rattle.row_locks.specs.Locks.{Lock, keys_held, taken}
 use Rattle.row_locks.specs.Held.{doubt_on, hold_on}
-use Rattle.row_store.specs.Own.{Own, with_changes, changes_length, undo_length, extents}
+use Rattle.row_store.specs.Tables.{TableRows}
+use Rattle.row_store.specs.Own.{Own, with_changes, view_of, changes_length, undo_length, extents}
 use Rattle.stmt_run.specs.declared.ran.Ran.{Ran}
 use Rattle.stmt_run.specs.declared.ran.Ran.TheVariants.{Refuses, Reads, Writes}
 
@@ -32,6 +33,18 @@ pub record Ground : Type 0 where
   pub bytes : ℕ
   pub undo : ℕ
   pub free : ℕ
+
+-- what a statement of a branch meets at a table: by the rows of all tables, what the branch has changed, the locks, and
+-- the extents that are free
+abbrev pub ground_by : List TableRows → Own → List Lock → BranchId → ℕ → Table → Ground
+ground_by tables own locks me free t = record {
+  me = me;
+  view = view_of tables own.changes t.name;
+  locks = locks;
+  bytes = changes_length own.changes;
+  undo = own.undo;
+  free = free;
+}
 
 -- the refusal that names a holder
 abbrev pub held_refusal : ℕ → Option BranchId → Option Refusal

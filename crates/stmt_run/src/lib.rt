@@ -6,5 +6,7 @@
 #![tactic(auto)]
 
 mod ran;
+mod run;
 
 pub use ran::Ran;
+pub use run::run;

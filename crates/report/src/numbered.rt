@@ -1,0 +1,28 @@
+//! Lines behind the number of their command.
+ghost use Rattle.std.specs.Prelude.{◌≡◌, ◌++◌, map, OnOk};
+ghost use Rattle.book.specs.Texts.{ended_line};
+ghost use Rattle.report.specs.Report.{numbered, printed};
+
+use dtx_values::Bytes;
+use std::alloc::AllocError;
+use tran_ids::put_decimal;
+
+fn put_line(out: &mut Vec<u8>, command: u32, line: &[u8]) -> Result<(), AllocError>
+    ensures { OnOk result (out.new.items ≡ out.old.items ++ ended_line (numbered command line.now)) }
+{
+    put_decimal(out, u64::from(command))?;
+    out.push(b' ')?;
+    out.extend_from_slice(line)?;
+    out.push(b'\n')?;
+    Ok(())
+}
+
+/// Adds the lines at the end, each behind the command's number.
+pub fn put_numbered(out: &mut Vec<u8>, command: u32, lines: &[Bytes]) -> Result<(), AllocError>
+    ensures { OnOk result (out.new.items ≡ out.old.items ++ printed (map (numbered command) lines.now)) }
+{
+    for line in lines {
+        put_line(out, command, line.as_slice())?;
+    }
+    Ok(())
+}

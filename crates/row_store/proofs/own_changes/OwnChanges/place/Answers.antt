@@ -1,0 +1,12 @@
+use Rattle.std.proofs.Common.{None, ap, ◌∙◌}
+use Rattle.std.specs.declared.borrow.Cow.TheVariants.{Borrowed}
+use Rattle.row_store.specs.Kept.{last_place}
+use Rattle.row_store.proofs.Places.{lookup_is}
+use Rattle.row_store.proofs.own_changes.OwnChanges.place.Goals as goal
+
+pub returns : goal.returns
+returns c =
+    c.copied.ensures ∙ c.get.ensures.value
+    ∙ lookup_is (record { table = Borrowed c.args.table; key = Borrowed c.args.key }) c.self.inside.places.entries
+    ∙ c.self.invariant.indexed c.args.table.now c.args.key.now
+    ∙ ap (λ own. last_place 0 own.changes c.args.table.now c.args.key.now None) c.self.view_is

@@ -1,0 +1,70 @@
+//! What a run prints: the report of its answers, and the book behind it.
+ghost use Rattle.std.specs.Prelude.{◌≡◌, ◌++◌, [], if◌then◌else◌, IfOk, OnOk};
+ghost use Rattle.script_run.specs.Report.{node_names as node_names_of, output_of};
+ghost use Rattle.script_run.specs.Lines.{told_by};
+ghost use Rattle.book.specs.Texts.{book_text as book_text_of};
+ghost use Rattle.report.specs.Report.{said_text, report as report_of, printed};
+
+use crate::line::{AnswerLine, Said};
+use crate::outcome::Run;
+use crate::progress::take_name;
+use book::book_text;
+use dtx_values::{Bytes, Listing, Names};
+use one_node_script::Command;
+use report::{answer_lines, notice_lines, put_numbered};
+use std::alloc::{AllocError, Global};
+
+fn lines(alloc: Global, said: &Said) -> Result<Vec<Bytes>, AllocError>
+    ensures { IfOk result (λ lines. lines.items ≡ said_text (told_by said.now)) }
+{
+    match said {
+        Said::Node(finished) => answer_lines(alloc, finished.answer()),
+        Said::World(notice) => notice_lines(alloc, notice),
+    }
+}
+
+/// The report of the answers.
+#[tactic(auto, unfolding(report::specs::Report::report))]
+fn reported(alloc: Global, answers: &[AnswerLine]) -> Result<Vec<u8>, AllocError>
+    ensures { IfOk result (λ text. text.items ≡ printed (report_of answers.now)) }
+{
+    let mut out = Vec::new(alloc);
+    for answer in answers {
+        let lines = lines(alloc, answer.said())?;
+        put_numbered(&mut out, answer.command(), &lines)?;
+    }
+    Ok(out)
+}
+
+/// The names of the nodes that these commands make.
+#[tactic(auto, using(crate::proofs::Names::names_more))]
+fn node_names(alloc: Global, commands: &[Command]) -> Result<Names, AllocError>
+    ensures { IfOk result (λ names. names ≡ node_names_of commands.now) }
+{
+    let mut names = Listing::new(alloc);
+    for command in commands {
+        take_name(alloc, &mut names, command)?;
+    }
+    Ok(names)
+}
+
+/// The book behind a report, where it is wanted.
+fn put_book(alloc: Global, out: &mut Vec<u8>, with_book: bool, run: &Run) -> Result<(), AllocError>
+    ensures { OnOk result (out.new.items ≡ out.old.items ++ (if with_book then book_text_of (node_names_of run.now.commands) run.now.book else [])) }
+{
+    if !with_book {
+        return Ok(());
+    }
+    let names = node_names(alloc, run.commands.as_slice())?;
+    let text = book_text(alloc, run.book.as_slice(), names.as_slice())?;
+    out.extend_from_slice(text.as_slice())
+}
+
+/// What a run prints: its report, and the book behind it where that is wanted.
+pub fn output(alloc: Global, with_book: bool, run: &Run) -> Result<Vec<u8>, AllocError>
+    ensures { IfOk result (λ text. text.items ≡ output_of with_book run.now) }
+{
+    let mut out = reported(alloc, run.answers.as_slice())?;
+    put_book(alloc, &mut out, with_book, run)?;
+    Ok(out)
+}

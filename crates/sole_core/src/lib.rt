@@ -1,0 +1,2 @@
+//! A node on its disk.
+#![tactic(auto)]
