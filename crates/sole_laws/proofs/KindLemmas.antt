@@ -15,7 +15,8 @@ use Rattle.stmt_run.specs.Run.{ran_over}
 use Rattle.sole_node.specs.declared.input.Input.{Input}
 use Rattle.sole_node.specs.declared.input.Input.TheVariants as inputs
 use Rattle.sole_node.specs.Statements.{is_brought, brought, table_in, name_in}
-use Rattle.sole_node.specs.Kept.{Root, Kept, table_of, is_used, root_at, begun, ended, has_changes}
+use Rattle.sole_node.specs.declared.root.Root.{Root}
+use Rattle.sole_node.specs.Kept.{Kept, table_of, is_used, root_at, begun, ended, has_changes}
 use Rattle.sole_node.specs.Turn.{Outcome, answering, writing, create_turn, ground_of, ran_turn, run_turn, statement_turn, decided_by, commits, commit_turn, rollback_turn, call_turn, read_turn, turn_of, invalid}
 use Rattle.sole_node.specs.Ready.{IsWhole}
 

@@ -4,7 +4,9 @@ use Rattle.std.specs.List.{AllByRecursion}
 use Rattle.tran_ids.specs.declared.branch.BranchId.{BranchId}
 use Rattle.redo_codec.specs.declared.record.RedoRecord.{RedoRecord}
 use Rattle.redo_codec.specs.declared.record.RedoRecord.TheVariants as records
-use Rattle.sole_node.specs.Kept.{Root, Session, Kept, fresh_session, session_at, with_new_root, next_root, begun_by, begun, ended}
+use Rattle.sole_node.specs.declared.root.Root.{Root}
+use Rattle.sole_node.specs.declared.root.Session.{Session}
+use Rattle.sole_node.specs.Kept.{Kept, fresh_session, session_at, with_new_root, next_root, begun_by, begun, ended}
 use Rattle.sole_node.specs.Turn.{Outcome, after_record, decided_by}
 use Rattle.sole_laws.proofs.ListLemmas.{all-weaker, all-set, all-get}
 use Rattle.sole_laws.proofs.KindLemmas.{OfEach}

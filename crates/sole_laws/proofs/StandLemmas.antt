@@ -15,7 +15,8 @@ use Rattle.book.specs.declared.entry.Entry.TheVariants.{Made, Decided}
 use Rattle.book.specs.Entries.{entries_of}
 use Rattle.stmt_run.specs.declared.ran.Ran.{Ran}
 use Rattle.stmt_run.specs.Run.{ran_over, locks_after, own_after}
-use Rattle.sole_node.specs.Kept.{the_node, Root, Kept, fresh, table_of, is_used, root_at, begun, ended}
+use Rattle.sole_node.specs.declared.root.Root.{Root}
+use Rattle.sole_node.specs.Kept.{the_node, Kept, fresh, table_of, is_used, root_at, begun, ended}
 use Rattle.sole_node.specs.Turn.{Outcome, after_record, after_records, start_of, first_records, answering, ground_of, after_run, ran_turn, decided_by, writing}
 use Rattle.sole_node.specs.Ready.{IsWhole, IsChangeAt, IsRootAt, MayFollow, AreSound}
 use Rattle.sole_node.proofs.RecordLemmas.{after_records-push}

@@ -1,5 +1,5 @@
 //! The trace of a run, which takes only what may happen, and its book.
-ghost use Rattle.std.specs.Prelude.{◌≡◌, ◌∷◌, ◌++◌, [], IfOk, OnOk, OnErr};
+ghost use Rattle.std.specs.Prelude.{◌≡◌, ◌<◌, ◌∷◌, ◌++◌, [], IfOk, OnOk, OnErr, vec_len, vec_capacity};
 ghost use Rattle.sole_node.specs.Book.{entries_in, book_of};
 ghost use Rattle.sole_laws.specs.Past.{start, past, past_of, next};
 ghost use Rattle.sole_laws.specs.Lawful.{MayHappen, IsLawful, IsLawfulRun};
@@ -55,6 +55,34 @@ fn entered(alloc: Global, happening: &Happening) -> Result<Vec<Entry>, AllocErro
     }
 }
 
+/// Makes room for one happening more, and adds its entries to the book, or does nothing.
+fn make_room(
+    alloc: Global,
+    happenings: &mut Vec<Happening>,
+    book: &mut Vec<Entry>,
+    happening: &Happening,
+) -> Result<(), AllocError>
+    ensures kept { happenings.new.items ≡ happenings.old.items }
+    ensures room { OnOk result (vec_len happenings.new < vec_capacity happenings.new) }
+    ensures entered { OnOk result (book.new.items ≡ book.old.items ++ entries_in happening.now) }
+    ensures err { OnErr result (book.new.items ≡ book.old.items) }
+{
+    let mut entries = entered(alloc, happening)?;
+    happenings.try_reserve(1)?;
+    book.append(&mut entries)
+}
+
+/// Adds one happening more, for which there is room.
+fn add(happenings: &mut Vec<Happening>, happening: Happening)
+    requires { vec_len happenings.old < vec_capacity happenings.old }
+    ensures { happenings.new.items ≡ happenings.old.items ++ happening ∷ [] }
+{
+    match happenings.push(happening) {
+        Ok(()) => {}
+        Err(_) => unreachable!(),
+    }
+}
+
 impl Trace {
     /// The trace of a run in which nothing has happened.
     #[tactic(auto, using(crate::proofs::PastLemmas::recorded_steps))]
@@ -90,13 +118,9 @@ impl Trace {
         ensures past { OnOk result (past_of self.new ≡ next (past_of self.old) happening) }
         ensures err { OnErr result (self.new ≡ self.old) }
     {
-        let mut entries = entered(alloc, &happening)?;
-        self.happenings.try_reserve(1)?;
-        self.book.append(&mut entries)?;
-        match self.happenings.push(happening) {
-            Ok(()) => Ok(()),
-            Err(_) => unreachable!(),
-        }
+        make_room(alloc, &mut self.happenings, &mut self.book, &happening)?;
+        add(&mut self.happenings, happening);
+        Ok(())
     }
 
     /// The trace as plain lists.
