@@ -1,7 +1,6 @@
 -- Books of a node that is the only one: what each entry needs of those before it, and SCNs that rise.
-use Rattle.std.proofs.Common.{◌≡◌, ℕ, zero, suc, ◌+◌, ◌<◌, ◌≤◌, max, Bool, true, false, List, [], ◌∷◌, ◌++◌, Option, Some, None, refl, ap, subst, ◌∙◌, append_assoc, sym, arith}
-use Rattle.std.proofs.lemmas.Bool.Decides.{nat_tests}
-use Rattle.std.specs.Prelude.{◌==◌, ◌||◌}
+use Rattle.std.proofs.Common.{◌≡◌, ℕ, zero, suc, ◌<◌, max, Bool, true, false, List, [], ◌∷◌, ◌++◌, Option, Some, None, refl, ap, subst, ◌∙◌, append_assoc, sym, arith}
+use Rattle.std.specs.Prelude.{◌||◌}
 use Rattle.std.specs.List.{list_any, slice_get, AllByRecursion}
 use Rattle.std.proofs.lemmas.List.{append-nil}
 use Rattle.dtx_values.specs.declared.row.Change.{Change}
@@ -113,11 +112,11 @@ none_decides (Met c d mixed ∷ book) b others = none_decides book b others.1
 -- the decision of another transaction agrees with such a book
 pub decision_follows : (book : List Entry) (b : BranchId) (cs : List Change) (n : ℕ) → ArePlain book → DecideOnly (IsOther b) book → Follows book (Decided b b cs n)
 decision_follows book b cs n plain others = (
-    none_decides book b others,
-    none_stands (is_rollback_of book b) (no_rollback book b) book plain,
-    none_stands (is_sealed_of b) (no_seal b) book plain,
-    none_stands (is_end_of b) (no_end b) book plain,
-  )
+  none_decides book b others,
+  none_stands (is_rollback_of book b) (no_rollback book b) book plain,
+  none_stands (is_sealed_of b) (no_seal b) book plain,
+  none_stands (is_end_of b) (no_end b) book plain,
+)
 
 -- ---- SCNs rise
 

@@ -1,5 +1,5 @@
 -- A table that a text creates is whole.
-use Rattle.std.proofs.Common.{◌≡◌, ℕ, List, Option, Some, None, refl, sym, ◌∙◌}
+use Rattle.std.proofs.Common.{◌≡◌, ℕ, List, Option, Some, None, refl}
 use Rattle.std.specs.Prelude.{IfSome}
 use Rattle.dtx_values.specs.declared.table.Table.{Table}
 use Rattle.sql_parse.specs.Statement.{statement_of}

@@ -1,6 +1,6 @@
 -- What holds of a lawful run so far: how it stands, and what is due.
-use Rattle.std.proofs.Common.{◌≡◌, ℕ, ◌+◌, ◌*◌, ◌≤◌, ◌<◌, ◌&&◌, Bool, true, false, cond, List, [], ◌∷◌, ◌++◌, replicate, Option, None, Some, refl, sym, ap, subst, ◌∙◌, arith}
-use Rattle.std.specs.Prelude.{IfSome, is_some, option_map, option_to_list}
+use Rattle.std.proofs.Common.{◌≡◌, ℕ, ◌+◌, ◌*◌, ◌≤◌, ◌&&◌, Bool, true, false, cond, List, [], ◌∷◌, ◌++◌, replicate, Option, None, Some, refl, sym, ap, subst, arith}
+use Rattle.std.specs.Prelude.{IfSome, option_map, option_to_list}
 use Rattle.std.specs.List.{AllByRecursion}
 use Rattle.dtx_values.specs.declared.answer.Answer.{Answer}
 use Rattle.redo_codec.specs.declared.record.RedoRecord.{RedoRecord}
@@ -18,7 +18,7 @@ use Rattle.sole_node.specs.declared.happening.Happening.TheVariants.{Begun, Turn
 use Rattle.sole_node.specs.Statements.{is_create}
 use Rattle.sole_node.specs.Kept.{the_node, Kept, fresh_session}
 use Rattle.sole_node.specs.Turn.{Outcome, turn_of, start_of, first_records}
-use Rattle.sole_laws.specs.Past.{Past, Due, Begins, Serves, Stops, Starts, start, is_open, commit_call, call_due, due_by, begun, is_committed, following, behind, told_or_goes_on, turned, turned_at, stopped, started, next, past}
+use Rattle.sole_laws.specs.Past.{Past, Due, Begins, Serves, Stops, Starts, start, is_open, commit_call, due_by, begun, is_committed, following, behind, told_or_goes_on, turned_at, stopped, started, next, past}
 use Rattle.sole_laws.specs.Lawful.{served_by, MayBegin, MayTurn, MayHappen, IsLawful}
 use Rattle.sole_laws.proofs.KindLemmas.{MakesWhole, CallsWhole, turn_is}
 use Rattle.sole_laws.proofs.CreatedLemmas.{text_is_whole}

@@ -1,9 +1,8 @@
 -- What a turn can be: it only answers, or begins a transaction, or a statement runs at a table, or a transaction ends,
 -- decides, or a table is made.
-use Rattle.std.proofs.Common.{◌≡◌, ℕ, Bool, true, false, cond, List, Option, Some, None, refl, sym, ap, subst, ◌∙◌}
+use Rattle.std.proofs.Common.{◌≡◌, ℕ, Bool, true, false, cond, List, Option, Some, None, refl}
 use Rattle.std.specs.Prelude.{is_none, IfSome}
 use Rattle.dtx_values.specs.declared.table.Table.{Table}
-use Rattle.dtx_values.specs.declared.answer.Done.{Done}
 use Rattle.dtx_values.specs.declared.answer.Done.TheVariants.{Committed, RolledBack, TableMade}
 use Rattle.dtx_values.specs.declared.answer.Answer.{Answer}
 use Rattle.dtx_values.specs.declared.answer.Answer.TheVariants as answers
@@ -14,7 +13,7 @@ use Rattle.sql_eval.specs.Refusals.{ora}
 use Rattle.stmt_run.specs.Run.{ran_over}
 use Rattle.sole_node.specs.declared.input.Input.{Input}
 use Rattle.sole_node.specs.declared.input.Input.TheVariants as inputs
-use Rattle.sole_node.specs.Statements.{is_brought, brought, table_in, name_in}
+use Rattle.sole_node.specs.Statements.{is_brought, table_in, name_in}
 use Rattle.sole_node.specs.declared.root.Root.{Root}
 use Rattle.sole_node.specs.Kept.{Kept, table_of, is_used, root_at, begun, ended, has_changes}
 use Rattle.sole_node.specs.Turn.{Outcome, answering, writing, create_turn, ground_of, ran_turn, run_turn, statement_turn, decided_by, commits, commit_turn, rollback_turn, call_turn, read_turn, turn_of, invalid}
@@ -40,7 +39,6 @@ abbrev pub CallsWhole : Input → Type 0
 CallsWhole (inputs.Call session statement) = IfSome statement MakesWhole
 
 module _ (P : Outcome → Type 0) (undo : ℕ) (k : Kept) (n : ℕ) (each : OfEach P undo k n) where
-
   at_table : (x : Root) (s : Stmt) (name : List ℕ) (o : Option Table) → root_at (begun k n) n ≡ Some x → table_of (begun k n) name ≡ o → P (run_turn undo (begun k n) x s o)
   at_table x s name None at is = each.begins (answers.Refused (ora 942 (Rattle.std.specs.Prelude.[])))
   at_table x s name (Some t) at is = each.runs x s name t at is

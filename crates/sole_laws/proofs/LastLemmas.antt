@@ -1,5 +1,5 @@
 -- What the records of a node and its book say together: the book leaves the rows of its tables, and agrees.
-use Rattle.std.proofs.Common.{◌≡◌, ℕ, ◌+◌, ◌<◌, ◌≤◌, ◌||◌, max, Bool, true, false, cond, List, [], ◌∷◌, ◌++◌, find, map, Option, Some, None, refl, sym, ap, subst, ◌∙◌, arith}
+use Rattle.std.proofs.Common.{◌≡◌, ℕ, ◌+◌, ◌≤◌, ◌||◌, max, Bool, true, false, cond, List, [], ◌∷◌, ◌++◌, find, Some, None, refl, sym, ap, subst, ◌∙◌, arith}
 use Rattle.std.specs.List.{AllByRecursion, list_any}
 use Rattle.std.specs.Str.{bytes_eq}
 use Rattle.std.specs.Cmp.Lexicographic.{bytes_decides}
@@ -17,7 +17,7 @@ use Rattle.row_store.specs.Tables.{TableRows, apply_all, with_table, rows_of_tab
 use Rattle.book.specs.declared.entry.Entry.{Entry}
 use Rattle.book.specs.declared.entry.Entry.TheVariants.{Made, Decided}
 use Rattle.run_laws.specs.Book.{Follows, Marks, EachAgainst, Agreement, MixedIsMarked, rows_of}
-use Rattle.sole_node.specs.Kept.{the_node, Kept, table_of}
+use Rattle.sole_node.specs.Kept.{the_node, Kept}
 use Rattle.sole_node.specs.Ready.{IsWhole, IsChangeAt}
 use Rattle.sole_laws.specs.Past.{rows_in}
 use Rattle.sole_laws.proofs.ListLemmas.{all-push, all-weaker, all-both, all-found, any_found, found_passes, found_in_more, found_behind}
@@ -67,9 +67,9 @@ pub changes_fit : (k : Kept) (t : Table) (cs : List Change) → IsFound k.tables
 changes_fit k t cs found at =
     all-weaker (IsChangeAt k) (λ (c : Change). same_text c.table t.name ≡ true → IsChangeOf t c)
     (λ c is e.
-      let name : c.table ≡ t.name = (bytes_decides c.table t.name).0 e in
-      let one : Some is.0 ≡ Some t = sym is.1 ∙ (ap (λ (n : List ℕ). find (is_named n) k.tables) name ∙ found) in
-      subst (λ (u : Table). IsChangeOf u c) (same_table is.0 t one) is.2)
+    let name : c.table ≡ t.name = (bytes_decides c.table t.name).0 e in
+    let one : Some is.0 ≡ Some t = sym is.1 ∙ (ap (λ (n : List ℕ). find (is_named n) k.tables) name ∙ found) in
+    subst (λ (u : Table). IsChangeOf u c) (same_table is.0 t one) is.2)
     cs at
 
 -- changes of a node's tables are of none that it has not
@@ -77,8 +77,8 @@ other_table : (k : Kept) (name : List ℕ) (c : Change) → list_any (is_named n
 other_table k name c none at =
     elim (bytes_eq c.table name) as (λ b. bytes_eq c.table name ≡ b → b ≡ false) [
       | true ↦ λ e.
-        let some : list_any (is_named name) k.tables ≡ true = ap (λ (n : List ℕ). list_any (is_named n) k.tables) (sym ((bytes_decides c.table name).0 e)) ∙ any_found (is_named c.table) k.tables at.0 at.1 in
-        sym (sym none ∙ some)
+          let some : list_any (is_named name) k.tables ≡ true = ap (λ (n : List ℕ). list_any (is_named n) k.tables) (sym ((bytes_decides c.table name).0 e)) ∙ any_found (is_named c.table) k.tables at.0 at.1 in
+          sym (sym none ∙ some)
       | false ↦ λ e. refl
     ] refl
 
@@ -86,7 +86,7 @@ other_table k name c none at =
 pub rows_at : (s : Kept) (book : List Entry) (t : Table) → Lasts s book → IsFound s.tables t → AreRowsOf t (rows_of_table s.rows t.name)
 rows_at s book t lasts found =
     let is : rows_of_table s.rows t.name ≡ rows_of book the_node t.name =
-      ap (λ (rs : List TableRows). rows_of_table rs t.name) lasts.rows ∙ rows_in-table book t.name s.tables (any_found (is_named t.name) s.tables t found) in
+    ap (λ (rs : List TableRows). rows_of_table rs t.name) lasts.rows ∙ rows_in-table book t.name s.tables (any_found (is_named t.name) s.tables t found) in
     subst (AreRowsOf t) (sym is) (all-found (IsTableAt book) (is_named t.name) s.tables t lasts.tables found).rows
 
 -- with changes of the node's tables
@@ -127,11 +127,11 @@ Lasts-made s book t lasts whole unused =
     let none : rows_of more the_node t.name ≡ [] = same t.name ∙ lasts.unused t.name unused in
     record {
       tables = all-push (IsTableAt more) s.tables t
-        (all-weaker (IsTableAt book) (IsTableAt more) (λ u at. record { whole = at.whole; rows = subst (AreRowsOf u) (sym (same u.name)) at.rows }) s.tables lasts.tables)
-        (record { whole = whole; rows = subst (AreRowsOf t) (sym none) tt });
+          (all-weaker (IsTableAt book) (IsTableAt more) (λ u at. record { whole = at.whole; rows = subst (AreRowsOf u) (sym (same u.name)) at.rows }) s.tables lasts.tables)
+          (record { whole = whole; rows = subst (AreRowsOf t) (sym none) tt });
       found = all-push (IsFound ts) s.tables t
-        (all-weaker (IsFound s.tables) (IsFound ts) (λ u found. found_in_more (is_named u.name) s.tables (t ∷ []) u found) s.tables lasts.found)
-        (found_behind (is_named t.name) s.tables (t ∷ []) unused ∙ ap (λ (b : Bool). cond b (Some t) None) ((bytes_decides t.name t.name).1 refl));
+          (all-weaker (IsFound s.tables) (IsFound ts) (λ u found. found_in_more (is_named u.name) s.tables (t ∷ []) u found) s.tables lasts.found)
+          (found_behind (is_named t.name) s.tables (t ∷ []) unused ∙ ap (λ (b : Bool). cond b (Some t) None) ((bytes_decides t.name t.name).1 refl));
       rows = new_rows more t s.rows s.tables (lasts.rows ∙ sym (rows_in-same book more s.tables same)) none;
       unused = λ name absent. same name ∙ lasts.unused name (none_before (is_named name) s.tables (t ∷ []) absent);
       plain = plain;
@@ -153,17 +153,17 @@ Lasts-decided s book b cs lasts at here low others =
     let applied : (name : List ℕ) → rows_of more the_node name ≡ apply name (rows_of book the_node name) cs = λ name. rows_of-decided book b cs (s.scn + 1) name lasts.plain plain others here in
     record {
       tables = all-both (IsTableAt book) (IsFound s.tables) (IsTableAt more)
-        (λ u at_book found. record {
-          whole = at_book.whole;
-          rows = subst (AreRowsOf u) (sym (applied u.name)) (rows_stay u (rows_of book the_node u.name) cs at_book.rows
-            (All-from_recursion (λ (c : Change). same_text c.table u.name ≡ true → IsChangeOf u c) cs (changes_fit s u cs found at)));
-        })
-        s.tables lasts.tables lasts.found;
+          (λ u at_book found. record {
+            whole = at_book.whole;
+            rows = subst (AreRowsOf u) (sym (applied u.name)) (rows_stay u (rows_of book the_node u.name) cs at_book.rows
+                (All-from_recursion (λ (c : Change). same_text c.table u.name ≡ true → IsChangeOf u c) cs (changes_fit s u cs found at)));
+          })
+          s.tables lasts.tables lasts.found;
       found = lasts.found;
       rows = ap (λ (rs : List TableRows). apply_all rs cs) lasts.rows ∙ rows_in-applied book more cs s.tables applied;
       unused = λ name absent.
-        applied name ∙ (ap (λ (rows : List Keyed). apply name rows cs) (lasts.unused name absent)
-        ∙ apply-others name cs (all-weaker (IsChangeAt s) (λ (c : Change). same_text c.table name ≡ false) (λ c is. other_table s name c absent is) cs at));
+          applied name ∙ (ap (λ (rows : List Keyed). apply name rows cs) (lasts.unused name absent)
+          ∙ apply-others name cs (all-weaker (IsChangeAt s) (λ (c : Change). same_text c.table name ≡ false) (λ c is. other_table s name c absent is) cs at));
       plain = plain;
       earlier = all-push (DecidesOnly (λ g. g.boot ≤ s.boot)) book e lasts.earlier low;
       scn = ap (λ n. max n (s.scn + 1)) lasts.scn ∙ sym (scn_of-push book e);

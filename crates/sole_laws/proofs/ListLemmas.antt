@@ -4,7 +4,6 @@ use Rattle.std.specs.Prelude.{is_some}
 use Rattle.std.specs.List.{AllByRecursion, list_any, position_or_len}
 
 module _ {A : Type 0} (P : A → Type 0) where
-
   pub all-append : (xs ys : List A) → AllByRecursion P xs → AllByRecursion P ys → AllByRecursion P (xs ++ ys)
   all-append [] ys first second = second
   all-append (x ∷ xs) ys first second = (first.0, all-append xs ys first.1 second)
@@ -56,7 +55,6 @@ module _ {A : Type 0} (P : A → Type 0) where
   all-found p (y ∷ ys) x all found = found_or p y x ys (p y) found all.0 (all-found p ys x all.1)
 
 module _ {A : Type 0} (p : A → Bool) where
-
   found_here : (y x : A) (ys : List A) (b : Bool) → p y ≡ b → cond b (Some y) (find p ys) ≡ Some x → (find p ys ≡ Some x → p x ≡ true) → p x ≡ true
   found_here y x ys true is found later = subst (λ z. p z ≡ true) (let same : Some y ≡ Some x = found in cc) is
   found_here y x ys false is found later = later found

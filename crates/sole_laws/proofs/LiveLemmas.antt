@@ -14,7 +14,6 @@ use Rattle.tran_ids.specs.Branch.{same}
 use Rattle.tran_ids.proofs.BranchLemmas.{equal_from_same, same_from_equal}
 use Rattle.row_locks.specs.Locks.{Lock}
 use Rattle.row_store.specs.Tables.{TableRows}
-use Rattle.row_store.specs.Own.{nothing_changed}
 use Rattle.book.specs.declared.entry.Entry.{Entry}
 use Rattle.book.specs.declared.entry.Entry.TheVariants.{Made, Decided}
 use Rattle.sole_node.specs.declared.root.Root.{Root}
@@ -92,23 +91,23 @@ new_owned k n book lives m c is =
     let after = with_new_root k n b in
     elim (changed k n m new) [
       | inl here ↦
-        let e : b ≡ c = same_some b c (sym (ap (λ (s : Session). s.root) here.1) ∙ is) in
-        subst (Owns after m) e (record {
-          among = some_last (is_of b) k.roots (fresh_root b) (same_from_equal b b refl);
-          slot = sym here.0;
-          here = refl;
-          now = refl;
-          newest = sym (ap (λ (s : Session). s.seq) here.1);
-        })
+          let e : b ≡ c = same_some b c (sym (ap (λ (s : Session). s.root) here.1) ∙ is) in
+          subst (Owns after m) e (record {
+            among = some_last (is_of b) k.roots (fresh_root b) (same_from_equal b b refl);
+            slot = sym here.0;
+            here = refl;
+            now = refl;
+            newest = sym (ap (λ (s : Session). s.seq) here.1);
+          })
       | inr other ↦
-        let old = lives.owned m c (sym (ap (λ (s : Session). s.root) other.0) ∙ is) in
-        record {
-          among = some_in_more (is_of c) k.roots (fresh_root b ∷ []) old.among;
-          slot = old.slot;
-          here = old.here;
-          now = old.now;
-          newest = old.newest ∙ sym (ap (λ (s : Session). s.seq) other.0);
-        }
+          let old = lives.owned m c (sym (ap (λ (s : Session). s.root) other.0) ∙ is) in
+          record {
+            among = some_in_more (is_of c) k.roots (fresh_root b ∷ []) old.among;
+            slot = old.slot;
+            here = old.here;
+            now = old.now;
+            newest = old.newest ∙ sym (ap (λ (s : Session). s.seq) other.0);
+          }
     ]
 
 -- a session that changes so keeps its ended transactions past
@@ -116,8 +115,8 @@ past_kept : (k : Kept) (n : ℕ) (s : Session) (g : BranchId) → ((seq : ℕ) �
 past_kept k n s g step past now =
     elim (changed k n g.session s) [
       | inl here ↦
-        subst (λ (x : Session). g.seq + opened x.root ≤ x.seq) (sym here.1)
-        (step g.seq (subst (λ (x : Session). g.seq + opened x.root ≤ x.seq) (one_session k g.session n here.0) (past now)))
+          subst (λ (x : Session). g.seq + opened x.root ≤ x.seq) (sym here.1)
+          (step g.seq (subst (λ (x : Session). g.seq + opened x.root ≤ x.seq) (one_session k g.session n here.0) (past now)))
       | inr other ↦ subst (λ (x : Session). g.seq + opened x.root ≤ x.seq) (sym other.0) (past now)
     ]
 
@@ -170,15 +169,15 @@ ended_owned k n book x lives at m c is =
     elim (changed k n m none) [
       | inl here ↦ let clash : None ≡ Some c = sym (ap (λ (s : Session). s.root) here.1) ∙ is in absurd cc
       | inr other ↦
-        let old = lives.owned m c (sym (ap (λ (s : Session). s.root) other.0) ∙ is) in
-        let apart : c ≡ x.me → ⊥ = λ e. within k n x.me at.root (other.1 (sym old.slot ∙ (ap (λ (b : BranchId). b.session - 1) e ∙ at.owns.slot))) in
-        record {
-          among = some_filtered (is_of c) (λ y. not (is_of x.me y)) k.roots (λ y passes. other_stays x.me c y apart passes) old.among;
-          slot = old.slot;
-          here = old.here;
-          now = old.now;
-          newest = old.newest ∙ sym (ap (λ (s : Session). s.seq) other.0);
-        }
+          let old = lives.owned m c (sym (ap (λ (s : Session). s.root) other.0) ∙ is) in
+          let apart : c ≡ x.me → ⊥ = λ e. within k n x.me at.root (other.1 (sym old.slot ∙ (ap (λ (b : BranchId). b.session - 1) e ∙ at.owns.slot))) in
+          record {
+            among = some_filtered (is_of c) (λ y. not (is_of x.me y)) k.roots (λ y passes. other_stays x.me c y apart passes) old.among;
+            slot = old.slot;
+            here = old.here;
+            now = old.now;
+            newest = old.newest ∙ sym (ap (λ (s : Session). s.seq) other.0);
+          }
     ]
 
 pub Lives-ended : (k : Kept) (n : ℕ) (book : List Entry) (x : Root) → Lives k book → IsOpenAt k n x → Lives (ended k n x.me) book

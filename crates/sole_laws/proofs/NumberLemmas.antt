@@ -1,13 +1,9 @@
 -- The numbers that a node has given out are at most so many, and each turn adds at most one.
-use Rattle.std.proofs.Common.{◌≡◌, ℕ, ◌+◌, ◌-◌, ◌≤◌, max, List, [], ◌∷◌, replicate, slice_set, Option, Some, None, refl, sym, ap, subst, ◌∙◌, arith}
+use Rattle.std.proofs.Common.{ℕ, ◌+◌, ◌-◌, ◌≤◌, List, Option, Some, None, arith}
 use Rattle.std.specs.List.{AllByRecursion}
 use Rattle.tran_ids.specs.declared.branch.BranchId.{BranchId}
-use Rattle.redo_codec.specs.declared.record.RedoRecord.{RedoRecord}
-use Rattle.redo_codec.specs.declared.record.RedoRecord.TheVariants as records
-use Rattle.sole_node.specs.declared.root.Root.{Root}
 use Rattle.sole_node.specs.declared.root.Session.{Session}
-use Rattle.sole_node.specs.Kept.{Kept, fresh_session, session_at, with_new_root, next_root, begun_by, begun, ended}
-use Rattle.sole_node.specs.Turn.{Outcome, after_record, decided_by}
+use Rattle.sole_node.specs.Kept.{Kept, fresh_session, session_at, next_root, begun_by, begun, ended}
 use Rattle.sole_laws.proofs.ListLemmas.{all-weaker, all-set, all-get}
 use Rattle.sole_laws.proofs.KindLemmas.{OfEach}
 
@@ -61,8 +57,8 @@ low_after limit undo k n low =
       runs = λ x s name t at there. record { seqs = begins.seqs; scn = begins.scn; boot = begins.boot };
       ends = λ x a at. more_low limit (ended k n x.me) (ended_low limit k n x.me low);
       decides = λ x at.
-        let scn : k.scn ≤ limit = low.scn in
-        let boot : k.boot ≤ limit + 1 = low.boot in
-        record { seqs = more_seqs limit (ended k n x.me).sessions (ended_low limit k n x.me low).seqs; scn = omega (arith, scn); boot = omega (arith, boot) };
+          let scn : k.scn ≤ limit = low.scn in
+          let boot : k.boot ≤ limit + 1 = low.boot in
+          record { seqs = more_seqs limit (ended k n x.me).sessions (ended_low limit k n x.me low).seqs; scn = omega (arith, scn); boot = omega (arith, boot) };
       makes = λ t whole unused. let more = more_low limit k low in record { seqs = more.seqs; scn = more.scn; boot = more.boot };
     }

@@ -1,5 +1,5 @@
 -- What a statement has changed once it ran is of its table.
-use Rattle.std.proofs.Common.{◌≡◌, ℕ, Bool, true, List, Option, None, Some, refl, sym, ◌∙◌}
+use Rattle.std.proofs.Common.{◌≡◌, ℕ, true, List, Option, None, Some, refl}
 use Rattle.std.specs.List.{AllByRecursion}
 use Rattle.std.proofs.lemmas.List.Elements.{recursion_from_All}
 use Rattle.dtx_values.specs.declared.value.Value.{Value}
@@ -20,7 +20,6 @@ use Rattle.stmt_run.specs.Run.{Ground, in_doubt_refusal, locked_refusal, space_r
 use Rattle.sole_laws.proofs.ListLemmas.{all-append, all-weaker}
 
 module _ (P : Change → Type 0) (own : Own) (g : Ground) (s : Stmt) (t : Table) (had : AllByRecursion P own.changes) where
-
   within : (o : Option Refusal) (d : Done) (cs : List Change) (keys : List Value) → AllByRecursion P cs → AllByRecursion P (own_after own (ran_within g o d cs keys)).changes
   within (Some r) d cs keys new = had
   within None d cs keys new = all-append P own.changes cs had new

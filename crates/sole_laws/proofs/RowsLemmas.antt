@@ -13,7 +13,7 @@ use Rattle.tran_ids.proofs.BranchLemmas.{same_from_equal}
 use Rattle.sql_eval.specs.declared.keyed.Keyed.{Keyed}
 use Rattle.sql_eval.specs.Words.{same_text}
 use Rattle.sql_eval.specs.Rows.{change_one, apply}
-use Rattle.row_store.specs.Tables.{TableRows, apply_to, apply_all, rows_of_table}
+use Rattle.row_store.specs.Tables.{TableRows, apply_all, rows_of_table}
 use Rattle.book.specs.declared.entry.Entry.{Entry}
 use Rattle.book.specs.declared.entry.Entry.TheVariants.{Made, Sealed, Decided, Ended, Forced, Met}
 use Rattle.run_laws.specs.Book.{is_forced_of, unforced_at, transaction_in, transaction_at, commits_at, rows_of}
@@ -89,8 +89,8 @@ rows_more : (book : List Entry) (e : Entry) (n : ℕ) (table : List ℕ) (cs : L
 unfolding rows_of
 rows_more book e n table cs first second without commits =
     ap (apply table []) (flat_map-append (commits_at (book ++ e ∷ []) n) book (e ∷ [])
-      ∙ (λ i. all_commit_more book e n book first second first without i ++ (commits i ++ []))
-      ∙ ap (λ (ds : List Change). flat_map (commits_at book n) book ++ ds) (append-nil cs))
+    ∙ (λ i. all_commit_more book e n book first second first without i ++ (commits i ++ []))
+    ∙ ap (λ (ds : List Change). flat_map (commits_at book n) book ++ ds) (append-nil cs))
     ∙ apply-append table [] (flat_map (commits_at book n) book) cs
 
 -- ---- a table that is made
@@ -139,10 +139,10 @@ rows_of-decided book b cs scn table first second others at =
     let e = Decided b b cs scn in
     let all = book ++ e ∷ [] in
     rows_more book e the_node table cs first second
-      (Rattle.sole_laws.proofs.BookLemmas.DecideOnly-more (IsOther b) (λ g. IsWithout all the_node g e) (λ g other. not_here all the_node b g cs scn second other) book others)
-      (flat_map-append (transaction_in all the_node b) book (e ∷ [])
-      ∙ (λ i. others_without all the_node b book second first others i ++ (own_changes all b cs scn second at i ++ []))
-      ∙ append-nil cs)
+    (Rattle.sole_laws.proofs.BookLemmas.DecideOnly-more (IsOther b) (λ g. IsWithout all the_node g e) (λ g other. not_here all the_node b g cs scn second other) book others)
+    (flat_map-append (transaction_in all the_node b) book (e ∷ [])
+    ∙ (λ i. others_without all the_node b book second first others i ++ (own_changes all b cs scn second at i ++ []))
+    ∙ append-nil cs)
 
 -- ---- the rows of tables
 

@@ -14,7 +14,6 @@ use Rattle.book.specs.declared.entry.Entry.{Entry}
 use Rattle.book.specs.declared.line.Said.{Said}
 use Rattle.book.specs.declared.line.Said.TheVariants as said
 use Rattle.book.specs.declared.line.AnswerLine.{AnswerLine}
-use Rattle.book.specs.Entries.{entries_of}
 use Rattle.run_laws.specs.Book.{Agreement, MixedIsMarked, ScnLaw}
 use Rattle.sole_script.specs.declared.command.Command.{Command}
 use Rattle.sole_script.specs.declared.command.Command.TheVariants as commands
@@ -31,7 +30,7 @@ use Rattle.sole_node.specs.Ready.{HasRows, IsSane, HasNumbers, IsReady}
 use Rattle.sole_laws.specs.Past.{Past, Due, Begins, Serves, Stops, Starts, start, line, lines_of, fine, said_at_once, is_open, call_due, commit_call, due_by, begun, following, behind, told_or_goes_on, turned_at, next, past, History, past_of, rows_in, by_book, over_book, past_by_book}
 use Rattle.sole_laws.specs.Lawful.{served_by, MayBegin, MayHappen, IsLawful, IsLawfulRun}
 use Rattle.sole_laws.specs.Told.{Owes, WritesOwed, AnswersEach}
-use Rattle.sole_laws.specs.Laws.{IsAsTold, LawfulRunsAreAsTold, EachBegunIsAnswered, IsInOrder, NodesAreInOrder}
+use Rattle.sole_laws.specs.Laws.{LawfulRunsAreAsTold, EachBegunIsAnswered, NodesAreInOrder}
 use Rattle.sole_laws.proofs.PastLemmas.{next-book}
 use Rattle.sole_laws.proofs.ListLemmas.{all-append, all-weaker, all-both}
 use Rattle.sole_laws.proofs.BookLemmas.{rising_scns}
@@ -40,7 +39,7 @@ use Rattle.sole_laws.proofs.LiveLemmas.{rest_of, Lives}
 use Rattle.sole_laws.proofs.LastLemmas.{IsTableAt, IsFound, Lasts, rows_at}
 use Rattle.sole_laws.proofs.StandLemmas.{Stands}
 use Rattle.sole_laws.proofs.NumberLemmas.{IsLow, AreLow}
-use Rattle.sole_laws.proofs.HoldLemmas.{keeps, Holds, holds_step, holds_first, turns_due, Numbered, Goes, goes_step, goes_first}
+use Rattle.sole_laws.proofs.HoldLemmas.{keeps, Holds, holds_step, holds_first, turns_due, Goes, goes_step, goes_first}
 
 -- ---- over the rows that the book leaves
 

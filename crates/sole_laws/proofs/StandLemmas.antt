@@ -13,17 +13,16 @@ use Rattle.sql_eval.specs.Laws.{IsChangeOf}
 use Rattle.book.specs.declared.entry.Entry.{Entry}
 use Rattle.book.specs.declared.entry.Entry.TheVariants.{Made, Decided}
 use Rattle.book.specs.Entries.{entries_of}
-use Rattle.stmt_run.specs.declared.ran.Ran.{Ran}
 use Rattle.stmt_run.specs.Run.{ran_over, locks_after, own_after}
 use Rattle.sole_node.specs.declared.root.Root.{Root}
-use Rattle.sole_node.specs.Kept.{the_node, Kept, fresh, table_of, is_used, root_at, begun, ended}
-use Rattle.sole_node.specs.Turn.{Outcome, after_record, after_records, start_of, first_records, answering, ground_of, after_run, ran_turn, decided_by, writing}
-use Rattle.sole_node.specs.Ready.{IsWhole, IsChangeAt, IsRootAt, MayFollow, AreSound}
+use Rattle.sole_node.specs.Kept.{the_node, Kept, fresh, table_of, root_at, begun, ended}
+use Rattle.sole_node.specs.Turn.{Outcome, after_record, after_records, start_of, first_records, ground_of, after_run, ran_turn, decided_by}
+use Rattle.sole_node.specs.Ready.{IsChangeAt, IsRootAt, MayFollow, AreSound}
 use Rattle.sole_node.proofs.RecordLemmas.{after_records-push}
 use Rattle.sole_laws.proofs.ListLemmas.{all-found}
 use Rattle.sole_laws.proofs.BookLemmas.{DecideOnly-more, IsOther}
 use Rattle.sole_laws.proofs.KindLemmas.{OfEach}
-use Rattle.sole_laws.proofs.LiveLemmas.{rest_of, IsPast, Lives, IsOpenAt, Lives-begun, rest_of-begun, opened_at, Lives-ended, ended_past, open_is_other, Lives-with_root, Lives-locks, root_is, Lives-decided, Lives-made, Lives-started}
+use Rattle.sole_laws.proofs.LiveLemmas.{rest_of, IsPast, Lives, Lives-begun, rest_of-begun, opened_at, Lives-ended, ended_past, open_is_other, Lives-with_root, Lives-locks, root_is, Lives-decided, Lives-made, Lives-started}
 use Rattle.sole_laws.proofs.RanLemmas.{own_changes}
 use Rattle.sole_laws.proofs.LastLemmas.{IsTableAt, is_named, IsFound, Lasts, found_itself, view_at, Lasts-made, Lasts-decided, Lasts-started}
 
@@ -66,7 +65,6 @@ start_push rs s r is = after_records-push fresh rs r ∙ ap (λ (k : Kept). afte
 -- ---- a turn
 
 module _ (rs : List RedoRecord) (book : List Entry) (k : Kept) (stands : Stands rs book (Some k)) where
-
   -- what stands once a turn has come to this
   abbrev pub After : Outcome → Type 0
   After o = Stands (rs ++ option_to_list o.wrote) (book ++ entries_of the_node o.wrote) (Some o.after)
@@ -121,24 +119,23 @@ module _ (rs : List RedoRecord) (book : List Entry) (k : Kept) (stands : Stands 
       let after = after_record e (records.Decided (decided_by k x)) in
       let others = DecideOnly-more (IsPast k) (IsOther x.me) (open_is_other k n x open_one) book lives.past in
       written (records.Decided (decided_by k x)) (book ++ Decided x.me x.me x.own.changes (k.scn + 1) ∷ []) after tt
-        (Lasts-decided (rest_of k) book x.me x.own.changes lasts_here (root_is k n book x lives at) open_one.owns.here (omega (arith, now)) others)
-        refl
-        (Lives-decided e book after.rows after.scn x.me x.own.changes (k.scn + 1) (ends_here n x at) (ended_past k n x open_one))
+      (Lasts-decided (rest_of k) book x.me x.own.changes lasts_here (root_is k n book x lives at) open_one.owns.here (omega (arith, now)) others)
+      refl
+      (Lives-decided e book after.rows after.scn x.me x.own.changes (k.scn + 1) (ends_here n x at) (ended_past k n x open_one))
 
   -- each kind of turn
   pub stands_after : (undo n : ℕ) → OfEach After undo k n
-
   stands_after undo n = record {
     answers = λ a. quiet k a refl stands.up.lives;
     begins = λ a. quiet (begun k n) a (rest_of-begun k n) (Lives-begun k n book stands.up.lives);
     runs = λ x s name t at there.
-      let r = ran_over (ground_of undo (begun k n) x t) s t in
-      quiet (after_run (begun k n) x t r) (ran_turn (begun k n) x t r).answer (rest_of-begun k n) (ran undo n x s name t at there);
+        let r = ran_over (ground_of undo (begun k n) x t) s t in
+        quiet (after_run (begun k n) x t r) (ran_turn (begun k n) x t r).answer (rest_of-begun k n) (ran undo n x s name t at there);
     ends = λ x a at. quiet (ended k n x.me) a refl (ends_here n x at);
     decides = λ x at. decides_here n x at;
     makes = λ t whole unused.
-      written (records.Table t) (book ++ Made the_node t ∷ []) (after_record k (records.Table t)) unused (Lasts-made (rest_of k) book t lasts_here whole unused) refl
-      (Lives-made k book (after_record k (records.Table t)).rows t stands.up.lives);
+        written (records.Table t) (book ++ Made the_node t ∷ []) (after_record k (records.Table t)) unused (Lasts-made (rest_of k) book t lasts_here whole unused) refl
+        (Lives-made k book (after_record k (records.Table t)).rows t stands.up.lives);
   }
 
 -- ---- a stop and a start
