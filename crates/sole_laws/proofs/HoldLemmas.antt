@@ -17,7 +17,7 @@ use Rattle.sole_node.specs.declared.happening.Happening.{Happening}
 use Rattle.sole_node.specs.declared.happening.Happening.TheVariants.{Begun, Turn, Stopped, Started}
 use Rattle.sole_node.specs.Statements.{is_create}
 use Rattle.sole_node.specs.Kept.{the_node, Kept, fresh_session}
-use Rattle.sole_node.specs.Turn.{Outcome, turn_of, start_of, first_records}
+use Rattle.sole_node.specs.Turn.{turn_of, start_of, after_records}
 use Rattle.sole_laws.specs.Past.{Past, Due, Begins, Serves, Stops, Starts, start, is_open, commit_call, due_by, begun, is_committed, following, behind, told_or_goes_on, turned_at, stopped, started, next, past}
 use Rattle.sole_laws.specs.Lawful.{served_by, MayBegin, MayTurn, MayHappen, IsLawful}
 use Rattle.sole_laws.proofs.KindLemmas.{MakesWhole, CallsWhole, turn_is}
@@ -49,15 +49,15 @@ call_whole k n s true whole = (tt, whole)
 call_whole k n s false whole = (whole, tt)
 
 due_whole : (node : Option Kept) (command : Command) → DueWhole (due_by node command)
-due_whole node (commands.Node made undo) = tt
+due_whole kept (commands.Node made undo) = tt
 due_whole None (commands.At at session text) = tt
 due_whole (Some k) (commands.At at session text) = call_whole k session (statement_of text) (is_create (statement_of text) && is_open k session) (text_is_whole text)
 due_whole None (commands.Stop at) = tt
 due_whole (Some k) (commands.Stop at) = tt
 due_whole None (commands.Start at) = tt
 due_whole (Some k) (commands.Start at) = tt
-due_whole node commands.ShowBook = tt
-due_whole node (commands.ShowDisk at) = tt
+due_whole kept commands.ShowBook = tt
+due_whole kept (commands.ShowDisk at) = tt
 
 begun_holds : (p : Past) (number : ℕ) (left : List Command) → Holds p → Holds (begun p number left)
 begun_holds p number [] holds = holds
@@ -150,15 +150,15 @@ call_turns k n s true = omega arith
 call_turns k n s false = omega arith
 
 due_turns : (node : Option Kept) (command : Command) → turns_due (due_by node command) ≤ 2
-due_turns node (commands.Node made undo) = omega arith
+due_turns kept (commands.Node made undo) = omega arith
 due_turns None (commands.At at session text) = omega arith
 due_turns (Some k) (commands.At at session text) = call_turns k session (statement_of text) (is_create (statement_of text) && is_open k session)
 due_turns None (commands.Stop at) = omega arith
 due_turns (Some k) (commands.Stop at) = omega arith
 due_turns None (commands.Start at) = omega arith
 due_turns (Some k) (commands.Start at) = omega arith
-due_turns node commands.ShowBook = omega arith
-due_turns node (commands.ShowDisk at) = omega arith
+due_turns kept commands.ShowBook = omega arith
+due_turns kept (commands.ShowDisk at) = omega arith
 
 begun_numbered : (p : Past) (number : ℕ) (left : List Command) → Numbered p → MayBegin p number → Numbered (begun p number left)
 begun_numbered p number [] n may = n
@@ -251,7 +251,7 @@ goes_step p (Started node boot) goes may =
     record { holds = holds_step p (Started node boot) goes.holds may; numbered = started_numbered p boot goes.numbered may.is_due may.in_order }
 
 pub goes_first : (asked : List Command) → Goes (start asked)
-unfolding Rattle.sole_node.specs.Turn.after_records
+unfolding after_records
 goes_first asked = record {
   holds = holds_first asked;
   numbered = record {

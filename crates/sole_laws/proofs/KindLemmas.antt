@@ -1,7 +1,7 @@
 -- What a turn can be: it only answers, or begins a transaction, or a statement runs at a table, or a transaction ends,
 -- decides, or a table is made.
-use Rattle.std.proofs.Common.{◌≡◌, ℕ, Bool, true, false, cond, List, Option, Some, None, refl}
-use Rattle.std.specs.Prelude.{is_none, IfSome}
+use Rattle.std.proofs.Common.{◌≡◌, ℕ, Bool, true, false, cond, List, Option, Some, None, refl, []}
+use Rattle.std.specs.Prelude.{IfSome}
 use Rattle.dtx_values.specs.declared.table.Table.{Table}
 use Rattle.dtx_values.specs.declared.answer.Done.TheVariants.{Committed, RolledBack, TableMade}
 use Rattle.dtx_values.specs.declared.answer.Answer.{Answer}
@@ -16,7 +16,7 @@ use Rattle.sole_node.specs.declared.input.Input.TheVariants as inputs
 use Rattle.sole_node.specs.Statements.{is_brought, table_in, name_in}
 use Rattle.sole_node.specs.declared.root.Root.{Root}
 use Rattle.sole_node.specs.Kept.{Kept, table_of, is_used, root_at, begun, ended, has_changes}
-use Rattle.sole_node.specs.Turn.{Outcome, answering, writing, create_turn, ground_of, ran_turn, run_turn, statement_turn, decided_by, commits, commit_turn, rollback_turn, call_turn, read_turn, turn_of, invalid}
+use Rattle.sole_node.specs.Turn.{Outcome, answering, writing, ground_of, ran_turn, run_turn, statement_turn, decided_by, commit_turn, rollback_turn, call_turn, read_turn, turn_of, invalid, refusing}
 use Rattle.sole_node.specs.Ready.{IsWhole}
 
 -- what holds of each kind of turn of a session
@@ -40,15 +40,15 @@ CallsWhole (inputs.Call session statement) = IfSome statement MakesWhole
 
 module _ (P : Outcome → Type 0) (undo : ℕ) (k : Kept) (n : ℕ) (each : OfEach P undo k n) where
   at_table : (x : Root) (s : Stmt) (name : List ℕ) (o : Option Table) → root_at (begun k n) n ≡ Some x → table_of (begun k n) name ≡ o → P (run_turn undo (begun k n) x s o)
-  at_table x s name None at is = each.begins (answers.Refused (ora 942 (Rattle.std.specs.Prelude.[])))
+  at_table x s name None at is = each.begins (answers.Refused (ora 942 []))
   at_table x s name (Some t) at is = each.runs x s name t at is
 
   in_root : (s : Stmt) (o : Option Root) → root_at (begun k n) n ≡ o → P (statement_turn undo (begun k n) s o)
   in_root s None at = each.begins (answers.Refused invalid)
   in_root s (Some x) at = at_table x s (name_in (table_in s)) (table_of (begun k n) (name_in (table_in s))) at refl
 
-  create_is : (t : Table) (b : Bool) → IsWhole t → is_used k t.name ≡ b → P (cond b (Rattle.sole_node.specs.Turn.refusing k (ora 955 (Rattle.std.specs.Prelude.[]))) (writing k (records.Table t) TableMade))
-  create_is t true whole used = each.answers (answers.Refused (ora 955 (Rattle.std.specs.Prelude.[])))
+  create_is : (t : Table) (b : Bool) → IsWhole t → is_used k t.name ≡ b → P (cond b (refusing k (ora 955 [])) (writing k (records.Table t) TableMade))
+  create_is t true whole used = each.answers (answers.Refused (ora 955 []))
   create_is t false whole used = each.makes t whole used
 
   commits_is : (x : Root) (b : Bool) → root_at k n ≡ Some x → P (cond b (writing (ended k n x.me) (records.Decided (decided_by k x)) Committed) (answering (ended k n x.me) (answers.Did Committed 0)))

@@ -1,5 +1,5 @@
 -- What each item of a list has, and the first item that passes a test.
-use Rattle.std.proofs.Common.{◌≡◌, ℕ, zero, suc, ◌+◌, ◌||◌, not, Bool, true, false, cond, List, [], ◌∷◌, ◌++◌, map, find, filter, replicate, slice_get, slice_set, unwrap_or, Option, Some, None, refl, sym, ap, subst, ◌∙◌, arith}
+use Rattle.std.proofs.Common.{◌≡◌, ℕ, zero, suc, ◌+◌, ◌||◌, not, Bool, true, false, cond, List, [], ◌∷◌, ◌++◌, find, filter, replicate, slice_get, slice_set, unwrap_or, Option, Some, None, refl, sym, ap, subst, ◌∙◌, arith}
 use Rattle.std.specs.Prelude.{is_some}
 use Rattle.std.specs.List.{AllByRecursion, list_any, position_or_len}
 
@@ -26,10 +26,6 @@ module _ {A : Type 0} (P : A → Type 0) where
   pub all-filter : (p : A → Bool) (xs : List A) → AllByRecursion P xs → AllByRecursion P (filter p xs)
   all-filter p [] all = tt
   all-filter p (x ∷ xs) all = let rest = all-filter p xs all.1 in all-cond (p x) (x ∷ filter p xs) (filter p xs) (all.0, rest) rest
-
-  pub all-map : (f : A → A) → ((x : A) → P x → P (f x)) → (xs : List A) → AllByRecursion P xs → AllByRecursion P (map f xs)
-  all-map f keeps [] all = tt
-  all-map f keeps (x ∷ xs) all = (keeps x all.0, all-map f keeps xs all.1)
 
   pub all-set : (xs : List A) (i : ℕ) (y : A) → AllByRecursion P xs → P y → AllByRecursion P (slice_set xs i y)
   all-set [] i y all new = tt
@@ -71,14 +67,6 @@ module _ {A : Type 0} (p : A → Bool) where
   pub any_found : (xs : List A) (x : A) → find p xs ≡ Some x → list_any p xs ≡ true
   any_found [] x found = absurd cc
   any_found (y ∷ ys) x found = any_here y x ys (p y) found (any_found ys x)
-
-  none_here : (y : A) (ys : List A) (b : Bool) → (b || list_any p ys) ≡ false → (list_any p ys ≡ false → find p ys ≡ None) → cond b (Some y) (find p ys) ≡ None
-  none_here y ys true none later = absurd cc
-  none_here y ys false none later = later none
-
-  pub none_found : (xs : List A) → list_any p xs ≡ false → find p xs ≡ None
-  none_found [] none = refl
-  none_found (y ∷ ys) none = none_here y ys (p y) none (none_found ys)
 
   -- what is found stays found
   found_still : (y x : A) (xs ys : List A) (b : Bool) → cond b (Some y) (find p xs) ≡ Some x → (find p xs ≡ Some x → find p (xs ++ ys) ≡ Some x) → cond b (Some y) (find p (xs ++ ys)) ≡ Some x

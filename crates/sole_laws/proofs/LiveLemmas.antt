@@ -1,5 +1,5 @@
 -- What holds of an up node between turns: its transactions are open in sessions of theirs, and none of them was decided.
-use Rattle.std.proofs.Common.{◌≡◌, ℕ, ◌+◌, ◌-◌, ◌<◌, ◌≤◌, ◌⊎◌, inl, inr, not, Bool, true, false, cond, List, [], ◌∷◌, ◌++◌, find, filter, map, length, replicate, slice_get, slice_set, unwrap_or, Option, Some, None, refl, sym, ap, subst, ◌∙◌, arith, zero, suc}
+use Rattle.std.proofs.Common.{◌≡◌, ℕ, ◌+◌, ◌-◌, ◌≤◌, ◌⊎◌, inl, inr, not, true, List, [], ◌∷◌, ◌++◌, length, replicate, slice_get, slice_set, unwrap_or, Option, Some, None, refl, sym, ap, subst, ◌∙◌, arith, get_or}
 use Rattle.std.specs.Prelude.{is_some}
 use Rattle.std.specs.List.{AllByRecursion, position_or_len}
 use Rattle.std.specs.Str.{bytes_eq}
@@ -59,8 +59,8 @@ pub changed : (k : Kept) (n m : ℕ) (s : Session) →
     ⊎ ((session_at (with_session k n s) m ≡ session_at k m) × (m - 1 ≡ n - 1 → length k.sessions ≤ n - 1))
 changed k n m s =
     let sessions = k.sessions in
-    let at : session_at (with_session k n s) m ≡ Rattle.std.proofs.Common.get_or (slice_set sessions (n - 1) s) (m - 1) fresh_session = unwrap_or-slice_get (slice_set sessions (n - 1) s) (m - 1) fresh_session in
-    let was : session_at k m ≡ Rattle.std.proofs.Common.get_or sessions (m - 1) fresh_session = unwrap_or-slice_get sessions (m - 1) fresh_session in
+    let at : session_at (with_session k n s) m ≡ get_or (slice_set sessions (n - 1) s) (m - 1) fresh_session = unwrap_or-slice_get (slice_set sessions (n - 1) s) (m - 1) fresh_session in
+    let was : session_at k m ≡ get_or sessions (m - 1) fresh_session = unwrap_or-slice_get sessions (m - 1) fresh_session in
     elim (eqb_tells (m - 1) (n - 1)) [
       | inl same ↦ elim (leb_tells (length sessions) (n - 1)) [
         | inl past ↦ inr (ap (λ (xs : List Session). unwrap_or (slice_get xs (m - 1)) fresh_session) (set_past sessions (n - 1) s past.1), λ e. past.1)

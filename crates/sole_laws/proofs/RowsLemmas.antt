@@ -1,5 +1,5 @@
 -- The rows that a book leaves, with one entry more.
-use Rattle.std.proofs.Common.{◌≡◌, ℕ, ◌==◌, ◌&&◌, not, Bool, true, false, cond, if◌then◌else◌, List, [], ◌∷◌, ◌++◌, Option, Some, None, map, refl, ap, subst, ◌∙◌, sym, arith}
+use Rattle.std.proofs.Common.{◌≡◌, ℕ, ◌==◌, ◌&&◌, not, Bool, true, false, cond, if◌then◌else◌, List, [], ◌∷◌, ◌++◌, map, refl, ap, ◌∙◌, sym, eq-eqb, ◌||◌}
 use Rattle.std.specs.List.{flat_map, list_any, AllByRecursion}
 use Rattle.std.proofs.lemmas.List.{append-nil}
 use Rattle.std.proofs.lemmas.Grind.{flat_map-append}
@@ -12,14 +12,14 @@ use Rattle.tran_ids.specs.Branch.{same}
 use Rattle.tran_ids.proofs.BranchLemmas.{same_from_equal}
 use Rattle.sql_eval.specs.declared.keyed.Keyed.{Keyed}
 use Rattle.sql_eval.specs.Words.{same_text}
-use Rattle.sql_eval.specs.Rows.{change_one, apply}
+use Rattle.sql_eval.specs.Rows.{change_one, apply, set_to}
 use Rattle.row_store.specs.Tables.{TableRows, apply_all, rows_of_table}
 use Rattle.book.specs.declared.entry.Entry.{Entry}
 use Rattle.book.specs.declared.entry.Entry.TheVariants.{Made, Sealed, Decided, Ended, Forced, Met}
 use Rattle.run_laws.specs.Book.{is_forced_of, unforced_at, transaction_in, transaction_at, commits_at, rows_of}
 use Rattle.sole_node.specs.Kept.{the_node}
 use Rattle.sole_laws.specs.Past.{rows_in}
-use Rattle.sole_laws.proofs.BookLemmas.{IsPlain, ArePlain, none_stands, DecidesOnly, DecideOnly, IsOther, not_same}
+use Rattle.sole_laws.proofs.BookLemmas.{IsPlain, ArePlain, none_stands, DecidesOnly, DecideOnly, IsOther, not_same, DecideOnly-more}
 
 pub apply-append : (table : List ℕ) (rows : List Keyed) (xs ys : List Change) → apply table rows (xs ++ ys) ≡ apply table (apply table rows xs) ys
 apply-append table rows [] ys = refl
@@ -126,7 +126,7 @@ others_without all n b (Forced c d ∷ book) whole plain others = absurd plain.0
 others_without all n b (Met c d mixed ∷ book) whole plain others = absurd plain.0
 
 here : (n m : ℕ) → n ≡ m → (n == m) ≡ true
-here n m e = Rattle.std.proofs.Common.eq-eqb n m e
+here n m e = eq-eqb n m e
 
 own_changes : (all : List Entry) (b : BranchId) (cs : List Change) (scn : ℕ) → ArePlain all → b.node ≡ the_node → transaction_in all the_node b (Decided b b cs scn) ≡ cs
 own_changes all b cs scn plain at =
@@ -139,7 +139,7 @@ rows_of-decided book b cs scn table first second others at =
     let e = Decided b b cs scn in
     let all = book ++ e ∷ [] in
     rows_more book e the_node table cs first second
-    (Rattle.sole_laws.proofs.BookLemmas.DecideOnly-more (IsOther b) (λ g. IsWithout all the_node g e) (λ g other. not_here all the_node b g cs scn second other) book others)
+    (DecideOnly-more (IsOther b) (λ g. IsWithout all the_node g e) (λ g other. not_here all the_node b g cs scn second other) book others)
     (flat_map-append (transaction_in all the_node b) book (e ∷ [])
     ∙ (λ i. others_without all the_node b book second first others i ++ (own_changes all b cs scn second at i ++ []))
     ∙ append-nil cs)
@@ -147,7 +147,7 @@ rows_of-decided book b cs scn table first second others at =
 -- ---- the rows of tables
 
 -- the rows of a table that is there
-named_here : (book : List Entry) (name : List ℕ) (t : Table) (ts : List Table) (b : Bool) → (b ≡ true → t.name ≡ name) → Rattle.std.specs.Prelude.◌||◌ b (list_any (λ (u : Table). bytes_eq u.name name) ts) ≡ true
+named_here : (book : List Entry) (name : List ℕ) (t : Table) (ts : List Table) (b : Bool) → (b ≡ true → t.name ≡ name) → (b || list_any (λ (u : Table). bytes_eq u.name name) ts) ≡ true
     → (list_any (λ (u : Table). bytes_eq u.name name) ts ≡ true → rows_of_table (rows_in book ts) name ≡ rows_of book the_node name)
     → cond b (rows_of book the_node t.name) (rows_of_table (rows_in book ts) name) ≡ rows_of book the_node name
 named_here book name t ts true is used later = ap (rows_of book the_node) (is refl)
@@ -171,10 +171,10 @@ rows_in-names book [] = refl
 rows_in-names book (t ∷ ts) = λ i. t.name ∷ rows_in-names book ts i
 
 -- changes of other tables leave no rows where there are none
-other_step : (table : List ℕ) (c : Change) (b : Bool) → b ≡ false → cond b (Rattle.sql_eval.specs.Rows.set_to [] c.key c.after) [] ≡ []
-other_step table c true other = absurd cc
-other_step table c false other = refl
+other_step : (c : Change) (b : Bool) → b ≡ false → cond b (set_to [] c.key c.after) [] ≡ []
+other_step c true other = absurd cc
+other_step c false other = refl
 
 pub apply-others : (table : List ℕ) (cs : List Change) → AllByRecursion (λ (c : Change). same_text c.table table ≡ false) cs → apply table [] cs ≡ []
 apply-others table [] others = refl
-apply-others table (c ∷ cs) others = ap (λ (rows : List Keyed). apply table rows cs) (other_step table c (same_text c.table table) others.0) ∙ apply-others table cs others.1
+apply-others table (c ∷ cs) others = ap (λ (rows : List Keyed). apply table rows cs) (other_step c (same_text c.table table) others.0) ∙ apply-others table cs others.1

@@ -1,5 +1,5 @@
 -- Every lawful run is as told: what its book says, what its disk stands for, one answer a command, and its node is in order.
-use Rattle.std.proofs.Common.{◌≡◌, ℕ, ◌+◌, ◌*◌, ◌<◌, ◌≤◌, ◌^◌, Bool, true, false, List, [], ◌∷◌, ◌++◌, length, map, Option, None, Some, refl, sym, ap, subst, ◌∙◌, append_assoc, arith, length-append}
+use Rattle.std.proofs.Common.{◌≡◌, ℕ, ◌+◌, ◌*◌, ◌<◌, ◌≤◌, ◌^◌, true, false, List, [], ◌∷◌, ◌++◌, length, map, Option, None, Some, refl, sym, ap, subst, ◌∙◌, append_assoc, arith, length-append, ◌&&◌, cond}
 use Rattle.std.specs.Prelude.{IfSome, is_some, option_to_list, option_map}
 use Rattle.std.specs.List.{flat_map, AllByRecursion}
 use Rattle.std.proofs.lemmas.List.{append-nil}
@@ -146,22 +146,22 @@ due_one lines number due one each =
 
 call_lines : (k : Kept) (n : ℕ) (text : List ℕ) → due_lines (call_due k n (statement_of text)) ≡ 1
 call_lines k n text =
-    elim (Rattle.std.proofs.Common.◌&&◌ (is_create (statement_of text)) (is_open k n)) as (λ b. due_lines (Rattle.std.proofs.Common.cond b (Serves (commit_call n) (Some (inputs.Call n (statement_of text)))) (Serves (inputs.Call n (statement_of text)) None)) ≡ 1) [
+    elim (is_create (statement_of text) && is_open k n) as (λ b. due_lines (cond b (Serves (commit_call n) (Some (inputs.Call n (statement_of text)))) (Serves (inputs.Call n (statement_of text)) None)) ≡ 1) [
       | true ↦ refl
       | false ↦ refl
     ]
 
 at_once : (lines : List AnswerLine) (number : ℕ) (node : Option Kept) (names : List (List ℕ)) (rs : List RedoRecord) (book : List Entry) (command : Command) → AnswersEach 1 lines → number ≡ length lines + 1
     → AtOnce lines number (due_by node command) (said_at_once (is_some node) names rs book command)
-at_once lines number node names rs book (commands.Node made undo) each is = said_one lines number _ each is
+at_once lines number kept names rs book (commands.Node made undo) each is = said_one lines number _ each is
 at_once lines number (Some k) names rs book (commands.At at session text) each is = due_one lines number _ (call_lines k session text) each
 at_once lines number None names rs book (commands.At at session text) each is = said_one lines number _ each is
 at_once lines number (Some k) names rs book (commands.Stop at) each is = due_one lines number _ refl each
 at_once lines number None names rs book (commands.Stop at) each is = said_one lines number _ each is
 at_once lines number (Some k) names rs book (commands.Start at) each is = said_one lines number _ each is
 at_once lines number None names rs book (commands.Start at) each is = due_one lines number _ refl each
-at_once lines number node names rs book commands.ShowBook each is = said_one lines number _ each is
-at_once lines number node names rs book (commands.ShowDisk at) each is = said_one lines number _ each is
+at_once lines number kept names rs book commands.ShowBook each is = said_one lines number _ each is
+at_once lines number kept names rs book (commands.ShowDisk at) each is = said_one lines number _ each is
 
 begins_counted : (total : ℕ) (p : Past) (number : ℕ) (left : List Command) → p.left ≡ left → Counts total p → MayBegin p number → Counts total (begun p number left)
 begins_counted total p number [] is counts may = record { each = counts.each; begun = counts.begun; all = counts.all }

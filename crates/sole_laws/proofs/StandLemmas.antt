@@ -1,5 +1,6 @@
 -- How a run stands: what its records and its book say together, and what its node keeps; and that each turn, stop and start
 -- keeps it so.
+use Rattle.run_laws.specs.Book.{rows_of}
 use Rattle.std.proofs.Common.{◌≡◌, ℕ, ◌+◌, List, [], ◌∷◌, ◌++◌, Option, Some, None, refl, sym, ap, subst, ◌∙◌, arith}
 use Rattle.std.specs.Prelude.{IfSome, option_to_list}
 use Rattle.std.proofs.lemmas.List.{append-nil}
@@ -141,11 +142,11 @@ module _ (rs : List RedoRecord) (book : List Entry) (k : Kept) (stands : Stands 
 -- ---- a stop and a start
 
 pub stands_stopped : (rs : List RedoRecord) (book : List Entry) (node : Option Kept) → Stands rs book node → Stands rs book None
-stands_stopped rs book node stands = record { lasts = stands.lasts; up = tt; sound = stands.sound }
+stands_stopped rs book kept stands = record { lasts = stands.lasts; up = tt; sound = stands.sound }
 
 pub stands_started : (rs : List RedoRecord) (book : List Entry) (node : Option Kept) (boot : ℕ) → Stands rs book node → boot ≡ (start_of rs).boot + 1
     → Stands (rs ++ records.Boot boot ∷ []) book (Some (start_of (rs ++ records.Boot boot ∷ [])))
-stands_started rs book node boot stands next_one =
+stands_started rs book kept boot stands next_one =
     let s = start_of rs in
     let more = start_of (rs ++ records.Boot boot ∷ []) in
     let is : more ≡ record s { boot = boot } = start_push rs s (records.Boot boot) refl in
@@ -159,7 +160,7 @@ stands_started rs book node boot stands next_one =
 
 -- before anything happened
 no_records : Stands [] [] None
-unfolding AreSound after_records Rattle.run_laws.specs.Book.rows_of
+unfolding AreSound after_records rows_of
 no_records = record {
   lasts = record { tables = tt; found = tt; rows = refl; unused = λ name absent. refl; plain = tt; earlier = tt; scn = refl; rising = tt; agreed = tt; marked = tt };
   up = tt;

@@ -114,15 +114,15 @@ call_due k n s = if is_create s && is_open k n then Serves (commit_call n) (Some
 
 -- what a command asks for, where it is not refused
 abbrev pub due_by : Option Kept → Command → Due
-due_by node (commands.Node made undo) = Begins
+due_by kept (commands.Node made undo) = Begins
 due_by None (commands.At at session text) = Begins
 due_by (Some k) (commands.At at session text) = call_due k session (statement_of text)
 due_by None (commands.Stop at) = Begins
 due_by (Some k) (commands.Stop at) = Stops
 due_by None (commands.Start at) = Starts
 due_by (Some k) (commands.Start at) = Begins
-due_by node commands.ShowBook = Begins
-due_by node (commands.ShowDisk at) = Begins
+due_by kept commands.ShowBook = Begins
+due_by kept (commands.ShowDisk at) = Begins
 
 -- the names of the nodes, each of which NODE gives
 abbrev pub names_by : List (List ℕ) → Command → List (List ℕ)
