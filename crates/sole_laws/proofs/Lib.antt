@@ -1,0 +1,13 @@
+pub mod PastLemmas
+pub mod ListLemmas
+pub mod BookLemmas
+pub mod RowsLemmas
+pub mod KindLemmas
+pub mod LiveLemmas
+pub mod RanLemmas
+pub mod LastLemmas
+pub mod StandLemmas
+pub mod NumberLemmas
+pub mod CreatedLemmas
+pub mod HoldLemmas
+pub mod RunsAreTold

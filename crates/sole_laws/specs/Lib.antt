@@ -1,0 +1,6 @@
+pub mod Shown
+pub mod Past
+pub mod Lawful
+pub mod Recorded
+pub mod Told
+pub mod Laws
