@@ -33,8 +33,8 @@ mod transactions;
 
 pub use condition::{Cond, Conds, Sign};
 pub use laws::{
-    created_tables_are_whole, one_reading, printed_statements_are_read, spelled_statements_are_found,
-    spelled_statements_are_whole,
+    created_tables_are_whole, one_reading, printed_statements_are_read,
+    spelled_statements_are_found, spelled_statements_are_whole,
 };
 pub use parse_err::ParseErr;
 pub use parsing::parse;
