@@ -67,6 +67,14 @@ fn table(alloc: Global) -> Result<Name, Fail> {
     Ok(name)
 }
 
+fn change(alloc: Global, key: i64, after: Option<Row>) -> Result<Change, Fail> {
+    Ok(Change {
+        table: table(alloc)?,
+        key: Value::Number(key),
+        after,
+    })
+}
+
 // Changes of the table at these keys: each to a row of one number, or to none.
 fn changes(alloc: Global, cells: &[(i64, Option<i64>)]) -> Result<Changes, Fail> {
     let mut changes = Changes::new(alloc);
@@ -75,25 +83,39 @@ fn changes(alloc: Global, cells: &[(i64, Option<i64>)]) -> Result<Changes, Fail>
             None => None,
             Some(cell) => Some(row(alloc, *cell)?),
         };
-        changes.push(Change {
-            table: table(alloc)?,
-            key: Value::Number(*key),
-            after,
-        })?;
+        changes.push(change(alloc, *key, after)?)?;
     }
     Ok(changes)
 }
 
-// A change to a row of a number and a text of so many bytes.
-fn long_change(alloc: Global, key: i64, length: usize) -> Result<Change, Fail> {
-    let mut row = row(alloc, key)?;
-    let bytes = vec![in alloc; b'x'; length]?;
-    row.cells.push(text(alloc, bytes.as_slice())?)?;
-    Ok(Change {
-        table: table(alloc)?,
-        key: Value::Number(key),
-        after: Some(row),
-    })
+// Changes of the table at so many keys: each to a row of a number and a text of so many bytes.
+fn long_changes(alloc: Global, count: i64, length: usize) -> Result<Changes, Fail> {
+    let mut changes = Changes::new(alloc);
+    for key in 0..count {
+        let bytes = vec![in alloc; b'x'; length]?;
+        let mut row = row(alloc, key)?;
+        row.cells.push(text(alloc, bytes.as_slice())?)?;
+        changes.push(change(alloc, key, Some(row))?)?;
+    }
+    Ok(changes)
+}
+
+// The tables of a node with the table alone, and its rows after these changes.
+fn committed(alloc: Global, changes: Changes) -> Result<Tables, Fail> {
+    let mut tables = Tables::new(alloc);
+    tables.add_table(alloc, table(alloc)?)?;
+    tables.apply(alloc, changes.as_slice())?;
+    Ok(tables)
+}
+
+// A branch that has changed this, where it is not too much.
+fn changed(alloc: Global, changes: Changes) -> Result<OwnChanges, Fail> {
+    if changes_len(changes.as_slice())? > 8_388_608 {
+        return Err("too many changes".into());
+    }
+    let mut own = OwnChanges::new(alloc);
+    own.push_all(alloc, changes, 0)?;
+    Ok(own)
 }
 
 fn cell_at(view: &View, key: i64) -> Option<i64> {
@@ -107,24 +129,20 @@ fn cell_at(view: &View, key: i64) -> Option<i64> {
 fn own_changes_are_seen_over_committed_rows(rt: HostRuntime) -> Result<(), Fail> {
     let alloc = rt.alloc();
     let name = table(alloc)?;
-    let mut tables = Tables::new(alloc);
-    tables.add_table(alloc, table(alloc)?)?;
-    let committed = changes(alloc, &[(1, Some(10)), (2, Some(20)), (3, Some(30))])?;
-    tables.apply(alloc, committed.as_slice())?;
-    let mut own = OwnChanges::new(alloc);
-    let changed = changes(
+    let rows = changes(alloc, &[(1, Some(10)), (2, Some(20)), (3, Some(30))])?;
+    let tables = committed(alloc, rows)?;
+    let more = changes(
         alloc,
         &[(1, Some(11)), (2, None), (4, Some(40)), (1, Some(12))],
     )?;
-    assert!(rt; changes_len(changed.as_slice())? <= 8_388_608);
-    own.push_all(alloc, changed, 0)?;
+    let own = changed(alloc, more)?;
     let view = View::new(&tables, &own, &name);
     for (key, cell) in [(1, Some(12)), (2, None), (3, Some(30)), (4, Some(40))] {
         assert_eq!(rt; cell_at(&view, key), cell, "at {key}");
     }
-    assert_eq!(rt; view.keyed(alloc)?.len(), 3);
-    assert!(rt; view.at_key(alloc, &Value::Number(2))?.is_empty());
-    assert_eq!(rt; view.at_key(alloc, &Value::Number(4))?.len(), 1);
+    assert_eq!(rt; view.keyed(alloc).map(|rows| rows.len()), Ok(3));
+    let removed = view.at_key(alloc, &Value::Number(2));
+    assert_eq!(rt; removed.map(|rows| rows.len()), Ok(0));
     Ok(())
 }
 
@@ -132,31 +150,23 @@ fn own_changes_are_seen_over_committed_rows(rt: HostRuntime) -> Result<(), Fail>
 fn undo_keeps_the_row_from_before(rt: HostRuntime) -> Result<(), Fail> {
     let alloc = rt.alloc();
     let name = table(alloc)?;
-    let mut tables = Tables::new(alloc);
-    tables.add_table(alloc, table(alloc)?)?;
+    let removal = changes(alloc, &[(0, None)])?;
+    let insert = changes(alloc, &[(1, Some(1))])?;
+    let rows = long_changes(alloc, 1, 1500)?;
+    let tables = committed(alloc, rows)?;
     let own = OwnChanges::new(alloc);
-    let mut before = Vec::new(alloc);
-    before.push(long_change(alloc, 7, 1500)?)?;
-    tables.apply(alloc, before.as_slice())?;
     let view = View::new(&tables, &own, &name);
-    let removal = changes(alloc, &[(7, None)])?;
-    assert_eq!(rt; view.undo_len(removal.as_slice())?, 1525);
-    let insert = changes(alloc, &[(8, Some(1))])?;
-    assert_eq!(rt; view.undo_len(insert.as_slice())?, 12);
-    assert_eq!(rt; extents(1525), 1);
-    assert_eq!(rt; extents(4097), 2);
+    assert_eq!(rt; view.undo_len(removal.as_slice()), Ok(1525));
+    assert_eq!(rt; view.undo_len(insert.as_slice()), Ok(12));
     Ok(())
 }
 
 #[test]
 fn long_changes_are_soon_too_many(rt: HostRuntime) -> Result<(), Fail> {
-    let alloc = rt.alloc();
-    let mut changes = Vec::new(alloc);
-    for key in 0..5000 {
-        changes.push(long_change(alloc, key, 2000)?)?;
-    }
+    let changes = long_changes(rt.alloc(), 5000, 2000)?;
     let bytes = changes_len(changes.as_slice())?;
     assert!(rt; bytes > 8_388_608, "{bytes} bytes");
     assert_eq!(rt; bytes, 5000 * 2025);
+    assert_eq!(rt; extents(bytes), 2472);
     Ok(())
 }
