@@ -1,6 +1,5 @@
 //! What no clause says: refusals in their order, and what a statement leaves, by examples.
 ghost use Rattle.std.specs.Prelude.{◌≡◌, true, length, position, Some, IfOk};
-ghost use Rattle.dtx_values.specs.Name.{name_of};
 ghost use Rattle.sql_eval.specs.Laws.{has_one_key, AreRowsOf, IsChangeOf};
 ghost use Rattle.row_store.specs.Tables.{rows_of_table};
 
@@ -10,6 +9,7 @@ use row_locks::Locks;
 use row_store::{OwnChanges, Tables};
 use sql_parse::{Stmt, parse};
 use std::alloc::Global;
+use std::process::Abort;
 use std::test::Fail;
 use tran_ids::BranchId;
 
@@ -34,9 +34,7 @@ const DOUBTED: BranchId = BranchId {
     seq: 1,
 };
 
-fn name(alloc: Global, bytes: &[u8]) -> Result<Name, Fail>
-    ensures { IfOk result (λ name. name_of bytes.now ≡ Some name) }
-{
+fn name(alloc: Global, bytes: &[u8]) -> Result<Name, Fail> {
     Ok(Name::from_bytes(alloc, bytes).map_err(|_| "it is a name")?)
 }
 
@@ -45,19 +43,22 @@ fn statement(alloc: Global, text: &[u8]) -> Result<Stmt, Fail> {
 }
 
 /// EMP with the key EMPNO and the number SAL.
-fn emp(alloc: Global) -> Result<Table, Fail>
+fn emp(rt: &impl Abort, alloc: Global) -> Result<Table, Fail>
     ensures one_key { IfOk result (λ table. has_one_key table ≡ true) }
     ensures columns { IfOk result (λ table. length table.columns ≡ 2) }
     ensures key { IfOk result (λ table. position (λ c. c.key) table.columns ≡ Some 0) }
 {
+    let empno = name(alloc, b"EMPNO")?;
+    let sal = name(alloc, b"SAL")?;
+    assert!(rt; !sal.is(&empno));
     let key = Column {
-        name: name(alloc, b"EMPNO")?,
+        name: empno,
         text_max: None,
         not_null: false,
         key: true,
     };
     let number = Column {
-        name: name(alloc, b"SAL")?,
+        name: sal,
         text_max: None,
         not_null: false,
         key: false,
@@ -119,32 +120,32 @@ fn refused(
 }
 
 #[test]
-fn the_first_cause_refuses(rt: HostRuntime) -> Result<(), Fail> {
+fn a_key_in_doubt_refuses_before_a_key_that_is_held(rt: HostRuntime) -> Result<(), Fail> {
     let alloc = rt.alloc();
-    let table = emp(alloc)?;
+    let table = emp(&rt, alloc)?;
     let tables = staffed(alloc, &table)?;
     let mut locks = Locks::new(alloc);
     locks.take(alloc, &OTHER, &table.name, &Value::Number(1), true)?;
     locks.take(alloc, &DOUBTED, &table.name, &Value::Number(2), true)?;
     locks.mark_in_doubt(&DOUBTED);
     let raise = b"UPDATE EMP SET SAL = SAL + 1";
-    let hire = b"INSERT INTO EMP VALUES (1, 100)";
-    assert_eq!(rt;
-        refused(alloc, raise, &table, &tables, &mut locks, 8)?,
-        1591
-    );
+    assert_eq!(rt; refused(alloc, raise, &table, &tables, &mut locks, 8)?, 1591);
     locks.release(&DOUBTED);
-    assert_eq!(rt;
-        refused(alloc, raise, &table, &tables, &mut locks, 8)?,
-        2049
-    );
+    assert_eq!(rt; refused(alloc, raise, &table, &tables, &mut locks, 8)?, 2049);
+    Ok(())
+}
+
+#[test]
+fn a_held_key_refuses_before_a_duplicate_key(rt: HostRuntime) -> Result<(), Fail> {
+    let alloc = rt.alloc();
+    let table = emp(&rt, alloc)?;
+    let tables = staffed(alloc, &table)?;
+    let mut locks = Locks::new(alloc);
+    locks.take(alloc, &OTHER, &table.name, &Value::Number(1), true)?;
+    let hire = b"INSERT INTO EMP VALUES (1, 100)";
     assert_eq!(rt; refused(alloc, hire, &table, &tables, &mut locks, 8)?, 2049);
     locks.release(&OTHER);
     assert_eq!(rt; refused(alloc, hire, &table, &tables, &mut locks, 8)?, 1);
-    assert_eq!(rt;
-        refused(alloc, raise, &table, &tables, &mut locks, 0)?,
-        30036
-    );
     assert!(rt; locks.keys(alloc, &table.name)?.as_slice().is_empty());
     Ok(())
 }
@@ -152,7 +153,7 @@ fn the_first_cause_refuses(rt: HostRuntime) -> Result<(), Fail> {
 #[test]
 fn an_update_of_one_row_locks_its_key(rt: HostRuntime) -> Result<(), Fail> {
     let alloc = rt.alloc();
-    let table = emp(alloc)?;
+    let table = emp(&rt, alloc)?;
     let tables = staffed(alloc, &table)?;
     let mut locks = Locks::new(alloc);
     let mut own = OwnChanges::new(alloc);
@@ -171,7 +172,7 @@ fn an_update_of_one_row_locks_its_key(rt: HostRuntime) -> Result<(), Fail> {
 #[test]
 fn a_query_for_update_locks_what_it_finds(rt: HostRuntime) -> Result<(), Fail> {
     let alloc = rt.alloc();
-    let table = emp(alloc)?;
+    let table = emp(&rt, alloc)?;
     let tables = staffed(alloc, &table)?;
     let mut locks = Locks::new(alloc);
     let query = b"SELECT SAL FROM EMP";
