@@ -19,10 +19,8 @@ use Rattle.row_store.specs.Tables.{TableRows, apply_all, rows_of_table, with_tab
 pub one_of_two : (name : List ℕ) (c d : Column) → c.key ≡ true → d.key ≡ false → bytes_eq d.name c.name ≡ false → has_one_key (record { name = name; columns = c ∷ d ∷ [] }) ≡ true
 one_of_two name c d key other differ = rw (key, other, differ) refl
 
--- a row of two cells, of which the first is the key
-pub row_of_two : (t : Table) (key other : Value) → length t.columns ≡ 2 → position (λ c. c.key) t.columns ≡ Some 0 → is_null key ≡ false → IsRowAt t key (record { cells = key ∷ other ∷ [] })
-row_of_two t key other two first there =
-    (sym two, ap (λ (place : Option ℕ). unwrap_or (slice_get (key ∷ other ∷ []) (unwrap_or place 0)) values.Null) first, there)
+pub first_of_two : (c d : Column) → c.key ≡ true → position (λ (e : Column). e.key) (c ∷ d ∷ []) ≡ Some 0
+first_of_two c d key = rw key refl
 
 either : (t : Table) (b : Bool) (rows : List Keyed) → AreRowsOf t rows → AreRowsOf t (cond b rows [])
 either t true rows are = are
