@@ -2,3 +2,4 @@ mod Values
 mod Examined
 mod Free
 mod Lengths
+mod Staff

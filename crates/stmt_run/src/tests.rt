@@ -1,6 +1,6 @@
 //! What no clause says: refusals in their order, and what a statement leaves, by examples.
-ghost use Rattle.std.specs.Prelude.{◌≡◌, true, length, position, Some, IfOk};
-ghost use Rattle.dtx_values.specs.Name.{name_of};
+ghost use Rattle.std.specs.Prelude.{◌≡◌, true, false, length, position, Some, IfOk};
+ghost use Rattle.std.specs.Str.{bytes_eq};
 ghost use Rattle.sql_eval.specs.Laws.{has_one_key, AreRowsOf, IsChangeOf};
 ghost use Rattle.row_store.specs.Tables.{rows_of_table};
 
@@ -9,7 +9,8 @@ use dtx_values::{Answer, Change, Column, Done, Duplicate, Listing, Name, Row, Ta
 use row_locks::Locks;
 use row_store::{OwnChanges, Tables};
 use sql_parse::{Stmt, parse};
-use std::alloc::Global;
+use std::alloc::{AllocError, Global};
+use std::process::Abort;
 use std::test::Fail;
 use tran_ids::BranchId;
 
@@ -34,9 +35,7 @@ const DOUBTED: BranchId = BranchId {
     seq: 1,
 };
 
-fn name(alloc: Global, bytes: &[u8]) -> Result<Name, Fail>
-    ensures { IfOk result (λ name. name_of bytes.now ≡ Some name) }
-{
+fn name(alloc: Global, bytes: &[u8]) -> Result<Name, Fail> {
     Ok(Name::from_bytes(alloc, bytes).map_err(|_| "it is a name")?)
 }
 
@@ -45,27 +44,40 @@ fn statement(alloc: Global, text: &[u8]) -> Result<Stmt, Fail> {
 }
 
 /// EMP with the key EMPNO and the number SAL.
-fn emp(alloc: Global) -> Result<Table, Fail>
+fn emp(rt: &impl Abort, alloc: Global) -> Result<Table, Fail>
     ensures one_key { IfOk result (λ table. has_one_key table ≡ true) }
     ensures columns { IfOk result (λ table. length table.columns ≡ 2) }
     ensures key { IfOk result (λ table. position (λ c. c.key) table.columns ≡ Some 0) }
 {
-    let key = Column {
-        name: name(alloc, b"EMPNO")?,
+    let empno = name(alloc, b"EMPNO")?;
+    let sal = name(alloc, b"SAL")?;
+    assert!(rt; !sal.is(&empno));
+    let table = of_numbers(alloc, name(alloc, b"EMP")?, empno, sal)?;
+    Ok(table)
+}
+
+fn of_numbers(alloc: Global, name: Name, key: Name, number: Name) -> Result<Table, AllocError>
+    requires { bytes_eq number key ≡ false }
+    ensures one_key { IfOk result (λ table. has_one_key table ≡ true) }
+    ensures columns { IfOk result (λ table. length table.columns ≡ 2) }
+    ensures key { IfOk result (λ table. position (λ c. c.key) table.columns ≡ Some 0) }
+{
+    let key = of_number(key, true);
+    let number = of_number(number, false);
+    let columns = Listing::of(vec![in alloc; key, number]?);
+    Ok(Table { name, columns })
+}
+
+fn of_number(name: Name, key: bool) -> Column
+    ensures name { result.name ≡ name }
+    ensures key { result.key ≡ key }
+{
+    Column {
+        name,
         text_max: None,
         not_null: false,
-        key: true,
-    };
-    let number = Column {
-        name: name(alloc, b"SAL")?,
-        text_max: None,
-        not_null: false,
-        key: false,
-    };
-    Ok(Table {
-        name: name(alloc, b"EMP")?,
-        columns: Listing::of(vec![in alloc; key, number]?),
-    })
+        key,
+    }
 }
 
 fn employed(alloc: Global, table: &Table, number: i64) -> Result<Change, Fail>
@@ -97,92 +109,94 @@ fn staffed(alloc: Global, table: &Table) -> Result<Tables, Fail>
     Ok(tables)
 }
 
-/// The code of a refusal of a branch's first statement, or 0.
-fn refused(
+/// What is answered to the first statement of a branch at a node where EMP has the employees 1 and 2.
+fn answer_to(
+    rt: &impl Abort,
     alloc: Global,
     text: &[u8],
-    table: &Table,
-    tables: &Tables,
     locks: &mut Locks,
     free: u64,
-) -> Result<u16, Fail>
-    requires one_key { has_one_key table.now ≡ true }
-    requires rows { AreRowsOf table.now (rows_of_table tables.now table.now.name) }
-{
+) -> Result<Answer, Fail> {
     let statement = statement(alloc, text)?;
+    let table = emp(rt, alloc)?;
+    let tables = staffed(alloc, &table)?;
     let mut own = OwnChanges::new(alloc);
-    match run(alloc, &statement, table, tables, &mut own, locks, &ME, free)? {
-        Answer::Refused(refusal) => Ok(refusal.code),
-        Answer::Did(_done, _count) => Ok(0),
-        Answer::Found(_rows) => Ok(0),
+    let answer = run(alloc, &statement, &table, &tables, &mut own, locks, &ME, free)?;
+    Ok(answer)
+}
+
+fn code_of(answer: &Answer) -> u16 {
+    match answer {
+        Answer::Refused(refusal) => refusal.code,
+        Answer::Did(_done, _count) => 0,
+        Answer::Found(_rows) => 0,
     }
 }
 
 #[test]
-fn the_first_cause_refuses(rt: HostRuntime) -> Result<(), Fail> {
+fn a_key_in_doubt_refuses_before_a_key_that_is_held(rt: HostRuntime) -> Result<(), Fail> {
     let alloc = rt.alloc();
-    let table = emp(alloc)?;
-    let tables = staffed(alloc, &table)?;
+    let emp = name(alloc, b"EMP")?;
     let mut locks = Locks::new(alloc);
-    locks.take(alloc, &OTHER, &table.name, &Value::Number(1), true)?;
-    locks.take(alloc, &DOUBTED, &table.name, &Value::Number(2), true)?;
+    locks.take(alloc, &OTHER, &emp, &Value::Number(1), true)?;
+    locks.take(alloc, &DOUBTED, &emp, &Value::Number(2), true)?;
     locks.mark_in_doubt(&DOUBTED);
-    let raise = b"UPDATE EMP SET SAL = SAL + 1";
-    let hire = b"INSERT INTO EMP VALUES (1, 100)";
-    assert_eq!(rt;
-        refused(alloc, raise, &table, &tables, &mut locks, 8)?,
-        1591
-    );
+    let answer = answer_to(&rt, alloc, b"UPDATE EMP SET SAL = SAL + 1", &mut locks, 8)?;
+    assert_eq!(rt; code_of(&answer), 1591);
     locks.release(&DOUBTED);
-    assert_eq!(rt;
-        refused(alloc, raise, &table, &tables, &mut locks, 8)?,
-        2049
-    );
-    assert_eq!(rt; refused(alloc, hire, &table, &tables, &mut locks, 8)?, 2049);
+    let answer = answer_to(&rt, alloc, b"UPDATE EMP SET SAL = SAL + 1", &mut locks, 8)?;
+    assert_eq!(rt; code_of(&answer), 2049);
+    Ok(())
+}
+
+#[test]
+fn a_held_key_refuses_before_a_duplicate_key(rt: HostRuntime) -> Result<(), Fail> {
+    let alloc = rt.alloc();
+    let emp = name(alloc, b"EMP")?;
+    let mut locks = Locks::new(alloc);
+    locks.take(alloc, &OTHER, &emp, &Value::Number(1), true)?;
+    let answer = answer_to(&rt, alloc, b"INSERT INTO EMP VALUES (1, 100)", &mut locks, 8)?;
+    assert_eq!(rt; code_of(&answer), 2049);
     locks.release(&OTHER);
-    assert_eq!(rt; refused(alloc, hire, &table, &tables, &mut locks, 8)?, 1);
-    assert_eq!(rt;
-        refused(alloc, raise, &table, &tables, &mut locks, 0)?,
-        30036
-    );
-    assert!(rt; locks.keys(alloc, &table.name)?.as_slice().is_empty());
+    let answer = answer_to(&rt, alloc, b"INSERT INTO EMP VALUES (1, 100)", &mut locks, 8)?;
+    assert_eq!(rt; code_of(&answer), 1);
+    assert_eq!(rt; locks.holder(&emp, &Value::Number(1)), None);
     Ok(())
 }
 
 #[test]
 fn an_update_of_one_row_locks_its_key(rt: HostRuntime) -> Result<(), Fail> {
     let alloc = rt.alloc();
-    let table = emp(alloc)?;
-    let tables = staffed(alloc, &table)?;
+    let emp = name(alloc, b"EMP")?;
     let mut locks = Locks::new(alloc);
-    let mut own = OwnChanges::new(alloc);
-    let raise = statement(alloc, b"UPDATE EMP SET SAL = SAL + 1 WHERE EMPNO = 2")?;
-    let answer = run(alloc, &raise, &table, &tables, &mut own, &mut locks, &ME, 8)?;
+    let raise = b"UPDATE EMP SET SAL = SAL + 1 WHERE EMPNO = 2";
+    let answer = answer_to(&rt, alloc, raise, &mut locks, 8)?;
     assert!(rt; matches!(&answer, Answer::Did(Done::Updated, 1)));
-    assert_eq!(rt; own.changes().len(), 1);
-    assert_eq!(rt; locks.holder(&table.name, &Value::Number(1)), None);
-    assert_eq!(rt;
-        locks.holder(&table.name, &Value::Number(2)),
-        Some((ME, false))
-    );
+    assert_eq!(rt; locks.holder(&emp, &Value::Number(1)), None);
+    assert_eq!(rt; locks.holder(&emp, &Value::Number(2)), Some((ME, false)));
     Ok(())
 }
 
 #[test]
 fn a_query_for_update_locks_what_it_finds(rt: HostRuntime) -> Result<(), Fail> {
     let alloc = rt.alloc();
-    let table = emp(alloc)?;
-    let tables = staffed(alloc, &table)?;
+    let emp = name(alloc, b"EMP")?;
     let mut locks = Locks::new(alloc);
-    let query = b"SELECT SAL FROM EMP";
-    assert_eq!(rt; refused(alloc, query, &table, &tables, &mut locks, 8)?, 0);
-    assert_eq!(rt; locks.holder(&table.name, &Value::Number(1)), None);
     let query = b"SELECT SAL FROM EMP WHERE EMPNO < 2 FOR UPDATE";
-    assert_eq!(rt; refused(alloc, query, &table, &tables, &mut locks, 8)?, 0);
-    assert_eq!(rt;
-        locks.holder(&table.name, &Value::Number(1)),
-        Some((ME, false))
-    );
-    assert_eq!(rt; locks.holder(&table.name, &Value::Number(2)), None);
+    let answer = answer_to(&rt, alloc, query, &mut locks, 0)?;
+    assert!(rt; matches!(&answer, Answer::Found(_)));
+    assert_eq!(rt; locks.holder(&emp, &Value::Number(1)), Some((ME, false)));
+    assert_eq!(rt; locks.holder(&emp, &Value::Number(2)), None);
+    Ok(())
+}
+
+#[test]
+fn an_update_without_an_extent_locks_nothing(rt: HostRuntime) -> Result<(), Fail> {
+    let alloc = rt.alloc();
+    let emp = name(alloc, b"EMP")?;
+    let mut locks = Locks::new(alloc);
+    let answer = answer_to(&rt, alloc, b"UPDATE EMP SET SAL = 0", &mut locks, 0)?;
+    assert_eq!(rt; code_of(&answer), 30036);
+    assert_eq!(rt; locks.holder(&emp, &Value::Number(1)), None);
     Ok(())
 }
