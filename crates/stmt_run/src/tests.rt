@@ -121,7 +121,9 @@ fn answer_to(
     let table = emp(rt, alloc)?;
     let tables = staffed(alloc, &table)?;
     let mut own = OwnChanges::new(alloc);
-    let answer = run(alloc, &statement, &table, &tables, &mut own, locks, &ME, free)?;
+    let answer = run(
+        alloc, &statement, &table, &tables, &mut own, locks, &ME, free,
+    )?;
     Ok(answer)
 }
 
@@ -155,10 +157,22 @@ fn a_held_key_refuses_before_a_duplicate_key(rt: HostRuntime) -> Result<(), Fail
     let emp = name(alloc, b"EMP")?;
     let mut locks = Locks::new(alloc);
     locks.take(alloc, &OTHER, &emp, &Value::Number(1), true)?;
-    let answer = answer_to(&rt, alloc, b"INSERT INTO EMP VALUES (1, 100)", &mut locks, 8)?;
+    let answer = answer_to(
+        &rt,
+        alloc,
+        b"INSERT INTO EMP VALUES (1, 100)",
+        &mut locks,
+        8,
+    )?;
     assert_eq!(rt; code_of(&answer), 2049);
     locks.release(&OTHER);
-    let answer = answer_to(&rt, alloc, b"INSERT INTO EMP VALUES (1, 100)", &mut locks, 8)?;
+    let answer = answer_to(
+        &rt,
+        alloc,
+        b"INSERT INTO EMP VALUES (1, 100)",
+        &mut locks,
+        8,
+    )?;
     assert_eq!(rt; code_of(&answer), 1);
     assert_eq!(rt; locks.holder(&emp, &Value::Number(1)), None);
     Ok(())
