@@ -9,12 +9,14 @@ PROOFS = "Rattle.plays.proofs"
 
 # what a play unfolds to compute what is printed
 UNFOLDED = (
+    ("Rattle.std.specs.Fmt", "digits"),
     (f"{IDS}.Numbers", "decimal hex8"),
     (f"{REDO}.Kept", "kept_after"),
     (f"{REDO}.Durable", "durable_after"),
     (f"{RULES}.Meaning", "checked examined written meant_over"),
     (f"{RULES}.Records", "applied stored_by"),
     (f"{RULES}.Tree", "weight step"),
+    ("Rattle.stmt_run.specs.Run", "ran_over"),
     (f"{RULES}.Statement", "ran"),
     (f"{RULES}.Calls", "way_of admit reply_of"),
     (f"{RULES}.Commit", "beyond next_on_decision next_on_ack next_on_forgotten"),
@@ -28,6 +30,7 @@ UNFOLDED = (
     (f"{LAWS}.Cuts", "cut_by"),
     (f"{LAWS}.Next", "next"),
     (f"{LAWS}.Due", "due_of runs_on"),
+    ("Rattle.report.specs.Refusals", "ora_texts dtx_texts"),
     (f"{LAWS}.Report", "report"),
 )
 
