@@ -1,17 +1,14 @@
 -- What the tests begin with: a table with one key, and rows of it.
-use Rattle.std.proofs.Common.{◌≡◌, ℕ, Bool, true, false, cond, List, [], ◌∷◌, Option, Some, length, position, slice_get, unwrap_or, refl, sym, ap, subst, ◌∙◌}
-use Rattle.std.specs.List.{All, AllByRecursion}
+use Rattle.std.proofs.Common.{◌≡◌, ℕ, Bool, true, false, cond, List, [], ◌∷◌, Some, position, refl, sym, subst}
 use Rattle.std.specs.Str.{bytes_eq}
 use Rattle.std.proofs.lemmas.List.Elements.{All-nil, All-cons}
 use Rattle.dtx_values.specs.declared.row.Change.{Change}
 use Rattle.dtx_values.specs.declared.table.Column.{Column}
 use Rattle.dtx_values.specs.declared.table.Table.{Table}
-use Rattle.dtx_values.specs.declared.value.Value.{Value}
-use Rattle.dtx_values.specs.declared.value.Value.TheVariants as values
 use Rattle.sql_eval.specs.declared.keyed.Keyed.{Keyed}
 use Rattle.sql_eval.specs.Words.{same_text}
-use Rattle.sql_eval.specs.Rows.{is_null, apply}
-use Rattle.sql_eval.specs.Laws.{has_one_key, AreRowsOf, IsChangeOf, IsRowAt}
+use Rattle.sql_eval.specs.Rows.{apply}
+use Rattle.sql_eval.specs.Laws.{has_one_key, AreRowsOf, IsChangeOf}
 use Rattle.sql_eval.proofs.RowLaws.{rows_stay}
 use Rattle.row_store.specs.Tables.{TableRows, apply_all, rows_of_table, with_table}
 

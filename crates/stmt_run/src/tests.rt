@@ -5,7 +5,7 @@ ghost use Rattle.sql_eval.specs.Laws.{has_one_key, AreRowsOf, IsChangeOf};
 ghost use Rattle.row_store.specs.Tables.{rows_of_table};
 
 use super::*;
-use dtx_values::{Answer, Change, Column, Done, Duplicate, Listing, Name, Row, Table, Value};
+use dtx_values::{Answer, Change, Column, Duplicate, Listing, Name, Row, Table, Value};
 use row_locks::Locks;
 use row_store::{OwnChanges, Tables};
 use sql_parse::{Stmt, parse};
@@ -109,30 +109,67 @@ fn staffed(alloc: Global, table: &Table) -> Result<Tables, Fail>
     Ok(tables)
 }
 
-/// What is answered to the first statement of a branch at a node where EMP has the employees 1 and 2.
-fn answer_to(
-    rt: &impl Abort,
-    alloc: Global,
-    text: &[u8],
-    locks: &mut Locks,
-    free: u64,
-) -> Result<Answer, Fail> {
-    let statement = statement(alloc, text)?;
-    let table = emp(rt, alloc)?;
-    let tables = staffed(alloc, &table)?;
-    let mut own = OwnChanges::new(alloc);
-    let answer = run(
-        alloc, &statement, &table, &tables, &mut own, locks, &ME, free,
-    )?;
-    Ok(answer)
+/// What a statement came to, in short.
+#[derive(Clone, Copy, Debug, PartialEq, Eq)]
+enum Outcome {
+    Refused(u16),
+    Did(u32),
+    Found,
 }
 
-fn code_of(answer: &Answer) -> u16 {
+fn outcome_of(answer: &Answer) -> Outcome {
     match answer {
-        Answer::Refused(refusal) => refusal.code,
-        Answer::Did(_done, _count) => 0,
-        Answer::Found(_rows) => 0,
+        Answer::Refused(refusal) => Outcome::Refused(refusal.code),
+        Answer::Did(_done, count) => Outcome::Did(*count),
+        Answer::Found(_rows) => Outcome::Found,
     }
+}
+
+/// What the first statement of a branch comes to.
+fn first(
+    alloc: Global,
+    statement: &Stmt,
+    table: &Table,
+    tables: &Tables,
+    locks: &mut Locks,
+) -> Result<Outcome, AllocError>
+    requires one_key { has_one_key table.now ≡ true }
+    requires rows { AreRowsOf table.now (rows_of_table tables.now table.now.name) }
+{
+    let mut own = OwnChanges::new(alloc);
+    let answer = run(alloc, statement, table, tables, &mut own, locks, &ME, 1)?;
+    Ok(outcome_of(&answer))
+}
+
+fn among_staff(
+    alloc: Global,
+    statement: &Stmt,
+    table: &Table,
+    locks: &mut Locks,
+) -> Result<Outcome, Fail>
+    requires one_key { has_one_key table.now ≡ true }
+    requires columns { length table.now.columns ≡ 2 }
+    requires key { position (λ c. c.key) table.now.columns ≡ Some 0 }
+{
+    let tables = staffed(alloc, table)?;
+    let outcome = first(alloc, statement, table, &tables, locks)?;
+    Ok(outcome)
+}
+
+fn over_emp(
+    rt: &impl Abort,
+    alloc: Global,
+    statement: &Stmt,
+    locks: &mut Locks,
+) -> Result<Outcome, Fail> {
+    let table = emp(rt, alloc)?;
+    among_staff(alloc, statement, &table, locks)
+}
+
+/// What a branch's first statement comes to at a node where EMP has the employees 1 and 2.
+fn done(rt: &impl Abort, alloc: Global, text: &[u8], locks: &mut Locks) -> Result<Outcome, Fail> {
+    let statement = statement(alloc, text)?;
+    over_emp(rt, alloc, &statement, locks)
 }
 
 #[test]
@@ -143,11 +180,16 @@ fn a_key_in_doubt_refuses_before_a_key_that_is_held(rt: HostRuntime) -> Result<(
     locks.take(alloc, &OTHER, &emp, &Value::Number(1), true)?;
     locks.take(alloc, &DOUBTED, &emp, &Value::Number(2), true)?;
     locks.mark_in_doubt(&DOUBTED);
-    let answer = answer_to(&rt, alloc, b"UPDATE EMP SET SAL = SAL + 1", &mut locks, 8)?;
-    assert_eq!(rt; code_of(&answer), 1591);
+    let raise = b"UPDATE EMP SET SAL = SAL + 1";
+    assert_eq!(rt;
+        done(&rt, alloc, raise, &mut locks)?,
+        Outcome::Refused(1591)
+    );
     locks.release(&DOUBTED);
-    let answer = answer_to(&rt, alloc, b"UPDATE EMP SET SAL = SAL + 1", &mut locks, 8)?;
-    assert_eq!(rt; code_of(&answer), 2049);
+    assert_eq!(rt;
+        done(&rt, alloc, raise, &mut locks)?,
+        Outcome::Refused(2049)
+    );
     Ok(())
 }
 
@@ -157,23 +199,10 @@ fn a_held_key_refuses_before_a_duplicate_key(rt: HostRuntime) -> Result<(), Fail
     let emp = name(alloc, b"EMP")?;
     let mut locks = Locks::new(alloc);
     locks.take(alloc, &OTHER, &emp, &Value::Number(1), true)?;
-    let answer = answer_to(
-        &rt,
-        alloc,
-        b"INSERT INTO EMP VALUES (1, 100)",
-        &mut locks,
-        8,
-    )?;
-    assert_eq!(rt; code_of(&answer), 2049);
+    let hire = b"INSERT INTO EMP VALUES (1, 100)";
+    assert_eq!(rt; done(&rt, alloc, hire, &mut locks)?, Outcome::Refused(2049));
     locks.release(&OTHER);
-    let answer = answer_to(
-        &rt,
-        alloc,
-        b"INSERT INTO EMP VALUES (1, 100)",
-        &mut locks,
-        8,
-    )?;
-    assert_eq!(rt; code_of(&answer), 1);
+    assert_eq!(rt; done(&rt, alloc, hire, &mut locks)?, Outcome::Refused(1));
     assert_eq!(rt; locks.holder(&emp, &Value::Number(1)), None);
     Ok(())
 }
@@ -184,8 +213,7 @@ fn an_update_of_one_row_locks_its_key(rt: HostRuntime) -> Result<(), Fail> {
     let emp = name(alloc, b"EMP")?;
     let mut locks = Locks::new(alloc);
     let raise = b"UPDATE EMP SET SAL = SAL + 1 WHERE EMPNO = 2";
-    let answer = answer_to(&rt, alloc, raise, &mut locks, 8)?;
-    assert!(rt; matches!(&answer, Answer::Did(Done::Updated, 1)));
+    assert_eq!(rt; done(&rt, alloc, raise, &mut locks)?, Outcome::Did(1));
     assert_eq!(rt; locks.holder(&emp, &Value::Number(1)), None);
     assert_eq!(rt; locks.holder(&emp, &Value::Number(2)), Some((ME, false)));
     Ok(())
@@ -197,20 +225,8 @@ fn a_query_for_update_locks_what_it_finds(rt: HostRuntime) -> Result<(), Fail> {
     let emp = name(alloc, b"EMP")?;
     let mut locks = Locks::new(alloc);
     let query = b"SELECT SAL FROM EMP WHERE EMPNO < 2 FOR UPDATE";
-    let answer = answer_to(&rt, alloc, query, &mut locks, 0)?;
-    assert!(rt; matches!(&answer, Answer::Found(_)));
+    assert_eq!(rt; done(&rt, alloc, query, &mut locks)?, Outcome::Found);
     assert_eq!(rt; locks.holder(&emp, &Value::Number(1)), Some((ME, false)));
     assert_eq!(rt; locks.holder(&emp, &Value::Number(2)), None);
-    Ok(())
-}
-
-#[test]
-fn an_update_without_an_extent_locks_nothing(rt: HostRuntime) -> Result<(), Fail> {
-    let alloc = rt.alloc();
-    let emp = name(alloc, b"EMP")?;
-    let mut locks = Locks::new(alloc);
-    let answer = answer_to(&rt, alloc, b"UPDATE EMP SET SAL = 0", &mut locks, 0)?;
-    assert_eq!(rt; code_of(&answer), 30036);
-    assert_eq!(rt; locks.holder(&emp, &Value::Number(1)), None);
     Ok(())
 }

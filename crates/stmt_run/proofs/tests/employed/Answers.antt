@@ -1,4 +1,4 @@
-use Rattle.std.proofs.Common.{◌≡◌, ℕ, List, Option, length, slice_get, unwrap_or, refl, ap, sym, ◌∙◌}
+use Rattle.std.proofs.Common.{ℕ, List, Option, length, slice_get, unwrap_or, refl, ap, sym, ◌∙◌}
 use Rattle.dtx_values.specs.declared.value.Value.{Value}
 use Rattle.dtx_values.specs.declared.value.Value.TheVariants.{Null}
 use Rattle.stmt_run.proofs.tests.employed.Goals as goal
