@@ -9,7 +9,8 @@ use Rattle.sql_eval.specs.Laws.{has_one_key, AreRowsOf, IsChangeOf}
 use Rattle.row_store.specs.Tables.{TableRows, rows_of_table}
 use Rattle.redo_codec.specs.declared.record.RedoRecord.{RedoRecord}
 use Rattle.redo_codec.specs.declared.record.RedoRecord.TheVariants as records
-use Rattle.sql_parse.specs.Statement.{statement_of}
+use Rattle.sql_parse.specs.declared.statement.Stmt.TheVariants as stmts
+use Rattle.sql_parse.specs.Whole.{IsWholeTable}
 use Rattle.sole_node.specs.declared.input.Input.{Input}
 use Rattle.sole_node.specs.declared.input.Input.TheVariants as inputs
 use Rattle.sole_node.specs.Kept.{Root, Session, Kept, table_of, is_used, session_at, root_of}
@@ -63,7 +64,7 @@ unfoldable pub AreSound : Kept → List RedoRecord → Type 0
 AreSound k [] = Unit {0}
 AreSound k (r ∷ rs) = MayFollow k r × AreSound (after_record k r) rs
 
--- an input whose statement was read from a text
-abbrev pub IsRead : Input → Type 0
-IsRead (inputs.Call session None) = Unit {0}
-IsRead (inputs.Call session (Some s)) = (text : List ℕ) × (statement_of text ≡ Some s)
+-- an input whose statement makes a whole table, if it makes one
+abbrev pub MakesWhole : Input → Type 0
+MakesWhole (inputs.Call session (Some (stmts.CreateTable t))) = IsWholeTable t
+MakesWhole _ = Unit {0}

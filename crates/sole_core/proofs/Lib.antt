@@ -1,0 +1,6 @@
+pub mod Growing
+pub mod Replays
+pub mod TableFits
+pub mod SaneLemmas
+pub mod Fits
+pub mod Roots

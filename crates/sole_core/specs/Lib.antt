@@ -1,0 +1,4 @@
+pub mod Finished
+pub mod Fitting
+pub mod Places
+pub mod OnDisk
