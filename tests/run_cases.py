@@ -6,7 +6,7 @@
 PROGRAM is ./dtx where it is left out. A case is a folder with the files
 
     script      the bytes of standard input
-    make-input  in place of script: a Python expression that gives those bytes
+    make-input  in place of script: a Python expression that gives those bytes; it may call range
     args        optional: the words of the command line, one a line
     expected    the whole standard output, byte for byte
     status      the exit status
@@ -20,6 +20,8 @@ import subprocess
 import sys
 
 TOP = pathlib.Path(__file__).resolve().parent.parent
+# what the expression of a make-input may call
+NAMES = {"__builtins__": {"range": range}}
 
 
 def cases():
@@ -27,7 +29,7 @@ def cases():
     for status in sorted(TOP.glob("tests/cases/**/status")):
         folder = status.parent
         script, make, args = folder / "script", folder / "make-input", folder / "args"
-        data = script.read_bytes() if script.exists() else eval(make.read_text(), {"__builtins__": {}})
+        data = script.read_bytes() if script.exists() else eval(make.read_text(), NAMES)
         words = args.read_text().splitlines() if args.exists() else []
         yield folder.relative_to(TOP), data, words, (folder / "expected").read_bytes(), int(status.read_text())
     for script in sorted(TOP.glob("examples/*.dtx")):

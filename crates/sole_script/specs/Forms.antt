@@ -1,9 +1,9 @@
 -- The forms of a command, as they are spelled.
 use Rattle.std.specs.Prelude.{ℕ, ◌+◌, ◌≤◌, ◌==◌, ⊤, List, Option, None, Some, if◌then◌else◌, codes, position, take, drop}
 use Rattle.std.specs.Option.{option_or}
-use Rattle.one_node_sql.specs.Reading.{◌>>=◌}
-use Rattle.one_node_sql.specs.Tokens.{tokens_of}
-use Rattle.one_node_sql.specs.Grammar.{Tokens, keyword_at, name_at, natural_at, end_at}
+use Rattle.command_grammar.specs.Reading.{◌>>=◌}
+use Rattle.command_grammar.specs.Tokens.{tokens_of}
+use Rattle.command_grammar.specs.Grammar.{Tokens, keyword_at, name_at, natural_at, end_at}
 use Rattle.sole_script.specs.declared.command.Command.{Command}
 use Rattle.sole_script.specs.declared.command.Command.TheVariants.{Node, At, Stop, Start, ShowBook, ShowDisk}
 use Rattle.sole_script.specs.Pieces.{is_colon}

@@ -1,6 +1,6 @@
 -- The pieces of a script, and the lines on which they stand.
 use Rattle.std.specs.Prelude.{ℕ, ◌+◌, ◌==◌, Bool, true, false, not, List, [], ◌∷◌, if◌then◌else◌, count_by, take_while}
-use Rattle.one_node_sql.specs.Tokens.{is_blank}
+use Rattle.command_grammar.specs.Tokens.{is_blank}
 
 -- the byte that ends a command
 abbrev pub is_semicolon : ℕ → Bool

@@ -2,7 +2,7 @@
 use Rattle.std.specs.Prelude.{◌≡◌, ℕ, ◌+◌, List, [], ◌∷◌, Option, None, Some, Result, Ok, Err, if◌then◌else◌, ⊤}
 use Rattle.std.specs.List.{list_all}
 use Rattle.std.specs.Option.{option_map_or}
-use Rattle.one_node_sql.specs.Tokens.{is_blank}
+use Rattle.command_grammar.specs.Tokens.{is_blank}
 use Rattle.sole_script.specs.declared.command.Command.{Command}
 use Rattle.sole_script.specs.declared.command.Command.TheVariants.{Node}
 use Rattle.sole_script.specs.declared.error.ScriptErr.{ScriptErr}

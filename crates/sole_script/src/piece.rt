@@ -1,10 +1,10 @@
 //! Pieces of a script: where they end, and on which line they begin.
 ghost use Rattle.std.specs.Prelude.{◌≡◌, ◌+◌, ◌<◌, ◌≤◌, ◌^◌, [], ◌∷◌, length, position, take, drop, IfNone, IfSome};
 ghost use Rattle.std.specs.List.{list_all, prefix_len};
-ghost use Rattle.one_node_sql.specs.Tokens.{is_blank as is_blank_byte};
+ghost use Rattle.command_grammar.specs.Tokens.{is_blank as is_blank_byte};
 ghost use Rattle.sole_script.specs.Pieces.{is_colon, pieces_of, line_ends as line_ends_in, begins};
 
-use one_node_sql::token::is_blank;
+use command_grammar::token::is_blank;
 
 /// What stands before the first `;` outside quotes, and what stands behind it.
 pub fn cut(bytes: &[u8]) -> Option<(&[u8], &[u8])>

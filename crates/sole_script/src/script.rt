@@ -10,8 +10,8 @@ use crate::comment::without_comments;
 use crate::error::ScriptErr;
 use crate::form::{command, node};
 use crate::piece::{cut, first_line, is_blank_text, line_ends};
+use command_grammar::CommandErr;
 use dtx_values::Name;
-use one_node_sql::ParseErr;
 use std::alloc::Global;
 
 /// The node that the first piece of a script makes, and its extents of undo.
@@ -22,8 +22,8 @@ fn node_on(alloc: Global, piece: &[u8]) -> Result<(Name, u32), ScriptErr>
 {
     match node(alloc, piece) {
         Ok(node) => Ok(node),
-        Err(ParseErr::NoMemory) => Err(ScriptErr::NoMemory),
-        Err(ParseErr::BadSql) => Err(bad(1, piece)),
+        Err(CommandErr::NoMemory) => Err(ScriptErr::NoMemory),
+        Err(CommandErr::BadCommand) => Err(bad(1, piece)),
     }
 }
 
@@ -35,8 +35,8 @@ fn command_on(alloc: Global, node: &Name, line: usize, piece: &[u8]) -> Result<C
 {
     match command(alloc, node, piece) {
         Ok(command) => Ok(command),
-        Err(ParseErr::NoMemory) => Err(ScriptErr::NoMemory),
-        Err(ParseErr::BadSql) => Err(bad(line, piece)),
+        Err(CommandErr::NoMemory) => Err(ScriptErr::NoMemory),
+        Err(CommandErr::BadCommand) => Err(bad(line, piece)),
     }
 }
 
