@@ -9,15 +9,15 @@ use Rattle.book.specs.declared.line.Said.TheVariants as said
 use Rattle.book.specs.declared.line.AnswerLine.{AnswerLine}
 use Rattle.one_node_sql.specs.declared.statement.Stmt.{Stmt}
 use Rattle.one_node_sql.specs.declared.statement.Stmt.TheVariants.{CreateTable, Insert, Select, Commit}
-use Rattle.one_node_book.specs.declared.input.Input.{Input}
-use Rattle.one_node_book.specs.declared.input.Input.TheVariants as inputs
-use Rattle.one_node_rules.specs.Turn.{the_node, Kept, own_of, branch_of, decision_of, understood, wrote_by, turn_of, after_record, after_records, start_of}
-use Rattle.one_node_rules.specs.Disk.{IsSpelled, IsLogOf}
-use Rattle.one_node_rules.proofs.RecordLemmas.{after_records-push}
-use Rattle.one_node_laws.specs.Past.{Past, Serves, Stops, Starts, line, fine, turned, turned_at, stopped, started}
-use Rattle.one_node_laws.specs.Lawful.{MayTurn, MayStop, MayStart}
-use Rattle.node_core.specs.KeptBy.{IsReady, GoesOn}
-use Rattle.node_core.specs.OnDisk.{MayStart as MayStartFrom, next_boot}
+use Rattle.sole_node.specs.declared.input.Input.{Input}
+use Rattle.sole_node.specs.declared.input.Input.TheVariants as inputs
+use Rattle.sole_node.specs.Turn.{the_node, Kept, own_of, branch_of, decision_of, understood, wrote_by, turn_of, after_record, after_records, start_of}
+use Rattle.sole_node.specs.Disk.{IsSpelled, IsLogOf}
+use Rattle.sole_node.proofs.RecordLemmas.{after_records-push}
+use Rattle.sole_laws.specs.Past.{Past, Serves, Stops, Starts, line, fine, turned, turned_at, stopped, started}
+use Rattle.sole_laws.specs.Lawful.{MayTurn, MayStop, MayStart}
+use Rattle.sole_core.specs.KeptBy.{IsReady, GoesOn}
+use Rattle.sole_core.specs.OnDisk.{MayStart as MayStartFrom, next_boot}
 use Rattle.script_run.specs.Site.{site_bytes, IsReadySite, StartsAs}
 use Rattle.script_run.specs.declared.site.Site.{Site}
 use Rattle.script_run.specs.Linked.{SiteIs, IsBelow, AreBelow, IsRunningAt, EndsAs}
@@ -72,7 +72,7 @@ records_more k (r ∷ rs) wrote = records_more (after_record k r) rs wrote
 
 turn_owes : (n : ℕ) (kept : Kept) (input : Input) (rs : List RedoRecord) → kept.scn ≤ n → OwesBelow n (start_of rs) → OwesBelow (n + 1) (start_of (rs ++ option_to_list (turn_of kept input).wrote))
 turn_owes n kept (inputs.Call session text) rs low below =
-    subst (OwesBelow (n + 1)) (sym (records_more Rattle.one_node_rules.specs.Turn.fresh rs (turn_of kept (inputs.Call session text)).wrote)) (owes_below n kept (start_of rs) (understood kept.table text) low below)
+    subst (OwesBelow (n + 1)) (sym (records_more Rattle.sole_node.specs.Turn.fresh rs (turn_of kept (inputs.Call session text)).wrote)) (owes_below n kept (start_of rs) (understood kept.table text) low below)
 
 pub turn_below : (p : Past) (k : Kept) (input : Input) (wrote : Option RedoRecord) (number : ℕ) → Some k ≡ p.node → IsRunningAt p number → wrote ≡ (turn_of k input).wrote → GoesOn k (turn_of k input).after
     → AreBelow number (turned_at p the_node input wrote p.node)
@@ -106,7 +106,7 @@ pub may_start_from : (p : Past) (number : ℕ) (bytes : List ℕ) → IsRunningA
 may_start_from p number bytes running log = (p.records, record { log = log; boots = omega (arith, running.below.boots, running.low) })
 
 boot_is : (rs : List RedoRecord) → (start_of (rs ++ next_boot rs ∷ [])).boot ≡ (start_of rs).boot + 1
-boot_is rs = ap (λ (k : Kept). k.boot) (after_records-push Rattle.one_node_rules.specs.Turn.fresh rs (next_boot rs))
+boot_is rs = ap (λ (k : Kept). k.boot) (after_records-push Rattle.sole_node.specs.Turn.fresh rs (next_boot rs))
 
 last_spelled : (rs : List RedoRecord) (r : RedoRecord) → AllByRecursion IsSpelled (rs ++ r ∷ []) → IsSpelled r
 last_spelled [] r all = all.0
@@ -136,7 +136,7 @@ start_links p boot site starts ready =
     }
 
 start_is : (rs : List RedoRecord) (boot : ℕ) → start_of (rs ++ records.Boot boot ∷ []) ≡ after_record (start_of rs) (records.Boot boot)
-start_is rs boot = after_records-push Rattle.one_node_rules.specs.Turn.fresh rs (records.Boot boot)
+start_is rs boot = after_records-push Rattle.sole_node.specs.Turn.fresh rs (records.Boot boot)
 
 -- nothing is open in what records say
 nothing_open : (k : Kept) (rs : List RedoRecord) → k.transaction ≡ None → k.ended ≡ 0 → ((after_records k rs).transaction ≡ None) × ((after_records k rs).ended ≡ 0)
@@ -165,7 +165,7 @@ pub start_below : (p : Past) (boot number : ℕ) → IsRunningAt p number → bo
 start_below p boot number running is =
     let number_is : boot ≡ (start_of p.records).boot + 1 = is ∙ boot_is p.records in
     let whole = start_is p.records boot in
-    let open_one = nothing_open Rattle.one_node_rules.specs.Turn.fresh (p.records ++ records.Boot boot ∷ []) refl refl in
+    let open_one = nothing_open Rattle.sole_node.specs.Turn.fresh (p.records ++ records.Boot boot ∷ []) refl refl in
     let scn : (start_of (p.records ++ records.Boot boot ∷ [])).scn ≡ (start_of p.records).scn = ap (λ (k : Kept). k.scn) whole in
     let boots : (start_of (p.records ++ records.Boot boot ∷ [])).boot ≡ boot = ap (λ (k : Kept). k.boot) whole in
     record {

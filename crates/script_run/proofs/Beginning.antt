@@ -2,10 +2,10 @@
 use Rattle.std.proofs.Common.{◌≡◌, ℕ, ◌<◌, Bool, true, false, List, [], ◌∷◌, length, drop, refl, sym, subst, arith}
 use Rattle.redo_codec.specs.declared.record.RedoRecord.{RedoRecord}
 use Rattle.book.specs.declared.entry.Entry.{Entry}
-use Rattle.one_node_script.specs.declared.command.Command.{Command}
-use Rattle.one_node_script.specs.declared.command.Command.TheVariants as commands
-use Rattle.one_node_laws.specs.Past.{Past, begun, said_at_once}
-use Rattle.one_node_laws.specs.Lawful.{MayBegin}
+use Rattle.sole_script.specs.declared.command.Command.{Command}
+use Rattle.sole_script.specs.declared.command.Command.TheVariants as commands
+use Rattle.sole_laws.specs.Past.{Past, begun, said_at_once}
+use Rattle.sole_laws.specs.Lawful.{MayBegin}
 use Rattle.script_run.specs.Linked.{IsNext, BeginsAs, IsSilent}
 
 pub may_begin : (p : Past) (number : ℕ) (command : Command) → IsNext p number command → MayBegin p number

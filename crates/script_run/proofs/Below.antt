@@ -1,8 +1,8 @@
 -- A run in which nothing has happened.
 use Rattle.std.proofs.Common.{List, [], arith}
-use Rattle.one_node_script.specs.declared.command.Command.{Command}
-use Rattle.one_node_rules.specs.Turn.{after_records}
-use Rattle.one_node_laws.specs.Past.{past, past_of}
+use Rattle.sole_script.specs.declared.command.Command.{Command}
+use Rattle.sole_node.specs.Turn.{after_records}
+use Rattle.sole_laws.specs.Past.{past, past_of}
 use Rattle.script_run.specs.Linked.{AreBelow}
 
 pub nothing_given : (asked : List Command) → AreBelow 0 (past_of (record { asked = asked; happenings = [] }))

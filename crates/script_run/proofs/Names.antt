@@ -1,9 +1,9 @@
 -- One node more.
 use Rattle.std.proofs.Common.{◌≡◌, ℕ, ◌+◌, ◌<◌, List, [], ◌∷◌, ◌++◌, length, take, slice_index_or, refl, ap, ◌∙◌}
 use Rattle.std.proofs.lemmas.List.{take_more}
-use Rattle.one_node_script.specs.declared.command.Command.{Command}
-use Rattle.one_node_script.specs.declared.command.Command.TheVariants as commands
-use Rattle.one_node_laws.specs.Past.{names_by}
+use Rattle.sole_script.specs.declared.command.Command.{Command}
+use Rattle.sole_script.specs.declared.command.Command.TheVariants as commands
+use Rattle.sole_laws.specs.Past.{names_by}
 use Rattle.script_run.specs.Report.{node_names}
 
 one_more : (c : Command) → node_names (c ∷ []) ≡ names_by [] c

@@ -2,12 +2,11 @@
 use Rattle.std.specs.Prelude.{◌≡◌, [], Some}
 use Rattle.redo_log.specs.Cells.{bodies}
 use Rattle.run_laws.specs.Book.{Agreement, MixedIsMarked, ScnLaw}
-use Rattle.one_node_book.specs.Book.{book_of, records_of}
-use Rattle.one_node_rules.specs.Disk.{bodies_of, disk_bytes}
-use Rattle.one_node_laws.specs.Past.{start}
-use Rattle.one_node_laws.specs.Lawful.{IsLawful}
-use Rattle.one_node_laws.specs.Standing.{nothing_yet}
-use Rattle.one_node_laws.specs.Told.{told, WritesOwed, AnswersEach}
+use Rattle.sole_node.specs.Book.{book_of, records_of}
+use Rattle.sole_node.specs.Disk.{bodies_of, disk_bytes}
+use Rattle.sole_laws.specs.Past.{start}
+use Rattle.sole_laws.specs.Lawful.{IsLawful}
+use Rattle.sole_laws.specs.Told.{told, WritesOwed, AnswersEach}
 use Rattle.script_run.specs.declared.outcome.Run.{Run}
 
 -- The book is that of the trace, in which only what may happen happened. Each line is the one that the trace and the
@@ -20,7 +19,7 @@ pub record IsRun (run : Run) : Type 0 where
   pub lawful : IsLawful (start run.commands) run.trace
   pub told : run.answers ≡ told run.commands run.trace
   pub in_order : AnswersEach 1 run.answers
-  pub writes : WritesOwed nothing_yet run.trace
+  pub writes : WritesOwed (start run.commands) run.trace
   pub stands : bodies (disk_bytes (records_of run.trace)) ≡ Some (bodies_of (records_of run.trace))
   pub agreement : Agreement run.book
   pub marked : MixedIsMarked run.book

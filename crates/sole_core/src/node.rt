@@ -1,5 +1,5 @@
 //! A node and its disk.
-ghost use Rattle.std.specs.Prelude.{◌≡◌, ◌+◌, ◌<◌, ◌≤◌, ◌^◌, List, [], ◌∷◌, length, IfOk, IfErr, IfSome, OnOk, IsErrOf, MatchResult};
+ghost use Rattle.std.specs.Prelude.{◌≡◌, ◌+◌, ◌<◌, ◌≤◌, ◌^◌, List, [], ◌∷◌, length, is_some, IfOk, IfErr, IfSome, OnOk, IsErrOf, MatchResult};
 ghost use Rattle.dtx_ports.specs.Causes.{Rose};
 ghost use Rattle.block_disk.specs.Images.{IsOnly, AtEachMoment};
 ghost use Rattle.redo_codec.specs.declared.record.RedoRecord.{RedoRecord};
@@ -13,7 +13,7 @@ ghost use Rattle.redo_log.specs.declared.err.LoadWhy.TheVariants as loads;
 ghost use Rattle.sole_core.specs.declared.err.MakeWhy.TheVariants as makes;
 ghost use Rattle.sole_core.specs.declared.err.TurnErr.TheVariants as turns;
 ghost use Rattle.sole_core.specs.Finished.{session_of, answer_of};
-ghost use Rattle.sole_node.specs.Kept.{fresh};
+ghost use Rattle.sole_node.specs.Kept.{fresh, session_at};
 ghost use Rattle.sole_node.specs.Ready.{IsReady, MakesWhole, AreSound};
 ghost use Rattle.sole_core.specs.OnDisk.{kept_of, undo_of, node_disk, IsWritable, IsRunning, GrowsByRecord, GrowsBy, calls_of, MayStand, MayStart, HoldRecords, StartsWith, StartsFrom, session_in};
 
@@ -23,10 +23,10 @@ use crate::finished::Finished;
 use crate::machine::Machine;
 use crate::records::records;
 use block_disk::Disk;
-use sole_node::Input;
 use redo_codec::RedoRecord;
 use redo_format::{encode, records_are_exact};
 use redo_log::{Bodies, LoadErr, LoadWhy, Log, LogErr};
+use sole_node::Input;
 use std::alloc::{AllocError, Global};
 
 /// A node: what it keeps in memory, and the log on its disk.
@@ -140,11 +140,7 @@ fn begin<D: Disk>(
 
 /// A node whose log has no record.
 #[tactic(auto, using(crate::proofs::Growing::growing))]
-fn begin_empty<D: Disk>(
-    alloc: Global,
-    undo: u32,
-    log: Log<D>,
-) -> Result<Node<D>, MakeErr<D>>
+fn begin_empty<D: Disk>(alloc: Global, undo: u32, log: Log<D>) -> Result<Node<D>, MakeErr<D>>
     requires writable { IsWritable D.content D.images log }
     ensures undo { IfOk result (λ node. undo_of node ≡ undo) }
     ensures kept { IfOk result (λ node. kept_of node ≡ after_record fresh (records.Boot 1)) }
@@ -280,6 +276,13 @@ impl<D: Disk> Node<D> {
         ensures { result ≡ (kept_of self.now).boot }
     {
         self.machine.boot
+    }
+
+    /// Whether a session has a transaction.
+    pub fn has_open(&self, session: u32) -> bool
+        ensures { result ≡ is_some (session_at (kept_of self.now) session).root }
+    {
+        self.machine.session(session).root.is_some()
     }
 
     /// The disk.

@@ -1,7 +1,7 @@
 use Rattle.std.proofs.Common.{◌≡◌, ap, sym, subst, ◌∙◌, Some}
-use Rattle.one_node_laws.specs.Past.{past_of}
-use Rattle.node_core.specs.KeptBy.{GoesOn}
-use Rattle.node_core.specs.OnDisk.{kept_of}
+use Rattle.sole_laws.specs.Past.{past_of}
+use Rattle.sole_core.specs.KeptBy.{GoesOn}
+use Rattle.sole_core.specs.OnDisk.{kept_of}
 use Rattle.script_run.specs.Site.{site_kept}
 use Rattle.script_run.specs.Linked.{AreBelow}
 use Rattle.script_run.proofs.Acting.{turn_below}

@@ -1,6 +1,6 @@
 use Rattle.std.proofs.Common.{sym, subst}
-use Rattle.one_node_rules.specs.Disk.{IsLogOf}
-use Rattle.one_node_laws.specs.Past.{Past, past_of}
+use Rattle.sole_node.specs.Disk.{IsLogOf}
+use Rattle.sole_laws.specs.Past.{Past, past_of}
 use Rattle.script_run.specs.Site.{site_bytes}
 use Rattle.script_run.specs.declared.site.Site.{Site}
 use Rattle.script_run.specs.Linked.{SiteIs}

@@ -1,5 +1,5 @@
 use Rattle.std.proofs.Common.{◌≡◌, drop}
-use Rattle.one_node_laws.specs.Past.{past_of}
+use Rattle.sole_laws.specs.Past.{past_of}
 use Rattle.script_run.specs.Linked.{IsLinked, IsDone, AreBelow}
 use Rattle.script_run.proofs.progress.Progress.carry_out_all.Given as goal
 

@@ -1,5 +1,5 @@
 use Rattle.std.proofs.Common.{sym, subst}
-use Rattle.one_node_laws.specs.Past.{History, past_of}
+use Rattle.sole_laws.specs.Past.{History, past_of}
 use Rattle.script_run.specs.Linked.{AreBelow}
 use Rattle.script_run.proofs.Below.{nothing_given}
 use Rattle.script_run.proofs.progress.Progress.new.Goals as goal
