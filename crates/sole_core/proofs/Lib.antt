@@ -2,5 +2,5 @@ pub mod Growing
 pub mod Replays
 pub mod TableFits
 pub mod SaneLemmas
-pub mod Fits
+pub mod FitLemmas
 pub mod Roots

@@ -47,13 +47,13 @@ impl Model for Machine {
     ghost Value = { Kept };
 
     ghost view = { λ m. record {
-        boot = m.boot;
-        tables = m.catalog.tables;
-        rows = m.rows;
-        scn = m.clock;
-        roots = m.roots.items;
-        locks = m.locks;
-        sessions = m.sessions.items;
+      boot = m.boot;
+      tables = m.catalog.tables;
+      rows = m.rows;
+      scn = m.clock;
+      roots = m.roots.items;
+      locks = m.locks;
+      sessions = m.sessions.items;
     } };
 
     // A node has no synonyms.

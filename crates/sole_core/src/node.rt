@@ -23,10 +23,10 @@ use crate::finished::Finished;
 use crate::machine::Machine;
 use crate::records::records;
 use block_disk::Disk;
-use sole_node::Input;
 use redo_codec::RedoRecord;
 use redo_format::{encode, records_are_exact};
 use redo_log::{Bodies, LoadErr, LoadWhy, Log, LogErr};
+use sole_node::Input;
 use std::alloc::{AllocError, Global};
 
 /// A node: what it keeps in memory, and the log on its disk.
@@ -140,11 +140,7 @@ fn begin<D: Disk>(
 
 /// A node whose log has no record.
 #[tactic(auto, using(crate::proofs::Growing::growing))]
-fn begin_empty<D: Disk>(
-    alloc: Global,
-    undo: u32,
-    log: Log<D>,
-) -> Result<Node<D>, MakeErr<D>>
+fn begin_empty<D: Disk>(alloc: Global, undo: u32, log: Log<D>) -> Result<Node<D>, MakeErr<D>>
     requires writable { IsWritable D.content D.images log }
     ensures undo { IfOk result (λ node. undo_of node ≡ undo) }
     ensures kept { IfOk result (λ node. kept_of node ≡ after_record fresh (records.Boot 1)) }
@@ -282,7 +278,7 @@ impl<D: Disk> Node<D> {
         self.machine.boot
     }
 
-    /// Whether a session has a transaction.
+    /// Whether a client session has an open transaction.
     pub fn has_open(&self, session: u32) -> bool
         ensures { result ≡ is_some (session_at (kept_of self.now) session).root }
     {

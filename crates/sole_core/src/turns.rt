@@ -59,13 +59,8 @@ fn is_brought(statement: &Stmt) -> bool
 }
 
 /// The decision of a root without other branches.
-#[tactic(auto, using(crate::proofs::Fits::fitting))]
-fn decision(
-    alloc: Global,
-    root: BranchId,
-    scn: u64,
-    changes: Changes,
-) -> Decided
+#[tactic(auto, using(crate::proofs::FitLemmas::fitting))]
+fn decision(alloc: Global, root: BranchId, scn: u64, changes: Changes) -> Decided
     requires scn { scn < 2 ^ 48 }
     requires few { length changes < 2 ^ 32 }
     requires fit { AllByRecursion IsFitting changes }
@@ -114,12 +109,7 @@ impl Machine {
     }
 
     /// Serves a statement, which the node may not run.
-    fn read(
-        &mut self,
-        undo: u32,
-        session: u32,
-        statement: &Stmt,
-    ) -> Result<Served, AllocError>
+    fn read(&mut self, undo: u32, session: u32, statement: &Stmt) -> Result<Served, AllocError>
         requires ready { IsReady self.old }
         requires whole { MakesWhole (inputs.Call session (Some statement.now)) }
         ensures answer { IfOk result (λ served. served.answer ≡ (read_turn undo self.old session (brought_of (Some statement.now))).answer) }
@@ -135,12 +125,7 @@ impl Machine {
     }
 
     /// Serves a statement that the node runs.
-    fn call(
-        &mut self,
-        undo: u32,
-        session: u32,
-        statement: &Stmt,
-    ) -> Result<Served, AllocError>
+    fn call(&mut self, undo: u32, session: u32, statement: &Stmt) -> Result<Served, AllocError>
         requires ready { IsReady self.old }
         requires whole { MakesWhole (inputs.Call session (Some statement.now)) }
         requires brought { is_brought_of statement.now ≡ true }
@@ -179,12 +164,7 @@ impl Machine {
 
     /// A statement at a table, in the transaction of a session, which begins where none is open.
     #[tactic(auto, using(crate::proofs::SaneLemmas::open_ones))]
-    fn run_in(
-        &mut self,
-        undo: u32,
-        session: u32,
-        statement: &Stmt,
-    ) -> Result<Served, AllocError>
+    fn run_in(&mut self, undo: u32, session: u32, statement: &Stmt) -> Result<Served, AllocError>
         requires ready { IsReady self.old }
         requires brought { is_bare (table_in statement.now) ≡ true }
         ensures answer { IfOk result (λ served. served.answer ≡ (statement_turn undo (begun self.old session) statement.now (root_at (begun self.old session) session)).answer) }
@@ -252,11 +232,7 @@ impl Machine {
     }
 
     /// The open transaction at this place, which is the session's, ends, and decides where it changed something.
-    fn decide(
-        &mut self,
-        session: u32,
-        place: usize,
-    ) -> Result<Option<RedoRecord>, AllocError>
+    fn decide(&mut self, session: u32, place: usize) -> Result<Option<RedoRecord>, AllocError>
         requires at { IsFirstAt self.old place }
         requires named { HasRowsOfTables self.old }
         requires scn { self.old.scn + 1 < 2 ^ 48 }
@@ -294,7 +270,7 @@ impl Machine {
 }
 
 /// The record of a table that was created by a statement.
-#[tactic(auto, using(crate::proofs::Fits::fitting))]
+#[tactic(auto, using(crate::proofs::FitLemmas::fitting))]
 fn created(alloc: Global, table: &Table) -> Result<RedoRecord, AllocError>
     requires whole { IsWholeTable table.now }
     ensures record { IfOk result (λ r. r ≡ records.Table table.now) }
