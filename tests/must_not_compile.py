@@ -1,5 +1,5 @@
 #!/usr/bin/env python3
-"""Shows what no crate outside node_core can write: the end of a call that no turn of a node made.
+"""Shows what no crate outside sole_core can write: the end of a call that no turn of a node made.
 
     tests/must_not_compile.py
 
@@ -15,7 +15,7 @@ import sys
 import tempfile
 
 TOP = pathlib.Path(__file__).resolve().parent.parent
-LIBRARY = "node_core"
+LIBRARY = "sole_core"
 
 
 def said(copy, program):

@@ -47,4 +47,5 @@ idle kept names rs book commands.ShowBook what told = refl
 idle kept names rs book (commands.ShowDisk node) what told = refl
 
 pub ruleset begins = (may_begin, begins_as)
+
 pub ruleset told_or_due = (silent, idle)
