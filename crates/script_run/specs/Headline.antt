@@ -10,9 +10,9 @@ use Rattle.sole_laws.specs.Told.{told, WritesOwed, AnswersEach}
 use Rattle.script_run.specs.declared.outcome.Run.{Run}
 
 -- The book is that of the trace, in which only what may happen happened. Each line is the one that the trace and the
--- book so far give: for a query, its meaning over the rows that the book's committed transactions leave, with the
--- asker's own changes, and for SHOW DISK the bytes of the records so far, which stand for just these records. The lines
--- answer the commands from the first on, one each. Each turn wrote what it owes, each start the record of the next start.
+-- book so far give: for a call, its answer over the rows that the book's committed transactions leave, with the caller's
+-- own changes, and for SHOW DISK the bytes of the records so far, which stand for just these records. The lines answer
+-- the commands from the first on, one each. Each turn wrote what it owes, each start the record of the next start.
 -- Branches end as their site decided, mixed outcomes are marked, and the SCN law holds.
 pub record IsRun (run : Run) : Type 0 where
   pub book : run.book ≡ book_of run.trace

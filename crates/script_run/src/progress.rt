@@ -71,6 +71,7 @@ impl Progress {
 
     /// Carries out the command that is next. There is room for its line before anything happens, so what happened is
     /// told, also where memory runs out.
+    #[tactic(auto, using(crate::proofs::Beginning::told_or_due))]
     fn carry_out(&mut self, alloc: Global, number: u32, command: Command) -> Result<(), AllocError>
         requires linked { IsLinked self.old }
         requires is_next { IsNext (past_of self.old.trace) number command }
