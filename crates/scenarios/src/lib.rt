@@ -13,4 +13,6 @@ mod play;
 #[cfg(test)]
 mod script_errors;
 #[cfg(test)]
+mod sessions;
+#[cfg(test)]
 mod stops;

@@ -1,4 +1,4 @@
-//! One node, one table, one session.
+//! One table and one session.
 use crate::play::{Scenario, play};
 use std::test::Fail;
 
@@ -35,8 +35,8 @@ const SCENARIOS: [Scenario; 8] = [
     },
     Scenario {
         name: "what is no statement is refused and changes nothing",
-        script: "NODE A; AT A SESSION 1: INSERT INTO T VALUES (1, 1); AT A SESSION 1: CREATE TABLE T (K NUMBER PRIMARY KEY, V NUMBER); AT A SESSION 1: DROP TABLE T; AT A SESSION 1: CREATE TABLE U (K NUMBER PRIMARY KEY, V NUMBER); AT A SESSION 1: SELECT * FROM T WHERE V = 1; AT A SESSION 1: INSERT INTO U VALUES (1, 1); AT A SESSION 1:; AT A SESSION 1: SELECT * FROM T WHERE K = 1;",
-        printed: "1 ok\n2 ORA-00900: invalid SQL statement\n3 Table created.\n4 ORA-00900: invalid SQL statement\n5 ORA-00900: invalid SQL statement\n6 ORA-00900: invalid SQL statement\n7 ORA-00900: invalid SQL statement\n8 ORA-00900: invalid SQL statement\n9 no rows selected\n",
+        script: "NODE A; AT A SESSION 1: INSERT INTO T VALUES (1, 1); AT A SESSION 1: CREATE TABLE T (K NUMBER PRIMARY KEY, V NUMBER); AT A SESSION 1: DROP TABLE T; AT A SESSION 1: CREATE TABLE T (K NUMBER PRIMARY KEY, V NUMBER); AT A SESSION 1: INSERT INTO T VALUES (1); AT A SESSION 1:; AT A SESSION 1: SELECT * FROM T WHERE V = 1;",
+        printed: "1 ok\n2 ORA-00942: table or view does not exist\n3 Table created.\n4 ORA-00900: invalid SQL statement\n5 ORA-00955: name is already used by an existing object\n6 ORA-00947: not enough values\n7 ORA-00900: invalid SQL statement\n8 no rows selected\n",
     },
     Scenario {
         name: "numbers reach from the least to the greatest of 64 bits",

@@ -10,7 +10,7 @@ struct Refused {
     printed: &'static str,
 }
 
-const REFUSED: [Refused; 6] = [
+const REFUSED: [Refused; 7] = [
     Refused {
         name: "an unknown word on the second line",
         script: "NODE A;\nFROB;",
@@ -27,9 +27,14 @@ const REFUSED: [Refused; 6] = [
         printed: "line 4: bad command\n",
     },
     Refused {
-        name: "another session",
-        script: "NODE A;\nAT A SESSION 2: COMMIT;",
-        printed: "line 2: bad command\n",
+        name: "a session behind the last",
+        script: "NODE A;\nAT A SESSION 64: COMMIT;\nAT A SESSION 65: COMMIT;",
+        printed: "line 3: bad command\n",
+    },
+    Refused {
+        name: "a node without undo",
+        script: "NODE A UNDO 0;",
+        printed: "line 1: bad command\n",
     },
     Refused {
         name: "an empty command",

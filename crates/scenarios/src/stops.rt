@@ -47,7 +47,7 @@ const SCENARIOS: [Scenario; 9] = [
     Scenario {
         name: "a row that is not committed has no record",
         script: "NODE A; AT A SESSION 1: COMMIT; AT A SESSION 1: SELECT * FROM T WHERE K = 1; SHOW DISK A; SHOW BOOK;",
-        printed: "1 ok\n2 Commit complete.\n3 ORA-00900: invalid SQL statement\n4 00000000 010000000601010000000100\n5 no entries\n",
+        printed: "1 ok\n2 Commit complete.\n3 ORA-00942: table or view does not exist\n4 00000000 010000000601010000000100\n5 no entries\n",
     },
 ];
 

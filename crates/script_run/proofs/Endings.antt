@@ -4,7 +4,7 @@ use Rattle.std.specs.Prelude.{IsOk, IsErr}
 use Rattle.std.specs.Io.KnownBytes.{Consumes, IsAtEnd, Appends}
 use Rattle.std.proofs.lemmas.List.{append-nil}
 use Rattle.dtx_ports.specs.Whole.{IsTooLong}
-use Rattle.one_node_script.specs.Script.{Asked, asked}
+use Rattle.sole_script.specs.Script.{Asked, asked}
 use Rattle.script_run.specs.declared.outcome.Run.{Run}
 use Rattle.script_run.specs.declared.outcome.Status.{Status}
 use Rattle.script_run.specs.declared.outcome.Status.TheVariants.{Done, BadScript, Usage, NoMemory, ReadFault, WriteFault, TooLong}

@@ -3,7 +3,7 @@ use Rattle.std.specs.Prelude.{◌≡◌, ◌++◌, ◌≤◌, ◌⊎◌, ℕ, Bo
 use Rattle.std.specs.Io.KnownBytes.{Keeps, Appends}
 use Rattle.dtx_ports.specs.Causes.{Rose}
 use Rattle.dtx_ports.specs.Whole.{IsAll, IsTooLong, AppendsPrefix}
-use Rattle.one_node_script.specs.Script.{Asked, asked}
+use Rattle.sole_script.specs.Script.{Asked, asked}
 use Rattle.script_run.specs.declared.outcome.Run.{Run}
 use Rattle.script_run.specs.declared.outcome.Status.{Status}
 use Rattle.script_run.specs.declared.outcome.Status.TheVariants.{Done, BadScript, Usage, NoMemory, ReadFault, WriteFault, TooLong}

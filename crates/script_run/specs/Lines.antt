@@ -2,7 +2,7 @@
 use Rattle.std.specs.Prelude.{List, [], ◌∷◌, Option, Some, None}
 use Rattle.book.specs.declared.line.Said.{Said as Plain}
 use Rattle.book.specs.declared.line.Said.TheVariants as plain
-use Rattle.node_core.specs.Finished.{answer_of}
+use Rattle.sole_core.specs.Finished.{answer_of}
 use Rattle.script_run.specs.declared.line.Said.{Said}
 use Rattle.script_run.specs.declared.line.Said.TheVariants.{Node, World}
 

@@ -1,7 +1,7 @@
 -- What a run prints.
 use Rattle.std.specs.Prelude.{ℕ, Bool, List, [], ◌∷◌, ◌++◌, if◌then◌else◌}
-use Rattle.one_node_script.specs.declared.command.Command.{Command}
-use Rattle.one_node_script.specs.declared.command.Command.TheVariants as commands
+use Rattle.sole_script.specs.declared.command.Command.{Command}
+use Rattle.sole_script.specs.declared.command.Command.TheVariants as commands
 use Rattle.book.specs.Texts.{book_text}
 use Rattle.report.specs.Report.{report, printed}
 use Rattle.script_run.specs.declared.outcome.Run.{Run}
@@ -9,7 +9,7 @@ use Rattle.script_run.specs.declared.outcome.Run.{Run}
 -- the names of the nodes that these commands make
 abbrev pub node_names : List Command → List (List ℕ)
 node_names [] = []
-node_names (commands.Node name ∷ rest) = name ∷ node_names rest
+node_names (commands.Node name undo ∷ rest) = name ∷ node_names rest
 node_names (_ ∷ rest) = node_names rest
 
 -- what a run prints: the report of its answers, and the book behind it where that is wanted

@@ -1,23 +1,16 @@
-//! What a command makes happen: a turn of the node, its stop, its start.
-ghost use Rattle.std.specs.Prelude.{◌≡◌, true, false, is_some, IfOk, IfSome, OnOk, OnErr};
-ghost use Rattle.one_node_laws.specs.Past.{Serves, Stops, Starts, past_of, due_by};
-ghost use Rattle.one_node_rules.specs.Turn.{turn_of};
-ghost use Rattle.one_node_rules.specs.Disk.{IsSpelled};
-ghost use Rattle.node_core.specs.Finished.{answer_of};
-ghost use Rattle.node_core.specs.KeptBy.{IsReady, GoesOn};
-ghost use Rattle.node_core.specs.OnDisk.{kept_of, GrowsBy};
-ghost use Rattle.script_run.specs.Site.{site_bytes, IsReadySite};
-ghost use Rattle.script_run.specs.declared.site.Site.TheVariants.{Up};
-ghost use Rattle.script_run.specs.Linked.{SiteIs, IsNext, BeginsAs, EndsAs, AreBelow, IsRunningAt, IsSilent};
+//! What a command makes happen: the calls of a client, a stop of the node, its start.
+ghost use Rattle.std.specs.Prelude.{◌≡◌, ◌<◌, ◌^◌, true, false, length, is_some, IfOk, OnOk, OnErr};
+ghost use Rattle.sole_laws.specs.Past.{Stops, Starts, past_of, due_by};
+ghost use Rattle.script_run.specs.Linked.{SiteIs, IsNext, BeginsAs, EndsAs, IsSilent};
 
+use crate::calls::call;
 use crate::line::{AnswerLine, Said};
-use crate::site::{Site, running, started, stopped};
+use crate::site::{Site, started, stopped};
 use block_disk::MemDisk;
 use dtx_values::Notice;
-use node_core::{Effects, Node, TurnErr};
-use one_node_book::{Happening, Input};
-use one_node_laws::Trace;
-use one_node_script::Command;
+use sole_laws::{Trace, nodes_are_in_order};
+use sole_node::Happening;
+use sole_script::Command;
 use std::alloc::{AllocError, Global};
 use std::mem;
 
@@ -40,56 +33,6 @@ pub fn begin(
     trace.push(alloc, Happening::Begun { command: number })
 }
 
-/// One turn of a node on a disk that does not fail.
-fn turn(node: &mut Node<MemDisk>, input: &Input) -> Result<Effects, AllocError>
-    requires running { IsReadySite (Up node.old) }
-    requires ready { IsReady (kept_of node.old) }
-    ensures answer { IfOk result (λ e. answer_of e.finished ≡ (turn_of (kept_of node.old) input.now).answer) }
-    ensures wrote { IfOk result (λ e. e.wrote ≡ (turn_of (kept_of node.old) input.now).wrote) }
-    ensures spelled { IfOk result (λ e. IfSome e.wrote IsSpelled) }
-    ensures after { OnOk result (kept_of node.new ≡ (turn_of (kept_of node.old) input.now).after) }
-    ensures next { OnOk result (GoesOn (kept_of node.old) (kept_of node.new)) }
-    ensures stored { OnOk result (GrowsBy (turn_of (kept_of node.old) input.now).wrote (site_bytes (Up node.old)) (site_bytes (Up node.new))) }
-    ensures running { OnOk result (IsReadySite (Up node.new)) }
-{
-    match node.turn(input) {
-        Ok(effects) => Ok(effects),
-        Err(TurnErr::NoMemory) => Err(AllocError),
-        Err(TurnErr::Halted) => unreachable!(),
-    }
-}
-
-/// The node serves the call that is out.
-#[tactic(auto, using(crate::proofs::Acting::acting))]
-fn serve(
-    alloc: Global,
-    number: u32,
-    site: &mut Site,
-    trace: &mut Trace,
-    input: Input,
-) -> Result<AnswerLine, AllocError>
-    requires is { SiteIs (past_of trace.old) site.old }
-    requires running { IsRunningAt (past_of trace.old) number }
-    requires out { (past_of trace.old).due ≡ Serves input }
-    requires up { is_some (past_of trace.old).node ≡ true }
-    ensures ends { IfOk result (EndsAs (past_of trace.old) (past_of trace.new)) }
-    ensures is { OnOk result (SiteIs (past_of trace.new) site.new) }
-    ensures below { OnOk result (AreBelow number (past_of trace.new)) }
-    ensures asked { trace.new.asked ≡ trace.old.asked }
-    ensures err { OnErr result (trace.new ≡ trace.old) }
-{
-    let mut node = running(mem::replace(site, Site::Down(MemDisk::new(alloc))));
-    let effects = turn(&mut node, &input)?;
-    let turn = Happening::Turn {
-        node: NODE,
-        input,
-        wrote: effects.wrote,
-    };
-    trace.push(alloc, turn)?;
-    *site = Site::Up(node);
-    Ok(AnswerLine::new(number, Said::Node(effects.finished)))
-}
-
 /// The node stops.
 #[tactic(auto, using(crate::proofs::Acting::acting))]
 fn stop(
@@ -99,12 +42,11 @@ fn stop(
     trace: &mut Trace,
 ) -> Result<AnswerLine, AllocError>
     requires is { SiteIs (past_of trace.old) site.old }
-    requires running { IsRunningAt (past_of trace.old) number }
+    requires running { (past_of trace.old).command ≡ number }
     requires due { (past_of trace.old).due ≡ Stops }
     requires up { is_some (past_of trace.old).node ≡ true }
     ensures ends { IfOk result (EndsAs (past_of trace.old) (past_of trace.new)) }
     ensures is { OnOk result (SiteIs (past_of trace.new) site.new) }
-    ensures below { OnOk result (AreBelow number (past_of trace.new)) }
     ensures asked { trace.new.asked ≡ trace.old.asked }
     ensures err { OnErr result (trace.new ≡ trace.old) }
 {
@@ -114,58 +56,69 @@ fn stop(
     Ok(AnswerLine::new(number, Said::World(Notice::Fine)))
 }
 
-/// The node starts.
+/// The node starts, with so many undo extents.
 #[tactic(auto, using(crate::proofs::Acting::acting))]
 fn start(
     alloc: Global,
     number: u32,
+    undo: u32,
     site: &mut Site,
     trace: &mut Trace,
 ) -> Result<AnswerLine, AllocError>
     requires is { SiteIs (past_of trace.old) site.old }
-    requires running { IsRunningAt (past_of trace.old) number }
+    requires undo { undo ≡ (past_of trace.old).undo }
+    requires running { (past_of trace.old).command ≡ number }
     requires due { (past_of trace.old).due ≡ Starts }
     requires down { is_some (past_of trace.old).node ≡ false }
+    requires few { length trace.old.asked < 2 ^ 30 }
     ensures ends { IfOk result (EndsAs (past_of trace.old) (past_of trace.new)) }
     ensures is { OnOk result (SiteIs (past_of trace.new) site.new) }
-    ensures below { OnOk result (AreBelow number (past_of trace.new)) }
     ensures asked { trace.new.asked ≡ trace.old.asked }
     ensures err { OnErr result (trace.new ≡ trace.old) }
 {
+    trace.lawful();
+    nodes_are_in_order();
     let resting = mem::replace(site, Site::Down(MemDisk::new(alloc)));
-    let (running, boot) = started(alloc, resting)?;
+    let (running, boot) = started(alloc, undo, resting)?;
     *site = running;
     trace.push(alloc, Happening::Started { node: NODE, boot })?;
     Ok(AnswerLine::new(number, Said::World(Notice::Fine)))
 }
 
-/// What a command makes happen that was told nothing as it began, and the line that it gets for it.
+/// What a command makes happen that was told nothing as it began, and the line that it gets for it. The node has so many
+/// undo extents.
+#[tactic(auto, using(crate::proofs::Calls::call_is_due))]
 pub fn act(
     alloc: Global,
     number: u32,
+    undo: u32,
     site: &mut Site,
     trace: &mut Trace,
     command: Command,
 ) -> Result<AnswerLine, AllocError>
     requires is { SiteIs (past_of trace.old) site.old }
-    requires running { IsRunningAt (past_of trace.old) number }
-    requires due { (past_of trace.old).due ≡ due_by (is_some (past_of trace.old).node) command }
+    requires undo { undo ≡ (past_of trace.old).undo }
+    requires running { (past_of trace.old).command ≡ number }
+    requires due { (past_of trace.old).due ≡ due_by (past_of trace.old).node command }
     requires silent { IsSilent (is_some (past_of trace.old).node) command }
+    requires few { length trace.old.asked < 2 ^ 30 }
     ensures ends { IfOk result (EndsAs (past_of trace.old) (past_of trace.new)) }
     ensures is { OnOk result (SiteIs (past_of trace.new) site.new) }
-    ensures below { OnOk result (AreBelow number (past_of trace.new)) }
     ensures asked { trace.new.asked ≡ trace.old.asked }
-    ensures err { OnErr result (trace.new ≡ trace.old) }
+    ensures err { OnErr result ((past_of trace.new).lines ≡ (past_of trace.old).lines) }
 {
     match command {
         Command::At {
             node: _node,
             session,
             text,
-        } => serve(alloc, number, site, trace, Input::Call { session, text }),
+        } => call(alloc, number, site, trace, session, text.as_slice()),
         Command::Stop { node: _node } => stop(alloc, number, site, trace),
-        Command::Start { node: _node } => start(alloc, number, site, trace),
-        Command::Node { name: _name } => unreachable!(),
+        Command::Start { node: _node } => start(alloc, number, undo, site, trace),
+        Command::Node {
+            name: _name,
+            undo: _undo,
+        } => unreachable!(),
         Command::ShowBook => unreachable!(),
         Command::ShowDisk { node: _node } => unreachable!(),
     }

@@ -1,9 +1,9 @@
 //! What a command is told as it begins.
 ghost use Rattle.std.specs.Prelude.{◌≡◌, ◌≤◌, ◌-◌, List, [], ◌∷◌, is_some, IfOk};
 ghost use Rattle.redo_codec.specs.declared.record.RedoRecord.{RedoRecord};
-ghost use Rattle.one_node_rules.specs.Disk.{IsLogOf};
-ghost use Rattle.one_node_laws.specs.Past.{refused as refused_by, shows, if_up, if_down, said_at_once as said_of};
-ghost use Rattle.one_node_laws.specs.Shown.{shown_disk};
+ghost use Rattle.sole_node.specs.Disk.{IsLogOf};
+ghost use Rattle.sole_laws.specs.Past.{refused as refused_by, shows, if_up, if_down, said_at_once as said_of};
+ghost use Rattle.sole_laws.specs.Shown.{shown_disk};
 ghost use Rattle.script_run.specs.Lines.{told_by, told_of};
 ghost use Rattle.script_run.specs.Site.{site_kept, site_bytes};
 
@@ -12,7 +12,7 @@ use crate::line::Said;
 use crate::site::Site;
 use book::{Entry, book_lines};
 use dtx_values::{Listing, Name, Notice, Refusal, Texts};
-use one_node_script::Command;
+use sole_script::Command;
 use std::alloc::{AllocError, Global};
 use tran_ids::node_name;
 
@@ -78,7 +78,7 @@ pub fn said_at_once(
         → told_of said ≡ said_of (is_some (site_kept site.now)) names.now rs book.now command.now) }
 {
     match command {
-        Command::Node { name: _name } => Ok(Some(Said::World(Notice::Fine))),
+        Command::Node { .. } => Ok(Some(Said::World(Notice::Fine))),
         Command::At { .. } | Command::Stop { .. } => unless_up(alloc, site.is_up(), names),
         Command::Start { .. } => unless_down(alloc, site.is_up(), names),
         Command::ShowBook => Ok(shown(book_lines(alloc, book, names)?)),

@@ -6,6 +6,7 @@
 
 mod acts;
 mod at_once;
+mod calls;
 mod disk_lines;
 mod line;
 mod outcome;

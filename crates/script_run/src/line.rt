@@ -3,7 +3,7 @@ ghost use Rattle.std.specs.Prelude.{◌≡◌};
 ghost use Rattle.script_run.specs.Lines.{told_by};
 
 use dtx_values::{Listing, Notice};
-use node_core::Finished;
+use sole_core::Finished;
 use std::marker::Model;
 
 /// What is said of a command: by a node, at the end of a call, or by the run beside it.

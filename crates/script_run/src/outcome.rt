@@ -1,15 +1,15 @@
 //! How a run of the program ends, and what was done.
 ghost use Rattle.std.specs.Prelude.{◌≡◌, []};
-ghost use Rattle.one_node_book.specs.Book.{book_of};
-ghost use Rattle.one_node_laws.specs.Past.{past_of};
+ghost use Rattle.sole_node.specs.Book.{book_of};
+ghost use Rattle.sole_laws.specs.Past.{past_of};
 ghost use Rattle.script_run.specs.Headline.{IsRun, nothing_done};
 
 use crate::line::{AnswerLine, AnswerLines};
 use book::Book;
 use dtx_values::Listing;
-use one_node_book::Happenings;
-use one_node_laws::{Trace, lawful_runs_are_as_told};
-use one_node_script::Commands;
+use sole_laws::{Trace, lawful_runs_are_as_told};
+use sole_node::Happenings;
+use sole_script::Commands;
 use std::alloc::Global;
 
 /// How a run of the program ends; its number is the exit status.
@@ -58,7 +58,7 @@ impl Run {
     }
 
     /// None of these commands has begun.
-    #[tactic(auto, unfolding(one_node_laws::specs::Past::past))]
+    #[tactic(auto, unfolding(sole_laws::specs::Past::past))]
     pub fn not_begun(alloc: Global, commands: Commands) -> Run
         ensures is { result ≡ record { commands = commands; answers = []; book = []; trace = [] } }
         ensures run { IsRun result }

@@ -10,8 +10,8 @@ use crate::outcome::Run;
 use crate::progress::take_name;
 use book::book_text;
 use dtx_values::{Bytes, Listing, Names};
-use one_node_script::Command;
 use report::{answer_lines, notice_lines, put_numbered};
+use sole_script::Command;
 use std::alloc::{AllocError, Global};
 
 fn lines(alloc: Global, said: &Said) -> Result<Vec<Bytes>, AllocError>

@@ -1,25 +1,28 @@
 //! A run in progress: the node, what happened so far, and what was told.
-ghost use Rattle.std.specs.Prelude.{◌≡◌, ◌+◌, ◌-◌, ◌<◌, ◌≤◌, ◌^◌, [], ◌∷◌, length, vec_len, vec_capacity, drop, true, false, is_some, Some, None, IfOk, OnOk, OnErr};
-ghost use Rattle.one_node_script.specs.declared.command.Command.{Command};
-ghost use Rattle.one_node_laws.specs.Past.{start, past_of, said_at_once, names_by};
+ghost use Rattle.std.specs.Prelude.{◌≡◌, ◌+◌, ◌<◌, ◌^◌, [], ◌∷◌, length, vec_len, vec_capacity, drop, is_some, IfOk, OnOk, OnErr};
+ghost use Rattle.sole_laws.specs.Past.{start, past_of, names_by, undo_in as undo_of_first};
 ghost use Rattle.script_run.specs.Ending.{IsWhole};
 ghost use Rattle.script_run.specs.Headline.{IsRun};
-ghost use Rattle.script_run.specs.Lines.{told_by, told_of};
-ghost use Rattle.script_run.specs.Linked.{SiteIs, IsLinked, IsNext, BeginsAs, EndsAs, IsDone, AreBelow};
+ghost use Rattle.script_run.specs.Linked.{SiteIs, IsLinked, IsNext, IsDone};
 
 use crate::acts::{act, begin};
 use crate::at_once::said_at_once;
-use crate::line::{AnswerLine, Said};
+use crate::line::AnswerLine;
 use crate::outcome::Run;
 use crate::site::{Site, made};
 use dtx_values::{Duplicate, Listing, Names};
-use one_node_laws::{Trace, each_begun_is_answered};
-use one_node_script::{Command, Commands};
+use sole_laws::{Trace, each_begun_is_answered};
+use sole_script::{Command, Commands};
 use std::alloc::{AllocError, Global};
+
+/// The undo extents of a node that no command makes.
+const UNDO: u32 = 64;
 
 /// A run in progress.
 #[derive(Drop)]
 pub struct Progress {
+    /// The undo extents of the node.
+    pub undo: u32,
     pub site: Site,
     /// The names of the nodes that were made.
     pub names: Names,
@@ -27,11 +30,21 @@ pub struct Progress {
     pub answers: Vec<AnswerLine>,
 }
 
+/// The undo extents that the first command gives the node, which it makes.
+fn undo_in(commands: &[Command]) -> u32
+    ensures { result ≡ undo_of_first commands.now }
+{
+    match commands {
+        [Command::Node { name: _name, undo }, ..] => *undo,
+        _ => UNDO,
+    }
+}
+
 /// The names of the nodes once this command has begun.
 pub fn take_name(alloc: Global, names: &mut Names, command: &Command) -> Result<(), AllocError>
     ensures { OnOk result (names.new ≡ names_by names.old command.now) }
 {
-    if let Command::Node { name } = command {
+    if let Command::Node { name, undo: _undo } = command {
         names.push(name.copy(alloc)?)?;
     }
     Ok(())
@@ -39,15 +52,16 @@ pub fn take_name(alloc: Global, names: &mut Names, command: &Command) -> Result<
 
 impl Progress {
     /// A run of these commands with the node just made, in which nothing has happened.
-    #[tactic(auto, using(crate::proofs::Below::beginnings), unfolding(one_node_laws::specs::Past::past))]
-    pub fn new(alloc: Global, asked: Commands, site: Site) -> Progress
+    #[tactic(auto, unfolding(sole_laws::specs::Past::past))]
+    pub fn new(alloc: Global, asked: Commands, undo: u32, site: Site) -> Progress
         requires site { SiteIs (start asked) site }
+        requires undo { undo ≡ undo_of_first asked }
         ensures linked { IsLinked result }
         ensures fresh { IsDone (past_of result.trace) 0 asked }
         ensures asked { result.trace.asked ≡ asked }
-        ensures below { AreBelow 0 (past_of result.trace) }
     {
         Progress {
+            undo,
             site,
             names: Listing::new(alloc),
             trace: Trace::new(alloc, asked),
@@ -57,16 +71,15 @@ impl Progress {
 
     /// Carries out the command that is next. There is room for its line before anything happens, so what happened is
     /// told, also where memory runs out.
+    #[tactic(auto, using(crate::proofs::Beginning::told_or_due))]
     fn carry_out(&mut self, alloc: Global, number: u32, command: Command) -> Result<(), AllocError>
         requires linked { IsLinked self.old }
         requires is_next { IsNext (past_of self.old.trace) number command }
-        requires below { AreBelow (number - 1) (past_of self.old.trace) }
-        requires few { number < 2 ^ 31 }
+        requires few { length self.old.trace.asked < 2 ^ 30 }
         ensures told { self.new.answers.items ≡ (past_of self.new.trace).lines }
         ensures asked { self.new.trace.asked ≡ self.old.trace.asked }
         ensures linked { OnOk result (IsLinked self.new) }
         ensures done { OnOk result (IsDone (past_of self.new.trace) number (drop 1 (past_of self.old.trace).left)) }
-        ensures below { OnOk result (AreBelow number (past_of self.new.trace)) }
     {
         self.answers.try_reserve(1)?;
         let said = said_at_once(
@@ -80,7 +93,14 @@ impl Progress {
         begin(alloc, &mut self.trace, number, &command)?;
         let line = match said {
             Some(said) => AnswerLine::new(number, said),
-            None => act(alloc, number, &mut self.site, &mut self.trace, command)?,
+            None => act(
+                alloc,
+                number,
+                self.undo,
+                &mut self.site,
+                &mut self.trace,
+                command,
+            )?,
         };
         match self.answers.push(line) {
             Ok(()) => Ok(()),
@@ -93,7 +113,6 @@ impl Progress {
         requires few { length self.old.trace.asked < 2 ^ 30 }
         requires linked { IsLinked self.old }
         requires fresh { IsDone (past_of self.old.trace) 0 self.old.trace.asked }
-        requires below { AreBelow 0 (past_of self.old.trace) }
         ensures told { self.new.answers.items ≡ (past_of self.new.trace).lines }
         ensures asked { self.new.trace.asked ≡ self.old.trace.asked }
         ensures done { OnOk result (IsDone (past_of self.new.trace) (length self.old.trace.asked) []) }
@@ -115,11 +134,12 @@ pub fn run_commands(alloc: Global, asked: Commands) -> (Run, Result<(), AllocErr
     ensures asked { result.0.commands ≡ asked }
     ensures whole { OnOk result.1 (IsWhole result.0) }
 {
-    let site = match made(alloc) {
+    let undo = undo_in(asked.as_slice());
+    let site = match made(alloc, undo) {
         Ok(site) => site,
         Err(err) => return (Run::not_begun(alloc, asked), Err(err)),
     };
-    let mut progress = Progress::new(alloc, asked, site);
+    let mut progress = Progress::new(alloc, asked, undo, site);
     let ran = progress.carry_out_all(alloc);
     each_begun_is_answered();
     (Run::told(progress.trace, progress.answers), ran)

@@ -12,7 +12,7 @@ use crate::progress::run_commands;
 use crate::words::wanted;
 use dtx_ports::{ReadErr, Sink, Source, read_whole, write_whole};
 use dtx_values::Listing;
-use one_node_script::{ScriptErr, read_script};
+use sole_script::{ScriptErr, read_script};
 use std::alloc::Global;
 
 /// The longest script, in bytes.

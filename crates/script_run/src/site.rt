@@ -2,14 +2,14 @@
 ghost use Rattle.std.specs.Prelude.{◌≡◌, List, Some, None, true, is_some, IfOk};
 ghost use Rattle.block_disk.specs.Happenings.{content_of};
 ghost use Rattle.redo_codec.specs.declared.record.RedoRecord.{RedoRecord};
-ghost use Rattle.one_node_rules.specs.Turn.{start_of, first_records};
-ghost use Rattle.one_node_rules.specs.Disk.{IsLogOf};
-ghost use Rattle.node_core.specs.OnDisk.{MayStart};
-ghost use Rattle.script_run.specs.declared.site.Site.TheVariants.{Up};
-ghost use Rattle.script_run.specs.Site.{site_kept, site_disk, site_bytes, IsReadySite, StartsAs};
+ghost use Rattle.sole_node.specs.Turn.{start_of, first_records};
+ghost use Rattle.sole_node.specs.Disk.{IsLogOf};
+ghost use Rattle.sole_core.specs.OnDisk.{MayStart};
+ghost use Rattle.script_run.specs.declared.site.Site.TheVariants.{Up, Down};
+ghost use Rattle.script_run.specs.Site.{site_kept, site_disk, site_bytes, is_open_at, HasUndo, IsReadySite, StartsAs};
 
 use block_disk::MemDisk;
-use node_core::{MakeErr, MakeWhy, Node};
+use sole_core::{MakeErr, MakeWhy, Node};
 use std::alloc::{AllocError, Global};
 
 /// A node that is up, or the disk of one that is down.
@@ -36,15 +36,26 @@ impl Site {
     {
         matches!(self, Site::Up(_))
     }
+
+    /// Whether a session of the node has a transaction.
+    pub fn has_open(&self, session: u32) -> bool
+        ensures { result ≡ is_open_at (site_kept self.now) session }
+    {
+        match self {
+            Site::Up(node) => node.has_open(session),
+            Site::Down(_disk) => false,
+        }
+    }
 }
 
-/// A node that was just made.
-pub fn made(alloc: Global) -> Result<Site, AllocError>
+/// A node that was just made, with so many undo extents.
+pub fn made(alloc: Global, undo: u32) -> Result<Site, AllocError>
     ensures kept { IfOk result (λ site. site_kept site ≡ Some (start_of first_records)) }
+    ensures undo { IfOk result (HasUndo undo) }
     ensures disk { IfOk result (λ site. IsLogOf first_records (site_bytes site)) }
     ensures ready { IfOk result IsReadySite }
 {
-    match Node::make(alloc, MemDisk::new(alloc)) {
+    match Node::make(alloc, MemDisk::new(alloc), undo) {
         Ok(node) => Ok(Site::Up(node)),
         Err(
             MakeErr {
@@ -74,9 +85,7 @@ pub fn running(site: Site) -> Node<MemDisk>
 
 /// A node that stops leaves its disk.
 pub fn stopped(site: Site) -> Site
-    ensures kept { site_kept result ≡ None }
-    ensures disk { site_disk result ≡ site_disk site }
-    ensures ready { IsReadySite result }
+    ensures { result ≡ Down (site_disk site) }
 {
     match site {
         Site::Up(node) => Site::Down(node.into_disk()),
@@ -84,27 +93,29 @@ pub fn stopped(site: Site) -> Site
     }
 }
 
-/// A node that starts from its disk, and the number of this start.
-pub fn started(alloc: Global, site: Site) -> Result<(Site, u32), AllocError>
+/// A node that starts from its disk with so many undo extents, and the number of this start.
+pub fn started(alloc: Global, undo: u32, site: Site) -> Result<(Site, u32), AllocError>
     requires down { site_kept site ≡ None }
     requires sound { (rs : List RedoRecord) × MayStart rs (site_bytes site) }
     ensures starts { IfOk result (λ x. (rs : List RedoRecord) → IsLogOf rs (site_bytes site) → StartsAs rs x.0 x.1) }
+    ensures undo { IfOk result (λ x. HasUndo undo x.0) }
     ensures ready { IfOk result (λ x. IsReadySite x.0) }
 {
     match site {
-        Site::Down(disk) => start_disk(alloc, disk),
+        Site::Down(disk) => start_disk(alloc, undo, disk),
         Site::Up(_node) => unreachable!(),
     }
 }
 
 /// The node of a disk, and the number of this start.
-fn start_disk(alloc: Global, disk: MemDisk) -> Result<(Site, u32), AllocError>
+fn start_disk(alloc: Global, undo: u32, disk: MemDisk) -> Result<(Site, u32), AllocError>
     requires sound { (rs : List RedoRecord) × MayStart rs (content_of disk.happenings) }
     ensures starts { IfOk result (λ x. (rs : List RedoRecord) → IsLogOf rs (content_of disk.happenings) → StartsAs rs x.0 x.1) }
+    ensures undo { IfOk result (λ x. HasUndo undo x.0) }
     ensures ready { IfOk result (λ x. IsReadySite x.0) }
 {
     let _bytes = disk.bytes().len();
-    match Node::start(alloc, disk) {
+    match Node::start(alloc, disk, undo) {
         Ok(node) => {
             let boot = node.boot();
             Ok((Site::Up(node), boot))

@@ -123,6 +123,11 @@ impl Trace {
         Ok(())
     }
 
+    /// Each happening could come behind those before it.
+    pub fn lawful(&self)
+        ensures { IsLawfulRun self.now }
+    {}
+
     /// The trace as plain lists.
     pub fn into_recorded(self) -> Recorded
         ensures asked { result.asked ≡ self.asked }

@@ -1,6 +1,6 @@
 use Rattle.std.proofs.Common.{sym, subst}
-use Rattle.one_node_rules.specs.Disk.{IsLogOf}
-use Rattle.one_node_laws.specs.Past.{Past, past_of}
+use Rattle.sole_node.specs.Disk.{IsLogOf}
+use Rattle.sole_laws.specs.Past.{Past, past_of}
 use Rattle.script_run.specs.Site.{site_bytes}
 use Rattle.script_run.specs.declared.site.Site.{Site}
 use Rattle.script_run.specs.Linked.{SiteIs}
@@ -12,4 +12,4 @@ returns-clause-is c =
     let p = past_of c.args.trace.now in
     let log = subst (λ (site : Site). IsLogOf p.records (site_bytes site)) (sym c.replace-resting.ensures.value) c.requires.is.disk_is in
     subst (λ (q : Past). SiteIs q c.in_ok-running.running) (sym c.in_ok-push.ensures.past)
-    (start_links p c.in_ok-running.boot c.in_ok-running.running (c.in_ok-running.ensures.starts p.records log) c.in_ok-running.ensures.ready)
+    (start_links p c.in_ok-running.boot c.args.undo c.in_ok-running.running (c.in_ok-running.ensures.starts p.records log) c.requires.undo c.in_ok-running.ensures.undo c.in_ok-running.ensures.ready)

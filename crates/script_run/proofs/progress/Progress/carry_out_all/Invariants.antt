@@ -1,6 +1,6 @@
 use Rattle.std.proofs.Common.{◌≡◌, drop}
-use Rattle.one_node_laws.specs.Past.{past_of}
-use Rattle.script_run.specs.Linked.{IsLinked, IsDone, AreBelow}
+use Rattle.sole_laws.specs.Past.{past_of}
+use Rattle.script_run.specs.Linked.{IsLinked, IsDone}
 use Rattle.script_run.proofs.progress.Progress.carry_out_all.Given as goal
 
 -- so many commands have ended
@@ -9,5 +9,4 @@ invariant-loop-i l = record {
   linked : IsLinked l.self;
   done : IsDone (past_of l.self.trace) l.i (drop l.i l.initial.self.trace.asked);
   asked : l.self.trace.asked ≡ l.initial.self.trace.asked;
-  below : AreBelow l.i (past_of l.self.trace);
 }

@@ -1,8 +1,0 @@
-use Rattle.std.proofs.Common.{◌≡◌, take, drop}
-use Rattle.one_node_script.specs.Pieces.{pieces_of}
-use Rattle.one_node_script.proofs.PieceLemmas.{with_front}
-use Rattle.one_node_script.proofs.piece.cut.Given as goal
-
--- no piece ends in what was seen so far
-abbrev pub invariant-loop-place : goal.invariant-loop-place
-invariant-loop-place l = with_front (take l.place l.bytes) (pieces_of (drop l.place l.bytes)) ≡ pieces_of l.bytes
