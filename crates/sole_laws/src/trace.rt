@@ -126,7 +126,9 @@ impl Trace {
     /// Each happening could come behind those before it.
     pub fn lawful(&self)
         ensures { IsLawfulRun self.now }
-    {}
+    {
+        let _asked = &self.asked;
+    }
 
     /// The trace as plain lists.
     pub fn into_recorded(self) -> Recorded
