@@ -13,7 +13,7 @@ use dtx_values::{Bytes, Name, NameErr};
 use std::alloc::Global;
 
 /// A word.
-pub fn word(tokens: &[Token]) -> Result<(&Bytes, &[Token]), CommandErr>
+fn word(tokens: &[Token]) -> Result<(&Bytes, &[Token]), CommandErr>
     ensures { Gives (λ x. (x.0.now, x.1.now)) result (word_at tokens.now) }
 {
     match tokens {
