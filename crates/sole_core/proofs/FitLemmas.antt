@@ -50,8 +50,8 @@ row_fits t key (Some row) few at = let same = at.0 in omega (arith, few, same)
 
 change_fits : (k : Kept) (c : Change) → AllByRecursion (HasRows k) k.tables → IsChangeAt k c → IsFitting c
 change_fits k c tables at =
-    let there = table_there k c.table at.0 tables at.1.0 in
-    record { key = key_fits c.key at.1.1.1.0; few = row_fits at.0 c.key c.after there.0.whole.few at.1.1.1.1 }
+    let there = table_there k c.table at.0 tables at.1 in
+    record { key = key_fits c.key at.2.1; few = row_fits at.0 c.key c.after there.0.whole.few at.2.2 }
 
 pub changes_fit : (k : Kept) (cs : List Change) → AllByRecursion (HasRows k) k.tables → AllByRecursion (IsChangeAt k) cs → AllByRecursion IsFitting cs
 changes_fit k [] tables at = tt

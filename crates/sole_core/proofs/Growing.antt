@@ -124,12 +124,11 @@ pub started_from : (rs : List RedoRecord) (k : Kept) → k ≡ start_of rs → a
 started_from rs k is = ap (λ (x : Kept). after_record x (records.Boot (x.boot + 1))) is ∙ sym (after_records-push fresh rs (next_boot rs))
 
 -- a new node is one of which one start stands
-pub made_from : (k : Kept) → k ≡ fresh → after_record k (records.Boot (k.boot + 1)) ≡ start_of first_records
+pub made_from : after_record fresh (records.Boot 1) ≡ start_of first_records
 unfolding after_records
-made_from k is = ap (λ (x : Kept). after_record x (records.Boot (x.boot + 1))) is
+made_from = refl
 
-pub made_log : (k : Kept) (before now : List ℕ) → k ≡ fresh → before ≡ log_of [] → GrowsByRecord (records.Boot (k.boot + 1)) before now → IsLogOf first_records now
-made_log k before now is empty grown =
-    subst (λ (n : ℕ). IsLogOf (records.Boot (n + 1) ∷ []) now) (ap (λ (x : Kept). x.boot) is) (grown [] (record { spelled = tt; content = empty }))
+pub made_log : (before now : List ℕ) → before ≡ log_of [] → GrowsByRecord (records.Boot 1) before now → IsLogOf first_records now
+made_log before now empty grown = grown [] (record { spelled = tt; content = empty })
 
 pub ruleset growing = (is_spelled, body_some, grows, boot_fits, body_at, hold_more, made_from, made_log)

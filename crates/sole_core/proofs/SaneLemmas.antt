@@ -1,5 +1,5 @@
 -- What follows of a node that is sane: where its transactions stand, and what their statements meet.
-use Rattle.std.proofs.Common.{◌≡◌, ℕ, zero, suc, ◌+◌, ◌-◌, ◌<◌, ◌≤◌, Bool, true, false, cond, List, [], ◌∷◌, ◌++◌, length, Option, None, Some, refl, sym, ap, subst, ◌∙◌, arith, true≢false}
+use Rattle.std.proofs.Common.{◌≡◌, ℕ, zero, suc, ◌+◌, ◌-◌, ◌<◌, ◌≤◌, ◌^◌, Bool, true, false, cond, List, [], ◌∷◌, ◌++◌, length, Option, None, Some, refl, sym, ap, subst, ◌∙◌, arith, true≢false}
 use Rattle.std.specs.Prelude.{find, slice_get, slice_set, slice_index_or, is_some, IfSome}
 use Rattle.std.specs.Str.{bytes_eq}
 use Rattle.std.specs.List.{All, AllByRecursion, position_or_len}
@@ -18,7 +18,7 @@ use Rattle.row_store.specs.Own.{view_of}
 use Rattle.sole_node.specs.declared.root.Root.{Root}
 use Rattle.sole_node.specs.declared.root.Session.{Session}
 use Rattle.sole_node.specs.Kept.{Kept, session_at, is_of, table_of, root_of, root_at, next_root, fresh_root, with_new_root, begun_by, begun}
-use Rattle.sole_node.specs.Ready.{IsWhole, HasRows, IsChangeAt, IsRootAt, IsSane}
+use Rattle.sole_node.specs.Ready.{IsWhole, HasRows, IsChangeAt, IsRootAt, IsSane, IsReady}
 use Rattle.sole_core.specs.Places.{place_at, root_in, IsFirstAt, RunsAt}
 
 -- ---- tables by their names
@@ -42,9 +42,9 @@ table_there k name t tables found =
 change_of : (k : Kept) (t : Table) (c : Change) → table_of k t.name ≡ Some t → IsChangeAt k c → same_text c.table t.name ≡ true → IsChangeOf t c
 change_of k t c there at named =
     let name : c.table ≡ t.name = (bytes_decides c.table t.name).0 named in
-    let found : Some at.0 ≡ Some t = sym at.1.0 ∙ (ap (table_of k) name ∙ there) in
+    let found : Some at.0 ≡ Some t = sym at.1 ∙ (ap (table_of k) name ∙ there) in
     let same : at.0 ≡ t = grind arith in
-    subst (λ x. IsChangeOf x c) same at.1.1
+    subst (λ x. IsChangeOf x c) same at.2
 
 changes_of : (k : Kept) (t : Table) (cs : List Change) → table_of k t.name ≡ Some t → AllByRecursion (IsChangeAt k) cs → All (λ c. same_text c.table t.name ≡ true → IsChangeOf t c) cs
 changes_of k t [] there at i d low = absurd (omega (arith, low))
@@ -171,4 +171,15 @@ open_root k n p sane at =
     place_by k (session_at k n).root p (λ q. root_at k n ≡ Some (root_in k q)) at
     (λ b is. ap (root_of k) is ∙ root_is k b (sane.begun n b is))
 
-pub ruleset open_ones = (begun_runs, begun_root, none_open, open_first, open_root)
+-- ---- the number of a session's next transaction
+
+next_seq : (ss : List Session) (i : ℕ) → AllByRecursion (λ s. s.seq + 1 < 2 ^ 32) ss
+    → (Rattle.std.specs.Prelude.unwrap_or (slice_get ss i) Rattle.sole_node.specs.Kept.fresh_session).seq + 1 < 2 ^ 32
+next_seq [] i all = omega arith
+next_seq (s ∷ ss) zero all = all.0
+next_seq (s ∷ ss) (suc i) all = next_seq ss i all.1
+
+pub may_begin : (k : Kept) (n : ℕ) → IsReady k → (session_at k n).seq + 1 < 2 ^ 32
+may_begin k n ready = next_seq k.sessions (n - 1) ready.numbers.seqs
+
+pub ruleset open_ones = (begun_runs, begun_root, none_open, open_first, open_root, may_begin)

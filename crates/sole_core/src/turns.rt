@@ -1,5 +1,5 @@
 //! What a turn does, in memory alone.
-ghost use Rattle.std.specs.Prelude.{◌≡◌, ◌+◌, ◌<◌, ◌^◌, [], Some, None, true, IsTrue, IfOk, IfSome, OnOk, length};
+ghost use Rattle.std.specs.Prelude.{◌≡◌, ◌+◌, ◌<◌, ◌≤◌, ◌^◌, [], Some, None, true, IsTrue, IfOk, IfSome, OnOk, length};
 ghost use Rattle.std.specs.List.{All, AllByRecursion};
 ghost use Rattle.std.specs.Option.{option_copied};
 ghost use Rattle.redo_format.specs.Table.{is_columns};
@@ -11,7 +11,7 @@ ghost use Rattle.sql_parse.specs.Whole.{IsWholeTable};
 ghost use Rattle.sole_node.specs.declared.input.Input.TheVariants as inputs;
 ghost use Rattle.redo_codec.specs.declared.record.RedoRecord.TheVariants as records;
 ghost use Rattle.sole_node.specs.Statements.{table_in, is_bare, is_brought as is_brought_of, brought as brought_of};
-ghost use Rattle.sole_node.specs.Kept.{begun, root_at, table_of};
+ghost use Rattle.sole_node.specs.Kept.{begun, ended, root_at, table_of};
 ghost use Rattle.sole_node.specs.Turn.{turn_of, read_turn, run_turn, commits, call_turn, create_turn, statement_turn, commit_turn, rollback_turn};
 ghost use Rattle.sole_node.specs.Ready.{IsReady, MakesWhole};
 ghost use Rattle.sole_core.specs.Fitting.{IsFitting};
@@ -83,6 +83,7 @@ fn decision(alloc: Global, root: BranchId, scn: u64, changes: Changes) -> Decide
 
 impl Machine {
     /// Serves one input, at a node with so many undo extents.
+    #[tactic(auto, unfolding(sole_node::specs::Turn::turn_of))]
     pub(crate) fn turn(&mut self, undo: u32, input: &Input) -> Result<Served, AllocError>
         requires ready { IsReady self.old }
         requires whole { MakesWhole input.now }
@@ -241,11 +242,7 @@ impl Machine {
         ensures fits { IfOk result (λ wrote. IfSome wrote record_format.Fits) }
         ensures after { OnOk result (self.new ≡ (commits self.old session (root_in self.old place)).after) }
     {
-        let root = &mut self.roots[place];
-        let me = root.me;
-        let own = mem::replace(&mut root.own, OwnChanges::new(self.alloc));
-        self.end(session, &me);
-        let changes = own.into_changes();
+        let (me, changes) = self.take(session, place);
         if changes.as_slice().is_empty() {
             return Ok(None);
         }
@@ -254,9 +251,25 @@ impl Machine {
         Ok(Some(record))
     }
 
+    /// The open transaction at this place, which is the session's, ends: its root, and what it changed.
+    fn take(&mut self, session: u32, place: usize) -> (BranchId, Changes)
+        requires at { IsFirstAt self.old place }
+        ensures root { result.0 ≡ (root_in self.old place).me }
+        ensures changes { result.1 ≡ (root_in self.old place).own.changes }
+        ensures few { length result.1 ≤ 8388608 }
+        ensures after { self.new ≡ ended self.old session (root_in self.old place).me }
+    {
+        let root = &mut self.roots[place];
+        let me = root.me;
+        let own = mem::replace(&mut root.own, OwnChanges::new(self.alloc));
+        self.end(session, &me);
+        (me, own.into_changes())
+    }
+
     /// ROLLBACK.
     #[tactic(auto, using(crate::proofs::SaneLemmas::open_ones))]
     fn roll_back(&mut self, session: u32) -> Served
+        requires ready { IsReady self.old }
         ensures answer { result.answer ≡ (rollback_turn self.old session (root_at self.old session)).answer }
         ensures wrote { result.wrote ≡ None }
         ensures after { self.new ≡ (rollback_turn self.old session (root_at self.old session)).after }

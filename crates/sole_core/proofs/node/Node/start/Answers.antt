@@ -7,7 +7,7 @@ pub begin_from-requires-clause-held : goal.begin_from-requires-clause-held
 begin_from-requires-clause-held g c =
     let rs = c.requires.sound.0 in
     let sound = c.requires.sound.1 in
-    (rs, log_holds_records rs (g.D.Disk.content c.args.disk) c.in-Ok.bodies sound.log c.in-Ok.ensures.loaded, sound.boots)
+    (rs, log_holds_records rs (g.D.Disk.content c.args.disk) c.in-Ok.bodies sound.log c.in-Ok.ensures.loaded, sound.sound, sound.boots)
 
 pub load_why-requires : goal.load_why-requires
 load_why-requires g c = λ is. log_is_there c.requires.sound.0 (g.D.Disk.content c.args.disk) c.requires.sound.1.log (c.in-Err.ensures.not_a_log is)
