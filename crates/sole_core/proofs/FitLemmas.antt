@@ -17,12 +17,12 @@ use Rattle.redo_format.specs.Sealed.{decided_format}
 use Rattle.redo_format.specs.Table.{table_format}
 use Rattle.redo_format.specs.Record.{record_format}
 use Rattle.sql_eval.specs.Rows.{is_null}
-use Rattle.sql_eval.specs.Laws.{IsRowAt, IsChangeOf}
-use Rattle.sole_node.specs.declared.root.Root.{Root}
-use Rattle.sole_node.specs.Kept.{Kept, table_of}
-use Rattle.sole_node.specs.Ready.{HasRows, IsChangeAt}
+use Rattle.sql_eval.specs.Laws.{IsRowAt}
+use Rattle.sole_node.specs.Kept.{Kept, next_root, fresh_root}
+use Rattle.sole_node.specs.Ready.{HasRows, IsChangeAt, IsRootAt, IsSane}
 use Rattle.sole_core.specs.Fitting.{IsFitting}
-use Rattle.sole_core.proofs.SaneLemmas.{table_there}
+use Rattle.sole_core.specs.Places.{place_at, root_in}
+use Rattle.sole_core.proofs.SaneLemmas.{table_there, open_first, all_at}
 
 pub table_fits : (t : Table) → table_format.Fits t → record_format.Fits (records.Table t)
 table_fits t fits = (tt, fits)
@@ -56,5 +56,11 @@ change_fits k c tables at =
 pub changes_fit : (k : Kept) (cs : List Change) → AllByRecursion (HasRows k) k.tables → AllByRecursion (IsChangeAt k) cs → AllByRecursion IsFitting cs
 changes_fit k [] tables at = tt
 changes_fit k (c ∷ cs) tables at = (change_fits k c tables at.0, changes_fit k cs tables at.1)
+
+-- what a session's transaction has changed has a spelling
+pub open_fits : (k : Kept) (n place : ℕ) → IsSane k → place_at k n ≡ Some place → AllByRecursion IsFitting (root_in k place).own.changes
+open_fits k n place sane at =
+    let first = open_first k n place sane at in
+    changes_fit k (root_in k place).own.changes sane.tables (all_at (IsRootAt k) k.roots place (fresh_root (next_root k 0)) sane.roots first.here)
 
 pub ruleset fitting = (table_fits, alone_fits, decided_fits)

@@ -1,14 +1,14 @@
 -- Records that are taken in one after the other.
-use Rattle.std.proofs.Common.{◌≡◌, ℕ, zero, suc, ◌+◌, ◌<◌, ◌||◌, Bool, true, false, List, [], ◌∷◌, ◌++◌, length, map, take, drop, slice_index_or, refl, sym, ap, subst, ◌∙◌, arith}
+use Rattle.std.proofs.Common.{◌≡◌, ℕ, zero, suc, ◌+◌, ◌<◌, ◌||◌, Bool, false, List, [], ◌∷◌, ◌++◌, length, map, take, drop, slice_index_or, refl, sym, ap, subst, ◌∙◌, arith}
 use Rattle.std.specs.List.{list_any}
 use Rattle.std.specs.Str.{bytes_eq}
 use Rattle.std.proofs.lemmas.List.{take_more}
 use Rattle.dtx_values.specs.declared.table.Table.{Table}
 use Rattle.redo_codec.specs.declared.record.RedoRecord.{RedoRecord}
 use Rattle.redo_codec.specs.declared.record.RedoRecord.TheVariants as records
-use Rattle.row_store.specs.Tables.{TableRows, apply_to, apply_all, with_table}
+use Rattle.row_store.specs.Tables.{TableRows, apply_all, with_table}
 use Rattle.sole_node.specs.Kept.{Kept, fresh}
-use Rattle.sole_node.specs.Turn.{after_record, after_records, start_of}
+use Rattle.sole_node.specs.Turn.{after_record, start_of}
 use Rattle.sole_node.specs.Ready.{MayFollow, AreSound}
 use Rattle.sole_node.proofs.RecordLemmas.{after_records-push, after_records-none}
 use Rattle.sole_core.specs.Places.{HasRowsOfTables}

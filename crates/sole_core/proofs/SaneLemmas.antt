@@ -8,17 +8,16 @@ use Rattle.std.proofs.lemmas.List.Folds.{find_at}
 use Rattle.dtx_values.specs.declared.table.Table.{Table}
 use Rattle.dtx_values.specs.declared.row.Change.{Change}
 use Rattle.tran_ids.specs.declared.branch.BranchId.{BranchId}
-use Rattle.tran_ids.specs.Branch.{same}
 use Rattle.tran_ids.proofs.BranchLemmas.{equal_from_same, same_from_equal}
 use Rattle.sql_eval.specs.Words.{same_text}
-use Rattle.sql_eval.specs.Laws.{has_one_key, AreRowsOf, IsChangeOf}
+use Rattle.sql_eval.specs.Laws.{AreRowsOf, IsChangeOf}
 use Rattle.sql_eval.proofs.RowLaws.{rows_stay}
 use Rattle.row_store.specs.Tables.{rows_of_table}
 use Rattle.row_store.specs.Own.{view_of}
 use Rattle.sole_node.specs.declared.root.Root.{Root}
 use Rattle.sole_node.specs.declared.root.Session.{Session}
 use Rattle.sole_node.specs.Kept.{Kept, session_at, is_of, table_of, root_of, root_at, next_root, fresh_root, with_new_root, begun_by, begun}
-use Rattle.sole_node.specs.Ready.{IsWhole, HasRows, IsChangeAt, IsRootAt, IsSane, IsReady}
+use Rattle.sole_node.specs.Ready.{HasRows, IsChangeAt, IsRootAt, IsSane, IsReady}
 use Rattle.sole_core.specs.Places.{place_at, root_in, IsFirstAt, RunsAt}
 
 -- ---- tables by their names
@@ -65,7 +64,7 @@ got [] i d some = let no : false ≡ true = some in absurd cc
 got (x ∷ xs) zero d some = (omega arith, refl)
 got (x ∷ xs) (suc i) d some = let rest = got xs i d some in (omega (arith, rest.0), rest.1)
 
-all_at : {X : Type 0} (P : X → Type 0) (xs : List X) (i : ℕ) (d : X) → AllByRecursion P xs → i < length xs → P (slice_index_or xs i d)
+pub all_at : {X : Type 0} (P : X → Type 0) (xs : List X) (i : ℕ) (d : X) → AllByRecursion P xs → i < length xs → P (slice_index_or xs i d)
 all_at P [] i d all low = absurd (omega (arith, low))
 all_at P (x ∷ xs) zero d all low = all.0
 all_at P (x ∷ xs) (suc i) d all low = all_at P xs i d all.1 (omega (arith, low))

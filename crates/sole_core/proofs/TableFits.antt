@@ -1,5 +1,5 @@
 -- A whole table has a spelling.
-use Rattle.std.proofs.Common.{◌≡◌, ℕ, ◌≤◌, length, ap, arith, ◌==◌}
+use Rattle.std.proofs.Common.{ℕ, ◌≤◌, length, ap, arith, ◌==◌}
 use Rattle.std.specs.Prelude.{IsTrue}
 use Rattle.std.proofs.lemmas.Bool.{le-leb}
 use Rattle.dtx_values.specs.declared.table.Table.{Table}

@@ -222,10 +222,10 @@ impl Machine {
         ensures fits { IfOk result (λ served. IfSome served.wrote record_format.Fits) }
         ensures after { OnOk result (self.new ≡ (commit_turn self.old session (root_at self.old session)).after) }
     {
-        let wrote = match self.place(session) {
-            Some(place) => self.decide(session, place)?,
-            None => None,
+        let Some(place) = self.place(session) else {
+            return Ok(Served::answering(did(Done::Committed)));
         };
+        let wrote = self.decide(session, place)?;
         Ok(Served {
             answer: did(Done::Committed),
             wrote,
@@ -274,10 +274,10 @@ impl Machine {
         ensures wrote { result.wrote ≡ None }
         ensures after { self.new ≡ (rollback_turn self.old session (root_at self.old session)).after }
     {
-        if let Some(place) = self.place(session) {
-            let me = self.roots[place].me;
-            self.end(session, &me);
-        }
+        let Some(place) = self.place(session) else {
+            return Served::answering(did(Done::RolledBack));
+        };
+        let _undone = self.take(session, place);
         Served::answering(did(Done::RolledBack))
     }
 }

@@ -1,4 +1,3 @@
-use Rattle.std.proofs.Common.{◌≤◌, length, arith}
 use Rattle.sole_core.proofs.TableFits.{columns_fit}
 use Rattle.sole_core.proofs.turns.created.Goals as goal
 

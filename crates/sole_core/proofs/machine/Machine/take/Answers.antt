@@ -22,4 +22,4 @@ returns-clause-after c =
     let same : root.me ≡ (root_in k place).me = ap (λ (x : Root). x.me) (sym here) in
     c.end.ensures
     ∙ (ap (λ (y : Kept). ended (record y { roots = slice_set y.roots place emptied }) c.args.session root.me) c.self.view_is
-      ∙ (ap (λ (b : BranchId). ended (record k { roots = slice_set k.roots place emptied }) c.args.session b) same ∙ ended_emptied k c.args.session place emptied c.requires.at same))
+    ∙ (ap (λ (b : BranchId). ended (record k { roots = slice_set k.roots place emptied }) c.args.session b) same ∙ ended_emptied k c.args.session place emptied c.requires.at same))
