@@ -42,10 +42,10 @@ turn_is : (p : Past) (k : Kept) (input : Input) (wrote : Option RedoRecord) → 
 turn_is p k input wrote node = ap (turned_at p the_node input wrote) (sym node)
 
 -- the command has its line, or the call that follows is out
-told_as : (p : Past) (answer : Answer) (next : Option Input) (node : Option Kept) (rs : List RedoRecord) (book : List Entry)
-    → TurnsAs p (record (told_or_goes_on p answer next) { node = node; records = rs; book = book }) answer next
-told_as p answer None node rs book = record { on = record { left = refl; number = refl; undo = refl; names = refl }; due = refl; lines = refl }
-told_as p answer (Some input) node rs book = record { on = record { left = refl; number = refl; undo = refl; names = refl }; due = refl; lines = refl }
+told_as : (p : Past) (answer : Answer) (next : Option Input) (kept : Option Kept) (rs : List RedoRecord) (book : List Entry)
+    → TurnsAs p (record (told_or_goes_on p answer next) { node = kept; records = rs; book = book }) answer next
+told_as p answer None kept rs book = record { on = record { left = refl; number = refl; undo = refl; names = refl }; due = refl; lines = refl }
+told_as p answer (Some input) kept rs book = record { on = record { left = refl; number = refl; undo = refl; names = refl }; due = refl; lines = refl }
 
 pub turns_as : (p : Past) (k : Kept) (undo : ℕ) (input : Input) (wrote : Option RedoRecord) (answer : Answer) → Some k ≡ p.node → undo ≡ p.undo → answer ≡ (turn_of undo k input).answer
     → TurnsAs p (turned_at p the_node input wrote p.node) answer (following answer (behind p.due))
@@ -107,11 +107,10 @@ last_spelled : (rs : List RedoRecord) (r : RedoRecord) → AllByRecursion IsSpel
 last_spelled [] r all = all.0
 last_spelled (x ∷ rs) r all = last_spelled rs r all.1
 
-pub start_may : (p : Past) (boot : ℕ) (bytes : List ℕ) → p.due ≡ Starts → is_some p.node ≡ false → boot ≡ (start_of (p.records ++ next_boot p.records ∷ [])).boot
-    → IsLogOf (p.records ++ next_boot p.records ∷ []) bytes → MayStart p the_node boot
-start_may p boot bytes due down is log =
-    let number : boot ≡ (start_of p.records).boot + 1 = is ∙ boot_is p.records in
-    record { here = refl; down = down; is_due = due; in_order = number; spelled = subst (λ (n : ℕ). IsSpelled (records.Boot n)) (sym number) (last_spelled p.records (next_boot p.records) log.spelled) }
+pub start_may : (p : Past) (boot : ℕ) (site : Site) → p.due ≡ Starts → is_some p.node ≡ false → StartsAs p.records site boot → MayStart p the_node boot
+start_may p boot site due down starts =
+    let number : boot ≡ (start_of p.records).boot + 1 = starts.number ∙ boot_is p.records in
+    record { here = refl; down = down; is_due = due; in_order = number; spelled = subst (λ (n : ℕ). IsSpelled (records.Boot n)) (sym number) (last_spelled p.records (next_boot p.records) starts.disk.spelled) }
 
 -- the records with that of the start
 records_started : (p : Past) (boot : ℕ) → boot ≡ (start_of (p.records ++ next_boot p.records ∷ [])).boot → p.records ++ records.Boot boot ∷ [] ≡ p.records ++ next_boot p.records ∷ []

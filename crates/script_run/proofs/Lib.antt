@@ -3,4 +3,4 @@ pub mod DiskLines
 pub mod Names
 pub mod Beginning
 pub mod Acting
-pub mod Calls
+pub mod Calling

@@ -87,7 +87,7 @@ fn start(
 
 /// What a command makes happen that was told nothing as it began, and the line that it gets for it. The node has so many
 /// undo extents.
-#[tactic(auto, using(crate::proofs::Calls::call_is_due))]
+#[tactic(auto, using(crate::proofs::Calling::call_is_due))]
 pub fn act(
     alloc: Global,
     number: u32,

@@ -29,7 +29,7 @@ use std::mem;
 const NODE: u8 = 1;
 
 /// The statement that a text is, or nothing where the text is outside the grammar.
-#[tactic(auto, using(crate::proofs::Calls::makes_whole))]
+#[tactic(auto, using(crate::proofs::Calling::makes_whole))]
 fn statement(alloc: Global, text: &[u8]) -> Result<Option<Stmt>, AllocError>
     ensures is { IfOk result (λ statement. statement ≡ statement_of text.now) }
     ensures whole { IfOk result (λ statement. (session : ℕ) → MakesWhole (inputs.Call session statement)) }
@@ -118,7 +118,7 @@ fn serve(
 }
 
 /// The node serves the call that is out, behind which no other is.
-#[tactic(auto, using(crate::proofs::Calls::calls))]
+#[tactic(auto, using(crate::proofs::Calling::calls))]
 fn serve_last(
     alloc: Global,
     number: u32,
@@ -142,7 +142,7 @@ fn serve_last(
 }
 
 /// The node serves the call that is out, and the one behind it where the first is answered Commit complete.
-#[tactic(auto, using(crate::proofs::Calls::calls))]
+#[tactic(auto, using(crate::proofs::Calling::calls))]
 fn serve_both(
     alloc: Global,
     number: u32,
@@ -171,7 +171,7 @@ fn serve_both(
 }
 
 /// The node serves the calls of a session's text.
-#[tactic(auto, using(crate::proofs::Calls::calls))]
+#[tactic(auto, using(crate::proofs::Calling::calls))]
 pub fn call(
     alloc: Global,
     number: u32,

@@ -1,5 +1,5 @@
 //! A run in progress: the node, what happened so far, and what was told.
-ghost use Rattle.std.specs.Prelude.{◌≡◌, ◌+◌, ◌<◌, ◌^◌, [], ◌∷◌, length, vec_len, vec_capacity, drop, is_some, IfOk, OnOk, OnErr};
+ghost use Rattle.std.specs.Prelude.{◌≡◌, ◌+◌, ◌<◌, ◌^◌, [], ◌∷◌, ◌++◌, length, vec_len, vec_capacity, drop, is_some, IfOk, OnOk, OnErr};
 ghost use Rattle.sole_laws.specs.Past.{start, past_of, names_by, undo_in as undo_of_first};
 ghost use Rattle.script_run.specs.Ending.{IsWhole};
 ghost use Rattle.script_run.specs.Headline.{IsRun};
@@ -50,6 +50,17 @@ pub fn take_name(alloc: Global, names: &mut Names, command: &Command) -> Result<
     Ok(())
 }
 
+/// Adds a line, for which there is room.
+fn add(answers: &mut Vec<AnswerLine>, line: AnswerLine)
+    requires { vec_len answers.old < vec_capacity answers.old }
+    ensures { answers.new.items ≡ answers.old.items ++ line ∷ [] }
+{
+    match answers.push(line) {
+        Ok(()) => {}
+        Err(_) => unreachable!(),
+    }
+}
+
 impl Progress {
     /// A run of these commands with the node just made, in which nothing has happened.
     #[tactic(auto, unfolding(sole_laws::specs::Past::past))]
@@ -91,21 +102,21 @@ impl Progress {
         )?;
         take_name(alloc, &mut self.names, &command)?;
         begin(alloc, &mut self.trace, number, &command)?;
-        let line = match said {
-            Some(said) => AnswerLine::new(number, said),
-            None => act(
-                alloc,
-                number,
-                self.undo,
-                &mut self.site,
-                &mut self.trace,
-                command,
-            )?,
-        };
-        match self.answers.push(line) {
-            Ok(()) => Ok(()),
-            Err(_) => unreachable!(),
+        match said {
+            Some(said) => add(&mut self.answers, AnswerLine::new(number, said)),
+            None => {
+                let line = act(
+                    alloc,
+                    number,
+                    self.undo,
+                    &mut self.site,
+                    &mut self.trace,
+                    command,
+                )?;
+                add(&mut self.answers, line);
+            }
         }
+        Ok(())
     }
 
     /// Carries out all the commands in order.
