@@ -1,5 +1,5 @@
 -- Which calls are due of a text, and how they end.
-use Rattle.std.proofs.Common.{◌≡◌, ℕ, Bool, true, false, List, [], ◌∷◌, ◌++◌, Option, Some, None, if◌then◌else◌, refl, sym, ap, subst, ◌∙◌}
+use Rattle.std.proofs.Common.{◌≡◌, ℕ, Bool, true, false, List, [], ◌∷◌, ◌++◌, Option, Some, None, if◌then◌else◌, sym, ap, subst, ◌∙◌}
 use Rattle.std.specs.Prelude.{◌&&◌, IfSome, is_some}
 use Rattle.dtx_values.specs.declared.table.Table.{Table}
 use Rattle.dtx_values.specs.declared.answer.Answer.{Answer}
@@ -17,7 +17,7 @@ use Rattle.sole_node.specs.Kept.{Kept}
 use Rattle.sole_node.specs.Ready.{MakesWhole}
 use Rattle.sole_laws.specs.Past.{Past, Due, Serves, line, is_committed, behind, following, commit_call, call_due, due_by}
 use Rattle.script_run.specs.Site.{is_open_at}
-use Rattle.script_run.specs.Linked.{RunsOn, EndsAs, GoesOnTo, TurnsAs}
+use Rattle.script_run.specs.Linked.{EndsAs, GoesOnTo, TurnsAs}
 
 -- a statement that a text spells makes a whole table, if it makes one
 pub makes_whole : (text : List ℕ) (s : Stmt) (session : ℕ) → ((t : Table) (spelled : List ℕ) → IsStatement (CreateTable t) spelled → IsWholeTable t) → IsStatement s text → MakesWhole (inputs.Call session (Some s))
