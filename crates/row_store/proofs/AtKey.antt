@@ -10,7 +10,7 @@ use Rattle.dtx_values.specs.Order.{value_cmp}
 use Rattle.sql_eval.specs.declared.keyed.Keyed.{Keyed}
 use Rattle.sql_eval.specs.Rows.{same_value, get, keys_of}
 use Rattle.sql_eval.specs.Laws.{at_key}
-use Rattle.row_store.proofs.Entries.{same_is, same_key}
+use Rattle.sql_eval.proofs.ValueOrder.{same_is, same_key}
 
 -- a row that was found, with its key
 abbrev pub with_key : Value → Option Row → List Keyed

@@ -12,7 +12,7 @@ use Rattle.dtx_values.proofs.RowLookups.{values_total}
 use Rattle.sql_eval.specs.declared.keyed.Keyed.{Keyed}
 use Rattle.sql_eval.specs.Words.{same_text}
 use Rattle.sql_eval.specs.Rows.{same_value, value_below, put, without, set_to, change_one, apply, keys_of}
-use Rattle.row_store.proofs.Entries.{same_is, same_key, below_less, apart_less}
+use Rattle.sql_eval.proofs.ValueOrder.{same_is, same_key, below_less, apart_less}
 
 -- the keys of these rows rise
 abbrev pub are_in_order : List Keyed → Type 0

@@ -7,7 +7,7 @@ use Rattle.sql_eval.specs.declared.keyed.Keyed.{Keyed}
 use Rattle.sql_eval.specs.Words.{same_text}
 use Rattle.sql_eval.specs.Rows.{same_value, value_below, get, put, without, set_to, change_one, apply}
 use Rattle.row_store.specs.Own.{is_change_of, last_at}
-use Rattle.row_store.proofs.Entries.{same_key}
+use Rattle.sql_eval.proofs.ValueOrder.{same_key}
 
 -- a key that is the same as one that another is not the same as
 apart_from : (p k q : Value) → same_value p k ≡ false → same_value k q ≡ true → same_value p q ≡ false

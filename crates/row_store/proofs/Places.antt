@@ -20,7 +20,7 @@ use Rattle.row_store.specs.contracts.changed_key.ChangedKeyPartialEq.TheImpl as 
 use Rattle.row_store.specs.contracts.changed_key.ChangedKeyEq.TheImpl.Laws.{laws-law}
 use Rattle.row_store.specs.Own.{is_change_of, last_at, changes_length}
 use Rattle.row_store.specs.Kept.{is_key, place_at, last_place, after_at, IsKept}
-use Rattle.row_store.proofs.Entries.{same_is}
+use Rattle.sql_eval.proofs.ValueOrder.{same_is}
 
 -- ---- the bytes
 

@@ -11,3 +11,4 @@ mod SetLemmas
 pub mod StayLaws
 pub mod TableLaws
 mod ZipLemmas
+pub mod ValueOrder

@@ -1,13 +1,13 @@
 //! The rows of a table by their keys, and keys in order.
-ghost use Rattle.std.specs.Prelude.{◌≡◌, ◌≤◌, length, IfOk, OnOk, IfSome};
+ghost use Rattle.std.specs.Prelude.{◌≡◌, IfOk, OnOk};
 ghost use Rattle.std.specs.Option.{option_copied};
 ghost use Rattle.sql_eval.specs.Rows.{get as get_of, keys_of as keys_in, put_key as put_key_of, keys_in_order as ordered_of};
-ghost use Rattle.sql_eval.specs.Places.{with_key_at};
 
 use crate::Keyed;
-use crate::order::{same_value, value_below};
+use crate::order::same_value;
 use dtx_values::{Duplicate, Row, Value};
 use std::alloc::{AllocError, Global};
+use std::collections::BTreeSet;
 
 /// The row at a key.
 pub fn get<'a>(rows: &'a [Keyed], key: &Value) -> Option<&'a Row>
@@ -32,42 +32,32 @@ pub fn keys_of(alloc: Global, rows: &[Keyed]) -> Result<Vec<Value>, AllocError>
     Ok(keys)
 }
 
-// The place of a key among keys in order, where it is not there yet.
-fn place_for(keys: &[Value], key: &Value) -> Option<usize>
-    ensures within { IfSome result (λ place. place ≤ length keys.now) }
-    ensures place { with_key_at keys.now key.now result ≡ put_key_of keys.now key.now }
+// Puts a key among others, where it is not there yet.
+fn put_key(keys: &mut BTreeSet<Value>, key: Value) -> Result<(), AllocError>
+    ensures { OnOk result (keys.new.keys ≡ put_key_of keys.old.keys key) }
 {
-    for (place, there) in keys.iter().enumerate() {
-        if same_value(there, key) {
-            return None;
-        }
-        if value_below(key, there) {
-            return Some(place);
-        }
-    }
-    Some(keys.len())
+    keys.insert(key)?;
+    Ok(())
 }
 
-/// Puts a key in its place among keys in order, where it is not there yet.
-fn put_key(keys: &mut Vec<Value>, key: Value) -> Result<(), AllocError>
-    ensures { OnOk result (keys.new.items ≡ put_key_of keys.old.items key) }
+// The keys of a set, in order.
+fn listed(alloc: Global, keys: BTreeSet<Value>) -> Result<Vec<Value>, AllocError>
+    ensures { IfOk result (λ list. list.items ≡ keys.keys) }
 {
-    match place_for(keys.as_slice(), &key) {
-        None => Ok(()),
-        Some(place) => {
-            keys.insert(place, key)?;
-            Ok(())
-        }
+    let mut list = Vec::with_capacity(alloc, keys.len())?;
+    for key in keys {
+        list.push(key)?;
     }
+    Ok(list)
 }
 
 /// These keys in order, each once.
 pub fn keys_in_order(alloc: Global, keys: Vec<Value>) -> Result<Vec<Value>, AllocError>
     ensures { IfOk result (λ ordered. ordered.items ≡ ordered_of keys.items) }
 {
-    let mut ordered = Vec::new(alloc);
-    for key in keys {
-        put_key(&mut ordered, key)?;
+    let mut ordered = BTreeSet::new(alloc);
+    for each in keys {
+        put_key(&mut ordered, each)?;
     }
-    Ok(ordered)
+    listed(alloc, ordered)
 }
