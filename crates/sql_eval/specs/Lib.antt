@@ -4,6 +4,6 @@ pub mod Rows
 pub mod Columns
 pub mod Refusals
 pub mod Meaning
-pub mod Places
+pub mod Cells
 pub mod Outcomes
 pub mod Laws

@@ -2,7 +2,7 @@
 ghost use Rattle.std.specs.Prelude.{◌≡◌, position, IfOk};
 ghost use Rattle.std.specs.Option.{option_copied};
 ghost use Rattle.sql_eval.specs.Columns.{place_of as place_in, column_of as column_in, is_key as is_key_of, key_of_row as key_in, cell as cell_of};
-ghost use Rattle.sql_eval.specs.Places.{or_null};
+ghost use Rattle.sql_eval.specs.Cells.{or_null};
 
 use dtx_values::{Column, Duplicate, Name, Row, Table, Value};
 use std::alloc::{AllocError, Global};

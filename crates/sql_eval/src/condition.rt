@@ -2,7 +2,7 @@
 //! "Null Conditions".
 ghost use Rattle.std.specs.Prelude.{◌≡◌, [], ◌∷◌, ◌++◌, filter, IfOk, OnOk};
 ghost use Rattle.std.specs.Option.{option_copied};
-ghost use Rattle.sql_eval.specs.Places.{or_null};
+ghost use Rattle.sql_eval.specs.Cells.{or_null};
 ghost use Rattle.sql_eval.specs.Rows.{is_null as is_null_of};
 ghost use Rattle.sql_eval.specs.Meaning.{compares as compares_of, holds as holds_of, conds_of as conds_in, satisfies as satisfies_of, found as found_of};
 

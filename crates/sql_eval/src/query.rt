@@ -2,7 +2,7 @@
 ghost use Rattle.std.specs.Prelude.{◌≡◌, ◌++◌, [], ◌∷◌, map, pos, length, codes, Some, IfOk};
 ghost use Rattle.std.specs.Option.{option_copied};
 ghost use Rattle.dtx_values.specs.declared.value.Value.TheVariants.{Null, Number};
-ghost use Rattle.sql_eval.specs.Places.{or_null};
+ghost use Rattle.sql_eval.specs.Cells.{or_null};
 ghost use Rattle.sql_eval.specs.Columns.{cell as cell_of};
 ghost use Rattle.sql_eval.specs.Meaning.{sum_with as sum_with_of, summed as summed_of, summed_set as summed_set_of, picked as picked_of, row_of, row_set};
 

@@ -1,7 +1,7 @@
 //! The value of a sum over a row: SQL Language Reference, "Arithmetic Operators". A sum with NULL is NULL.
 ghost use Rattle.std.specs.Prelude.{◌≡◌, ◌+ℤ◌, ◌-ℤ◌, Some, IfOk};
 ghost use Rattle.std.specs.Option.{option_copied};
-ghost use Rattle.sql_eval.specs.Places.{or_null};
+ghost use Rattle.sql_eval.specs.Cells.{or_null};
 ghost use Rattle.sql_eval.specs.Meaning.{ranged, term_value as term_value_of, step_value as step_value_of, steps_value as steps_value_of, sum_value as sum_value_of};
 
 use crate::column::{cell, copy_or_null};
