@@ -1,20 +1,16 @@
 -- A lookup in a map's entries, an entry put in and one removed are those of the table's rows.
-use Rattle.std.proofs.Common.{◌≡◌, ℕ, Bool, true, false, cond, not, ◌&&◌, List, [], ◌∷◌, None, Some, filter, refl, sym, ap, subst, ◌∙◌, arith, true≢false}
-use Rattle.std.proofs.lemmas.Bool.Decides.{nat_tests}
+use Rattle.std.proofs.Common.{◌≡◌, Bool, true, false, cond, not, ◌&&◌, List, [], ◌∷◌, None, Some, filter, refl, sym, ap, subst, ◌∙◌}
 use Rattle.std.specs.declared.cmp.Ordering.{Ordering}
-use Rattle.std.specs.declared.cmp.Ordering.TheVariants.{Less, Equal, Greater}
-use Rattle.std.specs.Ordering.{is_eq, match_ordering, nat_cmp}
-use Rattle.std.specs.Cmp.Lexicographic.{slice_cmp}
+use Rattle.std.specs.declared.cmp.Ordering.TheVariants.{Equal}
+use Rattle.std.specs.Ordering.{match_ordering}
 use Rattle.std.specs.BTreeMap.{insert_entry, is_at}
 use Rattle.std.specs.List.Sorted.{IsStrictlySortedBy}
 use Rattle.std.specs.Map.{lookup, remove_entry, keys_of as entry_keys}
 use Rattle.dtx_values.specs.declared.value.Value.{Value}
-use Rattle.dtx_values.specs.declared.value.Value.TheVariants.{Null, Number, Text}
 use Rattle.dtx_values.specs.declared.row.Row.{Row}
 use Rattle.dtx_values.specs.Order.{value_cmp}
 use Rattle.dtx_values.proofs.RowLookups.{derived, derived_is, values_exact}
 use Rattle.sql_eval.specs.declared.keyed.Keyed.{Keyed}
-use Rattle.sql_eval.specs.Words.{text_below}
 use Rattle.sql_eval.specs.Rows.{value_below, same_value, get, put, without, keys_of}
 use Rattle.sql_eval.proofs.ValueOrder.{by_below, compared, same_is}
 use Rattle.row_store.specs.Listed.{row_of, rows_of}

@@ -1,4 +1,5 @@
-//! A client's call: one turn of the node, or, where CREATE finds a transaction, that of a COMMIT before it.
+//! A client's call: one turn of the node, or, where CREATE finds a transaction, that of a COMMIT before it, as a statement
+//! that defines data commits implicitly (SQL Language Reference, "COMMIT").
 ghost use Rattle.std.specs.Prelude.{◌≡◌, ◌<◌, ◌^◌, ◌&&◌, ℕ, Some, None, length, true, is_some, IfOk, IfSome, OnOk, OnErr};
 ghost use Rattle.sql_parse.specs.Statement.{statement_of};
 ghost use Rattle.sole_node.specs.declared.input.Input.TheVariants as inputs;

@@ -1,4 +1,4 @@
-//! A node and its disk.
+//! A node and its disk. That a commit is one once its record is on the disk: Database Concepts, "Transactions".
 ghost use Rattle.std.specs.Prelude.{◌≡◌, ◌+◌, ◌<◌, ◌≤◌, ◌^◌, List, [], ◌∷◌, length, is_some, IfOk, IfErr, IfSome, OnOk, IsErrOf, MatchResult};
 ghost use Rattle.dtx_ports.specs.Causes.{Rose};
 ghost use Rattle.block_disk.specs.Images.{IsOnly, AtEachMoment};

@@ -1,4 +1,4 @@
-//! What a turn does, in memory alone.
+//! What a turn does, in memory alone. When a transaction begins and how it ends: Database Concepts, "Transactions".
 ghost use Rattle.std.specs.Prelude.{◌≡◌, ◌+◌, ◌<◌, ◌≤◌, ◌^◌, [], Some, None, true, IsTrue, IfOk, IfSome, OnOk, length};
 ghost use Rattle.std.specs.List.{All, AllByRecursion};
 ghost use Rattle.std.specs.Option.{option_copied};
