@@ -76,7 +76,7 @@ inserted [] k = refl
 inserted (x ∷ xs) k =
     ap (λ o. match_ordering o (k ∷ x ∷ xs) (x ∷ xs) (x ∷ insert_key value_cmp xs k)) (compared k x)
     ∙ (placed (value_below k x) (value_below x k) (k ∷ x ∷ xs) (x ∷ xs) (x ∷ insert_key value_cmp xs k)
-      ∙ ap (λ (rest : List Value). cond (same_value x k) (x ∷ xs) (cond (value_below k x) (k ∷ x ∷ xs) (x ∷ rest))) (inserted xs k))
+    ∙ ap (λ (rest : List Value). cond (same_value x k) (x ∷ xs) (cond (value_below k x) (k ∷ x ∷ xs) (x ∷ rest))) (inserted xs k))
 
 pub key_is_put : (ks : List Value) (k : Value) → insert_key derived ks k ≡ put_key ks k
 key_is_put ks k = ap (λ (R : Value → Value → Ordering). insert_key R ks k) derived_is ∙ inserted ks k
