@@ -1,0 +1,13 @@
+//! Values, ids, ports and formats by examples, as tests: what no clause says, and that calls succeed.
+//!
+//! One module a crate. What is expected was worked out by hand from the rules, never taken from the program.
+#![tactic(auto)]
+
+#[cfg(test)]
+mod formats;
+#[cfg(test)]
+mod ids;
+#[cfg(test)]
+mod ports;
+#[cfg(test)]
+mod values;
