@@ -12,15 +12,23 @@ fn letters(alloc: Global, count: usize) -> Result<Vec<u8>, AllocError> {
     Ok(vec![in alloc; b'a'; count]?)
 }
 
+fn text_of(alloc: Global, bytes: &[u8]) -> Result<Str, TextErr> {
+    Str::from_bytes(alloc, bytes)
+}
+
+fn name_of(alloc: Global, bytes: &[u8]) -> Result<Name, NameErr> {
+    Name::from_bytes(alloc, bytes)
+}
+
 #[test]
 fn no_bytes_are_no_text(rt: HostRuntime) {
-    assert!(rt; matches!(Str::from_bytes(rt.alloc(), b""), Err(TextErr::Empty)));
+    assert!(rt; matches!(text_of(rt.alloc(), b""), Err(TextErr::Empty)));
 }
 
 #[test]
 fn a_text_has_2000_bytes(rt: HostRuntime) -> Result<(), Fail> {
     let longest = letters(rt.alloc(), 2000)?;
-    let text = Str::from_bytes(rt.alloc(), &longest)?;
+    let text = text_of(rt.alloc(), &longest)?;
     assert_eq!(rt; text.as_bytes(), longest.as_slice());
     Ok(())
 }
@@ -28,19 +36,14 @@ fn a_text_has_2000_bytes(rt: HostRuntime) -> Result<(), Fail> {
 #[test]
 fn a_text_of_2001_bytes_is_too_long(rt: HostRuntime) -> Result<(), Fail> {
     let too_long = letters(rt.alloc(), 2001)?;
-    assert!(rt;
-        matches!(
-            Str::from_bytes(rt.alloc(), &too_long),
-            Err(TextErr::TooLong)
-        )
-    );
+    assert!(rt; matches!(text_of(rt.alloc(), &too_long), Err(TextErr::TooLong)));
     Ok(())
 }
 
 #[test]
 fn a_text_is_utf8(rt: HostRuntime) -> Result<(), Fail> {
-    assert!(rt; matches!(Str::from_bytes(rt.alloc(), b"\xff"), Err(TextErr::NotUtf8)));
-    assert_eq!(rt; Str::from_bytes(rt.alloc(), b"\xc3\xa9")?.as_str(), "é");
+    assert!(rt; matches!(text_of(rt.alloc(), b"\xff"), Err(TextErr::NotUtf8)));
+    assert_eq!(rt; text_of(rt.alloc(), b"\xc3\xa9")?.as_str(), "é");
     Ok(())
 }
 
@@ -52,7 +55,7 @@ fn names_are_folded(rt: HostRuntime) -> Result<(), Fail> {
         (b"a_1$#", b"A_1$#"),
     ];
     for (spelled, folded) in cases {
-        assert_eq!(rt; Name::from_bytes(rt.alloc(), spelled)?.as_bytes(), folded);
+        assert_eq!(rt; name_of(rt.alloc(), spelled)?.as_bytes(), folded);
     }
     Ok(())
 }
@@ -70,7 +73,7 @@ fn what_is_no_name_is_refused(rt: HostRuntime) {
         b"a-b",
     ];
     for spelled in cases {
-        assert!(rt; matches!(Name::from_bytes(rt.alloc(), spelled), Err(NameErr::Bad)));
+        assert!(rt; matches!(name_of(rt.alloc(), spelled), Err(NameErr::Bad)));
     }
 }
 
@@ -94,7 +97,7 @@ fn long_name(alloc: Global, last: usize) -> Result<Vec<u8>, AllocError> {
 
 #[test]
 fn a_name_has_128_bytes(rt: HostRuntime) -> Result<(), Fail> {
-    let name = Name::from_bytes(rt.alloc(), &long_name(rt.alloc(), 4)?)?;
+    let name = name_of(rt.alloc(), &long_name(rt.alloc(), 4)?)?;
     assert_eq!(rt; name.as_bytes().len(), 128);
     Ok(())
 }
@@ -103,13 +106,13 @@ fn a_name_has_128_bytes(rt: HostRuntime) -> Result<(), Fail> {
 fn a_name_of_129_bytes_is_refused(rt: HostRuntime) -> Result<(), Fail> {
     let bytes = long_name(rt.alloc(), 5)?;
     assert_eq!(rt; bytes.len(), 129);
-    assert!(rt; matches!(Name::from_bytes(rt.alloc(), &bytes), Err(NameErr::Bad)));
+    assert!(rt; matches!(name_of(rt.alloc(), &bytes), Err(NameErr::Bad)));
     Ok(())
 }
 
 /// The text of these bytes, as a value.
 fn text_value(alloc: Global, bytes: &[u8]) -> Result<Value, TextErr> {
-    Ok(Value::Text(Str::from_bytes(alloc, bytes)?))
+    Ok(Value::Text(text_of(alloc, bytes)?))
 }
 
 #[test]
@@ -166,13 +169,9 @@ fn a_map_keeps_the_last_row_of_each_key(rt: HostRuntime) -> Result<(), Fail> {
     Ok(())
 }
 
-fn hq(alloc: Global) -> Result<Name, NameErr> {
-    Name::from_bytes(alloc, b"hq")
-}
-
 #[test]
 fn equal_names_are_equal_keys(rt: HostRuntime) -> Result<(), Fail> {
-    let name = hq(rt.alloc())?;
+    let name = name_of(rt.alloc(), b"hq")?;
     let mut by_name = HashMap::new(rt.alloc());
     by_name.insert(name.copy(rt.alloc())?, 1)?;
     assert_eq!(rt; by_name.get(&name).copied(), Some(1));
