@@ -1,0 +1,200 @@
+//! What no clause says of the book: that calls succeed, and the book of one commit over three nodes as it is to be
+//! printed.
+use book::{Entry, book_lines, book_text, entries, entry_text};
+use dtx_values::{Change, Listing, Name, Table, Value};
+use redo_codec::{Decision, RedoRecord};
+use std::alloc::{AllocError, Global};
+use std::test::Fail;
+use tran_ids::BranchId;
+
+const SALES: u8 = 1;
+
+const WAREHOUSE: u8 = 2;
+
+const HQ: u8 = 3;
+
+/// The text of the book, where an order is entered at SALES for goods of WAREHOUSE, and HQ keeps the accounts.
+const TEXT: &str = "made SALES ORDERS
+made WAREHOUSE STOCK
+decided WAREHOUSE 1.1.1 WAREHOUSE.00000002.1.1.1 scn 1 changes 1
+made HQ LEDGER
+sealed HQ 1.65.1 SALES.00000001.1.1.1 scn 1 changes 1
+sealed SALES 1.1.1 SALES.00000001.1.1.1 scn 1 changes 1
+decided WAREHOUSE 1.65.1 SALES.00000001.1.1.1 scn 2 changes 1
+ended SALES 1.1.1 commit scn 2
+ended HQ 1.65.1 commit scn 2
+";
+
+fn branch(node: u8, session: u32) -> BranchId {
+    BranchId {
+        node,
+        boot: 1,
+        session,
+        seq: 1,
+    }
+}
+
+fn name(alloc: Global, text: &[u8]) -> Result<Name, Fail> {
+    Ok(Name::from_bytes(alloc, text).map_err(|_| "it is a name")?)
+}
+
+fn names(alloc: Global) -> Result<Vec<Name>, Fail> {
+    let mut names = Vec::new(alloc);
+    for text in [b"SALES".as_slice(), b"WAREHOUSE", b"HQ"] {
+        names.push(name(alloc, text)?)?;
+    }
+    Ok(names)
+}
+
+fn made(alloc: Global, node: u8, table: &[u8]) -> Result<Entry, Fail> {
+    let table = Table {
+        name: name(alloc, table)?,
+        columns: Listing::new(alloc),
+    };
+    Ok(Entry::Made { node, table })
+}
+
+fn one_change(alloc: Global, table: &[u8]) -> Result<Listing<Change>, Fail> {
+    let change = Change {
+        table: name(alloc, table)?,
+        key: Value::Number(1),
+        after: None,
+    };
+    Ok(Listing::of(vec![in alloc; change]?))
+}
+
+fn sealed(alloc: Global, branch: BranchId, table: &[u8]) -> Result<Entry, Fail> {
+    Ok(Entry::Sealed {
+        branch,
+        global: branch_of_order(),
+        changes: one_change(alloc, table)?,
+        scn: 1,
+    })
+}
+
+fn branch_of_order() -> BranchId {
+    branch(SALES, 1)
+}
+
+fn decided(alloc: Global, branch: BranchId, global: BranchId, scn: u64) -> Result<Entry, Fail> {
+    Ok(Entry::Decided {
+        branch,
+        global,
+        changes: one_change(alloc, b"STOCK")?,
+        scn,
+    })
+}
+
+fn ended(branch: BranchId) -> Entry {
+    Entry::Ended {
+        branch,
+        outcome: Decision::Commit(2),
+    }
+}
+
+fn put_goods(alloc: Global, book: &mut Vec<Entry>) -> Result<(), Fail> {
+    let stock = branch(WAREHOUSE, 1);
+    book.push(made(alloc, SALES, b"ORDERS")?)?;
+    book.push(made(alloc, WAREHOUSE, b"STOCK")?)?;
+    book.push(decided(alloc, stock, stock, 1)?)?;
+    Ok(())
+}
+
+fn put_order(alloc: Global, book: &mut Vec<Entry>) -> Result<(), Fail> {
+    book.push(made(alloc, HQ, b"LEDGER")?)?;
+    book.push(sealed(alloc, branch(HQ, 65), b"LEDGER")?)?;
+    book.push(sealed(alloc, branch_of_order(), b"ORDERS")?)?;
+    Ok(())
+}
+
+fn put_commit(alloc: Global, book: &mut Vec<Entry>) -> Result<(), Fail> {
+    book.push(decided(alloc, branch(WAREHOUSE, 65), branch_of_order(), 2)?)?;
+    book.push(ended(branch_of_order()))?;
+    book.push(ended(branch(HQ, 65)))?;
+    Ok(())
+}
+
+fn order_book(alloc: Global) -> Result<Vec<Entry>, Fail> {
+    let mut book = Vec::new(alloc);
+    put_goods(alloc, &mut book)?;
+    put_order(alloc, &mut book)?;
+    put_commit(alloc, &mut book)?;
+    Ok(book)
+}
+
+/// How many lines a book has.
+fn line_count(alloc: Global, book: &[Entry]) -> Result<usize, Fail> {
+    let names = names(alloc)?;
+    let lines = book_lines(alloc, book, &names)?;
+    Ok(lines.as_slice().len())
+}
+
+fn is_printed(alloc: Global, entry: &Entry, due: &[u8]) -> Result<bool, Fail> {
+    let names = names(alloc)?;
+    let text = entry_text(alloc, entry, &names)?;
+    Ok(text.as_slice() == due)
+}
+
+/// How many entries a turn of HQ has.
+fn entry_count(alloc: Global, wrote: &Option<RedoRecord>) -> Result<usize, AllocError> {
+    Ok(entries(alloc, HQ, wrote)?.len())
+}
+
+#[test]
+fn the_book_of_a_commit_is_printed(rt: HostRuntime) -> Result<(), Fail> {
+    let alloc = rt.alloc();
+    let book = order_book(alloc)?;
+    let names = names(alloc)?;
+    let text = book_text(alloc, &book, &names)?;
+    assert_eq!(rt; text.as_slice(), TEXT.as_bytes());
+    Ok(())
+}
+
+#[test]
+fn a_book_has_a_line_for_each_entry(rt: HostRuntime) -> Result<(), Fail> {
+    let alloc = rt.alloc();
+    let book = order_book(alloc)?;
+    assert_eq!(rt; line_count(alloc, &book)?, 9);
+    assert_eq!(rt; line_count(alloc, &[])?, 1);
+    Ok(())
+}
+
+#[test]
+fn a_forced_outcome_is_printed(rt: HostRuntime) -> Result<(), Fail> {
+    let forced = Entry::Forced {
+        branch: branch(HQ, 65),
+        outcome: Decision::Rollback,
+    };
+    assert!(rt; is_printed(rt.alloc(), &forced, b"forced HQ 1.65.1 rollback")?);
+    Ok(())
+}
+
+#[test]
+fn a_mixed_outcome_is_printed(rt: HostRuntime) -> Result<(), Fail> {
+    let met = Entry::Met {
+        branch: branch(HQ, 65),
+        decision: Decision::Commit(2),
+        mixed: true,
+    };
+    assert!(rt; is_printed(rt.alloc(), &met, b"met HQ 1.65.1 commit scn 2 mixed yes")?);
+    Ok(())
+}
+
+#[test]
+fn a_turn_without_an_outcome_has_no_entry(rt: HostRuntime) -> Result<(), Fail> {
+    let alloc = rt.alloc();
+    assert_eq!(rt; entry_count(alloc, &None)?, 0);
+    let forgot = Some(RedoRecord::Forgot(branch(HQ, 65)));
+    assert_eq!(rt; entry_count(alloc, &forgot)?, 0);
+    Ok(())
+}
+
+#[test]
+fn a_turn_has_the_entry_of_its_record(rt: HostRuntime) -> Result<(), Fail> {
+    let ended = Some(RedoRecord::Ended {
+        me: branch(HQ, 65),
+        decision: Decision::Rollback,
+    });
+    assert_eq!(rt; entry_count(rt.alloc(), &ended)?, 1);
+    Ok(())
+}

@@ -1,0 +1,165 @@
+//! What no clause says of a script's commands: which line is named where one is bad, and commands as they are read.
+use sole_script::{Command, ScriptErr, read_script};
+use std::alloc::Global;
+use std::test::Fail;
+
+/// The line of the first bad command: 0 where there is none.
+fn bad_line(alloc: Global, script: &str) -> Result<u32, Fail> {
+    if script.len() >= 1 << 31 {
+        return Err(Fail::new("too long a script"));
+    }
+    match read_script(alloc, script.as_bytes()) {
+        Ok(_commands) => Ok(0),
+        Err(ScriptErr::Bad { line }) => Ok(line),
+        Err(ScriptErr::NoMemory) => Err(Fail::new("out of memory")),
+    }
+}
+
+/// Scripts, each with the line of its first bad command.
+const LINES: [(&str, u32); 40] = [
+    ("", 0),
+    (" \t\r\n\n", 0),
+    ("-- nothing; at all", 0),
+    ("NODE A;", 0),
+    ("node a.b$c ;\n-- done", 0),
+    ("NODE A; AT a SESSION 1: COMMIT;\n", 0),
+    ("NODE A; AT A SESSION 001 :;", 0),
+    ("NODE A-- the only node;\n; AT A SESSION 1: --\n;", 0),
+    ("NODE A; STOP A; START A; SHOW BOOK; SHOW DISK A;", 0),
+    ("NODE a.b; stop A.B;\tStart\r\na.b ; -- now\nshow  book;", 0),
+    ("NODE A;\nSTOP;", 2),
+    ("NODE A;\nSTOP A B;", 2),
+    ("NODE A;\nSTOP B;", 2),
+    ("NODE A;\nSTOP A: COMMIT;", 2),
+    ("NODE A;\nSTOP A;\nSTART A 1;", 3),
+    ("NODE A;\nSTOPA;", 2),
+    ("NODE A;\nSHOW;", 2),
+    ("NODE A;\nSHOW BOOK A;", 2),
+    ("NODE A;\nSHOW DISK;", 2),
+    ("NODE A;\nSHOW DISK B;", 2),
+    ("NODE A;\nSHOW A;", 2),
+    ("SHOW BOOK;", 1),
+    ("NODE A;\nFROB;", 2),
+    ("FROB;\nFROB;", 1),
+    ("\n\nFROB;", 3),
+    ("-- one\n -- two\n\tFROB;", 3),
+    ("NODE A;\n\nAT A SESSION 1: COMMIT", 3),
+    ("NODE A;\n\n;", 3),
+    (";", 1),
+    ("NODE A;\nAT B SESSION 1: COMMIT;", 2),
+    ("NODE A;\nAT A SESSION 0: COMMIT;", 2),
+    ("NODE A;\nAT A SESSION ONE: COMMIT;", 2),
+    ("NODE A;\nAT A SESSION 1 COMMIT;", 2),
+    ("NODE A;\nAT A SESSION 1 -- : COMMIT;\n;", 2),
+    ("NODE A;\nNODE B;", 2),
+    ("AT A SESSION 1: COMMIT;", 1),
+    ("NODE A B;", 1),
+    ("NODE Select;", 1),
+    ("NODE A.;", 1),
+    ("NODE -A;", 1),
+];
+
+/// Scripts with numbers, at the ends of their ranges and past them.
+const NODES: [(&str, u32); 15] = [
+    ("NODE HQ0.acme.com; STOP hq0.ACME.com;", 0),
+    ("NODE A UNDO 1;", 0),
+    ("node a\nundo 1024;", 0),
+    ("NODE UNDO UNDO 064;", 0),
+    ("NODE A UNDO 0;", 1),
+    ("NODE A UNDO 1025;", 1),
+    ("NODE A UNDO;", 1),
+    ("NODE A UNDO 'A';", 1),
+    ("NODE A UNDO 1 UNDO 1;", 1),
+    ("NODE A STRENGTH 1;", 1),
+    ("NODE A LINKS 1 UNDO 1;", 1),
+    ("NODE A UNDO 1 LINKS 1;", 1),
+    ("NODE A;\nAT A SESSION 64: COMMIT;", 0),
+    ("NODE A;\nAT A SESSION 65: COMMIT;", 2),
+    ("NODE A;\nAT A SESSION 4294967297: COMMIT;", 2),
+];
+
+/// Scripts with texts in quotes.
+const QUOTES: [(&str, u32); 15] = [
+    ("NODE A; AT A SESSION 1: ';';", 0),
+    ("NODE A; AT A SESSION 1: '--';", 0),
+    ("NODE A; AT A SESSION 1: 'it''s; all';", 0),
+    ("NODE A; AT A SESSION 1: '''';", 0),
+    ("NODE A; AT A SESSION 1: '\n;\n'; -- that's all", 0),
+    ("NODE A; -- it's\nSTOP A;", 0),
+    ("NODE A; -- 'a'\nSTOP A; -- ';\n", 0),
+    ("NODE A;\n\nAT A SESSION 1: 'COMMIT;\nSTOP A;\n", 3),
+    ("NODE A;\nAT A SESSION 1: ''';\n", 2),
+    ("NODE A;\nAT A SESSION 1: '--\n;", 2),
+    ("NODE A;\nAT A SESSION 1: ';';\nFROB;", 3),
+    ("NODE A;\nAT A SESSION 1: '\n'; FROB;", 3),
+    ("NODE A;\nAT A ':' SESSION 1: COMMIT;", 2),
+    ("NODE 'A';", 1),
+    ("'", 1),
+];
+
+#[test]
+fn names_the_line_of_a_bad_command(rt: HostRuntime) -> Result<(), Fail> {
+    for (script, want) in LINES {
+        assert_eq!(rt; bad_line(rt.alloc(), script)?, want, "{script}");
+    }
+    Ok(())
+}
+
+#[test]
+fn takes_numbers_in_their_range(rt: HostRuntime) -> Result<(), Fail> {
+    for (script, want) in NODES {
+        assert_eq!(rt; bad_line(rt.alloc(), script)?, want, "{script}");
+    }
+    Ok(())
+}
+
+#[test]
+fn ends_no_command_in_quotes(rt: HostRuntime) -> Result<(), Fail> {
+    for (script, want) in QUOTES {
+        assert_eq!(rt; bad_line(rt.alloc(), script)?, want, "{script}");
+    }
+    Ok(())
+}
+
+const ORDERS: &[u8] =
+    b"-- orders\nNODE Sales.Example; at SALES.example session 64: a:b -- it's;\n ';--''c';";
+
+#[test]
+fn reads_the_node_and_each_text(rt: HostRuntime) -> Result<(), Fail> {
+    let commands = read_script(rt.alloc(), ORDERS)?;
+    let [
+        Command::Node { name, undo },
+        Command::At {
+            node,
+            session,
+            text,
+        },
+    ] = commands.as_slice()
+    else {
+        return Err(Fail::new("not a node and a call"));
+    };
+    assert_eq!(rt; name.as_bytes(), b"SALES.EXAMPLE".as_slice());
+    assert_eq!(rt; *undo, 64);
+    assert_eq!(rt; (*node, *session), (1, 64));
+    assert_eq!(rt; text.as_slice(), b" a:b \n ';--''c'".as_slice());
+    Ok(())
+}
+
+#[test]
+fn reads_each_form_without_a_text(rt: HostRuntime) -> Result<(), Fail> {
+    let script = b"NODE a Undo 7; stop A; Start\tA;\nSHOW -- all of it\nBOOK; show disk a;";
+    let commands = read_script(rt.alloc(), script)?;
+    let [
+        Command::Node { name: _, undo },
+        Command::Stop { node: stopped },
+        Command::Start { node: started },
+        Command::ShowBook,
+        Command::ShowDisk { node: shown },
+    ] = commands.as_slice()
+    else {
+        return Err(Fail::new("not a node and the four others"));
+    };
+    assert_eq!(rt; *undo, 7);
+    assert_eq!(rt; (*stopped, *started, *shown), (1, 1, 1));
+    Ok(())
+}
