@@ -13,6 +13,3 @@ mod past;
 pub use disk::Disk;
 pub use dtx_ports::Failed;
 pub use mem_disk::MemDisk;
-
-#[cfg(test)]
-mod tests;

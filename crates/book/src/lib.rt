@@ -15,6 +15,3 @@ pub use happening::{Happening, Took, Trace, Turn};
 pub use line::{AnswerLine, AnswerLines, Said};
 pub use printing::{book_lines, book_text, entry_text};
 pub use record_entries::entries;
-
-#[cfg(test)]
-mod tests;

@@ -51,6 +51,3 @@ pub use taking::{
     take_u32, take_u48, take_u64,
 };
 pub use whole::{read_front, read_whole, write_whole};
-
-#[cfg(test)]
-mod tests;

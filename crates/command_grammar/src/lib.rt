@@ -10,6 +10,3 @@ pub mod grammar;
 pub mod token;
 
 pub use error::CommandErr;
-
-#[cfg(test)]
-mod tests;

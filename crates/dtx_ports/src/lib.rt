@@ -24,6 +24,3 @@ pub use read_port::ReadPort;
 pub use sink::{Sink, write_whole};
 pub use source::{Source, read_whole};
 pub use write_port::WritePort;
-
-#[cfg(test)]
-mod tests;

@@ -33,6 +33,3 @@ pub use str::{Str, TEXT_LIMIT};
 pub use table::{Column, Columns, Link, Synonym, Table};
 pub use text_err::TextErr;
 pub use value::{Bytes, Cells, Texts, Value};
-
-#[cfg(test)]
-mod tests;

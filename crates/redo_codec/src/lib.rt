@@ -17,6 +17,3 @@ pub use decision::Decision;
 pub use durable::{Durable, Kid, Kids, Standing, Standings, State};
 pub use place::{Place, Places};
 pub use record::{Decided, Param, Peer, Peers, RedoRecord, Sealed, Toward};
-
-#[cfg(test)]
-mod tests;

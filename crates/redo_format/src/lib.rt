@@ -38,6 +38,3 @@ pub use name::{put_name, take_name};
 pub use row::{put_row, take_row};
 pub use size::change_len;
 pub use value::{put_value, take_value};
-
-#[cfg(test)]
-mod tests;

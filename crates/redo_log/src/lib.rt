@@ -20,6 +20,3 @@ pub use err::{LoadErr, LoadWhy, LogErr, MakeErr, MakeWhy};
 pub use laws::{fits_one_more, logs_are_read};
 pub use log::Log;
 pub use plain::{cell, count};
-
-#[cfg(test)]
-mod tests;

@@ -13,6 +13,3 @@ pub use answers::{answer_lines, notice_lines};
 pub use numbered::put_numbered;
 pub use refusals::refusal_text;
 pub use rows::{bars, view_lines};
-
-#[cfg(test)]
-mod tests;

@@ -16,6 +16,3 @@ mod script;
 pub use command::{Command, Commands};
 pub use error::ScriptErr;
 pub use script::read_script;
-
-#[cfg(test)]
-mod tests;

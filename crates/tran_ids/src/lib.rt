@@ -10,6 +10,3 @@ pub use clock::Clock;
 pub use texts::{
     global_text, hex_digit, local_text, node_name, put_decimal, put_global, put_local, read_local,
 };
-
-#[cfg(test)]
-mod tests;

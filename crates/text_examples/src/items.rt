@@ -1,6 +1,8 @@
-use super::grammar::{end, keyword, name, natural};
-use super::token::{Token, tokens};
-use super::*;
+//! What no clause says of the items of a command: texts that are taken apart, numbers at their limits, and a form that is
+//! read item by item.
+use command_grammar::CommandErr;
+use command_grammar::grammar::{end, keyword, name, natural};
+use command_grammar::token::{Token, tokens};
 use std::alloc::Global;
 use std::test::Fail;
 
@@ -20,6 +22,10 @@ fn shown(alloc: Global, text: &str) -> Result<Vec<u8>, Fail> {
     Ok(shown)
 }
 
+fn shows(alloc: Global, text: &str, want: &str) -> Result<bool, Fail> {
+    Ok(shown(alloc, text)?.as_slice() == want.as_bytes())
+}
+
 #[test]
 fn takes_a_text_apart(rt: HostRuntime) -> Result<(), Fail> {
     for (text, want) in [
@@ -29,11 +35,7 @@ fn takes_a_text_apart(rt: HostRuntime) -> Result<(), Fail> {
         ("Node\nT_#9\r\n", "[NODE][T_#9]"),
         ("- 5+A,'b';", "-[5]+[A],'[B]';"),
     ] {
-        assert_eq!(rt;
-            shown(rt.alloc(), text)?.as_slice(),
-            want.as_bytes(),
-            "{text}"
-        );
+        assert!(rt; shows(rt.alloc(), text, want)?, "{text}");
     }
     Ok(())
 }
@@ -82,11 +84,20 @@ fn taken(alloc: Global, text: &str) -> Result<(Vec<u8>, u64), CommandErr> {
     Ok((Vec::from_slice(alloc, name.as_bytes())?, number))
 }
 
+fn is_refused(alloc: Global, text: &str) -> bool {
+    matches!(&taken(alloc, text), Err(CommandErr::BadCommand))
+}
+
 #[test]
 fn reads_a_form_item_by_item(rt: HostRuntime) -> Result<(), Fail> {
     let (name, number) = taken(rt.alloc(), "at hq.Acme\n take 7")?;
     assert_eq!(rt; name.as_slice(), b"HQ.ACME".as_slice());
     assert_eq!(rt; number, 7);
+    Ok(())
+}
+
+#[test]
+fn refuses_other_forms(rt: HostRuntime) {
     for text in [
         "AT A TAKE",
         "AT A TAKE 10",
@@ -99,8 +110,6 @@ fn reads_a_form_item_by_item(rt: HostRuntime) -> Result<(), Fail> {
         "ATA TAKE 7",
         "AT TAKE 7",
     ] {
-        let refused = matches!(&taken(rt.alloc(), text), Err(CommandErr::BadCommand));
-        assert_eq!(rt; refused, true, "{text}");
+        assert!(rt; is_refused(rt.alloc(), text), "{text}");
     }
-    Ok(())
 }

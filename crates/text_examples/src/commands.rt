@@ -1,4 +1,5 @@
-use super::*;
+//! What no clause says of a script's commands: which line is named where one is bad, and commands as they are read.
+use sole_script::{Command, ScriptErr, read_script};
 use std::alloc::Global;
 use std::test::Fail;
 
@@ -14,6 +15,7 @@ fn bad_line(alloc: Global, script: &str) -> Result<u32, Fail> {
     }
 }
 
+/// Scripts, each with the line of its first bad command.
 const LINES: [(&str, u32); 40] = [
     ("", 0),
     (" \t\r\n\n", 0),
@@ -57,6 +59,7 @@ const LINES: [(&str, u32); 40] = [
     ("NODE -A;", 1),
 ];
 
+/// Scripts with numbers, at the ends of their ranges and past them.
 const NODES: [(&str, u32); 15] = [
     ("NODE HQ0.acme.com; STOP hq0.ACME.com;", 0),
     ("NODE A UNDO 1;", 0),
@@ -75,6 +78,7 @@ const NODES: [(&str, u32); 15] = [
     ("NODE A;\nAT A SESSION 4294967297: COMMIT;", 2),
 ];
 
+/// Scripts with texts in quotes.
 const QUOTES: [(&str, u32); 15] = [
     ("NODE A; AT A SESSION 1: ';';", 0),
     ("NODE A; AT A SESSION 1: '--';", 0),

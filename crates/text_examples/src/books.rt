@@ -1,8 +1,9 @@
-//! What no clause says: that calls succeed, and the book of one commit over three nodes as it is to be printed.
-use super::*;
+//! What no clause says of the book: that calls succeed, and the book of one commit over three nodes as it is to be
+//! printed.
+use book::{Entry, book_lines, book_text, entries, entry_text};
 use dtx_values::{Change, Listing, Name, Table, Value};
 use redo_codec::{Decision, RedoRecord};
-use std::alloc::Global;
+use std::alloc::{AllocError, Global};
 use std::test::Fail;
 use tran_ids::BranchId;
 
@@ -35,6 +36,14 @@ fn branch(node: u8, session: u32) -> BranchId {
 
 fn name(alloc: Global, text: &[u8]) -> Result<Name, Fail> {
     Ok(Name::from_bytes(alloc, text).map_err(|_| "it is a name")?)
+}
+
+fn names(alloc: Global) -> Result<Vec<Name>, Fail> {
+    let mut names = Vec::new(alloc);
+    for text in [b"SALES".as_slice(), b"WAREHOUSE", b"HQ"] {
+        names.push(name(alloc, text)?)?;
+    }
+    Ok(names)
 }
 
 fn made(alloc: Global, node: u8, table: &[u8]) -> Result<Entry, Fail> {
@@ -83,15 +92,6 @@ fn ended(branch: BranchId) -> Entry {
     }
 }
 
-fn names(alloc: Global) -> Result<Vec<Name>, Fail> {
-    let names = vec![in alloc;
-        name(alloc, b"SALES")?,
-        name(alloc, b"WAREHOUSE")?,
-        name(alloc, b"HQ")?,
-    ]?;
-    Ok(names)
-}
-
 fn put_goods(alloc: Global, book: &mut Vec<Entry>) -> Result<(), Fail> {
     let stock = branch(WAREHOUSE, 1);
     book.push(made(alloc, SALES, b"ORDERS")?)?;
@@ -122,6 +122,24 @@ fn order_book(alloc: Global) -> Result<Vec<Entry>, Fail> {
     Ok(book)
 }
 
+/// How many lines a book has.
+fn line_count(alloc: Global, book: &[Entry]) -> Result<usize, Fail> {
+    let names = names(alloc)?;
+    let lines = book_lines(alloc, book, &names)?;
+    Ok(lines.as_slice().len())
+}
+
+fn is_printed(alloc: Global, entry: &Entry, due: &[u8]) -> Result<bool, Fail> {
+    let names = names(alloc)?;
+    let text = entry_text(alloc, entry, &names)?;
+    Ok(text.as_slice() == due)
+}
+
+/// How many entries a turn of HQ has.
+fn entry_count(alloc: Global, wrote: &Option<RedoRecord>) -> Result<usize, AllocError> {
+    Ok(entries(alloc, HQ, wrote)?.len())
+}
+
 #[test]
 fn the_book_of_a_commit_is_printed(rt: HostRuntime) -> Result<(), Fail> {
     let alloc = rt.alloc();
@@ -129,47 +147,54 @@ fn the_book_of_a_commit_is_printed(rt: HostRuntime) -> Result<(), Fail> {
     let names = names(alloc)?;
     let text = book_text(alloc, &book, &names)?;
     assert_eq!(rt; text.as_slice(), TEXT.as_bytes());
-    let lines = book_lines(alloc, &book, &names)?;
-    assert_eq!(rt; lines.as_slice().len(), 9);
     Ok(())
 }
 
 #[test]
-fn outcomes_are_printed(rt: HostRuntime) -> Result<(), Fail> {
+fn a_book_has_a_line_for_each_entry(rt: HostRuntime) -> Result<(), Fail> {
     let alloc = rt.alloc();
-    let names = names(alloc)?;
-    let branch = branch(HQ, 65);
+    let book = order_book(alloc)?;
+    assert_eq!(rt; line_count(alloc, &book)?, 9);
+    assert_eq!(rt; line_count(alloc, &[])?, 1);
+    Ok(())
+}
+
+#[test]
+fn a_forced_outcome_is_printed(rt: HostRuntime) -> Result<(), Fail> {
     let forced = Entry::Forced {
-        branch,
+        branch: branch(HQ, 65),
         outcome: Decision::Rollback,
     };
-    let text = entry_text(alloc, &forced, &names)?;
-    assert_eq!(rt; text.as_slice(), b"forced HQ 1.65.1 rollback".as_slice());
+    assert!(rt; is_printed(rt.alloc(), &forced, b"forced HQ 1.65.1 rollback")?);
+    Ok(())
+}
+
+#[test]
+fn a_mixed_outcome_is_printed(rt: HostRuntime) -> Result<(), Fail> {
     let met = Entry::Met {
-        branch,
+        branch: branch(HQ, 65),
         decision: Decision::Commit(2),
         mixed: true,
     };
-    let text = entry_text(alloc, &met, &names)?;
-    assert_eq!(rt;
-        text.as_slice(),
-        b"met HQ 1.65.1 commit scn 2 mixed yes".as_slice()
-    );
-    let lines = book_lines(alloc, &[], &names)?;
-    assert_eq!(rt; lines.as_slice().len(), 1);
+    assert!(rt; is_printed(rt.alloc(), &met, b"met HQ 1.65.1 commit scn 2 mixed yes")?);
+    Ok(())
+}
+
+#[test]
+fn a_turn_without_an_outcome_has_no_entry(rt: HostRuntime) -> Result<(), Fail> {
+    let alloc = rt.alloc();
+    assert_eq!(rt; entry_count(alloc, &None)?, 0);
+    let forgot = Some(RedoRecord::Forgot(branch(HQ, 65)));
+    assert_eq!(rt; entry_count(alloc, &forgot)?, 0);
     Ok(())
 }
 
 #[test]
 fn a_turn_has_the_entry_of_its_record(rt: HostRuntime) -> Result<(), Fail> {
-    let alloc = rt.alloc();
-    assert_eq!(rt; entries(alloc, HQ, &None)?.len(), 0);
-    let forgot = Some(RedoRecord::Forgot(branch(HQ, 65)));
-    assert_eq!(rt; entries(alloc, HQ, &forgot)?.len(), 0);
     let ended = Some(RedoRecord::Ended {
         me: branch(HQ, 65),
         decision: Decision::Rollback,
     });
-    assert_eq!(rt; entries(alloc, HQ, &ended)?.len(), 1);
+    assert_eq!(rt; entry_count(rt.alloc(), &ended)?, 1);
     Ok(())
 }

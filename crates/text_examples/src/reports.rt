@@ -1,6 +1,6 @@
-//! What no clause says: that calls succeed, and texts as they are to be printed.
-use super::*;
+//! What no clause says of answers: that calls succeed, and texts as they are to be printed.
 use dtx_values::{Answer, Bytes, Done, Listing, Notice, Refusal, Row, RowSet, Texts, Value};
+use report::{answer_lines, notice_lines, put_numbered, refusal_text};
 use std::alloc::{AllocError, Global};
 use std::test::Fail;
 
@@ -20,41 +20,53 @@ fn same_lines(lines: &[Bytes], expected: &[&[u8]]) -> bool {
             .all(|(line, due)| line.as_slice() == *due)
 }
 
-fn refusal(alloc: Global, code: u16, args: &[&[u8]]) -> Result<Refusal, AllocError> {
-    let args = texts(alloc, args)?;
-    Ok(Refusal { code, args })
-}
-
 fn says(alloc: Global, code: u16, args: &[&[u8]], due: &[u8]) -> Result<bool, AllocError> {
-    let refusal = refusal(alloc, code, args)?;
-    Ok(refusal_text(alloc, &refusal)?.as_slice() == due)
+    let args = texts(alloc, args)?;
+    let text = refusal_text(alloc, &Refusal { code, args })?;
+    Ok(text.as_slice() == due)
 }
 
+/// Refusals by their codes and arguments, each with its text.
+const REFUSALS: [(u16, &[&[u8]], &str); 6] = [
+    (
+        1,
+        &[b"STOCK"],
+        "ORA-00001: unique constraint (APP.STOCK_PK) violated",
+    ),
+    (
+        1400,
+        &[b"STOCK", b"GOODS"],
+        "ORA-01400: cannot insert NULL into (\"APP\".\"STOCK\".\"GOODS\")",
+    ),
+    (
+        2049,
+        &[],
+        "ORA-02049: timeout: distributed transaction waiting for lock",
+    ),
+    (
+        12899,
+        &[b"STOCK", b"GOODS", b"11", b"10"],
+        "ORA-12899: value too large for column \"APP\".\"STOCK\".\"GOODS\" (actual: 11, maximum: 10)",
+    ),
+    (60005, &[], "DTX-05: deliveries ended at 4096"),
+    (60013, &[b"HQ"], "DTX-13: node HQ is running"),
+];
+
 #[test]
-fn refusals_of_oracle_are_written(rt: HostRuntime) -> Result<(), Fail> {
-    let alloc = rt.alloc();
-    let unique = b"ORA-00001: unique constraint (APP.STOCK_PK) violated";
-    assert!(rt; says(alloc, 1, &[b"STOCK"], unique)?);
-    let null = b"ORA-01400: cannot insert NULL into (\"APP\".\"STOCK\".\"GOODS\")";
-    assert!(rt; says(alloc, 1400, &[b"STOCK", b"GOODS"], null)?);
-    let timeout = b"ORA-02049: timeout: distributed transaction waiting for lock";
-    assert!(rt; says(alloc, 2049, &[], timeout)?);
-    let large =
-        b"ORA-12899: value too large for column \"APP\".\"STOCK\".\"GOODS\" (actual: 11, maximum: 10)";
-    assert!(rt; says(alloc, 12899, &[b"STOCK", b"GOODS", b"11", b"10"], large)?);
+fn refusals_are_written(rt: HostRuntime) -> Result<(), Fail> {
+    for (code, args, due) in REFUSALS {
+        assert!(rt; says(rt.alloc(), code, args, due.as_bytes())?, "{due}");
+    }
     Ok(())
 }
 
-#[test]
-fn refusals_of_the_model_are_written(rt: HostRuntime) -> Result<(), Fail> {
-    let alloc = rt.alloc();
-    assert!(rt; says(alloc, 60005, &[], b"DTX-05: deliveries ended at 4096")?);
-    assert!(rt; says(alloc, 60013, &[b"HQ"], b"DTX-13: node HQ is running")?);
-    Ok(())
-}
-
-fn found(alloc: Global, rows: Vec<Row>) -> Result<Answer, AllocError> {
+/// Rows with these numbers in the column ID, and NULL in the column GOODS.
+fn found(alloc: Global, ids: &[i64]) -> Result<Answer, AllocError> {
     let heads = texts(alloc, &[b"ID", b"GOODS"])?;
+    let mut rows = Vec::new(alloc);
+    for id in ids {
+        rows.push(a_row(alloc, *id)?)?;
+    }
     let rows = Listing::of(rows);
     Ok(Answer::Found(RowSet { heads, rows }))
 }
@@ -70,11 +82,17 @@ fn tells(alloc: Global, answer: &Answer, due: &[&[u8]]) -> Result<bool, AllocErr
 }
 
 #[test]
+fn no_rows_are_written_as_such(rt: HostRuntime) -> Result<(), Fail> {
+    let alloc = rt.alloc();
+    let none = found(alloc, &[])?;
+    assert!(rt; tells(alloc, &none, &[b"no rows selected"])?);
+    Ok(())
+}
+
+#[test]
 fn found_rows_are_written(rt: HostRuntime) -> Result<(), Fail> {
     let alloc = rt.alloc();
-    let none = found(alloc, Vec::new(alloc))?;
-    assert!(rt; tells(alloc, &none, &[b"no rows selected"])?);
-    let one = found(alloc, vec![in alloc; a_row(alloc, -1)?]?)?;
+    let one = found(alloc, &[-1])?;
     assert!(rt; tells(alloc, &one, &[b"ID|GOODS", b"-1|NULL", b"1 row selected."])?);
     Ok(())
 }
@@ -86,7 +104,12 @@ fn what_was_done_is_written(rt: HostRuntime) -> Result<(), Fail> {
     assert!(rt; tells(alloc, &created, &[b"0 rows created."])?);
     let committed = Answer::Did(Done::Committed, 0);
     assert!(rt; tells(alloc, &committed, &[b"Commit complete."])?);
-    let lines = notice_lines(alloc, &Notice::Waiting)?;
+    Ok(())
+}
+
+#[test]
+fn a_notice_is_written(rt: HostRuntime) -> Result<(), Fail> {
+    let lines = notice_lines(rt.alloc(), &Notice::Waiting)?;
     assert!(rt; same_lines(&lines, &[b"waiting"]));
     Ok(())
 }
