@@ -10,6 +10,3 @@ mod catalog;
 
 pub use cat_err::CatErr;
 pub use catalog::Catalog;
-
-#[cfg(test)]
-mod tests;

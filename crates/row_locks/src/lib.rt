@@ -10,6 +10,3 @@ mod owner;
 
 pub use lock_err::LockErr;
 pub use locks::{Keys, Locks};
-
-#[cfg(test)]
-mod tests;

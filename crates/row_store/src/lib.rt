@@ -20,6 +20,3 @@ pub use lengths::{change_len, change_len_with, changes_len, extents, row_len, va
 pub use own_changes::OwnChanges;
 pub use tables::Tables;
 pub use view::View;
-
-#[cfg(test)]
-mod tests;

@@ -16,20 +16,20 @@ pub use Rattle.dtx_values.specs.declared.answer.Done.TheVariants as dones
 pub use Rattle.dtx_values.specs.declared.answer.Answer.{Answer}
 pub use Rattle.dtx_values.specs.declared.answer.Answer.TheVariants as answers
 pub use Rattle.tran_ids.specs.declared.branch.BranchId.{BranchId}
-pub use Rattle.sql_parse.specs.declared.statement.TableRef.{TableRef}
-pub use Rattle.sql_parse.specs.declared.statement.Set.{Set}
-pub use Rattle.sql_parse.specs.declared.sum.Term.{Term}
-pub use Rattle.sql_parse.specs.declared.sum.Term.TheVariants as terms
-pub use Rattle.sql_parse.specs.declared.sum.Step.{Step}
-pub use Rattle.sql_parse.specs.declared.sum.Sum.{Sum}
-pub use Rattle.sql_parse.specs.declared.condition.Sign.{Sign}
-pub use Rattle.sql_parse.specs.declared.condition.Sign.TheVariants as signs
-pub use Rattle.sql_parse.specs.declared.condition.Cond.{Cond}
-pub use Rattle.sql_parse.specs.declared.condition.Cond.TheVariants as conds
-pub use Rattle.sql_parse.specs.declared.query.Picked.{Picked}
-pub use Rattle.sql_parse.specs.declared.query.Picked.TheVariants as picks
-pub use Rattle.sql_parse.specs.declared.statement.Stmt.{Stmt}
-pub use Rattle.sql_parse.specs.declared.statement.Stmt.TheVariants as stmts
+pub use Rattle.sql_statement.specs.declared.statement.TableRef.{TableRef}
+pub use Rattle.sql_statement.specs.declared.statement.Set.{Set}
+pub use Rattle.sql_statement.specs.declared.sum.Term.{Term}
+pub use Rattle.sql_statement.specs.declared.sum.Term.TheVariants as terms
+pub use Rattle.sql_statement.specs.declared.sum.Step.{Step}
+pub use Rattle.sql_statement.specs.declared.sum.Sum.{Sum}
+pub use Rattle.sql_statement.specs.declared.condition.Sign.{Sign}
+pub use Rattle.sql_statement.specs.declared.condition.Sign.TheVariants as signs
+pub use Rattle.sql_statement.specs.declared.condition.Cond.{Cond}
+pub use Rattle.sql_statement.specs.declared.condition.Cond.TheVariants as conds
+pub use Rattle.sql_statement.specs.declared.query.Picked.{Picked}
+pub use Rattle.sql_statement.specs.declared.query.Picked.TheVariants as picks
+pub use Rattle.sql_statement.specs.declared.statement.Stmt.{Stmt}
+pub use Rattle.sql_statement.specs.declared.statement.Stmt.TheVariants as stmts
 pub use Rattle.redo_codec.specs.declared.decision.Decision.{Decision}
 pub use Rattle.redo_codec.specs.declared.decision.Decision.TheVariants as decisions
 pub use Rattle.redo_codec.specs.declared.place.Place.{Place}

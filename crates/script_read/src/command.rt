@@ -2,7 +2,7 @@
 ghost use Rattle.std.specs.Prelude.{◌≡◌};
 
 use dtx_values::{Bytes, Duplicate, Listing, Name};
-use sql_parse::Stmt;
+use sql_statement::Stmt;
 use std::alloc::{AllocError, Global};
 use wire_msg::KindName;
 

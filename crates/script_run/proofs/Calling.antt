@@ -3,10 +3,10 @@ use Rattle.std.proofs.Common.{◌≡◌, ℕ, Bool, true, false, List, [], ◌�
 use Rattle.std.specs.Prelude.{◌&&◌, IfSome, is_some}
 use Rattle.dtx_values.specs.declared.table.Table.{Table}
 use Rattle.dtx_values.specs.declared.answer.Answer.{Answer}
-use Rattle.sql_parse.specs.declared.statement.Stmt.{Stmt}
-use Rattle.sql_parse.specs.declared.statement.Stmt.TheVariants.{CreateTable}
+use Rattle.sql_statement.specs.declared.statement.Stmt.{Stmt}
+use Rattle.sql_statement.specs.declared.statement.Stmt.TheVariants.{CreateTable}
 use Rattle.sql_parse.specs.Statement.{IsStatement, statement_of}
-use Rattle.sql_parse.specs.Whole.{IsWholeTable}
+use Rattle.sql_statement.specs.Whole.{IsWholeTable}
 use Rattle.book.specs.declared.line.Said.TheVariants as said
 use Rattle.book.specs.declared.line.AnswerLine.{AnswerLine}
 use Rattle.sole_script.specs.declared.command.Command.TheVariants as commands

@@ -5,7 +5,7 @@ ghost use Rattle.script_run.specs.Linked.{SiteIs, IsNext, BeginsAs, EndsAs, IsSi
 
 use crate::calls::call;
 use crate::line::{AnswerLine, Said};
-use crate::site::{Site, started, stopped};
+use crate::site::{NODE, Site, started, stopped};
 use block_disk::MemDisk;
 use dtx_values::Notice;
 use sole_laws::{Trace, nodes_are_in_order};
@@ -13,9 +13,6 @@ use sole_node::Happening;
 use sole_script::Command;
 use std::alloc::{AllocError, Global};
 use std::mem;
-
-/// The number of the one node.
-const NODE: u8 = 1;
 
 /// A command begins.
 #[tactic(auto, using(crate::proofs::Beginning::begins))]

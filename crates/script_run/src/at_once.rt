@@ -9,15 +9,12 @@ ghost use Rattle.script_run.specs.Site.{site_kept, site_bytes};
 
 use crate::disk_lines::disk_lines;
 use crate::line::Said;
-use crate::site::Site;
+use crate::site::{NODE, Site};
 use book::{Entry, book_lines};
 use dtx_values::{Listing, Name, Notice, Refusal, Texts};
 use sole_script::Command;
 use std::alloc::{AllocError, Global};
 use tran_ids::node_name;
-
-/// The number of the one node.
-const NODE: u8 = 1;
 
 /// The code of DTX-01, a node is stopped.
 const STOPPED: u16 = 60_001;

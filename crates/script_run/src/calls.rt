@@ -16,18 +16,16 @@ ghost use Rattle.script_run.specs.declared.site.Site.TheVariants.{Up};
 ghost use Rattle.script_run.specs.Linked.{SiteIs, EndsAs, TurnsAs};
 
 use crate::line::{AnswerLine, Said};
-use crate::site::{Site, running};
+use crate::site::{NODE, Site, running};
 use block_disk::MemDisk;
 use dtx_values::{Answer, Done};
 use sole_core::{Effects, Finished, Node, TurnErr};
 use sole_laws::{Trace, nodes_are_in_order};
 use sole_node::{Happening, Input};
-use sql_parse::{ParseErr, Stmt, created_tables_are_whole, parse};
+use sql_parse::{ParseErr, created_tables_are_whole, parse};
+use sql_statement::Stmt;
 use std::alloc::{AllocError, Global};
 use std::mem;
-
-/// The number of the one node.
-const NODE: u8 = 1;
 
 /// The statement that a text is, or nothing where the text is outside the grammar.
 #[tactic(auto, using(crate::proofs::Calling::makes_whole))]

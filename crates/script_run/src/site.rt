@@ -12,6 +12,9 @@ use block_disk::MemDisk;
 use sole_core::{MakeErr, MakeWhy, Node};
 use std::alloc::{AllocError, Global};
 
+/// The number of the one node.
+pub(crate) const NODE: u8 = 1;
+
 /// A node that is up, or the disk of one that is down.
 #[derive(Drop)]
 pub enum Site {
@@ -114,6 +117,7 @@ fn start_disk(alloc: Global, undo: u32, disk: MemDisk) -> Result<(Site, u32), Al
     ensures undo { IfOk result (λ x. HasUndo undo x.0) }
     ensures ready { IfOk result (λ x. IsReadySite x.0) }
 {
+    // That the bytes of a disk are the content that its happenings left is told here.
     let _bytes = disk.bytes().len();
     match Node::start(alloc, disk, undo) {
         Ok(node) => {

@@ -1,5 +1,5 @@
 -- What a turn writes has a spelling.
-use Rattle.std.proofs.Common.{◌≡◌, ℕ, zero, suc, ◌<◌, ◌≤◌, ◌^◌, List, [], ◌∷◌, Option, None, Some, arith, length}
+use Rattle.std.proofs.Common.{◌≡◌, ℕ, zero, suc, ◌<◌, ◌≤◌, ◌^◌, List, [], ◌∷◌, Option, None, Some, false, refl, arith, length}
 use Rattle.std.specs.Prelude.{IsTrue, IfSome}
 use Rattle.std.specs.List.{AllByRecursion}
 use Rattle.std.proofs.lemmas.Str.{IsUtf8-nil, is_utf8-from_IsUtf8}
@@ -39,10 +39,10 @@ decided_fits d fits = (tt, fits)
 
 -- ---- changes of tables that are there
 
-key_fits : (v : Value) → is_null v ≡ Rattle.std.proofs.Common.false → IsTrue (is_key v)
+key_fits : (v : Value) → is_null v ≡ false → IsTrue (is_key v)
 key_fits values.Null h = absurd cc
-key_fits (values.Number n) h = Rattle.std.proofs.Common.refl
-key_fits (values.Text t) h = Rattle.std.proofs.Common.refl
+key_fits (values.Number n) h = refl
+key_fits (values.Text t) h = refl
 
 row_fits : (t : Table) (key : Value) (after : Option Row) → length t.columns ≤ 32 → IfSome after (IsRowAt t key) → IfSome after (λ row. length row.cells ≤ 255)
 row_fits t key None few at = tt

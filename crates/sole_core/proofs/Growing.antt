@@ -18,6 +18,7 @@ use Rattle.sole_node.specs.Kept.{Kept, fresh}
 use Rattle.sole_node.specs.Turn.{after_record, after_records, start_of, first_records}
 use Rattle.sole_node.specs.Disk.{IsSpelled, IsLogOf, bodies_of}
 use Rattle.sole_node.proofs.RecordLemmas.{after_records-push}
+use Rattle.sole_node.proofs.ListLemmas.{all-push}
 use Rattle.sole_core.specs.OnDisk.{IsWritable, GrowsByRecord, HoldRecords, MayStand, next_boot}
 
 -- ---- a record that was appended
@@ -36,13 +37,9 @@ bodies-push : (rs : List RedoRecord) (r : RedoRecord) → bodies_of (rs ++ r ∷
 bodies-push [] r = refl
 bodies-push (x ∷ rs) r = ap (λ (texts : List (List ℕ)). record_format.text x ∷ texts) (bodies-push rs r)
 
-all-push : (rs : List RedoRecord) (r : RedoRecord) → AllByRecursion IsSpelled rs → IsSpelled r → AllByRecursion IsSpelled (rs ++ r ∷ [])
-all-push [] r all last = (last, tt)
-all-push (x ∷ rs) r all last = (all.0, all-push rs r all.1 last)
-
 pub grows : (r : RedoRecord) (body before now : List ℕ) → IsSpelling record_format body r → length body ≤ 16777216 → GrowsByBody body before now → GrowsByRecord r before now
 grows r body before now spelling short more rs log = record {
-  spelled = all-push rs r log.spelled (is_spelled r body spelling short);
+  spelled = all-push IsSpelled rs r log.spelled (is_spelled r body spelling short);
   content = more (bodies_of rs) (bodies_fit rs log.spelled) log.content
       ∙ ap log_of (ap (λ (text : List ℕ). bodies_of rs ++ text ∷ []) spelling.spelled ∙ sym (bodies-push rs r));
 }
@@ -112,12 +109,9 @@ body_at (r ∷ rs) (suc i) fit low = body_at rs i fit.1 (omega (arith, low))
 pub hold_more : (found : List RedoRecord) (list : List (List ℕ)) (i : ℕ) (r : RedoRecord) → HoldRecords found (take i list) → i < length list → IsSpelling record_format (slice_index_or list i []) r
     → HoldRecords (found ++ r ∷ []) (take (i + 1) list)
 hold_more found list i r hold low spelling = record {
-  fit = fit-push found r hold.fit spelling.fits;
+  fit = all-push record_format.Fits found r hold.fit spelling.fits;
   bodies = take_more list i [] low ∙ (ap (λ (texts : List (List ℕ)). texts ++ slice_index_or list i [] ∷ []) hold.bodies ∙ (ap (λ (text : List ℕ). bodies_of found ++ text ∷ []) spelling.spelled ∙ sym (bodies-push found r)));
-} where
-  fit-push : (rs : List RedoRecord) (x : RedoRecord) → AllByRecursion record_format.Fits rs → record_format.Fits x → AllByRecursion record_format.Fits (rs ++ x ∷ [])
-  fit-push [] x all last = (last, tt)
-  fit-push (y ∷ rs) x all last = (all.0, fit-push rs x all.1 last)
+}
 
 -- the record of a start is behind those that it was made from
 pub started_from : (rs : List RedoRecord) (k : Kept) → k ≡ start_of rs → after_record k (records.Boot (k.boot + 1)) ≡ start_of (rs ++ next_boot rs ∷ [])

@@ -1,6 +1,6 @@
 -- What follows of a node that is sane: where its transactions stand, and what their statements meet.
 use Rattle.std.proofs.Common.{◌≡◌, ℕ, zero, suc, ◌+◌, ◌-◌, ◌<◌, ◌≤◌, ◌^◌, Bool, true, false, cond, List, [], ◌∷◌, ◌++◌, length, Option, None, Some, refl, sym, ap, subst, ◌∙◌, arith, true≢false}
-use Rattle.std.specs.Prelude.{find, slice_get, slice_set, slice_index_or, is_some, IfSome}
+use Rattle.std.specs.Prelude.{find, slice_get, slice_set, slice_index_or, is_some, unwrap_or}
 use Rattle.std.specs.Str.{bytes_eq}
 use Rattle.std.specs.List.{All, AllByRecursion, position_or_len}
 use Rattle.std.specs.Cmp.Lexicographic.{bytes_decides}
@@ -16,25 +16,18 @@ use Rattle.row_store.specs.Tables.{rows_of_table}
 use Rattle.row_store.specs.Own.{view_of}
 use Rattle.sole_node.specs.declared.root.Root.{Root}
 use Rattle.sole_node.specs.declared.root.Session.{Session}
-use Rattle.sole_node.specs.Kept.{Kept, session_at, is_of, table_of, root_of, root_at, next_root, fresh_root, with_new_root, begun_by, begun}
+use Rattle.sole_node.specs.Kept.{Kept, session_at, fresh_session, is_of, table_of, root_of, root_at, next_root, fresh_root, with_new_root, begun_by, begun}
 use Rattle.sole_node.specs.Ready.{HasRows, IsChangeAt, IsRootAt, IsSane, IsReady}
-use Rattle.sole_core.specs.Places.{place_at, root_in, IsFirstAt, RunsAt}
+use Rattle.sole_node.proofs.ListLemmas.{all-found, found_passes, some_last, all-push}
+use Rattle.sole_core.specs.Places.{place_at, place_of, root_in, IsFirstAt, RunsAt}
 
 -- ---- tables by their names
-
-find_all : {X : Type 0} (p : X → Bool) (P : X → Type 0) (xs : List X) (x : X) → AllByRecursion P xs → find p xs ≡ Some x → P x × (p x ≡ true)
-find_all p P [] x all found = let nothing : None ≡ Some x = found in absurd cc
-find_all p P (y ∷ xs) x all found =
-    elim (p y) as (λ b. p y ≡ b → cond b (Some y) (find p xs) ≡ Some x → P x × (p x ≡ true)) [
-      | true ↦ λ e f. let is : Some y ≡ Some x = f in let same : y ≡ x = grind arith in subst (λ z. P z × (p z ≡ true)) same (all.0, e)
-      | false ↦ λ e f. find_all p P xs x all.1 f
-    ] refl found
 
 -- a table that is there is whole, and its rows are rows of it
 pub table_there : (k : Kept) (name : List ℕ) (t : Table) → AllByRecursion (HasRows k) k.tables → table_of k name ≡ Some t → HasRows k t × (t.name ≡ name)
 table_there k name t tables found =
-    let h = find_all (λ x. bytes_eq x.name name) (HasRows k) k.tables t tables found in
-    (h.0, (bytes_decides t.name name).0 h.1)
+    let named = λ (x : Table). bytes_eq x.name name in
+    (all-found (HasRows k) named k.tables t tables found, (bytes_decides t.name name).0 (found_passes named k.tables t found))
 
 -- ---- what a transaction sees of a table
 
@@ -69,14 +62,6 @@ all_at P [] i d all low = absurd (omega (arith, low))
 all_at P (x ∷ xs) zero d all low = all.0
 all_at P (x ∷ xs) (suc i) d all low = all_at P xs i d all.1 (omega (arith, low))
 
-passes : {X : Type 0} (p : X → Bool) (xs : List X) (x : X) → find p xs ≡ Some x → p x ≡ true
-passes p [] x found = let nothing : None ≡ Some x = found in absurd cc
-passes p (y ∷ xs) x found =
-    elim (p y) as (λ b. p y ≡ b → cond b (Some y) (find p xs) ≡ Some x → p x ≡ true) [
-      | true ↦ λ e f. let is : Some y ≡ Some x = f in let same : y ≡ x = grind arith in subst (λ z. p z ≡ true) same e
-      | false ↦ λ e f. passes p xs x f
-    ] refl found
-
 -- the open transaction of a branch, by its place
 pub root_is : (k : Kept) (b : BranchId) → is_some (root_of k (Some b)) ≡ true → root_of k (Some b) ≡ Some (root_in k (position_or_len (is_of b) k.roots))
 root_is k b some =
@@ -87,7 +72,7 @@ pub stands_first : (k : Kept) (b : BranchId) → is_some (root_of k (Some b)) �
 stands_first k b some =
     let at = find_at (is_of b) k.roots in
     let p = position_or_len (is_of b) k.roots in
-    let me : (root_in k p).me ≡ b = equal_from_same (root_in k p).me b (passes (is_of b) k.roots (root_in k p) (root_is k b some)) in
+    let me : (root_in k p).me ≡ b = equal_from_same (root_in k p).me b (found_passes (is_of b) k.roots (root_in k p) (root_is k b some)) in
     record {
       here = (got k.roots p (fresh_root (next_root k 0)) (sym (ap is_some at) ∙ some)).0;
       first = ap (λ (x : BranchId). position_or_len (is_of x) k.roots) me;
@@ -103,16 +88,7 @@ may_run k p name tables roots first = record {
 
 -- ---- a transaction that has begun
 
-found_last : {X : Type 0} (p : X → Bool) (xs : List X) (x : X) → p x ≡ true → is_some (find p (xs ++ x ∷ [])) ≡ true
-found_last p [] x ok = ap (λ b. is_some (cond b (Some x) None)) ok
-found_last p (y ∷ xs) x ok =
-    elim (p y) as (λ b. is_some (cond b (Some y) (find p (xs ++ x ∷ []))) ≡ true) [ true ↦ refl | false ↦ found_last p xs x ok ]
-
-all_push : {X : Type 0} (P : X → Type 0) (xs : List X) (x : X) → AllByRecursion P xs → P x → AllByRecursion P (xs ++ x ∷ [])
-all_push P [] x all last = (last, tt)
-all_push P (y ∷ xs) x all last = (all.0, all_push P xs x all.1 last)
-
-set_there : (ss : List Session) (i : ℕ) (s : Session) (b : BranchId) → (Rattle.std.specs.Prelude.unwrap_or (slice_get (slice_set ss i s) i) Rattle.sole_node.specs.Kept.fresh_session).root ≡ Some b → s.root ≡ Some b
+set_there : (ss : List Session) (i : ℕ) (s : Session) (b : BranchId) → (unwrap_or (slice_get (slice_set ss i s) i) fresh_session).root ≡ Some b → s.root ≡ Some b
 set_there [] i s b is = let nothing : None ≡ Some b = is in absurd cc
 set_there (x ∷ ss) zero s b is = is
 set_there (x ∷ ss) (suc i) s b is = set_there ss i s b is
@@ -124,20 +100,20 @@ begun_open k n None b was sane is =
     let mine : Some new ≡ Some b = set_there k.sessions (n - 1) (record { seq = new.seq; root = Some new }) b is in
     let same_one : new ≡ b = grind arith in
     subst (λ (x : BranchId). is_some (find (is_of x) (k.roots ++ fresh_root new ∷ [])) ≡ true) same_one
-    (found_last (is_of new) k.roots (fresh_root new) (same_from_equal new new refl))
+    (some_last (is_of new) k.roots (fresh_root new) (same_from_equal new new refl))
 
 begun_tables : (k : Kept) (n : ℕ) (o : Option BranchId) → IsSane k → AllByRecursion (HasRows (begun_by k n o)) (begun_by k n o).tables
 begun_tables k n (Some r) sane = sane.tables
-begun_tables k n None sane = Rattle.std.proofs.Common.subst (λ (P : Table → Type 0). AllByRecursion P k.tables) refl (tables_as k n k.tables sane.tables) where
+begun_tables k n None sane = tables_as k n k.tables sane.tables where
   tables_as : (k : Kept) (n : ℕ) (ts : List Table) → AllByRecursion (HasRows k) ts → AllByRecursion (HasRows (with_new_root k n (next_root k n))) ts
   tables_as k n [] all = tt
   tables_as k n (t ∷ ts) all = (record { whole = all.0.whole; rows = all.0.rows }, tables_as k n ts all.1)
 
 begun_roots : (k : Kept) (n : ℕ) (o : Option BranchId) → IsSane k → AllByRecursion (IsRootAt (begun_by k n o)) (begun_by k n o).roots
 begun_roots k n (Some r) sane = sane.roots
-begun_roots k n None sane = all_push (IsRootAt k) k.roots (fresh_root (next_root k n)) sane.roots tt
+begun_roots k n None sane = all-push (IsRootAt k) k.roots (fresh_root (next_root k n)) sane.roots tt
 
-place_by : (k : Kept) (o : Option BranchId) (p : ℕ) (P : ℕ → Type 0) → Rattle.sole_core.specs.Places.place_of k.roots o ≡ Some p → ((b : BranchId) → o ≡ Some b → P (position_or_len (is_of b) k.roots)) → P p
+place_by : (k : Kept) (o : Option BranchId) (p : ℕ) (P : ℕ → Type 0) → place_of k.roots o ≡ Some p → ((b : BranchId) → o ≡ Some b → P (position_or_len (is_of b) k.roots)) → P p
 place_by k None p P at h = let nothing : None ≡ Some p = at in absurd cc
 place_by k (Some b) p P at h = let is : Some (position_or_len (is_of b) k.roots) ≡ Some p = at in let same_one : position_or_len (is_of b) k.roots ≡ p = grind arith in subst P same_one (h b refl)
 
@@ -156,7 +132,7 @@ begun_root k n p sane at =
 
 pub none_open : (k : Kept) (n : ℕ) → place_at k n ≡ None → root_at k n ≡ None
 none_open k n none = none_by (session_at k n).root none where
-  none_by : (o : Option BranchId) → Rattle.sole_core.specs.Places.place_of k.roots o ≡ None → root_of k o ≡ None
+  none_by : (o : Option BranchId) → place_of k.roots o ≡ None → root_of k o ≡ None
   none_by None h = refl
   none_by (Some b) h = let clash : Some (position_or_len (is_of b) k.roots) ≡ None = h in absurd cc
 
@@ -173,7 +149,7 @@ open_root k n p sane at =
 -- ---- the number of a session's next transaction
 
 next_seq : (ss : List Session) (i : ℕ) → AllByRecursion (λ s. s.seq + 1 < 2 ^ 32) ss
-    → (Rattle.std.specs.Prelude.unwrap_or (slice_get ss i) Rattle.sole_node.specs.Kept.fresh_session).seq + 1 < 2 ^ 32
+    → (unwrap_or (slice_get ss i) fresh_session).seq + 1 < 2 ^ 32
 next_seq [] i all = omega arith
 next_seq (s ∷ ss) zero all = all.0
 next_seq (s ∷ ss) (suc i) all = next_seq ss i all.1

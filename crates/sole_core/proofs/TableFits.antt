@@ -3,7 +3,7 @@ use Rattle.std.proofs.Common.{ℕ, ◌≤◌, length, ap, arith, ◌==◌}
 use Rattle.std.specs.Prelude.{IsTrue}
 use Rattle.std.proofs.lemmas.Bool.{le-leb}
 use Rattle.dtx_values.specs.declared.table.Table.{Table}
-use Rattle.sql_parse.specs.Whole.{IsWholeTable}
+use Rattle.sql_statement.specs.Whole.{IsWholeTable}
 use Rattle.redo_format.specs.Table.{is_columns}
 
 pub columns_fit : (t : Table) → IsWholeTable t → IsTrue (is_columns t.columns)

@@ -3,12 +3,12 @@ use Rattle.std.proofs.Common.{◌≡◌, ℕ, List, Option, Some, None, refl}
 use Rattle.std.specs.Prelude.{IfSome}
 use Rattle.dtx_values.specs.declared.table.Table.{Table}
 use Rattle.sql_parse.specs.Statement.{statement_of}
-use Rattle.sql_parse.specs.Whole.{IsWholeTable}
+use Rattle.sql_statement.specs.Whole.{IsWholeTable}
 use Rattle.sql_parse.proofs.ParseLaws.{found_is_spelled}
 use Rattle.sql_parse.proofs.WholeLaws.{created_tables_are_whole}
 use Rattle.sql_eval.proofs.TableLaws.{whole_tables_have_one_key}
-use Rattle.sql_parse.specs.declared.statement.Stmt.{Stmt}
-use Rattle.sql_parse.specs.declared.statement.Stmt.TheVariants as stmts
+use Rattle.sql_statement.specs.declared.statement.Stmt.{Stmt}
+use Rattle.sql_statement.specs.declared.statement.Stmt.TheVariants as stmts
 use Rattle.sole_node.specs.Ready.{IsWhole}
 use Rattle.sole_laws.proofs.KindLemmas.{MakesWhole}
 

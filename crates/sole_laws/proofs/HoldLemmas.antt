@@ -5,7 +5,7 @@ use Rattle.std.specs.List.{AllByRecursion}
 use Rattle.dtx_values.specs.declared.answer.Answer.{Answer}
 use Rattle.redo_codec.specs.declared.record.RedoRecord.{RedoRecord}
 use Rattle.redo_codec.specs.declared.record.RedoRecord.TheVariants as records
-use Rattle.sql_parse.specs.declared.statement.Stmt.{Stmt}
+use Rattle.sql_statement.specs.declared.statement.Stmt.{Stmt}
 use Rattle.sql_parse.specs.Statement.{statement_of}
 use Rattle.book.specs.declared.entry.Entry.{Entry}
 use Rattle.book.specs.Entries.{entries_of}
@@ -23,7 +23,7 @@ use Rattle.sole_laws.specs.Lawful.{served_by, MayBegin, MayTurn, MayHappen, IsLa
 use Rattle.sole_laws.proofs.KindLemmas.{MakesWhole, CallsWhole, turn_is}
 use Rattle.sole_laws.proofs.CreatedLemmas.{text_is_whole}
 use Rattle.sole_laws.proofs.StandLemmas.{Stands, After, stands_after, stands_stopped, stands_started, stands_first, start_push, start_rests}
-use Rattle.sole_laws.proofs.ListLemmas.{all-replicate}
+use Rattle.sole_node.proofs.ListLemmas.{all-replicate}
 use Rattle.sole_laws.proofs.NumberLemmas.{IsLow, AreLow, low_after}
 
 -- what each happening that may come keeps, a lawful trace keeps

@@ -20,7 +20,7 @@ use Rattle.run_laws.specs.Book.{Follows, Marks, EachAgainst, Agreement, MixedIsM
 use Rattle.sole_node.specs.Kept.{the_node, Kept}
 use Rattle.sole_node.specs.Ready.{IsWhole, IsChangeAt}
 use Rattle.sole_laws.specs.Past.{rows_in}
-use Rattle.sole_laws.proofs.ListLemmas.{all-push, all-weaker, all-both, all-found, any_found, found_passes, found_in_more, found_behind}
+use Rattle.sole_node.proofs.ListLemmas.{all-push, all-weaker, all-both, all-found, any_found, found_passes, found_in_more, found_behind}
 use Rattle.sole_laws.proofs.BookLemmas.{scn_of, scn_of-push, EachAgainst-push, IsPlain, ArePlain, DecidesOnly, DecideOnly, DecideOnly-more, IsOther, decision_follows, Rises}
 use Rattle.sole_laws.proofs.RowsLemmas.{rows_of-made, rows_of-decided, rows_in-table, rows_in-same, rows_in-applied, apply-others}
 

@@ -1,5 +1,4 @@
 pub mod PastLemmas
-pub mod ListLemmas
 pub mod BookLemmas
 pub mod RowsLemmas
 pub mod KindLemmas

@@ -20,7 +20,7 @@ use Rattle.sole_node.specs.declared.root.Root.{Root}
 use Rattle.sole_node.specs.declared.root.Session.{Session}
 use Rattle.sole_node.specs.Kept.{the_node, Kept, fresh_session, session_at, with_session, is_of, root_of, root_at, with_root, next_root, fresh_root, with_new_root, begun_by, begun, ended}
 use Rattle.sole_node.specs.Ready.{IsChangeAt, IsRootAt}
-use Rattle.sole_laws.proofs.ListLemmas.{all-push, all-weaker, all-filter, all-set, all-get, all-replicate, all-found, found_passes, found_in_more, some_in_more, some_last, some_filtered, some_set}
+use Rattle.sole_node.proofs.ListLemmas.{all-push, all-weaker, all-filter, all-set, all-get, all-replicate, all-found, found_passes, found_in_more, some_in_more, some_last, some_filtered, some_set}
 use Rattle.sole_laws.proofs.BookLemmas.{DecidesOnly, DecideOnly, DecideOnly-more, IsOther, not_same}
 
 -- what a stop leaves of a node, and its start finds

@@ -4,7 +4,7 @@ use Rattle.std.specs.List.{AllByRecursion}
 use Rattle.tran_ids.specs.declared.branch.BranchId.{BranchId}
 use Rattle.sole_node.specs.declared.root.Session.{Session}
 use Rattle.sole_node.specs.Kept.{Kept, fresh_session, session_at, next_root, begun_by, begun, ended}
-use Rattle.sole_laws.proofs.ListLemmas.{all-weaker, all-set, all-get}
+use Rattle.sole_node.proofs.ListLemmas.{all-weaker, all-set, all-get}
 use Rattle.sole_laws.proofs.KindLemmas.{OfEach}
 
 -- the transactions of each session are at most so many

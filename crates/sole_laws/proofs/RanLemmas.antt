@@ -7,7 +7,7 @@ use Rattle.dtx_values.specs.declared.row.Change.{Change}
 use Rattle.dtx_values.specs.declared.table.Table.{Table}
 use Rattle.dtx_values.specs.declared.answer.Refusal.{Refusal}
 use Rattle.dtx_values.specs.declared.answer.Done.{Done}
-use Rattle.sql_parse.specs.declared.statement.Stmt.{Stmt}
+use Rattle.sql_statement.specs.declared.statement.Stmt.{Stmt}
 use Rattle.sql_eval.specs.declared.meant.Meant.{Meant}
 use Rattle.sql_eval.specs.declared.meant.Meant.TheVariants as meants
 use Rattle.sql_eval.specs.Refusals.{else_refuse}
@@ -17,7 +17,7 @@ use Rattle.sql_eval.proofs.RowLaws.{changes_are_of_table}
 use Rattle.row_locks.specs.Locks.{keys_held}
 use Rattle.row_store.specs.Own.{Own}
 use Rattle.stmt_run.specs.Run.{Ground, in_doubt_refusal, locked_refusal, space_refusal, ran_within, ran_meant, ran_locked, ran_checked, ran_over, own_after}
-use Rattle.sole_laws.proofs.ListLemmas.{all-append, all-weaker}
+use Rattle.sole_node.proofs.ListLemmas.{all-append, all-weaker}
 
 module _ (P : Change → Type 0) (own : Own) (g : Ground) (s : Stmt) (t : Table) (had : AllByRecursion P own.changes) where
   within : (o : Option Refusal) (d : Done) (cs : List Change) (keys : List Value) → AllByRecursion P cs → AllByRecursion P (own_after own (ran_within g o d cs keys)).changes

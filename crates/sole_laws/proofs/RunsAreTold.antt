@@ -32,7 +32,7 @@ use Rattle.sole_laws.specs.Lawful.{served_by, MayBegin, MayHappen, IsLawful, IsL
 use Rattle.sole_laws.specs.Told.{Owes, WritesOwed, AnswersEach}
 use Rattle.sole_laws.specs.Laws.{LawfulRunsAreAsTold, EachBegunIsAnswered, NodesAreInOrder}
 use Rattle.sole_laws.proofs.PastLemmas.{next-book}
-use Rattle.sole_laws.proofs.ListLemmas.{all-append, all-weaker, all-both}
+use Rattle.sole_node.proofs.ListLemmas.{all-append, all-weaker, all-both}
 use Rattle.sole_laws.proofs.BookLemmas.{rising_scns}
 use Rattle.sole_laws.proofs.RowsLemmas.{rows_in-names}
 use Rattle.sole_laws.proofs.LiveLemmas.{rest_of, Lives}

@@ -9,7 +9,7 @@ use Rattle.dtx_values.specs.declared.row.Change.{Change}
 use Rattle.dtx_values.specs.declared.answer.Answer.{Answer}
 use Rattle.redo_codec.specs.declared.record.RedoRecord.{RedoRecord}
 use Rattle.redo_codec.specs.declared.record.RedoRecord.TheVariants as records
-use Rattle.sql_parse.specs.declared.statement.Stmt.{Stmt}
+use Rattle.sql_statement.specs.declared.statement.Stmt.{Stmt}
 use Rattle.sql_eval.specs.Laws.{IsChangeOf}
 use Rattle.book.specs.declared.entry.Entry.{Entry}
 use Rattle.book.specs.declared.entry.Entry.TheVariants.{Made, Decided}
@@ -20,7 +20,7 @@ use Rattle.sole_node.specs.Kept.{the_node, Kept, fresh, table_of, root_at, begun
 use Rattle.sole_node.specs.Turn.{Outcome, after_record, after_records, start_of, first_records, ground_of, after_run, ran_turn, decided_by}
 use Rattle.sole_node.specs.Ready.{IsChangeAt, IsRootAt, MayFollow, AreSound}
 use Rattle.sole_node.proofs.RecordLemmas.{after_records-push}
-use Rattle.sole_laws.proofs.ListLemmas.{all-found}
+use Rattle.sole_node.proofs.ListLemmas.{all-found}
 use Rattle.sole_laws.proofs.BookLemmas.{DecideOnly-more, IsOther}
 use Rattle.sole_laws.proofs.KindLemmas.{OfEach}
 use Rattle.sole_laws.proofs.LiveLemmas.{rest_of, IsPast, Lives, Lives-begun, rest_of-begun, opened_at, Lives-ended, ended_past, open_is_other, Lives-with_root, Lives-locks, root_is, Lives-decided, Lives-made, Lives-started}

@@ -8,8 +8,8 @@ use Rattle.dtx_values.specs.declared.answer.Answer.TheVariants.{Did}
 use Rattle.redo_codec.specs.declared.record.RedoRecord.{RedoRecord}
 use Rattle.redo_codec.specs.declared.record.RedoRecord.TheVariants as records
 use Rattle.sql_parse.specs.Statement.{statement_of}
-use Rattle.sql_parse.specs.declared.statement.Stmt.{Stmt}
-use Rattle.sql_parse.specs.declared.statement.Stmt.TheVariants as stmts
+use Rattle.sql_statement.specs.declared.statement.Stmt.{Stmt}
+use Rattle.sql_statement.specs.declared.statement.Stmt.TheVariants as stmts
 use Rattle.row_store.specs.Tables.{TableRows}
 use Rattle.book.specs.declared.entry.Entry.{Entry}
 use Rattle.book.specs.declared.line.Said.{Said}

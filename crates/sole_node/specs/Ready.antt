@@ -9,8 +9,8 @@ use Rattle.sql_eval.specs.Laws.{has_one_key, AreRowsOf, IsChangeOf}
 use Rattle.row_store.specs.Tables.{TableRows, rows_of_table}
 use Rattle.redo_codec.specs.declared.record.RedoRecord.{RedoRecord}
 use Rattle.redo_codec.specs.declared.record.RedoRecord.TheVariants as records
-use Rattle.sql_parse.specs.declared.statement.Stmt.TheVariants as stmts
-use Rattle.sql_parse.specs.Whole.{IsWholeTable}
+use Rattle.sql_statement.specs.declared.statement.Stmt.TheVariants as stmts
+use Rattle.sql_statement.specs.Whole.{IsWholeTable}
 use Rattle.sole_node.specs.declared.input.Input.{Input}
 use Rattle.sole_node.specs.declared.input.Input.TheVariants as inputs
 use Rattle.sole_node.specs.Kept.{Root, Session, Kept, table_of, is_used, session_at, root_of}

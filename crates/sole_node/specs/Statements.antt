@@ -1,9 +1,9 @@
 -- Which statements a node runs: CREATE TABLE, the statements on a table of its own, plain COMMIT and ROLLBACK. All other
 -- forms are to a node as a text outside the grammar.
 use Rattle.std.specs.Prelude.{ℕ, Bool, true, false, List, [], Option, None, Some, is_none, if◌then◌else◌}
-use Rattle.sql_parse.specs.declared.statement.TableRef.{TableRef}
-use Rattle.sql_parse.specs.declared.statement.Stmt.{Stmt}
-use Rattle.sql_parse.specs.declared.statement.Stmt.TheVariants as stmts
+use Rattle.sql_statement.specs.declared.statement.TableRef.{TableRef}
+use Rattle.sql_statement.specs.declared.statement.Stmt.{Stmt}
+use Rattle.sql_statement.specs.declared.statement.Stmt.TheVariants as stmts
 
 -- the table that a statement names, where it runs at one
 abbrev pub table_in : Stmt → Option TableRef

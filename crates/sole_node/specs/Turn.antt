@@ -10,8 +10,8 @@ use Rattle.tran_ids.specs.declared.branch.BranchId.{BranchId}
 use Rattle.redo_codec.specs.declared.record.Decided.{Decided}
 use Rattle.redo_codec.specs.declared.record.RedoRecord.{RedoRecord}
 use Rattle.redo_codec.specs.declared.record.RedoRecord.TheVariants as records
-use Rattle.sql_parse.specs.declared.statement.Stmt.{Stmt}
-use Rattle.sql_parse.specs.declared.statement.Stmt.TheVariants as stmts
+use Rattle.sql_statement.specs.declared.statement.Stmt.{Stmt}
+use Rattle.sql_statement.specs.declared.statement.Stmt.TheVariants as stmts
 use Rattle.sql_eval.specs.Refusals.{ora}
 use Rattle.row_store.specs.Tables.{apply_all, with_table}
 use Rattle.row_store.specs.Own.{view_of, changes_length}

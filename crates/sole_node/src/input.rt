@@ -2,7 +2,7 @@
 ghost use Rattle.std.specs.Prelude.{◌≡◌};
 
 use dtx_values::Duplicate;
-use sql_parse::Stmt;
+use sql_statement::Stmt;
 use std::alloc::{AllocError, Global};
 
 /// What a node serves in one turn.

@@ -4,8 +4,7 @@ use Rattle.std.specs.List.{list_any, position_or_len}
 use Rattle.std.specs.Cmp.Lexicographic.{bytes_decides}
 use Rattle.std.proofs.lemmas.List.Sums.{sum_by-cons}
 use Rattle.std.proofs.lemmas.Bool.{lt-ltb, ltb-true, eqb-true}
-use Rattle.sql_parse.specs.Parts.{are_distinct}
-use Rattle.sql_parse.specs.Catalog.{column_name}
+use Rattle.sql_statement.specs.Distinct.{are_distinct, column_name}
 use Rattle.sql_eval.specs.Data.{Column}
 use Rattle.sql_eval.specs.Columns.{is_named}
 use Rattle.sql_eval.specs.Laws.{key_place, names_differ, TablesHaveOneKey, WholeTablesHaveOneKey}

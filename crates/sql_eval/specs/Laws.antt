@@ -2,7 +2,7 @@
 -- of its table.
 use Rattle.std.specs.Prelude.{◌≡◌, ◌==◌, ◌&&◌, not, ℕ, Bool, true, false, List, [], ◌∷◌, Some, None, IfSome, filter, length, map, position, count_by, unwrap_or}
 use Rattle.std.specs.List.{All, AllByRecursion, list_any}
-use Rattle.sql_parse.specs.Whole.{IsWholeTable}
+use Rattle.sql_statement.specs.Whole.{IsWholeTable}
 use Rattle.sql_eval.specs.Data.{Value, Row, Change, Column, Table, Keyed, Stmt, Done}
 use Rattle.sql_eval.specs.Data.meants
 use Rattle.sql_eval.specs.Words.{first_some, same_text}

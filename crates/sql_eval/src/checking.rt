@@ -10,7 +10,7 @@ use crate::insert::{cells_of, first_null, first_too_long, inserted_cells};
 use crate::naming;
 use crate::refusal::{of_name, plain};
 use dtx_values::{Names, Refusal, Table, Value};
-use sql_parse::{Set, Stmt};
+use sql_statement::{Set, Stmt};
 use std::alloc::{AllocError, Global};
 
 /// The code of DTX-09, number out of range.

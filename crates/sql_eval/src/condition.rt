@@ -10,7 +10,7 @@ use crate::Keyed;
 use crate::column::cell;
 use crate::order::{is_null, same_value, value_below};
 use dtx_values::{Duplicate, Row, Table, Value};
-use sql_parse::{Cond, Sign, Stmt};
+use sql_statement::{Cond, Sign, Stmt};
 use std::alloc::{AllocError, Global};
 
 // What a sign says of two values, neither of which is NULL.

@@ -7,7 +7,7 @@ ghost use Rattle.sql_eval.specs.Columns.{is_text as is_text_of, column_of as col
 use crate::column::column_of;
 use crate::insert::given_columns;
 use dtx_values::{Column, Name, Table, Value};
-use sql_parse::{Cond, Picked, Set, Step, Stmt, Sum, Term};
+use sql_statement::{Cond, Picked, Set, Step, Stmt, Sum, Term};
 use std::alloc::{AllocError, Global};
 
 fn is_text(column: &Column) -> bool

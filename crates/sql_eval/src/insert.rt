@@ -13,7 +13,7 @@ use crate::sum::sum_value;
 use dtx_values::{
     Change, Column, Done, Duplicate, Listing, Name, Names, Refusal, Row, Table, Value,
 };
-use sql_parse::Sum;
+use sql_statement::Sum;
 use std::alloc::{AllocError, Global};
 
 fn column_names(alloc: Global, table: &Table) -> Result<Names, AllocError>

@@ -13,7 +13,7 @@ use crate::insert::{cells_of, inserted_cells};
 use crate::order::is_null;
 use crate::rows::{keys_in_order, keys_of};
 use dtx_values::{Duplicate, Names, Table, Value};
-use sql_parse::{Cond, Sign, Stmt, Sum};
+use sql_statement::{Cond, Sign, Stmt, Sum};
 use std::alloc::{AllocError, Global};
 
 // The key that one condition fixes: by a comparison for equality with a literal that is not NULL.

@@ -35,6 +35,3 @@ pub use meaning::meant_over;
 pub use meant::Meant;
 pub use order::{is_null, same_value, value_below};
 pub use rows::get;
-
-#[cfg(test)]
-mod tests;

@@ -15,7 +15,7 @@ use crate::sql_err::SqlErr;
 use crate::update::{deleted, updated};
 use crate::{Keyed, Meant};
 use dtx_values::{Changes, Done, INVALID_SQL, Names, Table};
-use sql_parse::{Set, Stmt, Sum};
+use sql_statement::{Set, Stmt, Sum};
 use std::alloc::{AllocError, Global};
 
 fn insert_over(

@@ -5,7 +5,7 @@ ghost use Rattle.sql_eval.specs.Columns.{place_of as place_in, term_columns, sum
 
 use crate::column::place_of;
 use dtx_values::{Name, Table};
-use sql_parse::{Cond, Picked, Set, Step, Stmt, Sum, Term};
+use sql_statement::{Cond, Picked, Set, Step, Stmt, Sum, Term};
 
 fn is_unknown(table: &Table, name: &Name) -> bool
     ensures { result ≡ is_none (place_in table.now name.now) }

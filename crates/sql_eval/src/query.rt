@@ -14,7 +14,7 @@ use crate::{Keyed, Meant};
 use dtx_values::{
     Bytes, Cells, Duplicate, Listing, Name, Names, Row, RowSet, Rows, Table, Texts, Value,
 };
-use sql_parse::Picked;
+use sql_statement::Picked;
 use std::alloc::{AllocError, Global};
 
 // The total with one value more, of which NULL adds nothing.

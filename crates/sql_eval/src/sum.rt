@@ -6,7 +6,7 @@ ghost use Rattle.sql_eval.specs.Meaning.{ranged, term_value as term_value_of, st
 
 use crate::column::{cell, copy_or_null};
 use dtx_values::{Row, Table, Value};
-use sql_parse::{Step, Sum, Term};
+use sql_statement::{Step, Sum, Term};
 use std::alloc::{AllocError, Global};
 
 // The value of a term, where it is not NULL for want of a cell.

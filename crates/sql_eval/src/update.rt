@@ -13,7 +13,7 @@ use crate::refusal::{of_column, plain};
 use crate::sql_err::SqlErr;
 use crate::sum::sum_value;
 use dtx_values::{Change, Changes, Column, Duplicate, Listing, Row, Table, Value};
-use sql_parse::Set;
+use sql_statement::Set;
 use std::alloc::{AllocError, Global};
 
 fn with_cell(row: Row, place: usize, value: Value) -> Row

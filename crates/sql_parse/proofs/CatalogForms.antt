@@ -11,11 +11,12 @@ use Rattle.token_grammar.specs.declared.token.Token.{Token}
 use Rattle.token_grammar.specs.declared.token.Token.TheVariants as token
 use Rattle.token_grammar.specs.Steps.{begins}
 use Rattle.token_grammar.specs.Grammar.{Grammar, is_word, word, mark, meant, identifier, name, number_to, ◌·◌, ◌▹◌, many, commas, tested}
+use Rattle.sql_statement.specs.Limits.{width_limit}
 use Rattle.sql_parse.specs.declared.rule.Rule.{Rule}
 use Rattle.sql_parse.specs.declared.rule.Rule.TheVariants as rules
-use Rattle.sql_parse.specs.declared.statement.Stmt.TheVariants as statements
+use Rattle.sql_statement.specs.declared.statement.Stmt.TheVariants as statements
 use Rattle.sql_parse.specs.Parts.{or_else, built, in_brackets, itself}
-use Rattle.sql_parse.specs.Catalog.{width_limit, width, column_type, rule, is_rule, are_once, column_of, column, are_of_a_table, table_columns, create_table, target_in, create_link, create_synonym, create}
+use Rattle.sql_parse.specs.Catalog.{width, column_type, rule, is_rule, are_once, column_of, column, are_of_a_table, table_columns, create_table, target_in, create_link, create_synonym, create}
 use Rattle.sql_parse.specs.Printing.{bracketed_text, separated_text, quoted_text, type_text, if_text, column_text, printed}
 use Rattle.sql_parse.proofs.WriteLaws.{goes_on, Writes, nothing_written, then_written, joined_written, at_written, word_written, quoted_written, IsMade, front_made, rest_made, Prints, prints_pair, prints_after, prints_built, prints_tested, prints_or_else, prints_meant, prints_blank, prints_word, prints_word_alone, prints_brackets, prints_commas, prints_after_or, prints_after_built, keyword_written, inner_written}
 use Rattle.sql_parse.proofs.PrintLaws.{prints_identifier, prints_name, prints_number}

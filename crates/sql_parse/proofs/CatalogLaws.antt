@@ -11,9 +11,10 @@ use Rattle.token_grammar.proofs.Beginnings.{leads_word, leads_after, led, apart_
 use Rattle.token_grammar.proofs.OneToken.{word_exact, mark_exact, meant_exact, maybe_exact}
 use Rattle.token_grammar.proofs.Parts.{after, after_exact, seq, seq_led, optional_exact, many_exact}
 use Rattle.token_grammar.proofs.Values.{tested_exact}
-use Rattle.sql_parse.specs.declared.statement.Stmt.{Stmt}
+use Rattle.sql_statement.specs.Limits.{width_limit}
+use Rattle.sql_statement.specs.declared.statement.Stmt.{Stmt}
 use Rattle.sql_parse.specs.Parts.{or_else, is_word_of, in_brackets}
-use Rattle.sql_parse.specs.Catalog.{width_limit, width, column_type, rule, is_rule, are_once, column_of, column, are_of_a_table, table_columns, create_table, target_in, account, create_link, create_synonym, create}
+use Rattle.sql_parse.specs.Catalog.{width, column_type, rule, is_rule, are_once, column_of, column, are_of_a_table, table_columns, create_table, target_in, account, create_link, create_synonym, create}
 use Rattle.sql_parse.proofs.PartLaws.{led_exact, leads_or_else, built_exact, leads_built, word_is_one, apart_word_of, leads_maybe, later_word, brackets_exact, commas_exact}
 
 -- ---- Columns.

@@ -13,12 +13,13 @@ use Rattle.token_grammar.proofs.Beginnings.{begins-append, begins_nothing, eithe
 use Rattle.token_grammar.proofs.OneToken.{word_exact, mark_exact, meant_exact, maybe_exact}
 use Rattle.token_grammar.proofs.Parts.{after, after_exact, pair_exact, seq, seq_led, optional_exact}
 use Rattle.token_grammar.proofs.Values.{mapped_exact, tested_exact, shows_two, list_shows_none}
-use Rattle.sql_parse.specs.declared.query.Picked.{Picked}
-use Rattle.sql_parse.specs.declared.query.Picked.TheVariants as picked
-use Rattle.sql_parse.specs.declared.statement.TableRef.{TableRef}
-use Rattle.sql_parse.specs.declared.condition.Cond.{Cond}
-use Rattle.sql_parse.specs.declared.sum.Sum.{Sum}
-use Rattle.sql_parse.specs.Parts.{or_else, built, mark_of, stands, in_brackets, are_distinct, itself}
+use Rattle.sql_statement.specs.Distinct.{are_distinct}
+use Rattle.sql_statement.specs.declared.query.Picked.{Picked}
+use Rattle.sql_statement.specs.declared.query.Picked.TheVariants as picked
+use Rattle.sql_statement.specs.declared.statement.TableRef.{TableRef}
+use Rattle.sql_statement.specs.declared.condition.Cond.{Cond}
+use Rattle.sql_statement.specs.declared.sum.Sum.{Sum}
+use Rattle.sql_parse.specs.Parts.{or_else, built, mark_of, stands, in_brackets, itself}
 use Rattle.sql_parse.specs.Literals.{table_ref, is_step, sum, is_constant}
 use Rattle.sql_parse.specs.Conditions.{conditions}
 use Rattle.sql_parse.specs.Changes.{column_names, constants, insert, assignment, left_side, assignments, update, delete, count, sum_of, columns, opens, picks, may_lock, select}

@@ -9,8 +9,8 @@ use Rattle.token_grammar.proofs.Beginnings.{begins-append, leads_word, leads_aft
 use Rattle.token_grammar.proofs.OneToken.{word_exact, meant_exact}
 use Rattle.token_grammar.proofs.Parts.{after, before_led, seq, optional_exact, separated_exact}
 use Rattle.token_grammar.proofs.Values.{mapped_exact}
-use Rattle.sql_parse.specs.declared.condition.Sign.{Sign}
-use Rattle.sql_parse.specs.declared.condition.Cond.{Cond}
+use Rattle.sql_statement.specs.declared.condition.Sign.{Sign}
+use Rattle.sql_statement.specs.declared.condition.Cond.{Cond}
 use Rattle.sql_parse.specs.Parts.{stands}
 use Rattle.sql_parse.specs.Conditions.{sign_in, compared, is_null, condition, some_conds, where_part, conditions}
 use Rattle.sql_parse.proofs.PartLaws.{or_else_exact, built_exact, stands_exact}

@@ -3,7 +3,7 @@ use Rattle.std.proofs.Common.{◌≡◌, ℕ, List, Option, Some, None, refl, sy
 use Rattle.token_grammar.specs.Text.{IsTextOf}
 use Rattle.token_grammar.proofs.WholeLaws.{text_takes, text_again}
 use Rattle.token_grammar.proofs.Options.{some_is}
-use Rattle.sql_parse.specs.declared.statement.Stmt.{Stmt}
+use Rattle.sql_statement.specs.declared.statement.Stmt.{Stmt}
 use Rattle.sql_parse.specs.Statement.{statement_grammar, IsStatement, statement_of}
 use Rattle.sql_parse.proofs.StatementLaws.{statement_exact}
 

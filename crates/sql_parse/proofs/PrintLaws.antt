@@ -15,10 +15,11 @@ use Rattle.token_grammar.specs.Steps.{begins}
 use Rattle.token_grammar.specs.Tokens.{TokenText, Ends}
 use Rattle.token_grammar.specs.Grammar.{Grammar, is_word, is_mark, anything, begins_two, word, mark, meant, identifier, identifier_in, name, name_in, number_to, number_to_in, quoted, quoted_in, ◌·◌, ◌▹◌, ◌◃◌, optional, many, separated}
 use Rattle.token_grammar.proofs.Options.{test_some, chosen, some_is}
-use Rattle.sql_parse.specs.declared.condition.Sign.{Sign}
-use Rattle.sql_parse.specs.declared.condition.Sign.TheVariants as signs
-use Rattle.sql_parse.specs.declared.sum.Term.TheVariants as terms
-use Rattle.sql_parse.specs.Parts.{built, stands, text_to, is_text_to, itself}
+use Rattle.sql_statement.specs.Limits.{is_text_to}
+use Rattle.sql_statement.specs.declared.condition.Sign.{Sign}
+use Rattle.sql_statement.specs.declared.condition.Sign.TheVariants as signs
+use Rattle.sql_statement.specs.declared.sum.Term.TheVariants as terms
+use Rattle.sql_parse.specs.Parts.{built, stands, text_to, itself}
 use Rattle.sql_parse.specs.Literals.{largest, smallest, constant_in, literal, table_ref, is_naming, term, minus_in, is_step, step, sum}
 use Rattle.sql_parse.specs.Conditions.{sign_in, compared, is_null, condition, where_part, conditions}
 use Rattle.sql_parse.specs.Printing.{quoted_text, separated_text, each_text, link_text, table_text, term_text, minus_text, step_text, sum_text, sign_text, null_text, cond_text, where_text}

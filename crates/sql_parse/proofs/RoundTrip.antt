@@ -6,7 +6,7 @@ use Rattle.token_grammar.specs.declared.token.Token.{Token}
 use Rattle.token_grammar.specs.Steps.{begins}
 use Rattle.token_grammar.specs.Tokens.{Tokens}
 use Rattle.token_grammar.specs.Grammar.{Grammar, is_word}
-use Rattle.sql_parse.specs.declared.statement.Stmt.{Stmt}
+use Rattle.sql_statement.specs.declared.statement.Stmt.{Stmt}
 use Rattle.sql_parse.specs.Changes.{insert, update, delete, select}
 use Rattle.sql_parse.specs.Catalog.{create}
 use Rattle.sql_parse.specs.Transactions.{commit, rollback, alter, execute}

@@ -12,7 +12,7 @@ use Rattle.token_grammar.specs.declared.token.Token.{Token}
 use Rattle.token_grammar.specs.declared.token.Token.TheVariants as token
 use Rattle.token_grammar.specs.Grammar.{Grammar, Each, is_mark, mark, identifier, identifier_in, name, name_in, number_to, number_to_in, ◌·◌, ◌▹◌, optional, separated, commas, tested}
 use Rattle.sql_parse.specs.Parts.{or_else, built, in_brackets}
-use Rattle.sql_parse.specs.Whole.{IsName}
+use Rattle.sql_statement.specs.Whole.{IsName}
 
 -- each value that the grammar spells is so
 abbrev pub Spells : {V : Type 0} → Grammar V → (V → Type 0) → Type 0

@@ -6,7 +6,7 @@ use Rattle.std.specs.Str.{bytes_eq}
 use Rattle.token_grammar.specs.Steps.{begins}
 use Rattle.token_grammar.specs.Grammar.{Grammar, is_word, anything}
 use Rattle.token_grammar.specs.Exact.{IsExact, Leads}
-use Rattle.sql_parse.specs.declared.statement.Stmt.{Stmt}
+use Rattle.sql_statement.specs.declared.statement.Stmt.{Stmt}
 use Rattle.sql_parse.specs.Parts.{is_word_of}
 use Rattle.sql_parse.specs.Changes.{insert, update, delete, select}
 use Rattle.sql_parse.specs.Catalog.{create}

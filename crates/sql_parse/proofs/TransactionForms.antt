@@ -8,9 +8,10 @@ use Rattle.token_grammar.specs.declared.token.Token.TheVariants as token
 use Rattle.token_grammar.specs.Steps.{begins}
 use Rattle.token_grammar.specs.Tokens.{TokenText}
 use Rattle.token_grammar.specs.Grammar.{Grammar, is_word, is_mark, passed, word, mark, meant, number_to, ◌·◌, ◌▹◌, maybe, optional}
-use Rattle.sql_parse.specs.declared.statement.Stmt.TheVariants as statements
+use Rattle.sql_statement.specs.Limits.{comment_limit, id_limit, largest_scn}
+use Rattle.sql_statement.specs.declared.statement.Stmt.TheVariants as statements
 use Rattle.sql_parse.specs.Parts.{built, text_to}
-use Rattle.sql_parse.specs.Transactions.{comment_limit, id_limit, largest_scn, plain_commit, forced_commit, commit, rollback_of, rollback, advice_in, advise, switch_in, recovery, alter, argument, is_execute, execute}
+use Rattle.sql_parse.specs.Transactions.{plain_commit, forced_commit, commit, rollback_of, rollback, advice_in, advise, switch_in, recovery, alter, argument, is_execute, execute}
 use Rattle.sql_parse.specs.Printing.{quoted_text, scn_text, argument_text, printed}
 use Rattle.sql_parse.proofs.WriteLaws.{goes_on, no_byte, nothing_written, joined_written, ended, spaced, comma_written, word_written, Prints, Quiet, prints_pair, prints_after, prints_built, prints_optional, prints_word, prints_brackets, prints_after_or, prints_after_built, prints_after_two_or, prints_after_two_built, keyword_written, inner_written}
 use Rattle.sql_parse.proofs.PrintLaws.{prints_number, prints_text}

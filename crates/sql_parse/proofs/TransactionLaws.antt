@@ -10,9 +10,10 @@ use Rattle.token_grammar.specs.Exact.{IsExact, Leads}
 use Rattle.token_grammar.proofs.Beginnings.{begins-append, begins-apart, leads_word, leads_mark, leads_after, apart_words, apart_nothing, ends_all}
 use Rattle.token_grammar.proofs.OneToken.{word_exact, mark_exact, meant_exact, passed_exact, maybe_exact}
 use Rattle.token_grammar.proofs.Parts.{after, after_exact, seq, optional_exact}
-use Rattle.sql_parse.specs.declared.statement.Stmt.{Stmt}
+use Rattle.sql_statement.specs.Limits.{comment_limit, id_limit, largest_scn}
+use Rattle.sql_statement.specs.declared.statement.Stmt.{Stmt}
 use Rattle.sql_parse.specs.Parts.{or_else, built, text_to}
-use Rattle.sql_parse.specs.Transactions.{comment_limit, id_limit, largest_scn, plain_commit, forced_commit, commit, rollback_of, rollback, advice_in, advise, switch_in, recovery, alter, argument, purge, is_execute, execute}
+use Rattle.sql_parse.specs.Transactions.{plain_commit, forced_commit, commit, rollback_of, rollback, advice_in, advise, switch_in, recovery, alter, argument, purge, is_execute, execute}
 use Rattle.sql_parse.proofs.PartLaws.{or_else_exact, led_exact, built_exact, leads_built, text_exact, brackets_exact, optional_misses}
 
 -- ---- COMMIT and ROLLBACK

@@ -17,18 +17,19 @@ use Rattle.token_grammar.specs.declared.token.Token.{Token}
 use Rattle.token_grammar.specs.declared.token.Token.TheVariants as token
 use Rattle.token_grammar.specs.Steps.{begins}
 use Rattle.token_grammar.specs.Grammar.{Grammar, is_word, is_mark, word, mark, meant, identifier, number_to, ◌▹◌, commas}
-use Rattle.sql_parse.specs.declared.sum.Term.TheVariants as terms
-use Rattle.sql_parse.specs.declared.condition.Cond.TheVariants as conds
-use Rattle.sql_parse.specs.declared.statement.Stmt.{Stmt}
-use Rattle.sql_parse.specs.declared.statement.Stmt.TheVariants as statements
+use Rattle.sql_statement.specs.Limits.{width_limit, comment_limit, id_limit, largest_scn}
+use Rattle.sql_statement.specs.declared.sum.Term.TheVariants as terms
+use Rattle.sql_statement.specs.declared.condition.Cond.TheVariants as conds
+use Rattle.sql_statement.specs.declared.statement.Stmt.{Stmt}
+use Rattle.sql_statement.specs.declared.statement.Stmt.TheVariants as statements
 use Rattle.sql_parse.specs.Parts.{or_else, built, in_brackets, text_to}
 use Rattle.sql_parse.specs.Literals.{text_value, largest, smallest, constant_in, negative, literal, is_naming, term, step, sum}
 use Rattle.sql_parse.specs.Conditions.{condition, conditions}
 use Rattle.sql_parse.specs.Changes.{insert, assignment, update, delete, select}
-use Rattle.sql_parse.specs.Catalog.{width_limit, width, column_type, column_of, column, are_of_a_table, create_table, target_in, create_link, create_synonym, create}
-use Rattle.sql_parse.specs.Transactions.{comment_limit, id_limit, largest_scn, plain_commit, forced_commit, commit, rollback_of, rollback, advise, recovery, alter, argument, purge, execute}
+use Rattle.sql_parse.specs.Catalog.{width, column_type, column_of, column, are_of_a_table, create_table, target_in, create_link, create_synonym, create}
+use Rattle.sql_parse.specs.Transactions.{plain_commit, forced_commit, commit, rollback_of, rollback, advise, recovery, alter, argument, purge, execute}
 use Rattle.sql_parse.specs.Statement.{led_by, statement_grammar, IsStatement}
-use Rattle.sql_parse.specs.Whole.{IsName, IsTextTo, is_width, HasWidth, IsWholeTable, IsWholeValue, IsWholeTerm, IsWholeSum, IsWholeCond, IsWhole}
+use Rattle.sql_statement.specs.Whole.{IsName, IsTextTo, is_width, HasWidth, IsWholeTable, IsWholeValue, IsWholeTerm, IsWholeSum, IsWholeCond, IsWhole}
 use Rattle.sql_parse.proofs.StatementLaws.{forms_3, forms_4, forms_5, forms_6, forms_7, forms_8}
 use Rattle.sql_parse.proofs.SpellLaws.{Spells, name_is, spells_after, spells_brackets, spells_built, spells_commas, spells_each, spells_identifier, spells_name, spells_number, spells_optional, spells_or_else, spells_separated}
 

@@ -8,17 +8,15 @@ use Rattle.token_grammar.specs.declared.token.Token.{Token}
 use Rattle.token_grammar.specs.declared.token.Token.TheVariants as token
 use Rattle.token_grammar.specs.Steps.{begins}
 use Rattle.token_grammar.specs.Grammar.{Grammar, is_word, either, word, mark, meant, identifier, name, number_to, ◌·◌, ◌▹◌, maybe, optional, many, commas, tested}
+use Rattle.sql_statement.specs.Distinct.{are_distinct, column_name}
+use Rattle.sql_statement.specs.Limits.{width_limit, column_limit}
 use Rattle.sql_parse.specs.declared.rule.Rule.{Rule}
 use Rattle.sql_parse.specs.declared.rule.Rule.TheVariants as rules
-use Rattle.sql_parse.specs.declared.statement.Stmt.{Stmt}
-use Rattle.sql_parse.specs.declared.statement.Stmt.TheVariants as statements
-use Rattle.sql_parse.specs.Parts.{or_else, built, in_brackets, are_distinct}
+use Rattle.sql_statement.specs.declared.statement.Stmt.{Stmt}
+use Rattle.sql_statement.specs.declared.statement.Stmt.TheVariants as statements
+use Rattle.sql_parse.specs.Parts.{or_else, built, in_brackets}
 
 -- ---- Columns.
-
--- the most bytes of a column's texts
-abbrev pub width_limit : ℕ
-width_limit = 2000
 
 -- digits, from 1 on
 abbrev pub width : Grammar ℕ
@@ -61,14 +59,6 @@ unfoldable pub column : Grammar Column
 column = built column_of (identifier · (column_type · tested are_once (many is_rule rule)))
 
 -- ---- Tables.
-
--- the most columns of a table
-abbrev pub column_limit : ℕ
-column_limit = 32
-
--- a column is called by its name
-abbrev pub column_name : Column → List ℕ
-column_name c = c.name
 
 -- not too many, of different names, and one of them the key
 abbrev pub are_of_a_table : List Column → Bool

@@ -5,13 +5,14 @@ use Rattle.token_grammar.specs.declared.mark.Mark.TheVariants as marks
 use Rattle.token_grammar.specs.declared.token.Token.{Token}
 use Rattle.token_grammar.specs.Steps.{begins}
 use Rattle.token_grammar.specs.Grammar.{Grammar, is_word, is_mark, begins_two, word, mark, identifier, ◌·◌, ◌▹◌, maybe, optional, commas, mapped, tested}
-use Rattle.sql_parse.specs.declared.query.Picked.{Picked}
-use Rattle.sql_parse.specs.declared.query.Picked.TheVariants as picked
-use Rattle.sql_parse.specs.declared.statement.Set.{Set}
-use Rattle.sql_parse.specs.declared.statement.Stmt.{Stmt}
-use Rattle.sql_parse.specs.declared.statement.Stmt.TheVariants as statements
-use Rattle.sql_parse.specs.declared.sum.Sum.{Sum}
-use Rattle.sql_parse.specs.Parts.{or_else, built, stands, in_brackets, are_distinct, itself}
+use Rattle.sql_statement.specs.Distinct.{are_distinct}
+use Rattle.sql_statement.specs.declared.query.Picked.{Picked}
+use Rattle.sql_statement.specs.declared.query.Picked.TheVariants as picked
+use Rattle.sql_statement.specs.declared.statement.Set.{Set}
+use Rattle.sql_statement.specs.declared.statement.Stmt.{Stmt}
+use Rattle.sql_statement.specs.declared.statement.Stmt.TheVariants as statements
+use Rattle.sql_statement.specs.declared.sum.Sum.{Sum}
+use Rattle.sql_parse.specs.Parts.{or_else, built, stands, in_brackets, itself}
 use Rattle.sql_parse.specs.Literals.{table_ref, sum, is_constant}
 use Rattle.sql_parse.specs.Conditions.{conditions}
 

@@ -4,10 +4,10 @@ use Rattle.token_grammar.specs.declared.mark.Mark.TheVariants as marks
 use Rattle.token_grammar.specs.declared.token.Token.{Token}
 use Rattle.token_grammar.specs.declared.token.Token.TheVariants as token
 use Rattle.token_grammar.specs.Grammar.{Grammar, is_word, anything, begins_two, word, meant, identifier, ◌·◌, ◌▹◌, ◌◃◌, optional, separated, mapped}
-use Rattle.sql_parse.specs.declared.condition.Sign.{Sign}
-use Rattle.sql_parse.specs.declared.condition.Sign.TheVariants as signs
-use Rattle.sql_parse.specs.declared.condition.Cond.{Cond}
-use Rattle.sql_parse.specs.declared.condition.Cond.TheVariants as conds
+use Rattle.sql_statement.specs.declared.condition.Sign.{Sign}
+use Rattle.sql_statement.specs.declared.condition.Sign.TheVariants as signs
+use Rattle.sql_statement.specs.declared.condition.Cond.{Cond}
+use Rattle.sql_statement.specs.declared.condition.Cond.TheVariants as conds
 use Rattle.sql_parse.specs.Parts.{or_else, built, stands}
 use Rattle.sql_parse.specs.Literals.{literal}
 

@@ -10,11 +10,11 @@ use Rattle.token_grammar.specs.declared.token.Token.{Token}
 use Rattle.token_grammar.specs.declared.token.Token.TheVariants as token
 use Rattle.token_grammar.specs.Steps.{begins}
 use Rattle.token_grammar.specs.Grammar.{Grammar, is_mark, mark, meant, identifier, name, number_to, ◌·◌, ◌▹◌, optional, many, mapped}
-use Rattle.sql_parse.specs.declared.statement.TableRef.{TableRef}
-use Rattle.sql_parse.specs.declared.sum.Term.{Term}
-use Rattle.sql_parse.specs.declared.sum.Term.TheVariants as terms
-use Rattle.sql_parse.specs.declared.sum.Step.{Step}
-use Rattle.sql_parse.specs.declared.sum.Sum.{Sum}
+use Rattle.sql_statement.specs.declared.statement.TableRef.{TableRef}
+use Rattle.sql_statement.specs.declared.sum.Term.{Term}
+use Rattle.sql_statement.specs.declared.sum.Term.TheVariants as terms
+use Rattle.sql_statement.specs.declared.sum.Step.{Step}
+use Rattle.sql_statement.specs.declared.sum.Sum.{Sum}
 use Rattle.sql_parse.specs.Parts.{or_else, built}
 
 -- ---- Literals.

@@ -6,6 +6,7 @@ use Rattle.token_grammar.specs.declared.mark.Mark.TheVariants as marks
 use Rattle.token_grammar.specs.declared.token.Token.{Token}
 use Rattle.token_grammar.specs.declared.token.Token.TheVariants as token
 use Rattle.token_grammar.specs.Grammar.{Grammar, mark, quoted, ◌▹◌, ◌◃◌, optional, mapped, made, tested}
+use Rattle.sql_statement.specs.Limits.{is_text_to}
 
 -- ---- One of several.
 
@@ -41,20 +42,11 @@ stands starts g = mapped is_some mark_of (optional starts g)
 abbrev pub in_brackets : {V : Type 0} → Grammar V → Grammar V
 in_brackets g = mark marks.Open ▹ (g ◃ mark marks.Close)
 
--- at most so many bytes of UTF-8
-abbrev pub is_text_to : ℕ → List ℕ → Bool
-is_text_to most text = nat_le (length text) most && is_utf8 text
-
 -- 'text'
 abbrev pub text_to : ℕ → Grammar (List ℕ)
 text_to most = tested (is_text_to most) quoted
 
 -- ---- Lists.
-
--- whether all items are called by different names
-abbrev pub are_distinct : {V : Type 0} → (V → List ℕ) → List V → Bool
-are_distinct called [] = true
-are_distinct called (v ∷ vs) = not (list_any (λ w. bytes_eq (called w) (called v)) vs) && are_distinct called vs
 
 -- a name is called by itself
 abbrev pub itself : List ℕ → List ℕ

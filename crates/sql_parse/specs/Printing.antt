@@ -8,20 +8,20 @@ use Rattle.dtx_values.specs.declared.table.Column.{Column}
 use Rattle.dtx_values.specs.declared.table.Table.{Table}
 use Rattle.dtx_values.specs.declared.table.Link.{Link}
 use Rattle.dtx_values.specs.declared.table.Synonym.{Synonym}
-use Rattle.sql_parse.specs.declared.condition.Sign.{Sign}
-use Rattle.sql_parse.specs.declared.condition.Sign.TheVariants as signs
-use Rattle.sql_parse.specs.declared.condition.Cond.{Cond}
-use Rattle.sql_parse.specs.declared.condition.Cond.TheVariants as conds
-use Rattle.sql_parse.specs.declared.query.Picked.{Picked}
-use Rattle.sql_parse.specs.declared.query.Picked.TheVariants as picked
-use Rattle.sql_parse.specs.declared.statement.TableRef.{TableRef}
-use Rattle.sql_parse.specs.declared.statement.Set.{Set}
-use Rattle.sql_parse.specs.declared.statement.Stmt.{Stmt}
-use Rattle.sql_parse.specs.declared.statement.Stmt.TheVariants as statements
-use Rattle.sql_parse.specs.declared.sum.Term.{Term}
-use Rattle.sql_parse.specs.declared.sum.Term.TheVariants as terms
-use Rattle.sql_parse.specs.declared.sum.Step.{Step}
-use Rattle.sql_parse.specs.declared.sum.Sum.{Sum}
+use Rattle.sql_statement.specs.declared.condition.Sign.{Sign}
+use Rattle.sql_statement.specs.declared.condition.Sign.TheVariants as signs
+use Rattle.sql_statement.specs.declared.condition.Cond.{Cond}
+use Rattle.sql_statement.specs.declared.condition.Cond.TheVariants as conds
+use Rattle.sql_statement.specs.declared.query.Picked.{Picked}
+use Rattle.sql_statement.specs.declared.query.Picked.TheVariants as picked
+use Rattle.sql_statement.specs.declared.statement.TableRef.{TableRef}
+use Rattle.sql_statement.specs.declared.statement.Set.{Set}
+use Rattle.sql_statement.specs.declared.statement.Stmt.{Stmt}
+use Rattle.sql_statement.specs.declared.statement.Stmt.TheVariants as statements
+use Rattle.sql_statement.specs.declared.sum.Term.{Term}
+use Rattle.sql_statement.specs.declared.sum.Term.TheVariants as terms
+use Rattle.sql_statement.specs.declared.sum.Step.{Step}
+use Rattle.sql_statement.specs.declared.sum.Sum.{Sum}
 use Rattle.sql_parse.specs.Parts.{itself}
 
 -- ---- Lists, and texts in quotes.

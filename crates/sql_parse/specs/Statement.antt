@@ -3,7 +3,7 @@ use Rattle.std.specs.Prelude.{ℕ, List, Option, codes}
 use Rattle.token_grammar.specs.Steps.{begins}
 use Rattle.token_grammar.specs.Grammar.{Grammar, is_word}
 use Rattle.token_grammar.specs.Text.{IsTextOf, value_in}
-use Rattle.sql_parse.specs.declared.statement.Stmt.{Stmt}
+use Rattle.sql_statement.specs.declared.statement.Stmt.{Stmt}
 use Rattle.sql_parse.specs.Parts.{or_else}
 use Rattle.sql_parse.specs.Changes.{insert, update, delete, select}
 use Rattle.sql_parse.specs.Catalog.{create}

@@ -8,23 +8,12 @@ use Rattle.token_grammar.specs.declared.token.Token.{Token}
 use Rattle.token_grammar.specs.declared.token.Token.TheVariants as token
 use Rattle.token_grammar.specs.Steps.{begins}
 use Rattle.token_grammar.specs.Grammar.{Grammar, is_word, is_mark, passed, word, mark, meant, number_to, ◌·◌, ◌▹◌, maybe, optional}
-use Rattle.sql_parse.specs.declared.statement.Stmt.{Stmt}
-use Rattle.sql_parse.specs.declared.statement.Stmt.TheVariants as statements
+use Rattle.sql_statement.specs.Limits.{comment_limit, id_limit, largest_scn}
+use Rattle.sql_statement.specs.declared.statement.Stmt.{Stmt}
+use Rattle.sql_statement.specs.declared.statement.Stmt.TheVariants as statements
 use Rattle.sql_parse.specs.Parts.{or_else, built, is_word_of, in_brackets, text_to}
 
 -- ---- COMMIT and ROLLBACK
-
--- the most bytes of a comment
-abbrev pub comment_limit : ℕ
-comment_limit = 255
-
--- the most bytes of an id
-abbrev pub id_limit : ℕ
-id_limit = 2000
-
--- the largest SCN
-abbrev pub largest_scn : ℕ
-largest_scn = 281474976710655
 
 -- [COMMENT 'text']
 abbrev pub plain_commit : Grammar Stmt

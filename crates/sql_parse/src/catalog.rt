@@ -5,8 +5,8 @@ ghost use Rattle.token_grammar.specs.Grammar.{meant, optional, is_word};
 ghost use Rattle.sql_parse.specs.Catalog as spec;
 
 use crate::columns::take_columns;
-use crate::statement::Stmt;
 use dtx_values::{Link, Name, NameErr, Synonym, Table};
+use sql_statement::Stmt;
 use std::alloc::Global;
 use token_grammar::{
     Mark, ReadErr, Token, begins_word, maybe_word, take_identifier, take_mark, take_name,

@@ -8,16 +8,16 @@ ghost use Rattle.sql_parse.specs.Literals.{is_constant};
 ghost use Rattle.sql_parse.specs.Changes as spec;
 
 use crate::conditions::take_conditions;
-use crate::lists::{ColumnName, Listed, bracketed, commas};
+use crate::lists::{ColumnName, bracketed};
 use crate::literals::take_table_ref;
 use crate::parts::{Called, are_distinct};
-use crate::statement::{Set, Sets, Stmt};
-use crate::sum::{Sum, Sums};
-use crate::sums::{is_constant, take_sum};
+use crate::sums::{ListedSum, is_constant, take_sum};
 use dtx_values::{Listing, Name, Names};
+use sql_statement::{Set, Sets, Stmt, Sum, Sums};
 use std::alloc::Global;
 use token_grammar::{
-    Mark, ReadErr, Token, begins_mark, maybe_word, take_identifier, take_mark, take_word,
+    Mark, Part, ReadErr, Token, begins_mark, commas, maybe_word, take_identifier, take_mark,
+    take_word,
 };
 
 fn take_column_names(alloc: Global, tokens: &[Token]) -> Result<(Names, &[Token]), ReadErr>
@@ -49,7 +49,7 @@ fn are_constant(sums: &[Sum]) -> bool
 fn take_constants(alloc: Global, tokens: &[Token]) -> Result<(Sums, &[Token]), ReadErr>
     ensures { Gives (λ x. (x.0, x.1.now)) result (spec.constants.read tokens.now) }
 {
-    let (sums, rest) = bracketed::<Sum>(alloc, tokens)?;
+    let (sums, rest) = bracketed::<ListedSum>(alloc, tokens)?;
     if !are_constant(&sums) {
         return Err(ReadErr::Bad);
     }
@@ -87,7 +87,10 @@ fn take_assignment(alloc: Global, tokens: &[Token]) -> Result<(Set, &[Token]), R
     Ok((Set { column, to }, rest))
 }
 
-impl Listed for Set {
+/// An assignment, where several stand in a list.
+struct Assignment;
+
+impl Part for Assignment {
     type Item = Set;
 
     ghost grammar = { spec.assignment };
@@ -108,7 +111,7 @@ impl Called for Set {
 fn take_assignments(alloc: Global, tokens: &[Token]) -> Result<(Sets, &[Token]), ReadErr>
     ensures { Gives (λ x. (x.0, x.1.now)) result (spec.assignments.read tokens.now) }
 {
-    let (sets, rest) = commas::<Set>(alloc, tokens)?;
+    let (sets, rest) = commas::<Assignment>(alloc, tokens)?;
     if !are_distinct(&sets) {
         return Err(ReadErr::Bad);
     }

@@ -2,12 +2,9 @@
 ghost use Rattle.std.specs.Prelude.{◌≡◌, ◌++◌, ℕ, List, OnOk};
 ghost use Rattle.sql_parse.specs.Printing as spec;
 
-use crate::condition::{Cond, Sign};
 use crate::pieces::{Printed, put_bracketed, put_each, put_number, put_separated, put_value};
-use crate::query::Picked;
-use crate::statement::{Set, TableRef};
-use crate::sum::{Step, Sum, Term};
 use dtx_values::{Column, Names};
+use sql_statement::{Cond, Picked, Set, Sign, Step, Sum, TableRef, Term};
 use std::alloc::{AllocError, Global};
 
 /// Adds a table, and its link where it is behind one.

@@ -4,15 +4,16 @@ ghost use Rattle.std.specs.List.{list_any};
 ghost use Rattle.token_grammar.specs.Gives.{Gives};
 ghost use Rattle.token_grammar.specs.Grammar.{many, tested};
 ghost use Rattle.sql_parse.specs.Catalog as spec;
+ghost use Rattle.sql_statement.specs.Distinct.{column_name};
 
-use crate::lists::{Listed, bracketed};
+use crate::lists::bracketed;
 use crate::parts::{Called, are_distinct};
 use crate::rule::Rule;
 use dtx_values::{Column, Columns, Listing, Name};
 use std::alloc::Global;
 use token_grammar::{
-    Mark, ReadErr, Repeated, Token, begins_word, many, take_identifier, take_mark, take_number,
-    take_word,
+    Mark, Part, ReadErr, Repeated, Token, begins_word, many, take_identifier, take_mark,
+    take_number, take_word,
 };
 
 /// The most bytes of a column's texts.
@@ -146,7 +147,7 @@ fn take_column(alloc: Global, tokens: &[Token]) -> Result<(Column, &[Token]), Re
 /// A column with its type and rules.
 struct TableColumn;
 
-impl Listed for TableColumn {
+impl Part for TableColumn {
     type Item = Column;
 
     ghost grammar = { spec.column };
@@ -157,7 +158,7 @@ impl Listed for TableColumn {
 }
 
 impl Called for Column {
-    ghost called = { spec.column_name };
+    ghost called = { column_name };
 
     fn called(&self) -> &Name {
         &self.name

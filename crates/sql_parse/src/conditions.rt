@@ -6,9 +6,9 @@ ghost use Rattle.token_grammar.specs.Grammar.{meant, is_word, anything, begins_t
 ghost use Rattle.sql_parse.specs.Parts.{stands};
 ghost use Rattle.sql_parse.specs.Conditions as spec;
 
-use crate::condition::{Cond, Conds, Sign};
 use crate::literals::take_literal;
 use dtx_values::Listing;
+use sql_statement::{Cond, Conds, Sign};
 use std::alloc::Global;
 use token_grammar::{
     Mark, Part, ReadErr, Separator, Token, begins_word, maybe_word, separated, take_identifier,
@@ -80,7 +80,12 @@ fn take_condition(alloc: Global, tokens: &[Token]) -> Result<(Cond, &[Token]), R
     take_compared(alloc, tokens)
 }
 
-impl Part for Cond {
+/// A condition, where several stand with AND between them.
+struct Condition;
+
+impl Part for Condition {
+    type Item = Cond;
+
     ghost grammar = { spec.condition };
 
     fn take(alloc: Global, tokens: &[Token]) -> Result<(Cond, &[Token]), ReadErr> {
@@ -108,6 +113,6 @@ pub(crate) fn take_conditions(alloc: Global, tokens: &[Token]) -> Result<(Conds,
         return Ok((Conds::new(alloc), tokens));
     }
     let rest = take_word(tokens, b"WHERE")?;
-    let (conds, rest) = separated::<And, Cond>(alloc, rest)?;
+    let (conds, rest) = separated::<And, Condition>(alloc, rest)?;
     Ok((Listing::of(conds), rest))
 }

@@ -1,11 +1,11 @@
 //! What holds of all texts. These functions do nothing: their contracts are the theorems.
 ghost use Rattle.std.specs.Prelude.{◌≡◌, ℕ, List, Some};
 ghost use Rattle.dtx_values.specs.declared.table.Table.{Table};
-ghost use Rattle.sql_parse.specs.declared.statement.Stmt.{Stmt};
-ghost use Rattle.sql_parse.specs.declared.statement.Stmt.TheVariants.{CreateTable};
+ghost use Rattle.sql_statement.specs.declared.statement.Stmt.{Stmt};
+ghost use Rattle.sql_statement.specs.declared.statement.Stmt.TheVariants.{CreateTable};
 ghost use Rattle.sql_parse.specs.Statement.{IsStatement, statement_of};
 ghost use Rattle.sql_parse.specs.Printing.{printed};
-ghost use Rattle.sql_parse.specs.Whole.{IsWhole, IsWholeTable};
+ghost use Rattle.sql_statement.specs.Whole.{IsWhole, IsWholeTable};
 
 /// No text spells two statements.
 pub fn one_reading()

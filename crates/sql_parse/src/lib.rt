@@ -1,6 +1,6 @@
-//! The statements of the SQL subset: as data, as texts that are read, and as texts that are printed.
+//! The texts of the statements of the SQL subset: read, and printed.
 //!
-//! `Stmt` and its parts are plain data. Which texts spell a statement is said by `IsStatement` in `specs/Statement.antt`:
+//! Which texts spell a statement is said by `IsStatement` in `specs/Statement.antt`:
 //! the text is cut into tokens, and these are spelled as a grammar says, a form of statement a definition, in the other
 //! files of `specs/`. The grammar is made of the combinators of token_grammar, and so are its proofs of being exact: no
 //! text spells two statements (`one_reading`), and `parse` finds the one that it spells, or says that there is none.
@@ -13,7 +13,6 @@ mod catalog;
 mod changes;
 mod clauses;
 mod columns;
-mod condition;
 mod conditions;
 mod laws;
 mod lists;
@@ -24,14 +23,10 @@ mod parts;
 mod pieces;
 mod printing;
 mod queries;
-mod query;
 mod rule;
-mod statement;
-mod sum;
 mod sums;
 mod transactions;
 
-pub use condition::{Cond, Conds, Sign};
 pub use laws::{
     created_tables_are_whole, one_reading, printed_statements_are_read,
     spelled_statements_are_found, spelled_statements_are_whole,
@@ -39,9 +34,3 @@ pub use laws::{
 pub use parse_err::ParseErr;
 pub use parsing::parse;
 pub use printing::print_stmt;
-pub use query::Picked;
-pub use statement::{Set, Sets, Stmt, TableRef};
-pub use sum::{Step, Steps, Sum, Sums, Term};
-
-#[cfg(test)]
-mod tests;

@@ -4,8 +4,8 @@ ghost use Rattle.token_grammar.specs.Gives.{Gives};
 ghost use Rattle.token_grammar.specs.Grammar.{meant};
 ghost use Rattle.sql_parse.specs.Literals as spec;
 
-use crate::statement::TableRef;
 use dtx_values::{Name, Str, TextErr, Value};
+use sql_statement::TableRef;
 use std::alloc::Global;
 use token_grammar::{
     Mark, ReadErr, Token, begins_mark, take_identifier, take_mark, take_name, take_number,

@@ -1,7 +1,7 @@
 //! Texts, read as statements.
 ghost use Rattle.std.specs.Prelude.{◌≡◌, ℕ, List, Some, None, IfOk, IsErrOf};
 ghost use Rattle.token_grammar.specs.Gives.{Gives};
-ghost use Rattle.sql_parse.specs.declared.statement.Stmt.{Stmt};
+ghost use Rattle.sql_statement.specs.declared.statement.Stmt.{Stmt};
 ghost use Rattle.sql_parse.specs.Statement as spec;
 ghost use Rattle.sql_parse.specs.Statement.{IsStatement, statement_of};
 
@@ -9,8 +9,8 @@ use crate::catalog::take_create;
 use crate::changes::{take_delete, take_insert, take_update};
 use crate::parse_err::ParseErr;
 use crate::queries::take_select;
-use crate::statement::Stmt;
 use crate::transactions::{take_alter, take_commit, take_execute, take_rollback};
+use sql_statement::Stmt;
 use std::alloc::Global;
 use token_grammar::{Part, ReadErr, Token, begins_word, read_text};
 
@@ -45,7 +45,12 @@ fn take_statement(alloc: Global, tokens: &[Token]) -> Result<(Stmt, &[Token]), R
     take_execute(alloc, tokens)
 }
 
-impl Part for Stmt {
+/// A statement, as the whole of a text.
+struct Statement;
+
+impl Part for Statement {
+    type Item = Stmt;
+
     ghost grammar = { spec.statement_grammar };
 
     fn take(alloc: Global, tokens: &[Token]) -> Result<(Stmt, &[Token]), ReadErr> {
@@ -65,7 +70,7 @@ pub fn parse(alloc: Global, text: &[u8]) -> Result<Stmt, ParseErr>
     ensures is { IfOk result (λ s. statement_of text.now ≡ Some s) }
     ensures is_none { IsErrOf result ParseErr.BadSql → statement_of text.now ≡ None }
 {
-    match read_text::<Stmt>(alloc, text) {
+    match read_text::<Statement>(alloc, text) {
         Ok(statement) => Ok(statement),
         Err(ReadErr::Bad) => Err(ParseErr::BadSql),
         Err(ReadErr::NoMemory) => Err(ParseErr::NoMemory),

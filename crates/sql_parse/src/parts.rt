@@ -4,6 +4,8 @@ ghost use Rattle.std.specs.List.{list_any};
 ghost use Rattle.std.specs.Str.{bytes_eq, is_utf8};
 ghost use Rattle.token_grammar.specs.Gives.{Gives};
 ghost use Rattle.sql_parse.specs.Parts as spec;
+ghost use Rattle.sql_statement.specs.Distinct as names;
+ghost use Rattle.sql_statement.specs.Limits as limits;
 
 use dtx_values::{Bytes, Listing, Name};
 use std::alloc::Global;
@@ -16,7 +18,7 @@ fn is_utf8(bytes: &[u8]) -> bool
 }
 
 fn is_text_to(bytes: &[u8], most: usize) -> bool
-    ensures { result ≡ spec.is_text_to most bytes.now }
+    ensures { result ≡ limits.is_text_to most bytes.now }
 {
     bytes.len() <= most && is_utf8(bytes)
 }
@@ -60,7 +62,7 @@ fn is_among<C: Called>(item: &C, others: &[C]) -> bool
 
 /// Whether all items are called by different names.
 pub(crate) fn are_distinct<C: Called>(items: &[C]) -> bool
-    ensures { result ≡ spec.are_distinct C.called items.now }
+    ensures { result ≡ names.are_distinct C.called items.now }
 {
     for index in 0..items.len() {
         let (_, others) = items.split_at(index + 1);

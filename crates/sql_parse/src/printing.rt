@@ -5,12 +5,9 @@ ghost use Rattle.sql_parse.specs.Printing.{printed};
 ghost use Rattle.sql_parse.specs.Statement.{IsStatement};
 
 use crate::clauses::{put_if, put_names, put_picked, put_table, put_where};
-use crate::condition::Conds;
 use crate::pieces::{put_bracketed, put_number, put_quoted, put_separated};
-use crate::query::Picked;
-use crate::statement::{Set, Stmt, TableRef};
-use crate::sum::{Sum, Sums};
 use dtx_values::{Advice, Bytes, Column, Link, Listing, Names, Synonym, Table};
+use sql_statement::{Conds, Picked, Set, Stmt, Sum, Sums, TableRef};
 use std::alloc::{AllocError, Global};
 
 fn put_columns(alloc: Global, out: &mut Vec<u8>, columns: &[Column]) -> Result<(), AllocError>

@@ -6,15 +6,14 @@ ghost use Rattle.sql_parse.specs.Parts.{stands};
 ghost use Rattle.sql_parse.specs.Changes as spec;
 
 use crate::conditions::take_conditions;
-use crate::lists::{ColumnName, commas};
+use crate::lists::ColumnName;
 use crate::literals::take_table_ref;
-use crate::query::Picked;
-use crate::statement::Stmt;
 use dtx_values::Listing;
+use sql_statement::{Picked, Stmt};
 use std::alloc::Global;
 use token_grammar::{
-    Mark, ReadErr, Token, begins_mark, begins_word, begins_word_mark, take_identifier, take_mark,
-    take_word,
+    Mark, ReadErr, Token, begins_mark, begins_word, begins_word_mark, commas, take_identifier,
+    take_mark, take_word,
 };
 
 /// The most columns of a list.

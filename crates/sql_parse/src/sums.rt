@@ -6,12 +6,11 @@ ghost use Rattle.token_grammar.specs.Steps.{begins};
 ghost use Rattle.token_grammar.specs.Grammar.{meant};
 ghost use Rattle.sql_parse.specs.Literals as spec;
 
-use crate::lists::Listed;
 use crate::literals::take_literal;
-use crate::sum::{Step, Sum, Term};
 use dtx_values::Listing;
+use sql_statement::{Step, Sum, Term};
 use std::alloc::Global;
-use token_grammar::{Mark, ReadErr, Repeated, Token, many, take_identifier};
+use token_grammar::{Mark, Part, ReadErr, Repeated, Token, many, take_identifier};
 
 fn begins_name(tokens: &[Token]) -> bool
     ensures { result ≡ begins spec.is_naming tokens.now }
@@ -53,7 +52,10 @@ fn take_step(alloc: Global, tokens: &[Token]) -> Result<(Step, &[Token]), ReadEr
     Ok((Step { minus, term }, rest))
 }
 
-impl Repeated for Step {
+/// A term behind its sign.
+struct SignedTerm;
+
+impl Repeated for SignedTerm {
     type Item = Step;
 
     ghost starts = { spec.is_step };
@@ -75,7 +77,7 @@ pub(crate) fn take_sum(alloc: Global, tokens: &[Token]) -> Result<(Sum, &[Token]
     ensures { Gives (λ x. (x.0, x.1.now)) result (spec.sum.read tokens.now) }
 {
     let (first, rest) = take_term(alloc, tokens)?;
-    let (steps, rest) = many::<Step>(alloc, rest)?;
+    let (steps, rest) = many::<SignedTerm>(alloc, rest)?;
     let sum = Sum {
         first,
         rest: Listing::of(steps),
@@ -83,7 +85,10 @@ pub(crate) fn take_sum(alloc: Global, tokens: &[Token]) -> Result<(Sum, &[Token]
     Ok((sum, rest))
 }
 
-impl Listed for Sum {
+/// A sum, where several stand in a list.
+pub(crate) struct ListedSum;
+
+impl Part for ListedSum {
     type Item = Sum;
 
     ghost grammar = { spec.sum };

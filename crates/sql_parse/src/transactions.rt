@@ -4,10 +4,11 @@ ghost use Rattle.token_grammar.specs.declared.mark.Mark.TheVariants as marks;
 ghost use Rattle.token_grammar.specs.Gives.{Gives};
 ghost use Rattle.token_grammar.specs.Grammar.{meant, optional, is_word, is_mark, passed, mark, number_to, ◌▹◌};
 ghost use Rattle.sql_parse.specs.Transactions as spec;
+ghost use Rattle.sql_statement.specs.Limits.{largest_scn};
 
 use crate::parts::take_text;
-use crate::statement::Stmt;
 use dtx_values::{Advice, Bytes};
+use sql_statement::Stmt;
 use std::alloc::Global;
 use token_grammar::{
     Mark, ReadErr, Token, begins_mark, begins_word, maybe_word, take_mark, take_number, take_word,
@@ -35,7 +36,7 @@ fn take_plain_commit(alloc: Global, tokens: &[Token]) -> Result<(Stmt, &[Token])
 }
 
 fn maybe_scn(tokens: &[Token]) -> Result<(Option<u64>, &[Token]), ReadErr>
-    ensures { Gives (λ x. (x.0, x.1.now)) result ((optional (is_mark marks.Comma) (mark marks.Comma ▹ number_to spec.largest_scn)).read tokens.now) }
+    ensures { Gives (λ x. (x.0, x.1.now)) result ((optional (is_mark marks.Comma) (mark marks.Comma ▹ number_to largest_scn)).read tokens.now) }
 {
     if !begins_mark(tokens, Mark::Comma) {
         return Ok((None, tokens));

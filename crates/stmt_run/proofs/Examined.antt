@@ -3,10 +3,10 @@ use Rattle.std.proofs.Common.{◌≡◌, Bool, true, false, cond, List, [], ◌�
 use Rattle.std.specs.List.{AllByRecursion}
 use Rattle.dtx_values.specs.declared.value.Value.{Value}
 use Rattle.dtx_values.specs.declared.table.Table.{Table}
-use Rattle.sql_parse.specs.declared.statement.Stmt.{Stmt}
-use Rattle.sql_parse.specs.declared.condition.Cond.{Cond}
+use Rattle.sql_statement.specs.declared.statement.Stmt.{Stmt}
+use Rattle.sql_statement.specs.declared.condition.Cond.{Cond}
 use Rattle.sql_eval.specs.declared.keyed.Keyed.{Keyed}
-use Rattle.sql_parse.specs.declared.statement.Stmt.TheVariants as stmts
+use Rattle.sql_statement.specs.declared.statement.Stmt.TheVariants as stmts
 use Rattle.sql_eval.specs.Words.{first_some, one}
 use Rattle.sql_eval.specs.Rows.{value_below, same_value, keys_of, put_key}
 use Rattle.sql_eval.specs.Meaning.{examined, examined_by, fixes, conds_of, found, satisfies, written}

@@ -2,4 +2,3 @@ mod Values
 mod Examined
 mod Free
 mod Lengths
-mod Staff

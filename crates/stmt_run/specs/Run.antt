@@ -10,7 +10,7 @@ use Rattle.dtx_values.specs.declared.answer.Answer.TheVariants as answers
 use Rattle.tran_ids.specs.declared.branch.BranchId.{BranchId}
 use Rattle.tran_ids.specs.Numbers.{decimal}
 use Rattle.tran_ids.specs.Texts.{local_text}
-use Rattle.sql_parse.specs.declared.statement.Stmt.{Stmt}
+use Rattle.sql_statement.specs.declared.statement.Stmt.{Stmt}
 use Rattle.sql_eval.specs.declared.keyed.Keyed.{Keyed}
 use Rattle.sql_eval.specs.declared.meant.Meant.{Meant}
 use Rattle.sql_eval.specs.declared.meant.Meant.TheVariants as meants

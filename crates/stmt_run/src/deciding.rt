@@ -10,7 +10,7 @@ use crate::space::ran_within;
 use crate::{Ran, Site};
 use dtx_values::{Listing, Table};
 use sql_eval::{Meant, checked, meant_over, written};
-use sql_parse::Stmt;
+use sql_statement::Stmt;
 use std::alloc::{AllocError, Global};
 
 /// What a statement does at its table's node: the checks that need no row, the keys in doubt, the keys that others hold, its

@@ -18,6 +18,3 @@ pub use deciding::ran_over;
 pub use ran::Ran;
 pub use running::run;
 pub use site::Site;
-
-#[cfg(test)]
-mod tests;

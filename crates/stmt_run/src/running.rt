@@ -11,7 +11,7 @@ use crate::{Ran, Site};
 use dtx_values::{Answer, Table};
 use row_locks::Locks;
 use row_store::{OwnChanges, Tables, View};
-use sql_parse::Stmt;
+use sql_statement::Stmt;
 use std::alloc::{AllocError, Global};
 use tran_ids::BranchId;
 

@@ -7,7 +7,7 @@ ghost use Rattle.sql_eval.specs.Meaning.{examined as examined_of, meant_over as 
 use crate::Site;
 use dtx_values::{Table, Value};
 use sql_eval::{Keyed, examined, fixed_key};
-use sql_parse::Stmt;
+use sql_statement::Stmt;
 use std::alloc::{AllocError, Global};
 
 /// The rows that a statement depends on, and the keys that it examines.

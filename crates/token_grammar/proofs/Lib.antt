@@ -11,5 +11,4 @@ pub mod OneToken
 pub mod Parts
 pub mod Values
 pub mod WholeLaws
-pub mod Example
 pub mod PrintLaws

@@ -8,4 +8,3 @@ pub mod Exact
 pub mod Gives
 pub mod Text
 pub mod Printing
-pub mod Example

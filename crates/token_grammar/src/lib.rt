@@ -47,7 +47,7 @@
 //! that calls them in the order of a grammar's parts has a contract with the whole grammar, and needs no proof file.
 //! Loops are written once, in `many`, over types that carry a grammar (`Part`, `Repeated`). At the top `read_text` asks
 //! that the grammar is exact, and answers in the words of `Spells` alone: what is returned is spelled by the text, and
-//! what is refused spells nothing. `src/tests.rt` has a small grammar from its definition to its reader.
+//! what is refused spells nothing.
 #![tactic(auto)]
 
 mod laws;
@@ -70,6 +70,3 @@ pub use reading::{
 pub use repeated::{Behind, Comma, Part, Repeated, Separator, commas, many, optional, separated};
 pub use text::{one_reading, read_text};
 pub use token::{Token, Tokens};
-
-#[cfg(test)]
-mod tests;

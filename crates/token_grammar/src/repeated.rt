@@ -66,11 +66,13 @@ pub fn optional<R: Repeated>(
 }
 
 /// What may stand in a list with separators.
-pub trait Part: Sized + Drop {
-    ghost grammar: { Grammar Self };
+pub trait Part {
+    type Item: Drop;
+
+    ghost grammar: { Grammar Self.Item };
 
     /// One part, and the tokens behind it.
-    fn take(alloc: Global, tokens: &[Token]) -> Result<(Self, &[Token]), ReadErr>
+    fn take(alloc: Global, tokens: &[Token]) -> Result<(Self::Item, &[Token]), ReadErr>
         ensures { Gives (λ x. (x.0, x.1.now)) result (grammar.read tokens.now) };
 }
 
@@ -98,7 +100,7 @@ impl Separator for Comma {
 pub struct Behind<S, P>(PhantomData<(S, P)>);
 
 impl<S: Separator, P: Part> Repeated for Behind<S, P> {
-    type Item = P;
+    type Item = P::Item;
 
     ghost starts = { S.is };
 
@@ -108,7 +110,7 @@ impl<S: Separator, P: Part> Repeated for Behind<S, P> {
         S::is_next(tokens)
     }
 
-    fn take(alloc: Global, tokens: &[Token]) -> Result<(P, &[Token]), ReadErr> {
+    fn take(alloc: Global, tokens: &[Token]) -> Result<(P::Item, &[Token]), ReadErr> {
         match tokens {
             [_, rest @ ..] if S::is_next(tokens) => P::take(alloc, rest),
             _ => Err(ReadErr::Bad),
@@ -120,7 +122,7 @@ impl<S: Separator, P: Part> Repeated for Behind<S, P> {
 pub fn separated<S: Separator, P: Part>(
     alloc: Global,
     tokens: &[Token],
-) -> Result<(Vec<P>, &[Token]), ReadErr>
+) -> Result<(Vec<P::Item>, &[Token]), ReadErr>
     ensures { Gives (λ x. (x.0.items, x.1.now)) result ((spec.separated S.is (spec.passed S.is) P.grammar).read tokens.now) }
 {
     let (first, rest) = P::take(alloc, tokens)?;
@@ -130,7 +132,7 @@ pub fn separated<S: Separator, P: Part>(
 }
 
 /// One part or more, with commas between them.
-pub fn commas<P: Part>(alloc: Global, tokens: &[Token]) -> Result<(Vec<P>, &[Token]), ReadErr>
+pub fn commas<P: Part>(alloc: Global, tokens: &[Token]) -> Result<(Vec<P::Item>, &[Token]), ReadErr>
     ensures { Gives (λ x. (x.0.items, x.1.now)) result ((spec.commas P.grammar).read tokens.now) }
 {
     separated::<Comma, P>(alloc, tokens)

@@ -3,7 +3,7 @@ ghost use Rattle.std.specs.Prelude.{◌≡◌};
 
 use crate::msg::Msg;
 use dtx_values::Duplicate;
-use sql_parse::Stmt;
+use sql_statement::Stmt;
 use std::alloc::{AllocError, Global};
 
 /// What comes to a node.

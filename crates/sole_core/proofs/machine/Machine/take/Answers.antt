@@ -1,23 +1,18 @@
-use Rattle.std.proofs.Common.{◌≡◌, ◌<◌, List, length, ap, arith, sym, ◌∙◌, slice_index_or, slice_set}
-use Rattle.std.proofs.lemmas.List.{get_or_default}
+use Rattle.std.proofs.Common.{◌≡◌, ap, sym, ◌∙◌, slice_set}
 use Rattle.tran_ids.specs.declared.branch.BranchId.{BranchId}
 use Rattle.sole_node.specs.declared.root.Root.{Root}
-use Rattle.sole_node.specs.Kept.{Kept, next_root, fresh_root, ended}
+use Rattle.sole_node.specs.Kept.{Kept, ended}
 use Rattle.sole_core.specs.Places.{root_in}
-use Rattle.sole_core.proofs.Roots.{ended_emptied}
+use Rattle.sole_core.proofs.Roots.{root_read, ended_emptied}
 use Rattle.sole_core.proofs.machine.Machine.take.Goals as goal
 
 pub returns-clause-after : goal.returns-clause-after
 returns-clause-after c =
     let k = c.args.self.now in
     let place = c.args.place in
-    let items = c.self.inside.roots.items in
     let root = c.index_mut-root.result.now in
-    let none = fresh_root (next_root k 0) in
-    let roots : items ≡ k.roots = ap (λ (x : Kept). x.roots) c.self.view_is in
-    let low : place < length items = omega (arith, ap length roots, c.requires.at.here) in
-    let here : root_in k place ≡ root =
-    ap (λ (rs : List Root). slice_index_or rs place none) (sym roots) ∙ (get_or_default items place none root low ∙ sym c.index_mut-root.ensures.value) in
+    let roots = ap (λ (x : Kept). x.roots) c.self.view_is in
+    let here = root_read k c.self.inside.roots.items place root roots c.requires.at.here c.index_mut-root.ensures.value in
     let emptied : Root = record { me = root.me; own = c.replace-own.new.dest } in
     let same : root.me ≡ (root_in k place).me = ap (λ (x : Root). x.me) (sym here) in
     c.end.ensures

@@ -1,0 +1,2 @@
+mod QueryLaws
+mod Staff

@@ -1,0 +1,20 @@
+//! Examples, as tests, of the statements and of what they do at the node of their table.
+//!
+//! One module a crate. Each shows what no clause says: that calls succeed, and texts and values that were worked out by
+//! hand from the rules, never taken from the program.
+#![tactic(auto)]
+
+#[cfg(test)]
+mod catalogs;
+#[cfg(test)]
+mod locks;
+#[cfg(test)]
+mod meanings;
+#[cfg(test)]
+mod rows;
+#[cfg(test)]
+mod runs;
+#[cfg(test)]
+mod statements;
+#[cfg(test)]
+mod tokens;

@@ -1,0 +1,187 @@
+//! What no clause says of statements: texts that are statements, texts that are none, and how statements are printed.
+use sql_parse::{ParseErr, parse, print_stmt};
+use std::alloc::{AllocError, Global};
+use std::test::Fail;
+
+fn is_statement(alloc: Global, text: &[u8]) -> bool {
+    parse(alloc, text).is_ok()
+}
+
+fn is_refused(alloc: Global, text: &[u8]) -> bool {
+    matches!(&parse(alloc, text), Err(ParseErr::BadSql))
+}
+
+/// Texts that are statements.
+const STATEMENTS: [&[u8]; 25] = [
+    b"create table stock (item varchar2(2000) primary key not null, n number)",
+    b"CREATE DATABASE LINK hq.acme.com USING 'hq'",
+    b"CREATE PUBLIC DATABASE LINK L CONNECT TO scott IDENTIFIED BY tiger USING 'a.b'",
+    b"CREATE DATABASE LINK CONNECT USING 'X'",
+    b"CREATE SYNONYM S FOR T@hq.acme.com",
+    b"INSERT INTO T (A, B) VALUES (1 - -2 + NULL, 'x')",
+    b"INSERT INTO T @ L VALUES (9223372036854775807)",
+    b"UPDATE T@L SET A = B + 1 - C, B = '' WHERE K <> 1AND V IS NOT NULL",
+    b"DELETE FROM T WHERE A != 'x' AND B >= -1 AND C <= 2 AND D < 3 AND E > 4",
+    b"delete t",
+    b"SELECT * FROM T FOR UPDATE",
+    b"SELECT COUNT ( * ) FROM T@L WHERE A IS NULL",
+    b"SELECT SUM(N) FROM T",
+    b"SELECT COUNT, SUM, WORK FROM COMMIT FOR UPDATE",
+    b" COMMIT\r\n\tWORK ",
+    b"COMMIT COMMENT ''",
+    b"COMMIT WORK FORCE '1.65.1', 281474976710655",
+    b"COMMIT FORCE ''",
+    b"ROLLBACK",
+    b"ROLLBACK WORK FORCE 'HQ.00000001.1.65.1'",
+    b"ALTER SESSION ADVISE NOTHING",
+    b"alter session advise commit",
+    b"ALTER SYSTEM DISABLE DISTRIBUTED RECOVERY",
+    b"exec dbms_transaction.purge_mixed('1.65.1')",
+    b"EXECUTE DBMS_TRANSACTION.PURGE_LOST_DB_ENTRY ( '' )",
+];
+
+#[test]
+fn statements_are_read(rt: HostRuntime) {
+    for text in STATEMENTS {
+        assert!(rt; is_statement(rt.alloc(), text));
+    }
+}
+
+/// Texts that are no statement.
+const NO_STATEMENTS: [&[u8]; 36] = [
+    b"",
+    b"SELECT COUNT(*) FROM T FOR UPDATE",
+    b"SELECT SUM(N) FROM T FOR UPDATE",
+    b"SELECT A, COUNT(*) FROM T",
+    b"SELECT A FROM SELECT",
+    b"SELECT A FROM T.U",
+    b"SELECT * FROM T WHERE A = B",
+    b"SELECT * FROM T WHERE A < = 1",
+    b"SELECT * FROM T;",
+    b"INSERT INTO T VALUES (1, A)",
+    b"INSERT INTO T VALUES (1 + A)",
+    b"INSERT INTO T (A, a) VALUES (1, 2)",
+    b"INSERT INTO T VALUES (9223372036854775808)",
+    b"INSERT INTO T VALUES (-9223372036854775809)",
+    b"INSERT INTO T VALUES ('\xFF')",
+    b"INSERT INTO T VALUES ()",
+    b"UPDATE T SET A = 1, a = 2",
+    b"UPDATE T SET A = 1 WHERE",
+    b"CREATE TABLE T (A NUMBER)",
+    b"CREATE TABLE T (A NUMBER PRIMARY KEY, B NUMBER PRIMARY KEY)",
+    b"CREATE TABLE T (A NUMBER PRIMARY KEY PRIMARY KEY)",
+    b"CREATE TABLE T (A NUMBER NOT NULL PRIMARY KEY NOT NULL)",
+    b"CREATE TABLE T (A NUMBER PRIMARY KEY, a NUMBER)",
+    b"CREATE TABLE T (A VARCHAR2(2001) PRIMARY KEY)",
+    b"CREATE TABLE T (A VARCHAR2(0) PRIMARY KEY)",
+    b"CREATE DATABASE LINK L USING ''",
+    b"CREATE SYNONYM S FOR T",
+    b"COMMIT COMMENT",
+    b"COMMIT COMMENT '\xC3'",
+    b"COMMIT FORCE '1', 281474976710656",
+    b"COMMIT WORK WORK",
+    b"ROLLBACK FORCE",
+    b"ALTER SESSION ADVISE ABORT",
+    b"ALTER SYSTEM ENABLE RECOVERY",
+    b"EXEC DBMS_TRANSACTION .PURGE_MIXED('1')",
+    b"EXEC DBMS_TRANSACTION.PURGE_MIXED '1'",
+];
+
+#[test]
+fn other_texts_are_refused(rt: HostRuntime) {
+    for text in NO_STATEMENTS {
+        assert!(rt; is_refused(rt.alloc(), text));
+    }
+}
+
+/// Statements, each with the text that it is printed as.
+const PRINTED: [(&[u8], &[u8]); 9] = [
+    (
+        b"update stock set n=n-10 where item='BOLT'",
+        b"UPDATE STOCK SET N = N - 10 WHERE ITEM = 'BOLT'",
+    ),
+    (
+        b"create table t(a varchar2(010)primary key not null,b number)",
+        b"CREATE TABLE T (A VARCHAR2(10) NOT NULL PRIMARY KEY, B NUMBER)",
+    ),
+    (
+        b"create public database link l connect to a identified by b using 'c.d'",
+        b"CREATE DATABASE LINK L USING 'C.D'",
+    ),
+    (
+        b"insert into t@l(a,b)values('',-0- -5+'it''s')",
+        b"INSERT INTO T@L (A, B) VALUES (NULL, 0 - -5 + 'it''s')",
+    ),
+    (
+        b"delete t where a!=null and b is not null",
+        b"DELETE FROM T WHERE A <> NULL AND B IS NOT NULL",
+    ),
+    (
+        b"insert into t values(- 5,NULL,'',-9223372036854775808,00)",
+        b"INSERT INTO T VALUES (-5, NULL, NULL, -9223372036854775808, 0)",
+    ),
+    (b"select sum ( n ) from t", b"SELECT SUM(N) FROM T"),
+    (
+        b"commit work force '1.65.1',007",
+        b"COMMIT FORCE '1.65.1', 7",
+    ),
+    (
+        b"exec dbms_transaction.purge_mixed ( '' )",
+        b"EXECUTE DBMS_TRANSACTION.PURGE_MIXED('')",
+    ),
+];
+
+fn is_printed_as(alloc: Global, text: &[u8], printed: &[u8]) -> Result<bool, Fail> {
+    let statement = parse(alloc, text)?;
+    Ok(print_stmt(alloc, &statement)?.as_slice() == printed)
+}
+
+#[test]
+fn statements_are_printed_in_one_way(rt: HostRuntime) -> Result<(), Fail> {
+    for (text, printed) in PRINTED {
+        assert!(rt; is_printed_as(rt.alloc(), text, printed)?);
+    }
+    Ok(())
+}
+
+// The front, so many times the piece, and the end.
+fn repeated(
+    alloc: Global,
+    front: &[u8],
+    piece: &[u8],
+    count: usize,
+    end: &[u8],
+) -> Result<Vec<u8>, AllocError> {
+    let mut text = front.to_vec(alloc)?;
+    for _ in 0..count {
+        text.extend_from_slice(piece)?;
+    }
+    text.extend_from_slice(end)?;
+    Ok(text)
+}
+
+/// Texts of a front, a piece so many times at most, and an end.
+const LIMITS: [(&[u8], &[u8], usize, &[u8]); 4] = [
+    (b"COMMIT COMMENT '", b"x", 255, b"'"),
+    (b"ROLLBACK FORCE '", b"''", 2000, b"'"),
+    (b"INSERT INTO T VALUES ('", b"x", 2000, b"')"),
+    (b"SELECT A", b", A", 254, b" FROM T"),
+];
+
+#[test]
+fn texts_reach_their_limits(rt: HostRuntime) -> Result<(), Fail> {
+    for (front, piece, most, end) in LIMITS {
+        let text = repeated(rt.alloc(), front, piece, most, end)?;
+        assert!(rt; is_statement(rt.alloc(), &text));
+    }
+    Ok(())
+}
+
+#[test]
+fn texts_end_at_their_limits(rt: HostRuntime) -> Result<(), Fail> {
+    for (front, piece, most, end) in LIMITS {
+        let text = repeated(rt.alloc(), front, piece, most + 1, end)?;
+        assert!(rt; is_refused(rt.alloc(), &text));
+    }
+    Ok(())
+}

@@ -1,0 +1,196 @@
+//! Statements.
+ghost use Rattle.std.specs.Prelude.{◌≡◌, IfOk};
+ghost use Rattle.sql_statement.specs.declared.statement.Stmt.TheVariants.{Insert, Update, Delete, Select};
+
+use crate::condition::Conds;
+use crate::query::Picked;
+use crate::sum::{Sum, Sums};
+use dtx_values::{Advice, Bytes, Duplicate, Link, Listing, Name, Names, Synonym, Table};
+use std::alloc::{AllocError, Global};
+
+/// A table by its name, or a table behind a link: `T` or `T@LINK`.
+#[derive(Debug, Drop)]
+pub struct TableRef {
+    pub name: Name,
+    pub link: Option<Name>,
+}
+
+impl Duplicate for TableRef {
+    fn copy(&self, alloc: Global) -> Result<TableRef, AllocError> {
+        Ok(TableRef {
+            name: self.name.copy(alloc)?,
+            link: self.link.copy(alloc)?,
+        })
+    }
+}
+
+/// An assignment of an UPDATE.
+#[derive(Debug, Drop)]
+pub struct Set {
+    pub column: Name,
+    pub to: Sum,
+}
+
+/// The assignments of an UPDATE, in the order of its text.
+pub type Sets = Listing<Set>;
+
+impl Duplicate for Set {
+    fn copy(&self, alloc: Global) -> Result<Set, AllocError> {
+        Ok(Set {
+            column: self.column.copy(alloc)?,
+            to: self.to.copy(alloc)?,
+        })
+    }
+}
+
+/// A statement.
+#[derive(Debug, Drop)]
+pub enum Stmt {
+    CreateTable(Table),
+    CreateLink(Link),
+    CreateSynonym(Synonym),
+    Insert {
+        table: TableRef,
+        /// The columns that get values, or all of them.
+        columns: Option<Names>,
+        values: Sums,
+    },
+    Update {
+        table: TableRef,
+        sets: Sets,
+        conds: Conds,
+    },
+    Delete {
+        table: TableRef,
+        conds: Conds,
+    },
+    Select {
+        list: Picked,
+        table: TableRef,
+        conds: Conds,
+        for_update: bool,
+    },
+    Commit {
+        comment: Option<Bytes>,
+    },
+    /// COMMIT FORCE, with the SCN where the user gives one.
+    CommitForce {
+        id: Bytes,
+        scn: Option<u64>,
+    },
+    Rollback,
+    /// ROLLBACK FORCE
+    RollbackForce {
+        id: Bytes,
+    },
+    /// ALTER SESSION ADVISE, with nothing for NOTHING.
+    Advise(Option<Advice>),
+    /// ALTER SYSTEM ENABLE or DISABLE DISTRIBUTED RECOVERY.
+    Recovery(bool),
+    /// EXECUTE DBMS_TRANSACTION.PURGE_MIXED
+    PurgeMixed {
+        id: Bytes,
+    },
+    /// EXECUTE DBMS_TRANSACTION.PURGE_LOST_DB_ENTRY
+    PurgeLost {
+        id: Bytes,
+    },
+}
+
+impl Duplicate for Stmt {
+    fn copy(&self, alloc: Global) -> Result<Stmt, AllocError> {
+        match self {
+            Stmt::CreateTable(table) => Ok(Stmt::CreateTable(table.copy(alloc)?)),
+            Stmt::CreateLink(link) => Ok(Stmt::CreateLink(link.copy(alloc)?)),
+            Stmt::CreateSynonym(synonym) => Ok(Stmt::CreateSynonym(synonym.copy(alloc)?)),
+            Stmt::Insert {
+                table,
+                columns,
+                values,
+            } => copy_insert(alloc, table, columns, values),
+            Stmt::Update { table, sets, conds } => copy_update(alloc, table, sets, conds),
+            Stmt::Delete { table, conds } => copy_delete(alloc, table, conds),
+            Stmt::Select {
+                list,
+                table,
+                conds,
+                for_update,
+            } => copy_select(alloc, list, table, conds, *for_update),
+            Stmt::Commit { comment } => Ok(Stmt::Commit {
+                comment: comment.copy(alloc)?,
+            }),
+            Stmt::CommitForce { id, scn } => Ok(Stmt::CommitForce {
+                id: id.copy(alloc)?,
+                scn: *scn,
+            }),
+            Stmt::Rollback => Ok(Stmt::Rollback),
+            Stmt::RollbackForce { id } => Ok(Stmt::RollbackForce {
+                id: id.copy(alloc)?,
+            }),
+            Stmt::Advise(advice) => Ok(Stmt::Advise(*advice)),
+            Stmt::Recovery(on) => Ok(Stmt::Recovery(*on)),
+            Stmt::PurgeMixed { id } => Ok(Stmt::PurgeMixed {
+                id: id.copy(alloc)?,
+            }),
+            Stmt::PurgeLost { id } => Ok(Stmt::PurgeLost {
+                id: id.copy(alloc)?,
+            }),
+        }
+    }
+}
+
+fn copy_insert(
+    alloc: Global,
+    table: &TableRef,
+    columns: &Option<Names>,
+    values: &Sums,
+) -> Result<Stmt, AllocError>
+    ensures { IfOk result (λ copy. copy ≡ Insert table.now columns.now values.now) }
+{
+    Ok(Stmt::Insert {
+        table: table.copy(alloc)?,
+        columns: columns.copy(alloc)?,
+        values: values.copy(alloc)?,
+    })
+}
+
+fn copy_update(
+    alloc: Global,
+    table: &TableRef,
+    sets: &Sets,
+    conds: &Conds,
+) -> Result<Stmt, AllocError>
+    ensures { IfOk result (λ copy. copy ≡ Update table.now sets.now conds.now) }
+{
+    Ok(Stmt::Update {
+        table: table.copy(alloc)?,
+        sets: sets.copy(alloc)?,
+        conds: conds.copy(alloc)?,
+    })
+}
+
+fn copy_delete(alloc: Global, table: &TableRef, conds: &Conds) -> Result<Stmt, AllocError>
+    ensures { IfOk result (λ copy. copy ≡ Delete table.now conds.now) }
+{
+    Ok(Stmt::Delete {
+        table: table.copy(alloc)?,
+        conds: conds.copy(alloc)?,
+    })
+}
+
+fn copy_select(
+    alloc: Global,
+    list: &Picked,
+    table: &TableRef,
+    conds: &Conds,
+    for_update: bool,
+) -> Result<Stmt, AllocError>
+    ensures { IfOk result (λ copy. copy ≡ Select list.now table.now conds.now for_update) }
+{
+    Ok(Stmt::Select {
+        list: list.copy(alloc)?,
+        table: table.copy(alloc)?,
+        conds: conds.copy(alloc)?,
+        for_update,
+    })
+}
