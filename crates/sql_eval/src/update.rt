@@ -20,8 +20,8 @@ fn with_cell(row: Row, place: usize, value: Value) -> Row
     ensures { result ≡ record { cells = slice_set row.cells place value } }
 {
     let mut cells = row.cells.into_vec();
-    if place < cells.len() {
-        cells[place] = value;
+    if let Some(cell) = cells.get_mut(place) {
+        *cell = value;
     }
     Row {
         cells: Listing::of(cells),
