@@ -154,7 +154,7 @@ fn a_keyword_may_be_a_name(rt: HostRuntime) -> Result<(), Fail> {
     let names = query.what.as_ref().ok_or("a count")?;
     assert_eq!(rt; names.as_slice().len(), 2);
     let last = &names.as_slice()[1];
-    assert_eq!(rt; last.name.as_bytes(), b"LIMIT".as_slice());
+    assert_eq!(rt; last.as_bytes(), b"LIMIT".as_slice());
     assert_eq!(rt; query.name.as_bytes(), b"LIMIT".as_slice());
     assert_eq!(rt; query.limit, Some(4_294_967_295));
     Ok(())
