@@ -6,4 +6,3 @@ pub mod Catalog
 pub mod Transactions
 pub mod Statement
 pub mod Printing
-pub mod Whole

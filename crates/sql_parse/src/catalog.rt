@@ -1,7 +1,9 @@
 //! CREATE TABLE, CREATE DATABASE LINK and CREATE SYNONYM, as they are read.
 ghost use Rattle.std.specs.Prelude.{◌≡◌, codes};
+ghost use Rattle.dtx_values.specs.Name.{name_of};
+ghost use Rattle.token_grammar.specs.declared.mark.Mark.TheVariants as marks;
 ghost use Rattle.token_grammar.specs.Gives.{Gives};
-ghost use Rattle.token_grammar.specs.Grammar.{meant, optional, is_word};
+ghost use Rattle.token_grammar.specs.Grammar.{meant, optional, is_word, word, mark, identifier, name, ◌·◌, ◌▹◌};
 ghost use Rattle.sql_parse.specs.Catalog as spec;
 
 use crate::columns::take_columns;
@@ -23,15 +25,30 @@ fn take_create_table(alloc: Global, tokens: &[Token]) -> Result<(Stmt, &[Token])
     Ok((Stmt::CreateTable(Table { name, columns }), rest))
 }
 
-fn take_target(alloc: Global, tokens: &[Token]) -> Result<(Name, &[Token]), ReadErr>
-    ensures { Gives (λ x. (x.0, x.1.now)) result ((meant spec.target_in).read tokens.now) }
+fn name_from(alloc: Global, text: &[u8]) -> Result<Name, ReadErr>
+    ensures { Gives (λ name. name) result (name_of text.now) }
 {
-    let (text, rest) = take_quoted(tokens)?;
     match Name::from_bytes(alloc, text) {
-        Ok(name) => Ok((name, rest)),
+        Ok(name) => Ok(name),
         Err(NameErr::Bad) => Err(ReadErr::Bad),
         Err(NameErr::NoMemory) => Err(ReadErr::NoMemory),
     }
+}
+
+fn take_target(alloc: Global, tokens: &[Token]) -> Result<(Name, &[Token]), ReadErr>
+    ensures { Gives (λ x. (x.0, x.1.now)) result ((word (codes "USING") ▹ meant spec.target_in).read tokens.now) }
+{
+    let rest = take_word(tokens, b"USING")?;
+    let (text, rest) = take_quoted(rest)?;
+    Ok((name_from(alloc, text)?, rest))
+}
+
+fn take_password(alloc: Global, tokens: &[Token]) -> Result<(Name, &[Token]), ReadErr>
+    ensures { Gives (λ x. (x.0, x.1.now)) result ((word (codes "IDENTIFIED") ▹ word (codes "BY") ▹ identifier).read tokens.now) }
+{
+    let rest = take_word(tokens, b"IDENTIFIED")?;
+    let rest = take_word(rest, b"BY")?;
+    take_identifier(alloc, rest)
 }
 
 fn take_account(alloc: Global, tokens: &[Token]) -> Result<((Name, Name), &[Token]), ReadErr>
@@ -40,9 +57,7 @@ fn take_account(alloc: Global, tokens: &[Token]) -> Result<((Name, Name), &[Toke
     let rest = take_word(tokens, b"CONNECT")?;
     let rest = take_word(rest, b"TO")?;
     let (user, rest) = take_identifier(alloc, rest)?;
-    let rest = take_word(rest, b"IDENTIFIED")?;
-    let rest = take_word(rest, b"BY")?;
-    let (password, rest) = take_identifier(alloc, rest)?;
+    let (password, rest) = take_password(alloc, rest)?;
     Ok(((user, password), rest))
 }
 
@@ -68,9 +83,18 @@ fn take_create_link(alloc: Global, tokens: &[Token]) -> Result<(Stmt, &[Token]),
     let rest = take_word(rest, b"LINK")?;
     let (name, rest) = take_name(alloc, rest)?;
     let (_, rest) = maybe_account(alloc, rest)?;
-    let rest = take_word(rest, b"USING")?;
     let (target, rest) = take_target(alloc, rest)?;
     Ok((Stmt::CreateLink(Link { name, target }), rest))
+}
+
+// A table behind a link.
+fn take_far_table(alloc: Global, tokens: &[Token]) -> Result<((Name, Name), &[Token]), ReadErr>
+    ensures { Gives (λ x. (x.0, x.1.now)) result ((identifier · (mark marks.At ▹ name)).read tokens.now) }
+{
+    let (table, rest) = take_identifier(alloc, tokens)?;
+    let rest = take_mark(rest, Mark::At)?;
+    let (link, rest) = take_name(alloc, rest)?;
+    Ok(((table, link), rest))
 }
 
 #[tactic(auto, unfolding(crate::specs::Catalog::create_synonym))]
@@ -80,9 +104,7 @@ fn take_create_synonym(alloc: Global, tokens: &[Token]) -> Result<(Stmt, &[Token
     let rest = take_word(tokens, b"SYNONYM")?;
     let (name, rest) = take_identifier(alloc, rest)?;
     let rest = take_word(rest, b"FOR")?;
-    let (table, rest) = take_identifier(alloc, rest)?;
-    let rest = take_mark(rest, Mark::At)?;
-    let (link, rest) = take_name(alloc, rest)?;
+    let ((table, link), rest) = take_far_table(alloc, rest)?;
     let synonym = Synonym { name, table, link };
     Ok((Stmt::CreateSynonym(synonym), rest))
 }

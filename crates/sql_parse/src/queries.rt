@@ -1,15 +1,15 @@
 //! SELECT, as it is read.
-ghost use Rattle.std.specs.Prelude.{◌≡◌, codes};
+ghost use Rattle.std.specs.Prelude.{◌≡◌};
 ghost use Rattle.token_grammar.specs.Gives.{Gives};
-ghost use Rattle.token_grammar.specs.Grammar.{is_word, word, ◌▹◌};
-ghost use Rattle.sql_parse.specs.Parts.{stands};
+ghost use Rattle.token_grammar.specs.Grammar.{◌·◌};
+ghost use Rattle.sql_parse.specs.Conditions.{conditions};
 ghost use Rattle.sql_parse.specs.Changes as spec;
 
 use crate::conditions::take_conditions;
 use crate::lists::ColumnName;
 use crate::literals::take_table_ref;
 use dtx_values::Listing;
-use sql_statement::{Picked, Stmt};
+use sql_statement::{Conds, Picked, Stmt, TableRef};
 use std::alloc::Global;
 use token_grammar::{
     Mark, ReadErr, Token, begins_mark, begins_word, begins_word_mark, commas, take_identifier,
@@ -66,7 +66,7 @@ fn take_picked(alloc: Global, tokens: &[Token]) -> Result<(Picked, &[Token]), Re
 }
 
 fn take_for_update(tokens: &[Token]) -> Result<(bool, &[Token]), ReadErr>
-    ensures { Gives (λ x. (x.0, x.1.now)) result ((stands (is_word (codes "FOR")) (word (codes "FOR") ▹ word (codes "UPDATE"))).read tokens.now) }
+    ensures { Gives (λ x. (x.0, x.1.now)) result (spec.for_update_part.read tokens.now) }
 {
     if !begins_word(tokens, b"FOR") {
         return Ok((false, tokens));
@@ -76,26 +76,34 @@ fn take_for_update(tokens: &[Token]) -> Result<(bool, &[Token]), ReadErr>
     Ok((true, rest))
 }
 
-fn is_of_rows(list: &Picked) -> bool
-    ensures { result ≡ spec.is_of_rows list.now }
+// Which rows are asked for, and whether they are locked.
+fn take_rows(alloc: Global, tokens: &[Token]) -> Result<((Conds, bool), &[Token]), ReadErr>
+    ensures { Gives (λ x. (x.0, x.1.now)) result ((conditions · spec.for_update_part).read tokens.now) }
 {
-    matches!(list, Picked::All | Picked::Columns(_))
+    let (conds, rest) = take_conditions(alloc, tokens)?;
+    let (for_update, rest) = take_for_update(rest)?;
+    Ok(((conds, for_update), rest))
 }
 
-/// SELECT, with FOR UPDATE where rows are asked for.
-#[tactic(auto, unfolding(crate::specs::Changes::select))]
-pub(crate) fn take_select(alloc: Global, tokens: &[Token]) -> Result<(Stmt, &[Token]), ReadErr>
-    ensures { Gives (λ x. (x.0, x.1.now)) result (spec.select.read tokens.now) }
+// The table behind FROM, and which of its rows.
+fn take_source(
+    alloc: Global,
+    tokens: &[Token],
+) -> Result<((TableRef, (Conds, bool)), &[Token]), ReadErr>
+    ensures { Gives (λ x. (x.0, x.1.now)) result (spec.source.read tokens.now) }
+{
+    let rest = take_word(tokens, b"FROM")?;
+    let (table, rest) = take_table_ref(alloc, rest)?;
+    let (rows, rest) = take_rows(alloc, rest)?;
+    Ok(((table, rows), rest))
+}
+
+fn take_query(alloc: Global, tokens: &[Token]) -> Result<(Stmt, &[Token]), ReadErr>
+    ensures { Gives (λ x. (x.0, x.1.now)) result (spec.query.read tokens.now) }
 {
     let rest = take_word(tokens, b"SELECT")?;
     let (list, rest) = take_picked(alloc, rest)?;
-    let rest = take_word(rest, b"FROM")?;
-    let (table, rest) = take_table_ref(alloc, rest)?;
-    let (conds, rest) = take_conditions(alloc, rest)?;
-    let (for_update, rest) = take_for_update(rest)?;
-    if for_update && !is_of_rows(&list) {
-        return Err(ReadErr::Bad);
-    }
+    let ((table, (conds, for_update)), rest) = take_source(alloc, rest)?;
     Ok((
         Stmt::Select {
             list,
@@ -105,4 +113,35 @@ pub(crate) fn take_select(alloc: Global, tokens: &[Token]) -> Result<(Stmt, &[To
         },
         rest,
     ))
+}
+
+fn is_of_rows(list: &Picked) -> bool
+    ensures { result ≡ spec.is_of_rows list.now }
+{
+    matches!(list, Picked::All | Picked::Columns(_))
+}
+
+fn may_lock(statement: &Stmt) -> bool
+    ensures { result ≡ spec.may_lock statement.now }
+{
+    match statement {
+        Stmt::Select {
+            list,
+            for_update,
+            ..
+        } => !for_update || is_of_rows(list),
+        _ => true,
+    }
+}
+
+/// SELECT, with FOR UPDATE where rows are asked for.
+#[tactic(auto, unfolding(crate::specs::Changes::select))]
+pub(crate) fn take_select(alloc: Global, tokens: &[Token]) -> Result<(Stmt, &[Token]), ReadErr>
+    ensures { Gives (λ x. (x.0, x.1.now)) result (spec.select.read tokens.now) }
+{
+    let (statement, rest) = take_query(alloc, tokens)?;
+    if !may_lock(&statement) {
+        return Err(ReadErr::Bad);
+    }
+    Ok((statement, rest))
 }
