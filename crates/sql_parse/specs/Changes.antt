@@ -91,9 +91,13 @@ is_of_rows picked.All = true
 is_of_rows (picked.Columns _) = true
 is_of_rows _ = false
 
+-- whether a list may stand with FOR UPDATE, where that stands
+abbrev pub is_lockable : Picked → Bool → Bool
+is_lockable list for_update = not for_update || is_of_rows list
+
 -- FOR UPDATE stands with rows alone
 abbrev pub may_lock : Stmt → Bool
-may_lock (statements.Select list _ _ for_update) = not for_update || is_of_rows list
+may_lock (statements.Select list _ _ for_update) = is_lockable list for_update
 may_lock _ = true
 
 -- [FOR UPDATE]
@@ -105,9 +109,5 @@ abbrev pub source : Grammar (TableRef × (List Cond × Bool))
 source = word (codes "FROM") ▹ (table_ref · (conditions · for_update_part))
 
 -- SELECT list FROM ref [WHERE conds] [FOR UPDATE]
-abbrev pub query : Grammar Stmt
-query = built (λ x. statements.Select x.0 x.1.0 x.1.1.0 x.1.1.1) (word (codes "SELECT") ▹ (picks · source))
-
--- such a query, which locks rows alone
 unfoldable pub select : Grammar Stmt
-select = tested may_lock query
+select = tested may_lock (built (λ x. statements.Select x.0 x.1.0 x.1.1.0 x.1.1.1) (word (codes "SELECT") ▹ (picks · source)))

@@ -1,6 +1,5 @@
 //! CREATE TABLE, CREATE DATABASE LINK and CREATE SYNONYM, as they are read.
 ghost use Rattle.std.specs.Prelude.{◌≡◌, codes};
-ghost use Rattle.dtx_values.specs.Name.{name_of};
 ghost use Rattle.token_grammar.specs.declared.mark.Mark.TheVariants as marks;
 ghost use Rattle.token_grammar.specs.Gives.{Gives};
 ghost use Rattle.token_grammar.specs.Grammar.{meant, optional, is_word, word, mark, identifier, name, ◌·◌, ◌▹◌};
@@ -25,22 +24,15 @@ fn take_create_table(alloc: Global, tokens: &[Token]) -> Result<(Stmt, &[Token])
     Ok((Stmt::CreateTable(Table { name, columns }), rest))
 }
 
-fn name_from(alloc: Global, text: &[u8]) -> Result<Name, ReadErr>
-    ensures { Gives (λ name. name) result (name_of text.now) }
+fn take_target(alloc: Global, tokens: &[Token]) -> Result<(Name, &[Token]), ReadErr>
+    ensures { Gives (λ x. (x.0, x.1.now)) result ((meant spec.target_in).read tokens.now) }
 {
+    let (text, rest) = take_quoted(tokens)?;
     match Name::from_bytes(alloc, text) {
-        Ok(name) => Ok(name),
+        Ok(name) => Ok((name, rest)),
         Err(NameErr::Bad) => Err(ReadErr::Bad),
         Err(NameErr::NoMemory) => Err(ReadErr::NoMemory),
     }
-}
-
-fn take_target(alloc: Global, tokens: &[Token]) -> Result<(Name, &[Token]), ReadErr>
-    ensures { Gives (λ x. (x.0, x.1.now)) result ((word (codes "USING") ▹ meant spec.target_in).read tokens.now) }
-{
-    let rest = take_word(tokens, b"USING")?;
-    let (text, rest) = take_quoted(rest)?;
-    Ok((name_from(alloc, text)?, rest))
 }
 
 fn take_password(alloc: Global, tokens: &[Token]) -> Result<(Name, &[Token]), ReadErr>
@@ -83,6 +75,7 @@ fn take_create_link(alloc: Global, tokens: &[Token]) -> Result<(Stmt, &[Token]),
     let rest = take_word(rest, b"LINK")?;
     let (name, rest) = take_name(alloc, rest)?;
     let (_, rest) = maybe_account(alloc, rest)?;
+    let rest = take_word(rest, b"USING")?;
     let (target, rest) = take_target(alloc, rest)?;
     Ok((Stmt::CreateLink(Link { name, target }), rest))
 }

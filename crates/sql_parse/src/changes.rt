@@ -57,17 +57,11 @@ fn take_constants(alloc: Global, tokens: &[Token]) -> Result<(Sums, &[Token]), R
     Ok((Listing::of(sums), rest))
 }
 
-// The columns of an INSERT, where it names them, and its values.
-fn take_values(
-    alloc: Global,
-    tokens: &[Token],
-) -> Result<((Option<Names>, Sums), &[Token]), ReadErr>
-    ensures { Gives (λ x. (x.0, x.1.now)) result ((optional (is_mark marks.Open) spec.column_names · (word (codes "VALUES") ▹ spec.constants)).read tokens.now) }
+fn take_values(alloc: Global, tokens: &[Token]) -> Result<(Sums, &[Token]), ReadErr>
+    ensures { Gives (λ x. (x.0, x.1.now)) result ((word (codes "VALUES") ▹ spec.constants).read tokens.now) }
 {
-    let (columns, rest) = maybe_column_names(alloc, tokens)?;
-    let rest = take_word(rest, b"VALUES")?;
-    let (values, rest) = take_constants(alloc, rest)?;
-    Ok(((columns, values), rest))
+    let rest = take_word(tokens, b"VALUES")?;
+    take_constants(alloc, rest)
 }
 
 /// INSERT, with or without a list of columns.
@@ -78,7 +72,8 @@ pub(crate) fn take_insert(alloc: Global, tokens: &[Token]) -> Result<(Stmt, &[To
     let rest = take_word(tokens, b"INSERT")?;
     let rest = take_word(rest, b"INTO")?;
     let (table, rest) = take_table_ref(alloc, rest)?;
-    let ((columns, values), rest) = take_values(alloc, rest)?;
+    let (columns, rest) = maybe_column_names(alloc, rest)?;
+    let (values, rest) = take_values(alloc, rest)?;
     Ok((
         Stmt::Insert {
             table,

@@ -7,7 +7,7 @@ ghost use Rattle.sql_parse.specs.Catalog as spec;
 ghost use Rattle.sql_statement.specs.Distinct.{column_name};
 
 use crate::lists::bracketed;
-use crate::parts::{Called, are_distinct};
+use crate::parts::{Called, are_distinct, behind_word};
 use crate::rule::Rule;
 use dtx_values::{Column, Columns, Listing, Name};
 use std::alloc::Global;
@@ -36,8 +36,8 @@ fn take_width(tokens: &[Token]) -> Result<(u16, &[Token]), ReadErr>
 fn take_type(tokens: &[Token]) -> Result<(Option<u16>, &[Token]), ReadErr>
     ensures { Gives (λ x. (x.0, x.1.now)) result (spec.column_type.read tokens.now) }
 {
-    if begins_word(tokens, b"NUMBER") {
-        return Ok((None, take_word(tokens, b"NUMBER")?));
+    if let Some(rest) = behind_word(tokens, b"NUMBER") {
+        return Ok((None, rest));
     }
     let rest = take_word(tokens, b"VARCHAR2")?;
     let rest = take_mark(rest, Mark::Open)?;
@@ -50,8 +50,7 @@ fn take_type(tokens: &[Token]) -> Result<(Option<u16>, &[Token]), ReadErr>
 fn take_rule(tokens: &[Token]) -> Result<(Rule, &[Token]), ReadErr>
     ensures { Gives (λ x. (x.0, x.1.now)) result (spec.rule.read tokens.now) }
 {
-    if begins_word(tokens, b"NOT") {
-        let rest = take_word(tokens, b"NOT")?;
+    if let Some(rest) = behind_word(tokens, b"NOT") {
         let rest = take_word(rest, b"NULL")?;
         return Ok((Rule::NotNull, rest));
     }

@@ -7,6 +7,7 @@ ghost use Rattle.sql_parse.specs.Parts.{stands};
 ghost use Rattle.sql_parse.specs.Conditions as spec;
 
 use crate::literals::take_literal;
+use crate::parts::behind_word;
 use dtx_values::Listing;
 use sql_statement::{Cond, Conds, Sign};
 use std::alloc::Global;
@@ -109,10 +110,9 @@ impl Separator for And {
 pub(crate) fn take_conditions(alloc: Global, tokens: &[Token]) -> Result<(Conds, &[Token]), ReadErr>
     ensures { Gives (λ x. (x.0, x.1.now)) result (spec.conditions.read tokens.now) }
 {
-    if !begins_word(tokens, b"WHERE") {
+    let Some(rest) = behind_word(tokens, b"WHERE") else {
         return Ok((Conds::new(alloc), tokens));
-    }
-    let rest = take_word(tokens, b"WHERE")?;
+    };
     let (conds, rest) = separated::<And, Condition>(alloc, rest)?;
     Ok((Listing::of(conds), rest))
 }

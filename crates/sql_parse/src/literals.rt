@@ -4,12 +4,11 @@ ghost use Rattle.token_grammar.specs.Gives.{Gives};
 ghost use Rattle.token_grammar.specs.Grammar.{meant};
 ghost use Rattle.sql_parse.specs.Literals as spec;
 
+use crate::parts::behind_mark;
 use dtx_values::{Name, Str, TextErr, Value};
 use sql_statement::TableRef;
 use std::alloc::Global;
-use token_grammar::{
-    Mark, ReadErr, Token, begins_mark, take_identifier, take_mark, take_name, take_number,
-};
+use token_grammar::{Mark, ReadErr, Token, take_identifier, take_name, take_number};
 
 fn text_value(alloc: Global, text: &[u8]) -> Result<Value, ReadErr>
     ensures { Gives (λ value. value) result (spec.text_value text.now) }
@@ -42,8 +41,7 @@ fn take_constant(alloc: Global, tokens: &[Token]) -> Result<(Value, &[Token]), R
 pub(crate) fn take_literal(alloc: Global, tokens: &[Token]) -> Result<(Value, &[Token]), ReadErr>
     ensures { Gives (λ x. (x.0, x.1.now)) result (spec.literal.read tokens.now) }
 {
-    if begins_mark(tokens, Mark::Minus) {
-        let rest = take_mark(tokens, Mark::Minus)?;
+    if let Some(rest) = behind_mark(tokens, Mark::Minus) {
         let (size, rest) = take_number(rest, i64::MIN.unsigned_abs())?;
         return Ok((Value::Number(-(size as i128) as i64), rest));
     }
@@ -59,11 +57,10 @@ pub(crate) fn take_table_ref(
     ensures { Gives (λ x. (x.0, x.1.now)) result (spec.table_ref.read tokens.now) }
 {
     let (name, rest) = take_identifier(alloc, tokens)?;
-    if !begins_mark(rest, Mark::At) {
+    let Some(behind) = behind_mark(rest, Mark::At) else {
         return Ok((TableRef { name, link: None }, rest));
-    }
-    let rest = take_mark(rest, Mark::At)?;
-    let (link, rest) = take_name(alloc, rest)?;
+    };
+    let (link, rest) = take_name(alloc, behind)?;
     let link = Some(link);
     Ok((TableRef { name, link }, rest))
 }

@@ -8,12 +8,12 @@ ghost use Rattle.sql_parse.specs.Changes as spec;
 use crate::conditions::take_conditions;
 use crate::lists::ColumnName;
 use crate::literals::take_table_ref;
+use crate::parts::{behind_mark, behind_word};
 use dtx_values::Listing;
 use sql_statement::{Conds, Picked, Stmt, TableRef};
 use std::alloc::Global;
 use token_grammar::{
-    Mark, ReadErr, Token, begins_mark, begins_word, begins_word_mark, commas, take_identifier,
-    take_mark, take_word,
+    Mark, ReadErr, Token, begins_word_mark, commas, take_identifier, take_mark, take_word,
 };
 
 /// The most columns of a list.
@@ -53,8 +53,8 @@ fn take_columns(alloc: Global, tokens: &[Token]) -> Result<(Picked, &[Token]), R
 fn take_picked(alloc: Global, tokens: &[Token]) -> Result<(Picked, &[Token]), ReadErr>
     ensures { Gives (λ x. (x.0, x.1.now)) result (spec.picks.read tokens.now) }
 {
-    if begins_mark(tokens, Mark::Star) {
-        return Ok((Picked::All, take_mark(tokens, Mark::Star)?));
+    if let Some(rest) = behind_mark(tokens, Mark::Star) {
+        return Ok((Picked::All, rest));
     }
     if begins_word_mark(tokens, b"COUNT", Mark::Open) {
         return take_count(tokens);
@@ -68,10 +68,9 @@ fn take_picked(alloc: Global, tokens: &[Token]) -> Result<(Picked, &[Token]), Re
 fn take_for_update(tokens: &[Token]) -> Result<(bool, &[Token]), ReadErr>
     ensures { Gives (λ x. (x.0, x.1.now)) result (spec.for_update_part.read tokens.now) }
 {
-    if !begins_word(tokens, b"FOR") {
+    let Some(rest) = behind_word(tokens, b"FOR") else {
         return Ok((false, tokens));
-    }
-    let rest = take_word(tokens, b"FOR")?;
+    };
     let rest = take_word(rest, b"UPDATE")?;
     Ok((true, rest))
 }
@@ -98,12 +97,29 @@ fn take_source(
     Ok(((table, rows), rest))
 }
 
-fn take_query(alloc: Global, tokens: &[Token]) -> Result<(Stmt, &[Token]), ReadErr>
-    ensures { Gives (λ x. (x.0, x.1.now)) result (spec.query.read tokens.now) }
+fn is_of_rows(list: &Picked) -> bool
+    ensures { result ≡ spec.is_of_rows list.now }
+{
+    matches!(list, Picked::All | Picked::Columns(_))
+}
+
+fn is_lockable(list: &Picked, for_update: bool) -> bool
+    ensures { result ≡ spec.is_lockable list.now for_update }
+{
+    !for_update || is_of_rows(list)
+}
+
+/// SELECT, with FOR UPDATE where rows are asked for.
+#[tactic(auto, unfolding(crate::specs::Changes::select))]
+pub(crate) fn take_select(alloc: Global, tokens: &[Token]) -> Result<(Stmt, &[Token]), ReadErr>
+    ensures { Gives (λ x. (x.0, x.1.now)) result (spec.select.read tokens.now) }
 {
     let rest = take_word(tokens, b"SELECT")?;
     let (list, rest) = take_picked(alloc, rest)?;
     let ((table, (conds, for_update)), rest) = take_source(alloc, rest)?;
+    if !is_lockable(&list, for_update) {
+        return Err(ReadErr::Bad);
+    }
     Ok((
         Stmt::Select {
             list,
@@ -113,35 +129,4 @@ fn take_query(alloc: Global, tokens: &[Token]) -> Result<(Stmt, &[Token]), ReadE
         },
         rest,
     ))
-}
-
-fn is_of_rows(list: &Picked) -> bool
-    ensures { result ≡ spec.is_of_rows list.now }
-{
-    matches!(list, Picked::All | Picked::Columns(_))
-}
-
-fn may_lock(statement: &Stmt) -> bool
-    ensures { result ≡ spec.may_lock statement.now }
-{
-    match statement {
-        Stmt::Select {
-            list,
-            for_update,
-            ..
-        } => !for_update || is_of_rows(list),
-        _ => true,
-    }
-}
-
-/// SELECT, with FOR UPDATE where rows are asked for.
-#[tactic(auto, unfolding(crate::specs::Changes::select))]
-pub(crate) fn take_select(alloc: Global, tokens: &[Token]) -> Result<(Stmt, &[Token]), ReadErr>
-    ensures { Gives (λ x. (x.0, x.1.now)) result (spec.select.read tokens.now) }
-{
-    let (statement, rest) = take_query(alloc, tokens)?;
-    if !may_lock(&statement) {
-        return Err(ReadErr::Bad);
-    }
-    Ok((statement, rest))
 }
