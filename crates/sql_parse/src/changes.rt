@@ -84,16 +84,6 @@ pub(crate) fn take_insert(alloc: Global, tokens: &[Token]) -> Result<(Stmt, &[To
     ))
 }
 
-#[tactic(auto, unfolding(crate::specs::Changes::assignment))]
-fn take_assignment(alloc: Global, tokens: &[Token]) -> Result<(Set, &[Token]), ReadErr>
-    ensures { Gives (λ x. (x.0, x.1.now)) result (spec.assignment.read tokens.now) }
-{
-    let (column, rest) = take_identifier(alloc, tokens)?;
-    let rest = take_mark(rest, Mark::Equal)?;
-    let (to, rest) = take_sum(alloc, rest)?;
-    Ok((Set { column, to }, rest))
-}
-
 /// An assignment, where several stand in a list.
 struct Assignment;
 
@@ -102,8 +92,12 @@ impl Part for Assignment {
 
     ghost grammar = { spec.assignment };
 
+    #[tactic(auto, unfolding(crate::specs::Changes::assignment))]
     fn take(alloc: Global, tokens: &[Token]) -> Result<(Set, &[Token]), ReadErr> {
-        take_assignment(alloc, tokens)
+        let (column, rest) = take_identifier(alloc, tokens)?;
+        let rest = take_mark(rest, Mark::Equal)?;
+        let (to, rest) = take_sum(alloc, rest)?;
+        Ok((Set { column, to }, rest))
     }
 }
 

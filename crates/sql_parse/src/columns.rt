@@ -46,19 +46,6 @@ fn take_type(tokens: &[Token]) -> Result<(Option<u16>, &[Token]), ReadErr>
     Ok((Some(width), rest))
 }
 
-#[tactic(auto, unfolding(crate::specs::Catalog::rule))]
-fn take_rule(tokens: &[Token]) -> Result<(Rule, &[Token]), ReadErr>
-    ensures { Gives (λ x. (x.0, x.1.now)) result (spec.rule.read tokens.now) }
-{
-    if let Some(rest) = behind_word(tokens, b"NOT") {
-        let rest = take_word(rest, b"NULL")?;
-        return Ok((Rule::NotNull, rest));
-    }
-    let rest = take_word(tokens, b"PRIMARY")?;
-    let rest = take_word(rest, b"KEY")?;
-    Ok((Rule::PrimaryKey, rest))
-}
-
 impl Repeated for Rule {
     type Item = Rule;
 
@@ -70,8 +57,15 @@ impl Repeated for Rule {
         begins_word(tokens, b"NOT") || begins_word(tokens, b"PRIMARY")
     }
 
+    #[tactic(auto, unfolding(crate::specs::Catalog::rule))]
     fn take(_: Global, tokens: &[Token]) -> Result<(Rule, &[Token]), ReadErr> {
-        take_rule(tokens)
+        if let Some(rest) = behind_word(tokens, b"NOT") {
+            let rest = take_word(rest, b"NULL")?;
+            return Ok((Rule::NotNull, rest));
+        }
+        let rest = take_word(tokens, b"PRIMARY")?;
+        let rest = take_word(rest, b"KEY")?;
+        Ok((Rule::PrimaryKey, rest))
     }
 }
 
@@ -127,22 +121,6 @@ fn has_key(rules: &[Rule]) -> bool
     rules.iter().any(is_key)
 }
 
-#[tactic(auto, unfolding(crate::specs::Catalog::column))]
-fn take_column(alloc: Global, tokens: &[Token]) -> Result<(Column, &[Token]), ReadErr>
-    ensures { Gives (λ x. (x.0, x.1.now)) result (spec.column.read tokens.now) }
-{
-    let (name, rest) = take_identifier(alloc, tokens)?;
-    let (text_max, rest) = take_type(rest)?;
-    let (rules, rest) = take_rules(alloc, rest)?;
-    let column = Column {
-        name,
-        text_max,
-        not_null: has_not_null(&rules),
-        key: has_key(&rules),
-    };
-    Ok((column, rest))
-}
-
 /// A column with its type and rules.
 struct TableColumn;
 
@@ -151,8 +129,18 @@ impl Part for TableColumn {
 
     ghost grammar = { spec.column };
 
+    #[tactic(auto, unfolding(crate::specs::Catalog::column))]
     fn take(alloc: Global, tokens: &[Token]) -> Result<(Column, &[Token]), ReadErr> {
-        take_column(alloc, tokens)
+        let (name, rest) = take_identifier(alloc, tokens)?;
+        let (text_max, rest) = take_type(rest)?;
+        let (rules, rest) = take_rules(alloc, rest)?;
+        let column = Column {
+            name,
+            text_max,
+            not_null: has_not_null(&rules),
+            key: has_key(&rules),
+        };
+        Ok((column, rest))
     }
 }
 

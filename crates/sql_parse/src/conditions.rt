@@ -71,16 +71,6 @@ fn is_second(tokens: &[Token]) -> bool
     }
 }
 
-#[tactic(auto, unfolding(crate::specs::Conditions::condition))]
-fn take_condition(alloc: Global, tokens: &[Token]) -> Result<(Cond, &[Token]), ReadErr>
-    ensures { Gives (λ x. (x.0, x.1.now)) result (spec.condition.read tokens.now) }
-{
-    if is_second(tokens) {
-        return take_is_null(alloc, tokens);
-    }
-    take_compared(alloc, tokens)
-}
-
 /// A condition, where several stand with AND between them.
 struct Condition;
 
@@ -89,8 +79,12 @@ impl Part for Condition {
 
     ghost grammar = { spec.condition };
 
+    #[tactic(auto, unfolding(crate::specs::Conditions::condition))]
     fn take(alloc: Global, tokens: &[Token]) -> Result<(Cond, &[Token]), ReadErr> {
-        take_condition(alloc, tokens)
+        if is_second(tokens) {
+            return take_is_null(alloc, tokens);
+        }
+        take_compared(alloc, tokens)
     }
 }
 
