@@ -16,17 +16,26 @@ use token_grammar::{
     take_word,
 };
 
+fn sign_from(token: &Token) -> Result<Sign, ReadErr>
+    ensures { Gives (λ sign. sign) result (spec.sign_in token.now) }
+{
+    match token {
+        Token::Mark(Mark::Equal) => Ok(Sign::Eq),
+        Token::Mark(Mark::Unequal) => Ok(Sign::Ne),
+        Token::Mark(Mark::Below) => Ok(Sign::Lt),
+        Token::Mark(Mark::AtMost) => Ok(Sign::Le),
+        Token::Mark(Mark::Above) => Ok(Sign::Gt),
+        Token::Mark(Mark::AtLeast) => Ok(Sign::Ge),
+        _ => Err(ReadErr::Bad),
+    }
+}
+
 fn take_sign(tokens: &[Token]) -> Result<(Sign, &[Token]), ReadErr>
     ensures { Gives (λ x. (x.0, x.1.now)) result ((meant spec.sign_in).read tokens.now) }
 {
     match tokens {
-        [Token::Mark(Mark::Equal), rest @ ..] => Ok((Sign::Eq, rest)),
-        [Token::Mark(Mark::Unequal), rest @ ..] => Ok((Sign::Ne, rest)),
-        [Token::Mark(Mark::Below), rest @ ..] => Ok((Sign::Lt, rest)),
-        [Token::Mark(Mark::AtMost), rest @ ..] => Ok((Sign::Le, rest)),
-        [Token::Mark(Mark::Above), rest @ ..] => Ok((Sign::Gt, rest)),
-        [Token::Mark(Mark::AtLeast), rest @ ..] => Ok((Sign::Ge, rest)),
-        _ => Err(ReadErr::Bad),
+        [token, rest @ ..] => Ok((sign_from(token)?, rest)),
+        [] => Err(ReadErr::Bad),
     }
 }
 

@@ -21,18 +21,23 @@ fn text_value(alloc: Global, text: &[u8]) -> Result<Value, ReadErr>
     }
 }
 
+fn constant_from(alloc: Global, token: &Token) -> Result<Value, ReadErr>
+    ensures { Gives (λ value. value) result (spec.constant_in token.now) }
+{
+    match token {
+        Token::Number(number) if *number <= i64::MAX as u64 => Ok(Value::Number(*number as i64)),
+        Token::Quoted(text) => text_value(alloc, text.as_slice()),
+        Token::Word(word) if word.as_slice() == b"NULL".as_slice() => Ok(Value::Null),
+        _ => Err(ReadErr::Bad),
+    }
+}
+
 fn take_constant(alloc: Global, tokens: &[Token]) -> Result<(Value, &[Token]), ReadErr>
     ensures { Gives (λ x. (x.0, x.1.now)) result ((meant spec.constant_in).read tokens.now) }
 {
     match tokens {
-        [Token::Number(number), rest @ ..] if *number <= i64::MAX as u64 => {
-            Ok((Value::Number(*number as i64), rest))
-        }
-        [Token::Quoted(text), rest @ ..] => Ok((text_value(alloc, text.as_slice())?, rest)),
-        [Token::Word(word), rest @ ..] if word.as_slice() == b"NULL".as_slice() => {
-            Ok((Value::Null, rest))
-        }
-        _ => Err(ReadErr::Bad),
+        [token, rest @ ..] => Ok((constant_from(alloc, token)?, rest)),
+        [] => Err(ReadErr::Bad),
     }
 }
 
