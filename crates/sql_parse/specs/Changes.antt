@@ -6,9 +6,11 @@ use Rattle.token_grammar.specs.declared.token.Token.{Token}
 use Rattle.token_grammar.specs.Steps.{begins}
 use Rattle.token_grammar.specs.Grammar.{Grammar, is_word, is_mark, begins_two, word, mark, identifier, ◌·◌, ◌▹◌, maybe, optional, commas, mapped, tested}
 use Rattle.sql_statement.specs.Distinct.{are_distinct}
+use Rattle.sql_statement.specs.declared.condition.Cond.{Cond}
 use Rattle.sql_statement.specs.declared.query.Picked.{Picked}
 use Rattle.sql_statement.specs.declared.query.Picked.TheVariants as picked
 use Rattle.sql_statement.specs.declared.statement.Set.{Set}
+use Rattle.sql_statement.specs.declared.statement.TableRef.{TableRef}
 use Rattle.sql_statement.specs.declared.statement.Stmt.{Stmt}
 use Rattle.sql_statement.specs.declared.statement.Stmt.TheVariants as statements
 use Rattle.sql_statement.specs.declared.sum.Sum.{Sum}
@@ -89,12 +91,23 @@ is_of_rows picked.All = true
 is_of_rows (picked.Columns _) = true
 is_of_rows _ = false
 
+-- whether a list may stand with FOR UPDATE, where that stands
+abbrev pub is_lockable : Picked → Bool → Bool
+is_lockable list for_update = not for_update || is_of_rows list
+
 -- FOR UPDATE stands with rows alone
 abbrev pub may_lock : Stmt → Bool
-may_lock (statements.Select list _ _ for_update) = not for_update || is_of_rows list
+may_lock (statements.Select list _ _ for_update) = is_lockable list for_update
 may_lock _ = true
+
+-- [FOR UPDATE]
+abbrev pub for_update_part : Grammar Bool
+for_update_part = stands (is_word (codes "FOR")) (word (codes "FOR") ▹ word (codes "UPDATE"))
+
+-- FROM ref [WHERE conds] [FOR UPDATE]
+abbrev pub source : Grammar (TableRef × (List Cond × Bool))
+source = word (codes "FROM") ▹ (table_ref · (conditions · for_update_part))
 
 -- SELECT list FROM ref [WHERE conds] [FOR UPDATE]
 unfoldable pub select : Grammar Stmt
-select = tested may_lock (built (λ x. statements.Select x.0 x.1.0 x.1.1.0 x.1.1.1)
-    (word (codes "SELECT") ▹ (picks · (word (codes "FROM") ▹ (table_ref · (conditions · stands (is_word (codes "FOR")) (word (codes "FOR") ▹ word (codes "UPDATE"))))))))
+select = tested may_lock (built (λ x. statements.Select x.0 x.1.0 x.1.1.0 x.1.1.1) (word (codes "SELECT") ▹ (picks · source)))

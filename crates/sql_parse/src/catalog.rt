@@ -1,7 +1,8 @@
 //! CREATE TABLE, CREATE DATABASE LINK and CREATE SYNONYM, as they are read.
 ghost use Rattle.std.specs.Prelude.{◌≡◌, codes};
+ghost use Rattle.token_grammar.specs.declared.mark.Mark.TheVariants as marks;
 ghost use Rattle.token_grammar.specs.Gives.{Gives};
-ghost use Rattle.token_grammar.specs.Grammar.{meant, optional, is_word};
+ghost use Rattle.token_grammar.specs.Grammar.{meant, optional, is_word, word, mark, identifier, name, ◌·◌, ◌▹◌};
 ghost use Rattle.sql_parse.specs.Catalog as spec;
 
 use crate::columns::take_columns;
@@ -34,15 +35,21 @@ fn take_target(alloc: Global, tokens: &[Token]) -> Result<(Name, &[Token]), Read
     }
 }
 
+fn take_password(alloc: Global, tokens: &[Token]) -> Result<(Name, &[Token]), ReadErr>
+    ensures { Gives (λ x. (x.0, x.1.now)) result ((word (codes "IDENTIFIED") ▹ word (codes "BY") ▹ identifier).read tokens.now) }
+{
+    let rest = take_word(tokens, b"IDENTIFIED")?;
+    let rest = take_word(rest, b"BY")?;
+    take_identifier(alloc, rest)
+}
+
 fn take_account(alloc: Global, tokens: &[Token]) -> Result<((Name, Name), &[Token]), ReadErr>
     ensures { Gives (λ x. (x.0, x.1.now)) result (spec.account.read tokens.now) }
 {
     let rest = take_word(tokens, b"CONNECT")?;
     let rest = take_word(rest, b"TO")?;
     let (user, rest) = take_identifier(alloc, rest)?;
-    let rest = take_word(rest, b"IDENTIFIED")?;
-    let rest = take_word(rest, b"BY")?;
-    let (password, rest) = take_identifier(alloc, rest)?;
+    let (password, rest) = take_password(alloc, rest)?;
     Ok(((user, password), rest))
 }
 
@@ -73,6 +80,16 @@ fn take_create_link(alloc: Global, tokens: &[Token]) -> Result<(Stmt, &[Token]),
     Ok((Stmt::CreateLink(Link { name, target }), rest))
 }
 
+// A table behind a link.
+fn take_far_table(alloc: Global, tokens: &[Token]) -> Result<((Name, Name), &[Token]), ReadErr>
+    ensures { Gives (λ x. (x.0, x.1.now)) result ((identifier · (mark marks.At ▹ name)).read tokens.now) }
+{
+    let (table, rest) = take_identifier(alloc, tokens)?;
+    let rest = take_mark(rest, Mark::At)?;
+    let (link, rest) = take_name(alloc, rest)?;
+    Ok(((table, link), rest))
+}
+
 #[tactic(auto, unfolding(crate::specs::Catalog::create_synonym))]
 fn take_create_synonym(alloc: Global, tokens: &[Token]) -> Result<(Stmt, &[Token]), ReadErr>
     ensures { Gives (λ x. (x.0, x.1.now)) result (spec.create_synonym.read tokens.now) }
@@ -80,9 +97,7 @@ fn take_create_synonym(alloc: Global, tokens: &[Token]) -> Result<(Stmt, &[Token
     let rest = take_word(tokens, b"SYNONYM")?;
     let (name, rest) = take_identifier(alloc, rest)?;
     let rest = take_word(rest, b"FOR")?;
-    let (table, rest) = take_identifier(alloc, rest)?;
-    let rest = take_mark(rest, Mark::At)?;
-    let (link, rest) = take_name(alloc, rest)?;
+    let ((table, link), rest) = take_far_table(alloc, rest)?;
     let synonym = Synonym { name, table, link };
     Ok((Stmt::CreateSynonym(synonym), rest))
 }

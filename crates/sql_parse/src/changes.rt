@@ -1,9 +1,10 @@
 //! INSERT, UPDATE and DELETE, as they are read.
-ghost use Rattle.std.specs.Prelude.{◌≡◌};
+ghost use Rattle.std.specs.Prelude.{◌≡◌, codes};
 ghost use Rattle.std.specs.List.{list_all};
 ghost use Rattle.token_grammar.specs.declared.mark.Mark.TheVariants as marks;
 ghost use Rattle.token_grammar.specs.Gives.{Gives};
-ghost use Rattle.token_grammar.specs.Grammar.{is_mark, optional};
+ghost use Rattle.token_grammar.specs.Grammar.{is_mark, optional, word, ◌·◌, ◌▹◌};
+ghost use Rattle.sql_parse.specs.Conditions.{conditions};
 ghost use Rattle.sql_parse.specs.Literals.{is_constant};
 ghost use Rattle.sql_parse.specs.Changes as spec;
 
@@ -13,7 +14,7 @@ use crate::literals::take_table_ref;
 use crate::parts::{Called, are_distinct};
 use crate::sums::{ListedSum, is_constant, take_sum};
 use dtx_values::{Listing, Name, Names};
-use sql_statement::{Set, Sets, Stmt, Sum, Sums};
+use sql_statement::{Conds, Set, Sets, Stmt, Sum, Sums};
 use std::alloc::Global;
 use token_grammar::{
     Mark, Part, ReadErr, Token, begins_mark, commas, maybe_word, take_identifier, take_mark,
@@ -56,6 +57,13 @@ fn take_constants(alloc: Global, tokens: &[Token]) -> Result<(Sums, &[Token]), R
     Ok((Listing::of(sums), rest))
 }
 
+fn take_values(alloc: Global, tokens: &[Token]) -> Result<(Sums, &[Token]), ReadErr>
+    ensures { Gives (λ x. (x.0, x.1.now)) result ((word (codes "VALUES") ▹ spec.constants).read tokens.now) }
+{
+    let rest = take_word(tokens, b"VALUES")?;
+    take_constants(alloc, rest)
+}
+
 /// INSERT, with or without a list of columns.
 #[tactic(auto, unfolding(crate::specs::Changes::insert))]
 pub(crate) fn take_insert(alloc: Global, tokens: &[Token]) -> Result<(Stmt, &[Token]), ReadErr>
@@ -65,8 +73,7 @@ pub(crate) fn take_insert(alloc: Global, tokens: &[Token]) -> Result<(Stmt, &[To
     let rest = take_word(rest, b"INTO")?;
     let (table, rest) = take_table_ref(alloc, rest)?;
     let (columns, rest) = maybe_column_names(alloc, rest)?;
-    let rest = take_word(rest, b"VALUES")?;
-    let (values, rest) = take_constants(alloc, rest)?;
+    let (values, rest) = take_values(alloc, rest)?;
     Ok((
         Stmt::Insert {
             table,
@@ -77,16 +84,6 @@ pub(crate) fn take_insert(alloc: Global, tokens: &[Token]) -> Result<(Stmt, &[To
     ))
 }
 
-#[tactic(auto, unfolding(crate::specs::Changes::assignment))]
-fn take_assignment(alloc: Global, tokens: &[Token]) -> Result<(Set, &[Token]), ReadErr>
-    ensures { Gives (λ x. (x.0, x.1.now)) result (spec.assignment.read tokens.now) }
-{
-    let (column, rest) = take_identifier(alloc, tokens)?;
-    let rest = take_mark(rest, Mark::Equal)?;
-    let (to, rest) = take_sum(alloc, rest)?;
-    Ok((Set { column, to }, rest))
-}
-
 /// An assignment, where several stand in a list.
 struct Assignment;
 
@@ -95,8 +92,12 @@ impl Part for Assignment {
 
     ghost grammar = { spec.assignment };
 
+    #[tactic(auto, unfolding(crate::specs::Changes::assignment))]
     fn take(alloc: Global, tokens: &[Token]) -> Result<(Set, &[Token]), ReadErr> {
-        take_assignment(alloc, tokens)
+        let (column, rest) = take_identifier(alloc, tokens)?;
+        let rest = take_mark(rest, Mark::Equal)?;
+        let (to, rest) = take_sum(alloc, rest)?;
+        Ok((Set { column, to }, rest))
     }
 }
 
@@ -118,6 +119,16 @@ fn take_assignments(alloc: Global, tokens: &[Token]) -> Result<(Sets, &[Token]),
     Ok((Listing::of(sets), rest))
 }
 
+// What an UPDATE sets, and in which rows.
+fn take_new_contents(alloc: Global, tokens: &[Token]) -> Result<((Sets, Conds), &[Token]), ReadErr>
+    ensures { Gives (λ x. (x.0, x.1.now)) result ((word (codes "SET") ▹ (spec.assignments · conditions)).read tokens.now) }
+{
+    let rest = take_word(tokens, b"SET")?;
+    let (sets, rest) = take_assignments(alloc, rest)?;
+    let (conds, rest) = take_conditions(alloc, rest)?;
+    Ok(((sets, conds), rest))
+}
+
 /// UPDATE.
 #[tactic(auto, unfolding(crate::specs::Changes::update))]
 pub(crate) fn take_update(alloc: Global, tokens: &[Token]) -> Result<(Stmt, &[Token]), ReadErr>
@@ -125,9 +136,7 @@ pub(crate) fn take_update(alloc: Global, tokens: &[Token]) -> Result<(Stmt, &[To
 {
     let rest = take_word(tokens, b"UPDATE")?;
     let (table, rest) = take_table_ref(alloc, rest)?;
-    let rest = take_word(rest, b"SET")?;
-    let (sets, rest) = take_assignments(alloc, rest)?;
-    let (conds, rest) = take_conditions(alloc, rest)?;
+    let ((sets, conds), rest) = take_new_contents(alloc, rest)?;
     Ok((Stmt::Update { table, sets, conds }, rest))
 }
 

@@ -146,8 +146,7 @@ fn put_rules(out: &mut Vec<u8>, not_null: bool, key: bool) -> Result<(), AllocEr
     ensures { OnOk result (out.new.items ≡ out.old.items ++ spec.rules_text not_null key) }
 {
     put_if(out, not_null, b" NOT NULL")?;
-    put_if(out, key, b" PRIMARY KEY")?;
-    Ok(())
+    put_if(out, key, b" PRIMARY KEY")
 }
 
 impl Printed for Column {
@@ -156,8 +155,7 @@ impl Printed for Column {
     fn put_to(&self, _: Global, out: &mut Vec<u8>) -> Result<(), AllocError> {
         out.extend_from_slice(self.name.as_bytes())?;
         put_type(out, self.text_max)?;
-        put_rules(out, self.not_null, self.key)?;
-        Ok(())
+        put_rules(out, self.not_null, self.key)
     }
 }
 

@@ -7,7 +7,7 @@ ghost use Rattle.sql_parse.specs.Catalog as spec;
 ghost use Rattle.sql_statement.specs.Distinct.{column_name};
 
 use crate::lists::bracketed;
-use crate::parts::{Called, are_distinct};
+use crate::parts::{Called, are_distinct, behind_word};
 use crate::rule::Rule;
 use dtx_values::{Column, Columns, Listing, Name};
 use std::alloc::Global;
@@ -36,28 +36,14 @@ fn take_width(tokens: &[Token]) -> Result<(u16, &[Token]), ReadErr>
 fn take_type(tokens: &[Token]) -> Result<(Option<u16>, &[Token]), ReadErr>
     ensures { Gives (λ x. (x.0, x.1.now)) result (spec.column_type.read tokens.now) }
 {
-    if begins_word(tokens, b"NUMBER") {
-        return Ok((None, take_word(tokens, b"NUMBER")?));
+    if let Some(rest) = behind_word(tokens, b"NUMBER") {
+        return Ok((None, rest));
     }
     let rest = take_word(tokens, b"VARCHAR2")?;
     let rest = take_mark(rest, Mark::Open)?;
     let (width, rest) = take_width(rest)?;
     let rest = take_mark(rest, Mark::Close)?;
     Ok((Some(width), rest))
-}
-
-#[tactic(auto, unfolding(crate::specs::Catalog::rule))]
-fn take_rule(tokens: &[Token]) -> Result<(Rule, &[Token]), ReadErr>
-    ensures { Gives (λ x. (x.0, x.1.now)) result (spec.rule.read tokens.now) }
-{
-    if begins_word(tokens, b"NOT") {
-        let rest = take_word(tokens, b"NOT")?;
-        let rest = take_word(rest, b"NULL")?;
-        return Ok((Rule::NotNull, rest));
-    }
-    let rest = take_word(tokens, b"PRIMARY")?;
-    let rest = take_word(rest, b"KEY")?;
-    Ok((Rule::PrimaryKey, rest))
 }
 
 impl Repeated for Rule {
@@ -71,8 +57,15 @@ impl Repeated for Rule {
         begins_word(tokens, b"NOT") || begins_word(tokens, b"PRIMARY")
     }
 
+    #[tactic(auto, unfolding(crate::specs::Catalog::rule))]
     fn take(_: Global, tokens: &[Token]) -> Result<(Rule, &[Token]), ReadErr> {
-        take_rule(tokens)
+        if let Some(rest) = behind_word(tokens, b"NOT") {
+            let rest = take_word(rest, b"NULL")?;
+            return Ok((Rule::NotNull, rest));
+        }
+        let rest = take_word(tokens, b"PRIMARY")?;
+        let rest = take_word(rest, b"KEY")?;
+        Ok((Rule::PrimaryKey, rest))
     }
 }
 
@@ -128,22 +121,6 @@ fn has_key(rules: &[Rule]) -> bool
     rules.iter().any(is_key)
 }
 
-#[tactic(auto, unfolding(crate::specs::Catalog::column))]
-fn take_column(alloc: Global, tokens: &[Token]) -> Result<(Column, &[Token]), ReadErr>
-    ensures { Gives (λ x. (x.0, x.1.now)) result (spec.column.read tokens.now) }
-{
-    let (name, rest) = take_identifier(alloc, tokens)?;
-    let (text_max, rest) = take_type(rest)?;
-    let (rules, rest) = take_rules(alloc, rest)?;
-    let column = Column {
-        name,
-        text_max,
-        not_null: has_not_null(&rules),
-        key: has_key(&rules),
-    };
-    Ok((column, rest))
-}
-
 /// A column with its type and rules.
 struct TableColumn;
 
@@ -152,8 +129,18 @@ impl Part for TableColumn {
 
     ghost grammar = { spec.column };
 
+    #[tactic(auto, unfolding(crate::specs::Catalog::column))]
     fn take(alloc: Global, tokens: &[Token]) -> Result<(Column, &[Token]), ReadErr> {
-        take_column(alloc, tokens)
+        let (name, rest) = take_identifier(alloc, tokens)?;
+        let (text_max, rest) = take_type(rest)?;
+        let (rules, rest) = take_rules(alloc, rest)?;
+        let column = Column {
+            name,
+            text_max,
+            not_null: has_not_null(&rules),
+            key: has_key(&rules),
+        };
+        Ok((column, rest))
     }
 }
 

@@ -7,6 +7,7 @@ ghost use Rattle.sql_parse.specs.Parts.{stands};
 ghost use Rattle.sql_parse.specs.Conditions as spec;
 
 use crate::literals::take_literal;
+use crate::parts::behind_word;
 use dtx_values::Listing;
 use sql_statement::{Cond, Conds, Sign};
 use std::alloc::Global;
@@ -15,17 +16,26 @@ use token_grammar::{
     take_word,
 };
 
+fn sign_from(token: &Token) -> Result<Sign, ReadErr>
+    ensures { Gives (λ sign. sign) result (spec.sign_in token.now) }
+{
+    match token {
+        Token::Mark(Mark::Equal) => Ok(Sign::Eq),
+        Token::Mark(Mark::Unequal) => Ok(Sign::Ne),
+        Token::Mark(Mark::Below) => Ok(Sign::Lt),
+        Token::Mark(Mark::AtMost) => Ok(Sign::Le),
+        Token::Mark(Mark::Above) => Ok(Sign::Gt),
+        Token::Mark(Mark::AtLeast) => Ok(Sign::Ge),
+        _ => Err(ReadErr::Bad),
+    }
+}
+
 fn take_sign(tokens: &[Token]) -> Result<(Sign, &[Token]), ReadErr>
     ensures { Gives (λ x. (x.0, x.1.now)) result ((meant spec.sign_in).read tokens.now) }
 {
     match tokens {
-        [Token::Mark(Mark::Equal), rest @ ..] => Ok((Sign::Eq, rest)),
-        [Token::Mark(Mark::Unequal), rest @ ..] => Ok((Sign::Ne, rest)),
-        [Token::Mark(Mark::Below), rest @ ..] => Ok((Sign::Lt, rest)),
-        [Token::Mark(Mark::AtMost), rest @ ..] => Ok((Sign::Le, rest)),
-        [Token::Mark(Mark::Above), rest @ ..] => Ok((Sign::Gt, rest)),
-        [Token::Mark(Mark::AtLeast), rest @ ..] => Ok((Sign::Ge, rest)),
-        _ => Err(ReadErr::Bad),
+        [token, rest @ ..] => Ok((sign_from(token)?, rest)),
+        [] => Err(ReadErr::Bad),
     }
 }
 
@@ -70,16 +80,6 @@ fn is_second(tokens: &[Token]) -> bool
     }
 }
 
-#[tactic(auto, unfolding(crate::specs::Conditions::condition))]
-fn take_condition(alloc: Global, tokens: &[Token]) -> Result<(Cond, &[Token]), ReadErr>
-    ensures { Gives (λ x. (x.0, x.1.now)) result (spec.condition.read tokens.now) }
-{
-    if is_second(tokens) {
-        return take_is_null(alloc, tokens);
-    }
-    take_compared(alloc, tokens)
-}
-
 /// A condition, where several stand with AND between them.
 struct Condition;
 
@@ -88,8 +88,12 @@ impl Part for Condition {
 
     ghost grammar = { spec.condition };
 
+    #[tactic(auto, unfolding(crate::specs::Conditions::condition))]
     fn take(alloc: Global, tokens: &[Token]) -> Result<(Cond, &[Token]), ReadErr> {
-        take_condition(alloc, tokens)
+        if is_second(tokens) {
+            return take_is_null(alloc, tokens);
+        }
+        take_compared(alloc, tokens)
     }
 }
 
@@ -109,10 +113,9 @@ impl Separator for And {
 pub(crate) fn take_conditions(alloc: Global, tokens: &[Token]) -> Result<(Conds, &[Token]), ReadErr>
     ensures { Gives (λ x. (x.0, x.1.now)) result (spec.conditions.read tokens.now) }
 {
-    if !begins_word(tokens, b"WHERE") {
+    let Some(rest) = behind_word(tokens, b"WHERE") else {
         return Ok((Conds::new(alloc), tokens));
-    }
-    let rest = take_word(tokens, b"WHERE")?;
+    };
     let (conds, rest) = separated::<And, Condition>(alloc, rest)?;
     Ok((Listing::of(conds), rest))
 }

@@ -4,12 +4,11 @@ ghost use Rattle.token_grammar.specs.Gives.{Gives};
 ghost use Rattle.token_grammar.specs.Grammar.{meant};
 ghost use Rattle.sql_parse.specs.Literals as spec;
 
+use crate::parts::behind_mark;
 use dtx_values::{Name, Str, TextErr, Value};
 use sql_statement::TableRef;
 use std::alloc::Global;
-use token_grammar::{
-    Mark, ReadErr, Token, begins_mark, take_identifier, take_mark, take_name, take_number,
-};
+use token_grammar::{Mark, ReadErr, Token, take_identifier, take_name, take_number};
 
 fn text_value(alloc: Global, text: &[u8]) -> Result<Value, ReadErr>
     ensures { Gives (λ value. value) result (spec.text_value text.now) }
@@ -22,18 +21,23 @@ fn text_value(alloc: Global, text: &[u8]) -> Result<Value, ReadErr>
     }
 }
 
+fn constant_from(alloc: Global, token: &Token) -> Result<Value, ReadErr>
+    ensures { Gives (λ value. value) result (spec.constant_in token.now) }
+{
+    match token {
+        Token::Number(number) if *number <= i64::MAX as u64 => Ok(Value::Number(*number as i64)),
+        Token::Quoted(text) => text_value(alloc, text.as_slice()),
+        Token::Word(word) if word.as_slice() == b"NULL".as_slice() => Ok(Value::Null),
+        _ => Err(ReadErr::Bad),
+    }
+}
+
 fn take_constant(alloc: Global, tokens: &[Token]) -> Result<(Value, &[Token]), ReadErr>
     ensures { Gives (λ x. (x.0, x.1.now)) result ((meant spec.constant_in).read tokens.now) }
 {
     match tokens {
-        [Token::Number(number), rest @ ..] if *number <= i64::MAX as u64 => {
-            Ok((Value::Number(*number as i64), rest))
-        }
-        [Token::Quoted(text), rest @ ..] => Ok((text_value(alloc, text.as_slice())?, rest)),
-        [Token::Word(word), rest @ ..] if word.as_slice() == b"NULL".as_slice() => {
-            Ok((Value::Null, rest))
-        }
-        _ => Err(ReadErr::Bad),
+        [token, rest @ ..] => Ok((constant_from(alloc, token)?, rest)),
+        [] => Err(ReadErr::Bad),
     }
 }
 
@@ -42,8 +46,7 @@ fn take_constant(alloc: Global, tokens: &[Token]) -> Result<(Value, &[Token]), R
 pub(crate) fn take_literal(alloc: Global, tokens: &[Token]) -> Result<(Value, &[Token]), ReadErr>
     ensures { Gives (λ x. (x.0, x.1.now)) result (spec.literal.read tokens.now) }
 {
-    if begins_mark(tokens, Mark::Minus) {
-        let rest = take_mark(tokens, Mark::Minus)?;
+    if let Some(rest) = behind_mark(tokens, Mark::Minus) {
         let (size, rest) = take_number(rest, i64::MIN.unsigned_abs())?;
         return Ok((Value::Number(-(size as i128) as i64), rest));
     }
@@ -59,11 +62,10 @@ pub(crate) fn take_table_ref(
     ensures { Gives (λ x. (x.0, x.1.now)) result (spec.table_ref.read tokens.now) }
 {
     let (name, rest) = take_identifier(alloc, tokens)?;
-    if !begins_mark(rest, Mark::At) {
+    let Some(behind) = behind_mark(rest, Mark::At) else {
         return Ok((TableRef { name, link: None }, rest));
-    }
-    let rest = take_mark(rest, Mark::At)?;
-    let (link, rest) = take_name(alloc, rest)?;
+    };
+    let (link, rest) = take_name(alloc, behind)?;
     let link = Some(link);
     Ok((TableRef { name, link }, rest))
 }

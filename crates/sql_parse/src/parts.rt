@@ -1,15 +1,39 @@
 //! What several forms of statements share: texts in quotes, brackets, and names that stand once.
-ghost use Rattle.std.specs.Prelude.{◌≡◌, ℕ, Bool, List};
+ghost use Rattle.std.specs.Prelude.{◌≡◌, ℕ, Bool, List, Some, IfSome, is_some};
 ghost use Rattle.std.specs.List.{list_any};
 ghost use Rattle.std.specs.Str.{bytes_eq, is_utf8};
 ghost use Rattle.token_grammar.specs.Gives.{Gives};
+ghost use Rattle.token_grammar.specs.Steps.{begins};
+ghost use Rattle.token_grammar.specs.Grammar as grammar;
 ghost use Rattle.sql_parse.specs.Parts as spec;
 ghost use Rattle.sql_statement.specs.Distinct as names;
 ghost use Rattle.sql_statement.specs.Limits as limits;
 
 use dtx_values::{Bytes, Listing, Name};
 use std::alloc::Global;
-use token_grammar::{ReadErr, Token, take_quoted};
+use token_grammar::{Mark, ReadErr, Token, take_quoted};
+
+/// What stands behind this word, where it is next.
+pub(crate) fn behind_word<'a>(tokens: &'a [Token], text: &[u8]) -> Option<&'a [Token]>
+    ensures next { is_some result ≡ begins (grammar.is_word text.now) tokens.now }
+    ensures behind { IfSome result (λ rest. (grammar.word text.now).read tokens.now ≡ Some (tt, rest.now)) }
+{
+    match tokens {
+        [Token::Word(word), rest @ ..] if word.as_slice() == text => Some(rest),
+        _ => None,
+    }
+}
+
+/// What stands behind this mark, where it is next.
+pub(crate) fn behind_mark(tokens: &[Token], mark: Mark) -> Option<&[Token]>
+    ensures next { is_some result ≡ begins (grammar.is_mark mark) tokens.now }
+    ensures behind { IfSome result (λ rest. (grammar.mark mark).read tokens.now ≡ Some (tt, rest.now)) }
+{
+    match tokens {
+        [Token::Mark(first), rest @ ..] if first.is(mark) => Some(rest),
+        _ => None,
+    }
+}
 
 fn is_utf8(bytes: &[u8]) -> bool
     ensures { result ≡ is_utf8 bytes.now }

@@ -73,14 +73,20 @@ pub(crate) fn put_bracketed<P: Printed>(
     out.extend_from_slice(b")")
 }
 
+fn put_quoted_byte(out: &mut Vec<u8>, byte: u8) -> Result<(), AllocError>
+    ensures { OnOk result (out.new.items ≡ out.old.items ++ quoted_byte byte) }
+{
+    if byte == b'\'' {
+        return out.extend_from_slice(b"''");
+    }
+    out.extend_from_slice(&[byte])
+}
+
 fn put_doubled(out: &mut Vec<u8>, bytes: &[u8]) -> Result<(), AllocError>
     ensures { OnOk result (out.new.items ≡ out.old.items ++ flat_map quoted_byte bytes.now) }
 {
     for byte in bytes {
-        if *byte == b'\'' {
-            out.push(b'\'')?;
-        }
-        out.push(*byte)?;
+        put_quoted_byte(out, *byte)?;
     }
     Ok(())
 }

@@ -14,8 +14,7 @@ fn put_columns(alloc: Global, out: &mut Vec<u8>, columns: &[Column]) -> Result<(
     ensures { OnOk result (out.new.items ≡ out.old.items ++ spec.columns_text columns.now) }
 {
     out.extend_from_slice(b" ")?;
-    put_bracketed(alloc, out, columns)?;
-    Ok(())
+    put_bracketed(alloc, out, columns)
 }
 
 fn put_create_table(alloc: Global, out: &mut Vec<u8>, table: &Table) -> Result<(), AllocError>
@@ -42,8 +41,7 @@ fn put_target(out: &mut Vec<u8>, synonym: &Synonym) -> Result<(), AllocError>
     out.extend_from_slice(b" FOR ")?;
     out.extend_from_slice(synonym.table.as_bytes())?;
     out.extend_from_slice(b"@")?;
-    out.extend_from_slice(synonym.link.as_bytes())?;
-    Ok(())
+    out.extend_from_slice(synonym.link.as_bytes())
 }
 
 fn put_create_synonym(out: &mut Vec<u8>, synonym: &Synonym) -> Result<(), AllocError>
@@ -59,8 +57,7 @@ fn put_values(alloc: Global, out: &mut Vec<u8>, values: &[Sum]) -> Result<(), Al
     ensures { OnOk result (out.new.items ≡ out.old.items ++ spec.values_text values.now) }
 {
     out.extend_from_slice(b" VALUES ")?;
-    put_bracketed(alloc, out, values)?;
-    Ok(())
+    put_bracketed(alloc, out, values)
 }
 
 fn put_insert(
@@ -137,8 +134,7 @@ fn put_select(
 {
     out.extend_from_slice(b"SELECT ")?;
     put_picked(alloc, out, list)?;
-    put_source(alloc, out, table, conds, for_update)?;
-    Ok(())
+    put_source(alloc, out, table, conds, for_update)
 }
 
 fn put_commit(out: &mut Vec<u8>, comment: &Option<Bytes>) -> Result<(), AllocError>

@@ -1,19 +1,19 @@
 //! SELECT, as it is read.
-ghost use Rattle.std.specs.Prelude.{◌≡◌, codes};
+ghost use Rattle.std.specs.Prelude.{◌≡◌};
 ghost use Rattle.token_grammar.specs.Gives.{Gives};
-ghost use Rattle.token_grammar.specs.Grammar.{is_word, word, ◌▹◌};
-ghost use Rattle.sql_parse.specs.Parts.{stands};
+ghost use Rattle.token_grammar.specs.Grammar.{◌·◌};
+ghost use Rattle.sql_parse.specs.Conditions.{conditions};
 ghost use Rattle.sql_parse.specs.Changes as spec;
 
 use crate::conditions::take_conditions;
 use crate::lists::ColumnName;
 use crate::literals::take_table_ref;
+use crate::parts::{behind_mark, behind_word};
 use dtx_values::Listing;
-use sql_statement::{Picked, Stmt};
+use sql_statement::{Conds, Picked, Stmt, TableRef};
 use std::alloc::Global;
 use token_grammar::{
-    Mark, ReadErr, Token, begins_mark, begins_word, begins_word_mark, commas, take_identifier,
-    take_mark, take_word,
+    Mark, ReadErr, Token, begins_word_mark, commas, take_identifier, take_mark, take_word,
 };
 
 /// The most columns of a list.
@@ -53,8 +53,8 @@ fn take_columns(alloc: Global, tokens: &[Token]) -> Result<(Picked, &[Token]), R
 fn take_picked(alloc: Global, tokens: &[Token]) -> Result<(Picked, &[Token]), ReadErr>
     ensures { Gives (λ x. (x.0, x.1.now)) result (spec.picks.read tokens.now) }
 {
-    if begins_mark(tokens, Mark::Star) {
-        return Ok((Picked::All, take_mark(tokens, Mark::Star)?));
+    if let Some(rest) = behind_mark(tokens, Mark::Star) {
+        return Ok((Picked::All, rest));
     }
     if begins_word_mark(tokens, b"COUNT", Mark::Open) {
         return take_count(tokens);
@@ -66,20 +66,47 @@ fn take_picked(alloc: Global, tokens: &[Token]) -> Result<(Picked, &[Token]), Re
 }
 
 fn take_for_update(tokens: &[Token]) -> Result<(bool, &[Token]), ReadErr>
-    ensures { Gives (λ x. (x.0, x.1.now)) result ((stands (is_word (codes "FOR")) (word (codes "FOR") ▹ word (codes "UPDATE"))).read tokens.now) }
+    ensures { Gives (λ x. (x.0, x.1.now)) result (spec.for_update_part.read tokens.now) }
 {
-    if !begins_word(tokens, b"FOR") {
+    let Some(rest) = behind_word(tokens, b"FOR") else {
         return Ok((false, tokens));
-    }
-    let rest = take_word(tokens, b"FOR")?;
+    };
     let rest = take_word(rest, b"UPDATE")?;
     Ok((true, rest))
+}
+
+// Which rows are asked for, and whether they are locked.
+fn take_rows(alloc: Global, tokens: &[Token]) -> Result<((Conds, bool), &[Token]), ReadErr>
+    ensures { Gives (λ x. (x.0, x.1.now)) result ((conditions · spec.for_update_part).read tokens.now) }
+{
+    let (conds, rest) = take_conditions(alloc, tokens)?;
+    let (for_update, rest) = take_for_update(rest)?;
+    Ok(((conds, for_update), rest))
+}
+
+// The table behind FROM, and which of its rows.
+fn take_source(
+    alloc: Global,
+    tokens: &[Token],
+) -> Result<((TableRef, (Conds, bool)), &[Token]), ReadErr>
+    ensures { Gives (λ x. (x.0, x.1.now)) result (spec.source.read tokens.now) }
+{
+    let rest = take_word(tokens, b"FROM")?;
+    let (table, rest) = take_table_ref(alloc, rest)?;
+    let (rows, rest) = take_rows(alloc, rest)?;
+    Ok(((table, rows), rest))
 }
 
 fn is_of_rows(list: &Picked) -> bool
     ensures { result ≡ spec.is_of_rows list.now }
 {
     matches!(list, Picked::All | Picked::Columns(_))
+}
+
+fn is_lockable(list: &Picked, for_update: bool) -> bool
+    ensures { result ≡ spec.is_lockable list.now for_update }
+{
+    !for_update || is_of_rows(list)
 }
 
 /// SELECT, with FOR UPDATE where rows are asked for.
@@ -89,11 +116,8 @@ pub(crate) fn take_select(alloc: Global, tokens: &[Token]) -> Result<(Stmt, &[To
 {
     let rest = take_word(tokens, b"SELECT")?;
     let (list, rest) = take_picked(alloc, rest)?;
-    let rest = take_word(rest, b"FROM")?;
-    let (table, rest) = take_table_ref(alloc, rest)?;
-    let (conds, rest) = take_conditions(alloc, rest)?;
-    let (for_update, rest) = take_for_update(rest)?;
-    if for_update && !is_of_rows(&list) {
+    let ((table, (conds, for_update)), rest) = take_source(alloc, rest)?;
+    if !is_lockable(&list, for_update) {
         return Err(ReadErr::Bad);
     }
     Ok((

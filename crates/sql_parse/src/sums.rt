@@ -43,15 +43,6 @@ fn take_minus(tokens: &[Token]) -> Result<(bool, &[Token]), ReadErr>
     }
 }
 
-#[tactic(auto, unfolding(crate::specs::Literals::step))]
-fn take_step(alloc: Global, tokens: &[Token]) -> Result<(Step, &[Token]), ReadErr>
-    ensures { Gives (λ x. (x.0, x.1.now)) result (spec.step.read tokens.now) }
-{
-    let (minus, rest) = take_minus(tokens)?;
-    let (term, rest) = take_term(alloc, rest)?;
-    Ok((Step { minus, term }, rest))
-}
-
 /// A term behind its sign.
 struct SignedTerm;
 
@@ -66,8 +57,11 @@ impl Repeated for SignedTerm {
         matches!(tokens, [Token::Mark(Mark::Plus | Mark::Minus), ..])
     }
 
+    #[tactic(auto, unfolding(crate::specs::Literals::step))]
     fn take(alloc: Global, tokens: &[Token]) -> Result<(Step, &[Token]), ReadErr> {
-        take_step(alloc, tokens)
+        let (minus, rest) = take_minus(tokens)?;
+        let (term, rest) = take_term(alloc, rest)?;
+        Ok((Step { minus, term }, rest))
     }
 }
 

@@ -6,12 +6,12 @@ ghost use Rattle.token_grammar.specs.Grammar.{meant, optional, is_word, is_mark,
 ghost use Rattle.sql_parse.specs.Transactions as spec;
 ghost use Rattle.sql_statement.specs.Limits.{largest_scn};
 
-use crate::parts::take_text;
+use crate::parts::{behind_mark, behind_word, take_text};
 use dtx_values::{Advice, Bytes};
 use sql_statement::Stmt;
 use std::alloc::Global;
 use token_grammar::{
-    Mark, ReadErr, Token, begins_mark, begins_word, maybe_word, take_mark, take_number, take_word,
+    Mark, ReadErr, Token, begins_word, maybe_word, take_mark, take_number, take_word,
 };
 
 /// The most bytes of a comment.
@@ -26,10 +26,9 @@ const LARGEST_SCN: u64 = (1 << 48) - 1;
 fn take_plain_commit(alloc: Global, tokens: &[Token]) -> Result<(Stmt, &[Token]), ReadErr>
     ensures { Gives (λ x. (x.0, x.1.now)) result (spec.plain_commit.read tokens.now) }
 {
-    if !begins_word(tokens, b"COMMENT") {
+    let Some(rest) = behind_word(tokens, b"COMMENT") else {
         return Ok((Stmt::Commit { comment: None }, tokens));
-    }
-    let rest = take_word(tokens, b"COMMENT")?;
+    };
     let (comment, rest) = take_text(alloc, rest, COMMENT_LIMIT)?;
     let comment = Some(comment);
     Ok((Stmt::Commit { comment }, rest))
@@ -38,10 +37,9 @@ fn take_plain_commit(alloc: Global, tokens: &[Token]) -> Result<(Stmt, &[Token])
 fn maybe_scn(tokens: &[Token]) -> Result<(Option<u64>, &[Token]), ReadErr>
     ensures { Gives (λ x. (x.0, x.1.now)) result ((optional (is_mark marks.Comma) (mark marks.Comma ▹ number_to largest_scn)).read tokens.now) }
 {
-    if !begins_mark(tokens, Mark::Comma) {
+    let Some(rest) = behind_mark(tokens, Mark::Comma) else {
         return Ok((None, tokens));
-    }
-    let rest = take_mark(tokens, Mark::Comma)?;
+    };
     let (scn, rest) = take_number(rest, LARGEST_SCN)?;
     Ok((Some(scn), rest))
 }
@@ -75,27 +73,33 @@ pub(crate) fn take_rollback(alloc: Global, tokens: &[Token]) -> Result<(Stmt, &[
 {
     let rest = take_word(tokens, b"ROLLBACK")?;
     let rest = maybe_word(rest, b"WORK");
-    if !begins_word(rest, b"FORCE") {
+    let Some(behind) = behind_word(rest, b"FORCE") else {
         return Ok((Stmt::Rollback, rest));
-    }
-    let rest = take_word(rest, b"FORCE")?;
-    let (id, rest) = take_text(alloc, rest, ID_LIMIT)?;
+    };
+    let (id, rest) = take_text(alloc, behind, ID_LIMIT)?;
     Ok((Stmt::RollbackForce { id }, rest))
+}
+
+fn advice_of(word: &[u8]) -> Result<Option<Advice>, ReadErr>
+    ensures { Gives (λ advice. advice) result (spec.advice_of word.now) }
+{
+    if word == b"COMMIT".as_slice() {
+        return Ok(Some(Advice::Commit));
+    }
+    if word == b"ROLLBACK".as_slice() {
+        return Ok(Some(Advice::Rollback));
+    }
+    if word == b"NOTHING".as_slice() {
+        return Ok(None);
+    }
+    Err(ReadErr::Bad)
 }
 
 fn take_advice(tokens: &[Token]) -> Result<(Option<Advice>, &[Token]), ReadErr>
     ensures { Gives (λ x. (x.0, x.1.now)) result ((meant spec.advice_in).read tokens.now) }
 {
     match tokens {
-        [Token::Word(word), rest @ ..] if word.as_slice() == b"COMMIT".as_slice() => {
-            Ok((Some(Advice::Commit), rest))
-        }
-        [Token::Word(word), rest @ ..] if word.as_slice() == b"ROLLBACK".as_slice() => {
-            Ok((Some(Advice::Rollback), rest))
-        }
-        [Token::Word(word), rest @ ..] if word.as_slice() == b"NOTHING".as_slice() => {
-            Ok((None, rest))
-        }
+        [Token::Word(word), rest @ ..] => Ok((advice_of(word.as_slice())?, rest)),
         _ => Err(ReadErr::Bad),
     }
 }
@@ -109,16 +113,23 @@ fn take_advise(tokens: &[Token]) -> Result<(Stmt, &[Token]), ReadErr>
     Ok((Stmt::Advise(advice), rest))
 }
 
+fn switch_of(word: &[u8]) -> Result<bool, ReadErr>
+    ensures { Gives (λ on. on) result (spec.switch_of word.now) }
+{
+    if word == b"ENABLE".as_slice() {
+        return Ok(true);
+    }
+    if word == b"DISABLE".as_slice() {
+        return Ok(false);
+    }
+    Err(ReadErr::Bad)
+}
+
 fn take_switch(tokens: &[Token]) -> Result<(bool, &[Token]), ReadErr>
     ensures { Gives (λ x. (x.0, x.1.now)) result ((meant spec.switch_in).read tokens.now) }
 {
     match tokens {
-        [Token::Word(word), rest @ ..] if word.as_slice() == b"ENABLE".as_slice() => {
-            Ok((true, rest))
-        }
-        [Token::Word(word), rest @ ..] if word.as_slice() == b"DISABLE".as_slice() => {
-            Ok((false, rest))
-        }
+        [Token::Word(word), rest @ ..] => Ok((switch_of(word.as_slice())?, rest)),
         _ => Err(ReadErr::Bad),
     }
 }
@@ -157,8 +168,7 @@ fn take_argument(alloc: Global, tokens: &[Token]) -> Result<(Bytes, &[Token]), R
 fn take_purge(alloc: Global, tokens: &[Token]) -> Result<(Stmt, &[Token]), ReadErr>
     ensures { Gives (λ x. (x.0, x.1.now)) result (spec.purge.read tokens.now) }
 {
-    if begins_word(tokens, b"DBMS_TRANSACTION.PURGE_MIXED") {
-        let rest = take_word(tokens, b"DBMS_TRANSACTION.PURGE_MIXED")?;
+    if let Some(rest) = behind_word(tokens, b"DBMS_TRANSACTION.PURGE_MIXED") {
         let (id, rest) = take_argument(alloc, rest)?;
         return Ok((Stmt::PurgeMixed { id }, rest));
     }
