@@ -265,13 +265,14 @@ fn is_value_taken(
 #[test]
 fn values_are_written_and_taken(rt: HostRuntime) -> Result<(), Fail> {
     let alloc = rt.alloc();
+    let text = text_of(alloc, b"BOLT")?;
     let behind = [1, 255, 255, 255, 255, 255, 255, 255, 255, 2];
     for (value, bytes, taken, left) in [
-        (Value::Number(-1), NUMBER.as_slice(), behind.as_slice(), 1),
-        (text_of(alloc, b"BOLT")?, &BOLT, &BOLT, 0),
+        (&Value::Number(-1), NUMBER.as_slice(), behind.as_slice(), 1),
+        (&text, &BOLT, &BOLT, 0),
     ] {
-        assert!(rt; is_value_written(alloc, &value, bytes)?);
-        assert!(rt; is_value_taken(alloc, taken, &value, left)?);
+        assert!(rt; is_value_written(alloc, value, bytes)?);
+        assert!(rt; is_value_taken(alloc, taken, value, left)?);
     }
     Ok(())
 }
@@ -285,13 +286,14 @@ fn keeps_branches(alloc: Global) -> Result<bool, TakeErr> {
     Ok(out.as_slice() == BRANCH_BYTES.as_slice() && branch == BRANCH && rest.is_empty())
 }
 
-/// Whether the name is taken from what it is written as.
-fn keeps_names(alloc: Global, name: &Name) -> Result<bool, TakeErr> {
-    name_fits(name);
+/// Whether a name is taken from what it is written as.
+fn keeps_names(alloc: Global) -> Result<bool, Fail> {
+    let name = name_of(alloc, b"hq")?;
+    name_fits(&name);
     let mut out = Vec::new(alloc);
-    put_name(&mut out, name)?;
+    put_name(&mut out, &name)?;
     let (taken, rest) = take_name(alloc, &out)?;
-    Ok(taken.is(name) && rest.is_empty())
+    Ok(taken.is(&name) && rest.is_empty())
 }
 
 /// Whether a row is written as the bytes that it is taken from, and the byte behind them is left.
@@ -314,9 +316,8 @@ fn keeps_changes(alloc: Global, bytes: &[u8]) -> Result<bool, TakeErr> {
 #[test]
 fn parts_are_written_and_taken(rt: HostRuntime) -> Result<(), Fail> {
     let alloc = rt.alloc();
-    let name = name_of(alloc, b"hq")?;
     assert!(rt; keeps_branches(alloc)?);
-    assert!(rt; keeps_names(alloc, &name)?);
+    assert!(rt; keeps_names(alloc)?);
     assert!(rt; keeps_rows(alloc)?);
     assert!(rt; keeps_changes(alloc, &CHANGE)?);
     assert!(rt; keeps_changes(alloc, b"\x01T\x02\x00\x01a\x00")?);
