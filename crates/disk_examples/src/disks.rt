@@ -23,20 +23,30 @@ fn abcd(alloc: Global) -> Result<MemDisk, Fail> {
     Ok(disk)
 }
 
+/// Whether the disk holds these bytes.
+fn holds(disk: &MemDisk, bytes: &[u8]) -> bool {
+    disk.bytes() == bytes
+}
+
 #[test]
 fn bytes_stand_where_they_were_written(rt: HostRuntime) -> Result<(), Fail> {
     let mut disk = abcd(rt.alloc())?;
-    put(&mut disk, 3, b"XY")?;
-    put(&mut disk, 1, b"z")?;
-    put(&mut disk, 5, b"e")?;
-    assert_eq!(rt; disk.bytes(), b"azcXYe".as_slice());
+    for (at, bytes) in [(3, b"XY".as_slice()), (1, b"z"), (5, b"e")] {
+        put(&mut disk, at, bytes)?;
+    }
+    assert!(rt; holds(&disk, b"azcXYe"));
     Ok(())
+}
+
+/// Whether the disk has this length.
+fn is_as_long(mut disk: MemDisk, length: u64) -> Result<bool, Failed> {
+    Ok(disk.len()? == length)
 }
 
 #[test]
 fn a_disk_has_a_length(rt: HostRuntime) -> Result<(), Fail> {
-    assert_eq!(rt; MemDisk::new(rt.alloc()).len()?, 0);
-    assert_eq!(rt; abcd(rt.alloc())?.len()?, 4);
+    assert!(rt; is_as_long(MemDisk::new(rt.alloc()), 0)?);
+    assert!(rt; is_as_long(abcd(rt.alloc())?, 4)?);
     Ok(())
 }
 
@@ -50,17 +60,18 @@ fn three_at(disk: &mut MemDisk, at: u8) -> Result<[u8; 3], Fail> {
     Ok(part)
 }
 
-#[test]
-fn a_part_is_read(rt: HostRuntime) -> Result<(), Fail> {
-    let mut disk = abcd(rt.alloc())?;
-    assert_eq!(rt; three_at(&mut disk, 0)?, *b"abc");
-    assert_eq!(rt; three_at(&mut disk, 1)?, *b"bcd");
-    Ok(())
+/// Reads no bytes of a new disk.
+fn read_nothing(alloc: Global) -> Result<(), Failed> {
+    MemDisk::new(alloc).read(0, &mut [])
 }
 
 #[test]
-fn nothing_is_read_at_the_end(rt: HostRuntime) -> Result<(), Fail> {
-    MemDisk::new(rt.alloc()).read(0, &mut [])?;
+fn a_part_is_read(rt: HostRuntime) -> Result<(), Fail> {
+    read_nothing(rt.alloc())?;
+    let mut disk = abcd(rt.alloc())?;
+    for (at, part) in [(0, *b"abc"), (1, *b"bcd")] {
+        assert!(rt; three_at(&mut disk, at)? == part);
+    }
     Ok(())
 }
 
@@ -74,24 +85,33 @@ fn put_twice(disk: &mut MemDisk) -> Result<(), Fail> {
     Ok(())
 }
 
+/// How many bytes a disk holds, and how many of them are 1.
+fn counts(disk: &MemDisk) -> (usize, usize) {
+    let bytes = disk.bytes();
+    (bytes.len(), bytes.iter().filter(|byte| **byte == 1).count())
+}
+
 #[test]
 fn a_log_of_a_mebibyte_is_written(rt: HostRuntime) -> Result<(), Fail> {
     let mut disk = MemDisk::new(rt.alloc());
     for _ in 0..16384 {
         put_twice(&mut disk)?;
     }
-    let bytes = disk.bytes();
-    assert_eq!(rt; bytes.len(), 1_048_576);
-    assert_eq!(rt; bytes.iter().filter(|byte| **byte == 1).count(), 16384);
+    assert!(rt; counts(&disk) == (1_048_576, 16384));
     Ok(())
+}
+
+/// Whether the disk has room for so many bytes more.
+fn has_room(disk: &mut MemDisk, more: u64) -> bool {
+    disk.room(more).is_ok()
 }
 
 #[test]
 fn more_room_than_there_is_leaves_the_disk_as_it_was(rt: HostRuntime) -> Result<(), Fail> {
     let mut disk = abcd(rt.alloc())?;
-    assert!(rt; disk.room(u64::MAX).is_err());
+    assert!(rt; !has_room(&mut disk, u64::MAX));
     put(&mut disk, 4, b"e")?;
-    assert_eq!(rt; disk.bytes(), b"abcde".as_slice());
+    assert!(rt; holds(&disk, b"abcde"));
     Ok(())
 }
 
@@ -105,11 +125,17 @@ fn append<D: Disk>(disk: &mut D, bytes: &[u8]) -> Result<(), Failed>
     disk.sync()
 }
 
+/// Writes `ef` behind all that a disk in memory holds.
+fn append_ef(disk: &mut MemDisk) -> Result<(), Fail> {
+    disk.room(2)?;
+    append(disk, b"ef")?;
+    Ok(())
+}
+
 #[test]
 fn code_over_any_disk_runs_over_one_in_memory(rt: HostRuntime) -> Result<(), Fail> {
     let mut disk = abcd(rt.alloc())?;
-    disk.room(2)?;
-    append(&mut disk, b"ef")?;
-    assert_eq!(rt; disk.bytes(), b"abcdef".as_slice());
+    append_ef(&mut disk)?;
+    assert!(rt; holds(&disk, b"abcdef"));
     Ok(())
 }

@@ -3,7 +3,7 @@ ghost use Rattle.std.specs.Prelude.{◌≡◌, ◌<◌, ◌^◌, length, IfOk};
 ghost use Rattle.redo_log.specs.Log.{IsUsable};
 
 use block_disk::{Disk, MemDisk};
-use redo_log::{Bodies, LoadErr, LoadWhy, Log, LogErr, cell, count};
+use redo_log::{LoadErr, LoadWhy, Log, LogErr, cell, count};
 use std::alloc::Global;
 use std::test::Fail;
 
@@ -38,19 +38,26 @@ fn append(log: &mut Log<MemDisk>, body: &[u8]) -> Result<(), LogErr>
     log.append(body)
 }
 
-#[test]
-fn a_new_log_is_a_closed_gate(rt: HostRuntime) -> Result<(), Fail> {
-    let log = new_log(rt.alloc())?;
-    assert_eq!(rt; log.disk().bytes(), b"\x00".as_slice());
-    Ok(())
+/// Whether the log is laid out as these bytes.
+fn is_laid_out(log: &Log<MemDisk>, bytes: &[u8]) -> bool {
+    log.disk().bytes() == bytes
 }
 
 #[test]
 fn a_cell_is_a_gate_a_length_and_a_body(rt: HostRuntime) -> Result<(), Fail> {
     let mut log = new_log(rt.alloc())?;
+    assert!(rt; is_laid_out(&log, b"\x00"), "a closed gate alone");
     append(&mut log, b"ab")?;
-    assert_eq!(rt; log.disk().bytes(), ONE_BODY.as_slice());
+    assert!(rt; is_laid_out(&log, &ONE_BODY));
     Ok(())
+}
+
+/// Whether the log is of the bodies `ab` and 258 bytes of 0.
+fn has_two_cells(log: &Log<MemDisk>) -> bool {
+    let bytes = log.disk().bytes();
+    bytes.starts_with(b"\x01\x00\x00\x00\x02ab\x01\x00\x00\x01\x02\x00")
+        && bytes.len() == 271
+        && bytes.last() == Some(&0)
 }
 
 #[test]
@@ -58,26 +65,19 @@ fn a_cell_stands_behind_another(rt: HostRuntime) -> Result<(), Fail> {
     let mut log = new_log(rt.alloc())?;
     append(&mut log, b"ab")?;
     append(&mut log, &[0; 258])?;
-    let bytes = log.disk().bytes();
-    assert!(rt; bytes.starts_with(b"\x01\x00\x00\x00\x02ab\x01\x00\x00\x01\x02\x00"));
-    assert_eq!(rt; bytes.len(), 271);
-    assert_eq!(rt; bytes.last(), Some(&0));
+    assert!(rt; has_two_cells(&log));
     Ok(())
 }
 
-/// The log of these bytes, with its bodies.
-fn load(alloc: Global, bytes: &[u8]) -> Result<(Log<MemDisk>, Bodies), Fail>
-    requires { 0 < length bytes.now }
-{
-    Ok(Log::load(alloc, disk_of(alloc, bytes)?)?)
+/// Whether the log of `ab` is loaded with its body, and its disk is as it was.
+fn is_loaded(alloc: Global) -> Result<bool, Fail> {
+    let (log, bodies) = Log::load(alloc, disk_of(alloc, &ONE_BODY)?)?;
+    Ok(is_laid_out(&log, &ONE_BODY) && bodies.len() == 1 && bodies.at(0) == b"ab".as_slice())
 }
 
 #[test]
 fn a_log_is_loaded_with_its_bodies(rt: HostRuntime) -> Result<(), Fail> {
-    let (log, bodies) = load(rt.alloc(), &ONE_BODY)?;
-    assert_eq!(rt; bodies.len(), 1);
-    assert_eq!(rt; bodies.at(0), b"ab".as_slice());
-    assert_eq!(rt; log.disk().bytes(), ONE_BODY.as_slice());
+    assert!(rt; is_loaded(rt.alloc())?);
     Ok(())
 }
 
@@ -85,13 +85,14 @@ fn a_log_is_loaded_with_its_bodies(rt: HostRuntime) -> Result<(), Fail> {
 fn count_behind(alloc: Global, gate: u8) -> Result<usize, Fail> {
     let mut bytes = ONE_BODY;
     bytes[0] = gate;
-    Ok(load(alloc, &bytes)?.1.len())
+    let (_log, bodies) = Log::load(alloc, disk_of(alloc, &bytes)?)?;
+    Ok(bodies.len())
 }
 
 #[test]
 fn nothing_counts_behind_a_closed_gate(rt: HostRuntime) -> Result<(), Fail> {
     for gate in [0, 2, 255] {
-        assert_eq!(rt; count_behind(rt.alloc(), gate)?, 0, "{gate}");
+        assert!(rt; count_behind(rt.alloc(), gate)? == 0, "{gate}");
     }
     Ok(())
 }
@@ -110,12 +111,8 @@ fn is_no_log(alloc: Global, disk: MemDisk) -> bool
 }
 
 #[test]
-fn an_empty_disk_is_no_log(rt: HostRuntime) {
-    assert!(rt; is_no_log(rt.alloc(), MemDisk::new(rt.alloc())));
-}
-
-#[test]
 fn bytes_without_a_closed_gate_are_no_log(rt: HostRuntime) -> Result<(), Fail> {
+    assert!(rt; is_no_log(rt.alloc(), MemDisk::new(rt.alloc())));
     let disk = disk_of(rt.alloc(), &ONE_BODY[..7])?;
     assert!(rt; is_no_log(rt.alloc(), disk));
     Ok(())
@@ -125,22 +122,40 @@ fn bytes_without_a_closed_gate_are_no_log(rt: HostRuntime) -> Result<(), Fail> {
 fn a_body_of_more_than_16_mebibytes_is_too_long(rt: HostRuntime) -> Result<(), Fail> {
     let mut log = new_log(rt.alloc())?;
     let body = vec![in rt.alloc(); 0; 16_777_217]?;
-    assert_eq!(rt; append(&mut log, &body), Err(LogErr::TooLong));
-    assert_eq!(rt; log.disk().bytes(), b"\x00".as_slice());
+    assert!(rt; matches!(append(&mut log, &body), Err(LogErr::TooLong)));
+    assert!(rt; is_laid_out(&log, b"\x00"));
     Ok(())
+}
+
+/// Whether so many bodies count in these bytes.
+fn has_bodies(bytes: &[u8], wanted: Option<u64>) -> bool {
+    count(bytes) == wanted
 }
 
 #[test]
 fn plain_bytes_are_counted(rt: HostRuntime) {
-    assert_eq!(rt; count(&ONE_BODY), Some(1));
-    assert_eq!(rt; count(&ONE_BODY[..7]), None);
-    assert_eq!(rt; count(&[0, 1]), Some(0));
+    for (bytes, wanted) in [
+        (ONE_BODY.as_slice(), Some(1)),
+        (&ONE_BODY[..7], None),
+        (&[0, 1], Some(0)),
+    ] {
+        assert!(rt; has_bodies(bytes, wanted));
+    }
+}
+
+/// Whether the cell of this number in these bytes has this body, or there is none.
+fn has_cell(bytes: &[u8], number: u64, body: Option<&[u8]>) -> bool {
+    cell(bytes, number) == body
 }
 
 #[test]
 fn plain_bytes_are_numbered(rt: HostRuntime) {
-    for (number, body) in [(0, None), (1, Some(b"ab".as_slice())), (2, None)] {
-        assert_eq!(rt; cell(&ONE_BODY, number), body);
+    for (bytes, number, body) in [
+        (ONE_BODY.as_slice(), 0, None),
+        (&ONE_BODY, 1, Some(b"ab".as_slice())),
+        (&ONE_BODY, 2, None),
+        (&ONE_BODY[..7], 1, None),
+    ] {
+        assert!(rt; has_cell(bytes, number, body));
     }
-    assert_eq!(rt; cell(&ONE_BODY[..7], 1), None);
 }

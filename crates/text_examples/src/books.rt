@@ -122,11 +122,28 @@ fn order_book(alloc: Global) -> Result<Vec<Entry>, Fail> {
     Ok(book)
 }
 
+/// Whether the book of the order is printed as it is to be.
+fn is_order_printed(alloc: Global, book: &[Entry]) -> Result<bool, Fail> {
+    let names = names(alloc)?;
+    let text = book_text(alloc, book, &names)?;
+    Ok(text.as_slice() == TEXT.as_bytes())
+}
+
 /// How many lines a book has.
 fn line_count(alloc: Global, book: &[Entry]) -> Result<usize, Fail> {
     let names = names(alloc)?;
     let lines = book_lines(alloc, book, &names)?;
     Ok(lines.as_slice().len())
+}
+
+#[test]
+fn the_book_of_a_commit_is_printed(rt: HostRuntime) -> Result<(), Fail> {
+    let alloc = rt.alloc();
+    let book = order_book(alloc)?;
+    assert!(rt; is_order_printed(alloc, &book)?);
+    assert_eq!(rt; line_count(alloc, &book)?, 9);
+    assert_eq!(rt; line_count(alloc, &[])?, 1, "of no entry");
+    Ok(())
 }
 
 fn is_printed(alloc: Global, entry: &Entry, due: &[u8]) -> Result<bool, Fail> {
@@ -135,42 +152,13 @@ fn is_printed(alloc: Global, entry: &Entry, due: &[u8]) -> Result<bool, Fail> {
     Ok(text.as_slice() == due)
 }
 
-/// How many entries a turn of HQ has.
-fn entry_count(alloc: Global, wrote: &Option<RedoRecord>) -> Result<usize, AllocError> {
-    Ok(entries(alloc, HQ, wrote)?.len())
-}
-
 #[test]
-fn the_book_of_a_commit_is_printed(rt: HostRuntime) -> Result<(), Fail> {
-    let alloc = rt.alloc();
-    let book = order_book(alloc)?;
-    let names = names(alloc)?;
-    let text = book_text(alloc, &book, &names)?;
-    assert_eq!(rt; text.as_slice(), TEXT.as_bytes());
-    Ok(())
-}
-
-#[test]
-fn a_book_has_a_line_for_each_entry(rt: HostRuntime) -> Result<(), Fail> {
-    let alloc = rt.alloc();
-    let book = order_book(alloc)?;
-    assert_eq!(rt; line_count(alloc, &book)?, 9);
-    assert_eq!(rt; line_count(alloc, &[])?, 1);
-    Ok(())
-}
-
-#[test]
-fn a_forced_outcome_is_printed(rt: HostRuntime) -> Result<(), Fail> {
+fn other_outcomes_are_printed(rt: HostRuntime) -> Result<(), Fail> {
     let forced = Entry::Forced {
         branch: branch(HQ, 65),
         outcome: Decision::Rollback,
     };
     assert!(rt; is_printed(rt.alloc(), &forced, b"forced HQ 1.65.1 rollback")?);
-    Ok(())
-}
-
-#[test]
-fn a_mixed_outcome_is_printed(rt: HostRuntime) -> Result<(), Fail> {
     let met = Entry::Met {
         branch: branch(HQ, 65),
         decision: Decision::Commit(2),
@@ -180,21 +168,21 @@ fn a_mixed_outcome_is_printed(rt: HostRuntime) -> Result<(), Fail> {
     Ok(())
 }
 
-#[test]
-fn a_turn_without_an_outcome_has_no_entry(rt: HostRuntime) -> Result<(), Fail> {
-    let alloc = rt.alloc();
-    assert_eq!(rt; entry_count(alloc, &None)?, 0);
-    let forgot = Some(RedoRecord::Forgot(branch(HQ, 65)));
-    assert_eq!(rt; entry_count(alloc, &forgot)?, 0);
-    Ok(())
+/// How many entries a turn of HQ has.
+fn entry_count(alloc: Global, wrote: &Option<RedoRecord>) -> Result<usize, AllocError> {
+    Ok(entries(alloc, HQ, wrote)?.len())
 }
 
 #[test]
-fn a_turn_has_the_entry_of_its_record(rt: HostRuntime) -> Result<(), Fail> {
-    let ended = Some(RedoRecord::Ended {
-        me: branch(HQ, 65),
-        decision: Decision::Rollback,
-    });
-    assert_eq!(rt; entry_count(rt.alloc(), &ended)?, 1);
+fn a_turn_has_the_entry_of_its_outcome(rt: HostRuntime) -> Result<(), Fail> {
+    let me = branch(HQ, 65);
+    let decision = Decision::Rollback;
+    for (wrote, count) in [
+        (None, 0),
+        (Some(RedoRecord::Forgot(me)), 0),
+        (Some(RedoRecord::Ended { me, decision }), 1),
+    ] {
+        assert_eq!(rt; entry_count(rt.alloc(), &wrote)?, count);
+    }
     Ok(())
 }

@@ -52,23 +52,30 @@ fn number_in(alloc: Global, text: &str, limit: u64) -> Result<Option<u64>, Fail>
     }
 }
 
+/// Texts and limits, each with the number that the text is within the limit.
+const NUMBERS: [(&str, u64, Option<u64>); 12] = [
+    ("0", 0, Some(0)),
+    ("007", 64, Some(7)),
+    ("64", 64, Some(64)),
+    ("65", 64, None),
+    ("18446744073709551614", u64::MAX - 1, Some(u64::MAX - 1)),
+    ("18446744073709551615", u64::MAX - 1, None),
+    ("18446744073709551617", 64, None),
+    ("100000000000000000000000000000000000000000", 64, None),
+    ("-1", 64, None),
+    ("1e3", 64, None),
+    ("1.5", 64, None),
+    ("", 64, None),
+];
+
+fn is_number(alloc: Global, text: &str, limit: u64, want: Option<u64>) -> Result<bool, Fail> {
+    Ok(number_in(alloc, text, limit)? == want)
+}
+
 #[test]
 fn reads_numbers_up_to_a_limit(rt: HostRuntime) -> Result<(), Fail> {
-    for (text, limit, want) in [
-        ("0", 0, Some(0)),
-        ("007", 64, Some(7)),
-        ("64", 64, Some(64)),
-        ("65", 64, None),
-        ("18446744073709551614", u64::MAX - 1, Some(u64::MAX - 1)),
-        ("18446744073709551615", u64::MAX - 1, None),
-        ("18446744073709551617", 64, None),
-        ("100000000000000000000000000000000000000000", 64, None),
-        ("-1", 64, None),
-        ("1e3", 64, None),
-        ("1.5", 64, None),
-        ("", 64, None),
-    ] {
-        assert_eq!(rt; number_in(rt.alloc(), text, limit)?, want, "{text}");
+    for (text, limit, want) in NUMBERS {
+        assert!(rt; is_number(rt.alloc(), text, limit, want)?, "{text}");
     }
     Ok(())
 }
@@ -88,11 +95,15 @@ fn is_refused(alloc: Global, text: &str) -> bool {
     matches!(&taken(alloc, text), Err(CommandErr::BadCommand))
 }
 
+/// Whether the text gives this name and this number.
+fn gives(alloc: Global, text: &str, name: &[u8], number: u64) -> Result<bool, CommandErr> {
+    let (found_name, found_number) = taken(alloc, text)?;
+    Ok(found_name.as_slice() == name && found_number == number)
+}
+
 #[test]
 fn reads_a_form_item_by_item(rt: HostRuntime) -> Result<(), Fail> {
-    let (name, number) = taken(rt.alloc(), "at hq.Acme\n take 7")?;
-    assert_eq!(rt; name.as_slice(), b"HQ.ACME".as_slice());
-    assert_eq!(rt; number, 7);
+    assert!(rt; gives(rt.alloc(), "at hq.Acme\n take 7", b"HQ.ACME", 7)?);
     Ok(())
 }
 

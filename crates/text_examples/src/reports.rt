@@ -12,12 +12,14 @@ fn texts(alloc: Global, parts: &[&[u8]]) -> Result<Texts, AllocError> {
     Ok(Listing::of(texts))
 }
 
-fn same_lines(lines: &[Bytes], expected: &[&[u8]]) -> bool {
-    lines.len() == expected.len()
-        && lines
-            .iter()
-            .zip(expected)
-            .all(|(line, due)| line.as_slice() == *due)
+/// The text of these lines, each with its end.
+fn text_of(alloc: Global, lines: &[Bytes]) -> Result<Vec<u8>, AllocError> {
+    let mut text = Vec::new(alloc);
+    for line in lines {
+        text.extend_from_slice(line.as_slice())?;
+        text.push(b'\n')?;
+    }
+    Ok(text)
 }
 
 fn says(alloc: Global, code: u16, args: &[&[u8]], due: &[u8]) -> Result<bool, AllocError> {
@@ -76,50 +78,51 @@ fn a_row(alloc: Global, id: i64) -> Result<Row, AllocError> {
     Ok(Row { cells })
 }
 
-fn tells(alloc: Global, answer: &Answer, due: &[&[u8]]) -> Result<bool, AllocError> {
+fn tells(alloc: Global, answer: &Answer, due: &[u8]) -> Result<bool, AllocError> {
     let lines = answer_lines(alloc, answer)?;
-    Ok(same_lines(&lines, due))
-}
-
-#[test]
-fn no_rows_are_written_as_such(rt: HostRuntime) -> Result<(), Fail> {
-    let alloc = rt.alloc();
-    let none = found(alloc, &[])?;
-    assert!(rt; tells(alloc, &none, &[b"no rows selected"])?);
-    Ok(())
+    Ok(text_of(alloc, &lines)?.as_slice() == due)
 }
 
 #[test]
 fn found_rows_are_written(rt: HostRuntime) -> Result<(), Fail> {
     let alloc = rt.alloc();
+    let none = found(alloc, &[])?;
+    assert!(rt; tells(alloc, &none, b"no rows selected\n")?);
     let one = found(alloc, &[-1])?;
-    assert!(rt; tells(alloc, &one, &[b"ID|GOODS", b"-1|NULL", b"1 row selected."])?);
+    assert!(rt; tells(alloc, &one, b"ID|GOODS\n-1|NULL\n1 row selected.\n")?);
     Ok(())
+}
+
+/// Whether the answer that this was done, to no row, is written as this text.
+fn tells_done(alloc: Global, done: Done, due: &[u8]) -> Result<bool, AllocError> {
+    tells(alloc, &Answer::Did(done, 0), due)
 }
 
 #[test]
 fn what_was_done_is_written(rt: HostRuntime) -> Result<(), Fail> {
-    let alloc = rt.alloc();
-    let created = Answer::Did(Done::Created, 0);
-    assert!(rt; tells(alloc, &created, &[b"0 rows created."])?);
-    let committed = Answer::Did(Done::Committed, 0);
-    assert!(rt; tells(alloc, &committed, &[b"Commit complete."])?);
+    assert!(rt; tells_done(rt.alloc(), Done::Created, b"0 rows created.\n")?);
+    assert!(rt; tells_done(rt.alloc(), Done::Committed, b"Commit complete.\n")?);
     Ok(())
 }
 
-#[test]
-fn a_notice_is_written(rt: HostRuntime) -> Result<(), Fail> {
-    let lines = notice_lines(rt.alloc(), &Notice::Waiting)?;
-    assert!(rt; same_lines(&lines, &[b"waiting"]));
-    Ok(())
+/// Whether the notice is written as this text.
+fn is_noted(alloc: Global, notice: &Notice, due: &[u8]) -> Result<bool, AllocError> {
+    let lines = notice_lines(alloc, notice)?;
+    Ok(text_of(alloc, &lines)?.as_slice() == due)
 }
 
-#[test]
-fn lines_have_their_numbers(rt: HostRuntime) -> Result<(), Fail> {
-    let alloc = rt.alloc();
-    let lines = texts(alloc, &[b"ID", b"1"])?;
+/// Whether the lines are written as this text, behind the number of their command.
+fn are_numbered(alloc: Global, lines: &[Bytes], due: &[u8]) -> Result<bool, AllocError> {
     let mut out = Vec::new(alloc);
-    put_numbered(&mut out, 12, lines.as_slice())?;
-    assert_eq!(rt; out.as_slice(), b"12 ID\n12 1\n".as_slice());
+    put_numbered(&mut out, 12, lines)?;
+    Ok(out.as_slice() == due)
+}
+
+#[test]
+fn notices_and_numbered_lines_are_written(rt: HostRuntime) -> Result<(), Fail> {
+    let alloc = rt.alloc();
+    assert!(rt; is_noted(alloc, &Notice::Waiting, b"waiting\n")?);
+    let lines = texts(alloc, &[b"ID", b"1"])?;
+    assert!(rt; are_numbered(alloc, lines.as_slice(), b"12 ID\n12 1\n")?);
     Ok(())
 }

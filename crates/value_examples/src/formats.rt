@@ -1,13 +1,14 @@
 //! Formats by examples from outside: the bytes themselves, and that calls succeed.
 use byte_format::example::{Contents, Label, Stops, Text, read_label, write_label};
 use byte_format::{
-    TakeErr, choice_is_exact, has_one_reading, list_is_exact, mapped_is_exact, numbers_are_exact,
-    option_is_exact, pair_is_exact, put_flag, put_i64, put_list_u8, put_list_u32, put_run_u8,
-    put_run_u16, put_run_u32, put_u8, put_u16, put_u32, put_u48, put_u64, read_front, read_whole,
-    runs_are_exact, take_constant, take_each, take_flag, take_i64, take_list_u8, take_list_u32,
-    take_run_u8, take_run_u16, take_run_u32, take_u8, take_u16, take_u32, take_u48, take_u64,
-    tested_is_exact, write_whole,
+    NoSpelling, TakeErr, choice_is_exact, has_one_reading, list_is_exact, mapped_is_exact,
+    numbers_are_exact, option_is_exact, pair_is_exact, put_flag, put_i64, put_list_u8,
+    put_list_u32, put_run_u8, put_run_u16, put_run_u32, put_u8, put_u16, put_u32, put_u48, put_u64,
+    read_front, read_whole, runs_are_exact, take_constant, take_each, take_flag, take_i64,
+    take_list_u8, take_list_u32, take_run_u8, take_run_u16, take_run_u32, take_u8, take_u16,
+    take_u32, take_u48, take_u64, tested_is_exact, write_whole,
 };
+use std::alloc::{AllocError, Global};
 use std::test::Fail;
 
 /// 250 grams, insured for 3,000, by way of 7 and 300, a thing named "tea".
@@ -21,141 +22,165 @@ const LETTERS: [u8; 7] = [117, 48, 0, 0, 1, 0, 2];
 /// The bytes that a number is taken from.
 const FRONT: [u8; 9] = [1, 2, 3, 4, 5, 6, 7, 8, 9];
 
-#[test]
-fn small_numbers_are_written_most_significant_first(rt: HostRuntime) -> Result<(), Fail> {
-    let mut out = Vec::new(rt.alloc());
+/// Numbers and a flag, one behind the other.
+fn numbers(alloc: Global) -> Result<Vec<u8>, AllocError> {
+    let mut out = Vec::new(alloc);
     put_u8(&mut out, 1)?;
     put_u16(&mut out, 0x0203)?;
     put_u32(&mut out, 0x0405_0607)?;
-    assert_eq!(rt; out.as_slice(), [1, 2, 3, 4, 5, 6, 7].as_slice());
-    Ok(())
-}
-
-#[test]
-fn large_numbers_are_written_most_significant_first(rt: HostRuntime) -> Result<(), Fail> {
-    let mut out = Vec::new(rt.alloc());
     put_u48(&mut out, 0x0102_0304_0506)?;
     put_u64(&mut out, 0x0708_090a_0b0c_0d0e)?;
-    let wanted = [1, 2, 3, 4, 5, 6, 7, 8, 9, 10, 11, 12, 13, 14];
-    assert_eq!(rt; out.as_slice(), wanted.as_slice());
-    Ok(())
-}
-
-#[test]
-fn signed_numbers_and_flags_are_written(rt: HostRuntime) -> Result<(), Fail> {
-    let mut out = Vec::new(rt.alloc());
     put_i64(&mut out, -2)?;
     put_flag(&mut out, true)?;
-    let wanted = [255, 255, 255, 255, 255, 255, 255, 254, 1];
-    assert_eq!(rt; out.as_slice(), wanted.as_slice());
-    Ok(())
+    Ok(out)
 }
 
-#[test]
-fn small_numbers_are_taken_from_the_front(rt: HostRuntime) -> Result<(), Fail> {
-    assert_eq!(rt; take_u8(&FRONT)?.0, 1);
-    assert_eq!(rt; take_u16(&FRONT)?.0, 0x0102);
-    assert_eq!(rt; take_u32(&FRONT)?.0, 0x0102_0304);
-    Ok(())
-}
+/// What those numbers and the flag are written as.
+const NUMBERS: [u8; 30] = [
+    1, 2, 3, 4, 5, 6, 7, 1, 2, 3, 4, 5, 6, 7, 8, 9, 10, 11, 12, 13, 14, 255, 255, 255, 255, 255,
+    255, 255, 254, 1,
+];
 
-#[test]
-fn large_numbers_are_taken_from_the_front(rt: HostRuntime) -> Result<(), Fail> {
-    assert_eq!(rt; take_u48(&FRONT)?.0, 0x0102_0304_0506);
-    let (number, rest) = take_u64(&FRONT)?;
-    assert_eq!(rt; number, 0x0102_0304_0506_0708);
-    assert_eq!(rt; rest.len(), 1);
-    assert!(rt; take_u48(&FRONT[..5]).is_err(), "a byte is missing");
-    Ok(())
-}
+/// Runs behind their lengths of one, two and four bytes: `ab`, `c` and one of no bytes.
+const RUNS: [u8; 10] = *b"\x02ab\x00\x01c\x00\x00\x00\x00";
 
-#[test]
-fn signed_numbers_are_taken_from_the_front(rt: HostRuntime) -> Result<(), Fail> {
-    let bytes = [255, 255, 255, 255, 255, 255, 255, 254];
-    assert_eq!(rt; take_i64(&bytes)?.0, -2);
-    Ok(())
-}
-
-#[test]
-fn a_flag_is_0_or_1(rt: HostRuntime) -> Result<(), Fail> {
-    assert!(rt; take_flag(&[1, 7])?.0);
-    assert!(rt; take_flag(&[2]).is_err());
-    Ok(())
-}
-
-#[test]
-fn a_constant_is_these_bytes_alone(rt: HostRuntime) -> Result<(), Fail> {
-    assert_eq!(rt; take_constant(&FRONT, &[1, 2])?.len(), 7);
-    assert!(rt; take_constant(&FRONT, &[1, 3]).is_err());
-    Ok(())
-}
-
-#[test]
-fn runs_are_written_behind_their_length(rt: HostRuntime) -> Result<(), Fail> {
-    let mut out = Vec::new(rt.alloc());
+/// Those runs.
+fn runs(alloc: Global) -> Result<Vec<u8>, AllocError> {
+    let mut out = Vec::new(alloc);
     put_run_u8(&mut out, b"ab")?;
     put_run_u16(&mut out, b"c")?;
     put_run_u32(&mut out, b"")?;
-    assert_eq!(rt;
-        out.as_slice(),
-        b"\x02ab\x00\x01c\x00\x00\x00\x00".as_slice()
-    );
-    Ok(())
+    Ok(out)
 }
 
-#[test]
-fn runs_are_taken_by_their_length(rt: HostRuntime) -> Result<(), Fail> {
-    let (first, rest) = take_run_u8(b"\x02ab\x00\x01c\x00\x00\x00\x00")?;
-    assert_eq!(rt; first, b"ab".as_slice());
-    let (second, rest) = take_run_u16(rest)?;
-    assert_eq!(rt; second, b"c".as_slice());
-    let (third, rest) = take_run_u32(rest)?;
-    assert_eq!(rt; third.len(), 0);
-    assert_eq!(rt; rest.len(), 0);
-    assert!(rt; take_run_u8(b"\x03ab").is_err(), "a byte is missing");
-    Ok(())
-}
-
-#[test]
-fn lists_are_written_behind_their_count(rt: HostRuntime) -> Result<(), Fail> {
-    let mut out = Vec::new(rt.alloc());
+/// Two lists, behind a count of one byte and of four.
+fn lists(alloc: Global) -> Result<Vec<u8>, AllocError> {
+    let mut out = Vec::new(alloc);
     put_list_u8(&mut out, &[true, false])?;
     put_list_u32(&mut out, &[Some(9_u8), None])?;
-    assert_eq!(rt; out.as_slice(), [2, 1, 0, 0, 0, 0, 2, 1, 9, 0].as_slice());
+    Ok(out)
+}
+
+/// What those lists are written as.
+const LISTS: [u8; 10] = [2, 1, 0, 0, 0, 0, 2, 1, 9, 0];
+
+#[test]
+fn parts_are_written(rt: HostRuntime) -> Result<(), Fail> {
+    for (what, written, wanted) in [
+        ("numbers", numbers(rt.alloc())?, NUMBERS.as_slice()),
+        ("runs", runs(rt.alloc())?, &RUNS),
+        ("lists", lists(rt.alloc())?, &LISTS),
+    ] {
+        assert!(rt; written.as_slice() == wanted, "{what}");
+    }
+    Ok(())
+}
+
+/// The numbers of one, two, four, six and eight bytes that these bytes begin with.
+fn numbers_at(bytes: &[u8]) -> Result<[u64; 5], NoSpelling> {
+    Ok([
+        u64::from(take_u8(bytes)?.0),
+        u64::from(take_u16(bytes)?.0),
+        u64::from(take_u32(bytes)?.0),
+        take_u48(bytes)?.0,
+        take_u64(bytes)?.0,
+    ])
+}
+
+#[test]
+fn numbers_are_taken_from_the_front(rt: HostRuntime) -> Result<(), Fail> {
+    let wanted = [
+        0x01,
+        0x0102,
+        0x0102_0304,
+        0x0102_0304_0506,
+        0x0102_0304_0506_0708,
+    ];
+    assert_eq!(rt; numbers_at(&FRONT)?, wanted);
+    Ok(())
+}
+
+/// Whether what stands behind a number is left.
+fn leaves_the_rest() -> Result<bool, NoSpelling> {
+    let (_number, rest) = take_u64(&FRONT)?;
+    Ok(rest.len() == 1)
+}
+
+/// Whether a signed number, a flag and a constant are taken from the front.
+fn takes_others() -> Result<bool, NoSpelling> {
+    let (number, _rest) = take_i64(&[255, 255, 255, 255, 255, 255, 255, 254])?;
+    let (is_set, _rest) = take_flag(&[1, 7])?;
+    let rest = take_constant(&FRONT, &[1, 2])?;
+    Ok(number == -2 && is_set && rest.len() == 7)
+}
+
+/// Whether the runs are taken as they were written.
+fn takes_runs() -> Result<bool, NoSpelling> {
+    let (first, rest) = take_run_u8(&RUNS)?;
+    let (second, rest) = take_run_u16(rest)?;
+    let (third, rest) = take_run_u32(rest)?;
+    Ok(
+        first == b"ab".as_slice()
+            && second == b"c".as_slice()
+            && third.is_empty()
+            && rest.is_empty(),
+    )
+}
+
+/// Whether flags are taken from behind a count of one byte.
+fn takes_flags(alloc: Global) -> Result<bool, TakeErr> {
+    let (flags, rest) = take_list_u8::<bool>(alloc, &[2, 1, 0, 7])?;
+    Ok(flags.as_slice() == [true, false].as_slice() && rest.len() == 1)
+}
+
+/// Whether numbers that may be missing are taken from behind a count of four bytes.
+fn takes_options(alloc: Global) -> Result<bool, TakeErr> {
+    let (numbers, rest) = take_list_u32::<Option<u8>>(alloc, &[0, 0, 0, 2, 1, 9, 0])?;
+    Ok(numbers.as_slice() == [Some(9), None].as_slice() && rest.is_empty())
+}
+
+/// Whether as many numbers are taken as are asked for.
+fn takes_two(alloc: Global) -> Result<bool, TakeErr> {
+    let (pair, rest) = take_each::<u16>(alloc, 2, &[0, 1, 0, 2, 0])?;
+    Ok(pair.as_slice() == [1, 2].as_slice() && rest.len() == 1)
+}
+
+#[test]
+fn parts_are_taken_from_the_front(rt: HostRuntime) -> Result<(), Fail> {
+    for (what, are_taken) in [
+        ("the rest", leaves_the_rest()?),
+        ("others", takes_others()?),
+        ("runs", takes_runs()?),
+        ("flags", takes_flags(rt.alloc())?),
+        ("options", takes_options(rt.alloc())?),
+        ("two", takes_two(rt.alloc())?),
+    ] {
+        assert!(rt; are_taken, "{what}");
+    }
     Ok(())
 }
 
 #[test]
-fn a_list_behind_a_byte_is_taken(rt: HostRuntime) -> Result<(), Fail> {
-    let (flags, rest) = take_list_u8::<bool>(rt.alloc(), &[2, 1, 0, 7])?;
-    assert_eq!(rt; flags.as_slice(), [true, false].as_slice());
-    assert_eq!(rt; rest.len(), 1);
-    Ok(())
+fn what_spells_no_part_is_refused(rt: HostRuntime) {
+    for (what, is_refused) in [
+        ("a byte is missing", take_u48(&FRONT[..5]).is_err()),
+        ("a flag of 2", take_flag(&[2]).is_err()),
+        ("other bytes", take_constant(&FRONT, &[1, 3]).is_err()),
+        ("a run that is cut", take_run_u8(b"\x03ab").is_err()),
+    ] {
+        assert!(rt; is_refused, "{what}");
+    }
 }
 
-#[test]
-fn a_list_behind_four_bytes_is_taken(rt: HostRuntime) -> Result<(), Fail> {
-    let (numbers, rest) = take_list_u32::<Option<u8>>(rt.alloc(), &[0, 0, 0, 2, 1, 9, 0])?;
-    assert_eq!(rt; numbers.as_slice(), [Some(9), None].as_slice());
-    assert_eq!(rt; rest.len(), 0);
-    Ok(())
-}
-
-#[test]
-fn so_many_are_taken(rt: HostRuntime) -> Result<(), Fail> {
-    let (pair, rest) = take_each::<u16>(rt.alloc(), 2, &[0, 1, 0, 2, 0])?;
-    assert_eq!(rt; pair.as_slice(), [1, 2].as_slice());
-    assert_eq!(rt; rest.len(), 1);
-    Ok(())
-}
-
-#[test]
-fn the_numbers_of_a_label_are_read(rt: HostRuntime) -> Result<(), Fail> {
-    let label = read_label(rt.alloc(), &TEA)?;
-    assert_eq!(rt; label.weight, 250);
-    assert_eq!(rt; label.insured, Some(3000));
-    assert_eq!(rt; label.stops.as_slice(), [7, 300].as_slice());
-    Ok(())
+/// Whether the label of tea is read.
+fn reads_tea(alloc: Global) -> Result<bool, TakeErr> {
+    let label = read_label(alloc, &TEA)?;
+    Ok(
+        label.weight == 250
+            && label.insured == Some(3000)
+            && label.stops.as_slice() == [7, 300].as_slice()
+            && is_thing(&label.contents, b"tea"),
+    )
 }
 
 /// Whether the contents are a thing of this name.
@@ -166,42 +191,46 @@ fn is_thing(contents: &Contents, name: &[u8]) -> bool {
     }
 }
 
-#[test]
-fn the_contents_of_a_label_are_read(rt: HostRuntime) -> Result<(), Fail> {
-    let label = read_label(rt.alloc(), &TEA)?;
-    assert!(rt; is_thing(&label.contents, b"tea"));
-    Ok(())
+/// Whether the label of letters is read.
+fn reads_letters(alloc: Global) -> Result<bool, TakeErr> {
+    let label = read_label(alloc, &LETTERS)?;
+    Ok(
+        label.weight == 30000
+            && label.insured.is_none()
+            && label.stops.as_slice().is_empty()
+            && matches!(label.contents, Contents::Letters(2)),
+    )
 }
 
 #[test]
-fn a_label_of_letters_is_read(rt: HostRuntime) -> Result<(), Fail> {
-    let label = read_label(rt.alloc(), &LETTERS)?;
-    assert_eq!(rt; label.weight, 30000);
-    assert_eq!(rt; label.insured, None);
-    assert_eq!(rt; label.stops.as_slice().len(), 0);
-    assert!(rt; matches!(label.contents, Contents::Letters(2)));
+fn labels_are_read(rt: HostRuntime) -> Result<(), Fail> {
+    assert!(rt; reads_tea(rt.alloc())?);
+    assert!(rt; reads_letters(rt.alloc())?);
     Ok(())
 }
 
-#[test]
-fn labels_are_written_as_they_were(rt: HostRuntime) -> Result<(), Fail> {
-    for bytes in [TEA.as_slice(), LETTERS.as_slice()] {
-        let label = read_label(rt.alloc(), bytes)?;
-        assert_eq!(rt; write_label(rt.alloc(), &label)?.as_slice(), bytes);
-    }
-    Ok(())
+/// Whether a label is written as it was.
+fn is_kept(alloc: Global, bytes: &[u8]) -> Result<bool, TakeErr> {
+    let label = read_label(alloc, bytes)?;
+    Ok(write_label(alloc, &label)?.as_slice() == bytes)
 }
 
-#[test]
-fn a_label_made_in_code_is_written(rt: HostRuntime) -> Result<(), Fail> {
+/// A label that is made in code: 30,000 grams, not insured, by way of nowhere, a thing named "map".
+fn map(alloc: Global) -> Result<Vec<u8>, AllocError> {
     let label = Label {
         weight: 30000,
         insured: None,
-        stops: Stops::of(Vec::new(rt.alloc())),
-        contents: Contents::Thing(Text::of(Vec::from_slice(rt.alloc(), b"map")?)),
+        stops: Stops::of(Vec::new(alloc)),
+        contents: Contents::Thing(Text::of(Vec::from_slice(alloc, b"map")?)),
     };
-    let bytes = write_label(rt.alloc(), &label)?;
-    assert_eq!(rt; bytes.as_slice(), b"\x75\x30\x00\x00\x02\x03map".as_slice());
+    write_label(alloc, &label)
+}
+
+#[test]
+fn labels_are_written(rt: HostRuntime) -> Result<(), Fail> {
+    assert!(rt; is_kept(rt.alloc(), &TEA)?);
+    assert!(rt; is_kept(rt.alloc(), &LETTERS)?);
+    assert!(rt; map(rt.alloc())?.as_slice() == b"\x75\x30\x00\x00\x02\x03map".as_slice());
     Ok(())
 }
 
@@ -235,24 +264,23 @@ fn the_laws_hold_of_types() {
     choice_is_exact::<u8, bool, u64>();
 }
 
-#[test]
-fn a_number_is_read_from_the_front(rt: HostRuntime) -> Result<(), Fail> {
+/// Whether a number is read from the front, and the bytes after it are left.
+fn reads_a_number(alloc: Global) -> Result<bool, TakeErr> {
     numbers_are_exact();
-    let (number, rest) = read_front::<u16>(rt.alloc(), &[1, 2, 3])?;
-    assert_eq!(rt; number, 258);
-    assert_eq!(rt; rest.len(), 1);
-    Ok(())
+    let (number, rest) = read_front::<u16>(alloc, &[1, 2, 3])?;
+    Ok(number == 258 && rest.len() == 1)
+}
+
+/// Whether a number with a byte behind it is refused.
+fn refuses_a_byte(alloc: Global) -> bool {
+    numbers_are_exact();
+    read_whole::<u16>(alloc, &[1, 2, 3]).is_err()
 }
 
 #[test]
-fn bytes_behind_a_number_are_refused(rt: HostRuntime) {
-    numbers_are_exact();
-    assert!(rt; read_whole::<u16>(rt.alloc(), &[1, 2, 3]).is_err());
-}
-
-#[test]
-fn an_option_is_written(rt: HostRuntime) -> Result<(), Fail> {
-    let bytes = write_whole(rt.alloc(), &Some(7_u8))?;
-    assert_eq!(rt; bytes.as_slice(), [1, 7].as_slice());
+fn values_are_read_and_written_by_their_formats(rt: HostRuntime) -> Result<(), Fail> {
+    assert!(rt; reads_a_number(rt.alloc())?);
+    assert!(rt; refuses_a_byte(rt.alloc()));
+    assert!(rt; write_whole(rt.alloc(), &Some(7_u8))?.as_slice() == [1, 7].as_slice());
     Ok(())
 }

@@ -1,5 +1,6 @@
 //! The texts of ids, and the clock, by examples.
-use dtx_values::Name;
+use dtx_values::{Name, NameErr};
+use std::alloc::{AllocError, Global};
 use std::test::Fail;
 use tran_ids::{BranchId, Clock, global_text, local_text, read_local};
 
@@ -18,58 +19,74 @@ const NAMELESS: BranchId = BranchId {
     seq: 10,
 };
 
-#[test]
-fn local_texts_are_written(rt: HostRuntime) -> Result<(), Fail> {
-    let text = local_text(rt.alloc(), &BRANCH)?;
-    assert_eq!(rt; text.as_slice(), b"1.65.1".as_slice());
-    Ok(())
+/// Whether this is the local text of the branch.
+fn is_local(alloc: Global, branch: &BranchId, text: &[u8]) -> Result<bool, AllocError> {
+    Ok(local_text(alloc, branch)?.as_slice() == text)
+}
+
+/// Whether this is the global text of the branch, where the nodes have these names.
+fn is_global(
+    alloc: Global,
+    names: &[Name],
+    branch: &BranchId,
+    text: &[u8],
+) -> Result<bool, AllocError> {
+    Ok(global_text(alloc, names, branch)?.as_slice() == text)
+}
+
+/// The names of nodes, of which the first is HQ.
+fn node_names(alloc: Global) -> Result<[Name; 1], NameErr> {
+    Ok([Name::from_bytes(alloc, b"HQ")?])
 }
 
 #[test]
-fn global_texts_are_written(rt: HostRuntime) -> Result<(), Fail> {
-    let names = [Name::from_bytes(rt.alloc(), b"HQ")?];
-    let text = global_text(rt.alloc(), &names, &BRANCH)?;
-    assert_eq!(rt; text.as_slice(), b"HQ.00000001.1.65.1".as_slice());
+fn texts_are_written(rt: HostRuntime) -> Result<(), Fail> {
+    let alloc = rt.alloc();
+    let names = node_names(alloc)?;
+    assert!(rt; is_local(alloc, &BRANCH, b"1.65.1")?);
+    assert!(rt; is_global(alloc, &names, &BRANCH, b"HQ.00000001.1.65.1")?);
+    assert!(rt; is_global(alloc, &[], &NAMELESS, b".000000ff.4294967295.64.10")?);
     Ok(())
 }
 
-#[test]
-fn a_node_without_a_name_is_written_by_its_number(rt: HostRuntime) -> Result<(), Fail> {
-    let text = global_text(rt.alloc(), &[], &NAMELESS)?;
-    assert_eq!(rt; text.as_slice(), b".000000ff.4294967295.64.10".as_slice());
-    Ok(())
+/// Texts, each with the numbers that it spells if it is a local text.
+const LOCAL_TEXTS: [(&[u8], Option<(u32, u32, u32)>); 11] = [
+    (b"1.65.1", Some((1, 65, 1))),
+    (b"0.4294967295.10", Some((0, 4294967295, 10))),
+    (b"", None),
+    (b"1.65", None),
+    (b"01.65.1", None),
+    (b"+1.65.1", None),
+    (b"1.65.1.", None),
+    (b"1..1", None),
+    (b"1.65.4294967296", None),
+    (b"1.65. 1", None),
+    (b"1.65.1a", None),
+];
+
+/// Whether the text spells these numbers, or is no local text where there are none.
+fn spells(text: &[u8], numbers: Option<(u32, u32, u32)>) -> bool {
+    read_local(text) == numbers
 }
 
 #[test]
 fn local_texts_are_read(rt: HostRuntime) {
-    assert_eq!(rt; read_local(b"1.65.1"), Some((1, 65, 1)));
-    assert_eq!(rt; read_local(b"0.4294967295.10"), Some((0, 4294967295, 10)));
+    for (text, numbers) in LOCAL_TEXTS {
+        assert!(rt; spells(text, numbers));
+    }
 }
 
-#[test]
-fn what_is_no_local_text_is_not_read(rt: HostRuntime) {
-    let cases: [&[u8]; 9] = [
-        b"",
-        b"1.65",
-        b"01.65.1",
-        b"+1.65.1",
-        b"1.65.1.",
-        b"1..1",
-        b"1.65.4294967296",
-        b"1.65. 1",
-        b"1.65.1a",
-    ];
-    for text in cases {
-        assert_eq!(rt; read_local(text), None);
-    }
+/// What a clock says first, after it met 7 and then 3, and next.
+fn times() -> [u64; 3] {
+    let mut clock = Clock::new();
+    let first = clock.next();
+    clock.meet(7);
+    clock.meet(3);
+    let last = clock.now();
+    [first, last, clock.next()]
 }
 
 #[test]
 fn a_clock_never_falls(rt: HostRuntime) {
-    let mut clock = Clock::new();
-    assert_eq!(rt; clock.next(), 1);
-    clock.meet(7);
-    clock.meet(3);
-    assert_eq!(rt; clock.now(), 7);
-    assert_eq!(rt; clock.next(), 8);
+    assert_eq!(rt; times(), [1, 7, 8]);
 }

@@ -8,17 +8,7 @@ use std::io;
 use std::io::{ErrorKind, Read, Write};
 use std::test::Fail;
 
-/// A reader each of whose reads fails.
-#[derive(Drop)]
-struct BrokenReader;
-
-impl Read for BrokenReader {
-    fn read(&mut self, _buffer: &mut [u8]) -> io::Result<usize> {
-        Err(ErrorKind::ConnectionReset.into())
-    }
-}
-
-/// A reader that gives one byte, and whose later reads fail.
+/// A reader that gives one byte, if it has not given it yet, and then fails.
 #[derive(Drop)]
 struct CutReader {
     has_given: bool,
@@ -35,27 +25,18 @@ impl Read for CutReader {
     }
 }
 
-/// A writer each of whose writes fails.
+/// A writer that takes no byte, and says so by this error or without one.
 #[derive(Drop)]
-struct BrokenWriter;
-
-impl Write for BrokenWriter {
-    fn write(&mut self, _bytes: &[u8]) -> io::Result<usize> {
-        Err(ErrorKind::StorageFull.into())
-    }
-
-    fn flush(&mut self) -> io::Result<()> {
-        Ok(())
-    }
+struct FullWriter {
+    error: Option<ErrorKind>,
 }
-
-/// A writer that takes no byte, and says so without an error.
-#[derive(Drop)]
-struct FullWriter;
 
 impl Write for FullWriter {
     fn write(&mut self, _bytes: &[u8]) -> io::Result<usize> {
-        Ok(0)
+        match self.error {
+            Some(kind) => Err(kind.into()),
+            None => Ok(0),
+        }
     }
 
     fn flush(&mut self) -> io::Result<()> {
@@ -68,64 +49,51 @@ fn source_of(alloc: Global, bytes: &[u8], failing: &[u32]) -> Result<MemSource, 
     Ok(MemSource::new(bytes.to_vec(alloc)?, failing.to_vec(alloc)?))
 }
 
-/// A sink with room for so many bytes, whose calls of these numbers fail.
-fn sink_of(alloc: Global, room: usize, failing: &[u32]) -> Result<MemSink, AllocError> {
-    MemSink::new(alloc, room, failing.to_vec(alloc)?)
-}
-
 /// What is read of a source within a limit.
 fn read_within(alloc: Global, source: &mut MemSource, limit: usize) -> Result<Vec<u8>, ReadErr> {
     read_whole(alloc, source, limit)
 }
 
-#[test]
-fn a_source_is_read_to_its_end_within_the_limit(rt: HostRuntime) -> Result<(), Fail> {
-    let mut source = source_of(rt.alloc(), b"abc", &[])?;
-    let bytes = read_within(rt.alloc(), &mut source, 3)?;
-    assert_eq!(rt; bytes.as_slice(), b"abc".as_slice());
-    Ok(())
-}
-
-#[test]
-fn an_empty_source_is_within_each_limit(rt: HostRuntime) -> Result<(), Fail> {
-    let mut source = source_of(rt.alloc(), b"", &[])?;
-    assert_eq!(rt; read_within(rt.alloc(), &mut source, 0)?.len(), 0);
-    Ok(())
-}
-
-#[test]
-fn more_than_the_limit_is_too_long(rt: HostRuntime) -> Result<(), Fail> {
-    let mut source = source_of(rt.alloc(), b"abc", &[])?;
-    let read = read_within(rt.alloc(), &mut source, 2);
-    assert!(rt; matches!(read, Err(ReadErr::TooLong)));
-    Ok(())
+/// What is read within a limit of a source of these bytes, whose calls of these numbers fail.
+fn read_of(alloc: Global, bytes: &[u8], failing: &[u32], limit: usize) -> Result<Vec<u8>, ReadErr> {
+    let mut source = source_of(alloc, bytes, failing)?;
+    read_within(alloc, &mut source, limit)
 }
 
 /// A text that takes several reads: 10,000 bytes.
 fn long_text(alloc: Global) -> Result<Vec<u8>, AllocError> {
-    let mut text = Vec::new(alloc);
-    for _ in 0..2500 {
-        text.extend_from_slice(b"wxyz")?;
+    b"wxyz".repeat(alloc, 2500)
+}
+
+#[test]
+fn a_source_is_read_to_its_end_within_the_limit(rt: HostRuntime) -> Result<(), Fail> {
+    let text = long_text(rt.alloc())?;
+    for (bytes, limit) in [
+        (b"abc".as_slice(), 3),
+        (b"", 0),
+        (text.as_slice(), usize::MAX),
+    ] {
+        let read = read_of(rt.alloc(), bytes, &[], limit)?;
+        assert_eq!(rt; read.as_slice(), bytes);
     }
-    Ok(text)
-}
-
-#[test]
-fn a_text_of_many_reads_comes_whole(rt: HostRuntime) -> Result<(), Fail> {
-    let text = long_text(rt.alloc())?;
-    let mut source = source_of(rt.alloc(), &text, &[])?;
-    let bytes = read_within(rt.alloc(), &mut source, usize::MAX)?;
-    assert_eq!(rt; bytes.as_slice(), text.as_slice());
     Ok(())
 }
 
 #[test]
-fn a_text_whose_second_read_fails_does_not_come(rt: HostRuntime) -> Result<(), Fail> {
+fn a_text_that_cannot_be_read_whole_does_not_come(rt: HostRuntime) -> Result<(), Fail> {
     let text = long_text(rt.alloc())?;
-    let mut source = source_of(rt.alloc(), &text, &[2])?;
-    let read = read_within(rt.alloc(), &mut source, 10000);
-    assert!(rt; matches!(read, Err(ReadErr::Fault)));
+    for (bytes, failing, limit, error) in [
+        (b"abc".as_slice(), [1000], 2, ReadErr::TooLong),
+        (text.as_slice(), [2], 10000, ReadErr::Fault),
+    ] {
+        let read = read_of(rt.alloc(), bytes, &failing, limit);
+        assert_eq!(rt; read.err(), Some(error));
+    }
     Ok(())
+}
+
+fn is_abc(bytes: &[u8]) -> bool {
+    bytes == b"abc".as_slice()
 }
 
 #[test]
@@ -133,8 +101,8 @@ fn a_source_is_read_again_behind_a_fault(rt: HostRuntime) -> Result<(), Fail> {
     let mut source = source_of(rt.alloc(), b"abc", &[1])?;
     let read = read_within(rt.alloc(), &mut source, 3);
     assert!(rt; matches!(read, Err(ReadErr::Fault)));
-    let bytes = read_within(rt.alloc(), &mut source, 3)?;
-    assert_eq!(rt; bytes.as_slice(), b"abc".as_slice());
+    let again = read_within(rt.alloc(), &mut source, 3)?;
+    assert!(rt; is_abc(&again));
     Ok(())
 }
 
@@ -149,35 +117,42 @@ fn a_listed_read_fails_and_the_next_one_goes_on(rt: HostRuntime) -> Result<(), F
     Ok(())
 }
 
-/// Whether `abc` is written to the sink.
-fn takes_abc(sink: &mut MemSink) -> bool {
-    write_whole(sink, b"abc").is_ok()
+/// What is written to a sink, whether it takes it, and what it holds then.
+type Step = (&'static [u8], bool, &'static [u8]);
+
+/// Sinks by their room and the number of the call that fails, each with what is written to it.
+const SINKS: [(usize, u32, &[Step]); 3] = [
+    (10, 1, &[(b"abc", false, b""), (b"abc", true, b"abc")]),
+    (2, 9, &[(b"abc", false, b"ab")]),
+    (3, 9, &[(b"abc", true, b"abc"), (b"", true, b"abc")]),
+];
+
+/// A sink with room for so many bytes, one of whose calls fails.
+fn sink_of(alloc: Global, room: usize, failing: u32) -> Result<MemSink, AllocError> {
+    MemSink::new(alloc, room, [failing].to_vec(alloc)?)
+}
+
+/// Whether the sink takes these bytes, or not, as it is said to, and holds then what it is said to hold.
+fn goes(sink: &mut MemSink, (bytes, is_taken, held): Step) -> bool {
+    write_whole(sink, bytes).is_ok() == is_taken && sink.bytes() == held
+}
+
+/// Whether the sink goes each of these steps.
+fn goes_all(sink: &mut MemSink, steps: &[Step]) -> bool {
+    for step in steps {
+        if !goes(sink, *step) {
+            return false;
+        }
+    }
+    true
 }
 
 #[test]
-fn a_failed_write_writes_nothing(rt: HostRuntime) -> Result<(), Fail> {
-    let mut sink = sink_of(rt.alloc(), 10, &[1])?;
-    assert!(rt; !takes_abc(&mut sink));
-    assert_eq!(rt; sink.bytes().len(), 0);
-    assert!(rt; takes_abc(&mut sink));
-    assert_eq!(rt; sink.bytes(), b"abc".as_slice());
-    Ok(())
-}
-
-#[test]
-fn a_full_sink_holds_the_front_of_what_was_written(rt: HostRuntime) -> Result<(), Fail> {
-    let mut sink = sink_of(rt.alloc(), 2, &[])?;
-    assert!(rt; !takes_abc(&mut sink));
-    assert_eq!(rt; sink.bytes(), b"ab".as_slice());
-    Ok(())
-}
-
-#[test]
-fn no_byte_is_written_to_a_full_sink(rt: HostRuntime) -> Result<(), Fail> {
-    let mut sink = sink_of(rt.alloc(), 3, &[])?;
-    assert!(rt; takes_abc(&mut sink));
-    assert_eq!(rt; write_whole(&mut sink, b""), Ok(()));
-    assert_eq!(rt; sink.bytes(), b"abc".as_slice());
+fn a_sink_holds_what_it_took(rt: HostRuntime) -> Result<(), Fail> {
+    for (room, failing, steps) in SINKS {
+        let mut sink = sink_of(rt.alloc(), room, failing)?;
+        assert!(rt; goes_all(&mut sink, steps), "room for {room}");
+    }
     Ok(())
 }
 
@@ -190,16 +165,16 @@ fn read_through<R: Read + Drop>(alloc: Global, reader: R) -> Result<Vec<u8>, Rea
 #[test]
 fn a_port_reads_what_its_reader_gives(rt: HostRuntime) -> Result<(), Fail> {
     let bytes = read_through(rt.alloc(), b"abc".as_slice())?;
-    assert_eq!(rt; bytes.as_slice(), b"abc".as_slice());
+    assert!(rt; is_abc(&bytes));
     Ok(())
 }
 
 #[test]
 fn a_port_fails_where_its_reader_does(rt: HostRuntime) {
-    let read = read_through(rt.alloc(), BrokenReader);
-    assert!(rt; matches!(read, Err(ReadErr::Fault)));
-    let cut = read_through(rt.alloc(), CutReader { has_given: false });
-    assert!(rt; matches!(cut, Err(ReadErr::Fault)));
+    for has_given in [true, false] {
+        let read = read_through(rt.alloc(), CutReader { has_given });
+        assert_eq!(rt; read.err(), Some(ReadErr::Fault));
+    }
 }
 
 /// Whether a port to this writer takes `abc`.
@@ -212,24 +187,20 @@ fn writes_through<W: Write + Drop>(writer: W) -> bool {
 fn a_port_writes_what_its_writer_takes(rt: HostRuntime) {
     let mut text = Vec::new(rt.alloc());
     assert!(rt; writes_through(&mut text));
-    assert_eq!(rt; text.as_slice(), b"abc".as_slice());
+    assert!(rt; is_abc(&text));
 }
 
 #[test]
 fn a_port_fails_where_its_writer_does(rt: HostRuntime) {
-    assert!(rt; !writes_through(BrokenWriter));
-    assert!(rt; !writes_through(FullWriter));
+    for error in [Some(ErrorKind::StorageFull), None] {
+        assert!(rt; !writes_through(FullWriter { error }));
+    }
 }
 
 #[test]
-fn a_failure_has_a_text(rt: HostRuntime) -> Result<(), Fail> {
+fn failures_have_a_text(rt: HostRuntime) -> Result<(), Fail> {
     let text = Failed.to_string(rt.alloc())?;
     assert_eq!(rt; text.as_str(), "a source or a sink failed");
-    Ok(())
-}
-
-#[test]
-fn errors_of_reading_have_a_text(rt: HostRuntime) -> Result<(), Fail> {
     for (error, text) in [
         (ReadErr::Fault, "a read failed"),
         (ReadErr::TooLong, "there is more to read than is allowed"),

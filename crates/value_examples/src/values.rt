@@ -6,10 +6,11 @@ use dtx_values::{
 };
 use std::alloc::{AllocError, Global};
 use std::collections::HashMap;
+use std::hash::Hash;
 use std::test::Fail;
 
 fn letters(alloc: Global, count: usize) -> Result<Vec<u8>, AllocError> {
-    Ok(vec![in alloc; b'a'; count]?)
+    b"a".repeat(alloc, count)
 }
 
 fn text_of(alloc: Global, bytes: &[u8]) -> Result<Str, TextErr> {
@@ -20,42 +21,48 @@ fn name_of(alloc: Global, bytes: &[u8]) -> Result<Name, NameErr> {
     Name::from_bytes(alloc, bytes)
 }
 
-#[test]
-fn no_bytes_are_no_text(rt: HostRuntime) {
-    assert!(rt; matches!(text_of(rt.alloc(), b""), Err(TextErr::Empty)));
+/// How many bytes a text of so many letters has.
+fn text_len(alloc: Global, count: usize) -> Result<usize, TextErr> {
+    let text = text_of(alloc, &letters(alloc, count)?)?;
+    Ok(text.as_bytes().len())
 }
 
 #[test]
-fn a_text_has_2000_bytes(rt: HostRuntime) -> Result<(), Fail> {
-    let longest = letters(rt.alloc(), 2000)?;
-    let text = text_of(rt.alloc(), &longest)?;
-    assert_eq!(rt; text.as_bytes(), longest.as_slice());
-    Ok(())
+fn a_text_has_1_to_2000_bytes(rt: HostRuntime) {
+    for (count, length) in [
+        (0, Err(TextErr::Empty)),
+        (2000, Ok(2000)),
+        (2001, Err(TextErr::TooLong)),
+    ] {
+        assert_eq!(rt; text_len(rt.alloc(), count), length);
+    }
 }
 
-#[test]
-fn a_text_of_2001_bytes_is_too_long(rt: HostRuntime) -> Result<(), Fail> {
-    let too_long = letters(rt.alloc(), 2001)?;
-    assert!(rt; matches!(text_of(rt.alloc(), &too_long), Err(TextErr::TooLong)));
-    Ok(())
+/// Whether the bytes are this text.
+fn is_text(alloc: Global, bytes: &[u8], text: &str) -> Result<bool, TextErr> {
+    Ok(text_of(alloc, bytes)?.as_str() == text)
 }
 
 #[test]
 fn a_text_is_utf8(rt: HostRuntime) -> Result<(), Fail> {
     assert!(rt; matches!(text_of(rt.alloc(), b"\xff"), Err(TextErr::NotUtf8)));
-    assert_eq!(rt; text_of(rt.alloc(), b"\xc3\xa9")?.as_str(), "é");
+    assert!(rt; is_text(rt.alloc(), b"\xc3\xa9", "é")?);
     Ok(())
+}
+
+/// Whether the name that is spelled so is folded to these bytes.
+fn is_folded(alloc: Global, spelled: &[u8], folded: &[u8]) -> Result<bool, NameErr> {
+    Ok(name_of(alloc, spelled)?.as_bytes() == folded)
 }
 
 #[test]
 fn names_are_folded(rt: HostRuntime) -> Result<(), Fail> {
-    let cases: [(&[u8], &[u8]); 3] = [
-        (b"hq.acme.com", b"HQ.ACME.COM"),
+    for (spelled, folded) in [
+        (b"hq.acme.com".as_slice(), b"HQ.ACME.COM".as_slice()),
         (b"Selected", b"SELECTED"),
         (b"a_1$#", b"A_1$#"),
-    ];
-    for (spelled, folded) in cases {
-        assert_eq!(rt; name_of(rt.alloc(), spelled)?.as_bytes(), folded);
+    ] {
+        assert!(rt; is_folded(rt.alloc(), spelled, folded)?);
     }
     Ok(())
 }
@@ -95,19 +102,16 @@ fn long_name(alloc: Global, last: usize) -> Result<Vec<u8>, AllocError> {
     Ok(bytes)
 }
 
-#[test]
-fn a_name_has_128_bytes(rt: HostRuntime) -> Result<(), Fail> {
-    let name = name_of(rt.alloc(), &long_name(rt.alloc(), 4)?)?;
-    assert_eq!(rt; name.as_bytes().len(), 128);
-    Ok(())
+/// How many bytes the name has that is made of these identifiers.
+fn name_len(alloc: Global, last: usize) -> Result<usize, NameErr> {
+    let name = name_of(alloc, &long_name(alloc, last)?)?;
+    Ok(name.as_bytes().len())
 }
 
 #[test]
-fn a_name_of_129_bytes_is_refused(rt: HostRuntime) -> Result<(), Fail> {
-    let bytes = long_name(rt.alloc(), 5)?;
-    assert_eq!(rt; bytes.len(), 129);
-    assert!(rt; matches!(name_of(rt.alloc(), &bytes), Err(NameErr::Bad)));
-    Ok(())
+fn a_name_has_128_bytes(rt: HostRuntime) {
+    assert_eq!(rt; name_len(rt.alloc(), 4), Ok(128));
+    assert_eq!(rt; name_len(rt.alloc(), 5), Err(NameErr::Bad), "one too many");
 }
 
 /// The text of these bytes, as a value.
@@ -115,37 +119,42 @@ fn text_value(alloc: Global, bytes: &[u8]) -> Result<Value, TextErr> {
     Ok(Value::Text(text_of(alloc, bytes)?))
 }
 
-#[test]
-fn a_quote_is_written_twice(rt: HostRuntime) -> Result<(), Fail> {
-    let value = text_value(rt.alloc(), b"it's")?;
-    let written = value_text(rt.alloc(), &value)?;
-    assert_eq!(rt; written.as_slice(), b"'it''s'".as_slice());
-    Ok(())
+/// Whether this is the text of the value.
+fn is_written(alloc: Global, value: &Value, text: &[u8]) -> Result<bool, AllocError> {
+    Ok(value_text(alloc, value)?.as_slice() == text)
 }
 
 #[test]
-fn numbers_and_null_are_written_as_in_statements(rt: HostRuntime) -> Result<(), Fail> {
+fn values_are_written_as_in_statements(rt: HostRuntime) -> Result<(), Fail> {
+    let quoted = text_value(rt.alloc(), b"it's")?;
     for (value, text) in [
-        (Value::Number(-1), b"-1".as_slice()),
-        (Value::Null, b"NULL".as_slice()),
+        (&quoted, b"'it''s'".as_slice()),
+        (&Value::Number(-1), b"-1"),
+        (&Value::Null, b"NULL"),
     ] {
-        assert_eq!(rt; value_text(rt.alloc(), &value)?.as_slice(), text);
+        assert!(rt; is_written(rt.alloc(), value, text)?);
     }
     Ok(())
+}
+
+/// Whether a value stands before another.
+fn is_before(value: &Value, other: &Value) -> bool {
+    value < other
 }
 
 #[test]
 fn numbers_stand_behind_null_and_before_texts(rt: HostRuntime) -> Result<(), Fail> {
     let text = text_value(rt.alloc(), b"1")?;
-    assert!(rt; Value::Null < Value::Number(-1));
-    assert!(rt; Value::Number(-1) < Value::Number(10));
-    assert!(rt; Value::Number(10) < text);
+    assert!(rt; is_before(&Value::Null, &Value::Number(-1)));
+    assert!(rt; is_before(&Value::Number(-1), &Value::Number(10)));
+    assert!(rt; is_before(&Value::Number(10), &text));
     Ok(())
 }
 
 #[test]
 fn texts_stand_in_the_order_of_their_bytes(rt: HostRuntime) -> Result<(), Fail> {
-    assert!(rt; text_value(rt.alloc(), b"B")? < text_value(rt.alloc(), b"a")?);
+    let (large, small) = (text_value(rt.alloc(), b"B")?, text_value(rt.alloc(), b"a")?);
+    assert!(rt; is_before(&large, &small));
     Ok(())
 }
 
@@ -169,21 +178,19 @@ fn a_map_keeps_the_last_row_of_each_key(rt: HostRuntime) -> Result<(), Fail> {
     Ok(())
 }
 
-#[test]
-fn equal_names_are_equal_keys(rt: HostRuntime) -> Result<(), Fail> {
-    let name = name_of(rt.alloc(), b"hq")?;
-    let mut by_name = HashMap::new(rt.alloc());
-    by_name.insert(name.copy(rt.alloc())?, 1)?;
-    assert_eq!(rt; by_name.get(&name).copied(), Some(1));
-    Ok(())
+/// Whether a map that has a copy of the key has the key.
+fn is_found<K: Duplicate + Eq + Hash + Drop>(alloc: Global, key: &K) -> Result<bool, AllocError> {
+    let mut map = HashMap::new(alloc);
+    map.insert(key.copy(alloc)?, 1)?;
+    Ok(map.get(key) == Some(&1))
 }
 
 #[test]
-fn equal_texts_are_equal_keys(rt: HostRuntime) -> Result<(), Fail> {
+fn a_copy_is_an_equal_key(rt: HostRuntime) -> Result<(), Fail> {
+    let name = name_of(rt.alloc(), b"hq")?;
+    assert!(rt; is_found(rt.alloc(), &name)?);
     let text = text_value(rt.alloc(), b"hq")?;
-    let mut by_text = HashMap::new(rt.alloc());
-    by_text.insert(text.copy(rt.alloc())?, 2)?;
-    assert_eq!(rt; by_text.get(&text).copied(), Some(2));
+    assert!(rt; is_found(rt.alloc(), &text)?);
     Ok(())
 }
 
