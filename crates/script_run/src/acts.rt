@@ -5,14 +5,12 @@ ghost use Rattle.script_run.specs.Linked.{SiteIs, IsNext, BeginsAs, EndsAs, IsSi
 
 use crate::calls::call;
 use crate::line::{AnswerLine, Said};
-use crate::site::{NODE, Site, started, stopped};
-use block_disk::MemDisk;
+use crate::site::{NODE, Site};
 use dtx_values::Notice;
 use sole_laws::{Trace, nodes_are_in_order};
 use sole_node::Happening;
 use sole_script::Command;
 use std::alloc::{AllocError, Global};
-use std::mem;
 
 /// A command begins.
 #[tactic(auto, using(crate::proofs::Beginning::begins))]
@@ -48,8 +46,7 @@ fn stop(
     ensures err { OnErr result (trace.new ≡ trace.old) }
 {
     trace.push(alloc, Happening::Stopped { node: NODE })?;
-    let running = mem::replace(site, Site::Down(MemDisk::new(alloc)));
-    *site = stopped(running);
+    site.stop(alloc);
     Ok(AnswerLine::new(number, Said::World(Notice::Fine)))
 }
 
@@ -75,9 +72,7 @@ fn start(
 {
     trace.lawful();
     nodes_are_in_order();
-    let resting = mem::replace(site, Site::Down(MemDisk::new(alloc)));
-    let (running, boot) = started(alloc, undo, resting)?;
-    *site = running;
+    let boot = site.start(alloc, undo)?;
     trace.push(alloc, Happening::Started { node: NODE, boot })?;
     Ok(AnswerLine::new(number, Said::World(Notice::Fine)))
 }

@@ -16,7 +16,7 @@ ghost use Rattle.script_run.specs.declared.site.Site.TheVariants.{Up};
 ghost use Rattle.script_run.specs.Linked.{SiteIs, EndsAs, TurnsAs};
 
 use crate::line::{AnswerLine, Said};
-use crate::site::{NODE, Site, running};
+use crate::site::{NODE, Site};
 use block_disk::MemDisk;
 use dtx_values::{Answer, Done};
 use sole_core::{Effects, Finished, Node, TurnErr};
@@ -25,7 +25,6 @@ use sole_node::{Happening, Input};
 use sql_parse::{ParseErr, created_tables_are_whole, parse};
 use sql_statement::Stmt;
 use std::alloc::{AllocError, Global};
-use std::mem;
 
 /// The statement that a text is, or nothing where the text is outside the grammar.
 #[tactic(auto, using(crate::proofs::Calling::makes_whole))]
@@ -104,15 +103,16 @@ fn serve(
 {
     trace.lawful();
     nodes_are_in_order();
-    let mut node = running(mem::replace(site, Site::Down(MemDisk::new(alloc))));
-    let effects = turn(&mut node, &input)?;
+    let Site::Up(node) = site else {
+        unreachable!();
+    };
+    let effects = turn(node, &input)?;
     let turn = Happening::Turn {
         node: NODE,
         input,
         wrote: effects.wrote,
     };
     trace.push(alloc, turn)?;
-    *site = Site::Up(node);
     Ok(effects.finished)
 }
 

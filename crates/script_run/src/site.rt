@@ -1,5 +1,5 @@
 //! Where the node of a run stands: up, or its disk alone.
-ghost use Rattle.std.specs.Prelude.{◌≡◌, List, Some, None, true, is_some, IfOk};
+ghost use Rattle.std.specs.Prelude.{◌≡◌, List, Some, None, true, is_some, IfOk, OnOk};
 ghost use Rattle.block_disk.specs.Happenings.{content_of};
 ghost use Rattle.redo_codec.specs.declared.record.RedoRecord.{RedoRecord};
 ghost use Rattle.sole_node.specs.Turn.{start_of, first_records};
@@ -11,6 +11,7 @@ ghost use Rattle.script_run.specs.Site.{site_kept, site_disk, site_bytes, is_ope
 use block_disk::MemDisk;
 use sole_core::{MakeErr, MakeWhy, Node};
 use std::alloc::{AllocError, Global};
+use std::mem;
 
 /// The number of the one node.
 pub(crate) const NODE: u8 = 1;
@@ -49,6 +50,28 @@ impl Site {
             Site::Down(_disk) => false,
         }
     }
+
+    /// The node stops, and leaves its disk.
+    pub fn stop(&mut self, alloc: Global)
+        ensures { self.new ≡ Down (site_disk self.old) }
+    {
+        let running = mem::replace(self, Site::Down(MemDisk::new(alloc)));
+        *self = stopped(running);
+    }
+
+    /// The node starts from its disk with so many undo extents: the number of this start.
+    pub fn start(&mut self, alloc: Global, undo: u32) -> Result<u32, AllocError>
+        requires down { site_kept self.old ≡ None }
+        requires sound { (rs : List RedoRecord) × MayStart rs (site_bytes self.old) }
+        ensures starts { IfOk result (λ boot. (rs : List RedoRecord) → IsLogOf rs (site_bytes self.old) → StartsAs rs self.new boot) }
+        ensures undo { OnOk result (HasUndo undo self.new) }
+        ensures ready { OnOk result (IsReadySite self.new) }
+    {
+        let resting = mem::replace(self, Site::Down(MemDisk::new(alloc)));
+        let (running, boot) = started(alloc, undo, resting)?;
+        *self = running;
+        Ok(boot)
+    }
 }
 
 /// A node that was just made, with so many undo extents.
@@ -75,19 +98,8 @@ pub fn made(alloc: Global, undo: u32) -> Result<Site, AllocError>
     }
 }
 
-/// The node of a site that is up.
-pub fn running(site: Site) -> Node<MemDisk>
-    requires { is_some (site_kept site) ≡ true }
-    ensures { site ≡ Up result }
-{
-    match site {
-        Site::Up(node) => node,
-        Site::Down(_disk) => unreachable!(),
-    }
-}
-
 /// A node that stops leaves its disk.
-pub fn stopped(site: Site) -> Site
+fn stopped(site: Site) -> Site
     ensures { result ≡ Down (site_disk site) }
 {
     match site {
@@ -97,7 +109,7 @@ pub fn stopped(site: Site) -> Site
 }
 
 /// A node that starts from its disk with so many undo extents, and the number of this start.
-pub fn started(alloc: Global, undo: u32, site: Site) -> Result<(Site, u32), AllocError>
+fn started(alloc: Global, undo: u32, site: Site) -> Result<(Site, u32), AllocError>
     requires down { site_kept site ≡ None }
     requires sound { (rs : List RedoRecord) × MayStart rs (site_bytes site) }
     ensures starts { IfOk result (λ x. (rs : List RedoRecord) → IsLogOf rs (site_bytes site) → StartsAs rs x.0 x.1) }
