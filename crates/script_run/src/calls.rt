@@ -2,12 +2,14 @@
 //! that defines data commits implicitly (SQL Language Reference, "COMMIT").
 ghost use Rattle.std.specs.Prelude.{◌≡◌, ◌<◌, ◌^◌, ◌&&◌, ℕ, Some, None, length, true, is_some, IfOk, IfSome, OnOk, OnErr};
 ghost use Rattle.sql_parse.specs.Statement.{statement_of};
+ghost use Rattle.sql_statement.specs.declared.statement.Stmt.TheVariants.{CreateTable};
+ghost use Rattle.sql_statement.specs.Whole.{IsWholeTable};
 ghost use Rattle.sole_node.specs.declared.input.Input.TheVariants as inputs;
 ghost use Rattle.sole_node.specs.Statements.{is_create as is_create_of};
 ghost use Rattle.sole_node.specs.Turn.{turn_of};
 ghost use Rattle.sole_node.specs.Ready.{IsReady, MakesWhole};
 ghost use Rattle.sole_node.specs.Disk.{IsSpelled};
-ghost use Rattle.sole_laws.specs.Past.{Serves, past_of, behind, following, call_due, is_committed as is_committed_of};
+ghost use Rattle.sole_laws.specs.Past.{Serves, past_of, behind, following, call_due, commit_call, is_committed as is_committed_of};
 ghost use Rattle.sole_laws.specs.Lawful.{served_by};
 ghost use Rattle.sole_core.specs.Finished.{answer_of};
 ghost use Rattle.sole_core.specs.OnDisk.{kept_of, undo_of, GrowsBy};
@@ -18,7 +20,7 @@ ghost use Rattle.script_run.specs.Linked.{SiteIs, EndsAs, TurnsAs};
 use crate::line::{AnswerLine, Said};
 use crate::site::{NODE, Site};
 use block_disk::MemDisk;
-use dtx_values::{Answer, Done};
+use dtx_values::{Answer, Done, Table};
 use sole_core::{Effects, Finished, Node, TurnErr};
 use sole_laws::{Trace, nodes_are_in_order};
 use sole_node::{Happening, Input};
@@ -140,33 +142,40 @@ fn serve_last(
     Ok(AnswerLine::new(number, Said::Node(finished)))
 }
 
-/// The node serves the call that is out, and the one behind it where the first is answered Commit complete.
+/// The node commits the transaction of a session, and makes the table where that is answered Commit complete.
 #[tactic(auto, using(crate::proofs::Calling::calls))]
-fn serve_both(
+fn commit_and_create(
     alloc: Global,
     number: u32,
     site: &mut Site,
     trace: &mut Trace,
-    first: Input,
-    second: Input,
+    session: u32,
+    table: Table,
 ) -> Result<AnswerLine, AllocError>
     requires is { SiteIs (past_of trace.old) site.old }
     requires up { is_some (past_of trace.old).node ≡ true }
     requires running { (past_of trace.old).command ≡ number }
-    requires out { (past_of trace.old).due ≡ Serves first (Some second) }
-    requires first { MakesWhole first }
-    requires second { MakesWhole second }
+    requires out { (past_of trace.old).due ≡ Serves (commit_call session) (Some (inputs.Call session (Some (CreateTable table)))) }
+    requires whole { IsWholeTable table }
     requires few { length trace.old.asked < 2 ^ 30 }
     ensures ends { IfOk result (EndsAs (past_of trace.old) (past_of trace.new)) }
     ensures is { OnOk result (SiteIs (past_of trace.new) site.new) }
     ensures asked { trace.new.asked ≡ trace.old.asked }
     ensures err { OnErr result ((past_of trace.new).lines ≡ (past_of trace.old).lines) }
 {
-    let finished = serve(alloc, site, trace, first)?;
+    let commit = Input::Call {
+        session,
+        statement: Some(Stmt::Commit { comment: None }),
+    };
+    let finished = serve(alloc, site, trace, commit)?;
     if !is_committed(finished.answer()) {
         return Ok(AnswerLine::new(number, Said::Node(finished)));
     }
-    serve_last(alloc, number, site, trace, second)
+    let create = Input::Call {
+        session,
+        statement: Some(Stmt::CreateTable(table)),
+    };
+    serve_last(alloc, number, site, trace, create)
 }
 
 /// The node serves the calls of a session's text.
@@ -190,14 +199,15 @@ pub fn call(
     ensures err { OnErr result ((past_of trace.new).lines ≡ (past_of trace.old).lines) }
 {
     let statement = statement(alloc, text)?;
-    let commits_first = commits_first(site, session, &statement);
-    let input = Input::Call { session, statement };
-    if !commits_first {
+    if !commits_first(site, session, &statement) {
+        let input = Input::Call { session, statement };
         return serve_last(alloc, number, site, trace, input);
     }
-    let commit = Input::Call {
-        session,
-        statement: Some(Stmt::Commit { comment: None }),
+    let Some(statement) = statement else {
+        unreachable!();
     };
-    serve_both(alloc, number, site, trace, commit, input)
+    let Stmt::CreateTable(table) = statement else {
+        unreachable!();
+    };
+    commit_and_create(alloc, number, site, trace, session, table)
 }

@@ -1,4 +1,4 @@
-use Rattle.std.proofs.Common.{sym, ap, subst, ◌∙◌, Some}
+use Rattle.std.proofs.Common.{sym, ap, subst, Some}
 use Rattle.sole_laws.specs.Past.{Past, past_of, behind, following}
 use Rattle.sole_core.specs.Finished.{answer_of}
 use Rattle.sole_core.specs.OnDisk.{kept_of, undo_of}
