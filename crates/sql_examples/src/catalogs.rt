@@ -2,7 +2,6 @@
 use catalog::{CatErr, Catalog};
 use dtx_values::{Columns, Link, Name, Synonym, Table};
 use std::alloc::Global;
-use std::test::Fail;
 
 // Where the name is none, it is as if there were no memory for it.
 fn named(alloc: Global, text: &str) -> Result<Name, CatErr> {
@@ -31,6 +30,68 @@ fn make_synonym(catalog: &mut Catalog, alloc: Global, name: &str) -> Result<(), 
     catalog.add_synonym(alloc, Synonym { name, table, link })
 }
 
+/// What is made in a catalog.
+#[derive(Clone, Copy)]
+enum Made {
+    Table(&'static str),
+    Synonym(&'static str),
+    Link(&'static str, &'static str),
+}
+
+fn make(catalog: &mut Catalog, alloc: Global, made: Made) -> Result<(), CatErr> {
+    match made {
+        Made::Table(name) => make_table(catalog, alloc, name),
+        Made::Synonym(name) => make_synonym(catalog, alloc, name),
+        Made::Link(name, target) => make_link(catalog, alloc, name, target),
+    }
+}
+
+/// Whether each is made, or refused, as it is due.
+fn are_made(alloc: Global, all: &[(Made, Result<(), CatErr>)]) -> bool {
+    let mut catalog = Catalog::new(alloc);
+    for (made, due) in all {
+        if make(&mut catalog, alloc, *made) != *due {
+            return false;
+        }
+    }
+    true
+}
+
+/// What is made in a catalog in this order, and whether the name is taken.
+const ORDERS: [(&str, &[(Made, Result<(), CatErr>)]); 3] = [
+    (
+        "a name is given to one table",
+        &[
+            (Made::Table("orders"), Ok(())),
+            (Made::Table("ORDERS"), Err(CatErr::Used)),
+            (Made::Table("order"), Ok(())),
+        ],
+    ),
+    (
+        "tables and synonyms share their names",
+        &[
+            (Made::Table("orders"), Ok(())),
+            (Made::Synonym("ORDERS"), Err(CatErr::Used)),
+            (Made::Link("orders", "hq"), Ok(())),
+        ],
+    ),
+    (
+        "a link keeps its name",
+        &[
+            (Made::Link("hq.acme.com", "hq"), Ok(())),
+            (Made::Link("HQ.ACME.COM", "sales"), Err(CatErr::Used)),
+        ],
+    ),
+];
+
+#[test]
+fn names_are_given_once(rt: HostRuntime) {
+    for (what, all) in ORDERS {
+        assert!(rt; are_made(rt.alloc(), all), "{what}");
+    }
+}
+
+/// Whether a link leads to this target.
 fn leads_to(catalog: &Catalog, alloc: Global, name: &str, target: &str) -> Result<bool, CatErr> {
     let name = named(alloc, name)?;
     match catalog.link(&name) {
@@ -39,51 +100,40 @@ fn leads_to(catalog: &Catalog, alloc: Global, name: &str, target: &str) -> Resul
     }
 }
 
+/// Whether a synonym has this name, and no table.
+fn is_synonym(catalog: &Catalog, alloc: Global, name: &str) -> Result<bool, CatErr> {
+    let name = named(alloc, name)?;
+    Ok(catalog.synonym(&name).is_some() && catalog.table(&name).is_none())
+}
+
+/// Makes a link and a synonym.
+fn make_both(catalog: &mut Catalog, alloc: Global) -> Result<(), CatErr> {
+    make_link(catalog, alloc, "hq.acme.com", "hq")?;
+    make_synonym(catalog, alloc, "staff")
+}
+
+/// Whether both are found by their names.
+fn are_both_found(catalog: &Catalog, alloc: Global) -> Result<bool, CatErr> {
+    let leads = leads_to(catalog, alloc, "HQ.ACME.COM", "HQ")?;
+    Ok(leads && is_synonym(catalog, alloc, "STAFF")?)
+}
+
+/// Whether what was made is found.
+fn are_found(alloc: Global) -> Result<bool, CatErr> {
+    let mut catalog = Catalog::new(alloc);
+    make_both(&mut catalog, alloc)?;
+    are_both_found(&catalog, alloc)
+}
+
+#[test]
+fn links_and_synonyms_are_found_by_their_names(rt: HostRuntime) {
+    assert!(rt; are_found(rt.alloc()) == Ok(true));
+}
+
 #[test]
 fn recovery_is_on_until_it_is_switched_off(rt: HostRuntime) {
     let mut catalog = Catalog::new(rt.alloc());
     assert!(rt; catalog.recovery());
     catalog.set_recovery(false);
     assert!(rt; !catalog.recovery());
-}
-
-#[test]
-fn a_name_is_given_to_one_table(rt: HostRuntime) {
-    let alloc = rt.alloc();
-    let mut catalog = Catalog::new(alloc);
-    assert_eq!(rt; make_table(&mut catalog, alloc, "orders"), Ok(()));
-    let again = make_table(&mut catalog, alloc, "ORDERS");
-    assert_eq!(rt; again, Err(CatErr::Used));
-    assert_eq!(rt; make_table(&mut catalog, alloc, "order"), Ok(()));
-}
-
-#[test]
-fn tables_and_synonyms_share_their_names(rt: HostRuntime) {
-    let alloc = rt.alloc();
-    let mut catalog = Catalog::new(alloc);
-    assert_eq!(rt; make_table(&mut catalog, alloc, "orders"), Ok(()));
-    let synonym = make_synonym(&mut catalog, alloc, "ORDERS");
-    assert_eq!(rt; synonym, Err(CatErr::Used));
-    assert_eq!(rt; make_link(&mut catalog, alloc, "orders", "hq"), Ok(()));
-}
-
-#[test]
-fn a_synonym_is_found_by_its_name(rt: HostRuntime) -> Result<(), Fail> {
-    let alloc = rt.alloc();
-    let mut catalog = Catalog::new(alloc);
-    assert_eq!(rt; make_synonym(&mut catalog, alloc, "staff"), Ok(()));
-    let name = Name::from_bytes(alloc, b"STAFF").map_err(|_| "it is a name")?;
-    assert!(rt; catalog.synonym(&name).is_some());
-    assert!(rt; catalog.table(&name).is_none());
-    Ok(())
-}
-
-#[test]
-fn a_link_keeps_its_first_target(rt: HostRuntime) {
-    let alloc = rt.alloc();
-    let mut catalog = Catalog::new(alloc);
-    assert_eq!(rt; make_link(&mut catalog, alloc, "hq.acme.com", "hq"), Ok(()));
-    let again = make_link(&mut catalog, alloc, "HQ.ACME.COM", "sales");
-    assert_eq!(rt; again, Err(CatErr::Used));
-    assert_eq!(rt; leads_to(&catalog, alloc, "hq.acme.com", "HQ"), Ok(true));
 }

@@ -1,6 +1,6 @@
 //! What no clause says of locks: that calls succeed, and who is named where a key is held, by examples.
 use dtx_values::{Name, Value};
-use row_locks::{LockErr, Locks};
+use row_locks::{Keys, LockErr, Locks};
 use std::alloc::Global;
 use std::test::Fail;
 use tran_ids::BranchId;
@@ -21,73 +21,94 @@ const SECOND: BranchId = BranchId {
 
 const KEY: i64 = 7;
 
-fn emp(alloc: Global) -> Result<Name, Fail> {
-    Ok(Name::from_bytes(alloc, b"EMP").map_err(|_| "it is a name")?)
+// Where the name is none, it is as if there were no memory for it.
+fn emp(alloc: Global) -> Result<Name, LockErr> {
+    match Name::from_bytes(alloc, b"EMP") {
+        Ok(name) => Ok(name),
+        Err(_) => Err(LockErr::NoMemory),
+    }
 }
 
-/// Locks with the key alone, which the first branch has taken to write its row.
-fn taken(alloc: Global, emp: &Name) -> Result<Locks, LockErr> {
+/// What has become of the first branch since it took the key to write its row.
+#[derive(Clone, Copy)]
+enum First {
+    Live,
+    InDoubt,
+    Ended,
+}
+
+/// Locks with the key alone, which the first branch has taken.
+fn taken(alloc: Global, emp: &Name, first: First) -> Result<Locks, LockErr> {
     let mut locks = Locks::new(alloc);
     locks.take(alloc, &FIRST, emp, &Value::Number(KEY), true)?;
+    match first {
+        First::Live => {}
+        First::InDoubt => locks.mark_in_doubt(&FIRST),
+        First::Ended => locks.release(&FIRST),
+    }
     Ok(locks)
 }
 
 /// What the second branch is told where it takes the key only to read its row.
-fn told(alloc: Global, locks: &mut Locks, emp: &Name) -> Result<(), LockErr> {
-    locks.take(alloc, &SECOND, emp, &Value::Number(KEY), false)
+fn told(alloc: Global, first: First) -> Result<(), LockErr> {
+    let emp = emp(alloc)?;
+    let mut locks = taken(alloc, &emp, first)?;
+    locks.take(alloc, &SECOND, &emp, &Value::Number(KEY), false)
 }
 
 #[test]
-fn a_key_is_held_by_the_first_that_takes_it(rt: HostRuntime) -> Result<(), Fail> {
-    let alloc = rt.alloc();
+fn a_key_is_held_until_its_branch_ends(rt: HostRuntime) {
+    for (first, due) in [
+        (
+            First::Live,
+            Err(LockErr::Held {
+                by: FIRST,
+                in_doubt: false,
+            }),
+        ),
+        (
+            First::InDoubt,
+            Err(LockErr::Held {
+                by: FIRST,
+                in_doubt: true,
+            }),
+        ),
+        (First::Ended, Ok(())),
+    ] {
+        assert!(rt; told(rt.alloc(), first) == due);
+    }
+}
+
+/// The branch that holds the key, and whether it is in doubt.
+fn holder(alloc: Global, first: First) -> Result<Option<(BranchId, bool)>, LockErr> {
     let emp = emp(alloc)?;
-    let mut locks = taken(alloc, &emp).map_err(|_| "the key is free")?;
-    let held = LockErr::Held {
-        by: FIRST,
-        in_doubt: false,
-    };
-    assert_eq!(rt; told(alloc, &mut locks, &emp), Err(held));
-    assert_eq!(rt;
-        locks.holder(&emp, &Value::Number(KEY)),
-        Some((FIRST, false))
-    );
-    Ok(())
+    let locks = taken(alloc, &emp, first)?;
+    Ok(locks.holder(&emp, &Value::Number(KEY)))
 }
 
 #[test]
-fn a_key_of_a_branch_in_doubt_is_held_in_doubt(rt: HostRuntime) -> Result<(), Fail> {
-    let alloc = rt.alloc();
-    let emp = emp(alloc)?;
-    let mut locks = taken(alloc, &emp).map_err(|_| "the key is free")?;
-    locks.mark_in_doubt(&FIRST);
-    let held = LockErr::Held {
-        by: FIRST,
-        in_doubt: true,
-    };
-    assert_eq!(rt; told(alloc, &mut locks, &emp), Err(held));
-    Ok(())
+fn the_holder_of_a_key_is_named(rt: HostRuntime) {
+    for (first, due) in [
+        (First::Live, Some((FIRST, false))),
+        (First::InDoubt, Some((FIRST, true))),
+        (First::Ended, None),
+    ] {
+        assert!(rt; holder(rt.alloc(), first) == Ok(due));
+    }
 }
 
-#[test]
-fn a_key_is_free_once_it_is_given_back(rt: HostRuntime) -> Result<(), Fail> {
-    let alloc = rt.alloc();
+/// The keys that are left of the first branch once it gives back those that it only read.
+fn keys_left(alloc: Global) -> Result<Keys, LockErr> {
     let emp = emp(alloc)?;
-    let mut locks = taken(alloc, &emp).map_err(|_| "the key is free")?;
-    locks.release(&FIRST);
-    assert_eq!(rt; locks.holder(&emp, &Value::Number(KEY)), None);
-    assert_eq!(rt; told(alloc, &mut locks, &emp), Ok(()));
-    Ok(())
+    let mut locks = taken(alloc, &emp, First::Live)?;
+    locks.take(alloc, &FIRST, &emp, &Value::Number(1), false)?;
+    locks.drop_reads(&FIRST);
+    Ok(locks.keys(alloc, &emp)?)
 }
 
 #[test]
 fn keys_that_were_only_read_are_given_back(rt: HostRuntime) -> Result<(), Fail> {
-    let alloc = rt.alloc();
-    let emp = emp(alloc)?;
-    let mut locks = taken(alloc, &emp).map_err(|_| "the key is free")?;
-    let read = locks.take(alloc, &FIRST, &emp, &Value::Number(1), false);
-    assert_eq!(rt; read, Ok(()));
-    locks.drop_reads(&FIRST);
-    let keys = locks.keys(alloc, &emp)?;
-    assert_eq!(rt; keys.as_slice(), [Value::Number(KEY)].as_slice());
+    let keys = keys_left(rt.alloc()).map_err(|_| "the keys are free")?;
+    assert!(rt; keys.as_slice() == [Value::Number(KEY)].as_slice());
     Ok(())
 }

@@ -47,8 +47,8 @@ fn code_at(alloc: Global, statement: &Stmt, table: &Table) -> Result<u16, Fail> 
 
 /// The code of the refusal of the statement with this text before any row is seen, or 0.
 fn code(alloc: Global, text: &str) -> Result<u16, Fail> {
-    let statement = statement(alloc, text)?;
     let table = table(alloc)?;
+    let statement = statement(alloc, text)?;
     code_at(alloc, &statement, &table)
 }
 
@@ -107,11 +107,14 @@ fn rows(alloc: Global, numbers: &[(i64, Option<i64>)]) -> Result<Vec<Keyed>, All
     Ok(rows)
 }
 
+fn meant_of(alloc: Global, statement: &Stmt, table: &Table, rows: &[Keyed]) -> Result<Meant, Fail> {
+    Ok(meant_over(alloc, statement, table, rows)?)
+}
+
 fn meant(alloc: Global, text: &str, rows: &[Keyed]) -> Result<Meant, Fail> {
-    let statement = statement(alloc, text)?;
     let table = table(alloc)?;
-    let meant = meant_over(alloc, &statement, &table, rows)?;
-    Ok(meant)
+    let statement = statement(alloc, text)?;
+    meant_of(alloc, &statement, &table, rows)
 }
 
 /// The first cell of the one row that is given.
@@ -159,9 +162,9 @@ fn found_of(alloc: Global, statement: &Stmt, table: &Table, rows: &[Keyed]) -> R
 
 /// How many rows a query finds, of one with NULL and one with 5.
 fn found_count(alloc: Global, text: &str) -> Result<usize, Fail> {
-    let statement = statement(alloc, text)?;
     let table = table(alloc)?;
     let rows = rows(alloc, &[(1, None), (2, Some(5))])?;
+    let statement = statement(alloc, text)?;
     found_of(alloc, &statement, &table, &rows)
 }
 
@@ -197,8 +200,8 @@ fn examined_of(alloc: Global, statement: &Stmt, table: &Table) -> Result<Vec<Val
 
 /// The keys that a count of the rows examines.
 fn counted_keys(alloc: Global) -> Result<Vec<Value>, Fail> {
-    let statement = statement(alloc, "SELECT COUNT(*) FROM T")?;
     let table = table(alloc)?;
+    let statement = statement(alloc, "SELECT COUNT(*) FROM T")?;
     examined_of(alloc, &statement, &table)
 }
 

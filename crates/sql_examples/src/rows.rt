@@ -1,6 +1,7 @@
 //! What no clause says of rows: a table's life in short, a branch's changes and their bytes, by examples.
 use dtx_values::{Cells, Change, Changes, Name, Row, Str, Value};
 use row_store::{KeyedRows, OwnChanges, Tables, View, changes_len, extents};
+use sql_eval::Keyed;
 use std::alloc::{AllocError, Global};
 use std::test::Fail;
 
@@ -34,16 +35,25 @@ fn shuffled(alloc: Global) -> Result<KeyedRows, Fail> {
     Ok(rows)
 }
 
+/// Those rows, copied with their keys.
+fn shuffled_copies(alloc: Global) -> Result<Vec<Keyed>, Fail> {
+    let rows = shuffled(alloc)?;
+    Ok(rows.keyed(alloc)?)
+}
+
+/// Whether these are the keys of the rows, in this order.
+fn have_keys(rows: &[Keyed], keys: &[Value]) -> bool {
+    rows.len() == keys.len() && rows.iter().zip(keys).all(|(row, key)| row.key == *key)
+}
+
 #[test]
 fn rows_stand_in_key_order(rt: HostRuntime) -> Result<(), Fail> {
     let alloc = rt.alloc();
-    let rows = shuffled(alloc)?;
-    let keyed = rows.keyed(alloc)?;
-    assert_eq!(rt; keyed.len(), 4);
-    assert_eq!(rt; keyed[0].key, Value::Number(-2));
-    assert_eq!(rt; keyed[1].key, Value::Number(10));
-    assert_eq!(rt; keyed[2].key, text(alloc, b"a")?);
-    assert_eq!(rt; keyed[3].key, text(alloc, b"b")?);
+    let rows = shuffled_copies(alloc)?;
+    let a = text(alloc, b"a")?;
+    let b = text(alloc, b"b")?;
+    let keys = vec![in alloc; Value::Number(-2), Value::Number(10), a, b]?;
+    assert!(rt; have_keys(&rows, &keys));
     Ok(())
 }
 
@@ -56,44 +66,48 @@ fn put_again(alloc: Global) -> Result<KeyedRows, AllocError> {
     Ok(rows)
 }
 
-#[test]
-fn a_key_has_its_last_row(rt: HostRuntime) -> Result<(), Fail> {
-    let rows = put_again(rt.alloc())?;
-    let there = rows.get(&Value::Number(1)).ok_or("the row is there")?;
-    assert_eq!(rt; there.cells.as_slice(), [Value::Number(30)].as_slice());
-    assert_eq!(rt; rows.len(), 2);
-    Ok(())
+/// The number of the row at a key.
+fn number_at(rows: &KeyedRows, key: i64) -> Option<i64> {
+    match rows.get(&Value::Number(key))?.cells.as_slice() {
+        [Value::Number(cell)] => Some(*cell),
+        _ => None,
+    }
 }
 
-#[test]
-fn a_row_is_copied_with_its_key(rt: HostRuntime) -> Result<(), Fail> {
-    let alloc = rt.alloc();
-    let rows = put_again(alloc)?;
-    let copies = rows.at_key(alloc, &Value::Number(2))?;
-    assert_eq!(rt; copies.len(), 1);
-    assert_eq!(rt; copies[0].key, Value::Number(2));
-    Ok(())
-}
-
-#[test]
-fn a_removed_key_has_no_row(rt: HostRuntime) -> Result<(), Fail> {
-    let alloc = rt.alloc();
+/// The number of the row at a key, and how many rows are copied for it, once the rows at these keys were removed.
+fn left_at(alloc: Global, removed: &[i64], key: i64) -> Result<(Option<i64>, usize), AllocError> {
     let mut rows = put_again(alloc)?;
-    rows.remove(&Value::Number(1));
-    assert!(rt; rows.get(&Value::Number(1)).is_none());
-    assert!(rt; rows.at_key(alloc, &Value::Number(1))?.is_empty());
-    Ok(())
+    for gone in removed {
+        rows.remove(&Value::Number(*gone));
+    }
+    let copies = rows.at_key(alloc, &Value::Number(key))?;
+    Ok((number_at(&rows, key), copies.len()))
 }
 
 #[test]
-fn only_rows_that_are_there_are_removed(rt: HostRuntime) -> Result<(), Fail> {
-    let mut rows = put_again(rt.alloc())?;
-    rows.remove(&Value::Number(3));
-    rows.remove(&Value::Number(1));
-    assert!(rt; !rows.is_empty());
-    rows.remove(&Value::Number(2));
-    assert!(rt; rows.is_empty());
-    Ok(())
+fn a_key_has_its_last_row_until_it_is_removed(rt: HostRuntime) {
+    for (removed, key, left) in [
+        ([].as_slice(), 1, (Some(30), 1)),
+        (&[3, 1], 1, (None, 0)),
+        (&[3, 1], 2, (Some(20), 1)),
+    ] {
+        assert!(rt; left_at(rt.alloc(), removed, key) == Ok(left));
+    }
+}
+
+/// How many rows are left once those at these keys were removed.
+fn count_left(alloc: Global, removed: &[i64]) -> Result<usize, AllocError> {
+    let mut rows = put_again(alloc)?;
+    for gone in removed {
+        rows.remove(&Value::Number(*gone));
+    }
+    Ok(rows.len())
+}
+
+#[test]
+fn only_rows_that_are_there_are_removed(rt: HostRuntime) {
+    assert!(rt; count_left(rt.alloc(), &[3]) == Ok(2));
+    assert!(rt; count_left(rt.alloc(), &[1, 2]) == Ok(0));
 }
 
 fn table(alloc: Global) -> Result<Name, Fail> {
@@ -180,30 +194,33 @@ fn cell_at(view: &View, key: i64) -> Option<i64> {
     }
 }
 
-#[test]
-fn own_changes_are_seen_over_committed_rows(rt: HostRuntime) -> Result<(), Fail> {
-    let alloc = rt.alloc();
+/// The number at a key, how many rows stand there, and how many there are in all.
+type Seen = (Option<i64>, usize, usize);
+
+fn seen(alloc: Global, view: &View, key: i64) -> Result<Seen, Fail> {
+    let there = view.at_key(alloc, &Value::Number(key))?.len();
+    let all = view.keyed(alloc)?.len();
+    Ok((cell_at(view, key), there, all))
+}
+
+/// What the branch sees of the table.
+fn seen_at(alloc: Global, key: i64) -> Result<Seen, Fail> {
     let name = table(alloc)?;
     let tables = three_rows(alloc)?;
     let own = four_changes(alloc)?;
-    let view = View::new(&tables, &own, &name);
-    for (key, cell) in [(1, Some(12)), (2, None), (3, Some(30)), (4, Some(40))] {
-        assert_eq!(rt; cell_at(&view, key), cell, "at {key}");
-    }
-    Ok(())
+    seen(alloc, &View::new(&tables, &own, &name), key)
 }
 
 #[test]
-fn a_view_has_the_rows_that_are_left(rt: HostRuntime) -> Result<(), Fail> {
-    let alloc = rt.alloc();
-    let name = table(alloc)?;
-    let tables = three_rows(alloc)?;
-    let own = four_changes(alloc)?;
-    let view = View::new(&tables, &own, &name);
-    let rows = view.keyed(alloc)?;
-    assert_eq!(rt; rows.len(), 3);
-    let removed = view.at_key(alloc, &Value::Number(2))?;
-    assert_eq!(rt; removed.len(), 0);
+fn own_changes_are_seen_over_committed_rows(rt: HostRuntime) -> Result<(), Fail> {
+    for (key, cell, there) in [
+        (1, Some(12), 1),
+        (2, None, 0),
+        (3, Some(30), 1),
+        (4, Some(40), 1),
+    ] {
+        assert!(rt; seen_at(rt.alloc(), key)? == (cell, there, 3), "at {key}");
+    }
     Ok(())
 }
 
@@ -230,8 +247,7 @@ fn undo_keeps_the_row_from_before(rt: HostRuntime) -> Result<(), Fail> {
 fn long_changes_are_soon_too_many(rt: HostRuntime) -> Result<(), Fail> {
     let changes = long_changes(rt.alloc(), 5000, 2000)?;
     let bytes = changes_len(changes.as_slice())?;
-    assert!(rt; bytes > 8_388_608, "{bytes} bytes");
-    assert_eq!(rt; bytes, 5000 * 2025);
-    assert_eq!(rt; extents(bytes), 2472);
+    assert!(rt; bytes == 5000 * 2025 && bytes > 8_388_608);
+    assert!(rt; extents(bytes) == 2472);
     Ok(())
 }

@@ -1,14 +1,21 @@
 //! What no clause says of statements: texts that are statements, texts that are none, and how statements are printed.
 use sql_parse::{ParseErr, parse, print_stmt};
+use sql_statement::Stmt;
 use std::alloc::{AllocError, Global};
 use std::test::Fail;
 
+/// What reading a text comes to, whatever statement it is.
+fn read(alloc: Global, text: &[u8]) -> Result<(), ParseErr> {
+    parse(alloc, text)?;
+    Ok(())
+}
+
 fn is_statement(alloc: Global, text: &[u8]) -> bool {
-    parse(alloc, text).is_ok()
+    read(alloc, text).is_ok()
 }
 
 fn is_refused(alloc: Global, text: &[u8]) -> bool {
-    matches!(&parse(alloc, text), Err(ParseErr::BadSql))
+    read(alloc, text) == Err(ParseErr::BadSql)
 }
 
 /// Texts that are statements.
@@ -131,9 +138,13 @@ const PRINTED: [(&[u8], &[u8]); 9] = [
     ),
 ];
 
+fn is_printed(alloc: Global, statement: &Stmt, printed: &[u8]) -> Result<bool, Fail> {
+    Ok(print_stmt(alloc, statement)?.as_slice() == printed)
+}
+
 fn is_printed_as(alloc: Global, text: &[u8], printed: &[u8]) -> Result<bool, Fail> {
     let statement = parse(alloc, text)?;
-    Ok(print_stmt(alloc, &statement)?.as_slice() == printed)
+    is_printed(alloc, &statement, printed)
 }
 
 #[test]
