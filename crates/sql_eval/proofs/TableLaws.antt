@@ -7,7 +7,7 @@ use Rattle.std.proofs.lemmas.Bool.{lt-ltb, ltb-true, eqb-true}
 use Rattle.sql_statement.specs.Distinct.{are_distinct, column_name}
 use Rattle.sql_eval.specs.Data.{Column}
 use Rattle.sql_eval.specs.Columns.{is_named}
-use Rattle.sql_eval.specs.Laws.{key_place, names_differ, TablesHaveOneKey, WholeTablesHaveOneKey}
+use Rattle.sql_eval.specs.Laws.{key_place, TablesHaveOneKey, WholeTablesHaveOneKey}
 
 abbrev pub is_of_key : Column → Bool
 is_of_key c = c.key
@@ -57,17 +57,17 @@ not_both true b h e = cc
 not_both false b h e = cc
 
 place_step : (name : List ℕ) (c : Column) (cs : List Column) (k n : Bool) → c.key ≡ k → is_named name c ≡ n
-    → (names_differ cs ≡ true → count_by is_of_key cs ≤ 1 → list_any (is_key_named name) cs ≡ true → position_or_len (is_named name) cs ≡ position_or_len is_of_key cs)
-    → (not (list_any (is_named c.name) cs) && names_differ cs) ≡ true → cond k 1 0 + count_by is_of_key cs ≤ 1 → ((k && n) || list_any (is_key_named name) cs) ≡ true
+    → (are_distinct column_name cs ≡ true → count_by is_of_key cs ≤ 1 → list_any (is_key_named name) cs ≡ true → position_or_len (is_named name) cs ≡ position_or_len is_of_key cs)
+    → (not (list_any (is_named c.name) cs) && are_distinct column_name cs) ≡ true → cond k 1 0 + count_by is_of_key cs ≤ 1 → ((k && n) || list_any (is_key_named name) cs) ≡ true
     → cond (not n) (1 + position_or_len (is_named name) cs) 0 ≡ cond (not k) (1 + position_or_len is_of_key cs) 0
 place_step name c cs true true key named later differ few e = refl
 place_step name c cs true false key named later differ few e = let another : 1 ≤ count_by is_of_key cs = any_key name cs e in absurd (omega arith)
 place_step name c cs false true key named later differ few e =
     let another : list_any (is_named c.name) cs ≡ true = subst (λ (x : List ℕ). list_any (is_named x) cs ≡ true) (sym (same_name name c named)) (any_named name cs e) in
-    absurd (not_both (list_any (is_named c.name) cs) (names_differ cs) differ another)
+    absurd (not_both (list_any (is_named c.name) cs) (are_distinct column_name cs) differ another)
 place_step name c cs false false key named later differ few e = ap (λ (i : ℕ). 1 + i) (later (right _ _ differ) (omega arith) e)
 
-same_place : (name : List ℕ) (cs : List Column) → names_differ cs ≡ true → count_by is_of_key cs ≤ 1 → list_any (is_key_named name) cs ≡ true → position_or_len (is_named name) cs ≡ position_or_len is_of_key cs
+same_place : (name : List ℕ) (cs : List Column) → are_distinct column_name cs ≡ true → count_by is_of_key cs ≤ 1 → list_any (is_key_named name) cs ≡ true → position_or_len (is_named name) cs ≡ position_or_len is_of_key cs
 same_place name [] differ few e = absurd cc
 same_place name (c ∷ cs) differ few e = place_step name c cs c.key (is_named name c) refl refl (same_place name cs) differ (rw (keys_of_more c cs) at few) e
 
@@ -105,7 +105,7 @@ pub tables_have_one_key : TablesHaveOneKey
 tables_have_one_key t h name =
     let cs = t.columns in
     let one : count_by is_of_key cs ≡ 1 = eqb-true _ _ (left _ _ h) in
-    let differ : names_differ cs ≡ true = right _ _ h in
+    let differ : are_distinct column_name cs ≡ true = right (count_by is_of_key cs == 1) (are_distinct column_name cs) h in
     let within : position_or_len is_of_key cs < length cs = key_within cs (omega arith) in
     let key : key_place t ≡ position_or_len is_of_key cs = ap (λ (o : Option ℕ). unwrap_or o 0) (placed is_of_key cs within) in (
       λ is.
@@ -118,11 +118,5 @@ tables_have_one_key t h name =
 
 -- ---- tables that a text creates
 
-same_names : (cs : List Column) → names_differ cs ≡ are_distinct column_name cs
-same_names [] = refl
-same_names (c ∷ cs) = ap (λ (b : Bool). not (list_any (is_named c.name) cs) && b) (same_names cs)
-
 pub whole_tables_have_one_key : WholeTablesHaveOneKey
-whole_tables_have_one_key t whole =
-    let named : names_differ t.columns ≡ true = same_names t.columns ∙ whole.distinct in
-    ap (λ (n : ℕ). (n == 1) && names_differ t.columns) whole.one_key ∙ named
+whole_tables_have_one_key t whole = ap (λ (n : ℕ). (n == 1) && are_distinct column_name t.columns) whole.one_key ∙ whole.distinct

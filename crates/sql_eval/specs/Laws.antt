@@ -1,7 +1,8 @@
 -- A statement that fixes a key depends on what stands at that key alone, and each change of an accepted statement is one
 -- of its table.
-use Rattle.std.specs.Prelude.{◌≡◌, ◌==◌, ◌&&◌, not, ℕ, Bool, true, false, List, [], ◌∷◌, Some, None, IfSome, filter, length, map, position, count_by, unwrap_or}
-use Rattle.std.specs.List.{All, AllByRecursion, list_any}
+use Rattle.std.specs.Prelude.{◌≡◌, ◌==◌, ◌&&◌, ℕ, Bool, true, false, List, Some, None, IfSome, filter, length, map, position, count_by, unwrap_or}
+use Rattle.std.specs.List.{All, AllByRecursion}
+use Rattle.sql_statement.specs.Distinct.{are_distinct, column_name}
 use Rattle.sql_statement.specs.Whole.{IsWholeTable}
 use Rattle.sql_eval.specs.Data.{Value, Row, Change, Column, Table, Keyed, Stmt, Done}
 use Rattle.sql_eval.specs.Data.meants
@@ -19,14 +20,9 @@ key_place t = unwrap_or (position (λ c. c.key) t.columns) 0
 abbrev pub HasOneKey : Table → Type 0
 HasOneKey t = (name : List ℕ) → (is_key t name ≡ true → place_of t name ≡ Some (key_place t)) × (place_of t name ≡ Some (key_place t) → is_key t name ≡ true)
 
--- columns of different names
-abbrev pub names_differ : List Column → Bool
-names_differ [] = true
-names_differ (c ∷ cs) = not (list_any (is_named c.name) cs) && names_differ cs
-
 -- one column is the key, and all have different names
 abbrev pub has_one_key : Table → Bool
-has_one_key t = (count_by (λ c. c.key) t.columns == 1) && names_differ t.columns
+has_one_key t = (count_by (λ c. c.key) t.columns == 1) && are_distinct column_name t.columns
 
 -- such a table has one key
 abbrev pub TablesHaveOneKey : Type 0
