@@ -1,7 +1,7 @@
 -- What a node keeps from turn to turn, and what a turn does.
 pub use Rattle.redo_codec.specs.Kept.{stands_at}
 use Rattle.std.specs.Prelude.{ℕ, ◌-◌, Bool, false, List, [], ◌∷◌, ◌++◌, map, find, max, slice_get, slice_set, unwrap_or, Option, Some, None}
-use Rattle.node_rules.specs.Data.{Value, Change, Stmt, BranchId, RedoRecord, Standing, Durable, Live, Kind, Msg, Answer, Advice}
+use Rattle.node_rules.specs.Data.{Change, Stmt, BranchId, RedoRecord, Standing, Durable, Live, Kind, Msg, Answer, Advice}
 use Rattle.node_rules.specs.Data.phases
 use Rattle.node_rules.specs.Words.{same, change_where, drop_where}
 use Rattle.row_locks.specs.Locks.{Lock, without}

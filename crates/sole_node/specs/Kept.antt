@@ -1,11 +1,11 @@
 -- What a node keeps from turn to turn, where it is the only one.
-use Rattle.std.specs.Prelude.{ℕ, ◌+◌, ◌-◌, ◌&&◌, Bool, if◌then◌else◌, List, [], ◌∷◌, ◌++◌, find, filter, map, not, length, nat_lt, replicate, sum_by, slice_get, slice_set, unwrap_or, Option, None, Some}
+use Rattle.std.specs.Prelude.{ℕ, ◌+◌, ◌-◌, Bool, List, [], ◌∷◌, ◌++◌, find, filter, not, length, nat_lt, replicate, sum_by, slice_get, slice_set, unwrap_or, Option, None, Some}
 use Rattle.std.specs.Str.{bytes_eq}
 use Rattle.std.specs.List.{list_any, position_or_len}
 use Rattle.dtx_values.specs.declared.table.Table.{Table}
 use Rattle.tran_ids.specs.declared.branch.BranchId.{BranchId}
 use Rattle.tran_ids.specs.Branch.{same}
-use Rattle.row_locks.specs.Locks.{Lock, without, without_reads}
+use Rattle.row_locks.specs.Locks.{Lock, without}
 use Rattle.row_store.specs.Tables.{TableRows}
 use Rattle.row_store.specs.Own.{nothing_changed, extents}
 pub use Rattle.sole_node.specs.declared.root.Root.{Root}

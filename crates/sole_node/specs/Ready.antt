@@ -1,19 +1,18 @@
 -- What holds of a node between turns.
-use Rattle.std.specs.Prelude.{◌≡◌, ◌+◌, ◌-◌, ◌<◌, ◌≤◌, ◌^◌, ℕ, true, false, List, [], ◌∷◌, length, find, map, Option, None, Some, IfSome, is_some}
-use Rattle.std.specs.Str.{bytes_eq}
+use Rattle.std.specs.Prelude.{◌≡◌, ◌+◌, ◌<◌, ◌≤◌, ◌^◌, ℕ, true, false, List, [], ◌∷◌, length, map, Some, is_some}
 use Rattle.std.specs.List.{AllByRecursion}
 use Rattle.dtx_values.specs.declared.table.Table.{Table}
 use Rattle.dtx_values.specs.declared.row.Change.{Change}
 use Rattle.tran_ids.specs.declared.branch.BranchId.{BranchId}
 use Rattle.sql_eval.specs.Laws.{has_one_key, AreRowsOf, IsChangeOf}
-use Rattle.row_store.specs.Tables.{TableRows, rows_of_table}
+use Rattle.row_store.specs.Tables.{rows_of_table}
 use Rattle.redo_codec.specs.declared.record.RedoRecord.{RedoRecord}
 use Rattle.redo_codec.specs.declared.record.RedoRecord.TheVariants as records
 use Rattle.sql_statement.specs.declared.statement.Stmt.TheVariants as stmts
 use Rattle.sql_statement.specs.Whole.{IsWholeTable}
 use Rattle.sole_node.specs.declared.input.Input.{Input}
 use Rattle.sole_node.specs.declared.input.Input.TheVariants as inputs
-use Rattle.sole_node.specs.Kept.{Root, Session, Kept, table_of, is_used, session_at, root_of}
+use Rattle.sole_node.specs.Kept.{Root, Kept, table_of, is_used, session_at, root_of}
 use Rattle.sole_node.specs.Turn.{after_record}
 
 -- a table may have these columns

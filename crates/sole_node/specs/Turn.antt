@@ -1,12 +1,11 @@
 -- What a turn of a node answers, writes and leaves, and what a start makes of its records.
-use Rattle.std.specs.Prelude.{ℕ, ◌+◌, ◌-◌, max, Bool, if◌then◌else◌, List, [], ◌∷◌, ◌++◌, Option, None, Some}
+use Rattle.std.specs.Prelude.{ℕ, ◌+◌, ◌-◌, max, if◌then◌else◌, List, [], ◌∷◌, ◌++◌, Option, None, Some}
 use Rattle.dtx_values.specs.declared.table.Table.{Table}
 use Rattle.dtx_values.specs.declared.answer.Refusal.{Refusal}
 use Rattle.dtx_values.specs.declared.answer.Done.{Done}
 use Rattle.dtx_values.specs.declared.answer.Done.TheVariants.{Committed, RolledBack, TableMade}
 use Rattle.dtx_values.specs.declared.answer.Answer.{Answer}
 use Rattle.dtx_values.specs.declared.answer.Answer.TheVariants as answers
-use Rattle.tran_ids.specs.declared.branch.BranchId.{BranchId}
 use Rattle.redo_codec.specs.declared.record.Decided.{Decided}
 use Rattle.redo_codec.specs.declared.record.RedoRecord.{RedoRecord}
 use Rattle.redo_codec.specs.declared.record.RedoRecord.TheVariants as records
@@ -20,7 +19,7 @@ use Rattle.stmt_run.specs.Run.{Ground, ran_over, locks_after, own_after, answer_
 use Rattle.sole_node.specs.declared.input.Input.{Input}
 use Rattle.sole_node.specs.declared.input.Input.TheVariants as inputs
 use Rattle.sole_node.specs.Statements.{brought, table_in, name_in}
-use Rattle.sole_node.specs.Kept.{Root, Kept, fresh, table_of, is_used, session_at, root_at, with_root, begun, ended, used_extents, has_changes}
+use Rattle.sole_node.specs.Kept.{Root, Kept, fresh, table_of, is_used, root_at, with_root, begun, ended, used_extents, has_changes}
 
 -- What a turn of a node answers and writes, and what the node keeps afterwards.
 pub record Outcome : Type 0 where
