@@ -91,6 +91,7 @@ impl Machine {
     pub(crate) fn new(alloc: Global) -> Result<Machine, AllocError>
         ensures { IfOk result (λ machine. machine ≡ fresh) }
     {
+        let sessions = vec![in alloc; FRESH; SESSIONS]?;
         Ok(Machine {
             alloc,
             boot: 0,
@@ -99,7 +100,7 @@ impl Machine {
             clock: Clock::new(),
             roots: Vec::new(alloc),
             locks: Locks::new(alloc),
-            sessions: vec![in alloc; FRESH; SESSIONS]?,
+            sessions,
         })
     }
 

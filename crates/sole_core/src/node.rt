@@ -63,6 +63,19 @@ fn append<D: Disk>(alloc: Global, log: &mut Log<D>, record: &RedoRecord) -> Resu
     }
 }
 
+/// Puts the record of the start of this number on the disk.
+#[tactic(auto, using(crate::proofs::Growing::growing))]
+fn append_start<D: Disk>(alloc: Global, log: &mut Log<D>, boot: u32) -> Result<(), TurnErr>
+    requires writable { IsWritable D.content D.images log.old }
+    ensures writable { OnOk result (IsWritable D.content D.images log.new) }
+    ensures spelled { OnOk result (IsSpelled (records.Boot boot)) }
+    ensures stored { OnOk result (GrowsByRecord (records.Boot boot) (D.content (disk_of log.old)) (D.content (disk_of log.new))) }
+    ensures halted { IsErrOf result turns.Halted → Rose (D.faults (disk_of log.old)) (D.faults (disk_of log.new)) }
+    ensures later { D.faults (disk_of log.old) ≤ D.faults (disk_of log.new) }
+{
+    append(alloc, log, &RedoRecord::Boot(boot))
+}
+
 /// Puts the record of a turn on the disk, where there is one.
 #[tactic(auto, using(crate::proofs::Growing::growing))]
 fn write<D: Disk>(
@@ -119,21 +132,18 @@ fn begin<D: Disk>(
 {
     let mut machine = machine;
     let mut log = log;
-    machine.boot += 1;
-    match append(alloc, &mut log, &RedoRecord::Boot(machine.boot)) {
+    let boot = machine.boot + 1;
+    machine.boot = boot;
+    match append_start(alloc, &mut log, boot) {
         Ok(()) => Ok(Node {
             alloc,
             undo,
             machine,
             log,
         }),
-        Err(TurnErr::Halted) => Err(MakeErr {
+        Err(err) => Err(MakeErr {
             disk: log.into_disk(),
-            why: MakeWhy::Fault,
-        }),
-        Err(TurnErr::NoMemory) => Err(MakeErr {
-            disk: log.into_disk(),
-            why: MakeWhy::NoMemory,
+            why: make_why(err),
         }),
     }
 }
@@ -309,6 +319,16 @@ fn session_of_input(input: &Input) -> u32
             session,
             statement: _statement,
         } => *session,
+    }
+}
+
+/// Why a node is not made or started of which the first record is not on the disk.
+fn make_why(err: TurnErr) -> MakeWhy
+    ensures { result ≡ makes.Fault → err ≡ turns.Halted }
+{
+    match err {
+        TurnErr::Halted => MakeWhy::Fault,
+        TurnErr::NoMemory => MakeWhy::NoMemory,
     }
 }
 

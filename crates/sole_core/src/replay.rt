@@ -54,16 +54,26 @@ impl Machine {
         self.rows.apply(self.alloc, decided.changes.as_slice())
     }
 
-    /// A node of which these records stand.
+    /// Takes in these records of a fresh node, one after the other.
     #[tactic(auto, using(crate::proofs::Replays::replays))]
+    fn apply_all(&mut self, records: &[RedoRecord]) -> Result<(), AllocError>
+        requires fresh { self.old ≡ fresh }
+        requires sound { AreSound fresh records.now }
+        ensures { OnOk result (self.new ≡ start_of records.now) }
+    {
+        for record in records {
+            self.apply(record)?;
+        }
+        Ok(())
+    }
+
+    /// A node of which these records stand.
     pub(crate) fn replay(alloc: Global, records: &[RedoRecord]) -> Result<Machine, AllocError>
         requires { AreSound fresh records.now }
         ensures { IfOk result (λ machine. machine ≡ start_of records.now) }
     {
         let mut machine = Machine::new(alloc)?;
-        for record in records {
-            machine.apply(record)?;
-        }
+        machine.apply_all(records)?;
         Ok(machine)
     }
 }

@@ -2,6 +2,7 @@
 ghost use Rattle.std.specs.Prelude.{◌≡◌, ◌+◌, ◌<◌, ◌≤◌, ◌^◌, [], Some, None, true, IsTrue, IfOk, IfSome, OnOk, length};
 ghost use Rattle.std.specs.List.{All, AllByRecursion};
 ghost use Rattle.std.specs.Option.{option_copied};
+ghost use Rattle.dtx_values.specs.declared.answer.Answer.TheVariants.{Did, Refused};
 ghost use Rattle.redo_format.specs.Table.{is_columns};
 ghost use Rattle.redo_format.specs.Fits.{HasWidth};
 ghost use Rattle.redo_format.specs.Sealed.{decided_format};
@@ -12,8 +13,8 @@ ghost use Rattle.sole_node.specs.declared.input.Input.TheVariants as inputs;
 ghost use Rattle.redo_codec.specs.declared.record.RedoRecord.TheVariants as records;
 ghost use Rattle.sole_node.specs.Statements.{table_in, is_bare, is_brought as is_brought_of, brought as brought_of};
 ghost use Rattle.sole_node.specs.Kept.{begun, ended, root_at, table_of};
-ghost use Rattle.sole_node.specs.Turn.{turn_of, read_turn, run_turn, commits, call_turn, create_turn, statement_turn, commit_turn, rollback_turn};
-ghost use Rattle.sole_node.specs.Ready.{IsReady, MakesWhole};
+ghost use Rattle.sole_node.specs.Turn.{after_record, turn_of, invalid, read_turn, run_turn, commits, call_turn, create_turn, statement_turn, commit_turn, rollback_turn};
+ghost use Rattle.sole_node.specs.Ready.{IsReady, MakesWhole, MayFollow};
 ghost use Rattle.sole_core.specs.Fitting.{IsFitting};
 ghost use Rattle.sole_core.specs.Places.{root_in, RunsAt, IsFirstAt, HasRowsOfTables};
 
@@ -103,7 +104,7 @@ impl Machine {
 
     /// ORA-00900: invalid SQL statement.
     fn invalid(&self) -> Served
-        ensures answer { result.answer ≡ (read_turn 0 self.now 0 None).answer }
+        ensures answer { result.answer ≡ Refused invalid }
         ensures wrote { result.wrote ≡ None }
     {
         Served::answering(refused(self.alloc, INVALID_SQL))
@@ -156,10 +157,23 @@ impl Machine {
             return Ok(Served::answering(refused(self.alloc, NAME_USED)));
         }
         let record = created(self.alloc, table)?;
-        self.apply(&record)?;
+        self.owe(record, Done::TableMade)
+    }
+
+    /// A record is taken in that the turn owes, and this was done.
+    fn owe(&mut self, redo: RedoRecord, done: Done) -> Result<Served, AllocError>
+        requires follows { MayFollow self.old redo }
+        requires named { HasRowsOfTables self.old }
+        requires fits { record_format.Fits redo }
+        ensures answer { IfOk result (λ served. served.answer ≡ Did done 0) }
+        ensures wrote { IfOk result (λ served. served.wrote ≡ Some redo) }
+        ensures fits { IfOk result (λ served. IfSome served.wrote record_format.Fits) }
+        ensures after { OnOk result (self.new ≡ after_record self.old redo) }
+    {
+        self.apply(&redo)?;
         Ok(Served {
-            answer: did(Done::TableMade),
-            wrote: Some(record),
+            answer: did(done),
+            wrote: Some(redo),
         })
     }
 
@@ -225,30 +239,26 @@ impl Machine {
         let Some(place) = self.place(session) else {
             return Ok(Served::answering(did(Done::Committed)));
         };
-        let wrote = self.decide(session, place)?;
-        Ok(Served {
-            answer: did(Done::Committed),
-            wrote,
-        })
+        self.decide(session, place)
     }
 
     /// The open transaction at this place, which is the session's, ends, and decides where it changed something.
-    fn decide(&mut self, session: u32, place: usize) -> Result<Option<RedoRecord>, AllocError>
+    fn decide(&mut self, session: u32, place: usize) -> Result<Served, AllocError>
         requires at { IsFirstAt self.old place }
         requires named { HasRowsOfTables self.old }
         requires scn { self.old.scn + 1 < 2 ^ 48 }
         requires fit { AllByRecursion IsFitting (root_in self.old place).own.changes }
-        ensures wrote { IfOk result (λ wrote. wrote ≡ (commits self.old session (root_in self.old place)).wrote) }
-        ensures fits { IfOk result (λ wrote. IfSome wrote record_format.Fits) }
+        ensures answer { IfOk result (λ served. served.answer ≡ (commits self.old session (root_in self.old place)).answer) }
+        ensures wrote { IfOk result (λ served. served.wrote ≡ (commits self.old session (root_in self.old place)).wrote) }
+        ensures fits { IfOk result (λ served. IfSome served.wrote record_format.Fits) }
         ensures after { OnOk result (self.new ≡ (commits self.old session (root_in self.old place)).after) }
     {
         let (me, changes) = self.take(session, place);
         if changes.as_slice().is_empty() {
-            return Ok(None);
+            return Ok(Served::answering(did(Done::Committed)));
         }
-        let record = RedoRecord::Decided(decision(self.alloc, me, self.clock.now() + 1, changes));
-        self.apply(&record)?;
-        Ok(Some(record))
+        let decided = decision(self.alloc, me, self.clock.now() + 1, changes);
+        self.owe(RedoRecord::Decided(decided), Done::Committed)
     }
 
     /// The open transaction at this place, which is the session's, ends: its root, and what it changed.
