@@ -1,30 +1,34 @@
 //! What a command makes happen: the calls of a client, a stop of the node, its start.
 ghost use Rattle.std.specs.Prelude.{◌≡◌, ◌<◌, ◌^◌, true, false, length, is_some, IfOk, OnOk, OnErr};
-ghost use Rattle.sole_laws.specs.Past.{Stops, Starts, past_of, due_by};
+ghost use Rattle.sole_laws.specs.Past.{Stops, Starts, past_of, due_by, names_by};
 ghost use Rattle.script_run.specs.Linked.{SiteIs, IsNext, BeginsAs, EndsAs, IsSilent};
 
 use crate::calls::call;
 use crate::line::{AnswerLine, Said};
+use crate::naming::take_name;
 use crate::site::{NODE, Site};
-use dtx_values::Notice;
+use dtx_values::{Names, Notice};
 use sole_laws::{Trace, nodes_are_in_order};
 use sole_node::Happening;
 use sole_script::Command;
 use std::alloc::{AllocError, Global};
 
-/// A command begins.
+/// A command begins: the name of the node that it makes counts from now on.
 #[tactic(auto, using(crate::proofs::Beginning::begins))]
 pub fn begin(
     alloc: Global,
+    names: &mut Names,
     trace: &mut Trace,
     number: u32,
     command: &Command,
 ) -> Result<(), AllocError>
     requires is_next { IsNext (past_of trace.old) number command.now }
+    ensures names { OnOk result (names.new ≡ names_by names.old command.now) }
     ensures begun { OnOk result (BeginsAs (past_of trace.old) (past_of trace.new) number command.now) }
     ensures asked { trace.new.asked ≡ trace.old.asked }
     ensures err { OnErr result (trace.new ≡ trace.old) }
 {
+    take_name(alloc, names, command)?;
     trace.push(alloc, Happening::Begun { command: number })
 }
 
@@ -86,13 +90,13 @@ pub fn act(
     undo: u32,
     site: &mut Site,
     trace: &mut Trace,
-    command: Command,
+    command: &Command,
 ) -> Result<AnswerLine, AllocError>
     requires is { SiteIs (past_of trace.old) site.old }
     requires undo { undo ≡ (past_of trace.old).undo }
     requires running { (past_of trace.old).command ≡ number }
-    requires due { (past_of trace.old).due ≡ due_by (past_of trace.old).node command }
-    requires silent { IsSilent (is_some (past_of trace.old).node) command }
+    requires due { (past_of trace.old).due ≡ due_by (past_of trace.old).node command.now }
+    requires silent { IsSilent (is_some (past_of trace.old).node) command.now }
     requires few { length trace.old.asked < 2 ^ 30 }
     ensures ends { IfOk result (EndsAs (past_of trace.old) (past_of trace.new)) }
     ensures is { OnOk result (SiteIs (past_of trace.new) site.new) }
@@ -104,7 +108,7 @@ pub fn act(
             node: _node,
             session,
             text,
-        } => call(alloc, number, site, trace, session, text.as_slice()),
+        } => call(alloc, number, site, trace, *session, text.as_slice()),
         Command::Stop { node: _node } => stop(alloc, number, site, trace),
         Command::Start { node: _node } => start(alloc, number, undo, site, trace),
         Command::Node {

@@ -89,12 +89,12 @@ fn serve(
     alloc: Global,
     site: &mut Site,
     trace: &mut Trace,
-    input: Input,
+    input: Box<Input>,
 ) -> Result<Finished, AllocError>
     requires is { SiteIs (past_of trace.old) site.old }
     requires up { is_some (past_of trace.old).node ≡ true }
-    requires out { served_by (past_of trace.old).due ≡ Some input }
-    requires whole { MakesWhole input }
+    requires out { served_by (past_of trace.old).due ≡ Some input.value }
+    requires whole { MakesWhole input.value }
     requires few { length trace.old.asked < 2 ^ 30 }
     ensures turned { IfOk result (λ finished. TurnsAs (past_of trace.old) (past_of trace.new) (answer_of finished)
         (following (answer_of finished) (behind (past_of trace.old).due))) }
@@ -111,7 +111,7 @@ fn serve(
     let effects = turn(node, &input)?;
     let turn = Happening::Turn {
         node: NODE,
-        input,
+        input: Box::into_inner(input),
         wrote: effects.wrote,
     };
     trace.push(alloc, turn)?;
@@ -138,6 +138,7 @@ fn serve_last(
     ensures asked { trace.new.asked ≡ trace.old.asked }
     ensures err { OnErr result ((past_of trace.new).lines ≡ (past_of trace.old).lines) }
 {
+    let input = Box::new(alloc, input)?;
     let finished = serve(alloc, site, trace, input)?;
     Ok(AnswerLine::new(number, Said::Node(finished)))
 }
@@ -167,7 +168,7 @@ fn commit_and_create(
         session,
         statement: Some(Stmt::Commit { comment: None }),
     };
-    let finished = serve(alloc, site, trace, commit)?;
+    let finished = serve(alloc, site, trace, Box::new(alloc, commit)?)?;
     if !is_committed(finished.answer()) {
         return Ok(AnswerLine::new(number, Said::Node(finished)));
     }

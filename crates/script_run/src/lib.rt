@@ -9,6 +9,7 @@ mod at_once;
 mod calls;
 mod disk_lines;
 mod line;
+mod naming;
 mod outcome;
 mod output;
 mod progress;

@@ -6,8 +6,8 @@ ghost use Rattle.book.specs.Texts.{book_text as book_text_of};
 ghost use Rattle.report.specs.Report.{said_text, report as report_of, printed};
 
 use crate::line::{AnswerLine, Said};
+use crate::naming::take_name;
 use crate::outcome::Run;
-use crate::progress::take_name;
 use book::book_text;
 use dtx_values::{Bytes, Listing, Names};
 use report::{answer_lines, notice_lines, put_numbered};

@@ -1,6 +1,6 @@
 //! A run in progress: the node, what happened so far, and what was told.
 ghost use Rattle.std.specs.Prelude.{◌≡◌, ◌+◌, ◌<◌, ◌^◌, [], ◌∷◌, ◌++◌, length, vec_len, vec_capacity, drop, is_some, IfOk, OnOk, OnErr};
-ghost use Rattle.sole_laws.specs.Past.{start, past_of, names_by, undo_in as undo_of_first};
+ghost use Rattle.sole_laws.specs.Past.{start, past_of, undo_in as undo_of_first};
 ghost use Rattle.script_run.specs.Ending.{IsWhole};
 ghost use Rattle.script_run.specs.Headline.{IsRun};
 ghost use Rattle.script_run.specs.Linked.{SiteIs, IsLinked, IsNext, IsDone};
@@ -40,16 +40,6 @@ fn undo_in(commands: &[Command]) -> u32
     }
 }
 
-/// The names of the nodes once this command has begun.
-pub fn take_name(alloc: Global, names: &mut Names, command: &Command) -> Result<(), AllocError>
-    ensures { OnOk result (names.new ≡ names_by names.old command.now) }
-{
-    if let Command::Node { name, undo: _undo } = command {
-        names.push(name.copy(alloc)?)?;
-    }
-    Ok(())
-}
-
 /// Adds a line, for which there is room.
 fn add(answers: &mut Vec<AnswerLine>, line: AnswerLine)
     requires { vec_len answers.old < vec_capacity answers.old }
@@ -83,9 +73,9 @@ impl Progress {
     /// Carries out the command that is next. There is room for its line before anything happens, so what happened is
     /// told, also where memory runs out.
     #[tactic(auto, using(crate::proofs::Beginning::told_or_due))]
-    fn carry_out(&mut self, alloc: Global, number: u32, command: Command) -> Result<(), AllocError>
+    fn carry_out(&mut self, alloc: Global, number: u32, command: &Command) -> Result<(), AllocError>
         requires linked { IsLinked self.old }
-        requires is_next { IsNext (past_of self.old.trace) number command }
+        requires is_next { IsNext (past_of self.old.trace) number command.now }
         requires few { length self.old.trace.asked < 2 ^ 30 }
         ensures told { self.new.answers.items ≡ (past_of self.new.trace).lines }
         ensures asked { self.new.trace.asked ≡ self.old.trace.asked }
@@ -98,10 +88,9 @@ impl Progress {
             &self.site,
             self.names.as_slice(),
             self.trace.book(),
-            &command,
+            command,
         )?;
-        take_name(alloc, &mut self.names, &command)?;
-        begin(alloc, &mut self.trace, number, &command)?;
+        begin(alloc, &mut self.names, &mut self.trace, number, command)?;
         match said {
             Some(said) => add(&mut self.answers, AnswerLine::new(number, said)),
             None => {
@@ -132,7 +121,7 @@ impl Progress {
         for i in 0..count {
             let command = self.trace.asked()[i].copy(alloc)?;
             let number = (i + 1) as u32;
-            self.carry_out(alloc, number, command)?;
+            self.carry_out(alloc, number, &command)?;
         }
         Ok(())
     }
