@@ -1,8 +1,7 @@
 //! What records leave, by examples: that records are taken in.
-use dtx_values::{Listing, Name};
+use dtx_values::{Listing, Name, NameErr};
 use redo_codec::{Decision, Durable, Peer, RedoRecord, Sealed, State, Toward};
-use std::alloc::Global;
-use std::test::Fail;
+use std::alloc::{AllocError, Global};
 use tran_ids::BranchId;
 
 const BRANCH: BranchId = BranchId {
@@ -21,14 +20,14 @@ const CHILD: BranchId = BranchId {
 };
 
 /// The child, by the link HQ.
-fn child(alloc: Global) -> Result<Peer, Fail> {
+fn child(alloc: Global) -> Result<Peer, NameErr> {
     Ok(Peer {
         branch: CHILD,
         link: Name::from_bytes(alloc, b"HQ")?,
     })
 }
 
-fn sealed(alloc: Global) -> Result<RedoRecord, Fail> {
+fn sealed(alloc: Global) -> Result<RedoRecord, NameErr> {
     Ok(RedoRecord::Sealed(Sealed {
         me: BRANCH,
         root: BRANCH,
@@ -42,14 +41,19 @@ fn sealed(alloc: Global) -> Result<RedoRecord, Fail> {
     }))
 }
 
-/// What is left of a start, and of a prepared branch that is told to commit.
-fn committed(alloc: Global) -> Result<Durable, Fail> {
+/// What is left of a start, and of this record of a branch that is then told to commit.
+fn committed_after(alloc: Global, record: RedoRecord) -> Result<Durable, AllocError> {
     let ended = RedoRecord::Ended {
         me: BRANCH,
         decision: Decision::Commit(9),
     };
-    let records = vec![in alloc; RedoRecord::Boot(1), sealed(alloc)?, ended]?;
-    Ok(Durable::of(alloc, &records)?)
+    let records = vec![in alloc; RedoRecord::Boot(1), record, ended]?;
+    Durable::of(alloc, &records)
+}
+
+/// What is left of a start, and of a prepared branch that is told to commit.
+fn committed(alloc: Global) -> Result<Durable, NameErr> {
+    Ok(committed_after(alloc, sealed(alloc)?)?)
 }
 
 /// Whether the one branch is kept that is told to commit.
@@ -64,12 +68,15 @@ fn is_kept(left: &Durable) -> bool {
     }
 }
 
+/// Whether the branch is kept, and no more once it forgot.
+fn is_kept_until_it_forgot(alloc: Global) -> Result<bool, NameErr> {
+    let mut left = committed(alloc)?;
+    let was_kept = left.boot == 1 && is_kept(&left);
+    left.apply(alloc, &RedoRecord::Forgot(BRANCH))?;
+    Ok(was_kept && left.kept.as_slice().is_empty())
+}
+
 #[test]
-fn a_branch_is_kept_until_it_forgot(rt: HostRuntime) -> Result<(), Fail> {
-    let mut left = committed(rt.alloc())?;
-    assert!(rt; left.boot == 1);
-    assert!(rt; is_kept(&left));
-    left.apply(rt.alloc(), &RedoRecord::Forgot(BRANCH))?;
-    assert!(rt; left.kept.as_slice().is_empty());
-    Ok(())
+fn a_branch_is_kept_until_it_forgot(rt: HostRuntime) {
+    assert!(rt; is_kept_until_it_forgot(rt.alloc()) == Ok(true));
 }

@@ -12,7 +12,6 @@ use redo_format::{
     take_branch, take_change, take_name, take_row, take_value, value_fits,
 };
 use std::alloc::{AllocError, Global};
-use std::test::Fail;
 use tran_ids::BranchId;
 
 const BRANCH: BranchId = BranchId {
@@ -124,41 +123,50 @@ fn is_written(alloc: Global, redo: &RedoRecord, body: &[u8]) -> Result<bool, All
     Ok(encode(alloc, redo)?.as_slice() == body)
 }
 
-#[test]
-fn starts_and_branches_are_written(rt: HostRuntime) -> Result<(), Fail> {
-    branch_fits(&BRANCH);
-    assert!(rt; is_written(rt.alloc(), &RedoRecord::Boot(1), &START)?);
-    assert!(rt; is_written(rt.alloc(), &RedoRecord::Forgot(BRANCH), &FORGOTTEN)?);
-    assert!(rt; is_written(rt.alloc(), &RedoRecord::Hidden(BRANCH), &HIDDEN)?);
-    Ok(())
+/// Whether the record of the first start is written.
+fn is_start_written(alloc: Global) -> Result<bool, AllocError> {
+    is_written(alloc, &RedoRecord::Boot(1), &START)
 }
 
-#[test]
-fn a_decision_is_written(rt: HostRuntime) -> Result<(), Fail> {
+/// Whether the record is written that the branch forgot.
+fn is_forgotten_written(alloc: Global) -> Result<bool, AllocError> {
+    branch_fits(&BRANCH);
+    is_written(alloc, &RedoRecord::Forgot(BRANCH), &FORGOTTEN)
+}
+
+/// Whether the record is written that the branch ended, and committed at 2.
+fn is_ended_written(alloc: Global, body: &[u8]) -> Result<bool, AllocError> {
     branch_fits(&BRANCH);
     let ended = RedoRecord::Ended {
         me: BRANCH,
         decision: Decision::Commit(2),
     };
-    let body = [
-        1, 8, 1, 0, 0, 0, 1, 0, 0, 0, 65, 0, 0, 0, 1, 1, 0, 0, 0, 0, 0, 2,
-    ];
-    assert!(rt; is_written(rt.alloc(), &ended, &body)?);
-    Ok(())
-}
-
-/// Whether the body is read, and written as it was.
-fn is_kept(alloc: Global, body: &[u8]) -> Result<bool, Fail> {
-    let record = decode(alloc, body)?;
-    Ok(encode(alloc, &record)?.as_slice() == body)
+    is_written(alloc, &ended, body)
 }
 
 #[test]
-fn each_kind_is_read_and_written_again(rt: HostRuntime) -> Result<(), Fail> {
-    for (what, body) in KINDS {
-        assert!(rt; is_kept(rt.alloc(), body)?, "{what}");
+fn records_are_written(rt: HostRuntime) {
+    let ended = [
+        1, 8, 1, 0, 0, 0, 1, 0, 0, 0, 65, 0, 0, 0, 1, 1, 0, 0, 0, 0, 0, 2,
+    ];
+    assert!(rt; is_start_written(rt.alloc()) == Ok(true));
+    assert!(rt; is_forgotten_written(rt.alloc()) == Ok(true));
+    assert!(rt; is_ended_written(rt.alloc(), &ended) == Ok(true));
+}
+
+/// Whether the body is read, and written as it was.
+fn is_kept(alloc: Global, body: &[u8]) -> bool {
+    match decode(alloc, body) {
+        Ok(record) => matches!(&encode(alloc, &record), Ok(bytes) if bytes.as_slice() == body),
+        Err(_) => false,
     }
-    Ok(())
+}
+
+#[test]
+fn each_kind_is_read_and_written_again(rt: HostRuntime) {
+    for (what, body) in KINDS {
+        assert!(rt; is_kept(rt.alloc(), body), "{what}");
+    }
 }
 
 /// Whether it is the prepared branch.
@@ -186,10 +194,8 @@ fn has_its_lists(sealed: &Sealed) -> bool {
 }
 
 #[test]
-fn a_prepared_branch_is_read(rt: HostRuntime) -> Result<(), Fail> {
-    let record = decode(rt.alloc(), &SEALED)?;
-    assert!(rt; is_sealed(&record));
-    Ok(())
+fn a_prepared_branch_is_read(rt: HostRuntime) {
+    assert!(rt; matches!(&decode(rt.alloc(), &SEALED), Ok(record) if is_sealed(record)));
 }
 
 /// Whether the bytes are no record's body.
@@ -205,9 +211,12 @@ fn what_is_no_record_is_refused(rt: HostRuntime) {
 }
 
 /// Whether the body is no record's with this byte at this place.
-fn is_refused_with(alloc: Global, body: &[u8], place: usize, byte: u8) -> Result<bool, Fail> {
+fn is_refused_with(alloc: Global, body: &[u8], place: usize, byte: u8) -> Result<bool, AllocError> {
     let mut bytes = body.to_vec(alloc)?;
-    *bytes.get_mut(place).ok_or("the place is in the body")? = byte;
+    match bytes.get_mut(place) {
+        Some(there) => *there = byte,
+        None => return Ok(false),
+    }
     Ok(is_refused(alloc, &bytes))
 }
 
@@ -225,11 +234,13 @@ const NO_BODIES: [(&str, &[u8], usize, u8); 9] = [
 ];
 
 #[test]
-fn what_is_no_table_or_prepared_branch_is_refused(rt: HostRuntime) -> Result<(), Fail> {
+fn what_is_no_table_or_prepared_branch_is_refused(rt: HostRuntime) {
     for (what, body, place, byte) in NO_BODIES {
-        assert!(rt; is_refused_with(rt.alloc(), body, place, byte)?, "{what}");
+        assert!(rt;
+            is_refused_with(rt.alloc(), body, place, byte) == Ok(true),
+            "{what}"
+        );
     }
-    Ok(())
 }
 
 /// The bytes of the number -1.
@@ -246,11 +257,6 @@ fn is_value_written(alloc: Global, value: &Value, bytes: &[u8]) -> Result<bool, 
     Ok(out.as_slice() == bytes)
 }
 
-/// The text of these bytes.
-fn text_of(alloc: Global, bytes: &[u8]) -> Result<Value, TextErr> {
-    Ok(Value::Text(Str::from_bytes(alloc, bytes)?))
-}
-
 /// Whether the value is taken from these bytes, and so many bytes are left.
 fn is_value_taken(
     alloc: Global,
@@ -262,19 +268,24 @@ fn is_value_taken(
     Ok(taken == *value && rest.len() == left)
 }
 
-#[test]
-fn values_are_written_and_taken(rt: HostRuntime) -> Result<(), Fail> {
-    let alloc = rt.alloc();
-    let text = text_of(alloc, b"BOLT")?;
+/// Whether the number -1 is written, and taken from the front.
+fn keeps_numbers(alloc: Global) -> Result<bool, TakeErr> {
+    let value = Value::Number(-1);
     let behind = [1, 255, 255, 255, 255, 255, 255, 255, 255, 2];
-    for (value, bytes, taken, left) in [
-        (&Value::Number(-1), NUMBER.as_slice(), behind.as_slice(), 1),
-        (&text, &BOLT, &BOLT, 0),
-    ] {
-        assert!(rt; is_value_written(alloc, value, bytes)?);
-        assert!(rt; is_value_taken(alloc, taken, value, left)?);
-    }
-    Ok(())
+    Ok(is_value_written(alloc, &value, &NUMBER)? && is_value_taken(alloc, &behind, &value, 1)?)
+}
+
+/// Whether `BOLT` is written, and taken.
+fn keeps_texts(alloc: Global) -> Result<bool, TextErr> {
+    let value = Value::Text(Str::from_bytes(alloc, b"BOLT")?);
+    let is_taken = is_value_taken(alloc, &BOLT, &value, 0) == Ok(true);
+    Ok(is_value_written(alloc, &value, &BOLT)? && is_taken)
+}
+
+#[test]
+fn values_are_written_and_taken(rt: HostRuntime) {
+    assert!(rt; keeps_numbers(rt.alloc()) == Ok(true));
+    assert!(rt; keeps_texts(rt.alloc()) == Ok(true));
 }
 
 /// Whether the branch is written as its bytes, and taken from them.
@@ -287,13 +298,18 @@ fn keeps_branches(alloc: Global) -> Result<bool, TakeErr> {
 }
 
 /// Whether a name is taken from what it is written as.
-fn keeps_names(alloc: Global) -> Result<bool, Fail> {
-    let name = name_of(alloc, b"hq")?;
-    name_fits(&name);
+fn is_name_kept(alloc: Global, name: &Name) -> Result<bool, TakeErr> {
+    name_fits(name);
     let mut out = Vec::new(alloc);
-    put_name(&mut out, &name)?;
+    put_name(&mut out, name)?;
     let (taken, rest) = take_name(alloc, &out)?;
-    Ok(taken.is(&name) && rest.is_empty())
+    Ok(taken.is(name) && rest.is_empty())
+}
+
+/// Whether a name is kept.
+fn keeps_names(alloc: Global) -> Result<bool, NameErr> {
+    let name = Name::from_bytes(alloc, b"hq")?;
+    Ok(is_name_kept(alloc, &name) == Ok(true))
 }
 
 /// Whether a row is written as the bytes that it is taken from, and the byte behind them is left.
@@ -314,25 +330,18 @@ fn keeps_changes(alloc: Global, bytes: &[u8]) -> Result<bool, TakeErr> {
 }
 
 #[test]
-fn parts_are_written_and_taken(rt: HostRuntime) -> Result<(), Fail> {
-    let alloc = rt.alloc();
-    assert!(rt; keeps_branches(alloc)?);
-    assert!(rt; keeps_names(alloc)?);
-    assert!(rt; keeps_rows(alloc)?);
-    assert!(rt; keeps_changes(alloc, &CHANGE)?);
-    assert!(rt; keeps_changes(alloc, b"\x01T\x02\x00\x01a\x00")?);
-    Ok(())
+fn parts_are_written_and_taken(rt: HostRuntime) {
+    assert!(rt; keeps_branches(rt.alloc()) == Ok(true));
+    assert!(rt; keeps_names(rt.alloc()) == Ok(true));
+    assert!(rt; keeps_rows(rt.alloc()) == Ok(true));
+    assert!(rt; keeps_changes(rt.alloc(), &CHANGE) == Ok(true));
+    assert!(rt; keeps_changes(rt.alloc(), b"\x01T\x02\x00\x01a\x00") == Ok(true));
 }
 
 #[test]
 fn the_laws_hold() {
     parts_are_exact();
     records_are_exact();
-}
-
-/// The name that these bytes spell.
-fn name_of(alloc: Global, bytes: &[u8]) -> Result<Name, NameErr> {
-    Name::from_bytes(alloc, bytes)
 }
 
 /// The body of a table of this name with one column, a key of texts of at most 10 bytes.
@@ -349,12 +358,17 @@ fn table_body(alloc: Global, name: Name, key: Name) -> Result<Bytes, AllocError>
     encode(alloc, &RedoRecord::Table(table))
 }
 
+/// Whether this is the body of such a table, T with the key K.
+fn is_table_written(alloc: Global, body: &[u8]) -> Result<bool, NameErr> {
+    let name = Name::from_bytes(alloc, b"t")?;
+    let key = Name::from_bytes(alloc, b"k")?;
+    Ok(table_body(alloc, name, key)?.as_slice() == body)
+}
+
 #[test]
-fn a_table_that_was_made_is_written(rt: HostRuntime) -> Result<(), Fail> {
-    let alloc = rt.alloc();
-    let body = table_body(alloc, name_of(alloc, b"t")?, name_of(alloc, b"k")?)?;
-    assert!(rt; body.as_slice() == b"\x01\x02\x01T\x01\x01K\x02\x00\x0a\x01\x01".as_slice());
-    Ok(())
+fn a_table_that_was_made_is_written(rt: HostRuntime) {
+    let body = b"\x01\x02\x01T\x01\x01K\x02\x00\x0a\x01\x01";
+    assert!(rt; is_table_written(rt.alloc(), body) == Ok(true));
 }
 
 /// The bytes of a change of the table at 7 to a row of 7.
@@ -373,10 +387,13 @@ fn change_bytes(alloc: Global, table: Name) -> Result<Vec<u8>, AllocError> {
     Ok(out)
 }
 
+/// How many bytes a change of the table T has.
+fn change_bytes_len(alloc: Global) -> Result<usize, NameErr> {
+    let table = Name::from_bytes(alloc, b"t")?;
+    Ok(change_bytes(alloc, table)?.len())
+}
+
 #[test]
-fn a_change_that_was_made_is_written(rt: HostRuntime) -> Result<(), Fail> {
-    let alloc = rt.alloc();
-    let bytes = change_bytes(alloc, name_of(alloc, b"t")?)?;
-    assert!(rt; bytes.len() == 22);
-    Ok(())
+fn a_change_that_was_made_is_written(rt: HostRuntime) {
+    assert!(rt; change_bytes_len(rt.alloc()) == Ok(22));
 }

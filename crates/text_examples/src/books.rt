@@ -1,10 +1,9 @@
 //! What no clause says of the book: that calls succeed, and the book of one commit over three nodes as it is to be
 //! printed.
 use book::{Entry, book_lines, book_text, entries, entry_text};
-use dtx_values::{Change, Listing, Name, Table, Value};
+use dtx_values::{Change, Listing, Name, NameErr, Table, Value};
 use redo_codec::{Decision, RedoRecord};
 use std::alloc::{AllocError, Global};
-use std::test::Fail;
 use tran_ids::BranchId;
 
 const SALES: u8 = 1;
@@ -34,36 +33,32 @@ fn branch(node: u8, session: u32) -> BranchId {
     }
 }
 
-fn name(alloc: Global, text: &[u8]) -> Result<Name, Fail> {
-    Ok(Name::from_bytes(alloc, text).map_err(|_| "it is a name")?)
-}
-
-fn names(alloc: Global) -> Result<Vec<Name>, Fail> {
+fn names(alloc: Global) -> Result<Vec<Name>, NameErr> {
     let mut names = Vec::new(alloc);
     for text in [b"SALES".as_slice(), b"WAREHOUSE", b"HQ"] {
-        names.push(name(alloc, text)?)?;
+        names.push(Name::from_bytes(alloc, text)?)?;
     }
     Ok(names)
 }
 
-fn made(alloc: Global, node: u8, table: &[u8]) -> Result<Entry, Fail> {
+fn made(alloc: Global, node: u8, table: &[u8]) -> Result<Entry, NameErr> {
     let table = Table {
-        name: name(alloc, table)?,
+        name: Name::from_bytes(alloc, table)?,
         columns: Listing::new(alloc),
     };
     Ok(Entry::Made { node, table })
 }
 
-fn one_change(alloc: Global, table: &[u8]) -> Result<Listing<Change>, Fail> {
+fn one_change(alloc: Global, table: &[u8]) -> Result<Listing<Change>, NameErr> {
     let change = Change {
-        table: name(alloc, table)?,
+        table: Name::from_bytes(alloc, table)?,
         key: Value::Number(1),
         after: None,
     };
     Ok(Listing::of(vec![in alloc; change]?))
 }
 
-fn sealed(alloc: Global, branch: BranchId, table: &[u8]) -> Result<Entry, Fail> {
+fn sealed(alloc: Global, branch: BranchId, table: &[u8]) -> Result<Entry, NameErr> {
     Ok(Entry::Sealed {
         branch,
         global: branch_of_order(),
@@ -76,7 +71,7 @@ fn branch_of_order() -> BranchId {
     branch(SALES, 1)
 }
 
-fn decided(alloc: Global, branch: BranchId, global: BranchId, scn: u64) -> Result<Entry, Fail> {
+fn decided(alloc: Global, branch: BranchId, global: BranchId, scn: u64) -> Result<Entry, NameErr> {
     Ok(Entry::Decided {
         branch,
         global,
@@ -92,7 +87,7 @@ fn ended(branch: BranchId) -> Entry {
     }
 }
 
-fn put_goods(alloc: Global, book: &mut Vec<Entry>) -> Result<(), Fail> {
+fn put_goods(alloc: Global, book: &mut Vec<Entry>) -> Result<(), NameErr> {
     let stock = branch(WAREHOUSE, 1);
     book.push(made(alloc, SALES, b"ORDERS")?)?;
     book.push(made(alloc, WAREHOUSE, b"STOCK")?)?;
@@ -100,21 +95,21 @@ fn put_goods(alloc: Global, book: &mut Vec<Entry>) -> Result<(), Fail> {
     Ok(())
 }
 
-fn put_order(alloc: Global, book: &mut Vec<Entry>) -> Result<(), Fail> {
+fn put_order(alloc: Global, book: &mut Vec<Entry>) -> Result<(), NameErr> {
     book.push(made(alloc, HQ, b"LEDGER")?)?;
     book.push(sealed(alloc, branch(HQ, 65), b"LEDGER")?)?;
     book.push(sealed(alloc, branch_of_order(), b"ORDERS")?)?;
     Ok(())
 }
 
-fn put_commit(alloc: Global, book: &mut Vec<Entry>) -> Result<(), Fail> {
+fn put_commit(alloc: Global, book: &mut Vec<Entry>) -> Result<(), NameErr> {
     book.push(decided(alloc, branch(WAREHOUSE, 65), branch_of_order(), 2)?)?;
     book.push(ended(branch_of_order()))?;
     book.push(ended(branch(HQ, 65)))?;
     Ok(())
 }
 
-fn order_book(alloc: Global) -> Result<Vec<Entry>, Fail> {
+fn order_book(alloc: Global) -> Result<Vec<Entry>, NameErr> {
     let mut book = Vec::new(alloc);
     put_goods(alloc, &mut book)?;
     put_order(alloc, &mut book)?;
@@ -122,50 +117,50 @@ fn order_book(alloc: Global) -> Result<Vec<Entry>, Fail> {
     Ok(book)
 }
 
-/// Whether the book of the order is printed as it is to be.
-fn is_order_printed(alloc: Global, book: &[Entry]) -> Result<bool, Fail> {
+/// Whether a book is printed as this text, of so many lines.
+fn is_book(alloc: Global, book: &[Entry], text: &str, count: usize) -> Result<bool, NameErr> {
     let names = names(alloc)?;
-    let text = book_text(alloc, book, &names)?;
-    Ok(text.as_slice() == TEXT.as_bytes())
+    let is_text = book_text(alloc, book, &names)?.as_slice() == text.as_bytes();
+    Ok(is_text && book_lines(alloc, book, &names)?.as_slice().len() == count)
 }
 
-/// How many lines a book has.
-fn line_count(alloc: Global, book: &[Entry]) -> Result<usize, Fail> {
-    let names = names(alloc)?;
-    let lines = book_lines(alloc, book, &names)?;
-    Ok(lines.as_slice().len())
+/// Whether the book of the order is printed as it is to be.
+fn is_order_printed(alloc: Global) -> Result<bool, NameErr> {
+    let book = order_book(alloc)?;
+    is_book(alloc, &book, TEXT, 9)
 }
 
 #[test]
-fn the_book_of_a_commit_is_printed(rt: HostRuntime) -> Result<(), Fail> {
-    let alloc = rt.alloc();
-    let book = order_book(alloc)?;
-    assert!(rt; is_order_printed(alloc, &book)?);
-    assert_eq!(rt; line_count(alloc, &book)?, 9);
-    assert_eq!(rt; line_count(alloc, &[])?, 1, "of no entry");
-    Ok(())
+fn the_book_of_a_commit_is_printed(rt: HostRuntime) {
+    assert!(rt; is_order_printed(rt.alloc()) == Ok(true));
+    // a book of no entry has a line that says so, but no text
+    assert!(rt; is_book(rt.alloc(), &[], "", 1) == Ok(true));
 }
 
-fn is_printed(alloc: Global, entry: &Entry, due: &[u8]) -> Result<bool, Fail> {
+fn is_printed(alloc: Global, entry: &Entry, due: &[u8]) -> Result<bool, NameErr> {
     let names = names(alloc)?;
     let text = entry_text(alloc, entry, &names)?;
     Ok(text.as_slice() == due)
 }
 
 #[test]
-fn other_outcomes_are_printed(rt: HostRuntime) -> Result<(), Fail> {
+fn a_forced_outcome_is_printed(rt: HostRuntime) {
     let forced = Entry::Forced {
         branch: branch(HQ, 65),
         outcome: Decision::Rollback,
     };
-    assert!(rt; is_printed(rt.alloc(), &forced, b"forced HQ 1.65.1 rollback")?);
+    assert!(rt; is_printed(rt.alloc(), &forced, b"forced HQ 1.65.1 rollback") == Ok(true));
+}
+
+#[test]
+fn a_met_decision_is_printed(rt: HostRuntime) {
     let met = Entry::Met {
         branch: branch(HQ, 65),
         decision: Decision::Commit(2),
         mixed: true,
     };
-    assert!(rt; is_printed(rt.alloc(), &met, b"met HQ 1.65.1 commit scn 2 mixed yes")?);
-    Ok(())
+    let due = b"met HQ 1.65.1 commit scn 2 mixed yes";
+    assert!(rt; is_printed(rt.alloc(), &met, due) == Ok(true));
 }
 
 /// How many entries a turn of HQ has.
@@ -173,16 +168,23 @@ fn entry_count(alloc: Global, wrote: &Option<RedoRecord>) -> Result<usize, Alloc
     Ok(entries(alloc, HQ, wrote)?.len())
 }
 
+/// How many entries a turn of HQ has in which its branch is rolled back.
+fn ended_count(alloc: Global) -> Result<usize, AllocError> {
+    let ended = RedoRecord::Ended {
+        me: branch(HQ, 65),
+        decision: Decision::Rollback,
+    };
+    entry_count(alloc, &Some(ended))
+}
+
+/// How many entries a turn of HQ has in which its branch is forgotten.
+fn forgotten_count(alloc: Global) -> Result<usize, AllocError> {
+    entry_count(alloc, &Some(RedoRecord::Forgot(branch(HQ, 65))))
+}
+
 #[test]
-fn a_turn_has_the_entry_of_its_outcome(rt: HostRuntime) -> Result<(), Fail> {
-    let me = branch(HQ, 65);
-    let decision = Decision::Rollback;
-    for (wrote, count) in [
-        (None, 0),
-        (Some(RedoRecord::Forgot(me)), 0),
-        (Some(RedoRecord::Ended { me, decision }), 1),
-    ] {
-        assert_eq!(rt; entry_count(rt.alloc(), &wrote)?, count);
-    }
-    Ok(())
+fn a_turn_has_the_entry_of_its_outcome(rt: HostRuntime) {
+    assert!(rt; entry_count(rt.alloc(), &None) == Ok(0));
+    assert!(rt; forgotten_count(rt.alloc()) == Ok(0));
+    assert!(rt; ended_count(rt.alloc()) == Ok(1));
 }

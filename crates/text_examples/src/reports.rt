@@ -2,7 +2,6 @@
 use dtx_values::{Answer, Bytes, Done, Listing, Notice, Refusal, Row, RowSet, Texts, Value};
 use report::{answer_lines, notice_lines, put_numbered, refusal_text};
 use std::alloc::{AllocError, Global};
-use std::test::Fail;
 
 fn texts(alloc: Global, parts: &[&[u8]]) -> Result<Texts, AllocError> {
     let mut texts = Vec::new(alloc);
@@ -55,11 +54,13 @@ const REFUSALS: [(u16, &[&[u8]], &str); 6] = [
 ];
 
 #[test]
-fn refusals_are_written(rt: HostRuntime) -> Result<(), Fail> {
+fn refusals_are_written(rt: HostRuntime) {
     for (code, args, due) in REFUSALS {
-        assert!(rt; says(rt.alloc(), code, args, due.as_bytes())?, "{due}");
+        assert!(rt;
+            says(rt.alloc(), code, args, due.as_bytes()) == Ok(true),
+            "{due}"
+        );
     }
-    Ok(())
 }
 
 /// Rows with these numbers in the column ID, and NULL in the column GOODS.
@@ -83,14 +84,17 @@ fn tells(alloc: Global, answer: &Answer, due: &[u8]) -> Result<bool, AllocError>
     Ok(text_of(alloc, &lines)?.as_slice() == due)
 }
 
+/// Whether such rows are written as this text.
+fn tells_found(alloc: Global, ids: &[i64], due: &[u8]) -> Result<bool, AllocError> {
+    let answer = found(alloc, ids)?;
+    tells(alloc, &answer, due)
+}
+
 #[test]
-fn found_rows_are_written(rt: HostRuntime) -> Result<(), Fail> {
-    let alloc = rt.alloc();
-    let none = found(alloc, &[])?;
-    assert!(rt; tells(alloc, &none, b"no rows selected\n")?);
-    let one = found(alloc, &[-1])?;
-    assert!(rt; tells(alloc, &one, b"ID|GOODS\n-1|NULL\n1 row selected.\n")?);
-    Ok(())
+fn found_rows_are_written(rt: HostRuntime) {
+    let one = b"ID|GOODS\n-1|NULL\n1 row selected.\n";
+    assert!(rt; tells_found(rt.alloc(), &[], b"no rows selected\n") == Ok(true));
+    assert!(rt; tells_found(rt.alloc(), &[-1], one) == Ok(true));
 }
 
 /// Whether the answer that this was done, to no row, is written as this text.
@@ -99,10 +103,9 @@ fn tells_done(alloc: Global, done: Done, due: &[u8]) -> Result<bool, AllocError>
 }
 
 #[test]
-fn what_was_done_is_written(rt: HostRuntime) -> Result<(), Fail> {
-    assert!(rt; tells_done(rt.alloc(), Done::Created, b"0 rows created.\n")?);
-    assert!(rt; tells_done(rt.alloc(), Done::Committed, b"Commit complete.\n")?);
-    Ok(())
+fn what_was_done_is_written(rt: HostRuntime) {
+    assert!(rt; tells_done(rt.alloc(), Done::Created, b"0 rows created.\n") == Ok(true));
+    assert!(rt; tells_done(rt.alloc(), Done::Committed, b"Commit complete.\n") == Ok(true));
 }
 
 /// Whether the notice is written as this text.
@@ -111,18 +114,16 @@ fn is_noted(alloc: Global, notice: &Notice, due: &[u8]) -> Result<bool, AllocErr
     Ok(text_of(alloc, &lines)?.as_slice() == due)
 }
 
-/// Whether the lines are written as this text, behind the number of their command.
-fn are_numbered(alloc: Global, lines: &[Bytes], due: &[u8]) -> Result<bool, AllocError> {
+/// Whether lines are written as this text, behind the number of their command.
+fn are_numbered(alloc: Global, lines: &[&[u8]], due: &[u8]) -> Result<bool, AllocError> {
+    let lines = texts(alloc, lines)?;
     let mut out = Vec::new(alloc);
-    put_numbered(&mut out, 12, lines)?;
+    put_numbered(&mut out, 12, lines.as_slice())?;
     Ok(out.as_slice() == due)
 }
 
 #[test]
-fn notices_and_numbered_lines_are_written(rt: HostRuntime) -> Result<(), Fail> {
-    let alloc = rt.alloc();
-    assert!(rt; is_noted(alloc, &Notice::Waiting, b"waiting\n")?);
-    let lines = texts(alloc, &[b"ID", b"1"])?;
-    assert!(rt; are_numbered(alloc, lines.as_slice(), b"12 ID\n12 1\n")?);
-    Ok(())
+fn notices_and_numbered_lines_are_written(rt: HostRuntime) {
+    assert!(rt; is_noted(rt.alloc(), &Notice::Waiting, b"waiting\n") == Ok(true));
+    assert!(rt; are_numbered(rt.alloc(), &[b"ID", b"1"], b"12 ID\n12 1\n") == Ok(true));
 }

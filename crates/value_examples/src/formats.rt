@@ -9,7 +9,6 @@ use byte_format::{
     take_u32, take_u48, take_u64, tested_is_exact, write_whole,
 };
 use std::alloc::{AllocError, Global};
-use std::test::Fail;
 
 /// 250 grams, insured for 3,000, by way of 7 and 300, a thing named "tea".
 const TEA: [u8; 21] = [
@@ -64,16 +63,16 @@ fn lists(alloc: Global) -> Result<Vec<u8>, AllocError> {
 /// What those lists are written as.
 const LISTS: [u8; 10] = [2, 1, 0, 0, 0, 0, 2, 1, 9, 0];
 
+/// Whether this was written.
+fn is(written: &Result<Vec<u8>, AllocError>, wanted: &[u8]) -> bool {
+    matches!(written, Ok(bytes) if bytes.as_slice() == wanted)
+}
+
 #[test]
-fn parts_are_written(rt: HostRuntime) -> Result<(), Fail> {
-    for (what, written, wanted) in [
-        ("numbers", numbers(rt.alloc())?, NUMBERS.as_slice()),
-        ("runs", runs(rt.alloc())?, &RUNS),
-        ("lists", lists(rt.alloc())?, &LISTS),
-    ] {
-        assert!(rt; written.as_slice() == wanted, "{what}");
-    }
-    Ok(())
+fn parts_are_written(rt: HostRuntime) {
+    assert!(rt; is(&numbers(rt.alloc()), &NUMBERS));
+    assert!(rt; is(&runs(rt.alloc()), &RUNS));
+    assert!(rt; is(&lists(rt.alloc()), &LISTS));
 }
 
 /// The numbers of one, two, four, six and eight bytes that these bytes begin with.
@@ -88,7 +87,7 @@ fn numbers_at(bytes: &[u8]) -> Result<[u64; 5], NoSpelling> {
 }
 
 #[test]
-fn numbers_are_taken_from_the_front(rt: HostRuntime) -> Result<(), Fail> {
+fn numbers_are_taken_from_the_front(rt: HostRuntime) {
     let wanted = [
         0x01,
         0x0102,
@@ -96,8 +95,7 @@ fn numbers_are_taken_from_the_front(rt: HostRuntime) -> Result<(), Fail> {
         0x0102_0304_0506,
         0x0102_0304_0506_0708,
     ];
-    assert_eq!(rt; numbers_at(&FRONT)?, wanted);
-    Ok(())
+    assert!(rt; numbers_at(&FRONT) == Ok(wanted));
 }
 
 /// Whether what stands behind a number is left.
@@ -146,30 +144,21 @@ fn takes_two(alloc: Global) -> Result<bool, TakeErr> {
 }
 
 #[test]
-fn parts_are_taken_from_the_front(rt: HostRuntime) -> Result<(), Fail> {
-    for (what, are_taken) in [
-        ("the rest", leaves_the_rest()?),
-        ("others", takes_others()?),
-        ("runs", takes_runs()?),
-        ("flags", takes_flags(rt.alloc())?),
-        ("options", takes_options(rt.alloc())?),
-        ("two", takes_two(rt.alloc())?),
-    ] {
-        assert!(rt; are_taken, "{what}");
-    }
-    Ok(())
+fn parts_are_taken_from_the_front(rt: HostRuntime) {
+    assert!(rt; leaves_the_rest() == Ok(true));
+    assert!(rt; takes_others() == Ok(true));
+    assert!(rt; takes_runs() == Ok(true));
+    assert!(rt; takes_flags(rt.alloc()) == Ok(true));
+    assert!(rt; takes_options(rt.alloc()) == Ok(true));
+    assert!(rt; takes_two(rt.alloc()) == Ok(true));
 }
 
 #[test]
 fn what_spells_no_part_is_refused(rt: HostRuntime) {
-    for (what, is_refused) in [
-        ("a byte is missing", take_u48(&FRONT[..5]).is_err()),
-        ("a flag of 2", take_flag(&[2]).is_err()),
-        ("other bytes", take_constant(&FRONT, &[1, 3]).is_err()),
-        ("a run that is cut", take_run_u8(b"\x03ab").is_err()),
-    ] {
-        assert!(rt; is_refused, "{what}");
-    }
+    assert!(rt; take_u48(&FRONT[..5]).is_err(), "a byte is missing");
+    assert!(rt; take_flag(&[2]).is_err(), "a flag of 2");
+    assert!(rt; take_constant(&FRONT, &[1, 3]).is_err(), "other bytes");
+    assert!(rt; take_run_u8(b"\x03ab").is_err(), "a run that is cut");
 }
 
 /// Whether the label of tea is read.
@@ -203,10 +192,9 @@ fn reads_letters(alloc: Global) -> Result<bool, TakeErr> {
 }
 
 #[test]
-fn labels_are_read(rt: HostRuntime) -> Result<(), Fail> {
-    assert!(rt; reads_tea(rt.alloc())?);
-    assert!(rt; reads_letters(rt.alloc())?);
-    Ok(())
+fn labels_are_read(rt: HostRuntime) {
+    assert!(rt; reads_tea(rt.alloc()) == Ok(true));
+    assert!(rt; reads_letters(rt.alloc()) == Ok(true));
 }
 
 /// Whether a label is written as it was.
@@ -227,27 +215,31 @@ fn map(alloc: Global) -> Result<Vec<u8>, AllocError> {
 }
 
 #[test]
-fn labels_are_written(rt: HostRuntime) -> Result<(), Fail> {
-    assert!(rt; is_kept(rt.alloc(), &TEA)?);
-    assert!(rt; is_kept(rt.alloc(), &LETTERS)?);
-    assert!(rt; map(rt.alloc())?.as_slice() == b"\x75\x30\x00\x00\x02\x03map".as_slice());
-    Ok(())
+fn labels_are_written(rt: HostRuntime) {
+    assert!(rt; is_kept(rt.alloc(), &TEA) == Ok(true));
+    assert!(rt; is_kept(rt.alloc(), &LETTERS) == Ok(true));
+    assert!(rt; is(&map(rt.alloc()), b"\x75\x30\x00\x00\x02\x03map"));
+}
+
+/// Bytes that spell no label.
+const NO_LABELS: [(&str, [u8; 7]); 7] = [
+    ("a gram too many", [117, 49, 0, 0, 1, 0, 2]),
+    ("no weight", [0, 0, 0, 0, 1, 0, 2]),
+    ("an option of 2", [117, 48, 2, 0, 1, 0, 2]),
+    ("a stop too many", [117, 48, 0, 1, 1, 0, 2]),
+    ("a third kind", [117, 48, 0, 0, 3, 0, 2]),
+    ("a name too long", [117, 48, 0, 0, 2, 2, b'a']),
+    ("a byte behind the name", [117, 48, 0, 0, 2, 0, b'a']),
+];
+
+fn is_refused(alloc: Global, bytes: &[u8]) -> bool {
+    matches!(read_label(alloc, bytes), Err(TakeErr::NoSpelling))
 }
 
 #[test]
 fn what_spells_no_label_is_refused(rt: HostRuntime) {
-    let cases = [
-        ("a gram too many", [117, 49, 0, 0, 1, 0, 2]),
-        ("no weight", [0, 0, 0, 0, 1, 0, 2]),
-        ("an option of 2", [117, 48, 2, 0, 1, 0, 2]),
-        ("a stop too many", [117, 48, 0, 1, 1, 0, 2]),
-        ("a third kind", [117, 48, 0, 0, 3, 0, 2]),
-        ("a name too long", [117, 48, 0, 0, 2, 2, b'a']),
-        ("a byte behind the name", [117, 48, 0, 0, 2, 0, b'a']),
-    ];
-    for (what, bytes) in cases {
-        let is_refused = matches!(read_label(rt.alloc(), &bytes), Err(TakeErr::NoSpelling));
-        assert!(rt; is_refused, "{what}");
+    for (what, bytes) in NO_LABELS {
+        assert!(rt; is_refused(rt.alloc(), &bytes), "{what}");
     }
 }
 
@@ -278,9 +270,8 @@ fn refuses_a_byte(alloc: Global) -> bool {
 }
 
 #[test]
-fn values_are_read_and_written_by_their_formats(rt: HostRuntime) -> Result<(), Fail> {
-    assert!(rt; reads_a_number(rt.alloc())?);
+fn values_are_read_and_written_by_their_formats(rt: HostRuntime) {
+    assert!(rt; reads_a_number(rt.alloc()) == Ok(true));
     assert!(rt; refuses_a_byte(rt.alloc()));
-    assert!(rt; write_whole(rt.alloc(), &Some(7_u8))?.as_slice() == [1, 7].as_slice());
-    Ok(())
+    assert!(rt; is(&write_whole(rt.alloc(), &Some(7_u8)), &[1, 7]));
 }

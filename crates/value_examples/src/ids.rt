@@ -1,7 +1,6 @@
 //! The texts of ids, and the clock, by examples.
 use dtx_values::{Name, NameErr};
 use std::alloc::{AllocError, Global};
-use std::test::Fail;
 use tran_ids::{BranchId, Clock, global_text, local_text, read_local};
 
 const BRANCH: BranchId = BranchId {
@@ -34,19 +33,18 @@ fn is_global(
     Ok(global_text(alloc, names, branch)?.as_slice() == text)
 }
 
-/// The names of nodes, of which the first is HQ.
-fn node_names(alloc: Global) -> Result<[Name; 1], NameErr> {
-    Ok([Name::from_bytes(alloc, b"HQ")?])
+/// Whether this is the global text of the branch, where the one node is HQ.
+fn is_global_at_hq(alloc: Global, text: &[u8]) -> Result<bool, NameErr> {
+    let names = [Name::from_bytes(alloc, b"HQ")?];
+    Ok(is_global(alloc, &names, &BRANCH, text)?)
 }
 
 #[test]
-fn texts_are_written(rt: HostRuntime) -> Result<(), Fail> {
+fn texts_are_written(rt: HostRuntime) {
     let alloc = rt.alloc();
-    let names = node_names(alloc)?;
-    assert!(rt; is_local(alloc, &BRANCH, b"1.65.1")?);
-    assert!(rt; is_global(alloc, &names, &BRANCH, b"HQ.00000001.1.65.1")?);
-    assert!(rt; is_global(alloc, &[], &NAMELESS, b".000000ff.4294967295.64.10")?);
-    Ok(())
+    assert!(rt; is_local(alloc, &BRANCH, b"1.65.1") == Ok(true));
+    assert!(rt; is_global_at_hq(alloc, b"HQ.00000001.1.65.1") == Ok(true));
+    assert!(rt; is_global(alloc, &[], &NAMELESS, b".000000ff.4294967295.64.10") == Ok(true));
 }
 
 /// Texts, each with the numbers that it spells if it is a local text.
@@ -88,5 +86,5 @@ fn times() -> [u64; 3] {
 
 #[test]
 fn a_clock_never_falls(rt: HostRuntime) {
-    assert_eq!(rt; times(), [1, 7, 8]);
+    assert!(rt; times() == [1, 7, 8]);
 }

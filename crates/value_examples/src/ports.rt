@@ -6,7 +6,6 @@ use dtx_ports::{
 use std::alloc::{AllocError, Global};
 use std::io;
 use std::io::{ErrorKind, Read, Write};
-use std::test::Fail;
 
 /// A reader that gives one byte, if it has not given it yet, and then fails.
 #[derive(Drop)]
@@ -60,61 +59,65 @@ fn read_of(alloc: Global, bytes: &[u8], failing: &[u32], limit: usize) -> Result
     read_within(alloc, &mut source, limit)
 }
 
-/// A text that takes several reads: 10,000 bytes.
-fn long_text(alloc: Global) -> Result<Vec<u8>, AllocError> {
-    b"wxyz".repeat(alloc, 2500)
+/// Whether a source of these bytes is read to its end within a limit.
+fn is_read(alloc: Global, bytes: &[u8], limit: usize) -> Result<bool, ReadErr> {
+    Ok(read_of(alloc, bytes, &[], limit)?.as_slice() == bytes)
+}
+
+/// Whether a text is read that takes several reads, 10,000 bytes, where the calls of these numbers fail.
+fn is_long_text_read(alloc: Global, failing: &[u32]) -> Result<bool, ReadErr> {
+    let text = b"wxyz".repeat(alloc, 2500)?;
+    Ok(read_of(alloc, &text, failing, usize::MAX)?.as_slice() == text.as_slice())
 }
 
 #[test]
-fn a_source_is_read_to_its_end_within_the_limit(rt: HostRuntime) -> Result<(), Fail> {
-    let text = long_text(rt.alloc())?;
-    for (bytes, limit) in [
-        (b"abc".as_slice(), 3),
-        (b"", 0),
-        (text.as_slice(), usize::MAX),
-    ] {
-        let read = read_of(rt.alloc(), bytes, &[], limit)?;
-        assert_eq!(rt; read.as_slice(), bytes);
-    }
-    Ok(())
+fn a_source_is_read_to_its_end_within_the_limit(rt: HostRuntime) {
+    assert!(rt; is_read(rt.alloc(), b"abc", 3) == Ok(true));
+    assert!(rt; is_read(rt.alloc(), b"", 0) == Ok(true));
+    assert!(rt; is_long_text_read(rt.alloc(), &[]) == Ok(true));
 }
 
 #[test]
-fn a_text_that_cannot_be_read_whole_does_not_come(rt: HostRuntime) -> Result<(), Fail> {
-    let text = long_text(rt.alloc())?;
-    for (bytes, failing, limit, error) in [
-        (b"abc".as_slice(), [1000], 2, ReadErr::TooLong),
-        (text.as_slice(), [2], 10000, ReadErr::Fault),
-    ] {
-        let read = read_of(rt.alloc(), bytes, &failing, limit);
-        assert_eq!(rt; read.err(), Some(error));
-    }
-    Ok(())
+fn a_text_that_cannot_be_read_whole_does_not_come(rt: HostRuntime) {
+    assert!(rt; is_read(rt.alloc(), b"abc", 2) == Err(ReadErr::TooLong));
+    assert!(rt; is_long_text_read(rt.alloc(), &[2]) == Err(ReadErr::Fault));
 }
 
 fn is_abc(bytes: &[u8]) -> bool {
     bytes == b"abc".as_slice()
 }
 
-#[test]
-fn a_source_is_read_again_behind_a_fault(rt: HostRuntime) -> Result<(), Fail> {
-    let mut source = source_of(rt.alloc(), b"abc", &[1])?;
-    let read = read_within(rt.alloc(), &mut source, 3);
-    assert!(rt; matches!(read, Err(ReadErr::Fault)));
-    let again = read_within(rt.alloc(), &mut source, 3)?;
-    assert!(rt; is_abc(&again));
-    Ok(())
+/// Whether a source is read to its end behind a read that failed.
+fn is_read_again(alloc: Global) -> Result<bool, ReadErr> {
+    let mut source = source_of(alloc, b"abc", &[1])?;
+    let has_failed = matches!(read_within(alloc, &mut source, 3), Err(ReadErr::Fault));
+    Ok(has_failed && is_abc(&read_within(alloc, &mut source, 3)?))
 }
 
 #[test]
-fn a_listed_read_fails_and_the_next_one_goes_on(rt: HostRuntime) -> Result<(), Fail> {
-    let mut source = source_of(rt.alloc(), b"abc", &[2])?;
-    let mut buffer = [0; 2];
-    for answer in [Ok(2), Err(Failed), Ok(1), Ok(0)] {
-        assert_eq!(rt; source.read(&mut buffer), answer);
-    }
-    assert_eq!(rt; buffer, *b"cb");
-    Ok(())
+fn a_source_is_read_again_behind_a_fault(rt: HostRuntime) {
+    assert!(rt; is_read_again(rt.alloc()) == Ok(true));
+}
+
+/// Whether a read of two bytes answers so.
+fn answers(source: &mut MemSource, answer: Result<usize, Failed>) -> bool {
+    source.read(&mut [0; 2]) == answer
+}
+
+/// Whether the second read fails, and the next one goes on.
+fn goes_on(alloc: Global) -> Result<bool, AllocError> {
+    let mut source = source_of(alloc, b"abc", &[2])?;
+    Ok(
+        answers(&mut source, Ok(2))
+            && answers(&mut source, Err(Failed))
+            && answers(&mut source, Ok(1))
+            && answers(&mut source, Ok(0)),
+    )
+}
+
+#[test]
+fn a_listed_read_fails_and_the_next_one_goes_on(rt: HostRuntime) {
+    assert!(rt; goes_on(rt.alloc()) == Ok(true));
 }
 
 /// What is written to a sink, whether it takes it, and what it holds then.
@@ -137,23 +140,25 @@ fn goes(sink: &mut MemSink, (bytes, is_taken, held): Step) -> bool {
     write_whole(sink, bytes).is_ok() == is_taken && sink.bytes() == held
 }
 
-/// Whether the sink goes each of these steps.
-fn goes_all(sink: &mut MemSink, steps: &[Step]) -> bool {
+/// Whether a sink with room for so many bytes, one of whose calls fails, goes each of these steps.
+fn goes_all(alloc: Global, room: usize, failing: u32, steps: &[Step]) -> Result<bool, AllocError> {
+    let mut sink = sink_of(alloc, room, failing)?;
     for step in steps {
-        if !goes(sink, *step) {
-            return false;
+        if !goes(&mut sink, *step) {
+            return Ok(false);
         }
     }
-    true
+    Ok(true)
 }
 
 #[test]
-fn a_sink_holds_what_it_took(rt: HostRuntime) -> Result<(), Fail> {
+fn a_sink_holds_what_it_took(rt: HostRuntime) {
     for (room, failing, steps) in SINKS {
-        let mut sink = sink_of(rt.alloc(), room, failing)?;
-        assert!(rt; goes_all(&mut sink, steps), "room for {room}");
+        assert!(rt;
+            goes_all(rt.alloc(), room, failing, steps) == Ok(true),
+            "room for {room}"
+        );
     }
-    Ok(())
 }
 
 /// What a port to this reader gives within 3 bytes.
@@ -163,17 +168,16 @@ fn read_through<R: Read + Drop>(alloc: Global, reader: R) -> Result<Vec<u8>, Rea
 }
 
 #[test]
-fn a_port_reads_what_its_reader_gives(rt: HostRuntime) -> Result<(), Fail> {
-    let bytes = read_through(rt.alloc(), b"abc".as_slice())?;
-    assert!(rt; is_abc(&bytes));
-    Ok(())
+fn a_port_reads_what_its_reader_gives(rt: HostRuntime) {
+    let read = read_through(rt.alloc(), b"abc".as_slice());
+    assert!(rt; matches!(&read, Ok(bytes) if is_abc(bytes)));
 }
 
 #[test]
 fn a_port_fails_where_its_reader_does(rt: HostRuntime) {
     for has_given in [true, false] {
         let read = read_through(rt.alloc(), CutReader { has_given });
-        assert_eq!(rt; read.err(), Some(ReadErr::Fault));
+        assert!(rt; matches!(&read, Err(ReadErr::Fault)));
     }
 }
 
@@ -197,16 +201,24 @@ fn a_port_fails_where_its_writer_does(rt: HostRuntime) {
     }
 }
 
+/// Whether this is the text of a failure.
+fn has_text(alloc: Global, error: ReadErr, text: &str) -> Result<bool, AllocError> {
+    Ok(error.to_string(alloc)?.as_str() == text)
+}
+
+/// Whether this is the text of a port's failure.
+fn is_failed_text(alloc: Global, text: &str) -> Result<bool, AllocError> {
+    Ok(Failed.to_string(alloc)?.as_str() == text)
+}
+
 #[test]
-fn failures_have_a_text(rt: HostRuntime) -> Result<(), Fail> {
-    let text = Failed.to_string(rt.alloc())?;
-    assert_eq!(rt; text.as_str(), "a source or a sink failed");
+fn failures_have_a_text(rt: HostRuntime) {
+    assert!(rt; is_failed_text(rt.alloc(), "a source or a sink failed") == Ok(true));
     for (error, text) in [
         (ReadErr::Fault, "a read failed"),
         (ReadErr::TooLong, "there is more to read than is allowed"),
         (ReadErr::NoMemory, "out of memory"),
     ] {
-        assert_eq!(rt; error.to_string(rt.alloc())?.as_str(), text);
+        assert!(rt; has_text(rt.alloc(), error, text) == Ok(true));
     }
-    Ok(())
 }

@@ -7,7 +7,6 @@ use dtx_values::{
 use std::alloc::{AllocError, Global};
 use std::collections::HashMap;
 use std::hash::Hash;
-use std::test::Fail;
 
 fn letters(alloc: Global, count: usize) -> Result<Vec<u8>, AllocError> {
     b"a".repeat(alloc, count)
@@ -44,10 +43,9 @@ fn is_text(alloc: Global, bytes: &[u8], text: &str) -> Result<bool, TextErr> {
 }
 
 #[test]
-fn a_text_is_utf8(rt: HostRuntime) -> Result<(), Fail> {
-    assert!(rt; matches!(text_of(rt.alloc(), b"\xff"), Err(TextErr::NotUtf8)));
-    assert!(rt; is_text(rt.alloc(), b"\xc3\xa9", "é")?);
-    Ok(())
+fn a_text_is_utf8(rt: HostRuntime) {
+    assert!(rt; is_text(rt.alloc(), b"\xff", "") == Err(TextErr::NotUtf8));
+    assert!(rt; is_text(rt.alloc(), b"\xc3\xa9", "é") == Ok(true));
 }
 
 /// Whether the name that is spelled so is folded to these bytes.
@@ -56,15 +54,14 @@ fn is_folded(alloc: Global, spelled: &[u8], folded: &[u8]) -> Result<bool, NameE
 }
 
 #[test]
-fn names_are_folded(rt: HostRuntime) -> Result<(), Fail> {
+fn names_are_folded(rt: HostRuntime) {
     for (spelled, folded) in [
         (b"hq.acme.com".as_slice(), b"HQ.ACME.COM".as_slice()),
         (b"Selected", b"SELECTED"),
         (b"a_1$#", b"A_1$#"),
     ] {
-        assert!(rt; is_folded(rt.alloc(), spelled, folded)?);
+        assert!(rt; is_folded(rt.alloc(), spelled, folded) == Ok(true));
     }
-    Ok(())
 }
 
 #[test]
@@ -80,16 +77,20 @@ fn what_is_no_name_is_refused(rt: HostRuntime) {
         b"a-b",
     ];
     for spelled in cases {
-        assert!(rt; matches!(name_of(rt.alloc(), spelled), Err(NameErr::Bad)));
+        assert!(rt; is_folded(rt.alloc(), spelled, spelled) == Err(NameErr::Bad));
     }
 }
 
+/// Whether so many letters are an identifier.
+fn are_identifier(alloc: Global, count: usize) -> Result<bool, AllocError> {
+    Ok(is_identifier(&letters(alloc, count)?))
+}
+
 #[test]
-fn an_identifier_has_30_letters(rt: HostRuntime) -> Result<(), Fail> {
-    assert!(rt; is_identifier(&letters(rt.alloc(), 30)?));
-    assert!(rt; !is_identifier(&letters(rt.alloc(), 31)?));
+fn an_identifier_has_30_letters(rt: HostRuntime) {
+    assert!(rt; are_identifier(rt.alloc(), 30) == Ok(true));
+    assert!(rt; are_identifier(rt.alloc(), 31) == Ok(false));
     assert!(rt; !is_identifier(b"hq.acme"));
-    Ok(())
 }
 
 /// Four identifiers of 30 letters, each with its dot, and a last one of so many letters.
@@ -124,38 +125,38 @@ fn is_written(alloc: Global, value: &Value, text: &[u8]) -> Result<bool, AllocEr
     Ok(value_text(alloc, value)?.as_slice() == text)
 }
 
-#[test]
-fn values_are_written_as_in_statements(rt: HostRuntime) -> Result<(), Fail> {
-    let quoted = text_value(rt.alloc(), b"it's")?;
-    for (value, text) in [
-        (&quoted, b"'it''s'".as_slice()),
-        (&Value::Number(-1), b"-1"),
-        (&Value::Null, b"NULL"),
-    ] {
-        assert!(rt; is_written(rt.alloc(), value, text)?);
-    }
-    Ok(())
-}
-
-/// Whether a value stands before another.
-fn is_before(value: &Value, other: &Value) -> bool {
-    value < other
+/// Whether the text of these bytes is written so.
+fn is_text_written(alloc: Global, bytes: &[u8], text: &[u8]) -> Result<bool, TextErr> {
+    Ok(is_written(alloc, &text_value(alloc, bytes)?, text)?)
 }
 
 #[test]
-fn numbers_stand_behind_null_and_before_texts(rt: HostRuntime) -> Result<(), Fail> {
-    let text = text_value(rt.alloc(), b"1")?;
-    assert!(rt; is_before(&Value::Null, &Value::Number(-1)));
-    assert!(rt; is_before(&Value::Number(-1), &Value::Number(10)));
-    assert!(rt; is_before(&Value::Number(10), &text));
-    Ok(())
+fn values_are_written_as_in_statements(rt: HostRuntime) {
+    assert!(rt; is_text_written(rt.alloc(), b"it's", b"'it''s'") == Ok(true));
+    assert!(rt; is_written(rt.alloc(), &Value::Number(-1), b"-1") == Ok(true));
+    assert!(rt; is_written(rt.alloc(), &Value::Null, b"NULL") == Ok(true));
+}
+
+/// Whether a value stands before the text of these bytes.
+fn is_before_text(alloc: Global, value: &Value, bytes: &[u8]) -> Result<bool, TextErr> {
+    Ok(*value < text_value(alloc, bytes)?)
 }
 
 #[test]
-fn texts_stand_in_the_order_of_their_bytes(rt: HostRuntime) -> Result<(), Fail> {
-    let (large, small) = (text_value(rt.alloc(), b"B")?, text_value(rt.alloc(), b"a")?);
-    assert!(rt; is_before(&large, &small));
-    Ok(())
+fn numbers_stand_behind_null_and_before_texts(rt: HostRuntime) {
+    assert!(rt; Value::Null < Value::Number(-1));
+    assert!(rt; Value::Number(-1) < Value::Number(10));
+    assert!(rt; is_before_text(rt.alloc(), &Value::Number(10), b"1") == Ok(true));
+}
+
+/// Whether the text of some bytes stands before that of others.
+fn are_in_order(alloc: Global, first: &[u8], second: &[u8]) -> Result<bool, TextErr> {
+    is_before_text(alloc, &text_value(alloc, first)?, second)
+}
+
+#[test]
+fn texts_stand_in_the_order_of_their_bytes(rt: HostRuntime) {
+    assert!(rt; are_in_order(rt.alloc(), b"B", b"a") == Ok(true));
 }
 
 /// A row of one number.
@@ -165,17 +166,33 @@ fn row_of(alloc: Global, number: i64) -> Result<Row, AllocError> {
     Ok(Row { cells })
 }
 
-#[test]
-fn a_map_keeps_the_last_row_of_each_key(rt: HostRuntime) -> Result<(), Fail> {
-    let mut map = RowMap::new(rt.alloc());
+/// Rows at the keys 1 and 2, of which the first was put twice.
+fn put_again(alloc: Global) -> Result<RowMap, AllocError> {
+    let mut map = RowMap::new(alloc);
     for (key, cell) in [(1, 10), (2, 20), (1, 30)] {
-        map.insert(Value::Number(key), row_of(rt.alloc(), cell)?)?;
+        map.insert(Value::Number(key), row_of(alloc, cell)?)?;
     }
-    let row = map.get(&Value::Number(1)).ok_or("the row is there")?;
-    assert_eq!(rt; row.cells.as_slice(), [Value::Number(30)].as_slice());
-    assert!(rt; map.contains_key(&Value::Number(2)));
-    assert!(rt; !map.contains_key(&Value::Null));
-    Ok(())
+    Ok(map)
+}
+
+/// The number of the row at a key.
+fn number_at(map: &RowMap, key: i64) -> Option<i64> {
+    match map.get(&Value::Number(key))?.cells.as_slice() {
+        [Value::Number(cell)] => Some(*cell),
+        _ => None,
+    }
+}
+
+/// The number of the row at a key of that map.
+fn put_at(alloc: Global, key: i64) -> Result<Option<i64>, AllocError> {
+    Ok(number_at(&put_again(alloc)?, key))
+}
+
+#[test]
+fn a_map_keeps_the_last_row_of_each_key(rt: HostRuntime) {
+    for (key, cell) in [(1, Some(30)), (2, Some(20)), (3, None)] {
+        assert!(rt; put_at(rt.alloc(), key) == Ok(cell));
+    }
 }
 
 /// Whether a map that has a copy of the key has the key.
@@ -185,13 +202,18 @@ fn is_found<K: Duplicate + Eq + Hash + Drop>(alloc: Global, key: &K) -> Result<b
     Ok(map.get(key) == Some(&1))
 }
 
+fn is_name_found(alloc: Global, spelled: &[u8]) -> Result<bool, NameErr> {
+    Ok(is_found(alloc, &name_of(alloc, spelled)?)?)
+}
+
+fn is_text_found(alloc: Global, bytes: &[u8]) -> Result<bool, TextErr> {
+    Ok(is_found(alloc, &text_value(alloc, bytes)?)?)
+}
+
 #[test]
-fn a_copy_is_an_equal_key(rt: HostRuntime) -> Result<(), Fail> {
-    let name = name_of(rt.alloc(), b"hq")?;
-    assert!(rt; is_found(rt.alloc(), &name)?);
-    let text = text_value(rt.alloc(), b"hq")?;
-    assert!(rt; is_found(rt.alloc(), &text)?);
-    Ok(())
+fn a_copy_is_an_equal_key(rt: HostRuntime) {
+    assert!(rt; is_name_found(rt.alloc(), b"hq") == Ok(true));
+    assert!(rt; is_text_found(rt.alloc(), b"hq") == Ok(true));
 }
 
 /// The answer that a statement is invalid, with this argument.
@@ -220,9 +242,13 @@ fn are(texts: &Texts, text: &[u8]) -> bool {
     }
 }
 
+/// Whether a copy of the answer is the answer.
+fn is_copied(alloc: Global, argument: &[u8]) -> Result<bool, AllocError> {
+    let answer = refused(alloc, argument)?;
+    Ok(is_refused(&answer.copy(alloc)?, argument))
+}
+
 #[test]
-fn answers_are_copied_whole(rt: HostRuntime) -> Result<(), Fail> {
-    let answer = refused(rt.alloc(), b"HQ")?;
-    assert!(rt; is_refused(&answer.copy(rt.alloc())?, b"HQ"));
-    Ok(())
+fn answers_are_copied_whole(rt: HostRuntime) {
+    assert!(rt; is_copied(rt.alloc(), b"HQ") == Ok(true));
 }
