@@ -11,8 +11,8 @@ PROGRAM is ./dtx where it is left out. A case is a folder with the files
     expected    the whole standard output, byte for byte
     status      the exit status
 
-and an example is a pair examples/NAME.dtx and examples/NAME.out, with the status 0. Each failure is one line. The last
-line is `N passed, M failed`; the exit status is 1 where one failed.
+or a pair NAME.dtx and NAME.out, with the status 0, as each example is. Each failure is one line. The last line is
+`N passed, M failed`; the exit status is 1 where one failed.
 """
 
 import pathlib
@@ -32,7 +32,7 @@ def cases():
         data = script.read_bytes() if script.exists() else eval(make.read_text(), NAMES)
         words = args.read_text().splitlines() if args.exists() else []
         yield folder.relative_to(TOP), data, words, (folder / "expected").read_bytes(), int(status.read_text())
-    for script in sorted(TOP.glob("examples/*.dtx")):
+    for script in sorted([*TOP.glob("tests/cases/**/*.dtx"), *TOP.glob("examples/*.dtx")]):
         yield script.relative_to(TOP), script.read_bytes(), [], script.with_suffix(".out").read_bytes(), 0
 
 

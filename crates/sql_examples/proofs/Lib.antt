@@ -1,2 +1,1 @@
 mod QueryLaws
-mod Staff

@@ -47,14 +47,19 @@ fn make(catalog: &mut Catalog, alloc: Global, made: Made) -> Result<(), CatErr> 
 }
 
 /// Whether each is made, or refused, as it is due.
-fn are_made(alloc: Global, all: &[(Made, Result<(), CatErr>)]) -> bool {
-    let mut catalog = Catalog::new(alloc);
+fn make_all(catalog: &mut Catalog, alloc: Global, all: &[(Made, Result<(), CatErr>)]) -> bool {
     for (made, due) in all {
-        if make(&mut catalog, alloc, *made) != *due {
+        if make(catalog, alloc, *made) != *due {
             return false;
         }
     }
     true
+}
+
+/// Whether each is made in a new catalog, or refused, as it is due.
+fn are_made(alloc: Global, all: &[(Made, Result<(), CatErr>)]) -> bool {
+    let mut catalog = Catalog::new(alloc);
+    make_all(&mut catalog, alloc, all)
 }
 
 /// What is made in a catalog in this order, and whether the name is taken.
@@ -106,23 +111,18 @@ fn is_synonym(catalog: &Catalog, alloc: Global, name: &str) -> Result<bool, CatE
     Ok(catalog.synonym(&name).is_some() && catalog.table(&name).is_none())
 }
 
-/// Makes a link and a synonym.
-fn make_both(catalog: &mut Catalog, alloc: Global) -> Result<(), CatErr> {
+/// Whether a link and a synonym that are made are found by their names.
+fn make_and_find(catalog: &mut Catalog, alloc: Global) -> Result<bool, CatErr> {
     make_link(catalog, alloc, "hq.acme.com", "hq")?;
-    make_synonym(catalog, alloc, "staff")
-}
-
-/// Whether both are found by their names.
-fn are_both_found(catalog: &Catalog, alloc: Global) -> Result<bool, CatErr> {
+    make_synonym(catalog, alloc, "staff")?;
     let leads = leads_to(catalog, alloc, "HQ.ACME.COM", "HQ")?;
     Ok(leads && is_synonym(catalog, alloc, "STAFF")?)
 }
 
-/// Whether what was made is found.
+/// Whether what is made in a new catalog is found.
 fn are_found(alloc: Global) -> Result<bool, CatErr> {
     let mut catalog = Catalog::new(alloc);
-    make_both(&mut catalog, alloc)?;
-    are_both_found(&catalog, alloc)
+    make_and_find(&mut catalog, alloc)
 }
 
 #[test]
@@ -130,10 +130,15 @@ fn links_and_synonyms_are_found_by_their_names(rt: HostRuntime) {
     assert!(rt; are_found(rt.alloc()) == Ok(true));
 }
 
+/// Whether recovery is on in a new catalog, and once it is switched off.
+fn recovers(alloc: Global) -> (bool, bool) {
+    let mut catalog = Catalog::new(alloc);
+    let before = catalog.recovery();
+    catalog.set_recovery(false);
+    (before, catalog.recovery())
+}
+
 #[test]
 fn recovery_is_on_until_it_is_switched_off(rt: HostRuntime) {
-    let mut catalog = Catalog::new(rt.alloc());
-    assert!(rt; catalog.recovery());
-    catalog.set_recovery(false);
-    assert!(rt; !catalog.recovery());
+    assert!(rt; recovers(rt.alloc()) == (true, false));
 }

@@ -1,4 +1,4 @@
-//! Examples, as tests, of the statements and of what they do at the node of their table.
+//! Examples, as tests, of the texts of statements, and of the tables, rows and locks that they work on.
 //!
 //! One module a crate. Each shows what no clause says: that calls succeed, and texts and values that were worked out by
 //! hand from the rules, never taken from the program.
@@ -9,11 +9,7 @@ mod catalogs;
 #[cfg(test)]
 mod locks;
 #[cfg(test)]
-mod meanings;
-#[cfg(test)]
 mod rows;
-#[cfg(test)]
-mod runs;
 #[cfg(test)]
 mod statements;
 #[cfg(test)]

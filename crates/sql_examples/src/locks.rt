@@ -2,7 +2,6 @@
 use dtx_values::{Name, Value};
 use row_locks::{Keys, LockErr, Locks};
 use std::alloc::Global;
-use std::test::Fail;
 use tran_ids::BranchId;
 
 const FIRST: BranchId = BranchId {
@@ -97,18 +96,22 @@ fn the_holder_of_a_key_is_named(rt: HostRuntime) {
     }
 }
 
-/// The keys that are left of the first branch once it gives back those that it only read.
-fn keys_left(alloc: Global) -> Result<Keys, LockErr> {
+/// The keys that are left of the first branch once it has read another row, and gives back those that it only read.
+fn keys_kept(alloc: Global, locks: &mut Locks, emp: &Name) -> Result<Keys, LockErr> {
+    locks.take(alloc, &FIRST, emp, &Value::Number(1), false)?;
+    locks.drop_reads(&FIRST);
+    Ok(locks.keys(alloc, emp)?)
+}
+
+/// Whether the key alone is left.
+fn keeps_the_key(alloc: Global) -> Result<bool, LockErr> {
     let emp = emp(alloc)?;
     let mut locks = taken(alloc, &emp, First::Live)?;
-    locks.take(alloc, &FIRST, &emp, &Value::Number(1), false)?;
-    locks.drop_reads(&FIRST);
-    Ok(locks.keys(alloc, &emp)?)
+    let left = keys_kept(alloc, &mut locks, &emp)?;
+    Ok(left.as_slice() == [Value::Number(KEY)].as_slice())
 }
 
 #[test]
-fn keys_that_were_only_read_are_given_back(rt: HostRuntime) -> Result<(), Fail> {
-    let keys = keys_left(rt.alloc()).map_err(|_| "the keys are free")?;
-    assert!(rt; keys.as_slice() == [Value::Number(KEY)].as_slice());
-    Ok(())
+fn keys_that_were_only_read_are_given_back(rt: HostRuntime) {
+    assert!(rt; keeps_the_key(rt.alloc()) == Ok(true));
 }

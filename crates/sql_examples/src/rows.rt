@@ -3,7 +3,14 @@ use dtx_values::{Cells, Change, Changes, Name, Row, Str, Value};
 use row_store::{KeyedRows, OwnChanges, Tables, View, changes_len, extents};
 use sql_eval::Keyed;
 use std::alloc::{AllocError, Global};
-use std::test::Fail;
+
+// Where the bytes are no text, it is as if there were no memory for it.
+fn text(alloc: Global, bytes: &[u8]) -> Result<Value, AllocError> {
+    match Str::from_bytes(alloc, bytes) {
+        Ok(text) => Ok(Value::Text(text)),
+        Err(_) => Err(AllocError),
+    }
+}
 
 fn row(alloc: Global, cell: i64) -> Result<Row, AllocError> {
     let mut cells = Cells::new(alloc);
@@ -11,50 +18,49 @@ fn row(alloc: Global, cell: i64) -> Result<Row, AllocError> {
     Ok(Row { cells })
 }
 
-fn text(alloc: Global, bytes: &[u8]) -> Result<Value, Fail> {
-    let text = Str::from_bytes(alloc, bytes).map_err(|_| "it is a text")?;
-    Ok(Value::Text(text))
-}
-
-fn put_text(alloc: Global, rows: &mut KeyedRows, key: &[u8]) -> Result<(), Fail> {
-    rows.put(text(alloc, key)?, row(alloc, 0)?)?;
-    Ok(())
+fn put_text(alloc: Global, rows: &mut KeyedRows, key: &[u8]) -> Result<(), AllocError> {
+    rows.put(text(alloc, key)?, row(alloc, 0)?)
 }
 
 fn put_number(alloc: Global, rows: &mut KeyedRows, key: i64, cell: i64) -> Result<(), AllocError> {
     rows.put(Value::Number(key), row(alloc, cell)?)
 }
 
-/// Rows at keys that are put out of their order.
-fn shuffled(alloc: Global) -> Result<KeyedRows, Fail> {
-    let mut rows = KeyedRows::new(alloc);
-    put_text(alloc, &mut rows, b"b")?;
-    put_number(alloc, &mut rows, 10, 0)?;
-    put_text(alloc, &mut rows, b"a")?;
-    put_number(alloc, &mut rows, -2, 0)?;
-    Ok(rows)
+/// Puts rows at keys out of their order.
+fn put_shuffled(alloc: Global, rows: &mut KeyedRows) -> Result<(), AllocError> {
+    put_text(alloc, rows, b"b")?;
+    put_number(alloc, rows, 10, 0)?;
+    put_text(alloc, rows, b"a")?;
+    put_number(alloc, rows, -2, 0)
 }
 
 /// Those rows, copied with their keys.
-fn shuffled_copies(alloc: Global) -> Result<Vec<Keyed>, Fail> {
-    let rows = shuffled(alloc)?;
-    Ok(rows.keyed(alloc)?)
+fn shuffled(alloc: Global) -> Result<Vec<Keyed>, AllocError> {
+    let mut rows = KeyedRows::new(alloc);
+    put_shuffled(alloc, &mut rows)?;
+    rows.keyed(alloc)
 }
 
-/// Whether these are the keys of the rows, in this order.
-fn have_keys(rows: &[Keyed], keys: &[Value]) -> bool {
-    rows.len() == keys.len() && rows.iter().zip(keys).all(|(row, key)| row.key == *key)
+fn is_text(value: &Value, bytes: &[u8]) -> bool {
+    matches!(value, Value::Text(text) if text.as_bytes() == bytes)
+}
+
+/// Whether those rows stand in the order of their keys.
+fn are_in_order(rows: &[Keyed]) -> bool {
+    match rows {
+        [least, number, first, last] => {
+            least.key == Value::Number(-2)
+                && number.key == Value::Number(10)
+                && is_text(&first.key, b"a")
+                && is_text(&last.key, b"b")
+        }
+        _ => false,
+    }
 }
 
 #[test]
-fn rows_stand_in_key_order(rt: HostRuntime) -> Result<(), Fail> {
-    let alloc = rt.alloc();
-    let rows = shuffled_copies(alloc)?;
-    let a = text(alloc, b"a")?;
-    let b = text(alloc, b"b")?;
-    let keys = vec![in alloc; Value::Number(-2), Value::Number(10), a, b]?;
-    assert!(rt; have_keys(&rows, &keys));
-    Ok(())
+fn rows_stand_in_key_order(rt: HostRuntime) {
+    assert!(rt; matches!(&shuffled(rt.alloc()), Ok(rows) if are_in_order(rows)));
 }
 
 /// Rows at the keys 1 and 2, of which the first was put twice.
@@ -110,11 +116,15 @@ fn only_rows_that_are_there_are_removed(rt: HostRuntime) {
     assert!(rt; count_left(rt.alloc(), &[1, 2]) == Ok(0));
 }
 
-fn table(alloc: Global) -> Result<Name, Fail> {
-    Ok(Name::from_bytes(alloc, b"t").map_err(|_| "it is a name")?)
+// Where the name is none, it is as if there were no memory for it.
+fn table(alloc: Global) -> Result<Name, AllocError> {
+    match Name::from_bytes(alloc, b"t") {
+        Ok(name) => Ok(name),
+        Err(_) => Err(AllocError),
+    }
 }
 
-fn change(alloc: Global, key: i64, after: Option<Row>) -> Result<Change, Fail> {
+fn change(alloc: Global, key: i64, after: Option<Row>) -> Result<Change, AllocError> {
     Ok(Change {
         table: table(alloc)?,
         key: Value::Number(key),
@@ -130,7 +140,7 @@ fn row_or_none(alloc: Global, cell: Option<i64>) -> Result<Option<Row>, AllocErr
 }
 
 // Changes of the table at these keys: each to a row of one number, or to none.
-fn changes(alloc: Global, cells: &[(i64, Option<i64>)]) -> Result<Changes, Fail> {
+fn changes(alloc: Global, cells: &[(i64, Option<i64>)]) -> Result<Changes, AllocError> {
     let mut changes = Changes::new(alloc);
     for (key, cell) in cells {
         let after = row_or_none(alloc, *cell)?;
@@ -140,7 +150,7 @@ fn changes(alloc: Global, cells: &[(i64, Option<i64>)]) -> Result<Changes, Fail>
 }
 
 // A change of the table to a row of a number and a text of so many bytes.
-fn long_change(alloc: Global, key: i64, length: usize) -> Result<Change, Fail> {
+fn long_change(alloc: Global, key: i64, length: usize) -> Result<Change, AllocError> {
     let bytes = vec![in alloc; b'x'; length]?;
     let mut row = row(alloc, key)?;
     row.cells.push(text(alloc, bytes.as_slice())?)?;
@@ -148,7 +158,7 @@ fn long_change(alloc: Global, key: i64, length: usize) -> Result<Change, Fail> {
 }
 
 // Such changes at so many keys.
-fn long_changes(alloc: Global, count: i64, length: usize) -> Result<Changes, Fail> {
+fn long_changes(alloc: Global, count: i64, length: usize) -> Result<Changes, AllocError> {
     let mut changes = Changes::new(alloc);
     for key in 0..count {
         changes.push(long_change(alloc, key, length)?)?;
@@ -156,18 +166,24 @@ fn long_changes(alloc: Global, count: i64, length: usize) -> Result<Changes, Fai
     Ok(changes)
 }
 
-// The tables of a node with the table alone, and its rows after these changes.
-fn committed(alloc: Global, changes: Changes) -> Result<Tables, Fail> {
+/// The tables of a node with the table alone, which has no rows.
+fn one_table(alloc: Global) -> Result<Tables, AllocError> {
     let mut tables = Tables::new(alloc);
     tables.add_table(alloc, table(alloc)?)?;
-    tables.apply(alloc, changes.as_slice())?;
     Ok(tables)
 }
 
-// A branch that has changed this, where it is not too much.
-fn changed(alloc: Global, changes: Changes) -> Result<OwnChanges, Fail> {
+/// That table with its rows after these changes.
+fn committed(alloc: Global, changes: &[Change]) -> Result<Tables, AllocError> {
+    let mut tables = one_table(alloc)?;
+    tables.apply(alloc, changes)?;
+    Ok(tables)
+}
+
+// A branch that has changed this; where it is too much, it is as if there were no memory for it.
+fn changed(alloc: Global, changes: Changes) -> Result<OwnChanges, AllocError> {
     if changes_len(changes.as_slice())? > 8_388_608 {
-        return Err("too many changes".into());
+        return Err(AllocError);
     }
     let mut own = OwnChanges::new(alloc);
     own.push_all(alloc, changes, 0)?;
@@ -175,16 +191,15 @@ fn changed(alloc: Global, changes: Changes) -> Result<OwnChanges, Fail> {
 }
 
 /// Committed rows at the keys 1, 2 and 3.
-fn three_rows(alloc: Global) -> Result<Tables, Fail> {
+fn three_rows(alloc: Global) -> Result<Tables, AllocError> {
     let rows = changes(alloc, &[(1, Some(10)), (2, Some(20)), (3, Some(30))])?;
-    committed(alloc, rows)
+    committed(alloc, rows.as_slice())
 }
 
 /// A branch that has changed the row 1 twice, and has removed the row 2 and inserted the row 4.
-fn four_changes(alloc: Global) -> Result<OwnChanges, Fail> {
+fn four_changes(alloc: Global) -> Result<OwnChanges, AllocError> {
     let cells = [(1, Some(11)), (2, None), (4, Some(40)), (1, Some(12))];
-    let changes = changes(alloc, &cells)?;
-    changed(alloc, changes)
+    changed(alloc, changes(alloc, &cells)?)
 }
 
 fn cell_at(view: &View, key: i64) -> Option<i64> {
@@ -197,57 +212,74 @@ fn cell_at(view: &View, key: i64) -> Option<i64> {
 /// The number at a key, how many rows stand there, and how many there are in all.
 type Seen = (Option<i64>, usize, usize);
 
-fn seen(alloc: Global, view: &View, key: i64) -> Result<Seen, Fail> {
+fn seen(alloc: Global, view: &View, key: i64) -> Result<Seen, AllocError> {
     let there = view.at_key(alloc, &Value::Number(key))?.len();
     let all = view.keyed(alloc)?.len();
     Ok((cell_at(view, key), there, all))
 }
 
-/// What the branch sees of the table.
-fn seen_at(alloc: Global, key: i64) -> Result<Seen, Fail> {
-    let name = table(alloc)?;
-    let tables = three_rows(alloc)?;
+/// What the branch sees of the table over these rows.
+fn seen_over(alloc: Global, tables: &Tables, key: i64) -> Result<Seen, AllocError> {
+    let table = table(alloc)?;
     let own = four_changes(alloc)?;
-    seen(alloc, &View::new(&tables, &own, &name), key)
+    seen(alloc, &View::new(tables, &own, &table), key)
+}
+
+/// What the branch sees of the table.
+fn seen_at(alloc: Global, key: i64) -> Result<Seen, AllocError> {
+    let tables = three_rows(alloc)?;
+    seen_over(alloc, &tables, key)
 }
 
 #[test]
-fn own_changes_are_seen_over_committed_rows(rt: HostRuntime) -> Result<(), Fail> {
+fn own_changes_are_seen_over_committed_rows(rt: HostRuntime) {
     for (key, cell, there) in [
         (1, Some(12), 1),
         (2, None, 0),
         (3, Some(30), 1),
         (4, Some(40), 1),
     ] {
-        assert!(rt; seen_at(rt.alloc(), key)? == (cell, there, 3), "at {key}");
+        assert!(rt;
+            seen_at(rt.alloc(), key) == Ok((cell, there, 3)),
+            "at {key}"
+        );
     }
-    Ok(())
 }
 
-/// The bytes of the undo of a change, over a committed row of a number and a text of 1,500 bytes at the key 0.
-fn undo_of(alloc: Global, cells: &[(i64, Option<i64>)]) -> Result<u64, Fail> {
-    let name = table(alloc)?;
-    let rows = long_changes(alloc, 1, 1500)?;
-    let tables = committed(alloc, rows)?;
+/// The bytes of the undo of these changes over committed rows.
+fn undo_over(alloc: Global, tables: &Tables, changes: &[Change]) -> Result<u64, AllocError> {
+    let table = table(alloc)?;
     let own = OwnChanges::new(alloc);
+    View::new(tables, &own, &table).undo_len(changes)
+}
+
+/// A committed row of a number and a text of 1,500 bytes at the key 0.
+fn long_row(alloc: Global) -> Result<Tables, AllocError> {
+    let rows = long_changes(alloc, 1, 1500)?;
+    committed(alloc, rows.as_slice())
+}
+
+/// The bytes of the undo of a change over that row.
+fn undo_of(alloc: Global, cells: &[(i64, Option<i64>)]) -> Result<u64, AllocError> {
     let changes = changes(alloc, cells)?;
-    let bytes = View::new(&tables, &own, &name).undo_len(changes.as_slice())?;
-    Ok(bytes)
+    let tables = long_row(alloc)?;
+    undo_over(alloc, &tables, changes.as_slice())
 }
 
 #[test]
-fn undo_keeps_the_row_from_before(rt: HostRuntime) -> Result<(), Fail> {
-    let alloc = rt.alloc();
-    assert_eq!(rt; undo_of(alloc, &[(0, None)])?, 1525);
-    assert_eq!(rt; undo_of(alloc, &[(1, Some(1))])?, 12);
-    Ok(())
+fn undo_keeps_the_row_from_before(rt: HostRuntime) {
+    assert!(rt; undo_of(rt.alloc(), &[(0, None)]) == Ok(1525));
+    assert!(rt; undo_of(rt.alloc(), &[(1, Some(1))]) == Ok(12));
+}
+
+/// How many bytes so many changes have, each to a row with a text of so many.
+fn bytes_of(alloc: Global, count: i64, length: usize) -> Result<u64, AllocError> {
+    changes_len(long_changes(alloc, count, length)?.as_slice())
 }
 
 #[test]
-fn long_changes_are_soon_too_many(rt: HostRuntime) -> Result<(), Fail> {
-    let changes = long_changes(rt.alloc(), 5000, 2000)?;
-    let bytes = changes_len(changes.as_slice())?;
-    assert!(rt; bytes == 5000 * 2025 && bytes > 8_388_608);
-    assert!(rt; extents(bytes) == 2472);
-    Ok(())
+fn long_changes_are_soon_too_many(rt: HostRuntime) {
+    let bytes = 5000 * 2025;
+    assert!(rt; bytes_of(rt.alloc(), 5000, 2000) == Ok(bytes));
+    assert!(rt; bytes > 8_388_608 && extents(bytes) == 2472);
 }

@@ -2,20 +2,23 @@
 use sql_parse::{ParseErr, parse, print_stmt};
 use sql_statement::Stmt;
 use std::alloc::{AllocError, Global};
-use std::test::Fail;
+use token_grammar::ReadErr;
 
-/// What reading a text comes to, whatever statement it is.
-fn read(alloc: Global, text: &[u8]) -> Result<(), ParseErr> {
-    parse(alloc, text)?;
-    Ok(())
+/// The statement of a text.
+fn statement(alloc: Global, text: &[u8]) -> Result<Box<Stmt>, ReadErr> {
+    match parse(alloc, text) {
+        Ok(statement) => Ok(Box::new(alloc, statement)?),
+        Err(ParseErr::BadSql) => Err(ReadErr::Bad),
+        Err(ParseErr::NoMemory) => Err(ReadErr::NoMemory),
+    }
 }
 
 fn is_statement(alloc: Global, text: &[u8]) -> bool {
-    read(alloc, text).is_ok()
+    statement(alloc, text).is_ok()
 }
 
 fn is_refused(alloc: Global, text: &[u8]) -> bool {
-    read(alloc, text) == Err(ParseErr::BadSql)
+    matches!(&statement(alloc, text), Err(ReadErr::Bad))
 }
 
 /// Texts that are statements.
@@ -138,21 +141,23 @@ const PRINTED: [(&[u8], &[u8]); 9] = [
     ),
 ];
 
-fn is_printed(alloc: Global, statement: &Stmt, printed: &[u8]) -> Result<bool, Fail> {
-    Ok(print_stmt(alloc, statement)?.as_slice() == printed)
+/// Whether the statement of a text is printed so.
+fn is_printed_as(alloc: Global, text: &[u8], printed: &[u8]) -> bool {
+    match statement(alloc, text) {
+        Ok(statement) => is_printed(alloc, &statement, printed),
+        Err(_) => false,
+    }
 }
 
-fn is_printed_as(alloc: Global, text: &[u8], printed: &[u8]) -> Result<bool, Fail> {
-    let statement = parse(alloc, text)?;
-    is_printed(alloc, &statement, printed)
+fn is_printed(alloc: Global, statement: &Stmt, printed: &[u8]) -> bool {
+    matches!(&print_stmt(alloc, statement), Ok(text) if text.as_slice() == printed)
 }
 
 #[test]
-fn statements_are_printed_in_one_way(rt: HostRuntime) -> Result<(), Fail> {
+fn statements_are_printed_in_one_way(rt: HostRuntime) {
     for (text, printed) in PRINTED {
-        assert!(rt; is_printed_as(rt.alloc(), text, printed)?);
+        assert!(rt; is_printed_as(rt.alloc(), text, printed));
     }
-    Ok(())
 }
 
 // The front, so many times the piece, and the end.
@@ -171,28 +176,26 @@ fn repeated(
     Ok(text)
 }
 
-/// Texts of a front, a piece so many times at most, and an end.
-const LIMITS: [(&[u8], &[u8], usize, &[u8]); 4] = [
+/// A text's front, the piece that stands so many times at most, and the end.
+type Limit = (&'static [u8], &'static [u8], u16, &'static [u8]);
+
+const LIMITS: [Limit; 4] = [
     (b"COMMIT COMMENT '", b"x", 255, b"'"),
     (b"ROLLBACK FORCE '", b"''", 2000, b"'"),
     (b"INSERT INTO T VALUES ('", b"x", 2000, b"')"),
     (b"SELECT A", b", A", 254, b" FROM T"),
 ];
 
-#[test]
-fn texts_reach_their_limits(rt: HostRuntime) -> Result<(), Fail> {
-    for (front, piece, most, end) in LIMITS {
-        let text = repeated(rt.alloc(), front, piece, most, end)?;
-        assert!(rt; is_statement(rt.alloc(), &text));
-    }
-    Ok(())
+/// Whether the text is a statement with the piece as often as it may stand, and refused where it stands once more.
+fn ends(alloc: Global, (front, piece, most, end): Limit) -> Result<bool, AllocError> {
+    let longest = repeated(alloc, front, piece, usize::from(most), end)?;
+    let longer = repeated(alloc, front, piece, usize::from(most) + 1, end)?;
+    Ok(is_statement(alloc, &longest) && is_refused(alloc, &longer))
 }
 
 #[test]
-fn texts_end_at_their_limits(rt: HostRuntime) -> Result<(), Fail> {
-    for (front, piece, most, end) in LIMITS {
-        let text = repeated(rt.alloc(), front, piece, most + 1, end)?;
-        assert!(rt; is_refused(rt.alloc(), &text));
+fn texts_end_at_their_limits(rt: HostRuntime) {
+    for limit in LIMITS {
+        assert!(rt; ends(rt.alloc(), limit) == Ok(true));
     }
-    Ok(())
 }

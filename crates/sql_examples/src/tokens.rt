@@ -13,7 +13,6 @@ ghost use Rattle.sql_examples.specs.Query as example;
 use dtx_values::{Listing, Name, Names};
 use std::alloc::Global;
 use std::marker::Model;
-use std::test::Fail;
 use token_grammar::{
     Mark, Part, ReadErr, Repeated, Token, begins_word, begins_word_mark, commas, many, maybe_word,
     one_reading, optional, read_text, take_identifier, take_mark, take_name, take_number,
@@ -147,17 +146,27 @@ fn queries_are_read(rt: HostRuntime) {
     }
 }
 
+fn is_limit(name: &Name) -> bool {
+    name.as_bytes() == b"LIMIT".as_slice()
+}
+
+/// Whether a query asks for two names, the second of which is LIMIT, from LIMIT, up to the greatest limit.
+fn has_keywords(query: &Query) -> bool {
+    match &query.what {
+        Some(names) => match names.as_slice() {
+            [_, second] => {
+                is_limit(second) && is_limit(&query.name) && query.limit == Some(4_294_967_295)
+            }
+            _ => false,
+        },
+        None => false,
+    }
+}
+
 #[test]
-fn a_keyword_may_be_a_name(rt: HostRuntime) -> Result<(), Fail> {
-    let text = b"take count, limit from Limit limit 4294967295".as_slice();
-    let query = read_query(rt.alloc(), text)?;
-    let names = query.what.as_ref().ok_or("a count")?;
-    assert_eq!(rt; names.as_slice().len(), 2);
-    let last = &names.as_slice()[1];
-    assert_eq!(rt; last.as_bytes(), b"LIMIT".as_slice());
-    assert_eq!(rt; query.name.as_bytes(), b"LIMIT".as_slice());
-    assert_eq!(rt; query.limit, Some(4_294_967_295));
-    Ok(())
+fn a_keyword_may_be_a_name(rt: HostRuntime) {
+    let query = read_query(rt.alloc(), b"take count, limit from Limit limit 4294967295");
+    assert!(rt; matches!(&query, Ok(query) if has_keywords(query)));
 }
 
 /// Texts that spell none.
@@ -200,24 +209,34 @@ impl Repeated for Digits {
     }
 }
 
-#[test]
-fn parts_are_read_as_often_as_they_stand(rt: HostRuntime) -> Result<(), Fail> {
-    let tokens = tokens_of(rt.alloc(), b"NEXT 9\nNEXT 2 LAST")?;
-    let (digits, rest) = many::<Digits>(rt.alloc(), tokens.as_slice())?;
-    assert_eq!(rt; digits.as_slice(), [9, 2].as_slice());
-    take_word(rest, b"LAST")?;
-    Ok(())
+/// Whether digits are read as often as they stand.
+fn reads_digits(alloc: Global, text: &[u8]) -> Result<bool, ReadErr> {
+    let tokens = tokens_of(alloc, text)?;
+    let (digits, rest) = many::<Digits>(alloc, tokens.as_slice())?;
+    Ok(digits.as_slice() == [9, 2].as_slice() && begins_word(rest, b"LAST"))
 }
 
 #[test]
-fn an_optional_part_stands_once_or_not(rt: HostRuntime) -> Result<(), Fail> {
-    let tokens = tokens_of(rt.alloc(), b"next 1 LAST")?;
-    let (first, rest) = optional::<Digits>(rt.alloc(), tokens.as_slice())?;
-    assert_eq!(rt; first, Some(1));
-    let (none, rest) = optional::<Digits>(rt.alloc(), rest)?;
-    assert_eq!(rt; none, None);
-    whole((), maybe_word(maybe_word(rest, b"FIRST"), b"LAST"))?;
-    Ok(())
+fn parts_are_read_as_often_as_they_stand(rt: HostRuntime) {
+    assert!(rt; reads_digits(rt.alloc(), b"NEXT 9\nNEXT 2 LAST") == Ok(true));
+}
+
+/// Whether a digit is read where it stands, and none behind it.
+fn reads_one_digit(alloc: Global, tokens: &[Token]) -> Result<bool, ReadErr> {
+    let (first, rest) = optional::<Digits>(alloc, tokens)?;
+    let (none, rest) = optional::<Digits>(alloc, rest)?;
+    let rest = maybe_word(maybe_word(rest, b"FIRST"), b"LAST");
+    Ok(first == Some(1) && none.is_none() && whole((), rest).is_ok())
+}
+
+fn reads_optional_digit(alloc: Global, text: &[u8]) -> Result<bool, ReadErr> {
+    let tokens = tokens_of(alloc, text)?;
+    reads_one_digit(alloc, tokens.as_slice())
+}
+
+#[test]
+fn an_optional_part_stands_once_or_not(rt: HostRuntime) {
+    assert!(rt; reads_optional_digit(rt.alloc(), b"next 1 LAST") == Ok(true));
 }
 
 /// A text of which each token is as long as it can be.
@@ -230,33 +249,50 @@ fn behind_marks(tokens: &[Token]) -> Result<&[Token], ReadErr> {
     take_mark(rest, Mark::Unequal)
 }
 
-#[test]
-fn numbers_and_marks_are_as_long_as_they_can_be(rt: HostRuntime) -> Result<(), Fail> {
-    let tokens = tokens_of(rt.alloc(), RUN)?;
-    let (number, rest) = take_number(tokens.as_slice(), u64::MAX)?;
-    assert_eq!(rt; number, u64::MAX);
+/// Whether the number, the marks and the quoted text are taken as long as they can be.
+fn takes_longest(tokens: &[Token]) -> Result<bool, ReadErr> {
+    let (number, rest) = take_number(tokens, u64::MAX)?;
     let (quoted, rest) = take_quoted(behind_marks(rest)?)?;
-    assert_eq!(rt; quoted, b"it's".as_slice());
-    take_word(rest, b"X$#_.1Y")?;
-    Ok(())
+    Ok(number == u64::MAX && quoted == b"it's".as_slice() && begins_word(rest, b"X$#_.1Y"))
+}
+
+fn takes_run(alloc: Global, text: &[u8]) -> Result<bool, ReadErr> {
+    let tokens = tokens_of(alloc, text)?;
+    takes_longest(tokens.as_slice())
 }
 
 #[test]
-fn words_are_as_long_as_they_can_be(rt: HostRuntime) -> Result<(), Fail> {
-    let tokens = tokens_of(rt.alloc(), b"x$#_.1y:b.c")?;
-    let rest = take_word(tokens.as_slice(), b"X$#_.1Y")?;
-    let (name, rest) = take_name(rt.alloc(), take_mark(rest, Mark::Colon)?)?;
-    assert_eq!(rt; name.as_bytes(), b"B.C".as_slice());
-    whole((), rest)?;
-    Ok(())
+fn numbers_and_marks_are_as_long_as_they_can_be(rt: HostRuntime) {
+    assert!(rt; takes_run(rt.alloc(), RUN) == Ok(true));
+}
+
+/// Whether two words with a colon between them, the second of which is the name B.C, are the whole.
+fn takes_words(alloc: Global, tokens: &[Token]) -> Result<bool, ReadErr> {
+    let rest = take_word(tokens, b"X$#_.1Y")?;
+    let (name, rest) = take_name(alloc, take_mark(rest, Mark::Colon)?)?;
+    Ok(name.as_bytes() == b"B.C".as_slice() && whole((), rest).is_ok())
+}
+
+fn takes_name(alloc: Global, text: &[u8]) -> Result<bool, ReadErr> {
+    let tokens = tokens_of(alloc, text)?;
+    takes_words(alloc, tokens.as_slice())
 }
 
 #[test]
-fn a_dotted_name_is_no_identifier(rt: HostRuntime) -> Result<(), Fail> {
-    let tokens = tokens_of(rt.alloc(), b"b.c")?;
-    let refused = take_identifier(rt.alloc(), tokens.as_slice());
-    assert!(rt; matches!(&refused, Err(ReadErr::Bad)));
-    Ok(())
+fn words_are_as_long_as_they_can_be(rt: HostRuntime) {
+    assert!(rt; takes_name(rt.alloc(), b"x$#_.1y:b.c") == Ok(true));
+}
+
+/// Whether a text is an identifier.
+fn is_identifier(alloc: Global, text: &[u8]) -> Result<bool, ReadErr> {
+    let tokens = tokens_of(alloc, text)?;
+    Ok(take_identifier(alloc, tokens.as_slice()).is_ok())
+}
+
+#[test]
+fn a_dotted_name_is_no_identifier(rt: HostRuntime) {
+    assert!(rt; is_identifier(rt.alloc(), b"b.c") == Ok(false));
+    assert!(rt; is_identifier(rt.alloc(), b"b") == Ok(true));
 }
 
 /// Texts of which no tokens are made.
