@@ -1,0 +1,36 @@
+#!/usr/bin/env python3
+"""Compares the built program with a second one, written from the rules alone, on random scripts of one node.
+
+    tests/model/compare.py [COUNT [SEED [PROGRAM]]]
+
+COUNT scripts (1,000 where it is left out) are made from SEED on, and PROGRAM is ./dtx. A script on which the two differ
+is written to differs_SEED.dtx. The last line is `N scripts, M differ`; the exit status is 1 where one differs.
+
+The second program is script.py, node.py and sql.py. It knows the forms of statements that a node runs on tables of its
+own; random_scripts.py makes no others but by chance, as texts that are no statement.
+"""
+
+import pathlib
+import subprocess
+import sys
+
+from random_scripts import Writer
+from script import play
+
+TOP = pathlib.Path(__file__).resolve().parent.parent.parent
+
+
+def main(count="1000", seed="0", program=str(TOP / "dtx")):
+    differing = 0
+    for number in range(int(seed), int(seed) + int(count)):
+        script = Writer(number).script()
+        ran = subprocess.run([program], input=script, capture_output=True, timeout=60)
+        if (ran.returncode, ran.stdout) != play(script):
+            differing += 1
+            pathlib.Path(f"differs_{number}.dtx").write_bytes(script)
+    print(f"{count} scripts, {differing} differ")
+    return 1 if differing else 0
+
+
+if __name__ == "__main__":
+    sys.exit(main(*sys.argv[1:]))
