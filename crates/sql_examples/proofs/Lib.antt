@@ -1,1 +1,2 @@
 mod QueryLaws
+mod Staff

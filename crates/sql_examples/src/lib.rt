@@ -7,9 +7,15 @@
 #[cfg(test)]
 mod catalogs;
 #[cfg(test)]
+mod given;
+#[cfg(test)]
 mod locks;
 #[cfg(test)]
+mod meanings;
+#[cfg(test)]
 mod rows;
+#[cfg(test)]
+mod runs;
 #[cfg(test)]
 mod statements;
 #[cfg(test)]

@@ -1,16 +1,9 @@
 //! What no clause says of rows: a table's life in short, a branch's changes and their bytes, by examples.
-use dtx_values::{Cells, Change, Changes, Name, Row, Str, Value};
+use crate::given::{is_text, name, text};
+use dtx_values::{Cells, Change, Changes, Name, Row, Value};
 use row_store::{KeyedRows, OwnChanges, Tables, View, changes_len, extents};
 use sql_eval::Keyed;
 use std::alloc::{AllocError, Global};
-
-// Where the bytes are no text, it is as if there were no memory for it.
-fn text(alloc: Global, bytes: &[u8]) -> Result<Value, AllocError> {
-    match Str::from_bytes(alloc, bytes) {
-        Ok(text) => Ok(Value::Text(text)),
-        Err(_) => Err(AllocError),
-    }
-}
 
 fn row(alloc: Global, cell: i64) -> Result<Row, AllocError> {
     let mut cells = Cells::new(alloc);
@@ -39,10 +32,6 @@ fn shuffled(alloc: Global) -> Result<Vec<Keyed>, AllocError> {
     let mut rows = KeyedRows::new(alloc);
     put_shuffled(alloc, &mut rows)?;
     rows.keyed(alloc)
-}
-
-fn is_text(value: &Value, bytes: &[u8]) -> bool {
-    matches!(value, Value::Text(text) if text.as_bytes() == bytes)
 }
 
 /// Whether those rows stand in the order of their keys.
@@ -116,12 +105,8 @@ fn only_rows_that_are_there_are_removed(rt: HostRuntime) {
     assert!(rt; count_left(rt.alloc(), &[1, 2]) == Ok(0));
 }
 
-// Where the name is none, it is as if there were no memory for it.
 fn table(alloc: Global) -> Result<Name, AllocError> {
-    match Name::from_bytes(alloc, b"t") {
-        Ok(name) => Ok(name),
-        Err(_) => Err(AllocError),
-    }
+    name(alloc, b"t")
 }
 
 fn change(alloc: Global, key: i64, after: Option<Row>) -> Result<Change, AllocError> {

@@ -5,7 +5,7 @@ use std::alloc::{AllocError, Global};
 use token_grammar::ReadErr;
 
 /// The statement of a text.
-fn statement(alloc: Global, text: &[u8]) -> Result<Box<Stmt>, ReadErr> {
+pub(crate) fn statement(alloc: Global, text: &[u8]) -> Result<Box<Stmt>, ReadErr> {
     match parse(alloc, text) {
         Ok(statement) => Ok(Box::new(alloc, statement)?),
         Err(ParseErr::BadSql) => Err(ReadErr::Bad),

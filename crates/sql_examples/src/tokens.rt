@@ -283,16 +283,17 @@ fn words_are_as_long_as_they_can_be(rt: HostRuntime) {
     assert!(rt; takes_name(rt.alloc(), b"x$#_.1y:b.c") == Ok(true));
 }
 
-/// Whether a text is an identifier.
-fn is_identifier(alloc: Global, text: &[u8]) -> Result<bool, ReadErr> {
+/// Takes an identifier from the front of a text.
+fn identifier(alloc: Global, text: &[u8]) -> Result<(), ReadErr> {
     let tokens = tokens_of(alloc, text)?;
-    Ok(take_identifier(alloc, tokens.as_slice()).is_ok())
+    let (_identifier, _rest) = take_identifier(alloc, tokens.as_slice())?;
+    Ok(())
 }
 
 #[test]
 fn a_dotted_name_is_no_identifier(rt: HostRuntime) {
-    assert!(rt; is_identifier(rt.alloc(), b"b.c") == Ok(false));
-    assert!(rt; is_identifier(rt.alloc(), b"b") == Ok(true));
+    assert!(rt; identifier(rt.alloc(), b"b.c") == Err(ReadErr::Bad));
+    assert!(rt; identifier(rt.alloc(), b"b") == Ok(()));
 }
 
 /// Texts of which no tokens are made.

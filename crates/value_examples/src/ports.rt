@@ -99,20 +99,15 @@ fn a_source_is_read_again_behind_a_fault(rt: HostRuntime) {
     assert!(rt; is_read_again(rt.alloc()) == Ok(true));
 }
 
-/// Whether a read of two bytes answers so.
-fn answers(source: &mut MemSource, answer: Result<usize, Failed>) -> bool {
-    source.read(&mut [0; 2]) == answer
-}
-
-/// Whether the second read fails, and the next one goes on.
+/// Whether the second read fails, and the next one goes on: each fills the front of what the one before left.
 fn goes_on(alloc: Global) -> Result<bool, AllocError> {
     let mut source = source_of(alloc, b"abc", &[2])?;
-    Ok(
-        answers(&mut source, Ok(2))
-            && answers(&mut source, Err(Failed))
-            && answers(&mut source, Ok(1))
-            && answers(&mut source, Ok(0)),
-    )
+    let mut buffer = [0; 2];
+    let first = source.read(&mut buffer);
+    let second = source.read(&mut buffer);
+    let third = source.read(&mut buffer);
+    let last = source.read(&mut buffer);
+    Ok(buffer == *b"cb" && [first, second, third, last] == [Ok(2), Err(Failed), Ok(1), Ok(0)])
 }
 
 #[test]

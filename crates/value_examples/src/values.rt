@@ -188,11 +188,18 @@ fn put_at(alloc: Global, key: i64) -> Result<Option<i64>, AllocError> {
     Ok(number_at(&put_again(alloc)?, key))
 }
 
+/// Whether that map has the key 2, and no row at NULL.
+fn has_its_keys(alloc: Global) -> Result<bool, AllocError> {
+    let map = put_again(alloc)?;
+    Ok(map.contains_key(&Value::Number(2)) && !map.contains_key(&Value::Null))
+}
+
 #[test]
 fn a_map_keeps_the_last_row_of_each_key(rt: HostRuntime) {
     for (key, cell) in [(1, Some(30)), (2, Some(20)), (3, None)] {
         assert!(rt; put_at(rt.alloc(), key) == Ok(cell));
     }
+    assert!(rt; has_its_keys(rt.alloc()) == Ok(true));
 }
 
 /// Whether a map that has a copy of the key has the key.

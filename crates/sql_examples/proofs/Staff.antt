@@ -1,0 +1,31 @@
+-- What the runs begin with: a table with one key, and rows of it.
+use Rattle.std.proofs.Common.{◌≡◌, ℕ, Bool, true, false, cond, List, [], ◌∷◌, Some, position, refl, sym, subst}
+use Rattle.std.specs.Str.{bytes_eq}
+use Rattle.std.proofs.lemmas.List.Elements.{All-nil, All-cons}
+use Rattle.dtx_values.specs.declared.row.Change.{Change}
+use Rattle.dtx_values.specs.declared.table.Column.{Column}
+use Rattle.dtx_values.specs.declared.table.Table.{Table}
+use Rattle.sql_eval.specs.declared.keyed.Keyed.{Keyed}
+use Rattle.sql_eval.specs.Words.{same_text}
+use Rattle.sql_eval.specs.Rows.{apply}
+use Rattle.sql_eval.specs.Laws.{has_one_key, AreRowsOf, IsChangeOf}
+use Rattle.sql_eval.proofs.RowLaws.{rows_stay}
+use Rattle.row_store.specs.Tables.{TableRows, apply_all, rows_of_table, with_table}
+
+-- of two columns of different names the first is the key
+pub one_of_two : (name : List ℕ) (c d : Column) → c.key ≡ true → d.key ≡ false → bytes_eq d.name c.name ≡ false → has_one_key (record { name = name; columns = c ∷ d ∷ [] }) ≡ true
+one_of_two name c d key other differ = rw (key, other, differ) refl
+
+pub first_of_two : (c d : Column) → c.key ≡ true → position (λ (e : Column). e.key) (c ∷ d ∷ []) ≡ Some 0
+first_of_two c d key = rw key refl
+
+either : (t : Table) (b : Bool) (rows : List Keyed) → AreRowsOf t rows → AreRowsOf t (cond b rows [])
+either t true rows are = are
+either t false rows are = tt
+
+-- changes of a table leave rows of it
+pub rows_of_two : (t : Table) (a b : Change) (tables : List TableRows) → IsChangeOf t a → IsChangeOf t b → tables ≡ apply_all (with_table [] t.name) (a ∷ b ∷ []) → AreRowsOf t (rows_of_table tables t.name)
+rows_of_two t a b tables first second are =
+    let Is = λ (c : Change). same_text c.table t.name ≡ true → IsChangeOf t c in
+    let rows = rows_stay t [] (a ∷ b ∷ []) tt (All-cons Is a (b ∷ []) (λ same. first) (All-cons Is b [] (λ same. second) (All-nil Is))) in
+    subst (λ (ts : List TableRows). AreRowsOf t (rows_of_table ts t.name)) (sym are) (either t (same_text t.name t.name) (apply t.name [] (a ∷ b ∷ [])) rows)

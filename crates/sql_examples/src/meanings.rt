@@ -1,0 +1,60 @@
+//! What no script shows of what statements mean, by an example: the order in which keys are examined.
+use crate::given::{is_text, name, text};
+use crate::statements::statement;
+use dtx_values::{Cells, Columns, Row, Table, Value};
+use sql_eval::{Keyed, examined};
+use sql_statement::Stmt;
+use std::alloc::{AllocError, Global};
+use token_grammar::ReadErr;
+
+/// A row at a key.
+fn keyed(alloc: Global, key: i64) -> Keyed {
+    let cells = Cells::new(alloc);
+    Keyed {
+        key: Value::Number(key),
+        row: Row { cells },
+    }
+}
+
+/// Keys that are locked, out of their order.
+fn locked(alloc: Global) -> Result<Vec<Value>, AllocError> {
+    let long = text(alloc, b"AB")?;
+    let short = text(alloc, b"A")?;
+    Ok(vec![in alloc; long, Value::Number(-1), Value::Number(10), short]?)
+}
+
+/// The keys that a statement examines, where there are rows at 9 and 10 beside those.
+fn keys_of(alloc: Global, statement: &Stmt) -> Result<Vec<Value>, AllocError> {
+    let table = Table {
+        name: name(alloc, b"T")?,
+        columns: Columns::new(alloc),
+    };
+    let locked = locked(alloc)?;
+    let view = [keyed(alloc, 9), keyed(alloc, 10)];
+    examined(alloc, statement, &table, &view, &locked)
+}
+
+/// Whether these are the keys in their order, each once.
+fn are_in_order(keys: &[Value]) -> bool {
+    match keys {
+        [
+            Value::Number(-1),
+            Value::Number(9),
+            Value::Number(10),
+            short,
+            long,
+        ] => { is_text(short, b"A") && is_text(long, b"AB") }
+        _ => false,
+    }
+}
+
+/// Whether a count of the rows examines the keys in their order.
+fn examines_in_order(alloc: Global) -> Result<bool, ReadErr> {
+    let count = statement(alloc, b"SELECT COUNT(*) FROM T")?;
+    Ok(are_in_order(&keys_of(alloc, &count)?))
+}
+
+#[test]
+fn keys_are_examined_in_order(rt: HostRuntime) {
+    assert!(rt; examines_in_order(rt.alloc()) == Ok(true));
+}

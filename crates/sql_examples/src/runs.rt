@@ -1,0 +1,176 @@
+//! What no script can show yet of a statement at its node: a key in doubt, by an example.
+ghost use Rattle.std.specs.Prelude.{◌≡◌, true, false, length, position, Some, IfOk};
+ghost use Rattle.std.specs.Str.{bytes_eq};
+ghost use Rattle.sql_eval.specs.Laws.{has_one_key, AreRowsOf, IsChangeOf};
+ghost use Rattle.row_store.specs.Tables.{rows_of_table};
+
+use crate::given::name;
+use crate::statements::statement;
+use dtx_values::{Answer, Change, Column, Duplicate, Listing, Name, Row, Table, Value};
+use row_locks::Locks;
+use row_store::{OwnChanges, Tables};
+use sql_statement::Stmt;
+use std::alloc::{AllocError, Global};
+use stmt_run::run;
+use token_grammar::ReadErr;
+use tran_ids::BranchId;
+
+const ME: BranchId = BranchId {
+    node: 1,
+    boot: 1,
+    session: 65,
+    seq: 1,
+};
+
+const OTHER: BranchId = BranchId {
+    node: 1,
+    boot: 1,
+    session: 66,
+    seq: 1,
+};
+
+const DOUBTED: BranchId = BranchId {
+    node: 1,
+    boot: 1,
+    session: 67,
+    seq: 1,
+};
+
+/// EMP with the key EMPNO and the number SAL.
+fn emp(alloc: Global) -> Result<Table, AllocError>
+    ensures one_key { IfOk result (λ table. has_one_key table ≡ true) }
+    ensures columns { IfOk result (λ table. length table.columns ≡ 2) }
+    ensures key { IfOk result (λ table. position (λ c. c.key) table.columns ≡ Some 0) }
+{
+    let empno = name(alloc, b"EMPNO")?;
+    let sal = name(alloc, b"SAL")?;
+    if sal.is(&empno) {
+        return Err(AllocError);
+    }
+    of_numbers(alloc, name(alloc, b"EMP")?, empno, sal)
+}
+
+fn of_numbers(alloc: Global, name: Name, key: Name, number: Name) -> Result<Table, AllocError>
+    requires { bytes_eq number key ≡ false }
+    ensures one_key { IfOk result (λ table. has_one_key table ≡ true) }
+    ensures columns { IfOk result (λ table. length table.columns ≡ 2) }
+    ensures key { IfOk result (λ table. position (λ c. c.key) table.columns ≡ Some 0) }
+{
+    let key = of_number(key, true);
+    let number = of_number(number, false);
+    let columns = Listing::of(vec![in alloc; key, number]?);
+    Ok(Table { name, columns })
+}
+
+fn of_number(name: Name, key: bool) -> Column
+    ensures name { result.name ≡ name }
+    ensures key { result.key ≡ key }
+{
+    Column {
+        name,
+        text_max: None,
+        not_null: false,
+        key,
+    }
+}
+
+fn employed(alloc: Global, table: &Table, number: i64) -> Result<Change, AllocError>
+    requires columns { length table.now.columns ≡ 2 }
+    requires key { position (λ c. c.key) table.now.columns ≡ Some 0 }
+    ensures { IfOk result (IsChangeOf table.now) }
+{
+    let cells = vec![in alloc; Value::Number(number), Value::Number(100)]?;
+    Ok(Change {
+        table: table.name.copy(alloc)?,
+        key: Value::Number(number),
+        after: Some(Row {
+            cells: Listing::of(cells),
+        }),
+    })
+}
+
+/// EMP with the employees 1 and 2.
+fn staffed(alloc: Global, table: &Table) -> Result<Tables, AllocError>
+    requires columns { length table.now.columns ≡ 2 }
+    requires key { position (λ c. c.key) table.now.columns ≡ Some 0 }
+    ensures { IfOk result (λ tables. AreRowsOf table.now (rows_of_table tables table.now.name)) }
+{
+    let first = employed(alloc, table, 1)?;
+    let second = employed(alloc, table, 2)?;
+    let mut tables = Tables::new(alloc);
+    tables.add_table(alloc, table.name.copy(alloc)?)?;
+    tables.apply(alloc, &[first, second])?;
+    Ok(tables)
+}
+
+/// The code of a refusal, or 0.
+fn code_of(answer: &Answer) -> u16 {
+    match answer {
+        Answer::Refused(refusal) => refusal.code,
+        Answer::Did(..) | Answer::Found(_) => 0,
+    }
+}
+
+/// The code of the refusal of a branch's first statement, or 0.
+fn first(
+    alloc: Global,
+    statement: &Stmt,
+    table: &Table,
+    tables: &Tables,
+    locks: &mut Locks,
+) -> Result<u16, AllocError>
+    requires one_key { has_one_key table.now ≡ true }
+    requires rows { AreRowsOf table.now (rows_of_table tables.now table.now.name) }
+{
+    let mut own = OwnChanges::new(alloc);
+    let answer = run(alloc, statement, table, tables, &mut own, locks, &ME, 1)?;
+    Ok(code_of(&answer))
+}
+
+/// The same at a node where EMP has the employees 1 and 2.
+fn among_staff(alloc: Global, statement: &Stmt, locks: &mut Locks) -> Result<u16, AllocError> {
+    let table = emp(alloc)?;
+    let tables = staffed(alloc, &table)?;
+    first(alloc, statement, &table, &tables, locks)
+}
+
+/// Puts a lock on the key 1, of another branch, and on the key 2, of a branch in doubt.
+fn hold_both(alloc: Global, locks: &mut Locks, emp: &Name) -> bool {
+    let are_held = locks
+        .take(alloc, &OTHER, emp, &Value::Number(1), true)
+        .is_ok()
+        && locks
+            .take(alloc, &DOUBTED, emp, &Value::Number(2), true)
+            .is_ok();
+    locks.mark_in_doubt(&DOUBTED);
+    are_held
+}
+
+/// The code of the refusal of a statement over every row, where the branch in doubt has its key still, or has ended.
+fn code_over(
+    alloc: Global,
+    statement: &Stmt,
+    locks: &mut Locks,
+    in_doubt: bool,
+) -> Result<u16, AllocError> {
+    let emp = name(alloc, b"EMP")?;
+    if !hold_both(alloc, locks, &emp) {
+        return Err(AllocError);
+    }
+    if !in_doubt {
+        locks.release(&DOUBTED);
+    }
+    among_staff(alloc, statement, locks)
+}
+
+fn raise_code(alloc: Global, in_doubt: bool) -> Result<u16, ReadErr> {
+    let raise = statement(alloc, b"UPDATE EMP SET SAL = SAL + 1")?;
+    let mut locks = Locks::new(alloc);
+    Ok(code_over(alloc, &raise, &mut locks, in_doubt)?)
+}
+
+#[test]
+fn a_key_in_doubt_refuses_before_a_key_that_is_held(rt: HostRuntime) {
+    assert!(rt; raise_code(rt.alloc(), true) == Ok(1591));
+    assert!(rt; raise_code(rt.alloc(), false) == Ok(2049));
+}
