@@ -111,12 +111,13 @@ fn is_synonym(catalog: &Catalog, alloc: Global, name: &str) -> Result<bool, CatE
     Ok(catalog.synonym(&name).is_some() && catalog.table(&name).is_none())
 }
 
-/// Whether a link and a synonym that are made are found by their names.
+/// Whether a link and a synonym that are made are found by their names, and the link keeps its target.
 fn make_and_find(catalog: &mut Catalog, alloc: Global) -> Result<bool, CatErr> {
     make_link(catalog, alloc, "hq.acme.com", "hq")?;
     make_synonym(catalog, alloc, "staff")?;
+    let again = make_link(catalog, alloc, "HQ.ACME.COM", "sales");
     let leads = leads_to(catalog, alloc, "HQ.ACME.COM", "HQ")?;
-    Ok(leads && is_synonym(catalog, alloc, "STAFF")?)
+    Ok(again == Err(CatErr::Used) && leads && is_synonym(catalog, alloc, "STAFF")?)
 }
 
 /// Whether what is made in a new catalog is found.
