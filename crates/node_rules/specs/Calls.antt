@@ -1,208 +1,156 @@
--- Statements on their way: names, links, Open and Opened, Exec with its call numbers, Reply, and the end of a call.
-use Rattle.std.specs.Prelude.{ℕ, ◌+◌, ◌-◌, ◌==◌, ◌&&◌, ◌||◌, Bool, false, if◌then◌else◌, List, [], ◌∷◌, ◌++◌, find, length, position, slice_get, slice_set, unwrap_or, nat_lt, nat_le, is_none, option_map, Option, Some, None}
-use Rattle.node_rules.specs.Data.{Table, TableRef, Link, Synonym, Stmt, Refusal, Answer, Advice, BranchId, Durable, Edge, Live, Place}
+-- Statements on their way through the session tree: Open and Opened, Exec with its call numbers, Reply, and the end of a
+-- call. (Database Administrator's Guide, "Distributed Transactions Concepts": session trees, local and global coordinators.)
+use Rattle.std.specs.Prelude.{ℕ, ◌+◌, ◌-◌, ◌==◌, ◌&&◌, Bool, false, if◌then◌else◌, List, [], ◌∷◌, ◌++◌, find, length, slice_get, slice_set, unwrap_or, nat_lt, is_none, is_some, Option, Some, None}
+use Rattle.node_rules.specs.Data.{Table, Stmt, Answer, Advice, BranchId, Edge, Live, Place, ReplyFields, Going, Waits, Work, Admit, Opening, Session, Finished, Post}
 use Rattle.node_rules.specs.Data.answers
-use Rattle.node_rules.specs.Data.stmts
 use Rattle.node_rules.specs.Data.kinds
 use Rattle.node_rules.specs.Data.votes
-use Rattle.node_rules.specs.Words.{same, same_text, one}
-use Rattle.node_rules.specs.Refusals.{ora, dtx}
-use Rattle.node_rules.specs.Tree.{weight, count, room, most_depth}
+use Rattle.node_rules.specs.Data.waiting
+use Rattle.node_rules.specs.Data.admits
+use Rattle.node_rules.specs.Data.pending
+use Rattle.node_rules.specs.Words.{same, one}
+use Rattle.node_rules.specs.Refusals.{dtx}
+use Rattle.node_rules.specs.Tree.{weight, count, room}
+use Rattle.node_rules.specs.Names.{Way, Runs_here, Over, Through, Nowhere_to, way_of, passed_on, peer_of}
 use Rattle.node_rules.specs.Statement.{ran, node_after_run, after_run, answer_of_run}
-use Rattle.node_rules.specs.Kept.{Kept, Deed, Branch, Reply_fields, Going, Waits, For_opened, For_reply, Opening, Post, Call_out, No_call, Statement_out, nothing, saying, ending, post, with_branch, add_branch, fresh_live, fresh_branch, session_at, with_session}
+use Rattle.node_rules.specs.Sessions.{session_at, with_call, needs_rollback}
+use Rattle.node_rules.specs.Kept.{Kept, Deed, Branch, nothing, saying, post, with_branch, no_work, fresh_live}
 
--- What a statement's table name means at a node.
-pub data Named : Type 0 where
-  A_table : (table : Table) → Named  -- of this node
-  Behind : (link table : List ℕ) → Named  -- a table behind a link
-  Unknown : Named  -- neither table nor synonym
+-- at a root the session's call is pending from now on
+abbrev pub call_pends : List Session → Live → List Session
+call_pends ss l = if is_none l.parent then with_call ss l.me.session pending.Statement else ss
 
--- a synonym's table behind its link, or nothing
-abbrev pub synonym_named : Option Synonym → Named
-synonym_named None = Unknown
-synonym_named (Some y) = Behind y.link y.table
+-- what a Reply says: the weight, the branches of the subtree, the result
+abbrev pub reply_fields : Live → Answer → ReplyFields
+reply_fields l a = record { weight = weight l; count = count l; result = a }
 
--- a table of this name, or else a synonym
-abbrev pub table_named : Durable → List ℕ → Option Table → Named
-table_named d name (Some t) = A_table t
-table_named d name None = synonym_named (find (λ y. same_text y.name name) d.synonyms)
+-- a Reply to the last call
+abbrev pub replies : Branch → BranchId → ReplyFields → List Post
+replies x to t = post x.live.me to (kinds.Reply x.work.last_call t.weight t.count t.result)
 
--- a name behind a link, or a bare name
-abbrev pub ref_named : Durable → List ℕ → Option (List ℕ) → Named
-ref_named d name (Some link) = Behind link name
-ref_named d name None = table_named d name (find (λ t. same_text t.name name) d.tables)
+-- below the root the answer is kept, for a call that comes again
+abbrev pub kept_reply : Branch → Answer → Option BranchId → Option ReplyFields
+kept_reply x a None = x.work.reply
+kept_reply x a (Some parent) = Some (reply_fields x.live a)
 
--- no table
-abbrev pub no_ref : TableRef
-no_ref = record { name = []; link = None }
+-- the branch with its statement answered
+abbrev pub with_answer : Branch → Answer → Branch
+with_answer x a = record x { work = record x.work { going = None; reply = kept_reply x a x.live.parent } }
 
--- the table that a statement names
-abbrev pub ref_of : Stmt → TableRef
-ref_of (stmts.Insert table columns given) = table
-ref_of (stmts.Update table sets cs) = table
-ref_of (stmts.Delete table cs) = table
-ref_of (stmts.Select list table cs for_update) = table
-ref_of _ = no_ref
+-- at a root the session's call ends
+abbrev pub answered_sessions : List Session → Live → Option BranchId → List Session
+answered_sessions ss l None = with_call ss l.me.session pending.NoCall
+answered_sessions ss l (Some parent) = ss
 
--- a table by its name alone
-abbrev pub bare : List ℕ → TableRef
-bare name = record { name = name; link = None }
+-- below the root the answer goes to the parent
+abbrev pub answer_says : Branch → Answer → Option BranchId → List Post
+answer_says x a None = []
+answer_says x a (Some parent) = replies x parent (reply_fields x.live a)
 
--- a node that passes a statement on names the table barely
-abbrev pub passed_on : Stmt → List ℕ → Stmt
-passed_on (stmts.Insert table columns given) name = stmts.Insert (bare name) columns given
-passed_on (stmts.Update table sets cs) name = stmts.Update (bare name) sets cs
-passed_on (stmts.Delete table cs) name = stmts.Delete (bare name) cs
-passed_on (stmts.Select list table cs for_update) name = stmts.Select list (bare name) cs for_update
-passed_on s name = s
-
--- the node that a link leads to
-abbrev pub node_named : List (List ℕ) → Option Link → Option ℕ
-node_named names None = None
-node_named names (Some l) = option_map (λ i. i + 1) (position (same_text l.target) names)
-
--- the number of the node that a link of the catalog leads to
-abbrev pub target_of : Place → Durable → List ℕ → Option ℕ
-target_of p d link = node_named p.names (find (λ l. same_text l.name link) d.links)
-
--- the place of the child that a link leads to, where it was used before
-abbrev pub edge_by_link : Live → List ℕ → Option ℕ
-edge_by_link l link = position (λ e. same_text e.link link) l.edges
-
--- Where a statement goes from a branch.
-pub data Way : Type 0 where
-  Runs_here : (table : Table) → Way  -- it runs at this node
-  Over : (edge : ℕ) (table : List ℕ) → Way  -- to a child that is there
-  Through : (node : ℕ) (link table : List ℕ) → Way  -- over a link that is used for the first time
-  Nowhere_to : (refusal : Refusal) → Way  -- it is refused
-
--- a link without a child yet: DTX-02 where the tree is too deep or too wide, then ORA-02020 where the branch has too many links
-abbrev pub way_new : Place → Live → ℕ → ℕ → List ℕ → List ℕ → Way
-way_new p l given node link table =
-    if nat_le most_depth l.depth || (room l given == 0) then Nowhere_to (dtx 2 [])
-    else (if nat_le p.links (length l.edges) then Nowhere_to (ora 2020 []) else Through node link table)
-
--- the child of the link, or a new one
-abbrev pub way_edge : Place → Live → ℕ → ℕ → List ℕ → List ℕ → Option ℕ → Way
-way_edge p l given node link table (Some i) = Over i table
-way_edge p l given node link table None = way_new p l given node link table
-
--- ORA-02019 where the link leads nowhere
-abbrev pub way_target : Place → Live → ℕ → List ℕ → List ℕ → Option ℕ → Way
-way_target p l given link table None = Nowhere_to (ora 2019 [])
-way_target p l given link table (Some node) = way_edge p l given node link table (edge_by_link l link)
-
--- ORA-00942 where the name is unknown
-abbrev pub way_named : Place → Durable → Live → ℕ → Named → Way
-way_named p d l given Unknown = Nowhere_to (ora 942 [])
-way_named p d l given (A_table t) = Runs_here t
-way_named p d l given (Behind link table) = way_target p l given link table (target_of p d link)
-
--- where a statement goes from a branch, with the room that its Exec carried
-unfoldable pub way_of : Place → Kept → Branch → ℕ → Stmt → Way
-way_of p k x given s = way_named p k.stored.durable x.live given (ref_named k.stored.durable (ref_of s).name (ref_of s).link)
-
--- a session with this call out
-abbrev pub with_call : Kept → ℕ → Call_out → Kept
-with_call k n c = with_session k n (record (session_at k n) { call = c })
-
--- at the root the session's call is out from now on
-abbrev pub call_goes_out : Kept → Branch → Kept
-call_goes_out k x = if is_none x.live.parent then with_call k x.live.me.session Statement_out else k
-
--- the fields of a Reply: the result, the weight, the branches of the subtree
-abbrev pub reply_fields : Branch → Answer → Reply_fields
-reply_fields x a = record { weight = weight x.live; count = count x.live; result = a }
-
--- a Reply to the parent
-abbrev pub replies : Branch → BranchId → Reply_fields → List Post
-replies x to t = post x.live.me to (kinds.Reply x.last_call t.weight t.count t.result)
-
--- the answer ends the call at a root; elsewhere it is kept and goes to the parent
-abbrev pub answered_to : Kept → Branch → Answer → Option BranchId → Deed
-answered_to k x a None = ending (with_call (with_branch k x) x.live.me.session No_call) x.live.me.session a
-answered_to k x a (Some parent) = saying (with_branch k (record x { reply = Some (reply_fields x a) })) (replies x parent (reply_fields x a))
+-- at a root it ends the call
+abbrev pub answer_ends : Live → Answer → Option BranchId → List Finished
+answer_ends l a None = (record { session = l.me.session; answer = a }) ∷ []
+answer_ends l a (Some parent) = []
 
 -- the statement at this branch is answered
 abbrev pub answered : Kept → Branch → Answer → Deed
-answered k x a = answered_to k (record x { going = None }) a x.live.parent
+answered k x a = record {
+  after = record (with_branch k (with_answer x a)) { sessions = answered_sessions k.sessions x.live x.live.parent };
+  wrote = None;
+  says = answer_says x a x.live.parent;
+  ended = answer_ends x.live a x.live.parent;
+}
 
 -- the advice that an Exec carries: at a root the session's, elsewhere that of the last Exec taken
-abbrev pub advice_of : Kept → Live → Option Advice
-advice_of k l = if is_none l.parent then (session_at k l.me.session).advice else l.advice
+abbrev pub advice_of : List Session → Live → Option Advice
+advice_of ss l = if is_none l.parent then (session_at ss l.me.session).advice else l.advice
 
 -- the next call number of an edge
-abbrev pub next_call : Branch → ℕ → ℕ
-next_call x i = unwrap_or (slice_get x.calls i) 0 + 1
-
--- the child at a place
-abbrev pub peer_of : Live → ℕ → Option BranchId
-peer_of l i = option_map (λ e. e.peer) (slice_get l.edges i)
+abbrev pub next_call : Work → ℕ → ℕ
+next_call w i = unwrap_or (slice_get w.calls i) 0 + 1
 
 -- the Exec to a child, with the room left and the advice
-abbrev pub exec_to : Kept → Branch → ℕ → Stmt → ℕ → Option BranchId → List Post
-exec_to k x i s given None = []
-exec_to k x i s given (Some peer) = post x.live.me peer (kinds.Exec (next_call x i) (room x.live given) (advice_of k x.live) s)
+abbrev pub exec_to : List Session → Branch → ℕ → Stmt → ℕ → Option BranchId → List Post
+exec_to ss x i s given None = []
+exec_to ss x i s given (Some peer) = post x.live.me peer (kinds.Exec (next_call x.work i) (room x.live given) (advice_of ss x.live) s)
 
--- a branch that waits for a Reply over an edge
+-- the branch waits for a Reply over an edge
 abbrev pub called : Branch → ℕ → Stmt → ℕ → Branch
-called x i s given = record x { calls = slice_set x.calls i (next_call x i); going = Some (record { statement = s; room = given; waits = For_reply i }) }
+called x i s given = record x { work = record x.work { calls = slice_set x.work.calls i (next_call x.work i); going = Some (record { statement = s; room = given; waits = waiting.ForReply i }) } }
 
 -- the statement goes on over an edge
 abbrev pub calls_over : Kept → Branch → ℕ → Stmt → ℕ → Deed
-calls_over k x i s given = saying (call_goes_out (with_branch k (called x i s given)) x) (exec_to k x i s given (peer_of x.live i))
+calls_over k x i s given = record {
+  after = record (with_branch k (called x i s given)) { sessions = call_pends k.sessions x.live };
+  wrote = None;
+  says = exec_to k.sessions x i s given (peer_of x.live i);
+  ended = [];
+}
 
 -- the receiver of an Open: a node, and no branch of it yet
 abbrev pub nobody_at : ℕ → BranchId
 nobody_at node = record { node = node; boot = 0; session = 0; seq = 0 }
 
--- a branch that waits for a new child
+-- the branch waits for a new child
 abbrev pub waits_for_opened : Branch → List ℕ → Stmt → ℕ → Branch
-waits_for_opened x link s given = record x { going = Some (record { statement = s; room = given; waits = For_opened link }) }
+waits_for_opened x link s given = record x { work = record x.work { going = Some (record { statement = s; room = given; waits = waiting.ForOpened link }) } }
 
 -- a link is used for the first time: Open goes to its node
 abbrev pub opens_through : Kept → Branch → ℕ → List ℕ → Stmt → ℕ → Deed
-opens_through k x node link s given =
-    saying (call_goes_out (with_branch k (waits_for_opened x link s given)) x)
-    (post x.live.me (nobody_at node) (kinds.Open (length x.live.edges + 1) x.live.root (x.live.depth + 1)))
+opens_through k x node link s given = record {
+  after = record (with_branch k (waits_for_opened x link s given)) { sessions = call_pends k.sessions x.live };
+  wrote = None;
+  says = post x.live.me (nobody_at node) (kinds.Open (length x.live.edges + 1) x.live.root (x.live.depth + 1));
+  ended = [];
+}
+
+-- the statement runs at this node, and is answered
+abbrev pub runs_here : Place → Kept → Branch → Stmt → Table → Deed
+runs_here p k x s t =
+    answered (node_after_run k x.live.me t (ran p k x.live.me s t)) (record x { live = after_run x.live (ran p k x.live.me s t) }) (answer_of_run (ran p k x.live.me s t))
 
 -- the statement runs here, is refused, or goes on
 abbrev pub goes : Place → Kept → Branch → Stmt → ℕ → Way → Deed
-goes p k x s given (Runs_here t) = answered (node_after_run k x.live.me t (ran p k x s t)) (after_run x (ran p k x s t)) (answer_of_run (ran p k x s t))
+goes p k x s given (Runs_here t) = runs_here p k x s t
 goes p k x s given (Nowhere_to r) = answered k x (answers.Refused r)
 goes p k x s given (Over i table) = calls_over k x i (passed_on s table) given
 goes p k x s given (Through node link table) = opens_through k x node link (passed_on s table) given
 
--- a statement at a branch that is live at the node
+-- a statement at a live branch
 abbrev pub statement_at : Place → Kept → Branch → Stmt → ℕ → Deed
-statement_at p k x s given = goes p k x s given (way_of p k x given s)
+statement_at p k x s given = goes p k x s given (way_of p k.stored.durable x.live given s)
 
 -- whether an Open of this parent and edge was answered so
 abbrev pub is_opening : BranchId → ℕ → Opening → Bool
 is_opening parent edge o = same o.parent parent && (o.edge == edge)
 
--- the id of the next branch that is opened over a link
+-- the id of the next branch that is opened over a link: sessions 65, 66, .. in the order of opening
 abbrev pub next_child : Place → Kept → BranchId
 next_child p k = record { node = p.number; boot = k.stored.durable.boot; session = 65 + length k.opens; seq = 1 }
 
--- the node's strength: the one that was set, or else that of its NODE command
+-- the node's commit point strength: the one that was set, or else that of its NODE command
 abbrev pub strength_of : Place → Kept → ℕ
 strength_of p k = unwrap_or k.stored.durable.strength p.strength
 
 -- an Open that made a branch
-abbrev pub new_opening : BranchId → ℕ → BranchId → ℕ → Opening
-new_opening parent edge child strength = record { parent = parent; edge = edge; child = child; strength = strength }
+abbrev pub new_opening : Place → Kept → BranchId → ℕ → Opening
+new_opening p k parent edge = record { parent = parent; edge = edge; child = next_child p k; strength = strength_of p k }
 
--- with one more Open answered
-abbrev pub with_opening : Kept → Opening → Kept
-with_opening k o = record k { opens = k.opens ++ o ∷ [] }
+-- a branch begins for its parent
+abbrev pub opens_branch : Place → Kept → BranchId → ℕ → BranchId → ℕ → Kept
+opens_branch p k parent edge root depth = record k {
+  lives = k.lives ++ fresh_live (next_child p k) root (Some parent) depth (strength_of p k) ∷ [];
+  opens = k.opens ++ new_opening p k parent edge ∷ [];
+}
 
--- a repeated Open gets the same Opened; a first one makes a branch
+-- Opened, with the strength that is told
+abbrev pub opened_says : Opening → List Post
+opened_says o = post o.child o.parent (kinds.Opened o.edge o.strength)
+
+-- an Open that comes again gets the same Opened; one that comes first begins a branch
 abbrev pub open_by : Place → Kept → BranchId → ℕ → BranchId → ℕ → Option Opening → Deed
-open_by p k parent edge root depth (Some o) = saying k (post o.child parent (kinds.Opened edge o.strength))
-open_by p k parent edge root depth None =
-    saying (with_opening (add_branch k (fresh_branch (fresh_live (next_child p k) root (Some parent) depth (strength_of p k)))) (new_opening parent edge (next_child p k) (strength_of p k)))
-    (post (next_child p k) parent (kinds.Opened edge (strength_of p k)))
+open_by p k parent edge root depth (Some o) = saying k (opened_says o)
+open_by p k parent edge root depth None = saying (opens_branch p k parent edge root depth) (opened_says (new_opening p k parent edge))
 
 -- a message Open
 abbrev pub on_open : Place → Kept → BranchId → ℕ → BranchId → ℕ → Deed
@@ -214,50 +162,44 @@ new_edge peer link strength = record { peer = peer; link = link; strength = stre
 
 -- with one more child, to which no call was made
 abbrev pub with_edge : Branch → Edge → Branch
-with_edge x e = record x { live = record x.live { edges = x.live.edges ++ e ∷ [] }; calls = x.calls ++ 0 ∷ [] }
+with_edge x e = record { live = record x.live { edges = x.live.edges ++ e ∷ [] }; work = record x.work { calls = x.work.calls ++ 0 ∷ [] } }
 
 -- the statement that waited for this link goes on, with room for one branch less
 abbrev pub opened_waits : Kept → Branch → BranchId → ℕ → Going → Waits → Deed
-opened_waits k x from strength g (For_reply i) = nothing k
-opened_waits k x from strength g (For_opened link) = calls_over k (with_edge x (new_edge from link strength)) (length x.live.edges) g.statement (g.room - 1)
+opened_waits k x from strength g (waiting.ForReply i) = nothing k
+opened_waits k x from strength g (waiting.ForOpened link) = calls_over k (with_edge x (new_edge from link strength)) (length x.live.edges) g.statement (g.room - 1)
 
--- the Opened of the edge that waits; any other is ignored
+-- the Opened of the edge that is waited for; any other is ignored
 abbrev pub opened_going : Kept → Branch → BranchId → ℕ → ℕ → Option Going → Deed
 opened_going k x from edge strength None = nothing k
 opened_going k x from edge strength (Some g) = if edge == length x.live.edges + 1 then opened_waits k x from strength g g.waits else nothing k
 
 -- a message Opened at a live branch
 abbrev pub on_opened : Kept → Branch → BranchId → ℕ → ℕ → Deed
-on_opened k x from edge strength = opened_going k x from edge strength x.going
+on_opened k x from edge strength = opened_going k x from edge strength x.work.going
 
--- a message Exec, at a live branch: each number is run once, the last is answered again, all else is ignored
-pub data Admit : Type 0 where
-  Run : Admit  -- a number that comes for the first time
-  Again : (reply : Reply_fields) → Admit  -- the last number, which was answered
-  Ignore : Admit  -- a lower number, or one that is still under way
+-- a number that comes for the first time, the last one, once it was answered, or any other
+unfoldable pub admit : Work → ℕ → Admit
+admit w call = if nat_lt w.last_call call then admits.Run else (if (call == w.last_call) && is_some w.reply then admits.Again else admits.Ignore)
 
--- answered again, once there is an answer
-abbrev pub again : Option Reply_fields → Admit
-again None = Ignore
-again (Some t) = Again t
-
--- whether a call number is run, answered again or ignored
-unfoldable pub admit : Branch → ℕ → Admit
-admit x call = if nat_lt x.last_call call then Run else (if call == x.last_call then again x.reply else Ignore)
-
--- a branch that has taken a call, with the advice that came with it
+-- the branch takes a call, with the advice that came with it
 abbrev pub takes_call : Branch → ℕ → Option Advice → Branch
-takes_call x call advice = record x { last_call = call; reply = None; live = record x.live { advice = advice } }
+takes_call x call advice = record { live = record x.live { advice = advice }; work = record x.work { last_call = call; reply = None } }
+
+-- the answer that was given before
+abbrev pub says_again : Branch → BranchId → Option ReplyFields → List Post
+says_again x to None = []
+says_again x to (Some t) = replies x to t
 
 -- a first number is run, the last one answered again, any other ignored
 abbrev pub exec_by : Place → Kept → Branch → BranchId → ℕ → ℕ → Option Advice → Stmt → Admit → Deed
-exec_by p k x from call given advice s Ignore = nothing k
-exec_by p k x from call given advice s (Again t) = saying k (replies x from t)
-exec_by p k x from call given advice s Run = statement_at p k (takes_call x call advice) s given
+exec_by p k x from call given advice s admits.Ignore = nothing k
+exec_by p k x from call given advice s admits.Again = saying k (says_again x from x.work.reply)
+exec_by p k x from call given advice s admits.Run = statement_at p k (takes_call x call advice) s given
 
 -- a message Exec at a live branch
 abbrev pub on_exec : Place → Kept → Branch → BranchId → ℕ → ℕ → Option Advice → Stmt → Deed
-on_exec p k x from call given advice s = exec_by p k x from call given advice s (admit x call)
+on_exec p k x from call given advice s = exec_by p k x from call given advice s (admit x.work call)
 
 -- the child with the weight and the branches that its Reply tells
 abbrev pub hears_reply : Branch → ℕ → Option ℕ → ℕ → Edge → Branch
@@ -268,27 +210,27 @@ abbrev pub is_gone : Answer → Bool
 is_gone (answers.Refused r) = r.code == (dtx 8 []).code
 is_gone _ = false
 
--- the transaction can only be rolled back from now on
-abbrev pub needs_rollback : Kept → ℕ → ℕ → Kept
-needs_rollback k n code = with_session k n (record (session_at k n) { code = Some code })
+-- the result is the answer here too; at a root the refusal of a gone branch is DTX-08 with the root's link
+abbrev pub heard_answer : Live → List ℕ → Answer → Answer
+heard_answer l link a = if is_none l.parent && is_gone a then answers.Refused (dtx 8 (one link)) else a
 
--- the transaction needs a rollback, and the answer is DTX-08 with the root's link
-abbrev pub gone_at_root : Kept → Branch → List ℕ → Deed
-gone_at_root k x link = answered (needs_rollback k x.live.me.session (dtx 8 []).code) x (answers.Refused (dtx 8 (one link)))
+-- and the transaction needs a rollback
+abbrev pub heard_sessions : List Session → Live → Answer → List Session
+heard_sessions ss l a = if is_none l.parent && is_gone a then needs_rollback ss l.me.session (dtx 8 []).code else ss
 
--- the result is the answer here too, but for a gone branch at a root
+-- a Reply is heard
 abbrev pub reply_heard : Kept → Branch → List ℕ → Answer → Deed
-reply_heard k x link a = if is_none x.live.parent && is_gone a then gone_at_root k x link else answered k x a
+reply_heard k x link a = answered (record k { sessions = heard_sessions k.sessions x.live a }) x (heard_answer x.live link a)
 
--- the edge whose last call this answers
+-- the edge whose last call a Reply answers
 abbrev pub reply_edge : Branch → BranchId → ℕ → ℕ → Option Edge → Option (ℕ × Edge)
 reply_edge x from call i None = None
-reply_edge x from call i (Some e) = if same e.peer from && (unwrap_or (slice_get x.calls i) 0 == call) then Some (i, e) else None
+reply_edge x from call i (Some e) = if same e.peer from && (unwrap_or (slice_get x.work.calls i) 0 == call) then Some (i, e) else None
 
 -- the edge, where the statement waits for a Reply
 abbrev pub reply_waits : Branch → BranchId → ℕ → Waits → Option (ℕ × Edge)
-reply_waits x from call (For_opened link) = None
-reply_waits x from call (For_reply i) = reply_edge x from call i (slice_get x.live.edges i)
+reply_waits x from call (waiting.ForOpened link) = None
+reply_waits x from call (waiting.ForReply i) = reply_edge x from call i (slice_get x.live.edges i)
 
 -- the edge, where a statement is under way
 abbrev pub reply_going : Branch → BranchId → ℕ → Option Going → Option (ℕ × Edge)
@@ -297,9 +239,9 @@ reply_going x from call (Some g) = reply_waits x from call g.waits
 
 -- the edge whose last call a Reply answers, where the branch waits for it
 unfoldable pub reply_of : Branch → BranchId → ℕ → Option (ℕ × Edge)
-reply_of x from call = reply_going x from call x.going
+reply_of x from call = reply_going x from call x.work.going
 
--- an awaited Reply is heard, any other is ignored
+-- a Reply that is waited for is heard, any other is ignored
 abbrev pub reply_by : Kept → Branch → Option ℕ → ℕ → Answer → Option (ℕ × Edge) → Deed
 reply_by k x weight count a None = nothing k
 reply_by k x weight count a (Some ie) = reply_heard k (hears_reply x ie.0 weight count ie.1) ie.1.link a

@@ -1,101 +1,43 @@
--- What a node keeps from turn to turn, and what a turn does.
+-- What a node keeps from turn to turn, and what one turn does.
 pub use Rattle.redo_codec.specs.Kept.{stands_at}
-use Rattle.std.specs.Prelude.{ℕ, ◌-◌, Bool, false, List, [], ◌∷◌, ◌++◌, map, find, max, slice_get, slice_set, unwrap_or, Option, Some, None}
-use Rattle.node_rules.specs.Data.{Change, Stmt, BranchId, RedoRecord, Standing, Durable, Live, Kind, Msg, Answer, Advice}
+use Rattle.std.specs.Prelude.{ℕ, Bool, false, List, [], ◌∷◌, ◌++◌, map, max, Option, Some, None}
+use Rattle.node_rules.specs.Data.{BranchId, RedoRecord, Standing, Durable, Live, Kind, Msg, Advice, Owned, Doubt, ChangeSet, Work, Opening, Session, Finished, Post, Answer}
 use Rattle.node_rules.specs.Data.phases
-use Rattle.node_rules.specs.Words.{same, change_where, drop_where}
+use Rattle.node_rules.specs.Words.{item_at, put_item, drop_item}
+use Rattle.node_rules.specs.Rows.{TableRows}
 use Rattle.row_locks.specs.Locks.{Lock, without}
-use Rattle.node_rules.specs.Rows.{TableRows, Own, nothing_changed}
 
--- A branch in doubt and the changes that it holds back.
-pub record Doubt : Type 0 where
-  pub me : BranchId
-  pub changes : List Change
-
--- What the records of a node say: catalog and kept branches, committed rows, changes in doubt, and the greatest SCN but for those that users gave. Acknowledgements, which are kept in memory alone, are counted in it too.
+-- What the records of a node give: catalog and kept branches, committed rows, branches in doubt, and the greatest SCN except those that users gave. The Acks that were heard stand with the kept branches, though no record has them.
 pub record Stored : Type 0 where
   pub durable : Durable
   pub rows : List TableRows
   pub doubts : List Doubt
   pub scn : ℕ
 
--- The fields of a Reply, which a repeated call is answered with.
-pub record Reply_fields : Type 0 where
-  pub weight : Option ℕ
-  pub count : ℕ
-  pub result : Answer
-
--- Where a statement that was passed on waits.
-pub data Waits : Type 0 where
-  For_opened : (link : List ℕ) → Waits  -- for the child that an Open asks for
-  For_reply : (edge : ℕ) → Waits  -- for the Reply of a child
-
--- A statement under way, with the room left in the tree.
-pub record Going : Type 0 where
-  pub statement : Stmt
-  pub room : ℕ
-  pub waits : Waits
-
--- A live branch: its place in the session tree, its own changes and their undo, the calls that came and those it made.
-pub record Branch : Type 0 where
-  pub live : Live
-  pub own : Own
-  pub last_call : ℕ
-  pub reply : Option Reply_fields
-  pub calls : List ℕ  -- the last call number of each edge
-  pub going : Option Going
-
--- What a session's call is, if one is out.
-pub data Call_out : Type 0 where
-  No_call : Call_out  -- none
-  Statement_out : Call_out  -- a statement
-  Commit_out : Call_out  -- COMMIT
-
--- A client session: its newest transaction's number, the root that it has, its advice, the answer after which the
--- transaction needs a rollback, and its call.
-pub record Session : Type 0 where
-  pub seq : ℕ
-  pub root : Option BranchId
-  pub advice : Option Advice
-  pub code : Option ℕ
-  pub call : Call_out
-
--- An Open that made a branch, and the strength that Opened told.
-pub record Opening : Type 0 where
-  pub parent : BranchId
-  pub edge : ℕ
-  pub child : BranchId
-  pub strength : ℕ
-
--- What a node keeps: its records' fold; and what a stop loses: live branches, the locks in the order in which they were
--- taken, the clock, the Opens that it answered, and the client sessions.
+-- What a node keeps: what its records give, and what a stop loses.
 pub record Kept : Type 0 where
   pub stored : Stored
-  pub lives : List Branch
-  pub locks : List Lock
+  pub owns : List Owned  -- what live branches have changed
+  pub lives : List Live  -- live branches, in the order in which they began
+  pub works : List Work  -- the calls of live branches
+  pub locks : List Lock  -- in the order in which they were taken
   pub clock : ℕ
-  pub opens : List Opening
-  pub sessions : List Session
+  pub opens : List Opening  -- the Opens that were answered since the start
+  pub sessions : List Session  -- client sessions, from number 1
 
--- The end of a client's call.
-pub record Finished : Type 0 where
-  pub session : ℕ
-  pub answer : Answer
+-- A live branch with its calls.
+pub record Branch : Type 0 where
+  pub live : Live
+  pub work : Work
 
--- A message before the node's clock is set on it.
-pub record Post : Type 0 where
-  pub from : BranchId
-  pub to : BranchId
-  pub kind : Kind
-
--- What a turn does: the state after, at most one record, the messages, the calls that end.
+-- What a turn does: the state after it, at most one record, the messages, the calls that end.
 pub record Deed : Type 0 where
   pub after : Kept
   pub wrote : Option RedoRecord
   pub says : List Post
   pub ended : List Finished
 
--- What a turn does, with the clock on its messages.
+-- The same with the node's clock on the messages.
 pub record Outcome : Type 0 where
   pub after : Kept
   pub wrote : Option RedoRecord
@@ -118,62 +60,102 @@ ending k session answer = record { after = k; wrote = None; says = []; ended = (
 abbrev pub post : BranchId → BranchId → Kind → List Post
 post from to kind = (record { from = from; to = to; kind = kind }) ∷ []
 
--- a message, to one of several
+-- a message to one of several branches
 abbrev pub post_one : BranchId → Kind → BranchId → Post
 post_one from kind to = record { from = from; to = to; kind = kind }
 
--- the same message to each
+-- the same message to each of these
 abbrev pub to_each : BranchId → Kind → List BranchId → List Post
 to_each from kind tos = map (post_one from kind) tos
 
--- a message to somebody, where there is one
+-- a message to a branch, where there is one
 abbrev pub to_one : BranchId → Kind → Option BranchId → List Post
 to_one from kind None = []
 to_one from kind (Some to) = post from to kind
 
--- whether a live branch has this id
-abbrev pub is_at : BranchId → Branch → Bool
-is_at b x = same x.live.me b
+-- items by their branch
+abbrev pub live_id : Live → BranchId
+live_id l = l.me
 
--- the live branch of this id
-abbrev pub live_at : Kept → BranchId → Option Branch
-live_at k b = find (is_at b) k.lives
+-- the calls of this branch
+abbrev pub work_id : Work → BranchId
+work_id w = w.branch
+
+-- the changes of this branch
+abbrev pub own_id : Owned → BranchId
+own_id o = o.branch
+
+-- what this branch holds back
+abbrev pub doubt_id : Doubt → BranchId
+doubt_id d = d.branch
+
+-- the row of this branch
+abbrev pub standing_id : Standing → BranchId
+standing_id s = s.me
+
+-- a branch to which no call came, and which made none
+abbrev pub no_work : BranchId → Work
+no_work b = record { branch = b; last_call = 0; reply = None; calls = []; going = None }
+
+-- the live branch of an id
+abbrev pub live_at : Kept → BranchId → Option Live
+live_at k b = item_at live_id k.lives b
+
+-- these calls, or none
+abbrev pub work_or : BranchId → Option Work → Work
+work_or b None = no_work b
+work_or b (Some w) = w
+
+-- the calls of a live branch
+abbrev pub work_at : Kept → BranchId → Work
+work_at k b = work_or b (item_at work_id k.works b)
+
+-- a live branch with its calls, where it is live
+abbrev pub with_work : Kept → Option Live → Option Branch
+with_work k None = None
+with_work k (Some l) = Some (record { live = l; work = work_at k l.me })
+
+-- the live branch of an id, with its calls
+abbrev pub branch_at : Kept → BranchId → Option Branch
+branch_at k b = with_work k (live_at k b)
+
+-- the sets of changes of a branch that has some
+abbrev pub sets_of : Option Owned → List ChangeSet
+sets_of None = []
+sets_of (Some o) = o.sets
+
+-- the sets of changes of a live branch
+abbrev pub sets_at : List Owned → BranchId → List ChangeSet
+sets_at owns b = sets_of (item_at own_id owns b)
 
 -- with a live branch changed
+abbrev pub with_live : Kept → Live → Kept
+with_live k l = record k { lives = put_item live_id k.lives l }
+
+-- with a live branch and its calls changed
 abbrev pub with_branch : Kept → Branch → Kept
-with_branch k x = record k { lives = change_where (is_at x.live.me) (λ old. x) k.lives }
+with_branch k x = record k { lives = put_item live_id k.lives x.live; works = put_item work_id k.works x.work }
 
--- with one more live branch
-abbrev pub add_branch : Kept → Branch → Kept
-add_branch k x = record k { lives = k.lives ++ x ∷ [] }
-
--- a branch that is no longer live, and holds no key
+-- without a live branch, its changes and its locks
 abbrev pub without_branch : Kept → BranchId → Kept
-without_branch k b = record k { lives = drop_where (is_at b) k.lives; locks = without k.locks b }
+without_branch k b = record k {
+  owns = drop_item own_id k.owns b;
+  lives = drop_item live_id k.lives b;
+  works = drop_item work_id k.works b;
+  locks = without k.locks b;
+}
 
--- the kept branch of this id
+-- the row of a kept branch
 abbrev pub standing_at : Kept → BranchId → Option Standing
-standing_at k b = find (stands_at b) k.stored.durable.kept
+standing_at k b = item_at standing_id k.stored.durable.kept b
 
--- with a kept branch changed
+-- with the row of a kept branch changed
 abbrev pub with_standing : Kept → Standing → Kept
-with_standing k s = record k { stored = record k.stored { durable = record k.stored.durable { kept = change_where (stands_at s.me) (λ old. s) k.stored.durable.kept } } }
+with_standing k s = record k { stored = record k.stored { durable = record k.stored.durable { kept = put_item standing_id k.stored.durable.kept s } } }
 
 -- the children of a live branch, in order of reference
 abbrev pub children_of : Live → List BranchId
 children_of l = map (λ e. e.peer) l.edges
-
--- sessions of clients, from 1 on
-abbrev pub fresh_session : Session
-fresh_session = record { seq = 0; root = None; advice = None; code = None; call = No_call }
-
--- a client session
-abbrev pub session_at : Kept → ℕ → Session
-session_at k n = unwrap_or (slice_get k.sessions (n - 1)) fresh_session
-
--- with a client session changed
-abbrev pub with_session : Kept → ℕ → Session → Kept
-with_session k n s = record k { sessions = slice_set k.sessions (n - 1) s }
 
 -- with the clock raised to this SCN
 abbrev pub raised : Kept → ℕ → Kept
@@ -193,7 +175,3 @@ fresh_live me root parent depth strength = record {
   advice = None;
   comment = [];
 }
-
--- a branch without changes, keys and calls
-abbrev pub fresh_branch : Live → Branch
-fresh_branch l = record { live = l; own = nothing_changed; last_call = 0; reply = None; calls = []; going = None }

@@ -3,3 +3,4 @@ pub mod Tables
 pub mod Own
 pub mod Kept
 pub mod Named
+pub mod Pending

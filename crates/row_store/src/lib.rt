@@ -12,11 +12,13 @@ mod changed_key;
 mod keyed_rows;
 mod lengths;
 mod own_changes;
+mod pending;
 mod tables;
 mod view;
 
 pub use keyed_rows::KeyedRows;
 pub use lengths::{change_len, change_len_with, changes_len, extents, row_len, value_len};
 pub use own_changes::OwnChanges;
+pub use pending::{ChangeSet, ChangeSets, Doubt, Doubts, Owned, OwnedList};
 pub use tables::Tables;
 pub use view::View;

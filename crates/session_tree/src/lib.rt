@@ -4,8 +4,10 @@
 //! node.
 #![tactic(auto)]
 
+mod act;
 mod edge;
 mod live;
 
+pub use act::{Act, Walk};
 pub use edge::{Edge, Edges, Vote};
 pub use live::{Live, Lives, Phase};

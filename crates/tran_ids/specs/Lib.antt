@@ -1,3 +1,4 @@
 pub mod Branch
+pub mod Listed
 pub mod Numbers
 pub mod Texts

@@ -1,0 +1,19 @@
+//! Branches that were opened over links.
+ghost use Rattle.std.specs.Prelude.{◌≡◌};
+
+use dtx_values::Listing;
+use tran_ids::BranchId;
+
+/// An Open that was answered.
+#[derive(Clone, Copy, Debug)]
+pub struct Opening {
+    pub parent: BranchId,
+    /// The parent's number for the edge, from 1.
+    pub edge: u8,
+    pub child: BranchId,
+    /// The commit point strength that Opened told.
+    pub strength: u8,
+}
+
+/// The Opens that a node answered since it started, in order.
+pub type Openings = Listing<Opening>;

@@ -1,0 +1,40 @@
+//! Client sessions.
+ghost use Rattle.std.specs.Prelude.{◌≡◌};
+
+use dtx_values::{Advice, Answer, Listing};
+use tran_ids::BranchId;
+
+/// Which call of a session is pending.
+#[derive(Clone, Copy, Debug, PartialEq, Eq)]
+pub enum PendingCall {
+    NoCall,
+    Statement,
+    Commit,
+}
+
+/// A client session.
+#[derive(Clone, Copy, Debug)]
+pub struct Session {
+    /// The number of its newest transaction within this start of the node, and 0 before any.
+    pub seq: u32,
+    /// The root branch of its transaction, where it has one.
+    pub root: Option<BranchId>,
+    /// Its advice for branches that become in doubt.
+    pub advice: Option<Advice>,
+    /// The code of the answer after which its transaction can only be rolled back.
+    pub code: Option<u16>,
+    pub call: PendingCall,
+}
+
+/// Client sessions, from number 1.
+pub type Sessions = Listing<Session>;
+
+/// The end of a client's call.
+#[derive(Debug, Drop)]
+pub struct Finished {
+    pub session: u32,
+    pub answer: Answer,
+}
+
+/// The calls that a turn ends.
+pub type Ended = Listing<Finished>;
