@@ -2,11 +2,12 @@
 -- entry needs of those before it.
 use Rattle.std.specs.Prelude.{◌≡◌, ℕ, ◌<◌, ◌==◌, ◌&&◌, not, Bool, true, false, if◌then◌else◌, List, [], ◌∷◌, ◌++◌, flat_map, slice_get, IsTrue, Option, Some, None}
 use Rattle.std.specs.List.{list_any}
-use Rattle.run_laws.specs.Data.{Change, BranchId, Decision, Entry}
-use Rattle.run_laws.specs.Data.decisions
+use Rattle.node_rules.specs.Data.{Change, BranchId, Decision, Keyed}
+use Rattle.run_laws.specs.Data.{Entry}
+use Rattle.node_rules.specs.Data.decisions
 use Rattle.run_laws.specs.Data.entries
 use Rattle.node_rules.specs.Words.{same, same_text, one}
-use Rattle.node_rules.specs.Rows.{Keyed, same_value, apply}
+use Rattle.node_rules.specs.Rows.{same_value, apply}
 
 -- whether an entry is the Sealed of this branch
 abbrev pub is_sealed_of : BranchId → Entry → Bool

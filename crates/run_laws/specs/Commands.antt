@@ -1,32 +1,27 @@
 -- What a command says and orders when it begins.
-use Rattle.std.specs.Prelude.{ℕ, ◌&&◌, Bool, true, false, if◌then◌else◌, List, [], ◌∷◌, ◌++◌, is_some, is_none, Option, Some, None}
-use Rattle.run_laws.specs.Data.{Stmt, Said, Command}
-use Rattle.run_laws.specs.Data.stmts
+use Rattle.std.specs.Prelude.{ℕ, ◌&&◌, not, Bool, true, false, if◌then◌else◌, List, [], ◌∷◌, ◌++◌, is_some, is_none, Option, Some, None}
+use Rattle.node_rules.specs.Data.{Stmt, Place}
+use Rattle.node_rules.specs.Data.stmts
+use Rattle.node_rules.specs.Words.{one, numbered, set_numbered}
+use Rattle.node_rules.specs.Ids.{decimal}
+use Rattle.node_rules.specs.Refusals.{dtx}
+use Rattle.node_rules.specs.Sessions.{session_at}
+use Rattle.node_rules.specs.Kept.{Kept}
+use Rattle.run_laws.specs.Data.{Said, Command}
 use Rattle.run_laws.specs.Data.notices
 use Rattle.run_laws.specs.Data.said
 use Rattle.run_laws.specs.Data.commands
-use Rattle.node_rules.specs.Words.{one}
-use Rattle.node_rules.specs.Ids.{decimal}
-use Rattle.node_rules.specs.Refusals.{dtx}
-use Rattle.node_rules.specs.Kept.{Kept, session_at}
 use Rattle.run_laws.specs.Net.{may_deliver, may_repeat}
 use Rattle.run_laws.specs.Shown.{shown}
-use Rattle.run_laws.specs.Disks.{opens_gate}
-use Rattle.run_laws.specs.Calls_out.{out_at}
-use Rattle.run_laws.specs.Lines.{refuses_with, told, with_own}
-use Rattle.run_laws.specs.Past.{Out, Past, is_up, no_page, node_at, node_name, plan_at, with_plan}
-
--- a command begins: what it says of itself at once
-abbrev pub fine : List Said
-fine = one (said.World notices.Fine)
-
--- DTX-01
-abbrev pub down_line : Past → ℕ → List Said
-down_line p n = one (refuses_with (dtx 1 (one (node_name p n))))
+use Rattle.run_laws.specs.Disks.{Plan, opens_gate}
+use Rattle.run_laws.specs.Calls.{call_at}
+use Rattle.run_laws.specs.Lines.{fine, is_down, refuses_with, told}
+use Rattle.run_laws.specs.Facts.{Facts, is_up, node_at}
+use Rattle.run_laws.specs.Telling.{Call, Telling, Page, node_name, no_page, plan_at}
 
 -- this, or DTX-01 where the node is down
-abbrev pub if_up : Past → ℕ → List Said → List Said
-if_up p n said = if is_up p n then said else down_line p n
+abbrev pub if_up : List Place → Facts → ℕ → List Said → List Said
+if_up places f n said = if is_up f n then said else one (is_down places n)
 
 -- ok, or DTX-11
 abbrev pub if_may : Bool → ℕ → List Said
@@ -38,33 +33,29 @@ is_enabled None = false
 is_enabled (Some k) = k.stored.durable.recovery
 
 -- what SHOW prints
-abbrev pub shows : Past → Command → List Said
-shows p c = one (said.World (notices.Shown (shown p.places p.nodes p.net p.book c)))
+abbrev pub shows : List Place → Facts → Command → List Said
+shows places f c = one (said.World (notices.Shown (shown places f c)))
+
+-- whether a session has a pending call
+abbrev pub has_call : Telling → ℕ → ℕ → Bool
+has_call t node session = is_some (call_at t node session)
 
 -- what a command says when it begins
-abbrev pub says_at_once : Past → Command → List Said
-says_at_once p (commands.Node name strength links undo) = fine
-says_at_once p (commands.At node session statement) =
-    if_up p node (if is_some (out_at p node session) then one (refuses_with (dtx 4 [])) else [])
-says_at_once p (commands.Cut a b) = fine
-says_at_once p (commands.Join a b) = fine
-says_at_once p (commands.Lose k) = if_may (may_deliver p.net k) k
-says_at_once p (commands.LoseNext kind from to) = fine
-says_at_once p (commands.Stop n) = if_up p n fine
-says_at_once p (commands.Start n) = if is_up p n then one (refuses_with (dtx 13 (one (node_name p n)))) else []
-says_at_once p (commands.Crash n write how) = fine
-says_at_once p (commands.Fault n call) = fine
-says_at_once p (commands.Hold on) = fine
-says_at_once p (commands.Deliver k) = if_may (may_deliver p.net k) k
-says_at_once p (commands.Again k) = if_may (may_repeat p.net k) k
-says_at_once p (commands.Pump most) = fine
-says_at_once p (commands.GiveUp n session) = if_up p n (if is_some (out_at p n session) then fine else one (refuses_with (dtx 14 [])))
-says_at_once p (commands.Reco n) = if_up p n (if is_enabled (node_at p n) then fine else one (refuses_with (dtx 12 [])))
-says_at_once p (commands.ShowPending n) = if_up p n (shows p (commands.ShowPending n))
-says_at_once p (commands.ShowNeighbors n) = if_up p n (shows p (commands.ShowNeighbors n))
-says_at_once p commands.ShowBook = shows p commands.ShowBook
-says_at_once p commands.ShowNet = shows p commands.ShowNet
-says_at_once p (commands.ShowDisk n) = shows p (commands.ShowDisk n)
+abbrev pub says_at_once : List Place → Facts → Telling → Command → List Said
+says_at_once places f t (commands.At node session statement) = if_up places f node (if has_call t node session then one (refuses_with (dtx 4 [])) else [])
+says_at_once places f t (commands.Lose k) = if_may (may_deliver f.net k) k
+says_at_once places f t (commands.Stop n) = if_up places f n fine
+says_at_once places f t (commands.Start n) = if is_up f n then one (refuses_with (dtx 13 (one (node_name places n)))) else []
+says_at_once places f t (commands.Deliver k) = if_may (may_deliver f.net k) k
+says_at_once places f t (commands.Again k) = if_may (may_repeat f.net k) k
+says_at_once places f t (commands.GiveUp n session) = if_up places f n (if has_call t n session then fine else one (refuses_with (dtx 14 [])))
+says_at_once places f t (commands.Reco n) = if_up places f n (if is_enabled (node_at f n) then fine else one (refuses_with (dtx 12 [])))
+says_at_once places f t (commands.ShowPending n) = if_up places f n (shows places f (commands.ShowPending n))
+says_at_once places f t (commands.ShowNeighbors n) = if_up places f n (shows places f (commands.ShowNeighbors n))
+says_at_once places f t commands.ShowBook = shows places f commands.ShowBook
+says_at_once places f t commands.ShowNet = shows places f commands.ShowNet
+says_at_once places f t (commands.ShowDisk n) = shows places f (commands.ShowDisk n)
+says_at_once places f t _ = fine
 
 -- CREATE commits first, where the session has a transaction
 abbrev pub commits_first : Stmt → Bool
@@ -76,33 +67,44 @@ commits_first _ = false
 -- whether a session has a transaction
 abbrev pub has_transaction : Option Kept → ℕ → Bool
 has_transaction None n = false
-has_transaction (Some k) n = is_some (session_at k n).root
+has_transaction (Some k) n = is_some (session_at k.sessions n).root
 
--- the call of a command AT, for a CREATE its COMMIT first
-abbrev pub call_of : ℕ → ℕ → ℕ → Option Stmt → Bool → Out
+-- the call of a command AT, for a CREATE in a transaction its COMMIT first
+abbrev pub call_of : ℕ → ℕ → ℕ → Option Stmt → Bool → Call
 call_of c node session None has = record { command = c; node = node; session = session; statement = None; follows = None }
 call_of c node session (Some s) has =
     if commits_first s && has then record { command = c; node = node; session = session; statement = Some (stmts.Commit None); follows = Some s }
     else record { command = c; node = node; session = session; statement = Some s; follows = None }
 
--- a call is out
-abbrev pub goes_out : Past → ℕ → ℕ → ℕ → Option Stmt → Past
-goes_out p c node session statement = record p { outs = p.outs ++ call_of c node session statement (has_transaction (node_at p node) session) ∷ [] }
+-- a call at a node that is up pends, where the session has none pending
+abbrev pub calls_after : Facts → Telling → ℕ → Command → List Call
+calls_after f t c (commands.At node session statement) =
+    if is_up f node && not (has_call t node session) then t.calls ++ call_of c node session statement (has_transaction (node_at f node) session) ∷ [] else t.calls
+calls_after f t c _ = t.calls
 
--- and what it orders: a call, HOLD, a loss to come
-abbrev pub orders_at_once : Past → ℕ → Command → Past
-orders_at_once p c (commands.At node session statement) =
-    if is_up p node && is_none (out_at p node session) then goes_out p c node session statement else p
-orders_at_once p c (commands.Hold on) = record p { hold = on }
-orders_at_once p c (commands.LoseNext kind from to) = record p { net = record p.net { orders = p.net.orders ++ (record { kind = kind; from = from; to = to }) ∷ [] } }
-orders_at_once p c (commands.Crash n write how) = with_plan p n (record (plan_at p n) { stop = Some (record { write = write; opens = opens_gate how }) })
-orders_at_once p c (commands.Fault n call) = with_plan p n (record (plan_at p n) { fault = Some call })
-orders_at_once p c _ = p
+-- HOLD ON and HOLD OFF
+abbrev pub hold_after : Bool → Command → Bool
+hold_after hold (commands.Hold on) = on
+hold_after hold _ = hold
 
--- the lines of the command before are told, and a new page begins
-abbrev pub turned_page : Past → ℕ → Past
-turned_page p c = record p { lines = told p; page = no_page; command = c; acted = false; deliveries = 0 }
+-- CRASH and FAULT are orders on a node's disk; a later one of the same kind takes the place of an earlier one
+abbrev pub plans_after : Telling → Command → List Plan
+plans_after t (commands.Crash n write how) = set_numbered t.plans n (record (plan_at t n) { stop = Some (record { write = write; opens = opens_gate how }) })
+plans_after t (commands.Fault n call) = set_numbered t.plans n (record (plan_at t n) { fault = Some call })
+plans_after t _ = t.plans
 
--- a command begins
-abbrev pub begins : Past → ℕ → Command → Past
-begins p c command = orders_at_once (with_own (turned_page p c) (says_at_once p command)) c command
+-- a new page
+abbrev pub page_of : List Said → Page
+page_of own = record no_page { own = own }
+
+-- a command of this number begins: the lines of the one before it are told
+abbrev pub begins : List Place → Facts → Telling → ℕ → Command → Telling
+begins places f t c command = record t {
+  acted = false;
+  deliveries = 0;
+  page = page_of (says_at_once places f t command);
+  hold = hold_after t.hold command;
+  calls = calls_after f t c command;
+  plans = plans_after t command;
+  lines = told f t;
+}

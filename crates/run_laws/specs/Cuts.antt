@@ -1,17 +1,15 @@
--- What cuts a turn: a crash-test comment, or an order that strikes its append; and the orders and points that a turn leaves.
-use Rattle.std.specs.Prelude.{ℕ, ◌==◌, ◌&&◌, Bool, true, false, if◌then◌else◌, List, [], ◌∷◌, ◌++◌, map, find, is_some, is_none, Option, Some, None}
-use Rattle.run_laws.specs.Data.{RedoRecord, BranchId, Input}
-use Rattle.run_laws.specs.Data.stmts
-use Rattle.run_laws.specs.Data.inputs
-use Rattle.node_rules.specs.Kept.{Kept, Outcome, session_at}
-use Rattle.node_rules.specs.Turn.{turn_of}
+-- What cuts a turn: a crash-test comment, or an order that strikes its append; and the orders and points that a turn
+-- leaves. (Database Administrator's Guide, "Managing Distributed Transactions": simulating distributed transaction failure.)
+use Rattle.std.specs.Prelude.{ℕ, ◌&&◌, Bool, true, false, if◌then◌else◌, List, [], ◌∷◌, ◌++◌, map, is_some, is_none, Option, Some, None}
+use Rattle.node_rules.specs.Data.{RedoRecord, BranchId, Input}
+use Rattle.node_rules.specs.Data.stmts
+use Rattle.node_rules.specs.Data.inputs
+use Rattle.node_rules.specs.Sessions.{session_at}
+use Rattle.node_rules.specs.Kept.{Kept, Outcome}
 use Rattle.node_rules.specs.Points.{Point, Passes, point_of, passes, is_armed, reaches}
 use Rattle.run_laws.specs.Disks.{Strike, struck, after_append}
-use Rattle.run_laws.specs.Past.{Out, Past, place_at, plan_at, with_plan}
-
--- an append after so many other calls
-abbrev pub appends : Past → ℕ → ℕ → Past
-appends p n before = with_plan p n (after_append before (plan_at p n))
+use Rattle.run_laws.specs.Calls.{call_at}
+use Rattle.run_laws.specs.Telling.{Call, Telling, plan_at, with_plan}
 
 -- What cuts a turn: a point before its record, an order that strikes its append, a point after it.
 pub data Cut_by : Type 0 where
@@ -20,55 +18,59 @@ pub data Cut_by : Type 0 where
   By_strike : (stands : Bool) → Cut_by  -- an order struck the append, and the record stands or not
 
 -- a point after the record
-abbrev pub cut_after : Past → Option Passes → Cut_by
-cut_after p None = By_nothing
-cut_after p (Some x) = if reaches p.points x.root x.after then By_point x.root x.after true else By_nothing
+abbrev pub cut_after : Telling → Option Passes → Cut_by
+cut_after t None = By_nothing
+cut_after t (Some x) = if reaches t.points x.root x.after then By_point x.root x.after true else By_nothing
 
 -- an order that strikes the append, or else a point after it
-abbrev pub cut_append : Past → Option Passes → Option Strike → Cut_by
-cut_append p x None = cut_after p x
-cut_append p x (Some s) = By_strike s.stands
+abbrev pub cut_append : Telling → Option Passes → Option Strike → Cut_by
+cut_append t x None = cut_after t x
+cut_append t x (Some s) = By_strike s.stands
 
 -- only a turn with a record makes an append
-abbrev pub cut_write : Past → ℕ → Option Passes → Option RedoRecord → Cut_by
-cut_write p n x None = By_nothing
-cut_write p n x (Some r) = cut_append p x (struck 0 (plan_at p n))
+abbrev pub cut_write : Telling → ℕ → Option Passes → Option RedoRecord → Cut_by
+cut_write t n x None = By_nothing
+cut_write t n x (Some r) = cut_append t x (struck 0 (plan_at t n))
 
 -- a point before the record
-abbrev pub cut_before : Past → ℕ → Option RedoRecord → Option Passes → Cut_by
-cut_before p n wrote None = cut_write p n None wrote
-cut_before p n wrote (Some x) = if reaches p.points x.root x.before then By_point x.root x.before false else cut_write p n (Some x) wrote
+abbrev pub cut_before : Telling → ℕ → Option RedoRecord → Option Passes → Cut_by
+cut_before t n wrote None = cut_write t n None wrote
+cut_before t n wrote (Some x) = if reaches t.points x.root x.before then By_point x.root x.before false else cut_write t n (Some x) wrote
 
 -- what cuts this turn of a node
-unfoldable pub cut_by : Past → ℕ → Kept → Input → Outcome → Cut_by
-cut_by p n k input o = cut_before p n o.wrote (passes k input o)
+unfoldable pub cut_by : Telling → ℕ → Kept → Input → Outcome → Cut_by
+cut_by t n k input o = cut_before t n o.wrote (passes k input o)
 
 -- the points of these numbers are reached, each once
 abbrev pub reach : BranchId → List ℕ → Point → Point
 reach root numbers x = if is_armed root numbers x then record x { reached = true } else x
 
--- with an append's calls counted, where there was one
-abbrev pub appends_if : Past → ℕ → Bool → Past
-appends_if p n writes = if writes then appends p n 0 else p
+-- the orders on a node's disk after an append that was made after so many other calls
+abbrev pub appends : Telling → ℕ → ℕ → Telling
+appends t n before = with_plan t n (after_append before (plan_at t n))
+
+-- the same where an append was made
+abbrev pub appends_if : Telling → ℕ → Bool → Telling
+appends_if t n writes = if writes then appends t n 0 else t
 
 -- a turn with a record makes one append, unless a point before it was reached
-abbrev pub cut_appends : Past → ℕ → Bool → Cut_by → Past
-cut_appends p n writes By_nothing = appends_if p n writes
-cut_appends p n writes (By_strike stands) = appends_if p n writes
-cut_appends p n writes (By_point root numbers stands) = record (appends_if p n stands) { points = map (reach root numbers) p.points }
+abbrev pub cut_appends : Telling → ℕ → Bool → Cut_by → Telling
+cut_appends t n writes By_nothing = appends_if t n writes
+cut_appends t n writes (By_strike stands) = appends_if t n writes
+cut_appends t n writes (By_point root numbers stands) = record (appends_if t n stands) { points = map (reach root numbers) t.points }
 
--- a COMMIT that is not refused arms its comment's point
-abbrev pub arms_point : Past → ℕ → Option BranchId → Option Out → Option ℕ → Past
-arms_point p n (Some root) (Some o) (Some number) = record p { points = p.points ++ (record { root = root; number = number; command = o.command; reached = false }) ∷ [] }
-arms_point p n _ _ _ = p
+-- the point of a COMMIT's comment
+abbrev pub arms_point : Telling → Option BranchId → Option Call → Option ℕ → Telling
+arms_point t (Some root) (Some c) (Some number) = record t { points = t.points ++ (record { root = root; number = number; command = c.command; reached = false }) ∷ [] }
+arms_point t _ _ _ = t
 
--- a COMMIT with a crash-test comment arms its point
-abbrev pub arms : Past → ℕ → Kept → Input → Past
-arms p n k (inputs.Call session (Some (stmts.Commit (Some comment)))) =
-    if is_none (session_at k session).code then arms_point p n (session_at k session).root (find (λ o. (o.node == n) && (o.session == session)) p.outs) (point_of comment) else p
-arms p n k _ = p
+-- a COMMIT with a crash-test comment arms its point, unless it is refused
+abbrev pub arms : Telling → ℕ → Kept → Input → Telling
+arms t n k (inputs.Call session (Some (stmts.Commit (Some comment)))) =
+    if is_none (session_at k.sessions session).code then arms_point t (session_at k.sessions session).root (call_at t n session) (point_of comment) else t
+arms t n k _ = t
 
--- the disk's orders and the points after a turn
-abbrev pub turn_appends : Past → ℕ → Input → Option Kept → Past
-turn_appends p n input None = p
-turn_appends p n input (Some k) = arms (cut_appends p n (is_some (turn_of (place_at p n) k input).wrote) (cut_by p n k input (turn_of (place_at p n) k input))) n k input
+-- the disk's orders and the points after a turn that came to this
+abbrev pub turn_appends : Telling → ℕ → Input → Option Kept → Option Outcome → Telling
+turn_appends t n input (Some k) (Some o) = arms (cut_appends t n (is_some o.wrote) (cut_by t n k input o)) n k input
+turn_appends t n input _ _ = t

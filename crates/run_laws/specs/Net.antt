@@ -1,9 +1,11 @@
--- The messages of a run with their fates, the pairs that are cut, the nodes that are down, and the orders to lose.
--- Messages are numbered from 1 on, in the order of sending.
-use Rattle.std.specs.Prelude.{ℕ, ◌+◌, ◌-◌, ◌==◌, ◌&&◌, ◌||◌, not, Bool, true, false, if◌then◌else◌, List, [], ◌∷◌, ◌++◌, map, filter, position, option_map, slice_get, slice_set, Option, Some, None}
+-- The messages of a run with their fates, the pairs of nodes that are cut, the nodes that are down, and the orders to lose.
+-- Messages are numbered from 1 in the order of sending. Each operation that loses messages answers with their numbers.
+use Rattle.std.specs.Prelude.{ℕ, ◌+◌, ◌==◌, ◌&&◌, ◌||◌, not, Bool, true, false, if◌then◌else◌, List, [], ◌∷◌, ◌++◌, map, filter, length, position, option_map, Option, Some, None}
 use Rattle.std.specs.List.{list_any}
-use Rattle.run_laws.specs.Data.{Kind, KindName, Msg, Fate, Packet}
-use Rattle.run_laws.specs.Data.kinds
+use Rattle.node_rules.specs.Data.{Kind, Msg}
+use Rattle.node_rules.specs.Data.kinds
+use Rattle.node_rules.specs.Words.{numbered, set_numbered}
+use Rattle.run_laws.specs.Data.{KindName, Fate, Packet}
 use Rattle.run_laws.specs.Data.kind_names
 use Rattle.run_laws.specs.Data.fates
 
@@ -97,73 +99,110 @@ use_order m (o ∷ os) = if is_order_for m o then os else o ∷ use_order m os
 abbrev pub packet : Msg → Fate → Packet
 packet m fate = record { msg = m; fate = fate }
 
--- with one more message
-abbrev pub add_packet : Net → Packet → Net
-add_packet net x = record net { packets = net.packets ++ x ∷ [] }
+-- a message that cannot pass is lost at once, and so is one that an order fits
+abbrev pub is_lost_at_once : Net → Msg → Bool
+is_lost_at_once net m = is_blocked net m || list_any (is_order_for m) net.orders
 
--- a message that cannot pass is lost at once, and uses up no order
+-- its fate when it is sent
+abbrev pub first_fate : Net → Msg → Fate
+first_fate net m = if is_lost_at_once net m then fates.Lost else fates.InFlight
+
+-- a message that cannot pass uses up no order
+abbrev pub orders_left : Net → Msg → List Order
+orders_left net m = if is_blocked net m then net.orders else use_order m net.orders
+
+-- one message is sent
 abbrev pub sent_one : Net → Msg → Net
-sent_one net m =
-    if is_blocked net m then add_packet net (packet m fates.Lost)
-    else (if list_any (is_order_for m) net.orders then add_packet (record net { orders = use_order m net.orders }) (packet m fates.Lost)
-    else add_packet net (packet m fates.InFlight))
+sent_one net m = record net { packets = net.packets ++ packet m (first_fate net m) ∷ []; orders = orders_left net m }
 
 -- these messages are sent, in order
 unfoldable pub sent_on : Net → List Msg → Net
 sent_on net [] = net
 sent_on net (m ∷ ms) = sent_on (sent_one net m) ms
 
--- whether a message is in flight
-abbrev pub flies : Packet → Bool
-flies x = is_flying x.fate where
-  is_flying : Fate → Bool
-  is_flying fates.InFlight = true
-  is_flying _ = false
+-- the numbers of those that are lost at once
+abbrev pub lost_at_once : Net → List Msg → List ℕ
+lost_at_once net [] = []
+lost_at_once net (m ∷ ms) = if is_lost_at_once net m then (length net.packets + 1) ∷ lost_at_once (sent_one net m) ms else lost_at_once (sent_one net m) ms
 
--- the message of this number, from 1
+-- whether a message is in flight
+abbrev pub is_flying : Fate → Bool
+is_flying fates.InFlight = true
+is_flying _ = false
+
+-- the same of a message with its fate
+abbrev pub flies : Packet → Bool
+flies x = is_flying x.fate
+
+-- the message of this number
 abbrev pub packet_at : Net → ℕ → Option Packet
-packet_at net k = if k == 0 then None else slice_get net.packets (k - 1)
+packet_at net k = numbered net.packets k
 
 -- a message in flight meets its fate
 abbrev pub fated : Fate → Packet → Packet
 fated fate x = if flies x then packet x.msg fate else x
 
 -- the message of this number meets its fate, where it is in flight
-abbrev pub fate_on : Net → ℕ → Fate → Option Packet → Net
-fate_on net k fate None = net
-fate_on net k fate (Some x) = record net { packets = slice_set net.packets (k - 1) (fated fate x) }
+abbrev pub with_fate : List Packet → ℕ → Fate → Option Packet → List Packet
+with_fate xs k fate None = xs
+with_fate xs k fate (Some x) = set_numbered xs k (fated fate x)
 
 -- message k is delivered
 unfoldable pub delivered : Net → ℕ → Net
-delivered net k = fate_on net k fates.Delivered (packet_at net k)
+delivered net k = record net { packets = with_fate net.packets k fates.Delivered (packet_at net k) }
 
 -- message k is lost
 unfoldable pub lost : Net → ℕ → Net
-lost net k = fate_on net k fates.Lost (packet_at net k)
+lost net k = record net { packets = with_fate net.packets k fates.Lost (packet_at net k) }
+
+-- the numbers of the messages that pass a test, from this number on
+abbrev pub numbers_where : (Packet → Bool) → ℕ → List Packet → List ℕ
+numbers_where test k [] = []
+numbers_where test k (x ∷ xs) = if test x then k ∷ numbers_where test (k + 1) xs else numbers_where test (k + 1) xs
+
+-- whether a message goes over this pair
+abbrev pub goes_over : ℕ → ℕ → Packet → Bool
+goes_over a b x = is_pair a b (x.msg.from.node, x.msg.to.node)
 
 -- a message in flight over a pair is lost
 abbrev pub lost_over : ℕ → ℕ → Packet → Packet
-lost_over a b x = if is_pair a b (x.msg.from.node, x.msg.to.node) then fated fates.Lost x else x
+lost_over a b x = if goes_over a b x then fated fates.Lost x else x
 
 -- a pair is cut, and what is in flight over it is lost
 unfoldable pub cut_over : Net → ℕ → ℕ → Net
 cut_over net a b = record net { packets = map (lost_over a b) net.packets; cuts = (a, b) ∷ net.cuts }
 
+-- the numbers of what a cut loses
+abbrev pub lost_by_cut : Net → ℕ → ℕ → List ℕ
+lost_by_cut net a b = numbers_where (λ x. flies x && goes_over a b x) 1 net.packets
+
 -- a pair is joined
 unfoldable pub joined : Net → ℕ → ℕ → Net
 joined net a b = record net { cuts = filter (λ pair. not (is_pair a b pair)) net.cuts }
 
+-- whether a message goes to this node
+abbrev pub goes_to : ℕ → Packet → Bool
+goes_to n x = x.msg.to.node == n
+
 -- a message in flight to a node is lost
 abbrev pub lost_to : ℕ → Packet → Packet
-lost_to n x = if x.msg.to.node == n then fated fates.Lost x else x
+lost_to n x = if goes_to n x then fated fates.Lost x else x
 
 -- a node is down, and what is in flight to it is lost
 unfoldable pub stopped : Net → ℕ → Net
 stopped net n = record net { packets = map (lost_to n) net.packets; down = n ∷ net.down }
 
+-- the numbers of what a stop loses
+abbrev pub lost_by_stop : Net → ℕ → List ℕ
+lost_by_stop net n = numbers_where (λ x. flies x && goes_to n x) 1 net.packets
+
 -- a node is up
 unfoldable pub started : Net → ℕ → Net
 started net n = record net { down = filter (λ m. not (m == n)) net.down }
+
+-- one more order to lose a message
+abbrev pub with_order : Net → Order → Net
+with_order net o = record net { orders = net.orders ++ o ∷ [] }
 
 -- the message in flight with the least number
 abbrev pub first_flying : Net → Option ℕ
@@ -183,19 +222,6 @@ abbrev pub may_pass : Net → Option Packet → Bool
 may_pass net None = false
 may_pass net (Some x) = not (is_blocked net x.msg)
 
--- any message ever sent whose pair is joined and whose target is up
+-- AGAIN takes any message ever sent whose pair is joined and whose target is up
 abbrev pub may_repeat : Net → ℕ → Bool
 may_repeat net k = may_pass net (packet_at net k)
-
--- whether a message is lost
-abbrev pub is_lost : Packet → Bool
-is_lost x = is_lost_fate x.fate where
-  is_lost_fate : Fate → Bool
-  is_lost_fate fates.Lost = true
-  is_lost_fate _ = false
-
--- the numbers of the messages that are lost now and were not lost before
-abbrev pub newly_lost : ℕ → List Packet → List Packet → List ℕ
-newly_lost k before [] = []
-newly_lost k [] (y ∷ ys) = if is_lost y then k ∷ newly_lost (k + 1) [] ys else newly_lost (k + 1) [] ys
-newly_lost k (x ∷ xs) (y ∷ ys) = if flies x && is_lost y then k ∷ newly_lost (k + 1) xs ys else newly_lost (k + 1) xs ys

@@ -1,126 +1,109 @@
--- A run so far: nodes, network, disks and calls that are out; the command that runs; what was told, and the book.
-use Rattle.std.specs.Prelude.{ℕ, ◌-◌, Bool, true, false, List, [], ◌∷◌, ◌++◌, map, slice_get, slice_set, unwrap_or, is_some, option_to_list, Option, Some, None}
-use Rattle.run_laws.specs.Data.{Stmt, RedoRecord, Place, Entry, Said, AnswerLine, Command}
-use Rattle.run_laws.specs.Data.records
+-- What each happening makes of a run so far: of its facts, and of what is told. Oldest happening first.
+use Rattle.std.specs.Prelude.{ℕ, ◌+◌, ◌==◌, ◌&&◌, Bool, true, false, if◌then◌else◌, List, [], ◌∷◌, is_none, Option, Some, None}
+use Rattle.node_rules.specs.Data.{Input, Place}
+use Rattle.node_rules.specs.Data.inputs
+use Rattle.node_rules.specs.Words.{one}
+use Rattle.node_rules.specs.Kept.{Kept, Outcome}
+use Rattle.run_laws.specs.Data.{Took, Turn, Happening, Said, Command}
+use Rattle.run_laws.specs.Data.happenings
 use Rattle.run_laws.specs.Data.commands
-use Rattle.node_rules.specs.Ids.{name_of}
-use Rattle.node_rules.specs.Kept.{Kept}
-use Rattle.node_rules.specs.Turn.{made}
-use Rattle.run_laws.specs.Net.{Net, still}
-use Rattle.node_rules.specs.Points.{Point}
-use Rattle.run_laws.specs.Disks.{Plan, no_plan}
+use Rattle.run_laws.specs.Disks.{Strike, struck}
+use Rattle.run_laws.specs.Calls.{after_input, stopped_calls, finished}
+use Rattle.run_laws.specs.Commands.{begins}
+use Rattle.run_laws.specs.Cuts.{appends, turn_appends}
+use Rattle.run_laws.specs.Lines.{fine, is_down, with_own, with_stop}
+use Rattle.run_laws.specs.Facts.{Facts, command_at, node_at, outcome_at, facts_turned, facts_after}
+use Rattle.run_laws.specs.Telling.{Past, Telling, plan_at}
 
--- A call that is out: its command, where it was made, what its next turn says, and the statement that follows its COMMIT.
-pub record Out : Type 0 where
-  pub command : ℕ
-  pub node : ℕ
-  pub session : ℕ
-  pub statement : Option Stmt
-  pub follows : Option Stmt
+-- ---- a turn
 
--- The lines of the command that runs: its own, those of earlier calls that it ended, the nodes that stopped.
-pub record Page : Type 0 where
-  pub own : List Said
-  pub others : List AnswerLine
-  pub stops : List Said
+-- a delivery is counted
+abbrev pub delivered_more : Telling → Option Took → Telling
+delivered_more t None = t
+delivered_more t (Some took) = record t { deliveries = t.deliveries + 1 }
 
--- A run so far.
-pub record Past : Type 0 where
-  pub places : List Place
-  pub commands : List Command
-  -- what the nodes, the net and the disks are
-  pub nodes : List (Option Kept)  -- a stopped node keeps nothing
-  pub records : List (List RedoRecord)  -- what each node's disk stands for
-  pub plans : List Plan  -- the orders that have not struck each node's disk
-  pub points : List Point  -- of crash-test comments
-  pub net : Net
-  -- what must come at once: losses that are not told yet, the node whose turn was cut, the second call of a CREATE
-  pub losses_to_tell : List ℕ
-  pub node_to_stop : Option ℕ
-  pub next_call : Option Out
-  -- the command that runs
-  pub command : ℕ
-  pub acted : Bool  -- something happened since it began
-  pub deliveries : ℕ
-  pub hold : Bool
-  pub outs : List Out  -- in order of command
-  -- what is told and what stands
-  pub page : Page
-  pub lines : List AnswerLine
-  pub book : List Entry
+-- whether an input is a client's call
+abbrev pub is_call : Input → Bool
+is_call (inputs.Call session statement) = true
+is_call _ = false
 
--- a command that has said nothing
-abbrev pub no_page : Page
-no_page = record { own = []; others = []; stops = [] }
+-- the second call of a CREATE has come
+abbrev pub without_following : Telling → Input → Telling
+without_following t input = if is_call input then record t { next_call = None } else t
 
--- before anything happened: every node of the run is made
-abbrev pub start : List Place → List Command → Past
-start places commands = record {
-  places = places;
-  commands = commands;
-  nodes = map (λ p. Some made) places;
-  records = map (λ p. records.Boot 1 ∷ []) places;
-  plans = map (λ p. no_plan) places;
-  points = [];
-  net = still;
-  losses_to_tell = [];
-  node_to_stop = None;
-  next_call = None;
-  command = 0;
-  acted = true;
-  deliveries = 0;
-  hold = false;
-  outs = [];
-  page = no_page;
-  lines = [];
-  book = [];
-}
+-- the calls that a turn ended, unless it was cut
+abbrev pub ends_calls : ℕ → Telling → Turn → Bool → Option Outcome → Telling
+ends_calls running t u true o = t
+ends_calls running t u false None = t
+ends_calls running t u false (Some o) = after_input running (finished running t u.node o.ended) u.node u.input
 
--- nodes are numbered from 1 on
-abbrev pub flat : {A : Type 0} → Option (Option A) → Option A
-flat None = None
-flat (Some o) = o
+-- something has happened since the command began
+abbrev pub acts : Telling → Telling
+acts t = record t { acted = true }
 
--- what a node keeps, where it is up
-abbrev pub node_at : Past → ℕ → Option Kept
-node_at p n = flat (slice_get p.nodes (n - 1))
+-- a turn at a node that kept this, and that came to this
+abbrev pub telling_turned : ℕ → Option Kept → Telling → Turn → Option Outcome → Telling
+telling_turned running k t u o = acts (ends_calls running (without_following (delivered_more (turn_appends t u.node u.input k o) u.took) u.input) u u.cut o)
 
--- no node
-abbrev pub no_place : Place
-no_place = record { names = []; number = 0; strength = 0; links = 0; undo = 0 }
+-- what a turn comes to is worked out once
+abbrev pub turned : Past → Turn → Option Outcome → Past
+turned p u o = record { facts = facts_turned p.facts u o; telling = telling_turned p.facts.command (node_at p.facts u.node) p.telling u o }
 
--- a node's place
-abbrev pub place_at : Past → ℕ → Place
-place_at p n = unwrap_or (slice_get p.places (n - 1)) no_place
+-- ---- stops and starts
 
--- a node's name
-abbrev pub node_name : Past → ℕ → List ℕ
-node_name p n = name_of (place_at p n).names n
+-- whether a node is down in its own START: an order struck it before its Boot stood
+abbrev pub failed_start : Facts → Command → ℕ → Bool
+failed_start f (commands.Start m) n = (m == n) && is_none (node_at f n)
+failed_start f _ n = false
 
--- whether a node is up
-abbrev pub is_up : Past → ℕ → Bool
-is_up p n = is_some (node_at p n)
+-- such a START is refused, and the calls of its append are counted
+abbrev pub start_refused : List Place → Facts → Telling → Command → ℕ → Telling
+start_refused places f t command n = if failed_start f command n then with_own (appends t n 3) (one (is_down places n)) else t
 
--- with what a node keeps changed
-abbrev pub with_node : Past → ℕ → Option Kept → Past
-with_node p n k = record p { nodes = slice_set p.nodes (n - 1) k }
+-- whether this is a STOP of the node
+abbrev pub is_stop_of : Command → ℕ → Bool
+is_stop_of (commands.Stop m) n = m == n
+is_stop_of _ n = false
 
--- the records that a node's disk stands for
-abbrev pub records_at : Past → ℕ → List RedoRecord
-records_at p n = unwrap_or (slice_get p.records (n - 1)) []
+-- `node X stopped` stands for every stop but a STOP's own
+abbrev pub stop_line : List Place → Telling → Command → ℕ → Telling
+stop_line places t command n = if is_stop_of command n then t else with_stop places t n
 
--- with one more record on a node's disk
-abbrev pub with_record_at : Past → ℕ → Option RedoRecord → Past
-with_record_at p n r = record p { records = slice_set p.records (n - 1) (records_at p n ++ option_to_list r) }
+-- a node stops: its calls end
+abbrev pub telling_stopped : List Place → List Command → Facts → Telling → ℕ → Telling
+telling_stopped places asked f t n =
+    stop_line places (stopped_calls places f.command (record (start_refused places f t (command_at asked f.command) n) { start_to_stop = None }) n t.calls) (command_at asked f.command) n
 
--- the orders on a node's disk
-abbrev pub plan_at : Past → ℕ → Plan
-plan_at p n = unwrap_or (slice_get p.plans (n - 1)) no_plan
+-- a START answers ok, or DTX-01 where an order strikes it after its Boot stands
+abbrev pub started_says : List Place → ℕ → Option Strike → List Said
+started_says places n None = fine
+started_says places n (Some s) = one (is_down places n)
 
--- with the orders on a node's disk changed
-abbrev pub with_plan : Past → ℕ → Plan → Past
-with_plan p n plan = record p { plans = slice_set p.plans (n - 1) plan }
+-- and then its node stops at once
+abbrev pub falls_if : ℕ → Option Strike → Option ℕ
+falls_if n None = None
+falls_if n (Some s) = Some n
 
--- the command of this number
-abbrev pub command_at : Past → ℕ → Command
-command_at p c = unwrap_or (slice_get p.commands (c - 1)) commands.ShowBook
+-- a node starts, with the calls of its Boot's append counted
+abbrev pub telling_started : List Place → Telling → ℕ → Option Strike → Telling
+telling_started places t n strike = record (with_own (appends t n 3) (started_says places n strike)) { start_to_stop = falls_if n strike }
+
+-- ---- each happening
+
+-- what is told after one happening more; a turn is worked out with its facts
+abbrev pub telling_after : List Place → List Command → Facts → Telling → Happening → Telling
+telling_after places asked f t (happenings.Begun c) = begins places f t c (command_at asked c)
+telling_after places asked f t (happenings.Turn u) = telling_turned f.command (node_at f u.node) t u (outcome_at places f u)
+telling_after places asked f t (happenings.Stopped n) = acts (telling_stopped places asked f t n)
+telling_after places asked f t (happenings.Started n boot) = acts (telling_started places t n (struck 3 (plan_at t n)))
+telling_after places asked f t _ = acts t
+
+-- one happening more
+unfoldable pub next : List Place → List Command → Past → Happening → Past
+next places asked p (happenings.Turn u) = turned p u (outcome_at places p.facts u)
+next places asked p h = record { facts = facts_after places asked p.facts h; telling = telling_after places asked p.facts p.telling h }
+
+-- what these happenings leave
+unfoldable pub past : List Place → List Command → Past → List Happening → Past
+past places asked p [] = p
+past places asked p (h ∷ hs) = past places asked (next places asked p h) hs

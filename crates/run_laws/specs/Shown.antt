@@ -1,34 +1,33 @@
--- What SHOW prints: the views, the book, and the messages in flight.
+-- What SHOW prints: the views, the book, the messages in flight, and the bytes of a disk.
 pub use Rattle.book.specs.Texts.{book_lines, shown_book, book_text}
-use Rattle.std.specs.Prelude.{ℕ, ◌+◌, ◌-◌, if◌then◌else◌, List, [], ◌∷◌, ◌++◌, map, slice_get, codes, Option, Some}
-use Rattle.run_laws.specs.Data.{Place, Entry, Packet, KindName, Command}
+use Rattle.std.specs.Prelude.{ℕ, ◌+◌, ◌*◌, ◌/◌, ◌%◌, if◌then◌else◌, List, [], ◌∷◌, ◌++◌, map, flat_map, length, take, drop, codes, Option, Some, None}
+use Rattle.std.specs.List.{range_with_len}
+use Rattle.tran_ids.specs.Numbers.{hex_digit, hex8}
+use Rattle.node_rules.specs.Data.{Place}
+use Rattle.run_laws.specs.Data.{Packet, KindName, Command}
 use Rattle.run_laws.specs.Data.kind_names
 use Rattle.run_laws.specs.Data.commands
 use Rattle.node_rules.specs.Words.{one}
 use Rattle.node_rules.specs.Ids.{decimal, name_of}
 use Rattle.node_rules.specs.Kept.{Kept}
 use Rattle.node_rules.specs.Views.{view_lines, pending_text, pending_rows, neighbor_text, neighbor_rows}
-use Rattle.run_laws.specs.Net.{Net, flies, name_of_kind}
+use Rattle.run_laws.specs.Net.{flies, name_of_kind}
+use Rattle.run_laws.specs.Facts.{Facts, names_in, node_at}
 
 -- a line that says so, where there is none
 abbrev pub or_none : List ℕ → List (List ℕ) → List (List ℕ)
 or_none none [] = one none
 or_none none (x ∷ xs) = x ∷ xs
 
--- the names of the nodes
-abbrev pub names_in : List Place → List (List ℕ)
-names_in [] = []
-names_in (p ∷ ps) = p.names
-
 -- SHOW PENDING
-abbrev pub shown_pending : List (List ℕ) → Option (Option Kept) → List (List ℕ)
-shown_pending names (Some (Some k)) = view_lines (codes "LOCAL_TRAN_ID|GLOBAL_TRAN_ID|STATE|MIXED|ADVICE|TRAN_COMMENT|COMMIT#") (map (pending_text names) (pending_rows k))
-shown_pending names _ = []
+abbrev pub shown_pending : List (List ℕ) → Option Kept → List (List ℕ)
+shown_pending names (Some k) = view_lines (codes "LOCAL_TRAN_ID|GLOBAL_TRAN_ID|STATE|MIXED|ADVICE|TRAN_COMMENT|COMMIT#") (map (pending_text names) (pending_rows k))
+shown_pending names None = []
 
 -- SHOW NEIGHBORS
-abbrev pub shown_neighbors : List (List ℕ) → Option (Option Kept) → List (List ℕ)
-shown_neighbors names (Some (Some k)) = view_lines (codes "LOCAL_TRAN_ID|IN_OUT|DATABASE|DBUSER_OWNER|INTERFACE") (map neighbor_text (neighbor_rows names k))
-shown_neighbors names _ = []
+abbrev pub shown_neighbors : List (List ℕ) → Option Kept → List (List ℕ)
+shown_neighbors names (Some k) = view_lines (codes "LOCAL_TRAN_ID|IN_OUT|DATABASE|DBUSER_OWNER|INTERFACE") (map neighbor_text (neighbor_rows names k))
+shown_neighbors names None = []
 
 -- a kind of messages as it is printed
 abbrev pub kind_text : KindName → List ℕ
@@ -59,10 +58,27 @@ abbrev pub flying_lines : List (List ℕ) → ℕ → List Packet → List (List
 flying_lines names k [] = []
 flying_lines names k (x ∷ xs) = if flies x then packet_text names k x ∷ flying_lines names (k + 1) xs else flying_lines names (k + 1) xs
 
--- what SHOW prints; the bytes of a disk are said apart, with its log
-abbrev pub shown : List Place → List (Option Kept) → Net → List Entry → Command → List (List ℕ)
-shown places nodes net book (commands.ShowPending n) = shown_pending (names_in places) (slice_get nodes (n - 1))
-shown places nodes net book (commands.ShowNeighbors n) = shown_neighbors (names_in places) (slice_get nodes (n - 1))
-shown places nodes net book commands.ShowBook = shown_book (names_in places) book
-shown places nodes net book commands.ShowNet = or_none (codes "no messages in flight") (flying_lines (names_in places) 1 net.packets)
-shown places nodes net book _ = []
+-- a byte as two digits
+abbrev pub hex2 : ℕ → List ℕ
+hex2 b = hex_digit (b / 16) ∷ hex_digit (b % 16) ∷ []
+
+-- the line of bytes that begins at a place of a disk
+abbrev pub disk_line : List ℕ → ℕ → List ℕ
+disk_line bytes place = hex8 place ++ codes " " ++ flat_map hex2 (take 32 (drop place bytes))
+
+-- a line for each 32 bytes, and one for the rest
+abbrev pub disk_lines : List ℕ → List (List ℕ)
+disk_lines bytes = map (λ i. disk_line bytes (32 * i)) (range_with_len 0 ((length bytes + 31) / 32))
+
+-- SHOW DISK of a disk with these bytes
+abbrev pub shown_disk : List ℕ → List (List ℕ)
+shown_disk [] = codes "empty" ∷ []
+shown_disk (b ∷ bs) = disk_lines (b ∷ bs)
+
+-- what SHOW prints; the bytes of a disk are said apart, by the records that they stand for
+abbrev pub shown : List Place → Facts → Command → List (List ℕ)
+shown places f (commands.ShowPending n) = shown_pending (names_in places) (node_at f n)
+shown places f (commands.ShowNeighbors n) = shown_neighbors (names_in places) (node_at f n)
+shown places f commands.ShowBook = shown_book (names_in places) f.book
+shown places f commands.ShowNet = or_none (codes "no messages in flight") (flying_lines (names_in places) 1 f.net.packets)
+shown places f _ = []

@@ -5,11 +5,16 @@
 //! SCNs and of the commit point site stand as statements (`specs/Headline.antt`) and are not proved yet.
 #![tactic(auto)]
 
-ghost use Rattle.run_laws.specs.Laws.{BookIsOfTrace, PastGoesOn, LawfulGoesOn, RunsArePlayed};
+ghost use Rattle.run_laws.specs.Laws.{BookIsOfTrace, FactsAreAlone, PastGoesOn, LawfulGoesOn, RunsArePlayed};
 
-/// The book that the fold over a trace keeps is the book of the trace.
+/// The book that the facts keep is the book of the trace.
 pub fn book_is_of_trace()
     ensures { BookIsOfTrace }
+{}
+
+/// The facts of a run are a fold of its happenings alone.
+pub fn facts_are_alone()
+    ensures { FactsAreAlone }
 {}
 
 /// The fold over a trace may be stopped and gone on with anywhere.

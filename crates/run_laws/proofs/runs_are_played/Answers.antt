@@ -1,5 +1,5 @@
-use Rattle.run_laws.proofs.RunLemmas.{runs-are-played}
+use Rattle.run_laws.proofs.RunLemmas.{runs_are_played}
 use Rattle.run_laws.proofs.runs_are_played.Goals as goal
 
 pub returns : goal.returns
-returns c = runs-are-played
+returns c = runs_are_played
