@@ -98,7 +98,7 @@ class Plays:
             "",
             *self.answers(member, asked),
             "",
-            *self.book(member, f"({self.played(member)} {script}).book"),
+            *self.book(member, f"(booked ({self.played(member)} {script}))"),
         ]
 
     def answers(self, member, asked):

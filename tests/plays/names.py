@@ -4,6 +4,7 @@ IDS = "Rattle.tran_ids.specs"
 REDO = "Rattle.redo_codec.specs"
 RULES = "Rattle.node_rules.specs"
 LAWS = "Rattle.run_laws.specs"
+RULES_DATA = f"{RULES}.Data"
 DATA = f"{LAWS}.Data"
 PROOFS = "Rattle.plays.proofs"
 
@@ -18,7 +19,8 @@ UNFOLDED = (
     (f"{RULES}.Tree", "weight step"),
     ("Rattle.stmt_run.specs.Run", "ran_over"),
     (f"{RULES}.Statement", "ran"),
-    (f"{RULES}.Calls", "way_of admit reply_of"),
+    (f"{RULES}.Names", "way_of"),
+    (f"{RULES}.Calls", "admit reply_of"),
     (f"{RULES}.Commit", "beyond next_on_decision next_on_ack next_on_forgotten"),
     (f"{RULES}.Recovery", "recovery"),
     (f"{RULES}.Force", "branch_to_force purge"),
@@ -28,7 +30,8 @@ UNFOLDED = (
     (f"{LAWS}.Net", "sent_on delivered lost cut_over joined stopped started"),
     (f"{LAWS}.Disks", "struck after_append"),
     (f"{LAWS}.Cuts", "cut_by"),
-    (f"{LAWS}.Next", "next"),
+    (f"{LAWS}.Facts", "facts_after"),
+    (f"{LAWS}.Past", "next"),
     (f"{LAWS}.Due", "due_of runs_on"),
     ("Rattle.report.specs.Refusals", "ora_texts dtx_texts"),
     (f"{LAWS}.Report", "report"),
@@ -37,21 +40,24 @@ UNFOLDED = (
 # the words that may stand in a play, beside those of an opening
 CITED = (
     ("Rattle.std.proofs.Common", "◌≡◌ ℕ true false List [] ◌∷◌ ◌++◌ Some None negsuc codes refl"),
-    (f"{LAWS}.Lines", "told"),
     (f"{LAWS}.Report", "report"),
     (f"{LAWS}.Shown", "book_lines"),
-    (DATA, "Place Command"),
+    (RULES_DATA, "Place"),
+    (DATA, "Command"),
     (
         f"{PROOFS}.Script",
         "place place_within column number_column number_key text_column text_key table link synonym here over"
         " num text repeated literal minus step sum set equal insert rows count commit commit_comment"
-        " node at no_statement crash_keep crash_leave hold let_go pump pump_all played",
+        " node at no_statement crash_keep crash_leave hold let_go pump pump_all played told booked",
     ),
     (f"{PROOFS}.Playing", "playing"),
 )
 
 # the modules of variants that may stand in a play
-VARIANTS = "values terms signs conds picks stmts advices kind_names commands".split()
+VARIANTS = {
+    RULES_DATA: "values terms signs conds picks stmts advices".split(),
+    DATA: "kind_names commands".split(),
+}
 
 WORDS_OF_OPERATORS = {"◌≡◌": "≡", "◌∷◌": "∷", "◌++◌": "++"}
 
@@ -64,8 +70,7 @@ def imports(body):
         used = [name for name in names.split() if WORDS_OF_OPERATORS.get(name, name) in words]
         if used:
             lines.append(f"use {module}.{{{', '.join(used)}}}")
-        if module == DATA:
-            lines += [f"use {DATA}.{name}" for name in VARIANTS if any(word.startswith(f"{name}.") for word in words)]
+        lines += [f"use {module}.{name}" for name in VARIANTS.get(module, ()) if any(word.startswith(f"{name}.") for word in words)]
     return lines
 
 

@@ -1,11 +1,10 @@
 -- Plays of the topic commit.
 use Rattle.std.proofs.Common.{◌≡◌, [], ◌∷◌, ◌++◌, codes, refl}
-use Rattle.run_laws.specs.Lines.{told}
 use Rattle.run_laws.specs.Report.{report}
-use Rattle.run_laws.specs.Data.stmts
+use Rattle.node_rules.specs.Data.stmts
 use Rattle.run_laws.specs.Data.kind_names
 use Rattle.run_laws.specs.Data.commands
-use Rattle.plays.proofs.Script.{number_key, table, link, synonym, here, over, num, text, literal, minus, set, equal, insert, rows, count, commit, node, at, hold, pump, pump_all, played}
+use Rattle.plays.proofs.Script.{number_key, table, link, synonym, here, over, num, text, literal, minus, set, equal, insert, rows, count, commit, node, at, hold, pump, pump_all, played, told}
 use Rattle.plays.proofs.Playing.{playing}
 use Rattle.plays.proofs.Commit_shared.{places_1, places_2, places_3, places_4, places_5, opening_1, opening_1_lines, opening_2, opening_2_lines}
 

@@ -1,12 +1,11 @@
 -- Plays of the topic commit.
 use Rattle.std.proofs.Common.{◌≡◌, List, [], ◌∷◌, ◌++◌, codes, refl}
-use Rattle.run_laws.specs.Lines.{told}
 use Rattle.run_laws.specs.Report.{report}
 use Rattle.run_laws.specs.Shown.{book_lines}
+use Rattle.node_rules.specs.Data.stmts
 use Rattle.run_laws.specs.Data.{Command}
-use Rattle.run_laws.specs.Data.stmts
 use Rattle.run_laws.specs.Data.commands
-use Rattle.plays.proofs.Script.{link, here, over, num, text, literal, minus, set, equal, insert, rows, commit, at, hold, pump_all, played}
+use Rattle.plays.proofs.Script.{link, here, over, num, text, literal, minus, set, equal, insert, rows, commit, at, hold, pump_all, played, told, booked}
 use Rattle.plays.proofs.Playing.{playing}
 use Rattle.plays.proofs.Commit_shared.{names_2, places_2, places_3, opening_1, opening_1_lines, opening_2, opening_2_lines}
 
@@ -114,7 +113,7 @@ three_nodes_with_the_book = refl
 
 -- and its book
 book_of_three_nodes_with_the_book :
-    book_lines names_2 (played 276 places_2 three_nodes_with_the_book_script).book
+    book_lines names_2 (booked (played 276 places_2 three_nodes_with_the_book_script))
     ≡
     codes "made SALES ORDERS"
     ∷ codes "made WAREHOUSE STOCK"

@@ -1,7 +1,8 @@
 -- What plays of the topic crash share.
 use Rattle.std.proofs.Common.{ℕ, List, [], ◌∷◌, codes}
-use Rattle.run_laws.specs.Data.{Place, Command}
-use Rattle.run_laws.specs.Data.stmts
+use Rattle.node_rules.specs.Data.{Place}
+use Rattle.node_rules.specs.Data.stmts
+use Rattle.run_laws.specs.Data.{Command}
 use Rattle.run_laws.specs.Data.commands
 use Rattle.plays.proofs.Script.{place, number_column, number_key, text_key, table, link, here, over, num, text, minus, set, equal, insert, rows, commit, node, at}
 

@@ -1,10 +1,9 @@
 -- Plays of the topic one node.
 use Rattle.std.proofs.Common.{◌≡◌, ℕ, List, [], ◌∷◌, codes, refl}
-use Rattle.run_laws.specs.Lines.{told}
 use Rattle.run_laws.specs.Report.{report}
-use Rattle.run_laws.specs.Data.{Place}
+use Rattle.node_rules.specs.Data.{Place}
 use Rattle.run_laws.specs.Data.commands
-use Rattle.plays.proofs.Script.{place, number_column, number_key, table, here, num, equal, insert, rows, commit, node, at, played}
+use Rattle.plays.proofs.Script.{place, number_column, number_key, table, here, num, equal, insert, rows, commit, node, at, played, told}
 use Rattle.plays.proofs.Playing.{playing}
 
 abbrev names_1 : List (List ℕ)

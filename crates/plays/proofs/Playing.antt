@@ -9,7 +9,8 @@ use Rattle.node_rules.specs.Records.{applied, stored_by}
 use Rattle.node_rules.specs.Tree.{weight, step}
 use Rattle.stmt_run.specs.Run.{ran_over}
 use Rattle.node_rules.specs.Statement.{ran}
-use Rattle.node_rules.specs.Calls.{way_of, admit, reply_of}
+use Rattle.node_rules.specs.Names.{way_of}
+use Rattle.node_rules.specs.Calls.{admit, reply_of}
 use Rattle.node_rules.specs.Commit.{beyond, next_on_decision, next_on_ack, next_on_forgotten}
 use Rattle.node_rules.specs.Recovery.{recovery}
 use Rattle.node_rules.specs.Force.{branch_to_force, purge}
@@ -19,11 +20,12 @@ use Rattle.node_rules.specs.Views.{pending_rows, neighbor_rows}
 use Rattle.run_laws.specs.Net.{sent_on, delivered, lost, cut_over, joined, stopped, started}
 use Rattle.run_laws.specs.Disks.{struck, after_append}
 use Rattle.run_laws.specs.Cuts.{cut_by}
-use Rattle.run_laws.specs.Next.{next}
+use Rattle.run_laws.specs.Facts.{facts_after}
+use Rattle.run_laws.specs.Past.{next}
 use Rattle.run_laws.specs.Due.{due_of, runs_on}
 use Rattle.report.specs.Refusals.{ora_texts, dtx_texts}
 use Rattle.run_laws.specs.Report.{report}
 
 unfoldable pub playing : ⊤
-unfolding digits decimal hex8 kept_after durable_after checked examined written meant_over applied stored_by weight step ran_over ran way_of admit reply_of beyond next_on_decision next_on_ack next_on_forgotten recovery branch_to_force purge turn_of start_of stand_of passes point_of pending_rows neighbor_rows sent_on delivered lost cut_over joined stopped started struck after_append cut_by next due_of runs_on ora_texts dtx_texts report
+unfolding digits decimal hex8 kept_after durable_after checked examined written meant_over applied stored_by weight step ran_over ran way_of admit reply_of beyond next_on_decision next_on_ack next_on_forgotten recovery branch_to_force purge turn_of start_of stand_of passes point_of pending_rows neighbor_rows sent_on delivered lost cut_over joined stopped started struck after_append cut_by facts_after next due_of runs_on ora_texts dtx_texts report
 playing = tt

@@ -1,15 +1,17 @@
 -- Short words for the scripts that are played, and the run of a script.
 use Rattle.std.proofs.Common.{ℕ, Bool, true, false, List, [], ◌∷◌, map, flat_map, replicate, Option, Some, None, pos}
-use Rattle.run_laws.specs.Data.{Value, Column, TableRef, Term, Step, Sum, Set, Cond, Stmt, Place, Command}
-use Rattle.run_laws.specs.Data.values
-use Rattle.run_laws.specs.Data.terms
-use Rattle.run_laws.specs.Data.signs
-use Rattle.run_laws.specs.Data.conds
-use Rattle.run_laws.specs.Data.picks
-use Rattle.run_laws.specs.Data.stmts
+use Rattle.node_rules.specs.Data.{Value, Column, TableRef, Term, Step, Sum, Set, Cond, Stmt, Place}
+use Rattle.node_rules.specs.Data.values
+use Rattle.node_rules.specs.Data.terms
+use Rattle.node_rules.specs.Data.signs
+use Rattle.node_rules.specs.Data.conds
+use Rattle.node_rules.specs.Data.picks
+use Rattle.node_rules.specs.Data.stmts
+use Rattle.run_laws.specs.Data.{AnswerLine, Command, Entry}
 use Rattle.run_laws.specs.Data.hows
 use Rattle.run_laws.specs.Data.commands
-use Rattle.run_laws.specs.Past.{Past, start}
+use Rattle.run_laws.specs.Telling.{Past, start}
+use Rattle.run_laws.specs.Lines.{told as told_of}
 use Rattle.run_laws.specs.Due.{runs_on}
 
 -- a node's place, with as many links and extents of undo as a node has where its command says nothing
@@ -128,6 +130,14 @@ pump most = commands.Pump (Some most)
 abbrev pub pump_all : Command
 pump_all = commands.Pump None
 
--- what was told of the script when it ended, if it ends within so many happenings
+-- a script when it has ended, if it ends within so many happenings
 abbrev pub played : ℕ → List Place → List Command → Past
-played happenings places script = runs_on (replicate happenings 0) (start places script)
+played happenings places script = runs_on places script (replicate happenings 0) (start places)
+
+-- what was told of it
+abbrev pub told : Past → List AnswerLine
+told p = told_of p.facts p.telling
+
+-- its book
+abbrev pub booked : Past → List Entry
+booked p = p.facts.book
