@@ -1,5 +1,6 @@
 -- The book in the subject's words: the rows that its committed transactions leave, who is in doubt, and what every
--- entry needs of those before it.
+-- entry needs of those before it. (Database Administrator's Guide, "Distributed Transactions Concepts": in-doubt
+-- transactions, the outcome of a transaction, mixed outcomes.)
 use Rattle.std.specs.Prelude.{◌≡◌, ℕ, ◌<◌, ◌==◌, ◌&&◌, not, Bool, true, false, if◌then◌else◌, List, [], ◌∷◌, ◌++◌, flat_map, slice_get, IsTrue, Option, Some, None}
 use Rattle.std.specs.List.{list_any}
 use Rattle.node_rules.specs.Data.{Change, BranchId, Decision, Keyed}
@@ -72,6 +73,22 @@ commits_at book n _ = []
 -- the rows that the committed transactions of a book leave in a table of a node
 unfoldable pub rows_of : List Entry → ℕ → List ℕ → List Keyed
 rows_of book n table = apply table [] (flat_map (commits_at book n) book)
+
+-- the changes that an entry commits at once at its node: the site's own at its Decided, a branch's at its Ended or Forced commit
+abbrev pub commits_now : List Entry → ℕ → Entry → List Change
+commits_now older n (entries.Decided b g cs scn) = if b.node == n then cs else []
+commits_now older n (entries.Ended b (decisions.Commit scn)) = if b.node == n then changes_of older b else []
+commits_now older n (entries.Forced b (decisions.Commit scn)) = if b.node == n then changes_of older b else []
+commits_now older n _ = []
+
+-- the changes that entries commit one after the other at a node
+abbrev pub committed_at : List Entry → ℕ → List Entry → List Change
+committed_at older n [] = []
+committed_at older n (e ∷ es) = commits_now older n e ++ committed_at (older ++ e ∷ []) n es
+
+-- the rows of a table of a node as they are committed there, one entry after the other
+unfoldable pub rows_told : List Entry → ℕ → List ℕ → List Keyed
+rows_told book n table = apply table [] (committed_at [] n book)
 
 -- branches in doubt
 abbrev pub doubt_in : List Entry → ℕ → Entry → List BranchId
@@ -177,8 +194,16 @@ is_key_in cs c = list_any (λ d. same_text d.table c.table && same_value d.key c
 abbrev pub share_a_key : List Change → List Change → Bool
 share_a_key cs ds = list_any (is_key_in cs) ds
 
--- a decision's SCN exceeds every seal's, and of two that changed one key the later has the greater
+-- a decision's SCN exceeds every seal's of its transaction
+abbrev pub AboveSeals : List Entry → Type 0
+AboveSeals book = (i j : ℕ) (b c g : BranchId) (cs ds : List Change) (m n : ℕ) → At book i (entries.Decided b g cs m) → At book j (entries.Sealed c g ds n) → n < m
+
+-- of two decisions that changed one key at a node the later has the greater SCN
+abbrev pub InOrder : List Entry → Type 0
+InOrder book = (i j : ℕ) (b c g h : BranchId) (cs ds : List Change) (m n node : ℕ) → i < j → At book i (entries.Decided b g cs m) → At book j (entries.Decided c h ds n)
+    → IsTrue (share_a_key (transaction_at book node g) (transaction_at book node h)) → m < n
+
+-- the law of commit SCNs
 pub record ScnLaw (book : List Entry) : Type 0 where
-  pub above_seals : (i j : ℕ) (b c g : BranchId) (cs ds : List Change) (m n : ℕ) → At book i (entries.Decided b g cs m) → At book j (entries.Sealed c g ds n) → n < m
-  pub in_order : (i j : ℕ) (b c g h : BranchId) (cs ds : List Change) (m n node : ℕ) → i < j → At book i (entries.Decided b g cs m) → At book j (entries.Decided c h ds n)
-      → IsTrue (share_a_key (transaction_at book node g) (transaction_at book node h)) → m < n
+  pub above_seals : AboveSeals book
+  pub in_order : InOrder book

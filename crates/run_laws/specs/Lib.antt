@@ -14,4 +14,15 @@ pub mod Past
 pub mod Due
 pub mod Report
 pub mod Book
+pub mod Branches
+pub mod Tree
+pub mod Runs
+pub mod Trail
+pub mod Each
+pub mod Site
+pub mod Meanings
+pub mod Places
+pub mod Knowledge
+pub mod Bounds
+pub mod Headline
 pub mod Laws
