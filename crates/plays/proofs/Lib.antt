@@ -2,6 +2,7 @@ pub mod Script
 pub mod Playing
 pub mod Commit_shared
 pub mod Crash_shared
+mod The_order
 mod Commit_1
 mod Commit_2
 mod Crash_1
