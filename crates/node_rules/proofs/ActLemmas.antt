@@ -44,7 +44,7 @@ module _ (k : Kept) (input : Input) (l : Live) (live : live_at k l.me ≡ Some l
   answer_act_so from votes.Abort site_below answers = Hears_abort l from site_below live answers
   answer_act_so from v site_below answers =
       cond_both (all_answered (voted l from v)) _ _ (Acting k input (voted l from v) site_below)
-      (λ all. Hears_last l from v site_below _ live answers all (collected_act_so (voted l from v) site_below)) (Waits_on l from v site_below live answers)
+      (λ all. Hears_last l from v site_below _ live answers (λ e. absurd cc) all (collected_act_so (voted l from v) site_below)) (Waits_on l from v site_below live answers (λ e. absurd cc))
 
   -- at CommitPoint
   pub point_act_so : (from : BranchId) → Came input from l.me kinds.CommitPoint → l.phase ≡ phases.Ready → Acting k input l true (commit_point_act (step l))

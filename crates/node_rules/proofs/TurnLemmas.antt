@@ -91,12 +91,12 @@ module _ (p : Place) (input : Input) where
 
   -- what begins a collect does not look at locks
   begins_still : (k : Kept) (b : BranchId) (l : Live) (comment : List ℕ) (site_below : Bool) → Collects k input l comment site_below → Collects (without_read_keys k b) input l comment site_below
-  begins_still k b l comment site_below (By_commit n given call has code) = By_commit n given call has code
+  begins_still k b l comment site_below (By_commit n given call has code said) = By_commit n given call has code said
   begins_still k b l comment site_below (By_prepare from _ came working) = By_prepare from _ came working
 
   collects_so : (k : Kept) (l : Live) (comment : List ℕ) (site_below : Bool) → live_at k l.me ≡ Some l → Collects k input l comment site_below → Step p input k (collects k (with_comment l comment) site_below)
   collects_so k l comment site_below live begins =
-      Lets_reads_go l.me (Acts _ site_below _ (first_act_so (without_read_keys k l.me) input l live comment site_below (begins_still k l.me l comment site_below begins)))
+      Lets_reads_go l comment site_below live begins (Acts _ site_below _ (first_act_so (without_read_keys k l.me) input l live comment site_below (begins_still k l.me l comment site_below begins)))
 
   module _ (k : Kept) (from : BranchId) (l : Live) (live : live_at k l.me ≡ Some l) where
     prepare_so : (site_below : Bool) (comment : List ℕ) (phase : Phase) → Came input from l.me (kinds.Prepare site_below comment) → l.phase ≡ phase → Step p input k (prepare_in k l site_below comment phase)
@@ -237,20 +237,20 @@ module _ (p : Place) (input : Input) where
 
     begun_so : (k : Kept) (root : Option BranchId) → IsOfRows s → IsSession n → (session_at k.sessions n).root ≡ root → Step p input k (statement_call p (begun_by p k n root) n s)
     begun_so k (Some b) rows fit is = call_so k rows
-    begun_so k None rows fit is = Begins n s call fit is (call_so (begun_by p k n None) rows)
+    begun_so k None rows fit is = Begins n s call rows fit is (call_so (begun_by p k n None) rows)
 
-  commit_so : (k : Kept) (n : ℕ) (given : Option (List ℕ)) (code : Option ℕ) (o : Option Branch) → IsCall input n (stmts.Commit given) → (session_at k.sessions n).code ≡ code → RootSo k n o
+  commit_so : (k : Kept) (n : ℕ) (given : Option (List ℕ)) (code : Option ℕ) (o : Option Branch) → IsCall input n (stmts.Commit given) → (session_at k.sessions n).code ≡ code → root_at k n ≡ o → RootSo k n o
       → Step p input k (commit_by k n (unwrap_or given []) code o)
-  commit_so k n given code None call is so = Completes_at_once n (stmts.Commit given) dones.Committed call (Commits_nothing given)
-  commit_so k n given (Some c) (Some x) call is so = Refuses n (Some (stmts.Commit given)) _ call
-  commit_so k n given None (Some x) call is so =
+  commit_so k n given code None call is none so = Completes_at_once n (stmts.Commit given) dones.Committed call (Commits_nothing given) none
+  commit_so k n given (Some c) (Some x) call is root so = Refuses n (Some (stmts.Commit given)) _ call
+  commit_so k n given None (Some x) call is root so =
       let after : session_at (with_call k.sessions n pending.Commit) n ≡ record (session_at k.sessions n) { call = pending.Commit } = call_set k.sessions n x.live.me pending.Commit so.0 in
-      Pends n given call is (collects_so (record k { sessions = with_call k.sessions n pending.Commit }) x.live (unwrap_or given []) true (live_so k x.live.me x so.1)
-      (By_commit n given call (ap (λ t. t.root) after ∙ so.0) (ap (λ t. t.code) after ∙ is)))
+      Pends n x.live given call so.0 (live_so k x.live.me x so.1) is (collects_so (record k { sessions = with_call k.sessions n pending.Commit }) x.live (unwrap_or given []) true (live_so k x.live.me x so.1)
+      (By_commit n given call (ap (λ t. t.root) after ∙ so.0) (ap (λ t. t.code) after ∙ is) refl))
 
-  rollback_so : (k : Kept) (n : ℕ) (o : Option Branch) → IsCall input n stmts.Rollback → RootSo k n o → Step p input k (rollback_by k n o)
-  rollback_so k n None call so = Completes_at_once n stmts.Rollback dones.RolledBack call Rolls_nothing_back
-  rollback_so k n (Some x) call so = Rolls_back n x call so.0 so.1
+  rollback_so : (k : Kept) (n : ℕ) (o : Option Branch) → IsCall input n stmts.Rollback → root_at k n ≡ o → RootSo k n o → Step p input k (rollback_by k n o)
+  rollback_so k n None call none so = Completes_at_once n stmts.Rollback dones.RolledBack call Rolls_nothing_back none
+  rollback_so k n (Some x) call root so = Rolls_back n x call so.0 so.1
 
   force_commit_so : (k : Kept) (n : ℕ) (id : List ℕ) (scn : Option ℕ) (o : Result BranchId Refusal) → IsCall input n (stmts.CommitForce id scn) → branch_to_force p.names k.stored.durable.kept id ≡ o
       → Step p input k (force_commit k n scn o)
@@ -282,9 +282,9 @@ module _ (p : Place) (input : Input) where
   call_turn_so k n (stmts.Update table sets cs) call fit = begun_so n (stmts.Update table sets cs) call k (session_at k.sessions n).root tt fit refl
   call_turn_so k n (stmts.Delete table cs) call fit = begun_so n (stmts.Delete table cs) call k (session_at k.sessions n).root tt fit refl
   call_turn_so k n (stmts.Select list table cs for_update) call fit = begun_so n (stmts.Select list table cs for_update) call k (session_at k.sessions n).root tt fit refl
-  call_turn_so k n (stmts.Commit given) call fit = commit_so k n given (session_at k.sessions n).code (root_at k n) call refl (root_so k n)
+  call_turn_so k n (stmts.Commit given) call fit = commit_so k n given (session_at k.sessions n).code (root_at k n) call refl refl (root_so k n)
   call_turn_so k n (stmts.CommitForce id scn) call fit = force_commit_so k n id scn (branch_to_force p.names k.stored.durable.kept id) call refl
-  call_turn_so k n stmts.Rollback call fit = rollback_so k n (root_at k n) call (root_so k n)
+  call_turn_so k n stmts.Rollback call fit = rollback_so k n (root_at k n) call refl (root_so k n)
   call_turn_so k n (stmts.RollbackForce id) call fit = force_rollback_so k n id (branch_to_force p.names k.stored.durable.kept id) call refl
   call_turn_so k n (stmts.Advise a) call fit = Advises n a call
   call_turn_so k n (stmts.Recovery on) call fit = Makes_record n (stmts.Recovery on) _ _ call (Sets_recovery on)
