@@ -1,5 +1,5 @@
 pub mod NumberedLemmas
 pub mod StandLemmas
-pub mod ActLemmas
-pub mod NextLemmas
+mod ActLemmas
+mod NextLemmas
 pub mod TurnLemmas

@@ -25,7 +25,7 @@ live_so k b x found = live_by k b x (live_at k b) refl found
 pub branch_is : (k : Kept) (b : BranchId) (x : Branch) → branch_at k b ≡ Some x → x.live.me ≡ b
 branch_is k b x found = item_is live_id k.lives b x.live (live_so k b x found)
 
--- a branch stands so at a node
+-- what is known of a branch that is live, kept or gone
 abbrev pub StandsSo : Kept → BranchId → Stand → Type 0
 StandsSo k b (Is_live x) = (x.live.me ≡ b) × (branch_at k x.live.me ≡ Some x)
 StandsSo k b (Is_kept s) = (s.me ≡ b) × IsKept k s
@@ -37,15 +37,17 @@ stands_by k b (Some x) kept is stands = let me : x.live.me ≡ b = branch_is k b
 stands_by k b None (Some s) is stands = let me : s.me ≡ b = item_is standing_id k.stored.durable.kept b s stands in (me, subst (λ m. standing_at k m ≡ Some s) (sym me) stands)
 stands_by k b None None is stands = ap (λ o. live_or o (standing_at k b)) is ∙ ap kept_or_gone stands
 
+-- each branch stands so
 pub stands_so : (k : Kept) (b : BranchId) → StandsSo k b (stand_of k b)
 unfolding stand_of
 stands_so k b = stands_by k b (branch_at k b) (standing_at k b) refl refl
 
--- the root of a session is so
+-- what is known of a session's live root
 abbrev pub RootSo : Kept → ℕ → Option Branch → Type 0
 RootSo k n None = Unit {0}
 RootSo k n (Some x) = HasRoot k n x.live.me × (branch_at k x.live.me ≡ Some x)
 
+-- the root of a session is the live branch of its id
 pub branch_so : (k : Kept) (n : ℕ) (b : BranchId) (o : Option Branch) → HasRoot k n b → branch_at k b ≡ o → RootSo k n o
 branch_so k n b None has is = tt
 branch_so k n b (Some x) has is =
@@ -55,6 +57,7 @@ root_by_so : (k : Kept) (n : ℕ) (root : Option BranchId) → (session_at k.ses
 root_by_so k n None is = tt
 root_by_so k n (Some b) is = branch_so k n b (branch_at k b) is refl
 
+-- the root of each session is so
 pub root_so : (k : Kept) (n : ℕ) → RootSo k n (root_at k n)
 root_so k n = root_by_so k n (session_at k.sessions n).root refl
 

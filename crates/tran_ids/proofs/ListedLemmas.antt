@@ -99,10 +99,11 @@ module _ {A : Type 0} (id : A → BranchId) where
   put_is_push [] x none = refl
   put_is_push (y ∷ ys) x none = put_push_if y x ys (same (id y) (id x)) none (put_is_push ys x)
 
-  -- the same by the place: within the list, and behind it
+  -- the same by a place within the list
   pub put_within : (xs : List A) (x : A) → position_or_len (is_item_of id (id x)) xs < length xs → put_item id xs x ≡ slice_set xs (position_or_len (is_item_of id (id x)) xs) x
   put_within xs x lt =
       put_is_set xs x (get_or xs (position_or_len (is_item_of id (id x)) xs) x) (find_at (is_item_of id (id x)) xs ∙ slice_get-get_or xs (position_or_len (is_item_of id (id x)) xs) x lt)
 
+  -- and by the place behind it
   pub put_behind : (xs : List A) (x : A) → length xs ≤ position_or_len (is_item_of id (id x)) xs → put_item id xs x ≡ xs ++ x ∷ []
   put_behind xs x le = put_is_push xs x (find_at (is_item_of id (id x)) xs ∙ slice_get_past xs (position_or_len (is_item_of id (id x)) xs) le)
