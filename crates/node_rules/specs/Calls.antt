@@ -14,7 +14,7 @@ use Rattle.node_rules.specs.Tree.{weight, count, room}
 use Rattle.node_rules.specs.Names.{Way, Runs_here, Over, Through, Nowhere_to, way_of, passed_on, peer_of}
 use Rattle.node_rules.specs.Statement.{ran, node_after_run, after_run, answer_of_run}
 use Rattle.node_rules.specs.Sessions.{session_at, with_call, needs_rollback}
-use Rattle.node_rules.specs.Kept.{Kept, Deed, Branch, nothing, saying, post, with_branch, no_work, fresh_live}
+use Rattle.node_rules.specs.Kept.{Kept, Deed, Branch, nothing, saying, post, with_branch, fresh_live}
 
 -- at a root the session's call is pending from now on
 abbrev pub call_pends : List Session → Live → List Session

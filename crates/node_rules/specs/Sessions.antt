@@ -1,5 +1,5 @@
 -- Client sessions, from number 1: the transaction of each, its pending call, and what is answered to a COMMIT.
-use Rattle.std.specs.Prelude.{ℕ, ◌&&◌, Bool, true, false, if◌then◌else◌, List, [], ◌∷◌, unwrap_or, Option, Some, None}
+use Rattle.std.specs.Prelude.{ℕ, ◌&&◌, Bool, true, false, if◌then◌else◌, List, [], ◌∷◌, unwrap_or, Some, None}
 use Rattle.node_rules.specs.Data.{Answer, BranchId, PendingCall, Session, Finished}
 use Rattle.node_rules.specs.Data.answers
 use Rattle.node_rules.specs.Data.dones

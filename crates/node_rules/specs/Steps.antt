@@ -1,6 +1,6 @@
 -- What a turn can be: changes of what the node keeps, and then a deed, each with what came to the node and what stood
 -- there. Every law of turns goes through these steps.
-use Rattle.std.specs.Prelude.{◌≡◌, ◌≢◌, ℕ, ◌+◌, ◌-◌, ◌≤◌, ◌==◌, ◌⊎◌, Bool, true, false, List, [], ◌∷◌, find, length, flat_map, is_none, Option, Some, None, Ok}
+use Rattle.std.specs.Prelude.{◌≡◌, ◌≢◌, ℕ, ◌+◌, ◌-◌, ◌≤◌, ◌==◌, ◌⊎◌, Bool, true, false, List, [], ◌∷◌, find, length, flat_map, unwrap_or, is_none, Option, Some, None, Ok}
 use Rattle.std.specs.List.{list_any}
 use Rattle.node_rules.specs.Data.{Table, Link, Synonym, Stmt, Refusal, Answer, Done, Advice, BranchId, Decision, RedoRecord, Standing, Edge, Vote, Kind, Live, Act, Next, Place, Input, Opening, Going, ReplyFields, Post}
 use Rattle.node_rules.specs.Data.answers
@@ -30,7 +30,7 @@ use Rattle.node_rules.specs.Prepare.{act_turn, drops, collecting, with_comment, 
 use Rattle.node_rules.specs.Commit.{next_turn, acked_by, ack_counts, all_acked, is_mixed, knows_commit, is_asked_again}
 use Rattle.node_rules.specs.Recovery.{ask_answer, askings}
 use Rattle.node_rules.specs.Force.{branch_to_force, forces, may_purge, hides}
-use Rattle.node_rules.specs.Client.{begun_by, did, writes, is_used, is_link, rollback_by, statement_given_up, commit_given_up, advise}
+use Rattle.node_rules.specs.Client.{begun_by, root_at, did, writes, is_used, is_link, rollback_by, statement_given_up, commit_given_up, advise}
 use Rattle.node_rules.specs.Turn.{Is_gone, stand_of}
 
 -- client sessions are 1 to 64
@@ -94,7 +94,7 @@ pub record Is_answered (k : Kept) (input : Input) (x : Branch) (weight : Option 
 
 -- COMMIT at a root, or Prepare at another branch, begins the collect of a live branch.
 pub data Collects (k : Kept) (input : Input) (l : Live) (comment : List ℕ) : Bool → Type 0 where
-  By_commit : (n : ℕ) (given : Option (List ℕ)) → IsCall input n (stmts.Commit given) → HasRoot k n l.me → (session_at k.sessions n).code ≡ None → Collects k input l comment true
+  By_commit : (n : ℕ) (given : Option (List ℕ)) → IsCall input n (stmts.Commit given) → HasRoot k n l.me → (session_at k.sessions n).code ≡ None → comment ≡ unwrap_or given [] → Collects k input l comment true
   By_prepare : (from : BranchId) (site_below : Bool) → Came input from l.me (kinds.Prepare site_below comment) → l.phase ≡ phases.Working → Collects k input l comment site_below
 
 -- the message of an answer to Prepare
@@ -136,9 +136,9 @@ pub data Acting (k : Kept) (input : Input) : Live → Bool → Act → Type 0 wh
       → Collected (collecting (with_comment l comment) site_below) site_below a → Acting k input (collecting (with_comment l comment) site_below) site_below a
   Hears_abort : (l : Live) (from : BranchId) (site_below : Bool) → live_at k l.me ≡ Some l → Answers input l from votes.Abort site_below
       → Acting k input (voted l from votes.Abort) site_below acts.Abandon
-  Waits_on : (l : Live) (from : BranchId) (v : Vote) (site_below : Bool) → live_at k l.me ≡ Some l → Answers input l from v site_below → all_answered (voted l from v) ≡ false
+  Waits_on : (l : Live) (from : BranchId) (v : Vote) (site_below : Bool) → live_at k l.me ≡ Some l → Answers input l from v site_below → v ≢ votes.Abort → all_answered (voted l from v) ≡ false
       → Acting k input (voted l from v) site_below acts.Rest
-  Hears_last : (l : Live) (from : BranchId) (v : Vote) (site_below : Bool) (a : Act) → live_at k l.me ≡ Some l → Answers input l from v site_below → all_answered (voted l from v) ≡ true
+  Hears_last : (l : Live) (from : BranchId) (v : Vote) (site_below : Bool) (a : Act) → live_at k l.me ≡ Some l → Answers input l from v site_below → v ≢ votes.Abort → all_answered (voted l from v) ≡ true
       → Collected (voted l from v) site_below a → Acting k input (voted l from v) site_below a
   At_point : (l : Live) (from : BranchId) (a : Act) → live_at k l.me ≡ Some l → Came input from l.me kinds.CommitPoint → l.phase ≡ phases.Ready → Pointed l a
       → Acting k input l true a
@@ -213,7 +213,7 @@ abbrev pub purge_of : Bool → List ℕ → Stmt
 purge_of true id = stmts.PurgeMixed id
 purge_of false id = stmts.PurgeLost id
 
--- the statement that is complete where the session has no transaction
+-- a statement that is complete where the session has no live root
 pub data Completes : Stmt → Done → Type 0 where
   Commits_nothing : (comment : Option (List ℕ)) → Completes (stmts.Commit comment) dones.Committed
   Rolls_nothing_back : Completes stmts.Rollback dones.RolledBack
@@ -221,10 +221,11 @@ pub data Completes : Stmt → Done → Type 0 where
 -- One turn, at a node that has received what came.
 pub data Step (p : Place) (input : Input) : Kept → Deed → Type 0 where
   -- changes before a deed
-  Begins : {k : Kept} {d : Deed} (n : ℕ) (s : Stmt) → IsCall input n s → IsSession n → (session_at k.sessions n).root ≡ None → Step p input (begun_by p k n None) d → Step p input k d
-  Pends : {k : Kept} {d : Deed} (n : ℕ) (comment : Option (List ℕ)) → IsCall input n (stmts.Commit comment) → (session_at k.sessions n).code ≡ None
+  Begins : {k : Kept} {d : Deed} (n : ℕ) (s : Stmt) → IsCall input n s → IsOfRows s → IsSession n → (session_at k.sessions n).root ≡ None → Step p input (begun_by p k n None) d → Step p input k d
+  Pends : {k : Kept} {d : Deed} (n : ℕ) (l : Live) (given : Option (List ℕ)) → IsCall input n (stmts.Commit given) → HasRoot k n l.me → live_at k l.me ≡ Some l → (session_at k.sessions n).code ≡ None
       → Step p input (record k { sessions = with_call k.sessions n pending.Commit }) d → Step p input k d
-  Lets_reads_go : {k : Kept} {d : Deed} (b : BranchId) → Step p input (without_read_keys k b) d → Step p input k d
+  Lets_reads_go : {k : Kept} {d : Deed} (l : Live) (comment : List ℕ) (site_below : Bool) → live_at k l.me ≡ Some l → Collects k input l comment site_below
+      → Step p input (without_read_keys k l.me) d → Step p input k d
   Counts_ack : {k : Kept} {d : Deed} (s : Standing) (from : BranchId) → IsKept k s → Came input from s.me kinds.Ack → ack_counts s from ≡ true
       → Step p input (with_standing k (acked_by s from)) d → Step p input k d
   -- nothing, or messages alone
@@ -252,7 +253,7 @@ pub data Step (p : Place) (input : Input) : Kept → Deed → Type 0 where
   Does : {k : Kept} (s : Standing) (from : BranchId) (n : Next) → IsKept k s → Doing k.clock input s from n → Step p input k (next_turn k s from n)
   -- client calls
   Refuses : {k : Kept} (n : ℕ) (s : Option Stmt) (r : Refusal) → input ≡ inputs.Call n s → Step p input k (ending k n (answers.Refused r))
-  Completes_at_once : {k : Kept} (n : ℕ) (s : Stmt) (d : Done) → IsCall input n s → Completes s d → Step p input k (did k n d)
+  Completes_at_once : {k : Kept} (n : ℕ) (s : Stmt) (d : Done) → IsCall input n s → Completes s d → root_at k n ≡ None → Step p input k (did k n d)
   Makes_record : {k : Kept} (n : ℕ) (s : Stmt) (r : RedoRecord) (d : Done) → IsCall input n s → Makes k s r d → Step p input k (writes k n r d)
   Forces_given : {k : Kept} (n : ℕ) (id : List ℕ) (m : ℕ) (b : BranchId) → IsCall input n (stmts.CommitForce id (Some m)) → branch_to_force p.names k.stored.durable.kept id ≡ Ok b
       → Step p input k (forces k n b (decisions.Commit m) true (answers.Did dones.Committed 0))

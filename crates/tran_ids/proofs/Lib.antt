@@ -1,3 +1,4 @@
 pub mod BranchLemmas
+pub mod ListedLemmas
 pub mod NumberLemmas
 pub mod TextLemmas

@@ -1,0 +1,5 @@
+pub mod NumberedLemmas
+pub mod StandLemmas
+mod ActLemmas
+mod NextLemmas
+pub mod TurnLemmas

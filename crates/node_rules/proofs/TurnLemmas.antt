@@ -1,0 +1,320 @@
+-- Each turn is one of the steps: a lemma for each function of the rules, by its own clauses.
+use Rattle.std.proofs.Common.{◌≡◌, ◌≤◌, ℕ, ◌+◌, ◌==◌, Bool, true, false, if◌then◌else◌, List, [], find, length, Option, Some, None, Result, Ok, Err, inl, inr, refl, sym, ap, subst, ◌∙◌, arith}
+use Rattle.std.proofs.lemmas.Bool.{and_parts, cond_both}
+use Rattle.std.proofs.lemmas.Bool.Decides.{nat_tests}
+use Rattle.std.specs.List.{list_any}
+use Rattle.std.specs.Prelude.{unwrap_or}
+use Rattle.tran_ids.proofs.ListedLemmas.{put_found}
+use Rattle.node_rules.specs.Data.{Advice, Refusal, Done, Answer, BranchId, Stmt, Decision, Place, RedoRecord, Standing, Vote, Edge, Phase, Live, Kind, Input, ReplyFields, Waits, Going, Work, Admit, PendingCall, Opening}
+use Rattle.node_rules.specs.Data.dones
+use Rattle.node_rules.specs.Data.stmts
+use Rattle.node_rules.specs.Data.decisions
+use Rattle.node_rules.specs.Data.votes
+use Rattle.node_rules.specs.Data.phases
+use Rattle.node_rules.specs.Data.kinds
+use Rattle.node_rules.specs.Data.inputs
+use Rattle.node_rules.specs.Data.waiting
+use Rattle.node_rules.specs.Data.admits
+use Rattle.node_rules.specs.Data.pending
+use Rattle.node_rules.specs.Words.{is_branch}
+use Rattle.node_rules.specs.Kept.{Kept, Branch, nothing, saying, standing_id, live_at, branch_at}
+use Rattle.node_rules.specs.Names.{Way, way_of, Runs_here, Over, Through, Nowhere_to}
+use Rattle.node_rules.specs.Sessions.{session_at, with_call}
+use Rattle.node_rules.specs.Calls.{goes, statement_at, is_opening, open_by, opened_waits, opened_going, admit, takes_call, says_again, exec_by, reply_of, reply_by}
+use Rattle.node_rules.specs.Prepare.{drops, without_read_keys, collects, with_comment, prepare_in, answers_first, answer_in, commit_point_in}
+use Rattle.node_rules.specs.Commit.{on_decision, ack_counts, acked_by, counts_ack, on_ack, on_forgotten, commit_point_known, is_asked_again, on_prepare_kept}
+use Rattle.node_rules.specs.Recovery.{on_ask, recovery}
+use Rattle.node_rules.specs.Force.{branch_to_force, force_commit, force_rollback, may_purge, hides, purge}
+use Rattle.node_rules.specs.Client.{refuses, begun_by, root_at, statement_by, statement_call, commit_by, rollback_by, writes, is_used, is_link, call_turn, read_turn, statement_given_up, give_up_by}
+use Rattle.node_rules.specs.Turn.{Stand, stand_of, exec_turn, opened_turn, reply_turn, prepare_turn, answer_turn, commit_point_turn, committed_turn, rollback_turn, rolled_back_turn, ack_turn, forgotten_turn, ask_turn, kind_turn, kind_scn, clock_raised_by, heard, deed_of, Is_live, Is_kept, Is_gone}
+use Rattle.node_rules.specs.Steps.{Step, Refuses, IsSession, IsFit, Came, IsCall, IsOfRows, Asked, Collects, vote_kind, IsKept, Brings, IsMet, Makes, purge_of, By_call, By_exec, By_commit, By_prepare, By_rollback, By_parent, Commit_came, Rollback_came, Rolled_back_came, Gone_replies, Gone_aborts, Gone_rolls_back, Gone_acks, Gone_forgets, Replies_again, Opened_again, Prepared_again, Knows_commit, Knows_rollback, Is_in_doubt, Tells, Recovers, Makes_table, Makes_link, Makes_synonym, Sets_recovery, Commits_nothing, Rolls_nothing_back, Begins, Pends, Lets_reads_go, Counts_ack, Rests, Sends, Runs, Goes_nowhere, Calls, Opens, Goes_on, Hears_reply, Opens_branch, Acts, Drops_told, Drops_asked, Does, Completes_at_once, Makes_record, Forces_given, Forces_commit, Forces_rollback, Hides, Advises, Rolls_back, Gives_up, Gives_up_commit}
+use Rattle.node_rules.proofs.StandLemmas.{live_so, StandsSo, stands_so, RootSo, branch_so, root_so, call_set}
+use Rattle.node_rules.proofs.ActLemmas.{first_act_so, answer_act_so, point_act_so}
+use Rattle.node_rules.proofs.NextLemmas.{decision_so, ack_so, forgotten_so}
+
+-- what was answered is the last call
+last_so : (w : Work) (call : ℕ) → admit w call ≡ admits.Again → w.last_call ≡ call
+unfolding admit
+last_so w call is = grind (arith, nat_tests)
+
+module _ (p : Place) (input : Input) where
+  -- a message to a branch came to this one
+  here : {from to b : BranchId} {kind : Kind} → b ≡ to → Came input from to kind → Came input from b kind
+  here {from = from} {kind = kind} me came = subst (λ m. Came input from m kind) (sym me) came
+
+  -- ---- statements
+
+  goes_so : (k : Kept) (x : Branch) (s : Stmt) (given : ℕ) (way : Way) → Asked k input x s given → way_of p k.stored.durable x.live given s ≡ way → Step p input k (goes p k x s given way)
+  goes_so k x s given (Runs_here t) asked is = Runs x s given t asked is
+  goes_so k x s given (Nowhere_to r) asked is = Goes_nowhere x s given r asked is
+  goes_so k x s given (Over i table) asked is = Calls x s given i table asked is
+  goes_so k x s given (Through node link table) asked is = Opens x s given node link table asked is
+
+  statement_so : (k : Kept) (x : Branch) (s : Stmt) (given : ℕ) → Asked k input x s given → Step p input k (statement_at p k x s given)
+  statement_so k x s given asked = goes_so k x s given (way_of p k.stored.durable x.live given s) asked refl
+
+  open_so : (k : Kept) (from to : BranchId) (edge : ℕ) (root : BranchId) (depth : ℕ) (o : Option Opening) → Came input from to (kinds.Open edge root depth) → find (is_opening from edge) k.opens ≡ o
+      → Step p input k (open_by p k from edge root depth o)
+  open_so k from to edge root depth (Some o) came is = Sends _ (Opened_again to from edge root depth o came is)
+  open_so k from to edge root depth None came is = Opens_branch to from edge root depth came is
+
+  -- ---- messages of statements, at a live branch
+
+  module _ (k : Kept) (from : BranchId) (x : Branch) (live : branch_at k x.live.me ≡ Some x) where
+    waits_so : (edge strength : ℕ) (g : Going) (w : Waits) → Came input from x.live.me (kinds.Opened edge strength) → x.work.going ≡ Some g → (edge == length x.live.edges + 1) ≡ true → g.waits ≡ w
+        → Step p input k (opened_waits k x from strength g w)
+    waits_so edge strength g (waiting.ForReply i) came going new is = Rests
+    waits_so edge strength g (waiting.ForOpened link) came going new is =
+        Goes_on x from strength g link (record { edge = edge; came = came; live = live; going = going; waits = is; new = new })
+
+    opened_so : (edge strength : ℕ) (o : Option Going) → Came input from x.live.me (kinds.Opened edge strength) → x.work.going ≡ o → Step p input k (opened_going k x from edge strength o)
+    opened_so edge strength None came going = Rests
+    opened_so edge strength (Some g) came going = cond_both (edge == length x.live.edges + 1) _ _ (Step p input k) (λ new. waits_so edge strength g g.waits came going new refl) (λ old. Rests)
+
+    again_so : (call given : ℕ) (advice : Option Advice) (s : Stmt) (o : Option ReplyFields) → Came input from x.live.me (kinds.Exec call given advice s) → x.work.last_call ≡ call → x.work.reply ≡ o
+        → Step p input k (saying k (says_again x from o))
+    again_so call given advice s None came last is = Rests
+    again_so call given advice s (Some t) came last is = Sends _ (Replies_again x from call given advice s t came live last is)
+
+    exec_so : (call given : ℕ) (advice : Option Advice) (s : Stmt) (a : Admit) → Came input from x.live.me (kinds.Exec call given advice s) → admit x.work call ≡ a
+        → Step p input k (exec_by p k x from call given advice s a)
+    exec_so call given advice s admits.Ignore came is = Rests
+    exec_so call given advice s admits.Again came is = again_so call given advice s x.work.reply came (last_so x.work call is) refl
+    exec_so call given advice s admits.Run came is = statement_so k (takes_call x call advice) s given (By_exec x from call given advice s came live is)
+
+    reply_so : (call : ℕ) (weight : Option ℕ) (count : ℕ) (a : Answer) (o : Option (ℕ × Edge)) → Came input from x.live.me (kinds.Reply call weight count a) → reply_of x from call ≡ o
+        → Step p input k (reply_by k x weight count a o)
+    reply_so call weight count a None came is = Rests
+    reply_so call weight count a (Some ie) came is = Hears_reply x weight count a ie.0 ie.1 (record { from = from; call = call; came = came; live = live; waits = is })
+
+  -- ---- the prepare phase
+
+  -- what begins a collect does not look at locks
+  begins_still : (k : Kept) (b : BranchId) (l : Live) (comment : List ℕ) (site_below : Bool) → Collects k input l comment site_below → Collects (without_read_keys k b) input l comment site_below
+  begins_still k b l comment site_below (By_commit n given call has code said) = By_commit n given call has code said
+  begins_still k b l comment site_below (By_prepare from _ came working) = By_prepare from _ came working
+
+  collects_so : (k : Kept) (l : Live) (comment : List ℕ) (site_below : Bool) → live_at k l.me ≡ Some l → Collects k input l comment site_below → Step p input k (collects k (with_comment l comment) site_below)
+  collects_so k l comment site_below live begins =
+      Lets_reads_go l comment site_below live begins (Acts _ site_below _ (first_act_so (without_read_keys k l.me) input l live comment site_below (begins_still k l.me l comment site_below begins)))
+
+  module _ (k : Kept) (from : BranchId) (l : Live) (live : live_at k l.me ≡ Some l) where
+    prepare_so : (site_below : Bool) (comment : List ℕ) (phase : Phase) → Came input from l.me (kinds.Prepare site_below comment) → l.phase ≡ phase → Step p input k (prepare_in k l site_below comment phase)
+    prepare_so site_below comment phases.Working came is = collects_so k l comment site_below live (By_prepare from site_below came is)
+    prepare_so site_below comment _ came is = Rests
+
+    answer_so : (v : Vote) (kind : Kind) (phase : Phase) → vote_kind v ≡ Some kind → Came input from l.me kind → l.phase ≡ phase → Step p input k (answer_in k l from v phase)
+    answer_so v kind (phases.Collecting site_below) is_vote came is =
+        cond_both (list_any (answers_first from) l.edges) _ _ (Step p input k)
+        (λ first. Acts _ site_below _ (answer_act_so k input l live from v site_below (record { kind = kind; is_vote = is_vote; came = came; collecting = is; first = first }))) (λ later. Rests)
+    answer_so v kind _ is_vote came is = Rests
+
+    point_so : (phase : Phase) → Came input from l.me kinds.CommitPoint → l.phase ≡ phase → Step p input k (commit_point_in k l phase)
+    point_so phases.Ready came is = Acts l true _ (point_act_so k input l live from came is)
+    point_so _ came is = Rests
+
+    rolled_back_so : Came input from l.me kinds.RolledBack → Step p input k (if is_branch from l.parent then drops k l [] else nothing k)
+    rolled_back_so came = cond_both (is_branch from l.parent) _ _ (Step p input k) (λ parent. Drops_told l live (By_parent from came parent)) (λ other. Rests)
+
+    ask_so : Came input from l.me kinds.Ask → Step p input k (on_ask k l from)
+    ask_so came = cond_both (is_branch from l.parent) _ _ (Step p input k) (Drops_asked l from live came) (λ other. Sends _ (Is_in_doubt l from came live other))
+
+  -- ---- kept branches
+
+  module _ (k : Kept) (from : BranchId) (s : Standing) (kept : IsKept k s) where
+    on_decision_so : (d : Decision) → Brings input from s.me d → IsMet k.clock d → Step p input k (on_decision k s from d)
+    on_decision_so d brings met = Does s from _ kept (decision_so k.clock input s from d brings met)
+
+    counts_ack_so : Came input from s.me kinds.Ack → ack_counts s from ≡ true → Step p input k (counts_ack k (acked_by s from) from)
+    counts_ack_so came counts =
+        Counts_ack s from kept came counts
+        (Does (acked_by s from) from _ (put_found standing_id k.stored.durable.kept (acked_by s from)) (ack_so k.clock input (acked_by s from) from came (and_parts _ _ counts).0))
+
+    on_ack_so : Came input from s.me kinds.Ack → Step p input k (on_ack k s from)
+    on_ack_so came = cond_both (ack_counts s from) _ _ (Step p input k) (counts_ack_so came) (λ other. Rests)
+
+    on_forgotten_so : Came input from s.me kinds.Forgotten → Step p input k (on_forgotten k s from)
+    on_forgotten_so came = Does s from _ kept (forgotten_so k.clock input s from came)
+
+    known_so : (o : Option Decision) → Came input from s.me kinds.CommitPoint → s.decision ≡ o → Step p input k (commit_point_known k s from o)
+    known_so None came is = Rests
+    known_so (Some (decisions.Commit n)) came is = Sends _ (Knows_commit s from n came kept is)
+    known_so (Some decisions.Rollback) came is = Sends _ (Knows_rollback s from came kept is)
+
+    prepare_kept_so : (site_below : Bool) (comment : List ℕ) → Came input from s.me (kinds.Prepare site_below comment) → Step p input k (on_prepare_kept k s from)
+    prepare_kept_so site_below comment came = cond_both (is_asked_again s from) _ _ (Step p input k) (λ again. Sends _ (Prepared_again s from site_below comment came kept again)) (λ other. Rests)
+
+  -- ---- each kind of message
+
+  module _ (k : Kept) (from to : BranchId) where
+    opened_turn_so : (edge strength : ℕ) (stand : Stand) → Came input from to (kinds.Opened edge strength) → StandsSo k to stand → Step p input k (opened_turn k from edge strength stand)
+    opened_turn_so edge strength (Is_live x) came so = opened_so k from x so.1 edge strength x.work.going (here so.0 came) refl
+    opened_turn_so edge strength _ came so = Rests
+
+    exec_turn_so : (call given : ℕ) (advice : Option Advice) (s : Stmt) (stand : Stand) → Came input from to (kinds.Exec call given advice s) → StandsSo k to stand
+        → Step p input k (exec_turn p k from to call given advice s stand)
+    exec_turn_so call given advice s (Is_live x) came so = exec_so k from x so.1 call given advice s (admit x.work call) (here so.0 came) refl
+    exec_turn_so call given advice s (Is_kept y) came so = Rests
+    exec_turn_so call given advice s Is_gone came so = Sends _ (Gone_replies to from call given advice s came so)
+
+    reply_turn_so : (call : ℕ) (weight : Option ℕ) (count : ℕ) (a : Answer) (stand : Stand) → Came input from to (kinds.Reply call weight count a) → StandsSo k to stand
+        → Step p input k (reply_turn k from call weight count a stand)
+    reply_turn_so call weight count a (Is_live x) came so = reply_so k from x so.1 call weight count a (reply_of x from call) (here so.0 came) refl
+    reply_turn_so call weight count a _ came so = Rests
+
+    prepare_turn_so : (site_below : Bool) (comment : List ℕ) (stand : Stand) → Came input from to (kinds.Prepare site_below comment) → StandsSo k to stand → Step p input k (prepare_turn k from to site_below comment stand)
+    prepare_turn_so site_below comment (Is_live x) came so = prepare_so k from x.live (live_so k x.live.me x so.1) site_below comment x.live.phase (here so.0 came) refl
+    prepare_turn_so site_below comment (Is_kept s) came so = prepare_kept_so k from s so.1 site_below comment (here so.0 came)
+    prepare_turn_so site_below comment Is_gone came so = Sends _ (Gone_aborts to from site_below comment came so)
+
+    answer_turn_so : (v : Vote) (kind : Kind) (stand : Stand) → vote_kind v ≡ Some kind → Came input from to kind → StandsSo k to stand → Step p input k (answer_turn k from v stand)
+    answer_turn_so v kind (Is_live x) is_vote came so = answer_so k from x.live (live_so k x.live.me x so.1) v kind x.live.phase is_vote (here so.0 came) refl
+    answer_turn_so v kind _ is_vote came so = Rests
+
+    commit_point_turn_so : (stand : Stand) → Came input from to kinds.CommitPoint → StandsSo k to stand → Step p input k (commit_point_turn k from to stand)
+    commit_point_turn_so (Is_live x) came so = point_so k from x.live (live_so k x.live.me x so.1) x.live.phase (here so.0 came) refl
+    commit_point_turn_so (Is_kept s) came so = known_so k from s so.1 s.decision (here so.0 came) refl
+    commit_point_turn_so Is_gone came so = Sends _ (Gone_rolls_back to from (inl came) so)
+
+    committed_turn_so : (n : ℕ) (stand : Stand) → Came input from to (kinds.Committed n) → n ≤ k.clock → StandsSo k to stand → Step p input k (committed_turn k from to n stand)
+    committed_turn_so n (Is_live x) came met so = Rests
+    committed_turn_so n (Is_kept s) came met so = on_decision_so k from s so.1 (decisions.Commit n) (Commit_came n (here so.0 came)) met
+    committed_turn_so n Is_gone came met so = Sends _ (Gone_acks to from n came so)
+
+    rollback_turn_so : (stand : Stand) → Came input from to kinds.Rollback → StandsSo k to stand → Step p input k (rollback_turn k from stand)
+    rollback_turn_so (Is_live x) came so = Drops_told x.live (live_so k x.live.me x so.1) (By_rollback from (here so.0 came))
+    rollback_turn_so (Is_kept s) came so = on_decision_so k from s so.1 decisions.Rollback (Rollback_came (here so.0 came)) tt
+    rollback_turn_so Is_gone came so = Rests
+
+    rolled_back_turn_so : (stand : Stand) → Came input from to kinds.RolledBack → StandsSo k to stand → Step p input k (rolled_back_turn k from stand)
+    rolled_back_turn_so (Is_live x) came so = rolled_back_so k from x.live (live_so k x.live.me x so.1) (here so.0 came)
+    rolled_back_turn_so (Is_kept s) came so = on_decision_so k from s so.1 decisions.Rollback (Rolled_back_came (here so.0 came)) tt
+    rolled_back_turn_so Is_gone came so = Rests
+
+    ack_turn_so : (stand : Stand) → Came input from to kinds.Ack → StandsSo k to stand → Step p input k (ack_turn k from to stand)
+    ack_turn_so (Is_live x) came so = Rests
+    ack_turn_so (Is_kept s) came so = on_ack_so k from s so.1 (here so.0 came)
+    ack_turn_so Is_gone came so = Sends _ (Gone_forgets to from came so)
+
+    forgotten_turn_so : (stand : Stand) → Came input from to kinds.Forgotten → StandsSo k to stand → Step p input k (forgotten_turn k from stand)
+    forgotten_turn_so (Is_kept s) came so = on_forgotten_so k from s so.1 (here so.0 came)
+    forgotten_turn_so _ came so = Rests
+
+    ask_turn_so : (stand : Stand) → Came input from to kinds.Ask → StandsSo k to stand → Step p input k (ask_turn k from to stand)
+    ask_turn_so (Is_live x) came so = ask_so k from x.live (live_so k x.live.me x so.1) (here so.0 came)
+    ask_turn_so (Is_kept s) came so = Sends _ (Tells s from (here so.0 came) so.1)
+    ask_turn_so Is_gone came so = Sends _ (Gone_rolls_back to from (inr came) so)
+
+    kind_turn_so : (kind : Kind) (stand : Stand) → Came input from to kind → kind_scn kind ≤ k.clock → StandsSo k to stand → Step p input k (kind_turn p k from to kind stand)
+    kind_turn_so (kinds.Open edge root depth) stand came met so = open_so k from to edge root depth (find (is_opening from edge) k.opens) came refl
+    kind_turn_so (kinds.Opened edge strength) stand came met so = opened_turn_so edge strength stand came so
+    kind_turn_so (kinds.Exec call given advice s) stand came met so = exec_turn_so call given advice s stand came so
+    kind_turn_so (kinds.Reply call weight count result) stand came met so = reply_turn_so call weight count result stand came so
+    kind_turn_so (kinds.Prepare site_below comment) stand came met so = prepare_turn_so site_below comment stand came so
+    kind_turn_so kinds.Prepared stand came met so = answer_turn_so votes.Prepared kinds.Prepared stand refl came so
+    kind_turn_so kinds.ReadOnly stand came met so = answer_turn_so votes.ReadOnly kinds.ReadOnly stand refl came so
+    kind_turn_so kinds.Ready stand came met so = answer_turn_so votes.Ready kinds.Ready stand refl came so
+    kind_turn_so kinds.Abort stand came met so = answer_turn_so votes.Abort kinds.Abort stand refl came so
+    kind_turn_so kinds.CommitPoint stand came met so = commit_point_turn_so stand came so
+    kind_turn_so (kinds.Committed n) stand came met so = committed_turn_so n stand came met so
+    kind_turn_so kinds.RolledBack stand came met so = rolled_back_turn_so stand came so
+    kind_turn_so kinds.InDoubt stand came met so = Rests
+    kind_turn_so kinds.Ack stand came met so = ack_turn_so stand came so
+    kind_turn_so kinds.Forgotten stand came met so = forgotten_turn_so stand came so
+    kind_turn_so kinds.Rollback stand came met so = rollback_turn_so stand came so
+    kind_turn_so kinds.Ask stand came met so = ask_turn_so stand came so
+
+  -- ---- client calls
+
+  module _ (n : ℕ) (s : Stmt) (call : IsCall input n s) where
+    root_statement_so : (k : Kept) (code : Option ℕ) (o : Option Branch) → IsOfRows s → (session_at k.sessions n).code ≡ code → RootSo k n o → Step p input k (statement_by p k n s code o)
+    root_statement_so k code None rows is so = Rests
+    root_statement_so k (Some c) (Some x) rows is so = Refuses n (Some s) _ call
+    root_statement_so k None (Some x) rows is so = statement_so k x s 0 (By_call n x s call rows so.0 is so.1)
+
+    call_so : (k : Kept) → IsOfRows s → Step p input k (statement_call p k n s)
+    call_so k rows = root_statement_so k (session_at k.sessions n).code (root_at k n) rows refl (root_so k n)
+
+    begun_so : (k : Kept) (root : Option BranchId) → IsOfRows s → IsSession n → (session_at k.sessions n).root ≡ root → Step p input k (statement_call p (begun_by p k n root) n s)
+    begun_so k (Some b) rows fit is = call_so k rows
+    begun_so k None rows fit is = Begins n s call rows fit is (call_so (begun_by p k n None) rows)
+
+  commit_so : (k : Kept) (n : ℕ) (given : Option (List ℕ)) (code : Option ℕ) (o : Option Branch) → IsCall input n (stmts.Commit given) → (session_at k.sessions n).code ≡ code → root_at k n ≡ o → RootSo k n o
+      → Step p input k (commit_by k n (unwrap_or given []) code o)
+  commit_so k n given code None call is none so = Completes_at_once n (stmts.Commit given) dones.Committed call (Commits_nothing given) none
+  commit_so k n given (Some c) (Some x) call is root so = Refuses n (Some (stmts.Commit given)) _ call
+  commit_so k n given None (Some x) call is root so =
+      let after : session_at (with_call k.sessions n pending.Commit) n ≡ record (session_at k.sessions n) { call = pending.Commit } = call_set k.sessions n x.live.me pending.Commit so.0 in
+      Pends n x.live given call so.0 (live_so k x.live.me x so.1) is (collects_so (record k { sessions = with_call k.sessions n pending.Commit }) x.live (unwrap_or given []) true (live_so k x.live.me x so.1)
+      (By_commit n given call (ap (λ t. t.root) after ∙ so.0) (ap (λ t. t.code) after ∙ is) refl))
+
+  rollback_so : (k : Kept) (n : ℕ) (o : Option Branch) → IsCall input n stmts.Rollback → root_at k n ≡ o → RootSo k n o → Step p input k (rollback_by k n o)
+  rollback_so k n None call none so = Completes_at_once n stmts.Rollback dones.RolledBack call Rolls_nothing_back none
+  rollback_so k n (Some x) call root so = Rolls_back n x call so.0 so.1
+
+  force_commit_so : (k : Kept) (n : ℕ) (id : List ℕ) (scn : Option ℕ) (o : Result BranchId Refusal) → IsCall input n (stmts.CommitForce id scn) → branch_to_force p.names k.stored.durable.kept id ≡ o
+      → Step p input k (force_commit k n scn o)
+  force_commit_so k n id scn (Err r) call is = Refuses n (Some (stmts.CommitForce id scn)) r call
+  force_commit_so k n id (Some m) (Ok b) call is = Forces_given n id m b call is
+  force_commit_so k n id None (Ok b) call is = Forces_commit n id b call is
+
+  force_rollback_so : (k : Kept) (n : ℕ) (id : List ℕ) (o : Result BranchId Refusal) → IsCall input n (stmts.RollbackForce id) → branch_to_force p.names k.stored.durable.kept id ≡ o → Step p input k (force_rollback k n o)
+  force_rollback_so k n id (Err r) call is = Refuses n (Some (stmts.RollbackForce id)) r call
+  force_rollback_so k n id (Ok b) call is = Forces_rollback n id b call is
+
+  hides_so : (k : Kept) (n : ℕ) (mixed : Bool) (id : List ℕ) (o : Option Standing) → IsCall input n (purge_of mixed id) → find (may_purge mixed id) k.stored.durable.kept ≡ o → Step p input k (hides k n id o)
+  hides_so k n mixed id None call is = Refuses n (Some (purge_of mixed id)) _ call
+  hides_so k n mixed id (Some s) call is = Hides n mixed id s call is
+
+  purge_so : (k : Kept) (n : ℕ) (mixed : Bool) (id : List ℕ) → IsCall input n (purge_of mixed id) → Step p input k (purge k n mixed id)
+  unfolding purge
+  purge_so k n mixed id call = hides_so k n mixed id (find (may_purge mixed id) k.stored.durable.kept) call refl
+
+  -- a record where its name is free
+  makes_so : (k : Kept) (n : ℕ) (s : Stmt) (r : RedoRecord) (d : Done) (e : Refusal) (used : Bool) → IsCall input n s → (used ≡ false → Makes k s r d) → Step p input k (if used then refuses k n e else writes k n r d)
+  makes_so k n s r d e used call makes = cond_both used _ _ (Step p input k) (λ is. Refuses n (Some s) e call) (λ free. Makes_record n s r d call (makes free))
+
+  call_turn_so : (k : Kept) (n : ℕ) (s : Stmt) → IsCall input n s → IsSession n → Step p input k (call_turn p k n s)
+  call_turn_so k n (stmts.CreateTable t) call fit = makes_so k n (stmts.CreateTable t) _ _ _ (is_used k.stored.durable t.name) call (Makes_table t)
+  call_turn_so k n (stmts.CreateLink l) call fit = makes_so k n (stmts.CreateLink l) _ _ _ (is_link k.stored.durable l.name) call (Makes_link l)
+  call_turn_so k n (stmts.CreateSynonym y) call fit = makes_so k n (stmts.CreateSynonym y) _ _ _ (is_used k.stored.durable y.name) call (Makes_synonym y)
+  call_turn_so k n (stmts.Insert table columns given) call fit = begun_so n (stmts.Insert table columns given) call k (session_at k.sessions n).root tt fit refl
+  call_turn_so k n (stmts.Update table sets cs) call fit = begun_so n (stmts.Update table sets cs) call k (session_at k.sessions n).root tt fit refl
+  call_turn_so k n (stmts.Delete table cs) call fit = begun_so n (stmts.Delete table cs) call k (session_at k.sessions n).root tt fit refl
+  call_turn_so k n (stmts.Select list table cs for_update) call fit = begun_so n (stmts.Select list table cs for_update) call k (session_at k.sessions n).root tt fit refl
+  call_turn_so k n (stmts.Commit given) call fit = commit_so k n given (session_at k.sessions n).code (root_at k n) call refl refl (root_so k n)
+  call_turn_so k n (stmts.CommitForce id scn) call fit = force_commit_so k n id scn (branch_to_force p.names k.stored.durable.kept id) call refl
+  call_turn_so k n stmts.Rollback call fit = rollback_so k n (root_at k n) call refl (root_so k n)
+  call_turn_so k n (stmts.RollbackForce id) call fit = force_rollback_so k n id (branch_to_force p.names k.stored.durable.kept id) call refl
+  call_turn_so k n (stmts.Advise a) call fit = Advises n a call
+  call_turn_so k n (stmts.Recovery on) call fit = Makes_record n (stmts.Recovery on) _ _ call (Sets_recovery on)
+  call_turn_so k n (stmts.PurgeMixed id) call fit = purge_so k n true id call
+  call_turn_so k n (stmts.PurgeLost id) call fit = purge_so k n false id call
+
+  read_turn_so : (k : Kept) (n : ℕ) (s : Option Stmt) → input ≡ inputs.Call n s → IsSession n → Step p input k (read_turn p k n s)
+  read_turn_so k n None call fit = Refuses n None _ call
+  read_turn_so k n (Some s) call fit = call_turn_so k n s call fit
+
+  -- ---- calls that are given up
+
+  statement_given_up_so : (k : Kept) (n : ℕ) (o : Option Branch) → input ≡ inputs.GiveUp n → (session_at k.sessions n).call ≡ pending.Statement → RootSo k n o → Step p input k (statement_given_up k n o)
+  statement_given_up_so k n None gives is so = Rests
+  statement_given_up_so k n (Some x) gives is so = Gives_up n x gives so.0 is so.1
+
+  give_up_so : (k : Kept) (n : ℕ) (root : Option BranchId) (c : PendingCall) → input ≡ inputs.GiveUp n → (session_at k.sessions n).root ≡ root → (session_at k.sessions n).call ≡ c → Step p input k (give_up_by k n root c)
+  give_up_so k n None c gives has is = Rests
+  give_up_so k n (Some b) pending.NoCall gives has is = Rests
+  give_up_so k n (Some b) pending.Statement gives has is = statement_given_up_so k n (branch_at k b) gives is (branch_so k n b (branch_at k b) has refl)
+  give_up_so k n (Some b) pending.Commit gives has is = Gives_up_commit n b (live_at k b) gives has is refl
+
+  recovery_so : (k : Kept) → input ≡ inputs.Reco → Step p input k (recovery k)
+  unfolding recovery
+  recovery_so k reco = Sends _ (Recovers reco)
+
+-- each turn is one of the steps
+pub step_of : (p : Place) (k : Kept) (input : Input) → IsFit input → Step p input (heard k input) (deed_of p k input)
+step_of p k (inputs.Call n s) fit = read_turn_so p (inputs.Call n s) k n s refl fit
+step_of p k (inputs.GiveUp n) fit = give_up_so p (inputs.GiveUp n) k n (session_at k.sessions n).root (session_at k.sessions n).call refl refl refl
+step_of p k (inputs.Message m) fit =
+    kind_turn_so p (inputs.Message m) (clock_raised_by k m) m.from m.to m.kind (stand_of (clock_raised_by k m) m.to) (record { scn = m.scn; is = refl }) (omega arith) (stands_so (clock_raised_by k m) m.to)
+step_of p k inputs.Reco fit = recovery_so p inputs.Reco k refl
