@@ -7,10 +7,11 @@ use Rattle.node_rules.specs.Data.votes
 use Rattle.node_rules.specs.Data.walks
 use Rattle.node_rules.specs.Data.phases
 use Rattle.node_rules.specs.Data.kinds
-use Rattle.node_rules.specs.Tree.{weight, step}
+use Rattle.session_tree.specs.Tree.{weight, step}
 use Rattle.node_rules.specs.Kept.{Kept, live_at}
 use Rattle.node_rules.specs.Prepare.{root_act, collected_act, first_act_by, first_act, commit_point_act, all_answered, answer_act, with_prepare_sent, collecting, with_comment, voted}
-use Rattle.node_rules.specs.Steps.{Came, Collects, Answers, Collected, Has_nothing, Is_prepared, Awaits_point, Passes, Is_site, Has_no_site, Pointed, Points_on, Points_here, Points_nowhere, Acting, Asks_down, Has_no_children, Hears_abort, Waits_on, Hears_last, At_point}
+use Rattle.node_rules.specs.Inputs.{Came}
+use Rattle.node_rules.proofs.Steps.{Collects, Answers, Collected, Has_nothing, Is_prepared, Awaits_point, Passes, Is_site, Has_no_site, Pointed, Points_on, Points_here, Points_nowhere, Acting, Asks_down, Has_no_children, Hears_abort, Waits_on, Hears_last, At_point}
 
 module _ (l : Live) where
   root_act_so : (w : Walk) → is_none l.parent ≡ true → step l ≡ w → Collected l true (root_act w)

@@ -1,4 +1,4 @@
-pub mod NumberedLemmas
+pub mod Steps
 pub mod StandLemmas
 mod ActLemmas
 mod NextLemmas

@@ -8,8 +8,8 @@ use Rattle.node_rules.specs.Kept.{Kept, Branch, live_id, standing_id, live_at, w
 use Rattle.node_rules.specs.Sessions.{fresh_session, session_at, with_session, with_call}
 use Rattle.node_rules.specs.Client.{root_by, root_at}
 use Rattle.node_rules.specs.Turn.{Stand, kept_or_gone, live_or, stand_of, Is_live, Is_kept, Is_gone}
-use Rattle.node_rules.specs.Steps.{HasRoot, IsKept}
-use Rattle.node_rules.proofs.NumberedLemmas.{set_found}
+use Rattle.node_rules.proofs.Steps.{HasRoot, IsKept}
+use Rattle.tran_ids.proofs.NumberedLemmas.{set_found}
 
 live_by : (k : Kept) (b : BranchId) (x : Branch) (o : Option Live) → live_at k b ≡ o → with_work k o ≡ Some x → live_at k b ≡ Some x.live
 live_by k b x None is found = absurd cc

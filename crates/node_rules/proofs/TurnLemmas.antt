@@ -27,7 +27,8 @@ use Rattle.node_rules.specs.Recovery.{on_ask, recovery}
 use Rattle.node_rules.specs.Force.{branch_to_force, force_commit, force_rollback, may_purge, hides, purge}
 use Rattle.node_rules.specs.Client.{refuses, begun_by, root_at, statement_by, statement_call, commit_by, rollback_by, writes, is_used, is_link, call_turn, read_turn, statement_given_up, give_up_by}
 use Rattle.node_rules.specs.Turn.{Stand, stand_of, exec_turn, opened_turn, reply_turn, prepare_turn, answer_turn, commit_point_turn, committed_turn, rollback_turn, rolled_back_turn, ack_turn, forgotten_turn, ask_turn, kind_turn, kind_scn, clock_raised_by, heard, deed_of, Is_live, Is_kept, Is_gone}
-use Rattle.node_rules.specs.Steps.{Step, Refuses, IsSession, IsFit, Came, IsCall, IsOfRows, Asked, Collects, vote_kind, IsKept, Brings, IsMet, Makes, purge_of, By_call, By_exec, By_commit, By_prepare, By_rollback, By_parent, Commit_came, Rollback_came, Rolled_back_came, Gone_replies, Gone_aborts, Gone_rolls_back, Gone_acks, Gone_forgets, Replies_again, Opened_again, Prepared_again, Knows_commit, Knows_rollback, Is_in_doubt, Tells, Recovers, Makes_table, Makes_link, Makes_synonym, Sets_recovery, Commits_nothing, Rolls_nothing_back, Begins, Pends, Lets_reads_go, Counts_ack, Rests, Sends, Runs, Goes_nowhere, Calls, Opens, Goes_on, Hears_reply, Opens_branch, Acts, Drops_told, Drops_asked, Does, Completes_at_once, Makes_record, Forces_given, Forces_commit, Forces_rollback, Hides, Advises, Rolls_back, Gives_up, Gives_up_commit}
+use Rattle.node_rules.specs.Inputs.{IsSession, IsFit, Came, IsCall, Brings, Commit_came, Rollback_came, Rolled_back_came}
+use Rattle.node_rules.proofs.Steps.{Step, Refuses, IsOfRows, Asked, Collects, vote_kind, IsKept, IsMet, Makes, purge_of, By_call, By_exec, By_commit, By_prepare, By_rollback, By_parent, Gone_replies, Gone_aborts, Gone_rolls_back, Gone_acks, Gone_forgets, Replies_again, Opened_again, Prepared_again, Knows_commit, Knows_rollback, Is_in_doubt, Tells, Recovers, Makes_table, Makes_link, Makes_synonym, Sets_recovery, Commits_nothing, Rolls_nothing_back, Begins, Pends, Lets_reads_go, Counts_ack, Rests, Sends, Runs, Goes_nowhere, Calls, Opens, Goes_on, Hears_reply, Opens_branch, Acts, Drops_told, Drops_asked, Does, Completes_at_once, Makes_record, Forces_given, Forces_commit, Forces_rollback, Hides, Advises, Rolls_back, Gives_up, Gives_up_commit}
 use Rattle.node_rules.proofs.StandLemmas.{live_so, StandsSo, stands_so, RootSo, branch_so, root_so, call_set}
 use Rattle.node_rules.proofs.ActLemmas.{first_act_so, answer_act_so, point_act_so}
 use Rattle.node_rules.proofs.NextLemmas.{decision_so, ack_so, forgotten_so}

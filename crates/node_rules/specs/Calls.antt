@@ -10,7 +10,7 @@ use Rattle.node_rules.specs.Data.admits
 use Rattle.node_rules.specs.Data.pending
 use Rattle.node_rules.specs.Words.{same, one}
 use Rattle.node_rules.specs.Refusals.{dtx}
-use Rattle.node_rules.specs.Tree.{weight, count, room}
+use Rattle.session_tree.specs.Tree.{weight, count, room}
 use Rattle.node_rules.specs.Names.{Way, Runs_here, Over, Through, Nowhere_to, way_of, passed_on, peer_of}
 use Rattle.node_rules.specs.Statement.{ran, node_after_run, after_run, answer_of_run}
 use Rattle.node_rules.specs.Sessions.{session_at, with_call, needs_rollback}

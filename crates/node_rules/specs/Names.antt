@@ -6,7 +6,7 @@ use Rattle.node_rules.specs.Data.{Table, TableRef, Link, Synonym, Stmt, Refusal,
 use Rattle.node_rules.specs.Data.stmts
 use Rattle.node_rules.specs.Words.{same_text}
 use Rattle.node_rules.specs.Refusals.{ora, dtx}
-use Rattle.node_rules.specs.Tree.{room, most_depth}
+use Rattle.session_tree.specs.Tree.{room, most_depth}
 
 -- What a statement's table name means at a node.
 pub data Named : Type 0 where

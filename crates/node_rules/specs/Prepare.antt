@@ -15,7 +15,7 @@ use Rattle.node_rules.specs.Words.{same}
 use Rattle.row_locks.specs.Locks.{without_reads}
 use Rattle.node_rules.specs.Rows.{changes_of}
 use Rattle.node_rules.specs.Records.{with_record}
-use Rattle.node_rules.specs.Tree.{weight, step}
+use Rattle.session_tree.specs.Tree.{weight, step}
 use Rattle.node_rules.specs.Names.{peer_of}
 use Rattle.node_rules.specs.Sessions.{commit_ended, commit_answer, commit_complete, tran_refusal}
 use Rattle.node_rules.specs.Kept.{Kept, Deed, nothing, saying, to_each, to_one, sets_at, with_live, without_branch, children_of}

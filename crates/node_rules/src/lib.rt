@@ -3,14 +3,12 @@
 //! a node is proved to do exactly this, and the laws of a run are proved of it.
 #![tactic(auto)]
 
-mod laws;
 mod next;
 mod opening;
 mod post;
 mod session;
 mod work;
 
-pub use laws::turns_are_steps;
 pub use next::{Beyond, Next};
 pub use opening::{Opening, Openings};
 pub use post::{Post, Posts};

@@ -6,7 +6,7 @@ use Rattle.redo_codec.specs.Kept.{kept_after}
 use Rattle.redo_codec.specs.Durable.{durable_after}
 use Rattle.node_rules.specs.Meaning.{checked, examined, written, meant_over}
 use Rattle.node_rules.specs.Records.{applied, stored_by}
-use Rattle.node_rules.specs.Tree.{weight, step}
+use Rattle.session_tree.specs.Tree.{weight, step}
 use Rattle.stmt_run.specs.Run.{ran_over}
 use Rattle.node_rules.specs.Statement.{ran}
 use Rattle.node_rules.specs.Names.{way_of}
@@ -17,7 +17,7 @@ use Rattle.node_rules.specs.Force.{branch_to_force, purge}
 use Rattle.node_rules.specs.Turn.{turn_of, start_of, stand_of}
 use Rattle.node_rules.specs.Points.{passes, point_of}
 use Rattle.node_rules.specs.Views.{pending_rows, neighbor_rows}
-use Rattle.run_laws.specs.Net.{sent_on, delivered, lost, cut_over, joined, stopped, started}
+use Rattle.net_bag.specs.Net.{sent_on, delivered, lost, cut_over, joined, stopped, started}
 use Rattle.run_laws.specs.Disks.{struck, after_append}
 use Rattle.run_laws.specs.Cuts.{cut_by}
 use Rattle.run_laws.specs.Facts.{facts_after}

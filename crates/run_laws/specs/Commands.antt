@@ -11,7 +11,7 @@ use Rattle.run_laws.specs.Data.{Said, Command}
 use Rattle.run_laws.specs.Data.notices
 use Rattle.run_laws.specs.Data.said
 use Rattle.run_laws.specs.Data.commands
-use Rattle.run_laws.specs.Net.{may_deliver, may_repeat}
+use Rattle.net_bag.specs.Net.{may_deliver, may_repeat}
 use Rattle.run_laws.specs.Shown.{shown}
 use Rattle.run_laws.specs.Disks.{Plan, opens_gate}
 use Rattle.run_laws.specs.Calls.{call_at}

@@ -8,7 +8,7 @@ use Rattle.node_rules.specs.Turn.{turn_of}
 use Rattle.run_laws.specs.Data.{Packet, Took, Happening, Command}
 use Rattle.run_laws.specs.Data.happenings
 use Rattle.run_laws.specs.Data.commands
-use Rattle.run_laws.specs.Net.{first_flying, may_deliver, may_repeat, packet_at}
+use Rattle.net_bag.specs.Net.{first_flying, may_deliver, may_repeat, packet_at}
 use Rattle.run_laws.specs.Facts.{Facts, node_at, place_at, is_up, command_at, records_at}
 use Rattle.run_laws.specs.Telling.{Past, Telling, Call, plan_at}
 use Rattle.run_laws.specs.Past.{next}

@@ -10,7 +10,7 @@ use Rattle.run_laws.specs.Data.{Took, Turn, Happening, Entry, Command}
 use Rattle.run_laws.specs.Data.happenings
 use Rattle.run_laws.specs.Data.commands
 use Rattle.run_laws.specs.Entries.{entries_of}
-use Rattle.run_laws.specs.Net.{Net, still, sent_on, lost_at_once, delivered, lost, cut_over, lost_by_cut, joined, stopped, lost_by_stop, started, with_order}
+use Rattle.net_bag.specs.Net.{Net, still, sent_on, lost_at_once, delivered, lost, cut_over, lost_by_cut, joined, stopped, lost_by_stop, started, with_order}
 
 -- What the happenings so far leave.
 pub record Facts : Type 0 where

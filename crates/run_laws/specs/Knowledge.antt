@@ -13,7 +13,7 @@ use Rattle.node_rules.specs.Words.{same}
 use Rattle.node_rules.specs.Ids.{local_text, global_text}
 use Rattle.node_rules.specs.Names.{Behind, named_by, ref_of, passed_on, target_of}
 use Rattle.node_rules.specs.Kept.{Kept}
-use Rattle.node_rules.specs.Steps.{Came, IsCall, Brings}
+use Rattle.node_rules.specs.Inputs.{Came, IsCall, Brings}
 use Rattle.redo_codec.specs.Durable.{durable}
 use Rattle.redo_codec.specs.Rows.{toward_of}
 use Rattle.run_laws.specs.Data.{Turn, Happening}

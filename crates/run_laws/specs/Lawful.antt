@@ -8,14 +8,14 @@ use Rattle.node_rules.specs.Data.inputs
 use Rattle.node_rules.specs.Words.{numbered}
 use Rattle.node_rules.specs.Kept.{Kept}
 use Rattle.node_rules.specs.Sessions.{session_at}
-use Rattle.node_rules.specs.Steps.{IsSession}
+use Rattle.node_rules.specs.Inputs.{IsSession}
 use Rattle.node_rules.specs.Turn.{turn_of}
 use Rattle.run_laws.specs.Data.{PendingCall, Packet, Took, Turn, Happening, Command}
 use Rattle.run_laws.specs.Data.pending
 use Rattle.run_laws.specs.Data.fates
 use Rattle.run_laws.specs.Data.happenings
 use Rattle.run_laws.specs.Data.commands
-use Rattle.run_laws.specs.Net.{packet_at, is_blocked}
+use Rattle.net_bag.specs.Net.{packet_at, is_blocked}
 use Rattle.run_laws.specs.Facts.{Facts, first_facts, names_in, place_at, node_at, records_at, facts_after, facts_of}
 
 -- ---- places and commands

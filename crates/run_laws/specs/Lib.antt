@@ -1,6 +1,5 @@
 pub mod Data
 pub mod Entries
-pub mod Net
 pub mod Disks
 pub mod Facts
 pub mod Lawful

@@ -8,7 +8,7 @@ use Rattle.node_rules.specs.Points.{Point}
 use Rattle.run_laws.specs.Data.{Said, AnswerLine, Finished}
 use Rattle.run_laws.specs.Data.notices
 use Rattle.run_laws.specs.Data.said
-use Rattle.run_laws.specs.Net.{first_flying}
+use Rattle.net_bag.specs.Net.{first_flying}
 use Rattle.run_laws.specs.Facts.{Facts}
 use Rattle.run_laws.specs.Telling.{Telling, node_name}
 

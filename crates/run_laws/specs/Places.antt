@@ -6,7 +6,7 @@ use Rattle.node_rules.specs.Data.answers
 use Rattle.node_rules.specs.Data.dones
 use Rattle.node_rules.specs.Data.kinds
 use Rattle.node_rules.specs.Names.{A_table, Behind, named_by, ref_of, passed_on, target_of}
-use Rattle.node_rules.specs.Steps.{Came}
+use Rattle.node_rules.specs.Inputs.{Came}
 use Rattle.redo_codec.specs.Durable.{durable}
 use Rattle.run_laws.specs.Data.{Turn, AnswerLine, Happening}
 use Rattle.run_laws.specs.Data.said

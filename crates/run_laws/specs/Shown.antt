@@ -4,14 +4,14 @@ use Rattle.std.specs.Prelude.{ℕ, ◌+◌, ◌*◌, ◌/◌, ◌%◌, if◌then
 use Rattle.std.specs.List.{range_with_len}
 use Rattle.tran_ids.specs.Numbers.{hex_digit, hex8}
 use Rattle.node_rules.specs.Data.{Place}
-use Rattle.run_laws.specs.Data.{Packet, KindName, Command}
-use Rattle.run_laws.specs.Data.kind_names
+use Rattle.run_laws.specs.Data.{Packet, Command}
 use Rattle.run_laws.specs.Data.commands
 use Rattle.node_rules.specs.Words.{one}
 use Rattle.node_rules.specs.Ids.{decimal, name_of}
 use Rattle.node_rules.specs.Kept.{Kept}
 use Rattle.node_rules.specs.Views.{view_lines, pending_text, pending_rows, neighbor_text, neighbor_rows}
-use Rattle.run_laws.specs.Net.{flies, name_of_kind}
+use Rattle.wire_msg.specs.Names.{name_of_kind, kind_text}
+use Rattle.net_bag.specs.Net.{flies}
 use Rattle.run_laws.specs.Facts.{Facts, names_in, node_at}
 
 -- a line that says so, where there is none
@@ -28,26 +28,6 @@ shown_pending names None = []
 abbrev pub shown_neighbors : List (List ℕ) → Option Kept → List (List ℕ)
 shown_neighbors names (Some k) = view_lines (codes "LOCAL_TRAN_ID|IN_OUT|DATABASE|DBUSER_OWNER|INTERFACE") (map neighbor_text (neighbor_rows names k))
 shown_neighbors names None = []
-
--- a kind of messages as it is printed
-abbrev pub kind_text : KindName → List ℕ
-kind_text kind_names.Open = codes "OPEN"
-kind_text kind_names.Opened = codes "OPENED"
-kind_text kind_names.Exec = codes "EXEC"
-kind_text kind_names.Reply = codes "REPLY"
-kind_text kind_names.Prepare = codes "PREPARE"
-kind_text kind_names.Prepared = codes "PREPARED"
-kind_text kind_names.ReadOnly = codes "READONLY"
-kind_text kind_names.Ready = codes "READY"
-kind_text kind_names.Abort = codes "ABORT"
-kind_text kind_names.CommitPoint = codes "COMMITPOINT"
-kind_text kind_names.Committed = codes "COMMITTED"
-kind_text kind_names.RolledBack = codes "ROLLEDBACK"
-kind_text kind_names.InDoubt = codes "INDOUBT"
-kind_text kind_names.Ack = codes "ACK"
-kind_text kind_names.Forgotten = codes "FORGOTTEN"
-kind_text kind_names.Rollback = codes "ROLLBACK"
-kind_text kind_names.Ask = codes "ASK"
 
 -- a message in SHOW NET
 abbrev pub packet_text : List (List ℕ) → ℕ → Packet → List ℕ

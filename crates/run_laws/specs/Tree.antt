@@ -4,8 +4,8 @@
 use Rattle.std.specs.Prelude.{ℕ, zero, suc, Bool, true, false, if◌then◌else◌, List, [], ◌∷◌, ◌++◌, map, flat_map, slice_get, is_some, Option, Some, None}
 use Rattle.node_rules.specs.Data.{BranchId, Place, Walk}
 use Rattle.node_rules.specs.Data.walks
-use Rattle.node_rules.specs.Words.{same, place_of_greatest}
-use Rattle.node_rules.specs.Tree.{weight_by, walk_by, most_depth}
+use Rattle.node_rules.specs.Words.{same}
+use Rattle.session_tree.specs.Tree.{place_of_greatest, weight_by, walk_by, most_depth}
 use Rattle.run_laws.specs.Facts.{place_at}
 use Rattle.run_laws.specs.Branches.{Seen, Trail, Plan, Planned, seen_at, own_at, children_at}
 

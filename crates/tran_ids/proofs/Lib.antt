@@ -2,3 +2,4 @@ pub mod BranchLemmas
 pub mod ListedLemmas
 pub mod NumberLemmas
 pub mod TextLemmas
+pub mod NumberedLemmas

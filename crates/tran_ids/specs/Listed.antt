@@ -1,5 +1,6 @@
--- Lists with one item a branch: the item of a branch, an item put in its place, a branch left out.
-use Rattle.std.specs.Prelude.{Bool, not, if◌then◌else◌, List, [], ◌∷◌, find, filter, Option}
+-- Lists with one item a branch: the item of a branch, an item put in its place, a branch left out. Lists whose items have
+-- numbers, from 1.
+use Rattle.std.specs.Prelude.{ℕ, zero, suc, Bool, not, if◌then◌else◌, List, [], ◌∷◌, find, filter, slice_get, slice_set, Option, None}
 use Rattle.tran_ids.specs.declared.branch.BranchId.{BranchId}
 use Rattle.tran_ids.specs.Branch.{same}
 
@@ -19,3 +20,13 @@ put_item id (y ∷ ys) x = if same (id y) (id x) then x ∷ ys else y ∷ put_it
 -- without the items of a branch
 abbrev pub drop_item : {A : Type 0} → (A → BranchId) → List A → BranchId → List A
 drop_item id xs b = filter (λ x. not (same (id x) b)) xs
+
+-- the item of a number, from 1
+abbrev pub numbered : {A : Type 0} → List A → ℕ → Option A
+numbered xs zero = None
+numbered xs (suc i) = slice_get xs i
+
+-- with another item at a number
+abbrev pub set_numbered : {A : Type 0} → List A → ℕ → A → List A
+set_numbered xs zero y = xs
+set_numbered xs (suc i) y = slice_set xs i y

@@ -1,6 +1,6 @@
 -- Items by number, from 1: what is found after one was set.
 use Rattle.std.proofs.Common.{◌≡◌, ◌≢◌, ◌⊎◌, inl, inr, ℕ, zero, suc, List, [], ◌∷◌, length, slice_get, slice_set, Some, refl, ap, length-set}
-use Rattle.node_rules.specs.Words.{numbered, set_numbered}
+use Rattle.tran_ids.specs.Listed.{numbered, set_numbered}
 
 module _ {A : Type 0} where
   slice_found : (xs : List A) (i : ℕ) (x y : A) → slice_get xs i ≡ Some x → slice_get (slice_set xs i y) i ≡ Some y

@@ -2,12 +2,13 @@
 -- Messages are numbered from 1 in the order of sending. Each operation that loses messages answers with their numbers.
 use Rattle.std.specs.Prelude.{ℕ, ◌+◌, ◌==◌, ◌&&◌, ◌||◌, not, Bool, true, false, if◌then◌else◌, List, [], ◌∷◌, ◌++◌, map, filter, length, position, option_map, Option, Some, None}
 use Rattle.std.specs.List.{list_any}
-use Rattle.node_rules.specs.Data.{Kind, Msg}
-use Rattle.node_rules.specs.Data.kinds
-use Rattle.node_rules.specs.Words.{numbered, set_numbered}
-use Rattle.run_laws.specs.Data.{KindName, Fate, Packet}
-use Rattle.run_laws.specs.Data.kind_names
-use Rattle.run_laws.specs.Data.fates
+use Rattle.wire_msg.specs.declared.kind.KindName.{KindName}
+use Rattle.wire_msg.specs.declared.msg.Msg.{Msg}
+use Rattle.wire_msg.specs.Names.{name_of_kind, same_kind}
+use Rattle.tran_ids.specs.Listed.{numbered, set_numbered}
+use Rattle.net_bag.specs.declared.packet.Fate.{Fate}
+use Rattle.net_bag.specs.declared.packet.Fate.TheVariants as fates
+use Rattle.net_bag.specs.declared.packet.Packet.{Packet}
 
 -- an order to lose the next message of a kind from a node to a node
 pub record Order : Type 0 where
@@ -25,50 +26,6 @@ pub record Net : Type 0 where
 -- before any message
 abbrev pub still : Net
 still = record { packets = []; cuts = []; down = []; orders = [] }
-
--- the kind of a message by its name
-abbrev pub name_of_kind : Kind → KindName
-name_of_kind (kinds.Open edge root depth) = kind_names.Open
-name_of_kind (kinds.Opened edge strength) = kind_names.Opened
-name_of_kind (kinds.Exec call given advice s) = kind_names.Exec
-name_of_kind (kinds.Reply call weight count result) = kind_names.Reply
-name_of_kind (kinds.Prepare site_below comment) = kind_names.Prepare
-name_of_kind kinds.Prepared = kind_names.Prepared
-name_of_kind kinds.ReadOnly = kind_names.ReadOnly
-name_of_kind kinds.Ready = kind_names.Ready
-name_of_kind kinds.Abort = kind_names.Abort
-name_of_kind kinds.CommitPoint = kind_names.CommitPoint
-name_of_kind (kinds.Committed n) = kind_names.Committed
-name_of_kind kinds.RolledBack = kind_names.RolledBack
-name_of_kind kinds.InDoubt = kind_names.InDoubt
-name_of_kind kinds.Ack = kind_names.Ack
-name_of_kind kinds.Forgotten = kind_names.Forgotten
-name_of_kind kinds.Rollback = kind_names.Rollback
-name_of_kind kinds.Ask = kind_names.Ask
-
--- the place of a kind among the kinds
-abbrev pub place_of_kind : KindName → ℕ
-place_of_kind kind_names.Open = 1
-place_of_kind kind_names.Opened = 2
-place_of_kind kind_names.Exec = 3
-place_of_kind kind_names.Reply = 4
-place_of_kind kind_names.Prepare = 5
-place_of_kind kind_names.Prepared = 6
-place_of_kind kind_names.ReadOnly = 7
-place_of_kind kind_names.Ready = 8
-place_of_kind kind_names.Abort = 9
-place_of_kind kind_names.CommitPoint = 10
-place_of_kind kind_names.Committed = 11
-place_of_kind kind_names.RolledBack = 12
-place_of_kind kind_names.InDoubt = 13
-place_of_kind kind_names.Ack = 14
-place_of_kind kind_names.Forgotten = 15
-place_of_kind kind_names.Rollback = 16
-place_of_kind kind_names.Ask = 17
-
--- whether two kinds are the same
-abbrev pub same_kind : KindName → KindName → Bool
-same_kind a b = place_of_kind a == place_of_kind b
 
 -- whether these are the two nodes of a pair
 abbrev pub is_pair : ℕ → ℕ → ℕ × ℕ → Bool

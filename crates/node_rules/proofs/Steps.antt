@@ -21,7 +21,8 @@ use Rattle.node_rules.specs.Data.waiting
 use Rattle.node_rules.specs.Data.admits
 use Rattle.node_rules.specs.Data.pending
 use Rattle.node_rules.specs.Words.{is_branch}
-use Rattle.node_rules.specs.Tree.{weight, step}
+use Rattle.node_rules.specs.Inputs.{IsSession, IsFit, Came, IsCall, Brings}
+use Rattle.session_tree.specs.Tree.{weight, step}
 use Rattle.node_rules.specs.Names.{Runs_here, Over, Through, Nowhere_to, way_of, passed_on}
 use Rattle.node_rules.specs.Sessions.{session_at, with_call}
 use Rattle.node_rules.specs.Kept.{Kept, Deed, Branch, branch_at, live_at, standing_at, with_standing, nothing, saying, ending, post}
@@ -32,24 +33,6 @@ use Rattle.node_rules.specs.Recovery.{ask_answer, askings}
 use Rattle.node_rules.specs.Force.{branch_to_force, forces, may_purge, hides}
 use Rattle.node_rules.specs.Client.{begun_by, root_at, did, writes, is_used, is_link, rollback_by, statement_given_up, commit_given_up, advise}
 use Rattle.node_rules.specs.Turn.{Is_gone, stand_of}
-
--- client sessions are 1 to 64
-abbrev pub IsSession : ℕ → Type 0
-IsSession n = (1 ≤ n) × (n ≤ 64)
-
--- a call is of one of the sessions
-abbrev pub IsFit : Input → Type 0
-IsFit (inputs.Call n s) = IsSession n
-IsFit _ = Unit {0}
-
--- A message came from a branch to a branch.
-pub record Came (input : Input) (from to : BranchId) (kind : Kind) : Type 0 where
-  pub scn : ℕ
-  pub is : input ≡ inputs.Message (record { from = from; to = to; scn = scn; kind = kind })
-
--- a call of this session came
-abbrev pub IsCall : Input → ℕ → Stmt → Type 0
-IsCall input n s = input ≡ inputs.Call n (Some s)
 
 -- the session's transaction has this root
 abbrev pub HasRoot : Kept → ℕ → BranchId → Type 0
@@ -153,12 +136,6 @@ pub data Drops (input : Input) (l : Live) : Type 0 where
 -- a row of it is kept
 abbrev pub IsKept : Kept → Standing → Type 0
 IsKept k s = standing_at k s.me ≡ Some s
-
--- A message that brings a decision to a branch.
-pub data Brings (input : Input) (from to : BranchId) : Decision → Type 0 where
-  Commit_came : (n : ℕ) → Came input from to (kinds.Committed n) → Brings input from to (decisions.Commit n)
-  Rollback_came : Came input from to kinds.Rollback → Brings input from to decisions.Rollback
-  Rolled_back_came : Came input from to kinds.RolledBack → Brings input from to decisions.Rollback
 
 -- the clock has met a commit's SCN
 abbrev pub IsMet : ℕ → Decision → Type 0
