@@ -25,3 +25,4 @@ pub mod Knowledge
 pub mod Bounds
 pub mod Headline
 pub mod Laws
+pub mod NodeLaws
