@@ -49,11 +49,15 @@ any_found p (x ∷ xs) y is = grind (arith, any_found p xs y)
 
 -- ---- maps
 
+-- one map after another
+pub map_after : {A B C : Type 0} (f : B → C) (h : A → B) (g : A → C) → ((x : A) → f (h x) ≡ g x) → (xs : List A) → map f (map h xs) ≡ map g xs
+map_after f h g each [] = refl
+map_after f h g each (x ∷ xs) = ap (λ y. y ∷ map f (map h xs)) (each x) ∙ ap (λ ys. g x ∷ ys) (map_after f h g each xs)
+
 module _ {A B : Type 0} (f : A → B) where
   -- what is done to the items, and what is done to what they map to
   pub map_same : (h : A → A) (g : B → B) → ((x : A) → f (h x) ≡ g (f x)) → (xs : List A) → map f (map h xs) ≡ map g (map f xs)
-  map_same h g each [] = refl
-  map_same h g each (x ∷ xs) = ap (λ y. y ∷ map f (map h xs)) (each x) ∙ ap (λ ys. g (f x) ∷ ys) (map_same h g each xs)
+  map_same h g each xs = map_after f h (λ x. g (f x)) each xs ∙ sym (map_after g f (λ x. g (f x)) (λ x. refl) xs)
 
   pub filter_same : (p : B → Bool) (xs : List A) → map f (filter (λ x. p (f x)) xs) ≡ filter p (map f xs)
   filter_same p [] = refl

@@ -6,7 +6,7 @@
 #![tactic(auto)]
 
 ghost use Rattle.run_laws.specs.Laws.{BookIsOfTrace, FactsAreAlone, PastGoesOn, LawfulGoesOn, RunsArePlayed};
-ghost use Rattle.run_laws.specs.NodeLaws.{ClocksRise, ClocksCover, HoldersAreThere};
+ghost use Rattle.run_laws.specs.NodeLaws.{ClocksRise, ClocksCover, HoldersAreThere, RecordsAreKept};
 
 /// The book that the facts keep is the book of the trace.
 pub fn book_is_of_trace()
@@ -47,4 +47,9 @@ pub fn clocks_cover()
 /// Each lock of a node is held by a branch that is live there, or in doubt.
 pub fn holders_are_there()
     ensures { HoldersAreThere }
+{}
+
+/// What a node stores is what its records make of nothing, apart from the Acks that it heard.
+pub fn records_are_kept()
+    ensures { RecordsAreKept }
 {}
