@@ -6,7 +6,7 @@
 #![tactic(auto)]
 
 ghost use Rattle.run_laws.specs.Laws.{BookIsOfTrace, FactsAreAlone, PastGoesOn, LawfulGoesOn, RunsArePlayed};
-ghost use Rattle.run_laws.specs.NodeLaws.{ClocksRise, ClocksCover, HoldersAreThere, RecordsAreKept};
+ghost use Rattle.run_laws.specs.NodeLaws.{ClocksRise, ClocksCover, HoldersAreThere, RecordsAreKept, CommitsAreKnown, CommitsAreRecorded};
 
 /// The book that the facts keep is the book of the trace.
 pub fn book_is_of_trace()
@@ -52,4 +52,14 @@ pub fn holders_are_there()
 /// What a node stores is what its records make of nothing, apart from the Acks that it heard.
 pub fn records_are_kept()
     ensures { RecordsAreKept }
+{}
+
+/// A branch tells Committed only where its row knows that commit, or the record of the same turn says it.
+pub fn commits_are_known()
+    ensures { CommitsAreKnown }
+{}
+
+/// A branch tells Committed only where a record of its node says that commit, the one of the same turn counted.
+pub fn commits_are_recorded()
+    ensures { CommitsAreRecorded }
 {}
