@@ -1,6 +1,6 @@
 -- Lists: what holds of each item, whether an item passes, how many are of a branch, maps, and two lists that are set at
 -- one number.
-use Rattle.std.proofs.Common.{◌≡◌, ℕ, zero, suc, ◌+◌, ◌≤◌, ◌||◌, not, Bool, true, false, if◌then◌else◌, List, [], ◌∷◌, ◌++◌, map, length, filter, find, Option, Some, None, inl, inr, refl, sym, ap, ◌∙◌, arith}
+use Rattle.std.proofs.Common.{◌≡◌, ℕ, zero, suc, ◌+◌, ◌≤◌, ◌||◌, not, Bool, true, false, if◌then◌else◌, List, [], ◌∷◌, ◌++◌, map, length, filter, find, Option, Some, None, inl, inr, refl, sym, ap, subst, ◌∙◌, arith}
 use Rattle.std.proofs.lemmas.Bool.{cond_both}
 use Rattle.std.specs.Prelude.{◌⊎◌}
 use Rattle.std.specs.List.{AllByRecursion, list_any}
@@ -117,14 +117,25 @@ module _ {A : Type 0} (id : A → BranchId) where
         (λ later. ap (λ n. if is_item_of id b y then 1 + n else n) (count_put_in ys x) ∙ two_counts (is_item_of id b y) (is_item_of id b x) (count_of id b ys))
 
     -- one that is found counts
-    pub count_found : (xs : List A) (x : A) → item_at id xs b ≡ Some x → 1 ≤ count_of id b xs
+    count_found : (xs : List A) (x : A) → item_at id xs b ≡ Some x → 1 ≤ count_of id b xs
     count_found [] x found = absurd cc
     count_found (y ∷ ys) x found = grind (arith, count_found ys x)
 
     -- and one that is dropped does not
-    pub count_dropped : (xs : List A) → count_of id b (drop_item id xs b) ≡ 0
+    count_dropped : (xs : List A) → count_of id b (drop_item id xs b) ≡ 0
     count_dropped [] = refl
     count_dropped (x ∷ xs) = grind (arith, count_dropped xs)
+
+    -- so one that is there may go elsewhere
+    pub count_moved : (xs : List A) (m : BranchId) (x : A) → item_at id xs m ≡ Some x → (if same m b then 1 else 0) + count_of id b (drop_item id xs m) ≤ count_of id b xs
+    count_moved xs m x found = moved (same m b) refl
+      where
+        moved : (here : Bool) → same m b ≡ here → (if here then 1 else 0) + count_of id b (drop_item id xs m) ≤ count_of id b xs
+        moved true is =
+            let it : m ≡ b = equal_from_same m b is in
+            let gone : count_of id b (drop_item id xs m) ≡ 0 = subst (λ c. count_of id b (drop_item id xs c) ≡ 0) (sym it) (count_dropped xs) in
+            omega (arith, gone, count_found xs x (subst (λ c. item_at id xs c ≡ Some x) it found))
+        moved false is = omega (arith, count_filter (λ y. not (same (id y) m)) xs)
 
 -- ---- items by number
 

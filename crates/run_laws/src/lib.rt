@@ -6,7 +6,7 @@
 #![tactic(auto)]
 
 ghost use Rattle.run_laws.specs.Laws.{BookIsOfTrace, FactsAreAlone, PastGoesOn, LawfulGoesOn, RunsArePlayed};
-ghost use Rattle.run_laws.specs.NodeLaws.{ClocksRise, ClocksCover, HoldersAreThere, RecordsAreKept, CommitsAreKnown, CommitsAreRecorded};
+ghost use Rattle.run_laws.specs.NodeLaws.{ClocksRise, ClocksCover, HoldersAreThere, RecordsAreKept, IdsAreFresh, CommitsAreKnown, CommitsAreRecorded};
 
 /// The book that the facts keep is the book of the trace.
 pub fn book_is_of_trace()
@@ -62,4 +62,9 @@ pub fn commits_are_known()
 /// A branch tells Committed only where a record of its node says that commit, the one of the same turn counted.
 pub fn commits_are_recorded()
     ensures { CommitsAreRecorded }
+{}
+
+/// A branch has one row at a node or is live there once, and not both.
+pub fn ids_are_fresh()
+    ensures { IdsAreFresh }
 {}
