@@ -17,7 +17,8 @@ use Rattle.run_laws.specs.Data.happenings
 use Rattle.run_laws.specs.Facts.{Facts, place_at}
 use Rattle.run_laws.specs.Lawful.{MayHappen}
 use Rattle.run_laws.specs.NodeLaws.{IsLater, ClockRises, ClocksRise, ClocksCover}
-use Rattle.run_laws.proofs.NodeLemmas.{Serves, turn_of_node, serves, each_that_may, KeepsAlone, kept_alone}
+use Rattle.run_laws.proofs.LawfulLemmas.{Serves, turn_of_node, serves}
+use Rattle.run_laws.proofs.NodeLemmas.{each_that_may, KeepsAlone, kept_alone}
 
 -- ---- it rises
 
@@ -63,7 +64,7 @@ served_later p k u serves = (now.0, later serves.wrote)
     later (inr same) = subst (λ w. IfSome w (IsLater k.clock)) (sym same) now.1
 
 clock_rises : (places : List Place) (asked : List Command) (f : Facts) (h : Happening) → MayHappen places asked f h → ClockRises places f h
-clock_rises places asked f (happenings.Turn u) may = λ k up. served_later (place_at places u.node) k u (serves places asked f u k (turn_of_node places asked f u k may up))
+clock_rises places asked f (happenings.Turn u) may = λ k up. served_later (place_at places u.node) k u (serves places f u k (turn_of_node places f u k asked may up))
 clock_rises places asked f _ may = tt
 
 pub clocks_rise : ClocksRise

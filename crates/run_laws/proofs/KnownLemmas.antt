@@ -25,7 +25,8 @@ use Rattle.run_laws.specs.Lawful.{MayHappen}
 use Rattle.run_laws.specs.Knowledge.{Commits, IsRecorded}
 use Rattle.run_laws.specs.NodeLaws.{KnowsAt, CommitsNow, MayTell, TellsRecorded, TellsRecords, CommitsAreRecorded}
 use Rattle.run_laws.proofs.ListLemmas.{all_weaker}
-use Rattle.run_laws.proofs.NodeLemmas.{Serves, serves, NodesAre, each_of_nodes}
+use Rattle.run_laws.proofs.LawfulLemmas.{Serves, serves}
+use Rattle.run_laws.proofs.NodeLemmas.{NodesAre, each_of_nodes}
 use Rattle.run_laws.proofs.StoredLemmas.{StoresOf, stores}
 use Rattle.run_laws.proofs.TellLemmas.{known_unacked, turn_tells}
 
@@ -151,7 +152,7 @@ turn_recorded rs k u p stored serves = so serves.sent
         (all_weaker _ _ (λ m told. may_recorded rs k (deed_of p k u.input).wrote m.from m.kind stored told) _ (turn_tells p k u serves)))
 
 tells_records : (places : List Place) (asked : List Command) (f : Facts) (h : Happening) → NodesAre (λ p rs k. StoresOf rs k) places f → MayHappen places asked f h → TellsRecords places f h
-tells_records places asked f (happenings.Turn u) nodes may = turn_recorded (records_at f u.node) may.0 u (place_at places u.node) (nodes u.node may.0 may.1.up) (serves places asked f u may.0 may.1)
+tells_records places asked f (happenings.Turn u) nodes may = turn_recorded (records_at f u.node) may.0 u (place_at places u.node) (nodes u.node may.0 may.1.up) (serves places f u may.0 may.1)
 tells_records places asked f _ nodes may = tt
 
 pub commits_are_recorded : CommitsAreRecorded

@@ -32,7 +32,8 @@ use Rattle.run_laws.specs.Lawful.{MayHappen}
 use Rattle.run_laws.specs.NodeLaws.{KnowsAt, CommitsNow, MayTell, TellsItsOwn, CommitsAreKnown}
 use Rattle.run_laws.proofs.ListLemmas.{all_weaker, all_append, all_map, all_each, all_put}
 use Rattle.run_laws.proofs.AckLemmas.{unacked_rows, rows_acked}
-use Rattle.run_laws.proofs.NodeLemmas.{Serves, turn_of_node, serves, each_that_may}
+use Rattle.run_laws.proofs.LawfulLemmas.{Serves, turn_of_node, serves}
+use Rattle.run_laws.proofs.NodeLemmas.{each_that_may}
 
 -- ---- what rows know
 
@@ -217,7 +218,7 @@ sent_so p k u serves = so serves.sent
     so (inr owed) = subst MaySend (sym owed.1) (turn_tells p k u serves)
 
 tells_its_own : (places : List Place) (asked : List Command) (f : Facts) (h : Happening) → MayHappen places asked f h → TellsItsOwn places f h
-tells_its_own places asked f (happenings.Turn u) may = λ k up. sent_so (place_at places u.node) k u (serves places asked f u k (turn_of_node places asked f u k may up))
+tells_its_own places asked f (happenings.Turn u) may = λ k up. sent_so (place_at places u.node) k u (serves places f u k (turn_of_node places f u k asked may up))
 tells_its_own places asked f _ may = tt
 
 pub commits_are_known : CommitsAreKnown
