@@ -1,11 +1,10 @@
 -- No branch id is given out twice: a branch has one row at a node or is live there once, and not both.
-use Rattle.std.proofs.Common.{◌≡◌, ℕ, ◌+◌, ◌-◌, ◌<◌, ◌≤◌, not, Bool, true, false, if◌then◌else◌, List, [], ◌∷◌, ◌++◌, length, Option, Some, None, refl, sym, ap, subst, ◌∙◌, append-nil, arith}
+use Rattle.std.proofs.Common.{◌≡◌, ℕ, ◌+◌, ◌≤◌, not, true, false, if◌then◌else◌, List, [], ◌∷◌, ◌++◌, length, Some, None, refl, sym, ap, subst, ◌∙◌, arith}
 use Rattle.std.specs.Prelude.{IfSome}
 use Rattle.std.specs.Option.{option_to_list}
 use Rattle.std.proofs.lemmas.List.{length-append}
 use Rattle.tran_ids.proofs.NumberedLemmas.{set_length}
-use Rattle.redo_codec.specs.Durable.{durable_after}
-use Rattle.node_rules.specs.Data.{Stmt, Done, BranchId, RedoRecord, Standing, Live, Place, Input}
+use Rattle.node_rules.specs.Data.{BranchId, RedoRecord, Live, Place, Input}
 use Rattle.node_rules.specs.Data.params
 use Rattle.node_rules.specs.Data.decisions
 use Rattle.node_rules.specs.Data.records
@@ -14,7 +13,7 @@ use Rattle.node_rules.specs.declared.next.Next.TheVariants as nexts
 use Rattle.node_rules.specs.declared.session.PendingCall.TheVariants as pending
 use Rattle.node_rules.specs.declared.session.Session.{Session}
 use Rattle.node_rules.specs.Words.{same, put_item, drop_item, set_numbered}
-use Rattle.node_rules.specs.Kept.{Kept, Stored, Deed, live_id, standing_id}
+use Rattle.node_rules.specs.Kept.{Kept, Deed, live_id, standing_id}
 use Rattle.node_rules.specs.Sessions.{session_at, with_root, no_transaction, with_call}
 use Rattle.node_rules.specs.Records.{applied, nothing_stored, stored_by}
 use Rattle.node_rules.specs.Inputs.{IsSession}
@@ -28,12 +27,13 @@ use Rattle.node_rules.proofs.Steps as steps
 use Rattle.node_rules.proofs.Steps.{Step, Makes}
 use Rattle.node_rules.proofs.StandLemmas.{live_so}
 use Rattle.run_laws.specs.Lawful.{boots}
-use Rattle.run_laws.specs.NodeLaws.{count_of, IdsAreFresh}
+use Rattle.run_laws.specs.NodeLaws.{IdsAreFresh}
 use Rattle.run_laws.proofs.ListLemmas.{count_put, count_filter, count_moved}
-use Rattle.run_laws.proofs.LiveLemmas.{IsLive, asked_live, acting_live}
+use Rattle.run_laws.proofs.StepLemmas.{IsLive, asked_live, acting_live, made_so}
 use Rattle.run_laws.proofs.SessionLemmas.{seqs, seq_at, session_seq, set_seqs, still_seqs, call_seqs, needs_seqs, ended_seqs, pends_seqs, answered_seqs, heard_seqs, decided_seqs, abandoned_seqs, ended_if_seqs}
 use Rattle.run_laws.proofs.CountLemmas.{rows_of, makes_row, rows_applied, rows_unacked}
-use Rattle.run_laws.proofs.IdLemmas.{seqs_rise, seq_set, Given, Before, In_session, Over_link, given_before, in_use, Ids, fewer, grown}
+use Rattle.run_laws.proofs.BootLemmas.{IsOfTurn, step_of_turn, booted, boots_started, boots_with, BootIs, boot_with}
+use Rattle.run_laws.proofs.IdLemmas.{seqs_rise, seq_set, Given, Before, In_session, Over_link, given_before, Ids, fewer, grown}
 use Rattle.run_laws.proofs.StoredLemmas.{StoresOf, stored_with, step_stores_of, start_stores}
 use Rattle.run_laws.proofs.NodeLemmas.{Keeps, node_keeps}
 
@@ -95,12 +95,6 @@ module _ (boot : ℕ) where
   -- ---- steps
 
   module _ (p : Place) (input : Input) where
-    made_ids : {k : Kept} {s : Stmt} {r : RedoRecord} {d : Done} → Makes k s r d → IdsAt k → Ids boot (seqs k.sessions) (length k.opens) (applied k.stored r).durable.kept k.lives
-    made_ids {k = k} (steps.Makes_table t free) ids = recorded k ids (records.Table t) k.sessions (λ b. refl) refl
-    made_ids {k = k} (steps.Makes_link l free) ids = recorded k ids (records.Link l) k.sessions (λ b. refl) refl
-    made_ids {k = k} (steps.Makes_synonym y free) ids = recorded k ids (records.Synonym y) k.sessions (λ b. refl) refl
-    made_ids {k = k} (steps.Sets_recovery on) ids = recorded k ids (records.Param (params.Recovery on)) k.sessions (λ b. refl) refl
-
     ids_on : {k : Kept} {d : Deed} → Step p input k d → k.stored.durable.boot ≡ boot → IdsAt k → IdsAt d.after
     ids_on (steps.Begins {k = k} n s call rows fit none step) is ids = ids_on step is (begun_ids p k n is fit ids)
     ids_on (steps.Pends {k = k} n l given call has live code step) is ids = ids_on step is (still k ids (with_call k.sessions n pending.Commit) (call_seqs k.sessions n pending.Commit))
@@ -135,7 +129,9 @@ module _ (boot : ℕ) where
     ids_on (steps.Does {k = k} s from (nexts.End d) kept why) is ids = recorded k ids (records.Ended s.me d) _ (λ b. refl) (decided_seqs k.sessions s.me d)
     ids_on (steps.Does {k = k} s from (nexts.Meet d mixed) kept why) is ids = recorded k ids (records.Met s.me d mixed) _ (λ b. refl) (decided_seqs k.sessions s.me d)
     ids_on (steps.Does {k = k} s from nexts.Forget kept why) is ids = recorded k ids (records.Forgot s.me) _ (λ b. refl) (ended_seqs k.sessions s.me)
-    ids_on (steps.Makes_record n s r d call makes) is ids = made_ids makes ids
+    ids_on (steps.Makes_record {k = k} n s r d call makes) is ids =
+        made_so (λ x. Ids boot (seqs k.sessions) (length k.opens) (applied k.stored x).durable.kept k.lives) (λ t. recorded k ids (records.Table t) k.sessions (λ b. refl) refl) (λ l. recorded k ids (records.Link l) k.sessions (λ b. refl) refl)
+        (λ y. recorded k ids (records.Synonym y) k.sessions (λ b. refl) refl) (λ on. recorded k ids (records.Param (params.Recovery on)) k.sessions (λ b. refl) refl) makes
     ids_on (steps.Forces_given {k = k} n id m b call named) is ids = recorded k ids (records.Forced b (decisions.Commit m) true) _ (λ c. refl) (ended_seqs k.sessions b)
     ids_on (steps.Forces_commit {k = k} n id b call named) is ids = recorded k ids (records.Forced b (decisions.Commit (k.clock + 1)) false) _ (λ c. refl) (ended_seqs k.sessions b)
     ids_on (steps.Forces_rollback {k = k} n id b call named) is ids = recorded k ids (records.Forced b decisions.Rollback false) _ (λ c. refl) (ended_seqs k.sessions b)
@@ -149,65 +145,6 @@ module _ (boot : ℕ) where
     ids_on _ is ids = ids
 
 -- ---- starts
-
--- only a start writes Boot
-abbrev IsOfTurn : RedoRecord → Type 0
-IsOfTurn (records.Boot n) = ⊥
-IsOfTurn _ = Unit {0}
-
-made_of_turn : {k : Kept} {s : Stmt} {r : RedoRecord} {d : Done} → Makes k s r d → IsOfTurn r
-made_of_turn (steps.Makes_table t free) = tt
-made_of_turn (steps.Makes_link l free) = tt
-made_of_turn (steps.Makes_synonym y free) = tt
-made_of_turn (steps.Sets_recovery on) = tt
-
-step_of_turn : (p : Place) (input : Input) {k : Kept} {d : Deed} → Step p input k d → IfSome d.wrote IsOfTurn
-step_of_turn p input (steps.Begins n s call rows fit none step) = step_of_turn p input step
-step_of_turn p input (steps.Pends n l given call has live code step) = step_of_turn p input step
-step_of_turn p input (steps.Lets_reads_go l comment site_below live begins step) = step_of_turn p input step
-step_of_turn p input (steps.Counts_ack s from kept came counts step) = step_of_turn p input step
-step_of_turn p input (steps.Acts l site_below acts.Rest why) = tt
-step_of_turn p input (steps.Does s from nexts.Rest kept why) = tt
-step_of_turn p input (steps.Makes_record n s r d call makes) = made_of_turn makes
-step_of_turn p input (steps.Gives_up_commit n b None gives has calls gone) = tt
-step_of_turn p input _ = tt
-
-boot_applied : (s : Stored) (r : RedoRecord) → IsOfTurn r → (applied s r).durable.boot ≡ s.durable.boot
-unfolding applied durable_after
-boot_applied s (records.Boot n) is = absurd is
-boot_applied s (records.Table t) is = refl
-boot_applied s (records.Link l) is = refl
-boot_applied s (records.Synonym y) is = refl
-boot_applied s (records.Param (params.Recovery on)) is = refl
-boot_applied s (records.Param (params.Strength strength)) is = refl
-boot_applied s _ is = refl
-
-booted : (s : Stored) (n : ℕ) → (applied s (records.Boot n)).durable.boot ≡ n
-unfolding applied durable_after
-booted s n = refl
-
-boots_last : (rs : List RedoRecord) (r : RedoRecord) → IsOfTurn r → boots (rs ++ r ∷ []) ≡ boots rs
-boots_last [] (records.Boot n) is = absurd is
-boots_last [] _ is = refl
-boots_last (records.Boot n ∷ rs) r is = ap (λ m. 1 + m) (boots_last rs r is)
-boots_last (_ ∷ rs) r is = boots_last rs r is
-
-boots_started : (rs : List RedoRecord) (n : ℕ) → boots (rs ++ records.Boot n ∷ []) ≡ boots rs + 1
-boots_started [] n = refl
-boots_started (records.Boot m ∷ rs) n = let is : boots (rs ++ records.Boot n ∷ []) ≡ boots rs + 1 = boots_started rs n in omega (arith, is)
-boots_started (_ ∷ rs) n = boots_started rs n
-
-boots_with : (rs : List RedoRecord) (w : Option RedoRecord) → IfSome w IsOfTurn → boots (rs ++ option_to_list w) ≡ boots rs
-boots_with rs None is = ap boots (append-nil rs)
-boots_with rs (Some r) is = boots_last rs r is
-
--- what records say of the start
-abbrev BootIs : List RedoRecord → Type 0
-BootIs rs = (stored_by nothing_stored rs).durable.boot ≡ boots rs
-
-boot_with : (rs : List RedoRecord) (w : Option RedoRecord) → IfSome w IsOfTurn → BootIs rs → BootIs (rs ++ option_to_list w)
-boot_with rs None is boot = ap (λ s. s.durable.boot) (stored_with rs None) ∙ (boot ∙ sym (boots_with rs None is))
-boot_with rs (Some r) is boot = ap (λ s. s.durable.boot) (stored_with rs (Some r)) ∙ (boot_applied (stored_by nothing_stored rs) r is ∙ (boot ∙ sym (boots_last rs r is)))
 
 -- The ids on a disk are of starts so far.
 record Disk (rs : List RedoRecord) : Type 0 where
@@ -238,7 +175,7 @@ start_of_disk rs boot disk next =
     let starts : boots (rs ++ records.Boot boot ∷ []) ≡ boots rs + 1 = boots_started rs boot in
     let rows : (b : BranchId) → rows_of b (stored_by nothing_stored (rs ++ records.Boot boot ∷ [])).durable.kept ≤ rows_of b (stored_by nothing_stored rs).durable.kept
     = λ b. let same_rows : rows_of b (stored_by nothing_stored (rs ++ records.Boot boot ∷ [])).durable.kept ≡ rows_of b (applied (stored_by nothing_stored rs) (records.Boot boot)).durable.kept
-      = ap (λ s. rows_of b s.durable.kept) now in omega (arith, same_rows, rows_applied b (stored_by nothing_stored rs) (records.Boot boot)) in
+    = ap (λ s. rows_of b s.durable.kept) now in omega (arith, same_rows, rows_applied b (stored_by nothing_stored rs) (records.Boot boot)) in
     record {
       boot = ap (λ s. s.durable.boot) now ∙ (booted (stored_by nothing_stored rs) boot ∙ (next ∙ sym starts));
       stored = start_stores (rs ++ records.Boot boot ∷ []);

@@ -1,23 +1,22 @@
 -- What the rows of a node know, its records say: a branch tells Committed only where a record of its node says that commit.
-use Rattle.std.proofs.Common.{◌≡◌, ℕ, not, Bool, true, false, if◌then◌else◌, List, [], ◌∷◌, ◌++◌, map, Option, Some, None, inl, inr, refl, sym, subst, ◌∙◌}
-use Rattle.std.proofs.lemmas.Bool.{cond_both}
+use Rattle.std.proofs.Common.{◌≡◌, ℕ, not, Bool, true, false, if◌then◌else◌, List, [], ◌∷◌, ◌++◌, Option, Some, None, inl, inr, refl, sym, subst, ◌∙◌}
 use Rattle.std.specs.Prelude.{◌⊎◌}
 use Rattle.std.specs.Option.{option_to_list}
 use Rattle.std.specs.List.{AllByRecursion}
 use Rattle.tran_ids.proofs.BranchLemmas.{equal_from_same}
 use Rattle.tran_ids.specs.Branch.{branch_below}
-use Rattle.redo_codec.specs.Kept.{stands_at, add_kept, keep_decided, ended_commit, forced_state, in_state, met_as, forgot_as, is_done, hidden_as, kept_after}
+use Rattle.redo_codec.specs.Kept.{stands_at, add_kept, ended_commit, forced_state, in_state, met_as, forgot_as, is_done, hidden_as, kept_after}
 use Rattle.redo_codec.specs.Durable.{durable_after}
 use Rattle.redo_codec.specs.Rows.{sealed_as, decided_as, has_neighbors}
-use Rattle.node_rules.specs.Data.{BranchId, Decision, Kind, Msg, RedoRecord, Standing, Place}
+use Rattle.node_rules.specs.Data.{BranchId, Decision, Kind, RedoRecord, Standing, Place}
 use Rattle.node_rules.specs.Data.decisions
 use Rattle.node_rules.specs.Data.kinds
 use Rattle.node_rules.specs.Data.params
 use Rattle.node_rules.specs.Data.records
 use Rattle.node_rules.specs.Words.{change_where, drop_where}
-use Rattle.node_rules.specs.Kept.{Kept, Stored, Deed}
+use Rattle.node_rules.specs.Kept.{Kept, Stored}
 use Rattle.node_rules.specs.Records.{applied, nothing_stored, stored_by}
-use Rattle.node_rules.specs.Turn.{deed_of, stamped}
+use Rattle.node_rules.specs.Turn.{deed_of}
 use Rattle.run_laws.specs.Data.{Turn, Happening, Command}
 use Rattle.run_laws.specs.Data.happenings
 use Rattle.run_laws.specs.Facts.{Facts, place_at, records_at}
@@ -25,7 +24,7 @@ use Rattle.run_laws.specs.Lawful.{MayHappen}
 use Rattle.run_laws.specs.Knowledge.{Commits, IsRecorded}
 use Rattle.run_laws.specs.NodeLaws.{KnowsAt, CommitsNow, MayTell, TellsRecorded, TellsRecords, CommitsAreRecorded}
 use Rattle.run_laws.proofs.ListLemmas.{all_weaker}
-use Rattle.run_laws.proofs.LawfulLemmas.{Serves, serves}
+use Rattle.run_laws.proofs.LawfulLemmas.{Serves, of_sent, serves}
 use Rattle.run_laws.proofs.NodeLemmas.{NodesAre, each_of_nodes}
 use Rattle.run_laws.proofs.StoredLemmas.{StoresOf, stores}
 use Rattle.run_laws.proofs.TellLemmas.{known_unacked, turn_tells}
@@ -140,16 +139,9 @@ may_recorded rs k w b (kinds.Committed n) stored (inr knows) = recorded_before b
 may_recorded rs k w b _ stored may = tt
 
 turn_recorded : (rs : List RedoRecord) (k : Kept) (u : Turn) (p : Place) → StoresOf rs k → Serves p k u → AllByRecursion (λ m. TellsRecorded (rs ++ option_to_list u.wrote) m.from m.kind) u.sent
-turn_recorded rs k u p stored serves = so serves.sent
-  where
-    Recorded : Option RedoRecord → List Msg → Type 0
-    Recorded w ms = AllByRecursion (λ m. TellsRecorded (rs ++ option_to_list w) m.from m.kind) ms
-
-    so : (u.sent ≡ []) ⊎ ((u.wrote ≡ (deed_of p k u.input).wrote) × (u.sent ≡ map (stamped (deed_of p k u.input).after.clock) (deed_of p k u.input).says)) → Recorded u.wrote u.sent
-    so (inl none) = subst (Recorded u.wrote) (sym none) tt
-    so (inr owed) =
-        subst (λ w. Recorded w u.sent) (sym owed.0) (subst (Recorded (deed_of p k u.input).wrote) (sym owed.1)
-        (all_weaker _ _ (λ m told. may_recorded rs k (deed_of p k u.input).wrote m.from m.kind stored told) _ (turn_tells p k u serves)))
+turn_recorded rs k u p stored serving =
+    of_sent p k u serving (λ w ms. AllByRecursion (λ m. TellsRecorded (rs ++ option_to_list w) m.from m.kind) ms) tt
+    (all_weaker _ _ (λ m told. may_recorded rs k (deed_of p k u.input).wrote m.from m.kind stored told) _ (turn_tells p k u serving))
 
 tells_records : (places : List Place) (asked : List Command) (f : Facts) (h : Happening) → NodesAre (λ p rs k. StoresOf rs k) places f → MayHappen places asked f h → TellsRecords places f h
 tells_records places asked f (happenings.Turn u) nodes may = turn_recorded (records_at f u.node) may.0 u (place_at places u.node) (nodes u.node may.0 may.1.up) (serves places f u may.0 may.1)

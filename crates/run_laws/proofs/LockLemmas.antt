@@ -1,28 +1,28 @@
 -- Each lock of a node is held by a branch that is live there, or in doubt.
-use Rattle.std.proofs.Common.{◌≡◌, ℕ, ◌||◌, not, Bool, true, false, if◌then◌else◌, List, [], ◌∷◌, ◌++◌, map, filter, fold, Some, None, refl, sym, ap, subst, ◌∙◌, true≢false}
+use Rattle.std.proofs.Common.{◌≡◌, ℕ, ◌||◌, not, Bool, true, false, if◌then◌else◌, List, [], ◌∷◌, ◌++◌, fold, Some, None, refl, sym, ap, subst, ◌∙◌, true≢false}
 use Rattle.std.specs.List.{AllByRecursion, list_any}
 use Rattle.std.proofs.lemmas.Bool.{or_right}
 use Rattle.std.proofs.lemmas.List.Folds.{list_any-append}
 use Rattle.std.proofs.lemmas.Map.Views.{any-filter_same}
 use Rattle.tran_ids.proofs.BranchLemmas.{equal_from_same, same_from_equal}
-use Rattle.row_locks.specs.Locks.{Lock, is_held_by, is_lock_on, taken, doubted, without, in_doubt_from_now}
+use Rattle.row_locks.specs.Locks.{Lock, is_held_by, is_lock_on, taken, doubted, without}
 use Rattle.stmt_run.specs.Run.{locks_after, take_keys}
-use Rattle.node_rules.specs.Data.{Value, Change, Table, Stmt, Done, BranchId, Sealed, RedoRecord, Place, Input, Doubt, Live}
+use Rattle.node_rules.specs.Data.{Value, Change, Table, BranchId, Sealed, Place, Input, Doubt, Live}
 use Rattle.node_rules.specs.Data.records
 use Rattle.node_rules.specs.Data.acts
 use Rattle.node_rules.specs.declared.next.Next.TheVariants as nexts
-use Rattle.node_rules.specs.Words.{same, is_item_of, item_at, put_item, drop_item}
-use Rattle.node_rules.specs.Kept.{Kept, Stored, Deed, live_id, doubt_id, without_branch}
+use Rattle.node_rules.specs.Words.{same, is_item_of, put_item, drop_item}
+use Rattle.node_rules.specs.Kept.{Kept, Deed, live_id, doubt_id, without_branch}
 use Rattle.node_rules.specs.Records.{applied, with_record, with_doubt, take_changed, doubt_over}
-use Rattle.node_rules.specs.Prepare.{sealed_of, own_changes}
+use Rattle.node_rules.specs.Prepare.{sealed_of, own_changes, ready}
 use Rattle.node_rules.specs.Statement.{Ran, Refuses, Reads, Writes, ran}
-use Rattle.node_rules.specs.Turn.{kept_by, with_doubt_of}
+use Rattle.node_rules.specs.Turn.{with_doubt_of}
 use Rattle.node_rules.proofs.Steps as steps
-use Rattle.node_rules.proofs.Steps.{Step, Makes}
+use Rattle.node_rules.proofs.Steps.{Step}
 use Rattle.node_rules.proofs.StandLemmas.{live_so}
-use Rattle.run_laws.specs.NodeLaws.{may_hold, HoldersAreThere}
+use Rattle.run_laws.specs.NodeLaws.{HoldersAreThere}
 use Rattle.run_laws.proofs.ListLemmas.{all_weaker, all_filter, all_map, any_found, any_put}
-use Rattle.run_laws.proofs.LiveLemmas.{asked_live, acting_live}
+use Rattle.run_laws.proofs.StepLemmas.{IsLive, asked_live, acting_live, made_so}
 use Rattle.run_laws.proofs.NodeLemmas.{KeepsAlone, kept_alone}
 
 -- ---- locks, each of a branch that is so
@@ -101,97 +101,90 @@ module _ {A : Type 0} (id : A → BranchId) (xs : List A) (c : BranchId) where
 
 -- ---- what a node keeps
 
-module _ (lives : List Live) (doubts : List Doubt) (ls : List Lock) where
-  -- more may hold them
-  wider : (more : List Live) (further : List Doubt) → ((c : BranchId) → is_live lives c ≡ true → is_live more c ≡ true) → ((c : BranchId) → is_doubted doubts c ≡ true → is_doubted further c ≡ true)
-      → Held lives doubts ls → Held more further ls
-  wider more further live doubt now = all_weaker _ _ (λ l held. or_so _ _ (is_live more l.branch) (is_doubted further l.branch) (live l.branch) (doubt l.branch) held) ls now
+-- more may hold these locks
+wider : (lives more : List Live) (doubts further : List Doubt) (ls : List Lock) → ((c : BranchId) → is_live lives c ≡ true → is_live more c ≡ true)
+    → ((c : BranchId) → is_doubted doubts c ≡ true → is_doubted further c ≡ true) → Held lives doubts ls → Held more further ls
+wider lives more doubts further ls live doubt now = all_weaker _ _ (λ l held. or_so _ _ (is_live more l.branch) (is_doubted further l.branch) (live l.branch) (doubt l.branch) held) ls now
 
-  -- without those of one branch, all others may
-  apart : (fewer : List Live) (less : List Doubt) (b : BranchId) → ((c : BranchId) → same c b ≡ false → is_live lives c ≡ true → is_live fewer c ≡ true)
-      → ((c : BranchId) → same c b ≡ false → is_doubted doubts c ≡ true → is_doubted less c ≡ true) → Held lives doubts ls → Held fewer less (without ls b)
-  apart fewer less b live doubt now = all_filter (λ l. May lives doubts l.branch) (λ l. May fewer less l.branch) (λ l. not (is_held_by b l)) (λ l passes held. so l (same l.branch b) refl passes held) ls now
-    where
-      so : (l : Lock) (own : Bool) → same l.branch b ≡ own → not (same l.branch b) ≡ true → May lives doubts l.branch → May fewer less l.branch
-      so l true is passes held = let no : not true ≡ true = ap not (sym is) ∙ passes in absurd (true≢false (sym no))
-      so l false is passes held = or_so _ _ (is_live fewer l.branch) (is_doubted less l.branch) (live l.branch is) (doubt l.branch is) held
+-- without those of one branch, all others may
+apart : (lives fewer : List Live) (doubts less : List Doubt) (ls : List Lock) (b : BranchId) → ((c : BranchId) → same c b ≡ false → is_live lives c ≡ true → is_live fewer c ≡ true)
+    → ((c : BranchId) → same c b ≡ false → is_doubted doubts c ≡ true → is_doubted less c ≡ true) → Held lives doubts ls → Held fewer less (without ls b)
+apart lives fewer doubts less ls b live doubt now = all_filter (λ l. May lives doubts l.branch) (λ l. May fewer less l.branch) (λ l. not (is_held_by b l)) (λ l passes held. so l (same l.branch b) refl passes held) ls now
+  where
+    so : (l : Lock) (own : Bool) → same l.branch b ≡ own → not (same l.branch b) ≡ true → May lives doubts l.branch → May fewer less l.branch
+    so l true is passes held = let no : not true ≡ true = ap not (sym is) ∙ passes in absurd (true≢false (sym no))
+    so l false is passes held = or_so _ _ (is_live fewer l.branch) (is_doubted less l.branch) (live l.branch is) (doubt l.branch is) held
 
-  -- one more live branch
-  begun : (x : Live) → Held lives doubts ls → Held (lives ++ x ∷ []) doubts ls
-  begun x = wider (lives ++ x ∷ []) doubts (λ c is. any_more live_id lives c x is) (λ c is. is)
-
-  -- a live branch that has changed
-  replaced : (l m : Live) → item_at live_id lives l.me ≡ Some m → Held lives doubts ls → Held (put_item live_id lives l) doubts ls
-  replaced l m found = wider (put_item live_id lives l) doubts (λ c is. any_put live_id c lives l m found ∙ is) (λ c is. is)
-
-  -- one that is live no more has no locks
-  dropped : (b : BranchId) → Held lives doubts ls → Held (drop_item live_id lives b) doubts (without ls b)
-  dropped b = apart (drop_item live_id lives b) doubts b (λ c other is. any_dropped live_id lives c b other ∙ is) (λ c other is. is)
-
-  -- nor has one that is in doubt no more
-  settled : (b : BranchId) → Held lives doubts ls → Held lives (drop_item doubt_id doubts b) (without ls b)
-  settled b = apart lives (drop_item doubt_id doubts b) b (λ c other is. is) (λ c other is. any_dropped doubt_id doubts c b other ∙ is)
-
-  -- a sealed branch holds the keys of its changes
-  sealed : (b : BranchId) (d : Doubt) (cs : List Change) → d.branch ≡ b → Held lives doubts ls
-      → Held (drop_item live_id lives b) (doubts ++ d ∷ []) (with_doubt (without (without ls b) b) b cs)
-  sealed b d cs is now =
-      let more : List Doubt = doubts ++ d ∷ [] in
-      let fewer : List Live = drop_item live_id lives b in
-      all_in_doubt (May fewer more) (without (without ls b) b) b cs
-      (all_filter _ _ _ (λ l passes held. or_so _ _ (is_live fewer l.branch) (is_doubted more l.branch) (λ so. so) (λ so. any_more doubt_id doubts l.branch d so) held) (without ls b) (dropped b now))
-      (or_right (is_live fewer b) (is_doubted more b) (any_last doubt_id doubts b d is))
-
--- a live branch may hold locks
-live_may : (lives : List Live) (doubts : List Doubt) (b : BranchId) (l : Live) → item_at live_id lives b ≡ Some l → May lives doubts b
-live_may lives doubts b l found = ap (λ there. there || is_doubted doubts b) (any_found (is_item_of live_id b) lives l found)
-
--- ---- steps
-
--- of a node
+-- the holders at a node are there
 abbrev HeldAt : Kept → Type 0
 HeldAt k = Held k.lives k.stored.doubts k.locks
 
-made_held : {k : Kept} {s : Stmt} {r : RedoRecord} {d : Done} → Makes k s r d → HeldAt k → HeldAt (with_record k r)
-unfolding applied
-made_held (steps.Makes_table t free) now = now
-made_held (steps.Makes_link l free) now = now
-made_held (steps.Makes_synonym y free) now = now
-made_held (steps.Sets_recovery on) now = now
+module _ (k : Kept) where
+  -- one more live branch
+  begun : (x : Live) → HeldAt k → Held (k.lives ++ x ∷ []) k.stored.doubts k.locks
+  begun x = wider k.lives (k.lives ++ x ∷ []) k.stored.doubts k.stored.doubts k.locks (λ c is. any_more live_id k.lives c x is) (λ c is. is)
+
+  -- a live branch that has changed
+  changed : (l : Live) → IsLive k l.me → HeldAt k → Held (put_item live_id k.lives l) k.stored.doubts k.locks
+  changed l live = wider k.lives (put_item live_id k.lives l) k.stored.doubts k.stored.doubts k.locks (λ c is. any_put live_id c k.lives l live.0 live.1 ∙ is) (λ c is. is)
+
+  -- one that is live no more has no locks
+  dropped : (b : BranchId) → HeldAt k → Held (drop_item live_id k.lives b) k.stored.doubts (without k.locks b)
+  dropped b = apart k.lives (drop_item live_id k.lives b) k.stored.doubts k.stored.doubts k.locks b (λ c other is. any_dropped live_id k.lives c b other ∙ is) (λ c other is. is)
+
+  -- nor has one that is in doubt no more
+  settled : (b : BranchId) → HeldAt k → Held k.lives (drop_item doubt_id k.stored.doubts b) (without k.locks b)
+  settled b = apart k.lives k.lives k.stored.doubts (drop_item doubt_id k.stored.doubts b) k.locks b (λ c other is. is) (λ c other is. any_dropped doubt_id k.stored.doubts c b other ∙ is)
+
+  -- a sealed branch holds the keys of its changes
+  sealed : (r : Sealed) → HeldAt k → HeldAt (with_record (without_branch k r.me) (records.Sealed r))
+  unfolding applied
+  sealed r now =
+      let more : List Doubt = k.stored.doubts ++ doubt_over k.stored.rows r ∷ [] in
+      let fewer : List Live = drop_item live_id k.lives r.me in
+      all_in_doubt (May fewer more) (without (without k.locks r.me) r.me) r.me r.changes
+      (all_filter _ _ _ (λ l passes held. held) (without k.locks r.me)
+      (wider fewer fewer k.stored.doubts more (without k.locks r.me) (λ c is. is) (λ c is. any_more doubt_id k.stored.doubts c (doubt_over k.stored.rows r) is) (dropped r.me now)))
+      (or_right (is_live fewer r.me) (is_doubted more r.me) (any_last doubt_id k.stored.doubts r.me (doubt_over k.stored.rows r) refl))
+
+  -- a live branch may hold locks
+  live_may : (b : BranchId) → IsLive k b → May k.lives k.stored.doubts b
+  live_may b live = ap (λ there. there || is_doubted k.stored.doubts b) (any_found (is_item_of live_id b) k.lives live.0 live.1)
+
+-- ---- steps
 
 module _ (p : Place) (input : Input) where
   held_on : {k : Kept} {d : Deed} → Step p input k d → HeldAt k → HeldAt d.after
   unfolding applied
-  held_on (steps.Begins {k = k} n s call rows fit none step) now = held_on step (begun k.lives k.stored.doubts k.locks _ now)
+  held_on (steps.Begins {k = k} n s call rows fit none step) now = held_on step (begun k _ now)
   held_on (steps.Pends n l given call has live code step) now = held_on step now
   held_on (steps.Lets_reads_go {k = k} l comment site_below live begins step) now = held_on step (all_filter _ _ _ (λ m passes held. held) k.locks now)
   held_on (steps.Counts_ack s from kept came counts step) now = held_on step now
   held_on (steps.Runs {k = k} x s given t asked way) now =
-      let live = asked_live asked in
-      replaced k.lives k.stored.doubts (locks_after k.locks x.live.me t (ran p k x.live.me s t)) _ live.0 live.1
-      (all_run (May k.lives k.stored.doubts) k.locks x.live.me t (ran p k x.live.me s t) now (live_may k.lives k.stored.doubts x.live.me live.0 live.1))
-  held_on (steps.Goes_nowhere {k = k} x s given r asked way) now = replaced k.lives k.stored.doubts k.locks _ _ (asked_live asked).1 now
-  held_on (steps.Calls {k = k} x s given i table asked way) now = replaced k.lives k.stored.doubts k.locks _ _ (asked_live asked).1 now
-  held_on (steps.Opens {k = k} x s given node link table asked way) now = replaced k.lives k.stored.doubts k.locks _ _ (asked_live asked).1 now
-  held_on (steps.Goes_on {k = k} x from strength g link opened) now = replaced k.lives k.stored.doubts k.locks _ _ (live_so k x.live.me x opened.live) now
-  held_on (steps.Hears_reply {k = k} x weight count a i e answered) now = replaced k.lives k.stored.doubts k.locks _ _ (live_so k x.live.me x answered.live) now
-  held_on (steps.Opens_branch {k = k} to parent edge root depth came new) now = begun k.lives k.stored.doubts k.locks _ now
-  held_on (steps.Acts {k = k} l site_below acts.Rest why) now = replaced k.lives k.stored.doubts k.locks l _ (acting_live why).1 now
-  held_on (steps.Acts {k = k} l site_below acts.AskDown why) now = replaced k.lives k.stored.doubts k.locks l _ (acting_live why).1 now
-  held_on (steps.Acts {k = k} l site_below acts.SayReady why) now = replaced k.lives k.stored.doubts k.locks _ _ (acting_live why).1 now
-  held_on (steps.Acts {k = k} l site_below acts.Seal why) now = sealed k.lives k.stored.doubts k.locks l.me (doubt_over k.stored.rows (sealed_of k.clock l (own_changes k l.me) None)) (own_changes k l.me) refl now
-  held_on (steps.Acts {k = k} l site_below (acts.SealAndPass i) why) now = sealed k.lives k.stored.doubts k.locks l.me (doubt_over k.stored.rows (sealed_of k.clock l (own_changes k l.me) (Some i))) (own_changes k l.me) refl now
-  held_on (steps.Acts {k = k} l site_below _ why) now = dropped k.lives k.stored.doubts k.locks l.me now
-  held_on (steps.Drops_told {k = k} l live drops) now = dropped k.lives k.stored.doubts k.locks l.me now
-  held_on (steps.Drops_asked {k = k} l from live came parent) now = dropped k.lives k.stored.doubts k.locks l.me now
-  held_on (steps.Does {k = k} s from (nexts.End d) kept why) now = settled k.lives k.stored.doubts k.locks s.me now
-  held_on (steps.Makes_record n s r d call makes) now = made_held makes now
-  held_on (steps.Forces_given {k = k} n id m b call is) now = settled k.lives k.stored.doubts k.locks b now
-  held_on (steps.Forces_commit {k = k} n id b call is) now = settled k.lives k.stored.doubts k.locks b now
-  held_on (steps.Forces_rollback {k = k} n id b call is) now = settled k.lives k.stored.doubts k.locks b now
-  held_on (steps.Rolls_back {k = k} n x call has live) now = dropped k.lives k.stored.doubts k.locks x.live.me now
-  held_on (steps.Gives_up {k = k} n x gives has pending live) now = replaced k.lives k.stored.doubts k.locks _ _ (live_so k x.live.me x live) now
-  held_on (steps.Gives_up_commit {k = k} n b (Some l) gives has pending live) now = dropped k.lives k.stored.doubts k.locks l.me now
+      let ls : List Lock = locks_after k.locks x.live.me t (ran p k x.live.me s t) in
+      changed (record k { locks = ls }) _ (asked_live asked) (all_run (May k.lives k.stored.doubts) k.locks x.live.me t (ran p k x.live.me s t) now (live_may k x.live.me (asked_live asked)))
+  held_on (steps.Goes_nowhere {k = k} x s given r asked way) now = changed k _ (asked_live asked) now
+  held_on (steps.Calls {k = k} x s given i table asked way) now = changed k _ (asked_live asked) now
+  held_on (steps.Opens {k = k} x s given node link table asked way) now = changed k _ (asked_live asked) now
+  held_on (steps.Goes_on {k = k} x from strength g link opened) now = changed k _ (x.live, live_so k x.live.me x opened.live) now
+  held_on (steps.Hears_reply {k = k} x weight count a i e answered) now = changed k _ (x.live, live_so k x.live.me x answered.live) now
+  held_on (steps.Opens_branch {k = k} to parent edge root depth came new) now = begun k _ now
+  held_on (steps.Acts {k = k} l site_below acts.Rest why) now = changed k l (acting_live why) now
+  held_on (steps.Acts {k = k} l site_below acts.AskDown why) now = changed k l (acting_live why) now
+  held_on (steps.Acts {k = k} l site_below acts.SayReady why) now = changed k (ready l) (acting_live why) now
+  held_on (steps.Acts {k = k} l site_below acts.Seal why) now = sealed k (sealed_of k.clock l (own_changes k l.me) None) now
+  held_on (steps.Acts {k = k} l site_below (acts.SealAndPass i) why) now = sealed k (sealed_of k.clock l (own_changes k l.me) (Some i)) now
+  held_on (steps.Acts {k = k} l site_below _ why) now = dropped k l.me now
+  held_on (steps.Drops_told {k = k} l live drops) now = dropped k l.me now
+  held_on (steps.Drops_asked {k = k} l from live came parent) now = dropped k l.me now
+  held_on (steps.Does {k = k} s from (nexts.End d) kept why) now = settled k s.me now
+  held_on (steps.Makes_record {k = k} n s r d call makes) now = made_so (λ x. HeldAt (with_record k x)) (λ t. now) (λ l. now) (λ y. now) (λ on. now) makes
+  held_on (steps.Forces_given {k = k} n id m b call is) now = settled k b now
+  held_on (steps.Forces_commit {k = k} n id b call is) now = settled k b now
+  held_on (steps.Forces_rollback {k = k} n id b call is) now = settled k b now
+  held_on (steps.Rolls_back {k = k} n x call has live) now = dropped k x.live.me now
+  held_on (steps.Gives_up {k = k} n x gives has pending live) now = changed k _ (x.live, live_so k x.live.me x live) now
+  held_on (steps.Gives_up_commit {k = k} n b (Some l) gives has pending live) now = dropped k l.me now
   held_on _ now = now
 
 held : KeepsAlone HeldAt

@@ -1,5 +1,6 @@
--- What each node of a lawful run keeps: what a happening does to one node, and what starts and the steps of turns keep.
--- Each law of nodes goes through these, and so does a law of runs that rests on some.
+-- What each node of a lawful run keeps, by what starts and the steps of turns keep. Laws of nodes go through `node_keeps`,
+-- laws of happenings through `each_of_nodes` and `each_that_may`, laws that follow a run with its trail through `run_keeps`
+-- and `each_of_run`.
 use Rattle.std.proofs.Common.{◌≡◌, ℕ, zero, suc, ◌+◌, Bool, true, false, List, [], ◌∷◌, ◌++◌, map, length, max, IfSome, unwrap_or, Option, Some, None, inl, inr, refl, sym, ap, subst, subst₂, ◌∙◌, append-nil}
 use Rattle.std.specs.Prelude.{◌⊎◌}
 use Rattle.std.specs.Option.{option_to_list}
@@ -20,7 +21,7 @@ use Rattle.run_laws.specs.Each.{AtEach}
 use Rattle.run_laws.specs.Lawful.{MayHappen, MayTurn, IsOwed, boots, History, IsLawfulRun, facts_at}
 use Rattle.run_laws.specs.NodeLaws.{AtEachFact, OfEachNode}
 use Rattle.run_laws.proofs.ListLemmas.{set_both}
-use Rattle.run_laws.proofs.LawfulLemmas.{lawful_keeps, lawful_each, of_facts, Serves, serves}
+use Rattle.run_laws.proofs.LawfulLemmas.{lawful_keeps, lawful_each, of_facts, Serves, of_wrote, serves}
 
 -- ---- what a happening does to one node
 
@@ -45,11 +46,13 @@ module _ (places : List Place) (f : Facts) where
       at (inl still) = subst₂ (λ x y. Goes places f n (flat x) (unwrap_or y [])) (sym still.0) (sym still.1) Stays
       at (inr new) = subst₂ (λ x y. Goes places f n (flat x) (unwrap_or y [])) (sym new.1) (sym new.2) (subst (λ j. Goes places f j o rs) new.0 goes)
 
+  -- a turn of a node sets both
   turn_goes : (u : Turn) (k : Kept) (cut : Bool) → MayTurn places f u k → IsOwed (place_at places u.node) k u.input u.wrote u.sent cut
       → Goes places f u.node (kept_after cut (Some (turn_of (place_at places u.node) k u.input))) (records_at f u.node ++ option_to_list u.wrote)
   turn_goes u k true may owed = Is_cut u k may refl
   turn_goes u k false may owed = subst (λ w. Goes places f u.node (Some (turn_of (place_at places u.node) k u.input).after) (records_at f u.node ++ option_to_list w)) (sym owed.0) (Turns u k may refl)
 
+  -- a stop leaves the disk
   stop_goes : (m n : ℕ) → Goes places f n (flat (numbered (set_numbered f.nodes m None) n)) (records_at f n)
   stop_goes m n = at (set_or_before f.nodes m n None)
     where
@@ -78,13 +81,13 @@ module _ (places : List Place) (f : Facts) where
 
 -- ---- the induction
 
--- What a law of nodes has to show: J of the records on a disk, and I of what a node that is up keeps with them.
+-- What a law of nodes has to show: J of the records on a disk, and I of these and what their node keeps while it is up.
 pub record Keeps (J : Place → List RedoRecord → Type 0) (I : Place → List RedoRecord → Kept → Type 0) : Type 0 where
   pub empty : (p : Place) → J p []
   pub starts : (p : Place) (rs : List RedoRecord) (boot : ℕ) → J p rs → boot ≡ boots rs + 1 → I p (rs ++ records.Boot boot ∷ []) (start_of (rs ++ records.Boot boot ∷ []))
   pub hears : (p : Place) (rs : List RedoRecord) (k : Kept) (scn : ℕ) → I p rs k → I p rs (raised k scn)
   pub steps : (p : Place) (rs : List RedoRecord) (input : Input) (k : Kept) (d : Deed) → Step p input k d → I p rs k → I p (rs ++ option_to_list d.wrote) d.after
-  pub rests : (p : Place) (rs : List RedoRecord) (k : Kept) → I p rs k → J p rs  -- where the node stops, and where a cut turn leaves its record
+  pub rests : (p : Place) (rs : List RedoRecord) (k : Kept) → I p rs k → J p rs  -- the node stops, with the record of a cut turn or without
 
 -- two laws at once
 pub keeps_both : {J J' : Place → List RedoRecord → Type 0} {I I' : Place → List RedoRecord → Kept → Type 0} → Keeps J I → Keeps J' I' → Keeps (λ p rs. J p rs × J' p rs) (λ p rs k. I p rs k × I' p rs k)
@@ -105,6 +108,7 @@ module _ (J : Place → List RedoRecord → Type 0) (I : Place → List RedoReco
   abbrev Stands : Place → Option Kept → List RedoRecord → Type 0
   Stands p o rs = J p rs × IfSome o (I p rs)
 
+  -- of a node that is up
   is_up : (p : Place) (rs : List RedoRecord) (k : Kept) → I p rs k → Stands p (Some k) rs
   is_up p rs k now = (each.rests p rs k now, now)
 
@@ -113,20 +117,18 @@ module _ (J : Place → List RedoRecord → Type 0) (I : Place → List RedoReco
   heard_so p rs k _ now = now
 
   module _ (p : Place) (rs : List RedoRecord) (k : Kept) (u : Turn) (serving : Serves p k u) (now : I p rs k) where
+    -- the turn is kept to its end
     turned : I p (rs ++ option_to_list (turn_of p k u.input).wrote) (turn_of p k u.input).after
     unfolding turn_of
     turned = each.steps p rs u.input (heard k u.input) (deed_of p k u.input) serving.step (heard_so p rs k u.input now)
 
-    -- the record of a cut turn stands or not
+    -- or it is cut, and its record stands or not
     cut_off : J p (rs ++ option_to_list u.wrote)
     unfolding turn_of
-    cut_off = by serving.wrote
-      where
-        by : (u.wrote ≡ None) ⊎ (u.wrote ≡ (deed_of p k u.input).wrote) → J p (rs ++ option_to_list u.wrote)
-        by (inl none) = subst (λ w. J p (rs ++ option_to_list w)) (sym none) (subst (J p) (sym (append-nil rs)) (each.rests p rs k now))
-        by (inr wrote) = subst (λ w. J p (rs ++ option_to_list w)) (sym wrote) (each.rests p _ _ turned)
+    cut_off = of_wrote p k u serving (λ w. J p (rs ++ option_to_list w)) (subst (J p) (sym (append-nil rs)) (each.rests p rs k now)) (each.rests p _ _ turned)
 
   module _ (places : List Place) (f : Facts) (n : ℕ) (now : Stands (place_at places n) (node_at f n) (records_at f n)) where
+    -- what holds of the node, where it is up
     at_node : (k : Kept) → node_at f n ≡ Some k → I (place_at places n) (records_at f n) k
     at_node k is = subst (λ o. IfSome o (I (place_at places n) (records_at f n))) is now.1
 
@@ -137,6 +139,7 @@ module _ (J : Place → List RedoRecord → Type 0) (I : Place → List RedoReco
     serving : (u : Turn) (k : Kept) → MayTurn places f u k → u.node ≡ n → Serves (place_at places n) k u
     serving u k may here = subst (λ m. Serves (place_at places m) k u) here (serves places f u k may)
 
+    -- whatever happens to the node
     stands_on : {o : Option Kept} {rs : List RedoRecord} → Goes places f n o rs → Stands (place_at places n) o rs
     stands_on Stays = now
     stands_on (Turns u k may here) = is_up _ _ _ (turned (place_at places n) (records_at f n) k u (serving u k may here) (before u k may here))
@@ -144,13 +147,15 @@ module _ (J : Place → List RedoRecord → Type 0) (I : Place → List RedoReco
     stands_on Stops = (now.0, tt)
     stands_on (Starts boot down next) = is_up _ _ _ (each.starts (place_at places n) (records_at f n) boot now.0 next)
 
-  -- Each node so far, and as many disks as nodes.
+  -- All disks with their nodes, and there are as many disks as nodes.
   record AllStand (places : List Place) (f : Facts) : Type 0 where
     pub even : length f.nodes ≡ length f.records
     pub nodes : (n : ℕ) → Stands (place_at places n) (node_at f n) (records_at f n)
 
   all_stand_on : (places : List Place) (asked : List Command) (f : Facts) (h : Happening) → AllStand places f → MayHappen places asked f h → AllStand places (facts_after places asked f h)
   all_stand_on places asked f h now may = record { even = even_after places f asked now.even h; nodes = λ n. stands_on places f n (now.nodes n) (goes_so places f asked now.even h n may) }
+
+  -- ---- from the first happening on
 
   first_even : (ps : List Place) → length (map (λ p. Some made) ps) ≡ length (map (λ p. records.Boot 1 ∷ []) ps)
   first_even [] = refl
@@ -167,7 +172,7 @@ module _ (J : Place → List RedoRecord → Type 0) (I : Place → List RedoReco
 
   module _ (t : History) (lawful : IsLawfulRun t) (K : Facts → Trail → Type 0) (first : K (first_facts t.places) no_trail)
       (on : (f : Facts) (tr : Trail) (h : Happening) → NodesAre I t.places f → K f tr → MayHappen t.places t.commands f h → K (facts_after t.places t.commands f h) (trail_after t.places f tr h)) where
-    -- what holds with the nodes
+    -- K, and what the nodes keep
     abbrev With : Facts → Trail → Type 0
     With f tr = AllStand t.places f × K f tr
 
@@ -177,22 +182,22 @@ module _ (J : Place → List RedoRecord → Type 0) (I : Place → List RedoReco
     with_on : (f : Facts) (tr : Trail) (h : Happening) → With f tr → MayHappen t.places t.commands f h → With (facts_after t.places t.commands f h) (trail_after t.places f tr h)
     with_on f tr h now may = (all_stand_on t.places t.commands f h now.0 may, on f tr h (nodes_are f now.0) now.1 may)
 
-    -- a law of runs that rests on what the nodes keep: what each happening keeps, the run keeps
+    -- K is kept to the end where each happening keeps it, given what the nodes keep
     pub run_keeps : NodesAre I t.places (facts_at t) × K (facts_at t) (trail_of t.places t.commands (first_facts t.places) no_trail t.trace)
     run_keeps =
         let last : With (facts_at t) (trail_of t.places t.commands (first_facts t.places) no_trail t.trace) = lawful_keeps t.places t.commands With with_on (first_facts t.places) no_trail t.trace (first_all t.places, first) lawful in
         (nodes_are (facts_at t) last.0, last.1)
 
-    -- and each happening of it is so
+    -- and each happening is so that is so wherever both hold before it
     pub each_of_run : (So : List Place → Facts → Trail → Happening → Type 0) → ((f : Facts) (tr : Trail) (h : Happening) → NodesAre I t.places f → K f tr → MayHappen t.places t.commands f h → So t.places f tr h) → AtEach So t
     each_of_run So so =
         lawful_each t.places t.commands With with_on (So t.places) (λ f tr h now may. so f tr h (nodes_are f now.0) now.1 may) (first_facts t.places) no_trail t.trace (first_all t.places, first) lawful
 
-  -- what starts and steps keep holds of each node of a lawful run
+  -- I holds of each node of a lawful run
   pub node_keeps : OfEachNode I
   node_keeps t lawful = (run_keeps t lawful (λ f tr. Unit {0}) tt (λ f tr h nodes now may. tt)).0
 
-  -- and each happening is so that is so wherever this holds of the nodes before it
+  -- and each happening is so that is so wherever I holds of the nodes before it
   pub each_of_nodes : (So : List Place → Facts → Happening → Type 0) → ((places : List Place) (asked : List Command) (f : Facts) (h : Happening) → NodesAre I places f → MayHappen places asked f h → So places f h)
       → (t : History) → IsLawfulRun t → AtEachFact So t
   each_of_nodes So so t lawful =
@@ -211,7 +216,7 @@ pub record KeepsAlone (I : Kept → Type 0) : Type 0 where
   pub hears : (k : Kept) (scn : ℕ) → I k → I (raised k scn)
   pub steps : (p : Place) (input : Input) (k : Kept) (d : Deed) → Step p input k d → I k → I d.after
 
--- it is a law of nodes
+-- such a law is a law of nodes
 pub keeps_alone : {I : Kept → Type 0} → KeepsAlone I → Keeps (λ p rs. Unit {0}) (λ p rs k. I k)
 unfolding start_of
 keeps_alone each = record {

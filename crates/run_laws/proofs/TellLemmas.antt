@@ -1,9 +1,9 @@
 -- A branch tells Committed only where its row knows the commit, or the record of this turn says it.
-use Rattle.std.proofs.Common.{◌≡◌, ℕ, ◌+◌, ◌&&◌, not, Bool, true, false, if◌then◌else◌, List, [], ◌∷◌, ◌++◌, ◌-◌, length, map, filter, fold, Option, Some, None, inl, inr, refl, sym, ap, subst, ◌∙◌}
+use Rattle.std.proofs.Common.{◌≡◌, ℕ, ◌+◌, ◌&&◌, not, Bool, true, false, if◌then◌else◌, List, [], ◌∷◌, ◌++◌, ◌-◌, length, map, filter, fold, Option, Some, None, inl, inr, refl, ap, subst, ◌∙◌}
 use Rattle.std.proofs.lemmas.Bool.{cond_both}
-use Rattle.std.specs.Prelude.{◌⊎◌, flat_map}
+use Rattle.std.specs.Prelude.{flat_map}
 use Rattle.std.specs.List.{AllByRecursion}
-use Rattle.node_rules.specs.Data.{Answer, BranchId, Decision, Edge, Stmt, Kind, Live, Msg, RedoRecord, Standing, Place, Input}
+use Rattle.node_rules.specs.Data.{Answer, BranchId, Decision, Edge, Stmt, Kind, Msg, RedoRecord, Standing, Place, Input}
 use Rattle.node_rules.specs.Data.decisions
 use Rattle.node_rules.specs.Data.kinds
 use Rattle.node_rules.specs.Data.records
@@ -32,7 +32,7 @@ use Rattle.run_laws.specs.Lawful.{MayHappen}
 use Rattle.run_laws.specs.NodeLaws.{KnowsAt, CommitsNow, MayTell, TellsItsOwn, CommitsAreKnown}
 use Rattle.run_laws.proofs.ListLemmas.{all_weaker, all_append, all_map, all_each, all_put}
 use Rattle.run_laws.proofs.AckLemmas.{unacked_rows, rows_acked}
-use Rattle.run_laws.proofs.LawfulLemmas.{Serves, turn_of_node, serves}
+use Rattle.run_laws.proofs.LawfulLemmas.{Serves, of_sent, turn_of_node, serves}
 use Rattle.run_laws.proofs.NodeLemmas.{each_that_may}
 
 -- ---- what rows know
@@ -142,10 +142,14 @@ askings_told k w =
     (all_append (AsksSo rows w) (map asks_live k.lives) (map asks_kept rows) (all_each (AsksSo rows w) asks_live k.lives (λ l. one_told rows w l.me kinds.Ask l.parent tt))
     (all_map (AsksSo rows w) asks_kept rows (all_weaker _ _ (λ s knows. recovers_told rows w s s.decision refl knows) rows (all_know rows)))))
 
+-- the rows of a node
+abbrev rows_at : Kept → List Standing
+rows_at k = k.stored.durable.kept
+
 -- messages alone
-said : (k : Kept) (input : Input) {says : List Post} → Says k input says → Told k.stored.durable.kept None says
-said k input (steps.Knows_commit s from n came kept is) = (inr (found_knows s.me k.stored.durable.kept s n kept is), tt)
-said k input (steps.Tells s from came kept) = (asked_told k.stored.durable.kept None s from (λ n is. found_knows s.me k.stored.durable.kept s n kept is), tt)
+said : (k : Kept) (input : Input) {says : List Post} → Says k input says → Told (rows_at k) None says
+said k input (steps.Knows_commit s from n came kept is) = (inr (found_knows s.me (rows_at k) s n kept is), tt)
+said k input (steps.Tells s from came kept) = (asked_told (rows_at k) None s from (λ n is. found_knows s.me (rows_at k) s n kept is), tt)
 said k input (steps.Recovers reco) = askings_told k None
 said k input _ = (tt, tt)
 
@@ -159,37 +163,37 @@ untaught k s from w kept b (kinds.Committed n) (inr knows) = inr (known_acked k.
 untaught k s from w kept b _ may = tt
 
 module _ (p : Place) (input : Input) where
-  pub step_tells : {k : Kept} {d : Deed} → Step p input k d → Told k.stored.durable.kept d.wrote d.says
+  pub step_tells : {k : Kept} {d : Deed} → Step p input k d → Told (rows_at k) d.wrote d.says
   step_tells (steps.Begins n s call rows fit none step) = step_tells step
   step_tells (steps.Pends n l given call has live code step) = step_tells step
   step_tells (steps.Lets_reads_go l comment site_below live begins step) = step_tells step
   step_tells (steps.Counts_ack {k = k} {d = d} s from kept came counts step) = all_weaker _ _ (λ x may. untaught k s from d.wrote kept x.from x.kind may) d.says (step_tells step)
   step_tells (steps.Sends {k = k} says why) = said k input why
-  step_tells (steps.Runs {k = k} x s given t asked way) = answer_told k.stored.durable.kept None (record x { live = after_run x.live (ran p k x.live.me s t) }) _ x.live.parent
-  step_tells (steps.Goes_nowhere {k = k} x s given r asked way) = answer_told k.stored.durable.kept None x _ x.live.parent
-  step_tells (steps.Calls {k = k} x s given i table asked way) = exec_told k.stored.durable.kept None k.sessions x i _ given (peer_of x.live i)
+  step_tells (steps.Runs {k = k} x s given t asked way) = answer_told (rows_at k) None (record x { live = after_run x.live (ran p k x.live.me s t) }) _ x.live.parent
+  step_tells (steps.Goes_nowhere {k = k} x s given r asked way) = answer_told (rows_at k) None x _ x.live.parent
+  step_tells (steps.Calls {k = k} x s given i table asked way) = exec_told (rows_at k) None k.sessions x i _ given (peer_of x.live i)
   step_tells (steps.Opens x s given node link table asked way) = (tt, tt)
-  step_tells (steps.Goes_on {k = k} x from strength g link opened) = exec_told k.stored.durable.kept None k.sessions (with_edge x (new_edge from link strength)) (length x.live.edges) g.statement (g.room - 1) _
-  step_tells (steps.Hears_reply {k = k} x weight count a i e answered) = answer_told k.stored.durable.kept None (hears_reply x i weight count e) _ x.live.parent
+  step_tells (steps.Goes_on {k = k} x from strength g link opened) = exec_told (rows_at k) None k.sessions (with_edge x (new_edge from link strength)) (length x.live.edges) g.statement (g.room - 1) _
+  step_tells (steps.Hears_reply {k = k} x weight count a i e answered) = answer_told (rows_at k) None (hears_reply x i weight count e) _ x.live.parent
   step_tells (steps.Opens_branch to parent edge root depth came new) = (tt, tt)
-  step_tells (steps.Acts {k = k} l site_below acts.AskDown why) = prepares_told k.stored.durable.kept None l.me l.comment (path_of site_below (step_from l)) 0 l.edges
-  step_tells (steps.Acts {k = k} l site_below acts.SayReadOnly why) = one_told k.stored.durable.kept None l.me kinds.ReadOnly l.parent tt
-  step_tells (steps.Acts {k = k} l site_below acts.SayReady why) = one_told k.stored.durable.kept None l.me kinds.Ready l.parent tt
-  step_tells (steps.Acts {k = k} l site_below acts.Seal why) = one_told k.stored.durable.kept (Some (sealed_record k l None)) l.me kinds.Prepared l.parent tt
-  step_tells (steps.Acts {k = k} l site_below (acts.SealAndPass i) why) = one_told k.stored.durable.kept (Some (sealed_record k l (Some i))) l.me kinds.CommitPoint (peer_of l i) tt
-  step_tells (steps.Acts {k = k} l site_below acts.Decide why) = each_told k.stored.durable.kept (Some (decided_record k l)) l.me (kinds.Committed (k.clock + 1)) (site_neighbors l) (inl (refl, refl))
+  step_tells (steps.Acts {k = k} l site_below acts.AskDown why) = prepares_told (rows_at k) None l.me l.comment (path_of site_below (step_from l)) 0 l.edges
+  step_tells (steps.Acts {k = k} l site_below acts.SayReadOnly why) = one_told (rows_at k) None l.me kinds.ReadOnly l.parent tt
+  step_tells (steps.Acts {k = k} l site_below acts.SayReady why) = one_told (rows_at k) None l.me kinds.Ready l.parent tt
+  step_tells (steps.Acts {k = k} l site_below acts.Seal why) = one_told (rows_at k) (Some (sealed_record k l None)) l.me kinds.Prepared l.parent tt
+  step_tells (steps.Acts {k = k} l site_below (acts.SealAndPass i) why) = one_told (rows_at k) (Some (sealed_record k l (Some i))) l.me kinds.CommitPoint (peer_of l i) tt
+  step_tells (steps.Acts {k = k} l site_below acts.Decide why) = each_told (rows_at k) (Some (decided_record k l)) l.me (kinds.Committed (k.clock + 1)) (site_neighbors l) (inl (refl, refl))
   step_tells (steps.Acts {k = k} l site_below acts.Abandon why) =
-      all_append (May k.stored.durable.kept None) (to_one l.me kinds.Abort l.parent) _ (one_told k.stored.durable.kept None l.me kinds.Abort l.parent tt) (each_told k.stored.durable.kept None l.me kinds.Rollback (children_of l) tt)
-  step_tells (steps.Drops_told {k = k} l live drops) = each_told k.stored.durable.kept None l.me kinds.Rollback (children_of l) tt
-  step_tells (steps.Drops_asked {k = k} l from live came parent) = (tt, each_told k.stored.durable.kept None l.me kinds.Rollback (children_of l) tt)
-  step_tells (steps.Does {k = k} s from (nexts.End d) kept why) = passes_told k.stored.durable.kept (Some (records.Ended s.me d)) s d (λ n is. (refl, is))
-  step_tells (steps.Does {k = k} s from (nexts.Meet d mixed) kept why) = passes_told k.stored.durable.kept (Some (records.Met s.me d mixed)) s d (λ n is. (refl, is))
-  step_tells (steps.Does {k = k} s from nexts.AckToward kept why) = one_told k.stored.durable.kept None s.me kinds.Ack s.toward tt
-  step_tells (steps.Does {k = k} s from nexts.Forget kept why) = each_told k.stored.durable.kept (Some (records.Forgot s.me)) s.me kinds.Forgotten (map (λ b. b.branch) (beyond s)) tt
+      all_append (May (rows_at k) None) (to_one l.me kinds.Abort l.parent) _ (one_told (rows_at k) None l.me kinds.Abort l.parent tt) (each_told (rows_at k) None l.me kinds.Rollback (children_of l) tt)
+  step_tells (steps.Drops_told {k = k} l live drops) = each_told (rows_at k) None l.me kinds.Rollback (children_of l) tt
+  step_tells (steps.Drops_asked {k = k} l from live came parent) = (tt, each_told (rows_at k) None l.me kinds.Rollback (children_of l) tt)
+  step_tells (steps.Does {k = k} s from (nexts.End d) kept why) = passes_told (rows_at k) (Some (records.Ended s.me d)) s d (λ n is. (refl, is))
+  step_tells (steps.Does {k = k} s from (nexts.Meet d mixed) kept why) = passes_told (rows_at k) (Some (records.Met s.me d mixed)) s d (λ n is. (refl, is))
+  step_tells (steps.Does {k = k} s from nexts.AckToward kept why) = one_told (rows_at k) None s.me kinds.Ack s.toward tt
+  step_tells (steps.Does {k = k} s from nexts.Forget kept why) = each_told (rows_at k) (Some (records.Forgot s.me)) s.me kinds.Forgotten (map (λ b. b.branch) (beyond s)) tt
   step_tells (steps.Does s from nexts.SayForgotten kept why) = (tt, tt)
   step_tells (steps.Does s from nexts.SayAck kept why) = (tt, tt)
-  step_tells (steps.Rolls_back {k = k} n x call has live) = each_told k.stored.durable.kept None x.live.me kinds.Rollback (children_of x.live) tt
-  step_tells (steps.Gives_up_commit {k = k} n b (Some l) gives has pending live) = each_told k.stored.durable.kept None l.me kinds.Rollback (children_of l) tt
+  step_tells (steps.Rolls_back {k = k} n x call has live) = each_told (rows_at k) None x.live.me kinds.Rollback (children_of x.live) tt
+  step_tells (steps.Gives_up_commit {k = k} n b (Some l) gives has pending live) = each_told (rows_at k) None l.me kinds.Rollback (children_of l) tt
   step_tells (steps.Gives_up_commit {k = k} n b None gives has pending live) = tt
   step_tells _ = tt
 
@@ -201,21 +205,14 @@ heard_rows k _ = refl
 
 -- what a turn sends, by its record
 pub turn_tells : (p : Place) (k : Kept) (u : Turn) → Serves p k u → AllByRecursion (λ m. MayTell k.stored.durable.kept (deed_of p k u.input).wrote m.from m.kind) (map (stamped (deed_of p k u.input).after.clock) (deed_of p k u.input).says)
-turn_tells p k u serves =
+turn_tells p k u serving =
     let d : Deed = deed_of p k u.input in
     all_map (λ (m : Msg). MayTell k.stored.durable.kept d.wrote m.from m.kind) (stamped d.after.clock) d.says
-    (subst (λ s. Told s.durable.kept d.wrote d.says) (heard_rows k u.input) (step_tells p u.input serves.step))
+    (subst (λ s. Told s.durable.kept d.wrote d.says) (heard_rows k u.input) (step_tells p u.input serving.step))
 
 sent_so : (p : Place) (k : Kept) (u : Turn) → Serves p k u → AllByRecursion (λ m. MayTell k.stored.durable.kept (turn_of p k u.input).wrote m.from m.kind) u.sent
 unfolding turn_of
-sent_so p k u serves = so serves.sent
-  where
-    MaySend : List Msg → Type 0
-    MaySend ms = AllByRecursion (λ m. MayTell k.stored.durable.kept (deed_of p k u.input).wrote m.from m.kind) ms
-
-    so : (u.sent ≡ []) ⊎ ((u.wrote ≡ (deed_of p k u.input).wrote) × (u.sent ≡ map (stamped (deed_of p k u.input).after.clock) (deed_of p k u.input).says)) → MaySend u.sent
-    so (inl none) = subst MaySend (sym none) tt
-    so (inr owed) = subst MaySend (sym owed.1) (turn_tells p k u serves)
+sent_so p k u serving = of_sent p k u serving (λ w ms. AllByRecursion (λ m. MayTell k.stored.durable.kept (deed_of p k u.input).wrote m.from m.kind) ms) tt (turn_tells p k u serving)
 
 tells_its_own : (places : List Place) (asked : List Command) (f : Facts) (h : Happening) → MayHappen places asked f h → TellsItsOwn places f h
 tells_its_own places asked f (happenings.Turn u) may = λ k up. sent_so (place_at places u.node) k u (serves places f u k (turn_of_node places f u k asked may up))

@@ -1,8 +1,9 @@
 //! What a run is: which happening may come next, which one is due, what the happenings so far leave, what is told of them,
 //! and what has to hold of every run.
 //!
-//! Here are the definitions, and the laws of theirs that are proved. The laws of agreement, of marked mixed outcomes, of
-//! SCNs and of the commit point site stand as statements (`specs/Headline.antt`) and are not proved yet.
+//! Here are the definitions, the laws of theirs that are proved, and proved laws of every turn of a lawful run and of what
+//! its nodes keep (`specs/NodeLaws.antt`). The laws of agreement, of marked mixed outcomes, of SCNs and of the commit point
+//! site stand as statements (`specs/Headline.antt`) and are not proved yet.
 #![tactic(auto)]
 
 ghost use Rattle.run_laws.specs.Laws.{BookIsOfTrace, FactsAreAlone, PastGoesOn, LawfulGoesOn, RunsArePlayed};
@@ -33,8 +34,8 @@ pub fn runs_are_played()
     ensures { RunsArePlayed }
 {}
 
-/// In a lawful run no turn sets its node's clock back, the SCN of a commit that a turn decides is above the clock before
-/// it, and that of a seal is not below it.
+/// In a lawful run no turn sets its node's clock back. The SCN of a commit that a turn decides is above the clock before
+/// the turn, and the SCN of a seal is not below it.
 pub fn clocks_rise()
     ensures { ClocksRise }
 {}
@@ -54,17 +55,17 @@ pub fn records_are_kept()
     ensures { RecordsAreKept }
 {}
 
-/// A branch tells Committed only where its row knows that commit, or the record of the same turn says it.
+/// No branch id is given out twice: a branch has one row at a node or is live there once, and not both.
+pub fn ids_are_fresh()
+    ensures { IdsAreFresh }
+{}
+
+/// A branch tells Committed only where its row knows that commit before the turn, or the turn's record says it.
 pub fn commits_are_known()
     ensures { CommitsAreKnown }
 {}
 
-/// A branch tells Committed only where a record of its node says that commit, the one of the same turn counted.
+/// A branch tells Committed only where a record of its node says that commit, the turn's own record among them.
 pub fn commits_are_recorded()
     ensures { CommitsAreRecorded }
-{}
-
-/// A branch has one row at a node or is live there once, and not both.
-pub fn ids_are_fresh()
-    ensures { IdsAreFresh }
 {}
