@@ -23,11 +23,13 @@ unacked_rows ks = map unacked_row ks
 
 -- ---- records
 
-if_same : (g : Standing → Standing) (x : Standing) → unacked_row (g x) ≡ g (unacked_row x) → (here : Bool) → unacked_row (if here then g x else x) ≡ (if here then g (unacked_row x) else unacked_row x)
+if_same : (g : Standing → Standing) (x : Standing) → unacked_row (g x) ≡ g (unacked_row x) → (here : Bool)
+    → unacked_row (if here then g x else x) ≡ (if here then g (unacked_row x) else unacked_row x)
 if_same g x same true = same
 if_same g x same false = refl
 
-rows_changed : (b : BranchId) (g : Standing → Standing) → ((x : Standing) → unacked_row (g x) ≡ g (unacked_row x)) → (ks : List Standing) → unacked_rows (change_where (stands_at b) g ks) ≡ change_where (stands_at b) g (unacked_rows ks)
+rows_changed : (b : BranchId) (g : Standing → Standing) → ((x : Standing) → unacked_row (g x) ≡ g (unacked_row x)) → (ks : List Standing)
+    → unacked_rows (change_where (stands_at b) g ks) ≡ change_where (stands_at b) g (unacked_rows ks)
 rows_changed b g same ks = map_same unacked_row (λ x. if stands_at b x then g x else x) (λ x. if stands_at b x then g x else x) (λ x. if_same g x (same x) (stands_at b x)) ks
 
 rows_put : (ks : List Standing) (x : Standing) → unacked_row x ≡ x → unacked_rows (add_kept ks x) ≡ add_kept (unacked_rows ks) x

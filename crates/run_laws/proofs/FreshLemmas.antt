@@ -56,7 +56,8 @@ module _ (boot : ℕ) where
     dropped b ss numbers = fewer boot (seqs ss) (length k.opens) _ _ (still ss numbers) _ _ (λ c. omega (arith, count_filter live_id c (λ l. not (same l.me b)) k.lives))
 
     -- with a record that makes no row
-    recorded : (r : RedoRecord) (ss : List Session) → ((b : BranchId) → makes_row b r ≡ 0) → seqs ss ≡ seqs k.sessions → Ids boot (seqs ss) (length k.opens) (applied k.stored r).durable.kept k.lives
+    recorded : (r : RedoRecord) (ss : List Session) → ((b : BranchId) → makes_row b r ≡ 0) → seqs ss ≡ seqs k.sessions
+        → Ids boot (seqs ss) (length k.opens) (applied k.stored r).durable.kept k.lives
     recorded r ss none numbers = fewer boot (seqs ss) (length k.opens) _ _ (still ss numbers) _ _ (λ b. omega (arith, rows_applied b k.stored r, none b))
 
     -- with a record that makes the row of a branch that is live no more
@@ -130,7 +131,8 @@ module _ (boot : ℕ) where
     ids_on (steps.Does {k = k} s from (nexts.Meet d mixed) kept why) is ids = recorded k ids (records.Met s.me d mixed) _ (λ b. refl) (decided_seqs k.sessions s.me d)
     ids_on (steps.Does {k = k} s from nexts.Forget kept why) is ids = recorded k ids (records.Forgot s.me) _ (λ b. refl) (ended_seqs k.sessions s.me)
     ids_on (steps.Makes_record {k = k} n s r d call makes) is ids =
-        made_so (λ x. Ids boot (seqs k.sessions) (length k.opens) (applied k.stored x).durable.kept k.lives) (λ t. recorded k ids (records.Table t) k.sessions (λ b. refl) refl) (λ l. recorded k ids (records.Link l) k.sessions (λ b. refl) refl)
+        made_so (λ x. Ids boot (seqs k.sessions) (length k.opens) (applied k.stored x).durable.kept k.lives)
+        (λ t. recorded k ids (records.Table t) k.sessions (λ b. refl) refl) (λ l. recorded k ids (records.Link l) k.sessions (λ b. refl) refl)
         (λ y. recorded k ids (records.Synonym y) k.sessions (λ b. refl) refl) (λ on. recorded k ids (records.Param (params.Recovery on)) k.sessions (λ b. refl) refl) makes
     ids_on (steps.Forces_given {k = k} n id m b call named) is ids = recorded k ids (records.Forced b (decisions.Commit m) true) _ (λ c. refl) (ended_seqs k.sessions b)
     ids_on (steps.Forces_commit {k = k} n id b call named) is ids = recorded k ids (records.Forced b (decisions.Commit (k.clock + 1)) false) _ (λ c. refl) (ended_seqs k.sessions b)

@@ -48,7 +48,8 @@ given_before (Before old) = omega (arith, old)
 given_before (In_session now low seq) = omega (arith, now)
 given_before (Over_link now high new) = omega (arith, now)
 
-given_still : {boot : ℕ} {ms : List ℕ} {opened : ℕ} {b : BranchId} (more : List ℕ) (later : ℕ) → ((n : ℕ) → seq_at ms n ≤ seq_at more n) → opened ≤ later → Given boot ms opened b → Given boot more later b
+given_still : {boot : ℕ} {ms : List ℕ} {opened : ℕ} {b : BranchId} (more : List ℕ) (later : ℕ) → ((n : ℕ) → seq_at ms n ≤ seq_at more n) → opened ≤ later → Given boot ms opened b
+    → Given boot more later b
 given_still more later rise links (Before old) = Before old
 given_still {b = b} more later rise links (In_session now low seq) = In_session now low (omega (arith, seq, rise b.session))
 given_still more later rise links (Over_link now high new) = Over_link now high (omega (arith, new, links))
@@ -77,14 +78,16 @@ module _ (boot : ℕ) (ms : List ℕ) (opened : ℕ) (rows : List Standing) (liv
       none (suc n) no_more = absurd (no_more (omega arith))
 
   -- one more live branch, with a new id
-  pub grown : (more : List ℕ) (later : ℕ) (x : Live) → length more ≡ 64 → ((n : ℕ) → seq_at ms n ≤ seq_at more n) → opened ≤ later → (Given boot ms opened x.me → ⊥) → Given boot more later x.me
+  pub grown : (more : List ℕ) (later : ℕ) (x : Live) → length more ≡ 64 → ((n : ℕ) → seq_at ms n ≤ seq_at more n) → opened ≤ later → (Given boot ms opened x.me → ⊥)
+      → Given boot more later x.me
       → Ids boot more later rows (lives ++ x ∷ [])
   grown more later x many rise links new given = record { many = many; one = λ b. one b (same x.me b) refl (now b); told = λ b some. told b (same x.me b) refl (now b) some }
     where
       now : (b : BranchId) → count_of live_id b (lives ++ x ∷ []) ≡ (if same x.me b then 1 + count_of live_id b lives else count_of live_id b lives)
       now b = count_last live_id b lives x
 
-      one : (b : BranchId) (here : Bool) → same x.me b ≡ here → count_of live_id b (lives ++ x ∷ []) ≡ (if here then 1 + count_of live_id b lives else count_of live_id b lives) → in_use rows (lives ++ x ∷ []) b ≤ 1
+      one : (b : BranchId) (here : Bool) → same x.me b ≡ here → count_of live_id b (lives ++ x ∷ []) ≡ (if here then 1 + count_of live_id b lives else count_of live_id b lives)
+          → in_use rows (lives ++ x ∷ []) b ≤ 1
       one b true is more_by = let none : in_use rows lives b ≡ 0 = subst (λ c. in_use rows lives c ≡ 0) (equal_from_same x.me b is) (unused x.me new) in omega (arith, none, more_by)
       one b false is more_by = omega (arith, more_by, ids.one b)
 

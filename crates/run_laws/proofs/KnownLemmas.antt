@@ -41,13 +41,15 @@ module _ (b : BranchId) (n : ℕ) where
   -- ---- rows that are changed, left out or put in
 
   changed_if : {Q : Type 0} (c : BranchId) (g : Standing → Standing) → ((x : Standing) → x.me ≡ c → Knows (g x) → Knows x ⊎ Q)
-      → (here : Bool) (x : Standing) (xs ys : List Standing) → stands_at c x ≡ here → (KnowsAt ys b n → KnowsAt xs b n ⊎ Q) → KnowsAt ((if here then g x else x) ∷ ys) b n → KnowsAt (x ∷ xs) b n ⊎ Q
+      → (here : Bool) (x : Standing) (xs ys : List Standing) → stands_at c x ≡ here → (KnowsAt ys b n → KnowsAt xs b n ⊎ Q) → KnowsAt ((if here then g x else x) ∷ ys) b n
+      → KnowsAt (x ∷ xs) b n ⊎ Q
   changed_if c g old true x xs ys is rest (inl here) = elim (old x (equal_from_same x.me c is) here) [ inl it ↦ inl (inl it) | inr new ↦ inr new ]
   changed_if c g old false x xs ys is rest (inl here) = inl (inl here)
   changed_if c g old true x xs ys is rest (inr there) = further x xs (rest there)
   changed_if c g old false x xs ys is rest (inr there) = further x xs (rest there)
 
-  known_changed : {Q : Type 0} (c : BranchId) (g : Standing → Standing) → ((x : Standing) → x.me ≡ c → Knows (g x) → Knows x ⊎ Q) → (xs : List Standing) → KnowsAt (change_where (stands_at c) g xs) b n → KnowsAt xs b n ⊎ Q
+  known_changed : {Q : Type 0} (c : BranchId) (g : Standing → Standing) → ((x : Standing) → x.me ≡ c → Knows (g x) → Knows x ⊎ Q) → (xs : List Standing)
+      → KnowsAt (change_where (stands_at c) g xs) b n → KnowsAt xs b n ⊎ Q
   known_changed c g old [] knows = absurd knows
   known_changed c g old (x ∷ xs) knows = changed_if c g old (stands_at c x) x xs (change_where (stands_at c) g xs) refl (known_changed c g old xs) knows
 
@@ -60,7 +62,8 @@ module _ (b : BranchId) (n : ℕ) where
   known_left p [] knows = knows
   known_left p (x ∷ xs) knows = left_if (not (p x)) x xs (drop_where p xs) (known_left p xs) knows
 
-  put_if : (first : Bool) (x y : Standing) (ys put : List Standing) → (KnowsAt put b n → KnowsAt ys b n ⊎ Knows x) → KnowsAt (if first then x ∷ y ∷ ys else y ∷ put) b n → KnowsAt (y ∷ ys) b n ⊎ Knows x
+  put_if : (first : Bool) (x y : Standing) (ys put : List Standing) → (KnowsAt put b n → KnowsAt ys b n ⊎ Knows x) → KnowsAt (if first then x ∷ y ∷ ys else y ∷ put) b n
+      → KnowsAt (y ∷ ys) b n ⊎ Knows x
   put_if true x y ys put rest (inl here) = inr here
   put_if true x y ys put rest (inr there) = inl there
   put_if false x y ys put rest (inl here) = inl (inl here)
@@ -85,7 +88,8 @@ module _ (b : BranchId) (n : ℕ) where
   unfolding kept_after
   known_after ks (records.Sealed r) knows = elim (known_put ks (sealed_as r) knows) [ inl old ↦ inl old | inr new ↦ (let none : None ≡ Some (decisions.Commit n) = new.1 in absurd cc) ]
   known_after ks (records.Decided r) knows =
-      elim (decided_if (has_neighbors (decided_as r)) ks (decided_as r) knows) [ inl old ↦ inl old | inr new ↦ inr (new.0, (let it : Some (decisions.Commit r.scn) ≡ Some (decisions.Commit n) = new.1 in cc)) ]
+      elim (decided_if (has_neighbors (decided_as r)) ks (decided_as r) knows)
+      [ inl old ↦ inl old | inr new ↦ inr (new.0, (let it : Some (decisions.Commit r.scn) ≡ Some (decisions.Commit n) = new.1 in cc)) ]
   known_after ks (records.Ended c (decisions.Commit m)) knows = known_changed c (ended_commit m) (λ x me new. inr (sym me ∙ new.0, the_commit (decisions.Commit m) new.1)) ks knows
   known_after ks (records.Ended c decisions.Rollback) knows = inl (known_left (stands_at c) ks knows)
   known_after ks (records.Forced c d given) knows = known_changed c (in_state (forced_state d)) (λ x me new. inl new) ks knows
@@ -133,12 +137,14 @@ module _ (b : BranchId) (n : ℕ) where
 
 -- ---- turns
 
-may_recorded : (rs : List RedoRecord) (k : Kept) (w : Option RedoRecord) (b : BranchId) (kind : Kind) → StoresOf rs k → MayTell k.stored.durable.kept w b kind → TellsRecorded (rs ++ option_to_list w) b kind
+may_recorded : (rs : List RedoRecord) (k : Kept) (w : Option RedoRecord) (b : BranchId) (kind : Kind) → StoresOf rs k → MayTell k.stored.durable.kept w b kind
+    → TellsRecorded (rs ++ option_to_list w) b kind
 may_recorded rs k w b (kinds.Committed n) stored (inl now) = recorded_last b n rs w now
 may_recorded rs k w b (kinds.Committed n) stored (inr knows) = recorded_before b n rs (option_to_list w) (known_recorded b n rs k stored knows)
 may_recorded rs k w b _ stored may = tt
 
-turn_recorded : (rs : List RedoRecord) (k : Kept) (u : Turn) (p : Place) → StoresOf rs k → Serves p k u → AllByRecursion (λ m. TellsRecorded (rs ++ option_to_list u.wrote) m.from m.kind) u.sent
+turn_recorded : (rs : List RedoRecord) (k : Kept) (u : Turn) (p : Place) → StoresOf rs k → Serves p k u
+    → AllByRecursion (λ m. TellsRecorded (rs ++ option_to_list u.wrote) m.from m.kind) u.sent
 turn_recorded rs k u p stored serving =
     of_sent p k u serving (λ w ms. AllByRecursion (λ m. TellsRecorded (rs ++ option_to_list w) m.from m.kind) ms) tt
     (all_weaker _ _ (λ m told. may_recorded rs k (deed_of p k u.input).wrote m.from m.kind stored told) _ (turn_tells p k u serving))

@@ -69,7 +69,8 @@ module _ (p : Place) (k : Kept) (u : Turn) (serving : Serves p k u) where
       by (inr is) = subst P (sym is) new
 
   -- what is so of no messages, and of the step's with its record, is so of those that are sent
-  pub of_sent : (P : Option RedoRecord → List Msg → Type 0) → P u.wrote [] → P (deed_of p k u.input).wrote (map (stamped (deed_of p k u.input).after.clock) (deed_of p k u.input).says) → P u.wrote u.sent
+  pub of_sent : (P : Option RedoRecord → List Msg → Type 0) → P u.wrote [] → P (deed_of p k u.input).wrote (map (stamped (deed_of p k u.input).after.clock) (deed_of p k u.input).says)
+      → P u.wrote u.sent
   of_sent P none new = by serving.sent
     where
       by : (u.sent ≡ []) ⊎ ((u.wrote ≡ (deed_of p k u.input).wrote) × (u.sent ≡ map (stamped (deed_of p k u.input).after.clock) (deed_of p k u.input).says)) → P u.wrote u.sent

@@ -85,8 +85,10 @@ or_so false b c d f g is = or_right c d (g is)
 -- each item is one of its list
 all_there : {A : Type 0} (id : A → BranchId) (xs : List A) → AllByRecursion (λ x. list_any (is_item_of id (id x)) xs ≡ true) xs
 all_there id [] = tt
-all_there id (x ∷ xs) =
-    (ap (λ here. here || list_any (is_item_of id (id x)) xs) (same_from_equal (id x) (id x) refl), all_weaker _ _ (λ y is. or_right (same (id x) (id y)) (list_any (is_item_of id (id y)) xs) is) xs (all_there id xs))
+all_there id (x ∷ xs) = (
+  ap (λ here. here || list_any (is_item_of id (id x)) xs) (same_from_equal (id x) (id x) refl),
+  all_weaker _ _ (λ y is. or_right (same (id x) (id y)) (list_any (is_item_of id (id y)) xs) is) xs (all_there id xs),
+)
 
 module _ {A : Type 0} (id : A → BranchId) (xs : List A) (c : BranchId) where
   any_more : (x : A) → list_any (is_item_of id c) xs ≡ true → list_any (is_item_of id c) (xs ++ x ∷ []) ≡ true
@@ -109,7 +111,8 @@ wider lives more doubts further ls live doubt now = all_weaker _ _ (λ l held. o
 -- without those of one branch, all others may
 apart : (lives fewer : List Live) (doubts less : List Doubt) (ls : List Lock) (b : BranchId) → ((c : BranchId) → same c b ≡ false → is_live lives c ≡ true → is_live fewer c ≡ true)
     → ((c : BranchId) → same c b ≡ false → is_doubted doubts c ≡ true → is_doubted less c ≡ true) → Held lives doubts ls → Held fewer less (without ls b)
-apart lives fewer doubts less ls b live doubt now = all_filter (λ l. May lives doubts l.branch) (λ l. May fewer less l.branch) (λ l. not (is_held_by b l)) (λ l passes held. so l (same l.branch b) refl passes held) ls now
+apart lives fewer doubts less ls b live doubt now =
+    all_filter (λ l. May lives doubts l.branch) (λ l. May fewer less l.branch) (λ l. not (is_held_by b l)) (λ l passes held. so l (same l.branch b) refl passes held) ls now
   where
     so : (l : Lock) (own : Bool) → same l.branch b ≡ own → not (same l.branch b) ≡ true → May lives doubts l.branch → May fewer less l.branch
     so l true is passes held = let no : not true ≡ true = ap not (sym is) ∙ passes in absurd (true≢false (sym no))

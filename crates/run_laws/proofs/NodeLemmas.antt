@@ -56,7 +56,8 @@ module _ (places : List Place) (f : Facts) where
   stop_goes : (m n : ℕ) → Goes places f n (flat (numbered (set_numbered f.nodes m None) n)) (records_at f n)
   stop_goes m n = at (set_or_before f.nodes m n None)
     where
-      at : (numbered (set_numbered f.nodes m None) n ≡ numbered f.nodes n) ⊎ ((m ≡ n) × (numbered (set_numbered f.nodes m None) n ≡ Some None)) → Goes places f n (flat (numbered (set_numbered f.nodes m None) n)) (records_at f n)
+      at : (numbered (set_numbered f.nodes m None) n ≡ numbered f.nodes n) ⊎ ((m ≡ n) × (numbered (set_numbered f.nodes m None) n ≡ Some None))
+          → Goes places f n (flat (numbered (set_numbered f.nodes m None) n)) (records_at f n)
       at (inl still) = subst (λ x. Goes places f n (flat x) (records_at f n)) (sym still) Stays
       at (inr new) = subst (λ x. Goes places f n (flat x) (records_at f n)) (sym new.1) Stops
 
@@ -90,7 +91,8 @@ pub record Keeps (J : Place → List RedoRecord → Type 0) (I : Place → List 
   pub rests : (p : Place) (rs : List RedoRecord) (k : Kept) → I p rs k → J p rs  -- the node stops, with the record of a cut turn or without
 
 -- two laws at once
-pub keeps_both : {J J' : Place → List RedoRecord → Type 0} {I I' : Place → List RedoRecord → Kept → Type 0} → Keeps J I → Keeps J' I' → Keeps (λ p rs. J p rs × J' p rs) (λ p rs k. I p rs k × I' p rs k)
+pub keeps_both : {J J' : Place → List RedoRecord → Type 0} {I I' : Place → List RedoRecord → Kept → Type 0} → Keeps J I → Keeps J' I'
+    → Keeps (λ p rs. J p rs × J' p rs) (λ p rs k. I p rs k × I' p rs k)
 keeps_both one other = record {
   empty = λ p. (one.empty p, other.empty p);
   starts = λ p rs boot disk next. (one.starts p rs boot disk.0 next, other.starts p rs boot disk.1 next);
@@ -185,11 +187,13 @@ module _ (J : Place → List RedoRecord → Type 0) (I : Place → List RedoReco
     -- K is kept to the end where each happening keeps it, given what the nodes keep
     pub run_keeps : NodesAre I t.places (facts_at t) × K (facts_at t) (trail_of t.places t.commands (first_facts t.places) no_trail t.trace)
     run_keeps =
-        let last : With (facts_at t) (trail_of t.places t.commands (first_facts t.places) no_trail t.trace) = lawful_keeps t.places t.commands With with_on (first_facts t.places) no_trail t.trace (first_all t.places, first) lawful in
+        let last : With (facts_at t) (trail_of t.places t.commands (first_facts t.places) no_trail t.trace)
+        = lawful_keeps t.places t.commands With with_on (first_facts t.places) no_trail t.trace (first_all t.places, first) lawful in
         (nodes_are (facts_at t) last.0, last.1)
 
     -- and each happening is so that is so wherever both hold before it
-    pub each_of_run : (So : List Place → Facts → Trail → Happening → Type 0) → ((f : Facts) (tr : Trail) (h : Happening) → NodesAre I t.places f → K f tr → MayHappen t.places t.commands f h → So t.places f tr h) → AtEach So t
+    pub each_of_run : (So : List Place → Facts → Trail → Happening → Type 0)
+        → ((f : Facts) (tr : Trail) (h : Happening) → NodesAre I t.places f → K f tr → MayHappen t.places t.commands f h → So t.places f tr h) → AtEach So t
     each_of_run So so =
         lawful_each t.places t.commands With with_on (So t.places) (λ f tr h now may. so f tr h (nodes_are f now.0) now.1 may) (first_facts t.places) no_trail t.trace (first_all t.places, first) lawful
 
@@ -198,14 +202,16 @@ module _ (J : Place → List RedoRecord → Type 0) (I : Place → List RedoReco
   node_keeps t lawful = (run_keeps t lawful (λ f tr. Unit {0}) tt (λ f tr h nodes now may. tt)).0
 
   -- and each happening is so that is so wherever I holds of the nodes before it
-  pub each_of_nodes : (So : List Place → Facts → Happening → Type 0) → ((places : List Place) (asked : List Command) (f : Facts) (h : Happening) → NodesAre I places f → MayHappen places asked f h → So places f h)
+  pub each_of_nodes : (So : List Place → Facts → Happening → Type 0)
+      → ((places : List Place) (asked : List Command) (f : Facts) (h : Happening) → NodesAre I places f → MayHappen places asked f h → So places f h)
       → (t : History) → IsLawfulRun t → AtEachFact So t
   each_of_nodes So so t lawful =
       of_facts t.places t.commands (So t.places) (first_facts t.places) no_trail t.trace
       (each_of_run t lawful (λ f tr. Unit {0}) tt (λ f tr h nodes now may. tt) (λ places f tr h. So places f h) (λ f tr h nodes now may. so t.places t.commands f h nodes may))
 
 -- each happening is so that is so wherever it may come
-pub each_that_may : (So : List Place → Facts → Happening → Type 0) → ((places : List Place) (asked : List Command) (f : Facts) (h : Happening) → MayHappen places asked f h → So places f h) → (t : History) → IsLawfulRun t → AtEachFact So t
+pub each_that_may : (So : List Place → Facts → Happening → Type 0)
+    → ((places : List Place) (asked : List Command) (f : Facts) (h : Happening) → MayHappen places asked f h → So places f h) → (t : History) → IsLawfulRun t → AtEachFact So t
 each_that_may So so t lawful =
     of_facts t.places t.commands (So t.places) (first_facts t.places) no_trail t.trace
     (lawful_each t.places t.commands (λ f tr. Unit {0}) (λ f tr h now may. tt) (λ f tr h. So t.places f h) (λ f tr h now may. so t.places t.commands f h may) (first_facts t.places) no_trail t.trace tt lawful)

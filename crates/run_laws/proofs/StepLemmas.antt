@@ -27,7 +27,8 @@ module _ {k : Kept} {input : Input} where
   acting_live (At_point l from a live came ready pointed) = (l, live)
 
 -- what is so of the records of the catalog and of that setting is so of a record that a statement makes
-pub made_so : (P : RedoRecord → Type 0) → ((t : Table) → P (records.Table t)) → ((l : Link) → P (records.Link l)) → ((y : Synonym) → P (records.Synonym y)) → ((on : Bool) → P (records.Param (params.Recovery on)))
+pub made_so : (P : RedoRecord → Type 0) → ((t : Table) → P (records.Table t)) → ((l : Link) → P (records.Link l)) → ((y : Synonym) → P (records.Synonym y))
+    → ((on : Bool) → P (records.Param (params.Recovery on)))
     → {k : Kept} {s : Stmt} {r : RedoRecord} {d : Done} → Makes k s r d → P r
 made_so P table link synonym recovery (Makes_table t free) = table t
 made_so P table link synonym recovery (Makes_link l free) = link l

@@ -204,7 +204,8 @@ heard_rows k (inputs.Message m) = refl
 heard_rows k _ = refl
 
 -- what a turn sends, by its record
-pub turn_tells : (p : Place) (k : Kept) (u : Turn) → Serves p k u → AllByRecursion (λ m. MayTell k.stored.durable.kept (deed_of p k u.input).wrote m.from m.kind) (map (stamped (deed_of p k u.input).after.clock) (deed_of p k u.input).says)
+pub turn_tells : (p : Place) (k : Kept) (u : Turn) → Serves p k u
+    → AllByRecursion (λ m. MayTell k.stored.durable.kept (deed_of p k u.input).wrote m.from m.kind) (map (stamped (deed_of p k u.input).after.clock) (deed_of p k u.input).says)
 turn_tells p k u serving =
     let d : Deed = deed_of p k u.input in
     all_map (λ (m : Msg). MayTell k.stored.durable.kept d.wrote m.from m.kind) (stamped d.after.clock) d.says
