@@ -5,12 +5,13 @@
     docs/definitions.py --check    exits with 1 where the page is another than would be written
 
 The page begins with definitions.head.md, which is written by hand. Behind it comes each crate, in the order of crates.txt:
-its types in Rust, and its specs files in the order of Lib.antt. Definitions without a comment are named on standard error.
+its types, and its specs files in the order of Lib.antt. Definitions without a comment are named on standard error.
 """
 
 import pathlib
 import re
 import sys
+from itertools import takewhile
 from typing import NamedTuple
 
 DOCS = pathlib.Path(__file__).resolve().parent
@@ -24,7 +25,7 @@ DEFINITION = re.compile(r"(?:abbrev |unfoldable )?pub (?:data |record )?(?!use |
 PART = re.compile(r"  (?:pub )?(\S+) : .*?(?: +-- (.*))?")
 TYPE = re.compile(r"pub (?:struct|enum|trait) (\w+)")
 SECTION = "-- ---- "
-FILE_OF_CRATE = re.compile(r"`(\w+/(?:specs|src)/\w+\.(?:antt|rt))`")
+FILE = re.compile(r"\[(\w+/(?:specs|src)/\w+\.(?:antt|rt))\]")
 
 
 class Definition(NamedTuple):
@@ -62,10 +63,10 @@ def comment_lines(lines):
     return [line.removeprefix("--").removeprefix(" ") for line in lines if line.startswith("--")]
 
 
-def parts_of(lines):
+def parts_in(lines):
     """The constructors or fields with a comment, which stands behind them or else on the line above."""
     parts, above = [], ""
-    for line in lines:
+    for line in takewhile(lambda line: line.startswith("  "), lines):
         part = PART.fullmatch(line)
         if part and (part[2] or above):
             parts.append((part[1], part[2] or above))
@@ -73,25 +74,24 @@ def parts_of(lines):
     return parts
 
 
-def definition_in(block):
-    """What a block of lines defines, or nothing."""
-    for place, line in enumerate(block):
-        if found := DEFINITION.match(line):
-            parts = parts_of(block[place + 1 :]) if line.startswith(("pub data", "pub record")) else []
-            return Definition(found[1], " ".join(comment_lines(block)), parts)
-    return None
+def sections_in(lines):
+    """The sections of a specs file. A definition's comment is on the lines above it, with the line of an operator's rank."""
+    sections, above = [Section("", [])], []
+    for place, line in enumerate(lines):
+        if line.startswith(SECTION):
+            sections.append(Section(line.removeprefix(SECTION), []))
+        elif found := DEFINITION.match(line):
+            parts = parts_in(lines[place + 1 :]) if line.startswith(("pub data", "pub record")) else []
+            sections[-1].definitions.append(Definition(found[1], " ".join(comment_lines(above)), parts))
+        above = [*above, line] if line.startswith(("--", "infix")) else []
+    return sections
 
 
 def specs_in(path):
-    """A specs file, whose blocks of lines have an empty line between them."""
-    first, *blocks = [block.splitlines() for block in path.read_text().split("\n\n")]
-    sections = [Section("", [])]
-    for block in blocks:
-        if block[0].startswith(SECTION):
-            sections.append(Section(block[0].removeprefix(SECTION), []))
-        elif definition := definition_in(block):
-            sections[-1].definitions.append(definition)
-    return Specs(str(path.relative_to(CRATES)), comment_lines(first), sections)
+    """A specs file."""
+    lines = path.read_text().splitlines()
+    head = comment_lines(takewhile(lambda line: line.startswith("--"), lines))
+    return Specs(str(path.relative_to(CRATES)), head, sections_in(lines))
 
 
 def specs_of(crate):
@@ -141,13 +141,6 @@ def types_of(crate):
 # ---- writing the page
 
 
-def link(path):
-    """A link to a file of a crate."""
-    if not (CRATES / path).exists():
-        sys.exit(f"{HEAD.name} names {path}, which is not there")
-    return f"[{path}](../crates/{path})"
-
-
 def cell(text):
     """The text in a cell of a table."""
     return text.replace("|", "\\|")
@@ -172,25 +165,31 @@ def specs_blocks(specs):
     """A specs file: its name, the comment at its head, in which what is indented stays as it is, and its sections."""
     head = ["  " + line if line.startswith("  ") else line for line in specs.head]
     tables = [block for section in specs.sections for block in section_blocks(section)]
-    return [f"### {link(specs.path)}", "\n".join(head), *tables]
+    return [f"### [{specs.path}]", "\n".join(head), *tables]
 
 
 def crate_blocks(crate, types, files):
     """A crate: its name, what it is for, its types, its specs files."""
-    listed = ["Types in Rust:", "\n".join(f"- `{name}`: {says}" for name, says in types)] if types else []
+    listed = ["Types and traits:", "\n".join(f"- `{name}`: {says}" for name, says in types)] if types else []
     return [f"## {crate}", crate_says(crate), *listed, *(block for specs in files for block in specs_blocks(specs))]
 
 
-def head():
-    """What stands at the head of the page, with links to the files that it names."""
-    return FILE_OF_CRATE.sub(lambda found: link(found[1]), HEAD.read_text().strip())
+def targets(text):
+    """Where the links to files of crates lead that stand in a text."""
+    paths = sorted(set(FILE.findall(text)))
+    missing = [path for path in paths if not (CRATES / path).exists()]
+    if missing:
+        sys.exit(f"{HEAD.name} names files that are not there: {', '.join(missing)}")
+    return "\n".join(f"[{path}]: ../crates/{path}" for path in paths)
 
 
 def page(crates):
     """The whole page, of crates with their types and specs files."""
-    contents = ", ".join(f"[{crate}](#{crate})" for crate, _, _ in crates)
-    blocks = [head(), f"The crates, from the lowest layer up: {contents}.", *(block for each in crates for block in crate_blocks(*each))]
-    return "\n\n".join(blocks) + "\n"
+    names = ", ".join(f"[{crate}](#{crate})" for crate, _, _ in crates)
+    contents = f"The crates, from the lowest layer up: {names}."
+    blocks = [HEAD.read_text().strip(), contents, *(block for each in crates for block in crate_blocks(*each))]
+    text = "\n\n".join(block for block in blocks if block)
+    return f"{text}\n\n{targets(text)}\n"
 
 
 def all_crates():
