@@ -4,7 +4,7 @@
     docs/definitions.py            writes the page
     docs/definitions.py --check    exits with 1 where the page is another than would be written
 
-The page begins with definitions.head.md, which is written by hand. Behind it comes each crate, in the order of crates.txt:
+The page begins with definitions.head.md, which is written by hand. After it comes each crate, in the order of crates.txt:
 its types, and its specs files in the order of Lib.antt. Definitions without a comment are named on standard error.
 """
 
@@ -21,7 +21,7 @@ HEAD = DOCS / "definitions.head.md"
 PAGE = DOCS / "DEFINITIONS.md"
 
 DEFINITION = re.compile(r"(?:abbrev |unfoldable )?pub (?:data |record )?(?!use |mod )(\S+)")
-# a constructor or a field, and the comment behind it
+# a constructor or a field, and the comment at the end of its line
 PART = re.compile(r"  (?:pub )?(\S+) : .*?(?: +-- (.*))?")
 TYPE = re.compile(r"pub (?:struct|enum|trait) (\w+)")
 SECTION = "-- ---- "
@@ -64,7 +64,7 @@ def comment_lines(lines):
 
 
 def parts_in(lines):
-    """The constructors or fields with a comment, which stands behind them or else on the line above."""
+    """The constructors or fields with a comment, which ends their line or else stands on the line above."""
     parts, above = [], ""
     for line in takewhile(lambda line: line.startswith("  "), lines):
         part = PART.fullmatch(line)
@@ -201,7 +201,7 @@ def all_crates():
 
 def tell_uncommented(crates):
     """Names the definitions without a comment, a line for each file that has some."""
-    for specs in (specs for _, _, files in crates for specs in files):
+    for specs in [specs for _, _, files in crates for specs in files]:
         names = [definition.name for definition in specs.definitions() if not definition.comment]
         if names:
             print(f"{specs.path}: {len(names)} without a comment: {', '.join(names)}", file=sys.stderr)
@@ -214,7 +214,7 @@ def main(words):
     if words != ["--check"]:
         PAGE.write_text(wanted)
     elif not PAGE.exists() or PAGE.read_text() != wanted:
-        print(f"differs: {PAGE.name}")
+        print(f"differs: docs/{PAGE.name}")
         return 1
     return 0
 
