@@ -2,7 +2,7 @@
 -- before tell. It follows from the turns, and is no premise of the laws.
 use Rattle.std.specs.Prelude.{◌≡◌, ℕ, ◌+◌, ◌⊎◌, Bool, true, false, if◌then◌else◌, List, [], ◌∷◌, ◌++◌, map, option_to_list, IfSome, Option, Some, None}
 use Rattle.std.specs.List.{AllByRecursion, list_all}
-use Rattle.node_rules.specs.Data.{BranchId, Decision, RedoRecord, Sealed, Decided, Stmt, Kind, Msg, Input, Place, Peer}
+use Rattle.node_rules.specs.Data.{BranchId, Decision, RedoRecord, Sealed, Decided, Stmt, Kind, Msg, Input, Place}
 use Rattle.node_rules.specs.Data.decisions
 use Rattle.node_rules.specs.Data.records
 use Rattle.node_rules.specs.Data.params

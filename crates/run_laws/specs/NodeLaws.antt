@@ -2,7 +2,7 @@
 -- they give out, and the commits that they tell.
 use Rattle.std.specs.Prelude.{◌≡◌, ℕ, ◌+◌, ◌<◌, ◌≤◌, ◌||◌, ◌⊎◌, Bool, true, false, if◌then◌else◌, List, [], ◌∷◌, ◌++◌, map, option_to_list, Option, Some, None, IfSome}
 use Rattle.std.specs.List.{AllByRecursion, list_any}
-use Rattle.node_rules.specs.Data.{BranchId, Kind, Kid, Standing, Live, RedoRecord, Place}
+use Rattle.node_rules.specs.Data.{BranchId, Kind, Kid, Standing, RedoRecord, Place}
 use Rattle.node_rules.specs.Data.decisions
 use Rattle.node_rules.specs.Data.kinds
 use Rattle.node_rules.specs.Data.records

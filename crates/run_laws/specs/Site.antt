@@ -1,10 +1,10 @@
 -- What every decision has: its branch is the commit point site of the session tree as it stood at the COMMIT, each other
 -- branch with changes on it or below it is sealed, and what a record commits or holds back are its branch's own changes.
-use Rattle.std.specs.Prelude.{◌≡◌, ◌≢◌, ℕ, List, IfSome, Option, Some, None}
+use Rattle.std.specs.Prelude.{◌≡◌, ◌≢◌, ℕ, List, IfSome, Some, None}
 use Rattle.std.specs.List.{AllByRecursion}
 use Rattle.node_rules.specs.Data.{BranchId, Place, RedoRecord, Decided}
 use Rattle.node_rules.specs.Data.records
-use Rattle.run_laws.specs.Data.{Turn, Happening}
+use Rattle.run_laws.specs.Data.{Happening}
 use Rattle.run_laws.specs.Data.happenings
 use Rattle.run_laws.specs.Facts.{Facts}
 use Rattle.run_laws.specs.Branches.{Sealed, Trail, Plan, Planned, exit_at, own_at, plan_at}

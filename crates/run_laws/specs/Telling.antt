@@ -1,6 +1,6 @@
 -- What is told of a run so far, and what decides what comes next beside the facts: the pending calls, HOLD, the orders on
 -- disks and the points of crash-test comments that have not struck, the lines.
-use Rattle.std.specs.Prelude.{ℕ, Bool, true, false, List, [], ◌∷◌, map, unwrap_or, Option, Some, None}
+use Rattle.std.specs.Prelude.{ℕ, Bool, true, false, List, [], map, unwrap_or, Option, None}
 use Rattle.node_rules.specs.Data.{Stmt, Place}
 use Rattle.node_rules.specs.Words.{numbered, set_numbered}
 use Rattle.node_rules.specs.Ids.{name_of}

@@ -1,12 +1,13 @@
 -- What each happening adds to what is known of branches.
-use Rattle.std.specs.Prelude.{ℕ, ◌+◌, ◌==◌, ◌&&◌, ◌||◌, not, Bool, true, false, if◌then◌else◌, List, [], ◌∷◌, ◌++◌, map, filter, length, max, nat_lt, is_none, is_some, Option, Some, None}
+use Rattle.std.specs.Prelude.{ℕ, ◌+◌, ◌==◌, ◌&&◌, ◌||◌, not, Bool, true, false, if◌then◌else◌, List, [], ◌∷◌, ◌++◌, map, filter, length, max, is_none, Option, Some, None}
 use Rattle.std.specs.List.{list_any}
 use Rattle.node_rules.specs.Data.{Change, Stmt, Answer, BranchId, RedoRecord, Kind, Msg, Input, Place}
 use Rattle.node_rules.specs.Data.records
 use Rattle.node_rules.specs.Data.kinds
 use Rattle.node_rules.specs.Data.stmts
 use Rattle.node_rules.specs.Data.inputs
-use Rattle.node_rules.specs.Words.{same, is_branch}
+use Rattle.session_tree.specs.Live.{is_branch}
+use Rattle.node_rules.specs.Words.{same}
 use Rattle.node_rules.specs.Kept.{Outcome}
 use Rattle.row_locks.specs.Locks.{Lock, without_reads}
 use Rattle.run_laws.specs.Data.{Command, Entry, Finished, Took, Turn, Happening}
