@@ -3,3 +3,4 @@ pub mod StandLemmas
 mod ActLemmas
 mod NextLemmas
 pub mod TurnLemmas
+pub mod RowLemmas
