@@ -1,13 +1,12 @@
 -- The clock of a node: no turn sets it back, what a turn decides comes later, and it is not below the SCNs that records name.
-use Rattle.std.proofs.Common.{◌≡◌, ℕ, ◌+◌, ◌≤◌, true, false, List, Option, Some, None, inl, inr, sym, subst, arith}
+use Rattle.std.proofs.Common.{◌≡◌, ℕ, ◌≤◌, List, None, inl, inr, sym, subst, arith}
 use Rattle.std.specs.Prelude.{IfSome, ◌⊎◌}
 use Rattle.node_rules.specs.Data.{Stmt, Done, Decision, RedoRecord, Place, Input}
 use Rattle.node_rules.specs.Data.decisions
-use Rattle.node_rules.specs.Data.records
 use Rattle.node_rules.specs.Data.inputs
 use Rattle.node_rules.specs.Data.acts
 use Rattle.node_rules.specs.declared.next.Next.TheVariants as nexts
-use Rattle.node_rules.specs.Kept.{Kept, Deed, raised}
+use Rattle.node_rules.specs.Kept.{Kept, Deed}
 use Rattle.node_rules.specs.Records.{applied, raised_by}
 use Rattle.node_rules.specs.Turn.{turn_of, heard, deed_of}
 use Rattle.node_rules.proofs.Steps as steps

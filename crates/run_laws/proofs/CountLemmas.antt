@@ -1,5 +1,5 @@
 -- How many rows of a branch a record makes: one where it is the branch's Sealed or Decided, else no more than there were.
-use Rattle.std.proofs.Common.{◌≡◌, ℕ, ◌+◌, ◌≤◌, Bool, true, false, not, if◌then◌else◌, List, map, refl, ap, arith}
+use Rattle.std.proofs.Common.{◌≡◌, ℕ, ◌+◌, ◌≤◌, Bool, true, false, not, if◌then◌else◌, List, refl, arith}
 use Rattle.std.proofs.lemmas.Bool.{cond_both}
 use Rattle.redo_codec.specs.Kept.{stands_at, add_kept, keep_decided, ended_commit, forced_state, in_state, met_as, forgot_as, is_done, hidden_as, kept_after}
 use Rattle.redo_codec.specs.Durable.{durable_after}

@@ -1,15 +1,16 @@
 -- No branch id is given out twice: a branch has one row at a node or is live there once, and not both.
-use Rattle.std.proofs.Common.{◌≡◌, ℕ, ◌+◌, ◌-◌, ◌<◌, ◌≤◌, not, Bool, true, false, if◌then◌else◌, List, [], ◌∷◌, ◌++◌, length, Option, Some, None, refl, sym, ap, subst, ◌∙◌, append-nil, arith}
+use Rattle.std.proofs.Common.{◌≡◌, ℕ, ◌+◌, ◌≤◌, not, true, false, if◌then◌else◌, List, [], ◌∷◌, ◌++◌, length, Option, Some, None, refl, sym, ap, subst, ◌∙◌, append-nil, arith}
 use Rattle.std.specs.Prelude.{IfSome}
 use Rattle.std.specs.Option.{option_to_list}
 use Rattle.std.proofs.lemmas.List.{length-append}
 use Rattle.tran_ids.proofs.NumberedLemmas.{set_length}
 use Rattle.redo_codec.specs.Durable.{durable_after}
-use Rattle.node_rules.specs.Data.{Stmt, Done, BranchId, RedoRecord, Standing, Live, Place, Input}
+use Rattle.node_rules.specs.Data.{Stmt, Done, BranchId, RedoRecord, Live, Place, Input}
 use Rattle.node_rules.specs.Data.params
 use Rattle.node_rules.specs.Data.decisions
 use Rattle.node_rules.specs.Data.records
 use Rattle.node_rules.specs.Data.acts
+use Rattle.session_tree.specs.Live.{new_edge}
 use Rattle.node_rules.specs.declared.next.Next.TheVariants as nexts
 use Rattle.node_rules.specs.declared.session.PendingCall.TheVariants as pending
 use Rattle.node_rules.specs.declared.session.Session.{Session}
@@ -19,7 +20,7 @@ use Rattle.node_rules.specs.Sessions.{session_at, with_root, no_transaction, wit
 use Rattle.node_rules.specs.Records.{applied, nothing_stored, stored_by}
 use Rattle.node_rules.specs.Inputs.{IsSession}
 use Rattle.node_rules.specs.Statement.{ran, after_run}
-use Rattle.node_rules.specs.Calls.{next_child, with_edge, new_edge, hears_reply, heard_sessions, opens_branch}
+use Rattle.node_rules.specs.Calls.{next_child, with_edge, hears_reply, heard_sessions, opens_branch}
 use Rattle.node_rules.specs.Prepare.{is_alone, sealed_record, decided_record, ready}
 use Rattle.node_rules.specs.Commit.{acked_by}
 use Rattle.node_rules.specs.Client.{new_root, begun_by}
@@ -28,12 +29,12 @@ use Rattle.node_rules.proofs.Steps as steps
 use Rattle.node_rules.proofs.Steps.{Step, Makes}
 use Rattle.node_rules.proofs.StandLemmas.{live_so}
 use Rattle.run_laws.specs.Lawful.{boots}
-use Rattle.run_laws.specs.NodeLaws.{count_of, IdsAreFresh}
+use Rattle.run_laws.specs.NodeLaws.{IdsAreFresh}
 use Rattle.run_laws.proofs.ListLemmas.{count_put, count_filter, count_moved}
 use Rattle.run_laws.proofs.LiveLemmas.{IsLive, asked_live, acting_live}
 use Rattle.run_laws.proofs.SessionLemmas.{seqs, seq_at, session_seq, set_seqs, still_seqs, call_seqs, needs_seqs, ended_seqs, pends_seqs, answered_seqs, heard_seqs, decided_seqs, abandoned_seqs, ended_if_seqs}
 use Rattle.run_laws.proofs.CountLemmas.{rows_of, makes_row, rows_applied, rows_unacked}
-use Rattle.run_laws.proofs.IdLemmas.{seqs_rise, seq_set, Given, Before, In_session, Over_link, given_before, in_use, Ids, fewer, grown}
+use Rattle.run_laws.proofs.IdLemmas.{seqs_rise, seq_set, Given, Before, In_session, Over_link, given_before, Ids, fewer, grown}
 use Rattle.run_laws.proofs.StoredLemmas.{StoresOf, stored_with, step_stores_of, start_stores}
 use Rattle.run_laws.proofs.NodeLemmas.{Keeps, node_keeps}
 
@@ -238,7 +239,7 @@ start_of_disk rs boot disk next =
     let starts : boots (rs ++ records.Boot boot ∷ []) ≡ boots rs + 1 = boots_started rs boot in
     let rows : (b : BranchId) → rows_of b (stored_by nothing_stored (rs ++ records.Boot boot ∷ [])).durable.kept ≤ rows_of b (stored_by nothing_stored rs).durable.kept
     = λ b. let same_rows : rows_of b (stored_by nothing_stored (rs ++ records.Boot boot ∷ [])).durable.kept ≡ rows_of b (applied (stored_by nothing_stored rs) (records.Boot boot)).durable.kept
-      = ap (λ s. rows_of b s.durable.kept) now in omega (arith, same_rows, rows_applied b (stored_by nothing_stored rs) (records.Boot boot)) in
+    = ap (λ s. rows_of b s.durable.kept) now in omega (arith, same_rows, rows_applied b (stored_by nothing_stored rs) (records.Boot boot)) in
     record {
       boot = ap (λ s. s.durable.boot) now ∙ (booted (stored_by nothing_stored rs) boot ∙ (next ∙ sym starts));
       stored = start_stores (rs ++ records.Boot boot ∷ []);

@@ -1,10 +1,10 @@
 -- Which branch ids a node has given out: those of earlier starts, of the transactions of its sessions, of the branches that
 -- were opened. Each has one row or one live branch at most.
-use Rattle.std.proofs.Common.{◌≡◌, ℕ, zero, suc, ◌+◌, ◌-◌, ◌<◌, ◌≤◌, Bool, true, false, if◌then◌else◌, List, [], ◌∷◌, ◌++◌, length, Option, Some, None, inl, inr, refl, sym, ap, subst, ◌∙◌, arith}
+use Rattle.std.proofs.Common.{◌≡◌, ℕ, zero, suc, ◌+◌, ◌-◌, ◌<◌, ◌≤◌, Bool, true, false, if◌then◌else◌, List, [], ◌∷◌, ◌++◌, length, Some, inl, inr, refl, sym, ap, subst, arith}
 use Rattle.std.specs.Prelude.{◌⊎◌, unwrap_or, get_or, slice_get}
 use Rattle.std.proofs.lemmas.Option.{slice_get-get_or}
 use Rattle.tran_ids.proofs.BranchLemmas.{equal_from_same}
-use Rattle.tran_ids.proofs.NumberedLemmas.{set_length, set_found, set_or_before}
+use Rattle.tran_ids.proofs.NumberedLemmas.{set_found, set_or_before}
 use Rattle.node_rules.specs.Data.{BranchId, Standing, Live}
 use Rattle.node_rules.specs.Words.{same, numbered, set_numbered}
 use Rattle.node_rules.specs.Kept.{live_id, standing_id}

@@ -1,12 +1,11 @@
 -- What the rows of a node know, its records say: a branch tells Committed only where a record of its node says that commit.
 use Rattle.std.proofs.Common.{◌≡◌, ℕ, not, Bool, true, false, if◌then◌else◌, List, [], ◌∷◌, ◌++◌, map, Option, Some, None, inl, inr, refl, sym, subst, ◌∙◌}
-use Rattle.std.proofs.lemmas.Bool.{cond_both}
 use Rattle.std.specs.Prelude.{◌⊎◌}
 use Rattle.std.specs.Option.{option_to_list}
 use Rattle.std.specs.List.{AllByRecursion}
 use Rattle.tran_ids.proofs.BranchLemmas.{equal_from_same}
 use Rattle.tran_ids.specs.Branch.{branch_below}
-use Rattle.redo_codec.specs.Kept.{stands_at, add_kept, keep_decided, ended_commit, forced_state, in_state, met_as, forgot_as, is_done, hidden_as, kept_after}
+use Rattle.redo_codec.specs.Kept.{stands_at, add_kept, ended_commit, forced_state, in_state, met_as, forgot_as, is_done, hidden_as, kept_after}
 use Rattle.redo_codec.specs.Durable.{durable_after}
 use Rattle.redo_codec.specs.Rows.{sealed_as, decided_as, has_neighbors}
 use Rattle.node_rules.specs.Data.{BranchId, Decision, Kind, Msg, RedoRecord, Standing, Place}
@@ -15,7 +14,7 @@ use Rattle.node_rules.specs.Data.kinds
 use Rattle.node_rules.specs.Data.params
 use Rattle.node_rules.specs.Data.records
 use Rattle.node_rules.specs.Words.{change_where, drop_where}
-use Rattle.node_rules.specs.Kept.{Kept, Stored, Deed}
+use Rattle.node_rules.specs.Kept.{Kept, Stored}
 use Rattle.node_rules.specs.Records.{applied, nothing_stored, stored_by}
 use Rattle.node_rules.specs.Turn.{deed_of, stamped}
 use Rattle.run_laws.specs.Data.{Turn, Happening, Command}

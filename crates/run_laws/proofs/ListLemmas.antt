@@ -1,10 +1,9 @@
 -- Lists: what holds of each item, whether an item passes, how many are of a branch, maps, and two lists that are set at
 -- one number.
-use Rattle.std.proofs.Common.{◌≡◌, ℕ, zero, suc, ◌+◌, ◌≤◌, ◌||◌, not, Bool, true, false, if◌then◌else◌, List, [], ◌∷◌, ◌++◌, map, length, filter, find, Option, Some, None, inl, inr, refl, sym, ap, subst, ◌∙◌, arith}
+use Rattle.std.proofs.Common.{◌≡◌, ℕ, zero, suc, ◌+◌, ◌≤◌, ◌||◌, not, Bool, true, false, if◌then◌else◌, List, [], ◌∷◌, ◌++◌, map, length, filter, find, Some, inl, inr, refl, sym, ap, subst, ◌∙◌, arith}
 use Rattle.std.proofs.lemmas.Bool.{cond_both}
 use Rattle.std.specs.Prelude.{◌⊎◌}
 use Rattle.std.specs.List.{AllByRecursion, list_any}
-use Rattle.std.proofs.lemmas.Map.Views.{any-filter_same}
 use Rattle.tran_ids.specs.Branch.{same, branch_below, put_by_branch}
 use Rattle.tran_ids.specs.Listed.{is_item_of, item_at, put_item, drop_item, numbered, set_numbered}
 use Rattle.tran_ids.specs.declared.branch.BranchId.{BranchId}

@@ -1,26 +1,25 @@
 -- Each lock of a node is held by a branch that is live there, or in doubt.
-use Rattle.std.proofs.Common.{◌≡◌, ℕ, ◌||◌, not, Bool, true, false, if◌then◌else◌, List, [], ◌∷◌, ◌++◌, map, filter, fold, Some, None, refl, sym, ap, subst, ◌∙◌, true≢false}
+use Rattle.std.proofs.Common.{◌≡◌, ℕ, ◌||◌, not, Bool, true, false, if◌then◌else◌, List, [], ◌∷◌, ◌++◌, fold, Some, None, refl, sym, ap, subst, ◌∙◌, true≢false}
 use Rattle.std.specs.List.{AllByRecursion, list_any}
 use Rattle.std.proofs.lemmas.Bool.{or_right}
 use Rattle.std.proofs.lemmas.List.Folds.{list_any-append}
 use Rattle.std.proofs.lemmas.Map.Views.{any-filter_same}
 use Rattle.tran_ids.proofs.BranchLemmas.{equal_from_same, same_from_equal}
-use Rattle.row_locks.specs.Locks.{Lock, is_held_by, is_lock_on, taken, doubted, without, in_doubt_from_now}
+use Rattle.row_locks.specs.Locks.{Lock, is_held_by, is_lock_on, taken, doubted, without}
 use Rattle.stmt_run.specs.Run.{locks_after, take_keys}
-use Rattle.node_rules.specs.Data.{Value, Change, Table, Stmt, Done, BranchId, Sealed, RedoRecord, Place, Input, Doubt, Live}
-use Rattle.node_rules.specs.Data.records
+use Rattle.node_rules.specs.Data.{Value, Change, Table, Stmt, Done, BranchId, RedoRecord, Place, Input, Doubt, Live}
 use Rattle.node_rules.specs.Data.acts
 use Rattle.node_rules.specs.declared.next.Next.TheVariants as nexts
 use Rattle.node_rules.specs.Words.{same, is_item_of, item_at, put_item, drop_item}
-use Rattle.node_rules.specs.Kept.{Kept, Stored, Deed, live_id, doubt_id, without_branch}
+use Rattle.node_rules.specs.Kept.{Kept, Deed, live_id, doubt_id}
 use Rattle.node_rules.specs.Records.{applied, with_record, with_doubt, take_changed, doubt_over}
 use Rattle.node_rules.specs.Prepare.{sealed_of, own_changes}
 use Rattle.node_rules.specs.Statement.{Ran, Refuses, Reads, Writes, ran}
-use Rattle.node_rules.specs.Turn.{kept_by, with_doubt_of}
+use Rattle.node_rules.specs.Turn.{with_doubt_of}
 use Rattle.node_rules.proofs.Steps as steps
 use Rattle.node_rules.proofs.Steps.{Step, Makes}
 use Rattle.node_rules.proofs.StandLemmas.{live_so}
-use Rattle.run_laws.specs.NodeLaws.{may_hold, HoldersAreThere}
+use Rattle.run_laws.specs.NodeLaws.{HoldersAreThere}
 use Rattle.run_laws.proofs.ListLemmas.{all_weaker, all_filter, all_map, any_found, any_put}
 use Rattle.run_laws.proofs.LiveLemmas.{asked_live, acting_live}
 use Rattle.run_laws.proofs.NodeLemmas.{KeepsAlone, kept_alone}
