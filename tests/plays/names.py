@@ -26,7 +26,7 @@ UNFOLDED = (
     (f"{RULES}.Force", "branch_to_force purge"),
     (f"{RULES}.Turn", "turn_of start_of stand_of"),
     (f"{RULES}.Points", "passes point_of"),
-    (f"{RULES}.Views", "pending_rows neighbor_rows"),
+    ("Rattle.pending_view.specs.Views", "pending_rows neighbor_rows"),
     ("Rattle.net_bag.specs.Net", "sent_on delivered lost cut_over joined stopped started"),
     (f"{LAWS}.Disks", "struck after_append"),
     (f"{LAWS}.Cuts", "cut_by"),
@@ -41,7 +41,7 @@ UNFOLDED = (
 CITED = (
     ("Rattle.std.proofs.Common", "◌≡◌ ℕ true false List [] ◌∷◌ ◌++◌ Some None negsuc codes refl"),
     (f"{LAWS}.Report", "report"),
-    (f"{LAWS}.Shown", "book_lines"),
+    ("Rattle.book.specs.Texts", "book_lines"),
     (RULES_DATA, "Place"),
     (DATA, "Command"),
     (

@@ -7,7 +7,7 @@ use Rattle.node_rules.specs.Data.decisions
 use Rattle.node_rules.specs.Data.states
 use Rattle.node_rules.specs.Data.nexts
 use Rattle.node_rules.specs.Data.kinds
-use Rattle.node_rules.specs.Words.{is_branch}
+use Rattle.session_tree.specs.Live.{is_branch}
 use Rattle.node_rules.specs.Commit.{all_acked, is_mixed, first_decision, known_decision, decision_at, next_on_decision, knows_commit, next_on_ack, next_on_forgotten}
 use Rattle.node_rules.specs.Inputs.{Came, Brings, Commit_came}
 use Rattle.node_rules.proofs.Steps.{IsMet, Doing, Stays, Ends_so, Meets_so, Acks_again, Acks_on, Forgets_first, Forgets_after, Has_forgotten}

@@ -20,13 +20,13 @@ use Rattle.node_rules.specs.Data.nexts
 use Rattle.node_rules.specs.Data.waiting
 use Rattle.node_rules.specs.Data.admits
 use Rattle.node_rules.specs.Data.pending
-use Rattle.node_rules.specs.Words.{is_branch}
-use Rattle.node_rules.specs.Inputs.{IsSession, IsFit, Came, IsCall, Brings}
+use Rattle.session_tree.specs.Live.{is_branch, new_edge}
+use Rattle.node_rules.specs.Inputs.{IsSession, Came, IsCall, Brings}
 use Rattle.session_tree.specs.Tree.{weight, step}
 use Rattle.node_rules.specs.Names.{Runs_here, Over, Through, Nowhere_to, way_of, passed_on}
 use Rattle.node_rules.specs.Sessions.{session_at, with_call}
 use Rattle.node_rules.specs.Kept.{Kept, Deed, Branch, branch_at, live_at, standing_at, with_standing, nothing, saying, ending, post}
-use Rattle.node_rules.specs.Calls.{answered, calls_over, opens_through, runs_here, takes_call, admit, with_edge, new_edge, reply_of, hears_reply, reply_heard, replies, gone_reply, is_opening, opened_says, open_by}
+use Rattle.node_rules.specs.Calls.{answered, calls_over, opens_through, runs_here, takes_call, admit, with_edge, reply_of, hears_reply, reply_heard, replies, gone_reply, is_opening, opened_says, open_by}
 use Rattle.node_rules.specs.Prepare.{act_turn, drops, collecting, with_comment, voted, answers_first, all_answered, without_read_keys}
 use Rattle.node_rules.specs.Commit.{next_turn, acked_by, ack_counts, all_acked, is_mixed, knows_commit, is_asked_again}
 use Rattle.node_rules.specs.Recovery.{ask_answer, askings}

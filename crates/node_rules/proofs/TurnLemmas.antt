@@ -16,7 +16,7 @@ use Rattle.node_rules.specs.Data.inputs
 use Rattle.node_rules.specs.Data.waiting
 use Rattle.node_rules.specs.Data.admits
 use Rattle.node_rules.specs.Data.pending
-use Rattle.node_rules.specs.Words.{is_branch}
+use Rattle.session_tree.specs.Live.{is_branch}
 use Rattle.node_rules.specs.Kept.{Kept, Branch, nothing, saying, standing_id, live_at, branch_at}
 use Rattle.node_rules.specs.Names.{Way, way_of, Runs_here, Over, Through, Nowhere_to}
 use Rattle.node_rules.specs.Sessions.{session_at, with_call}

@@ -4,17 +4,17 @@ use Rattle.std.specs.Prelude.{ℕ, ◌+◌, ◌-◌, ◌==◌, ◌&&◌, Bool, f
 use Rattle.node_rules.specs.Data.{Table, Stmt, Answer, Advice, BranchId, Edge, Live, Place, ReplyFields, Going, Waits, Work, Admit, Opening, Session, Finished, Post}
 use Rattle.node_rules.specs.Data.answers
 use Rattle.node_rules.specs.Data.kinds
-use Rattle.node_rules.specs.Data.votes
 use Rattle.node_rules.specs.Data.waiting
 use Rattle.node_rules.specs.Data.admits
 use Rattle.node_rules.specs.Data.pending
+use Rattle.session_tree.specs.Live.{fresh_live, new_edge, peer_of}
 use Rattle.node_rules.specs.Words.{same, one}
 use Rattle.node_rules.specs.Refusals.{dtx}
 use Rattle.session_tree.specs.Tree.{weight, count, room}
-use Rattle.node_rules.specs.Names.{Way, Runs_here, Over, Through, Nowhere_to, way_of, passed_on, peer_of}
+use Rattle.node_rules.specs.Names.{Way, Runs_here, Over, Through, Nowhere_to, way_of, passed_on}
 use Rattle.node_rules.specs.Statement.{ran, node_after_run, after_run, answer_of_run}
 use Rattle.node_rules.specs.Sessions.{session_at, with_call, needs_rollback}
-use Rattle.node_rules.specs.Kept.{Kept, Deed, Branch, nothing, saying, post, with_branch, fresh_live}
+use Rattle.node_rules.specs.Kept.{Kept, Deed, Branch, nothing, saying, post, with_branch}
 
 -- at a root the session's call is pending from now on
 abbrev pub call_pends : List Session → Live → List Session
@@ -155,10 +155,6 @@ open_by p k parent edge root depth None = saying (opens_branch p k parent edge r
 -- a message Open
 abbrev pub on_open : Place → Kept → BranchId → ℕ → BranchId → ℕ → Deed
 on_open p k parent edge root depth = open_by p k parent edge root depth (find (is_opening parent edge) k.opens)
-
--- a new child: it has told its strength alone
-abbrev pub new_edge : BranchId → List ℕ → ℕ → Edge
-new_edge peer link strength = record { peer = peer; link = link; strength = strength; weight = None; count = 1; vote = votes.Unasked }
 
 -- with one more child, to which no call was made
 abbrev pub with_edge : Branch → Edge → Branch

@@ -11,6 +11,7 @@ use Rattle.node_rules.specs.Data.stmts
 use Rattle.node_rules.specs.Data.kinds
 use Rattle.node_rules.specs.Data.waiting
 use Rattle.node_rules.specs.Data.pending
+use Rattle.session_tree.specs.Live.{fresh_live}
 use Rattle.node_rules.specs.Ids.{decimal}
 use Rattle.node_rules.specs.Words.{same_text, one}
 use Rattle.node_rules.specs.Refusals.{ora, dtx}
@@ -19,7 +20,7 @@ use Rattle.node_rules.specs.Sessions.{session_at, with_session, with_call, with_
 use Rattle.node_rules.specs.Calls.{statement_at, strength_of}
 use Rattle.node_rules.specs.Prepare.{collects, with_comment, root_drops, to_children}
 use Rattle.node_rules.specs.Force.{branch_to_force, force_commit, force_rollback, purge}
-use Rattle.node_rules.specs.Kept.{Kept, Deed, Branch, nothing, ending, with_branch, without_branch, live_at, branch_at, standing_at, fresh_live}
+use Rattle.node_rules.specs.Kept.{Kept, Deed, Branch, nothing, ending, with_branch, without_branch, live_at, branch_at, standing_at}
 
 -- the call ends with a refusal
 abbrev pub refuses : Kept → ℕ → Refusal → Deed

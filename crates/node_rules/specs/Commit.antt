@@ -9,7 +9,8 @@ use Rattle.node_rules.specs.Data.kinds
 use Rattle.node_rules.specs.Data.records
 use Rattle.node_rules.specs.Data.states
 use Rattle.node_rules.specs.Data.nexts
-use Rattle.node_rules.specs.Words.{same, is_branch}
+use Rattle.session_tree.specs.Live.{is_branch}
+use Rattle.node_rules.specs.Words.{same}
 use Rattle.node_rules.specs.Records.{with_record}
 use Rattle.node_rules.specs.Sessions.{commit_ended, commit_answer, commit_complete, tran_refusal}
 use Rattle.node_rules.specs.Kept.{Kept, Deed, nothing, saying, post, post_one, to_each, to_one, with_standing}

@@ -1,8 +1,7 @@
 -- What a node keeps from turn to turn, and what one turn does.
 pub use Rattle.redo_codec.specs.Kept.{stands_at}
-use Rattle.std.specs.Prelude.{ℕ, false, List, [], ◌∷◌, map, max, Option, Some, None}
+use Rattle.std.specs.Prelude.{ℕ, List, [], ◌∷◌, map, max, Option, Some, None}
 use Rattle.node_rules.specs.Data.{BranchId, RedoRecord, Standing, Durable, Live, Kind, Msg, Owned, Doubt, ChangeSet, Work, Opening, Session, Finished, Post, Answer}
-use Rattle.node_rules.specs.Data.phases
 use Rattle.node_rules.specs.Words.{item_at, put_item, drop_item}
 use Rattle.node_rules.specs.Rows.{TableRows}
 use Rattle.row_locks.specs.Locks.{Lock, without}
@@ -153,25 +152,6 @@ standing_at k b = item_at standing_id k.stored.durable.kept b
 abbrev pub with_standing : Kept → Standing → Kept
 with_standing k s = record k { stored = record k.stored { durable = record k.stored.durable { kept = put_item standing_id k.stored.durable.kept s } } }
 
--- the children of a live branch, in order of reference
-abbrev pub children_of : Live → List BranchId
-children_of l = map (λ e. e.peer) l.edges
-
 -- with the clock raised to this SCN
 abbrev pub raised : Kept → ℕ → Kept
 raised k scn = record k { clock = max k.clock scn }
-
--- a live branch that has just begun
-abbrev pub fresh_live : BranchId → BranchId → Option BranchId → ℕ → ℕ → Live
-fresh_live me root parent depth strength = record {
-  me = me;
-  root = root;
-  parent = parent;
-  depth = depth;
-  changed = false;
-  strength = strength;
-  edges = [];
-  phase = phases.Working;
-  advice = None;
-  comment = [];
-}

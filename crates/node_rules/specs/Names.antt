@@ -1,11 +1,12 @@
 -- What a statement's table name means at a node, and where the statement goes from a branch: it runs here, goes to a
 -- child, opens a link, or is refused. (Database Administrator's Guide, "Managing a Distributed Database": database links
 -- and synonyms.)
-use Rattle.std.specs.Prelude.{ℕ, ◌+◌, ◌==◌, ◌||◌, if◌then◌else◌, List, [], find, length, position, slice_get, nat_le, option_map, Option, Some, None}
-use Rattle.node_rules.specs.Data.{Table, TableRef, Link, Synonym, Stmt, Refusal, BranchId, Durable, Live, Place}
+use Rattle.std.specs.Prelude.{ℕ, ◌+◌, ◌==◌, ◌||◌, if◌then◌else◌, List, [], find, length, position, nat_le, option_map, Option, Some, None}
+use Rattle.node_rules.specs.Data.{Table, TableRef, Link, Synonym, Stmt, Refusal, Durable, Live, Place}
 use Rattle.node_rules.specs.Data.stmts
 use Rattle.node_rules.specs.Words.{same_text}
 use Rattle.node_rules.specs.Refusals.{ora, dtx}
+use Rattle.session_tree.specs.Live.{edge_by_link}
 use Rattle.session_tree.specs.Tree.{room, most_depth}
 
 -- What a statement's table name means at a node.
@@ -69,14 +70,6 @@ node_named names (Some l) = option_map (λ i. i + 1) (position (same_text l.targ
 -- the number of the node that a link of the catalog leads to
 abbrev pub target_of : Place → Durable → List ℕ → Option ℕ
 target_of p d link = node_named p.names (find (λ l. same_text l.name link) d.links)
-
--- the place of the child that a link leads to, where it was used before
-abbrev pub edge_by_link : Live → List ℕ → Option ℕ
-edge_by_link l link = position (λ e. same_text e.link link) l.edges
-
--- the child at a place
-abbrev pub peer_of : Live → ℕ → Option BranchId
-peer_of l i = option_map (λ e. e.peer) (slice_get l.edges i)
 
 -- Where a statement goes from a branch.
 pub data Way : Type 0 where

@@ -11,14 +11,14 @@ use Rattle.node_rules.specs.Data.votes
 use Rattle.node_rules.specs.Data.phases
 use Rattle.node_rules.specs.Data.walks
 use Rattle.node_rules.specs.Data.acts
+use Rattle.session_tree.specs.Live.{children_of, peer_of}
 use Rattle.node_rules.specs.Words.{same}
 use Rattle.row_locks.specs.Locks.{without_reads}
 use Rattle.node_rules.specs.Rows.{changes_of}
 use Rattle.node_rules.specs.Records.{with_record}
 use Rattle.session_tree.specs.Tree.{weight, step}
-use Rattle.node_rules.specs.Names.{peer_of}
 use Rattle.node_rules.specs.Sessions.{commit_ended, commit_answer, commit_complete, tran_refusal}
-use Rattle.node_rules.specs.Kept.{Kept, Deed, nothing, saying, to_each, to_one, sets_at, with_live, without_branch, children_of}
+use Rattle.node_rules.specs.Kept.{Kept, Deed, nothing, saying, to_each, to_one, sets_at, with_live, without_branch}
 
 -- ---- what a branch does next
 

@@ -4,7 +4,8 @@ use Rattle.node_rules.specs.Data.{Answer, BranchId, PendingCall, Session, Finish
 use Rattle.node_rules.specs.Data.answers
 use Rattle.node_rules.specs.Data.dones
 use Rattle.node_rules.specs.Data.pending
-use Rattle.node_rules.specs.Words.{is_branch, numbered, set_numbered, one}
+use Rattle.session_tree.specs.Live.{is_branch}
+use Rattle.node_rules.specs.Words.{numbered, set_numbered, one}
 use Rattle.node_rules.specs.Refusals.{ora}
 use Rattle.node_rules.specs.Ids.{local_text}
 

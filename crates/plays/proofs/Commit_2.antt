@@ -1,7 +1,7 @@
 -- Plays of the topic commit.
 use Rattle.std.proofs.Common.{◌≡◌, List, [], ◌∷◌, ◌++◌, codes, refl}
 use Rattle.run_laws.specs.Report.{report}
-use Rattle.run_laws.specs.Shown.{book_lines}
+use Rattle.book.specs.Texts.{book_lines}
 use Rattle.node_rules.specs.Data.stmts
 use Rattle.run_laws.specs.Data.{Command}
 use Rattle.run_laws.specs.Data.commands

@@ -16,7 +16,7 @@ use Rattle.node_rules.specs.Recovery.{recovery}
 use Rattle.node_rules.specs.Force.{branch_to_force, purge}
 use Rattle.node_rules.specs.Turn.{turn_of, start_of, stand_of}
 use Rattle.node_rules.specs.Points.{passes, point_of}
-use Rattle.node_rules.specs.Views.{pending_rows, neighbor_rows}
+use Rattle.pending_view.specs.Views.{pending_rows, neighbor_rows}
 use Rattle.net_bag.specs.Net.{sent_on, delivered, lost, cut_over, joined, stopped, started}
 use Rattle.run_laws.specs.Disks.{struck, after_append}
 use Rattle.run_laws.specs.Cuts.{cut_by}

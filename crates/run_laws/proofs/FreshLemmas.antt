@@ -18,7 +18,8 @@ use Rattle.node_rules.specs.Sessions.{session_at, with_root, no_transaction, wit
 use Rattle.node_rules.specs.Records.{applied, nothing_stored, stored_by}
 use Rattle.node_rules.specs.Inputs.{IsSession}
 use Rattle.node_rules.specs.Statement.{ran, after_run}
-use Rattle.node_rules.specs.Calls.{next_child, with_edge, new_edge, hears_reply, heard_sessions, opens_branch}
+use Rattle.session_tree.specs.Live.{new_edge}
+use Rattle.node_rules.specs.Calls.{next_child, with_edge, hears_reply, heard_sessions, opens_branch}
 use Rattle.node_rules.specs.Prepare.{is_alone, sealed_record, decided_record, ready}
 use Rattle.node_rules.specs.Commit.{acked_by}
 use Rattle.node_rules.specs.Client.{new_root, begun_by}

@@ -9,15 +9,15 @@ use Rattle.node_rules.specs.Data.kinds
 use Rattle.node_rules.specs.Data.records
 use Rattle.node_rules.specs.Data.inputs
 use Rattle.node_rules.specs.Data.acts
+use Rattle.session_tree.specs.Live.{children_of, peer_of, new_edge}
 use Rattle.node_rules.specs.declared.post.Post.{Post}
 use Rattle.node_rules.specs.declared.session.Session.{Session}
 use Rattle.node_rules.specs.declared.next.Beyond.{Beyond}
 use Rattle.node_rules.specs.declared.next.Next.TheVariants as nexts
 use Rattle.node_rules.specs.Words.{same, item_at, put_item, put_by_branch}
-use Rattle.node_rules.specs.Kept.{Kept, Branch, Deed, post_one, to_each, to_one, children_of, standing_id}
-use Rattle.node_rules.specs.Names.{peer_of}
+use Rattle.node_rules.specs.Kept.{Kept, Branch, Deed, post_one, to_each, to_one, standing_id}
 use Rattle.session_tree.specs.Tree.{step as step_from}
-use Rattle.node_rules.specs.Calls.{answer_says, exec_to, with_edge, new_edge, hears_reply}
+use Rattle.node_rules.specs.Calls.{answer_says, exec_to, with_edge, hears_reply}
 use Rattle.node_rules.specs.Statement.{ran, after_run}
 use Rattle.node_rules.specs.Prepare.{path_of, prepares, site_neighbors, sealed_record, decided_record}
 use Rattle.node_rules.specs.Commit.{acked_by, all_acked, beyond, is_neighbor, passes_commit, rollback_to, passes}

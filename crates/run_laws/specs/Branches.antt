@@ -2,10 +2,10 @@
 -- and the keys that it holds, the runs that answers came from, and the plans of the COMMITs that were accepted. All of it
 -- is read off the happenings; no node is asked what it remembers. (Database Administrator's Guide, "Distributed
 -- Transactions Concepts".)
-use Rattle.std.specs.Prelude.{ℕ, ◌==◌, ◌&&◌, not, Bool, true, false, if◌then◌else◌, List, [], ◌∷◌, ◌++◌, filter, find, flat_map, is_none, Option, Some, None}
+use Rattle.std.specs.Prelude.{ℕ, ◌==◌, ◌&&◌, Bool, false, if◌then◌else◌, List, [], ◌∷◌, ◌++◌, filter, find, flat_map, is_none, Option, Some, None}
 use Rattle.std.specs.List.{list_any, list_all}
 use Rattle.node_rules.specs.Data.{Value, Change, Table, Stmt, BranchId, Standing}
-use Rattle.node_rules.specs.Words.{same, is_branch, item_at}
+use Rattle.node_rules.specs.Words.{same, item_at}
 use Rattle.row_locks.specs.Locks.{Lock, keys_held}
 use Rattle.redo_codec.specs.Durable.{durable}
 use Rattle.node_rules.specs.Kept.{standing_id}

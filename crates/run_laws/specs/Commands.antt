@@ -1,8 +1,8 @@
 -- What a command says and orders when it begins.
-use Rattle.std.specs.Prelude.{ℕ, ◌&&◌, not, Bool, true, false, if◌then◌else◌, List, [], ◌∷◌, ◌++◌, is_some, is_none, Option, Some, None}
+use Rattle.std.specs.Prelude.{ℕ, ◌&&◌, not, Bool, true, false, if◌then◌else◌, List, [], ◌∷◌, ◌++◌, is_some, Option, Some, None}
 use Rattle.node_rules.specs.Data.{Stmt, Place}
 use Rattle.node_rules.specs.Data.stmts
-use Rattle.node_rules.specs.Words.{one, numbered, set_numbered}
+use Rattle.node_rules.specs.Words.{one, set_numbered}
 use Rattle.node_rules.specs.Ids.{decimal}
 use Rattle.node_rules.specs.Refusals.{dtx}
 use Rattle.node_rules.specs.Sessions.{session_at}

@@ -1,6 +1,6 @@
 -- What cuts a turn: a crash-test comment, or an order that strikes its append; and the orders and points that a turn
 -- leaves. (Database Administrator's Guide, "Managing Distributed Transactions": simulating distributed transaction failure.)
-use Rattle.std.specs.Prelude.{ℕ, ◌&&◌, Bool, true, false, if◌then◌else◌, List, [], ◌∷◌, ◌++◌, map, is_some, is_none, Option, Some, None}
+use Rattle.std.specs.Prelude.{ℕ, Bool, true, false, if◌then◌else◌, List, [], ◌∷◌, ◌++◌, map, is_some, is_none, Option, Some, None}
 use Rattle.node_rules.specs.Data.{RedoRecord, BranchId, Input}
 use Rattle.node_rules.specs.Data.stmts
 use Rattle.node_rules.specs.Data.inputs

@@ -1,7 +1,7 @@
 -- What holds of every run of a script: the book is that of the trace, what is told is what the rules tell, each answer of a
 -- query is its meaning, branches end as their site decided, forced branches that met another decision are marked, and
 -- commit SCNs exceed the seals'.
-use Rattle.std.specs.Prelude.{◌≡◌, ℕ, ◌+◌, ◌^◌, ◌<◌, ◌&&◌, ◌⊎◌, Bool, true, false, if◌then◌else◌, List, [], ◌∷◌, ◌++◌, map, length, Some}
+use Rattle.std.specs.Prelude.{◌≡◌, ℕ, ◌+◌, ◌^◌, ◌<◌, ◌⊎◌, Bool, true, false, List, [], ◌∷◌, ◌++◌, map, length, Some}
 use Rattle.std.specs.List.{AllByRecursion}
 use Rattle.redo_log.specs.Cells.{bodies}
 use Rattle.redo_format.specs.Record.{record_format}
@@ -18,7 +18,7 @@ use Rattle.run_laws.specs.Telling.{Past, start}
 use Rattle.run_laws.specs.Past.{past}
 use Rattle.run_laws.specs.Lines.{told}
 use Rattle.run_laws.specs.Due.{Due, Begins, Ends, IsTheRun, due_of}
-use Rattle.run_laws.specs.Lawful.{AreOfAScript, History, IsLawfulRun, facts_at}
+use Rattle.run_laws.specs.Lawful.{History, IsLawfulRun, facts_at}
 use Rattle.run_laws.specs.Bounds.{AreBelow}
 use Rattle.run_laws.specs.Knowledge.{Knowledge}
 use Rattle.run_laws.specs.Book.{Agreement, MixedIsMarked, ScnLaw}
@@ -92,8 +92,8 @@ IsBetween (Begins c) = Unit {0}
 IsBetween Ends = Unit {0}
 IsBetween _ = ⊥
 
--- what is told of a run that leaves this: all lines where its script was run; where memory ran out those of the commands
--- before the one that ran, or that one's too where it was done
+-- what is told of a run that leaves this: all lines, where its script was run; where memory ran out, those of the commands
+-- before the one that ran, and that one's too if it was done
 abbrev pub IsToldOf : History → Past → List AnswerLine → Ending → Type 0
 IsToldOf t p answers All_run = (due_of t.commands p ≡ Ends) × LinesAre t (told p.facts p.telling) answers
 IsToldOf t p answers Out_of_memory = LinesAre t p.telling.lines answers ⊎ (IsBetween (due_of t.commands p) × LinesAre t (told p.facts p.telling) answers)

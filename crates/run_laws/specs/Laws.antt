@@ -3,7 +3,7 @@ use Rattle.std.specs.Prelude.{◌≡◌, ℕ, List, [], ◌∷◌, ◌++◌}
 use Rattle.node_rules.specs.Data.{Place}
 use Rattle.run_laws.specs.Data.{Happening, Command}
 use Rattle.run_laws.specs.Entries.{book_of}
-use Rattle.run_laws.specs.Facts.{Facts, facts_after, facts_of}
+use Rattle.run_laws.specs.Facts.{Facts, facts_of}
 use Rattle.run_laws.specs.Telling.{Past}
 use Rattle.run_laws.specs.Past.{past}
 use Rattle.run_laws.specs.Lawful.{IsLawful, MayHappen}

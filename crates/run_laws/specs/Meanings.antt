@@ -1,12 +1,12 @@
 -- What the answers of runs say: a query's rows are its meaning over the rows that the book's committed transactions leave
 -- at its node, with the asker's own changes, and no key that it examines is in doubt; a change counts the rows that it means.
-use Rattle.std.specs.Prelude.{◌≡◌, ℕ, List, [], slice_get, Option, Some, true}
+use Rattle.std.specs.Prelude.{◌≡◌, ℕ, List, slice_get, Some, true}
 use Rattle.std.specs.List.{list_any}
-use Rattle.node_rules.specs.Data.{Value, Change, RowSet, Done, Answer, Place}
+use Rattle.node_rules.specs.Data.{Value, Change, RowSet, Answer, Place}
 use Rattle.node_rules.specs.Data.answers
 use Rattle.node_rules.specs.Rows.{same_value}
 use Rattle.node_rules.specs.Meaning.{Gives, Changes, examined}
-use Rattle.run_laws.specs.Data.{Turn, Happening}
+use Rattle.run_laws.specs.Data.{Happening}
 use Rattle.run_laws.specs.Data.happenings
 use Rattle.run_laws.specs.Facts.{Facts, outcome_at}
 use Rattle.run_laws.specs.Branches.{Run, Trail, own_at}

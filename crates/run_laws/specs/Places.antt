@@ -1,14 +1,14 @@
 -- Where the answer of a statement comes from: the run at the end of its chain of Execs, whose answer came back along the
 -- Replies of that chain, for the transaction of its session, and not before its call.
-use Rattle.std.specs.Prelude.{◌≡◌, ℕ, ◌+◌, ◌≤◌, Bool, true, false, List, [], ◌∷◌, slice_get, Option, Some, None}
-use Rattle.node_rules.specs.Data.{BranchId, Stmt, RowSet, Done, Answer, Advice, Durable}
+use Rattle.std.specs.Prelude.{◌≡◌, ℕ, ◌+◌, ◌≤◌, Bool, true, false, List, slice_get, Option, Some}
+use Rattle.node_rules.specs.Data.{BranchId, Stmt, Done, Answer, Advice, Durable}
 use Rattle.node_rules.specs.Data.answers
 use Rattle.node_rules.specs.Data.dones
 use Rattle.node_rules.specs.Data.kinds
 use Rattle.node_rules.specs.Names.{A_table, Behind, named_by, ref_of, passed_on, target_of}
 use Rattle.node_rules.specs.Inputs.{Came}
 use Rattle.redo_codec.specs.Durable.{durable}
-use Rattle.run_laws.specs.Data.{Turn, AnswerLine, Happening}
+use Rattle.run_laws.specs.Data.{Turn, AnswerLine}
 use Rattle.run_laws.specs.Data.said
 use Rattle.run_laws.specs.Data.happenings
 use Rattle.run_laws.specs.Data.commands

@@ -1,18 +1,18 @@
 -- Which turns run a statement at its table, for which branch, what the run means over the rows that the book leaves, and
 -- what its branch has changed and holds afterwards.
-use Rattle.std.specs.Prelude.{ℕ, ◌&&◌, Bool, true, false, if◌then◌else◌, List, [], ◌∷◌, ◌++◌, flat_map, map, filter, nat_lt, is_none, is_some, Option, Some, None}
+use Rattle.std.specs.Prelude.{ℕ, ◌&&◌, Bool, true, false, if◌then◌else◌, List, [], ◌∷◌, ◌++◌, flat_map, map, filter, nat_lt, is_none, Option, Some, None}
 use Rattle.node_rules.specs.Data.{Value, Change, Table, TableRef, Stmt, Answer, BranchId, Kind, Msg, Input, Keyed}
 use Rattle.node_rules.specs.Data.answers
 use Rattle.node_rules.specs.Data.kinds
 use Rattle.node_rules.specs.Data.stmts
 use Rattle.node_rules.specs.Data.inputs
-use Rattle.node_rules.specs.Words.{same, same_text}
+use Rattle.node_rules.specs.Words.{same_text}
 use Rattle.node_rules.specs.Rows.{apply}
 use Rattle.node_rules.specs.Meaning.{Meant, Changes, meant, written}
 use Rattle.node_rules.specs.Names.{table_of, ref_of}
 use Rattle.node_rules.specs.Kept.{Outcome}
 use Rattle.redo_codec.specs.Durable.{durable}
-use Rattle.row_locks.specs.Locks.{Lock, without_reads}
+use Rattle.row_locks.specs.Locks.{Lock}
 use Rattle.stmt_run.specs.Run.{take_keys}
 use Rattle.run_laws.specs.Data.{Finished, Turn, Entry}
 use Rattle.run_laws.specs.Book.{rows_of, in_doubt, changes_of}

@@ -1,7 +1,7 @@
 -- The session tree of a transaction at a moment, the weights in it, the walk to its commit point site, and the plan of a
 -- COMMIT that is accepted then. (Database Administrator's Guide, "Distributed Transactions Concepts": session trees, commit
 -- point site, commit point strength.)
-use Rattle.std.specs.Prelude.{ℕ, zero, suc, Bool, true, false, if◌then◌else◌, List, [], ◌∷◌, ◌++◌, map, flat_map, slice_get, is_some, Option, Some, None}
+use Rattle.std.specs.Prelude.{ℕ, zero, suc, Bool, true, false, if◌then◌else◌, List, [], ◌∷◌, map, flat_map, slice_get, is_some, Option, Some, None}
 use Rattle.node_rules.specs.Data.{BranchId, Place, Walk}
 use Rattle.node_rules.specs.Data.walks
 use Rattle.node_rules.specs.Words.{same}

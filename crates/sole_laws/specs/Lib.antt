@@ -1,4 +1,3 @@
-pub mod Shown
 pub mod Past
 pub mod Lawful
 pub mod Recorded

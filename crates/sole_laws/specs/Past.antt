@@ -29,7 +29,7 @@ use Rattle.sole_node.specs.Statements.{is_create}
 use Rattle.sole_node.specs.Kept.{the_node, Kept, session_at}
 use Rattle.sole_node.specs.Turn.{Outcome, turn_of, start_of, first_records}
 use Rattle.sole_node.specs.Disk.{disk_bytes}
-use Rattle.sole_laws.specs.Shown.{shown_disk}
+use Rattle.run_laws.specs.Shown.{shown_disk}
 
 -- What is due next.
 pub data Due : Type 0 where

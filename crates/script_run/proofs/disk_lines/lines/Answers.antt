@@ -1,6 +1,6 @@
 use Rattle.std.proofs.Common.{ℕ, List, [], ◌∷◌, ◌++◌, ◌*◌, map, ap, sym, ◌∙◌}
 use Rattle.std.specs.List.{range_with_len}
-use Rattle.sole_laws.specs.Shown.{disk_line}
+use Rattle.run_laws.specs.Shown.{disk_line}
 use Rattle.script_run.proofs.DiskLines.{one_more}
 use Rattle.script_run.proofs.disk_lines.lines.Goals as goal
 

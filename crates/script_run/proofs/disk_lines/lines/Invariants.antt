@@ -1,6 +1,6 @@
 use Rattle.std.proofs.Common.{◌≡◌, ◌*◌, map}
 use Rattle.std.specs.List.{range_with_len}
-use Rattle.sole_laws.specs.Shown.{disk_line}
+use Rattle.run_laws.specs.Shown.{disk_line}
 use Rattle.script_run.proofs.disk_lines.lines.Given as goal
 
 -- so many lines are there

@@ -1,6 +1,6 @@
 use Rattle.std.proofs.Common.{◌≡◌, ◌++◌, take}
 use Rattle.std.specs.List.{flat_map}
-use Rattle.sole_laws.specs.Shown.{hex2}
+use Rattle.run_laws.specs.Shown.{hex2}
 use Rattle.script_run.proofs.disk_lines.put_bytes.Given as goal
 
 abbrev pub invariant-loop-byte : goal.invariant-loop-byte
