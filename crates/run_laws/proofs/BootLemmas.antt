@@ -21,6 +21,7 @@ abbrev pub IsOfTurn : RedoRecord → Type 0
 IsOfTurn (records.Boot n) = ⊥
 IsOfTurn _ = Unit {0}
 
+-- no step writes it
 pub step_of_turn : (p : Place) (input : Input) {k : Kept} {d : Deed} → Step p input k d → IfSome d.wrote IsOfTurn
 step_of_turn p input (steps.Begins n s call rows fit none step) = step_of_turn p input step
 step_of_turn p input (steps.Pends n l given call has live code step) = step_of_turn p input step
@@ -63,7 +64,7 @@ pub boots_with : (rs : List RedoRecord) (w : Option RedoRecord) → IfSome w IsO
 boots_with rs None is = ap boots (append-nil rs)
 boots_with rs (Some r) is = boots_last rs r is
 
--- what records say of the start
+-- what is stored of the start is how often there was one
 abbrev pub BootIs : List RedoRecord → Type 0
 BootIs rs = (stored_by nothing_stored rs).durable.boot ≡ boots rs
 

@@ -27,6 +27,7 @@ module _ (p : Place) (input : Input) (clock : ℕ) where
   abbrev Since : Deed → Type 0
   Since d = (clock ≤ d.after.clock) × IfSome d.wrote (IsLater clock)
 
+  -- each step leaves it so
   since : {k : Kept} {d : Deed} → Step p input k d → clock ≤ k.clock → Since d
   since (steps.Begins n s call rows fit none step) now = since step now
   since (steps.Pends n l given call has live code step) now = since step now
@@ -45,7 +46,7 @@ heard_rises : (k : Kept) (input : Input) → k.clock ≤ (heard k input).clock
 heard_rises k (inputs.Message m) = omega arith
 heard_rises k _ = omega arith
 
--- so do turns
+-- so it is with turns
 serves_later : (p : Place) (k : Kept) (u : Turn) → Serves p k u → (k.clock ≤ (turn_of p k u.input).after.clock) × IfSome u.wrote (IsLater k.clock)
 unfolding turn_of
 serves_later p k u serving =
@@ -61,9 +62,10 @@ clocks_rise = each_that_may ClockRises clock_rises
 
 -- ---- it covers
 
-abbrev Covers : Kept → Type 0
+abbrev pub Covers : Kept → Type 0
 Covers k = k.stored.scn ≤ k.clock
 
+-- a decision is met before it is noted
 met_covers : (scn clock : ℕ) (d : Decision) → IsMet clock d → scn ≤ clock → raised_by scn d ≤ clock
 met_covers scn clock (decisions.Commit n) met now = omega (arith, met, now)
 met_covers scn clock decisions.Rollback met now = now
@@ -84,7 +86,7 @@ covers_on p input (steps.Forces_commit n id b call is) now = omega (arith, now)
 covers_on p input (steps.Gives_up_commit n b None gives has pending is) now = now
 covers_on p input _ now = now
 
-covers : KeepsAlone Covers
+pub covers : KeepsAlone Covers
 covers = record {
   starts = λ s. omega arith;
   hears = λ k scn now. omega (arith, now);

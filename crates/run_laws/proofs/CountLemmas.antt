@@ -32,6 +32,7 @@ module _ (b : BranchId) where
   dropped : (p : Standing → Bool) (ks : List Standing) → rows_of (drop_where p ks) ≤ rows_of ks
   dropped p ks = count_filter standing_id b (λ x. not (p x)) ks
 
+  -- a row that is put in counts
   put_in : (ks : List Standing) (x : Standing) → rows_of (add_kept ks x) ≤ (if same x.me b then 1 else 0) + rows_of ks
   put_in ks x = by (same x.me b) (count_put_in standing_id b ks x)
     where
@@ -56,6 +57,7 @@ module _ (b : BranchId) where
   rows_after ks (records.Hidden c) = omega (arith, changed c hidden_as (λ x. refl) ks)
   rows_after ks _ = omega arith
 
+  -- the same of all that is stored
   pub rows_applied : (s : Stored) (r : RedoRecord) → rows_of (applied s r).durable.kept ≤ makes_row r + rows_of s.durable.kept
   unfolding applied durable_after
   rows_applied s (records.Boot n) = omega arith

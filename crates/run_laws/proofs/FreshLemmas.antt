@@ -40,7 +40,7 @@ use Rattle.run_laws.proofs.NodeLemmas.{Keeps, node_keeps}
 
 module _ (boot : ℕ) where
   -- the ids at a node
-  abbrev IdsAt : Kept → Type 0
+  abbrev pub IdsAt : Kept → Type 0
   IdsAt k = Ids boot (seqs k.sessions) (length k.opens) k.stored.durable.kept k.lives
 
   module _ (k : Kept) (ids : IdsAt k) where
@@ -68,6 +68,7 @@ module _ (boot : ℕ) where
 
   -- ---- new ids
 
+  -- the root of a session, of the next number
   begun_ids : (p : Place) (k : Kept) (n : ℕ) → k.stored.durable.boot ≡ boot → IsSession n → IdsAt k → IdsAt (begun_by p k n None)
   begun_ids p k n is fit ids =
       let root : BranchId = new_root p k n in
@@ -83,6 +84,7 @@ module _ (boot : ℕ) where
       unused (In_session now under given) = let was : (session_at k.sessions n).seq ≡ seq_at (seqs k.sessions) n = session_seq k.sessions n in omega (arith, given, was)
       unused (Over_link now high given) = omega (arith, high, fit.1)
 
+  -- a branch that is opened over a link, of the next session above 64
   opened_ids : (p : Place) (k : Kept) (parent : BranchId) (edge : ℕ) (root : BranchId) (depth : ℕ) → k.stored.durable.boot ≡ boot → IdsAt k → IdsAt (opens_branch p k parent edge root depth)
   opened_ids p k parent edge root depth is ids =
       let more : length (opens_branch p k parent edge root depth).opens ≡ length k.opens + 1 = length-append k.opens _ in
@@ -97,6 +99,7 @@ module _ (boot : ℕ) where
   -- ---- steps
 
   module _ (p : Place) (input : Input) where
+    -- each step leaves ids in use once
     ids_on : {k : Kept} {d : Deed} → Step p input k d → k.stored.durable.boot ≡ boot → IdsAt k → IdsAt d.after
     ids_on (steps.Begins {k = k} n s call rows fit none step) is ids = ids_on step is (begun_ids p k n is fit ids)
     ids_on (steps.Pends {k = k} n l given call has live code step) is ids = ids_on step is (still k ids (with_call k.sessions n pending.Commit) (call_seqs k.sessions n pending.Commit))
@@ -150,17 +153,18 @@ module _ (boot : ℕ) where
 -- ---- starts
 
 -- The ids on a disk are of starts so far.
-record Disk (rs : List RedoRecord) : Type 0 where
+pub record Disk (rs : List RedoRecord) : Type 0 where
   pub boot : BootIs rs
   pub one : (b : BranchId) → rows_of b (stored_by nothing_stored rs).durable.kept ≤ 1
   pub old : (b : BranchId) → 1 ≤ rows_of b (stored_by nothing_stored rs).durable.kept → b.boot ≤ boots rs
 
 -- The ids at a node that is up.
-record Node (rs : List RedoRecord) (k : Kept) : Type 0 where
+pub record Node (rs : List RedoRecord) (k : Kept) : Type 0 where
   pub boot : BootIs rs
   pub stored : StoresOf rs k
   pub ids : IdsAt (boots rs) k
 
+-- what a node leaves where it stops
 disk_of : (rs : List RedoRecord) (k : Kept) → Node rs k → Disk rs
 disk_of rs k node =
     let rows : (b : BranchId) → rows_of b (stored_by nothing_stored rs).durable.kept ≡ rows_of b k.stored.durable.kept
@@ -171,6 +175,7 @@ disk_of rs k node =
       old = λ b some. omega (arith, given_before (node.ids.told b (omega (arith, some, rows b))));
     }
 
+-- what a start makes of a disk: all ids there are of earlier starts
 start_of_disk : (rs : List RedoRecord) (boot : ℕ) → Disk rs → boot ≡ boots rs + 1 → Node (rs ++ records.Boot boot ∷ []) (start_of (rs ++ records.Boot boot ∷ []))
 unfolding start_of
 start_of_disk rs boot disk next =
@@ -199,7 +204,7 @@ empty_disk : Disk []
 unfolding stored_by
 empty_disk = record { boot = refl; one = λ b. omega arith; old = λ b some. omega (arith, some) }
 
-nodes : Keeps (λ p rs. Disk rs) (λ p rs k. Node rs k)
+pub nodes : Keeps (λ p rs. Disk rs) (λ p rs k. Node rs k)
 nodes = record {
   empty = λ p. empty_disk;
   starts = λ p rs boot disk next. start_of_disk rs boot disk next;

@@ -27,6 +27,7 @@ module _ (ms : List ℕ) (n q : ℕ) where
           let was : seq_at ms m ≡ seq_at ms n = ap (seq_at ms) (sym new.0) in
           omega (arith, is, was, up)
 
+-- each session has a number
 there : (ms : List ℕ) (n : ℕ) → 1 ≤ n → n ≤ length ms → numbered ms n ≡ Some (get_or ms (n - 1) 0)
 there ms zero low high = absurd (omega arith)
 there ms (suc i) low high = let same : suc i - 1 ≡ i = omega arith in subst (λ j. slice_get ms i ≡ Some (get_or ms j 0)) (sym same) (slice_get-get_or ms i 0 (omega arith))
@@ -43,11 +44,13 @@ pub data Given (boot : ℕ) (ms : List ℕ) (opened : ℕ) (b : BranchId) : Type
   In_session : b.boot ≡ boot → b.session ≤ 64 → b.seq ≤ seq_at ms b.session → Given boot ms opened b
   Over_link : b.boot ≡ boot → 65 ≤ b.session → b.session < 65 + opened → Given boot ms opened b
 
+-- by a start so far
 pub given_before : {boot : ℕ} {ms : List ℕ} {opened : ℕ} {b : BranchId} → Given boot ms opened b → b.boot ≤ boot
 given_before (Before old) = omega (arith, old)
 given_before (In_session now low seq) = omega (arith, now)
 given_before (Over_link now high new) = omega (arith, now)
 
+-- and stays given out
 given_still : {boot : ℕ} {ms : List ℕ} {opened : ℕ} {b : BranchId} (more : List ℕ) (later : ℕ) → ((n : ℕ) → seq_at ms n ≤ seq_at more n) → opened ≤ later → Given boot ms opened b
     → Given boot more later b
 given_still more later rise links (Before old) = Before old

@@ -34,6 +34,7 @@ module _ (b : BranchId) (n : ℕ) where
   abbrev Knows : Standing → Type 0
   Knows s = (s.me ≡ b) × (s.decision ≡ Some (decisions.Commit n))
 
+  -- behind one more row
   further : {Q : Type 0} (x : Standing) (xs : List Standing) → KnowsAt xs b n ⊎ Q → KnowsAt (x ∷ xs) b n ⊎ Q
   further x xs (inl there) = inl (inr there)
   further x xs (inr new) = inr new
@@ -114,6 +115,7 @@ module _ (b : BranchId) (n : ℕ) where
   known_by_if s r rs (inl known) = elim (known_applied s r known) [ inl old ↦ inl old | inr new ↦ inr (inl new) ]
   known_by_if s r rs (inr later) = inr (inr later)
 
+  -- and by some record
   known_by : (s : Stored) (rs : List RedoRecord) → KnowsAt (stored_by s rs).durable.kept b n → KnowsAt s.durable.kept b n ⊎ IsRecorded rs b n
   unfolding stored_by
   known_by s [] knows = inl knows
@@ -130,6 +132,7 @@ module _ (b : BranchId) (n : ℕ) where
   recorded_before (r ∷ rs) more (inl here) = inl here
   recorded_before (r ∷ rs) more (inr there) = inr (recorded_before rs more there)
 
+  -- and the record of this turn
   recorded_last : (rs : List RedoRecord) (w : Option RedoRecord) → CommitsNow w b n → IsRecorded (rs ++ option_to_list w) b n
   recorded_last rs None now = absurd now
   recorded_last [] (Some r) now = inl now

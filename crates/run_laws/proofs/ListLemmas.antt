@@ -1,13 +1,15 @@
 -- Lists: what holds of each item, whether an item passes, how many are of a branch, maps, and two lists that are set at
 -- one number.
 use Rattle.std.proofs.Common.{◌≡◌, ℕ, zero, suc, ◌+◌, ◌≤◌, ◌||◌, not, Bool, true, false, if◌then◌else◌, List, [], ◌∷◌, ◌++◌, map, length, filter, find, Some, inl, inr, refl, sym, ap, subst, ◌∙◌, arith}
-use Rattle.std.proofs.lemmas.Bool.{cond_both}
+use Rattle.std.proofs.lemmas.Bool.{cond_both, or_right}
+use Rattle.std.proofs.lemmas.List.Folds.{list_any-append}
+use Rattle.std.proofs.lemmas.Map.Views.{any-filter_same}
 use Rattle.std.specs.Prelude.{◌⊎◌}
 use Rattle.std.specs.List.{AllByRecursion, list_any}
 use Rattle.tran_ids.specs.Branch.{same, branch_below, put_by_branch}
 use Rattle.tran_ids.specs.Listed.{is_item_of, item_at, put_item, drop_item, numbered, set_numbered}
 use Rattle.tran_ids.specs.declared.branch.BranchId.{BranchId}
-use Rattle.tran_ids.proofs.BranchLemmas.{equal_from_same}
+use Rattle.tran_ids.proofs.BranchLemmas.{equal_from_same, same_from_equal}
 use Rattle.tran_ids.proofs.ListedLemmas.{item_is, map_put}
 use Rattle.run_laws.specs.NodeLaws.{count_of}
 
@@ -42,9 +44,31 @@ module _ {A : Type 0} (P : A → Type 0) where
 
 -- ---- whether an item passes
 
+-- one that is found passes
 pub any_found : {A : Type 0} (p : A → Bool) (xs : List A) (y : A) → find p xs ≡ Some y → list_any p xs ≡ true
 any_found p [] y is = absurd cc
 any_found p (x ∷ xs) y is = grind (arith, any_found p xs y)
+
+-- each item is one of its list
+pub all_there : {A : Type 0} (id : A → BranchId) (xs : List A) → AllByRecursion (λ x. list_any (is_item_of id (id x)) xs ≡ true) xs
+all_there id [] = tt
+all_there id (x ∷ xs) = (
+  ap (λ here. here || list_any (is_item_of id (id x)) xs) (same_from_equal (id x) (id x) refl),
+  all_weaker _ _ (λ y is. or_right (same (id x) (id y)) (list_any (is_item_of id (id y)) xs) is) xs (all_there id xs),
+)
+
+module _ {A : Type 0} (id : A → BranchId) (xs : List A) (c : BranchId) where
+  -- with one more item
+  pub any_more : (x : A) → list_any (is_item_of id c) xs ≡ true → list_any (is_item_of id c) (xs ++ x ∷ []) ≡ true
+  any_more x is = list_any-append (is_item_of id c) xs (x ∷ []) ∙ ap (λ there. there || list_any (is_item_of id c) (x ∷ [])) is
+
+  pub any_last : (x : A) → id x ≡ c → list_any (is_item_of id c) (xs ++ x ∷ []) ≡ true
+  any_last x is =
+      list_any-append (is_item_of id c) xs (x ∷ []) ∙ or_right (list_any (is_item_of id c) xs) (list_any (is_item_of id c) (x ∷ [])) (ap (λ here. here || false) (same_from_equal (id x) c is))
+
+  -- without those of another branch
+  pub any_dropped : (b : BranchId) → same c b ≡ false → list_any (is_item_of id c) (drop_item id xs b) ≡ list_any (is_item_of id c) xs
+  any_dropped b other = any-filter_same (is_item_of id c) (λ x. not (same (id x) b)) true (λ x is. ap (λ m. not (same m b)) (equal_from_same (id x) c is) ∙ ap not other) xs
 
 -- ---- maps
 

@@ -2,9 +2,6 @@
 use Rattle.std.proofs.Common.{◌≡◌, ℕ, ◌||◌, not, Bool, true, false, if◌then◌else◌, List, [], ◌∷◌, ◌++◌, fold, Some, None, refl, sym, ap, subst, ◌∙◌, true≢false}
 use Rattle.std.specs.List.{AllByRecursion, list_any}
 use Rattle.std.proofs.lemmas.Bool.{or_right}
-use Rattle.std.proofs.lemmas.List.Folds.{list_any-append}
-use Rattle.std.proofs.lemmas.Map.Views.{any-filter_same}
-use Rattle.tran_ids.proofs.BranchLemmas.{equal_from_same, same_from_equal}
 use Rattle.row_locks.specs.Locks.{Lock, is_held_by, is_lock_on, taken, doubted, without}
 use Rattle.stmt_run.specs.Run.{locks_after, take_keys}
 use Rattle.node_rules.specs.Data.{Value, Change, Table, BranchId, Sealed, Place, Input, Doubt, Live}
@@ -21,16 +18,17 @@ use Rattle.node_rules.proofs.Steps as steps
 use Rattle.node_rules.proofs.Steps.{Step}
 use Rattle.node_rules.proofs.StandLemmas.{live_so}
 use Rattle.run_laws.specs.NodeLaws.{HoldersAreThere}
-use Rattle.run_laws.proofs.ListLemmas.{all_weaker, all_filter, all_map, any_found, any_put}
+use Rattle.run_laws.proofs.ListLemmas.{all_weaker, all_filter, all_map, all_there, any_found, any_more, any_last, any_dropped, any_put}
 use Rattle.run_laws.proofs.StepLemmas.{IsLive, asked_live, acting_live, made_so}
 use Rattle.run_laws.proofs.NodeLemmas.{KeepsAlone, kept_alone}
 
 -- ---- locks, each of a branch that is so
 
 module _ (P : BranchId → Type 0) where
-  abbrev AllOf : List Lock → Type 0
+  abbrev pub AllOf : List Lock → Type 0
   AllOf ls = AllByRecursion (λ l. P l.branch) ls
 
+  -- a lock that is taken again stays the branch's
   taken_if : (here : Bool) (l m : Lock) (ls ms : List Lock) → m.branch ≡ l.branch → P l.branch → AllOf ls → AllOf ms → AllOf (if here then m ∷ ls else l ∷ ms)
   taken_if true l m ls ms same first rest more = (subst P (sym same) first, rest)
   taken_if false l m ls ms same first rest more = (first, more)
@@ -40,6 +38,7 @@ module _ (P : BranchId → Type 0) where
   all_taken (l ∷ ls) b table key writes all own =
       taken_if (is_lock_on table key l) l (record l { writes = l.writes || writes }) ls (taken ls b table key writes) refl all.0 all.1 (all_taken ls b table key writes all.1 own)
 
+  -- with the keys of a statement
   all_keys : (keys : List Value) (ls : List Lock) (b : BranchId) (table : List ℕ) (writes : Bool) → AllOf ls → P b → AllOf (take_keys ls b table writes keys)
   all_keys [] ls b table writes all own = all
   all_keys (key ∷ keys) ls b table writes all own = all_keys keys (taken ls b table key writes) b table writes (all_taken ls b table key writes all own) own
@@ -49,6 +48,7 @@ module _ (P : BranchId → Type 0) where
   all_run ls b t (Reads rows keys) all own = all_keys keys ls b t.name false all own
   all_run ls b t (Writes d cs keys undo) all own = all_keys keys ls b t.name true all own
 
+  -- with the keys of a branch in doubt
   all_changed : (cs : List Change) (ls : List Lock) (b : BranchId) → AllOf ls → P b → AllOf (fold (take_changed b) ls cs)
   all_changed [] ls b all own = all
   all_changed (c ∷ cs) ls b all own = all_changed cs (take_changed b ls c) b (all_taken ls b c.table c.key true all own) own
@@ -56,6 +56,7 @@ module _ (P : BranchId → Type 0) where
   all_in_doubt : (ls : List Lock) (b : BranchId) (cs : List Change) → AllOf ls → P b → AllOf (with_doubt ls b cs)
   all_in_doubt ls b cs all own = all_map (λ l. P l.branch) (doubted b) (fold (take_changed b) ls cs) (all_changed cs ls b all own)
 
+  -- of all branches in doubt, at a start
   all_doubts : (ds : List Doubt) (ls : List Lock) → AllOf ls → AllByRecursion (λ d. P d.branch) ds → AllOf (fold with_doubt_of ls ds)
   all_doubts [] ls all owns = all
   all_doubts (d ∷ ds) ls all owns = all_doubts ds (with_doubt_of ls d) (all_in_doubt ls d.branch d.changes all owns.0) owns.1
@@ -63,43 +64,24 @@ module _ (P : BranchId → Type 0) where
 -- ---- who may hold one
 
 -- whether a branch is among the live ones
-abbrev is_live : List Live → BranchId → Bool
+abbrev pub is_live : List Live → BranchId → Bool
 is_live lives c = list_any (is_item_of live_id c) lives
 
 -- whether it is among those in doubt
-abbrev is_doubted : List Doubt → BranchId → Bool
+abbrev pub is_doubted : List Doubt → BranchId → Bool
 is_doubted doubts c = list_any (is_item_of doubt_id c) doubts
 
 -- it may hold a lock
-abbrev May : List Live → List Doubt → BranchId → Type 0
+abbrev pub May : List Live → List Doubt → BranchId → Type 0
 May lives doubts c = (is_live lives c || is_doubted doubts c) ≡ true
 
 -- all holders are there
-abbrev Held : List Live → List Doubt → List Lock → Type 0
+abbrev pub Held : List Live → List Doubt → List Lock → Type 0
 Held lives doubts ls = AllOf (May lives doubts) ls
 
 or_so : (a b c d : Bool) → (a ≡ true → c ≡ true) → (b ≡ true → d ≡ true) → (a || b) ≡ true → (c || d) ≡ true
 or_so true b c d f g is = ap (λ x. x || d) (f refl)
 or_so false b c d f g is = or_right c d (g is)
-
--- each item is one of its list
-all_there : {A : Type 0} (id : A → BranchId) (xs : List A) → AllByRecursion (λ x. list_any (is_item_of id (id x)) xs ≡ true) xs
-all_there id [] = tt
-all_there id (x ∷ xs) = (
-  ap (λ here. here || list_any (is_item_of id (id x)) xs) (same_from_equal (id x) (id x) refl),
-  all_weaker _ _ (λ y is. or_right (same (id x) (id y)) (list_any (is_item_of id (id y)) xs) is) xs (all_there id xs),
-)
-
-module _ {A : Type 0} (id : A → BranchId) (xs : List A) (c : BranchId) where
-  any_more : (x : A) → list_any (is_item_of id c) xs ≡ true → list_any (is_item_of id c) (xs ++ x ∷ []) ≡ true
-  any_more x is = list_any-append (is_item_of id c) xs (x ∷ []) ∙ ap (λ there. there || list_any (is_item_of id c) (x ∷ [])) is
-
-  any_last : (x : A) → id x ≡ c → list_any (is_item_of id c) (xs ++ x ∷ []) ≡ true
-  any_last x is =
-      list_any-append (is_item_of id c) xs (x ∷ []) ∙ or_right (list_any (is_item_of id c) xs) (list_any (is_item_of id c) (x ∷ [])) (ap (λ here. here || false) (same_from_equal (id x) c is))
-
-  any_dropped : (b : BranchId) → same c b ≡ false → list_any (is_item_of id c) (drop_item id xs b) ≡ list_any (is_item_of id c) xs
-  any_dropped b other = any-filter_same (is_item_of id c) (λ x. not (same (id x) b)) true (λ x is. ap (λ m. not (same m b)) (equal_from_same (id x) c is) ∙ ap not other) xs
 
 -- ---- what a node keeps
 
@@ -119,7 +101,7 @@ apart lives fewer doubts less ls b live doubt now =
     so l false is passes held = or_so _ _ (is_live fewer l.branch) (is_doubted less l.branch) (live l.branch is) (doubt l.branch is) held
 
 -- the holders at a node are there
-abbrev HeldAt : Kept → Type 0
+abbrev pub HeldAt : Kept → Type 0
 HeldAt k = Held k.lives k.stored.doubts k.locks
 
 module _ (k : Kept) where
@@ -157,6 +139,7 @@ module _ (k : Kept) where
 -- ---- steps
 
 module _ (p : Place) (input : Input) where
+  -- each step leaves them there
   held_on : {k : Kept} {d : Deed} → Step p input k d → HeldAt k → HeldAt d.after
   unfolding applied
   held_on (steps.Begins {k = k} n s call rows fit none step) now = held_on step (begun k _ now)
@@ -190,7 +173,7 @@ module _ (p : Place) (input : Input) where
   held_on (steps.Gives_up_commit {k = k} n b (Some l) gives has pending live) now = dropped k l.me now
   held_on _ now = now
 
-held : KeepsAlone HeldAt
+pub held : KeepsAlone HeldAt
 held = record {
   starts = λ s. all_doubts (May [] s.doubts) s.doubts [] tt (all_there doubt_id s.doubts);
   hears = λ k scn now. now;

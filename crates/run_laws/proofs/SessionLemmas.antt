@@ -13,6 +13,7 @@ use Rattle.node_rules.specs.Calls.{call_pends, answered_sessions, heard_sessions
 use Rattle.node_rules.specs.Prepare.{abandoned_sessions}
 use Rattle.node_rules.specs.Commit.{decided_sessions}
 
+-- the numbers of all sessions
 abbrev pub seqs : List Session → List ℕ
 seqs ss = map (λ s. s.seq) ss
 
