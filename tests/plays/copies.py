@@ -1,6 +1,7 @@
 """Copies of the crates, where definitions and plays may be changed, and the check of the plays there."""
 
 import contextlib
+import os
 import pathlib
 import re
 import shutil
@@ -12,13 +13,12 @@ from typing import NamedTuple
 from names import playing_text
 
 TOP = pathlib.Path(__file__).resolve().parents[2]
+# the file of the plays that is written by hand and that all of them use
+BY_HAND = "Script"
 
 CRATE = re.compile(r"^rt: chose --jobs \d+ for (\w+)$", re.MULTILINE)
 # an error begins a line, and the lines below it that begin with blanks belong to it
 ERROR = re.compile(r"^\./(\w+)/(\S+?):(\d+):\d+: error: (.*(?:\n  .*)*)", re.MULTILINE)
-
-# the file of the plays that is written by hand and that all of them use
-BY_HAND = "Script"
 
 
 class Error(NamedTuple):
@@ -31,17 +31,27 @@ class Error(NamedTuple):
 
 
 class Unchecked(Exception):
-    """The check did not come to the plays, or was not finished there."""
+    """The check failed before it came to the plays, or did not end."""
 
 
 @contextlib.contextmanager
 def copied_crates():
-    """A temporary folder with the crates and their folders out, so that only what changed is checked again."""
+    """A temporary folder with the crates and what earlier checks kept of them, so that only what changed is checked again."""
     with tempfile.TemporaryDirectory() as folder:
         top = pathlib.Path(folder)
         shutil.copy(TOP / "crates.txt", top)
-        shutil.copytree(TOP / "crates", top / "crates")
+        shutil.copytree(TOP / "crates", top / "crates", ignore=shutil.ignore_patterns("out"))
+        for kept in TOP.glob("crates/*/out"):
+            shutil.copytree(kept, top / kept.relative_to(TOP), copy_function=link)
         yield top
+
+
+def link(source, target):
+    """Links a file that a check kept, or copies it where it cannot be linked: a check writes new files in place of old ones."""
+    try:
+        os.link(source, target)
+    except OSError:
+        shutil.copy2(source, target)
 
 
 def check_once(top):
@@ -51,7 +61,10 @@ def check_once(top):
     )
     parts = CRATE.split(done.stdout)
     errors = {name: [Error(*found) for found in ERROR.findall(text)] for name, text in zip(parts[1::2], parts[2::2])}
-    return done.returncode == 0, {name: found for name, found in errors.items() if found}
+    errors = {name: found for name, found in errors.items() if found}
+    if done.returncode != 0 and not errors:
+        raise Unchecked(done.stdout[-400:])
+    return done.returncode == 0, errors
 
 
 def drop_laws(top):
@@ -87,7 +100,7 @@ def errors_of(top, texts):
     write_proofs(top, texts)
     proved, errors, _ = check(top)
     if not proved and list(errors) != ["plays"]:
-        raise Unchecked(f"the check failed before it came to the plays, or did not end: {str(errors)[:240]}")
+        raise Unchecked(str(errors)[:400])
     by_file = defaultdict(list)
     for error in errors.get("plays", []):
         by_file[error.file.removesuffix(".antt")].append(error)

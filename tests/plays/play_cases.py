@@ -19,6 +19,7 @@ differs. Nothing of this is part of the gate.
 """
 
 import argparse
+import collections
 import pathlib
 import re
 import sys
@@ -71,17 +72,21 @@ def wrong_in(text, errors, group):
         lemma = LEMMA.fullmatch(lines[int(error.line) - 1])
         if lemma is not None and "the two types" in error.text:
             wrong[lemma[1]] = DIFFERS
-        else:
-            for case in group:
-                wrong.setdefault(case.name, f"{NOT_READ}: the checker says {error.text[:200]}")
+            continue
+        # an error that is of no lemma may be of all
+        for name in [case.name for case in group] if lemma is None else [lemma[1]]:
+            wrong.setdefault(name, f"{NOT_READ}: the checker says {error.text.splitlines()[0]}")
     return wrong
 
 
-def play_all(cases, size, top):
-    """Plays cases, and once more those that differ, each alone and for more happenings."""
-    told = play(cases, size, top) if cases else {}
-    differing = [replace(case, times=MORE) for case in cases if told[case.folder] == DIFFERS]
-    return {**told, **(play(differing, 1, top) if differing else {})}
+def play_all(cases, size):
+    """Plays cases, and once more those that differ, each alone and for more happenings: what is told of each."""
+    if not cases:
+        return {}
+    with copied_crates() as top:
+        told = play(cases, size, top)
+        differing = [replace(case, times=MORE) for case in cases if told[case.folder] == DIFFERS]
+        return {**told, **play(differing, 1, top)} if differing else told
 
 
 def show(folder):
@@ -105,16 +110,18 @@ def main(words):
     parser.add_argument("--show", type=pathlib.Path)
     parser.add_argument("folders", nargs="*", type=pathlib.Path)
     given = parser.parse_args(words)
+    for folder in [given.show] if given.show else given.folders or [None]:
+        if folder is None or not cases_in(folder):
+            parser.error(f"no case: {folder}")
     if given.show:
         return show(given.show)
     cases, told = read_all(given.folders)
-    with copied_crates() as top:
-        told.update(play_all(cases, given.jobs_small, top))
+    told.update(play_all(cases, given.jobs_small))
     for folder, word in sorted(told.items()):
         print(f"{folder}: {word}")
-    counts = [sum(word.startswith(kind) for word in told.values()) for kind in (PLAYED, DIFFERS, NOT_READ)]
-    print(f"{counts[0]} played, {counts[1]} differ, {counts[2]} not read")
-    return 1 if counts[1] else 0
+    counts = collections.Counter(word.partition(":")[0] for word in told.values())
+    print(f"{counts[PLAYED]} played, {counts[DIFFERS]} differ, {counts[NOT_READ]} not read")
+    return 1 if counts[DIFFERS] else 0
 
 
 if __name__ == "__main__":

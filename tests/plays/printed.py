@@ -8,7 +8,7 @@ import re
 from collections import defaultdict
 
 from antt import indented
-from copies import errors_of
+from copies import Unchecked, errors_of
 from files import Plays, file_text
 from names import PROOFS
 from shared import command_of
@@ -62,7 +62,10 @@ def piece_lemma(place):
 
 def piece(message):
     """The piece whose number stands in a message."""
-    number = int(NUMBER.search(message)[1])
+    found = NUMBER.search(message)
+    if found is None:
+        raise Unchecked(message)
+    number = int(found[1])
     return number.to_bytes((number.bit_length() + 7) // 8, "big")
 
 
