@@ -76,4 +76,5 @@ def need_statements(text, lines):
         at = AT.fullmatch(command)
         refused = any(line.startswith(f"{number} {refusal}") for line in lines for refusal in REFUSALS)
         if at is not None and statement_term(at["text"]) is None and not refused:
-            raise NotRead(f"a statement of a form that the reader does not know: {at['text'].strip()}")
+            statement = " ".join(at["text"].split())
+            raise NotRead(f"a statement of a form that the reader does not know: {statement}")

@@ -38,7 +38,7 @@ UNFOLDED = (
 CITED = (
     (
         "Rattle.std.proofs.Common",
-        "◌≡◌ ℕ true false List [] ◌∷◌ ◌++◌ Some None negsuc codes refl ◌+◌ ◌*◌ take drop flat_map",
+        "◌≡◌ ℕ true false List [] ◌∷◌ ◌++◌ Some None negsuc codes refl ◌+◌ ◌*◌ take drop flat_map replicate",
     ),
     (f"{LAWS}.Lines", "told"),
     (f"{LAWS}.Report", "report"),

@@ -26,7 +26,7 @@ import sys
 from dataclasses import replace
 
 from cases import NotRead, cases_in, read_case
-from copies import copied_crates, errors_of
+from copies import Unchecked, copied_crates, errors_of
 from files import Plays, file_text
 from printed import difference
 from tokens import command_texts
@@ -89,6 +89,17 @@ def play_all(cases, size):
         return {**told, **play(differing, 1, top)} if differing else told
 
 
+def tell(folders, size):
+    """Plays the cases at or below these folders, and tells what became of each."""
+    cases, told = read_all(folders)
+    told.update(play_all(cases, size))
+    for folder, word in sorted(told.items()):
+        print(f"{folder}: {word}")
+    counts = collections.Counter(word.partition(":")[0] for word in told.values())
+    print(f"{counts[PLAYED]} played, {counts[DIFFERS]} differ, {counts[NOT_READ]} not read")
+    return 1 if counts[DIFFERS] else 0
+
+
 def show(folder):
     """Tells where a case first differs, and what is due and what is printed there."""
     case = replace(read_case(folder, "case_1"), times=MORE)
@@ -113,15 +124,10 @@ def main(words):
     for folder in [given.show] if given.show else given.folders or [None]:
         if folder is None or not cases_in(folder):
             parser.error(f"no case: {folder}")
-    if given.show:
-        return show(given.show)
-    cases, told = read_all(given.folders)
-    told.update(play_all(cases, given.jobs_small))
-    for folder, word in sorted(told.items()):
-        print(f"{folder}: {word}")
-    counts = collections.Counter(word.partition(":")[0] for word in told.values())
-    print(f"{counts[PLAYED]} played, {counts[DIFFERS]} differ, {counts[NOT_READ]} not read")
-    return 1 if counts[DIFFERS] else 0
+    try:
+        return show(given.show) if given.show else tell(given.folders, given.jobs_small)
+    except (NotRead, Unchecked) as why:
+        parser.exit(2, f"{why}\n")
 
 
 if __name__ == "__main__":

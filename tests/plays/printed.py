@@ -15,7 +15,7 @@ from shared import command_of
 
 PIECE = 70  # so many bytes have a piece: of longer numbers the message leaves out the middle
 PIECES = 8  # so many pieces have a file
-NUMBER = re.compile(r"one has `0` \(expected\) and the other has `(\d+)`")
+PIECE_AND_NUMBER = re.compile(r"`piece_(\d+)`: .*one has `0` \(expected\) and the other has `(\d+)`", re.DOTALL)
 
 TEXTS = """\
 abbrev line_text : List ℕ → List ℕ
@@ -32,19 +32,17 @@ def printed_lines(case, top):
     texts = {"The_case": case_text(case)}
     for first in range(0, len(places), PIECES):
         texts[f"Pieces_{first}"] = pieces_text(places[first : first + PIECES])
-    found = b""
-    for _, errors in sorted(errors_of(top, texts).items(), key=lambda item: int(item[0].split("_")[1])):
-        for error in errors:
-            found += piece(error.text)
-    return found.decode().split("\n")[:-1]
+    errors = [error for of_file in errors_of(top, texts).values() for error in of_file]
+    found = b"".join(piece for _, piece in sorted(map(placed_piece, errors)))
+    return found.decode().rstrip("\0").split("\n")[:-1]
 
 
 def case_text(case):
-    """The file that defines what is printed of a case."""
+    """The file that defines what is printed of a case, with zeros behind it, so that its last piece is long too."""
     plays = Plays("case", [case])
     front, own = plays.script(case)
     report = [f"printed = flat_map line_text (report (told ({plays.played(case)} ({front}", *indented(own)]
-    report[-1] += "))))"
+    report[-1] += f")))) ++ replicate {PIECE} 0"
     return file_text("A case.", [*plays.shared(""), TEXTS.split("\n"), ["abbrev pub printed : List ℕ", *report]])
 
 
@@ -60,13 +58,13 @@ def piece_lemma(place):
     return [f"piece_{place} : {asked}", "unfolding playing", f"piece_{place} = refl"]
 
 
-def piece(message):
-    """The piece whose number stands in a message."""
-    found = NUMBER.search(message)
+def placed_piece(error):
+    """The piece whose number stands in an error, with its place in the printed text."""
+    found = PIECE_AND_NUMBER.match(error.text)
     if found is None:
-        raise Unchecked(message)
-    number = int(found[1])
-    return number.to_bytes((number.bit_length() + 7) // 8, "big")
+        raise Unchecked(error.text)
+    place, number = map(int, found.groups())
+    return place, number.to_bytes((number.bit_length() + 7) // 8, "big")
 
 
 def pages(lines):
