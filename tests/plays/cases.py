@@ -28,6 +28,10 @@ class Case(Scenario):
         """Happenings enough for the whole run."""
         return self.times * (super().fuel() + 2 * len(self.lines))
 
+    def due(self):
+        """All lines that are due of it, those of the book behind the others."""
+        return [*self.lines, *self.book_lines]
+
 
 def cases_in(folder):
     """The folders of the cases at or below this folder."""

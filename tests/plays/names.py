@@ -36,10 +36,7 @@ UNFOLDED = (
 
 # the words that may stand in a play, beside those of an opening
 CITED = (
-    (
-        "Rattle.std.proofs.Common",
-        "◌≡◌ ℕ true false List [] ◌∷◌ ◌++◌ Some None negsuc codes refl ◌+◌ ◌*◌ take drop flat_map replicate",
-    ),
+    ("Rattle.std.proofs.Common", "◌≡◌ ℕ true false List [] ◌∷◌ ◌++◌ Some None negsuc codes refl"),
     (f"{LAWS}.Lines", "told"),
     (f"{LAWS}.Report", "report"),
     (f"{LAWS}.Shown", "book_lines"),
@@ -56,7 +53,7 @@ CITED = (
 # the modules of variants that may stand in a play
 VARIANTS = "values terms signs conds picks stmts advices kind_names commands".split()
 
-WORDS_OF_OPERATORS = {"◌≡◌": "≡", "◌∷◌": "∷", "◌++◌": "++", "◌+◌": "+", "◌*◌": "*"}
+WORDS_OF_OPERATORS = {"◌≡◌": "≡", "◌∷◌": "∷", "◌++◌": "++"}
 
 
 def imports(body):

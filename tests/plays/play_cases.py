@@ -19,21 +19,19 @@ differs. Nothing of this is part of the gate.
 """
 
 import argparse
-import collections
 import pathlib
-import re
 import sys
 from dataclasses import replace
 
 from cases import NotRead, cases_in, read_case
-from copies import Unchecked, copied_crates, errors_of
-from files import Plays, file_text
+from compared import USES, case_blocks, computed, lemma
+from copies import Unchecked, copied_crates
+from files import file_text
 from printed import difference
 from tokens import command_texts
 
 PLAYED, DIFFERS, NOT_READ = "played", "DIFFERS", "not read"
 MORE = 3  # so many times as many happenings has a case that differs at first
-LEMMA = re.compile(r"(?:book_of_)?(case_\d+) = refl")
 
 
 def read_all(folders):
@@ -47,36 +45,31 @@ def read_all(folders):
     return cases, told
 
 
-def play_file(number, group):
-    """The file of a group of cases."""
-    plays = Plays(f"cases-{number}", group)
-    return file_text(f"Cases, part {number}.", [*plays.shared(""), *map(plays.play, group)])
-
-
 def play(cases, size, top):
     """Plays cases, so many in a file: what is told of each, by its folder."""
-    groups = {f"Cases_{first}": cases[first : first + size] for first in range(0, len(cases), size)}
-    texts = {name: play_file(number, group) for number, (name, group) in enumerate(groups.items(), 1)}
-    errors = errors_of(top, texts)
-    told = {}
-    for name, group in groups.items():
-        wrong = wrong_in(texts[name], errors[name], group)
-        told.update((case.folder, wrong.get(case.name, PLAYED)) for case in group)
-    return told
+    groups = [cases[first : first + size] for first in range(0, len(cases), size)]
+    texts = {f"Cases_{number}": cases_text(group) for number, group in enumerate(groups)}
+    places, said = computed(top, texts)
+    return {case.folder: told_of(case, places.get(case.name), said.get(case.name)) for case in cases}
 
 
-def wrong_in(text, errors, group):
-    """What is told of the cases of a file that are not played, by their names."""
-    lines, wrong = text.split("\n"), {}
-    for error in errors:
-        lemma = LEMMA.fullmatch(lines[int(error.line) - 1])
-        if lemma is not None and "the two types" in error.text:
-            wrong[lemma[1]] = DIFFERS
-            continue
-        # an error that is of no lemma may be of all
-        for name in [case.name for case in group] if lemma is None else [lemma[1]]:
-            wrong.setdefault(name, f"{NOT_READ}: the checker says {error.text.splitlines()[0]}")
-    return wrong
+def cases_text(cases):
+    """A file that asks where the lines of these cases differ."""
+    blocks = []
+    for case in cases:
+        asked = lemma(case.name, f"first_other 1 {case.name}_printed {case.name}_due")
+        blocks += [*case_blocks(case), asked]
+    return file_text("Cases.", blocks, USES)
+
+
+def told_of(case, place, said):
+    """What is told of a case by the place of the first line that differs, or by what the checker says in its stead."""
+    if said is not None:
+        return f"{NOT_READ}: the checker says {said}"
+    if place is None:
+        return PLAYED
+    due = case.due()
+    return f"{DIFFERS} at line {place}: {due[place - 1]}" if place <= len(due) else f"{DIFFERS} behind the last line"
 
 
 def play_all(cases, size):
@@ -85,7 +78,7 @@ def play_all(cases, size):
         return {}
     with copied_crates() as top:
         told = play(cases, size, top)
-        differing = [replace(case, times=MORE) for case in cases if told[case.folder] == DIFFERS]
+        differing = [replace(case, times=MORE) for case in cases if told[case.folder].startswith(DIFFERS)]
         return {**told, **play(differing, 1, top)} if differing else told
 
 
@@ -95,9 +88,9 @@ def tell(folders, size):
     told.update(play_all(cases, size))
     for folder, word in sorted(told.items()):
         print(f"{folder}: {word}")
-    counts = collections.Counter(word.partition(":")[0] for word in told.values())
-    print(f"{counts[PLAYED]} played, {counts[DIFFERS]} differ, {counts[NOT_READ]} not read")
-    return 1 if counts[DIFFERS] else 0
+    played, differ, not_read = (sum(word.startswith(kind) for word in told.values()) for kind in (PLAYED, DIFFERS, NOT_READ))
+    print(f"{played} played, {differ} differ, {not_read} not read")
+    return 1 if differ else 0
 
 
 def show(folder):
