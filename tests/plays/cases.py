@@ -19,14 +19,14 @@ class NotRead(Exception):
 
 @dataclass
 class Case(Scenario):
-    """A case, and how many times as many happenings it is given as its run is thought to take."""
+    """A case, and how many times as many happenings its run may take as are usual."""
 
     folder: pathlib.Path
     times: int = 1
 
     def fuel(self):
-        """Happenings enough for the whole run."""
-        return self.times * (super().fuel() + 2 * len(self.lines))
+        """Happenings enough for the whole run: two or three a command are usual."""
+        return self.times * (40 + 4 * len(self.commands))
 
     def due(self):
         """All lines that are due of it, those of the book behind the others."""

@@ -46,6 +46,7 @@ NUMBER = re.compile(
     r"computed as far as they go, the two types (?:differ only where one has `0` \(expected\) and the other has `(\d+)`"
     r"|are `Path \S+ (\d+) 0` \(expected\))"
 )
+TOO_LONG = "what the two types compute to is not shown"
 
 
 def case_blocks(case):
@@ -69,15 +70,20 @@ def lemma(name, number):
 
 
 def computed(top, texts):
-    """By the names of the lemmas in these files, the numbers that are not 0, and what is said where none is computed."""
+    """By the names of the lemmas in these files, the numbers that are not 0, and what is said where none is computed.
+
+    A number is None where its computing was too long for the message.
+    """
     numbers, said = {}, {}
     for file, errors in errors_of(top, {"Numbers": NUMBERS, **texts}).items():
         for error in errors:
             name, number = NAME.search(error.text), NUMBER.search(error.text)
             if file not in texts or name is None:
                 raise Unchecked(error.text)
-            if number is None:
-                said[name[1]] = error.text.splitlines()[0]
-            else:
+            if number is not None:
                 numbers[name[1]] = int(number[1] or number[2])
+            elif TOO_LONG in error.text:
+                numbers[name[1]] = None
+            else:
+                said[name[1]] = error.text.splitlines()[0]
     return numbers, said

@@ -50,7 +50,10 @@ def play(cases, size, top):
     groups = [cases[first : first + size] for first in range(0, len(cases), size)]
     texts = {f"Cases_{number}": cases_text(group) for number, group in enumerate(groups)}
     places, said = computed(top, texts)
-    return {case.folder: told_of(case, places.get(case.name), said.get(case.name)) for case in cases}
+    told = {case.folder: PLAYED for case in cases}
+    told.update((case.folder, differs(case, places[case.name])) for case in cases if case.name in places)
+    told.update((case.folder, f"{NOT_READ}: the checker says {said[case.name]}") for case in cases if case.name in said)
+    return told
 
 
 def cases_text(cases):
@@ -62,13 +65,11 @@ def cases_text(cases):
     return file_text("Cases.", blocks, USES)
 
 
-def told_of(case, place, said):
-    """What is told of a case by the place of the first line that differs, or by what the checker says in its stead."""
-    if said is not None:
-        return f"{NOT_READ}: the checker says {said}"
-    if place is None:
-        return PLAYED
+def differs(case, place):
+    """What is told of a case by the place of the first line that differs, or without it."""
     due = case.due()
+    if place is None:
+        return DIFFERS
     return f"{DIFFERS} at line {place}: {due[place - 1]}" if place <= len(due) else f"{DIFFERS} behind the last line"
 
 

@@ -19,8 +19,8 @@ def printed_lines(case, top):
     for first in range(0, len(places), PIECES):
         texts[f"Pieces_{first}"] = pieces_text(case, places[first : first + PIECES])
     numbers, said = computed(top, texts)
-    if said:
-        raise Unchecked(" ".join(said.values()))
+    if said or None in numbers.values():
+        raise Unchecked(" ".join(["the run is too long for the messages of the checker", *said.values()]))
     pieces = (numbers.get(f"piece_{place}", 0) for place in places)
     return b"".join(map(bytes_of, pieces)).decode().split("\n")[:-1]
 
