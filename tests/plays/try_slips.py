@@ -19,16 +19,13 @@ is 1 where a slip was not caught, does not apply or is not well typed.
 import pathlib
 import re
 import shutil
-import subprocess
 import sys
-import tempfile
 
-TOP = pathlib.Path(__file__).resolve().parents[2]
+from copies import TOP, check, copied_crates
+
 SLIPS = TOP / "tests" / "plays" / "slips"
 NAMED = 3  # so many plays are named of those that catch a slip
 
-CRATE = re.compile(r"^rt: chose --jobs \d+ for (\w+)$", re.MULTILINE)
-ERROR = re.compile(r"^\./(\w+)/\S+: error: (.*)$", re.MULTILINE)
 PLAY = re.compile(r"`(\w+)`: as printed, the two types (?:first )?differ")
 
 
@@ -51,16 +48,6 @@ def apply(slip, top):
             file.write_text(text.replace(old, rest))
 
 
-def check(top):
-    """Checks the plays below this folder: whether all is proved, and of each crate that failed the errors by folder."""
-    done = subprocess.run(
-        ["rt", "check"], cwd=top / "crates" / "plays", stdout=subprocess.PIPE, stderr=subprocess.STDOUT, text=True
-    )
-    parts = CRATE.split(done.stdout)
-    errors = {name: ERROR.findall(text) for name, text in zip(parts[1::2], parts[2::2])}
-    return done.returncode == 0, {name: found for name, found in errors.items() if found}
-
-
 def restore(top):
     """Writes the definitions and the laws over them as they stand in the repository."""
     for part in ("node_rules/src", "node_rules/specs", "run_laws/src", "run_laws/specs", "run_laws/proofs"):
@@ -68,24 +55,14 @@ def restore(top):
         shutil.copytree(TOP / "crates" / part, top / "crates" / part)
 
 
-def drop_laws(top):
-    """Leaves the definitions of run_laws, and no law over them."""
-    shutil.copy(top / "crates/node_rules/src/lib.rt", top / "crates/run_laws/src/lib.rt")
-    shutil.rmtree(top / "crates/run_laws/proofs")
-
-
 def caught(slip, top):
     """The plays that fail, and whether proofs of run_laws do."""
     restore(top)
     apply(slip, top)
-    proved, errors = check(top)
-    laws_fail = {place for place, _ in errors.get("run_laws", [])} == {"proofs"}
-    if laws_fail:
-        drop_laws(top)
-        proved, errors = check(top)
+    proved, errors, laws_fail = check(top)
     if proved:
         return [], laws_fail
-    plays = [PLAY.match(text) for _, text in errors.get("plays", [])]
+    plays = [PLAY.match(error.text) for error in errors.get("plays", [])]
     if list(errors) != ["plays"] or not all(plays):
         raise Misfit(f"not well typed: {str(errors)[:240]}")
     return [play[1] for play in plays], laws_fail
@@ -104,10 +81,7 @@ def told(slip, top):
 
 def main(names):
     all_caught = True
-    with tempfile.TemporaryDirectory() as folder:
-        top = pathlib.Path(folder)
-        shutil.copy(TOP / "crates.txt", top)
-        shutil.copytree(TOP / "crates", top / "crates")
+    with copied_crates() as top:
         for slip in [SLIPS / f"{name}.edit" for name in names] or sorted(SLIPS.glob("*.edit")):
             is_caught, line = told(slip, top)
             print(line, flush=True)
