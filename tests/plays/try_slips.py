@@ -31,7 +31,6 @@ SLIPS = TOP / "tests" / "plays" / "slips"
 LAWS = ("node_rules", "run_laws")  # the crates of definitions with laws over them, each below the next
 NAMED = 3  # so many plays are named of those that catch a slip
 
-PLAYED = re.compile(r"^plays: (.*)$", re.MULTILINE)
 CRATE = re.compile(r"^rt: chose --jobs \d+ for (\w+)$", re.MULTILINE)
 ERROR = re.compile(r"^\./(\w+)/\S+: error: (.*)$", re.MULTILINE)
 PLAY = re.compile(r"`(\w+)`: as printed, the two types (?:first )?differ")
@@ -130,9 +129,11 @@ def told(slip, top):
 
 
 def copy_crates(top):
-    """Copies the crate plays and those that it stands on to this folder."""
-    shutil.copy(TOP / "crates.txt", top)
-    for crate in ["plays", *PLAYED.search((TOP / "crates.txt").read_text())[1].split()]:
+    """Copies the crate plays and those that it stands on to this folder, and their lines of crates.txt."""
+    lines = {re.match(r"\w+", line)[0]: line for line in (TOP / "crates.txt").read_text().splitlines()}
+    crates = ["plays", *lines["plays"].partition(":")[2].split()]
+    (top / "crates.txt").write_text("\n".join(lines[crate] for crate in crates) + "\n")
+    for crate in crates:
         shutil.copytree(TOP / "crates" / crate, top / "crates" / crate)
 
 
