@@ -1,8 +1,7 @@
 -- Single turns to which no script comes, or no short one. HQ has a branch between its parent at SALES and a child at DEPOT.
 -- One message comes to it at each time of its life, and what HQ then writes and says is looked at. After that, the losses
 -- that the network tells.
-use Rattle.std.proofs.Common.{◌≡◌, ℕ, true, false, List, [], ◌∷◌, ◌++◌, map, filter, flat_map, replicate, Option, Some, None, codes, refl}
-use Rattle.std.specs.Prelude.{◌==◌}
+use Rattle.std.proofs.Common.{◌≡◌, ℕ, true, false, List, [], ◌∷◌, ◌++◌, map, flat_map, replicate, Option, Some, None, codes, refl}
 use Rattle.node_rules.specs.Data.{BranchId, Toward, Decision, RedoRecord, Stmt, Kind, Msg, Place}
 use Rattle.node_rules.specs.Data.answers
 use Rattle.node_rules.specs.Data.decisions
@@ -16,12 +15,11 @@ use Rattle.node_rules.specs.Turn.{turn_of, start_of}
 use Rattle.run_laws.specs.Data.{Command, Happening}
 use Rattle.run_laws.specs.Data.commands
 use Rattle.run_laws.specs.Data.happenings
-use Rattle.run_laws.specs.Report.{report}
-use Rattle.run_laws.specs.Telling.{Past, start}
-use Rattle.run_laws.specs.Due.{happened, runs_on}
-use Rattle.plays.proofs.Script.{place, number_column, number_key, link, here, over, num, text, insert, rows, commit, node, at, crash_keep, hold, pump, played, told}
+use Rattle.run_laws.specs.Telling.{start}
+use Rattle.run_laws.specs.Due.{happened}
+use Rattle.plays.proofs.Script.{place, number_column, number_key, link, here, over, num, rows, node, at, hold}
 use Rattle.plays.proofs.Playing.{playing}
-use Rattle.plays.proofs.Commit_shared.{places_2, opening_1}
+use Rattle.plays.proofs.Commit_shared.{places_2}
 
 -- HQ among the nodes
 abbrev hq_place : Place
