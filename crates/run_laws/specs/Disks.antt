@@ -32,7 +32,7 @@ opens_gate (hows.Leave bytes) = is_open bytes
 pub record Strike : Type 0 where
   pub call : ℕ
   pub is_stop : Bool
-  pub stands : Bool  -- the record
+  pub stands : Bool  -- whether the record of the append stands
 
 -- a strike of this call
 abbrev pub strike : ℕ → Bool → Bool → Option Strike

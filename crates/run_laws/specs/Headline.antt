@@ -92,8 +92,8 @@ IsBetween (Begins c) = Unit {0}
 IsBetween Ends = Unit {0}
 IsBetween _ = ⊥
 
--- what is told of a run that leaves this: all lines where its script was run; where memory ran out those of the commands
--- before the one that ran, or that one's too where it was done
+-- what is told of a run that leaves this: all lines, where its script was run; where memory ran out, those of the commands
+-- before the one that ran, and that one's too if it was done
 abbrev pub IsToldOf : History → Past → List AnswerLine → Ending → Type 0
 IsToldOf t p answers All_run = (due_of t.commands p ≡ Ends) × LinesAre t (told p.facts p.telling) answers
 IsToldOf t p answers Out_of_memory = LinesAre t p.telling.lines answers ⊎ (IsBetween (due_of t.commands p) × LinesAre t (told p.facts p.telling) answers)

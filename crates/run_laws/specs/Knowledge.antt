@@ -45,7 +45,7 @@ pub record IsFirstVote (tr : Trail) (b : BranchId) (input : Input) (s : Seen) (m
   pub came : input ≡ inputs.Message m
   pub first : is_first_vote s m ≡ true
 
--- the last first answer of its children
+-- the answer to Prepare of the last child that had not answered
 abbrev pub IsLastVote : Trail → BranchId → Input → Type 0
 IsLastVote tr b input = (s : Seen) × (m : Msg) × IsFirstVote tr b input s m × (all_voted (record s { voted = voted_after s input }) ≡ true)
 
@@ -80,7 +80,7 @@ abbrev pub toward_in : Option Sealed → Option BranchId
 toward_in None = None
 toward_in (Some r) = toward_of r r.toward
 
--- by the records of its node
+-- a branch's neighbour on the way to the site, by the records of its node
 abbrev pub toward_at : Facts → BranchId → Option BranchId
 toward_at f b = toward_in (sealed_in (records_at f b.node) b)
 
@@ -91,7 +91,7 @@ Commits b n (records.Ended c d) = (c ≡ b) × (d ≡ decisions.Commit n)
 Commits b n (records.Met c d mixed) = (c ≡ b) × (d ≡ decisions.Commit n)
 Commits b n _ = ⊥
 
--- one of these records does so
+-- one of these records tells the commit of the branch at this SCN
 abbrev pub IsRecorded : List RedoRecord → BranchId → ℕ → Type 0
 IsRecorded [] b n = ⊥
 IsRecorded (r ∷ rs) b n = Commits b n r ⊎ IsRecorded rs b n
@@ -100,7 +100,7 @@ IsRecorded (r ∷ rs) b n = Commits b n r ⊎ IsRecorded rs b n
 abbrev pub HeardFromToward : Facts → BranchId → Decision → Input → Type 0
 HeardFromToward f b d input = (from : BranchId) × (toward_at f b ≡ Some from) × Brings input from b d
 
--- Forgotten came from it
+-- Forgotten came from the neighbour on the way to the site
 abbrev pub ForgottenByToward : Facts → BranchId → Input → Type 0
 ForgottenByToward f b input = (from : BranchId) × (toward_at f b ≡ Some from) × Came input from b kinds.Forgotten
 
@@ -125,13 +125,13 @@ abbrev pub IsIdOf : List (List ℕ) → List ℕ → BranchId → Option Sealed 
 IsIdOf names id b None = ⊥
 IsIdOf names id b (Some r) = (id ≡ local_text b) ⊎ (id ≡ global_text names r.root)
 
--- a forced outcome is that of the statement: with its SCN, or with the clock plus one
+-- the outcome that a statement forces: with its SCN, or with the clock plus one
 abbrev pub ForcesSo : ℕ → List ℕ → Decision → Bool → Input → Type 0
 ForcesSo clock id (decisions.Commit n) true input = IsCallOf (stmts.CommitForce id (Some n)) input
 ForcesSo clock id (decisions.Commit n) false input = IsCallOf (stmts.CommitForce id None) input × (n ≡ clock + 1)
 ForcesSo clock id decisions.Rollback given input = IsCallOf (stmts.RollbackForce id) input × (given ≡ false)
 
--- of the branch that the statement's id names
+-- a forced outcome is that of a statement whose id names the branch
 abbrev pub IsForce : Place → Facts → Kept → BranchId → Decision → Bool → Input → Type 0
 IsForce p f k b d given input = (id : List ℕ) × IsIdOf p.names id b (sealed_in (records_at f b.node) b) × ForcesSo k.clock id d given input
 
@@ -188,7 +188,7 @@ pub record TurnKnows (places : List Place) (f : Facts) (tr : Trail) (u : Turn) (
   pub writes : IfSome u.wrote (MayWrite (place_at places u.node) f tr (trail_after places f tr (happenings.Turn u)) k u.node u.input)
   pub says : AllByRecursion (λ m. MaySay (place_at places u.node) f tr (trail_after places f tr (happenings.Turn u)) (records_at f u.node ++ option_to_list u.wrote) u.input m.from m.to m.kind) u.sent
 
--- at a node that is up
+-- each turn of a node that is up writes and says what it may
 abbrev pub Knows : List Place → Facts → Trail → Happening → Type 0
 Knows places f tr (happenings.Turn u) = (k : Kept) → node_at f u.node ≡ Some k → TurnKnows places f tr u k
 Knows places f tr _ = Unit {0}

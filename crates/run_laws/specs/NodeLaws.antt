@@ -42,7 +42,7 @@ abbrev pub ClockRises : List Place → Facts → Happening → Type 0
 ClockRises places f (happenings.Turn u) = (k : Kept) → node_at f u.node ≡ Some k → (k.clock ≤ (turn_of (place_at places u.node) k u.input).after.clock) × IfSome u.wrote (IsLater k.clock)
 ClockRises places f _ = Unit {0}
 
--- in every lawful run
+-- in every lawful run clocks rise
 abbrev pub ClocksRise : Type 0
 ClocksRise = (t : History) → IsLawfulRun t → AtEachFact ClockRises t
 
@@ -109,7 +109,7 @@ abbrev pub TellsItsOwn : List Place → Facts → Happening → Type 0
 TellsItsOwn places f (happenings.Turn u) = (k : Kept) → node_at f u.node ≡ Some k → AllByRecursion (λ m. MayTell k.stored.durable.kept (turn_of (place_at places u.node) k u.input).wrote m.from m.kind) u.sent
 TellsItsOwn places f _ = Unit {0}
 
--- in every lawful run
+-- in every lawful run Committed is told by branches that know the commit
 abbrev pub CommitsAreKnown : Type 0
 CommitsAreKnown = (t : History) → IsLawfulRun t → AtEachFact TellsItsOwn t
 
@@ -118,11 +118,11 @@ abbrev pub TellsRecorded : List RedoRecord → BranchId → Kind → Type 0
 TellsRecorded rs b (kinds.Committed n) = IsRecorded rs b n
 TellsRecorded rs b _ = Unit {0}
 
--- each message of a turn is so
+-- each Committed of a turn is told where a record of the node says so
 abbrev pub TellsRecords : List Place → Facts → Happening → Type 0
 TellsRecords places f (happenings.Turn u) = AllByRecursion (λ m. TellsRecorded (records_at f u.node ++ option_to_list u.wrote) m.from m.kind) u.sent
 TellsRecords places f _ = Unit {0}
 
--- in every lawful run
+-- in every lawful run Committed is told where a record says so
 abbrev pub CommitsAreRecorded : Type 0
 CommitsAreRecorded = (t : History) → IsLawfulRun t → AtEachFact TellsRecords t

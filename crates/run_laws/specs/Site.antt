@@ -22,7 +22,7 @@ pub record IsSite (tr : Trail) (r : Decided) : Type 0 where
 abbrev pub IsCovered : Trail → BranchId → Planned → Type 0
 IsCovered tr site x = x.me ≢ site → x.weight ≢ None → (scn : ℕ) × (exit_at tr x.me ≡ Some (Sealed scn))
 
--- all branches of the tree are so
+-- every branch of the tree of a decision is covered
 abbrev pub Covers : Trail → Decided → Type 0
 Covers tr r = IfSome (plan_at tr r.root) (λ p. AllByRecursion (IsCovered tr r.me) p.tree)
 
@@ -31,7 +31,7 @@ abbrev pub DecidedBySite : Trail → RedoRecord → Type 0
 DecidedBySite tr (records.Decided r) = IsSite tr r
 DecidedBySite tr _ = Unit {0}
 
--- and covers the tree
+-- a decision covers its tree
 abbrev pub DecisionCovers : Trail → RedoRecord → Type 0
 DecisionCovers tr (records.Decided r) = Covers tr r
 DecisionCovers tr _ = Unit {0}

@@ -23,21 +23,18 @@ pub record Page : Type 0 where
   pub others : List AnswerLine
   pub stops : List Said
 
--- Beside the facts of a run so far.
+-- What is told of a run so far, and what comes next beside the facts.
 pub record Telling : Type 0 where
-  -- the command that runs
-  pub acted : Bool  -- something has happened since it began
-  pub deliveries : ℕ
-  pub page : Page
-  -- what comes next
-  pub hold : Bool
-  pub calls : List Call  -- in order of command
-  pub next_call : Option Call  -- the second call of a CREATE
+  pub acted : Bool  -- something has happened since the command that runs began
+  pub deliveries : ℕ  -- those of the command that runs
+  pub page : Page  -- the lines of the command that runs
+  pub hold : Bool  -- HOLD is on
+  pub calls : List Call  -- the pending calls, in order of command
+  pub next_call : Option Call  -- the second call of a CREATE, which comes next
   pub start_to_stop : Option ℕ  -- a node that an order struck in its start, after its Boot stood
   pub plans : List Plan  -- the orders on each node's disk that have not struck
-  pub points : List Point  -- of crash-test comments
-  -- the lines of the commands before
-  pub lines : List AnswerLine
+  pub points : List Point  -- the points of crash-test comments
+  pub lines : List AnswerLine  -- those of the commands before
 
 -- A run so far.
 pub record Past : Type 0 where

@@ -41,7 +41,7 @@ abbrev pub child_begun : Trail → Kind → Msg → List Seen
 child_begun tr (kinds.Open edge root depth) m = if is_none (seen_at tr m.from) then newly_seen m.from root (Some m.to) ∷ [] else []
 child_begun tr _ m = []
 
--- by the Open that came
+-- the branch that begins with the Opened to an Open
 abbrev pub children_begun : Trail → Input → List Msg → List Seen
 children_begun tr (inputs.Message came) (m ∷ ms) = child_begun tr came.kind m
 children_begun tr _ _ = []
@@ -124,7 +124,7 @@ abbrev pub acked_by : Seen → Msg → Kind → List BranchId
 acked_by s m kinds.Ack = if same m.to s.me then with_once s.acks m.from else s.acks
 acked_by s m _ = s.acks
 
--- the same by the input
+-- those whose Ack came, with the one that comes now
 abbrev pub acks_after : Seen → Input → List BranchId
 acks_after s (inputs.Message m) = acked_by s m m.kind
 acks_after s _ = s.acks
@@ -158,11 +158,11 @@ kind_drops s from kinds.RolledBack = is_branch from s.parent
 kind_drops s from kinds.Ask = is_branch from s.parent
 kind_drops s from _ = false
 
--- and Abort as a child's first answer
+-- a message drops a live branch that gets it, and so does Abort as a child's first answer
 abbrev pub message_drops : Seen → Msg → Bool
 message_drops s m = (same m.to s.me && kind_drops s m.from m.kind) || (is_first_vote s m && is_abort m.kind)
 
--- the site of a root's plan
+-- whether the plan of a root has no site
 abbrev pub has_no_site : Option Plan → Bool
 has_no_site None = false
 has_no_site (Some p) = is_none p.site
@@ -254,12 +254,12 @@ brought_by f tr u o = record {
   origin = origin_by tr u (asks tr u.node u.input) (run_in f tr u);
 }
 
--- the changes of an accepted run
+-- the changes of a branch with those of an accepted run
 abbrev pub own_with : Bool → List Entry → List Change → Option Run → List Change
 own_with true book own (Some r) = own_after book own r
 own_with _ book own _ = own
 
--- and its keys
+-- the keys of a branch with those of an accepted run
 abbrev pub held_with : Bool → List Entry → List Change → List Lock → Option Run → List Lock
 held_with true book own held (Some r) = held_after book own held r
 held_with _ book own held _ = held
@@ -268,7 +268,7 @@ held_with _ book own held _ = held
 abbrev pub held_on : Bool → BranchId → List Lock → List Lock
 held_on collects b held = if collects then without_reads held b else held
 
--- a branch after a turn, but for its exit
+-- a branch after a turn, apart from its exit
 abbrev pub with_turn : List Entry → Turn → Option Outcome → Brought → Seen → Seen
 with_turn book u o brings s = record s {
   taken = taken_after s u.input;
@@ -282,7 +282,7 @@ with_turn book u o brings s = record s {
   held = held_on (begins_collect u.node brings.answer s u.input) s.me (held_with (runs_for s brings.run brings.answer) book s.own s.held brings.run);
 }
 
--- and with it
+-- a branch after a turn
 abbrev pub after_turn : List Entry → Trail → Turn → Option Outcome → Brought → Seen → Seen
 after_turn book tr u o brings s = record (with_turn book u o brings s) { exit = exit_after tr u s (with_turn book u o brings s) s.exit }
 
