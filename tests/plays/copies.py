@@ -15,6 +15,10 @@ from names import playing_text
 TOP = pathlib.Path(__file__).resolve().parents[2]
 # the file of the plays that is written by hand and that all of them use
 BY_HAND = "Script"
+# the crates of definitions with laws over them, each below the next
+LAWS = ("node_rules", "run_laws")
+# what stands in a lib.rt beside laws begins so
+DECLARATIONS = ("//!", "#![", "mod ", "pub mod ", "pub use ")
 
 CRATE = re.compile(r"^rt: chose --jobs \d+ for (\w+)$", re.MULTILINE)
 # an error begins a line, and the lines below it that begin with blanks belong to it
@@ -68,19 +72,27 @@ def check_once(top):
 
 
 def drop_laws(top):
-    """Leaves the definitions of run_laws, and no law over them."""
-    shutil.copy(top / "crates/node_rules/src/lib.rt", top / "crates/run_laws/src/lib.rt")
-    shutil.rmtree(top / "crates/run_laws/proofs")
+    """Leaves the definitions, and no law over them."""
+    for crate in (top / "crates" / name for name in LAWS):
+        lib = crate / "src" / "lib.rt"
+        lines = [line for line in lib.read_text().splitlines() if line.startswith(DECLARATIONS)]
+        lib.write_text("\n".join(lines) + "\n")
+        shutil.rmtree(crate / "proofs")
+
+
+def laws_that_fail(errors):
+    """The crate of which the laws fail, and nothing else."""
+    return next((name for name in LAWS if {error.folder for error in errors.get(name, [])} == {"proofs"}), None)
 
 
 def check(top):
-    """Checks the plays, where proofs of run_laws fail without those laws: as check_once, and whether they fail."""
+    """Checks the plays, where laws fail without the laws: as check_once, and the crate whose laws fail."""
     proved, errors = check_once(top)
-    laws_fail = {error.folder for error in errors.get("run_laws", [])} == {"proofs"}
-    if laws_fail:
+    laws = laws_that_fail(errors)
+    if laws:
         drop_laws(top)
         proved, errors = check_once(top)
-    return proved, errors, laws_fail
+    return proved, errors, laws
 
 
 def write_proofs(top, texts):
