@@ -2,9 +2,9 @@
 
 
 def codes(text):
-    """The bytes of an ASCII text."""
-    if not text.isascii():
-        raise ValueError(f"not ASCII: {text!r}")
+    """The bytes of a text; where it is not plain ASCII, one by one."""
+    if not (text.isascii() and text.isprintable()):
+        return f"({listing(map(str, text.encode()))})"
     escaped = text.replace("\\", "\\\\").replace('"', '\\"')
     return f'codes "{escaped}"'
 

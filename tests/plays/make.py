@@ -4,7 +4,8 @@
     tests/plays/make.py            rewrites the plays in crates/plays/proofs
     tests/plays/make.py --check    exits with 1 where a file there is another than would be written
 
-The scenarios stand below tests/plays/scenarios, and what each shows in SHOWS.tsv there. Script.antt and The_order.antt are written by hand.
+The scenarios stand below tests/plays/scenarios, and what each shows in SHOWS.tsv there. Script.antt, The_order.antt and
+Single_turns.antt are written by hand.
 """
 
 import pathlib
@@ -16,7 +17,7 @@ from names import playing_text
 from scenarios import scenarios
 
 PROOFS = pathlib.Path(__file__).resolve().parents[2] / "crates" / "plays" / "proofs"
-BY_HAND = {"Script.antt", "The_order.antt"}
+BY_HAND = {"Script.antt", "The_order.antt", "Single_turns.antt"}
 
 
 def texts():
@@ -33,7 +34,7 @@ def lib_text(plays):
     shared = [module for module in plays if module.endswith("_shared")]
     return "".join(
         [f"pub mod {module}\n" for module in ["Script", "Playing", *shared]]
-        + [f"mod {module}\n" for module in ["The_order", *plays] if module not in shared]
+        + [f"mod {module}\n" for module in ["The_order", "Single_turns", *plays] if module not in shared]
     )
 
 

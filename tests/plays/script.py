@@ -73,6 +73,8 @@ def read_node(text):
     """`NODE name {STRENGTH num | LINKS num | UNDO num}`"""
     _, name, *options = text.upper().split()
     given = {word.lower(): int(number) for word, number in zip(options[::2], options[1::2], strict=True)}
+    if not given.keys() <= {"strength", "links", "undo"}:
+        raise ValueError(f"no command: {text}")
     return Node(name, **given)
 
 

@@ -8,27 +8,27 @@ A slip is a file tests/plays/slips/NAME.edit, and without a NAME all of them are
     # what is wrong, in a sentence
     file: crates/CRATE/specs/FILE.antt
     old: TEXT           stands in that file exactly once
-    new: TEXT           stands there in its place; each TEXT is one line, and further pairs may follow
+    new: TEXT           stands there in its place; further pairs may follow
+
+Several lines `old:` in a row, or several lines `new:`, are the lines of one text.
 
 The crates are copied to a temporary folder with their folders out, so that only what changed is checked again. There
 each slip is made, the crate plays is checked, and the slip is unmade. One line a slip tells which plays fail first.
-Where the proofs of run_laws fail too, the line says so, and the plays are checked without those laws. The exit status
-is 1 where a slip was not caught, does not apply or is not well typed.
+Where proofs of the laws over the definitions fail too, the line says so, and the plays are checked without those laws.
+The exit status is 1 where a slip was not caught, does not apply or is not well typed.
 """
 
+import itertools
 import pathlib
 import re
 import shutil
-import subprocess
 import sys
-import tempfile
 
-TOP = pathlib.Path(__file__).resolve().parents[2]
+from copies import LAWS, TOP, check, copied_crates
+
 SLIPS = TOP / "tests" / "plays" / "slips"
 NAMED = 3  # so many plays are named of those that catch a slip
 
-CRATE = re.compile(r"^rt: chose --jobs \d+ for (\w+)$", re.MULTILINE)
-ERROR = re.compile(r"^\./(\w+)/\S+: error: (.*)$", re.MULTILINE)
 PLAY = re.compile(r"`(\w+)`: as printed, the two types (?:first )?differ")
 
 
@@ -36,82 +36,75 @@ class Misfit(Exception):
     """A slip that shows nothing: it does not apply, or it is not well typed."""
 
 
+def changes(slip):
+    """The changes of a slip: for each its file, what stands there, and what stands in its place."""
+    parts = [line.partition(":")[::2] for line in slip.read_text().splitlines()]
+    for word, group in itertools.groupby(parts, key=lambda part: part[0]):
+        text = "\n".join(rest.removeprefix(" ") for _, rest in group)
+        if word == "file":
+            file = text
+        elif word == "old":
+            old = text
+        elif word == "new":
+            yield file, old, text
+
+
+def crates_of(slip):
+    """The crates that a slip changes."""
+    return sorted({pathlib.Path(file).parts[1] for file, _, _ in changes(slip)})
+
+
 def apply(slip, top):
     """Makes the changes of a slip below this folder."""
-    for line in slip.read_text().splitlines():
-        word, _, rest = line.partition(": ")
-        if word == "file":
-            file = top / rest
-        elif word == "old":
-            old = rest
-        elif word == "new":
-            text = file.read_text()
-            if text.count(old) != 1:
-                raise Misfit(f"stands {text.count(old)} times in {file.name}: {old}")
-            file.write_text(text.replace(old, rest))
+    for name, old, new in changes(slip):
+        file = top / name
+        text = file.read_text()
+        if text.count(old) != 1:
+            raise Misfit(f"stands {text.count(old)} times in {file.name}: {old}")
+        file.write_text(text.replace(old, new))
 
 
-def check(top):
-    """Checks the plays below this folder: whether all is proved, and of each crate that failed the errors by folder."""
-    done = subprocess.run(
-        ["rt", "check"], cwd=top / "crates" / "plays", stdout=subprocess.PIPE, stderr=subprocess.STDOUT, text=True
-    )
-    parts = CRATE.split(done.stdout)
-    errors = {name: ERROR.findall(text) for name, text in zip(parts[1::2], parts[2::2])}
-    return done.returncode == 0, {name: found for name, found in errors.items() if found}
-
-
-def restore(top):
-    """Writes the definitions and the laws over them as they stand in the repository."""
-    for part in ("node_rules/src", "node_rules/specs", "run_laws/src", "run_laws/specs", "run_laws/proofs"):
+def restore(crates, top):
+    """Writes these crates as they stand in the repository."""
+    for part in (pathlib.Path(crate, part) for crate in crates for part in ("src", "specs", "proofs")):
         shutil.rmtree(top / "crates" / part, ignore_errors=True)
-        shutil.copytree(TOP / "crates" / part, top / "crates" / part)
-
-
-def drop_laws(top):
-    """Leaves the definitions of run_laws, and no law over them."""
-    shutil.copy(top / "crates/node_rules/src/lib.rt", top / "crates/run_laws/src/lib.rt")
-    shutil.rmtree(top / "crates/run_laws/proofs")
+        if (TOP / "crates" / part).is_dir():
+            shutil.copytree(TOP / "crates" / part, top / "crates" / part)
 
 
 def caught(slip, top):
-    """The plays that fail, and whether proofs of run_laws do."""
-    restore(top)
+    """The plays that fail, and the crate whose laws do."""
     apply(slip, top)
-    proved, errors = check(top)
-    laws_fail = {place for place, _ in errors.get("run_laws", [])} == {"proofs"}
-    if laws_fail:
-        drop_laws(top)
-        proved, errors = check(top)
+    proved, errors, laws = check(top)
     if proved:
-        return [], laws_fail
-    plays = [PLAY.match(text) for _, text in errors.get("plays", [])]
+        return [], laws
+    plays = [PLAY.match(error.text) for error in errors.get("plays", [])]
     if list(errors) != ["plays"] or not all(plays):
         raise Misfit(f"not well typed: {str(errors)[:240]}")
-    return [play[1] for play in plays], laws_fail
+    return [play[1] for play in plays], laws
 
 
 def told(slip, top):
     """Whether a slip was caught, and the line that tells it."""
     try:
-        plays, laws_fail = caught(slip, top)
+        plays, laws = caught(slip, top)
     except Misfit as why:
         return False, f"{slip.stem}: {why}"
     more = f" and {len(plays) - NAMED} more" if len(plays) > NAMED else ""
     by = f"caught by {', '.join(plays[:NAMED])}{more}" if plays else "NOT CAUGHT"
-    return bool(plays), f"{slip.stem}: {by}" + ("; the proofs of run_laws fail too" if laws_fail else "")
+    return bool(plays), f"{slip.stem}: {by}" + (f"; the proofs of {laws} fail too" if laws else "")
 
 
 def main(names):
+    slips = [SLIPS / f"{name}.edit" for name in names] or sorted(SLIPS.glob("*.edit"))
     all_caught = True
-    with tempfile.TemporaryDirectory() as folder:
-        top = pathlib.Path(folder)
-        shutil.copy(TOP / "crates.txt", top)
-        shutil.copytree(TOP / "crates", top / "crates")
-        for slip in [SLIPS / f"{name}.edit" for name in names] or sorted(SLIPS.glob("*.edit")):
+    with copied_crates() as top:
+        # slips of one crate follow one another, so that few crates are checked again
+        for slip in sorted(slips, key=crates_of):
             is_caught, line = told(slip, top)
             print(line, flush=True)
             all_caught = all_caught and is_caught
+            restore({*LAWS, *crates_of(slip)}, top)
     return 0 if all_caught else 1
 
 

@@ -1,10 +1,11 @@
 -- Plays of the topic commit.
-use Rattle.std.proofs.Common.{◌≡◌, [], ◌∷◌, ◌++◌, codes, refl}
+use Rattle.std.proofs.Common.{◌≡◌, true, [], ◌∷◌, ◌++◌, codes, refl}
 use Rattle.run_laws.specs.Report.{report}
+use Rattle.node_rules.specs.Data.picks
 use Rattle.node_rules.specs.Data.stmts
 use Rattle.run_laws.specs.Data.kind_names
 use Rattle.run_laws.specs.Data.commands
-use Rattle.plays.proofs.Script.{number_key, table, link, synonym, here, over, num, text, literal, minus, set, equal, insert, rows, count, commit, node, at, hold, pump, pump_all, played, told}
+use Rattle.plays.proofs.Script.{number_key, table, link, synonym, here, over, num, text, literal, minus, set, equal, insert, rows, count, commit, node, at, hold, let_go, pump, pump_all, played, told}
 use Rattle.plays.proofs.Playing.{playing}
 use Rattle.plays.proofs.Commit_shared.{places_1, places_2, places_3, places_4, places_5, opening_1, opening_1_lines, opening_2, opening_2_lines}
 
@@ -101,9 +102,95 @@ held_commits_one_after_the_other :
 unfolding playing
 held_commits_one_after_the_other = refl
 
+-- keys that FOR UPDATE alone holds are free as soon as their branch is asked to prepare, at the root and at the site
+keys_only_read_are_released_at_prepare :
+    report (told (played 416 places_2 (opening_1 ++
+    at 1 1 (insert (here (codes "ORDERS")) (num 1 ∷ num 10 ∷ []))
+    ∷ at 1 1 commit
+    ∷ at 1 1 (stmts.Select picks.All (here (codes "ORDERS")) (equal (codes "ID") (num 1) ∷ []) true)
+    ∷ at 1 1 (stmts.Select (picks.Columns (codes "N" ∷ [])) (over (codes "STOCK") (codes "WH")) (equal (codes "ITEM") (text (codes "BOLT")) ∷ []) true)
+    ∷ at 1 1 (insert (over (codes "STOCK") (codes "WH")) (text (codes "NUT") ∷ num 5 ∷ []))
+    ∷ at 1 2 (stmts.Update (here (codes "ORDERS")) (set (codes "QTY") (literal (num 20)) ∷ []) (equal (codes "ID") (num 1) ∷ []))
+    ∷ at 2 2 (stmts.Update (here (codes "STOCK")) (set (codes "N") (literal (num 40)) ∷ []) (equal (codes "ITEM") (text (codes "BOLT")) ∷ []))
+    ∷ hold
+    ∷ at 1 1 commit
+    ∷ pump 1
+    ∷ at 1 2 (stmts.Update (here (codes "ORDERS")) (set (codes "QTY") (literal (num 20)) ∷ []) (equal (codes "ID") (num 1) ∷ []))
+    ∷ at 2 2 (stmts.Update (here (codes "STOCK")) (set (codes "N") (literal (num 40)) ∷ []) (equal (codes "ITEM") (text (codes "BOLT")) ∷ []))
+    ∷ at 2 2 (insert (here (codes "STOCK")) (text (codes "NUT") ∷ num 7 ∷ []))
+    ∷ let_go
+    ∷ [])))
+    ≡ opening_1_lines ++
+    codes "11 1 row created."
+    ∷ codes "12 Commit complete."
+    ∷ codes "13 ID|QTY"
+    ∷ codes "13 1|10"
+    ∷ codes "13 1 row selected."
+    ∷ codes "14 N"
+    ∷ codes "14 50"
+    ∷ codes "14 1 row selected."
+    ∷ codes "15 1 row created."
+    ∷ codes "16 ORA-02049: timeout: distributed transaction waiting for lock"
+    ∷ codes "17 ORA-02049: timeout: distributed transaction waiting for lock"
+    ∷ codes "18 ok"
+    ∷ codes "19 waiting"
+    ∷ codes "20 ok"
+    ∷ codes "21 1 row updated."
+    ∷ codes "22 1 row updated."
+    ∷ codes "23 ORA-02049: timeout: distributed transaction waiting for lock"
+    ∷ codes "24 ok"
+    ∷ codes "19 Commit complete."
+    ∷ []
+unfolding playing
+keys_only_read_are_released_at_prepare = refl
+
+-- an old question reaches a root that has committed meanwhile; the branch between it and the site does not listen to the answer
+late_question_after_the_commit :
+    report (told (played 318 places_3 (
+    node (codes "R") 1
+    ∷ node (codes "B") 50
+    ∷ node (codes "C") 200
+    ∷ at 3 1 (table (codes "T") (number_key (codes "K") ∷ []))
+    ∷ at 2 1 (link (codes "LC") (codes "C"))
+    ∷ at 2 1 (synonym (codes "TC") (codes "T") (codes "LC"))
+    ∷ at 1 1 (link (codes "LB") (codes "B"))
+    ∷ at 1 1 (insert (over (codes "TC") (codes "LB")) (num 1 ∷ []))
+    ∷ commands.Reco 2
+    ∷ hold
+    ∷ at 1 1 commit
+    ∷ pump 9
+    ∷ commands.ShowNet
+    ∷ commands.Again 9
+    ∷ commands.Deliver 21
+    ∷ commands.ShowNet
+    ∷ let_go
+    ∷ [])))
+    ≡
+    codes "1 ok"
+    ∷ codes "2 ok"
+    ∷ codes "3 ok"
+    ∷ codes "4 Table created."
+    ∷ codes "5 Database link created."
+    ∷ codes "6 Synonym created."
+    ∷ codes "7 Database link created."
+    ∷ codes "8 1 row created."
+    ∷ codes "9 ok"
+    ∷ codes "10 ok"
+    ∷ codes "11 waiting"
+    ∷ codes "12 ok"
+    ∷ codes "13 20 ACK B C"
+    ∷ codes "14 ok"
+    ∷ codes "15 ok"
+    ∷ codes "16 20 ACK B C"
+    ∷ codes "17 ok"
+    ∷ codes "11 Commit complete."
+    ∷ []
+unfolding playing
+late_question_after_the_commit = refl
+
 -- a transaction that only queried is rolled back where its prepare is lost
 lost_prepare_of_a_query_alone_rolls_back :
-    report (told (played 276 places_3 (opening_2 ++
+    report (told (played 276 places_4 (opening_2 ++
     at 1 1 (rows (over (codes "T") (codes "LA")) [])
     ∷ commands.LoseNext kind_names.Prepare 1 2
     ∷ at 1 1 commit
@@ -205,7 +292,7 @@ messages_of_a_commit_in_order = refl
 
 -- a branch acknowledges once everybody beyond has: one of two does not hear of the commit
 one_of_two_beyond_has_not_acknowledged :
-    report (told (played 234 places_4 (
+    report (told (played 234 places_5 (
     node (codes "R") 1
     ∷ node (codes "B") 1
     ∷ at 2 1 (table (codes "T") (number_key (codes "K") ∷ []))
@@ -236,7 +323,7 @@ one_of_two_beyond_has_not_acknowledged = refl
 
 -- a transaction that only queried commits without a site and leaves no pending row
 query_alone_leaves_no_row_behind :
-    report (told (played 276 places_3 (opening_2 ++
+    report (told (played 276 places_4 (opening_2 ++
     at 1 1 (rows (over (codes "T") (codes "LA")) [])
     ∷ at 1 1 commit
     ∷ commands.ShowPending 1
@@ -248,70 +335,3 @@ query_alone_leaves_no_row_behind :
     ∷ []
 unfolding playing
 query_alone_leaves_no_row_behind = refl
-
--- a transaction that only queried over a link commits without a site
-query_alone_needs_no_site :
-    report (told (played 262 places_3 (opening_2 ++
-    at 1 1 (rows (over (codes "T") (codes "LA")) [])
-    ∷ at 1 1 commit
-    ∷ [])))
-    ≡ opening_2_lines ++
-    codes "12 no rows selected"
-    ∷ codes "13 Commit complete."
-    ∷ []
-unfolding playing
-query_alone_needs_no_site = refl
-
--- a repeated word to commit after all is forgotten changes nothing; a message never sent is refused
-repeated_messages_after_the_end :
-    report (told (played 332 places_2 (opening_1 ++
-    at 1 1 (insert (here (codes "ORDERS")) (num 1 ∷ num 10 ∷ []))
-    ∷ at 1 1 (stmts.Update (over (codes "STOCK") (codes "WH")) (set (codes "N") (minus (codes "N") 10) ∷ []) (equal (codes "ITEM") (text (codes "BOLT")) ∷ []))
-    ∷ at 1 1 (insert (over (codes "LEDGER") (codes "HQ")) (num 1 ∷ num 250 ∷ []))
-    ∷ at 1 1 commit
-    ∷ commands.Again 13
-    ∷ at 2 2 (rows (here (codes "STOCK")) [])
-    ∷ commands.ShowPending 2
-    ∷ commands.Again 99
-    ∷ [])))
-    ≡ opening_1_lines ++
-    codes "11 1 row created."
-    ∷ codes "12 1 row updated."
-    ∷ codes "13 1 row created."
-    ∷ codes "14 Commit complete."
-    ∷ codes "15 ok"
-    ∷ codes "16 ITEM|N"
-    ∷ codes "16 'BOLT'|40"
-    ∷ codes "16 1 row selected."
-    ∷ codes "17 no rows selected"
-    ∷ codes "18 DTX-11: message 99 cannot be delivered"
-    ∷ []
-unfolding playing
-repeated_messages_after_the_end = refl
-
--- a child that its node's restart has lost answers Abort to Prepare, and the COMMIT is rolled back
-restarted_child_rolls_the_commit_back :
-    report (told (played 206 places_5 (
-    node (codes "A") 1
-    ∷ node (codes "B") 1
-    ∷ at 1 1 (table (codes "T") (number_key (codes "K") ∷ []))
-    ∷ at 1 1 (link (codes "B") (codes "B"))
-    ∷ at 1 1 (insert (here (codes "T")) (num 1 ∷ []))
-    ∷ at 1 1 (rows (over (codes "T") (codes "B")) [])
-    ∷ commands.Stop 2
-    ∷ commands.Start 2
-    ∷ at 1 1 commit
-    ∷ [])))
-    ≡
-    codes "1 ok"
-    ∷ codes "2 ok"
-    ∷ codes "3 Table created."
-    ∷ codes "4 Database link created."
-    ∷ codes "5 1 row created."
-    ∷ codes "6 ORA-00942: table or view does not exist"
-    ∷ codes "7 ok"
-    ∷ codes "8 ok"
-    ∷ codes "9 ORA-02050: transaction 1.1.1 rolled back, some remote DBs may be in-doubt"
-    ∷ []
-unfolding playing
-restarted_child_rolls_the_commit_back = refl

@@ -11,10 +11,13 @@ abbrev pub names_2 : List (List ℕ)
 names_2 = codes "SALES" ∷ codes "WAREHOUSE" ∷ codes "HQ" ∷ []
 
 abbrev pub names_3 : List (List ℕ)
-names_3 = codes "R" ∷ codes "B" ∷ []
+names_3 = codes "R" ∷ codes "B" ∷ codes "C" ∷ []
 
 abbrev pub names_4 : List (List ℕ)
-names_4 = codes "A" ∷ codes "B" ∷ []
+names_4 = codes "R" ∷ codes "B" ∷ []
+
+abbrev pub names_5 : List (List ℕ)
+names_5 = codes "A" ∷ codes "B" ∷ []
 
 abbrev pub places_1 : List Place
 places_1 = place names_1 1 1 ∷ place names_1 2 100 ∷ place names_1 3 100 ∷ place names_1 4 200 ∷ []
@@ -23,13 +26,16 @@ abbrev pub places_2 : List Place
 places_2 = place names_2 1 100 ∷ place names_2 2 140 ∷ place names_2 3 75 ∷ []
 
 abbrev pub places_3 : List Place
-places_3 = place names_1 1 1 ∷ place names_1 2 100 ∷ place names_1 3 50 ∷ place names_1 4 200 ∷ []
+places_3 = place names_3 1 1 ∷ place names_3 2 50 ∷ place names_3 3 200 ∷ []
 
 abbrev pub places_4 : List Place
-places_4 = place names_3 1 1 ∷ place names_3 2 1 ∷ []
+places_4 = place names_1 1 1 ∷ place names_1 2 100 ∷ place names_1 3 50 ∷ place names_1 4 200 ∷ []
 
 abbrev pub places_5 : List Place
 places_5 = place names_4 1 1 ∷ place names_4 2 1 ∷ []
+
+abbrev pub places_6 : List Place
+places_6 = place names_5 1 1 ∷ place names_5 2 1 ∷ []
 
 abbrev pub opening_1 : List Command
 opening_1 =

@@ -2,9 +2,9 @@
 use Rattle.std.proofs.Common.{◌≡◌, [], ◌∷◌, ◌++◌, codes, refl}
 use Rattle.run_laws.specs.Report.{report}
 use Rattle.run_laws.specs.Data.commands
-use Rattle.plays.proofs.Script.{number_key, table, here, count, commit, commit_comment, node, at, crash_keep, crash_leave, played, told}
+use Rattle.plays.proofs.Script.{number_key, table, here, num, insert, count, commit, commit_comment, node, at, crash_keep, crash_leave, played, told}
 use Rattle.plays.proofs.Playing.{playing}
-use Rattle.plays.proofs.Crash_shared.{places_1, places_2, opening_1, opening_1_lines, ending_2, ending_2_lines_1, ending_2_lines_2}
+use Rattle.plays.proofs.Crash_shared.{places_1, places_2, places_3, opening_1, opening_1_lines, ending_2, ending_2_lines_1, ending_2_lines_2}
 
 -- a gate byte that is neither shut nor open counts as shut: the branch is not prepared
 prepared_record_behind_an_odd_gate :
@@ -78,6 +78,45 @@ site_record_not_begun :
     ∷ ending_2_lines_1
 unfolding playing
 site_record_not_begun = refl
+
+-- a START in whose writes the node stops is refused; where its Boot stands it counts among the starts
+start_that_is_struck :
+    report (told (played 262 places_3 (
+    node (codes "A") 1
+    ∷ at 1 1 (table (codes "T") (number_key (codes "K") ∷ []))
+    ∷ commands.Stop 1
+    ∷ crash_keep 1 1 0
+    ∷ commands.Start 1
+    ∷ crash_keep 1 2 1
+    ∷ commands.Start 1
+    ∷ commands.Fault 1 7
+    ∷ commands.Start 1
+    ∷ commands.Start 1
+    ∷ at 1 1 (insert (here (codes "T")) (num 1 ∷ []))
+    ∷ at 1 1 commit
+    ∷ commands.ShowBook
+    ∷ [])))
+    ≡
+    codes "1 ok"
+    ∷ codes "2 Table created."
+    ∷ codes "3 ok"
+    ∷ codes "4 ok"
+    ∷ codes "5 DTX-01: node A is stopped"
+    ∷ codes "5 node A stopped"
+    ∷ codes "6 ok"
+    ∷ codes "7 DTX-01: node A is stopped"
+    ∷ codes "7 node A stopped"
+    ∷ codes "8 ok"
+    ∷ codes "9 DTX-01: node A is stopped"
+    ∷ codes "9 node A stopped"
+    ∷ codes "10 ok"
+    ∷ codes "11 1 row created."
+    ∷ codes "12 Commit complete."
+    ∷ codes "13 made A T"
+    ∷ codes "13 decided A 4.1.1 A.00000001.4.1.1 scn 1 changes 1"
+    ∷ []
+unfolding playing
+start_that_is_struck = refl
 
 -- the crash-test comment 1: the site stops before it says ready
 test_comment_01 :

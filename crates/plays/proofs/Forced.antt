@@ -50,6 +50,46 @@ opening_1_lines =
     ∷ codes "10 Table created."
     ∷ []
 
+abbrev opening_2 : List Command
+opening_2 =
+    node (codes "R") 1
+    ∷ node (codes "A") 100
+    ∷ node (codes "B") 50
+    ∷ node (codes "C") 200
+    ∷ at 2 1 (table (codes "T") (number_key (codes "K") ∷ []))
+    ∷ at 3 1 (table (codes "T") (number_key (codes "K") ∷ []))
+    ∷ at 4 1 (table (codes "T") (number_key (codes "K") ∷ []))
+    ∷ at 3 1 (link (codes "LC") (codes "C"))
+    ∷ at 3 1 (synonym (codes "TC") (codes "T") (codes "LC"))
+    ∷ at 1 1 (link (codes "LA") (codes "A"))
+    ∷ at 1 1 (link (codes "LB") (codes "B"))
+    ∷ at 1 1 (insert (over (codes "T") (codes "LA")) (num 1 ∷ []))
+    ∷ at 1 1 (insert (over (codes "T") (codes "LB")) (num 1 ∷ []))
+    ∷ at 1 1 (insert (over (codes "TC") (codes "LB")) (num 1 ∷ []))
+    ∷ commands.LoseNext kind_names.Committed 1 3
+    ∷ at 1 1 commit
+    ∷ []
+
+abbrev opening_2_lines : List (List ℕ)
+opening_2_lines =
+    codes "1 ok"
+    ∷ codes "2 ok"
+    ∷ codes "3 ok"
+    ∷ codes "4 ok"
+    ∷ codes "5 Table created."
+    ∷ codes "6 Table created."
+    ∷ codes "7 Table created."
+    ∷ codes "8 Database link created."
+    ∷ codes "9 Synonym created."
+    ∷ codes "10 Database link created."
+    ∷ codes "11 Database link created."
+    ∷ codes "12 1 row created."
+    ∷ codes "13 1 row created."
+    ∷ codes "14 1 row created."
+    ∷ codes "15 ok"
+    ∷ codes "16 ORA-02053: transaction 1.1.1 committed, some remote DBs may be in-doubt"
+    ∷ []
+
 -- the session's advice and the comment of COMMIT stand in the row of a prepared branch
 advice_and_comment_in_the_view :
     report (told (played 318 places_1 (opening_1 ++
@@ -104,6 +144,43 @@ commit_with_the_commit_is_not_mixed :
 unfolding playing
 commit_with_the_commit_is_not_mixed = refl
 
+-- a branch that was forced to commit knows no decision: the branch beyond it stays in doubt, until the commit has come
+forced_outcome_is_not_told_to_others :
+    report (told (played 458 places_2 (opening_2 ++
+    commands.Cut 1 3
+    ∷ at 3 2 (stmts.CommitForce (codes "1.65.1") None)
+    ∷ commands.Reco 4
+    ∷ commands.ShowPending 4
+    ∷ commands.Reco 3
+    ∷ commands.ShowPending 4
+    ∷ commands.ShowPending 3
+    ∷ commands.Join 1 3
+    ∷ commands.Reco 3
+    ∷ commands.ShowPending 4
+    ∷ commands.ShowPending 3
+    ∷ [])))
+    ≡ opening_2_lines ++
+    codes "17 ok"
+    ∷ codes "18 Commit complete."
+    ∷ codes "19 ok"
+    ∷ codes "20 LOCAL_TRAN_ID|GLOBAL_TRAN_ID|STATE|MIXED|ADVICE|TRAN_COMMENT|COMMIT#"
+    ∷ codes "20 1.65.1|R.00000001.1.1.1|prepared|no|||"
+    ∷ codes "20 1 row selected."
+    ∷ codes "21 ok"
+    ∷ codes "22 LOCAL_TRAN_ID|GLOBAL_TRAN_ID|STATE|MIXED|ADVICE|TRAN_COMMENT|COMMIT#"
+    ∷ codes "22 1.65.1|R.00000001.1.1.1|prepared|no|||"
+    ∷ codes "22 1 row selected."
+    ∷ codes "23 LOCAL_TRAN_ID|GLOBAL_TRAN_ID|STATE|MIXED|ADVICE|TRAN_COMMENT|COMMIT#"
+    ∷ codes "23 1.65.1|R.00000001.1.1.1|forced commit|no|||1"
+    ∷ codes "23 1 row selected."
+    ∷ codes "24 ok"
+    ∷ codes "25 ok"
+    ∷ codes "26 no rows selected"
+    ∷ codes "27 no rows selected"
+    ∷ []
+unfolding playing
+forced_outcome_is_not_told_to_others = refl
+
 -- two prepared branches of one transaction at one node cannot be forced by the global id
 global_id_names_several_branches :
     report (told (played 318 places_1 (opening_1 ++
@@ -129,48 +206,16 @@ global_id_names_several_branches = refl
 
 -- a mixed branch that has forgotten keeps its row and still tells the branch beyond it to forget
 mixed_branch_that_forgot_answers_those_beyond :
-    report (told (played 388 places_2 (
-    node (codes "R") 1
-    ∷ node (codes "A") 100
-    ∷ node (codes "B") 50
-    ∷ node (codes "C") 200
-    ∷ at 2 1 (table (codes "T") (number_key (codes "K") ∷ []))
-    ∷ at 3 1 (table (codes "T") (number_key (codes "K") ∷ []))
-    ∷ at 4 1 (table (codes "T") (number_key (codes "K") ∷ []))
-    ∷ at 3 1 (link (codes "LC") (codes "C"))
-    ∷ at 3 1 (synonym (codes "TC") (codes "T") (codes "LC"))
-    ∷ at 1 1 (link (codes "LA") (codes "A"))
-    ∷ at 1 1 (link (codes "LB") (codes "B"))
-    ∷ at 1 1 (insert (over (codes "T") (codes "LA")) (num 1 ∷ []))
-    ∷ at 1 1 (insert (over (codes "T") (codes "LB")) (num 1 ∷ []))
-    ∷ at 1 1 (insert (over (codes "TC") (codes "LB")) (num 1 ∷ []))
-    ∷ commands.LoseNext kind_names.Committed 1 3
-    ∷ at 1 1 commit
-    ∷ at 3 2 (stmts.RollbackForce (codes "1.65.1"))
+    report (told (played 388 places_2 (opening_2 ++
+    at 3 2 (stmts.RollbackForce (codes "1.65.1"))
     ∷ commands.LoseNext kind_names.Forgotten 3 4
     ∷ commands.Reco 3
     ∷ commands.ShowPending 4
     ∷ commands.Reco 4
     ∷ commands.ShowPending 4
     ∷ [])))
-    ≡
-    codes "1 ok"
-    ∷ codes "2 ok"
-    ∷ codes "3 ok"
-    ∷ codes "4 ok"
-    ∷ codes "5 Table created."
-    ∷ codes "6 Table created."
-    ∷ codes "7 Table created."
-    ∷ codes "8 Database link created."
-    ∷ codes "9 Synonym created."
-    ∷ codes "10 Database link created."
-    ∷ codes "11 Database link created."
-    ∷ codes "12 1 row created."
-    ∷ codes "13 1 row created."
-    ∷ codes "14 1 row created."
-    ∷ codes "15 ok"
-    ∷ codes "16 ORA-02053: transaction 1.1.1 committed, some remote DBs may be in-doubt"
-    ∷ codes "17 Rollback complete."
+    ≡ opening_2_lines ++
+    codes "17 Rollback complete."
     ∷ codes "18 ok"
     ∷ codes "19 ok"
     ∷ codes "20 LOCAL_TRAN_ID|GLOBAL_TRAN_ID|STATE|MIXED|ADVICE|TRAN_COMMENT|COMMIT#"

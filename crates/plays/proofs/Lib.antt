@@ -2,7 +2,9 @@ pub mod Script
 pub mod Playing
 pub mod Commit_shared
 pub mod Crash_shared
+pub mod Links_shared
 mod The_order
+mod Single_turns
 mod Commit_1
 mod Commit_2
 mod Crash_1
@@ -12,7 +14,8 @@ mod Crash_4
 mod Crash_5
 mod Forced
 mod In_doubt
-mod Links
+mod Links_1
+mod Links_2
 mod One_node
 mod Recovery
 mod Sql

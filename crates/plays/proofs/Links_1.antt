@@ -1,65 +1,12 @@
 -- Plays of the topic links.
-use Rattle.std.proofs.Common.{◌≡◌, ℕ, List, [], ◌∷◌, ◌++◌, codes, refl}
+use Rattle.std.proofs.Common.{◌≡◌, [], ◌∷◌, ◌++◌, codes, refl}
 use Rattle.run_laws.specs.Report.{report}
-use Rattle.node_rules.specs.Data.{Place}
 use Rattle.node_rules.specs.Data.stmts
-use Rattle.run_laws.specs.Data.{Command}
 use Rattle.run_laws.specs.Data.kind_names
 use Rattle.run_laws.specs.Data.commands
-use Rattle.plays.proofs.Script.{place, place_within, number_column, number_key, text_key, table, link, synonym, here, over, num, text, literal, minus, set, equal, insert, rows, count, commit, node, at, hold, let_go, pump_all, played, told}
+use Rattle.plays.proofs.Script.{number_column, number_key, table, link, synonym, here, over, num, text, literal, minus, set, equal, insert, rows, count, commit, node, at, hold, let_go, pump, pump_all, played, told}
 use Rattle.plays.proofs.Playing.{playing}
-
-abbrev names_1 : List (List ℕ)
-names_1 = codes "R" ∷ codes "A" ∷ []
-
-abbrev names_2 : List (List ℕ)
-names_2 = codes "SALES" ∷ codes "WAREHOUSE" ∷ codes "HQ" ∷ []
-
-abbrev names_3 : List (List ℕ)
-names_3 = codes "R" ∷ codes "A" ∷ codes "B" ∷ []
-
-abbrev names_4 : List (List ℕ)
-names_4 = codes "R" ∷ codes "A" ∷ codes "B" ∷ codes "C" ∷ []
-
-abbrev places_1 : List Place
-places_1 = place names_1 1 1 ∷ place names_1 2 1 ∷ []
-
-abbrev places_2 : List Place
-places_2 = place names_2 1 100 ∷ place names_2 2 140 ∷ place names_2 3 75 ∷ []
-
-abbrev places_3 : List Place
-places_3 = place_within names_3 1 1 1 64 ∷ place names_3 2 1 ∷ place names_3 3 1 ∷ []
-
-abbrev places_4 : List Place
-places_4 = place names_4 1 1 ∷ place names_4 2 100 ∷ place names_4 3 50 ∷ place names_4 4 200 ∷ []
-
-abbrev opening_1 : List Command
-opening_1 =
-    node (codes "SALES") 100
-    ∷ node (codes "WAREHOUSE") 140
-    ∷ node (codes "HQ") 75
-    ∷ at 1 1 (table (codes "ORDERS") (number_key (codes "ID") ∷ number_column (codes "QTY") ∷ []))
-    ∷ at 1 1 (link (codes "WH") (codes "WAREHOUSE"))
-    ∷ at 1 1 (link (codes "HQ") (codes "HQ"))
-    ∷ at 2 1 (table (codes "STOCK") (text_key (codes "ITEM") 20 ∷ number_column (codes "N") ∷ []))
-    ∷ at 2 1 (insert (here (codes "STOCK")) (text (codes "BOLT") ∷ num 50 ∷ []))
-    ∷ at 2 1 commit
-    ∷ at 3 1 (table (codes "LEDGER") (number_key (codes "ID") ∷ number_column (codes "AMOUNT") ∷ []))
-    ∷ []
-
-abbrev opening_1_lines : List (List ℕ)
-opening_1_lines =
-    codes "1 ok"
-    ∷ codes "2 ok"
-    ∷ codes "3 ok"
-    ∷ codes "4 Table created."
-    ∷ codes "5 Database link created."
-    ∷ codes "6 Database link created."
-    ∷ codes "7 Table created."
-    ∷ codes "8 1 row created."
-    ∷ codes "9 Commit complete."
-    ∷ codes "10 Table created."
-    ∷ []
+use Rattle.plays.proofs.Links_shared.{places_1, places_2, places_3, places_4, opening_1, opening_1_lines, opening_2, opening_2_lines}
 
 -- a call that is out makes the session busy; its message is lost; it is given up once
 held_call_given_up :
@@ -123,6 +70,45 @@ held_updates_of_one_row :
     ∷ []
 unfolding playing
 held_updates_of_one_row = refl
+
+-- a link is opened, but the word of it is lost; the Open comes again, and the statement goes on at the branch that is there
+lost_opened_and_open_comes_again :
+    report (told (played 262 places_1 (
+    node (codes "R") 1
+    ∷ node (codes "A") 1
+    ∷ at 2 1 (table (codes "T") (number_key (codes "K") ∷ number_column (codes "N") ∷ []))
+    ∷ at 1 1 (link (codes "LA") (codes "A"))
+    ∷ hold
+    ∷ at 1 1 (insert (over (codes "T") (codes "LA")) (num 1 ∷ num 10 ∷ []))
+    ∷ pump 1
+    ∷ commands.Lose 2
+    ∷ commands.Again 1
+    ∷ commands.ShowNet
+    ∷ let_go
+    ∷ at 1 1 commit
+    ∷ commands.ShowBook
+    ∷ [])))
+    ≡
+    codes "1 ok"
+    ∷ codes "2 ok"
+    ∷ codes "3 Table created."
+    ∷ codes "4 Database link created."
+    ∷ codes "5 ok"
+    ∷ codes "6 waiting"
+    ∷ codes "7 ok"
+    ∷ codes "8 ok"
+    ∷ codes "9 ok"
+    ∷ codes "10 3 OPENED A R"
+    ∷ codes "11 ok"
+    ∷ codes "6 1 row created."
+    ∷ codes "12 Commit complete."
+    ∷ codes "13 made A T"
+    ∷ codes "13 sealed R 1.1.1 R.00000001.1.1.1 scn 0 changes 0"
+    ∷ codes "13 decided A 1.65.1 R.00000001.1.1.1 scn 1 changes 1"
+    ∷ codes "13 ended R 1.1.1 commit scn 1"
+    ∷ []
+unfolding playing
+lost_opened_and_open_comes_again = refl
 
 -- a statement whose reply is lost has run; its lock stays until the rollback
 lost_reply_leaves_a_lock :
@@ -221,23 +207,13 @@ repeated_message_adds_no_row = refl
 
 -- a repeated Exec of an UPDATE is answered again and not run again
 repeated_update_runs_once :
-    report (told (played 192 places_1 (
-    node (codes "R") 1
-    ∷ node (codes "A") 1
-    ∷ at 2 1 (table (codes "T") (number_key (codes "K") ∷ number_column (codes "N") ∷ []))
-    ∷ at 1 1 (link (codes "LA") (codes "A"))
-    ∷ at 1 1 (insert (over (codes "T") (codes "LA")) (num 1 ∷ num 10 ∷ []))
-    ∷ at 1 1 (stmts.Update (over (codes "T") (codes "LA")) (set (codes "N") (minus (codes "N") 1) ∷ []) [])
+    report (told (played 192 places_1 (opening_2 ++
+    at 1 1 (stmts.Update (over (codes "T") (codes "LA")) (set (codes "N") (minus (codes "N") 1) ∷ []) [])
     ∷ commands.Again 5
     ∷ at 1 1 (rows (over (codes "T") (codes "LA")) [])
     ∷ [])))
-    ≡
-    codes "1 ok"
-    ∷ codes "2 ok"
-    ∷ codes "3 Table created."
-    ∷ codes "4 Database link created."
-    ∷ codes "5 1 row created."
-    ∷ codes "6 1 row updated."
+    ≡ opening_2_lines ++
+    codes "6 1 row updated."
     ∷ codes "7 ok"
     ∷ codes "8 K|N"
     ∷ codes "8 1|9"
@@ -245,6 +221,28 @@ repeated_update_runs_once :
     ∷ []
 unfolding playing
 repeated_update_runs_once = refl
+
+-- while a statement waits for its Reply, that of the statement before comes again and is ignored
+reply_of_an_earlier_call_comes_again :
+    report (told (played 220 places_1 (opening_2 ++
+    hold
+    ∷ at 1 1 (rows (over (codes "T") (codes "LA")) [])
+    ∷ commands.Again 4
+    ∷ commands.ShowNet
+    ∷ pump_all
+    ∷ [])))
+    ≡ opening_2_lines ++
+    codes "6 ok"
+    ∷ codes "7 waiting"
+    ∷ codes "8 ok"
+    ∷ codes "9 5 EXEC R A"
+    ∷ codes "10 ok"
+    ∷ codes "7 K|N"
+    ∷ codes "7 1|10"
+    ∷ codes "7 1 row selected."
+    ∷ []
+unfolding playing
+reply_of_an_earlier_call_comes_again = refl
 
 -- a branch at a restarted node is gone; the transaction takes a rollback alone; a cut link gives no answer
 restarted_node_has_lost_the_branch :

@@ -1,0 +1,60 @@
+-- Plays of the topic links.
+use Rattle.std.proofs.Common.{◌≡◌, [], ◌∷◌, codes, refl}
+use Rattle.run_laws.specs.Report.{report}
+use Rattle.node_rules.specs.Data.stmts
+use Rattle.run_laws.specs.Data.commands
+use Rattle.plays.proofs.Script.{number_column, number_key, table, link, synonym, over, num, minus, set, insert, rows, node, at, hold, let_go, pump, pump_all, played, told}
+use Rattle.plays.proofs.Playing.{playing}
+use Rattle.plays.proofs.Links_shared.{places_5}
+
+-- a local coordinator ignores the statement that it is working on and any before it, and answers the last one again
+statement_under_way_comes_again :
+    report (told (played 360 places_5 (
+    node (codes "R") 1
+    ∷ node (codes "B") 1
+    ∷ node (codes "C") 1
+    ∷ at 3 1 (table (codes "T") (number_key (codes "K") ∷ number_column (codes "N") ∷ []))
+    ∷ at 2 1 (link (codes "LC") (codes "C"))
+    ∷ at 2 1 (synonym (codes "TC") (codes "T") (codes "LC"))
+    ∷ at 1 1 (link (codes "LB") (codes "B"))
+    ∷ at 1 1 (insert (over (codes "TC") (codes "LB")) (num 1 ∷ num 10 ∷ []))
+    ∷ hold
+    ∷ at 1 1 (stmts.Update (over (codes "TC") (codes "LB")) (set (codes "N") (minus (codes "N") 1) ∷ []) [])
+    ∷ pump 1
+    ∷ commands.Again 9
+    ∷ commands.ShowNet
+    ∷ pump_all
+    ∷ commands.Again 3
+    ∷ commands.ShowNet
+    ∷ commands.Again 9
+    ∷ commands.ShowNet
+    ∷ let_go
+    ∷ at 1 1 (rows (over (codes "TC") (codes "LB")) [])
+    ∷ [])))
+    ≡
+    codes "1 ok"
+    ∷ codes "2 ok"
+    ∷ codes "3 ok"
+    ∷ codes "4 Table created."
+    ∷ codes "5 Database link created."
+    ∷ codes "6 Synonym created."
+    ∷ codes "7 Database link created."
+    ∷ codes "8 1 row created."
+    ∷ codes "9 ok"
+    ∷ codes "10 waiting"
+    ∷ codes "11 ok"
+    ∷ codes "12 ok"
+    ∷ codes "13 10 EXEC B C"
+    ∷ codes "14 ok"
+    ∷ codes "10 1 row updated."
+    ∷ codes "15 ok"
+    ∷ codes "16 no messages in flight"
+    ∷ codes "17 ok"
+    ∷ codes "18 13 REPLY B R"
+    ∷ codes "19 ok"
+    ∷ codes "20 K|N"
+    ∷ codes "20 1|9"
+    ∷ codes "20 1 row selected."
+    ∷ []
+unfolding playing
+statement_under_way_comes_again = refl

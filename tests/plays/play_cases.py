@@ -1,0 +1,128 @@
+#!/usr/bin/env python3
+"""Plays cases on the definitions as they stand: each must print exactly the lines that are due of it.
+
+    tests/plays/play_cases.py [--jobs-small N] FOLDER ..    plays the cases, N of them in a file (5 where it is left out)
+    tests/plays/play_cases.py --show CASE                   tells where a case first differs, and what is printed there
+
+A FOLDER is a case or holds cases. A case is a folder with the files
+
+    script      the commands
+    expected    the lines that are due
+    args        optional: the words of the command line, none or --book
+    status      optional: the exit status, 0
+
+The crates are copied to a temporary folder with their folders out, so that only what changed is checked again. There the
+cases stand in place of the plays, and the crate plays is checked; where proofs of run_laws fail, without those laws. A
+case that differs is played once more, for three times as many happenings. One line a case tells whether it was played,
+differs, or was not read, and why. The last line is `N played, M differ, K not read`; the exit status is 1 where one
+differs. Nothing of this is part of the gate.
+"""
+
+import argparse
+import pathlib
+import sys
+from dataclasses import replace
+
+from cases import NotRead, cases_in, read_case
+from compared import USES, case_blocks, computed, lemma
+from copies import Unchecked, copied_crates
+from files import file_text
+from printed import difference
+from tokens import command_texts
+
+PLAYED, DIFFERS, NOT_READ = "played", "DIFFERS", "not read"
+MORE = 3  # so many times as many happenings has a case that differs at first
+
+
+def read_all(folders):
+    """The cases at or below these folders, and by its folder what is told of each that is not read."""
+    cases, told = [], {}
+    for number, folder in enumerate((found for folder in folders for found in cases_in(folder)), 1):
+        try:
+            cases.append(read_case(folder, f"case_{number}"))
+        except NotRead as why:
+            told[folder] = f"{NOT_READ}: {why}"
+    return cases, told
+
+
+def play(cases, size, top):
+    """Plays cases, so many in a file: what is told of each, by its folder."""
+    groups = [cases[first : first + size] for first in range(0, len(cases), size)]
+    texts = {f"Cases_{number}": cases_text(group) for number, group in enumerate(groups)}
+    places, said = computed(top, texts)
+    told = {case.folder: PLAYED for case in cases}
+    told.update((case.folder, differs(case, places[case.name])) for case in cases if case.name in places)
+    told.update((case.folder, f"{NOT_READ}: the checker says {said[case.name]}") for case in cases if case.name in said)
+    return told
+
+
+def cases_text(cases):
+    """A file that asks where the lines of these cases differ."""
+    blocks = []
+    for case in cases:
+        asked = lemma(case.name, f"first_other 1 {case.name}_printed {case.name}_due")
+        blocks += [*case_blocks(case), asked]
+    return file_text("Cases.", blocks, USES)
+
+
+def differs(case, place):
+    """What is told of a case by the place of the first line that differs, or without it."""
+    due = case.due()
+    if place is None:
+        return DIFFERS
+    return f"{DIFFERS} at line {place}: {due[place - 1]}" if place <= len(due) else f"{DIFFERS} behind the last line"
+
+
+def play_all(cases, size):
+    """Plays cases, and once more those that differ, each alone and for more happenings: what is told of each."""
+    if not cases:
+        return {}
+    with copied_crates() as top:
+        told = play(cases, size, top)
+        differing = [replace(case, times=MORE) for case in cases if told[case.folder].startswith(DIFFERS)]
+        return {**told, **play(differing, 1, top)} if differing else told
+
+
+def tell(folders, size):
+    """Plays the cases at or below these folders, and tells what became of each."""
+    cases, told = read_all(folders)
+    told.update(play_all(cases, size))
+    for folder, word in sorted(told.items()):
+        print(f"{folder}: {word}")
+    played, differ, not_read = (sum(word.startswith(kind) for word in told.values()) for kind in (PLAYED, DIFFERS, NOT_READ))
+    print(f"{played} played, {differ} differ, {not_read} not read")
+    return 1 if differ else 0
+
+
+def show(folder):
+    """Tells where a case first differs, and what is due and what is printed there."""
+    case = replace(read_case(folder, "case_1"), times=MORE)
+    with copied_crates() as top:
+        found = difference(case, top)
+    if found is None:
+        print(f"{folder}: the answers are those that are due")
+        return 0
+    command, due, printed = found
+    print(f"{folder}: command {command} differs: {command_texts((folder / 'script').read_text())[command - 1]}")
+    for word, lines in (("due", due), ("printed", printed)):
+        print("\n".join([f"{word}:", *(f"    {line}" for line in lines)]))
+    return 1
+
+
+def main(words):
+    parser = argparse.ArgumentParser(usage=__doc__)
+    parser.add_argument("--jobs-small", type=int, default=5)
+    parser.add_argument("--show", type=pathlib.Path)
+    parser.add_argument("folders", nargs="*", type=pathlib.Path)
+    given = parser.parse_args(words)
+    for folder in [given.show] if given.show else given.folders or [None]:
+        if folder is None or not cases_in(folder):
+            parser.error(f"no case: {folder}")
+    try:
+        return show(given.show) if given.show else tell(given.folders, given.jobs_small)
+    except (NotRead, Unchecked) as why:
+        parser.exit(2, f"{why}\n")
+
+
+if __name__ == "__main__":
+    sys.exit(main(sys.argv[1:]))
