@@ -3,7 +3,7 @@ ghost use Rattle.std.specs.Prelude.{◌≡◌, ◌≤◌, ◌-◌, List, [], ◌
 ghost use Rattle.redo_codec.specs.declared.record.RedoRecord.{RedoRecord};
 ghost use Rattle.sole_node.specs.Disk.{IsLogOf};
 ghost use Rattle.sole_laws.specs.Past.{refused as refused_by, shows, if_up, if_down, said_at_once as said_of};
-ghost use Rattle.sole_laws.specs.Shown.{shown_disk};
+ghost use Rattle.run_laws.specs.Shown.{shown_disk};
 ghost use Rattle.script_run.specs.Lines.{told_by, told_of};
 ghost use Rattle.script_run.specs.Site.{site_kept, site_bytes};
 
