@@ -40,7 +40,7 @@ class Unchecked(Exception):
 
 @contextlib.contextmanager
 def copied_crates():
-    """A temporary folder with the crates and what earlier checks kept of them, so that only what changed is checked again."""
+    """A temporary folder with the crates and what checks kept of them, so that only what changed is checked again."""
     with tempfile.TemporaryDirectory() as folder:
         top = pathlib.Path(folder)
         shutil.copy(TOP / "crates.txt", top)
@@ -51,7 +51,7 @@ def copied_crates():
 
 
 def link(source, target):
-    """Links a file that a check kept, or copies it where it cannot be linked: a check writes new files in place of old ones."""
+    """Links a file that a check kept, or copies it where it cannot be linked. A check never writes into such a file."""
     try:
         os.link(source, target)
     except OSError:

@@ -89,7 +89,8 @@ def tell(folders, size):
     told.update(play_all(cases, size))
     for folder, word in sorted(told.items()):
         print(f"{folder}: {word}")
-    played, differ, not_read = (sum(word.startswith(kind) for word in told.values()) for kind in (PLAYED, DIFFERS, NOT_READ))
+    kinds = (PLAYED, DIFFERS, NOT_READ)
+    played, differ, not_read = (sum(word.startswith(kind) for word in told.values()) for kind in kinds)
     print(f"{played} played, {differ} differ, {not_read} not read")
     return 1 if differ else 0
 

@@ -78,10 +78,11 @@ def caught(slip, top):
     proved, errors, laws = check(top)
     if proved:
         return [], laws
-    plays = [PLAY.match(error.text) for error in errors.get("plays", [])]
-    if list(errors) != ["plays"] or not all(plays):
-        raise Misfit(f"not well typed: {str(errors)[:240]}")
-    return [play[1] for play in plays], laws
+    texts = [error.text for found in errors.values() for error in found]
+    others = [text for text in texts if not PLAY.match(text)]
+    if list(errors) != ["plays"] or others:
+        raise Misfit(f"not well typed: {str(others or texts)[:240]}")
+    return [PLAY.match(text)[1] for text in texts], laws
 
 
 def told(slip, top):

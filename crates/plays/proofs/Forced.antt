@@ -204,6 +204,57 @@ global_id_names_several_branches :
 unfolding playing
 global_id_names_several_branches = refl
 
+-- a row of a commit that a lost node never acknowledges is purged; the branch still answers, and a prepared row is not purged
+lost_entry_is_purged :
+    report (told (played 472 places_1 (opening_1 ++
+    at 1 1 (insert (here (codes "ORDERS")) (num 1 ∷ num 10 ∷ []))
+    ∷ at 1 1 (stmts.Update (over (codes "STOCK") (codes "WH")) (set (codes "N") (minus (codes "N") 10) ∷ []) (equal (codes "ITEM") (text (codes "BOLT")) ∷ []))
+    ∷ at 1 1 (insert (over (codes "LEDGER") (codes "HQ")) (num 1 ∷ num 250 ∷ []))
+    ∷ commands.LoseNext kind_names.Committed 1 3
+    ∷ at 1 1 commit
+    ∷ commands.Stop 3
+    ∷ commands.ShowPending 1
+    ∷ at 1 1 (stmts.PurgeMixed (codes "1.1.1"))
+    ∷ at 1 1 (stmts.PurgeLost (codes "1.1.1"))
+    ∷ commands.ShowPending 1
+    ∷ commands.ShowNeighbors 1
+    ∷ at 1 1 (stmts.PurgeLost (codes "1.1.1"))
+    ∷ commands.Start 3
+    ∷ commands.ShowPending 3
+    ∷ at 3 1 (stmts.PurgeLost (codes "1.65.1"))
+    ∷ commands.Reco 3
+    ∷ commands.ShowPending 3
+    ∷ at 3 2 (rows (here (codes "LEDGER")) [])
+    ∷ [])))
+    ≡ opening_1_lines ++
+    codes "11 1 row created."
+    ∷ codes "12 1 row updated."
+    ∷ codes "13 1 row created."
+    ∷ codes "14 ok"
+    ∷ codes "15 ORA-02053: transaction 1.1.1 committed, some remote DBs may be in-doubt"
+    ∷ codes "16 ok"
+    ∷ codes "17 LOCAL_TRAN_ID|GLOBAL_TRAN_ID|STATE|MIXED|ADVICE|TRAN_COMMENT|COMMIT#"
+    ∷ codes "17 1.1.1|SALES.00000001.1.1.1|committed|no|||2"
+    ∷ codes "17 1 row selected."
+    ∷ codes "18 DTX-06: purge of 1.1.1 refused"
+    ∷ codes "19 PL/SQL procedure successfully completed."
+    ∷ codes "20 no rows selected"
+    ∷ codes "21 no rows selected"
+    ∷ codes "22 DTX-06: purge of 1.1.1 refused"
+    ∷ codes "23 ok"
+    ∷ codes "24 LOCAL_TRAN_ID|GLOBAL_TRAN_ID|STATE|MIXED|ADVICE|TRAN_COMMENT|COMMIT#"
+    ∷ codes "24 1.65.1|SALES.00000001.1.1.1|prepared|no|||"
+    ∷ codes "24 1 row selected."
+    ∷ codes "25 DTX-06: purge of 1.65.1 refused"
+    ∷ codes "26 ok"
+    ∷ codes "27 no rows selected"
+    ∷ codes "28 ID|AMOUNT"
+    ∷ codes "28 1|250"
+    ∷ codes "28 1 row selected."
+    ∷ []
+unfolding playing
+lost_entry_is_purged = refl
+
 -- a mixed branch that has forgotten keeps its row and still tells the branch beyond it to forget
 mixed_branch_that_forgot_answers_those_beyond :
     report (told (played 388 places_2 (opening_2 ++

@@ -6,14 +6,20 @@ use Rattle.node_rules.specs.Data.stmts
 use Rattle.run_laws.specs.Data.{Command}
 use Rattle.run_laws.specs.Data.kind_names
 use Rattle.run_laws.specs.Data.commands
-use Rattle.plays.proofs.Script.{place, number_column, number_key, text_key, table, link, here, over, num, text, minus, set, equal, insert, rows, commit, node, at, hold, let_go, pump, pump_all, played, told}
+use Rattle.plays.proofs.Script.{place, place_within, number_column, number_key, text_column, text_key, table, link, here, over, num, text, literal, minus, set, equal, insert, rows, commit, node, at, hold, let_go, pump, pump_all, played, told}
 use Rattle.plays.proofs.Playing.{playing}
 
 abbrev names_1 : List (List ℕ)
 names_1 = codes "SALES" ∷ codes "WAREHOUSE" ∷ codes "HQ" ∷ []
 
+abbrev names_2 : List (List ℕ)
+names_2 = codes "R" ∷ codes "A" ∷ []
+
 abbrev places_1 : List Place
 places_1 = place names_1 1 100 ∷ place names_1 2 140 ∷ place names_1 3 75 ∷ []
+
+abbrev places_2 : List Place
+places_2 = place names_2 1 100 ∷ place_within names_2 2 50 4 1 ∷ []
 
 abbrev opening_1 : List Command
 opening_1 =
@@ -93,6 +99,31 @@ cut_before_the_decision_arrives :
 unfolding playing
 cut_before_the_decision_arrives = refl
 
+-- the acknowledgement of a commit is lost: recovery at the branch that sent it sends it again, and all forget
+lost_acknowledgement_is_sent_again :
+    report (told (played 360 places_1 (opening_1 ++
+    commands.LoseNext kind_names.Ack 3 1
+    ∷ at 1 1 commit
+    ∷ commands.ShowPending 3
+    ∷ commands.Reco 3
+    ∷ commands.ShowPending 3
+    ∷ commands.ShowPending 1
+    ∷ commands.ShowPending 2
+    ∷ [])))
+    ≡ opening_1_lines ++
+    codes "14 ok"
+    ∷ codes "15 ORA-02053: transaction 1.1.1 committed, some remote DBs may be in-doubt"
+    ∷ codes "16 LOCAL_TRAN_ID|GLOBAL_TRAN_ID|STATE|MIXED|ADVICE|TRAN_COMMENT|COMMIT#"
+    ∷ codes "16 1.65.1|SALES.00000001.1.1.1|committed|no|||2"
+    ∷ codes "16 1 row selected."
+    ∷ codes "17 ok"
+    ∷ codes "18 no rows selected"
+    ∷ codes "19 no rows selected"
+    ∷ codes "20 no rows selected"
+    ∷ []
+unfolding playing
+lost_acknowledgement_is_sent_again = refl
+
 -- the word of the commit is lost: the root is in doubt until recovery asks the site
 lost_committed_message :
     report (told (played 332 places_1 (opening_1 ++
@@ -116,3 +147,46 @@ lost_committed_message :
     ∷ []
 unfolding playing
 lost_committed_message = refl
+
+-- a branch in doubt holds its undo extents over a restart, until the commit has come
+undo_in_doubt_outlasts_a_restart :
+    report (told (played 318 places_2 (
+    node (codes "R") 100
+    ∷ commands.Node (codes "A") 50 4 1
+    ∷ at 2 1 (table (codes "T") (number_key (codes "K") ∷ text_column (codes "V") 1500 ∷ []))
+    ∷ at 2 1 (insert (here (codes "T")) (num 1 ∷ text (codes "old") ∷ []))
+    ∷ at 2 1 (insert (here (codes "T")) (num 2 ∷ text (codes "old") ∷ []))
+    ∷ at 2 1 commit
+    ∷ at 1 1 (table (codes "T") (number_key (codes "K") ∷ []))
+    ∷ at 1 1 (link (codes "LA") (codes "A"))
+    ∷ at 1 1 (insert (here (codes "T")) (num 1 ∷ []))
+    ∷ at 1 1 (stmts.Update (over (codes "T") (codes "LA")) (set (codes "V") (literal (text (codes "new"))) ∷ []) (equal (codes "K") (num 1) ∷ []))
+    ∷ commands.LoseNext kind_names.Committed 1 2
+    ∷ at 1 1 commit
+    ∷ commands.Stop 2
+    ∷ commands.Start 2
+    ∷ at 2 1 (stmts.Update (here (codes "T")) (set (codes "V") (literal (text (codes "new"))) ∷ []) (equal (codes "K") (num 2) ∷ []))
+    ∷ commands.Reco 2
+    ∷ at 2 1 (stmts.Update (here (codes "T")) (set (codes "V") (literal (text (codes "new"))) ∷ []) (equal (codes "K") (num 2) ∷ []))
+    ∷ [])))
+    ≡
+    codes "1 ok"
+    ∷ codes "2 ok"
+    ∷ codes "3 Table created."
+    ∷ codes "4 1 row created."
+    ∷ codes "5 1 row created."
+    ∷ codes "6 Commit complete."
+    ∷ codes "7 Table created."
+    ∷ codes "8 Database link created."
+    ∷ codes "9 1 row created."
+    ∷ codes "10 1 row updated."
+    ∷ codes "11 ok"
+    ∷ codes "12 ORA-02053: transaction 1.1.1 committed, some remote DBs may be in-doubt"
+    ∷ codes "13 ok"
+    ∷ codes "14 ok"
+    ∷ codes "15 ORA-30036: unable to extend segment by 1 in undo tablespace 'UNDOTBS1'"
+    ∷ codes "16 ok"
+    ∷ codes "17 1 row updated."
+    ∷ []
+unfolding playing
+undo_in_doubt_outlasts_a_restart = refl

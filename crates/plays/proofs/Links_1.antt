@@ -4,9 +4,34 @@ use Rattle.run_laws.specs.Report.{report}
 use Rattle.node_rules.specs.Data.stmts
 use Rattle.run_laws.specs.Data.kind_names
 use Rattle.run_laws.specs.Data.commands
-use Rattle.plays.proofs.Script.{number_column, number_key, table, link, synonym, here, over, num, text, literal, minus, set, equal, insert, rows, count, commit, node, at, hold, let_go, pump, pump_all, played, told}
+use Rattle.plays.proofs.Script.{number_column, number_key, table, link, here, over, num, text, literal, minus, set, equal, insert, rows, count, commit, node, at, hold, let_go, pump, pump_all, played, told}
 use Rattle.plays.proofs.Playing.{playing}
-use Rattle.plays.proofs.Links_shared.{places_1, places_2, places_3, places_4, opening_1, opening_1_lines, opening_2, opening_2_lines}
+use Rattle.plays.proofs.Links_shared.{places_1, places_2, places_3, opening_1, opening_1_lines, opening_2, opening_2_lines, opening_3, opening_3_lines}
+
+-- two calls that one PUMP ends are answered in the order of their commands, though the later call ends first
+answers_of_earlier_calls_stand_by_number :
+    report (told (played 234 places_1 (opening_1 ++
+    at 1 1 (count (over (codes "T") (codes "LA")) [])
+    ∷ at 1 2 (rows (over (codes "T") (codes "LA")) [])
+    ∷ commands.Deliver 2
+    ∷ commands.Deliver 3
+    ∷ commands.Deliver 4
+    ∷ pump_all
+    ∷ [])))
+    ≡ opening_1_lines ++
+    codes "6 waiting"
+    ∷ codes "7 waiting"
+    ∷ codes "8 ok"
+    ∷ codes "9 ok"
+    ∷ codes "10 ok"
+    ∷ codes "11 ok"
+    ∷ codes "6 COUNT(*)"
+    ∷ codes "6 0"
+    ∷ codes "6 1 row selected."
+    ∷ codes "7 no rows selected"
+    ∷ []
+unfolding playing
+answers_of_earlier_calls_stand_by_number = refl
 
 -- a call that is out makes the session busy; its message is lost; it is given up once
 held_call_given_up :
@@ -52,14 +77,14 @@ held_call_given_up = refl
 
 -- with delivery held two sessions update one remote row; the second meets the lock
 held_updates_of_one_row :
-    report (told (played 290 places_2 (opening_1 ++
+    report (told (played 290 places_2 (opening_2 ++
     hold
     ∷ at 1 1 (stmts.Update (over (codes "STOCK") (codes "WH")) (set (codes "N") (literal (num 45)) ∷ []) (equal (codes "ITEM") (text (codes "BOLT")) ∷ []))
     ∷ pump_all
     ∷ at 1 2 (stmts.Update (over (codes "STOCK") (codes "WH")) (set (codes "N") (literal (num 44)) ∷ []) (equal (codes "ITEM") (text (codes "BOLT")) ∷ []))
     ∷ pump_all
     ∷ [])))
-    ≡ opening_1_lines ++
+    ≡ opening_2_lines ++
     codes "11 ok"
     ∷ codes "12 waiting"
     ∷ codes "13 ok"
@@ -73,13 +98,8 @@ held_updates_of_one_row = refl
 
 -- a link is opened, but the word of it is lost; the Open comes again, and the statement goes on at the branch that is there
 lost_opened_and_open_comes_again :
-    report (told (played 262 places_1 (
-    node (codes "R") 1
-    ∷ node (codes "A") 1
-    ∷ at 2 1 (table (codes "T") (number_key (codes "K") ∷ number_column (codes "N") ∷ []))
-    ∷ at 1 1 (link (codes "LA") (codes "A"))
-    ∷ hold
-    ∷ at 1 1 (insert (over (codes "T") (codes "LA")) (num 1 ∷ num 10 ∷ []))
+    report (told (played 262 places_1 (opening_1 ++
+    at 1 1 (insert (over (codes "T") (codes "LA")) (num 1 ∷ num 10 ∷ []))
     ∷ pump 1
     ∷ commands.Lose 2
     ∷ commands.Again 1
@@ -88,13 +108,8 @@ lost_opened_and_open_comes_again :
     ∷ at 1 1 commit
     ∷ commands.ShowBook
     ∷ [])))
-    ≡
-    codes "1 ok"
-    ∷ codes "2 ok"
-    ∷ codes "3 Table created."
-    ∷ codes "4 Database link created."
-    ∷ codes "5 ok"
-    ∷ codes "6 waiting"
+    ≡ opening_1_lines ++
+    codes "6 waiting"
     ∷ codes "7 ok"
     ∷ codes "8 ok"
     ∷ codes "9 ok"
@@ -112,14 +127,14 @@ lost_opened_and_open_comes_again = refl
 
 -- a statement whose reply is lost has run; its lock stays until the rollback
 lost_reply_leaves_a_lock :
-    report (told (played 290 places_2 (opening_1 ++
+    report (told (played 290 places_2 (opening_2 ++
     commands.LoseNext kind_names.Reply 2 1
     ∷ at 1 1 (stmts.Update (over (codes "STOCK") (codes "WH")) (set (codes "N") (literal (num 1)) ∷ []) [])
     ∷ at 2 2 (stmts.Update (here (codes "STOCK")) (set (codes "N") (literal (num 2)) ∷ []) [])
     ∷ at 1 1 stmts.Rollback
     ∷ at 2 2 (stmts.Update (here (codes "STOCK")) (set (codes "N") (literal (num 2)) ∷ []) [])
     ∷ [])))
-    ≡ opening_1_lines ++
+    ≡ opening_2_lines ++
     codes "11 ok"
     ∷ codes "12 DTX-03: no answer from link WH"
     ∷ codes "13 ORA-02049: timeout: distributed transaction waiting for lock"
@@ -172,6 +187,39 @@ missing_and_too_many_links :
 unfolding playing
 missing_and_too_many_links = refl
 
+-- an order to lose the next Open is not used up by one that a cut loses, but by the first that would pass
+order_to_lose_outlasts_a_cut :
+    report (told (played 248 places_1 (
+    node (codes "R") 1
+    ∷ node (codes "A") 1
+    ∷ at 2 1 (table (codes "T") (number_key (codes "K") ∷ number_column (codes "N") ∷ []))
+    ∷ at 1 1 (link (codes "LA") (codes "A"))
+    ∷ commands.LoseNext kind_names.Open 1 2
+    ∷ commands.Cut 1 2
+    ∷ at 1 1 (insert (over (codes "T") (codes "LA")) (num 1 ∷ num 10 ∷ []))
+    ∷ at 1 1 stmts.Rollback
+    ∷ commands.Join 1 2
+    ∷ at 1 1 (insert (over (codes "T") (codes "LA")) (num 1 ∷ num 10 ∷ []))
+    ∷ at 1 1 stmts.Rollback
+    ∷ at 1 1 (insert (over (codes "T") (codes "LA")) (num 1 ∷ num 10 ∷ []))
+    ∷ [])))
+    ≡
+    codes "1 ok"
+    ∷ codes "2 ok"
+    ∷ codes "3 Table created."
+    ∷ codes "4 Database link created."
+    ∷ codes "5 ok"
+    ∷ codes "6 ok"
+    ∷ codes "7 DTX-03: no answer from link LA"
+    ∷ codes "8 Rollback complete."
+    ∷ codes "9 ok"
+    ∷ codes "10 DTX-03: no answer from link LA"
+    ∷ codes "11 Rollback complete."
+    ∷ codes "12 1 row created."
+    ∷ []
+unfolding playing
+order_to_lose_outlasts_a_cut = refl
+
 -- a repeated statement message adds no second row; a cut link gives no answer and asks for a rollback
 repeated_message_adds_no_row :
     report (told (played 234 places_1 (
@@ -207,12 +255,12 @@ repeated_message_adds_no_row = refl
 
 -- a repeated Exec of an UPDATE is answered again and not run again
 repeated_update_runs_once :
-    report (told (played 192 places_1 (opening_2 ++
+    report (told (played 192 places_1 (opening_3 ++
     at 1 1 (stmts.Update (over (codes "T") (codes "LA")) (set (codes "N") (minus (codes "N") 1) ∷ []) [])
     ∷ commands.Again 5
     ∷ at 1 1 (rows (over (codes "T") (codes "LA")) [])
     ∷ [])))
-    ≡ opening_2_lines ++
+    ≡ opening_3_lines ++
     codes "6 1 row updated."
     ∷ codes "7 ok"
     ∷ codes "8 K|N"
@@ -224,14 +272,14 @@ repeated_update_runs_once = refl
 
 -- while a statement waits for its Reply, that of the statement before comes again and is ignored
 reply_of_an_earlier_call_comes_again :
-    report (told (played 220 places_1 (opening_2 ++
+    report (told (played 220 places_1 (opening_3 ++
     hold
     ∷ at 1 1 (rows (over (codes "T") (codes "LA")) [])
     ∷ commands.Again 4
     ∷ commands.ShowNet
     ∷ pump_all
     ∷ [])))
-    ≡ opening_2_lines ++
+    ≡ opening_3_lines ++
     codes "6 ok"
     ∷ codes "7 waiting"
     ∷ codes "8 ok"
@@ -243,50 +291,3 @@ reply_of_an_earlier_call_comes_again :
     ∷ []
 unfolding playing
 reply_of_an_earlier_call_comes_again = refl
-
--- a branch at a restarted node is gone; the transaction takes a rollback alone; a cut link gives no answer
-restarted_node_has_lost_the_branch :
-    report (told (played 346 places_4 (
-    node (codes "R") 1
-    ∷ node (codes "A") 100
-    ∷ node (codes "B") 50
-    ∷ node (codes "C") 200
-    ∷ at 2 1 (table (codes "T") (number_key (codes "K") ∷ []))
-    ∷ at 3 1 (table (codes "T") (number_key (codes "K") ∷ []))
-    ∷ at 4 1 (table (codes "T") (number_key (codes "K") ∷ []))
-    ∷ at 3 1 (link (codes "LC") (codes "C"))
-    ∷ at 3 1 (synonym (codes "TC") (codes "T") (codes "LC"))
-    ∷ at 1 1 (link (codes "LA") (codes "A"))
-    ∷ at 1 1 (link (codes "LB") (codes "B"))
-    ∷ at 1 1 (insert (over (codes "T") (codes "LA")) (num 1 ∷ []))
-    ∷ commands.Stop 2
-    ∷ commands.Start 2
-    ∷ at 1 1 (insert (over (codes "T") (codes "LA")) (num 2 ∷ []))
-    ∷ at 1 1 commit
-    ∷ at 1 1 stmts.Rollback
-    ∷ commands.Cut 1 2
-    ∷ at 1 1 (insert (over (codes "T") (codes "LA")) (num 3 ∷ []))
-    ∷ [])))
-    ≡
-    codes "1 ok"
-    ∷ codes "2 ok"
-    ∷ codes "3 ok"
-    ∷ codes "4 ok"
-    ∷ codes "5 Table created."
-    ∷ codes "6 Table created."
-    ∷ codes "7 Table created."
-    ∷ codes "8 Database link created."
-    ∷ codes "9 Synonym created."
-    ∷ codes "10 Database link created."
-    ∷ codes "11 Database link created."
-    ∷ codes "12 1 row created."
-    ∷ codes "13 ok"
-    ∷ codes "14 ok"
-    ∷ codes "15 DTX-08: branch at link LA is gone"
-    ∷ codes "16 ORA-02067: transaction or savepoint rollback required"
-    ∷ codes "17 Rollback complete."
-    ∷ codes "18 ok"
-    ∷ codes "19 DTX-03: no answer from link LA"
-    ∷ []
-unfolding playing
-restarted_node_has_lost_the_branch = refl

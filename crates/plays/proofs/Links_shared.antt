@@ -2,7 +2,7 @@
 use Rattle.std.proofs.Common.{ℕ, List, [], ◌∷◌, codes}
 use Rattle.node_rules.specs.Data.{Place}
 use Rattle.run_laws.specs.Data.{Command}
-use Rattle.plays.proofs.Script.{place, place_within, number_column, number_key, text_key, table, link, here, over, num, text, insert, commit, node, at}
+use Rattle.plays.proofs.Script.{place, place_within, number_column, number_key, text_key, table, link, here, over, num, text, insert, commit, node, at, hold}
 
 abbrev pub names_1 : List (List ℕ)
 names_1 = codes "R" ∷ codes "A" ∷ []
@@ -36,6 +36,24 @@ places_5 = place names_5 1 1 ∷ place names_5 2 1 ∷ place names_5 3 1 ∷ []
 
 abbrev pub opening_1 : List Command
 opening_1 =
+    node (codes "R") 1
+    ∷ node (codes "A") 1
+    ∷ at 2 1 (table (codes "T") (number_key (codes "K") ∷ number_column (codes "N") ∷ []))
+    ∷ at 1 1 (link (codes "LA") (codes "A"))
+    ∷ hold
+    ∷ []
+
+abbrev pub opening_1_lines : List (List ℕ)
+opening_1_lines =
+    codes "1 ok"
+    ∷ codes "2 ok"
+    ∷ codes "3 Table created."
+    ∷ codes "4 Database link created."
+    ∷ codes "5 ok"
+    ∷ []
+
+abbrev pub opening_2 : List Command
+opening_2 =
     node (codes "SALES") 100
     ∷ node (codes "WAREHOUSE") 140
     ∷ node (codes "HQ") 75
@@ -48,8 +66,8 @@ opening_1 =
     ∷ at 3 1 (table (codes "LEDGER") (number_key (codes "ID") ∷ number_column (codes "AMOUNT") ∷ []))
     ∷ []
 
-abbrev pub opening_1_lines : List (List ℕ)
-opening_1_lines =
+abbrev pub opening_2_lines : List (List ℕ)
+opening_2_lines =
     codes "1 ok"
     ∷ codes "2 ok"
     ∷ codes "3 ok"
@@ -62,8 +80,8 @@ opening_1_lines =
     ∷ codes "10 Table created."
     ∷ []
 
-abbrev pub opening_2 : List Command
-opening_2 =
+abbrev pub opening_3 : List Command
+opening_3 =
     node (codes "R") 1
     ∷ node (codes "A") 1
     ∷ at 2 1 (table (codes "T") (number_key (codes "K") ∷ number_column (codes "N") ∷ []))
@@ -71,8 +89,8 @@ opening_2 =
     ∷ at 1 1 (insert (over (codes "T") (codes "LA")) (num 1 ∷ num 10 ∷ []))
     ∷ []
 
-abbrev pub opening_2_lines : List (List ℕ)
-opening_2_lines =
+abbrev pub opening_3_lines : List (List ℕ)
+opening_3_lines =
     codes "1 ok"
     ∷ codes "2 ok"
     ∷ codes "3 Table created."

@@ -210,9 +210,15 @@ rollback_after_the_commit_is_ignored = refl
 
 -- ---- the live branch
 
--- SALES has opened it
+-- SALES has opened it, and HQ has a link to DEPOT
+abbrev a_link : RedoRecord
+a_link = records.Link (record { name = codes "DEPOT"; target = codes "DEPOT" })
+
+abbrev node_alone : ℕ → BranchId
+node_alone number = record { node = number; boot = 0; session = 0; seq = 0 }
+
 abbrev live : Kept
-live = (turn_of hq_place (start_of (records.Boot 1 ∷ [])) (inputs.Message (record { from = sales; to = record { node = 2; boot = 0; session = 0; seq = 0 }; scn = 1; kind = kinds.Open 1 sales 2 }))).after
+live = (turn_of hq_place (start_of (records.Boot 1 ∷ a_link ∷ [])) (inputs.Message (record { from = sales; to = node_alone 2; scn = 1; kind = kinds.Open 1 sales 2 }))).after
 
 -- nothing is decided over it, and its parent alone may end it
 commit_at_a_live_branch_is_ignored : does live sales (kinds.Committed 2) ≡ nothing
@@ -235,15 +241,30 @@ parent_that_asks_a_live_branch_ends_it : does live sales kinds.Ask ≡ only_says
 unfolding playing
 parent_that_asks_a_live_branch_ends_it = refl
 
+-- a statement over the link goes as far as the room in the session tree allows
+abbrev query_over : Stmt
+query_over = rows (over (codes "LEDGER") (codes "DEPOT")) []
+
+abbrev query : Stmt
+query = rows (here (codes "LEDGER")) []
+
+link_without_room_is_refused : does live sales (kinds.Exec 1 0 None query_over) ≡ only_says sales 1 (kinds.Reply 1 None 1 (answers.Refused (dtx 2 [])))
+unfolding playing
+link_without_room_is_refused = refl
+
+link_with_room_is_opened : does live sales (kinds.Exec 1 1 None query_over) ≡ only_says (node_alone 3) 1 (kinds.Open 1 sales 3)
+unfolding playing
+link_with_room_is_opened = refl
+
+last_room_is_used_up : does (hears live sales (kinds.Exec 1 1 None query_over)).after depot (kinds.Opened 1 50) ≡ only_says depot 1 (kinds.Exec 1 0 None query)
+unfolding playing
+last_room_is_used_up = refl
+
 -- ---- the branch that is gone
 
 -- HQ has started again, or never knew it
 abbrev gone : Kept
 gone = start_of (records.Boot 1 ∷ records.Boot 2 ∷ [])
-
--- a statement of SALES
-abbrev query : Stmt
-query = rows (here (codes "LEDGER")) []
 
 exec_to_a_gone_branch : does gone sales (kinds.Exec 1 63 None query) ≡ only_says sales 1 (kinds.Reply 1 None 1 (answers.Refused (dtx 8 [])))
 unfolding playing
