@@ -24,10 +24,10 @@ import sys
 from dataclasses import replace
 
 from cases import NotRead, cases_in, read_case
-from compared import USES, case_blocks, computed, lemma
+from compared import USES, case_blocks, comparison, computed
 from copies import Unchecked, copied_crates
 from files import file_text
-from printed import difference
+from printed import command_at, place_of_difference, printed_from
 from tokens import command_texts
 
 PLAYED, DIFFERS, NOT_READ = "played", "DIFFERS", "not read"
@@ -58,10 +58,7 @@ def play(cases, size, top):
 
 def cases_text(cases):
     """A file that asks where the lines of these cases differ."""
-    blocks = []
-    for case in cases:
-        asked = lemma(case.name, f"first_other 1 {case.name}_printed {case.name}_due")
-        blocks += [*case_blocks(case), asked]
+    blocks = [block for case in cases for block in [*case_blocks(case), comparison(case)]]
     return file_text("Cases.", blocks, USES)
 
 
@@ -95,15 +92,18 @@ def tell(folders, size):
 
 
 def show(folder):
-    """Tells where a case first differs, and what is due and what is printed there."""
+    """Tells where a case first differs, and what is due and what is printed from there on."""
     case = replace(read_case(folder, "case_1"), times=MORE)
     with copied_crates() as top:
-        found = difference(case, top)
-    if found is None:
-        print(f"{folder}: the answers are those that are due")
-        return 0
-    command, due, printed = found
-    print(f"{folder}: command {command} differs: {command_texts((folder / 'script').read_text())[command - 1]}")
+        place = place_of_difference(case, top)
+        if place is None:
+            print(f"{folder}: {PLAYED}")
+            return 0
+        printed = printed_from(case, place, top)
+    before, due = case.due()[: place - 1], case.due()[place - 1 :][: len(printed)]
+    command = command_at(before, *due[:1], *printed[:1])
+    texts = command_texts((folder / "script").read_bytes().decode())[command - 1 : command]
+    print(f"{folder}: {DIFFERS} at line {place}, in command {command}: {' '.join(texts)}")
     for word, lines in (("due", due), ("printed", printed)):
         print("\n".join([f"{word}:", *(f"    {line}" for line in lines)]))
     return 1
