@@ -11,11 +11,12 @@ A FOLDER is a case or holds cases. A case is a folder with the files
     args        optional: the words of the command line, none or --book
     status      optional: the exit status, 0
 
-The crates are copied to a temporary folder with their folders out, so that only what changed is checked again. There the
-cases stand in place of the plays, and the crate plays is checked; where proofs of run_laws fail, without those laws. A
-case that differs is played once more, for three times as many happenings. One line a case tells whether it was played,
-differs, or was not read, and why. The last line is `N played, M differ, K not read`; the exit status is 1 where one
-differs. Nothing of this is part of the gate.
+The crates are copied to a temporary folder with what earlier checks kept of them, so that only what changed is checked
+again. There lemmas about the cases stand in place of the plays, and the crate plays is checked; where proofs of run_laws
+fail, without those laws. A case that differs is played once more, for three times as many happenings. One line a case
+tells whether it was played, differs, and at which line, or was not read, and why. The last line is
+`N played, M differ, K not read`. The exit status is 1 where one differs, and 2 where the check did not come to the cases.
+Nothing of this is part of the gate.
 """
 
 import argparse
