@@ -35,9 +35,9 @@ abbrev number_of : ℕ → List ℕ → ℕ
 number_of n [] = n
 number_of n (b ∷ bs) = number_of (n * 256 + b) bs
 
--- so many bytes of lines, behind the first so many
-abbrev pub piece : ℕ → ℕ → List (List ℕ) → ℕ
-piece size before lines = number_of 0 (take size (drop before (bytes_of lines)))
+-- so many bytes, behind the first so many, of the lines behind the first so many
+abbrev pub piece : ℕ → ℕ → ℕ → List (List ℕ) → ℕ
+piece size bytes_before lines_before lines = number_of 0 (take size (drop bytes_before (bytes_of (drop lines_before lines))))
 """
 USES = f"use {PROOFS}.Numbers.{{first_other, piece}}"
 
@@ -62,6 +62,11 @@ def case_blocks(case):
         [f"abbrev pub {name}_printed : List (List ℕ)", *printed],
         list_block("pub ", f"{name}_due", "(List ℕ)", map(codes, case.due())),
     ]
+
+
+def comparison(case):
+    """The lemma that the lines of a case do not differ."""
+    return lemma(case.name, f"first_other 1 {case.name}_printed {case.name}_due")
 
 
 def lemma(name, number):

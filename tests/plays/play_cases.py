@@ -11,11 +11,12 @@ A FOLDER is a case or holds cases. A case is a folder with the files
     args        optional: the words of the command line, none or --book
     status      optional: the exit status, 0
 
-The crates are copied to a temporary folder with their folders out, so that only what changed is checked again. There the
-cases stand in place of the plays, and the crate plays is checked; where proofs of run_laws fail, without those laws. A
-case that differs is played once more, for three times as many happenings. One line a case tells whether it was played,
-differs, or was not read, and why. The last line is `N played, M differ, K not read`; the exit status is 1 where one
-differs. Nothing of this is part of the gate.
+The crates are copied to a temporary folder with what earlier checks kept of them, so that only what changed is checked
+again. There lemmas about the cases stand in place of the plays, and the crate plays is checked; where proofs of run_laws
+fail, without those laws. A case that differs is played once more, for three times as many happenings. One line a case
+tells whether it was played, differs, and at which line, or was not read, and why. The last line is
+`N played, M differ, K not read`. The exit status is 1 where one differs, and 2 where the check did not come to the cases.
+Nothing of this is part of the gate.
 """
 
 import argparse
@@ -24,10 +25,10 @@ import sys
 from dataclasses import replace
 
 from cases import NotRead, cases_in, read_case
-from compared import USES, case_blocks, computed, lemma
+from compared import USES, case_blocks, comparison, computed
 from copies import Unchecked, copied_crates
 from files import file_text
-from printed import difference
+from printed import command_at, place_of_difference, printed_from
 from tokens import command_texts
 
 PLAYED, DIFFERS, NOT_READ = "played", "DIFFERS", "not read"
@@ -58,10 +59,7 @@ def play(cases, size, top):
 
 def cases_text(cases):
     """A file that asks where the lines of these cases differ."""
-    blocks = []
-    for case in cases:
-        asked = lemma(case.name, f"first_other 1 {case.name}_printed {case.name}_due")
-        blocks += [*case_blocks(case), asked]
+    blocks = [block for case in cases for block in [*case_blocks(case), comparison(case)]]
     return file_text("Cases.", blocks, USES)
 
 
@@ -96,15 +94,18 @@ def tell(folders, size):
 
 
 def show(folder):
-    """Tells where a case first differs, and what is due and what is printed there."""
+    """Tells where a case first differs, and what is due and what is printed from there on."""
     case = replace(read_case(folder, "case_1"), times=MORE)
     with copied_crates() as top:
-        found = difference(case, top)
-    if found is None:
-        print(f"{folder}: the answers are those that are due")
-        return 0
-    command, due, printed = found
-    print(f"{folder}: command {command} differs: {command_texts((folder / 'script').read_text())[command - 1]}")
+        place = place_of_difference(case, top)
+        if place is None:
+            print(f"{folder}: {PLAYED}")
+            return 0
+        printed = printed_from(case, place, top)
+    before, due = case.due()[: place - 1], case.due()[place - 1 :][: len(printed)]
+    command = command_at(before, *due[:1], *printed[:1])
+    texts = command_texts((folder / "script").read_bytes().decode())[command - 1 : command]
+    print(f"{folder}: {DIFFERS} at line {place}, in command {command}: {' '.join(texts)}")
     for word, lines in (("due", due), ("printed", printed)):
         print("\n".join([f"{word}:", *(f"    {line}" for line in lines)]))
     return 1

@@ -1,35 +1,38 @@
-"""What the definitions print of a case, and where it first is not what is due."""
+"""Where what is printed of a case first differs from what is due, and what is printed there."""
 
-from collections import defaultdict
-
-from compared import USES, case_blocks, computed, lemma
+from compared import USES, case_blocks, comparison, computed, lemma
 from copies import Unchecked
 from files import file_text
 from names import PROOFS
 from shared import command_of
 
 PIECE = 70  # so many bytes are asked for at once: of longer numbers a message leaves out the middle
-PIECES = 8  # so many times in a file
+PIECES = 4  # so many times
 
 
-def printed_lines(case, top):
-    """The lines that are printed of a case, up to about twice as many bytes as are due."""
-    places = range(0, 2 * sum(len(line) + 1 for line in case.due()) + 10 * PIECE, PIECE)
-    texts = {"The_case": file_text("A case.", case_blocks(case))}
-    for first in range(0, len(places), PIECES):
-        texts[f"Pieces_{first}"] = pieces_text(case, places[first : first + PIECES])
+def place_of_difference(case, top):
+    """The number of the first line that differs, or None."""
+    blocks = [*case_blocks(case), comparison(case)]
+    return numbers_in(top, {"The_case": file_text("A case.", blocks, USES)}).get(case.name)
+
+
+def printed_from(case, place, top):
+    """The lines that are printed of a case from this place on, as far as the pieces go."""
+    asked = [(number, f"piece {PIECE} {number * PIECE} {place - 1} {case.name}_printed") for number in range(PIECES)]
+    uses = f"{USES}\nuse {PROOFS}.The_case.{{{case.name}_printed}}"
+    texts = {f"Piece_{number}": file_text("A piece.", [lemma(f"piece_{number}", term)], uses) for number, term in asked}
+    numbers = numbers_in(top, {"The_case": file_text("A case.", case_blocks(case)), **texts})
+    pieces = (numbers.get(f"piece_{number}", 0) for number in range(PIECES))
+    *lines, rest = b"".join(map(bytes_of, pieces)).decode(errors="replace").split("\n")
+    return lines or [rest]
+
+
+def numbers_in(top, texts):
+    """The numbers that are not 0 in these files, by the names of the lemmas."""
     numbers, said = computed(top, texts)
     if said or None in numbers.values():
         raise Unchecked(" ".join(["the run is too long for the messages of the checker", *said.values()]))
-    pieces = (numbers.get(f"piece_{place}", 0) for place in places)
-    return b"".join(map(bytes_of, pieces)).decode().split("\n")[:-1]
-
-
-def pieces_text(case, places):
-    """A file that asks for the pieces at these places."""
-    uses = f"{USES}\nuse {PROOFS}.The_case.{{{case.name}_printed}}"
-    blocks = [lemma(f"piece_{place}", f"piece {PIECE} {place} {case.name}_printed") for place in places]
-    return file_text("Pieces of what is printed of a case.", blocks, uses)
+    return numbers
 
 
 def bytes_of(number):
@@ -37,17 +40,7 @@ def bytes_of(number):
     return number.to_bytes((number.bit_length() + 7) // 8, "big")
 
 
-def pages(lines):
-    """The lines by the command that ran when they were printed. Answers of earlier calls stand among them, and the book."""
-    found, command = defaultdict(list), 0
-    for line in lines:
-        command = max(command, command_of(line) if line[:1].isdigit() else 0)
-        found[command].append(line)
-    return found
-
-
-def difference(case, top):
-    """The first command at which other lines are printed than are due, these lines and those, or None."""
-    due, printed = pages(case.due()), pages(printed_lines(case, top))
-    commands = [command for command in sorted(due.keys() | printed.keys()) if due[command] != printed[command]]
-    return (commands[0], due[commands[0]], printed[commands[0]]) if commands else None
+def command_at(before, *lines):
+    """The number of the command that runs when the first of these lines is printed behind those before it."""
+    numbers = [[command_of(line) for line in [*before, after] if line[:1].isdigit()] for after in lines]
+    return min(max(numbers_until, default=1) for numbers_until in numbers)
