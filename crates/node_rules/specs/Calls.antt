@@ -187,7 +187,7 @@ abbrev pub says_again : Branch → BranchId → Option ReplyFields → List Post
 says_again x to None = []
 says_again x to (Some t) = replies x to t
 
--- a first number is run, the last one answered again, any other ignored
+-- a first number is run, the last one answered again once it was answered, any other ignored
 abbrev pub exec_by : Place → Kept → Branch → BranchId → ℕ → ℕ → Option Advice → Stmt → Admit → Deed
 exec_by p k x from call given advice s admits.Ignore = nothing k
 exec_by p k x from call given advice s admits.Again = saying k (says_again x from x.work.reply)

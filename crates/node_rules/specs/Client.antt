@@ -1,6 +1,6 @@
 -- The calls of clients: each form of statement in a session, and a call that is given up. (SQL Language Reference: COMMIT,
 -- ROLLBACK, ALTER SESSION, ALTER SYSTEM, CREATE; Database Administrator's Guide, "Managing Distributed Transactions".)
-use Rattle.std.specs.Prelude.{ℕ, ◌+◌, ◌||◌, Bool, true, false, if◌then◌else◌, List, [], ◌∷◌, ◌++◌, unwrap_or, is_some, slice_get, option_map, Option, Some, None}
+use Rattle.std.specs.Prelude.{ℕ, ◌+◌, ◌||◌, Bool, true, false, if◌then◌else◌, List, [], ◌∷◌, ◌++◌, unwrap_or, slice_get, option_map, Option, Some, None}
 use Rattle.std.specs.List.{list_any}
 use Rattle.node_rules.specs.Data.{Table, Link, Synonym, Stmt, Done, Advice, Refusal, BranchId, RedoRecord, Standing, Durable, Live, Place, Going, Waits, PendingCall, Session}
 use Rattle.node_rules.specs.Data.answers
@@ -19,6 +19,7 @@ use Rattle.node_rules.specs.Records.{with_record}
 use Rattle.node_rules.specs.Sessions.{session_at, with_session, with_call, with_root, needs_rollback, no_transaction, commit_ended, commit_answer, tran_refusal}
 use Rattle.node_rules.specs.Calls.{statement_at, strength_of}
 use Rattle.node_rules.specs.Prepare.{collects, with_comment, root_drops, to_children}
+use Rattle.node_rules.specs.Commit.{knows_commit}
 use Rattle.node_rules.specs.Force.{branch_to_force, force_commit, force_rollback, purge}
 use Rattle.node_rules.specs.Kept.{Kept, Deed, Branch, nothing, ending, with_branch, without_branch, live_at, branch_at, standing_at}
 
@@ -153,7 +154,7 @@ read_turn p k n (Some s) = call_turn p k n s
 -- ORA-02053 where the root knows the commit, else ORA-02054
 abbrev pub given_up_code : Option Standing → ℕ
 given_up_code None = 2054
-given_up_code (Some s) = if is_some s.decision then 2053 else 2054
+given_up_code (Some s) = if knows_commit s.decision then 2053 else 2054
 
 -- a live root rolls back, ORA-02050; a kept one answers what it knows
 abbrev pub commit_given_up : Kept → BranchId → Option Live → Deed

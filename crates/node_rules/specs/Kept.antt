@@ -19,7 +19,7 @@ pub record Kept : Type 0 where
   pub owns : List Owned  -- what live branches have changed
   pub lives : List Live  -- live branches, in the order in which they began
   pub works : List Work  -- the calls of live branches
-  pub locks : List Lock  -- in the order in which they were taken
+  pub locks : List Lock  -- in the order in which they were taken; those of a branch that seals come behind all others
   pub clock : ℕ
   pub opens : List Opening  -- the Opens that were answered since the start
   pub sessions : List Session  -- client sessions, from number 1

@@ -27,7 +27,7 @@ pub enum Waits {
 #[derive(Debug, Drop)]
 pub struct Going {
     pub statement: Stmt,
-    /// How many branches the tree may still get.
+    /// How many branches the tree may still get, as the Exec that brought the statement told it. At a root it is 0, and not used.
     pub room: u16,
     pub waits: Waits,
 }
