@@ -53,7 +53,7 @@ StandsFor bytes rs = (bodies bytes ≡ Some (map record_format.text rs)) × AllB
 
 -- whether a line shows a disk
 abbrev pub is_shown_disk : Command → Said → Bool
-is_shown_disk (commands.ShowDisk n) (said.World (notices.Shown lines)) = true
+is_shown_disk (commands.ShowDisk n) (said.World (notices.Shown [])) = true
 is_shown_disk c s = false
 
 -- the node of SHOW DISK

@@ -1,18 +1,20 @@
 -- Who may write or say what: each record and each message of a turn against its input, the records and what the happenings
 -- before tell. It follows from the turns, and is no premise of the laws.
-use Rattle.std.specs.Prelude.{◌≡◌, ℕ, ◌+◌, ◌⊎◌, Bool, true, false, if◌then◌else◌, List, [], ◌∷◌, ◌++◌, map, option_to_list, IfSome, Option, Some, None}
+use Rattle.std.specs.Prelude.{◌≡◌, ℕ, ◌+◌, ◌⊎◌, ◌||◌, Bool, true, false, if◌then◌else◌, List, [], ◌∷◌, ◌++◌, map, filter, option_to_list, IfSome, Option, Some, None}
 use Rattle.std.specs.List.{AllByRecursion, list_all}
-use Rattle.node_rules.specs.Data.{BranchId, Decision, RedoRecord, Sealed, Decided, Stmt, Kind, Msg, Input, Place}
+use Rattle.node_rules.specs.Data.{BranchId, Decision, RedoRecord, Sealed, Decided, Standing, Stmt, Kind, Msg, Input, Place}
 use Rattle.node_rules.specs.Data.decisions
 use Rattle.node_rules.specs.Data.records
 use Rattle.node_rules.specs.Data.params
 use Rattle.node_rules.specs.Data.stmts
 use Rattle.node_rules.specs.Data.kinds
 use Rattle.node_rules.specs.Data.inputs
-use Rattle.node_rules.specs.Words.{same}
+use Rattle.node_rules.specs.Words.{same, same_text, item_at}
 use Rattle.node_rules.specs.Ids.{local_text, global_text}
 use Rattle.node_rules.specs.Names.{Behind, named_by, ref_of, passed_on, target_of}
-use Rattle.node_rules.specs.Kept.{Kept}
+use Rattle.node_rules.specs.Kept.{Kept, standing_id}
+use Rattle.node_rules.specs.Force.{is_sealed}
+use Rattle.run_laws.specs.Book.{in_doubt}
 use Rattle.node_rules.specs.Inputs.{Came, IsCall, Brings}
 use Rattle.redo_codec.specs.Durable.{durable}
 use Rattle.redo_codec.specs.Rows.{toward_of}
@@ -121,9 +123,13 @@ MayForget f after b input None = ForgottenByToward f b input
 -- ---- forced outcomes and purges
 
 -- an id is the printed local or global id of a branch
-abbrev pub IsIdOf : List (List ℕ) → List ℕ → BranchId → Option Sealed → Type 0
-IsIdOf names id b None = ⊥
-IsIdOf names id b (Some r) = (id ≡ local_text b) ⊎ (id ≡ global_text names r.root)
+abbrev pub is_id_of : List (List ℕ) → List ℕ → BranchId → Option Sealed → Bool
+is_id_of names id b None = false
+is_id_of names id b (Some r) = same_text (local_text b) id || same_text (global_text names r.root) id
+
+-- the branches of a node that are in doubt and that an id names
+abbrev pub named_in_doubt : List (List ℕ) → Facts → ℕ → List ℕ → List BranchId
+named_in_doubt names f n id = filter (λ b. is_id_of names id b (sealed_in (records_at f n) b)) (in_doubt f.book n)
 
 -- the outcome that a statement forces: with its SCN, or with the clock plus one
 abbrev pub ForcesSo : ℕ → List ℕ → Decision → Bool → Input → Type 0
@@ -133,11 +139,13 @@ ForcesSo clock id decisions.Rollback given input = IsCallOf (stmts.RollbackForce
 
 -- a forced outcome is that of a statement whose id names the branch
 abbrev pub IsForce : Place → Facts → Kept → BranchId → Decision → Bool → Input → Type 0
-IsForce p f k b d given input = (id : List ℕ) × IsIdOf p.names id b (sealed_in (records_at f b.node) b) × ForcesSo k.clock id d given input
+IsForce p f k b d given input = (id : List ℕ) × (named_in_doubt p.names f p.number id ≡ b ∷ []) × ForcesSo k.clock id d given input
 
 -- a purge of the row with this local id
-abbrev pub IsPurge : BranchId → Input → Type 0
-IsPurge b input = IsCallOf (stmts.PurgeMixed (local_text b)) input ⊎ IsCallOf (stmts.PurgeLost (local_text b)) input
+abbrev pub IsPurge : Option Standing → BranchId → Input → Type 0
+IsPurge None b input = ⊥
+IsPurge (Some row) b input = (row.hidden ≡ false)
+    × ((IsCallOf (stmts.PurgeMixed (local_text b)) input × (row.mixed ≡ true)) ⊎ (IsCallOf (stmts.PurgeLost (local_text b)) input × (is_sealed row.state ≡ false)))
 
 -- ---- records and messages
 
@@ -155,7 +163,7 @@ MayWrite p f tr after k n input (records.Ended b d) = HeardFromToward f b d inpu
 MayWrite p f tr after k n input (records.Forced b d given) = IsForce p f k b d given input
 MayWrite p f tr after k n input (records.Met b d mixed) = HeardFromToward f b d input
 MayWrite p f tr after k n input (records.Forgot b) = MayForget f after b input (decided_in (records_at f b.node) b)
-MayWrite p f tr after k n input (records.Hidden b) = IsPurge b input
+MayWrite p f tr after k n input (records.Hidden b) = IsPurge (item_at standing_id (durable (records_at f n)).kept b) b input
 
 -- neither a branch nor one below it has changes
 abbrev pub HasNoChanges : Trail → BranchId → Type 0

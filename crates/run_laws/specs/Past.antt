@@ -53,7 +53,7 @@ turned p u o = record { facts = facts_turned p.facts u o; telling = telling_turn
 
 -- whether a node is down in its own START: an order struck it before its Boot stood
 abbrev pub failed_start : Facts → Command → ℕ → Bool
-failed_start f (commands.Start m) n = (m == n) && is_none (node_at f n)
+failed_start f (commands.Start m) n = (m == n) && (is_none (node_at f n) && is_none f.node_to_stop)
 failed_start f _ n = false
 
 -- such a START is refused, and the calls of its append are counted

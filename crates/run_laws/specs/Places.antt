@@ -1,9 +1,7 @@
 -- Where the answer of a statement comes from: the run at the end of its chain of Execs, whose answer came back along the
 -- Replies of that chain, for the transaction of its session, and not before its call.
-use Rattle.std.specs.Prelude.{◌≡◌, ℕ, ◌+◌, ◌≤◌, Bool, true, false, List, slice_get, Option, Some}
-use Rattle.node_rules.specs.Data.{BranchId, Stmt, Done, Answer, Advice, Durable}
-use Rattle.node_rules.specs.Data.answers
-use Rattle.node_rules.specs.Data.dones
+use Rattle.std.specs.Prelude.{◌≡◌, ℕ, ◌+◌, ◌≤◌, true, List, slice_get, Option, Some, None}
+use Rattle.node_rules.specs.Data.{BranchId, Stmt, Answer, Advice, Durable}
 use Rattle.node_rules.specs.Data.kinds
 use Rattle.node_rules.specs.Names.{A_table, Behind, named_by, ref_of, passed_on, target_of}
 use Rattle.node_rules.specs.Inputs.{Came}
@@ -19,7 +17,7 @@ use Rattle.run_laws.specs.Lines.{told}
 use Rattle.run_laws.specs.Calls.{call_at}
 use Rattle.run_laws.specs.Branches.{Run, Seen, root_at}
 use Rattle.run_laws.specs.Trail.{with_begun}
-use Rattle.run_laws.specs.Runs.{run_in, answered_by}
+use Rattle.run_laws.specs.Runs.{run_in, answered_by, is_of_rows, is_accepted}
 use Rattle.run_laws.specs.Each.{facts_upto, trail_upto}
 use Rattle.run_laws.specs.Lawful.{History}
 use Rattle.std.specs.Prelude.{take}
@@ -57,6 +55,7 @@ pub record PlaceOf (t : History) (command : ℕ) (a : Answer) : Type 0 where
   pub call : Call
   pub pending : call_at (past_upto t ended).telling node session ≡ Some call
   pub its : call.command ≡ command
+  pub over : call_at (past_upto t (ended + 1)).telling node session ≡ None
   pub root : Seen
   pub transaction : root_at (trail_upto t (ended + 1)) node session ≡ Some root
   pub run : Run
@@ -64,19 +63,6 @@ pub record PlaceOf (t : History) (command : ℕ) (a : Answer) : Type 0 where
   pub ran : RanAt t run a
   pub leads : LeadsTo t run root.me statement
   pub not_before : command ≤ (facts_upto t run.moment).command
-
--- INSERT, UPDATE and DELETE
-abbrev pub is_of_rows : Done → Bool
-is_of_rows dones.Created = true
-is_of_rows dones.Updated = true
-is_of_rows dones.Deleted = true
-is_of_rows _ = false
-
--- whether an answer is that of an accepted statement with a table
-abbrev pub has_place : Answer → Bool
-has_place (answers.Found rows) = true
-has_place (answers.Did d n) = is_of_rows d
-has_place (answers.Refused r) = false
 
 -- an answer that a node gave to a command
 abbrev pub node_line : ℕ → Answer → AnswerLine
@@ -88,4 +74,5 @@ told_of t = told (past t.places t.commands (start t.places) t.trace).facts (past
 
 -- each answer of a query, and of a change of rows, has a place
 abbrev pub AnswersHavePlaces : History → Type 0
-AnswersHavePlaces t = (i command : ℕ) (a : Answer) → has_place a ≡ true → slice_get (told_of t) i ≡ Some (node_line command a) → PlaceOf t command a
+AnswersHavePlaces t = (i command node session : ℕ) (s : Stmt) (a : Answer) → command_at t.commands command ≡ commands.At node session (Some s) → is_of_rows s ≡ true → is_accepted (Some a) ≡ true
+    → slice_get (told_of t) i ≡ Some (node_line command a) → PlaceOf t command a

@@ -1,12 +1,13 @@
 -- What every decision has: its branch is the commit point site of the session tree as it stood at the COMMIT, each other
 -- branch with changes on it or below it is sealed, and what a record commits or holds back are its branch's own changes.
-use Rattle.std.specs.Prelude.{◌≡◌, ◌≢◌, ℕ, List, IfSome, Some, None}
+use Rattle.std.specs.Prelude.{◌≡◌, ◌≢◌, ℕ, List, IfSome, slice_get, Some, None}
 use Rattle.std.specs.List.{AllByRecursion}
 use Rattle.node_rules.specs.Data.{BranchId, Place, RedoRecord, Decided}
 use Rattle.node_rules.specs.Data.records
 use Rattle.run_laws.specs.Data.{Happening}
 use Rattle.run_laws.specs.Data.happenings
 use Rattle.run_laws.specs.Facts.{Facts}
+use Rattle.redo_codec.specs.Rows.{toward_of}
 use Rattle.run_laws.specs.Branches.{Sealed, Trail, Plan, Planned, exit_at, own_at, plan_at}
 use Rattle.run_laws.specs.Trail.{trail_after}
 use Rattle.run_laws.specs.Each.{AtEach}
@@ -41,6 +42,18 @@ abbrev pub HasOwn : Trail → RedoRecord → Type 0
 HasOwn tr (records.Sealed r) = r.changes ≡ own_at tr r.me
 HasOwn tr (records.Decided r) = r.changes ≡ own_at tr r.me
 HasOwn tr _ = Unit {0}
+
+-- A branch of a plan's tree.
+pub record IsPlanned (tr : Trail) (root : BranchId) (x : Planned) : Type 0 where
+  pub plan : Plan
+  pub planned : plan_at tr root ≡ Some plan
+  pub place : ℕ
+  pub listed : slice_get plan.tree place ≡ Some x
+
+-- a seal is of a branch of the tree, and names its parent and its neighbour on the way to the site
+abbrev pub NamesToward : Trail → RedoRecord → Type 0
+NamesToward tr (records.Sealed r) = (x : Planned) × IsPlanned tr r.root x × (x.me ≡ r.me) × (r.parent ≡ x.parent) × (toward_of r r.toward ≡ x.toward)
+NamesToward tr _ = Unit {0}
 
 -- each record of a turn is so, once the turn stands
 abbrev pub RecordIsSo : (Trail → RedoRecord → Type 0) → List Place → Facts → Trail → Happening → Type 0

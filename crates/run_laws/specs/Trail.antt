@@ -38,13 +38,13 @@ roots_begun f tr n (inputs.Call session (Some s)) = if is_of_rows s && is_none (
 roots_begun f tr n _ = []
 
 -- another branch begins with the first Opened that is sent for it
-abbrev pub child_begun : Trail → Kind → Msg → List Seen
-child_begun tr (kinds.Open edge root depth) m = if is_none (seen_at tr m.from) then newly_seen m.from root (Some m.to) ∷ [] else []
-child_begun tr _ m = []
+abbrev pub child_begun : Trail → Kind → Kind → Msg → List Seen
+child_begun tr (kinds.Open edge root depth) (kinds.Opened number strength) m = if is_none (seen_at tr m.from) then newly_seen m.from root (Some m.to) ∷ [] else []
+child_begun tr _ _ m = []
 
 -- the branch that begins with the Opened to an Open
 abbrev pub children_begun : Trail → Input → List Msg → List Seen
-children_begun tr (inputs.Message came) (m ∷ ms) = child_begun tr came.kind m
+children_begun tr (inputs.Message came) (m ∷ ms) = child_begun tr came.kind m.kind m
 children_begun tr _ _ = []
 
 -- the branches that begin in a turn; a cut turn begins none
@@ -199,7 +199,7 @@ exit_after tr u old new None = exit_by tr u old new (recorded_exit old.me u.wrot
 -- the run that a branch's last answer came from
 abbrev pub last_answer : Option Seen → Option Run
 last_answer None = None
-last_answer (Some s) = s.answer
+last_answer (Some s) = if is_live s then s.answer else None
 
 -- a Reply brings the run of its answer, an Exec that comes again asks for the last answer
 abbrev pub handed_on : Trail → ℕ → BranchId → Kind → Option Run
