@@ -64,7 +64,9 @@ RecordIsSo So places f tr _ = Unit {0}
 abbrev pub SiteDecides : History → Type 0
 SiteDecides t = AtEach (RecordIsSo DecidedBySite) t
 
--- before it each other branch of the tree with changes on it or below it is sealed; and records have their branches' own changes
+-- before it each other branch of the tree with changes on it or below it is sealed; records have their branches' own changes,
+-- and seals name their branches' neighbours
 pub record Coverage (t : History) : Type 0 where
   pub covered : AtEach (RecordIsSo DecisionCovers) t
   pub own : AtEach (RecordIsSo HasOwn) t
+  pub neighbors : AtEach (RecordIsSo NamesToward) t
