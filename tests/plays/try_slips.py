@@ -29,7 +29,7 @@ from copies import LAWS, TOP, check, copied_crates
 SLIPS = TOP / "tests" / "plays" / "slips"
 NAMED = 3  # so many plays are named of those that catch a slip
 
-PLAY = re.compile(r"`(\w+)`: as printed, the two types (?:first )?differ")
+PLAY = re.compile(r"`(\w+)`: (?:as printed|computed as far as they go), the two types (?:first )?differ")
 
 
 class Misfit(Exception):
