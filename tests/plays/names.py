@@ -1,7 +1,7 @@
 """Every name of the definitions that the plays cite, by its module. A name that moves is changed here alone."""
 
 IDS = "Rattle.tran_ids.specs"
-REDO = "Rattle.redo_codec.specs"
+REDO = "Rattle.redo_record.specs"
 RULES = "Rattle.node_rules.specs"
 LAWS = "Rattle.run_laws.specs"
 RULES_DATA = f"{RULES}.Data"

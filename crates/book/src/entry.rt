@@ -3,7 +3,7 @@ ghost use Rattle.std.specs.Prelude.{◌≡◌, IfOk};
 ghost use Rattle.book.specs.declared.entry.Entry.TheVariants.{Made, Sealed, Decided};
 
 use dtx_values::{Changes, Duplicate, Listing, Table};
-use redo_codec::Decision;
+use redo_record::Decision;
 use std::alloc::{AllocError, Global};
 use tran_ids::BranchId;
 

@@ -2,7 +2,7 @@
 ghost use Rattle.std.specs.Prelude.{◌≡◌};
 
 use dtx_values::{Duplicate, Listing};
-use redo_codec::RedoRecord;
+use redo_record::RedoRecord;
 use std::alloc::{AllocError, Global};
 use wire_msg::{Input, Msgs};
 

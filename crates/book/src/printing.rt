@@ -4,7 +4,7 @@ ghost use Rattle.book.specs.Texts.{commit_text, decision_text, mixed_text, branc
 
 use crate::Entry;
 use dtx_values::{Bytes, Change, Listing, Name, Table, Texts};
-use redo_codec::Decision;
+use redo_record::Decision;
 use std::alloc::{AllocError, Global};
 use tran_ids::{BranchId, node_name, put_decimal, put_global, put_local};
 

@@ -5,7 +5,7 @@ ghost use Rattle.book.specs.declared.entry.Entry.TheVariants.{Met};
 
 use crate::Entry;
 use dtx_values::Duplicate;
-use redo_codec::{Decided, Decision, RedoRecord, Sealed};
+use redo_record::{Decided, Decision, RedoRecord, Sealed};
 use std::alloc::{AllocError, Global};
 use tran_ids::BranchId;
 

@@ -1,6 +1,6 @@
 //! What records leave, by examples: that records are taken in.
 use dtx_values::{Listing, Name, NameErr};
-use redo_codec::{Decision, Durable, Peer, RedoRecord, Sealed, State, Toward};
+use redo_record::{Decision, Durable, Peer, RedoRecord, Sealed, State, Toward};
 use std::alloc::{AllocError, Global};
 use tran_ids::BranchId;
 

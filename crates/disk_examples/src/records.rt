@@ -1,12 +1,12 @@
 //! The bytes of records by examples from outside, and that calls succeed.
-ghost use Rattle.redo_format.specs.Record.{record_format};
+ghost use Rattle.redo_codec.specs.Record.{record_format};
 
 use byte_format::TakeErr;
 use dtx_values::{
     Advice, Bytes, Cells, Change, Column, Columns, Name, NameErr, Row, Str, Table, TextErr, Value,
 };
-use redo_codec::{Decision, RedoRecord, Sealed, Toward};
-use redo_format::{
+use redo_record::{Decision, RedoRecord, Sealed, Toward};
+use redo_codec::{
     DecodeErr, branch_fits, change_fits, change_len, decode, encode, name_fits, parts_are_exact,
     put_branch, put_change, put_name, put_row, put_value, records_are_exact, row_fits, table_fits,
     take_branch, take_change, take_name, take_row, take_value, value_fits,

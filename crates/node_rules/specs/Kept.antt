@@ -1,5 +1,5 @@
 -- What a node keeps from turn to turn, and what one turn does.
-pub use Rattle.redo_codec.specs.Kept.{stands_at}
+pub use Rattle.redo_record.specs.Kept.{stands_at}
 use Rattle.std.specs.Prelude.{ℕ, List, [], ◌∷◌, map, max, Option, Some, None}
 use Rattle.node_rules.specs.Data.{BranchId, RedoRecord, Standing, Durable, Live, Kind, Msg, Owned, Doubt, ChangeSet, Work, Opening, Session, Finished, Post, Answer}
 use Rattle.node_rules.specs.Words.{item_at, put_item, drop_item}

@@ -1,7 +1,7 @@
 //! What a kept branch does next in the commit and forget phases.
 ghost use Rattle.std.specs.Prelude.{◌≡◌};
 
-use redo_codec::Decision;
+use redo_record::Decision;
 use tran_ids::BranchId;
 
 /// A neighbour away from the commit point site.

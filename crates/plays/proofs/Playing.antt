@@ -2,8 +2,8 @@
 use Rattle.std.specs.Prelude.{⊤}
 use Rattle.std.specs.Fmt.{digits}
 use Rattle.tran_ids.specs.Numbers.{decimal, hex8}
-use Rattle.redo_codec.specs.Kept.{kept_after}
-use Rattle.redo_codec.specs.Durable.{durable_after}
+use Rattle.redo_record.specs.Kept.{kept_after}
+use Rattle.redo_record.specs.Durable.{durable_after}
 use Rattle.node_rules.specs.Meaning.{checked, examined, written, meant_over}
 use Rattle.node_rules.specs.Records.{applied, stored_by}
 use Rattle.session_tree.specs.Tree.{weight, step}

@@ -1,6 +1,9 @@
-pub mod Data
-pub mod Lists
-pub mod Rows
-pub mod Kept
-pub mod News
-pub mod Durable
+pub mod Branch
+pub mod Name
+pub mod Value
+pub mod Change
+pub mod Decision
+pub mod Table
+pub mod Sealed
+pub mod Record
+pub mod Fits

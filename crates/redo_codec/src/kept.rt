@@ -1,156 +1,100 @@
-//! What redo records make of the rows of kept branches.
-ghost use Rattle.std.specs.Prelude.{◌≡◌, ◌≤◌, length, OnOk, OnErr};
-ghost use Rattle.std.specs.List.{insert, position_or_len};
-ghost use Rattle.tran_ids.specs.Branch.{branch_below};
-ghost use Rattle.redo_codec.specs.Lists.{change_where, drop_where};
-ghost use Rattle.redo_codec.specs.Kept.{stands_at, add_kept, keep_decided, ended, forced_state, forced, met_as, met, is_done as is_done_of, forgotten, hidden, kept_after};
+//! The bytes of prepared and decided branches.
+ghost use Rattle.std.specs.Prelude.{◌≡◌, ◌++◌, OnOk};
+ghost use Rattle.redo_codec.specs.Sealed.{is_sealed, sealed_format, decided_format};
 
-use crate::news::{News, tell_branch};
-use crate::row::{decided_row, has_neighbors, sealed_row};
-use crate::{Decision, RedoRecord, Standing, State};
+use crate::attributes::{put_advice, put_comment, take_advice, take_comment};
+use crate::branch::put_branch;
+use crate::part::Part;
+use byte_format::{TakeErr, put_u48, take_u48};
+use redo_record::{Decided, Sealed, Toward};
 use std::alloc::{AllocError, Global};
-use tran_ids::BranchId;
 
-/// Makes of the rows what is left of them after one more record. Where memory runs out, they stay as they are.
-#[tactic(auto, unfolding(crate::specs::Kept::kept_after))]
-pub fn apply_record(
-    kept: &mut Vec<Standing>,
-    alloc: Global,
-    item: &RedoRecord,
-) -> Result<(), AllocError>
-    ensures ok { OnOk result (kept.new.items ≡ kept_after kept.old.items item.now) }
-    ensures err { OnErr result (kept.new.items ≡ kept.old.items) }
+/// Whether the way of a prepared branch leads to a parent or a child that it has.
+fn is_sealed(sealed: &Sealed) -> bool
+    ensures { result ≡ is_sealed sealed.now }
 {
-    match item {
-        RedoRecord::Sealed(sealed) => add(kept, sealed_row(alloc, sealed)?)?,
-        RedoRecord::Decided(decided) => decide(kept, decided_row(alloc, decided)?)?,
-        RedoRecord::Ended { me, decision } => end(kept, me, decision),
-        RedoRecord::Forced {
+    match sealed.toward {
+        Toward::Parent => sealed.parent.is_some(),
+        Toward::Child(child) => (child as usize) < sealed.children.as_slice().len(),
+    }
+}
+
+impl Part for Sealed {
+    ghost format = { sealed_format };
+
+    fn put_to(&self, out: &mut Vec<u8>) -> Result<(), AllocError> {
+        put_branch(out, &self.me)?;
+        put_branch(out, &self.root)?;
+        put_u48(out, self.scn)?;
+        self.toward.put_to(out)?;
+        self.parent.put_to(out)?;
+        self.children.put_to(out)?;
+        put_advice(out, self.advice)?;
+        put_comment(out, &self.comment)?;
+        self.changes.put_to(out)
+    }
+
+    fn take_from(alloc: Global, bytes: &[u8]) -> Result<(Sealed, &[u8]), TakeErr> {
+        let (me, rest) = Part::take_from(alloc, bytes)?;
+        let (root, rest) = Part::take_from(alloc, rest)?;
+        let (scn, rest) = take_u48(rest)?;
+        let (toward, rest) = Part::take_from(alloc, rest)?;
+        let (parent, rest) = Part::take_from(alloc, rest)?;
+        let (children, rest) = Part::take_from(alloc, rest)?;
+        let (advice, rest) = take_advice(rest)?;
+        let (comment, rest) = take_comment(alloc, rest)?;
+        let (changes, rest) = Part::take_from(alloc, rest)?;
+        let sealed = Sealed {
             me,
-            decision,
-            given: _given,
-        } => force(kept, me, decision),
-        RedoRecord::Met {
+            root,
+            scn,
+            toward,
+            parent,
+            children,
+            advice,
+            comment,
+            changes,
+        };
+        if !is_sealed(&sealed) {
+            return Err(TakeErr::NoSpelling);
+        }
+        Ok((sealed, rest))
+    }
+}
+
+impl Part for Decided {
+    ghost format = { decided_format };
+
+    fn put_to(&self, out: &mut Vec<u8>) -> Result<(), AllocError> {
+        put_branch(out, &self.me)?;
+        put_branch(out, &self.root)?;
+        put_u48(out, self.scn)?;
+        self.parent.put_to(out)?;
+        self.children.put_to(out)?;
+        put_advice(out, self.advice)?;
+        put_comment(out, &self.comment)?;
+        self.changes.put_to(out)
+    }
+
+    fn take_from(alloc: Global, bytes: &[u8]) -> Result<(Decided, &[u8]), TakeErr> {
+        let (me, rest) = Part::take_from(alloc, bytes)?;
+        let (root, rest) = Part::take_from(alloc, rest)?;
+        let (scn, rest) = take_u48(rest)?;
+        let (parent, rest) = Part::take_from(alloc, rest)?;
+        let (children, rest) = Part::take_from(alloc, rest)?;
+        let (advice, rest) = take_advice(rest)?;
+        let (comment, rest) = take_comment(alloc, rest)?;
+        let (changes, rest) = Part::take_from(alloc, rest)?;
+        let decided = Decided {
             me,
-            decision,
-            mixed,
-        } => meet(kept, me, decision, *mixed),
-        RedoRecord::Forgot(me) => forget(kept, me),
-        RedoRecord::Hidden(me) => hide(kept, me),
-        _ => {}
+            root,
+            scn,
+            parent,
+            children,
+            advice,
+            comment,
+            changes,
+        };
+        Ok((decided, rest))
     }
-    Ok(())
-}
-
-// In front of the first branch that this one comes before.
-fn place_of(kept: &[Standing], me: &BranchId) -> usize
-    ensures first { result ≡ position_or_len (λ row. branch_below me.now row.me) kept.now }
-    ensures within { result ≤ length kept.now }
-{
-    for (place, row) in kept.iter().enumerate() {
-        if me.is_before(&row.me) {
-            return place;
-        }
-    }
-    kept.len()
-}
-
-// Rows stand in the order of their branches.
-fn place_for(kept: &[Standing], row: &Standing) -> usize
-    ensures added { insert kept.now result row.now ≡ add_kept kept.now row.now }
-    ensures within { result ≤ length kept.now }
-{
-    place_of(kept, &row.me)
-}
-
-fn add(kept: &mut Vec<Standing>, row: Standing) -> Result<(), AllocError>
-    ensures ok { OnOk result (kept.new.items ≡ add_kept kept.old.items row) }
-    ensures err { OnErr result (kept.new.items ≡ kept.old.items) }
-{
-    let place = place_for(kept, &row);
-    kept.insert(place, row)?;
-    Ok(())
-}
-
-// A decided branch that has nobody to tell is not kept.
-fn decide(kept: &mut Vec<Standing>, row: Standing) -> Result<(), AllocError>
-    ensures ok { OnOk result (kept.new.items ≡ keep_decided kept.old.items row) }
-    ensures err { OnErr result (kept.new.items ≡ kept.old.items) }
-{
-    if has_neighbors(&row) {
-        add(kept, row)
-    } else {
-        Ok(())
-    }
-}
-
-fn drop_branch(kept: &mut Vec<Standing>, me: &BranchId)
-    ensures { kept.new.items ≡ drop_where (stands_at me.now) kept.old.items }
-{
-    kept.retain(|row| !row.me.is(me));
-}
-
-fn end(kept: &mut Vec<Standing>, me: &BranchId, decision: &Decision)
-    ensures { kept.new.items ≡ ended kept.old.items me.now decision.now }
-{
-    match decision {
-        Decision::Commit(scn) => tell_branch(kept, me, News::Commits(*scn)),
-        Decision::Rollback => drop_branch(kept, me),
-    }
-}
-
-fn state_of(forced: &Decision) -> State
-    ensures { result ≡ forced_state forced.now }
-{
-    match forced {
-        Decision::Commit(scn) => State::ForcedCommit(*scn),
-        Decision::Rollback => State::ForcedRollback,
-    }
-}
-
-// The decision stays unknown.
-fn force(kept: &mut Vec<Standing>, me: &BranchId, decision: &Decision)
-    ensures { kept.new.items ≡ forced kept.old.items me.now decision.now }
-{
-    tell_branch(kept, me, News::IsForced(state_of(decision)));
-}
-
-// A row that is found mixed stays, whatever the decision is.
-fn meet(kept: &mut Vec<Standing>, me: &BranchId, decision: &Decision, mixed: bool)
-    ensures { kept.new.items ≡ met kept.old.items me.now decision.now mixed }
-{
-    if mixed {
-        learn(kept, me, decision, true);
-    } else {
-        match decision {
-            Decision::Commit(_scn) => learn(kept, me, decision, false),
-            Decision::Rollback => drop_branch(kept, me),
-        }
-    }
-}
-
-fn learn(kept: &mut Vec<Standing>, me: &BranchId, decision: &Decision, mixed: bool)
-    ensures { kept.new.items ≡ change_where (stands_at me.now) (met_as decision.now mixed) kept.old.items }
-{
-    let decision = *decision;
-    tell_branch(kept, me, News::Learns { decision, mixed });
-}
-
-fn is_done(row: &Standing, me: &BranchId) -> bool
-    ensures { result ≡ is_done_of me.now row.now }
-{
-    row.me.is(me) && !row.mixed
-}
-
-fn forget(kept: &mut Vec<Standing>, me: &BranchId)
-    ensures { kept.new.items ≡ forgotten kept.old.items me.now }
-{
-    kept.retain(|row| !is_done(row, me));
-    tell_branch(kept, me, News::Forgets);
-}
-
-fn hide(kept: &mut Vec<Standing>, me: &BranchId)
-    ensures { kept.new.items ≡ hidden kept.old.items me.now }
-{
-    tell_branch(kept, me, News::IsHidden);
 }

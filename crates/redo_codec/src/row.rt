@@ -1,96 +1,41 @@
-//! The row that a branch has when its first record stands.
-ghost use Rattle.std.specs.Prelude.{◌≡◌, map, IfOk};
-ghost use Rattle.redo_codec.specs.Rows.{kid_of, toward_of, sealed_as, decided_as, has_neighbors as has_neighbors_of};
+//! The bytes of rows.
+ghost use Rattle.std.specs.Prelude.{◌≡◌, ◌++◌, IfOk, IsErrOf, OnOk};
+ghost use Rattle.byte_format.specs.Format.{IsFront, HasNoFront};
+ghost use Rattle.redo_codec.specs.Value.{row_format};
 
-use crate::{Decided, Decision, Kid, Kids, Peer, Sealed, Standing, State, Toward};
-use dtx_values::{Duplicate, Listing};
+use crate::lists::{put_list_u8, take_list_u8};
+use crate::part::Part;
+use crate::whole::read_front;
+use byte_format::TakeErr;
+use dtx_values::{Cells, Row};
 use std::alloc::{AllocError, Global};
-use tran_ids::BranchId;
 
-fn kids(alloc: Global, peers: &[Peer]) -> Result<Kids, AllocError>
-    ensures { IfOk result (λ kids. kids ≡ map kid_of peers.now) }
-{
-    let mut kids = Vec::with_capacity(alloc, peers.len())?;
-    for peer in peers {
-        kids.push(kid(alloc, peer)?)?;
+impl Part for Row {
+    ghost format = { row_format };
+
+    fn put_to(&self, out: &mut Vec<u8>) -> Result<(), AllocError> {
+        put_row(out, self)
     }
-    Ok(Listing::of(kids))
-}
 
-fn kid(alloc: Global, peer: &Peer) -> Result<Kid, AllocError>
-    ensures { IfOk result (λ kid. kid ≡ kid_of peer.now) }
-{
-    let link = peer.link.copy(alloc)?;
-    Ok(Kid {
-        branch: peer.branch,
-        link,
-        acked: false,
-    })
-}
-
-fn toward(sealed: &Sealed) -> Option<BranchId>
-    ensures { result ≡ toward_of sealed.now sealed.now.toward }
-{
-    match sealed.toward {
-        Toward::Parent => sealed.parent,
-        Toward::Child(place) => match sealed.children.as_slice().get(usize::from(place)) {
-            None => None,
-            Some(peer) => Some(peer.branch),
-        },
+    fn take_from(alloc: Global, bytes: &[u8]) -> Result<(Row, &[u8]), TakeErr> {
+        let (cells, rest) = take_list_u8(alloc, bytes)?;
+        let cells = Cells::of(cells);
+        Ok((Row { cells }, rest))
     }
 }
 
-/// The row of a branch that is prepared.
-pub fn sealed_row(alloc: Global, sealed: &Sealed) -> Result<Standing, AllocError>
-    ensures { IfOk result (λ row. row ≡ sealed_as sealed.now) }
+/// Writes the row's spelling at the end.
+pub fn put_row(out: &mut Vec<u8>, row: &Row) -> Result<(), AllocError>
+    requires { row_format.Fits row.now }
+    ensures { OnOk result (out.new.items ≡ out.old.items ++ row_format.text row.now) }
 {
-    let children = kids(alloc, sealed.children.as_slice())?;
-    let comment = sealed.comment.copy(alloc)?;
-    Ok(Standing {
-        me: sealed.me,
-        root: sealed.root,
-        scn: sealed.scn,
-        parent: sealed.parent,
-        parent_acked: false,
-        children,
-        toward: toward(sealed),
-        advice: sealed.advice,
-        comment,
-        state: State::Sealed,
-        decision: None,
-        mixed: false,
-        forgot: false,
-        hidden: false,
-    })
+    put_list_u8(out, row.cells.as_slice())
 }
 
-/// The row of the commit point site, toward which nobody is.
-pub fn decided_row(alloc: Global, decided: &Decided) -> Result<Standing, AllocError>
-    ensures { IfOk result (λ row. row ≡ decided_as decided.now) }
+/// The row whose spelling is at the front, and the bytes after it.
+pub fn take_row(alloc: Global, bytes: &[u8]) -> Result<(Row, &[u8]), TakeErr>
+    ensures found { IfOk result (λ x. IsFront row_format bytes.now x.0 x.1.now) }
+    ensures refused { IsErrOf result TakeErr.NoSpelling → HasNoFront row_format bytes.now }
 {
-    let children = kids(alloc, decided.children.as_slice())?;
-    let comment = decided.comment.copy(alloc)?;
-    Ok(Standing {
-        me: decided.me,
-        root: decided.root,
-        scn: decided.scn,
-        parent: decided.parent,
-        parent_acked: false,
-        children,
-        toward: None,
-        advice: decided.advice,
-        comment,
-        state: State::Committed,
-        decision: Some(Decision::Commit(decided.scn)),
-        mixed: false,
-        forgot: false,
-        hidden: false,
-    })
-}
-
-/// Whether a branch has a parent or a child.
-pub fn has_neighbors(row: &Standing) -> bool
-    ensures { result ≡ has_neighbors_of row.now }
-{
-    row.parent.is_some() || row.children.as_slice().get(0).is_some()
+    read_front(alloc, bytes)
 }

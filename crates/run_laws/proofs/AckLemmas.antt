@@ -1,9 +1,9 @@
 -- What records make of the rows of kept branches does not hang on the Acks that were heard, and an Ack changes nothing else.
 use Rattle.std.proofs.Common.{◌≡◌, not, Bool, true, false, if◌then◌else◌, List, [], ◌∷◌, map, refl, ap, ◌∙◌}
 use Rattle.std.proofs.lemmas.Bool.{cond_both}
-use Rattle.redo_codec.specs.Kept.{stands_at, add_kept, keep_decided, ended, ended_commit, forced_state, in_state, met, met_as, forgot_as, is_done, hidden_as, kept_after}
-use Rattle.redo_codec.specs.Durable.{durable_after, with_kept}
-use Rattle.redo_codec.specs.Rows.{kid_of, sealed_as, decided_as, has_neighbors}
+use Rattle.redo_record.specs.Kept.{stands_at, add_kept, keep_decided, ended, ended_commit, forced_state, in_state, met, met_as, forgot_as, is_done, hidden_as, kept_after}
+use Rattle.redo_record.specs.Durable.{durable_after, with_kept}
+use Rattle.redo_record.specs.Rows.{kid_of, sealed_as, decided_as, has_neighbors}
 use Rattle.node_rules.specs.Data.{BranchId, Decision, Kid, Peer, Standing, RedoRecord}
 use Rattle.node_rules.specs.Data.decisions
 use Rattle.node_rules.specs.Data.records

@@ -2,7 +2,7 @@
 use Rattle.std.proofs.Common.{◌≡◌, ℕ, ◌+◌, List, [], ◌∷◌, ◌++◌, Option, Some, None, refl, sym, ap, ◌∙◌, append-nil, arith}
 use Rattle.std.specs.Prelude.{IfSome}
 use Rattle.std.specs.Option.{option_to_list}
-use Rattle.redo_codec.specs.Durable.{durable_after}
+use Rattle.redo_record.specs.Durable.{durable_after}
 use Rattle.node_rules.specs.Data.{RedoRecord, Place, Input}
 use Rattle.node_rules.specs.Data.params
 use Rattle.node_rules.specs.Data.records

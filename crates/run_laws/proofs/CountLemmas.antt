@@ -1,9 +1,9 @@
 -- How many rows of a branch a record makes: one where it is the branch's Sealed or Decided, else no more than there were.
 use Rattle.std.proofs.Common.{◌≡◌, ℕ, ◌+◌, ◌≤◌, Bool, true, false, not, if◌then◌else◌, List, refl, arith}
 use Rattle.std.proofs.lemmas.Bool.{cond_both}
-use Rattle.redo_codec.specs.Kept.{stands_at, add_kept, keep_decided, ended_commit, forced_state, in_state, met_as, forgot_as, is_done, hidden_as, kept_after}
-use Rattle.redo_codec.specs.Durable.{durable_after}
-use Rattle.redo_codec.specs.Rows.{sealed_as, decided_as, has_neighbors}
+use Rattle.redo_record.specs.Kept.{stands_at, add_kept, keep_decided, ended_commit, forced_state, in_state, met_as, forgot_as, is_done, hidden_as, kept_after}
+use Rattle.redo_record.specs.Durable.{durable_after}
+use Rattle.redo_record.specs.Rows.{sealed_as, decided_as, has_neighbors}
 use Rattle.node_rules.specs.Data.{BranchId, Standing, RedoRecord}
 use Rattle.node_rules.specs.Data.decisions
 use Rattle.node_rules.specs.Data.params

@@ -5,9 +5,9 @@ use Rattle.std.specs.Option.{option_to_list}
 use Rattle.std.specs.List.{AllByRecursion}
 use Rattle.tran_ids.proofs.BranchLemmas.{equal_from_same}
 use Rattle.tran_ids.specs.Branch.{branch_below}
-use Rattle.redo_codec.specs.Kept.{stands_at, add_kept, ended_commit, forced_state, in_state, met_as, forgot_as, is_done, hidden_as, kept_after}
-use Rattle.redo_codec.specs.Durable.{durable_after}
-use Rattle.redo_codec.specs.Rows.{sealed_as, decided_as, has_neighbors}
+use Rattle.redo_record.specs.Kept.{stands_at, add_kept, ended_commit, forced_state, in_state, met_as, forgot_as, is_done, hidden_as, kept_after}
+use Rattle.redo_record.specs.Durable.{durable_after}
+use Rattle.redo_record.specs.Rows.{sealed_as, decided_as, has_neighbors}
 use Rattle.node_rules.specs.Data.{BranchId, Decision, Kind, RedoRecord, Standing, Place}
 use Rattle.node_rules.specs.Data.decisions
 use Rattle.node_rules.specs.Data.kinds

@@ -7,7 +7,7 @@ use Rattle.std.specs.List.{list_any, list_all}
 use Rattle.node_rules.specs.Data.{Value, Change, Table, Stmt, BranchId, Standing}
 use Rattle.node_rules.specs.Words.{same, item_at}
 use Rattle.row_locks.specs.Locks.{Lock, keys_held}
-use Rattle.redo_codec.specs.Durable.{durable}
+use Rattle.redo_record.specs.Durable.{durable}
 use Rattle.node_rules.specs.Kept.{standing_id}
 use Rattle.run_laws.specs.Facts.{Facts, records_at}
 

@@ -4,7 +4,7 @@
 use Rattle.std.specs.Prelude.{◌≡◌, ℕ, ◌+◌, ◌^◌, ◌<◌, ◌⊎◌, Bool, true, false, List, [], ◌∷◌, ◌++◌, map, length, Some}
 use Rattle.std.specs.List.{AllByRecursion}
 use Rattle.redo_log.specs.Cells.{bodies}
-use Rattle.redo_format.specs.Record.{record_format}
+use Rattle.redo_codec.specs.Record.{record_format}
 use Rattle.node_rules.specs.Data.{Place, RedoRecord}
 use Rattle.run_laws.specs.Data.{Command, Said, AnswerLine, Entry, Happening}
 use Rattle.run_laws.specs.Data.commands

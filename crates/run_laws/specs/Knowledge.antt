@@ -16,8 +16,8 @@ use Rattle.node_rules.specs.Kept.{Kept, standing_id}
 use Rattle.node_rules.specs.Force.{is_sealed}
 use Rattle.run_laws.specs.Book.{in_doubt}
 use Rattle.node_rules.specs.Inputs.{Came, IsCall, Brings}
-use Rattle.redo_codec.specs.Durable.{durable}
-use Rattle.redo_codec.specs.Rows.{toward_of}
+use Rattle.redo_record.specs.Durable.{durable}
+use Rattle.redo_record.specs.Rows.{toward_of}
 use Rattle.run_laws.specs.Data.{Turn, Happening}
 use Rattle.run_laws.specs.Data.happenings
 use Rattle.run_laws.specs.Facts.{Facts, node_at, place_at, records_at}

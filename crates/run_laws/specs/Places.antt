@@ -5,7 +5,7 @@ use Rattle.node_rules.specs.Data.{BranchId, Stmt, Answer, Advice, Durable}
 use Rattle.node_rules.specs.Data.kinds
 use Rattle.node_rules.specs.Names.{A_table, Behind, named_by, ref_of, passed_on, target_of}
 use Rattle.node_rules.specs.Inputs.{Came}
-use Rattle.redo_codec.specs.Durable.{durable}
+use Rattle.redo_record.specs.Durable.{durable}
 use Rattle.run_laws.specs.Data.{Turn, AnswerLine}
 use Rattle.run_laws.specs.Data.said
 use Rattle.run_laws.specs.Data.happenings

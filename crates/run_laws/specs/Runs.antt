@@ -11,7 +11,7 @@ use Rattle.node_rules.specs.Rows.{apply}
 use Rattle.node_rules.specs.Meaning.{Meant, Changes, meant, written}
 use Rattle.node_rules.specs.Names.{table_of, ref_of}
 use Rattle.node_rules.specs.Kept.{Outcome}
-use Rattle.redo_codec.specs.Durable.{durable}
+use Rattle.redo_record.specs.Durable.{durable}
 use Rattle.row_locks.specs.Locks.{Lock}
 use Rattle.stmt_run.specs.Run.{take_keys}
 use Rattle.run_laws.specs.Data.{Finished, Turn, Entry}

@@ -7,7 +7,7 @@ use Rattle.node_rules.specs.Data.records
 use Rattle.run_laws.specs.Data.{Happening}
 use Rattle.run_laws.specs.Data.happenings
 use Rattle.run_laws.specs.Facts.{Facts}
-use Rattle.redo_codec.specs.Rows.{toward_of}
+use Rattle.redo_record.specs.Rows.{toward_of}
 use Rattle.run_laws.specs.Branches.{Sealed, Trail, Plan, Planned, exit_at, own_at, plan_at}
 use Rattle.run_laws.specs.Trail.{trail_after}
 use Rattle.run_laws.specs.Each.{AtEach}

@@ -4,8 +4,8 @@ use Rattle.std.specs.Prelude.{IfSome, is_some, option_map, option_to_list}
 use Rattle.std.specs.List.{AllByRecursion}
 use Rattle.std.proofs.lemmas.List.{append-nil}
 use Rattle.dtx_values.specs.declared.answer.Answer.{Answer}
-use Rattle.redo_codec.specs.declared.record.RedoRecord.{RedoRecord}
-use Rattle.redo_codec.specs.declared.record.RedoRecord.TheVariants as records
+use Rattle.redo_record.specs.declared.record.RedoRecord.{RedoRecord}
+use Rattle.redo_record.specs.declared.record.RedoRecord.TheVariants as records
 use Rattle.book.specs.declared.entry.Entry.{Entry}
 use Rattle.book.specs.declared.line.AnswerLine.{AnswerLine}
 use Rattle.sole_node.specs.declared.input.Input.{Input}

@@ -1,7 +1,7 @@
 -- What the beginning of a command makes of a run.
 use Rattle.std.proofs.Common.{◌≡◌, ℕ, ◌<◌, Bool, true, false, List, [], ◌∷◌, length, drop, Option, Some, None, refl, sym, subst, arith}
 use Rattle.std.specs.Prelude.{is_some}
-use Rattle.redo_codec.specs.declared.record.RedoRecord.{RedoRecord}
+use Rattle.redo_record.specs.declared.record.RedoRecord.{RedoRecord}
 use Rattle.book.specs.declared.entry.Entry.{Entry}
 use Rattle.book.specs.declared.line.Said.{Said}
 use Rattle.sole_node.specs.Kept.{Kept}

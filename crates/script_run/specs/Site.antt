@@ -2,7 +2,7 @@
 use Rattle.std.specs.Prelude.{◌≡◌, ℕ, Bool, false, List, [], ◌∷◌, ◌++◌, Option, Some, None}
 use Rattle.block_disk.specs.Happenings.{content_of, IsImage}
 use Rattle.block_disk.specs.MemDisk.{DiskState}
-use Rattle.redo_codec.specs.declared.record.RedoRecord.{RedoRecord}
+use Rattle.redo_record.specs.declared.record.RedoRecord.{RedoRecord}
 use Rattle.sole_node.specs.Kept.{Kept}
 use Rattle.sole_node.specs.Turn.{start_of}
 use Rattle.sole_node.specs.Disk.{IsLogOf}

@@ -1,6 +1,6 @@
 //! What a command is told as it begins.
 ghost use Rattle.std.specs.Prelude.{◌≡◌, ◌≤◌, ◌-◌, List, [], ◌∷◌, is_some, IfOk};
-ghost use Rattle.redo_codec.specs.declared.record.RedoRecord.{RedoRecord};
+ghost use Rattle.redo_record.specs.declared.record.RedoRecord.{RedoRecord};
 ghost use Rattle.sole_node.specs.Disk.{IsLogOf};
 ghost use Rattle.sole_laws.specs.Past.{refused as refused_by, shows, if_up, if_down, said_at_once as said_of};
 ghost use Rattle.run_laws.specs.Shown.{shown_disk};

@@ -1,7 +1,7 @@
 //! Where the node of a run stands: up, or its disk alone.
 ghost use Rattle.std.specs.Prelude.{◌≡◌, List, Some, None, true, is_some, IfOk, OnOk};
 ghost use Rattle.block_disk.specs.Happenings.{content_of};
-ghost use Rattle.redo_codec.specs.declared.record.RedoRecord.{RedoRecord};
+ghost use Rattle.redo_record.specs.declared.record.RedoRecord.{RedoRecord};
 ghost use Rattle.sole_node.specs.Turn.{start_of, first_records};
 ghost use Rattle.sole_node.specs.Disk.{IsLogOf};
 ghost use Rattle.sole_core.specs.OnDisk.{MayStart};

@@ -9,13 +9,13 @@ use Rattle.dtx_values.specs.declared.value.Value.TheVariants as values
 use Rattle.dtx_values.specs.declared.row.Row.{Row}
 use Rattle.dtx_values.specs.declared.row.Change.{Change}
 use Rattle.tran_ids.specs.declared.branch.BranchId.{BranchId}
-use Rattle.redo_codec.specs.declared.record.Decided.{Decided}
-use Rattle.redo_codec.specs.declared.record.RedoRecord.TheVariants as records
-use Rattle.redo_format.specs.Branch.{branch_format}
-use Rattle.redo_format.specs.Change.{is_key, change_format}
-use Rattle.redo_format.specs.Sealed.{decided_format}
-use Rattle.redo_format.specs.Table.{table_format}
-use Rattle.redo_format.specs.Record.{record_format}
+use Rattle.redo_record.specs.declared.record.Decided.{Decided}
+use Rattle.redo_record.specs.declared.record.RedoRecord.TheVariants as records
+use Rattle.redo_codec.specs.Branch.{branch_format}
+use Rattle.redo_codec.specs.Change.{is_key, change_format}
+use Rattle.redo_codec.specs.Sealed.{decided_format}
+use Rattle.redo_codec.specs.Table.{table_format}
+use Rattle.redo_codec.specs.Record.{record_format}
 use Rattle.sql_eval.specs.Rows.{is_null}
 use Rattle.sql_eval.specs.Laws.{IsRowAt}
 use Rattle.sole_node.specs.Kept.{Kept, next_root, fresh_root}

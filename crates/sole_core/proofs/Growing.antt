@@ -4,10 +4,10 @@ use Rattle.std.proofs.lemmas.List.{take_more}
 use Rattle.std.specs.Prelude.{IfOk, Result, Ok, Err}
 use Rattle.std.specs.List.{AllByRecursion}
 use Rattle.block_disk.specs.Images.{AtEachMoment}
-use Rattle.redo_codec.specs.declared.record.RedoRecord.{RedoRecord}
-use Rattle.redo_codec.specs.declared.record.RedoRecord.TheVariants as records
+use Rattle.redo_record.specs.declared.record.RedoRecord.{RedoRecord}
+use Rattle.redo_record.specs.declared.record.RedoRecord.TheVariants as records
 use Rattle.byte_format.specs.Format.{IsSpelling, HasOneReading}
-use Rattle.redo_format.specs.Record.{record_format}
+use Rattle.redo_codec.specs.Record.{record_format}
 use Rattle.redo_log.specs.Cells.{bodies, held, log_of, AllFit, GrowsBy as GrowsByBody}
 use Rattle.redo_log.specs.Log.{disk_of}
 use Rattle.redo_log.specs.declared.log.Log.{Log}

@@ -4,8 +4,8 @@ use Rattle.std.specs.List.{list_any}
 use Rattle.std.specs.Str.{bytes_eq}
 use Rattle.std.proofs.lemmas.List.{take_more}
 use Rattle.dtx_values.specs.declared.table.Table.{Table}
-use Rattle.redo_codec.specs.declared.record.RedoRecord.{RedoRecord}
-use Rattle.redo_codec.specs.declared.record.RedoRecord.TheVariants as records
+use Rattle.redo_record.specs.declared.record.RedoRecord.{RedoRecord}
+use Rattle.redo_record.specs.declared.record.RedoRecord.TheVariants as records
 use Rattle.row_store.specs.Tables.{TableRows, apply_all, with_table}
 use Rattle.sole_node.specs.Kept.{Kept, fresh}
 use Rattle.sole_node.specs.Turn.{after_record, start_of}

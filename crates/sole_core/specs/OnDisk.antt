@@ -1,9 +1,9 @@
 -- A node and its disk.
 use Rattle.std.specs.Prelude.{◌≡◌, ◌+◌, ◌<◌, ◌^◌, ℕ, List, [], ◌∷◌, ◌++◌, Option, None, Some}
 use Rattle.std.specs.List.{AllByRecursion}
-use Rattle.redo_codec.specs.declared.record.RedoRecord.{RedoRecord}
-use Rattle.redo_codec.specs.declared.record.RedoRecord.TheVariants as records
-use Rattle.redo_format.specs.Record.{record_format}
+use Rattle.redo_record.specs.declared.record.RedoRecord.{RedoRecord}
+use Rattle.redo_record.specs.declared.record.RedoRecord.TheVariants as records
+use Rattle.redo_codec.specs.Record.{record_format}
 use Rattle.redo_log.specs.Cells.{bodies}
 use Rattle.redo_log.specs.Log.{disk_of, IsIntact, IsSettled, HoldsWithOrWithout}
 use Rattle.redo_log.specs.declared.log.Log.{Log}

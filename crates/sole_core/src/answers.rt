@@ -4,7 +4,7 @@ ghost use Rattle.dtx_values.specs.declared.answer.Answer.TheVariants.{Did, Refus
 ghost use Rattle.sql_eval.specs.Refusals.{ora};
 
 use dtx_values::{Answer, Done, Listing, Refusal};
-use redo_codec::RedoRecord;
+use redo_record::RedoRecord;
 use std::alloc::Global;
 
 /// The code of ORA-00900, invalid SQL statement.

@@ -1,6 +1,6 @@
 //! What a turn does beside changing what its node keeps.
 use crate::finished::Finished;
-use redo_codec::RedoRecord;
+use redo_record::RedoRecord;
 
 /// The call that ended in a turn, and the record that the turn wrote.
 #[derive(Debug, Drop)]

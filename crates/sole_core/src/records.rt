@@ -1,14 +1,14 @@
 //! The records of a log.
 ghost use Rattle.std.specs.Prelude.{List, IfOk, IsErrOf};
-ghost use Rattle.redo_codec.specs.declared.record.RedoRecord.{RedoRecord};
+ghost use Rattle.redo_record.specs.declared.record.RedoRecord.{RedoRecord};
 ghost use Rattle.byte_format.specs.Format.{IsSpelling};
-ghost use Rattle.redo_format.specs.Record.{record_format};
+ghost use Rattle.redo_codec.specs.Record.{record_format};
 ghost use Rattle.sole_core.specs.OnDisk.{HoldRecords};
 ghost use Rattle.sole_core.specs.declared.err.MakeWhy.TheVariants as makes;
 
 use crate::err::MakeWhy;
-use redo_codec::RedoRecord;
-use redo_format::{DecodeErr, decode};
+use redo_record::RedoRecord;
+use redo_codec::{DecodeErr, decode};
 use redo_log::Bodies;
 use std::alloc::Global;
 

@@ -8,7 +8,7 @@ ghost use Rattle.sole_core.specs.Places.{HasRowsOfTables};
 use crate::machine::Machine;
 use catalog::CatErr;
 use dtx_values::{Duplicate, Table};
-use redo_codec::{Decided, RedoRecord};
+use redo_record::{Decided, RedoRecord};
 use std::alloc::{AllocError, Global};
 
 impl Machine {

@@ -6,7 +6,7 @@ use Rattle.dtx_values.specs.declared.table.Table.{Table}
 use Rattle.dtx_values.specs.declared.answer.Done.TheVariants.{Committed, RolledBack, TableMade}
 use Rattle.dtx_values.specs.declared.answer.Answer.{Answer}
 use Rattle.dtx_values.specs.declared.answer.Answer.TheVariants as answers
-use Rattle.redo_codec.specs.declared.record.RedoRecord.TheVariants as records
+use Rattle.redo_record.specs.declared.record.RedoRecord.TheVariants as records
 use Rattle.sql_statement.specs.declared.statement.Stmt.{Stmt}
 use Rattle.sql_statement.specs.declared.statement.Stmt.TheVariants as stmts
 use Rattle.sql_eval.specs.Refusals.{ora}

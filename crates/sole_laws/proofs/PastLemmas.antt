@@ -3,7 +3,7 @@ use Rattle.std.proofs.Common.{◌≡◌, ℕ, List, [], ◌∷◌, ◌++◌, Opt
 use Rattle.std.specs.Option.{option_map}
 use Rattle.std.proofs.lemmas.List.{append-nil}
 use Rattle.std.proofs.lemmas.Grind.{flat_map-append}
-use Rattle.redo_codec.specs.declared.record.RedoRecord.{RedoRecord}
+use Rattle.redo_record.specs.declared.record.RedoRecord.{RedoRecord}
 use Rattle.book.specs.declared.entry.Entry.{Entry}
 use Rattle.book.specs.Entries.{entries_of}
 use Rattle.sole_node.specs.declared.input.Input.{Input}

@@ -4,8 +4,8 @@ use Rattle.std.specs.Prelude.{IfSome, is_some, option_to_list, option_map}
 use Rattle.std.specs.List.{flat_map, AllByRecursion}
 use Rattle.std.proofs.lemmas.List.{append-nil}
 use Rattle.dtx_values.specs.declared.answer.Answer.{Answer}
-use Rattle.redo_codec.specs.declared.record.RedoRecord.{RedoRecord}
-use Rattle.redo_codec.specs.declared.record.RedoRecord.TheVariants as records
+use Rattle.redo_record.specs.declared.record.RedoRecord.{RedoRecord}
+use Rattle.redo_record.specs.declared.record.RedoRecord.TheVariants as records
 use Rattle.redo_log.specs.Cells.{bodies, AllFit}
 use Rattle.redo_log.proofs.Logs.{log_is_read}
 use Rattle.row_store.specs.Tables.{TableRows}

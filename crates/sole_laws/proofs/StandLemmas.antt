@@ -7,8 +7,8 @@ use Rattle.std.proofs.lemmas.List.{append-nil}
 use Rattle.dtx_values.specs.declared.table.Table.{Table}
 use Rattle.dtx_values.specs.declared.row.Change.{Change}
 use Rattle.dtx_values.specs.declared.answer.Answer.{Answer}
-use Rattle.redo_codec.specs.declared.record.RedoRecord.{RedoRecord}
-use Rattle.redo_codec.specs.declared.record.RedoRecord.TheVariants as records
+use Rattle.redo_record.specs.declared.record.RedoRecord.{RedoRecord}
+use Rattle.redo_record.specs.declared.record.RedoRecord.TheVariants as records
 use Rattle.sql_statement.specs.declared.statement.Stmt.{Stmt}
 use Rattle.sql_eval.specs.Laws.{IsChangeOf}
 use Rattle.book.specs.declared.entry.Entry.{Entry}

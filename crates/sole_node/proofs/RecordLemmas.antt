@@ -1,6 +1,6 @@
 -- What a start makes of records, with one record more.
 use Rattle.std.proofs.Common.{◌≡◌, List, [], ◌∷◌, ◌++◌, refl}
-use Rattle.redo_codec.specs.declared.record.RedoRecord.{RedoRecord}
+use Rattle.redo_record.specs.declared.record.RedoRecord.{RedoRecord}
 use Rattle.sole_node.specs.Kept.{Kept}
 use Rattle.sole_node.specs.Turn.{after_record, after_records}
 

@@ -1,8 +1,8 @@
 -- The book of a trace, and the records behind it.
 use Rattle.std.specs.Prelude.{List, [], ◌∷◌, option_to_list}
 use Rattle.std.specs.List.{flat_map}
-use Rattle.redo_codec.specs.declared.record.RedoRecord.{RedoRecord}
-use Rattle.redo_codec.specs.declared.record.RedoRecord.TheVariants as records
+use Rattle.redo_record.specs.declared.record.RedoRecord.{RedoRecord}
+use Rattle.redo_record.specs.declared.record.RedoRecord.TheVariants as records
 use Rattle.book.specs.declared.entry.Entry.{Entry}
 use Rattle.book.specs.Entries.{entries_of}
 use Rattle.sole_node.specs.declared.happening.Happening.{Happening}

@@ -1,8 +1,8 @@
 -- What a disk holds of a node's records: the cells of their spellings, and a closed gate behind the last.
 use Rattle.std.specs.Prelude.{◌≡◌, ◌≤◌, ℕ, List, map, length}
 use Rattle.std.specs.List.{AllByRecursion}
-use Rattle.redo_codec.specs.declared.record.RedoRecord.{RedoRecord}
-use Rattle.redo_format.specs.Record.{record_format}
+use Rattle.redo_record.specs.declared.record.RedoRecord.{RedoRecord}
+use Rattle.redo_codec.specs.Record.{record_format}
 use Rattle.redo_log.specs.Cells.{log_of}
 
 -- a record that can be written: it has a spelling, which is not too long for a log

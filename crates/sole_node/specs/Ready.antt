@@ -6,8 +6,8 @@ use Rattle.dtx_values.specs.declared.row.Change.{Change}
 use Rattle.tran_ids.specs.declared.branch.BranchId.{BranchId}
 use Rattle.sql_eval.specs.Laws.{has_one_key, AreRowsOf, IsChangeOf}
 use Rattle.row_store.specs.Tables.{rows_of_table}
-use Rattle.redo_codec.specs.declared.record.RedoRecord.{RedoRecord}
-use Rattle.redo_codec.specs.declared.record.RedoRecord.TheVariants as records
+use Rattle.redo_record.specs.declared.record.RedoRecord.{RedoRecord}
+use Rattle.redo_record.specs.declared.record.RedoRecord.TheVariants as records
 use Rattle.sql_statement.specs.declared.statement.Stmt.TheVariants as stmts
 use Rattle.sql_statement.specs.Whole.{IsWholeTable}
 use Rattle.sole_node.specs.declared.input.Input.{Input}

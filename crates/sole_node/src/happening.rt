@@ -1,7 +1,7 @@
 //! What happens in a run.
 use crate::Input;
 use dtx_values::Listing;
-use redo_codec::RedoRecord;
+use redo_record::RedoRecord;
 
 /// One step of a run.
 #[derive(Debug, Drop)]

@@ -2,7 +2,7 @@
 //! printed.
 use book::{Entry, book_lines, book_text, entries, entry_text};
 use dtx_values::{Change, Listing, Name, NameErr, Table, Value};
-use redo_codec::{Decision, RedoRecord};
+use redo_record::{Decision, RedoRecord};
 use std::alloc::{AllocError, Global};
 use tran_ids::BranchId;
 

@@ -1,6 +1,6 @@
 use Rattle.std.proofs.Common.{inl, subst, sym, List, ℕ}
 use Rattle.byte_format.specs.Format.{IsSpelling}
-use Rattle.redo_format.specs.Record.{record_format}
+use Rattle.redo_codec.specs.Record.{record_format}
 use Rattle.redo_log.specs.Log.{disk_of, HoldsWithOrWithout}
 use Rattle.redo_log.specs.Cells.{held}
 use Rattle.sole_core.proofs.Growing.{at_rest, grows}

@@ -1,5 +1,5 @@
 use Rattle.std.proofs.Common.{ap, subst, ◌∙◌, ◌+◌, ℕ}
-use Rattle.redo_codec.specs.declared.record.RedoRecord.TheVariants as records
+use Rattle.redo_record.specs.declared.record.RedoRecord.TheVariants as records
 use Rattle.redo_log.specs.Log.{disk_of}
 use Rattle.sole_node.specs.Kept.{Kept}
 use Rattle.sole_core.specs.OnDisk.{node_disk, GrowsByRecord}

@@ -1,7 +1,7 @@
 use Rattle.std.proofs.Common.{ap, sym, subst, ◌∙◌, List, [], ℕ, length, slice_index_or, arith}
-use Rattle.redo_codec.specs.declared.record.RedoRecord.{RedoRecord}
+use Rattle.redo_record.specs.declared.record.RedoRecord.{RedoRecord}
 use Rattle.byte_format.specs.Format.{IsSpelling}
-use Rattle.redo_format.specs.Record.{record_format}
+use Rattle.redo_codec.specs.Record.{record_format}
 use Rattle.sole_core.proofs.Growing.{body_at}
 use Rattle.sole_core.proofs.records.records.Goals as goal
 

@@ -1,6 +1,0 @@
-use Rattle.std.proofs.Common.{◌≡◌, map, take}
-use Rattle.redo_codec.specs.Rows.{kid_of}
-use Rattle.redo_codec.proofs.row.kids.Given as goal
-
-abbrev pub invariant-loop-peer : goal.invariant-loop-peer
-invariant-loop-peer l = l.kids.items ≡ map kid_of (take l.peer-index l.peers)

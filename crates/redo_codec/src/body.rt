@@ -1,0 +1,32 @@
+//! The bodies of records.
+ghost use Rattle.std.specs.Prelude.{◌≡◌, IfOk, IsErrOf};
+ghost use Rattle.redo_record.specs.declared.record.RedoRecord.{RedoRecord};
+ghost use Rattle.byte_format.specs.Format.{IsSpelling};
+ghost use Rattle.redo_codec.specs.Record.{record_format};
+
+use crate::DecodeErr;
+use crate::whole::{read_whole, write_whole};
+use byte_format::TakeErr;
+use dtx_values::Bytes;
+use redo_record::RedoRecord;
+use std::alloc::{AllocError, Global};
+
+/// The body of the record, which has to have a spelling.
+pub fn encode(alloc: Global, record: &RedoRecord) -> Result<Bytes, AllocError>
+    requires { record_format.Fits «record».now }
+    ensures { IfOk result (λ body. IsSpelling record_format body «record».now) }
+{
+    Ok(Bytes::of(write_whole(alloc, record)?))
+}
+
+/// The record whose body this is.
+pub fn decode(alloc: Global, body: &[u8]) -> Result<RedoRecord, DecodeErr>
+    ensures found { IfOk result (λ r. IsSpelling record_format body.now r) }
+    ensures refused { IsErrOf result DecodeErr.NotARecord → (r : RedoRecord) → IsSpelling record_format body.now r → ⊥ }
+{
+    match read_whole(alloc, body) {
+        Ok(record) => Ok(record),
+        Err(TakeErr::NoSpelling) => Err(DecodeErr::NotARecord),
+        Err(TakeErr::NoMemory) => Err(DecodeErr::NoMemory),
+    }
+}

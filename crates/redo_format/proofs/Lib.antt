@@ -1,4 +1,0 @@
-pub mod FieldLaws
-pub mod PartLaws
-pub mod RecordLaws
-pub mod Appends

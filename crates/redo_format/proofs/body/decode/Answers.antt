@@ -1,5 +1,0 @@
-use Rattle.redo_format.proofs.RecordLaws.{record_exact}
-use Rattle.redo_format.proofs.body.decode.Goals as goal
-
-pub read_whole-requires : goal.read_whole-requires
-read_whole-requires c = record_exact

@@ -1,0 +1,6 @@
+pub mod Data
+pub mod Lists
+pub mod Rows
+pub mod Kept
+pub mod News
+pub mod Durable

@@ -1,0 +1,202 @@
+//! What the records of a node leave: its catalog, and the branches that it keeps rows of.
+ghost use Rattle.std.specs.Prelude.{◌≡◌, IfOk, OnOk, OnErr};
+ghost use Rattle.redo_record.specs.Durable.{no_durable, set_param, with_kept, durable_after, durable};
+ghost use Rattle.redo_record.specs.Kept.{kept_after};
+
+use crate::kept::apply_record;
+use crate::{Decision, Param, RedoRecord};
+use dtx_values::{Advice, Bytes, Duplicate, Link, Listing, Name, Synonym, Table};
+use std::alloc::{AllocError, Global};
+use std::mem;
+use tran_ids::BranchId;
+
+/// The state of a kept branch, as its row among the pending transactions shows it.
+#[derive(Clone, Copy, Debug, PartialEq, Eq)]
+pub enum State {
+    /// Prepared, from its Sealed record on: in doubt until it is ended or forced.
+    Sealed,
+    /// From Decided, or from Ended commit, until it forgets.
+    Committed,
+    /// An administrator committed it, at this SCN.
+    ForcedCommit(u64),
+    /// An administrator rolled it back.
+    ForcedRollback,
+}
+
+impl Duplicate for State {
+    fn copy(&self, _alloc: Global) -> Result<State, AllocError> {
+        Ok(*self)
+    }
+}
+
+/// A child of a kept branch.
+#[derive(Debug, Drop)]
+pub struct Kid {
+    pub branch: BranchId,
+    pub link: Name,
+    /// Whether it has acknowledged the commit. This is kept in memory alone.
+    pub acked: bool,
+}
+
+/// Children in order of reference.
+pub type Kids = Listing<Kid>;
+
+impl Duplicate for Kid {
+    fn copy(&self, alloc: Global) -> Result<Kid, AllocError> {
+        let link = self.link.copy(alloc)?;
+        Ok(Kid {
+            branch: self.branch,
+            link,
+            acked: self.acked,
+        })
+    }
+}
+
+/// A branch that the node keeps a row of.
+#[derive(Debug, Drop)]
+pub struct Standing {
+    pub me: BranchId,
+    pub root: BranchId,
+    /// The SCN of its Sealed record, or, at the site, the commit SCN.
+    pub scn: u64,
+    pub parent: Option<BranchId>,
+    /// Whether the parent has acknowledged the commit. This is kept in memory alone.
+    pub parent_acked: bool,
+    pub children: Kids,
+    /// The neighbour on the way to the commit point site, and nobody at the site.
+    pub toward: Option<BranchId>,
+    pub advice: Option<Advice>,
+    pub comment: Bytes,
+    pub state: State,
+    /// The decision, once the branch knows it.
+    pub decision: Option<Decision>,
+    /// Whether it was forced to another outcome than the decision.
+    pub mixed: bool,
+    pub forgot: bool,
+    /// Whether a purge took its row out of the view.
+    pub hidden: bool,
+}
+
+/// Kept branches, in order of boot, session and transaction.
+pub type Standings = Listing<Standing>;
+
+impl Duplicate for Standing {
+    fn copy(&self, alloc: Global) -> Result<Standing, AllocError> {
+        let children = self.children.copy(alloc)?;
+        let comment = self.comment.copy(alloc)?;
+        Ok(Standing {
+            me: self.me,
+            root: self.root,
+            scn: self.scn,
+            parent: self.parent,
+            parent_acked: self.parent_acked,
+            children,
+            toward: self.toward,
+            advice: self.advice,
+            comment,
+            state: self.state,
+            decision: self.decision,
+            mixed: self.mixed,
+            forgot: self.forgot,
+            hidden: self.hidden,
+        })
+    }
+}
+
+/// What the records of a node say, but for its rows.
+#[derive(Debug, Drop)]
+pub struct Durable {
+    /// Which start of the node this is, from 1, and 0 before it is made.
+    pub boot: u32,
+    /// Whether distributed recovery is enabled.
+    pub recovery: bool,
+    /// Tables, links and synonyms, in the order in which they were made.
+    pub tables: Listing<Table>,
+    pub links: Listing<Link>,
+    pub synonyms: Listing<Synonym>,
+    pub kept: Standings,
+    /// The commit point strength that was set, where one was.
+    pub strength: Option<u8>,
+}
+
+impl Durable {
+    /// What a node has before any record.
+    pub fn new(alloc: Global) -> Durable
+        ensures { result ≡ no_durable }
+    {
+        Durable {
+            boot: 0,
+            recovery: true,
+            tables: Listing::new(alloc),
+            links: Listing::new(alloc),
+            synonyms: Listing::new(alloc),
+            kept: Listing::new(alloc),
+            strength: None,
+        }
+    }
+
+    /// What the records of a node leave, oldest first.
+    pub fn of(alloc: Global, records: &[RedoRecord]) -> Result<Durable, AllocError>
+        ensures { IfOk result (λ left. left ≡ durable records.now) }
+    {
+        let mut left = Durable::new(alloc);
+        for item in records {
+            left.apply(alloc, item)?;
+        }
+        Ok(left)
+    }
+
+    /// Takes one more record of the node in. Where memory runs out, nothing changes.
+    #[tactic(auto, unfolding(crate::specs::Durable::durable_after))]
+    pub fn apply(&mut self, alloc: Global, item: &RedoRecord) -> Result<(), AllocError>
+        ensures ok { OnOk result (self.new ≡ durable_after self.old item.now) }
+        ensures err { OnErr result (self.new ≡ self.old) }
+    {
+        match item {
+            RedoRecord::Boot(boot) => self.boot = *boot,
+            RedoRecord::Table(table) => self.tables.push(table.copy(alloc)?)?,
+            RedoRecord::Link(link) => self.links.push(link.copy(alloc)?)?,
+            RedoRecord::Synonym(synonym) => self.synonyms.push(synonym.copy(alloc)?)?,
+            RedoRecord::Param(param) => self.set(*param),
+            _ => self.apply_to_kept(alloc, item)?,
+        }
+        Ok(())
+    }
+
+    fn set(&mut self, param: Param)
+        ensures { self.new ≡ set_param self.old param }
+    {
+        match param {
+            Param::Recovery(on) => self.recovery = on,
+            Param::Strength(strength) => self.strength = Some(strength),
+        }
+    }
+
+    fn apply_to_kept(&mut self, alloc: Global, item: &RedoRecord) -> Result<(), AllocError>
+        ensures ok { OnOk result (self.new ≡ with_kept self.old (kept_after self.old.kept item.now)) }
+        ensures err { OnErr result (self.new ≡ self.old) }
+    {
+        let mut kept = mem::replace(&mut self.kept, Listing::new(alloc)).into_vec();
+        let done = apply_record(&mut kept, alloc, item);
+        self.kept = Listing::of(kept);
+        done
+    }
+}
+
+impl Duplicate for Durable {
+    fn copy(&self, alloc: Global) -> Result<Durable, AllocError> {
+        let tables = self.tables.copy(alloc)?;
+        let links = self.links.copy(alloc)?;
+        let synonyms = self.synonyms.copy(alloc)?;
+        let kept = self.kept.copy(alloc)?;
+        Ok(Durable {
+            boot: self.boot,
+            recovery: self.recovery,
+            tables,
+            links,
+            synonyms,
+            kept,
+            strength: self.strength,
+        })
+    }
+}

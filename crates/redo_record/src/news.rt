@@ -1,0 +1,60 @@
+//! What a kept branch is told.
+ghost use Rattle.std.specs.Prelude.{◌≡◌, if◌then◌else◌};
+ghost use Rattle.redo_record.specs.Kept.{stands_at};
+ghost use Rattle.redo_record.specs.Lists.{change_where};
+ghost use Rattle.redo_record.specs.News.{with_news};
+
+use crate::{Decision, Standing, State};
+use tran_ids::BranchId;
+
+/// News of a branch that stays kept.
+#[derive(Clone, Copy, Debug)]
+pub enum News {
+    /// It commits, at this SCN.
+    Commits(u64),
+    /// An administrator ends it, in this state.
+    IsForced(State),
+    /// The decision reaches it after it was forced.
+    Learns { decision: Decision, mixed: bool },
+    /// It has no one left to tell.
+    Forgets,
+    /// A purge takes its row out of the view.
+    IsHidden,
+}
+
+/// Tells a branch its news. A row that is found mixed is shown again.
+fn tell(row: &mut Standing, news: News)
+    ensures { row.new ≡ with_news news row.old }
+{
+    match news {
+        News::Commits(scn) => {
+            row.state = State::Committed;
+            row.decision = Some(Decision::Commit(scn));
+        }
+        News::IsForced(state) => row.state = state,
+        News::Learns { decision, mixed } => {
+            row.decision = Some(decision);
+            row.mixed = mixed;
+            row.hidden = row.hidden && !mixed;
+        }
+        News::Forgets => row.forgot = true,
+        News::IsHidden => row.hidden = true,
+    }
+}
+
+fn tell_if_it_is(row: &mut Standing, me: &BranchId, news: News)
+    ensures { row.new ≡ (if stands_at me.now row.old then with_news news row.old else row.old) }
+{
+    if row.me.is(me) {
+        tell(row, news);
+    }
+}
+
+/// Tells the branch of this id its news, where it is kept.
+pub fn tell_branch(kept: &mut Vec<Standing>, me: &BranchId, news: News)
+    ensures { kept.new.items ≡ change_where (stands_at me.now) (with_news news) kept.old.items }
+{
+    for row in kept.iter_mut() {
+        tell_if_it_is(row, me, news);
+    }
+}

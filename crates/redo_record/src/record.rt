@@ -1,0 +1,200 @@
+//! Redo records.
+ghost use Rattle.std.specs.Prelude.{◌≡◌};
+
+use crate::decision::Decision;
+use dtx_values::{Advice, Bytes, Changes, Duplicate, Link, Listing, Name, Synonym, Table};
+use std::alloc::{AllocError, Global};
+use tran_ids::BranchId;
+
+/// A child of a branch, and the link that leads to it.
+#[derive(Debug, Drop)]
+pub struct Peer {
+    pub branch: BranchId,
+    pub link: Name,
+}
+
+/// Children in order of reference.
+pub type Peers = Listing<Peer>;
+
+impl Duplicate for Peer {
+    fn copy(&self, alloc: Global) -> Result<Peer, AllocError> {
+        let link = self.link.copy(alloc)?;
+        Ok(Peer {
+            branch: self.branch,
+            link,
+        })
+    }
+}
+
+/// Which neighbour of a sealed branch is on the way to the commit point site.
+#[derive(Clone, Copy, Debug, PartialEq, Eq)]
+pub enum Toward {
+    Parent,
+    /// The child at this place among the record's children, from 0.
+    Child(u8),
+}
+
+impl Duplicate for Toward {
+    fn copy(&self, _alloc: Global) -> Result<Toward, AllocError> {
+        Ok(*self)
+    }
+}
+
+/// A setting of a node that survives its stops.
+#[derive(Clone, Copy, Debug, PartialEq, Eq)]
+pub enum Param {
+    /// Whether distributed recovery is enabled.
+    Recovery(bool),
+    /// The commit point strength of branches that begin afterwards.
+    Strength(u8),
+}
+
+impl Duplicate for Param {
+    fn copy(&self, _alloc: Global) -> Result<Param, AllocError> {
+        Ok(*self)
+    }
+}
+
+/// A branch is prepared: its changes wait for the decision.
+#[derive(Debug, Drop)]
+pub struct Sealed {
+    pub me: BranchId,
+    /// The root of the transaction, which names it in all nodes.
+    pub root: BranchId,
+    /// The node's SCN.
+    pub scn: u64,
+    pub toward: Toward,
+    pub parent: Option<BranchId>,
+    /// The children that are prepared, and the one on the way to the site.
+    pub children: Peers,
+    pub advice: Option<Advice>,
+    pub comment: Bytes,
+    pub changes: Changes,
+}
+
+impl Duplicate for Sealed {
+    fn copy(&self, alloc: Global) -> Result<Sealed, AllocError> {
+        let children = self.children.copy(alloc)?;
+        let comment = self.comment.copy(alloc)?;
+        let changes = self.changes.copy(alloc)?;
+        Ok(Sealed {
+            me: self.me,
+            root: self.root,
+            scn: self.scn,
+            toward: self.toward,
+            parent: self.parent,
+            children,
+            advice: self.advice,
+            comment,
+            changes,
+        })
+    }
+}
+
+/// The commit point site decided to commit.
+#[derive(Debug, Drop)]
+pub struct Decided {
+    pub me: BranchId,
+    /// The root of the transaction, which names it in all nodes.
+    pub root: BranchId,
+    /// The commit SCN.
+    pub scn: u64,
+    pub parent: Option<BranchId>,
+    /// The children that are prepared.
+    pub children: Peers,
+    pub advice: Option<Advice>,
+    pub comment: Bytes,
+    pub changes: Changes,
+}
+
+impl Duplicate for Decided {
+    fn copy(&self, alloc: Global) -> Result<Decided, AllocError> {
+        let children = self.children.copy(alloc)?;
+        let comment = self.comment.copy(alloc)?;
+        let changes = self.changes.copy(alloc)?;
+        Ok(Decided {
+            me: self.me,
+            root: self.root,
+            scn: self.scn,
+            parent: self.parent,
+            children,
+            advice: self.advice,
+            comment,
+            changes,
+        })
+    }
+}
+
+/// What a node writes to its log.
+#[derive(Debug, Drop)]
+pub enum RedoRecord {
+    /// The node was started for the so-manieth time, counted from 1.
+    Boot(u32),
+    Table(Table),
+    Link(Link),
+    Synonym(Synonym),
+    Param(Param),
+    Sealed(Sealed),
+    Decided(Decided),
+    /// The decision reached a sealed branch.
+    Ended {
+        me: BranchId,
+        decision: Decision,
+    },
+    /// An administrator ended a sealed branch.
+    Forced {
+        me: BranchId,
+        decision: Decision,
+        /// Whether the user gave the SCN.
+        given: bool,
+    },
+    /// The decision reached a forced branch.
+    Met {
+        me: BranchId,
+        decision: Decision,
+        /// Whether it is another outcome than the forced one.
+        mixed: bool,
+    },
+    /// A branch that committed has no one left to tell.
+    Forgot(BranchId),
+    /// A purge took the branch's row out of the view.
+    Hidden(BranchId),
+}
+
+impl Duplicate for RedoRecord {
+    fn copy(&self, alloc: Global) -> Result<RedoRecord, AllocError> {
+        match self {
+            RedoRecord::Boot(boot) => Ok(RedoRecord::Boot(*boot)),
+            RedoRecord::Table(table) => Ok(RedoRecord::Table(table.copy(alloc)?)),
+            RedoRecord::Link(link) => Ok(RedoRecord::Link(link.copy(alloc)?)),
+            RedoRecord::Synonym(synonym) => Ok(RedoRecord::Synonym(synonym.copy(alloc)?)),
+            RedoRecord::Param(param) => Ok(RedoRecord::Param(*param)),
+            RedoRecord::Sealed(sealed) => Ok(RedoRecord::Sealed(sealed.copy(alloc)?)),
+            RedoRecord::Decided(decided) => Ok(RedoRecord::Decided(decided.copy(alloc)?)),
+            RedoRecord::Ended { me, decision } => Ok(RedoRecord::Ended {
+                me: *me,
+                decision: *decision,
+            }),
+            RedoRecord::Forced {
+                me,
+                decision,
+                given,
+            } => Ok(RedoRecord::Forced {
+                me: *me,
+                decision: *decision,
+                given: *given,
+            }),
+            RedoRecord::Met {
+                me,
+                decision,
+                mixed,
+            } => Ok(RedoRecord::Met {
+                me: *me,
+                decision: *decision,
+                mixed: *mixed,
+            }),
+            RedoRecord::Forgot(branch) => Ok(RedoRecord::Forgot(*branch)),
+            RedoRecord::Hidden(branch) => Ok(RedoRecord::Hidden(*branch)),
+        }
+    }
+}
