@@ -1,3 +1,4 @@
+pub mod Limits
 pub mod Str
 pub mod Name
 pub mod Order

@@ -3,14 +3,7 @@ use Rattle.std.specs.Prelude.{ℕ, Bool, false, if◌then◌else◌, ◌&&◌, �
 use Rattle.std.specs.Char.{is_ascii_alphabetic, is_ascii_alphanumeric, to_ascii_uppercase}
 use Rattle.std.specs.List.{list_all, list_any, slice_split}
 use Rattle.std.specs.Str.{str_eq_ignore_ascii_case}
-
--- the most bytes of an identifier
-abbrev pub identifier_limit : ℕ
-identifier_limit = 30
-
--- the most bytes of a name, its dots included
-abbrev pub name_limit : ℕ
-name_limit = 128
+use Rattle.dtx_values.specs.Limits.{identifier_limit, name_limit}
 
 -- the words that are no identifiers
 abbrev pub reserved_words : List (List ℕ)

@@ -2,11 +2,7 @@
 ghost use Rattle.std.specs.Prelude.{◌≡◌};
 ghost use Rattle.dtx_values.specs.Name as spec;
 
-/// The most bytes of an identifier.
-pub const IDENTIFIER_LIMIT: usize = 30;
-
-/// The most bytes of a name, its dots included.
-pub const NAME_LIMIT: usize = 128;
+use crate::limits::{IDENTIFIER_LIMIT, NAME_LIMIT};
 
 const RESERVED_WORDS: [&[u8]; 18] = [
     b"SELECT", b"FROM", b"WHERE", b"AND", b"INTO", b"VALUES", b"SET", b"FOR", b"IS", b"NOT",

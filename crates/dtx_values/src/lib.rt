@@ -8,6 +8,7 @@ mod advice;
 mod answer;
 mod duplicate;
 mod identifier;
+mod limits;
 mod listing;
 mod name;
 mod name_err;
@@ -22,14 +23,20 @@ mod value;
 pub use advice::Advice;
 pub use answer::{Answer, Done, INVALID_SQL, Notice, Refusal, RowSet, UNIQUE_VIOLATED};
 pub use duplicate::Duplicate;
-pub use identifier::{IDENTIFIER_LIMIT, NAME_LIMIT, is_identifier};
+pub use identifier::is_identifier;
+pub use limits::{
+    BRANCH_LIMIT, CHANGES_LIMIT, COLUMN_LIMIT, COMMENT_LIMIT, DELIVERY_LIMIT, DEPTH_LIMIT,
+    EXTENT_SIZE, EXTENTS_LIMIT, ID_LIMIT, IDENTIFIER_LIMIT, LINK_LIMIT, NAME_LIMIT, NODE_LIMIT,
+    SCN_LIMIT, SCRIPT_LIMIT, SELECT_LIMIT, SESSION_LIMIT, STRENGTH_LIMIT, TEXT_LIMIT, USUAL_EXTENTS,
+    USUAL_LINKS,
+};
 pub use listing::Listing;
 pub use name::{Name, Names};
 pub use name_err::NameErr;
 pub use printing::value_text;
 pub use row::{Change, Changes, Row, Rows};
 pub use row_map::RowMap;
-pub use str::{Str, TEXT_LIMIT};
+pub use str::Str;
 pub use table::{Column, Columns, Link, Synonym, Table};
 pub use text_err::TextErr;
 pub use value::{Bytes, Cells, Texts, Value};

@@ -7,17 +7,16 @@ ghost use Rattle.std.specs.Cmp.Lexicographic.{pointwise, slice_cmp, nat_list_eq_
 ghost use Rattle.std.specs.Cmp.{partial_equiv_from_equiv};
 ghost use Rattle.std.specs.Cmp.Rules.{hashing};
 ghost use Rattle.std.proofs.Common.{rules, refl};
-ghost use Rattle.dtx_values.specs.Str.{is_text, text_limit};
+ghost use Rattle.dtx_values.specs.Limits.{text_limit};
+ghost use Rattle.dtx_values.specs.Str.{is_text};
 ghost use Rattle.dtx_values.specs.declared.text_err.TextErr.TheVariants.{Empty, TooLong, NotUtf8};
 
+use crate::limits::TEXT_LIMIT;
 use crate::{Duplicate, TextErr};
 use std::alloc::{AllocError, Global};
 use std::cmp::Ordering;
 use std::hash::{Hash, Hasher};
 use std::marker::Model;
-
-/// The most bytes of a text.
-pub const TEXT_LIMIT: usize = 2000;
 
 /// A text of UTF-8, of 1 to 2,000 bytes. Texts are compared by their bytes.
 #[derive(Debug, Drop)]

@@ -11,7 +11,7 @@ use Rattle.token_grammar.specs.declared.token.Token.{Token}
 use Rattle.token_grammar.specs.declared.token.Token.TheVariants as token
 use Rattle.token_grammar.specs.Steps.{begins}
 use Rattle.token_grammar.specs.Grammar.{Grammar, is_word, word, mark, meant, identifier, name, number_to, ◌·◌, ◌▹◌, many, commas, tested}
-use Rattle.sql_statement.specs.Limits.{width_limit}
+use Rattle.dtx_values.specs.Limits.{text_limit}
 use Rattle.sql_parse.specs.declared.rule.Rule.{Rule}
 use Rattle.sql_parse.specs.declared.rule.Rule.TheVariants as rules
 use Rattle.sql_statement.specs.declared.statement.Stmt.TheVariants as statements
@@ -36,7 +36,7 @@ prints_type = prints_or_else (begins (is_word (codes "NUMBER"))) number_part tex
     (prints_built (λ n. Some n) (word (codes "VARCHAR2") ▹ in_brackets width) (λ n. codes " " ++ (codes "VARCHAR2" ++ (codes "(" ++ (decimal n ++ codes ")")))) type_text (λ a. refl)
     (prints_blank (word (codes "VARCHAR2") ▹ in_brackets width) (λ n. codes "VARCHAR2" ++ (codes "(" ++ (decimal n ++ codes ")")))
     (prints_word (codes "VARCHAR2") (in_brackets width) (λ n. codes "(" ++ (decimal n ++ codes ")")) (refl, refl, refl)
-    (prints_brackets width decimal (prints_tested (nat_le 1) (number_to width_limit) decimal (prints_number width_limit))) (λ n rest h. refl))))
+    (prints_brackets width decimal (prints_tested (nat_le 1) (number_to text_limit) decimal (prints_number text_limit))) (λ n rest h. refl))))
 
 -- the rules of a column, in the order in which they are printed
 abbrev rules_of : Bool → Bool → List Rule

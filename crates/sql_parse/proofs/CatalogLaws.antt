@@ -11,7 +11,7 @@ use Rattle.token_grammar.proofs.Beginnings.{leads_word, leads_after, led, apart_
 use Rattle.token_grammar.proofs.OneToken.{word_exact, mark_exact, meant_exact, maybe_exact}
 use Rattle.token_grammar.proofs.Parts.{after, after_exact, seq, seq_led, optional_exact, many_exact}
 use Rattle.token_grammar.proofs.Values.{tested_exact}
-use Rattle.sql_statement.specs.Limits.{width_limit}
+use Rattle.dtx_values.specs.Limits.{text_limit}
 use Rattle.sql_statement.specs.declared.statement.Stmt.{Stmt}
 use Rattle.sql_parse.specs.Parts.{or_else, is_word_of, in_brackets}
 use Rattle.sql_parse.specs.Catalog.{width, column_type, rule, is_rule, are_once, column_of, column, are_of_a_table, table_columns, create_table, target_in, account, create_link, create_synonym, create}
@@ -20,7 +20,7 @@ use Rattle.sql_parse.proofs.PartLaws.{led_exact, leads_or_else, built_exact, lea
 -- ---- Columns.
 
 width_exact : IsExact width nothing
-width_exact = tested_exact (nat_le 1) (number_to width_limit) nothing (meant_exact (number_to_in width_limit))
+width_exact = tested_exact (nat_le 1) (number_to text_limit) nothing (meant_exact (number_to_in text_limit))
 
 column_type_exact : IsExact column_type nothing
 unfolding column_type

@@ -15,7 +15,7 @@ use Rattle.token_grammar.proofs.Beginnings.{begins-append, begins-apart, is_word
 use Rattle.token_grammar.proofs.OneToken.{mark_exact, meant_exact}
 use Rattle.token_grammar.proofs.Parts.{after, before_led, optional_exact, separated_exact}
 use Rattle.token_grammar.proofs.Values.{mapped_exact, made_exact, tested_exact}
-use Rattle.sql_statement.specs.Limits.{is_text_to}
+use Rattle.dtx_values.specs.Str.{is_text_to}
 use Rattle.sql_parse.specs.Parts.{or_else, built, is_word_of, mark_of, stands, in_brackets, text_to}
 
 -- ---- One of several.

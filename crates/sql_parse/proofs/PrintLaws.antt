@@ -4,7 +4,7 @@ use Rattle.std.specs.Prelude.{codes, decimal, nat_le}
 use Rattle.std.specs.Str.{bytes_eq}
 use Rattle.std.specs.Char.{to_ascii_uppercase}
 use Rattle.dtx_values.specs.Name.{is_identifier, is_name, name_of}
-use Rattle.dtx_values.specs.Str.{is_text}
+use Rattle.dtx_values.specs.Str.{is_text, is_text_to}
 use Rattle.dtx_values.specs.Texts.{text_of_value}
 use Rattle.dtx_values.specs.declared.value.Value.{Value}
 use Rattle.dtx_values.specs.declared.value.Value.TheVariants as values
@@ -15,7 +15,6 @@ use Rattle.token_grammar.specs.Steps.{begins}
 use Rattle.token_grammar.specs.Tokens.{TokenText, Ends}
 use Rattle.token_grammar.specs.Grammar.{Grammar, is_word, is_mark, anything, begins_two, word, mark, meant, identifier, identifier_in, name, name_in, number_to, number_to_in, quoted, quoted_in, ◌·◌, ◌▹◌, ◌◃◌, optional, many, separated}
 use Rattle.token_grammar.proofs.Options.{test_some, chosen, some_is}
-use Rattle.sql_statement.specs.Limits.{is_text_to}
 use Rattle.sql_statement.specs.declared.condition.Sign.{Sign}
 use Rattle.sql_statement.specs.declared.condition.Sign.TheVariants as signs
 use Rattle.sql_statement.specs.declared.sum.Term.TheVariants as terms

@@ -8,7 +8,7 @@ use Rattle.token_grammar.specs.declared.token.Token.TheVariants as token
 use Rattle.token_grammar.specs.Steps.{begins}
 use Rattle.token_grammar.specs.Tokens.{TokenText}
 use Rattle.token_grammar.specs.Grammar.{Grammar, is_word, is_mark, passed, word, mark, meant, number_to, ◌·◌, ◌▹◌, maybe, optional}
-use Rattle.sql_statement.specs.Limits.{comment_limit, id_limit, largest_scn}
+use Rattle.dtx_values.specs.Limits.{comment_limit, id_limit, scn_limit}
 use Rattle.sql_statement.specs.declared.statement.Stmt.TheVariants as statements
 use Rattle.sql_parse.specs.Parts.{built, text_to}
 use Rattle.sql_parse.specs.Transactions.{plain_commit, forced_commit, commit, rollback_of, rollback, advice_in, advise, switch_in, recovery, alter, argument, is_execute, execute}
@@ -42,20 +42,20 @@ unfolding printed
 same_commit None = refl
 same_commit (Some comment) = refl
 
-prints_scn : Prints (optional (is_mark marks.Comma) (mark marks.Comma ▹ number_to largest_scn)) scn_text
-prints_scn = prints_optional (is_mark marks.Comma) (mark marks.Comma ▹ number_to largest_scn) scn_text refl
-    (prints_after (mark marks.Comma) (number_to largest_scn) (token.Mark marks.Comma ∷ []) (codes ", ") decimal refl (spaced (token.Mark marks.Comma ∷ []) (codes ",") (ended (token.Mark marks.Comma ∷ []) (codes ",") comma_written)) (prints_number largest_scn))
+prints_scn : Prints (optional (is_mark marks.Comma) (mark marks.Comma ▹ number_to scn_limit)) scn_text
+prints_scn = prints_optional (is_mark marks.Comma) (mark marks.Comma ▹ number_to scn_limit) scn_text refl
+    (prints_after (mark marks.Comma) (number_to scn_limit) (token.Mark marks.Comma ∷ []) (codes ", ") decimal refl (spaced (token.Mark marks.Comma ∷ []) (codes ",") (ended (token.Mark marks.Comma ∷ []) (codes ",") comma_written)) (prints_number scn_limit))
 
 scn_quiet : Quiet scn_text
 scn_quiet None rest h = h
 scn_quiet (Some scn) rest h = refl
 
 abbrev forced_part : Grammar (List ℕ × Option ℕ)
-forced_part = word (codes "FORCE") ▹ (text_to id_limit · optional (is_mark marks.Comma) (mark marks.Comma ▹ number_to largest_scn))
+forced_part = word (codes "FORCE") ▹ (text_to id_limit · optional (is_mark marks.Comma) (mark marks.Comma ▹ number_to scn_limit))
 
 prints_forced : Prints forced_part (λ x. codes " FORCE " ++ (quoted_text x.0 ++ scn_text x.1))
-prints_forced = prints_after (word (codes "FORCE")) (text_to id_limit · optional (is_mark marks.Comma) (mark marks.Comma ▹ number_to largest_scn)) (token.Word (codes "FORCE") ∷ []) (codes " FORCE ") (λ x. quoted_text x.0 ++ scn_text x.1) refl (inner_written (codes "FORCE") (refl, refl, refl))
-    (prints_pair (text_to id_limit) (optional (is_mark marks.Comma) (mark marks.Comma ▹ number_to largest_scn)) quoted_text scn_text (prints_text id_limit) prints_scn scn_quiet)
+prints_forced = prints_after (word (codes "FORCE")) (text_to id_limit · optional (is_mark marks.Comma) (mark marks.Comma ▹ number_to scn_limit)) (token.Word (codes "FORCE") ∷ []) (codes " FORCE ") (λ x. quoted_text x.0 ++ scn_text x.1) refl (inner_written (codes "FORCE") (refl, refl, refl))
+    (prints_pair (text_to id_limit) (optional (is_mark marks.Comma) (mark marks.Comma ▹ number_to scn_limit)) quoted_text scn_text (prints_text id_limit) prints_scn scn_quiet)
 
 same_forced : (x : List ℕ × Option ℕ) → codes "COMMIT" ++ (codes " FORCE " ++ (quoted_text x.0 ++ scn_text x.1)) ≡ printed (statements.CommitForce x.0 x.1)
 unfolding printed

@@ -10,7 +10,7 @@ use Rattle.token_grammar.specs.Exact.{IsExact, Leads}
 use Rattle.token_grammar.proofs.Beginnings.{begins-append, begins-apart, leads_word, leads_mark, leads_after, apart_words, apart_nothing, ends_all}
 use Rattle.token_grammar.proofs.OneToken.{word_exact, mark_exact, meant_exact, passed_exact, maybe_exact}
 use Rattle.token_grammar.proofs.Parts.{after, after_exact, seq, optional_exact}
-use Rattle.sql_statement.specs.Limits.{comment_limit, id_limit, largest_scn}
+use Rattle.dtx_values.specs.Limits.{comment_limit, id_limit, scn_limit}
 use Rattle.sql_statement.specs.declared.statement.Stmt.{Stmt}
 use Rattle.sql_parse.specs.Parts.{or_else, built, text_to}
 use Rattle.sql_parse.specs.Transactions.{plain_commit, forced_commit, commit, rollback_of, rollback, advice_in, advise, switch_in, recovery, alter, argument, purge, is_execute, execute}
@@ -28,11 +28,11 @@ plain_exact : IsExact plain_commit anything
 plain_exact = ends_all plain_commit _ (built_exact _ _ _ (optional_exact comment_part _ nothing (after (word_exact _) (text_exact comment_limit)) leads_comment))
 
 abbrev scn_part : Grammar ℕ
-scn_part = mark marks.Comma ▹ number_to largest_scn
+scn_part = mark marks.Comma ▹ number_to scn_limit
 
 forced_exact : IsExact forced_commit anything
 forced_exact = ends_all forced_commit _ (built_exact _ _ _ (after (word_exact _) (seq (text_exact id_limit)
-    (optional_exact scn_part _ nothing (after (mark_exact marks.Comma) (meant_exact (number_to_in largest_scn))) (leads_after (mark marks.Comma) (number_to largest_scn) _ (leads_mark marks.Comma))))))
+    (optional_exact scn_part _ nothing (after (mark_exact marks.Comma) (meant_exact (number_to_in scn_limit))) (leads_after (mark marks.Comma) (number_to scn_limit) _ (leads_mark marks.Comma))))))
 
 leads_forced : Leads forced_commit (is_word (codes "FORCE"))
 leads_forced = leads_built _ (word (codes "FORCE") ▹ (text_to id_limit · optional (is_mark marks.Comma) scn_part)) _

@@ -17,7 +17,7 @@ use Rattle.token_grammar.specs.declared.token.Token.{Token}
 use Rattle.token_grammar.specs.declared.token.Token.TheVariants as token
 use Rattle.token_grammar.specs.Steps.{begins}
 use Rattle.token_grammar.specs.Grammar.{Grammar, is_word, is_mark, word, mark, meant, identifier, number_to, ◌▹◌, commas}
-use Rattle.sql_statement.specs.Limits.{width_limit, comment_limit, id_limit, largest_scn}
+use Rattle.dtx_values.specs.Limits.{text_limit, comment_limit, id_limit, scn_limit}
 use Rattle.sql_statement.specs.declared.sum.Term.TheVariants as terms
 use Rattle.sql_statement.specs.declared.condition.Cond.TheVariants as conds
 use Rattle.sql_statement.specs.declared.statement.Stmt.{Stmt}
@@ -48,7 +48,7 @@ both false b h k = absurd cc
 -- ---- Tables.
 
 spells_width : Spells width (λ n. IsTrue (is_width n))
-spells_width n ts s = both (nat_le 1 n) (nat_le n width_limit) s.1 (spells_number width_limit n ts s.0)
+spells_width n ts s = both (nat_le 1 n) (nat_le n text_limit) s.1 (spells_number text_limit n ts s.0)
 
 abbrev HasWidthTo : Option ℕ → Type 0
 HasWidthTo text_max = IfSome text_max (λ width. IsTrue (is_width width))
@@ -210,7 +210,7 @@ spells_forced : Spells forced_commit IsWhole
 spells_forced v ts s =
     let parts = s.1.3 in
     subst IsWhole (some_is (statements.CommitForce s.0.0 s.0.1) v s.2)
-    (spells_text id_limit s.0.0 parts.0 parts.2, spells_optional (is_mark marks.Comma) (mark marks.Comma ▹ number_to largest_scn) (λ n. n ≤ largest_scn) (λ n us r. leb-true _ _ (spells_number largest_scn n r.1 r.3)) s.0.1 parts.1 parts.3)
+    (spells_text id_limit s.0.0 parts.0 parts.2, spells_optional (is_mark marks.Comma) (mark marks.Comma ▹ number_to scn_limit) (λ n. n ≤ scn_limit) (λ n us r. leb-true _ _ (spells_number scn_limit n r.1 r.3)) s.0.1 parts.1 parts.3)
 
 spells_plain : Spells plain_commit IsWhole
 spells_plain v ts s =

@@ -9,7 +9,7 @@ use Rattle.token_grammar.specs.declared.token.Token.TheVariants as token
 use Rattle.token_grammar.specs.Steps.{begins}
 use Rattle.token_grammar.specs.Grammar.{Grammar, is_word, either, word, mark, meant, identifier, name, number_to, ◌·◌, ◌▹◌, maybe, optional, many, commas, tested}
 use Rattle.sql_statement.specs.Distinct.{are_distinct, column_name}
-use Rattle.sql_statement.specs.Limits.{width_limit, column_limit}
+use Rattle.dtx_values.specs.Limits.{text_limit, column_limit}
 use Rattle.sql_parse.specs.declared.rule.Rule.{Rule}
 use Rattle.sql_parse.specs.declared.rule.Rule.TheVariants as rules
 use Rattle.sql_statement.specs.declared.statement.Stmt.{Stmt}
@@ -20,7 +20,7 @@ use Rattle.sql_parse.specs.Parts.{or_else, built, in_brackets}
 
 -- digits, from 1 on
 abbrev pub width : Grammar ℕ
-width = tested (nat_le 1) (number_to width_limit)
+width = tested (nat_le 1) (number_to text_limit)
 
 -- NUMBER | VARCHAR2 ( digits )
 unfoldable pub column_type : Grammar (Option ℕ)

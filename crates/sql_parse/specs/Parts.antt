@@ -6,7 +6,7 @@ use Rattle.token_grammar.specs.declared.mark.Mark.TheVariants as marks
 use Rattle.token_grammar.specs.declared.token.Token.{Token}
 use Rattle.token_grammar.specs.declared.token.Token.TheVariants as token
 use Rattle.token_grammar.specs.Grammar.{Grammar, mark, quoted, ◌▹◌, ◌◃◌, optional, mapped, made, tested}
-use Rattle.sql_statement.specs.Limits.{is_text_to}
+use Rattle.dtx_values.specs.Str.{is_text_to}
 
 -- ---- One of several.
 

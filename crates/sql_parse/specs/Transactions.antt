@@ -8,7 +8,7 @@ use Rattle.token_grammar.specs.declared.token.Token.{Token}
 use Rattle.token_grammar.specs.declared.token.Token.TheVariants as token
 use Rattle.token_grammar.specs.Steps.{begins}
 use Rattle.token_grammar.specs.Grammar.{Grammar, is_word, is_mark, passed, word, mark, meant, number_to, ◌·◌, ◌▹◌, maybe, optional}
-use Rattle.sql_statement.specs.Limits.{comment_limit, id_limit, largest_scn}
+use Rattle.dtx_values.specs.Limits.{comment_limit, id_limit, scn_limit}
 use Rattle.sql_statement.specs.declared.statement.Stmt.{Stmt}
 use Rattle.sql_statement.specs.declared.statement.Stmt.TheVariants as statements
 use Rattle.sql_parse.specs.Parts.{or_else, built, is_word_of, in_brackets, text_to}
@@ -22,7 +22,7 @@ plain_commit = built statements.Commit (optional (is_word (codes "COMMENT")) (wo
 -- FORCE 'text' [, digits]
 abbrev pub forced_commit : Grammar Stmt
 forced_commit = built (λ x. statements.CommitForce x.0 x.1)
-    (word (codes "FORCE") ▹ (text_to id_limit · optional (is_mark marks.Comma) (mark marks.Comma ▹ number_to largest_scn)))
+    (word (codes "FORCE") ▹ (text_to id_limit · optional (is_mark marks.Comma) (mark marks.Comma ▹ number_to scn_limit)))
 
 -- COMMIT [WORK] ([COMMENT 'text'] | FORCE 'text' [, digits])
 unfoldable pub commit : Grammar Stmt

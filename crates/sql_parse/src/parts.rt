@@ -7,7 +7,7 @@ ghost use Rattle.token_grammar.specs.Steps.{begins};
 ghost use Rattle.token_grammar.specs.Grammar as grammar;
 ghost use Rattle.sql_parse.specs.Parts as spec;
 ghost use Rattle.sql_statement.specs.Distinct as names;
-ghost use Rattle.sql_statement.specs.Limits as limits;
+ghost use Rattle.dtx_values.specs.Str as texts;
 
 use dtx_values::{Bytes, Listing, Name};
 use std::alloc::Global;
@@ -42,7 +42,7 @@ fn is_utf8(bytes: &[u8]) -> bool
 }
 
 fn is_text_to(bytes: &[u8], most: usize) -> bool
-    ensures { result ≡ limits.is_text_to most bytes.now }
+    ensures { result ≡ texts.is_text_to most bytes.now }
 {
     bytes.len() <= most && is_utf8(bytes)
 }

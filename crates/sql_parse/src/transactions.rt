@@ -4,7 +4,7 @@ ghost use Rattle.token_grammar.specs.declared.mark.Mark.TheVariants as marks;
 ghost use Rattle.token_grammar.specs.Gives.{Gives};
 ghost use Rattle.token_grammar.specs.Grammar.{meant, optional, is_word, is_mark, passed, mark, number_to, ◌▹◌};
 ghost use Rattle.sql_parse.specs.Transactions as spec;
-ghost use Rattle.sql_statement.specs.Limits.{largest_scn};
+ghost use Rattle.dtx_values.specs.Limits.{scn_limit};
 
 use crate::parts::{behind_mark, behind_word, take_text};
 use dtx_values::{Advice, Bytes};
@@ -35,7 +35,7 @@ fn take_plain_commit(alloc: Global, tokens: &[Token]) -> Result<(Stmt, &[Token])
 }
 
 fn maybe_scn(tokens: &[Token]) -> Result<(Option<u64>, &[Token]), ReadErr>
-    ensures { Gives (λ x. (x.0, x.1.now)) result ((optional (is_mark marks.Comma) (mark marks.Comma ▹ number_to largest_scn)).read tokens.now) }
+    ensures { Gives (λ x. (x.0, x.1.now)) result ((optional (is_mark marks.Comma) (mark marks.Comma ▹ number_to scn_limit)).read tokens.now) }
 {
     let Some(rest) = behind_mark(tokens, Mark::Comma) else {
         return Ok((None, tokens));

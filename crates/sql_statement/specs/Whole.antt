@@ -3,13 +3,13 @@ use Rattle.std.specs.Prelude.{◌≡◌, ◌<◌, ◌≤◌, ℕ, Bool, true, �
 use Rattle.std.specs.Int.{w64}
 use Rattle.std.specs.List.{All}
 use Rattle.dtx_values.specs.Name.{name_of}
-use Rattle.dtx_values.specs.Str.{is_text}
+use Rattle.dtx_values.specs.Str.{is_text, is_text_to}
 use Rattle.dtx_values.specs.declared.value.Value.{Value}
 use Rattle.dtx_values.specs.declared.value.Value.TheVariants as values
 use Rattle.dtx_values.specs.declared.table.Column.{Column}
 use Rattle.dtx_values.specs.declared.table.Table.{Table}
 use Rattle.sql_statement.specs.Distinct.{are_distinct, column_name}
-use Rattle.sql_statement.specs.Limits.{is_text_to, width_limit, column_limit, comment_limit, id_limit, largest_scn}
+use Rattle.dtx_values.specs.Limits.{text_limit, column_limit, comment_limit, id_limit, scn_limit}
 use Rattle.sql_statement.specs.declared.sum.Term.{Term}
 use Rattle.sql_statement.specs.declared.sum.Term.TheVariants as terms
 use Rattle.sql_statement.specs.declared.sum.Sum.{Sum}
@@ -30,7 +30,7 @@ IsTextTo most text = IsTrue (is_text_to most text)
 
 -- from 1 byte to the most that there may be
 abbrev pub is_width : ℕ → Bool
-is_width bytes = nat_le 1 bytes && nat_le bytes width_limit
+is_width bytes = nat_le 1 bytes && nat_le bytes text_limit
 
 -- a column of texts has such a width
 abbrev pub HasWidth : Column → Type 0
@@ -80,7 +80,7 @@ IsWhole (statements.Update table sets cs) = All (λ s. IsWholeSum s.to) sets × 
 IsWhole (statements.Delete table cs) = All IsWholeCond cs
 IsWhole (statements.Select list table cs for_update) = All IsWholeCond cs
 IsWhole (statements.Commit comment) = IfSome comment (IsTextTo comment_limit)
-IsWhole (statements.CommitForce id scn) = IsTextTo id_limit id × IfSome scn (λ n. n ≤ largest_scn)
+IsWhole (statements.CommitForce id scn) = IsTextTo id_limit id × IfSome scn (λ n. n ≤ scn_limit)
 IsWhole (statements.RollbackForce id) = IsTextTo id_limit id
 IsWhole (statements.PurgeMixed id) = IsTextTo id_limit id
 IsWhole (statements.PurgeLost id) = IsTextTo id_limit id

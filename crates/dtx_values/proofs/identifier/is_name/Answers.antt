@@ -4,7 +4,8 @@ use Rattle.std.specs.Prelude.{nat_le}
 use Rattle.std.specs.List.{list_all, slice_split}
 use Rattle.std.proofs.lemmas.Iterator.Search.{all_from_yields_List}
 use Rattle.std.proofs.lemmas.Iterator.Splits.{YieldsList-from_slice_split}
-use Rattle.dtx_values.specs.Name.{is_identifier, is_dot, name_limit}
+use Rattle.dtx_values.specs.Limits.{name_limit}
+use Rattle.dtx_values.specs.Name.{is_identifier, is_dot}
 use Rattle.dtx_values.proofs.identifier.is_name.Goals as goal
 
 pub returns-then-bytes-le-NAME_LIMIT : goal.returns-then-bytes-le-NAME_LIMIT
