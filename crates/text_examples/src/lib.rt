@@ -13,3 +13,5 @@ mod commands;
 mod items;
 #[cfg(test)]
 mod reports;
+#[cfg(test)]
+mod scripts;

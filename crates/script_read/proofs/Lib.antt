@@ -1,0 +1,9 @@
+mod PieceLemmas
+mod CleanLemmas
+mod HexLemmas
+mod FormLaws
+mod SpellLaws
+mod RoomLemmas
+mod RangeLaws
+mod SoundLaws
+mod ReadLemmas

@@ -1,0 +1,8 @@
+use Rattle.std.proofs.Common.{◌≡◌, take, drop}
+use Rattle.script_read.specs.Parts.{pieces_from, pieces_of}
+use Rattle.script_read.proofs.PieceLemmas.{with_front}
+use Rattle.script_read.proofs.cut.cut.Given as goal
+
+-- no command ends in what was seen so far
+abbrev pub invariant-loop-place : goal.invariant-loop-place
+invariant-loop-place l = with_front (take l.place l.bytes) (pieces_from l.part (drop l.place l.bytes)) ≡ pieces_of l.bytes

@@ -1,0 +1,10 @@
+//! What has come before a command.
+
+use dtx_values::Names;
+
+/// The nodes so far, and whether a command has come that makes none.
+#[derive(Debug, Drop)]
+pub struct Before {
+    pub names: Names,
+    pub others: bool,
+}

@@ -1,0 +1,151 @@
+//! What no clause says of scripts: each reason for which one is bad, with its line, and scripts that are good.
+use dtx_values::SCRIPT_LIMIT;
+use script_read::{Command, ScriptErr, Why, read_script};
+use std::alloc::Global;
+use wire_msg::KindName;
+
+/// The line of the first bad command and why it is bad: line 0 and `Form` where there is none; nothing where that cannot
+/// be said.
+fn verdict(alloc: Global, script: &[u8]) -> Option<(u32, Why)> {
+    if script.len() > SCRIPT_LIMIT {
+        return None;
+    }
+    match read_script(alloc, script) {
+        Ok(_commands) => Some((0, Why::Form)),
+        Err(ScriptErr::Bad { line, why }) => Some((line, why)),
+        Err(ScriptErr::NoMemory) => None,
+    }
+}
+
+/// Scripts, each with the line of its first bad command and the first reason that holds.
+const BAD: [(&[u8], u32, Why); 33] = [
+    (b"NODE A; NODE A;", 1, Why::Twice),
+    (b"NODE A;\n\x01\n;", 2, Why::Byte),
+    (b"NODE A;\n\n -- \xc3\n\n STOP A;", 5, Why::Byte),
+    (b"NODE A;\nSTOP B; -- \xff", 2, Why::Unknown),
+    (b"NODE A;\n-- fine\n-- \x7f\n", 3, Why::Byte),
+    (b"NODE A;\nAT A SESSION 1: \n '\t';", 2, Why::Byte),
+    (b"NODE A;\nAT A SESSION 1: \xa9;", 2, Why::Byte),
+    (b"NODE A;\n'\n", 2, Why::Byte),
+    (b"NODE A;\nSTOP A", 2, Why::Unended),
+    (b"NODE A;\n--;\n  '", 3, Why::Unended),
+    (b"HOLD ON;\nNODE", 2, Why::Unended),
+    (b"HOLD ON;\r\rNODE;", 1, Why::LateNode),
+    (b"NODE A; HOLD ON;\nnode 'x':;", 2, Why::LateNode),
+    (b"HOLD ON;\nNODES;", 2, Why::Form),
+    (b"\n\n;", 3, Why::Form),
+    (b"NODE A;\nCUT A A;", 2, Why::Form),
+    (b"NODE A;\nCUT B B;", 2, Why::Form),
+    (b"NODE A;\nAT A SESSION 65: COMMIT;", 2, Why::Form),
+    (b"NODE A UNDO 1 LINKS 2 UNDO 1;", 1, Why::Form),
+    (b"NODE A STRENGTH 256;", 1, Why::Form),
+    (b"NODE A LINKS 0;", 1, Why::Form),
+    (b"LOSE 4294967296;", 1, Why::Form),
+    (b"PUMP 99999999999999999999;", 1, Why::Form),
+    (b"LOSE NEXT CLOSE FROM A TO A;", 1, Why::Form),
+    (b"NODE A;\nCRASH A WRITE 1 KEEP 0;", 2, Why::Form),
+    (b"NODE A;\nFAULT A CALL 1;", 2, Why::Form),
+    (b"NODE A; NODE FROM;", 1, Why::Form),
+    (b"NODE A; NODE B;\nNODE a;", 2, Why::Twice),
+    (b"NODE A;\n\nSTOP B;", 3, Why::Unknown),
+    (b"NODE A; JOIN A\n B;", 1, Why::Unknown),
+    (b"LOSE NEXT ACK FROM A TO B;", 1, Why::Unknown),
+    (b"AT A SESSION 1: COMMIT;", 1, Why::Unknown),
+    (b"NODE A; GIVEUP AT B SESSION 1;", 1, Why::Unknown),
+];
+
+/// Scripts without a bad command.
+const GOOD: [&[u8]; 8] = [
+    b"",
+    b" \t\r\n-- done; '",
+    b"PUMP;PUMP 5;HOLD OFF;SHOW NET;",
+    b"NODE A STRENGTH 0 LINKS 64 UNDO 1024; NODE B.C;",
+    b"NODE A;--'\nAT A SESSION 64: ';' -- ;\n;",
+    b"NODE A; LOSE NEXT ready FROM A TO A; DELIVER 4294967295; AGAIN 000;",
+    b"NODE NODE; NODE AT; CUT NODE AT; SHOW PENDING AT;",
+    b"NODE A; AT A SESSION 1: \xc3\xa9;",
+];
+
+fn first_wrong(alloc: Global) -> Option<&'static [u8]> {
+    for (script, line, why) in &BAD {
+        if verdict(alloc, script) != Some((*line, *why)) {
+            return Some(*script);
+        }
+    }
+    for script in &GOOD {
+        if verdict(alloc, script) != Some((0, Why::Form)) {
+            return Some(*script);
+        }
+    }
+    None
+}
+
+#[test]
+fn tells_the_first_reason(rt: HostRuntime) {
+    assert!(rt; first_wrong(rt.alloc()).is_none());
+}
+
+/// So many NODE commands.
+fn nodes(alloc: Global, count: u8) -> Result<Vec<u8>, std::alloc::AllocError> {
+    let mut script = Vec::new(alloc);
+    for number in 0..count {
+        script.extend_from_slice(b"NODE N")?;
+        script.push(b'A' + number % 26)?;
+        script.push(b';')?;
+    }
+    Ok(script)
+}
+
+#[test]
+fn takes_16_nodes(rt: HostRuntime) {
+    let alloc = rt.alloc();
+    let sixteen = nodes(alloc, 16);
+    assert!(rt; matches!(&sixteen, Ok(script) if verdict(alloc, script) == Some((0, Why::Form))));
+    let more = nodes(alloc, 17);
+    assert!(rt; matches!(&more, Ok(script) if verdict(alloc, script) == Some((1, Why::Many))));
+}
+
+const FORMS: &[u8] = b"NODE a Undo 7; NODE b; At b\nsession 3: commit; at a session 1: ;
+    CUT a b; LOSE NEXT CommitPoint FROM b TO a; HOLD OFF; PUMP; PUMP 2; SHOW DISK b;";
+
+/// Whether these are the commands of `FORMS`.
+fn are_forms(commands: &[Command]) -> bool {
+    matches!(
+        commands,
+        [
+            Command::Node {
+                strength: 1,
+                links: 4,
+                undo: 7,
+                ..
+            },
+            Command::Node { undo: 64, .. },
+            Command::At {
+                node: 2,
+                session: 3,
+                statement: Some(_),
+            },
+            Command::At {
+                node: 1,
+                session: 1,
+                statement: None,
+            },
+            Command::Cut { a: 1, b: 2 },
+            Command::LoseNext {
+                kind: KindName::CommitPoint,
+                from: 2,
+                to: 1,
+            },
+            Command::Hold { on: false },
+            Command::Pump { most: None },
+            Command::Pump { most: Some(2) },
+            Command::ShowDisk { node: 2 },
+        ]
+    )
+}
+
+#[test]
+fn reads_each_form(rt: HostRuntime) {
+    let forms = read_script(rt.alloc(), FORMS);
+    assert!(rt; matches!(&forms, Ok(commands) if are_forms(commands.as_slice())));
+}
