@@ -13,10 +13,10 @@ use Rattle.node_rules.specs.Data.waiting
 use Rattle.node_rules.specs.Data.pending
 use Rattle.session_tree.specs.Live.{fresh_live}
 use Rattle.node_rules.specs.Ids.{decimal}
-use Rattle.node_rules.specs.Words.{same_text, one}
+use Rattle.node_rules.specs.Words.{same_text, one, set_numbered}
 use Rattle.node_rules.specs.Refusals.{ora, dtx}
 use Rattle.node_rules.specs.Records.{with_record}
-use Rattle.node_rules.specs.Sessions.{session_at, with_session, with_call, with_root, needs_rollback, no_transaction, commit_ended, commit_answer, tran_refusal}
+use Rattle.node_rules.specs.Sessions.{session_at, with_call, with_root, needs_rollback, no_transaction, commit_ended, commit_answer, tran_refusal}
 use Rattle.node_rules.specs.Calls.{statement_at, strength_of}
 use Rattle.node_rules.specs.Prepare.{collects, with_comment, root_drops, to_children}
 use Rattle.node_rules.specs.Commit.{knows_commit}
@@ -90,7 +90,7 @@ commit_call k n comment = commit_by k n (unwrap_or comment []) (session_at k.ses
 abbrev pub rollback_by : Kept → ℕ → Option Branch → Deed
 rollback_by k n None = did k n dones.RolledBack
 rollback_by k n (Some x) = record {
-  after = record (without_branch k x.live.me) { sessions = with_session k.sessions n (no_transaction (session_at k.sessions n)) };
+  after = record (without_branch k x.live.me) { sessions = set_numbered k.sessions n (no_transaction (session_at k.sessions n)) };
   wrote = None;
   says = to_children x.live kinds.Rollback;
   ended = (record { session = n; answer = answers.Did dones.RolledBack 0 }) ∷ [];
@@ -122,7 +122,7 @@ create_synonym k n y = if is_used k.stored.durable y.name then refuses k n (ora 
 
 -- ALTER SESSION ADVISE
 abbrev pub advise : Kept → ℕ → Option Advice → Deed
-advise k n a = did (record k { sessions = with_session k.sessions n (record (session_at k.sessions n) { advice = a }) }) n dones.SessionAltered
+advise k n a = did (record k { sessions = set_numbered k.sessions n (record (session_at k.sessions n) { advice = a }) }) n dones.SessionAltered
 
 -- ALTER SYSTEM ENABLE or DISABLE DISTRIBUTED RECOVERY
 abbrev pub set_recovery : Kept → ℕ → Bool → Deed

@@ -1,4 +1,5 @@
--- What a node keeps from turn to turn, and what one turn does.
+-- What a node keeps from turn to turn, and what one turn does. (Database Administrator's Guide, "Distributed Transactions
+-- Concepts".)
 pub use Rattle.redo_record.specs.Kept.{stands_at}
 use Rattle.std.specs.Prelude.{ℕ, List, [], ◌∷◌, map, max, Option, Some, None}
 use Rattle.node_rules.specs.Data.{BranchId, RedoRecord, Standing, Durable, Live, Kind, Msg, Owned, Doubt, ChangeSet, Work, Opening, Session, Finished, Post, Answer}
@@ -72,23 +73,23 @@ abbrev pub to_one : BranchId → Kind → Option BranchId → List Post
 to_one from kind None = []
 to_one from kind (Some to) = post from to kind
 
--- items by their branch
+-- a live branch's id
 abbrev pub live_id : Live → BranchId
 live_id l = l.me
 
--- the calls of this branch
+-- the branch whose calls these are
 abbrev pub work_id : Work → BranchId
 work_id w = w.branch
 
--- the changes of this branch
+-- the branch whose changes these are
 abbrev pub own_id : Owned → BranchId
 own_id o = o.branch
 
--- what this branch holds back
+-- the branch that is in doubt
 abbrev pub doubt_id : Doubt → BranchId
 doubt_id d = d.branch
 
--- the row of this branch
+-- the branch of a kept row
 abbrev pub standing_id : Standing → BranchId
 standing_id s = s.me
 

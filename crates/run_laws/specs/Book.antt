@@ -99,7 +99,7 @@ doubt_in book n _ = []
 unfoldable pub in_doubt : List Entry → ℕ → List BranchId
 in_doubt book n = flat_map (doubt_in book n) book
 
--- the decision of a transaction
+-- whether an entry is the decision of this transaction
 abbrev pub is_decision_on : BranchId → Entry → Bool
 is_decision_on g (entries.Decided b h cs n) = same h g
 is_decision_on g _ = false
@@ -121,7 +121,7 @@ global_in b [] = None
 global_in b (entries.Sealed c g cs n ∷ es) = if same c b then Some g else global_in b es
 global_in b (_ ∷ es) = global_in b es
 
--- a rollback that a branch of the transaction learned
+-- whether a sealed branch is of this transaction
 abbrev pub is_of : Option BranchId → BranchId → Bool
 is_of None g = false
 is_of (Some h) g = same h g

@@ -1,13 +1,13 @@
 -- The session tree of a transaction at a moment, the weights in it, the walk to its commit point site, and the plan of a
 -- COMMIT that is accepted then. (Database Administrator's Guide, "Distributed Transactions Concepts": session trees, commit
 -- point site, commit point strength.)
-use Rattle.std.specs.Prelude.{ℕ, zero, suc, Bool, true, false, if◌then◌else◌, List, [], ◌∷◌, map, flat_map, slice_get, is_some, Option, Some, None}
+use Rattle.std.specs.Prelude.{ℕ, zero, suc, Bool, if◌then◌else◌, List, [], ◌∷◌, map, flat_map, slice_get, is_some, Option, Some, None}
 use Rattle.node_rules.specs.Data.{BranchId, Place, Walk}
 use Rattle.node_rules.specs.Data.walks
 use Rattle.node_rules.specs.Words.{same}
 use Rattle.session_tree.specs.Tree.{place_of_greatest, weight_by, walk_by, most_depth}
 use Rattle.run_laws.specs.Facts.{place_at}
-use Rattle.run_laws.specs.Branches.{Seen, Trail, Plan, Planned, seen_at, own_at, children_at}
+use Rattle.run_laws.specs.Branches.{Seen, Trail, Plan, Planned, seen_at, own_at, children_at, is_among}
 
 -- whether a branch has changes
 abbrev pub has_changes : Trail → BranchId → Bool
@@ -75,14 +75,9 @@ next_on b [] = None
 next_on b (c ∷ []) = None
 next_on b (c ∷ d ∷ cs) = if same c b then Some d else next_on b (d ∷ cs)
 
--- whether a branch is on a walk
-abbrev pub is_on : BranchId → List BranchId → Bool
-is_on b [] = false
-is_on b (c ∷ cs) = if same c b then true else is_on b cs
-
 -- the neighbour toward the site: the next on the walk, and off it the parent
 abbrev pub toward_by : List BranchId → BranchId → Option BranchId → Option BranchId
-toward_by path b parent = if is_on b path then next_on b path else parent
+toward_by path b parent = if is_among b path then next_on b path else parent
 
 -- the parent of a branch that began
 abbrev pub parent_of : Option Seen → Option BranchId
