@@ -1,4 +1,5 @@
--- A live branch and its children.
+-- A live branch and its children, the session tree of the Database Administrator's Guide, "Distributed Transactions
+-- Concepts".
 use Rattle.std.specs.Prelude.{ℕ, Bool, false, List, [], map, position, slice_get, option_map, Option, Some, None}
 use Rattle.std.specs.Str.{bytes_eq}
 use Rattle.tran_ids.specs.declared.branch.BranchId.{BranchId}
@@ -28,7 +29,7 @@ fresh_live me root parent depth strength = record {
   comment = [];
 }
 
--- a new child: it has told its strength alone
+-- a new child: only its strength is known
 abbrev pub new_edge : BranchId → List ℕ → ℕ → Edge
 new_edge peer link strength = record { peer = peer; link = link; strength = strength; weight = None; count = 1; vote = votes.Unasked }
 
@@ -36,7 +37,7 @@ new_edge peer link strength = record { peer = peer; link = link; strength = stre
 abbrev pub children_of : Live → List BranchId
 children_of l = map (λ e. e.peer) l.edges
 
--- the place of the child that a link leads to, where it was used before
+-- the place of the child that a link leads to, where the link was used before
 abbrev pub edge_by_link : Live → List ℕ → Option ℕ
 edge_by_link l link = position (λ e. bytes_eq e.link link) l.edges
 

@@ -1,7 +1,7 @@
 //! What a branch does next in its prepare phase.
 ghost use Rattle.std.specs.Prelude.{◌≡◌};
 
-/// One step of the walk to the commit point site.
+/// One step of the walk to the commit point site, which begins at the root.
 #[derive(Clone, Copy, Debug, PartialEq, Eq)]
 pub enum Walk {
     /// The branch is the site.
@@ -12,7 +12,7 @@ pub enum Walk {
     Nowhere,
 }
 
-/// What a branch does once it has heard a COMMIT, a Prepare, an answer or CommitPoint.
+/// What a branch does next after a COMMIT, a Prepare, the answer of a child, or CommitPoint.
 #[derive(Clone, Copy, Debug, PartialEq, Eq)]
 pub enum Act {
     /// It waits for further answers.

@@ -1,7 +1,6 @@
 //! A live branch and its place in the session tree, as plain data.
 //!
-//! The weight of a branch, the walk to the commit point site and the room in a tree are defined among the rules of a
-//! node.
+//! `specs/Tree.antt` defines the weight of a branch, the walk to the commit point site, and the room in a tree.
 #![tactic(auto)]
 
 mod act;
