@@ -148,7 +148,7 @@ impl Durable {
         }
     }
 
-    /// What the records of a node leave, oldest first. It fails where memory runs out.
+    /// What the records of a node leave, oldest first. Fails where memory runs out.
     pub fn of(alloc: Global, records: &[RedoRecord]) -> Result<Durable, AllocError>
         ensures { IfOk result (λ left. left ≡ durable records.now) }
     {
@@ -159,7 +159,7 @@ impl Durable {
         Ok(left)
     }
 
-    /// Takes one more record of the node in. It fails where memory runs out, and then nothing changes.
+    /// Takes one more record of the node in. Fails where memory runs out, and then nothing changes.
     #[tactic(auto, unfolding(crate::specs::Durable::durable_after))]
     pub fn apply(&mut self, alloc: Global, item: &RedoRecord) -> Result<(), AllocError>
         ensures ok { OnOk result (self.new ≡ durable_after self.old item.now) }

@@ -23,9 +23,9 @@ use crate::finished::Finished;
 use crate::machine::Machine;
 use crate::records::records;
 use block_disk::Disk;
-use redo_record::RedoRecord;
 use redo_codec::{encode, records_are_exact};
 use redo_log::{Bodies, LoadErr, LoadWhy, Log, LogErr};
+use redo_record::RedoRecord;
 use sole_node::Input;
 use std::alloc::{AllocError, Global};
 
