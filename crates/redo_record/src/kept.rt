@@ -11,7 +11,8 @@ use crate::{Decision, RedoRecord, Standing, State};
 use std::alloc::{AllocError, Global};
 use tran_ids::BranchId;
 
-/// Makes of the rows what is left of them after one more record. Where memory runs out, they stay as they are.
+/// Makes of the rows what is left of them after one more record. Fails where memory runs out, and then they stay as
+/// they are.
 #[tactic(auto, unfolding(crate::specs::Kept::kept_after))]
 pub fn apply_record(
     kept: &mut Vec<Standing>,

@@ -55,8 +55,8 @@ fn runs(alloc: Global) -> Result<Vec<u8>, AllocError> {
 /// Two lists, behind a count of one byte and of four.
 fn lists(alloc: Global) -> Result<Vec<u8>, AllocError> {
     let mut out = Vec::new(alloc);
-    put_list_u8(&mut out, &[true, false])?;
-    put_list_u32(&mut out, &[Some(9_u8), None])?;
+    put_list_u8::<bool>(&mut out, &[true, false])?;
+    put_list_u32::<Option<u8>>(&mut out, &[Some(9), None])?;
     Ok(out)
 }
 
@@ -273,5 +273,5 @@ fn refuses_a_byte(alloc: Global) -> bool {
 fn values_are_read_and_written_by_their_formats(rt: HostRuntime) {
     assert!(rt; reads_a_number(rt.alloc()) == Ok(true));
     assert!(rt; refuses_a_byte(rt.alloc()));
-    assert!(rt; is(&write_whole(rt.alloc(), &Some(7_u8)), &[1, 7]));
+    assert!(rt; is(&write_whole::<Option<u8>>(rt.alloc(), &Some(7)), &[1, 7]));
 }
