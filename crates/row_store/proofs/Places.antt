@@ -6,21 +6,18 @@ use Rattle.std.specs.Cow.{cow_value}
 use Rattle.std.specs.declared.borrow.Cow.TheVariants.{Owned}
 use Rattle.std.specs.Map.{lookup}
 use Rattle.std.specs.Option.{option_map}
-use Rattle.std.specs.Ordering.{is_eq}
-use Rattle.std.specs.declared.cmp.Ordering.{Ordering}
 use Rattle.std.specs.Str.{bytes_eq}
 use Rattle.dtx_values.specs.declared.value.Value.{Value}
 use Rattle.dtx_values.specs.declared.row.Change.{Change}
 use Rattle.dtx_values.specs.contracts.value.ValuePartialEq.TheImpl as of_value
-use Rattle.dtx_values.specs.contracts.value.ValueOrd.TheImpl.Laws.{matches_eq-law}
-use Rattle.dtx_values.proofs.RowLookups.{derived_is}
-use Rattle.sql_eval.specs.Rows.{same_value, change_length}
+use Rattle.dtx_values.specs.Order.{same_value}
+use Rattle.sql_eval.specs.Rows.{change_length}
 use Rattle.row_store.specs.declared.changed_key.ChangedKey.{ChangedKey}
 use Rattle.row_store.specs.contracts.changed_key.ChangedKeyPartialEq.TheImpl as of_key
 use Rattle.row_store.specs.contracts.changed_key.ChangedKeyEq.TheImpl.Laws.{laws-law}
 use Rattle.row_store.specs.Own.{is_change_of, last_at, changes_length}
 use Rattle.row_store.specs.Kept.{is_key, place_at, last_place, after_at, IsKept}
-use Rattle.sql_eval.proofs.ValueOrder.{same_is}
+use Rattle.dtx_values.proofs.ValueOrder.{derived_same, same_is}
 
 -- ---- the bytes
 
@@ -39,7 +36,7 @@ abbrev pub found_as : ChangedKey → ChangedKey → Bool
 found_as = of_key.eq-value.it
 
 values_are : (a b : Value) → of_value.eq-value.it a b ≡ same_value b a
-values_are a b = matches_eq-law a b ∙ ap (λ (R : Value → Value → Ordering). is_eq (R a b)) derived_is ∙ same_is b a
+values_are a b = derived_same a b ∙ same_is b a
 
 found_is : (q k : ChangedKey) → found_as q k ≡ is_key (cow_value q.table) (cow_value q.key) k
 found_is q k =

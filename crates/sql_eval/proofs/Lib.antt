@@ -4,11 +4,10 @@ mod FindLemmas
 pub mod KeyLaws
 mod ListLemmas
 pub mod MadeLemmas
-mod OrderLemmas
+mod PutLemmas
 mod RangeLemmas
 pub mod RowLaws
 mod SetLemmas
 pub mod StayLaws
 pub mod TableLaws
 mod ZipLemmas
-pub mod ValueOrder

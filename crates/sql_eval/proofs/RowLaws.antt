@@ -9,7 +9,7 @@ use Rattle.sql_eval.specs.Data.{Value, Row, Change, Column, Table, Keyed, Set, S
 use Rattle.sql_eval.specs.Data.values
 use Rattle.sql_eval.specs.Data.stmts
 use Rattle.sql_eval.specs.Words.{first_some, same_text}
-use Rattle.sql_eval.specs.Rows.{is_null}
+use Rattle.dtx_values.specs.Order.{is_null}
 use Rattle.sql_eval.specs.Columns.{column_of, given_columns, key_of_row, place_of, statement_fits}
 use Rattle.sql_eval.specs.Refusals.{dtx, else_refuse, refuse_if}
 use Rattle.sql_eval.specs.Meaning.{cell_null, cells_of, checked, column_refusal, given_value, ill_cells, ill_inserted, ill_values, inserted_cells, insertion, miscounted, set_all, set_one, set_value, sets_key, sum_value, unknown_column}

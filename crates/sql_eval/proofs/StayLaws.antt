@@ -8,7 +8,7 @@ use Rattle.sql_eval.specs.Data.{Value, Row, Change, Column, Table, Keyed, Set, S
 use Rattle.sql_eval.specs.Data.values
 use Rattle.sql_eval.specs.Data.stmts
 use Rattle.sql_eval.specs.Words.{same_text}
-use Rattle.sql_eval.specs.Rows.{is_null}
+use Rattle.dtx_values.specs.Order.{is_null}
 use Rattle.sql_eval.specs.Columns.{is_key, is_named, key_of_row, place_of, column_of}
 use Rattle.sql_eval.specs.Meaning.{column_refusal, row_unless, set_all, set_cell, set_one, set_value, sets_key, sum_value, too_long}
 use Rattle.sql_eval.specs.Laws.{HasOneKey, key_place, StaysKeyed}

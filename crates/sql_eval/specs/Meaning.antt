@@ -13,7 +13,8 @@ use Rattle.sql_eval.specs.Data.dones
 use Rattle.sql_eval.specs.Data.meants
 use Rattle.tran_ids.specs.Numbers.{decimal}
 use Rattle.sql_eval.specs.Words.{same_text, one, first_some}
-use Rattle.sql_eval.specs.Rows.{is_null, value_below, same_value, get, keys_of, keys_in_order}
+use Rattle.dtx_values.specs.Order.{is_null, value_below, same_value}
+use Rattle.sql_eval.specs.Rows.{get, keys_of, keys_in_order}
 use Rattle.sql_eval.specs.Columns.{cell, column_of, given_columns, is_key, key_of_row, named_columns, place_of, same_bool, statement_fits}
 use Rattle.sql_eval.specs.Refusals.{dtx, else_refuse, ora, refuse_if}
 

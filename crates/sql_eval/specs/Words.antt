@@ -1,16 +1,10 @@
 -- Words on texts and lists.
-use Rattle.std.specs.Prelude.{ℕ, ◌==◌, ◌&&◌, ◌||◌, Bool, true, false, List, [], ◌∷◌, Option, Some, None, nat_lt}
+use Rattle.std.specs.Prelude.{ℕ, Bool, List, [], ◌∷◌, Option, Some, None}
 use Rattle.std.specs.Str.{bytes_eq}
 
 -- two texts, byte for byte
 abbrev pub same_text : List ℕ → List ℕ → Bool
 same_text a b = bytes_eq a b
-
--- of two texts the first, by their bytes
-abbrev pub text_below : List ℕ → List ℕ → Bool
-text_below xs [] = false
-text_below [] (y ∷ ys) = true
-text_below (x ∷ xs) (y ∷ ys) = nat_lt x y || ((x == y) && text_below xs ys)
 
 -- a list of one item
 abbrev pub one : {A : Type 0} → A → List A

@@ -7,11 +7,10 @@ ghost use Rattle.sql_eval.specs.Meaning.{given_value as given_value_of, inserted
 
 use crate::Meant;
 use crate::column::{copy_or_null, key_of_row};
-use crate::order::is_null;
 use crate::refusal::{of_column, of_name, of_width};
 use crate::sum::sum_value;
 use dtx_values::{
-    Change, Column, Done, Duplicate, Listing, Name, Names, Refusal, Row, Table, Value,
+    Change, Column, Done, Duplicate, Listing, Name, Names, Refusal, Row, Table, Value, is_null,
 };
 use sql_statement::Sum;
 use std::alloc::{AllocError, Global};

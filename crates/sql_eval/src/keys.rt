@@ -10,9 +10,8 @@ use crate::Keyed;
 use crate::column::{copy_or_null, is_key, key_of_row};
 use crate::condition::{conds_of, found};
 use crate::insert::{cells_of, inserted_cells};
-use crate::order::is_null;
 use crate::rows::{keys_in_order, keys_of};
-use dtx_values::{Duplicate, Names, Table, Value};
+use dtx_values::{Duplicate, Names, Table, Value, is_null};
 use sql_statement::{Cond, Sign, Stmt, Sum};
 use std::alloc::{AllocError, Global};
 

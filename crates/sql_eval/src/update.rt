@@ -8,11 +8,10 @@ use crate::Keyed;
 use crate::checking::OUT_OF_RANGE;
 use crate::column::{column_of, place_of};
 use crate::insert::too_long;
-use crate::order::is_null;
 use crate::refusal::{of_column, plain};
 use crate::sql_err::SqlErr;
 use crate::sum::sum_value;
-use dtx_values::{Change, Changes, Column, Duplicate, Listing, Row, Table, Value};
+use dtx_values::{Change, Changes, Column, Duplicate, Listing, Row, Table, Value, is_null};
 use sql_statement::Set;
 use std::alloc::{AllocError, Global};
 
