@@ -10,7 +10,7 @@ use Rattle.dtx_values.specs.declared.row.Change.{Change}
 use Rattle.dtx_values.specs.Order.{value_cmp}
 use Rattle.dtx_values.proofs.RowLookups.{values_total}
 use Rattle.sql_eval.specs.declared.keyed.Keyed.{Keyed}
-use Rattle.sql_eval.specs.Words.{same_text}
+use Rattle.sql_check.specs.Words.{same_text}
 use Rattle.dtx_values.specs.Order.{same_value, value_below}
 use Rattle.sql_eval.specs.Rows.{put, without, set_to, change_one, apply, keys_of}
 use Rattle.dtx_values.proofs.ValueOrder.{same_is, equal_from_same, below_less, apart_less}

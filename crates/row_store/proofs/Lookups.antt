@@ -4,7 +4,7 @@ use Rattle.dtx_values.specs.declared.value.Value.{Value}
 use Rattle.dtx_values.specs.declared.row.Row.{Row}
 use Rattle.dtx_values.specs.declared.row.Change.{Change}
 use Rattle.sql_eval.specs.declared.keyed.Keyed.{Keyed}
-use Rattle.sql_eval.specs.Words.{same_text}
+use Rattle.sql_check.specs.Words.{same_text}
 use Rattle.dtx_values.specs.Order.{same_value, value_below}
 use Rattle.sql_eval.specs.Rows.{get, put, without, set_to, change_one, apply}
 use Rattle.row_store.specs.Own.{is_change_of, last_at}

@@ -13,7 +13,7 @@ use Rattle.indexmap.proofs.MapLemmas.{insert_entry-first, Found-position}
 use Rattle.indexmap.proofs.CallerLemmas.{insert_entry-new}
 use Rattle.dtx_values.specs.declared.row.Change.{Change}
 use Rattle.sql_eval.specs.declared.keyed.Keyed.{Keyed}
-use Rattle.sql_eval.specs.Words.{same_text}
+use Rattle.sql_check.specs.Words.{same_text}
 use Rattle.sql_eval.specs.Rows.{set_to}
 use Rattle.row_store.specs.Named.{table_of, tables_of, AreInOrder}
 use Rattle.row_store.specs.Tables.{TableRows, apply_to, apply_all, rows_of_table, with_table}

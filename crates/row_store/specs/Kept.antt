@@ -6,7 +6,7 @@ use Rattle.std.specs.Option.{option_map}
 use Rattle.dtx_values.specs.declared.value.Value.{Value}
 use Rattle.dtx_values.specs.declared.row.Row.{Row}
 use Rattle.dtx_values.specs.declared.row.Change.{Change}
-use Rattle.sql_eval.specs.Words.{same_text}
+use Rattle.sql_check.specs.Words.{same_text}
 use Rattle.dtx_values.specs.Order.{same_value}
 use Rattle.row_store.specs.declared.changed_key.ChangedKey.{ChangedKey}
 use Rattle.row_store.specs.Own.{is_change_of, changes_length}

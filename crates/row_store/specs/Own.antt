@@ -4,7 +4,7 @@ use Rattle.dtx_values.specs.declared.value.Value.{Value}
 use Rattle.dtx_values.specs.declared.row.Row.{Row}
 use Rattle.dtx_values.specs.declared.row.Change.{Change}
 use Rattle.sql_eval.specs.declared.keyed.Keyed.{Keyed}
-use Rattle.sql_eval.specs.Words.{same_text}
+use Rattle.sql_check.specs.Words.{same_text}
 use Rattle.dtx_values.specs.Order.{same_value}
 use Rattle.sql_eval.specs.Rows.{get, apply, change_length}
 use Rattle.row_store.specs.Tables.{TableRows, rows_of_table}

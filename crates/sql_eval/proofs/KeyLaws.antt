@@ -6,11 +6,12 @@ use Rattle.sql_eval.specs.Data.signs
 use Rattle.sql_eval.specs.Data.conds
 use Rattle.sql_eval.specs.Data.stmts
 use Rattle.sql_eval.specs.Data.dones
-use Rattle.sql_eval.specs.Words.{first_some}
+use Rattle.sql_check.specs.Words.{first_some}
 use Rattle.dtx_values.specs.Order.{same_value}
 use Rattle.sql_eval.specs.Rows.{get, keys_of}
-use Rattle.sql_eval.specs.Columns.{is_key, key_of_row, cell}
-use Rattle.sql_eval.specs.Meaning.{cells_of, changing, conds_of, deleted, fixes, holds, inserted_cells, inserting, meant_over, picked, satisfies, updated, written}
+use Rattle.sql_check.specs.Columns.{is_key, key_of_row, cell}
+use Rattle.sql_check.specs.Inserted.{cells_of, inserted_cells}
+use Rattle.sql_eval.specs.Meaning.{changing, conds_of, deleted, fixes, holds, inserting, meant_over, picked, satisfies, updated, written}
 use Rattle.sql_eval.specs.Laws.{AreKeyed, HasOneKey, at_key, FoundAtKey, WrittenAtKey, MeantAtKey}
 
 left : (a b : Bool) → (a && b) ≡ true → a ≡ true

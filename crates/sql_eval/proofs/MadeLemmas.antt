@@ -9,8 +9,9 @@ use Rattle.sql_eval.specs.Data.picks
 use Rattle.sql_eval.specs.Data.dones
 use Rattle.sql_eval.specs.Data.meants
 use Rattle.sql_eval.specs.Rows.{get, keys_of}
-use Rattle.sql_eval.specs.Columns.{cell, key_of_row}
-use Rattle.sql_eval.specs.Meaning.{and_updated, cells_of, change_to, changing, deleted, inserted_cells, inserting, insertion, meant_over, picked, removal, satisfies, set_all, summed, summed_set, update, updated, written}
+use Rattle.sql_check.specs.Columns.{cell, key_of_row}
+use Rattle.sql_check.specs.Inserted.{cells_of, inserted_cells}
+use Rattle.sql_eval.specs.Meaning.{and_updated, change_to, changing, deleted, inserting, insertion, meant_over, picked, removal, satisfies, set_all, summed, summed_set, update, updated, written}
 use Rattle.sql_eval.specs.Laws.{ChangesAreOfWritten, CountIsLength}
 use Rattle.sql_eval.proofs.EachLemmas.{filter-each}
 

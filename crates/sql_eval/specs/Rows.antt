@@ -3,7 +3,7 @@ use Rattle.std.specs.Prelude.{ℕ, ◌+◌, not, if◌then◌else◌, List, [], 
 use Rattle.dtx_values.specs.Order.{value_below, same_value}
 use Rattle.sql_eval.specs.Data.{Value, Row, Change, Keyed}
 use Rattle.sql_eval.specs.Data.values
-use Rattle.sql_eval.specs.Words.{same_text}
+use Rattle.sql_check.specs.Words.{same_text}
 
 -- the row at a key
 abbrev pub get : List Keyed → Value → Option Row

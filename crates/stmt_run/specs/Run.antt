@@ -14,9 +14,10 @@ use Rattle.sql_statement.specs.declared.statement.Stmt.{Stmt}
 use Rattle.sql_eval.specs.declared.keyed.Keyed.{Keyed}
 use Rattle.sql_eval.specs.declared.meant.Meant.{Meant}
 use Rattle.sql_eval.specs.declared.meant.Meant.TheVariants as meants
-use Rattle.sql_eval.specs.Words.{one, first_some}
-use Rattle.sql_eval.specs.Refusals.{ora, dtx, else_refuse, refuse_if}
-use Rattle.sql_eval.specs.Meaning.{checked, examined, written, meant_over}
+use Rattle.sql_check.specs.Words.{one, first_some}
+use Rattle.sql_check.specs.Refusals.{ora, dtx, else_refuse, refuse_if}
+use Rattle.sql_check.specs.Checks.{checked}
+use Rattle.sql_eval.specs.Meaning.{examined, written, meant_over}
 use Rattle.row_locks.specs.Locks.{Lock, keys_held, taken}
 use Rattle.row_locks.specs.Held.{doubt_on, hold_on}
 use Rattle.row_store.specs.Own.{Own, with_changes, changes_length, undo_length, extents}
