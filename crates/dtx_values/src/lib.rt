@@ -2,6 +2,8 @@
 //!
 //! Contracts see a list as the list of its items, a name and a text as their bytes, and a table's rows as a finite map,
 //! so that any two values of these types can be compared by what they say.
+//!
+//! A call that returns an `AllocError` fails where memory runs out.
 #![tactic(auto)]
 
 mod advice;

@@ -1,4 +1,4 @@
--- What the map of locks does, told by the list of locks.
+-- What the map of locks does, as the list of locks says it.
 use Rattle.std.proofs.Common.{◌≡◌, ℕ, Bool, true, false, ◌&&◌, cond, List, [], ◌∷◌, map, filter, find, position, Option, None, Some, refl, ap, sym, subst, ◌∙◌, true≢false, is_some}
 use Rattle.std.specs.Cow.{cow_value}
 use Rattle.std.specs.Map.{lookup, keys_of}

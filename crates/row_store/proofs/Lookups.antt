@@ -24,7 +24,7 @@ swapped true false x y z apart = refl
 swapped false b x y z apart = refl
 
 module _ (k q : Value) where
-  -- the row at another key of the same value, of which there is one more
+  -- the row at another key of the same value, one more of it
   same_again : (r : Keyed) (x more : Option Row) → same_value r.key k ≡ true → cond (same_value k q) x (cond (same_value r.key q) (Some r.row) more) ≡ cond (same_value k q) x more
   same_again r x more same =
       ap (λ (p : Value). cond (same_value k q) x (cond (same_value p q) (Some r.row) more)) (equal_from_same r.key k same) ∙ twice (same_value k q) x (Some r.row) more

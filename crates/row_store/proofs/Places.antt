@@ -11,6 +11,7 @@ use Rattle.dtx_values.specs.declared.value.Value.{Value}
 use Rattle.dtx_values.specs.declared.row.Change.{Change}
 use Rattle.dtx_values.specs.contracts.value.ValuePartialEq.TheImpl as of_value
 use Rattle.dtx_values.specs.Order.{same_value}
+use Rattle.dtx_values.specs.Limits.{changes_limit}
 use Rattle.sql_eval.specs.Rows.{change_length}
 use Rattle.row_store.specs.declared.changed_key.ChangedKey.{ChangedKey}
 use Rattle.row_store.specs.contracts.changed_key.ChangedKeyPartialEq.TheImpl as of_key
@@ -26,7 +27,7 @@ few_changes : (cs : List Change) → length cs ≤ changes_length cs
 few_changes [] = omega arith
 few_changes (c ∷ cs) = omega (arith, few_changes cs, sum_by-cons change_length c cs)
 
-pub few_kept : (places : List (ChangedKey × ℕ)) (cs : List Change) (bytes : ℕ) → IsKept places cs bytes → length cs ≤ 8388608
+pub few_kept : (places : List (ChangedKey × ℕ)) (cs : List Change) (bytes : ℕ) → IsKept places cs bytes → length cs ≤ changes_limit
 few_kept places cs bytes kept = omega (arith, few_changes cs, kept.few)
 
 -- ---- how the map finds a key
@@ -113,7 +114,7 @@ module _ (k : ChangedKey) (c : Change) (tables : cow_value k.table ≡ c.table) 
 
   pub kept_more : (es fs : List (ChangedKey × ℕ)) (cs : List Change) (bytes more : ℕ) → IsKept es cs bytes
       → ((q : ChangedKey) → lookup (found_as q) fs ≡ cond (found_as k q) (Some (length cs)) (lookup (found_as q) es))
-      → more ≡ change_length c → changes_length (cs ++ c ∷ []) ≤ 8388608 → IsKept fs (cs ++ c ∷ []) (bytes + more)
+      → more ≡ change_length c → changes_length (cs ++ c ∷ []) ≤ changes_limit → IsKept fs (cs ++ c ∷ []) (bytes + more)
   kept_more es fs cs bytes more kept given length few = record {
     indexed = indexed_more es fs cs given kept.indexed;
     counted = (λ i. kept.counted i + length i) ∙ sym (sum_by_push change_length cs c);

@@ -23,9 +23,9 @@ use crate::finished::Finished;
 use crate::machine::Machine;
 use crate::records::records;
 use block_disk::Disk;
-use redo_record::RedoRecord;
 use redo_codec::{encode, records_are_exact};
 use redo_log::{Bodies, LoadErr, LoadWhy, Log, LogErr};
+use redo_record::RedoRecord;
 use sole_node::Input;
 use std::alloc::{AllocError, Global};
 
@@ -33,7 +33,7 @@ use std::alloc::{AllocError, Global};
 #[derive(Drop)]
 pub struct Node<D: Disk> {
     alloc: Global,
-    /// Its undo space, in extents of 4,096 bytes.
+    /// Its undo space, in extents.
     undo: u32,
     machine: Machine,
     log: Log<D>,

@@ -2,7 +2,7 @@
 //!
 //! The columns that a statement names, the types that it gives them, and the values of an INSERT are known from the
 //! statement and its table alone. What is wrong with them is one refusal, the first in a fixed order. Each function computes
-//! the definition of its name in specs/.
+//! the definition of its name in specs/, and fails where memory runs out.
 //!
 //! The types are NUMBER, here of 64 bits, and VARCHAR2; the rules are those of the SQL Language Reference ("Data Type
 //! Comparison Rules", "Arithmetic Operators", "INSERT", "UPDATE").

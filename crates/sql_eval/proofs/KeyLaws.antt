@@ -32,7 +32,7 @@ key_cell : (t : Table) (r : Keyed) (name : List ℕ) → HasOneKey t → key_of_
 key_cell t r name one keyed is =
     ap (λ (place : Option ℕ). unwrap_or (slice_get r.row.cells (unwrap_or place (length r.row.cells))) values.Null) ((one name).0 is) ∙ keyed
 
--- a row of which a condition is true has the key that this condition fixes
+-- a row that satisfies a condition has the key that the condition fixes
 fixes-holds : (t : Table) (r : Keyed) (c : Cond) (key : Value) → HasOneKey t → key_of_row t r.row.cells ≡ r.key → fixes t c ≡ Some key → holds t r.row c ≡ true → same_value r.key key ≡ true
 fixes-holds t r (conds.Compare column signs.Eq literal) key one keyed fixed true_of =
     let test = given _ _ _ fixed in

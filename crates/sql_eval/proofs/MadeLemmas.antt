@@ -19,7 +19,7 @@ use Rattle.sql_eval.proofs.EachLemmas.{filter-each}
 abbrev pub setting : Table → Value → Row → Change
 setting t key row = record { table = t.name; key = key; after = Some row }
 
--- what a statement makes of one row of which R holds is so
+-- what a statement makes of one row that satisfies R is so
 abbrev pub Makes : (Change → Type 0) → (Keyed → Type 0) → Table → Stmt → Type 0
 Makes Q R t (stmts.Insert table columns given) = Q (insertion t (cells_of (inserted_cells t columns given)))
 Makes Q R t (stmts.Update table sets cs) = (r : Keyed) (row : Row) → R r → set_all t r.row (Ok r.row) sets ≡ Ok row → Q (setting t r.key row)

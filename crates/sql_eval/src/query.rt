@@ -14,7 +14,7 @@ use sql_check::{OUT_OF_RANGE, cell, copy_or_null, plain, plus};
 use sql_statement::Picked;
 use std::alloc::{AllocError, Global};
 
-// The total with one value more, of which NULL adds nothing.
+// The total with one value more. NULL adds nothing.
 fn sum_with(total: Value, value: Option<&Value>) -> Option<Value>
     ensures { result ≡ sum_with_of total (or_null (option_copied value.entry)) }
 {

@@ -1,8 +1,7 @@
 use Rattle.std.proofs.Common.{◌∷◌, is_none, find, flat_map, drop, ◌+◌, Option, List, ℕ, refl, sym, ap, ◌∙◌}
 use Rattle.std.specs.Option.{option_copied}
 use Rattle.sql_check.specs.Columns.{place_of as place_in, sum_columns}
-use Rattle.sql_check.proofs.FindLemmas.{or_else_of}
-use Rattle.sql_check.proofs.FindLemmas.{find-step}
+use Rattle.sql_check.proofs.FindLemmas.{or_else_of, find-step}
 use Rattle.sql_check.proofs.naming.unknown_in_sets.Goals as goal
 
 pub returns-in-Some : goal.returns-in-Some

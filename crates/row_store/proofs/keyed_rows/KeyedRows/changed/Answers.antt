@@ -1,7 +1,7 @@
 use Rattle.std.proofs.Common.{sym, ◌∙◌}
 use Rattle.row_store.proofs.Applied.{here, elsewhere, done}
-use Rattle.row_store.proofs.keyed_rows.KeyedRows.apply.Goals as goal
-use Rattle.row_store.proofs.keyed_rows.KeyedRows.apply.Goals.{then-is+in_ok-set, else-is}
+use Rattle.row_store.proofs.keyed_rows.KeyedRows.changed.Goals as goal
+use Rattle.row_store.proofs.keyed_rows.KeyedRows.changed.Goals.{then-is+in_ok-set, else-is}
 
 pub loop-change-preserved : goal.loop-change-preserved
 loop-change-preserved c =
