@@ -1,8 +1,9 @@
 -- The texts of refusals. Those of ORA codes are Oracle's (Database Error Messages), apart from the name of the
 -- constraint in ORA-00001 and the number of extents and the tablespace in ORA-30036. DTX codes are dtx's own.
 use Rattle.std.specs.Prelude.{ℕ, ◌+◌, ◌-◌, ◌==◌, if◌then◌else◌, nat_lt, List, [], ◌∷◌, ◌++◌, slice_get, unwrap_or, codes}
+use Rattle.dtx_values.specs.Limits.{delivery_limit}
 use Rattle.dtx_values.specs.declared.answer.Refusal.{Refusal}
-use Rattle.tran_ids.specs.Numbers.{decimal}
+use Rattle.tran_ids.specs.Numbers.{decimal, digits}
 
 -- the texts of ORA-nnnnn, by the number; each % stands for an argument
 unfoldable pub ora_texts : List (ℕ × List ℕ)
@@ -38,7 +39,7 @@ dtx_texts =
     ∷ (2, codes "session tree too deep or too wide")
     ∷ (3, codes "no answer from link %")
     ∷ (4, codes "session busy")
-    ∷ (5, codes "deliveries ended at 4096")
+    ∷ (5, codes "deliveries ended at " ++ digits 4 delivery_limit)
     ∷ (6, codes "purge of % refused")
     ∷ (7, codes "ID % names several branches")
     ∷ (8, codes "branch at link % is gone")

@@ -1,6 +1,7 @@
 -- How a run of the program ends: each status with its cause, and the bytes read and written.
 use Rattle.std.specs.Prelude.{◌≡◌, ◌++◌, ◌≤◌, ◌⊎◌, ℕ, Bool, List, Option, Some, Ok, Err, IsOk, IsErr, length, codes, decimal}
 use Rattle.std.specs.Io.KnownBytes.{Keeps, Appends}
+use Rattle.dtx_values.specs.Limits.{script_limit}
 use Rattle.dtx_ports.specs.Causes.{Rose}
 use Rattle.dtx_ports.specs.Whole.{IsAll, IsTooLong, AppendsPrefix}
 use Rattle.sole_script.specs.Script.{Asked, asked}
@@ -9,10 +10,6 @@ use Rattle.script_run.specs.declared.outcome.Status.{Status}
 use Rattle.script_run.specs.declared.outcome.Status.TheVariants.{Done, BadScript, Usage, NoMemory, ReadFault, WriteFault, TooLong}
 use Rattle.script_run.specs.Headline.{nothing_done}
 use Rattle.script_run.specs.Report.{output_of}
-
--- the longest script, in bytes
-abbrev pub longest : ℕ
-longest = 1048576
 
 -- what wrong words are answered by
 abbrev pub usage_line : List ℕ
@@ -96,12 +93,12 @@ EndsOn bytes with_book w run TooLong = ⊥
 
 -- the source was read to its end, within the limit, and the run over its bytes ends so
 abbrev pub EndsWithin : Bool → Read → Written → Run → Status → Type 0
-EndsWithin with_book r w run status = (bytes : List ℕ) × IsAll longest r.before r.now bytes × EndsOn bytes with_book w run status
+EndsWithin with_book r w run status = (bytes : List ℕ) × IsAll script_limit r.before r.now bytes × EndsOn bytes with_book w run status
 
 -- how a run over the program's words ends, which want the book or not
 abbrev pub EndsRead : Bool → Read → Written → Run → Status → Type 0
 EndsRead with_book r w run ReadFault = (run ≡ nothing_done) × Keeps w.before w.now × Rose r.faults_before r.faults_now
-EndsRead with_book r w run TooLong = (run ≡ nothing_done) × Keeps w.before w.now × IsTooLong longest r.before r.now
+EndsRead with_book r w run TooLong = (run ≡ nothing_done) × Keeps w.before w.now × IsTooLong script_limit r.before r.now
 EndsRead with_book r w run NoMemory = ((run ≡ nothing_done) × Keeps w.before w.now) ⊎ EndsWithin with_book r w run NoMemory
 EndsRead with_book r w run Usage = ⊥
 EndsRead with_book r w run Done = EndsWithin with_book r w run Done
@@ -115,5 +112,5 @@ EndsWell status = (status ≡ Done) ⊎ (status ≡ NoMemory)
 -- A source that tells bytes within the limit, a script in the grammar and no fault of either end give the report.
 abbrev pub IsComplete : Read → Written → Status → Type 0
 IsComplete r w status =
-    (bytes : List ℕ) → r.before ≡ Some bytes → length bytes ≤ longest → IsOk (asked bytes)
+    (bytes : List ℕ) → r.before ≡ Some bytes → length bytes ≤ script_limit → IsOk (asked bytes)
     → (Rose r.faults_before r.faults_now → ⊥) → (Rose w.faults_before w.faults_now → ⊥) → EndsWell status

@@ -10,13 +10,10 @@ use crate::at_once::said_at_once;
 use crate::line::AnswerLine;
 use crate::outcome::Run;
 use crate::site::{Site, made};
-use dtx_values::{Duplicate, Listing, Names};
+use dtx_values::{Duplicate, Listing, Names, USUAL_EXTENTS};
 use sole_laws::{Trace, each_begun_is_answered};
 use sole_script::{Command, Commands};
 use std::alloc::{AllocError, Global};
-
-/// The undo extents of a node that no command makes.
-const UNDO: u32 = 64;
 
 /// A run in progress.
 #[derive(Drop)]
@@ -36,7 +33,7 @@ fn undo_in(commands: &[Command]) -> u32
 {
     match commands {
         [Command::Node { name: _name, undo }, ..] => *undo,
-        _ => UNDO,
+        _ => USUAL_EXTENTS,
     }
 }
 

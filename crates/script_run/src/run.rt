@@ -11,12 +11,9 @@ use crate::output::output;
 use crate::progress::run_commands;
 use crate::words::wanted;
 use dtx_ports::{ReadErr, Sink, Source, read_whole, write_whole};
-use dtx_values::Listing;
+use dtx_values::{Listing, SCRIPT_LIMIT};
 use sole_script::{ScriptErr, read_script};
 use std::alloc::Global;
-
-/// The longest script, in bytes.
-const LONGEST: usize = 1_048_576;
 
 /// Says how the program is called.
 fn explain_words<K: Sink>(sink: &mut K, run: &Run) -> Status
@@ -97,7 +94,7 @@ fn run_source<S: Source, K: Sink>(
     ensures ends { EndsRead with_book (record { before = S.left source.old; now = S.left source.new; faults_before = S.faults source.old; faults_now = S.faults source.new })
         (record { before = K.written sink.old; now = K.written sink.new; faults_before = K.faults sink.old; faults_now = K.faults sink.new }) result.run result.status }
 {
-    let status = match read_whole(alloc, source, LONGEST) {
+    let status = match read_whole(alloc, source, SCRIPT_LIMIT) {
         Ok(bytes) => return run_bytes(alloc, with_book, &bytes, sink),
         Err(ReadErr::Fault) => Status::ReadFault,
         Err(ReadErr::TooLong) => Status::TooLong,

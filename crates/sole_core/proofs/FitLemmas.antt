@@ -17,7 +17,7 @@ use Rattle.field_codec.specs.Fits.{HasCount}
 use Rattle.redo_codec.specs.Sealed.{decided_format}
 use Rattle.field_codec.specs.Table.{table_format}
 use Rattle.redo_codec.specs.Record.{record_format}
-use Rattle.sql_eval.specs.Rows.{is_null}
+use Rattle.dtx_values.specs.Order.{is_null}
 use Rattle.sql_eval.specs.Laws.{IsRowAt}
 use Rattle.sole_node.specs.Kept.{Kept, next_root, fresh_root}
 use Rattle.sole_node.specs.Ready.{HasRows, IsChangeAt, IsRootAt, IsSane}

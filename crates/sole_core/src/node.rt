@@ -33,7 +33,7 @@ use std::alloc::{AllocError, Global};
 #[derive(Drop)]
 pub struct Node<D: Disk> {
     alloc: Global,
-    /// Its undo space, in extents of 4,096 bytes.
+    /// Its undo space, in extents.
     undo: u32,
     machine: Machine,
     log: Log<D>,

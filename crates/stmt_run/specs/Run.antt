@@ -1,5 +1,5 @@
 -- One statement at the node of its table: what it meets there, and what it does.
-use Rattle.std.specs.Prelude.{ℕ, ◌+◌, ◌-◌, Bool, true, false, List, [], ◌∷◌, map, fold, length, nat_lt, Option, Some, None}
+use Rattle.std.specs.Prelude.{ℕ, ◌+◌, ◌-◌, Bool, true, false, List, [], ◌∷◌, map, fold, take, length, nat_lt, Option, Some, None}
 use Rattle.dtx_values.specs.declared.value.Value.{Value}
 use Rattle.dtx_values.specs.declared.row.Change.{Change}
 use Rattle.dtx_values.specs.declared.table.Table.{Table}
@@ -14,9 +14,11 @@ use Rattle.sql_statement.specs.declared.statement.Stmt.{Stmt}
 use Rattle.sql_eval.specs.declared.keyed.Keyed.{Keyed}
 use Rattle.sql_eval.specs.declared.meant.Meant.{Meant}
 use Rattle.sql_eval.specs.declared.meant.Meant.TheVariants as meants
-use Rattle.sql_eval.specs.Words.{one, first_some}
-use Rattle.sql_eval.specs.Refusals.{ora, dtx, else_refuse, refuse_if}
-use Rattle.sql_eval.specs.Meaning.{checked, examined, written, meant_over}
+use Rattle.dtx_values.specs.Limits.{changes_limit}
+use Rattle.sql_check.specs.Words.{one, first_some}
+use Rattle.sql_check.specs.Refusals.{ora, dtx, else_refuse, refuse_if}
+use Rattle.sql_check.specs.Checks.{checked}
+use Rattle.sql_eval.specs.Meaning.{examined, written, meant_over}
 use Rattle.row_locks.specs.Locks.{Lock, keys_held, taken}
 use Rattle.row_locks.specs.Held.{doubt_on, hold_on}
 use Rattle.row_store.specs.Own.{Own, with_changes, changes_length, undo_length, extents}
@@ -50,9 +52,9 @@ locked_refusal g t keys = held_refusal 2049 (first_some (map (hold_on g.locks g.
 abbrev pub needed_extents : Ground → List Change → ℕ
 needed_extents g cs = extents (g.undo + undo_length g.view cs) - extents g.undo
 
--- whether the branch's changes with these take more than 8,388,608 bytes
+-- whether the branch's changes with these take more bytes than a branch may change
 abbrev pub too_many_changes : Ground → List Change → Bool
-too_many_changes g cs = nat_lt 8388608 (g.bytes + changes_length cs)
+too_many_changes g cs = nat_lt changes_limit (g.bytes + changes_length cs)
 
 -- DTX-16 and ORA-30036: too many changes, or not enough extents
 abbrev pub space_refusal : Ground → List Change → Option Refusal
@@ -97,6 +99,18 @@ abbrev pub locks_after : List Lock → BranchId → Table → Ran → List Lock
 locks_after locks me t (Refuses r) = locks
 locks_after locks me t (Reads rows keys) = take_keys locks me t.name false keys
 locks_after locks me t (Writes d cs keys undo) = take_keys locks me t.name true keys
+
+-- the locks where only the first so many keys of a run were taken
+abbrev pub locks_part_way : ℕ → List Lock → BranchId → Table → Ran → List Lock
+locks_part_way n locks me t (Refuses r) = locks
+locks_part_way n locks me t (Reads rows keys) = take_keys locks me t.name false (take n keys)
+locks_part_way n locks me t (Writes d cs keys undo) = take_keys locks me t.name true (take n keys)
+
+-- the changes that a run makes
+abbrev pub changes_of_run : Ran → List Change
+changes_of_run (Refuses r) = []
+changes_of_run (Reads rows keys) = []
+changes_of_run (Writes d cs keys undo) = cs
 
 -- what the branch has changed after a run
 abbrev pub own_after : Own → Ran → Own
