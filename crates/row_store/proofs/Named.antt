@@ -1,6 +1,6 @@
 -- What the map of tables does, as the list of tables says it.
-use Rattle.std.proofs.Common.{◌≡◌, ℕ, ◌+◌, ◌<◌, ◌≤◌, zero, suc, Bool, true, false, cond, ◌||◌, List, [], ◌∷◌, ◌++◌, length, get_or, take, slice_get, position, None, Some, Option, MatchOption, unwrap_or, is_some, Bor, refl, sym, ap, subst, ◌∙◌, true≢false}
-use Rattle.std.proofs.lemmas.List.{map-append, take_all, take_more}
+use Rattle.std.proofs.Common.{◌≡◌, ℕ, ◌+◌, ◌<◌, ◌≤◌, zero, suc, Bool, true, false, cond, ◌||◌, List, [], ◌∷◌, ◌++◌, length, get_or, drop, slice_get, position, None, Some, Option, MatchOption, unwrap_or, is_some, Bor, refl, sym, ap, subst, ◌∙◌, true≢false}
+use Rattle.std.proofs.lemmas.List.{map-append, at_drop_more, at_drop_all}
 use Rattle.std.specs.Cmp.Lexicographic.{nat_list_eq_equiv, bytes_decides}
 use Rattle.std.specs.List.{list_any, AllByRecursion, IsDistinct}
 use Rattle.std.specs.List.Sorted.{IsStrictlySortedBy}
@@ -14,9 +14,9 @@ use Rattle.indexmap.proofs.CallerLemmas.{insert_entry-new}
 use Rattle.dtx_values.specs.declared.row.Change.{Change}
 use Rattle.sql_eval.specs.declared.keyed.Keyed.{Keyed}
 use Rattle.sql_check.specs.Words.{same_text}
-use Rattle.sql_eval.specs.Rows.{change_one, apply, set_to}
+use Rattle.sql_eval.specs.Rows.{set_to}
 use Rattle.row_store.specs.Named.{table_of, tables_of, AreInOrder}
-use Rattle.row_store.specs.Tables.{TableRows, apply_all, rows_of_table, with_table}
+use Rattle.row_store.specs.Tables.{TableRows, apply_to, apply_all, rows_of_table, with_table}
 use Rattle.row_store.proofs.InOrder.{are_in_order, set_in_order}
 
 -- a table's name and its rows, as the map keeps them
@@ -92,31 +92,25 @@ module _ {S : Type 0} (m : IndexMap (List ℕ) (List Keyed) S) (ts : List TableR
 
 -- ---- a change
 
--- one change more, of the rows of a table
-behind_one : (cs : List Change) (c : Change) (table : List ℕ) (rows : List Keyed) → apply table (apply table rows cs) (c ∷ []) ≡ apply table rows (cs ++ c ∷ [])
-behind_one [] c table rows = refl
-behind_one (d ∷ cs) c table rows = behind_one cs c table (change_one table rows d)
+-- changes in order are one change and then the others
+pub apply_next : (c : Change) (cs : List Change) (ts : List TableRows) → apply_all (apply_all ts (c ∷ [])) cs ≡ apply_all ts (c ∷ cs)
+apply_next c cs [] = refl
+apply_next c cs (t ∷ ts) = ap (λ (all : List TableRows). apply_to (c ∷ cs) t ∷ all) (apply_next c cs ts)
 
--- and of those of all tables
-behind : (cs : List Change) (c : Change) (ts : List TableRows) → apply_all (apply_all ts cs) (c ∷ []) ≡ apply_all ts (cs ++ c ∷ [])
-behind cs c [] = refl
-behind cs c (t ∷ ts) = (λ i. record { table = t.table; rows = behind_one cs c t.table t.rows i } ∷ behind cs c ts i)
+-- the next of these changes
+pub apply_more : (cs : List Change) (i : ℕ) (c : Change) (ts now : List TableRows) → i < length cs → c ≡ get_or cs i c → now ≡ apply_all ts (c ∷ [])
+    → apply_all now (drop (i + 1) cs) ≡ apply_all ts (drop i cs)
+apply_more cs i c ts now more is made =
+    ap (λ us. apply_all us (drop (i + 1) cs)) made ∙ apply_next c (drop (i + 1) cs) ts ∙ ap (λ d. apply_all ts (d ∷ drop (i + 1) cs)) is
+    ∙ sym (at_drop_more (apply_all ts) cs i c more)
 
--- before any of these changes
-pub apply_none : (ts : List TableRows) → ts ≡ apply_all ts []
+apply_none : (ts : List TableRows) → apply_all ts [] ≡ ts
 apply_none [] = refl
 apply_none (t ∷ ts) = ap (λ (all : List TableRows). t ∷ all) (apply_none ts)
 
--- with the next of these changes
-pub apply_more : (cs : List Change) (i : ℕ) (c : Change) (ts now next : List TableRows) → i < length cs → c ≡ get_or cs i c
-    → now ≡ apply_all ts (take i cs) → next ≡ apply_all now (c ∷ []) → next ≡ apply_all ts (take (i + 1) cs)
-apply_more cs i c ts now next more is made one =
-    one ∙ ap (λ us. apply_all us (c ∷ [])) made ∙ behind (take i cs) c ts ∙ ap (λ d. apply_all ts (take i cs ++ d ∷ [])) is
-    ∙ ap (apply_all ts) (sym (take_more cs i c more))
-
--- with all of them
-pub apply_end : (cs : List Change) (i : ℕ) (ts now : List TableRows) → length cs ≤ i → now ≡ apply_all ts (take i cs) → now ≡ apply_all ts cs
-apply_end cs i ts now end made = made ∙ ap (apply_all ts) (take_all i cs end)
+-- and no more of them
+pub apply_end : (cs : List Change) (i : ℕ) (ts : List TableRows) → length cs ≤ i → ts ≡ apply_all ts (drop i cs)
+apply_end cs i ts end = sym (at_drop_all (apply_all ts) cs i end ∙ apply_none ts)
 
 module _ (c : Change) where
   -- no table has the name of the change

@@ -1,6 +1,6 @@
 -- What a branch has changed, what it sees of a table, and the undo that it holds.
 use Rattle.std.specs.Int.{div_ceil}
-use Rattle.std.specs.Prelude.{◌≡◌, ℕ, ◌+◌, ◌≤◌, ◌&&◌, Bool, if◌then◌else◌, List, [], ◌∷◌, ◌++◌, length, take, sum_by, Option, Some}
+use Rattle.std.specs.Prelude.{ℕ, ◌+◌, ◌&&◌, Bool, if◌then◌else◌, List, [], ◌∷◌, ◌++◌, sum_by, Option, Some}
 use Rattle.dtx_values.specs.declared.value.Value.{Value}
 use Rattle.dtx_values.specs.declared.row.Row.{Row}
 use Rattle.dtx_values.specs.declared.row.Change.{Change}
@@ -23,12 +23,6 @@ nothing_changed = record { changes = []; undo = 0 }
 -- with the changes of one more statement, and their undo
 abbrev pub with_changes : Own → List Change → ℕ → Own
 with_changes own cs undo = record { changes = own.changes ++ cs; undo = own.undo + undo }
-
--- a branch that some of these changes were added to, in their order, with no undo counted for them
-pub record IsPartWay (own : Own) (cs : List Change) (now : Own) : Type 0 where
-  pub front : now.changes ≡ take (length now.changes) (own.changes ++ cs)
-  pub kept : length own.changes ≤ length now.changes
-  pub undo : now.undo ≡ own.undo
 
 -- the bytes of these changes
 abbrev pub changes_length : List Change → ℕ

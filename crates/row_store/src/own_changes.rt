@@ -2,7 +2,7 @@
 ghost use Rattle.std.specs.Prelude.{◌≡◌, ◌+◌, ◌^◌, ◌<◌, ◌≤◌, [], ◌∷◌, ◌++◌, length, None, OnOk, OnErr};
 ghost use Rattle.std.specs.Option.{option_copied};
 ghost use Rattle.dtx_values.specs.Limits.{changes_limit};
-ghost use Rattle.row_store.specs.Own.{IsPartWay, nothing_changed, with_changes, changes_length, last_at as last_at_of};
+ghost use Rattle.row_store.specs.Own.{nothing_changed, with_changes, changes_length, last_at as last_at_of};
 ghost use Rattle.row_store.specs.Kept.{last_place, after_at as after_at_of};
 
 use crate::changed_key::{ChangedKey, owned_key};
@@ -78,13 +78,12 @@ impl OwnChanges {
         after_at(self.changes.as_slice(), self.place(table, key))
     }
 
-    /// Adds the changes of one more statement, and the bytes of their undo. Where there is no memory for all of them, some
-    /// may have been added, in their order, and no undo is counted.
+    /// Adds the changes of one more statement, and the bytes of their undo. After an error some of them may be there, and
+    /// their undo is not.
     pub fn push_all(&mut self, alloc: Global, changes: Changes, undo: u64) -> Result<(), AllocError>
         requires room { changes_length (self.old.changes ++ changes) ≤ changes_limit }
         requires undo { self.old.undo + undo < 2 ^ 64 }
-        ensures ok { OnOk result (self.new ≡ with_changes self.old changes undo) }
-        ensures err { OnErr result (IsPartWay self.old changes self.new) }
+        ensures { OnOk result (self.new ≡ with_changes self.old changes undo) }
     {
         for change in changes.into_vec() {
             self.push(alloc, change)?;

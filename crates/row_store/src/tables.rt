@@ -1,5 +1,5 @@
 //! The committed rows of all tables of a node.
-ghost use Rattle.std.specs.Prelude.{◌≡◌, ℕ, [], ◌∷◌, take, false, MatchOption, OnOk, OnErr};
+ghost use Rattle.std.specs.Prelude.{◌≡◌, [], ◌∷◌, false, MatchOption, OnOk, OnErr};
 ghost use Rattle.std.specs.List.{list_any};
 ghost use Rattle.std.specs.List.Sorted.{IsStrictlySortedBy};
 ghost use Rattle.dtx_values.specs.Order.{value_cmp};
@@ -61,11 +61,10 @@ impl Tables {
         Ok(())
     }
 
-    /// Makes changes in their order. A change of a table that is not there changes nothing. Where there is no memory for all
-    /// of them, the first of them were made and the others were not.
+    /// Makes changes in their order. A change of a table that is not there changes nothing. After an error some of the
+    /// changes may have been made.
     pub fn apply(&mut self, alloc: Global, changes: &[Change]) -> Result<(), AllocError>
-        ensures ok { OnOk result (self.new ≡ apply_all self.old changes.now) }
-        ensures err { OnErr result ((n : ℕ) × (self.new ≡ apply_all self.old (take n changes.now))) }
+        ensures { OnOk result (self.new ≡ apply_all self.old changes.now) }
     {
         for change in changes {
             self.apply_one(alloc, change)?;

@@ -1,5 +1,5 @@
 -- One statement at the node of its table: what it meets there, and what it does.
-use Rattle.std.specs.Prelude.{ℕ, ◌+◌, ◌-◌, Bool, true, false, List, [], ◌∷◌, map, fold, take, length, nat_lt, Option, Some, None}
+use Rattle.std.specs.Prelude.{ℕ, ◌+◌, ◌-◌, Bool, true, false, List, [], ◌∷◌, map, fold, length, nat_lt, Option, Some, None}
 use Rattle.dtx_values.specs.declared.value.Value.{Value}
 use Rattle.dtx_values.specs.declared.row.Change.{Change}
 use Rattle.dtx_values.specs.declared.table.Table.{Table}
@@ -99,18 +99,6 @@ abbrev pub locks_after : List Lock → BranchId → Table → Ran → List Lock
 locks_after locks me t (Refuses r) = locks
 locks_after locks me t (Reads rows keys) = take_keys locks me t.name false keys
 locks_after locks me t (Writes d cs keys undo) = take_keys locks me t.name true keys
-
--- the locks where only the first so many keys of a run were taken
-abbrev pub locks_part_way : ℕ → List Lock → BranchId → Table → Ran → List Lock
-locks_part_way n locks me t (Refuses r) = locks
-locks_part_way n locks me t (Reads rows keys) = take_keys locks me t.name false (take n keys)
-locks_part_way n locks me t (Writes d cs keys undo) = take_keys locks me t.name true (take n keys)
-
--- the changes that a run makes
-abbrev pub changes_of_run : Ran → List Change
-changes_of_run (Refuses r) = []
-changes_of_run (Reads rows keys) = []
-changes_of_run (Writes d cs keys undo) = cs
 
 -- what the branch has changed after a run
 abbrev pub own_after : Own → Ran → Own

@@ -1,5 +1,5 @@
 //! Who holds the keys of a statement, and taking them.
-ghost use Rattle.std.specs.Prelude.{◌≡◌, ℕ, map, take, IfOk, OnOk, OnErr};
+ghost use Rattle.std.specs.Prelude.{◌≡◌, map, IfOk, OnOk};
 ghost use Rattle.std.specs.List.{All};
 ghost use Rattle.sql_check.specs.Words.{first_some};
 ghost use Rattle.sql_check.specs.Refusals.{else_refuse};
@@ -35,7 +35,7 @@ pub fn lock_refusal(
     held(alloc, 2049, holder)
 }
 
-/// Takes keys, to write their rows or only to read them. Where memory runs out, the first of them are taken.
+/// Takes keys, to write their rows or only to read them.
 pub fn take_all(
     alloc: Global,
     locks: &mut Locks,
@@ -45,8 +45,7 @@ pub fn take_all(
     writes: bool,
 ) -> Result<(), AllocError>
     requires { All (IsFree locks.old me.now table.now) keys.now }
-    ensures ok { OnOk result (locks.new ≡ take_keys locks.old me.now table.now writes keys.now) }
-    ensures err { OnErr result ((n : ℕ) × (locks.new ≡ take_keys locks.old me.now table.now writes (take n keys.now))) }
+    ensures { OnOk result (locks.new ≡ take_keys locks.old me.now table.now writes keys.now) }
 {
     for key in keys {
         match locks.take(alloc, me, table, key, writes) {

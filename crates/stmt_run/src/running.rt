@@ -1,8 +1,8 @@
 //! Running a statement.
-ghost use Rattle.std.specs.Prelude.{◌≡◌, ℕ, true, IfOk, OnOk, OnErr};
-ghost use Rattle.row_store.specs.Own.{IsPartWay, view_of};
+ghost use Rattle.std.specs.Prelude.{◌≡◌, true, IfOk, OnOk};
+ghost use Rattle.row_store.specs.Own.{view_of};
 ghost use Rattle.sql_eval.specs.Laws.{has_one_key, AreRowsOf};
-ghost use Rattle.stmt_run.specs.Run.{answer_of_run, changes_of_run, locks_after, locks_part_way, own_after, ran_over as ran_over_of};
+ghost use Rattle.stmt_run.specs.Run.{answer_of_run, locks_after, own_after, ran_over as ran_over_of};
 ghost use Rattle.stmt_run.specs.Sites.{ground_at, HasRoom};
 
 use crate::deciding::ran_over;
@@ -15,8 +15,7 @@ use sql_statement::Stmt;
 use std::alloc::{AllocError, Global};
 use tran_ids::BranchId;
 
-/// Runs a statement, and keeps what it leaves: the keys that it locks, and the changes that it makes. Where memory runs out,
-/// it may have locked some first keys and made some first changes, and counted no undo.
+/// Runs a statement, and keeps what it leaves: the keys that it locks, and the changes that it makes.
 pub fn run(
     alloc: Global,
     statement: &Stmt,
@@ -35,10 +34,6 @@ pub fn run(
         (own.new ≡ own_after own.old (ran_over_of (ground_at me.now tables.now own.old locks.old free table.now) statement.now table.now)) }
     ensures locks { OnOk result
         (locks.new ≡ locks_after locks.old me.now table.now (ran_over_of (ground_at me.now tables.now own.old locks.old free table.now) statement.now table.now)) }
-    ensures own_err { OnErr result
-        (IsPartWay own.old (changes_of_run (ran_over_of (ground_at me.now tables.now own.old locks.old free table.now) statement.now table.now)) own.new) }
-    ensures locks_err { OnErr result
-        ((n : ℕ) × (locks.new ≡ locks_part_way n locks.old me.now table.now (ran_over_of (ground_at me.now tables.now own.old locks.old free table.now) statement.now table.now))) }
 {
     match ran_at(alloc, statement, table, tables, own, locks, me, free)? {
         Ran::Refuses(refusal) => Ok(Answer::Refused(refusal)),

@@ -1,6 +1,6 @@
-use Rattle.std.proofs.Common.{◌≡◌, take}
+use Rattle.std.proofs.Common.{◌≡◌, drop}
 use Rattle.row_store.specs.Tables.{apply_all}
 use Rattle.row_store.proofs.tables.Tables.apply.Given as goal
 
 abbrev pub invariant-loop-change : goal.invariant-loop-change
-invariant-loop-change l = l.self ≡ apply_all l.initial.self (take l.change-index l.changes)
+invariant-loop-change l = apply_all l.self (drop l.change-index l.changes) ≡ apply_all l.initial.self l.changes
