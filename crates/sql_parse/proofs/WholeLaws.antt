@@ -1,5 +1,5 @@
 -- Each statement that a text spells is whole.
-use Rattle.std.proofs.Common.{◌≡◌, ◌<◌, ◌≤◌, ◌^◌, ℕ, Bool, true, false, List, [], ◌∷◌, length, Option, Some, None, refl, subst, arith, inl, inr, zero, suc}
+use Rattle.std.proofs.Common.{◌≡◌, ◌<◌, ◌≤◌, ◌^◌, ℕ, List, [], ◌∷◌, length, Option, Some, None, subst, arith, inl, inr, zero, suc}
 use Rattle.std.specs.Prelude.{codes, nat_le, IfSome, IsTrue, FitsSigned, pos, neg_ℤ}
 use Rattle.std.specs.Int.{w64}
 use Rattle.std.specs.List.{All}
