@@ -8,7 +8,8 @@ use Rattle.byte_format.proofs.NumberLaws.{number8_exact, number16_exact, flag_ex
 use Rattle.byte_format.proofs.PartLaws.{pair_exact, mapped_exact, tested_exact}
 use Rattle.byte_format.proofs.SeveralLaws.{counted_exact}
 use Rattle.byte_format.proofs.ChoiceLaws.{kind_is, no_kind_is, reads_made, choice_exact}
-use Rattle.field_codec.specs.Table.{is_width, type_kind, number_type_of, text_type_of, type_kinds, type_format, column_format, is_columns, table_format, link_format, synonym_format}
+use Rattle.dtx_values.specs.Widths.{is_width}
+use Rattle.field_codec.specs.Table.{type_kind, number_type_of, text_type_of, type_kinds, type_format, column_format, is_columns, table_format, link_format, synonym_format}
 use Rattle.field_codec.proofs.FieldLaws.{name_exact}
 
 width_exact : IsExact (tested is_width number16)

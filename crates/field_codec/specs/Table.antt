@@ -1,6 +1,7 @@
 -- Tables, links and synonyms as bytes.
 use Rattle.std.specs.Prelude.{ℕ, Bool, ◌&&◌, ◌==◌, nat_le, List, [], ◌∷◌, length, count_by, Option, Some, None, ⊤}
-use Rattle.dtx_values.specs.Limits.{text_limit, column_limit}
+use Rattle.dtx_values.specs.Limits.{column_limit}
+use Rattle.dtx_values.specs.Widths.{is_width}
 use Rattle.dtx_values.specs.declared.table.Column.{Column}
 use Rattle.dtx_values.specs.declared.table.Table.{Table}
 use Rattle.dtx_values.specs.declared.table.Link.{Link}
@@ -11,10 +12,6 @@ use Rattle.byte_format.specs.Part.{pair, mapped, tested}
 use Rattle.byte_format.specs.Several.{counted}
 use Rattle.byte_format.specs.Choice.{choice, kind, no_kind}
 use Rattle.field_codec.specs.Name.{name_format}
-
--- at least one byte, and no more than a text may have
-abbrev pub is_width : ℕ → Bool
-is_width bytes = nat_le 1 bytes && nat_le bytes text_limit
 
 -- which byte names the type of a column, from the most bytes of its texts
 abbrev pub type_kind : Option ℕ → ℕ

@@ -10,7 +10,8 @@ ghost use Rattle.field_codec.specs.Text.{text_format};
 ghost use Rattle.field_codec.specs.Value.{value_format, row_format};
 ghost use Rattle.field_codec.specs.Change.{is_key, change_format};
 ghost use Rattle.field_codec.specs.Table.{is_columns, column_format, table_format};
-ghost use Rattle.field_codec.specs.Fits.{HasCount, HasWidth};
+ghost use Rattle.field_codec.specs.Fits.{HasCount};
+ghost use Rattle.dtx_values.specs.Widths.{HasWidth};
 
 use dtx_values::{Change, Column, Name, Row, Str, Table, Value};
 use tran_ids::BranchId;

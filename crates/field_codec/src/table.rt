@@ -2,7 +2,8 @@
 ghost use Rattle.std.specs.Prelude.{◌≡◌, ◌++◌, OnOk};
 ghost use Rattle.std.specs.Io.{StartsWith};
 ghost use Rattle.byte_format.specs.Reads.{Reads};
-ghost use Rattle.field_codec.specs.Table.{is_width, type_format, column_format, is_columns, table_format, link_format, synonym_format};
+ghost use Rattle.dtx_values.specs.Widths.{is_width};
+ghost use Rattle.field_codec.specs.Table.{type_format, column_format, is_columns, table_format, link_format, synonym_format};
 
 use crate::name::{NameField, put_name};
 use byte_format::{

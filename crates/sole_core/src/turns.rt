@@ -4,7 +4,7 @@ ghost use Rattle.std.specs.List.{All, AllByRecursion};
 ghost use Rattle.std.specs.Option.{option_copied};
 ghost use Rattle.dtx_values.specs.declared.answer.Answer.TheVariants.{Did, Refused};
 ghost use Rattle.field_codec.specs.Table.{is_columns};
-ghost use Rattle.field_codec.specs.Fits.{HasWidth};
+ghost use Rattle.dtx_values.specs.Widths.{HasWidth};
 ghost use Rattle.redo_codec.specs.Sealed.{decided_format};
 ghost use Rattle.redo_codec.specs.Record.{record_format};
 ghost use Rattle.sql_statement.specs.declared.statement.Stmt.TheVariants as stmts;
