@@ -314,7 +314,7 @@ fn keeps_names(alloc: Global) -> Result<bool, NameErr> {
     Ok(is_name_kept(alloc, &name) == Ok(true))
 }
 
-/// Whether a row is written as the bytes that it is taken from, and the byte behind them is left.
+/// Whether a row is written as the bytes that it is taken from, and the byte after them is left.
 fn keeps_rows(alloc: Global) -> Result<bool, TakeErr> {
     let (row, rest) = take_row(alloc, b"\x02\x00\x02\x00\x01a\x09")?;
     let mut out = Vec::new(alloc);

@@ -1,5 +1,5 @@
 -- The formats of branches, names, texts, values, rows, changes and advice are exact, by the laws of their parts.
-use Rattle.std.proofs.Common.{ℕ, Option, Some, None, refl}
+use Rattle.std.proofs.Common.{Option, Some, None, refl}
 use Rattle.std.specs.Str.{is_utf8}
 use Rattle.dtx_values.specs.Limits.{comment_limit}
 use Rattle.dtx_values.specs.Str.{is_text, is_text_to}
@@ -8,7 +8,7 @@ use Rattle.dtx_values.specs.declared.advice.Advice.TheVariants as advices
 use Rattle.dtx_values.specs.declared.value.Value.{Value}
 use Rattle.dtx_values.specs.declared.value.Value.TheVariants as cell
 use Rattle.byte_format.specs.Format.{IsExact, ReadsAgain}
-use Rattle.byte_format.specs.Number.{empty, number8, number16, number32, signed64}
+use Rattle.byte_format.specs.Number.{empty, number8, number16, signed64}
 use Rattle.byte_format.specs.Part.{run}
 use Rattle.byte_format.proofs.NumberLaws.{empty_exact, number8_exact, number16_exact, number32_exact, signed64_exact}
 use Rattle.byte_format.proofs.PartLaws.{pair_exact, run_exact, optional_exact, mapped_exact, tested_exact}

@@ -73,7 +73,7 @@ fn add(kept: &mut Vec<Standing>, row: Standing) -> Result<(), AllocError>
     Ok(())
 }
 
-// A decided branch that has nobody to tell is not kept.
+// A decided branch without neighbours is not kept.
 fn decide(kept: &mut Vec<Standing>, row: Standing) -> Result<(), AllocError>
     ensures ok { OnOk result (kept.new.items ≡ keep_decided kept.old.items row) }
     ensures err { OnErr result (kept.new.items ≡ kept.old.items) }
