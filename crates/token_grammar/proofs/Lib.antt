@@ -10,5 +10,6 @@ pub mod Beginnings
 pub mod OneToken
 pub mod Parts
 pub mod Values
+pub mod FormLaws
 pub mod WholeLaws
 pub mod PrintLaws

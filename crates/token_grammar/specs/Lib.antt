@@ -3,7 +3,9 @@ pub mod Bytes
 pub mod Tokens
 pub mod Steps
 pub mod Lexing
+pub mod FirstWord
 pub mod Grammar
+pub mod Forms
 pub mod Exact
 pub mod Gives
 pub mod Text

@@ -10,13 +10,15 @@ ghost use Rattle.token_grammar.specs.declared.token.Token.{Token};
 ghost use Rattle.token_grammar.specs.Gives.{Gives};
 ghost use Rattle.token_grammar.specs.Bytes.{is_blank, is_letter, is_digit, is_word_byte, value_from, one_mark, two_marks};
 ghost use Rattle.token_grammar.specs.Lexing.{skip, small, word_at, number_at, piece_at, quoted_at, mark_at, token_at, lexeme_at, lexemes_at, tokens_in};
+ghost use Rattle.token_grammar.specs.FirstWord.{has_first_word};
 ghost use Rattle.token_grammar.specs.Tokens as spec;
 
 use crate::{Mark, ReadErr, Token, Tokens};
 use dtx_values::Listing;
 use std::alloc::{AllocError, Global};
 
-fn is_blank(byte: u8) -> bool
+/// Whether a byte is a tab, a line feed, a carriage return or a space.
+pub fn is_blank(byte: u8) -> bool
     ensures { result ≡ is_blank byte }
 {
     matches!(byte, b'\t' | b'\n' | b'\r' | b' ')
@@ -244,6 +246,15 @@ fn lex(alloc: Global, text: &[u8]) -> Result<Tokens, ReadErr>
         return Err(ReadErr::Bad);
     }
     Ok(Listing::of(tokens))
+}
+
+/// Whether a text begins with this word, in any case of letters. What follows the word does not matter.
+pub fn has_first_word(text: &[u8], word: &[u8]) -> bool
+    ensures { result ≡ has_first_word word.now text.now }
+{
+    let text = skip(text);
+    let (front, _) = text.split_at(word_len(text));
+    word.eq_ignore_ascii_case(front)
 }
 
 /// The tokens that a text is, each as long as it can be.

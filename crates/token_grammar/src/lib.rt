@@ -29,14 +29,16 @@
 //! | `many starts g` | those of `g`, any number of times | a list |
 //! | `separated starts s g`, `commas g` | those of `g` once or more, with `s` between them | a list |
 //! | `choice looks a b` | those of `a` or of `b`, as a look at the tokens ahead says | the one or the other |
-//! | `mapped`, `made`, `tested` | those of a grammar | another value for its value; only some of its values |
+//! | `forms meaning form` | a token that means one of several forms, then those of that form | that of the form |
+//! | `given c` | none | `c` |
+//! | `mapped`, `made`, `built`, `tested` | those of a grammar | another value for its value; only some of its values |
 //!
 //! # Why a reader is right
 //!
 //! A grammar is **exact** (`IsExact`) if what it reads is spelled so, and what is spelled so is read, whatever follows
 //! but for a token that it would take too. That token is the catch: behind `A` an optional `, B` goes on with a comma,
 //! so nothing that begins with a comma may follow. `IsExact g goes_on` names these tokens. There is one lemma for each
-//! combinator in `proofs/` (OneToken, Parts, Values), and so a grammar is proved exact by one term that has its own
+//! combinator in `proofs/` (OneToken, Parts, Values, FormLaws), and so a grammar is proved exact by one term that has its own
 //! shape, with a short remark where a part that goes on meets the next: "FROM is no comma". No text then has two
 //! readings (`one_reading`), although nothing was said of ambiguity.
 //!
@@ -60,12 +62,12 @@ mod text;
 mod token;
 
 pub use laws::{one_list_of_tokens, printed_tokens_are_read};
-pub use lexing::tokens_of;
+pub use lexing::{has_first_word, is_blank, tokens_of};
 pub use mark::Mark;
 pub use read_err::ReadErr;
 pub use reading::{
-    begins_mark, begins_word, begins_word_mark, maybe_word, take_identifier, take_mark, take_name,
-    take_number, take_quoted, take_word, whole,
+    begins_mark, begins_word, begins_word_mark, maybe_word, take_between, take_identifier,
+    take_mark, take_name, take_number, take_quoted, take_word, whole,
 };
 pub use repeated::{Behind, Comma, Part, Repeated, Separator, commas, many, optional, separated};
 pub use text::{one_reading, read_text};

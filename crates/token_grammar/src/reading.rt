@@ -7,6 +7,7 @@ ghost use Rattle.dtx_values.specs.Name.{name_of};
 ghost use Rattle.token_grammar.specs.Gives.{Gives};
 ghost use Rattle.token_grammar.specs.Steps.{begins, whole_of};
 ghost use Rattle.token_grammar.specs.Grammar as grammar;
+ghost use Rattle.token_grammar.specs.Forms.{number_between};
 ghost use Rattle.token_grammar.specs.Grammar.{is_word, is_mark, begins_two};
 
 use crate::{Mark, ReadErr, Token};
@@ -112,6 +113,19 @@ pub fn take_number(tokens: &[Token], most: u64) -> Result<(u64, &[Token]), ReadE
 {
     match tokens {
         [Token::Number(number), rest @ ..] if *number <= most => Ok((*number, rest)),
+        _ => Err(ReadErr::Bad),
+    }
+}
+
+/// A number from `least` to `most`.
+pub fn take_between(tokens: &[Token], least: u32, most: u32) -> Result<(u32, &[Token]), ReadErr>
+    ensures { Gives (λ x. (x.0, x.1.now)) result ((number_between least most).read tokens.now) }
+{
+    match tokens {
+        [Token::Number(number), rest @ ..]
+            if u64::from(least) <= *number && *number <= u64::from(most) => {
+            Ok((*number as u32, rest))
+        }
         _ => Err(ReadErr::Bad),
     }
 }
