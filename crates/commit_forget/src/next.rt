@@ -1,6 +1,7 @@
-//! What a kept branch does next in the commit and forget phases.
+//! Neighbours of a kept branch, and what it does next in the commit and forget phases.
 ghost use Rattle.std.specs.Prelude.{◌≡◌};
 
+use dtx_values::Listing;
 use redo_record::Decision;
 use tran_ids::BranchId;
 
@@ -13,6 +14,9 @@ pub struct Beyond {
     /// Whether it is the parent, and not a child.
     pub is_parent: bool,
 }
+
+/// Neighbours away from the site: the parent first, then the children in order of reference.
+pub type Beyonds = Listing<Beyond>;
 
 /// What a kept branch does about a decision, an Ack or Forgotten.
 #[derive(Clone, Copy, Debug)]
