@@ -60,7 +60,7 @@ EndsSo P (records.Sealed r) = P r.me
 EndsSo P (records.Decided r) = P r.me
 EndsSo P _ = Unit {0}
 
-same_turned : (a b : BranchId) → same a b ≡ false → same b a ≡ false
+pub same_turned : (a b : BranchId) → same a b ≡ false → same b a ≡ false
 same_turned a b is = by (same b a) refl
   where
     by : (q : Bool) → same b a ≡ q → q ≡ false

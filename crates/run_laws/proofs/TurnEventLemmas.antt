@@ -140,7 +140,7 @@ module _ (places : List Place) (asked : List Command) (each : (n : ℕ) (p : Pla
     pub record_may : IfSome u.wrote (MayStand t)
     record_may = of_wrote p k u serving (λ w. IfSome w (MayStand t)) tt (may_on t n (boots rs) now.untaught p u.input is serving.step fits)
 
-    record_own : IfSome u.wrote (IsRecordOf (λ b. b.node ≡ n))
+    pub record_own : IfSome u.wrote (IsRecordOf (λ b. b.node ≡ n))
     record_own = of_wrote p k u serving (λ w. IfSome w (IsRecordOf (λ b. b.node ≡ n))) tt (own_on n p u.input is serving.step (heard_own n k u.input (own n k may.up))).1
 
     record_turn : IfSome u.wrote IsOfTurn

@@ -1,18 +1,19 @@
 -- The events of a run: their book is the book of the run, and where each turn is just the run's book agrees.
-use Rattle.std.specs.Prelude.{◌≡◌, ℕ, List, [], ◌∷◌, Some, None, IfSome}
+use Rattle.std.specs.Prelude.{◌≡◌, ℕ, ◌⊎◌, List, [], ◌∷◌, Some, None, IfSome}
 use Rattle.std.specs.List.{AllByRecursion}
-use Rattle.node_rules.specs.Data.{Place}
+use Rattle.node_rules.specs.Data.{BranchId, Place}
 use Rattle.node_rules.specs.Kept.{Kept}
+use Rattle.node_rules.specs.Records.{nothing_stored, stored_by}
 use Rattle.run_laws.specs.Data.{Happening, Command}
 use Rattle.run_laws.specs.Data.happenings
-use Rattle.agreement.specs.Events.{Forest, IsForest, Event, Lawful, exit}
+use Rattle.agreement.specs.Events.{Forest, IsForest, Event, Sealed, Lawful, exit}
 use Rattle.agreement.specs.BookOf.{book_of}
 use Rattle.run_laws.specs.Entries.{book_of as trace_book}
 use Rattle.run_laws.specs.Book.{Agreement, MixedIsMarked, AboveSeals}
 use Rattle.run_laws.specs.Lawful.{History, IsLawfulRun, facts_at}
-use Rattle.run_laws.specs.Facts.{Facts, first_facts, facts_after, node_at}
+use Rattle.run_laws.specs.Facts.{Facts, first_facts, facts_after, node_at, records_at}
 use Rattle.run_laws.specs.RunEvents.{with_record, events_after, events_of, AreJust}
-use Rattle.run_laws.specs.EventRows.{RowsAre, MayStand, MaySayAll}
+use Rattle.run_laws.specs.EventRows.{RowsAre, MayStand, MaySayAll, HasRow, IsDone}
 
 -- The book of a run is that of its events.
 abbrev pub BookOfEvents : Type 0
@@ -52,3 +53,8 @@ TellsAsEvents f t _ = Unit {0}
 -- In every lawful run each turn writes and says what it may by the events before it, as far as that hangs on no session tree.
 abbrev pub TurnsTellAsEvents : Type 0
 TurnsTellAsEvents = (t : History) → IsLawfulRun t → AtEachEvent TellsAsEvents t
+
+-- In every lawful run a sealed branch has a row, by the records of its node, until it learned a rollback or forgot.
+abbrev pub SealedAreKept : Type 0
+SealedAreKept = (t : History) → IsLawfulRun t → (b : BranchId) (n : ℕ) → exit (events_of t) b ≡ Some (Sealed n)
+    → HasRow b (stored_by nothing_stored (records_at (facts_at t) b.node)).durable.kept ⊎ IsDone (events_of t) b

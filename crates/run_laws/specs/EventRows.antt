@@ -1,7 +1,8 @@
 -- How the rows of kept branches stand against the events of a run, and what records and messages need of the events before
 -- them, where that hangs on no session tree.
 use Rattle.std.specs.Prelude.{◌≡◌, ◌≢◌, ℕ, ◌≤◌, ◌⊎◌, true, List, Option, Some, None}
-use Rattle.std.specs.List.{AllByRecursion}
+use Rattle.std.specs.List.{AllByRecursion, list_any}
+use Rattle.redo_record.specs.Kept.{stands_at}
 use Rattle.agreement.specs.Outcomes.{differ}
 use Rattle.agreement.specs.Events.{Sealed, Event, Forget, Send_ack, exit, learned, forced, Has, Knows}
 use Rattle.node_rules.specs.Data.{BranchId, Decision, State, Standing, RedoRecord, Kind, Msg}
@@ -56,3 +57,11 @@ MaySay t from to scn _ = Unit {0}
 -- each of these messages may be said
 abbrev pub MaySayAll : List Event → List Msg → Type 0
 MaySayAll t ms = AllByRecursion (λ m. MaySay t m.from m.to m.scn m.kind) ms
+
+-- a branch has a row
+abbrev pub HasRow : BranchId → List Standing → Type 0
+HasRow b ks = list_any (stands_at b) ks ≡ true
+
+-- it learned a rollback or forgot
+abbrev pub IsDone : List Event → BranchId → Type 0
+IsDone t b = (learned t b ≡ Some decisions.Rollback) ⊎ Has (Forget b) t

@@ -8,7 +8,7 @@
 
 ghost use Rattle.run_laws.specs.Laws.{BookIsOfTrace, FactsAreAlone, PastGoesOn, LawfulGoesOn, RunsArePlayed};
 ghost use Rattle.run_laws.specs.NodeLaws.{ClocksRise, ClocksCover, HoldersAreThere, RecordsAreKept, IdsAreFresh, CommitsAreKnown, CommitsAreRecorded};
-ghost use Rattle.run_laws.specs.EventLaws.{BookOfEvents, JustRunsAreLawful, JustRunsAgree, NodesAreAsEvents, TurnsTellAsEvents};
+ghost use Rattle.run_laws.specs.EventLaws.{BookOfEvents, JustRunsAreLawful, JustRunsAgree, NodesAreAsEvents, TurnsTellAsEvents, SealedAreKept};
 ghost use Rattle.run_laws.specs.IdLaws.{IdsNameTheirNode};
 
 /// The book that the facts keep is the book of the trace.
@@ -103,4 +103,9 @@ pub fn nodes_are_as_events()
 /// at no lower clock; it tells a commit that it knows; it tells that it forgot, or answers an Ack.
 pub fn turns_tell_as_events()
     ensures { TurnsTellAsEvents }
+{}
+
+/// A sealed branch has a row, by the records of its node, until it learned a rollback or forgot.
+pub fn sealed_are_kept()
+    ensures { SealedAreKept }
 {}
