@@ -1,6 +1,6 @@
 -- The calls of clients: each form of statement in a session, and a call that is given up. (SQL Language Reference: COMMIT,
 -- ROLLBACK, ALTER SESSION, ALTER SYSTEM, CREATE; Database Administrator's Guide, "Managing Distributed Transactions".)
-use Rattle.std.specs.Prelude.{ℕ, ◌+◌, ◌||◌, Bool, true, false, if◌then◌else◌, List, [], ◌∷◌, ◌++◌, unwrap_or, slice_get, option_map, Option, Some, None}
+use Rattle.std.specs.Prelude.{ℕ, ◌+◌, ◌||◌, Bool, true, false, if◌then◌else◌, List, [], ◌∷◌, ◌++◌, unwrap_or, option_map, Option, Some, None}
 use Rattle.std.specs.List.{list_any}
 use Rattle.node_rules.specs.Data.{Table, Link, Synonym, Stmt, Done, Advice, Refusal, BranchId, RedoRecord, Standing, Durable, Live, Place, Going, Waits, PendingCall, Session}
 use Rattle.node_rules.specs.Data.answers
@@ -11,7 +11,7 @@ use Rattle.node_rules.specs.Data.stmts
 use Rattle.node_rules.specs.Data.kinds
 use Rattle.node_rules.specs.Data.waiting
 use Rattle.node_rules.specs.Data.pending
-use Rattle.session_tree.specs.Live.{fresh_live}
+use Rattle.session_tree.specs.Live.{fresh_live, edge_at}
 use Rattle.node_rules.specs.Ids.{decimal}
 use Rattle.node_rules.specs.Words.{same_text, one, set_numbered}
 use Rattle.node_rules.specs.Refusals.{ora, dtx}
@@ -166,9 +166,9 @@ commit_given_up k root None = record {
   ended = commit_answer k.sessions root (tran_refusal (given_up_code (standing_at k root)) root);
 }
 
--- the link of the child at a place
+-- the link of the child of a number
 abbrev pub link_at : Live → ℕ → List ℕ
-link_at l i = unwrap_or (option_map (λ e. e.link) (slice_get l.edges i)) []
+link_at l i = unwrap_or (option_map (λ e. e.link) (edge_at l i)) []
 
 -- the link that a statement waits for
 abbrev pub waits_on : Live → Waits → List ℕ

@@ -6,7 +6,7 @@ ghost use Rattle.std.specs.Prelude.{◌≡◌};
 pub enum Walk {
     /// The branch is the site.
     Here,
-    /// The walk goes to the child at this place among the edges, from 0.
+    /// The walk goes to the child of this number, from 1.
     Down(u8),
     /// Neither the branch nor its children have changes: there is no site.
     Nowhere,
@@ -25,7 +25,7 @@ pub enum Act {
     SayReady,
     /// It becomes sealed and answers Prepared.
     Seal,
-    /// It becomes sealed and sends CommitPoint to the child at this place, from 0.
+    /// It becomes sealed and sends CommitPoint to the child of this number, from 1.
     SealAndPass(u8),
     /// It is the site, and decides to commit.
     Decide,

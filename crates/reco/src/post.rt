@@ -1,4 +1,4 @@
-//! Messages of a turn.
+//! Messages before they are sent.
 ghost use Rattle.std.specs.Prelude.{◌≡◌};
 
 use dtx_values::Listing;
