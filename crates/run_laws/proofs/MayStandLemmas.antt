@@ -12,8 +12,8 @@ use Rattle.node_rules.specs.Data.decisions
 use Rattle.node_rules.specs.Data.states
 use Rattle.node_rules.specs.Data.records
 use Rattle.node_rules.specs.Data.acts
-use Rattle.node_rules.specs.declared.next.Next.{Next}
-use Rattle.node_rules.specs.declared.next.Next.TheVariants as nexts
+use Rattle.commit_forget.specs.declared.next.Next.{Next}
+use Rattle.commit_forget.specs.declared.next.Next.TheVariants as nexts
 use Rattle.node_rules.specs.Words.{same, put_item, drop_item, set_numbered}
 use Rattle.node_rules.specs.Kept.{Kept, Deed, live_id, standing_id, with_standing}
 use Rattle.node_rules.specs.Sessions.{session_at, with_call}

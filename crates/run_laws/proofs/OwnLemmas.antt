@@ -12,7 +12,7 @@ use Rattle.node_rules.specs.Data.decisions
 use Rattle.node_rules.specs.Data.params
 use Rattle.node_rules.specs.Data.records
 use Rattle.node_rules.specs.Data.acts
-use Rattle.node_rules.specs.declared.next.Next.TheVariants as nexts
+use Rattle.commit_forget.specs.declared.next.Next.TheVariants as nexts
 use Rattle.node_rules.specs.Words.{same, item_at, put_item, drop_item, change_where, drop_where}
 use Rattle.node_rules.specs.Kept.{Kept, Deed, Stored, live_id, standing_id}
 use Rattle.node_rules.specs.Records.{applied, nothing_stored, stored_by}

@@ -11,10 +11,10 @@ use Rattle.node_rules.specs.Data.decisions
 use Rattle.node_rules.specs.Data.kinds
 use Rattle.node_rules.specs.Data.acts
 use Rattle.session_tree.specs.Live.{children_of, peer_of, new_edge}
-use Rattle.node_rules.specs.declared.post.Post.{Post}
+use Rattle.reco.specs.declared.post.Post.{Post}
 use Rattle.node_rules.specs.declared.session.Session.{Session}
-use Rattle.node_rules.specs.declared.next.Beyond.{Beyond}
-use Rattle.node_rules.specs.declared.next.Next.TheVariants as nexts
+use Rattle.commit_forget.specs.declared.next.Beyond.{Beyond}
+use Rattle.commit_forget.specs.declared.next.Next.TheVariants as nexts
 use Rattle.node_rules.specs.Words.{put_by_branch}
 use Rattle.node_rules.specs.Kept.{Kept, Branch, Deed, post_one, to_each, to_one, standing_id}
 use Rattle.session_tree.specs.Tree.{step as step_from}
@@ -22,7 +22,8 @@ use Rattle.node_rules.specs.Calls.{answer_says, exec_to, with_edge, hears_reply}
 use Rattle.node_rules.specs.Statement.{ran, after_run}
 use Rattle.node_rules.specs.Prepare.{path_of, prepares, site_neighbors, own_changes}
 use Rattle.node_rules.specs.Commit.{acked_by, all_acked, beyond, is_neighbor, passes_commit, rollback_to, passes}
-use Rattle.node_rules.specs.Recovery.{Asking, asking_id, asks_live, asks_kept, acks_again, recovers, askings, tells, ask_answer}
+use Rattle.reco.specs.declared.told.Told.TheVariants as tolds
+use Rattle.node_rules.specs.Recovery.{told_by, told_kind, Asking, asking_id, asks_live, asks_kept, acks_again, recovers, askings, tells, ask_answer}
 use Rattle.node_rules.specs.Inputs.{Came}
 use Rattle.node_rules.proofs.Steps as steps
 use Rattle.node_rules.proofs.Steps.{Step, Says, Doing, IsKept}
@@ -80,7 +81,7 @@ module _ (r : List Event) (scn : ℕ) where
   known_told s to (Some decisions.Rollback) known = tt
 
   asked_told : (s : Standing) (from : BranchId) → RowIs r s → MaySay r s.me from scn (ask_answer s from)
-  asked_told s from row = cond_both (is_neighbor s from) _ _ (MaySay r s.me from scn) (λ near. known_told s from s.decision row.known) (λ other. tt)
+  asked_told s from row = cond_both (is_neighbor s from) (told_by s.decision) tolds.RolledBack (λ t. MaySay r s.me from scn (told_kind t)) (λ near. known_told s from s.decision row.known) (λ other. tt)
 
   -- ---- recovery
 
@@ -158,10 +159,10 @@ module _ (t : List Event) (n boot : ℕ) (untaught : IsUntaught t) (p : Place) (
   step_told (steps.Goes_nowhere {k = k} x s given r asked way) fits below = answer_told t _ x _ x.live.parent
   step_told (steps.Calls {k = k} x s given i table asked way) fits below = exec_told t _ k.sessions x i _ given (peer_of x.live i)
   step_told (steps.Opens x s given node link table asked way) fits below = (tt, tt)
-  step_told (steps.Goes_on {k = k} x from strength g link opened) fits below = exec_told t _ k.sessions (with_edge x (new_edge from link strength)) (length x.live.edges) g.statement (g.room - 1) _
+  step_told (steps.Goes_on {k = k} x from strength g link opened) fits below = exec_told t _ k.sessions (with_edge x (new_edge from link strength)) (length x.live.edges + 1) g.statement (g.room - 1) _
   step_told (steps.Hears_reply {k = k} x weight count a i e answered) fits below = answer_told t _ (hears_reply x i weight count e) _ x.live.parent
   step_told (steps.Opens_branch to parent edge root depth came new) fits below = (tt, tt)
-  step_told (steps.Acts {k = k} l site_below acts.AskDown why) fits below = prepares_told t _ l.me l.comment (path_of site_below (step_from l)) 0 l.edges
+  step_told (steps.Acts {k = k} l site_below acts.AskDown why) fits below = prepares_told t _ l.me l.comment (path_of site_below (step_from l)) 1 l.edges
   step_told (steps.Acts {k = k} l site_below acts.SayReadOnly why) fits below = one_told t _ l.me kinds.ReadOnly l.parent (λ b. tt)
   step_told (steps.Acts {k = k} l site_below acts.SayReady why) fits below = one_told t _ l.me kinds.Ready l.parent (λ b. tt)
   step_told (steps.Acts {k = k} l site_below acts.Seal why) fits below =
