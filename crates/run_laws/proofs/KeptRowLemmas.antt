@@ -58,7 +58,7 @@ module _ (b : BranchId) where
         | inr there ↦ or_right (same y.me b) (list_any (stands_at b) (add_kept ys x)) (put_stays ys x there)
       ])
 
-  any_map : (h : Standing → Standing) → ((x : Standing) → (h x).me ≡ x.me) → (ks : List Standing) → list_any (stands_at b) (map h ks) ≡ list_any (stands_at b) ks
+  pub any_map : (h : Standing → Standing) → ((x : Standing) → (h x).me ≡ x.me) → (ks : List Standing) → list_any (stands_at b) (map h ks) ≡ list_any (stands_at b) ks
   any_map h me [] = refl
   any_map h me (x ∷ ks) = ap (λ m. same m b || list_any (stands_at b) (map h ks)) (me x) ∙ ap (λ q. same x.me b || q) (any_map h me ks)
 

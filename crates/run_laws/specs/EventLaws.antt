@@ -3,6 +3,7 @@ use Rattle.std.specs.Prelude.{◌≡◌, ℕ, ◌⊎◌, List, [], ◌∷◌, So
 use Rattle.std.specs.List.{AllByRecursion}
 use Rattle.node_rules.specs.Data.{BranchId, Place}
 use Rattle.node_rules.specs.Kept.{Kept}
+use Rattle.node_rules.specs.Turn.{Is_gone, stand_of}
 use Rattle.node_rules.specs.Records.{nothing_stored, stored_by}
 use Rattle.run_laws.specs.Data.{Happening, Command}
 use Rattle.run_laws.specs.Data.happenings
@@ -58,3 +59,8 @@ TurnsTellAsEvents = (t : History) → IsLawfulRun t → AtEachEvent TellsAsEvent
 abbrev pub SealedAreKept : Type 0
 SealedAreKept = (t : History) → IsLawfulRun t → (b : BranchId) (n : ℕ) → exit (events_of t) b ≡ Some (Sealed n)
     → HasRow b (stored_by nothing_stored (records_at (facts_at t) b.node)).durable.kept ⊎ IsDone (events_of t) b
+
+-- In every lawful run a sealed branch of which its node knows nothing learned a rollback or forgot.
+abbrev pub GoneAreDone : Type 0
+GoneAreDone = (t : History) → IsLawfulRun t → (b : BranchId) (k : Kept) → node_at (facts_at t) b.node ≡ Some k → stand_of k b ≡ Is_gone
+    → (n : ℕ) → exit (events_of t) b ≡ Some (Sealed n) → IsDone (events_of t) b

@@ -8,7 +8,7 @@
 
 ghost use Rattle.run_laws.specs.Laws.{BookIsOfTrace, FactsAreAlone, PastGoesOn, LawfulGoesOn, RunsArePlayed};
 ghost use Rattle.run_laws.specs.NodeLaws.{ClocksRise, ClocksCover, HoldersAreThere, RecordsAreKept, IdsAreFresh, CommitsAreKnown, CommitsAreRecorded};
-ghost use Rattle.run_laws.specs.EventLaws.{BookOfEvents, JustRunsAreLawful, JustRunsAgree, NodesAreAsEvents, TurnsTellAsEvents, SealedAreKept};
+ghost use Rattle.run_laws.specs.EventLaws.{BookOfEvents, JustRunsAreLawful, JustRunsAgree, NodesAreAsEvents, TurnsTellAsEvents, SealedAreKept, GoneAreDone};
 ghost use Rattle.run_laws.specs.IdLaws.{IdsNameTheirNode};
 
 /// The book that the facts keep is the book of the trace.
@@ -108,4 +108,9 @@ pub fn turns_tell_as_events()
 /// A sealed branch has a row, by the records of its node, until it learned a rollback or forgot.
 pub fn sealed_are_kept()
     ensures { SealedAreKept }
+{}
+
+/// A sealed branch that is neither live nor kept at its node learned a rollback or forgot.
+pub fn gone_are_done()
+    ensures { GoneAreDone }
 {}
