@@ -3,7 +3,7 @@
 
     bench/run.py [PROGRAM]
 
-PROGRAM is crates/dtx/out/dtx where it is left out, which ./dtx builds. For each script it prints the rows, the bytes and
+PROGRAM is crates/dtx/out/dtx where it is left out, which ./prove builds. For each script it prints the rows, the bytes and
 the processor time, the median of 5 runs, and then how many times as long the whole takes as the half. Each run has to
 print the report that is due. The whole is to take less than 2 seconds, and at most 2.3 times as long as the half. No gate
 asks for this, since a time depends on the machine.

@@ -3,7 +3,7 @@
 
     tests/run_cases.py [PROGRAM]
 
-PROGRAM is ./dtx where it is left out. A case is a folder with the files
+PROGRAM is the proved program where it is left out, which ./prove builds. A case is a folder with the files
 
     script      the bytes of standard input
     make-input  in place of script: a Python expression that gives those bytes; it may call range
@@ -37,7 +37,7 @@ def cases():
 
 
 def why_wrong(program, data, words, expected, status):
-    """None where the program prints and answers what is due, else the difference."""
+    """None where the program prints and exits as is due, else the difference."""
     done = subprocess.run([program, *words], input=data, capture_output=True, timeout=60)
     if done.returncode != status:
         return f"status {done.returncode}, not {status}"
@@ -60,4 +60,4 @@ def main(program):
 
 
 if __name__ == "__main__":
-    sys.exit(main(sys.argv[1] if len(sys.argv) > 1 else str(TOP / "dtx")))
+    sys.exit(main(sys.argv[1] if len(sys.argv) > 1 else str(TOP / "crates/dtx/out/dtx")))

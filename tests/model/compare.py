@@ -3,8 +3,9 @@
 
     tests/model/compare.py [COUNT [SEED [PROGRAM]]]
 
-COUNT scripts (1,000 where it is left out) are made from SEED on, and PROGRAM is ./dtx. A script on which the two differ
-is written to differs_SEED.dtx. The last line is `N scripts, M differ`; the exit status is 1 where one differs.
+COUNT scripts (1,000 where it is left out) are made from SEED on, and PROGRAM is the proved program where it is left out,
+which ./prove builds. A script on which the two differ is written to differs_SEED.dtx. The last line is `N scripts, M
+differ`; the exit status is 1 where one differs.
 
 The second program is script.py, node.py and sql.py. It knows the forms of statements that a node runs on tables of its
 own; random_scripts.py makes no others but by chance, as texts that are no statement.
@@ -20,7 +21,7 @@ from script import play
 TOP = pathlib.Path(__file__).resolve().parent.parent.parent
 
 
-def main(count="1000", seed="0", program=str(TOP / "dtx")):
+def main(count="1000", seed="0", program=str(TOP / "crates/dtx/out/dtx")):
     differing = 0
     for number in range(int(seed), int(seed) + int(count)):
         script = Writer(number).script()

@@ -17,6 +17,8 @@ TOP = pathlib.Path(__file__).resolve().parents[2]
 BY_HAND = "Script"
 # the crates of definitions with laws over them, each below the next
 LAWS = ("node_rules", "run_laws")
+# the crates of definitions with code that is proved against them; plays look at the definitions alone
+PARTS = ("session_tree", "link_session", "prepare_phase", "commit_forget", "crash_points", "reco", "force_cmds")
 # what stands in a lib.rt beside laws begins so
 DECLARATIONS = ("//!", "#![", "mod ", "pub mod ", "pub use ")
 
@@ -78,6 +80,20 @@ def drop_laws(top):
         lines = [line for line in lib.read_text().splitlines() if line.startswith(DECLARATIONS)]
         lib.write_text("\n".join(lines) + "\n")
         shutil.rmtree(crate / "proofs")
+
+
+def drop_code(top):
+    """Leaves the types and definitions of the parts, and no code: no module that cites definitions of its crate."""
+    for crate in (top / "crates" / name for name in PARTS):
+        lib = crate / "src" / "lib.rt"
+        lines = [line for line in lib.read_text().splitlines() if line.startswith(DECLARATIONS)]
+        for file in crate.glob("src/*.rt"):
+            if f"ghost use Rattle.{crate.name}.specs." in file.read_text() and file != lib:
+                declared = re.compile(rf"mod {file.stem};|pub use {file.stem}::")
+                lines = [line for line in lines if not declared.match(line)]
+                file.unlink()
+        lib.write_text("\n".join(lines) + "\n")
+        shutil.rmtree(crate / "proofs", ignore_errors=True)
 
 
 def laws_that_fail(errors):

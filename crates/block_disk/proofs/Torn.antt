@@ -9,7 +9,7 @@ module _ (before bytes : List ℕ) (at : ℕ) (within : at ≤ length before) wh
   length-front : length (take at before) ≡ at
   length-front = omega (arith, length-take at before)
 
-  -- what stands in front of the write's end
+  -- what stands before the write's end
   length-written : length (take at before ++ bytes) ≡ at + length bytes
   length-written = omega (arith, length-front, length-append (take at before) bytes)
 

@@ -1,4 +1,4 @@
--- The laws that each disk keeps, for a disk in memory.
+-- The laws of the trait `Disk`, for a disk in memory.
 use Rattle.std.specs.Prelude.{ℕ, List, [], ◌∷◌, length, refl}
 use mathlib.Core.Logic.{inl, inr}
 use Rattle.std.proofs.Math.Nat.{not-suc-le_self}
@@ -15,7 +15,7 @@ pub IsImageSince-now : (happenings : List Happening) (moment : ℕ) (image : Lis
 IsImageSince-now [] moment image now = now
 IsImageSince-now (happening ∷ earlier) moment image now = inl now
 
--- since this moment there are no others
+-- an image since this moment is one of now
 pub IsImageSince-length : (happenings : List Happening) (image : List ℕ) → IsImageSince happenings (length happenings) image → IsImage happenings image
 IsImageSince-length [] image since = since
 IsImageSince-length (happening ∷ earlier) image (inl now) = now

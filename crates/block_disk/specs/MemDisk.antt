@@ -1,18 +1,17 @@
--- What a disk in memory is, as its callers see it, and what its calls make of it.
+-- A disk in memory as its callers see it, and what its calls do to it.
 use Rattle.std.specs.Prelude.{ℕ, ◌-◌, List, [], ◌∷◌, length, max}
 use Rattle.block_disk.specs.Images.{MayBeTorn}
 use Rattle.block_disk.specs.Counts.{next_count}
 use Rattle.block_disk.specs.Happenings.{Happening, Wrote, synced}
 
--- What it has done, newest first; how many bytes may still be written without more memory; and how many counted calls
--- were made, and how many of them were writes, both modulo 2^64.
+-- A disk in memory.
 pub record DiskState : Type 0 where
-  pub happenings : List Happening
-  pub spare : ℕ
-  pub calls : ℕ
-  pub writes : ℕ
+  pub happenings : List Happening  -- its writes and syncs, newest first
+  pub spare : ℕ  -- how many bytes may still be written without more memory
+  pub calls : ℕ  -- how many counted calls were made, modulo 2^64
+  pub writes : ℕ  -- how many of them were writes, modulo 2^64
 
--- one that nothing was done to
+-- an empty disk that was not called yet
 abbrev pub blank : DiskState
 blank = record { happenings = []; spare = 0; calls = 0; writes = 0 }
 
@@ -20,7 +19,7 @@ blank = record { happenings = []; spare = 0; calls = 0; writes = 0 }
 abbrev pub after_look : DiskState → DiskState
 after_look disk = record disk { calls = next_count disk.calls }
 
--- with room for so many bytes
+-- with room for this many bytes
 abbrev pub after_room : DiskState → ℕ → DiskState
 after_room disk more = record disk { spare = max disk.spare more }
 

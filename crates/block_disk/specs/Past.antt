@@ -1,15 +1,15 @@
--- What the events that a disk in memory keeps stand for.
+-- What the kept writes and syncs of a disk in memory stand for.
 use Rattle.std.specs.Prelude.{ℕ, ◌-◌, List, [], ◌∷◌, length, take, drop}
 use Rattle.block_disk.specs.Happenings.{Happening, Wrote, Synced}
 use Rattle.block_disk.specs.declared.past.Event.{Event}
 use Rattle.block_disk.specs.declared.past.Event.TheVariants.{Write, Sync}
 
--- what happened, newest first, and how many bytes may still be written without more memory
+-- The past of a disk in memory.
 pub record PastState : Type 0 where
-  pub happenings : List Happening
-  pub spare : ℕ
+  pub happenings : List Happening  -- its writes and syncs, newest first
+  pub spare : ℕ  -- how many bytes may still be written without more memory
 
--- the happenings of these events, newest first: the bytes of the last write stand at the end of all bytes
+-- the writes and syncs of these events, newest first: the bytes of the last write are the last of all bytes
 abbrev pub happenings_of : List Event → List ℕ → List Happening
 happenings_of [] written = []
 happenings_of (Write at count ∷ events) written =

@@ -1,4 +1,4 @@
-//! What a disk is.
+//! The trait of disks.
 ghost use Rattle.std.specs.Prelude.{◌≡◌, ◌+◌, ◌-◌, ◌≤◌, ◌<◌, ℕ, List, Option, Bool, true, false, length, take, drop, IfOk, OnOk};
 ghost use Rattle.dtx_ports.specs.Causes.{HasCause};
 ghost use Rattle.block_disk.specs.Images.{IsWritten, TearsOnly, AddsNone, IsOnly, GoesOn};
@@ -8,7 +8,8 @@ ghost use Rattle.block_disk.specs.Plan.{Plan, GoesByPlan};
 use dtx_ports::Failed;
 use std::alloc::AllocError;
 
-/// A disk. Its calls that are counted are `len`, `read`, `write_at` and `sync`.
+/// A disk. Its calls `len`, `read`, `write_at` and `sync` are counted. A counted call fails only where the disk's
+/// faults rose in it; where the disk shows its plan, exactly where an order strikes it.
 pub trait Disk {
     /// The bytes that a read gives.
     ghost content: { Self → List ℕ };
@@ -22,21 +23,23 @@ pub trait Disk {
     /// The contents that a crash at this moment or a later one, up to now, might have left.
     ghost images_since: { Self → ℕ → List ℕ → Type 0 };
 
-    /// How many bytes may still be written without more memory: what it holds, and what it keeps of each write.
+    /// How many bytes may still be written without more memory, for the content and for what the disk keeps of each
+    /// write.
     ghost spare: { Self → ℕ };
 
-    /// How often it has failed: a `u64` that never falls and, once at 2^64 - 1, stays there.
+    /// How often it has failed: a `u64` that never falls and stays at 2^64 - 1 once it is there.
     ghost faults: { Self → ℕ };
 
-    /// How many counted calls were made, and how many of them were writes, both modulo 2^64.
+    /// How many counted calls were made, modulo 2^64.
     ghost calls: { Self → ℕ };
 
+    /// How many of them were writes, modulo 2^64.
     ghost writes: { Self → ℕ };
 
-    /// The orders to stop or to fail that have not struck, where the disk tells them.
+    /// The orders to stop or to fail that have not struck yet, where the disk shows them.
     ghost plan: { Self → Option Plan };
 
-    /// The number of its bytes.
+    /// The number of its bytes. Fails only where the disk's faults rose.
     fn len(&mut self) -> Result<u64, Failed>
         ensures len { IfOk result (λ count. count ≡ length (content self.old)) }
         ensures content { content self.new ≡ content self.old }
@@ -48,7 +51,7 @@ pub trait Disk {
         ensures writes { writes self.new ≡ writes self.old }
         ensures plan { GoesByPlan (plan self.old) (plan self.new) false result };
 
-    /// Makes sure that so many bytes can be written. It is no counted call.
+    /// Makes room for this many bytes to be written. It is not a counted call. Fails where memory runs out.
     fn room(&mut self, more: u64) -> Result<(), AllocError>
         ensures room { OnOk result (more ≤ spare self.new) }
         ensures content { content self.new ≡ content self.old }
@@ -60,7 +63,8 @@ pub trait Disk {
         ensures writes { writes self.new ≡ writes self.old }
         ensures plan { plan self.new ≡ plan self.old };
 
-    /// Fills the buffer with the bytes from a place on, which lie within its length.
+    /// Fills the buffer with the bytes from a place on, which lie within the disk's length. Fails only where the
+    /// disk's faults rose.
     fn read(&mut self, at: u64, buffer: &mut [u8]) -> Result<(), Failed>
         requires { at + length buffer.old ≤ length (content self.old) }
         ensures bytes { OnOk result (buffer.new ≡ take (length buffer.old) (drop at (content self.old))) }
@@ -74,7 +78,8 @@ pub trait Disk {
         ensures writes { writes self.new ≡ writes self.old }
         ensures plan { GoesByPlan (plan self.old) (plan self.new) false result };
 
-    /// Writes bytes at a place within its length or at its end. Until a sync, a crash may leave any bytes in their range.
+    /// Writes bytes at a place within the disk's length or at its end. Until a sync, a crash may leave any bytes in
+    /// their range. Fails only where the disk's faults rose.
     fn write_at(&mut self, at: u64, bytes: &[u8]) -> Result<(), Failed>
         requires within { at ≤ length (content self.old) }
         requires some { 0 < length bytes.now }
@@ -88,7 +93,7 @@ pub trait Disk {
         ensures writes { writes self.new ≡ next_count (writes self.old) }
         ensures plan { GoesByPlan (plan self.old) (plan self.new) true result };
 
-    /// After it, a crash leaves what a read gives.
+    /// After a sync that succeeds, a crash leaves what a read gives. Fails only where the disk's faults rose.
     fn sync(&mut self) -> Result<(), Failed>
         ensures durable { OnOk result (IsOnly (content self.old) (images self.new)) }
         ensures content { content self.new ≡ content self.old }

@@ -1,9 +1,9 @@
 //! A disk of bytes that may stop in the middle of a write.
 //!
-//! Between two syncs each written range, and the part past the old end, may hold any bytes after a crash; bytes outside
-//! stay. After a sync that succeeds a crash leaves what a read gives. The trait `Disk` says so in its clauses, of each
-//! moment of each call. A disk keeps what it needs for each write in memory that was taken before, so that a write
-//! cannot fail for want of it. `MemDisk` is such a disk in memory.
+//! Between two syncs each written range, and the part past the old end, may hold any bytes after a crash; bytes
+//! outside stay. After a sync that succeeds a crash leaves what a read gives. The clauses of the trait `Disk` say so
+//! for each moment of each call. What a disk needs for a write is taken before, by `room`, so a write never runs out
+//! of memory. `MemDisk` is such a disk in memory. The model of a disk is dtx's own.
 #![tactic(auto)]
 
 mod disk;

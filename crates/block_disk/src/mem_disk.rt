@@ -10,8 +10,8 @@ use crate::{Disk, Failed};
 use std::alloc::{AllocError, Global};
 use std::marker::Model;
 
-/// A disk in memory, none of whose calls fails. It keeps each write and sync, and so what a crash at each moment might
-/// have left.
+/// A disk in memory. No counted call of it fails. It keeps each write and sync, so what a crash at each moment might
+/// have left is known.
 #[derive(Debug, Drop)]
 pub struct MemDisk {
     bytes: Vec<u8>,
@@ -34,7 +34,7 @@ impl Model for MemDisk {
       writes = disk.writes;
     } };
 
-    // The bytes are what was written to an empty disk, and what may still be written has place.
+    // The bytes are what was written to an empty disk, and there is room for what may still be written.
     ghost invariant = { λ disk.
         (disk.bytes.items ≡ content_of disk.past.happenings)
         × (vec_len disk.bytes + disk.past.spare ≤ vec_capacity disk.bytes) };
@@ -142,7 +142,7 @@ impl Disk for MemDisk {
     }
 }
 
-// Puts these bytes at a place within the length or at the end, where the capacity is enough.
+// Puts these bytes at a place within the length or at the end. The capacity is enough.
 fn overwrite(bytes: &mut Vec<u8>, at: usize, with: &[u8])
     requires within { at ≤ vec_len bytes.old }
     requires room { at + length with.now ≤ vec_capacity bytes.old }

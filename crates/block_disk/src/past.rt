@@ -1,19 +1,21 @@
-//! What a disk in memory has done.
+//! The past of a disk in memory: its writes and syncs.
 ghost use Rattle.std.specs.Prelude.{◌≡◌, ◌-◌, ◌<◌, ◌≤◌, [], ◌∷◌, length, max, OnOk, OnErr};
 ghost use Rattle.block_disk.specs.Happenings.{Wrote, synced};
 
 use std::alloc::{AllocError, Global};
 use std::marker::Model;
 
-/// A write of so many bytes at a place, or a sync after a write.
+/// A write or a sync.
 #[derive(Clone, Copy, Debug)]
 pub enum Event {
+    /// `count` bytes were written at the place `at`.
     Write { at: u64, count: usize },
+    /// A sync after a write.
     Sync,
 }
 
-/// The writes and syncs of a disk, with the bytes that were written, the oldest first. `spare` bytes more can be
-/// written, each by a write of its own and with a sync after it, before memory is needed.
+/// The writes and syncs of a disk, with the bytes that were written, oldest first. `spare` more bytes can be written,
+/// each by a write of its own with a sync after it, before memory is needed.
 #[derive(Debug, Drop)]
 pub struct Past {
     events: Vec<Event>,
@@ -34,7 +36,7 @@ impl Model for Past {
       spare = past.spare;
     } };
 
-    // Each byte has place among the written ones, and for two events; so has the sync after the last write.
+    // There is room for each byte and for its two events, and for the sync after the last write.
     ghost invariant = { λ past.
         (past.is_synced ≡ is_settled (happenings_of (reverse past.events.items) past.written.items))
         × (vec_len past.events + 2 * past.spare + (if past.is_synced then 0 else 1) ≤ vec_capacity past.events)
@@ -42,7 +44,7 @@ impl Model for Past {
 }
 
 impl Past {
-    /// Nothing was done yet, and nothing can be written before `reserve`.
+    /// Nothing was written yet, and nothing can be written before `reserve`.
     pub fn new(alloc: Global) -> Past
         ensures happenings { result.happenings ≡ [] }
         ensures spare { result.spare ≡ 0 }
@@ -55,7 +57,8 @@ impl Past {
         }
     }
 
-    /// Makes sure that so many bytes can be written.
+    /// Makes room for this many bytes to be written. Fails where memory runs out, and has changed nothing then that
+    /// contracts see.
     pub fn reserve(&mut self, more: usize) -> Result<(), AllocError>
         ensures happenings { self.new.happenings ≡ self.old.happenings }
         ensures spare { OnOk result (self.new.spare ≡ max self.old.spare more) }

@@ -1,4 +1,5 @@
--- The entries of records, and the book of a trace.
+-- The entries of records, and the book of a trace. The book is dtx's own; what its entries say is in the words of the
+-- Database Administrator's Guide, "Distributed Transactions Concepts".
 use Rattle.std.specs.Prelude.{ℕ, List, [], ◌∷◌, flat_map, option_to_list, Option}
 use Rattle.book.specs.Data.{Sealed, Decided, RedoRecord, Entry, Happening}
 use Rattle.book.specs.Data.records
@@ -13,7 +14,7 @@ sealed_entry r = entries.Sealed r.me r.root r.changes r.scn
 abbrev pub decided_entry : Decided → Entry
 decided_entry r = entries.Decided r.me r.root r.changes r.scn
 
--- the entry of a record, where it has one
+-- the entry of a record, where it has one: links, synonyms, settings, starts and what is forgotten or hidden have none
 abbrev pub entry_of : ℕ → RedoRecord → List Entry
 entry_of n (records.Table t) = entries.Made n t ∷ []
 entry_of n (records.Sealed r) = sealed_entry r ∷ []

@@ -1,4 +1,4 @@
--- How the book is written.
+-- How the book is printed. The layout is dtx's own.
 use Rattle.std.specs.Prelude.{ℕ, Bool, if◌then◌else◌, List, [], ◌∷◌, ◌++◌, map, flat_map, length, codes}
 use Rattle.book.specs.Data.{Change, Table, BranchId, Decision, Entry}
 use Rattle.book.specs.Data.decisions
@@ -15,7 +15,7 @@ abbrev pub decision_text : Decision → List ℕ
 decision_text (decisions.Commit scn) = commit_text scn
 decision_text decisions.Rollback = codes " rollback"
 
--- whether another outcome was forced
+-- whether the decision differs from the forced outcome
 abbrev pub mixed_text : Bool → List ℕ
 mixed_text mixed = if mixed then codes " mixed yes" else codes " mixed no"
 
@@ -23,16 +23,16 @@ mixed_text mixed = if mixed then codes " mixed yes" else codes " mixed no"
 abbrev pub branch_text : List (List ℕ) → BranchId → List ℕ
 branch_text names b = name_of names b.node ++ codes " " ++ local_text b
 
--- a table, by the name of its node and its own
+-- a table, by the name of its node and its own name
 abbrev pub table_text : List (List ℕ) → ℕ → Table → List ℕ
 table_text names n t = name_of names n ++ codes " " ++ t.name
 
--- a sealed or decided branch, its transaction, its SCN, and how many changes it made
+-- a sealed or decided branch: its transaction's global id, its SCN, and the number of its changes
 abbrev pub changes_text : List (List ℕ) → BranchId → BranchId → List Change → ℕ → List ℕ
 changes_text names b g cs scn =
     branch_text names b ++ codes " " ++ global_text names g ++ codes " scn " ++ decimal scn ++ codes " changes " ++ decimal (length cs)
 
--- what became of a branch
+-- a branch and its outcome
 abbrev pub outcome_text : List (List ℕ) → BranchId → Decision → List ℕ
 outcome_text names b d = branch_text names b ++ decision_text d
 
@@ -62,7 +62,7 @@ entry_text names e = verb e ++ object_text names e
 abbrev pub book_lines : List (List ℕ) → List Entry → List (List ℕ)
 book_lines names es = map (entry_text names) es
 
--- the book as it is shown: where it has no entry, a line says so
+-- the book as SHOW BOOK prints it: where it has no entry, a line says so
 abbrev pub shown_book : List (List ℕ) → List Entry → List (List ℕ)
 shown_book names [] = codes "no entries" ∷ []
 shown_book names (e ∷ es) = book_lines names (e ∷ es)
@@ -71,6 +71,6 @@ shown_book names (e ∷ es) = book_lines names (e ∷ es)
 abbrev pub ended_line : List ℕ → List ℕ
 ended_line line = line ++ 10 ∷ []
 
--- the book behind a report: nothing where it has no entry
+-- the book as it is printed after a report: nothing where it has no entry
 abbrev pub book_text : List (List ℕ) → List Entry → List ℕ
 book_text names es = flat_map ended_line (book_lines names es)

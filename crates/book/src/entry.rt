@@ -7,50 +7,65 @@ use redo_record::Decision;
 use std::alloc::{AllocError, Global};
 use tran_ids::BranchId;
 
-/// What an administrator is told of a redo record.
+/// What the book says of a redo record. An entry names a branch, and `global` is the root of its transaction, which
+/// gives the transaction its global id.
 #[derive(Debug, Drop)]
 pub enum Entry {
-    /// A table was created at a node.
+    /// A table was created.
     Made {
+        /// The number of the table's node, from 1.
         node: u8,
+        /// The table with its columns.
         table: Table,
     },
-    /// A branch is prepared. The root of its transaction names the transaction.
+    /// A branch is prepared: its redo is on the disk, and it waits for the decision.
     Sealed {
+        /// The prepared branch.
         branch: BranchId,
+        /// The root of its transaction.
         global: BranchId,
+        /// What it changed, in order.
         changes: Changes,
-        /// The node's SCN.
+        /// The clock of its node.
         scn: u64,
     },
     /// The commit point site decided to commit.
     Decided {
+        /// The branch at the commit point site.
         branch: BranchId,
+        /// The root of its transaction.
         global: BranchId,
+        /// What the branch changed, in order.
         changes: Changes,
         /// The commit SCN.
         scn: u64,
     },
-    /// The decision reached a sealed branch.
+    /// The decision reached a prepared branch.
     Ended {
+        /// The branch.
         branch: BranchId,
+        /// The decision.
         outcome: Decision,
     },
-    /// An administrator ended a sealed branch.
+    /// An administrator forced the outcome of a prepared branch.
     Forced {
+        /// The branch.
         branch: BranchId,
+        /// The forced outcome.
         outcome: Decision,
     },
-    /// The decision reached a forced branch.
+    /// The decision reached a branch whose outcome had been forced.
     Met {
+        /// The branch.
         branch: BranchId,
+        /// The decision.
         decision: Decision,
-        /// Whether it is another outcome than the forced one.
+        /// Whether it differs from the forced outcome.
         mixed: bool,
     },
 }
 
-/// The entries in the order in which their records came to stand.
+/// Entries in the order in which their records came to the disks.
 pub type Book = Listing<Entry>;
 
 impl Duplicate for Entry {

@@ -6,12 +6,12 @@ use redo_record::RedoRecord;
 use std::alloc::{AllocError, Global};
 use wire_msg::{Input, Msgs};
 
-/// Which message a turn took.
+/// Which message was delivered in a turn.
 #[derive(Clone, Copy, Debug, PartialEq, Eq)]
 pub struct Took {
     /// Its number, in the order of sending.
     pub number: u64,
-    /// Whether it is a copy, which AGAIN delivers.
+    /// Whether it is a copy, delivered by AGAIN.
     pub again: bool,
 }
 
@@ -21,32 +21,39 @@ impl Duplicate for Took {
     }
 }
 
-/// A node serves an input, writes at most one record, and sends messages.
+/// A turn of a node: it takes an input, writes at most one redo record, and then sends messages.
 #[derive(Debug, Drop)]
 pub struct Turn {
+    /// The node's number, from 1.
     pub node: u8,
+    /// What it took: a call of a client, a call that is given up, a message, or RECO.
     pub input: Input,
-    /// The message that it took, where the input is one.
+    /// Which message this was, where the input is a message.
     pub took: Option<Took>,
+    /// The record that it wrote to its log.
     pub wrote: Option<RedoRecord>,
+    /// The messages that it sent, in order.
     pub sent: Msgs,
-    /// Whether the node stops in this turn, before or after its record. None of its messages is sent then.
+    /// Whether the node stopped in this turn, before or after its record. Then none of its messages was sent.
     pub cut: bool,
 }
 
 /// One step of a run.
 #[derive(Debug, Drop)]
 pub enum Happening {
-    /// A command begins, by its number from 1.
+    /// The command with this number begins. Numbers count from 1.
     Begun { command: u32 },
+    /// A node takes a turn.
     Turn(Turn),
-    /// No message passes between the two nodes from now on.
+    /// From now on no message passes between the two nodes.
     Cut { a: u8, b: u8 },
-    /// Messages pass again between the two nodes.
+    /// Messages pass between the two nodes again.
     Join { a: u8, b: u8 },
-    /// The message with this number is lost.
+    /// The message with this number is lost. Numbers count from 1 in the order of sending.
     Lost { k: u64 },
+    /// The node stops. What it had in memory alone is lost.
     Stopped { node: u8 },
+    /// The node starts from the records of its log, as the start with this number. Its Boot record is on the disk.
     Started { node: u8, boot: u32 },
 }
 

@@ -1,7 +1,8 @@
-//! The book, by which an administrator is told of the redo records.
+//! The book of a run: what an administrator reads of the redo records, an entry for each that matters.
 //!
-//! [`entries`] are those of what a node wrote in a turn, and [`book_lines`] and [`book_text`] print them. Beside the book
-//! stand what happens in a run, its [`Trace`], and what is told of its commands, the [`AnswerLines`].
+//! [`entries`] gives the entries of what a node wrote in a turn, and [`book_lines`] and [`book_text`] print them.
+//! Beside the book are the data of a run: what happens in it, its [`Trace`], and the answers of its commands, the
+//! [`AnswerLines`]. Calls fail where memory runs out and for no other reason.
 #![tactic(auto)]
 
 mod entry;

@@ -1,13 +1,15 @@
-//! What is told of the commands.
+//! The answers of commands.
 ghost use Rattle.std.specs.Prelude.{◌≡◌};
 
 use dtx_values::{Answer, Duplicate, Listing, Notice};
 use std::alloc::{AllocError, Global};
 
-/// What is said of a command: by a node, or by the run beside the nodes.
+/// The answer of a command.
 #[derive(Debug, Drop)]
 pub enum Said {
+    /// A node's answer to a statement.
     Node(Answer),
+    /// What the run answers in a node's place: that it is done, that the call is pending, a refusal, or printed lines.
     World(Notice),
 }
 
@@ -20,10 +22,12 @@ impl Duplicate for Said {
     }
 }
 
-/// An answer, behind the number of its command.
+/// An answer with the number of its command.
 #[derive(Debug, Drop)]
 pub struct AnswerLine {
+    /// The command's number in the script, from 1.
     pub command: u32,
+    /// Its answer.
     pub said: Said,
 }
 

@@ -134,7 +134,8 @@ fn put_entry(out: &mut Vec<u8>, entry: &Entry, names: &[Name]) -> Result<(), All
     put_object(out, entry, names)
 }
 
-/// An entry, as `ended HQ 1.65.1 commit scn 2`. The nodes' names are in the order of their numbers.
+/// An entry as text, such as `ended HQ 1.65.1 commit scn 2`. The names are those of the nodes, in the order of their
+/// numbers; a number past them has an empty name. Fails where memory runs out.
 pub fn entry_text(alloc: Global, entry: &Entry, names: &[Name]) -> Result<Bytes, AllocError>
     ensures { IfOk result (λ text. text ≡ entry_text_of names.now entry.now) }
 {
@@ -153,7 +154,8 @@ fn lines(alloc: Global, book: &[Entry], names: &[Name]) -> Result<Texts, AllocEr
     Ok(Listing::of(lines))
 }
 
-/// The book as SHOW BOOK prints it: a line for each entry, and `no entries` for none.
+/// The book as SHOW BOOK prints it: a line for each entry, and `no entries` where there is none. Fails where memory
+/// runs out.
 pub fn book_lines(alloc: Global, book: &[Entry], names: &[Name]) -> Result<Texts, AllocError>
     ensures { IfOk result (λ lines. lines ≡ shown_book names.now book.now) }
 {
@@ -164,7 +166,8 @@ pub fn book_lines(alloc: Global, book: &[Entry], names: &[Name]) -> Result<Texts
     lines(alloc, book, names)
 }
 
-/// The book as it is printed behind a report: each line with a line feed, and nothing for no entry.
+/// The book as `--book` prints it after the report: each line with a line feed, and nothing where there is no entry.
+/// Fails where memory runs out.
 pub fn book_text(alloc: Global, book: &[Entry], names: &[Name]) -> Result<Bytes, AllocError>
     ensures { IfOk result (λ text. text ≡ book_text_of names.now book.now) }
 {

@@ -9,7 +9,8 @@ use redo_record::{Decided, Decision, RedoRecord, Sealed};
 use std::alloc::{AllocError, Global};
 use tran_ids::BranchId;
 
-/// The entries of what a node wrote in a turn.
+/// The entries of what a node wrote in a turn: one for a record of a table, a seal, a decision, an end, a forced
+/// outcome or its meeting with the decision, and none for any other. Fails where memory runs out.
 pub fn entries(
     alloc: Global,
     node: u8,
@@ -23,7 +24,7 @@ pub fn entries(
     }
 }
 
-// Of links, synonyms, settings and starts, and of what is forgotten or hidden, the book does not tell.
+// The book has no entry for links, synonyms, settings and starts, nor for what is forgotten or hidden.
 fn entries_of_record(alloc: Global, node: u8, item: &RedoRecord) -> Result<Vec<Entry>, AllocError>
     ensures { IfOk result (λ entries. entries.items ≡ entry_of node item.now) }
 {

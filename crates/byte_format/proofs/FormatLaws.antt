@@ -19,7 +19,7 @@ module _ {V : Type 0} (f : Format V) (p : IsExact f) where
       let again = front_is_read bytes v rest h in
       absurd cc
 
-  -- a spelling with nothing behind it
+  -- a spelling with nothing after it
 
   pub is_spelling : (bytes : List ℕ) (v : V) → IsBytes bytes → f.read bytes ≡ Some (v, []) → IsSpelling f bytes v
   is_spelling bytes v fits e =

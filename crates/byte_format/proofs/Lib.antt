@@ -6,4 +6,5 @@ pub mod ChoiceLaws
 pub mod FormatLaws
 pub mod ReadingLaws
 pub mod Loop
+pub mod Appends
 pub mod ExampleLaws

@@ -12,7 +12,7 @@ use Rattle.std.proofs.lemmas.Slice.Eq.{starts_is}
 use Rattle.std.proofs.Math.Facts.{Fits-of_z}
 use borrow.Author.Gap.{read_sfits}
 use Rattle.byte_format.specs.Format.{IsBytes, IsFront, IsExact}
-use Rattle.byte_format.specs.Number.{number8_at, number_of, number, number8, number16, number32, number48, number64, signed64, flag, flag_at, flag_text, constant}
+use Rattle.byte_format.specs.Number.{number8_at, number_of, number, number8, number16, number32, number48, number64, signed64, flag, flag_at, flag_text, constant, empty}
 use Rattle.byte_format.proofs.Steps.{some_is, guard_some, test_some, IsBytes-take}
 use Rattle.byte_format.proofs.PartLaws.{recast_exact}
 
@@ -138,4 +138,12 @@ constant_exact mark = record {
       (record { fits = tt; spelled = (starts_is Decides-eqb bytes mark (starts_with eqb bytes mark) refl).0 g.0 });
   again = λ v rest fits.
       rw ((starts_is Decides-eqb (mark ++ rest) mark (starts_with eqb (mark ++ rest) mark) refl).1 rest refl, drop_at mark rest (length mark) refl) refl;
+}
+
+-- ---- no byte
+
+pub empty_exact : IsExact empty
+empty_exact = record {
+  takes = λ bytes x fits e. record { fits = tt; spelled = cc };
+  again = λ v rest fits. refl;
 }

@@ -1,7 +1,7 @@
 -- A choice: a byte that names the kind of the value, and then what that kind is made of.
 use Rattle.std.specs.Prelude.{◌≡◌, ℕ, Bool, true, false, List, [], ◌∷◌, Option, Some, None, IsSomeAnd, ◌==◌}
 use Rattle.std.specs.Option.{option_map_or}
-use Rattle.byte_format.specs.Format.{Format, IsExact}
+use Rattle.byte_format.specs.Format.{Format, IsBytes, IsFront}
 use Rattle.byte_format.specs.Part.{mapped_at}
 
 -- the values that `make` makes; `part` gives back what a value was made of, if it was made so
@@ -42,12 +42,15 @@ choice kind_of kinds = record {
   read = choice_at kinds;
 }
 
--- each kind has an exact format, whose values are of that kind
+-- what a kind reads is spelled as that kind says, and is of that kind
 pub record IsChoice {V : Type 0} (kind_of : V → ℕ) (kinds : ℕ → Format V) : Type 0 where
-  pub exact : (k : ℕ) → IsExact (kinds k)
-  pub named : (k : ℕ) (v : V) → (kinds k).Fits v → kind_of v ≡ k
+  pub taken : (k : ℕ) (bytes : List ℕ) (x : V × List ℕ) → IsBytes bytes → (kinds k).read bytes ≡ Some x → IsFront (kinds k) bytes x.0 x.1 × (kind_of x.0 ≡ k)
+
+-- what was made is given back
+abbrev pub GivesBack : {A V : Type 0} → (A → V) → (V → Option A) → Type 0
+GivesBack {A} make part = (a : A) → part (make a) ≡ Some a
 
 -- what was made is given back, and what is given back was made so
 pub record IsVariant {A V : Type 0} (make : A → V) (part : V → Option A) : Type 0 where
-  pub parted : (a : A) → part (make a) ≡ Some a
+  pub parted : GivesBack make part
   pub made : (v : V) (a : A) → part v ≡ Some a → v ≡ make a

@@ -34,9 +34,13 @@ abbrev pub thing_of : Contents → Option (List ℕ)
 thing_of (holds.Letters count) = None
 thing_of (holds.Thing name) = Some name
 
+-- the fields of each kind of contents
+abbrev pub contents_kinds : ℕ → Format Contents
+contents_kinds = kind 1 holds.Letters letters_of number16 (kind 2 holds.Thing thing_of (run number8) no_kind)
+
 -- contents, by their kind
 abbrev pub contents_format : Format Contents
-contents_format = choice kind_of (kind 1 holds.Letters letters_of number16 (kind 2 holds.Thing thing_of (run number8) no_kind))
+contents_format = choice kind_of contents_kinds
 
 -- a label: its fields in order
 abbrev pub label_format : Format Label

@@ -30,6 +30,10 @@ pub record IsSpelling {V : Type 0} (f : Format V) (bytes : List ℕ) (v : V) : T
   pub fits : f.Fits v
   pub spelled : bytes ≡ f.text v
 
+-- the spelling of this value is read as the value, whatever follows
+abbrev pub ReadsAgain : {V : Type 0} → Format V → V → Type 0
+ReadsAgain f v = (rest : List ℕ) → f.Fits v → f.read (f.text v ++ rest) ≡ Some (v, rest)
+
 -- what is read is spelled so; and what is spelled is read as its value, whatever follows
 pub record IsExact {V : Type 0} (f : Format V) : Type 0 where
   pub takes : (bytes : List ℕ) (x : V × List ℕ) → IsBytes bytes → f.read bytes ≡ Some x → IsFront f bytes x.0 x.1

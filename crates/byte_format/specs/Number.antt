@@ -69,3 +69,7 @@ constant_at mark bytes = if starts_with nat_eq bytes mark then Some (tt, drop (l
 -- these bytes, which say nothing more
 abbrev pub constant : List ℕ → Format ⊤
 constant mark = record { Fits = λ u. ⊤; text = λ u. mark; read = constant_at mark }
+
+-- no byte at all
+abbrev pub empty : Format ⊤
+empty = record { Fits = λ u. ⊤; text = λ u. []; read = λ bytes. Some (tt, bytes) }

@@ -19,7 +19,7 @@ run_at size bytes = do
   n ← size bytes
   if nat_lt (length n.1) n.0 then None else Some (take n.0 n.1, drop n.0 n.1)
 
--- bytes behind their length
+-- bytes after their length
 abbrev pub run : Format ℕ → Format (List ℕ)
 run size = record { Fits = λ s. size.Fits (length s); text = λ s. size.text (length s) ++ s; read = run_at size.read }
 
@@ -28,7 +28,7 @@ abbrev pub optional_text : {A : Type 0} → (A → List ℕ) → Option A → Li
 optional_text text None = 0 ∷ []
 optional_text text (Some a) = 1 ∷ text a
 
--- the value behind a 1, or none behind a 0
+-- the value after a 1, or none after a 0
 abbrev pub optional_at : {A : Type 0} → (List ℕ → Option (A × List ℕ)) → List ℕ → Option (Option A × List ℕ)
 optional_at read [] = None
 optional_at read (zero ∷ rest) = Some (None, rest)

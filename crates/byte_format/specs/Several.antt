@@ -17,7 +17,7 @@ counted_at size read bytes = do
   n ← size bytes
   times_at n.0 read n.1
 
--- a list behind its count
+-- a list after its count
 abbrev pub counted : {A : Type 0} → Format ℕ → Format A → Format (List A)
 counted size f = record {
   Fits = λ vs. size.Fits (length vs) × AllByRecursion f.Fits vs;

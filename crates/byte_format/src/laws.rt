@@ -29,7 +29,7 @@ pub fn numbers_are_exact()
     ensures constants { (mark : List ℕ) → IsExact (constant mark) }
 {}
 
-/// Runs of bytes behind their length.
+/// Runs of bytes after their length.
 pub fn runs_are_exact()
     ensures one_byte { IsExact (run number8) }
     ensures two_bytes { IsExact (run number16) }
@@ -43,14 +43,14 @@ pub fn pair_is_exact<A: Field, B: Field>()
     ensures { IsExact (pair A.format B.format) }
 {}
 
-/// A list behind its count.
+/// A list after its count.
 pub fn list_is_exact<F: Field>()
     requires { IsExact F.format }
     ensures one_byte { IsExact (counted number8 F.format) }
     ensures four_bytes { IsExact (counted number32 F.format) }
 {}
 
-/// A value or none, behind a byte that says which.
+/// A value or none, after a byte that says which.
 pub fn option_is_exact<F: Field>()
     requires { IsExact F.format }
     ensures { IsExact (optional F.format) }
@@ -59,13 +59,13 @@ pub fn option_is_exact<F: Field>()
 /// The values that pass a test.
 pub fn tested_is_exact<F: Field>()
     requires { IsExact F.format }
-    ensures { (test : F → Bool) → IsExact (tested test F.format) }
+    ensures { (test : F.Value → Bool) → IsExact (tested test F.format) }
 {}
 
 /// The same bytes for other values, one for one.
 pub fn mapped_is_exact<A: Field, B>()
     requires { IsExact A.format }
-    ensures { (to : A → B) (from : B → A) → ((a : A) → from (to a) ≡ a) → ((b : B) → to (from b) ≡ b) →
+    ensures { (to : A.Value → B) (from : B → A.Value) → ((a : A.Value) → from (to a) ≡ a) → ((b : B) → to (from b) ≡ b) →
         IsExact (mapped to from A.format) }
 {}
 
@@ -74,7 +74,7 @@ pub fn choice_is_exact<A: Field, B: Field, V>()
     requires first { IsExact A.format }
     requires second { IsExact B.format }
     ensures { (kind_of : V → ℕ) (m n : ℕ) →
-        (make_a : A → V) (a_of : V → Option A) → IsVariant make_a a_of → ((a : A) → kind_of (make_a a) ≡ m) →
-        (make_b : B → V) (b_of : V → Option B) → IsVariant make_b b_of → ((b : B) → kind_of (make_b b) ≡ n) →
+        (make_a : A.Value → V) (a_of : V → Option A.Value) → IsVariant make_a a_of → ((a : A.Value) → kind_of (make_a a) ≡ m) →
+        (make_b : B.Value → V) (b_of : V → Option B.Value) → IsVariant make_b b_of → ((b : B.Value) → kind_of (make_b b) ≡ n) →
         IsExact (choice kind_of (kind m make_a a_of A.format (kind n make_b b_of B.format no_kind))) }
 {}

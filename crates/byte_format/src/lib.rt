@@ -6,7 +6,7 @@
 //!
 //! Formats are put together like types. `number16` is the format of a number as two bytes. `pair number16 flag` is that
 //! of a number and then a flag, `optional number64` that of a number which may be missing, `counted number8 name` that
-//! of a list of names behind a byte that counts them, and `tested is_weight number16` leaves out the numbers that are
+//! of a list of names after a byte that counts them, and `tested is_weight number16` leaves out the numbers that are
 //! no weight. `choice` lets a byte in front say which of several formats follows. So the definition of a format reads
 //! like the table of its fields. It stands in `specs/`, nothing of it is run, and there is one definition for both ways.
 //!
@@ -18,10 +18,11 @@
 //! **The code** for a format is small functions. `put_..` writes a spelling at the end of a `Vec<u8>`, and `take_..`
 //! takes the value from the front of a slice, and hands on the rest. It answers `NoSpelling` exactly where no spelling
 //! is at the front. A type of one's own implements `Field`: its format, and the `put_..` and `take_..` calls of its
-//! fields in order. Then it may be in an `Option`, in a list, or in a larger format, and `read_whole` says of it, in
-//! words of its spelling alone: the value that these bytes spell, or that they spell none.
+//! fields in order. For values of another crate's type, a type that holds nothing implements it. Then it may be in an
+//! `Option`, in a list, or in a larger format, and `read_whole` says of it, in words of its spelling alone: the value that
+//! these bytes spell, or that they spell none.
 //!
-//! A `put_..` that runs out of memory may have written a part of the spelling, and says nothing of which.
+//! A `put_..` that runs out of memory may have written a part of the spelling: what was there before is still in front.
 //!
 //! To write a format: copy `example`.
 #![tactic(auto)]

@@ -1,6 +1,7 @@
-//! Lists behind their count: the loops over items, written once for every type of them.
+//! Lists after their count: the loops over items, written once for every type of them.
 ghost use Rattle.std.specs.Prelude.{◌≡◌, ◌++◌, ◌<◌, ◌^◌, length, flat_map, OnOk};
 ghost use Rattle.std.specs.List.{AllByRecursion};
+ghost use Rattle.std.specs.Io.{StartsWith};
 ghost use Rattle.byte_format.specs.Number.{number8, number32};
 ghost use Rattle.byte_format.specs.Several.{times_at, counted};
 ghost use Rattle.byte_format.specs.Reads.{ReadsInMemory};
@@ -10,23 +11,25 @@ use crate::taking::{take_u8, take_u32};
 use crate::{Field, TakeErr};
 use std::alloc::{AllocError, Global};
 
-/// Writes each item, one after the other.
-pub fn put_each<F: Field>(out: &mut Vec<u8>, items: &[F]) -> Result<(), AllocError>
+/// Writes each item, one after the other. Fails where memory runs out.
+pub fn put_each<F: Field>(out: &mut Vec<u8>, items: &[F::Value]) -> Result<(), AllocError>
     requires { AllByRecursion F.format.Fits items.now }
-    ensures { OnOk result (out.new.items ≡ out.old.items ++ flat_map F.format.text items.now) }
+    ensures written { OnOk result (out.new.items ≡ out.old.items ++ flat_map F.format.text items.now) }
+    ensures kept { StartsWith out.new.items out.old.items }
 {
     for item in items {
-        item.put_to(out)?;
+        F::put_into(out, item)?;
     }
     Ok(())
 }
 
-/// So many items, one after the other, and the bytes after them.
+/// So many items, one after the other, and the bytes after them. Fails with `NoSpelling` exactly
+/// where they are not there, and with `NoMemory` where memory runs out.
 pub fn take_each<F: Field>(
     alloc: Global,
     count: u32,
     bytes: &[u8],
-) -> Result<(Vec<F>, &[u8]), TakeErr>
+) -> Result<(Vec<F::Value>, &[u8]), TakeErr>
     ensures { ReadsInMemory (λ x. (x.0.items, x.1.now)) result (times_at count F.format.read bytes.now) }
 {
     let mut items = Vec::new(alloc);
@@ -39,36 +42,46 @@ pub fn take_each<F: Field>(
     Ok((items, rest))
 }
 
-/// Writes how many items there are, as one byte, and each.
-pub fn put_list_u8<F: Field>(out: &mut Vec<u8>, items: &[F]) -> Result<(), AllocError>
+/// Writes how many items there are, as one byte, and each. Fails where memory runs out.
+pub fn put_list_u8<F: Field>(out: &mut Vec<u8>, items: &[F::Value]) -> Result<(), AllocError>
     requires { (counted number8 F.format).Fits items.now }
-    ensures { OnOk result (out.new.items ≡ out.old.items ++ (counted number8 F.format).text items.now) }
+    ensures written { OnOk result (out.new.items ≡ out.old.items ++ (counted number8 F.format).text items.now) }
+    ensures kept { StartsWith out.new.items out.old.items }
 {
     put_u8(out, items.len() as u8)?;
-    put_each(out, items)
+    put_each::<F>(out, items)
 }
 
-/// The items behind their count of one byte, and the bytes after them.
-pub fn take_list_u8<F: Field>(alloc: Global, bytes: &[u8]) -> Result<(Vec<F>, &[u8]), TakeErr>
+/// The items after their count of one byte, and the bytes after them. Fails with `NoSpelling` exactly
+/// where they are not there, and with `NoMemory` where memory runs out.
+pub fn take_list_u8<F: Field>(
+    alloc: Global,
+    bytes: &[u8],
+) -> Result<(Vec<F::Value>, &[u8]), TakeErr>
     ensures { ReadsInMemory (λ x. (x.0.items, x.1.now)) result ((counted number8 F.format).read bytes.now) }
 {
     let (count, rest) = take_u8(bytes)?;
-    take_each(alloc, count as u32, rest)
+    take_each::<F>(alloc, count as u32, rest)
 }
 
-/// Writes how many items there are, as four bytes, and each.
-pub fn put_list_u32<F: Field>(out: &mut Vec<u8>, items: &[F]) -> Result<(), AllocError>
+/// Writes how many items there are, as four bytes, and each. Fails where memory runs out.
+pub fn put_list_u32<F: Field>(out: &mut Vec<u8>, items: &[F::Value]) -> Result<(), AllocError>
     requires { (counted number32 F.format).Fits items.now }
-    ensures { OnOk result (out.new.items ≡ out.old.items ++ (counted number32 F.format).text items.now) }
+    ensures written { OnOk result (out.new.items ≡ out.old.items ++ (counted number32 F.format).text items.now) }
+    ensures kept { StartsWith out.new.items out.old.items }
 {
     put_u32(out, items.len() as u32)?;
-    put_each(out, items)
+    put_each::<F>(out, items)
 }
 
-/// The items behind their count of four bytes, and the bytes after them.
-pub fn take_list_u32<F: Field>(alloc: Global, bytes: &[u8]) -> Result<(Vec<F>, &[u8]), TakeErr>
+/// The items after their count of four bytes, and the bytes after them. Fails with `NoSpelling` exactly
+/// where they are not there, and with `NoMemory` where memory runs out.
+pub fn take_list_u32<F: Field>(
+    alloc: Global,
+    bytes: &[u8],
+) -> Result<(Vec<F::Value>, &[u8]), TakeErr>
     ensures { ReadsInMemory (λ x. (x.0.items, x.1.now)) result ((counted number32 F.format).read bytes.now) }
 {
     let (count, rest) = take_u32(bytes)?;
-    take_each(alloc, count, rest)
+    take_each::<F>(alloc, count, rest)
 }

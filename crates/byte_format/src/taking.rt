@@ -1,4 +1,5 @@
 //! Takes numbers, flags, constants and runs from the front of some bytes. None of these needs memory: a run is lent.
+//! Each fails exactly where no spelling is at the front.
 ghost use Rattle.std.specs.Prelude.{◌≡◌};
 ghost use Rattle.byte_format.specs.Number.{number8, number16, number32, number48, number64, signed64, flag, constant};
 ghost use Rattle.byte_format.specs.Part.{run};
@@ -105,7 +106,7 @@ pub fn take_constant<'a>(bytes: &'a [u8], mark: &[u8]) -> Result<&'a [u8], NoSpe
     Ok(rest)
 }
 
-/// A run of bytes behind its length of one byte, and the bytes after it.
+/// A run of bytes after its length of one byte, and the bytes after it.
 pub fn take_run_u8(bytes: &[u8]) -> Result<(&[u8], &[u8]), NoSpelling>
     ensures { Reads (λ x. (x.0.now, x.1.now)) result ((run number8).read bytes.now) }
 {
@@ -117,7 +118,7 @@ pub fn take_run_u8(bytes: &[u8]) -> Result<(&[u8], &[u8]), NoSpelling>
     Ok(rest.split_at(size))
 }
 
-/// A run of bytes behind its length of two bytes, and the bytes after it.
+/// A run of bytes after its length of two bytes, and the bytes after it.
 pub fn take_run_u16(bytes: &[u8]) -> Result<(&[u8], &[u8]), NoSpelling>
     ensures { Reads (λ x. (x.0.now, x.1.now)) result ((run number16).read bytes.now) }
 {
@@ -129,7 +130,7 @@ pub fn take_run_u16(bytes: &[u8]) -> Result<(&[u8], &[u8]), NoSpelling>
     Ok(rest.split_at(size))
 }
 
-/// A run of bytes behind its length of four bytes, and the bytes after it.
+/// A run of bytes after its length of four bytes, and the bytes after it.
 pub fn take_run_u32(bytes: &[u8]) -> Result<(&[u8], &[u8]), NoSpelling>
     ensures { Reads (λ x. (x.0.now, x.1.now)) result ((run number32).read bytes.now) }
 {

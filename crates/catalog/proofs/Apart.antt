@@ -1,4 +1,4 @@
--- Names that stay apart when one that none of them is comes in.
+-- Distinct names stay distinct when a new one comes in.
 use Rattle.std.proofs.Common.{◌≡◌, ℕ, Bool, true, false, List, [], ◌∷◌, ◌++◌, map, refl, ap, sym, subst, ◌∙◌, true≢false}
 use Rattle.std.proofs.lemmas.List.{map-append, append-nil, append_assoc}
 use Rattle.std.proofs.lemmas.List.Folds.{list_any-append}
@@ -35,7 +35,7 @@ apart_put (n ∷ ks) ls k apart new =
     let both = neither (bytes_eq n k) _ new in
     (all_put (λ m. bytes_eq n m ≡ false) ks ls k apart.0 both.0, apart_put ks ls k apart.1 both.1)
 
--- a new name behind the others
+-- a new name after the others
 apart_last : (ks : List (List ℕ)) (k : List ℕ) → IsDistinct bytes_eq ks → list_any (λ n. bytes_eq n k) ks ≡ false → IsDistinct bytes_eq (ks ++ k ∷ [])
 apart_last ks k apart new =
     apart_put ks [] k (subst (IsDistinct bytes_eq) (sym (append-nil ks)) apart) (ap (list_any (λ n. bytes_eq n k)) (append-nil ks) ∙ new)
@@ -45,7 +45,7 @@ module _ {X : Type 0} (title : X → List ℕ) where
   any_title [] k = refl
   any_title (x ∷ xs) k = ap (λ b. bytes_eq (title x) k || b) (any_title xs k)
 
-  -- the name of the last of these stands before the names behind
+  -- the name of the last of these stands before the names after it
   title_put : (xs : List X) (x : X) (ls : List (List ℕ)) → map title (xs ++ x ∷ []) ++ ls ≡ map title xs ++ title x ∷ ls
   title_put [] x ls = refl
   title_put (y ∷ xs) x ls = ap (λ ks. title y ∷ ks) (title_put xs x ls)

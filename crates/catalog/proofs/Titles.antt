@@ -52,7 +52,7 @@ module _ {X : Type 0} (title : X → List ℕ) where
   titled_more (e ∷ es) x h = ap₂ (λ (k : List ℕ) ks. k ∷ ks) (first_titled e es h) (titled_more es x (rest_titled e es h))
 
 module _ {X S : Type 0} (title : X → List ℕ) (m : IndexMap (List ℕ) X S) (k : List ℕ) (x : X) (h : are_titled title m.entries) (named : k ≡ title x) where
-  -- an item of a new name is inserted behind the others
+  -- an item of a new name is inserted after the others
   inserted_last : list_any (λ y. bytes_eq (title y) (title x)) (values_of m.entries) ≡ false → insert_entry bytes_eq m.entries k x ≡ m.entries ++ (title x, x) ∷ []
   inserted_last new =
       insert_entry-new bytes_eq m k x (lookup_new title m.entries k h (ap (λ q. list_any (λ y. bytes_eq (title y) q) (values_of m.entries)) named ∙ new))

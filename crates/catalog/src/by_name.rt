@@ -9,7 +9,7 @@ use indexmap::IndexMap;
 use std::alloc::{AllocError, Global};
 use std::marker::Model;
 
-/// What has a name.
+/// An item with a name.
 pub(crate) trait Named {
     // The bytes of the name.
     ghost title: { Self → List ℕ };
@@ -70,7 +70,7 @@ impl<T: Named + Drop> ByName<T> {
         }
     }
 
-    /// The first item of a name.
+    /// The first item of this name.
     pub(crate) fn get(&self, name: &Name) -> Option<&T>
         ensures { option_copied result ≡ find (λ x. bytes_eq (T.title x) name.now) self.now }
     {
@@ -84,7 +84,7 @@ impl<T: Named + Drop> ByName<T> {
         self.items.contains_key(name)
     }
 
-    /// Adds an item of a new name behind the others.
+    /// Adds an item of a new name after the others. Fails where memory runs out, and has changed nothing then.
     pub(crate) fn push(&mut self, alloc: Global, item: T) -> Result<(), AllocError>
         requires new { list_any (λ x. bytes_eq (T.title x) (T.title item)) self.old ≡ false }
         ensures ok { OnOk result (self.new ≡ self.old ++ item ∷ []) }

@@ -7,9 +7,9 @@ use std::alloc::{AllocError, AllocFailed};
 /// Why an item was not added to a catalog.
 #[derive(Clone, Copy, Debug, PartialEq, Eq)]
 pub enum CatErr {
-    /// Its name is taken.
+    /// Its name is taken: by a table or a synonym where it is one of these, by a link where it is a link.
     Used,
-    /// Its name is free, but there is no memory for it.
+    /// Its name is free, and memory ran out.
     NoMemory,
 }
 

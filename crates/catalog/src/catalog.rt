@@ -10,7 +10,7 @@ use dtx_values::{Link, Name, Synonym, Table};
 use std::alloc::Global;
 use std::marker::Model;
 
-/// Tables, links and synonyms by their names, and whether the node recovers by itself.
+/// Tables, links and synonyms by name, and whether recovery is enabled.
 #[derive(Drop)]
 pub struct Catalog {
     recovery: bool,
@@ -30,7 +30,7 @@ impl Model for Catalog {
 }
 
 impl Catalog {
-    /// A catalog of nothing, with recovery on.
+    /// An empty catalog, with recovery enabled.
     pub fn new(alloc: Global) -> Catalog
         ensures { result ≡ nothing_listed }
     {
@@ -42,28 +42,28 @@ impl Catalog {
         }
     }
 
-    /// The table of this name.
+    /// The table of this name, where there is one.
     pub fn table(&self, name: &Name) -> Option<&Table>
         ensures { option_copied result ≡ table_of self.now name.now }
     {
         self.tables.get(name)
     }
 
-    /// The database link of this name.
+    /// The database link of this name, where there is one.
     pub fn link(&self, name: &Name) -> Option<&Link>
         ensures { option_copied result ≡ link_of self.now name.now }
     {
         self.links.get(name)
     }
 
-    /// The synonym of this name.
+    /// The synonym of this name, where there is one.
     pub fn synonym(&self, name: &Name) -> Option<&Synonym>
         ensures { option_copied result ≡ synonym_of self.now name.now }
     {
         self.synonyms.get(name)
     }
 
-    /// Whether the node recovers by itself.
+    /// Whether recovery is enabled (ALTER SYSTEM ENABLE or DISABLE DISTRIBUTED RECOVERY).
     pub fn recovery(&self) -> bool
         ensures { result ≡ self.now.recovery }
     {
@@ -90,7 +90,8 @@ impl Catalog {
         self.links.contains(name)
     }
 
-    /// Adds a table, unless a table or a synonym has its name.
+    /// Adds a table after the others. Fails with `Used` exactly where a table or a synonym has its name, and with
+    /// `NoMemory` where memory runs out; it has changed nothing then.
     pub fn add_table(&mut self, alloc: Global, item: Table) -> Result<(), CatErr>
         ensures ok { OnOk result (self.new ≡ with_table self.old item) }
         ensures used { IsErrOf result Used ↔ (is_used self.old item.name ≡ true) }
@@ -103,7 +104,8 @@ impl Catalog {
         Ok(())
     }
 
-    /// Adds a database link, unless a link has its name.
+    /// Adds a database link after the others. Fails with `Used` exactly where a link has its name, and with
+    /// `NoMemory` where memory runs out; it has changed nothing then.
     pub fn add_link(&mut self, alloc: Global, item: Link) -> Result<(), CatErr>
         ensures ok { OnOk result (self.new ≡ with_link self.old item) }
         ensures used { IsErrOf result Used ↔ (is_link_used self.old item.name ≡ true) }
@@ -116,7 +118,8 @@ impl Catalog {
         Ok(())
     }
 
-    /// Adds a synonym, unless a table or a synonym has its name.
+    /// Adds a synonym after the others. Fails with `Used` exactly where a table or a synonym has its name, and with
+    /// `NoMemory` where memory runs out; it has changed nothing then.
     pub fn add_synonym(&mut self, alloc: Global, item: Synonym) -> Result<(), CatErr>
         ensures ok { OnOk result (self.new ≡ with_synonym self.old item) }
         ensures used { IsErrOf result Used ↔ (is_used self.old item.name ≡ true) }
@@ -129,7 +132,7 @@ impl Catalog {
         Ok(())
     }
 
-    /// Switches recovery.
+    /// Enables or disables recovery.
     pub fn set_recovery(&mut self, on: bool)
         ensures { self.new ≡ with_recovery self.old on }
     {

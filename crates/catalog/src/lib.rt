@@ -1,7 +1,7 @@
-//! What a node has names for: tables, database links and synonyms, and whether it recovers by itself.
+//! The catalog of a node: its tables, database links and synonyms by name, and whether its recovery is enabled.
 //!
-//! Tables and synonyms share their names, and links have names of their own. Contracts see three lists in the order in
-//! which the items were made; a look-up goes by a hash table of names.
+//! Tables and synonyms share one space of names, and links have one of their own. Contracts see three lists in the
+//! order in which the items were made; a look-up goes by a hash table of names.
 #![tactic(auto)]
 
 mod by_name;

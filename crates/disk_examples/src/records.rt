@@ -1,16 +1,18 @@
 //! The bytes of records by examples from outside, and that calls succeed.
+ghost use Rattle.byte_format.specs.Format.{IsExact};
 ghost use Rattle.redo_codec.specs.Record.{record_format};
 
-use byte_format::TakeErr;
+use byte_format::{Field, TakeErr, list_is_exact, read_front, runs_are_exact};
 use dtx_values::{
     Advice, Bytes, Cells, Change, Column, Columns, Name, NameErr, Row, Str, Table, TextErr, Value,
 };
-use redo_record::{Decision, RedoRecord, Sealed, Toward};
-use redo_codec::{
-    DecodeErr, branch_fits, change_fits, change_len, decode, encode, name_fits, parts_are_exact,
-    put_branch, put_change, put_name, put_row, put_value, records_are_exact, row_fits, table_fits,
-    take_branch, take_change, take_name, take_row, take_value, value_fits,
+use field_codec::{
+    AdviceField, BytesField, CommentField, ListField, RowField, Utf8Field, branch_fits,
+    change_fits, fields_are_exact, name_fits, put_branch, put_change, put_name, put_row, put_value,
+    row_fits, table_fits, take_branch, take_change, take_name, take_row, take_value, value_fits,
 };
+use redo_codec::{DecodeErr, decode, encode, records_are_exact};
+use redo_record::{Decision, RedoRecord, Sealed, Toward};
 use std::alloc::{AllocError, Global};
 use tran_ids::BranchId;
 
@@ -312,7 +314,7 @@ fn keeps_names(alloc: Global) -> Result<bool, NameErr> {
     Ok(is_name_kept(alloc, &name) == Ok(true))
 }
 
-/// Whether a row is written as the bytes that it is taken from, and the byte behind them is left.
+/// Whether a row is written as the bytes that it is taken from, and the byte after them is left.
 fn keeps_rows(alloc: Global) -> Result<bool, TakeErr> {
     let (row, rest) = take_row(alloc, b"\x02\x00\x02\x00\x01a\x09")?;
     let mut out = Vec::new(alloc);
@@ -320,13 +322,41 @@ fn keeps_rows(alloc: Global) -> Result<bool, TakeErr> {
     Ok(out.as_slice() == b"\x02\x00\x02\x00\x01a".as_slice() && rest.len() == 1)
 }
 
-/// Whether these bytes are the change's that is taken from them, and as many as it is said to have.
+/// Whether these bytes are the change's that is taken from them.
 fn keeps_changes(alloc: Global, bytes: &[u8]) -> Result<bool, TakeErr> {
     let (change, rest) = take_change(alloc, bytes)?;
-    let size = change_len(&change);
     let mut out = Vec::new(alloc);
     put_change(&mut out, &change)?;
-    Ok(rest.is_empty() && out.as_slice() == bytes && out.len() == size)
+    Ok(rest.is_empty() && out.as_slice() == bytes)
+}
+
+/// Whether what is taken from these bytes is written as they are, with nothing after it.
+fn is_field_kept<F: Field>(alloc: Global, bytes: &[u8]) -> Result<bool, TakeErr>
+    requires { IsExact F.format }
+{
+    let (value, rest) = read_front::<F>(alloc, bytes)?;
+    let mut out = Vec::new(alloc);
+    F::put_into(&mut out, &value)?;
+    Ok(rest.is_empty() && out.as_slice() == bytes)
+}
+
+/// Whether advice, a comment, a text of UTF-8, a run of bytes and a list of rows are kept.
+fn keeps_others(alloc: Global) -> Result<bool, TakeErr> {
+    fields_are_exact();
+    runs_are_exact();
+    list_is_exact::<RowField>();
+    Ok(
+        is_field_kept::<AdviceField>(alloc, &[2])?
+            && is_field_kept::<CommentField>(alloc, b"\x00\x02hi")?
+            && is_field_kept::<Utf8Field>(alloc, b"\x00\x00")?
+            && is_field_kept::<BytesField>(alloc, b"\x00\x00\x00\x01\xff")?
+            && is_field_kept::<ListField<RowField>>(alloc, b"\x00\x00\x00\x02\x00\x01\x00")?,
+    )
+}
+
+#[test]
+fn other_fields_are_written_and_taken(rt: HostRuntime) {
+    assert!(rt; keeps_others(rt.alloc()) == Ok(true));
 }
 
 #[test]
@@ -340,7 +370,7 @@ fn parts_are_written_and_taken(rt: HostRuntime) {
 
 #[test]
 fn the_laws_hold() {
-    parts_are_exact();
+    fields_are_exact();
     records_are_exact();
 }
 

@@ -3,21 +3,30 @@
 #![tactic(auto)]
 
 use dtx_ports::{ReadPort, WritePort};
-use script_run::run_script;
+use script_run::{Status, run_script};
+use std::alloc::AllocError;
 use std::io::ErrorKind;
 use std::process::ExitCode;
 use std::{env, io};
 
-fn main(rt: HostRuntime) -> io::Result<ExitCode> {
+/// The words of the command line after the program's name. Where they cannot be had, as where one is not UTF-8, the empty
+/// word stands for them: it is none of the program's words. It is an error only where there is no memory for them.
+fn words_of(rt: &HostRuntime) -> Result<Vec<String>, AllocError> {
     let alloc = rt.alloc();
-    let words = match env::args(&rt) {
-        Ok(words) => words.skip(1).collect(alloc)?,
-        // A word that is no text is none of the program's words, as the empty one is none.
-        Err(error) if error.kind() == ErrorKind::InvalidData => vec![in alloc; String::new(alloc)]?,
-        Err(error) => return Err(error),
+    match env::args(rt) {
+        Ok(words) => words.skip(1).collect(alloc),
+        Err(error) if error.kind() == ErrorKind::OutOfMemory => Err(AllocError),
+        Err(_) => Ok(vec![in alloc; String::new(alloc)]?),
+    }
+}
+
+fn main(rt: HostRuntime) -> ExitCode {
+    let alloc = rt.alloc();
+    let Ok(words) = words_of(&rt) else {
+        return ExitCode::from(Status::NoMemory.code());
     };
     let mut source = ReadPort::new(rt.reader());
     let mut sink = WritePort::new(io::writer(&rt));
     let outcome = run_script(alloc, &words, &mut source, &mut sink);
-    Ok(ExitCode::from(outcome.status as u8))
+    ExitCode::from(outcome.status.code())
 }

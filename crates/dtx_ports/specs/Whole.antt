@@ -1,7 +1,9 @@
--- What is read to the end and what is written whole, where the two ends tell their bytes.
-use Rattle.std.specs.Prelude.{◌≡◌, ℕ, ◌+◌, ◌≤◌, List, length, take}
-use Rattle.std.specs.Prelude.{Option}
+-- Reading a source to its end and writing a text whole, where source and sink tell their bytes.
+use Rattle.std.specs.Prelude.{◌≡◌, ℕ, ◌+◌, ◌≤◌, List, length, take, Option, Result, Ok, Err}
 use Rattle.std.specs.Io.KnownBytes.{Consumes, IsAtEnd, Appends}
+use Rattle.dtx_ports.specs.Causes.{Rose}
+use Rattle.dtx_ports.specs.declared.read_err.ReadErr.{ReadErr}
+use Rattle.dtx_ports.specs.declared.read_err.ReadErr.TheVariants.{Fault, TooLong, NoMemory}
 
 -- these bytes were read, no more than the limit, and none is left
 pub record IsAll (limit : ℕ) (old new : Option (List ℕ)) (bytes : List ℕ) : Type 0 where
@@ -20,3 +22,10 @@ ReadsWithin limit old new = (bytes : List ℕ) × Consumes old new bytes × (len
 -- the first of these bytes were written
 abbrev pub AppendsPrefix : Option (List ℕ) → Option (List ℕ) → List ℕ → Type 0
 AppendsPrefix old new bytes = (n : ℕ) × (n ≤ length bytes) × Appends old new (take n bytes)
+
+-- the source's count of faults over a whole reading: it has risen where a read failed, and is the same at each other end
+abbrev pub TellsFaults : {T : Type 0} → ℕ → ℕ → Result T ReadErr → Type 0
+TellsFaults before now (Ok bytes) = now ≡ before
+TellsFaults before now (Err Fault) = Rose before now
+TellsFaults before now (Err TooLong) = now ≡ before
+TellsFaults before now (Err NoMemory) = now ≡ before

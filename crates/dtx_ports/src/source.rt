@@ -2,13 +2,13 @@
 ghost use Rattle.std.specs.Prelude.{◌≤◌, List, ℕ, Option, IfOk, IsErrOf};
 ghost use Rattle.std.specs.Io.{ReadsAtMost};
 ghost use Rattle.std.specs.Io.KnownBytes.{ReadConsumes};
-ghost use Rattle.dtx_ports.specs.Causes.{Rose, HasCause};
-ghost use Rattle.dtx_ports.specs.Whole.{IsAll, IsTooLong, ReadsWithin};
+ghost use Rattle.dtx_ports.specs.Causes.{HasCause};
+ghost use Rattle.dtx_ports.specs.Whole.{IsAll, IsTooLong, ReadsWithin, TellsFaults};
 
 use crate::{Failed, ReadErr};
 use std::alloc::Global;
 
-/// How many bytes one call asks for at most.
+/// The most bytes that one call asks for.
 const CHUNK: usize = 4096;
 
 /// Where bytes come from, in order, until the end.
@@ -16,29 +16,31 @@ pub trait Source {
     /// The bytes that are still to come, where the source tells them.
     ghost left: { Self → Option (List ℕ) };
 
-    /// How often the source has failed: a `u64` that never falls and, once at 2^64 - 1, stays there.
+    /// How many calls have failed: a `u64` that never falls and, once at 2^64 - 1, stays there.
     ghost faults: { Self → ℕ };
 
-    /// Reads the next bytes into the front of the buffer, and says how many.
+    /// Reads the next bytes into the front of the buffer, and returns how many.
     ///
-    /// None come only at the end, or into an empty buffer. At an error nothing was read.
+    /// The number is 0 only at the end of the source, or for an empty buffer. At an error nothing was read, and the fault
+    /// was counted.
     fn read(&mut self, buffer: &mut [u8]) -> Result<usize, Failed>
         ensures bound { ReadsAtMost result buffer.new }
         ensures bytes { ReadConsumes (left self.old) (left self.new) result buffer.new }
         ensures cause { HasCause (faults self.old) (faults self.new) result };
 }
 
-/// Reads a source to its end, which has to come within the limit, a number of bytes.
+/// Reads a source to its end, which has to come within `limit` bytes.
 ///
-/// It asks for one byte past the limit at most, to learn whether the end has come. The answer is `Fault` where a read
-/// failed, `TooLong` where that one byte came, and `NoMemory` where there was no memory for the bytes.
+/// It reads one byte past the limit at most, to learn whether the end has come. The error is `Fault` where a read failed,
+/// `TooLong` where that one byte was read, and `NoMemory` where there was no memory for the bytes. Only `Fault` follows a
+/// fault of the source.
 pub fn read_whole<S: Source>(
     alloc: Global,
     source: &mut S,
     limit: usize,
 ) -> Result<Vec<u8>, ReadErr>
     ensures whole { IfOk result (λ bytes. IsAll limit (S.left source.old) (S.left source.new) bytes.items) }
-    ensures fault { IsErrOf result ReadErr.Fault → Rose (S.faults source.old) (S.faults source.new) }
+    ensures faults { TellsFaults (S.faults source.old) (S.faults source.new) result }
     ensures later { S.faults source.old ≤ S.faults source.new }
 
     // More than the limit is read exactly where the answer is TooLong.
@@ -55,7 +57,7 @@ pub fn read_whole<S: Source>(
         if count == 0 {
             return Ok(bytes);
         }
-        // Before anything is stored, so that a lack of memory never hides a text that is too long.
+        // Tested before anything is stored: a text that is too long is never reported as out of memory.
         if count > room {
             return Err(ReadErr::TooLong);
         }

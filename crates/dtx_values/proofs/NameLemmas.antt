@@ -28,7 +28,8 @@ lowers : (word : List ℕ) → map to_ascii_lowercase (map to_ascii_uppercase wo
 lowers [] = refl
 lowers (b ∷ bs) = ap₂ (λ x xs. x ∷ xs) (lower_upper b) (lowers bs)
 
-uppers : (word : List ℕ) → map to_ascii_uppercase (map to_ascii_uppercase word) ≡ map to_ascii_uppercase word
+-- bytes in upper case are in upper case already
+pub uppers : (word : List ℕ) → map to_ascii_uppercase (map to_ascii_uppercase word) ≡ map to_ascii_uppercase word
 uppers [] = refl
 uppers (b ∷ bs) = ap₂ (λ x xs. x ∷ xs) (upper_upper b) (uppers bs)
 

@@ -4,3 +4,4 @@ pub mod Name
 pub mod Order
 pub mod Apply
 pub mod Texts
+pub mod Widths

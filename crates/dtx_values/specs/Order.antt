@@ -1,8 +1,8 @@
--- How values are ordered, and how values and rows are stored in a map.
-use Rattle.std.specs.Prelude.{◌≡◌, ℕ, ℤ, List, Option, None, Some, refl}
+-- How values are ordered and compared, and how values and rows are stored in a map.
+use Rattle.std.specs.Prelude.{◌≡◌, ℕ, ℤ, Bool, true, false, List, Option, None, Some, refl}
 use Rattle.std.specs.declared.cmp.Ordering.{Ordering}
 use Rattle.std.specs.declared.cmp.Ordering.TheVariants.{Less, Equal, Greater}
-use Rattle.std.specs.Ordering.{nat_cmp, int_cmp}
+use Rattle.std.specs.Ordering.{is_eq, is_lt, nat_cmp, int_cmp}
 use Rattle.std.specs.Cmp.Lexicographic.{slice_cmp}
 use Rattle.std.specs.Coded.{Coded, code_by, coded×, coded_option, coded_ℕ, coded_ℤ, coded_list}
 use Rattle.dtx_values.specs.declared.value.Value.{Value}
@@ -20,6 +20,20 @@ value_cmp (Number a) (Text b) = Less
 value_cmp (Text a) Null = Greater
 value_cmp (Text a) (Number b) = Greater
 value_cmp (Text a) (Text b) = slice_cmp nat_cmp a b
+
+-- whether a value is NULL
+abbrev pub is_null : Value → Bool
+is_null Null = true
+is_null (Number n) = false
+is_null (Text t) = false
+
+-- whether a value comes before another
+abbrev pub value_below : Value → Value → Bool
+value_below a b = is_lt (value_cmp a b)
+
+-- whether two values are equal
+abbrev pub same_value : Value → Value → Bool
+same_value a b = is_eq (value_cmp a b)
 
 -- a value as the number that it is and the text that it is, where it is one
 abbrev pub parts_of : Value → Option ℤ × Option (List ℕ)

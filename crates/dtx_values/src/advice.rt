@@ -7,7 +7,9 @@ use std::alloc::{AllocError, Global};
 /// What ALTER SESSION ADVISE tells an administrator to force, should a branch be left in doubt.
 #[derive(Clone, Copy, Debug, PartialEq, Eq)]
 pub enum Advice {
+    /// COMMIT FORCE.
     Commit,
+    /// ROLLBACK FORCE.
     Rollback,
 }
 

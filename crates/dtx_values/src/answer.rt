@@ -15,6 +15,7 @@ pub const UNIQUE_VIOLATED: u16 = 1;
 pub struct RowSet {
     /// A head for each column, in order.
     pub heads: Texts,
+    /// The rows, each with a cell for each head.
     pub rows: Rows,
 }
 
@@ -30,6 +31,7 @@ impl Duplicate for RowSet {
 /// A refusal: its code, as 900 for ORA-00900, and what its text names.
 #[derive(Debug, Drop)]
 pub struct Refusal {
+    /// The number of ORA-nnnnn, or 60000 and the number of DTX-nn.
     pub code: u16,
     /// What stands in the places that the text of this code leaves open, in order.
     pub args: Texts,
@@ -50,12 +52,19 @@ impl Duplicate for Refusal {
 pub enum Done {
     /// Rows were inserted.
     Created,
+    /// Rows were updated.
     Updated,
+    /// Rows were deleted.
     Deleted,
+    /// A transaction was committed, or none was open.
     Committed,
+    /// A transaction was rolled back, or none was open.
     RolledBack,
+    /// A table was created.
     TableMade,
+    /// A database link was created.
     LinkMade,
+    /// A synonym was created.
     SynonymMade,
     /// ALTER SESSION.
     SessionAltered,
@@ -78,6 +87,7 @@ pub enum Answer {
     Did(Done, u32),
     /// A query found these rows, which may be none.
     Found(RowSet),
+    /// It was refused.
     Refused(Refusal),
 }
 
@@ -96,10 +106,11 @@ impl Duplicate for Answer {
 pub enum Notice {
     /// The command was carried out.
     Fine,
-    /// The call is out; a later line answers it.
+    /// The call is pending; a later line answers it.
     Waiting,
+    /// The command was refused.
     Refused(Refusal),
-    /// These lines.
+    /// It shows these lines.
     Shown(Texts),
 }
 

@@ -4,7 +4,7 @@ ghost use Rattle.std.specs.Prelude.{◌≡◌, IfOk};
 use crate::Listing;
 use std::alloc::{AllocError, Global};
 
-/// A value of which a copy can be made, where there is memory for it.
+/// A value that can be copied, where there is memory for the copy.
 pub trait Duplicate {
     /// A copy, equal to the original.
     fn copy(&self, alloc: Global) -> Result<Self, AllocError>

@@ -7,6 +7,7 @@ use std::alloc::{AllocError, Global};
 /// One row of a table, a cell for each column.
 #[derive(Debug, Drop)]
 pub struct Row {
+    /// A cell for each column of the table, in their order.
     pub cells: Cells,
 }
 
@@ -23,8 +24,11 @@ impl Duplicate for Row {
 /// What a table has at a key afterwards: a row, or none.
 #[derive(Debug, Drop)]
 pub struct Change {
+    /// The name of the table.
     pub table: Name,
+    /// The key.
     pub key: Value,
+    /// The row that stands at the key afterwards, or nothing where it is deleted.
     pub after: Option<Row>,
 }
 

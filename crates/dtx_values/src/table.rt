@@ -7,9 +7,11 @@ use std::alloc::{AllocError, Global};
 /// A column of a table.
 #[derive(Debug, Drop)]
 pub struct Column {
+    /// Its name.
     pub name: Name,
     /// The most bytes of a text, or nothing where the column is of numbers.
     pub text_max: Option<u16>,
+    /// Whether it may not be NULL.
     pub not_null: bool,
     /// Whether this is the primary key.
     pub key: bool,
@@ -33,7 +35,9 @@ impl Duplicate for Column {
 /// A table as it was created.
 #[derive(Debug, Drop)]
 pub struct Table {
+    /// Its name.
     pub name: Name,
+    /// Its columns, in the order of the statement that created it.
     pub columns: Columns,
 }
 
@@ -49,6 +53,7 @@ impl Duplicate for Table {
 /// A database link, and the node that it leads to.
 #[derive(Debug, Drop)]
 pub struct Link {
+    /// Its own name.
     pub name: Name,
     /// The name of the node.
     pub target: Name,
@@ -66,8 +71,11 @@ impl Duplicate for Link {
 /// A name for a table that is reached over a database link.
 #[derive(Debug, Drop)]
 pub struct Synonym {
+    /// Its own name.
     pub name: Name,
+    /// The name of the table at the node of the link.
     pub table: Name,
+    /// The name of the link.
     pub link: Name,
 }
 

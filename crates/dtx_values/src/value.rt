@@ -13,8 +13,11 @@ pub type Texts = Listing<Bytes>;
 /// What a cell of a row holds. NULL comes first in order, then the numbers by value, and then the texts by their bytes.
 #[derive(Debug, Drop, PartialEq, Eq, PartialOrd, Ord, Hash)]
 pub enum Value {
+    /// NULL.
     Null,
+    /// A number of the type NUMBER.
     Number(i64),
+    /// A text of the type VARCHAR2.
     Text(Str),
 }
 

@@ -1,5 +1,7 @@
--- The messages of a run with their fates, the pairs of nodes that are cut, the nodes that are down, and the orders to lose.
--- Messages are numbered from 1 in the order of sending. Each operation that loses messages answers with their numbers.
+-- The messages of a run with their fates, the pairs of nodes that are cut, the nodes that are down, and the orders to
+-- lose. Messages are numbered from 1 in the order of sending. Beside each operation that loses messages stand their
+-- numbers. The network is dtx's own; the guide says only that a network or a node may fail ("Distributed Transactions
+-- Concepts", on in-doubt transactions).
 use Rattle.std.specs.Prelude.{ℕ, ◌+◌, ◌==◌, ◌&&◌, ◌||◌, not, Bool, true, false, if◌then◌else◌, List, [], ◌∷◌, ◌++◌, map, filter, length, position, option_map, Option, Some, None}
 use Rattle.std.specs.List.{list_any}
 use Rattle.wire_msg.specs.declared.kind.KindName.{KindName}
@@ -10,13 +12,14 @@ use Rattle.net_bag.specs.declared.packet.Fate.{Fate}
 use Rattle.net_bag.specs.declared.packet.Fate.TheVariants as fates
 use Rattle.net_bag.specs.declared.packet.Packet.{Packet}
 
--- an order to lose the next message of a kind from a node to a node
+-- An order, given by LOSE NEXT, to lose the next message of a kind from one node to another.
 pub record Order : Type 0 where
   pub kind : KindName
   pub from : ℕ
   pub to : ℕ
 
--- The network: every message that was sent, with its fate; the pairs that are cut; the nodes that are down; the orders to lose.
+-- The network: every message that was sent, with its fate; the pairs that are cut; the nodes that are down; the
+-- orders to lose.
 pub record Net : Type 0 where
   pub packets : List Packet
   pub cuts : List (ℕ × ℕ)
@@ -39,7 +42,7 @@ is_cut net a b = list_any (is_pair a b) net.cuts
 abbrev pub is_down : Net → ℕ → Bool
 is_down net n = list_any (λ m. m == n) net.down
 
--- a message can't pass where its pair is cut or its target is down
+-- whether a message cannot pass: its pair is cut, or its target is down
 abbrev pub is_blocked : Net → Msg → Bool
 is_blocked net m = is_cut net m.from.node m.to.node || is_down net m.to.node
 
@@ -56,15 +59,15 @@ use_order m (o ∷ os) = if is_order_for m o then os else o ∷ use_order m os
 abbrev pub packet : Msg → Fate → Packet
 packet m fate = record { msg = m; fate = fate }
 
--- a message that cannot pass is lost at once, and so is one that an order fits
+-- whether a message is lost as it is sent: it cannot pass, or an order fits it
 abbrev pub is_lost_at_once : Net → Msg → Bool
 is_lost_at_once net m = is_blocked net m || list_any (is_order_for m) net.orders
 
--- its fate when it is sent
+-- the fate of a message as it is sent
 abbrev pub first_fate : Net → Msg → Fate
 first_fate net m = if is_lost_at_once net m then fates.Lost else fates.InFlight
 
--- a message that cannot pass uses up no order
+-- the orders left after a message is sent: one that cannot pass uses up none
 abbrev pub orders_left : Net → Msg → List Order
 orders_left net m = if is_blocked net m then net.orders else use_order m net.orders
 
@@ -87,7 +90,7 @@ abbrev pub is_flying : Fate → Bool
 is_flying fates.InFlight = true
 is_flying _ = false
 
--- the same of a message with its fate
+-- the same for a message with its fate
 abbrev pub flies : Packet → Bool
 flies x = is_flying x.fate
 
@@ -179,6 +182,6 @@ abbrev pub may_pass : Net → Option Packet → Bool
 may_pass net None = false
 may_pass net (Some x) = not (is_blocked net x.msg)
 
--- AGAIN takes any message ever sent whose pair is joined and whose target is up
+-- AGAIN delivers a copy of any message ever sent whose pair is joined and whose target is up
 abbrev pub may_repeat : Net → ℕ → Bool
 may_repeat net k = may_pass net (packet_at net k)

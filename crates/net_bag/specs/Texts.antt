@@ -1,4 +1,4 @@
--- The messages in flight, printed.
+-- The messages in flight, as SHOW NET prints them. The layout is dtx's own.
 use Rattle.std.specs.Prelude.{ℕ, ◌+◌, if◌then◌else◌, List, [], ◌∷◌, ◌++◌, codes}
 use Rattle.tran_ids.specs.Numbers.{decimal}
 use Rattle.tran_ids.specs.Texts.{name_of}

@@ -1,4 +1,5 @@
-//! Messages on their way between nodes, as plain data.
+//! Messages between nodes and what became of each, as plain data. What a cut, a stop or an order loses is defined in
+//! `specs/Net.antt`.
 #![tactic(auto)]
 
 mod packet;

@@ -1,4 +1,4 @@
-//! Messages that were sent, and what became of them.
+//! Messages that were sent, and what became of each.
 ghost use Rattle.std.specs.Prelude.{◌≡◌};
 
 use dtx_values::{Duplicate, Listing};
@@ -10,7 +10,9 @@ use wire_msg::Msg;
 pub enum Fate {
     /// It was sent, and is neither delivered nor lost.
     InFlight,
+    /// Its receiver took it.
     Delivered,
+    /// It was not delivered: its pair was cut, its target was down, or the script lost it.
     Lost,
 }
 
@@ -20,10 +22,12 @@ impl Duplicate for Fate {
     }
 }
 
-/// A message that was sent.
+/// A message that was sent, with what became of it.
 #[derive(Debug, Drop)]
 pub struct Packet {
+    /// The message.
     pub msg: Msg,
+    /// What became of it so far.
     pub fate: Fate,
 }
 

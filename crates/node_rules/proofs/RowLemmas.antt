@@ -7,7 +7,7 @@ use Rattle.std.specs.List.{AllByRecursion}
 use Rattle.std.specs.List.Sorted.{IsStrictlySortedBy}
 use Rattle.dtx_values.specs.Order.{value_cmp}
 use Rattle.dtx_values.proofs.RowLookups.{values_total, values_exact}
-use Rattle.sql_eval.proofs.ValueOrder.{same_is, same_key}
+use Rattle.dtx_values.proofs.ValueOrder.{same_is, equal_from_same}
 use Rattle.node_rules.specs.Data.{Value, Keyed}
 use Rattle.node_rules.specs.Rows.{same_value, get, keys_of}
 
@@ -51,7 +51,7 @@ module _ (r q : Keyed) (rs qs : List Keyed) (key : r.key ≡ q.key) (first : Are
   behind_if : (k : Value) (here : Bool) → same_value r.key k ≡ here → get rs k ≡ get qs k
   unfolding IsStrictlySortedBy
   behind_if k true is =
-      let at : r.key ≡ k = same_key r.key k is in
+      let at : r.key ≡ k = equal_from_same r.key k is in
       none_below k rs (subst (λ p. IsBelow p rs) at first.0) ∙ sym (none_below k qs (subst (λ p. IsBelow p qs) (sym key ∙ at) second.0))
   behind_if k false is =
       let other : same_value q.key k ≡ false = ap (λ p. same_value p k) (sym key) ∙ is in

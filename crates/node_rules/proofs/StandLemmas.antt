@@ -3,9 +3,9 @@ use Rattle.std.proofs.Common.{◌≡◌, ℕ, List, option_map, Option, Some, No
 use Rattle.std.specs.Prelude.{unwrap_or}
 use Rattle.tran_ids.proofs.ListedLemmas.{item_is}
 use Rattle.node_rules.specs.Data.{BranchId, Standing, Live, PendingCall, Session}
-use Rattle.node_rules.specs.Words.{numbered}
+use Rattle.node_rules.specs.Words.{numbered, set_numbered}
 use Rattle.node_rules.specs.Kept.{Kept, Branch, live_id, standing_id, live_at, work_at, with_work, branch_at, standing_at}
-use Rattle.node_rules.specs.Sessions.{fresh_session, session_at, with_session, with_call}
+use Rattle.node_rules.specs.Sessions.{fresh_session, session_at, with_call}
 use Rattle.node_rules.specs.Client.{root_by, root_at}
 use Rattle.node_rules.specs.Turn.{Stand, kept_or_gone, live_or, stand_of, Is_live, Is_kept, Is_gone}
 use Rattle.node_rules.proofs.Steps.{HasRoot, IsKept}
@@ -62,7 +62,7 @@ pub root_so : (k : Kept) (n : ℕ) → RootSo k n (root_at k n)
 root_so k n = root_by_so k n (session_at k.sessions n).root refl
 
 -- a session that is set is there
-pub session_set : (ss : List Session) (n : ℕ) (s t : Session) → numbered ss n ≡ Some s → session_at (with_session ss n t) n ≡ t
+pub session_set : (ss : List Session) (n : ℕ) (s t : Session) → numbered ss n ≡ Some s → session_at (set_numbered ss n t) n ≡ t
 session_set ss n s t found = ap (λ o. unwrap_or o fresh_session) (set_found ss n s t found)
 
 call_set_at : (ss : List Session) (n : ℕ) (b : BranchId) (c : PendingCall) (o : Option Session) → numbered ss n ≡ o → (unwrap_or o fresh_session).root ≡ Some b

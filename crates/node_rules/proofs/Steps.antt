@@ -54,7 +54,7 @@ pub data Asked (k : Kept) (input : Input) : Branch → Stmt → ℕ → Type 0 w
   By_call : (n : ℕ) (x : Branch) (s : Stmt) → IsCall input n s → IsOfRows s → HasRoot k n x.live.me → (session_at k.sessions n).code ≡ None → branch_at k x.live.me ≡ Some x
       → Asked k input x s 0
   By_exec : (x : Branch) (from : BranchId) (call given : ℕ) (advice : Option Advice) (s : Stmt) → Came input from x.live.me (kinds.Exec call given advice s)
-      → branch_at k x.live.me ≡ Some x → admit x.work call ≡ admits.Run → Asked k input (takes_call x call advice) s given
+      → branch_at k x.live.me ≡ Some x → admit x.work.came call ≡ admits.Run → Asked k input (takes_call x call advice) s given
 
 -- The child that a statement waits for is opened.
 pub record Is_opened (k : Kept) (input : Input) (x : Branch) (from : BranchId) (strength : ℕ) (g : Going) (link : List ℕ) : Type 0 where
@@ -165,7 +165,7 @@ pub data Says (k : Kept) (input : Input) : List Post → Type 0 where
   Gone_acks : (to from : BranchId) (n : ℕ) → Came input from to (kinds.Committed n) → stand_of k to ≡ Is_gone → Says k input (post to from kinds.Ack)
   Gone_forgets : (to from : BranchId) → Came input from to kinds.Ack → stand_of k to ≡ Is_gone → Says k input (post to from kinds.Forgotten)
   Replies_again : (x : Branch) (to : BranchId) (call given : ℕ) (advice : Option Advice) (s : Stmt) (t : ReplyFields) → Came input to x.live.me (kinds.Exec call given advice s)
-      → branch_at k x.live.me ≡ Some x → x.work.last_call ≡ call → x.work.reply ≡ Some t → Says k input (replies x to t)
+      → branch_at k x.live.me ≡ Some x → x.work.came.last_call ≡ call → x.work.came.reply ≡ Some t → Says k input (replies x to t)
   Opened_again : (to : BranchId) (parent : BranchId) (edge : ℕ) (root : BranchId) (depth : ℕ) (o : Opening) → Came input parent to (kinds.Open edge root depth)
       → find (is_opening parent edge) k.opens ≡ Some o → Says k input (opened_says o)
   Prepared_again : (s : Standing) (from : BranchId) (site_below : Bool) (comment : List ℕ) → Came input from s.me (kinds.Prepare site_below comment) → IsKept k s → is_asked_again s from ≡ true
@@ -216,7 +216,7 @@ pub data Step (p : Place) (input : Input) : Kept → Deed → Type 0 where
   Opens : {k : Kept} (x : Branch) (s : Stmt) (given node : ℕ) (link table : List ℕ) → Asked k input x s given → way_of p k.stored.durable x.live given s ≡ Through node link table
       → Step p input k (opens_through k x node link (passed_on s table) given)
   Goes_on : {k : Kept} (x : Branch) (from : BranchId) (strength : ℕ) (g : Going) (link : List ℕ) → Is_opened k input x from strength g link
-      → Step p input k (calls_over k (with_edge x (new_edge from link strength)) (length x.live.edges) g.statement (g.room - 1))
+      → Step p input k (calls_over k (with_edge x (new_edge from link strength)) (length x.live.edges + 1) g.statement (g.room - 1))
   Hears_reply : {k : Kept} (x : Branch) (weight : Option ℕ) (count : ℕ) (a : Answer) (i : ℕ) (e : Edge) → Is_answered k input x weight count a i e
       → Step p input k (reply_heard k (hears_reply x i weight count e) e.link a)
   Opens_branch : {k : Kept} (to parent : BranchId) (edge : ℕ) (root : BranchId) (depth : ℕ) → Came input parent to (kinds.Open edge root depth) → find (is_opening parent edge) k.opens ≡ None

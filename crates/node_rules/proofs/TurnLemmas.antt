@@ -23,7 +23,8 @@ use Rattle.node_rules.specs.Sessions.{session_at, with_call}
 use Rattle.node_rules.specs.Calls.{goes, statement_at, is_opening, open_by, opened_waits, opened_going, admit, takes_call, says_again, exec_by, reply_of, reply_by}
 use Rattle.node_rules.specs.Prepare.{drops, without_read_keys, collects, with_comment, prepare_in, answers_first, answer_in, commit_point_in}
 use Rattle.node_rules.specs.Commit.{on_decision, ack_counts, acked_by, counts_ack, on_ack, on_forgotten, commit_point_known, is_asked_again, on_prepare_kept}
-use Rattle.node_rules.specs.Recovery.{on_ask, recovery}
+use Rattle.reco.specs.declared.told.Told.TheVariants as tolds
+use Rattle.node_rules.specs.Recovery.{on_ask_told, on_ask, recovery}
 use Rattle.node_rules.specs.Force.{branch_to_force, force_commit, force_rollback, may_purge, hides, purge}
 use Rattle.node_rules.specs.Client.{refuses, begun_by, root_at, statement_by, statement_call, commit_by, rollback_by, writes, is_used, is_link, call_turn, read_turn, statement_given_up, give_up_by}
 use Rattle.node_rules.specs.Turn.{Stand, stand_of, exec_turn, opened_turn, reply_turn, prepare_turn, answer_turn, commit_point_turn, committed_turn, rollback_turn, rolled_back_turn, ack_turn, forgotten_turn, ask_turn, kind_turn, kind_scn, clock_raised_by, heard, deed_of, Is_live, Is_kept, Is_gone}
@@ -34,7 +35,7 @@ use Rattle.node_rules.proofs.ActLemmas.{first_act_so, answer_act_so, point_act_s
 use Rattle.node_rules.proofs.NextLemmas.{decision_so, ack_so, forgotten_so}
 
 -- what was answered is the last call
-last_so : (w : Work) (call : ℕ) → admit w call ≡ admits.Again → w.last_call ≡ call
+last_so : (w : Work) (call : ℕ) → admit w.came call ≡ admits.Again → w.came.last_call ≡ call
 unfolding admit
 last_so w call is = grind (arith, nat_tests)
 
@@ -72,15 +73,15 @@ module _ (p : Place) (input : Input) where
     opened_so edge strength None came going = Rests
     opened_so edge strength (Some g) came going = cond_both (edge == length x.live.edges + 1) _ _ (Step p input k) (λ new. waits_so edge strength g g.waits came going new refl) (λ old. Rests)
 
-    again_so : (call given : ℕ) (advice : Option Advice) (s : Stmt) (o : Option ReplyFields) → Came input from x.live.me (kinds.Exec call given advice s) → x.work.last_call ≡ call → x.work.reply ≡ o
+    again_so : (call given : ℕ) (advice : Option Advice) (s : Stmt) (o : Option ReplyFields) → Came input from x.live.me (kinds.Exec call given advice s) → x.work.came.last_call ≡ call → x.work.came.reply ≡ o
         → Step p input k (saying k (says_again x from o))
     again_so call given advice s None came last is = Rests
     again_so call given advice s (Some t) came last is = Sends _ (Replies_again x from call given advice s t came live last is)
 
-    exec_so : (call given : ℕ) (advice : Option Advice) (s : Stmt) (a : Admit) → Came input from x.live.me (kinds.Exec call given advice s) → admit x.work call ≡ a
+    exec_so : (call given : ℕ) (advice : Option Advice) (s : Stmt) (a : Admit) → Came input from x.live.me (kinds.Exec call given advice s) → admit x.work.came call ≡ a
         → Step p input k (exec_by p k x from call given advice s a)
     exec_so call given advice s admits.Ignore came is = Rests
-    exec_so call given advice s admits.Again came is = again_so call given advice s x.work.reply came (last_so x.work call is) refl
+    exec_so call given advice s admits.Again came is = again_so call given advice s x.work.came.reply came (last_so x.work call is) refl
     exec_so call given advice s admits.Run came is = statement_so k (takes_call x call advice) s given (By_exec x from call given advice s came live is)
 
     reply_so : (call : ℕ) (weight : Option ℕ) (count : ℕ) (a : Answer) (o : Option (ℕ × Edge)) → Came input from x.live.me (kinds.Reply call weight count a) → reply_of x from call ≡ o
@@ -118,7 +119,7 @@ module _ (p : Place) (input : Input) where
     rolled_back_so came = cond_both (is_branch from l.parent) _ _ (Step p input k) (λ parent. Drops_told l live (By_parent from came parent)) (λ other. Rests)
 
     ask_so : Came input from l.me kinds.Ask → Step p input k (on_ask k l from)
-    ask_so came = cond_both (is_branch from l.parent) _ _ (Step p input k) (Drops_asked l from live came) (λ other. Sends _ (Is_in_doubt l from came live other))
+    ask_so came = cond_both (is_branch from l.parent) tolds.RollBackFirst tolds.InDoubt (λ t. Step p input k (on_ask_told k l from t)) (Drops_asked l from live came) (λ other. Sends _ (Is_in_doubt l from came live other))
 
   -- ---- kept branches
 
@@ -154,7 +155,7 @@ module _ (p : Place) (input : Input) where
 
     exec_turn_so : (call given : ℕ) (advice : Option Advice) (s : Stmt) (stand : Stand) → Came input from to (kinds.Exec call given advice s) → StandsSo k to stand
         → Step p input k (exec_turn p k from to call given advice s stand)
-    exec_turn_so call given advice s (Is_live x) came so = exec_so k from x so.1 call given advice s (admit x.work call) (here so.0 came) refl
+    exec_turn_so call given advice s (Is_live x) came so = exec_so k from x so.1 call given advice s (admit x.work.came call) (here so.0 came) refl
     exec_turn_so call given advice s (Is_kept y) came so = Rests
     exec_turn_so call given advice s Is_gone came so = Sends _ (Gone_replies to from call given advice s came so)
 

@@ -1,14 +1,18 @@
 -- Statements on their way through the session tree: Open and Opened, Exec with its call numbers, Reply, and the end of a
 -- call. (Database Administrator's Guide, "Distributed Transactions Concepts": session trees, local and global coordinators.)
-use Rattle.std.specs.Prelude.{ℕ, ◌+◌, ◌-◌, ◌==◌, ◌&&◌, Bool, false, if◌then◌else◌, List, [], ◌∷◌, ◌++◌, find, length, slice_get, slice_set, unwrap_or, nat_lt, is_none, is_some, Option, Some, None}
+use Rattle.std.specs.Prelude.{ℕ, ◌+◌, ◌-◌, ◌==◌, ◌&&◌, Bool, false, if◌then◌else◌, List, [], ◌∷◌, ◌++◌, find, length, unwrap_or, nat_lt, is_none, is_some, Option, Some, None}
+unfoldable pub use Rattle.link_session.specs.Calls.{admit}
+pub use Rattle.link_session.specs.Opens.{is_opening}
+use Rattle.link_session.specs.Calls.{taken}
+use Rattle.link_session.specs.Opens.{opening_of, with_opening}
 use Rattle.node_rules.specs.Data.{Table, Stmt, Answer, Advice, BranchId, Edge, Live, Place, ReplyFields, Going, Waits, Work, Admit, Opening, Session, Finished, Post}
 use Rattle.node_rules.specs.Data.answers
 use Rattle.node_rules.specs.Data.kinds
 use Rattle.node_rules.specs.Data.waiting
 use Rattle.node_rules.specs.Data.admits
 use Rattle.node_rules.specs.Data.pending
-use Rattle.session_tree.specs.Live.{fresh_live, new_edge, peer_of}
-use Rattle.node_rules.specs.Words.{same, one}
+use Rattle.session_tree.specs.Live.{fresh_live, new_edge, add_edge, next_edge, edge_at, peer_of}
+use Rattle.node_rules.specs.Words.{same, one, numbered, set_numbered}
 use Rattle.node_rules.specs.Refusals.{dtx}
 use Rattle.session_tree.specs.Tree.{weight, count, room}
 use Rattle.node_rules.specs.Names.{Way, Runs_here, Over, Through, Nowhere_to, way_of, passed_on}
@@ -26,16 +30,16 @@ reply_fields l a = record { weight = weight l; count = count l; result = a }
 
 -- a Reply to the last call
 abbrev pub replies : Branch → BranchId → ReplyFields → List Post
-replies x to t = post x.live.me to (kinds.Reply x.work.last_call t.weight t.count t.result)
+replies x to t = post x.live.me to (kinds.Reply x.work.came.last_call t.weight t.count t.result)
 
 -- below the root the answer is kept, for a call that comes again
 abbrev pub kept_reply : Branch → Answer → Option BranchId → Option ReplyFields
-kept_reply x a None = x.work.reply
+kept_reply x a None = x.work.came.reply
 kept_reply x a (Some parent) = Some (reply_fields x.live a)
 
 -- the branch with its statement answered
 abbrev pub with_answer : Branch → Answer → Branch
-with_answer x a = record x { work = record x.work { going = None; reply = kept_reply x a x.live.parent } }
+with_answer x a = record x { work = record x.work { going = None; came = record x.work.came { reply = kept_reply x a x.live.parent } } }
 
 -- at a root the session's call ends
 abbrev pub answered_sessions : List Session → Live → Option BranchId → List Session
@@ -67,7 +71,7 @@ advice_of ss l = if is_none l.parent then (session_at ss l.me.session).advice el
 
 -- the next call number of an edge
 abbrev pub next_call : Work → ℕ → ℕ
-next_call w i = unwrap_or (slice_get w.calls i) 0 + 1
+next_call w i = unwrap_or (numbered w.calls i) 0 + 1
 
 -- the Exec to a child, with the room left and the advice
 abbrev pub exec_to : List Session → Branch → ℕ → Stmt → ℕ → Option BranchId → List Post
@@ -76,7 +80,7 @@ exec_to ss x i s given (Some peer) = post x.live.me peer (kinds.Exec (next_call 
 
 -- the branch waits for a Reply over an edge
 abbrev pub called : Branch → ℕ → Stmt → ℕ → Branch
-called x i s given = record x { work = record x.work { calls = slice_set x.work.calls i (next_call x.work i); going = Some (record { statement = s; room = given; waits = waiting.ForReply i }) } }
+called x i s given = record x { work = record x.work { calls = set_numbered x.work.calls i (next_call x.work i); going = Some (record { statement = s; room = given; waits = waiting.ForReply i }) } }
 
 -- the statement goes on over an edge
 abbrev pub calls_over : Kept → Branch → ℕ → Stmt → ℕ → Deed
@@ -100,7 +104,7 @@ abbrev pub opens_through : Kept → Branch → ℕ → List ℕ → Stmt → ℕ
 opens_through k x node link s given = record {
   after = record (with_branch k (waits_for_opened x link s given)) { sessions = call_pends k.sessions x.live };
   wrote = None;
-  says = post x.live.me (nobody_at node) (kinds.Open (length x.live.edges + 1) x.live.root (x.live.depth + 1));
+  says = post x.live.me (nobody_at node) (kinds.Open (next_edge x.live) x.live.root (x.live.depth + 1));
   ended = [];
 }
 
@@ -120,10 +124,6 @@ goes p k x s given (Through node link table) = opens_through k x node link (pass
 abbrev pub statement_at : Place → Kept → Branch → Stmt → ℕ → Deed
 statement_at p k x s given = goes p k x s given (way_of p k.stored.durable x.live given s)
 
--- whether an Open of this parent and edge was answered so
-abbrev pub is_opening : BranchId → ℕ → Opening → Bool
-is_opening parent edge o = same o.parent parent && (o.edge == edge)
-
 -- the id of the next branch that is opened over a link: sessions 65, 66, .. in the order of opening
 abbrev pub next_child : Place → Kept → BranchId
 next_child p k = record { node = p.number; boot = k.stored.durable.boot; session = 65 + length k.opens; seq = 1 }
@@ -140,7 +140,7 @@ new_opening p k parent edge = record { parent = parent; edge = edge; child = nex
 abbrev pub opens_branch : Place → Kept → BranchId → ℕ → BranchId → ℕ → Kept
 opens_branch p k parent edge root depth = record k {
   lives = k.lives ++ fresh_live (next_child p k) root (Some parent) depth (strength_of p k) ∷ [];
-  opens = k.opens ++ new_opening p k parent edge ∷ [];
+  opens = with_opening k.opens (new_opening p k parent edge);
 }
 
 -- Opened, with the strength that is told
@@ -154,33 +154,29 @@ open_by p k parent edge root depth None = saying (opens_branch p k parent edge r
 
 -- a message Open
 abbrev pub on_open : Place → Kept → BranchId → ℕ → BranchId → ℕ → Deed
-on_open p k parent edge root depth = open_by p k parent edge root depth (find (is_opening parent edge) k.opens)
+on_open p k parent edge root depth = open_by p k parent edge root depth (opening_of k.opens parent edge)
 
 -- with one more child, to which no call was made
 abbrev pub with_edge : Branch → Edge → Branch
-with_edge x e = record { live = record x.live { edges = x.live.edges ++ e ∷ [] }; work = record x.work { calls = x.work.calls ++ 0 ∷ [] } }
+with_edge x e = record { live = add_edge x.live e; work = record x.work { calls = x.work.calls ++ 0 ∷ [] } }
 
 -- the statement that waited for this link goes on, with room for one branch less
 abbrev pub opened_waits : Kept → Branch → BranchId → ℕ → Going → Waits → Deed
 opened_waits k x from strength g (waiting.ForReply i) = nothing k
-opened_waits k x from strength g (waiting.ForOpened link) = calls_over k (with_edge x (new_edge from link strength)) (length x.live.edges) g.statement (g.room - 1)
+opened_waits k x from strength g (waiting.ForOpened link) = calls_over k (with_edge x (new_edge from link strength)) (next_edge x.live) g.statement (g.room - 1)
 
 -- the Opened of the edge that is waited for; any other is ignored
 abbrev pub opened_going : Kept → Branch → BranchId → ℕ → ℕ → Option Going → Deed
 opened_going k x from edge strength None = nothing k
-opened_going k x from edge strength (Some g) = if edge == length x.live.edges + 1 then opened_waits k x from strength g g.waits else nothing k
+opened_going k x from edge strength (Some g) = if edge == next_edge x.live then opened_waits k x from strength g g.waits else nothing k
 
 -- a message Opened at a live branch
 abbrev pub on_opened : Kept → Branch → BranchId → ℕ → ℕ → Deed
 on_opened k x from edge strength = opened_going k x from edge strength x.work.going
 
--- a number that comes for the first time, the last one, once it was answered, or any other
-unfoldable pub admit : Work → ℕ → Admit
-admit w call = if nat_lt w.last_call call then admits.Run else (if (call == w.last_call) && is_some w.reply then admits.Again else admits.Ignore)
-
 -- the branch takes a call, with the advice that came with it
 abbrev pub takes_call : Branch → ℕ → Option Advice → Branch
-takes_call x call advice = record { live = record x.live { advice = advice }; work = record x.work { last_call = call; reply = None } }
+takes_call x call advice = record { live = record x.live { advice = advice }; work = record x.work { came = taken call } }
 
 -- the answer that was given before
 abbrev pub says_again : Branch → BranchId → Option ReplyFields → List Post
@@ -190,16 +186,16 @@ says_again x to (Some t) = replies x to t
 -- a first number is run, the last one answered again once it was answered, any other ignored
 abbrev pub exec_by : Place → Kept → Branch → BranchId → ℕ → ℕ → Option Advice → Stmt → Admit → Deed
 exec_by p k x from call given advice s admits.Ignore = nothing k
-exec_by p k x from call given advice s admits.Again = saying k (says_again x from x.work.reply)
+exec_by p k x from call given advice s admits.Again = saying k (says_again x from x.work.came.reply)
 exec_by p k x from call given advice s admits.Run = statement_at p k (takes_call x call advice) s given
 
 -- a message Exec at a live branch
 abbrev pub on_exec : Place → Kept → Branch → BranchId → ℕ → ℕ → Option Advice → Stmt → Deed
-on_exec p k x from call given advice s = exec_by p k x from call given advice s (admit x.work call)
+on_exec p k x from call given advice s = exec_by p k x from call given advice s (admit x.work.came call)
 
 -- the child with the weight and the branches that its Reply tells
 abbrev pub hears_reply : Branch → ℕ → Option ℕ → ℕ → Edge → Branch
-hears_reply x i weight count e = record x { live = record x.live { edges = slice_set x.live.edges i (record e { weight = weight; count = count }) } }
+hears_reply x i weight count e = record x { live = record x.live { edges = set_numbered x.live.edges i (record e { weight = weight; count = count }) } }
 
 -- whether a result is the refusal of a gone branch
 abbrev pub is_gone : Answer → Bool
@@ -221,12 +217,12 @@ reply_heard k x link a = answered (record k { sessions = heard_sessions k.sessio
 -- the edge whose last call a Reply answers
 abbrev pub reply_edge : Branch → BranchId → ℕ → ℕ → Option Edge → Option (ℕ × Edge)
 reply_edge x from call i None = None
-reply_edge x from call i (Some e) = if same e.peer from && (unwrap_or (slice_get x.work.calls i) 0 == call) then Some (i, e) else None
+reply_edge x from call i (Some e) = if same e.peer from && (unwrap_or (numbered x.work.calls i) 0 == call) then Some (i, e) else None
 
 -- the edge, where the statement waits for a Reply
 abbrev pub reply_waits : Branch → BranchId → ℕ → Waits → Option (ℕ × Edge)
 reply_waits x from call (waiting.ForOpened link) = None
-reply_waits x from call (waiting.ForReply i) = reply_edge x from call i (slice_get x.live.edges i)
+reply_waits x from call (waiting.ForReply i) = reply_edge x from call i (edge_at x.live i)
 
 -- the edge, where a statement is under way
 abbrev pub reply_going : Branch → BranchId → ℕ → Option Going → Option (ℕ × Edge)

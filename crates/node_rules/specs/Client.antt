@@ -1,6 +1,6 @@
 -- The calls of clients: each form of statement in a session, and a call that is given up. (SQL Language Reference: COMMIT,
 -- ROLLBACK, ALTER SESSION, ALTER SYSTEM, CREATE; Database Administrator's Guide, "Managing Distributed Transactions".)
-use Rattle.std.specs.Prelude.{ℕ, ◌+◌, ◌||◌, Bool, true, false, if◌then◌else◌, List, [], ◌∷◌, ◌++◌, unwrap_or, slice_get, option_map, Option, Some, None}
+use Rattle.std.specs.Prelude.{ℕ, ◌+◌, ◌||◌, Bool, true, false, if◌then◌else◌, List, [], ◌∷◌, ◌++◌, unwrap_or, option_map, Option, Some, None}
 use Rattle.std.specs.List.{list_any}
 use Rattle.node_rules.specs.Data.{Table, Link, Synonym, Stmt, Done, Advice, Refusal, BranchId, RedoRecord, Standing, Durable, Live, Place, Going, Waits, PendingCall, Session}
 use Rattle.node_rules.specs.Data.answers
@@ -11,12 +11,12 @@ use Rattle.node_rules.specs.Data.stmts
 use Rattle.node_rules.specs.Data.kinds
 use Rattle.node_rules.specs.Data.waiting
 use Rattle.node_rules.specs.Data.pending
-use Rattle.session_tree.specs.Live.{fresh_live}
+use Rattle.session_tree.specs.Live.{fresh_live, edge_at}
 use Rattle.node_rules.specs.Ids.{decimal}
-use Rattle.node_rules.specs.Words.{same_text, one}
+use Rattle.node_rules.specs.Words.{same_text, one, set_numbered}
 use Rattle.node_rules.specs.Refusals.{ora, dtx}
 use Rattle.node_rules.specs.Records.{with_record}
-use Rattle.node_rules.specs.Sessions.{session_at, with_session, with_call, with_root, needs_rollback, no_transaction, commit_ended, commit_answer, tran_refusal}
+use Rattle.node_rules.specs.Sessions.{session_at, with_call, with_root, needs_rollback, no_transaction, commit_ended, commit_answer, tran_refusal}
 use Rattle.node_rules.specs.Calls.{statement_at, strength_of}
 use Rattle.node_rules.specs.Prepare.{collects, with_comment, root_drops, to_children}
 use Rattle.node_rules.specs.Commit.{knows_commit}
@@ -90,7 +90,7 @@ commit_call k n comment = commit_by k n (unwrap_or comment []) (session_at k.ses
 abbrev pub rollback_by : Kept → ℕ → Option Branch → Deed
 rollback_by k n None = did k n dones.RolledBack
 rollback_by k n (Some x) = record {
-  after = record (without_branch k x.live.me) { sessions = with_session k.sessions n (no_transaction (session_at k.sessions n)) };
+  after = record (without_branch k x.live.me) { sessions = set_numbered k.sessions n (no_transaction (session_at k.sessions n)) };
   wrote = None;
   says = to_children x.live kinds.Rollback;
   ended = (record { session = n; answer = answers.Did dones.RolledBack 0 }) ∷ [];
@@ -122,7 +122,7 @@ create_synonym k n y = if is_used k.stored.durable y.name then refuses k n (ora 
 
 -- ALTER SESSION ADVISE
 abbrev pub advise : Kept → ℕ → Option Advice → Deed
-advise k n a = did (record k { sessions = with_session k.sessions n (record (session_at k.sessions n) { advice = a }) }) n dones.SessionAltered
+advise k n a = did (record k { sessions = set_numbered k.sessions n (record (session_at k.sessions n) { advice = a }) }) n dones.SessionAltered
 
 -- ALTER SYSTEM ENABLE or DISABLE DISTRIBUTED RECOVERY
 abbrev pub set_recovery : Kept → ℕ → Bool → Deed
@@ -166,9 +166,9 @@ commit_given_up k root None = record {
   ended = commit_answer k.sessions root (tran_refusal (given_up_code (standing_at k root)) root);
 }
 
--- the link of the child at a place
+-- the link of the child of a number
 abbrev pub link_at : Live → ℕ → List ℕ
-link_at l i = unwrap_or (option_map (λ e. e.link) (slice_get l.edges i)) []
+link_at l i = unwrap_or (option_map (λ e. e.link) (edge_at l i)) []
 
 -- the link that a statement waits for
 abbrev pub waits_on : Live → Waits → List ℕ

@@ -1,77 +1,25 @@
 -- The commit and forget phases, at a branch that the node keeps a row of: decisions come from toward and go to those
 -- beyond, acknowledgements come back, and the branch forgets. (Database Administrator's Guide, "Distributed Transactions
 -- Concepts": commit phase and forget phase.)
-use Rattle.std.specs.Prelude.{ℕ, ◌&&◌, ◌||◌, not, Bool, true, false, if◌then◌else◌, List, [], ◌∷◌, ◌++◌, map, filter, is_none, Option, Some, None}
-use Rattle.std.specs.List.{list_all, list_any}
-use Rattle.node_rules.specs.Data.{BranchId, Decision, RedoRecord, State, Kid, Standing, Kind, Beyond, Next, Session, Finished, Post}
+unfoldable pub use Rattle.commit_forget.specs.Beyond.{beyond}
+unfoldable pub use Rattle.commit_forget.specs.Next.{next_on_decision, next_on_ack, next_on_forgotten}
+pub use Rattle.commit_forget.specs.Beyond.{parent_beyond, kid_beyond, all_acked, is_beyond, is_neighbor}
+pub use Rattle.commit_forget.specs.Next.{is_mixed, first_decision, known_decision, decision_at, knows_commit, ack_counts, acks_kid, acked_by, is_asked_again}
+use Rattle.std.specs.Prelude.{ℕ, if◌then◌else◌, List, [], ◌∷◌, map, Option, Some, None}
+use Rattle.node_rules.specs.Data.{BranchId, Decision, RedoRecord, Standing, Kind, Beyond, Next, Session, Finished, Post}
 use Rattle.node_rules.specs.Data.decisions
 use Rattle.node_rules.specs.Data.kinds
 use Rattle.node_rules.specs.Data.records
-use Rattle.node_rules.specs.Data.states
 use Rattle.node_rules.specs.Data.nexts
-use Rattle.session_tree.specs.Live.{is_branch}
-use Rattle.node_rules.specs.Words.{same}
 use Rattle.node_rules.specs.Records.{with_record}
 use Rattle.node_rules.specs.Sessions.{commit_ended, commit_answer, commit_complete, tran_refusal}
 use Rattle.node_rules.specs.Kept.{Kept, Deed, nothing, saying, post, post_one, to_each, to_one, with_standing}
-
--- the parent, unless it is toward
-abbrev pub parent_beyond : Standing → Option BranchId → List Beyond
-parent_beyond s None = []
-parent_beyond s (Some b) = if is_branch b s.toward then [] else (record { branch = b; acked = s.parent_acked; is_parent = true }) ∷ []
-
--- a child away from the site
-abbrev pub kid_beyond : Kid → Beyond
-kid_beyond c = record { branch = c.branch; acked = c.acked; is_parent = false }
-
--- the neighbours away from the site: the parent, then the children in order of reference
-unfoldable pub beyond : Standing → List Beyond
-beyond s = parent_beyond s s.parent ++ map kid_beyond (filter (λ c. not (is_branch c.branch s.toward)) s.children)
-
--- whether everybody beyond has acknowledged
-abbrev pub all_acked : Standing → Bool
-all_acked s = list_all (λ b. b.acked) (beyond s)
-
--- whether this branch is beyond
-abbrev pub is_beyond : Standing → BranchId → Bool
-is_beyond s from = list_any (λ b. same b.branch from) (beyond s)
-
--- whether this branch is the parent or a child
-abbrev pub is_neighbor : Standing → BranchId → Bool
-is_neighbor s from = is_branch from s.parent || list_any (λ c. same c.branch from) s.children
 
 -- the same message to everybody beyond
 abbrev pub to_beyond : Standing → Kind → List Post
 to_beyond s kind = to_each s.me kind (map (λ b. b.branch) (beyond s))
 
 -- ---- decisions
-
--- the forced outcome and the decision differ
-abbrev pub is_mixed : State → Decision → Bool
-is_mixed (states.ForcedCommit n) decisions.Rollback = true
-is_mixed states.ForcedRollback (decisions.Commit n) = true
-is_mixed _ _ = false
-
--- the first decision from toward ends a sealed branch, and is noted by a forced one
-abbrev pub first_decision : State → Decision → Next
-first_decision states.Sealed d = nexts.End d
-first_decision states.Committed d = nexts.Rest
-first_decision (states.ForcedCommit n) d = nexts.Meet d (is_mixed (states.ForcedCommit n) d)
-first_decision states.ForcedRollback d = nexts.Meet d (is_mixed states.ForcedRollback d)
-
--- a decision that is known: Committed again is acknowledged, once all beyond have acknowledged
-abbrev pub known_decision : Standing → Decision → Decision → Next
-known_decision s (decisions.Commit m) (decisions.Commit n) = if all_acked s then nexts.SayAck else nexts.Rest
-known_decision s _ _ = nexts.Rest
-
--- by what the branch knows
-abbrev pub decision_at : Standing → Decision → Option Decision → Next
-decision_at s d None = first_decision s.state d
-decision_at s d (Some known) = known_decision s known d
-
--- what a kept branch does about a decision: only toward is heard
-unfoldable pub next_on_decision : Standing → BranchId → Decision → Next
-next_on_decision s from d = if is_branch from s.toward then decision_at s d s.decision else nexts.Rest
 
 -- the decision goes to those beyond; where there is nobody, the commit is acknowledged at once
 abbrev pub passes_commit : Standing → ℕ → List Beyond → List Post
@@ -131,28 +79,6 @@ on_decision k s from d = next_turn k s from (next_on_decision s from d)
 
 -- ---- acknowledgements
 
--- whether the decision is known and is commit
-abbrev pub knows_commit : Option Decision → Bool
-knows_commit None = false
-knows_commit (Some decisions.Rollback) = false
-knows_commit (Some (decisions.Commit n)) = true
-
--- whether an Ack counts: at a branch that knows the commit, from one beyond
-abbrev pub ack_counts : Standing → BranchId → Bool
-ack_counts s from = knows_commit s.decision && is_beyond s from
-
--- the child with its Ack counted
-abbrev pub acks_kid : BranchId → Kid → Kid
-acks_kid from c = if same c.branch from then record c { acked = true } else c
-
--- with this neighbour's acknowledgement
-abbrev pub acked_by : Standing → BranchId → Standing
-acked_by s from = record s { parent_acked = s.parent_acked || is_branch from s.parent; children = map (acks_kid from) s.children }
-
--- when all beyond have acknowledged the site forgets, and another branch acknowledges; one that forgot says so
-unfoldable pub next_on_ack : Standing → Next
-next_on_ack s = if s.forgot then nexts.SayForgotten else (if all_acked s then (if is_none s.toward then nexts.Forget else nexts.AckToward) else nexts.Rest)
-
 -- an Ack that counts is noted in memory alone
 abbrev pub counts_ack : Kept → Standing → BranchId → Deed
 counts_ack k s from = next_turn (with_standing k s) s from (next_on_ack s)
@@ -160,10 +86,6 @@ counts_ack k s from = next_turn (with_standing k s) s from (next_on_ack s)
 -- a message Ack at a kept branch
 abbrev pub on_ack : Kept → Standing → BranchId → Deed
 on_ack k s from = if ack_counts s from then counts_ack k (acked_by s from) from else nothing k
-
--- a branch that knows the commit forgets when toward has forgotten, once
-unfoldable pub next_on_forgotten : Standing → BranchId → Next
-next_on_forgotten s from = if knows_commit s.decision && (is_branch from s.toward && not s.forgot) then nexts.Forget else nexts.Rest
 
 -- a message Forgotten at a kept branch
 abbrev pub on_forgotten : Kept → Standing → BranchId → Deed
@@ -180,10 +102,6 @@ commit_point_known k s from (Some decisions.Rollback) = saying k (post s.me from
 -- a message CommitPoint at a kept branch: the decision, where it is known
 abbrev pub on_commit_point_kept : Kept → Standing → BranchId → Deed
 on_commit_point_kept k s from = commit_point_known k s from s.decision
-
--- whether a Prepare comes again to a sealed branch from a parent that is toward
-abbrev pub is_asked_again : Standing → BranchId → Bool
-is_asked_again s from = is_none s.decision && (is_branch from s.parent && is_branch from s.toward)
 
 -- a message Prepare at a kept branch: Prepared again
 abbrev pub on_prepare_kept : Kept → Standing → BranchId → Deed

@@ -1,9 +1,12 @@
--- What a node keeps from turn to turn, and what one turn does.
+-- What a node keeps from turn to turn, and what one turn does. (Database Administrator's Guide, "Distributed Transactions
+-- Concepts".)
 pub use Rattle.redo_record.specs.Kept.{stands_at}
+pub use Rattle.reco.specs.Asks.{post_one, to_each, to_one}
 use Rattle.std.specs.Prelude.{ℕ, List, [], ◌∷◌, map, max, Option, Some, None}
 use Rattle.node_rules.specs.Data.{BranchId, RedoRecord, Standing, Durable, Live, Kind, Msg, Owned, Doubt, ChangeSet, Work, Opening, Session, Finished, Post, Answer}
 use Rattle.node_rules.specs.Words.{item_at, put_item, drop_item}
 use Rattle.node_rules.specs.Rows.{TableRows}
+use Rattle.link_session.specs.Calls.{no_calls}
 use Rattle.row_locks.specs.Locks.{Lock, without}
 
 -- What the records of a node give: catalog and kept branches, committed rows, branches in doubt, and the greatest SCN except those that users gave. The Acks that were heard stand with the kept branches, though no record has them.
@@ -59,42 +62,29 @@ ending k session answer = record { after = k; wrote = None; says = []; ended = (
 abbrev pub post : BranchId → BranchId → Kind → List Post
 post from to kind = (record { from = from; to = to; kind = kind }) ∷ []
 
--- a message to one of several branches
-abbrev pub post_one : BranchId → Kind → BranchId → Post
-post_one from kind to = record { from = from; to = to; kind = kind }
-
--- the same message to each of these
-abbrev pub to_each : BranchId → Kind → List BranchId → List Post
-to_each from kind tos = map (post_one from kind) tos
-
--- a message to a branch, where there is one
-abbrev pub to_one : BranchId → Kind → Option BranchId → List Post
-to_one from kind None = []
-to_one from kind (Some to) = post from to kind
-
--- items by their branch
+-- a live branch's id
 abbrev pub live_id : Live → BranchId
 live_id l = l.me
 
--- the calls of this branch
+-- the branch whose calls these are
 abbrev pub work_id : Work → BranchId
 work_id w = w.branch
 
--- the changes of this branch
+-- the branch whose changes these are
 abbrev pub own_id : Owned → BranchId
 own_id o = o.branch
 
--- what this branch holds back
+-- the branch that is in doubt
 abbrev pub doubt_id : Doubt → BranchId
 doubt_id d = d.branch
 
--- the row of this branch
+-- the branch of a kept row
 abbrev pub standing_id : Standing → BranchId
 standing_id s = s.me
 
 -- a branch to which no call came, and which made none
 abbrev pub no_work : BranchId → Work
-no_work b = record { branch = b; last_call = 0; reply = None; calls = []; going = None }
+no_work b = record { branch = b; came = no_calls; calls = []; going = None }
 
 -- the live branch of an id
 abbrev pub live_at : Kept → BranchId → Option Live

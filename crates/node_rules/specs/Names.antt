@@ -2,12 +2,13 @@
 -- child, opens a link, or is refused. (Database Administrator's Guide, "Managing a Distributed Database": database links
 -- and synonyms.)
 use Rattle.std.specs.Prelude.{ℕ, ◌+◌, ◌==◌, ◌||◌, if◌then◌else◌, List, [], find, length, position, nat_le, option_map, Option, Some, None}
+use Rattle.dtx_values.specs.Limits.{depth_limit}
 use Rattle.node_rules.specs.Data.{Table, TableRef, Link, Synonym, Stmt, Refusal, Durable, Live, Place}
 use Rattle.node_rules.specs.Data.stmts
 use Rattle.node_rules.specs.Words.{same_text}
 use Rattle.node_rules.specs.Refusals.{ora, dtx}
 use Rattle.session_tree.specs.Live.{edge_by_link}
-use Rattle.session_tree.specs.Tree.{room, most_depth}
+use Rattle.session_tree.specs.Tree.{room}
 
 -- What a statement's table name means at a node.
 pub data Named : Type 0 where
@@ -81,7 +82,7 @@ pub data Way : Type 0 where
 -- a link without a child: DTX-02 where the tree is too deep or too wide, then ORA-02020 where the branch has too many links
 abbrev pub way_new : Place → Live → ℕ → ℕ → List ℕ → List ℕ → Way
 way_new p l given node link table =
-    if nat_le most_depth l.depth || (room l given == 0) then Nowhere_to (dtx 2 [])
+    if nat_le depth_limit l.depth || (room l given == 0) then Nowhere_to (dtx 2 [])
     else (if nat_le p.links (length l.edges) then Nowhere_to (ora 2020 []) else Through node link table)
 
 -- the child of the link, or a new one

@@ -1,148 +1,39 @@
 -- The prepare phase: COMMIT and Prepare start a branch's collect, its children answer, and the branch answers, becomes
 -- sealed or decides. (Database Administrator's Guide, "Distributed Transactions Concepts": prepare phase, commit point
 -- site, read-only optimization.)
-use Rattle.std.specs.Prelude.{ℕ, ◌+◌, ◌==◌, ◌&&◌, ◌||◌, not, Bool, true, false, if◌then◌else◌, List, [], ◌∷◌, ◌++◌, map, filter, length, take, slice_get, is_none, option_to_list, Option, Some, None}
-use Rattle.std.specs.List.{list_any}
-use Rattle.node_rules.specs.Data.{Answer, Change, BranchId, Peer, Toward, Sealed, Decided, RedoRecord, Edge, Vote, Phase, Live, Kind, Walk, Act, Session, Finished, Post}
+pub use Rattle.prepare_phase.specs.Acts.{root_act, collected_act, first_act_by, first_act, is_awaited, all_answered, next_act, answer_act, with_prepare_sent, collecting, ready, answers_first, has_voted, voted}
+pub use Rattle.prepare_phase.specs.Records.{path_of, is_place, is_prepared, peer_record, named_children, prepared_before, toward_in, sealed_of, decided_of, site_neighbors, is_alone}
+pub use Rattle.commit_forget.specs.Next.{commit_point_act}
+use Rattle.prepare_phase.specs.declared.asked.Asked.{Asked}
+use Rattle.prepare_phase.specs.Acts.{is_first_answer}
+use Rattle.prepare_phase.specs.Records.{asked_from}
+use Rattle.std.specs.Prelude.{ℕ, ◌+◌, Bool, true, if◌then◌else◌, List, [], ◌++◌, map, Option, Some, None}
+use Rattle.node_rules.specs.Data.{Answer, Change, BranchId, RedoRecord, Edge, Vote, Phase, Live, Kind, Act, Session, Finished, Post}
 use Rattle.node_rules.specs.Data.kinds
 use Rattle.node_rules.specs.Data.records
-use Rattle.node_rules.specs.Data.towards
-use Rattle.node_rules.specs.Data.votes
 use Rattle.node_rules.specs.Data.phases
-use Rattle.node_rules.specs.Data.walks
 use Rattle.node_rules.specs.Data.acts
 use Rattle.session_tree.specs.Live.{children_of, peer_of}
-use Rattle.node_rules.specs.Words.{same}
 use Rattle.row_locks.specs.Locks.{without_reads}
 use Rattle.node_rules.specs.Rows.{changes_of}
 use Rattle.node_rules.specs.Records.{with_record}
-use Rattle.session_tree.specs.Tree.{weight, step}
+use Rattle.session_tree.specs.Tree.{step}
 use Rattle.node_rules.specs.Sessions.{commit_ended, commit_answer, commit_complete, tran_refusal}
 use Rattle.node_rules.specs.Kept.{Kept, Deed, nothing, saying, to_each, to_one, sets_at, with_live, without_branch}
 
--- ---- what a branch does next
+-- ---- what goes to the children
 
--- at a root whose children have all answered
-abbrev pub root_act : Walk → Act
-root_act walks.Here = acts.Decide
-root_act (walks.Down i) = acts.SealAndPass i
-root_act walks.Nowhere = acts.Finish
+-- Prepare to a child, telling whether the walk goes there
+abbrev pub prepare_to : BranchId → List ℕ → Asked → Post
+prepare_to me comment a = record { from = me; to = a.child; kind = kinds.Prepare a.site_below comment }
 
--- all children have answered: at a root what the walk says; elsewhere Ready where the walk comes here, else Prepared or ReadOnly
-abbrev pub collected_act : Live → Bool → Act
-collected_act l true = if is_none l.parent then root_act (step l) else acts.SayReady
-collected_act l false = if is_none (weight l) then acts.SayReadOnly else acts.Seal
-
--- the collect begins: a branch without children has all answers
-abbrev pub first_act_by : Live → Bool → List Edge → Act
-first_act_by l site_below [] = collected_act l site_below
-first_act_by l site_below (e ∷ es) = acts.AskDown
-
--- COMMIT or Prepare at a working branch, whose collect has begun
-abbrev pub first_act : Live → Bool → Act
-first_act l site_below = first_act_by l site_below l.edges
-
--- CommitPoint at a branch that answered Ready
-abbrev pub commit_point_act : Walk → Act
-commit_point_act walks.Here = acts.Decide
-commit_point_act (walks.Down i) = acts.SealAndPass i
-commit_point_act walks.Nowhere = acts.Rest
-
--- whether Prepare was sent to a child that has not answered
-abbrev pub is_awaited : Vote → Bool
-is_awaited votes.Asked = true
-is_awaited _ = false
-
--- whether every child has answered
-abbrev pub all_answered : Live → Bool
-all_answered l = not (list_any (λ e. is_awaited e.vote) l.edges)
-
--- the last answer completes the collect
-abbrev pub next_act : Live → Bool → Act
-next_act l site_below = if all_answered l then collected_act l site_below else acts.Rest
-
--- an Abort ends it at once
-abbrev pub answer_act : Live → Bool → Vote → Act
-answer_act l site_below votes.Abort = acts.Abandon
-answer_act l site_below _ = next_act l site_below
-
--- ---- what goes to the children, and what the records name
-
--- the child that the walk goes to
-abbrev pub path_of : Bool → Walk → Option ℕ
-path_of false w = None
-path_of true walks.Here = None
-path_of true (walks.Down i) = Some i
-path_of true walks.Nowhere = None
-
--- whether this is the place
-abbrev pub is_place : ℕ → Option ℕ → Bool
-is_place i None = false
-is_place i (Some j) = i == j
-
--- Prepare to each child, telling whether the walk goes there
+-- Prepare to each child
 abbrev pub prepares : BranchId → List ℕ → Option ℕ → ℕ → List Edge → List Post
-prepares me comment path i [] = []
-prepares me comment path i (e ∷ es) =
-    (record { from = me; to = e.peer; kind = kinds.Prepare (is_place i path) comment }) ∷ prepares me comment path (i + 1) es
+prepares me comment path i es = map (prepare_to me comment) (asked_from path i es)
 
 -- one message to each child
 abbrev pub to_children : Live → Kind → List Post
 to_children l kind = to_each l.me kind (children_of l)
-
--- whether an answer is Prepared
-abbrev pub is_prepared_answer : Vote → Bool
-is_prepared_answer votes.Prepared = true
-is_prepared_answer _ = false
-
--- whether a child answered Prepared
-abbrev pub is_prepared : Edge → Bool
-is_prepared e = is_prepared_answer e.vote
-
--- a child as a record names it
-abbrev pub peer_record : Edge → Peer
-peer_record e = record { branch = e.peer; link = e.link }
-
--- the children that a record names: those that answered Prepared, and the child that the walk goes to
-abbrev pub named_children : Option ℕ → ℕ → List Edge → List Peer
-named_children path i [] = []
-named_children path i (e ∷ es) = if is_prepared e || is_place i path then peer_record e ∷ named_children path (i + 1) es else named_children path (i + 1) es
-
--- how many children before this place answered Prepared
-abbrev pub prepared_before : ℕ → List Edge → ℕ
-prepared_before path es = length (filter is_prepared (take path es))
-
--- the parent, or the child that the walk goes to
-abbrev pub toward_in : Option ℕ → List Edge → Toward
-toward_in None es = towards.Parent
-toward_in (Some path) es = towards.Child (prepared_before path es)
-
--- the record of a branch that becomes sealed, at this SCN
-abbrev pub sealed_of : ℕ → Live → List Change → Option ℕ → Sealed
-sealed_of scn l changes path = record {
-  me = l.me;
-  root = l.root;
-  scn = scn;
-  toward = toward_in path l.edges;
-  parent = l.parent;
-  children = named_children path 0 l.edges;
-  advice = l.advice;
-  comment = l.comment;
-  changes = changes;
-}
-
--- the record of a site that decides, at this commit SCN
-abbrev pub decided_of : ℕ → Live → List Change → Decided
-decided_of scn l changes = record {
-  me = l.me;
-  root = l.root;
-  scn = scn;
-  parent = l.parent;
-  children = named_children None 0 l.edges;
-  advice = l.advice;
-  comment = l.comment;
-  changes = changes;
-}
 
 -- the changes of a live branch
 abbrev pub own_changes : Kept → BranchId → List Change
@@ -155,14 +46,6 @@ sealed_record k l path = records.Sealed (sealed_of k.clock l (own_changes k l.me
 -- the commit SCN is one more than the site's clock
 abbrev pub decided_record : Kept → Live → RedoRecord
 decided_record k l = records.Decided (decided_of (k.clock + 1) l (own_changes k l.me))
-
--- the neighbours of the site: its parent, then the children that answered Prepared
-abbrev pub site_neighbors : Live → List BranchId
-site_neighbors l = option_to_list l.parent ++ map (λ e. e.peer) (filter is_prepared l.edges)
-
--- whether the site has no neighbours
-abbrev pub is_alone : Live → Bool
-is_alone l = is_none (slice_get (site_neighbors l) 0)
 
 -- ---- turns
 
@@ -224,14 +107,10 @@ finishes k l = record {
   ended = commit_answer k.sessions l.me commit_complete;
 }
 
--- a branch that waits for CommitPoint
-abbrev pub ready : Live → Live
-ready l = record l { phase = phases.Ready }
-
 -- what a branch does next, as a turn
 abbrev pub act_turn : Kept → Live → Bool → Act → Deed
 act_turn k l site_below acts.Rest = saying (with_live k l) []
-act_turn k l site_below acts.AskDown = saying (with_live k l) (prepares l.me l.comment (path_of site_below (step l)) 0 l.edges)
+act_turn k l site_below acts.AskDown = saying (with_live k l) (prepares l.me l.comment (path_of site_below (step l)) 1 l.edges)
 act_turn k l site_below acts.SayReadOnly = saying (without_branch k l.me) (to_one l.me kinds.ReadOnly l.parent)
 act_turn k l site_below acts.SayReady = saying (with_live k (ready l)) (to_one l.me kinds.Ready l.parent)
 act_turn k l site_below acts.Seal = seals k l None (to_one l.me kinds.Prepared l.parent)
@@ -239,14 +118,6 @@ act_turn k l site_below (acts.SealAndPass i) = seals k l (Some i) (to_one l.me k
 act_turn k l site_below acts.Decide = decides k l
 act_turn k l site_below acts.Finish = finishes k l
 act_turn k l site_below acts.Abandon = abandons k l
-
--- a child is sent Prepare
-abbrev pub with_prepare_sent : Edge → Edge
-with_prepare_sent e = record e { vote = votes.Asked }
-
--- the collect begins
-abbrev pub collecting : Live → Bool → Live
-collecting l site_below = record l { phase = phases.Collecting site_below; edges = map with_prepare_sent l.edges }
 
 -- keys that FOR UPDATE alone holds are released
 abbrev pub without_read_keys : Kept → BranchId → Kept
@@ -269,22 +140,10 @@ prepare_in k l site_below comment _ = nothing k
 abbrev pub on_prepare : Kept → Live → Bool → List ℕ → Deed
 on_prepare k l site_below comment = prepare_in k l site_below comment l.phase
 
--- whether this is the first answer of this child
-abbrev pub answers_first : BranchId → Edge → Bool
-answers_first from e = same e.peer from && is_awaited e.vote
-
--- the child with its answer
-abbrev pub has_voted : BranchId → Vote → Edge → Edge
-has_voted from v e = if answers_first from e then record e { vote = v } else e
-
--- the branch with a child's answer
-abbrev pub voted : Live → BranchId → Vote → Live
-voted l from v = record l { edges = map (has_voted from v) l.edges }
-
 -- only a collecting branch hears answers, and only each child's first
 abbrev pub answer_in : Kept → Live → BranchId → Vote → Phase → Deed
 answer_in k l from v (phases.Collecting site_below) =
-    if list_any (answers_first from) l.edges then act_turn k (voted l from v) site_below (answer_act (voted l from v) site_below v) else nothing k
+    if is_first_answer l from then act_turn k (voted l from v) site_below (answer_act (voted l from v) site_below v) else nothing k
 answer_in k l from v _ = nothing k
 
 -- a child's answer to Prepare, at a live branch

@@ -1,4 +1,5 @@
--- Client sessions, from number 1: the transaction of each, its pending call, and what is answered to a COMMIT.
+-- Client sessions, from number 1: the transaction of each, its pending call, and what is answered to a COMMIT. (Database
+-- Administrator's Guide, "Distributed Transactions Concepts": the session that begins a distributed transaction.)
 use Rattle.std.specs.Prelude.{ℕ, ◌&&◌, Bool, true, false, if◌then◌else◌, List, [], ◌∷◌, unwrap_or, Some, None}
 use Rattle.node_rules.specs.Data.{Answer, BranchId, PendingCall, Session, Finished}
 use Rattle.node_rules.specs.Data.answers
@@ -17,21 +18,17 @@ fresh_session = record { seq = 0; root = None; advice = None; code = None; call 
 abbrev pub session_at : List Session → ℕ → Session
 session_at ss n = unwrap_or (numbered ss n) fresh_session
 
--- with this session at a number
-abbrev pub with_session : List Session → ℕ → Session → List Session
-with_session ss n s = set_numbered ss n s
-
 -- with this call pending
 abbrev pub with_call : List Session → ℕ → PendingCall → List Session
-with_call ss n c = with_session ss n (record (session_at ss n) { call = c })
+with_call ss n c = set_numbered ss n (record (session_at ss n) { call = c })
 
 -- with a new transaction
 abbrev pub with_root : List Session → ℕ → BranchId → List Session
-with_root ss n root = with_session ss n (record (session_at ss n) { seq = root.seq; root = Some root })
+with_root ss n root = set_numbered ss n (record (session_at ss n) { seq = root.seq; root = Some root })
 
 -- from this answer on the transaction can only be rolled back
 abbrev pub needs_rollback : List Session → ℕ → ℕ → List Session
-needs_rollback ss n code = with_session ss n (record (session_at ss n) { code = Some code })
+needs_rollback ss n code = set_numbered ss n (record (session_at ss n) { code = Some code })
 
 -- a session whose transaction has ended
 abbrev pub no_transaction : Session → Session
@@ -48,7 +45,7 @@ commit_is_pending ss root = is_branch root (session_at ss root.session).root && 
 
 -- the COMMIT of this root ends, where it is pending
 abbrev pub commit_ended : List Session → BranchId → List Session
-commit_ended ss root = if commit_is_pending ss root then with_session ss root.session (no_transaction (session_at ss root.session)) else ss
+commit_ended ss root = if commit_is_pending ss root then set_numbered ss root.session (no_transaction (session_at ss root.session)) else ss
 
 -- and is answered
 abbrev pub commit_answer : List Session → BranchId → Answer → List Finished

@@ -3,14 +3,8 @@
 //! a node is proved to do exactly this, and the laws of a run are proved of it.
 #![tactic(auto)]
 
-mod next;
-mod opening;
-mod post;
 mod session;
 mod work;
 
-pub use next::{Beyond, Next};
-pub use opening::{Opening, Openings};
-pub use post::{Post, Posts};
 pub use session::{Ended, Finished, PendingCall, Session, Sessions};
-pub use work::{Admit, CallNumbers, Going, ReplyFields, Waits, Work, Works};
+pub use work::{CallNumbers, Going, Waits, Work, Works};

@@ -1,25 +1,17 @@
 //! The statements of a live branch: the calls that came to it, and those that it made.
 ghost use Rattle.std.specs.Prelude.{◌≡◌};
 
-use dtx_values::{Answer, Listing, Name};
+use dtx_values::{Listing, Name};
+use link_session::Calls;
 use sql_statement::Stmt;
 use tran_ids::BranchId;
-
-/// What a Reply says beside its call number. A call that comes again is answered with it.
-#[derive(Debug, Drop)]
-pub struct ReplyFields {
-    pub weight: Option<u8>,
-    /// The branches of the subtree.
-    pub count: u16,
-    pub result: Answer,
-}
 
 /// What a statement that was passed on waits for.
 #[derive(Debug, Drop)]
 pub enum Waits {
     /// The child that an Open asks for, over this link.
     ForOpened(Name),
-    /// The Reply of the child at this place among the edges, from 0.
+    /// The Reply of the child of this number, from 1.
     ForReply(u8),
 }
 
@@ -39,10 +31,8 @@ pub type CallNumbers = Listing<u32>;
 #[derive(Debug, Drop)]
 pub struct Work {
     pub branch: BranchId,
-    /// The greatest call number that came, and 0 before any.
-    pub last_call: u32,
-    /// What that call was answered with, once it was.
-    pub reply: Option<ReplyFields>,
+    /// The calls that came to it.
+    pub came: Calls,
     /// The last call number of each edge, and 0 before any.
     pub calls: CallNumbers,
     pub going: Option<Going>,
@@ -50,14 +40,3 @@ pub struct Work {
 
 /// The calls of live branches.
 pub type Works = Listing<Work>;
-
-/// What a branch does about an Exec.
-#[derive(Clone, Copy, Debug, PartialEq, Eq)]
-pub enum Admit {
-    /// It runs the statement: the number comes for the first time.
-    Run,
-    /// It gives the answer that it gave before: the number is the last one, and was answered.
-    Again,
-    /// It does nothing: the number is a lower one, or its statement is not answered yet.
-    Ignore,
-}

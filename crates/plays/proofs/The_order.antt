@@ -13,7 +13,7 @@ use Rattle.run_laws.specs.Data.happenings
 use Rattle.run_laws.specs.Facts.{Facts, first_facts, facts_of}
 use Rattle.run_laws.specs.Telling.{start}
 use Rattle.run_laws.specs.Due.{Delivers, happened, comes_next, due_of}
-use Rattle.run_laws.specs.Branches.{Sealed, Decided, Kept, Gone, Trail, no_trail, exit_at, standing, own_at, plan_at}
+use Rattle.run_laws.specs.Branches.{Sealed, Decided, Kept, Gone, Trail, no_trail, exit_at, life_at, own_at, plan_at}
 use Rattle.run_laws.specs.Tree.{site, tree, weight, step, walk, plan}
 use Rattle.run_laws.specs.Trail.{trail_after, trail_of, with_begun}
 use Rattle.run_laws.specs.Runs.{meaning, run_in, view_by}
@@ -25,7 +25,7 @@ use Rattle.std.specs.Prelude.{⊤}
 
 -- what is unfolded to compute what is known of branches
 unfoldable knowing : ⊤
-unfolding playing facts_of trail_after trail_of happened tree weight step walk plan standing run_in view_by meant rows_of rows_told in_doubt
+unfolding playing facts_of trail_after trail_of happened tree weight step walk plan life_at run_in view_by meant rows_of rows_told in_doubt
 knowing = tt
 
 -- the order: a row at SALES, less stock at WAREHOUSE, and an entry at HQ
@@ -100,11 +100,11 @@ unfolding knowing
 the_exits = refl
 
 -- all of them have forgotten at the end, and HQ keeps its row where it has not heard
-nothing_is_kept : map (standing (facts 276 committed) (trail 276 committed)) (sales ∷ warehouse ∷ hq ∷ []) ≡ Gone ∷ Gone ∷ Gone ∷ []
+nothing_is_kept : map (life_at (facts 276 committed) (trail 276 committed)) (sales ∷ warehouse ∷ hq ∷ []) ≡ Gone ∷ Gone ∷ Gone ∷ []
 unfolding knowing
 nothing_is_kept = refl
 
-hq_is_kept : standing (facts 290 unheard) (trail 290 unheard) hq ≡ Kept
+hq_is_kept : life_at (facts 290 unheard) (trail 290 unheard) hq ≡ Kept
 unfolding knowing
 hq_is_kept = refl
 

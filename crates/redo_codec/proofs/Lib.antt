@@ -1,4 +1,2 @@
-pub mod FieldLaws
 pub mod PartLaws
 pub mod RecordLaws
-pub mod Appends

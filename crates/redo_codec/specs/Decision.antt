@@ -7,8 +7,8 @@ use Rattle.byte_format.specs.Format.{Format}
 use Rattle.byte_format.specs.Number.{number48, constant}
 use Rattle.byte_format.specs.Part.{pair, mapped}
 use Rattle.byte_format.specs.Choice.{choice, kind, no_kind}
-use Rattle.redo_codec.specs.Branch.{branch_format}
-use Rattle.redo_codec.specs.Name.{name_format}
+use Rattle.field_codec.specs.Branch.{branch_format}
+use Rattle.field_codec.specs.Name.{name_format}
 
 -- which byte names the decision
 abbrev pub decision_kind : Decision → ℕ
@@ -29,10 +29,15 @@ rollback_of decisions.Rollback = Some tt
 abbrev pub no_scn : List ℕ
 no_scn = 0 ∷ 0 ∷ 0 ∷ 0 ∷ 0 ∷ 0 ∷ []
 
+-- the fields of each decision
+abbrev pub decision_kinds : ℕ → Format Decision
+decision_kinds =
+    kind 1 decisions.Commit commit_of number48
+    (kind 2 (λ u. decisions.Rollback) rollback_of (constant no_scn) no_kind)
+
 -- a decision: 1 and the SCN for a commit, 2 and an SCN of 0 for a rollback
 abbrev pub decision_format : Format Decision
-decision_format = choice decision_kind
-    (kind 1 decisions.Commit commit_of number48 (kind 2 (λ u. decisions.Rollback) rollback_of (constant no_scn) no_kind))
+decision_format = choice decision_kind decision_kinds
 
 -- a peer: the branch, and the link that leads to it
 abbrev pub peer_format : Format Peer

@@ -17,9 +17,9 @@ use Rattle.byte_format.specs.Format.{Format}
 use Rattle.byte_format.specs.Number.{number32, flag, constant}
 use Rattle.byte_format.specs.Part.{pair, mapped}
 use Rattle.byte_format.specs.Choice.{choice, kind, no_kind}
-use Rattle.redo_codec.specs.Branch.{branch_format}
+use Rattle.field_codec.specs.Branch.{branch_format}
 use Rattle.redo_codec.specs.Decision.{decision_format}
-use Rattle.redo_codec.specs.Table.{table_format, link_format, synonym_format}
+use Rattle.field_codec.specs.Table.{table_format, link_format, synonym_format}
 use Rattle.redo_codec.specs.Sealed.{sealed_format, decided_format}
 
 -- which byte names the setting
@@ -36,9 +36,13 @@ recovery_of (params.Strength strength) = None
 abbrev pub switch_format : Format Bool
 switch_format = mapped (λ x. x.1) (λ on. (tt, on)) (pair (constant (0 ∷ 0 ∷ 0 ∷ [])) flag)
 
+-- the fields of each setting that has a spelling
+abbrev pub param_kinds : ℕ → Format Param
+param_kinds = kind 1 params.Recovery recovery_of switch_format no_kind
+
 -- a setting: 1 and a switch for recovery; the commit point strength has no spelling
 abbrev pub param_format : Format Param
-param_format = choice param_kind (kind 1 params.Recovery recovery_of switch_format no_kind)
+param_format = choice param_kind param_kinds
 
 -- a branch that ended, and how
 abbrev pub ended_format : Format (BranchId × Decision)

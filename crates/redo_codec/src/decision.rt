@@ -1,19 +1,24 @@
 //! The bytes of decisions and peers.
 ghost use Rattle.std.specs.Prelude.{◌≡◌, ◌++◌, OnOk};
+ghost use Rattle.std.specs.Io.{StartsWith};
+ghost use Rattle.byte_format.specs.Reads.{ReadsInMemory};
 ghost use Rattle.redo_codec.specs.Decision.{decision_format, peer_format};
 
-use crate::branch::put_branch;
-use crate::name::put_name;
-use crate::part::Part;
-use byte_format::{TakeErr, put_u8, put_u48, take_constant, take_u8, take_u48};
+use byte_format::{Field, TakeErr, put_u8, put_u48, take_constant, take_u8, take_u48};
+use field_codec::{BranchField, NameField, put_branch, put_name};
 use redo_record::{Decision, Peer};
 use std::alloc::{AllocError, Global};
 
-impl Part for Decision {
+/// A decision: 1 and the SCN for a commit, 2 and an SCN of 0 for a rollback.
+pub(crate) struct DecisionField;
+
+impl Field for DecisionField {
+    type Value = Decision;
+
     ghost format = { decision_format };
 
-    fn put_to(&self, out: &mut Vec<u8>) -> Result<(), AllocError> {
-        match self {
+    fn put_into(out: &mut Vec<u8>, decision: &Decision) -> Result<(), AllocError> {
+        match decision {
             Decision::Commit(scn) => {
                 put_u8(out, 1)?;
                 put_u48(out, *scn)
@@ -41,17 +46,22 @@ impl Part for Decision {
     }
 }
 
-impl Part for Peer {
+/// A child of a branch: the branch, and the link that leads to it.
+pub(crate) struct PeerField;
+
+impl Field for PeerField {
+    type Value = Peer;
+
     ghost format = { peer_format };
 
-    fn put_to(&self, out: &mut Vec<u8>) -> Result<(), AllocError> {
-        put_branch(out, &self.branch)?;
-        put_name(out, &self.link)
+    fn put_into(out: &mut Vec<u8>, peer: &Peer) -> Result<(), AllocError> {
+        put_branch(out, &peer.branch)?;
+        put_name(out, &peer.link)
     }
 
     fn take_from(alloc: Global, bytes: &[u8]) -> Result<(Peer, &[u8]), TakeErr> {
-        let (branch, rest) = Part::take_from(alloc, bytes)?;
-        let (link, rest) = Part::take_from(alloc, rest)?;
+        let (branch, rest) = BranchField::take_from(alloc, bytes)?;
+        let (link, rest) = NameField::take_from(alloc, rest)?;
         Ok((Peer { branch, link }, rest))
     }
 }

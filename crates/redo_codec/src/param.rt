@@ -1,17 +1,23 @@
 //! The bytes of settings.
 ghost use Rattle.std.specs.Prelude.{◌≡◌, ◌++◌, OnOk};
+ghost use Rattle.std.specs.Io.{StartsWith};
+ghost use Rattle.byte_format.specs.Reads.{ReadsInMemory};
 ghost use Rattle.redo_codec.specs.Record.{param_format};
 
-use crate::part::Part;
-use byte_format::{TakeErr, put_flag, put_u8, take_constant, take_flag, take_u8};
+use byte_format::{Field, TakeErr, put_flag, put_u8, take_constant, take_flag, take_u8};
 use redo_record::Param;
 use std::alloc::{AllocError, Global};
 
-impl Part for Param {
+/// A setting: 1 and a switch of four bytes for recovery.
+pub(crate) struct ParamField;
+
+impl Field for ParamField {
+    type Value = Param;
+
     ghost format = { param_format };
 
-    fn put_to(&self, out: &mut Vec<u8>) -> Result<(), AllocError> {
-        match self {
+    fn put_into(out: &mut Vec<u8>, param: &Param) -> Result<(), AllocError> {
+        match param {
             Param::Recovery(enabled) => {
                 put_u8(out, 1)?;
                 out.extend_from_slice(&[0, 0, 0])?;

@@ -1,24 +1,30 @@
 //! The bytes of records.
 ghost use Rattle.std.specs.Prelude.{◌≡◌, ◌++◌, OnOk};
+ghost use Rattle.std.specs.Io.{StartsWith};
+ghost use Rattle.byte_format.specs.Reads.{ReadsInMemory};
 ghost use Rattle.redo_codec.specs.Record.{record_kind, record_format};
 
-use crate::part::Part;
 use crate::putting::put_fields;
 use crate::taking::take_fields;
-use byte_format::{TakeErr, put_u8};
+use byte_format::{Field, TakeErr, put_u8};
 use redo_record::RedoRecord;
 use std::alloc::{AllocError, Global};
 
 /// The byte that each record begins with.
 const FORMAT: u8 = 1;
 
-impl Part for RedoRecord {
+/// A record: the first byte, the byte of its kind, and its fields.
+pub(crate) struct RecordField;
+
+impl Field for RecordField {
+    type Value = RedoRecord;
+
     ghost format = { record_format };
 
-    fn put_to(&self, out: &mut Vec<u8>) -> Result<(), AllocError> {
+    fn put_into(out: &mut Vec<u8>, redo: &RedoRecord) -> Result<(), AllocError> {
         put_u8(out, FORMAT)?;
-        put_u8(out, kind_of(self))?;
-        put_fields(out, self)
+        put_u8(out, kind_of(redo))?;
+        put_fields(out, redo)
     }
 
     fn take_from(alloc: Global, bytes: &[u8]) -> Result<(RedoRecord, &[u8]), TakeErr> {

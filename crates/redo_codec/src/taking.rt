@@ -1,15 +1,19 @@
-//! Takes the fields of each kind of record.
+//! Takes the fields of each kind of record. Each call fails with `NoSpelling` exactly where the fields are not at the
+//! front, and with `NoMemory` where memory runs out.
 ghost use Rattle.std.specs.Prelude.{◌≡◌};
 ghost use Rattle.byte_format.specs.Number.{number32};
 ghost use Rattle.byte_format.specs.Part.{mapped_at};
 ghost use Rattle.byte_format.specs.Reads.{ReadsInMemory};
-ghost use Rattle.redo_codec.specs.Branch.{branch_format};
-ghost use Rattle.redo_codec.specs.Table.{table_format, link_format, synonym_format};
+ghost use Rattle.field_codec.specs.Branch.{branch_format};
+ghost use Rattle.field_codec.specs.Table.{table_format, link_format, synonym_format};
 ghost use Rattle.redo_codec.specs.Sealed.{sealed_format, decided_format};
 ghost use Rattle.redo_codec.specs.Record.{param_format, ended_format, outcome_format, record_fields};
 
-use crate::part::Part;
-use byte_format::{TakeErr, take_flag, take_u32};
+use crate::decision::DecisionField;
+use crate::kept::{DecidedField, SealedField};
+use crate::param::ParamField;
+use byte_format::{Field, TakeErr, take_flag, take_u32};
+use field_codec::{BranchField, LinkField, SynonymField, TableField};
 use redo_record::RedoRecord;
 use std::alloc::Global;
 
@@ -50,7 +54,7 @@ fn take_boot(bytes: &[u8]) -> Result<(RedoRecord, &[u8]), TakeErr>
 fn take_table(alloc: Global, bytes: &[u8]) -> Result<(RedoRecord, &[u8]), TakeErr>
     ensures { ReadsInMemory (λ x. (x.0, x.1.now)) result (mapped_at RedoRecord.Table table_format.read bytes.now) }
 {
-    let (table, rest) = Part::take_from(alloc, bytes)?;
+    let (table, rest) = TableField::take_from(alloc, bytes)?;
     Ok((RedoRecord::Table(table), rest))
 }
 
@@ -58,7 +62,7 @@ fn take_table(alloc: Global, bytes: &[u8]) -> Result<(RedoRecord, &[u8]), TakeEr
 fn take_link(alloc: Global, bytes: &[u8]) -> Result<(RedoRecord, &[u8]), TakeErr>
     ensures { ReadsInMemory (λ x. (x.0, x.1.now)) result (mapped_at RedoRecord.Link link_format.read bytes.now) }
 {
-    let (link, rest) = Part::take_from(alloc, bytes)?;
+    let (link, rest) = LinkField::take_from(alloc, bytes)?;
     Ok((RedoRecord::Link(link), rest))
 }
 
@@ -66,7 +70,7 @@ fn take_link(alloc: Global, bytes: &[u8]) -> Result<(RedoRecord, &[u8]), TakeErr
 fn take_synonym(alloc: Global, bytes: &[u8]) -> Result<(RedoRecord, &[u8]), TakeErr>
     ensures { ReadsInMemory (λ x. (x.0, x.1.now)) result (mapped_at RedoRecord.Synonym synonym_format.read bytes.now) }
 {
-    let (synonym, rest) = Part::take_from(alloc, bytes)?;
+    let (synonym, rest) = SynonymField::take_from(alloc, bytes)?;
     Ok((RedoRecord::Synonym(synonym), rest))
 }
 
@@ -74,7 +78,7 @@ fn take_synonym(alloc: Global, bytes: &[u8]) -> Result<(RedoRecord, &[u8]), Take
 fn take_param(alloc: Global, bytes: &[u8]) -> Result<(RedoRecord, &[u8]), TakeErr>
     ensures { ReadsInMemory (λ x. (x.0, x.1.now)) result (mapped_at RedoRecord.Param param_format.read bytes.now) }
 {
-    let (param, rest) = Part::take_from(alloc, bytes)?;
+    let (param, rest) = ParamField::take_from(alloc, bytes)?;
     Ok((RedoRecord::Param(param), rest))
 }
 
@@ -82,7 +86,7 @@ fn take_param(alloc: Global, bytes: &[u8]) -> Result<(RedoRecord, &[u8]), TakeEr
 fn take_sealed(alloc: Global, bytes: &[u8]) -> Result<(RedoRecord, &[u8]), TakeErr>
     ensures { ReadsInMemory (λ x. (x.0, x.1.now)) result (mapped_at RedoRecord.Sealed sealed_format.read bytes.now) }
 {
-    let (sealed, rest) = Part::take_from(alloc, bytes)?;
+    let (sealed, rest) = SealedField::take_from(alloc, bytes)?;
     Ok((RedoRecord::Sealed(sealed), rest))
 }
 
@@ -90,7 +94,7 @@ fn take_sealed(alloc: Global, bytes: &[u8]) -> Result<(RedoRecord, &[u8]), TakeE
 fn take_decided(alloc: Global, bytes: &[u8]) -> Result<(RedoRecord, &[u8]), TakeErr>
     ensures { ReadsInMemory (λ x. (x.0, x.1.now)) result (mapped_at RedoRecord.Decided decided_format.read bytes.now) }
 {
-    let (decided, rest) = Part::take_from(alloc, bytes)?;
+    let (decided, rest) = DecidedField::take_from(alloc, bytes)?;
     Ok((RedoRecord::Decided(decided), rest))
 }
 
@@ -98,7 +102,7 @@ fn take_decided(alloc: Global, bytes: &[u8]) -> Result<(RedoRecord, &[u8]), Take
 fn take_forgot(alloc: Global, bytes: &[u8]) -> Result<(RedoRecord, &[u8]), TakeErr>
     ensures { ReadsInMemory (λ x. (x.0, x.1.now)) result (mapped_at RedoRecord.Forgot branch_format.read bytes.now) }
 {
-    let (me, rest) = Part::take_from(alloc, bytes)?;
+    let (me, rest) = BranchField::take_from(alloc, bytes)?;
     Ok((RedoRecord::Forgot(me), rest))
 }
 
@@ -106,7 +110,7 @@ fn take_forgot(alloc: Global, bytes: &[u8]) -> Result<(RedoRecord, &[u8]), TakeE
 fn take_hidden(alloc: Global, bytes: &[u8]) -> Result<(RedoRecord, &[u8]), TakeErr>
     ensures { ReadsInMemory (λ x. (x.0, x.1.now)) result (mapped_at RedoRecord.Hidden branch_format.read bytes.now) }
 {
-    let (me, rest) = Part::take_from(alloc, bytes)?;
+    let (me, rest) = BranchField::take_from(alloc, bytes)?;
     Ok((RedoRecord::Hidden(me), rest))
 }
 
@@ -115,8 +119,8 @@ fn take_ended(alloc: Global, bytes: &[u8]) -> Result<(RedoRecord, &[u8]), TakeEr
     ensures { ReadsInMemory (λ x. (x.0, x.1.now)) result
         (mapped_at (λ x. RedoRecord.Ended x.0 x.1) ended_format.read bytes.now) }
 {
-    let (me, rest) = Part::take_from(alloc, bytes)?;
-    let (decision, rest) = Part::take_from(alloc, rest)?;
+    let (me, rest) = BranchField::take_from(alloc, bytes)?;
+    let (decision, rest) = DecisionField::take_from(alloc, rest)?;
     Ok((RedoRecord::Ended { me, decision }, rest))
 }
 
@@ -125,8 +129,8 @@ fn take_forced(alloc: Global, bytes: &[u8]) -> Result<(RedoRecord, &[u8]), TakeE
     ensures { ReadsInMemory (λ x. (x.0, x.1.now)) result
         (mapped_at (λ x. RedoRecord.Forced x.0 x.1.0 x.1.1) outcome_format.read bytes.now) }
 {
-    let (me, rest) = Part::take_from(alloc, bytes)?;
-    let (decision, rest) = Part::take_from(alloc, rest)?;
+    let (me, rest) = BranchField::take_from(alloc, bytes)?;
+    let (decision, rest) = DecisionField::take_from(alloc, rest)?;
     let (given, rest) = take_flag(rest)?;
     let record = RedoRecord::Forced {
         me,
@@ -141,8 +145,8 @@ fn take_met(alloc: Global, bytes: &[u8]) -> Result<(RedoRecord, &[u8]), TakeErr>
     ensures { ReadsInMemory (λ x. (x.0, x.1.now)) result
         (mapped_at (λ x. RedoRecord.Met x.0 x.1.0 x.1.1) outcome_format.read bytes.now) }
 {
-    let (me, rest) = Part::take_from(alloc, bytes)?;
-    let (decision, rest) = Part::take_from(alloc, rest)?;
+    let (me, rest) = BranchField::take_from(alloc, bytes)?;
+    let (decision, rest) = DecisionField::take_from(alloc, rest)?;
     let (mixed, rest) = take_flag(rest)?;
     let record = RedoRecord::Met {
         me,

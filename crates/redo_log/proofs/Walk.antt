@@ -1,5 +1,5 @@
 -- How bytes are gone through cell by cell.
-use Rattle.std.proofs.Common.{◌≡◌, ◌⊎◌, inl, inr, ℕ, zero, suc, ◌+◌, ◌-◌, ◌<◌, ◌^◌, List, [], ◌∷◌, ◌++◌, length, Option, Some, None, true, refl, sym, ◌∙◌, ap, arith, length-append}
+use Rattle.std.proofs.Common.{◌≡◌, ◌⊎◌, inl, inr, ℕ, zero, suc, ◌+◌, ◌-◌, ◌<◌, ◌^◌, List, ◌∷◌, ◌++◌, length, Option, Some, None, true, refl, sym, ◌∙◌, ap, arith, length-append}
 use Rattle.std.specs.Option.{option_map, is_some}
 use Rattle.redo_log.specs.Cells.{cell_of, cells_of, bodies, numbered_in, IsClosed, AllFit}
 use Rattle.redo_log.specs.Gates.{IsGateOf}

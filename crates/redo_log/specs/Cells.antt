@@ -1,8 +1,12 @@
--- What bytes hold as a log: cells behind open gates, up to the first gate that is not open.
+-- What bytes hold as a log: cells, each with an open gate, up to the first gate that is not open.
 use Rattle.std.specs.Prelude.{◌==◌, ◌≡◌, ◌≢◌, ◌+◌, ◌<◌, ◌^◌, ℕ, zero, suc, List, [], ◌∷◌, ◌++◌, length, take, drop, Option, Some, None, if◌then◌else◌, nat_le}
 use Rattle.std.specs.Int.{from_be_bytes, to_be_bytes, w32}
 use Rattle.std.specs.List.{flat_map, AllByRecursion, slice_get}
 use Rattle.std.specs.Option.{option_map, unwrap_or}
+
+-- the longest body, in bytes
+abbrev pub body_limit : ℕ
+body_limit = 16777216
 
 -- a cell: an open gate, the body's length in four bytes, the most significant first, and the body
 abbrev pub cell_of : List ℕ → List ℕ
@@ -12,15 +16,15 @@ cell_of body = 1 ∷ to_be_bytes w32 (length body) ++ body
 abbrev pub cells_of : List (List ℕ) → List ℕ
 cells_of bodies = flat_map cell_of bodies
 
--- the log of these bodies and nothing behind it: their cells, and then one closed gate
+-- the log of these bodies and nothing after it: their cells, and then one closed gate
 abbrev pub log_of : List (List ℕ) → List ℕ
 log_of list = cells_of list ++ 0 ∷ []
 
--- the length that stands behind a gate
+-- the length that follows a gate
 unfoldable pub stated_length : List ℕ → ℕ
 stated_length behind = from_be_bytes w32 (take 4 behind)
 
--- the body that stands behind an open gate, after its length
+-- the body that follows an open gate and its length
 abbrev pub stated_body : List ℕ → List ℕ
 stated_body behind = take (stated_length behind) (drop 4 behind)
 
@@ -61,7 +65,7 @@ IsClosed (gate ∷ behind) = gate ≢ 1
 abbrev pub AllFit : List (List ℕ) → Type 0
 AllFit list = AllByRecursion (λ body. length body < 2 ^ 32) list
 
--- bytes that were the log of some bodies, and nothing behind it, are now that of the same bodies and this one
+-- bytes that were the log of some bodies and nothing else are now that of the same bodies and this one
 abbrev pub GrowsBy : List ℕ → List ℕ → List ℕ → Type 0
 GrowsBy body before now = (list : List (List ℕ)) → AllFit list → before ≡ log_of list → now ≡ log_of (list ++ body ∷ [])
 

@@ -1,7 +1,11 @@
--- How many disk calls a load makes.
+-- How many disk calls a load or an append makes that fails.
 use Rattle.std.specs.Prelude.{◌≡◌, ◌⊎◌, ℕ}
 use Rattle.redo_log.specs.Log.{count_after}
 
--- a load that met a fault made so many calls: it ended at the first that failed
+-- a load that fails makes one to three calls: a fault is the last of them
 abbrev pub IsLoadCount : ℕ → ℕ → Type 0
 IsLoadCount before now = (now ≡ count_after 1 before) ⊎ (now ≡ count_after 2 before) ⊎ (now ≡ count_after 3 before)
+
+-- an append that meets a fault makes one to four calls: the fault is the last of them
+abbrev pub IsAppendCount : ℕ → ℕ → Type 0
+IsAppendCount before now = (now ≡ count_after 1 before) ⊎ (now ≡ count_after 2 before) ⊎ (now ≡ count_after 3 before) ⊎ (now ≡ count_after 4 before)

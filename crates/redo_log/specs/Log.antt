@@ -45,15 +45,15 @@ OnRefused (Err Fault) P = ⊤
 OnRefused (Err NoMemory) P = P
 OnRefused (Err TooLong) P = P
 
--- what goes behind a closed gate: the body's length, the body, and the next gate, closed
+-- what is written after a closed gate: the body's length, the body, and the next gate, closed
 abbrev pub staged : List ℕ → List ℕ
 staged body = to_be_bytes w32 (length body) ++ body ++ 0 ∷ []
 
--- these bytes stand behind a gate of this byte, and all else is as before
+-- these bytes after a gate of this byte, and all else as before
 abbrev pub with_gate : ℕ → ℕ → List ℕ → List ℕ → List ℕ
 with_gate byte gate behind before = take gate before ++ byte ∷ behind ++ drop (gate + 1 + length behind) before
 
--- An image while bytes go behind a gate that is then opened: all is as before up to the gate, or the bytes stand there whole.
+-- An image while bytes are written after a gate that is then opened: all is as before up to the gate, or the bytes are there whole.
 abbrev pub MayBeStored : ℕ → List ℕ → List ℕ → List ℕ → Type 0
 MayBeStored gate behind before image = (take (gate + 1) image ≡ take (gate + 1) before) ⊎ ((byte : ℕ) × (image ≡ with_gate byte gate behind before))
 

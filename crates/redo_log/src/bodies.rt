@@ -1,4 +1,4 @@
-//! The bodies that a log was found to hold.
+//! The bodies read from a log.
 ghost use Rattle.std.specs.Prelude.{◌≡◌, ◌<◌, ◌++◌, ◌∷◌, [], length, slice_index_or, OnOk};
 
 use std::alloc::{AllocFailed, Global};

@@ -1,4 +1,4 @@
-//! One gate of a log, and what stands behind it.
+//! One gate of a log, and what follows it.
 ghost use Rattle.redo_log.specs.Gates.{IsGateOf};
 
 /// The byte of an open gate. Each other byte is a closed gate.
@@ -7,10 +7,10 @@ pub(crate) const OPEN: u8 = 1;
 /// The byte of the closed gates that are written.
 pub(crate) const CLOSED: u8 = 0;
 
-/// What stands first in the bytes of a log.
+/// What the bytes of a log begin with.
 #[derive(Clone, Copy)]
 pub(crate) enum Gate<'a> {
-    /// An open gate: its body, and what stands behind the cell.
+    /// An open gate: the body of its cell, and the bytes after the cell.
     Open { body: &'a [u8], behind: &'a [u8] },
     /// A gate that is not open, at which a log ends.
     Closed,

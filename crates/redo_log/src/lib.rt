@@ -1,8 +1,8 @@
 //! A log of bodies on a disk that may stop in the middle of a write.
 //!
 //! A log is a list of cells: a gate (1 byte), the body's length (4 bytes, the most significant first), the body. A gate is
-//! open if its byte is 1, and the log ends at the first gate that is not. A closed gate stands behind the last cell, on
-//! the disk before anything is written behind it.
+//! open if its byte is 1, and the log ends at the first gate that is not. A closed gate follows the last cell, and is on the
+//! disk before anything is written after it.
 #![tactic(auto)]
 
 mod bodies;

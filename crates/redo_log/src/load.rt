@@ -1,5 +1,5 @@
 //! How a log is read from a disk.
-ghost use Rattle.std.specs.Prelude.{◌≡◌, ◌≤◌, ◌<◌, ◌^◌, None, length, IfOk, OnOk, IsErrOf};
+ghost use Rattle.std.specs.Prelude.{◌≡◌, ◌≢◌, ◌≤◌, ◌<◌, ◌^◌, None, length, IfOk, OnOk, OnErr, IsErrOf, MatchResult};
 ghost use Rattle.dtx_ports.specs.Causes.{Rose};
 ghost use Rattle.block_disk.specs.Images.{IsOnly, AtEachMoment};
 ghost use Rattle.redo_log.specs.Cells.{bodies, IsLogTo};
@@ -11,7 +11,7 @@ use crate::{Bodies, LoadWhy};
 use block_disk::Disk;
 use std::alloc::Global;
 
-/// The bodies of the log that a disk holds, and its end.
+/// The bodies of the log that a disk holds, and the place of the closed gate that ends it.
 pub(crate) fn read_log<D: Disk>(alloc: Global, disk: &mut D) -> Result<(Bodies, u64), LoadWhy>
     requires { length (D.content disk.old) < 2 ^ 63 }
     ensures log { IfOk result (λ found. IsLogTo found.1 found.0 (D.content disk.old)) }
@@ -21,16 +21,17 @@ pub(crate) fn read_log<D: Disk>(alloc: Global, disk: &mut D) -> Result<(Bodies, 
     ensures any_moment { AtEachMoment D.moment D.images_since disk.old disk.new (D.images disk.old) }
     ensures fault { IsErrOf result LoadWhy.Fault → Rose (D.faults disk.old) (D.faults disk.new) }
     ensures later { D.faults disk.old ≤ D.faults disk.new }
+    ensures unfailed { MatchResult result (λ _. D.faults disk.new ≡ D.faults disk.old) (λ why. why ≢ LoadWhy.Fault → D.faults disk.new ≡ D.faults disk.old) }
     ensures calls { OnOk result (D.calls disk.new ≡ count_after 3 (D.calls disk.old)) }
     ensures calls_for_nothing { IsErrOf result LoadWhy.NotALog → D.calls disk.new ≡ count_after (calls_to_load (D.content disk.old)) (D.calls disk.old) }
-    ensures fault_calls { IsErrOf result LoadWhy.Fault → IsLoadCount (D.calls disk.old) (D.calls disk.new) }
+    ensures failed_calls { OnErr result (IsLoadCount (D.calls disk.old) (D.calls disk.new)) }
     ensures writes { D.writes disk.new ≡ D.writes disk.old }
 {
     let bytes = read_synced(alloc, disk)?;
     parse(alloc, &bytes)
 }
 
-/// All bytes of a disk, once a crash would leave nothing else.
+/// All bytes of a disk, synced first.
 fn read_synced<D: Disk>(alloc: Global, disk: &mut D) -> Result<Vec<u8>, LoadWhy>
     requires { length (D.content disk.old) < 2 ^ 63 }
     ensures bytes { IfOk result (λ bytes. bytes.items ≡ D.content disk.old) }
@@ -40,8 +41,9 @@ fn read_synced<D: Disk>(alloc: Global, disk: &mut D) -> Result<Vec<u8>, LoadWhy>
     ensures read { IsErrOf result LoadWhy.NotALog → ⊥ }
     ensures fault { IsErrOf result LoadWhy.Fault → Rose (D.faults disk.old) (D.faults disk.new) }
     ensures later { D.faults disk.old ≤ D.faults disk.new }
+    ensures unfailed { MatchResult result (λ _. D.faults disk.new ≡ D.faults disk.old) (λ why. why ≢ LoadWhy.Fault → D.faults disk.new ≡ D.faults disk.old) }
     ensures calls { OnOk result (D.calls disk.new ≡ count_after (calls_to_load (D.content disk.old)) (D.calls disk.old)) }
-    ensures fault_calls { IsErrOf result LoadWhy.Fault → IsLoadCount (D.calls disk.old) (D.calls disk.new) }
+    ensures failed_calls { OnErr result (IsLoadCount (D.calls disk.old) (D.calls disk.new)) }
     ensures writes { D.writes disk.new ≡ D.writes disk.old }
 {
     disk.sync()?;
@@ -53,7 +55,7 @@ fn read_synced<D: Disk>(alloc: Global, disk: &mut D) -> Result<Vec<u8>, LoadWhy>
     Ok(bytes)
 }
 
-/// The bodies of the log that these bytes hold, and its end.
+/// The bodies of the log that these bytes hold, and the place of the closed gate that ends it.
 fn parse(alloc: Global, bytes: &[u8]) -> Result<(Bodies, u64), LoadWhy>
     ensures log { IfOk result (λ found. IsLogTo found.1 found.0 bytes.now) }
     ensures not_a_log { IsErrOf result LoadWhy.NotALog → bodies bytes.now ≡ None }

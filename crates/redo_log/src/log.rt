@@ -1,11 +1,11 @@
 //! The log, and how a body is appended.
-ghost use Rattle.std.specs.Prelude.{◌≡◌, ◌<◌, ◌≤◌, ◌+◌, ◌-◌, ◌^◌, ◌↔◌, ◌++◌, ◌∷◌, [], Some, None, length, IfOk, IfErr, OnOk, IsErrOf, MatchResult};
+ghost use Rattle.std.specs.Prelude.{◌≡◌, ◌≢◌, ◌<◌, ◌≤◌, ◌+◌, ◌-◌, ◌^◌, ◌↔◌, ◌++◌, ◌∷◌, [], Some, None, length, IfOk, IfErr, OnOk, OnErr, IsErrOf, MatchResult};
 ghost use Rattle.dtx_ports.specs.Causes.{Rose, HasCause};
 ghost use Rattle.block_disk.specs.Images.{AtEachMoment, IsOnly};
 ghost use Rattle.redo_log.specs.declared.err.MakeWhy.{MakeWhy};
 ghost use Rattle.redo_log.specs.declared.err.LoadWhy.{LoadWhy};
-ghost use Rattle.redo_log.specs.Cells.{bodies, held, log_of, GrowsBy};
-ghost use Rattle.redo_log.specs.Loads.{IsLoadCount};
+ghost use Rattle.redo_log.specs.Cells.{body_limit, bodies, held, log_of, GrowsBy};
+ghost use Rattle.redo_log.specs.Loads.{IsLoadCount, IsAppendCount};
 ghost use Rattle.redo_log.specs.Log.{disk_of, IsBroken, IsIntact, IsSettled, IsUsable, MayBeBegun, calls_to_load, HoldsWithOrWithout, count_after, OnRefused, staged, with_gate, MayBeStored};
 
 use crate::gate::{CLOSED, OPEN};
@@ -31,7 +31,8 @@ pub struct Log<D: Disk> {
 }
 
 impl<D: Disk> Log<D> {
-    /// Makes the log of no body on an empty disk.
+    /// Makes a log with no body on an empty disk. Each error gives the disk back: `Fault` where the disk failed, `NoMemory`
+    /// where it has no room for one byte.
     pub fn create(alloc: Global, mut disk: D) -> Result<Log<D>, MakeErr<D>>
         requires { D.content disk ≡ [] }
 
@@ -47,6 +48,7 @@ impl<D: Disk> Log<D> {
 
         ensures fault { IfErr result (λ err. err.why ≡ MakeWhy.Fault → Rose (D.faults disk) (D.faults err.disk)) }
         ensures later { MatchResult result (λ log. D.faults disk ≤ D.faults (disk_of log)) (λ err. D.faults disk ≤ D.faults err.disk) }
+        ensures unfailed { IfErr result (λ err. err.why ≡ MakeWhy.NoMemory → D.faults err.disk ≡ D.faults disk) }
 
         ensures no_memory { IfErr result (λ err. err.why ≡ MakeWhy.NoMemory → D.content err.disk ≡ []) }
         ensures no_memory_calls { IfErr result (λ err. err.why ≡ MakeWhy.NoMemory → D.calls err.disk ≡ D.calls disk) }
@@ -66,7 +68,8 @@ impl<D: Disk> Log<D> {
 
     /// Loads the log that a disk holds, with its bodies.
     ///
-    /// It syncs the disk first, so that what it finds is what a crash would leave.
+    /// It syncs the disk first, so that what it reads is what a crash would leave. Each error gives the disk back: `Fault`
+    /// where the disk failed, `NotALog` where its bytes are no log, `NoMemory` where there is no memory for them.
     pub fn load(alloc: Global, mut disk: D) -> Result<(Log<D>, Bodies), LoadErr<D>>
         requires { length (D.content disk) < 2 ^ 63 }
 
@@ -84,10 +87,11 @@ impl<D: Disk> Log<D> {
 
         ensures fault { IfErr result (λ err. err.why ≡ LoadWhy.Fault → Rose (D.faults disk) (D.faults err.disk)) }
         ensures later { MatchResult result (λ loaded. D.faults disk ≤ D.faults (disk_of loaded.0)) (λ err. D.faults disk ≤ D.faults err.disk) }
+        ensures unfailed { MatchResult result (λ loaded. D.faults (disk_of loaded.0) ≡ D.faults disk) (λ err. err.why ≢ LoadWhy.Fault → D.faults err.disk ≡ D.faults disk) }
 
         ensures calls { IfOk result (λ loaded. D.calls (disk_of loaded.0) ≡ count_after 3 (D.calls disk)) }
         ensures calls_for_nothing { IfErr result (λ err. err.why ≡ LoadWhy.NotALog → D.calls err.disk ≡ count_after (calls_to_load (D.content disk)) (D.calls disk)) }
-        ensures fault_calls { IfErr result (λ err. err.why ≡ LoadWhy.Fault → IsLoadCount (D.calls disk) (D.calls err.disk)) }
+        ensures failed_calls { IfErr result (λ err. IsLoadCount (D.calls disk) (D.calls err.disk)) }
         ensures writes { MatchResult result (λ loaded. D.writes (disk_of loaded.0) ≡ D.writes disk) (λ err. D.writes err.disk ≡ D.writes disk) }
     {
         match read_log(alloc, &mut disk) {
@@ -106,7 +110,9 @@ impl<D: Disk> Log<D> {
 
     /// Appends a body. At Ok it is on the disk: from then on each crash leaves a log that has it.
     ///
-    /// After a Fault each append answers Fault, and whether the disk has that body shows only when it is loaded again.
+    /// The error is `TooLong` where the body is longer than 16,777,216 bytes, `NoMemory` where there is no memory or no room
+    /// on the disk, and `Fault` where the disk failed. After a `Fault` each append returns `Fault`, and only a load shows
+    /// whether the disk has that body.
     pub fn append(&mut self, body: &[u8]) -> Result<(), LogErr>
         requires usable { IsUsable D.content D.images self.old }
         requires some { 0 < length body.now }
@@ -126,15 +132,18 @@ impl<D: Disk> Log<D> {
         ensures stays_broken { IsBroken self.old → IsErrOf result LogErr.Fault }
         ensures untouched { IsBroken self.old → disk_of self.new ≡ disk_of self.old }
 
-        ensures fits { OnOk result (length body.now ≤ 16_777_216) }
-        ensures too_long { IsErrOf result LogErr.TooLong ↔ (IsIntact self.old × (16_777_216 < length body.now)) }
+        ensures fits { OnOk result (length body.now ≤ body_limit) }
+        ensures too_long { IsErrOf result LogErr.TooLong ↔ (IsIntact self.old × (body_limit < length body.now)) }
         ensures refused { OnRefused result (D.content (disk_of self.new) ≡ D.content (disk_of self.old)) }
 
         ensures cause { IsErrOf result LogErr.Fault → IsIntact self.old → Rose (D.faults (disk_of self.old)) (D.faults (disk_of self.new)) }
         ensures later { D.faults (disk_of self.old) ≤ D.faults (disk_of self.new) }
+        ensures unfailed { OnOk result (D.faults (disk_of self.new) ≡ D.faults (disk_of self.old)) }
+        ensures refused_unfailed { OnRefused result (D.faults (disk_of self.new) ≡ D.faults (disk_of self.old)) }
 
         ensures calls { OnOk result (D.calls (disk_of self.new) ≡ count_after 4 (D.calls (disk_of self.old))) }
         ensures writes { OnOk result (D.writes (disk_of self.new) ≡ count_after 2 (D.writes (disk_of self.old))) }
+        ensures fault_calls { IsErrOf result LogErr.Fault → IsIntact self.old → IsAppendCount (D.calls (disk_of self.old)) (D.calls (disk_of self.new)) }
         ensures refused_calls { OnRefused result (D.calls (disk_of self.new) ≡ D.calls (disk_of self.old)) }
         ensures refused_writes { OnRefused result (D.writes (disk_of self.new) ≡ D.writes (disk_of self.old)) }
     {
@@ -148,7 +157,7 @@ impl<D: Disk> Log<D> {
         let Some(end) = self.end.checked_add(size) else {
             return Err(LogErr::NoMemory);
         };
-        // The gate is written twice: closed behind the cell before it, and then open.
+        // One byte more than the cell: its gate is there already, written closed, and is written again, open.
         self.disk.room(size + 1)?;
         let behind = stage(self.alloc, body)?;
         match store(&mut self.disk, self.end, &behind) {
@@ -178,7 +187,7 @@ impl<D: Disk> Log<D> {
     }
 }
 
-/// What goes behind a closed gate, in one write: the body's length, the body, and the next gate, closed.
+/// What is written after a closed gate, in one write: the body's length, the body, and the next gate, closed.
 fn stage(alloc: Global, body: &[u8]) -> Result<Vec<u8>, AllocError>
     requires { length body.now < 2 ^ 32 }
     ensures { IfOk result (λ bytes. bytes.items ≡ staged body.now) }
@@ -190,7 +199,7 @@ fn stage(alloc: Global, body: &[u8]) -> Result<Vec<u8>, AllocError>
     Ok(bytes)
 }
 
-/// Writes bytes behind a gate and then opens it.
+/// Writes bytes after a gate and then opens it.
 fn store<D: Disk>(disk: &mut D, gate: u64, behind: &[u8]) -> Result<(), Failed>
     requires gate { gate < length (D.content disk.old) }
     requires fits { gate + 1 < 2 ^ 64 }
@@ -203,10 +212,11 @@ fn store<D: Disk>(disk: &mut D, gate: u64, behind: &[u8]) -> Result<(), Failed>
     ensures any_moment { AtEachMoment D.moment D.images_since disk.old disk.new (MayBeStored gate behind.now (D.content disk.old)) }
     ensures cause { HasCause (D.faults disk.old) (D.faults disk.new) result }
     ensures calls { OnOk result (D.calls disk.new ≡ count_after 4 (D.calls disk.old)) }
+    ensures fault_calls { OnErr result (IsAppendCount (D.calls disk.old) (D.calls disk.new)) }
     ensures writes { OnOk result (D.writes disk.new ≡ count_after 2 (D.writes disk.old)) }
 {
     disk.write_at(gate + 1, behind)?;
-    // What stands behind an open gate counts, so it has to be on the disk first.
+    // What follows an open gate counts, so it has to be on the disk first.
     disk.sync()?;
     disk.write_at(gate, &[OPEN])?;
     disk.sync()

@@ -1,4 +1,4 @@
-//! How a log is begun on an empty disk.
+//! A new log on an empty disk.
 ghost use Rattle.std.specs.Prelude.{◌≡◌, ◌≤◌, [], ◌∷◌, OnOk, IsErrOf};
 ghost use Rattle.dtx_ports.specs.Causes.{Rose};
 ghost use Rattle.block_disk.specs.Images.{IsOnly, AtEachMoment};
@@ -8,7 +8,7 @@ use crate::MakeWhy;
 use crate::gate::CLOSED;
 use block_disk::Disk;
 
-/// Writes the closed gate of a log of no body.
+/// Writes the closed gate of a log with no body.
 pub(crate) fn lay_gate<D: Disk>(disk: &mut D) -> Result<(), MakeWhy>
     requires { D.content disk.old ≡ [] }
     ensures laid { OnOk result (D.content disk.new ≡ 0 ∷ []) }
@@ -16,6 +16,7 @@ pub(crate) fn lay_gate<D: Disk>(disk: &mut D) -> Result<(), MakeWhy>
     ensures any_moment { IsOnly [] (D.images disk.old) → AtEachMoment D.moment D.images_since disk.old disk.new MayBeBegun }
     ensures fault { IsErrOf result MakeWhy.Fault → Rose (D.faults disk.old) (D.faults disk.new) }
     ensures later { D.faults disk.old ≤ D.faults disk.new }
+    ensures unfailed { IsErrOf result MakeWhy.NoMemory → D.faults disk.new ≡ D.faults disk.old }
     ensures no_memory { IsErrOf result MakeWhy.NoMemory → D.content disk.new ≡ [] }
     ensures no_memory_calls { IsErrOf result MakeWhy.NoMemory → D.calls disk.new ≡ D.calls disk.old }
     ensures calls { OnOk result (D.calls disk.new ≡ count_after 2 (D.calls disk.old)) }

@@ -4,7 +4,7 @@ use Rattle.redo_record.specs.Kept.{ended_commit, in_state, met_as, forgot_as, hi
 use Rattle.redo_record.specs.declared.news.News.{News}
 use Rattle.redo_record.specs.declared.news.News.TheVariants as newses
 
--- a row whose branch was told its news
+-- a row after the news of its branch
 abbrev pub with_news : News → Standing → Standing
 with_news (newses.Commits n) x = ended_commit n x
 with_news (newses.IsForced state) x = in_state state x

@@ -33,7 +33,7 @@ sealed_as r = record {
   hidden = false;
 }
 
--- the commit point site: nobody is toward it
+-- the commit point site: no neighbour of it is on the way to it
 abbrev pub decided_as : Decided → Standing
 decided_as r = record {
   me = r.me;

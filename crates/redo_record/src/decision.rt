@@ -9,6 +9,7 @@ use std::alloc::{AllocError, Global};
 pub enum Decision {
     /// It commits, at this SCN.
     Commit(u64),
+    /// It is rolled back.
     Rollback,
 }
 

@@ -32,7 +32,9 @@ impl Duplicate for State {
 /// A child of a kept branch.
 #[derive(Debug, Drop)]
 pub struct Kid {
+    /// The child.
     pub branch: BranchId,
+    /// The link that leads to it.
     pub link: Name,
     /// Whether it has acknowledged the commit. This is kept in memory alone.
     pub acked: bool,
@@ -55,23 +57,31 @@ impl Duplicate for Kid {
 /// A branch that the node keeps a row of.
 #[derive(Debug, Drop)]
 pub struct Standing {
+    /// The branch.
     pub me: BranchId,
+    /// The root of its transaction.
     pub root: BranchId,
-    /// The SCN of its Sealed record, or, at the site, the commit SCN.
+    /// The SCN of its Sealed record, or, at the commit point site, the commit SCN.
     pub scn: u64,
+    /// Its parent, if it is not the root.
     pub parent: Option<BranchId>,
     /// Whether the parent has acknowledged the commit. This is kept in memory alone.
     pub parent_acked: bool,
+    /// The children of its record, in order of reference.
     pub children: Kids,
-    /// The neighbour on the way to the commit point site, and nobody at the site.
+    /// The neighbour on the way to the commit point site, and none at the commit point site.
     pub toward: Option<BranchId>,
+    /// The session's advice for administrators, if it gave any.
     pub advice: Option<Advice>,
+    /// The comment of the COMMIT.
     pub comment: Bytes,
+    /// Whether it is in doubt, committed or forced.
     pub state: State,
     /// The decision, once the branch knows it.
     pub decision: Option<Decision>,
     /// Whether it was forced to another outcome than the decision.
     pub mixed: bool,
+    /// Whether it has forgotten the transaction: no neighbour is left to tell.
     pub forgot: bool,
     /// Whether a purge took its row out of the view.
     pub hidden: bool,
@@ -110,10 +120,13 @@ pub struct Durable {
     pub boot: u32,
     /// Whether distributed recovery is enabled.
     pub recovery: bool,
-    /// Tables, links and synonyms, in the order in which they were made.
+    /// The tables, in the order in which they were created.
     pub tables: Listing<Table>,
+    /// The database links, in the order in which they were created.
     pub links: Listing<Link>,
+    /// The synonyms, in the order in which they were created.
     pub synonyms: Listing<Synonym>,
+    /// The branches that the node keeps rows of, in the order of their ids.
     pub kept: Standings,
     /// The commit point strength that was set, where one was.
     pub strength: Option<u8>,
@@ -135,7 +148,7 @@ impl Durable {
         }
     }
 
-    /// What the records of a node leave, oldest first.
+    /// What the records of a node leave, oldest first. Fails where memory runs out.
     pub fn of(alloc: Global, records: &[RedoRecord]) -> Result<Durable, AllocError>
         ensures { IfOk result (λ left. left ≡ durable records.now) }
     {
@@ -146,7 +159,7 @@ impl Durable {
         Ok(left)
     }
 
-    /// Takes one more record of the node in. Where memory runs out, nothing changes.
+    /// Takes one more record of the node in. Fails where memory runs out, and then nothing changes.
     #[tactic(auto, unfolding(crate::specs::Durable::durable_after))]
     pub fn apply(&mut self, alloc: Global, item: &RedoRecord) -> Result<(), AllocError>
         ensures ok { OnOk result (self.new ≡ durable_after self.old item.now) }

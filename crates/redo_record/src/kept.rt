@@ -11,7 +11,8 @@ use crate::{Decision, RedoRecord, Standing, State};
 use std::alloc::{AllocError, Global};
 use tran_ids::BranchId;
 
-/// Makes of the rows what is left of them after one more record. Where memory runs out, they stay as they are.
+/// Makes of the rows what is left of them after one more record. Fails where memory runs out, and then they stay as
+/// they are.
 #[tactic(auto, unfolding(crate::specs::Kept::kept_after))]
 pub fn apply_record(
     kept: &mut Vec<Standing>,
@@ -72,7 +73,7 @@ fn add(kept: &mut Vec<Standing>, row: Standing) -> Result<(), AllocError>
     Ok(())
 }
 
-// A decided branch that has nobody to tell is not kept.
+// A decided branch without neighbours is not kept.
 fn decide(kept: &mut Vec<Standing>, row: Standing) -> Result<(), AllocError>
     ensures ok { OnOk result (kept.new.items ≡ keep_decided kept.old.items row) }
     ensures err { OnErr result (kept.new.items ≡ kept.old.items) }

@@ -1,4 +1,4 @@
-//! What a kept branch is told.
+//! News that reaches a kept branch.
 ghost use Rattle.std.specs.Prelude.{◌≡◌, if◌then◌else◌};
 ghost use Rattle.redo_record.specs.Kept.{stands_at};
 ghost use Rattle.redo_record.specs.Lists.{change_where};

@@ -1,4 +1,4 @@
-//! What a node is told when it is made.
+//! What a node is given when it is made.
 ghost use Rattle.std.specs.Prelude.{◌≡◌};
 
 use dtx_values::{Duplicate, Listing, Names};

@@ -9,7 +9,9 @@ use tran_ids::BranchId;
 /// A child of a branch, and the link that leads to it.
 #[derive(Debug, Drop)]
 pub struct Peer {
+    /// The child.
     pub branch: BranchId,
+    /// The link.
     pub link: Name,
 }
 
@@ -26,9 +28,10 @@ impl Duplicate for Peer {
     }
 }
 
-/// Which neighbour of a sealed branch is on the way to the commit point site.
+/// Which neighbour of a prepared branch is on the way to the commit point site.
 #[derive(Clone, Copy, Debug, PartialEq, Eq)]
 pub enum Toward {
+    /// The branch's parent.
     Parent,
     /// The child at this place among the record's children, from 0.
     Child(u8),
@@ -58,17 +61,23 @@ impl Duplicate for Param {
 /// A branch is prepared: its changes wait for the decision.
 #[derive(Debug, Drop)]
 pub struct Sealed {
+    /// The branch.
     pub me: BranchId,
     /// The root of the transaction, which names it in all nodes.
     pub root: BranchId,
     /// The node's SCN.
     pub scn: u64,
+    /// Its neighbour on the way to the commit point site.
     pub toward: Toward,
+    /// Its parent, if it is not the root.
     pub parent: Option<BranchId>,
-    /// The children that are prepared, and the one on the way to the site.
+    /// The children that are prepared, and the one on the way to the commit point site.
     pub children: Peers,
+    /// The session's advice for administrators, if it gave any.
     pub advice: Option<Advice>,
+    /// The comment of the COMMIT.
     pub comment: Bytes,
+    /// What the branch changed.
     pub changes: Changes,
 }
 
@@ -94,16 +103,21 @@ impl Duplicate for Sealed {
 /// The commit point site decided to commit.
 #[derive(Debug, Drop)]
 pub struct Decided {
+    /// The commit point site's branch.
     pub me: BranchId,
     /// The root of the transaction, which names it in all nodes.
     pub root: BranchId,
     /// The commit SCN.
     pub scn: u64,
+    /// Its parent, if it is not the root.
     pub parent: Option<BranchId>,
     /// The children that are prepared.
     pub children: Peers,
+    /// The session's advice for administrators, if it gave any.
     pub advice: Option<Advice>,
+    /// The comment of the COMMIT.
     pub comment: Bytes,
+    /// What the branch changed.
     pub changes: Changes,
 }
 
@@ -128,29 +142,41 @@ impl Duplicate for Decided {
 /// What a node writes to its log.
 #[derive(Debug, Drop)]
 pub enum RedoRecord {
-    /// The node was started for the so-manieth time, counted from 1.
+    /// The node was started: the number of this start, from 1.
     Boot(u32),
+    /// A table was created.
     Table(Table),
+    /// A database link was created.
     Link(Link),
+    /// A synonym was created.
     Synonym(Synonym),
+    /// A setting was changed.
     Param(Param),
+    /// A branch is prepared.
     Sealed(Sealed),
+    /// The commit point site decided to commit.
     Decided(Decided),
-    /// The decision reached a sealed branch.
+    /// The decision reached a prepared branch.
     Ended {
+        /// The branch.
         me: BranchId,
+        /// The decision.
         decision: Decision,
     },
-    /// An administrator ended a sealed branch.
+    /// An administrator forced a prepared branch.
     Forced {
+        /// The branch.
         me: BranchId,
+        /// The outcome that was forced.
         decision: Decision,
         /// Whether the user gave the SCN.
         given: bool,
     },
     /// The decision reached a forced branch.
     Met {
+        /// The branch.
         me: BranchId,
+        /// The decision.
         decision: Decision,
         /// Whether it is another outcome than the forced one.
         mixed: bool,

@@ -40,7 +40,7 @@ fn toward(sealed: &Sealed) -> Option<BranchId>
     }
 }
 
-/// The row of a branch that is prepared.
+/// The row of a branch that is prepared. Fails where memory runs out.
 pub fn sealed_row(alloc: Global, sealed: &Sealed) -> Result<Standing, AllocError>
     ensures { IfOk result (λ row. row ≡ sealed_as sealed.now) }
 {
@@ -64,7 +64,7 @@ pub fn sealed_row(alloc: Global, sealed: &Sealed) -> Result<Standing, AllocError
     })
 }
 
-/// The row of the commit point site, toward which nobody is.
+/// The row of the commit point site, from which no neighbour is on the way to it. Fails where memory runs out.
 pub fn decided_row(alloc: Global, decided: &Decided) -> Result<Standing, AllocError>
     ensures { IfOk result (λ row. row ≡ decided_as decided.now) }
 {

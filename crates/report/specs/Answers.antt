@@ -1,4 +1,5 @@
--- The lines of what is answered, and of what is said beside the nodes.
+-- The lines of answers, those of nodes and those of the run. What was done is reported in the words of SQL*Plus
+-- (SQL*Plus User's Guide and Reference).
 use Rattle.std.specs.Prelude.{ℕ, List, [], ◌∷◌, codes}
 use Rattle.dtx_values.specs.declared.answer.Done.{Done}
 use Rattle.dtx_values.specs.declared.answer.Done.TheVariants as dones
@@ -29,7 +30,7 @@ answer_text (answers.Did d n) = done_text d n ∷ []
 answer_text (answers.Found found) = rows_text found
 answer_text (answers.Refused r) = refusal_text r ∷ []
 
--- the lines of what the world says
+-- the lines of an answer that the run gives in a node's place
 abbrev pub notice_text : Notice → List (List ℕ)
 notice_text notices.Fine = codes "ok" ∷ []
 notice_text notices.Waiting = codes "waiting" ∷ []

@@ -1,7 +1,9 @@
--- What a refusal says.
+-- The texts of refusals. Those of ORA codes are Oracle's (Database Error Messages), apart from the name of the
+-- constraint in ORA-00001 and the number of extents and the tablespace in ORA-30036. DTX codes are dtx's own.
 use Rattle.std.specs.Prelude.{ℕ, ◌+◌, ◌-◌, ◌==◌, if◌then◌else◌, nat_lt, List, [], ◌∷◌, ◌++◌, slice_get, unwrap_or, codes}
+use Rattle.dtx_values.specs.Limits.{delivery_limit}
 use Rattle.dtx_values.specs.declared.answer.Refusal.{Refusal}
-use Rattle.tran_ids.specs.Numbers.{decimal}
+use Rattle.tran_ids.specs.Numbers.{decimal, digits}
 
 -- the texts of ORA-nnnnn, by the number; each % stands for an argument
 unfoldable pub ora_texts : List (ℕ × List ℕ)
@@ -37,7 +39,7 @@ dtx_texts =
     ∷ (2, codes "session tree too deep or too wide")
     ∷ (3, codes "no answer from link %")
     ∷ (4, codes "session busy")
-    ∷ (5, codes "deliveries ended at 4096")
+    ∷ (5, codes "deliveries ended at " ++ digits 4 delivery_limit)
     ∷ (6, codes "purge of % refused")
     ∷ (7, codes "ID % names several branches")
     ∷ (8, codes "branch at link % is gone")
@@ -51,16 +53,16 @@ dtx_texts =
     ∷ (16, codes "changes of one branch too large")
     ∷ []
 
--- the text of this number; none where the table has none
+-- the text of this number, empty where the list has none
 abbrev pub text_of : ℕ → List (ℕ × List ℕ) → List ℕ
 text_of n [] = []
 text_of n (t ∷ ts) = if n == t.0 then t.1 else text_of n ts
 
--- the argument at this place, from 0 on; nothing where there is none
+-- the argument at this place, from 0; empty where there is none
 abbrev pub arg : List (List ℕ) → ℕ → List ℕ
 arg args i = unwrap_or (slice_get args i) []
 
--- a text with an argument at each %, in order from this place on
+-- a text with an argument in the place of each %, in order, the first being that at this place
 abbrev pub filled : List (List ℕ) → ℕ → List ℕ → List ℕ
 filled args i [] = []
 filled args i (b ∷ bs) = (if b == 37 then arg args i else b ∷ []) ++ filled args (if b == 37 then i + 1 else i) bs

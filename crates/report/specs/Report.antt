@@ -1,4 +1,5 @@
--- The report of a run: what is told of its commands, each line behind its command's number.
+-- The report of a run: the answers of its commands, each line with its command's number in front. The layout is dtx's
+-- own.
 use Rattle.std.specs.Prelude.{ℕ, List, ◌++◌, map, flat_map, codes}
 use Rattle.tran_ids.specs.Numbers.{decimal}
 use Rattle.book.specs.declared.line.Said.{Said}
@@ -7,16 +8,16 @@ use Rattle.book.specs.declared.line.AnswerLine.{AnswerLine}
 use Rattle.book.specs.Texts.{ended_line}
 use Rattle.report.specs.Answers.{answer_text, notice_text}
 
--- the lines of what is said
+-- the lines of an answer
 abbrev pub said_text : Said → List (List ℕ)
 said_text (said.Node answer) = answer_text answer
 said_text (said.World notice) = notice_text notice
 
--- a line behind its command's number
+-- a line with its command's number in front
 abbrev pub numbered : ℕ → List ℕ → List ℕ
 numbered command text = decimal command ++ codes " " ++ text
 
--- the lines of an answer, each numbered
+-- the lines of an answer, each with its command's number
 abbrev pub line_text : AnswerLine → List (List ℕ)
 line_text l = map (numbered l.command) (said_text l.said)
 

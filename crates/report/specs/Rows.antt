@@ -1,4 +1,4 @@
--- How rows are written.
+-- How rows are printed. The layout is dtx's own; the line after the rows is that of SQL*Plus.
 use Rattle.std.specs.Prelude.{ℕ, ◌==◌, if◌then◌else◌, List, [], ◌∷◌, ◌++◌, map, flat_map, length, codes}
 use Rattle.dtx_values.specs.declared.row.Row.{Row}
 use Rattle.dtx_values.specs.declared.answer.RowSet.{RowSet}
@@ -10,11 +10,11 @@ abbrev pub bars : List (List ℕ) → List ℕ
 bars [] = []
 bars (cell ∷ cells) = cell ++ flat_map (λ next. codes "|" ++ next) cells
 
--- a row, each cell as its value stands in a statement
+-- a row, each cell as its value is written in a statement
 abbrev pub row_text : Row → List ℕ
 row_text row = bars (map text_of_value row.cells)
 
--- so many rows, of which this is said
+-- a number of rows, and what was done with them
 abbrev pub counted : ℕ → List ℕ → List ℕ
 counted n what = decimal n ++ (if n == 1 then codes " row " else codes " rows ") ++ what
 

@@ -1,4 +1,4 @@
-//! The lines of what a node answers, and of what is said beside the nodes.
+//! The lines of a node's answer, and of an answer of the run in a node's place.
 ghost use Rattle.std.specs.Prelude.{◌≡◌, [], ◌∷◌, IfOk};
 ghost use Rattle.report.specs.Answers.{done_text as done_text_of, answer_text, notice_text};
 
@@ -37,7 +37,7 @@ fn done_text(alloc: Global, done: Done, count: u32) -> Result<Bytes, AllocError>
     }
 }
 
-/// The lines of what a node answers.
+/// The lines of a node's answer. Fails where memory runs out.
 pub fn answer_lines(alloc: Global, answer: &Answer) -> Result<Vec<Bytes>, AllocError>
     ensures { IfOk result (λ lines. lines.items ≡ answer_text answer.now) }
 {
@@ -48,7 +48,7 @@ pub fn answer_lines(alloc: Global, answer: &Answer) -> Result<Vec<Bytes>, AllocE
     }
 }
 
-/// The lines of what is said beside the nodes.
+/// The lines of an answer that the run gives in a node's place. Fails where memory runs out.
 pub fn notice_lines(alloc: Global, notice: &Notice) -> Result<Vec<Bytes>, AllocError>
     ensures { IfOk result (λ lines. lines.items ≡ notice_text notice.now) }
 {

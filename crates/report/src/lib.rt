@@ -1,7 +1,8 @@
-//! The text of each answer: what refusals say, the rows that a query found, what was done, and lines behind the number
-//! of their command.
+//! The text of each answer: refusals, the rows that a query found, what was done; and lines with the number of their
+//! command in front.
 //!
-//! `specs/Report.antt` says what a whole report is, and stands on the definitions of these texts.
+//! `specs/Report.antt` defines a whole report, from the definitions of these texts. Calls fail where memory runs out
+//! and for no other reason.
 #![tactic(auto)]
 
 mod answers;

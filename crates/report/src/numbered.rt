@@ -1,4 +1,4 @@
-//! Lines behind the number of their command.
+//! Lines with the number of their command in front.
 ghost use Rattle.std.specs.Prelude.{◌≡◌, ◌++◌, map, OnOk};
 ghost use Rattle.book.specs.Texts.{ended_line};
 ghost use Rattle.report.specs.Report.{numbered, printed};
@@ -17,7 +17,8 @@ fn put_line(out: &mut Vec<u8>, command: u32, line: &[u8]) -> Result<(), AllocErr
     Ok(())
 }
 
-/// Adds the lines at the end, each behind the command's number.
+/// Adds the lines at the end, each with the command's number and a blank in front and a line feed after it. Fails where
+/// memory runs out; a part may have been added then.
 pub fn put_numbered(out: &mut Vec<u8>, command: u32, lines: &[Bytes]) -> Result<(), AllocError>
     ensures { OnOk result (out.new.items ≡ out.old.items ++ printed (map (numbered command) lines.now)) }
 {

@@ -1,4 +1,4 @@
-//! What refusals say: ORA or DTX, a number, and the text behind it.
+//! The texts of refusals: ORA or DTX, a number, and the message.
 ghost use Rattle.std.specs.Prelude.{◌≡◌, ◌++◌, codes, IfOk, OnOk};
 ghost use Rattle.report.specs.Refusals.{ora_texts, dtx_texts, text_of, arg, filled, five_digits, two_digits, refusal_text as refusal_text_of};
 
@@ -6,7 +6,7 @@ use dtx_values::{Bytes, Listing, Refusal};
 use std::alloc::{AllocError, Global};
 use tran_ids::put_decimal;
 
-/// The codes of DTX-01 and its like come behind this one.
+/// Codes above this one are dtx's own: 60,001 is DTX-01.
 const OWN: u16 = 60_000;
 
 // The text of ORA-nnnnn, with a % for each argument.
@@ -136,7 +136,7 @@ fn dtx_text(alloc: Global, number: u16, args: &[Bytes]) -> Result<Bytes, AllocEr
     Ok(Listing::of(out))
 }
 
-/// A refusal, as `ORA-02054: transaction 1.1.1 in-doubt`.
+/// A refusal as text, such as `ORA-02054: transaction 1.1.1 in-doubt`. Fails where memory runs out.
 pub fn refusal_text(alloc: Global, refusal: &Refusal) -> Result<Bytes, AllocError>
     ensures { IfOk result (λ text. text ≡ refusal_text_of refusal.now) }
 {

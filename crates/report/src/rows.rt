@@ -1,4 +1,4 @@
-//! Rows: cells with bars between, behind their head and before their number.
+//! Rows: a line of column names, a line for each row, the cells with bars between, and how many rows there are.
 ghost use Rattle.std.specs.Prelude.{◌≡◌, ◌++◌, map, IfOk, OnOk};
 ghost use Rattle.report.specs.Rows.{bars as bars_of, row_text as row_text_of, counted as counted_of, view_lines as view_lines_of, rows_text};
 
@@ -6,7 +6,7 @@ use dtx_values::{Bytes, Listing, Row, RowSet, value_text};
 use std::alloc::{AllocError, Global};
 use tran_ids::put_decimal;
 
-/// The cells, with a bar between each two.
+/// The cells, with a bar between each two. Fails where memory runs out.
 pub fn bars(alloc: Global, cells: &[Bytes]) -> Result<Bytes, AllocError>
     ensures { IfOk result (λ text. text ≡ bars_of cells.now) }
 {
@@ -31,7 +31,7 @@ fn row_text(alloc: Global, row: &Row) -> Result<Bytes, AllocError>
     bars(alloc, &cells)
 }
 
-/// So many rows, as `1 row created.`
+/// A number of rows and what was done with them, such as `1 row created.` Fails where memory runs out.
 pub fn counted(alloc: Global, count: u64, what: &[u8]) -> Result<Bytes, AllocError>
     ensures { IfOk result (λ text. text ≡ counted_of count what.now) }
 {
@@ -46,7 +46,7 @@ pub fn counted(alloc: Global, count: u64, what: &[u8]) -> Result<Bytes, AllocErr
     Ok(Listing::of(out))
 }
 
-/// The rows behind their head, and how many there are; or that there is none.
+/// The head, the rows and how many there are, or `no rows selected` alone. Fails where memory runs out.
 pub fn view_lines(
     alloc: Global,
     head: Bytes,
@@ -65,7 +65,7 @@ pub fn view_lines(
     Ok(lines)
 }
 
-/// What a query found.
+/// The lines of what a query found. Fails where memory runs out.
 pub fn rows_lines(alloc: Global, found: &RowSet) -> Result<Vec<Bytes>, AllocError>
     ensures { IfOk result (λ lines. lines.items ≡ rows_text found.now) }
 {

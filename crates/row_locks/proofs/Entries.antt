@@ -1,4 +1,4 @@
--- What the map of locks does, told by the list of locks.
+-- What the map of locks does, as the list of locks says it.
 use Rattle.std.proofs.Common.{◌≡◌, ℕ, Bool, true, false, ◌&&◌, cond, List, [], ◌∷◌, map, filter, find, position, Option, None, Some, refl, ap, sym, subst, ◌∙◌, true≢false, is_some}
 use Rattle.std.specs.Cow.{cow_value}
 use Rattle.std.specs.Map.{lookup, keys_of}
@@ -6,8 +6,8 @@ use Rattle.std.specs.Str.{bytes_eq}
 use Rattle.std.specs.List.{AllByRecursion, IsDistinct}
 use Rattle.std.specs.Option.{option_map}
 use Rattle.dtx_values.specs.declared.value.Value.{Value}
-use Rattle.dtx_values.specs.declared.value.Value.TheVariants.{Null, Number, Text}
-use Rattle.dtx_values.specs.contracts.value.ValuePartialEq.TheImpl as of_value
+use Rattle.dtx_values.specs.Order.{same_value}
+use Rattle.dtx_values.proofs.ValueOrder.{derived_same}
 use Rattle.tran_ids.specs.declared.branch.BranchId.{BranchId}
 use Rattle.std.specs.Map.Calls.{RetainsPairs}
 use Rattle.indexmap.specs.IndexMap.{insert_entry}
@@ -18,26 +18,15 @@ use Rattle.row_locks.specs.declared.lock_key.LockKey.{LockKey}
 use Rattle.row_locks.specs.declared.owner.Owner.{Owner}
 use Rattle.row_locks.specs.contracts.lock_key.LockKeyPartialEq.TheImpl as of_key
 use Rattle.row_locks.specs.contracts.lock_key.LockKeyEq.TheImpl.Laws.{laws-law}
-use Rattle.row_locks.specs.Locks.{Lock, named, same_key, is_lock_on, are_on_one_key, AreOnDistinctKeys, holder_of, taken, keys_held}
+use Rattle.row_locks.specs.Locks.{Lock, named, is_lock_on, are_on_one_key, AreOnDistinctKeys, holder_of, taken, keys_held}
 use Rattle.row_locks.specs.Owners.{lock_of, owner_in, branch_in, owner_of, owner_with, with_owner, keys_among}
 
 -- the test by which the map finds a key
 abbrev pub found_as : LockKey → LockKey → Bool
 found_as = of_key.eq-value.it
 
-values_are : (a b : Value) → of_value.eq-value.it a b ≡ same_key a b
-values_are Null Null = refl
-values_are Null (Number b) = refl
-values_are Null (Text b) = refl
-values_are (Number a) Null = refl
-values_are (Number a) (Number b) = refl
-values_are (Number a) (Text b) = refl
-values_are (Text a) Null = refl
-values_are (Text a) (Number b) = refl
-values_are (Text a) (Text b) = refl
-
-key_is : (a b : LockKey) → found_as a b ≡ (bytes_eq (cow_value a.table) (cow_value b.table) && same_key (cow_value a.key) (cow_value b.key))
-key_is a b = ap (λ both. bytes_eq (cow_value a.table) (cow_value b.table) && both) (values_are (cow_value a.key) (cow_value b.key))
+key_is : (a b : LockKey) → found_as a b ≡ (bytes_eq (cow_value a.table) (cow_value b.table) && same_value (cow_value a.key) (cow_value b.key))
+key_is a b = ap (λ both. bytes_eq (cow_value a.table) (cow_value b.table) && both) (derived_same (cow_value a.key) (cow_value b.key))
 
 found_is : (q : LockKey) (e : LockKey × Owner) → found_as q e.0 ≡ is_lock_on (cow_value q.table) (cow_value q.key) (lock_of e)
 found_is q e = laws-law.symm q e.0 ∙ key_is e.0 q

@@ -5,10 +5,11 @@ use Rattle.std.specs.List.{AllByRecursion, IsDistinct, list_any}
 use Rattle.std.specs.Str.{bytes_eq}
 use Rattle.std.specs.Cmp.Lexicographic.{bytes_decides}
 use Rattle.dtx_values.specs.declared.value.Value.{Value}
+use Rattle.dtx_values.specs.Order.{same_value}
+use Rattle.dtx_values.proofs.ValueOrder.{equal_from_same}
 use Rattle.tran_ids.specs.declared.branch.BranchId.{BranchId}
-use Rattle.row_locks.specs.Locks.{Lock, same_key, is_lock_on, are_on_one_key, AreOnDistinctKeys, holder_of}
+use Rattle.row_locks.specs.Locks.{Lock, is_lock_on, are_on_one_key, AreOnDistinctKeys, holder_of}
 use Rattle.row_locks.specs.Held.{held_by, is_holder}
-use Rattle.row_locks.proofs.Keys.{equal_from_same_key}
 
 first_so : (a b : Bool) → (a && b) ≡ true → a ≡ true
 first_so true b h = refl
@@ -21,8 +22,8 @@ second_so false b h = absurd (true≢false (sym h))
 -- a lock on the key of another is on it as that one is
 on_as : (l x : Lock) (table : List ℕ) (key : Value) → is_lock_on table key x ≡ true → are_on_one_key l x ≡ is_lock_on table key l
 on_as l x table key h =
-    let tables = (bytes_decides x.table table).0 (first_so (bytes_eq x.table table) (same_key x.key key) h) in
-    let keys = equal_from_same_key x.key key (second_so (bytes_eq x.table table) (same_key x.key key) h) in
+    let tables = (bytes_decides x.table table).0 (first_so (bytes_eq x.table table) (same_value x.key key) h) in
+    let keys = equal_from_same x.key key (second_so (bytes_eq x.table table) (same_value x.key key) h) in
     λ i. is_lock_on (tables i) (keys i) l
 
 none_behind : (l : Lock) (ls : List Lock) (branch : BranchId) (table : List ℕ) (key : Value)

@@ -1,4 +1,3 @@
 mod Entries
 pub mod Held
-pub mod Keys
 pub mod Holders

@@ -1,13 +1,12 @@
 -- Locks in the order in which they were taken.
 use Rattle.std.specs.Prelude.{ℕ, Bool, true, false, if◌then◌else◌, not, ◌&&◌, ◌||◌, List, [], ◌∷◌, map, filter, find, Option, None, Some}
-use Rattle.std.specs.Ordering.{int_eq}
 use Rattle.std.specs.Str.{bytes_eq}
 use Rattle.std.specs.List.{IsDistinct}
 use Rattle.std.specs.Option.{option_map}
 use Rattle.std.specs.declared.result.Result.{Result}
 use Rattle.std.specs.declared.result.Result.TheVariants.{Ok, Err}
 use Rattle.dtx_values.specs.declared.value.Value.{Value}
-use Rattle.dtx_values.specs.declared.value.Value.TheVariants.{Null, Number, Text}
+use Rattle.dtx_values.specs.Order.{same_value}
 use Rattle.tran_ids.specs.declared.branch.BranchId.{BranchId}
 use Rattle.tran_ids.specs.Branch.{same}
 use Rattle.row_locks.specs.declared.lock_err.LockErr.{LockErr}
@@ -21,16 +20,9 @@ pub record Lock : Type 0 where
   pub writes : Bool
   pub in_doubt : Bool
 
--- two keys are equal
-abbrev pub same_key : Value → Value → Bool
-same_key Null Null = true
-same_key (Number a) (Number b) = int_eq a b
-same_key (Text a) (Text b) = bytes_eq a b
-same_key _ _ = false
-
 -- whether a lock is on this key
 abbrev pub is_lock_on : List ℕ → Value → Lock → Bool
-is_lock_on table key l = bytes_eq l.table table && same_key l.key key
+is_lock_on table key l = bytes_eq l.table table && same_value l.key key
 
 -- whether two locks are on the same key
 abbrev pub are_on_one_key : Lock → Lock → Bool

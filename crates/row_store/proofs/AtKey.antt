@@ -8,9 +8,10 @@ use Rattle.dtx_values.specs.declared.value.Value.{Value}
 use Rattle.dtx_values.specs.declared.row.Row.{Row}
 use Rattle.dtx_values.specs.Order.{value_cmp}
 use Rattle.sql_eval.specs.declared.keyed.Keyed.{Keyed}
-use Rattle.sql_eval.specs.Rows.{same_value, get, keys_of}
+use Rattle.dtx_values.specs.Order.{same_value}
+use Rattle.sql_eval.specs.Rows.{get, keys_of}
 use Rattle.sql_eval.specs.Laws.{at_key}
-use Rattle.sql_eval.proofs.ValueOrder.{same_is, same_key}
+use Rattle.dtx_values.proofs.ValueOrder.{same_is, equal_from_same}
 
 -- a row that was found, with its key
 abbrev pub with_key : Value → Option Row → List Keyed
@@ -26,7 +27,7 @@ above k (r ∷ rs) rise =
 found_first : (k : Value) (r : Keyed) (rs : List Keyed) (b : Bool) → same_value r.key k ≡ b → AllByRecursion (λ q. value_cmp r.key q ≡ Less) (keys_of rs)
     → at_key rs k ≡ with_key k (get rs k) → cond b (r ∷ at_key rs k) (at_key rs k) ≡ with_key k (cond b (Some r.row) (get rs k))
 found_first k r rs true same rise rest =
-    let key : r.key ≡ k = same_key r.key k same in
+    let key : r.key ≡ k = equal_from_same r.key k same in
     ap (λ (q : Value). record { key = q; row = r.row } ∷ at_key rs k) key
     ∙ ap (λ (qs : List Keyed). record { key = k; row = r.row } ∷ qs) (above k rs (subst (λ (q : Value). AllByRecursion (λ p. value_cmp q p ≡ Less) (keys_of rs)) key rise))
 found_first k r rs false same rise rest = rest

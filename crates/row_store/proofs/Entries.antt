@@ -1,8 +1,8 @@
 -- A lookup in a map's entries, an entry put in and one removed are those of the table's rows.
-use Rattle.std.proofs.Common.{◌≡◌, Bool, true, false, cond, not, ◌&&◌, List, [], ◌∷◌, None, Some, filter, refl, sym, ap, subst, ◌∙◌}
+use Rattle.std.proofs.Common.{◌≡◌, Bool, true, false, cond, not, List, [], ◌∷◌, None, Some, filter, refl, sym, ap, subst, ◌∙◌}
 use Rattle.std.specs.declared.cmp.Ordering.{Ordering}
-use Rattle.std.specs.declared.cmp.Ordering.TheVariants.{Equal}
-use Rattle.std.specs.Ordering.{match_ordering}
+use Rattle.std.specs.declared.cmp.Ordering.TheVariants.{Less, Equal, Greater}
+use Rattle.std.specs.Ordering.{is_eq, is_lt, match_ordering}
 use Rattle.std.specs.BTreeMap.{insert_entry, is_at}
 use Rattle.std.specs.List.Sorted.{IsStrictlySortedBy}
 use Rattle.std.specs.Map.{lookup, remove_entry, keys_of as entry_keys}
@@ -11,8 +11,9 @@ use Rattle.dtx_values.specs.declared.row.Row.{Row}
 use Rattle.dtx_values.specs.Order.{value_cmp}
 use Rattle.dtx_values.proofs.RowLookups.{derived, derived_is, values_exact}
 use Rattle.sql_eval.specs.declared.keyed.Keyed.{Keyed}
-use Rattle.sql_eval.specs.Rows.{value_below, same_value, get, put, without, keys_of}
-use Rattle.sql_eval.proofs.ValueOrder.{by_below, compared, same_is}
+use Rattle.dtx_values.specs.Order.{value_below, same_value}
+use Rattle.sql_eval.specs.Rows.{get, put, without, keys_of}
+use Rattle.dtx_values.proofs.ValueOrder.{same_is}
 use Rattle.row_store.specs.Listed.{row_of, rows_of}
 
 -- ---- a lookup
@@ -27,19 +28,18 @@ get_is es q = ap (λ (R : Value → Value → Ordering). lookup (is_at (R q)) es
 
 -- ---- an entry is put in
 
-placed : (below above : Bool) (before same behind : List (Value × Row)) (here : List Keyed) → (by_below below above ≡ Equal → rows_of same ≡ here)
-    → rows_of (match_ordering (by_below below above) before same behind) ≡ cond (not above && not below) here (cond below (rows_of before) (rows_of behind))
-placed false false before same behind here equal = equal refl
-placed false true before same behind here equal = refl
-placed true false before same behind here equal = refl
-placed true true before same behind here equal = refl
+placed : (o : Ordering) (before same behind : List (Value × Row)) (here : List Keyed) → (o ≡ Equal → rows_of same ≡ here)
+    → rows_of (match_ordering o before same behind) ≡ cond (is_eq o) here (cond (is_lt o) (rows_of before) (rows_of behind))
+placed Less before same behind here equal = refl
+placed Equal before same behind here equal = equal refl
+placed Greater before same behind here equal = refl
 
 inserted : (es : List (Value × Row)) (k : Value) (v : Row) → rows_of (insert_entry value_cmp es k v) ≡ put (rows_of es) k v
 inserted [] k v = refl
 inserted (e ∷ es) k v =
-    ap (λ o. rows_of (match_ordering o ((k, v) ∷ e ∷ es) ((e.0, v) ∷ es) (e ∷ insert_entry value_cmp es k v))) (compared k e.0)
-    ∙ placed (value_below k e.0) (value_below e.0 k) ((k, v) ∷ e ∷ es) ((e.0, v) ∷ es) (e ∷ insert_entry value_cmp es k v) (row_of (k, v) ∷ rows_of es)
-    (λ equal. ap (λ (key : Value). row_of (key, v) ∷ rows_of es) (sym (values_exact k e.0 (compared k e.0 ∙ equal))))
+    placed (value_cmp k e.0) ((k, v) ∷ e ∷ es) ((e.0, v) ∷ es) (e ∷ insert_entry value_cmp es k v) (row_of (k, v) ∷ rows_of es)
+    (λ equal. ap (λ (key : Value). row_of (key, v) ∷ rows_of es) (sym (values_exact k e.0 equal)))
+    ∙ ap (λ b. cond b (row_of (k, v) ∷ rows_of es) (cond (value_below k e.0) (row_of (k, v) ∷ row_of e ∷ rows_of es) (row_of e ∷ rows_of (insert_entry value_cmp es k v)))) (same_is e.0 k)
     ∙ ap (λ rest. cond (same_value e.0 k) (row_of (k, v) ∷ rows_of es) (cond (value_below k e.0) (row_of (k, v) ∷ row_of e ∷ rows_of es) (row_of e ∷ rest))) (inserted es k v)
 
 pub put_is : (es : List (Value × Row)) (k : Value) (v : Row) → rows_of (insert_entry derived es k v) ≡ put (rows_of es) k v

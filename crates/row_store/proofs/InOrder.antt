@@ -10,9 +10,10 @@ use Rattle.dtx_values.specs.declared.row.Change.{Change}
 use Rattle.dtx_values.specs.Order.{value_cmp}
 use Rattle.dtx_values.proofs.RowLookups.{values_total}
 use Rattle.sql_eval.specs.declared.keyed.Keyed.{Keyed}
-use Rattle.sql_eval.specs.Words.{same_text}
-use Rattle.sql_eval.specs.Rows.{same_value, value_below, put, without, set_to, change_one, apply, keys_of}
-use Rattle.sql_eval.proofs.ValueOrder.{same_is, same_key, below_less, apart_less}
+use Rattle.sql_check.specs.Words.{same_text}
+use Rattle.dtx_values.specs.Order.{same_value, value_below}
+use Rattle.sql_eval.specs.Rows.{put, without, set_to, change_one, apply, keys_of}
+use Rattle.dtx_values.proofs.ValueOrder.{same_is, equal_from_same, below_less, apart_less}
 
 -- the keys of these rows rise
 abbrev pub are_in_order : List Keyed → Type 0
@@ -44,7 +45,7 @@ module _ (k : Value) (row : Row) where
       → is_below r.key rs → are_in_order rs → are_in_order (put rs k row)
       → are_in_order (cond same (record { key = k; row = row } ∷ rs) (cond before (record { key = k; row = row } ∷ r ∷ rs) (r ∷ put rs k row)))
   unfolding IsStrictlySortedBy
-  put_first r rs true before same where_ rise rest more = (subst (λ (q : Value). is_below q rs) (same_key r.key k same) rise, rest)
+  put_first r rs true before same where_ rise rest more = (subst (λ (q : Value). is_below q rs) (equal_from_same r.key k same) rise, rest)
   put_first r rs false true same where_ rise rest more =
       let less = below_less k r.key where_ in
       ((less, below_further k r.key rs less rise), (rise, rest))

@@ -4,14 +4,15 @@ use Rattle.dtx_values.specs.declared.value.Value.{Value}
 use Rattle.dtx_values.specs.declared.row.Row.{Row}
 use Rattle.dtx_values.specs.declared.row.Change.{Change}
 use Rattle.sql_eval.specs.declared.keyed.Keyed.{Keyed}
-use Rattle.sql_eval.specs.Words.{same_text}
-use Rattle.sql_eval.specs.Rows.{same_value, value_below, get, put, without, set_to, change_one, apply}
+use Rattle.sql_check.specs.Words.{same_text}
+use Rattle.dtx_values.specs.Order.{same_value, value_below}
+use Rattle.sql_eval.specs.Rows.{get, put, without, set_to, change_one, apply}
 use Rattle.row_store.specs.Own.{is_change_of, last_at}
-use Rattle.sql_eval.proofs.ValueOrder.{same_key}
+use Rattle.dtx_values.proofs.ValueOrder.{equal_from_same}
 
 -- a key that is the same as one that another is not the same as
 apart_from : (p k q : Value) → same_value p k ≡ false → same_value k q ≡ true → same_value p q ≡ false
-apart_from p k q apart same = subst (λ (v : Value). same_value p v ≡ false) (same_key k q same) apart
+apart_from p k q apart same = subst (λ (v : Value). same_value p v ≡ false) (equal_from_same k q same) apart
 
 twice : {X : Type 0} (b : Bool) (x y z : X) → cond b x (cond b y z) ≡ cond b x z
 twice true x y z = refl
@@ -23,10 +24,10 @@ swapped true false x y z apart = refl
 swapped false b x y z apart = refl
 
 module _ (k q : Value) where
-  -- the row at another key of the same value, of which there is one more
+  -- the row at another key of the same value, one more of it
   same_again : (r : Keyed) (x more : Option Row) → same_value r.key k ≡ true → cond (same_value k q) x (cond (same_value r.key q) (Some r.row) more) ≡ cond (same_value k q) x more
   same_again r x more same =
-      ap (λ (p : Value). cond (same_value k q) x (cond (same_value p q) (Some r.row) more)) (same_key r.key k same) ∙ twice (same_value k q) x (Some r.row) more
+      ap (λ (p : Value). cond (same_value k q) x (cond (same_value p q) (Some r.row) more)) (equal_from_same r.key k same) ∙ twice (same_value k q) x (Some r.row) more
 
   -- one more row that is at another key
   another : (r : Keyed) (x more : Option Row) → same_value r.key k ≡ false

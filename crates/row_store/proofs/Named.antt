@@ -1,4 +1,4 @@
--- What the map of tables does, told by the list of tables.
+-- What the map of tables does, as the list of tables says it.
 use Rattle.std.proofs.Common.{◌≡◌, ℕ, ◌+◌, ◌<◌, ◌≤◌, zero, suc, Bool, true, false, cond, ◌||◌, List, [], ◌∷◌, ◌++◌, length, get_or, drop, slice_get, position, None, Some, Option, MatchOption, unwrap_or, is_some, Bor, refl, sym, ap, subst, ◌∙◌, true≢false}
 use Rattle.std.proofs.lemmas.List.{map-append, at_drop_more, at_drop_all}
 use Rattle.std.specs.Cmp.Lexicographic.{nat_list_eq_equiv, bytes_decides}
@@ -13,7 +13,7 @@ use Rattle.indexmap.proofs.MapLemmas.{insert_entry-first, Found-position}
 use Rattle.indexmap.proofs.CallerLemmas.{insert_entry-new}
 use Rattle.dtx_values.specs.declared.row.Change.{Change}
 use Rattle.sql_eval.specs.declared.keyed.Keyed.{Keyed}
-use Rattle.sql_eval.specs.Words.{same_text}
+use Rattle.sql_check.specs.Words.{same_text}
 use Rattle.sql_eval.specs.Rows.{set_to}
 use Rattle.row_store.specs.Named.{table_of, tables_of, AreInOrder}
 use Rattle.row_store.specs.Tables.{TableRows, apply_to, apply_all, rows_of_table, with_table}

@@ -6,21 +6,19 @@ use Rattle.std.specs.Cow.{cow_value}
 use Rattle.std.specs.declared.borrow.Cow.TheVariants.{Owned}
 use Rattle.std.specs.Map.{lookup}
 use Rattle.std.specs.Option.{option_map}
-use Rattle.std.specs.Ordering.{is_eq}
-use Rattle.std.specs.declared.cmp.Ordering.{Ordering}
 use Rattle.std.specs.Str.{bytes_eq}
 use Rattle.dtx_values.specs.declared.value.Value.{Value}
 use Rattle.dtx_values.specs.declared.row.Change.{Change}
 use Rattle.dtx_values.specs.contracts.value.ValuePartialEq.TheImpl as of_value
-use Rattle.dtx_values.specs.contracts.value.ValueOrd.TheImpl.Laws.{matches_eq-law}
-use Rattle.dtx_values.proofs.RowLookups.{derived_is}
-use Rattle.sql_eval.specs.Rows.{same_value, change_length}
+use Rattle.dtx_values.specs.Order.{same_value}
+use Rattle.dtx_values.specs.Limits.{changes_limit}
+use Rattle.sql_eval.specs.Rows.{change_length}
 use Rattle.row_store.specs.declared.changed_key.ChangedKey.{ChangedKey}
 use Rattle.row_store.specs.contracts.changed_key.ChangedKeyPartialEq.TheImpl as of_key
 use Rattle.row_store.specs.contracts.changed_key.ChangedKeyEq.TheImpl.Laws.{laws-law}
 use Rattle.row_store.specs.Own.{is_change_of, last_at, changes_length}
 use Rattle.row_store.specs.Kept.{is_key, place_at, last_place, after_at, IsKept}
-use Rattle.sql_eval.proofs.ValueOrder.{same_is}
+use Rattle.dtx_values.proofs.ValueOrder.{derived_same, same_is}
 
 -- ---- the bytes
 
@@ -29,7 +27,7 @@ few_changes : (cs : List Change) → length cs ≤ changes_length cs
 few_changes [] = omega arith
 few_changes (c ∷ cs) = omega (arith, few_changes cs, sum_by-cons change_length c cs)
 
-pub few_kept : (places : List (ChangedKey × ℕ)) (cs : List Change) (bytes : ℕ) → IsKept places cs bytes → length cs ≤ 8388608
+pub few_kept : (places : List (ChangedKey × ℕ)) (cs : List Change) (bytes : ℕ) → IsKept places cs bytes → length cs ≤ changes_limit
 few_kept places cs bytes kept = omega (arith, few_changes cs, kept.few)
 
 -- ---- how the map finds a key
@@ -39,7 +37,7 @@ abbrev pub found_as : ChangedKey → ChangedKey → Bool
 found_as = of_key.eq-value.it
 
 values_are : (a b : Value) → of_value.eq-value.it a b ≡ same_value b a
-values_are a b = matches_eq-law a b ∙ ap (λ (R : Value → Value → Ordering). is_eq (R a b)) derived_is ∙ same_is b a
+values_are a b = derived_same a b ∙ same_is b a
 
 found_is : (q k : ChangedKey) → found_as q k ≡ is_key (cow_value q.table) (cow_value q.key) k
 found_is q k =
@@ -116,7 +114,7 @@ module _ (k : ChangedKey) (c : Change) (tables : cow_value k.table ≡ c.table) 
 
   pub kept_more : (es fs : List (ChangedKey × ℕ)) (cs : List Change) (bytes more : ℕ) → IsKept es cs bytes
       → ((q : ChangedKey) → lookup (found_as q) fs ≡ cond (found_as k q) (Some (length cs)) (lookup (found_as q) es))
-      → more ≡ change_length c → changes_length (cs ++ c ∷ []) ≤ 8388608 → IsKept fs (cs ++ c ∷ []) (bytes + more)
+      → more ≡ change_length c → changes_length (cs ++ c ∷ []) ≤ changes_limit → IsKept fs (cs ++ c ∷ []) (bytes + more)
   kept_more es fs cs bytes more kept given length few = record {
     indexed = indexed_more es fs cs given kept.indexed;
     counted = (λ i. kept.counted i + length i) ∙ sym (sum_by_push change_length cs c);

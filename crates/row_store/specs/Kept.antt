@@ -6,8 +6,9 @@ use Rattle.std.specs.Option.{option_map}
 use Rattle.dtx_values.specs.declared.value.Value.{Value}
 use Rattle.dtx_values.specs.declared.row.Row.{Row}
 use Rattle.dtx_values.specs.declared.row.Change.{Change}
-use Rattle.sql_eval.specs.Words.{same_text}
-use Rattle.sql_eval.specs.Rows.{same_value}
+use Rattle.dtx_values.specs.Limits.{changes_limit}
+use Rattle.sql_check.specs.Words.{same_text}
+use Rattle.dtx_values.specs.Order.{same_value}
 use Rattle.row_store.specs.declared.changed_key.ChangedKey.{ChangedKey}
 use Rattle.row_store.specs.Own.{is_change_of, changes_length}
 
@@ -19,7 +20,7 @@ is_key table key k = same_text (cow_value k.table) table && same_value (cow_valu
 abbrev pub place_at : List (ChangedKey × ℕ) → List ℕ → Value → Option ℕ
 place_at places table key = lookup (is_key table key) places
 
--- the place of the last change at a key, among changes of which the first has this place
+-- the place of the last change at a key, where the first of the changes has this place
 abbrev pub last_place : ℕ → List Change → List ℕ → Value → Option ℕ → Option ℕ
 last_place place [] table key last = last
 last_place place (c ∷ cs) table key last = last_place (place + 1) cs table key (if is_change_of table key c then Some place else last)
@@ -33,4 +34,4 @@ after_at cs (Some place) = option_map (λ c. c.after) (slice_get cs place)
 pub record IsKept (places : List (ChangedKey × ℕ)) (changes : List Change) (bytes : ℕ) : Type 0 where
   pub indexed : (table : List ℕ) (key : Value) → place_at places table key ≡ last_place 0 changes table key None
   pub counted : bytes ≡ changes_length changes
-  pub few : changes_length changes ≤ 8388608
+  pub few : changes_length changes ≤ changes_limit

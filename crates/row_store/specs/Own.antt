@@ -1,11 +1,14 @@
 -- What a branch has changed, what it sees of a table, and the undo that it holds.
-use Rattle.std.specs.Prelude.{ℕ, ◌+◌, ◌/◌, ◌&&◌, Bool, if◌then◌else◌, List, [], ◌∷◌, ◌++◌, sum_by, Option, Some}
+use Rattle.std.specs.Int.{div_ceil}
+use Rattle.std.specs.Prelude.{ℕ, ◌+◌, ◌&&◌, Bool, if◌then◌else◌, List, [], ◌∷◌, ◌++◌, sum_by, Option, Some}
 use Rattle.dtx_values.specs.declared.value.Value.{Value}
 use Rattle.dtx_values.specs.declared.row.Row.{Row}
 use Rattle.dtx_values.specs.declared.row.Change.{Change}
 use Rattle.sql_eval.specs.declared.keyed.Keyed.{Keyed}
-use Rattle.sql_eval.specs.Words.{same_text}
-use Rattle.sql_eval.specs.Rows.{same_value, get, apply, change_length}
+use Rattle.dtx_values.specs.Limits.{extent_size}
+use Rattle.sql_check.specs.Words.{same_text}
+use Rattle.dtx_values.specs.Order.{same_value}
+use Rattle.sql_eval.specs.Rows.{get, apply, change_length}
 use Rattle.row_store.specs.Tables.{TableRows, rows_of_table}
 
 -- What a branch has changed so far, in order, and how many bytes the undo of that takes.
@@ -47,6 +50,6 @@ before view c = record c { after = get view c.key }
 abbrev pub undo_length : List Keyed → List Change → ℕ
 undo_length view cs = sum_by (λ c. change_length (before view c)) cs
 
--- so many bytes over 4,096, rounded up
+-- the extents that so many bytes of undo take: each is full but for the last
 abbrev pub extents : ℕ → ℕ
-extents bytes = (bytes + 4095) / 4096
+extents bytes = div_ceil bytes extent_size

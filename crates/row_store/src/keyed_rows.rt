@@ -3,7 +3,6 @@ ghost use Rattle.std.specs.Prelude.{◌≡◌, ◌↔◌, [], length, IsTrue, If
 ghost use Rattle.std.specs.Option.{option_copied};
 ghost use Rattle.std.specs.List.Sorted.{IsStrictlySortedBy};
 ghost use Rattle.dtx_values.specs.Order.{value_cmp};
-ghost use Rattle.sql_eval.specs.Laws.{at_key as at_key_of};
 ghost use Rattle.sql_eval.specs.Rows.{get as get_of, put as put_of, without as without_of, set_to, apply as apply_of, keys_of};
 
 use dtx_values::{Change, Duplicate, Name, Row, Value};
@@ -64,35 +63,6 @@ impl KeyedRows {
         self.rows.get(key)
     }
 
-    /// A copy of the row at a key, if there is one: all that a statement that fixes the key depends on.
-    #[tactic(auto, using(crate::proofs::AtKey::at_key_is))]
-    pub fn at_key(&self, alloc: Global, key: &Value) -> Result<Vec<Keyed>, AllocError>
-        ensures { IfOk result (λ keyed. keyed.items ≡ at_key_of self.now key.now) }
-    {
-        let mut copies = Vec::with_capacity(alloc, self.len().min(1))?;
-        if let Some(row) = self.get(key) {
-            copies.push(Keyed {
-                key: key.copy(alloc)?,
-                row: row.copy(alloc)?,
-            })?;
-        }
-        Ok(copies)
-    }
-
-    /// A copy of all rows, in key order.
-    pub fn keyed(&self, alloc: Global) -> Result<Vec<Keyed>, AllocError>
-        ensures { IfOk result (λ keyed. keyed.items ≡ self.now) }
-    {
-        let mut all = Vec::with_capacity(alloc, self.len())?;
-        for (key, row) in self.rows.iter() {
-            all.push(Keyed {
-                key: key.copy(alloc)?,
-                row: row.copy(alloc)?,
-            })?;
-        }
-        Ok(all)
-    }
-
     /// Puts a row at a key, in place of the one that may be there.
     pub fn put(&mut self, key: Value, row: Row) -> Result<(), AllocError>
         ensures ok { OnOk result (self.new ≡ put_of self.old key row) }
@@ -123,21 +93,21 @@ impl KeyedRows {
         }
     }
 
-    /// Makes the changes of a table in their order. After an error some of them may have been made.
-    pub fn apply(
-        &mut self,
+    /// The rows after the changes of a table, made in their order.
+    pub fn changed(
+        mut self,
         alloc: Global,
         table: &Name,
         changes: &[Change],
-    ) -> Result<(), AllocError>
-        ensures { OnOk result (self.new ≡ apply_of table.now self.old changes.now) }
+    ) -> Result<KeyedRows, AllocError>
+        ensures { IfOk result (λ rows. rows ≡ apply_of table.now self changes.now) }
     {
         for change in changes {
             if change.table.is(table) {
                 self.set(alloc, &change.key, &change.after)?;
             }
         }
-        Ok(())
+        Ok(self)
     }
 
     /// All rows, in key order.

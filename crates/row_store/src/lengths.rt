@@ -1,11 +1,11 @@
 //! How many bytes values, rows and changes take. No memory could hold changes whose bytes 64 bits cannot count, so such a
-//! count is answered as want of memory.
-ghost use Rattle.std.specs.Prelude.{◌≡◌, ◌+◌, ◌^◌, ◌<◌, ◌≤◌, sum_by, IfOk, OnErr};
+//! count is answered as out of memory.
+ghost use Rattle.std.specs.Prelude.{◌≡◌, ◌+◌, ◌^◌, ◌≤◌, sum_by, IfOk, OnErr};
 ghost use Rattle.std.specs.Option.{option_copied};
 ghost use Rattle.sql_eval.specs.Rows.{value_length, row_length, change_length};
 ghost use Rattle.row_store.specs.Own.{changes_length, extents as extents_of};
 
-use dtx_values::{Change, Row, Value};
+use dtx_values::{Change, EXTENT_SIZE, Row, Value};
 use std::alloc::AllocError;
 
 /// The bytes of a value: one for NULL, nine for a number, and three more than its own for a text.
@@ -60,12 +60,11 @@ pub fn changes_len(changes: &[Change]) -> Result<u64, AllocError>
     Ok(bytes)
 }
 
-/// So many bytes over 4,096, rounded up.
+/// The extents that so many bytes of undo take, each of `EXTENT_SIZE` bytes.
 pub fn extents(bytes: u64) -> u64
-    requires { bytes + 4095 < 2 ^ 64 }
     ensures { result ≡ extents_of bytes }
 {
-    (bytes + 4095) / 4096
+    bytes.div_ceil(EXTENT_SIZE)
 }
 
 /// A sum, where 64 bits can hold it.

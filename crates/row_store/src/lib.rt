@@ -5,7 +5,8 @@
 //! rules' definition of its name says of that list.
 //!
 //! Rows are kept in a tree by their keys, tables in a hash table by their names, and the place of the last change at each
-//! key of a branch in another. So a call on one key touches this key alone.
+//! key of a branch in another. So a call on one key touches this key alone. A call that returns an `AllocError` fails where
+//! memory runs out.
 #![tactic(auto)]
 
 mod changed_key;

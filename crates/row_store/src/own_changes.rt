@@ -1,6 +1,7 @@
 //! What a branch has changed so far.
 ghost use Rattle.std.specs.Prelude.{◌≡◌, ◌+◌, ◌^◌, ◌<◌, ◌≤◌, [], ◌∷◌, ◌++◌, length, None, OnOk, OnErr};
 ghost use Rattle.std.specs.Option.{option_copied};
+ghost use Rattle.dtx_values.specs.Limits.{changes_limit};
 ghost use Rattle.row_store.specs.Own.{nothing_changed, with_changes, changes_length, last_at as last_at_of};
 ghost use Rattle.row_store.specs.Kept.{last_place, after_at as after_at_of};
 
@@ -12,7 +13,7 @@ use std::alloc::{AllocError, Global};
 use std::borrow::Cow;
 use std::marker::Model;
 
-/// The changes of a branch, in order, of at most 8,388,608 bytes, and the bytes of their undo. The last change at a key is
+/// The changes of a branch, in order, of at most `CHANGES_LIMIT` bytes, and the bytes of their undo. The last change at a key is
 /// found by a hash table of the keys.
 #[derive(Drop)]
 pub struct OwnChanges {
@@ -50,7 +51,7 @@ impl OwnChanges {
     /// The changes in order.
     pub fn changes(&self) -> &[Change]
         ensures changes { result.now ≡ self.now.changes }
-        ensures few { length self.now.changes ≤ 8388608 }
+        ensures few { length self.now.changes ≤ changes_limit }
     {
         self.changes.as_slice()
     }
@@ -58,7 +59,7 @@ impl OwnChanges {
     /// The bytes of the changes.
     pub fn bytes(&self) -> u64
         ensures bytes { result ≡ changes_length self.now.changes }
-        ensures few { changes_length self.now.changes ≤ 8388608 }
+        ensures few { changes_length self.now.changes ≤ changes_limit }
     {
         self.bytes
     }
@@ -80,7 +81,7 @@ impl OwnChanges {
     /// Adds the changes of one more statement, and the bytes of their undo. After an error some of them may be there, and
     /// their undo is not.
     pub fn push_all(&mut self, alloc: Global, changes: Changes, undo: u64) -> Result<(), AllocError>
-        requires room { changes_length (self.old.changes ++ changes) ≤ 8388608 }
+        requires room { changes_length (self.old.changes ++ changes) ≤ changes_limit }
         requires undo { self.old.undo + undo < 2 ^ 64 }
         ensures { OnOk result (self.new ≡ with_changes self.old changes undo) }
     {
@@ -94,7 +95,7 @@ impl OwnChanges {
     /// The changes alone.
     pub fn into_changes(self) -> Changes
         ensures changes { result ≡ self.changes }
-        ensures few { length self.changes ≤ 8388608 }
+        ensures few { length self.changes ≤ changes_limit }
     {
         Listing::of(self.changes)
     }
@@ -112,7 +113,7 @@ impl OwnChanges {
 
     // Adds a change behind the others.
     fn push(&mut self, alloc: Global, change: Change) -> Result<(), AllocError>
-        requires { changes_length (self.old.changes ++ change ∷ []) ≤ 8388608 }
+        requires { changes_length (self.old.changes ++ change ∷ []) ≤ changes_limit }
         ensures ok { OnOk result (self.new ≡ with_changes self.old (change ∷ []) 0) }
         ensures err { OnErr result (self.new ≡ self.old) }
     {

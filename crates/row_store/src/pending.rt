@@ -7,6 +7,7 @@ use tran_ids::BranchId;
 /// What one statement changed.
 #[derive(Debug, Drop)]
 pub struct ChangeSet {
+    /// The changes, in order.
     pub changes: Changes,
     /// The key of each change, with the row from before it.
     pub undo: Changes,
@@ -18,6 +19,7 @@ pub type ChangeSets = Listing<ChangeSet>;
 /// What a live branch has changed.
 #[derive(Debug, Drop)]
 pub struct Owned {
+    /// The branch.
     pub branch: BranchId,
     /// One for each statement that was accepted.
     pub sets: ChangeSets,
@@ -29,7 +31,9 @@ pub type OwnedList = Listing<Owned>;
 /// What a branch in doubt holds back.
 #[derive(Debug, Drop)]
 pub struct Doubt {
+    /// The branch.
     pub branch: BranchId,
+    /// Its changes, in order.
     pub changes: Changes,
     /// The key of each change, with the row from before it.
     pub undo: Changes,

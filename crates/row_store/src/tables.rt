@@ -3,7 +3,7 @@ ghost use Rattle.std.specs.Prelude.{◌≡◌, [], ◌∷◌, false, MatchOption
 ghost use Rattle.std.specs.List.{list_any};
 ghost use Rattle.std.specs.List.Sorted.{IsStrictlySortedBy};
 ghost use Rattle.dtx_values.specs.Order.{value_cmp};
-ghost use Rattle.sql_eval.specs.Words.{same_text};
+ghost use Rattle.sql_check.specs.Words.{same_text};
 ghost use Rattle.sql_eval.specs.Rows.{keys_of};
 ghost use Rattle.row_store.specs.Tables.{apply_all, rows_of_table, with_table};
 

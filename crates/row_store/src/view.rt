@@ -85,8 +85,8 @@ impl<'a> View<'a> {
     pub fn keyed(&self, alloc: Global) -> Result<Vec<Keyed>, AllocError>
         ensures { IfOk result (λ keyed. keyed.items ≡ self.now) }
     {
-        let mut rows = copied(alloc, self.rows)?;
-        rows.apply(alloc, self.table, self.own.changes())?;
+        let rows = copied(alloc, self.rows)?;
+        let rows = rows.changed(alloc, self.table, self.own.changes())?;
         rows.into_keyed(alloc)
     }
 

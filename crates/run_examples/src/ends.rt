@@ -4,7 +4,7 @@ use script_run::{Run, Status, run_script};
 use std::alloc::{AllocError, Global};
 
 /// How many bytes a sink takes.
-const ROOM: usize = 65_536;
+const ROOM: usize = 131_072;
 
 /// Five commands, each with its answer. Four are calls with a turn: a table is made, and a transaction decided.
 const SCRIPT: &[u8] =
@@ -17,7 +17,7 @@ const REPORT: &[u8] =
 const LONGEST: usize = 1_048_576;
 
 /// The end of a run, and how many answers, happenings and entries there are.
-type Ended = (Status, [usize; 3]);
+pub(crate) type Ended = (Status, [usize; 3]);
 
 /// Of a run that does nothing.
 const NOTHING: [usize; 3] = [0; 3];
@@ -41,7 +41,7 @@ fn counts(run: &Run) -> [usize; 3] {
 
 /// How a run of a script ends, where the calls of these numbers fail at the source and the sink, each but 0; nothing where
 /// it writes other bytes than are due.
-fn ended(
+pub(crate) fn ended(
     alloc: Global,
     words: &[&str],
     script: &[u8],

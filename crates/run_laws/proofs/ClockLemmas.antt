@@ -5,7 +5,7 @@ use Rattle.node_rules.specs.Data.{Decision, Place, Input}
 use Rattle.node_rules.specs.Data.decisions
 use Rattle.node_rules.specs.Data.inputs
 use Rattle.node_rules.specs.Data.acts
-use Rattle.node_rules.specs.declared.next.Next.TheVariants as nexts
+use Rattle.commit_forget.specs.declared.next.Next.TheVariants as nexts
 use Rattle.node_rules.specs.Kept.{Kept, Deed}
 use Rattle.node_rules.specs.Records.{applied, raised_by}
 use Rattle.node_rules.specs.Turn.{turn_of, heard, deed_of}

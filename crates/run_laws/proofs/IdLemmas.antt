@@ -51,7 +51,7 @@ given_before (In_session now low seq) = omega (arith, now)
 given_before (Over_link now high new) = omega (arith, now)
 
 -- and stays given out
-given_still : {boot : ℕ} {ms : List ℕ} {opened : ℕ} {b : BranchId} (more : List ℕ) (later : ℕ) → ((n : ℕ) → seq_at ms n ≤ seq_at more n) → opened ≤ later → Given boot ms opened b
+pub given_still : {boot : ℕ} {ms : List ℕ} {opened : ℕ} {b : BranchId} (more : List ℕ) (later : ℕ) → ((n : ℕ) → seq_at ms n ≤ seq_at more n) → opened ≤ later → Given boot ms opened b
     → Given boot more later b
 given_still more later rise links (Before old) = Before old
 given_still {b = b} more later rise links (In_session now low seq) = In_session now low (omega (arith, seq, rise b.session))

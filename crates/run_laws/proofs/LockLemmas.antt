@@ -7,7 +7,7 @@ use Rattle.stmt_run.specs.Run.{locks_after, take_keys}
 use Rattle.node_rules.specs.Data.{Value, Change, Table, BranchId, Sealed, Place, Input, Doubt, Live}
 use Rattle.node_rules.specs.Data.records
 use Rattle.node_rules.specs.Data.acts
-use Rattle.node_rules.specs.declared.next.Next.TheVariants as nexts
+use Rattle.commit_forget.specs.declared.next.Next.TheVariants as nexts
 use Rattle.node_rules.specs.Words.{same, is_item_of, put_item, drop_item}
 use Rattle.node_rules.specs.Kept.{Kept, Deed, live_id, doubt_id, without_branch}
 use Rattle.node_rules.specs.Records.{applied, with_record, with_doubt, take_changed, doubt_over}

@@ -107,7 +107,7 @@ NodesAre I places f = (n : ℕ) (k : Kept) → node_at f n ≡ Some k → I (pla
 
 module _ (J : Place → List RedoRecord → Type 0) (I : Place → List RedoRecord → Kept → Type 0) (each : Keeps J I) where
   -- a disk, and what its node keeps
-  abbrev Stands : Place → Option Kept → List RedoRecord → Type 0
+  abbrev pub Stands : Place → Option Kept → List RedoRecord → Type 0
   Stands p o rs = J p rs × IfSome o (I p rs)
 
   -- of a node that is up
@@ -131,7 +131,7 @@ module _ (J : Place → List RedoRecord → Type 0) (I : Place → List RedoReco
 
   module _ (places : List Place) (f : Facts) (n : ℕ) (now : Stands (place_at places n) (node_at f n) (records_at f n)) where
     -- what holds of the node, where it is up
-    at_node : (k : Kept) → node_at f n ≡ Some k → I (place_at places n) (records_at f n) k
+    pub at_node : (k : Kept) → node_at f n ≡ Some k → I (place_at places n) (records_at f n) k
     at_node k is = subst (λ o. IfSome o (I (place_at places n) (records_at f n))) is now.1
 
     -- what stood before the turn, and what the turn is
@@ -150,11 +150,11 @@ module _ (J : Place → List RedoRecord → Type 0) (I : Place → List RedoReco
     stands_on (Starts boot down next) = is_up _ _ _ (each.starts (place_at places n) (records_at f n) boot now.0 next)
 
   -- All disks with their nodes, and there are as many disks as nodes.
-  record AllStand (places : List Place) (f : Facts) : Type 0 where
+  pub record AllStand (places : List Place) (f : Facts) : Type 0 where
     pub even : length f.nodes ≡ length f.records
     pub nodes : (n : ℕ) → Stands (place_at places n) (node_at f n) (records_at f n)
 
-  all_stand_on : (places : List Place) (asked : List Command) (f : Facts) (h : Happening) → AllStand places f → MayHappen places asked f h → AllStand places (facts_after places asked f h)
+  pub all_stand_on : (places : List Place) (asked : List Command) (f : Facts) (h : Happening) → AllStand places f → MayHappen places asked f h → AllStand places (facts_after places asked f h)
   all_stand_on places asked f h now may = record { even = even_after places f asked now.even h; nodes = λ n. stands_on places f n (now.nodes n) (goes_so places f asked now.even h n may) }
 
   -- ---- from the first happening on
@@ -169,7 +169,7 @@ module _ (J : Place → List RedoRecord → Type 0) (I : Place → List RedoReco
   first_stands (q ∷ ps) (suc zero) p = is_up p _ _ (each.starts p [] 1 (each.empty p) refl)
   first_stands (q ∷ ps) (suc (suc i)) p = first_stands ps (suc i) p
 
-  first_all : (places : List Place) → AllStand places (first_facts places)
+  pub first_all : (places : List Place) → AllStand places (first_facts places)
   first_all places = record { even = first_even places; nodes = λ n. first_stands places n (place_at places n) }
 
   module _ (t : History) (lawful : IsLawfulRun t) (K : Facts → Trail → Type 0) (first : K (first_facts t.places) no_trail)

@@ -8,7 +8,7 @@ use Rattle.node_rules.specs.declared.session.PendingCall.TheVariants as pending
 use Rattle.node_rules.specs.declared.session.Session.{Session}
 use Rattle.node_rules.specs.Words.{numbered, set_numbered}
 use Rattle.node_rules.specs.Refusals.{dtx}
-use Rattle.node_rules.specs.Sessions.{fresh_session, session_at, with_session, with_call, needs_rollback, no_transaction, commit_is_pending, commit_ended}
+use Rattle.node_rules.specs.Sessions.{fresh_session, session_at, with_call, needs_rollback, no_transaction, commit_is_pending, commit_ended}
 use Rattle.node_rules.specs.Calls.{call_pends, answered_sessions, heard_sessions, is_gone}
 use Rattle.node_rules.specs.Prepare.{abandoned_sessions}
 use Rattle.node_rules.specs.Commit.{decided_sessions}
@@ -36,7 +36,7 @@ slice_seqs [] i s = refl
 slice_seqs (x ∷ ss) zero s = refl
 slice_seqs (x ∷ ss) (suc i) s = ap (λ ms. x.seq ∷ ms) (slice_seqs ss i s)
 
-pub set_seqs : (ss : List Session) (n : ℕ) (s : Session) → seqs (with_session ss n s) ≡ set_numbered (seqs ss) n s.seq
+pub set_seqs : (ss : List Session) (n : ℕ) (s : Session) → seqs (set_numbered ss n s) ≡ set_numbered (seqs ss) n s.seq
 set_seqs ss zero s = refl
 set_seqs ss (suc i) s = slice_seqs ss i s
 
@@ -46,7 +46,7 @@ still_slice [] i s same = refl
 still_slice (x ∷ ss) zero s same = ap (λ m. m ∷ seqs ss) same
 still_slice (x ∷ ss) (suc i) s same = ap (λ ms. x.seq ∷ ms) (still_slice ss i s same)
 
-pub still_seqs : (ss : List Session) (n : ℕ) (s : Session) → s.seq ≡ (session_at ss n).seq → seqs (with_session ss n s) ≡ seqs ss
+pub still_seqs : (ss : List Session) (n : ℕ) (s : Session) → s.seq ≡ (session_at ss n).seq → seqs (set_numbered ss n s) ≡ seqs ss
 still_seqs ss zero s same = refl
 still_seqs ss (suc i) s same = still_slice ss i s same
 
@@ -61,7 +61,7 @@ module _ (ss : List Session) where
 
   pub ended_seqs : (root : BranchId) → seqs (commit_ended ss root) ≡ seqs ss
   ended_seqs root =
-      cond_both (commit_is_pending ss root) (with_session ss root.session (no_transaction (session_at ss root.session))) ss (λ more. seqs more ≡ seqs ss)
+      cond_both (commit_is_pending ss root) (set_numbered ss root.session (no_transaction (session_at ss root.session))) ss (λ more. seqs more ≡ seqs ss)
       (λ is. still_seqs ss root.session (no_transaction (session_at ss root.session)) refl) (λ other. refl)
 
   pub pends_seqs : (l : Live) → seqs (call_pends ss l) ≡ seqs ss

@@ -10,10 +10,10 @@ use Rattle.node_rules.specs.Data.records
 use Rattle.node_rules.specs.Data.inputs
 use Rattle.node_rules.specs.Data.acts
 use Rattle.session_tree.specs.Live.{children_of, peer_of, new_edge}
-use Rattle.node_rules.specs.declared.post.Post.{Post}
+use Rattle.reco.specs.declared.post.Post.{Post}
 use Rattle.node_rules.specs.declared.session.Session.{Session}
-use Rattle.node_rules.specs.declared.next.Beyond.{Beyond}
-use Rattle.node_rules.specs.declared.next.Next.TheVariants as nexts
+use Rattle.commit_forget.specs.declared.next.Beyond.{Beyond}
+use Rattle.commit_forget.specs.declared.next.Next.TheVariants as nexts
 use Rattle.node_rules.specs.Words.{same, item_at, put_item, put_by_branch}
 use Rattle.node_rules.specs.Kept.{Kept, Branch, Deed, post_one, to_each, to_one, standing_id}
 use Rattle.session_tree.specs.Tree.{step as step_from}
@@ -21,7 +21,8 @@ use Rattle.node_rules.specs.Calls.{answer_says, exec_to, with_edge, hears_reply}
 use Rattle.node_rules.specs.Statement.{ran, after_run}
 use Rattle.node_rules.specs.Prepare.{path_of, prepares, site_neighbors, sealed_record, decided_record}
 use Rattle.node_rules.specs.Commit.{acked_by, all_acked, beyond, is_neighbor, passes_commit, rollback_to, passes}
-use Rattle.node_rules.specs.Recovery.{Asking, asking_id, asks_live, asks_kept, acks_again, recovers, askings, tells, ask_answer}
+use Rattle.reco.specs.declared.told.Told.TheVariants as tolds
+use Rattle.node_rules.specs.Recovery.{Asking, asking_id, told_by, told_kind, asks_live, asks_kept, acks_again, recovers, askings, tells, ask_answer}
 use Rattle.node_rules.specs.Turn.{turn_of, heard, deed_of, stamped}
 use Rattle.node_rules.proofs.Steps as steps
 use Rattle.node_rules.proofs.Steps.{Step, Says, IsKept}
@@ -110,7 +111,7 @@ module _ (rows : List Standing) (w : Option RedoRecord) where
   known_told s (Some decisions.Rollback) is knows = tt
 
   asked_told : (s : Standing) (from : BranchId) → KnowsItsOwn rows s → MayTell rows w s.me (ask_answer s from)
-  asked_told s from knows = cond_both (is_neighbor s from) _ _ (MayTell rows w s.me) (λ near. known_told s s.decision refl knows) (λ other. tt)
+  asked_told s from knows = cond_both (is_neighbor s from) (told_by s.decision) tolds.RolledBack (λ t. MayTell rows w s.me (told_kind t)) (λ near. known_told s s.decision refl knows) (λ other. tt)
 
   -- ---- recovery
 
@@ -173,10 +174,10 @@ module _ (p : Place) (input : Input) where
   step_tells (steps.Goes_nowhere {k = k} x s given r asked way) = answer_told (rows_at k) None x _ x.live.parent
   step_tells (steps.Calls {k = k} x s given i table asked way) = exec_told (rows_at k) None k.sessions x i _ given (peer_of x.live i)
   step_tells (steps.Opens x s given node link table asked way) = (tt, tt)
-  step_tells (steps.Goes_on {k = k} x from strength g link opened) = exec_told (rows_at k) None k.sessions (with_edge x (new_edge from link strength)) (length x.live.edges) g.statement (g.room - 1) _
+  step_tells (steps.Goes_on {k = k} x from strength g link opened) = exec_told (rows_at k) None k.sessions (with_edge x (new_edge from link strength)) (length x.live.edges + 1) g.statement (g.room - 1) _
   step_tells (steps.Hears_reply {k = k} x weight count a i e answered) = answer_told (rows_at k) None (hears_reply x i weight count e) _ x.live.parent
   step_tells (steps.Opens_branch to parent edge root depth came new) = (tt, tt)
-  step_tells (steps.Acts {k = k} l site_below acts.AskDown why) = prepares_told (rows_at k) None l.me l.comment (path_of site_below (step_from l)) 0 l.edges
+  step_tells (steps.Acts {k = k} l site_below acts.AskDown why) = prepares_told (rows_at k) None l.me l.comment (path_of site_below (step_from l)) 1 l.edges
   step_tells (steps.Acts {k = k} l site_below acts.SayReadOnly why) = one_told (rows_at k) None l.me kinds.ReadOnly l.parent tt
   step_tells (steps.Acts {k = k} l site_below acts.SayReady why) = one_told (rows_at k) None l.me kinds.Ready l.parent tt
   step_tells (steps.Acts {k = k} l site_below acts.Seal why) = one_told (rows_at k) (Some (sealed_record k l None)) l.me kinds.Prepared l.parent tt

@@ -10,7 +10,7 @@ use Rattle.run_laws.specs.Facts.{Facts, node_at}
 
 -- call numbers
 abbrev pub CallsAreBelow : Work → Type 0
-CallsAreBelow w = (w.last_call < 2 ^ 22) × AllByRecursion (λ call. call < 2 ^ 22) w.calls
+CallsAreBelow w = (w.came.last_call < 2 ^ 22) × AllByRecursion (λ call. call < 2 ^ 22) w.calls
 
 -- What a node keeps: how often it started, the sessions, transactions and calls that it has counted, its clock, the rows that a branch sees of a table.
 pub record KeptIsBelow (k : Kept) : Type 0 where

@@ -1,7 +1,7 @@
 -- What the happenings so far tell of branches: how each began, how it stopped being live, its children, its own changes
--- and the keys that it holds, the runs that answers came from, and the plans of the COMMITs that were accepted. All of it
--- is read off the happenings; no node is asked what it remembers. (Database Administrator's Guide, "Distributed
--- Transactions Concepts".)
+-- and the keys that it holds, the runs that answers came from, and the plans of the COMMITs that were accepted. It is read
+-- off the happenings: off their inputs, records and messages, and what the rules answer to the statement of a turn.
+-- (Database Administrator's Guide, "Distributed Transactions Concepts".)
 use Rattle.std.specs.Prelude.{ℕ, ◌==◌, ◌&&◌, Bool, false, if◌then◌else◌, List, [], ◌∷◌, ◌++◌, filter, find, flat_map, is_none, Option, Some, None}
 use Rattle.std.specs.List.{list_any, list_all}
 use Rattle.node_rules.specs.Data.{Value, Change, Table, Stmt, BranchId, Standing}
@@ -175,22 +175,22 @@ abbrev pub origin_at : Trail → ℕ → Option Run
 origin_at tr k = origin_of (find (λ o. o.message == k) tr.origins)
 
 -- What a branch is at a moment.
-pub data Standing_as : Type 0 where
-  Unborn : Standing_as  -- it has not begun
-  Live : Standing_as  -- it takes part in its transaction
-  Kept : Standing_as  -- its node's records keep a row of it
-  Gone : Standing_as  -- it is neither
+pub data Life : Type 0 where
+  Unborn : Life  -- it has not begun
+  Live : Life  -- it takes part in its transaction
+  Kept : Life  -- its node's records keep a row of it
+  Gone : Life  -- it is neither
 
 -- by the records of its node
-abbrev pub kept_as : Option Standing → Standing_as
-kept_as None = Gone
-kept_as (Some row) = Kept
+abbrev pub life_kept : Option Standing → Life
+life_kept None = Gone
+life_kept (Some row) = Kept
 
--- the standing of a branch that began
-abbrev pub standing_of : Facts → BranchId → Option Seen → Standing_as
-standing_of f b None = Unborn
-standing_of f b (Some s) = if is_live s then Live else kept_as (item_at standing_id (durable (records_at f b.node)).kept b)
+-- the same of a branch that began, or did not
+abbrev pub life_of : Facts → BranchId → Option Seen → Life
+life_of f b None = Unborn
+life_of f b (Some s) = if is_live s then Live else life_kept (item_at standing_id (durable (records_at f b.node)).kept b)
 
--- the standing of a branch
-unfoldable pub standing : Facts → Trail → BranchId → Standing_as
-standing f tr b = standing_of f b (seen_at tr b)
+-- what a branch is now
+unfoldable pub life_at : Facts → Trail → BranchId → Life
+life_at f tr b = life_of f b (seen_at tr b)

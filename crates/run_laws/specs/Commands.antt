@@ -13,11 +13,11 @@ use Rattle.run_laws.specs.Data.said
 use Rattle.run_laws.specs.Data.commands
 use Rattle.net_bag.specs.Net.{may_deliver, may_repeat}
 use Rattle.run_laws.specs.Shown.{shown}
-use Rattle.run_laws.specs.Disks.{Plan, opens_gate}
+use Rattle.run_laws.specs.Disks.{DiskOrders, opens_gate}
 use Rattle.run_laws.specs.Calls.{call_at}
 use Rattle.run_laws.specs.Lines.{fine, is_down, refuses_with, told}
 use Rattle.run_laws.specs.Facts.{Facts, is_up, node_at}
-use Rattle.run_laws.specs.Telling.{Call, Telling, Page, node_name, no_page, plan_at}
+use Rattle.run_laws.specs.Telling.{Call, Telling, Page, node_name, no_page, orders_at}
 
 -- this, or DTX-01 where the node is down
 abbrev pub if_up : List Place → Facts → ℕ → List Said → List Said
@@ -88,10 +88,10 @@ hold_after hold (commands.Hold on) = on
 hold_after hold _ = hold
 
 -- CRASH and FAULT are orders on a node's disk; a later one of the same kind takes the place of an earlier one
-abbrev pub plans_after : Telling → Command → List Plan
-plans_after t (commands.Crash n write how) = set_numbered t.plans n (record (plan_at t n) { stop = Some (record { write = write; opens = opens_gate how }) })
-plans_after t (commands.Fault n call) = set_numbered t.plans n (record (plan_at t n) { fault = Some call })
-plans_after t _ = t.plans
+abbrev pub orders_after : Telling → Command → List DiskOrders
+orders_after t (commands.Crash n write how) = set_numbered t.orders n (record (orders_at t n) { stop = Some (record { write = write; opens = opens_gate how }) })
+orders_after t (commands.Fault n call) = set_numbered t.orders n (record (orders_at t n) { fault = Some call })
+orders_after t _ = t.orders
 
 -- a new page
 abbrev pub page_of : List Said → Page
@@ -105,6 +105,6 @@ begins places f t c command = record t {
   page = page_of (says_at_once places f t command);
   hold = hold_after t.hold command;
   calls = calls_after f t c command;
-  plans = plans_after t command;
+  orders = orders_after t command;
   lines = told f t;
 }

@@ -9,7 +9,7 @@ use Rattle.node_rules.specs.Kept.{Kept, Outcome}
 use Rattle.node_rules.specs.Points.{Point, Passes, point_of, passes, is_armed, reaches}
 use Rattle.run_laws.specs.Disks.{Strike, struck, after_append}
 use Rattle.run_laws.specs.Calls.{call_at}
-use Rattle.run_laws.specs.Telling.{Call, Telling, plan_at, with_plan}
+use Rattle.run_laws.specs.Telling.{Call, Telling, orders_at, with_orders}
 
 -- What cuts a turn: a point before its record, an order that strikes its append, a point after it.
 pub data Cut_by : Type 0 where
@@ -30,7 +30,7 @@ cut_append t x (Some s) = By_strike s.stands
 -- only a turn with a record makes an append
 abbrev pub cut_write : Telling → ℕ → Option Passes → Option RedoRecord → Cut_by
 cut_write t n x None = By_nothing
-cut_write t n x (Some r) = cut_append t x (struck 0 (plan_at t n))
+cut_write t n x (Some r) = cut_append t x (struck 0 (orders_at t n))
 
 -- a point before the record
 abbrev pub cut_before : Telling → ℕ → Option RedoRecord → Option Passes → Cut_by
@@ -47,7 +47,7 @@ reach root numbers x = if is_armed root numbers x then record x { reached = true
 
 -- the orders on a node's disk after an append that was made after so many other calls
 abbrev pub appends : Telling → ℕ → ℕ → Telling
-appends t n before = with_plan t n (after_append before (plan_at t n))
+appends t n before = with_orders t n (after_append before (orders_at t n))
 
 -- the same where an append was made
 abbrev pub appends_if : Telling → ℕ → Bool → Telling

@@ -8,8 +8,8 @@ pub use Rattle.node_rules.specs.declared.session.PendingCall.TheVariants as pend
 pub use Rattle.node_rules.specs.declared.session.Session.{Session}
 pub use Rattle.node_rules.specs.declared.session.Finished.{Finished}
 pub use Rattle.node_rules.specs.declared.work.Work.{Work}
-pub use Rattle.node_rules.specs.declared.work.Admit.{Admit}
-pub use Rattle.node_rules.specs.declared.work.Admit.TheVariants as admits
+pub use Rattle.link_session.specs.declared.calls.Admit.{Admit}
+pub use Rattle.link_session.specs.declared.calls.Admit.TheVariants as admits
 pub use Rattle.net_bag.specs.declared.packet.Fate.{Fate}
 pub use Rattle.net_bag.specs.declared.packet.Fate.TheVariants as fates
 pub use Rattle.net_bag.specs.declared.packet.Packet.{Packet}

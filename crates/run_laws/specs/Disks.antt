@@ -10,13 +10,13 @@ pub record Stop_order : Type 0 where
   pub opens : Bool
 
 -- The orders that have not struck a disk.
-pub record Plan : Type 0 where
+pub record DiskOrders : Type 0 where
   pub stop : Option Stop_order
   pub fault : Option ℕ
 
 -- no order
-abbrev pub no_plan : Plan
-no_plan = record { stop = None; fault = None }
+abbrev pub no_orders : DiskOrders
+no_orders = record { stop = None; fault = None }
 
 -- whether the first byte that a write leaves is that of an open gate: an open gate is a byte 1
 abbrev pub is_open : List ℕ → Bool
@@ -56,8 +56,8 @@ first_strike (Some s) None = Some s
 first_strike (Some s) (Some f) = if nat_le s.call f.call then Some s else Some f
 
 -- the order that strikes an append first
-unfoldable pub struck : ℕ → Plan → Option Strike
-struck before plan = first_strike (stop_in before plan.stop) (fault_in before plan.fault)
+unfoldable pub struck : ℕ → DiskOrders → Option Strike
+struck before orders = first_strike (stop_in before orders.stop) (fault_in before orders.fault)
 
 -- the orders that are left after so many calls, of which so many were writes
 abbrev pub stop_left : ℕ → Option Stop_order → Option Stop_order
@@ -79,9 +79,9 @@ calls_made before None = before + 4
 calls_made before (Some s) = s.call
 
 -- the orders that are left
-abbrev pub plan_left : ℕ → Plan → ℕ → Plan
-plan_left before plan calls = record { stop = stop_left (writes_by before calls) plan.stop; fault = fault_left calls plan.fault }
+abbrev pub orders_left : ℕ → DiskOrders → ℕ → DiskOrders
+orders_left before orders calls = record { stop = stop_left (writes_by before calls) orders.stop; fault = fault_left calls orders.fault }
 
 -- the orders that an append leaves
-unfoldable pub after_append : ℕ → Plan → Plan
-after_append before plan = plan_left before plan (calls_made before (struck before plan))
+unfoldable pub after_append : ℕ → DiskOrders → DiskOrders
+after_append before orders = orders_left before orders (calls_made before (struck before orders))

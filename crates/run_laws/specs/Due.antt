@@ -10,7 +10,7 @@ use Rattle.run_laws.specs.Data.happenings
 use Rattle.run_laws.specs.Data.commands
 use Rattle.net_bag.specs.Net.{first_flying, may_deliver, may_repeat, packet_at}
 use Rattle.run_laws.specs.Facts.{Facts, node_at, place_at, is_up, command_at, records_at}
-use Rattle.run_laws.specs.Telling.{Past, Telling, Call, plan_at}
+use Rattle.run_laws.specs.Telling.{Past, Telling, Call, orders_at}
 use Rattle.run_laws.specs.Past.{next}
 use Rattle.run_laws.specs.Commands.{is_enabled}
 use Rattle.run_laws.specs.Calls.{call_at}
@@ -163,7 +163,7 @@ happens places p (Cuts a b) = Some (happenings.Cut a b)
 happens places p (Joins a b) = Some (happenings.Join a b)
 happens places p (Loses k) = Some (happenings.Lost k)
 happens places p (Stops n) = Some (happenings.Stopped n)
-happens places p (Starts n) = Some (start_by p.facts n (struck 3 (plan_at p.telling n)))
+happens places p (Starts n) = Some (start_by p.facts n (struck 3 (orders_at p.telling n)))
 happens places p (Begins c) = Some (happenings.Begun c)
 happens places p Ends = None
 

@@ -1,6 +1,6 @@
 -- What holds of every run of a script: the book is that of the trace, what is told is what the rules tell, each answer of a
 -- query is its meaning, branches end as their site decided, forced branches that met another decision are marked, and
--- commit SCNs exceed the seals'.
+-- commit SCNs exceed the seals'. (Database Administrator's Guide, "Distributed Transactions Concepts".)
 use Rattle.std.specs.Prelude.{◌≡◌, ℕ, ◌+◌, ◌^◌, ◌<◌, ◌⊎◌, Bool, true, false, List, [], ◌∷◌, ◌++◌, map, length, Some}
 use Rattle.std.specs.List.{AllByRecursion}
 use Rattle.redo_log.specs.Cells.{bodies}

@@ -1,5 +1,6 @@
 -- Who may write or say what: each record and each message of a turn against its input, the records and what the happenings
--- before tell. It follows from the turns, and is no premise of the laws.
+-- before tell. It follows from the turns, and is no premise of the laws. (Database Administrator's Guide, "Distributed
+-- Transactions Concepts": two-phase commit.)
 use Rattle.std.specs.Prelude.{◌≡◌, ℕ, ◌+◌, ◌⊎◌, ◌||◌, Bool, true, false, if◌then◌else◌, List, [], ◌∷◌, ◌++◌, map, filter, option_to_list, IfSome, Option, Some, None}
 use Rattle.std.specs.List.{AllByRecursion, list_all}
 use Rattle.node_rules.specs.Data.{BranchId, Decision, RedoRecord, Sealed, Decided, Standing, Stmt, Kind, Msg, Input, Place}
@@ -21,7 +22,7 @@ use Rattle.redo_record.specs.Rows.{toward_of}
 use Rattle.run_laws.specs.Data.{Turn, Happening}
 use Rattle.run_laws.specs.Data.happenings
 use Rattle.run_laws.specs.Facts.{Facts, node_at, place_at, records_at}
-use Rattle.run_laws.specs.Branches.{Seen, Trail, Gone, standing, seen_at, own_at, children_at, root_at, is_among, all_voted}
+use Rattle.run_laws.specs.Branches.{Seen, Trail, Gone, life_at, seen_at, own_at, children_at, root_at, is_among, all_voted}
 use Rattle.run_laws.specs.Tree.{tree, parent_of}
 use Rattle.run_laws.specs.Trail.{trail_after, is_first_vote, voted_after}
 use Rattle.run_laws.specs.Each.{AtEach}
@@ -186,7 +187,7 @@ asked_of (Some s) = s.asked
 -- gone branch or on a child's Abort, ReadOnly where nothing was changed there or below, Committed where a record says so
 abbrev pub MaySay : Place → Facts → Trail → Trail → List RedoRecord → Input → BranchId → BranchId → Kind → Type 0
 MaySay p f tr after rs input b to (kinds.Exec call given advice passed) = (s : Stmt) × (asked_of (seen_at after b) ≡ Some s) × PassesOn p f s to passed
-MaySay p f tr after rs input b to kinds.Abort = ((standing f tr b ≡ Gone) × IsPrepare b input) ⊎ IsAbortTo tr b input
+MaySay p f tr after rs input b to kinds.Abort = ((life_at f tr b ≡ Gone) × IsPrepare b input) ⊎ IsAbortTo tr b input
 MaySay p f tr after rs input b to kinds.ReadOnly = HasNoChanges tr b
 MaySay p f tr after rs input b to (kinds.Committed n) = IsRecorded rs b n
 MaySay p f tr after rs input b to _ = Unit {0}

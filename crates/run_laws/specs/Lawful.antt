@@ -118,7 +118,7 @@ abbrev pub MayStop : Facts → ℕ → Option ℕ → Type 0
 MayStop f n (Some m) = (f.losses_to_tell ≡ []) × (m ≡ n)
 MayStop f n None = f.losses_to_tell ≡ []
 
--- how often a node was started, by its records
+-- how many starts of a node its records tell
 abbrev pub boots : List RedoRecord → ℕ
 boots [] = 0
 boots (records.Boot n ∷ rs) = 1 + boots rs

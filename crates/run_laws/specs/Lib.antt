@@ -13,6 +13,7 @@ pub mod Past
 pub mod Due
 pub mod Report
 pub mod Book
+pub mod RunEvents
 pub mod Branches
 pub mod Tree
 pub mod Runs
@@ -26,3 +27,6 @@ pub mod Bounds
 pub mod Headline
 pub mod Laws
 pub mod NodeLaws
+pub mod EventRows
+pub mod EventLaws
+pub mod IdLaws

@@ -1,5 +1,6 @@
 -- What the answers of runs say: a query's rows are its meaning over the rows that the book's committed transactions leave
 -- at its node, with the asker's own changes, and no key that it examines is in doubt; a change counts the rows that it means.
+-- (SQL Language Reference.)
 use Rattle.std.specs.Prelude.{◌≡◌, ℕ, List, slice_get, Some, true}
 use Rattle.std.specs.List.{list_any}
 use Rattle.node_rules.specs.Data.{Value, Change, RowSet, Answer, Place}

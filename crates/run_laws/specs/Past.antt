@@ -13,7 +13,7 @@ use Rattle.run_laws.specs.Commands.{begins}
 use Rattle.run_laws.specs.Cuts.{appends, turn_appends}
 use Rattle.run_laws.specs.Lines.{fine, is_down, with_own, with_stop}
 use Rattle.run_laws.specs.Facts.{Facts, command_at, node_at, outcome_at, facts_turned, facts_after}
-use Rattle.run_laws.specs.Telling.{Past, Telling, plan_at}
+use Rattle.run_laws.specs.Telling.{Past, Telling, orders_at}
 
 -- ---- a turn
 
@@ -95,7 +95,7 @@ abbrev pub telling_after : List Place → List Command → Facts → Telling →
 telling_after places asked f t (happenings.Begun c) = begins places f t c (command_at asked c)
 telling_after places asked f t (happenings.Turn u) = telling_turned f.command (node_at f u.node) t u (outcome_at places f u)
 telling_after places asked f t (happenings.Stopped n) = acts (telling_stopped places asked f t n)
-telling_after places asked f t (happenings.Started n boot) = acts (telling_started places t n (struck 3 (plan_at t n)))
+telling_after places asked f t (happenings.Started n boot) = acts (telling_started places t n (struck 3 (orders_at t n)))
 telling_after places asked f t _ = acts t
 
 -- one happening more

@@ -1,5 +1,6 @@
 -- Where the answer of a statement comes from: the run at the end of its chain of Execs, whose answer came back along the
--- Replies of that chain, for the transaction of its session, and not before its call.
+-- Replies of that chain, for the transaction of its session, and not before its call. (Database Administrator's Guide,
+-- "Distributed Transactions Concepts": session trees.)
 use Rattle.std.specs.Prelude.{◌≡◌, ℕ, ◌+◌, ◌≤◌, true, List, slice_get, Option, Some, None}
 use Rattle.node_rules.specs.Data.{BranchId, Stmt, Answer, Advice, Durable}
 use Rattle.node_rules.specs.Data.kinds

@@ -1,5 +1,5 @@
 -- Which turns run a statement at its table, for which branch, what the run means over the rows that the book leaves, and
--- what its branch has changed and holds afterwards.
+-- what its branch has changed and holds afterwards. (SQL Language Reference.)
 use Rattle.std.specs.Prelude.{ℕ, ◌&&◌, Bool, true, false, if◌then◌else◌, List, [], ◌∷◌, ◌++◌, flat_map, map, filter, nat_lt, is_none, Option, Some, None}
 use Rattle.node_rules.specs.Data.{Value, Change, Table, TableRef, Stmt, Answer, BranchId, Kind, Msg, Input, Keyed}
 use Rattle.node_rules.specs.Data.answers

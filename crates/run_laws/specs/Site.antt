@@ -1,5 +1,6 @@
 -- What every decision has: its branch is the commit point site of the session tree as it stood at the COMMIT, each other
 -- branch with changes on it or below it is sealed, and what a record commits or holds back are its branch's own changes.
+-- (Database Administrator's Guide, "Distributed Transactions Concepts": commit point site.)
 use Rattle.std.specs.Prelude.{◌≡◌, ◌≢◌, ℕ, List, IfSome, slice_get, Some, None}
 use Rattle.std.specs.List.{AllByRecursion}
 use Rattle.node_rules.specs.Data.{BranchId, Place, RedoRecord, Decided}

@@ -6,7 +6,7 @@ use Rattle.node_rules.specs.Words.{numbered, set_numbered}
 use Rattle.node_rules.specs.Ids.{name_of}
 use Rattle.node_rules.specs.Points.{Point}
 use Rattle.run_laws.specs.Data.{Said, AnswerLine}
-use Rattle.run_laws.specs.Disks.{Plan, no_plan}
+use Rattle.run_laws.specs.Disks.{DiskOrders, no_orders}
 use Rattle.run_laws.specs.Facts.{Facts, first_facts, place_at}
 
 -- A pending call: its command, where it was made, the statement of its next turn, and the one that follows its COMMIT.
@@ -32,7 +32,7 @@ pub record Telling : Type 0 where
   pub calls : List Call  -- the pending calls, in order of command
   pub next_call : Option Call  -- the second call of a CREATE, which comes next
   pub start_to_stop : Option ℕ  -- a node that an order struck in its start, after its Boot stood
-  pub plans : List Plan  -- the orders on each node's disk that have not struck
+  pub orders : List DiskOrders  -- the orders on each node's disk that have not struck
   pub points : List Point  -- the points of crash-test comments
   pub lines : List AnswerLine  -- those of the commands before
 
@@ -55,7 +55,7 @@ nothing_told places = record {
   calls = [];
   next_call = None;
   start_to_stop = None;
-  plans = map (λ p. no_plan) places;
+  orders = map (λ p. no_orders) places;
   points = [];
   lines = [];
 }
@@ -69,9 +69,9 @@ abbrev pub node_name : List Place → ℕ → List ℕ
 node_name places n = name_of (place_at places n).names n
 
 -- the orders on a node's disk
-abbrev pub plan_at : Telling → ℕ → Plan
-plan_at t n = unwrap_or (numbered t.plans n) no_plan
+abbrev pub orders_at : Telling → ℕ → DiskOrders
+orders_at t n = unwrap_or (numbered t.orders n) no_orders
 
 -- with other orders on a node's disk
-abbrev pub with_plan : Telling → ℕ → Plan → Telling
-with_plan t n plan = record t { plans = set_numbered t.plans n plan }
+abbrev pub with_orders : Telling → ℕ → DiskOrders → Telling
+with_orders t n orders = record t { orders = set_numbered t.orders n orders }

@@ -1,4 +1,5 @@
--- What each happening adds to what is known of branches.
+-- What each happening adds to what is known of branches. (Database Administrator's Guide, "Distributed Transactions
+-- Concepts".)
 use Rattle.std.specs.Prelude.{ℕ, ◌+◌, ◌==◌, ◌&&◌, ◌||◌, not, Bool, true, false, if◌then◌else◌, List, [], ◌∷◌, ◌++◌, map, filter, length, max, is_none, Option, Some, None}
 use Rattle.std.specs.List.{list_any}
 use Rattle.node_rules.specs.Data.{Change, Stmt, Answer, BranchId, RedoRecord, Kind, Msg, Input, Place}
@@ -75,7 +76,7 @@ abbrev pub voted_after : Seen → Input → List BranchId
 voted_after s (inputs.Message m) = if is_first_vote s m then s.voted ++ m.from ∷ [] else s.voted
 voted_after s _ = s.voted
 
--- whether an answer to this COMMIT refuses it
+-- whether a COMMIT was refused by its answer; one that is still pending has none
 abbrev pub is_refused : Option Answer → Bool
 is_refused None = false
 is_refused (Some a) = not (is_accepted (Some a))
@@ -163,7 +164,7 @@ kind_drops s from _ = false
 abbrev pub message_drops : Seen → Msg → Bool
 message_drops s m = (same m.to s.me && kind_drops s m.from m.kind) || (is_first_vote s m && is_abort m.kind)
 
--- whether the plan of a root has no site
+-- whether a COMMIT was accepted whose session tree has no site, since none of its branches has changes
 abbrev pub has_no_site : Option Plan → Bool
 has_no_site None = false
 has_no_site (Some p) = is_none p.site

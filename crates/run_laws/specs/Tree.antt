@@ -1,13 +1,14 @@
 -- The session tree of a transaction at a moment, the weights in it, the walk to its commit point site, and the plan of a
 -- COMMIT that is accepted then. (Database Administrator's Guide, "Distributed Transactions Concepts": session trees, commit
 -- point site, commit point strength.)
-use Rattle.std.specs.Prelude.{ℕ, zero, suc, Bool, true, false, if◌then◌else◌, List, [], ◌∷◌, map, flat_map, slice_get, is_some, Option, Some, None}
+use Rattle.std.specs.Prelude.{ℕ, zero, suc, Bool, if◌then◌else◌, List, [], ◌∷◌, map, flat_map, slice_get, is_some, Option, Some, None}
+use Rattle.dtx_values.specs.Limits.{depth_limit}
 use Rattle.node_rules.specs.Data.{BranchId, Place, Walk}
 use Rattle.node_rules.specs.Data.walks
-use Rattle.node_rules.specs.Words.{same}
-use Rattle.session_tree.specs.Tree.{place_of_greatest, weight_by, walk_by, most_depth}
+use Rattle.node_rules.specs.Words.{same, numbered}
+use Rattle.session_tree.specs.Tree.{place_of_greatest, weight_by, walk_by}
 use Rattle.run_laws.specs.Facts.{place_at}
-use Rattle.run_laws.specs.Branches.{Seen, Trail, Plan, Planned, seen_at, own_at, children_at}
+use Rattle.run_laws.specs.Branches.{Seen, Trail, Plan, Planned, seen_at, own_at, children_at, is_among}
 
 -- whether a branch has changes
 abbrev pub has_changes : Trail → BranchId → Bool
@@ -20,15 +21,15 @@ strength_of places b = (place_at places b.node).strength
 -- the weight of a branch in a tree of so many levels: its own strength where it has changes, else the greatest weight of its children
 abbrev pub weight_in : ℕ → List Place → Trail → BranchId → Option ℕ
 weight_in zero places tr b = None
-weight_in (suc levels) places tr b = weight_by (has_changes tr b) (strength_of places b) (place_of_greatest 0 (map (weight_in levels places tr) (children_at tr b)) None)
+weight_in (suc levels) places tr b = weight_by (has_changes tr b) (strength_of places b) (place_of_greatest 1 (map (weight_in levels places tr) (children_at tr b)) None)
 
 -- the weight of a branch
 unfoldable pub weight : List Place → Trail → BranchId → Option ℕ
-weight places tr b = weight_in most_depth places tr b
+weight places tr b = weight_in depth_limit places tr b
 
 -- the walk's step from a branch
 unfoldable pub step : List Place → Trail → BranchId → Walk
-step places tr b = walk_by (has_changes tr b) (strength_of places b) (place_of_greatest 0 (map (weight places tr) (children_at tr b)) None)
+step places tr b = walk_by (has_changes tr b) (strength_of places b) (place_of_greatest 1 (map (weight places tr) (children_at tr b)) None)
 
 -- the walk goes on from a child, where it is there
 abbrev pub goes_down : (BranchId → List BranchId) → Option BranchId → List BranchId
@@ -38,7 +39,7 @@ goes_down further (Some c) = further c
 -- by the step from a branch
 abbrev pub walks_by : (BranchId → List BranchId) → BranchId → List BranchId → Walk → List BranchId
 walks_by further b cs walks.Here = b ∷ []
-walks_by further b cs (walks.Down i) = b ∷ goes_down further (slice_get cs i)
+walks_by further b cs (walks.Down i) = b ∷ goes_down further (numbered cs i)
 walks_by further b cs walks.Nowhere = []
 
 -- the branches on the walk from a branch, through so many levels
@@ -48,7 +49,7 @@ walk_in (suc levels) places tr b = walks_by (walk_in levels places tr) b (childr
 
 -- the walk from a root to its commit point site: none where no branch has changes
 unfoldable pub walk : List Place → Trail → BranchId → List BranchId
-walk places tr root = walk_in most_depth places tr root
+walk places tr root = walk_in depth_limit places tr root
 
 -- the last of these
 abbrev pub last_of : List BranchId → Option BranchId
@@ -67,7 +68,7 @@ tree_in (suc levels) tr b = b ∷ flat_map (tree_in levels tr) (children_at tr b
 
 -- the session tree of a root
 unfoldable pub tree : Trail → BranchId → List BranchId
-tree tr root = tree_in most_depth tr root
+tree tr root = tree_in depth_limit tr root
 
 -- the branch after this one on a walk
 abbrev pub next_on : BranchId → List BranchId → Option BranchId
@@ -75,14 +76,9 @@ next_on b [] = None
 next_on b (c ∷ []) = None
 next_on b (c ∷ d ∷ cs) = if same c b then Some d else next_on b (d ∷ cs)
 
--- whether a branch is on a walk
-abbrev pub is_on : BranchId → List BranchId → Bool
-is_on b [] = false
-is_on b (c ∷ cs) = if same c b then true else is_on b cs
-
 -- the neighbour toward the site: the next on the walk, and off it the parent
 abbrev pub toward_by : List BranchId → BranchId → Option BranchId → Option BranchId
-toward_by path b parent = if is_on b path then next_on b path else parent
+toward_by path b parent = if is_among b path then next_on b path else parent
 
 -- the parent of a branch that began
 abbrev pub parent_of : Option Seen → Option BranchId

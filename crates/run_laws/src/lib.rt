@@ -8,6 +8,8 @@
 
 ghost use Rattle.run_laws.specs.Laws.{BookIsOfTrace, FactsAreAlone, PastGoesOn, LawfulGoesOn, RunsArePlayed};
 ghost use Rattle.run_laws.specs.NodeLaws.{ClocksRise, ClocksCover, HoldersAreThere, RecordsAreKept, IdsAreFresh, CommitsAreKnown, CommitsAreRecorded};
+ghost use Rattle.run_laws.specs.EventLaws.{BookOfEvents, JustRunsAreLawful, JustRunsAgree, NodesAreAsEvents, TurnsTellAsEvents, SealedAreKept, GoneAreDone};
+ghost use Rattle.run_laws.specs.IdLaws.{IdsNameTheirNode};
 
 /// The book that the facts keep is the book of the trace.
 pub fn book_is_of_trace()
@@ -68,4 +70,47 @@ pub fn commits_are_known()
 /// A branch tells Committed only where a record of its node says that commit, the turn's own record among them.
 pub fn commits_are_recorded()
     ensures { CommitsAreRecorded }
+{}
+
+/// The events of a run, which agreement speaks of, have the run's book.
+pub fn book_is_of_events()
+    ensures { BookOfEvents }
+{}
+
+/// Where each turn of a run is just, the events of the run are lawful: stops, starts, cuts and losses need nothing.
+pub fn just_runs_are_lawful()
+    ensures { JustRunsAreLawful }
+{}
+
+/// So its branches end as their sites decided, its mixed outcomes are marked, and its decisions exceed their seals.
+pub fn just_runs_agree()
+    ensures { JustRunsAgree }
+{}
+
+/// The live branches of a node, its rows, the branches that were opened there and those that its records name are its own.
+pub fn ids_name_their_node()
+    ensures { IdsNameTheirNode }
+{}
+
+/// A live branch has no exit by the events of the run. The row of a kept branch tells its exit, what it learned, what was
+/// forced on it and whether it forgot as the events do.
+pub fn nodes_are_as_events()
+    ensures { NodesAreAsEvents }
+{}
+
+/// Each turn writes a record and says messages that it may by the events before it, as far as that hangs on no session tree:
+/// a branch has one exit, learns a decision once and is forced once, and only while it is sealed; it votes once it is sealed,
+/// at no lower clock; it tells a commit that it knows; it tells that it forgot, or answers an Ack.
+pub fn turns_tell_as_events()
+    ensures { TurnsTellAsEvents }
+{}
+
+/// A sealed branch has a row, by the records of its node, until it learned a rollback or forgot.
+pub fn sealed_are_kept()
+    ensures { SealedAreKept }
+{}
+
+/// A sealed branch that is neither live nor kept at its node learned a rollback or forgot.
+pub fn gone_are_done()
+    ensures { GoneAreDone }
 {}

@@ -41,7 +41,7 @@ turn_may p k undo input wrote node extents out owed spelled = record {
 turn_is : (p : Past) (k : Kept) (input : Input) (wrote : Option RedoRecord) → Some k ≡ p.node → turned_at p the_node input wrote p.node ≡ turned p the_node wrote (turn_of p.undo k input)
 turn_is p k input wrote node = ap (turned_at p the_node input wrote) (sym node)
 
--- the command has its line, or the call that follows is out
+-- the command has its line, or the call that follows is pending
 told_as : (p : Past) (answer : Answer) (next : Option Input) (kept : Option Kept) (rs : List RedoRecord) (book : List Entry)
     → TurnsAs p (record (told_or_goes_on p answer next) { node = kept; records = rs; book = book }) answer next
 told_as p answer None kept rs book = record { on = record { left = refl; number = refl; undo = refl; names = refl }; due = refl; lines = refl }

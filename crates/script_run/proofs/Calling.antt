@@ -37,7 +37,7 @@ due_alone None due session s up is alone = absurd cc
 due_alone (Some k) due session s up is alone =
     is ∙ ap (λ (both : Bool). if both then Serves (commit_call session) (Some (inputs.Call session s)) else Serves (inputs.Call session s) None) alone
 
--- COMMIT, and the statement behind it
+-- COMMIT, and then the statement
 pub due_both : (kept : Option Kept) (due : Due) (session : ℕ) (s : Option Stmt) → is_some kept ≡ true → IfSome kept (λ k. due ≡ call_due k session s) → (is_create s && is_open_at kept session) ≡ true
     → due ≡ Serves (commit_call session) (Some (inputs.Call session s))
 due_both None due session s up is both = absurd cc
@@ -66,7 +66,7 @@ first_goes_on p q answer first second out turned committed =
     let here : TurnsAs p q answer (if is_committed answer then Some second else None) = subst (λ (due : Due). TurnsAs p q answer (following answer (behind due))) out turned in
     subst (λ (b : Bool). TurnsAs p q answer (if b then Some second else None)) committed here
 
--- and the second is answered behind it
+-- and then the second is answered
 pub second_ends : (p q r : Past) (second : Input) (l : AnswerLine) → GoesOnTo p q second → EndsAs q r l → EndsAs p r l
 second_ends p q r second l goes ends = record {
   on = record { left = ends.on.left ∙ goes.on.left; number = ends.on.number ∙ goes.on.number; undo = ends.on.undo ∙ goes.on.undo; names = ends.on.names ∙ goes.on.names };

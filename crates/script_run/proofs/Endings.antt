@@ -1,4 +1,4 @@
--- How a run ends: the writing of what is due, and that good ends give the report.
+-- How a run ends: its status and what is written, and that a good script, source and sink give the report.
 use Rattle.std.proofs.Common.{◌≡◌, ◌⊎◌, ℕ, ◌+◌, ◌≤◌, Bool, true, false, List, ◌++◌, length, Option, None, Some, Ok, Err, refl, sym, ap, subst, ◌∙◌, inl, inr, arith, length-append}
 use Rattle.std.specs.Prelude.{IsOk, IsErr}
 use Rattle.std.specs.Io.KnownBytes.{Consumes, IsAtEnd, Appends}
@@ -10,7 +10,8 @@ use Rattle.script_run.specs.declared.outcome.Status.{Status}
 use Rattle.script_run.specs.declared.outcome.Status.TheVariants.{Done, BadScript, Usage, NoMemory, ReadFault, WriteFault, TooLong}
 use Rattle.script_run.specs.Headline.{nothing_done}
 use Rattle.script_run.specs.Report.{output_of}
-use Rattle.script_run.specs.Ending.{Read, Written, IsCut, due_of, IsAskedBy, IsWhole, EndsRefused, EndsReported, EndsOn, EndsRead, longest, IsComplete}
+use Rattle.dtx_values.specs.Limits.{script_limit}
+use Rattle.script_run.specs.Ending.{Read, Written, IsCut, due_of, IsAskedBy, IsWhole, EndsRefused, EndsReported, EndsOn, EndsRead, IsComplete}
 
 -- the report of a run of all the commands that the bytes ask for
 pub reported : (bytes : List ℕ) (with_book : Bool) (w : Written) (run : Run) (status : Status) → IsAskedBy bytes run → IsWhole run → EndsReported w (output_of with_book run) status → EndsOn bytes with_book w run status
@@ -58,10 +59,10 @@ pub is_complete : (with_book : Bool) (r : Read) (w : Written) (run : Run) (statu
 is_complete with_book r w run Done ends bytes before short reads source sink = inl refl
 is_complete with_book r w run NoMemory ends bytes before short reads source sink = inr refl
 is_complete with_book r w run Usage ends bytes before short reads source sink = absurd ends
-is_complete with_book r w run ReadFault ends bytes before short reads source sink = absurd (source ends.2)
+is_complete with_book r w run ReadFault ends bytes before short reads source sink = absurd (source ends.3)
 is_complete with_book r w run TooLong ends bytes before short reads source sink =
-    absurd (not_too_long longest r.now bytes short (subst (λ (b : Option (List ℕ)). IsTooLong longest b r.now) before ends.2))
-is_complete with_book r w run WriteFault ends bytes before short reads source sink = absurd (sink ends.2.1.failed)
+    absurd (not_too_long script_limit r.now bytes short (subst (λ (b : Option (List ℕ)). IsTooLong script_limit b r.now) before ends.2))
+is_complete with_book r w run WriteFault ends bytes before short reads source sink = absurd (sink ends.3.1.failed)
 is_complete with_book r w run BadScript ends bytes before short reads source sink =
     let same : ends.0 ≡ bytes = whole_read r.now ends.0 bytes (subst (λ (b : Option (List ℕ)). Consumes b r.now ends.0) before ends.1.consumed) ends.1.ended in
-    absurd (not_both (asked bytes) reads (subst (λ (bs : List ℕ). IsErr (asked bs)) same ends.2.0))
+    absurd (not_both (asked bytes) reads (subst (λ (bs : List ℕ). IsErr (asked bs)) same ends.3.0))

@@ -1,8 +1,9 @@
 -- How a run of the program ends: each status with its cause, and the bytes read and written.
 use Rattle.std.specs.Prelude.{◌≡◌, ◌++◌, ◌≤◌, ◌⊎◌, ℕ, Bool, List, Option, Some, Ok, Err, IsOk, IsErr, length, codes, decimal}
 use Rattle.std.specs.Io.KnownBytes.{Keeps, Appends}
+use Rattle.dtx_values.specs.Limits.{script_limit}
 use Rattle.dtx_ports.specs.Causes.{Rose}
-use Rattle.dtx_ports.specs.Whole.{IsAll, IsTooLong, AppendsPrefix}
+use Rattle.dtx_ports.specs.Whole.{IsAll, IsTooLong, ReadsWithin, AppendsPrefix}
 use Rattle.sole_script.specs.Script.{Asked, asked}
 use Rattle.script_run.specs.declared.outcome.Run.{Run}
 use Rattle.script_run.specs.declared.outcome.Status.{Status}
@@ -10,15 +11,21 @@ use Rattle.script_run.specs.declared.outcome.Status.TheVariants.{Done, BadScript
 use Rattle.script_run.specs.Headline.{nothing_done}
 use Rattle.script_run.specs.Report.{output_of}
 
--- the longest script, in bytes
-abbrev pub longest : ℕ
-longest = 1048576
+-- the exit status of each end
+abbrev pub status_code : Status → ℕ
+status_code Done = 0
+status_code BadScript = 1
+status_code Usage = 2
+status_code NoMemory = 3
+status_code ReadFault = 4
+status_code WriteFault = 5
+status_code TooLong = 6
 
--- what wrong words are answered by
+-- what is written where the words are wrong
 abbrev pub usage_line : List ℕ
 usage_line = codes "usage: dtx [--book] [--make N]\n"
 
--- what a script is answered by whose first bad command stands on this line
+-- what is written of a script whose first bad command is on this line
 abbrev pub refusal_line : ℕ → List ℕ
 refusal_line line = codes "line " ++ decimal line ++ codes ": bad command\n"
 
@@ -27,21 +34,29 @@ abbrev pub due_of : Asked → Bool → Run → List ℕ
 due_of (Ok commands) with_book run = output_of with_book run
 due_of (Err line) with_book run = refusal_line line
 
--- what a source has left and its count of faults, before and after
+-- the bytes left in a source and its count of faults, before the call and after
 pub record Read : Type 0 where
   pub before : Option (List ℕ)
   pub now : Option (List ℕ)
   pub faults_before : ℕ
   pub faults_now : ℕ
 
--- what a sink holds and its count of faults, before and after
+-- the bytes written to a sink and its count of faults, before the call and after
 pub record Written : Type 0 where
   pub before : Option (List ℕ)
   pub now : Option (List ℕ)
   pub faults_before : ℕ
   pub faults_now : ℕ
 
--- only a front of the text was written, and the sink failed
+-- no read of the source failed
+abbrev pub IsUnfailed : Read → Type 0
+IsUnfailed r = r.faults_now ≡ r.faults_before
+
+-- the source was not read
+abbrev pub IsUnread : Read → Type 0
+IsUnread r = (r.now ≡ r.before) × IsUnfailed r
+
+-- only the first bytes of the text were written, and the sink failed
 pub record IsCut (w : Written) (text : List ℕ) : Type 0 where
   pub front : AppendsPrefix w.before w.now text
   pub failed : Rose w.faults_before w.faults_now
@@ -54,17 +69,23 @@ IsAskedBy bytes run = asked bytes ≡ Ok run.commands
 abbrev pub IsWhole : Run → Type 0
 IsWhole run = length run.answers ≡ length run.commands
 
--- how a run over words that are none of the program's ends: by the usage line, or a fault of its write
-abbrev pub EndsUnread : Written → Run → Status → Type 0
-EndsUnread w run Usage = (run ≡ nothing_done) × Appends w.before w.now usage_line
-EndsUnread w run WriteFault = (run ≡ nothing_done) × IsCut w usage_line
-EndsUnread w run Done = ⊥
-EndsUnread w run BadScript = ⊥
-EndsUnread w run NoMemory = ⊥
-EndsUnread w run ReadFault = ⊥
-EndsUnread w run TooLong = ⊥
+-- how the writing of the usage line ends
+abbrev pub EndsExplained : Written → Status → Type 0
+EndsExplained w Usage = Appends w.before w.now usage_line
+EndsExplained w WriteFault = IsCut w usage_line
+EndsExplained w Done = ⊥
+EndsExplained w BadScript = ⊥
+EndsExplained w NoMemory = ⊥
+EndsExplained w ReadFault = ⊥
+EndsExplained w TooLong = ⊥
 
--- how the writing of the refusal of a script ends that is bad on this line
+-- how a call ends whose words are wrong: nothing is read or run, and the usage line is written
+pub record EndsUnread (r : Read) (w : Written) (run : Run) (status : Status) : Type 0 where
+  pub unread : IsUnread r
+  pub nothing : run ≡ nothing_done
+  pub explained : EndsExplained w status
+
+-- how the writing of the line ends that refuses a script which is bad on this line
 abbrev pub EndsRefused : Written → ℕ → Status → Type 0
 EndsRefused w line BadScript = Appends w.before w.now (refusal_line line)
 EndsRefused w line WriteFault = IsCut w (refusal_line line)
@@ -84,7 +105,7 @@ EndsReported w output Usage = ⊥
 EndsReported w output ReadFault = ⊥
 EndsReported w output TooLong = ⊥
 
--- how a run over these bytes ends, which were all that the source gave
+-- how a run of the script with these bytes ends
 abbrev pub EndsOn : List ℕ → Bool → Written → Run → Status → Type 0
 EndsOn bytes with_book w run Done = IsAskedBy bytes run × IsWhole run × Appends w.before w.now (output_of with_book run)
 EndsOn bytes with_book w run BadScript = IsErr (asked bytes) × (run ≡ nothing_done) × Appends w.before w.now (due_of (asked bytes) with_book run)
@@ -94,26 +115,27 @@ EndsOn bytes with_book w run Usage = ⊥
 EndsOn bytes with_book w run ReadFault = ⊥
 EndsOn bytes with_book w run TooLong = ⊥
 
--- the source was read to its end, within the limit, and the run over its bytes ends so
+-- the source was read to its end, which came within the limit, and the run of these bytes ends so
 abbrev pub EndsWithin : Bool → Read → Written → Run → Status → Type 0
-EndsWithin with_book r w run status = (bytes : List ℕ) × IsAll longest r.before r.now bytes × EndsOn bytes with_book w run status
+EndsWithin with_book r w run status = (bytes : List ℕ) × IsAll script_limit r.before r.now bytes × IsUnfailed r × EndsOn bytes with_book w run status
 
--- how a run over the program's words ends, which want the book or not
+-- How a call ends whose words are right, with the book or without. One byte past the limit is read exactly where the status
+-- is TooLong, and a read failed exactly where it is ReadFault.
 abbrev pub EndsRead : Bool → Read → Written → Run → Status → Type 0
-EndsRead with_book r w run ReadFault = (run ≡ nothing_done) × Keeps w.before w.now × Rose r.faults_before r.faults_now
-EndsRead with_book r w run TooLong = (run ≡ nothing_done) × Keeps w.before w.now × IsTooLong longest r.before r.now
-EndsRead with_book r w run NoMemory = ((run ≡ nothing_done) × Keeps w.before w.now) ⊎ EndsWithin with_book r w run NoMemory
+EndsRead with_book r w run ReadFault = (run ≡ nothing_done) × Keeps w.before w.now × ReadsWithin script_limit r.before r.now × Rose r.faults_before r.faults_now
+EndsRead with_book r w run TooLong = (run ≡ nothing_done) × Keeps w.before w.now × IsTooLong script_limit r.before r.now × IsUnfailed r
+EndsRead with_book r w run NoMemory = ((run ≡ nothing_done) × Keeps w.before w.now × ReadsWithin script_limit r.before r.now × IsUnfailed r) ⊎ EndsWithin with_book r w run NoMemory
 EndsRead with_book r w run Usage = ⊥
 EndsRead with_book r w run Done = EndsWithin with_book r w run Done
 EndsRead with_book r w run BadScript = EndsWithin with_book r w run BadScript
 EndsRead with_book r w run WriteFault = EndsWithin with_book r w run WriteFault
 
--- the end of all that goes well, want of memory aside
+-- done, or out of memory
 abbrev pub EndsWell : Status → Type 0
 EndsWell status = (status ≡ Done) ⊎ (status ≡ NoMemory)
 
 -- A source that tells bytes within the limit, a script in the grammar and no fault of either end give the report.
 abbrev pub IsComplete : Read → Written → Status → Type 0
 IsComplete r w status =
-    (bytes : List ℕ) → r.before ≡ Some bytes → length bytes ≤ longest → IsOk (asked bytes)
+    (bytes : List ℕ) → r.before ≡ Some bytes → length bytes ≤ script_limit → IsOk (asked bytes)
     → (Rose r.faults_before r.faults_now → ⊥) → (Rose w.faults_before w.faults_now → ⊥) → EndsWell status

@@ -1,4 +1,4 @@
--- How a run in progress stands to its trace.
+-- A run in progress, held against its trace.
 use Rattle.std.specs.Prelude.{◌≡◌, ◌+◌, ℕ, Bool, true, false, List, [], ◌∷◌, ◌++◌, Option, None, Some, drop, is_some}
 use Rattle.dtx_values.specs.declared.answer.Answer.{Answer}
 use Rattle.book.specs.declared.line.Said.TheVariants as said
@@ -26,7 +26,7 @@ pub record IsLinked (progress : Progress) : Type 0 where
   pub names_are : progress.names ≡ (past_of progress.trace).names
   pub lines_are : progress.answers.items ≡ (past_of progress.trace).lines
 
--- a command that is told nothing as it begins: the node is up or down as it needs
+-- a command that is not answered as it begins: the node is up or down as it needs
 abbrev pub IsSilent : Bool → Command → Type 0
 IsSilent up (commands.At node session text) = up ≡ true
 IsSilent up (commands.Stop node) = up ≡ true
@@ -63,7 +63,7 @@ pub record EndsAs (before after : Past) (line : AnswerLine) : Type 0 where
   pub due : after.due ≡ Begins
   pub lines : after.lines ≡ before.lines ++ line ∷ []
 
--- what a turn makes of it behind which another call is: that call is out
+-- what a turn makes of it where another call follows: that call is pending
 pub record GoesOnTo (before after : Past) (input : Input) : Type 0 where
   pub on : RunsOn before after
   pub due : after.due ≡ Serves input None

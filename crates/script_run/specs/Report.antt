@@ -12,6 +12,6 @@ node_names [] = []
 node_names (commands.Node name undo ∷ rest) = name ∷ node_names rest
 node_names (_ ∷ rest) = node_names rest
 
--- what a run prints: the report of its answers, and the book behind it where that is wanted
+-- what a run prints: the report of its answers, and then the book where that is wanted
 abbrev pub output_of : Bool → Run → List ℕ
 output_of with_book run = printed (report run.answers) ++ (if with_book then book_text (node_names run.commands) run.book else [])

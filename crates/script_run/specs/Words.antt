@@ -2,7 +2,7 @@
 use Rattle.std.specs.Prelude.{ℕ, Bool, true, false, List, [], ◌∷◌, Option, Some, None, if◌then◌else◌, codes}
 use Rattle.std.specs.Str.{bytes_eq}
 
--- no word asks for the report, `--book` for the book behind it; all else is none of the program's words
+-- no word asks for the report, `--book` for the report and the book; other words are not the program's
 abbrev pub wanted : List (List ℕ) → Option Bool
 wanted [] = Some false
 wanted (word ∷ []) = if bytes_eq word (codes "--book") then Some true else None

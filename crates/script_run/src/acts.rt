@@ -1,4 +1,4 @@
-//! What a command makes happen: the calls of a client, a stop of the node, its start.
+//! Carrying out a command: the calls of a client, a stop of the node, its start.
 ghost use Rattle.std.specs.Prelude.{◌≡◌, ◌<◌, ◌^◌, true, false, length, is_some, IfOk, OnOk, OnErr};
 ghost use Rattle.sole_laws.specs.Past.{Stops, Starts, past_of, due_by, names_by};
 ghost use Rattle.script_run.specs.Linked.{SiteIs, IsNext, BeginsAs, EndsAs, IsSilent};
@@ -13,7 +13,7 @@ use sole_node::Happening;
 use sole_script::Command;
 use std::alloc::{AllocError, Global};
 
-/// A command begins: the name of the node that it makes counts from now on.
+/// Begins a command: a node that it makes has its name from now on.
 #[tactic(auto, using(crate::proofs::Beginning::begins))]
 pub fn begin(
     alloc: Global,
@@ -32,7 +32,7 @@ pub fn begin(
     trace.push(alloc, Happening::Begun { command: number })
 }
 
-/// The node stops.
+/// Stops the node.
 #[tactic(auto, using(crate::proofs::Acting::acting))]
 fn stop(
     alloc: Global,
@@ -54,7 +54,7 @@ fn stop(
     Ok(AnswerLine::new(number, Said::World(Notice::Fine)))
 }
 
-/// The node starts, with so many undo extents.
+/// Starts the node with `undo` extents of undo.
 #[tactic(auto, using(crate::proofs::Acting::acting))]
 fn start(
     alloc: Global,
@@ -81,8 +81,7 @@ fn start(
     Ok(AnswerLine::new(number, Said::World(Notice::Fine)))
 }
 
-/// What a command makes happen that was told nothing as it began, and the line that it gets for it. The node has so many
-/// undo extents.
+/// Carries out a command that was not answered as it began, and returns its answer. The node has `undo` extents of undo.
 #[tactic(auto, using(crate::proofs::Calling::call_is_due))]
 pub fn act(
     alloc: Global,

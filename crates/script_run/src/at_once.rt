@@ -1,4 +1,4 @@
-//! What a command is told as it begins.
+//! The answer that a command may get as it begins.
 ghost use Rattle.std.specs.Prelude.{◌≡◌, ◌≤◌, ◌-◌, List, [], ◌∷◌, is_some, IfOk};
 ghost use Rattle.redo_record.specs.declared.record.RedoRecord.{RedoRecord};
 ghost use Rattle.sole_node.specs.Disk.{IsLogOf};
@@ -63,7 +63,7 @@ fn shown(lines: Texts) -> Option<Said>
     Some(Said::World(Notice::Shown(lines)))
 }
 
-/// What a command is told as it begins, where the node, the names and the book are these.
+/// The answer that a command gets as it begins, if any, where the node, the names and the book are these.
 pub fn said_at_once(
     alloc: Global,
     site: &Site,

@@ -83,7 +83,7 @@ fn turn(node: &mut Node<MemDisk>, input: &Input) -> Result<Effects, AllocError>
     }
 }
 
-/// The node serves the call that is out.
+/// The node serves the pending call. It is an error only where there is no memory.
 #[tactic(auto, using(crate::proofs::Acting::acting))]
 fn serve(
     alloc: Global,
@@ -118,7 +118,7 @@ fn serve(
     Ok(effects.finished)
 }
 
-/// The node serves the call that is out, behind which no other is.
+/// The node serves the pending call, which no other follows. It is an error only where there is no memory.
 #[tactic(auto, using(crate::proofs::Calling::calls))]
 fn serve_last(
     alloc: Global,

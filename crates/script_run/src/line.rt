@@ -1,4 +1,4 @@
-//! What is told of the commands.
+//! The answers of the commands.
 ghost use Rattle.std.specs.Prelude.{◌≡◌};
 ghost use Rattle.script_run.specs.Lines.{told_by};
 
@@ -6,14 +6,16 @@ use dtx_values::{Listing, Notice};
 use sole_core::Finished;
 use std::marker::Model;
 
-/// What is said of a command: by a node, at the end of a call, or by the run beside it.
+/// The answer of a command.
 #[derive(Debug, Drop)]
 pub enum Said {
+    /// A node gave it at the end of a client's call.
     Node(Finished),
+    /// The run itself gave it.
     World(Notice),
 }
 
-/// What is said of a command, behind its number.
+/// The answer of a command, with the command's number.
 #[derive(Debug, Drop)]
 pub struct AnswerLine {
     command: u32,
@@ -23,7 +25,7 @@ pub struct AnswerLine {
 /// Answers in order.
 pub type AnswerLines = Listing<AnswerLine>;
 
-// A line is seen as the answer, whoever gave it.
+// A contract sees the answer, whoever gave it.
 impl Model for AnswerLine {
     ghost use Rattle.book.specs.declared.line.AnswerLine.{AnswerLine as Line};
     ghost use Rattle.script_run.specs.Lines.{told_by};
@@ -34,21 +36,21 @@ impl Model for AnswerLine {
 }
 
 impl AnswerLine {
-    /// This is said of the command of this number.
+    /// The answer of the command with this number.
     pub fn new(command: u32, said: Said) -> AnswerLine
         ensures { result ≡ record { command = command; said = told_by said } }
     {
         AnswerLine { command, said }
     }
 
-    /// The command's number.
+    /// The number of the command, from 1.
     pub fn command(&self) -> u32
         ensures { result ≡ self.now.command }
     {
         self.command
     }
 
-    /// What is said of it.
+    /// Its answer.
     pub fn said(&self) -> &Said
         ensures { told_by result.now ≡ self.now.said }
     {

@@ -3,6 +3,7 @@ ghost use Rattle.std.specs.Prelude.{◌≡◌, []};
 ghost use Rattle.sole_node.specs.Book.{book_of};
 ghost use Rattle.sole_laws.specs.Past.{past_of};
 ghost use Rattle.script_run.specs.Headline.{IsRun, nothing_done};
+ghost use Rattle.script_run.specs.Ending.{status_code};
 
 use crate::line::{AnswerLine, AnswerLines};
 use book::Book;
@@ -12,36 +13,57 @@ use sole_node::Happenings;
 use sole_script::Commands;
 use std::alloc::Global;
 
-/// How a run of the program ends; its number is the exit status.
+/// How a run of the program ends.
 #[derive(Clone, Copy, Debug, PartialEq, Eq)]
 pub enum Status {
     /// Every command was run, and the report was written.
-    Done = 0,
-    /// The script has a bad command, whose line was written.
-    BadScript = 1,
-    /// The words of the command line are none of the program's.
-    Usage = 2,
-    /// There was no memory left.
-    NoMemory = 3,
+    Done,
+    /// The script has a bad command, and the number of its line was written.
+    BadScript,
+    /// The command line has other words than the program's.
+    Usage,
+    /// Out of memory.
+    NoMemory,
     /// The script could not be read.
-    ReadFault = 4,
-    /// What was due could not be written.
-    WriteFault = 5,
+    ReadFault,
+    /// The report could not be written.
+    WriteFault,
     /// The script is longer than 1,048,576 bytes.
-    TooLong = 6,
+    TooLong,
 }
 
-/// What was done: the commands that were asked for, their answers, the book, and what happened.
+impl Status {
+    /// The exit status of the program.
+    pub fn code(self) -> u8
+        ensures { result ≡ status_code self }
+    {
+        match self {
+            Status::Done => 0,
+            Status::BadScript => 1,
+            Status::Usage => 2,
+            Status::NoMemory => 3,
+            Status::ReadFault => 4,
+            Status::WriteFault => 5,
+            Status::TooLong => 6,
+        }
+    }
+}
+
+/// What was done.
 #[derive(Debug, Drop)]
 pub struct Run {
+    /// The commands of the script.
     pub commands: Commands,
+    /// Their answers, in the order of the commands.
     pub answers: AnswerLines,
+    /// The book of the redo records that were written.
     pub book: Book,
+    /// All that happened, oldest first.
     pub trace: Happenings,
 }
 
 impl Run {
-    /// The run that a trace and its lines tell.
+    /// The run of this trace, whose answers these are.
     pub fn told(trace: Trace, answers: Vec<AnswerLine>) -> Run
         requires { answers.items ≡ (past_of trace).lines }
         ensures is { result ≡ record { commands = trace.asked; answers = answers.items; book = book_of trace.happenings; trace = trace.happenings } }
@@ -57,7 +79,7 @@ impl Run {
         }
     }
 
-    /// None of these commands has begun.
+    /// The run in which none of these commands has begun.
     #[tactic(auto, unfolding(sole_laws::specs::Past::past))]
     pub fn not_begun(alloc: Global, commands: Commands) -> Run
         ensures is { result ≡ record { commands = commands; answers = []; book = []; trace = [] } }
@@ -66,7 +88,7 @@ impl Run {
         Run::told(Trace::new(alloc, commands), Vec::new(alloc))
     }
 
-    /// Nothing was done.
+    /// The run in which nothing was done.
     pub fn empty(alloc: Global) -> Run
         ensures empty { result ≡ nothing_done }
         ensures run { IsRun result }
@@ -78,6 +100,8 @@ impl Run {
 /// How the program ended, and what it did.
 #[derive(Debug, Drop)]
 pub struct Outcome {
+    /// How it ended.
     pub status: Status,
+    /// What was done until then.
     pub run: Run,
 }

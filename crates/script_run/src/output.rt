@@ -1,4 +1,4 @@
-//! What a run prints: the report of its answers, and the book behind it.
+//! What a run prints: the report of its answers, and then the book.
 ghost use Rattle.std.specs.Prelude.{◌≡◌, ◌++◌, [], if◌then◌else◌, IfOk, OnOk};
 ghost use Rattle.script_run.specs.Report.{node_names as node_names_of, output_of};
 ghost use Rattle.script_run.specs.Lines.{told_by};
@@ -48,7 +48,7 @@ fn node_names(alloc: Global, commands: &[Command]) -> Result<Names, AllocError>
     Ok(names)
 }
 
-/// The book behind a report, where it is wanted.
+/// Adds the book at the end of the text where it is wanted. It is an error only where there is no memory.
 fn put_book(alloc: Global, out: &mut Vec<u8>, with_book: bool, run: &Run) -> Result<(), AllocError>
     ensures { OnOk result (out.new.items ≡ out.old.items ++ (if with_book then book_text_of (node_names_of run.now.commands) run.now.book else [])) }
 {
@@ -60,7 +60,7 @@ fn put_book(alloc: Global, out: &mut Vec<u8>, with_book: bool, run: &Run) -> Res
     out.extend_from_slice(text.as_slice())
 }
 
-/// What a run prints: its report, and the book behind it where that is wanted.
+/// What a run prints: its report, and then the book where that is wanted. It is an error only where there is no memory.
 pub fn output(alloc: Global, with_book: bool, run: &Run) -> Result<Vec<u8>, AllocError>
     ensures { IfOk result (λ text. text.items ≡ output_of with_book run.now) }
 {

@@ -1,4 +1,4 @@
-//! A run in progress: the node, what happened so far, and what was told.
+//! A run in progress: the node, what happened so far, and the answers.
 ghost use Rattle.std.specs.Prelude.{◌≡◌, ◌+◌, ◌<◌, ◌^◌, [], ◌∷◌, ◌++◌, length, vec_len, vec_capacity, drop, is_some, IfOk, OnOk, OnErr};
 ghost use Rattle.sole_laws.specs.Past.{start, past_of, undo_in as undo_of_first};
 ghost use Rattle.script_run.specs.Ending.{IsWhole};
@@ -10,33 +10,33 @@ use crate::at_once::said_at_once;
 use crate::line::AnswerLine;
 use crate::outcome::Run;
 use crate::site::{Site, made};
-use dtx_values::{Duplicate, Listing, Names};
+use dtx_values::{Duplicate, Listing, Names, USUAL_EXTENTS};
 use sole_laws::{Trace, each_begun_is_answered};
 use sole_script::{Command, Commands};
 use std::alloc::{AllocError, Global};
-
-/// The undo extents of a node that no command makes.
-const UNDO: u32 = 64;
 
 /// A run in progress.
 #[derive(Drop)]
 pub struct Progress {
     /// The undo extents of the node.
     pub undo: u32,
+    /// The node.
     pub site: Site,
     /// The names of the nodes that were made.
     pub names: Names,
+    /// What happened, and the book.
     pub trace: Trace,
+    /// The answers so far.
     pub answers: Vec<AnswerLine>,
 }
 
-/// The undo extents that the first command gives the node, which it makes.
+/// The undo extents of the node that the first command makes.
 fn undo_in(commands: &[Command]) -> u32
     ensures { result ≡ undo_of_first commands.now }
 {
     match commands {
         [Command::Node { name: _name, undo }, ..] => *undo,
-        _ => UNDO,
+        _ => USUAL_EXTENTS,
     }
 }
 
@@ -70,8 +70,8 @@ impl Progress {
         }
     }
 
-    /// Carries out the command that is next. There is room for its line before anything happens, so what happened is
-    /// told, also where memory runs out.
+    /// Carries out the next command. Room for its answer is made before anything happens, so that nothing happens without
+    /// its answer, also where memory runs out.
     #[tactic(auto, using(crate::proofs::Beginning::told_or_due))]
     fn carry_out(&mut self, alloc: Global, number: u32, command: &Command) -> Result<(), AllocError>
         requires linked { IsLinked self.old }
@@ -127,7 +127,7 @@ impl Progress {
     }
 }
 
-/// Runs these commands in order: what was done of them, and whether all were.
+/// Runs these commands in order. It returns what was done, and whether all of them were run.
 pub fn run_commands(alloc: Global, asked: Commands) -> (Run, Result<(), AllocError>)
     requires few { length asked < 2 ^ 30 }
     ensures run { IsRun result.0 }

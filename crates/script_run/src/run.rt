@@ -3,25 +3,21 @@ ghost use Rattle.std.specs.Prelude.{◌≡◌, ◌<◌, ◌^◌, Bool, Some, Non
 ghost use Rattle.std.specs.String.{string_bytes};
 ghost use Rattle.script_run.specs.Words.{wanted as wanted_by};
 ghost use Rattle.script_run.specs.Report.{output_of};
-ghost use Rattle.script_run.specs.Headline.{IsRun, nothing_done};
-ghost use Rattle.script_run.specs.Ending.{EndsUnread, EndsRefused, EndsReported, EndsOn, EndsRead, IsComplete};
+ghost use Rattle.script_run.specs.Headline.{IsRun};
+ghost use Rattle.script_run.specs.Ending.{EndsExplained, EndsUnread, EndsRefused, EndsReported, EndsOn, EndsRead, IsComplete};
 
 use crate::outcome::{Outcome, Run, Status};
 use crate::output::output;
 use crate::progress::run_commands;
 use crate::words::wanted;
 use dtx_ports::{ReadErr, Sink, Source, read_whole, write_whole};
-use dtx_values::Listing;
+use dtx_values::{Listing, SCRIPT_LIMIT};
 use sole_script::{ScriptErr, read_script};
 use std::alloc::Global;
 
-/// The longest script, in bytes.
-const LONGEST: usize = 1_048_576;
-
-/// Says how the program is called.
-fn explain_words<K: Sink>(sink: &mut K, run: &Run) -> Status
-    requires { run.now ≡ nothing_done }
-    ensures { EndsUnread (record { before = K.written sink.old; now = K.written sink.new; faults_before = K.faults sink.old; faults_now = K.faults sink.new }) run.now result }
+/// Writes how the program is called.
+fn explain_words<K: Sink>(sink: &mut K) -> Status
+    ensures { EndsExplained (record { before = K.written sink.old; now = K.written sink.new; faults_before = K.faults sink.old; faults_now = K.faults sink.new }) result }
 {
     match write_whole(sink, b"usage: dtx [--book] [--make N]\n") {
         Ok(()) => Status::Usage,
@@ -29,7 +25,7 @@ fn explain_words<K: Sink>(sink: &mut K, run: &Run) -> Status
     }
 }
 
-/// Says which line is bad.
+/// Writes which line is bad.
 fn explain_line<K: Sink>(alloc: Global, line: u32, sink: &mut K) -> Status
     ensures { EndsRefused (record { before = K.written sink.old; now = K.written sink.new; faults_before = K.faults sink.old; faults_now = K.faults sink.new }) line result }
 {
@@ -55,7 +51,7 @@ fn write_output<K: Sink>(alloc: Global, with_book: bool, run: &Run, sink: &mut K
     }
 }
 
-/// Runs what the bytes ask for, and writes the report.
+/// Runs the script with these bytes, and writes the report.
 #[tactic(auto, using(crate::proofs::Endings::endings))]
 fn run_bytes<K: Sink>(alloc: Global, with_book: bool, bytes: &[u8], sink: &mut K) -> Outcome
     requires { length bytes.now < 2 ^ 30 }
@@ -86,7 +82,7 @@ fn run_bytes<K: Sink>(alloc: Global, with_book: bool, bytes: &[u8], sink: &mut K
     }
 }
 
-/// Reads the source, runs what it asks for, and writes the report.
+/// Reads a script from the source, runs it, and writes the report.
 fn run_source<S: Source, K: Sink>(
     alloc: Global,
     with_book: bool,
@@ -97,7 +93,7 @@ fn run_source<S: Source, K: Sink>(
     ensures ends { EndsRead with_book (record { before = S.left source.old; now = S.left source.new; faults_before = S.faults source.old; faults_now = S.faults source.new })
         (record { before = K.written sink.old; now = K.written sink.new; faults_before = K.faults sink.old; faults_now = K.faults sink.new }) result.run result.status }
 {
-    let status = match read_whole(alloc, source, LONGEST) {
+    let status = match read_whole(alloc, source, SCRIPT_LIMIT) {
         Ok(bytes) => return run_bytes(alloc, with_book, &bytes, sink),
         Err(ReadErr::Fault) => Status::ReadFault,
         Err(ReadErr::TooLong) => Status::TooLong,
@@ -110,7 +106,8 @@ fn run_source<S: Source, K: Sink>(
 }
 
 /// Reads a script from the source, runs it, and writes its report to the sink. The words are those of the command line
-/// behind the program's name: none, or `--book` for the book behind the report. Others are answered by the usage line.
+/// after the program's name: none, or `--book` for the book after the report. For other words the usage line is written,
+/// and nothing is read.
 #[tactic(auto, using(crate::proofs::Endings::is_complete))]
 pub fn run_script<S: Source, K: Sink>(
     alloc: Global,
@@ -124,7 +121,8 @@ pub fn run_script<S: Source, K: Sink>(
 
     // Each status has its cause.
     ensures words { wanted_by (map string_bytes words.now.items) ≡ None
-        → EndsUnread (record { before = K.written sink.old; now = K.written sink.new; faults_before = K.faults sink.old; faults_now = K.faults sink.new }) result.run result.status }
+        → EndsUnread (record { before = S.left source.old; now = S.left source.new; faults_before = S.faults source.old; faults_now = S.faults source.new })
+        (record { before = K.written sink.old; now = K.written sink.new; faults_before = K.faults sink.old; faults_now = K.faults sink.new }) result.run result.status }
     ensures read { (with_book : Bool) → wanted_by (map string_bytes words.now.items) ≡ Some with_book
         → EndsRead with_book (record { before = S.left source.old; now = S.left source.new; faults_before = S.faults source.old; faults_now = S.faults source.new })
         (record { before = K.written sink.old; now = K.written sink.new; faults_before = K.faults sink.old; faults_now = K.faults sink.new }) result.run result.status }
@@ -138,7 +136,7 @@ pub fn run_script<S: Source, K: Sink>(
         Some(with_book) => run_source(alloc, with_book, source, sink),
         None => {
             let run = Run::empty(alloc);
-            let status = explain_words(sink, &run);
+            let status = explain_words(sink);
             Outcome { status, run }
         }
     }

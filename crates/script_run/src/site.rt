@@ -1,4 +1,4 @@
-//! Where the node of a run stands: up, or its disk alone.
+//! The node of a run: up, or down with its disk alone.
 ghost use Rattle.std.specs.Prelude.{◌≡◌, List, Some, None, true, is_some, IfOk, OnOk};
 ghost use Rattle.block_disk.specs.Happenings.{content_of};
 ghost use Rattle.redo_record.specs.declared.record.RedoRecord.{RedoRecord};
@@ -51,7 +51,7 @@ impl Site {
         }
     }
 
-    /// The node stops, and leaves its disk.
+    /// Stops the node: its disk is left.
     pub fn stop(&mut self, alloc: Global)
         ensures { self.new ≡ Down (site_disk self.old) }
     {
@@ -59,7 +59,7 @@ impl Site {
         *self = stopped(running);
     }
 
-    /// The node starts from its disk with so many undo extents: the number of this start.
+    /// Starts the node from its disk with `undo` extents of undo, and returns the number of this start, from 1.
     pub fn start(&mut self, alloc: Global, undo: u32) -> Result<u32, AllocError>
         requires down { site_kept self.old ≡ None }
         requires sound { (rs : List RedoRecord) × MayStart rs (site_bytes self.old) }
@@ -74,7 +74,7 @@ impl Site {
     }
 }
 
-/// A node that was just made, with so many undo extents.
+/// A new node with `undo` extents of undo. It is an error only where there is no memory.
 pub fn made(alloc: Global, undo: u32) -> Result<Site, AllocError>
     ensures kept { IfOk result (λ site. site_kept site ≡ Some (start_of first_records)) }
     ensures undo { IfOk result (HasUndo undo) }
@@ -98,7 +98,7 @@ pub fn made(alloc: Global, undo: u32) -> Result<Site, AllocError>
     }
 }
 
-/// A node that stops leaves its disk.
+/// What a stop leaves of a node: its disk.
 fn stopped(site: Site) -> Site
     ensures { result ≡ Down (site_disk site) }
 {
@@ -108,7 +108,7 @@ fn stopped(site: Site) -> Site
     }
 }
 
-/// A node that starts from its disk with so many undo extents, and the number of this start.
+/// The node started from its disk with `undo` extents of undo, and the number of this start, from 1.
 fn started(alloc: Global, undo: u32, site: Site) -> Result<(Site, u32), AllocError>
     requires down { site_kept site ≡ None }
     requires sound { (rs : List RedoRecord) × MayStart rs (site_bytes site) }
@@ -122,14 +122,14 @@ fn started(alloc: Global, undo: u32, site: Site) -> Result<(Site, u32), AllocErr
     }
 }
 
-/// The node of a disk, and the number of this start.
+/// The node started from this disk, and the number of this start, from 1.
 fn start_disk(alloc: Global, undo: u32, disk: MemDisk) -> Result<(Site, u32), AllocError>
     requires sound { (rs : List RedoRecord) × MayStart rs (content_of disk.happenings) }
     ensures starts { IfOk result (λ x. (rs : List RedoRecord) → IsLogOf rs (content_of disk.happenings) → StartsAs rs x.0 x.1) }
     ensures undo { IfOk result (λ x. HasUndo undo x.0) }
     ensures ready { IfOk result (λ x. IsReadySite x.0) }
 {
-    // That the bytes of a disk are the content that its happenings left is told here.
+    // Only for the proof: the disk's bytes are those that its writes left.
     let _bytes = disk.bytes().len();
     match Node::start(alloc, disk, undo) {
         Ok(node) => {

@@ -3,7 +3,7 @@ ghost use Rattle.std.specs.Prelude.{◌≡◌, [], ◌∷◌, map};
 ghost use Rattle.std.specs.String.{string_bytes};
 ghost use Rattle.script_run.specs.Words.{wanted as wanted_by};
 
-/// Whether the book is wanted behind the report, or nothing where these are none of the program's words.
+/// Whether the book is wanted after the report, or nothing where the words are not the program's.
 pub fn wanted(words: &[String]) -> Option<bool>
     ensures { result ≡ wanted_by (map string_bytes words.now) }
 {

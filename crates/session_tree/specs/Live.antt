@@ -1,6 +1,8 @@
--- A live branch and its children.
-use Rattle.std.specs.Prelude.{ℕ, Bool, false, List, [], map, position, slice_get, option_map, Option, Some, None}
+-- A live branch and its children, the session tree of the Database Administrator's Guide, "Distributed Transactions
+-- Concepts".
+use Rattle.std.specs.Prelude.{ℕ, ◌+◌, Bool, false, List, [], ◌∷◌, ◌++◌, map, length, position, option_map, Option, Some, None}
 use Rattle.std.specs.Str.{bytes_eq}
+use Rattle.tran_ids.specs.Listed.{numbered}
 use Rattle.tran_ids.specs.declared.branch.BranchId.{BranchId}
 use Rattle.tran_ids.specs.Branch.{same}
 use Rattle.session_tree.specs.declared.edge.Edge.{Edge}
@@ -28,7 +30,7 @@ fresh_live me root parent depth strength = record {
   comment = [];
 }
 
--- a new child: it has told its strength alone
+-- a new child: only its strength is known
 abbrev pub new_edge : BranchId → List ℕ → ℕ → Edge
 new_edge peer link strength = record { peer = peer; link = link; strength = strength; weight = None; count = 1; vote = votes.Unasked }
 
@@ -36,10 +38,22 @@ new_edge peer link strength = record { peer = peer; link = link; strength = stre
 abbrev pub children_of : Live → List BranchId
 children_of l = map (λ e. e.peer) l.edges
 
--- the place of the child that a link leads to, where it was used before
-abbrev pub edge_by_link : Live → List ℕ → Option ℕ
-edge_by_link l link = position (λ e. bytes_eq e.link link) l.edges
+-- with one more child, behind the others
+abbrev pub add_edge : Live → Edge → Live
+add_edge l e = record l { edges = l.edges ++ e ∷ [] }
 
--- the child at a place
+-- the number of the next child
+abbrev pub next_edge : Live → ℕ
+next_edge l = length l.edges + 1
+
+-- the child of a number, from 1
+abbrev pub edge_at : Live → ℕ → Option Edge
+edge_at l i = numbered l.edges i
+
+-- the number of the child that a link leads to, where it was used before
+abbrev pub edge_by_link : Live → List ℕ → Option ℕ
+edge_by_link l link = option_map (λ place. place + 1) (position (λ e. bytes_eq e.link link) l.edges)
+
+-- the child of a number
 abbrev pub peer_of : Live → ℕ → Option BranchId
-peer_of l i = option_map (λ e. e.peer) (slice_get l.edges i)
+peer_of l i = option_map (λ e. e.peer) (edge_at l i)

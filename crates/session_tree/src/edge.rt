@@ -10,9 +10,9 @@ use tran_ids::BranchId;
 pub enum Vote {
     /// Its parent has sent it no Prepare yet.
     Unasked,
-    /// It has got to answer.
+    /// Its parent has sent it Prepare, and has no answer yet.
     Asked,
-    /// It is sealed.
+    /// It is sealed, and in doubt until it knows the decision.
     Prepared,
     /// Nothing was changed on it or below it, and it is gone.
     ReadOnly,
@@ -28,18 +28,20 @@ impl Duplicate for Vote {
     }
 }
 
-/// A child of a live branch, and what it has told.
+/// A child of a live branch, and what the branch knows of it from its answers.
 #[derive(Debug, Drop)]
 pub struct Edge {
+    /// The child.
     pub peer: BranchId,
     /// The link that leads to it.
     pub link: Name,
-    /// The commit point strength that it told when it was opened.
+    /// The commit point strength of its node, as its Opened gave it.
     pub strength: u8,
-    /// Its weight by its last Reply, if it has one.
+    /// Its weight by its last Reply, where it has one.
     pub weight: Option<u8>,
-    /// The branches of its subtree by its last Reply, and 1 before any.
+    /// The number of branches in its subtree by its last Reply, and 1 before any.
     pub count: u16,
+    /// Its answer to Prepare.
     pub vote: Vote,
 }
 

@@ -1,13 +1,17 @@
-//! A live branch and its place in the session tree, as plain data.
+//! Live branches and their session trees: what a branch weighs, the walk to the commit point site, the room in a tree.
 //!
-//! The weight of a branch, the walk to the commit point site and the room in a tree are defined among the rules of a
-//! node.
+//! Children have numbers from 1, in the order in which they were opened. `specs/Tree.antt` defines the weight of a branch,
+//! the walk to the commit point site, and the room in a tree.
 #![tactic(auto)]
 
 mod act;
 mod edge;
 mod live;
+mod site_walk;
+mod tree;
 
 pub use act::{Act, Walk};
 pub use edge::{Edge, Edges, Vote};
 pub use live::{Live, Lives, Phase};
+pub use site_walk::site;
+pub use tree::{add_edge, room, step, weight};

@@ -6,17 +6,17 @@ use dtx_values::{Advice, Bytes, Duplicate, Listing};
 use std::alloc::{AllocError, Global};
 use tran_ids::BranchId;
 
-/// How far a live branch is on its way to the commit.
+/// How far a live branch is in its transaction.
 #[derive(Clone, Copy, Debug, PartialEq, Eq)]
 pub enum Phase {
-    /// From its beginning: it takes statements.
+    /// From its beginning on, until COMMIT or Prepare: it takes statements.
     Working,
-    /// From COMMIT or Prepare on, until all its children have answered.
+    /// From COMMIT at the root, and from Prepare elsewhere, until all its children have answered.
     Collecting {
         /// Whether the walk to the commit point site comes to this branch.
         site_below: bool,
     },
-    /// From its Ready on, until CommitPoint or a rollback comes.
+    /// From its answer Ready on, until CommitPoint or a rollback comes.
     Ready,
 }
 
@@ -26,25 +26,28 @@ impl Duplicate for Phase {
     }
 }
 
-/// A live branch: neither sealed nor decided nor gone.
+/// A live branch: neither sealed nor decided nor gone. A stop of its node loses it.
 #[derive(Debug, Drop)]
 pub struct Live {
+    /// Its id.
     pub me: BranchId,
     /// The root of its transaction.
     pub root: BranchId,
-    /// Nobody at the root.
+    /// Its parent in the session tree, and none at the root.
     pub parent: Option<BranchId>,
-    /// 1 at the root.
+    /// Its depth in the session tree: 1 at the root, at most 8.
     pub depth: u8,
     /// Whether it has changes of its own.
     pub changed: bool,
-    /// The commit point strength that its node had when it began.
+    /// The commit point strength of its node when it began, 0 to 255.
     pub strength: u8,
+    /// Its children, in the order in which their links were first used.
     pub edges: Edges,
+    /// How far it is in its transaction.
     pub phase: Phase,
-    /// The advice of the last statement that came to it, and none at the root.
+    /// The advice that came with the last statement it took, and none at the root.
     pub advice: Option<Advice>,
-    /// The comment of the COMMIT, once it has come.
+    /// The comment of the COMMIT, once that has come; empty before.
     pub comment: Bytes,
 }
 

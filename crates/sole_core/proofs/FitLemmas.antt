@@ -11,12 +11,13 @@ use Rattle.dtx_values.specs.declared.row.Change.{Change}
 use Rattle.tran_ids.specs.declared.branch.BranchId.{BranchId}
 use Rattle.redo_record.specs.declared.record.Decided.{Decided}
 use Rattle.redo_record.specs.declared.record.RedoRecord.TheVariants as records
-use Rattle.redo_codec.specs.Branch.{branch_format}
-use Rattle.redo_codec.specs.Change.{is_key, change_format}
+use Rattle.field_codec.specs.Branch.{branch_format}
+use Rattle.field_codec.specs.Change.{is_key, change_format}
+use Rattle.field_codec.specs.Fits.{HasCount}
 use Rattle.redo_codec.specs.Sealed.{decided_format}
-use Rattle.redo_codec.specs.Table.{table_format}
+use Rattle.field_codec.specs.Table.{table_format}
 use Rattle.redo_codec.specs.Record.{record_format}
-use Rattle.sql_eval.specs.Rows.{is_null}
+use Rattle.dtx_values.specs.Order.{is_null}
 use Rattle.sql_eval.specs.Laws.{IsRowAt}
 use Rattle.sole_node.specs.Kept.{Kept, next_root, fresh_root}
 use Rattle.sole_node.specs.Ready.{HasRows, IsChangeAt, IsRootAt, IsSane}
@@ -32,7 +33,7 @@ abbrev pub alone : BranchId → ℕ → List Change → Decided
 alone b scn changes = record { me = b; root = b; scn = scn; parent = None; children = []; advice = None; comment = []; changes = changes }
 
 pub alone_fits : (b : BranchId) (scn : ℕ) (changes : List Change) → branch_format.Fits b → scn < 2 ^ 48 → length changes < 2 ^ 32 → AllByRecursion change_format.Fits changes → decided_format.Fits (alone b scn changes)
-alone_fits b scn changes branch low few fit = (branch, (branch, (low, (tt, ((omega arith, tt), (tt, ((omega arith, is_utf8-from_IsUtf8 [] IsUtf8-nil), (few, fit))))))))
+alone_fits b scn changes branch low few fit = ((branch, (branch, low)), ((tt, (omega arith, tt)), (tt, ((omega arith, is_utf8-from_IsUtf8 [] IsUtf8-nil), (few, fit)))))
 
 pub decided_fits : (d : Decided) → decided_format.Fits d → record_format.Fits (records.Decided d)
 decided_fits d fits = (tt, fits)
@@ -44,7 +45,7 @@ key_fits values.Null h = absurd cc
 key_fits (values.Number n) h = refl
 key_fits (values.Text t) h = refl
 
-row_fits : (t : Table) (key : Value) (after : Option Row) → length t.columns ≤ 32 → IfSome after (IsRowAt t key) → IfSome after (λ row. length row.cells ≤ 255)
+row_fits : (t : Table) (key : Value) (after : Option Row) → length t.columns ≤ 32 → IfSome after (IsRowAt t key) → IfSome after HasCount
 row_fits t key None few at = tt
 row_fits t key (Some row) few at = let same = at.0 in omega (arith, few, same)
 

@@ -8,7 +8,7 @@ use Rattle.redo_record.specs.declared.record.RedoRecord.{RedoRecord}
 use Rattle.redo_record.specs.declared.record.RedoRecord.TheVariants as records
 use Rattle.byte_format.specs.Format.{IsSpelling, HasOneReading}
 use Rattle.redo_codec.specs.Record.{record_format}
-use Rattle.redo_log.specs.Cells.{bodies, held, log_of, AllFit, GrowsBy as GrowsByBody}
+use Rattle.redo_log.specs.Cells.{body_limit, bodies, held, log_of, AllFit, GrowsBy as GrowsByBody}
 use Rattle.redo_log.specs.Log.{disk_of}
 use Rattle.redo_log.specs.declared.log.Log.{Log}
 use Rattle.redo_log.proofs.Logs.{log_is_read}
@@ -23,8 +23,8 @@ use Rattle.sole_core.specs.OnDisk.{IsWritable, GrowsByRecord, HoldRecords, MaySt
 
 -- ---- a record that was appended
 
-pub is_spelled : (r : RedoRecord) (body : List ℕ) → IsSpelling record_format body r → length body ≤ 16777216 → IsSpelled r
-is_spelled r body spelling short = record { fits = spelling.fits; short = subst (λ (text : List ℕ). length text ≤ 16777216) spelling.spelled short }
+pub is_spelled : (r : RedoRecord) (body : List ℕ) → IsSpelling record_format body r → length body ≤ body_limit → IsSpelled r
+is_spelled r body spelling short = record { fits = spelling.fits; short = subst (λ (text : List ℕ). length text ≤ body_limit) spelling.spelled short }
 
 pub body_some : (r : RedoRecord) (body : List ℕ) → IsSpelling record_format body r → 0 < length body
 body_some r body spelling = subst (λ (text : List ℕ). 0 < length text) (sym spelling.spelled) (omega arith)
@@ -37,7 +37,7 @@ bodies-push : (rs : List RedoRecord) (r : RedoRecord) → bodies_of (rs ++ r ∷
 bodies-push [] r = refl
 bodies-push (x ∷ rs) r = ap (λ (texts : List (List ℕ)). record_format.text x ∷ texts) (bodies-push rs r)
 
-pub grows : (r : RedoRecord) (body before now : List ℕ) → IsSpelling record_format body r → length body ≤ 16777216 → GrowsByBody body before now → GrowsByRecord r before now
+pub grows : (r : RedoRecord) (body before now : List ℕ) → IsSpelling record_format body r → length body ≤ body_limit → GrowsByBody body before now → GrowsByRecord r before now
 grows r body before now spelling short more rs log = record {
   spelled = all-push IsSpelled rs r log.spelled (is_spelled r body spelling short);
   content = more (bodies_of rs) (bodies_fit rs log.spelled) log.content

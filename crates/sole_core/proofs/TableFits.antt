@@ -4,7 +4,7 @@ use Rattle.std.specs.Prelude.{IsTrue}
 use Rattle.std.proofs.lemmas.Bool.{le-leb}
 use Rattle.dtx_values.specs.declared.table.Table.{Table}
 use Rattle.sql_statement.specs.Whole.{IsWholeTable}
-use Rattle.redo_codec.specs.Table.{is_columns}
+use Rattle.field_codec.specs.Table.{is_columns}
 
 pub columns_fit : (t : Table) → IsWholeTable t → IsTrue (is_columns t.columns)
 columns_fit t whole =

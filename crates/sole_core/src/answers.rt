@@ -1,7 +1,7 @@
 //! What a turn answers and the record that it owes.
 ghost use Rattle.std.specs.Prelude.{◌≡◌, None, []};
 ghost use Rattle.dtx_values.specs.declared.answer.Answer.TheVariants.{Did, Refused};
-ghost use Rattle.sql_eval.specs.Refusals.{ora};
+ghost use Rattle.sql_check.specs.Refusals.{ora};
 
 use dtx_values::{Answer, Done, Listing, Refusal};
 use redo_record::RedoRecord;

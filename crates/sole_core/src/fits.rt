@@ -1,11 +1,11 @@
 //! That what a transaction changed has a spelling.
 ghost use Rattle.std.specs.Prelude.{◌≡◌, ◌≤◌, length, IsTrue, IfSome};
 ghost use Rattle.std.specs.List.{AllByRecursion};
-ghost use Rattle.redo_codec.specs.Change.{change_format};
+ghost use Rattle.field_codec.specs.Change.{change_format};
 ghost use Rattle.sole_core.specs.Fitting.{IsFitting};
 
 use dtx_values::Change;
-use redo_codec::change_fits;
+use field_codec::change_fits;
 
 /// Each of these changes has a spelling.
 pub(crate) fn changes_fit(changes: &[Change])

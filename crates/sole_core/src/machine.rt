@@ -1,13 +1,13 @@
 //! What a node keeps in memory, but for its disk.
 ghost use Rattle.std.specs.Prelude.{◌≡◌, ◌+◌, ◌-◌, ◌<◌, ◌^◌, not, filter, IfOk, OnOk};
 ghost use Rattle.std.specs.List.{position_or_len};
-ghost use Rattle.row_store.specs.Own.{extents as extents_in};
 ghost use Rattle.sole_node.specs.Kept.{fresh, is_of, session_at, with_session, begun, ended, used_extents};
 ghost use Rattle.sole_core.specs.Places.{place_at};
 
 use catalog::Catalog;
+use dtx_values::SESSION_LIMIT;
 use row_locks::Locks;
-use row_store::{OwnChanges, Tables};
+use row_store::{OwnChanges, Tables, extents};
 use sole_node::{Root, Session};
 use std::alloc::{AllocError, Global};
 use std::marker::Model;
@@ -15,9 +15,6 @@ use tran_ids::{BranchId, Clock};
 
 /// The number of the one node.
 pub(crate) const NODE: u8 = 1;
-
-/// How many client sessions a node has.
-const SESSIONS: usize = 64;
 
 /// A session that has had no transaction.
 const FRESH: Session = Session { seq: 0, root: None };
@@ -91,7 +88,7 @@ impl Machine {
     pub(crate) fn new(alloc: Global) -> Result<Machine, AllocError>
         ensures { IfOk result (λ machine. machine ≡ fresh) }
     {
-        let sessions = vec![in alloc; FRESH; SESSIONS]?;
+        let sessions = vec![in alloc; FRESH; SESSION_LIMIT as usize]?;
         Ok(Machine {
             alloc,
             boot: 0,
@@ -184,11 +181,4 @@ impl Machine {
         }
         free
     }
-}
-
-/// How many extents so many bytes of undo take.
-fn extents(bytes: u64) -> u64
-    ensures { result ≡ extents_in bytes }
-{
-    ((u128::from(bytes) + 4095) / 4096) as u64
 }

@@ -23,9 +23,9 @@ use crate::finished::Finished;
 use crate::machine::Machine;
 use crate::records::records;
 use block_disk::Disk;
-use redo_record::RedoRecord;
 use redo_codec::{encode, records_are_exact};
 use redo_log::{Bodies, LoadErr, LoadWhy, Log, LogErr};
+use redo_record::RedoRecord;
 use sole_node::Input;
 use std::alloc::{AllocError, Global};
 
@@ -33,7 +33,7 @@ use std::alloc::{AllocError, Global};
 #[derive(Drop)]
 pub struct Node<D: Disk> {
     alloc: Global,
-    /// Its undo space, in extents of 4,096 bytes.
+    /// Its undo space, in extents.
     undo: u32,
     machine: Machine,
     log: Log<D>,
@@ -53,6 +53,7 @@ fn append<D: Disk>(alloc: Global, log: &mut Log<D>, record: &RedoRecord) -> Resu
     ensures later { D.faults (disk_of log.old) ≤ D.faults (disk_of log.new) }
     ensures calls { OnOk result (D.calls (disk_of log.new) ≡ count_after 4 (D.calls (disk_of log.old))) }
     ensures untouched { IsErrOf result turns.NoMemory → D.calls (disk_of log.new) ≡ D.calls (disk_of log.old) }
+    ensures unwritten { IsErrOf result turns.NoMemory → D.content (disk_of log.new) ≡ D.content (disk_of log.old) }
 {
     let body = encode(alloc, record)?;
     match log.append(body.as_slice()) {
@@ -72,6 +73,7 @@ fn append_start<D: Disk>(alloc: Global, log: &mut Log<D>, boot: u32) -> Result<(
     ensures stored { OnOk result (GrowsByRecord (records.Boot boot) (D.content (disk_of log.old)) (D.content (disk_of log.new))) }
     ensures halted { IsErrOf result turns.Halted → Rose (D.faults (disk_of log.old)) (D.faults (disk_of log.new)) }
     ensures later { D.faults (disk_of log.old) ≤ D.faults (disk_of log.new) }
+    ensures unwritten { IsErrOf result turns.NoMemory → D.content (disk_of log.new) ≡ D.content (disk_of log.old) }
 {
     append(alloc, log, &RedoRecord::Boot(boot))
 }
@@ -100,7 +102,7 @@ fn write<D: Disk>(
     }
 }
 
-/// What the node kept of which the log has these bodies.
+/// The state recovered from these log bodies.
 #[tactic(auto, using(crate::proofs::Growing::growing))]
 fn replayed(alloc: Global, bodies: &Bodies) -> Result<Machine, MakeWhy>
     requires { (rs : List RedoRecord) × HoldRecords rs bodies.now × AreSound fresh rs }
@@ -129,6 +131,7 @@ fn begin<D: Disk>(
     ensures spelled { IfOk result (λ node. IsSpelled (records.Boot (machine.boot + 1))) }
     ensures fault { IfErr result (λ err. err.why ≡ makes.Fault → Rose (D.faults (disk_of log)) (D.faults err.disk)) }
     ensures later { MatchResult result (λ node. D.faults (disk_of log) ≤ D.faults (node_disk node)) (λ err. D.faults (disk_of log) ≤ D.faults err.disk) }
+    ensures unwritten { IfErr result (λ err. err.why ≡ makes.NoMemory → D.content err.disk ≡ D.content (disk_of log)) }
 {
     let mut machine = machine;
     let mut log = log;
@@ -168,7 +171,7 @@ fn begin_empty<D: Disk>(alloc: Global, undo: u32, log: Log<D>) -> Result<Node<D>
     }
 }
 
-/// The node of which the log has these bodies.
+/// The node whose log has these bodies.
 #[tactic(auto, using(crate::proofs::Growing::growing))]
 fn begin_from<D: Disk>(
     alloc: Global,
@@ -183,6 +186,7 @@ fn begin_from<D: Disk>(
     ensures running { IfOk result (λ node. IsRunning D.content D.images node) }
     ensures fault { IfErr result (λ err. err.why ≡ makes.Fault → Rose (D.faults (disk_of log)) (D.faults err.disk)) }
     ensures later { MatchResult result (λ node. D.faults (disk_of log) ≤ D.faults (node_disk node)) (λ err. D.faults (disk_of log) ≤ D.faults err.disk) }
+    ensures unwritten { IfErr result (λ err. err.why ≡ makes.NoMemory → D.content err.disk ≡ D.content (disk_of log)) }
 {
     match replayed(alloc, bodies) {
         Ok(machine) => begin(alloc, undo, log, machine),
@@ -237,6 +241,8 @@ impl<D: Disk> Node<D> {
         ensures started { IfOk result (StartsFrom D.content (D.content disk)) }
         ensures running { IfOk result (λ node. IsRunning D.content D.images node) }
         ensures fault { IfErr result (λ err. err.why ≡ makes.Fault → Rose (D.faults disk) (D.faults err.disk)) }
+        // A start that is out of memory has written nothing.
+        ensures unwritten { IfErr result (λ err. err.why ≡ makes.NoMemory → D.content err.disk ≡ D.content disk) }
     {
         match Log::load(alloc, disk) {
             Ok((log, bodies)) => begin_from(alloc, undo, log, &bodies),
@@ -322,9 +328,10 @@ fn session_of_input(input: &Input) -> u32
     }
 }
 
-/// Why a node is not made or started of which the first record is not on the disk.
+/// Why no node was made: its record `Boot` was not written.
 fn make_why(err: TurnErr) -> MakeWhy
-    ensures { result ≡ makes.Fault → err ≡ turns.Halted }
+    ensures fault { result ≡ makes.Fault → err ≡ turns.Halted }
+    ensures memory { result ≡ makes.NoMemory → err ≡ turns.NoMemory }
 {
     match err {
         TurnErr::Halted => MakeWhy::Fault,
@@ -335,7 +342,8 @@ fn make_why(err: TurnErr) -> MakeWhy
 /// Why a node is not started whose log was not loaded.
 fn load_why(why: LoadWhy) -> MakeWhy
     requires { why ≡ loads.NotALog → ⊥ }
-    ensures { result ≡ makes.Fault → why ≡ loads.Fault }
+    ensures fault { result ≡ makes.Fault → why ≡ loads.Fault }
+    ensures memory { result ≡ makes.NoMemory → why ≡ loads.NoMemory }
 {
     match why {
         LoadWhy::Fault => MakeWhy::Fault,

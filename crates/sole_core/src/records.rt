@@ -7,9 +7,9 @@ ghost use Rattle.sole_core.specs.OnDisk.{HoldRecords};
 ghost use Rattle.sole_core.specs.declared.err.MakeWhy.TheVariants as makes;
 
 use crate::err::MakeWhy;
-use redo_record::RedoRecord;
 use redo_codec::{DecodeErr, decode};
 use redo_log::Bodies;
+use redo_record::RedoRecord;
 use std::alloc::Global;
 
 /// The record of a body, which has to be one's.

@@ -3,12 +3,13 @@ ghost use Rattle.std.specs.Prelude.{◌≡◌, ◌+◌, ◌<◌, ◌≤◌, ◌^
 ghost use Rattle.std.specs.List.{All, AllByRecursion};
 ghost use Rattle.std.specs.Option.{option_copied};
 ghost use Rattle.dtx_values.specs.declared.answer.Answer.TheVariants.{Did, Refused};
-ghost use Rattle.redo_codec.specs.Table.{is_columns};
-ghost use Rattle.redo_codec.specs.Fits.{HasWidth};
+ghost use Rattle.field_codec.specs.Table.{is_columns};
+ghost use Rattle.dtx_values.specs.Widths.{HasWidth};
 ghost use Rattle.redo_codec.specs.Sealed.{decided_format};
 ghost use Rattle.redo_codec.specs.Record.{record_format};
 ghost use Rattle.sql_statement.specs.declared.statement.Stmt.TheVariants as stmts;
 ghost use Rattle.sql_statement.specs.Whole.{IsWholeTable};
+ghost use Rattle.dtx_values.specs.Limits.{changes_limit};
 ghost use Rattle.sole_node.specs.declared.input.Input.TheVariants as inputs;
 ghost use Rattle.redo_record.specs.declared.record.RedoRecord.TheVariants as records;
 ghost use Rattle.sole_node.specs.Statements.{table_in, is_bare, is_brought as is_brought_of, brought as brought_of};
@@ -22,8 +23,8 @@ use crate::answers::{INVALID_SQL, NAME_USED, NO_TABLE, Served, did, refused};
 use crate::fits::changes_fit;
 use crate::machine::Machine;
 use dtx_values::{Changes, Done, Duplicate, Listing, Name, Table};
+use field_codec::{branch_fits, table_fits};
 use redo_record::{Decided, RedoRecord};
-use redo_codec::{branch_fits, table_fits};
 use row_store::OwnChanges;
 use sole_node::Input;
 use sql_statement::{Stmt, TableRef};
@@ -266,7 +267,7 @@ impl Machine {
         requires at { IsFirstAt self.old place }
         ensures root { result.0 ≡ (root_in self.old place).me }
         ensures changes { result.1 ≡ (root_in self.old place).own.changes }
-        ensures few { length result.1 ≤ 8388608 }
+        ensures few { length result.1 ≤ changes_limit }
         ensures after { self.new ≡ ended self.old session (root_in self.old place).me }
     {
         let root = &mut self.roots[place];

@@ -11,6 +11,7 @@ use Rattle.book.specs.declared.entry.Entry.{Entry}
 use Rattle.book.specs.Entries.{entries_of}
 use Rattle.sole_script.specs.declared.command.Command.{Command}
 use Rattle.sole_script.specs.declared.command.Command.TheVariants as commands
+use Rattle.dtx_values.specs.Limits.{session_limit}
 use Rattle.sole_node.specs.declared.input.Input.{Input}
 use Rattle.sole_node.specs.declared.input.Input.TheVariants as inputs
 use Rattle.sole_node.specs.declared.happening.Happening.{Happening}
@@ -218,14 +219,14 @@ started_numbered p boot n is next_one =
     let old_scn : s.scn ≤ n.limit = n.scn in
     let new_boot : (start_of rs).boot ≡ boot = ap (λ (k : Kept). k.boot) more in
     let new_scn : (start_of rs).scn ≡ s.scn = ap (λ (k : Kept). k.scn) more in
-    let sessions : (start_of rs).sessions ≡ replicate 64 fresh_session = ap (λ (k : Kept). k.sessions) (start_rests rs) in
+    let sessions : (start_of rs).sessions ≡ replicate session_limit fresh_session = ap (λ (k : Kept). k.sessions) (start_rests rs) in
     record {
       limit = n.limit + 1;
       few = omega (arith, few, one);
       boot = omega (arith, old_boot, new_boot, next_one);
       scn = omega (arith, old_scn, new_scn);
       low = record {
-        seqs = subst (AllByRecursion (IsLow (n.limit + 1))) (sym sessions) (all-replicate (IsLow (n.limit + 1)) fresh_session (omega arith) 64);
+        seqs = subst (AllByRecursion (IsLow (n.limit + 1))) (sym sessions) (all-replicate (IsLow (n.limit + 1)) fresh_session (omega arith) session_limit);
         scn = omega (arith, old_scn, new_scn);
         boot = omega (arith, old_boot, new_boot, next_one);
       };
@@ -259,6 +260,6 @@ goes_first asked = record {
     few = omega arith;
     boot = omega arith;
     scn = omega arith;
-    low = record { seqs = all-replicate (IsLow 0) fresh_session (omega arith) 64; scn = omega arith; boot = omega arith };
+    low = record { seqs = all-replicate (IsLow 0) fresh_session (omega arith) session_limit; scn = omega arith; boot = omega arith };
   };
 }

@@ -9,7 +9,7 @@ use Rattle.dtx_values.specs.declared.answer.Answer.TheVariants as answers
 use Rattle.redo_record.specs.declared.record.RedoRecord.TheVariants as records
 use Rattle.sql_statement.specs.declared.statement.Stmt.{Stmt}
 use Rattle.sql_statement.specs.declared.statement.Stmt.TheVariants as stmts
-use Rattle.sql_eval.specs.Refusals.{ora}
+use Rattle.sql_check.specs.Refusals.{ora}
 use Rattle.stmt_run.specs.Run.{ran_over}
 use Rattle.sole_node.specs.declared.input.Input.{Input}
 use Rattle.sole_node.specs.declared.input.Input.TheVariants as inputs

@@ -9,6 +9,7 @@ use Rattle.std.proofs.lemmas.Grind.{get_or-set_at}
 use Rattle.std.proofs.lemmas.Option.{unwrap_or-slice_get, slice_get_past}
 use Rattle.dtx_values.specs.declared.row.Change.{Change}
 use Rattle.dtx_values.specs.declared.table.Table.{Table}
+use Rattle.dtx_values.specs.Limits.{session_limit}
 use Rattle.tran_ids.specs.declared.branch.BranchId.{BranchId}
 use Rattle.tran_ids.specs.Branch.{same}
 use Rattle.tran_ids.proofs.BranchLemmas.{equal_from_same, same_from_equal}
@@ -25,7 +26,7 @@ use Rattle.sole_laws.proofs.BookLemmas.{DecidesOnly, DecideOnly, DecideOnly-more
 
 -- what a stop leaves of a node, and its start finds
 abbrev pub rest_of : Kept → Kept
-rest_of k = record { boot = k.boot; tables = k.tables; rows = k.rows; scn = k.scn; roots = []; locks = []; sessions = replicate 64 fresh_session }
+rest_of k = record { boot = k.boot; tables = k.tables; rows = k.rows; scn = k.scn; roots = []; locks = []; sessions = replicate session_limit fresh_session }
 
 -- how many transactions a session has open
 abbrev pub opened : Option BranchId → ℕ
@@ -47,7 +48,7 @@ pub record Owns (k : Kept) (n : ℕ) (b : BranchId) : Type 0 where
 -- an up node: what its transactions changed is of its tables, each session owns its own, and the decided ones are past
 pub record Lives (k : Kept) (book : List Entry) : Type 0 where
   pub roots : AllByRecursion (IsRootAt k) k.roots
-  pub sessions : length k.sessions ≡ 64
+  pub sessions : length k.sessions ≡ session_limit
   pub owned : (n : ℕ) (b : BranchId) → (session_at k n).root ≡ Some b → Owns k n b
   pub past : DecideOnly (IsPast k) book
 
@@ -271,7 +272,7 @@ Lives-made k book rows t lives = record {
 -- ---- a start
 
 no_root : (k : Kept) (m : ℕ) → (session_at (rest_of k) m).root ≡ None
-no_root k m = all-get (λ (s : Session). s.root ≡ None) (replicate 64 fresh_session) (m - 1) fresh_session (all-replicate (λ (s : Session). s.root ≡ None) fresh_session refl 64) refl
+no_root k m = all-get (λ (s : Session). s.root ≡ None) (replicate session_limit fresh_session) (m - 1) fresh_session (all-replicate (λ (s : Session). s.root ≡ None) fresh_session refl 64) refl
 
 pub Lives-started : (k : Kept) (book : List Entry) (boot : ℕ) → DecideOnly (λ g. g.boot ≤ boot) book → k.boot ≡ boot + 1 → Lives (rest_of k) book
 Lives-started k book boot earlier is = record {

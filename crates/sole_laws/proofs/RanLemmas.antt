@@ -10,8 +10,9 @@ use Rattle.dtx_values.specs.declared.answer.Done.{Done}
 use Rattle.sql_statement.specs.declared.statement.Stmt.{Stmt}
 use Rattle.sql_eval.specs.declared.meant.Meant.{Meant}
 use Rattle.sql_eval.specs.declared.meant.Meant.TheVariants as meants
-use Rattle.sql_eval.specs.Refusals.{else_refuse}
-use Rattle.sql_eval.specs.Meaning.{checked, examined, written, meant_over}
+use Rattle.sql_check.specs.Refusals.{else_refuse}
+use Rattle.sql_check.specs.Checks.{checked}
+use Rattle.sql_eval.specs.Meaning.{examined, written, meant_over}
 use Rattle.sql_eval.specs.Laws.{has_one_key, AreRowsOf, IsChangeOf}
 use Rattle.sql_eval.proofs.RowLaws.{changes_are_of_table}
 use Rattle.row_locks.specs.Locks.{keys_held}

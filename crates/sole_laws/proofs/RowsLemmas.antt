@@ -11,7 +11,7 @@ use Rattle.tran_ids.specs.declared.branch.BranchId.{BranchId}
 use Rattle.tran_ids.specs.Branch.{same}
 use Rattle.tran_ids.proofs.BranchLemmas.{same_from_equal}
 use Rattle.sql_eval.specs.declared.keyed.Keyed.{Keyed}
-use Rattle.sql_eval.specs.Words.{same_text}
+use Rattle.sql_check.specs.Words.{same_text}
 use Rattle.sql_eval.specs.Rows.{change_one, apply, set_to}
 use Rattle.row_store.specs.Tables.{TableRows, apply_all, rows_of_table}
 use Rattle.book.specs.declared.entry.Entry.{Entry}

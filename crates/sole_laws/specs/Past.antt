@@ -5,6 +5,7 @@ use Rattle.dtx_values.specs.declared.answer.Notice.TheVariants as notices
 use Rattle.dtx_values.specs.declared.answer.Done.TheVariants.{Committed}
 use Rattle.dtx_values.specs.declared.answer.Answer.{Answer}
 use Rattle.dtx_values.specs.declared.answer.Answer.TheVariants.{Did}
+use Rattle.dtx_values.specs.Limits.{usual_extents}
 use Rattle.redo_record.specs.declared.record.RedoRecord.{RedoRecord}
 use Rattle.redo_record.specs.declared.record.RedoRecord.TheVariants as records
 use Rattle.sql_parse.specs.Statement.{statement_of}
@@ -55,7 +56,7 @@ pub record Past : Type 0 where
 -- the undo extents that the first command gives the node, which it makes
 abbrev pub undo_in : List Command → ℕ
 undo_in (commands.Node name undo ∷ others) = undo
-undo_in _ = 64
+undo_in _ = usual_extents
 
 -- before anything happened: the node is made
 abbrev pub start : List Command → Past

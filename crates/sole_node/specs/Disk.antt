@@ -3,12 +3,12 @@ use Rattle.std.specs.Prelude.{◌≡◌, ◌≤◌, ℕ, List, map, length}
 use Rattle.std.specs.List.{AllByRecursion}
 use Rattle.redo_record.specs.declared.record.RedoRecord.{RedoRecord}
 use Rattle.redo_codec.specs.Record.{record_format}
-use Rattle.redo_log.specs.Cells.{log_of}
+use Rattle.redo_log.specs.Cells.{body_limit, log_of}
 
 -- a record that can be written: it has a spelling, which is not too long for a log
 pub record IsSpelled (r : RedoRecord) : Type 0 where
   pub fits : record_format.Fits r
-  pub short : length (record_format.text r) ≤ 16777216
+  pub short : length (record_format.text r) ≤ body_limit
 
 -- the bodies of these records
 abbrev pub bodies_of : List RedoRecord → List (List ℕ)

@@ -3,6 +3,7 @@ use Rattle.std.specs.Prelude.{ℕ, ◌+◌, ◌-◌, Bool, List, [], ◌∷◌, 
 use Rattle.std.specs.Str.{bytes_eq}
 use Rattle.std.specs.List.{list_any, position_or_len}
 use Rattle.dtx_values.specs.declared.table.Table.{Table}
+use Rattle.dtx_values.specs.Limits.{session_limit}
 use Rattle.tran_ids.specs.declared.branch.BranchId.{BranchId}
 use Rattle.tran_ids.specs.Branch.{same}
 use Rattle.row_locks.specs.Locks.{Lock, without}
@@ -16,7 +17,7 @@ abbrev pub the_node : ℕ
 the_node = 1
 
 -- A node: which start it runs in, from 1; its tables and their committed rows; the greatest commit SCN. A stop loses the
--- rest: the open transactions in the order in which they began, the locks in the order in which they were taken, the 64
+-- rest: the open transactions in the order in which they began, the locks in the order in which they were taken, the
 -- client sessions.
 pub record Kept : Type 0 where
   pub boot : ℕ
@@ -33,7 +34,7 @@ fresh_session = record { seq = 0; root = None }
 
 -- a node of which no record stands
 abbrev pub fresh : Kept
-fresh = record { boot = 0; tables = []; rows = []; scn = 0; roots = []; locks = []; sessions = replicate 64 fresh_session }
+fresh = record { boot = 0; tables = []; rows = []; scn = 0; roots = []; locks = []; sessions = replicate session_limit fresh_session }
 
 -- the table of a name
 abbrev pub table_of : Kept → List ℕ → Option Table

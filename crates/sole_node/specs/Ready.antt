@@ -3,6 +3,7 @@ use Rattle.std.specs.Prelude.{◌≡◌, ◌+◌, ◌<◌, ◌≤◌, ◌^◌, �
 use Rattle.std.specs.List.{AllByRecursion}
 use Rattle.dtx_values.specs.declared.table.Table.{Table}
 use Rattle.dtx_values.specs.declared.row.Change.{Change}
+use Rattle.dtx_values.specs.Limits.{session_limit}
 use Rattle.tran_ids.specs.declared.branch.BranchId.{BranchId}
 use Rattle.sql_eval.specs.Laws.{has_one_key, AreRowsOf, IsChangeOf}
 use Rattle.row_store.specs.Tables.{rows_of_table}
@@ -38,7 +39,7 @@ pub record IsSane (k : Kept) : Type 0 where
   pub tables : AllByRecursion (HasRows k) k.tables
   pub names : map (λ t. t.table) k.rows ≡ map (λ t. t.name) k.tables
   pub roots : AllByRecursion (IsRootAt k) k.roots
-  pub sessions : length k.sessions ≡ 64
+  pub sessions : length k.sessions ≡ session_limit
   pub begun : (n : ℕ) (b : BranchId) → (session_at k n).root ≡ Some b → is_some (root_of k (Some b)) ≡ true
 
 -- The numbers that a turn gives out are below their limits.

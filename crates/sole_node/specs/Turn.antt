@@ -11,7 +11,7 @@ use Rattle.redo_record.specs.declared.record.RedoRecord.{RedoRecord}
 use Rattle.redo_record.specs.declared.record.RedoRecord.TheVariants as records
 use Rattle.sql_statement.specs.declared.statement.Stmt.{Stmt}
 use Rattle.sql_statement.specs.declared.statement.Stmt.TheVariants as stmts
-use Rattle.sql_eval.specs.Refusals.{ora}
+use Rattle.sql_check.specs.Refusals.{ora}
 use Rattle.row_store.specs.Tables.{apply_all, with_table}
 use Rattle.row_store.specs.Own.{view_of, changes_length}
 use Rattle.stmt_run.specs.declared.ran.Ran.{Ran}

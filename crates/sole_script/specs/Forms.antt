@@ -1,6 +1,7 @@
 -- The forms of a command, as they are spelled.
 use Rattle.std.specs.Prelude.{ℕ, ◌+◌, ◌≤◌, ◌==◌, ⊤, List, Option, None, Some, if◌then◌else◌, codes, position, take, drop}
 use Rattle.std.specs.Option.{option_or}
+use Rattle.dtx_values.specs.Limits.{extents_limit, session_limit, usual_extents}
 use Rattle.command_grammar.specs.Reading.{◌>>=◌}
 use Rattle.command_grammar.specs.Tokens.{tokens_of}
 use Rattle.command_grammar.specs.Grammar.{Tokens, keyword_at, name_at, natural_at, end_at}
@@ -8,25 +9,13 @@ use Rattle.sole_script.specs.declared.command.Command.{Command}
 use Rattle.sole_script.specs.declared.command.Command.TheVariants.{Node, At, Stop, Start, ShowBook, ShowDisk}
 use Rattle.sole_script.specs.Pieces.{is_colon}
 
--- the sessions of a node have the numbers from 1 to this
-abbrev pub session_limit : ℕ
-session_limit = 64
-
--- the most extents of undo that a node may have
-abbrev pub undo_limit : ℕ
-undo_limit = 1024
-
--- the extents of undo of a node whose command names none
-abbrev pub undo_default : ℕ
-undo_default = 64
-
 -- a session of a node has this number
 abbrev pub IsSession : ℕ → Type 0
 IsSession n = (1 ≤ n) × (n ≤ session_limit)
 
 -- a node may have so many extents of undo
 abbrev pub IsUndo : ℕ → Type 0
-IsUndo n = (1 ≤ n) × (n ≤ undo_limit)
+IsUndo n = (1 ≤ n) × (n ≤ extents_limit)
 
 -- the numbers of a command are in their ranges
 abbrev pub IsInRange : Command → Type 0
@@ -47,14 +36,14 @@ count_at limit ts = do
 unfoldable pub undo_at : Tokens → Option (ℕ × Tokens)
 undo_at ts = do
   a ← keyword_at (codes "UNDO") ts
-  count_at undo_limit a
+  count_at extents_limit a
 
 -- NODE name [UNDO number]: the name and the extents
 unfoldable pub node_of : List ℕ → Option (List ℕ × ℕ)
 node_of piece = do
   a ← keyword_at (codes "NODE") (tokens_of piece)
   name ← name_at a
-  undo ← option_or (undo_at name.1) (Some (undo_default, name.1))
+  undo ← option_or (undo_at name.1) (Some (usual_extents, name.1))
   _ ← end_at undo.1
   Some (name.0, undo.0)
 

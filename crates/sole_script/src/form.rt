@@ -1,28 +1,20 @@
 //! The forms of a command, and how each is read.
 ghost use Rattle.std.specs.Prelude.{◌≡◌, ◌≤◌, Some, IfOk};
 ghost use Rattle.std.specs.Option.{option_or};
+ghost use Rattle.dtx_values.specs.Limits.{usual_extents};
 ghost use Rattle.command_grammar.specs.Reading.{Gives};
-ghost use Rattle.sole_script.specs.Forms.{undo_default, IsUndo, IsInRange, count_at, undo_at, node_of, at_of, stop_at, start_at, show_book_at, show_disk_at, command_of};
+ghost use Rattle.sole_script.specs.Forms.{IsUndo, IsInRange, count_at, undo_at, node_of, at_of, stop_at, start_at, show_book_at, show_disk_at, command_of};
 
 use crate::command::Command;
 use crate::piece::{around, colon_at};
 use command_grammar::CommandErr;
 use command_grammar::grammar::{end, keyword, name, natural};
 use command_grammar::token::{Token, tokens};
-use dtx_values::{Listing, Name};
+use dtx_values::{EXTENTS_LIMIT, Listing, Name, SESSION_LIMIT, USUAL_EXTENTS};
 use std::alloc::Global;
 
 /// The number of the one node that a script has.
 const NODE: u8 = 1;
-
-/// The greatest number of a session.
-const SESSIONS: u32 = 64;
-
-/// The most extents of undo that a node may have.
-const MOST_UNDO: u32 = 1024;
-
-/// The extents of undo of a node whose command names none.
-const USUAL_UNDO: u32 = 64;
 
 /// A number from 1 to the limit.
 #[tactic(auto, unfolding(crate::specs::Forms::count_at))]
@@ -44,16 +36,16 @@ fn undo(tokens: &[Token]) -> Result<(u32, &[Token]), CommandErr>
     ensures within { IfOk result (λ x. IsUndo x.0) }
 {
     let rest = keyword(tokens, b"UNDO")?;
-    count(rest, MOST_UNDO)
+    count(rest, EXTENTS_LIMIT)
 }
 
 /// The extents that `UNDO` names, or else the usual ones.
 fn undo_or_usual(tokens: &[Token]) -> Result<(u32, &[Token]), CommandErr>
-    ensures value { Gives (λ x. (x.0, x.1.now)) result (option_or (undo_at tokens.now) (Some (undo_default, tokens.now))) }
+    ensures value { Gives (λ x. (x.0, x.1.now)) result (option_or (undo_at tokens.now) (Some (usual_extents, tokens.now))) }
     ensures within { IfOk result (λ x. IsUndo x.0) }
 {
     match undo(tokens) {
-        Err(CommandErr::BadCommand) => Ok((USUAL_UNDO, tokens)),
+        Err(CommandErr::BadCommand) => Ok((USUAL_EXTENTS, tokens)),
         read => read,
     }
 }
@@ -86,7 +78,7 @@ fn at(alloc: Global, node: &Name, piece: &[u8]) -> Result<Command, CommandErr>
     let rest = keyword(&tokens, b"AT")?;
     let rest = keyword(rest, node.as_bytes())?;
     let rest = keyword(rest, b"SESSION")?;
-    let (session, rest) = count(rest, SESSIONS)?;
+    let (session, rest) = count(rest, SESSION_LIMIT)?;
     end(rest)?;
     Ok(Command::At {
         node: NODE,

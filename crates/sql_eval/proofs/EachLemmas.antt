@@ -4,8 +4,9 @@ use Rattle.std.specs.Prelude.{IfSome}
 use Rattle.std.specs.List.{All, AllByRecursion}
 use Rattle.std.proofs.lemmas.List.Elements.{All-head, All-tail}
 use Rattle.sql_eval.specs.Data.{Value, Row, Change, Keyed}
-use Rattle.sql_eval.specs.Words.{same_text}
-use Rattle.sql_eval.specs.Rows.{value_below, same_value, put, set_to, change_one, apply}
+use Rattle.sql_check.specs.Words.{same_text}
+use Rattle.dtx_values.specs.Order.{value_below, same_value}
+use Rattle.sql_eval.specs.Rows.{put, set_to, change_one, apply}
 
 -- a row at a key
 abbrev keyed : Value → Row → Keyed

@@ -6,10 +6,12 @@ use Rattle.sql_eval.specs.Data.signs
 use Rattle.sql_eval.specs.Data.conds
 use Rattle.sql_eval.specs.Data.stmts
 use Rattle.sql_eval.specs.Data.dones
-use Rattle.sql_eval.specs.Words.{first_some}
-use Rattle.sql_eval.specs.Rows.{same_value, get, keys_of}
-use Rattle.sql_eval.specs.Columns.{is_key, key_of_row, cell}
-use Rattle.sql_eval.specs.Meaning.{cells_of, changing, conds_of, deleted, fixes, holds, inserted_cells, inserting, meant_over, picked, satisfies, updated, written}
+use Rattle.sql_check.specs.Words.{first_some}
+use Rattle.dtx_values.specs.Order.{same_value}
+use Rattle.sql_eval.specs.Rows.{get, keys_of}
+use Rattle.sql_check.specs.Columns.{is_key, key_of_row, cell}
+use Rattle.sql_check.specs.Inserted.{cells_of, inserted_cells}
+use Rattle.sql_eval.specs.Meaning.{changing, conds_of, deleted, fixes, holds, inserting, meant_over, picked, satisfies, updated, written}
 use Rattle.sql_eval.specs.Laws.{AreKeyed, HasOneKey, at_key, FoundAtKey, WrittenAtKey, MeantAtKey}
 
 left : (a b : Bool) → (a && b) ≡ true → a ≡ true
@@ -30,7 +32,7 @@ key_cell : (t : Table) (r : Keyed) (name : List ℕ) → HasOneKey t → key_of_
 key_cell t r name one keyed is =
     ap (λ (place : Option ℕ). unwrap_or (slice_get r.row.cells (unwrap_or place (length r.row.cells))) values.Null) ((one name).0 is) ∙ keyed
 
--- a row of which a condition is true has the key that this condition fixes
+-- a row that satisfies a condition has the key that the condition fixes
 fixes-holds : (t : Table) (r : Keyed) (c : Cond) (key : Value) → HasOneKey t → key_of_row t r.row.cells ≡ r.key → fixes t c ≡ Some key → holds t r.row c ≡ true → same_value r.key key ≡ true
 fixes-holds t r (conds.Compare column signs.Eq literal) key one keyed fixed true_of =
     let test = given _ _ _ fixed in

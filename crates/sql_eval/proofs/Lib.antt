@@ -1,14 +1,10 @@
 mod ChangeLemmas
 pub mod EachLemmas
-mod FindLemmas
 pub mod KeyLaws
 mod ListLemmas
 pub mod MadeLemmas
-mod OrderLemmas
-mod RangeLemmas
+mod PutLemmas
 pub mod RowLaws
 mod SetLemmas
 pub mod StayLaws
 pub mod TableLaws
-mod ZipLemmas
-pub mod ValueOrder

@@ -9,8 +9,9 @@ use Rattle.sql_eval.specs.Data.picks
 use Rattle.sql_eval.specs.Data.dones
 use Rattle.sql_eval.specs.Data.meants
 use Rattle.sql_eval.specs.Rows.{get, keys_of}
-use Rattle.sql_eval.specs.Columns.{cell, key_of_row}
-use Rattle.sql_eval.specs.Meaning.{and_updated, cells_of, change_to, changing, deleted, inserted_cells, inserting, insertion, meant_over, picked, removal, satisfies, set_all, summed, summed_set, update, updated, written}
+use Rattle.sql_check.specs.Columns.{cell, key_of_row}
+use Rattle.sql_check.specs.Inserted.{cells_of, inserted_cells}
+use Rattle.sql_eval.specs.Meaning.{and_updated, change_to, changing, deleted, inserting, insertion, meant_over, picked, removal, satisfies, set_all, summed, summed_set, update, updated, written}
 use Rattle.sql_eval.specs.Laws.{ChangesAreOfWritten, CountIsLength}
 use Rattle.sql_eval.proofs.EachLemmas.{filter-each}
 
@@ -18,7 +19,7 @@ use Rattle.sql_eval.proofs.EachLemmas.{filter-each}
 abbrev pub setting : Table → Value → Row → Change
 setting t key row = record { table = t.name; key = key; after = Some row }
 
--- what a statement makes of one row of which R holds is so
+-- what a statement makes of one row that satisfies R is so
 abbrev pub Makes : (Change → Type 0) → (Keyed → Type 0) → Table → Stmt → Type 0
 Makes Q R t (stmts.Insert table columns given) = Q (insertion t (cells_of (inserted_cells t columns given)))
 Makes Q R t (stmts.Update table sets cs) = (r : Keyed) (row : Row) → R r → set_all t r.row (Ok r.row) sets ≡ Ok row → Q (setting t r.key row)

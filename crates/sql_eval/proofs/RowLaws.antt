@@ -8,11 +8,14 @@ use Rattle.std.proofs.Math.Numerals.{one-add}
 use Rattle.sql_eval.specs.Data.{Value, Row, Change, Column, Table, Keyed, Set, Stmt, Refusal}
 use Rattle.sql_eval.specs.Data.values
 use Rattle.sql_eval.specs.Data.stmts
-use Rattle.sql_eval.specs.Words.{first_some, same_text}
-use Rattle.sql_eval.specs.Rows.{is_null}
-use Rattle.sql_eval.specs.Columns.{column_of, given_columns, key_of_row, place_of, statement_fits}
-use Rattle.sql_eval.specs.Refusals.{dtx, else_refuse, refuse_if}
-use Rattle.sql_eval.specs.Meaning.{cell_null, cells_of, checked, column_refusal, given_value, ill_cells, ill_inserted, ill_values, inserted_cells, insertion, miscounted, set_all, set_one, set_value, sets_key, sum_value, unknown_column}
+use Rattle.sql_check.specs.Words.{first_some, same_text}
+use Rattle.dtx_values.specs.Order.{is_null}
+use Rattle.sql_check.specs.Columns.{column_of, given_columns, key_of_row, place_of, statement_fits}
+use Rattle.sql_check.specs.Refusals.{dtx, else_refuse, refuse_if}
+use Rattle.sql_check.specs.Sums.{sum_value}
+use Rattle.sql_check.specs.Inserted.{cells_of, given_value, inserted_cells}
+use Rattle.sql_check.specs.Checks.{cell_null, checked, column_refusal, ill_cells, ill_inserted, ill_values, miscounted, sets_key, unknown_column}
+use Rattle.sql_eval.specs.Meaning.{insertion, set_all, set_one, set_value}
 use Rattle.sql_eval.specs.Laws.{ChangesAreOfTable, IsChangeOf, IsRowAt, RowsAreKeyed, RowsStay, has_one_key}
 use Rattle.sql_eval.proofs.EachLemmas.{Puts, apply-each}
 use Rattle.sql_eval.proofs.MadeLemmas.{Makes, changes-all}

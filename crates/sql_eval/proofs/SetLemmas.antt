@@ -7,7 +7,7 @@ use Rattle.sql_eval.specs.declared.sql_err.SqlErr.{SqlErr}
 use Rattle.sql_eval.specs.declared.sql_err.SqlErr.TheVariants.{Refused, NoMemory}
 use Rattle.sql_eval.specs.Outcomes.{FailsOn}
 
--- the assignments from i on, of which the first comes to this
+-- the assignments from i on, where the first comes to this
 pub set_all-step : (t : Table) (before after : Row) (sets : List Set) (i : ℕ) (s : Set) (due : Result Row Refusal) → i < length sets → s ≡ get_or sets i s → set_one t before after s ≡ due
     → set_all t before (Ok after) (drop i sets) ≡ set_all t before due (drop (i + 1) sets)
 set_all-step t before after sets i s due h is one =

@@ -7,10 +7,12 @@ use Rattle.std.proofs.lemmas.List.Elements.{All-weaker}
 use Rattle.sql_eval.specs.Data.{Value, Row, Change, Column, Table, Keyed, Set, Stmt, Refusal}
 use Rattle.sql_eval.specs.Data.values
 use Rattle.sql_eval.specs.Data.stmts
-use Rattle.sql_eval.specs.Words.{same_text}
-use Rattle.sql_eval.specs.Rows.{is_null}
-use Rattle.sql_eval.specs.Columns.{is_key, is_named, key_of_row, place_of, column_of}
-use Rattle.sql_eval.specs.Meaning.{column_refusal, row_unless, set_all, set_cell, set_one, set_value, sets_key, sum_value, too_long}
+use Rattle.sql_check.specs.Words.{same_text}
+use Rattle.dtx_values.specs.Order.{is_null}
+use Rattle.sql_check.specs.Columns.{is_key, is_named, key_of_row, place_of, column_of}
+use Rattle.sql_check.specs.Sums.{sum_value}
+use Rattle.sql_check.specs.Checks.{column_refusal, sets_key, too_long}
+use Rattle.sql_eval.specs.Meaning.{row_unless, set_all, set_cell, set_one, set_value}
 use Rattle.sql_eval.specs.Laws.{HasOneKey, key_place, StaysKeyed}
 use Rattle.sql_eval.proofs.EachLemmas.{apply-each}
 use Rattle.sql_eval.proofs.MadeLemmas.{Makes, changes-all}

@@ -6,7 +6,7 @@ use Rattle.std.proofs.lemmas.List.Sums.{sum_by-cons}
 use Rattle.std.proofs.lemmas.Bool.{lt-ltb, ltb-true, eqb-true}
 use Rattle.sql_statement.specs.Distinct.{are_distinct, column_name}
 use Rattle.sql_eval.specs.Data.{Column}
-use Rattle.sql_eval.specs.Columns.{is_named}
+use Rattle.sql_check.specs.Columns.{is_named}
 use Rattle.sql_eval.specs.Laws.{key_place, TablesHaveOneKey, WholeTablesHaveOneKey}
 
 abbrev pub is_of_key : Column → Bool

@@ -1,9 +1,5 @@
 pub mod Data
-pub mod Words
 pub mod Rows
-pub mod Columns
-pub mod Refusals
 pub mod Meaning
-pub mod Cells
 pub mod Outcomes
 pub mod Laws

@@ -1,49 +1,23 @@
--- What one statement says over one plain table: the columns it names, what it tests, the keys that it examines and writes,
--- the rows that it gives and the changes that it makes. It knows no locks and no nodes.
-use Rattle.std.specs.Prelude.{ℕ, ◌-◌, ◌^◌, ◌&&◌, ◌||◌, not, Bool, true, false, if◌then◌else◌, List, [], ◌∷◌, ◌++◌, map, filter, length, find, zip, is_some, is_none, unwrap_or, option_map, slice_set, nat_lt, codes, Option, Some, None, Result, Ok, Err, ℤ, pos, negsuc, ◌+ℤ◌, ◌-ℤ◌, int_le}
-use Rattle.std.specs.List.{list_all, list_any}
-use Rattle.sql_eval.specs.Data.{Value, Row, Change, Column, Table, Term, Step, Sum, Set, Sign, Cond, Picked, Stmt, RowSet, Refusal, Done, Keyed, Meant}
+-- What one statement means over the rows of one table: what it tests, the keys that it examines and writes, the rows that
+-- it gives and the changes that it makes. It knows no locks and no nodes.
+use Rattle.std.specs.Prelude.{ℕ, ◌&&◌, not, Bool, true, false, if◌then◌else◌, List, [], ◌∷◌, ◌++◌, map, filter, length, unwrap_or, slice_set, codes, Option, Some, None, Result, Ok, Err, pos, ◌+ℤ◌}
+use Rattle.std.specs.List.{list_all}
+use Rattle.dtx_values.specs.Order.{is_null, value_below, same_value}
+use Rattle.sql_check.specs.Words.{one, first_some}
+use Rattle.sql_check.specs.Columns.{cell, column_of, is_key, key_of_row, place_of, same_bool}
+use Rattle.sql_check.specs.Refusals.{dtx, ora}
+use Rattle.sql_check.specs.Sums.{ranged, sum_value}
+use Rattle.sql_check.specs.Inserted.{inserted_cells, cells_of}
+use Rattle.sql_check.specs.Checks.{column_refusal, too_long, checked}
+use Rattle.sql_eval.specs.Data.{Value, Row, Change, Column, Table, Set, Sign, Cond, Picked, Stmt, RowSet, Refusal, Done, Keyed, Meant}
 use Rattle.sql_eval.specs.Data.values
-use Rattle.sql_eval.specs.Data.terms
 use Rattle.sql_eval.specs.Data.signs
 use Rattle.sql_eval.specs.Data.conds
 use Rattle.sql_eval.specs.Data.picks
 use Rattle.sql_eval.specs.Data.stmts
 use Rattle.sql_eval.specs.Data.dones
 use Rattle.sql_eval.specs.Data.meants
-use Rattle.tran_ids.specs.Numbers.{decimal}
-use Rattle.sql_eval.specs.Words.{same_text, one, first_some}
-use Rattle.sql_eval.specs.Rows.{is_null, value_below, same_value, get, keys_of, keys_in_order}
-use Rattle.sql_eval.specs.Columns.{cell, column_of, given_columns, is_key, key_of_row, named_columns, place_of, same_bool, statement_fits}
-use Rattle.sql_eval.specs.Refusals.{dtx, else_refuse, ora, refuse_if}
-
--- whether a number fits 64 bits
-abbrev pub in_range : ℤ → Bool
-in_range n = int_le (negsuc (2 ^ 63 - 1)) n && int_le n (pos (2 ^ 63 - 1))
-
--- the value of a term
-abbrev pub term_value : Table → Row → Term → Value
-term_value t row (terms.Column name) = cell t row name
-term_value t row (terms.Literal v) = v
-
--- a number, where it is in range
-abbrev pub ranged : ℤ → Option Value
-ranged n = if in_range n then Some (values.Number n) else None
-
--- NULL from the first NULL on
-abbrev pub step_value : Bool → Value → Value → Option Value
-step_value minus (values.Number a) (values.Number b) = ranged (if minus then a -ℤ b else a +ℤ b)
-step_value minus _ _ = Some values.Null
-
--- the value after further terms, from left to right
-abbrev pub steps_value : Table → Row → Option Value → List Step → Option Value
-steps_value t row None ps = None
-steps_value t row (Some v) [] = Some v
-steps_value t row (Some v) (p ∷ ps) = steps_value t row (step_value p.minus v (term_value t row p.term)) ps
-
--- the value of a sum over a row
-abbrev pub sum_value : Table → Row → Sum → Option Value
-sum_value t row s = steps_value t row (Some (term_value t row s.first)) s.rest
+use Rattle.sql_eval.specs.Rows.{get, keys_of, keys_in_order}
 
 -- what a sign says of two values, neither of which is NULL
 abbrev pub compares : Sign → Value → Value → Bool
@@ -79,23 +53,6 @@ abbrev pub fixes : Table → Cond → Option Value
 fixes t (conds.Compare column signs.Eq literal) = if is_key t column && not (is_null literal) then Some literal else None
 fixes t _ = None
 
--- a row without cells, over which the values of an INSERT are worked
-abbrev pub no_row : Row
-no_row = record { cells = [] }
-
--- what an INSERT gives the column of this name
-abbrev pub given_value : Table → List (List ℕ × Sum) → List ℕ → Option Value
-given_value t [] name = Some values.Null
-given_value t (p ∷ ps) name = if same_text p.0 name then sum_value t no_row p.1 else given_value t ps name
-
--- the cells of the new row, none where a sum is out of range
-abbrev pub inserted_cells : Table → Option (List (List ℕ)) → List Sum → List (Option Value)
-inserted_cells t columns given = map (λ c. given_value t (zip (given_columns t columns) given) c.name) t.columns
-
--- cells, with NULL in place of none
-abbrev pub cells_of : List (Option Value) → List Value
-cells_of vs = map (λ v. unwrap_or v values.Null) vs
-
 -- the key that a statement fixes by itself
 abbrev pub fixed_key : Stmt → Table → Option Value
 fixed_key (stmts.Insert table columns given) t = Some (key_of_row t (cells_of (inserted_cells t columns given)))
@@ -117,63 +74,6 @@ written (stmts.Update table sets cs) t view = keys_of (found (stmts.Update table
 written (stmts.Delete table cs) t view = keys_of (found (stmts.Delete table cs) t view)
 written (stmts.Select list table cs true) t view = keys_of (found (stmts.Select list table cs true) t view)
 written _ t view = []
-
--- refusals that name a column
-abbrev pub column_refusal : ℕ → Table → Column → Refusal
-column_refusal code t c = ora code (t.name ∷ c.name ∷ [])
-
--- the bytes of a text
-abbrev pub text_length : Value → ℕ
-text_length (values.Text t) = length t
-text_length _ = 0
-
--- ORA-12899: a text is longer than its column
-abbrev pub too_long : Table → Column → Value → Option Refusal
-too_long t c v =
-    refuse_if (is_some c.text_max && nat_lt (unwrap_or c.text_max 0) (text_length v))
-    (ora 12899 (t.name ∷ c.name ∷ decimal (text_length v) ∷ decimal (unwrap_or c.text_max 0) ∷ []))
-
--- ORA-00904: the first column in the text that the table has not
-abbrev pub unknown_column : Stmt → Table → Option Refusal
-unknown_column s t = option_map (λ name. ora 904 (one name)) (find (λ name. is_none (place_of t name)) (named_columns s))
-
--- whether an UPDATE sets the key column
-abbrev pub sets_key : Stmt → Table → Bool
-sets_key (stmts.Update table sets cs) t = list_any (λ s. is_key t s.column) sets
-sets_key _ t = false
-
--- ORA-00947 and ORA-00913: an INSERT has fewer values than columns, or more
-abbrev pub miscounted : Stmt → Table → Option Refusal
-miscounted (stmts.Insert table columns given) t =
-    else_refuse (refuse_if (nat_lt (length given) (length (given_columns t columns))) (ora 947 []))
-    (refuse_if (nat_lt (length (given_columns t columns)) (length given)) (ora 913 []))
-miscounted _ t = None
-
--- ORA-01400: a column that may not be NULL is NULL
-abbrev pub cell_null : Table → Column × Value → Option Refusal
-cell_null t p = refuse_if ((p.0.key || p.0.not_null) && is_null p.1) (column_refusal 1400 t p.0)
-
--- what is wrong with these cells of a new row
-abbrev pub ill_cells : Table → List Value → Option Refusal
-ill_cells t vs =
-    else_refuse (first_some (map (cell_null t) (zip t.columns vs))) (first_some (map (λ p. too_long t p.0 p.1) (zip t.columns vs)))
-
--- what is wrong with the values of a new row
-abbrev pub ill_values : Table → List (Option Value) → Option Refusal
-ill_values t vs = else_refuse (refuse_if (list_any is_none vs) (dtx 9 [])) (ill_cells t (cells_of vs))
-
--- what is wrong with the values of an INSERT
-abbrev pub ill_inserted : Stmt → Table → Option Refusal
-ill_inserted (stmts.Insert table columns given) t = ill_values t (inserted_cells t columns given)
-ill_inserted _ t = None
-
--- the refusal of a statement before any row is seen: its columns, its key column, its count of values, its types, its values
-unfoldable pub checked : Stmt → Table → Option Refusal
-checked s t =
-    else_refuse (unknown_column s t)
-    (else_refuse (refuse_if (sets_key s t) (dtx 15 []))
-    (else_refuse (miscounted s t)
-    (else_refuse (refuse_if (not (statement_fits t s)) (dtx 10 [])) (ill_inserted s t))))
 
 -- a row, unless it is refused
 abbrev pub row_unless : Option Refusal → Row → Result Row Refusal

@@ -1,30 +1,9 @@
--- Values and their order, the rows of a table by their keys in key order, and what changes do to them.
-use Rattle.std.specs.Prelude.{ℕ, ◌+◌, ◌&&◌, not, Bool, true, false, if◌then◌else◌, List, [], ◌∷◌, map, filter, length, fold, sum_by, Option, Some, None, int_lt}
+-- The rows of a table by their keys in key order, what changes do to them, and their bytes.
+use Rattle.std.specs.Prelude.{ℕ, ◌+◌, not, if◌then◌else◌, List, [], ◌∷◌, map, filter, length, fold, sum_by, Option, Some, None}
+use Rattle.dtx_values.specs.Order.{value_below, same_value}
 use Rattle.sql_eval.specs.Data.{Value, Row, Change, Keyed}
 use Rattle.sql_eval.specs.Data.values
-use Rattle.sql_eval.specs.Words.{same_text, text_below}
-
--- whether a value is NULL
-abbrev pub is_null : Value → Bool
-is_null values.Null = true
-is_null (values.Number n) = false
-is_null (values.Text t) = false
-
--- Null, then numbers, then texts by their bytes
-abbrev pub value_below : Value → Value → Bool
-value_below values.Null values.Null = false
-value_below values.Null (values.Number n) = true
-value_below values.Null (values.Text t) = true
-value_below (values.Number m) values.Null = false
-value_below (values.Number m) (values.Number n) = int_lt m n
-value_below (values.Number m) (values.Text t) = true
-value_below (values.Text s) values.Null = false
-value_below (values.Text s) (values.Number n) = false
-value_below (values.Text s) (values.Text t) = text_below s t
-
--- neither value is below the other
-abbrev pub same_value : Value → Value → Bool
-same_value a b = not (value_below a b) && not (value_below b a)
+use Rattle.sql_check.specs.Words.{same_text}
 
 -- the row at a key
 abbrev pub get : List Keyed → Value → Option Row

@@ -2,14 +2,13 @@
 //! "Null Conditions".
 ghost use Rattle.std.specs.Prelude.{◌≡◌, [], ◌∷◌, ◌++◌, filter, IfOk, OnOk};
 ghost use Rattle.std.specs.Option.{option_copied};
-ghost use Rattle.sql_eval.specs.Cells.{or_null};
-ghost use Rattle.sql_eval.specs.Rows.{is_null as is_null_of};
+ghost use Rattle.sql_check.specs.Cells.{or_null};
+ghost use Rattle.dtx_values.specs.Order.{is_null as is_null_of};
 ghost use Rattle.sql_eval.specs.Meaning.{compares as compares_of, holds as holds_of, conds_of as conds_in, satisfies as satisfies_of, found as found_of};
 
 use crate::Keyed;
-use crate::column::cell;
-use crate::order::{is_null, same_value, value_below};
-use dtx_values::{Duplicate, Row, Table, Value};
+use dtx_values::{Duplicate, Row, Table, Value, is_null, same_value, value_below};
+use sql_check::cell;
 use sql_statement::{Cond, Sign, Stmt};
 use std::alloc::{AllocError, Global};
 

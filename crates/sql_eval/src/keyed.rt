@@ -7,7 +7,9 @@ use std::alloc::{AllocError, Global};
 /// A row of a table, and its key. A table's rows stand in the order of their keys.
 #[derive(Debug, Drop)]
 pub struct Keyed {
+    /// What the row has in the key column.
     pub key: Value,
+    /// The row.
     pub row: Row,
 }
 

@@ -1,18 +1,17 @@
 //! The keys that a statement fixes, examines and writes.
 ghost use Rattle.std.specs.Prelude.{◌≡◌, ◌++◌, map, IfOk};
 ghost use Rattle.std.specs.Option.{option_copied};
-ghost use Rattle.sql_eval.specs.Words.{first_some};
-ghost use Rattle.sql_eval.specs.Columns.{key_of_row as key_of_row_in};
+ghost use Rattle.sql_check.specs.Words.{first_some};
+ghost use Rattle.sql_check.specs.Columns.{key_of_row as key_of_row_in};
 ghost use Rattle.sql_eval.specs.Rows.{keys_of as keys_in};
-ghost use Rattle.sql_eval.specs.Meaning.{fixes as fixes_of, conds_of as conds_in, inserted_cells as inserted_cells_of, cells_of as cells_in, fixed_key as fixed_key_of, found as found_of, examined as examined_of, written as written_of};
+ghost use Rattle.sql_check.specs.Inserted.{inserted_cells as inserted_cells_of, cells_of as cells_in};
+ghost use Rattle.sql_eval.specs.Meaning.{fixes as fixes_of, conds_of as conds_in, fixed_key as fixed_key_of, found as found_of, examined as examined_of, written as written_of};
 
 use crate::Keyed;
-use crate::column::{copy_or_null, is_key, key_of_row};
 use crate::condition::{conds_of, found};
-use crate::insert::{cells_of, inserted_cells};
-use crate::order::is_null;
 use crate::rows::{keys_in_order, keys_of};
-use dtx_values::{Duplicate, Names, Table, Value};
+use dtx_values::{Duplicate, Names, Table, Value, is_null};
+use sql_check::{cells_of, copy_or_null, inserted_cells, is_key, key_of_row};
 use sql_statement::{Cond, Sign, Stmt, Sum};
 use std::alloc::{AllocError, Global};
 

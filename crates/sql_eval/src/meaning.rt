@@ -1,20 +1,20 @@
 //! What a statement means over the rows of its table.
 ghost use Rattle.std.specs.Prelude.{◌≡◌, Ok, IfOk};
 ghost use Rattle.sql_eval.specs.Data.dones;
-ghost use Rattle.sql_eval.specs.Columns.{key_of_row as key_of_row_in};
+ghost use Rattle.sql_check.specs.Columns.{key_of_row as key_of_row_in};
 ghost use Rattle.sql_eval.specs.Rows.{get as get_of};
-ghost use Rattle.sql_eval.specs.Meaning.{inserted_cells as inserted_cells_of, cells_of as cells_in, inserting as inserting_of, changing as changing_of, updated as updated_of, deleted as deleted_of, meant_over as meant_over_of};
+ghost use Rattle.sql_check.specs.Inserted.{inserted_cells as inserted_cells_of, cells_of as cells_in};
+ghost use Rattle.sql_eval.specs.Meaning.{inserting as inserting_of, changing as changing_of, updated as updated_of, deleted as deleted_of, meant_over as meant_over_of};
 
-use crate::column::{copy_or_null, key_of_row};
 use crate::condition::found;
-use crate::insert::{cells_of, inserted_cells, inserting};
+use crate::insert::inserting;
 use crate::query::picked;
-use crate::refusal::plain;
 use crate::rows::get;
 use crate::sql_err::SqlErr;
 use crate::update::{deleted, updated};
 use crate::{Keyed, Meant};
 use dtx_values::{Changes, Done, INVALID_SQL, Names, Table};
+use sql_check::{cells_of, copy_or_null, inserted_cells, key_of_row, plain};
 use sql_statement::{Set, Stmt, Sum};
 use std::alloc::{AllocError, Global};
 

@@ -9,8 +9,11 @@ pub enum Meant {
     Gives(RowSet),
     /// So many rows are changed, by these changes.
     Changes {
+        /// What was done to the rows.
         done: Done,
+        /// How many rows are changed.
         count: usize,
+        /// The changes, in the order of the keys.
         changes: Changes,
     },
     /// It is refused.

@@ -2,22 +2,19 @@
 ghost use Rattle.std.specs.Prelude.{◌≡◌, ◌++◌, [], ◌∷◌, map, pos, length, codes, Some, IfOk};
 ghost use Rattle.std.specs.Option.{option_copied};
 ghost use Rattle.dtx_values.specs.declared.value.Value.TheVariants.{Null, Number};
-ghost use Rattle.sql_eval.specs.Cells.{or_null};
-ghost use Rattle.sql_eval.specs.Columns.{cell as cell_of};
+ghost use Rattle.sql_check.specs.Cells.{or_null};
+ghost use Rattle.sql_check.specs.Columns.{cell as cell_of};
 ghost use Rattle.sql_eval.specs.Meaning.{sum_with as sum_with_of, summed as summed_of, summed_set as summed_set_of, picked as picked_of, row_of, row_set};
 
-use crate::checking::OUT_OF_RANGE;
-use crate::column::{cell, copy_or_null};
-use crate::refusal::plain;
-use crate::sum::plus;
 use crate::{Keyed, Meant};
 use dtx_values::{
     Bytes, Cells, Duplicate, Listing, Name, Names, Row, RowSet, Rows, Table, Texts, Value,
 };
+use sql_check::{OUT_OF_RANGE, cell, copy_or_null, plain, plus};
 use sql_statement::Picked;
 use std::alloc::{AllocError, Global};
 
-// The total with one value more, of which NULL adds nothing.
+// The total with one value more. NULL adds nothing.
 fn sum_with(total: Value, value: Option<&Value>) -> Option<Value>
     ensures { result ≡ sum_with_of total (or_null (option_copied value.entry)) }
 {

@@ -4,8 +4,7 @@ ghost use Rattle.std.specs.Option.{option_copied};
 ghost use Rattle.sql_eval.specs.Rows.{get as get_of, keys_of as keys_in, put_key as put_key_of, keys_in_order as ordered_of};
 
 use crate::Keyed;
-use crate::order::same_value;
-use dtx_values::{Duplicate, Row, Value};
+use dtx_values::{Duplicate, Row, Value, same_value};
 use std::alloc::{AllocError, Global};
 use std::collections::BTreeSet;
 

@@ -10,7 +10,7 @@ use std::alloc::{AllocError, AllocFailed};
 pub enum SqlErr {
     /// It is refused.
     Refused(Refusal),
-    /// There was no memory left to work it.
+    /// Memory ran out.
     NoMemory,
 }
 

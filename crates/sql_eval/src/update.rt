@@ -5,14 +5,9 @@ ghost use Rattle.sql_eval.specs.Outcomes.{Gives};
 ghost use Rattle.sql_eval.specs.Meaning.{set_cell as set_cell_of, set_value as set_value_of, set_one as set_one_of, set_all as set_all_of, update as update_of, updated as updated_of, deleted as deleted_of, removal as removal_of};
 
 use crate::Keyed;
-use crate::checking::OUT_OF_RANGE;
-use crate::column::{column_of, place_of};
-use crate::insert::too_long;
-use crate::order::is_null;
-use crate::refusal::{of_column, plain};
 use crate::sql_err::SqlErr;
-use crate::sum::sum_value;
-use dtx_values::{Change, Changes, Column, Duplicate, Listing, Row, Table, Value};
+use dtx_values::{Change, Changes, Column, Duplicate, Listing, Row, Table, Value, is_null};
+use sql_check::{OUT_OF_RANGE, column_of, of_column, place_of, plain, sum_value, too_long};
 use sql_statement::Set;
 use std::alloc::{AllocError, Global};
 

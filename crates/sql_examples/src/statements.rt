@@ -1,5 +1,6 @@
 //! What no clause says of statements: texts that are statements, texts that are none, and how statements are printed.
-use sql_parse::{ParseErr, parse, print_stmt};
+use sql_parse::{ParseErr, parse};
+use sql_print::print_stmt;
 use sql_statement::Stmt;
 use std::alloc::{AllocError, Global};
 use token_grammar::ReadErr;

@@ -42,7 +42,7 @@ unfolding rule
 leads_rule v ts (inl s) = rw (s.1.4, s.1.2) refl
 leads_rule v ts (inr s) = rw (s.1.4, s.1.2) refl
 
--- behind a column: a further rule
+-- after a column: a further rule
 abbrev after_column : Token → Bool
 after_column = either is_rule nothing
 
@@ -125,6 +125,7 @@ leads_other = leads_or_else (begins (is_word (codes "SYNONYM"))) create_synonym 
 other_exact : IsExact other_part nothing
 other_exact = led_exact create_synonym create_link _ _ nothing create_synonym_exact create_link_exact leads_synonym leads_link (apart_word_of (codes "SYNONYM") link_words refl)
 
+-- CREATE TABLE, CREATE DATABASE LINK and CREATE SYNONYM
 pub create_exact : IsExact create anything
 unfolding create
 create_exact = ends_all (word (codes "CREATE") ▹ or_else (begins (is_word (codes "TABLE"))) create_table other_part) _

@@ -63,6 +63,7 @@ values_part = word (codes "VALUES") ▹ constants
 leads_values : Leads values_part (is_word (codes "VALUES"))
 leads_values = leads_after (word (codes "VALUES")) constants _ (leads_word (codes "VALUES"))
 
+-- INSERT
 pub insert_exact : IsExact insert anything
 unfolding insert
 insert_exact = ends_all (built _ (word (codes "INSERT") ▹ word (codes "INTO") ▹ (table_ref · (optional (is_mark marks.Open) column_names · values_part)))) _
@@ -85,6 +86,7 @@ after_assignments = either (is_mark marks.Comma) after_sum
 assignments_exact : IsExact assignments after_assignments
 assignments_exact = tested_exact (are_distinct left_side) (commas assignment) _ (commas_exact assignment after_sum assignment_exact (apart_sum_mark marks.Comma refl))
 
+-- UPDATE
 pub update_exact : IsExact update anything
 unfolding update
 update_exact = ends_all (built _ (word (codes "UPDATE") ▹ (table_ref · (word (codes "SET") ▹ (assignments · conditions))))) _
@@ -112,6 +114,7 @@ from_part = table_ref · conditions
 from_part_exact : IsExact from_part anything
 from_part_exact = ends_all from_part _ (pair_exact table_ref conditions after_table after_conditions _ table_ref_exact conditions_exact (conditions_meet after_table (apart_table_word (codes "WHERE"))))
 
+-- DELETE
 pub delete_exact : IsExact delete anything
 unfolding delete
 delete_exact = built_exact _ _ _ (after (word_exact _) (after_exact (maybe (codes "FROM")) from_part _ anything anything (maybe_exact (codes "FROM")) from_part_exact
@@ -119,7 +122,7 @@ delete_exact = built_exact _ _ _ (after (word_exact _) (after_exact (maybe (code
 
 -- ---- SELECT
 
--- behind a list: more columns, or `(`, by which a column would be none
+-- after a list: more columns, or `(`, by which a column would be none
 abbrev after_list : Token → Bool
 after_list = either (is_mark marks.Open) (either (is_mark marks.Comma) nothing)
 
@@ -215,6 +218,7 @@ tail_meets v ts rest s ends =
     let first = conditions_meet after_table (apart_table_word (codes "WHERE")) v.0 s.0 (s.1 ++ rest) s.2 later in
     (rw (s.4, append_assoc s.0 s.1 rest) first.0, ends)
 
+-- SELECT
 pub select_exact : IsExact select anything
 unfolding select
 select_exact = tested_exact may_lock _ _ (built_exact _ _ _ (after (word_exact _) (seq_led (is_word (codes "FROM")) picks_exact

@@ -65,7 +65,7 @@ where_exact = after (word_exact _) (separated_exact condition (word (codes "AND"
 leads_where : Leads where_part (is_word (codes "WHERE"))
 leads_where = leads_after (word (codes "WHERE")) (separated (is_word (codes "AND")) (word (codes "AND")) condition) _ (leads_word (codes "WHERE"))
 
--- WHERE has at least one condition behind it
+-- at least one condition follows WHERE
 conds_back : (o : Option (List Cond)) (ts : List Token) → (optional (is_word (codes "WHERE")) where_part).Spells o ts → some_conds (unwrap_or o []) ≡ o
 conds_back None ts s = refl
 conds_back (Some []) ts s = absurd s.3
@@ -75,10 +75,11 @@ conds_forth : (cs : List Cond) → unwrap_or (some_conds cs) [] ≡ cs
 conds_forth [] = refl
 conds_forth (c ∷ cs) = refl
 
--- behind conditions: WHERE, where none stand, or AND
+-- after conditions: WHERE, where none stand, or AND
 abbrev pub after_conditions : Token → Bool
 after_conditions = either (is_word (codes "WHERE")) after_conds
 
+-- the conditions of a WHERE are exact, where neither WHERE nor AND follows
 pub conditions_exact : IsExact conditions after_conditions
 unfolding conditions
 conditions_exact = mapped_exact _ _ _ _ (optional_exact where_part _ _ where_exact leads_where) conds_back conds_forth

@@ -1,17 +1,10 @@
-pub mod PartLaws
-pub mod LiteralLaws
-pub mod ConditionLaws
-pub mod ChangeLaws
-pub mod CatalogLaws
-pub mod TransactionLaws
+mod PartLaws
+mod LiteralLaws
+mod ConditionLaws
+mod ChangeLaws
+mod CatalogLaws
+mod TransactionLaws
 pub mod StatementLaws
 pub mod ParseLaws
-pub mod Appends
-pub mod WriteLaws
-pub mod PrintLaws
-pub mod FormLaws
-pub mod CatalogForms
-pub mod TransactionForms
-pub mod RoundTrip
-pub mod SpellLaws
+mod SpellLaws
 pub mod WholeLaws

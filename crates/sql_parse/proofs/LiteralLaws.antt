@@ -1,4 +1,4 @@
--- Literals, tables behind links and sums are exact.
+-- Literals, tables and sums are exact.
 use Rattle.std.proofs.Common.{◌≡◌, ℕ, Bool, true, List, Some, None, refl, inl, inr}
 use Rattle.std.specs.Prelude.{codes}
 use Rattle.std.specs.Str.{bytes_eq}
@@ -24,6 +24,7 @@ constant_is_no_minus (token.Number n) v e = refl
 constant_is_no_minus (token.Quoted s) v e = refl
 constant_is_no_minus (token.Mark m) v e = absurd cc
 
+-- a literal is exact, whatever follows
 pub literal_exact : IsExact literal nothing
 unfolding literal
 literal_exact = led_exact negative (meant constant_in) _ (fails (is_mark marks.Minus)) nothing
@@ -36,10 +37,11 @@ literal_exact = led_exact negative (meant constant_in) _ (fails (is_mark marks.M
 abbrev link_part : Grammar (List ℕ)
 link_part = mark marks.At ▹ name
 
--- behind a table: `@`
+-- after a table: `@`
 abbrev pub after_table : Token → Bool
 after_table = either (is_mark marks.At) nothing
 
+-- a table is exact, where no `@` follows
 pub table_ref_exact : IsExact table_ref after_table
 unfolding table_ref
 table_ref_exact = mapped_exact _ _ _ _
@@ -72,6 +74,7 @@ unfolding literal
 literal_leads v ts (inl s) = rw (s.1.4, s.1.2) refl
 literal_leads v ts (inr s) = rw s.1 (constant_is_no_name s.0 v s.2)
 
+-- a term is exact, whatever follows
 pub term_exact : IsExact term nothing
 unfolding term
 term_exact = led_exact _ _ is_naming (fails is_naming) nothing (built_exact _ _ _ (meant_exact identifier_in)) (built_exact _ literal _ literal_exact)
@@ -90,10 +93,11 @@ step_leads : Leads step is_step
 unfolding step
 step_leads v ts s = leads_pair (meant minus_in) term is_step (meant_leads minus_in is_step minus_leads) (v.minus, v.term) ts s
 
--- behind a sum: a further term
+-- after a sum: a further term
 abbrev pub after_sum : Token → Bool
 after_sum = either is_step nothing
 
+-- a sum is exact, where no sign follows
 pub sum_exact : IsExact sum after_sum
 unfolding sum
 sum_exact = mapped_exact _ _ _ _ (seq term_exact (many_exact step is_step nothing step_exact step_leads (apart_nothing _))) (λ a ts s. refl) (λ b. refl)

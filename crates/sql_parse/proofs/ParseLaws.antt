@@ -17,6 +17,7 @@ pub spelled_is_found : (text : List ℕ) (s : Stmt) → IsStatement s text → s
 unfolding IsStatement statement_of
 spelled_is_found text s h = text_again statement_grammar statement_exact text s h
 
+-- no text spells two statements
 pub one_reading : (text : List ℕ) (a b : Stmt) → IsStatement a text → IsStatement b text → a ≡ b
 one_reading text a b p q = some_is a b (sym (spelled_is_found text a p) ∙ spelled_is_found text b q)
 
@@ -28,11 +29,12 @@ none_of text None e h = e
 pub none_found : (text : List ℕ) → ((s : Stmt) → IsStatement s text → ⊥) → statement_of text ≡ None
 none_found text h = none_of text (statement_of text) refl h
 
--- the same of the grammar's own relation
+-- a text of the grammar is a statement
 pub text_is_statement : (text : List ℕ) (s : Stmt) → IsTextOf statement_grammar s text → IsStatement s text
 unfolding IsStatement
 text_is_statement text s h = h
 
+-- and back
 pub statement_is_text : (text : List ℕ) (s : Stmt) → IsStatement s text → IsTextOf statement_grammar s text
 unfolding IsStatement
 statement_is_text text s h = h

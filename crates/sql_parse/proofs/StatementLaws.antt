@@ -58,12 +58,14 @@ leads_execute : Leads execute (is_word_of execute_words)
 unfolding execute
 leads_execute v ts s = rw (s.4, s.2.1) s.2.2
 
--- ---- One form, or those behind it.
+-- ---- One form, or a later one.
 
 module _ (w : List ℕ) (ws : List (List ℕ)) (form others : Grammar Stmt) (first : Leads form (is_word w)) (second : Leads others (is_word_of ws)) (itself : bytes_eq w w ≡ true) where
+  -- a form by its word, or a later one, begins with its word or with one of theirs
   pub leads_led : Leads (led_by w form others) (is_word_of (w ∷ ws))
   leads_led = leads_or_else (begins (is_word w)) form others _ (λ v ts s. word_is_one w (w ∷ ws) (rw itself refl) ts (first v ts s)) (λ v ts s. later_word w ws ts (second v ts s))
 
+  -- a form by its word, or a later one, is exact, where the words differ
   pub exact_led : list_any (λ v. bytes_eq w v) ws ≡ false → IsExact form anything → IsExact others anything → IsExact (led_by w form others) anything
   exact_led none x y = led_exact form others _ _ anything x y first second (apart_word_of w ws none)
 
@@ -89,26 +91,34 @@ words_3 = codes "UPDATE" ∷ words_4
 abbrev words_2 : List (List ℕ)
 words_2 = codes "INSERT" ∷ words_3
 
--- and the forms from there on
+-- ---- The forms by their words, from the last on.
+
+-- ALTER, or EXECUTE
 abbrev pub forms_8 : Grammar Stmt
 forms_8 = led_by (codes "ALTER") alter execute
 
+-- from ROLLBACK on
 abbrev pub forms_7 : Grammar Stmt
 forms_7 = led_by (codes "ROLLBACK") rollback forms_8
 
+-- from COMMIT on
 abbrev pub forms_6 : Grammar Stmt
 forms_6 = led_by (codes "COMMIT") commit forms_7
 
+-- from CREATE on
 abbrev pub forms_5 : Grammar Stmt
 forms_5 = led_by (codes "CREATE") create forms_6
 
+-- from DELETE on
 abbrev pub forms_4 : Grammar Stmt
 forms_4 = led_by (codes "DELETE") delete forms_5
 
+-- from UPDATE on
 abbrev pub forms_3 : Grammar Stmt
 forms_3 = led_by (codes "UPDATE") update forms_4
 
-abbrev forms_2 : Grammar Stmt
+-- from INSERT on
+abbrev pub forms_2 : Grammar Stmt
 forms_2 = led_by (codes "INSERT") insert forms_3
 
 lead_8 : Leads forms_8 (is_word_of words_8)
@@ -153,6 +163,7 @@ exact_3 = exact_led (codes "UPDATE") words_4 update forms_4 leads_update lead_4 
 exact_2 : IsExact forms_2 anything
 exact_2 = exact_led (codes "INSERT") words_3 insert forms_3 leads_insert lead_3 refl refl insert_exact exact_3
 
+-- the grammar of statements is exact
 pub statement_exact : IsExact statement_grammar anything
 unfolding statement_grammar
 statement_exact = exact_led (codes "SELECT") words_2 select forms_2 leads_select lead_2 refl refl select_exact exact_2

@@ -54,6 +54,7 @@ work_misses : (v : Stmt) (ts rest : List Token) → commit_part.Spells v ts → 
 work_misses v ts rest (inl s) ends = begins-apart (is_word (codes "WORK")) (is_word (codes "FORCE")) (apart_words (codes "WORK") (codes "FORCE") refl) ts rest (leads_forced v ts s)
 work_misses v ts rest (inr s) ends = plain_misses (codes "WORK") refl v ts rest s ends
 
+-- COMMIT, with a comment or without, and COMMIT FORCE
 pub commit_exact : IsExact commit anything
 unfolding commit
 commit_exact = after (word_exact _) (after_exact (maybe (codes "WORK")) commit_part _ anything anything (maybe_exact (codes "WORK")) commit_part_exact
@@ -65,6 +66,7 @@ force_part = word (codes "FORCE") ▹ text_to id_limit
 leads_force : Leads force_part (is_word (codes "FORCE"))
 leads_force = leads_after (word (codes "FORCE")) (text_to id_limit) _ (leads_word (codes "FORCE"))
 
+-- ROLLBACK and ROLLBACK FORCE
 pub rollback_exact : IsExact rollback anything
 unfolding rollback
 rollback_exact = built_exact rollback_of _ _ (after (word_exact _) (after_exact (maybe (codes "WORK")) (optional (is_word (codes "FORCE")) force_part) _ anything anything (maybe_exact (codes "WORK"))
@@ -87,6 +89,7 @@ leads_recovery : Leads recovery (is_word (codes "SYSTEM"))
 leads_recovery = leads_built _ (word (codes "SYSTEM") ▹ (meant switch_in · (word (codes "DISTRIBUTED") ▹ word (codes "RECOVERY")))) _
     (leads_after (word (codes "SYSTEM")) (meant switch_in · (word (codes "DISTRIBUTED") ▹ word (codes "RECOVERY"))) _ (leads_word (codes "SYSTEM")))
 
+-- ALTER SESSION ADVISE and ALTER SYSTEM
 pub alter_exact : IsExact alter anything
 unfolding alter
 alter_exact = ends_all (word (codes "ALTER") ▹ or_else (begins (is_word (codes "SESSION"))) advise recovery) _
@@ -111,6 +114,7 @@ purge_exact : IsExact purge nothing
 purge_exact = led_exact _ _ _ _ nothing (purge_by_exact _ _) (purge_by_exact _ _) (leads_purge _ _) (leads_purge _ _)
     (apart_words (codes "DBMS_TRANSACTION.PURGE_MIXED") (codes "DBMS_TRANSACTION.PURGE_LOST_DB_ENTRY") refl)
 
+-- EXECUTE of a purge
 pub execute_exact : IsExact execute anything
 unfolding execute
 execute_exact = ends_all (passed is_execute ▹ purge) _ (after (passed_exact is_execute) purge_exact)

@@ -1,10 +1,10 @@
 -- Each statement that a text spells is whole.
-use Rattle.std.proofs.Common.{◌≡◌, ◌<◌, ◌≤◌, ◌^◌, ℕ, Bool, true, false, List, [], ◌∷◌, length, Option, Some, None, refl, subst, arith, inl, inr, zero, suc}
-use Rattle.std.specs.Prelude.{codes, nat_le, ◌&&◌, IfSome, IsTrue, FitsSigned, pos, neg_ℤ}
+use Rattle.std.proofs.Common.{◌≡◌, ◌<◌, ◌≤◌, ◌^◌, ℕ, List, [], ◌∷◌, length, Option, Some, None, subst, arith, inl, inr, zero, suc}
+use Rattle.std.specs.Prelude.{codes, nat_le, IfSome, IsTrue, FitsSigned, pos, neg_ℤ}
 use Rattle.std.specs.Int.{w64}
 use Rattle.std.specs.List.{All}
 use Rattle.std.specs.Str.{bytes_eq}
-use Rattle.std.proofs.lemmas.Bool.{leb-true, eqb-true}
+use Rattle.std.proofs.lemmas.Bool.{leb-true, eqb-true, and_parts, and_from}
 use Rattle.std.proofs.lemmas.List.Elements.{All-nil, All-weaker}
 use Rattle.dtx_values.specs.Str.{is_text}
 use Rattle.dtx_values.specs.declared.value.Value.{Value}
@@ -17,6 +17,7 @@ use Rattle.token_grammar.specs.declared.token.Token.{Token}
 use Rattle.token_grammar.specs.declared.token.Token.TheVariants as token
 use Rattle.token_grammar.specs.Steps.{begins}
 use Rattle.token_grammar.specs.Grammar.{Grammar, is_word, is_mark, word, mark, meant, identifier, number_to, ◌▹◌, commas}
+use Rattle.dtx_values.specs.Widths.{is_width, HasWidth}
 use Rattle.dtx_values.specs.Limits.{text_limit, comment_limit, id_limit, scn_limit}
 use Rattle.sql_statement.specs.declared.sum.Term.TheVariants as terms
 use Rattle.sql_statement.specs.declared.condition.Cond.TheVariants as conds
@@ -29,26 +30,14 @@ use Rattle.sql_parse.specs.Changes.{insert, assignment, update, delete, select}
 use Rattle.sql_parse.specs.Catalog.{width, column_type, column_of, column, are_of_a_table, create_table, target_in, create_link, create_synonym, create}
 use Rattle.sql_parse.specs.Transactions.{plain_commit, forced_commit, commit, rollback_of, rollback, advise, recovery, alter, argument, purge, execute}
 use Rattle.sql_parse.specs.Statement.{led_by, statement_grammar, IsStatement}
-use Rattle.sql_statement.specs.Whole.{IsName, IsTextTo, is_width, HasWidth, IsWholeTable, IsWholeValue, IsWholeTerm, IsWholeSum, IsWholeCond, IsWhole}
+use Rattle.sql_statement.specs.Whole.{IsName, IsTextTo, IsWholeTable, IsWholeValue, IsWholeTerm, IsWholeSum, IsWholeCond, IsWhole}
 use Rattle.sql_parse.proofs.StatementLaws.{forms_3, forms_4, forms_5, forms_6, forms_7, forms_8}
 use Rattle.sql_parse.proofs.SpellLaws.{Spells, name_is, spells_after, spells_brackets, spells_built, spells_commas, spells_each, spells_identifier, spells_name, spells_number, spells_optional, spells_or_else, spells_separated}
-
-left : (a b : Bool) → (a && b) ≡ true → a ≡ true
-left true b h = refl
-left false b h = absurd cc
-
-right : (a b : Bool) → (a && b) ≡ true → b ≡ true
-right true b h = h
-right false b h = absurd cc
-
-both : (a b : Bool) → a ≡ true → b ≡ true → (a && b) ≡ true
-both true b h k = k
-both false b h k = absurd cc
 
 -- ---- Tables.
 
 spells_width : Spells width (λ n. IsTrue (is_width n))
-spells_width n ts s = both (nat_le 1 n) (nat_le n text_limit) s.1 (spells_number text_limit n ts s.0)
+spells_width n ts s = and_from (nat_le 1 n) (nat_le n text_limit) s.1 (spells_number text_limit n ts s.0)
 
 abbrev HasWidthTo : Option ℕ → Type 0
 HasWidthTo text_max = IfSome text_max (λ width. IsTrue (is_width width))
@@ -71,11 +60,12 @@ spells_column c ts s =
 
 whole_table : (name : List ℕ) (cs : List Column) → IsName name → (0 < length cs) × All IsWholeColumn cs → IsTrue (are_of_a_table cs) → IsWholeTable (record { name = name; columns = cs })
 whole_table name cs is_name columns test =
-    let others = right _ _ test in record {
+    let limit = and_parts _ _ test in
+    let others = and_parts _ _ limit.1 in record {
       some = columns.0;
-      few = leb-true _ _ (left _ _ test);
-      one_key = eqb-true _ _ (left _ _ others);
-      distinct = right _ _ others;
+      few = leb-true _ _ limit.0;
+      one_key = eqb-true _ _ others.0;
+      distinct = others.1;
       widths = All-weaker IsWholeColumn HasWidth (λ c whole. whole.1) cs columns.1;
       named = is_name;
       columns_named = All-weaker IsWholeColumn (λ c. IsName c.name) (λ c whole. whole.0) cs columns.1;
@@ -108,9 +98,9 @@ spells_synonym : Spells create_synonym IsWhole
 unfolding create_synonym
 spells_synonym v ts s =
     let parts = s.1.3 in
-    let behind = parts.3.3 in
+    let target = parts.3.3 in
     subst IsWhole (some_is (statements.CreateSynonym (record { name = s.0.0; table = s.0.1.0; link = s.0.1.1 })) v s.2)
-    (spells_identifier s.0.0 parts.0 parts.2, spells_identifier s.0.1.0 behind.0 behind.2, spells_name s.0.1.1 behind.3.1 behind.3.3)
+    (spells_identifier s.0.0 parts.0 parts.2, spells_identifier s.0.1.0 target.0 target.2, spells_name s.0.1.1 target.3.1 target.3.3)
 
 spells_create : Spells create IsWhole
 unfolding create
@@ -264,9 +254,11 @@ spells_statement =
     (spells_led (codes "ROLLBACK") rollback forms_8 spells_rollback
     (spells_led (codes "ALTER") alter execute spells_alter spells_execute)))))))
 
+-- a statement that a text spells is whole
 pub statements_are_whole : (s : Stmt) (text : List ℕ) → IsStatement s text → IsWhole s
 unfolding IsStatement
 statements_are_whole s text h = spells_statement s h.0 h.2
 
+-- a table that a text creates is whole
 pub created_tables_are_whole : (t : Table) (text : List ℕ) → IsStatement (statements.CreateTable t) text → IsWholeTable t
 created_tables_are_whole t text h = statements_are_whole (statements.CreateTable t) text h

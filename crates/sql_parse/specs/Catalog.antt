@@ -1,4 +1,4 @@
--- CREATE TABLE, CREATE DATABASE LINK and CREATE SYNONYM.
+-- CREATE TABLE, CREATE DATABASE LINK and CREATE SYNONYM (SQL Language Reference, the chapters of these names).
 use Rattle.std.specs.Prelude.{ℕ, Bool, true, false, ◌&&◌, ◌==◌, List, length, count_by, Option, Some, None, nat_le, codes}
 use Rattle.std.specs.List.{list_any}
 use Rattle.dtx_values.specs.Name.{name_of}
@@ -36,17 +36,17 @@ rule = or_else (begins (is_word (codes "NOT"))) (built (λ x. rules.NotNull) (wo
 abbrev pub is_rule : Token → Bool
 is_rule = either (is_word (codes "NOT")) (is_word (codes "PRIMARY"))
 
--- whether a rule is NOT NULL
+-- whether a constraint is NOT NULL
 abbrev pub is_not_null : Rule → Bool
 is_not_null rules.NotNull = true
 is_not_null rules.PrimaryKey = false
 
--- whether a rule is PRIMARY KEY
+-- whether a constraint is PRIMARY KEY
 abbrev pub is_key : Rule → Bool
 is_key rules.NotNull = false
 is_key rules.PrimaryKey = true
 
--- no rule twice
+-- no constraint twice
 abbrev pub are_once : List Rule → Bool
 are_once found = nat_le (count_by is_not_null found) 1 && nat_le (count_by is_key found) 1
 
@@ -80,7 +80,7 @@ abbrev pub target_in : Token → Option (List ℕ)
 target_in (token.Quoted text) = name_of text
 target_in _ = None
 
--- CONNECT TO id IDENTIFIED BY id, of which nothing is kept
+-- CONNECT TO id IDENTIFIED BY id, which is read and forgotten
 abbrev pub account : Grammar (List ℕ × List ℕ)
 account = word (codes "CONNECT") ▹ word (codes "TO") ▹ (identifier · (word (codes "IDENTIFIED") ▹ word (codes "BY") ▹ identifier))
 
@@ -97,7 +97,7 @@ unfoldable pub create_synonym : Grammar Stmt
 create_synonym = built (λ x. statements.CreateSynonym (record { name = x.0; table = x.1.0; link = x.1.1 }))
     (word (codes "SYNONYM") ▹ (identifier · (word (codes "FOR") ▹ (identifier · (mark marks.At ▹ name)))))
 
--- CREATE, and what
+-- CREATE TABLE, CREATE SYNONYM or CREATE DATABASE LINK
 unfoldable pub create : Grammar Stmt
 create = word (codes "CREATE") ▹ or_else (begins (is_word (codes "TABLE"))) create_table
     (or_else (begins (is_word (codes "SYNONYM"))) create_synonym create_link)

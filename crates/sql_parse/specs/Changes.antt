@@ -1,10 +1,11 @@
--- INSERT, UPDATE, DELETE and SELECT.
+-- INSERT, UPDATE, DELETE and SELECT (SQL Language Reference, the chapters of these names).
 use Rattle.std.specs.Prelude.{ℕ, Bool, true, false, List, length, nat_le, not, ◌||◌, codes}
 use Rattle.std.specs.List.{list_all}
 use Rattle.token_grammar.specs.declared.mark.Mark.TheVariants as marks
 use Rattle.token_grammar.specs.declared.token.Token.{Token}
 use Rattle.token_grammar.specs.Steps.{begins}
 use Rattle.token_grammar.specs.Grammar.{Grammar, is_word, is_mark, begins_two, word, mark, identifier, ◌·◌, ◌▹◌, maybe, optional, commas, mapped, tested}
+use Rattle.dtx_values.specs.Limits.{select_limit}
 use Rattle.sql_statement.specs.Distinct.{are_distinct}
 use Rattle.sql_statement.specs.declared.condition.Cond.{Cond}
 use Rattle.sql_statement.specs.declared.query.Picked.{Picked}
@@ -68,13 +69,9 @@ count = built (λ x. picked.Count) (word (codes "COUNT") ▹ in_brackets (mark m
 abbrev pub sum_of : Grammar Picked
 sum_of = built picked.Sum (word (codes "SUM") ▹ in_brackets identifier)
 
--- the most columns of a list
-abbrev pub list_limit : ℕ
-list_limit = 255
-
 -- id {, id}
 abbrev pub columns : Grammar Picked
-columns = built picked.Columns (tested (λ names. nat_le (length names) list_limit) (commas identifier))
+columns = built picked.Columns (tested (λ names. nat_le (length names) select_limit) (commas identifier))
 
 -- such a word before a bracket, where the word alone may be a column
 abbrev pub opens : List ℕ → List Token → Bool

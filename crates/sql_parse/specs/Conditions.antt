@@ -1,4 +1,4 @@
--- The conditions of a WHERE.
+-- The conditions of a WHERE (SQL Language Reference, "Conditions").
 use Rattle.std.specs.Prelude.{List, [], ◌∷◌, Option, Some, None, unwrap_or, codes}
 use Rattle.token_grammar.specs.declared.mark.Mark.TheVariants as marks
 use Rattle.token_grammar.specs.declared.token.Token.{Token}

@@ -5,4 +5,3 @@ pub mod Changes
 pub mod Catalog
 pub mod Transactions
 pub mod Statement
-pub mod Printing

@@ -1,4 +1,5 @@
--- Literals, tables behind links, and sums.
+-- Literals, tables, local or remote, and sums (SQL Language Reference, "Literals", "Database Object Names and Qualifiers",
+-- "Expressions").
 use Rattle.std.specs.Prelude.{ℕ, pos, neg_ℤ, Bool, true, false, ◌&&◌, List, [], ◌∷◌, Option, Some, None, nat_le, codes, if◌then◌else◌}
 use Rattle.std.specs.List.{list_all}
 use Rattle.std.specs.Str.{bytes_eq}
@@ -24,10 +25,11 @@ abbrev pub text_value : List ℕ → Option Value
 text_value [] = Some values.Null
 text_value (b ∷ bytes) = if is_text (b ∷ bytes) then Some (values.Text (b ∷ bytes)) else None
 
--- the largest number, and the size of the smallest
+-- the largest number
 abbrev pub largest : ℕ
 largest = 9223372036854775807
 
+-- the size of the smallest number
 abbrev pub smallest : ℕ
 smallest = 9223372036854775808
 
@@ -64,7 +66,7 @@ is_naming _ = false
 unfoldable pub term : Grammar Term
 term = or_else (begins is_naming) (built terms.Column identifier) (built terms.Literal literal)
 
--- whether a term is taken away
+-- whether a term is subtracted
 abbrev pub minus_in : Token → Option Bool
 minus_in (token.Mark marks.Plus) = Some false
 minus_in (token.Mark marks.Minus) = Some true

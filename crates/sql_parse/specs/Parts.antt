@@ -10,7 +10,7 @@ use Rattle.dtx_values.specs.Str.{is_text_to}
 
 -- ---- One of several.
 
--- the tokens of the one or of the other, told apart by a look at the tokens ahead
+-- the tokens of the one or of the other: a look at the tokens ahead says which
 abbrev pub or_else : {V : Type 0} → (List Token → Bool) → Grammar V → Grammar V → Grammar V
 or_else looks a b = record {
   Spells = λ v ts. a.Spells v ts ⊎ b.Spells v ts;

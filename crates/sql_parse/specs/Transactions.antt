@@ -1,4 +1,5 @@
--- COMMIT, ROLLBACK, ALTER and EXECUTE.
+-- COMMIT, ROLLBACK, ALTER and EXECUTE (SQL Language Reference, "COMMIT", "ROLLBACK", "ALTER SESSION", "ALTER SYSTEM"; PL/SQL
+-- Packages and Types Reference, "DBMS_TRANSACTION").
 use Rattle.std.specs.Prelude.{ℕ, Bool, true, false, List, ◌∷◌, [], Option, Some, None, codes, if◌then◌else◌}
 use Rattle.std.specs.Str.{bytes_eq}
 use Rattle.dtx_values.specs.declared.advice.Advice.{Advice}

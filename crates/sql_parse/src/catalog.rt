@@ -1,4 +1,5 @@
-//! CREATE TABLE, CREATE DATABASE LINK and CREATE SYNONYM, as they are read.
+//! CREATE TABLE, CREATE DATABASE LINK and CREATE SYNONYM, as they are read (SQL Language Reference, the chapters of these
+//! names).
 ghost use Rattle.std.specs.Prelude.{◌≡◌, codes};
 ghost use Rattle.token_grammar.specs.declared.mark.Mark.TheVariants as marks;
 ghost use Rattle.token_grammar.specs.Gives.{Gives};
@@ -80,8 +81,8 @@ fn take_create_link(alloc: Global, tokens: &[Token]) -> Result<(Stmt, &[Token]),
     Ok((Stmt::CreateLink(Link { name, target }), rest))
 }
 
-// A table behind a link.
-fn take_far_table(alloc: Global, tokens: &[Token]) -> Result<((Name, Name), &[Token]), ReadErr>
+// A remote table.
+fn take_remote_table(alloc: Global, tokens: &[Token]) -> Result<((Name, Name), &[Token]), ReadErr>
     ensures { Gives (λ x. (x.0, x.1.now)) result ((identifier · (mark marks.At ▹ name)).read tokens.now) }
 {
     let (table, rest) = take_identifier(alloc, tokens)?;
@@ -97,12 +98,13 @@ fn take_create_synonym(alloc: Global, tokens: &[Token]) -> Result<(Stmt, &[Token
     let rest = take_word(tokens, b"SYNONYM")?;
     let (name, rest) = take_identifier(alloc, rest)?;
     let rest = take_word(rest, b"FOR")?;
-    let ((table, link), rest) = take_far_table(alloc, rest)?;
+    let ((table, link), rest) = take_remote_table(alloc, rest)?;
     let synonym = Synonym { name, table, link };
     Ok((Stmt::CreateSynonym(synonym), rest))
 }
 
-/// CREATE, and what.
+/// CREATE TABLE, CREATE DATABASE LINK or CREATE SYNONYM. Fails where the tokens begin with none of them, and where memory runs
+/// out.
 #[tactic(auto, unfolding(crate::specs::Catalog::create))]
 pub(crate) fn take_create(alloc: Global, tokens: &[Token]) -> Result<(Stmt, &[Token]), ReadErr>
     ensures { Gives (λ x. (x.0, x.1.now)) result (spec.create.read tokens.now) }

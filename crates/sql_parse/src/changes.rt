@@ -64,7 +64,7 @@ fn take_values(alloc: Global, tokens: &[Token]) -> Result<(Sums, &[Token]), Read
     take_constants(alloc, rest)
 }
 
-/// INSERT, with or without a list of columns.
+/// INSERT, with or without a list of columns. Fails where the tokens begin with no such statement, and where memory runs out.
 #[tactic(auto, unfolding(crate::specs::Changes::insert))]
 pub(crate) fn take_insert(alloc: Global, tokens: &[Token]) -> Result<(Stmt, &[Token]), ReadErr>
     ensures { Gives (λ x. (x.0, x.1.now)) result (spec.insert.read tokens.now) }
@@ -129,7 +129,7 @@ fn take_new_contents(alloc: Global, tokens: &[Token]) -> Result<((Sets, Conds), 
     Ok(((sets, conds), rest))
 }
 
-/// UPDATE.
+/// UPDATE. Fails where the tokens begin with no such statement, and where memory runs out.
 #[tactic(auto, unfolding(crate::specs::Changes::update))]
 pub(crate) fn take_update(alloc: Global, tokens: &[Token]) -> Result<(Stmt, &[Token]), ReadErr>
     ensures { Gives (λ x. (x.0, x.1.now)) result (spec.update.read tokens.now) }
@@ -140,7 +140,7 @@ pub(crate) fn take_update(alloc: Global, tokens: &[Token]) -> Result<(Stmt, &[To
     Ok((Stmt::Update { table, sets, conds }, rest))
 }
 
-/// DELETE, with or without FROM.
+/// DELETE, with or without FROM. Fails where the tokens begin with no such statement, and where memory runs out.
 #[tactic(auto, unfolding(crate::specs::Changes::delete))]
 pub(crate) fn take_delete(alloc: Global, tokens: &[Token]) -> Result<(Stmt, &[Token]), ReadErr>
     ensures { Gives (λ x. (x.0, x.1.now)) result (spec.delete.read tokens.now) }

@@ -1,4 +1,4 @@
-//! The columns of a CREATE TABLE, as they are read.
+//! The columns of a CREATE TABLE, as they are read (SQL Language Reference, "CREATE TABLE", "Data Types", "constraint").
 ghost use Rattle.std.specs.Prelude.{◌≡◌, count_by};
 ghost use Rattle.std.specs.List.{list_any};
 ghost use Rattle.token_grammar.specs.Gives.{Gives};
@@ -7,25 +7,19 @@ ghost use Rattle.sql_parse.specs.Catalog as spec;
 ghost use Rattle.sql_statement.specs.Distinct.{column_name};
 
 use crate::lists::bracketed;
-use crate::parts::{Called, are_distinct, behind_word};
+use crate::parts::{Called, after_word, are_distinct};
 use crate::rule::Rule;
-use dtx_values::{Column, Columns, Listing, Name};
+use dtx_values::{COLUMN_LIMIT, Column, Columns, Listing, Name, TEXT_LIMIT};
 use std::alloc::Global;
 use token_grammar::{
     Mark, Part, ReadErr, Repeated, Token, begins_word, many, take_identifier, take_mark,
     take_number, take_word,
 };
 
-/// The most bytes of a column's texts.
-const WIDTH_LIMIT: u64 = 2000;
-
-/// The most columns of a table.
-const COLUMN_LIMIT: usize = 32;
-
 fn take_width(tokens: &[Token]) -> Result<(u16, &[Token]), ReadErr>
     ensures { Gives (λ x. (x.0, x.1.now)) result (spec.width.read tokens.now) }
 {
-    let (width, rest) = take_number(tokens, WIDTH_LIMIT)?;
+    let (width, rest) = take_number(tokens, TEXT_LIMIT as u64)?;
     if width < 1 {
         return Err(ReadErr::Bad);
     }
@@ -36,7 +30,7 @@ fn take_width(tokens: &[Token]) -> Result<(u16, &[Token]), ReadErr>
 fn take_type(tokens: &[Token]) -> Result<(Option<u16>, &[Token]), ReadErr>
     ensures { Gives (λ x. (x.0, x.1.now)) result (spec.column_type.read tokens.now) }
 {
-    if let Some(rest) = behind_word(tokens, b"NUMBER") {
+    if let Some(rest) = after_word(tokens, b"NUMBER") {
         return Ok((None, rest));
     }
     let rest = take_word(tokens, b"VARCHAR2")?;
@@ -59,7 +53,7 @@ impl Repeated for Rule {
 
     #[tactic(auto, unfolding(crate::specs::Catalog::rule))]
     fn take(_: Global, tokens: &[Token]) -> Result<(Rule, &[Token]), ReadErr> {
-        if let Some(rest) = behind_word(tokens, b"NOT") {
+        if let Some(rest) = after_word(tokens, b"NOT") {
             let rest = take_word(rest, b"NULL")?;
             return Ok((Rule::NotNull, rest));
         }
@@ -160,7 +154,8 @@ fn are_of_a_table(columns: &[Column]) -> bool
         && are_distinct(columns)
 }
 
-/// The columns of a table, between brackets.
+/// The columns of a table, between brackets. Fails where no such list is next, where it has too many columns, two of one name,
+/// or no key or two, and where memory runs out.
 pub(crate) fn take_columns(alloc: Global, tokens: &[Token]) -> Result<(Columns, &[Token]), ReadErr>
     ensures { Gives (λ x. (x.0, x.1.now)) result (spec.table_columns.read tokens.now) }
 {

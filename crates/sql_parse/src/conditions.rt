@@ -1,4 +1,4 @@
-//! The conditions of a WHERE, as they are read.
+//! The conditions of a WHERE, as they are read (SQL Language Reference, "Conditions").
 ghost use Rattle.std.specs.Prelude.{◌≡◌, Some, codes};
 ghost use Rattle.token_grammar.specs.Gives.{Gives};
 ghost use Rattle.token_grammar.specs.Steps.{begins};
@@ -7,7 +7,7 @@ ghost use Rattle.sql_parse.specs.Parts.{stands};
 ghost use Rattle.sql_parse.specs.Conditions as spec;
 
 use crate::literals::take_literal;
-use crate::parts::behind_word;
+use crate::parts::after_word;
 use dtx_values::Listing;
 use sql_statement::{Cond, Conds, Sign};
 use std::alloc::Global;
@@ -108,12 +108,13 @@ impl Separator for And {
     }
 }
 
-/// The conditions behind WHERE, or none where it does not stand.
+/// The conditions after WHERE, or none where there is no WHERE. Fails where WHERE or an AND is followed by no condition, and
+/// where memory runs out.
 #[tactic(auto, unfolding(crate::specs::Conditions::conditions))]
 pub(crate) fn take_conditions(alloc: Global, tokens: &[Token]) -> Result<(Conds, &[Token]), ReadErr>
     ensures { Gives (λ x. (x.0, x.1.now)) result (spec.conditions.read tokens.now) }
 {
-    let Some(rest) = behind_word(tokens, b"WHERE") else {
+    let Some(rest) = after_word(tokens, b"WHERE") else {
         return Ok((Conds::new(alloc), tokens));
     };
     let (conds, rest) = separated::<And, Condition>(alloc, rest)?;

@@ -22,7 +22,7 @@ impl Part for ColumnName {
     }
 }
 
-/// One item or more between brackets, with commas between them.
+/// One item or more between brackets, with commas between them. Fails where no such list is next, and where memory runs out.
 pub(crate) fn bracketed<P: Part>(
     alloc: Global,
     tokens: &[Token],

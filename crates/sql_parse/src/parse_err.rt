@@ -1,4 +1,4 @@
-//! Why a text is no statement.
+//! Why no statement was read.
 ghost use Rattle.std.specs.Prelude.{◌≡◌};
 
 use thiserror::Error;
@@ -6,10 +6,10 @@ use thiserror::Error;
 /// Why no statement was read.
 #[derive(Clone, Copy, Debug, Drop, Error, PartialEq, Eq)]
 pub enum ParseErr {
-    /// The text is outside the grammar.
+    /// The text spells no statement of the grammar.
     #[error("invalid SQL statement")]
     BadSql,
-    /// There was no memory left to read on.
+    /// Memory ran out. Nothing is said of the text.
     #[error("out of memory")]
     NoMemory,
 }

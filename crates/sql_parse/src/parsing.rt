@@ -1,4 +1,4 @@
-//! Texts, read as statements.
+//! Statements, read from their texts.
 ghost use Rattle.std.specs.Prelude.{◌≡◌, ℕ, List, Some, None, IfOk, IsErrOf};
 ghost use Rattle.token_grammar.specs.Gives.{Gives};
 ghost use Rattle.sql_statement.specs.declared.statement.Stmt.{Stmt};
@@ -58,13 +58,14 @@ impl Part for Statement {
     }
 }
 
-/// The statement that a text is.
+/// The statement that a text spells.
 ///
-/// The grammar is a part of that of the SQL Language Reference, "SQL Statements".
+/// The grammar is a part of that of the SQL Language Reference, "SQL Statements". Fails with `BadSql` where the text spells no
+/// statement of it, and with `NoMemory` where memory runs out.
 pub fn parse(alloc: Global, text: &[u8]) -> Result<Stmt, ParseErr>
     // The text spells the statement.
     ensures found { IfOk result (λ s. IsStatement s text.now) }
-    // What is refused spells no statement.
+    // A text that is refused spells no statement.
     ensures bad { IsErrOf result ParseErr.BadSql → (s : Stmt) → IsStatement s text.now → ⊥ }
     // The same, in the words of the function that finds the statement.
     ensures is { IfOk result (λ s. statement_of text.now ≡ Some s) }

@@ -1,4 +1,4 @@
-//! What several forms of statements share: texts in quotes, brackets, and names that stand once.
+//! What several forms of statement share: keywords and marks, texts in quotes, and names that stand once.
 ghost use Rattle.std.specs.Prelude.{◌≡◌, ℕ, Bool, List, Some, IfSome, is_some};
 ghost use Rattle.std.specs.List.{list_any};
 ghost use Rattle.std.specs.Str.{bytes_eq, is_utf8};
@@ -13,10 +13,10 @@ use dtx_values::{Bytes, Listing, Name};
 use std::alloc::Global;
 use token_grammar::{Mark, ReadErr, Token, take_quoted};
 
-/// What stands behind this word, where it is next.
-pub(crate) fn behind_word<'a>(tokens: &'a [Token], text: &[u8]) -> Option<&'a [Token]>
+/// The tokens after this word, where it is next.
+pub(crate) fn after_word<'a>(tokens: &'a [Token], text: &[u8]) -> Option<&'a [Token]>
     ensures next { is_some result ≡ begins (grammar.is_word text.now) tokens.now }
-    ensures behind { IfSome result (λ rest. (grammar.word text.now).read tokens.now ≡ Some (tt, rest.now)) }
+    ensures after { IfSome result (λ rest. (grammar.word text.now).read tokens.now ≡ Some (tt, rest.now)) }
 {
     match tokens {
         [Token::Word(word), rest @ ..] if word.as_slice() == text => Some(rest),
@@ -24,10 +24,10 @@ pub(crate) fn behind_word<'a>(tokens: &'a [Token], text: &[u8]) -> Option<&'a [T
     }
 }
 
-/// What stands behind this mark, where it is next.
-pub(crate) fn behind_mark(tokens: &[Token], mark: Mark) -> Option<&[Token]>
+/// The tokens after this mark, where it is next.
+pub(crate) fn after_mark(tokens: &[Token], mark: Mark) -> Option<&[Token]>
     ensures next { is_some result ≡ begins (grammar.is_mark mark) tokens.now }
-    ensures behind { IfSome result (λ rest. (grammar.mark mark).read tokens.now ≡ Some (tt, rest.now)) }
+    ensures after { IfSome result (λ rest. (grammar.mark mark).read tokens.now ≡ Some (tt, rest.now)) }
 {
     match tokens {
         [Token::Mark(first), rest @ ..] if first.is(mark) => Some(rest),
@@ -47,7 +47,7 @@ fn is_text_to(bytes: &[u8], most: usize) -> bool
     bytes.len() <= most && is_utf8(bytes)
 }
 
-/// A text in quotes, of at most `most` bytes, in UTF-8.
+/// A text in quotes, of at most `most` bytes, in UTF-8. Fails where no such text is next, and where memory runs out.
 pub(crate) fn take_text(
     alloc: Global,
     tokens: &[Token],
@@ -62,7 +62,7 @@ pub(crate) fn take_text(
     Ok((Listing::of(text.to_vec(alloc)?), rest))
 }
 
-/// What is called by a name.
+/// An item that has a name.
 pub(crate) trait Called {
     ghost called: { Self → List ℕ };
 
@@ -84,7 +84,7 @@ fn is_among<C: Called>(item: &C, others: &[C]) -> bool
     others.iter().any(|other| other.called().is(item.called()))
 }
 
-/// Whether all items are called by different names.
+/// Whether all items have different names.
 pub(crate) fn are_distinct<C: Called>(items: &[C]) -> bool
     ensures { result ≡ names.are_distinct C.called items.now }
 {

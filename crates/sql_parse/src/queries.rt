@@ -1,4 +1,4 @@
-//! SELECT, as it is read.
+//! SELECT, as it is read (SQL Language Reference, "SELECT").
 ghost use Rattle.std.specs.Prelude.{◌≡◌};
 ghost use Rattle.token_grammar.specs.Gives.{Gives};
 ghost use Rattle.token_grammar.specs.Grammar.{◌·◌};
@@ -8,16 +8,13 @@ ghost use Rattle.sql_parse.specs.Changes as spec;
 use crate::conditions::take_conditions;
 use crate::lists::ColumnName;
 use crate::literals::take_table_ref;
-use crate::parts::{behind_mark, behind_word};
-use dtx_values::Listing;
+use crate::parts::{after_mark, after_word};
+use dtx_values::{Listing, SELECT_LIMIT};
 use sql_statement::{Conds, Picked, Stmt, TableRef};
 use std::alloc::Global;
 use token_grammar::{
     Mark, ReadErr, Token, begins_word_mark, commas, take_identifier, take_mark, take_word,
 };
-
-/// The most columns of a list.
-const LIST_LIMIT: usize = 255;
 
 fn take_count(tokens: &[Token]) -> Result<(Picked, &[Token]), ReadErr>
     ensures { Gives (λ x. (x.0, x.1.now)) result (spec.count.read tokens.now) }
@@ -43,7 +40,7 @@ fn take_columns(alloc: Global, tokens: &[Token]) -> Result<(Picked, &[Token]), R
     ensures { Gives (λ x. (x.0, x.1.now)) result (spec.columns.read tokens.now) }
 {
     let (names, rest) = commas::<ColumnName>(alloc, tokens)?;
-    if names.len() > LIST_LIMIT {
+    if names.len() > SELECT_LIMIT {
         return Err(ReadErr::Bad);
     }
     Ok((Picked::Columns(Listing::of(names)), rest))
@@ -53,7 +50,7 @@ fn take_columns(alloc: Global, tokens: &[Token]) -> Result<(Picked, &[Token]), R
 fn take_picked(alloc: Global, tokens: &[Token]) -> Result<(Picked, &[Token]), ReadErr>
     ensures { Gives (λ x. (x.0, x.1.now)) result (spec.picks.read tokens.now) }
 {
-    if let Some(rest) = behind_mark(tokens, Mark::Star) {
+    if let Some(rest) = after_mark(tokens, Mark::Star) {
         return Ok((Picked::All, rest));
     }
     if begins_word_mark(tokens, b"COUNT", Mark::Open) {
@@ -68,7 +65,7 @@ fn take_picked(alloc: Global, tokens: &[Token]) -> Result<(Picked, &[Token]), Re
 fn take_for_update(tokens: &[Token]) -> Result<(bool, &[Token]), ReadErr>
     ensures { Gives (λ x. (x.0, x.1.now)) result (spec.for_update_part.read tokens.now) }
 {
-    let Some(rest) = behind_word(tokens, b"FOR") else {
+    let Some(rest) = after_word(tokens, b"FOR") else {
         return Ok((false, tokens));
     };
     let rest = take_word(rest, b"UPDATE")?;
@@ -84,7 +81,7 @@ fn take_rows(alloc: Global, tokens: &[Token]) -> Result<((Conds, bool), &[Token]
     Ok(((conds, for_update), rest))
 }
 
-// The table behind FROM, and which of its rows.
+// The table after FROM, and which of its rows.
 fn take_source(
     alloc: Global,
     tokens: &[Token],
@@ -109,7 +106,8 @@ fn is_lockable(list: &Picked, for_update: bool) -> bool
     !for_update || is_of_rows(list)
 }
 
-/// SELECT, with FOR UPDATE where rows are asked for.
+/// SELECT, with FOR UPDATE where its list is one of columns. Fails where the tokens begin with no such statement, and where
+/// memory runs out.
 #[tactic(auto, unfolding(crate::specs::Changes::select))]
 pub(crate) fn take_select(alloc: Global, tokens: &[Token]) -> Result<(Stmt, &[Token]), ReadErr>
     ensures { Gives (λ x. (x.0, x.1.now)) result (spec.select.read tokens.now) }

@@ -1,9 +1,11 @@
-//! Rules that a column may have.
+//! The constraints of a column.
 ghost use Rattle.std.specs.Prelude.{◌≡◌};
 
-/// A rule for what a column holds.
+/// A constraint of a column (SQL Language Reference, "constraint").
 #[derive(Clone, Copy, Debug, PartialEq, Eq)]
 pub enum Rule {
+    /// NOT NULL
     NotNull,
+    /// PRIMARY KEY
     PrimaryKey,
 }

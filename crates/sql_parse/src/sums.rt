@@ -1,4 +1,4 @@
-//! Sums of terms.
+//! Sums of terms: the expressions of the subset (SQL Language Reference, "Expressions").
 ghost use Rattle.std.specs.Prelude.{◌≡◌};
 ghost use Rattle.std.specs.List.{list_all};
 ghost use Rattle.token_grammar.specs.Gives.{Gives};
@@ -43,7 +43,7 @@ fn take_minus(tokens: &[Token]) -> Result<(bool, &[Token]), ReadErr>
     }
 }
 
-/// A term behind its sign.
+/// A term after its sign.
 struct SignedTerm;
 
 impl Repeated for SignedTerm {
@@ -65,7 +65,8 @@ impl Repeated for SignedTerm {
     }
 }
 
-/// A term, and those that are added to it or taken away.
+/// A term, and those that are added to it or subtracted. Fails where no term is next, or none follows a sign, and where
+/// memory runs out.
 #[tactic(auto, unfolding(crate::specs::Literals::sum))]
 pub(crate) fn take_sum(alloc: Global, tokens: &[Token]) -> Result<(Sum, &[Token]), ReadErr>
     ensures { Gives (λ x. (x.0, x.1.now)) result (spec.sum.read tokens.now) }

@@ -1,4 +1,5 @@
-//! COMMIT, ROLLBACK, ALTER and EXECUTE, as they are read.
+//! COMMIT, ROLLBACK, ALTER and EXECUTE, as they are read (SQL Language Reference, "COMMIT", "ROLLBACK", "ALTER SESSION" and
+//! "ALTER SYSTEM"; PL/SQL Packages and Types Reference, "DBMS_TRANSACTION").
 ghost use Rattle.std.specs.Prelude.{◌≡◌, codes};
 ghost use Rattle.token_grammar.specs.declared.mark.Mark.TheVariants as marks;
 ghost use Rattle.token_grammar.specs.Gives.{Gives};
@@ -6,27 +7,18 @@ ghost use Rattle.token_grammar.specs.Grammar.{meant, optional, is_word, is_mark,
 ghost use Rattle.sql_parse.specs.Transactions as spec;
 ghost use Rattle.dtx_values.specs.Limits.{scn_limit};
 
-use crate::parts::{behind_mark, behind_word, take_text};
-use dtx_values::{Advice, Bytes};
+use crate::parts::{after_mark, after_word, take_text};
+use dtx_values::{Advice, Bytes, COMMENT_LIMIT, ID_LIMIT, SCN_LIMIT};
 use sql_statement::Stmt;
 use std::alloc::Global;
 use token_grammar::{
     Mark, ReadErr, Token, begins_word, maybe_word, take_mark, take_number, take_word,
 };
 
-/// The most bytes of a comment.
-const COMMENT_LIMIT: usize = 255;
-
-/// The most bytes of an id.
-const ID_LIMIT: usize = 2000;
-
-/// The largest SCN.
-const LARGEST_SCN: u64 = (1 << 48) - 1;
-
 fn take_plain_commit(alloc: Global, tokens: &[Token]) -> Result<(Stmt, &[Token]), ReadErr>
     ensures { Gives (λ x. (x.0, x.1.now)) result (spec.plain_commit.read tokens.now) }
 {
-    let Some(rest) = behind_word(tokens, b"COMMENT") else {
+    let Some(rest) = after_word(tokens, b"COMMENT") else {
         return Ok((Stmt::Commit { comment: None }, tokens));
     };
     let (comment, rest) = take_text(alloc, rest, COMMENT_LIMIT)?;
@@ -37,10 +29,10 @@ fn take_plain_commit(alloc: Global, tokens: &[Token]) -> Result<(Stmt, &[Token])
 fn maybe_scn(tokens: &[Token]) -> Result<(Option<u64>, &[Token]), ReadErr>
     ensures { Gives (λ x. (x.0, x.1.now)) result ((optional (is_mark marks.Comma) (mark marks.Comma ▹ number_to scn_limit)).read tokens.now) }
 {
-    let Some(rest) = behind_mark(tokens, Mark::Comma) else {
+    let Some(rest) = after_mark(tokens, Mark::Comma) else {
         return Ok((None, tokens));
     };
-    let (scn, rest) = take_number(rest, LARGEST_SCN)?;
+    let (scn, rest) = take_number(rest, SCN_LIMIT)?;
     Ok((Some(scn), rest))
 }
 
@@ -53,7 +45,8 @@ fn take_forced_commit(alloc: Global, tokens: &[Token]) -> Result<(Stmt, &[Token]
     Ok((Stmt::CommitForce { id, scn }, rest))
 }
 
-/// COMMIT, with a comment or without, or COMMIT FORCE.
+/// COMMIT, with a comment or without, or COMMIT FORCE. Fails where the tokens begin with no such statement, and where memory
+/// runs out.
 #[tactic(auto, unfolding(crate::specs::Transactions::commit))]
 pub(crate) fn take_commit(alloc: Global, tokens: &[Token]) -> Result<(Stmt, &[Token]), ReadErr>
     ensures { Gives (λ x. (x.0, x.1.now)) result (spec.commit.read tokens.now) }
@@ -66,17 +59,17 @@ pub(crate) fn take_commit(alloc: Global, tokens: &[Token]) -> Result<(Stmt, &[To
     take_plain_commit(alloc, rest)
 }
 
-/// ROLLBACK or ROLLBACK FORCE.
+/// ROLLBACK or ROLLBACK FORCE. Fails where the tokens begin with no such statement, and where memory runs out.
 #[tactic(auto, unfolding(crate::specs::Transactions::rollback))]
 pub(crate) fn take_rollback(alloc: Global, tokens: &[Token]) -> Result<(Stmt, &[Token]), ReadErr>
     ensures { Gives (λ x. (x.0, x.1.now)) result (spec.rollback.read tokens.now) }
 {
     let rest = take_word(tokens, b"ROLLBACK")?;
     let rest = maybe_word(rest, b"WORK");
-    let Some(behind) = behind_word(rest, b"FORCE") else {
+    let Some(after) = after_word(rest, b"FORCE") else {
         return Ok((Stmt::Rollback, rest));
     };
-    let (id, rest) = take_text(alloc, behind, ID_LIMIT)?;
+    let (id, rest) = take_text(alloc, after, ID_LIMIT)?;
     Ok((Stmt::RollbackForce { id }, rest))
 }
 
@@ -144,7 +137,8 @@ fn take_recovery(tokens: &[Token]) -> Result<(Stmt, &[Token]), ReadErr>
     Ok((Stmt::Recovery(on), rest))
 }
 
-/// ALTER SESSION or ALTER SYSTEM.
+/// ALTER SESSION ADVISE, or ALTER SYSTEM ENABLE or DISABLE DISTRIBUTED RECOVERY. Fails where the tokens begin with no such
+/// statement.
 #[tactic(auto, unfolding(crate::specs::Transactions::alter))]
 pub(crate) fn take_alter(tokens: &[Token]) -> Result<(Stmt, &[Token]), ReadErr>
     ensures { Gives (λ x. (x.0, x.1.now)) result (spec.alter.read tokens.now) }
@@ -168,7 +162,7 @@ fn take_argument(alloc: Global, tokens: &[Token]) -> Result<(Bytes, &[Token]), R
 fn take_purge(alloc: Global, tokens: &[Token]) -> Result<(Stmt, &[Token]), ReadErr>
     ensures { Gives (λ x. (x.0, x.1.now)) result (spec.purge.read tokens.now) }
 {
-    if let Some(rest) = behind_word(tokens, b"DBMS_TRANSACTION.PURGE_MIXED") {
+    if let Some(rest) = after_word(tokens, b"DBMS_TRANSACTION.PURGE_MIXED") {
         let (id, rest) = take_argument(alloc, rest)?;
         return Ok((Stmt::PurgeMixed { id }, rest));
     }
@@ -188,7 +182,8 @@ fn take_execute_word(tokens: &[Token]) -> Result<&[Token], ReadErr>
     }
 }
 
-/// EXECUTE, or EXEC for short, of a purge.
+/// EXECUTE, or EXEC for short, of DBMS_TRANSACTION.PURGE_MIXED or PURGE_LOST_DB_ENTRY. Fails where the tokens begin with no
+/// such statement, and where memory runs out.
 #[tactic(auto, unfolding(crate::specs::Transactions::execute))]
 pub(crate) fn take_execute(alloc: Global, tokens: &[Token]) -> Result<(Stmt, &[Token]), ReadErr>
     ensures { Gives (λ x. (x.0, x.1.now)) result (spec.execute.read tokens.now) }

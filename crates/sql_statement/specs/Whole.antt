@@ -1,15 +1,15 @@
--- What is sure of each statement that a text spells.
-use Rattle.std.specs.Prelude.{◌≡◌, ◌<◌, ◌≤◌, ℕ, Bool, true, ◌&&◌, List, length, count_by, Some, IfSome, IsTrue, nat_le, FitsSigned, ⊤}
+-- What holds of each statement that a text spells.
+use Rattle.std.specs.Prelude.{◌≡◌, ◌<◌, ◌≤◌, ℕ, true, List, length, count_by, Some, IfSome, IsTrue, FitsSigned, ⊤}
 use Rattle.std.specs.Int.{w64}
 use Rattle.std.specs.List.{All}
 use Rattle.dtx_values.specs.Name.{name_of}
 use Rattle.dtx_values.specs.Str.{is_text, is_text_to}
 use Rattle.dtx_values.specs.declared.value.Value.{Value}
 use Rattle.dtx_values.specs.declared.value.Value.TheVariants as values
-use Rattle.dtx_values.specs.declared.table.Column.{Column}
 use Rattle.dtx_values.specs.declared.table.Table.{Table}
 use Rattle.sql_statement.specs.Distinct.{are_distinct, column_name}
-use Rattle.dtx_values.specs.Limits.{text_limit, column_limit, comment_limit, id_limit, scn_limit}
+use Rattle.dtx_values.specs.Widths.{HasWidth}
+use Rattle.dtx_values.specs.Limits.{column_limit, comment_limit, id_limit, scn_limit}
 use Rattle.sql_statement.specs.declared.sum.Term.{Term}
 use Rattle.sql_statement.specs.declared.sum.Term.TheVariants as terms
 use Rattle.sql_statement.specs.declared.sum.Sum.{Sum}
@@ -27,14 +27,6 @@ abbrev pub IsTextTo : ℕ → List ℕ → Type 0
 IsTextTo most text = IsTrue (is_text_to most text)
 
 -- ---- Tables.
-
--- from 1 byte to the most that there may be
-abbrev pub is_width : ℕ → Bool
-is_width bytes = nat_le 1 bytes && nat_le bytes text_limit
-
--- a column of texts has such a width
-abbrev pub HasWidth : Column → Type 0
-HasWidth c = IfSome c.text_max (λ width. IsTrue (is_width width))
 
 -- a table: some columns and not too many, of different names, and exactly one of them the key
 pub record IsWholeTable (t : Table) : Type 0 where
@@ -70,7 +62,7 @@ IsWholeCond (conds.IsNull column negated) = ⊤
 
 -- ---- Statements.
 
--- what may be kept of a statement: its table, link or synonym, its literals, and the bytes in its quotes
+-- what a node may store of a statement: its table, link or synonym, its literals, and the bytes in its quotes
 abbrev pub IsWhole : Stmt → Type 0
 IsWhole (statements.CreateTable t) = IsWholeTable t
 IsWhole (statements.CreateLink l) = IsName l.name × IsName l.target

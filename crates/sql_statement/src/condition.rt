@@ -1,17 +1,23 @@
-//! The conditions of a WHERE.
+//! The conditions of a WHERE (SQL Language Reference, "Conditions").
 ghost use Rattle.std.specs.Prelude.{◌≡◌};
 
 use dtx_values::{Duplicate, Listing, Name, Value};
 use std::alloc::{AllocError, Global};
 
-/// How a comparison compares.
+/// The sign of a comparison.
 #[derive(Clone, Copy, Debug, PartialEq, Eq)]
 pub enum Sign {
+    /// `=`
     Eq,
+    /// `<>` or `!=`
     Ne,
+    /// `<`
     Lt,
+    /// `<=`
     Le,
+    /// `>`
     Gt,
+    /// `>=`
     Ge,
 }
 
@@ -26,13 +32,18 @@ impl Duplicate for Sign {
 pub enum Cond {
     /// `column sign literal`
     Compare {
+        /// The column that is compared.
         column: Name,
+        /// How it is compared.
         sign: Sign,
+        /// What it is compared with.
         literal: Value,
     },
     /// `column IS NULL`, or `column IS NOT NULL` where it is negated.
     IsNull {
+        /// The column that is tested.
         column: Name,
+        /// Whether NOT stands.
         negated: bool,
     },
 }

@@ -1,7 +1,7 @@
 //! The statements of the SQL subset as data, as the SQL Language Reference lists their parts.
 //!
 //! `Stmt` and its parts are plain data, apart from the texts that spell them, so that what runs statements does not stand
-//! on what reads them. What is sure of each statement that a text spells is said by `IsWhole` in `specs/Whole.antt`.
+//! on what reads them. What holds of each statement that a text spells is said by `IsWhole` in `specs/Whole.antt`.
 #![tactic(auto)]
 
 mod condition;

@@ -1,4 +1,4 @@
-//! What a query asks for.
+//! The list of a query.
 ghost use Rattle.std.specs.Prelude.{◌≡◌};
 
 use dtx_values::{Duplicate, Name, Names};
@@ -13,6 +13,7 @@ pub enum Picked {
     Count,
     /// `SUM(column)`
     Sum(Name),
+    /// Columns by their names.
     Columns(Names),
 }
 

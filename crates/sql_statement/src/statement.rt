@@ -1,4 +1,4 @@
-//! Statements.
+//! Statements (SQL Language Reference, the chapters of their names).
 ghost use Rattle.std.specs.Prelude.{◌≡◌, IfOk};
 ghost use Rattle.sql_statement.specs.declared.statement.Stmt.TheVariants.{Insert, Update, Delete, Select};
 
@@ -8,10 +8,12 @@ use crate::sum::{Sum, Sums};
 use dtx_values::{Advice, Bytes, Duplicate, Link, Listing, Name, Names, Synonym, Table};
 use std::alloc::{AllocError, Global};
 
-/// A table by its name, or a table behind a link: `T` or `T@LINK`.
+/// A table by its name, `T`, or a remote table, `T@LINK`.
 #[derive(Debug, Drop)]
 pub struct TableRef {
+    /// The name of the table, or of a synonym of one.
     pub name: Name,
+    /// The database link of a remote table.
     pub link: Option<Name>,
 }
 
@@ -27,7 +29,9 @@ impl Duplicate for TableRef {
 /// An assignment of an UPDATE.
 #[derive(Debug, Drop)]
 pub struct Set {
+    /// The column that gets a value.
     pub column: Name,
+    /// Its new value, over the row as it was.
     pub to: Sum,
 }
 
@@ -46,53 +50,79 @@ impl Duplicate for Set {
 /// A statement.
 #[derive(Debug, Drop)]
 pub enum Stmt {
+    /// CREATE TABLE
     CreateTable(Table),
+    /// CREATE DATABASE LINK
     CreateLink(Link),
+    /// CREATE SYNONYM
     CreateSynonym(Synonym),
+    /// INSERT
     Insert {
+        /// The table that gets the row.
         table: TableRef,
         /// The columns that get values, or all of them.
         columns: Option<Names>,
+        /// Their values, in the same order.
         values: Sums,
     },
+    /// UPDATE
     Update {
+        /// The table that is changed.
         table: TableRef,
+        /// The columns that get new values.
         sets: Sets,
+        /// Which of its rows are changed.
         conds: Conds,
     },
+    /// DELETE
     Delete {
+        /// The table that rows are deleted from.
         table: TableRef,
+        /// Which of its rows are deleted.
         conds: Conds,
     },
+    /// SELECT
     Select {
+        /// What is asked of the rows.
         list: Picked,
+        /// The table that has the rows.
         table: TableRef,
+        /// Which of its rows are asked for.
         conds: Conds,
+        /// Whether FOR UPDATE stands, which locks the rows.
         for_update: bool,
     },
+    /// COMMIT
     Commit {
+        /// The text of its COMMENT.
         comment: Option<Bytes>,
     },
-    /// COMMIT FORCE, with the SCN where the user gives one.
+    /// COMMIT FORCE, with an SCN where the statement names one.
     CommitForce {
+        /// A local or global transaction id.
         id: Bytes,
+        /// The SCN that the transaction is to have.
         scn: Option<u64>,
     },
+    /// ROLLBACK
     Rollback,
     /// ROLLBACK FORCE
     RollbackForce {
+        /// A local or global transaction id.
         id: Bytes,
     },
-    /// ALTER SESSION ADVISE, with nothing for NOTHING.
+    /// ALTER SESSION ADVISE, with no advice for NOTHING.
     Advise(Option<Advice>),
     /// ALTER SYSTEM ENABLE or DISABLE DISTRIBUTED RECOVERY.
     Recovery(bool),
     /// EXECUTE DBMS_TRANSACTION.PURGE_MIXED
     PurgeMixed {
+        /// A local transaction id.
         id: Bytes,
     },
     /// EXECUTE DBMS_TRANSACTION.PURGE_LOST_DB_ENTRY
     PurgeLost {
+        /// A local transaction id.
         id: Bytes,
     },
 }

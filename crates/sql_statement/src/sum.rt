@@ -1,4 +1,4 @@
-//! Sums: what a statement computes for a column.
+//! Sums: the expressions of the subset (SQL Language Reference, "Expressions").
 ghost use Rattle.std.specs.Prelude.{◌≡◌};
 
 use dtx_values::{Duplicate, Listing, Name, Value};
@@ -9,6 +9,7 @@ use std::alloc::{AllocError, Global};
 pub enum Term {
     /// What the row has in this column.
     Column(Name),
+    /// A literal.
     Literal(Value),
 }
 
@@ -21,14 +22,16 @@ impl Duplicate for Term {
     }
 }
 
-/// A further term, added or taken away.
+/// A further term, added or subtracted.
 #[derive(Debug, Drop)]
 pub struct Step {
+    /// Whether the term is subtracted.
     pub minus: bool,
+    /// The term.
     pub term: Term,
 }
 
-/// The terms behind the first, from left to right.
+/// The terms after the first, from left to right.
 pub type Steps = Listing<Step>;
 
 impl Duplicate for Step {
@@ -44,7 +47,9 @@ impl Duplicate for Step {
 /// A term, or several terms that are added up from left to right.
 #[derive(Debug, Drop)]
 pub struct Sum {
+    /// The first term.
     pub first: Term,
+    /// The terms after it, with their signs.
     pub rest: Steps,
 }
 

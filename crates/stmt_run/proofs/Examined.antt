@@ -7,12 +7,13 @@ use Rattle.sql_statement.specs.declared.statement.Stmt.{Stmt}
 use Rattle.sql_statement.specs.declared.condition.Cond.{Cond}
 use Rattle.sql_eval.specs.declared.keyed.Keyed.{Keyed}
 use Rattle.sql_statement.specs.declared.statement.Stmt.TheVariants as stmts
-use Rattle.sql_eval.specs.Words.{first_some, one}
-use Rattle.sql_eval.specs.Rows.{value_below, same_value, keys_of, put_key}
+use Rattle.sql_check.specs.Words.{first_some, one}
+use Rattle.dtx_values.specs.Order.{value_below, same_value}
+use Rattle.sql_eval.specs.Rows.{keys_of, put_key}
 use Rattle.sql_eval.specs.Meaning.{examined, examined_by, fixes, conds_of, found, satisfies, written}
 use Rattle.sql_eval.specs.Laws.{HasOneKey, AreKeyed, at_key}
 use Rattle.sql_eval.proofs.KeyLaws.{found_at_key}
-use Rattle.stmt_run.proofs.Values.{equal_from_same}
+use Rattle.dtx_values.proofs.ValueOrder.{equal_from_same}
 
 module _ (P : Value → Type 0) where
   -- ---- keys in order are the keys

@@ -12,9 +12,10 @@ use Rattle.dtx_values.specs.declared.value.Value.{Value}
 use Rattle.sql_statement.specs.declared.statement.Stmt.{Stmt}
 use Rattle.sql_eval.specs.declared.meant.Meant.{Meant}
 use Rattle.sql_eval.specs.declared.meant.Meant.TheVariants as meants
-use Rattle.sql_eval.specs.Words.{first_some}
-use Rattle.sql_eval.specs.Refusals.{else_refuse}
-use Rattle.sql_eval.specs.Meaning.{checked, examined, written, meant_over}
+use Rattle.sql_check.specs.Words.{first_some}
+use Rattle.sql_check.specs.Refusals.{else_refuse}
+use Rattle.sql_check.specs.Checks.{checked}
+use Rattle.sql_eval.specs.Meaning.{examined, written, meant_over}
 use Rattle.sql_eval.specs.Laws.{HasOneKey, AreKeyed}
 use Rattle.row_locks.specs.Locks.{Lock, another, holder_of, taken, keys_held}
 use Rattle.row_locks.specs.Held.{in_doubt_one, live_one, doubt_on, hold_on}

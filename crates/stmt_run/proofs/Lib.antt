@@ -1,4 +1,3 @@
-mod Values
 mod Examined
 mod Free
 mod Lengths

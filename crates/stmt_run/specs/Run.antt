@@ -14,9 +14,11 @@ use Rattle.sql_statement.specs.declared.statement.Stmt.{Stmt}
 use Rattle.sql_eval.specs.declared.keyed.Keyed.{Keyed}
 use Rattle.sql_eval.specs.declared.meant.Meant.{Meant}
 use Rattle.sql_eval.specs.declared.meant.Meant.TheVariants as meants
-use Rattle.sql_eval.specs.Words.{one, first_some}
-use Rattle.sql_eval.specs.Refusals.{ora, dtx, else_refuse, refuse_if}
-use Rattle.sql_eval.specs.Meaning.{checked, examined, written, meant_over}
+use Rattle.dtx_values.specs.Limits.{changes_limit}
+use Rattle.sql_check.specs.Words.{one, first_some}
+use Rattle.sql_check.specs.Refusals.{ora, dtx, else_refuse, refuse_if}
+use Rattle.sql_check.specs.Checks.{checked}
+use Rattle.sql_eval.specs.Meaning.{examined, written, meant_over}
 use Rattle.row_locks.specs.Locks.{Lock, keys_held, taken}
 use Rattle.row_locks.specs.Held.{doubt_on, hold_on}
 use Rattle.row_store.specs.Own.{Own, with_changes, changes_length, undo_length, extents}
@@ -50,9 +52,9 @@ locked_refusal g t keys = held_refusal 2049 (first_some (map (hold_on g.locks g.
 abbrev pub needed_extents : Ground → List Change → ℕ
 needed_extents g cs = extents (g.undo + undo_length g.view cs) - extents g.undo
 
--- whether the branch's changes with these take more than 8,388,608 bytes
+-- whether the branch's changes with these take more bytes than a branch may change
 abbrev pub too_many_changes : Ground → List Change → Bool
-too_many_changes g cs = nat_lt 8388608 (g.bytes + changes_length cs)
+too_many_changes g cs = nat_lt changes_limit (g.bytes + changes_length cs)
 
 -- DTX-16 and ORA-30036: too many changes, or not enough extents
 abbrev pub space_refusal : Ground → List Change → Option Refusal

@@ -3,6 +3,7 @@ use Rattle.std.specs.Prelude.{◌≡◌, ℕ, ◌+◌, ◌^◌, ◌<◌, ◌≤�
 use Rattle.std.specs.List.{All}
 use Rattle.dtx_values.specs.declared.value.Value.{Value}
 use Rattle.dtx_values.specs.declared.table.Table.{Table}
+use Rattle.dtx_values.specs.Limits.{changes_limit}
 use Rattle.tran_ids.specs.declared.branch.BranchId.{BranchId}
 use Rattle.row_locks.specs.Locks.{Lock, other_holder}
 use Rattle.row_store.specs.Tables.{TableRows}
@@ -48,4 +49,4 @@ LocksFreeKeys locks me t (Writes d cs keys undo) = All (IsFree locks me t.name) 
 abbrev pub HasRoom : Own → Ran → Type 0
 HasRoom own (Refuses r) = Unit {0}
 HasRoom own (Reads rows keys) = Unit {0}
-HasRoom own (Writes d cs keys undo) = (changes_length (own.changes ++ cs) ≤ 8388608) × (own.undo + undo < 2 ^ 64)
+HasRoom own (Writes d cs keys undo) = (changes_length (own.changes ++ cs) ≤ changes_limit) × (own.undo + undo < 2 ^ 64)

@@ -9,7 +9,8 @@ use crate::sight::Sight;
 use crate::space::ran_within;
 use crate::{Ran, Site};
 use dtx_values::{Listing, Table};
-use sql_eval::{Meant, checked, meant_over, written};
+use sql_check::checked;
+use sql_eval::{Meant, meant_over, written};
 use sql_statement::Stmt;
 use std::alloc::{AllocError, Global};
 

@@ -1,8 +1,8 @@
 //! Who holds the keys of a statement, and taking them.
 ghost use Rattle.std.specs.Prelude.{◌≡◌, map, IfOk, OnOk};
 ghost use Rattle.std.specs.List.{All};
-ghost use Rattle.sql_eval.specs.Words.{first_some};
-ghost use Rattle.sql_eval.specs.Refusals.{else_refuse};
+ghost use Rattle.sql_check.specs.Words.{first_some};
+ghost use Rattle.sql_check.specs.Refusals.{else_refuse};
 ghost use Rattle.row_locks.specs.Held.{doubt_on as doubt_on_of, hold_on as hold_on_of};
 ghost use Rattle.stmt_run.specs.Run.{in_doubt_refusal, locked_refusal, take_keys};
 ghost use Rattle.stmt_run.specs.Sites.{ground_of, IsFree};

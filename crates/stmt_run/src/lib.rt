@@ -2,7 +2,7 @@
 //!
 //! What a statement does is a function of what it meets there: the rows that its branch sees, the locks of the node, and
 //! the space that is left to the branch. It is refused, or gives rows and locks keys, or makes changes and locks keys; the
-//! causes of a refusal are tested in their order.
+//! causes of a refusal are tested in their order. A call fails where memory runs out.
 #![tactic(auto)]
 
 mod deciding;

@@ -10,13 +10,18 @@ pub enum Ran {
     Refuses(Refusal),
     /// It gives rows, and locks keys where it is FOR UPDATE.
     Reads {
+        /// The rows that it gives.
         rows: RowSet,
+        /// The keys that it locks.
         keys: Keys,
     },
     /// It makes changes, and locks their keys.
     Writes {
+        /// What was done to the rows.
         done: Done,
+        /// The changes that it makes.
         changes: Changes,
+        /// The keys that it locks.
         keys: Keys,
         /// The bytes of the changes' undo.
         undo: u64,

@@ -1,7 +1,7 @@
 //! The refusals of statements that find a key held, or no space.
 ghost use Rattle.std.specs.Prelude.{◌≡◌, [], ◌∷◌, IfOk};
 ghost use Rattle.tran_ids.specs.Numbers.{decimal};
-ghost use Rattle.sql_eval.specs.Refusals.{ora, dtx};
+ghost use Rattle.sql_check.specs.Refusals.{ora, dtx};
 ghost use Rattle.stmt_run.specs.Run.{held_refusal};
 
 use dtx_values::{Bytes, Listing, Refusal};

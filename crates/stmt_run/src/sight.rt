@@ -13,7 +13,9 @@ use std::alloc::{AllocError, Global};
 /// The rows that a statement depends on, and the keys that it examines.
 #[derive(Drop)]
 pub struct Sight {
+    /// Those rows, in the order of their keys.
     pub rows: Vec<Keyed>,
+    /// Those keys, in order.
     pub examined: Vec<Value>,
 }
 

@@ -1,12 +1,13 @@
 //! The space that a branch's changes take.
 ghost use Rattle.std.specs.Prelude.{◌≡◌, ◌+◌, ◌-◌, ◌^◌, ◌<◌, ◌≤◌, ◌++◌, true, false, IfOk};
+ghost use Rattle.dtx_values.specs.Limits.{changes_limit};
 ghost use Rattle.row_store.specs.Own.{changes_length, extents as extents_of, undo_length};
 ghost use Rattle.stmt_run.specs.Run.{ran_within as ran_within_of, space_refusal, too_many_changes as is_too_many};
 ghost use Rattle.stmt_run.specs.Sites.{ground_of, HasRoom};
 
 use crate::refusal::{no_extents, too_many_changes};
 use crate::{Ran, Site};
-use dtx_values::{Change, Changes, Done};
+use dtx_values::{CHANGES_LIMIT, Change, Changes, Done};
 use row_locks::Keys;
 use row_store::{changes_len, extents};
 use std::alloc::{AllocError, Global};
@@ -39,13 +40,13 @@ pub fn ran_within(
     })
 }
 
-// Whether the branch's changes with these take more than 8,388,608 bytes.
+// Whether the branch's changes with these take more than `CHANGES_LIMIT` bytes.
 fn are_too_many(site: &Site, changes: &[Change]) -> Result<bool, AllocError>
     ensures test { IfOk result (λ many. many ≡ is_too_many (ground_of site.now) changes.now) }
-    ensures room { IfOk result (λ many. many ≡ false → changes_length (site.now.own.now.changes ++ changes.now) ≤ 8388608) }
+    ensures room { IfOk result (λ many. many ≡ false → changes_length (site.now.own.now.changes ++ changes.now) ≤ changes_limit) }
 {
     let bytes = sum(site.own.bytes(), changes_len(changes)?)?;
-    Ok(bytes > 8388608)
+    Ok(bytes > CHANGES_LIMIT)
 }
 
 // The extents that so many more bytes of undo need.
@@ -54,8 +55,7 @@ fn more_extents(held: u64, more: u64) -> Result<u64, AllocError>
     ensures room { IfOk result (λ needed. held + more < 2 ^ 64) }
 {
     let all = sum(held, more)?;
-    sum(all, 4095)?;
-    Ok(extents(all) - extents(held))
+    Ok(extents(all).saturating_sub(extents(held)))
 }
 
 // A sum, where 64 bits can hold it.

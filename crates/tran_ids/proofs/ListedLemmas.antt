@@ -1,4 +1,4 @@
--- What is found in a list with one item a branch, after an item was put or a branch was left out.
+-- What is found in a list with one item for each branch, after an item was put or a branch was left out.
 use Rattle.std.proofs.Common.{◌≡◌, ◌+◌, ◌<◌, ◌≤◌, suc, length, get_or, ◌⊎◌, inl, inr, Bool, true, false, not, if◌then◌else◌, cond, List, [], ◌∷◌, ◌++◌, map, slice_set, Some, None, refl, sym, ap, subst, ◌∙◌, arith}
 use Rattle.std.proofs.lemmas.List.Folds.{find_at}
 use Rattle.std.proofs.lemmas.Option.{slice_get-get_or, slice_get_past}
@@ -104,6 +104,6 @@ module _ {A : Type 0} (id : A → BranchId) where
   put_within xs x lt =
       put_is_set xs x (get_or xs (position_or_len (is_item_of id (id x)) xs) x) (find_at (is_item_of id (id x)) xs ∙ slice_get-get_or xs (position_or_len (is_item_of id (id x)) xs) x lt)
 
-  -- and by the place behind it
+  -- and by the place after it
   pub put_behind : (xs : List A) (x : A) → length xs ≤ position_or_len (is_item_of id (id x)) xs → put_item id xs x ≡ xs ++ x ∷ []
   put_behind xs x le = put_is_push xs x (find_at (is_item_of id (id x)) xs ∙ slice_get_past xs (position_or_len (is_item_of id (id x)) xs) le)

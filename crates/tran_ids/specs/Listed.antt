@@ -1,5 +1,5 @@
--- Lists with one item a branch: the item of a branch, an item put in its place, a branch left out. Lists whose items have
--- numbers, from 1.
+-- Lists with one item for each branch: the item of a branch, an item put in its place, a branch left out. Lists whose
+-- items have numbers, from 1.
 use Rattle.std.specs.Prelude.{ℕ, zero, suc, Bool, not, if◌then◌else◌, List, [], ◌∷◌, find, filter, slice_get, slice_set, Option, None}
 use Rattle.tran_ids.specs.declared.branch.BranchId.{BranchId}
 use Rattle.tran_ids.specs.Branch.{same}

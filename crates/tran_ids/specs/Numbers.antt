@@ -1,7 +1,7 @@
 -- How numbers are written.
 use Rattle.std.specs.Prelude.{ℕ, ◌+◌, ◌/◌, ◌%◌, ◌^◌, if◌then◌else◌, nat_lt, List, [], ◌∷◌, ◌++◌, map, zero, suc}
 
--- a number in decimal digits, where it has no more than so many
+-- a number in decimal, where it has at most this many digits
 abbrev pub digits : ℕ → ℕ → List ℕ
 digits zero n = []
 digits (suc more) n = if nat_lt n 10 then (48 + n) ∷ [] else digits more (n / 10) ++ (48 + n % 10) ∷ []
@@ -14,6 +14,6 @@ decimal n = digits 20 n
 abbrev pub hex_digit : ℕ → ℕ
 hex_digit d = if nat_lt d 10 then 48 + d else 87 + d
 
--- a number as eight hexadecimal digits, the greatest place first
+-- a number as eight hexadecimal digits, the most significant first
 unfoldable pub hex8 : ℕ → List ℕ
 hex8 n = map (λ k. hex_digit ((n / (16 ^ k)) % 16)) (7 ∷ 6 ∷ 5 ∷ 4 ∷ 3 ∷ 2 ∷ 1 ∷ 0 ∷ [])

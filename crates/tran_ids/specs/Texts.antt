@@ -1,10 +1,12 @@
--- How ids are written.
+-- How ids are printed: LOCAL_TRAN_ID and GLOBAL_TRAN_ID of DBA_2PC_PENDING. (Database Administrator's Guide,
+-- "Managing Distributed Transactions", on viewing information about distributed transactions. What the numbers in an
+-- id mean is dtx's own.)
 use Rattle.std.specs.Prelude.{ℕ, ◌+◌, ◌-◌, ◌==◌, List, [], ◌++◌, codes, take, drop, position, slice_get, unwrap_or, Option}
 use Rattle.std.specs.Option.{option_map}
 use Rattle.tran_ids.specs.declared.branch.BranchId.{BranchId}
 use Rattle.tran_ids.specs.Numbers.{decimal, hex8}
 
--- a boot, a session and a transaction's number, joined by dots
+-- a boot, a session and a seq, joined by dots
 abbrev pub local_of : ℕ → ℕ → ℕ → List ℕ
 local_of boot session seq = decimal boot ++ codes "." ++ decimal session ++ codes "." ++ decimal seq
 
@@ -12,7 +14,7 @@ local_of boot session seq = decimal boot ++ codes "." ++ decimal session ++ code
 abbrev pub local_text : BranchId → List ℕ
 local_text b = local_of b.boot b.session b.seq
 
--- the name of the node of this number
+-- the name of the node of this number, empty for a number past the names
 abbrev pub name_of : List (List ℕ) → ℕ → List ℕ
 name_of names node = unwrap_or (slice_get names (node - 1)) []
 
@@ -20,6 +22,6 @@ name_of names node = unwrap_or (slice_get names (node - 1)) []
 abbrev pub global_text : List (List ℕ) → BranchId → List ℕ
 global_text names root = name_of names root.node ++ codes "." ++ hex8 root.node ++ codes "." ++ local_text root
 
--- what stands before the first dot and what stands behind it, where there is a dot
+-- what stands before the first dot and what stands after it, where there is a dot
 abbrev pub cut_of : List ℕ → Option (List ℕ × List ℕ)
 cut_of bytes = option_map (λ dot. (take dot bytes, drop (dot + 1) bytes)) (position (λ b. b == 46) bytes)

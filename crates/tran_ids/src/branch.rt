@@ -1,18 +1,18 @@
-//! Branches of transactions.
+//! Branches of transactions (Database Administrator's Guide, "Distributed Transactions Concepts").
 ghost use Rattle.std.specs.Prelude.{◌≡◌};
 ghost use Rattle.tran_ids.specs.Branch.{same, branch_below};
 
 use dtx_values::Duplicate;
 use std::alloc::{AllocError, Global};
 
-/// One transaction's work in one session of one node.
+/// The id of a branch, which is one transaction's work in one session of one node. No id is ever used twice.
 #[derive(Clone, Copy, Debug, PartialEq, Eq)]
 pub struct BranchId {
     /// The node's number, from 1.
     pub node: u8,
     /// Which start of the node this is, from 1.
     pub boot: u32,
-    /// The session: 1 to 64 for a client's, above for those that links open.
+    /// The session's number: 1 to 64 for a session of a client, 65 and above for one that was opened over a link.
     pub session: u32,
     /// The transaction's number within its session and boot, from 1.
     pub seq: u32,
@@ -29,8 +29,8 @@ impl BranchId {
             && self.seq == other.seq
     }
 
-    /// Whether this branch comes before the other in the order of boot, session and number. Branches of one node are
-    /// kept in this order.
+    /// Whether this branch comes before the other in the order of boot, session and seq, in which the branches of one
+    /// node are kept and printed.
     pub fn is_before(&self, other: &BranchId) -> bool
         ensures { result ≡ branch_below self.now other.now }
     {

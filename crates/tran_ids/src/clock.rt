@@ -1,4 +1,5 @@
-//! The clock by which a node numbers its commits.
+//! The clock by which a node numbers its commits (Database Administrator's Guide, "Distributed Transactions
+//! Concepts", on the commit phase and global database consistency).
 ghost use Rattle.std.specs.Prelude.{◌≡◌, ◌+◌, ◌-◌, ◌<◌, ◌^◌, max};
 
 use std::marker::Model;
@@ -25,21 +26,21 @@ impl Clock {
         Clock { scn: 0 }
     }
 
-    /// The greatest SCN that was given or met.
+    /// The greatest SCN that it gave or met.
     pub fn now(&self) -> u64
         ensures { result ≡ self.now }
     {
         self.scn
     }
 
-    /// Takes note of an SCN that another node has given.
+    /// Meets an SCN of another node: the clock does not stand below it afterwards.
     pub fn meet(&mut self, scn: u64)
         ensures { self.new ≡ max self.old scn }
     {
         self.scn = self.scn.max(scn);
     }
 
-    /// Gives the next SCN.
+    /// Gives the next SCN, one above the present.
     pub fn next(&mut self) -> u64
         requires { self.old < 2 ^ 48 - 1 }
         ensures given { result ≡ self.old + 1 }

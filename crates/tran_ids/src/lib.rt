@@ -1,4 +1,5 @@
-//! The ids of branches and transactions, their texts, and the clock that numbers commits.
+//! The ids of branches and transactions, their texts, and the clock that numbers commits. Calls fail where memory
+//! runs out and for no other reason; [`read_local`] takes no memory.
 #![tactic(auto)]
 
 mod branch;

@@ -1,4 +1,4 @@
-//! The texts of ids: the local text of a branch, and the global text of the transaction that it is the root of.
+//! The texts of ids: the local id of a branch, and the global id of a transaction, which names its root.
 ghost use Rattle.std.specs.Prelude.{◌≡◌, ℕ, ◌<◌, ◌^◌, ◌++◌, Some, IfOk, IfSome, OnOk};
 ghost use Rattle.std.specs.Option.{option_map};
 ghost use Rattle.tran_ids.specs.Numbers.{decimal, hex8, hex_digit as hex_digit_of};
@@ -17,14 +17,15 @@ fn written(buffer: &mut Buffer, number: u64) -> &[u8]
     buffer.format(number).as_bytes()
 }
 
-/// Adds a number in decimal at the end.
+/// Adds a number in decimal at the end. Fails where memory runs out.
 pub fn put_decimal(out: &mut Vec<u8>, number: u64) -> Result<(), AllocError>
     ensures { OnOk result (out.new.items ≡ out.old.items ++ decimal number) }
 {
     out.extend_from_slice(written(&mut Buffer::new(), number))
 }
 
-/// Adds the boot, session and number of a branch in decimal, joined by dots, as `1.65.1`.
+/// Adds the local id of a branch: its boot, session and seq in decimal, joined by dots, such as `1.65.1`. Fails where
+/// memory runs out; a part may have been added then.
 pub fn put_local(out: &mut Vec<u8>, id: &BranchId) -> Result<(), AllocError>
     ensures { OnOk result (out.new.items ≡ out.old.items ++ local_text_of id.now) }
 {
@@ -35,7 +36,8 @@ pub fn put_local(out: &mut Vec<u8>, id: &BranchId) -> Result<(), AllocError>
     put_decimal(out, u64::from(id.seq))
 }
 
-/// The boot, session and number of a branch in decimal, joined by dots, as `1.65.1`.
+/// The local id of a branch: its boot, session and seq in decimal, joined by dots, such as `1.65.1`. Fails where
+/// memory runs out.
 pub fn local_text(alloc: Global, id: &BranchId) -> Result<Bytes, AllocError>
     ensures { IfOk result (λ text. text ≡ local_text_of id.now) }
 {
@@ -44,7 +46,8 @@ pub fn local_text(alloc: Global, id: &BranchId) -> Result<Bytes, AllocError>
     Ok(Listing::of(text))
 }
 
-/// The name of the node of this number, where the names of all nodes are in the order of their numbers.
+/// The name of the node of this number, where the names are those of all nodes in the order of their numbers; empty
+/// for a number past them.
 pub fn node_name(names: &[Name], node: u8) -> &[u8]
     ensures { result.now ≡ name_of names.now node }
 {
@@ -54,7 +57,9 @@ pub fn node_name(names: &[Name], node: u8) -> &[u8]
     }
 }
 
-/// Adds the text of the transaction whose root is this branch, as `HQ.00000001.1.65.1`.
+/// Adds the global id of the transaction with this root: the name of the root's node, its number in eight hexadecimal
+/// digits, and the root's local id, such as `HQ.00000001.1.2.1`. Fails where memory runs out; a part may have been
+/// added then.
 pub fn put_global(out: &mut Vec<u8>, names: &[Name], root: &BranchId) -> Result<(), AllocError>
     ensures { OnOk result (out.new.items ≡ out.old.items ++ global_text_of names.now root.now) }
 {
@@ -65,7 +70,7 @@ pub fn put_global(out: &mut Vec<u8>, names: &[Name], root: &BranchId) -> Result<
     put_local(out, root)
 }
 
-/// The text of the transaction whose root is this branch, as `HQ.00000001.1.65.1`.
+/// The global id of the transaction with this root, such as `HQ.00000001.1.2.1`. Fails where memory runs out.
 pub fn global_text(alloc: Global, names: &[Name], root: &BranchId) -> Result<Bytes, AllocError>
     ensures { IfOk result (λ text. text ≡ global_text_of names.now root.now) }
 {
@@ -74,7 +79,7 @@ pub fn global_text(alloc: Global, names: &[Name], root: &BranchId) -> Result<Byt
     Ok(Listing::of(text))
 }
 
-// A node's number as eight hexadecimal digits, of which a byte needs only the last two.
+// A node's number as eight hexadecimal digits. It is a byte, so all but the last two are 0.
 #[tactic(auto, using(crate::proofs::NumberLemmas::byte_is))]
 fn node_digits(node: u8) -> [u8; 8]
     ensures { result ≡ hex8 node }
@@ -95,8 +100,8 @@ pub fn hex_digit(digit: u8) -> u8
     }
 }
 
-/// The boot, session and number that a local text gives, or nothing where it is the local text of no branch. So no
-/// number has a sign or a zero before it.
+/// The boot, session and seq of a local id, or nothing where the text is the local id of no branch. So a number with
+/// a sign or a leading zero gives nothing.
 pub fn read_local(text: &[u8]) -> Option<(u32, u32, u32)>
     ensures exact { IfSome result (λ id. local_of id.0 id.1 id.2 ≡ text.now) }
     ensures all { (boot session seq : ℕ) → boot < 2 ^ 32 → session < 2 ^ 32 → seq < 2 ^ 32
@@ -107,7 +112,7 @@ pub fn read_local(text: &[u8]) -> Option<(u32, u32, u32)>
     Some((read_number(boot)?, read_number(session)?, read_number(seq)?))
 }
 
-// What stands before the first dot, and what stands behind it.
+// What stands before the first dot, and what stands after it.
 fn cut(text: &[u8]) -> Option<(&[u8], &[u8])>
     ensures { option_map (λ parts. (parts.0.now, parts.1.now)) result ≡ cut_of text.now }
 {
@@ -123,7 +128,7 @@ fn read_number(digits: &[u8]) -> Option<u32>
     ensures all { (number : ℕ) → number < 2 ^ 32 → decimal number ≡ digits.now → result ≡ Some number }
 {
     let number = parsed(digits)?;
-    // A sign, or a zero before the number, would not be written again.
+    // A sign or a leading zero would not be written again.
     if written(&mut Buffer::new(), u64::from(number)) != digits {
         return None;
     }

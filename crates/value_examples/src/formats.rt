@@ -21,7 +21,7 @@ const LETTERS: [u8; 7] = [117, 48, 0, 0, 1, 0, 2];
 /// The bytes that a number is taken from.
 const FRONT: [u8; 9] = [1, 2, 3, 4, 5, 6, 7, 8, 9];
 
-/// Numbers and a flag, one behind the other.
+/// Numbers and a flag, one after the other.
 fn numbers(alloc: Global) -> Result<Vec<u8>, AllocError> {
     let mut out = Vec::new(alloc);
     put_u8(&mut out, 1)?;
@@ -40,7 +40,7 @@ const NUMBERS: [u8; 30] = [
     255, 255, 254, 1,
 ];
 
-/// Runs behind their lengths of one, two and four bytes: `ab`, `c` and one of no bytes.
+/// Runs after their lengths of one, two and four bytes: `ab`, `c` and one of no bytes.
 const RUNS: [u8; 10] = *b"\x02ab\x00\x01c\x00\x00\x00\x00";
 
 /// Those runs.
@@ -52,11 +52,11 @@ fn runs(alloc: Global) -> Result<Vec<u8>, AllocError> {
     Ok(out)
 }
 
-/// Two lists, behind a count of one byte and of four.
+/// Two lists, after a count of one byte and of four.
 fn lists(alloc: Global) -> Result<Vec<u8>, AllocError> {
     let mut out = Vec::new(alloc);
-    put_list_u8(&mut out, &[true, false])?;
-    put_list_u32(&mut out, &[Some(9_u8), None])?;
+    put_list_u8::<bool>(&mut out, &[true, false])?;
+    put_list_u32::<Option<u8>>(&mut out, &[Some(9), None])?;
     Ok(out)
 }
 
@@ -98,7 +98,7 @@ fn numbers_are_taken_from_the_front(rt: HostRuntime) {
     assert!(rt; numbers_at(&FRONT) == Ok(wanted));
 }
 
-/// Whether what stands behind a number is left.
+/// Whether what stands after a number is left.
 fn leaves_the_rest() -> Result<bool, NoSpelling> {
     let (_number, rest) = take_u64(&FRONT)?;
     Ok(rest.len() == 1)
@@ -125,13 +125,13 @@ fn takes_runs() -> Result<bool, NoSpelling> {
     )
 }
 
-/// Whether flags are taken from behind a count of one byte.
+/// Whether flags are taken after a count of one byte.
 fn takes_flags(alloc: Global) -> Result<bool, TakeErr> {
     let (flags, rest) = take_list_u8::<bool>(alloc, &[2, 1, 0, 7])?;
     Ok(flags.as_slice() == [true, false].as_slice() && rest.len() == 1)
 }
 
-/// Whether numbers that may be missing are taken from behind a count of four bytes.
+/// Whether numbers that may be missing are taken after a count of four bytes.
 fn takes_options(alloc: Global) -> Result<bool, TakeErr> {
     let (numbers, rest) = take_list_u32::<Option<u8>>(alloc, &[0, 0, 0, 2, 1, 9, 0])?;
     Ok(numbers.as_slice() == [Some(9), None].as_slice() && rest.is_empty())
@@ -263,7 +263,7 @@ fn reads_a_number(alloc: Global) -> Result<bool, TakeErr> {
     Ok(number == 258 && rest.len() == 1)
 }
 
-/// Whether a number with a byte behind it is refused.
+/// Whether a number with a byte after it is refused.
 fn refuses_a_byte(alloc: Global) -> bool {
     numbers_are_exact();
     read_whole::<u16>(alloc, &[1, 2, 3]).is_err()
@@ -273,5 +273,5 @@ fn refuses_a_byte(alloc: Global) -> bool {
 fn values_are_read_and_written_by_their_formats(rt: HostRuntime) {
     assert!(rt; reads_a_number(rt.alloc()) == Ok(true));
     assert!(rt; refuses_a_byte(rt.alloc()));
-    assert!(rt; is(&write_whole(rt.alloc(), &Some(7_u8)), &[1, 7]));
+    assert!(rt; is(&write_whole::<Option<u8>>(rt.alloc(), &Some(7)), &[1, 7]));
 }

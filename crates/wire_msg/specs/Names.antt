@@ -1,11 +1,12 @@
--- The kinds of messages by their names, and the names as a script spells them.
+-- The names of the kinds of messages, and how a script spells them. The messages are dtx's own; they carry the three
+-- phases of the Database Administrator's Guide, "Distributed Transactions Concepts".
 use Rattle.std.specs.Prelude.{ℕ, ◌==◌, Bool, List, codes}
 use Rattle.wire_msg.specs.declared.kind.Kind.{Kind}
 use Rattle.wire_msg.specs.declared.kind.Kind.TheVariants as kinds
 use Rattle.wire_msg.specs.declared.kind.KindName.{KindName}
 use Rattle.wire_msg.specs.declared.kind.KindName.TheVariants as kind_names
 
--- the kind of a message by its name
+-- the name of a message's kind
 abbrev pub name_of_kind : Kind → KindName
 name_of_kind (kinds.Open edge root depth) = kind_names.Open
 name_of_kind (kinds.Opened edge strength) = kind_names.Opened
@@ -45,11 +46,11 @@ place_of_kind kind_names.Forgotten = 15
 place_of_kind kind_names.Rollback = 16
 place_of_kind kind_names.Ask = 17
 
--- whether two kinds are the same
+-- whether two names are the same
 abbrev pub same_kind : KindName → KindName → Bool
 same_kind a b = place_of_kind a == place_of_kind b
 
--- a kind of messages as it is printed
+-- a name as it is printed
 abbrev pub kind_text : KindName → List ℕ
 kind_text kind_names.Open = codes "OPEN"
 kind_text kind_names.Opened = codes "OPENED"

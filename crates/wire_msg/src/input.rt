@@ -1,4 +1,4 @@
-//! What a node serves in one turn.
+//! What a node takes in one turn.
 ghost use Rattle.std.specs.Prelude.{◌≡◌};
 
 use crate::msg::Msg;
@@ -9,17 +9,21 @@ use std::alloc::{AllocError, Global};
 /// What comes to a node.
 #[derive(Debug, Drop)]
 pub enum Input {
-    /// A call of a client session: its statement, or nothing where the text is outside the grammar.
+    /// A call of a client session.
     Call {
+        /// The session's number, 1 to 64.
         session: u32,
+        /// The statement, or nothing where the text is outside the grammar.
         statement: Option<Stmt>,
     },
-    /// The session's call, which is out, is given up.
+    /// The pending call of a client session is given up, since no answer comes.
     GiveUp {
+        /// The session's number, 1 to 64.
         session: u32,
     },
+    /// A message is delivered.
     Message(Msg),
-    /// The command RECO.
+    /// The recoverer process RECO is called: the node asks about its branches in doubt.
     Reco,
 }
 

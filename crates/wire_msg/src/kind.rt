@@ -1,4 +1,4 @@
-//! The kinds of messages.
+//! The kinds of messages. The guide has the phases prepare, commit and forget; the messages are dtx's own.
 ghost use Rattle.std.specs.Prelude.{◌≡◌};
 
 use dtx_values::{Advice, Answer, Bytes, Duplicate};
@@ -13,52 +13,73 @@ pub enum Kind {
     Open {
         /// The parent's number for the edge, from 1.
         edge: u8,
+        /// The root of the transaction.
         root: BranchId,
-        /// The depth of the new branch.
+        /// The depth of the new branch: 2 for a child of the root.
         depth: u8,
     },
-    /// The new branch is there.
+    /// The child is there: the answer to Open.
     Opened {
+        /// The number of the edge.
         edge: u8,
+        /// The commit point strength of the child's node.
         strength: u8,
     },
     /// A statement for a child.
     Exec {
         /// The number of the call on its edge, from 1.
         call: u32,
-        /// How many branches the tree may still get.
+        /// How many branches the session tree may still get.
         room: u16,
+        /// The advice of the client's session, which DBA_2PC_PENDING shows at the child's node.
         advice: Option<Advice>,
+        /// The statement. Its table is named as the child's node knows it.
         statement: Stmt,
     },
-    /// What an Exec came to.
+    /// The answer to Exec.
     Reply {
+        /// The number of the call.
         call: u32,
-        /// The weight of the child, if it has one.
+        /// The weight of the child, where it has one.
         weight: Option<u8>,
-        /// The branches of its subtree.
+        /// The number of branches in its subtree, itself among them.
         count: u16,
+        /// The answer of the statement.
         result: Answer,
     },
+    /// The prepare phase begins at a child.
     Prepare {
         /// Whether the walk to the commit point site goes to this child.
         site_below: bool,
+        /// The comment of the COMMIT.
         comment: Bytes,
     },
+    /// A child is sealed, and in doubt until it knows the decision: an answer to Prepare.
     Prepared,
+    /// Nothing was changed at a child or below it, and it is gone: an answer to Prepare.
     ReadOnly,
+    /// The commit point site is a child or below it, and the child stays live: an answer to Prepare.
     Ready,
+    /// A child has rolled back or is gone: an answer to Prepare.
     Abort,
+    /// Down the walk to the commit point site: each branch on it seals and passes this on, and the site decides.
     CommitPoint,
-    /// The transaction commits at this SCN.
+    /// The transaction is committed.
     Committed {
+        /// The commit SCN.
         scn: u64,
     },
+    /// The transaction is rolled back: to a parent, or the answer to an Ask or a CommitPoint.
     RolledBack,
+    /// The sender does not know the decision either: an answer to Ask.
     InDoubt,
+    /// The sender and all beyond it know of the commit.
     Ack,
+    /// All branches know of the commit, and the receiver may forget the transaction.
     Forgotten,
+    /// The transaction rolls back: from a parent to a child.
     Rollback,
+    /// RECO asks for the decision.
     Ask,
 }
 
@@ -128,7 +149,7 @@ impl Duplicate for Kind {
     }
 }
 
-/// A kind of messages by its name, as LOSE NEXT and SHOW NET speak of it.
+/// The name of a kind of messages, as LOSE NEXT and SHOW NET use it. The kinds are described at [`Kind`].
 #[derive(Clone, Copy, Debug, PartialEq, Eq)]
 pub enum KindName {
     Open,

@@ -1,6 +1,4 @@
-//! What comes to a node, as plain data: messages between branches, the calls of clients, and the rest that a turn serves.
-//!
-//! How messages stand as bytes comes with the network.
+//! What comes to a node, as plain data: messages between branches, calls of clients, calls that are given up, and RECO.
 #![tactic(auto)]
 
 mod input;

@@ -6,13 +6,17 @@ use dtx_values::{Duplicate, Listing};
 use std::alloc::{AllocError, Global};
 use tran_ids::BranchId;
 
-/// A message from a branch to a branch. An Open is to the node alone: the rest of its `to` is 0.
+/// A message from a branch to a branch. An Open is for a node, since its branch is not there yet: boot, session and
+/// seq of its `to` are 0.
 #[derive(Debug, Drop)]
 pub struct Msg {
+    /// The branch that sends it.
     pub from: BranchId,
+    /// The branch that it is for.
     pub to: BranchId,
-    /// The clock of the sender after the turn that sent it.
+    /// The sender's clock after the turn that sent it. It raises the receiver's clock.
     pub scn: u64,
+    /// Its kind, with what it says.
     pub kind: Kind,
 }
 

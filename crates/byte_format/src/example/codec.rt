@@ -12,10 +12,12 @@ use crate::{
 use std::alloc::{AllocError, Global};
 
 impl Field for Contents {
+    type Value = Contents;
+
     ghost format = { contents_format };
 
-    fn put_to(&self, out: &mut Vec<u8>) -> Result<(), AllocError> {
-        match self {
+    fn put_into(out: &mut Vec<u8>, contents: &Contents) -> Result<(), AllocError> {
+        match contents {
             Contents::Letters(count) => {
                 put_u8(out, 1)?;
                 put_u16(out, *count)
@@ -54,13 +56,15 @@ fn is_weight(grams: u16) -> bool
 }
 
 impl Field for Label {
+    type Value = Label;
+
     ghost format = { label_format };
 
-    fn put_to(&self, out: &mut Vec<u8>) -> Result<(), AllocError> {
-        put_u16(out, self.weight)?;
-        self.insured.put_to(out)?;
-        put_list_u8(out, self.stops.as_slice())?;
-        self.contents.put_to(out)
+    fn put_into(out: &mut Vec<u8>, label: &Label) -> Result<(), AllocError> {
+        put_u16(out, label.weight)?;
+        Option::<u64>::put_into(out, &label.insured)?;
+        put_list_u8::<u16>(out, label.stops.as_slice())?;
+        Contents::put_into(out, &label.contents)
     }
 
     fn take_from(alloc: Global, bytes: &[u8]) -> Result<(Label, &[u8]), TakeErr> {
@@ -68,9 +72,9 @@ impl Field for Label {
         if !is_weight(weight) {
             return Err(TakeErr::NoSpelling);
         }
-        let (insured, rest) = Field::take_from(alloc, rest)?;
-        let (stops, rest) = take_list_u8(alloc, rest)?;
-        let (contents, rest) = Field::take_from(alloc, rest)?;
+        let (insured, rest) = Option::<u64>::take_from(alloc, rest)?;
+        let (stops, rest) = take_list_u8::<u16>(alloc, rest)?;
+        let (contents, rest) = Contents::take_from(alloc, rest)?;
         let label = Label {
             weight,
             insured,
@@ -81,18 +85,19 @@ impl Field for Label {
     }
 }
 
-/// The label that these bytes spell.
+/// The label that these bytes spell. Fails with `NoSpelling` exactly where they spell none, and with `NoMemory` where
+/// memory runs out.
 pub fn read_label(alloc: Global, bytes: &[u8]) -> Result<Label, TakeErr>
     ensures found { IfOk result (λ label. IsSpelling label_format bytes.now label) }
     ensures refused { IsErrOf result TakeErr.NoSpelling → (v : Label) → IsSpelling label_format bytes.now v → ⊥ }
 {
-    read_whole(alloc, bytes)
+    read_whole::<Label>(alloc, bytes)
 }
 
-/// The bytes of a label.
+/// The bytes of a label. Fails where memory runs out.
 pub fn write_label(alloc: Global, label: &Label) -> Result<Vec<u8>, AllocError>
     requires { label_format.Fits label.now }
     ensures { IfOk result (λ bytes. IsSpelling label_format bytes.items label.now) }
 {
-    write_whole(alloc, label)
+    write_whole::<Label>(alloc, label)
 }

@@ -75,10 +75,12 @@ pub enum Contents {
 /// The label of a parcel.
 #[derive(Debug, Drop)]
 pub struct Label {
-    /// In grams.
+    /// Its weight in grams.
     pub weight: u16,
     /// The sum that it is insured for, if it is.
     pub insured: Option<u64>,
+    /// The places that it passes.
     pub stops: Stops,
+    /// What it holds.
     pub contents: Contents,
 }

@@ -1,5 +1,5 @@
 -- After each write a longer front of the bytes is written.
-use Rattle.std.proofs.Common.{◌≡◌, ℕ, ◌-◌, List, length, take, drop, arith, length-drop}
+use Rattle.std.proofs.Common.{◌≡◌, ◌∙◌, ℕ, ◌-◌, List, length, take, drop, arith, length-drop}
 use Rattle.std.proofs.lemmas.Grind.{common_steps}
 use Rattle.std.proofs.Math.Seq.{take-add}
 use Rattle.std.proofs.KnownBytes.{Appends-trans}
@@ -17,5 +17,5 @@ loop-done-preserved g c =
     record {
       within = omega (arith, c.in_ok-done.ensures.bound, length-drop n xs);
       front = rw take-add (rw (front_of_rest n m xs) at (Appends-trans _ _ _ _ _ c.loop-done.invariant.front c.in_ok-done.ensures.bytes));
-      later = omega (arith, c.in_ok-done.ensures.cause.later);
+      steady = c.in_ok-done.ensures.cause.stays ∙ c.loop-done.invariant.steady;
     }

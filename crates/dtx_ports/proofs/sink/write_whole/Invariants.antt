@@ -1,5 +1,5 @@
--- Between two writes: a front of the bytes is written, and the rest gets shorter.
-use Rattle.std.proofs.Common.{◌≤◌, ◌-◌, length, take}
+-- Between two writes: a front of the bytes is written, no write has failed, and the rest gets shorter.
+use Rattle.std.proofs.Common.{◌≡◌, ◌≤◌, ◌-◌, length, take}
 use Rattle.std.specs.Io.KnownBytes.{Appends}
 use Rattle.dtx_ports.proofs.sink.write_whole.Given as goal
 
@@ -8,7 +8,7 @@ abbrev pub invariant-loop-done : goal.invariant-loop-done
 invariant-loop-done g l = record {
   within : l.done ≤ length l.bytes;
   front : Appends (g.K.Sink.written l.initial.sink) (g.K.Sink.written l.sink) (take l.done l.bytes);
-  later : g.K.Sink.faults l.initial.sink ≤ g.K.Sink.faults l.sink;
+  steady : g.K.Sink.faults l.sink ≡ g.K.Sink.faults l.initial.sink;
 }
 
 abbrev pub decreases-loop-done : goal.decreases-loop-done

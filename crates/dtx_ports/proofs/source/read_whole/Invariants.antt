@@ -1,5 +1,5 @@
--- Between two reads: what was read is kept, and there is less room each time.
-use Rattle.std.proofs.Common.{◌≤◌, ◌-◌, vec_len}
+-- Between two reads: what was read is kept, no read has failed, and there is less room each time.
+use Rattle.std.proofs.Common.{◌≡◌, ◌≤◌, ◌-◌, vec_len}
 use Rattle.std.specs.Io.KnownBytes.{Consumes}
 use Rattle.dtx_ports.proofs.source.read_whole.Given as goal
 
@@ -7,7 +7,7 @@ use Rattle.dtx_ports.proofs.source.read_whole.Given as goal
 abbrev pub invariant-loop-bytes : goal.invariant-loop-bytes
 invariant-loop-bytes g l = record {
   consumed : Consumes (g.S.Source.left l.initial.source) (g.S.Source.left l.source) l.bytes.items;
-  later : g.S.Source.faults l.initial.source ≤ g.S.Source.faults l.source;
+  steady : g.S.Source.faults l.source ≡ g.S.Source.faults l.initial.source;
   within : vec_len l.bytes ≤ l.limit;
 }
 

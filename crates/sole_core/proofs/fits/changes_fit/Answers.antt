@@ -1,7 +1,7 @@
 use Rattle.std.proofs.Common.{take, sym, subst}
 use Rattle.std.proofs.lemmas.List.{take_all}
 use Rattle.std.proofs.lemmas.List.Elements.{All-more, All-same, recursion_from_All}
-use Rattle.redo_codec.specs.Change.{change_format}
+use Rattle.field_codec.specs.Change.{change_format}
 use Rattle.sole_core.proofs.fits.changes_fit.Goals as goal
 
 pub loop-change-preserved : goal.loop-change-preserved

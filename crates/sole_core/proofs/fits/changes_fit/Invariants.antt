@@ -1,6 +1,6 @@
 use Rattle.std.proofs.Common.{take}
 use Rattle.std.specs.List.{All}
-use Rattle.redo_codec.specs.Change.{change_format}
+use Rattle.field_codec.specs.Change.{change_format}
 use Rattle.sole_core.proofs.fits.changes_fit.Given as goal
 
 -- the changes so far have spellings

@@ -2,7 +2,7 @@ use Rattle.std.proofs.Common.{rules, subst}
 use Rattle.dtx_values.specs.declared.row.Change.{Change}
 use Rattle.std.specs.Prelude.{List}
 use Rattle.std.specs.List.{AllByRecursion}
-use Rattle.redo_codec.specs.Change.{change_format}
+use Rattle.field_codec.specs.Change.{change_format}
 use Rattle.sole_core.proofs.FitLemmas.{alone_fits}
 use Rattle.sole_core.proofs.turns.decision.Goals as goal
 

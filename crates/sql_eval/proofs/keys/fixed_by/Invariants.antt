@@ -1,5 +1,5 @@
 use Rattle.std.proofs.Common.{◌≡◌, drop, map}
-use Rattle.sql_eval.specs.Words.{first_some}
+use Rattle.sql_check.specs.Words.{first_some}
 use Rattle.sql_eval.specs.Meaning.{fixes as fixes_of}
 use Rattle.sql_eval.proofs.keys.fixed_by.Given as goal
 

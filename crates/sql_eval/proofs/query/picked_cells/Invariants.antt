@@ -1,5 +1,5 @@
 use Rattle.std.proofs.Common.{◌≡◌, map, take}
-use Rattle.sql_eval.specs.Columns.{cell as cell_of}
+use Rattle.sql_check.specs.Columns.{cell as cell_of}
 use Rattle.sql_eval.proofs.query.picked_cells.Given as goal
 
 abbrev pub invariant-loop-name : goal.invariant-loop-name

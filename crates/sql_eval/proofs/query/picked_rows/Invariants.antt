@@ -1,6 +1,6 @@
 use Rattle.std.proofs.Common.{◌≡◌, map, take}
 use Rattle.sql_eval.specs.Meaning.{row_of}
-use Rattle.sql_eval.specs.Columns.{cell as cell_of}
+use Rattle.sql_check.specs.Columns.{cell as cell_of}
 use Rattle.sql_eval.proofs.query.picked_rows.Given as goal
 
 abbrev pub invariant-loop-keyed : goal.invariant-loop-keyed

@@ -1,6 +1,6 @@
 use Rattle.std.proofs.Common.{◌≡◌, drop, map, Some}
 use Rattle.sql_eval.specs.Meaning.{summed as summed_of}
-use Rattle.sql_eval.specs.Columns.{cell as cell_of}
+use Rattle.sql_check.specs.Columns.{cell as cell_of}
 use Rattle.sql_eval.specs.Data.values
 use Rattle.sql_eval.proofs.query.summed.Given as goal
 

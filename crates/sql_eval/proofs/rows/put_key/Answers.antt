@@ -1,5 +1,5 @@
 use Rattle.std.proofs.Common.{◌∙◌}
-use Rattle.sql_eval.proofs.ValueOrder.{key_is_put}
+use Rattle.sql_eval.proofs.PutLemmas.{key_is_put}
 use Rattle.sql_eval.proofs.rows.put_key.Goals as goal
 
 pub returns : goal.returns

@@ -1,5 +1,5 @@
 use Rattle.std.proofs.Common.{◌≡◌, drop, map}
-use Rattle.sql_eval.specs.Words.{first_some}
+use Rattle.sql_check.specs.Words.{first_some}
 use Rattle.row_locks.specs.Held.{doubt_on as doubt_on_of}
 use Rattle.stmt_run.proofs.holders.first_in_doubt.Given as goal
 

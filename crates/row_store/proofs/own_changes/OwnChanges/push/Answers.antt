@@ -1,6 +1,7 @@
 use Rattle.std.proofs.Common.{◌≡◌, ◌+◌, ◌≤◌, List, [], ◌∷◌, ◌++◌, Some, cond, length, is_ok, sym, ap, subst, ◌∙◌}
 use Rattle.std.specs.Map.{lookup}
 use Rattle.dtx_values.specs.declared.row.Change.{Change}
+use Rattle.dtx_values.specs.Limits.{changes_limit}
 use Rattle.row_store.specs.Own.{changes_length}
 use Rattle.row_store.specs.Kept.{IsKept}
 use Rattle.row_store.proofs.Places.{found_as, kept_more}
@@ -12,7 +13,7 @@ invariant_of-self-2 c =
     let place : c.len.result ≡ length c.self.inside.changes.items = c.len.ensures ∙ c.try_reserve.new.self.ok.0 ∙ ap length reserved in
     let pushed : c.push.new.self.items ≡ c.self.inside.changes.items ++ c.args.change ∷ [] =
     c.push.ensures.items ∙ (λ i. cond (is_ok (c.unwrap.ensures i)) (reserved i ++ c.args.change ∷ []) (reserved i)) in
-    let few = subst (λ own. changes_length (own.changes ++ c.args.change ∷ []) ≤ 8388608) (sym c.self.view_is) c.requires in
+    let few = subst (λ own. changes_length (own.changes ++ c.args.change ∷ []) ≤ changes_limit) (sym c.self.view_is) c.requires in
     subst (λ (cs : List Change). IsKept c.insert.new.self.entries cs (c.self.inside.bytes + c.in_ok-bytes.field-0)) (sym pushed)
     (kept_more c.in_ok-key.key c.args.change c.in_ok-key.ensures.table c.in_ok-key.ensures.key
     c.self.inside.places.entries c.insert.new.self.entries c.self.inside.changes.items c.self.inside.bytes c.in_ok-bytes.field-0 c.self.invariant

@@ -1,0 +1,9 @@
+pub mod SameBranch
+pub mod EventLemmas
+pub mod Invariant
+pub mod WholeTree
+pub mod InvariantKept
+pub mod AgreementLaws
+pub mod BookTests
+pub mod BookLaws
+pub mod Example

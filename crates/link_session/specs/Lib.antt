@@ -1,0 +1,4 @@
+pub mod Calls
+pub mod Once
+pub mod Opens
+pub mod Keyed

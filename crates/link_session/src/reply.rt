@@ -1,0 +1,25 @@
+//! What is answered to a call.
+ghost use Rattle.std.specs.Prelude.{◌≡◌};
+
+use dtx_values::{Answer, Duplicate};
+use std::alloc::{AllocError, Global};
+
+/// What a Reply says beside its call number. A call that comes again is answered with it.
+#[derive(Debug, Drop)]
+pub struct ReplyFields {
+    pub weight: Option<u8>,
+    /// The branches of the subtree.
+    pub count: u16,
+    pub result: Answer,
+}
+
+impl Duplicate for ReplyFields {
+    fn copy(&self, alloc: Global) -> Result<ReplyFields, AllocError> {
+        let result = self.result.copy(alloc)?;
+        Ok(ReplyFields {
+            weight: self.weight,
+            count: self.count,
+            result,
+        })
+    }
+}

@@ -1,0 +1,16 @@
+//! What one branch sends when its node recovers.
+ghost use Rattle.std.specs.Prelude.{◌≡◌};
+
+use crate::post::Posts;
+use dtx_values::Listing;
+use tran_ids::BranchId;
+
+/// What one branch sends when its node recovers.
+#[derive(Debug, Drop)]
+pub struct Asking {
+    pub me: BranchId,
+    pub says: Posts,
+}
+
+/// What branches send, in order of boot, session and number.
+pub type Askings = Listing<Asking>;

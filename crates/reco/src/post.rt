@@ -1,0 +1,17 @@
+//! Messages before they are sent.
+ghost use Rattle.std.specs.Prelude.{◌≡◌};
+
+use dtx_values::Listing;
+use tran_ids::BranchId;
+use wire_msg::Kind;
+
+/// A message before the node's clock is set on it.
+#[derive(Debug, Drop)]
+pub struct Post {
+    pub from: BranchId,
+    pub to: BranchId,
+    pub kind: Kind,
+}
+
+/// The messages of a turn, in the order in which they are sent.
+pub type Posts = Listing<Post>;

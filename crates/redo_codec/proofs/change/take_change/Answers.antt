@@ -1,5 +1,0 @@
-use Rattle.redo_codec.proofs.FieldLaws.{change_exact}
-use Rattle.redo_codec.proofs.change.take_change.Goals as goal
-
-pub read_front-requires : goal.read_front-requires
-read_front-requires c = change_exact

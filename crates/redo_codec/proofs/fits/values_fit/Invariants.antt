@@ -1,8 +1,0 @@
-use Rattle.std.proofs.Common.{take}
-use Rattle.std.specs.List.{All}
-use Rattle.redo_codec.specs.Value.{value_format}
-use Rattle.redo_codec.proofs.fits.values_fit.Given as goal
-
--- the values so far have spellings
-abbrev pub invariant-loop-value : goal.invariant-loop-value
-invariant-loop-value l = All value_format.Fits (take l.value-index l.values)

@@ -1,5 +1,0 @@
-use Rattle.redo_codec.proofs.FieldLaws.{row_exact}
-use Rattle.redo_codec.proofs.row.take_row.Goals as goal
-
-pub read_front-requires : goal.read_front-requires
-read_front-requires c = row_exact

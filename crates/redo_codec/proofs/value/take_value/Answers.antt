@@ -1,5 +1,0 @@
-use Rattle.redo_codec.proofs.FieldLaws.{value_exact}
-use Rattle.redo_codec.proofs.value.take_value.Goals as goal
-
-pub read_front-requires : goal.read_front-requires
-read_front-requires c = value_exact

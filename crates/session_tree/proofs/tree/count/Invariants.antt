@@ -1,0 +1,9 @@
+use Rattle.std.proofs.Common.{◌≡◌, ◌+◌, ◌*◌, ◌≤◌, take}
+use Rattle.std.specs.Prelude.{sum_by}
+use Rattle.session_tree.proofs.tree.count.Given as goal
+
+abbrev pub invariant-loop-edge : goal.invariant-loop-edge
+invariant-loop-edge l = record {
+  counted : l.total ≡ 1 + sum_by (λ e. e.count) (take l.edge-index l.edges);
+  small : l.total ≤ 1 + 65535 * l.edge-index;
+}

@@ -1,6 +1,0 @@
-use Rattle.std.proofs.Common.{◌≡◌}
-use Rattle.sql_eval.specs.Meaning.{cells_of as cells_in}
-use Rattle.sql_eval.proofs.insert.cells_of.Given as goal
-
-abbrev pub invariant-loop-value : goal.invariant-loop-value
-invariant-loop-value l = l.cells.items ≡ cells_in l.yielded

@@ -1,6 +1,0 @@
-use Rattle.std.proofs.Common.{◌≡◌, take, map, zip}
-use Rattle.sql_eval.specs.Meaning.{given_value as given_value_of}
-use Rattle.sql_eval.proofs.insert.inserted_cells.Given as goal
-
-abbrev pub invariant-loop-column : goal.invariant-loop-column
-invariant-loop-column l = l.cells.items ≡ map (λ c. given_value_of l.table (zip l.names l.values) c.name) (take l.column-index l.table.columns)

@@ -1,8 +1,0 @@
--- Cells that are not there.
-use Rattle.std.specs.Prelude.{Option, unwrap_or}
-use Rattle.sql_eval.specs.Data.{Value}
-use Rattle.sql_eval.specs.Data.values
-
--- what a cell has, where no cell is NULL
-abbrev pub or_null : Option Value → Value
-or_null cell = unwrap_or cell values.Null

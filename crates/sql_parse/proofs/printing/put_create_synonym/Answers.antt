@@ -1,5 +1,0 @@
-use Rattle.sql_parse.proofs.Appends.{three}
-use Rattle.sql_parse.proofs.printing.put_create_synonym.Goals as goal
-
-pub returns : goal.returns
-returns c = rw (← c.as_bytes.ensures.bytes) (three _ _ _ _ _ _ _ c.in_ok-extend_from_slice.ensures.items c.in_ok-extend_from_slice-2.ensures.items c.in_ok-put_target.ensures)

@@ -1,5 +1,0 @@
-use Rattle.sql_parse.proofs.Appends.{three}
-use Rattle.sql_parse.proofs.printing.put_delete.Goals as goal
-
-pub returns : goal.returns
-returns c = rw (← c.as_slice.ensures) (three _ _ _ _ _ _ _ c.in_ok-extend_from_slice.ensures.items c.in_ok-put_table.ensures c.in_ok-put_where.ensures)

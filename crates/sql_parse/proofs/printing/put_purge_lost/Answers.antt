@@ -1,5 +1,0 @@
-use Rattle.sql_parse.proofs.Appends.{two}
-use Rattle.sql_parse.proofs.printing.put_purge_lost.Goals as goal
-
-pub returns : goal.returns
-returns c = two _ _ _ _ _ c.in_ok-extend_from_slice.ensures.items c.in_ok-put_argument.ensures

@@ -1,0 +1,150 @@
+#!/usr/bin/env python3
+"""Tests that ./dtx hands words, input, output and status through, and which program it runs.
+
+    tests/wrapper.py
+
+First ./dtx is compared with the proved program, which has to be built, on words and inputs of many kinds. Then a copy of
+./dtx and ./prove is tried in a repository of no crates, with stand-ins for the program and for rt: that nothing is proved
+yet, that a source is newer than the program, that rt is missing, and that a run gives no answer. Each failure is one line.
+The last line is `N passed, M failed`; the exit status is 1 where one failed.
+"""
+
+import os
+import pathlib
+import shutil
+import subprocess
+import sys
+import tempfile
+from typing import NamedTuple
+
+TOP = pathlib.Path(__file__).resolve().parent.parent
+PROGRAM = TOP / "crates/dtx/out/dtx"
+FIRST = (TOP / "examples/first.dtx").read_bytes()
+
+# words and input, by name
+CALLS = {
+    "no words": ([], FIRST),
+    "the book": (["--book"], FIRST),
+    "an empty input": ([], b""),
+    "a bad script": ([], b"NODE A;\nFROB;\n"),
+    "an unknown word": (["--frob"], FIRST),
+    "two words": (["--book", "--book"], FIRST),
+    "an empty word": ([""], FIRST),
+    "a word with a blank, a star and a quote": (["--book *'"], FIRST),
+    "bytes that are no text": ([], b"NODE A;\nAT A SESSION 1: SELECT \x00\xff\r;\n"),
+    "no line feed at the end": ([], b"NODE A;"),
+    "an input that is too long": ([], b" " * 1_048_577),
+}
+
+# writes its words and its input back, to show that both came through, and ends with the status in STATUS
+STAND_IN = """#!/bin/sh
+for word in "$@"; do printf '<%s>' "$word"; done
+cat
+exit "${STATUS:-0}"
+"""
+
+# as `rt try -- WORDS` does: the program's output, and its end on standard error
+RT_TRY = """#!/bin/sh
+[ "$1 $2" = 'try --' ] || exit 99
+shift 2
+for word in "$@"; do printf '<%s>' "$word"; done
+cat
+echo 'checked: ended' >&2
+echo "run=ended status=${STATUS:-0} runners=1 proved=no" >&2
+exit "${STATUS:-0}"
+"""
+
+# as `rt try` does where a run takes too long
+RT_SILENT = """#!/bin/sh
+cat >/dev/null
+echo 'run=timeout runners=0 proved=no' >&2
+exit 6
+"""
+
+
+class End(NamedTuple):
+    """How a call ended."""
+
+    status: int
+    output: bytes
+    errors: bytes
+
+
+def call(command, data, **environment):
+    """Calls a command on an input."""
+    done = subprocess.run(
+        command, input=data, capture_output=True, timeout=60, env={**os.environ, **environment}
+    )
+    return End(done.returncode, done.stdout, done.stderr)
+
+
+def write_script(path, text):
+    """Writes a script that can be run."""
+    path.parent.mkdir(parents=True, exist_ok=True)
+    path.write_text(text)
+    path.chmod(0o755)
+
+
+def on_the_program():
+    """./dtx against the proved program: the name of each call, and whether the two end alike, with nothing said beside."""
+    for name, (words, data) in CALLS.items():
+        own = call([PROGRAM, *words], data)
+        yield f"proved: {name}", call([TOP / "dtx", *words], data) == own._replace(errors=b"")
+
+
+def empty_repository(top):
+    """A repository with the scripts and no crates, and a folder of the commands that they call, without rt."""
+    for name in ("dtx", "prove"):
+        shutil.copy2(TOP / name, top / name)
+    (top / "bin").mkdir()
+    for name in ("cat", "dirname", "find", "head", "sed", "sh"):
+        (top / "bin" / name).symlink_to(shutil.which(name))
+    (top / "crates/dtx/src").mkdir(parents=True)
+    (top / "crates.txt").write_text("")
+
+
+def on_stand_ins(top):
+    """./dtx with stand-ins: the name of each call, and whether it ends as is due."""
+    empty_repository(top)
+    program, data = top / "crates/dtx/out/dtx", b"in\x00\xff"
+    words, back = ["--book", "a b", ""], b"<--book><a b><>in\x00\xff"
+
+    def dtx(status="0"):
+        return call([top / "dtx", *words], data, PATH=str(top / "bin"), STATUS=status)
+
+    yield "rt is missing", dtx()[:2] == (127, b"")
+    write_script(top / "bin/rt", RT_TRY)
+    for status in range(7):
+        yield f"nothing proved, status {status}", dtx(str(status))[:2] == (status, back)
+    yield "nothing proved, it is said", b"nothing is proved yet" in dtx().errors and b"./prove" in dtx().errors
+    write_script(top / "bin/rt", RT_SILENT)
+    yield "no answer", dtx()[:2] == (127, b"")
+
+    write_script(program, STAND_IN)
+    for status in range(7):
+        yield f"proved, status {status}", dtx(str(status)) == (status, back, b"")
+    yield "proved, by ./prove --check", call([top / "prove", "--check"], b"").status == 0
+    source = top / "crates/dtx/src/main.rt"
+    source.write_text("")
+    later = program.stat().st_mtime + 10
+    os.utime(source, (later, later))
+    write_script(top / "bin/rt", RT_TRY)
+    yield "a newer source", dtx("3")[:2] == (3, back)
+    yield "a newer source, it is said", b"newer than the proved program" in dtx().errors
+    yield "a newer source, by ./prove --check", call([top / "prove", "--check"], b"").status == 1
+
+
+def main():
+    if not PROGRAM.exists():
+        sys.exit("the proved program is not built: run ./prove")
+    with tempfile.TemporaryDirectory() as folder:
+        ends = [*on_the_program(), *on_stand_ins(pathlib.Path(folder))]
+    for name in [name for name, right in ends if not right]:
+        print(f"FAIL {name}")
+    failed = sum(not right for _, right in ends)
+    print(f"{len(ends) - failed} passed, {failed} failed")
+    return 1 if failed else 0
+
+
+if __name__ == "__main__":
+    sys.exit(main())
