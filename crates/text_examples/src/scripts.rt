@@ -1,8 +1,7 @@
 //! What no clause says of scripts: each reason for which one is bad, with its line, and scripts that are good.
 use dtx_values::SCRIPT_LIMIT;
-use script_read::{Command, ScriptErr, Why, read_script};
+use script_read::{ScriptErr, Why, read_script};
 use std::alloc::Global;
-use wire_msg::KindName;
 
 /// The line of the first bad command and why it is bad: line 0 and `Form` where there is none; nothing where that cannot
 /// be said.
@@ -103,49 +102,4 @@ fn takes_16_nodes(rt: HostRuntime) {
     assert!(rt; matches!(&sixteen, Ok(script) if verdict(alloc, script) == Some((0, Why::Form))));
     let more = nodes(alloc, 17);
     assert!(rt; matches!(&more, Ok(script) if verdict(alloc, script) == Some((1, Why::Many))));
-}
-
-const FORMS: &[u8] = b"NODE a Undo 7; NODE b; At b\nsession 3: commit; at a session 1: ;
-    CUT a b; LOSE NEXT CommitPoint FROM b TO a; HOLD OFF; PUMP; PUMP 2; SHOW DISK b;";
-
-/// Whether these are the commands of `FORMS`.
-fn are_forms(commands: &[Command]) -> bool {
-    matches!(
-        commands,
-        [
-            Command::Node {
-                strength: 1,
-                links: 4,
-                undo: 7,
-                ..
-            },
-            Command::Node { undo: 64, .. },
-            Command::At {
-                node: 2,
-                session: 3,
-                statement: Some(_),
-            },
-            Command::At {
-                node: 1,
-                session: 1,
-                statement: None,
-            },
-            Command::Cut { a: 1, b: 2 },
-            Command::LoseNext {
-                kind: KindName::CommitPoint,
-                from: 2,
-                to: 1,
-            },
-            Command::Hold { on: false },
-            Command::Pump { most: None },
-            Command::Pump { most: Some(2) },
-            Command::ShowDisk { node: 2 },
-        ]
-    )
-}
-
-#[test]
-fn reads_each_form(rt: HostRuntime) {
-    let forms = read_script(rt.alloc(), FORMS);
-    assert!(rt; matches!(&forms, Ok(commands) if are_forms(commands.as_slice())));
 }
