@@ -1,5 +1,5 @@
 //! Worked scripts of one node, from the bytes of the script to the bytes of the report.
-use crate::ends::{Ended, ended};
+use crate::ends::ended;
 use script_run::Status;
 use std::alloc::{AllocError, Global};
 
@@ -176,9 +176,9 @@ fn filled(alloc: Global, script: &[u8]) -> Result<Vec<u8>, AllocError> {
 /// Whether a script prints what it is to print, and ends as it is to end.
 fn holds(alloc: Global, worked: &Worked) -> Result<bool, AllocError> {
     let script = filled(alloc, worked.script)?;
-    let end: Option<Ended> = ended(alloc, worked.words, &script, (0, 0), worked.report)?;
-    Ok(match end {
-        Some((status, _counts)) => status == worked.status,
+    let end = ended(alloc, worked.words, &script, (0, 0), worked.report)?;
+    Ok(match &end {
+        Some(end) => end.0 == worked.status,
         None => false,
     })
 }
