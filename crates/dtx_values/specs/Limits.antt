@@ -61,7 +61,7 @@ link_limit = 64
 abbrev pub branch_limit : ℕ
 branch_limit = 64
 
--- the most branches on the way from a root down to a branch, the root not counted
+-- the greatest depth of a branch in its session tree, where the root has depth 1
 abbrev pub depth_limit : ℕ
 depth_limit = 8
 

@@ -45,7 +45,7 @@ pub const LINK_LIMIT: u32 = 64;
 /// The most branches of a session tree.
 pub const BRANCH_LIMIT: usize = 64;
 
-/// The most branches on the way from a root down to a branch, the root not counted.
+/// The greatest depth of a branch in its session tree, where the root has depth 1.
 pub const DEPTH_LIMIT: u8 = 8;
 
 /// The greatest SCN: 2 ^ 48 - 1.

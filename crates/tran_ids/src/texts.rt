@@ -1,5 +1,6 @@
 //! The texts of ids: the local id of a branch, and the global id of a transaction, which names its root.
 ghost use Rattle.std.specs.Prelude.{◌≡◌, ℕ, ◌<◌, ◌^◌, ◌++◌, Some, IfOk, IfSome, OnOk};
+ghost use Rattle.std.specs.Io.{StartsWith};
 ghost use Rattle.std.specs.Option.{option_map};
 ghost use Rattle.tran_ids.specs.Numbers.{decimal, hex8, hex_digit as hex_digit_of};
 ghost use Rattle.tran_ids.specs.Texts.{local_of, local_text as local_text_of, name_of, global_text as global_text_of, cut_of};
@@ -17,17 +18,19 @@ fn written(buffer: &mut Buffer, number: u64) -> &[u8]
     buffer.format(number).as_bytes()
 }
 
-/// Adds a number in decimal at the end. Fails where memory runs out.
+/// Adds a number in decimal at the end. Fails where memory runs out; what was there is still in front then.
 pub fn put_decimal(out: &mut Vec<u8>, number: u64) -> Result<(), AllocError>
-    ensures { OnOk result (out.new.items ≡ out.old.items ++ decimal number) }
+    ensures added { OnOk result (out.new.items ≡ out.old.items ++ decimal number) }
+    ensures kept { StartsWith out.new.items out.old.items }
 {
     out.extend_from_slice(written(&mut Buffer::new(), number))
 }
 
 /// Adds the local id of a branch: its boot, session and seq in decimal, joined by dots, such as `1.65.1`. Fails where
-/// memory runs out; a part may have been added then.
+/// memory runs out; a part may have been added then, behind what was there.
 pub fn put_local(out: &mut Vec<u8>, id: &BranchId) -> Result<(), AllocError>
-    ensures { OnOk result (out.new.items ≡ out.old.items ++ local_text_of id.now) }
+    ensures added { OnOk result (out.new.items ≡ out.old.items ++ local_text_of id.now) }
+    ensures kept { StartsWith out.new.items out.old.items }
 {
     put_decimal(out, u64::from(id.boot))?;
     out.push(b'.')?;
@@ -59,9 +62,10 @@ pub fn node_name(names: &[Name], node: u8) -> &[u8]
 
 /// Adds the global id of the transaction with this root: the name of the root's node, its number in eight hexadecimal
 /// digits, and the root's local id, such as `HQ.00000001.1.2.1`. Fails where memory runs out; a part may have been
-/// added then.
+/// added then, behind what was there.
 pub fn put_global(out: &mut Vec<u8>, names: &[Name], root: &BranchId) -> Result<(), AllocError>
-    ensures { OnOk result (out.new.items ≡ out.old.items ++ global_text_of names.now root.now) }
+    ensures added { OnOk result (out.new.items ≡ out.old.items ++ global_text_of names.now root.now) }
+    ensures kept { StartsWith out.new.items out.old.items }
 {
     out.extend_from_slice(node_name(names, root.node))?;
     out.push(b'.')?;
