@@ -10,6 +10,8 @@ mod disks;
 #[cfg(test)]
 mod durable;
 #[cfg(test)]
+mod fields;
+#[cfg(test)]
 mod logs;
 #[cfg(test)]
 mod records;

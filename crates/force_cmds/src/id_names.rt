@@ -10,6 +10,6 @@ pub enum IdNames {
     Nobody,
     /// This one alone.
     One(BranchId),
-    /// Several, of which these are the first two.
+    /// Several of them: the first two.
     Several(BranchId, BranchId),
 }

@@ -12,7 +12,7 @@ use crate::part::Part;
 use std::alloc::{AllocError, Global};
 use token_grammar::is_blank;
 
-/// The part in which a text goes on behind a byte, which these bytes follow.
+/// The part in which a text goes on after a byte, which these bytes follow.
 fn part_behind(part: Part, byte: u8, after: &[u8]) -> Part
     ensures { result ≡ spec.part_behind part byte after.now }
 {
@@ -44,7 +44,7 @@ fn is_quoted(part: Part) -> bool
     matches!(part, Part::Quoted)
 }
 
-/// The bytes behind a place.
+/// The bytes after a place.
 fn behind(bytes: &[u8], place: usize) -> &[u8]
     requires { place < length bytes.now }
     ensures { result.now ≡ drop (place + 1) bytes.now }
@@ -52,7 +52,7 @@ fn behind(bytes: &[u8], place: usize) -> &[u8]
     &bytes[place + 1..]
 }
 
-/// The bytes of the first command up to its `;`, and what stands behind that; nothing where no command ends.
+/// The bytes of the first command up to its `;`, and what stands after that; nothing where no command ends.
 #[tactic(auto, using(crate::proofs::PieceLemmas::step_on, crate::proofs::PieceLemmas::step_off))]
 pub(crate) fn cut(bytes: &[u8]) -> Option<(&[u8], &[u8])>
     ensures whole { IfNone result (pieces_of bytes.now ≡ ([], bytes.now)) }

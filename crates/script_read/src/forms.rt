@@ -1,4 +1,4 @@
-//! The forms of a command, as they are read: what stands behind the first word of each.
+//! The forms of a command, as they are read: what follows the first word of each.
 ghost use Rattle.std.specs.Prelude.{◌≡◌, ◌≤◌, length, codes};
 ghost use Rattle.dtx_values.specs.Limits.{node_limit};
 ghost use Rattle.token_grammar.specs.Gives.{Gives};
@@ -58,7 +58,7 @@ fn take_lose_next<'t>(
     Ok((Command::LoseNext { kind, from, to }, rest))
 }
 
-/// `num`, or `NEXT` and what stands behind it
+/// `num`, or `NEXT` and what follows it
 fn take_lose<'t>(
     alloc: Global,
     names: &[Name],
@@ -301,7 +301,7 @@ fn take_again(tokens: &[Token]) -> Result<(Command, &[Token]), ReadErr>
     Ok((Command::Again { k }, rest))
 }
 
-/// What stands behind the first word of a command.
+/// What follows the first word of a command.
 #[tactic(auto, unfolding(crate::specs::Forms::form))]
 fn take_form<'t>(
     alloc: Global,

@@ -27,7 +27,7 @@ fn hex_byte(high: u8, low: u8) -> Option<u8>
     Some(16 * high + low)
 }
 
-/// The first two digits, and those behind them.
+/// The first two digits, and those after them.
 fn pair_of(digits: &[u8]) -> Option<(u8, u8, &[u8])>
     ensures pair { IfSome result (λ x. digits.now ≡ x.0 ∷ x.1 ∷ x.2.now) }
     ensures lengths { IfSome result (λ x. length x.2.now + 2 ≡ length digits.now) }

@@ -33,7 +33,7 @@ fn statement_of(alloc: Global, text: &[u8]) -> Result<Option<Stmt>, ReadErr>
     }
 }
 
-/// The node and the session of a call, whose text stands behind this.
+/// The node and the session of a call, whose text follows them.
 fn session_of(alloc: Global, names: &[Name], head: &[u8]) -> Result<(u8, u32), ReadErr>
     requires { length names.now ≤ node_limit }
     ensures { Gives (λ x. x) result (value_in (forms.at_session names.now) head.now) }
@@ -73,7 +73,7 @@ fn colon_at(text: &[u8]) -> Option<usize>
     text.iter().position(|byte| *byte == b':')
 }
 
-/// What stands before a place and behind it.
+/// What stands before a place and after it.
 fn around(text: &[u8], place: usize) -> (&[u8], &[u8])
     requires { place < length text.now }
     ensures before { result.0.now ≡ take place text.now }

@@ -2,7 +2,7 @@
 //!
 //! A script is cut at each `;` outside quotes and comments, and what stands before it, without its comments, is read as a
 //! command by the grammar of `specs/Forms.antt`: one line a form, in the words of its manual. A call of a client stands
-//! apart, since behind its colon there is a text of its own, which is read as a statement.
+//! apart, since after its colon there is a text of its own, which is read as a statement.
 //!
 //! The first bad command is told by its line and by the first of seven reasons that holds (`Why`). `specs/Asked.antt`
 //! says so as a function of the bytes, and `read_script` gives exactly that. Beside it `specs/Spelled.antt` says which

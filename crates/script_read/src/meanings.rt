@@ -1,5 +1,7 @@
 //! What words mean: the forms of commands, kinds of messages, views and options.
 ghost use Rattle.std.specs.Prelude.{◌≡◌, Bool, Option};
+ghost use Rattle.std.specs.Map.{lookup};
+ghost use Rattle.std.specs.Str.{bytes_eq};
 ghost use Rattle.token_grammar.specs.Forms.{word_in};
 ghost use Rattle.script_read.specs.Words as spec;
 
@@ -7,56 +9,85 @@ use crate::words::{Left, Lost, Measure, Verb, View};
 use token_grammar::Token;
 use wire_msg::KindName;
 
+/// The first words of commands.
+const VERBS: [(&[u8], Verb); 15] = [
+    (b"NODE", Verb::Node),
+    (b"CUT", Verb::Cut),
+    (b"JOIN", Verb::Join),
+    (b"LOSE", Verb::Lose),
+    (b"STOP", Verb::Stop),
+    (b"START", Verb::Start),
+    (b"CRASH", Verb::Crash),
+    (b"FAULT", Verb::Fault),
+    (b"HOLD", Verb::Hold),
+    (b"DELIVER", Verb::Deliver),
+    (b"AGAIN", Verb::Again),
+    (b"PUMP", Verb::Pump),
+    (b"GIVEUP", Verb::GiveUp),
+    (b"RECO", Verb::Reco),
+    (b"SHOW", Verb::Show),
+];
+
+/// The kinds of messages, as they are spelled.
+const KINDS: [(&[u8], KindName); 17] = [
+    (b"OPEN", KindName::Open),
+    (b"OPENED", KindName::Opened),
+    (b"EXEC", KindName::Exec),
+    (b"REPLY", KindName::Reply),
+    (b"PREPARE", KindName::Prepare),
+    (b"PREPARED", KindName::Prepared),
+    (b"READONLY", KindName::ReadOnly),
+    (b"READY", KindName::Ready),
+    (b"ABORT", KindName::Abort),
+    (b"COMMITPOINT", KindName::CommitPoint),
+    (b"COMMITTED", KindName::Committed),
+    (b"ROLLEDBACK", KindName::RolledBack),
+    (b"INDOUBT", KindName::InDoubt),
+    (b"ACK", KindName::Ack),
+    (b"FORGOTTEN", KindName::Forgotten),
+    (b"ROLLBACK", KindName::Rollback),
+    (b"ASK", KindName::Ask),
+];
+
+/// What a CRASH may leave.
+const LEFT: [(&[u8], Left); 2] = [(b"KEEP", Left::Keep), (b"LEAVE", Left::Leave)];
+
+/// What HOLD may be.
+const SWITCHES: [(&[u8], bool); 2] = [(b"ON", true), (b"OFF", false)];
+
+/// What SHOW may show.
+const VIEWS: [(&[u8], View); 5] = [
+    (b"PENDING", View::Pending),
+    (b"NEIGHBORS", View::Neighbors),
+    (b"BOOK", View::Book),
+    (b"NET", View::Net),
+    (b"DISK", View::Disk),
+];
+
+/// What an option of NODE may set.
+const MEASURES: [(&[u8], Measure); 3] = [
+    (b"STRENGTH", Measure::Strength),
+    (b"LINKS", Measure::Links),
+    (b"UNDO", Measure::Undo),
+];
+
+/// What a word means by a list of words with their meanings.
+fn meaning<T: Copy>(word: &[u8], words: &[(&[u8], T)]) -> Option<T>
+    ensures { result ≡ lookup (λ text. bytes_eq text.now word.now) words.now }
+{
+    for (text, meaning) in words {
+        if *text == word {
+            return Some(*meaning);
+        }
+    }
+    None
+}
+
 #[tactic(auto, unfolding(crate::specs::Words::verb_of))]
 fn verb_of(word: &[u8]) -> Option<Verb>
     ensures { result ≡ spec.verb_of word.now }
 {
-    if word == b"NODE".as_slice() {
-        return Some(Verb::Node);
-    }
-    if word == b"CUT".as_slice() {
-        return Some(Verb::Cut);
-    }
-    if word == b"JOIN".as_slice() {
-        return Some(Verb::Join);
-    }
-    if word == b"LOSE".as_slice() {
-        return Some(Verb::Lose);
-    }
-    if word == b"STOP".as_slice() {
-        return Some(Verb::Stop);
-    }
-    if word == b"START".as_slice() {
-        return Some(Verb::Start);
-    }
-    if word == b"CRASH".as_slice() {
-        return Some(Verb::Crash);
-    }
-    if word == b"FAULT".as_slice() {
-        return Some(Verb::Fault);
-    }
-    if word == b"HOLD".as_slice() {
-        return Some(Verb::Hold);
-    }
-    if word == b"DELIVER".as_slice() {
-        return Some(Verb::Deliver);
-    }
-    if word == b"AGAIN".as_slice() {
-        return Some(Verb::Again);
-    }
-    if word == b"PUMP".as_slice() {
-        return Some(Verb::Pump);
-    }
-    if word == b"GIVEUP".as_slice() {
-        return Some(Verb::GiveUp);
-    }
-    if word == b"RECO".as_slice() {
-        return Some(Verb::Reco);
-    }
-    if word == b"SHOW".as_slice() {
-        return Some(Verb::Show);
-    }
-    None
+    meaning(word, &VERBS)
 }
 
 /// The form that a command's first word tells.
@@ -73,58 +104,7 @@ pub(crate) fn verb_in(token: &Token) -> Option<Verb>
 fn kind_of(word: &[u8]) -> Option<KindName>
     ensures { result ≡ spec.kind_of word.now }
 {
-    if word == b"OPEN".as_slice() {
-        return Some(KindName::Open);
-    }
-    if word == b"OPENED".as_slice() {
-        return Some(KindName::Opened);
-    }
-    if word == b"EXEC".as_slice() {
-        return Some(KindName::Exec);
-    }
-    if word == b"REPLY".as_slice() {
-        return Some(KindName::Reply);
-    }
-    if word == b"PREPARE".as_slice() {
-        return Some(KindName::Prepare);
-    }
-    if word == b"PREPARED".as_slice() {
-        return Some(KindName::Prepared);
-    }
-    if word == b"READONLY".as_slice() {
-        return Some(KindName::ReadOnly);
-    }
-    if word == b"READY".as_slice() {
-        return Some(KindName::Ready);
-    }
-    if word == b"ABORT".as_slice() {
-        return Some(KindName::Abort);
-    }
-    if word == b"COMMITPOINT".as_slice() {
-        return Some(KindName::CommitPoint);
-    }
-    if word == b"COMMITTED".as_slice() {
-        return Some(KindName::Committed);
-    }
-    if word == b"ROLLEDBACK".as_slice() {
-        return Some(KindName::RolledBack);
-    }
-    if word == b"INDOUBT".as_slice() {
-        return Some(KindName::InDoubt);
-    }
-    if word == b"ACK".as_slice() {
-        return Some(KindName::Ack);
-    }
-    if word == b"FORGOTTEN".as_slice() {
-        return Some(KindName::Forgotten);
-    }
-    if word == b"ROLLBACK".as_slice() {
-        return Some(KindName::Rollback);
-    }
-    if word == b"ASK".as_slice() {
-        return Some(KindName::Ask);
-    }
-    None
+    meaning(word, &KINDS)
 }
 
 /// The kind of message that a word spells.
@@ -137,7 +117,7 @@ pub(crate) fn kind_in(token: &Token) -> Option<KindName>
     }
 }
 
-/// What stands behind LOSE.
+/// What follows LOSE.
 #[tactic(auto, unfolding(crate::specs::Words::lost_in))]
 pub(crate) fn lost_in(token: &Token) -> Option<Lost>
     ensures { result ≡ spec.lost_in token.now }
@@ -155,16 +135,10 @@ pub(crate) fn lost_in(token: &Token) -> Option<Lost>
 fn left_of(word: &[u8]) -> Option<Left>
     ensures { result ≡ spec.left_of word.now }
 {
-    if word == b"KEEP".as_slice() {
-        return Some(Left::Keep);
-    }
-    if word == b"LEAVE".as_slice() {
-        return Some(Left::Leave);
-    }
-    None
+    meaning(word, &LEFT)
 }
 
-/// What stands behind the number of a CRASH.
+/// What follows the number of a CRASH.
 pub(crate) fn left_in(token: &Token) -> Option<Left>
     ensures { result ≡ word_in spec.left_of token.now }
 {
@@ -178,16 +152,10 @@ pub(crate) fn left_in(token: &Token) -> Option<Left>
 fn switch_of(word: &[u8]) -> Option<bool>
     ensures { result ≡ spec.switch_of word.now }
 {
-    if word == b"ON".as_slice() {
-        return Some(true);
-    }
-    if word == b"OFF".as_slice() {
-        return Some(false);
-    }
-    None
+    meaning(word, &SWITCHES)
 }
 
-/// What stands behind HOLD.
+/// What follows HOLD.
 pub(crate) fn switch_in(token: &Token) -> Option<bool>
     ensures { result ≡ word_in spec.switch_of token.now }
 {
@@ -201,25 +169,10 @@ pub(crate) fn switch_in(token: &Token) -> Option<bool>
 fn view_of(word: &[u8]) -> Option<View>
     ensures { result ≡ spec.view_of word.now }
 {
-    if word == b"PENDING".as_slice() {
-        return Some(View::Pending);
-    }
-    if word == b"NEIGHBORS".as_slice() {
-        return Some(View::Neighbors);
-    }
-    if word == b"BOOK".as_slice() {
-        return Some(View::Book);
-    }
-    if word == b"NET".as_slice() {
-        return Some(View::Net);
-    }
-    if word == b"DISK".as_slice() {
-        return Some(View::Disk);
-    }
-    None
+    meaning(word, &VIEWS)
 }
 
-/// What stands behind SHOW.
+/// What follows SHOW.
 pub(crate) fn view_in(token: &Token) -> Option<View>
     ensures { result ≡ word_in spec.view_of token.now }
 {
@@ -233,16 +186,7 @@ pub(crate) fn view_in(token: &Token) -> Option<View>
 fn measure_of(word: &[u8]) -> Option<Measure>
     ensures { result ≡ spec.measure_of word.now }
 {
-    if word == b"STRENGTH".as_slice() {
-        return Some(Measure::Strength);
-    }
-    if word == b"LINKS".as_slice() {
-        return Some(Measure::Links);
-    }
-    if word == b"UNDO".as_slice() {
-        return Some(Measure::Undo);
-    }
-    None
+    meaning(word, &MEASURES)
 }
 
 /// What an option of NODE sets.

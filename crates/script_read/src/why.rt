@@ -14,7 +14,7 @@ pub enum Why {
     /// No `;` ends it.
     #[error("unended command")]
     Unended,
-    /// It is a NODE command behind a command of another form.
+    /// It is a NODE command after a command of another form.
     #[error("node after other commands")]
     LateNode,
     /// It is outside the grammar, or a number is out of its range.

@@ -20,7 +20,7 @@ pub enum Verb {
     Show,
 }
 
-/// What stands behind LOSE.
+/// What follows LOSE.
 #[derive(Clone, Copy, Debug, PartialEq, Eq)]
 pub enum Lost {
     /// The number of a message.
@@ -29,14 +29,14 @@ pub enum Lost {
     Next,
 }
 
-/// What stands behind the number of a CRASH.
+/// What follows the number of a CRASH.
 #[derive(Clone, Copy, Debug, PartialEq, Eq)]
 pub enum Left {
     Keep,
     Leave,
 }
 
-/// What stands behind SHOW.
+/// What follows SHOW.
 #[derive(Clone, Copy, Debug, PartialEq, Eq)]
 pub enum View {
     Pending,

@@ -1,4 +1,4 @@
-//! A node on its disk, which is the only one.
+//! A single node on its disk.
 //!
 //! What a node does is decided in memory by a state machine that knows no disk (`machine`, `turns`, `replay`); a node puts
 //! the record of a turn on its disk before the turn is over, and a start makes the state again from the records of the disk

@@ -67,7 +67,7 @@ impl Machine {
         Ok(())
     }
 
-    /// A node of which these records stand.
+    /// The node that a start makes of these records.
     pub(crate) fn replay(alloc: Global, records: &[RedoRecord]) -> Result<Machine, AllocError>
         requires { AreSound fresh records.now }
         ensures { IfOk result (λ machine. machine ≡ start_of records.now) }

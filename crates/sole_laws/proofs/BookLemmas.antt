@@ -1,4 +1,4 @@
--- Books of a node that is the only one: what each entry needs of those before it, and SCNs that rise.
+-- Books of a single node: what each entry needs of those before it, and SCNs that rise.
 use Rattle.std.proofs.Common.{◌≡◌, ℕ, zero, suc, ◌<◌, max, Bool, true, false, List, [], ◌∷◌, ◌++◌, Option, Some, None, refl, ap, subst, ◌∙◌, append_assoc, sym, arith}
 use Rattle.std.specs.Prelude.{◌||◌}
 use Rattle.std.specs.List.{list_any, slice_get, AllByRecursion}

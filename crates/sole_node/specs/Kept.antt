@@ -1,4 +1,4 @@
--- What a node keeps from turn to turn, where it is the only one.
+-- What a single node keeps from turn to turn.
 use Rattle.std.specs.Prelude.{ℕ, ◌+◌, ◌-◌, Bool, List, [], ◌∷◌, ◌++◌, find, filter, not, length, nat_lt, replicate, sum_by, slice_get, slice_set, unwrap_or, Option, None, Some}
 use Rattle.std.specs.Str.{bytes_eq}
 use Rattle.std.specs.List.{list_any, position_or_len}

@@ -1,5 +1,5 @@
-//! What a node does that is the only one: its sessions' calls, its records and what a start makes of them, as definitions;
-//! and what a run of it is made of, as data. The code of a node is proved to do just that.
+//! What a single node does, as definitions: its sessions' calls, its records, and what a start makes of them; and what a
+//! run of it is made of, as data. The code of a node is proved to do just that.
 #![tactic(auto)]
 
 mod happening;

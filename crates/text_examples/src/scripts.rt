@@ -1,17 +1,25 @@
 //! What no clause says of scripts: each reason for which one is bad, with its line, and scripts that are good.
 use dtx_values::SCRIPT_LIMIT;
-use script_read::{ScriptErr, Why, read_script};
+use script_read::{Command, ScriptErr, Why, read_script};
 use std::alloc::Global;
+use wire_msg::KindName;
 
-/// The line of the first bad command and why it is bad: line 0 and `Form` where there is none; nothing where that cannot
-/// be said.
-fn verdict(alloc: Global, script: &[u8]) -> Option<(u32, Why)> {
+/// What becomes of a script.
+#[derive(Clone, Copy, PartialEq, Eq)]
+enum Verdict {
+    Good,
+    Bad { line: u32, why: Why },
+}
+
+/// Whether a script is good, or else the line of its first bad command and why it is bad; nothing where that cannot be
+/// said.
+fn verdict(alloc: Global, script: &[u8]) -> Option<Verdict> {
     if script.len() > SCRIPT_LIMIT {
         return None;
     }
     match read_script(alloc, script) {
-        Ok(_commands) => Some((0, Why::Form)),
-        Err(ScriptErr::Bad { line, why }) => Some((line, why)),
+        Ok(_commands) => Some(Verdict::Good),
+        Err(ScriptErr::Bad { line, why }) => Some(Verdict::Bad { line, why }),
         Err(ScriptErr::NoMemory) => None,
     }
 }
@@ -67,12 +75,17 @@ const GOOD: [&[u8]; 8] = [
 
 fn first_wrong(alloc: Global) -> Option<&'static [u8]> {
     for (script, line, why) in &BAD {
-        if verdict(alloc, script) != Some((*line, *why)) {
+        let (line, why) = (*line, *why);
+        if verdict(alloc, script) != Some(Verdict::Bad { line, why }) {
             return Some(*script);
         }
     }
+    None
+}
+
+fn first_refused(alloc: Global) -> Option<&'static [u8]> {
     for script in &GOOD {
-        if verdict(alloc, script) != Some((0, Why::Form)) {
+        if verdict(alloc, script) != Some(Verdict::Good) {
             return Some(*script);
         }
     }
@@ -82,6 +95,11 @@ fn first_wrong(alloc: Global) -> Option<&'static [u8]> {
 #[test]
 fn tells_the_first_reason(rt: HostRuntime) {
     assert!(rt; first_wrong(rt.alloc()).is_none());
+}
+
+#[test]
+fn reads_good_scripts(rt: HostRuntime) {
+    assert!(rt; first_refused(rt.alloc()).is_none());
 }
 
 /// So many NODE commands.
@@ -99,7 +117,63 @@ fn nodes(alloc: Global, count: u8) -> Result<Vec<u8>, std::alloc::AllocError> {
 fn takes_16_nodes(rt: HostRuntime) {
     let alloc = rt.alloc();
     let sixteen = nodes(alloc, 16);
-    assert!(rt; matches!(&sixteen, Ok(script) if verdict(alloc, script) == Some((0, Why::Form))));
+    assert!(rt; matches!(&sixteen, Ok(script) if verdict(alloc, script) == Some(Verdict::Good)));
     let more = nodes(alloc, 17);
-    assert!(rt; matches!(&more, Ok(script) if verdict(alloc, script) == Some((1, Why::Many))));
+    let bad = Verdict::Bad {
+        line: 1,
+        why: Why::Many,
+    };
+    assert!(rt; matches!(&more, Ok(script) if verdict(alloc, script) == Some(bad)));
+}
+
+/// The last command of a script.
+fn last(alloc: Global, script: &[u8]) -> Option<Command> {
+    if script.len() > SCRIPT_LIMIT {
+        return None;
+    }
+    read_script(alloc, script).ok()?.into_vec().pop()
+}
+
+#[test]
+fn a_node_has_its_options(rt: HostRuntime) {
+    let node = last(rt.alloc(), b"NODE a Undo 7;");
+    assert!(rt; matches!(
+        &node,
+        Some(Command::Node { strength: 1, links: 4, undo: 7, .. })
+    ));
+}
+
+#[test]
+fn a_call_has_its_statement(rt: HostRuntime) {
+    let call = last(rt.alloc(), b"NODE a; NODE b; At b\nsession 3: commit;");
+    assert!(rt; matches!(
+        &call,
+        Some(Command::At { node: 2, session: 3, statement: Some(_) })
+    ));
+}
+
+#[test]
+fn an_empty_call_has_no_statement(rt: HostRuntime) {
+    let call = last(rt.alloc(), b"NODE a; AT a SESSION 1: ;");
+    assert!(rt; matches!(
+        &call,
+        Some(Command::At { node: 1, session: 1, statement: None })
+    ));
+}
+
+#[test]
+fn names_of_nodes_are_numbers(rt: HostRuntime) {
+    let lost = last(rt.alloc(), b"NODE a; NODE b; LOSE NEXT CommitPoint FROM b TO a;");
+    assert!(rt; matches!(
+        &lost,
+        Some(Command::LoseNext { kind: KindName::CommitPoint, from: 2, to: 1 })
+    ));
+}
+
+#[test]
+fn a_pump_may_have_a_number(rt: HostRuntime) {
+    let all = last(rt.alloc(), b"PUMP;");
+    assert!(rt; matches!(&all, Some(Command::Pump { most: None })));
+    let two = last(rt.alloc(), b"PUMP 2;");
+    assert!(rt; matches!(&two, Some(Command::Pump { most: Some(2) })));
 }
