@@ -1,5 +1,7 @@
 //! The locks of a node.
-ghost use Rattle.std.specs.Prelude.{◌≡◌, [], true, not, ◌||◌, None, IfOk, OnOk, OnErr, IsErrOf};
+ghost use Rattle.std.specs.Prelude.{◌≡◌, [], true, not, ◌&&◌, ◌||◌, None, IfOk, OnOk, OnErr, IsErrOf};
+ghost use Rattle.std.specs.List.{list_any};
+ghost use Rattle.std.specs.Str.{bytes_eq};
 ghost use Rattle.std.specs.Option.{option_map};
 ghost use Rattle.tran_ids.specs.Branch.{same};
 ghost use Rattle.row_locks.specs.declared.lock_err.LockErr.TheVariants.{NoMemory};
@@ -63,6 +65,18 @@ impl Locks {
         ensures { IfOk result (λ keys. keys ≡ keys_held self.now table.now) }
     {
         keys_at(alloc, self.locks.keys().as_slice(), table)
+    }
+
+    /// Whether a branch in doubt holds a key of a table.
+    pub fn has_doubt(&self, table: &Name) -> bool
+        ensures { result ≡ list_any (λ l. l.in_doubt && bytes_eq l.table table.now) self.now }
+    {
+        for (held, owner) in &self.locks {
+            if owner.in_doubt && held.table.is(table) {
+                return true;
+            }
+        }
+        false
     }
 
     /// Takes a key for a branch, to write its row or only to read it. A key that the branch has stays where it is, and

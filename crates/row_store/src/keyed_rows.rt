@@ -6,7 +6,7 @@ ghost use Rattle.dtx_values.specs.Order.{value_cmp};
 ghost use Rattle.sql_eval.specs.Rows.{get as get_of, put as put_of, without as without_of, set_to, apply as apply_of, keys_of};
 
 use dtx_values::{Change, Duplicate, Name, Row, Value};
-use sql_eval::Keyed;
+use sql_eval::KeyedRef;
 use std::alloc::{AllocError, Global};
 use std::collections::BTreeMap;
 use std::marker::Model;
@@ -110,13 +110,13 @@ impl KeyedRows {
         Ok(self)
     }
 
-    /// All rows, in key order.
-    pub fn into_keyed(self, alloc: Global) -> Result<Vec<Keyed>, AllocError>
-        ensures { IfOk result (λ keyed. keyed.items ≡ self) }
+    /// All rows where they stand, in key order.
+    pub fn refs(&self, alloc: Global) -> Result<Vec<KeyedRef<'_>>, AllocError>
+        ensures { IfOk result (λ rows. rows.items ≡ self.now) }
     {
         let mut rows = Vec::with_capacity(alloc, self.len())?;
-        for (key, row) in self.rows {
-            rows.push(Keyed { key, row })?;
+        for (key, row) in &self.rows {
+            rows.push(KeyedRef { key, row })?;
         }
         Ok(rows)
     }

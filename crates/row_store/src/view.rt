@@ -1,5 +1,6 @@
 //! What a branch sees of a table.
 ghost use Rattle.std.specs.Prelude.{◌≡◌, ◌^◌, ◌≤◌, [], unwrap_or, IfOk, OnErr};
+ghost use Rattle.std.specs.Cow.{cow_value};
 ghost use Rattle.std.specs.Option.{option_copied};
 ghost use Rattle.std.specs.List.Sorted.{IsStrictlySortedBy};
 ghost use Rattle.dtx_values.specs.Order.{value_cmp};
@@ -10,8 +11,9 @@ ghost use Rattle.row_store.specs.Own.{view_of, undo_length};
 use crate::lengths::{change_len_with, sum};
 use crate::{KeyedRows, OwnChanges, Tables};
 use dtx_values::{Change, Duplicate, Name, Row, Value};
-use sql_eval::Keyed;
+use sql_eval::KeyedRef;
 use std::alloc::{AllocError, Global};
+use std::borrow::Cow;
 use std::marker::Model;
 
 /// The rows of a table as a branch sees them: the committed rows with the branch's own changes. Contracts see them as the
@@ -66,28 +68,34 @@ impl<'a> View<'a> {
         }
     }
 
-    /// A copy of the row at a key, if there is one: all that a statement that fixes the key depends on.
+    /// The row at a key, if there is one: all that a statement that fixes the key depends on.
     #[tactic(auto, using(crate::proofs::AtKey::at_key_is))]
-    pub fn at_key(&self, alloc: Global, key: &Value) -> Result<Vec<Keyed>, AllocError>
+    pub fn at_key<'k>(
+        &'k self,
+        alloc: Global,
+        key: &'k Value,
+    ) -> Result<Vec<KeyedRef<'k>>, AllocError>
         ensures { IfOk result (λ keyed. keyed.items ≡ at_key_of self.now key.now) }
     {
-        let mut copies = Vec::new(alloc);
-        if let Some(row) = self.get(key) {
-            copies.push(Keyed {
-                key: key.copy(alloc)?,
-                row: row.copy(alloc)?,
-            })?;
+        match self.get(key) {
+            None => Ok(Vec::new(alloc)),
+            Some(row) => Ok(vec![in alloc; KeyedRef { key, row }]?),
         }
-        Ok(copies)
     }
 
-    /// A copy of all rows, in key order.
-    pub fn keyed(&self, alloc: Global) -> Result<Vec<Keyed>, AllocError>
-        ensures { IfOk result (λ keyed. keyed.items ≡ self.now) }
+    /// All rows, by their keys: the committed rows where they stand, if the branch has changed nothing, or else a copy of them
+    /// with its changes.
+    pub fn all(&self, alloc: Global) -> Result<Cow<'a, KeyedRows>, AllocError>
+        ensures { IfOk result (λ rows. cow_value rows ≡ self.now) }
     {
-        let rows = copied(alloc, self.rows)?;
-        let rows = rows.changed(alloc, self.table, self.own.changes())?;
-        rows.into_keyed(alloc)
+        match self.rows {
+            Some(rows) if self.own.changes().is_empty() => Ok(Cow::Borrowed(rows)),
+            rows => {
+                let copy = copied(alloc, rows)?;
+                let changed = copy.changed(alloc, self.table, self.own.changes())?;
+                Ok(Cow::Owned(changed))
+            }
+        }
     }
 
     /// The bytes of the undo of a statement's changes: each change with the row from before.

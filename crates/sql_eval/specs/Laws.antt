@@ -4,12 +4,12 @@ use Rattle.std.specs.Prelude.{◌≡◌, ◌==◌, ◌&&◌, ℕ, Bool, true, fa
 use Rattle.std.specs.List.{All, AllByRecursion}
 use Rattle.sql_statement.specs.Distinct.{are_distinct, column_name}
 use Rattle.sql_statement.specs.Whole.{IsWholeTable}
-use Rattle.sql_eval.specs.Data.{Value, Row, Change, Column, Table, Keyed, Stmt, Done}
+use Rattle.sql_eval.specs.Data.{Value, Row, Change, Table, Keyed, Stmt, Done}
 use Rattle.sql_eval.specs.Data.meants
 use Rattle.sql_check.specs.Words.{first_some, same_text}
 use Rattle.dtx_values.specs.Order.{is_null, same_value}
 use Rattle.sql_eval.specs.Rows.{apply}
-use Rattle.sql_check.specs.Columns.{is_key, is_named, key_of_row, place_of}
+use Rattle.sql_check.specs.Columns.{is_key, key_of_row, place_of}
 use Rattle.sql_check.specs.Checks.{checked, sets_key}
 use Rattle.sql_eval.specs.Meaning.{conds_of, fixes, found, fixed_key, written, meant_over}
 

@@ -1,6 +1,6 @@
 -- What one statement means over the rows of one table: what it tests, the keys that it examines and writes, the rows that
 -- it gives and the changes that it makes. It knows no locks and no nodes.
-use Rattle.std.specs.Prelude.{ℕ, ◌&&◌, not, Bool, true, false, if◌then◌else◌, List, [], ◌∷◌, ◌++◌, map, filter, length, unwrap_or, slice_set, codes, Option, Some, None, Result, Ok, Err, pos, ◌+ℤ◌}
+use Rattle.std.specs.Prelude.{ℕ, ◌&&◌, not, Bool, true, if◌then◌else◌, List, [], ◌∷◌, ◌++◌, map, filter, length, unwrap_or, slice_set, codes, Option, Some, None, Result, Ok, Err, pos, ◌+ℤ◌}
 use Rattle.std.specs.List.{list_all}
 use Rattle.dtx_values.specs.Order.{is_null, value_below, same_value}
 use Rattle.sql_check.specs.Words.{one, first_some}

@@ -6,8 +6,8 @@ ghost use Rattle.sql_check.specs.Cells.{or_null};
 ghost use Rattle.dtx_values.specs.Order.{is_null as is_null_of};
 ghost use Rattle.sql_eval.specs.Meaning.{compares as compares_of, holds as holds_of, conds_of as conds_in, satisfies as satisfies_of, found as found_of};
 
-use crate::Keyed;
-use dtx_values::{Duplicate, Row, Table, Value, is_null, same_value, value_below};
+use crate::KeyedRef;
+use dtx_values::{Row, Table, Value, is_null, same_value, value_below};
 use sql_check::cell;
 use sql_statement::{Cond, Sign, Stmt};
 use std::alloc::{AllocError, Global};
@@ -53,10 +53,10 @@ fn holds(table: &Table, row: &Row, cond: &Cond) -> bool
     }
 }
 
-fn satisfies(table: &Table, conds: &[Cond], keyed: &Keyed) -> bool
+fn satisfies(table: &Table, conds: &[Cond], keyed: &KeyedRef) -> bool
     ensures { result ≡ satisfies_of table.now conds.now keyed.now }
 {
-    conds.iter().all(|cond| holds(table, &keyed.row, cond))
+    conds.iter().all(|cond| holds(table, keyed.row, cond))
 }
 
 /// The conditions of a statement's WHERE.
@@ -72,34 +72,33 @@ pub fn conds_of(statement: &Stmt) -> &[Cond]
 }
 
 // Adds a row where it satisfies the conditions.
-fn add_where(
-    alloc: Global,
-    found: &mut Vec<Keyed>,
+fn add_where<'r>(
+    found: &mut Vec<KeyedRef<'r>>,
     table: &Table,
     conds: &[Cond],
-    keyed: &Keyed,
+    keyed: &KeyedRef<'r>,
 ) -> Result<(), AllocError>
     ensures { OnOk result (found.new.items ≡ found.old.items ++ filter (satisfies_of table.now conds.now) (keyed.now ∷ [])) }
 {
     if satisfies(table, conds, keyed) {
-        found.push(keyed.copy(alloc)?)?;
+        found.push(keyed.again())?;
     }
     Ok(())
 }
 
 /// The rows that satisfy the WHERE of a statement, in their order. A comparison with NULL is true of no row.
-pub fn found(
+pub fn found<'r>(
     alloc: Global,
     statement: &Stmt,
     table: &Table,
-    rows: &[Keyed],
-) -> Result<Vec<Keyed>, AllocError>
+    rows: &[KeyedRef<'r>],
+) -> Result<Vec<KeyedRef<'r>>, AllocError>
     ensures { IfOk result (λ found. found.items ≡ found_of statement.now table.now rows.now) }
 {
     let conds = conds_of(statement);
     let mut found = Vec::new(alloc);
     for keyed in rows {
-        add_where(alloc, &mut found, table, conds, keyed)?;
+        add_where(&mut found, table, conds, keyed)?;
     }
     Ok(found)
 }

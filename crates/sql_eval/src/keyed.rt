@@ -3,6 +3,7 @@ ghost use Rattle.std.specs.Prelude.{◌≡◌};
 
 use dtx_values::{Duplicate, Row, Value};
 use std::alloc::{AllocError, Global};
+use std::marker::Model;
 
 /// A row of a table, and its key. A table's rows stand in the order of their keys.
 #[derive(Debug, Drop)]
@@ -13,11 +14,52 @@ pub struct Keyed {
     pub row: Row,
 }
 
+impl Keyed {
+    /// The row and its key where they stand.
+    pub fn refer(&self) -> KeyedRef<'_>
+        ensures { result ≡ self.now }
+    {
+        KeyedRef {
+            key: &self.key,
+            row: &self.row,
+        }
+    }
+}
+
 impl Duplicate for Keyed {
     fn copy(&self, alloc: Global) -> Result<Keyed, AllocError> {
         Ok(Keyed {
             key: self.key.copy(alloc)?,
             row: self.row.copy(alloc)?,
         })
+    }
+}
+
+/// A row of a table and its key, where they stand. Contracts see it as the row with its key.
+#[derive(Drop)]
+pub struct KeyedRef<'a> {
+    /// What the row has in the key column.
+    pub key: &'a Value,
+    /// The row.
+    pub row: &'a Row,
+}
+
+impl<'a> Model for KeyedRef<'a> {
+    ghost use Rattle.sql_eval.specs.declared.keyed.Keyed.{Keyed};
+
+    ghost Value = { Keyed };
+
+    ghost view = { λ r. record { key = r.key.now; row = r.row.now } };
+}
+
+impl<'a> KeyedRef<'a> {
+    /// The same row, referred to once more.
+    pub fn again(&self) -> KeyedRef<'a>
+        ensures { result ≡ self.now }
+    {
+        KeyedRef {
+            key: self.key,
+            row: self.row,
+        }
     }
 }

@@ -7,7 +7,7 @@ ghost use Rattle.sql_eval.specs.Rows.{keys_of as keys_in};
 ghost use Rattle.sql_check.specs.Inserted.{inserted_cells as inserted_cells_of, cells_of as cells_in};
 ghost use Rattle.sql_eval.specs.Meaning.{fixes as fixes_of, conds_of as conds_in, fixed_key as fixed_key_of, found as found_of, examined as examined_of, written as written_of};
 
-use crate::Keyed;
+use crate::KeyedRef;
 use crate::condition::{conds_of, found};
 use crate::rows::{keys_in_order, keys_of};
 use dtx_values::{Duplicate, Names, Table, Value, is_null};
@@ -89,7 +89,7 @@ pub fn fixed_key(
 
 fn view_and_locked(
     alloc: Global,
-    view: &[Keyed],
+    view: &[KeyedRef],
     locked: &[Value],
 ) -> Result<Vec<Value>, AllocError>
     ensures { IfOk result (λ keys. keys.items ≡ keys_in view.now ++ locked.now) }
@@ -108,7 +108,7 @@ pub fn examined(
     alloc: Global,
     statement: &Stmt,
     table: &Table,
-    view: &[Keyed],
+    view: &[KeyedRef],
     locked: &[Value],
 ) -> Result<Vec<Value>, AllocError>
     ensures { IfOk result (λ keys. keys.items ≡ examined_of statement.now table.now view.now locked.now) }
@@ -123,7 +123,7 @@ fn keys_found(
     alloc: Global,
     statement: &Stmt,
     table: &Table,
-    view: &[Keyed],
+    view: &[KeyedRef],
 ) -> Result<Vec<Value>, AllocError>
     ensures { IfOk result (λ keys. keys.items ≡ keys_in (found_of statement.now table.now view.now)) }
 {
@@ -138,7 +138,7 @@ pub fn written(
     alloc: Global,
     statement: &Stmt,
     table: &Table,
-    view: &[Keyed],
+    view: &[KeyedRef],
 ) -> Result<Vec<Value>, AllocError>
     ensures { IfOk result (λ keys. keys.items ≡ written_of statement.now table.now view.now) }
 {

@@ -21,7 +21,7 @@ mod sql_err;
 mod update;
 
 pub use condition::found;
-pub use keyed::Keyed;
+pub use keyed::{Keyed, KeyedRef};
 pub use keys::{examined, fixed_key, written};
 pub use meaning::meant_over;
 pub use meant::Meant;

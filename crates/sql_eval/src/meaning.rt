@@ -12,7 +12,7 @@ use crate::query::picked;
 use crate::rows::get;
 use crate::sql_err::SqlErr;
 use crate::update::{deleted, updated};
-use crate::{Keyed, Meant};
+use crate::{KeyedRef, Meant};
 use dtx_values::{Changes, Done, INVALID_SQL, Names, Table};
 use sql_check::{cells_of, copy_or_null, inserted_cells, key_of_row, plain};
 use sql_statement::{Set, Stmt, Sum};
@@ -23,7 +23,7 @@ fn insert_over(
     table: &Table,
     columns: &Option<Names>,
     values: &[Sum],
-    rows: &[Keyed],
+    rows: &[KeyedRef],
 ) -> Result<Meant, AllocError>
     ensures { IfOk result (λ meant.
         let cells = cells_in (inserted_cells_of table.now columns.now values.now) in
@@ -49,7 +49,7 @@ fn update_over(
     alloc: Global,
     table: &Table,
     sets: &[Set],
-    rows: &[Keyed],
+    rows: &[KeyedRef],
 ) -> Result<Meant, AllocError>
     ensures { IfOk result (λ meant. meant ≡ changing_of dones.Updated (updated_of table.now sets.now rows.now)) }
 {
@@ -60,7 +60,7 @@ fn update_over(
     }
 }
 
-fn delete_over(alloc: Global, table: &Table, rows: &[Keyed]) -> Result<Meant, AllocError>
+fn delete_over(alloc: Global, table: &Table, rows: &[KeyedRef]) -> Result<Meant, AllocError>
     ensures { IfOk result (λ meant. meant ≡ changing_of dones.Deleted (Ok (deleted_of table.now rows.now))) }
 {
     let changes = deleted(alloc, table, rows)?;
@@ -74,7 +74,7 @@ pub fn meant_over(
     alloc: Global,
     statement: &Stmt,
     table: &Table,
-    rows: &[Keyed],
+    rows: &[KeyedRef],
 ) -> Result<Meant, AllocError>
     ensures { IfOk result (λ meant. meant ≡ meant_over_of statement.now table.now rows.now) }
 {

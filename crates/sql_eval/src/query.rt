@@ -6,7 +6,7 @@ ghost use Rattle.sql_check.specs.Cells.{or_null};
 ghost use Rattle.sql_check.specs.Columns.{cell as cell_of};
 ghost use Rattle.sql_eval.specs.Meaning.{sum_with as sum_with_of, summed as summed_of, summed_set as summed_set_of, picked as picked_of, row_of, row_set};
 
-use crate::{Keyed, Meant};
+use crate::{KeyedRef, Meant};
 use dtx_values::{
     Bytes, Cells, Duplicate, Listing, Name, Names, Row, RowSet, Rows, Table, Texts, Value,
 };
@@ -29,12 +29,12 @@ fn sum_with(total: Value, value: Option<&Value>) -> Option<Value>
 }
 
 // The sum of what rows have in a column, each partial sum in range.
-fn summed(table: &Table, name: &Name, rows: &[Keyed]) -> Option<Value>
+fn summed(table: &Table, name: &Name, rows: &[KeyedRef]) -> Option<Value>
     ensures { result ≡ summed_of (map (λ r. cell_of table.now r.row name.now) rows.now) (Some Null) }
 {
     let mut total = Value::Null;
     for keyed in rows {
-        total = sum_with(total, cell(table, &keyed.row, name))?;
+        total = sum_with(total, cell(table, keyed.row, name))?;
     }
     Some(total)
 }
@@ -71,7 +71,7 @@ fn summed_set(alloc: Global, name: &Name, total: Option<Value>) -> Result<Meant,
     }
 }
 
-fn counted(alloc: Global, rows: &[Keyed]) -> Result<RowSet, AllocError>
+fn counted(alloc: Global, rows: &[KeyedRef]) -> Result<RowSet, AllocError>
     ensures { IfOk result (λ set. set ≡ record { heads = codes "COUNT(*)" ∷ []; rows = row_of (Number (pos (length rows.now)) ∷ []) ∷ [] }) }
 {
     let head = Listing::of(Vec::from_slice(alloc, b"COUNT(*)")?);
@@ -98,7 +98,7 @@ fn name_heads(alloc: Global, names: &[Name]) -> Result<Texts, AllocError>
     Ok(Listing::of(heads))
 }
 
-fn whole_rows(alloc: Global, rows: &[Keyed]) -> Result<Rows, AllocError>
+fn whole_rows(alloc: Global, rows: &[KeyedRef]) -> Result<Rows, AllocError>
     ensures { IfOk result (λ whole. whole ≡ map row_of (map (λ r. r.row.cells) rows.now)) }
 {
     let mut whole = Vec::new(alloc);
@@ -128,13 +128,13 @@ fn picked_rows(
     alloc: Global,
     table: &Table,
     names: &[Name],
-    rows: &[Keyed],
+    rows: &[KeyedRef],
 ) -> Result<Rows, AllocError>
     ensures { IfOk result (λ picked. picked ≡ map row_of (map (λ r. map (cell_of table.now r.row) names.now) rows.now)) }
 {
     let mut picked = Vec::new(alloc);
     for keyed in rows {
-        let cells = picked_cells(alloc, table, names, &keyed.row)?;
+        let cells = picked_cells(alloc, table, names, keyed.row)?;
         picked.push(Row { cells })?;
     }
     Ok(Listing::of(picked))
@@ -144,7 +144,7 @@ fn columns_set(
     alloc: Global,
     table: &Table,
     names: &Names,
-    rows: &[Keyed],
+    rows: &[KeyedRef],
 ) -> Result<RowSet, AllocError>
     ensures { IfOk result (λ set. set ≡ row_set names.now (map (λ r. map (cell_of table.now r.row) names.now) rows.now)) }
 {
@@ -161,7 +161,7 @@ pub fn picked(
     alloc: Global,
     list: &Picked,
     table: &Table,
-    rows: &[Keyed],
+    rows: &[KeyedRef],
 ) -> Result<Meant, AllocError>
     ensures { IfOk result (λ meant. meant ≡ picked_of list.now table.now rows.now) }
 {

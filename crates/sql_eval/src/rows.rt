@@ -3,25 +3,25 @@ ghost use Rattle.std.specs.Prelude.{◌≡◌, IfOk, OnOk};
 ghost use Rattle.std.specs.Option.{option_copied};
 ghost use Rattle.sql_eval.specs.Rows.{get as get_of, keys_of as keys_in, put_key as put_key_of, keys_in_order as ordered_of};
 
-use crate::Keyed;
+use crate::KeyedRef;
 use dtx_values::{Duplicate, Row, Value, same_value};
 use std::alloc::{AllocError, Global};
 use std::collections::BTreeSet;
 
 /// The row at a key.
-pub fn get<'a>(rows: &'a [Keyed], key: &Value) -> Option<&'a Row>
+pub fn get<'r>(rows: &[KeyedRef<'r>], key: &Value) -> Option<&'r Row>
     ensures { option_copied result ≡ get_of rows.now key.now }
 {
     for keyed in rows {
-        if same_value(&keyed.key, key) {
-            return Some(&keyed.row);
+        if same_value(keyed.key, key) {
+            return Some(keyed.row);
         }
     }
     None
 }
 
 /// The keys of rows, in the order of the rows.
-pub fn keys_of(alloc: Global, rows: &[Keyed]) -> Result<Vec<Value>, AllocError>
+pub fn keys_of(alloc: Global, rows: &[KeyedRef]) -> Result<Vec<Value>, AllocError>
     ensures { IfOk result (λ keys. keys.items ≡ keys_in rows.now) }
 {
     let mut keys = Vec::with_capacity(alloc, rows.len())?;

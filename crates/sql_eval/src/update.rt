@@ -4,7 +4,7 @@ ghost use Rattle.std.specs.Option.{option_copied};
 ghost use Rattle.sql_eval.specs.Outcomes.{Gives};
 ghost use Rattle.sql_eval.specs.Meaning.{set_cell as set_cell_of, set_value as set_value_of, set_one as set_one_of, set_all as set_all_of, update as update_of, updated as updated_of, deleted as deleted_of, removal as removal_of};
 
-use crate::Keyed;
+use crate::KeyedRef;
 use crate::sql_err::SqlErr;
 use dtx_values::{Change, Changes, Column, Duplicate, Listing, Row, Table, Value, is_null};
 use sql_check::{OUT_OF_RANGE, column_of, of_column, place_of, plain, sum_value, too_long};
@@ -93,10 +93,10 @@ fn set_all(alloc: Global, table: &Table, before: &Row, sets: &[Set]) -> Result<R
     Ok(after)
 }
 
-fn update(alloc: Global, table: &Table, sets: &[Set], keyed: &Keyed) -> Result<Change, SqlErr>
+fn update(alloc: Global, table: &Table, sets: &[Set], keyed: &KeyedRef) -> Result<Change, SqlErr>
     ensures { Gives (λ change. change) result (update_of table.now sets.now keyed.now) }
 {
-    let after = set_all(alloc, table, &keyed.row, sets)?;
+    let after = set_all(alloc, table, keyed.row, sets)?;
     Ok(Change {
         table: table.name.copy(alloc)?,
         key: keyed.key.copy(alloc)?,
@@ -111,7 +111,7 @@ pub fn updated(
     alloc: Global,
     table: &Table,
     sets: &[Set],
-    rows: &[Keyed],
+    rows: &[KeyedRef],
 ) -> Result<Changes, SqlErr>
     ensures { Gives (λ changes. changes) result (updated_of table.now sets.now rows.now) }
 {
@@ -122,7 +122,7 @@ pub fn updated(
     Ok(Listing::of(changes))
 }
 
-fn removal(alloc: Global, table: &Table, keyed: &Keyed) -> Result<Change, AllocError>
+fn removal(alloc: Global, table: &Table, keyed: &KeyedRef) -> Result<Change, AllocError>
     ensures { IfOk result (λ change. change ≡ removal_of table.now keyed.now) }
 {
     Ok(Change {
@@ -133,7 +133,7 @@ fn removal(alloc: Global, table: &Table, keyed: &Keyed) -> Result<Change, AllocE
 }
 
 /// The changes of a DELETE of these rows.
-pub fn deleted(alloc: Global, table: &Table, rows: &[Keyed]) -> Result<Changes, AllocError>
+pub fn deleted(alloc: Global, table: &Table, rows: &[KeyedRef]) -> Result<Changes, AllocError>
     ensures { IfOk result (λ changes. changes ≡ deleted_of table.now rows.now) }
 {
     let mut changes = Vec::new(alloc);

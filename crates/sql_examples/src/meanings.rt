@@ -30,7 +30,8 @@ fn keys_of(alloc: Global, statement: &Stmt) -> Result<Vec<Value>, AllocError> {
         columns: Columns::new(alloc),
     };
     let locked = locked(alloc)?;
-    let view = [keyed(alloc, 9), keyed(alloc, 10)];
+    let (first, second) = (keyed(alloc, 9), keyed(alloc, 10));
+    let view = [first.refer(), second.refer()];
     examined(alloc, statement, &table, &view, &locked)
 }
 

@@ -2,7 +2,7 @@
 use crate::given::{is_text, name, text};
 use dtx_values::{Cells, Change, Changes, Name, Row, Value};
 use row_store::{KeyedRows, OwnChanges, Tables, View, changes_len, extents};
-use sql_eval::Keyed;
+use sql_eval::KeyedRef;
 use std::alloc::{AllocError, Global};
 
 fn row(alloc: Global, cell: i64) -> Result<Row, AllocError> {
@@ -27,29 +27,35 @@ fn put_shuffled(alloc: Global, rows: &mut KeyedRows) -> Result<(), AllocError> {
     put_number(alloc, rows, -2, 0)
 }
 
-/// Those rows with their keys.
-fn shuffled(alloc: Global) -> Result<Vec<Keyed>, AllocError> {
+/// Those rows by their keys.
+fn shuffled(alloc: Global) -> Result<KeyedRows, AllocError> {
     let mut rows = KeyedRows::new(alloc);
     put_shuffled(alloc, &mut rows)?;
-    rows.into_keyed(alloc)
+    Ok(rows)
 }
 
 /// Whether those rows stand in the order of their keys.
-fn are_in_order(rows: &[Keyed]) -> bool {
+fn are_in_order(rows: &[KeyedRef]) -> bool {
     match rows {
         [least, number, first, last] => {
-            least.key == Value::Number(-2)
-                && number.key == Value::Number(10)
-                && is_text(&first.key, b"a")
-                && is_text(&last.key, b"b")
+            *least.key == Value::Number(-2)
+                && *number.key == Value::Number(10)
+                && is_text(first.key, b"a")
+                && is_text(last.key, b"b")
         }
         _ => false,
     }
 }
 
+/// Whether they are given in the order of their keys.
+fn are_given_in_order(alloc: Global) -> Result<bool, AllocError> {
+    let rows = shuffled(alloc)?;
+    Ok(are_in_order(&rows.refs(alloc)?))
+}
+
 #[test]
 fn rows_stand_in_key_order(rt: HostRuntime) {
-    assert!(rt; matches!(&shuffled(rt.alloc()), Ok(rows) if are_in_order(rows)));
+    assert!(rt; are_given_in_order(rt.alloc()) == Ok(true));
 }
 
 /// Rows at the keys 1 and 2, of which the first was put twice.
@@ -198,7 +204,7 @@ type Seen = (Option<i64>, usize, usize);
 
 fn seen(alloc: Global, view: &View, key: i64) -> Result<Seen, AllocError> {
     let there = view.at_key(alloc, &Value::Number(key))?.len();
-    let all = view.keyed(alloc)?.len();
+    let all = view.all(alloc)?.len();
     Ok((cell_at(view, key), there, all))
 }
 

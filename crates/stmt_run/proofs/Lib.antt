@@ -1,3 +1,4 @@
 mod Examined
 mod Free
 mod Lengths
+mod Doubts

@@ -1,7 +1,11 @@
 //! What a statement does, before anything is changed.
-ghost use Rattle.std.specs.Prelude.{◌≡◌, true, IfOk};
+ghost use Rattle.std.specs.Prelude.{◌≡◌, true, map, None, IfOk};
+ghost use Rattle.row_locks.specs.Held.{doubt_on};
+ghost use Rattle.row_locks.specs.Locks.{keys_held};
+ghost use Rattle.sql_check.specs.Words.{first_some};
 ghost use Rattle.sql_eval.specs.Laws.{has_one_key, AreRowsOf};
-ghost use Rattle.stmt_run.specs.Run.{ran_over as ran_over_of};
+ghost use Rattle.sql_eval.specs.Meaning.{examined, meant_over as meant_over_of, written as written_of};
+ghost use Rattle.stmt_run.specs.Run.{ran_checked, ran_over as ran_over_of};
 ghost use Rattle.stmt_run.specs.Sites.{ground_of, HasRoom};
 
 use crate::holders::lock_refusal;
@@ -10,7 +14,7 @@ use crate::space::ran_within;
 use crate::{Ran, Site};
 use dtx_values::{Listing, Table};
 use sql_check::checked;
-use sql_eval::{Meant, meant_over, written};
+use sql_eval::{Meant, fixed_key, meant_over, written};
 use sql_statement::Stmt;
 use std::alloc::{AllocError, Global};
 
@@ -33,16 +37,36 @@ pub fn ran_over(
     if let Some(refusal) = checked(alloc, statement, table)? {
         return Ok(Ran::Refuses(refusal));
     }
-    let sight = Sight::new(alloc, statement, table, site)?;
+    match fixed_key(alloc, statement, table)? {
+        Some(key) => {
+            let sight = Sight::of_key(alloc, statement, table, site, &key)?;
+            ran_seeing(alloc, statement, table, site, &sight)
+        }
+        None => {
+            let all = site.view.all(alloc)?;
+            let sight = Sight::of_all(alloc, statement, table, site, &all)?;
+            ran_seeing(alloc, statement, table, site, &sight)
+        }
+    }
+}
+
+// What a statement that passed the checks does, by what it looks at.
+fn ran_seeing(
+    alloc: Global,
+    statement: &Stmt,
+    table: &Table,
+    site: &Site,
+    sight: &Sight,
+) -> Result<Ran, AllocError>
+    requires in_doubt { sight.now.in_doubt ≡ first_some (map (doubt_on site.now.locks.now table.now.name) (examined statement.now table.now site.now.view (keys_held site.now.locks.now table.now.name))) }
+    requires written { written_of statement.now table.now sight.now.rows.items ≡ written_of statement.now table.now site.now.view }
+    requires meant { meant_over_of statement.now table.now sight.now.rows.items ≡ meant_over_of statement.now table.now site.now.view }
+    ensures ran { IfOk result (λ ran. ran ≡ ran_checked (ground_of site.now) statement.now table.now None) }
+    ensures room { IfOk result (HasRoom site.now.own.now) }
+{
     let rows = sight.rows.as_slice();
     let keys = written(alloc, statement, table, rows)?;
-    let refusal = lock_refusal(
-        alloc,
-        table,
-        site,
-        sight.examined.as_slice(),
-        keys.as_slice(),
-    )?;
+    let refusal = lock_refusal(alloc, table, site, sight.in_doubt, keys.as_slice())?;
     if let Some(refusal) = refusal {
         return Ok(Ran::Refuses(refusal));
     }

@@ -4,7 +4,7 @@ ghost use Rattle.std.specs.List.{All};
 ghost use Rattle.sql_check.specs.Words.{first_some};
 ghost use Rattle.sql_check.specs.Refusals.{else_refuse};
 ghost use Rattle.row_locks.specs.Held.{doubt_on as doubt_on_of, hold_on as hold_on_of};
-ghost use Rattle.stmt_run.specs.Run.{in_doubt_refusal, locked_refusal, take_keys};
+ghost use Rattle.stmt_run.specs.Run.{held_refusal, locked_refusal, take_keys};
 ghost use Rattle.stmt_run.specs.Sites.{ground_of, IsFree};
 
 use crate::Site;
@@ -14,20 +14,18 @@ use row_locks::{LockErr, Locks};
 use std::alloc::{AllocError, Global};
 use tran_ids::BranchId;
 
-/// ORA-01591 for the first of the examined keys that is in doubt, or else ORA-02049 for the first of the written keys that
-/// another live branch holds.
+/// ORA-01591 where a branch in doubt holds an examined key, or else ORA-02049 for the first of the written keys that another
+/// live branch holds.
 pub fn lock_refusal(
     alloc: Global,
     table: &Table,
     site: &Site,
-    examined: &[Value],
+    in_doubt: Option<BranchId>,
     written: &[Value],
 ) -> Result<Option<Refusal>, AllocError>
     ensures { IfOk result (λ refusal.
-        refusal ≡ else_refuse (in_doubt_refusal (ground_of site.now) table.now examined.now)
-        (locked_refusal (ground_of site.now) table.now written.now)) }
+        refusal ≡ else_refuse (held_refusal 1591 in_doubt) (locked_refusal (ground_of site.now) table.now written.now)) }
 {
-    let in_doubt = first_in_doubt(site.locks, &table.name, examined);
     if let Some(refusal) = held(alloc, 1591, in_doubt)? {
         return Ok(Some(refusal));
     }
@@ -77,8 +75,8 @@ fn hold_on(locks: &Locks, me: &BranchId, table: &Name, key: &Value) -> Option<Br
     }
 }
 
-// The branch that holds the first key in doubt.
-fn first_in_doubt(locks: &Locks, table: &Name, keys: &[Value]) -> Option<BranchId>
+/// The branch that holds the first key in doubt.
+pub fn first_in_doubt(locks: &Locks, table: &Name, keys: &[Value]) -> Option<BranchId>
     ensures { result ≡ first_some (map (doubt_on_of locks.now table.now) keys.now) }
 {
     for key in keys {

@@ -1,59 +1,91 @@
 //! What of a table a statement looks at.
-ghost use Rattle.std.specs.Prelude.{◌≡◌, true, IfOk};
+ghost use Rattle.std.specs.Prelude.{◌≡◌, true, map, None, Some, IfOk};
+ghost use Rattle.row_locks.specs.Held.{doubt_on};
 ghost use Rattle.row_locks.specs.Locks.{keys_held};
+ghost use Rattle.sql_check.specs.Words.{first_some};
 ghost use Rattle.sql_eval.specs.Laws.{has_one_key, AreRowsOf};
-ghost use Rattle.sql_eval.specs.Meaning.{examined as examined_of, meant_over as meant_over_of, written as written_of};
+ghost use Rattle.sql_eval.specs.Meaning.{examined as examined_of, fixed_key as fixed_key_of, meant_over as meant_over_of, written as written_of};
 
 use crate::Site;
+use crate::holders::first_in_doubt;
 use dtx_values::{Table, Value};
-use sql_eval::{Keyed, examined, fixed_key};
+use row_store::KeyedRows;
+use sql_eval::{KeyedRef, examined};
 use sql_statement::Stmt;
 use std::alloc::{AllocError, Global};
+use std::slice;
+use tran_ids::BranchId;
 
-/// The rows that a statement depends on, and the keys that it examines.
+/// The rows that a statement depends on, and the branch in doubt that holds the first of the keys that it examines.
 #[derive(Drop)]
-pub struct Sight {
+pub struct Sight<'r> {
     /// Those rows, in the order of their keys.
-    pub rows: Vec<Keyed>,
-    /// Those keys, in order.
-    pub examined: Vec<Value>,
+    pub rows: Vec<KeyedRef<'r>>,
+    /// The holder, where one of those keys is in doubt.
+    pub in_doubt: Option<BranchId>,
 }
 
-impl Sight {
-    /// Of a statement that fixes a key, this key and the row that is there; of any other, all rows that the branch sees, and
-    /// the locked keys too.
-    pub fn new(
+impl<'r> Sight<'r> {
+    /// Of a statement that fixes a key: this key, and the row that is there.
+    pub fn of_key(
         alloc: Global,
         statement: &Stmt,
         table: &Table,
-        site: &Site,
-    ) -> Result<Sight, AllocError>
+        site: &'r Site,
+        key: &'r Value,
+    ) -> Result<Sight<'r>, AllocError>
         requires one_key { has_one_key table.now ≡ true }
         requires rows { AreRowsOf table.now site.now.view }
-        ensures examined { IfOk result (λ sight.
-            sight.examined.items ≡ examined_of statement.now table.now site.now.view (keys_held site.now.locks.now table.now.name)) }
+        requires fixed { fixed_key_of statement.now table.now ≡ Some key.now }
+        ensures in_doubt { IfOk result (λ sight.
+            sight.in_doubt ≡ first_some (map (doubt_on site.now.locks.now table.now.name) (examined_of statement.now table.now site.now.view (keys_held site.now.locks.now table.now.name)))) }
         ensures written { IfOk result (λ sight.
             written_of statement.now table.now sight.rows.items ≡ written_of statement.now table.now site.now.view) }
         ensures meant { IfOk result (λ sight.
             meant_over_of statement.now table.now sight.rows.items ≡ meant_over_of statement.now table.now site.now.view) }
     {
-        match fixed_key(alloc, statement, table)? {
-            Some(key) => Ok(Sight {
-                rows: site.view.at_key(alloc, &key)?,
-                examined: vec![in alloc; key]?,
-            }),
-            None => {
-                let rows = site.view.keyed(alloc)?;
-                let locked = site.locks.keys(alloc, &table.name)?;
-                let examined = examined(
-                    alloc,
-                    statement,
-                    table,
-                    rows.as_slice(),
-                    locked.as_slice(),
-                )?;
-                Ok(Sight { rows, examined })
-            }
-        }
+        Ok(Sight {
+            rows: site.view.at_key(alloc, key)?,
+            in_doubt: first_in_doubt(site.locks, &table.name, slice::from_ref(key)),
+        })
     }
+
+    /// Of any other statement: all rows that the branch sees, and the locked keys too. No key is looked up where none of the
+    /// table is in doubt.
+    pub fn of_all(
+        alloc: Global,
+        statement: &Stmt,
+        table: &Table,
+        site: &Site,
+        all: &'r KeyedRows,
+    ) -> Result<Sight<'r>, AllocError>
+        requires seen { all.now ≡ site.now.view }
+        ensures in_doubt { IfOk result (λ sight.
+            sight.in_doubt ≡ first_some (map (doubt_on site.now.locks.now table.now.name) (examined_of statement.now table.now site.now.view (keys_held site.now.locks.now table.now.name)))) }
+        ensures rows { IfOk result (λ sight. sight.rows.items ≡ site.now.view) }
+    {
+        let rows = all.refs(alloc)?;
+        let in_doubt = examined_in_doubt(alloc, statement, table, site, rows.as_slice())?;
+        Ok(Sight { rows, in_doubt })
+    }
+}
+
+// The branch in doubt that holds the first of the keys that a statement examines.
+#[tactic(auto, using(crate::proofs::Doubts::none_in_doubt))]
+fn examined_in_doubt(
+    alloc: Global,
+    statement: &Stmt,
+    table: &Table,
+    site: &Site,
+    rows: &[KeyedRef],
+) -> Result<Option<BranchId>, AllocError>
+    ensures { IfOk result (λ holder.
+        holder ≡ first_some (map (doubt_on site.now.locks.now table.now.name) (examined_of statement.now table.now rows.now (keys_held site.now.locks.now table.now.name)))) }
+{
+    if !site.locks.has_doubt(&table.name) {
+        return Ok(None);
+    }
+    let locked = site.locks.keys(alloc, &table.name)?;
+    let keys = examined(alloc, statement, table, rows, locked.as_slice())?;
+    Ok(first_in_doubt(site.locks, &table.name, keys.as_slice()))
 }

@@ -1,6 +1,6 @@
 use Rattle.std.proofs.Common.{◌≡◌, ◌++◌}
 use Rattle.row_store.specs.Listed.{rows_of}
-use Rattle.row_store.proofs.keyed_rows.KeyedRows.into_keyed.Given as goal
+use Rattle.row_store.proofs.keyed_rows.KeyedRows.refs.Given as goal
 
 abbrev pub invariant-loop-key : goal.invariant-loop-key
-invariant-loop-key l = l.rows.items ++ rows_of l.key-iterator ≡ l.fn.self
+invariant-loop-key l = l.rows.items ++ rows_of l.key-iterator ≡ l.self

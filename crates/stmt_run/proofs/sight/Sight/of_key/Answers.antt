@@ -1,0 +1,36 @@
+-- The key that is fixed is the one examined key, and what is written and meant depends on the row there alone.
+use Rattle.std.proofs.Common.{List, map, sym, ap, ◌∙◌}
+use Rattle.dtx_values.specs.declared.value.Value.{Value}
+use Rattle.sql_check.specs.Words.{first_some}
+use Rattle.row_locks.specs.Held.{doubt_on}
+use Rattle.row_locks.specs.Locks.{keys_held}
+use Rattle.sql_eval.specs.Meaning.{examined, examined_by, meant_over, written}
+use Rattle.sql_eval.proofs.KeyLaws.{meant_at_key, written_at_key}
+use Rattle.sql_eval.proofs.RowLaws.{rows_are_keyed}
+use Rattle.sql_eval.proofs.TableLaws.{tables_have_one_key}
+use Rattle.stmt_run.proofs.sight.Sight.of_key.Goals as goal
+
+pub returns-clause-in_doubt : goal.returns-clause-in_doubt
+unfolding examined
+returns-clause-in_doubt c =
+    let site = c.args.site.now in
+    let name = c.args.table.now.name in
+    c.first_in_doubt.ensures
+    ∙ ap (λ (keys : List Value). first_some (map (doubt_on site.locks.now name) keys))
+    (c.from_ref.ensures.value ∙ ap (examined_by site.view (keys_held site.locks.now name)) (sym c.requires.fixed))
+
+pub returns-clause-written : goal.returns-clause-written
+returns-clause-written c =
+    let s = c.args.statement.now in
+    let t = c.args.table.now in
+    let rows = c.args.site.now.view in
+    ap (written s t) c.in_ok-at_key.ensures
+    ∙ sym (written_at_key s t rows c.args.key.now (tables_have_one_key t c.requires.one_key) (rows_are_keyed t rows c.requires.rows) c.requires.fixed)
+
+pub returns-clause-meant : goal.returns-clause-meant
+returns-clause-meant c =
+    let s = c.args.statement.now in
+    let t = c.args.table.now in
+    let rows = c.args.site.now.view in
+    ap (meant_over s t) c.in_ok-at_key.ensures
+    ∙ sym (meant_at_key s t rows c.args.key.now (tables_have_one_key t c.requires.one_key) (rows_are_keyed t rows c.requires.rows) c.requires.fixed)
