@@ -14,18 +14,6 @@ pub struct Keyed {
     pub row: Row,
 }
 
-impl Keyed {
-    /// The row and its key where they stand.
-    pub fn refer(&self) -> KeyedRef<'_>
-        ensures { result ≡ self.now }
-    {
-        KeyedRef {
-            key: &self.key,
-            row: &self.row,
-        }
-    }
-}
-
 impl Duplicate for Keyed {
     fn copy(&self, alloc: Global) -> Result<Keyed, AllocError> {
         Ok(Keyed {

@@ -2,18 +2,20 @@
 use crate::given::{is_text, name, text};
 use crate::statements::statement;
 use dtx_values::{Cells, Columns, Row, Table, Value};
-use sql_eval::{Keyed, examined};
+use row_store::KeyedRows;
+use sql_eval::examined;
 use sql_statement::Stmt;
 use std::alloc::{AllocError, Global};
 use token_grammar::ReadErr;
 
-/// A row at a key.
-fn keyed(alloc: Global, key: i64) -> Keyed {
-    let cells = Cells::new(alloc);
-    Keyed {
-        key: Value::Number(key),
-        row: Row { cells },
+/// Rows at 9 and 10.
+fn rows(alloc: Global) -> Result<KeyedRows, AllocError> {
+    let mut rows = KeyedRows::new(alloc);
+    for key in [9, 10] {
+        let cells = Cells::new(alloc);
+        rows.put(Value::Number(key), Row { cells })?;
     }
+    Ok(rows)
 }
 
 /// Keys that are locked, out of their order.
@@ -30,9 +32,8 @@ fn keys_of(alloc: Global, statement: &Stmt) -> Result<Vec<Value>, AllocError> {
         columns: Columns::new(alloc),
     };
     let locked = locked(alloc)?;
-    let (first, second) = (keyed(alloc, 9), keyed(alloc, 10));
-    let view = [first.refer(), second.refer()];
-    examined(alloc, statement, &table, &view, &locked)
+    let rows = rows(alloc)?;
+    examined(alloc, statement, &table, &rows.refs(alloc)?, &locked)
 }
 
 /// Whether these are the keys in their order, each once.
