@@ -1,0 +1,4 @@
+pub mod Statement
+pub mod Answer
+pub mod Kind
+pub mod Message
