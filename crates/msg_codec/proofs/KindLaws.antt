@@ -1,6 +1,6 @@
 -- What the fields of a kind are read as. Each kind but Exec has one spelling: its format is exact. An Exec is read from each
 -- text of its statement: what is read is spelled with the text that is there.
-use Rattle.std.proofs.Common.{◌≡◌, ℕ, Bool, true, false, eqb, List, [], ◌∷◌, ◌++◌, length, Option, Some, refl, sym, ap, subst, ◌∙◌, append_assoc}
+use Rattle.std.proofs.Common.{◌≡◌, ℕ, Bool, true, false, eqb, List, [], ◌++◌, Option, Some, refl, sym, ap, subst, ◌∙◌, append_assoc}
 use Rattle.std.proofs.lemmas.Bool.Decides.{Decides-eqb}
 use Rattle.dtx_values.specs.declared.advice.Advice.{Advice}
 use Rattle.sql_statement.specs.declared.statement.Stmt.{Stmt}
@@ -10,7 +10,7 @@ use Rattle.wire_msg.specs.declared.kind.Kind.{Kind}
 use Rattle.wire_msg.specs.declared.kind.Kind.TheVariants as kinds
 use Rattle.byte_format.specs.Format.{Format, ◌>>=◌, IsBytes, IsFront, IsExact, ReadsAgain}
 use Rattle.byte_format.specs.Number.{empty, number8, number32, number64}
-use Rattle.byte_format.specs.Part.{pair, run, mapped_at}
+use Rattle.byte_format.specs.Part.{pair, run}
 use Rattle.byte_format.specs.Choice.{variant, either, IsChoice}
 use Rattle.byte_format.proofs.NumberLaws.{empty_exact, number8_exact, number16_exact, number32_exact, number64_exact, flag_exact}
 use Rattle.byte_format.proofs.PartLaws.{pair_exact, run_exact, optional_exact}

@@ -1,5 +1,5 @@
 -- Messages are read back, and what is read is what the bytes spell.
-use Rattle.std.proofs.Common.{◌≡◌, ℕ, suc, List, [], ◌∷◌, ◌++◌, Option, Some, None, option_and_then, refl, sym, ap, subst, ◌∙◌}
+use Rattle.std.proofs.Common.{◌≡◌, ℕ, suc, List, [], ◌∷◌, ◌++◌, Option, Some, option_and_then, refl, sym, ap, subst, ◌∙◌}
 use Rattle.std.proofs.lemmas.List.{append-nil}
 use Rattle.tran_ids.specs.declared.branch.BranchId.{BranchId}
 use Rattle.sql_statement.specs.declared.statement.Stmt.{Stmt}
@@ -7,22 +7,18 @@ use Rattle.sql_print.specs.Printing.{printed}
 use Rattle.wire_msg.specs.declared.kind.Kind.{Kind}
 use Rattle.wire_msg.specs.declared.kind.Kind.TheVariants as kinds
 use Rattle.wire_msg.specs.declared.msg.Msg.{Msg}
-use Rattle.byte_format.specs.Format.{◌>>=◌, IsBytes, IsFront, IsSpelling, IsExact, ReadsAgain}
+use Rattle.byte_format.specs.Format.{◌>>=◌, IsBytes, IsFront, IsExact, ReadsAgain}
 use Rattle.byte_format.proofs.NumberLaws.{number64_exact}
 use Rattle.byte_format.specs.Part.{pair_at}
 use Rattle.byte_format.proofs.PartLaws.{pair_exact}
 use Rattle.byte_format.proofs.Steps.{bind_some, some_is, IsBytes-rest}
 use Rattle.field_codec.proofs.FieldLaws.{branch_exact}
 use Rattle.msg_codec.specs.Kind.{kind_byte, kinds_as}
-use Rattle.msg_codec.specs.Message.{head_format, body_as, msg_as, msg_format, HasSpelling, IsMessage, alone, message_of}
+use Rattle.msg_codec.specs.Message.{head_format, body_as, message, msg_as, msg_format, HasSpelling, IsMessage, alone, message_of}
 use Rattle.msg_codec.proofs.KindLaws.{pair_front, pair_again, kind_again, kind_takes, kinds_alike}
 
 head_exact : IsExact head_format
 head_exact = pair_exact _ _ branch_exact (pair_exact _ _ branch_exact number64_exact)
-
--- the message of a head and what it says
-abbrev message : (BranchId × (BranchId × ℕ)) × Kind → Msg
-message v = record { from = v.0.0; to = v.0.1.0; scn = v.0.1.1; kind = v.1 }
 
 -- whichever text its statement is written as, a message is read alike
 alike : (text_of other : Stmt → List ℕ) (bytes : List ℕ) → (msg_as text_of).read bytes ≡ (msg_as other).read bytes
