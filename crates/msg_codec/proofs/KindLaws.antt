@@ -122,17 +122,7 @@ kind_again text_of (kinds.Exec call room advice s) = exec_kind_again text_of ((c
 kind_again text_of (kinds.Reply call weight count result) = reads_made (λ x. kinds.Reply x.0 x.1.0 x.1.1.0 x.1.1.1) reply_of reply_format reply_exact (λ x. refl) (call, (weight, (count, result)))
 kind_again text_of (kinds.Prepare site_below comment) = reads_made (λ x. kinds.Prepare x.0 x.1) prepare_of prepare_format prepare_exact (λ x. refl) (site_below, comment)
 kind_again text_of (kinds.Committed scn) = reads_made kinds.Committed committed_of number64 number64_exact (λ x. refl) scn
-kind_again text_of kinds.Prepared = λ rest fits. refl
-kind_again text_of kinds.ReadOnly = λ rest fits. refl
-kind_again text_of kinds.Ready = λ rest fits. refl
-kind_again text_of kinds.Abort = λ rest fits. refl
-kind_again text_of kinds.CommitPoint = λ rest fits. refl
-kind_again text_of kinds.RolledBack = λ rest fits. refl
-kind_again text_of kinds.InDoubt = λ rest fits. refl
-kind_again text_of kinds.Ack = λ rest fits. refl
-kind_again text_of kinds.Forgotten = λ rest fits. refl
-kind_again text_of kinds.Rollback = λ rest fits. refl
-kind_again text_of kinds.Ask = λ rest fits. refl
+kind_again text_of _ = λ rest fits. refl
 
 -- what was read of this kind is spelled with some text, and is of that kind
 abbrev pub KindFront : ℕ → List ℕ → Kind × List ℕ → Type 0

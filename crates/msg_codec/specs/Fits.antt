@@ -32,3 +32,8 @@ KindFits (kinds.Exec call room advice s) = (statement_as printed).Fits s
 KindFits (kinds.Reply call weight count result) = AnswerFits result
 KindFits (kinds.Prepare site_below comment) = comment_format.Fits comment
 KindFits _ = ⊤
+
+-- if there is a statement, four bytes are enough to count the bytes of its printed text
+abbrev pub IsShort : Kind → Type 0
+IsShort (kinds.Exec call room advice s) = length (printed s) < 2 ^ 32
+IsShort _ = ⊤

@@ -21,6 +21,6 @@ mod whole;
 mod wire_err;
 
 pub use fits::message_fits;
-pub use laws::messages_are_read;
+pub use laws::{messages_are_read, read_messages_fit};
 pub use whole::{decode_msg, encode_msg};
 pub use wire_err::WireErr;
