@@ -1,6 +1,6 @@
 -- What the fields of a kind are read as. Each kind but Exec has one spelling: its format is exact. An Exec is read from each
 -- text of its statement: what is read is spelled with the text that is there.
-use Rattle.std.proofs.Common.{◌≡◌, ℕ, Bool, true, false, eqb, List, [], ◌∷◌, ◌++◌, length, Option, Some, refl, sym, ap, subst, ◌∙◌, append_assoc}
+use Rattle.std.proofs.Common.{◌≡◌, ℕ, Bool, true, false, eqb, List, [], ◌++◌, Option, Some, refl, sym, ap, subst, ◌∙◌, append_assoc}
 use Rattle.std.proofs.lemmas.Bool.Decides.{Decides-eqb}
 use Rattle.dtx_values.specs.declared.advice.Advice.{Advice}
 use Rattle.sql_statement.specs.declared.statement.Stmt.{Stmt}
@@ -10,7 +10,7 @@ use Rattle.wire_msg.specs.declared.kind.Kind.{Kind}
 use Rattle.wire_msg.specs.declared.kind.Kind.TheVariants as kinds
 use Rattle.byte_format.specs.Format.{Format, ◌>>=◌, IsBytes, IsFront, IsExact, ReadsAgain}
 use Rattle.byte_format.specs.Number.{empty, number8, number32, number64}
-use Rattle.byte_format.specs.Part.{pair, run, mapped_at}
+use Rattle.byte_format.specs.Part.{pair, run}
 use Rattle.byte_format.specs.Choice.{variant, either, IsChoice}
 use Rattle.byte_format.proofs.NumberLaws.{empty_exact, number8_exact, number16_exact, number32_exact, number64_exact, flag_exact}
 use Rattle.byte_format.proofs.PartLaws.{pair_exact, run_exact, optional_exact}
@@ -122,17 +122,7 @@ kind_again text_of (kinds.Exec call room advice s) = exec_kind_again text_of ((c
 kind_again text_of (kinds.Reply call weight count result) = reads_made (λ x. kinds.Reply x.0 x.1.0 x.1.1.0 x.1.1.1) reply_of reply_format reply_exact (λ x. refl) (call, (weight, (count, result)))
 kind_again text_of (kinds.Prepare site_below comment) = reads_made (λ x. kinds.Prepare x.0 x.1) prepare_of prepare_format prepare_exact (λ x. refl) (site_below, comment)
 kind_again text_of (kinds.Committed scn) = reads_made kinds.Committed committed_of number64 number64_exact (λ x. refl) scn
-kind_again text_of kinds.Prepared = λ rest fits. refl
-kind_again text_of kinds.ReadOnly = λ rest fits. refl
-kind_again text_of kinds.Ready = λ rest fits. refl
-kind_again text_of kinds.Abort = λ rest fits. refl
-kind_again text_of kinds.CommitPoint = λ rest fits. refl
-kind_again text_of kinds.RolledBack = λ rest fits. refl
-kind_again text_of kinds.InDoubt = λ rest fits. refl
-kind_again text_of kinds.Ack = λ rest fits. refl
-kind_again text_of kinds.Forgotten = λ rest fits. refl
-kind_again text_of kinds.Rollback = λ rest fits. refl
-kind_again text_of kinds.Ask = λ rest fits. refl
+kind_again text_of _ = λ rest fits. refl
 
 -- what was read of this kind is spelled with some text, and is of that kind
 abbrev pub KindFront : ℕ → List ℕ → Kind × List ℕ → Type 0

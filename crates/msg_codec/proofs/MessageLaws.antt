@@ -1,28 +1,26 @@
 -- Messages are read back, and what is read is what the bytes spell.
-use Rattle.std.proofs.Common.{◌≡◌, ℕ, suc, List, [], ◌∷◌, ◌++◌, Option, Some, None, option_and_then, refl, sym, ap, subst, ◌∙◌}
+use Rattle.std.proofs.Common.{◌≡◌, ℕ, suc, List, [], ◌∷◌, ◌++◌, Option, Some, option_and_then, refl, sym, ap, subst, ◌∙◌}
 use Rattle.std.proofs.lemmas.List.{append-nil}
 use Rattle.tran_ids.specs.declared.branch.BranchId.{BranchId}
 use Rattle.sql_statement.specs.declared.statement.Stmt.{Stmt}
 use Rattle.sql_print.specs.Printing.{printed}
+use Rattle.sql_print.proofs.RoundTrip.{printed_again}
 use Rattle.wire_msg.specs.declared.kind.Kind.{Kind}
 use Rattle.wire_msg.specs.declared.kind.Kind.TheVariants as kinds
 use Rattle.wire_msg.specs.declared.msg.Msg.{Msg}
-use Rattle.byte_format.specs.Format.{◌>>=◌, IsBytes, IsFront, IsSpelling, IsExact, ReadsAgain}
+use Rattle.byte_format.specs.Format.{◌>>=◌, IsBytes, IsFront, IsExact, ReadsAgain}
 use Rattle.byte_format.proofs.NumberLaws.{number64_exact}
 use Rattle.byte_format.specs.Part.{pair_at}
 use Rattle.byte_format.proofs.PartLaws.{pair_exact}
 use Rattle.byte_format.proofs.Steps.{bind_some, some_is, IsBytes-rest}
 use Rattle.field_codec.proofs.FieldLaws.{branch_exact}
 use Rattle.msg_codec.specs.Kind.{kind_byte, kinds_as}
-use Rattle.msg_codec.specs.Message.{head_format, body_as, msg_as, msg_format, HasSpelling, IsMessage, alone, message_of}
+use Rattle.msg_codec.specs.Message.{head_format, body_as, message, msg_as, msg_format, HasSpelling, IsMessage, alone, message_of}
+use Rattle.msg_codec.specs.Fits.{IsShort}
 use Rattle.msg_codec.proofs.KindLaws.{pair_front, pair_again, kind_again, kind_takes, kinds_alike}
 
 head_exact : IsExact head_format
 head_exact = pair_exact _ _ branch_exact (pair_exact _ _ branch_exact number64_exact)
-
--- the message of a head and what it says
-abbrev message : (BranchId × (BranchId × ℕ)) × Kind → Msg
-message v = record { from = v.0.0; to = v.0.1.0; scn = v.0.1.1; kind = v.1 }
 
 -- whichever text its statement is written as, a message is read alike
 alike : (text_of other : Stmt → List ℕ) (bytes : List ℕ) → (msg_as text_of).read bytes ≡ (msg_as other).read bytes
@@ -107,22 +105,7 @@ printed_text _ = []
 written_kind : (k : Kind) → (kinds_as printed (kind_byte k)).Fits k → (kinds_as (λ s. printed_text k) (kind_byte k)).Fits k × ((kinds_as (λ s. printed_text k) (kind_byte k)).text k ≡ (kinds_as printed (kind_byte k)).text k)
 unfolding printed_text
 written_kind (kinds.Exec call room advice s) fits = (fits, refl)
-written_kind (kinds.Open edge root depth) fits = (fits, refl)
-written_kind (kinds.Opened edge strength) fits = (fits, refl)
-written_kind (kinds.Reply call weight count result) fits = (fits, refl)
-written_kind (kinds.Prepare site_below comment) fits = (fits, refl)
-written_kind (kinds.Committed scn) fits = (fits, refl)
-written_kind kinds.Prepared fits = (fits, refl)
-written_kind kinds.ReadOnly fits = (fits, refl)
-written_kind kinds.Ready fits = (fits, refl)
-written_kind kinds.Abort fits = (fits, refl)
-written_kind kinds.CommitPoint fits = (fits, refl)
-written_kind kinds.RolledBack fits = (fits, refl)
-written_kind kinds.InDoubt fits = (fits, refl)
-written_kind kinds.Ack fits = (fits, refl)
-written_kind kinds.Forgotten fits = (fits, refl)
-written_kind kinds.Rollback fits = (fits, refl)
-written_kind kinds.Ask fits = (fits, refl)
+written_kind _ fits = (fits, refl)
 
 -- what is written of a message spells it
 pub message_is_written : (m : Msg) → HasSpelling m → IsMessage m (msg_format.text m)
@@ -143,3 +126,14 @@ message_again m fits = message_is_found (msg_format.text m) m (message_is_writte
 -- different messages are written differently
 pub written_once : (a b : Msg) → HasSpelling a → HasSpelling b → msg_format.text a ≡ msg_format.text b → a ≡ b
 written_once a b p q e = some_is a b (sym (message_again a p) ∙ ap message_of e ∙ message_again b q)
+
+-- ---- what is read and sent on
+
+-- what was read has a spelling with the printed text of its statement, if that is not too long
+printed_kind : (text : List ℕ) (k : Kind) → (kinds_as (λ s. text) (kind_byte k)).Fits k → IsShort k → (kinds_as printed (kind_byte k)).Fits k
+printed_kind text (kinds.Exec call room advice s) fits short = (fits.0, (short, printed_again text s fits.1.1))
+printed_kind text _ fits short = fits
+
+pub read_message_fits : (bytes : List ℕ) (m : Msg) → IsMessage m bytes → IsShort m.kind → HasSpelling m
+unfolding msg_format
+read_message_fits bytes m h short = (h.1.fits.0, printed_kind h.0 m.kind h.1.fits.1 short)

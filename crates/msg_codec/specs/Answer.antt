@@ -4,7 +4,6 @@
 --   done    = 1 for rows that were created, 2 for updated, 3 for deleted
 --   heads, rows, arguments = a count of four bytes, and so many; heads and arguments are texts of UTF-8
 use Rattle.std.specs.Prelude.{ℕ, List, Option, Some, None, ⊤}
-use Rattle.dtx_values.specs.declared.row.Row.{Row}
 use Rattle.dtx_values.specs.declared.answer.Done.{Done}
 use Rattle.dtx_values.specs.declared.answer.Done.TheVariants as dones
 use Rattle.dtx_values.specs.declared.answer.RowSet.{RowSet}

@@ -2,3 +2,4 @@ pub mod Statement
 pub mod Answer
 pub mod Kind
 pub mod Message
+pub mod Fits

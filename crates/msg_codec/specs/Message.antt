@@ -24,10 +24,13 @@ head_format = pair branch_format (pair branch_format number64)
 abbrev pub body_as : (Stmt → List ℕ) → ℕ → Format ((BranchId × (BranchId × ℕ)) × Kind)
 body_as text_of k = pair head_format (kinds_as text_of k)
 
+-- the message with this head that says this
+abbrev pub message : (BranchId × (BranchId × ℕ)) × Kind → Msg
+message x = record { from = x.0.0; to = x.0.1.0; scn = x.0.1.1; kind = x.1 }
+
 -- a message whose statement, if it has one, is written as the text that `text_of` gives
 abbrev pub msg_as : (Stmt → List ℕ) → Format Msg
-msg_as text_of = mapped
-    (λ x. record { from = x.0.0; to = x.0.1.0; scn = x.0.1.1; kind = x.1 })
+msg_as text_of = mapped message
     (λ m. ((m.from, (m.to, m.scn)), m.kind))
     (choice (λ x. kind_byte x.1) (body_as text_of))
 

@@ -1,8 +1,9 @@
-//! What holds of messages and bytes. The function does nothing: its contract is the theorem.
+//! What holds of messages and bytes. These functions do nothing: their contracts are the theorems.
 ghost use Rattle.std.specs.Prelude.{◌≡◌, ℕ, List, Some};
 ghost use Rattle.byte_format.specs.Format.{IsBytes};
 ghost use Rattle.wire_msg.specs.declared.msg.Msg.{Msg};
 ghost use Rattle.msg_codec.specs.Message.{msg_format, HasSpelling, IsMessage, message_of};
+ghost use Rattle.msg_codec.specs.Fits.{IsShort};
 
 /// Each message with a spelling is read back; what is read is what the bytes spell; and no bytes spell two messages.
 pub fn messages_are_read()
@@ -18,4 +19,9 @@ pub fn messages_are_read()
     ensures one { (bytes : List ℕ) (a b : Msg) → IsMessage a bytes → IsMessage b bytes → a ≡ b }
     // and different messages are written differently.
     ensures differ { (a b : Msg) → HasSpelling a → HasSpelling b → msg_format.text a ≡ msg_format.text b → a ≡ b }
+{}
+
+/// A message that was read has a spelling, so that it can be sent on, if the printed text of its statement is not too long.
+pub fn read_messages_fit()
+    ensures { (bytes : List ℕ) (m : Msg) → IsMessage m bytes → IsShort m.kind → HasSpelling m }
 {}
