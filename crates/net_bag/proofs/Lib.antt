@@ -1,2 +1,3 @@
-pub mod FlightLemmas
-pub mod OrderLemmas
+mod FlightLemmas
+mod OrderLemmas
+pub mod SentLemmas
