@@ -168,7 +168,7 @@ impl Bag {
     {
         let numbers = self.flights.on_route(alloc, Route::Over(a, b))?;
         self.cuts.push_front((a, b))?;
-        self.flights.lose(numbers.as_slice(), Route::Over(a, b));
+        self.flights.lose(numbers.as_slice());
         Ok(numbers)
     }
 
@@ -190,7 +190,7 @@ impl Bag {
     {
         let numbers = self.flights.on_route(alloc, Route::To(node))?;
         self.down.push_front(node)?;
-        self.flights.lose(numbers.as_slice(), Route::To(node));
+        self.flights.lose(numbers.as_slice());
         Ok(numbers)
     }
 

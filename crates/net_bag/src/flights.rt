@@ -1,12 +1,12 @@
 //! The messages of a run by number, and which of them are in flight.
-ghost use Rattle.std.specs.Prelude.{◌≡◌, ◌+◌, ◌++◌, ◌∷◌, [], ◌&&◌, false, if◌then◌else◌, length, map, fold, position, option_copied, option_map, IfOk, OnOk, OnErr};
+ghost use Rattle.std.specs.Prelude.{◌≡◌, ◌+◌, ◌++◌, ◌∷◌, [], ◌&&◌, false, if◌then◌else◌, length, fold, position, option_copied, option_map, IfOk, OnOk, OnErr};
 ghost use Rattle.std.specs.BTreeSet.{insert_key};
 ghost use Rattle.std.specs.Ordering.{nat_cmp};
 ghost use Rattle.tran_ids.specs.Listed.{numbered as numbered_in};
 ghost use Rattle.net_bag.specs.declared.packet.Fate.TheVariants as fates;
 ghost use Rattle.net_bag.specs.Net.{flies, is_flying, fated, is_flying_at, numbers_where};
 ghost use Rattle.net_bag.specs.Numbered.{flying_numbers, lines_at, met_at, passes_at};
-ghost use Rattle.net_bag.specs.Route.{lost_along, takes};
+ghost use Rattle.net_bag.specs.Route.{takes};
 ghost use Rattle.net_bag.specs.Texts.{flying_lines};
 
 use crate::Fate;
@@ -118,15 +118,8 @@ impl Flights {
         Ok(Listing::of(numbers))
     }
 
-    /// Those in flight on a route are lost, where these are their numbers.
-    pub(crate) fn lose(&mut self, numbers: &[u64], route: Route)
-        requires { numbers.now ≡ numbers_where (λ x. flies x && takes route x) 1 self.old }
-        ensures { self.new ≡ map (lost_along route) self.old }
-    {
-        self.lose_each(numbers);
-    }
-
-    fn lose_each(&mut self, numbers: &[u64])
+    /// Those of these numbers that are in flight are lost.
+    pub(crate) fn lose(&mut self, numbers: &[u64])
         ensures { self.new ≡ fold (met_at fates.Lost) self.old numbers.now }
     {
         for number in numbers {
