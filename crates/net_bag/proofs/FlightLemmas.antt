@@ -1,23 +1,23 @@
 -- The numbers of the messages in flight: what they are after a message is sent, after one meets its fate, and after all on a
 -- route are lost.
-use Rattle.std.proofs.Common.{◌≡◌, ◌≢◌, ◌<◌, ◌≤◌, ◌+◌, ◌==◌, ◌&&◌, ◌||◌, ℕ, zero, suc, Bool, true, false, not, cond, nat_lt, if◌then◌else◌, List, [], ◌∷◌, ◌++◌, map, filter, fold, length, Option, Some, None, Bor, ◌↔◌, slice_get, get_or, refl, sym, ap, subst, ◌∙◌, true≢false, arith}
+use Rattle.std.proofs.Common.{◌≡◌, ◌≢◌, ◌<◌, ◌≤◌, ◌+◌, ◌==◌, ◌&&◌, ℕ, zero, suc, Bool, true, false, not, cond, nat_lt, List, [], ◌∷◌, ◌++◌, map, filter, fold, length, Option, Some, None, Bor, ◌↔◌, slice_get, get_or, refl, sym, ap, subst, ◌∙◌, true≢false, arith}
 use Rattle.std.proofs.Math.ListN.{set}
 use Rattle.std.proofs.lemmas.Bool.Decides.{nat_tests}
 use Rattle.std.specs.BTreeMap.{is_at}
 use Rattle.std.specs.BTreeSet.{insert_key}
 use Rattle.std.specs.Cmp.{ranks}
-use Rattle.std.specs.List.{flat_map, list_any, position, position_or_len}
+use Rattle.std.specs.List.{flat_map, position, position_or_len}
 use Rattle.std.specs.Option.{IfSome, IsSome, option_copied, option_map}
 use Rattle.std.specs.declared.cmp.Ordering.{Ordering}
 use Rattle.std.specs.declared.cmp.Ordering.TheVariants.{Less, Equal, Greater}
 use Rattle.std.specs.Ordering.{MatchOrdering, is_eq, match_ordering, nat_cmp}
 use Rattle.std.specs.Set.{remove_key}
-use Rattle.tran_ids.specs.Listed.{numbered, set_numbered}
+use Rattle.tran_ids.specs.Listed.{numbered}
 use Rattle.net_bag.specs.declared.packet.Fate.{Fate}
 use Rattle.net_bag.specs.declared.packet.Fate.TheVariants as fates
 use Rattle.net_bag.specs.declared.packet.Packet.{Packet}
 use Rattle.net_bag.specs.declared.route.Route.{Route}
-use Rattle.net_bag.specs.Net.{fated, flies, is_flying, is_flying_at, numbers_where, packet, with_fate}
+use Rattle.net_bag.specs.Net.{fated, flies, is_flying, numbers_where, packet, with_fate}
 use Rattle.net_bag.specs.Numbered.{flying_numbers, lines_at, met_at, passes_at}
 use Rattle.net_bag.specs.Route.{lost_along, takes}
 use Rattle.net_bag.specs.Texts.{flying_lines, packet_text}
@@ -42,37 +42,6 @@ greater_by Greater a b h lt = refl
 
 greater : (a b : ℕ) → b < a → nat_cmp a b ≡ Greater
 greater a b lt = greater_by (nat_cmp a b) a b (ranks a b) lt
-
--- ---- numbers in flight, from a first number on
-
-flying_from : ℕ → List Packet → List ℕ
-flying_from = numbers_where flies
-
-any_step : (p : ℕ → Bool) (b : Bool) (s : ℕ) (ns : List ℕ) → p s ≡ false → list_any p ns ≡ false → list_any p (cond b (s ∷ ns) ns) ≡ false
-any_step p true s ns e h = ap (λ v. v || list_any p ns) e ∙ h
-any_step p false s ns e h = h
-
--- a lower number is not among them
-below_is_absent : (k s : ℕ) (xs : List Packet) → k < s → list_any (is_at (nat_cmp k)) (numbers_where flies s xs) ≡ false
-below_is_absent k s [] lt = refl
-below_is_absent k s (x ∷ xs) lt =
-    any_step (is_at (nat_cmp k)) (flies x) s (numbers_where flies (s + 1) xs) (misses k s (λ e. omega arith)) (below_is_absent k (s + 1) xs (omega arith))
-
-here_step : (p : ℕ → Bool) (b : Bool) (s : ℕ) (ns : List ℕ) → p s ≡ true → list_any p ns ≡ false → list_any p (cond b (s ∷ ns) ns) ≡ b
-here_step p true s ns e h = ap (λ v. v || list_any p ns) e
-here_step p false s ns e h = h
-
-later_step : (p : ℕ → Bool) (b c : Bool) (s : ℕ) (ns : List ℕ) → p s ≡ false → list_any p ns ≡ c → list_any p (cond b (s ∷ ns) ns) ≡ c
-later_step p true c s ns e h = ap (λ v. v || list_any p ns) e ∙ h
-later_step p false c s ns e h = h
-
--- a number is among them exactly where its message is in flight
-present : (k s i : ℕ) (xs : List Packet) → k ≡ s + i → list_any (is_at (nat_cmp k)) (numbers_where flies s xs) ≡ is_flying_at (slice_get xs i)
-present k s i [] e = refl
-present k s zero (x ∷ xs) e =
-    here_step (is_at (nat_cmp k)) (flies x) s (numbers_where flies (s + 1) xs) (hits k s (omega arith)) (below_is_absent k (s + 1) xs (omega arith))
-present k s (suc i) (x ∷ xs) e =
-    later_step (is_at (nat_cmp k)) (flies x) (is_flying_at (slice_get xs i)) s (numbers_where flies (s + 1) xs) (misses k s (λ h. omega arith)) (present k (s + 1) i xs (omega arith))
 
 -- ---- a message meets its fate
 
@@ -129,12 +98,6 @@ pub gone : (fate : Fate) (xs : List Packet) (k : ℕ) → is_flying fate ≡ fal
 unfolding flying_numbers met_at
 gone fate xs zero h = below_is_no_loss 0 1 xs (omega arith)
 gone fate xs (suc i) h = gone_from fate (suc i) 1 i xs (omega arith) h ∙ ap (numbers_where flies 1) (sym (place_of_number fate xs i))
-
--- a number is among them exactly where its message is in flight
-pub is_among : (xs : List Packet) (k : ℕ) → list_any (is_at (nat_cmp k)) (flying_numbers xs) ≡ is_flying_at (numbered xs k)
-unfolding flying_numbers
-is_among xs zero = below_is_absent 0 1 xs (omega arith)
-is_among xs (suc i) = present (suc i) 1 i xs (omega arith)
 
 found_at : (xs : List Packet) (i : ℕ) (d : Packet) → i < length xs → slice_get xs i ≡ Some (get_or xs i d)
 found_at [] i d lt = absurd (omega arith)

@@ -1,5 +1,5 @@
 -- The earliest order that fits is the one at the first place that fits.
-use Rattle.std.proofs.Common.{◌≡◌, ◌<◌, ◌≤◌, ◌+◌, ℕ, zero, suc, Bool, true, false, not, cond, List, [], ◌∷◌, length, refl, sym, ap, ◌∙◌, arith}
+use Rattle.std.proofs.Common.{◌≡◌, ◌<◌, ◌≤◌, ◌+◌, ℕ, zero, suc, Bool, true, false, not, cond, List, [], ◌∷◌, length, refl, ap, arith}
 use Rattle.std.specs.List.{position_or_len, remove}
 use Rattle.wire_msg.specs.declared.msg.Msg.{Msg}
 use Rattle.net_bag.specs.Net.{Order, is_order_for, use_order}

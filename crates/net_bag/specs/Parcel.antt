@@ -1,5 +1,5 @@
 -- A message as it is kept: its bytes, with what has to be known of it at hand.
-use Rattle.std.specs.Prelude.{◌≡◌, ℕ, List, [], Option, Some, None, unwrap_or}
+use Rattle.std.specs.Prelude.{◌≡◌, ℕ, List, Some, unwrap_or}
 use Rattle.tran_ids.specs.declared.branch.BranchId.{BranchId}
 use Rattle.wire_msg.specs.declared.kind.Kind.TheVariants as kinds
 use Rattle.wire_msg.specs.declared.kind.KindName.{KindName}
