@@ -1,0 +1,3 @@
+mod AnswerLaws
+mod KindLaws
+pub mod MessageLaws

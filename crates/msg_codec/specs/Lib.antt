@@ -1,0 +1,5 @@
+pub mod Statement
+pub mod Answer
+pub mod Kind
+pub mod Message
+pub mod Fits

@@ -1,0 +1,3 @@
+mod FlightLemmas
+mod OrderLemmas
+pub mod SentLemmas
