@@ -5,3 +5,5 @@ mod Lookups
 mod Applied
 mod Places
 mod Named
+mod PlaceLaws
+mod MadeLaws

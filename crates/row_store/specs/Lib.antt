@@ -4,3 +4,5 @@ pub mod Own
 pub mod Kept
 pub mod Named
 pub mod Pending
+pub mod Places
+pub mod Made

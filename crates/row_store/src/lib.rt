@@ -12,8 +12,10 @@
 mod changed_key;
 mod keyed_rows;
 mod lengths;
+mod made;
 mod own_changes;
 mod pending;
+mod row_places;
 mod tables;
 mod view;
 
