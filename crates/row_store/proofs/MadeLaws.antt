@@ -1,15 +1,16 @@
 -- Changes that were made: one more, and the last one taken back.
-use Rattle.std.proofs.Common.{◌≡◌, ℕ, ◌+◌, ◌-◌, ◌<◌, ◌≤◌, zero, suc, Bool, true, false, cond, ◌&&◌, List, [], ◌∷◌, ◌++◌, length, map, slice_get, None, Some, Option, refl, sym, ap, subst, ◌∙◌, arith, append_assoc, length-append, zero-add}
+use Rattle.std.proofs.Common.{◌≡◌, ℕ, ◌+◌, ◌-◌, ◌<◌, ◌≤◌, zero, suc, Bool, true, false, cond, ◌&&◌, List, [], ◌∷◌, ◌++◌, length, map, get_or, position, slice_get, None, Some, Option, is_some, refl, sym, ap, subst, ◌∙◌, arith, append_assoc, length-append, zero-add}
 use Rattle.std.proofs.lemmas.List.{map-append, same_from_push}
 use Rattle.std.proofs.lemmas.List.Sums.{sum_by_push}
 use Rattle.std.proofs.lemmas.Bool.{and_parts}
 use Rattle.std.specs.Cmp.Lexicographic.{bytes_decides}
 use Rattle.std.specs.Map.{lookup, keys_of}
-use Rattle.std_collections.proofs.HashLookup.{IsFirst}
+use Rattle.std.proofs.lemmas.List.Quantifiers.{position-Some}
+use Rattle.std.proofs.lemmas.Option.{slice_get-get_or}
 use Rattle.dtx_values.specs.declared.value.Value.{Value}
 use Rattle.dtx_values.specs.declared.row.Change.{Change}
 use Rattle.dtx_values.specs.Order.{same_value}
-use Rattle.dtx_values.proofs.ValueOrder.{equal_from_same}
+use Rattle.dtx_values.proofs.ValueOrder.{equal_from_same, same_from_equal}
 use Rattle.sql_check.specs.Words.{same_text}
 use Rattle.sql_eval.specs.Rows.{change_length}
 use Rattle.row_store.specs.declared.changed_key.ChangedKey.{ChangedKey}
@@ -19,11 +20,25 @@ use Rattle.row_store.specs.Kept.{place_at, last_place}
 use Rattle.row_store.specs.Made.{changes_in, undone, undo_in, earlier_from, AreIndexed}
 use Rattle.row_store.proofs.Places.{last_place_push}
 
+key_at : {K : Type 0} (es : List (K × ℕ)) (i : ℕ) (d : K) → get_or (keys_of es) i d ≡ (get_or es i (d, 0)).0
+key_at [] i d = refl
+key_at (e ∷ es) zero d = refl
+key_at (e ∷ es) (suc i) d = key_at es i d
+
+keys_long : {K : Type 0} (es : List (K × ℕ)) → length (keys_of es) ≡ length es
+keys_long [] = refl
+keys_long (e ∷ es) = ap suc (keys_long es)
+
 -- the first entry that passes a test
-pub first_entry : {K X : Type 0} (t : K → Bool) (es : List (K × X)) (i : ℕ) → IsFirst t es i → (e : K × X) × (slice_get es i ≡ Some e) × (t e.0 ≡ true)
-first_entry t [] i first = absurd first
-first_entry t (e ∷ es) zero first = (e, refl, first)
-first_entry t (e ∷ es) (suc i) first = first_entry t es i first.1
+pub first_entry : {K : Type 0} (t : K → Bool) (es : List (K × ℕ)) (i : ℕ) (d : K) → position t (keys_of es) ≡ Some i
+    → (slice_get es i ≡ Some (get_or es i (d, 0))) × (t (get_or es i (d, 0)).0 ≡ true)
+first_entry t es i d at =
+    let h = position-Some t (keys_of es) i d at in
+    (slice_get-get_or es i (d, 0) (subst (λ n. i < n) (keys_long es) h.0), ap t (sym (key_at es i d)) ∙ h.1)
+
+pub changes_long : (ms : List Made) → length (changes_in ms) ≡ length ms
+changes_long [] = refl
+changes_long (m ∷ ms) = ap suc (changes_long ms)
 
 -- ---- one more change
 
@@ -56,13 +71,13 @@ module _ (ms : List Made) (m : Made) where
   pub made_more : (es fs : List (ChangedKey × ℕ)) (earlier more : List (Option ℕ)) (last : Option ℕ) (bytes undo bytes_more undo_more : ℕ) → AreIndexed es earlier ms bytes undo
       → ((table : List ℕ) (key : Value) → place_at fs table key ≡ last_place 0 (changes_in ms ++ m.change ∷ []) table key None)
       → last ≡ last_place 0 (changes_in ms) m.change.table m.change.key None → more ≡ earlier ++ last ∷ []
-      → bytes_more ≡ bytes + change_length m.change → undo_more ≡ undo + change_length (undone m) → AreIndexed fs more (ms ++ m ∷ []) bytes_more undo_more
+      → bytes_more ≡ changes_length (changes_in ms) + change_length m.change → undo_more ≡ changes_length (undo_in ms) + change_length (undone m) → AreIndexed fs more (ms ++ m ∷ []) bytes_more undo_more
   made_more es fs earlier more last bytes undo bytes_more undo_more are indexed last_is more_is bytes_is undo_is = record {
     indexed = λ table key. indexed table key ∙ ap (λ ds. last_place 0 ds table key None) (sym changes_push);
     linked =
       more_is ∙ (λ i. are.linked i ++ last_is i ∷ []) ∙ sym (earlier_push [] (changes_in ms) m.change) ∙ ap (earlier_from []) (sym changes_push);
-    counted = bytes_is ∙ ap (λ n. n + change_length m.change) are.counted ∙ sym bytes_push;
-    undo_counted = undo_is ∙ ap (λ n. n + change_length (undone m)) are.undo_counted ∙ sym undo_bytes_push;
+    counted = bytes_is ∙ sym bytes_push;
+    undo_counted = undo_is ∙ sym undo_bytes_push;
   }
 
   -- ---- the last change taken back
@@ -74,8 +89,20 @@ module _ (ms : List Made) (m : Made) where
         are.indexed m.change.table m.change.key ∙ ap (λ ds. last_place 0 ds m.change.table m.change.key None) changes_push
         ∙ last_place_push m.change.table m.change.key m.change 0 (changes_in ms) None
 
+    placed_itself : is_change_of m.change.table m.change.key m.change ≡ true
+    placed_itself = (λ i. (bytes_decides m.change.table m.change.table).1 refl i && same_from_equal m.change.key m.change.key refl i)
+
+    pub is_placed : is_some (place_at es m.change.table m.change.key) ≡ true
+    is_placed = ap is_some last_placed ∙ ap (λ b. is_some (cond b (Some (0 + length (changes_in ms))) (last_place 0 (changes_in ms) m.change.table m.change.key None))) placed_itself
+
     earlier_is : earlier ≡ earlier_from [] (changes_in ms) ++ last_place 0 (changes_in ms) m.change.table m.change.key None ∷ []
     earlier_is = are.linked ∙ ap (earlier_from []) changes_push ∙ earlier_push [] (changes_in ms) m.change
+
+    -- and the change has an earlier place, or none, that is kept
+    pub has_earlier : 0 < length earlier
+    has_earlier =
+        let n = ap length earlier_is ∙ length-append (earlier_from [] (changes_in ms)) (last_place 0 (changes_in ms) m.change.table m.change.key None ∷ []) in
+        omega arith
 
     placed_if : (table : List ℕ) (key : Value) (hit : Bool) → is_change_of table key m.change ≡ hit
         → cond hit (last_place 0 (changes_in ms) m.change.table m.change.key None) (cond hit (Some (0 + length (changes_in ms))) (last_place 0 (changes_in ms) table key None)) ≡ last_place 0 (changes_in ms) table key None

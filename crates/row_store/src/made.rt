@@ -1,11 +1,12 @@
 //! Changes that a branch made, which can be taken back.
-ghost use Rattle.std.specs.Prelude.{◌≡◌, ℕ, ◌+◌, ◌-◌, ◌≤◌, if◌then◌else◌, List, [], ◌∷◌, ◌++◌, length, take, None, is_some, true, OnOk, OnErr};
+ghost use Rattle.std.specs.Prelude.{◌≡◌, ℕ, ◌+◌, ◌-◌, ◌≤◌, if◌then◌else◌, List, [], ◌∷◌, ◌++◌, length, take, None, is_some, true, IfOk, OnOk, OnErr};
+ghost use Rattle.std.specs.Cow.{cow_value};
 ghost use Rattle.std.specs.Option.{option_copied};
 ghost use Rattle.dtx_values.specs.declared.value.Value.{Value as AnyValue};
 ghost use Rattle.sql_eval.specs.Rows.{change_length};
 ghost use Rattle.row_store.specs.Own.{changes_length, is_change_of, last_at as last_at_of};
 ghost use Rattle.row_store.specs.Kept.{place_at, last_place, after_at as after_at_of};
-ghost use Rattle.row_store.specs.Made.{changes_in, undo_in};
+ghost use Rattle.row_store.specs.Made.{changes_in, undone, undo_in};
 
 use crate::changed_key::{ChangedKey, owned_key};
 use crate::lengths::{change_len, change_len_with, sum};
@@ -20,6 +21,15 @@ use std::marker::Model;
 pub(crate) struct Made {
     pub(crate) change: Change,
     pub(crate) before: Option<Row>,
+}
+
+// What is kept beside a change: its key, the place of the change before it at that key, and the bytes of all with it.
+#[derive(Drop)]
+struct Next {
+    key: ChangedKey<'static>,
+    earlier: Option<usize>,
+    bytes: u64,
+    undo: u64,
 }
 
 /// Changes in order. The last one at a key is found by a hash table of the keys.
@@ -99,8 +109,7 @@ impl MadeChanges {
     pub(crate) fn last_at(&self, table: &Name, key: &Value) -> Option<&Option<Row>>
         ensures { option_copied result ≡ last_at_of (changes_in self.now) table.now key.now None }
     {
-        let made = self.made.get(self.place(table, key)?)?;
-        Some(&made.change.after)
+        after_at(self.made.as_slice(), self.place(table, key))
     }
 
     /// Adds a change behind the others.
@@ -108,17 +117,14 @@ impl MadeChanges {
         ensures ok { OnOk result (self.new ≡ self.old ++ made ∷ []) }
         ensures err { OnErr result (self.new ≡ self.old) }
     {
-        let bytes = sum(self.bytes, change_len(&made.change)?)?;
-        let undo = sum(self.undo, change_len_with(&made.change, made.before.as_ref())?)?;
-        let earlier = self.place(&made.change.table, &made.change.key);
-        let key = owned_key(alloc, &made.change)?;
         self.made.try_reserve(1)?;
         self.earlier.try_reserve(1)?;
-        self.places.insert(key, self.made.len())?;
+        let next = self.next(alloc, &made)?;
+        self.places.insert(next.key, self.made.len())?;
         self.made.push(made).unwrap();
-        self.earlier.push(earlier).unwrap();
-        self.bytes = bytes;
-        self.undo = undo;
+        self.earlier.push(next.earlier).unwrap();
+        self.bytes = next.bytes;
+        self.undo = next.undo;
         Ok(())
     }
 
@@ -139,9 +145,30 @@ impl MadeChanges {
         if let Some(made) = self.made.pop() {
             self.bytes = less(self.bytes, &made.change, made.change.after.as_ref());
             self.undo = less(self.undo, &made.change, made.before.as_ref());
-            let earlier = self.earlier.pop().flatten();
+            let earlier = self.earlier.pop().unwrap();
             set_place(&mut self.places, &made.change, earlier);
         }
+    }
+
+    // What is kept beside a change behind the others.
+    fn next(&self, alloc: Global, made: &Made) -> Result<Next, AllocError>
+        ensures table { IfOk result (λ next. cow_value next.key.table ≡ made.now.change.table) }
+        ensures key { IfOk result (λ next. cow_value next.key.key ≡ made.now.change.key) }
+        ensures earlier { IfOk result (λ next. next.earlier ≡ last_place 0 (changes_in self.now) made.now.change.table made.now.change.key None) }
+        ensures bytes { IfOk result (λ next. next.bytes ≡ changes_length (changes_in self.now) + change_length made.now.change) }
+        ensures undo { IfOk result (λ next. next.undo ≡ changes_length (undo_in self.now) + change_length (undone made.now)) }
+    {
+        let bytes = sum(self.bytes, change_len(&made.change)?)?;
+        let undo = sum(
+            self.undo,
+            change_len_with(&made.change, made.before.as_ref())?,
+        )?;
+        Ok(Next {
+            key: owned_key(alloc, &made.change)?,
+            earlier: self.place(&made.change.table, &made.change.key),
+            bytes,
+            undo,
+        })
     }
 
     // The place of the last change at a key.
@@ -156,9 +183,17 @@ impl MadeChanges {
     }
 }
 
+// What the change at a place leaves.
+fn after_at(made: &[Made], place: Option<usize>) -> Option<&Option<Row>>
+    ensures { option_copied result ≡ after_at_of (changes_in made.now) place }
+{
+    let made = made.get(place?)?;
+    Some(&made.change.after)
+}
+
 // Bytes without those of a change with this row in place of its own.
 fn less(bytes: u64, change: &Change, row: Option<&Row>) -> u64
-    requires { change_length (record change.now { after = option_copied row.entry }) ≤ bytes }
+    requires { change_length (record change.now { after = option_copied row }) ≤ bytes }
     ensures { result + change_length (record change.now { after = option_copied row.entry }) ≡ bytes }
 {
     match change_len_with(change, row) {

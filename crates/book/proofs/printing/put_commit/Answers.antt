@@ -4,6 +4,6 @@ use Rattle.book.proofs.printing.put_commit.Goals as goal
 
 pub returns : goal.returns
 returns c =
-    c.in_ok-put_decimal.ensures
+    c.in_ok-put_decimal.ensures.added
     ∙ ap (λ out. out ++ decimal c.args.scn) c.in_ok-extend_from_slice.ensures.items
     ∙ append_assoc c.args.out.now.items (codes " commit scn ") (decimal c.args.scn)
