@@ -7,3 +7,4 @@ mod Places
 mod Named
 mod PlaceLaws
 mod MadeLaws
+mod SetLaws

@@ -14,6 +14,7 @@ mod keyed_rows;
 mod lengths;
 mod made;
 mod own_changes;
+mod own_sets;
 mod pending;
 mod row_places;
 mod tables;
