@@ -8,3 +8,7 @@ mod Named
 mod PlaceLaws
 mod MadeLaws
 mod SetLaws
+mod BranchLaws
+mod OwnLaws
+mod TableLaws
+mod StoreLaws

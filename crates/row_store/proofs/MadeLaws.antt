@@ -20,21 +20,21 @@ use Rattle.row_store.specs.Kept.{place_at, last_place}
 use Rattle.row_store.specs.Made.{changes_in, undone, undo_in, earlier_from, AreIndexed}
 use Rattle.row_store.proofs.Places.{last_place_push}
 
-key_at : {K : Type 0} (es : List (K × ℕ)) (i : ℕ) (d : K) → get_or (keys_of es) i d ≡ (get_or es i (d, 0)).0
+key_at : {K X : Type 0} (es : List (K × X)) (i : ℕ) (d : K × X) → get_or (keys_of es) i d.0 ≡ (get_or es i d).0
 key_at [] i d = refl
 key_at (e ∷ es) zero d = refl
 key_at (e ∷ es) (suc i) d = key_at es i d
 
-keys_long : {K : Type 0} (es : List (K × ℕ)) → length (keys_of es) ≡ length es
+keys_long : {K X : Type 0} (es : List (K × X)) → length (keys_of es) ≡ length es
 keys_long [] = refl
 keys_long (e ∷ es) = ap suc (keys_long es)
 
 -- the first entry that passes a test
-pub first_entry : {K : Type 0} (t : K → Bool) (es : List (K × ℕ)) (i : ℕ) (d : K) → position t (keys_of es) ≡ Some i
-    → (slice_get es i ≡ Some (get_or es i (d, 0))) × (t (get_or es i (d, 0)).0 ≡ true)
+pub first_entry : {K X : Type 0} (t : K → Bool) (es : List (K × X)) (i : ℕ) (d : K × X) → position t (keys_of es) ≡ Some i
+    → (slice_get es i ≡ Some (get_or es i d)) × (t (get_or es i d).0 ≡ true)
 first_entry t es i d at =
-    let h = position-Some t (keys_of es) i d at in
-    (slice_get-get_or es i (d, 0) (subst (λ n. i < n) (keys_long es) h.0), ap t (sym (key_at es i d)) ∙ h.1)
+    let h = position-Some t (keys_of es) i d.0 at in
+    (slice_get-get_or es i d (subst (λ n. i < n) (keys_long es) h.0), ap t (sym (key_at es i d)) ∙ h.1)
 
 pub changes_long : (ms : List Made) → length (changes_in ms) ≡ length ms
 changes_long [] = refl

@@ -6,3 +6,7 @@ pub mod Named
 pub mod Pending
 pub mod Places
 pub mod Made
+pub mod ByBranch
+pub mod Store
+pub mod TablePlaces
+pub mod AllPlaced

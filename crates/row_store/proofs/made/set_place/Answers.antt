@@ -21,7 +21,7 @@ returns-in-None c =
     let change = c.args.change.now in
     let es = c.args.places.now.entries in
     let asked : ChangedKey = record { table = Owned change.table; key = Owned change.key } in
-    let first = first_entry (found_as asked) es c.in-Some.last asked (sym c.in-Some.ensures.index) in
+    let first = first_entry (found_as asked) es c.in-Some.last (asked, 0) (sym c.in-Some.ensures.index) in
     let k = (get_or es c.in-Some.last (asked, 0)).0 in
     let at = found_at asked k change refl refl first.1 in
     let removed = subst (λ r. IfSome r (λ p. Updates found_as c.args.places.now c.swap_remove_index.new.self p.0 None)) (c.swap_remove_index.ensures.entry ∙ first.0) c.swap_remove_index.ensures.updates in
@@ -34,7 +34,7 @@ returns c =
     let change = c.args.change.now in
     let es = c.args.places.now.entries in
     let asked : ChangedKey = record { table = Owned change.table; key = Owned change.key } in
-    let first = first_entry (found_as asked) es c.in-Some.last asked (sym c.in-Some.ensures.index) in
+    let first = first_entry (found_as asked) es c.in-Some.last (asked, 0) (sym c.in-Some.ensures.index) in
     let e = get_or es c.in-Some.last (asked, 0) in
     let at = found_at asked e.0 change refl refl first.1 in
     let put = updates-with_value_at c.args.places.now c.in-Some.last c.in-Some-place.place laws-law c.get_index_of.ensures.unique e.0 e.1 first.0 in
