@@ -75,7 +75,7 @@ module _ (ms : List Made) (m : Made) where
   made_more es fs earlier more last bytes undo bytes_more undo_more are indexed last_is more_is bytes_is undo_is = record {
     indexed = λ table key. indexed table key ∙ ap (λ ds. last_place 0 ds table key None) (sym changes_push);
     linked =
-      more_is ∙ (λ i. are.linked i ++ last_is i ∷ []) ∙ sym (earlier_push [] (changes_in ms) m.change) ∙ ap (earlier_from []) (sym changes_push);
+        more_is ∙ (λ i. are.linked i ++ last_is i ∷ []) ∙ sym (earlier_push [] (changes_in ms) m.change) ∙ ap (earlier_from []) (sym changes_push);
     counted = bytes_is ∙ sym bytes_push;
     undo_counted = undo_is ∙ sym undo_bytes_push;
   }
@@ -121,7 +121,7 @@ module _ (ms : List Made) (m : Made) where
           indexed = λ table key.
               set table key
               ∙ (λ i. cond (is_change_of table key m.change) (sym both.1 i)
-                  ((are.indexed table key ∙ ap (λ ds. last_place 0 ds table key None) changes_push ∙ last_place_push table key m.change 0 (changes_in ms) None) i))
+              ((are.indexed table key ∙ ap (λ ds. last_place 0 ds table key None) changes_push ∙ last_place_push table key m.change 0 (changes_in ms) None) i))
               ∙ placed_if table key (is_change_of table key m.change) refl;
           linked = sym both.0;
           counted = let h = are.counted ∙ bytes_push in omega arith;

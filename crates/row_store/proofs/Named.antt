@@ -104,7 +104,7 @@ apply_more cs i c ts now more is made =
     ap (λ us. apply_all us (drop (i + 1) cs)) made ∙ apply_next c (drop (i + 1) cs) ts ∙ ap (λ d. apply_all ts (d ∷ drop (i + 1) cs)) is
     ∙ sym (at_drop_more (apply_all ts) cs i c more)
 
-apply_none : (ts : List TableRows) → apply_all ts [] ≡ ts
+pub apply_none : (ts : List TableRows) → apply_all ts [] ≡ ts
 apply_none [] = refl
 apply_none (t ∷ ts) = ap (λ (all : List TableRows). t ∷ all) (apply_none ts)
 

@@ -142,7 +142,7 @@ pub rows_set : (ps qs : List Place) (k : Value) (after : Option Row) → AreRisi
 rows_set ps qs k after rise rises put =
     same_rows (rows_at qs) (set_to (rows_at ps) k after) (places_in_order qs rises) (set_in_order (rows_at ps) k after (places_in_order ps rise))
     (λ q. get_at qs q rises ∙ ap (λ o. unwrap_or o None) (put q) ∙ set_step (same_value k q) after (place_at ps q)
-        ∙ ap (cond (same_value k q) after) (sym (get_at ps q rise)) ∙ sym (get_set k q (rows_at ps) after))
+    ∙ ap (cond (same_value k q) after) (sym (get_at ps q rise)) ∙ sym (get_set k q (rows_at ps) after))
 
 made_step : (k q : Value) (ps : List Place) (same : Bool) → same_value k q ≡ same → place_at ps k ≡ None → unwrap_or (cond same (Some None) (place_at ps q)) None ≡ unwrap_or (place_at ps q) None
 made_step k q ps true is none = sym (ap (λ o. unwrap_or o None) (subst (λ (v : Value). place_at ps v ≡ None) (equal_from_same k q is) none))

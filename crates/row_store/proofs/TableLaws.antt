@@ -160,3 +160,14 @@ nowhere_if (Some ps) key none has = absurd (true≢false (sym none))
 -- no table has the name, and so no place
 pub nowhere : (es : List Shelf) (q : List ℕ) (key : Value) {P : Type 0} → false ≡ is_some (lookup (bytes_eq q) es) → has_place_in es q key ≡ true → P
 nowhere es q key none has = nowhere_if (lookup (bytes_eq q) es) key none has
+
+table_step : (hit : Bool) (s : Shelf) (rest : Option (List Place)) (any : Bool) → is_some rest ≡ any → is_some (cond hit (Some s.1) rest) ≡ (hit || any)
+table_step true s rest any later = refl
+table_step false s rest any later = later
+
+-- a table is there where one has its name
+pub table_is : (es : List Shelf) (name : List ℕ) → is_table_in es name ≡ list_any (λ t. same_text t.table name) (rows_in es)
+table_is [] name = refl
+table_is (e ∷ es) name =
+    table_step (bytes_eq name e.0) e (lookup (bytes_eq name) es) (list_any (λ t. same_text t.table name) (rows_in es)) (table_is es name)
+    ∙ ap (λ b. b || list_any (λ t. same_text t.table name) (rows_in es)) (nat_list_eq_equiv.symm name e.0)

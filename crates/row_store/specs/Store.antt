@@ -1,6 +1,8 @@
 -- What a node keeps of rows: the committed ones, what live branches have changed, what branches in doubt hold back, and how
 -- many undo extents there are for all.
-use Rattle.std.specs.Prelude.{◌≡◌, ℕ, ◌+◌, ◌-◌, if◌then◌else◌, List, [], ◌∷◌, ◌++◌, sum_by, length, take, map, nat_lt, Option, None, Some}
+use Rattle.std.specs.List.{list_any, AllByRecursion}
+use Rattle.sql_check.specs.Words.{same_text}
+use Rattle.std.specs.Prelude.{◌≡◌, Bool, true, ℕ, ◌+◌, ◌-◌, if◌then◌else◌, List, [], ◌∷◌, ◌++◌, sum_by, length, take, map, nat_lt, Option, None, Some}
 use Rattle.dtx_values.specs.declared.row.Change.{Change}
 use Rattle.dtx_values.specs.Limits.{changes_limit}
 use Rattle.tran_ids.specs.declared.branch.BranchId.{BranchId}
@@ -73,6 +75,14 @@ pub record Contents : Type 0 where
 -- nothing yet
 abbrev pub nothing_kept : ℕ → Contents
 nothing_kept undo = record { rows = []; owns = []; doubts = []; extents = undo }
+
+-- whether there is a table of a name
+abbrev pub has_table : List TableRows → List ℕ → Bool
+has_table rows table = list_any (λ t. same_text t.table table) rows
+
+-- each change is of a table that is there
+abbrev pub AreOfTables : List TableRows → List Change → Type 0
+AreOfTables rows cs = AllByRecursion (λ c. has_table rows c.table ≡ true) cs
 
 -- what a branch has changed
 abbrev pub own_changes : Contents → BranchId → List Change

@@ -26,8 +26,8 @@ returns-in-None c =
     let at = found_at asked k change refl refl first.1 in
     let removed = subst (λ r. IfSome r (λ p. Updates found_as c.args.places.now c.swap_remove_index.new.self p.0 None)) (c.swap_remove_index.ensures.entry ∙ first.0) c.swap_remove_index.ensures.updates in
     λ table key.
-        place_set k change at.0 at.1 es c.swap_remove_index.new.self.entries None removed.0 table key
-        ∙ ap (λ o. cond (is_change_of table key change) o (place_at es table key)) (sym c.in-None.is)
+    place_set k change at.0 at.1 es c.swap_remove_index.new.self.entries None removed.0 table key
+    ∙ ap (λ o. cond (is_change_of table key change) o (place_at es table key)) (sym c.in-None.is)
 
 pub returns : goal.returns
 returns c =
@@ -39,5 +39,5 @@ returns c =
     let at = found_at asked e.0 change refl refl first.1 in
     let put = updates-with_value_at c.args.places.now c.in-Some.last c.in-Some-place.place laws-law c.get_index_of.ensures.unique e.0 e.1 first.0 in
     λ table key.
-        place_set e.0 change at.0 at.1 es _ (Some c.in-Some-place.place) put.0 table key
-        ∙ ap (λ o. cond (is_change_of table key change) o (place_at es table key)) (sym c.in-Some-place.is)
+    place_set e.0 change at.0 at.1 es _ (Some c.in-Some-place.place) put.0 table key
+    ∙ ap (λ o. cond (is_change_of table key change) o (place_at es table key)) (sym c.in-Some-place.is)

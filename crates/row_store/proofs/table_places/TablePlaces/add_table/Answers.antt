@@ -27,6 +27,6 @@ returns-clause-places c =
     let es = c.self.inside.tables.entries in
     let none = no_table es q (ap (λ s. list_any (λ t. same_text t.table q) (rows_in s)) c.self.view_is ∙ c.requires.new) in
     λ name key has.
-        places_added es c.insert.new.self.entries q name key
-        (c.in_ok-insert.ensures.updates.0 name ∙ ap (λ v. cond (bytes_eq q name) (Some v) (lookup (bytes_eq name) es)) c.new.ensures)
-        none (ap (λ s. has_place_in s name key) c.self.view_is ∙ has)
+    places_added es c.insert.new.self.entries q name key
+    (c.in_ok-insert.ensures.updates.0 name ∙ ap (λ v. cond (bytes_eq q name) (Some v) (lookup (bytes_eq name) es)) c.new.ensures)
+    none (ap (λ s. has_place_in s name key) c.self.view_is ∙ has)
