@@ -1,5 +1,5 @@
 -- What the map of live branches' changes does, as the list of them says it.
-use Rattle.std.proofs.Common.{◌≡◌, ℕ, ◌+◌, ◌-◌, ◌≤◌, zero, suc, Bool, true, false, List, [], ◌∷◌, ◌++◌, length, map, take, drop, position, slice_get, None, Some, Option, is_some, unwrap_or, true≢false, refl, sym, ap, subst, ◌∙◌, arith}
+use Rattle.std.proofs.Common.{◌≡◌, ℕ, ◌+◌, ◌≤◌, zero, suc, Bool, false, List, [], ◌∷◌, ◌++◌, take, drop, position, slice_get, None, Some, Option, is_some, unwrap_or, true≢false, refl, sym, ap, ◌∙◌, arith}
 use Rattle.std.specs.Prelude.{sum_by}
 use Rattle.std.specs.Option.{option_map}
 use Rattle.std.specs.Map.{lookup, keys_of, values_of, remove_entry}
@@ -17,8 +17,8 @@ use Rattle.row_store.specs.declared.pending.Owned.{Owned}
 use Rattle.row_store.specs.Own.{changes_length, extents}
 use Rattle.row_store.specs.Pending.{undo_of}
 use Rattle.row_store.specs.ByBranch.{key_of, branch_of, owned, owns_in}
-use Rattle.row_store.specs.Store.{own_id, sets_of, sets_at, extents_of_sets, own_extents, with_set, but_last, less_last, without_last}
-use Rattle.row_store.proofs.BranchLaws.{found_as, found, put_is, placed_is, dropped_is, not_there, total_set, total_push, total_removed}
+use Rattle.row_store.specs.Store.{own_id, sets_of, sets_at, extents_of_sets, own_extents}
+use Rattle.row_store.proofs.BranchLaws.{found_as, found, put_is, placed_is, dropped_is, total_set, total_push, total_removed}
 
 abbrev Entry : Type 0
 Entry = BranchKey × List ChangeSet

@@ -1,26 +1,24 @@
 -- What the map of tables with places does, as the rows of the tables say it.
-use Rattle.std.proofs.Common.{◌≡◌, ℕ, zero, suc, Bool, true, false, cond, ◌||◌, List, [], ◌∷◌, ◌++◌, map, get_or, position, slice_get, None, Some, Option, is_some, unwrap_or, refl, sym, ap, subst, ◌∙◌, true≢false}
+use Rattle.std.proofs.Common.{◌≡◌, ℕ, zero, suc, Bool, true, false, cond, ◌||◌, List, [], ◌∷◌, ◌++◌, get_or, position, slice_get, None, Some, Option, is_some, unwrap_or, refl, sym, ap, subst, ◌∙◌, true≢false}
 use Rattle.std.specs.Cmp.Lexicographic.{nat_list_eq_equiv, bytes_decides}
 use Rattle.std.specs.List.{list_any, IsDistinct}
 use Rattle.std.specs.Map.{lookup, keys_of, values_of}
 use Rattle.std.specs.Option.{option_map}
 use Rattle.std.specs.Str.{bytes_eq}
-use Rattle.indexmap.specs.IndexMap.{IndexMap, IsUnique, Updates, insert_entry, with_value_at}
+use Rattle.indexmap.specs.IndexMap.{IndexMap, IsUnique, insert_entry}
 use Rattle.indexmap.specs.Layout.{set_value_at}
 use Rattle.indexmap.proofs.MapLemmas.{insert_entry-first, Found-position}
 use Rattle.indexmap.proofs.CallerLemmas.{insert_entry-new, updates-with_value_at}
 use Rattle.dtx_values.specs.declared.value.Value.{Value}
 use Rattle.dtx_values.specs.declared.row.Change.{Change}
-use Rattle.dtx_values.specs.Order.{same_value}
-use Rattle.dtx_values.proofs.ValueOrder.{same_from_equal}
 use Rattle.sql_eval.specs.declared.keyed.Keyed.{Keyed}
 use Rattle.sql_eval.specs.Rows.{set_to}
 use Rattle.sql_check.specs.Words.{same_text}
 use Rattle.row_store.specs.Places.{Place, rows_at, has_place}
 use Rattle.row_store.specs.Tables.{TableRows, apply_all, rows_of_table, with_table}
 use Rattle.row_store.specs.Named.{tables_of}
-use Rattle.row_store.specs.TablePlaces.{Shelf, rows_under, rows_in, places_of, has_place_on, has_place_in, is_table_in}
-use Rattle.row_store.proofs.Named.{rows_are, absent, changed, tables_added}
+use Rattle.row_store.specs.TablePlaces.{Shelf, rows_under, rows_in, has_place_on, has_place_in, is_table_in}
+use Rattle.row_store.proofs.Named.{rows_are, absent, changed}
 use Rattle.row_store.proofs.MadeLaws.{first_entry}
 
 found_step : (hit : Bool) (s : Shelf) (rest : Option (List Place)) → cond hit (Some (rows_at s.1)) (option_map rows_at rest) ≡ option_map rows_at (cond hit (Some s.1) rest)

@@ -4,7 +4,7 @@ use Rattle.std.specs.List.{AllByRecursion}
 use Rattle.dtx_values.specs.declared.row.Change.{Change}
 use Rattle.row_store.specs.declared.pending.Owned.{Owned}
 use Rattle.row_store.specs.Pending.{changes_of}
-use Rattle.row_store.specs.TablePlaces.{Shelf, has_place_in, is_table_in}
+use Rattle.row_store.specs.TablePlaces.{Shelf, has_place_in}
 
 -- these changes have places
 abbrev pub ArePlaced : List Shelf → List Change → Type 0

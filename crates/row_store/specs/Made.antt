@@ -1,6 +1,6 @@
 -- Changes that a branch made, each with the row from before it, and how they are kept: with the place of the last change at
 -- each key, and for each change the place of the one before it at its key.
-use Rattle.std.specs.Prelude.{◌≡◌, ℕ, List, [], ◌∷◌, ◌++◌, map, length, take, drop, sum, Option, None}
+use Rattle.std.specs.Prelude.{◌≡◌, ℕ, List, [], ◌∷◌, ◌++◌, map, take, drop, Option, None}
 use Rattle.dtx_values.specs.declared.value.Value.{Value}
 use Rattle.dtx_values.specs.declared.row.Change.{Change}
 use Rattle.row_store.specs.declared.changed_key.ChangedKey.{ChangedKey}

@@ -1,5 +1,5 @@
 -- What branches have changed and not committed: sets of changes, one a statement, each with the rows from before.
-use Rattle.std.specs.Prelude.{ℕ, List, [], ◌∷◌, map, flat_map}
+use Rattle.std.specs.Prelude.{List, [], ◌∷◌, map, flat_map}
 use Rattle.dtx_values.specs.declared.row.Change.{Change}
 use Rattle.sql_eval.specs.declared.keyed.Keyed.{Keyed}
 use Rattle.row_store.specs.declared.pending.ChangeSet.{ChangeSet}

@@ -1,4 +1,4 @@
-use Rattle.std.proofs.Common.{true, cond, Some, None, get_or, is_some, true≢false, refl, sym, ap, subst, ◌∙◌}
+use Rattle.std.proofs.Common.{cond, Some, None, get_or, is_some, true≢false, refl, sym, ap, subst, ◌∙◌}
 use Rattle.std.specs.Prelude.{IfSome}
 use Rattle.std.specs.declared.borrow.Cow.TheVariants.{Owned}
 use Rattle.indexmap.specs.IndexMap.{Updates}

@@ -1,4 +1,4 @@
-use Rattle.std.proofs.Common.{◌≡◌, ◌++◌, take, drop}
+use Rattle.std.proofs.Common.{◌≡◌, ◌++◌, drop}
 use Rattle.row_store.specs.Made.{changes_in}
 use Rattle.row_store.proofs.own_sets.copied.Given as goal
 

@@ -1,4 +1,4 @@
-use Rattle.std.proofs.Common.{◌≡◌, ◌≤◌, ◌-◌, length, take}
+use Rattle.std.proofs.Common.{◌≡◌, ◌≤◌, length, take}
 use Rattle.row_store.proofs.made.MadeChanges.truncate.Given as goal
 
 abbrev pub invariant-loop-self : goal.invariant-loop-self

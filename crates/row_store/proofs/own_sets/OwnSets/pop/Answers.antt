@@ -1,4 +1,4 @@
-use Rattle.std.proofs.Common.{◌≡◌, List, ℕ, [], ◌∷◌, ◌++◌, ◌-◌, length, take, sym, ap, subst, ◌∙◌}
+use Rattle.std.proofs.Common.{◌-◌, length, take, sym, ap, ◌∙◌}
 use Rattle.std.specs.Prelude.{sum}
 use Rattle.row_store.specs.Made.{cut}
 use Rattle.row_store.proofs.SetLaws.{cut_pop}

@@ -1,19 +1,15 @@
-use Rattle.std.proofs.Common.{◌≡◌, ℕ, ◌+◌, ◌-◌, ◌^◌, ◌<◌, ◌≤◌, false, List, [], ◌∷◌, ◌++◌, Some, None, is_some, unwrap_or, length, take, position, slice_get, refl, sym, ap, subst, ◌∙◌, arith}
+use Rattle.std.proofs.Common.{◌≡◌, ◌+◌, ◌-◌, ◌^◌, ◌<◌, List, [], ◌∷◌, ◌++◌, Some, None, is_some, position, refl, sym, ap, subst, ◌∙◌, arith}
 use Rattle.std.specs.Prelude.{Result, Ok, Err, OnErr}
-use Rattle.std.specs.Map.{lookup, keys_of, values_of, remove_entry}
-use Rattle.indexmap.specs.IndexMap.{insert_entry}
+use Rattle.std.specs.Map.{lookup, keys_of}
 use Rattle.indexmap.specs.Layout.{set_value_at}
-use Rattle.indexmap.proofs.CallerLemmas.{index_map_len-with_value_at, insert_entry-new}
-use Rattle.tran_ids.specs.Listed.{item_at, put_item, drop_item}
+use Rattle.indexmap.proofs.CallerLemmas.{index_map_len-with_value_at}
+use Rattle.tran_ids.specs.Listed.{item_at, put_item}
 use Rattle.row_store.specs.declared.pending.ChangeSet.{ChangeSet}
-use Rattle.row_store.specs.declared.pending.Owned.{Owned}
-use Rattle.row_store.specs.Own.{changes_length, extents}
-use Rattle.row_store.specs.Pending.{undo_of}
 use Rattle.row_store.specs.Made.{set_in}
-use Rattle.row_store.specs.ByBranch.{key_of, owned, owns_in}
-use Rattle.row_store.specs.Store.{own_id, sets_of, sets_at, extents_of_sets, own_extents, with_set, less_last, without_last}
+use Rattle.row_store.specs.ByBranch.{owned, owns_in}
+use Rattle.row_store.specs.Store.{own_id, sets_of, sets_at, extents_of_sets, own_extents}
 use Rattle.row_store.proofs.BranchLaws.{found_as}
-use Rattle.row_store.proofs.OwnLaws.{sets_are, none_there, used_set, used_at, used_more, used_less, value_set, same_set, sets_there, item_there, own_placed, own_put, own_dropped, fewer, absent_from}
+use Rattle.row_store.proofs.OwnLaws.{none_there, used_set, used_at, value_set, same_set, sets_there, own_placed}
 use Rattle.row_store.proofs.owns.Owns.push.Goals as goal
 
 on_err : {T E P : Type 0} (r : Result T E) → P → OnErr r P

@@ -1,4 +1,4 @@
-use Rattle.std.proofs.Common.{true, cond, ◌||◌, is_some, None, Some, ap, sym, ◌∙◌}
+use Rattle.std.proofs.Common.{◌||◌, None, ap, sym, ◌∙◌}
 use Rattle.dtx_values.specs.Order.{same_value}
 use Rattle.row_store.specs.Places.{rows_at, has_place}
 use Rattle.row_store.proofs.PlaceLaws.{rising_is, put_by_map, none_by_map, has_by_map, rows_made, places_put, places_stay}

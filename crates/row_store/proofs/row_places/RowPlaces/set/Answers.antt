@@ -1,4 +1,4 @@
-use Rattle.std.proofs.Common.{true, refl, ap, sym, ◌∙◌}
+use Rattle.std.proofs.Common.{refl, ap, sym, ◌∙◌}
 use Rattle.std.specs.Option.{option_copied_mut}
 use Rattle.sql_eval.specs.Rows.{set_to}
 use Rattle.row_store.specs.Places.{rows_at, has_place}

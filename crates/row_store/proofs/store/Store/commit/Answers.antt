@@ -1,10 +1,9 @@
-use Rattle.std.proofs.Common.{[], unwrap_or, sym, ap, subst, ◌∙◌}
-use Rattle.tran_ids.specs.Listed.{drop_item}
+use Rattle.std.proofs.Common.{[], sym, ap, subst, ◌∙◌}
 use Rattle.row_store.specs.Pending.{changes_of}
 use Rattle.row_store.specs.Tables.{apply_all}
 use Rattle.row_store.specs.TablePlaces.{rows_in}
 use Rattle.row_store.specs.AllPlaced.{ArePlaced, AllPlaced}
-use Rattle.row_store.specs.Store.{Contents, own_id, sets_at, committed}
+use Rattle.row_store.specs.Store.{Contents, committed}
 use Rattle.row_store.proofs.Named.{apply_none}
 use Rattle.row_store.proofs.StoreLaws.{placed_at, placed_drop, all_still}
 use Rattle.row_store.proofs.store.Store.commit.Goals as goal

@@ -1,16 +1,8 @@
-use Rattle.std.proofs.Common.{◌≡◌, ◌||◌, List, [], ◌∷◌, cond, true, Some, None, unwrap_or, refl, sym, ap, subst, ◌∙◌}
-use Rattle.std.specs.List.{list_any}
-use Rattle.std.specs.Map.{lookup}
-use Rattle.std.specs.Str.{bytes_eq}
-use Rattle.indexmap.specs.IndexMap.{insert_entry}
-use Rattle.dtx_values.specs.declared.row.Change.{Change}
+use Rattle.std.proofs.Common.{◌||◌, refl, ap, ◌∙◌}
 use Rattle.dtx_values.proofs.ValueOrder.{same_from_equal}
-use Rattle.sql_check.specs.Words.{same_text}
-use Rattle.sql_eval.specs.Rows.{get}
-use Rattle.row_store.specs.Places.{rows_at, has_place}
-use Rattle.row_store.specs.Tables.{apply_all, rows_of_table, with_table}
+use Rattle.row_store.specs.Places.{has_place}
 use Rattle.row_store.specs.TablePlaces.{rows_in, has_place_in, is_table_in}
-use Rattle.row_store.proofs.TableLaws.{rows_there, no_table, rows_added, places_added, rows_stay, tables_same, places_kept, place_made, has_here, rows_changed, places_same, or_true, nowhere}
+use Rattle.row_store.proofs.TableLaws.{rows_stay, tables_same, places_kept, place_made, or_true}
 use Rattle.row_store.proofs.table_places.TablePlaces.make.Goals as goal
 
 pub returns-in_err-make-clause-rows : goal.returns-in_err-make-clause-rows
