@@ -12,3 +12,4 @@ mod BranchLaws
 mod OwnLaws
 mod TableLaws
 mod StoreLaws
+pub mod SetOver
