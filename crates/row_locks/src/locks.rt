@@ -103,6 +103,27 @@ impl Locks {
         Ok(())
     }
 
+    /// Puts a key under the name of a branch that writes its row, for a record that is taken in. A key that has a holder keeps
+    /// it, and is written from then on.
+    pub fn hold(
+        &mut self,
+        alloc: Global,
+        branch: &BranchId,
+        table: &Name,
+        key: &Value,
+    ) -> Result<(), AllocError>
+        ensures held { OnOk result (self.new ≡ taken self.old branch.now table.now key.now true) }
+
+        // A key that has a holder needs no memory.
+        ensures memory { OnErr result (holder_of self.old table.now key.now ≡ None) }
+
+        // After an error nothing has changed.
+        ensures err { OnErr result (self.new ≡ self.old) }
+    {
+        let owner = writing(self.owner(table, key), branch);
+        self.put(alloc, table, key, owner)
+    }
+
     /// A branch is in doubt from now on, and so are the keys that it has.
     pub fn mark_in_doubt(&mut self, branch: &BranchId)
         ensures { self.new ≡ in_doubt_from_now self.old branch.now }
@@ -214,5 +235,22 @@ fn owner_after(found: Option<Owner>, branch: &BranchId, writes: bool) -> Result<
             by: owner.branch,
             in_doubt: owner.in_doubt,
         }),
+    }
+}
+
+// Who holds a key once it is put under a branch's name to be written.
+fn writing(found: Option<Owner>, branch: &BranchId) -> Owner
+    ensures { result ≡ owner_with found branch.now true }
+{
+    match found {
+        None => Owner {
+            branch: *branch,
+            writes: true,
+            in_doubt: false,
+        },
+        Some(owner) => Owner {
+            writes: true,
+            ..owner
+        },
     }
 }

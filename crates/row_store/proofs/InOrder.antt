@@ -24,7 +24,7 @@ abbrev pub is_below : Value → List Keyed → Type 0
 is_below k rows = AllByRecursion (λ q. value_cmp k q ≡ Less) (keys_of rows)
 
 -- a key below another is below all that the other is below
-below_further : (k p : Value) (rows : List Keyed) → value_cmp k p ≡ Less → is_below p rows → is_below k rows
+pub below_further : (k p : Value) (rows : List Keyed) → value_cmp k p ≡ Less → is_below p rows → is_below k rows
 below_further k p [] less all = tt
 below_further k p (r ∷ rs) less all = (values_total.trans k p r.key less all.0, below_further k p rs less all.1)
 

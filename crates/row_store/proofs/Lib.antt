@@ -5,3 +5,11 @@ mod Lookups
 mod Applied
 mod Places
 mod Named
+mod PlaceLaws
+mod MadeLaws
+mod SetLaws
+mod BranchLaws
+mod OwnLaws
+mod TableLaws
+mod StoreLaws
+pub mod SetOver

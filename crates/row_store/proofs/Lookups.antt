@@ -58,7 +58,7 @@ module _ (k q : Value) where
   get_without [] = no_row (same_value k q)
   get_without (r ∷ rs) = left_first r rs (same_value r.key k) refl (get_without rs)
 
-  get_set : (rows : List Keyed) (after : Option Row) → get (set_to rows k after) q ≡ cond (same_value k q) after (get rows q)
+  pub get_set : (rows : List Keyed) (after : Option Row) → get (set_to rows k after) q ≡ cond (same_value k q) after (get rows q)
   get_set rows None = get_without rows
   get_set rows (Some row) = get_put row rows
 

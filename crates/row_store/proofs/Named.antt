@@ -33,7 +33,7 @@ found_first : (hit : Bool) (e : Entry) (found : Option (List Keyed)) (rows : Lis
 found_first true e found rows rest = refl
 found_first false e found rows rest = rest
 
-rows_are : (es : List Entry) (q : List ℕ) → unwrap_or (lookup (bytes_eq q) es) [] ≡ rows_of_table (tables_of es) q
+pub rows_are : (es : List Entry) (q : List ℕ) → unwrap_or (lookup (bytes_eq q) es) [] ≡ rows_of_table (tables_of es) q
 rows_are [] q = refl
 rows_are (e ∷ es) q =
     found_first (bytes_eq q e.0) e (lookup (bytes_eq q) es) (rows_of_table (tables_of es) q) (rows_are es q)
@@ -68,7 +68,7 @@ neither : (a b : Bool) → (a || b) ≡ false → (a ≡ false) × (b ≡ false)
 neither true b none = absurd (true≢false none)
 neither false b none = (refl, none)
 
-absent : (es : List Entry) (q : List ℕ) → list_any (λ t. same_text t.table q) (tables_of es) ≡ false → lookup (bytes_eq q) es ≡ None
+pub absent : (es : List Entry) (q : List ℕ) → list_any (λ t. same_text t.table q) (tables_of es) ≡ false → lookup (bytes_eq q) es ≡ None
 absent [] q new = refl
 absent (e ∷ es) q new =
     let both = neither (same_text e.0 q) (list_any (λ t. same_text t.table q) (tables_of es)) new in
@@ -104,7 +104,7 @@ apply_more cs i c ts now more is made =
     ap (λ us. apply_all us (drop (i + 1) cs)) made ∙ apply_next c (drop (i + 1) cs) ts ∙ ap (λ d. apply_all ts (d ∷ drop (i + 1) cs)) is
     ∙ sym (at_drop_more (apply_all ts) cs i c more)
 
-apply_none : (ts : List TableRows) → apply_all ts [] ≡ ts
+pub apply_none : (ts : List TableRows) → apply_all ts [] ≡ ts
 apply_none [] = refl
 apply_none (t ∷ ts) = ap (λ (all : List TableRows). t ∷ all) (apply_none ts)
 
@@ -144,7 +144,7 @@ module _ (c : Change) where
       (λ i. record { table = e.0; rows = here i } ∷ behind i)
   changed_first false e es rows now is others set found rest = ap (λ (all : List TableRows). table_of e ∷ all) (rest found)
 
-  changed : (es : List Entry) (rows now : List Keyed) → IsDistinct bytes_eq (entry_keys es) → lookup (bytes_eq c.table) es ≡ Some rows → now ≡ set_to rows c.key c.after
+  pub changed : (es : List Entry) (rows now : List Keyed) → IsDistinct bytes_eq (entry_keys es) → lookup (bytes_eq c.table) es ≡ Some rows → now ≡ set_to rows c.key c.after
       → tables_of (insert_entry bytes_eq es c.table now) ≡ apply_all (tables_of es) (c ∷ [])
   unfolding IsDistinct
   changed [] rows now apart found set = absurd cc

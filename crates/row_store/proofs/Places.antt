@@ -1,7 +1,8 @@
 -- The index of a branch's changes finds the last change at each key.
 use Rattle.std.proofs.Common.{◌≡◌, ℕ, ◌+◌, ◌≤◌, Bool, true, false, cond, ◌&&◌, List, [], ◌∷◌, ◌++◌, length, slice_get, None, Some, Option, refl, sym, ap, ◌∙◌, arith, append_assoc, length-append, zero-add, add-zero}
 use Rattle.std.proofs.lemmas.List.Sums.{sum_by_push, sum_by-cons}
-use Rattle.std.specs.Cmp.Lexicographic.{nat_list_eq_equiv}
+use Rattle.std.proofs.lemmas.Bool.{and_parts}
+use Rattle.std.specs.Cmp.Lexicographic.{nat_list_eq_equiv, bytes_decides}
 use Rattle.std.specs.Cow.{cow_value}
 use Rattle.std.specs.declared.borrow.Cow.TheVariants.{Owned}
 use Rattle.std.specs.Map.{lookup}
@@ -18,7 +19,8 @@ use Rattle.row_store.specs.contracts.changed_key.ChangedKeyPartialEq.TheImpl as 
 use Rattle.row_store.specs.contracts.changed_key.ChangedKeyEq.TheImpl.Laws.{laws-law}
 use Rattle.row_store.specs.Own.{is_change_of, last_at, changes_length}
 use Rattle.row_store.specs.Kept.{is_key, place_at, last_place, after_at, IsKept}
-use Rattle.dtx_values.proofs.ValueOrder.{derived_same, same_is}
+use Rattle.dtx_values.proofs.ValueOrder.{derived_same, same_is, equal_from_same}
+use Rattle.sql_check.specs.Words.{same_text}
 
 -- ---- the bytes
 
@@ -64,7 +66,7 @@ hit_is k c table key tables keys =
 
 module _ (table : List ℕ) (key : Value) where
   -- one more change
-  last_place_push : (c : Change) (place : ℕ) (cs : List Change) (last : Option ℕ)
+  pub last_place_push : (c : Change) (place : ℕ) (cs : List Change) (last : Option ℕ)
       → last_place place (cs ++ c ∷ []) table key last ≡ cond (is_change_of table key c) (Some (place + length cs)) (last_place place cs table key last)
   last_place_push c place [] last = ap (λ n. cond (is_change_of table key c) (Some n) last) (sym (add-zero place))
   last_place_push c place (d ∷ cs) last =
@@ -97,6 +99,23 @@ module _ (table : List ℕ) (key : Value) where
   pub last_is : (cs : List Change) → after_at cs (last_place 0 cs table key None) ≡ last_at cs table key None
   last_is cs = after_last [] cs None
 
+-- ---- the index with another place at the key of a change
+
+module _ (k : ChangedKey) (c : Change) (tables : cow_value k.table ≡ c.table) (keys : cow_value k.key ≡ c.key) where
+  pub place_set : (es fs : List (ChangedKey × ℕ)) (place : Option ℕ)
+      → ((q : ChangedKey) → lookup (found_as q) fs ≡ cond (found_as k q) place (lookup (found_as q) es))
+      → (table : List ℕ) (key : Value) → place_at fs table key ≡ cond (is_change_of table key c) place (place_at es table key)
+  place_set es fs place given table key =
+      let q = asked table key in
+      sym (lookup_is q fs) ∙ given q ∙ (λ i. cond (hit_is k c table key tables keys i) place (lookup_is q es i))
+
+-- a key of the index that is found as the key of a change is at it
+pub found_at : (q k : ChangedKey) (c : Change) → cow_value q.table ≡ c.table → cow_value q.key ≡ c.key → found_as q k ≡ true
+    → (cow_value k.table ≡ c.table) × (cow_value k.key ≡ c.key)
+found_at q k c tables keys found =
+    let both = and_parts (same_text (cow_value k.table) (cow_value q.table)) (same_value (cow_value k.key) (cow_value q.key)) (sym (found_is q k) ∙ found) in
+    ((bytes_decides (cow_value k.table) (cow_value q.table)).0 both.0 ∙ tables, equal_from_same (cow_value k.key) (cow_value q.key) both.1 ∙ keys)
+
 -- ---- the index with one more change
 
 module _ (k : ChangedKey) (c : Change) (tables : cow_value k.table ≡ c.table) (keys : cow_value k.key ≡ c.key) where
@@ -105,11 +124,9 @@ module _ (k : ChangedKey) (c : Change) (tables : cow_value k.table ≡ c.table) 
       → ((table : List ℕ) (key : Value) → place_at es table key ≡ last_place 0 cs table key None)
       → (table : List ℕ) (key : Value) → place_at fs table key ≡ last_place 0 (cs ++ c ∷ []) table key None
   indexed_more es fs cs given before table key =
-      let q = asked table key in
       let place = sym (zero-add (length cs)) in
-      sym (lookup_is q fs) ∙ given q
-      ∙ (λ i. cond (hit_is k c table key tables keys i) (Some (place i)) (lookup_is q es i))
-      ∙ ap (cond (is_change_of table key c) (Some (0 + length cs))) (before table key)
+      place_set k c tables keys es fs (Some (length cs)) given table key
+      ∙ (λ i. cond (is_change_of table key c) (Some (place i)) (before table key i))
       ∙ sym (last_place_push table key c 0 cs None)
 
   pub kept_more : (es fs : List (ChangedKey × ℕ)) (cs : List Change) (bytes more : ℕ) → IsKept es cs bytes

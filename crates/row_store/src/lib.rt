@@ -9,11 +9,19 @@
 //! memory runs out.
 #![tactic(auto)]
 
+mod branch_key;
 mod changed_key;
 mod keyed_rows;
 mod lengths;
+mod made;
 mod own_changes;
+mod own_sets;
+mod owns;
 mod pending;
+mod row_places;
+mod store;
+mod store_err;
+mod table_places;
 mod tables;
 mod view;
 
@@ -21,5 +29,7 @@ pub use keyed_rows::KeyedRows;
 pub use lengths::{change_len, change_len_with, changes_len, extents, row_len, value_len};
 pub use own_changes::OwnChanges;
 pub use pending::{ChangeSet, ChangeSets, Doubt, Doubts, Owned, OwnedList};
+pub use store::Store;
+pub use store_err::StoreErr;
 pub use tables::Tables;
 pub use view::View;

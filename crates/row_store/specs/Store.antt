@@ -1,0 +1,134 @@
+-- What a node keeps of rows: the committed ones, what live branches have changed, what branches in doubt hold back, and how
+-- many undo extents there are for all.
+use Rattle.std.specs.List.{list_any, AllByRecursion}
+use Rattle.sql_check.specs.Words.{same_text}
+use Rattle.std.specs.Prelude.{◌≡◌, Bool, true, ℕ, ◌+◌, ◌-◌, if◌then◌else◌, List, [], ◌∷◌, ◌++◌, sum_by, length, take, map, nat_lt, Option, None, Some}
+use Rattle.dtx_values.specs.declared.row.Change.{Change}
+use Rattle.dtx_values.specs.Limits.{changes_limit}
+use Rattle.tran_ids.specs.declared.branch.BranchId.{BranchId}
+use Rattle.tran_ids.specs.Listed.{item_at, put_item, drop_item}
+use Rattle.sql_eval.specs.declared.keyed.Keyed.{Keyed}
+use Rattle.row_store.specs.declared.pending.ChangeSet.{ChangeSet}
+use Rattle.row_store.specs.declared.pending.Owned.{Owned}
+use Rattle.row_store.specs.declared.pending.Doubt.{Doubt}
+use Rattle.row_store.specs.Own.{changes_length, extents, before, view_of}
+use Rattle.row_store.specs.Pending.{changes_of, undo_of}
+use Rattle.row_store.specs.Tables.{TableRows, apply_all}
+use Rattle.row_store.specs.declared.store_err.StoreErr.{StoreErr}
+use Rattle.row_store.specs.declared.store_err.StoreErr.TheVariants.{Full, TooLarge, NoMemory}
+use Rattle.std.specs.declared.result.Result.{Result}
+use Rattle.std.specs.declared.result.Result.TheVariants.{Ok, Err}
+
+-- the branch whose changes these are
+abbrev pub own_id : Owned → BranchId
+own_id o = o.branch
+
+-- the branch that is in doubt
+abbrev pub doubt_id : Doubt → BranchId
+doubt_id d = d.branch
+
+-- the sets of changes of a branch that has some
+abbrev pub sets_of : Option Owned → List ChangeSet
+sets_of None = []
+sets_of (Some o) = o.sets
+
+-- the sets of changes of a live branch
+abbrev pub sets_at : List Owned → BranchId → List ChangeSet
+sets_at owns b = sets_of (item_at own_id owns b)
+
+-- the extents that the undo of sets takes
+abbrev pub extents_of_sets : List ChangeSet → ℕ
+extents_of_sets sets = extents (changes_length (undo_of sets))
+
+-- the extents that live branches hold
+abbrev pub own_extents : List Owned → ℕ
+own_extents owns = sum_by (λ o. extents (changes_length (undo_of o.sets))) owns
+
+-- with one more set of a branch
+abbrev pub with_set : List Owned → BranchId → ChangeSet → List Owned
+with_set owns b s = put_item own_id owns (record { branch = b; sets = sets_at owns b ++ s ∷ [] })
+
+-- all sets but the last
+abbrev pub but_last : List ChangeSet → List ChangeSet
+but_last sets = take (length sets - 1) sets
+
+-- without the last set of a branch that has some
+abbrev pub less_last : List Owned → Option Owned → List Owned
+less_last owns None = owns
+less_last owns (Some o) = put_item own_id owns (record o { sets = but_last o.sets })
+
+-- a branch's last set is taken back
+abbrev pub without_last : List Owned → BranchId → List Owned
+without_last owns b = less_last owns (item_at own_id owns b)
+
+-- the undo extents that live branches and branches in doubt hold
+abbrev pub used_extents : List Owned → List Doubt → ℕ
+used_extents owns doubts = sum_by (λ o. extents (changes_length (undo_of o.sets))) owns + sum_by (λ d. extents (changes_length d.undo)) doubts
+
+-- Committed rows, the changes of live branches, branches in doubt, and the undo extents that there are for all.
+pub record Contents : Type 0 where
+  pub rows : List TableRows
+  pub owns : List Owned
+  pub doubts : List Doubt
+  pub extents : ℕ
+
+-- nothing yet
+abbrev pub nothing_kept : ℕ → Contents
+nothing_kept undo = record { rows = []; owns = []; doubts = []; extents = undo }
+
+-- whether there is a table of a name
+abbrev pub has_table : List TableRows → List ℕ → Bool
+has_table rows table = list_any (λ t. same_text t.table table) rows
+
+-- each change is of a table that is there
+abbrev pub AreOfTables : List TableRows → List Change → Type 0
+AreOfTables rows cs = AllByRecursion (λ c. has_table rows c.table ≡ true) cs
+
+-- what a branch has changed
+abbrev pub own_changes : Contents → BranchId → List Change
+own_changes s b = changes_of (sets_at s.owns b)
+
+-- the rows of a table as a branch sees them
+abbrev pub seen_by : Contents → BranchId → List ℕ → List Keyed
+seen_by s b table = view_of s.rows (own_changes s b) table
+
+-- the changes of a statement of a branch, each with the row that the branch saw before the statement
+abbrev pub set_seen : Contents → BranchId → List Change → ChangeSet
+set_seen s b cs = record { changes = cs; undo = map (λ c. before (seen_by s b c.table) c) cs }
+
+-- with the changes of one more statement
+abbrev pub with_pending : Contents → BranchId → List Change → Contents
+with_pending s b cs = record s { owns = with_set s.owns b (set_seen s b cs) }
+
+-- the bytes of the branch's changes with these
+abbrev pub bytes_with : Contents → BranchId → List Change → ℕ
+bytes_with s b cs = changes_length (own_changes s b ++ cs)
+
+-- the extents that these changes need beside those that the branch holds
+abbrev pub extents_needed : Contents → BranchId → List Change → ℕ
+extents_needed s b cs = extents_of_sets (sets_at s.owns b ++ set_seen s b cs ∷ []) - extents_of_sets (sets_at s.owns b)
+
+-- the extents that nobody holds
+abbrev pub extents_free : Contents → ℕ
+extents_free s = s.extents - used_extents s.owns s.doubts
+
+-- why a store refuses changes: too many bytes, or else too few extents
+abbrev pub refusal_of : Contents → BranchId → List Change → Option StoreErr
+refusal_of s b cs =
+    if nat_lt changes_limit (bytes_with s b cs) then Some (TooLarge (bytes_with s b cs))
+    else (if nat_lt (extents_free s) (extents_needed s b cs) then Some (Full (extents_needed s b cs) (extents_free s)) else None)
+
+-- changes are taken where nothing refuses them, and an error is the one that refuses them, or want of memory
+abbrev pub Tells : {A : Type 0} → Result A StoreErr → Option StoreErr → Type 0
+Tells (Ok x) refusal = refusal ≡ None
+Tells (Err NoMemory) refusal = Unit {0}
+Tells (Err (TooLarge bytes)) refusal = refusal ≡ Some (TooLarge bytes)
+Tells (Err (Full need free)) refusal = refusal ≡ Some (Full need free)
+
+-- the branch's changes are committed
+abbrev pub committed : Contents → BranchId → Contents
+committed s b = record s { rows = apply_all s.rows (own_changes s b); owns = drop_item own_id s.owns b }
+
+-- and rolled back
+abbrev pub rolled_back : Contents → BranchId → Contents
+rolled_back s b = record s { owns = drop_item own_id s.owns b }
