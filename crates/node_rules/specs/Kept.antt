@@ -2,8 +2,9 @@
 -- Concepts".)
 pub use Rattle.redo_record.specs.Kept.{stands_at}
 pub use Rattle.reco.specs.Asks.{post_one, to_each, to_one}
+pub use Rattle.row_store.specs.Store.{own_id, doubt_id, sets_of, sets_at}
 use Rattle.std.specs.Prelude.{ℕ, List, [], ◌∷◌, map, max, Option, Some, None}
-use Rattle.node_rules.specs.Data.{BranchId, RedoRecord, Standing, Durable, Live, Kind, Msg, Owned, Doubt, ChangeSet, Work, Opening, Session, Finished, Post, Answer}
+use Rattle.node_rules.specs.Data.{BranchId, RedoRecord, Standing, Durable, Live, Kind, Msg, Owned, Doubt, Work, Opening, Session, Finished, Post, Answer}
 use Rattle.node_rules.specs.Words.{item_at, put_item, drop_item}
 use Rattle.node_rules.specs.Rows.{TableRows}
 use Rattle.link_session.specs.Calls.{no_calls}
@@ -70,14 +71,6 @@ live_id l = l.me
 abbrev pub work_id : Work → BranchId
 work_id w = w.branch
 
--- the branch whose changes these are
-abbrev pub own_id : Owned → BranchId
-own_id o = o.branch
-
--- the branch that is in doubt
-abbrev pub doubt_id : Doubt → BranchId
-doubt_id d = d.branch
-
 -- the branch of a kept row
 abbrev pub standing_id : Standing → BranchId
 standing_id s = s.me
@@ -107,15 +100,6 @@ with_work k (Some l) = Some (record { live = l; work = work_at k l.me })
 -- the live branch of an id, with its calls
 abbrev pub branch_at : Kept → BranchId → Option Branch
 branch_at k b = with_work k (live_at k b)
-
--- the sets of changes of a branch that has some
-abbrev pub sets_of : Option Owned → List ChangeSet
-sets_of None = []
-sets_of (Some o) = o.sets
-
--- the sets of changes of a live branch
-abbrev pub sets_at : List Owned → BranchId → List ChangeSet
-sets_at owns b = sets_of (item_at own_id owns b)
 
 -- with a live branch changed
 abbrev pub with_live : Kept → Live → Kept
