@@ -30,3 +30,6 @@ pub mod NodeLaws
 pub mod EventRows
 pub mod EventLaws
 pub mod IdLaws
+pub mod Births
+pub mod BirthLaws
+pub mod PhaseLaws

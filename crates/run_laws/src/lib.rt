@@ -10,6 +10,8 @@ ghost use Rattle.run_laws.specs.Laws.{BookIsOfTrace, FactsAreAlone, PastGoesOn, 
 ghost use Rattle.run_laws.specs.NodeLaws.{ClocksRise, ClocksCover, HoldersAreThere, RecordsAreKept, IdsAreFresh, CommitsAreKnown, CommitsAreRecorded};
 ghost use Rattle.run_laws.specs.EventLaws.{BookOfEvents, JustRunsAreLawful, JustRunsAgree, NodesAreAsEvents, TurnsTellAsEvents, SealedAreKept, GoneAreDone};
 ghost use Rattle.run_laws.specs.IdLaws.{IdsNameTheirNode};
+ghost use Rattle.run_laws.specs.PhaseLaws.{PhasesFit};
+ghost use Rattle.run_laws.specs.BirthLaws.{NoIdBeginsTwice, BirthsAreTrees, NodesNameTheBorn, RecordsNameTheBorn, MessagesAreOfNeighbors, BornAreLiveOrLeft};
 
 /// The book that the facts keep is the book of the trace.
 pub fn book_is_of_trace()
@@ -113,4 +115,42 @@ pub fn sealed_are_kept()
 /// A sealed branch that is neither live nor kept at its node learned a rollback or forgot.
 pub fn gone_are_done()
     ensures { GoneAreDone }
+{}
+
+/// No branch id begins twice in a run.
+pub fn no_id_begins_twice()
+    ensures { NoIdBeginsTwice }
+{}
+
+/// The branches that began in a run are trees: each but a root began below one that began, with the same root, one deeper.
+pub fn births_are_trees()
+    ensures { BirthsAreTrees }
+{}
+
+/// What a node keeps of its branches names the parent, the root and the children with which they began, over the edges over
+/// which they began.
+pub fn nodes_name_the_born()
+    ensures { NodesNameTheBorn }
+{}
+
+/// The seals and the decisions on a disk name the parent and the root with which their branches began, children that began
+/// below them, and a neighbour as the one on the way to the site.
+pub fn records_name_the_born()
+    ensures { RecordsNameTheBorn }
+{}
+
+/// Each message goes between a branch that began and its parent or its child, in the direction of its kind.
+pub fn messages_are_of_neighbors()
+    ensures { MessagesAreOfNeighbors }
+{}
+
+/// A branch that began is live at its node, or has an exit by the events of the run.
+pub fn born_are_live_or_left()
+    ensures { BornAreLiveOrLeft }
+{}
+
+/// A live branch has asked no child before its COMMIT or Prepare came. From then on it waits for the answers, and holds no
+/// Abort; only a branch below a root says Ready, once all have answered.
+pub fn phases_fit()
+    ensures { PhasesFit }
 {}
