@@ -1,18 +1,18 @@
 -- In every lawful run no id begins twice, the branches that began are trees, nodes, records and messages name them as they
 -- began, and each of them is live or has an exit.
-use Rattle.std.proofs.Common.{◌≡◌, ◌≢◌, ℕ, ◌+◌, ◌≤◌, Bool, true, false, if◌then◌else◌, List, [], ◌∷◌, ◌++◌, map, length, find, unwrap_or, Option, Some, None, inl, inr, refl, sym, ap, subst, subst₂, ◌∙◌, ◌⊎◌, arith, append-nil}
+use Rattle.std.proofs.Common.{◌≡◌, ◌≢◌, ℕ, ◌+◌, ◌≤◌, Bool, true, false, if◌then◌else◌, List, [], ◌∷◌, ◌++◌, length, Option, Some, None, inl, inr, refl, sym, ap, subst, subst₂, ◌∙◌, ◌⊎◌, arith, append-nil}
 use Rattle.std.specs.Prelude.{IfSome}
 use Rattle.std.specs.Option.{option_to_list}
 use Rattle.std.specs.List.{AllByRecursion}
 use Rattle.agreement.specs.Events.{Event, exit}
-use Rattle.node_rules.specs.Data.{BranchId, Kind, Msg, Edge, Kid, Standing, Live, Opening, RedoRecord, Place, Input}
+use Rattle.node_rules.specs.Data.{BranchId, Kind, Msg, Edge, Standing, Live, RedoRecord, Place, Input}
 use Rattle.node_rules.specs.Data.kinds
 use Rattle.node_rules.specs.Data.records
 use Rattle.node_rules.specs.Data.inputs
 use Rattle.redo_record.specs.Rows.{sealed_as, decided_as}
 use Rattle.node_rules.specs.Words.{numbered}
 use Rattle.node_rules.specs.Inputs.{Came, IsFit}
-use Rattle.node_rules.specs.Kept.{Kept, Deed, live_id}
+use Rattle.node_rules.specs.Kept.{Kept, Deed}
 use Rattle.node_rules.specs.Calls.{next_child}
 use Rattle.node_rules.specs.Client.{new_root}
 use Rattle.node_rules.specs.Records.{nothing_stored}
@@ -24,7 +24,7 @@ use Rattle.run_laws.specs.Facts.{Facts, first_facts, place_at, flat, node_at, re
 use Rattle.run_laws.specs.Lawful.{IsPlace, MayHappen, MayTurn, MayStart, IsOwed, Comes, IsNode, boots, IsLawful, History, IsLawfulRun, facts_at}
 use Rattle.run_laws.specs.RunEvents.{lives_at, with_happening, events_after, events_from, events_of}
 use Rattle.run_laws.specs.NodeLaws.{count_of}
-use Rattle.run_laws.specs.Births.{Born, root_born, child_born, births_by, births_at, births_after, births_from, births_of, born_id, born_at}
+use Rattle.run_laws.specs.Births.{Born, births_by, births_at, births_after, births_from, births_of, born_id, born_at}
 use Rattle.run_laws.specs.BirthLaws.{Began, IsChild, IsChildAt, AreNeighbors, StandsBelow, ChildrenAre, LiveIs, TowardIs, KeptIs, OpeningIs, NamesAre, RecordNames, GoesSo, NoIdBeginsTwice, BirthsAreTrees, NodesNameTheBorn, RecordsNameTheBorn, MessagesAreOfNeighbors, BornAreLiveOrLeft}
 use Rattle.run_laws.proofs.ListLemmas.{all_weaker, all_append, all_map}
 use Rattle.run_laws.proofs.LawfulLemmas.{comes_fit}
@@ -35,7 +35,7 @@ use Rattle.run_laws.proofs.OwnLemmas.{OwnAt}
 use Rattle.run_laws.proofs.MayStandLemmas.{unused_root, unused_child}
 use Rattle.run_laws.proofs.SaidLemmas.{numbered_so, sent_after}
 use Rattle.run_laws.proofs.AtNodeLemmas.{turn_elsewhere, turn_here, stop_elsewhere, stop_here, start_elsewhere, start_here}
-use Rattle.run_laws.proofs.NodesStandLemmas.{WasGiven, NodesStand, some_or_none}
+use Rattle.run_laws.proofs.NodesStandLemmas.{NodesStand, some_or_none}
 use Rattle.run_laws.proofs.TurnEventLemmas.{cases_nat, number_is, told, serving}
 use Rattle.run_laws.proofs.EventsStandLemmas.{first_disk, first_node, Stand, node_so, owned_so, stand_on, stand_first}
 use Rattle.run_laws.proofs.NeighborLemmas.{rows_stored, NamesSo, names_on}

@@ -17,7 +17,7 @@ use Rattle.commit_forget.specs.Next.{acks_kid}
 use Rattle.reco.specs.declared.post.Post.{Post}
 use Rattle.reco.specs.declared.told.Told.{Told}
 use Rattle.reco.specs.declared.told.Told.TheVariants as tolds
-use Rattle.node_rules.specs.Data.{Change, Stmt, Answer, BranchId, Decision, Kind, Edge, Peer, Live, Kid, Standing, Opening, RedoRecord, Place, Input, Vote}
+use Rattle.node_rules.specs.Data.{Change, Stmt, Answer, BranchId, Decision, Kind, Edge, Peer, Live, Standing, RedoRecord, Place, Input, Vote}
 use Rattle.node_rules.specs.Data.decisions
 use Rattle.node_rules.specs.Data.kinds
 use Rattle.node_rules.specs.Data.records
@@ -35,20 +35,20 @@ use Rattle.node_rules.specs.Inputs.{Came, IsCall}
 use Rattle.session_tree.specs.Live.{is_branch, children_of, peer_of, edge_at, new_edge}
 use Rattle.session_tree.specs.Tree.{step as step_from}
 use Rattle.node_rules.specs.Kept.{Kept, Branch, Deed, Stored, live_id, standing_id, live_at, branch_at, with_standing, post_one, to_each, to_one}
-use Rattle.node_rules.specs.Records.{applied, nothing_stored, stored_by}
+use Rattle.node_rules.specs.Records.{applied, stored_by}
 use Rattle.node_rules.specs.Sessions.{fresh_session, session_at, with_root, with_call}
 use Rattle.node_rules.specs.Statement.{ran, after_run}
 use Rattle.node_rules.specs.Calls.{is_opening, next_child, answer_says, exec_to, with_edge, reply_edge, reply_waits, reply_going, reply_of, hears_reply}
 use Rattle.node_rules.specs.Prepare.{is_place, is_prepared, named_children, toward_in, sealed_of, decided_of, site_neighbors, path_of, prepares, sealed_record, decided_record, own_changes, collecting, with_comment, ready, voted, has_voted, answers_first, with_prepare_sent, without_read_keys}
 use Rattle.node_rules.specs.Commit.{beyond, all_acked, acked_by, passes_commit, rollback_to, passes}
-use Rattle.node_rules.specs.Recovery.{kept_told, told_kind, ask_answer, Asking, asking_id, asks_live, asks_kept, acks_again, recovers, askings}
+use Rattle.node_rules.specs.Recovery.{kept_told, told_kind, Asking, asking_id, asks_live, asks_kept, acks_again, recovers, askings}
 use Rattle.node_rules.specs.Client.{new_root, fresh_root, begun_by}
 use Rattle.node_rules.proofs.Steps as steps
 use Rattle.node_rules.proofs.Steps.{Step, Says, IsOfRows, IsKept, Asked, Acting}
 use Rattle.node_rules.proofs.StandLemmas.{live_so}
 use Rattle.run_laws.specs.Births.{Born, root_born, child_born}
 use Rattle.run_laws.specs.BirthLaws.{IsChild, IsChildAt, AreNeighbors, ChildrenAre, LiveIs, TowardIs, KeptIs, OpeningIs, NamesAre, RecordNames, GoesSo}
-use Rattle.run_laws.proofs.ListLemmas.{all_weaker, all_filter, all_append, all_map, all_each, all_put}
+use Rattle.run_laws.proofs.ListLemmas.{all_weaker, all_filter, all_append, all_map, all_put}
 use Rattle.run_laws.proofs.StepLemmas.{made_so}
 use Rattle.run_laws.proofs.OwnLemmas.{all_found, all_with, all_without, all_last}
 

@@ -3,7 +3,7 @@ use Rattle.std.proofs.Common.{◌≡◌, ◌≢◌, ℕ, zero, suc, ◌||◌, no
 use Rattle.std.specs.List.{AllByRecursion, list_any}
 use Rattle.std.proofs.lemmas.Bool.{cond_both, not-true}
 use Rattle.std.proofs.lemmas.List.Folds.{list_any-append}
-use Rattle.node_rules.specs.Data.{Answer, BranchId, Edge, Vote, Phase, Live, Act, RedoRecord, Place, Input}
+use Rattle.node_rules.specs.Data.{BranchId, Edge, Vote, Phase, Live, Act, RedoRecord, Place, Input}
 use Rattle.node_rules.specs.Data.votes
 use Rattle.node_rules.specs.Data.phases
 use Rattle.node_rules.specs.Data.acts

@@ -2,17 +2,14 @@
 -- what nodes keep and say of a branch's neighbours is as they began.
 use Rattle.std.specs.Prelude.{◌≡◌, ◌≢◌, ℕ, ◌+◌, ◌≤◌, ◌⊎◌, true, List, [], ◌∷◌, Option, Some, None}
 use Rattle.std.specs.List.{AllByRecursion}
-use Rattle.node_rules.specs.Data.{BranchId, Kind, Edge, Live, Kid, Standing, Opening, RedoRecord, Input}
+use Rattle.node_rules.specs.Data.{BranchId, Kind, Edge, Live, Kid, Standing, Opening, RedoRecord}
 use Rattle.node_rules.specs.Data.kinds
 use Rattle.node_rules.specs.Data.records
 use Rattle.redo_record.specs.Rows.{sealed_as, decided_as}
 use Rattle.node_rules.specs.Kept.{Kept}
-use Rattle.node_rules.specs.Turn.{Is_gone, stand_of}
-use Rattle.agreement.specs.Events.{Event, exit}
-use Rattle.run_laws.specs.Data.{Happening}
-use Rattle.run_laws.specs.Data.happenings
+use Rattle.agreement.specs.Events.{exit}
 use Rattle.run_laws.specs.Branches.{is_among}
-use Rattle.run_laws.specs.Facts.{Facts, node_at, records_at}
+use Rattle.run_laws.specs.Facts.{node_at, records_at}
 use Rattle.run_laws.specs.RunEvents.{lives_at, events_of}
 use Rattle.run_laws.specs.Lawful.{History, IsLawfulRun, facts_at}
 use Rattle.run_laws.specs.NodeLaws.{count_of}

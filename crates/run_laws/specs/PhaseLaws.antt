@@ -2,7 +2,7 @@
 -- a branch has asked none, and from then on it holds no Abort.
 use Rattle.std.specs.Prelude.{◌≡◌, ◌≢◌, true, false, List, Option, None}
 use Rattle.std.specs.List.{AllByRecursion, list_any}
-use Rattle.node_rules.specs.Data.{BranchId, Edge, Phase, Live}
+use Rattle.node_rules.specs.Data.{BranchId, Edge, Phase}
 use Rattle.node_rules.specs.Data.votes
 use Rattle.node_rules.specs.Data.phases
 use Rattle.node_rules.specs.Prepare.{is_awaited}
