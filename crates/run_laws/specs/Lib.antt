@@ -33,3 +33,4 @@ pub mod IdLaws
 pub mod Births
 pub mod BirthLaws
 pub mod PhaseLaws
+pub mod TreeJust

@@ -10,6 +10,7 @@ ghost use Rattle.run_laws.specs.Laws.{BookIsOfTrace, FactsAreAlone, PastGoesOn, 
 ghost use Rattle.run_laws.specs.NodeLaws.{ClocksRise, ClocksCover, HoldersAreThere, RecordsAreKept, IdsAreFresh, CommitsAreKnown, CommitsAreRecorded};
 ghost use Rattle.run_laws.specs.EventLaws.{BookOfEvents, JustRunsAreLawful, JustRunsAgree, NodesAreAsEvents, TurnsTellAsEvents, SealedAreKept, GoneAreDone};
 ghost use Rattle.run_laws.specs.IdLaws.{IdsNameTheirNode};
+ghost use Rattle.run_laws.specs.TreeJust.{RunsByTreesAreJust, RunsByTreesAgree};
 ghost use Rattle.run_laws.specs.PhaseLaws.{PhasesFit};
 ghost use Rattle.run_laws.specs.BirthLaws.{NoIdBeginsTwice, BirthsAreTrees, NodesNameTheBorn, RecordsNameTheBorn, MessagesAreOfNeighbors, BornAreLiveOrLeft};
 
@@ -153,4 +154,16 @@ pub fn born_are_live_or_left()
 /// Abort; only a branch below a root says Ready, once all have answered.
 pub fn phases_fit()
     ensures { PhasesFit }
+{}
+
+/// A lawful run is just where each turn does what a forest of session trees allows: votes of all beyond before a seal and a
+/// decision, decisions from toward, Acks of all beyond before an Ack and Forgot, rollbacks of branches that are gone. All else
+/// that an event needs stands in every lawful run.
+pub fn runs_by_trees_are_just()
+    ensures { RunsByTreesAreJust }
+{}
+
+/// So the book of such a run agrees, its mixed outcomes are marked, and its decisions exceed their seals.
+pub fn runs_by_trees_agree()
+    ensures { RunsByTreesAgree }
 {}
