@@ -134,22 +134,22 @@ pub record BirthsStand (f : Facts) (t : List Event) (bs : List Born) : Type 0 wh
   pub said : AllByRecursion (λ x. GoesSo (Began bs) x.msg.from x.msg.to x.msg.kind) f.net.packets
   pub there : (b : BranchId) → born_at bs b ≢ None → (exit t b ≢ None) ⊎ (is_among b (lives_at (node_at f b.node)) ≡ true)
 
--- a message that comes goes so
-module _ (B : Born → Type 0) (f : Facts) (said : AllByRecursion (λ x. GoesSo B x.msg.from x.msg.to x.msg.kind) f.net.packets) where
-  message_goes : (m : Msg) (from to : BranchId) (scn : ℕ) (kind : Kind) → GoesSo B m.from m.to m.kind → inputs.Message m ≡ inputs.Message (record { from = from; to = to; scn = scn; kind = kind }) → GoesSo B from to kind
-  message_goes m from to scn kind is same_input =
+-- a message that comes is as all that were sent
+module _ (P : BranchId → BranchId → Kind → Type 0) (f : Facts) (said : AllByRecursion (λ x. P x.msg.from x.msg.to x.msg.kind) f.net.packets) where
+  message_so : (m : Msg) (from to : BranchId) (scn : ℕ) (kind : Kind) → P m.from m.to m.kind → inputs.Message m ≡ inputs.Message (record { from = from; to = to; scn = scn; kind = kind }) → P from to kind
+  message_so m from to scn kind is same_input =
       let it : inputs.Message m ≡ inputs.Message (record { from = from; to = to; scn = scn; kind = kind }) = same_input in
       let here : m ≡ record { from = from; to = to; scn = scn; kind = kind } = cc in
-      subst (λ (x : Msg). GoesSo B x.from x.to x.kind) here is
+      subst (λ (x : Msg). P x.from x.to x.kind) here is
 
-  pub came_goes : (k : Kept) (node : ℕ) (input : Input) (took : Option Took) → Comes f k node input took → (from to : BranchId) (kind : Kind) → Came input from to kind → GoesSo B from to kind
-  came_goes k node (inputs.Message m) (Some x) comes from to kind came =
-      message_goes m from to came.scn kind
-      (subst (λ (y : Msg). GoesSo B y.from y.to y.kind) comes.1.same (numbered_so (λ y. GoesSo B y.from y.to y.kind) f.net.packets x.number comes.0 said comes.1.sent)) came.is
-  came_goes k node (inputs.Message m) None comes from to kind came = absurd comes
-  came_goes k node (inputs.Call session statement) took comes from to kind came = absurd (cc (came.is))
-  came_goes k node (inputs.GiveUp session) took comes from to kind came = absurd (cc (came.is))
-  came_goes k node inputs.Reco took comes from to kind came = absurd (cc (came.is))
+  pub came_so : (k : Kept) (node : ℕ) (input : Input) (took : Option Took) → Comes f k node input took → (from to : BranchId) (kind : Kind) → Came input from to kind → P from to kind
+  came_so k node (inputs.Message m) (Some x) comes from to kind came =
+      message_so m from to came.scn kind
+      (subst (λ (y : Msg). P y.from y.to y.kind) comes.1.same (numbered_so (λ y. P y.from y.to y.kind) f.net.packets x.number comes.0 said comes.1.sent)) came.is
+  came_so k node (inputs.Message m) None comes from to kind came = absurd comes
+  came_so k node (inputs.Call session statement) took comes from to kind came = absurd (cc (came.is))
+  came_so k node (inputs.GiveUp session) took comes from to kind came = absurd (cc (came.is))
+  came_so k node inputs.Reco took comes from to kind came = absurd (cc (came.is))
 
 -- a node that hears names the same
 heard_names : (B : Born → Type 0) (k : Kept) (input : Input) → NamesAre B k → NamesAre B (heard k input)
@@ -220,7 +220,7 @@ module _ (places : List Place) (asked : List Command) (each : (n : ℕ) (p : Pla
     once_all (Child_begins to parent edge root depth came none) new b = counted_last bs _ new.0 born.once b
 
     came : (from to : BranchId) (kind : Kind) → Came u.input from to kind → GoesSo (Began bs) from to kind
-    came from to kind is = came_goes (Began bs) f born.said k u.node u.input u.took may.comes from to kind is
+    came from to kind is = came_so (GoesSo (Began bs)) f born.said k u.node u.input u.took may.comes from to kind is
 
     new_trees : {ys : List Born} → Begins p k u.input ys → AllByRecursion (λ x. StandsBelow (Began bs) x x.parent) ys
     new_trees None_begins = tt

@@ -32,12 +32,12 @@ abbrev awaited : Edge → Bool
 awaited e = is_awaited e.vote
 
 module _ (P : Edge → Type 0) where
-  slice_all : (es : List Edge) (i : ℕ) (e : Edge) → AllByRecursion P es → slice_get es i ≡ Some e → P e
+  pub slice_all : (es : List Edge) (i : ℕ) (e : Edge) → AllByRecursion P es → slice_get es i ≡ Some e → P e
   slice_all [] i e all is = absurd cc
   slice_all (x ∷ es) zero e all is = subst P (let it : Some x ≡ Some e = is in cc) all.0
   slice_all (x ∷ es) (suc i) e all is = slice_all es i e all.1 is
 
-  slice_set_all : (es : List Edge) (i : ℕ) (e : Edge) → AllByRecursion P es → P e → AllByRecursion P (slice_set es i e)
+  pub slice_set_all : (es : List Edge) (i : ℕ) (e : Edge) → AllByRecursion P es → P e → AllByRecursion P (slice_set es i e)
   slice_set_all [] i e all so = tt
   slice_set_all (x ∷ es) zero e all so = (so, all.1)
   slice_set_all (x ∷ es) (suc i) e all so = (all.0, slice_set_all es i e all.1 so)

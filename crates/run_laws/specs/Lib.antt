@@ -34,3 +34,4 @@ pub mod Births
 pub mod BirthLaws
 pub mod PhaseLaws
 pub mod TreeJust
+pub mod HeardLaws

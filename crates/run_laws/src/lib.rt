@@ -11,6 +11,7 @@ ghost use Rattle.run_laws.specs.NodeLaws.{ClocksRise, ClocksCover, HoldersAreThe
 ghost use Rattle.run_laws.specs.EventLaws.{BookOfEvents, JustRunsAreLawful, JustRunsAgree, NodesAreAsEvents, TurnsTellAsEvents, SealedAreKept, GoneAreDone};
 ghost use Rattle.run_laws.specs.IdLaws.{IdsNameTheirNode};
 ghost use Rattle.run_laws.specs.TreeJust.{RunsByTreesAreJust, RunsByTreesAgree};
+ghost use Rattle.run_laws.specs.HeardLaws.{AnswersAreTrue, AcksAreTrue, QuietsAreGone};
 ghost use Rattle.run_laws.specs.PhaseLaws.{PhasesFit};
 ghost use Rattle.run_laws.specs.BirthLaws.{NoIdBeginsTwice, BirthsAreTrees, NodesNameTheBorn, RecordsNameTheBorn, MessagesAreOfNeighbors, BornAreLiveOrLeft};
 
@@ -166,4 +167,20 @@ pub fn runs_by_trees_are_just()
 /// So the book of such a run agrees, its mixed outcomes are marked, and its decisions exceed their seals.
 pub fn runs_by_trees_agree()
     ensures { RunsByTreesAgree }
+{}
+
+/// What a live branch holds of its children's answers is true: a child that answered Prepared sent its vote, at a clock that
+/// this node has met, and one that answered ReadOnly is gone without changes.
+pub fn answers_are_true()
+    ensures { AnswersAreTrue }
+{}
+
+/// Each Ack that a row holds was sent by that neighbour.
+pub fn acks_are_true()
+    ensures { AcksAreTrue }
+{}
+
+/// A branch that says ReadOnly is gone without changes.
+pub fn quiets_are_gone()
+    ensures { QuietsAreGone }
 {}
