@@ -1,5 +1,5 @@
 -- Each step leaves it true what live branches hold of their children's answers and what rows hold of Acks.
-use Rattle.std.proofs.Common.{◌≡◌, ℕ, zero, suc, ◌+◌, ◌≤◌, ◌||◌, not, Bool, true, false, if◌then◌else◌, List, [], ◌∷◌, ◌++◌, map, slice_get, slice_set, Option, Some, None, refl, sym, ap, subst, arith}
+use Rattle.std.proofs.Common.{◌≡◌, ℕ, zero, suc, ◌+◌, ◌≤◌, ◌||◌, not, Bool, true, false, if◌then◌else◌, List, [], ◌∷◌, map, Option, Some, None, refl, sym, subst, arith}
 use Rattle.std.specs.List.{AllByRecursion}
 use Rattle.std.proofs.lemmas.Bool.{cond_both, and_parts}
 use Rattle.tran_ids.proofs.BranchLemmas.{equal_from_same}
@@ -11,7 +11,7 @@ use Rattle.redo_record.specs.Rows.{kid_of, sealed_as, decided_as, has_neighbors}
 use Rattle.commit_forget.specs.declared.next.Next.TheVariants as nexts
 use Rattle.commit_forget.specs.Next.{acks_kid}
 use Rattle.session_tree.specs.Live.{is_branch, new_edge}
-use Rattle.node_rules.specs.Data.{BranchId, Edge, Peer, Vote, Kind, Kid, Live, Act, Standing, RedoRecord, Place, Input}
+use Rattle.node_rules.specs.Data.{BranchId, Edge, Peer, Vote, Kind, Live, Act, Standing, RedoRecord, Place, Input}
 use Rattle.node_rules.specs.Data.votes
 use Rattle.node_rules.specs.Data.acts
 use Rattle.node_rules.specs.Data.kinds
@@ -21,15 +21,15 @@ use Rattle.node_rules.specs.Data.records
 use Rattle.node_rules.specs.Words.{same, numbered, set_numbered, put_item, drop_item}
 use Rattle.node_rules.specs.Inputs.{Came}
 use Rattle.node_rules.specs.Kept.{Kept, Branch, Deed, Stored, live_id, standing_id, live_at, branch_at}
-use Rattle.node_rules.specs.Records.{applied, nothing_stored, stored_by}
+use Rattle.node_rules.specs.Records.{applied, stored_by}
 use Rattle.node_rules.specs.Statement.{ran, after_run}
 use Rattle.node_rules.specs.Calls.{with_edge, hears_reply}
-use Rattle.node_rules.specs.Prepare.{sealed_record, decided_record, collecting, with_comment, with_prepare_sent, ready, voted, has_voted, is_awaited, answers_first}
+use Rattle.node_rules.specs.Prepare.{sealed_record, decided_record, with_prepare_sent, ready, voted, has_voted, is_awaited, answers_first}
 use Rattle.node_rules.specs.Commit.{acked_by}
 use Rattle.node_rules.proofs.Steps as steps
 use Rattle.node_rules.proofs.Steps.{Step, IsKept, Asked, Answers, Acting, vote_kind}
 use Rattle.node_rules.proofs.StandLemmas.{live_so}
-use Rattle.run_laws.specs.HeardLaws.{VoteIs, EdgeIs, AnswersAre, HasAcks, AcksAre}
+use Rattle.run_laws.specs.HeardLaws.{VoteIs, EdgeIs, AnswersAre, AcksAre}
 use Rattle.run_laws.proofs.ListLemmas.{all_weaker, all_filter, all_append, all_map, all_each, all_put}
 use Rattle.run_laws.proofs.StepLemmas.{made_so}
 use Rattle.run_laws.proofs.OwnLemmas.{all_found, all_with, all_without, all_last}

@@ -1,11 +1,10 @@
 -- In every lawful run what was heard of neighbours is true.
-use Rattle.std.proofs.Common.{◌≡◌, ◌≢◌, ℕ, ◌≤◌, max, Bool, true, false, List, [], ◌∷◌, ◌++◌, map, length, Option, Some, None, inl, inr, refl, sym, ap, subst, ◌∙◌, arith}
+use Rattle.std.proofs.Common.{◌≡◌, ℕ, ◌≤◌, Bool, true, false, List, [], ◌∷◌, map, length, Option, Some, None, inl, inr, refl, sym, ap, subst, ◌∙◌, arith}
 use Rattle.std.specs.Prelude.{IfSome}
 use Rattle.std.specs.List.{AllByRecursion, list_any}
 use Rattle.tran_ids.proofs.ListedLemmas.{item_is}
 use Rattle.agreement.specs.Events.{Quiet, Event, exit}
-use Rattle.reco.specs.declared.post.Post.{Post}
-use Rattle.node_rules.specs.Data.{BranchId, Kind, Msg, Live, Standing, RedoRecord, Place, Input}
+use Rattle.node_rules.specs.Data.{BranchId, Kind, Msg, RedoRecord, Place, Input}
 use Rattle.node_rules.specs.Data.kinds
 use Rattle.node_rules.specs.Data.records
 use Rattle.node_rules.specs.Data.inputs
@@ -14,13 +13,13 @@ use Rattle.node_rules.specs.Inputs.{Came}
 use Rattle.node_rules.specs.Kept.{Kept, Deed, live_id}
 use Rattle.node_rules.specs.Records.{nothing_stored}
 use Rattle.node_rules.specs.Turn.{made, turn_of, start_of, heard, deed_of, stamped}
-use Rattle.run_laws.specs.Data.{Took, Turn, Happening, Command}
+use Rattle.run_laws.specs.Data.{Turn, Happening, Command}
 use Rattle.run_laws.specs.Data.happenings
 use Rattle.run_laws.specs.Branches.{is_among}
 use Rattle.run_laws.specs.Trail.{is_read_only, is_quiet}
-use Rattle.run_laws.specs.Facts.{Facts, first_facts, place_at, flat, node_at, records_at, kept_after, with_boot, facts_after}
+use Rattle.run_laws.specs.Facts.{Facts, first_facts, place_at, node_at, kept_after, with_boot, facts_after}
 use Rattle.run_laws.specs.Lawful.{IsPlace, MayHappen, MayTurn, MayStart, IsOwed, IsNode, History, IsLawfulRun, facts_at}
-use Rattle.run_laws.specs.RunEvents.{with_event, wrote_event, lives_at, with_record, with_happening, with_leavers, events_after, events_of}
+use Rattle.run_laws.specs.RunEvents.{with_event, wrote_event, lives_at, with_record, with_happening, events_after, events_of}
 use Rattle.run_laws.specs.HeardLaws.{AnswersAre, AcksAre, QuietIs, AnswersAreTrue, AcksAreTrue, QuietsAreGone}
 use Rattle.run_laws.proofs.ListLemmas.{all_weaker, all_map}
 use Rattle.run_laws.proofs.LawfulLemmas.{serves}
@@ -29,7 +28,7 @@ use Rattle.run_laws.proofs.OwnLemmas.{all_found}
 use Rattle.run_laws.proofs.LaterLemmas.{Added, Any, added_on, added_wider, exit_later, wrote_added, turn_added, stop_added, messages_added, events_keep}
 use Rattle.run_laws.proofs.SaidLemmas.{sent_after, came_said}
 use Rattle.run_laws.proofs.AtNodeLemmas.{turn_elsewhere, turn_here, stop_elsewhere, stop_here, start_elsewhere, start_here}
-use Rattle.run_laws.proofs.NodesStandLemmas.{NodesStand, lives_among}
+use Rattle.run_laws.proofs.NodesStandLemmas.{lives_among}
 use Rattle.run_laws.proofs.TurnEventLemmas.{cases_nat, all_both}
 use Rattle.run_laws.proofs.EventsStandLemmas.{first_node, Stand, stand_on, stand_first}
 use Rattle.run_laws.proofs.BirthsStandLemmas.{came_so}

@@ -4,7 +4,7 @@ use Rattle.std.specs.Prelude.{flat_map}
 use Rattle.std.specs.List.{AllByRecursion, list_any}
 use Rattle.std.proofs.lemmas.Bool.{cond_both, or_left, or_right}
 use Rattle.tran_ids.proofs.BranchLemmas.{same_from_equal, equal_from_same}
-use Rattle.agreement.specs.Events.{Exit, Quiet, Event, Answer_read_only, Drop, first, only_at, exit_by, exit}
+use Rattle.agreement.specs.Events.{Exit, Quiet, Event, Answer_read_only, Drop, first, exit_by, exit}
 use Rattle.agreement.proofs.EventLemmas.{only_at_same}
 use Rattle.commit_forget.specs.declared.next.Beyond.{Beyond}
 use Rattle.commit_forget.specs.declared.next.Next.TheVariants as nexts
@@ -33,7 +33,7 @@ use Rattle.node_rules.proofs.Steps.{Step, Says, IsOfRows, Collects, Acting}
 use Rattle.run_laws.specs.Branches.{is_among}
 use Rattle.run_laws.specs.Trail.{is_read_only, is_quiet}
 use Rattle.run_laws.specs.RunEvents.{leave_event, has_left, with_leaver, with_leavers}
-use Rattle.run_laws.proofs.ListLemmas.{all_weaker, all_append, all_map, all_each, all_put}
+use Rattle.run_laws.proofs.ListLemmas.{all_weaker, all_append, all_each, all_put}
 use Rattle.run_laws.proofs.StepLemmas.{IsLive, acting_live}
 use Rattle.run_laws.proofs.RowEventLemmas.{only_none, first_new, same_turned}
 

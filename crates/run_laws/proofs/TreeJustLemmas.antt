@@ -1,24 +1,22 @@
 -- A lawful run whose turns do what the session tree allows is just: all else stands by the laws of every run.
-use Rattle.std.proofs.Common.{◌≡◌, ℕ, not, Bool, true, false, List, [], ◌∷◌, is_none, Option, Some, None, refl, sym, ap, subst, ◌∙◌, inl, inr}
+use Rattle.std.proofs.Common.{◌≡◌, ℕ, not, Bool, List, [], ◌∷◌, is_none, Option, Some, None, sym, ap, ◌∙◌}
 use Rattle.std.specs.Prelude.{IfSome}
-use Rattle.std.specs.List.{AllByRecursion}
 use Rattle.std.proofs.lemmas.Bool.{and_parts}
-use Rattle.agreement.specs.Outcomes.{differ}
-use Rattle.agreement.specs.Events.{Forest, Exit, Sealed, Event, Learn, mark, exit, learned, forced, Allowed}
+use Rattle.agreement.specs.Events.{Forest, Sealed, Event, Learn, mark, exit, learned, forced, Allowed}
 use Rattle.node_rules.specs.Data.{BranchId, Decision, Kind, Msg, RedoRecord, Place}
 use Rattle.node_rules.specs.Data.decisions
 use Rattle.node_rules.specs.Data.kinds
 use Rattle.node_rules.specs.Data.records
 use Rattle.node_rules.specs.Words.{numbered}
-use Rattle.run_laws.specs.Data.{Turn, Happening, Command}
+use Rattle.run_laws.specs.Data.{Happening, Command}
 use Rattle.run_laws.specs.Data.happenings
 use Rattle.run_laws.specs.Branches.{is_among}
 use Rattle.run_laws.specs.Facts.{Facts, first_facts, node_at, facts_after}
-use Rattle.run_laws.specs.Lawful.{IsPlace, MayHappen, IsLawful, History, IsLawfulRun}
-use Rattle.run_laws.specs.RunEvents.{wrote_event, record_event, message_event, lives_at, has_left, with_leaver, with_record, with_exits, events_after, IsAllowed, MaySend, MayLeave, HappensJustly, AreJust}
+use Rattle.run_laws.specs.Lawful.{IsPlace, MayHappen, IsLawful}
+use Rattle.run_laws.specs.RunEvents.{wrote_event, record_event, message_event, lives_at, with_leaver, with_record, events_after, IsAllowed, MaySend, MayLeave, HappensJustly, AreJust}
 use Rattle.run_laws.specs.EventRows.{MayStand, MaySay, MaySayAll}
 use Rattle.run_laws.specs.TreeJust.{TreeAllows, IsTreeAllowed, TreeSends, TreeLeaves, HappensByTree, GoByTree, RunsByTreesAreJust, RunsByTreesAgree}
-use Rattle.run_laws.proofs.LaterLemmas.{Added, Nothing_more, One_more, Later, leavers_added}
+use Rattle.run_laws.proofs.LaterLemmas.{Added, Nothing_more, One_more, leavers_added}
 use Rattle.run_laws.proofs.JustLemmas.{said_stays, none_is, just_runs_agree}
 use Rattle.run_laws.proofs.EventsStandLemmas.{Stand, tells_so, stand_on, stand_first}
 
