@@ -35,3 +35,4 @@ pub mod BirthLaws
 pub mod PhaseLaws
 pub mod TreeJust
 pub mod HeardLaws
+pub mod TriedRun

@@ -12,6 +12,7 @@ ghost use Rattle.run_laws.specs.EventLaws.{BookOfEvents, JustRunsAreLawful, Just
 ghost use Rattle.run_laws.specs.IdLaws.{IdsNameTheirNode};
 ghost use Rattle.run_laws.specs.TreeJust.{RunsByTreesAreJust, RunsByTreesAgree};
 ghost use Rattle.run_laws.specs.HeardLaws.{AnswersAreTrue, AcksAreTrue, QuietsAreGone};
+ghost use Rattle.run_laws.specs.TriedRun.{TheTriedRun};
 ghost use Rattle.run_laws.specs.PhaseLaws.{PhasesFit};
 ghost use Rattle.run_laws.specs.BirthLaws.{NoIdBeginsTwice, BirthsAreTrees, NodesNameTheBorn, RecordsNameTheBorn, MessagesAreOfNeighbors, BornAreLiveOrLeft};
 
@@ -183,4 +184,9 @@ pub fn acks_are_true()
 /// A branch that says ReadOnly is gone without changes.
 pub fn quiets_are_gone()
     ensures { QuietsAreGone }
+{}
+
+/// No law of trees and events is about nothing: a run of two nodes to a commit has these births and these events.
+pub fn the_tried_run()
+    ensures { TheTriedRun }
 {}
