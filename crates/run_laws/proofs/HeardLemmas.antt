@@ -92,7 +92,7 @@ module _ (t : List Event) where
   or_both P false c is first second = second is
 
   -- one more Ack is held
-  acked_so : (s : Standing) (from : BranchId) → Has (Send_ack from s.me) t → AcksAre t s → AcksAre t (acked_by s from)
+  pub acked_so : (s : Standing) (from : BranchId) → Has (Send_ack from s.me) t → AcksAre t s → AcksAre t (acked_by s from)
   acked_so s from sent is = record {
     above = λ acked b at. or_both (Has (Send_ack b s.me) t) s.parent_acked (is_branch from s.parent) acked (λ old. is.above old b at) (λ new. subst (λ c. Has (Send_ack c s.me) t) (is_it from b s.parent new at) sent);
     below = all_map (λ c. c.acked ≡ true → Has (Send_ack c.branch s.me) t) (acks_kid from) s.children

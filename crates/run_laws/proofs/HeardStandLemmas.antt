@@ -36,7 +36,7 @@ use Rattle.run_laws.proofs.HeardLemmas.{acks_stored, later_answers, later_acks, 
 use Rattle.run_laws.proofs.QuietLemmas.{Quits, QuitsSo, quits_on, quiet_there, quiet_leaves}
 
 -- what a node holds of its neighbours is true
-abbrev NodeHeard : List Event → Kept → Type 0
+abbrev pub NodeHeard : List Event → Kept → Type 0
 NodeHeard t k = AllByRecursion (AnswersAre t k.clock) k.lives × AllByRecursion (AcksAre t) k.stored.durable.kept
 
 -- What nodes hold of neighbours, and the answers without changes that are under way, are true.

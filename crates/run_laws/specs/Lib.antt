@@ -36,3 +36,4 @@ pub mod PhaseLaws
 pub mod TreeJust
 pub mod HeardLaws
 pub mod TriedRun
+pub mod TowardLaws

@@ -1,7 +1,7 @@
 -- A run on which the laws of session trees and of events are tried: a transaction of A that changes a row at A and, over a link,
 -- one at B. It commits, B is sealed and learns the commit, and both forget.
-use Rattle.std.specs.Prelude.{◌≡◌, ℕ, true, false, List, [], ◌∷◌, map, codes, pos, Option, Some, None}
-use Rattle.node_rules.specs.Data.{Value, Change, Column, Table, TableRef, Stmt, BranchId, Msg, Place, Input}
+use Rattle.std.specs.Prelude.{◌≡◌, ℕ, true, false, List, [], ◌∷◌, codes, pos, Option, Some, None}
+use Rattle.node_rules.specs.Data.{Value, Change, Column, Table, TableRef, Stmt, BranchId, Place, Input}
 use Rattle.node_rules.specs.Data.values
 use Rattle.node_rules.specs.Data.terms
 use Rattle.node_rules.specs.Data.stmts
@@ -14,7 +14,7 @@ use Rattle.run_laws.specs.Data.{Packet, Took, Turn, Happening}
 use Rattle.run_laws.specs.Data.happenings
 use Rattle.run_laws.specs.Facts.{Facts, first_facts, outcome_at, facts_after}
 use Rattle.run_laws.specs.RunEvents.{events_from}
-use Rattle.run_laws.specs.Births.{Born, root_born, child_born, births_from}
+use Rattle.run_laws.specs.Births.{root_born, child_born, births_from}
 
 -- ---- two nodes, and what comes to them
 

@@ -13,6 +13,7 @@ ghost use Rattle.run_laws.specs.IdLaws.{IdsNameTheirNode};
 ghost use Rattle.run_laws.specs.TreeJust.{RunsByTreesAreJust, RunsByTreesAgree};
 ghost use Rattle.run_laws.specs.HeardLaws.{AnswersAreTrue, AcksAreTrue, QuietsAreGone};
 ghost use Rattle.run_laws.specs.TriedRun.{TheTriedRun};
+ghost use Rattle.run_laws.specs.TowardLaws.{TurnsGoByRows};
 ghost use Rattle.run_laws.specs.PhaseLaws.{PhasesFit};
 ghost use Rattle.run_laws.specs.BirthLaws.{NoIdBeginsTwice, BirthsAreTrees, NodesNameTheBorn, RecordsNameTheBorn, MessagesAreOfNeighbors, BornAreLiveOrLeft};
 
@@ -189,4 +190,10 @@ pub fn quiets_are_gone()
 /// No law of trees and events is about nothing: a run of two nodes to a commit has these births and these events.
 pub fn the_tried_run()
     ensures { TheTriedRun }
+{}
+
+/// A branch learns its decision of the neighbour that its row has as toward. It forgets once all beyond acknowledged, where it is
+/// the site, and elsewhere after toward.
+pub fn turns_go_by_rows()
+    ensures { TurnsGoByRows }
 {}
