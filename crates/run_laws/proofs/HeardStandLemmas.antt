@@ -66,11 +66,11 @@ quiet_by t from kinds.ReadOnly is = is refl
 quiet_by t from _ is = tt
 
 -- a live branch is among the live branches
-live_among : (k : Kept) (b : BranchId) → IsLive k b → is_among b (map live_id k.lives) ≡ true
+pub live_among : (k : Kept) (b : BranchId) → IsLive k b → is_among b (map live_id k.lives) ≡ true
 live_among k b live =
     subst (λ m. is_among m (map live_id k.lives) ≡ true) (item_is live_id k.lives b live.0 live.1) (all_found (λ l. is_among l.me (map live_id k.lives) ≡ true) live_id k.lives b live.0 (lives_among k.lives) live.1)
 
-heard_lives : (k : Kept) (input : Input) (b : BranchId) → IsLive (heard k input) b → IsLive k b
+pub heard_lives : (k : Kept) (input : Input) (b : BranchId) → IsLive (heard k input) b → IsLive k b
 heard_lives k (inputs.Message m) b live = live
 heard_lives k (inputs.Call n s) b live = live
 heard_lives k (inputs.GiveUp n) b live = live

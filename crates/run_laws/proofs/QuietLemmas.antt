@@ -114,7 +114,7 @@ says_plain _ = (refl, tt)
 -- ---- a turn that says ReadOnly
 
 -- the input is no call of a statement with a table
-abbrev NoRows : Input → Type 0
+abbrev pub NoRows : Input → Type 0
 NoRows input = (n : ℕ) (s : Stmt) → IsCall input n s → IsOfRows s → ⊥
 
 -- Its sender was live, and is gone without a record.
@@ -127,7 +127,7 @@ pub record Quits (input : Input) (k : Kept) (d : Deed) (b : BranchId) : Type 0 w
 abbrev pub QuitsSo : Input → Kept → Deed → Post → Type 0
 QuitsSo input k d x = is_read_only x.kind ≡ true → Quits input k d x.from
 
-dropped_gone : (b : BranchId) (xs : List Live) → is_among b (map live_id (drop_item live_id xs b)) ≡ false
+pub dropped_gone : (b : BranchId) (xs : List Live) → is_among b (map live_id (drop_item live_id xs b)) ≡ false
 dropped_gone b [] = refl
 dropped_gone b (x ∷ xs) = by (same x.me b) refl (dropped_gone b xs)
   where
@@ -135,17 +135,17 @@ dropped_gone b (x ∷ xs) = by (same x.me b) refl (dropped_gone b xs)
     by true is later = later
     by false is later = ap (λ q. q || is_among b (map live_id (drop_item live_id xs b))) is ∙ later
 
-call_apart : {input : Input} (n m : ℕ) (s t : Stmt) → IsCall input n s → IsCall input m t → s ≡ t
+pub call_apart : {input : Input} (n m : ℕ) (s t : Stmt) → IsCall input n s → IsCall input m t → s ≡ t
 call_apart n m s t first second = let it : inputs.Call n (Some s) ≡ inputs.Call m (Some t) = sym first ∙ second in cc
 
-came_apart : {input : Input} {from to : BranchId} {kind : Kind} (n : ℕ) (s : Stmt) → Came input from to kind → IsCall input n s → ⊥
+pub came_apart : {input : Input} {from to : BranchId} {kind : Kind} (n : ℕ) (s : Stmt) → Came input from to kind → IsCall input n s → ⊥
 came_apart n s came call = let it : inputs.Call n (Some s) ≡ inputs.Message (record { from = _; to = _; scn = came.scn; kind = _ }) = sym call ∙ came.is in absurd cc
 
 collects_apart : {k : Kept} {input : Input} {l : Live} {comment : List ℕ} {site_below : Bool} → Collects k input l comment site_below → NoRows input
 collects_apart (steps.By_commit n given call has code is) m s other rows = subst IsOfRows (call_apart m n s (stmts.Commit given) other call) rows
 collects_apart (steps.By_prepare from site_below came working) m s other rows = came_apart m s came other
 
-acting_apart : {k : Kept} {input : Input} {l : Live} {site_below : Bool} {a : Act} → Acting k input l site_below a → NoRows input
+pub acting_apart : {k : Kept} {input : Input} {l : Live} {site_below : Bool} {a : Act} → Acting k input l site_below a → NoRows input
 acting_apart (steps.Asks_down l comment site_below e es live begins has) m s other rows = collects_apart begins m s other rows
 acting_apart (steps.Has_no_children l comment site_below a live begins none collected) m s other rows = collects_apart begins m s other rows
 acting_apart (steps.Hears_abort l from site_below live answers) m s other rows = came_apart m s answers.came other

@@ -49,11 +49,11 @@ none_found None is = refl
 none_found (Some b) is = absurd cc
 
 -- a row is like itself
-itself : (ks : List Standing) (s : Standing) → item_at standing_id ks s.me ≡ Some s → IsRowLike ks s.me s
+pub itself : (ks : List Standing) (s : Standing) → item_at standing_id ks s.me ≡ Some s → IsRowLike ks s.me s
 itself ks s stands = record { row = s; stands = stands; like = refl }
 
 -- and like the row before an Ack was counted
-like_acked : (ks : List Standing) (s : Standing) (from : BranchId) → item_at standing_id ks s.me ≡ Some s → (b : BranchId) (x : Standing) → IsRowLike (put_item standing_id ks (acked_by s from)) b x → IsRowLike ks b x
+pub like_acked : (ks : List Standing) (s : Standing) (from : BranchId) → item_at standing_id ks s.me ≡ Some s → (b : BranchId) (x : Standing) → IsRowLike (put_item standing_id ks (acked_by s from)) b x → IsRowLike ks b x
 like_acked ks s from stands b x is = elim (put_or_before standing_id ks (acked_by s from) b) [
   | inl same ↦ record { row = is.row; stands = sym same ∙ is.stands; like = is.like }
   | inr new ↦ (let it : Some (acked_by s from) ≡ Some is.row = sym new.1 ∙ is.stands in
@@ -157,7 +157,7 @@ module _ (t : List Event) (p : Place) (input : Input) (told : (from to : BranchI
 -- ---- every run
 
 -- a node that hears has the same rows
-heard_rows : (k : Kept) (input : Input) → (heard k input).stored.durable.kept ≡ k.stored.durable.kept
+pub heard_rows : (k : Kept) (input : Input) → (heard k input).stored.durable.kept ≡ k.stored.durable.kept
 heard_rows k (inputs.Message m) = refl
 heard_rows k (inputs.Call n s) = refl
 heard_rows k (inputs.GiveUp n) = refl

@@ -37,3 +37,4 @@ pub mod TreeJust
 pub mod HeardLaws
 pub mod TriedRun
 pub mod TowardLaws
+pub mod RowSayLaws

@@ -14,6 +14,7 @@ ghost use Rattle.run_laws.specs.TreeJust.{RunsByTreesAreJust, RunsByTreesAgree};
 ghost use Rattle.run_laws.specs.HeardLaws.{AnswersAreTrue, AcksAreTrue, QuietsAreGone};
 ghost use Rattle.run_laws.specs.TriedRun.{TheTriedRun};
 ghost use Rattle.run_laws.specs.TowardLaws.{TurnsGoByRows};
+ghost use Rattle.run_laws.specs.RowSayLaws.{TurnsTellByRows};
 ghost use Rattle.run_laws.specs.PhaseLaws.{PhasesFit};
 ghost use Rattle.run_laws.specs.BirthLaws.{NoIdBeginsTwice, BirthsAreTrees, NodesNameTheBorn, RecordsNameTheBorn, MessagesAreOfNeighbors, BornAreLiveOrLeft};
 
@@ -196,4 +197,10 @@ pub fn the_tried_run()
 /// the site, and elsewhere after toward.
 pub fn turns_go_by_rows()
     ensures { TurnsGoByRows }
+{}
+
+/// A branch acknowledges a commit where by its row all beyond acknowledged, or where it is over and the receiver told it. It tells a
+/// rollback where it is over, or to one that its row names neither as its parent nor as a child.
+pub fn turns_tell_by_rows()
+    ensures { TurnsTellByRows }
 {}
