@@ -1,5 +1,5 @@
 -- Each step acknowledges a commit once all beyond did, and tells a rollback that is known, or of a branch that it ends.
-use Rattle.std.proofs.Common.{◌≡◌, ℕ, ◌+◌, ◌-◌, ◌&&◌, not, Bool, true, false, List, [], ◌∷◌, ◌++◌, map, filter, fold, length, Option, Some, None, inl, inr, refl, sym, ap, subst, ◌∙◌, ◌⊎◌}
+use Rattle.std.proofs.Common.{◌≡◌, ℕ, ◌+◌, ◌-◌, ◌&&◌, not, Bool, false, List, [], ◌∷◌, ◌++◌, map, filter, fold, length, Option, Some, None, inl, inr, refl, sym, ap, subst, ◌∙◌, ◌⊎◌}
 use Rattle.std.specs.Prelude.{flat_map}
 use Rattle.std.specs.List.{AllByRecursion}
 use Rattle.std.proofs.lemmas.Bool.{cond_both, and_parts}
@@ -9,11 +9,10 @@ use Rattle.commit_forget.specs.declared.next.Beyond.{Beyond}
 use Rattle.commit_forget.specs.declared.next.Next.TheVariants as nexts
 use Rattle.commit_forget.specs.Beyond.{is_neighbor}
 use Rattle.reco.specs.declared.post.Post.{Post}
-use Rattle.reco.specs.declared.told.Told.{Told}
 use Rattle.reco.specs.declared.told.Told.TheVariants as tolds
 use Rattle.session_tree.specs.Live.{children_of, peer_of, new_edge}
 use Rattle.session_tree.specs.Tree.{step as step_from}
-use Rattle.node_rules.specs.Data.{Answer, Stmt, BranchId, Decision, Edge, Kind, Msg, Live, Act, Standing, RedoRecord, Place, Input}
+use Rattle.node_rules.specs.Data.{Answer, Stmt, BranchId, Decision, Edge, Kind, Msg, Live, Standing, RedoRecord, Place, Input}
 use Rattle.node_rules.specs.Data.acts
 use Rattle.node_rules.specs.Data.decisions
 use Rattle.node_rules.specs.Data.inputs
@@ -21,9 +20,9 @@ use Rattle.node_rules.specs.Data.kinds
 use Rattle.node_rules.specs.Data.records
 use Rattle.node_rules.specs.Data.stmts
 use Rattle.node_rules.specs.declared.session.Session.{Session}
-use Rattle.node_rules.specs.Words.{put_by_branch, put_item, drop_item}
+use Rattle.node_rules.specs.Words.{put_by_branch}
 use Rattle.node_rules.specs.Inputs.{Came, IsCall}
-use Rattle.node_rules.specs.Kept.{Kept, Branch, Deed, live_id, standing_id, live_at, branch_at, post_one, to_each, to_one}
+use Rattle.node_rules.specs.Kept.{Kept, Branch, Deed, live_id, standing_id, live_at, post_one, to_each, to_one}
 use Rattle.node_rules.specs.Calls.{answer_says, exec_to, with_edge, hears_reply}
 use Rattle.node_rules.specs.Statement.{ran, after_run}
 use Rattle.node_rules.specs.Prepare.{path_of, prepares, site_neighbors}
@@ -36,7 +35,7 @@ use Rattle.node_rules.proofs.StandLemmas.{live_so}
 use Rattle.run_laws.specs.Branches.{is_among}
 use Rattle.run_laws.specs.HeardLaws.{AcksAre}
 use Rattle.run_laws.specs.TowardLaws.{IsRowLike, AllAcked}
-use Rattle.run_laws.proofs.ListLemmas.{all_weaker, all_append, all_map, all_each, all_put}
+use Rattle.run_laws.proofs.ListLemmas.{all_weaker, all_append, all_each, all_put}
 use Rattle.run_laws.proofs.StepLemmas.{IsLive, acting_live}
 use Rattle.run_laws.proofs.OwnLemmas.{all_found, all_with}
 use Rattle.run_laws.proofs.HeardLemmas.{acked_so}

@@ -1,26 +1,26 @@
 -- In every lawful run commits are acknowledged once all beyond did, and rollbacks told by branches that are over.
-use Rattle.std.proofs.Common.{◌≡◌, ◌≢◌, ℕ, ◌+◌, ◌≤◌, ◌&&◌, ◌||◌, not, Bool, true, false, if◌then◌else◌, List, [], ◌∷◌, ◌++◌, map, is_none, Option, Some, None, inl, inr, refl, sym, ap, subst, ◌∙◌, ◌⊎◌, arith}
+use Rattle.std.proofs.Common.{◌≡◌, ℕ, ◌+◌, ◌≤◌, ◌&&◌, ◌||◌, not, Bool, true, false, if◌then◌else◌, List, [], ◌∷◌, map, is_none, Option, Some, None, inl, inr, refl, sym, ap, subst, ◌∙◌, ◌⊎◌, arith}
 use Rattle.std.specs.Prelude.{IfSome}
 use Rattle.std.specs.List.{AllByRecursion, list_any}
 use Rattle.std.proofs.lemmas.Bool.{cond_both}
 use Rattle.tran_ids.proofs.BranchLemmas.{equal_from_same, same_from_equal}
 use Rattle.tran_ids.proofs.ListedLemmas.{item_is}
-use Rattle.agreement.specs.Events.{Exit, Sealed, Decided, Quiet, Dropped, Event, Answer_read_only, Drop, first, exit_by, exit, learned, Has, Gone}
+use Rattle.agreement.specs.Events.{Exit, Sealed, Decided, Quiet, Dropped, Event, Answer_read_only, Drop, first, exit_by, exit, learned, Gone}
 use Rattle.agreement.proofs.EventLemmas.{only_at_same}
-use Rattle.node_rules.specs.Data.{BranchId, Decision, Kind, Msg, Live, Standing, RedoRecord, Place, Input}
+use Rattle.node_rules.specs.Data.{BranchId, Kind, Msg, Live, Standing, RedoRecord, Place, Input}
 use Rattle.node_rules.specs.Data.decisions
 use Rattle.node_rules.specs.Data.inputs
 use Rattle.node_rules.specs.Data.kinds
 use Rattle.node_rules.specs.Data.records
 use Rattle.node_rules.specs.Words.{same, numbered, item_at}
 use Rattle.node_rules.specs.Inputs.{Came}
-use Rattle.node_rules.specs.Kept.{Kept, Branch, Deed, live_id, standing_id, live_at, with_work, branch_at, standing_at}
-use Rattle.node_rules.specs.Turn.{Stand, Is_live, Is_gone, live_or, stand_of, turn_of, heard, deed_of, stamped}
+use Rattle.node_rules.specs.Kept.{Kept, Deed, live_id, standing_id, with_work, standing_at}
+use Rattle.node_rules.specs.Turn.{Is_gone, live_or, stand_of, turn_of, heard, deed_of, stamped}
 use Rattle.run_laws.specs.Data.{Took, Turn, Happening, Command}
 use Rattle.run_laws.specs.Data.happenings
 use Rattle.run_laws.specs.Branches.{is_among}
 use Rattle.run_laws.specs.Trail.{is_quiet}
-use Rattle.run_laws.specs.Facts.{Facts, first_facts, place_at, node_at, records_at, kept_after, facts_after}
+use Rattle.run_laws.specs.Facts.{Facts, first_facts, place_at, node_at, kept_after, facts_after}
 use Rattle.run_laws.specs.Lawful.{IsPlace, MayHappen, MayTurn, IsOwed, Comes}
 use Rattle.run_laws.specs.NodeLaws.{count_of, unacked_row}
 use Rattle.run_laws.specs.RunEvents.{with_event, wrote_event, lives_at, leave_event, has_left, with_leaver, with_leavers, with_record, with_exits, events_after}
@@ -43,7 +43,6 @@ use Rattle.run_laws.proofs.KeptRowLemmas.{any_map, StaysKept, keeps_on}
 use Rattle.run_laws.proofs.GoneLemmas.{kept_not_gone}
 use Rattle.run_laws.proofs.EventsStandLemmas.{Stand as StandAll, node_so, tells_so, stand_on, stand_first}
 use Rattle.run_laws.proofs.BirthsStandLemmas.{BirthsStand, came_so, births_on, stand_born_first}
-use Rattle.run_laws.proofs.QuietLemmas.{NoRows}
 use Rattle.run_laws.proofs.HeardStandLemmas.{NodeHeard, HeardStand, heard_on, stand_heard_first, live_among, heard_lives}
 use Rattle.run_laws.proofs.TowardLemmas.{ToldSo, heard_rows}
 use Rattle.run_laws.proofs.RowSayLemmas.{LearnsRollback, IsAsked, Rolls, Has_left, Has_learned, Is_not_there, Knows_so, Names_not, Acks, All_have, Is_done, SaysSo, RowsFound, says_on}

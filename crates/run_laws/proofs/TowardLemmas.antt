@@ -1,5 +1,5 @@
 -- In every lawful run a branch learns its decision of toward, and forgets once all beyond acknowledged, or after toward.
-use Rattle.std.proofs.Common.{◌≡◌, ℕ, ◌+◌, ◌&&◌, not, Bool, true, false, List, [], ◌∷◌, ◌++◌, map, filter, is_none, Option, Some, None, inl, inr, refl, sym, ap, subst, ◌∙◌, ◌⊎◌}
+use Rattle.std.proofs.Common.{◌≡◌, ℕ, not, Bool, true, List, [], ◌∷◌, filter, is_none, Option, Some, None, inl, inr, refl, sym, ap, subst, ◌∙◌}
 use Rattle.std.specs.Prelude.{IfSome}
 use Rattle.std.specs.List.{AllByRecursion, list_all}
 use Rattle.std.proofs.lemmas.Bool.{cond_both, and_parts}
@@ -12,7 +12,6 @@ use Rattle.commit_forget.specs.Beyond.{beyond, parent_beyond, kid_beyond, all_ac
 use Rattle.session_tree.specs.Live.{is_branch}
 use Rattle.node_rules.specs.Data.{BranchId, Decision, Kind, Standing, RedoRecord, Place, Input}
 use Rattle.node_rules.specs.Data.acts
-use Rattle.node_rules.specs.Data.decisions
 use Rattle.node_rules.specs.Data.inputs
 use Rattle.node_rules.specs.Data.kinds
 use Rattle.node_rules.specs.Data.records
@@ -25,12 +24,12 @@ use Rattle.node_rules.proofs.Steps as steps
 use Rattle.node_rules.proofs.Steps.{Step, Doing, IsKept}
 use Rattle.run_laws.specs.Data.{Turn, Happening, Command}
 use Rattle.run_laws.specs.Data.happenings
-use Rattle.run_laws.specs.Facts.{Facts, first_facts, place_at, node_at}
+use Rattle.run_laws.specs.Facts.{Facts, first_facts, place_at}
 use Rattle.run_laws.specs.Lawful.{IsPlace, MayHappen, MayTurn}
 use Rattle.run_laws.specs.NodeLaws.{unacked_row}
 use Rattle.run_laws.specs.HeardLaws.{AcksAre}
 use Rattle.run_laws.specs.TowardLaws.{IsRowLike, WasTold, LearnsSo, AllAcked, ForgetsSo, GoesByRow, WritesByRow, TurnsGoByRows}
-use Rattle.run_laws.proofs.ListLemmas.{all_weaker, all_filter, all_append, all_map}
+use Rattle.run_laws.proofs.ListLemmas.{all_filter, all_append, all_map}
 use Rattle.run_laws.proofs.LawfulLemmas.{of_wrote, serves, turn_of_node}
 use Rattle.run_laws.proofs.AckLemmas.{row_acked}
 use Rattle.run_laws.proofs.LaterLemmas.{events_each}

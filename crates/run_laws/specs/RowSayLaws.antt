@@ -1,5 +1,5 @@
 -- Who acknowledges a commit, and who tells a rollback.
-use Rattle.std.specs.Prelude.{◌≡◌, ℕ, ◌⊎◌, false, List, Option, Some}
+use Rattle.std.specs.Prelude.{◌≡◌, ℕ, ◌⊎◌, false, List, Some}
 use Rattle.std.specs.List.{AllByRecursion}
 use Rattle.commit_forget.specs.Beyond.{is_neighbor}
 use Rattle.agreement.specs.Events.{Decided, Event, Send_commit, exit, Has, Gone}

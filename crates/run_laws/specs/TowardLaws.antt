@@ -1,6 +1,6 @@
 -- Of whom a branch learns its decision, and when it forgets: by its row, toward told it the decision; and toward has forgotten,
 -- or it is the site and all beyond it acknowledged.
-use Rattle.std.specs.Prelude.{◌≡◌, ◌⊎◌, IfSome, List, Option, Some, None}
+use Rattle.std.specs.Prelude.{◌≡◌, ◌⊎◌, IfSome, List, Some, None}
 use Rattle.std.specs.List.{AllByRecursion}
 use Rattle.commit_forget.specs.Beyond.{beyond}
 use Rattle.agreement.specs.Events.{Event, Send_commit, Send_rollback, Send_ack, Send_forgotten, Has}
