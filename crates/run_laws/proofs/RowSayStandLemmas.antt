@@ -42,7 +42,8 @@ use Rattle.run_laws.proofs.NodesStandLemmas.{stored_rows, acked_back, some_or_no
 use Rattle.run_laws.proofs.KeptRowLemmas.{any_map, StaysKept, keeps_on}
 use Rattle.run_laws.proofs.GoneLemmas.{kept_not_gone}
 use Rattle.run_laws.proofs.EventsStandLemmas.{Stand as StandAll, node_so, tells_so, stand_on, stand_first}
-use Rattle.run_laws.proofs.BirthsStandLemmas.{BirthsStand, came_so, births_on, stand_born_first}
+use Rattle.run_laws.proofs.BirthsStandLemmas.{BirthsStand, came_so}
+use Rattle.run_laws.proofs.BirthRunLemmas.{births_on, stand_born_first}
 use Rattle.run_laws.proofs.HeardStandLemmas.{NodeHeard, HeardStand, heard_on, stand_heard_first, live_among, heard_lives}
 use Rattle.run_laws.proofs.TowardLemmas.{ToldSo, heard_rows}
 use Rattle.run_laws.proofs.RowSayLemmas.{LearnsRollback, IsAsked, Rolls, Has_left, Has_learned, Is_not_there, Knows_so, Names_not, Acks, All_have, Is_done, SaysSo, RowsFound, says_on}

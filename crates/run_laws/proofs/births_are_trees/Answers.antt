@@ -1,4 +1,4 @@
-use Rattle.run_laws.proofs.BirthsStandLemmas.{births_are_trees}
+use Rattle.run_laws.proofs.BirthRunLemmas.{births_are_trees}
 use Rattle.run_laws.proofs.births_are_trees.Goals as goal
 
 pub returns : goal.returns

@@ -1,4 +1,4 @@
-use Rattle.run_laws.proofs.BirthsStandLemmas.{born_are_live_or_left}
+use Rattle.run_laws.proofs.BirthRunLemmas.{born_are_live_or_left}
 use Rattle.run_laws.proofs.born_are_live_or_left.Goals as goal
 
 pub returns : goal.returns

@@ -1,4 +1,4 @@
-use Rattle.run_laws.proofs.BirthsStandLemmas.{nodes_name_the_born}
+use Rattle.run_laws.proofs.BirthRunLemmas.{nodes_name_the_born}
 use Rattle.run_laws.proofs.nodes_name_the_born.Goals as goal
 
 pub returns : goal.returns

@@ -1,4 +1,4 @@
-use Rattle.run_laws.proofs.BirthsStandLemmas.{records_name_the_born}
+use Rattle.run_laws.proofs.BirthRunLemmas.{records_name_the_born}
 use Rattle.run_laws.proofs.records_name_the_born.Goals as goal
 
 pub returns : goal.returns
