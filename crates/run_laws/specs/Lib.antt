@@ -38,3 +38,4 @@ pub mod HeardLaws
 pub mod TriedRun
 pub mod TowardLaws
 pub mod RowSayLaws
+pub mod VoteLaws

@@ -1,9 +1,11 @@
 //! What a run is: which happening may come next, which one is due, what the happenings so far leave, what is told of them,
 //! and what has to hold of every run.
 //!
-//! Here are the definitions, the laws of theirs that are proved, and proved laws of every turn of a lawful run and of what
-//! its nodes keep (`specs/NodeLaws.antt`). The laws of agreement, of marked mixed outcomes, of SCNs and of the commit point
-//! site stand as statements (`specs/Headline.antt`) and are not proved yet.
+//! Here are the definitions, the laws of theirs that are proved, and proved laws of every turn of a lawful run: of what its
+//! nodes keep (`specs/NodeLaws.antt`), of the session trees that its branches form (`specs/BirthLaws.antt`), and of what
+//! branches hear and tell of one another. Agreement, marked mixed outcomes and the first half of the law of SCNs are proved of
+//! runs whose turns do what their session trees allow (`specs/TreeJust.antt`); that all lawful runs do so, the rest of that
+//! law and the commit point site stand as statements (`specs/Headline.antt`) and are not proved yet.
 #![tactic(auto)]
 
 ghost use Rattle.run_laws.specs.Laws.{BookIsOfTrace, FactsAreAlone, PastGoesOn, LawfulGoesOn, RunsArePlayed};
@@ -15,6 +17,7 @@ ghost use Rattle.run_laws.specs.HeardLaws.{AnswersAreTrue, AcksAreTrue, QuietsAr
 ghost use Rattle.run_laws.specs.TriedRun.{TheTriedRun};
 ghost use Rattle.run_laws.specs.TowardLaws.{TurnsGoByRows};
 ghost use Rattle.run_laws.specs.RowSayLaws.{TurnsTellByRows};
+ghost use Rattle.run_laws.specs.VoteLaws.{VotesAreOfSealed, LiveHaveNotVoted};
 ghost use Rattle.run_laws.specs.PhaseLaws.{PhasesFit};
 ghost use Rattle.run_laws.specs.BirthLaws.{NoIdBeginsTwice, BirthsAreTrees, NodesNameTheBorn, RecordsNameTheBorn, MessagesAreOfNeighbors, BornAreLiveOrLeft};
 
@@ -203,4 +206,14 @@ pub fn turns_go_by_rows()
 /// rollback where it is over, or to one that its row names neither as its parent nor as a child.
 pub fn turns_tell_by_rows()
     ensures { TurnsTellByRows }
+{}
+
+/// A branch that voted is sealed, and its vote's clock is not below the SCN of its seal.
+pub fn votes_are_of_sealed()
+    ensures { VotesAreOfSealed }
+{}
+
+/// No live branch has voted.
+pub fn live_have_not_voted()
+    ensures { LiveHaveNotVoted }
 {}
