@@ -1,6 +1,5 @@
 -- In every lawful run a branch that voted is sealed, so no live one has voted.
-use Rattle.std.proofs.Common.{◌≡◌, ℕ, ◌≤◌, Bool, true, false, if◌then◌else◌, List, [], ◌∷◌, Option, Some, None, inl, inr, refl, sym, ap, subst, ◌∙◌}
-use Rattle.std.specs.Prelude.{IfSome}
+use Rattle.std.proofs.Common.{◌≡◌, ℕ, ◌≤◌, Bool, true, false, if◌then◌else◌, List, [], ◌∷◌, Option, Some, None, inl, inr, subst}
 use Rattle.std.specs.List.{AllByRecursion, list_any}
 use Rattle.std.proofs.lemmas.Bool.{cond_both}
 use Rattle.agreement.specs.Events.{Sealed, Event, Make, Seal, Decide, Answer_read_only, Drop, Force, Learn, Forget, Send_vote, Send_commit, Send_rollback, Send_ack, Send_forgotten, exit, Has}
@@ -12,9 +11,9 @@ use Rattle.run_laws.specs.Data.{Happening, Command}
 use Rattle.run_laws.specs.Data.happenings
 use Rattle.run_laws.specs.Trail.{is_quiet}
 use Rattle.run_laws.specs.Facts.{Facts, first_facts, node_at, facts_after}
-use Rattle.run_laws.specs.Lawful.{IsPlace, MayHappen, IsLawfulRun, History, facts_at}
+use Rattle.run_laws.specs.Lawful.{IsPlace, MayHappen}
 use Rattle.run_laws.specs.RunEvents.{with_event, wrote_event, record_event, message_event, with_messages, lives_at, leave_event, has_left, with_leaver, with_leavers, with_record, with_happening, events_after, events_of}
-use Rattle.run_laws.specs.EventRows.{MayStand, MaySay, MaySayAll}
+use Rattle.run_laws.specs.EventRows.{MaySay, MaySayAll}
 use Rattle.run_laws.specs.VoteLaws.{VotesAreOfSealed, LiveHaveNotVoted}
 use Rattle.run_laws.proofs.ListLemmas.{all_weaker}
 use Rattle.run_laws.proofs.LaterLemmas.{Added, Any, added_on, added_wider, exit_later, wrote_added, turn_added, stop_added, events_keep}
