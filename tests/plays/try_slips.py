@@ -34,6 +34,7 @@ NAMED = 3  # so many plays are named of those that catch a slip
 # the files of lemmas that slips have to break, in the lowest crate of laws where any does
 BREAKS = {
     "ack_after_the_first_of_several": "NextLemmas",
+    "forced_branch_tells_its_outcome": "SayLemmas",
 }
 
 PLAY = re.compile(r"`(\w+)`: (?:as printed|computed as far as they go), the two types (?:first )?differ")
@@ -85,7 +86,8 @@ def caught(slip, top):
         drop_code(top)
     apply(slip, top)
     proved, errors = check_once(top)
-    broken = sorted({pathlib.Path(error.file).stem for error in errors.get(laws_that_fail(errors), [])})
+    files = {pathlib.Path(error.file).stem for error in errors.get(laws_that_fail(errors), [])}
+    broken = sorted(files - {"Answers"})
     if broken:
         drop_laws(top)
         proved, errors = check_once(top)
