@@ -15,8 +15,9 @@ Several lines `old:` in a row, or several lines `new:`, are the lines of one tex
 The crates are copied to a temporary folder with their folders out, so that only what changed is checked again. There
 each slip is made, the crate plays is checked, and the slip is unmade. One line a slip tells which plays fail first.
 Where proofs of the laws over the definitions fail too, the line says so, and the plays are checked without those laws.
+Of some slips it stands below which file of lemmas they have to break; there a law has to fail, and not plays alone.
 Code that is proved against definitions which a slip changes is left out.
-The exit status is 1 where a slip was not caught, does not apply or is not well typed.
+The exit status is 1 where a slip was not caught, does not break its lemmas, does not apply or is not well typed.
 """
 
 import itertools
@@ -25,10 +26,16 @@ import re
 import shutil
 import sys
 
-from copies import LAWS, PARTS, TOP, check, copied_crates, drop_code
+from copies import LAWS, PARTS, TOP, check_once, copied_crates, drop_code, drop_laws, laws_that_fail
 
 SLIPS = TOP / "tests" / "plays" / "slips"
 NAMED = 3  # so many plays are named of those that catch a slip
+
+# the files of lemmas that slips have to break, in the lowest crate of laws where any does
+BREAKS = {
+    "ack_after_the_first_of_several": "NextLemmas",
+    "forced_branch_tells_its_outcome": "SayLemmas",
+}
 
 PLAY = re.compile(r"`(\w+)`: (?:as printed|computed as far as they go), the two types (?:first )?differ")
 
@@ -74,29 +81,37 @@ def restore(crates, top):
 
 
 def caught(slip, top):
-    """The plays that fail, and the crate whose laws do."""
+    """The plays that fail, and the files of lemmas that do, by their names."""
     if not set(PARTS).isdisjoint(crates_of(slip)):
         drop_code(top)
     apply(slip, top)
-    proved, errors, laws = check(top)
+    proved, errors = check_once(top)
+    files = {pathlib.Path(error.file).stem for error in errors.get(laws_that_fail(errors), [])}
+    broken = sorted(files - {"Answers"})
+    if broken:
+        drop_laws(top)
+        proved, errors = check_once(top)
     if proved:
-        return [], laws
+        return [], broken
     texts = [error.text for found in errors.values() for error in found]
     others = [text for text in texts if not PLAY.match(text)]
     if list(errors) != ["plays"] or others:
         raise Misfit(f"not well typed: {str(others or texts)[:240]}")
-    return [PLAY.match(text)[1] for text in texts], laws
+    return [PLAY.match(text)[1] for text in texts], broken
 
 
 def told(slip, top):
     """Whether a slip was caught, and the line that tells it."""
     try:
-        plays, laws = caught(slip, top)
+        plays, broken = caught(slip, top)
     except Misfit as why:
         return False, f"{slip.stem}: {why}"
     more = f" and {len(plays) - NAMED} more" if len(plays) > NAMED else ""
     by = f"caught by {', '.join(plays[:NAMED])}{more}" if plays else "NOT CAUGHT"
-    return bool(plays), f"{slip.stem}: {by}" + (f"; the proofs of {laws} fail too" if laws else "")
+    due = BREAKS.get(slip.stem)
+    lemmas = f"; breaks {', '.join(broken)}" if broken else ""
+    missed = f"; DOES NOT BREAK {due}" if due and due not in broken else ""
+    return bool(plays) and not missed, f"{slip.stem}: {by}{lemmas}{missed}"
 
 
 def main(names):

@@ -88,7 +88,7 @@ unacked_stored s (r ∷ rs) = unacked_stored (applied s r) rs ∙ ap (λ x. stor
 kid_acked : (from : BranchId) (c : Kid) → unacked_kid (acks_kid from c) ≡ unacked_kid c
 kid_acked from c = cond_both (same c.branch from) _ _ (λ x. unacked_kid x ≡ unacked_kid c) (λ here. refl) (λ other. refl)
 
-row_acked : (s : Standing) (from : BranchId) → unacked_row (acked_by s from) ≡ unacked_row s
+pub row_acked : (s : Standing) (from : BranchId) → unacked_row (acked_by s from) ≡ unacked_row s
 row_acked s from = ap (λ cs. record s { parent_acked = false; children = cs }) (map_after unacked_kid (acks_kid from) unacked_kid (kid_acked from) s.children)
 
 -- a row whose Acks are counted is put in the place of the one that was found

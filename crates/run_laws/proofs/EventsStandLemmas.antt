@@ -187,13 +187,13 @@ module _ (places : List Place) (asked : List Command) (f : Facts) (t : List Even
 
 -- ---- every run
 
-first_disk : (P : List RedoRecord → Type 0) → P [] → P (records.Boot 1 ∷ []) → (ps : List Place) (n : ℕ) → P (unwrap_or (numbered (map (λ p. records.Boot 1 ∷ []) ps) n) [])
+pub first_disk : (P : List RedoRecord → Type 0) → P [] → P (records.Boot 1 ∷ []) → (ps : List Place) (n : ℕ) → P (unwrap_or (numbered (map (λ p. records.Boot 1 ∷ []) ps) n) [])
 first_disk P none one ps zero = none
 first_disk P none one [] (suc i) = none
 first_disk P none one (p ∷ ps) (suc zero) = one
 first_disk P none one (p ∷ ps) (suc (suc i)) = first_disk P none one ps (suc i)
 
-first_node : (P : Option Kept → Type 0) → P None → P (Some made) → (ps : List Place) (n : ℕ) → P (flat (numbered (map (λ p. Some made) ps) n))
+pub first_node : (P : Option Kept → Type 0) → P None → P (Some made) → (ps : List Place) (n : ℕ) → P (flat (numbered (map (λ p. Some made) ps) n))
 first_node P none one ps zero = none
 first_node P none one [] (suc i) = none
 first_node P none one (p ∷ ps) (suc zero) = one

@@ -28,7 +28,7 @@ never_gone : (o : Option Branch) (row : Option Standing) (s : Standing) → row 
 never_gone (Some x) row s is gone = absurd (cc (gone))
 never_gone None row s is gone = let kept : Is_kept s ≡ Is_gone = sym (ap kept_or_gone is) ∙ gone in absurd cc
 
-kept_not_gone : (k : Kept) (b : BranchId) → HasRow b k.stored.durable.kept → stand_of k b ≡ Is_gone → ⊥
+pub kept_not_gone : (k : Kept) (b : BranchId) → HasRow b k.stored.durable.kept → stand_of k b ≡ Is_gone → ⊥
 unfolding stand_of
 kept_not_gone k b has gone = let row = found b k.stored.durable.kept has in never_gone (branch_at k b) (standing_at k b) row.0 row.1 gone
 

@@ -72,7 +72,7 @@ messages_lawful p (m ∷ ms) t l a =
     messages_lawful p ms (with_event (message_event m.from m.to m.scn m.kind) t) (event_lawful p (message_event m.from m.to m.scn m.kind) t l a.0)
     (stay_with p (message_event m.from m.to m.scn m.kind) t ms a.1)
 
-none_is : (o : Option Exit) → is_none o ≡ true → o ≡ None
+pub none_is : (o : Option Exit) → is_none o ≡ true → o ≡ None
 none_is None h = refl
 none_is (Some x) h = absurd cc
 

@@ -179,7 +179,7 @@ seal_there b rs _ at = absurd at
 -- ---- happenings
 
 -- a sealed branch has a row until it is done
-abbrev StaysKept : Facts → List Event → Type 0
+abbrev pub StaysKept : Facts → List Event → Type 0
 StaysKept f t = (b : BranchId) (m : ℕ) → exit t b ≡ Some (Sealed m) → HasRow b (stored_rows f b.node) ⊎ IsDone t b
 
 module _ (places : List Place) (asked : List Command) (each : (n : ℕ) (p : Place) → numbered places n ≡ Some p → IsPlace places n p) (f : Facts) (t : List Event) (stand : Stand places asked each f t)
@@ -252,7 +252,7 @@ module _ (places : List Place) (asked : List Command) (each : (n : ℕ) (p : Pla
     start_keeps : StaysKept h (events_after places asked f (happenings.Started n boot) t)
     start_keeps b m sealed = elim (kept b m sealed) [ inl row ↦ inl (started_row b row) | inr done ↦ inr done ]
 
-  keeps_on : (h : Happening) → MayHappen places asked f h → StaysKept (facts_after places asked f h) (events_after places asked f h t)
+  pub keeps_on : (h : Happening) → MayHappen places asked f h → StaysKept (facts_after places asked f h) (events_after places asked f h t)
   unfolding facts_after
   keeps_on (happenings.Turn u) may = turn_keeps u may
   keeps_on (happenings.Stopped n) may = stop_keeps n

@@ -104,7 +104,7 @@ module _ (before after : List BranchId) where
   left_added sent b t was true is = left_by b t (list_any (is_quiet b) sent) was (not-true (is_among b after) (and_parts _ (is_none (exit t b)) is).0)
   left_added sent b t was false is = Nothing_more
 
-  leavers_added : (sent : List Msg) (bs : List BranchId) (t : List Event) → ((b : BranchId) → is_among b bs ≡ true → is_among b before ≡ true) → AddsTo t (with_leavers after sent bs t)
+  pub leavers_added : (sent : List Msg) (bs : List BranchId) (t : List Event) → ((b : BranchId) → is_among b bs ≡ true → is_among b before ≡ true) → AddsTo t (with_leavers after sent bs t)
   leavers_added sent [] t all = Nothing_more
   leavers_added sent (b ∷ bs) t all =
       added_on (left_added sent b t (all b (or_left (same b b) (is_among b bs) (same_from_equal b b refl))) (has_left after t b) refl)

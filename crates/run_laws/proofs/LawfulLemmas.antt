@@ -42,7 +42,7 @@ module _ (places : List Place) (asked : List Command) where
 -- ---- a turn
 
 -- an input that may come to a node is fit for it
-comes_fit : (f : Facts) (k : Kept) (node : ℕ) (input : Input) (took : Option Took) → Comes f k node input took → IsFit input
+pub comes_fit : (f : Facts) (k : Kept) (node : ℕ) (input : Input) (took : Option Took) → Comes f k node input took → IsFit input
 comes_fit f k node (inputs.Call n s) None comes = comes.0
 comes_fit f k node (inputs.Call n s) (Some t) comes = absurd comes
 comes_fit f k node _ took comes = tt

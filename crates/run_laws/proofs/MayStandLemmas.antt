@@ -132,12 +132,12 @@ module _ (t : List Event) (n boot : ℕ) (untaught : IsUntaught t) where
       by None is = refl
       by (Some e) is = absurd (new (fits.given b (λ none. absurd (cc (is, none))) here))
 
-  unused_root : (p : Place) (k : Kept) (m : ℕ) → k.stored.durable.boot ≡ boot → m ≤ 64 → Given boot (seqs k.sessions) (length k.opens) (new_root p k m) → ⊥
+  pub unused_root : (p : Place) (k : Kept) (m : ℕ) → k.stored.durable.boot ≡ boot → m ≤ 64 → Given boot (seqs k.sessions) (length k.opens) (new_root p k m) → ⊥
   unused_root p k m is fit (Before old) = omega (arith, old, is)
   unused_root p k m is fit (In_session now under given) = let was : (session_at k.sessions m).seq ≡ seq_at (seqs k.sessions) m = session_seq k.sessions m in omega (arith, given, was)
   unused_root p k m is fit (Over_link now high given) = omega (arith, high, fit)
 
-  unused_child : (p : Place) (k : Kept) → k.stored.durable.boot ≡ boot → Given boot (seqs k.sessions) (length k.opens) (next_child p k) → ⊥
+  pub unused_child : (p : Place) (k : Kept) → k.stored.durable.boot ≡ boot → Given boot (seqs k.sessions) (length k.opens) (next_child p k) → ⊥
   unused_child p k is (Before old) = omega (arith, old, is)
   unused_child p k is (In_session now under given) = omega (arith, under)
   unused_child p k is (Over_link now high given) = omega (arith, given)

@@ -117,7 +117,7 @@ module _ (places : List Place) (asked : List Command) (each : (n : ℕ) (p : Pla
         all_weaker (λ l. 1 ≤ count_of live_id l.me k.lives) (λ l. Given (boots rs) (seqs k.sessions) (length k.opens) l.me) (λ l some. (node n k may.up).ids.told l.me (omega (arith, some))) k.lives
         (counts k.lives)
 
-    told : (b : BranchId) → is_among b (map live_id k.lives) ≡ true → (b.node ≡ n) × Given (boots rs) (seqs k.sessions) (length k.opens) b
+    pub told : (b : BranchId) → is_among b (map live_id k.lives) ≡ true → (b.node ≡ n) × Given (boots rs) (seqs k.sessions) (length k.opens) b
     told b among =
         among_so (λ c. (c.node ≡ n) × Given (boots rs) (seqs k.sessions) (length k.opens) c) b k.lives
         (all_both (λ l. l.me.node ≡ n) (λ l. Given (boots rs) (seqs k.sessions) (length k.opens) l.me) k.lives (own n k may.up).0 told_all) among
@@ -134,7 +134,7 @@ module _ (places : List Place) (asked : List Command) (each : (n : ℕ) (p : Pla
           subst (λ o. IfSome o (λ x. Given (boots rs) (seqs x.sessions) (length x.opens) b)) may.up at);
     })
 
-    serving : Serves p k u
+    pub serving : Serves p k u
     serving = serves places f u k may
 
     pub record_may : IfSome u.wrote (MayStand t)
@@ -158,7 +158,7 @@ module _ (places : List Place) (asked : List Command) (each : (n : ℕ) (p : Pla
     added : Added (Later (lives_at (node_at f n)) (lives_at (node_at g n))) t1 r
     added = turn_added f g u t
 
-    here : (node_at g n ≡ kept_after u.cut (Some (turn_of p k u.input))) × (records_at g n ≡ rs ++ option_to_list u.wrote)
+    pub here : (node_at g n ≡ kept_after u.cut (Some (turn_of p k u.input))) × (records_at g n ≡ rs ++ option_to_list u.wrote)
     here = turn_here places asked f even u k may.up
 
     boots_now : boots (records_at g n) ≡ boots rs

@@ -2,6 +2,9 @@
 -- and the keys that it holds, the runs that answers came from, and the plans of the COMMITs that were accepted. It is read
 -- off the happenings: off their inputs, records and messages, and what the rules answer to the statement of a turn.
 -- (Database Administrator's Guide, "Distributed Transactions Concepts".)
+-- How a branch stopped being live, once: its Sealed or its Decided record stands; it answered ReadOnly; or it rolled back, its
+-- node stopped, or it was a root without a site.
+pub use Rattle.agreement.specs.Events.{Exit, Sealed, Decided, Quiet, Dropped}
 use Rattle.std.specs.Prelude.{ℕ, ◌==◌, ◌&&◌, Bool, false, if◌then◌else◌, List, [], ◌∷◌, ◌++◌, filter, find, flat_map, is_none, Option, Some, None}
 use Rattle.std.specs.List.{list_any, list_all}
 use Rattle.node_rules.specs.Data.{Value, Change, Table, Stmt, BranchId, Standing}
@@ -10,13 +13,6 @@ use Rattle.row_locks.specs.Locks.{Lock, keys_held}
 use Rattle.redo_record.specs.Durable.{durable}
 use Rattle.node_rules.specs.Kept.{standing_id}
 use Rattle.run_laws.specs.Facts.{Facts, records_at}
-
--- How a branch stopped being live. It does so once.
-pub data Exit : Type 0 where
-  Sealed : (scn : ℕ) → Exit  -- its Sealed record stands
-  Decided : (scn : ℕ) → Exit  -- its Decided record stands
-  Quiet : Exit  -- it answered ReadOnly
-  Dropped : Exit  -- it rolled back, its node stopped, or it was a root without a site
 
 -- A run of a statement at its table.
 pub record Run : Type 0 where

@@ -30,3 +30,12 @@ pub mod NodeLaws
 pub mod EventRows
 pub mod EventLaws
 pub mod IdLaws
+pub mod Births
+pub mod BirthLaws
+pub mod PhaseLaws
+pub mod TreeJust
+pub mod HeardLaws
+pub mod TriedRun
+pub mod TowardLaws
+pub mod RowSayLaws
+pub mod VoteLaws

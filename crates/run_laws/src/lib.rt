@@ -1,15 +1,25 @@
 //! What a run is: which happening may come next, which one is due, what the happenings so far leave, what is told of them,
 //! and what has to hold of every run.
 //!
-//! Here are the definitions, the laws of theirs that are proved, and proved laws of every turn of a lawful run and of what
-//! its nodes keep (`specs/NodeLaws.antt`). The laws of agreement, of marked mixed outcomes, of SCNs and of the commit point
-//! site stand as statements (`specs/Headline.antt`) and are not proved yet.
+//! Here are the definitions, the laws of theirs that are proved, and proved laws of every turn of a lawful run: of what its
+//! nodes keep (`specs/NodeLaws.antt`), of the session trees that its branches form (`specs/BirthLaws.antt`), and of what
+//! branches hear and tell of one another. Agreement, marked mixed outcomes and the first half of the law of SCNs are proved of
+//! runs whose turns do what their session trees allow (`specs/TreeJust.antt`); that all lawful runs do so, the rest of that
+//! law and the commit point site stand as statements (`specs/Headline.antt`) and are not proved yet.
 #![tactic(auto)]
 
 ghost use Rattle.run_laws.specs.Laws.{BookIsOfTrace, FactsAreAlone, PastGoesOn, LawfulGoesOn, RunsArePlayed};
 ghost use Rattle.run_laws.specs.NodeLaws.{ClocksRise, ClocksCover, HoldersAreThere, RecordsAreKept, IdsAreFresh, CommitsAreKnown, CommitsAreRecorded};
 ghost use Rattle.run_laws.specs.EventLaws.{BookOfEvents, JustRunsAreLawful, JustRunsAgree, NodesAreAsEvents, TurnsTellAsEvents, SealedAreKept, GoneAreDone};
 ghost use Rattle.run_laws.specs.IdLaws.{IdsNameTheirNode};
+ghost use Rattle.run_laws.specs.TreeJust.{RunsByTreesAreJust, RunsByTreesAgree};
+ghost use Rattle.run_laws.specs.HeardLaws.{AnswersAreTrue, AcksAreTrue, QuietsAreGone};
+ghost use Rattle.run_laws.specs.TriedRun.{TheTriedRun};
+ghost use Rattle.run_laws.specs.TowardLaws.{TurnsGoByRows};
+ghost use Rattle.run_laws.specs.RowSayLaws.{TurnsTellByRows};
+ghost use Rattle.run_laws.specs.VoteLaws.{VotesAreOfSealed, LiveHaveNotVoted};
+ghost use Rattle.run_laws.specs.PhaseLaws.{PhasesFit};
+ghost use Rattle.run_laws.specs.BirthLaws.{NoIdBeginsTwice, BirthsAreTrees, NodesNameTheBorn, RecordsNameTheBorn, MessagesAreOfNeighbors, BornAreLiveOrLeft};
 
 /// The book that the facts keep is the book of the trace.
 pub fn book_is_of_trace()
@@ -113,4 +123,97 @@ pub fn sealed_are_kept()
 /// A sealed branch that is neither live nor kept at its node learned a rollback or forgot.
 pub fn gone_are_done()
     ensures { GoneAreDone }
+{}
+
+/// No branch id begins twice in a run.
+pub fn no_id_begins_twice()
+    ensures { NoIdBeginsTwice }
+{}
+
+/// The branches that began in a run are trees: each but a root began below one that began, with the same root, one deeper.
+pub fn births_are_trees()
+    ensures { BirthsAreTrees }
+{}
+
+/// What a node keeps of its branches names the parent, the root and the children with which they began, over the edges over
+/// which they began.
+pub fn nodes_name_the_born()
+    ensures { NodesNameTheBorn }
+{}
+
+/// The seals and the decisions on a disk name the parent and the root with which their branches began, children that began
+/// below them, and a neighbour as the one on the way to the site.
+pub fn records_name_the_born()
+    ensures { RecordsNameTheBorn }
+{}
+
+/// Each message goes between a branch that began and its parent or its child, in the direction of its kind.
+pub fn messages_are_of_neighbors()
+    ensures { MessagesAreOfNeighbors }
+{}
+
+/// A branch that began is live at its node, or has an exit by the events of the run.
+pub fn born_are_live_or_left()
+    ensures { BornAreLiveOrLeft }
+{}
+
+/// A live branch has asked no child before its COMMIT or Prepare came. From then on it waits for the answers, and holds no
+/// Abort; only a branch below a root says Ready, once all have answered.
+pub fn phases_fit()
+    ensures { PhasesFit }
+{}
+
+/// A lawful run is just where each turn does what a forest of session trees allows: votes of all beyond before a seal and a
+/// decision, decisions from toward, Acks of all beyond before an Ack and Forgot, rollbacks of branches that are gone. All else
+/// that an event needs stands in every lawful run.
+pub fn runs_by_trees_are_just()
+    ensures { RunsByTreesAreJust }
+{}
+
+/// So the book of such a run agrees, its mixed outcomes are marked, and its decisions exceed their seals.
+pub fn runs_by_trees_agree()
+    ensures { RunsByTreesAgree }
+{}
+
+/// What a live branch holds of its children's answers is true: a child that answered Prepared sent its vote, at a clock that
+/// this node has met, and one that answered ReadOnly is gone without changes.
+pub fn answers_are_true()
+    ensures { AnswersAreTrue }
+{}
+
+/// Each Ack that a row holds was sent by that neighbour.
+pub fn acks_are_true()
+    ensures { AcksAreTrue }
+{}
+
+/// A branch that says ReadOnly is gone without changes.
+pub fn quiets_are_gone()
+    ensures { QuietsAreGone }
+{}
+
+/// No law of trees and events is about nothing: a run of two nodes to a commit has these births and these events.
+pub fn the_tried_run()
+    ensures { TheTriedRun }
+{}
+
+/// A branch learns its decision of the neighbour that its row has as toward. It forgets once all beyond acknowledged, where it is
+/// the site, and elsewhere after toward.
+pub fn turns_go_by_rows()
+    ensures { TurnsGoByRows }
+{}
+
+/// A branch acknowledges a commit where by its row all beyond acknowledged, or where it is over and the receiver told it. It tells a
+/// rollback where it is over, or to one that its row names neither as its parent nor as a child.
+pub fn turns_tell_by_rows()
+    ensures { TurnsTellByRows }
+{}
+
+/// A branch that voted is sealed, and its vote's clock is not below the SCN of its seal.
+pub fn votes_are_of_sealed()
+    ensures { VotesAreOfSealed }
+{}
+
+/// No live branch has voted.
+pub fn live_have_not_voted()
+    ensures { LiveHaveNotVoted }
 {}
