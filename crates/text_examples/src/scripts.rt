@@ -13,7 +13,7 @@ enum Verdict {
 
 /// Whether a script is good, or else the line of its first bad command and why it is bad; nothing where that cannot be
 /// said.
-fn verdict(alloc: Global, script: &[u8]) -> Option<Verdict> {
+fn verdict_of(alloc: Global, script: &[u8]) -> Option<Verdict> {
     if script.len() > SCRIPT_LIMIT {
         return None;
     }
@@ -76,7 +76,7 @@ const GOOD: [&[u8]; 8] = [
 fn first_wrong(alloc: Global) -> Option<&'static [u8]> {
     for (script, line, why) in &BAD {
         let (line, why) = (*line, *why);
-        if verdict(alloc, script) != Some(Verdict::Bad { line, why }) {
+        if verdict_of(alloc, script) != Some(Verdict::Bad { line, why }) {
             return Some(*script);
         }
     }
@@ -85,7 +85,7 @@ fn first_wrong(alloc: Global) -> Option<&'static [u8]> {
 
 fn first_refused(alloc: Global) -> Option<&'static [u8]> {
     for script in &GOOD {
-        if verdict(alloc, script) != Some(Verdict::Good) {
+        if verdict_of(alloc, script) != Some(Verdict::Good) {
             return Some(*script);
         }
     }
@@ -117,13 +117,13 @@ fn nodes(alloc: Global, count: u8) -> Result<Vec<u8>, std::alloc::AllocError> {
 fn takes_16_nodes(rt: HostRuntime) {
     let alloc = rt.alloc();
     let sixteen = nodes(alloc, 16);
-    assert!(rt; matches!(&sixteen, Ok(script) if verdict(alloc, script) == Some(Verdict::Good)));
+    assert!(rt; matches!(&sixteen, Ok(script) if verdict_of(alloc, script) == Some(Verdict::Good)));
     let more = nodes(alloc, 17);
     let bad = Verdict::Bad {
         line: 1,
         why: Why::Many,
     };
-    assert!(rt; matches!(&more, Ok(script) if verdict(alloc, script) == Some(bad)));
+    assert!(rt; matches!(&more, Ok(script) if verdict_of(alloc, script) == Some(bad)));
 }
 
 /// The last command of a script.
@@ -137,37 +137,65 @@ fn last(alloc: Global, script: &[u8]) -> Option<Command> {
 #[test]
 fn a_node_has_its_options(rt: HostRuntime) {
     let node = last(rt.alloc(), b"NODE a Undo 7;");
-    assert!(rt; matches!(
-        &node,
-        Some(Command::Node { strength: 1, links: 4, undo: 7, .. })
-    ));
+    assert!(rt;
+        matches!(
+            &node,
+            Some(Command::Node {
+                strength: 1,
+                links: 4,
+                undo: 7,
+                ..
+            })
+        )
+    );
 }
 
 #[test]
 fn a_call_has_its_statement(rt: HostRuntime) {
     let call = last(rt.alloc(), b"NODE a; NODE b; At b\nsession 3: commit;");
-    assert!(rt; matches!(
-        &call,
-        Some(Command::At { node: 2, session: 3, statement: Some(_) })
-    ));
+    assert!(rt;
+        matches!(
+            &call,
+            Some(Command::At {
+                node: 2,
+                session: 3,
+                statement: Some(_)
+            })
+        )
+    );
 }
 
 #[test]
 fn an_empty_call_has_no_statement(rt: HostRuntime) {
     let call = last(rt.alloc(), b"NODE a; AT a SESSION 1: ;");
-    assert!(rt; matches!(
-        &call,
-        Some(Command::At { node: 1, session: 1, statement: None })
-    ));
+    assert!(rt;
+        matches!(
+            &call,
+            Some(Command::At {
+                node: 1,
+                session: 1,
+                statement: None
+            })
+        )
+    );
 }
 
 #[test]
 fn names_of_nodes_are_numbers(rt: HostRuntime) {
-    let lost = last(rt.alloc(), b"NODE a; NODE b; LOSE NEXT CommitPoint FROM b TO a;");
-    assert!(rt; matches!(
-        &lost,
-        Some(Command::LoseNext { kind: KindName::CommitPoint, from: 2, to: 1 })
-    ));
+    let lost = last(
+        rt.alloc(),
+        b"NODE a; NODE b; LOSE NEXT CommitPoint FROM b TO a;",
+    );
+    assert!(rt;
+        matches!(
+            &lost,
+            Some(Command::LoseNext {
+                kind: KindName::CommitPoint,
+                from: 2,
+                to: 1
+            })
+        )
+    );
 }
 
 #[test]
