@@ -128,9 +128,13 @@ goes_over a b x = is_pair a b (x.msg.from.node, x.msg.to.node)
 abbrev pub lost_over : ℕ → ℕ → Packet → Packet
 lost_over a b x = if goes_over a b x then fated fates.Lost x else x
 
+-- pairs with one more; a pair stands there once
+abbrev pub with_pair : ℕ → ℕ → List (ℕ × ℕ) → List (ℕ × ℕ)
+with_pair a b pairs = if list_any (is_pair a b) pairs then pairs else (a, b) ∷ pairs
+
 -- a pair is cut, and what is in flight over it is lost
 unfoldable pub cut_over : Net → ℕ → ℕ → Net
-cut_over net a b = record net { packets = map (lost_over a b) net.packets; cuts = (a, b) ∷ net.cuts }
+cut_over net a b = record net { packets = map (lost_over a b) net.packets; cuts = with_pair a b net.cuts }
 
 -- the numbers of what a cut loses
 abbrev pub lost_by_cut : Net → ℕ → ℕ → List ℕ
@@ -148,9 +152,13 @@ goes_to n x = x.msg.to.node == n
 abbrev pub lost_to : ℕ → Packet → Packet
 lost_to n x = if goes_to n x then fated fates.Lost x else x
 
+-- nodes with one more; a node stands there once
+abbrev pub with_node : ℕ → List ℕ → List ℕ
+with_node n nodes = if list_any (λ m. m == n) nodes then nodes else n ∷ nodes
+
 -- a node is down, and what is in flight to it is lost
 unfoldable pub stopped : Net → ℕ → Net
-stopped net n = record net { packets = map (lost_to n) net.packets; down = n ∷ net.down }
+stopped net n = record net { packets = map (lost_to n) net.packets; down = with_node n net.down }
 
 -- the numbers of what a stop loses
 abbrev pub lost_by_stop : Net → ℕ → List ℕ

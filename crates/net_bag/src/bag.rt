@@ -2,7 +2,7 @@
 ghost use Rattle.std.specs.Prelude.{◌≡◌, ◌+◌, ◌==◌, ◌||◌, not, is_some, if◌then◌else◌, length, filter, option_map, Some, IfOk, IfSome, OnOk, OnErr};
 ghost use Rattle.std.specs.List.{list_any, position_or_len};
 ghost use Rattle.msg_codec.specs.Message.{message_of};
-ghost use Rattle.net_bag.specs.Net.{still, is_cut as is_cut_in, is_down as is_down_in, is_blocked as is_blocked_in, is_order_for, is_lost_at_once, is_pair as is_pair_of, use_order, first_fate, sent_one, delivered, lost, lost_by_cut, lost_by_stop, cut_over, joined, stopped, started, with_order, first_flying, may_deliver, may_repeat, packet_at};
+ghost use Rattle.net_bag.specs.Net.{still, is_cut as is_cut_in, is_down as is_down_in, is_blocked as is_blocked_in, is_order_for, is_lost_at_once, is_pair as is_pair_of, use_order, first_fate, sent_one, delivered, lost, lost_by_cut, lost_by_stop, with_pair, with_node, cut_over, joined, stopped, started, with_order, first_flying, may_deliver, may_repeat, packet_at};
 ghost use Rattle.net_bag.specs.declared.packet.Fate.TheVariants as fates;
 ghost use Rattle.net_bag.specs.Texts.{net_lines};
 
@@ -61,14 +61,14 @@ impl Bag {
     pub fn is_cut(&self, a: u8, b: u8) -> bool
         ensures { result ≡ is_cut_in self.now a b }
     {
-        self.cuts.iter().any(|pair| is_pair(a, b, *pair))
+        has_pair(&self.cuts, a, b)
     }
 
     /// Whether a node is down.
     pub fn is_down(&self, node: u8) -> bool
         ensures { result ≡ is_down_in self.now node }
     {
-        self.down.iter().any(|stopped| *stopped == node)
+        has_node(&self.down, node)
     }
 
     /// Sends a message, which these bytes spell: it is lost at once where it cannot pass or an order fits it, and uses up
@@ -167,7 +167,7 @@ impl Bag {
         ensures err { OnErr result (self.new ≡ self.old) }
     {
         let numbers = self.flights.on_route(alloc, Route::Over(a, b))?;
-        self.cuts.push_front((a, b))?;
+        add_pair(&mut self.cuts, a, b)?;
         self.flights.lose(numbers.as_slice());
         Ok(numbers)
     }
@@ -189,7 +189,7 @@ impl Bag {
         ensures err { OnErr result (self.new ≡ self.old) }
     {
         let numbers = self.flights.on_route(alloc, Route::To(node))?;
-        self.down.push_front(node)?;
+        add_node(&mut self.down, node)?;
         self.flights.lose(numbers.as_slice());
         Ok(numbers)
     }
@@ -235,6 +235,40 @@ impl Bag {
     {
         self.is_cut(msg.from.node, msg.to.node) || self.is_down(msg.to.node)
     }
+}
+
+fn has_pair(cuts: &VecDeque<(u8, u8)>, a: u8, b: u8) -> bool
+    ensures { result ≡ list_any (is_pair_of a b) cuts.now.items }
+{
+    cuts.iter().any(|pair| is_pair(a, b, *pair))
+}
+
+fn has_node(down: &VecDeque<u8>, node: u8) -> bool
+    ensures { result ≡ list_any (λ m. m == node) down.now.items }
+{
+    down.iter().any(|stopped| *stopped == node)
+}
+
+// Adds a pair, where it is not among these. Fails where memory runs out, and then nothing has changed.
+fn add_pair(cuts: &mut VecDeque<(u8, u8)>, a: u8, b: u8) -> Result<(), AllocError>
+    ensures ok { OnOk result (cuts.new.items ≡ with_pair a b cuts.old.items) }
+    ensures err { OnErr result (cuts.new.items ≡ cuts.old.items) }
+{
+    if !has_pair(cuts, a, b) {
+        cuts.push_front((a, b))?;
+    }
+    Ok(())
+}
+
+// Adds a node, where it is not among these. Fails where memory runs out, and then nothing has changed.
+fn add_node(down: &mut VecDeque<u8>, node: u8) -> Result<(), AllocError>
+    ensures ok { OnOk result (down.new.items ≡ with_node node down.old.items) }
+    ensures err { OnErr result (down.new.items ≡ down.old.items) }
+{
+    if !has_node(down, node) {
+        down.push_front(node)?;
+    }
+    Ok(())
 }
 
 fn drop_pair(cuts: &mut VecDeque<(u8, u8)>, a: u8, b: u8)

@@ -11,4 +11,4 @@ unfolding cut_over
 returns-clause-cut c =
     let lost : c.lose.new.self ≡ map (lost_over c.args.a c.args.b) c.self.inside.flights =
     c.lose.ensures ∙ ap (fold (met_at fates.Lost) c.self.inside.flights) (c.as_slice.ensures ∙ c.in_ok-numbers.ensures) ∙ all_lost (routes.Over c.args.a c.args.b) c.self.inside.flights in
-    rw (lost, c.in_ok-push_front.ensures.items) (ap (λ net. cut_over net c.args.a c.args.b) c.self.view_is)
+    rw (lost, c.in_ok-add_pair.ensures.ok) (ap (λ net. cut_over net c.args.a c.args.b) c.self.view_is)

@@ -11,4 +11,4 @@ unfolding stopped
 returns-clause-stopped c =
     let lost : c.lose.new.self ≡ map (lost_to c.args.node) c.self.inside.flights =
     c.lose.ensures ∙ ap (fold (met_at fates.Lost) c.self.inside.flights) (c.as_slice.ensures ∙ c.in_ok-numbers.ensures) ∙ all_lost (routes.To c.args.node) c.self.inside.flights in
-    rw (lost, c.in_ok-push_front.ensures.items) (ap (λ net. stopped net c.args.node) c.self.view_is)
+    rw (lost, c.in_ok-add_node.ensures.ok) (ap (λ net. stopped net c.args.node) c.self.view_is)
