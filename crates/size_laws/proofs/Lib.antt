@@ -1,1 +1,3 @@
 pub mod LengthLaws
+pub mod TokenLengths
+pub mod FitLaws

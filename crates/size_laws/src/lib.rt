@@ -1,10 +1,13 @@
-//! The law that changes are counted by their bytes.
+//! The laws that lengths which are counted are those of bytes, and that printing a statement makes it no longer than three times
+//! its text.
 //!
 //! How large the changes of a branch may be, and how much undo they need, is said of lengths that are computed from values
-//! (sql_eval). The bytes themselves stand in records (field_codec). Here both are shown to be one.
+//! (sql_eval). The bytes themselves stand in records (field_codec). Here both are shown to be one. A statement goes to another
+//! node as its printed text (sql_print), and a limit on scripts limits the text that it was read from (sql_parse): here the one is
+//! bounded by the other.
 #![tactic(auto)]
 
-ghost use Rattle.std.specs.Prelude.{◌≡◌, length, Option};
+ghost use Rattle.std.specs.Prelude.{◌≡◌, ◌≤◌, ◌*◌, ℕ, List, length, Option};
 ghost use Rattle.dtx_values.specs.declared.value.Value.{Value};
 ghost use Rattle.dtx_values.specs.declared.row.Row.{Row};
 ghost use Rattle.dtx_values.specs.declared.row.Change.{Change};
@@ -12,10 +15,20 @@ ghost use Rattle.byte_format.specs.Part.{optional};
 ghost use Rattle.field_codec.specs.Value.{value_format, row_format};
 ghost use Rattle.field_codec.specs.Change.{change_format};
 ghost use Rattle.sql_eval.specs.Rows.{value_length, row_length, change_length};
+ghost use Rattle.sql_statement.specs.declared.statement.Stmt.{Stmt};
+ghost use Rattle.sql_parse.specs.Statement.{IsStatement};
+ghost use Rattle.sql_print.specs.Printing.{printed};
 
 /// The length of a value, of a row or of none, and of a change is the number of bytes that spell it.
 pub fn lengths_are_those_of_bytes()
     ensures values { (v : Value) → value_length v ≡ length (value_format.text v) }
     ensures rows { (row : Option Row) → row_length row ≡ length ((optional row_format).text row) }
     ensures changes { (c : Change) → change_length c ≡ length (change_format.text c) }
+{}
+
+/// The printed text of a statement has at most seven bytes for each three of a text that spells it, so at most three for each.
+/// Nearest to seven comes a sum of empty texts, where `+''` is printed as ` + NULL`.
+pub fn printed_statements_are_bounded()
+    ensures sevenths { (s : Stmt) (text : List ℕ) → IsStatement s text → 3 * length (printed s) ≤ 7 * length text }
+    ensures thrice { (s : Stmt) (text : List ℕ) → IsStatement s text → length (printed s) ≤ 3 * length text }
 {}
