@@ -21,6 +21,10 @@ Within spare x ts = 3 * length x + spare ≤ 7 * tokens_length ts
 abbrev pub Fits : {V : Type 0} → ℕ → Grammar V → (V → List ℕ) → Type 0
 Fits spare g text = (v : _) (ts : List Token) → g.Spells v ts → Within spare (text v) ts
 
+-- its printed text is within them, but for something that another part has to spare
+abbrev pub Owes : {V : Type 0} → ℕ → Grammar V → (V → List ℕ) → Type 0
+Owes lack g text = (v : _) (ts : List Token) → g.Spells v ts → 3 * length (text v) ≤ 7 * tokens_length ts + lack
+
 -- nothing is printed of it
 abbrev pub no_text : {V : Type 0} → V → List ℕ
 no_text v = []
@@ -50,7 +54,7 @@ fits_less much spare g text le fg v ts s = let k = fg v ts s in omega (arith, k,
 
 -- ---- One part and then another.
 
-joined : (x y : List ℕ) (ts us vs : List Token) (p q : ℕ) → ts ≡ us ++ vs → Within p x us → Within q y vs → Within (p + q) (x ++ y) ts
+pub joined : (x y : List ℕ) (ts us vs : List Token) (p q : ℕ) → ts ≡ us ++ vs → Within p x us → Within q y vs → Within (p + q) (x ++ y) ts
 joined x y ts us vs p q e h k =
     let size = ap tokens_length e ∙ tokens_length-append us vs in
     let text = length-append x y in
@@ -58,6 +62,15 @@ joined x y ts us vs p q e h k =
 
 pub fits_pair : {A B : Type 0} (p q : ℕ) (a : Grammar A) (b : Grammar B) (f : A → List ℕ) (h : B → List ℕ) → Fits p a f → Fits q b h → Fits (p + q) (a · b) (λ v. f v.0 ++ h v.1)
 fits_pair p q a b f h fa fb v ts s = joined (f v.0) (h v.1) ts s.0 s.1 p q s.4 (fa v.0 s.0 s.2) (fb v.1 s.1 s.3)
+
+-- what the first part lacks the second has to spare
+pub fits_owed : {A B : Type 0} (lack : ℕ) (a : Grammar A) (b : Grammar B) (f : A → List ℕ) (h : B → List ℕ) → Owes lack a f → Fits lack b h → Fits 0 (a · b) (λ v. f v.0 ++ h v.1)
+fits_owed lack a b f h oa fb v ts s =
+    let size = ap tokens_length s.4 ∙ tokens_length-append s.0 s.1 in
+    let text = length-append (f v.0) (h v.1) in
+    let first = oa v.0 s.0 s.2 in
+    let second = fb v.1 s.1 s.3 in
+    omega (arith, size, text, first, second)
 
 -- a part after something that is printed alike always
 pub fits_after : {B : Type 0} (much more spare : ℕ) (k : Grammar (Unit {0})) (b : Grammar B) (x : List ℕ) (h : B → List ℕ) → 3 * length x + spare ≤ much + more
@@ -97,6 +110,14 @@ fits_second spare a b h fb v ts s =
 
 pub fits_built : {A V : Type 0} (spare : ℕ) (to : A → V) (g : Grammar A) (f : A → List ℕ) (text : V → List ℕ) → ((a : A) → f a ≡ text (to a)) → Fits spare g f → Fits spare (built to g) text
 fits_built spare to g f text same fg v ts s = subst (λ (x : List ℕ). Within spare x ts) (same s.0 ∙ ap text (some_is (to s.0) v s.2)) (fg s.0 ts s.1)
+
+-- a value that is printed in no more bytes than what it is built of
+pub fits_shorter : {A V : Type 0} (spare : ℕ) (to : A → V) (g : Grammar A) (f : A → List ℕ) (text : V → List ℕ) → ((a : A) → length (text (to a)) ≤ length (f a)) → Fits spare g f → Fits spare (built to g) text
+fits_shorter spare to g f text short fg v ts s =
+    let given = fg s.0 ts s.1 in
+    let few = short s.0 in
+    let within : Within spare (text (to s.0)) ts = omega (arith, given, few) in
+    subst (λ x. Within spare (text x) ts) (some_is (to s.0) v s.2) within
 
 pub fits_tested : {V : Type 0} (spare : ℕ) (test : V → Bool) (g : Grammar V) (f : V → List ℕ) → Fits spare g f → Fits spare (tested test g) f
 fits_tested spare test g f fg v ts s = fg v ts s.0

@@ -1,3 +1,4 @@
 pub mod LengthLaws
 pub mod TokenLengths
 pub mod FitLaws
+pub mod PartLengths

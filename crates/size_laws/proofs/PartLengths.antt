@@ -28,8 +28,9 @@ use Rattle.sql_parse.specs.Parts.{built, stands, text_to, itself}
 use Rattle.sql_parse.specs.Literals.{largest, smallest, constant_in, negative, literal, table_ref, is_naming, term, minus_in, step, sum}
 use Rattle.sql_parse.specs.Conditions.{sign_in, compared, is_null, condition, where_part, conditions}
 use Rattle.sql_print.specs.Printing.{cond_text, each_text, link_text, minus_text, null_text, quoted_text, separated_text, sign_text, step_text, sum_text, table_text, term_text, where_text}
+use Rattle.token_grammar.specs.Printing.{token_text}
 use Rattle.size_laws.proofs.TokenLengths.{mark_long}
-use Rattle.size_laws.proofs.FitLaws.{Within, Fits, no_text, fits_word, fits_mark, fits_less, fits_pair, fits_after, fits_behind, fits_built, fits_tested, fits_or_else, fits_optional, fits_meant, fits_each, fits_separated}
+use Rattle.size_laws.proofs.FitLaws.{Within, Fits, Owes, fits_word, fits_mark, fits_less, joined, fits_pair, fits_owed, fits_after, fits_before, fits_built, fits_shorter, fits_tested, fits_or_else, fits_optional, fits_meant, fits_each, fits_separated}
 
 -- ---- Names and numbers.
 
@@ -110,20 +111,13 @@ constant_within (token.Quoted (b ∷ s)) v e =
 constant_within (token.Mark m) v e = absurd cc
 
 -- a number after a minus; 0 is printed without it
-negative_short : (n : ℕ) → length (text_of_value (values.Number (neg_ℤ (pos n)))) ≤ 1 + length (decimal n)
+negative_short : (n : ℕ) → length (text_of_value (values.Number (neg_ℤ (pos n)))) ≤ length (codes "-" ++ decimal n)
 negative_short zero = omega arith
 negative_short (suc n) = omega arith
 
 fits_negative : Fits 2 negative text_of_value
-fits_negative v ts s =
-    let number = s.1.3 in
-    let mark = fits_mark marks.Minus tt s.1.0 s.1.2 in
-    let digits = fits_number smallest s.0 s.1.1 number in
-    let short = negative_short s.0 in
-    subst (λ (x : Value). Within 2 (text_of_value x) ts) (some_is (values.Number (neg_ℤ (pos s.0))) v s.2) (fits_shorter s.0 ts s.1.0 s.1.1 s.1.4 mark digits)
-  where
-    fits_shorter : (n : ℕ) (ts us vs : List Token) → ts ≡ us ++ vs → Within 7 [] us → Within 0 (decimal n) vs → Within 2 (text_of_value (values.Number (neg_ℤ (pos n)))) ts
-    fits_shorter n ts us vs e h k = ?
+fits_negative = fits_shorter 2 (λ n. values.Number (neg_ℤ (pos n))) (mark marks.Minus ▹ number_to smallest) (λ n. codes "-" ++ decimal n) text_of_value negative_short
+    (fits_after 7 0 2 (mark marks.Minus) (number_to smallest) (codes "-") decimal (omega arith) (fits_mark marks.Minus) (fits_number smallest))
 
 pub fits_literal : Fits 2 literal text_of_value
 unfolding literal
@@ -143,17 +137,88 @@ fits_term = fits_or_else 2 (begins is_naming) (built terms.Column identifier) (b
     (fits_built 2 terms.Column identifier itself term_text (λ a. refl) (fits_less 4 2 identifier itself (omega arith) fits_identifier))
     (fits_built 2 terms.Literal literal text_of_value term_text (λ a. refl) fits_literal)
 
--- a term after its sign: nothing is left to spare where ` + NULL` is printed for `+''`
+-- a sign between blanks: ` + NULL` for `+''` leaves nothing to spare
+minus_owed : (t : Token) (b : Bool) → minus_in t ≡ Some b → 9 ≤ 7 * length (token_text t) + 2
+minus_owed (token.Word w) b e = absurd cc
+minus_owed (token.Number n) b e = absurd cc
+minus_owed (token.Quoted s) b e = absurd cc
+minus_owed (token.Mark m) b e = omega (arith, mark_long m)
+
 minus_long : (b : Bool) → length (minus_text b) ≡ 3
 minus_long true = refl
 minus_long false = refl
 
-step_long : (t : Token) (b : Bool) → minus_in t ≡ Some b → 1 ≤ length (token_text t)
-step_long (token.Word w) b e = absurd cc
-step_long (token.Number n) b e = absurd cc
-step_long (token.Quoted s) b e = absurd cc
-step_long (token.Mark m) b e = mark_long m
+owes_minus : Owes 2 (meant minus_in) minus_text
+owes_minus v ts s = let lack = minus_owed s.0 v s.2 in rw s.1 (omega (arith, lack, minus_long v))
 
 fits_step : Fits 0 step step_text
 unfolding step
-fits_step v ts s = ?
+fits_step v ts s = fits_owed 2 (meant minus_in) term minus_text term_text owes_minus fits_term (v.minus, v.term) ts s
+
+-- a sum of terms
+pub fits_sum : Fits 2 sum sum_text
+unfolding sum
+fits_sum v ts s = joined (term_text v.first) (each_text [] step_text v.rest) ts s.0 s.1 2 0 s.4 (fits_term v.first s.0 s.2) (fits_each step [] step_text fits_step v.rest s.1 s.3)
+
+-- ---- Conditions.
+
+sign_owed : (t : Token) (sign : Sign) → sign_in t ≡ Some sign → 3 * length (sign_text sign) ≤ 7 * length (token_text t) + 2
+sign_owed (token.Word w) sign e = absurd cc
+sign_owed (token.Number n) sign e = absurd cc
+sign_owed (token.Quoted s) sign e = absurd cc
+sign_owed (token.Mark marks.Equal) sign e = subst (λ (x : Sign). 3 * length (sign_text x) ≤ 9) (some_is signs.Eq sign e) (omega arith)
+sign_owed (token.Mark marks.Unequal) sign e = subst (λ (x : Sign). 3 * length (sign_text x) ≤ 16) (some_is signs.Ne sign e) (omega arith)
+sign_owed (token.Mark marks.Below) sign e = subst (λ (x : Sign). 3 * length (sign_text x) ≤ 9) (some_is signs.Lt sign e) (omega arith)
+sign_owed (token.Mark marks.AtMost) sign e = subst (λ (x : Sign). 3 * length (sign_text x) ≤ 16) (some_is signs.Le sign e) (omega arith)
+sign_owed (token.Mark marks.Above) sign e = subst (λ (x : Sign). 3 * length (sign_text x) ≤ 9) (some_is signs.Gt sign e) (omega arith)
+sign_owed (token.Mark marks.AtLeast) sign e = subst (λ (x : Sign). 3 * length (sign_text x) ≤ 16) (some_is signs.Ge sign e) (omega arith)
+sign_owed (token.Mark _) sign e = absurd cc
+
+owes_sign : Owes 2 (meant sign_in) sign_text
+owes_sign v ts s = let lack = sign_owed s.0 v s.2 in rw s.1 (omega (arith, lack))
+
+fits_compared : Fits 0 compared cond_text
+fits_compared = fits_built 0 _ (identifier · (meant sign_in · literal)) (λ x. x.0 ++ (sign_text x.1.0 ++ text_of_value x.1.1)) cond_text (λ a. refl)
+    (fits_pair 0 0 identifier (meant sign_in · literal) itself (λ x. sign_text x.0 ++ text_of_value x.1) fits_id
+    (fits_owed 2 (meant sign_in) literal sign_text text_of_value owes_sign fits_literal))
+
+-- IS [NOT] NULL
+abbrev null_part : Grammar Bool
+null_part = word (codes "IS") ▹ (stands (is_word (codes "NOT")) (word (codes "NOT")) ◃ word (codes "NULL"))
+
+-- NOT, where it stands
+abbrev not_text : Bool → List ℕ
+not_text true = codes "NOT "
+not_text false = []
+
+fits_not : Fits 0 (stands (is_word (codes "NOT")) (word (codes "NOT"))) not_text
+fits_not true ts s = let k = fits_word (codes "NOT") tt ts s in omega (arith, k)
+fits_not false ts s = omega arith
+
+same_null : (b : Bool) → length (null_text b) ≡ length (codes " IS " ++ (not_text b ++ codes "NULL"))
+same_null true = refl
+same_null false = refl
+
+fits_null : Fits 0 null_part null_text
+fits_null v ts s =
+    let k = fits_after 14 16 0 (word (codes "IS")) (stands (is_word (codes "NOT")) (word (codes "NOT")) ◃ word (codes "NULL")) (codes " IS ") (λ b. not_text b ++ codes "NULL") (omega arith) (fits_word (codes "IS"))
+        (fits_before 0 28 16 (stands (is_word (codes "NOT")) (word (codes "NOT"))) (word (codes "NULL")) (codes "NULL") not_text (omega arith) fits_not (fits_word (codes "NULL"))) v ts s in
+    omega (arith, k, same_null v)
+
+fits_is_null : Fits 0 is_null cond_text
+fits_is_null = fits_built 0 _ (identifier · null_part) (λ x. x.0 ++ null_text x.1) cond_text (λ a. refl) (fits_pair 0 0 identifier null_part itself null_text fits_id fits_null)
+
+fits_condition : Fits 0 condition cond_text
+unfolding condition
+fits_condition = fits_or_else 0 (begins_two anything (is_word (codes "IS"))) is_null compared cond_text fits_is_null fits_compared
+
+fits_where : Fits 0 where_part (λ cs. codes " WHERE " ++ separated_text (codes " AND ") cond_text cs)
+fits_where = fits_after 35 0 0 (word (codes "WHERE")) (separated (is_word (codes "AND")) (word (codes "AND")) condition) (codes " WHERE ") (separated_text (codes " AND ") cond_text) (omega arith) (fits_word (codes "WHERE"))
+    (fits_separated (is_word (codes "AND")) (word (codes "AND")) condition (codes " AND ") cond_text fits_condition
+    (fits_after 21 0 0 (word (codes "AND")) condition (codes " AND ") cond_text (omega arith) (fits_word (codes "AND")) fits_condition))
+
+-- the conditions of a WHERE
+pub fits_conditions : Fits 0 conditions where_text
+unfolding conditions
+fits_conditions [] ts s = omega arith
+fits_conditions (c ∷ cs) ts s = fits_where (c ∷ cs) ts s
