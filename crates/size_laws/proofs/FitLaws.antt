@@ -82,6 +82,25 @@ fits_after much more spare k b x h enough fk fb v ts s =
     let second = fb v s.1 s.3 in
     omega (arith, enough, size, text, first, second)
 
+-- a word of which nothing is printed: it is to spare
+pub fits_led : {B : Type 0} (w : List ℕ) (more spare : ℕ) (b : Grammar B) (h : B → List ℕ) → spare ≤ 7 * length w + more → Fits more b h → Fits spare (word w ▹ b) h
+fits_led w more spare b h enough fb = fits_after (7 * length w) more spare (word w) b [] h (omega (arith, enough)) (fits_word w) fb
+
+-- a part that lacks something, after something of which nothing is printed
+pub owes_behind : {B : Type 0} (lack : ℕ) (k : Grammar (Unit {0})) (b : Grammar B) (h : B → List ℕ) → Owes lack b h → Owes lack (k ▹ b) h
+owes_behind lack k b h ob v ts s =
+    let size = ap tokens_length s.4 ∙ tokens_length-append s.0 s.1 in
+    let second = ob v s.1 s.3 in
+    omega (arith, size, second)
+
+-- a word that has to spare what the part after it lacks
+pub fits_paid : {B : Type 0} (w : List ℕ) (b : Grammar B) (h : B → List ℕ) → Owes (7 * length w) b h → Fits 0 (word w ▹ b) h
+fits_paid w b h ob v ts s =
+    let size = ap tokens_length s.4 ∙ tokens_length-append s.0 s.1 in
+    let first = fits_word w tt s.0 s.2 in
+    let second = ob v s.1 s.3 in
+    omega (arith, size, first, second)
+
 -- a part before something that is printed alike always
 pub fits_before : {A : Type 0} (more much spare : ℕ) (a : Grammar A) (k : Grammar (Unit {0})) (x : List ℕ) (f : A → List ℕ) → 3 * length x + spare ≤ more + much
     → Fits more a f → Fits much k no_text → Fits spare (a ◃ k) (λ v. f v ++ x)

@@ -2,3 +2,5 @@ pub mod LengthLaws
 pub mod TokenLengths
 pub mod FitLaws
 pub mod PartLengths
+pub mod ChangeLengths
+pub mod StatementLengths

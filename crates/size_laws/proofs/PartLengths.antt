@@ -35,7 +35,7 @@ use Rattle.size_laws.proofs.FitLaws.{Within, Fits, Owes, fits_word, fits_mark, f
 -- ---- Names and numbers.
 
 -- a name is as long as the word that is read as it
-name_long : (w v : List ℕ) → name_of w ≡ Some v → length v ≡ length w
+pub name_long : (w v : List ℕ) → name_of w ≡ Some v → length v ≡ length w
 name_long w v e = ap (λ (s : List ℕ). length s) (sym (test_some (is_name w) (map to_ascii_uppercase w) v e).1) ∙ length-map w to_ascii_uppercase
 
 name_within : (t : Token) (v : List ℕ) → name_in t ≡ Some v → Within 0 v (t ∷ [])
@@ -77,7 +77,7 @@ fits_number most = fits_meant 0 (number_to_in most) decimal (number_within most)
 -- ---- Texts in quotes.
 
 -- with its quotes, a text is printed as it was
-same_quotes : (s : List ℕ) → length (quoted_text s) ≡ length (flat_map doubled s) + 2
+pub same_quotes : (s : List ℕ) → length (quoted_text s) ≡ length (flat_map doubled s) + 2
 same_quotes s = omega (arith, length-append (flat_map doubled s) (codes "'"))
 
 quoted_within : (t : Token) (s : List ℕ) → quoted_in t ≡ Some s → Within 8 (quoted_text s) (t ∷ [])

@@ -1,6 +1,5 @@
-use Rattle.size_laws.proofs.TokenLengths.{tokens_fit, tokens_length-append, mark_long}
-use Rattle.size_laws.proofs.PartLengths.{fits_conditions}
+use Rattle.size_laws.proofs.StatementLengths.{printed_within, printed_thrice}
 use Rattle.size_laws.proofs.printed_statements_are_bounded.Goals as goal
 
 pub returns : goal.returns
-returns c = ?
+returns c = record { sevenths = printed_within; thrice = printed_thrice }
