@@ -4,3 +4,4 @@ pub mod FitLaws
 pub mod PartLengths
 pub mod ChangeLengths
 pub mod StatementLengths
+pub mod PrintedExamples

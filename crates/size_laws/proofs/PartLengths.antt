@@ -202,7 +202,7 @@ same_null false = refl
 fits_null : Fits 0 null_part null_text
 fits_null v ts s =
     let k = fits_after 14 16 0 (word (codes "IS")) (stands (is_word (codes "NOT")) (word (codes "NOT")) ◃ word (codes "NULL")) (codes " IS ") (λ b. not_text b ++ codes "NULL") (omega arith) (fits_word (codes "IS"))
-        (fits_before 0 28 16 (stands (is_word (codes "NOT")) (word (codes "NOT"))) (word (codes "NULL")) (codes "NULL") not_text (omega arith) fits_not (fits_word (codes "NULL"))) v ts s in
+    (fits_before 0 28 16 (stands (is_word (codes "NOT")) (word (codes "NOT"))) (word (codes "NULL")) (codes "NULL") not_text (omega arith) fits_not (fits_word (codes "NULL"))) v ts s in
     omega (arith, k, same_null v)
 
 fits_is_null : Fits 0 is_null cond_text

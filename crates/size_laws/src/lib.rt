@@ -7,7 +7,8 @@
 //! bounded by the other.
 #![tactic(auto)]
 
-ghost use Rattle.std.specs.Prelude.{◌≡◌, ◌≤◌, ◌*◌, ℕ, List, length, Option};
+ghost use Rattle.std.specs.Prelude.{◌≡◌, ◌≤◌, ◌*◌, ℕ, List, length, Option, Some, codes};
+ghost use Rattle.std.specs.Option.{option_map};
 ghost use Rattle.dtx_values.specs.declared.value.Value.{Value};
 ghost use Rattle.dtx_values.specs.declared.row.Row.{Row};
 ghost use Rattle.dtx_values.specs.declared.row.Change.{Change};
@@ -16,7 +17,7 @@ ghost use Rattle.field_codec.specs.Value.{value_format, row_format};
 ghost use Rattle.field_codec.specs.Change.{change_format};
 ghost use Rattle.sql_eval.specs.Rows.{value_length, row_length, change_length};
 ghost use Rattle.sql_statement.specs.declared.statement.Stmt.{Stmt};
-ghost use Rattle.sql_parse.specs.Statement.{IsStatement};
+ghost use Rattle.sql_parse.specs.Statement.{IsStatement, statement_of};
 ghost use Rattle.sql_print.specs.Printing.{printed};
 
 /// The length of a value, of a row or of none, and of a change is the number of bytes that spell it.
@@ -31,4 +32,9 @@ pub fn lengths_are_those_of_bytes()
 pub fn printed_statements_are_bounded()
     ensures sevenths { (s : Stmt) (text : List ℕ) → IsStatement s text → 3 * length (printed s) ≤ 7 * length text }
     ensures thrice { (s : Stmt) (text : List ℕ) → IsStatement s text → length (printed s) ≤ 3 * length text }
+{}
+
+/// Twice the text would not do: these 59 bytes are printed in 119.
+pub fn twice_the_text_is_not_enough()
+    ensures { option_map (λ s. length (printed s)) (statement_of (codes "UPDATE T SET A=''+''+''+''+''+''+''+''+''+''+''+''+''+''+''")) ≡ Some 119 }
 {}
