@@ -5,3 +5,4 @@ pub mod PartLengths
 pub mod ChangeLengths
 pub mod StatementLengths
 pub mod PrintedExamples
+pub mod TableLengths

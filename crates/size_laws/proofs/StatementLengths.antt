@@ -1,12 +1,12 @@
 -- Each statement is printed within the tokens that spell it, so within its text.
-use Rattle.std.proofs.Common.{◌≡◌, ℕ, ◌+◌, ◌*◌, ◌≤◌, Bool, true, false, List, [], ◌∷◌, ◌++◌, length, map, Option, Some, None, refl, sym, ap, subst, ◌∙◌, arith, inl, inr}
+use Rattle.std.proofs.Common.{◌≡◌, ℕ, ◌+◌, ◌*◌, ◌≤◌, ◌<◌, ◌^◌, Bool, true, false, List, [], ◌∷◌, ◌++◌, length, map, Option, Some, None, refl, sym, ap, subst, ◌∙◌, arith, inl, inr}
 use Rattle.std.specs.Prelude.{codes, decimal, nat_le, ◌==◌}
 use Rattle.std.specs.List.{flat_map, list_any, list_all}
 use Rattle.std.proofs.lemmas.Bool.{cases_Bool}
 use Rattle.std.proofs.lemmas.List.{length-append}
 use Rattle.std.proofs.lemmas.List.Concat.{flat_map-cons}
 use Rattle.dtx_values.specs.Texts.{quoted_byte}
-use Rattle.dtx_values.specs.Limits.{text_limit, comment_limit, id_limit, scn_limit, select_limit}
+use Rattle.dtx_values.specs.Limits.{text_limit, comment_limit, id_limit, scn_limit, name_limit, script_limit}
 use Rattle.dtx_values.specs.declared.advice.Advice.{Advice}
 use Rattle.dtx_values.specs.declared.advice.Advice.TheVariants as advices
 use Rattle.token_grammar.proofs.Options.{some_is}
@@ -313,3 +313,7 @@ printed_within s text h =
 -- so the printed text is within three times the text
 pub printed_thrice : (s : Stmt) (text : List ℕ) → IsStatement s text → length (printed s) ≤ 3 * length text
 printed_thrice s text h = omega (arith, printed_within s text h)
+
+-- and that of a statement of a script, with any name beside it, is below 4 MiB
+pub printed_of_scripts : (s : Stmt) (text : List ℕ) → IsStatement s text → length text ≤ script_limit → length (printed s) + name_limit < 2 ^ 22
+printed_of_scripts s text h le = let k = printed_thrice s text h in omega (arith, k, le)
