@@ -1,42 +1,22 @@
 -- INSERT, UPDATE, DELETE and SELECT are printed within the tokens that spell them.
-use Rattle.std.proofs.Common.{◌≡◌, ℕ, ◌+◌, ◌*◌, ◌≤◌, Bool, true, false, List, [], ◌∷◌, ◌++◌, length, map, Option, Some, None, refl, sym, ap, subst, ◌∙◌, arith, inl, inr}
-use Rattle.std.specs.Prelude.{codes, decimal, nat_le}
-use Rattle.std.specs.List.{flat_map, list_any, list_all}
-use Rattle.std.proofs.lemmas.Bool.{cases_Bool}
-use Rattle.std.proofs.lemmas.List.{length-append}
-use Rattle.std.proofs.lemmas.List.Concat.{flat_map-cons}
-use Rattle.dtx_values.specs.Texts.{quoted_byte}
-use Rattle.dtx_values.specs.Limits.{text_limit, comment_limit, id_limit, scn_limit, select_limit}
-use Rattle.dtx_values.specs.declared.advice.Advice.{Advice}
-use Rattle.dtx_values.specs.declared.advice.Advice.TheVariants as advices
-use Rattle.token_grammar.proofs.Options.{some_is}
-use Rattle.token_grammar.proofs.QuoteLaws.{text_long}
+use Rattle.std.proofs.Common.{ℕ, Bool, true, false, List, ◌++◌, length, Some, refl, arith}
+use Rattle.std.specs.Prelude.{codes, nat_le}
+use Rattle.std.specs.List.{list_all}
+use Rattle.dtx_values.specs.Limits.{select_limit}
 use Rattle.token_grammar.specs.declared.mark.Mark.TheVariants as marks
-use Rattle.token_grammar.specs.declared.token.Token.{Token}
-use Rattle.token_grammar.specs.declared.token.Token.TheVariants as token
-use Rattle.token_grammar.specs.Bytes.{doubled}
 use Rattle.token_grammar.specs.Steps.{begins}
-use Rattle.token_grammar.specs.Grammar.{Grammar, Each, is_word, is_mark, passed, word, mark, meant, identifier, name, number_to, ◌·◌, ◌▹◌, maybe, optional, Optional, many, commas, tested}
+use Rattle.token_grammar.specs.Grammar.{Grammar, is_mark, word, mark, identifier, ◌·◌, ◌▹◌, maybe, optional, commas, tested}
 use Rattle.sql_statement.specs.Distinct.{are_distinct}
-use Rattle.sql_statement.specs.declared.condition.Cond.{Cond}
 use Rattle.sql_statement.specs.declared.query.Picked.{Picked}
 use Rattle.sql_statement.specs.declared.query.Picked.TheVariants as picked
-use Rattle.sql_statement.specs.declared.statement.Stmt.{Stmt}
 use Rattle.sql_statement.specs.declared.statement.Stmt.TheVariants as statements
-use Rattle.sql_parse.specs.declared.rule.Rule.{Rule}
-use Rattle.sql_parse.specs.declared.rule.Rule.TheVariants as rules
-use Rattle.sql_parse.specs.Parts.{or_else, built, stands, in_brackets, text_to, itself}
+use Rattle.sql_parse.specs.Parts.{or_else, built, in_brackets, itself}
 use Rattle.sql_parse.specs.Literals.{table_ref, sum, is_constant}
 use Rattle.sql_parse.specs.Conditions.{conditions}
 use Rattle.sql_parse.specs.Changes.{column_names, constants, insert, assignment, left_side, assignments, update, delete, count, sum_of, columns, opens, picks, may_lock, for_update_part, source, select}
-use Rattle.sql_parse.specs.Catalog.{width, column_type, rule, is_rule, is_not_null, is_key, are_once, column_of, column, are_of_a_table, table_columns, create_table, target_in, account, create_link, create_synonym, create}
-use Rattle.sql_parse.specs.Transactions.{plain_commit, forced_commit, commit, rollback_of, rollback, advice_in, advise, switch_in, recovery, alter, argument, purge, is_execute, execute}
-use Rattle.sql_parse.specs.Statement.{led_by, statement_grammar, IsStatement}
-use Rattle.sql_parse.proofs.StatementLaws.{forms_2, forms_3, forms_4, forms_5, forms_6, forms_7, forms_8}
-use Rattle.sql_print.specs.Printing.{separated_text, bracketed_text, quoted_text, table_text, sum_text, set_text, where_text, type_text, if_text, rules_text, column_text, columns_text, names_text, picked_text, source_text, values_text, scn_text, commit_text, advise_text, recovery_text, argument_text, printed}
-use Rattle.size_laws.proofs.TokenLengths.{tokens_length, tokens_fit}
-use Rattle.size_laws.proofs.FitLaws.{Within, Fits, Owes, no_text, fits_word, fits_mark, fits_nothing, fits_short, fits_less, joined, fits_pair, fits_after, fits_led, owes_behind, fits_paid, fits_behind, fits_second, fits_built, fits_tested, fits_or_else, fits_optional, fits_meant, fits_commas, fits_brackets}
-use Rattle.size_laws.proofs.PartLengths.{name_long, fits_name, fits_identifier, fits_id, fits_number, same_quotes, fits_text, fits_table, fits_sum, fits_conditions}
+use Rattle.sql_print.specs.Printing.{separated_text, bracketed_text, table_text, sum_text, set_text, where_text, if_text, names_text, picked_text, source_text, values_text, printed}
+use Rattle.size_laws.proofs.FitLaws.{Fits, no_text, fits_word, fits_mark, fits_short, fits_less, fits_pair, fits_after, fits_led, fits_behind, fits_built, fits_tested, fits_or_else, fits_optional, fits_commas, fits_brackets}
+use Rattle.size_laws.proofs.PartLengths.{fits_id, fits_table, fits_sum, fits_conditions}
 
 -- ---- INSERT, UPDATE and DELETE
 

@@ -1,16 +1,15 @@
 -- Grammars whose values are printed in at most seven bytes for each three of the tokens that spell them.
-use Rattle.std.proofs.Common.{◌≡◌, ℕ, ◌+◌, ◌*◌, ◌≤◌, Bool, List, [], ◌∷◌, ◌++◌, length, Option, Some, None, refl, sym, ap, subst, ◌∙◌, arith, inl, inr}
+use Rattle.std.proofs.Common.{◌≡◌, ℕ, ◌+◌, ◌*◌, ◌≤◌, Bool, List, [], ◌∷◌, ◌++◌, length, Option, Some, None, sym, ap, subst, ◌∙◌, arith, inl, inr}
 use Rattle.std.specs.Prelude.{codes}
 use Rattle.std.proofs.lemmas.List.{length-append}
 use Rattle.std.proofs.lemmas.List.Concat.{flat_map-cons}
 use Rattle.token_grammar.specs.declared.mark.Mark.{Mark}
 use Rattle.token_grammar.specs.declared.mark.Mark.TheVariants as marks
 use Rattle.token_grammar.specs.declared.token.Token.{Token}
-use Rattle.token_grammar.specs.declared.token.Token.TheVariants as token
-use Rattle.token_grammar.specs.Grammar.{Grammar, Each, is_mark, word, mark, meant, commas, ◌·◌, ◌▹◌, ◌◃◌, optional, many, separated, tested}
+use Rattle.token_grammar.specs.Grammar.{Grammar, Each, is_mark, word, mark, meant, commas, ◌·◌, ◌▹◌, ◌◃◌, optional, separated, tested}
 use Rattle.token_grammar.proofs.Options.{some_is}
 use Rattle.sql_parse.specs.Parts.{or_else, built, in_brackets}
-use Rattle.sql_print.specs.Printing.{each_text, separated_text, bracketed_text}
+use Rattle.sql_print.specs.Printing.{each_text, separated_text}
 use Rattle.size_laws.proofs.TokenLengths.{tokens_length, tokens_length-append, mark_long}
 
 -- three times the printed text, and something to spare, are within seven times the tokens

@@ -1,5 +1,5 @@
 -- Names, literals, tables, sums and conditions are printed within the tokens that spell them.
-use Rattle.std.proofs.Common.{◌≡◌, ℕ, zero, suc, pos, neg_ℤ, ◌+◌, ◌*◌, ◌≤◌, ◌<◌, ◌^◌, Bool, true, false, List, [], ◌∷◌, ◌++◌, length, map, Option, Some, None, refl, sym, ap, subst, ◌∙◌, arith, inl, inr}
+use Rattle.std.proofs.Common.{◌≡◌, ℕ, zero, suc, pos, neg_ℤ, ◌+◌, ◌*◌, ◌≤◌, Bool, true, false, List, [], ◌∷◌, ◌++◌, length, map, Some, None, refl, sym, ap, subst, ◌∙◌, arith, inl, inr}
 use Rattle.std.specs.Prelude.{codes, decimal, nat_le}
 use Rattle.std.specs.Str.{bytes_eq}
 use Rattle.std.specs.Char.{to_ascii_uppercase}
@@ -13,13 +13,12 @@ use Rattle.dtx_values.specs.Str.{is_text, is_text_to}
 use Rattle.dtx_values.specs.Texts.{text_of_value}
 use Rattle.dtx_values.specs.declared.value.Value.{Value}
 use Rattle.dtx_values.specs.declared.value.Value.TheVariants as values
-use Rattle.token_grammar.specs.declared.mark.Mark.{Mark}
 use Rattle.token_grammar.specs.declared.mark.Mark.TheVariants as marks
 use Rattle.token_grammar.specs.declared.token.Token.{Token}
 use Rattle.token_grammar.specs.declared.token.Token.TheVariants as token
 use Rattle.token_grammar.specs.Bytes.{doubled}
 use Rattle.token_grammar.specs.Steps.{begins}
-use Rattle.token_grammar.specs.Grammar.{Grammar, is_word, is_mark, anything, begins_two, word, mark, meant, identifier, identifier_in, name, name_in, number_to, number_to_in, quoted, quoted_in, ◌·◌, ◌▹◌, ◌◃◌, optional, many, separated}
+use Rattle.token_grammar.specs.Grammar.{Grammar, is_word, is_mark, anything, begins_two, word, mark, meant, identifier, identifier_in, name, name_in, number_to, number_to_in, quoted, quoted_in, ◌·◌, ◌▹◌, ◌◃◌, optional, separated}
 use Rattle.token_grammar.proofs.Options.{test_some, chosen, some_is}
 use Rattle.sql_statement.specs.declared.condition.Sign.{Sign}
 use Rattle.sql_statement.specs.declared.condition.Sign.TheVariants as signs

@@ -1,9 +1,8 @@
 -- The bytes of a text are no fewer than those that its tokens are printed in.
-use Rattle.std.proofs.Common.{◌≡◌, ℕ, ◌+◌, ◌*◌, ◌<◌, ◌≤◌, ◌^◌, true, false, List, [], ◌∷◌, ◌++◌, length, map, Some, rules, refl, ap, subst, ◌∙◌, arith, inl, inr}
+use Rattle.std.proofs.Common.{◌≡◌, ℕ, ◌+◌, ◌<◌, ◌≤◌, ◌^◌, true, List, [], ◌∷◌, ◌++◌, length, Some, rules, ap, subst, ◌∙◌, arith}
 use Rattle.std.specs.Prelude.{decimal, IsTrue}
-use Rattle.std.specs.List.{flat_map, list_all}
+use Rattle.std.specs.List.{list_all}
 use Rattle.std.specs.Char.{to_ascii_uppercase}
-use Rattle.std.proofs.lemmas.Bool.{cases_Bool}
 use Rattle.std.proofs.lemmas.Bool.Decides.{nat_tests}
 use Rattle.std.proofs.lemmas.Fmt.{length-decimal-le}
 use Rattle.std.proofs.lemmas.List.{length-append, length-map}
@@ -12,7 +11,7 @@ use Rattle.token_grammar.specs.declared.mark.Mark.{Mark}
 use Rattle.token_grammar.specs.declared.mark.Mark.TheVariants as marks
 use Rattle.token_grammar.specs.declared.token.Token.{Token}
 use Rattle.token_grammar.specs.declared.token.Token.TheVariants as token
-use Rattle.token_grammar.specs.Bytes.{is_digit, value_from, doubled, one_mark}
+use Rattle.token_grammar.specs.Bytes.{is_digit, value_from, one_mark}
 use Rattle.token_grammar.specs.Steps.{begins}
 use Rattle.token_grammar.specs.Tokens.{MarkText, TokenText, Tokens}
 use Rattle.token_grammar.specs.Printing.{token_text}
