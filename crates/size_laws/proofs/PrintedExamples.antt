@@ -1,4 +1,4 @@
--- Two statements, read and printed by computation: how near printing comes to its bound.
+-- Two statements, read and printed by computation.
 use Rattle.std.proofs.Common.{◌≡◌, Some, refl}
 use Rattle.std.specs.Prelude.{codes, length}
 use Rattle.std.specs.Option.{option_map}

@@ -1,10 +1,10 @@
-//! The laws that lengths which are counted are those of bytes, and that printing a statement makes it no longer than three times
-//! its text.
+//! Laws of lengths: those that are counted are those of bytes, and a printed statement is at most three times as long as its text.
 //!
 //! How large the changes of a branch may be, and how much undo they need, is said of lengths that are computed from values
-//! (sql_eval). The bytes themselves stand in records (field_codec). Here both are shown to be one. A statement goes to another
-//! node as its printed text (sql_print), and a limit on scripts limits the text that it was read from (sql_parse): here the one is
-//! bounded by the other.
+//! (sql_eval). The bytes themselves stand in records (field_codec). Here both are shown to be one.
+//!
+//! A statement goes to another node as its printed text (sql_print), while a script's limit is on the text that it is read from
+//! (sql_parse). Here the printed text is bounded by the text that was read.
 #![tactic(auto)]
 
 ghost use Rattle.std.specs.Prelude.{◌≡◌, ◌≤◌, ◌<◌, ◌+◌, ◌*◌, ◌^◌, ℕ, Bool, List, length, Option, Some, codes};
@@ -55,7 +55,9 @@ pub fn another_table_adds_its_own_length()
         → length (printed (Select list t conds for_update)) + length (table_text u) ≡ length (printed (Select list u conds for_update)) + length (table_text t) }
 {}
 
-/// Twice the text would not do: these 59 bytes are printed in 119.
-pub fn twice_the_text_is_not_enough()
-    ensures { option_map (λ s. length (printed s)) (statement_of (codes "UPDATE T SET A=''+''+''+''+''+''+''+''+''+''+''+''+''+''+''")) ≡ Some 119 }
+/// Two statements, read and printed: FROM and blanks are put in, `!=` is printed as `<>`, and an empty text as NULL. Twice the
+/// text would not do as a bound, since the 59 bytes of the second are printed in 119.
+pub fn two_statements_are_printed()
+    ensures longer { option_map printed (statement_of (codes "delete t where a!=''and b is null")) ≡ Some (codes "DELETE FROM T WHERE A <> NULL AND B IS NULL") }
+    ensures doubled { option_map (λ s. length (printed s)) (statement_of (codes "UPDATE T SET A=''+''+''+''+''+''+''+''+''+''+''+''+''+''+''")) ≡ Some 119 }
 {}
