@@ -19,6 +19,7 @@ use Rattle.token_grammar.specs.declared.token.Token.TheVariants as token
 use Rattle.token_grammar.specs.Bytes.{doubled}
 use Rattle.token_grammar.specs.Steps.{begins}
 use Rattle.token_grammar.specs.Grammar.{Grammar, is_word, is_mark, anything, begins_two, word, mark, meant, identifier, identifier_in, name, name_in, number_to, number_to_in, quoted, quoted_in, ◌·◌, ◌▹◌, ◌◃◌, optional, separated}
+use Rattle.token_grammar.specs.Printing.{token_text}
 use Rattle.token_grammar.proofs.Options.{test_some, chosen, some_is}
 use Rattle.sql_statement.specs.declared.condition.Sign.{Sign}
 use Rattle.sql_statement.specs.declared.condition.Sign.TheVariants as signs
@@ -27,7 +28,6 @@ use Rattle.sql_parse.specs.Parts.{built, stands, text_to, itself}
 use Rattle.sql_parse.specs.Literals.{largest, smallest, constant_in, negative, literal, table_ref, is_naming, term, minus_in, step, sum}
 use Rattle.sql_parse.specs.Conditions.{sign_in, compared, is_null, condition, where_part, conditions}
 use Rattle.sql_print.specs.Printing.{cond_text, each_text, link_text, minus_text, null_text, quoted_text, separated_text, sign_text, step_text, sum_text, table_text, term_text, where_text}
-use Rattle.token_grammar.specs.Printing.{token_text}
 use Rattle.size_laws.proofs.TokenLengths.{mark_long}
 use Rattle.size_laws.proofs.FitLaws.{Within, Fits, Owes, fits_word, fits_mark, fits_less, joined, fits_pair, fits_owed, fits_after, fits_before, fits_built, fits_shorter, fits_tested, fits_or_else, fits_optional, fits_meant, fits_each, fits_separated}
 

@@ -95,7 +95,7 @@ fits_table_columns : Fits 0 table_columns columns_text
 fits_table_columns = fits_tested 0 are_of_a_table (in_brackets (commas column)) columns_text
     (fits_brackets (commas column) (codes " (") (separated_text (codes ", ") column_text) (omega arith) (fits_commas column column_text fits_column))
 
--- CREATE is printed for nothing here: the word TABLE, and what the name spares, are enough
+-- the word TABLE, and what the name has to spare, are enough for CREATE TABLE
 fits_create_table : Fits 0 create_table printed
 unfolding create_table printed
 fits_create_table = fits_built 0 _ (word (codes "TABLE") ▹ (identifier · table_columns)) (λ x. codes "CREATE TABLE " ++ (x.0 ++ columns_text x.1)) printed (λ a. refl)
@@ -187,7 +187,7 @@ comment_part = word (codes "COMMENT") ▹ text_to comment_limit
 fits_comment : Fits 0 comment_part (λ text. commit_text (Some text))
 fits_comment = fits_after 49 8 0 (word (codes "COMMENT")) (text_to comment_limit) (codes "COMMIT COMMENT ") quoted_text (omega arith) (fits_word (codes "COMMENT")) (fits_text comment_limit)
 
--- COMMIT alone is printed for its own word
+-- where nothing follows, COMMIT is printed within its own word
 comment_owed : (comment : Option (List ℕ)) (ts : List Token) → Optional comment_part.Spells comment ts → 3 * length (commit_text comment) ≤ 7 * tokens_length ts + 42
 comment_owed None ts s = omega arith
 comment_owed (Some text) ts s = let k = fits_comment text ts s in omega (arith, k)
@@ -265,7 +265,7 @@ fits_alter = fits_behind 0 (word (codes "ALTER")) (or_else (begins (is_word (cod
 fits_argument : Fits 0 argument argument_text
 fits_argument = fits_brackets (text_to id_limit) (codes "(") quoted_text (omega arith) (fits_less 8 0 (text_to id_limit) quoted_text (omega arith) (fits_text id_limit))
 
--- the name of a procedure is long enough for EXECUTE too
+-- the name of the procedure alone is enough for EXECUTE and the name
 fits_purge : Fits 0 purge printed
 unfolding printed
 fits_purge = fits_or_else 0 (begins (is_word (codes "DBMS_TRANSACTION.PURGE_MIXED"))) (built statements.PurgeMixed (word (codes "DBMS_TRANSACTION.PURGE_MIXED") ▹ argument))
