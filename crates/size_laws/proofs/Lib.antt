@@ -1,1 +1,8 @@
 pub mod LengthLaws
+pub mod TokenLengths
+pub mod FitLaws
+pub mod PartLengths
+pub mod ChangeLengths
+pub mod StatementLengths
+pub mod PrintedExamples
+pub mod TableLengths

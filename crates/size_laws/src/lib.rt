@@ -1,10 +1,14 @@
-//! The law that changes are counted by their bytes.
+//! Laws of lengths: those that are counted are those of bytes, and a printed statement is at most three times as long as its text.
 //!
 //! How large the changes of a branch may be, and how much undo they need, is said of lengths that are computed from values
 //! (sql_eval). The bytes themselves stand in records (field_codec). Here both are shown to be one.
+//!
+//! A statement goes to another node as its printed text (sql_print), while a script's limit is on the text that it is read from
+//! (sql_parse). Here the printed text is bounded by the text that was read.
 #![tactic(auto)]
 
-ghost use Rattle.std.specs.Prelude.{◌≡◌, length, Option};
+ghost use Rattle.std.specs.Prelude.{◌≡◌, ◌≤◌, ◌<◌, ◌+◌, ◌*◌, ◌^◌, ℕ, Bool, List, length, Option, Some, codes};
+ghost use Rattle.std.specs.Option.{option_map};
 ghost use Rattle.dtx_values.specs.declared.value.Value.{Value};
 ghost use Rattle.dtx_values.specs.declared.row.Row.{Row};
 ghost use Rattle.dtx_values.specs.declared.row.Change.{Change};
@@ -12,10 +16,48 @@ ghost use Rattle.byte_format.specs.Part.{optional};
 ghost use Rattle.field_codec.specs.Value.{value_format, row_format};
 ghost use Rattle.field_codec.specs.Change.{change_format};
 ghost use Rattle.sql_eval.specs.Rows.{value_length, row_length, change_length};
+ghost use Rattle.dtx_values.specs.Limits.{name_limit, script_limit};
+ghost use Rattle.sql_statement.specs.declared.condition.Cond.{Cond};
+ghost use Rattle.sql_statement.specs.declared.query.Picked.{Picked};
+ghost use Rattle.sql_statement.specs.declared.statement.Set.{Set};
+ghost use Rattle.sql_statement.specs.declared.statement.Stmt.{Stmt};
+ghost use Rattle.sql_statement.specs.declared.statement.Stmt.TheVariants.{Insert, Update, Delete, Select};
+ghost use Rattle.sql_statement.specs.declared.statement.TableRef.{TableRef};
+ghost use Rattle.sql_statement.specs.declared.sum.Sum.{Sum};
+ghost use Rattle.sql_parse.specs.Statement.{IsStatement, statement_of};
+ghost use Rattle.sql_print.specs.Printing.{table_text, printed};
 
 /// The length of a value, of a row or of none, and of a change is the number of bytes that spell it.
 pub fn lengths_are_those_of_bytes()
     ensures values { (v : Value) → value_length v ≡ length (value_format.text v) }
     ensures rows { (row : Option Row) → row_length row ≡ length ((optional row_format).text row) }
     ensures changes { (c : Change) → change_length c ≡ length (change_format.text c) }
+{}
+
+/// The printed text of a statement has at most seven bytes for each three of a text that spells it, so at most three for each.
+/// Nearest to seven comes a sum of empty texts, where `+''` is printed as ` + NULL`. So a statement of a script is printed in
+/// fewer than 4 MiB, with any name beside it.
+pub fn printed_statements_are_bounded()
+    ensures sevenths { (s : Stmt) (text : List ℕ) → IsStatement s text → 3 * length (printed s) ≤ 7 * length text }
+    ensures thrice { (s : Stmt) (text : List ℕ) → IsStatement s text → length (printed s) ≤ 3 * length text }
+    ensures of_scripts { (s : Stmt) (text : List ℕ) → IsStatement s text → length text ≤ script_limit → length (printed s) + name_limit < 2 ^ 22 }
+{}
+
+/// Where another table is put into a statement, as for a synonym, its printed text changes by the length of the table alone.
+pub fn another_table_adds_its_own_length()
+    ensures insert { (t u : TableRef) (columns : Option (List (List ℕ))) (values : List Sum)
+        → length (printed (Insert t columns values)) + length (table_text u) ≡ length (printed (Insert u columns values)) + length (table_text t) }
+    ensures update { (t u : TableRef) (sets : List Set) (conds : List Cond)
+        → length (printed (Update t sets conds)) + length (table_text u) ≡ length (printed (Update u sets conds)) + length (table_text t) }
+    ensures delete { (t u : TableRef) (conds : List Cond)
+        → length (printed (Delete t conds)) + length (table_text u) ≡ length (printed (Delete u conds)) + length (table_text t) }
+    ensures select { (list : Picked) (t u : TableRef) (conds : List Cond) (for_update : Bool)
+        → length (printed (Select list t conds for_update)) + length (table_text u) ≡ length (printed (Select list u conds for_update)) + length (table_text t) }
+{}
+
+/// Two statements, read and printed: FROM and blanks are put in, `!=` is printed as `<>`, and an empty text as NULL. Twice the
+/// text would not do as a bound, since the 59 bytes of the second are printed in 119.
+pub fn two_statements_are_printed()
+    ensures longer { option_map printed (statement_of (codes "delete t where a!=''and b is null")) ≡ Some (codes "DELETE FROM T WHERE A <> NULL AND B IS NULL") }
+    ensures doubled { option_map (λ s. length (printed s)) (statement_of (codes "UPDATE T SET A=''+''+''+''+''+''+''+''+''+''+''+''+''+''+''")) ≡ Some 119 }
 {}
