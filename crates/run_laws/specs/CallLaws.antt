@@ -1,7 +1,12 @@
 -- Statements of live branches that are under way: the roots of sessions, the calls that a branch made over its edges, and the
 -- calls that came to it.
 use Rattle.std.specs.Prelude.{◌≡◌, ◌≢◌, ℕ, List, length, Option, Some, None}
-use Rattle.node_rules.specs.Data.{BranchId, Edge, Live}
+use Rattle.node_rules.specs.Data.{BranchId, Edge, Live, Phase}
+use Rattle.node_rules.specs.Data.phases
+use Rattle.node_rules.specs.declared.session.PendingCall.{PendingCall}
+use Rattle.node_rules.specs.declared.session.PendingCall.TheVariants as pending
+use Rattle.node_rules.specs.declared.session.Session.{Session}
+use Rattle.node_rules.specs.declared.work.Going.{Going}
 use Rattle.node_rules.specs.declared.work.Work.{Work}
 use Rattle.node_rules.specs.Kept.{Branch, live_at, branch_at}
 use Rattle.node_rules.specs.Sessions.{session_at}
@@ -20,3 +25,19 @@ pub record CallsFit (parent : Option BranchId) (edges : List Edge) (w : Work) : 
 -- In every lawful run the calls of each live branch fit its edges.
 abbrev pub CallsFitEdges : Type 0
 CallsFitEdges = OfEachNode (λ p rs k. (b : BranchId) (x : Branch) → branch_at k b ≡ Some x → CallsFit x.live.parent x.live.edges x.work)
+
+-- What the pending call of its session tells of a root: without one it is working, and waits for nothing; while a statement is
+-- pending it is working; while COMMIT is pending it waits for nothing.
+abbrev pub RootWaits : PendingCall → Phase → Option Going → Type 0
+RootWaits pending.NoCall phase going = (phase ≡ phases.Working) × (going ≡ None)
+RootWaits pending.Statement phase going = phase ≡ phases.Working
+RootWaits pending.Commit phase going = going ≡ None
+
+-- A root is its session's transaction.
+pub record IsRootOf (s : Session) (me : BranchId) (phase : Phase) (going : Option Going) : Type 0 where
+  pub root : s.root ≡ Some me
+  pub waits : RootWaits s.call phase going
+
+-- In every lawful run a live root is the transaction of its session, and waits as that tells.
+abbrev pub RootsWait : Type 0
+RootsWait = OfEachNode (λ p rs k. (x : Branch) → branch_at k x.live.me ≡ Some x → x.live.parent ≡ None → IsRootOf (session_at k.sessions x.live.me.session) x.live.me x.live.phase x.work.going)

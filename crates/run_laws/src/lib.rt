@@ -19,7 +19,7 @@ ghost use Rattle.run_laws.specs.TowardLaws.{TurnsGoByRows};
 ghost use Rattle.run_laws.specs.RowSayLaws.{TurnsTellByRows};
 ghost use Rattle.run_laws.specs.VoteLaws.{VotesAreOfSealed, LiveHaveNotVoted};
 ghost use Rattle.run_laws.specs.PhaseLaws.{PhasesFit};
-ghost use Rattle.run_laws.specs.CallLaws.{RootsAreOfSessions, CallsFitEdges};
+ghost use Rattle.run_laws.specs.CallLaws.{RootsAreOfSessions, CallsFitEdges, RootsWait};
 ghost use Rattle.run_laws.specs.BirthLaws.{NoIdBeginsTwice, BirthsAreTrees, NodesNameTheBorn, RecordsNameTheBorn, MessagesAreOfNeighbors, BornAreLiveOrLeft};
 
 /// The book that the facts keep is the book of the trace.
@@ -228,4 +228,10 @@ pub fn roots_are_of_sessions()
 /// call is ever answered at a root.
 pub fn calls_fit_edges()
     ensures { CallsFitEdges }
+{}
+
+/// A live root is the transaction of its session. While no call is pending there it is working, and waits for nothing; while a
+/// statement is pending it is working; while COMMIT is pending it waits for nothing.
+pub fn roots_wait()
+    ensures { RootsWait }
 {}
