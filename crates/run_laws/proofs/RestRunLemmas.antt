@@ -10,7 +10,7 @@ use Rattle.node_rules.specs.Data.kinds
 use Rattle.node_rules.specs.declared.session.PendingCall.TheVariants as pending
 use Rattle.node_rules.specs.Data.stmts
 use Rattle.node_rules.specs.Words.{same, numbered}
-use Rattle.node_rules.specs.Kept.{Kept, live_id, standing_id, live_at}
+use Rattle.node_rules.specs.Kept.{Kept, live_id, standing_id, live_at, Branch, branch_at}
 use Rattle.node_rules.specs.Sessions.{session_at}
 use Rattle.node_rules.proofs.Steps.{Step}
 use Rattle.std.specs.List.{AllByRecursion}
@@ -20,22 +20,25 @@ use Rattle.run_laws.specs.Data.{Took, Turn, Happening, Command}
 use Rattle.run_laws.specs.Facts.{Facts, first_facts, place_at, node_at, records_at, facts_after, facts_of}
 use Rattle.run_laws.specs.Lawful.{IsPlace, MayTurn, MayHappen, Comes, IsLawful, History, IsLawfulRun, facts_at}
 use Rattle.run_laws.specs.RunEvents.{events_after}
-use Rattle.run_laws.specs.NodeLaws.{count_of}
+use Rattle.run_laws.specs.NodeLaws.{count_of, EachFactFrom}
 use Rattle.run_laws.specs.Births.{Born, born_at, births_after}
 use Rattle.run_laws.specs.BirthLaws.{Began, IsChild, LiveIs, NamesAre, GoesSo}
 use Rattle.run_laws.proofs.ListLemmas.{all_weaker}
 use Rattle.run_laws.proofs.OwnLemmas.{all_found}
-use Rattle.run_laws.proofs.LawfulLemmas.{serves}
+use Rattle.run_laws.proofs.LawfulLemmas.{serves, turn_of_node}
 use Rattle.run_laws.proofs.FreshLemmas.{Node}
 use Rattle.run_laws.proofs.NodeLemmas.{Goes, Stays, Turns, Is_cut, Stops, Starts, goes_so}
 use Rattle.run_laws.proofs.EventsStandLemmas.{first_node, node_so}
 use Rattle.run_laws.proofs.BirthsStandLemmas.{came_so}
 use Rattle.run_laws.proofs.BirthRunLemmas.{StandBorn, stand_born_on, stand_born_first}
 use Rattle.run_laws.proofs.NodesStandLemmas.{counts}
-use Rattle.run_laws.specs.CallLaws.{RootsWait}
+use Rattle.node_rules.proofs.StandLemmas.{live_so}
+use Rattle.run_laws.specs.Data.happenings
+use Rattle.node_rules.specs.Data.phases
+use Rattle.run_laws.specs.CallLaws.{RootsWait, ComesAtRest, CallsComeAtRest}
 use Rattle.run_laws.proofs.LiveLemmas.{none_live}
-use Rattle.run_laws.proofs.RootLemmas.{SessionsFit, started_fits, sessions_on}
-use Rattle.run_laws.proofs.RestLemmas.{Before, NodeRoots, branch_root}
+use Rattle.run_laws.proofs.RootLemmas.{SessionsFit, started_fits, sessions_on, root_alone}
+use Rattle.run_laws.proofs.RestLemmas.{Before, NodeRoots, branch_root, free_waits}
 use Rattle.run_laws.proofs.RestStepLemmas.{roots_on, commit_call_so, commit_or_not}
 
 -- ---- turns
@@ -104,6 +107,14 @@ not_both rs k node =
         let there : 1 ≤ count_of live_id b k.lives = subst (λ c. 1 ≤ count_of live_id c k.lives) (item_is live_id k.lives b l is) here in
         absurd (omega (arith, some, there, node.ids.one b))
 
+-- a session without a pending call has its root at rest
+rest_so : (k : Kept) → NodeRests k → (n : ℕ) (x : Branch) → (session_at k.sessions n).root ≡ Some x.live.me → branch_at k x.live.me ≡ Some x → (session_at k.sessions n).call ≡ pending.NoCall
+    → (x.live.phase ≡ phases.Working) × (x.work.going ≡ None)
+rest_so k now n x has live free =
+    let none : x.live.parent ≡ None = root_alone k now.0 n x.live.me has x.live (live_so k x.live.me x live) in
+    free_waits (session_at k.sessions x.live.me.session).call x.live.phase x.work.going (branch_root k now.1 x live none).waits
+    (subst (λ m. (session_at k.sessions m).call ≡ pending.NoCall) (sym (now.0.roots.each n x.live.me has)) free)
+
 module _ (places : List Place) (asked : List Command) (each : (n : ℕ) (p : Place) → numbered places n ≡ Some p → IsPlace places n p) where
   -- the nodes that are up
   abbrev pub RootsStand : Facts → Type 0
@@ -140,6 +151,11 @@ module _ (places : List Place) (asked : List Command) (each : (n : ℕ) (p : Pla
     roots_stand_on : (h : Happening) → MayHappen places asked f h → RootsStand (facts_after places asked f h)
     roots_stand_on h may n = goes_rests n (goes_so places f asked stand.0.0.even h n may)
 
+    at_rest : (h : Happening) → MayHappen places asked f h → ComesAtRest places f h
+    at_rest (happenings.Turn u) may = λ k up n s call x has live. rest_so k (subst (λ o. IfSome o NodeRests) up (now u.node)) n x has live
+        (free_by f k u.node n s u.took (subst (λ i. Comes f k u.node i u.took) call (turn_of_node places f u k asked may up).comes))
+    at_rest _ may = tt
+
   made_rests : NodeRests made
   unfolding start_of
   made_rests = (started_fits _, none_live _)
@@ -150,11 +166,27 @@ module _ (places : List Place) (asked : List Command) (each : (n : ℕ) (p : Pla
   roots_keep f (h ∷ hs) t bs stand now lawful =
       roots_keep (facts_after places asked f h) hs (events_after places asked f h t) (births_after places f h bs) (stand_born_on places asked each f t bs h stand lawful.0) (roots_stand_on f t bs stand now h lawful.0) lawful.1
 
+  rest_each : (f : Facts) (hs : List Happening) (t : List Event) (bs : List Born) → StandBorn places asked each f t bs → RootsStand f → IsLawful places asked f hs
+      → EachFactFrom (ComesAtRest places) places asked f hs
+  unfolding IsLawful
+  rest_each f [] t bs stand now lawful = tt
+  rest_each f (h ∷ hs) t bs stand now lawful = (
+    at_rest f t bs stand now h lawful.0,
+    rest_each (facts_after places asked f h) hs (events_after places asked f h t) (births_after places f h bs) (stand_born_on places asked each f t bs h stand lawful.0) (roots_stand_on f t bs stand now h lawful.0) lawful.1,
+  )
+
+  first_rests : RootsStand (first_facts places)
+  first_rests n = first_node (λ o. IfSome o NodeRests) tt made_rests places n
+
 -- at the end of every run
 pub run_roots : (t : History) → IsLawfulRun t → RootsStand t.places t.commands t.of_a_script.each (facts_at t)
 run_roots t lawful =
     roots_keep t.places t.commands t.of_a_script.each (first_facts t.places) t.trace [] [] (stand_born_first t.places t.commands t.of_a_script.each)
-    (λ n. first_node (λ o. IfSome o NodeRests) tt (made_rests t.places t.commands t.of_a_script.each) t.places n) lawful
+    (first_rests t.places t.commands t.of_a_script.each) lawful
 
 pub roots_wait : RootsWait
 roots_wait t lawful n k up x found root = let now : NodeRests k = subst (λ o. IfSome o NodeRests) up (run_roots t lawful n) in branch_root k now.1 x found root
+
+pub calls_come_at_rest : CallsComeAtRest
+calls_come_at_rest t lawful =
+    rest_each t.places t.commands t.of_a_script.each (first_facts t.places) t.trace [] [] (stand_born_first t.places t.commands t.of_a_script.each) (first_rests t.places t.commands t.of_a_script.each) lawful

@@ -19,7 +19,7 @@ ghost use Rattle.run_laws.specs.TowardLaws.{TurnsGoByRows};
 ghost use Rattle.run_laws.specs.RowSayLaws.{TurnsTellByRows};
 ghost use Rattle.run_laws.specs.VoteLaws.{VotesAreOfSealed, LiveHaveNotVoted};
 ghost use Rattle.run_laws.specs.PhaseLaws.{PhasesFit};
-ghost use Rattle.run_laws.specs.CallLaws.{RootsAreOfSessions, CallsFitEdges, RootsWait};
+ghost use Rattle.run_laws.specs.CallLaws.{RootsAreOfSessions, CallsFitEdges, RootsWait, CallsComeAtRest};
 ghost use Rattle.run_laws.specs.BirthLaws.{NoIdBeginsTwice, BirthsAreTrees, NodesNameTheBorn, RecordsNameTheBorn, MessagesAreOfNeighbors, BornAreLiveOrLeft};
 
 /// The book that the facts keep is the book of the trace.
@@ -234,4 +234,10 @@ pub fn calls_fit_edges()
 /// statement is pending it is working; while COMMIT is pending it waits for nothing.
 pub fn roots_wait()
     ensures { RootsWait }
+{}
+
+/// A client's call comes to a root that is working and waits for nothing: COMMIT finds its root at rest, and no statement comes
+/// to a root once its COMMIT came.
+pub fn calls_come_at_rest()
+    ensures { CallsComeAtRest }
 {}
