@@ -1,23 +1,20 @@
 -- In every lawful run a live branch has one call number for each edge, and has not answered its last call while it waits.
-use Rattle.std.proofs.Common.{◌≡◌, ◌≢◌, ℕ, ◌+◌, Bool, List, [], ◌∷◌, ◌++◌, length, map, Option, Some, None, refl, sym, ap, subst, ◌∙◌, arith}
+use Rattle.std.proofs.Common.{◌≡◌, ◌≢◌, ℕ, ◌+◌, Bool, List, [], ◌∷◌, length, Option, Some, None, refl, sym, ap, subst, ◌∙◌}
 use Rattle.std.proofs.lemmas.List.{length-append, length-map}
 use Rattle.tran_ids.proofs.ListedLemmas.{item_is}
 use Rattle.tran_ids.proofs.NumberedLemmas.{set_length}
 use Rattle.commit_forget.specs.declared.next.Next.TheVariants as nexts
-use Rattle.node_rules.specs.Data.{BranchId, Stmt, Answer, Edge, Vote, Live, Act, ReplyFields, Place, Input}
+use Rattle.node_rules.specs.Data.{BranchId, Stmt, Answer, Edge, Live, Act, ReplyFields, Place, Input}
 use Rattle.node_rules.specs.declared.work.Work.{Work}
-use Rattle.node_rules.specs.declared.work.Waits.{Waits}
 use Rattle.node_rules.specs.declared.work.Going.{Going}
 use Rattle.node_rules.specs.Data.acts
 use Rattle.node_rules.specs.declared.session.PendingCall.TheVariants as pending
 use Rattle.session_tree.specs.Live.{new_edge}
-use Rattle.node_rules.specs.Words.{set_numbered}
-use Rattle.node_rules.specs.Kept.{Kept, Branch, Deed, Stored, live_id, work_id, live_at, branch_at, with_branch, with_live, without_branch}
+use Rattle.node_rules.specs.Kept.{Kept, Branch, Deed, live_id, branch_at, with_branch, with_live, without_branch}
 use Rattle.node_rules.specs.Statement.{ran, after_run}
-use Rattle.node_rules.specs.Calls.{kept_reply, with_answer, called, waits_for_opened, with_edge, hears_reply, reply_going, reply_of}
+use Rattle.node_rules.specs.Calls.{kept_reply, with_answer, called, with_edge, hears_reply, reply_going, reply_of}
 use Rattle.node_rules.specs.Prepare.{with_prepare_sent, ready, has_voted}
 use Rattle.node_rules.specs.Client.{gives_up}
-use Rattle.node_rules.specs.Turn.{kept_by}
 use Rattle.node_rules.proofs.Steps as steps
 use Rattle.node_rules.proofs.Steps.{Step, Asked, Acting}
 use Rattle.node_rules.proofs.StandLemmas.{live_so}

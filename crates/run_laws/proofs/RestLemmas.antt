@@ -1,5 +1,5 @@
 -- What the call of a session tells of its root, where sessions change and where branches change.
-use Rattle.std.proofs.Common.{◌≡◌, ◌≢◌, ℕ, ◌&&◌, Bool, true, false, if◌then◌else◌, List, [], is_none, Option, Some, None, inl, inr, refl, sym, ap, subst, ◌∙◌}
+use Rattle.std.proofs.Common.{◌≡◌, ◌≢◌, ℕ, ◌&&◌, Bool, true, false, if◌then◌else◌, List, [], is_none, Option, Some, None, inl, inr, refl, sym, subst, ◌∙◌}
 use Rattle.std.proofs.lemmas.Bool.{cond_both, and_parts}
 use Rattle.tran_ids.proofs.BranchLemmas.{equal_from_same, same_from_equal}
 use Rattle.tran_ids.proofs.ListedLemmas.{item_is}
@@ -26,6 +26,7 @@ use Rattle.node_rules.proofs.StandLemmas.{live_so, call_set}
 use Rattle.std.specs.List.{AllByRecursion}
 use Rattle.node_rules.specs.Prepare.{ready}
 use Rattle.run_laws.specs.CallLaws.{RootWaits, IsRootOf}
+use Rattle.run_laws.proofs.StepLemmas.{branch_found}
 use Rattle.run_laws.proofs.LiveLemmas.{EachLive, each_put, each_left, each_same, works_of, branch_parts, work_is}
 use Rattle.run_laws.proofs.RootLemmas.{SessionsFit, session_or_before}
 
@@ -36,10 +37,6 @@ RootIs ss l w = l.parent ≡ None → IsRootOf (session_at ss l.me.session) l.me
 -- two that are not the same are not equal
 apart : (b c : BranchId) (s : Option BranchId) → same b c ≡ false → s ≡ Some b → s ≡ Some c → ⊥
 apart b c s other one two = let it : Some b ≡ Some c = sym one ∙ two in let here : b ≡ c = cc in let is : same b c ≡ true = same_from_equal b c here in absurd (cc (is, other))
-
-branch_found : (b : BranchId) (o : Option BranchId) → is_branch b o ≡ true → o ≡ Some b
-branch_found b None is = absurd cc
-branch_found b (Some c) is = ap Some (equal_from_same c b is)
 
 module _ (ss : List Session) (y : Live) (v : Work) where
   -- a session that is set leaves a root so where it leaves that session's root so

@@ -14,7 +14,7 @@ use Rattle.node_rules.specs.Data.phases
 use Rattle.node_rules.specs.Data.stmts
 use Rattle.node_rules.specs.declared.session.PendingCall.{PendingCall}
 use Rattle.node_rules.specs.declared.session.Session.{Session}
-use Rattle.node_rules.specs.Words.{same, set_numbered, put_item, drop_item}
+use Rattle.node_rules.specs.Words.{set_numbered, put_item, drop_item}
 use Rattle.node_rules.specs.Inputs.{Came, IsCall, IsSession, Brings, Commit_came, Rollback_came, Rolled_back_came}
 use Rattle.node_rules.specs.Refusals.{dtx}
 use Rattle.session_tree.specs.Live.{new_edge}

@@ -1,5 +1,5 @@
 -- In every lawful run the transaction of a session has an id of that session, and is a root where it is live.
-use Rattle.std.proofs.Common.{◌≡◌, ◌≢◌, ℕ, zero, suc, ◌≤◌, ◌&&◌, Bool, true, false, if◌then◌else◌, List, [], ◌∷◌, ◌++◌, length, replicate, slice_get, unwrap_or, is_none, Option, Some, None, inl, inr, refl, sym, ap, subst, ◌∙◌, ◌⊎◌, arith}
+use Rattle.std.proofs.Common.{◌≡◌, ◌≢◌, ℕ, zero, suc, ◌≤◌, ◌&&◌, Bool, true, false, if◌then◌else◌, List, [], length, replicate, slice_get, unwrap_or, is_none, Option, Some, None, inl, inr, refl, sym, ap, subst, ◌∙◌, ◌⊎◌, arith}
 use Rattle.std.specs.List.{AllByRecursion}
 use Rattle.std.proofs.lemmas.Bool.{cond_both}
 use Rattle.tran_ids.proofs.ListedLemmas.{item_is}
@@ -16,9 +16,9 @@ use Rattle.node_rules.specs.Refusals.{dtx}
 use Rattle.session_tree.specs.Live.{new_edge}
 use Rattle.node_rules.specs.Kept.{Kept, Branch, Deed, Stored, live_id, live_at, branch_at}
 use Rattle.node_rules.specs.Statement.{ran, after_run}
-use Rattle.node_rules.specs.Sessions.{fresh_session, session_at, with_call, with_root, needs_rollback, no_transaction, commit_is_pending, commit_ended}
+use Rattle.node_rules.specs.Sessions.{fresh_session, session_at, with_call, needs_rollback, no_transaction, commit_is_pending, commit_ended}
 use Rattle.node_rules.specs.Calls.{call_pends, answered_sessions, heard_sessions, is_gone, with_edge, hears_reply}
-use Rattle.node_rules.specs.Prepare.{abandoned_sessions, collecting, with_comment, ready, voted, is_alone}
+use Rattle.node_rules.specs.Prepare.{abandoned_sessions, ready, is_alone}
 use Rattle.node_rules.specs.Commit.{decided_sessions}
 use Rattle.node_rules.specs.Client.{new_root, begun_by}
 use Rattle.node_rules.specs.Turn.{kept_by}

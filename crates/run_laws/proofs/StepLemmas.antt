@@ -1,12 +1,19 @@
--- What steps of turns share: the live branch that a step is of, and the records that clients' statements make.
-use Rattle.std.proofs.Common.{◌≡◌, ℕ, Bool, List, Some}
+-- What steps of turns share: the live branch that a step is of, what stays so of it, and the records that clients' statements make.
+use Rattle.std.proofs.Common.{◌≡◌, ℕ, Bool, true, List, Option, Some, None, ap}
 use Rattle.node_rules.specs.Data.{Table, Link, Synonym, Stmt, Done, BranchId, RedoRecord, Vote, Live, Act, Input}
 use Rattle.node_rules.specs.Data.params
 use Rattle.node_rules.specs.Data.records
+use Rattle.tran_ids.proofs.BranchLemmas.{equal_from_same}
+use Rattle.session_tree.specs.Live.{is_branch}
 use Rattle.node_rules.specs.Kept.{Kept, Branch, live_at}
 use Rattle.node_rules.specs.Prepare.{collecting, with_comment, voted}
 use Rattle.node_rules.proofs.StandLemmas.{live_so}
 use Rattle.node_rules.proofs.Steps.{Asked, By_call, By_exec, Acting, Asks_down, Has_no_children, Hears_abort, Waits_on, Hears_last, At_point, Makes, Makes_table, Makes_link, Makes_synonym, Sets_recovery}
+
+-- a branch that is one is that one
+pub branch_found : (b : BranchId) (o : Option BranchId) → is_branch b o ≡ true → o ≡ Some b
+branch_found b None is = absurd cc
+branch_found b (Some c) is = ap Some (equal_from_same c b is)
 
 -- a branch of this id is live
 abbrev pub IsLive : Kept → BranchId → Type 0
