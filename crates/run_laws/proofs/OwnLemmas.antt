@@ -111,7 +111,7 @@ sought P test (x ∷ ks) s all found = by (test x) found (sought P test ks s all
     by false found later = later found
 
 -- a branch that is forced is one of these
-forced_one : (P : BranchId → Type 0) (id : List ℕ) (ks : List Standing) (b : BranchId) → AllByRecursion (λ s. P s.me) ks → only_one id ks ≡ Ok b → P b
+pub forced_one : (P : BranchId → Type 0) (id : List ℕ) (ks : List Standing) (b : BranchId) → AllByRecursion (λ s. P s.me) ks → only_one id ks ≡ Ok b → P b
 forced_one P id [] b all is = absurd cc
 forced_one P id (s ∷ []) b all is = subst P (let it : Ok s.me ≡ Ok b = is in cc) all.0
 forced_one P id (s ∷ t ∷ ks) b all is = absurd cc

@@ -1,11 +1,19 @@
--- What steps of turns share: the live branch that a step is of, and the records that clients' statements make.
-use Rattle.std.proofs.Common.{◌≡◌, ℕ, Bool, Some}
-use Rattle.node_rules.specs.Data.{Table, Link, Synonym, Stmt, Done, BranchId, RedoRecord, Live, Act, Input}
+-- What steps of turns share: the live branch that a step is of, what stays so of it, and the records that clients' statements make.
+use Rattle.std.proofs.Common.{◌≡◌, ℕ, Bool, true, List, Option, Some, None, ap}
+use Rattle.node_rules.specs.Data.{Table, Link, Synonym, Stmt, Done, BranchId, RedoRecord, Vote, Live, Act, Input}
 use Rattle.node_rules.specs.Data.params
 use Rattle.node_rules.specs.Data.records
+use Rattle.tran_ids.proofs.BranchLemmas.{equal_from_same}
+use Rattle.session_tree.specs.Live.{is_branch}
 use Rattle.node_rules.specs.Kept.{Kept, Branch, live_at}
+use Rattle.node_rules.specs.Prepare.{collecting, with_comment, voted}
 use Rattle.node_rules.proofs.StandLemmas.{live_so}
 use Rattle.node_rules.proofs.Steps.{Asked, By_call, By_exec, Acting, Asks_down, Has_no_children, Hears_abort, Waits_on, Hears_last, At_point, Makes, Makes_table, Makes_link, Makes_synonym, Sets_recovery}
+
+-- a branch that is one is that one
+pub branch_found : (b : BranchId) (o : Option BranchId) → is_branch b o ≡ true → o ≡ Some b
+branch_found b None is = absurd cc
+branch_found b (Some c) is = ap Some (equal_from_same c b is)
 
 -- a branch of this id is live
 abbrev pub IsLive : Kept → BranchId → Type 0
@@ -25,6 +33,17 @@ module _ {k : Kept} {input : Input} where
   acting_live (Waits_on l from v site_below live answers other some) = (l, live)
   acting_live (Hears_last l from v site_below a live answers other all collected) = (l, live)
   acting_live (At_point l from a live came ready pointed) = (l, live)
+
+  -- what is so of live branches, and stays so as a branch collects and hears a vote, is so of the branch of an act
+  pub acting_so : (Q : Live → Type 0) → ((l : Live) (comment : List ℕ) (site_below : Bool) → Q l → Q (collecting (with_comment l comment) site_below))
+      → ((l : Live) (from : BranchId) (v : Vote) → Q l → Q (voted l from v)) → ((b : BranchId) (l : Live) → live_at k b ≡ Some l → Q l)
+      → {l : Live} {site_below : Bool} {a : Act} → Acting k input l site_below a → Q l
+  acting_so Q collects votes lives (Asks_down l comment site_below e es live begins has) = collects l comment site_below (lives l.me l live)
+  acting_so Q collects votes lives (Has_no_children l comment site_below a live begins none collected) = collects l comment site_below (lives l.me l live)
+  acting_so Q collects votes lives (Hears_abort l from site_below live answers) = votes l from _ (lives l.me l live)
+  acting_so Q collects votes lives (Waits_on l from v site_below live answers other some) = votes l from v (lives l.me l live)
+  acting_so Q collects votes lives (Hears_last l from v site_below a live answers other all collected) = votes l from v (lives l.me l live)
+  acting_so Q collects votes lives (At_point l from a live came ready pointed) = lives l.me l live
 
 -- what is so of the records of the catalog and of that setting is so of a record that a statement makes
 pub made_so : (P : RedoRecord → Type 0) → ((t : Table) → P (records.Table t)) → ((l : Link) → P (records.Link l)) → ((y : Synonym) → P (records.Synonym y))

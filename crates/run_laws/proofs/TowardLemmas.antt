@@ -3,7 +3,6 @@ use Rattle.std.proofs.Common.{◌≡◌, ℕ, not, Bool, true, List, [], ◌∷�
 use Rattle.std.specs.Prelude.{IfSome}
 use Rattle.std.specs.List.{AllByRecursion, list_all}
 use Rattle.std.proofs.lemmas.Bool.{cond_both, and_parts}
-use Rattle.tran_ids.proofs.BranchLemmas.{equal_from_same}
 use Rattle.tran_ids.proofs.ListedLemmas.{put_or_before}
 use Rattle.agreement.specs.Events.{Event, Send_commit, Send_rollback, Send_ack, Send_forgotten, Has}
 use Rattle.commit_forget.specs.declared.next.Beyond.{Beyond}
@@ -31,17 +30,13 @@ use Rattle.run_laws.specs.HeardLaws.{AcksAre}
 use Rattle.run_laws.specs.TowardLaws.{IsRowLike, WasTold, LearnsSo, AllAcked, ForgetsSo, GoesByRow, WritesByRow, TurnsGoByRows}
 use Rattle.run_laws.proofs.ListLemmas.{all_filter, all_append, all_map}
 use Rattle.run_laws.proofs.LawfulLemmas.{of_wrote, serves, turn_of_node}
+use Rattle.run_laws.proofs.StepLemmas.{branch_found}
 use Rattle.run_laws.proofs.AckLemmas.{row_acked}
 use Rattle.run_laws.proofs.LaterLemmas.{events_each}
 use Rattle.run_laws.proofs.OwnLemmas.{all_found, all_with}
 use Rattle.run_laws.proofs.SaidLemmas.{came_said}
 use Rattle.run_laws.proofs.HeardLemmas.{acked_so}
 use Rattle.run_laws.proofs.HeardStandLemmas.{NodeHeard, StandHeard, stand_heard_on, stand_heard_first}
-
--- a branch that is one is that one
-branch_found : (b : BranchId) (o : Option BranchId) → is_branch b o ≡ true → o ≡ Some b
-branch_found b None is = absurd cc
-branch_found b (Some c) is = ap Some (equal_from_same c b is)
 
 none_found : (o : Option BranchId) → is_none o ≡ true → o ≡ None
 none_found None is = refl

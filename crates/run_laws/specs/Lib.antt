@@ -33,6 +33,7 @@ pub mod IdLaws
 pub mod Births
 pub mod BirthLaws
 pub mod PhaseLaws
+pub mod CallLaws
 pub mod TreeJust
 pub mod HeardLaws
 pub mod TriedRun

@@ -19,6 +19,7 @@ ghost use Rattle.run_laws.specs.TowardLaws.{TurnsGoByRows};
 ghost use Rattle.run_laws.specs.RowSayLaws.{TurnsTellByRows};
 ghost use Rattle.run_laws.specs.VoteLaws.{VotesAreOfSealed, LiveHaveNotVoted};
 ghost use Rattle.run_laws.specs.PhaseLaws.{PhasesFit};
+ghost use Rattle.run_laws.specs.CallLaws.{RootsAreOfSessions, CallsFitEdges, RootsWait, CallsComeAtRest};
 ghost use Rattle.run_laws.specs.BirthLaws.{NoIdBeginsTwice, BirthsAreTrees, NodesNameTheBorn, RecordsNameTheBorn, MessagesAreOfNeighbors, BornAreLiveOrLeft};
 
 /// The book that the facts keep is the book of the trace.
@@ -216,4 +217,27 @@ pub fn votes_are_of_sealed()
 /// No live branch has voted.
 pub fn live_have_not_voted()
     ensures { LiveHaveNotVoted }
+{}
+
+/// The transaction of a session has an id of that session, and has no parent where it is live.
+pub fn roots_are_of_sessions()
+    ensures { RootsAreOfSessions }
+{}
+
+/// A live branch has one call number for each of its edges. While it waits for a Reply its own last call is not answered, and no
+/// call is ever answered at a root.
+pub fn calls_fit_edges()
+    ensures { CallsFitEdges }
+{}
+
+/// A live root is the transaction of its session. While no call is pending there it is working, and waits for nothing; while a
+/// statement is pending it is working; while COMMIT is pending it waits for nothing.
+pub fn roots_wait()
+    ensures { RootsWait }
+{}
+
+/// A client's call comes to a root that is working and waits for nothing: COMMIT finds its root at rest, and no statement comes
+/// to a root once its COMMIT came.
+pub fn calls_come_at_rest()
+    ensures { CallsComeAtRest }
 {}
