@@ -1,3 +1,4 @@
 mod FindLemmas
 mod RangeLemmas
 mod ZipLemmas
+mod GivenLemmas

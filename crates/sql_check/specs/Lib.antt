@@ -6,3 +6,4 @@ pub mod Cells
 pub mod Sums
 pub mod Inserted
 pub mod Checks
+pub mod Passed

@@ -3,13 +3,15 @@ ghost use Rattle.std.specs.Prelude.{◌≡◌, is_none, length, IfOk};
 ghost use Rattle.std.specs.List.{list_any};
 ghost use Rattle.sql_check.specs.Columns.{is_key as is_key_of, given_columns as given_columns_of};
 ghost use Rattle.sql_check.specs.Checks.{unknown_column as unknown_column_of, sets_key as sets_key_of, miscounted as miscounted_of, ill_cells as ill_cells_of, ill_values as ill_values_of, ill_inserted as ill_inserted_of, checked as checked_of};
+ghost use Rattle.sql_check.specs.Inserted.{cells_of as cells_in};
+ghost use Rattle.sql_check.specs.Passed.{new_cells, refusal_in, Inserts};
 
 use crate::column::is_key;
 use crate::fitting::statement_fits;
 use crate::inserted::{cells_of, first_null, first_too_long, inserted_cells};
-use crate::naming;
 use crate::refusal::{of_name, plain};
-use dtx_values::{Names, Refusal, Table, Value};
+use crate::{Checked, naming};
+use dtx_values::{Listing, Names, Refusal, Table, Value};
 use sql_statement::{Set, Stmt};
 use std::alloc::{AllocError, Global};
 
@@ -96,29 +98,39 @@ fn ill_cells(alloc: Global, table: &Table, cells: &[Value]) -> Result<Option<Ref
     Ok(refusal)
 }
 
-// What is wrong with the values of a new row.
-fn ill_values(
+// What the checks of a new row of these cells come to.
+fn checked_cells(alloc: Global, table: &Table, cells: Vec<Value>) -> Result<Checked, AllocError>
+    ensures refusal { IfOk result (λ checked. refusal_in checked ≡ ill_cells_of table.now cells.items) }
+    ensures cells { IfOk result (Inserts cells.items) }
+{
+    match ill_cells(alloc, table, cells.as_slice())? {
+        Some(refusal) => Ok(Checked::Refused(refusal)),
+        None => Ok(Checked::Passed {
+            cells: Listing::of(cells),
+        }),
+    }
+}
+
+// What the checks of the values of a new row come to.
+fn checked_values(
     alloc: Global,
     table: &Table,
     values: Vec<Option<Value>>,
-) -> Result<Option<Refusal>, AllocError>
-    ensures { IfOk result (λ refusal. refusal ≡ ill_values_of table.now values.items) }
+) -> Result<Checked, AllocError>
+    ensures refusal { IfOk result (λ checked. refusal_in checked ≡ ill_values_of table.now values.items) }
+    ensures cells { IfOk result (Inserts (cells_in values.items)) }
 {
     if any_none(values.as_slice()) {
-        return Ok(Some(plain(alloc, OUT_OF_RANGE)));
+        return Ok(Checked::Refused(plain(alloc, OUT_OF_RANGE)));
     }
     let cells = cells_of(alloc, values)?;
-    let refusal = ill_cells(alloc, table, cells.as_slice())?;
-    Ok(refusal)
+    checked_cells(alloc, table, cells)
 }
 
-// What is wrong with the values of an INSERT.
-fn ill_inserted(
-    alloc: Global,
-    table: &Table,
-    statement: &Stmt,
-) -> Result<Option<Refusal>, AllocError>
-    ensures { IfOk result (λ refusal. refusal ≡ ill_inserted_of statement.now table.now) }
+// What the checks of the values of an INSERT come to.
+fn checked_inserted(alloc: Global, table: &Table, statement: &Stmt) -> Result<Checked, AllocError>
+    ensures refusal { IfOk result (λ checked. refusal_in checked ≡ ill_inserted_of statement.now table.now) }
+    ensures cells { IfOk result (Inserts (new_cells statement.now table.now)) }
 {
     match statement {
         Stmt::Insert {
@@ -126,37 +138,35 @@ fn ill_inserted(
             values,
             ..
         } => {
-            let cells = inserted_cells(alloc, table, columns, values.as_slice())?;
-            let refusal = ill_values(alloc, table, cells)?;
-            Ok(refusal)
+            let values = inserted_cells(alloc, table, columns, values.as_slice())?;
+            checked_values(alloc, table, values)
         }
-        _ => Ok(None),
+        _ => Ok(Checked::Passed {
+            cells: Listing::new(alloc),
+        }),
     }
 }
 
-/// The refusal of a statement before any row is seen. These are tested in this order, and the first that applies is
-/// given: ORA-00904 for a column that the table has not, DTX-15 for an UPDATE of the key column, ORA-00947 and
-/// ORA-00913 for an INSERT of too few or too many values, DTX-10 for a value of the wrong type, and for the values of an
-/// INSERT DTX-09, ORA-01400 and ORA-12899.
+/// What a statement comes to before any row is seen. These are tested in this order, and the first that applies refuses it:
+/// ORA-00904 for a column that the table has not, DTX-15 for an UPDATE of the key column, ORA-00947 and ORA-00913 for an
+/// INSERT of too few or too many values, DTX-10 for a value of the wrong type, and for the values of an INSERT DTX-09,
+/// ORA-01400 and ORA-12899.
 #[tactic(auto, unfolding(crate::specs::Checks::checked))]
-pub fn checked(
-    alloc: Global,
-    statement: &Stmt,
-    table: &Table,
-) -> Result<Option<Refusal>, AllocError>
-    ensures { IfOk result (λ refusal. refusal ≡ checked_of statement.now table.now) }
+pub fn checked(alloc: Global, statement: &Stmt, table: &Table) -> Result<Checked, AllocError>
+    ensures refusal { IfOk result (λ checked. refusal_in checked ≡ checked_of statement.now table.now) }
+    ensures cells { IfOk result (Inserts (new_cells statement.now table.now)) }
 {
     if let Some(refusal) = unknown_column(alloc, table, statement)? {
-        return Ok(Some(refusal));
+        return Ok(Checked::Refused(refusal));
     }
     if sets_key(table, statement) {
-        return Ok(Some(plain(alloc, 60015)));
+        return Ok(Checked::Refused(plain(alloc, 60015)));
     }
     if let Some(refusal) = miscounted(alloc, table, statement) {
-        return Ok(Some(refusal));
+        return Ok(Checked::Refused(refusal));
     }
-    if !statement_fits(alloc, table, statement)? {
-        return Ok(Some(plain(alloc, 60010)));
+    if !statement_fits(table, statement) {
+        return Ok(Checked::Refused(plain(alloc, 60010)));
     }
-    ill_inserted(alloc, table, statement)
+    checked_inserted(alloc, table, statement)
 }

@@ -1,14 +1,13 @@
 //! Whether the values of a statement are of the types of their columns.
-ghost use Rattle.std.specs.Prelude.{◌≡◌, zip, IfOk};
+ghost use Rattle.std.specs.Prelude.{◌≡◌, zip};
 ghost use Rattle.std.specs.List.{list_all};
 ghost use Rattle.std.specs.Option.{option_copied};
-ghost use Rattle.sql_check.specs.Columns.{is_text as is_text_of, column_of as column_in, fits as fits_of, fits_column as fits_column_of, term_fits as term_fits_of, sum_fits_by as sum_fits_by_of, sum_fits as sum_fits_of, literal_fits as literal_fits_of, cond_fits as cond_fits_of, picked_fits as picked_fits_of, statement_fits as statement_fits_of};
+ghost use Rattle.sql_check.specs.Columns.{is_text as is_text_of, column_of as column_in, given_columns as given_columns_of, fits as fits_of, fits_column as fits_column_of, term_fits as term_fits_of, sum_fits_by as sum_fits_by_of, sum_fits as sum_fits_of, literal_fits as literal_fits_of, cond_fits as cond_fits_of, picked_fits as picked_fits_of, statement_fits as statement_fits_of};
 
 use crate::column::column_of;
-use crate::inserted::given_columns;
-use dtx_values::{Column, Name, Table, Value};
+use crate::inserted::given_column;
+use dtx_values::{Column, Names, Table, Value};
 use sql_statement::{Cond, Picked, Set, Step, Stmt, Sum, Term};
-use std::alloc::{AllocError, Global};
 
 fn is_text(column: &Column) -> bool
     ensures { result ≡ is_text_of column.now }
@@ -117,11 +116,11 @@ fn sets_fit(table: &Table, sets: &[Set]) -> bool
 
 // Whether the values that an INSERT gives these columns fit them.
 #[tactic(auto, using(crate::proofs::ZipLemmas::zip_ends))]
-fn values_fit(table: &Table, names: &[Name], values: &[Sum]) -> bool
-    ensures { result ≡ list_all (λ p. sum_fits_of table.now p.1 (column_in table.now p.0)) (zip names.now values.now) }
+fn values_fit(table: &Table, columns: &Option<Names>, values: &[Sum]) -> bool
+    ensures { result ≡ list_all (λ p. sum_fits_of table.now p.1 (column_in table.now p.0)) (zip (given_columns_of table.now columns.now) values.now) }
 {
     for (place, value) in values.iter().enumerate() {
-        let Some(name) = names.get(place) else {
+        let Some(name) = given_column(table, columns, place) else {
             return true;
         };
         if !sum_fits(table, value, column_of(table, name)) {
@@ -132,25 +131,22 @@ fn values_fit(table: &Table, names: &[Name], values: &[Sum]) -> bool
 }
 
 /// Whether every value, comparison, sum and SUM of a statement is of its column's type.
-pub fn statement_fits(alloc: Global, table: &Table, statement: &Stmt) -> Result<bool, AllocError>
-    ensures { IfOk result (λ fit. fit ≡ statement_fits_of table.now statement.now) }
+pub fn statement_fits(table: &Table, statement: &Stmt) -> bool
+    ensures { result ≡ statement_fits_of table.now statement.now }
 {
     match statement {
         Stmt::Insert {
             columns,
             values,
             ..
-        } => {
-            let names = given_columns(alloc, table, columns)?;
-            Ok(values_fit(table, names.as_slice(), values.as_slice()))
-        }
+        } => values_fit(table, columns, values.as_slice()),
         Stmt::Update { sets, conds, .. } => {
-            Ok(sets_fit(table, sets.as_slice()) && conds_fit(table, conds.as_slice()))
+            sets_fit(table, sets.as_slice()) && conds_fit(table, conds.as_slice())
         }
-        Stmt::Delete { conds, .. } => Ok(conds_fit(table, conds.as_slice())),
+        Stmt::Delete { conds, .. } => conds_fit(table, conds.as_slice()),
         Stmt::Select { list, conds, .. } => {
-            Ok(picked_fits(table, list) && conds_fit(table, conds.as_slice()))
+            picked_fits(table, list) && conds_fit(table, conds.as_slice())
         }
-        _ => Ok(true),
+        _ => true,
     }
 }

@@ -1,5 +1,6 @@
 //! The cells of the row that an INSERT gives, and what is wrong with them: SQL Language Reference, "INSERT".
-ghost use Rattle.std.specs.Prelude.{◌≡◌, map, zip, IfOk};
+ghost use Rattle.std.specs.Prelude.{◌≡◌, map, zip, slice_get, IfOk};
+ghost use Rattle.std.specs.Option.{option_copied};
 ghost use Rattle.sql_check.specs.Words.{first_some};
 ghost use Rattle.sql_check.specs.Columns.{given_columns as given_columns_of};
 ghost use Rattle.sql_check.specs.Inserted.{given_value as given_value_of, inserted_cells as inserted_cells_of, cells_of as cells_in, no_row as no_row_of};
@@ -7,31 +8,24 @@ ghost use Rattle.sql_check.specs.Checks.{cell_null as cell_null_of, too_long as 
 
 use crate::refusal::{of_column, of_width};
 use crate::sum::sum_value;
-use dtx_values::{Column, Duplicate, Listing, Name, Names, Refusal, Row, Table, Value, is_null};
+use dtx_values::{Column, Listing, Name, Names, Refusal, Row, Table, Value, is_null};
 use sql_statement::Sum;
 use std::alloc::{AllocError, Global};
 
-fn column_names(alloc: Global, table: &Table) -> Result<Names, AllocError>
-    ensures { IfOk result (λ names. names ≡ map (λ c. c.name) table.now.columns) }
-{
-    let mut names = Vec::new(alloc);
-    for column in table.columns.as_slice() {
-        names.push(column.name.copy(alloc)?)?;
-    }
-    Ok(Listing::of(names))
-}
-
-/// The columns that an INSERT gives values: those that it names, or all of the table.
-pub fn given_columns(
-    alloc: Global,
-    table: &Table,
-    columns: &Option<Names>,
-) -> Result<Names, AllocError>
-    ensures { IfOk result (λ names. names ≡ given_columns_of table.now columns.now) }
+/// The column that an INSERT gives its value at a place, from 0: the one that it names there, or that of the table.
+pub fn given_column<'a>(
+    table: &'a Table,
+    columns: &'a Option<Names>,
+    place: usize,
+) -> Option<&'a Name>
+    ensures { option_copied result ≡ slice_get (given_columns_of table.now columns.now) place }
 {
     match columns {
-        None => column_names(alloc, table),
-        Some(names) => names.copy(alloc),
+        None => {
+            let column = table.columns.as_slice().get(place)?;
+            Some(&column.name)
+        }
+        Some(names) => names.as_slice().get(place),
     }
 }
 
@@ -48,14 +42,14 @@ fn no_row(alloc: Global) -> Row
 fn given_value(
     alloc: Global,
     table: &Table,
-    names: &[Name],
+    columns: &Option<Names>,
     values: &[Sum],
     column: &Name,
 ) -> Result<Option<Value>, AllocError>
-    ensures { IfOk result (λ value. value ≡ given_value_of table.now (zip names.now values.now) column.now) }
+    ensures { IfOk result (λ value. value ≡ given_value_of table.now (zip (given_columns_of table.now columns.now) values.now) column.now) }
 {
     for (place, value) in values.iter().enumerate() {
-        let Some(name) = names.get(place) else {
+        let Some(name) = given_column(table, columns, place) else {
             return Ok(Some(Value::Null));
         };
         if name.is(column) {
@@ -74,11 +68,10 @@ pub fn inserted_cells(
 ) -> Result<Vec<Option<Value>>, AllocError>
     ensures { IfOk result (λ cells. cells.items ≡ inserted_cells_of table.now columns.now values.now) }
 {
-    let names = given_columns(alloc, table, columns)?;
-    let names = names.as_slice();
-    let mut cells = Vec::new(alloc);
-    for column in table.columns.as_slice() {
-        cells.push(given_value(alloc, table, names, values, &column.name)?)?;
+    let due = table.columns.as_slice();
+    let mut cells = Vec::with_capacity(alloc, due.len())?;
+    for column in due {
+        cells.push(given_value(alloc, table, columns, values, &column.name)?)?;
     }
     Ok(cells)
 }
@@ -87,7 +80,7 @@ pub fn inserted_cells(
 pub fn cells_of(alloc: Global, values: Vec<Option<Value>>) -> Result<Vec<Value>, AllocError>
     ensures { IfOk result (λ cells. cells.items ≡ cells_in values.items) }
 {
-    let mut cells = Vec::new(alloc);
+    let mut cells = Vec::with_capacity(alloc, values.len())?;
     for value in values {
         cells.push(value.unwrap_or(Value::Null))?;
     }

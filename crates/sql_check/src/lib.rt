@@ -13,11 +13,13 @@ mod column;
 mod fitting;
 mod inserted;
 mod naming;
+mod passed;
 mod refusal;
 mod sum;
 
 pub use checking::{OUT_OF_RANGE, checked};
 pub use column::{cell, column_of, copy_or_null, is_key, key_of_row, place_of};
-pub use inserted::{cells_of, inserted_cells, too_long};
+pub use inserted::too_long;
+pub use passed::Checked;
 pub use refusal::{of_column, of_name, plain};
 pub use sum::{plus, sum_value};

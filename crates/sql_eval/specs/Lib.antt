@@ -1,5 +1,6 @@
 pub mod Data
 pub mod Rows
 pub mod Meaning
+pub mod Found
 pub mod Outcomes
 pub mod Laws

@@ -1,6 +1,6 @@
 //! The conditions of a statement, and the rows that satisfy them: SQL Language Reference, "Comparison Conditions" and
 //! "Null Conditions".
-ghost use Rattle.std.specs.Prelude.{◌≡◌, [], ◌∷◌, ◌++◌, filter, IfOk, OnOk};
+ghost use Rattle.std.specs.Prelude.{◌≡◌};
 ghost use Rattle.std.specs.Option.{option_copied};
 ghost use Rattle.sql_check.specs.Cells.{or_null};
 ghost use Rattle.dtx_values.specs.Order.{is_null as is_null_of};
@@ -10,7 +10,6 @@ use crate::KeyedRef;
 use dtx_values::{Row, Table, Value, is_null, same_value, value_below};
 use sql_check::cell;
 use sql_statement::{Cond, Sign, Stmt};
-use std::alloc::{AllocError, Global};
 
 // What a sign says of two values, neither of which is NULL.
 fn compares(sign: Sign, value: &Value, other: &Value) -> bool
@@ -71,34 +70,11 @@ pub fn conds_of(statement: &Stmt) -> &[Cond]
     }
 }
 
-// Adds a row where it satisfies the conditions.
-fn add_where<'r>(
-    found: &mut Vec<KeyedRef<'r>>,
-    table: &Table,
-    conds: &[Cond],
-    keyed: &KeyedRef<'r>,
-) -> Result<(), AllocError>
-    ensures { OnOk result (found.new.items ≡ found.old.items ++ filter (satisfies_of table.now conds.now) (keyed.now ∷ [])) }
-{
-    if satisfies(table, conds, keyed) {
-        found.push(keyed.again())?;
-    }
-    Ok(())
-}
-
-/// The rows that satisfy the WHERE of a statement, in their order. A comparison with NULL is true of no row.
-pub fn found<'r>(
-    alloc: Global,
-    statement: &Stmt,
-    table: &Table,
-    rows: &[KeyedRef<'r>],
-) -> Result<Vec<KeyedRef<'r>>, AllocError>
-    ensures { IfOk result (λ found. found.items ≡ found_of statement.now table.now rows.now) }
+/// Those of the rows that satisfy the WHERE of a statement, in their order. A comparison with NULL is true of no row.
+pub fn found<'r>(statement: &Stmt, table: &Table, mut rows: Vec<KeyedRef<'r>>) -> Vec<KeyedRef<'r>>
+    ensures { result.items ≡ found_of statement.now table.now rows.items }
 {
     let conds = conds_of(statement);
-    let mut found = Vec::new(alloc);
-    for keyed in rows {
-        add_where(&mut found, table, conds, keyed)?;
-    }
-    Ok(found)
+    rows.retain(|keyed| satisfies(table, conds, keyed));
+    rows
 }

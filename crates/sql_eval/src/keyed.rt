@@ -39,15 +39,3 @@ impl<'a> Model for KeyedRef<'a> {
 
     ghost view = { λ r. record { key = r.key.now; row = r.row.now } };
 }
-
-impl<'a> KeyedRef<'a> {
-    /// The same row, referred to once more.
-    pub fn again(&self) -> KeyedRef<'a>
-        ensures { result ≡ self.now }
-    {
-        KeyedRef {
-            key: self.key,
-            row: self.row,
-        }
-    }
-}

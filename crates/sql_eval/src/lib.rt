@@ -20,9 +20,7 @@ mod rows;
 mod sql_err;
 mod update;
 
-pub use condition::found;
 pub use keyed::{Keyed, KeyedRef};
-pub use keys::{examined, fixed_key, written};
-pub use meaning::meant_over;
-pub use meant::Meant;
-pub use rows::get;
+pub use keys::{examined, fixed_key};
+pub use meaning::outcome_over;
+pub use meant::{Meant, Outcome};

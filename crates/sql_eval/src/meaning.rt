@@ -1,39 +1,22 @@
-//! What a statement means over the rows of its table.
-ghost use Rattle.std.specs.Prelude.{◌≡◌, Ok, IfOk};
+//! What a statement comes to over the rows of its table.
+ghost use Rattle.std.specs.Prelude.{◌≡◌, Ok, [], if◌then◌else◌, IfOk};
 ghost use Rattle.sql_eval.specs.Data.dones;
-ghost use Rattle.sql_check.specs.Columns.{key_of_row as key_of_row_in};
-ghost use Rattle.sql_eval.specs.Rows.{get as get_of};
-ghost use Rattle.sql_check.specs.Inserted.{inserted_cells as inserted_cells_of, cells_of as cells_in};
-ghost use Rattle.sql_eval.specs.Meaning.{inserting as inserting_of, changing as changing_of, updated as updated_of, deleted as deleted_of, meant_over as meant_over_of};
+ghost use Rattle.sql_check.specs.Passed.{new_cells};
+ghost use Rattle.sql_eval.specs.Rows.{keys_of as keys_in};
+ghost use Rattle.sql_eval.specs.Meaning.{changing as changing_of, updated as updated_of, deleted as deleted_of, meant_over as meant_over_of, written as written_of};
+ghost use Rattle.sql_eval.specs.Found.{written_found as written_found_of, meant_found as meant_found_of};
 
 use crate::condition::found;
-use crate::insert::inserting;
+use crate::insert::inserted;
 use crate::query::picked;
-use crate::rows::get;
+use crate::rows::keys_of;
 use crate::sql_err::SqlErr;
 use crate::update::{deleted, updated};
-use crate::{KeyedRef, Meant};
-use dtx_values::{Changes, Done, INVALID_SQL, Names, Table};
-use sql_check::{cells_of, copy_or_null, inserted_cells, key_of_row, plain};
-use sql_statement::{Set, Stmt, Sum};
+use crate::{KeyedRef, Meant, Outcome};
+use dtx_values::{Cells, Changes, Done, INVALID_SQL, Listing, Table, Value};
+use sql_check::plain;
+use sql_statement::{Set, Stmt};
 use std::alloc::{AllocError, Global};
-
-fn insert_over(
-    alloc: Global,
-    table: &Table,
-    columns: &Option<Names>,
-    values: &[Sum],
-    rows: &[KeyedRef],
-) -> Result<Meant, AllocError>
-    ensures { IfOk result (λ meant.
-        let cells = cells_in (inserted_cells_of table.now columns.now values.now) in
-        meant ≡ inserting_of table.now cells (get_of rows.now (key_of_row_in table.now cells))) }
-{
-    let cells = inserted_cells(alloc, table, columns, values)?;
-    let cells = cells_of(alloc, cells)?;
-    let key = copy_or_null(alloc, key_of_row(table, cells.as_slice()))?;
-    inserting(alloc, table, cells, get(rows, &key))
-}
 
 fn changed(done: Done, changes: Changes) -> Meant
     ensures { result ≡ changing_of done (Ok changes) }
@@ -67,35 +50,77 @@ fn delete_over(alloc: Global, table: &Table, rows: &[KeyedRef]) -> Result<Meant,
     Ok(changed(Done::Deleted, changes))
 }
 
-/// What a statement that passed the checks means over a table with these rows: ORA-00001 for an INSERT whose key is
-/// there; the changes of an UPDATE or a DELETE, or an UPDATE's first refusal; the rows of a SELECT, or DTX-09 for a SUM.
-#[tactic(auto, unfolding(crate::specs::Meaning::meant_over))]
-pub fn meant_over(
+// The keys of these rows, where they are written.
+fn written_keys(
+    alloc: Global,
+    writes: bool,
+    rows: &[KeyedRef],
+) -> Result<Listing<Value>, AllocError>
+    ensures { IfOk result (λ keys. keys ≡ (if writes then keys_in rows.now else [])) }
+{
+    if writes {
+        Ok(Listing::of(keys_of(alloc, rows)?))
+    } else {
+        Ok(Listing::new(alloc))
+    }
+}
+
+// What a statement other than INSERT comes to over a table of which it finds these rows.
+fn over_found(
     alloc: Global,
     statement: &Stmt,
     table: &Table,
-    rows: &[KeyedRef],
-) -> Result<Meant, AllocError>
-    ensures { IfOk result (λ meant. meant ≡ meant_over_of statement.now table.now rows.now) }
+    found: &[KeyedRef],
+) -> Result<Outcome, AllocError>
+    ensures keys { IfOk result (λ outcome. outcome.keys ≡ written_found_of statement.now found.now) }
+    ensures meant { IfOk result (λ outcome. outcome.meant ≡ meant_found_of statement.now table.now found.now) }
 {
     match statement {
-        Stmt::Insert {
-            columns,
-            values,
+        Stmt::Update { sets, .. } => Ok(Outcome {
+            keys: written_keys(alloc, true, found)?,
+            meant: update_over(alloc, table, sets.as_slice(), found)?,
+        }),
+        Stmt::Delete { .. } => Ok(Outcome {
+            keys: written_keys(alloc, true, found)?,
+            meant: delete_over(alloc, table, found)?,
+        }),
+        Stmt::Select {
+            list,
+            for_update,
             ..
-        } => insert_over(alloc, table, columns, values.as_slice(), rows),
-        Stmt::Update { sets, .. } => {
-            let found = found(alloc, statement, table, rows)?;
-            update_over(alloc, table, sets.as_slice(), found.as_slice())
+        } => Ok(Outcome {
+            keys: written_keys(alloc, *for_update, found)?,
+            meant: picked(alloc, list, table, found)?,
+        }),
+        _ => Ok(Outcome {
+            keys: Listing::new(alloc),
+            meant: Meant::Refused(plain(alloc, INVALID_SQL)),
+        }),
+    }
+}
+
+/// What a statement that passed the checks, an INSERT with these cells, comes to over a table with these rows. It writes the key
+/// of the row that it inserts, or those of the rows that an UPDATE, a DELETE or a SELECT FOR UPDATE finds. It means ORA-00001
+/// for an INSERT whose key is there; the changes of an UPDATE or a DELETE, or an UPDATE's first refusal; the rows of a SELECT,
+/// or DTX-09 for a SUM.
+#[tactic(auto, unfolding(crate::specs::Meaning::meant_over, crate::specs::Meaning::written))]
+pub fn outcome_over(
+    alloc: Global,
+    statement: &Stmt,
+    table: &Table,
+    cells: Cells,
+    rows: Vec<KeyedRef>,
+) -> Result<Outcome, AllocError>
+    requires { cells ≡ new_cells statement.now table.now }
+    ensures keys { IfOk result (λ outcome. outcome.keys ≡ written_of statement.now table.now rows.items) }
+    ensures meant { IfOk result (λ outcome. outcome.meant ≡ meant_over_of statement.now table.now rows.items) }
+{
+    match statement {
+        Stmt::Insert { .. } => inserted(alloc, table, cells, rows.as_slice()),
+        _ => {
+            drop(cells);
+            let found = found(statement, table, rows);
+            over_found(alloc, statement, table, found.as_slice())
         }
-        Stmt::Delete { .. } => {
-            let found = found(alloc, statement, table, rows)?;
-            delete_over(alloc, table, found.as_slice())
-        }
-        Stmt::Select { list, .. } => {
-            let found = found(alloc, statement, table, rows)?;
-            picked(alloc, list, table, found.as_slice())
-        }
-        _ => Ok(Meant::Refused(plain(alloc, INVALID_SQL))),
     }
 }

@@ -1,6 +1,6 @@
 //! What a statement says of a table.
 
-use dtx_values::{Changes, Done, Refusal, RowSet};
+use dtx_values::{Changes, Done, Listing, Refusal, RowSet, Value};
 
 /// What a statement says of a table, once it has passed the checks that need no row.
 #[derive(Debug, Drop)]
@@ -18,4 +18,13 @@ pub enum Meant {
     },
     /// It is refused.
     Refused(Refusal),
+}
+
+/// What a statement comes to over the rows of its table.
+#[derive(Debug, Drop)]
+pub struct Outcome {
+    /// The keys that it writes.
+    pub keys: Listing<Value>,
+    /// What it means.
+    pub meant: Meant,
 }

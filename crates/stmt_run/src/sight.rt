@@ -4,7 +4,7 @@ ghost use Rattle.row_locks.specs.Held.{doubt_on};
 ghost use Rattle.row_locks.specs.Locks.{keys_held};
 ghost use Rattle.sql_check.specs.Words.{first_some};
 ghost use Rattle.sql_eval.specs.Laws.{has_one_key, AreRowsOf};
-ghost use Rattle.sql_eval.specs.Meaning.{examined as examined_of, fixed_key as fixed_key_of, meant_over as meant_over_of, written as written_of};
+ghost use Rattle.sql_eval.specs.Meaning.{examined as examined_of, examined_by, fixed_key as fixed_key_of, meant_over as meant_over_of, written as written_of};
 
 use crate::Site;
 use crate::holders::first_in_doubt;
@@ -50,42 +50,40 @@ impl<'r> Sight<'r> {
         })
     }
 
-    /// Of any other statement: all rows that the branch sees, and the locked keys too. No key is looked up where none of the
-    /// table is in doubt.
+    /// Of a statement that fixes none: all rows that the branch sees, and the locked keys too. No key is looked up where none of
+    /// the table is in doubt.
     pub fn of_all(
         alloc: Global,
-        statement: &Stmt,
         table: &Table,
         site: &Site,
         all: &'r KeyedRows,
     ) -> Result<Sight<'r>, AllocError>
         requires seen { all.now ≡ site.now.view }
         ensures in_doubt { IfOk result (λ sight.
-            sight.in_doubt ≡ first_some (map (doubt_on site.now.locks.now table.now.name) (examined_of statement.now table.now site.now.view (keys_held site.now.locks.now table.now.name)))) }
+            sight.in_doubt ≡ first_some (map (doubt_on site.now.locks.now table.now.name) (examined_by site.now.view (keys_held site.now.locks.now table.now.name) None))) }
         ensures rows { IfOk result (λ sight. sight.rows.items ≡ site.now.view) }
     {
         let rows = all.refs(alloc)?;
-        let in_doubt = examined_in_doubt(alloc, statement, table, site, rows.as_slice())?;
+        let in_doubt = examined_in_doubt(alloc, table, site, rows.as_slice())?;
         Ok(Sight { rows, in_doubt })
     }
 }
 
-// The branch in doubt that holds the first of the keys that a statement examines.
+// The branch in doubt that holds the first of the keys that a statement examines which fixes none.
 #[tactic(auto, using(crate::proofs::Doubts::none_in_doubt))]
 fn examined_in_doubt(
     alloc: Global,
-    statement: &Stmt,
     table: &Table,
     site: &Site,
     rows: &[KeyedRef],
 ) -> Result<Option<BranchId>, AllocError>
     ensures { IfOk result (λ holder.
-        holder ≡ first_some (map (doubt_on site.now.locks.now table.now.name) (examined_of statement.now table.now rows.now (keys_held site.now.locks.now table.now.name)))) }
+        holder ≡ first_some (map (doubt_on site.now.locks.now table.now.name) (examined_by rows.now (keys_held site.now.locks.now table.now.name) None))) }
 {
     if !site.locks.has_doubt(&table.name) {
         return Ok(None);
     }
     let locked = site.locks.keys(alloc, &table.name)?;
-    let keys = examined(alloc, statement, table, rows, locked.as_slice())?;
+    let keys = examined(alloc, rows, locked.as_slice())?;
     Ok(first_in_doubt(site.locks, &table.name, keys.as_slice()))
 }
