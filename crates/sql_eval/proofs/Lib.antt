@@ -1,7 +1,6 @@
 mod ChangeLemmas
 pub mod EachLemmas
 pub mod KeyLaws
-mod ListLemmas
 pub mod MadeLemmas
 mod PutLemmas
 pub mod RowLaws

@@ -72,7 +72,7 @@ pub fn conds_of(statement: &Stmt) -> &[Cond]
 
 /// Those of the rows that satisfy the WHERE of a statement, in their order. A comparison with NULL is true of no row.
 pub fn found<'r>(statement: &Stmt, table: &Table, mut rows: Vec<KeyedRef<'r>>) -> Vec<KeyedRef<'r>>
-    ensures { result.items ≡ found_of statement.now table.now rows.items }
+    ensures { result.items ≡ found_of statement.now table.now rows.entry.items }
 {
     let conds = conds_of(statement);
     rows.retain(|keyed| satisfies(table, conds, keyed));

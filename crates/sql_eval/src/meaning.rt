@@ -112,8 +112,8 @@ pub fn outcome_over(
     rows: Vec<KeyedRef>,
 ) -> Result<Outcome, AllocError>
     requires { cells ≡ new_cells statement.now table.now }
-    ensures keys { IfOk result (λ outcome. outcome.keys ≡ written_of statement.now table.now rows.items) }
-    ensures meant { IfOk result (λ outcome. outcome.meant ≡ meant_over_of statement.now table.now rows.items) }
+    ensures keys { IfOk result (λ outcome. outcome.keys ≡ written_of statement.now table.now rows.entry.items) }
+    ensures meant { IfOk result (λ outcome. outcome.meant ≡ meant_over_of statement.now table.now rows.entry.items) }
 {
     match statement {
         Stmt::Insert { .. } => inserted(alloc, table, cells, rows.as_slice()),
