@@ -221,6 +221,10 @@ module _ (places : List Place) (asked : List Command) (each : (n : ℕ) (p : Pla
           (subst (λ i. is_among (next_child p k) (lives_at (node_at g i)) ≡ true) (sym number) (subst (λ o. is_among (next_child p k) (lives_at o) ≡ true) (sym up) all.0.living)))
     ]
 
+    -- none of them had begun
+    pub all_unborn : AllByRecursion (λ y. born_at bs y.me ≡ None) xs
+    all_unborn = unborn_all view
+
     abbrev Sent : (Born → Type 0) → Msg → Type 0
     Sent C m = GoesSo C m.from m.to m.kind
 

@@ -99,6 +99,36 @@ module _ (B : Born → Type 0) where
     acting_is (steps.Hears_last l from v site_below a live answers other all collected) = voted_is l from v (live_is l.me l live)
     acting_is (steps.At_point l from a live came phase pointed) = live_is l.me l live
 
+  -- ---- news as a turn goes on
+
+  module _ (p : Place) (input : Input) where
+    begun_root : (k : Kept) (n : ℕ) → News B p input k → (m : ℕ) (s : Stmt) → IsCall input m s → IsOfRows s → (session_at (begun_by p k n None).sessions m).root ≡ None → B (root_born (new_root p (begun_by p k n None) m))
+    begun_root k n news m s call rows none = at (set_or_before k.sessions n m _)
+      where
+        at : (numbered (with_root k.sessions n (new_root p k n)) m ≡ numbered k.sessions m) ⊎ ((n ≡ m) × (numbered (with_root k.sessions n (new_root p k n)) m ≡ Some (record (session_at k.sessions n) { seq = (new_root p k n).seq; root = Some (new_root p k n) })))
+            → B (root_born (new_root p (begun_by p k n None) m))
+        at (inl still) =
+            let it : session_at k.sessions m ≡ session_at (begun_by p k n None).sessions m = ap (λ o. unwrap_or o fresh_session) (sym still) in
+            subst (λ (z : Session). B (root_born (record { node = p.number; boot = k.stored.durable.boot; session = m; seq = z.seq + 1 }))) it (news.root m s call rows (ap (λ z. z.root) it ∙ none))
+        at (inr set) =
+            let it : (session_at (begun_by p k n None).sessions m).root ≡ Some (new_root p k n) = ap (λ o. (unwrap_or o fresh_session).root) set.1 in
+            absurd (cc (it, none))
+
+    pub begun_news : (k : Kept) (n : ℕ) → News B p input k → News B p input (begun_by p k n None)
+    begun_news k n news = record { root = begun_root k n news; child = news.child }
+
+    one_call : (n m : ℕ) (s t : Stmt) → IsCall input n s → IsCall input m t → s ≡ t
+    one_call n m s t first second = let it : inputs.Call n (Some s) ≡ inputs.Call m (Some t) = sym first ∙ second in cc
+
+    pub pends_news : (k : Kept) (n : ℕ) (comment : Option (List ℕ)) → IsCall input n (stmts.Commit comment) → News B p input k → News B p input (record k { sessions = with_call k.sessions n pending.Commit })
+    pends_news k n comment call news = record { root = λ m s other rows none. (let it : s ≡ stmts.Commit comment = one_call m n s (stmts.Commit comment) other call in absurd (subst IsOfRows it rows)); child = news.child }
+
+    pub lets_news : (k : Kept) (b : BranchId) → News B p input k → News B p input (without_read_keys k b)
+    lets_news k b news = record { root = news.root; child = news.child }
+
+    pub acked_news : (k : Kept) (s : Standing) → News B p input k → News B p input (with_standing k s)
+    acked_news k s news = record { root = news.root; child = news.child }
+
   -- what a step keeps, writes and says
   abbrev pub NamesSo : Deed → Type 0
   NamesSo d = NamesAre B d.after × IfSome d.wrote (RecordNames B) × GoAll B d.says
@@ -124,33 +154,6 @@ module _ (B : Born → Type 0) where
 
     root_live : (k : Kept) (n : ℕ) → B (root_born (new_root p k n)) → LiveIs B (fresh_root p k (new_root p k n))
     root_live k n began = record { born = root_born (new_root p k n); began = began; is_me = refl; is_root = refl; is_parent = refl; is_depth = refl; children = tt }
-
-    begun_root : (k : Kept) (n : ℕ) → News B p input k → (m : ℕ) (s : Stmt) → IsCall input m s → IsOfRows s → (session_at (begun_by p k n None).sessions m).root ≡ None → B (root_born (new_root p (begun_by p k n None) m))
-    begun_root k n news m s call rows none = at (set_or_before k.sessions n m _)
-      where
-        at : (numbered (with_root k.sessions n (new_root p k n)) m ≡ numbered k.sessions m) ⊎ ((n ≡ m) × (numbered (with_root k.sessions n (new_root p k n)) m ≡ Some (record (session_at k.sessions n) { seq = (new_root p k n).seq; root = Some (new_root p k n) })))
-            → B (root_born (new_root p (begun_by p k n None) m))
-        at (inl still) =
-            let it : session_at k.sessions m ≡ session_at (begun_by p k n None).sessions m = ap (λ o. unwrap_or o fresh_session) (sym still) in
-            subst (λ (z : Session). B (root_born (record { node = p.number; boot = k.stored.durable.boot; session = m; seq = z.seq + 1 }))) it (news.root m s call rows (ap (λ z. z.root) it ∙ none))
-        at (inr set) =
-            let it : (session_at (begun_by p k n None).sessions m).root ≡ Some (new_root p k n) = ap (λ o. (unwrap_or o fresh_session).root) set.1 in
-            absurd (cc (it, none))
-
-    begun_news : (k : Kept) (n : ℕ) → News B p input k → News B p input (begun_by p k n None)
-    begun_news k n news = record { root = begun_root k n news; child = news.child }
-
-    one_call : (n m : ℕ) (s t : Stmt) → IsCall input n s → IsCall input m t → s ≡ t
-    one_call n m s t first second = let it : inputs.Call n (Some s) ≡ inputs.Call m (Some t) = sym first ∙ second in cc
-
-    pends_news : (k : Kept) (n : ℕ) (comment : Option (List ℕ)) → IsCall input n (stmts.Commit comment) → News B p input k → News B p input (record k { sessions = with_call k.sessions n pending.Commit })
-    pends_news k n comment call news = record { root = λ m s other rows none. (let it : s ≡ stmts.Commit comment = one_call m n s (stmts.Commit comment) other call in absurd (subst IsOfRows it rows)); child = news.child }
-
-    lets_news : (k : Kept) (b : BranchId) → News B p input k → News B p input (without_read_keys k b)
-    lets_news k b news = record { root = news.root; child = news.child }
-
-    acked_news : (k : Kept) (s : Standing) → News B p input k → News B p input (with_standing k s)
-    acked_news k s news = record { root = news.root; child = news.child }
 
     -- the new child stands behind the others
     edge_is : (a b : ℕ) → (a == b + 1) ≡ true → a ≡ 1 + b
@@ -181,11 +184,11 @@ module _ (B : Born → Type 0) where
 
     pub names_on : {k : Kept} {d : Deed} → Step p input k d → NamesAre B k → News B p input k → NamesSo d
     names_on (steps.Begins {k = k} n s call rows fit none step) names news =
-        names_on step (all_last (LiveIs B) live_id k.lives _ names.0 (root_live k n (news.root n s call rows none)), names.1, names.2) (begun_news k n news)
-    names_on (steps.Pends {k = k} n l comment call has live code step) names news = names_on step names (pends_news k n comment call news)
-    names_on (steps.Lets_reads_go {k = k} l comment site_below live begins step) names news = names_on step names (lets_news k l.me news)
+        names_on step (all_last (LiveIs B) live_id k.lives _ names.0 (root_live k n (news.root n s call rows none)), names.1, names.2) (begun_news p input k n news)
+    names_on (steps.Pends {k = k} n l comment call has live code step) names news = names_on step names (pends_news p input k n comment call news)
+    names_on (steps.Lets_reads_go {k = k} l comment site_below live begins step) names news = names_on step names (lets_news p input k l.me news)
     names_on (steps.Counts_ack {k = k} s from kept came counts step) names news =
-        names_on step (names.0, all_with (KeptIs B) standing_id k.stored.durable.kept (acked_by s from) names.1 (acked_row B s from (kept_is k names s kept)), names.2) (acked_news k (acked_by s from) news)
+        names_on step (names.0, all_with (KeptIs B) standing_id k.stored.durable.kept (acked_by s from) names.1 (acked_row B s from (kept_is k names s kept)), names.2) (acked_news p input k (acked_by s from) news)
     names_on (steps.Sends says why) names news = (names, tt, says_go names why)
     names_on (steps.Runs {k = k} x s given t asked way) names news =
         let is : LiveIs B x.live = asked_is k names asked in

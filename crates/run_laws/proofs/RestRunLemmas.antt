@@ -4,7 +4,9 @@ use Rattle.std.specs.Prelude.{IfSome}
 use Rattle.std.proofs.lemmas.Bool.{cond_both}
 use Rattle.tran_ids.proofs.BranchLemmas.{same_from_equal}
 use Rattle.tran_ids.proofs.ListedLemmas.{item_is}
-use Rattle.node_rules.specs.Data.{Stmt, BranchId, Live, Standing, Place, Input, RedoRecord}
+use Rattle.node_rules.specs.Data.{Stmt, BranchId, Live, Phase, Standing, Place, Input, RedoRecord}
+use Rattle.node_rules.specs.declared.work.Going.{Going}
+use Rattle.node_rules.specs.declared.session.PendingCall.{PendingCall}
 use Rattle.node_rules.specs.Data.inputs
 use Rattle.node_rules.specs.Data.kinds
 use Rattle.node_rules.specs.declared.session.PendingCall.TheVariants as pending
@@ -35,7 +37,7 @@ use Rattle.run_laws.proofs.NodesStandLemmas.{counts}
 use Rattle.node_rules.proofs.StandLemmas.{live_so}
 use Rattle.run_laws.specs.Data.happenings
 use Rattle.node_rules.specs.Data.phases
-use Rattle.run_laws.specs.CallLaws.{RootsWait, ComesAtRest, CallsComeAtRest}
+use Rattle.run_laws.specs.CallLaws.{RootWaits, RootsWait, CommitsRest, ComesAtRest, CallsComeAtRest}
 use Rattle.run_laws.proofs.LiveLemmas.{none_live}
 use Rattle.run_laws.proofs.RootLemmas.{SessionsFit, started_fits, sessions_on, root_alone}
 use Rattle.run_laws.proofs.RestLemmas.{Before, NodeRoots, branch_root, free_waits}
@@ -47,7 +49,7 @@ use Rattle.run_laws.proofs.RestStepLemmas.{roots_on, commit_call_so, commit_or_n
 abbrev pub NodeRests : Kept → Type 0
 NodeRests k = SessionsFit k × NodeRoots k
 
-heard_rests : (k : Kept) (input : Input) → NodeRests k → NodeRests (heard k input)
+pub heard_rests : (k : Kept) (input : Input) → NodeRests k → NodeRests (heard k input)
 heard_rests k (inputs.Message m) now = (record { roots = now.0.roots; above = now.0.above }, now.1)
 heard_rests k (inputs.Call n s) now = now
 heard_rests k (inputs.GiveUp n) now = now
@@ -71,7 +73,7 @@ turn_rests p k input before now step =
 
 -- ---- what is known before a turn
 
-free_by : (f : Facts) (k : Kept) (node n : ℕ) (s : Option Stmt) (took : Option Took) → Comes f k node (inputs.Call n s) took → (session_at k.sessions n).call ≡ pending.NoCall
+pub free_by : (f : Facts) (k : Kept) (node n : ℕ) (s : Option Stmt) (took : Option Took) → Comes f k node (inputs.Call n s) took → (session_at k.sessions n).call ≡ pending.NoCall
 free_by f k node n s None comes = comes.1
 free_by f k node n s (Some t) comes = absurd comes
 
@@ -133,7 +135,7 @@ module _ (places : List Place) (asked : List Command) (each : (n : ℕ) (p : Pla
           either = λ not. not_both (records_at f u.node) k (node_so places asked each f t stand.0 u.node k may.up);
         }
 
-    turned : (u : Turn) (k : Kept) → MayTurn places f u k → NodeRests (turn_of (place_at places u.node) k u.input).after
+    pub turned : (u : Turn) (k : Kept) → MayTurn places f u k → NodeRests (turn_of (place_at places u.node) k u.input).after
     unfolding turn_of
     turned u k may = turn_rests (place_at places u.node) k u.input (before_so u k may) (subst (λ o. IfSome o NodeRests) may.up (now u.node)) (serves places f u k may).step
 
@@ -148,7 +150,7 @@ module _ (places : List Place) (asked : List Command) (each : (n : ℕ) (p : Pla
     goes_rests n Stops = tt
     goes_rests n (Starts boot down next) = started _
 
-    roots_stand_on : (h : Happening) → MayHappen places asked f h → RootsStand (facts_after places asked f h)
+    pub roots_stand_on : (h : Happening) → MayHappen places asked f h → RootsStand (facts_after places asked f h)
     roots_stand_on h may n = goes_rests n (goes_so places f asked stand.0.0.even h n may)
 
     at_rest : (h : Happening) → MayHappen places asked f h → ComesAtRest places f h
@@ -175,7 +177,7 @@ module _ (places : List Place) (asked : List Command) (each : (n : ℕ) (p : Pla
     rest_each (facts_after places asked f h) hs (events_after places asked f h t) (births_after places f h bs) (stand_born_on places asked each f t bs h stand lawful.0) (roots_stand_on f t bs stand now h lawful.0) lawful.1,
   )
 
-  first_rests : RootsStand (first_facts places)
+  pub first_rests : RootsStand (first_facts places)
   first_rests n = first_node (λ o. IfSome o NodeRests) tt made_rests places n
 
 -- at the end of every run
@@ -186,6 +188,14 @@ run_roots t lawful =
 
 pub roots_wait : RootsWait
 roots_wait t lawful n k up x found root = let now : NodeRests k = subst (λ o. IfSome o NodeRests) up (run_roots t lawful n) in branch_root k now.1 x found root
+
+commit_rests : (c : PendingCall) (phase : Phase) (o : Option Going) → RootWaits c phase o → phase ≢ phases.Working → o ≡ None
+commit_rests pending.NoCall phase o is other = is.1
+commit_rests pending.Statement phase o is other = absurd (other is)
+commit_rests pending.Commit phase o is other = is
+
+pub commits_rest : CommitsRest
+commits_rest t lawful n k up x found root other = commit_rests (session_at k.sessions x.live.me.session).call x.live.phase x.work.going (roots_wait t lawful n k up x found root).waits other
 
 pub calls_come_at_rest : CallsComeAtRest
 calls_come_at_rest t lawful =

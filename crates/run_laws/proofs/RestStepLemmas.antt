@@ -139,7 +139,7 @@ going_by : (x : Branch) (from : BranchId) (call i : ℕ) (e : Edge) (o : Option 
 going_by x from call i e None is = absurd cc
 going_by x from call i e (Some g) is = (g, refl)
 
-going_of : (x : Branch) (from : BranchId) (call i : ℕ) (e : Edge) → reply_of x from call ≡ Some (i, e) → (g : Going) × (x.work.going ≡ Some g)
+pub going_of : (x : Branch) (from : BranchId) (call i : ℕ) (e : Edge) → reply_of x from call ≡ Some (i, e) → (g : Going) × (x.work.going ≡ Some g)
 unfolding reply_of
 going_of x from call i e is = going_by x from call i e x.work.going is
 

@@ -56,3 +56,7 @@ ComesAtRest places f _ = Unit {0}
 -- In every lawful run a call comes to a root at rest: COMMIT too, and no call comes to a root once its COMMIT came.
 abbrev pub CallsComeAtRest : Type 0
 CallsComeAtRest = (t : History) → IsLawfulRun t → AtEachFact ComesAtRest t
+
+-- So from its COMMIT on a live root waits for nothing.
+abbrev pub CommitsRest : Type 0
+CommitsRest = OfEachNode (λ p rs k. (x : Branch) → branch_at k x.live.me ≡ Some x → x.live.parent ≡ None → x.live.phase ≢ phases.Working → x.work.going ≡ None)

@@ -40,3 +40,4 @@ pub mod TriedRun
 pub mod TowardLaws
 pub mod RowSayLaws
 pub mod VoteLaws
+pub mod InTurnLaws

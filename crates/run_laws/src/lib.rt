@@ -19,7 +19,8 @@ ghost use Rattle.run_laws.specs.TowardLaws.{TurnsGoByRows};
 ghost use Rattle.run_laws.specs.RowSayLaws.{TurnsTellByRows};
 ghost use Rattle.run_laws.specs.VoteLaws.{VotesAreOfSealed, LiveHaveNotVoted};
 ghost use Rattle.run_laws.specs.PhaseLaws.{PhasesFit};
-ghost use Rattle.run_laws.specs.CallLaws.{RootsAreOfSessions, CallsFitEdges, RootsWait, CallsComeAtRest};
+ghost use Rattle.run_laws.specs.CallLaws.{RootsAreOfSessions, CallsFitEdges, RootsWait, CallsComeAtRest, CommitsRest};
+ghost use Rattle.run_laws.specs.InTurnLaws.{CallsAreAnswered, BranchesCallInTurn, EdgesFit};
 ghost use Rattle.run_laws.specs.BirthLaws.{NoIdBeginsTwice, BirthsAreTrees, NodesNameTheBorn, RecordsNameTheBorn, MessagesAreOfNeighbors, BornAreLiveOrLeft};
 
 /// The book that the facts keep is the book of the trace.
@@ -240,4 +241,26 @@ pub fn roots_wait()
 /// to a root once its COMMIT came.
 pub fn calls_come_at_rest()
     ensures { CallsComeAtRest }
+{}
+
+/// So from its COMMIT on a live root waits for nothing.
+pub fn commits_rest()
+    ensures { CommitsRest }
+{}
+
+/// A branch makes its next call to a child only after the child's Reply to the last.
+pub fn calls_are_answered()
+    ensures { CallsAreAnswered }
+{}
+
+/// A live branch takes the calls of its parent in order and waits for nothing once it has answered the last. It makes its own to
+/// its children alone, and unless it can only roll back, each child whose Reply it does not wait for answered the last.
+pub fn branches_call_in_turn()
+    ensures { BranchesCallInTurn }
+{}
+
+/// So a child that its parent does not wait for took the last call and waits for nothing, unless the parent is a root that can only
+/// roll back.
+pub fn edges_fit()
+    ensures { EdgesFit }
 {}
