@@ -40,3 +40,7 @@ pub mod TriedRun
 pub mod TowardLaws
 pub mod RowSayLaws
 pub mod VoteLaws
+pub mod ChangedLaws
+pub mod TableLaws
+pub mod KeyLaws
+pub mod RiseLaws
