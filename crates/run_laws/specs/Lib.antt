@@ -41,3 +41,7 @@ pub mod TowardLaws
 pub mod RowSayLaws
 pub mod VoteLaws
 pub mod InTurnLaws
+pub mod ChangedLaws
+pub mod TableLaws
+pub mod KeyLaws
+pub mod RiseLaws

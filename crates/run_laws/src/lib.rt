@@ -21,6 +21,10 @@ ghost use Rattle.run_laws.specs.VoteLaws.{VotesAreOfSealed, LiveHaveNotVoted};
 ghost use Rattle.run_laws.specs.PhaseLaws.{PhasesFit};
 ghost use Rattle.run_laws.specs.CallLaws.{RootsAreOfSessions, CallsFitEdges, RootsWait, CallsComeAtRest, CommitsRest};
 ghost use Rattle.run_laws.specs.InTurnLaws.{CallsAreAnswered, BranchesCallInTurn, EdgesFit};
+ghost use Rattle.run_laws.specs.ChangedLaws.{ChangesAreOfLive};
+ghost use Rattle.run_laws.specs.TableLaws.{ChangesAreOfTables};
+ghost use Rattle.run_laws.specs.KeyLaws.{KeysAreHeld};
+ghost use Rattle.run_laws.specs.RiseLaws.{ScnsRise, RecordsChangeFreeKeys};
 ghost use Rattle.run_laws.specs.BirthLaws.{NoIdBeginsTwice, BirthsAreTrees, NodesNameTheBorn, RecordsNameTheBorn, MessagesAreOfNeighbors, BornAreLiveOrLeft};
 
 /// The book that the facts keep is the book of the trace.
@@ -263,4 +267,33 @@ pub fn branches_call_in_turn()
 /// roll back.
 pub fn edges_fit()
     ensures { EdgesFit }
+{}
+
+/// Changes that are not committed are kept of live branches alone, and a live branch is marked as changed exactly where it has
+/// some.
+pub fn changes_are_of_live()
+    ensures { ChangesAreOfLive }
+{}
+
+/// Each table of a node has one key, and rows that stand at theirs. Each change that is not committed, of a live branch or of one
+/// in doubt, is one of a table that is there.
+pub fn changes_are_of_tables()
+    ensures { ChangesAreOfTables }
+{}
+
+/// No key of a node is held twice. A live branch holds each key that it has changed, for writing, and a branch in doubt holds, in
+/// doubt, each key of the changes that it holds back.
+pub fn keys_are_held()
+    ensures { KeysAreHeld }
+{}
+
+/// On each disk the SCN of a seal is not below any SCN that the records before it name, and that of a decision is above them all,
+/// those that users gave with COMMIT FORCE apart.
+pub fn scns_rise()
+    ensures { ScnsRise }
+{}
+
+/// On each disk a seal or a decision changes no key of a branch that is in doubt by the records before it.
+pub fn records_change_free_keys()
+    ensures { RecordsChangeFreeKeys }
 {}
