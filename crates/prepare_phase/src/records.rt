@@ -5,7 +5,7 @@ ghost use Rattle.dtx_values.specs.Limits.{branch_limit};
 ghost use Rattle.prepare_phase.specs.Records.{is_prepared as is_prepared_edge, peer_record as peer_record_of, named_children as named_children_of, prepared_before as prepared_before_of, toward_in as toward_in_of, sealed_of as sealed_record, decided_of as decided_record, site_neighbors as site_neighbors_of, is_alone as is_alone_of};
 
 use crate::prepares::is_on_path;
-use dtx_values::{Changes, Duplicate, Listing};
+use dtx_values::{Bytes, Changes, Duplicate, Listing};
 use redo_record::{Decided, Peer, Peers, Sealed, Toward};
 use session_tree::{Edge, Live, Vote};
 use std::alloc::{AllocError, Global};
@@ -23,8 +23,7 @@ pub fn sealed_of(
     requires { length live.now.edges ≤ branch_limit }
     ensures { IfOk result (λ sealed. sealed ≡ sealed_record scn live.now changes path) }
 {
-    let children = named_children(alloc, live.edges.as_slice(), path)?;
-    let comment = live.comment.copy(alloc)?;
+    let (children, comment) = copies(alloc, live, path)?;
     Ok(Sealed {
         me: live.me,
         root: live.root,
@@ -49,8 +48,7 @@ pub fn decided_of(
     requires { length live.now.edges ≤ branch_limit }
     ensures { IfOk result (λ decided. decided ≡ decided_record scn live.now changes) }
 {
-    let children = named_children(alloc, live.edges.as_slice(), None)?;
-    let comment = live.comment.copy(alloc)?;
+    let (children, comment) = copies(alloc, live, None)?;
     Ok(Decided {
         me: live.me,
         root: live.root,
@@ -61,6 +59,16 @@ pub fn decided_of(
         comment,
         changes,
     })
+}
+
+// The children that a record names, where the walk goes to the child of the number `path`, and the comment.
+fn copies(alloc: Global, live: &Live, path: Option<u8>) -> Result<(Peers, Bytes), AllocError>
+    requires { length live.now.edges ≤ branch_limit }
+    ensures { IfOk result (λ copies. copies ≡ (named_children_of path 1 live.now.edges, live.now.comment)) }
+{
+    let children = named_children(alloc, live.edges.as_slice(), path)?;
+    let comment = live.comment.copy(alloc)?;
+    Ok((children, comment))
 }
 
 /// The neighbours of the commit point site: its parent, then the children that answered Prepared.
