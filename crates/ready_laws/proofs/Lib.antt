@@ -1,0 +1,6 @@
+mod ListLemmas
+mod TableLemmas
+mod RecordLemmas
+mod RanLemmas
+mod RowStepLemmas
+mod NumberLemmas
