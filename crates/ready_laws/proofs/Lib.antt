@@ -4,3 +4,4 @@ mod RecordLemmas
 mod RanLemmas
 mod RowStepLemmas
 mod NumberLemmas
+mod CallNumberLemmas

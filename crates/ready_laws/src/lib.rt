@@ -2,7 +2,7 @@
 #![tactic(auto)]
 
 ghost use Rattle.ready_laws.specs.Rows.{RowsStayOfTables, NoRowsAtFirst};
-ghost use Rattle.ready_laws.specs.Numbers.{ClocksRiseByOne, OneOpenATurn};
+ghost use Rattle.ready_laws.specs.Numbers.{ClocksRiseByOne, OneOpenATurn, CallsRiseByOne};
 
 /// Between turns the tables of a node are whole, the rows under a table's name are rows of it, with a cell for each column
 /// and the key in the key column, and what branches have changed, live or in doubt, are changes of tables that are there.
@@ -12,9 +12,11 @@ pub fn rows_stay_of_tables()
     ensures turns { RowsStayOfTables }
 {}
 
-/// In one turn the clock of a node rises by one at most, once it has met the SCNs that the input brings, and the node
-/// answers one Open more at most. So these numbers stay below the number of happenings.
+/// In one turn the clock of a node rises by one at most, once it has met the SCNs that the input brings; the node answers one
+/// Open more at most, so it gives out one session number; and call numbers rise by one at most. So these numbers stay below
+/// the number of happenings.
 pub fn numbers_rise_by_one()
     ensures clock { ClocksRiseByOne }
     ensures opens { OneOpenATurn }
+    ensures calls { CallsRiseByOne }
 {}

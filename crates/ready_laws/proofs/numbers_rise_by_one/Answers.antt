@@ -1,3 +1,4 @@
+use Rattle.ready_laws.proofs.CallNumberLemmas.{calls_rise_by_one}
 use Rattle.ready_laws.proofs.NumberLemmas.{clocks_rise_by_one, one_open_a_turn}
 use Rattle.ready_laws.proofs.numbers_rise_by_one.Goals as goal
 
@@ -6,3 +7,6 @@ returns-clause-clock c = clocks_rise_by_one
 
 pub returns-clause-opens : goal.returns-clause-opens
 returns-clause-opens c = one_open_a_turn
+
+pub returns-clause-calls : goal.returns-clause-calls
+returns-clause-calls c = calls_rise_by_one
