@@ -4,3 +4,5 @@ mod ActLemmas
 mod NextLemmas
 pub mod TurnLemmas
 pub mod RowLemmas
+pub mod LiveLemmas
+pub mod StepLemmas

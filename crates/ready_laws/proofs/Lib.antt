@@ -5,3 +5,4 @@ mod RanLemmas
 mod RowStepLemmas
 mod NumberLemmas
 mod CallNumberLemmas
+mod ShapeLemmas

@@ -2,6 +2,7 @@
 #![tactic(auto)]
 
 ghost use Rattle.ready_laws.specs.Rows.{RowsStayOfTables, NoRowsAtFirst};
+ghost use Rattle.ready_laws.specs.Shapes.{ShapesStay};
 ghost use Rattle.ready_laws.specs.Numbers.{ClocksRiseByOne, OneOpenATurn, CallsRiseByOne};
 
 /// Between turns the tables of a node are whole, the rows under a table's name are rows of it, with a cell for each column
@@ -19,4 +20,11 @@ pub fn numbers_rise_by_one()
     ensures clock { ClocksRiseByOne }
     ensures opens { OneOpenATurn }
     ensures calls { CallsRiseByOne }
+{}
+
+/// Between turns a live branch has no more children than LINKS allows, with room for one more while it waits for an Opened; it
+/// has one call number for each; and none of them told of more than 256 branches. A turn leaves that so, if no Reply that
+/// it hears tells of more.
+pub fn shapes_stay()
+    ensures { ShapesStay }
 {}
