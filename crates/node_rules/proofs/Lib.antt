@@ -6,3 +6,4 @@ pub mod TurnLemmas
 pub mod RowLemmas
 pub mod LiveLemmas
 pub mod StepLemmas
+pub mod SessionLemmas

@@ -1,5 +1,5 @@
 -- What holds of each live branch with its calls.
-use Rattle.std.specs.Prelude.{◌≡◌, List, Option, Some, None}
+use Rattle.std.specs.Prelude.{◌≡◌, List, Some, None}
 use Rattle.node_rules.specs.Data.{BranchId, Live, Work}
 use Rattle.node_rules.specs.Words.{item_at}
 use Rattle.node_rules.specs.Kept.{live_id, work_id, work_or}

@@ -1,5 +1,5 @@
 -- How far the call numbers of live branches rise in one step, and in one turn.
-use Rattle.std.proofs.Common.{◌≡◌, ℕ, zero, suc, ◌+◌, ◌≤◌, List, [], ◌∷◌, ◌++◌, slice_get, slice_set, unwrap_or, Option, Some, None, refl, sym, ap, subst, ◌∙◌, arith}
+use Rattle.std.proofs.Common.{◌≡◌, ℕ, zero, suc, ◌+◌, ◌≤◌, List, [], ◌∷◌, ◌++◌, slice_get, slice_set, unwrap_or, Option, Some, None, refl, subst, arith}
 use Rattle.std.specs.List.{AllByRecursion}
 use Rattle.node_rules.specs.Data.{BranchId, Live, Stmt, Place, Input}
 use Rattle.node_rules.specs.declared.work.Work.{Work}
@@ -9,7 +9,7 @@ use Rattle.commit_forget.specs.declared.next.Next.TheVariants as nexts
 use Rattle.node_rules.specs.Words.{numbered, set_numbered, put_item, drop_item, item_at}
 use Rattle.node_rules.specs.Kept.{Kept, Deed, Branch, work_id, work_at, work_or, with_work, live_at, branch_at}
 use Rattle.node_rules.specs.Calls.{next_call}
-use Rattle.node_rules.specs.Turn.{heard, deed_of, turn_of}
+use Rattle.node_rules.specs.Turn.{heard, turn_of}
 use Rattle.node_rules.proofs.Steps as steps
 use Rattle.node_rules.proofs.Steps.{Step, Asked}
 use Rattle.node_rules.proofs.TurnLemmas.{step_of}

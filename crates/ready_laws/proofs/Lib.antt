@@ -6,3 +6,4 @@ mod RowStepLemmas
 mod NumberLemmas
 mod CallNumberLemmas
 mod ShapeLemmas
+mod SeqLemmas

@@ -1,9 +1,9 @@
 -- What each item of a list has, and the first item that passes a test.
-use Rattle.std.proofs.Common.{◌≡◌, ◌||◌, not, Bool, true, false, if◌then◌else◌, List, [], ◌∷◌, ◌++◌, find, filter, map, Option, Some, None, refl, sym, ap, subst, ◌∙◌}
+use Rattle.std.proofs.Common.{◌≡◌, ◌||◌, not, Bool, true, false, if◌then◌else◌, List, [], ◌∷◌, ◌++◌, find, Some, refl, subst}
 use Rattle.std.specs.List.{AllByRecursion, list_any}
 use Rattle.tran_ids.specs.declared.branch.BranchId.{BranchId}
 use Rattle.tran_ids.specs.Branch.{same}
-use Rattle.tran_ids.specs.Listed.{item_at, put_item, drop_item}
+use Rattle.tran_ids.specs.Listed.{put_item, drop_item}
 
 module _ {A : Type 0} (P : A → Type 0) where
   pub all_append : (xs ys : List A) → AllByRecursion P xs → AllByRecursion P ys → AllByRecursion P (xs ++ ys)

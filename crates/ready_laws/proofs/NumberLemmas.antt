@@ -1,5 +1,5 @@
 -- How far the numbers of a node rise in one step, and in one turn.
-use Rattle.std.proofs.Common.{◌≡◌, ℕ, ◌+◌, ◌≤◌, [], ◌∷◌, length, Some, None, refl, subst, arith}
+use Rattle.std.proofs.Common.{◌≡◌, ◌+◌, ◌≤◌, [], ◌∷◌, length, Some, None, refl, subst, arith}
 use Rattle.std.proofs.lemmas.List.{length-append}
 use Rattle.node_rules.specs.Data.{Place, Input}
 use Rattle.node_rules.specs.Data.inputs

@@ -3,7 +3,7 @@ use Rattle.std.proofs.Common.{◌≡◌, ℕ, true, List, [], ◌∷◌, ◌++�
 use Rattle.std.specs.List.{AllByRecursion}
 use Rattle.std.proofs.lemmas.List.Elements.{recursion_from_All}
 use Rattle.node_rules.specs.Data.{Value, Change, Table, Refusal, Done, BranchId, Stmt, ChangeSet, Owned, Place}
-use Rattle.node_rules.specs.Words.{item_at, put_item}
+use Rattle.node_rules.specs.Words.{item_at}
 use Rattle.node_rules.specs.Rows.{rows_of_table, changes_of, set_over}
 use Rattle.node_rules.specs.Kept.{Kept, own_id, sets_of, sets_at}
 use Rattle.node_rules.specs.Statement.{Ran, Refuses, Reads, Writes, view, ground_of, ran, owns_after}
@@ -17,7 +17,7 @@ use Rattle.sql_eval.proofs.RowLaws.{rows_stay, changes_are_of_table}
 use Rattle.sql_eval.proofs.TableLaws.{whole_tables_have_one_key}
 use Rattle.row_locks.specs.Locks.{keys_held}
 use Rattle.stmt_run.specs.Run.{Ground, in_doubt_refusal, locked_refusal, space_refusal, ran_within, ran_meant, ran_locked, ran_checked, ran_over}
-use Rattle.ready_laws.specs.Rows.{table_named, IsChangeAt, AreChangesAt, AreRows, HasRows}
+use Rattle.ready_laws.specs.Rows.{table_named, IsChangeAt, AreChangesAt, HasRows}
 use Rattle.ready_laws.proofs.ListLemmas.{all_append, all_weaker, all_found, all_put}
 use Rattle.ready_laws.proofs.TableLemmas.{named_changes}
 

@@ -1,6 +1,6 @@
 -- What records make of rows that are of their tables.
-use Rattle.std.proofs.Common.{◌≡◌, ℕ, ◌||◌, Bool, true, false, if◌then◌else◌, List, [], ◌∷◌, ◌++◌, map, find, Option, Some, None, refl, sym, ap, subst, ◌∙◌}
-use Rattle.std.specs.List.{AllByRecursion, list_any}
+use Rattle.std.proofs.Common.{◌≡◌, ℕ, ◌||◌, Bool, true, false, if◌then◌else◌, List, [], ◌∷◌, ◌++◌, Option, Some, None, refl, sym, ap, subst, ◌∙◌}
+use Rattle.std.specs.List.{list_any}
 use Rattle.node_rules.specs.Data.{Table, Change, BranchId, Decision, RedoRecord, Owned, Doubt}
 use Rattle.node_rules.specs.Data.decisions
 use Rattle.node_rules.specs.Data.records

@@ -1,15 +1,13 @@
 -- Each step of a turn keeps rows that are of their tables, and so does each turn.
 use Rattle.std.proofs.Common.{◌≡◌, ℕ, ◌+◌, Bool, true, false, if◌then◌else◌, List, [], Option, Some, None, refl, sym, ap, subst, ◌∙◌}
-use Rattle.std.specs.List.{AllByRecursion}
-use Rattle.node_rules.specs.Data.{Table, Synonym, Link, TableRef, Stmt, Done, BranchId, RedoRecord, Durable, Live, Place, Input}
-use Rattle.node_rules.specs.Data.stmts
+use Rattle.node_rules.specs.Data.{Table, Synonym, TableRef, Stmt, Done, BranchId, RedoRecord, Durable, Live, Place, Input}
 use Rattle.node_rules.specs.Data.records
 use Rattle.node_rules.specs.Data.inputs
 use Rattle.node_rules.specs.Data.acts
 use Rattle.commit_forget.specs.declared.next.Next.TheVariants as nexts
 use Rattle.node_rules.specs.Words.{same_text, drop_item}
 use Rattle.node_rules.specs.Rows.{changes_of}
-use Rattle.node_rules.specs.Names.{Named, A_table, Behind, Unknown, Way, Runs_here, Over, Through, Nowhere_to, synonym_named, table_named as named_as, table_of, ref_named, named_by, ref_of, target_of, way_new, way_edge, way_target, way_named, way_of}
+use Rattle.node_rules.specs.Names.{Runs_here, Through, Nowhere_to, synonym_named, table_named as named_as, table_of, ref_named, ref_of, target_of, way_edge, way_target, way_named, way_of}
 use Rattle.node_rules.specs.Kept.{Kept, Deed, own_id}
 use Rattle.node_rules.specs.Prepare.{sealed_record, decided_record}
 use Rattle.node_rules.specs.Statement.{view, ran, owns_after}
@@ -17,14 +15,13 @@ use Rattle.node_rules.specs.Records.{applied, stored_by}
 use Rattle.node_rules.specs.Refusals.{ora, dtx}
 use Rattle.redo_record.specs.Durable.{durable_after}
 use Rattle.node_rules.specs.Data.decisions
-use Rattle.node_rules.specs.Client.{is_used}
-use Rattle.node_rules.specs.Turn.{heard, deed_of, turn_of, made, start_of, kept_by}
-use Rattle.node_rules.specs.Inputs.{IsFit, IsCall}
+use Rattle.node_rules.specs.Turn.{heard, turn_of, made, start_of}
+use Rattle.node_rules.specs.Inputs.{IsCall}
 use Rattle.node_rules.proofs.Steps as steps
 use Rattle.node_rules.proofs.Steps.{Step, Makes}
 use Rattle.node_rules.proofs.TurnLemmas.{step_of}
 use Rattle.session_tree.specs.Live.{edge_by_link}
-use Rattle.ready_laws.specs.Rows.{table_named, AreChangesAt, AreRows, HasRows, MakesWhole, BringsWhole, RowsStayOfTables}
+use Rattle.ready_laws.specs.Rows.{table_named, AreChangesAt, AreRows, HasRows, BringsWhole, RowsStayOfTables}
 use Rattle.ready_laws.proofs.ListLemmas.{all_dropped, found_passes}
 use Rattle.ready_laws.proofs.TableLemmas.{one_text}
 use Rattle.ready_laws.proofs.RecordLemmas.{KeepsRows, rows_applied}

@@ -1,5 +1,5 @@
 -- Each step of a turn keeps the shape of live branches, and so does each turn.
-use Rattle.std.proofs.Common.{◌≡◌, ℕ, zero, suc, ◌+◌, ◌≤◌, ◌==◌, Bool, true, false, if◌then◌else◌, List, [], ◌∷◌, ◌++◌, length, map, slice_get, slice_set, Option, Some, None, refl, sym, ap, subst, ◌∙◌, arith}
+use Rattle.std.proofs.Common.{◌≡◌, ℕ, zero, suc, ◌+◌, ◌≤◌, Bool, true, false, if◌then◌else◌, List, [], ◌∷◌, length, map, slice_set, Option, Some, None, refl, sym, ap, subst, ◌∙◌, arith}
 use Rattle.std.specs.Prelude.{nat_le}
 use Rattle.std.specs.List.{AllByRecursion}
 use Rattle.std.proofs.lemmas.Bool.{cond_both}
@@ -7,36 +7,33 @@ use Rattle.std.proofs.lemmas.Bool.Decides.{nat_tests}
 use Rattle.std.proofs.lemmas.List.{length-append, length-map}
 use Rattle.tran_ids.proofs.ListedLemmas.{item_is}
 use Rattle.tran_ids.proofs.NumberedLemmas.{set_length}
-use Rattle.dtx_values.specs.Limits.{depth_limit}
-use Rattle.node_rules.specs.Data.{Table, Synonym, TableRef, Stmt, Answer, BranchId, Durable, Edge, Vote, Live, Act, Kind, Place, Input}
+use Rattle.node_rules.specs.Data.{Table, Synonym, TableRef, Stmt, Answer, BranchId, Durable, Edge, Vote, Live, Act, Place, Input}
 use Rattle.node_rules.specs.Data.kinds
 use Rattle.node_rules.specs.Data.inputs
 use Rattle.node_rules.specs.Data.acts
 use Rattle.node_rules.specs.declared.work.Waits.{Waits}
 use Rattle.node_rules.specs.declared.work.Waits.TheVariants as waiting
 use Rattle.node_rules.specs.declared.work.Going.{Going}
-use Rattle.node_rules.specs.declared.work.Work.{Work}
 use Rattle.commit_forget.specs.declared.next.Next.TheVariants as nexts
 use Rattle.session_tree.specs.Live.{new_edge, edge_by_link}
-use Rattle.session_tree.specs.Tree.{room}
 use Rattle.node_rules.specs.Refusals.{ora, dtx}
-use Rattle.node_rules.specs.Words.{numbered, set_numbered}
-use Rattle.node_rules.specs.Names.{Way, Runs_here, Over, Through, Nowhere_to, synonym_named, table_named, table_of, ref_named, ref_of, target_of, way_new, way_edge, way_target, way_named, way_of}
-use Rattle.node_rules.specs.Kept.{Kept, Deed, Branch, live_id, work_id, live_at, branch_at, with_branch, with_live, without_branch}
+use Rattle.node_rules.specs.Words.{set_numbered}
+use Rattle.node_rules.specs.Names.{Through, Nowhere_to, synonym_named, table_named, table_of, ref_named, ref_of, target_of, way_edge, way_target, way_named, way_of}
+use Rattle.node_rules.specs.Kept.{Kept, Deed, Branch, live_id, branch_at, with_branch, with_live, without_branch}
 use Rattle.node_rules.specs.LiveBranches.{works_of, EachLive}
 use Rattle.node_rules.specs.Statement.{ran, after_run}
 use Rattle.node_rules.specs.Calls.{with_answer, called, with_edge, hears_reply, next_call}
 use Rattle.node_rules.specs.Prepare.{with_prepare_sent, has_voted, ready}
 use Rattle.node_rules.specs.Client.{gives_up}
-use Rattle.node_rules.specs.Turn.{heard, deed_of, turn_of}
+use Rattle.node_rules.specs.Turn.{heard, turn_of}
 use Rattle.node_rules.specs.Inputs.{Came}
 use Rattle.node_rules.proofs.Steps as steps
 use Rattle.node_rules.proofs.Steps.{Step, Asked, Acting}
 use Rattle.node_rules.proofs.StepLemmas.{acting_so}
 use Rattle.node_rules.proofs.LiveLemmas.{each_put, each_changed, each_left, each_begun, branch_parts, work_is}
 use Rattle.node_rules.proofs.TurnLemmas.{step_of}
-use Rattle.ready_laws.specs.Shapes.{count_limit, HasRoomFor, HasRoom, IsShaped, HasShape, TellsFew, BringsFew, ShapesStay}
-use Rattle.ready_laws.proofs.ListLemmas.{all_append, all_weaker}
+use Rattle.ready_laws.specs.Shapes.{count_limit, HasRoomFor, HasRoom, IsShaped, HasShape, BringsFew, ShapesStay}
+use Rattle.ready_laws.proofs.ListLemmas.{all_append}
 
 -- ---- a link that is used for the first time
 

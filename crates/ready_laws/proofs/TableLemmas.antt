@@ -1,15 +1,13 @@
 -- Tables by their names, and the rows under these names with changes made to them.
-use Rattle.std.proofs.Common.{◌≡◌, ℕ, zero, suc, ◌||◌, Bool, true, false, if◌then◌else◌, List, [], ◌∷◌, ◌++◌, length, map, find, Option, Some, None, refl, sym, ap, subst, ◌∙◌, arith}
+use Rattle.std.proofs.Common.{◌≡◌, ℕ, zero, suc, ◌||◌, Bool, true, false, if◌then◌else◌, List, [], ◌∷◌, ◌++◌, map, Some, refl, sym, ap, subst, ◌∙◌, arith}
 use Rattle.std.specs.List.{All, AllByRecursion, list_any}
 use Rattle.std.specs.Cmp.Lexicographic.{bytes_decides}
-use Rattle.node_rules.specs.Data.{Table, Change, Keyed}
+use Rattle.node_rules.specs.Data.{Table, Change}
 use Rattle.node_rules.specs.Words.{same_text}
-use Rattle.node_rules.specs.Rows.{TableRows, rows_of_table, apply_all, apply, with_table, view_of}
-use Rattle.sql_statement.specs.Whole.{IsWholeTable}
-use Rattle.sql_eval.specs.Laws.{AreRowsOf, IsChangeOf}
-use Rattle.sql_eval.proofs.RowLaws.{rows_stay}
-use Rattle.ready_laws.specs.Rows.{table_named, IsChangeAt, AreChangesAt, AreRows}
-use Rattle.ready_laws.proofs.ListLemmas.{all_weaker, all_both, all_found, found_passes, found_in_more}
+use Rattle.node_rules.specs.Rows.{TableRows, rows_of_table, apply_all, apply, with_table}
+use Rattle.sql_eval.specs.Laws.{IsChangeOf}
+use Rattle.ready_laws.specs.Rows.{table_named, IsChangeAt, AreChangesAt}
+use Rattle.ready_laws.proofs.ListLemmas.{all_weaker, found_in_more}
 
 -- whether there are rows under a name
 abbrev are_under : List TableRows → List ℕ → Bool

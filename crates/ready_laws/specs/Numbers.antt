@@ -1,5 +1,5 @@
 -- How far the numbers rise that a node gives out: in one turn by one at most.
-use Rattle.std.specs.Prelude.{ℕ, ◌+◌, ◌≤◌, max, length}
+use Rattle.std.specs.Prelude.{ℕ, ◌+◌, ◌≤◌, length}
 use Rattle.std.specs.List.{AllByRecursion}
 use Rattle.node_rules.specs.Data.{Place, Input}
 use Rattle.node_rules.specs.Kept.{Kept}
@@ -13,6 +13,11 @@ ClocksRiseByOne = (p : Place) (k : Kept) (input : Input) → IsFit input → (tu
 -- a turn answers one Open more at most, so it gives out one session at most
 abbrev pub OneOpenATurn : Type 0
 OneOpenATurn = (p : Place) (k : Kept) (input : Input) → IsFit input → length (turn_of p k input).after.opens ≤ length k.opens + 1
+
+-- the numbers of sessions' transactions rise by one at most
+abbrev pub SeqsRiseByOne : Type 0
+SeqsRiseByOne = (p : Place) (k : Kept) (input : Input) (n : ℕ) → IsFit input → AllByRecursion (λ s. s.seq ≤ n) k.sessions
+    → AllByRecursion (λ s. s.seq ≤ n + 1) (turn_of p k input).after.sessions
 
 -- call numbers rise by one at most
 abbrev pub CallsRiseByOne : Type 0

@@ -1,6 +1,6 @@
 -- What holds of the rows of a node between turns: its tables are whole, the rows under a table's name are rows of it, and
 -- what branches have changed are changes of tables that are there.
-use Rattle.std.specs.Prelude.{◌≡◌, ℕ, List, find, map, Option, Some, None}
+use Rattle.std.specs.Prelude.{◌≡◌, ℕ, List, find, map, Option, Some}
 use Rattle.std.specs.List.{AllByRecursion}
 use Rattle.node_rules.specs.Data.{Table, Stmt, Change, Owned, Doubt, Place, Input}
 use Rattle.node_rules.specs.Data.stmts

@@ -1,6 +1,6 @@
 -- What holds of the children of live branches between turns: there are no more than LINKS allows, and one call number for
 -- each.
-use Rattle.std.specs.Prelude.{◌≡◌, ℕ, ◌+◌, ◌≤◌, List, length, Option, Some, None}
+use Rattle.std.specs.Prelude.{◌≡◌, ℕ, ◌+◌, ◌≤◌, length, Option, Some, None}
 use Rattle.std.specs.List.{AllByRecursion}
 use Rattle.node_rules.specs.Data.{Live, Kind, Place, Input}
 use Rattle.node_rules.specs.Data.kinds

@@ -3,7 +3,7 @@
 
 ghost use Rattle.ready_laws.specs.Rows.{RowsStayOfTables, NoRowsAtFirst};
 ghost use Rattle.ready_laws.specs.Shapes.{ShapesStay};
-ghost use Rattle.ready_laws.specs.Numbers.{ClocksRiseByOne, OneOpenATurn, CallsRiseByOne};
+ghost use Rattle.ready_laws.specs.Numbers.{ClocksRiseByOne, OneOpenATurn, SeqsRiseByOne, CallsRiseByOne};
 
 /// Between turns the tables of a node are whole, the rows under a table's name are rows of it, with a cell for each column
 /// and the key in the key column, and what branches have changed, live or in doubt, are changes of tables that are there.
@@ -19,6 +19,7 @@ pub fn rows_stay_of_tables()
 pub fn numbers_rise_by_one()
     ensures clock { ClocksRiseByOne }
     ensures opens { OneOpenATurn }
+    ensures seqs { SeqsRiseByOne }
     ensures calls { CallsRiseByOne }
 {}
 

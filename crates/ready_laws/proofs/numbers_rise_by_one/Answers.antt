@@ -1,5 +1,6 @@
 use Rattle.ready_laws.proofs.CallNumberLemmas.{calls_rise_by_one}
 use Rattle.ready_laws.proofs.NumberLemmas.{clocks_rise_by_one, one_open_a_turn}
+use Rattle.ready_laws.proofs.SeqLemmas.{seqs_rise_by_one}
 use Rattle.ready_laws.proofs.numbers_rise_by_one.Goals as goal
 
 pub returns-clause-clock : goal.returns-clause-clock
@@ -10,3 +11,6 @@ returns-clause-opens c = one_open_a_turn
 
 pub returns-clause-calls : goal.returns-clause-calls
 returns-clause-calls c = calls_rise_by_one
+
+pub returns-clause-seqs : goal.returns-clause-seqs
+returns-clause-seqs c = seqs_rise_by_one
