@@ -4,3 +4,6 @@ mod ActLemmas
 mod NextLemmas
 pub mod TurnLemmas
 pub mod RowLemmas
+pub mod LiveLemmas
+pub mod StepLemmas
+pub mod SessionLemmas

@@ -1,6 +1,6 @@
 -- Statements on their way through the session tree: Open and Opened, Exec with its call numbers, Reply, and the end of a
 -- call. (Database Administrator's Guide, "Distributed Transactions Concepts": session trees, local and global coordinators.)
-use Rattle.std.specs.Prelude.{ℕ, ◌+◌, ◌-◌, ◌==◌, ◌&&◌, Bool, false, if◌then◌else◌, List, [], ◌∷◌, ◌++◌, find, length, unwrap_or, nat_lt, is_none, is_some, Option, Some, None}
+use Rattle.std.specs.Prelude.{ℕ, ◌+◌, ◌-◌, ◌==◌, ◌&&◌, Bool, false, if◌then◌else◌, List, [], ◌∷◌, ◌++◌, length, unwrap_or, is_none, Option, Some, None}
 unfoldable pub use Rattle.link_session.specs.Calls.{admit}
 pub use Rattle.link_session.specs.Opens.{is_opening}
 use Rattle.link_session.specs.Calls.{taken}

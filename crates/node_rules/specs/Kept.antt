@@ -3,7 +3,7 @@
 pub use Rattle.redo_record.specs.Kept.{stands_at}
 pub use Rattle.reco.specs.Asks.{post_one, to_each, to_one}
 pub use Rattle.row_store.specs.Store.{own_id, doubt_id, sets_of, sets_at}
-use Rattle.std.specs.Prelude.{ℕ, List, [], ◌∷◌, map, max, Option, Some, None}
+use Rattle.std.specs.Prelude.{ℕ, List, [], ◌∷◌, max, Option, Some, None}
 use Rattle.node_rules.specs.Data.{BranchId, RedoRecord, Standing, Durable, Live, Kind, Msg, Owned, Doubt, Work, Opening, Session, Finished, Post, Answer}
 use Rattle.node_rules.specs.Words.{item_at, put_item, drop_item}
 use Rattle.node_rules.specs.Rows.{TableRows}

@@ -24,7 +24,7 @@ use Rattle.run_laws.specs.Births.{Born, births_by, births_at, births_after, born
 use Rattle.run_laws.specs.BirthLaws.{Began, StandsBelow, NamesAre, RecordNames, GoesSo}
 use Rattle.run_laws.proofs.ListLemmas.{all_weaker, all_append, all_map}
 use Rattle.run_laws.proofs.LawfulLemmas.{comes_fit}
-use Rattle.run_laws.proofs.SessionLemmas.{seqs}
+use Rattle.node_rules.proofs.SessionLemmas.{seqs}
 use Rattle.run_laws.proofs.IdLemmas.{Given}
 use Rattle.run_laws.proofs.FreshLemmas.{Node}
 use Rattle.run_laws.proofs.OwnLemmas.{OwnAt}

@@ -13,7 +13,7 @@ use Rattle.node_rules.specs.Records.{applied, nothing_stored, stored_by}
 use Rattle.node_rules.proofs.Steps as steps
 use Rattle.node_rules.proofs.Steps.{Step}
 use Rattle.run_laws.specs.Lawful.{boots}
-use Rattle.run_laws.proofs.StepLemmas.{made_so}
+use Rattle.node_rules.proofs.StepLemmas.{made_so}
 use Rattle.run_laws.proofs.StoredLemmas.{stored_with}
 
 -- only a start writes Boot

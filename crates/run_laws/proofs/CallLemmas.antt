@@ -19,9 +19,10 @@ use Rattle.node_rules.proofs.Steps as steps
 use Rattle.node_rules.proofs.Steps.{Step, Asked, Acting}
 use Rattle.node_rules.proofs.StandLemmas.{live_so}
 use Rattle.run_laws.specs.CallLaws.{CallsFit, CallsFitEdges}
-use Rattle.run_laws.proofs.StepLemmas.{acting_so}
+use Rattle.node_rules.proofs.StepLemmas.{acting_so}
 use Rattle.run_laws.proofs.NodeLemmas.{KeepsAlone, kept_alone}
-use Rattle.run_laws.proofs.LiveLemmas.{EachLive, none_live, each_put, each_changed, each_left, each_begun, works_of, branch_parts, work_is}
+use Rattle.node_rules.specs.LiveBranches.{EachLive, works_of}
+use Rattle.node_rules.proofs.LiveLemmas.{none_live, each_put, each_changed, each_left, each_begun, branch_parts, work_is}
 use Rattle.run_laws.proofs.RootLemmas.{SessionsFit, root_alone, pends_so, begun_so, started_fits, sessions_on}
 
 abbrev Fits : Live → Work → Type 0

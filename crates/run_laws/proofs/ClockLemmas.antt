@@ -16,7 +16,7 @@ use Rattle.run_laws.specs.Data.happenings
 use Rattle.run_laws.specs.Facts.{Facts, place_at}
 use Rattle.run_laws.specs.Lawful.{MayHappen}
 use Rattle.run_laws.specs.NodeLaws.{IsLater, ClockRises, ClocksRise, ClocksCover}
-use Rattle.run_laws.proofs.StepLemmas.{made_so}
+use Rattle.node_rules.proofs.StepLemmas.{made_so}
 use Rattle.run_laws.proofs.LawfulLemmas.{Serves, of_wrote, turn_of_node, serves}
 use Rattle.run_laws.proofs.NodeLemmas.{each_that_may, KeepsAlone, kept_alone}
 

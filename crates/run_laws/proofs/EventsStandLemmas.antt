@@ -22,7 +22,7 @@ use Rattle.run_laws.specs.EventRows.{RowIs, RowsAre}
 use Rattle.run_laws.specs.EventLaws.{NodesAreAsEvents, TellsAsEvents, TurnsTellAsEvents}
 use Rattle.run_laws.proofs.ListLemmas.{all_weaker, all_append}
 use Rattle.run_laws.proofs.BootLemmas.{boots_started}
-use Rattle.run_laws.proofs.SessionLemmas.{seqs}
+use Rattle.node_rules.proofs.SessionLemmas.{seqs}
 use Rattle.run_laws.proofs.IdLemmas.{Given, Before, given_before}
 use Rattle.run_laws.proofs.StoredLemmas.{stored_with}
 use Rattle.run_laws.proofs.FreshLemmas.{Disk, Node, nodes}

@@ -30,8 +30,8 @@ use Rattle.node_rules.proofs.StandLemmas.{live_so}
 use Rattle.run_laws.specs.Lawful.{boots}
 use Rattle.run_laws.specs.NodeLaws.{IdsAreFresh}
 use Rattle.run_laws.proofs.ListLemmas.{count_put, count_filter, count_moved}
-use Rattle.run_laws.proofs.StepLemmas.{IsLive, asked_live, acting_live, made_so}
-use Rattle.run_laws.proofs.SessionLemmas.{seqs, seq_at, session_seq, set_seqs, still_seqs, call_seqs, needs_seqs, ended_seqs, pends_seqs, answered_seqs, heard_seqs, decided_seqs, abandoned_seqs, ended_if_seqs}
+use Rattle.node_rules.proofs.StepLemmas.{IsLive, asked_live, acting_live, made_so}
+use Rattle.node_rules.proofs.SessionLemmas.{seqs, seq_at, session_seq, set_seqs, still_seqs, call_seqs, needs_seqs, ended_seqs, pends_seqs, answered_seqs, heard_seqs, decided_seqs, abandoned_seqs, ended_if_seqs}
 use Rattle.run_laws.proofs.CountLemmas.{rows_of, makes_row, rows_applied, rows_unacked}
 use Rattle.run_laws.proofs.BootLemmas.{IsOfTurn, step_of_turn, booted, boots_started, boots_with, BootIs, boot_with}
 use Rattle.run_laws.proofs.IdLemmas.{seqs_rise, seq_set, Given, Before, In_session, Over_link, given_before, Ids, fewer, grown}

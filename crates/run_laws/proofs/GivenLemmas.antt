@@ -16,7 +16,7 @@ use Rattle.node_rules.specs.Prepare.{is_alone}
 use Rattle.node_rules.specs.Client.{new_root, begun_by}
 use Rattle.node_rules.proofs.Steps as steps
 use Rattle.node_rules.proofs.Steps.{Step}
-use Rattle.run_laws.proofs.SessionLemmas.{seqs, seq_at, session_seq, set_seqs, still_seqs, call_seqs, needs_seqs, ended_seqs, pends_seqs, answered_seqs, heard_seqs, decided_seqs, abandoned_seqs, ended_if_seqs}
+use Rattle.node_rules.proofs.SessionLemmas.{seqs, seq_at, session_seq, set_seqs, still_seqs, call_seqs, needs_seqs, ended_seqs, pends_seqs, answered_seqs, heard_seqs, decided_seqs, abandoned_seqs, ended_if_seqs}
 use Rattle.run_laws.proofs.IdLemmas.{seqs_rise, Given, given_still}
 
 module _ (boot : ℕ) (b : BranchId) where

@@ -31,7 +31,7 @@ use Rattle.node_rules.proofs.Steps.{Step, IsKept, Asked, Answers, Acting, vote_k
 use Rattle.node_rules.proofs.StandLemmas.{live_so}
 use Rattle.run_laws.specs.HeardLaws.{VoteIs, EdgeIs, AnswersAre, AcksAre}
 use Rattle.run_laws.proofs.ListLemmas.{all_weaker, all_filter, all_append, all_map, all_each, all_put}
-use Rattle.run_laws.proofs.StepLemmas.{made_so}
+use Rattle.node_rules.proofs.StepLemmas.{made_so}
 use Rattle.run_laws.proofs.OwnLemmas.{all_found, all_with, all_without, all_last}
 use Rattle.run_laws.proofs.LaterLemmas.{Added, exit_later, has_later}
 use Rattle.run_laws.proofs.NeighborLemmas.{reply_is}

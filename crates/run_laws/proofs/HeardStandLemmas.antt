@@ -23,7 +23,7 @@ use Rattle.run_laws.specs.RunEvents.{with_event, wrote_event, lives_at, with_rec
 use Rattle.run_laws.specs.HeardLaws.{AnswersAre, AcksAre, QuietIs, AnswersAreTrue, AcksAreTrue, QuietsAreGone}
 use Rattle.run_laws.proofs.ListLemmas.{all_weaker, all_map}
 use Rattle.run_laws.proofs.LawfulLemmas.{serves}
-use Rattle.run_laws.proofs.StepLemmas.{IsLive}
+use Rattle.node_rules.proofs.StepLemmas.{IsLive}
 use Rattle.run_laws.proofs.OwnLemmas.{all_found}
 use Rattle.run_laws.proofs.LaterLemmas.{Added, Any, added_on, added_wider, exit_later, wrote_added, turn_added, stop_added, messages_added, events_keep}
 use Rattle.run_laws.proofs.SaidLemmas.{sent_after, came_said}

@@ -11,7 +11,7 @@ use Rattle.node_rules.specs.Kept.{live_id, standing_id}
 use Rattle.node_rules.specs.Inputs.{IsSession}
 use Rattle.run_laws.specs.NodeLaws.{count_of}
 use Rattle.run_laws.proofs.ListLemmas.{count_last}
-use Rattle.run_laws.proofs.SessionLemmas.{seq_at}
+use Rattle.node_rules.proofs.SessionLemmas.{seq_at}
 
 -- ---- numbers of sessions
 

@@ -19,7 +19,7 @@ use Rattle.node_rules.proofs.Steps.{Step}
 use Rattle.node_rules.proofs.StandLemmas.{live_so}
 use Rattle.run_laws.specs.NodeLaws.{HoldersAreThere}
 use Rattle.run_laws.proofs.ListLemmas.{all_weaker, all_filter, all_map, all_there, any_found, any_more, any_last, any_dropped, any_put}
-use Rattle.run_laws.proofs.StepLemmas.{IsLive, asked_live, acting_live, made_so}
+use Rattle.node_rules.proofs.StepLemmas.{IsLive, asked_live, acting_live, made_so}
 use Rattle.run_laws.proofs.NodeLemmas.{KeepsAlone, kept_alone}
 
 -- ---- locks, each of a branch that is so

@@ -31,8 +31,8 @@ use Rattle.node_rules.proofs.Steps.{Step, Doing, IsKept}
 use Rattle.node_rules.proofs.StandLemmas.{live_so}
 use Rattle.run_laws.specs.RunEvents.{with_event, wrote_event}
 use Rattle.run_laws.proofs.ListLemmas.{all_weaker, all_filter}
-use Rattle.run_laws.proofs.StepLemmas.{IsLive, asked_live, acting_live, made_so}
-use Rattle.run_laws.proofs.SessionLemmas.{seqs, seq_at, session_seq, set_seqs, call_seqs}
+use Rattle.node_rules.proofs.StepLemmas.{IsLive, asked_live, acting_live, made_so}
+use Rattle.node_rules.proofs.SessionLemmas.{seqs, seq_at, session_seq, set_seqs, call_seqs}
 use Rattle.run_laws.proofs.IdLemmas.{Given, Before, In_session, Over_link, seq_set}
 use Rattle.run_laws.proofs.GivenLemmas.{begun_given, given_on}
 use Rattle.run_laws.proofs.OwnLemmas.{all_found, all_with, all_without, all_last}

@@ -37,7 +37,7 @@ use Rattle.node_rules.proofs.StandLemmas.{live_so}
 use Rattle.run_laws.specs.Births.{Born, root_born, child_born}
 use Rattle.run_laws.specs.BirthLaws.{IsChildAt, LiveIs, KeptIs, OpeningIs, NamesAre, RecordNames, GoesSo}
 use Rattle.run_laws.proofs.ListLemmas.{all_append}
-use Rattle.run_laws.proofs.StepLemmas.{made_so}
+use Rattle.node_rules.proofs.StepLemmas.{made_so}
 use Rattle.run_laws.proofs.OwnLemmas.{all_found, all_with, all_without, all_last}
 use Rattle.run_laws.proofs.NeighborLemmas.{find_so, reply_is, News, turned, children_map, children_last, children_numbered, up, edges_down, downs, peer_child, neighbors_are, seal_names, decide_names, rows_applied, acked_row}
 use Rattle.run_laws.proofs.NeighborSayLemmas.{Goes, GoAll, one_goes, each_goes, answer_goes, exec_goes, prepares_go, told_goes, beyond_near, toward_near, passes_go, askings_go}

@@ -22,7 +22,7 @@ use Rattle.run_laws.specs.RunEvents.{with_event, wrote_event, record_event}
 use Rattle.run_laws.proofs.ListLemmas.{all_weaker}
 use Rattle.run_laws.proofs.AckLemmas.{unacked_rows}
 use Rattle.run_laws.proofs.StoredLemmas.{stored_with}
-use Rattle.run_laws.proofs.SessionLemmas.{seqs}
+use Rattle.node_rules.proofs.SessionLemmas.{seqs}
 use Rattle.run_laws.proofs.IdLemmas.{Given}
 use Rattle.run_laws.proofs.LaterLemmas.{One_more, Nothing_more}
 use Rattle.run_laws.specs.EventRows.{RowIs, RowsAre, MayStand}

@@ -29,7 +29,7 @@ use Rattle.tran_ids.proofs.ListedLemmas.{item_is}
 use Rattle.node_rules.proofs.StandLemmas.{live_so}
 use Rattle.run_laws.specs.IdLaws.{IsRecordOf}
 use Rattle.run_laws.proofs.ListLemmas.{all_weaker, all_filter, all_append, all_map, all_put}
-use Rattle.run_laws.proofs.StepLemmas.{IsLive, asked_live, acting_live, made_so}
+use Rattle.node_rules.proofs.StepLemmas.{IsLive, asked_live, acting_live, made_so}
 use Rattle.run_laws.proofs.NodeLemmas.{Keeps}
 
 -- ---- lists

@@ -34,7 +34,7 @@ use Rattle.run_laws.specs.Branches.{is_among}
 use Rattle.run_laws.specs.Trail.{is_read_only, is_quiet}
 use Rattle.run_laws.specs.RunEvents.{leave_event, has_left, with_leaver, with_leavers}
 use Rattle.run_laws.proofs.ListLemmas.{all_weaker, all_append, all_each, all_put}
-use Rattle.run_laws.proofs.StepLemmas.{IsLive, acting_live}
+use Rattle.node_rules.proofs.StepLemmas.{IsLive, acting_live}
 use Rattle.run_laws.proofs.RowEventLemmas.{only_none, first_new, same_turned}
 
 -- ---- messages of other kinds

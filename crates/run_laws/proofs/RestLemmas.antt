@@ -26,8 +26,9 @@ use Rattle.node_rules.proofs.StandLemmas.{live_so, call_set}
 use Rattle.std.specs.List.{AllByRecursion}
 use Rattle.node_rules.specs.Prepare.{ready}
 use Rattle.run_laws.specs.CallLaws.{RootWaits, IsRootOf}
-use Rattle.run_laws.proofs.StepLemmas.{branch_found}
-use Rattle.run_laws.proofs.LiveLemmas.{EachLive, each_put, each_left, each_same, works_of, branch_parts, work_is}
+use Rattle.node_rules.proofs.StepLemmas.{branch_found}
+use Rattle.node_rules.specs.LiveBranches.{EachLive, works_of}
+use Rattle.node_rules.proofs.LiveLemmas.{each_put, each_left, each_same, branch_parts, work_is}
 use Rattle.run_laws.proofs.RootLemmas.{SessionsFit, session_or_before}
 
 -- a root is its session's transaction, and waits as that says

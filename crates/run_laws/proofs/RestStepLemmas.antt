@@ -35,7 +35,8 @@ use Rattle.run_laws.proofs.ListLemmas.{all_filter}
 use Rattle.run_laws.proofs.OwnLemmas.{all_found, all_with, forced_one}
 use Rattle.run_laws.specs.CallLaws.{RootWaits, IsRootOf}
 use Rattle.run_laws.proofs.AtNodeLemmas.{item_there}
-use Rattle.run_laws.proofs.LiveLemmas.{EachLive, each_put, each_changed, each_left, each_begun, each_same, works_of, work_is}
+use Rattle.node_rules.specs.LiveBranches.{EachLive, works_of}
+use Rattle.node_rules.proofs.LiveLemmas.{each_put, each_changed, each_left, each_begun, each_same, work_is}
 use Rattle.run_laws.proofs.RootLemmas.{RootsFit, SessionsFit, session_or_before, begun_so}
 use Rattle.run_laws.proofs.RestLemmas.{RootIs, set_leaves, taken_leaves, still_leaves, fresh_waits, free_waits, statement_waits, Before, NodeRoots, Works, branch_root, live_root, going_works, asked_works, answered_so, calls_so, heard_so, gone, gone_ended, ended_so, acting_root, ready_below}
 

@@ -26,7 +26,7 @@ use Rattle.node_rules.proofs.Steps as steps
 use Rattle.node_rules.proofs.Steps.{Step, Asked, Acting}
 use Rattle.node_rules.proofs.StandLemmas.{live_so}
 use Rattle.run_laws.specs.CallLaws.{RootsAreOfSessions}
-use Rattle.run_laws.proofs.StepLemmas.{acting_so}
+use Rattle.node_rules.proofs.StepLemmas.{acting_so}
 use Rattle.run_laws.proofs.OwnLemmas.{all_found, all_with, all_without, all_last}
 use Rattle.run_laws.proofs.AtNodeLemmas.{range_of}
 use Rattle.run_laws.proofs.NodeLemmas.{KeepsAlone, kept_alone}

@@ -36,7 +36,7 @@ use Rattle.run_laws.specs.Branches.{is_among}
 use Rattle.run_laws.specs.HeardLaws.{AcksAre}
 use Rattle.run_laws.specs.TowardLaws.{IsRowLike, AllAcked}
 use Rattle.run_laws.proofs.ListLemmas.{all_weaker, all_append, all_each, all_put}
-use Rattle.run_laws.proofs.StepLemmas.{IsLive, acting_live}
+use Rattle.node_rules.proofs.StepLemmas.{IsLive, acting_live}
 use Rattle.run_laws.proofs.OwnLemmas.{all_found, all_with}
 use Rattle.run_laws.proofs.HeardLemmas.{acked_so}
 use Rattle.run_laws.proofs.QuietLemmas.{NoRows, came_apart, acting_apart, dropped_gone}

@@ -31,7 +31,7 @@ use Rattle.run_laws.specs.HeardLaws.{AcksAre}
 use Rattle.run_laws.specs.TowardLaws.{IsRowLike}
 use Rattle.run_laws.specs.RowSayLaws.{IsOver, AckIs, RollbackIs, SaysByRow, TellsByRow, TurnsTellByRows}
 use Rattle.run_laws.proofs.ListLemmas.{all_weaker, all_map}
-use Rattle.run_laws.proofs.StepLemmas.{IsLive}
+use Rattle.node_rules.proofs.StepLemmas.{IsLive}
 use Rattle.run_laws.proofs.LawfulLemmas.{serves, turn_of_node}
 use Rattle.run_laws.proofs.OwnLemmas.{all_found}
 use Rattle.run_laws.proofs.LaterLemmas.{Added, Any, added_on, added_wider, exit_later, learned_later, has_later, wrote_added, leavers_added, events_each}

@@ -30,7 +30,7 @@ use Rattle.node_rules.proofs.Steps.{Step, Says, Doing, IsKept}
 use Rattle.run_laws.specs.RunEvents.{with_event, wrote_event}
 use Rattle.run_laws.specs.EventRows.{RowIs, RowsAre, IsKnown, MaySay}
 use Rattle.run_laws.proofs.ListLemmas.{all_weaker, all_append, all_map, all_each, all_put}
-use Rattle.run_laws.proofs.StepLemmas.{IsLive, acting_live}
+use Rattle.node_rules.proofs.StepLemmas.{IsLive, acting_live}
 use Rattle.run_laws.proofs.OwnLemmas.{all_found, all_with}
 use Rattle.run_laws.proofs.RowEventLemmas.{first_new, learned_now}
 use Rattle.run_laws.proofs.RowScnLemmas.{Below}

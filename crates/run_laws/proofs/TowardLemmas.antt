@@ -30,7 +30,7 @@ use Rattle.run_laws.specs.HeardLaws.{AcksAre}
 use Rattle.run_laws.specs.TowardLaws.{IsRowLike, WasTold, LearnsSo, AllAcked, ForgetsSo, GoesByRow, WritesByRow, TurnsGoByRows}
 use Rattle.run_laws.proofs.ListLemmas.{all_filter, all_append, all_map}
 use Rattle.run_laws.proofs.LawfulLemmas.{of_wrote, serves, turn_of_node}
-use Rattle.run_laws.proofs.StepLemmas.{branch_found}
+use Rattle.node_rules.proofs.StepLemmas.{branch_found}
 use Rattle.run_laws.proofs.AckLemmas.{row_acked}
 use Rattle.run_laws.proofs.LaterLemmas.{events_each}
 use Rattle.run_laws.proofs.OwnLemmas.{all_found, all_with}

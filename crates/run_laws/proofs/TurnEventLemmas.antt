@@ -23,7 +23,7 @@ use Rattle.run_laws.specs.NodeLaws.{count_of}
 use Rattle.run_laws.specs.RunEvents.{with_event, wrote_event, lives_at, with_record, with_happening, events_after}
 use Rattle.run_laws.proofs.ListLemmas.{all_weaker, all_map}
 use Rattle.run_laws.proofs.BootLemmas.{IsOfTurn, step_of_turn, boots_with}
-use Rattle.run_laws.proofs.SessionLemmas.{seqs}
+use Rattle.node_rules.proofs.SessionLemmas.{seqs}
 use Rattle.run_laws.proofs.IdLemmas.{Given, given_before}
 use Rattle.run_laws.proofs.FreshLemmas.{Node}
 use Rattle.run_laws.proofs.LawfulLemmas.{Serves, of_wrote, of_sent, serves}

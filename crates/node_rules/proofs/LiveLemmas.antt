@@ -6,6 +6,7 @@ use Rattle.node_rules.specs.Data.{BranchId, Live}
 use Rattle.node_rules.specs.declared.work.Work.{Work}
 use Rattle.node_rules.specs.Words.{same, item_at, put_item, drop_item}
 use Rattle.node_rules.specs.Kept.{Kept, Branch, live_id, work_id, no_work, work_or, work_at, with_work, branch_at}
+use Rattle.node_rules.specs.LiveBranches.{works_of, EachLive}
 
 -- an item behind the others is found where no other of its branch is
 last_found : {A : Type 0} (id : A → BranchId) (xs : List A) (y : A) (b : BranchId) (x : A) → item_at id (xs ++ y ∷ []) b ≡ Some x → (item_at id xs b ≡ Some x) ⊎ ((item_at id xs b ≡ None) × (y ≡ x))
@@ -29,15 +30,6 @@ none_before id (z ∷ zs) y b none = by (same (id z) b) none (none_before id zs 
     by : (here : Bool) → (if here then Some z else item_at id (zs ++ y ∷ []) b) ≡ None → (item_at id (zs ++ y ∷ []) b ≡ None → item_at id zs b ≡ None) → (if here then Some z else item_at id zs b) ≡ None
     by true is later = absurd cc
     by false is later = later is
-
--- the calls of a branch
-abbrev pub works_of : List Work → BranchId → Work
-works_of ws b = work_or b (item_at work_id ws b)
-
--- There are calls of live branches alone, and each live branch is so with its calls.
-pub record EachLive (P : Live → Work → Type 0) (ls : List Live) (ws : List Work) : Type 0 where
-  pub there : (b : BranchId) → item_at live_id ls b ≡ None → item_at work_id ws b ≡ None
-  pub each : (b : BranchId) (l : Live) → item_at live_id ls b ≡ Some l → P l (works_of ws b)
 
 pub none_live : (P : Live → Work → Type 0) → EachLive P [] []
 none_live P = record { there = λ b none. refl; each = λ b l found. absurd cc }
