@@ -21,7 +21,7 @@ use Rattle.node_rules.proofs.Steps as steps
 use Rattle.node_rules.proofs.Steps.{Step, Asked, By_call, By_exec, Acting}
 use Rattle.node_rules.proofs.StandLemmas.{live_so}
 use Rattle.run_laws.specs.ChangedLaws.{changes_at, has_changes, IsMarked, ChangesFit, ChangesAreOfLive}
-use Rattle.run_laws.proofs.StepLemmas.{acting_so, made_so}
+use Rattle.node_rules.proofs.StepLemmas.{acting_so, made_so}
 use Rattle.run_laws.proofs.NodeLemmas.{KeepsAlone, kept_alone}
 
 -- ---- changes of a branch

@@ -14,7 +14,7 @@ use Rattle.node_rules.proofs.Steps.{Step, Asked, Acting, Says}
 use Rattle.run_laws.specs.Births.{Born}
 use Rattle.run_laws.specs.InTurnLaws.{newest_exec, newest_reply, WaitsFor, call_at}
 use Rattle.run_laws.proofs.AtNodeLemmas.{range_of}
-use Rattle.run_laws.proofs.LiveLemmas.{EachLive}
+use Rattle.node_rules.specs.LiveBranches.{EachLive}
 use Rattle.run_laws.proofs.NeighborLemmas.{reply_is}
 use Rattle.run_laws.proofs.CallTurnLemmas.{Free}
 use Rattle.run_laws.proofs.InTurnLemmas as turns

@@ -22,7 +22,8 @@ use Rattle.node_rules.proofs.Steps as steps
 use Rattle.node_rules.proofs.Steps.{Step, Asked, Acting, Says}
 use Rattle.node_rules.proofs.StandLemmas.{live_so}
 use Rattle.run_laws.specs.InTurnLaws.{exec_number, reply_number, newest_exec, newest_reply, WaitsFor, call_at}
-use Rattle.run_laws.proofs.LiveLemmas.{EachLive, each_put, each_left, each_same, branch_parts}
+use Rattle.node_rules.specs.LiveBranches.{EachLive}
+use Rattle.node_rules.proofs.LiveLemmas.{each_put, each_left, each_same, branch_parts}
 use Rattle.run_laws.proofs.RootLemmas.{SessionsFit, root_alone}
 use Rattle.run_laws.proofs.KindSayLemmas.{OfDecisions, AllSay}
 use Rattle.run_laws.proofs.CallTurnLemmas.{Silent, silent_none, one_exec, one_reply, if_zero, silent_other, Answered, answered_more, InTurn, Free, stays_in_turn, answers_in_turn, calls_nobody, calls_child, call_answered}

@@ -35,7 +35,8 @@ use Rattle.run_laws.proofs.BirthLemmas.{news_of}
 use Rattle.run_laws.proofs.BirthsStandLemmas.{came_so, all_unborn}
 use Rattle.run_laws.proofs.BirthRunLemmas.{StandBorn, stand_born_on, stand_born_first, nodes_name_the_born}
 use Rattle.run_laws.proofs.NeighborLemmas.{News}
-use Rattle.run_laws.proofs.LiveLemmas.{EachLive, each_same, none_live, branch_parts}
+use Rattle.node_rules.specs.LiveBranches.{EachLive}
+use Rattle.node_rules.proofs.LiveLemmas.{each_same, none_live, branch_parts}
 use Rattle.run_laws.proofs.RestLemmas.{RootIs, live_root, free_waits}
 use Rattle.run_laws.proofs.RestRunLemmas.{NodeRests, heard_rests, free_by, RootsStand, turned, roots_stand_on, first_rests}
 use Rattle.run_laws.proofs.CodeLemmas.{AllNeed, codes_on}

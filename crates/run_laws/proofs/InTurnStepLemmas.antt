@@ -33,8 +33,9 @@ use Rattle.node_rules.proofs.StandLemmas.{live_so, session_set, call_set}
 use Rattle.run_laws.specs.Births.{Born}
 use Rattle.run_laws.specs.InTurnLaws.{newest_reply}
 use Rattle.run_laws.proofs.ListLemmas.{all_append, map_after}
-use Rattle.run_laws.proofs.StepLemmas.{acting_so}
-use Rattle.run_laws.proofs.LiveLemmas.{EachLive, each_changed, each_begun, works_of, branch_parts, work_is}
+use Rattle.node_rules.proofs.StepLemmas.{acting_so}
+use Rattle.node_rules.specs.LiveBranches.{EachLive, works_of}
+use Rattle.node_rules.proofs.LiveLemmas.{each_changed, each_begun, branch_parts, work_is}
 use Rattle.run_laws.proofs.RootLemmas.{SessionsFit, session_or_before, root_alone, pends_so, begun_so}
 use Rattle.run_laws.proofs.NeighborLemmas.{News}
 use Rattle.run_laws.proofs.NeighborStepLemmas.{begun_news, pends_news, lets_news, acked_news}

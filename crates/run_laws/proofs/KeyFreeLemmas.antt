@@ -29,7 +29,7 @@ use Rattle.run_laws.specs.RiseLaws.{EachRecordFrom, are_of_one_key, AreFree, Cha
 use Rattle.run_laws.proofs.ListLemmas.{all_weaker}
 use Rattle.run_laws.proofs.OwnLemmas.{all_found, all_with}
 use Rattle.run_laws.proofs.KeyLemmas.{reads_gone}
-use Rattle.run_laws.proofs.StepLemmas.{acting_live, made_so}
+use Rattle.node_rules.proofs.StepLemmas.{acting_live, made_so}
 use Rattle.run_laws.proofs.LawfulLemmas.{Serves, of_wrote, serves}
 use Rattle.run_laws.proofs.LaterLemmas.{events_keep}
 use Rattle.run_laws.proofs.NodeLemmas.{Goes, Stays, Turns, Is_cut, Stops, Starts, goes_so}

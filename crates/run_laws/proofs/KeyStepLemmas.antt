@@ -29,7 +29,7 @@ use Rattle.run_laws.specs.ChangedLaws.{ChangesFit}
 use Rattle.run_laws.specs.KeyLaws.{KeysHeld}
 use Rattle.run_laws.proofs.ListLemmas.{all_weaker, all_filter}
 use Rattle.run_laws.proofs.OwnLemmas.{all_found, all_with, forced_one}
-use Rattle.run_laws.proofs.StepLemmas.{IsLive, acting_live, made_so}
+use Rattle.node_rules.proofs.StepLemmas.{IsLive, acting_live, made_so}
 use Rattle.run_laws.proofs.RanLemmas.{run_so, runs_at_table}
 use Rattle.run_laws.proofs.TableStepLemmas.{Fits, one_key, sees_rows}
 use Rattle.run_laws.proofs.KeyLemmas.{reads_gone, dropped, settled, sealed, read, wrote}

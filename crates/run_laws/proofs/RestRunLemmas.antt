@@ -38,7 +38,7 @@ use Rattle.node_rules.proofs.StandLemmas.{live_so}
 use Rattle.run_laws.specs.Data.happenings
 use Rattle.node_rules.specs.Data.phases
 use Rattle.run_laws.specs.CallLaws.{RootWaits, RootsWait, CommitsRest, ComesAtRest, CallsComeAtRest}
-use Rattle.run_laws.proofs.LiveLemmas.{none_live}
+use Rattle.node_rules.proofs.LiveLemmas.{none_live}
 use Rattle.run_laws.proofs.RootLemmas.{SessionsFit, started_fits, sessions_on, root_alone}
 use Rattle.run_laws.proofs.RestLemmas.{Before, NodeRoots, branch_root, free_waits}
 use Rattle.run_laws.proofs.RestStepLemmas.{roots_on, commit_call_so, commit_or_not}

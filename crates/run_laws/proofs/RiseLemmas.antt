@@ -15,7 +15,7 @@ use Rattle.run_laws.specs.Facts.{Facts, first_facts, facts_after}
 use Rattle.run_laws.specs.Branches.{no_trail}
 use Rattle.run_laws.specs.NodeLaws.{IsLater}
 use Rattle.run_laws.specs.RiseLaws.{EachRecordFrom, ScnsRise}
-use Rattle.run_laws.proofs.StepLemmas.{made_so}
+use Rattle.node_rules.proofs.StepLemmas.{made_so}
 use Rattle.run_laws.proofs.StoredLemmas.{StoresOf, step_stores_of, start_stores}
 use Rattle.run_laws.proofs.ClockLemmas.{Covers, covers}
 use Rattle.run_laws.proofs.LawfulLemmas.{lawful_keeps}
