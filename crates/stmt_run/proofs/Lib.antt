@@ -2,3 +2,4 @@ mod Examined
 mod Free
 mod Lengths
 mod Doubts
+mod StoreLaws

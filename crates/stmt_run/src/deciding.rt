@@ -62,9 +62,9 @@ fn ran_seeing(
     sight: Sight,
 ) -> Result<Ran, AllocError>
     requires cells { cells ≡ new_cells statement.now table.now }
-    requires in_doubt { sight.entry.in_doubt ≡ first_some (map (doubt_on site.now.locks.now table.now.name) (examined statement.now table.now site.now.view (keys_held site.now.locks.now table.now.name))) }
-    requires written { written_of statement.now table.now sight.entry.rows.items ≡ written_of statement.now table.now site.now.view }
-    requires meant { meant_over_of statement.now table.now sight.entry.rows.items ≡ meant_over_of statement.now table.now site.now.view }
+    requires in_doubt { sight.in_doubt ≡ first_some (map (doubt_on site.now.locks.now table.now.name) (examined statement.now table.now site.now.view (keys_held site.now.locks.now table.now.name))) }
+    requires written { written_of statement.now table.now sight.rows.items ≡ written_of statement.now table.now site.now.view }
+    requires meant { meant_over_of statement.now table.now sight.rows.items ≡ meant_over_of statement.now table.now site.now.view }
     ensures ran { IfOk result (λ ran. ran ≡ ran_checked (ground_of site.now) statement.now table.now None) }
     ensures room { IfOk result (HasRoom site.now.own.now) }
 {

@@ -7,6 +7,7 @@
 
 mod deciding;
 mod holders;
+pub mod laws;
 mod ran;
 mod refusal;
 mod running;
