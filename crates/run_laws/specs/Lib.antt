@@ -41,3 +41,4 @@ pub mod TowardLaws
 pub mod RowSayLaws
 pub mod VoteLaws
 pub mod InTurnLaws
+pub mod FreezeLaws

@@ -21,6 +21,7 @@ ghost use Rattle.run_laws.specs.VoteLaws.{VotesAreOfSealed, LiveHaveNotVoted};
 ghost use Rattle.run_laws.specs.PhaseLaws.{PhasesFit};
 ghost use Rattle.run_laws.specs.CallLaws.{RootsAreOfSessions, CallsFitEdges, RootsWait, CallsComeAtRest, CommitsRest};
 ghost use Rattle.run_laws.specs.InTurnLaws.{CallsAreAnswered, BranchesCallInTurn, EdgesFit};
+ghost use Rattle.run_laws.specs.FreezeLaws.{AskedHaveAnswered, AskedStandStill, PrepareFindsRest};
 ghost use Rattle.run_laws.specs.BirthLaws.{NoIdBeginsTwice, BirthsAreTrees, NodesNameTheBorn, RecordsNameTheBorn, MessagesAreOfNeighbors, BornAreLiveOrLeft};
 
 /// The book that the facts keep is the book of the trace.
@@ -263,4 +264,19 @@ pub fn branches_call_in_turn()
 /// roll back.
 pub fn edges_fit()
     ensures { EdgesFit }
+{}
+
+/// A branch asks a child to prepare once the child answered each of its calls, and calls it no more.
+pub fn asked_have_answered()
+    ensures { AskedHaveAnswered }
+{}
+
+/// A working branch has asked no child. One whose COMMIT or Prepare came waits for nothing and has no call left to take.
+pub fn asked_stand_still()
+    ensures { AskedStandStill }
+{}
+
+/// Prepare comes from the parent, and finds its receiver at rest: it waits for nothing and took the last of its parent's calls.
+pub fn prepare_finds_rest()
+    ensures { PrepareFindsRest }
 {}
