@@ -345,7 +345,7 @@ module _ (E : BranchId → Option ℕ) (A : BranchId → Option BranchId) (G Her
       abbrev over_edge : Stmt → ℕ → ℕ → Going
       over_edge s given i = record { statement = s; room = given; waits = waiting.ForReply i }
 
-      abbrev exec_kind : List Session → Branch → ℕ → Stmt → ℕ → Kind
+      abbrev pub exec_kind : List Session → Branch → ℕ → Stmt → ℕ → Kind
       exec_kind ss x i s given = kinds.Exec (next_call x.work i) (room x.live given) (advice_of ss x.live) s
 
       -- a call over an edge, whose child answered the last

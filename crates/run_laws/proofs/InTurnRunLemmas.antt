@@ -1,11 +1,11 @@
 -- In every lawful run calls between live branches and their children go in turn.
-use Rattle.std.proofs.Common.{◌≡◌, ◌≢◌, ℕ, zero, suc, ◌+◌, ◌<◌, ◌≤◌, Bool, true, false, List, [], ◌∷◌, ◌++◌, map, option_map, Option, Some, None, inl, inr, refl, sym, ap, subst, ◌∙◌, arith, append-nil}
+use Rattle.std.proofs.Common.{◌≡◌, ◌≢◌, ℕ, ◌+◌, ◌<◌, ◌≤◌, Bool, true, false, List, [], ◌∷◌, ◌++◌, map, Option, Some, None, inl, inr, refl, sym, ap, subst, ◌∙◌, arith, append-nil}
 use Rattle.std.specs.Prelude.{IfSome, nat_lt}
 use Rattle.std.proofs.lemmas.Bool.Decides.{nat_tests}
 use Rattle.tran_ids.proofs.ListedLemmas.{item_is}
 use Rattle.tran_ids.proofs.NumberedLemmas.{set_or_before}
 use Rattle.session_tree.specs.Live.{children_of}
-use Rattle.node_rules.specs.Data.{BranchId, Edge, Kind, Live, Msg, Post, Place, Input, RedoRecord}
+use Rattle.node_rules.specs.Data.{BranchId, Kind, Live, Msg, Post, Place, Input, RedoRecord}
 use Rattle.node_rules.specs.Data.inputs
 use Rattle.node_rules.specs.Data.kinds
 use Rattle.node_rules.specs.declared.work.Work.{Work}
@@ -23,7 +23,7 @@ use Rattle.run_laws.specs.Facts.{Facts, first_facts, place_at, flat, node_at, ke
 use Rattle.run_laws.specs.Lawful.{IsPlace, MayTurn, MayHappen, Comes, IsOwed, IsLawful, History, IsLawfulRun, facts_at}
 use Rattle.run_laws.specs.RunEvents.{events_after}
 use Rattle.run_laws.specs.Births.{Born, births_after, births_of, born_at}
-use Rattle.run_laws.specs.BirthLaws.{Began, IsChild, IsChildAt, ChildrenAre, LiveIs, NamesAre, GoesSo}
+use Rattle.run_laws.specs.BirthLaws.{Began, LiveIs, NamesAre, GoesSo}
 use Rattle.run_laws.specs.InTurnLaws.{post_of, said_in, exec_number, reply_number, newest_exec, newest_reply, call_at, GoesOn, CallsAreAnswered, BranchesCallInTurn, EdgesFit}
 use Rattle.run_laws.proofs.ListLemmas.{all_weaker}
 use Rattle.run_laws.proofs.OwnLemmas.{Own, all_found}
@@ -43,6 +43,7 @@ use Rattle.run_laws.proofs.CodeLemmas.{AllNeed, codes_on}
 use Rattle.run_laws.proofs.CallTurnLemmas.{Silent, Answered, InTurn, stays_in_turn, in_turn_goes}
 use Rattle.run_laws.proofs.InTurnLemmas as turns
 use Rattle.run_laws.proofs.InTurnLemmas.{peer}
+use Rattle.run_laws.proofs.KidLemmas.{edge_of, parent_in, parent_of, child_edge, child_parent, kids_of, above_of, child_of}
 use Rattle.run_laws.proofs.InTurnStepLemmas.{NewBorn, Granted, turns_on}
 use Rattle.run_laws.proofs.SaidPostLemmas.{posts_back, posts_of, said_after, execs_are_low, replies_are_low, unborn_silent}
 
@@ -60,48 +61,9 @@ pub record CallsStand (f : Facts) : Type 0 where
   pub all : Answered (said_in f)
   pub nodes : (n : ℕ) → IfSome (node_at f n) (NodeCalls (said_in f))
 
--- ---- the tree
-
--- the number of a branch's edge, and its parent, as it began
-abbrev edge_of : List Born → BranchId → Option ℕ
-edge_of bs b = option_map (λ x. x.edge) (born_at bs b)
-
-abbrev parent_in : Option Born → Option BranchId
-parent_in None = None
-parent_in (Some x) = x.parent
-
-abbrev parent_of : List Born → BranchId → Option BranchId
-parent_of bs b = parent_in (born_at bs b)
-
-module _ (bs : List Born) where
-  child_edge : (c p : BranchId) (i : ℕ) → IsChildAt (Began bs) c p i → edge_of bs c ≡ Some i
-  child_edge c p i is = let at : born_at bs c ≡ Some is.0 = subst (λ b. born_at bs b ≡ Some is.0) is.2 is.1 in ap (option_map (λ x. x.edge)) at ∙ ap Some is.4
-
-  child_parent : (c p : BranchId) → IsChild (Began bs) c p → parent_of bs c ≡ Some p
-  child_parent c p is = let at : born_at bs c ≡ Some is.0 = subst (λ b. born_at bs b ≡ Some is.0) is.2 is.1 in ap parent_in at ∙ is.3
-
-  peers_at : (me : BranchId) (from : ℕ) (es : List Edge) (j : ℕ) (c : BranchId) → ChildrenAre (Began bs) me from es → numbered (map peer es) (suc j) ≡ Some c → IsChildAt (Began bs) c me (from + j)
-  peers_at me from [] j c all at = absurd cc
-  peers_at me from (e ∷ es) zero c all at = let it : Some e.peer ≡ Some c = at in let here : e.peer ≡ c = cc in let number : from ≡ from + 0 = omega arith in subst (IsChildAt (Began bs) c me) number (subst (λ b. IsChildAt (Began bs) b me from) here all.0)
-  peers_at me from (e ∷ es) (suc j) c all at = let number : (from + 1) + j ≡ from + suc j = omega arith in subst (IsChildAt (Began bs) c me) number (peers_at me (from + 1) es j c all.1 at)
-
-  kids_of : (l : Live) → LiveIs (Began bs) l → (i : ℕ) (c : BranchId) → numbered (children_of l) i ≡ Some c → edge_of bs c ≡ Some i
-  kids_of l is zero c at = absurd cc
-  kids_of l is (suc j) c at = let number : 1 + j ≡ suc j = omega arith in subst (λ n. edge_of bs c ≡ Some n) number (child_edge c l.me (1 + j) (peers_at l.me 1 l.edges j c is.children at))
-
-  above_of : (l : Live) → LiveIs (Began bs) l → (p : BranchId) → parent_of bs l.me ≡ Some p → l.parent ≡ Some p
-  above_of l is p at =
-      let here : born_at bs l.me ≡ Some is.born = subst (λ b. born_at bs b ≡ Some is.born) is.is_me is.began in
-      let parent : parent_of bs l.me ≡ is.born.parent = ap parent_in here in
-      sym is.is_parent ∙ (sym parent ∙ at)
-
-  child_of : (l : Live) → LiveIs (Began bs) l → (i : ℕ) (c : BranchId) → numbered (children_of l) i ≡ Some c → parent_of bs c ≡ Some l.me
-  child_of l is zero c at = absurd cc
-  child_of l is (suc j) c at = let one : IsChildAt (Began bs) c l.me (1 + j) = peers_at l.me 1 l.edges j c is.children at in child_parent c l.me (one.0, one.1, one.2, one.3)
-
 -- ---- a node that hears
 
-heard_calls : (P : Live → Work → Type 0) (k : Kept) (input : Input) → EachLive P k.lives k.works → EachLive P (heard k input).lives (heard k input).works
+pub heard_calls : (P : Live → Work → Type 0) (k : Kept) (input : Input) → EachLive P k.lives k.works → EachLive P (heard k input).lives (heard k input).works
 heard_calls P k (inputs.Message m) now = now
 heard_calls P k (inputs.Call n s) now = now
 heard_calls P k (inputs.GiveUp n) now = now
@@ -120,14 +82,14 @@ message_here node m from to scn kind here is =
     let one : m ≡ record { from = from; to = to; scn = scn; kind = kind } = cc in
     subst (λ (x : Msg). x.to.node ≡ node) one here
 
-came_here : (f : Facts) (k : Kept) (node : ℕ) (input : Input) (took : Option Took) → Comes f k node input took → (from to : BranchId) (kind : Kind) → Came input from to kind → to.node ≡ node
+pub came_here : (f : Facts) (k : Kept) (node : ℕ) (input : Input) (took : Option Took) → Comes f k node input took → (from to : BranchId) (kind : Kind) → Came input from to kind → to.node ≡ node
 came_here f k node (inputs.Message m) (Some x) comes from to kind came = message_here node m from to came.scn kind comes.1.here came.is
 came_here f k node (inputs.Message m) None comes from to kind came = absurd comes
 came_here f k node (inputs.Call session statement) took comes from to kind came = absurd (cc (came.is))
 came_here f k node (inputs.GiveUp session) took comes from to kind came = absurd (cc (came.is))
 came_here f k node inputs.Reco took comes from to kind came = absurd (cc (came.is))
 
-each_both : (P Q : Live → Work → Type 0) (ls : List Live) (ws : List Work) → EachLive P ls ws → EachLive Q ls ws → EachLive (λ l w. P l w × Q l w) ls ws
+pub each_both : (P Q : Live → Work → Type 0) (ls : List Live) (ws : List Work) → EachLive P ls ws → EachLive Q ls ws → EachLive (λ l w. P l w × Q l w) ls ws
 each_both P Q ls ws one other = record { there = one.there; each = λ b l found. (one.each b l found, other.each b l found) }
 
 -- messages of others leave a node's branches in turn
@@ -155,33 +117,33 @@ module _ (places : List Place) (asked : List Command) (each : (n : ℕ) (p : Pla
       abbrev said : List Post
       said = said_in f
 
-      number : p.number ≡ n
+      pub number : p.number ≡ n
       number = number_is places asked each f u.node k stand.0.1.many may.up
 
-      abbrev Here : BranchId → Type 0
+      abbrev pub Here : BranchId → Type 0
       Here b = b.node ≡ p.number
 
       -- a root that stays, and needs no rollback
-      abbrev May : BranchId → Type 0
+      abbrev pub May : BranchId → Type 0
       May b = (l : Live) × (item_at live_id d.after.lives b ≡ Some l) × (l.parent ≡ None) × ((session_at d.after.sessions b.session).code ≡ None)
 
-      rests : NodeRests k
+      pub rests : NodeRests k
       rests = subst (λ o. IfSome o NodeRests) may.up (roots n)
 
       rests_after : NodeRests d.after
       unfolding turn_of
       rests_after = turned places asked each f t bs stand roots u k may
 
-      step : Step p u.input (heard k u.input) d
+      pub step : Step p u.input (heard k u.input) d
       step = (serves places f u k may).step
 
       codes : AllNeed k.sessions d.after.sessions
       codes = subst (λ ss. AllNeed ss d.after.sessions) (heard_sessions k u.input) (codes_on p u.input step)
 
-      names : NamesAre (Began bs) k
+      pub names : NamesAre (Began bs) k
       names = subst (λ o. IfSome o (NamesAre (Began bs))) may.up (stand.1.lives n)
 
-      own : Own p.number k
+      pub own : Own p.number k
       own = (owned_so places asked each f t stand.0 n k may.up).1
 
       -- a root that may go on after the turn needed no rollback before it
@@ -194,7 +156,7 @@ module _ (places : List Place) (asked : List Command) (each : (n : ℕ) (p : Pla
           = subst (λ c. (session_at d.after.sessions c.session).root ≡ Some c) me (live_root d.after rests_after.1 l.me may_go.0 may_go.1 may_go.2).root in
           codes l.me.session l.me before after may_go.3
 
-      begun : EachLive (turns.Begun (edge_of bs) (parent_of bs) May Here u.input said) (heard k u.input).lives (heard k u.input).works
+      pub begun : EachLive (turns.Begun (edge_of bs) (parent_of bs) May Here u.input said) (heard k u.input).lives (heard k u.input).works
       begun =
           heard_calls (turns.Begun (edge_of bs) (parent_of bs) May Here u.input said) k u.input
           (each_same (λ l w. CallsOf said k l w × RootIs k.sessions l w) (turns.Begun (edge_of bs) (parent_of bs) May Here u.input said) k.lives k.works
@@ -208,7 +170,7 @@ module _ (places : List Place) (asked : List Command) (each : (n : ℕ) (p : Pla
             here = all_found (λ l. Here l.me) live_id k.lives y.me y own.0 live;
           }))
 
-      received : turns.Received (edge_of bs) (parent_of bs) May Here u.input said
+      pub received : turns.Received (edge_of bs) (parent_of bs) May Here u.input said
       received = record {
         exec = λ from to call given advice s came. (
           child_parent bs to from (came_so (GoesSo (Began bs)) f stand.1.said k u.node u.input u.took may.comes from to (kinds.Exec call given advice s) came),
@@ -220,16 +182,16 @@ module _ (places : List Place) (asked : List Command) (each : (n : ℕ) (p : Pla
         all = now.all;
       }
 
-      news : News (NewBorn (edge_of bs) (parent_of bs) May Here u.input said received) p u.input (heard k u.input)
+      pub news : News (NewBorn (edge_of bs) (parent_of bs) May Here u.input said received) p u.input (heard k u.input)
       news =
           news_of (NewBorn (edge_of bs) (parent_of bs) May Here u.input said received) p k u.input
           (all_weaker (λ y. born_at bs y.me ≡ None) _ (λ y none. (unborn_silent bs stand.1.trees y.me none f.net.packets stand.1.said, ap parent_in none)) _
           (all_unborn places asked each f t bs u k stand.0.1 stand.0.0.even (node_so places asked each f t stand.0) (owned_so places asked each f t stand.0) may number stand.1))
 
-      granted : Granted (edge_of bs) (parent_of bs) May Here u.input said received d
+      pub granted : Granted (edge_of bs) (parent_of bs) May Here u.input said received d
       granted = record { grants = λ b l found none code. (l, found, none, code); sees = λ b goes. goes.3 }
 
-      left : turns.Leaves (edge_of bs) (parent_of bs) May Here u.input said d
+      pub left : turns.Leaves (edge_of bs) (parent_of bs) May Here u.input said d
       left = turns_on (edge_of bs) (parent_of bs) May Here u.input said received p (λ b is. is) step granted (heard_rests k u.input rests).0 news begun
 
       after : NodeCalls (said ++ d.says) d.after
@@ -237,21 +199,22 @@ module _ (places : List Place) (asked : List Command) (each : (n : ℕ) (p : Pla
           each_same (turns.Done (edge_of bs) (parent_of bs) May Here u.input said d.says) (CallsOf (said ++ d.says) d.after) d.after.lives d.after.works left.0
           (λ y v live any is. in_turn_goes (y.parent ≡ None → May y.me) (GoesOn d.after y) (said ++ d.says) y.me y.parent (children_of y) v (λ goes none. (y, live, none, goes none)) is)
 
-      here_after : node_at g n ≡ kept_after u.cut (Some (turn_of p k u.input))
+      pub here_after : node_at g n ≡ kept_after u.cut (Some (turn_of p k u.input))
       here_after = (turn_here places asked f stand.0.0.even u k may.up).0
+
+      -- a branch of another node is not here
+      pub elsewhere_is : (m : ℕ) (j : Kept) → node_at f m ≡ Some j → (b : BranchId) (l : Live) → live_at j b ≡ Some l → Here l.me → m ≡ n
+      elsewhere_is m j up b l live here =
+          let there : l.me.node ≡ (place_at places m).number = all_found (λ x. x.me.node ≡ (place_at places m).number) live_id j.lives b l (owned_so places asked each f t stand.0 m j up).1.0 live in
+          let its : (place_at places m).number ≡ m = number_is places asked each f m j stand.0.1.many up in
+          sym its ∙ (sym there ∙ (here ∙ number))
 
       other_node : (m : ℕ) → m ≢ n → IfSome (node_at g m) (NodeCalls (said ++ d.says))
       other_node m other = subst (λ o. IfSome o (NodeCalls (said ++ d.says))) (sym (turn_elsewhere places asked f stand.0.0.even u m (λ e. other (sym e))).0) (by (node_at f m) refl (now.nodes m))
         where
           by : (o : Option Kept) → node_at f m ≡ o → IfSome o (NodeCalls said) → IfSome o (NodeCalls (said ++ d.says))
           by None up old = tt
-          by (Some j) up old = calls_stay said d.says j (λ b l live. left.1.1 l.me (λ here. other (elsewhere b l live here))) old
-            where
-              elsewhere : (b : BranchId) (l : Live) → live_at j b ≡ Some l → Here l.me → m ≡ n
-              elsewhere b l live here =
-                  let there : l.me.node ≡ (place_at places m).number = all_found (λ x. x.me.node ≡ (place_at places m).number) live_id j.lives b l (owned_so places asked each f t stand.0 m j up).1.0 live in
-                  let its : (place_at places m).number ≡ m = number_is places asked each f m j stand.0.1.many up in
-                  sym its ∙ (sym there ∙ (here ∙ number))
+          by (Some j) up old = calls_stay said d.says j (λ b l live. left.1.1 l.me (λ here. other (elsewhere_is m j up b l live here))) old
 
       same_node : (m : ℕ) → m ≢ n → IfSome (node_at g m) (NodeCalls said)
       same_node m other = subst (λ o. IfSome o (NodeCalls said)) (sym (turn_elsewhere places asked f stand.0.0.even u m (λ e. other (sym e))).0) (now.nodes m)
@@ -309,19 +272,19 @@ module _ (places : List Place) (asked : List Command) (each : (n : ℕ) (p : Pla
     still_nodes : (h : Happening) → (facts_after places asked f h).nodes ≡ f.nodes → (i : ℕ) → IfSome (node_at (facts_after places asked f h) i) (NodeCalls (said_in f))
     still_nodes h is i = subst (λ (xs : List (Option Kept)). IfSome (flat (numbered xs i)) (NodeCalls (said_in f))) (sym is) (now.nodes i)
 
-    same_begun : (c : ℕ) → (facts_after places asked f (happenings.Begun c)).nodes ≡ f.nodes
+    pub same_begun : (c : ℕ) → (facts_after places asked f (happenings.Begun c)).nodes ≡ f.nodes
     unfolding facts_after
     same_begun c = refl
 
-    same_cut : (a b : ℕ) → (facts_after places asked f (happenings.Cut a b)).nodes ≡ f.nodes
+    pub same_cut : (a b : ℕ) → (facts_after places asked f (happenings.Cut a b)).nodes ≡ f.nodes
     unfolding facts_after
     same_cut a b = refl
 
-    same_join : (a b : ℕ) → (facts_after places asked f (happenings.Join a b)).nodes ≡ f.nodes
+    pub same_join : (a b : ℕ) → (facts_after places asked f (happenings.Join a b)).nodes ≡ f.nodes
     unfolding facts_after
     same_join a b = refl
 
-    same_lost : (k : ℕ) → (facts_after places asked f (happenings.Lost k)).nodes ≡ f.nodes
+    pub same_lost : (k : ℕ) → (facts_after places asked f (happenings.Lost k)).nodes ≡ f.nodes
     unfolding facts_after
     same_lost k = refl
 
@@ -340,7 +303,7 @@ module _ (places : List Place) (asked : List Command) (each : (n : ℕ) (p : Pla
   unfolding start_of
   made_calls = none_live _
 
-  first_calls : CallsStand (first_facts places)
+  pub first_calls : CallsStand (first_facts places)
   first_calls = record { all = λ a b. omega arith; nodes = λ n. first_node (λ o. IfSome o (NodeCalls [])) tt made_calls places n }
 
   calls_keep : (f : Facts) (hs : List Happening) (t : List Event) (bs : List Born) → StandBorn places asked each f t bs → RootsStand places asked each f → CallsStand f → IsLawful places asked f hs → CallsStand (facts_of places asked f hs)
@@ -360,7 +323,7 @@ pub calls_are_answered : CallsAreAnswered
 calls_are_answered t lawful = (run_calls t lawful).all
 
 -- the calls of a branch that is found
-branch_calls : (t : History) → IsLawfulRun t → (n : ℕ) (k : Kept) → node_at (facts_at t) n ≡ Some k → (x : Branch) → branch_at k x.live.me ≡ Some x → CallsOf (said_in (facts_at t)) k x.live x.work
+pub branch_calls : (t : History) → IsLawfulRun t → (n : ℕ) (k : Kept) → node_at (facts_at t) n ≡ Some k → (x : Branch) → branch_at k x.live.me ≡ Some x → CallsOf (said_in (facts_at t)) k x.live x.work
 branch_calls t lawful n k up x found =
     let now : NodeCalls (said_in (facts_at t)) k = subst (λ o. IfSome o (NodeCalls (said_in (facts_at t)))) up ((run_calls t lawful).nodes n) in
     let parts = branch_parts k x.live.me x found in

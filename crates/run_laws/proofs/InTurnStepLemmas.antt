@@ -55,10 +55,10 @@ unfolding stand_of
 gone_none k b gone = gone_by k b (live_at k b) refl gone
 
 -- the Reply of a gone branch, and a Reply once more
-abbrev refused_kind : ℕ → Kind
+abbrev pub refused_kind : ℕ → Kind
 refused_kind call = kinds.Reply call None 1 (answers.Refused (dtx 8 []))
 
-abbrev again_kind : Branch → ReplyFields → Kind
+abbrev pub again_kind : Branch → ReplyFields → Kind
 again_kind x t = kinds.Reply x.work.came.last_call t.weight t.count t.result
 
 -- one that answered waits for nothing
@@ -228,7 +228,7 @@ module _ (E : BranchId → Option ℕ) (A : BranchId → Option BranchId) (G Her
       let parent : x.live.parent ≡ Some from = was.above from (received.exec from x.live.me call given advice s came).0 in
       absurd (cc (parent, none))
 
-  asked_mine : (k : Kept) {x : Branch} {s : Stmt} {given : ℕ} → Asked k input x s given → x.work.branch ≡ x.live.me
+  pub asked_mine : (k : Kept) {x : Branch} {s : Stmt} {given : ℕ} → Asked k input x s given → x.work.branch ≡ x.live.me
   asked_mine k (steps.By_call n x s call rows has code live) = work_is k x.live.me x live
   asked_mine k (steps.By_exec x from call given advice s came live runs) = work_is k x.live.me x live
 
@@ -239,7 +239,7 @@ module _ (E : BranchId → Option ℕ) (A : BranchId → Option BranchId) (G Her
   asked_here k now (steps.By_call n x s call rows has code live) = branch_here k now x live
   asked_here k now (steps.By_exec x from call given advice s came live runs) = branch_here k now x live
 
-  begins_so : (k : Kept) → Nodes k → (l : Live) → l.edges ≡ [] → Here l.me → turns.IsNew E A G Here input said l.me → EachLive Begun (k.lives ++ l ∷ []) k.works
+  pub begins_so : (k : Kept) → Nodes k → (l : Live) → l.edges ≡ [] → Here l.me → turns.IsNew E A G Here input said l.me → EachLive Begun (k.lives ++ l ∷ []) k.works
   begins_so k now l edges here new =
       each_begun Begun Begun k.lives k.works now l (record {
         turn = turns.begun_fresh E A G Here input said l (no_work l.me) edges refl refl refl refl new.0;

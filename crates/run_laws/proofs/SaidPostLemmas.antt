@@ -1,7 +1,7 @@
 -- All messages of a run so far, after each happening: those before it, and those that it sends.
-use Rattle.std.proofs.Common.{◌≡◌, ℕ, ◌≤◌, ◌&&◌, Bool, true, false, if◌then◌else◌, List, [], ◌∷◌, ◌++◌, map, max, Option, Some, None, refl, sym, ap, subst, ◌∙◌, arith, append-nil}
+use Rattle.std.proofs.Common.{◌≡◌, ℕ, ◌≤◌, ◌&&◌, ◌||◌, Bool, true, false, if◌then◌else◌, List, [], ◌∷◌, ◌++◌, map, max, Option, Some, None, refl, sym, ap, subst, ◌∙◌, arith, append-nil}
 use Rattle.std.proofs.lemmas.List.{map-append, append_assoc}
-use Rattle.std.proofs.lemmas.Bool.{cond_both}
+use Rattle.std.proofs.lemmas.Bool.{cond_both, or_right}
 use Rattle.std.specs.List.{AllByRecursion}
 use Rattle.tran_ids.proofs.BranchLemmas.{equal_from_same, same_from_equal}
 use Rattle.node_rules.specs.Data.{BranchId, Kind, Msg, Post, Place}
@@ -16,10 +16,13 @@ use Rattle.run_laws.specs.Data.commands
 use Rattle.run_laws.specs.Facts.{Facts, taken, ordered, facts_after}
 use Rattle.run_laws.specs.Births.{Born, born_id, born_at}
 use Rattle.run_laws.specs.BirthLaws.{Began, IsChild, StandsBelow, GoesSo}
+use Rattle.run_laws.specs.Trail.{is_prepare}
+use Rattle.run_laws.specs.FreezeLaws.{was_asked}
 use Rattle.run_laws.specs.InTurnLaws.{post_of, packet_post, said_in, exec_number, reply_number, newest, newest_exec, newest_reply}
 use Rattle.run_laws.proofs.ListLemmas.{all_weaker, map_after}
 use Rattle.run_laws.proofs.OwnLemmas.{all_found}
 use Rattle.run_laws.proofs.CallTurnLemmas.{Silent}
+use Rattle.run_laws.proofs.KidLemmas.{parent_of, child_parent}
 use Rattle.run_laws.proofs.InTurnLemmas.{map_set}
 
 -- what a deed says is what its turn sends
@@ -123,6 +126,23 @@ execs_are_low f = each_is_low (λ x m. same m.from x.msg.from && same m.to x.msg
 pub replies_are_low : (f : Facts) → AllByRecursion (λ x. reply_number x.msg.kind ≤ newest_reply (said_in f) x.msg.from) f.net.packets
 replies_are_low f = each_is_low (λ x m. same m.from x.msg.from) reply_number (λ x. same_from_equal x.msg.from x.msg.from refl) f.net.packets
 
+-- a Prepare that was sent asks its receiver
+asked_first : (p q r rest : Bool) → p ≡ true → q ≡ true → r ≡ true → (((p && q) && r) || rest) ≡ true
+asked_first true true true rest one two three = refl
+asked_first true true false rest one two three = absurd cc
+asked_first true false r rest one two three = absurd cc
+asked_first false q r rest one two three = absurd cc
+
+prepares_from : (xs : List Packet) → AllByRecursion (λ x. is_prepare x.msg.kind ≡ true → was_asked (map packet_post xs) x.msg.from x.msg.to ≡ true) xs
+prepares_from [] = tt
+prepares_from (x ∷ xs) = (
+  (λ is. asked_first (same x.msg.from x.msg.from) (same x.msg.to x.msg.to) (is_prepare x.msg.kind) (was_asked (map packet_post xs) x.msg.from x.msg.to) (same_from_equal x.msg.from x.msg.from refl) (same_from_equal x.msg.to x.msg.to refl) is),
+  all_weaker _ _ (λ y old is. or_right ((same x.msg.from y.msg.from && same x.msg.to y.msg.to) && is_prepare x.msg.kind) (was_asked (map packet_post xs) y.msg.from y.msg.to) (old is)) xs (prepares_from xs),
+)
+
+pub prepares_are_said : (f : Facts) → AllByRecursion (λ x. is_prepare x.msg.kind ≡ true → was_asked (said_in f) x.msg.from x.msg.to ≡ true) f.net.packets
+prepares_are_said f = prepares_from f.net.packets
+
 -- ---- a branch that has not begun said nothing
 
 zero_more : (q : Bool) (first rest : ℕ) → (q ≡ true → first ≡ 0) → rest ≡ 0 → (if q then max first rest else rest) ≡ 0
@@ -164,5 +184,31 @@ module _ (bs : List Born) (trees : AllByRecursion (λ x. StandsBelow (Began bs) 
       zero_more (same x.msg.from b) (reply_number x.msg.kind) (newest_reply (map packet_post xs) b)
       (λ is. no_reply x.msg.to x.msg.kind (subst (λ a. GoesSo (Began bs) a x.msg.to x.msg.kind) (equal_from_same x.msg.from b is) all.0)) (unborn_replies xs all.1)
 
+  no_prepare : (to : BranchId) (kind : Kind) → GoesSo (Began bs) b to kind → is_prepare kind ≡ false
+  no_prepare to (kinds.Prepare site_below comment) goes = absurd (no_child_of to goes)
+  no_prepare to _ goes = refl
+
+  pub unborn_asks : (c : BranchId) (xs : List Packet) → AllByRecursion (λ x. GoesSo (Began bs) x.msg.from x.msg.to x.msg.kind) xs → was_asked (map packet_post xs) b c ≡ false
+  unborn_asks c [] all = refl
+  unborn_asks c (x ∷ xs) all = none (same x.msg.from b) (same x.msg.to c) (is_prepare x.msg.kind) refl (λ is. no_prepare x.msg.to x.msg.kind (subst (λ a. GoesSo (Began bs) a x.msg.to x.msg.kind) (equal_from_same x.msg.from b is) all.0)) (unborn_asks c xs all.1)
+    where
+      none : (p q r : Bool) → same x.msg.from b ≡ p → (same x.msg.from b ≡ true → r ≡ false) → was_asked (map packet_post xs) b c ≡ false → (((p && q) && r) || was_asked (map packet_post xs) b c) ≡ false
+      none true true r is never rest = ap (λ z. z || was_asked (map packet_post xs) b c) (never is) ∙ rest
+      none true false r is never rest = rest
+      none false q r is never rest = rest
+
   pub unborn_silent : (xs : List Packet) → AllByRecursion (λ x. GoesSo (Began bs) x.msg.from x.msg.to x.msg.kind) xs → Silent b (map packet_post xs)
   unborn_silent xs all = record { calls = λ c. unborn_execs c xs all; replies = unborn_replies xs all }
+
+-- who was asked is a child of the one that asked
+pub asked_in : (bs : List Born) (p c : BranchId) (xs : List Packet) → AllByRecursion (λ x. GoesSo (Began bs) x.msg.from x.msg.to x.msg.kind) xs → was_asked (map packet_post xs) p c ≡ true → parent_of bs c ≡ Some p
+asked_in bs p c [] all is = absurd cc
+asked_in bs p c (x ∷ xs) all is = by (same x.msg.from p) (same x.msg.to c) refl refl x.msg.kind all.0 is (λ later. asked_in bs p c xs all.1 later)
+  where
+    by : (q r : Bool) → same x.msg.from p ≡ q → same x.msg.to c ≡ r → (kind : Kind) → GoesSo (Began bs) x.msg.from x.msg.to kind → (((q && r) && is_prepare kind) || was_asked (map packet_post xs) p c) ≡ true
+        → (was_asked (map packet_post xs) p c ≡ true → parent_of bs c ≡ Some p) → parent_of bs c ≡ Some p
+    by true true from to (kinds.Prepare site_below comment) goes it rest =
+        subst (λ b. parent_of bs b ≡ Some p) (equal_from_same x.msg.to c to) (subst (λ a. parent_of bs x.msg.to ≡ Some a) (equal_from_same x.msg.from p from) (child_parent bs x.msg.to x.msg.from goes))
+    by true true from to _ goes it rest = rest it
+    by true false from to kind goes it rest = rest it
+    by false r from to kind goes it rest = rest it

@@ -25,6 +25,7 @@ ghost use Rattle.run_laws.specs.ChangedLaws.{ChangesAreOfLive};
 ghost use Rattle.run_laws.specs.TableLaws.{ChangesAreOfTables};
 ghost use Rattle.run_laws.specs.KeyLaws.{KeysAreHeld};
 ghost use Rattle.run_laws.specs.RiseLaws.{ScnsRise, RecordsChangeFreeKeys};
+ghost use Rattle.run_laws.specs.FreezeLaws.{AskedHaveAnswered, AskedStandStill, PrepareFindsRest};
 ghost use Rattle.run_laws.specs.BirthLaws.{NoIdBeginsTwice, BirthsAreTrees, NodesNameTheBorn, RecordsNameTheBorn, MessagesAreOfNeighbors, BornAreLiveOrLeft};
 
 /// The book that the facts keep is the book of the trace.
@@ -296,4 +297,17 @@ pub fn scns_rise()
 /// On each disk a seal or a decision changes no key of a branch that is in doubt by the records before it.
 pub fn records_change_free_keys()
     ensures { RecordsChangeFreeKeys }
+/// A branch asks a child to prepare once the child answered each of its calls, and calls it no more.
+pub fn asked_have_answered()
+    ensures { AskedHaveAnswered }
+{}
+
+/// A working branch has asked no child. One whose COMMIT or Prepare came waits for nothing and has no call left to take.
+pub fn asked_stand_still()
+    ensures { AskedStandStill }
+{}
+
+/// Prepare comes from the parent, and finds its receiver at rest: it waits for nothing and took the last of its parent's calls.
+pub fn prepare_finds_rest()
+    ensures { PrepareFindsRest }
 {}
