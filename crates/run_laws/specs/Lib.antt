@@ -44,3 +44,4 @@ pub mod ChangedLaws
 pub mod TableLaws
 pub mod KeyLaws
 pub mod RiseLaws
+pub mod ToldLaws

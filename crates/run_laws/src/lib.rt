@@ -24,6 +24,7 @@ ghost use Rattle.run_laws.specs.ChangedLaws.{ChangesAreOfLive};
 ghost use Rattle.run_laws.specs.TableLaws.{ChangesAreOfTables};
 ghost use Rattle.run_laws.specs.KeyLaws.{KeysAreHeld};
 ghost use Rattle.run_laws.specs.RiseLaws.{ScnsRise, RecordsChangeFreeKeys};
+ghost use Rattle.run_laws.specs.ToldLaws.{RowsAreTold};
 ghost use Rattle.run_laws.specs.BirthLaws.{NoIdBeginsTwice, BirthsAreTrees, NodesNameTheBorn, RecordsNameTheBorn, MessagesAreOfNeighbors, BornAreLiveOrLeft};
 
 /// The book that the facts keep is the book of the trace.
@@ -273,4 +274,9 @@ pub fn scns_rise()
 /// On each disk a seal or a decision changes no key of a branch that is in doubt by the records before it.
 pub fn records_change_free_keys()
     ensures { RecordsChangeFreeKeys }
+{}
+
+/// The committed rows of each table of a node are those that the book tells, one entry after the other.
+pub fn rows_are_told()
+    ensures { RowsAreTold }
 {}
