@@ -45,3 +45,4 @@ pub mod TableLaws
 pub mod KeyLaws
 pub mod RiseLaws
 pub mod ToldLaws
+pub mod OrderLaws

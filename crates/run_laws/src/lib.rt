@@ -25,6 +25,7 @@ ghost use Rattle.run_laws.specs.TableLaws.{ChangesAreOfTables};
 ghost use Rattle.run_laws.specs.KeyLaws.{KeysAreHeld};
 ghost use Rattle.run_laws.specs.RiseLaws.{ScnsRise, RecordsChangeFreeKeys};
 ghost use Rattle.run_laws.specs.ToldLaws.{RowsAreTold};
+ghost use Rattle.run_laws.specs.OrderLaws.{KeysComeInOrder};
 ghost use Rattle.run_laws.specs.BirthLaws.{NoIdBeginsTwice, BirthsAreTrees, NodesNameTheBorn, RecordsNameTheBorn, MessagesAreOfNeighbors, BornAreLiveOrLeft};
 
 /// The book that the facts keep is the book of the trace.
@@ -279,4 +280,11 @@ pub fn records_change_free_keys()
 /// The committed rows of each table of a node are those that the book tells, one entry after the other.
 pub fn rows_are_told()
     ensures { RowsAreTold }
+{}
+
+/// On each disk, where a seal or a decision changes a key that a branch changed which was sealed before, that branch has been ended
+/// or forced by then. The SCN of a seal is not below any commit that the records before it decide or learn, and that of a decision
+/// is above them.
+pub fn keys_come_in_order()
+    ensures { KeysComeInOrder }
 {}
