@@ -46,3 +46,4 @@ pub mod KeyLaws
 pub mod RiseLaws
 pub mod ToldLaws
 pub mod OrderLaws
+pub mod CommitOrderLaws

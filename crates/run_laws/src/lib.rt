@@ -26,6 +26,7 @@ ghost use Rattle.run_laws.specs.KeyLaws.{KeysAreHeld};
 ghost use Rattle.run_laws.specs.RiseLaws.{ScnsRise, RecordsChangeFreeKeys};
 ghost use Rattle.run_laws.specs.ToldLaws.{RowsAreTold};
 ghost use Rattle.run_laws.specs.OrderLaws.{KeysComeInOrder};
+ghost use Rattle.run_laws.specs.CommitOrderLaws.{CommitsComeInOrder};
 ghost use Rattle.run_laws.specs.BirthLaws.{NoIdBeginsTwice, BirthsAreTrees, NodesNameTheBorn, RecordsNameTheBorn, MessagesAreOfNeighbors, BornAreLiveOrLeft};
 
 /// The book that the facts keep is the book of the trace.
@@ -287,4 +288,11 @@ pub fn rows_are_told()
 /// is above them.
 pub fn keys_come_in_order()
     ensures { KeysComeInOrder }
+{}
+
+/// Commit SCNs are in order at each key. Where the turns of a lawful run do what its session trees allow, and of two branches that
+/// changed one key at a node one left before the other and was never forced, its transaction has the lower SCN, if both are
+/// committed.
+pub fn commits_come_in_order()
+    ensures { CommitsComeInOrder }
 {}
