@@ -55,7 +55,7 @@ table_found P (u ∷ ts) name t all found = by (same_text u.name name) found (ta
 
 -- with one more table
 module _ (ts : List Table) (u : Table) where
-  table_more : (name : List ℕ) → table_in (ts ++ u ∷ []) name ≡ option_or (table_in ts name) (if same_text u.name name then Some u else None)
+  pub table_more : (name : List ℕ) → table_in (ts ++ u ∷ []) name ≡ option_or (table_in ts name) (if same_text u.name name then Some u else None)
   table_more name = find-append (λ t. same_text t.name name) ts (u ∷ [])
 
   table_stays : (name : List ℕ) (t : Table) → table_in ts name ≡ Some t → table_in (ts ++ u ∷ []) name ≡ Some t
@@ -70,7 +70,7 @@ module _ (ts : List Table) (u : Table) where
 -- ---- rows
 
 -- there are no rows where there is no table
-no_rows : (rows : List TableRows) (name : List ℕ) → has_table rows name ≡ false → rows_of_table rows name ≡ []
+pub no_rows : (rows : List TableRows) (name : List ℕ) → has_table rows name ≡ false → rows_of_table rows name ≡ []
 no_rows [] name none = refl
 no_rows (x ∷ xs) name none = by (same_text x.table name) none (no_rows xs name)
   where
@@ -96,7 +96,7 @@ has_more (x ∷ xs) table name none other = by (same_text x.table name) none (λ
     by false none later = later none
 
 -- changes leave the tables
-has_applied : (rows : List TableRows) (cs : List Change) (name : List ℕ) → has_table (apply_all rows cs) name ≡ has_table rows name
+pub has_applied : (rows : List TableRows) (cs : List Change) (name : List ℕ) → has_table (apply_all rows cs) name ≡ has_table rows name
 has_applied [] cs name = refl
 has_applied (x ∷ xs) cs name = ap (λ h. same_text x.table name || h) (has_applied xs cs name)
 

@@ -37,7 +37,7 @@ abbrev pub IsSpelled : Input → Type 0
 IsSpelled (inputs.Call n s) = IfSome s IsWhole
 IsSpelled _ = Unit {0}
 
-comes_spelled : (f : Facts) (k : Kept) (node : ℕ) (input : Input) (took : Option Took) → Comes f k node input took → IsSpelled input
+pub comes_spelled : (f : Facts) (k : Kept) (node : ℕ) (input : Input) (took : Option Took) → Comes f k node input took → IsSpelled input
 comes_spelled f k node (inputs.Call n s) None comes = comes.2
 comes_spelled f k node (inputs.Call n s) (Some t) comes = absurd comes
 comes_spelled f k node (inputs.GiveUp n) took comes = tt
@@ -50,7 +50,8 @@ made_whole spelled call (Makes_link l free) = tt
 made_whole spelled call (Makes_synonym y free) = tt
 made_whole spelled call (Sets_recovery on) = tt
 
-step_whole : (p : Place) (input : Input) {k : Kept} {d : Deed} → IsSpelled input → Step p input k d → IfSome d.wrote MakesWhole
+-- a table is made by a statement that a text spells
+pub step_whole : (p : Place) (input : Input) {k : Kept} {d : Deed} → IsSpelled input → Step p input k d → IfSome d.wrote MakesWhole
 step_whole p input spelled (steps.Begins n s call rows fit none step) = step_whole p input spelled step
 step_whole p input spelled (steps.Pends n l given call has live code step) = step_whole p input spelled step
 step_whole p input spelled (steps.Lets_reads_go l comment site_below live begins step) = step_whole p input spelled step

@@ -46,3 +46,6 @@ pub mod TableLaws
 pub mod KeyLaws
 pub mod RiseLaws
 pub mod FreezeLaws
+pub mod ToldLaws
+pub mod OrderLaws
+pub mod CommitOrderLaws

@@ -26,6 +26,9 @@ ghost use Rattle.run_laws.specs.TableLaws.{ChangesAreOfTables};
 ghost use Rattle.run_laws.specs.KeyLaws.{KeysAreHeld};
 ghost use Rattle.run_laws.specs.RiseLaws.{ScnsRise, RecordsChangeFreeKeys};
 ghost use Rattle.run_laws.specs.FreezeLaws.{AskedHaveAnswered, AskedStandStill, PrepareFindsRest};
+ghost use Rattle.run_laws.specs.ToldLaws.{RowsAreTold};
+ghost use Rattle.run_laws.specs.OrderLaws.{KeysComeInOrder};
+ghost use Rattle.run_laws.specs.CommitOrderLaws.{CommitsComeInOrder};
 ghost use Rattle.run_laws.specs.BirthLaws.{NoIdBeginsTwice, BirthsAreTrees, NodesNameTheBorn, RecordsNameTheBorn, MessagesAreOfNeighbors, BornAreLiveOrLeft};
 
 /// The book that the facts keep is the book of the trace.
@@ -310,4 +313,23 @@ pub fn asked_stand_still()
 /// Prepare comes from the parent, and finds its receiver at rest: it waits for nothing and took the last of its parent's calls.
 pub fn prepare_finds_rest()
     ensures { PrepareFindsRest }
+{}
+
+/// The committed rows of each table of a node are those that the book tells, one entry after the other.
+pub fn rows_are_told()
+    ensures { RowsAreTold }
+{}
+
+/// On each disk, where a seal or a decision changes a key that a branch changed which was sealed before, that branch has been ended
+/// or forced by then. The SCN of a seal is not below any commit that the records before it decide or learn, and that of a decision
+/// is above them.
+pub fn keys_come_in_order()
+    ensures { KeysComeInOrder }
+{}
+
+/// Commit SCNs are in order at each key. Where the turns of a lawful run do what its session trees allow, and of two branches that
+/// changed one key at a node one left before the other and was never forced, its transaction has the lower SCN, if both are
+/// committed.
+pub fn commits_come_in_order()
+    ensures { CommitsComeInOrder }
 {}
