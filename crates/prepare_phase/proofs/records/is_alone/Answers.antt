@@ -1,4 +1,4 @@
-use Rattle.std.proofs.Common.{not, ap, ◌∙◌, sym}
+use Rattle.std.proofs.Common.{not, ap, ◌∙◌}
 use Rattle.prepare_phase.proofs.ListLemmas.{none_is, alone_then}
 use Rattle.prepare_phase.proofs.records.is_alone.Goals as goal
 
