@@ -8,8 +8,14 @@ mod Named
 mod PlaceLaws
 mod MadeLaws
 mod SetLaws
+mod KeyedLaws
+mod Totals
 mod BranchLaws
 mod OwnLaws
+mod DoubtLaws
+mod HeldLaws
+mod UndoLaws
+mod ScanLaws
 mod TableLaws
 mod StoreLaws
 pub mod SetOver

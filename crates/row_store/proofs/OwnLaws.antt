@@ -18,7 +18,8 @@ use Rattle.row_store.specs.Own.{changes_length, extents}
 use Rattle.row_store.specs.Pending.{undo_of}
 use Rattle.row_store.specs.ByBranch.{key_of, branch_of, owned, owns_in}
 use Rattle.row_store.specs.Store.{own_id, sets_of, sets_at, extents_of_sets, own_extents}
-use Rattle.row_store.proofs.BranchLaws.{found_as, found, put_is, placed_is, dropped_is, total_set, total_push, total_removed}
+use Rattle.row_store.proofs.BranchLaws.{found_as, found, put_is, placed_is, dropped_is}
+use Rattle.row_store.proofs.Totals.{total_set, total_push, total_removed}
 
 abbrev Entry : Type 0
 Entry = BranchKey × List ChangeSet

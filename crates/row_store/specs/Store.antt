@@ -2,7 +2,7 @@
 -- many undo extents there are for all.
 use Rattle.std.specs.List.{list_any, AllByRecursion}
 use Rattle.sql_check.specs.Words.{same_text}
-use Rattle.std.specs.Prelude.{◌≡◌, Bool, true, ℕ, ◌+◌, ◌-◌, if◌then◌else◌, List, [], ◌∷◌, ◌++◌, sum_by, length, take, map, nat_lt, Option, None, Some}
+use Rattle.std.specs.Prelude.{◌≡◌, Bool, true, ℕ, ◌+◌, ◌-◌, if◌then◌else◌, List, [], ◌∷◌, ◌++◌, sum_by, length, take, map, nat_lt, is_some, Option, None, Some}
 use Rattle.dtx_values.specs.declared.row.Change.{Change}
 use Rattle.dtx_values.specs.Limits.{changes_limit}
 use Rattle.tran_ids.specs.declared.branch.BranchId.{BranchId}
@@ -12,7 +12,7 @@ use Rattle.row_store.specs.declared.pending.ChangeSet.{ChangeSet}
 use Rattle.row_store.specs.declared.pending.Owned.{Owned}
 use Rattle.row_store.specs.declared.pending.Doubt.{Doubt}
 use Rattle.row_store.specs.Own.{changes_length, extents, before, view_of}
-use Rattle.row_store.specs.Pending.{changes_of, undo_of}
+use Rattle.row_store.specs.Pending.{changes_of, undo_of, undo_over}
 use Rattle.row_store.specs.Tables.{TableRows, apply_all}
 use Rattle.row_store.specs.declared.store_err.StoreErr.{StoreErr}
 use Rattle.row_store.specs.declared.store_err.StoreErr.TheVariants.{Full, TooLarge, NoMemory}
@@ -61,9 +61,13 @@ less_last owns (Some o) = put_item own_id owns (record o { sets = but_last o.set
 abbrev pub without_last : List Owned → BranchId → List Owned
 without_last owns b = less_last owns (item_at own_id owns b)
 
+-- the extents that branches in doubt hold
+abbrev pub doubt_extents : List Doubt → ℕ
+doubt_extents doubts = sum_by (λ d. extents (changes_length d.undo)) doubts
+
 -- the undo extents that live branches and branches in doubt hold
 abbrev pub used_extents : List Owned → List Doubt → ℕ
-used_extents owns doubts = sum_by (λ o. extents (changes_length (undo_of o.sets))) owns + sum_by (λ d. extents (changes_length d.undo)) doubts
+used_extents owns doubts = own_extents owns + doubt_extents doubts
 
 -- Committed rows, the changes of live branches, branches in doubt, and the undo extents that there are for all.
 pub record Contents : Type 0 where
@@ -118,7 +122,7 @@ refusal_of s b cs =
     if nat_lt changes_limit (bytes_with s b cs) then Some (TooLarge (bytes_with s b cs))
     else (if nat_lt (extents_free s) (extents_needed s b cs) then Some (Full (extents_needed s b cs) (extents_free s)) else None)
 
--- changes are taken where nothing refuses them, and an error is the one that refuses them, or want of memory
+-- Ok comes only where nothing refuses the changes, and a refusal is the one that is due; memory may run out at any time
 abbrev pub Tells : {A : Type 0} → Result A StoreErr → Option StoreErr → Type 0
 Tells (Ok x) refusal = refusal ≡ None
 Tells (Err NoMemory) refusal = Unit {0}
@@ -132,3 +136,32 @@ committed s b = record s { rows = apply_all s.rows (own_changes s b); owns = dro
 -- and rolled back
 abbrev pub rolled_back : Contents → BranchId → Contents
 rolled_back s b = record s { owns = drop_item own_id s.owns b }
+
+-- a branch that becomes in doubt with these changes: each has its undo over the committed rows
+abbrev pub doubt_from : List TableRows → BranchId → List Change → Doubt
+doubt_from rows b cs = record { branch = b; changes = cs; undo = undo_over rows cs }
+
+-- with a branch in doubt behind the others
+abbrev pub held_from : Contents → BranchId → List Change → Contents
+held_from s b cs = record s { doubts = s.doubts ++ doubt_from s.rows b cs ∷ [] }
+
+-- a live branch's changes are those of a branch in doubt from now on
+abbrev pub sealed : Contents → BranchId → Contents
+sealed s b = record (held_from s b (own_changes s b)) { owns = drop_item own_id s.owns b }
+
+-- the changes that a branch in doubt holds back
+abbrev pub held_back : Option Doubt → List Change
+held_back None = []
+held_back (Some d) = d.changes
+
+-- whether a branch is in doubt
+abbrev pub is_in_doubt : List Doubt → BranchId → Bool
+is_in_doubt doubts b = is_some (item_at doubt_id doubts b)
+
+-- a branch in doubt puts its changes into the committed rows
+abbrev pub doubt_committed : Contents → BranchId → Contents
+doubt_committed s b = record s { rows = apply_all s.rows (held_back (item_at doubt_id s.doubts b)); doubts = drop_item doubt_id s.doubts b }
+
+-- and is forgotten with its changes
+abbrev pub doubt_dropped : Contents → BranchId → Contents
+doubt_dropped s b = record s { doubts = drop_item doubt_id s.doubts b }

@@ -1,10 +1,13 @@
 -- The rows of all tables at places.
-use Rattle.std.specs.Prelude.{ℕ, Bool, false, List, map, Option, None, Some, is_some}
+use Rattle.std.specs.Prelude.{ℕ, Bool, false, List, map, Option, None, Some, is_some, unwrap_or}
 use Rattle.std.specs.Map.{lookup}
 use Rattle.std.specs.Str.{bytes_eq}
 use Rattle.dtx_values.specs.declared.value.Value.{Value}
+use Rattle.dtx_values.specs.declared.row.Row.{Row}
+use Rattle.dtx_values.specs.declared.row.Change.{Change}
 use Rattle.row_store.specs.Places.{Place, rows_at, has_place}
 use Rattle.sql_eval.specs.declared.keyed.Keyed.{Keyed}
+use Rattle.row_store.specs.Own.{last_at}
 use Rattle.row_store.specs.Tables.{TableRows}
 use Rattle.row_store.specs.Named.{tables_of}
 
@@ -36,3 +39,11 @@ has_place_in shelves table key = has_place_on (places_of shelves table) key
 -- whether there is a table of a name
 abbrev pub is_table_in : List Shelf → List ℕ → Bool
 is_table_in shelves table = is_some (places_of shelves table)
+
+-- the row that changes of a table leave at a place
+abbrev pub left_at : List ℕ → List Change → Place → Option Row
+left_at table cs p = unwrap_or (last_at cs table p.0 None) p.1
+
+-- places with the rows that changes of their table leave there
+abbrev pub left_by : List ℕ → List Change → List Place → List Place
+left_by table cs ps = map (λ p. (p.0, left_at table cs p)) ps

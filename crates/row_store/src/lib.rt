@@ -11,6 +11,7 @@
 
 mod branch_key;
 mod changed_key;
+mod held_back;
 mod keyed_rows;
 mod lengths;
 mod made;
@@ -18,6 +19,7 @@ mod own_changes;
 mod own_sets;
 mod owns;
 mod pending;
+mod placing;
 mod row_places;
 mod store;
 mod store_err;

@@ -224,3 +224,14 @@ fn set_place(
         Some(place) => places[last] = place,
     }
 }
+
+/// The bytes of the undo of a set.
+pub(crate) fn undo_len(set: &[Made]) -> Result<u64, AllocError>
+    ensures { IfOk result (λ bytes. bytes ≡ changes_length (undo_in set.now)) }
+{
+    let mut bytes: u64 = 0;
+    for one in set {
+        bytes = sum(bytes, change_len_with(&one.change, one.before.as_ref())?)?;
+    }
+    Ok(bytes)
+}

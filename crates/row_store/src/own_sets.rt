@@ -1,5 +1,5 @@
 //! What a branch has changed, statement by statement.
-ghost use Rattle.std.specs.Prelude.{◌≡◌, ◌-◌, ◌≤◌, [], ◌∷◌, ◌++◌, length, take, None, IfOk, OnOk, OnErr};
+ghost use Rattle.std.specs.Prelude.{◌≡◌, ◌-◌, ◌≤◌, [], ◌∷◌, ◌++◌, length, nat_lt, take, None, unwrap_or, IfOk, OnOk, OnErr};
 ghost use Rattle.std.specs.Option.{option_copied};
 ghost use Rattle.row_store.specs.Own.{changes_length, last_at as last_at_of};
 ghost use Rattle.row_store.specs.Pending.{changes_of, undo_of};
@@ -53,6 +53,13 @@ impl OwnSets {
         ensures { result ≡ changes_length (undo_of self.now) }
     {
         self.made.undo()
+    }
+
+    /// Whether there is any change.
+    pub(crate) fn has_changes(&self) -> bool
+        ensures { result ≡ nat_lt 0 (length (changes_of self.now)) }
+    {
+        self.made.len() > 0
     }
 
     /// What the last change at a key leaves there, where there is one.
@@ -132,4 +139,35 @@ fn copied(alloc: Global, made: &[Made]) -> Result<Changes, AllocError>
         changes.push(one.change.copy(alloc)?)?;
     }
     Ok(Listing::of(changes))
+}
+
+/// What the last of these changes at a key leaves there, where there is one.
+pub(crate) fn last_of<'a>(
+    sets: Option<&'a OwnSets>,
+    table: &Name,
+    key: &Value,
+) -> Option<&'a Option<Row>>
+    ensures { option_copied result ≡ last_at_of (changes_of (unwrap_or (option_copied sets.entry) [])) table.now key.now None }
+{
+    sets?.last_at(table, key)
+}
+
+/// The bytes of these changes, where there are any.
+pub(crate) fn bytes_of(sets: Option<&OwnSets>) -> u64
+    ensures { result ≡ changes_length (changes_of (unwrap_or (option_copied sets.entry) [])) }
+{
+    match sets {
+        Some(sets) => sets.bytes(),
+        None => 0,
+    }
+}
+
+/// The bytes of their undo.
+pub(crate) fn undo_bytes_of(sets: Option<&OwnSets>) -> u64
+    ensures { result ≡ changes_length (undo_of (unwrap_or (option_copied sets.entry) [])) }
+{
+    match sets {
+        Some(sets) => sets.undo(),
+        None => 0,
+    }
 }

@@ -1,12 +1,16 @@
 //! Rows that are put at places made for them before.
-ghost use Rattle.std.specs.Prelude.{◌≡◌, ◌||◌, [], true, OnOk, OnErr};
+ghost use Rattle.std.specs.Prelude.{◌≡◌, ◌||◌, [], true, unwrap_or, IfOk, OnOk, OnErr};
 ghost use Rattle.std.specs.Option.{option_copied};
 ghost use Rattle.dtx_values.specs.declared.value.Value.{Value as AnyValue};
 ghost use Rattle.dtx_values.specs.Order.{same_value};
 ghost use Rattle.sql_eval.specs.Rows.{get as get_of, set_to};
-ghost use Rattle.row_store.specs.Places.{rows_at, has_place};
+ghost use Rattle.row_store.specs.Pending.{changes_of};
+ghost use Rattle.row_store.specs.Places.{rows_at, has_place, AreRising};
+ghost use Rattle.row_store.specs.TablePlaces.{left_at, left_by};
 
-use dtx_values::{Duplicate, Row, Value};
+use crate::own_sets::OwnSets;
+use dtx_values::{Duplicate, Name, Row, Value};
+use sql_eval::KeyedRef;
 use std::alloc::{AllocError, Global};
 use std::collections::BTreeMap;
 use std::marker::Model;
@@ -51,6 +55,45 @@ impl RowPlaces {
         }
     }
 
+    /// All rows where they stand, in key order.
+    pub(crate) fn refs(&self, alloc: Global) -> Result<Vec<KeyedRef<'_>>, AllocError>
+        ensures rows { IfOk result (λ rows. rows.items ≡ rows_at self.now) }
+
+        // The keys rise.
+        ensures rising { AreRising self.now }
+    {
+        let mut rows = Vec::new(alloc);
+        for (key, row) in &self.rows {
+            if let Some(row) = row {
+                rows.push(KeyedRef { key, row })?;
+            }
+        }
+        Ok(rows)
+    }
+
+    /// The same with the rows that a branch's changes of the table leave at their keys. Where there is no change, no key is
+    /// looked up.
+    pub(crate) fn refs_with<'a>(
+        &'a self,
+        alloc: Global,
+        table: &Name,
+        own: &'a OwnSets,
+    ) -> Result<Vec<KeyedRef<'a>>, AllocError>
+        ensures rows { IfOk result (λ rows. rows.items ≡ rows_at (left_by table.now (changes_of own.now) self.now)) }
+        ensures rising { AreRising self.now }
+    {
+        if !own.has_changes() {
+            return self.refs(alloc);
+        }
+        let mut rows = Vec::new(alloc);
+        for (key, row) in &self.rows {
+            if let Some(row) = left(own, table, key, row) {
+                rows.push(KeyedRef { key, row })?;
+            }
+        }
+        Ok(rows)
+    }
+
     /// Makes a place for a key, if there is none.
     pub(crate) fn make(&mut self, alloc: Global, key: &Value) -> Result<(), AllocError>
         ensures rows { rows_at self.new ≡ rows_at self.old }
@@ -74,5 +117,31 @@ impl RowPlaces {
         } else {
             drop(after);
         }
+    }
+}
+
+// The row that a branch's changes leave at the place of a key.
+fn left<'a>(own: &'a OwnSets, table: &Name, key: &Value, row: &'a Option<Row>) -> Option<&'a Row>
+    ensures { option_copied result ≡ left_at table.now (changes_of own.now) (key.now, row.now) }
+{
+    match own.last_at(table, key) {
+        Some(after) => after.as_ref(),
+        None => row.as_ref(),
+    }
+}
+
+/// All rows at these places where they stand, with those that a branch's changes of the table leave there.
+pub(crate) fn refs_seen<'a>(
+    alloc: Global,
+    places: &'a RowPlaces,
+    table: &Name,
+    own: Option<&'a OwnSets>,
+) -> Result<Vec<KeyedRef<'a>>, AllocError>
+    ensures rows { IfOk result (λ rows. rows.items ≡ rows_at (left_by table.now (changes_of (unwrap_or (option_copied own.entry) [])) places.now)) }
+    ensures rising { AreRising places.now }
+{
+    match own {
+        Some(own) => places.refs_with(alloc, table, own),
+        None => places.refs(alloc),
     }
 }

@@ -1,49 +1,51 @@
 //! The rows of a node, with what branches have changed of them.
-ghost use Rattle.std.specs.Prelude.{◌≡◌, ℕ, ◌+◌, ◌-◌, ◌^◌, ◌<◌, List, [], ◌∷◌, ◌++◌, true, false, None, unwrap_or, IfOk, OnOk, OnErr};
+ghost use Rattle.std.specs.Prelude.{◌≡◌, ℕ, ◌+◌, ◌-◌, ◌^◌, ◌<◌, List, [], ◌∷◌, ◌++◌, true, false, None, length, nat_lt, unwrap_or, IfOk, OnOk, OnErr};
 ghost use Rattle.std.specs.List.{list_any};
 ghost use Rattle.std.specs.Option.{option_copied};
-ghost use Rattle.dtx_values.specs.declared.value.Value.{Value as AnyValue};
 ghost use Rattle.sql_check.specs.Words.{same_text};
-ghost use Rattle.sql_eval.specs.Rows.{get as get_of};
+ghost use Rattle.sql_eval.specs.Rows.{get as get_of, keys_of as keys_in};
 ghost use Rattle.row_store.specs.Own.{changes_length, last_at as last_at_of};
 ghost use Rattle.row_store.specs.Pending.{changes_of, undo_of};
 ghost use Rattle.row_store.specs.Tables.{apply_all, with_table};
 ghost use Rattle.row_store.specs.Made.{changes_in, undo_in, set_in};
-ghost use Rattle.row_store.specs.TablePlaces.{rows_in, has_place_in};
-ghost use Rattle.row_store.specs.AllPlaced.{ArePlaced};
-ghost use Rattle.row_store.specs.Store.{nothing_kept, AreOfTables, own_changes, seen_by, set_seen, sets_at, own_extents, extents_of_sets, with_set, with_pending, bytes_with as bytes_with_of, extents_needed, extents_free, refusal_of, Tells, without_last, committed, rolled_back};
+ghost use Rattle.row_store.specs.Store.{nothing_kept, AreOfTables, own_changes, seen_by, set_seen, sets_at, own_extents, extents_of_sets, with_set, with_pending, bytes_with as bytes_with_of, extents_needed, extents_free, refusal_of, Tells, without_last, committed, rolled_back, held_from, sealed, is_in_doubt as is_in_doubt_of, doubt_committed, doubt_dropped};
 
 use crate::StoreErr;
-use crate::lengths::{change_len_with, changes_len, extents, sum};
-use crate::made::Made;
-use crate::own_sets::OwnSets;
+use crate::held_back::{HeldBack, HeldChanges};
+use crate::lengths::{changes_len, extents, sum};
+use crate::made::{Made, undo_len};
+use crate::own_sets::{bytes_of, last_of, undo_bytes_of};
 use crate::owns::Owns;
+use crate::placing::{copies, made_over, make_changes, make_places, row_copy};
+use crate::row_places::refs_seen;
 use crate::table_places::TablePlaces;
 use dtx_values::{CHANGES_LIMIT, Change, Changes, Duplicate, Listing, Name, Row, Value};
+use sql_eval::KeyedRef;
 use std::alloc::{AllocError, Global};
 use std::marker::Model;
 use tran_ids::BranchId;
 
-/// The committed rows of a node, and for each live branch the changes of its statements with the rows from before them. A
-/// commit moves rows to places that were made for them when the changes came, and takes no memory.
+/// The committed rows of a node, for each live branch the changes of its statements with the rows from before them, and the
+/// changes that branches in doubt hold back. A commit moves rows to places that were made for them when the changes came, and
+/// takes no memory.
 #[derive(Drop)]
 pub struct Store {
     tables: TablePlaces,
     owns: Owns,
+    doubts: HeldBack,
     extents: u32,
 }
 
 impl Model for Store {
-    ghost use Rattle.std.specs.Prelude.{[]};
     ghost use Rattle.row_store.specs.TablePlaces.{rows_in};
-    ghost use Rattle.row_store.specs.AllPlaced.{AllPlaced};
+    ghost use Rattle.row_store.specs.AllPlaced.{HavePlaces};
     ghost use Rattle.row_store.specs.Store.{Contents};
 
     ghost Value = { Contents };
 
-    ghost view = { λ s. record { rows = rows_in s.tables; owns = s.owns; doubts = []; extents = s.extents } };
+    ghost view = { λ s. record { rows = rows_in s.tables; owns = s.owns; doubts = s.doubts; extents = s.extents } };
 
-    ghost invariant = { λ s. AllPlaced s.tables s.owns };
+    ghost invariant = { λ s. HavePlaces s.tables s.owns s.doubts };
 }
 
 impl Store {
@@ -54,6 +56,7 @@ impl Store {
         Store {
             tables: TablePlaces::new(alloc),
             owns: Owns::new(alloc),
+            doubts: HeldBack::new(alloc),
             extents: undo,
         }
     }
@@ -77,9 +80,49 @@ impl Store {
         }
     }
 
-    /// A copy of what a branch has changed.
+    /// All rows of a table as a branch sees them, where they stand, in key order: own rows where the branch has changed
+    /// something, else the committed ones. A branch that has changed nothing has no key looked up.
+    pub fn all(
+        &self,
+        alloc: Global,
+        branch: &BranchId,
+        table: &Name,
+    ) -> Result<Vec<KeyedRef<'_>>, AllocError>
+        ensures { IfOk result (λ rows. rows.items ≡ seen_by self.now branch.now table.now) }
+    {
+        match self.tables.places(table) {
+            Some(places) => refs_seen(alloc, places, table, self.owns.sets(branch)),
+            None => Ok(Vec::new(alloc)),
+        }
+    }
+
+    /// The keys of the rows of a table that a branch sees, in order.
+    pub fn keys(
+        &self,
+        alloc: Global,
+        branch: &BranchId,
+        table: &Name,
+    ) -> Result<Vec<Value>, AllocError>
+        ensures { IfOk result (λ keys. keys.items ≡ keys_in (seen_by self.now branch.now table.now)) }
+    {
+        let rows = self.all(alloc, branch, table)?;
+        keys_of(alloc, rows.as_slice())
+    }
+
+    /// Whether a branch has changed anything.
+    pub fn has_changes(&self, branch: &BranchId) -> bool
+        ensures { result ≡ nat_lt 0 (length (own_changes self.now branch.now)) }
+    {
+        match self.owns.sets(branch) {
+            Some(sets) => sets.has_changes(),
+            None => false,
+        }
+    }
+
+    /// A copy of what a branch has changed, of tables that are there.
     pub fn own(&self, alloc: Global, branch: &BranchId) -> Result<Changes, AllocError>
-        ensures { IfOk result (λ changes. changes ≡ own_changes self.now branch.now) }
+        ensures changes { IfOk result (λ changes. changes ≡ own_changes self.now branch.now) }
+        ensures tables { AreOfTables self.now.rows (own_changes self.now branch.now) }
     {
         match self.owns.sets(branch) {
             Some(sets) => sets.changes(alloc),
@@ -91,7 +134,7 @@ impl Store {
     pub fn free(&self) -> u64
         ensures { result ≡ extents_free self.now }
     {
-        u64::from(self.extents).saturating_sub(self.owns.used())
+        self.room()
     }
 
     /// Adds the changes of one more statement of a branch, each with the row that the branch saw before the statement. Each
@@ -136,6 +179,73 @@ impl Store {
         ensures { self.new ≡ rolled_back self.old branch.now }
     {
         drop(self.owns.remove(branch));
+    }
+
+    /// Makes the changes of a live branch those of a branch in doubt, behind the others. Their undo is worked out over the
+    /// committed rows. After an error all is as before.
+    pub fn seal(&mut self, alloc: Global, branch: &BranchId) -> Result<(), AllocError>
+        requires apart { is_in_doubt_of self.old.doubts branch.now ≡ false }
+        ensures ok { OnOk result (self.new ≡ sealed self.old branch.now) }
+        ensures err { OnErr result (self.new ≡ self.old) }
+    {
+        let changes = self.own(alloc, branch)?;
+        self.hold_back(alloc, branch, changes)?;
+        self.rollback(branch);
+        Ok(())
+    }
+
+    /// Adds a branch in doubt with these changes behind the others, as a start does of its records. Each changed key gets a
+    /// place, so that committing them takes no memory. That their undo has room is the caller's to know. After an error all is
+    /// as before.
+    pub fn hold_back(
+        &mut self,
+        alloc: Global,
+        branch: &BranchId,
+        changes: Changes,
+    ) -> Result<(), AllocError>
+        requires tables { AreOfTables self.old.rows changes }
+        requires apart { is_in_doubt_of self.old.doubts branch.now ≡ false }
+        ensures ok { OnOk result (self.new ≡ held_from self.old branch.now changes) }
+        ensures err { OnErr result (self.new ≡ self.old) }
+    {
+        let made = made_over(alloc, &self.tables, changes)?;
+        make_places(alloc, &mut self.tables, made.as_slice())?;
+        self.doubts.push(branch, HeldChanges::of(made))
+    }
+
+    /// Whether a branch is in doubt.
+    pub fn is_in_doubt(&self, branch: &BranchId) -> bool
+        ensures { result ≡ is_in_doubt_of self.now.doubts branch.now }
+    {
+        self.doubts.has(branch)
+    }
+
+    /// Makes the changes of a branch in doubt, which is then in doubt no longer. Nothing where it is not in doubt.
+    pub fn commit_doubt(&mut self, branch: &BranchId)
+        ensures { self.new ≡ doubt_committed self.old branch.now }
+    {
+        if let Some(changes) = self.doubts.remove(branch) {
+            make_changes(&mut self.tables, changes.into_vec());
+        }
+    }
+
+    /// Drops the changes of a branch in doubt, which is then in doubt no longer. Nothing where it is not in doubt.
+    pub fn drop_doubt(&mut self, branch: &BranchId)
+        ensures { self.new ≡ doubt_dropped self.old branch.now }
+    {
+        drop(self.doubts.remove(branch));
+    }
+
+    /// Makes changes of no branch that is known here, as a start does of its records. After an error all is as before.
+    pub fn apply(&mut self, alloc: Global, changes: &[Change]) -> Result<(), AllocError>
+        requires tables { AreOfTables self.old.rows changes.now }
+        ensures ok { OnOk result (self.new ≡ record self.old { rows = apply_all self.old.rows changes.now }) }
+        ensures err { OnErr result (self.new ≡ self.old) }
+    {
+        let made = copies(alloc, changes)?;
+        make_places(alloc, &mut self.tables, made.as_slice())?;
+        make_changes(&mut self.tables, made);
+        Ok(())
     }
 
     // The changes with the rows from before them, where nothing refuses them.
@@ -190,7 +300,7 @@ impl Store {
     fn needed(&self, branch: &BranchId, set: &[Made]) -> Result<u64, AllocError>
         ensures { IfOk result (λ need. need ≡ extents_of_sets (sets_at self.now.owns branch.now ++ set_in set.now ∷ []) - extents_of_sets (sets_at self.now.owns branch.now)) }
     {
-        let held = undo_of_sets(self.owns.sets(branch));
+        let held = undo_bytes_of(self.owns.sets(branch));
         let all = sum(held, undo_len(set)?)?;
         Ok(extents(all).saturating_sub(extents(held)))
     }
@@ -202,7 +312,9 @@ impl Store {
         ensures used { own_extents self.now.owns < 2 ^ 64 }
         ensures within { 0 < result → own_extents self.now.owns + result < 2 ^ 32 }
     {
-        u64::from(self.extents).saturating_sub(self.owns.used())
+        u64::from(self.extents)
+            .saturating_sub(self.owns.used())
+            .saturating_sub(self.doubts.used())
     }
 
     // Takes a set of changes, which has room.
@@ -218,86 +330,13 @@ impl Store {
     }
 }
 
-// What the last of these changes at a key leaves there, where there is one.
-fn last_of<'a>(sets: Option<&'a OwnSets>, table: &Name, key: &Value) -> Option<&'a Option<Row>>
-    ensures { option_copied result ≡ last_at_of (changes_of (unwrap_or (option_copied sets.entry) [])) table.now key.now None }
+// Copies of the keys of rows.
+fn keys_of(alloc: Global, rows: &[KeyedRef]) -> Result<Vec<Value>, AllocError>
+    ensures { IfOk result (λ keys. keys.items ≡ keys_in rows.now) }
 {
-    sets?.last_at(table, key)
-}
-
-// Makes these changes at their places.
-fn make_changes(tables: &mut TablePlaces, made: Vec<Made>)
-    requires places { ArePlaced tables.old (changes_in made.items) }
-    ensures rows { rows_in tables.new ≡ apply_all (rows_in tables.old) (changes_in made.items) }
-    ensures places { (name : List ℕ) (key : AnyValue) → has_place_in tables.new name key ≡ has_place_in tables.old name key }
-{
-    for one in made {
-        let Made { change, before } = one;
-        drop(before);
-        make_change(tables, change);
+    let mut keys = Vec::with_capacity(alloc, rows.len())?;
+    for keyed in rows {
+        keys.push(keyed.key.copy(alloc)?)?;
     }
-}
-
-// Makes a change at its place.
-fn make_change(tables: &mut TablePlaces, change: Change)
-    requires place { has_place_in tables.old change.table change.key ≡ true }
-    ensures rows { rows_in tables.new ≡ apply_all (rows_in tables.old) (change ∷ []) }
-    ensures places { (name : List ℕ) (key : AnyValue) → has_place_in tables.new name key ≡ has_place_in tables.old name key }
-{
-    let Change { table, key, after } = change;
-    tables.set(&table, &key, after);
-}
-
-// Makes a place for each of these changes. After an error some may have been made.
-fn make_places(alloc: Global, tables: &mut TablePlaces, set: &[Made]) -> Result<(), AllocError>
-    requires tables { AreOfTables (rows_in tables.old) (changes_in set.now) }
-    ensures rows { rows_in tables.new ≡ rows_in tables.old }
-    ensures places { (name : List ℕ) (key : AnyValue) → has_place_in tables.old name key ≡ true → has_place_in tables.new name key ≡ true }
-    ensures made { OnOk result (ArePlaced tables.new (changes_in set.now)) }
-{
-    for one in set {
-        tables.make(alloc, &one.change)?;
-    }
-    Ok(())
-}
-
-// The bytes of these changes.
-fn bytes_of(sets: Option<&OwnSets>) -> u64
-    ensures { result ≡ changes_length (changes_of (unwrap_or (option_copied sets.entry) [])) }
-{
-    match sets {
-        Some(sets) => sets.bytes(),
-        None => 0,
-    }
-}
-
-// The bytes of their undo.
-fn undo_of_sets(sets: Option<&OwnSets>) -> u64
-    ensures { result ≡ changes_length (undo_of (unwrap_or (option_copied sets.entry) [])) }
-{
-    match sets {
-        Some(sets) => sets.undo(),
-        None => 0,
-    }
-}
-
-// The bytes of the undo of a set.
-fn undo_len(set: &[Made]) -> Result<u64, AllocError>
-    ensures { IfOk result (λ bytes. bytes ≡ changes_length (undo_in set.now)) }
-{
-    let mut bytes: u64 = 0;
-    for one in set {
-        bytes = sum(bytes, change_len_with(&one.change, one.before.as_ref())?)?;
-    }
-    Ok(bytes)
-}
-
-// A copy of a row, where there is one.
-fn row_copy(alloc: Global, row: Option<&Row>) -> Result<Option<Row>, AllocError>
-    ensures { IfOk result (λ copy. copy ≡ option_copied row.entry) }
-{
-    match row {
-        Some(row) => Ok(Some(row.copy(alloc)?)),
-        None => Ok(None),
-    }
+    Ok(keys)
 }

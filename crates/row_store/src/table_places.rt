@@ -6,7 +6,7 @@ ghost use Rattle.dtx_values.specs.declared.value.Value.{Value as AnyValue};
 ghost use Rattle.sql_check.specs.Words.{same_text};
 ghost use Rattle.sql_eval.specs.Rows.{get as get_of};
 ghost use Rattle.row_store.specs.Tables.{apply_all, rows_of_table, with_table};
-ghost use Rattle.row_store.specs.TablePlaces.{rows_in, has_place_in, is_table_in};
+ghost use Rattle.row_store.specs.TablePlaces.{rows_in, places_of, has_place_in, is_table_in};
 
 use crate::row_places::RowPlaces;
 use dtx_values::{Change, Name, Row, Value};
@@ -47,6 +47,13 @@ impl TablePlaces {
             Some(rows) => rows.get(key),
             None => None,
         }
+    }
+
+    /// The places of a table, where it is there.
+    pub(crate) fn places(&self, table: &Name) -> Option<&RowPlaces>
+        ensures { option_copied result ≡ places_of self.now table.now }
+    {
+        self.tables.get(table)
     }
 
     /// Adds a table of a new name, with no rows.

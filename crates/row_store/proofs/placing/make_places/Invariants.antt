@@ -3,7 +3,7 @@ use Rattle.dtx_values.specs.declared.value.Value.{Value}
 use Rattle.row_store.specs.Made.{changes_in}
 use Rattle.row_store.specs.TablePlaces.{rows_in, has_place_in, is_table_in}
 use Rattle.row_store.specs.AllPlaced.{ArePlaced}
-use Rattle.row_store.proofs.store.make_places.Given as goal
+use Rattle.row_store.proofs.placing.make_places.Given as goal
 
 abbrev pub invariant-loop-one : goal.invariant-loop-one
 invariant-loop-one l = record {

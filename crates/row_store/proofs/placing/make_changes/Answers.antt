@@ -7,7 +7,7 @@ use Rattle.row_store.specs.TablePlaces.{rows_in}
 use Rattle.row_store.specs.AllPlaced.{ArePlaced}
 use Rattle.row_store.proofs.Named.{apply_next, apply_none}
 use Rattle.row_store.proofs.StoreLaws.{placed_still, no_items}
-use Rattle.row_store.proofs.store.make_changes.Goals as goal
+use Rattle.row_store.proofs.placing.make_changes.Goals as goal
 
 pub make_change-requires : goal.make_change-requires
 make_change-requires c = record { place = (subst (λ (ms : List Made). ArePlaced c.loop-one.tables (changes_in ms)) c.in-Some.ensures.steps.0 c.loop-one.invariant.placed).0 }

@@ -6,7 +6,7 @@ use Rattle.row_store.specs.Made.{changes_in}
 use Rattle.row_store.specs.AllPlaced.{ArePlaced}
 use Rattle.row_store.proofs.TableLaws.{table_is}
 use Rattle.row_store.proofs.StoreLaws.{of_table_at, placed_still, placed_push}
-use Rattle.row_store.proofs.store.make_places.Goals as goal
+use Rattle.row_store.proofs.placing.make_places.Goals as goal
 
 pub make-requires : goal.make-requires
 make-requires c = record {

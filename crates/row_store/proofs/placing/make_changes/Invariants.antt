@@ -5,7 +5,7 @@ use Rattle.row_store.specs.Tables.{apply_all}
 use Rattle.row_store.specs.Made.{changes_in}
 use Rattle.row_store.specs.TablePlaces.{rows_in, has_place_in}
 use Rattle.row_store.specs.AllPlaced.{ArePlaced}
-use Rattle.row_store.proofs.store.make_changes.Given as goal
+use Rattle.row_store.proofs.placing.make_changes.Given as goal
 
 abbrev pub invariant-loop-one : goal.invariant-loop-one
 invariant-loop-one l = record {
