@@ -1,3 +1,4 @@
 pub mod Locks
 pub mod Held
-pub mod Owners
+pub mod Numbered
+pub mod ByBranch

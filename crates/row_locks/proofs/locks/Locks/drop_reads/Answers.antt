@@ -1,12 +1,15 @@
-use Rattle.std.proofs.Common.{rules, not, ◌||◌, ap, ◌∙◌}
-use Rattle.row_locks.specs.Locks.{is_held_by, without_reads}
-use Rattle.row_locks.proofs.Entries.{distinct_are, kept_is}
+use Rattle.std.proofs.Common.{ap, ◌∙◌}
+use Rattle.row_locks.specs.Locks.{without_reads}
+use Rattle.row_locks.proofs.LinkLaws.{reads_is, reads_linked}
 use Rattle.row_locks.proofs.locks.Locks.drop_reads.Goals as goal
+
+pub invariant_of-self : goal.invariant_of-self
+invariant_of-self c =
+    let s = c.self.inside in
+    reads_linked c.args.branch.now c.numbers-numbers.result.now s.locks c.remove_reads.new.locks s.by_branch c.self.invariant c.numbers-numbers.ensures c.keep.new.self c.remove_reads.ensures c.keep.ensures
 
 pub returns : goal.returns
 returns c =
-    kept_is _ _ (λ l. not (is_held_by c.args.branch.now l) || l.writes) (λ k o b w g call. search rules) c.self.inside.locks.entries _ c.retain.ensures.filtered
+    let s = c.self.inside in
+    reads_is c.args.branch.now c.numbers-numbers.result.now s.locks c.remove_reads.new.locks s.by_branch c.self.invariant c.numbers-numbers.ensures c.remove_reads.ensures
     ∙ ap (λ ls. without_reads ls c.args.branch.now) c.self.view_is
-
-pub invariant_of-self : goal.invariant_of-self
-invariant_of-self c = distinct_are _ c.retain.ensures.unique

@@ -1,5 +1,0 @@
-use Rattle.row_locks.proofs.Entries.{distinct_are}
-use Rattle.row_locks.proofs.locks.Locks.new.Goals as goal
-
-pub invariant_of-result : goal.invariant_of-result
-invariant_of-result c = distinct_are c.new.result.entries c.new.ensures.unique

@@ -1,0 +1,6 @@
+use Rattle.std.proofs.Common.{◌≡◌, take}
+use Rattle.row_locks.specs.Numbered.{without_read_numbers}
+use Rattle.row_locks.proofs.locks.remove_reads.Given as goal
+
+abbrev pub invariant-loop-number : goal.invariant-loop-number
+invariant-loop-number l = l.locks ≡ without_read_numbers (take l.number-index l.numbers) l.initial.locks

@@ -1,0 +1,91 @@
+//! Which locks each branch has.
+ghost use Rattle.std.specs.Prelude.{◌≡◌, if◌then◌else◌, [], ◌∷◌, ◌++◌, filter, is_some, unwrap_or, OnOk, OnErr};
+ghost use Rattle.std.specs.Map.{lookup};
+ghost use Rattle.tran_ids.specs.declared.branch.BranchId.{BranchId as AnyBranch};
+ghost use Rattle.tran_ids.specs.Branch.{same};
+ghost use Rattle.row_locks.specs.Numbered.{is_number};
+ghost use Rattle.row_locks.specs.ByBranch.{numbers_at};
+
+use crate::branch_key::BranchKey;
+use crate::numbered_locks::NumberedLocks;
+use crate::numbers::Numbers;
+use indexmap::IndexMap;
+use std::alloc::{AllocError, Global};
+use std::marker::Model;
+use tran_ids::BranchId;
+
+/// The numbers of each branch's locks, found by the branch's id.
+#[derive(Drop)]
+pub(crate) struct ByBranch {
+    numbers: IndexMap<BranchKey, Numbers>,
+}
+
+impl Model for ByBranch {
+    ghost use Rattle.std.specs.Prelude.{List, ℕ};
+    ghost use Rattle.row_locks.specs.declared.branch_key.BranchKey.{BranchKey};
+
+    ghost Value = { List (BranchKey × List ℕ) };
+
+    ghost view = { λ b. b.numbers.entries };
+}
+
+impl ByBranch {
+    /// No branch has a lock.
+    pub(crate) fn new(alloc: Global) -> ByBranch
+        ensures { result ≡ [] }
+    {
+        ByBranch {
+            numbers: IndexMap::new(alloc),
+        }
+    }
+
+    /// The numbers of a branch's locks.
+    pub(crate) fn numbers(&self, branch: &BranchId) -> &[u64]
+        ensures { result.now ≡ numbers_at self.now branch.now }
+    {
+        match self.numbers.get(&BranchKey::of(branch)) {
+            Some(numbers) => numbers.as_slice(),
+            None => &[],
+        }
+    }
+
+    /// Adds the number of one more lock of a branch.
+    pub(crate) fn push(
+        &mut self,
+        alloc: Global,
+        branch: &BranchId,
+        number: u64,
+    ) -> Result<(), AllocError>
+        ensures ok { OnOk result ((b : AnyBranch) → numbers_at self.new b
+            ≡ (if same branch.now b then numbers_at self.old b ++ number ∷ [] else numbers_at self.old b)) }
+        ensures err { OnErr result (self.new ≡ self.old) }
+    {
+        let key = BranchKey::of(branch);
+        if let Some(place) = self.numbers.get_index_of(&key) {
+            return self.numbers[place].push(number);
+        }
+        let mut numbers = Numbers::new(alloc);
+        numbers.push(number)?;
+        drop(self.numbers.insert(key, numbers)?);
+        Ok(())
+    }
+
+    /// Drops a branch, and gives the numbers of its locks where it had some.
+    pub(crate) fn remove(&mut self, branch: &BranchId) -> Option<Numbers>
+        ensures numbers { unwrap_or result [] ≡ numbers_at self.old branch.now }
+        ensures dropped { (b : AnyBranch) → numbers_at self.new b ≡ (if same branch.now b then [] else numbers_at self.old b) }
+    {
+        self.numbers.swap_remove(&BranchKey::of(branch))
+    }
+
+    /// Keeps the numbers of a branch's locks that are there.
+    pub(crate) fn keep(&mut self, branch: &BranchId, locks: &NumberedLocks)
+        ensures { (b : AnyBranch) → numbers_at self.new b
+            ≡ (if same branch.now b then filter (λ n. is_some (lookup (is_number n) locks.now)) (numbers_at self.old b)
+            else numbers_at self.old b) }
+    {
+        if let Some(place) = self.numbers.get_index_of(&BranchKey::of(branch)) {
+            self.numbers[place].keep(locks);
+        }
+    }
+}
