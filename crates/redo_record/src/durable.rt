@@ -3,11 +3,9 @@ ghost use Rattle.std.specs.Prelude.{◌≡◌, IfOk, OnOk, OnErr};
 ghost use Rattle.redo_record.specs.Durable.{no_durable, set_param, with_kept, durable_after, durable};
 ghost use Rattle.redo_record.specs.Kept.{kept_after};
 
-use crate::kept::apply_record;
-use crate::{Decision, Param, RedoRecord};
+use crate::{Decision, KeptRows, Param, RedoRecord};
 use dtx_values::{Advice, Bytes, Duplicate, Link, Listing, Name, Synonym, Table};
 use std::alloc::{AllocError, Global};
-use std::mem;
 use tran_ids::BranchId;
 
 /// The state of a kept branch, as its row among the pending transactions shows it.
@@ -87,9 +85,6 @@ pub struct Standing {
     pub hidden: bool,
 }
 
-/// Kept branches, in order of boot, session and transaction.
-pub type Standings = Listing<Standing>;
-
 impl Duplicate for Standing {
     fn copy(&self, alloc: Global) -> Result<Standing, AllocError> {
         let children = self.children.copy(alloc)?;
@@ -127,7 +122,7 @@ pub struct Durable {
     /// The synonyms, in the order in which they were created.
     pub synonyms: Listing<Synonym>,
     /// The branches that the node keeps rows of, in the order of their ids.
-    pub kept: Standings,
+    pub kept: KeptRows,
     /// The commit point strength that was set, where one was.
     pub strength: Option<u8>,
 }
@@ -143,7 +138,7 @@ impl Durable {
             tables: Listing::new(alloc),
             links: Listing::new(alloc),
             synonyms: Listing::new(alloc),
-            kept: Listing::new(alloc),
+            kept: KeptRows::new(alloc),
             strength: None,
         }
     }
@@ -189,10 +184,7 @@ impl Durable {
         ensures ok { OnOk result (self.new ≡ with_kept self.old (kept_after self.old.kept item.now)) }
         ensures err { OnErr result (self.new ≡ self.old) }
     {
-        let mut kept = mem::replace(&mut self.kept, Listing::new(alloc)).into_vec();
-        let done = apply_record(&mut kept, alloc, item);
-        self.kept = Listing::of(kept);
-        done
+        self.kept.apply(alloc, item)
     }
 }
 

@@ -1,24 +1,27 @@
 //! What redo records make of the rows of kept branches.
 ghost use Rattle.std.specs.Prelude.{◌≡◌, ◌≤◌, length, OnOk, OnErr};
-ghost use Rattle.std.specs.List.{insert, position_or_len};
-ghost use Rattle.tran_ids.specs.Branch.{branch_below};
+ghost use Rattle.std.specs.List.{insert};
 ghost use Rattle.redo_record.specs.Lists.{change_where, drop_where};
-ghost use Rattle.redo_record.specs.Kept.{stands_at, add_kept, keep_decided, ended, forced_state, forced, met_as, met, is_done as is_done_of, forgotten, hidden, kept_after};
+ghost use Rattle.redo_record.specs.Kept.{stands_at, add_kept, keep_decided, ended, forced_state, forced, met_as, met, forgotten, hidden, kept_after};
+ghost use Rattle.redo_record.specs.Order.{AreInOrder};
+ghost use Rattle.redo_record.specs.Leaving.{leaves};
 
 use crate::news::{News, tell_branch};
 use crate::row::{decided_row, has_neighbors, sealed_row};
+use crate::search::{Leaving, place_of, position_of};
 use crate::{Decision, RedoRecord, Standing, State};
 use std::alloc::{AllocError, Global};
 use tran_ids::BranchId;
 
-/// Makes of the rows what is left of them after one more record. Fails where memory runs out, and then they stay as
-/// they are.
+/// Makes of rows in order what is left of them after one more record; they stay in order. Fails where memory runs out, and
+/// then they stay as they are.
 #[tactic(auto, unfolding(crate::specs::Kept::kept_after))]
-pub fn apply_record(
+pub(crate) fn apply_record(
     kept: &mut Vec<Standing>,
     alloc: Global,
     item: &RedoRecord,
 ) -> Result<(), AllocError>
+    requires { AreInOrder kept.old.items }
     ensures ok { OnOk result (kept.new.items ≡ kept_after kept.old.items item.now) }
     ensures err { OnErr result (kept.new.items ≡ kept.old.items) }
 {
@@ -43,21 +46,9 @@ pub fn apply_record(
     Ok(())
 }
 
-// In front of the first branch that this one comes before.
-fn place_of(kept: &[Standing], me: &BranchId) -> usize
-    ensures first { result ≡ position_or_len (λ row. branch_below me.now row.me) kept.now }
-    ensures within { result ≤ length kept.now }
-{
-    for (place, row) in kept.iter().enumerate() {
-        if me.is_before(&row.me) {
-            return place;
-        }
-    }
-    kept.len()
-}
-
 // Rows stand in the order of their branches.
 fn place_for(kept: &[Standing], row: &Standing) -> usize
+    requires { AreInOrder kept.now }
     ensures added { insert kept.now result row.now ≡ add_kept kept.now row.now }
     ensures within { result ≤ length kept.now }
 {
@@ -65,6 +56,7 @@ fn place_for(kept: &[Standing], row: &Standing) -> usize
 }
 
 fn add(kept: &mut Vec<Standing>, row: Standing) -> Result<(), AllocError>
+    requires { AreInOrder kept.old.items }
     ensures ok { OnOk result (kept.new.items ≡ add_kept kept.old.items row) }
     ensures err { OnErr result (kept.new.items ≡ kept.old.items) }
 {
@@ -75,6 +67,7 @@ fn add(kept: &mut Vec<Standing>, row: Standing) -> Result<(), AllocError>
 
 // A decided branch without neighbours is not kept.
 fn decide(kept: &mut Vec<Standing>, row: Standing) -> Result<(), AllocError>
+    requires { AreInOrder kept.old.items }
     ensures ok { OnOk result (kept.new.items ≡ keep_decided kept.old.items row) }
     ensures err { OnErr result (kept.new.items ≡ kept.old.items) }
 {
@@ -85,18 +78,23 @@ fn decide(kept: &mut Vec<Standing>, row: Standing) -> Result<(), AllocError>
     }
 }
 
-fn drop_branch(kept: &mut Vec<Standing>, me: &BranchId)
-    ensures { kept.new.items ≡ drop_where (stands_at me.now) kept.old.items }
+// The rows of a branch that go are taken out, one after the other.
+fn drop_rows(kept: &mut Vec<Standing>, me: &BranchId, leaving: Leaving)
+    requires { AreInOrder kept.old.items }
+    ensures { kept.new.items ≡ drop_where (leaves leaving me.now) kept.old.items }
 {
-    kept.retain(|row| !row.me.is(me));
+    while let Some(place) = position_of(kept, me, leaving) {
+        drop(kept.remove(place));
+    }
 }
 
 fn end(kept: &mut Vec<Standing>, me: &BranchId, decision: &Decision)
+    requires { AreInOrder kept.old.items }
     ensures { kept.new.items ≡ ended kept.old.items me.now decision.now }
 {
     match decision {
         Decision::Commit(scn) => tell_branch(kept, me, News::Commits(*scn)),
-        Decision::Rollback => drop_branch(kept, me),
+        Decision::Rollback => drop_rows(kept, me, Leaving::Any),
     }
 }
 
@@ -111,6 +109,7 @@ fn state_of(forced: &Decision) -> State
 
 // The decision stays unknown.
 fn force(kept: &mut Vec<Standing>, me: &BranchId, decision: &Decision)
+    requires { AreInOrder kept.old.items }
     ensures { kept.new.items ≡ forced kept.old.items me.now decision.now }
 {
     tell_branch(kept, me, News::IsForced(state_of(decision)));
@@ -118,6 +117,7 @@ fn force(kept: &mut Vec<Standing>, me: &BranchId, decision: &Decision)
 
 // A row that is found mixed stays, whatever the decision is.
 fn meet(kept: &mut Vec<Standing>, me: &BranchId, decision: &Decision, mixed: bool)
+    requires { AreInOrder kept.old.items }
     ensures { kept.new.items ≡ met kept.old.items me.now decision.now mixed }
 {
     if mixed {
@@ -125,32 +125,29 @@ fn meet(kept: &mut Vec<Standing>, me: &BranchId, decision: &Decision, mixed: boo
     } else {
         match decision {
             Decision::Commit(_scn) => learn(kept, me, decision, false),
-            Decision::Rollback => drop_branch(kept, me),
+            Decision::Rollback => drop_rows(kept, me, Leaving::Any),
         }
     }
 }
 
 fn learn(kept: &mut Vec<Standing>, me: &BranchId, decision: &Decision, mixed: bool)
+    requires { AreInOrder kept.old.items }
     ensures { kept.new.items ≡ change_where (stands_at me.now) (met_as decision.now mixed) kept.old.items }
 {
     let decision = *decision;
     tell_branch(kept, me, News::Learns { decision, mixed });
 }
 
-fn is_done(row: &Standing, me: &BranchId) -> bool
-    ensures { result ≡ is_done_of me.now row.now }
-{
-    row.me.is(me) && !row.mixed
-}
-
 fn forget(kept: &mut Vec<Standing>, me: &BranchId)
+    requires { AreInOrder kept.old.items }
     ensures { kept.new.items ≡ forgotten kept.old.items me.now }
 {
-    kept.retain(|row| !is_done(row, me));
+    drop_rows(kept, me, Leaving::Unmixed);
     tell_branch(kept, me, News::Forgets);
 }
 
 fn hide(kept: &mut Vec<Standing>, me: &BranchId)
+    requires { AreInOrder kept.old.items }
     ensures { kept.new.items ≡ hidden kept.old.items me.now }
 {
     tell_branch(kept, me, News::IsHidden);

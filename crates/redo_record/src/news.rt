@@ -3,7 +3,9 @@ ghost use Rattle.std.specs.Prelude.{◌≡◌, if◌then◌else◌};
 ghost use Rattle.redo_record.specs.Kept.{stands_at};
 ghost use Rattle.redo_record.specs.Lists.{change_where};
 ghost use Rattle.redo_record.specs.News.{with_news};
+ghost use Rattle.redo_record.specs.Order.{AreInOrder};
 
+use crate::search::{place_of, start_of};
 use crate::{Decision, Standing, State};
 use tran_ids::BranchId;
 
@@ -51,10 +53,11 @@ fn tell_if_it_is(row: &mut Standing, me: &BranchId, news: News)
 }
 
 /// Tells the branch of this id its news, where it is kept.
-pub fn tell_branch(kept: &mut Vec<Standing>, me: &BranchId, news: News)
-    ensures { kept.new.items ≡ change_where (stands_at me.now) (with_news news) kept.old.items }
+pub fn tell_branch(kept: &mut [Standing], me: &BranchId, news: News)
+    requires { AreInOrder kept.old }
+    ensures { kept.new ≡ change_where (stands_at me.now) (with_news news) kept.old }
 {
-    for row in kept.iter_mut() {
-        tell_if_it_is(row, me, news);
+    for place in start_of(kept, me)..place_of(kept, me) {
+        tell_if_it_is(&mut kept[place], me, news);
     }
 }

@@ -1,10 +1,10 @@
-use Rattle.std.proofs.Common.{rules, ap, ◌∙◌}
-use Rattle.std.proofs.lemmas.Fn.{filter_same}
-use Rattle.redo_record.specs.Kept.{stands_at, forgot_as}
-use Rattle.redo_record.specs.Lists.{change_where}
+use Rattle.std.proofs.Common.{◌≡◌, not, sym, subst, ◌∙◌}
+use Rattle.redo_record.specs.Data.{Standing}
+use Rattle.redo_record.specs.Kept.{is_done}
+use Rattle.redo_record.specs.Order.{AreInOrder}
+use Rattle.redo_record.proofs.InOrder.{filter_in_order}
 use Rattle.redo_record.proofs.kept.forget.Goals as goal
 
-pub returns : goal.returns
-returns c =
-    c.tell_branch.ensures
-    ∙ ap (change_where (stands_at c.args.me.now) forgot_as) (filter_same _ _ _ (λ x b f' k. search rules) _ _ c.retain.ensures.filtered)
+pub tell_branch-requires : goal.tell_branch-requires
+tell_branch-requires c =
+    subst AreInOrder (sym (c.deref_mut.ensures.value ∙ c.drop_rows.ensures)) (filter_in_order (λ (s : Standing). not (is_done c.args.me.now s)) c.args.kept.now.items c.requires)

@@ -1,0 +1,3 @@
+mod BranchLaws
+mod LiveLaws
+mod WorkLaws

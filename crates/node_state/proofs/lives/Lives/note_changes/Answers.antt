@@ -1,0 +1,38 @@
+use Rattle.std.proofs.Common.{◌≡◌, ◌||◌, Option, None, Some, is_some, position, sym, ap, subst, ◌∙◌, refl}
+use Rattle.std.specs.Map.{lookup, keys_of}
+use Rattle.node_rules.specs.Kept.{live_id}
+use Rattle.session_tree.specs.declared.live.Live.{Live}
+use Rattle.node_state.specs.Lives.{changed_by}
+use Rattle.node_state.proofs.LiveLaws.{has_room, still_changed}
+use Rattle.node_state.specs.Changed.{change_item}
+use Rattle.node_state.specs.Lives.{HasRoom}
+use Rattle.node_state.proofs.BranchLaws.{found_as, found, still_keyed, holds_there, changed_is, unchanged_is, none_there}
+use Rattle.node_state.proofs.lives.Lives.note_changes.Goals as goal
+
+pub invariant_of-self : goal.invariant_of-self
+invariant_of-self c =
+    let es = c.self.inside.lives.entries in
+    let x = c.index_mut.result.now in
+    let there = c.index_mut.ensures.value in
+    let keeps = still_changed x c.args.changes in
+    still_keyed live_id HasRoom es c.in-Some.place x c.note_changes.new.live there (ap live_id c.note_changes.ensures ∙ keeps.me)
+    (subst HasRoom (sym c.note_changes.ensures) (has_room x (changed_by c.args.changes x) keeps (holds_there live_id HasRoom es c.in-Some.place x there c.self.invariant))) c.self.invariant
+
+pub returns-in-Some : goal.returns-in-Some
+returns-in-Some c =
+    let b = c.args.branch.now in
+    let es = c.self.inside.lives.entries in
+    let x = c.index_mut.result.now in
+    let there = sym (c.in-Some.ensures.value ∙ ap (λ k. lookup (found_as k) es) c.of.ensures) ∙ c.index_mut.ensures.value in
+    let at = subst (λ k. position (found_as k) (keys_of es) ≡ Some c.in-Some.place) c.of.ensures (sym c.in-Some.ensures.index) in
+    let keeps = still_changed x c.args.changes in
+    changed_is live_id HasRoom b (changed_by c.args.changes) es c.in-Some.place x c.note_changes.new.live at there c.note_changes.ensures keeps.me c.self.invariant
+    ∙ ap (λ ls. change_item live_id (changed_by c.args.changes) ls b) c.self.view_is
+
+pub returns-in_default : goal.returns-in_default
+returns-in_default c =
+    let b = c.args.branch.now in
+    let es = c.self.inside.lives.entries in
+    sym c.self.view_is
+    ∙ unchanged_is live_id HasRoom b (changed_by c.args.changes) es c.self.invariant (c.in_default.ensures.found ∙ ap (λ k. is_some (lookup (found_as k) es)) c.of.ensures)
+    ∙ ap (λ ls. change_item live_id (changed_by c.args.changes) ls b) c.self.view_is

@@ -1,0 +1,26 @@
+use Rattle.std.proofs.Common.{◌≡◌, None, sym, ap, subst, ◌∙◌}
+use Rattle.tran_ids.specs.Listed.{item_at, put_item}
+use Rattle.std.specs.Prelude.{◌<◌, ◌^◌}
+use Rattle.node_rules.specs.declared.work.Work.{Work}
+use Rattle.node_rules.specs.Kept.{work_id}
+use Rattle.node_rules.specs.Calls.{next_call}
+use Rattle.node_state.specs.Works.{work_of, called_over}
+use Rattle.node_state.proofs.WorkLaws.{on_err, work_branch}
+use Rattle.node_state.proofs.works.Works.call_over.Goals as goal
+
+pub returns-in_err-put-clause-err : goal.returns-in_err-put-clause-err
+returns-in_err-put-clause-err c =
+    let b = c.args.branch.now in
+    let mine = ap work_id (c.call_over.ensures ∙ ap (called_over c.args.number c.args.statement c.args.room) c.take_out-work.ensures.work) ∙ work_branch c.args.self.now b in
+    let none = subst (λ a. item_at work_id c.take_out-work.new.self a ≡ None) mine c.in_err-put.ensures.absent in
+    on_err c.from_residual.result (c.in_err-put.ensures.err ∙ c.take_out-work.ensures.absent none)
+
+pub returns-clause-ok : goal.returns-clause-ok
+returns-clause-ok c =
+    let b = c.args.branch.now in
+    let work = c.call_over.ensures ∙ ap (called_over c.args.number c.args.statement c.args.room) c.take_out-work.ensures.work in
+    let mine = ap work_id work ∙ work_branch c.args.self.now b in
+    c.in_ok-put.ensures.ok ∙ c.take_out-work.ensures.place c.call_over.new.work mine ∙ ap (put_item work_id c.args.self.now) work
+
+pub call_over-requires : goal.call_over-requires
+call_over-requires c = subst (λ (w : Work). next_call w c.args.number < 2 ^ 32) (sym c.take_out-work.ensures.work) c.requires

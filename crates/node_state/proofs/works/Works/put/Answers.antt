@@ -1,0 +1,31 @@
+use Rattle.std.proofs.Common.{◌≡◌, None, sym, ap, subst, ◌∙◌}
+use Rattle.std.specs.Map.{lookup, values_of}
+use Rattle.indexmap.specs.IndexMap.{insert_entry}
+use Rattle.tran_ids.specs.Listed.{item_at, put_item}
+use Rattle.node_rules.specs.Kept.{work_id}
+use Rattle.node_state.specs.ByBranch.{AreKeyed}
+use Rattle.node_state.specs.Works.{AnyWork}
+use Rattle.node_state.proofs.BranchLaws.{found_as, found, put_is, keyed_put}
+use Rattle.node_state.proofs.WorkLaws.{on_err}
+use Rattle.node_state.proofs.works.Works.put.Goals as goal
+
+pub returns-in_err-insert-clause-absent : goal.returns-in_err-insert-clause-absent
+returns-in_err-insert-clause-absent c =
+    let b = c.args.work.branch in
+    let es = c.self.inside.works.entries in
+    on_err c.from_residual.result (ap (λ ws. item_at work_id ws b) (sym c.self.view_is) ∙ sym (found work_id AnyWork b es c.self.invariant)
+    ∙ ap (λ k. lookup (found_as k) es) (sym c.of.ensures) ∙ c.in_err-insert.ensures.absent)
+
+pub invariant_of-self-2 : goal.invariant_of-self-2
+invariant_of-self-2 c =
+    let x = c.args.work in
+    let es = c.self.inside.works.entries in
+    let all = c.in_ok-insert.ensures.entries ∙ ap (λ k. insert_entry found_as es k x) c.of.ensures in
+    subst (AreKeyed work_id AnyWork) (sym all) (keyed_put work_id AnyWork x es tt c.self.invariant)
+
+pub returns-clause-ok : goal.returns-clause-ok
+returns-clause-ok c =
+    let x = c.args.work in
+    let es = c.self.inside.works.entries in
+    ap values_of c.in_ok-insert.ensures.entries ∙ ap (λ k. values_of (insert_entry found_as es k x)) c.of.ensures ∙ put_is work_id AnyWork x es c.self.invariant
+    ∙ ap (λ ws. put_item work_id ws x) c.self.view_is

@@ -1,0 +1,6 @@
+pub mod ByBranch
+pub mod Changed
+pub mod Lives
+pub mod Works
+pub mod Sessions
+pub mod Whole

@@ -1,0 +1,16 @@
+//! What a node keeps in memory: its live branches, the calls of these, and the sessions of its clients. Each is exact by
+//! the definitions that the rules of a node use.
+#![tactic(auto)]
+
+mod branch_key;
+mod live_changes;
+mod lives;
+mod sessions;
+mod state;
+mod work_changes;
+mod works;
+
+pub use lives::Lives;
+pub use sessions::Sessions;
+pub use state::NodeState;
+pub use works::Works;

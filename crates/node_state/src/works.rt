@@ -1,0 +1,208 @@
+//! The calls of the live branches of a node.
+ghost use Rattle.std.specs.Prelude.{◌≡◌, ◌<◌, ◌^◌, [], None, OnOk, OnErr, IfOk};
+ghost use Rattle.std.specs.Option.{option_copied};
+ghost use Rattle.tran_ids.specs.Listed.{item_at, put_item, drop_item};
+ghost use Rattle.link_session.specs.Calls.{admit as admit_of};
+ghost use Rattle.node_rules.specs.declared.work.Work.{Work};
+ghost use Rattle.node_rules.specs.Kept.{work_id, no_work};
+ghost use Rattle.node_rules.specs.Calls.{next_call};
+ghost use Rattle.node_state.specs.Works.{work_of, change_work, with_call_taken, called_over, waits_for_child, with_child, answered_with, given_up};
+
+use crate::branch_key::BranchKey;
+use crate::work_changes;
+use dtx_values::Name;
+use indexmap::IndexMap;
+use link_session::{Admit, Calls, ReplyFields};
+use node_rules::Work;
+use sql_statement::Stmt;
+use std::alloc::{AllocError, Global};
+use std::marker::Model;
+use std::mem;
+use tran_ids::BranchId;
+
+/// The calls of the live branches of a node, in the order in which a branch's first came or was made. Those of a branch are
+/// found by its id.
+#[derive(Drop)]
+pub struct Works {
+    works: IndexMap<BranchKey, Work>,
+}
+
+impl Model for Works {
+    ghost use Rattle.std.specs.Prelude.{List};
+    ghost use Rattle.std.specs.Map.{values_of};
+    ghost use Rattle.node_rules.specs.declared.work.Work.{Work};
+    ghost use Rattle.node_rules.specs.Kept.{work_id};
+    ghost use Rattle.node_state.specs.ByBranch.{AreKeyed};
+    ghost use Rattle.node_state.specs.Works.{AnyWork};
+
+    ghost Value = { List Work };
+
+    ghost view = { λ w. values_of w.works.entries };
+
+    ghost invariant = { λ w. AreKeyed work_id AnyWork w.works.entries };
+}
+
+impl Works {
+    /// No calls.
+    pub fn new(alloc: Global) -> Works
+        ensures { result ≡ [] }
+    {
+        Works {
+            works: IndexMap::new(alloc),
+        }
+    }
+
+    /// The calls of a branch, where some came or were made.
+    pub fn get(&self, branch: &BranchId) -> Option<&Work>
+        ensures { option_copied result ≡ item_at work_id self.now branch.now }
+    {
+        self.works.get(&BranchKey::of(branch))
+    }
+
+    /// What a branch does about a call of this number.
+    pub fn admit(&self, branch: &BranchId, call: u32) -> Admit
+        ensures { result ≡ admit_of (work_of self.now branch.now).came call }
+    {
+        match self.get(branch) {
+            Some(work) => work_changes::admit(&work.came, call),
+            None => work_changes::admit(&Calls::new(), call),
+        }
+    }
+
+    /// The next call number of the edge to a child, whose number counts from 1.
+    pub fn next_call(&self, branch: &BranchId, number: u8) -> u32
+        requires { next_call (work_of self.now branch.now) number < 2 ^ 32 }
+        ensures { result ≡ next_call (work_of self.now branch.now) number }
+    {
+        match self.get(branch) {
+            Some(work) => work_changes::next_call(work, number),
+            None => 1,
+        }
+    }
+
+    /// The branch takes a call. Fails where memory runs out.
+    pub fn take_call(
+        &mut self,
+        alloc: Global,
+        branch: &BranchId,
+        call: u32,
+    ) -> Result<(), AllocError>
+        ensures ok { OnOk result (self.new ≡ change_work (with_call_taken call) self.old branch.now) }
+        ensures err { OnErr result (self.new ≡ self.old) }
+    {
+        let mut work = self.take_out(alloc, branch);
+        work_changes::take_call(&mut work, call);
+        self.put(work)?;
+        Ok(())
+    }
+
+    /// A statement goes on to the child of a number, from 1, under the next call number of its edge. Fails where memory
+    /// runs out.
+    pub fn call_over(
+        &mut self,
+        alloc: Global,
+        branch: &BranchId,
+        number: u8,
+        statement: Stmt,
+        room: u16,
+    ) -> Result<(), AllocError>
+        requires { next_call (work_of self.old branch.now) number < 2 ^ 32 }
+        ensures ok { OnOk result (self.new ≡ change_work (called_over number statement room) self.old branch.now) }
+        ensures err { OnErr result (self.new ≡ self.old) }
+    {
+        let mut work = self.take_out(alloc, branch);
+        work_changes::call_over(alloc, &mut work, number, statement, room);
+        self.put(work)?;
+        Ok(())
+    }
+
+    /// A statement waits for a child to be opened over a link. Fails where memory runs out.
+    pub fn wait_for_opened(
+        &mut self,
+        alloc: Global,
+        branch: &BranchId,
+        link: Name,
+        statement: Stmt,
+        room: u16,
+    ) -> Result<(), AllocError>
+        ensures ok { OnOk result (self.new ≡ change_work (waits_for_child link statement room) self.old branch.now) }
+        ensures err { OnErr result (self.new ≡ self.old) }
+    {
+        let mut work = self.take_out(alloc, branch);
+        work_changes::wait_for_opened(&mut work, link, statement, room);
+        self.put(work)?;
+        Ok(())
+    }
+
+    /// The branch has one more child, to which no call was made. Fails where memory runs out.
+    pub fn add_edge(&mut self, alloc: Global, branch: &BranchId) -> Result<(), AllocError>
+        ensures ok { OnOk result (self.new ≡ change_work with_child self.old branch.now) }
+        ensures err { OnErr result (self.new ≡ self.old) }
+    {
+        let Some(place) = self.works.get_index_of(&BranchKey::of(branch)) else {
+            let first = work_changes::first_child(alloc, branch)?;
+            self.put(first)?;
+            return Ok(());
+        };
+        work_changes::add_child(&mut self.works[place])?;
+        Ok(())
+    }
+
+    /// The statement that is under way is answered; the answer is kept where it goes to a parent. Fails where memory runs
+    /// out.
+    pub fn answer(
+        &mut self,
+        alloc: Global,
+        branch: &BranchId,
+        reply: Option<ReplyFields>,
+    ) -> Result<(), AllocError>
+        ensures ok { OnOk result (self.new ≡ change_work (answered_with reply) self.old branch.now) }
+        ensures err { OnErr result (self.new ≡ self.old) }
+    {
+        let mut work = self.take_out(alloc, branch);
+        work_changes::answer(&mut work, reply);
+        self.put(work)?;
+        Ok(())
+    }
+
+    /// The branch waits for nothing any more. Fails where memory runs out.
+    pub fn give_up(&mut self, alloc: Global, branch: &BranchId) -> Result<(), AllocError>
+        ensures ok { OnOk result (self.new ≡ change_work given_up self.old branch.now) }
+        ensures err { OnErr result (self.new ≡ self.old) }
+    {
+        let mut work = self.take_out(alloc, branch);
+        work_changes::give_up(&mut work);
+        self.put(work)?;
+        Ok(())
+    }
+
+    /// The calls of a branch are dropped.
+    pub fn drop_branch(&mut self, branch: &BranchId)
+        ensures { self.new ≡ drop_item work_id self.old branch.now }
+    {
+        drop(self.works.shift_remove(&BranchKey::of(branch)));
+    }
+
+    // Takes the calls of a branch out, until they are put back.
+    fn take_out(&mut self, alloc: Global, branch: &BranchId) -> Work
+        ensures work { result ≡ work_of self.old branch.now }
+        ensures place { (work : Work) → work.branch ≡ branch.now → put_item work_id self.new work ≡ put_item work_id self.old work }
+        ensures absent { item_at work_id self.new branch.now ≡ None → self.new ≡ self.old }
+    {
+        let empty = work_changes::no_work(alloc, branch);
+        let Some(place) = self.works.get_index_of(&BranchKey::of(branch)) else {
+            return empty;
+        };
+        mem::replace(&mut self.works[place], empty)
+    }
+
+    // Puts the calls of a branch in the place of those before, or behind the others.
+    fn put(&mut self, work: Work) -> Result<(), AllocError>
+        ensures ok { OnOk result (self.new ≡ put_item work_id self.old work) }
+        ensures err { OnErr result (self.new ≡ self.old) }
+        ensures absent { OnErr result (item_at work_id self.old work.branch ≡ None) }
+    {
+        drop(self.works.insert(BranchKey::of(&work.branch), work)?);
+        Ok(())
+    }
+}
