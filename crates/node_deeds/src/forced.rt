@@ -21,7 +21,7 @@ pub fn one_named(
     match found {
         IdNames::Nobody => Ok(Err(no_branch(alloc, id)?)),
         IdNames::One(branch) => Ok(Ok(branch)),
-        IdNames::Several(first, second) => { Ok(Err(several_branches(alloc, id, first, second)?)) }
+        IdNames::Several(first, second) => Ok(Err(several_branches(alloc, id, first, second)?)),
     }
 }
 

@@ -1,5 +1,5 @@
 -- A catalog in which nothing has an empty name, and a way by what the records of a node leave.
-use Rattle.std.proofs.Common.{◌≡◌, false, refl, Bool, List, ℕ, [], ◌∷◌, None, find}
+use Rattle.std.proofs.Common.{◌≡◌, false, refl, Bool, List, ℕ, [], ◌∷◌, None, find, ap, sym, ◌∙◌}
 use Rattle.std.proofs.lemmas.Bool.{or_parts}
 use Rattle.std.specs.List.{list_any}
 use Rattle.catalog.specs.Catalog.{Listed, is_used}
@@ -23,3 +23,7 @@ nameless_is_unknown c none =
 pub way_by_catalog : (p : Place) (d : Durable) (l : Live) (given : ℕ) (s : Stmt) → way_of p (durable_with (listed_of d)) l given s ≡ way_of p d l given s
 unfolding way_of
 way_by_catalog p d l given s = refl
+
+-- so it is the same whatever else they leave
+pub way_of_listed : (p : Place) (d : Durable) (c : Listed) (l : Live) (given : ℕ) (s : Stmt) → listed_of d ≡ c → way_of p (durable_with c) l given s ≡ way_of p d l given s
+way_of_listed p d c l given s is = ap (λ x. way_of p (durable_with x) l given s) (sym is) ∙ way_by_catalog p d l given s

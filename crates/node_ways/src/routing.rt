@@ -111,12 +111,9 @@ fn way_named<'a>(
     }
 }
 
-/// Where a statement goes from a live branch of a node with this catalog, with the room that its Exec carried: it runs here,
-/// goes to the child of its link, opens the link, or is refused. The name is unknown: ORA-00942. The link leads to no node:
-/// ORA-02019. A link without a child: DTX-02 where the session tree is too deep or too wide, then ORA-02020 where the branch
-/// has as many links as it may have. No memory is taken.
+// By the meaning of its name.
 #[tactic(auto, unfolding(node_rules::specs::Names::way_of))]
-pub fn way_of<'a>(
+fn way_in<'a>(
     alloc: Global,
     place: &Place,
     catalog: &'a Catalog,
@@ -126,8 +123,6 @@ pub fn way_of<'a>(
 ) -> Way<'a>
     requires nodes { length place.now.names ≤ node_limit }
     requires edges { length live.now.edges ≤ branch_limit }
-
-    // A statement of another form names the empty name, which nothing has.
     requires names { has_table statement.now ≡ false → is_used catalog.now [] ≡ false }
     ensures { way_as result ≡ way_of_statement place.now (durable_with catalog.now) live.now given statement.now }
 {
@@ -139,4 +134,28 @@ pub fn way_of<'a>(
         given,
         meaning(catalog, statement),
     )
+}
+
+/// Where a statement goes from a live branch of a node with this catalog, with the room that its Exec carried: it runs here,
+/// goes to the child of its link, opens the link, or is refused. The name is unknown: ORA-00942. The link leads to no node:
+/// ORA-02019. A link without a child: DTX-02 where the session tree is too deep or too wide, then ORA-02020 where the branch
+/// has as many links as it may have. No memory is taken.
+pub fn way_of<'a>(
+    alloc: Global,
+    place: &Place,
+    catalog: &'a Catalog,
+    live: &Live,
+    given: u16,
+    statement: &'a Stmt,
+) -> Way<'a>
+    requires nodes { length place.now.names ≤ node_limit }
+    requires edges { length live.now.edges ≤ branch_limit }
+
+    // A statement of a form without a table names the empty name, which nothing has.
+    requires names { has_table statement.now ≡ false → is_used catalog.now [] ≡ false }
+
+    // Whatever else the records leave of a node with this catalog.
+    ensures { (d : Durable) → listed_of d ≡ catalog.now → way_as result ≡ way_of_statement place.now d live.now given statement.now }
+{
+    way_in(alloc, place, catalog, live, given, statement)
 }
