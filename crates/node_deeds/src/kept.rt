@@ -1,0 +1,57 @@
+//! What a kept branch answers without a change: an Ask, a CommitPoint, a Prepare that comes again.
+ghost use Rattle.std.specs.Prelude.{◌≡◌, IfOk};
+ghost use Rattle.node_rules.specs.Kept.{Kept};
+ghost use Rattle.node_rules.specs.Commit.{commit_point_known as commit_point_known_of, on_commit_point_kept as on_commit_point_kept_of, on_prepare_kept as on_prepare_kept_of};
+ghost use Rattle.node_rules.specs.Recovery.{on_ask_kept as on_ask_kept_of};
+ghost use Rattle.node_deeds.specs.Gives.{Gives};
+
+use crate::Deed;
+use crate::posts::post;
+use crate::recovery::ask_answer;
+use commit_forget::is_asked_again;
+use redo_record::{Decision, Standing};
+use std::alloc::{AllocError, Global};
+use tran_ids::BranchId;
+use wire_msg::Kind;
+
+/// CommitPoint at a kept branch: it tells the decision, where it knows one. Fails where memory runs out.
+pub fn on_commit_point_kept(
+    alloc: Global,
+    row: &Standing,
+    from: BranchId,
+) -> Result<Deed, AllocError>
+    ensures { IfOk result (λ deed. (k : Kept) → Gives (on_commit_point_kept_of k row.now from) k deed) }
+{
+    match row.decision {
+        None => Ok(Deed::nothing(alloc)),
+        Some(Decision::Commit(scn)) => {
+            let says = post(alloc, row.me, from, Kind::Committed { scn })?;
+            Ok(Deed::saying(alloc, says))
+        }
+        Some(Decision::Rollback) => {
+            let says = post(alloc, row.me, from, Kind::RolledBack)?;
+            Ok(Deed::saying(alloc, says))
+        }
+    }
+}
+
+/// Prepare at a kept branch: it is Prepared still, where its parent asks again and it knows no decision. Fails where memory
+/// runs out.
+pub fn on_prepare_kept(alloc: Global, row: &Standing, from: BranchId) -> Result<Deed, AllocError>
+    ensures { IfOk result (λ deed. (k : Kept) → Gives (on_prepare_kept_of k row.now from) k deed) }
+{
+    if is_asked_again(row, &from) {
+        let says = post(alloc, row.me, from, Kind::Prepared)?;
+        Ok(Deed::saying(alloc, says))
+    } else {
+        Ok(Deed::nothing(alloc))
+    }
+}
+
+/// Ask at a kept branch. Fails where memory runs out.
+pub fn on_ask_kept(alloc: Global, row: &Standing, from: BranchId) -> Result<Deed, AllocError>
+    ensures { IfOk result (λ deed. (k : Kept) → Gives (on_ask_kept_of k row.now from) k deed) }
+{
+    let says = post(alloc, row.me, from, ask_answer(row, &from))?;
+    Ok(Deed::saying(alloc, says))
+}
