@@ -34,7 +34,8 @@ use Rattle.run_laws.proofs.BirthLemmas.{news_of}
 use Rattle.run_laws.proofs.BirthsStandLemmas.{came_so, all_unborn}
 use Rattle.run_laws.proofs.BirthRunLemmas.{StandBorn, stand_born_on, stand_born_first, nodes_name_the_born, messages_are_of_neighbors}
 use Rattle.run_laws.proofs.NeighborLemmas.{News}
-use Rattle.run_laws.proofs.LiveLemmas.{EachLive, each_same, none_live}
+use Rattle.node_rules.specs.LiveBranches.{EachLive}
+use Rattle.node_rules.proofs.LiveLemmas.{each_same, none_live}
 use Rattle.run_laws.proofs.RestLemmas.{RootIs, free_waits}
 use Rattle.run_laws.proofs.RestRunLemmas.{NodeRests, heard_rests, free_by, RootsStand, roots_stand_on, first_rests, commits_rest}
 use Rattle.run_laws.proofs.SaidPostLemmas.{posts_back, posts_of, said_after, prepares_are_said, unborn_asks, unborn_silent, asked_in}

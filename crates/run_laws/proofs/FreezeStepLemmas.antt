@@ -33,8 +33,9 @@ use Rattle.run_laws.specs.Births.{Born}
 use Rattle.run_laws.specs.InTurnLaws.{newest_exec, newest_reply, call_at}
 use Rattle.run_laws.specs.FreezeLaws.{was_asked}
 use Rattle.run_laws.proofs.ListLemmas.{all_append, map_after}
-use Rattle.run_laws.proofs.StepLemmas.{acting_live}
-use Rattle.run_laws.proofs.LiveLemmas.{EachLive, each_put, each_changed, each_left, each_begun, each_same, works_of, branch_parts, work_is}
+use Rattle.node_rules.proofs.StepLemmas.{acting_live}
+use Rattle.node_rules.specs.LiveBranches.{EachLive, works_of}
+use Rattle.node_rules.proofs.LiveLemmas.{each_put, each_changed, each_left, each_begun, each_same, branch_parts, work_is}
 use Rattle.run_laws.proofs.RootLemmas.{SessionsFit, root_alone, pends_so, begun_so}
 use Rattle.run_laws.proofs.NeighborLemmas.{News}
 use Rattle.run_laws.proofs.NeighborStepLemmas.{begun_news, pends_news, lets_news, acked_news}

@@ -300,6 +300,8 @@ pub fn scns_rise()
 /// On each disk a seal or a decision changes no key of a branch that is in doubt by the records before it.
 pub fn records_change_free_keys()
     ensures { RecordsChangeFreeKeys }
+{}
+
 /// A branch asks a child to prepare once the child answered each of its calls, and calls it no more.
 pub fn asked_have_answered()
     ensures { AskedHaveAnswered }
