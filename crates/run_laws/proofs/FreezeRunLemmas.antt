@@ -92,10 +92,10 @@ module _ (places : List Place) (asked : List Command) (each : (n : ℕ) (p : Pla
       rests : NodeRests k
       rests = calls.rests places asked each f t bs stand roots turned u k may
 
-      abbrev received : turns.Received (edge_of bs) (parent_of bs) May Here u.input said
+      abbrev pub received : turns.Received (edge_of bs) (parent_of bs) May Here u.input said
       received = calls.received places asked each f t bs stand roots turned u k may
 
-      prepared : Prepared (edge_of bs) (parent_of bs) May Here u.input said received
+      pub prepared : Prepared (edge_of bs) (parent_of bs) May Here u.input said received
       prepared = record {
         came = λ from to site_below comment came. (
           child_parent bs to from (came_so (GoesSo (Began bs)) f stand.1.said k u.node u.input u.took may.comes from to (kinds.Prepare site_below comment) came),
@@ -104,7 +104,7 @@ module _ (places : List Place) (asked : List Command) (each : (n : ℕ) (p : Pla
         all = now.all;
       }
 
-      ice : EachLive (Ice (edge_of bs) (parent_of bs) May Here u.input said received) (heard k u.input).lives (heard k u.input).works
+      pub ice : EachLive (Ice (edge_of bs) (parent_of bs) May Here u.input said received) (heard k u.input).lives (heard k u.input).works
       ice =
           heard_calls (Ice (edge_of bs) (parent_of bs) May Here u.input said received) k u.input
           (each_same (λ l w. Frozen said l × RootIs k.sessions l w) (Ice (edge_of bs) (parent_of bs) May Here u.input said received) k.lives k.works
@@ -194,7 +194,7 @@ module _ (places : List Place) (asked : List Command) (each : (n : ℕ) (p : Pla
     still_nodes : (h : Happening) → (facts_after places asked f h).nodes ≡ f.nodes → (i : ℕ) → IfSome (node_at (facts_after places asked f h) i) (NodeFrozen (said_in f))
     still_nodes h is i = subst (λ (xs : List (Option Kept)). IfSome (flat (numbered xs i)) (NodeFrozen (said_in f))) (sym is) (now.nodes i)
 
-    freeze_on : (h : Happening) → MayHappen places asked f h → FreezeStand (facts_after places asked f h)
+    pub freeze_on : (h : Happening) → MayHappen places asked f h → FreezeStand (facts_after places asked f h)
     freeze_on (happenings.Turn u) may = turn_freezes u may.0 may.1 u.cut refl may.1.owed
     freeze_on (happenings.Stopped m) may = quiet_freezes (happenings.Stopped m) refl (stop_nodes m)
     freeze_on (happenings.Started m boot) may = quiet_freezes (happenings.Started m boot) refl (start_nodes m boot)
@@ -209,7 +209,7 @@ module _ (places : List Place) (asked : List Command) (each : (n : ℕ) (p : Pla
   unfolding start_of
   made_frozen = none_live _
 
-  first_freeze : FreezeStand (first_facts places)
+  pub first_freeze : FreezeStand (first_facts places)
   first_freeze = record { all = λ p c is. absurd cc; nodes = λ n. first_node (λ o. IfSome o (NodeFrozen [])) tt made_frozen places n }
 
   freeze_keep : (f : Facts) (hs : List Happening) (t : List Event) (bs : List Born) → StandBorn places asked each f t bs → RootsStand places asked each f → CallsStand f → FreezeStand f → IsLawful places asked f hs → FreezeStand (facts_of places asked f hs)

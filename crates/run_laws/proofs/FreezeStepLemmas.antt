@@ -1,5 +1,5 @@
 -- Each step of a node leaves working branches that asked nobody, and others that were asked: only working branches call.
-use Rattle.std.proofs.Common.{◌≡◌, ◌≢◌, ℕ, suc, ◌+◌, ◌-◌, ◌<◌, ◌≤◌, ◌&&◌, ◌⊎◌, Bool, true, false, List, [], ◌++◌, map, length, Option, Some, None, inl, inr, refl, sym, subst, ◌∙◌, arith}
+use Rattle.std.proofs.Common.{◌∷◌, ◌≡◌, ◌≢◌, ℕ, suc, ◌+◌, ◌-◌, ◌<◌, ◌≤◌, ◌&&◌, ◌⊎◌, Bool, true, false, List, [], ◌++◌, map, length, Option, Some, None, inl, inr, refl, sym, subst, ◌∙◌, arith}
 use Rattle.tran_ids.proofs.BranchLemmas.{equal_from_same}
 use Rattle.tran_ids.proofs.ListedLemmas.{item_is, put_found}
 use Rattle.link_session.proofs.OnceLemmas.{run_is_new}
@@ -116,7 +116,7 @@ module _ (E : BranchId → Option ℕ) (A : BranchId → Option BranchId) (G Her
       live_ice l live = ice.each l.me l live
 
       -- only a working branch is asked for a statement
-      asked_works : {x : Branch} {s : Stmt} {given : ℕ} → Asked k input x s given → x.live.phase ≡ phases.Working
+      pub asked_works : {x : Branch} {s : Stmt} {given : ℕ} → Asked k input x s given → x.live.phase ≡ phases.Working
       asked_works (steps.By_call n x s call rows has code live) =
           (found_ice x live).calls (root_alone k ss n x.live.me has x.live (live_so k x.live.me x live)) s (subst (λ m. IsCall input m s) (sym (ss.roots.each n x.live.me has)) call)
       asked_works (steps.By_exec x from call given advice s came live runs) = elim (working_or x.live.phase) [
@@ -134,7 +134,7 @@ module _ (E : BranchId → Option ℕ) (A : BranchId → Option BranchId) (G Her
       asked_frozen_so (steps.By_exec x from call given advice s came live runs) = (found_ice x live).frozen
 
       -- only a working branch waits
-      waits_working : (x : Branch) (g : Going) → branch_at k x.live.me ≡ Some x → x.work.going ≡ Some g → x.live.phase ≡ phases.Working
+      pub waits_working : (x : Branch) (g : Going) → branch_at k x.live.me ≡ Some x → x.work.going ≡ Some g → x.live.phase ≡ phases.Working
       waits_working x g live going = by x.live.parent refl
         where
           by : (o : Option BranchId) → x.live.parent ≡ o → x.live.phase ≡ phases.Working
@@ -324,12 +324,16 @@ module _ (E : BranchId → Option ℕ) (A : BranchId → Option BranchId) (G Her
         (all_append (λ x. IsDumb x.kind) (to_one l.me kinds.Abort l.parent) _ (one_says IsDumb l.me kinds.Abort l.parent (refl, refl)) (each_says IsDumb l.me kinds.Rollback (children_of l) (refl, refl)))
 
     -- a branch that begins
-    begun_ice : (l : Live) (w : Work) → l.phase ≡ phases.Working → w.going ≡ None → ((c : BranchId) → was_asked said l.me c ≡ false) → Ice l w
+    pub begun_ice : (l : Live) (w : Work) → l.phase ≡ phases.Working → w.going ≡ None → ((c : BranchId) → was_asked said l.me c ≡ false) → Ice l w
     begun_ice l w working none unasked = record {
       frozen = record { working = λ is. unasked; asked = λ other. absurd (other working) };
       calls = λ root s call. working;
       goes = λ root waits. absurd (waits none);
     }
+
+    -- with the others
+    pub begins_ice : (k : Kept) → Ices k → (l : Live) → l.phase ≡ phases.Working → ((c : BranchId) → was_asked said l.me c ≡ false) → EachLive Ice (k.lives ++ l ∷ []) k.works
+    begins_ice k ice l working unasked = each_begun Ice Ice k.lives k.works ice l (begun_ice l (no_work l.me) working refl unasked) (λ y v live any is. is)
 
     rolled : (l : Live) → AllSay IsPlain (to_each l.me kinds.Rollback (children_of l)) × AllSay IsDumb (to_each l.me kinds.Rollback (children_of l))
     rolled l = (each_says IsPlain l.me kinds.Rollback (children_of l) refl, each_says IsDumb l.me kinds.Rollback (children_of l) (refl, refl))

@@ -21,7 +21,7 @@ ghost use Rattle.run_laws.specs.VoteLaws.{VotesAreOfSealed, LiveHaveNotVoted};
 ghost use Rattle.run_laws.specs.PhaseLaws.{PhasesFit};
 ghost use Rattle.run_laws.specs.CallLaws.{RootsAreOfSessions, CallsFitEdges, RootsWait, CallsComeAtRest, CommitsRest};
 ghost use Rattle.run_laws.specs.InTurnLaws.{CallsAreAnswered, BranchesCallInTurn, EdgesFit};
-ghost use Rattle.run_laws.specs.FreezeLaws.{AskedHaveAnswered, AskedStandStill, PrepareFindsRest};
+ghost use Rattle.run_laws.specs.FreezeLaws.{AskedHaveAnswered, AskedStandStill, PrepareFindsRest, TreesStandStill};
 ghost use Rattle.run_laws.specs.BirthLaws.{NoIdBeginsTwice, BirthsAreTrees, NodesNameTheBorn, RecordsNameTheBorn, MessagesAreOfNeighbors, BornAreLiveOrLeft};
 
 /// The book that the facts keep is the book of the trace.
@@ -279,4 +279,10 @@ pub fn asked_stand_still()
 /// Prepare comes from the parent, and finds its receiver at rest: it waits for nothing and took the last of its parent's calls.
 pub fn prepare_finds_rest()
     ensures { PrepareFindsRest }
+{}
+
+/// Each turn leaves a live branch that is not working, where it stays live, its children with their weights and counts, its own
+/// changes, and its calls: from its COMMIT or its Prepare on the tree below it stands still.
+pub fn trees_stand_still()
+    ensures { TreesStandStill }
 {}
