@@ -32,6 +32,7 @@ use Rattle.node_rules.proofs.StandLemmas.{live_so}
 use Rattle.run_laws.specs.Births.{Born}
 use Rattle.run_laws.specs.InTurnLaws.{newest_exec, newest_reply, call_at}
 use Rattle.run_laws.specs.FreezeLaws.{was_asked}
+use Rattle.run_laws.specs.WalkLaws.{OneWay}
 use Rattle.run_laws.proofs.ListLemmas.{all_append, map_after}
 use Rattle.run_laws.proofs.StepLemmas.{acting_live}
 use Rattle.run_laws.proofs.LiveLemmas.{EachLive, each_put, each_changed, each_left, each_begun, each_same, works_of, branch_parts, work_is}
@@ -43,20 +44,8 @@ use Rattle.run_laws.proofs.CallTurnLemmas.{one_exec, if_zero, silent_other, exec
 use Rattle.run_laws.proofs.InTurnLemmas as turns
 use Rattle.run_laws.proofs.InTurnLemmas.{IsDumb, dumb_decisions, dumb_execs, peer, none_waits}
 use Rattle.run_laws.proofs.InTurnStepLemmas as deeds
-use Rattle.run_laws.proofs.FreezeLemmas.{IsPlain, plain_decisions, plain_asks, prepares_ask, asked_split, AskedAnswered, asked_answered, Frozen, stays_frozen, asked_frozen, working_or}
-
--- ---- phases
-
-acting_phase : {k : Kept} {input : Input} {l : Live} {site_below : Bool} {a : Act} → Acting k input l site_below a → l.phase ≢ phases.Working
-acting_phase (steps.Asks_down l comment site_below e es live begins has) is = absurd cc
-acting_phase (steps.Has_no_children l comment site_below a live begins none collected) is = absurd cc
-acting_phase (steps.Hears_abort l from site_below live answers) is = (let at : l.phase ≡ phases.Collecting site_below = answers.collecting in absurd (cc (at, is)))
-acting_phase (steps.Waits_on l from v site_below live answers other some) is = (let at : l.phase ≡ phases.Collecting site_below = answers.collecting in absurd (cc (at, is)))
-acting_phase (steps.Hears_last l from v site_below a live answers other all collected) is = (let at : l.phase ≡ phases.Collecting site_below = answers.collecting in absurd (cc (at, is)))
-acting_phase (steps.At_point l from a live came ready pointed) is = absurd (cc (ready, is))
-
-no_ask : {l : Live} {site_below : Bool} → Collected l site_below acts.AskDown → ⊥
-no_ask collected = elim collected [ ]
+use Rattle.run_laws.proofs.WalkLemmas.{plain_way, asks_way, unasked_below, unasked_above}
+use Rattle.run_laws.proofs.FreezeLemmas.{acting_phase, no_ask, IsPlain, plain_decisions, plain_asks, prepares_ask, asked_split, AskedAnswered, asked_answered, Frozen, stays_frozen, asked_frozen, working_or}
 
 module _ (E : BranchId → Option ℕ) (A : BranchId → Option BranchId) (G Here : BranchId → Type 0) (input : Input) (said : List Post) (received : turns.Received E A G Here input said) where
   abbrev Begun : Live → Work → Type 0
@@ -81,6 +70,7 @@ module _ (E : BranchId → Option ℕ) (A : BranchId → Option BranchId) (G Her
   pub record Prepared : Type 0 where
     pub came : (from to : BranchId) (site_below : Bool) (comment : List ℕ) → Came input from to (kinds.Prepare site_below comment) → (A to ≡ Some from) × (was_asked said from to ≡ true)
     pub all : AskedAnswered said
+    pub one : OneWay said
 
   -- a branch that asked nobody begins
   abbrev pub Unasking : Born → Type 0
@@ -88,7 +78,7 @@ module _ (E : BranchId → Option ℕ) (A : BranchId → Option BranchId) (G Her
 
   -- messages leave it so, and ask in the name of branches that are here
   abbrev pub Asks : List Post → Type 0
-  Asks says = AskedAnswered (said ++ says) × ((b c : BranchId) → (Here b → ⊥) → was_asked says b c ≡ false)
+  Asks says = AskedAnswered (said ++ says) × ((b c : BranchId) → (Here b → ⊥) → was_asked says b c ≡ false) × OneWay (said ++ says)
 
   -- what a step leaves
   abbrev pub Freezes : Deed → Type 0
@@ -150,7 +140,7 @@ module _ (E : BranchId → Option ℕ) (A : BranchId → Option BranchId) (G Her
       stay says plain y v is = stays_frozen said says y.me y.parent y.phase (λ c. plain_asks y.me c says plain) is.frozen
 
       plain_so : (says : List Post) → AllSay IsPlain says → ((p c : BranchId) → (newest_exec says p c ≡ 0) ⊎ (was_asked said p c ≡ false)) → Asks says
-      plain_so says plain execs = (asked_answered said says plain execs prepared.all, (λ b c not. plain_asks b c says plain))
+      plain_so says plain execs = (asked_answered said says plain execs prepared.all, (λ b c not. plain_asks b c says plain), plain_way said says plain prepared.one)
 
       plain_dumb : (says : List Post) → AllSay IsPlain says → AllSay IsDumb says → Asks says
       plain_dumb says plain dumb = plain_so says plain (λ p c. inl (dumb_execs p c says dumb))
@@ -251,6 +241,15 @@ module _ (E : BranchId → Option ℕ) (A : BranchId → Option BranchId) (G Her
       stays_put : (l : Live) (says : List Post) → AllSay IsPlain says → AllSay IsDumb says → Frozen (said ++ says) l → EachLive (Then says) (put_item live_id k.lives l) k.works × Asks says
       stays_put l says plain dumb frozen = (each_changed Ice (Then says) k.lives k.works ice l frozen (λ y v live other is. stay says plain y v is), plain_dumb says plain dumb)
 
+      -- a branch asks its children once
+      asks_first : {l : Live} {site_below : Bool} → Acting k input l site_below acts.AskDown → (c : BranchId) → was_asked said l.me c ≡ false
+      asks_first (steps.Asks_down l comment site_below e es live (steps.By_commit n given call has free is) has_edges) c =
+          (live_ice l live).frozen.working ((live_ice l live).calls (root_alone k ss n l.me has l live) (stmts.Commit given) (subst (λ m. IsCall input m (stmts.Commit given)) (sym (ss.roots.each n l.me has)) call)) c
+      asks_first (steps.Asks_down l comment site_below e es live (steps.By_prepare from _ came working) has_edges) c = (live_ice l live).frozen.working working c
+      asks_first (steps.Has_no_children l comment site_below _ live begins none collected) c = absurd (no_ask collected)
+      asks_first (steps.Hears_last l from v site_below _ live heard other all collected) c = absurd (no_ask collected)
+      asks_first (steps.At_point l from _ live came phase pointed) c = elim pointed [ ]
+
       module _ {l : Live} {site_below : Bool} (why : Acting k input l site_below acts.AskDown) (grants : (item_at live_id (put_item live_id k.lives l) l.me ≡ Some l) → l.parent ≡ None → (session_at k.sessions l.me.session).code ≡ None → G l.me) (here : Here l.me) where
         abbrev says : List Post
         says = prepares l.me l.comment (path_of site_below (step_from l)) 1 l.edges
@@ -286,6 +285,7 @@ module _ (E : BranchId → Option ℕ) (A : BranchId → Option BranchId) (G Her
                   omega (arith, before, none, exec_more said says p c, reply_more said says c))
             ]),
             (λ b c not. asks_no_other b c (turns.elsewhere E A G Here input said l.me b here not)),
+            asks_way l.me l.comment (path_of site_below (step_from l)) E l.edges (deeds.acting_begun E A G Here input said received k now why).kids said (λ c. unasked_below said l.me c (asks_first why c)) (λ c. unasked_above said l.me c (asks_first why c)) prepared.one,
           ),
         )
 

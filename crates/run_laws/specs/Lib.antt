@@ -42,3 +42,4 @@ pub mod RowSayLaws
 pub mod VoteLaws
 pub mod InTurnLaws
 pub mod FreezeLaws
+pub mod WalkLaws

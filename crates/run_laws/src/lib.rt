@@ -22,6 +22,7 @@ ghost use Rattle.run_laws.specs.PhaseLaws.{PhasesFit};
 ghost use Rattle.run_laws.specs.CallLaws.{RootsAreOfSessions, CallsFitEdges, RootsWait, CallsComeAtRest, CommitsRest};
 ghost use Rattle.run_laws.specs.InTurnLaws.{CallsAreAnswered, BranchesCallInTurn, EdgesFit};
 ghost use Rattle.run_laws.specs.FreezeLaws.{AskedHaveAnswered, AskedStandStill, PrepareFindsRest, TreesStandStill};
+ghost use Rattle.run_laws.specs.WalkLaws.{WalksAreOne};
 ghost use Rattle.run_laws.specs.BirthLaws.{NoIdBeginsTwice, BirthsAreTrees, NodesNameTheBorn, RecordsNameTheBorn, MessagesAreOfNeighbors, BornAreLiveOrLeft};
 
 /// The book that the facts keep is the book of the trace.
@@ -285,4 +286,10 @@ pub fn prepare_finds_rest()
 /// changes, and its calls: from its COMMIT or its Prepare on the tree below it stands still.
 pub fn trees_stand_still()
     ensures { TreesStandStill }
+{}
+
+/// A branch that told a child in Prepare that the walk to the commit point site comes there told it nothing else, and told so no
+/// other child: the Prepares of a transaction give one path.
+pub fn walks_are_one()
+    ensures { WalksAreOne }
 {}
