@@ -3,10 +3,14 @@ use Rattle.std.proofs.Common.{◌≡◌, ◌≢◌, ℕ, zero, suc, ◌+◌, ◌
 use Rattle.std.specs.List.{list_any}
 use Rattle.std.proofs.lemmas.Bool.{and_parts, or_left}
 use Rattle.tran_ids.proofs.BranchLemmas.{equal_from_same}
-use Rattle.node_rules.specs.Data.{BranchId, Edge, Kind, Live, Phase, Post}
+use Rattle.node_rules.specs.Data.{BranchId, Edge, Kind, Live, Phase, Post, Act, Input}
 use Rattle.node_rules.specs.Data.phases
+use Rattle.node_rules.specs.Data.acts
 use Rattle.node_rules.specs.Words.{same, numbered}
 use Rattle.node_rules.specs.Prepare.{prepares}
+use Rattle.node_rules.specs.Kept.{Kept}
+use Rattle.node_rules.proofs.Steps as steps
+use Rattle.node_rules.proofs.Steps.{Acting, Collected}
 use Rattle.run_laws.specs.Trail.{is_prepare}
 use Rattle.run_laws.specs.InTurnLaws.{newest_exec, newest_reply}
 use Rattle.run_laws.specs.FreezeLaws.{was_asked}
@@ -22,7 +26,7 @@ IsPlain kind = is_prepare kind ≡ false
 pub plain_decisions : OfDecisions IsPlain
 plain_decisions = record { committed = λ n. refl; rolled_back = refl; rollback = refl; in_doubt = refl; ack = refl; forgotten = refl; ask = refl }
 
-any_append : (test : Post → Bool) (ms ns : List Post) → list_any test (ms ++ ns) ≡ (list_any test ms || list_any test ns)
+pub any_append : (test : Post → Bool) (ms ns : List Post) → list_any test (ms ++ ns) ≡ (list_any test ms || list_any test ns)
 any_append test [] ns = refl
 any_append test (m ∷ ms) ns = by (test m) (any_append test ms ns)
   where
@@ -30,15 +34,15 @@ any_append test (m ∷ ms) ns = by (test m) (any_append test ms ns)
     by true is = refl
     by false is = is
 
-or_false : (p q : Bool) → p ≡ false → q ≡ false → (p || q) ≡ false
+pub or_false : (p q : Bool) → p ≡ false → q ≡ false → (p || q) ≡ false
 or_false true q first second = absurd cc
 or_false false q first second = second
 
-or_split : (p q : Bool) → (p || q) ≡ true → (p ≡ true) ⊎ (q ≡ true)
+pub or_split : (p q : Bool) → (p || q) ≡ true → (p ≡ true) ⊎ (q ≡ true)
 or_split true q is = inl refl
 or_split false q is = inr is
 
-and_false : (p q : Bool) → q ≡ false → (p && q) ≡ false
+pub and_false : (p q : Bool) → q ≡ false → (p && q) ≡ false
 and_false true q is = is
 and_false false q is = refl
 
@@ -109,3 +113,18 @@ pub working_or : (phase : Phase) → (phase ≡ phases.Working) ⊎ (phase ≢ p
 working_or phases.Working = inl refl
 working_or (phases.Collecting site_below) = inr (λ is. absurd cc)
 working_or phases.Ready = inr (λ is. absurd cc)
+
+-- ---- phases
+
+-- a branch that acts is not working any more
+pub acting_phase : {k : Kept} {input : Input} {l : Live} {site_below : Bool} {a : Act} → Acting k input l site_below a → l.phase ≢ phases.Working
+acting_phase (steps.Asks_down l comment site_below e es live begins has) is = absurd cc
+acting_phase (steps.Has_no_children l comment site_below a live begins none collected) is = absurd cc
+acting_phase (steps.Hears_abort l from site_below live answers) is = (let at : l.phase ≡ phases.Collecting site_below = answers.collecting in absurd (cc (at, is)))
+acting_phase (steps.Waits_on l from v site_below live answers other some) is = (let at : l.phase ≡ phases.Collecting site_below = answers.collecting in absurd (cc (at, is)))
+acting_phase (steps.Hears_last l from v site_below a live answers other all collected) is = (let at : l.phase ≡ phases.Collecting site_below = answers.collecting in absurd (cc (at, is)))
+acting_phase (steps.At_point l from a live came ready pointed) is = absurd (cc (ready, is))
+
+-- one whose children have all answered asks none
+pub no_ask : {l : Live} {site_below : Bool} → Collected l site_below acts.AskDown → ⊥
+no_ask collected = elim collected [ ]

@@ -43,6 +43,7 @@ use Rattle.run_laws.proofs.KidLemmas.{edge_of, parent_in, parent_of, child_paren
 use Rattle.run_laws.proofs.InTurnLemmas as turns
 use Rattle.run_laws.proofs.InTurnRunLemmas as calls
 use Rattle.run_laws.proofs.InTurnRunLemmas.{CallsStand, CallsOf, heard_calls, each_both, calls_stand_on, first_calls, run_calls, branch_calls}
+use Rattle.run_laws.specs.WalkLaws.{OneWay, WalksAreOne}
 use Rattle.run_laws.proofs.FreezeLemmas.{AskedAnswered, Frozen, stays_frozen}
 use Rattle.run_laws.proofs.FreezeStepLemmas.{Ice, Prepared, Unasking, Freezes, freezes_on}
 
@@ -53,6 +54,7 @@ NodeFrozen said k = EachLive (λ l w. Frozen said l) k.lives k.works
 -- Branches that were asked stand still everywhere.
 pub record FreezeStand (f : Facts) : Type 0 where
   pub all : AskedAnswered (said_in f)
+  pub one : OneWay (said_in f)
   pub nodes : (n : ℕ) → IfSome (node_at f n) (NodeFrozen (said_in f))
 
 -- a root that waits is working
@@ -93,19 +95,20 @@ module _ (places : List Place) (asked : List Command) (each : (n : ℕ) (p : Pla
       rests : NodeRests k
       rests = calls.rests places asked each f t bs stand roots turned u k may
 
-      abbrev received : turns.Received (edge_of bs) (parent_of bs) May Here u.input said
+      abbrev pub received : turns.Received (edge_of bs) (parent_of bs) May Here u.input said
       received = calls.received places asked each f t bs stand roots turned u k may
 
-      prepared : Prepared (edge_of bs) (parent_of bs) May Here u.input said received
+      pub prepared : Prepared (edge_of bs) (parent_of bs) May Here u.input said received
       prepared = record {
         came = λ from to site_below comment came. (
           child_parent bs to from (came_so (GoesSo (Began bs)) f stand.1.said k u.node u.input u.took may.comes from to (kinds.Prepare site_below comment) came),
           came_so (λ a b kind. is_prepare kind ≡ true → was_asked said a b ≡ true) f (prepares_are_said f) k u.node u.input u.took may.comes from to (kinds.Prepare site_below comment) came refl,
         );
         all = now.all;
+        one = now.one;
       }
 
-      ice : EachLive (Ice (edge_of bs) (parent_of bs) May Here u.input said received) (heard k u.input).lives (heard k u.input).works
+      pub ice : EachLive (Ice (edge_of bs) (parent_of bs) May Here u.input said received) (heard k u.input).lives (heard k u.input).works
       ice =
           heard_calls (Ice (edge_of bs) (parent_of bs) May Here u.input said received) k u.input
           (each_same (λ l w. Frozen said l × RootIs k.sessions l w) (Ice (edge_of bs) (parent_of bs) May Here u.input said received) k.lives k.works
@@ -149,6 +152,7 @@ module _ (places : List Place) (asked : List Command) (each : (n : ℕ) (p : Pla
           let up : node_at g n ≡ Some d.after = here_after ∙ ap (λ c. kept_after c (Some (turn_of p k u.input))) cut in
           record {
             all = subst AskedAnswered (sym sent) freezes.1.0;
+            one = subst OneWay (sym sent) freezes.1.2;
             nodes = λ m. subst (λ xs. IfSome (node_at g m) (NodeFrozen xs)) (sym sent) (elim (cases_nat m n) [
               | inl at ↦ subst (λ i. IfSome (node_at g i) (NodeFrozen (said ++ d.says))) (sym at) (subst (λ o. IfSome o (NodeFrozen (said ++ d.says))) (sym up) freezes.0)
               | inr other ↦ other_node m other
@@ -159,6 +163,7 @@ module _ (places : List Place) (asked : List Command) (each : (n : ℕ) (p : Pla
           let down : node_at g n ≡ None = here_after ∙ ap (λ c. kept_after c (Some (turn_of p k u.input))) cut in
           record {
             all = subst AskedAnswered (sym sent) now.all;
+            one = subst OneWay (sym sent) now.one;
             nodes = λ m. subst (λ xs. IfSome (node_at g m) (NodeFrozen xs)) (sym sent) (elim (cases_nat m n) [
               | inl at ↦ subst (λ i. IfSome (node_at g i) (NodeFrozen said)) (sym at) (subst (λ o. IfSome o (NodeFrozen said)) (sym down) tt)
               | inr other ↦ same_node m other
@@ -182,7 +187,7 @@ module _ (places : List Place) (asked : List Command) (each : (n : ℕ) (p : Pla
     quiet_freezes : (h : Happening) → posts_of h ≡ [] → ((i : ℕ) → IfSome (node_at (facts_after places asked f h) i) (NodeFrozen (said_in f))) → FreezeStand (facts_after places asked f h)
     quiet_freezes h none nodes =
         let sent : said_in (facts_after places asked f h) ≡ said_in f = said_after places asked f h ∙ (ap (λ xs. said_in f ++ xs) none ∙ append-nil (said_in f)) in
-        record { all = subst AskedAnswered (sym sent) now.all; nodes = λ i. subst (λ xs. IfSome (node_at (facts_after places asked f h) i) (NodeFrozen xs)) (sym sent) (nodes i) }
+        record { all = subst AskedAnswered (sym sent) now.all; one = subst OneWay (sym sent) now.one; nodes = λ i. subst (λ xs. IfSome (node_at (facts_after places asked f h) i) (NodeFrozen xs)) (sym sent) (nodes i) }
 
     stop_nodes : (m i : ℕ) → IfSome (node_at (facts_after places asked f (happenings.Stopped m)) i) (NodeFrozen (said_in f))
     unfolding facts_after
@@ -195,7 +200,7 @@ module _ (places : List Place) (asked : List Command) (each : (n : ℕ) (p : Pla
     still_nodes : (h : Happening) → (facts_after places asked f h).nodes ≡ f.nodes → (i : ℕ) → IfSome (node_at (facts_after places asked f h) i) (NodeFrozen (said_in f))
     still_nodes h is i = subst (λ (xs : List (Option Kept)). IfSome (flat (numbered xs i)) (NodeFrozen (said_in f))) (sym is) (now.nodes i)
 
-    freeze_on : (h : Happening) → MayHappen places asked f h → FreezeStand (facts_after places asked f h)
+    pub freeze_on : (h : Happening) → MayHappen places asked f h → FreezeStand (facts_after places asked f h)
     freeze_on (happenings.Turn u) may = turn_freezes u may.0 may.1 u.cut refl may.1.owed
     freeze_on (happenings.Stopped m) may = quiet_freezes (happenings.Stopped m) refl (stop_nodes m)
     freeze_on (happenings.Started m boot) may = quiet_freezes (happenings.Started m boot) refl (start_nodes m boot)
@@ -210,8 +215,8 @@ module _ (places : List Place) (asked : List Command) (each : (n : ℕ) (p : Pla
   unfolding start_of
   made_frozen = none_live _
 
-  first_freeze : FreezeStand (first_facts places)
-  first_freeze = record { all = λ p c is. absurd cc; nodes = λ n. first_node (λ o. IfSome o (NodeFrozen [])) tt made_frozen places n }
+  pub first_freeze : FreezeStand (first_facts places)
+  first_freeze = record { all = λ p c is. absurd cc; one = λ p c is. absurd cc; nodes = λ n. first_node (λ o. IfSome o (NodeFrozen [])) tt made_frozen places n }
 
   freeze_keep : (f : Facts) (hs : List Happening) (t : List Event) (bs : List Born) → StandBorn places asked each f t bs → RootsStand places asked each f → CallsStand f → FreezeStand f → IsLawful places asked f hs → FreezeStand (facts_of places asked f hs)
   unfolding facts_of IsLawful
@@ -262,3 +267,6 @@ prepare_finds_rest t lawful p n k up x found asked =
     let parent : x.live.parent ≡ Some p = above_of (births_of t) x.live lives p (asked_child t lawful p x.live.me asked) in
     let rests = rests_so t lawful n k up x found p parent asked in
     (parent, rests.0, rests.1)
+
+pub walks_are_one : WalksAreOne
+walks_are_one t lawful = (run_freezes t lawful).one

@@ -1,5 +1,5 @@
 -- Each step of a node leaves working branches that asked nobody, and others that were asked: only working branches call.
-use Rattle.std.proofs.Common.{◌≡◌, ◌≢◌, ℕ, suc, ◌+◌, ◌-◌, ◌<◌, ◌≤◌, ◌&&◌, ◌⊎◌, Bool, true, false, List, [], ◌++◌, map, length, Option, Some, None, inl, inr, refl, sym, subst, ◌∙◌, arith}
+use Rattle.std.proofs.Common.{◌∷◌, ◌≡◌, ◌≢◌, ℕ, suc, ◌+◌, ◌-◌, ◌<◌, ◌≤◌, ◌&&◌, ◌⊎◌, Bool, true, false, List, [], ◌++◌, map, length, Option, Some, None, inl, inr, refl, sym, subst, ◌∙◌, arith}
 use Rattle.tran_ids.proofs.BranchLemmas.{equal_from_same}
 use Rattle.tran_ids.proofs.ListedLemmas.{item_is, put_found}
 use Rattle.link_session.proofs.OnceLemmas.{run_is_new}
@@ -32,6 +32,7 @@ use Rattle.node_rules.proofs.StandLemmas.{live_so}
 use Rattle.run_laws.specs.Births.{Born}
 use Rattle.run_laws.specs.InTurnLaws.{newest_exec, newest_reply, call_at}
 use Rattle.run_laws.specs.FreezeLaws.{was_asked}
+use Rattle.run_laws.specs.WalkLaws.{OneWay}
 use Rattle.run_laws.proofs.ListLemmas.{all_append, map_after}
 use Rattle.node_rules.proofs.StepLemmas.{acting_live}
 use Rattle.node_rules.specs.LiveBranches.{EachLive, works_of}
@@ -44,20 +45,8 @@ use Rattle.run_laws.proofs.CallTurnLemmas.{one_exec, if_zero, silent_other, exec
 use Rattle.run_laws.proofs.InTurnLemmas as turns
 use Rattle.run_laws.proofs.InTurnLemmas.{IsDumb, dumb_decisions, dumb_execs, peer, none_waits}
 use Rattle.run_laws.proofs.InTurnStepLemmas as deeds
-use Rattle.run_laws.proofs.FreezeLemmas.{IsPlain, plain_decisions, plain_asks, prepares_ask, asked_split, AskedAnswered, asked_answered, Frozen, stays_frozen, asked_frozen, working_or}
-
--- ---- phases
-
-acting_phase : {k : Kept} {input : Input} {l : Live} {site_below : Bool} {a : Act} → Acting k input l site_below a → l.phase ≢ phases.Working
-acting_phase (steps.Asks_down l comment site_below e es live begins has) is = absurd cc
-acting_phase (steps.Has_no_children l comment site_below a live begins none collected) is = absurd cc
-acting_phase (steps.Hears_abort l from site_below live answers) is = (let at : l.phase ≡ phases.Collecting site_below = answers.collecting in absurd (cc (at, is)))
-acting_phase (steps.Waits_on l from v site_below live answers other some) is = (let at : l.phase ≡ phases.Collecting site_below = answers.collecting in absurd (cc (at, is)))
-acting_phase (steps.Hears_last l from v site_below a live answers other all collected) is = (let at : l.phase ≡ phases.Collecting site_below = answers.collecting in absurd (cc (at, is)))
-acting_phase (steps.At_point l from a live came ready pointed) is = absurd (cc (ready, is))
-
-no_ask : {l : Live} {site_below : Bool} → Collected l site_below acts.AskDown → ⊥
-no_ask collected = elim collected [ ]
+use Rattle.run_laws.proofs.WalkLemmas.{plain_way, asks_way, unasked_below, unasked_above}
+use Rattle.run_laws.proofs.FreezeLemmas.{acting_phase, no_ask, IsPlain, plain_decisions, plain_asks, prepares_ask, asked_split, AskedAnswered, asked_answered, Frozen, stays_frozen, asked_frozen, working_or}
 
 module _ (E : BranchId → Option ℕ) (A : BranchId → Option BranchId) (G Here : BranchId → Type 0) (input : Input) (said : List Post) (received : turns.Received E A G Here input said) where
   abbrev Begun : Live → Work → Type 0
@@ -82,6 +71,7 @@ module _ (E : BranchId → Option ℕ) (A : BranchId → Option BranchId) (G Her
   pub record Prepared : Type 0 where
     pub came : (from to : BranchId) (site_below : Bool) (comment : List ℕ) → Came input from to (kinds.Prepare site_below comment) → (A to ≡ Some from) × (was_asked said from to ≡ true)
     pub all : AskedAnswered said
+    pub one : OneWay said
 
   -- a branch that asked nobody begins
   abbrev pub Unasking : Born → Type 0
@@ -89,7 +79,7 @@ module _ (E : BranchId → Option ℕ) (A : BranchId → Option BranchId) (G Her
 
   -- messages leave it so, and ask in the name of branches that are here
   abbrev pub Asks : List Post → Type 0
-  Asks says = AskedAnswered (said ++ says) × ((b c : BranchId) → (Here b → ⊥) → was_asked says b c ≡ false)
+  Asks says = AskedAnswered (said ++ says) × ((b c : BranchId) → (Here b → ⊥) → was_asked says b c ≡ false) × OneWay (said ++ says)
 
   -- what a step leaves
   abbrev pub Freezes : Deed → Type 0
@@ -117,7 +107,7 @@ module _ (E : BranchId → Option ℕ) (A : BranchId → Option BranchId) (G Her
       live_ice l live = ice.each l.me l live
 
       -- only a working branch is asked for a statement
-      asked_works : {x : Branch} {s : Stmt} {given : ℕ} → Asked k input x s given → x.live.phase ≡ phases.Working
+      pub asked_works : {x : Branch} {s : Stmt} {given : ℕ} → Asked k input x s given → x.live.phase ≡ phases.Working
       asked_works (steps.By_call n x s call rows has code live) =
           (found_ice x live).calls (root_alone k ss n x.live.me has x.live (live_so k x.live.me x live)) s (subst (λ m. IsCall input m s) (sym (ss.roots.each n x.live.me has)) call)
       asked_works (steps.By_exec x from call given advice s came live runs) = elim (working_or x.live.phase) [
@@ -135,7 +125,7 @@ module _ (E : BranchId → Option ℕ) (A : BranchId → Option BranchId) (G Her
       asked_frozen_so (steps.By_exec x from call given advice s came live runs) = (found_ice x live).frozen
 
       -- only a working branch waits
-      waits_working : (x : Branch) (g : Going) → branch_at k x.live.me ≡ Some x → x.work.going ≡ Some g → x.live.phase ≡ phases.Working
+      pub waits_working : (x : Branch) (g : Going) → branch_at k x.live.me ≡ Some x → x.work.going ≡ Some g → x.live.phase ≡ phases.Working
       waits_working x g live going = by x.live.parent refl
         where
           by : (o : Option BranchId) → x.live.parent ≡ o → x.live.phase ≡ phases.Working
@@ -151,7 +141,7 @@ module _ (E : BranchId → Option ℕ) (A : BranchId → Option BranchId) (G Her
       stay says plain y v is = stays_frozen said says y.me y.parent y.phase (λ c. plain_asks y.me c says plain) is.frozen
 
       plain_so : (says : List Post) → AllSay IsPlain says → ((p c : BranchId) → (newest_exec says p c ≡ 0) ⊎ (was_asked said p c ≡ false)) → Asks says
-      plain_so says plain execs = (asked_answered said says plain execs prepared.all, (λ b c not. plain_asks b c says plain))
+      plain_so says plain execs = (asked_answered said says plain execs prepared.all, (λ b c not. plain_asks b c says plain), plain_way said says plain prepared.one)
 
       plain_dumb : (says : List Post) → AllSay IsPlain says → AllSay IsDumb says → Asks says
       plain_dumb says plain dumb = plain_so says plain (λ p c. inl (dumb_execs p c says dumb))
@@ -252,6 +242,15 @@ module _ (E : BranchId → Option ℕ) (A : BranchId → Option BranchId) (G Her
       stays_put : (l : Live) (says : List Post) → AllSay IsPlain says → AllSay IsDumb says → Frozen (said ++ says) l → EachLive (Then says) (put_item live_id k.lives l) k.works × Asks says
       stays_put l says plain dumb frozen = (each_changed Ice (Then says) k.lives k.works ice l frozen (λ y v live other is. stay says plain y v is), plain_dumb says plain dumb)
 
+      -- a branch asks its children once
+      asks_first : {l : Live} {site_below : Bool} → Acting k input l site_below acts.AskDown → (c : BranchId) → was_asked said l.me c ≡ false
+      asks_first (steps.Asks_down l comment site_below e es live (steps.By_commit n given call has free is) has_edges) c =
+          (live_ice l live).frozen.working ((live_ice l live).calls (root_alone k ss n l.me has l live) (stmts.Commit given) (subst (λ m. IsCall input m (stmts.Commit given)) (sym (ss.roots.each n l.me has)) call)) c
+      asks_first (steps.Asks_down l comment site_below e es live (steps.By_prepare from _ came working) has_edges) c = (live_ice l live).frozen.working working c
+      asks_first (steps.Has_no_children l comment site_below _ live begins none collected) c = absurd (no_ask collected)
+      asks_first (steps.Hears_last l from v site_below _ live heard other all collected) c = absurd (no_ask collected)
+      asks_first (steps.At_point l from _ live came phase pointed) c = elim pointed [ ]
+
       module _ {l : Live} {site_below : Bool} (why : Acting k input l site_below acts.AskDown) (grants : (item_at live_id (put_item live_id k.lives l) l.me ≡ Some l) → l.parent ≡ None → (session_at k.sessions l.me.session).code ≡ None → G l.me) (here : Here l.me) where
         abbrev says : List Post
         says = prepares l.me l.comment (path_of site_below (step_from l)) 1 l.edges
@@ -287,6 +286,7 @@ module _ (E : BranchId → Option ℕ) (A : BranchId → Option BranchId) (G Her
                   omega (arith, before, none, exec_more said says p c, reply_more said says c))
             ]),
             (λ b c not. asks_no_other b c (turns.elsewhere E A G Here input said l.me b here not)),
+            asks_way l.me l.comment (path_of site_below (step_from l)) E l.edges (deeds.acting_begun E A G Here input said received k now why).kids said (λ c. unasked_below said l.me c (asks_first why c)) (λ c. unasked_above said l.me c (asks_first why c)) prepared.one,
           ),
         )
 
@@ -325,12 +325,16 @@ module _ (E : BranchId → Option ℕ) (A : BranchId → Option BranchId) (G Her
         (all_append (λ x. IsDumb x.kind) (to_one l.me kinds.Abort l.parent) _ (one_says IsDumb l.me kinds.Abort l.parent (refl, refl)) (each_says IsDumb l.me kinds.Rollback (children_of l) (refl, refl)))
 
     -- a branch that begins
-    begun_ice : (l : Live) (w : Work) → l.phase ≡ phases.Working → w.going ≡ None → ((c : BranchId) → was_asked said l.me c ≡ false) → Ice l w
+    pub begun_ice : (l : Live) (w : Work) → l.phase ≡ phases.Working → w.going ≡ None → ((c : BranchId) → was_asked said l.me c ≡ false) → Ice l w
     begun_ice l w working none unasked = record {
       frozen = record { working = λ is. unasked; asked = λ other. absurd (other working) };
       calls = λ root s call. working;
       goes = λ root waits. absurd (waits none);
     }
+
+    -- with the others
+    pub begins_ice : (k : Kept) → Ices k → (l : Live) → l.phase ≡ phases.Working → ((c : BranchId) → was_asked said l.me c ≡ false) → EachLive Ice (k.lives ++ l ∷ []) k.works
+    begins_ice k ice l working unasked = each_begun Ice Ice k.lives k.works ice l (begun_ice l (no_work l.me) working refl unasked) (λ y v live any is. is)
 
     rolled : (l : Live) → AllSay IsPlain (to_each l.me kinds.Rollback (children_of l)) × AllSay IsDumb (to_each l.me kinds.Rollback (children_of l))
     rolled l = (each_says IsPlain l.me kinds.Rollback (children_of l) refl, each_says IsDumb l.me kinds.Rollback (children_of l) (refl, refl))

@@ -182,7 +182,7 @@ module _ (E : BranchId → Option ℕ) (A : BranchId → Option BranchId) (G Her
     voted_peers : (from : BranchId) (v : Vote) (es : List Edge) → map peer (map (has_voted from v) es) ≡ map peer es
     voted_peers from v es = map_after peer (has_voted from v) peer (λ e. cond_both (answers_first from e) (record e { vote = v }) e (λ y. y.peer ≡ e.peer) (λ here. refl) (λ other. refl)) es
 
-    acting_begun : {l : Live} {site_below : Bool} {a : Act} → Acting k input l site_below a → Begun l (works_of k.works l.me)
+    pub acting_begun : {l : Live} {site_below : Bool} {a : Act} → Acting k input l site_below a → Begun l (works_of k.works l.me)
     acting_begun why =
         acting_so (λ l. Begun l (works_of k.works l.me))
         (λ l comment site_below is. subst (λ ps. turns.BegunSo E A G Here input said l.me l.parent ps (works_of k.works l.me)) (sym (collected_peers l.edges)) is)

@@ -1,39 +1,35 @@
 -- A branch that says ReadOnly was live, and is gone without a record.
-use Rattle.std.proofs.Common.{◌≡◌, ℕ, ◌+◌, ◌-◌, ◌&&◌, ◌||◌, not, Bool, true, false, true≢false, if◌then◌else◌, List, [], ◌∷◌, ◌++◌, map, filter, fold, length, is_none, Option, Some, None, refl, sym, ap, subst, ◌∙◌}
-use Rattle.std.specs.Prelude.{flat_map}
+use Rattle.std.proofs.Common.{◌≡◌, ℕ, ◌+◌, ◌-◌, ◌&&◌, ◌||◌, not, Bool, true, false, true≢false, if◌then◌else◌, List, [], ◌∷◌, map, length, is_none, Option, Some, None, refl, sym, ap, subst, ◌∙◌}
 use Rattle.std.specs.List.{AllByRecursion, list_any}
 use Rattle.std.proofs.lemmas.Bool.{cond_both, or_left, or_right}
 use Rattle.tran_ids.proofs.BranchLemmas.{same_from_equal, equal_from_same}
 use Rattle.agreement.specs.Events.{Exit, Quiet, Event, Answer_read_only, Drop, first, exit_by, exit}
 use Rattle.agreement.proofs.EventLemmas.{only_at_same}
-use Rattle.commit_forget.specs.declared.next.Beyond.{Beyond}
 use Rattle.commit_forget.specs.declared.next.Next.TheVariants as nexts
 use Rattle.reco.specs.declared.post.Post.{Post}
-use Rattle.reco.specs.declared.told.Told.{Told}
-use Rattle.reco.specs.declared.told.Told.TheVariants as tolds
 use Rattle.session_tree.specs.Live.{children_of, peer_of, new_edge}
 use Rattle.session_tree.specs.Tree.{step as step_from}
 use Rattle.node_rules.specs.Data.{Answer, Stmt, BranchId, Decision, Edge, Kind, Msg, Live, Act, Standing, Place, Input}
 use Rattle.node_rules.specs.Data.acts
-use Rattle.node_rules.specs.Data.decisions
 use Rattle.node_rules.specs.Data.kinds
 use Rattle.node_rules.specs.Data.stmts
 use Rattle.node_rules.specs.Data.inputs
 use Rattle.node_rules.specs.declared.session.Session.{Session}
-use Rattle.node_rules.specs.Words.{same, put_by_branch, drop_item}
+use Rattle.node_rules.specs.Words.{same, drop_item}
 use Rattle.node_rules.specs.Inputs.{Came, IsCall}
-use Rattle.node_rules.specs.Kept.{Kept, Branch, Deed, live_id, post_one, to_each, to_one}
+use Rattle.node_rules.specs.Kept.{Kept, Branch, Deed, live_id, to_each, to_one}
 use Rattle.node_rules.specs.Calls.{answer_says, exec_to, with_edge, hears_reply}
 use Rattle.node_rules.specs.Statement.{ran, after_run}
 use Rattle.node_rules.specs.Prepare.{path_of, prepares, site_neighbors}
-use Rattle.node_rules.specs.Commit.{beyond, all_acked, passes_commit, rollback_to, passes}
-use Rattle.node_rules.specs.Recovery.{kept_told, told_kind, Asking, asking_id, asks_live, asks_kept, acks_again, recovers, askings}
+use Rattle.node_rules.specs.Commit.{beyond, passes}
+use Rattle.node_rules.specs.Recovery.{kept_told}
 use Rattle.node_rules.proofs.Steps as steps
 use Rattle.node_rules.proofs.Steps.{Step, Says, IsOfRows, Collects, Acting}
 use Rattle.run_laws.specs.Branches.{is_among}
 use Rattle.run_laws.specs.Trail.{is_read_only, is_quiet}
 use Rattle.run_laws.specs.RunEvents.{leave_event, has_left, with_leaver, with_leavers}
-use Rattle.run_laws.proofs.ListLemmas.{all_weaker, all_append, all_each, all_put}
+use Rattle.run_laws.proofs.KindSayLemmas.{OfDecisions, one_says, each_says, prepares_say, told_says, passes_say, askings_say}
+use Rattle.run_laws.proofs.ListLemmas.{all_weaker, all_append}
 use Rattle.node_rules.proofs.StepLemmas.{IsLive, acting_live}
 use Rattle.run_laws.proofs.RowEventLemmas.{only_none, first_new, same_turned}
 
@@ -46,12 +42,17 @@ Plain x = is_read_only x.kind ≡ false
 abbrev PlainAll : List Post → Type 0
 PlainAll posts = AllByRecursion Plain posts
 
+abbrev PlainKind : Kind → Type 0
+PlainKind kind = is_read_only kind ≡ false
+
+plain_decisions : OfDecisions PlainKind
+plain_decisions = record { committed = λ n. refl; rolled_back = refl; rollback = refl; in_doubt = refl; ack = refl; forgotten = refl; ask = refl }
+
 one_plain : (from : BranchId) (kind : Kind) (to : Option BranchId) → is_read_only kind ≡ false → PlainAll (to_one from kind to)
-one_plain from kind None is = tt
-one_plain from kind (Some to) is = (is, tt)
+one_plain from kind to is = one_says PlainKind from kind to is
 
 each_plain : (from : BranchId) (kind : Kind) (tos : List BranchId) → is_read_only kind ≡ false → PlainAll (to_each from kind tos)
-each_plain from kind tos is = all_each Plain (post_one from kind) tos (λ b. is)
+each_plain from kind tos is = each_says PlainKind from kind tos is
 
 answer_plain : (x : Branch) (a : Answer) (parent : Option BranchId) → PlainAll (answer_says x a parent)
 answer_plain x a None = tt
@@ -62,53 +63,14 @@ exec_plain ss x i s given None = tt
 exec_plain ss x i s given (Some to) = (refl, tt)
 
 prepares_plain : (me : BranchId) (comment : List ℕ) (path : Option ℕ) (i : ℕ) (es : List Edge) → PlainAll (prepares me comment path i es)
-prepares_plain me comment path i [] = tt
-prepares_plain me comment path i (e ∷ es) = (refl, prepares_plain me comment path (i + 1) es)
-
-told_plain : (t : Told) → is_read_only (told_kind t) ≡ false
-told_plain (tolds.Committed n) = refl
-told_plain tolds.RolledBack = refl
-told_plain tolds.RollBackFirst = refl
-told_plain tolds.InDoubt = refl
-
-commit_plain : (s : Standing) (n : ℕ) (bs : List Beyond) → PlainAll (passes_commit s n bs)
-commit_plain s n [] = one_plain s.me kinds.Ack s.toward refl
-commit_plain s n (b ∷ bs) = each_plain s.me (kinds.Committed n) (map (λ c. c.branch) (b ∷ bs)) refl
+prepares_plain me comment path i es = prepares_say PlainKind (λ site_below c. refl) me comment path i es
 
 passes_plain : (s : Standing) (d : Decision) → PlainAll (passes s d)
-passes_plain s (decisions.Commit n) = commit_plain s n (beyond s)
-passes_plain s decisions.Rollback =
-    all_each Plain (rollback_to s.me) (beyond s) (λ b. cond_both b.is_parent kinds.RolledBack kinds.Rollback (λ kind. is_read_only kind ≡ false) (λ up. refl) (λ down. refl))
-
-again_plain : (s : Standing) → PlainAll (acks_again s)
-again_plain s = cond_both (all_acked s && not s.forgot) (to_one s.me kinds.Ack s.toward) [] PlainAll (λ all. one_plain s.me kinds.Ack s.toward refl) (λ some. tt)
-
-recovers_plain : (s : Standing) (d : Option Decision) → PlainAll (recovers s d)
-recovers_plain s None = one_plain s.me kinds.Ask s.toward refl
-recovers_plain s (Some (decisions.Commit n)) =
-    all_append Plain _ (acks_again s) (each_plain s.me (kinds.Committed n) (map (λ b. b.branch) (filter (λ b. not b.acked) (beyond s))) refl) (again_plain s)
-recovers_plain s (Some decisions.Rollback) = tt
-
-abbrev AsksSo : Asking → Type 0
-AsksSo a = PlainAll a.says
-
-sorted_plain : (more asked : List Asking) → AllByRecursion AsksSo asked → AllByRecursion AsksSo more → AllByRecursion AsksSo (fold (put_by_branch asking_id) asked more)
-sorted_plain [] asked all rest = all
-sorted_plain (a ∷ more) asked all rest = sorted_plain more (put_by_branch asking_id asked a) (all_put AsksSo asking_id asked a all rest.0) rest.1
-
-flat_plain : (asked : List Asking) → AllByRecursion AsksSo asked → PlainAll (flat_map (λ a. a.says) asked)
-flat_plain [] all = tt
-flat_plain (a ∷ asked) all = all_append Plain a.says _ all.0 (flat_plain asked all.1)
-
-askings_plain : (k : Kept) → PlainAll (flat_map (λ a. a.says) (askings k))
-askings_plain k =
-    flat_plain (askings k) (sorted_plain (map asks_live k.lives ++ map asks_kept k.stored.durable.kept) [] tt
-    (all_append AsksSo (map asks_live k.lives) (map asks_kept k.stored.durable.kept) (all_each AsksSo asks_live k.lives (λ l. one_plain l.me kinds.Ask l.parent refl))
-    (all_each AsksSo asks_kept k.stored.durable.kept (λ s. recovers_plain s s.decision))))
+passes_plain s d = passes_say PlainKind plain_decisions s d
 
 says_plain : {k : Kept} {input : Input} {says : List Post} → Says k input says → PlainAll says
-says_plain (steps.Tells s from came kept) = (told_plain (kept_told s from), tt)
-says_plain {k = k} (steps.Recovers reco) = askings_plain k
+says_plain (steps.Tells s from came kept) = (told_says PlainKind plain_decisions (kept_told s from), tt)
+says_plain {k = k} (steps.Recovers reco) = askings_say PlainKind plain_decisions k
 says_plain _ = (refl, tt)
 
 -- ---- a turn that says ReadOnly

@@ -49,3 +49,4 @@ pub mod FreezeLaws
 pub mod ToldLaws
 pub mod OrderLaws
 pub mod CommitOrderLaws
+pub mod WalkLaws

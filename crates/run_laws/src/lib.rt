@@ -25,10 +25,11 @@ ghost use Rattle.run_laws.specs.ChangedLaws.{ChangesAreOfLive};
 ghost use Rattle.run_laws.specs.TableLaws.{ChangesAreOfTables};
 ghost use Rattle.run_laws.specs.KeyLaws.{KeysAreHeld};
 ghost use Rattle.run_laws.specs.RiseLaws.{ScnsRise, RecordsChangeFreeKeys};
-ghost use Rattle.run_laws.specs.FreezeLaws.{AskedHaveAnswered, AskedStandStill, PrepareFindsRest};
 ghost use Rattle.run_laws.specs.ToldLaws.{RowsAreTold};
 ghost use Rattle.run_laws.specs.OrderLaws.{KeysComeInOrder};
 ghost use Rattle.run_laws.specs.CommitOrderLaws.{CommitsComeInOrder};
+ghost use Rattle.run_laws.specs.FreezeLaws.{AskedHaveAnswered, AskedStandStill, PrepareFindsRest, TreesStandStill};
+ghost use Rattle.run_laws.specs.WalkLaws.{WalksAreOne};
 ghost use Rattle.run_laws.specs.BirthLaws.{NoIdBeginsTwice, BirthsAreTrees, NodesNameTheBorn, RecordsNameTheBorn, MessagesAreOfNeighbors, BornAreLiveOrLeft};
 
 /// The book that the facts keep is the book of the trace.
@@ -334,4 +335,16 @@ pub fn keys_come_in_order()
 /// committed.
 pub fn commits_come_in_order()
     ensures { CommitsComeInOrder }
+{}
+
+/// Each turn leaves a live branch that is not working, where it stays live, its children with their weights and counts, its own
+/// changes, and its calls: from its COMMIT or its Prepare on the tree below it stands still.
+pub fn trees_stand_still()
+    ensures { TreesStandStill }
+{}
+
+/// A branch that told a child in Prepare that the walk to the commit point site comes there told it nothing else, and told so no
+/// other child: the Prepares of a transaction give one path.
+pub fn walks_are_one()
+    ensures { WalksAreOne }
 {}
