@@ -47,3 +47,4 @@ pub mod RiseLaws
 pub mod ToldLaws
 pub mod OrderLaws
 pub mod CommitOrderLaws
+pub mod TriedRows

@@ -27,6 +27,7 @@ ghost use Rattle.run_laws.specs.RiseLaws.{ScnsRise, RecordsChangeFreeKeys};
 ghost use Rattle.run_laws.specs.ToldLaws.{RowsAreTold};
 ghost use Rattle.run_laws.specs.OrderLaws.{KeysComeInOrder};
 ghost use Rattle.run_laws.specs.CommitOrderLaws.{CommitsComeInOrder};
+ghost use Rattle.run_laws.specs.TriedRows.{TheTriedRows};
 ghost use Rattle.run_laws.specs.BirthLaws.{NoIdBeginsTwice, BirthsAreTrees, NodesNameTheBorn, RecordsNameTheBorn, MessagesAreOfNeighbors, BornAreLiveOrLeft};
 
 /// The book that the facts keep is the book of the trace.
@@ -295,4 +296,10 @@ pub fn keys_come_in_order()
 /// committed.
 pub fn commits_come_in_order()
     ensures { CommitsComeInOrder }
+{}
+
+/// No law of rows and keys is about nothing: the nodes of the tried run end with the rows that its book tells, and their branches
+/// hold their keys before.
+pub fn the_tried_rows()
+    ensures { TheTriedRows }
 {}
