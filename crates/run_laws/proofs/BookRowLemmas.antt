@@ -1,13 +1,11 @@
 -- Each record leaves the rows of its node as the book tells them, and what branches in doubt hold back as the book has it.
-use Rattle.std.proofs.Common.{◌≡◌, ◌≢◌, ℕ, ◌==◌, not, Bool, true, false, if◌then◌else◌, List, [], ◌∷◌, ◌++◌, Option, Some, None, inl, inr, refl, sym, ap, subst, ◌∙◌, true≢false, append-nil}
-use Rattle.std.specs.Prelude.{◌⊎◌}
+use Rattle.std.proofs.Common.{◌≡◌, ◌≢◌, ℕ, ◌==◌, Bool, true, false, if◌then◌else◌, List, [], ◌∷◌, ◌++◌, Option, Some, None, inl, inr, refl, sym, ap, subst, ◌∙◌, append-nil}
 use Rattle.std.specs.Option.{option_or}
-use Rattle.std.specs.List.{AllByRecursion}
-use Rattle.std.proofs.lemmas.Bool.{eqb-true, eq-eqb}
+use Rattle.std.proofs.lemmas.Bool.{eq-eqb}
 use Rattle.std.proofs.lemmas.List.Folds.{find-append}
 use Rattle.tran_ids.proofs.BranchLemmas.{equal_from_same, same_from_equal}
 use Rattle.tran_ids.proofs.ListedLemmas.{item_is, drop_gone, drop_leaves}
-use Rattle.agreement.specs.Events.{Sealed, Decided, Event, Seal, Decide, Learn, Force, Make, Forget, first, only_at, exit_by, exit, learned_by, learned, forced_by, forced}
+use Rattle.agreement.specs.Events.{Sealed, Decided, Event, Decide, Learn, Force, Make, Forget, only_at, exit_by, exit, learned_by, learned, forced_by, forced}
 use Rattle.agreement.proofs.EventLemmas.{first_is, only_at_is}
 use Rattle.sql_eval.specs.Rows.{apply}
 use Rattle.row_store.specs.Store.{has_table}
@@ -15,7 +13,7 @@ use Rattle.node_rules.specs.Data.{Change, Table, BranchId, Decision, RedoRecord,
 use Rattle.node_rules.specs.Data.decisions
 use Rattle.node_rules.specs.Data.records
 use Rattle.node_rules.specs.Data.params
-use Rattle.node_rules.specs.Words.{same, same_text, item_at, drop_item}
+use Rattle.node_rules.specs.Words.{same, item_at, drop_item}
 use Rattle.node_rules.specs.Rows.{TableRows, rows_of_table, apply_all}
 use Rattle.node_rules.specs.Kept.{Stored, doubt_id}
 use Rattle.node_rules.specs.Records.{applied, held_back, settled, doubt_over}
@@ -29,11 +27,10 @@ use Rattle.run_laws.specs.RunEvents.{with_event, record_event}
 use Rattle.run_laws.specs.EventRows.{MayStand}
 use Rattle.run_laws.specs.TableLaws.{table_in, AreChangesIn, TablesFit, StoredFits}
 use Rattle.run_laws.proofs.OwnLemmas.{all_found}
-use Rattle.run_laws.proofs.NodesStandLemmas.{LeavesAlone, wrote_elsewhere, exit_alone}
 use Rattle.run_laws.proofs.ChangedLemmas.{found_last, none_last}
 use Rattle.run_laws.proofs.TableLemmas.{RecordFits, rows_more, has_applied}
 use Rattle.run_laws.proofs.DoubtLemmas.{IsOpen, DoubtsAre}
-use Rattle.run_laws.proofs.ToldLemmas.{changes_more, told_more, IsQuietAt, told_quietly, changes_quietly, first_left, first_right, not_only, rows_with, made_there}
+use Rattle.run_laws.proofs.ToldLemmas.{changes_more, told_more, first_left, first_right, not_only, rows_with, made_there}
 
 -- ---- what is kept and what the book has
 

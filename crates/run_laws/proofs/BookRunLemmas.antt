@@ -1,12 +1,12 @@
 -- In every lawful run the committed rows of a node are those that the book tells.
-use Rattle.std.proofs.Common.{◌≡◌, ◌≢◌, ℕ, ◌==◌, Bool, true, false, if◌then◌else◌, List, [], ◌∷◌, ◌++◌, flat_map, Option, Some, None, inl, inr, refl, sym, ap, subst, ◌∙◌, append-nil, arith}
-use Rattle.std.specs.Prelude.{◌⊎◌, IfSome}
+use Rattle.std.proofs.Common.{◌≡◌, ◌≢◌, ℕ, ◌==◌, Bool, true, false, if◌then◌else◌, List, [], ◌∷◌, ◌++◌, Option, Some, None, inl, inr, refl, sym, ap, subst, ◌∙◌, append-nil, arith}
+use Rattle.std.specs.Prelude.{IfSome}
 use Rattle.std.specs.Option.{option_to_list}
 use Rattle.std.specs.List.{AllByRecursion}
 use Rattle.std.proofs.lemmas.Bool.{eqb-true}
 use Rattle.tran_ids.proofs.BranchLemmas.{equal_from_same}
 use Rattle.tran_ids.proofs.ListedLemmas.{item_is}
-use Rattle.agreement.specs.Events.{Exit, Sealed, Quiet, Dropped, Event, first, only_at, exit_by, exit, learned_by, learned, forced_by, forced}
+use Rattle.agreement.specs.Events.{Sealed, Quiet, Dropped, Event, exit_by, exit, learned_by, learned, forced_by, forced}
 use Rattle.agreement.proofs.EventLemmas.{only_at_is}
 use Rattle.node_rules.specs.Data.{Change, Table, Stmt, Done, BranchId, RedoRecord, Place, Input, Doubt}
 use Rattle.node_rules.specs.Data.decisions
@@ -27,13 +27,13 @@ use Rattle.redo_record.specs.Durable.{durable_after}
 use Rattle.run_laws.specs.Data.{Entry, Turn, Happening, Command}
 use Rattle.run_laws.specs.Data.entries
 use Rattle.run_laws.specs.Data.happenings
-use Rattle.run_laws.specs.Facts.{Facts, first_facts, place_at, node_at, records_at, facts_after}
-use Rattle.run_laws.specs.Lawful.{IsPlace, MayHappen, History, IsLawfulRun, facts_at}
-use Rattle.run_laws.specs.Book.{changes_in, changes_of, commits_now, rows_told}
+use Rattle.run_laws.specs.Facts.{Facts, first_facts, place_at, records_at, facts_after}
+use Rattle.run_laws.specs.Lawful.{IsPlace, MayHappen, facts_at}
+use Rattle.run_laws.specs.Book.{changes_in, changes_of, rows_told}
 use Rattle.run_laws.specs.IdLaws.{IsRecordOf}
 use Rattle.run_laws.specs.RunEvents.{with_event, wrote_event, record_event, with_record, events_after, events_of}
 use Rattle.run_laws.specs.EventRows.{MayStand}
-use Rattle.run_laws.specs.TableLaws.{table_in, TablesFit, StoredFits, LiveChangesFit}
+use Rattle.run_laws.specs.TableLaws.{StoredFits, LiveChangesFit}
 use Rattle.run_laws.specs.ToldLaws.{RowsAreTold}
 use Rattle.run_laws.proofs.FactLemmas.{book_is}
 use Rattle.run_laws.proofs.OwnLemmas.{all_found}
@@ -46,12 +46,12 @@ use Rattle.run_laws.proofs.LaterLemmas.{Added, Later, Was_said, Was_quiet, Was_d
 use Rattle.run_laws.proofs.NodesStandLemmas.{LeavesAlone, wrote_elsewhere, exit_alone, some_or_none}
 use Rattle.run_laws.proofs.AtNodeLemmas.{turn_elsewhere, turn_here, start_elsewhere, start_here}
 use Rattle.run_laws.proofs.TurnEventLemmas.{cases_nat, record_may, record_own}
-use Rattle.run_laws.proofs.EventsStandLemmas.{Stand, node_so, owned_so, first_disk}
+use Rattle.run_laws.proofs.EventsStandLemmas.{node_so, owned_so, first_disk}
 use Rattle.run_laws.proofs.TableLemmas.{RecordFits}
 use Rattle.run_laws.proofs.DoubtLemmas.{IsOpen, DoubtsAre}
-use Rattle.run_laws.proofs.KeyRunLemmas.{AllStands, all_on, all_first, doubts_same}
+use Rattle.run_laws.proofs.KeyRunLemmas.{AllStands, all_on, all_first}
 use Rattle.run_laws.proofs.ToldLemmas.{changes_more, IsQuietAt, told_quietly, changes_quietly, first_left, first_right, not_only}
-use Rattle.run_laws.proofs.BookRowLemmas.{BookStands, StoredStands, IsUnseen, book_with}
+use Rattle.run_laws.proofs.BookRowLemmas.{StoredStands, IsUnseen, book_with}
 
 -- ---- an entry of another node
 

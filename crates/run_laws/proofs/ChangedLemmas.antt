@@ -1,13 +1,13 @@
 -- Changes that are not committed are kept of live branches alone, and a live branch is marked as changed where it has some.
-use Rattle.std.proofs.Common.{◌≡◌, ℕ, ◌+◌, ◌||◌, Bool, true, false, if◌then◌else◌, List, [], ◌∷◌, ◌++◌, length, Option, Some, None, inl, inr, refl, sym, ap, subst, ◌∙◌, arith}
-use Rattle.std.specs.Prelude.{◌⊎◌, nat_lt, flat_map}
+use Rattle.std.proofs.Common.{◌≡◌, ℕ, ◌||◌, Bool, true, false, if◌then◌else◌, List, [], ◌∷◌, ◌++◌, Option, Some, None, inl, inr, refl, sym, ap, subst, ◌∙◌, arith}
+use Rattle.std.specs.Prelude.{◌⊎◌}
 use Rattle.std.proofs.lemmas.Bool.Decides.{nat_tests}
 use Rattle.std.proofs.lemmas.Grind.{flat_map-append}
 use Rattle.std.proofs.lemmas.List.Folds.{find-append}
 use Rattle.std.specs.Option.{option_or}
 use Rattle.tran_ids.proofs.ListedLemmas.{item_is, put_found, put_leaves, put_or_before, drop_gone, drop_leaves}
-use Rattle.tran_ids.proofs.BranchLemmas.{equal_from_same, same_from_equal}
-use Rattle.node_rules.specs.Data.{Change, ChangeSet, BranchId, Stmt, Keyed, Place, Input, Live, Vote, Owned}
+use Rattle.tran_ids.proofs.BranchLemmas.{equal_from_same}
+use Rattle.node_rules.specs.Data.{Change, ChangeSet, BranchId, Stmt, Keyed, Place, Input, Live, Owned}
 use Rattle.node_rules.specs.Data.acts
 use Rattle.commit_forget.specs.declared.next.Next.TheVariants as nexts
 use Rattle.node_rules.specs.Words.{same, item_at, put_item, drop_item}
@@ -21,7 +21,7 @@ use Rattle.node_rules.proofs.Steps as steps
 use Rattle.node_rules.proofs.Steps.{Step, Asked, By_call, By_exec, Acting}
 use Rattle.node_rules.proofs.StandLemmas.{live_so}
 use Rattle.run_laws.specs.ChangedLaws.{changes_at, has_changes, IsMarked, ChangesFit, ChangesAreOfLive}
-use Rattle.node_rules.proofs.StepLemmas.{acting_so, made_so}
+use Rattle.node_rules.proofs.StepLemmas.{acting_so}
 use Rattle.run_laws.proofs.NodeLemmas.{KeepsAlone, kept_alone}
 
 -- ---- changes of a branch

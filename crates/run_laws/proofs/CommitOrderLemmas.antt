@@ -1,10 +1,10 @@
 -- Where the turns of a lawful run go by its session trees, commit SCNs are in order at each key.
-use Rattle.std.proofs.Common.{◌≡◌, ◌≢◌, ℕ, ◌+◌, ◌<◌, ◌≤◌, ◌||◌, Bool, true, false, true≢false, List, [], ◌∷◌, ◌++◌, Option, Some, None, inl, inr, refl, sym, ap, subst, ◌∙◌, append-nil, append_assoc, arith}
-use Rattle.std.specs.Prelude.{◌⊎◌, IfSome}
+use Rattle.std.proofs.Common.{◌≡◌, ◌≢◌, ℕ, ◌<◌, ◌≤◌, ◌||◌, Bool, true, false, true≢false, List, [], ◌∷◌, ◌++◌, Option, Some, None, inl, inr, refl, sym, subst, append-nil, append_assoc, arith}
+use Rattle.std.specs.Prelude.{IfSome}
 use Rattle.std.specs.Option.{option_to_list}
 use Rattle.std.specs.List.{AllByRecursion, list_any}
-use Rattle.tran_ids.proofs.BranchLemmas.{equal_from_same, same_from_equal}
-use Rattle.agreement.specs.Events.{Forest, IsForest, Sealed, Decided, Event, Seal, Decide, Learn, Force, first, only_at, exit_by, exit, learned_by, learned, forced_by, forced, Has, Allowed, Lawful, site_of}
+use Rattle.tran_ids.proofs.BranchLemmas.{equal_from_same}
+use Rattle.agreement.specs.Events.{Forest, IsForest, Sealed, Decided, Event, Decide, Learn, Force, first, exit, learned_by, learned, forced_by, forced, Has, Allowed, Lawful, site_of}
 use Rattle.agreement.proofs.EventLemmas.{only_at_same, learned_stays}
 use Rattle.agreement.proofs.Invariant.{Inv}
 use Rattle.agreement.proofs.InvariantKept.{inv}
@@ -13,16 +13,16 @@ use Rattle.agreement.proofs.AgreementLaws.{exit_decided, exit_sealed, later as s
 use Rattle.node_rules.specs.Data.{Change, BranchId, Decision, RedoRecord, Place}
 use Rattle.node_rules.specs.Data.decisions
 use Rattle.node_rules.specs.Data.records
-use Rattle.node_rules.specs.Words.{same, numbered}
+use Rattle.node_rules.specs.Words.{numbered}
 use Rattle.run_laws.specs.Data.{Turn, Happening, Command}
 use Rattle.run_laws.specs.Data.happenings
 use Rattle.run_laws.specs.Facts.{Facts, first_facts, records_at, facts_after}
 use Rattle.run_laws.specs.Lawful.{IsPlace, MayHappen, History, IsLawfulRun, facts_at}
 use Rattle.run_laws.specs.RunEvents.{with_event, wrote_event, record_event, with_record, events_after, events_of}
 use Rattle.run_laws.specs.OrderLaws.{ends, commit_scn, have_a_key_in_common, IsDoneBefore, ComesInOrder, InOrderFrom}
-use Rattle.run_laws.specs.CommitOrderLaws.{IsIn, Leaves, changes_by, LeavesAfter, CommitsComeInOrder}
+use Rattle.run_laws.specs.CommitOrderLaws.{IsIn, Leaves, changes_by, CommitsComeInOrder}
 use Rattle.run_laws.proofs.ListLemmas.{all_weaker, all_append}
-use Rattle.run_laws.proofs.LaterLemmas.{Added, Later, Nothing_more, One_more, has_later, turn_added, stop_added, events_keep}
+use Rattle.run_laws.proofs.LaterLemmas.{Added, has_later, turn_added, stop_added, events_keep}
 use Rattle.run_laws.proofs.AtNodeLemmas.{turn_elsewhere, turn_here, start_elsewhere, start_here}
 use Rattle.run_laws.proofs.TurnEventLemmas.{cases_nat}
 use Rattle.run_laws.proofs.EventsStandLemmas.{Stand, stand_on, stand_first, first_disk}

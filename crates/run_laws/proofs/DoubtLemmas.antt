@@ -1,14 +1,13 @@
 -- The branches in doubt of a node, by its records, are its own branches that are sealed and neither ended nor forced.
 use Rattle.std.proofs.Common.{◌≡◌, ◌≢◌, ℕ, arith, not, Bool, true, false, List, [], ◌∷◌, ◌++◌, if◌then◌else◌, Option, Some, None, refl, sym, ap, subst, ◌∙◌, inl, inr}
-use Rattle.std.specs.Prelude.{◌⊎◌, IfSome}
+use Rattle.std.specs.Prelude.{IfSome}
 use Rattle.std.specs.Option.{option_to_list}
 use Rattle.std.specs.List.{AllByRecursion}
 use Rattle.std.proofs.lemmas.Bool.{not-true}
 use Rattle.tran_ids.proofs.BranchLemmas.{equal_from_same, same_from_equal}
-use Rattle.agreement.specs.Events.{Sealed, Event, Seal, Learn, Force, first, only_at, exit_by, exit, learned_by, learned, forced_by, forced}
+use Rattle.agreement.specs.Events.{Sealed, Event, Seal, first, only_at, exit_by, exit, learned_by, learned, forced_by, forced}
 use Rattle.node_rules.specs.Data.{BranchId, Decision, RedoRecord, Doubt, Place}
 use Rattle.node_rules.specs.Data.records
-use Rattle.node_rules.specs.Data.params
 use Rattle.node_rules.specs.Words.{same, numbered, drop_item}
 use Rattle.node_rules.specs.Kept.{Stored, doubt_id}
 use Rattle.node_rules.specs.Records.{applied, nothing_stored, stored_by, doubt_over}
@@ -20,8 +19,8 @@ use Rattle.run_laws.specs.IdLaws.{IsRecordOf}
 use Rattle.run_laws.specs.RunEvents.{with_event, wrote_event, record_event, with_record, events_after}
 use Rattle.run_laws.specs.EventRows.{MayStand}
 use Rattle.run_laws.proofs.ListLemmas.{all_weaker, all_append, all_filter}
-use Rattle.run_laws.proofs.StoredLemmas.{stored_with, with_wrote}
-use Rattle.run_laws.proofs.LaterLemmas.{Added, Later, Nothing_more, One_more, exit_later, learned_same, forced_same, later_learned, later_forced, turn_added, stop_added}
+use Rattle.run_laws.proofs.StoredLemmas.{stored_with}
+use Rattle.run_laws.proofs.LaterLemmas.{Added, Later, exit_later, learned_same, forced_same, later_learned, later_forced, turn_added, stop_added}
 use Rattle.run_laws.proofs.RowEventLemmas.{only_none}
 use Rattle.run_laws.proofs.NodesStandLemmas.{LeavesAlone, wrote_elsewhere}
 use Rattle.run_laws.proofs.AtNodeLemmas.{turn_elsewhere, turn_here, start_elsewhere, start_here}

@@ -1,19 +1,17 @@
 -- The locks of keys: what becomes of a lock, and of keys that are free, where keys are taken, let go or in doubt.
-use Rattle.std.proofs.Common.{◌≡◌, ℕ, ◌&&◌, ◌||◌, not, Bool, true, false, cond, if◌then◌else◌, List, [], ◌∷◌, find, filter, fold, map, Option, Some, None, refl, sym, ap, subst, ◌∙◌, arith, true≢false}
-use Rattle.std.specs.List.{AllByRecursion, IsDistinct}
-use Rattle.std.specs.Str.{bytes_eq}
+use Rattle.std.proofs.Common.{◌≡◌, ℕ, ◌&&◌, ◌||◌, not, Bool, true, false, if◌then◌else◌, List, [], ◌∷◌, find, filter, fold, map, Option, Some, None, refl, sym, ap, ◌∙◌, arith, true≢false}
+use Rattle.std.specs.List.{AllByRecursion}
 use Rattle.std.specs.Cmp.Lexicographic.{bytes_decides}
-use Rattle.std.proofs.lemmas.Bool.{and_parts, cond_both}
-use Rattle.dtx_values.specs.Order.{same_value}
-use Rattle.dtx_values.proofs.ValueOrder.{equal_from_same, same_from_equal}
-use Rattle.row_locks.specs.Locks.{Lock, is_lock_on, are_on_one_key, AreOnDistinctKeys, is_held_by, another, holder_of, other_holder, new_lock, taken, doubted, in_doubt_from_now, without, without_reads}
+use Rattle.std.proofs.lemmas.Bool.{and_parts}
+use Rattle.dtx_values.proofs.ValueOrder.{same_from_equal}
+use Rattle.row_locks.specs.Locks.{Lock, is_lock_on, is_held_by, other_holder, new_lock, taken, doubted}
 use Rattle.node_rules.specs.Data.{Value, Change, BranchId}
 use Rattle.node_rules.specs.Words.{same}
 use Rattle.node_rules.specs.Records.{take_changed, with_doubt}
 use Rattle.tran_ids.proofs.BranchLemmas as ids
 use Rattle.stmt_run.specs.Run.{take_keys}
 use Rattle.run_laws.specs.KeyLaws.{passes, is_written_by, is_doubted_by, is_held, AreHeld}
-use Rattle.run_laws.proofs.ListLemmas.{all_weaker, all_filter}
+use Rattle.run_laws.proofs.ListLemmas.{all_weaker}
 
 -- ---- a key stays held
 

@@ -1,12 +1,12 @@
 -- On each disk of a lawful run a seal or a decision changes no key that a branch in doubt holds.
-use Rattle.std.proofs.Common.{◌≡◌, ℕ, Bool, true, false, true≢false, List, [], ◌∷◌, ◌++◌, Option, Some, None, refl, sym, ap, subst, ◌∙◌}
+use Rattle.std.proofs.Common.{◌≡◌, ℕ, Bool, true, false, true≢false, List, [], ◌∷◌, ◌++◌, Option, Some, None, refl, sym, subst, ◌∙◌}
 use Rattle.std.specs.Prelude.{IfSome}
 use Rattle.std.specs.Option.{option_to_list}
 use Rattle.std.specs.List.{AllByRecursion}
 use Rattle.tran_ids.proofs.BranchLemmas.{same_from_equal}
 use Rattle.agreement.specs.Events.{Event}
 use Rattle.row_locks.specs.Locks.{Lock}
-use Rattle.node_rules.specs.Data.{Change, Stmt, BranchId, RedoRecord, Place, Input, Doubt, Live}
+use Rattle.node_rules.specs.Data.{Change, Stmt, BranchId, RedoRecord, Place, Input, Doubt}
 use Rattle.node_rules.specs.Data.acts
 use Rattle.node_rules.specs.Data.records
 use Rattle.node_rules.specs.Data.inputs
@@ -22,8 +22,7 @@ use Rattle.node_rules.proofs.Steps as steps
 use Rattle.node_rules.proofs.Steps.{Step, IsOfRows}
 use Rattle.run_laws.specs.Data.{Turn, Happening, Command}
 use Rattle.run_laws.specs.Facts.{Facts, first_facts, place_at, node_at, records_at, facts_after}
-use Rattle.run_laws.specs.Lawful.{IsPlace, MayHappen, MayTurn, History, IsLawfulRun}
-use Rattle.run_laws.specs.RunEvents.{events_after}
+use Rattle.run_laws.specs.Lawful.{IsPlace, MayHappen, MayTurn}
 use Rattle.run_laws.specs.KeyLaws.{is_written_by, is_doubted_by, is_held, AreHeld}
 use Rattle.run_laws.specs.RiseLaws.{EachRecordFrom, are_of_one_key, AreFree, ChangesFreeKeys, RecordsChangeFreeKeys}
 use Rattle.run_laws.proofs.ListLemmas.{all_weaker}
@@ -33,7 +32,7 @@ use Rattle.node_rules.proofs.StepLemmas.{acting_live, made_so}
 use Rattle.run_laws.proofs.LawfulLemmas.{Serves, of_wrote, serves}
 use Rattle.run_laws.proofs.LaterLemmas.{events_keep}
 use Rattle.run_laws.proofs.NodeLemmas.{Goes, Stays, Turns, Is_cut, Stops, Starts, goes_so}
-use Rattle.run_laws.proofs.EventsStandLemmas.{Stand, first_disk}
+use Rattle.run_laws.proofs.EventsStandLemmas.{first_disk}
 use Rattle.run_laws.proofs.RiseLemmas.{records_with}
 use Rattle.run_laws.proofs.KeyStepLemmas.{Keys, Apart, not_doubted, not_came, not_other, not_collects, not_acting}
 use Rattle.run_laws.proofs.KeyRunLemmas.{one_holder, doubts_same, stored_so, apart_so, keys_so, heard_apart, heard_keys, AllStands, all_on, all_first}

@@ -1,11 +1,10 @@
 -- What each change of a node makes of the keys that are held: a run, a branch that leaves, seals or is ended.
-use Rattle.std.proofs.Common.{◌≡◌, ℕ, ◌+◌, ◌||◌, not, Bool, true, false, if◌then◌else◌, List, [], ◌∷◌, ◌++◌, find, filter, map, Option, Some, None, inl, inr, refl, sym, ap, subst, ◌∙◌, true≢false}
-use Rattle.std.specs.Prelude.{◌⊎◌}
+use Rattle.std.proofs.Common.{◌≡◌, ℕ, ◌||◌, not, Bool, true, false, if◌then◌else◌, List, [], ◌∷◌, ◌++◌, find, filter, map, Some, None, inl, inr, refl, sym, ap, subst, ◌∙◌, true≢false}
 use Rattle.std.specs.List.{AllByRecursion}
 use Rattle.std.specs.Option.{option_map}
 use Rattle.std.proofs.lemmas.Bool.{cond_both, not-true}
 use Rattle.std.proofs.lemmas.List.Elements.{recursion_from_All}
-use Rattle.sql_eval.specs.Laws.{has_one_key, HasOneKey, AreKeyed, AreRowsOf, IsChangeOf}
+use Rattle.sql_eval.specs.Laws.{has_one_key, AreRowsOf, IsChangeOf}
 use Rattle.sql_eval.specs.Meaning.{written, meant_over}
 use Rattle.sql_eval.specs.declared.meant.Meant.TheVariants as meants
 use Rattle.sql_eval.proofs.MadeLemmas.{changes_are_of_written}
@@ -16,14 +15,14 @@ use Rattle.row_locks.specs.Locks.{Lock, is_lock_on, named, is_held_by, another, 
 use Rattle.stmt_run.specs.Run.{Ground, take_keys, locks_after}
 use Rattle.tran_ids.proofs.BranchLemmas.{equal_from_same, same_from_equal}
 use Rattle.tran_ids.proofs.ListedLemmas.{put_or_before, drop_gone, drop_leaves}
-use Rattle.node_rules.specs.Data.{Value, Change, RowSet, ChangeSet, Table, Stmt, Done, BranchId, Keyed, Sealed, Owned, Doubt}
+use Rattle.node_rules.specs.Data.{Value, Change, RowSet, Table, Stmt, Done, BranchId, Keyed, Sealed, Owned, Doubt}
 use Rattle.node_rules.specs.Words.{same, item_at, put_item, drop_item}
 use Rattle.node_rules.specs.Rows.{TableRows, changes_of, set_over}
 use Rattle.node_rules.specs.Kept.{own_id, doubt_id, sets_of, sets_at}
 use Rattle.node_rules.specs.Records.{doubt_over, with_doubt}
-use Rattle.node_rules.specs.Statement.{Ran, Refuses, Reads, Writes, owns_after}
+use Rattle.node_rules.specs.Statement.{Reads, Writes, owns_after}
 use Rattle.run_laws.specs.ChangedLaws.{changes_at}
-use Rattle.run_laws.specs.KeyLaws.{passes, is_written_by, is_doubted_by, is_held, AreHeld, KeysHeld}
+use Rattle.run_laws.specs.KeyLaws.{is_written_by, is_doubted_by, is_held, AreHeld, KeysHeld}
 use Rattle.run_laws.proofs.ListLemmas.{all_weaker, all_append, all_filter}
 use Rattle.run_laws.proofs.ChangedLemmas.{one_more_set, append_none}
 use Rattle.run_laws.proofs.RanLemmas.{Meets_nobody}

@@ -1,6 +1,6 @@
 -- In every lawful run live branches hold the keys that they have changed, and branches in doubt those of their changes.
-use Rattle.std.proofs.Common.{◌≡◌, ◌≢◌, ℕ, ◌&&◌, Bool, true, List, [], ◌∷◌, ◌++◌, Option, Some, None, inl, inr, refl, sym, ap, subst, subst₂, ◌∙◌}
-use Rattle.std.specs.Prelude.{◌⊎◌, IfSome}
+use Rattle.std.proofs.Common.{◌≡◌, ◌≢◌, ℕ, true, List, [], ◌∷◌, ◌++◌, Option, Some, None, refl, sym, ap, subst}
+use Rattle.std.specs.Prelude.{IfSome}
 use Rattle.std.specs.Option.{option_to_list}
 use Rattle.std.specs.List.{AllByRecursion, IsDistinct}
 use Rattle.std.specs.Str.{bytes_eq}
@@ -11,7 +11,7 @@ use Rattle.dtx_values.proofs.ValueOrder.{equal_from_same}
 use Rattle.tran_ids.proofs.ListedLemmas.{item_is}
 use Rattle.agreement.specs.Events.{Event, exit}
 use Rattle.row_locks.specs.Locks.{Lock}
-use Rattle.node_rules.specs.Data.{Change, BranchId, RedoRecord, Standing, Live, Place, Input, Doubt, Owned}
+use Rattle.node_rules.specs.Data.{Change, BranchId, RedoRecord, Live, Place, Input, Doubt}
 use Rattle.node_rules.specs.Data.records
 use Rattle.node_rules.specs.Data.inputs
 use Rattle.node_rules.specs.Words.{numbered}
@@ -19,13 +19,13 @@ use Rattle.node_rules.specs.Kept.{Kept, Deed, live_id, live_at}
 use Rattle.node_rules.specs.Records.{applied, nothing_stored, stored_by}
 use Rattle.node_rules.specs.Turn.{turn_of, kept_by, start_of, made, heard, deed_of}
 use Rattle.run_laws.specs.Data.{Turn, Happening, Command}
-use Rattle.run_laws.specs.Facts.{Facts, first_facts, place_at, node_at, records_at, with_boot, facts_after}
+use Rattle.run_laws.specs.Facts.{Facts, first_facts, place_at, node_at, records_at, facts_after}
 use Rattle.run_laws.specs.Lawful.{IsPlace, MayHappen, MayTurn, History, IsLawfulRun, facts_at}
 use Rattle.run_laws.specs.RunEvents.{events_after, events_of}
 use Rattle.run_laws.specs.EventRows.{RowIs, RowsAre}
 use Rattle.run_laws.specs.ChangedLaws.{ChangesFit}
 use Rattle.run_laws.specs.RiseLaws.{are_of_one_key}
-use Rattle.run_laws.specs.KeyLaws.{is_written_by, is_doubted_by, is_held, AreHeld, KeysHeld, KeysAreHeld}
+use Rattle.run_laws.specs.KeyLaws.{is_written_by, is_doubted_by, is_held, AreHeld, KeysAreHeld}
 use Rattle.run_laws.proofs.ListLemmas.{all_weaker}
 use Rattle.run_laws.proofs.OwnLemmas.{all_found}
 use Rattle.run_laws.proofs.StoredLemmas.{StoresOf, step_stores_of, stored_with}

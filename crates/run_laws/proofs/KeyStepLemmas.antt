@@ -1,27 +1,24 @@
 -- Each step of a turn leaves the keys held: by live branches those that they have changed, by branches in doubt theirs.
-use Rattle.std.proofs.Common.{◌≡◌, ℕ, not, Bool, true, false, List, [], ◌∷◌, filter, Option, Some, None, Ok, refl, sym, ap, subst, ◌∙◌}
+use Rattle.std.proofs.Common.{◌≡◌, ℕ, Bool, true, false, List, filter, Some, None, Ok, refl, sym, subst, ◌∙◌}
 use Rattle.std.specs.List.{AllByRecursion}
 use Rattle.tran_ids.proofs.BranchLemmas.{equal_from_same}
 use Rattle.tran_ids.proofs.ListedLemmas.{item_is}
-use Rattle.row_locks.specs.Locks.{Lock}
 use Rattle.row_store.specs.Own.{undo_length}
 use Rattle.sql_eval.specs.Meaning.{written}
 use Rattle.stmt_run.specs.Run.{locks_after}
-use Rattle.node_rules.specs.Data.{Table, Stmt, BranchId, Decision, Kind, Standing, Place, Input, Live, Act, Doubt, Owned}
+use Rattle.node_rules.specs.Data.{Table, Stmt, BranchId, Decision, Kind, Standing, Place, Input, Live, Act, Doubt}
 use Rattle.node_rules.specs.Data.acts
-use Rattle.node_rules.specs.Data.records
 use Rattle.node_rules.specs.Data.inputs
-use Rattle.node_rules.specs.Data.stmts
 use Rattle.commit_forget.specs.declared.next.Next.TheVariants as nexts
 use Rattle.node_rules.specs.Words.{same}
 use Rattle.node_rules.specs.Kept.{Kept, Deed, live_id, standing_id, live_at}
 use Rattle.node_rules.specs.Inputs.{Came, IsCall, Brings, Commit_came, Rollback_came, Rolled_back_came}
-use Rattle.node_rules.specs.Names.{Runs_here, table_of, ref_of, way_of}
+use Rattle.node_rules.specs.Names.{table_of, ref_of}
 use Rattle.node_rules.specs.Force.{is_named_by, branch_to_force}
 use Rattle.node_rules.specs.Commit.{acked_by}
 use Rattle.node_rules.specs.Records.{applied, with_record}
 use Rattle.node_rules.specs.Prepare.{sealed_of, own_changes}
-use Rattle.node_rules.specs.Statement.{Ran, Refuses, ran, ground_of, owns_after, view}
+use Rattle.node_rules.specs.Statement.{ran, ground_of, owns_after, view}
 use Rattle.node_rules.proofs.Steps as steps
 use Rattle.node_rules.proofs.Steps.{Step, IsOfRows, IsKept, Collects, By_commit, By_prepare, Acting, Asks_down, Has_no_children, Hears_abort, Waits_on, Hears_last, At_point, Drops, By_rollback, By_parent, Doing, Ends_so}
 use Rattle.node_rules.proofs.StandLemmas.{live_so}

@@ -1,17 +1,16 @@
 -- On each disk of a lawful run the branches that changed one key come one after the other, in the order of their SCNs.
-use Rattle.std.proofs.Common.{◌≡◌, ℕ, ◌<◌, ◌≤◌, ◌||◌, not, if◌then◌else◌, Bool, true, false, true≢false, List, [], ◌∷◌, ◌++◌, inl, inr, refl, sym, ap, subst, ◌∙◌, arith}
+use Rattle.std.proofs.Common.{◌≡◌, ◌<◌, ◌≤◌, ◌||◌, not, if◌then◌else◌, Bool, true, false, true≢false, List, [], ◌∷◌, ◌++◌, inl, inr, refl, sym, ap, subst, ◌∙◌, arith}
 use Rattle.std.specs.Prelude.{◌⊎◌}
 use Rattle.std.specs.List.{AllByRecursion, list_any}
 use Rattle.std.proofs.lemmas.Bool.{cond_both, or_left, or_right}
-use Rattle.tran_ids.proofs.BranchLemmas.{equal_from_same, same_from_equal}
-use Rattle.node_rules.specs.Data.{Change, BranchId, Decision, RedoRecord, Sealed, Doubt}
+use Rattle.node_rules.specs.Data.{Change, BranchId, RedoRecord, Sealed, Doubt}
 use Rattle.node_rules.specs.Data.decisions
 use Rattle.node_rules.specs.Data.records
 use Rattle.node_rules.specs.Words.{same, drop_item}
 use Rattle.node_rules.specs.Kept.{Stored, doubt_id}
 use Rattle.node_rules.specs.Records.{applied, nothing_stored, stored_by, doubt_over}
 use Rattle.run_laws.specs.Facts.{records_at}
-use Rattle.run_laws.specs.Lawful.{History, IsLawfulRun, facts_at}
+use Rattle.run_laws.specs.Lawful.{facts_at}
 use Rattle.run_laws.specs.NodeLaws.{IsLater}
 use Rattle.run_laws.specs.RiseLaws.{EachRecordFrom, are_of_one_key, HaveNoKeyInCommon, AreFree, ChangesFreeKeys}
 use Rattle.run_laws.specs.OrderLaws.{ends, commit_scn, have_a_key_in_common, IsDoneBefore, ComesInOrder, InOrderFrom, KeysComeInOrder}

@@ -1,5 +1,5 @@
 -- What a run of a statement can be: refused, rows, or changes; and which keys and changes it then has.
-use Rattle.std.proofs.Common.{◌≡◌, ℕ, ◌==◌, ◌||◌, Bool, true, false, if◌then◌else◌, List, find, length, Option, Some, None, refl, sym, ap, subst, ◌∙◌}
+use Rattle.std.proofs.Common.{◌≡◌, ℕ, ◌==◌, ◌||◌, Bool, true, false, if◌then◌else◌, List, length, Option, Some, None, refl, ap, ◌∙◌}
 use Rattle.std.specs.Prelude.{nat_le}
 use Rattle.dtx_values.specs.declared.answer.Refusal.{Refusal}
 use Rattle.sql_check.specs.Refusals.{else_refuse}
@@ -10,11 +10,11 @@ use Rattle.sql_eval.specs.Meaning.{examined, written, meant_over}
 use Rattle.row_locks.specs.Locks.{keys_held}
 use Rattle.row_store.specs.Own.{undo_length}
 use Rattle.stmt_run.specs.Run.{Ground, in_doubt_refusal, locked_refusal, space_refusal, ran_within, ran_meant, ran_locked, ran_checked, ran_over}
-use Rattle.node_rules.specs.Data.{Value, Change, Table, TableRef, Synonym, Link, Stmt, Done, RowSet, Durable, Live, Place}
+use Rattle.node_rules.specs.Data.{Change, Table, TableRef, Synonym, Stmt, Done, RowSet, Durable, Live, Place}
 use Rattle.session_tree.specs.Live.{edge_by_link}
 use Rattle.session_tree.specs.Tree.{room}
 use Rattle.dtx_values.specs.Limits.{depth_limit}
-use Rattle.node_rules.specs.Names.{Named, A_table, Behind, Unknown, synonym_named, table_named, table_of, ref_named, named_by, ref_of, target_of, Way, Runs_here, Over, Through, Nowhere_to, way_new, way_edge, way_target, way_named, way_of}
+use Rattle.node_rules.specs.Names.{Named, A_table, Behind, Unknown, synonym_named, table_named, table_of, ref_named, named_by, ref_of, target_of, Runs_here, Through, Nowhere_to, way_edge, way_target, way_named, way_of}
 use Rattle.node_rules.specs.Statement.{Ran, Refuses, Reads, Writes}
 
 -- ---- a run

@@ -1,5 +1,5 @@
 -- On each disk of a lawful run the SCNs of seals and decisions rise.
-use Rattle.std.proofs.Common.{◌≡◌, ℕ, ◌+◌, ◌≤◌, List, [], ◌∷◌, ◌++◌, Option, Some, None, refl, sym, ap, subst, ◌∙◌, arith, append-nil, append_assoc}
+use Rattle.std.proofs.Common.{ℕ, ◌≤◌, List, [], ◌∷◌, ◌++◌, Option, Some, None, sym, subst, arith, append-nil, append_assoc}
 use Rattle.std.specs.Prelude.{IfSome}
 use Rattle.std.specs.Option.{option_to_list}
 use Rattle.node_rules.specs.Data.{RedoRecord, Place, Input}
@@ -11,7 +11,7 @@ use Rattle.node_rules.specs.Records.{nothing_stored, stored_by}
 use Rattle.node_rules.specs.Turn.{start_of}
 use Rattle.node_rules.proofs.Steps as steps
 use Rattle.node_rules.proofs.Steps.{Step}
-use Rattle.run_laws.specs.Facts.{Facts, first_facts, facts_after}
+use Rattle.run_laws.specs.Facts.{first_facts}
 use Rattle.run_laws.specs.Branches.{no_trail}
 use Rattle.run_laws.specs.NodeLaws.{IsLater}
 use Rattle.run_laws.specs.RiseLaws.{EachRecordFrom, ScnsRise}

@@ -1,34 +1,26 @@
 -- At each node of a lawful run tables have rows of their own, and changes that are not committed are of these tables.
-use Rattle.std.proofs.Common.{◌≡◌, ℕ, ◌||◌, Bool, true, false, cond, if◌then◌else◌, List, [], ◌∷◌, ◌++◌, find, map, Option, Some, None, refl, sym, ap, subst, ◌∙◌, true≢false}
-use Rattle.std.specs.Prelude.{IfSome}
-use Rattle.std.specs.Option.{option_to_list, option_or}
-use Rattle.std.specs.List.{All, AllByRecursion, list_any}
+use Rattle.std.proofs.Common.{◌≡◌, ℕ, ◌||◌, Bool, true, false, if◌then◌else◌, List, [], ◌∷◌, ◌++◌, Option, Some, None, refl, sym, ap, subst, ◌∙◌, true≢false}
+use Rattle.std.specs.Option.{option_or}
+use Rattle.std.specs.List.{All, AllByRecursion}
 use Rattle.std.specs.Cmp.Lexicographic.{bytes_decides}
-use Rattle.std.proofs.lemmas.Bool.{or_right}
 use Rattle.std.proofs.lemmas.List.Elements.{All-from_recursion}
-use Rattle.std.proofs.lemmas.List.Folds.{find-append, list_any-append}
-use Rattle.sql_check.specs.Checks.{checked}
+use Rattle.std.proofs.lemmas.List.Folds.{find-append}
 use Rattle.sql_eval.specs.Laws.{has_one_key, IsChangeOf, AreRowsOf}
-use Rattle.sql_eval.specs.Meaning.{meant_over}
-use Rattle.sql_eval.specs.declared.meant.Meant.TheVariants as meants
-use Rattle.sql_eval.proofs.RowLaws.{rows_stay, changes_are_of_table}
+use Rattle.sql_eval.proofs.RowLaws.{rows_stay}
 use Rattle.sql_eval.specs.Rows.{apply}
 use Rattle.row_store.specs.Store.{has_table}
-use Rattle.node_rules.specs.Data.{Change, ChangeSet, Table, BranchId, Decision, RedoRecord, Keyed, Owned, Doubt}
+use Rattle.node_rules.specs.Data.{Change, Table, BranchId, Decision, RedoRecord, Keyed, Doubt}
 use Rattle.node_rules.specs.Data.decisions
 use Rattle.node_rules.specs.Data.records
 use Rattle.node_rules.specs.Data.params
 use Rattle.node_rules.specs.Words.{same_text, item_at, drop_item}
-use Rattle.node_rules.specs.Rows.{TableRows, rows_of_table, apply_all, with_table, view_of, changes_of, set_over}
-use Rattle.node_rules.specs.Kept.{Stored, own_id, doubt_id, sets_of, sets_at}
-use Rattle.node_rules.specs.Records.{applied, held_back, settled, doubt_over}
+use Rattle.node_rules.specs.Rows.{TableRows, rows_of_table, apply_all, with_table}
+use Rattle.node_rules.specs.Kept.{Stored, doubt_id}
+use Rattle.node_rules.specs.Records.{applied, settled, doubt_over}
 use Rattle.redo_record.specs.Durable.{durable_after}
-use Rattle.tran_ids.proofs.ListedLemmas.{put_or_before}
-use Rattle.run_laws.specs.ChangedLaws.{changes_at}
-use Rattle.run_laws.specs.TableLaws.{table_in, IsChangeIn, AreChangesIn, TablesFit, StoredFits, LiveChangesFit}
-use Rattle.run_laws.proofs.ListLemmas.{all_weaker, all_append, all_filter}
+use Rattle.run_laws.specs.TableLaws.{table_in, IsChangeIn, AreChangesIn, TablesFit, StoredFits}
+use Rattle.run_laws.proofs.ListLemmas.{all_weaker, all_append}
 use Rattle.run_laws.proofs.OwnLemmas.{all_found, all_without}
-use Rattle.run_laws.proofs.ChangedLemmas.{one_more_set, append_none}
 
 -- ---- tables
 

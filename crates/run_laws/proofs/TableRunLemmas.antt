@@ -1,10 +1,8 @@
 -- In every lawful run tables are whole, so that each node's changes are of its tables.
-use Rattle.std.proofs.Common.{◌≡◌, ℕ, List, [], ◌∷◌, ◌++◌, Option, Some, None, inl, inr, refl, sym, ap, subst, ◌∙◌, append-nil}
-use Rattle.std.specs.Prelude.{◌⊎◌, IfSome}
+use Rattle.std.proofs.Common.{◌≡◌, ℕ, List, [], ◌∷◌, ◌++◌, Option, Some, None, subst}
+use Rattle.std.specs.Prelude.{IfSome}
 use Rattle.std.specs.Option.{option_to_list}
-use Rattle.std.specs.List.{AllByRecursion}
 use Rattle.sql_statement.specs.Whole.{IsWhole}
-use Rattle.sql_eval.specs.Laws.{has_one_key}
 use Rattle.sql_eval.proofs.TableLaws.{whole_tables_have_one_key}
 use Rattle.node_rules.specs.Data.{Stmt, Done, RedoRecord, Place, Input}
 use Rattle.node_rules.specs.Data.acts
@@ -17,12 +15,10 @@ use Rattle.node_rules.specs.Turn.{turn_of, deed_of}
 use Rattle.node_rules.proofs.Steps as steps
 use Rattle.node_rules.proofs.Steps.{Step, Makes, Makes_table, Makes_link, Makes_synonym, Sets_recovery}
 use Rattle.run_laws.specs.Data.{Took, Turn, Happening, Command}
-use Rattle.run_laws.specs.Data.happenings
 use Rattle.run_laws.specs.Facts.{Facts, first_facts, place_at, node_at, records_at, facts_after}
 use Rattle.run_laws.specs.Branches.{no_trail}
 use Rattle.run_laws.specs.Lawful.{MayHappen, MayTurn, Comes, History, IsLawfulRun, facts_at}
-use Rattle.run_laws.specs.ChangedLaws.{ChangesFit}
-use Rattle.run_laws.specs.TableLaws.{StoredFits, LiveChangesFit, ChangesAreOfTables}
+use Rattle.run_laws.specs.TableLaws.{ChangesAreOfTables}
 use Rattle.run_laws.proofs.ListLemmas.{all_append}
 use Rattle.run_laws.proofs.LawfulLemmas.{lawful_keeps, of_wrote, serves}
 use Rattle.run_laws.proofs.NodeLemmas.{Keeps, keeps_both, keeps_alone, AllStand, all_stand_on, first_all, at_node, Goes, Stays, Turns, Is_cut, Stops, Starts, goes_so}

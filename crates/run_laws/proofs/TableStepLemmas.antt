@@ -1,30 +1,22 @@
 -- Each step of a turn changes tables of its node, and tables are created by statements that a text spells.
-use Rattle.std.proofs.Common.{◌≡◌, ℕ, ◌+◌, Bool, true, false, List, [], ◌∷◌, ◌++◌, Option, Some, None, inl, inr, refl, sym, ap, subst, ◌∙◌, append-nil}
-use Rattle.std.specs.Prelude.{◌⊎◌, IfSome}
+use Rattle.std.proofs.Common.{◌≡◌, ℕ, ◌+◌, Bool, true, false, List, [], ◌∷◌, ◌++◌, Option, Some, None, inl, inr, refl, sym, subst}
+use Rattle.std.specs.Prelude.{IfSome}
 use Rattle.std.specs.Option.{option_to_list}
 use Rattle.std.specs.List.{AllByRecursion}
 use Rattle.std.proofs.lemmas.List.Elements.{recursion_from_All}
-use Rattle.sql_check.specs.Checks.{checked}
-use Rattle.sql_statement.specs.Whole.{IsWhole}
 use Rattle.sql_eval.specs.Laws.{has_one_key, IsChangeOf, AreRowsOf}
-use Rattle.sql_eval.specs.Meaning.{meant_over}
-use Rattle.sql_eval.specs.declared.meant.Meant.TheVariants as meants
 use Rattle.sql_eval.proofs.RowLaws.{changes_are_of_table}
-use Rattle.sql_eval.proofs.TableLaws.{whole_tables_have_one_key}
-use Rattle.node_rules.specs.Data.{Change, Table, Stmt, Done, BranchId, RedoRecord, Keyed, Place, Input, Live, Owned}
+use Rattle.node_rules.specs.Data.{Change, Table, Stmt, Done, BranchId, RedoRecord, Keyed, Place, Input, Owned}
 use Rattle.node_rules.specs.Data.acts
 use Rattle.node_rules.specs.Data.records
 use Rattle.node_rules.specs.Data.decisions
-use Rattle.node_rules.specs.Data.inputs
-use Rattle.node_rules.specs.Data.stmts
 use Rattle.commit_forget.specs.declared.next.Next.TheVariants as nexts
-use Rattle.node_rules.specs.Words.{same_text, item_at, put_item, drop_item}
-use Rattle.node_rules.specs.Rows.{rows_of_table, view_of, set_over, changes_of}
-use Rattle.node_rules.specs.Kept.{Kept, Deed, Stored, own_id, sets_of, sets_at}
+use Rattle.node_rules.specs.Words.{item_at, put_item, drop_item}
+use Rattle.node_rules.specs.Rows.{rows_of_table, set_over, changes_of}
+use Rattle.node_rules.specs.Kept.{Kept, Deed, own_id, sets_of, sets_at}
 use Rattle.node_rules.specs.Records.{applied, nothing_stored, stored_by}
-use Rattle.node_rules.specs.Names.{Runs_here, table_of, ref_of, way_of}
-use Rattle.node_rules.specs.Inputs.{IsCall}
-use Rattle.node_rules.specs.Prepare.{sealed_record, decided_record, own_changes}
+use Rattle.node_rules.specs.Names.{table_of, ref_of}
+use Rattle.node_rules.specs.Prepare.{sealed_record, decided_record}
 use Rattle.node_rules.specs.Statement.{Ran, Refuses, Reads, Writes, ran, ground_of, owns_after, view}
 use Rattle.node_rules.specs.Turn.{start_of}
 use Rattle.redo_record.specs.Durable.{durable_after}
@@ -33,9 +25,8 @@ use Rattle.node_rules.proofs.Steps.{Step, Makes, Makes_table, Makes_link, Makes_
 use Rattle.tran_ids.proofs.ListedLemmas.{put_or_before, drop_gone, drop_leaves}
 use Rattle.tran_ids.proofs.BranchLemmas.{equal_from_same}
 use Rattle.node_rules.specs.Words.{same}
-use Rattle.run_laws.specs.NodeLaws.{unacked}
 use Rattle.run_laws.specs.ChangedLaws.{changes_at}
-use Rattle.run_laws.specs.TableLaws.{table_in, IsChangeIn, AreChangesIn, TablesFit, StoredFits, LiveChangesFit}
+use Rattle.run_laws.specs.TableLaws.{table_in, IsChangeIn, AreChangesIn, StoredFits, LiveChangesFit}
 use Rattle.run_laws.proofs.ListLemmas.{all_weaker, all_append}
 use Rattle.run_laws.proofs.StoredLemmas.{StoresOf, step_stores_of, start_stores, stored_with}
 use Rattle.run_laws.proofs.ChangedLemmas.{one_more_set, append_none}

@@ -1,38 +1,21 @@
 -- What one more record makes of the rows of its node, and what one more entry makes of the rows that the book tells.
-use Rattle.std.proofs.Common.{◌≡◌, ◌≢◌, ℕ, ◌==◌, ◌||◌, not, Bool, true, false, if◌then◌else◌, List, [], ◌∷◌, ◌++◌, Option, Some, None, inl, inr, refl, sym, ap, subst, ◌∙◌, true≢false, append-nil, append_assoc}
-use Rattle.std.specs.Prelude.{◌⊎◌, flat_map}
+use Rattle.std.proofs.Common.{◌≡◌, ℕ, ◌||◌, Bool, true, false, if◌then◌else◌, List, [], ◌∷◌, ◌++◌, Option, Some, None, refl, sym, ap, subst, ◌∙◌, append-nil, append_assoc}
 use Rattle.std.specs.Option.{option_or}
 use Rattle.std.specs.List.{AllByRecursion}
 use Rattle.std.specs.Cmp.Lexicographic.{bytes_decides}
-use Rattle.std.proofs.lemmas.Bool.{eqb-true, eq-eqb, or_left, or_right}
+use Rattle.std.proofs.lemmas.Bool.{or_left, or_right}
 use Rattle.std.proofs.lemmas.Grind.{flat_map-append}
-use Rattle.std.proofs.lemmas.List.Folds.{find-append, list_any-append}
-use Rattle.tran_ids.proofs.BranchLemmas.{equal_from_same, same_from_equal}
-use Rattle.tran_ids.proofs.ListedLemmas.{item_is, drop_gone, drop_leaves}
-use Rattle.agreement.specs.Events.{Sealed, Decided, Event, first, only_at, exit_by, exit, learned_by, learned, forced_by, forced}
-use Rattle.agreement.proofs.EventLemmas.{first_is, only_at_is}
+use Rattle.std.proofs.lemmas.List.Folds.{list_any-append}
+use Rattle.agreement.specs.Events.{first, only_at}
 use Rattle.sql_eval.specs.Rows.{set_to, change_one, apply}
 use Rattle.row_store.specs.Store.{has_table}
-use Rattle.node_rules.specs.Data.{Change, Table, BranchId, Decision, RedoRecord, Keyed, Doubt}
-use Rattle.node_rules.specs.Data.decisions
-use Rattle.node_rules.specs.Data.records
-use Rattle.node_rules.specs.Words.{same, same_text, item_at, drop_item}
+use Rattle.node_rules.specs.Data.{Change, Table, BranchId, Keyed, Doubt}
+use Rattle.node_rules.specs.Words.{same, same_text}
 use Rattle.node_rules.specs.Rows.{TableRows, rows_of_table, apply_all, with_table}
-use Rattle.node_rules.specs.Kept.{Stored, doubt_id}
-use Rattle.node_rules.specs.Records.{applied, held_back, settled, doubt_over}
-use Rattle.redo_record.specs.Durable.{durable_after}
 use Rattle.run_laws.specs.Data.{Entry}
-use Rattle.book.specs.Entries.{entry_of}
-use Rattle.run_laws.specs.Data.entries
 use Rattle.run_laws.specs.Book.{changes_in, changes_of, commits_now, committed_at, rows_told}
-use Rattle.run_laws.specs.IdLaws.{IsRecordOf}
-use Rattle.run_laws.specs.RunEvents.{with_event, record_event}
-use Rattle.run_laws.specs.EventRows.{MayStand}
-use Rattle.run_laws.specs.TableLaws.{table_in, IsChangeIn, AreChangesIn, TablesFit}
-use Rattle.run_laws.proofs.OwnLemmas.{all_found}
-use Rattle.run_laws.proofs.ChangedLemmas.{found_last, none_last}
+use Rattle.run_laws.specs.TableLaws.{table_in, AreChangesIn, TablesFit}
 use Rattle.run_laws.proofs.TableLemmas.{table_more, no_rows, has_applied, rows_applied}
-use Rattle.run_laws.proofs.DoubtLemmas.{IsOpen, DoubtsAre}
 
 -- ---- one more entry
 

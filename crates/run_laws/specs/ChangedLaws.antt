@@ -1,5 +1,5 @@
 -- What a node keeps of changes that are not committed, and which branches it marks as changed.
-use Rattle.std.specs.Prelude.{◌≡◌, ℕ, Bool, List, length, nat_lt, Some, None}
+use Rattle.std.specs.Prelude.{◌≡◌, Bool, List, length, nat_lt, Some, None}
 use Rattle.node_rules.specs.Data.{BranchId, Change, Live, Owned}
 use Rattle.node_rules.specs.Words.{item_at}
 use Rattle.node_rules.specs.Rows.{changes_of}

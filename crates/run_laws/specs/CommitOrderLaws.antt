@@ -1,7 +1,7 @@
 -- The second half of the law of commit SCNs: they are in order at each key. Of two committed transactions that changed one
 -- key at a node the one that held it first has the lower SCN. (Database Administrator's Guide, "Distributed Transactions
 -- Concepts": commit phase.)
-use Rattle.std.specs.Prelude.{◌≡◌, ℕ, ◌<◌, ◌⊎◌, Bool, true, List, [], ◌∷◌, ◌++◌, Some, None}
+use Rattle.std.specs.Prelude.{◌≡◌, ℕ, ◌<◌, ◌⊎◌, true, List, [], ◌∷◌, ◌++◌, Some, None}
 use Rattle.agreement.specs.Events.{Forest, IsForest, Decided, exit, forced, site_of}
 use Rattle.node_rules.specs.Data.{Change, BranchId, RedoRecord}
 use Rattle.node_rules.specs.Data.records

@@ -50,3 +50,4 @@ pub mod ToldLaws
 pub mod OrderLaws
 pub mod CommitOrderLaws
 pub mod WalkLaws
+pub mod TriedRows

@@ -1,14 +1,13 @@
 -- What each node of a lawful run has in its tables: rows of the table, each with its key; and each change that is not
 -- committed is one of the table of its name.
-use Rattle.std.specs.Prelude.{◌≡◌, ℕ, true, false, List, [], ◌∷◌, find, Option, Some, None}
+use Rattle.std.specs.Prelude.{◌≡◌, ℕ, true, false, List, find, Option, Some, None}
 use Rattle.std.specs.List.{AllByRecursion}
 use Rattle.sql_eval.specs.Laws.{has_one_key, IsChangeOf, AreRowsOf}
 use Rattle.row_store.specs.Store.{has_table}
-use Rattle.node_rules.specs.Data.{Change, Table, BranchId, RedoRecord, Owned, Doubt}
-use Rattle.node_rules.specs.Data.records
+use Rattle.node_rules.specs.Data.{Change, Table, BranchId, Owned, Doubt}
 use Rattle.node_rules.specs.Words.{same_text}
 use Rattle.node_rules.specs.Rows.{TableRows, rows_of_table}
-use Rattle.node_rules.specs.Kept.{Kept, Stored}
+use Rattle.node_rules.specs.Kept.{Stored}
 use Rattle.run_laws.specs.ChangedLaws.{changes_at}
 use Rattle.run_laws.specs.NodeLaws.{OfEachNode}
 

@@ -2,7 +2,6 @@
 use Rattle.std.specs.Prelude.{◌≡◌, ℕ, List, Some}
 use Rattle.node_rules.specs.Rows.{rows_of_table}
 use Rattle.node_rules.specs.Kept.{Kept}
-use Rattle.run_laws.specs.Data.{Happening}
 use Rattle.run_laws.specs.Entries.{book_of}
 use Rattle.run_laws.specs.Book.{rows_told}
 use Rattle.run_laws.specs.Facts.{node_at}

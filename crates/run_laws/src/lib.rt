@@ -30,6 +30,7 @@ ghost use Rattle.run_laws.specs.OrderLaws.{KeysComeInOrder};
 ghost use Rattle.run_laws.specs.CommitOrderLaws.{CommitsComeInOrder};
 ghost use Rattle.run_laws.specs.FreezeLaws.{AskedHaveAnswered, AskedStandStill, PrepareFindsRest, TreesStandStill};
 ghost use Rattle.run_laws.specs.WalkLaws.{WalksAreOne};
+ghost use Rattle.run_laws.specs.TriedRows.{TheTriedRows};
 ghost use Rattle.run_laws.specs.BirthLaws.{NoIdBeginsTwice, BirthsAreTrees, NodesNameTheBorn, RecordsNameTheBorn, MessagesAreOfNeighbors, BornAreLiveOrLeft};
 
 /// The book that the facts keep is the book of the trace.
@@ -347,4 +348,10 @@ pub fn trees_stand_still()
 /// other child: the Prepares of a transaction give one path.
 pub fn walks_are_one()
     ensures { WalksAreOne }
+{}
+
+/// No law of rows and keys is about nothing: the nodes of the tried run end with the rows that its book tells, and their branches
+/// hold their keys before.
+pub fn the_tried_rows()
+    ensures { TheTriedRows }
 {}
