@@ -34,7 +34,10 @@ pub use posts::{post, to_each, to_one};
 pub use prepare::{abandon_says, drop_says, prepares, to_children};
 pub use records::{decided_record, sealed_record};
 pub use recovery::{ask_answer, live_told, told_kind};
-pub use refusals::{needs_rollback, no_branch, nothing_to_purge, of_branch, several_branches};
+pub use refusals::{
+    BRANCH_GONE, NO_ANSWER, needs_rollback, no_branch, nothing_to_purge, of_branch,
+    several_branches,
+};
 pub use replying::{
     answer_ends, answer_says, gone_reply, heard_answer, is_gone, opened_says, replies,
     reply_fields, says_again,

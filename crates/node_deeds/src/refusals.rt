@@ -9,6 +9,12 @@ use dtx_values::{Bytes, Listing, Refusal};
 use std::alloc::{AllocError, Global};
 use tran_ids::{BranchId, local_text, put_decimal};
 
+/// The code of DTX-03, no answer over a link.
+pub const NO_ANSWER: u16 = 60003;
+
+/// The code of DTX-08, the branch that a call came to is gone.
+pub const BRANCH_GONE: u16 = 60008;
+
 fn text_of(alloc: Global, bytes: &[u8]) -> Result<Bytes, AllocError>
     ensures { IfOk result (λ text. text ≡ bytes.now) }
 {
@@ -83,7 +89,7 @@ pub fn nothing_to_purge(alloc: Global, id: &[u8]) -> Result<Refusal, AllocError>
 pub(crate) fn unanswered(alloc: Global, link: &[u8]) -> Result<Refusal, AllocError>
     ensures { IfOk result (λ refusal. refusal ≡ dtx 3 (one link.now)) }
 {
-    of_text(alloc, 60003, text_of(alloc, link)?)
+    of_text(alloc, NO_ANSWER, text_of(alloc, link)?)
 }
 
 /// DTX-08: the branch that a call came to is gone.
@@ -91,7 +97,7 @@ pub(crate) fn gone(alloc: Global) -> Refusal
     ensures { result ≡ dtx 8 [] }
 {
     Refusal {
-        code: 60008,
+        code: BRANCH_GONE,
         args: Listing::new(alloc),
     }
 }
@@ -100,5 +106,5 @@ pub(crate) fn gone(alloc: Global) -> Refusal
 pub(crate) fn gone_behind(alloc: Global, link: &[u8]) -> Result<Refusal, AllocError>
     ensures { IfOk result (λ refusal. refusal ≡ dtx 8 (one link.now)) }
 {
-    of_text(alloc, 60008, text_of(alloc, link)?)
+    of_text(alloc, BRANCH_GONE, text_of(alloc, link)?)
 }

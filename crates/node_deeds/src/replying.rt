@@ -8,7 +8,7 @@ ghost use Rattle.node_deeds.specs.Gives.{branch_with};
 
 use crate::answers::ended;
 use crate::posts::post;
-use crate::refusals::{gone, gone_behind};
+use crate::refusals::{BRANCH_GONE, gone, gone_behind};
 use dtx_values::{Answer, Duplicate, Listing, Name};
 use link_session::{Opening, ReplyFields};
 use node_rules::{Ended, Work};
@@ -149,7 +149,7 @@ pub fn is_gone(answer: &Answer) -> bool
     ensures { result ≡ is_gone_of answer.now }
 {
     match answer {
-        Answer::Refused(refusal) => refusal.code == 60008,
+        Answer::Refused(refusal) => refusal.code == BRANCH_GONE,
         _ => false,
     }
 }
