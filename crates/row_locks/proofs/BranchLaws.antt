@@ -1,5 +1,5 @@
 -- The numbers that a branch has are those of its locks: what that makes of its locks when they are dropped or in doubt.
-use Rattle.std.proofs.Common.{◌≡◌, ℕ, Bool, true, false, cond, not, ◌||◌, List, [], ◌∷◌, ◌++◌, map, filter, find, None, Some, Option, is_some, refl, sym, ap, ◌∙◌, true≢false}
+use Rattle.std.proofs.Common.{◌≡◌, ℕ, Bool, true, false, cond, not, ◌||◌, List, [], ◌∷◌, ◌++◌, map, filter, Some, is_some, refl, sym, ap, ◌∙◌, true≢false}
 use Rattle.std.proofs.lemmas.List.{map-append}
 use Rattle.std.proofs.lemmas.List.Elements.{filter-append}
 use Rattle.std.specs.List.{AllByRecursion}
@@ -8,7 +8,7 @@ use Rattle.tran_ids.specs.declared.branch.BranchId.{BranchId}
 use Rattle.tran_ids.specs.Branch.{same}
 use Rattle.tran_ids.proofs.BranchLemmas.{equal_from_same}
 use Rattle.row_locks.specs.declared.held_key.HeldKey.{HeldKey}
-use Rattle.row_locks.specs.Locks.{Lock, doubted, in_doubt_from_now, without, without_reads}
+use Rattle.row_locks.specs.Locks.{Lock, in_doubt_from_now, without, without_reads}
 use Rattle.row_locks.specs.Numbered.{Numbered, lock_of, locks_in, is_number, is_among, without_numbers, without_read_numbers, doubtful, changed_at, HasNone, HaveOwnNumbers, numbers_of}
 use Rattle.row_locks.proofs.NumberLaws.{number_itself, number_flips, missed}
 

@@ -1,10 +1,10 @@
 -- What the maps of locks keep: the number of the lock on each key, distinct keys, and how many locks are in doubt.
-use Rattle.std.proofs.Common.{◌≡◌, ℕ, ◌+◌, ◌-◌, ◌<◌, ◌≤◌, zero, suc, Bool, true, false, cond, not, ◌&&◌, ◌||◌, List, [], ◌∷◌, ◌++◌, map, filter, find, length, slice_get, get_or, position, None, Some, Option, is_some, refl, sym, ap, subst, ◌∙◌, arith, true≢false}
+use Rattle.std.proofs.Common.{◌≡◌, ℕ, ◌+◌, ◌<◌, ◌≤◌, zero, suc, Bool, true, false, cond, not, ◌&&◌, ◌||◌, List, [], ◌∷◌, ◌++◌, filter, find, length, slice_get, get_or, position, None, Some, Option, is_some, refl, sym, ap, subst, ◌∙◌, arith, true≢false}
 use Rattle.std.proofs.lemmas.Bool.{and_parts}
 use Rattle.std.proofs.lemmas.List.Quantifiers.{position-Some}
 use Rattle.std.proofs.lemmas.Option.{slice_get-get_or}
 use Rattle.std.specs.Cow.{cow_value}
-use Rattle.std.specs.Cmp.Lexicographic.{bytes_decides, nat_list_eq_equiv}
+use Rattle.std.specs.Cmp.Lexicographic.{bytes_decides}
 use Rattle.std.specs.declared.borrow.Cow.TheVariants.{Owned}
 use Rattle.std.specs.List.{AllByRecursion, IsDistinct, list_any}
 use Rattle.std.specs.Map.{lookup, keys_of, remove_entry}
@@ -15,7 +15,7 @@ use Rattle.std.specs.Option.{option_map}
 use Rattle.std.specs.Str.{bytes_eq}
 use Rattle.dtx_values.specs.declared.value.Value.{Value}
 use Rattle.dtx_values.specs.Order.{same_value}
-use Rattle.dtx_values.proofs.ValueOrder.{derived_same, same_is, equal_from_same}
+use Rattle.dtx_values.proofs.ValueOrder.{derived_same, equal_from_same}
 use Rattle.row_locks.specs.declared.held_key.HeldKey.{HeldKey}
 use Rattle.row_locks.specs.declared.lock_key.LockKey.{LockKey}
 use Rattle.row_locks.specs.contracts.lock_key.LockKeyPartialEq.TheImpl as of_key

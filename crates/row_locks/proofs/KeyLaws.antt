@@ -1,19 +1,14 @@
 -- Keys of locks: what a look-up by a key finds, and a key that is taken.
-use Rattle.std.proofs.Common.{◌≡◌, ℕ, Bool, true, false, cond, not, ◌&&◌, ◌||◌, List, [], ◌∷◌, ◌++◌, map, filter, find, None, Some, Option, refl, sym, ap, ◌∙◌, true≢false}
-use Rattle.std.specs.Cmp.Lexicographic.{bytes_decides}
-use Rattle.std.specs.List.{AllByRecursion, IsDistinct}
+use Rattle.std.proofs.Common.{◌≡◌, ℕ, Bool, true, false, cond, ◌||◌, List, [], ◌∷◌, ◌++◌, map, filter, find, None, Some, Option, refl, sym, ap, ◌∙◌}
+use Rattle.std.specs.List.{AllByRecursion}
 use Rattle.std.specs.Option.{option_map}
 use Rattle.std.specs.Str.{bytes_eq}
 use Rattle.dtx_values.specs.declared.value.Value.{Value}
-use Rattle.dtx_values.specs.Order.{same_value}
-use Rattle.dtx_values.proofs.ValueOrder.{equal_from_same}
 use Rattle.tran_ids.specs.declared.branch.BranchId.{BranchId}
-use Rattle.row_locks.specs.declared.held_key.HeldKey.{HeldKey}
 use Rattle.row_locks.specs.declared.held_key.Holder.{Holder}
-use Rattle.row_locks.specs.Locks.{Lock, named, is_lock_on, are_on_one_key, AreOnDistinctKeys, holder_of, new_lock, taken, keys_held}
-use Rattle.row_locks.specs.Numbered.{Numbered, lock_of, locks_in, is_on, is_number, is_among, holder_in, holder_on, number_on, without_numbers, written, changed_at, HasNone, HaveOwnNumbers}
-use Rattle.row_locks.proofs.NumberLaws.{number_itself, number_flips, missed, none_changed}
-use Rattle.std.specs.Map.{lookup}
+use Rattle.row_locks.specs.Locks.{Lock, named, is_lock_on, holder_of, new_lock, taken, keys_held}
+use Rattle.row_locks.specs.Numbered.{Numbered, lock_of, locks_in, is_on, is_number, holder_in, holder_on, written, changed_at, HasNone, HaveOwnNumbers}
+use Rattle.row_locks.proofs.NumberLaws.{number_itself, number_flips, none_changed}
 
 or_true : (c : Bool) → (c || true) ≡ true
 or_true true = refl

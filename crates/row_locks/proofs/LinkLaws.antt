@@ -1,5 +1,5 @@
 -- What each call makes of the locks and of the numbers that are kept for each branch.
-use Rattle.std.proofs.Common.{◌≡◌, ℕ, Bool, true, false, cond, not, ◌||◌, List, [], ◌∷◌, ◌++◌, filter, find, None, Some, Option, is_some, refl, sym, ap, subst, ◌∙◌, true≢false}
+use Rattle.std.proofs.Common.{◌≡◌, ℕ, Bool, true, false, cond, not, ◌||◌, List, [], ◌∷◌, ◌++◌, filter, None, is_some, refl, sym, ap, subst, ◌∙◌, true≢false}
 use Rattle.std.specs.Prelude.{Result, Ok, Err, OnOk, OnErr, is_err}
 use Rattle.std.proofs.lemmas.List.{append-nil, map-append}
 use Rattle.std.specs.Map.{lookup}
@@ -9,8 +9,8 @@ use Rattle.tran_ids.specs.Branch.{same}
 use Rattle.tran_ids.proofs.BranchLemmas.{equal_from_same}
 use Rattle.row_locks.specs.declared.branch_key.BranchKey.{BranchKey}
 use Rattle.row_locks.specs.declared.held_key.HeldKey.{HeldKey}
-use Rattle.row_locks.specs.Locks.{Lock, taken, holder_of, in_doubt_from_now, without, without_reads}
-use Rattle.row_locks.specs.Numbered.{Numbered, lock_of, locks_in, is_on, is_number, is_among, without_numbers, without_read_numbers, written, doubtful, changed_at, AreApart, HaveOwnNumbers, numbers_of}
+use Rattle.row_locks.specs.Locks.{taken, holder_of, in_doubt_from_now, without, without_reads}
+use Rattle.row_locks.specs.Numbered.{Numbered, lock_of, locks_in, is_number, is_among, without_numbers, without_read_numbers, doubtful, changed_at, AreApart, HaveOwnNumbers, numbers_of}
 use Rattle.row_locks.specs.ByBranch.{numbers_at, AreLinked}
 use Rattle.row_locks.proofs.NumberLaws.{own_less, own_changed, last_dropped}
 use Rattle.row_locks.proofs.BranchLaws.{AreItsNumbers, its_numbers, released, reads_released, marked, none_left, beside_released, beside_reads, numbers_changed, there, left, numbers_pushed}

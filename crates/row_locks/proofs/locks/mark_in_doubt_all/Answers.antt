@@ -1,6 +1,6 @@
-use Rattle.std.proofs.Common.{List, [], ◌∷◌, take, refl, sym, ap, ◌∙◌}
+use Rattle.std.proofs.Common.{[], ◌∷◌, take, refl, sym, ap, ◌∙◌}
 use Rattle.std.proofs.lemmas.List.{take_more}
-use Rattle.row_locks.specs.Numbered.{Numbered, doubtful, changed_at}
+use Rattle.row_locks.specs.Numbered.{doubtful, changed_at}
 use Rattle.row_locks.proofs.NumberLaws.{changed_more, unchanged}
 use Rattle.row_locks.proofs.locks.mark_in_doubt_all.Goals as goal
 

@@ -1,6 +1,6 @@
-use Rattle.std.proofs.Common.{List, [], ◌∷◌, take, sym, ap, ◌∙◌}
+use Rattle.std.proofs.Common.{[], ◌∷◌, take, sym, ap, ◌∙◌}
 use Rattle.std.proofs.lemmas.List.{take_more}
-use Rattle.row_locks.specs.Numbered.{Numbered, without_numbers}
+use Rattle.row_locks.specs.Numbered.{without_numbers}
 use Rattle.row_locks.proofs.NumberLaws.{without_more, all_left}
 use Rattle.row_locks.proofs.locks.remove_all.Goals as goal
 

@@ -1,6 +1,6 @@
-use Rattle.std.proofs.Common.{List, [], ◌∷◌, take, sym, ap, ◌∙◌}
+use Rattle.std.proofs.Common.{[], ◌∷◌, take, sym, ap, ◌∙◌}
 use Rattle.std.proofs.lemmas.List.{take_more}
-use Rattle.row_locks.specs.Numbered.{Numbered, without_read_numbers}
+use Rattle.row_locks.specs.Numbered.{without_read_numbers}
 use Rattle.row_locks.proofs.NumberLaws.{reads_more, all_reads_left}
 use Rattle.row_locks.proofs.locks.remove_reads.Goals as goal
 

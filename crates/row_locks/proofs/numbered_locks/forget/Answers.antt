@@ -1,6 +1,5 @@
-use Rattle.std.proofs.Common.{◌≡◌, cond, None, get_or, sym, ap, subst, ◌∙◌}
+use Rattle.std.proofs.Common.{None, get_or, sym, subst, ◌∙◌}
 use Rattle.std.specs.Prelude.{IfSome}
-use Rattle.std.specs.declared.borrow.Cow.TheVariants.{Owned}
 use Rattle.indexmap.specs.IndexMap.{Updates}
 use Rattle.row_locks.specs.declared.lock_key.LockKey.{LockKey}
 use Rattle.row_locks.proofs.KeptLaws.{found_as, asked, first_entry, forgotten, nothing_forgotten}

@@ -1,4 +1,4 @@
-use Rattle.std.proofs.Common.{◌≡◌, ℕ, cond, List, filter, is_some, sym, ap, ◌∙◌}
+use Rattle.std.proofs.Common.{cond, List, filter, is_some, sym, ap, ◌∙◌}
 use Rattle.std.specs.Map.{lookup}
 use Rattle.tran_ids.specs.Branch.{same}
 use Rattle.row_locks.specs.ByBranch.{numbers_at}

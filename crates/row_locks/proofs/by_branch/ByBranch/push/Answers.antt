@@ -1,10 +1,8 @@
-use Rattle.std.proofs.Common.{◌≡◌, ℕ, cond, List, [], ◌∷◌, ◌++◌, Some, None, is_some, get_or, refl, sym, ap, subst, ◌∙◌}
-use Rattle.std.specs.Prelude.{OnOk}
+use Rattle.std.proofs.Common.{◌≡◌, ℕ, cond, List, [], ◌∷◌, ◌++◌, Some, is_some, sym, ap, ◌∙◌}
 use Rattle.std.specs.Map.{lookup}
-use Rattle.indexmap.specs.IndexMap.{Updates}
 use Rattle.indexmap.specs.Layout.{set_value_at}
 use Rattle.tran_ids.specs.Branch.{same}
-use Rattle.row_locks.specs.ByBranch.{key_of, numbers_at}
+use Rattle.row_locks.specs.ByBranch.{numbers_at}
 use Rattle.row_locks.proofs.MapLaws.{Entry, found_as, numbers_there, numbers_none, updated_by, placed, same_set, on_ok, on_err}
 use Rattle.row_locks.proofs.by_branch.ByBranch.push.Goals as goal
 

@@ -1,7 +1,6 @@
-use Rattle.std.proofs.Common.{◌≡◌, ℕ, List, [], ◌∷◌, ◌++◌, None, true, false, find, sym, ap, ◌∙◌}
-use Rattle.std.specs.Prelude.{is_err}
+use Rattle.std.proofs.Common.{List, [], ◌∷◌, ◌++◌, false, find, sym, ap, ◌∙◌}
 use Rattle.row_locks.specs.Locks.{Lock, holder_of, taken}
-use Rattle.row_locks.specs.Numbered.{Numbered, locks_in, is_on}
+use Rattle.row_locks.specs.Numbered.{locks_in, is_on}
 use Rattle.row_locks.proofs.KeyLaws.{free_is}
 use Rattle.row_locks.proofs.LinkLaws.{add_is, undone, linked_back, on_err_so, err_so, ok_so}
 use Rattle.row_locks.proofs.locks.Locks.add.Goals as goal

@@ -1,4 +1,4 @@
-use Rattle.std.proofs.Common.{◌≡◌, [], ◌∷◌, true, refl, sym, ◌∙◌}
+use Rattle.std.proofs.Common.{[], ◌∷◌, true, refl, sym, ◌∙◌}
 use Rattle.row_locks.specs.Numbered.{written}
 use Rattle.row_locks.proofs.LinkLaws.{changed_linked, err_so}
 use Rattle.row_locks.proofs.TakeLaws.{held_by_nobody, taken_to_write}

@@ -1,4 +1,4 @@
-use Rattle.std.proofs.Common.{Some, sym, ap, ◌∙◌}
+use Rattle.std.proofs.Common.{sym, ap, ◌∙◌}
 use Rattle.std.specs.Option.{option_map}
 use Rattle.row_locks.specs.Locks.{holder_of}
 use Rattle.row_locks.proofs.KeyLaws.{who, holder_is}

@@ -1,6 +1,5 @@
-use Rattle.std.proofs.Common.{◌≡◌, Some, None, sym, ap, ◌∙◌}
+use Rattle.std.proofs.Common.{◌≡◌, Some, sym, ap, ◌∙◌}
 use Rattle.std.specs.declared.borrow.Cow.TheVariants.{Borrowed}
-use Rattle.std.specs.Map.{lookup}
 use Rattle.std.specs.Option.{option_copied, option_map}
 use Rattle.row_locks.specs.declared.held_key.HeldKey.{HeldKey}
 use Rattle.row_locks.specs.declared.lock_key.LockKey.{LockKey}

@@ -1,4 +1,4 @@
-use Rattle.std.proofs.Common.{◌≡◌, ◌<◌, List, true, false, length, sym, ap, ◌∙◌, arith}
+use Rattle.std.proofs.Common.{◌≡◌, ◌<◌, List, true, length, sym, ap, ◌∙◌, arith}
 use Rattle.std.specs.Map.{lookup}
 use Rattle.row_locks.specs.Numbered.{Numbered, is_number, is_live_one}
 use Rattle.row_locks.proofs.KeptLaws.{not_all_doubted, one_doubted, doubted_before}

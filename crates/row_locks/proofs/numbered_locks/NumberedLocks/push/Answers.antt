@@ -1,9 +1,8 @@
-use Rattle.std.proofs.Common.{◌≡◌, ℕ, ◌<◌, cond, Some, None, List, [], ◌∷◌, ◌++◌, sym, ap, subst, ◌∙◌, arith}
-use Rattle.std.specs.Prelude.{Ok, OnOk}
+use Rattle.std.proofs.Common.{◌<◌, cond, Some, List, [], ◌∷◌, ◌++◌, ap, subst, ◌∙◌, arith}
+use Rattle.std.specs.Prelude.{OnOk}
 use Rattle.std.specs.Map.{lookup}
 use Rattle.std.proofs.lemmas.Bool.Decides.{nat_tests}
 use Rattle.indexmap.specs.IndexMap.{Updates}
-use Rattle.row_locks.specs.declared.lock_key.LockKey.{LockKey}
 use Rattle.row_locks.specs.Numbered.{Numbered, is_on}
 use Rattle.std.proofs.Common.{find}
 use Rattle.row_locks.proofs.NumberLaws.{insert_last}

@@ -1,7 +1,7 @@
-use Rattle.std.proofs.Common.{◌≡◌, ◌+◌, ◌-◌, ◌≤◌, List, [], ◌∷◌, filter, length, Some, None, sym, ap, subst, ◌∙◌, arith}
+use Rattle.std.proofs.Common.{◌≡◌, ◌-◌, ◌≤◌, List, [], ◌∷◌, Some, sym, ap, subst, ◌∙◌, arith}
 use Rattle.std.specs.Map.{lookup}
 use Rattle.row_locks.specs.Numbered.{Numbered, is_number, without_numbers}
-use Rattle.row_locks.proofs.NumberLaws.{removed, none_dropped, none_there}
+use Rattle.row_locks.proofs.NumberLaws.{removed}
 use Rattle.row_locks.proofs.KeptLaws.{one_if, one_less, some_doubted}
 use Rattle.row_locks.proofs.numbered_locks.NumberedLocks.remove.Goals as goal
 
