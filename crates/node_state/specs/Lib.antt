@@ -3,4 +3,3 @@ pub mod Changed
 pub mod Lives
 pub mod Works
 pub mod Sessions
-pub mod Whole

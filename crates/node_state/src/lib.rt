@@ -6,11 +6,9 @@ mod branch_key;
 mod live_changes;
 mod lives;
 mod sessions;
-mod state;
 mod work_changes;
 mod works;
 
 pub use lives::Lives;
 pub use sessions::Sessions;
-pub use state::NodeState;
 pub use works::Works;
