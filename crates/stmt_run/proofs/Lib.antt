@@ -1,5 +1,5 @@
-mod Examined
-mod Free
+pub mod Examined
+pub mod Free
 mod Lengths
 mod Doubts
-mod StoreLaws
+pub mod StoreLaws
