@@ -1,5 +1,6 @@
 //! A run in progress: the node, what happened so far, and the answers.
 ghost use Rattle.std.specs.Prelude.{◌≡◌, ◌+◌, ◌<◌, ◌^◌, [], ◌∷◌, ◌++◌, length, vec_len, vec_capacity, drop, is_some, IfOk, OnOk, OnErr};
+ghost use Rattle.sole_node.specs.Book.{book_of};
 ghost use Rattle.sole_laws.specs.Past.{start, past_of, undo_in as undo_of_first};
 ghost use Rattle.script_run.specs.Ending.{IsWhole};
 ghost use Rattle.script_run.specs.Headline.{IsRun};
@@ -125,6 +126,15 @@ impl Progress {
         }
         Ok(())
     }
+
+    // What was done: the run of the trace, with its answers.
+    fn into_run(self) -> Run
+        requires told { self.answers.items ≡ (past_of self.trace).lines }
+        ensures is { result ≡ record { commands = self.trace.asked; answers = self.answers.items; book = book_of self.trace.happenings; trace = self.trace.happenings } }
+        ensures run { IsRun result }
+    {
+        Run::told(self.trace, self.answers)
+    }
 }
 
 /// Runs these commands in order. It returns what was done, and whether all of them were run.
@@ -142,5 +152,5 @@ pub fn run_commands(alloc: Global, asked: Commands) -> (Run, Result<(), AllocErr
     let mut progress = Progress::new(alloc, asked, undo, site);
     let ran = progress.carry_out_all(alloc);
     each_begun_is_answered();
-    (Run::told(progress.trace, progress.answers), ran)
+    (progress.into_run(), ran)
 }
