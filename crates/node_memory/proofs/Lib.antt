@@ -1,0 +1,5 @@
+mod PartLaws
+mod SealLaws
+mod ReplayLaws
+mod DoubtLaws
+mod AckLaws

@@ -1,5 +1,7 @@
 -- What a node keeps, by the parts of its memory.
 use Rattle.std.specs.Prelude.{◌≡◌}
+use Rattle.catalog.specs.Catalog.{Listed}
+use Rattle.node_rules.specs.Data.{Durable}
 use Rattle.node_rules.specs.Kept.{Stored, Kept}
 use Rattle.node_memory.specs.declared.memory.Memory.{Memory}
 
@@ -36,3 +38,7 @@ kept_in m = record {
 -- the store has the undo extents of the node's place
 abbrev pub HasOwnUndo : Memory → Type 0
 HasOwnUndo m = m.store.extents ≡ m.place.undo
+
+-- the catalog that records leave
+abbrev pub listed_in : Durable → Listed
+listed_in d = record { recovery = d.recovery; tables = d.tables; links = d.links; synonyms = d.synonyms }
