@@ -1,6 +1,7 @@
 -- The branches in doubt as their records have them hold the same keys as those that are stored.
 use Rattle.std.proofs.Common.{◌≡◌, Bool, true, false, not, cond, List, [], ◌∷◌, ◌++◌, map, refl, sym, ap, ◌∙◌}
-use Rattle.std.specs.Prelude.{fold}
+use Rattle.std.specs.Prelude.{filter, fold}
+use Rattle.std.proofs.lemmas.List.Folds.{fold-map}
 use Rattle.tran_ids.specs.declared.branch.BranchId.{BranchId}
 use Rattle.tran_ids.specs.Branch.{same}
 use Rattle.tran_ids.specs.Listed.{drop_item}
@@ -9,9 +10,24 @@ use Rattle.row_store.specs.Store.{doubt_id}
 use Rattle.node_rules.specs.Data.{RedoRecord, Sealed, Doubt, Change}
 use Rattle.node_rules.specs.Data.records
 use Rattle.node_rules.specs.Kept.{Stored}
-use Rattle.node_rules.specs.Records.{nothing_stored, applied, stored_by, with_doubt}
+use Rattle.node_rules.specs.Records.{nothing_stored, applied, stored_by, with_doubt, doubt_over}
 use Rattle.node_rules.specs.Turn.{with_doubt_of}
 use Rattle.node_memory.specs.Doubts.{sealed_id, in_doubt_after, in_doubt_by, with_keys_of}
+
+module _ {A B : Type 0} (f : A → B) where
+  map_filter_if : (q : B → Bool) (x : A) (xs : List A) (here : Bool) → q (f x) ≡ here → map f (filter (λ y. q (f y)) xs) ≡ filter q (map f xs)
+      → map f (cond here (x ∷ filter (λ y. q (f y)) xs) (filter (λ y. q (f y)) xs)) ≡ cond here (f x ∷ filter q (map f xs)) (filter q (map f xs))
+  map_filter_if q x xs true is rest = ap (λ ys. f x ∷ ys) rest
+  map_filter_if q x xs false is rest = rest
+
+  -- what passes, up to f, is what passes of the values of f
+  pub map_filter : (q : B → Bool) (xs : List A) → map f (filter (λ y. q (f y)) xs) ≡ filter q (map f xs)
+  map_filter q [] = refl
+  map_filter q (x ∷ xs) = map_filter_if q x xs (q (f x)) refl (map_filter q xs)
+
+  map_push : (xs : List A) (x : A) → map f (xs ++ x ∷ []) ≡ map f xs ++ f x ∷ []
+  map_push [] x = refl
+  map_push (y ∷ ys) x = ap (λ zs. f y ∷ zs) (map_push ys x)
 
 -- a branch with its changes
 abbrev Held : Type 0
@@ -29,22 +45,9 @@ held_id h = h.0
 abbrev with_held : List Lock → Held → List Lock
 with_held locks h = with_doubt locks h.0 h.1
 
-module _ {A : Type 0} (id : A → BranchId) (f : A → Held) where
-  dropped_if : (b : BranchId) (x : A) (xs : List A) (here : Bool) → same (id x) b ≡ here → held_id (f x) ≡ id x → map f (drop_item id xs b) ≡ drop_item held_id (map f xs) b
-      → map f (cond (not here) (x ∷ drop_item id xs b) (drop_item id xs b)) ≡ cond (not (same (held_id (f x)) b)) (f x ∷ drop_item held_id (map f xs) b) (drop_item held_id (map f xs) b)
-  dropped_if b x xs true is me rest = rest ∙ sym (ap (λ here. cond (not here) (f x ∷ drop_item held_id (map f xs) b) (drop_item held_id (map f xs) b)) (ap (λ m. same m b) me ∙ is))
-  dropped_if b x xs false is me rest = ap (λ hs. f x ∷ hs) rest ∙ sym (ap (λ here. cond (not here) (f x ∷ drop_item held_id (map f xs) b) (drop_item held_id (map f xs) b)) (ap (λ m. same m b) me ∙ is))
-
-  dropped : (xs : List A) (b : BranchId) → ((x : A) → held_id (f x) ≡ id x) → map f (drop_item id xs b) ≡ drop_item held_id (map f xs) b
-  dropped [] b me = refl
-  dropped (x ∷ xs) b me = dropped_if b x xs (same (id x) b) refl (me x) (dropped xs b me)
-
-  pushed : (xs : List A) (x : A) → map f (xs ++ x ∷ []) ≡ map f xs ++ f x ∷ []
-  pushed [] x = refl
-  pushed (y ∷ ys) x = ap (λ hs. f y ∷ hs) (pushed ys x)
-
 left_alike : (open : List Sealed) (ds : List Doubt) (b : BranchId) → map by_record open ≡ map by_doubt ds → map by_record (drop_item sealed_id open b) ≡ map by_doubt (drop_item doubt_id ds b)
-left_alike open ds b alike = dropped sealed_id by_record open b (λ x. refl) ∙ ap (λ hs. drop_item held_id hs b) alike ∙ sym (dropped doubt_id by_doubt ds b (λ x. refl))
+left_alike open ds b alike =
+    map_filter by_record (λ h. not (same (held_id h) b)) open ∙ ap (λ hs. drop_item held_id hs b) alike ∙ sym (map_filter by_doubt (λ h. not (same (held_id h) b)) ds)
 
 -- one more record
 alike_after : (s : Stored) (open : List Sealed) (r : RedoRecord) → map by_record open ≡ map by_doubt s.doubts → map by_record (in_doubt_after open r) ≡ map by_doubt (applied s r).doubts
@@ -54,7 +57,7 @@ alike_after s open (records.Table t) alike = alike
 alike_after s open (records.Link l) alike = alike
 alike_after s open (records.Synonym y) alike = alike
 alike_after s open (records.Param p) alike = alike
-alike_after s open (records.Sealed r) alike = pushed sealed_id by_record open r ∙ ap (λ hs. hs ++ by_record r ∷ []) alike ∙ sym (pushed doubt_id by_doubt s.doubts _)
+alike_after s open (records.Sealed r) alike = map_push by_record open r ∙ ap (λ hs. hs ++ by_record r ∷ []) alike ∙ sym (map_push by_doubt s.doubts (doubt_over s.rows r))
 alike_after s open (records.Decided r) alike = alike
 alike_after s open (records.Ended b d) alike = left_alike open s.doubts b alike
 alike_after s open (records.Forced b d given) alike = left_alike open s.doubts b alike
@@ -67,15 +70,12 @@ unfolding stored_by
 alike_by s open [] alike = alike
 alike_by s open (r ∷ rs) alike = alike_by (applied s r) (in_doubt_after open r) rs (alike_after s open r alike)
 
-keys_by_records : (locks : List Lock) (open : List Sealed) → fold with_keys_of locks open ≡ fold with_held locks (map by_record open)
-keys_by_records locks [] = refl
-keys_by_records locks (r ∷ rs) = keys_by_records (with_keys_of locks r) rs
+-- the keys that a start takes again are those of the branches that are stored in doubt
+pub keys_at_start : (rs : List RedoRecord) → fold with_keys_of [] (in_doubt_by rs) ≡ fold with_doubt_of [] (stored_by nothing_stored rs).doubts
+keys_at_start rs =
+    sym (fold-map with_held by_record [] (in_doubt_by rs)) ∙ ap (fold with_held []) (alike_by nothing_stored [] rs refl) ∙ fold-map with_held by_doubt [] (stored_by nothing_stored rs).doubts
 
-keys_by_doubts : (locks : List Lock) (ds : List Doubt) → fold with_doubt_of locks ds ≡ fold with_held locks (map by_doubt ds)
-keys_by_doubts locks [] = refl
-keys_by_doubts locks (d ∷ ds) = keys_by_doubts (with_doubt_of locks d) ds
-
--- the keys that a start takes again
-pub locks_at_start : (rs : List RedoRecord) → fold with_keys_of [] (in_doubt_by rs) ≡ fold with_doubt_of [] (stored_by nothing_stored rs).doubts
-locks_at_start rs =
-    keys_by_records [] (in_doubt_by rs) ∙ ap (fold with_held []) (alike_by nothing_stored [] rs refl) ∙ sym (keys_by_doubts [] (stored_by nothing_stored rs).doubts)
+-- by references to the records
+pub locks_at_start : {A : Type 0} (now : A → Sealed) (open : List A) (rs : List RedoRecord) → map now open ≡ in_doubt_by rs
+    → fold (λ locks x. with_keys_of locks (now x)) [] open ≡ fold with_doubt_of [] (stored_by nothing_stored rs).doubts
+locks_at_start now open rs is = sym (fold-map with_keys_of now [] open) ∙ ap (fold with_keys_of []) is ∙ keys_at_start rs

@@ -2,4 +2,6 @@ mod PartLaws
 mod SealLaws
 mod ReplayLaws
 mod DoubtLaws
+mod StartLaws
 mod AckLaws
+pub mod NameLaws

@@ -13,7 +13,6 @@ use tran_ids::BranchId;
 impl Memory {
     /// A live branch decides: its record has what it changed, which is committed, and its keys are free. Its rows are moved,
     /// not copied. Fails where memory runs out, and nothing has changed then.
-    #[tactic(auto, using(crate::proofs::SealLaws::decides))]
     pub fn decide(
         &mut self,
         alloc: Global,

@@ -46,7 +46,7 @@ pub(crate) fn hold_all(
     alloc: Global,
     open: &[&Sealed],
 ) -> Result<(), AllocError>
-    ensures { OnOk result (locks.new ≡ fold with_keys_of locks.old (map (λ r. r.now) open.now)) }
+    ensures { OnOk result (locks.new ≡ fold (λ held r. with_keys_of held r.now) locks.old open.now) }
 {
     for sealed in open {
         hold_in_doubt(locks, alloc, &sealed.me, sealed.changes.as_slice())?;

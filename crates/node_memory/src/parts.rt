@@ -3,7 +3,7 @@ ghost use Rattle.std.specs.Prelude.{◌≡◌, OnOk, false, fold};
 ghost use Rattle.catalog.specs.Catalog.{is_used, is_link_used, with_table, with_link, with_synonym};
 ghost use Rattle.node_rules.specs.Records.{raised_by, forced_scn, scn_after, take_changed, with_doubt, locks_after};
 ghost use Rattle.redo_record.specs.declared.record.RedoRecord.TheVariants as records;
-ghost use Rattle.node_memory.specs.After.{boot_after, strength_after, catalog_after, store_after};
+ghost use Rattle.node_memory.specs.After.{boot_after, strength_set, strength_after, catalog_set, catalog_after, store_after};
 ghost use Rattle.node_memory.specs.Following.{MayBeListed, MayBeStored};
 
 use catalog::{CatErr, Catalog};
@@ -27,8 +27,17 @@ pub(crate) fn change_boot(boot: &mut u32, redo: &RedoRecord)
 pub(crate) fn change_strength(strength: &mut Option<u8>, redo: &RedoRecord)
     ensures { strength.new ≡ strength_after strength.old redo.now }
 {
-    if let RedoRecord::Param(Param::Strength(set)) = redo {
-        *strength = Some(*set);
+    if let RedoRecord::Param(param) = redo {
+        set_strength(strength, *param);
+    }
+}
+
+fn set_strength(strength: &mut Option<u8>, param: Param)
+    ensures { strength.new ≡ strength_set strength.old param }
+{
+    match param {
+        Param::Recovery(_) => {}
+        Param::Strength(set) => *strength = Some(set),
     }
 }
 
@@ -45,8 +54,8 @@ pub(crate) fn change_catalog(
         RedoRecord::Table(table) => add_table(catalog, alloc, table),
         RedoRecord::Link(link) => add_link(catalog, alloc, link),
         RedoRecord::Synonym(synonym) => add_synonym(catalog, alloc, synonym),
-        RedoRecord::Param(Param::Recovery(on)) => {
-            catalog.set_recovery(*on);
+        RedoRecord::Param(param) => {
+            set_recovery(catalog, *param);
             Ok(())
         }
         _ => Ok(()),
@@ -83,6 +92,15 @@ fn add_synonym(catalog: &mut Catalog, alloc: Global, synonym: &Synonym) -> Resul
         Ok(()) => Ok(()),
         Err(CatErr::NoMemory) => Err(AllocError),
         Err(CatErr::Used) => unreachable!(),
+    }
+}
+
+fn set_recovery(catalog: &mut Catalog, param: Param)
+    ensures { catalog.new ≡ catalog_set catalog.old param }
+{
+    match param {
+        Param::Recovery(on) => catalog.set_recovery(on),
+        Param::Strength(_) => {}
     }
 }
 

@@ -22,7 +22,8 @@ impl Memory {
         ensures undo { HasOwnUndo self.old → HasOwnUndo self.new }
     {
         self.apply(alloc, redo)?;
-        change_locks(&mut self.locks, alloc, redo)
+        change_locks(&mut self.locks, alloc, redo)?;
+        Ok(())
     }
 
     /// A record becomes part of what is stored. The locks stay as they are. Fails where memory runs out, and then some parts
@@ -39,6 +40,7 @@ impl Memory {
         change_catalog(&mut self.catalog, alloc, redo)?;
         change_store(&mut self.store, alloc, redo)?;
         change_scn(&mut self.scn, redo);
-        self.kept.apply(alloc, redo)
+        self.kept.apply(alloc, redo)?;
+        Ok(())
     }
 }

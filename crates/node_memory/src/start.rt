@@ -60,7 +60,7 @@ impl Memory {
     }
 
     // A node that has no record yet starts with these.
-    #[tactic(auto, using(crate::proofs::DoubtLaws::locks_at_start), unfolding(node_rules::specs::Turn::start_of))]
+    #[tactic(auto, unfolding(node_rules::specs::Turn::start_of))]
     fn start(&mut self, alloc: Global, records: &[RedoRecord]) -> Result<(), AllocError>
         requires none { kept_in self.old ≡ kept_by nothing_stored }
         requires follow { MayAllFollow nothing_stored records.now }
@@ -72,7 +72,8 @@ impl Memory {
         let scn = self.scn.now();
         self.clock.meet(scn);
         let open = in_doubt(alloc, records)?;
-        hold_all(&mut self.locks, alloc, open.as_slice())
+        hold_all(&mut self.locks, alloc, open.as_slice())?;
+        Ok(())
     }
 
     // These records become part of what is stored.
