@@ -45,30 +45,30 @@ held_id h = h.0
 abbrev with_held : List Lock → Held → List Lock
 with_held locks h = with_doubt locks h.0 h.1
 
-left_alike : (open : List Sealed) (ds : List Doubt) (b : BranchId) → map by_record open ≡ map by_doubt ds → map by_record (drop_item sealed_id open b) ≡ map by_doubt (drop_item doubt_id ds b)
-left_alike open ds b alike =
-    map_filter by_record (λ h. not (same (held_id h) b)) open ∙ ap (λ hs. drop_item held_id hs b) alike ∙ sym (map_filter by_doubt (λ h. not (same (held_id h) b)) ds)
+left_alike : (doubts : List Sealed) (ds : List Doubt) (b : BranchId) → map by_record doubts ≡ map by_doubt ds → map by_record (drop_item sealed_id doubts b) ≡ map by_doubt (drop_item doubt_id ds b)
+left_alike doubts ds b alike =
+    map_filter by_record (λ h. not (same (held_id h) b)) doubts ∙ ap (λ hs. drop_item held_id hs b) alike ∙ sym (map_filter by_doubt (λ h. not (same (held_id h) b)) ds)
 
 -- one more record
-alike_after : (s : Stored) (open : List Sealed) (r : RedoRecord) → map by_record open ≡ map by_doubt s.doubts → map by_record (in_doubt_after open r) ≡ map by_doubt (applied s r).doubts
+alike_after : (s : Stored) (doubts : List Sealed) (r : RedoRecord) → map by_record doubts ≡ map by_doubt s.doubts → map by_record (in_doubt_after doubts r) ≡ map by_doubt (applied s r).doubts
 unfolding applied
-alike_after s open (records.Boot n) alike = alike
-alike_after s open (records.Table t) alike = alike
-alike_after s open (records.Link l) alike = alike
-alike_after s open (records.Synonym y) alike = alike
-alike_after s open (records.Param p) alike = alike
-alike_after s open (records.Sealed r) alike = map_push by_record open r ∙ ap (λ hs. hs ++ by_record r ∷ []) alike ∙ sym (map_push by_doubt s.doubts (doubt_over s.rows r))
-alike_after s open (records.Decided r) alike = alike
-alike_after s open (records.Ended b d) alike = left_alike open s.doubts b alike
-alike_after s open (records.Forced b d given) alike = left_alike open s.doubts b alike
-alike_after s open (records.Met b d mixed) alike = alike
-alike_after s open (records.Forgot b) alike = alike
-alike_after s open (records.Hidden b) alike = alike
+alike_after s doubts (records.Boot n) alike = alike
+alike_after s doubts (records.Table t) alike = alike
+alike_after s doubts (records.Link l) alike = alike
+alike_after s doubts (records.Synonym y) alike = alike
+alike_after s doubts (records.Param p) alike = alike
+alike_after s doubts (records.Sealed r) alike = map_push by_record doubts r ∙ ap (λ hs. hs ++ by_record r ∷ []) alike ∙ sym (map_push by_doubt s.doubts (doubt_over s.rows r))
+alike_after s doubts (records.Decided r) alike = alike
+alike_after s doubts (records.Ended b d) alike = left_alike doubts s.doubts b alike
+alike_after s doubts (records.Forced b d given) alike = left_alike doubts s.doubts b alike
+alike_after s doubts (records.Met b d mixed) alike = alike
+alike_after s doubts (records.Forgot b) alike = alike
+alike_after s doubts (records.Hidden b) alike = alike
 
-alike_by : (s : Stored) (open : List Sealed) (rs : List RedoRecord) → map by_record open ≡ map by_doubt s.doubts → map by_record (fold in_doubt_after open rs) ≡ map by_doubt (stored_by s rs).doubts
+alike_by : (s : Stored) (doubts : List Sealed) (rs : List RedoRecord) → map by_record doubts ≡ map by_doubt s.doubts → map by_record (fold in_doubt_after doubts rs) ≡ map by_doubt (stored_by s rs).doubts
 unfolding stored_by
-alike_by s open [] alike = alike
-alike_by s open (r ∷ rs) alike = alike_by (applied s r) (in_doubt_after open r) rs (alike_after s open r alike)
+alike_by s doubts [] alike = alike
+alike_by s doubts (r ∷ rs) alike = alike_by (applied s r) (in_doubt_after doubts r) rs (alike_after s doubts r alike)
 
 -- the keys that a start takes again are those of the branches that are stored in doubt
 pub keys_at_start : (rs : List RedoRecord) → fold with_keys_of [] (in_doubt_by rs) ≡ fold with_doubt_of [] (stored_by nothing_stored rs).doubts
@@ -76,6 +76,6 @@ keys_at_start rs =
     sym (fold-map with_held by_record [] (in_doubt_by rs)) ∙ ap (fold with_held []) (alike_by nothing_stored [] rs refl) ∙ fold-map with_held by_doubt [] (stored_by nothing_stored rs).doubts
 
 -- by references to the records
-pub locks_at_start : {A : Type 0} (now : A → Sealed) (open : List A) (rs : List RedoRecord) → map now open ≡ in_doubt_by rs
-    → fold (λ locks x. with_keys_of locks (now x)) [] open ≡ fold with_doubt_of [] (stored_by nothing_stored rs).doubts
-locks_at_start now open rs is = sym (fold-map with_keys_of now [] open) ∙ ap (fold with_keys_of []) is ∙ keys_at_start rs
+pub locks_at_start : {A : Type 0} (now : A → Sealed) (doubts : List A) (rs : List RedoRecord) → map now doubts ≡ in_doubt_by rs
+    → fold (λ locks x. with_keys_of locks (now x)) [] doubts ≡ fold with_doubt_of [] (stored_by nothing_stored rs).doubts
+locks_at_start now doubts rs is = sym (fold-map with_keys_of now [] doubts) ∙ ap (fold with_keys_of []) is ∙ keys_at_start rs

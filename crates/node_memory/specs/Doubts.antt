@@ -13,10 +13,10 @@ sealed_id r = r.me
 
 -- the records of branches in doubt after one more record
 abbrev pub in_doubt_after : List Sealed → RedoRecord → List Sealed
-in_doubt_after open (records.Sealed r) = open ++ r ∷ []
-in_doubt_after open (records.Ended b d) = drop_item sealed_id open b
-in_doubt_after open (records.Forced b d given) = drop_item sealed_id open b
-in_doubt_after open _ = open
+in_doubt_after doubts (records.Sealed r) = doubts ++ r ∷ []
+in_doubt_after doubts (records.Ended b d) = drop_item sealed_id doubts b
+in_doubt_after doubts (records.Forced b d given) = drop_item sealed_id doubts b
+in_doubt_after doubts _ = doubts
 
 -- and after these records
 abbrev pub in_doubt_by : List RedoRecord → List Sealed

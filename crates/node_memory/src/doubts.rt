@@ -11,44 +11,44 @@ use tran_ids::BranchId;
 
 /// The records of the branches that are in doubt after all these. Fails where memory runs out.
 pub(crate) fn in_doubt(alloc: Global, records: &[RedoRecord]) -> Result<Vec<&Sealed>, AllocError>
-    ensures { IfOk result (λ open. map (λ r. r.now) open.items ≡ in_doubt_by records.now) }
+    ensures { IfOk result (λ doubts. map (λ r. r.now) doubts.items ≡ in_doubt_by records.now) }
 {
-    let mut open = Vec::new(alloc);
+    let mut doubts = Vec::new(alloc);
     for item in records {
-        note(&mut open, item)?;
+        note(&mut doubts, item)?;
     }
-    Ok(open)
+    Ok(doubts)
 }
 
-fn note<'a>(open: &mut Vec<&'a Sealed>, item: &'a RedoRecord) -> Result<(), AllocError>
-    ensures { OnOk result (map (λ r. r.now) open.new.items ≡ in_doubt_after (map (λ r. r.now) open.old.items) item.now) }
+fn note<'a>(doubts: &mut Vec<&'a Sealed>, item: &'a RedoRecord) -> Result<(), AllocError>
+    ensures { OnOk result (map (λ r. r.now) doubts.new.items ≡ in_doubt_after (map (λ r. r.now) doubts.old.items) item.now) }
 {
     match item {
         RedoRecord::Sealed(sealed) => {
-            open.push(sealed)?;
+            doubts.push(sealed)?;
         }
-        RedoRecord::Ended { me, .. } => leave(open, me),
-        RedoRecord::Forced { me, .. } => leave(open, me),
+        RedoRecord::Ended { me, .. } => leave(doubts, me),
+        RedoRecord::Forced { me, .. } => leave(doubts, me),
         _ => {}
     }
     Ok(())
 }
 
-fn leave(open: &mut Vec<&Sealed>, branch: &BranchId)
-    ensures { map (λ r. r.now) open.new.items ≡ drop_item sealed_id (map (λ r. r.now) open.old.items) branch.now }
+fn leave(doubts: &mut Vec<&Sealed>, branch: &BranchId)
+    ensures { map (λ r. r.now) doubts.new.items ≡ drop_item sealed_id (map (λ r. r.now) doubts.old.items) branch.now }
 {
-    open.retain(|sealed| !sealed.me.is(branch));
+    doubts.retain(|sealed| !sealed.me.is(branch));
 }
 
 /// Each of these branches holds the keys of its changes, in doubt. Fails where memory runs out.
 pub(crate) fn hold_all(
     locks: &mut Locks,
     alloc: Global,
-    open: &[&Sealed],
+    doubts: &[&Sealed],
 ) -> Result<(), AllocError>
-    ensures { OnOk result (locks.new ≡ fold (λ held r. with_keys_of held r.now) locks.old open.now) }
+    ensures { OnOk result (locks.new ≡ fold (λ held r. with_keys_of held r.now) locks.old doubts.now) }
 {
-    for sealed in open {
+    for sealed in doubts {
         hold_in_doubt(locks, alloc, &sealed.me, sealed.changes.as_slice())?;
     }
     Ok(())

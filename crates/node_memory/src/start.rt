@@ -71,8 +71,8 @@ impl Memory {
         self.replay(alloc, records)?;
         let scn = self.scn.now();
         self.clock.meet(scn);
-        let open = in_doubt(alloc, records)?;
-        hold_all(&mut self.locks, alloc, open.as_slice())?;
+        let doubts = in_doubt(alloc, records)?;
+        hold_all(&mut self.locks, alloc, doubts.as_slice())?;
         Ok(())
     }
 
