@@ -36,7 +36,7 @@ pub stays_kept : (old lent : List Standing) (b : BranchId) (s row : Standing) �
 stays_kept old lent b s row found kept me = ap (λ m. is_some (find (stands_at m) lent)) (me ∙ item_is standing_id old b s found) ∙ kept ∙ ap is_some found
 
 -- with these rows of kept branches
-abbrev with_rows : Kept → List Standing → Kept
+abbrev pub with_rows : Kept → List Standing → Kept
 with_rows k ks = record k { stored = record k.stored { durable = record k.stored.durable { kept = ks } } }
 
 acked_if : (k : Kept) (s : Standing) (from : BranchId) (counts : Bool) → item_at standing_id k.stored.durable.kept s.me ≡ Some s

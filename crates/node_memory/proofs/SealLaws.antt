@@ -14,6 +14,7 @@ use Rattle.node_rules.specs.Data.records
 use Rattle.node_rules.specs.Kept.{Kept, without_branch}
 use Rattle.node_rules.specs.Prepare.{own_changes}
 use Rattle.node_rules.specs.Records.{applied, with_doubt, with_record}
+use Rattle.node_memory.proofs.PartLaws.{contents_in}
 
 module _ {A : Type 0} (p : A → Bool) where
   filter_twice_if : (x : A) (xs : List A) (here : Bool) → p x ≡ here → filter p (filter p xs) ≡ filter p xs → filter p (cond here (x ∷ filter p xs) (filter p xs)) ≡ cond here (x ∷ filter p xs) (filter p xs)
@@ -34,15 +35,11 @@ pub owns_dropped_twice : (os : List Owned) (b : BranchId) → drop_item own_id (
 owns_dropped_twice os b = filter_twice (λ o. not (same (own_id o) b)) os
 
 -- the parts of memory before the branch is dropped
-abbrev with_parts : Kept → Contents → List Standing → ℕ → Kept
+abbrev pub with_parts : Kept → Contents → List Standing → ℕ → Kept
 with_parts k s ks scn = record k { stored = record k.stored { durable = with_kept k.stored.durable ks; rows = s.rows; doubts = s.doubts; scn = scn }; owns = s.owns }
 
--- the rows of a node, with so many undo extents
-abbrev contents_in : Kept → ℕ → Contents
-contents_in k extents = record { rows = k.stored.rows; owns = k.owns; doubts = k.stored.doubts; extents = extents }
-
 -- when a branch has become sealed, by the steps of the code
-abbrev after_seal : Kept → BranchId → Sealed → Contents → List Standing → ℕ → Kept
+abbrev pub after_seal : Kept → BranchId → Sealed → Contents → List Standing → ℕ → Kept
 after_seal k b r s ks scn = record (without_branch (with_parts k s ks scn) b) { locks = with_doubt (without k.locks b) b r.changes }
 
 -- with these changes left of others

@@ -28,7 +28,6 @@ impl Memory {
 
     /// A record becomes part of what is stored. The locks stay as they are. Fails where memory runs out, and then some parts
     /// have the record, and some have not.
-    #[tactic(auto, using(crate::proofs::PartLaws::durable_by_parts), unfolding(node_rules::specs::Records::applied))]
     pub(crate) fn apply(&mut self, alloc: Global, redo: &RedoRecord) -> Result<(), AllocError>
         requires { MayFollow (stored_in self.old) redo.now }
         ensures kept { OnOk result (kept_in self.new ≡ with_stored (kept_in self.old) (applied (stored_in self.old) redo.now)) }

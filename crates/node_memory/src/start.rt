@@ -60,7 +60,6 @@ impl Memory {
     }
 
     // A node that has no record yet starts with these.
-    #[tactic(auto, unfolding(node_rules::specs::Turn::start_of))]
     fn start(&mut self, alloc: Global, records: &[RedoRecord]) -> Result<(), AllocError>
         requires none { kept_in self.old ≡ kept_by nothing_stored }
         requires follow { MayAllFollow nothing_stored records.now }
