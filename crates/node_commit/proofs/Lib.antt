@@ -1,0 +1,4 @@
+mod LiveLemmas
+mod PrepareLemmas
+mod AckLemmas
+mod PurgeLemmas
