@@ -1,0 +1,2 @@
+mod AtKey
+mod Running
