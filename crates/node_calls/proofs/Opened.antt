@@ -1,5 +1,6 @@
 -- A branch whose new child is there goes on with what waited for it.
 use Rattle.std.proofs.Common.{◌≡◌, ◌×◌, ℕ, ◌-◌, ◌==◌, Bool, true, false, if◌then◌else◌, List, [], Option, None, Some, refl, sym, ap, subst, ◌∙◌, arith}
+use Rattle.std.proofs.lemmas.Bool.Decides.{nat_tests}
 use Rattle.tran_ids.specs.declared.branch.BranchId.{BranchId}
 use Rattle.tran_ids.specs.Listed.{item_at, put_item}
 use Rattle.tran_ids.proofs.ListedLemmas.{item_is, put_found}
@@ -37,7 +38,7 @@ opened_is k x from edge strength None = refl
 opened_is k x from edge strength (Some g) = opened_if k x from strength g (edge == next_edge x.live)
 
 number_if : (edge next : ℕ) (g : Going) (w : Waited) (here : Bool) → (edge == next) ≡ here → (if here then waits_for g g.waits else None) ≡ Some w → edge ≡ next
-number_if edge next g w true is found = omega arith
+number_if edge next g w true is found = grind (arith, nat_tests, is)
 number_if edge next g w false is found = absurd cc
 
 -- what waits for a child waits for the next one

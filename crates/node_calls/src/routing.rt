@@ -49,7 +49,14 @@ pub fn statement_at(
     let Some(live) = memory.lives.get(branch) else {
         return Ok(Deed::nothing(alloc));
     };
-    match way_of(alloc, &memory.place, &memory.catalog, live, given, statement) {
+    match way_of(
+        alloc,
+        &memory.place,
+        &memory.catalog,
+        live,
+        given,
+        statement,
+    ) {
         Way::RunsHere(table) => {
             let told = run(
                 alloc,

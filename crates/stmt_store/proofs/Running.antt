@@ -1,6 +1,7 @@
 -- What the changes of a statement come to at a store.
 use Rattle.std.proofs.Common.{◌≡◌, ℕ, ◌≤◌, Bool, true, false, cond, List, [], ◌∷◌, ◌++◌, Option, None, Some, nat_lt, length, refl, sym, ap, subst, ◌∙◌, arith}
 use Rattle.std.specs.List.{AllByRecursion}
+use Rattle.std.proofs.lemmas.Bool.Decides.{nat_tests}
 use Rattle.std.proofs.lemmas.List.Elements.{recursion_from_All}
 use Rattle.dtx_values.specs.declared.value.Value.{Value}
 use Rattle.dtx_values.specs.declared.row.Change.{Change}
@@ -52,7 +53,7 @@ of_tables rows t cs there are = each_there rows t cs there (of_one_table t cs ar
 few_if : (own cs : List Change) (many few : Bool) (bytes need free : ℕ) → nat_lt changes_limit (changes_length (own ++ cs)) ≡ many
     → refusal_told (cond many (Some (TooLarge bytes)) (cond few (Some (Full need free)) None)) ≡ None → length cs ≤ changes_limit
 few_if own cs true few bytes need free is none = absurd cc
-few_if own cs false few bytes need free is none = count_bound own cs (omega arith)
+few_if own cs false few bytes need free is none = count_bound own cs (grind (arith, nat_tests, is))
 
 -- changes that are not refused are few
 pub few_changes : (s : Contents) (b : BranchId) (cs : List Change) → refusal_told (refusal_of s b cs) ≡ None → length cs ≤ changes_limit
