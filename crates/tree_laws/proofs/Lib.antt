@@ -1,0 +1,10 @@
+pub mod AskLemmas
+pub mod AskStepLemmas
+pub mod AskRunLemmas
+pub mod ForestLemmas
+pub mod ForestRunLemmas
+pub mod LeftLemmas
+pub mod RecordStepLemmas
+pub mod RecordRunLemmas
+pub mod LeadLemmas
+pub mod FitLemmas

@@ -1,0 +1,4 @@
+pub mod AskLaws
+pub mod Forests
+pub mod RecordLaws
+pub mod FitLaws
