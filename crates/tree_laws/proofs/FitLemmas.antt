@@ -98,7 +98,7 @@ module _ (places : List Place) (asked : List Command) where
   wider f (happenings.Join m n) bs x is = is
   wider f (happenings.Lost k) bs x is = is
 
-  began_all : (f : Facts) (hs : List Happening) (bs : List Born) (x : Born) → Began bs x → Began (births_from places asked f hs bs) x
+  pub began_all : (f : Facts) (hs : List Happening) (bs : List Born) (x : Born) → Began bs x → Began (births_from places asked f hs bs) x
   unfolding births_from
   began_all f [] bs x is = is
   began_all f (h ∷ hs) bs x is = began_all (facts_after places asked f h) hs (births_after places f h bs) x (wider f h bs x is)
@@ -167,6 +167,15 @@ module _ (places : List Place) (asked : List Command) (each : (n : ℕ) (p : Pla
               (calls_stand_on places asked each f t bs stand roots turned (happenings.Turn u) (k, may)) (freeze_on places asked each f t bs stand roots turned ice (happenings.Turn u) (k, may))
               (ask_on places asked each f t bs stand roots turned ice now (happenings.Turn u) (k, may)) lawful r.me c left at in
               absurd (told_by (sent_split is_below (said_in f) (posts_of (happenings.Turn u)) r.me c (subst (λ xs. was_sent is_below xs r.me c ≡ true) (said_after places asked f (happenings.Turn u)) before)))
+
+      -- so the record names what is told in the whole run
+      pub leads_all : (w : Option RedoRecord) → u.wrote ≡ w → IfSome w (RecordLeads all)
+      leads_all None is = tt
+      leads_all (Some (records.Sealed r)) is =
+          let lead = leads_at (records.Sealed r) is in (lead.0, lead.1, subst (λ xs. LeadsTo xs r.me r.parent (Some lead.0)) (sym more.1) (leads_more (said_in f) more.0 r.me r.parent lead.0 lead.2))
+      leads_all (Some (records.Decided r)) is =
+          let lead : LeadsTo (said_in f) r.me r.parent None = leads_at (records.Decided r) is in (subst (λ xs. comes_to xs r.me r.parent ≡ true) (sym more.1) (comes_more (said_in f) more.0 r.me r.parent lead.0), none_told r is lead.1)
+      leads_all (Some _) is = tt
 
       module _ (known : trees.Known ends all) where
         seal_fits : (r : Sealed) → u.wrote ≡ Some (records.Sealed r) → FitsForest (forest_by ends all) (records.Sealed r)

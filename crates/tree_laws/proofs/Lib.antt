@@ -8,3 +8,5 @@ pub mod RecordStepLemmas
 pub mod RecordRunLemmas
 pub mod LeadLemmas
 pub mod FitLemmas
+pub mod RowLemmas
+pub mod LearnLemmas

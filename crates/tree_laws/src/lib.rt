@@ -9,6 +9,7 @@ ghost use Rattle.tree_laws.specs.AskLaws.{AskersWereAsked, WalkGoesOn, CollectsA
 ghost use Rattle.tree_laws.specs.Forests.{RunsHaveForests};
 ghost use Rattle.tree_laws.specs.RecordLaws.{RecordsAreAsTold};
 ghost use Rattle.tree_laws.specs.FitLaws.{RecordsFitForest};
+ghost use Rattle.tree_laws.specs.LearnLaws.{LearnedOfToward};
 
 /// A branch that asked a child to prepare is a root, or its parent asked it.
 pub fn askers_were_asked()
@@ -58,4 +59,9 @@ pub fn records_are_as_told()
 /// record names its neighbour on the way to the site. A branch that decides is the site.
 pub fn records_fit_forest()
     ensures { RecordsFitForest }
+{}
+
+/// Each decision is learned of the neighbour on the way to the site, by that forest.
+pub fn learned_of_toward()
+    ensures { LearnedOfToward }
 {}
