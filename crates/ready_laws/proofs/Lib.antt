@@ -1,9 +1,16 @@
-mod ListLemmas
+pub mod ListLemmas
 mod TableLemmas
 mod RecordLemmas
 mod RanLemmas
-mod RowStepLemmas
+pub mod RowStepLemmas
 mod NumberLemmas
 mod CallNumberLemmas
 mod ShapeLemmas
 mod SeqLemmas
+mod GivenLemmas
+mod ApartLemmas
+mod RecordIdLemmas
+mod IdStepLemmas
+mod FollowLemmas
+mod StartLemmas
+mod ReadyLemmas

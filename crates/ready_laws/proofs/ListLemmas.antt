@@ -1,9 +1,12 @@
 -- What each item of a list has, and the first item that passes a test.
-use Rattle.std.proofs.Common.{◌≡◌, ◌||◌, not, Bool, true, false, if◌then◌else◌, List, [], ◌∷◌, ◌++◌, find, Some, refl, subst}
+use Rattle.std.proofs.Common.{◌≡◌, ◌||◌, not, Bool, true, false, if◌then◌else◌, List, [], ◌∷◌, ◌++◌, find, filter, Option, Some, None, refl, ap, subst, ◌∙◌}
 use Rattle.std.specs.List.{AllByRecursion, list_any}
+use Rattle.std.proofs.lemmas.Bool.{cond_both}
 use Rattle.tran_ids.specs.declared.branch.BranchId.{BranchId}
-use Rattle.tran_ids.specs.Branch.{same}
-use Rattle.tran_ids.specs.Listed.{put_item, drop_item}
+use Rattle.tran_ids.specs.Branch.{same, branch_below, put_by_branch}
+use Rattle.tran_ids.specs.Listed.{is_item_of, item_at, put_item, drop_item}
+use Rattle.tran_ids.proofs.ListedLemmas.{item_is}
+use Rattle.redo_record.specs.Lists.{change_where}
 
 module _ {A : Type 0} (P : A → Type 0) where
   pub all_append : (xs ys : List A) → AllByRecursion P xs → AllByRecursion P ys → AllByRecursion P (xs ++ ys)
@@ -47,6 +50,64 @@ module _ {A : Type 0} (P : A → Type 0) where
       by : (stays : Bool) → AllByRecursion P (drop_item id xs b) → AllByRecursion P (if stays then x ∷ drop_item id xs b else drop_item id xs b)
       by true rest = (all.0, rest)
       by false rest = rest
+
+  -- without some items
+  pub all_filtered : (p : A → Bool) (xs : List A) → AllByRecursion P xs → AllByRecursion P (filter p xs)
+  all_filtered p [] all = tt
+  all_filtered p (x ∷ xs) all = by (p x) (all_filtered p xs all.1)
+    where
+      by : (stays : Bool) → AllByRecursion P (filter p xs) → AllByRecursion P (if stays then x ∷ filter p xs else filter p xs)
+      by true rest = (all.0, rest)
+      by false rest = rest
+
+  -- without a branch's, the items are of other branches
+  pub all_left : (id : A → BranchId) (xs : List A) (b : BranchId) → AllByRecursion P xs → AllByRecursion (λ x. P x × (same (id x) b ≡ false)) (drop_item id xs b)
+  all_left id [] b all = tt
+  all_left id (x ∷ xs) b all = by (same (id x) b) refl (all_left id xs b all.1)
+    where
+      by : (here : Bool) → same (id x) b ≡ here → AllByRecursion (λ y. P y × (same (id y) b ≡ false)) (drop_item id xs b)
+          → AllByRecursion (λ y. P y × (same (id y) b ≡ false)) (if not here then x ∷ drop_item id xs b else drop_item id xs b)
+      by true is rest = rest
+      by false is rest = ((all.0, is), rest)
+
+  -- with some items changed
+  pub all_changed : (p : A → Bool) (f : A → A) → ((x : A) → P x → P (f x)) → (xs : List A) → AllByRecursion P xs → AllByRecursion P (change_where p f xs)
+  all_changed p f each [] all = tt
+  all_changed p f each (x ∷ xs) all = (cond_both (p x) (f x) x P (λ here. each x all.0) (λ other. all.0), all_changed p f each xs all.1)
+
+  -- with one more item at its place in the order of branches
+  pub all_placed : (id : A → BranchId) (xs : List A) (x : A) → AllByRecursion P xs → P x → AllByRecursion P (put_by_branch id xs x)
+  all_placed id [] x all new = (new, tt)
+  all_placed id (y ∷ ys) x all new = by (branch_below (id x) (id y)) (all_placed id ys x all.1 new)
+    where
+      by : (here : Bool) → AllByRecursion P (put_by_branch id ys x) → AllByRecursion P (if here then x ∷ y ∷ ys else y ∷ put_by_branch id ys x)
+      by true rest = (new, all)
+      by false rest = (all.0, rest)
+
+module _ {A : Type 0} (id : A → BranchId) (b : BranchId) where
+  -- no item is of this branch
+  abbrev pub NoneOf : List A → Type 0
+  NoneOf xs = AllByRecursion (λ x. same (id x) b ≡ false) xs
+
+  pub none_of : (xs : List A) → item_at id xs b ≡ None → NoneOf xs
+  none_of [] none = tt
+  none_of (x ∷ xs) none = by (same (id x) b) refl none (none_of xs)
+    where
+      by : (here : Bool) → same (id x) b ≡ here → (if here then Some x else item_at id xs b) ≡ None → (item_at id xs b ≡ None → NoneOf xs) → (same (id x) b ≡ false) × NoneOf xs
+      by true is gone later = absurd cc
+      by false is gone later = (is, later gone)
+
+  pub not_found : (xs : List A) → NoneOf xs → item_at id xs b ≡ None
+  not_found [] none = refl
+  not_found (x ∷ xs) none = ap (λ here. if here then Some x else item_at id xs b) none.0 ∙ not_found xs none.1
+
+  -- nor is there one where the ids of all items are so, and this one is not
+  pub new_id : (P : BranchId → Type 0) (xs : List A) → AllByRecursion (λ x. P (id x)) xs → (P b → ⊥) → item_at id xs b ≡ None
+  new_id P xs all new = by (item_at id xs b) refl
+    where
+      by : (o : Option A) → item_at id xs b ≡ o → o ≡ None
+      by None is = refl
+      by (Some x) is = absurd (new (subst P (item_is id xs b x is) (all_found (λ y. P (id y)) (is_item_of id b) xs x all is)))
 
 module _ {A : Type 0} (p : A → Bool) where
   -- what is found passes the test
