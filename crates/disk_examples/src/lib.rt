@@ -1,4 +1,4 @@
-//! Disks, logs, redo records and messages by examples, as tests: what no clause says, and that calls succeed.
+//! Disks, logs, redo records, logs of them and messages by examples, as tests: what no clause says, and that calls succeed.
 //!
 //! One module a crate. What is expected was worked out by hand from the rules, never taken from the program.
 //! A call that many tests make stands in a helper without a contract: what nothing rests on need not be carried along in
@@ -15,5 +15,7 @@ mod fields;
 mod logs;
 #[cfg(test)]
 mod messages;
+#[cfg(test)]
+mod record_logs;
 #[cfg(test)]
 mod records;

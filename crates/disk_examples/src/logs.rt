@@ -10,7 +10,7 @@ use std::alloc::Global;
 const ONE_BODY: [u8; 8] = *b"\x01\x00\x00\x00\x02ab\x00";
 
 /// A disk that holds these bytes.
-fn disk_of(alloc: Global, bytes: &[u8]) -> Result<MemDisk, LoadWhy>
+pub(crate) fn disk_of(alloc: Global, bytes: &[u8]) -> Result<MemDisk, LoadWhy>
     requires { 0 < length bytes.now }
     ensures { IfOk result (λ disk. ⟦<MemDisk as Disk>⟧.content disk ≡ bytes.now) }
 {
