@@ -34,7 +34,7 @@ got_below n [] i all = omega arith
 got_below n (c ∷ cs) zero all = all.0
 got_below n (c ∷ cs) (suc i) all = got_below n cs i all.1
 
-numbered_below : (n : ℕ) (cs : List ℕ) (i : ℕ) → Below n cs → unwrap_or (numbered cs i) 0 ≤ n
+pub numbered_below : (n : ℕ) (cs : List ℕ) (i : ℕ) → Below n cs → unwrap_or (numbered cs i) 0 ≤ n
 numbered_below n cs zero all = omega arith
 numbered_below n cs (suc i) all = got_below n cs i all
 
@@ -52,7 +52,7 @@ pub called_below : (n : ℕ) (w : Work) (i : ℕ) → Below n w.calls → Below 
 called_below n w i all = set_below (n + 1) w.calls i (next_call w i) (higher n w.calls all) (let low = numbered_below n w.calls i all in omega (arith, low))
 
 module _ (n : ℕ) (k : Kept) (all : WorksBelow n k.works) where
-  work_by : (b : BranchId) (o : Option Work) → item_at work_id k.works b ≡ o → Below n (work_or b o).calls
+  pub work_by : (b : BranchId) (o : Option Work) → item_at work_id k.works b ≡ o → Below n (work_or b o).calls
   work_by b None is = tt
   work_by b (Some w) is = all_found (λ x. Below n x.calls) _ k.works w all is
 

@@ -22,6 +22,7 @@ use Rattle.node_rules.proofs.StepLemmas.{IsLive, acting_live}
 use Rattle.node_rules.proofs.SessionLemmas.{seqs, call_seqs}
 use Rattle.node_rules.proofs.TurnLemmas.{step_of}
 use Rattle.ready_laws.specs.Rows.{IsChangeAt, AreChangesAt, HasRows, BringsWhole}
+use Rattle.ready_laws.specs.Names.{BringsNamed}
 use Rattle.ready_laws.specs.Ids.{HasOwnIds}
 use Rattle.ready_laws.specs.Sound.{IsSound, IsNext, RecordsFollow, with_rows, RowsDoNotMatter}
 use Rattle.ready_laws.proofs.ListLemmas.{all_weaker}
@@ -55,11 +56,11 @@ module _ (k : Kept) (now : HasRows k) where
   no_rows name free = under k.stored.durable.tables k.stored.rows now.names name ∙ free
 
   -- a record of the catalog or of a setting
-  made_next : {input : Input} {n : ℕ} {s : Stmt} {r : RedoRecord} {d : Done} → BringsWhole input → IsCall input n s → Makes k s r d → IsNext k.stored r
-  made_next whole call (steps.Makes_table t free) = (record { listed = free; stored = no_rows t.name (or_left _ _ free) }, subst BringsWhole call whole)
-  made_next whole call (steps.Makes_link l free) = (record { listed = free; stored = tt }, tt)
-  made_next whole call (steps.Makes_synonym y free) = (record { listed = free; stored = tt }, tt)
-  made_next whole call (steps.Sets_recovery on) = (record { listed = tt; stored = tt }, tt)
+  made_next : {input : Input} {n : ℕ} {s : Stmt} {r : RedoRecord} {d : Done} → BringsWhole input → BringsNamed input → IsCall input n s → Makes k s r d → IsNext k.stored r
+  made_next whole named call (steps.Makes_table t free) = (record { listed = free; stored = no_rows t.name (or_left _ _ free) }, subst BringsWhole call whole)
+  made_next whole named call (steps.Makes_link l free) = (record { listed = free; stored = tt }, subst BringsNamed call named)
+  made_next whole named call (steps.Makes_synonym y free) = (record { listed = free; stored = tt }, subst BringsNamed call named)
+  made_next whole named call (steps.Sets_recovery on) = (record { listed = tt; stored = tt }, tt)
 
   module _ (ids : HasOwnIds k) (l : Live) (live : IsLive k l.me) where
     of_start : l.me.boot ≤ k.stored.durable.boot
@@ -80,6 +81,8 @@ module _ (k : Kept) (now : HasRows k) where
 sound_still : (s : Stored) (kept : List Standing) (r : RedoRecord) → IsSound s r → IsSound (with_rows s kept) r
 sound_still s kept (records.Boot n) is = is
 sound_still s kept (records.Table t) is = is
+sound_still s kept (records.Link l) is = is
+sound_still s kept (records.Synonym y) is = is
 sound_still s kept (records.Sealed r) is = is
 sound_still s kept (records.Decided r) is = is
 sound_still s kept _ is = tt
@@ -94,35 +97,35 @@ unnoted s kept (Some r) is = rows_do_not_matter (with_rows s kept) s.durable.kep
 
 -- ---- steps
 
-next_on : (p : Place) (input : Input) → BringsWhole input → {k : Kept} {d : Deed} → Step p input k d → HasRows k → HasOwnIds k → IfSome d.wrote (IsNext k.stored)
-next_on p input whole (steps.Begins {k = k} n s call rows fit none step) now ids = next_on p input whole step now (begun_ids k ids p n fit)
-next_on p input whole (steps.Pends {k = k} n l given call has live code step) now ids = next_on p input whole step now (still k ids (with_call k.sessions n pending.Commit) (call_seqs k.sessions n pending.Commit))
-next_on p input whole (steps.Lets_reads_go l comment site_below live begins step) now ids = next_on p input whole step now ids
-next_on p input whole (steps.Counts_ack {k = k} {d = d} s from kept came counts step) now ids = unnoted k.stored (put_item standing_id k.stored.durable.kept (acked_by s from)) d.wrote (next_on p input whole step now (with_ack k ids s from kept))
-next_on p input whole (steps.Acts {k = k} l site_below acts.Seal why) now ids = sealed_next k now ids l (acting_live why) None
-next_on p input whole (steps.Acts {k = k} l site_below (acts.SealAndPass i) why) now ids = sealed_next k now ids l (acting_live why) (Some i)
-next_on p input whole (steps.Acts {k = k} l site_below acts.Decide why) now ids = decided_next k now ids l (acting_live why)
-next_on p input whole (steps.Acts l site_below acts.Rest why) now ids = tt
-next_on p input whole (steps.Acts l site_below acts.AskDown why) now ids = tt
-next_on p input whole (steps.Acts l site_below acts.SayReadOnly why) now ids = tt
-next_on p input whole (steps.Acts l site_below acts.SayReady why) now ids = tt
-next_on p input whole (steps.Acts l site_below acts.Finish why) now ids = tt
-next_on p input whole (steps.Acts l site_below acts.Abandon why) now ids = tt
-next_on p input whole (steps.Does s from (nexts.End d) kept why) now ids = (record { listed = tt; stored = tt }, tt)
-next_on p input whole (steps.Does s from (nexts.Meet d mixed) kept why) now ids = (record { listed = tt; stored = tt }, tt)
-next_on p input whole (steps.Does s from nexts.Forget kept why) now ids = (record { listed = tt; stored = tt }, tt)
-next_on p input whole (steps.Does s from nexts.Rest kept why) now ids = tt
-next_on p input whole (steps.Does s from nexts.AckToward kept why) now ids = tt
-next_on p input whole (steps.Does s from nexts.SayForgotten kept why) now ids = tt
-next_on p input whole (steps.Does s from nexts.SayAck kept why) now ids = tt
-next_on p input whole (steps.Makes_record {k = k} n s r d call makes) now ids = made_next k now whole call makes
-next_on p input whole (steps.Forces_given n id m b call named) now ids = (record { listed = tt; stored = tt }, tt)
-next_on p input whole (steps.Forces_commit n id b call named) now ids = (record { listed = tt; stored = tt }, tt)
-next_on p input whole (steps.Forces_rollback n id b call named) now ids = (record { listed = tt; stored = tt }, tt)
-next_on p input whole (steps.Hides n mixed id s call found) now ids = (record { listed = tt; stored = tt }, tt)
-next_on p input whole (steps.Gives_up_commit n b (Some l) gives has calls live) now ids = tt
-next_on p input whole (steps.Gives_up_commit n b None gives has calls live) now ids = tt
-next_on p input whole _ now ids = tt
+next_on : (p : Place) (input : Input) → BringsWhole input → BringsNamed input → {k : Kept} {d : Deed} → Step p input k d → HasRows k → HasOwnIds k → IfSome d.wrote (IsNext k.stored)
+next_on p input whole named (steps.Begins {k = k} n s call rows fit none step) now ids = next_on p input whole named step now (begun_ids k ids p n fit)
+next_on p input whole named (steps.Pends {k = k} n l given call has live code step) now ids = next_on p input whole named step now (still k ids (with_call k.sessions n pending.Commit) (call_seqs k.sessions n pending.Commit))
+next_on p input whole named (steps.Lets_reads_go l comment site_below live begins step) now ids = next_on p input whole named step now ids
+next_on p input whole named (steps.Counts_ack {k = k} {d = d} s from kept came counts step) now ids = unnoted k.stored (put_item standing_id k.stored.durable.kept (acked_by s from)) d.wrote (next_on p input whole named step now (with_ack k ids s from kept))
+next_on p input whole named (steps.Acts {k = k} l site_below acts.Seal why) now ids = sealed_next k now ids l (acting_live why) None
+next_on p input whole named (steps.Acts {k = k} l site_below (acts.SealAndPass i) why) now ids = sealed_next k now ids l (acting_live why) (Some i)
+next_on p input whole named (steps.Acts {k = k} l site_below acts.Decide why) now ids = decided_next k now ids l (acting_live why)
+next_on p input whole named (steps.Acts l site_below acts.Rest why) now ids = tt
+next_on p input whole named (steps.Acts l site_below acts.AskDown why) now ids = tt
+next_on p input whole named (steps.Acts l site_below acts.SayReadOnly why) now ids = tt
+next_on p input whole named (steps.Acts l site_below acts.SayReady why) now ids = tt
+next_on p input whole named (steps.Acts l site_below acts.Finish why) now ids = tt
+next_on p input whole named (steps.Acts l site_below acts.Abandon why) now ids = tt
+next_on p input whole named (steps.Does s from (nexts.End d) kept why) now ids = (record { listed = tt; stored = tt }, tt)
+next_on p input whole named (steps.Does s from (nexts.Meet d mixed) kept why) now ids = (record { listed = tt; stored = tt }, tt)
+next_on p input whole named (steps.Does s from nexts.Forget kept why) now ids = (record { listed = tt; stored = tt }, tt)
+next_on p input whole named (steps.Does s from nexts.Rest kept why) now ids = tt
+next_on p input whole named (steps.Does s from nexts.AckToward kept why) now ids = tt
+next_on p input whole named (steps.Does s from nexts.SayForgotten kept why) now ids = tt
+next_on p input whole named (steps.Does s from nexts.SayAck kept why) now ids = tt
+next_on p input whole named (steps.Makes_record {k = k} n s r d call makes) now ids = made_next k now whole named call makes
+next_on p input whole named (steps.Forces_given n id m b call forces) now ids = (record { listed = tt; stored = tt }, tt)
+next_on p input whole named (steps.Forces_commit n id b call forces) now ids = (record { listed = tt; stored = tt }, tt)
+next_on p input whole named (steps.Forces_rollback n id b call forces) now ids = (record { listed = tt; stored = tt }, tt)
+next_on p input whole named (steps.Hides n mixed id s call found) now ids = (record { listed = tt; stored = tt }, tt)
+next_on p input whole named (steps.Gives_up_commit n b (Some l) gives has calls live) now ids = tt
+next_on p input whole named (steps.Gives_up_commit n b None gives has calls live) now ids = tt
+next_on p input whole named _ now ids = tt
 
 -- what a node hears changes none of this
 heard_next : (k : Kept) (input : Input) (w : Option RedoRecord) → HasRows k → (HasRows (heard k input) → IfSome w (IsNext (heard k input).stored)) → IfSome w (IsNext k.stored)
@@ -133,4 +136,4 @@ heard_next k inputs.Reco w now next = next now
 
 pub records_follow : RecordsFollow
 unfolding turn_of
-records_follow p k input fit whole now ids = heard_next k input _ now (λ there. next_on p input whole (step_of p k input fit) there (ids_heard k input ids))
+records_follow p k input fit whole named now ids = heard_next k input _ now (λ there. next_on p input whole named (step_of p k input fit) there (ids_heard k input ids))

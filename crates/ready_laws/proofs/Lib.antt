@@ -12,5 +12,7 @@ mod ApartLemmas
 mod RecordIdLemmas
 mod IdStepLemmas
 mod FollowLemmas
+mod NameLemmas
+mod GiveLemmas
 mod StartLemmas
 mod ReadyLemmas

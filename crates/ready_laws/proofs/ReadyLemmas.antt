@@ -7,6 +7,7 @@ use Rattle.node_rules.specs.Turn.{heard}
 use Rattle.ready_laws.specs.Ready.{TurnsStayReady, BringsWithin, NumbersStayWithin}
 use Rattle.ready_laws.proofs.RowStepLemmas.{rows_stay_of_tables}
 use Rattle.ready_laws.proofs.ShapeLemmas.{shapes_stay}
+use Rattle.ready_laws.proofs.NameLemmas.{names_stay}
 use Rattle.ready_laws.proofs.IdStepLemmas.{ids_stay}
 use Rattle.ready_laws.proofs.FollowLemmas.{records_follow}
 use Rattle.ready_laws.proofs.NumberLemmas.{clocks_rise_by_one, one_open_a_turn}
@@ -17,10 +18,11 @@ pub turns_stay_ready : TurnsStayReady
 turns_stay_ready p k input expected ready = (
   record {
     rows = rows_stay_of_tables p k input expected.fit expected.whole ready.rows;
+    names = names_stay p k input expected.fit expected.named ready.names;
     shape = shapes_stay p k input expected.fit expected.few ready.shape;
     ids = ids_stay p k input expected.fit ready.ids;
   },
-  records_follow p k input expected.fit expected.whole ready.rows ready.ids,
+  records_follow p k input expected.fit expected.whole expected.named ready.rows ready.ids,
 )
 
 heard_within : (k : Kept) (input : Input) (n : ℕ) → BringsWithin n input → k.clock ≤ n → (heard k input).clock ≤ n

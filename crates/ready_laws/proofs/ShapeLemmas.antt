@@ -77,7 +77,7 @@ waits_within : (links n : ℕ) (w : Waits) → HasRoomFor links n w → n ≤ li
 waits_within links n (waiting.ForOpened link) has = omega (arith, has)
 waits_within links n (waiting.ForReply i) has = has
 
-within : (links n : ℕ) (o : Option Going) → HasRoom links n o → n ≤ links
+pub within : (links n : ℕ) (o : Option Going) → HasRoom links n o → n ≤ links
 within links n None has = has
 within links n (Some g) has = waits_within links n g.waits has
 

@@ -18,6 +18,8 @@ use Rattle.ready_laws.specs.Following.{MayFollow, MayAllFollow}
 use Rattle.ready_laws.specs.Sound.{IsSound, AreSound}
 use Rattle.ready_laws.specs.Ready.{IsReady, StartsAreReady}
 use Rattle.ready_laws.proofs.ListLemmas.{all_last, all_weaker, all_placed}
+use Rattle.ready_laws.specs.Names.{AreNamed}
+use Rattle.ready_laws.proofs.NameLemmas.{KeepsNames, names_after}
 use Rattle.ready_laws.proofs.RecordLemmas.{KeepsRows, rows_applied}
 use Rattle.ready_laws.proofs.RecordIdLemmas.{AddsNone, boot_still, rows_among, doubts_among}
 
@@ -31,6 +33,7 @@ Doubts_to n doubts = AllByRecursion (λ d. d.branch.boot ≤ n) doubts
 -- What is stored where all nodes are down.
 record Is_left (s : Stored) : Type 0 where
   rows : AreRows s.durable.tables s.rows [] s.doubts
+  names : AreNamed s.durable.links s.durable.synonyms
   kept : Rows_to s.durable.boot s.durable.kept
   doubts : Doubts_to s.durable.boot s.doubts
 
@@ -41,11 +44,18 @@ keeps s (records.Sealed r) may sound = sound.0
 keeps s (records.Decided r) may sound = sound.0
 keeps s _ may sound = tt
 
+-- and names of links and synonyms
+names_kept : (s : Stored) (r : RedoRecord) → IsSound s r → KeepsNames r
+names_kept s (records.Link l) sound = sound
+names_kept s (records.Synonym y) sound = sound
+names_kept s _ sound = tt
+
 -- a record by which no branch is kept
 none_left : (s : Stored) (r : RedoRecord) → MayFollow s r → IsSound s r → AddsNone r → Is_left s → Is_left (applied s r)
 unfolding applied
 none_left s r may sound none now = record {
   rows = rows_applied s [] r now.rows (keeps s r may sound);
+  names = names_after s.durable r (names_kept s r sound) now.names;
   kept = subst (λ n. Rows_to n (durable_after s.durable r).kept) (sym (boot_still s.durable r none)) (rows_among s.durable r none (λ b. b.boot ≤ s.durable.boot) now.kept);
   doubts = subst (λ n. Doubts_to n (doubts_after s.rows s.doubts r)) (sym (boot_still s.durable r none)) (doubts_among s.rows s.doubts r none (λ b. b.boot ≤ s.durable.boot) now.doubts);
 }
@@ -55,16 +65,19 @@ left_with : (s : Stored) (r : RedoRecord) → MayFollow s r → IsSound s r → 
 unfolding applied durable_after kept_after
 left_with s (records.Boot boot) may sound now = record {
   rows = now.rows;
+  names = now.names;
   kept = all_weaker (λ x. x.me.boot ≤ s.durable.boot) (λ x. x.me.boot ≤ boot) (λ x old. omega (arith, old, sound)) s.durable.kept now.kept;
   doubts = all_weaker (λ d. d.branch.boot ≤ s.durable.boot) (λ d. d.branch.boot ≤ boot) (λ d old. omega (arith, old, sound)) s.doubts now.doubts;
 }
 left_with s (records.Sealed r) may sound now = record {
   rows = rows_applied s [] (records.Sealed r) now.rows sound.0;
+  names = now.names;
   kept = all_placed (λ x. x.me.boot ≤ s.durable.boot) standing_id s.durable.kept (sealed_as r) now.kept sound.1;
   doubts = all_last (λ d. d.branch.boot ≤ s.durable.boot) s.doubts _ now.doubts sound.1;
 }
 left_with s (records.Decided r) may sound now = record {
   rows = rows_applied s [] (records.Decided r) now.rows sound.0;
+  names = now.names;
   kept = cond_both (has_neighbors (decided_as r)) (add_kept s.durable.kept (decided_as r)) s.durable.kept (Rows_to s.durable.boot)
       (λ some. all_placed (λ x. x.me.boot ≤ s.durable.boot) standing_id s.durable.kept (decided_as r) now.kept sound.1) (λ none. now.kept);
   doubts = now.doubts;
@@ -82,6 +95,7 @@ left_with s (records.Hidden b) may sound now = none_left s (records.Hidden b) ma
 -- What is stored at a start: all branches are of earlier ones.
 record Is_started (s : Stored) : Type 0 where
   rows : AreRows s.durable.tables s.rows [] s.doubts
+  names : AreNamed s.durable.links s.durable.synonyms
   kept : AllByRecursion (λ x. x.me.boot < s.durable.boot) s.durable.kept
   doubts : AllByRecursion (λ d. d.branch.boot < s.durable.boot) s.doubts
 
@@ -89,17 +103,19 @@ started_by : (s : Stored) (rs : List RedoRecord) (boot : ℕ) → MayAllFollow s
 unfolding stored_by applied durable_after MayAllFollow AreSound
 started_by s [] boot may sound next now = record {
   rows = now.rows;
+  names = now.names;
   kept = all_weaker (λ x. x.me.boot ≤ s.durable.boot) (λ x. x.me.boot < boot) (λ x old. omega (arith, old, next)) s.durable.kept now.kept;
   doubts = all_weaker (λ d. d.branch.boot ≤ s.durable.boot) (λ d. d.branch.boot < boot) (λ d old. omega (arith, old, next)) s.doubts now.doubts;
 }
 started_by s (r ∷ rs) boot may sound next now = started_by (applied s r) rs boot may.1 sound.1 next (left_with s r may.0 sound.0 now)
 
 none_there : Is_left nothing_stored
-none_there = record { rows = record { whole = tt; own_names = tt; fit = tt; names = refl; own = tt; held_back = tt }; kept = tt; doubts = tt }
+none_there = record { rows = record { whole = tt; own_names = tt; fit = tt; names = refl; own = tt; held_back = tt }; names = record { links = tt; synonyms = tt }; kept = tt; doubts = tt }
 
 ready_by : (p : Place) (s : Stored) → Is_started s → IsReady p (kept_by s)
 ready_by p s now = record {
   rows = record { whole = now.rows.whole; own_names = now.rows.own_names; fit = now.rows.fit; names = now.rows.names; own = tt; held_back = now.rows.held_back };
+  names = now.names;
   shape = none_live (IsShaped p.links);
   ids = record {
     sessions = refl;

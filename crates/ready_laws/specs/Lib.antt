@@ -3,5 +3,7 @@ pub mod Numbers
 pub mod Shapes
 pub mod Ids
 pub mod Following
+pub mod Names
 pub mod Sound
 pub mod Ready
+pub mod Gives

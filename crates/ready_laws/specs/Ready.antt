@@ -10,22 +10,25 @@ use Rattle.node_rules.specs.Inputs.{IsFit}
 use Rattle.node_rules.specs.Turn.{turn_of, start_of, kind_scn}
 use Rattle.ready_laws.specs.Rows.{HasRows, BringsWhole}
 use Rattle.ready_laws.specs.Shapes.{HasShape, BringsFew}
+use Rattle.ready_laws.specs.Names.{HasNames, BringsNamed}
 use Rattle.ready_laws.specs.Ids.{HasOwnIds}
 use Rattle.ready_laws.specs.Following.{MayAllFollow}
 use Rattle.ready_laws.specs.Sound.{IsSound, AreSound, IsNext}
 
--- A node that is ready for its next turn: its rows are of its tables, its live branches have their shape, and their ids are
--- their own.
+-- A node that is ready for its next turn: its rows are of its tables, its links and synonyms have names, its live branches have
+-- their shape, and their ids are their own.
 pub record IsReady (p : Place) (k : Kept) : Type 0 where
   pub rows : HasRows k
+  pub names : HasNames k
   pub shape : HasShape p k
   pub ids : HasOwnIds k
 
--- An input that a node is ready for: a call is of one of the sessions and makes no table, or a whole one, and a Reply tells
--- of no more branches than a tree has.
+-- An input that a node is ready for: a call is of one of the sessions, the table that it makes is whole, the link or the
+-- synonym has names, and a Reply tells of few branches.
 pub record IsExpected (input : Input) : Type 0 where
   pub fit : IsFit input
   pub whole : BringsWhole input
+  pub named : BringsNamed input
   pub few : BringsFew input
 
 -- each turn leaves the node ready, and its record may stand next

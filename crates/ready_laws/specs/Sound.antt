@@ -9,13 +9,16 @@ use Rattle.node_rules.specs.Turn.{turn_of}
 use Rattle.sql_statement.specs.Whole.{IsWholeTable}
 use Rattle.ready_laws.specs.Rows.{AreChangesAt, HasRows, BringsWhole}
 use Rattle.ready_laws.specs.Ids.{HasOwnIds}
+use Rattle.ready_laws.specs.Names.{IsNamedLink, IsNamedSynonym, BringsNamed}
 use Rattle.ready_laws.specs.Following.{MayFollow}
 
--- a start has a number above those before it, a table is whole, and a branch that becomes sealed or decides is of a start so
--- far and has changed rows of its tables
+-- a start has a number above those before it, a table is whole, links and synonyms have names, and a branch that becomes sealed
+-- or decides is of a start so far and has changed rows of its tables
 abbrev pub IsSound : Stored → RedoRecord → Type 0
 IsSound s (records.Boot boot) = s.durable.boot < boot
 IsSound s (records.Table t) = IsWholeTable t
+IsSound s (records.Link l) = IsNamedLink l
+IsSound s (records.Synonym y) = IsNamedSynonym y
 IsSound s (records.Sealed r) = AreChangesAt s.durable.tables r.changes × (r.me.boot ≤ s.durable.boot)
 IsSound s (records.Decided r) = AreChangesAt s.durable.tables r.changes × (r.me.boot ≤ s.durable.boot)
 IsSound s _ = Unit {0}
@@ -31,7 +34,7 @@ IsNext s r = MayFollow s r × IsSound s r
 
 -- the record of each turn may
 abbrev pub RecordsFollow : Type 0
-RecordsFollow = (p : Place) (k : Kept) (input : Input) → IsFit input → BringsWhole input → HasRows k → HasOwnIds k → IfSome (turn_of p k input).wrote (IsNext k.stored)
+RecordsFollow = (p : Place) (k : Kept) (input : Input) → IsFit input → BringsWhole input → BringsNamed input → HasRows k → HasOwnIds k → IfSome (turn_of p k input).wrote (IsNext k.stored)
 
 -- with other rows of kept branches
 abbrev pub with_rows : Stored → List Standing → Stored

@@ -6,6 +6,8 @@ ghost use Rattle.ready_laws.specs.Shapes.{ShapesStay};
 ghost use Rattle.ready_laws.specs.Numbers.{ClocksRiseByOne, OneOpenATurn, SeqsRiseByOne, CallsRiseByOne};
 ghost use Rattle.ready_laws.specs.Ids.{IdsStay, NoIdsAtFirst, LivesAreFree, NewIdsAreNew};
 ghost use Rattle.ready_laws.specs.Sound.{RecordsFollow, RowsDoNotMatter};
+ghost use Rattle.ready_laws.specs.Names.{NamesStay, EmptyNameIsFree};
+ghost use Rattle.ready_laws.specs.Gives.{ChildrenAreFew, NextCallsAreWithin};
 ghost use Rattle.ready_laws.specs.Ready.{TurnsStayReady, StartsAreReady, NumbersStayWithin};
 
 /// Between turns the tables of a node are whole, the rows under a table's name are rows of it, with a cell for each column
@@ -61,4 +63,18 @@ pub fn starts_are_ready()
 pub fn turns_stay_ready()
     ensures ready { TurnsStayReady }
     ensures numbers { NumbersStayWithin }
+{}
+
+/// Between turns each link and each synonym of a node has a name, and names what has one; a turn whose call makes no such, or
+/// one with names, leaves that so. No table or synonym has the empty name, by which statements without a table go.
+pub fn names_stay()
+    ensures turns { NamesStay }
+    ensures empty { EmptyNameIsFree }
+{}
+
+/// A ready node gives its code numbers that fit: a live branch has few children, and tells of few branches, and the next call
+/// number of an edge is at most one more than the greatest so far.
+pub fn ready_nodes_have_few()
+    ensures children { ChildrenAreFew }
+    ensures calls { NextCallsAreWithin }
 {}
