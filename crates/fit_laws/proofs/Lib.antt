@@ -1,0 +1,5 @@
+mod WayLemmas
+mod SayLemmas
+mod SayStepLemmas
+mod WrittenLemmas
+mod WayToLemmas

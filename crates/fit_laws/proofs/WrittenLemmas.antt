@@ -1,0 +1,95 @@
+-- The changes of sound records have keys and rows that one byte counts, and the comments of records are comments.
+use Rattle.std.proofs.Common.{◌≡◌, ◌≤◌, false, List, length, Option, Some, None, refl, arith}
+use Rattle.std.specs.Prelude.{IsTrue, IfSome}
+use Rattle.std.specs.List.{AllByRecursion}
+use Rattle.dtx_values.specs.Limits.{column_limit}
+use Rattle.dtx_values.specs.Order.{is_null}
+use Rattle.sql_statement.specs.Whole.{IsWholeTable}
+use Rattle.sql_eval.specs.Laws.{IsRowAt, IsChangeOf}
+use Rattle.field_codec.specs.Change.{is_key}
+use Rattle.field_codec.specs.Fits.{HasCount}
+use Rattle.field_codec.specs.Text.{comment_format}
+use Rattle.node_rules.specs.Data.{Value, Row, Table, Change, RedoRecord, Place, Input}
+use Rattle.dtx_values.specs.declared.value.Value.TheVariants as values
+use Rattle.node_rules.specs.Data.records
+use Rattle.node_rules.specs.Data.acts
+use Rattle.commit_forget.specs.declared.next.Next.TheVariants as nexts
+use Rattle.node_rules.specs.Words.{same_text}
+use Rattle.node_rules.specs.Kept.{Kept, Deed}
+use Rattle.node_rules.specs.Turn.{turn_of}
+use Rattle.node_rules.proofs.Steps as steps
+use Rattle.node_rules.proofs.Steps.{Step}
+use Rattle.node_rules.proofs.StepLemmas.{made_so}
+use Rattle.node_rules.proofs.TurnLemmas.{step_of}
+use Rattle.ready_laws.specs.Rows.{IsChangeAt, AreChangesAt}
+use Rattle.ready_laws.proofs.ListLemmas.{all_weaker, all_found}
+use Rattle.fit_laws.specs.Sayable.{BringsSayable, HasSayings}
+use Rattle.fit_laws.specs.Written.{ChangeFits, comment_in, ChangesFit, CommentsFit}
+use Rattle.fit_laws.proofs.SayLemmas.{no_comment}
+use Rattle.fit_laws.proofs.SayStepLemmas.{begins, acts_so, heard_sayings}
+
+-- ---- changes
+
+key_fits : (v : Value) → is_null v ≡ false → IsTrue (is_key v)
+key_fits values.Null is = absurd cc
+key_fits (values.Number n) is = refl
+key_fits (values.Text t) is = refl
+
+row_fits : (t : Table) (key : Value) (after : Option Row) → length t.columns ≤ column_limit → IfSome after (IsRowAt t key) → IfSome after HasCount
+row_fits t key None few at = tt
+row_fits t key (Some row) few at = let same = at.0 in omega (arith, few, same)
+
+module _ (tables : List Table) (whole : AllByRecursion IsWholeTable tables) where
+  change_fits : (c : Change) → IsChangeAt tables c → ChangeFits c
+  change_fits c at =
+      let table : IsWholeTable at.0 = all_found IsWholeTable (λ t. same_text t.name c.table) tables at.0 whole at.1 in
+      let is : IsChangeOf at.0 c = at.2 in
+      (key_fits c.key is.1, row_fits at.0 c.key c.after table.few is.2)
+
+  pub changes_fit_at : (cs : List Change) → AreChangesAt tables cs → AllByRecursion ChangeFits cs
+  changes_fit_at cs at = all_weaker (IsChangeAt tables) ChangeFits change_fits cs at
+
+pub changes_fit : ChangesFit
+changes_fit s (records.Sealed r) whole sound = changes_fit_at s.durable.tables whole r.changes sound.0
+changes_fit s (records.Decided r) whole sound = changes_fit_at s.durable.tables whole r.changes sound.0
+changes_fit s _ whole sound = tt
+
+-- ---- comments
+
+-- a record's comment is one
+abbrev HasComment : Option RedoRecord → Type 0
+HasComment w = IfSome w (λ r. comment_format.Fits (comment_in r))
+
+comments_on : (p : Place) (input : Input) → BringsSayable input → {k : Kept} {d : Deed} → Step p input k d → HasSayings k → HasComment d.wrote
+comments_on p input brings (steps.Begins {k = k} n s call rows fit none step) now = comments_on p input brings step (record { lives = begins k now _ no_comment; synonyms = now.synonyms })
+comments_on p input brings (steps.Pends n l given call has live code step) now = comments_on p input brings step (record { lives = now.lives; synonyms = now.synonyms })
+comments_on p input brings (steps.Lets_reads_go l comment site_below live begun step) now = comments_on p input brings step (record { lives = now.lives; synonyms = now.synonyms })
+comments_on p input brings (steps.Counts_ack s from kept came counts step) now = comments_on p input brings step (record { lives = now.lives; synonyms = now.synonyms })
+comments_on p input brings (steps.Acts {k = k} l site_below acts.Seal why) now = (acts_so k now brings why).comment
+comments_on p input brings (steps.Acts {k = k} l site_below (acts.SealAndPass i) why) now = (acts_so k now brings why).comment
+comments_on p input brings (steps.Acts {k = k} l site_below acts.Decide why) now = (acts_so k now brings why).comment
+comments_on p input brings (steps.Acts l site_below acts.Rest why) now = tt
+comments_on p input brings (steps.Acts l site_below acts.AskDown why) now = tt
+comments_on p input brings (steps.Acts l site_below acts.SayReadOnly why) now = tt
+comments_on p input brings (steps.Acts l site_below acts.SayReady why) now = tt
+comments_on p input brings (steps.Acts l site_below acts.Finish why) now = tt
+comments_on p input brings (steps.Acts l site_below acts.Abandon why) now = tt
+comments_on p input brings (steps.Does s from (nexts.End d) kept why) now = no_comment
+comments_on p input brings (steps.Does s from (nexts.Meet d mixed) kept why) now = no_comment
+comments_on p input brings (steps.Does s from nexts.Forget kept why) now = no_comment
+comments_on p input brings (steps.Does s from nexts.Rest kept why) now = tt
+comments_on p input brings (steps.Does s from nexts.AckToward kept why) now = tt
+comments_on p input brings (steps.Does s from nexts.SayForgotten kept why) now = tt
+comments_on p input brings (steps.Does s from nexts.SayAck kept why) now = tt
+comments_on p input brings (steps.Makes_record n s r d call makes) now = made_so (λ x. comment_format.Fits (comment_in x)) (λ t. no_comment) (λ l. no_comment) (λ y. no_comment) (λ on. no_comment) makes
+comments_on p input brings (steps.Forces_given n id m b call named) now = no_comment
+comments_on p input brings (steps.Forces_commit n id b call named) now = no_comment
+comments_on p input brings (steps.Forces_rollback n id b call named) now = no_comment
+comments_on p input brings (steps.Hides n mixed id s call found) now = no_comment
+comments_on p input brings (steps.Gives_up_commit n b (Some l) gives has waits live) now = tt
+comments_on p input brings (steps.Gives_up_commit n b None gives has waits none) now = tt
+comments_on p input brings _ now = tt
+
+pub comments_fit : CommentsFit
+unfolding turn_of
+comments_fit p k input fit brings now = comments_on p input brings (step_of p k input fit) (heard_sayings k input now)

@@ -1,0 +1,12 @@
+use Rattle.fit_laws.proofs.WrittenLemmas.{changes_fit, comments_fit}
+use Rattle.fit_laws.proofs.WayToLemmas.{ways_lead}
+use Rattle.fit_laws.proofs.records_fit.Goals as goal
+
+pub returns-clause-changes : goal.returns-clause-changes
+returns-clause-changes c = changes_fit
+
+pub returns-clause-comments : goal.returns-clause-comments
+returns-clause-comments c = comments_fit
+
+pub returns-clause-ways : goal.returns-clause-ways
+returns-clause-ways c = ways_lead

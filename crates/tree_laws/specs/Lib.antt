@@ -1,0 +1,12 @@
+pub mod AskLaws
+pub mod Forests
+pub mod RecordLaws
+pub mod FitLaws
+pub mod LearnLaws
+pub mod AnswerLaws
+pub mod BeyondLaws
+pub mod NameLaws
+pub mod MessageLaws
+pub mod WeightLaws
+pub mod AgreeLaws
+pub mod TriedForest

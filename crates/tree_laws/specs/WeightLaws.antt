@@ -1,0 +1,56 @@
+-- The weights of children that voted: a branch off the walk votes where there are changes on it or beyond, so its parent, to which its
+-- Replies told its weight, knows one.
+use Rattle.std.specs.Prelude.{◌≡◌, ◌≢◌, ℕ, ◌≤◌, ◌⊎◌, true, List, [], ◌∷◌, Option, Some, None}
+use Rattle.std.specs.List.{AllByRecursion}
+use Rattle.session_tree.specs.Tree.{weight}
+use Rattle.node_rules.specs.Data.{BranchId, Edge, Kind, Live, Post, ReplyFields}
+use Rattle.node_rules.specs.Data.kinds
+use Rattle.node_rules.specs.declared.work.Work.{Work}
+use Rattle.node_rules.specs.Kept.{Kept, Branch, branch_at}
+use Rattle.agreement.specs.Events.{Event, Send_vote, Has}
+use Rattle.run_laws.specs.Data.{Happening}
+use Rattle.run_laws.specs.Facts.{Facts, node_at}
+use Rattle.run_laws.specs.Lawful.{History, IsLawfulRun, facts_at}
+use Rattle.run_laws.specs.EventLaws.{AtEachEvent}
+use Rattle.run_laws.specs.InTurnLaws.{said_in}
+use Rattle.run_laws.specs.WalkLaws.{is_above, was_sent}
+
+-- a child that was asked off the walk, and voted, has a weight
+abbrev pub EdgeWeighs : List Event → List Post → BranchId → Edge → Type 0
+EdgeWeighs t said me e = (j : ℕ) → Has (Send_vote e.peer j) t → was_sent is_above said me e.peer ≡ true → e.weight ≢ None
+
+-- of the children of a live branch
+abbrev pub LiveWeighs : List Event → List Post → Live → Type 0
+LiveWeighs t said l = AllByRecursion (EdgeWeighs t said l.me) l.edges
+
+-- at each node, whatever happens next
+abbrev pub NodesWeigh : Facts → List Event → Happening → Type 0
+NodesWeigh f t h = (n : ℕ) (k : Kept) → node_at f n ≡ Some k → AllByRecursion (LiveWeighs t (said_in f)) k.lives
+
+-- in a run, before each happening
+abbrev pub VotersWeigh : History → Type 0
+VotersWeigh t = AtEachEvent NodesWeigh t
+
+-- ---- what Replies tell
+
+-- a Reply of this number with this weight
+abbrev pub TellsWeight : ℕ → Option ℕ → Kind → Type 0
+TellsWeight n wt (kinds.Reply call weight count a) = (call ≡ n) × (weight ≡ wt)
+TellsWeight n wt _ = ⊥
+
+-- a branch sent one
+abbrev pub ToldWeight : List Post → BranchId → ℕ → Option ℕ → Type 0
+ToldWeight [] b n wt = ⊥
+ToldWeight (m ∷ ms) b n wt = ((m.from ≡ b) × TellsWeight n wt m.kind) ⊎ ToldWeight ms b n wt
+
+-- What a branch below a root told of its weight: each Reply to its last call tells it, once it waits for nothing, and so does the one that
+-- it keeps. Before its first call it has none.
+pub record TellsItsWeight (said : List Post) (me : BranchId) (parent : Option BranchId) (wt : Option ℕ) (w : Work) : Type 0 where
+  pub told : parent ≢ None → 1 ≤ w.came.last_call → w.going ≡ None → (v : Option ℕ) → ToldWeight said me w.came.last_call v → v ≡ wt
+  pub kept : (t : ReplyFields) → w.came.reply ≡ Some t → t.weight ≡ wt
+  pub zero_calls : parent ≢ None → w.came.last_call ≡ 0 → wt ≡ None
+
+-- In every lawful run each live branch did.
+abbrev pub RepliesTellWeights : Type 0
+RepliesTellWeights = (t : History) → IsLawfulRun t → (n : ℕ) (k : Kept) → node_at (facts_at t) n ≡ Some k → (x : Branch) → branch_at k x.live.me ≡ Some x
+    → TellsItsWeight (said_in (facts_at t)) x.live.me x.live.parent (weight x.live) x.work
