@@ -1,6 +1,6 @@
 -- In every lawful run the forest allows each Ack: its sender learned the commit and all beyond acknowledged, or it is gone and a commit
 -- was told it.
-use Rattle.std.proofs.Common.{◌≡◌, ◌≢◌, ℕ, ◌⊎◌, Bool, true, false, List, [], ◌∷◌, ◌++◌, map, Option, Some, None, inl, inr, refl, sym, ap, subst, ◌∙◌}
+use Rattle.std.proofs.Common.{◌≡◌, ℕ, Bool, true, false, List, [], ◌∷◌, ◌++◌, Option, Some, None, inl, inr, refl, sym, subst}
 use Rattle.std.specs.Prelude.{IfSome}
 use Rattle.std.specs.List.{AllByRecursion}
 use Rattle.session_tree.specs.Live.{is_branch}
@@ -9,20 +9,20 @@ use Rattle.node_rules.specs.Data.decisions
 use Rattle.node_rules.specs.Data.inputs
 use Rattle.node_rules.specs.Data.kinds
 use Rattle.node_rules.specs.Data.records
-use Rattle.node_rules.specs.Kept.{Kept, Deed, standing_id}
+use Rattle.node_rules.specs.Kept.{Kept, Deed}
 use Rattle.node_rules.specs.Turn.{Is_gone, stand_of, turn_of, heard, deed_of, stamped}
-use Rattle.agreement.specs.Events.{Forest, Event, Beyond, Quiet, Dropped, Decided, Send_ack, Send_commit, Forget, exit, learned, Has, Cleared, Gone, Knows, site_of}
+use Rattle.agreement.specs.Events.{Forest, Event, Beyond, Quiet, Dropped, Send_ack, Send_commit, Forget, learned, Cleared, Gone}
 use Rattle.run_laws.specs.Data.{Turn, Happening}
 use Rattle.run_laws.specs.Data.happenings
 use Rattle.run_laws.specs.Facts.{Facts, first_facts, place_at, node_at, records_at, facts_after}
 use Rattle.run_laws.specs.Lawful.{MayTurn, MayHappen, IsOwed, History, IsLawfulRun}
 use Rattle.run_laws.specs.RunEvents.{wrote_event, with_event, lives_at, with_record, with_exits}
-use Rattle.run_laws.specs.EventRows.{RowsAre, MayStand, HasRow}
+use Rattle.run_laws.specs.EventRows.{RowsAre, MayStand}
 use Rattle.run_laws.specs.EventLaws.{EachEventFrom}
-use Rattle.run_laws.specs.Births.{Born, births_of}
+use Rattle.run_laws.specs.Births.{births_of}
 use Rattle.run_laws.specs.BirthLaws.{Began, KeptIs}
 use Rattle.run_laws.specs.TreeJust.{TreeAllows}
-use Rattle.run_laws.specs.RowSayLaws.{IsOver, AckIs, SaysByRow, TellsByRow}
+use Rattle.run_laws.specs.RowSayLaws.{AckIs, SaysByRow, TellsByRow}
 use Rattle.run_laws.specs.TowardLaws.{IsRowLike, AllAcked}
 use Rattle.run_laws.proofs.ListLemmas.{all_weaker, all_map, any_found}
 use Rattle.run_laws.proofs.GoneLemmas.{kept_not_gone}
@@ -34,7 +34,7 @@ use Rattle.run_laws.proofs.EventsStandLemmas.{node_so, run_stands, tells_so, nod
 use Rattle.run_laws.proofs.RowSayStandLemmas.{turns_tell_by_rows}
 use Rattle.run_laws.proofs.TowardLemmas.{heard_rows}
 use Rattle.run_laws.proofs.TurnEventLemmas.{all_both}
-use Rattle.tree_laws.specs.FitLaws.{FitsForest, WritesInForest}
+use Rattle.tree_laws.specs.FitLaws.{WritesInForest}
 use Rattle.tree_laws.specs.Forests.{forest_of}
 use Rattle.tree_laws.specs.MessageLaws.{DecidedAtSite, AckByForest, AcksByForest, AcksGoByForest}
 use Rattle.tree_laws.specs.NameLaws.{RowNames, NodesName}
@@ -48,7 +48,7 @@ use Rattle.tree_laws.proofs.PrefixLemmas.{so_far, f_at, e_at, both_each, fact_ea
 use Rattle.tree_laws.proofs.RecordForestLemmas.{row_toward}
 use Rattle.tree_laws.proofs.RowLemmas.{RowLeads, rows_lead}
 use Rattle.tree_laws.proofs.SettleRunLemmas.{all, ends, wider}
-use Rattle.tree_laws.proofs.SiteLemmas.{wrote_at_site, sites_decide}
+use Rattle.tree_laws.proofs.SiteLemmas.{sites_decide}
 use Rattle.tree_laws.proofs.TellWhyLemmas.{LearnsCommit, AcksSo, Learns_it, Knows_it, Has_gone, TellsSo, tells_on}
 
 -- ---- a node that hears

@@ -1,5 +1,5 @@
 -- A lawful run whose voters weigh does what the forest of its Prepares allows, and so agrees.
-use Rattle.std.proofs.Common.{◌≡◌, ℕ, List, [], ◌∷◌, Option, Some, None}
+use Rattle.std.proofs.Common.{ℕ, List, [], ◌∷◌}
 use Rattle.std.specs.List.{AllByRecursion}
 use Rattle.node_rules.specs.Data.{BranchId, Kind, Msg}
 use Rattle.node_rules.specs.Data.kinds
@@ -7,7 +7,7 @@ use Rattle.agreement.specs.Events.{Forest, Event}
 use Rattle.run_laws.specs.Data.{Happening}
 use Rattle.run_laws.specs.Data.happenings
 use Rattle.run_laws.specs.Facts.{Facts, first_facts, facts_after}
-use Rattle.run_laws.specs.Lawful.{History, IsLawfulRun}
+use Rattle.run_laws.specs.Lawful.{History}
 use Rattle.run_laws.specs.RunEvents.{message_event, with_exits, events_after}
 use Rattle.run_laws.specs.EventLaws.{EachEventFrom}
 use Rattle.run_laws.specs.TreeJust.{IsTreeAllowed, TreeSends, HappensByTree, GoByTree}
@@ -16,7 +16,6 @@ use Rattle.tree_laws.specs.AgreeLaws.{LeavesByForest, RunsGoByForest, RunsAgree}
 use Rattle.tree_laws.specs.Forests.{forest_of}
 use Rattle.tree_laws.specs.MessageLaws.{AckByForest, AcksByForest, RollByForest, RollsByForest}
 use Rattle.tree_laws.specs.NameLaws.{WritesByForest}
-use Rattle.tree_laws.specs.WeightLaws.{VotersWeigh}
 use Rattle.tree_laws.proofs.AckForestLemmas.{acks_go_by_forest}
 use Rattle.tree_laws.proofs.ForestRunLemmas.{runs_have_forests}
 use Rattle.tree_laws.proofs.LeaveForestLemmas.{leaves_go_by_forest}

@@ -1,9 +1,9 @@
 -- In every lawful run who answered Ready was told that the walk comes there, and once a branch collects each of its children was asked.
-use Rattle.std.proofs.Common.{◌≡◌, ◌≢◌, ℕ, Bool, true, false, List, [], ◌∷◌, ◌++◌, map, Option, Some, None, inl, inr, refl, sym, ap, subst, ◌∙◌, append-nil}
+use Rattle.std.proofs.Common.{◌≡◌, ℕ, Bool, true, false, List, [], ◌∷◌, ◌++◌, map, Option, Some, None, inl, inr, refl, sym, ap, subst, ◌∙◌, append-nil}
 use Rattle.std.specs.Prelude.{IfSome}
 use Rattle.std.specs.List.{AllByRecursion}
 use Rattle.tran_ids.proofs.NumberedLemmas.{set_or_before}
-use Rattle.node_rules.specs.Data.{BranchId, Kind, Live, Msg, Phase, Post, Place, Input, RedoRecord}
+use Rattle.node_rules.specs.Data.{BranchId, Kind, Live, Msg, Post, Input, RedoRecord}
 use Rattle.node_rules.specs.Data.inputs
 use Rattle.node_rules.specs.Data.kinds
 use Rattle.node_rules.specs.Data.phases
@@ -15,11 +15,10 @@ use Rattle.node_rules.specs.Turn.{turn_of, start_of, made, heard, deed_of, stamp
 use Rattle.run_laws.specs.Data.{Turn, Happening}
 use Rattle.run_laws.specs.Data.happenings
 use Rattle.run_laws.specs.Facts.{Facts, first_facts, place_at, flat, node_at, kept_after, with_boot, facts_after, facts_of}
-use Rattle.run_laws.specs.Lawful.{MayTurn, MayHappen, IsOwed, IsLawful, History, IsLawfulRun, facts_at}
+use Rattle.run_laws.specs.Lawful.{MayTurn, MayHappen, IsOwed, History, IsLawfulRun, facts_at}
 use Rattle.run_laws.specs.InTurnLaws.{post_of, said_in}
 use Rattle.run_laws.specs.WalkLaws.{is_below, was_sent}
 use Rattle.run_laws.proofs.ListLemmas.{all_weaker, all_map}
-use Rattle.run_laws.proofs.OwnLemmas.{all_found}
 use Rattle.run_laws.proofs.LawfulLemmas.{serves}
 use Rattle.run_laws.proofs.SaidLemmas.{sent_after}
 use Rattle.run_laws.proofs.AtNodeLemmas.{turn_here, turn_elsewhere}
@@ -30,7 +29,7 @@ use Rattle.run_laws.proofs.SaidPostLemmas.{posts_back, posts_of, said_after}
 use Rattle.run_laws.proofs.FreezeLemmas.{working_or}
 use Rattle.run_laws.proofs.FreezeRunLemmas.{asked_stand_still}
 use Rattle.tree_laws.specs.AskLaws.{way_of}
-use Rattle.tree_laws.specs.AnswerLaws.{EdgeTold, AnswersTold, ReadyIs, AnswersAreAsTold}
+use Rattle.tree_laws.specs.AnswerLaws.{AnswersTold, ReadyIs, AnswersAreAsTold}
 use Rattle.tree_laws.proofs.AskLemmas.{sent_more}
 use Rattle.tree_laws.proofs.AskRunLemmas.{collects_as_told}
 use Rattle.tree_laws.proofs.PrefixLemmas.{so_far, f_at, facts_on, lawful_on, keep_prefix}

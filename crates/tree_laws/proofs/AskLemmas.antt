@@ -1,5 +1,5 @@
 -- What Prepares tell, as more messages are sent: what was told stays so, and the Prepares of a branch that begins its collect.
-use Rattle.std.proofs.Common.{◌≡◌, ◌≢◌, ℕ, zero, suc, ◌+◌, ◌==◌, ◌&&◌, ◌||◌, ◌⊎◌, Bool, true, false, List, [], ◌∷◌, ◌++◌, map, Option, Some, None, inl, inr, refl, sym, ap, subst, ◌∙◌, arith}
+use Rattle.std.proofs.Common.{◌≡◌, ℕ, zero, suc, ◌+◌, ◌==◌, ◌&&◌, ◌||◌, ◌⊎◌, Bool, true, false, List, [], ◌∷◌, ◌++◌, map, Option, Some, None, inl, inr, refl, sym, ap, subst, ◌∙◌, arith}
 use Rattle.std.proofs.lemmas.Bool.{and_parts, cond_both, or_left, or_right}
 use Rattle.std.proofs.lemmas.Bool.Decides.{nat_tests}
 use Rattle.tran_ids.proofs.BranchLemmas.{equal_from_same, same_from_equal}
@@ -12,7 +12,7 @@ use Rattle.session_tree.specs.Tree.{place_of_greatest, walk_by, step}
 use Rattle.node_rules.specs.Prepare.{path_of, prepares, is_place, has_voted, answers_first, voted, ready}
 use Rattle.run_laws.specs.Trail.{is_prepare}
 use Rattle.run_laws.specs.FreezeLaws.{was_asked}
-use Rattle.run_laws.specs.WalkLaws.{is_below, is_above, was_sent}
+use Rattle.run_laws.specs.WalkLaws.{is_below, was_sent}
 use Rattle.run_laws.proofs.ListLemmas.{map_after}
 use Rattle.run_laws.proofs.WalkLemmas.{unasked_below}
 use Rattle.run_laws.proofs.FreezeLemmas.{any_append, or_false, or_split, and_false, asked_more, asked_split}

@@ -4,13 +4,11 @@ use Rattle.std.specs.Prelude.{IfSome}
 use Rattle.std.specs.List.{AllByRecursion}
 use Rattle.std.proofs.lemmas.Bool.{cond_both, or_right}
 use Rattle.tran_ids.proofs.BranchLemmas.{same_from_equal}
-use Rattle.tran_ids.proofs.ListedLemmas.{item_is}
 use Rattle.tran_ids.proofs.NumberedLemmas.{set_or_before, set_leaves}
 use Rattle.session_tree.specs.Live.{children_of}
 use Rattle.session_tree.specs.Tree.{step}
 use Rattle.node_rules.specs.Data.{BranchId, Kind, Live, Post, Place, RedoRecord}
 use Rattle.node_rules.specs.Data.kinds
-use Rattle.node_rules.specs.Data.phases
 use Rattle.node_rules.specs.Words.{same, numbered, set_numbered}
 use Rattle.node_rules.specs.Inputs.{Came}
 use Rattle.node_rules.specs.Kept.{Kept, Deed, live_id, live_at}
@@ -41,7 +39,6 @@ use Rattle.run_laws.proofs.RestRunLemmas.{heard_rests, RootsStand, roots_stand_o
 use Rattle.run_laws.proofs.SaidPostLemmas.{posts_back, posts_of, said_after, unborn_asks}
 use Rattle.run_laws.proofs.InTurnRunLemmas as calls
 use Rattle.run_laws.proofs.InTurnRunLemmas.{CallsStand, heard_calls, calls_stand_on, first_calls}
-use Rattle.run_laws.proofs.FreezeLemmas.{plain_asks}
 use Rattle.run_laws.proofs.FreezeStepLemmas as frost
 use Rattle.run_laws.proofs.FreezeRunLemmas as frozen
 use Rattle.run_laws.proofs.FreezeRunLemmas.{FreezeStand, freeze_on, first_freeze}

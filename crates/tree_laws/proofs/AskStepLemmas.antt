@@ -1,9 +1,9 @@
 -- Each step of a node leaves live branches collecting as their parents told them, and asks children in the name of collecting
 -- branches alone.
-use Rattle.std.proofs.Common.{◌≡◌, ◌≢◌, ℕ, zero, suc, ◌+◌, ◌-◌, ◌⊎◌, Bool, true, false, List, [], ◌∷◌, ◌++◌, map, length, Option, Some, None, inl, inr, refl, sym, ap, subst, subst₂, ◌∙◌, arith}
+use Rattle.std.proofs.Common.{◌≡◌, ◌≢◌, ℕ, zero, suc, ◌+◌, ◌-◌, Bool, true, false, List, [], ◌∷◌, ◌++◌, map, length, Option, Some, None, inl, inr, refl, sym, ap, subst, subst₂, ◌∙◌, arith}
 use Rattle.std.proofs.lemmas.Bool.{cond_both}
 use Rattle.tran_ids.proofs.BranchLemmas.{equal_from_same}
-use Rattle.tran_ids.proofs.ListedLemmas.{item_is, put_found}
+use Rattle.tran_ids.proofs.ListedLemmas.{put_found}
 use Rattle.commit_forget.specs.declared.next.Next.TheVariants as nexts
 use Rattle.session_tree.specs.Live.{children_of, peer_of, new_edge, next_edge, fresh_live}
 use Rattle.session_tree.specs.declared.act.Walk.{Walk}
@@ -17,10 +17,9 @@ use Rattle.node_rules.specs.Data.votes
 use Rattle.node_rules.specs.declared.session.Session.{Session}
 use Rattle.node_rules.specs.declared.session.PendingCall.TheVariants as pending
 use Rattle.node_rules.specs.declared.work.Work.{Work}
-use Rattle.node_rules.specs.declared.work.Going.{Going}
 use Rattle.node_rules.specs.Words.{same, numbered, item_at, put_item, drop_item}
 use Rattle.node_rules.specs.Inputs.{Came, IsCall}
-use Rattle.node_rules.specs.Kept.{Kept, Branch, Deed, live_id, work_id, live_at, post, to_one, to_each, no_work}
+use Rattle.node_rules.specs.Kept.{Kept, Branch, Deed, live_id, work_id, live_at, post, to_one, to_each}
 use Rattle.node_rules.specs.Names.{passed_on}
 use Rattle.node_rules.specs.Statement.{ran, after_run}
 use Rattle.node_rules.specs.Calls.{with_answer, answer_says, called, exec_to, next_child, strength_of, with_edge, waits_for_opened, hears_reply, nobody_at}
@@ -46,7 +45,7 @@ use Rattle.run_laws.proofs.InTurnStepLemmas as deeds
 use Rattle.run_laws.proofs.FreezeLemmas.{no_ask, IsPlain, plain_decisions, plain_asks, prepares_ask, asked_split}
 use Rattle.run_laws.proofs.WalkLemmas.{unasked_below}
 use Rattle.run_laws.proofs.FreezeStepLemmas as frost
-use Rattle.tree_laws.specs.AskLaws.{way_of, tells, path_on, AsToldSo, AsTold}
+use Rattle.tree_laws.specs.AskLaws.{way_of, tells, AsToldSo, AsTold}
 use Rattle.tree_laws.proofs.AskLemmas.{sent_more, sent_new, sent_split, voted_step, ready_path, prepares_all, below_place, place_below, below_true, working_told, stays_told}
 
 abbrev pub peer : Edge → BranchId

@@ -1,6 +1,6 @@
 -- Who is beyond a branch by the forest of a run: a child that it asked off the walk, or the parent from which the walk comes. What a
 -- branch whose children have all answered knows of such a child.
-use Rattle.std.proofs.Common.{◌≡◌, ◌≢◌, ℕ, zero, suc, ◌+◌, ◌≤◌, ◌&&◌, ◌||◌, ◌⊎◌, Bool, true, false, if◌then◌else◌, List, [], ◌∷◌, map, unwrap_or, Option, Some, None, inl, inr, refl, sym, ap, subst, ◌∙◌}
+use Rattle.std.proofs.Common.{◌≡◌, ◌≢◌, ℕ, zero, suc, ◌+◌, ◌≤◌, ◌||◌, ◌⊎◌, Bool, true, false, if◌then◌else◌, List, [], ◌∷◌, map, unwrap_or, Option, Some, None, inl, inr, refl, sym, ap, subst, ◌∙◌}
 use Rattle.std.specs.List.{AllByRecursion, list_any}
 use Rattle.std.proofs.lemmas.Bool.{or_left, or_right}
 use Rattle.tran_ids.proofs.BranchLemmas.{same_from_equal}
@@ -11,7 +11,7 @@ use Rattle.node_rules.specs.Data.phases
 use Rattle.node_rules.specs.Data.votes
 use Rattle.node_rules.specs.Words.{same, numbered}
 use Rattle.node_rules.specs.Prepare.{is_awaited}
-use Rattle.agreement.specs.Events.{Forest, Event, Beyond, Quiet, Send_vote, exit, Has, site_of}
+use Rattle.agreement.specs.Events.{Forest, Event, Beyond, Quiet, Send_vote, exit, Has}
 use Rattle.run_laws.specs.Births.{Born}
 use Rattle.run_laws.specs.BirthLaws.{Began}
 use Rattle.run_laws.specs.FreezeLaws.{was_asked}

@@ -1,6 +1,6 @@
 -- A branch whose row tells that all beyond acknowledged is cleared by the forest: its row names each neighbour beyond that is not gone
 -- without changes.
-use Rattle.std.proofs.Common.{◌≡◌, ◌≢◌, ℕ, ◌<◌, ◌&&◌, ◌||◌, ◌⊎◌, not, Bool, true, false, if◌then◌else◌, List, [], ◌∷◌, ◌++◌, map, filter, Option, Some, None, inl, inr, refl, sym, ap, subst, ◌∙◌, arith}
+use Rattle.std.proofs.Common.{◌≡◌, ◌≢◌, ◌<◌, ◌||◌, not, Bool, true, false, if◌then◌else◌, List, [], ◌∷◌, ◌++◌, map, filter, Option, Some, None, inl, inr, refl, sym, ap, subst, ◌∙◌, arith}
 use Rattle.std.specs.List.{AllByRecursion, list_any}
 use Rattle.tran_ids.proofs.BranchLemmas.{equal_from_same}
 use Rattle.tran_ids.proofs.ListedLemmas.{item_is}
@@ -9,7 +9,7 @@ use Rattle.commit_forget.specs.Beyond.{beyond, parent_beyond, kid_beyond}
 use Rattle.redo_record.specs.declared.durable.Kid.{Kid}
 use Rattle.session_tree.specs.Live.{is_branch}
 use Rattle.node_rules.specs.Data.{BranchId, Standing}
-use Rattle.node_rules.specs.Words.{same, item_at}
+use Rattle.node_rules.specs.Words.{same}
 use Rattle.node_rules.specs.Kept.{standing_id}
 use Rattle.agreement.specs.Events.{Forest, IsForest, Event, Beyond, Send_ack, Has, Cleared, site_of}
 use Rattle.run_laws.specs.NodeLaws.{unacked_kid}

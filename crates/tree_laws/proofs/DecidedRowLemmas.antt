@@ -1,10 +1,8 @@
 -- In every lawful run a branch that decided has a row, by the records of its node, until it forgot, unless all beyond it are gone without
 -- changes: a site without neighbours keeps none.
-use Rattle.std.proofs.Common.{◌≡◌, ◌≢◌, ℕ, arith, ◌||◌, Bool, true, false, if◌then◌else◌, List, [], ◌∷◌, ◌++◌, map, is_some, slice_get, Option, Some, None, refl, sym, ap, subst, ◌∙◌, ◌⊎◌, inl, inr}
+use Rattle.std.proofs.Common.{◌≡◌, ℕ, arith, ◌||◌, Bool, true, false, if◌then◌else◌, List, [], ◌∷◌, ◌++◌, map, is_some, slice_get, Option, Some, None, refl, sym, subst, ◌⊎◌, inl, inr}
 use Rattle.std.specs.Prelude.{IfSome}
 use Rattle.std.specs.Option.{option_to_list}
-use Rattle.std.specs.List.{list_any}
-use Rattle.std.proofs.lemmas.Bool.{cond_both}
 use Rattle.tran_ids.proofs.BranchLemmas.{same_from_equal}
 use Rattle.node_rules.specs.Data.{Decided as DecidedRecord, Peer}
 use Rattle.redo_record.specs.Durable.{durable_after}
@@ -24,7 +22,7 @@ use Rattle.run_laws.specs.RunEvents.{with_record, events_after}
 use Rattle.run_laws.specs.EventRows.{MayStand, HasRow, IsDone}
 use Rattle.run_laws.specs.EventLaws.{EachEventFrom, AtEachEvent}
 use Rattle.run_laws.proofs.AtNodeLemmas.{turn_elsewhere, turn_here, start_elsewhere, start_here}
-use Rattle.run_laws.proofs.EventsStandLemmas.{Stand, node_so, owned_so, run_stands, stand_on, stand_first}
+use Rattle.run_laws.proofs.EventsStandLemmas.{Stand, node_so, owned_so, stand_on, stand_first}
 use Rattle.run_laws.proofs.LaterLemmas.{Added, Any, added_on, added_wider, exit_made, learned_later, has_later, wrote_added, turn_added, stop_added}
 use Rattle.run_laws.proofs.NodesStandLemmas.{stored_rows}
 use Rattle.run_laws.proofs.StoredLemmas.{stored_with}
@@ -32,7 +30,6 @@ use Rattle.run_laws.proofs.TurnEventLemmas.{cases_nat, record_may, record_own}
 use Rattle.tree_laws.specs.BeyondLaws.{IsNamed, RecordHeard, WritesHeard}
 use Rattle.tree_laws.specs.Forests.{forest_of}
 use Rattle.tree_laws.proofs.NameLemmas.{exit_on}
-use Rattle.tree_laws.proofs.PrefixLemmas.{so_far}
 use Rattle.tree_laws.proofs.RowStayLemmas.{put_there, wrote_stay}
 use Rattle.tree_laws.proofs.SettleRunLemmas.{records_heard}
 use Rattle.tree_laws.proofs.SiteLemmas.{IsDecisionOf, wrote_decision, later_undecided}

@@ -18,7 +18,7 @@ use Rattle.agreement.specs.Events.{Event, Exit, first, only_at, exit}
 use Rattle.run_laws.specs.Data.{Turn, Happening, Command}
 use Rattle.run_laws.specs.Data.happenings
 use Rattle.run_laws.specs.Facts.{Facts, first_facts, flat, node_at, records_at, facts_after, facts_of}
-use Rattle.run_laws.specs.Lawful.{IsPlace, MayTurn, MayHappen, IsLawful, History, IsLawfulRun, facts_at}
+use Rattle.run_laws.specs.Lawful.{IsPlace, MayTurn, MayHappen, IsLawful, facts_at}
 use Rattle.run_laws.specs.RunEvents.{wrote_event, with_event, with_record, with_happening, events_after}
 use Rattle.run_laws.specs.NodeLaws.{EachFactFrom}
 use Rattle.run_laws.specs.Births.{Born, births_after, births_from, births_of}

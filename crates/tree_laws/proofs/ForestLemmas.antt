@@ -1,8 +1,8 @@
 -- The forest of branches that began and of the Prepares that they sent: each branch but the site has a neighbour that is nearer.
-use Rattle.std.proofs.Common.{◌≡◌, ◌≢◌, ℕ, zero, suc, ◌+◌, ◌-◌, ◌<◌, ◌≤◌, ◌&&◌, ◌||◌, Bool, true, false, if◌then◌else◌, List, [], ◌∷◌, map, max, unwrap_or, Option, Some, None, inl, inr, refl, sym, ap, subst, ◌∙◌, ◌⊎◌, arith}
+use Rattle.std.proofs.Common.{◌≡◌, ◌≢◌, ℕ, zero, suc, ◌+◌, ◌-◌, ◌<◌, ◌≤◌, ◌&&◌, ◌||◌, Bool, true, false, if◌then◌else◌, List, [], ◌∷◌, unwrap_or, Option, Some, None, refl, sym, ap, subst, ◌∙◌, arith}
 use Rattle.std.specs.List.{AllByRecursion}
-use Rattle.std.proofs.lemmas.Bool.{and_parts, or_right}
-use Rattle.tran_ids.proofs.BranchLemmas.{equal_from_same, same_from_equal}
+use Rattle.std.proofs.lemmas.Bool.{or_right}
+use Rattle.tran_ids.proofs.BranchLemmas.{same_from_equal}
 use Rattle.tran_ids.proofs.ListedLemmas.{item_is}
 use Rattle.node_rules.specs.Data.{BranchId, Post}
 use Rattle.node_rules.specs.Words.{same}
@@ -12,7 +12,6 @@ use Rattle.run_laws.specs.BirthLaws.{Began, IsChild, StandsBelow}
 use Rattle.run_laws.specs.Trail.{is_prepare}
 use Rattle.run_laws.specs.FreezeLaws.{was_asked}
 use Rattle.run_laws.specs.WalkLaws.{is_below, was_sent, OneWay}
-use Rattle.run_laws.proofs.ListLemmas.{all_weaker}
 use Rattle.run_laws.proofs.OwnLemmas.{all_found}
 use Rattle.tree_laws.specs.AskLaws.{GoesDown}
 use Rattle.tree_laws.specs.Forests.{parent_in, root_in, depth_in, depth_at, deepest, told_below, next_on, walk_from, comes_to, asked_by, is_member, toward_by, far_by, site_from, forest_by}

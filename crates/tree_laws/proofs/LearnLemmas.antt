@@ -1,5 +1,5 @@
 -- In every lawful run decisions are learned of toward, by the forest that the Prepares of the whole run make.
-use Rattle.std.proofs.Common.{◌≡◌, ℕ, Bool, true, false, List, [], ◌∷◌, ◌++◌, unwrap_or, Option, Some, None, inl, inr, refl, sym, ap, subst, subst₂, ◌∙◌, append-nil}
+use Rattle.std.proofs.Common.{◌≡◌, ℕ, List, [], ◌∷◌, ◌++◌, unwrap_or, Option, Some, None, inl, inr, refl, sym, ap, subst, ◌∙◌}
 use Rattle.std.specs.Prelude.{IfSome}
 use Rattle.std.specs.Option.{option_to_list}
 use Rattle.std.specs.List.{AllByRecursion}
@@ -10,10 +10,10 @@ use Rattle.node_rules.specs.Data.records
 use Rattle.node_rules.specs.Words.{numbered, set_numbered}
 use Rattle.node_rules.specs.Kept.{Kept, standing_id}
 use Rattle.agreement.specs.Events.{Event, Forest}
-use Rattle.run_laws.specs.Data.{Turn, Happening, Command}
+use Rattle.run_laws.specs.Data.{Happening, Command}
 use Rattle.run_laws.specs.Data.happenings
-use Rattle.run_laws.specs.Facts.{Facts, first_facts, node_at, records_at, with_boot, facts_after, facts_of}
-use Rattle.run_laws.specs.Lawful.{IsPlace, MayTurn, MayHappen, IsLawful, History, IsLawfulRun, facts_at}
+use Rattle.run_laws.specs.Facts.{Facts, first_facts, records_at, with_boot, facts_after, facts_of}
+use Rattle.run_laws.specs.Lawful.{IsPlace, MayHappen, IsLawful, History, IsLawfulRun, facts_at}
 use Rattle.run_laws.specs.RunEvents.{events_after}
 use Rattle.run_laws.specs.EventLaws.{EachEventFrom, AtEachEvent}
 use Rattle.run_laws.specs.TowardLaws.{IsRowLike, WasTold, LearnsSo, GoesByRow, WritesByRow}

@@ -1,10 +1,10 @@
 -- In every lawful run whose voters weigh, the forest allows each branch that answers ReadOnly to leave.
-use Rattle.std.proofs.Common.{◌≡◌, ◌≢◌, ℕ, ◌⊎◌, ◌&&◌, ◌||◌, not, Bool, true, false, List, [], ◌∷◌, ◌++◌, map, is_none, Option, Some, None, inl, inr, refl, sym, ap, subst, ◌∙◌}
+use Rattle.std.proofs.Common.{◌≡◌, ◌≢◌, ◌||◌, not, Bool, true, false, List, [], ◌∷◌, ◌++◌, is_none, Some, None, inl, inr, refl, sym, ap, subst, ◌∙◌}
 use Rattle.std.specs.List.{AllByRecursion, list_any}
 use Rattle.std.proofs.lemmas.Bool.{cond_both, and_parts, not-true}
 use Rattle.tran_ids.proofs.BranchLemmas.{equal_from_same}
 use Rattle.tran_ids.proofs.ListedLemmas.{item_is}
-use Rattle.node_rules.specs.Data.{BranchId, Kind, Live, Act, Msg, Post}
+use Rattle.node_rules.specs.Data.{BranchId, Kind, Live, Act, Msg}
 use Rattle.node_rules.specs.Data.acts
 use Rattle.node_rules.specs.Data.kinds
 use Rattle.node_rules.specs.Words.{same, item_at}
@@ -12,7 +12,7 @@ use Rattle.node_rules.specs.Kept.{Kept, Deed, live_id, live_at}
 use Rattle.node_rules.specs.Turn.{turn_of, heard, deed_of, stamped}
 use Rattle.node_rules.proofs.Steps.{Acting}
 use Rattle.node_rules.proofs.StepLemmas.{IsLive, acting_live, acting_so}
-use Rattle.agreement.specs.Events.{Forest, Event, Beyond, Quiet, Answer_read_only, first, exit_by, exit, site_of}
+use Rattle.agreement.specs.Events.{Forest, Event, Beyond, Quiet, first, exit_by, exit, site_of}
 use Rattle.run_laws.specs.Data.{Turn, Happening}
 use Rattle.run_laws.specs.Data.happenings
 use Rattle.run_laws.specs.Facts.{Facts, first_facts, place_at, node_at, facts_after}
@@ -23,8 +23,8 @@ use Rattle.run_laws.specs.RunEvents.{lives_at, leave_event, has_left, with_leave
 use Rattle.run_laws.specs.EventLaws.{EachEventFrom}
 use Rattle.run_laws.specs.Births.{Born, births_of}
 use Rattle.run_laws.specs.BirthLaws.{Began}
-use Rattle.run_laws.specs.TreeJust.{TreeAllows, TreeLeaves}
-use Rattle.run_laws.specs.WalkLaws.{is_below, is_above, was_sent}
+use Rattle.run_laws.specs.TreeJust.{TreeLeaves}
+use Rattle.run_laws.specs.WalkLaws.{is_above, was_sent}
 use Rattle.run_laws.proofs.BirthLemmas.{turn_leaves}
 use Rattle.run_laws.proofs.HeardStandLemmas.{live_among, heard_lives}
 use Rattle.run_laws.proofs.LaterLemmas.{exit_later, wrote_added}

@@ -1,5 +1,5 @@
 -- In every lawful run a branch that has an exit asks nobody any more: who asks is live afterwards.
-use Rattle.std.proofs.Common.{◌≡◌, ◌≢◌, ℕ, Bool, true, false, List, [], ◌∷◌, ◌++◌, map, Option, Some, None, inl, inr, refl, sym, ap, subst, ◌∙◌}
+use Rattle.std.proofs.Common.{◌≡◌, ◌≢◌, ℕ, Bool, true, false, List, [], ◌∷◌, map, Some, None, inl, inr, refl, sym, ap, subst, ◌∙◌}
 use Rattle.std.specs.Prelude.{IfSome}
 use Rattle.std.specs.List.{AllByRecursion}
 use Rattle.node_rules.specs.Data.{BranchId, Kind, Post, Place}
@@ -10,7 +10,7 @@ use Rattle.agreement.specs.Events.{Event, exit}
 use Rattle.run_laws.specs.Data.{Turn, Happening, Command}
 use Rattle.run_laws.specs.Data.happenings
 use Rattle.run_laws.specs.Facts.{Facts, first_facts, place_at, node_at, kept_after, facts_after, facts_of}
-use Rattle.run_laws.specs.Lawful.{IsPlace, MayTurn, MayHappen, IsOwed, IsLawful, History, IsLawfulRun, facts_at}
+use Rattle.run_laws.specs.Lawful.{IsPlace, MayTurn, MayHappen, IsOwed, IsLawful, facts_at}
 use Rattle.run_laws.specs.RunEvents.{events_after}
 use Rattle.run_laws.specs.EventLaws.{EachEventFrom}
 use Rattle.run_laws.specs.Births.{Born, births_after}

@@ -1,28 +1,27 @@
 -- In every lawful run the row of each branch names each neighbour beyond that is not gone without changes.
-use Rattle.std.proofs.Common.{◌≡◌, ◌≢◌, ℕ, Bool, List, [], ◌∷◌, ◌++◌, map, unwrap_or, Option, Some, None, inl, inr, refl, sym, ap, subst, ◌∙◌, ◌⊎◌}
+use Rattle.std.proofs.Common.{◌≡◌, ℕ, List, [], ◌∷◌, ◌++◌, map, unwrap_or, Option, Some, None, inl, inr, refl, sym, subst}
 use Rattle.std.specs.Prelude.{IfSome}
 use Rattle.std.specs.Option.{option_to_list}
 use Rattle.std.specs.List.{AllByRecursion}
 use Rattle.tran_ids.proofs.NumberedLemmas.{set_or_before}
-use Rattle.node_rules.specs.Data.{Sealed, Decided, Peer}
-use Rattle.redo_record.specs.Rows.{kid_of, sealed_as, decided_as}
+use Rattle.node_rules.specs.Data.{Peer}
+use Rattle.redo_record.specs.Rows.{kid_of}
 use Rattle.node_rules.specs.Data.{BranchId, RedoRecord, Place}
 use Rattle.node_rules.specs.Data.records
 use Rattle.node_rules.specs.Words.{numbered, set_numbered}
 use Rattle.node_rules.specs.Kept.{Kept}
 use Rattle.node_rules.specs.Records.{nothing_stored, stored_by}
 use Rattle.run_laws.specs.NodeLaws.{unacked}
-use Rattle.agreement.specs.Events.{Forest, Event, Exit, Beyond, Quiet, exit}
-use Rattle.run_laws.specs.Data.{Turn, Happening, Command}
+use Rattle.agreement.specs.Events.{Forest, Event, Exit, Quiet, exit}
+use Rattle.run_laws.specs.Data.{Happening, Command}
 use Rattle.run_laws.specs.Data.happenings
-use Rattle.run_laws.specs.Facts.{Facts, first_facts, node_at, records_at, with_boot, facts_after}
-use Rattle.run_laws.specs.Lawful.{History, IsLawfulRun}
-use Rattle.run_laws.specs.RunEvents.{with_record, events_after}
+use Rattle.run_laws.specs.Facts.{Facts, first_facts, records_at, with_boot, facts_after}
+use Rattle.run_laws.specs.RunEvents.{events_after}
 use Rattle.run_laws.specs.EventLaws.{EachEventFrom}
 use Rattle.run_laws.proofs.ListLemmas.{all_weaker, all_append, map_after}
-use Rattle.run_laws.proofs.LaterLemmas.{Any, Added, added_on, added_wider, exit_later, wrote_added, turn_added, stop_added}
+use Rattle.run_laws.proofs.LaterLemmas.{exit_later, wrote_added, turn_added, stop_added}
 use Rattle.run_laws.proofs.EventsStandLemmas.{first_disk, node_so, run_stands}
-use Rattle.tree_laws.specs.BeyondLaws.{IsNamed, BeyondHeard, RecordHeard, WritesHeard}
+use Rattle.tree_laws.specs.BeyondLaws.{BeyondHeard, RecordHeard, WritesHeard}
 use Rattle.tree_laws.specs.NameLaws.{NamesBeyond, RowNames, NodesName, RowsNameBeyond}
 use Rattle.tree_laws.specs.Forests.{forest_of}
 use Rattle.tree_laws.proofs.PrefixLemmas.{so_far, f_at, e_at, each_prefix}

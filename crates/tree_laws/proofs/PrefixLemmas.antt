@@ -8,7 +8,7 @@ use Rattle.run_laws.specs.Facts.{Facts, first_facts, facts_after, facts_of}
 use Rattle.run_laws.specs.Lawful.{MayHappen, IsLawful, History, IsLawfulRun, facts_at}
 use Rattle.run_laws.specs.RunEvents.{events_after, events_from, events_of}
 use Rattle.run_laws.specs.EventLaws.{EachEventFrom, AtEachEvent}
-use Rattle.run_laws.specs.NodeLaws.{EachFactFrom, AtEachFact}
+use Rattle.run_laws.specs.NodeLaws.{EachFactFrom}
 use Rattle.run_laws.specs.Births.{Born, births_after, births_from}
 
 module _ (places : List Place) (asked : List Command) where

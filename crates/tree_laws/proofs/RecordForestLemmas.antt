@@ -1,5 +1,5 @@
 -- In every lawful run the forest allows each record.
-use Rattle.std.proofs.Common.{◌≡◌, ◌≢◌, ℕ, ◌⊎◌, Bool, true, false, List, [], ◌∷◌, ◌++◌, map, Option, Some, None, inl, inr, refl, sym, ap, subst, ◌∙◌}
+use Rattle.std.proofs.Common.{◌≡◌, ◌≢◌, ℕ, ◌⊎◌, Bool, List, [], ◌∷◌, ◌++◌, map, Option, Some, None, inl, inr, sym, ap, subst, ◌∙◌}
 use Rattle.std.specs.Prelude.{IfSome}
 use Rattle.std.specs.List.{AllByRecursion}
 use Rattle.tran_ids.proofs.ListedLemmas.{item_is}
@@ -9,16 +9,15 @@ use Rattle.node_rules.specs.Data.decisions
 use Rattle.node_rules.specs.Data.records
 use Rattle.node_rules.specs.Kept.{Kept, standing_id}
 use Rattle.agreement.specs.Events.{Forest, Event, Learn, Send_forgotten, Has, Heard, Cleared, site_of}
-use Rattle.run_laws.specs.Data.{Turn, Happening}
+use Rattle.run_laws.specs.Data.{Happening}
 use Rattle.run_laws.specs.Data.happenings
 use Rattle.run_laws.specs.Facts.{Facts, first_facts, node_at, records_at}
-use Rattle.run_laws.specs.Lawful.{MayHappen, History, IsLawfulRun, facts_at}
+use Rattle.run_laws.specs.Lawful.{MayHappen, History, IsLawfulRun}
 use Rattle.run_laws.specs.RunEvents.{wrote_event, record_event}
 use Rattle.run_laws.specs.EventLaws.{EachEventFrom}
 use Rattle.run_laws.specs.Births.{Born, births_of}
 use Rattle.run_laws.specs.BirthLaws.{Began, KeptIs}
-use Rattle.run_laws.specs.NodeLaws.{unacked_row}
-use Rattle.run_laws.specs.TowardLaws.{IsRowLike, WasTold, AllAcked, ForgetsSo, GoesByRow, WritesByRow}
+use Rattle.run_laws.specs.TowardLaws.{IsRowLike, WasTold, AllAcked, GoesByRow, WritesByRow}
 use Rattle.run_laws.specs.TreeJust.{TreeAllows, IsTreeAllowed}
 use Rattle.run_laws.proofs.OwnLemmas.{all_found}
 use Rattle.run_laws.proofs.BirthRunLemmas.{nodes_name_the_born}

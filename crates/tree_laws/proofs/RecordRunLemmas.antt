@@ -1,7 +1,7 @@
 -- In every lawful run seals and decisions are written as Prepares told.
-use Rattle.std.proofs.Common.{◌≡◌, ℕ, Bool, true, false, List, [], ◌∷◌, Option, Some, None, inl, inr, refl, sym, subst, ◌⊎◌}
+use Rattle.std.proofs.Common.{◌≡◌, ℕ, Bool, true, false, List, [], ◌∷◌, Some, inl, inr, sym, subst}
 use Rattle.std.specs.Prelude.{IfSome}
-use Rattle.node_rules.specs.Data.{Place, RedoRecord}
+use Rattle.node_rules.specs.Data.{Place}
 use Rattle.node_rules.specs.Words.{numbered}
 use Rattle.node_rules.specs.Kept.{Kept, Deed}
 use Rattle.node_rules.specs.Turn.{turn_of, deed_of}
@@ -9,7 +9,7 @@ use Rattle.agreement.specs.Events.{Event}
 use Rattle.run_laws.specs.Data.{Turn, Happening, Command}
 use Rattle.run_laws.specs.Data.happenings
 use Rattle.run_laws.specs.Facts.{Facts, first_facts, place_at, facts_after}
-use Rattle.run_laws.specs.Lawful.{IsPlace, MayTurn, MayHappen, IsOwed, IsLawful, History, IsLawfulRun}
+use Rattle.run_laws.specs.Lawful.{IsPlace, MayTurn, MayHappen, IsOwed, IsLawful}
 use Rattle.run_laws.specs.RunEvents.{events_after}
 use Rattle.run_laws.specs.NodeLaws.{EachFactFrom}
 use Rattle.run_laws.specs.Births.{Born, births_after}

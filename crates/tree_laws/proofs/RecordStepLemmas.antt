@@ -1,14 +1,12 @@
 -- Each seal that a step writes names the neighbour that Prepares told, and each decision is of a branch at which the walk ends.
-use Rattle.std.proofs.Common.{◌≡◌, ◌≢◌, ℕ, zero, suc, ◌+◌, ◌-◌, ◌==◌, ◌⊎◌, ◌||◌, Bool, true, false, if◌then◌else◌, List, [], ◌∷◌, map, length, filter, take, option_map, is_none, Option, Some, None, inl, inr, refl, sym, ap, subst, ◌∙◌, arith}
+use Rattle.std.proofs.Common.{◌≡◌, ◌≢◌, ℕ, zero, suc, ◌+◌, ◌-◌, ◌==◌, ◌||◌, Bool, true, false, if◌then◌else◌, List, [], ◌∷◌, map, length, filter, take, option_map, Option, Some, None, inl, inr, refl, sym, ap, subst, ◌∙◌, arith}
 use Rattle.std.specs.Prelude.{IfSome, nat_lt, slice_get}
-use Rattle.std.proofs.lemmas.Bool.{or_right}
 use Rattle.std.proofs.lemmas.Bool.Decides.{nat_tests}
 use Rattle.std.proofs.lemmas.Option.{slice_get-map}
 use Rattle.redo_record.specs.declared.record.Peer.{Peer}
 use Rattle.commit_forget.specs.declared.next.Next.TheVariants as nexts
 use Rattle.prepare_phase.specs.Records.{named_children, peer_record, prepared_before}
 use Rattle.session_tree.specs.Live.{children_of}
-use Rattle.session_tree.specs.declared.act.Walk.{Walk}
 use Rattle.session_tree.specs.declared.act.Walk.TheVariants as walks
 use Rattle.session_tree.specs.Tree.{best_child, walk_by, step}
 use Rattle.session_tree.proofs.Greatest.{greatest_is}
@@ -22,7 +20,7 @@ use Rattle.node_rules.specs.Client.{new_root, fresh_root}
 use Rattle.node_rules.specs.Prepare.{path_of, is_place, is_prepared, act_turn}
 use Rattle.node_rules.proofs.Steps as steps
 use Rattle.node_rules.proofs.Steps.{Step, Acting, Collected, Pointed}
-use Rattle.run_laws.specs.WalkLaws.{is_below, is_above, was_sent}
+use Rattle.run_laws.specs.WalkLaws.{is_below, was_sent}
 use Rattle.node_rules.specs.LiveBranches.{EachLive}
 use Rattle.node_rules.proofs.LiveLemmas.{each_begun}
 use Rattle.run_laws.proofs.RootLemmas.{SessionsFit, pends_so, begun_so}

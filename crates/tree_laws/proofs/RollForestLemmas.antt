@@ -1,5 +1,5 @@
 -- In every lawful run the forest allows each rollback that is told: its sender is gone, or the receiver is gone without changes.
-use Rattle.std.proofs.Common.{◌≡◌, ◌≢◌, ℕ, ◌⊎◌, ◌||◌, Bool, true, false, List, [], ◌∷◌, ◌++◌, map, Option, Some, None, inl, inr, refl, sym, ap, subst, ◌∙◌}
+use Rattle.std.proofs.Common.{◌≡◌, ℕ, ◌⊎◌, ◌||◌, Bool, true, false, List, [], ◌∷◌, ◌++◌, map, Option, Some, None, inl, inr, refl, sym, ap, subst, ◌∙◌}
 use Rattle.std.specs.Prelude.{IfSome}
 use Rattle.std.specs.List.{AllByRecursion, list_any}
 use Rattle.std.proofs.lemmas.Bool.{or_left, or_right}
@@ -8,26 +8,24 @@ use Rattle.tran_ids.proofs.ListedLemmas.{item_is}
 use Rattle.commit_forget.specs.Beyond.{is_neighbor}
 use Rattle.redo_record.specs.declared.durable.Kid.{Kid}
 use Rattle.session_tree.specs.Live.{is_branch}
-use Rattle.node_rules.specs.Data.{BranchId, Kind, Live, Msg, RedoRecord, Standing, Input}
+use Rattle.node_rules.specs.Data.{BranchId, Kind, Live, Msg, RedoRecord, Standing}
 use Rattle.node_rules.specs.Data.decisions
-use Rattle.node_rules.specs.Data.inputs
 use Rattle.node_rules.specs.Data.kinds
 use Rattle.node_rules.specs.Data.records
 use Rattle.node_rules.specs.Words.{same, item_at}
-use Rattle.node_rules.specs.Inputs.{Came}
 use Rattle.node_rules.specs.Kept.{Kept, Deed, live_id, standing_id, live_at, with_work, standing_at}
 use Rattle.node_rules.specs.Turn.{Is_gone, live_or, stand_of, turn_of, heard, deed_of, stamped}
 use Rattle.node_rules.proofs.StepLemmas.{IsLive, acting_live}
 use Rattle.agreement.specs.Events.{Forest, Event, Beyond, Quiet, Decided, Send_rollback, exit, learned, Gone}
 use Rattle.run_laws.specs.Data.{Turn, Happening}
 use Rattle.run_laws.specs.Data.happenings
-use Rattle.run_laws.specs.Facts.{Facts, first_facts, place_at, node_at, records_at, facts_after}
+use Rattle.run_laws.specs.Facts.{Facts, first_facts, place_at, node_at, facts_after}
 use Rattle.run_laws.specs.Lawful.{MayTurn, MayHappen, IsOwed, History, IsLawfulRun}
 use Rattle.run_laws.specs.RunEvents.{wrote_event, with_event, lives_at, with_record, with_exits}
 use Rattle.run_laws.specs.EventRows.{MayStand, HasRow, IsDone}
 use Rattle.run_laws.specs.EventLaws.{EachEventFrom}
 use Rattle.run_laws.specs.NodeLaws.{unacked_row}
-use Rattle.run_laws.specs.RowSayLaws.{IsOver, RollbackIs, SaysByRow}
+use Rattle.run_laws.specs.RowSayLaws.{RollbackIs, SaysByRow}
 use Rattle.run_laws.specs.TreeJust.{TreeAllows}
 use Rattle.run_laws.proofs.GoneLemmas.{kept_not_gone}
 use Rattle.run_laws.proofs.HeardStandLemmas.{heard_lives}

@@ -1,6 +1,6 @@
 -- A branch that becomes sealed, decides or is done without changes has heard of each neighbour beyond it: of its children by their
 -- answers, and of the parent from which the walk comes by CommitPoint.
-use Rattle.std.proofs.Common.{◌≡◌, ◌≢◌, ℕ, zero, suc, ◌+◌, ◌≤◌, ◌&&◌, ◌⊎◌, not, Bool, true, false, List, [], ◌∷◌, ◌++◌, map, is_none, max, Option, Some, None, inl, inr, refl, sym, ap, subst, ◌∙◌, arith}
+use Rattle.std.proofs.Common.{◌≡◌, ◌≢◌, ℕ, zero, suc, ◌≤◌, ◌⊎◌, Bool, true, false, List, [], ◌∷◌, map, is_none, Option, Some, None, inl, inr, refl, sym, ap, subst, ◌∙◌, arith}
 use Rattle.std.specs.List.{AllByRecursion, list_any}
 use Rattle.std.proofs.lemmas.Bool.{cond_both, and_parts, not-true}
 use Rattle.tran_ids.proofs.BranchLemmas.{equal_from_same}
@@ -8,7 +8,7 @@ use Rattle.prepare_phase.specs.Records.{named_children}
 use Rattle.redo_record.specs.declared.record.Peer.{Peer}
 use Rattle.session_tree.specs.Live.{children_of}
 use Rattle.session_tree.specs.Tree.{weight}
-use Rattle.node_rules.specs.Data.{BranchId, Edge, Kind, Live, Act, Phase, Post, Vote, Place, Input}
+use Rattle.node_rules.specs.Data.{BranchId, Edge, Kind, Live, Act, Post, Vote, Input}
 use Rattle.node_rules.specs.Data.acts
 use Rattle.node_rules.specs.Data.inputs
 use Rattle.node_rules.specs.Data.kinds
@@ -17,16 +17,16 @@ use Rattle.node_rules.specs.Data.votes
 use Rattle.node_rules.specs.Words.{same, numbered, item_at}
 use Rattle.node_rules.specs.Inputs.{Came}
 use Rattle.node_rules.specs.Kept.{Kept, Branch, live_id, live_at, branch_at, work_at, with_work}
-use Rattle.node_rules.specs.Prepare.{is_awaited, answers_first, has_voted, voted, collecting, with_comment}
+use Rattle.node_rules.specs.Prepare.{is_awaited, answers_first, has_voted, voted}
 use Rattle.node_rules.specs.Turn.{heard}
 use Rattle.node_rules.proofs.Steps as steps
 use Rattle.node_rules.proofs.Steps.{Acting, Answers, Collected, Collects, vote_kind}
 use Rattle.agreement.specs.Events.{Event, Quiet, Send_vote, exit, Has}
 use Rattle.run_laws.specs.Data.{Turn, Happening}
 use Rattle.run_laws.specs.Facts.{Facts, place_at}
-use Rattle.run_laws.specs.Lawful.{MayTurn, History, IsLawfulRun, facts_at}
+use Rattle.run_laws.specs.Lawful.{MayTurn, History, IsLawfulRun}
 use Rattle.run_laws.specs.Births.{Born, births_of}
-use Rattle.run_laws.specs.BirthLaws.{Began, IsChild, LiveIs, NamesAre, GoesSo}
+use Rattle.run_laws.specs.BirthLaws.{Began, IsChild, LiveIs, GoesSo}
 use Rattle.run_laws.specs.FreezeLaws.{was_asked}
 use Rattle.run_laws.specs.HeardLaws.{VoteIs, EdgeIs, AnswersAre, QuietIs}
 use Rattle.run_laws.specs.InTurnLaws.{said_in}
@@ -46,7 +46,7 @@ use Rattle.run_laws.proofs.FreezeLemmas.{working_or}
 use Rattle.run_laws.proofs.FreezeRunLemmas.{asked_stand_still}
 use Rattle.tree_laws.specs.AskLaws.{way_of, tells}
 use Rattle.tree_laws.specs.AnswerLaws.{EdgeTold, AnswersTold, ReadyIs}
-use Rattle.tree_laws.proofs.AskLemmas.{sent_more, sent_wider, below_asks, tells_own}
+use Rattle.tree_laws.proofs.AskLemmas.{sent_wider, below_asks, tells_own}
 use Rattle.tree_laws.proofs.AskStepLemmas.{voted_peers}
 use Rattle.tree_laws.proofs.AskRunLemmas.{sent_from, collects_as_told, edges_asked}
 use Rattle.tree_laws.proofs.AnswerStepLemmas.{acting_edges}

@@ -1,11 +1,10 @@
 -- In every lawful run a seal and a decision have heard of each neighbour beyond, by the forest that the Prepares of the whole run make.
-use Rattle.std.proofs.Common.{◌≡◌, ◌≢◌, ℕ, ◌+◌, ◌⊎◌, Bool, true, false, List, [], ◌∷◌, ◌++◌, map, Option, Some, None, inl, inr, refl, sym, ap, subst, ◌∙◌, arith}
+use Rattle.std.proofs.Common.{◌≡◌, ◌≢◌, ℕ, Bool, true, false, List, [], ◌∷◌, ◌++◌, map, Option, Some, None, inl, inr, refl, sym, ap, subst, ◌∙◌, arith}
 use Rattle.std.specs.Prelude.{IfSome}
-use Rattle.prepare_phase.specs.Records.{named_children, sealed_of, decided_of}
+use Rattle.prepare_phase.specs.Records.{named_children}
 use Rattle.redo_record.specs.declared.record.Peer.{Peer}
 use Rattle.node_rules.specs.Data.{Sealed, Decided}
-use Rattle.node_rules.specs.Data.{BranchId, Kind, Live, Act, Post, RedoRecord, Place}
-use Rattle.node_rules.specs.Data.acts
+use Rattle.node_rules.specs.Data.{BranchId, Kind, Live, Act, Post, RedoRecord}
 use Rattle.node_rules.specs.Data.records
 use Rattle.node_rules.specs.Kept.{Kept, Deed}
 use Rattle.node_rules.specs.Turn.{heard, deed_of}

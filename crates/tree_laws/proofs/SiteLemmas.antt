@@ -1,14 +1,13 @@
 -- In every lawful run only sites decide, by the forest that the Prepares of the whole run make.
-use Rattle.std.proofs.Common.{◌≡◌, ℕ, List, [], ◌∷◌, Option, Some, None, inl, inr, refl, sym, ap, subst, ◌∙◌, ◌⊎◌}
+use Rattle.std.proofs.Common.{◌≡◌, ℕ, List, [], ◌∷◌, Option, Some, None, inl, inr, sym, subst, ◌∙◌, ◌⊎◌}
 use Rattle.std.specs.Prelude.{IfSome}
 use Rattle.node_rules.specs.Data.{BranchId, RedoRecord, Place}
 use Rattle.node_rules.specs.Data.records
-use Rattle.agreement.specs.Events.{Forest, Event, Exit, Sealed, Decided, Quiet, Dropped, first, only_at, exit_by, exit, site_of}
+use Rattle.agreement.specs.Events.{Forest, Event, Sealed, Decided, Quiet, Dropped, first, only_at, exit_by, exit, site_of}
 use Rattle.agreement.proofs.EventLemmas.{first_is, only_at_is}
 use Rattle.run_laws.specs.Data.{Turn, Happening, Command}
 use Rattle.run_laws.specs.Data.happenings
 use Rattle.run_laws.specs.Facts.{Facts, first_facts, facts_after}
-use Rattle.run_laws.specs.Lawful.{History, IsLawfulRun}
 use Rattle.run_laws.specs.RunEvents.{wrote_event, with_event, with_record, events_after}
 use Rattle.run_laws.specs.EventLaws.{EachEventFrom}
 use Rattle.run_laws.proofs.LaterLemmas.{Later, Was_said, Was_quiet, Was_dropped, exit_made, turn_added, stop_added}

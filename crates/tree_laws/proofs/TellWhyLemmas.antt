@@ -1,6 +1,6 @@
 -- Why a turn tells Ack or a rollback. Who says Ack learns the commit now, knows it, or is gone. Who tells a rollback was live and wrote
 -- nothing, learns it now, knows it, is gone, or does not know the one that asks as a neighbour.
-use Rattle.std.proofs.Common.{◌≡◌, ◌≢◌, ℕ, ◌+◌, ◌-◌, ◌&&◌, ◌⊎◌, not, Bool, true, false, List, [], ◌∷◌, ◌++◌, map, filter, fold, length, Option, Some, None, inl, inr, refl, sym, ap, subst, ◌∙◌}
+use Rattle.std.proofs.Common.{◌≡◌, ◌≢◌, ℕ, ◌+◌, ◌-◌, ◌&&◌, not, Bool, true, false, List, [], ◌∷◌, ◌++◌, map, filter, fold, length, Option, Some, None, inl, inr, refl, sym, ap, subst, ◌∙◌}
 use Rattle.std.specs.Prelude.{flat_map}
 use Rattle.std.specs.List.{AllByRecursion}
 use Rattle.std.proofs.lemmas.Bool.{cond_both}
@@ -12,7 +12,7 @@ use Rattle.commit_forget.specs.Next.{knows_commit}
 use Rattle.reco.specs.declared.told.Told.TheVariants as tolds
 use Rattle.session_tree.specs.Live.{children_of, peer_of, new_edge}
 use Rattle.session_tree.specs.Tree.{step as step_from}
-use Rattle.node_rules.specs.Data.{Answer, Stmt, BranchId, Decision, Edge, Kind, Live, Msg, Post, RedoRecord, Standing, Act, Place, Input}
+use Rattle.node_rules.specs.Data.{Answer, Stmt, BranchId, Decision, Kind, Live, Msg, Post, RedoRecord, Standing, Act, Place, Input}
 use Rattle.node_rules.specs.Data.acts
 use Rattle.node_rules.specs.Data.decisions
 use Rattle.node_rules.specs.Data.inputs
@@ -25,7 +25,7 @@ use Rattle.node_rules.specs.Inputs.{Came, IsCall}
 use Rattle.node_rules.specs.Kept.{Kept, Branch, Deed, live_id, standing_id, live_at, to_one, to_each}
 use Rattle.node_rules.specs.Calls.{answer_says, exec_to, with_edge, hears_reply}
 use Rattle.node_rules.specs.Statement.{ran, after_run}
-use Rattle.node_rules.specs.Prepare.{path_of, prepares, site_neighbors, act_turn}
+use Rattle.node_rules.specs.Prepare.{path_of, site_neighbors, act_turn}
 use Rattle.node_rules.specs.Commit.{beyond, all_acked, acked_by, passes_commit, rollback_to, passes}
 use Rattle.node_rules.specs.Recovery.{told_by, kept_told, told_kind, Asking, asking_id, asks_live, asks_kept, acks_again, recovers, askings}
 use Rattle.node_rules.specs.Turn.{Is_gone, stand_of}
@@ -37,8 +37,8 @@ use Rattle.agreement.specs.Events.{Event, learned, Knows}
 use Rattle.run_laws.specs.EventRows.{RowIs, IsKnown}
 use Rattle.run_laws.proofs.ListLemmas.{all_weaker, all_append, all_each, all_put}
 use Rattle.run_laws.proofs.OwnLemmas.{all_found, all_with}
-use Rattle.run_laws.proofs.KindSayLemmas.{AllSay, one_says, each_says, prepares_say}
-use Rattle.run_laws.proofs.QuietLemmas.{NoRows, call_apart, came_apart, acting_apart}
+use Rattle.run_laws.proofs.KindSayLemmas.{AllSay, prepares_say}
+use Rattle.run_laws.proofs.QuietLemmas.{NoRows, call_apart, came_apart}
 use Rattle.run_laws.proofs.RowSayLemmas.{LearnsRollback}
 
 -- the record says that a branch learned a commit

@@ -15,7 +15,6 @@ use Rattle.node_rules.specs.Commit.{beyond, next_on_decision, next_on_ack, next_
 use Rattle.node_rules.specs.Turn.{turn_of, start_of, stand_of}
 use Rattle.net_bag.specs.Net.{sent_on, delivered}
 use Rattle.run_laws.specs.Facts.{facts_after, facts_of}
-use Rattle.run_laws.specs.RunEvents.{events_from}
 use Rattle.run_laws.specs.Births.{births_from}
 use Rattle.tree_laws.specs.TriedForest.{TheTriedForest}
 

@@ -1,5 +1,5 @@
 -- Why a turn seals, decides, and answers Ready or ReadOnly: an act of the prepare phase of a branch that was live.
-use Rattle.std.proofs.Common.{◌≡◌, ◌≢◌, ℕ, ◌+◌, ◌-◌, Bool, List, [], ◌∷◌, ◌++◌, length, Option, Some, None, refl, ap}
+use Rattle.std.proofs.Common.{◌≡◌, ◌≢◌, ℕ, ◌+◌, ◌-◌, Bool, List, ◌++◌, length, Option, Some, None, refl, ap}
 use Rattle.std.specs.Prelude.{IfSome}
 use Rattle.std.specs.List.{AllByRecursion}
 use Rattle.tran_ids.proofs.ListedLemmas.{put_found}
@@ -17,8 +17,7 @@ use Rattle.node_rules.specs.Words.{item_at, drop_item}
 use Rattle.node_rules.specs.Kept.{Kept, Branch, Deed, live_id, post, to_one, to_each}
 use Rattle.node_rules.specs.Calls.{answer_says, exec_to, with_edge, hears_reply}
 use Rattle.node_rules.specs.Statement.{ran, after_run}
-use Rattle.node_rules.specs.Prepare.{path_of, ready, prepares, own_changes, site_neighbors, act_turn}
-use Rattle.node_rules.specs.Commit.{beyond}
+use Rattle.node_rules.specs.Prepare.{path_of, ready, own_changes, site_neighbors, act_turn}
 use Rattle.node_rules.specs.Recovery.{kept_told}
 use Rattle.node_rules.proofs.Steps as steps
 use Rattle.node_rules.proofs.Steps.{Step, Acting, Says}

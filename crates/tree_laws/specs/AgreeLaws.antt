@@ -1,5 +1,5 @@
 -- The turns of a lawful run do what the forest of its Prepares allows, and so the run agrees.
-use Rattle.std.specs.Prelude.{◌≡◌, List, []}
+use Rattle.std.specs.Prelude.{List, []}
 use Rattle.agreement.specs.Events.{Event}
 use Rattle.run_laws.specs.Data.{Happening}
 use Rattle.run_laws.specs.Data.happenings

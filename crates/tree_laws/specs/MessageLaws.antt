@@ -5,7 +5,7 @@ use Rattle.std.specs.List.{AllByRecursion}
 use Rattle.node_rules.specs.Data.{BranchId, Kind}
 use Rattle.node_rules.specs.Data.kinds
 use Rattle.agreement.specs.Events.{Forest, Event, Decided, Send_ack, Send_rollback, exit, site_of}
-use Rattle.run_laws.specs.Data.{Turn, Happening}
+use Rattle.run_laws.specs.Data.{Happening}
 use Rattle.run_laws.specs.Data.happenings
 use Rattle.run_laws.specs.Facts.{Facts, facts_after}
 use Rattle.run_laws.specs.Lawful.{History, IsLawfulRun}

@@ -1,7 +1,7 @@
 -- The laws of the forest, tried on the run of two nodes: A's transaction with a branch at B. Both change a row, so the walk stays at A,
 -- which is the site, and B was asked off the walk.
-use Rattle.std.specs.Prelude.{◌≡◌, ℕ, true, false, List, []}
-use Rattle.node_rules.specs.Data.{BranchId, Post}
+use Rattle.std.specs.Prelude.{◌≡◌, true, false, List, []}
+use Rattle.node_rules.specs.Data.{Post}
 use Rattle.agreement.specs.Events.{Forest, site_of}
 use Rattle.run_laws.specs.Facts.{first_facts, facts_of}
 use Rattle.run_laws.specs.Births.{births_from}
