@@ -1,0 +1,67 @@
+//! The changes of a statement, where there is space for them.
+ghost use Rattle.std.specs.Prelude.{◌≡◌, true, None, IfOk, OnOk, OnErr};
+ghost use Rattle.row_store.specs.Store.{AreOfTables, has_table, refusal_of};
+ghost use Rattle.sql_eval.specs.Laws.{AreChangesOf};
+ghost use Rattle.stmt_run.specs.Run.{answer_of_run, locks_after};
+ghost use Rattle.stmt_run.specs.Sites.{LocksFreeKeys};
+ghost use Rattle.stmt_run.specs.Stored.{ground_in, refusal_told, store_after_run};
+ghost use Rattle.stmt_store.specs.Stores.{kept_unless, ran_changing, IsOneOf};
+
+use dtx_values::{Answer, Changes, Done, Refusal, Table};
+use row_locks::{Keys, Locks};
+use row_store::{Store, StoreErr};
+use std::alloc::{AllocError, Global};
+use stmt_run::holders::take_all;
+use stmt_run::refusal::{no_extents, too_many_changes};
+use tran_ids::BranchId;
+
+/// Keeps the changes of a statement of a branch and locks their keys, or refuses them where there is no space.
+pub(crate) fn keep(
+    alloc: Global,
+    table: &Table,
+    store: &mut Store,
+    locks: &mut Locks,
+    branch: &BranchId,
+    done: Done,
+    changes: Changes,
+    keys: Keys,
+) -> Result<Answer, AllocError>
+    requires changes { AreChangesOf table.now changes }
+    requires table { has_table store.old.rows table.now.name ≡ true }
+    requires free { LocksFreeKeys locks.old branch.now table.now (ran_changing (ground_in store.old locks.old branch.now table.now) done changes keys) }
+    ensures answer { IfOk result (λ answer. answer ≡ answer_of_run (ran_changing (ground_in store.old locks.old branch.now table.now) done changes keys)) }
+    ensures store { OnOk result (store.new ≡ store_after_run store.old branch.now table.now (ran_changing (ground_in store.old locks.old branch.now table.now) done changes keys)) }
+    ensures locks { OnOk result (locks.new ≡ locks_after locks.old branch.now table.now (ran_changing (ground_in store.old locks.old branch.now table.now) done changes keys)) }
+    ensures undo { store.new.extents ≡ store.old.extents }
+    ensures err { OnErr result (IsOneOf store.old (store_after_run store.old branch.now table.now (ran_changing (ground_in store.old locks.old branch.now table.now) done changes keys)) store.new) }
+{
+    let many = changes.as_slice().len();
+    match take_in(alloc, store, branch, changes)? {
+        Some(refusal) => Ok(Answer::Refused(refusal)),
+        None => {
+            take_all(alloc, locks, branch, &table.name, keys.as_slice(), true)?;
+            let count = many as u32;
+            Ok(Answer::Did(done, count))
+        }
+    }
+}
+
+// One more set of a branch, or its refusal: DTX-16 for too many bytes of changes, or ORA-30036 for too few free extents.
+fn take_in(
+    alloc: Global,
+    store: &mut Store,
+    branch: &BranchId,
+    changes: Changes,
+) -> Result<Option<Refusal>, AllocError>
+    requires { AreOfTables store.old.rows changes }
+    ensures refusal { IfOk result (λ refusal. refusal ≡ refusal_told (refusal_of store.old branch.now changes)) }
+    ensures store { IfOk result (λ refusal. store.new ≡ kept_unless refusal store.old branch.now changes) }
+    ensures err { OnErr result (store.new ≡ store.old) }
+{
+    match store.set_pending(alloc, branch, changes) {
+        Ok(()) => Ok(None),
+        Err(StoreErr::TooLarge { .. }) => Ok(Some(too_many_changes(alloc))),
+        Err(StoreErr::Full { need, free }) => Ok(Some(no_extents(alloc, need, free)?)),
+        Err(StoreErr::NoMemory) => Err(AllocError),
+    }
+}

@@ -1,0 +1,86 @@
+//! Running a statement over a store.
+ghost use Rattle.std.specs.Prelude.{◌≡◌, true, IfOk, OnOk, OnErr};
+ghost use Rattle.row_store.specs.Store.{has_table, seen_by};
+ghost use Rattle.sql_eval.specs.Laws.{has_one_key, AreRowsOf};
+ghost use Rattle.stmt_run.specs.Run.{answer_of_run, locks_after, ran_over, ran_meant};
+ghost use Rattle.stmt_run.specs.Stored.{ground_in, store_after_run};
+ghost use Rattle.stmt_store.specs.Stores.{ChangesOnly, IsOneOf};
+
+use crate::deciding::outcome_at;
+use crate::keeping::keep;
+use crate::site::StoreSite;
+use dtx_values::{Answer, Table};
+use row_locks::Locks;
+use row_store::Store;
+use sql_eval::{Meant, Outcome};
+use sql_statement::Stmt;
+use std::alloc::{AllocError, Global};
+use stmt_run::holders::take_all;
+use tran_ids::BranchId;
+
+/// Runs a statement of a branch over a table of a store, and keeps what it leaves: the changes that it makes as one more set
+/// of the branch, and the keys that it locks. A statement that is refused changes nothing and locks nothing. Fails where memory
+/// runs out, and then the store may have the changes, and the branch some of the keys.
+pub fn run(
+    alloc: Global,
+    statement: &Stmt,
+    table: &Table,
+    store: &mut Store,
+    locks: &mut Locks,
+    branch: &BranchId,
+) -> Result<Answer, AllocError>
+    requires one_key { has_one_key table.now ≡ true }
+    requires table { has_table store.old.rows table.now.name ≡ true }
+
+    // The branch sees rows of the table.
+    requires rows { AreRowsOf table.now (seen_by store.old branch.now table.now.name) }
+    ensures answer { IfOk result (λ answer.
+        answer ≡ answer_of_run (ran_over (ground_in store.old locks.old branch.now table.now) statement.now table.now)) }
+    ensures store { OnOk result
+        (store.new ≡ store_after_run store.old branch.now table.now (ran_over (ground_in store.old locks.old branch.now table.now) statement.now table.now)) }
+    ensures locks { OnOk result
+        (locks.new ≡ locks_after locks.old branch.now table.now (ran_over (ground_in store.old locks.old branch.now table.now) statement.now table.now)) }
+    ensures undo { store.new.extents ≡ store.old.extents }
+
+    // After an error the store is as before, or has the changes of the statement.
+    ensures err { OnErr result
+        (IsOneOf store.old (store_after_run store.old branch.now table.now (ran_over (ground_in store.old locks.old branch.now table.now) statement.now table.now)) store.new) }
+{
+    let Outcome { keys, meant } = outcome_in(alloc, statement, table, store, locks, branch)?;
+    match meant {
+        Meant::Refused(refusal) => Ok(Answer::Refused(refusal)),
+        Meant::Gives(rows) => {
+            take_all(alloc, locks, branch, &table.name, keys.as_slice(), false)?;
+            Ok(Answer::Found(rows))
+        }
+        Meant::Changes {
+            done,
+            count: _count,
+            changes,
+        } => keep(alloc, table, store, locks, branch, done, changes, keys),
+    }
+}
+
+// What a statement means there.
+fn outcome_in<'a>(
+    alloc: Global,
+    statement: &Stmt,
+    table: &'a Table,
+    store: &'a Store,
+    locks: &'a Locks,
+    me: &'a BranchId,
+) -> Result<Outcome, AllocError>
+    requires one_key { has_one_key table.now ≡ true }
+    requires rows { AreRowsOf table.now (seen_by store.now me.now table.now.name) }
+    ensures ran { IfOk result (λ outcome.
+        ran_over (ground_in store.now locks.now me.now table.now) statement.now table.now ≡ ran_meant (ground_in store.now locks.now me.now table.now) outcome.keys outcome.meant) }
+    ensures changes { IfOk result (λ outcome. ChangesOnly table.now outcome.meant) }
+{
+    let site = StoreSite {
+        me,
+        table,
+        store,
+        locks,
+    };
+    outcome_at(alloc, statement, &site)
+}
