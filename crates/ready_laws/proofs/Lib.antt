@@ -1,8 +1,8 @@
-mod ListLemmas
-mod TableLemmas
+pub mod ListLemmas
+pub mod TableLemmas
 mod RecordLemmas
-mod RanLemmas
-mod RowStepLemmas
+pub mod RanLemmas
+pub mod RowStepLemmas
 mod NumberLemmas
 mod CallNumberLemmas
 mod ShapeLemmas

@@ -62,7 +62,7 @@ module _ (p : Place) (d : Durable) (l : Live) (given : ℕ) (t : Table) where
   ref_here ref None is = bare_here ref.name (table_of d ref.name) refl is
 
   -- a table at which a statement runs is there, under its name
-  way_there : (s : Stmt) → way_of p d l given s ≡ Runs_here t → table_named d.tables t.name ≡ Some t
+  pub way_there : (s : Stmt) → way_of p d l given s ≡ Runs_here t → table_named d.tables t.name ≡ Some t
   unfolding way_of
   way_there s is = ref_here (ref_of s) (ref_of s).link is
 
