@@ -1,14 +1,18 @@
 -- A live branch where it stands, and where it is changed there.
-use Rattle.std.proofs.Common.{◌≡◌, Bool, true, false, if◌then◌else◌, List, [], ◌∷◌, Option, None, Some, refl, sym, ap, subst, ◌∙◌}
+use Rattle.std.proofs.Common.{◌≡◌, ℕ, ◌<◌, ◌^◌, Bool, true, false, if◌then◌else◌, List, [], ◌∷◌, Option, None, Some, IfSome, refl, sym, ap, subst, ◌∙◌}
 use Rattle.tran_ids.specs.declared.branch.BranchId.{BranchId}
 use Rattle.tran_ids.specs.Branch.{same}
 use Rattle.tran_ids.specs.Listed.{item_at, put_item}
 use Rattle.tran_ids.proofs.BranchLemmas.{same_from_equal}
 use Rattle.tran_ids.proofs.ListedLemmas.{item_is, put_found}
+use Rattle.session_tree.specs.Tree.{count}
 use Rattle.node_rules.specs.Data.{Live}
 use Rattle.node_rules.specs.declared.work.Work.{Work}
-use Rattle.node_rules.specs.Kept.{Kept, Branch, Deed, live_id, work_id, work_or, with_work, branch_at, with_branch}
-use Rattle.node_state.specs.Works.{work_of}
+use Rattle.node_rules.specs.Kept.{Kept, Branch, Deed as DeedByRules, live_id, work_id, work_or, with_work, branch_at, with_branch, nothing}
+use Rattle.node_state.specs.Changed.{change_item, with_item}
+use Rattle.node_state.specs.Works.{work_of, change_work}
+use Rattle.node_deeds.specs.declared.deed.Deed.{Deed}
+use Rattle.node_deeds.specs.Gives.{Gives}
 use Rattle.node_calls.specs.Handled.{at_live}
 
 module _ {A : Type 0} (id : A → BranchId) where
@@ -42,15 +46,18 @@ module _ {A : Type 0} (id : A → BranchId) where
   put_twice (z ∷ zs) x y is = twice_step x y z zs is (same (id z) (id x)) refl (put_twice zs x y is)
 
 -- what a branch does that is not live
-pub nobody : (k : Kept) (b : BranchId) (f : Branch → Deed) → item_at live_id k.lives b ≡ None → at_live k f (branch_at k b) ≡ at_live k f None
+nobody : (k : Kept) (b : BranchId) (f : Branch → DeedByRules) → item_at live_id k.lives b ≡ None → at_live k f (branch_at k b) ≡ nothing k
 nobody k b f none = ap (λ o. at_live k f (with_work k o)) none
+
+pub nothing_so : (k : Kept) (b : BranchId) (f : Branch → DeedByRules) (deed : Deed) → item_at live_id k.lives b ≡ None → Gives (nothing k) k deed → Gives (at_live k f (branch_at k b)) k deed
+nothing_so k b f deed none does = subst (λ d. Gives d k deed) (sym (nobody k b f none)) does
 
 -- the live branch of an id, with its calls
 abbrev pub branch_here : Kept → BranchId → Live → Branch
 branch_here k b l = record { live = l; work = work_of k.works b }
 
 -- what it does
-pub somebody : (k : Kept) (b : BranchId) (l : Live) (f : Branch → Deed) → item_at live_id k.lives b ≡ Some l → at_live k f (branch_at k b) ≡ f (branch_here k b l)
+pub somebody : (k : Kept) (b : BranchId) (l : Live) (f : Branch → DeedByRules) → item_at live_id k.lives b ≡ Some l → at_live k f (branch_at k b) ≡ f (branch_here k b l)
 somebody k b l f is = ap (λ o. at_live k f (with_work k o)) is ∙ ap (λ c. f (record { live = l; work = work_of k.works c })) (item_is live_id k.lives b l is)
 
 of_found : (b : BranchId) (o : Option Work) → ((w : Work) → o ≡ Some w → w.branch ≡ b) → (work_or b o).branch ≡ b
@@ -75,3 +82,31 @@ pub changed_twice : (k : Kept) (x y : Branch) → x.live.me ≡ y.live.me → x.
 changed_twice k x y me mine =
     ap (λ ls. record k { lives = ls; works = put_item work_id (put_item work_id k.works x.work) y.work }) (put_twice live_id k.lives x.live y.live me)
     ∙ ap (λ ws. record k { lives = put_item live_id k.lives y.live; works = ws }) (put_twice work_id k.works x.work y.work mine)
+
+-- ---- what holds of a branch that is changed
+
+module _ (f : Live → Live) (stays : (l : Live) → (f l).me ≡ l.me) where
+  -- it is found
+  pub changed_there : (ls : List Live) (b : BranchId) (l : Live) → item_at live_id ls b ≡ Some l → item_at live_id (change_item live_id f ls b) b ≡ Some (f l)
+  changed_there ls b l is =
+      ap (λ o. item_at live_id (with_item live_id f ls o) b) is
+      ∙ subst (λ c. item_at live_id (put_item live_id ls (f l)) c ≡ Some (f l)) (stays l ∙ item_is live_id ls b l is) (put_found live_id ls (f l))
+
+  holds_at : (P Q : Live → Type 0) → ((l : Live) → P l → Q (f l)) → (ls : List Live) (b : BranchId) (o : Option Live) → item_at live_id ls b ≡ o → IfSome o P
+      → IfSome (item_at live_id (change_item live_id f ls b) b) Q
+  holds_at P Q keeps ls b None is holds = subst (λ o. IfSome (item_at live_id (with_item live_id f ls o) b) Q) (sym is) (subst (λ o. IfSome o Q) (sym is) tt)
+  holds_at P Q keeps ls b (Some l) is holds = subst (λ o. IfSome o Q) (sym (changed_there ls b l is)) (keeps l holds)
+
+  -- and what holds of it before makes hold what is to hold of it afterwards
+  pub holds_changed : (P Q : Live → Type 0) → ((l : Live) → P l → Q (f l)) → (ls : List Live) (b : BranchId) → IfSome (item_at live_id ls b) P → IfSome (item_at live_id (change_item live_id f ls b) b) Q
+  holds_changed P Q keeps ls b holds = holds_at P Q keeps ls b (item_at live_id ls b) refl holds
+
+  -- so a branch that tells no more branches than before tells few
+  pub few_changed : ((l : Live) → count (f l) ≡ count l) → (ls : List Live) (b : BranchId) → IfSome (item_at live_id ls b) (λ l. count l < 2 ^ 16)
+      → IfSome (item_at live_id (change_item live_id f ls b) b) (λ l. count l < 2 ^ 16)
+  few_changed same ls b few = holds_changed (λ l. count l < 2 ^ 16) (λ l. count l < 2 ^ 16) (λ l holds. subst (λ n. n < 2 ^ 16) (sym (same l)) holds) ls b few
+
+-- the calls of a branch, changed
+pub calls_changed : (f : Work → Work) → ((w : Work) → (f w).branch ≡ w.branch) → (ws : List Work) (b : BranchId) → work_of (change_work f ws b) b ≡ f (work_of ws b)
+calls_changed f stays ws b =
+    ap (work_or b) (subst (λ c. item_at work_id (put_item work_id ws (f (work_of ws b))) c ≡ Some (f (work_of ws b))) (stays (work_of ws b) ∙ work_branch ws b) (put_found work_id ws (f (work_of ws b))))

@@ -8,7 +8,7 @@ use Rattle.node_rules.specs.Data.answers
 use Rattle.node_rules.specs.Data.dones
 use Rattle.node_rules.specs.Data.kinds
 use Rattle.node_rules.specs.Data.pending
-use Rattle.node_rules.specs.Kept.{Kept, Branch, Deed as DeedByRules, live_id, work_id, with_work, branch_at, without_branch, post}
+use Rattle.node_rules.specs.Kept.{Kept, Branch, Deed as DeedByRules, live_id, work_id, with_work, branch_at, without_branch, nothing, ending, post}
 use Rattle.sql_check.specs.Words.{one}
 use Rattle.sql_check.specs.Refusals.{dtx}
 use Rattle.node_rules.specs.Sessions.{with_call, needs_rollback}
@@ -128,3 +128,14 @@ module _ (k : Kept) (b : BranchId) (l : Live) (is : item_at live_id k.lives b �
         → Gives (rollback_by k n (branch_at k b)) after deed
     rolled_back_so after deed new done =
         gives_so (rollback_by k n (branch_at k b)) rolled_back after deed (ap (λ o. rollback_by k n (with_work k o)) is) new done
+
+-- ---- branches that are not live
+
+module _ (k : Kept) (b : BranchId) (none : item_at live_id k.lives b ≡ None) (n : ℕ) where
+  -- no statement is given up
+  pub none_given_up : (deed : Deed) → Gives (nothing k) k deed → Gives (statement_given_up k n (branch_at k b)) k deed
+  none_given_up deed does = subst (λ d. Gives d k deed) (sym (ap (λ o. statement_given_up k n (with_work k o)) none)) does
+
+  -- and only the call ends
+  pub none_to_roll_back : (deed : Deed) → Gives (ending k n (answers.Did dones.RolledBack 0)) k deed → Gives (rollback_by k n (branch_at k b)) k deed
+  none_to_roll_back deed does = subst (λ d. Gives d k deed) (sym (ap (λ o. rollback_by k n (with_work k o)) none)) does

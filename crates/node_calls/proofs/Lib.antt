@@ -2,6 +2,10 @@ mod Branches
 mod Deeds
 mod Opened
 mod Replied
-pub mod Grounds
 mod Routed
+mod Grounds
+mod Tables
 mod Executed
+mod Beginning
+mod Defined
+mod Turns

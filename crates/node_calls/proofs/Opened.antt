@@ -2,13 +2,13 @@
 use Rattle.std.proofs.Common.{◌≡◌, ◌×◌, ℕ, ◌-◌, ◌==◌, Bool, true, false, if◌then◌else◌, List, [], Option, None, Some, refl, sym, ap, subst, ◌∙◌, arith}
 use Rattle.std.proofs.lemmas.Bool.Decides.{nat_tests}
 use Rattle.tran_ids.specs.declared.branch.BranchId.{BranchId}
-use Rattle.tran_ids.specs.Listed.{item_at, put_item}
-use Rattle.tran_ids.proofs.ListedLemmas.{item_is, put_found}
+use Rattle.tran_ids.specs.Listed.{item_at}
+use Rattle.tran_ids.proofs.ListedLemmas.{item_is}
 use Rattle.session_tree.specs.Live.{add_edge, new_edge, next_edge}
 use Rattle.node_rules.specs.Data.{Live, Stmt, Going, Waits}
 use Rattle.node_rules.specs.declared.work.Work.{Work}
 use Rattle.node_rules.specs.Data.waiting
-use Rattle.node_rules.specs.Kept.{Kept, Branch, Deed as DeedByRules, nothing, live_id, work_id, work_or, branch_at, with_branch}
+use Rattle.node_rules.specs.Kept.{Kept, Branch, Deed as DeedByRules, nothing, live_id, branch_at, with_branch}
 use Rattle.node_rules.specs.Calls.{call_pends, called, calls_over, exec_to, on_opened, opened_going, opened_waits, with_edge}
 use Rattle.session_tree.specs.Live.{peer_of}
 use Rattle.node_state.specs.Changed.{change_item, with_item}
@@ -17,7 +17,7 @@ use Rattle.node_deeds.specs.declared.deed.Deed.{Deed}
 use Rattle.node_deeds.specs.Gives.{Gives}
 use Rattle.node_calls.specs.declared.opened.Waited.{Waited}
 use Rattle.node_calls.specs.Handled.{at_live, goes_on, waited_for, waits_for}
-use Rattle.node_calls.proofs.Branches.{work_branch, branch_here, somebody, found_changed, changed_twice}
+use Rattle.node_calls.proofs.Branches.{work_branch, branch_here, somebody, found_changed, changed_twice, calls_changed}
 
 -- what a branch does with what waited for its child, and nothing where nothing did
 abbrev goes_if : Kept → Branch → BranchId → ℕ → Option Waited → DeedByRules
@@ -48,8 +48,7 @@ number_is edge next (Some g) w found = number_if edge next g w (edge == next) re
 
 -- the calls of a branch with one more child
 pub child_added : (ws : List Work) (b : BranchId) → work_of (change_work with_child ws b) b ≡ with_child (work_of ws b)
-child_added ws b =
-    ap (work_or b) (subst (λ c. item_at work_id (put_item work_id ws (with_child (work_of ws b))) c ≡ Some (with_child (work_of ws b))) (work_branch ws b) (put_found work_id ws (with_child (work_of ws b))))
+child_added ws b = calls_changed with_child (λ w. refl) ws b
 
 -- a statement goes on the same where its branch was put in its place before
 pub calls_again : (k : Kept) (x : Branch) (i : ℕ) (s : Stmt) (given : ℕ) → calls_over (with_branch k x) x i s given ≡ calls_over k x i s given

@@ -15,7 +15,7 @@ use Rattle.node_state.specs.Works.{work_of}
 use Rattle.node_deeds.specs.declared.deed.Deed.{Deed}
 use Rattle.node_deeds.specs.Gives.{Gives}
 use Rattle.node_calls.specs.Handled.{at_live}
-use Rattle.node_calls.proofs.Branches.{put_twice, branch_here, somebody}
+use Rattle.node_calls.proofs.Branches.{put_twice, branch_here, changed_there, somebody}
 
 found_if : (x : Branch) (i j : ℕ) (e f : Edge) (hit : Bool) → edge_at x.live j ≡ Some f → (if hit then Some (j, f) else None) ≡ Some (i, e) → edge_at x.live i ≡ Some e
 found_if x i j e f true there found = let it : (j, f) ≡ (i, e) = cc in ap (edge_at x.live) (sym (ap (λ q. q.0) it)) ∙ there ∙ ap (λ q. Some q.1) it
@@ -41,9 +41,7 @@ reply_found x from call i e found = found_going x from call i e x.work.going fou
 -- a branch that hears a Reply is there
 pub heard_there : (ls : List Live) (b : BranchId) (l : Live) (i : ℕ) (weight : Option ℕ) (count : ℕ) → item_at live_id ls b ≡ Some l
     → item_at live_id (change_item live_id (heard i weight count) ls b) b ≡ Some (heard i weight count l)
-heard_there ls b l i weight count is =
-    ap (λ o. item_at live_id (with_item live_id (heard i weight count) ls o) b) is
-    ∙ subst (λ c. item_at live_id (put_item live_id ls (heard i weight count l)) c ≡ Some (heard i weight count l)) (item_is live_id ls b l is) (put_found live_id ls (heard i weight count l))
+heard_there ls b l i weight count is = changed_there (heard i weight count) (λ x. refl) ls b l is
 
 -- a statement is answered the same where its branch was put in its place before
 pub answered_again : (k : Kept) (l : Live) (w : Work) (a : Answer) → answered (record k { lives = put_item live_id k.lives l }) (record { live = l; work = w }) a ≡ answered k (record { live = l; work = w }) a

@@ -1,16 +1,14 @@
 //! A statement at a live branch is answered: below the root by a Reply to the parent, at the root by the end of the session's
 //! call.
-ghost use Rattle.std.specs.Prelude.{◌≡◌, ◌<◌, ◌^◌, None, Some, [], ◌∷◌, IfOk, IfSome, OnOk};
-ghost use Rattle.tran_ids.specs.Listed.{item_at};
-ghost use Rattle.session_tree.specs.Tree.{count};
+ghost use Rattle.std.specs.Prelude.{◌≡◌, None, Some, [], ◌∷◌, IfOk, OnOk};
 ghost use Rattle.node_rules.specs.Data.pending;
-ghost use Rattle.node_rules.specs.Kept.{branch_at, live_id, no_work as no_work_of};
+ghost use Rattle.node_rules.specs.Kept.{branch_at, no_work as no_work_of};
 ghost use Rattle.node_rules.specs.Calls.{answered, replies as replies_of};
 ghost use Rattle.node_rules.specs.Sessions.{with_call};
 ghost use Rattle.node_state.specs.Works.{answered_with, change_work, work_of};
 ghost use Rattle.node_deeds.specs.Gives.{Gives, branch_with};
 ghost use Rattle.node_memory.specs.Parts.{kept_in};
-ghost use Rattle.node_calls.specs.Handled.{at_live};
+ghost use Rattle.node_calls.specs.Handled.{at_live, HasFew};
 
 use dtx_values::{Answer, Duplicate, Listing};
 use link_session::{Calls, ReplyFields};
@@ -24,14 +22,14 @@ use std::alloc::{AllocError, Global};
 use tran_ids::BranchId;
 
 /// The statement at a live branch is answered. Nothing where it is not live.
-#[tactic(auto, using(crate::proofs::Deeds::client_answered, crate::proofs::Deeds::parent_answered))]
-pub fn answer(
+#[tactic(auto, using(crate::proofs::Branches::nothing_so, crate::proofs::Deeds::client_answered, crate::proofs::Deeds::parent_answered))]
+pub(crate) fn answer(
     memory: &mut Memory,
     alloc: Global,
     branch: &BranchId,
     answer: Answer,
 ) -> Result<Deed, AllocError>
-    requires few { IfSome (item_at live_id memory.old.lives branch.now) (λ live. count live < 2 ^ 16) }
+    requires { HasFew memory.old branch.now }
     ensures gives { IfOk result (λ deed.
         Gives (at_live (kept_in memory.old) (λ x. answered (kept_in memory.old) x answer) (branch_at (kept_in memory.old) branch.now)) (kept_in memory.new) deed) }
     ensures place { memory.new.place ≡ memory.old.place }

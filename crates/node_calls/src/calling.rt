@@ -26,8 +26,8 @@ use wire_msg::Kind;
 
 /// A statement of a live branch goes on to the child of a number, from 1, with the room that its own Exec carried. Nothing
 /// where the branch is not live.
-#[tactic(auto, using(crate::proofs::Deeds::called_so))]
-pub fn call_over(
+#[tactic(auto, using(crate::proofs::Branches::nothing_so, crate::proofs::Deeds::called_so))]
+pub(crate) fn call_over(
     memory: &mut Memory,
     alloc: Global,
     branch: &BranchId,
@@ -54,8 +54,8 @@ pub fn call_over(
 
 /// A link is used for the first time: Open goes to its node, and the statement of a live branch waits. Nothing where the
 /// branch is not live.
-#[tactic(auto, using(crate::proofs::Deeds::opened_so))]
-pub fn open_through(
+#[tactic(auto, using(crate::proofs::Branches::nothing_so, crate::proofs::Deeds::opened_so))]
+pub(crate) fn open_through(
     memory: &mut Memory,
     alloc: Global,
     branch: &BranchId,

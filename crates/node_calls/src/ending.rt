@@ -1,7 +1,7 @@
 //! ROLLBACK.
 ghost use Rattle.std.specs.Prelude.{◌≡◌, IfOk};
 ghost use Rattle.node_rules.specs.Client.{rollback_by as rollback_by_of, root_at};
-ghost use Rattle.node_rules.specs.Kept.{branch_at, without_branch};
+ghost use Rattle.node_rules.specs.Kept.{branch_at};
 ghost use Rattle.node_deeds.specs.Gives.{Gives};
 ghost use Rattle.node_memory.specs.Parts.{kept_in};
 
@@ -24,7 +24,7 @@ pub fn rollback_by(memory: &mut Memory, alloc: Global, session: u32) -> Result<D
     }
 }
 
-#[tactic(auto, using(crate::proofs::Deeds::rolled_back_so))]
+#[tactic(auto, using(crate::proofs::Deeds::rolled_back_so, crate::proofs::Deeds::none_to_roll_back))]
 fn rollback_root(
     memory: &mut Memory,
     alloc: Global,
@@ -41,18 +41,7 @@ fn rollback_root(
     let says = to_children(alloc, live, &Kind::Rollback)?;
     let ended = ended(alloc, session, Answer::Did(Done::RolledBack, 0))?;
     memory.sessions.end(session);
-    drop_branch(memory, &me);
+    memory.drop_branch(&me);
     let wrote = None;
     Ok(Deed { wrote, says, ended })
-}
-
-// A branch is live no longer: its changes are dropped with its calls, and its keys are free.
-fn drop_branch(memory: &mut Memory, branch: &BranchId)
-    ensures after { kept_in memory.new ≡ without_branch (kept_in memory.old) branch.now }
-    ensures place { memory.new.place ≡ memory.old.place }
-{
-    memory.store.rollback(branch);
-    memory.lives.drop_branch(branch);
-    memory.works.drop_branch(branch);
-    memory.locks.release(branch);
 }

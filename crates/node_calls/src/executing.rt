@@ -1,19 +1,11 @@
 //! A call comes over the link from the parent.
-ghost use Rattle.std.specs.Prelude.{◌≡◌, ◌<◌, ◌≤◌, ◌^◌, ℕ, [], Some, false, length, IfOk, IfSome};
-ghost use Rattle.dtx_values.specs.Limits.{node_limit};
-ghost use Rattle.tran_ids.specs.Listed.{item_at};
-ghost use Rattle.catalog.specs.Catalog.{is_used};
-ghost use Rattle.session_tree.specs.Tree.{count};
-ghost use Rattle.node_rules.specs.Data.{Live, Table};
-ghost use Rattle.node_rules.specs.Names.{Runs_here, way_of as way_of_statement};
-ghost use Rattle.node_rules.specs.Kept.{branch_at, live_id};
-ghost use Rattle.node_rules.specs.Calls.{next_call, on_exec as on_exec_of, says_again as says_again_of};
-ghost use Rattle.node_state.specs.Lives.{advised};
-ghost use Rattle.node_state.specs.Works.{with_call_taken, work_of};
-ghost use Rattle.node_ways.specs.Ways.{has_table};
+ghost use Rattle.std.specs.Prelude.{◌≡◌, IfOk};
+ghost use Rattle.node_rules.specs.Kept.{branch_at};
+ghost use Rattle.node_rules.specs.Calls.{on_exec as on_exec_of, says_again as says_again_of};
+ghost use Rattle.node_state.specs.Works.{work_of};
 ghost use Rattle.node_deeds.specs.Gives.{Gives, branch_with};
-ghost use Rattle.node_memory.specs.Parts.{kept_in, stored_in, HasOwnUndo};
-ghost use Rattle.node_calls.specs.Handled.{at_live, RunsOver};
+ghost use Rattle.node_memory.specs.Parts.{kept_in};
+ghost use Rattle.node_calls.specs.Handled.{at_live, TakesStatement};
 
 use crate::answering::no_work;
 use crate::routing::statement_at;
@@ -30,8 +22,8 @@ use tran_ids::BranchId;
 
 /// Exec at a live branch: a call that comes first is run, the last one is answered again once it was answered, and any other is
 /// ignored.
-#[tactic(auto, using(crate::proofs::Executed::ignored_so, crate::proofs::Executed::again_so, crate::proofs::Executed::run_so))]
-pub fn on_exec(
+#[tactic(auto, using(crate::proofs::Branches::nothing_so, crate::proofs::Executed::ignored_so, crate::proofs::Executed::again_so, crate::proofs::Executed::run_so))]
+pub(crate) fn on_exec(
     memory: &mut Memory,
     alloc: Global,
     from: BranchId,
@@ -41,13 +33,7 @@ pub fn on_exec(
     advice: Option<Advice>,
     statement: &Stmt,
 ) -> Result<Deed, AllocError>
-    requires few { IfSome (item_at live_id memory.old.lives to.now) (λ live. count live < 2 ^ 16) }
-    requires numbers { (i : ℕ) → next_call (work_of memory.old.works to.now) i < 2 ^ 32 }
-    requires nodes { length memory.old.place.names ≤ node_limit }
-    requires names { has_table statement.now ≡ false → is_used memory.old.catalog [] ≡ false }
-    requires undo { HasOwnUndo memory.old }
-    requires tables { (live : Live) (table : Table) → item_at live_id memory.old.lives to.now ≡ Some live
-        → way_of_statement memory.old.place (stored_in memory.old).durable live given statement.now ≡ Runs_here table → RunsOver (kept_in memory.old) to.now table }
+    requires { TakesStatement memory.old to.now statement.now }
     ensures gives { IfOk result (λ deed.
         Gives (at_live (kept_in memory.old) (λ x. on_exec_of memory.old.place (kept_in memory.old) x from call given advice statement.now) (branch_at (kept_in memory.old) to.now)) (kept_in memory.new) deed) }
     ensures place { memory.new.place ≡ memory.old.place }

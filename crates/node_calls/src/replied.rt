@@ -32,8 +32,8 @@ pub(crate) struct Replier<'a> {
 
 /// Reply at a live branch: the one that is waited for is heard, and its result is the answer here too. Any other is ignored.
 /// Where a root hears that its child is gone, the answer names the link, and the transaction can only be rolled back.
-#[tactic(auto, using(crate::proofs::Replied::reply_so, crate::proofs::Replied::reply_ignored, crate::proofs::Replied::heard_there))]
-pub fn on_reply(
+#[tactic(auto, using(crate::proofs::Branches::nothing_so, crate::proofs::Replied::reply_so, crate::proofs::Replied::reply_ignored, crate::proofs::Replied::heard_there))]
+pub(crate) fn on_reply(
     memory: &mut Memory,
     alloc: Global,
     from: BranchId,

@@ -1,25 +1,27 @@
 //! A statement at a live branch: it runs here, is refused, or goes on.
-ghost use Rattle.std.specs.Prelude.{◌≡◌, ◌<◌, ◌≤◌, ◌^◌, ℕ, [], Some, false, length, IfOk, IfSome};
-ghost use Rattle.dtx_values.specs.Limits.{node_limit};
-ghost use Rattle.tran_ids.specs.Listed.{item_at};
-ghost use Rattle.catalog.specs.Catalog.{is_used};
-ghost use Rattle.session_tree.specs.Tree.{count};
-ghost use Rattle.node_rules.specs.Data.{Live, Table};
-ghost use Rattle.node_rules.specs.Names.{Runs_here, way_of as way_of_statement};
+ghost use Rattle.std.specs.Prelude.{◌≡◌, true, IfOk, OnOk};
+ghost use Rattle.sql_eval.specs.Laws.{has_one_key, AreRowsOf};
+ghost use Rattle.row_store.specs.Store.{has_table, seen_by};
+ghost use Rattle.stmt_run.specs.Run.{answer_of_run, locks_after, ran_over};
+ghost use Rattle.stmt_run.specs.Stored.{ground_in, store_after_run};
 ghost use Rattle.node_rules.specs.Kept.{branch_at, live_id};
-ghost use Rattle.node_rules.specs.Calls.{next_call, statement_at as statement_at_of};
-ghost use Rattle.node_state.specs.Works.{work_of};
-ghost use Rattle.node_ways.specs.Ways.{has_table};
+ghost use Rattle.node_rules.specs.Calls.{statement_at as statement_at_of};
+ghost use Rattle.node_rules.specs.Statement.{makes_changes};
+ghost use Rattle.node_state.specs.Changed.{change_item};
+ghost use Rattle.node_state.specs.Lives.{changed_by};
 ghost use Rattle.node_deeds.specs.Gives.{Gives};
-ghost use Rattle.node_memory.specs.Parts.{kept_in, stored_in, HasOwnUndo};
-ghost use Rattle.node_calls.specs.Handled.{at_live, did_changes, RunsOver};
+ghost use Rattle.node_memory.specs.Parts.{kept_in};
+ghost use Rattle.node_calls.specs.Handled.{at_live, did_changes, TakesStatement};
 
 use crate::answering::answer;
 use crate::calling::{call_over, open_through};
-use dtx_values::{Answer, Duplicate};
+use dtx_values::{Answer, Duplicate, Table};
 use node_deeds::Deed;
 use node_memory::Memory;
+use node_state::Lives;
 use node_ways::{Way, passed_on, way_of};
+use row_locks::Locks;
+use row_store::Store;
 use sql_statement::Stmt;
 use std::alloc::{AllocError, Global};
 use stmt_store::run;
@@ -27,21 +29,15 @@ use tran_ids::BranchId;
 
 /// A statement at a live branch, with the room that its Exec carried: it runs here, is refused, or goes on to a child, or over a
 /// link that is used for the first time. Nothing where the branch is not live.
-#[tactic(auto, using(crate::proofs::Routed::refused_so, crate::proofs::Routed::over_so, crate::proofs::Routed::through_so, crate::proofs::Routed::ran_so))]
-pub fn statement_at(
+#[tactic(auto, using(crate::proofs::Branches::nothing_so))]
+pub(crate) fn statement_at(
     memory: &mut Memory,
     alloc: Global,
     branch: &BranchId,
     statement: &Stmt,
     given: u16,
 ) -> Result<Deed, AllocError>
-    requires few { IfSome (item_at live_id memory.old.lives branch.now) (λ live. count live < 2 ^ 16) }
-    requires numbers { (i : ℕ) → next_call (work_of memory.old.works branch.now) i < 2 ^ 32 }
-    requires nodes { length memory.old.place.names ≤ node_limit }
-    requires names { has_table statement.now ≡ false → is_used memory.old.catalog [] ≡ false }
-    requires undo { HasOwnUndo memory.old }
-    requires tables { (live : Live) (table : Table) → item_at live_id memory.old.lives branch.now ≡ Some live
-        → way_of_statement memory.old.place (stored_in memory.old).durable live given statement.now ≡ Runs_here table → RunsOver (kept_in memory.old) branch.now table }
+    requires { TakesStatement memory.old branch.now statement.now }
     ensures gives { IfOk result (λ deed.
         Gives (at_live (kept_in memory.old) (λ x. statement_at_of memory.old.place (kept_in memory.old) x statement.now given) (branch_at (kept_in memory.old) branch.now)) (kept_in memory.new) deed) }
     ensures place { memory.new.place ≡ memory.old.place }
@@ -58,15 +54,15 @@ pub fn statement_at(
         statement,
     ) {
         Way::RunsHere(table) => {
-            let told = run(
+            let told = run_over(
                 alloc,
                 statement,
                 table,
                 &mut memory.store,
                 &mut memory.locks,
+                &mut memory.lives,
                 branch,
             )?;
-            memory.lives.note_changes(branch, has_changed(&told));
             let deed = answer(memory, alloc, branch, told)?;
             Ok(deed)
         }
@@ -86,6 +82,35 @@ pub fn statement_at(
             Ok(deed)
         }
     }
+}
+
+// Runs a statement over a table of the node, and notes whether the branch has made changes.
+#[tactic(auto, using(crate::proofs::Grounds::changes_is))]
+fn run_over(
+    alloc: Global,
+    statement: &Stmt,
+    table: &Table,
+    store: &mut Store,
+    locks: &mut Locks,
+    lives: &mut Lives,
+    branch: &BranchId,
+) -> Result<Answer, AllocError>
+    requires one_key { has_one_key table.now ≡ true }
+    requires table { has_table store.old.rows table.now.name ≡ true }
+    requires rows { AreRowsOf table.now (seen_by store.old branch.now table.now.name) }
+    ensures answer { IfOk result (λ answer.
+        answer ≡ answer_of_run (ran_over (ground_in store.old locks.old branch.now table.now) statement.now table.now)) }
+    ensures store { OnOk result
+        (store.new ≡ store_after_run store.old branch.now table.now (ran_over (ground_in store.old locks.old branch.now table.now) statement.now table.now)) }
+    ensures locks { OnOk result
+        (locks.new ≡ locks_after locks.old branch.now table.now (ran_over (ground_in store.old locks.old branch.now table.now) statement.now table.now)) }
+    ensures lives { OnOk result
+        (lives.new ≡ change_item live_id (changed_by (makes_changes (ran_over (ground_in store.old locks.old branch.now table.now) statement.now table.now))) lives.old branch.now) }
+    ensures undo { store.new.extents ≡ store.old.extents }
+{
+    let told = run(alloc, statement, table, store, locks, branch)?;
+    lives.note_changes(branch, has_changed(&told));
+    Ok(told)
 }
 
 // Whether an answer tells of changes.
