@@ -31,7 +31,7 @@ impl<'r> Sight<'r> {
     pub fn of_key(
         alloc: Global,
         statement: &Stmt,
-        site: &StoreSite<'r>,
+        site: &'r StoreSite,
         key: &'r Value,
     ) -> Result<Sight<'r>, AllocError>
         requires one_key { has_one_key site.now.table.now ≡ true }
@@ -51,7 +51,7 @@ impl<'r> Sight<'r> {
     }
 
     /// Of a statement that fixes none: all rows that the branch sees, and the locked keys too.
-    pub fn of_all(alloc: Global, site: &StoreSite<'r>) -> Result<Sight<'r>, AllocError>
+    pub fn of_all(alloc: Global, site: &'r StoreSite) -> Result<Sight<'r>, AllocError>
         ensures in_doubt { IfOk result (λ sight.
             sight.in_doubt ≡ first_some (map (doubt_on site.now.locks.now site.now.table.now.name) (examined_by (view_of site.now) (keys_held site.now.locks.now site.now.table.now.name) None))) }
         ensures rows { IfOk result (λ sight. sight.rows.items ≡ view_of site.now) }
@@ -66,7 +66,7 @@ impl<'r> Sight<'r> {
 #[tactic(auto, using(row_store::proofs::AtKey::at_key_is))]
 fn rows_at<'r>(
     alloc: Global,
-    site: &StoreSite<'r>,
+    site: &'r StoreSite,
     key: &'r Value,
 ) -> Result<Vec<KeyedRef<'r>>, AllocError>
     ensures { IfOk result (λ rows. rows.items ≡ at_key (view_of site.now) key.now) }

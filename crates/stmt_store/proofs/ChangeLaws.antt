@@ -1,6 +1,7 @@
 -- What the changes of a statement come to at a store.
 use Rattle.std.proofs.Common.{◌≡◌, ℕ, ◌≤◌, Bool, true, false, cond, List, [], ◌∷◌, ◌++◌, Option, None, Some, nat_lt, length, refl, sym, ap, subst, ◌∙◌, arith}
 use Rattle.std.specs.List.{AllByRecursion}
+use Rattle.std.specs.Prelude.{OnErr, Result, Ok, Err}
 use Rattle.std.proofs.lemmas.Bool.Decides.{nat_tests}
 use Rattle.std.proofs.lemmas.List.Elements.{recursion_from_All}
 use Rattle.dtx_values.specs.declared.value.Value.{Value}
@@ -17,17 +18,21 @@ use Rattle.sql_eval.specs.declared.meant.Meant.TheVariants as meants
 use Rattle.sql_check.specs.Checks.{checked}
 use Rattle.sql_eval.specs.Meaning.{meant_over}
 use Rattle.sql_eval.specs.Laws.{has_one_key, AreRowsOf, IsChangeOf, AreChangesOf}
-use Rattle.sql_eval.proofs.RowLaws.{changes_are_of_table}
+use Rattle.sql_eval.proofs.RowLaws.{changes_are_of_table, rows_are_keyed}
 use Rattle.row_locks.specs.Locks.{Lock}
+use Rattle.sql_eval.proofs.TableLaws.{tables_have_one_key}
 use Rattle.row_store.specs.declared.store_err.StoreErr.TheVariants.{Full, TooLarge}
 use Rattle.row_store.specs.Own.{changes_length}
-use Rattle.row_store.specs.Store.{Contents, AreOfTables, bytes_with, extents_needed, extents_free, has_table, own_changes, refusal_of}
+use Rattle.row_store.specs.Store.{Contents, AreOfTables, bytes_with, extents_needed, extents_free, has_table, own_changes, refusal_of, seen_by}
 use Rattle.row_store.specs.Tables.{TableRows}
-use Rattle.stmt_run.specs.Run.{ran_within}
-use Rattle.stmt_run.specs.Stored.{AreOfOneTable, ground_in, refusal_told}
+use Rattle.stmt_run.specs.declared.ran.Ran.{Ran}
+use Rattle.stmt_run.specs.Run.{ran_over, ran_within}
+use Rattle.stmt_run.specs.Sites.{LocksFreeKeys}
+use Rattle.stmt_run.specs.Stored.{AreOfOneTable, ground_in, refusal_told, store_after_run}
+use Rattle.stmt_run.proofs.Free.{run_locks_free}
 use Rattle.stmt_run.proofs.Lengths.{count_bound}
-use Rattle.stmt_run.proofs.StoreLaws.{store_refuses_alike}
-use Rattle.stmt_store.specs.Stores.{ChangesOnly, ran_changing}
+use Rattle.stmt_run.proofs.StoreLaws.{store_refuses_alike, store_takes_one_set}
+use Rattle.stmt_store.specs.Stores.{ChangesOnly, kept_unless, ran_changing}
 
 -- what a statement that passed the checks means changes its table alone
 pub changes_only : (s : Stmt) (t : Table) (rows : List Keyed) (m : Meant) → has_one_key t ≡ true → AreRowsOf t rows → checked s t ≡ None → meant_over s t rows ≡ m → ChangesOnly t m
@@ -64,3 +69,23 @@ few_changes s b cs none =
 pub ran_as_told : (s : Contents) (locks : List Lock) (b : BranchId) (t : Table) (d : Done) (cs : List Change) (keys : List Value) (r : Option Refusal) → AreChangesOf t cs
     → r ≡ refusal_told (refusal_of s b cs) → ran_changing (ground_in s locks b t) d cs keys ≡ ran_within (ground_in s locks b t) r d cs keys
 ran_as_told s locks b t d cs keys r are is = ap (λ o. ran_within (ground_in s locks b t) o d cs keys) (store_refuses_alike s locks b t cs (of_one_table t cs are) ∙ sym is)
+
+kept_by : (s : Contents) (locks : List Lock) (b : BranchId) (t : Table) (d : Done) (cs : List Change) (keys : List Value) (r : Option Refusal) → AreChangesOf t cs
+    → kept_unless r s b cs ≡ store_after_run s b t (ran_within (ground_in s locks b t) r d cs keys)
+kept_by s locks b t d cs keys (Some r) are = refl
+kept_by s locks b t d cs keys None are = store_takes_one_set s b t cs (of_one_table t cs are)
+
+-- and the store after them
+pub store_as_told : (s : Contents) (locks : List Lock) (b : BranchId) (t : Table) (d : Done) (cs : List Change) (keys : List Value) (r : Option Refusal) → AreChangesOf t cs
+    → r ≡ refusal_told (refusal_of s b cs) → kept_unless r s b cs ≡ store_after_run s b t (ran_changing (ground_in s locks b t) d cs keys)
+store_as_told s locks b t d cs keys r are is = kept_by s locks b t d cs keys r are ∙ ap (store_after_run s b t) (sym (ran_as_told s locks b t d cs keys r are is))
+
+-- the keys that a statement locks are free or the branch's own
+pub locks_free : (s : Contents) (locks : List Lock) (b : BranchId) (st : Stmt) (t : Table) (r : Ran) → has_one_key t ≡ true → AreRowsOf t (seen_by s b t.name)
+    → ran_over (ground_in s locks b t) st t ≡ r → LocksFreeKeys locks b t r
+locks_free s locks b st t r one are is = run_locks_free (ground_in s locks b t) t st (tables_have_one_key t one) (rows_are_keyed t (seen_by s b t.name) are) r is
+
+-- what holds holds after an error
+pub on_err : {T E P : Type 0} (r : Result T E) → P → OnErr r P
+on_err (Ok x) p = tt
+on_err (Err e) p = p
