@@ -1,4 +1,4 @@
-mod AtKey
+pub mod AtKey
 mod Entries
 mod InOrder
 mod Lookups

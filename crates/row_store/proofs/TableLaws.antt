@@ -14,11 +14,13 @@ use Rattle.dtx_values.specs.declared.row.Change.{Change}
 use Rattle.sql_eval.specs.declared.keyed.Keyed.{Keyed}
 use Rattle.sql_eval.specs.Rows.{set_to}
 use Rattle.sql_check.specs.Words.{same_text}
-use Rattle.row_store.specs.Places.{Place, rows_at, has_place}
+use Rattle.row_store.specs.Places.{Place, rows_at, has_place, AreRising}
 use Rattle.row_store.specs.Tables.{TableRows, apply_all, rows_of_table, with_table}
 use Rattle.row_store.specs.Named.{tables_of}
 use Rattle.row_store.specs.TablePlaces.{Shelf, rows_under, rows_in, has_place_on, has_place_in, is_table_in}
 use Rattle.row_store.proofs.Named.{rows_are, absent, changed}
+use Rattle.row_store.proofs.InOrder.{are_in_order}
+use Rattle.row_store.proofs.PlaceLaws.{places_in_order}
 use Rattle.row_store.proofs.MadeLaws.{first_entry}
 
 found_step : (hit : Bool) (s : Shelf) (rest : Option (List Place)) → cond hit (Some (rows_at s.1)) (option_map rows_at rest) ≡ option_map rows_at (cond hit (Some s.1) rest)
@@ -36,6 +38,10 @@ at_places (Some ps) = refl
 
 pub rows_there : (es : List Shelf) (q : List ℕ) → rows_of_table (rows_in es) q ≡ rows_at (unwrap_or (lookup (bytes_eq q) es) [])
 rows_there es q = sym (rows_are (rows_under es) q) ∙ ap (λ o. unwrap_or o []) (found_under es q) ∙ at_places (lookup (bytes_eq q) es)
+
+-- where the keys of the places rise, so do those of the rows
+pub rows_rise : (es : List Shelf) (q : List ℕ) (ps : List Place) → unwrap_or (lookup (bytes_eq q) es) [] ≡ ps → AreRising ps → are_in_order (rows_of_table (rows_in es) q)
+rows_rise es q ps is rise = subst are_in_order (sym (rows_there es q ∙ ap rows_at is)) (places_in_order ps rise)
 
 keys_under : (es : List Shelf) → keys_of (rows_under es) ≡ keys_of es
 keys_under [] = refl

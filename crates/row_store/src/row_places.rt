@@ -47,7 +47,10 @@ impl RowPlaces {
 
     /// The row at a key.
     pub(crate) fn get(&self, key: &Value) -> Option<&Row>
-        ensures { option_copied result ≡ get_of (rows_at self.now) key.now }
+        ensures row { option_copied result ≡ get_of (rows_at self.now) key.now }
+
+        // The keys rise.
+        ensures rising { AreRising self.now }
     {
         match self.rows.get(key) {
             Some(row) => row.as_ref(),

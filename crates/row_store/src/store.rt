@@ -1,7 +1,9 @@
 //! The rows of a node, with what branches have changed of them.
 ghost use Rattle.std.specs.Prelude.{◌≡◌, ℕ, ◌+◌, ◌-◌, ◌^◌, ◌<◌, List, [], ◌∷◌, ◌++◌, true, false, None, length, nat_lt, unwrap_or, IfOk, OnOk, OnErr};
 ghost use Rattle.std.specs.List.{list_any};
+ghost use Rattle.std.specs.List.Sorted.{IsStrictlySortedBy};
 ghost use Rattle.std.specs.Option.{option_copied};
+ghost use Rattle.dtx_values.specs.Order.{value_cmp};
 ghost use Rattle.sql_check.specs.Words.{same_text};
 ghost use Rattle.sql_eval.specs.Rows.{get as get_of, keys_of as keys_in};
 ghost use Rattle.row_store.specs.Own.{changes_length, last_at as last_at_of};
@@ -72,11 +74,15 @@ impl Store {
 
     /// The row at a key as a branch sees it: what its last own change there leaves, or else the committed row.
     pub fn view(&self, branch: &BranchId, table: &Name, key: &Value) -> Option<&Row>
-        ensures { option_copied result ≡ get_of (seen_by self.now branch.now table.now) key.now }
+        ensures row { option_copied result ≡ get_of (seen_by self.now branch.now table.now) key.now }
+
+        // The keys that the branch sees rise.
+        ensures ordered { IsStrictlySortedBy value_cmp (keys_in (seen_by self.now branch.now table.now)) }
     {
+        let committed = self.tables.get(table, key);
         match last_of(self.owns.sets(branch), table, key) {
             Some(after) => after.as_ref(),
-            None => self.tables.get(table, key),
+            None => committed,
         }
     }
 

@@ -4,7 +4,9 @@ ghost use Rattle.std.specs.List.{list_any};
 ghost use Rattle.std.specs.Option.{option_copied};
 ghost use Rattle.dtx_values.specs.declared.value.Value.{Value as AnyValue};
 ghost use Rattle.sql_check.specs.Words.{same_text};
-ghost use Rattle.sql_eval.specs.Rows.{get as get_of};
+ghost use Rattle.std.specs.List.Sorted.{IsStrictlySortedBy};
+ghost use Rattle.dtx_values.specs.Order.{value_cmp};
+ghost use Rattle.sql_eval.specs.Rows.{get as get_of, keys_of};
 ghost use Rattle.row_store.specs.Tables.{apply_all, rows_of_table, with_table};
 ghost use Rattle.row_store.specs.TablePlaces.{rows_in, places_of, has_place_in, is_table_in};
 
@@ -41,7 +43,10 @@ impl TablePlaces {
 
     /// The row at a key of a table.
     pub(crate) fn get(&self, table: &Name, key: &Value) -> Option<&Row>
-        ensures { option_copied result ≡ get_of (rows_of_table (rows_in self.now) table.now) key.now }
+        ensures row { option_copied result ≡ get_of (rows_of_table (rows_in self.now) table.now) key.now }
+
+        // The keys rise.
+        ensures ordered { IsStrictlySortedBy value_cmp (keys_of (rows_of_table (rows_in self.now) table.now)) }
     {
         match self.tables.get(table) {
             Some(rows) => rows.get(key),

@@ -26,7 +26,7 @@ use Rattle.run_laws.specs.KeyLaws.{is_written_by, is_doubted_by, is_held, AreHel
 use Rattle.run_laws.proofs.ListLemmas.{all_weaker, all_append, all_filter}
 use Rattle.run_laws.proofs.ChangedLemmas.{one_more_set, append_none}
 use Rattle.run_laws.proofs.RanLemmas.{Meets_nobody}
-use Rattle.run_laws.proofs.FreeKeyLemmas.{written_free}
+use Rattle.stmt_run.proofs.Free.{written_free}
 use Rattle.run_laws.proofs.HoldLemmas.{held_filtered, written_again, doubted_again, doubt_is_written, still_doubted, kept_by_other, kept_by_writer, keys_taken, keys_leave, doubt_holds, doubt_leaves}
 use Rattle.run_laws.proofs.DistinctLemmas.{distinct_keys, distinct_filter, distinct_doubt, let_go}
 
@@ -167,7 +167,7 @@ module _ (locks : List Lock) (owns : List Owned) (ds : List Doubt) (now : KeysHe
 
     free_keys : AllByRecursion (λ key. other_holder locks me t.name key ≡ None) keys
     free_keys = subst (λ b. AllByRecursion (λ key. other_holder locks b t.name key ≡ None) keys) it
-        (subst (λ ls. AllByRecursion (λ key. other_holder ls g.me t.name key ≡ None) keys) lock (written_free g s t (tables_have_one_key t one) (rows_are_keyed t g.view are_rows) nobody))
+        (subst (λ ls. AllByRecursion (λ key. other_holder ls g.me t.name key ≡ None) keys) lock (written_free g t s (tables_have_one_key t one) (rows_are_keyed t g.view are_rows) nobody))
 
     new_held : AreHeld (is_written_by me) taken_now cs
     new_held = held_of (is_written_by me) taken_now t.name cs

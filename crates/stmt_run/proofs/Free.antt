@@ -79,18 +79,22 @@ module _ (g : Ground) (t : Table) where
   meant_free keys (meants.Changes d n cs) r free e = within_free (space_refusal g cs) d cs keys r free e
 
   module _ (s : Stmt) (one : HasOneKey t) (keyed : AreKeyed t g.view) where
+    -- each key that an accepted run writes is free, or the branch's own
+    pub written_free : else_refuse (in_doubt_refusal g t (examined s t g.view (keys_held g.locks t.name))) (locked_refusal g t (written s t g.view)) ≡ None
+        → AllByRecursion (IsFree g.locks g.me t.name) (written s t g.view)
+    written_free none =
+        let refused = neither (in_doubt_refusal g t (examined s t g.view (keys_held g.locks t.name))) (locked_refusal g t (written s t g.view)) none in
+        let doubt = none_of (doubt_on g.locks t.name) (examined s t g.view (keys_held g.locks t.name)) (nobody 1591 _ refused.0) in
+        let live = none_of (hold_on g.locks g.me t.name) (written s t g.view) (nobody 2049 _ refused.1) in
+        free_each g.locks g.me t.name (written s t g.view)
+        (written_examined (λ (key : Value). doubt_on g.locks t.name key ≡ None) s t g.view (keys_held g.locks t.name) one keyed doubt) live
+
     locked_free : (o : Option Refusal) (r : Ran)
         → else_refuse (in_doubt_refusal g t (examined s t g.view (keys_held g.locks t.name))) (locked_refusal g t (written s t g.view)) ≡ o
         → ran_locked g s t o ≡ r → IsSafe r
     locked_free (Some x) r is e = subst IsSafe e tt
     locked_free None r is e =
-        let refused = neither (in_doubt_refusal g t (examined s t g.view (keys_held g.locks t.name))) (locked_refusal g t (written s t g.view)) is in
-        let doubt = none_of (doubt_on g.locks t.name) (examined s t g.view (keys_held g.locks t.name)) (nobody 1591 _ refused.0) in
-        let live = none_of (hold_on g.locks g.me t.name) (written s t g.view) (nobody 2049 _ refused.1) in
-        let free =
-        free_each g.locks g.me t.name (written s t g.view)
-        (written_examined (λ (key : Value). doubt_on g.locks t.name key ≡ None) s t g.view (keys_held g.locks t.name) one keyed doubt) live in
-        meant_free (written s t g.view) (meant_over s t g.view) r (All-from_recursion (IsFree g.locks g.me t.name) (written s t g.view) free) e
+        meant_free (written s t g.view) (meant_over s t g.view) r (All-from_recursion (IsFree g.locks g.me t.name) (written s t g.view) (written_free is)) e
 
     checked_free : (o : Option Refusal) (r : Ran) → ran_checked g s t o ≡ r → IsSafe r
     checked_free (Some x) r e = subst IsSafe e tt

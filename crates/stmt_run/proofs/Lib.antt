@@ -1,5 +1,5 @@
 pub mod Examined
 pub mod Free
-mod Lengths
-mod Doubts
+pub mod Lengths
+pub mod Doubts
 pub mod StoreLaws

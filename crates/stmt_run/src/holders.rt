@@ -87,8 +87,8 @@ pub fn first_in_doubt(locks: &Locks, table: &Name, keys: &[Value]) -> Option<Bra
     None
 }
 
-// The branch that holds the first key that another live branch holds.
-fn first_holder(locks: &Locks, me: &BranchId, table: &Name, keys: &[Value]) -> Option<BranchId>
+/// The branch that holds the first key that another live branch holds.
+pub fn first_holder(locks: &Locks, me: &BranchId, table: &Name, keys: &[Value]) -> Option<BranchId>
     ensures { result ≡ first_some (map (hold_on_of locks.now me.now table.now) keys.now) }
 {
     for key in keys {

@@ -6,10 +6,10 @@
 #![tactic(auto)]
 
 mod deciding;
-mod holders;
+pub mod holders;
 pub mod laws;
 mod ran;
-mod refusal;
+pub mod refusal;
 mod running;
 mod sight;
 mod site;

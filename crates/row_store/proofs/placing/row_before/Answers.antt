@@ -18,6 +18,6 @@ pub returns-in-None : goal.returns-in-None
 returns-in-None c =
     let rows = rows_in c.args.tables.now in
     let change = c.args.change.now in
-    c.get.ensures
+    c.get.ensures.row
     ∙ ap (λ last. unwrap_or last (get (rows_of_table rows change.table) change.key)) c.in-None.ensures
     ∙ got_after change.table (changes_in c.args.made.now) rows change.key c.requires
