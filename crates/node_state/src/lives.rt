@@ -60,6 +60,13 @@ impl Lives {
         self.lives.get(&BranchKey::of(branch))
     }
 
+    /// All of them, in the order in which they began.
+    pub fn as_slice(&self) -> &[Live]
+        ensures { result.now ≡ self.now }
+    {
+        self.lives.values().as_slice()
+    }
+
     /// A branch of a new id begins, behind the others. Fails where memory runs out.
     pub fn begin(&mut self, live: Live) -> Result<(), AllocError>
         requires new { item_at live_id self.old live.me ≡ None }

@@ -1,0 +1,6 @@
+mod PartLaws
+mod SealLaws
+mod ReplayLaws
+mod DoubtLaws
+mod StartLaws
+mod AckLaws

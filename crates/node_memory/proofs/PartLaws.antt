@@ -1,0 +1,64 @@
+-- The parts of memory after one more record.
+use Rattle.std.proofs.Common.{◌≡◌, ℕ, List, Option, Some, None, refl, sym, ap, ◌∙◌}
+use Rattle.catalog.specs.Catalog.{Listed}
+use Rattle.row_store.specs.declared.pending.Doubt.{Doubt}
+use Rattle.row_store.specs.Store.{Contents, held_back}
+use Rattle.redo_record.specs.Data.{RedoRecord, Standing, Durable}
+use Rattle.redo_record.specs.Data.records
+use Rattle.redo_record.specs.Data.params
+use Rattle.redo_record.specs.Durable.{durable_after}
+use Rattle.redo_record.specs.Kept.{kept_after}
+use Rattle.node_memory.specs.Parts.{listed_in}
+use Rattle.node_rules.specs.Kept.{Kept}
+use Rattle.node_memory.specs.After.{boot_after, strength_after, catalog_after, store_after, with_stored}
+use Rattle.node_rules.specs.Records.{held_back as held_back_of, applied, scn_after}
+
+-- what a branch in doubt holds back is the same to the store and to the rules
+pub held_alike : (d : Option Doubt) → held_back d ≡ held_back_of d
+held_alike None = refl
+held_alike (Some d) = refl
+
+-- what records leave of a node but its rows, by the parts of memory
+abbrev pub durable_of : ℕ → Option ℕ → Listed → List Standing → Durable
+durable_of boot strength c ks = record { boot = boot; recovery = c.recovery; tables = c.tables; links = c.links; synonyms = c.synonyms; kept = ks; strength = strength }
+
+durable_by_parts : (d : Durable) (r : RedoRecord) → durable_after d r ≡ durable_of (boot_after d.boot r) (strength_after d.strength r) (catalog_after (listed_in d) r) (kept_after d.kept r)
+unfolding durable_after kept_after
+durable_by_parts d (records.Boot n) = refl
+durable_by_parts d (records.Table t) = refl
+durable_by_parts d (records.Link l) = refl
+durable_by_parts d (records.Synonym y) = refl
+durable_by_parts d (records.Param (params.Recovery on)) = refl
+durable_by_parts d (records.Param (params.Strength strength)) = refl
+durable_by_parts d (records.Sealed r) = refl
+durable_by_parts d (records.Decided r) = refl
+durable_by_parts d (records.Ended b o) = refl
+durable_by_parts d (records.Forced b o given) = refl
+durable_by_parts d (records.Met b o mixed) = refl
+durable_by_parts d (records.Forgot b) = refl
+durable_by_parts d (records.Hidden b) = refl
+
+-- the rows of a node, with so many undo extents
+abbrev pub contents_in : Kept → ℕ → Contents
+contents_in k extents = record { rows = k.stored.rows; owns = k.owns; doubts = k.stored.doubts; extents = extents }
+
+-- what a node keeps, with these parts
+abbrev pub with_all : Kept → ℕ → Option ℕ → Listed → Contents → ℕ → List Standing → Kept
+with_all k boot strength c t scn ks = record k { stored = record { durable = durable_of boot strength c ks; rows = t.rows; doubts = t.doubts; scn = scn }; owns = t.owns }
+
+-- when each part has the record, so has what is stored
+pub applied_taken : (k : Kept) (r : RedoRecord) (extents boot : ℕ) (strength : Option ℕ) (c : Listed) (t : Contents) (scn : ℕ) (ks : List Standing)
+    → boot ≡ boot_after k.stored.durable.boot r → strength ≡ strength_after k.stored.durable.strength r → c ≡ catalog_after (listed_in k.stored.durable) r
+    → t ≡ store_after (contents_in k extents) r → scn ≡ scn_after k.stored.scn r → ks ≡ kept_after k.stored.durable.kept r
+    → with_all k boot strength c t scn ks ≡ with_stored k (applied k.stored r)
+unfolding applied
+applied_taken k r extents boot strength c t scn ks boots strengths lists stores numbers rows =
+    let d = k.stored.durable in
+    let s = store_after (contents_in k extents) r in
+    ap (λ x. with_all k x strength c t scn ks) boots
+    ∙ ap (λ x. with_all k (boot_after d.boot r) x c t scn ks) strengths
+    ∙ ap (λ x. with_all k (boot_after d.boot r) (strength_after d.strength r) x t scn ks) lists
+    ∙ ap (λ x. with_all k (boot_after d.boot r) (strength_after d.strength r) (catalog_after (listed_in d) r) x scn ks) stores
+    ∙ ap (λ x. with_all k (boot_after d.boot r) (strength_after d.strength r) (catalog_after (listed_in d) r) s x ks) numbers
+    ∙ ap (λ x. with_all k (boot_after d.boot r) (strength_after d.strength r) (catalog_after (listed_in d) r) s (scn_after k.stored.scn r) x) rows
+    ∙ ap (λ x. with_stored k (record { durable = x; rows = s.rows; doubts = s.doubts; scn = scn_after k.stored.scn r })) (sym (durable_by_parts d r))

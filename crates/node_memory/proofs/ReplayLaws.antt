@@ -1,0 +1,35 @@
+-- Records that become part of what is stored, one after the other.
+use Rattle.std.proofs.Common.{◌≡◌, ℕ, zero, suc, ◌+◌, ◌<◌, List, [], ◌∷◌, ◌++◌, length, take, drop, slice_index_or, refl, ap, subst, ◌∙◌, arith}
+use Rattle.std.proofs.lemmas.List.{take_more}
+use Rattle.node_rules.specs.Data.{RedoRecord}
+use Rattle.node_rules.specs.Kept.{Stored}
+use Rattle.node_rules.specs.Records.{applied, stored_by}
+use Rattle.node_memory.specs.Following.{MayFollow, MayAllFollow}
+
+pub stored_none : (s : Stored) → stored_by s [] ≡ s
+unfolding stored_by
+stored_none s = refl
+
+stored_push : (s : Stored) (rs : List RedoRecord) (r : RedoRecord) → stored_by s (rs ++ r ∷ []) ≡ applied (stored_by s rs) r
+unfolding stored_by
+stored_push s [] r = refl
+stored_push s (x ∷ rs) r = stored_push (applied s x) rs r
+
+pub stored_more : (s : Stored) (rs : List RedoRecord) (i : ℕ) (r : RedoRecord) → i < length rs → slice_index_or rs i r ≡ r → stored_by s (take (i + 1) rs) ≡ applied (stored_by s (take i rs)) r
+stored_more s rs i r low is = ap (stored_by s) (take_more rs i r low ∙ ap (λ (x : RedoRecord). take i rs ++ x ∷ []) is) ∙ stored_push s (take i rs) r
+
+first_follows : (s : Stored) (rs : List RedoRecord) (i : ℕ) (r : RedoRecord) → i < length rs → slice_index_or rs i r ≡ r → MayAllFollow s (drop i rs) → MayFollow s r × MayAllFollow (applied s r) (drop (suc i) rs)
+unfolding MayAllFollow
+first_follows s [] i r low is follow = absurd (omega (arith, low))
+first_follows s (x ∷ rs) zero r low is follow = subst (λ y. MayFollow s y × MayAllFollow (applied s y) rs) is follow
+first_follows s (x ∷ rs) (suc i) r low is follow = first_follows s rs i r (omega (arith, low)) is follow
+
+pub follows_now : (s : Stored) (rs : List RedoRecord) (i : ℕ) (r : RedoRecord) → i < length rs → slice_index_or rs i r ≡ r → MayAllFollow s (drop i rs) → MayFollow s r
+follows_now s rs i r low is follow = (first_follows s rs i r low is follow).0
+
+pub follow_then : (s : Stored) (rs : List RedoRecord) (i : ℕ) (r : RedoRecord) → i < length rs → slice_index_or rs i r ≡ r → MayAllFollow s (drop i rs) → MayAllFollow (applied s r) (drop (i + 1) rs)
+follow_then s rs i r low is follow =
+    let next : suc i ≡ i + 1 = omega arith in
+    subst (λ (n : ℕ). MayAllFollow (applied s r) (drop n rs)) next (first_follows s rs i r low is follow).1
+
+pub ruleset replays = (stored_none, stored_more, follows_now, follow_then)

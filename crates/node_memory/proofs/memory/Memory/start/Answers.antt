@@ -1,0 +1,27 @@
+use Rattle.std.proofs.Common.{◌≡◌, [], sym, ap, subst, ◌∙◌}
+use Rattle.std.specs.Prelude.{fold}
+use Rattle.node_rules.specs.Kept.{Kept}
+use Rattle.node_rules.specs.Records.{nothing_stored, stored_by}
+use Rattle.node_rules.specs.Turn.{with_doubt_of, kept_by}
+use Rattle.node_memory.specs.Parts.{stored_in, kept_in}
+use Rattle.node_memory.specs.After.{with_stored}
+use Rattle.node_memory.specs.Following.{MayAllFollow}
+use Rattle.node_memory.specs.Doubts.{with_keys_of}
+use Rattle.node_memory.proofs.DoubtLaws.{locks_at_start}
+use Rattle.node_memory.proofs.StartLaws.{started}
+use Rattle.node_memory.proofs.memory.Memory.start.Goals as goal
+
+pub replay-requires : goal.replay-requires
+replay-requires c = subst (λ (k : Kept). MayAllFollow k.stored c.args.records.now) (sym c.requires.none) c.requires.follow
+
+pub returns-clause-kept : goal.returns-clause-kept
+returns-clause-kept c =
+    let rs = c.args.records.now in
+    let m = kept_in c.replay.new.self in
+    let is : m ≡ with_stored (kept_by nothing_stored) (stored_by nothing_stored rs) =
+      c.in_ok-replay.ensures.kept ∙ ap (λ (k : Kept). with_stored k (stored_by k.stored rs)) c.requires.none in
+    let keys = c.in_ok-hold_all.ensures
+      ∙ ap (λ ls. fold (λ held r. with_keys_of held r.now) ls c.in_ok-doubts.doubts.items) (ap (λ (k : Kept). k.locks) is)
+      ∙ locks_at_start (λ r. r.now) c.in_ok-doubts.doubts.items rs c.in_ok-doubts.ensures
+      ∙ sym (ap (λ (k : Kept). fold with_doubt_of k.locks k.stored.doubts) is) in
+    started m rs c.meet.new.self c.hold_all.new.locks is c.meet.ensures keys

@@ -1,0 +1,11 @@
+-- What an Ack makes of what a node keeps.
+use Rattle.std.specs.Prelude.{if◌then◌else◌, Option, Some, None}
+use Rattle.tran_ids.specs.declared.branch.BranchId.{BranchId}
+use Rattle.redo_record.specs.declared.durable.Standing.{Standing}
+use Rattle.node_rules.specs.Kept.{Kept, with_standing}
+use Rattle.node_rules.specs.Commit.{ack_counts, acked_by}
+
+-- an Ack that counts is noted in the row of the branch that hears it
+abbrev pub with_ack : Kept → BranchId → Option Standing → Kept
+with_ack k from None = k
+with_ack k from (Some s) = if ack_counts s from then with_standing k (acked_by s from) else k

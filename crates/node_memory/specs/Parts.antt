@@ -1,0 +1,44 @@
+-- What a node keeps, by the parts of its memory.
+use Rattle.std.specs.Prelude.{◌≡◌}
+use Rattle.catalog.specs.Catalog.{Listed}
+use Rattle.node_rules.specs.Data.{Durable}
+use Rattle.node_rules.specs.Kept.{Stored, Kept}
+use Rattle.node_memory.specs.declared.memory.Memory.{Memory}
+
+-- what its records give
+abbrev pub stored_in : Memory → Stored
+stored_in m = record {
+  durable = record {
+    boot = m.boot;
+    recovery = m.catalog.recovery;
+    tables = m.catalog.tables;
+    links = m.catalog.links;
+    synonyms = m.catalog.synonyms;
+    kept = m.kept;
+    strength = m.strength;
+  };
+  rows = m.store.rows;
+  doubts = m.store.doubts;
+  scn = m.scn;
+}
+
+-- and what a stop loses
+abbrev pub kept_in : Memory → Kept
+kept_in m = record {
+  stored = stored_in m;
+  owns = m.store.owns;
+  lives = m.lives;
+  works = m.works;
+  locks = m.locks;
+  clock = m.clock;
+  opens = m.opens;
+  sessions = m.sessions;
+}
+
+-- the store has the undo extents of the node's place: true of every Memory
+abbrev pub HasOwnUndo : Memory → Type 0
+HasOwnUndo m = m.store.extents ≡ m.place.undo
+
+-- the catalog that records leave
+abbrev pub listed_in : Durable → Listed
+listed_in d = record { recovery = d.recovery; tables = d.tables; links = d.links; synonyms = d.synonyms }

@@ -1,0 +1,25 @@
+//! What a node keeps in memory: all that its records give, which a start makes again from the disk, and all that a stop loses.
+//!
+//! - Questions: `live_at`, `work_at`, `branch_at`, `standing_at`, `stand_of`. They lend what stands in memory.
+//! - Changes without a record: `raise`, `drop_branch`, `drop_read_keys`, `put_standing`, `hear_ack`.
+//! - Records: `take_in` for any record; `seal` and `decide` for that of a live branch, which leaves.
+//! - A start: `rebuild`.
+//!
+//! Each is exact by the rules' definition of its name, over the rules' `Kept` as `kept_in` sees it. A node's place and its undo
+//! extents never change. A call fails where memory runs out, and for no other reason; a node whose call has failed is used no
+//! more, except where the call says that nothing has changed.
+#![tactic(auto)]
+
+mod acks;
+mod branches;
+mod deciding;
+mod doubts;
+mod leaving;
+mod memory;
+mod parts;
+mod records;
+mod sealing;
+mod start;
+
+pub use branches::{LiveBranch, Stand};
+pub use memory::Memory;
