@@ -6,9 +6,11 @@ use Rattle.tran_ids.specs.Listed.{item_at}
 use Rattle.catalog.specs.Catalog.{is_used}
 use Rattle.session_tree.specs.Live.{new_edge, next_edge}
 use Rattle.session_tree.specs.Tree.{count}
-use Rattle.node_rules.specs.Data.{Answer, Edge, Going, Stmt, Waits}
+use Rattle.node_rules.specs.Data.{Answer, Edge, Stmt}
+use Rattle.node_rules.specs.declared.work.Going.{Going}
+use Rattle.node_rules.specs.declared.work.Waits.{Waits}
 use Rattle.node_rules.specs.Data.answers
-use Rattle.node_rules.specs.Data.waiting
+use Rattle.node_rules.specs.declared.work.Waits.TheVariants as waiting
 use Rattle.node_rules.specs.Kept.{Kept, Branch, Deed, live_id, nothing}
 use Rattle.node_rules.specs.Ids.{decimal}
 use Rattle.node_rules.specs.Words.{one}

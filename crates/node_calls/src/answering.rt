@@ -1,7 +1,7 @@
 //! A statement at a live branch is answered: below the root by a Reply to the parent, at the root by the end of the session's
 //! call.
 ghost use Rattle.std.specs.Prelude.{◌≡◌, None, Some, [], ◌∷◌, IfOk, OnOk};
-ghost use Rattle.node_rules.specs.Data.pending;
+ghost use Rattle.node_rules.specs.declared.session.PendingCall.TheVariants as pending;
 ghost use Rattle.node_rules.specs.Kept.{branch_at, no_work as no_work_of};
 ghost use Rattle.node_rules.specs.Calls.{answered, replies as replies_of};
 ghost use Rattle.node_rules.specs.Sessions.{with_call};
@@ -22,7 +22,7 @@ use std::alloc::{AllocError, Global};
 use tran_ids::BranchId;
 
 /// The statement at a live branch is answered. Nothing where it is not live.
-#[tactic(auto, using(crate::proofs::Branches::nothing_so, crate::proofs::Deeds::client_answered, crate::proofs::Deeds::parent_answered))]
+#[tactic(auto, using(crate::proofs::BranchLaws::nothing_so, crate::proofs::DeedLaws::client_answered, crate::proofs::DeedLaws::parent_answered))]
 pub(crate) fn answer(
     memory: &mut Memory,
     alloc: Global,

@@ -22,7 +22,7 @@ use tran_ids::BranchId;
 
 /// INSERT, UPDATE, DELETE or SELECT in a session, at its root: a session without a transaction begins one first. ORA-02067 where
 /// the transaction can only be rolled back. Nothing where the session's root is not live.
-#[tactic(auto, using(crate::proofs::Beginning::rootless))]
+#[tactic(auto, using(crate::proofs::RootLaws::rootless))]
 pub fn statement_call(
     memory: &mut Memory,
     alloc: Global,
@@ -105,7 +105,7 @@ fn fresh_root(alloc: Global, memory: &Memory, root: BranchId) -> Live
 }
 
 // A statement of a session with this root.
-#[tactic(auto, using(crate::proofs::Beginning::statement_so, crate::proofs::Beginning::refused_so))]
+#[tactic(auto, using(crate::proofs::RootLaws::statement_so, crate::proofs::RootLaws::refused_so))]
 fn statement_in(
     memory: &mut Memory,
     alloc: Global,
@@ -128,7 +128,7 @@ fn statement_in(
 }
 
 // ORA-02067 at a live root, after an answer of this code.
-#[tactic(auto, using(crate::proofs::Beginning::nobody_refused, crate::proofs::Beginning::somebody_refused))]
+#[tactic(auto, using(crate::proofs::RootLaws::nobody_refused, crate::proofs::RootLaws::somebody_refused))]
 fn refuse_again(
     memory: &Memory,
     alloc: Global,

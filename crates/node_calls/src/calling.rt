@@ -16,7 +16,7 @@ use dtx_values::{Advice, Duplicate, Listing, Name};
 use node_deeds::{Deed, peer_of, post};
 use node_memory::Memory;
 use node_rules::PendingCall;
-use node_state::Sessions;
+use node_state::{Sessions, Works};
 use reco::Posts;
 use session_tree::{Live, room};
 use sql_statement::Stmt;
@@ -26,7 +26,7 @@ use wire_msg::Kind;
 
 /// A statement of a live branch goes on to the child of a number, from 1, with the room that its own Exec carried. Nothing
 /// where the branch is not live.
-#[tactic(auto, using(crate::proofs::Branches::nothing_so, crate::proofs::Deeds::called_so))]
+#[tactic(auto, using(crate::proofs::BranchLaws::nothing_so, crate::proofs::DeedLaws::called_so))]
 pub(crate) fn call_over(
     memory: &mut Memory,
     alloc: Global,
@@ -44,7 +44,16 @@ pub(crate) fn call_over(
         return Ok(Deed::nothing(alloc));
     };
     let passed = statement.copy(alloc)?;
-    let says = exec_over(alloc, memory, branch, live, number, passed, given)?;
+    let says = exec_over(
+        alloc,
+        &memory.sessions,
+        &memory.works,
+        branch,
+        live,
+        number,
+        passed,
+        given,
+    )?;
     pend(&mut memory.sessions, live);
     memory
         .works
@@ -54,7 +63,7 @@ pub(crate) fn call_over(
 
 /// A link is used for the first time: Open goes to its node, and the statement of a live branch waits. Nothing where the
 /// branch is not live.
-#[tactic(auto, using(crate::proofs::Branches::nothing_so, crate::proofs::Deeds::opened_so))]
+#[tactic(auto, using(crate::proofs::BranchLaws::nothing_so, crate::proofs::DeedLaws::opened_so))]
 pub(crate) fn open_through(
     memory: &mut Memory,
     alloc: Global,
@@ -103,7 +112,8 @@ fn advice_of(sessions: &Sessions, live: &Live) -> Option<Advice>
 // The Exec to a child, with the room left and the advice.
 fn exec_over(
     alloc: Global,
-    memory: &Memory,
+    sessions: &Sessions,
+    works: &Works,
     branch: &BranchId,
     live: &Live,
     number: u8,
@@ -111,16 +121,16 @@ fn exec_over(
     given: u16,
 ) -> Result<Posts, AllocError>
     requires edges { length live.now.edges ≤ branch_limit }
-    requires numbers { next_call (work_of memory.now.works branch.now) number < 2 ^ 32 }
-    ensures { IfOk result (λ posts. posts ≡ exec_to memory.now.sessions (branch_with live.now (work_of memory.now.works branch.now)) number statement given (peer_of_number live.now number)) }
+    requires numbers { next_call (work_of works.now branch.now) number < 2 ^ 32 }
+    ensures { IfOk result (λ posts. posts ≡ exec_to sessions.now (branch_with live.now (work_of works.now branch.now)) number statement given (peer_of_number live.now number)) }
 {
     match peer_of(live, number) {
         None => Ok(Listing::new(alloc)),
         Some(peer) => {
             let kind = Kind::Exec {
-                call: memory.works.next_call(branch, number),
+                call: works.next_call(branch, number),
                 room: room(live, given),
-                advice: advice_of(&memory.sessions, live),
+                advice: advice_of(sessions, live),
                 statement,
             };
             post(alloc, live.me, peer, kind)

@@ -24,7 +24,7 @@ pub fn rollback_by(memory: &mut Memory, alloc: Global, session: u32) -> Result<D
     }
 }
 
-#[tactic(auto, using(crate::proofs::Deeds::rolled_back_so, crate::proofs::Deeds::none_to_roll_back))]
+#[tactic(auto, using(crate::proofs::DeedLaws::rolled_back_so, crate::proofs::DeedLaws::none_to_roll_back))]
 fn rollback_root(
     memory: &mut Memory,
     alloc: Global,

@@ -32,7 +32,7 @@ pub(crate) struct Waited {
 }
 
 /// Opened at a live branch: the statement that waits for this child goes on to it. Any other Opened is ignored.
-#[tactic(auto, using(crate::proofs::Branches::nothing_so, crate::proofs::Opened::opened_so, crate::proofs::Opened::opened_ignored, crate::proofs::Opened::child_added))]
+#[tactic(auto, using(crate::proofs::BranchLaws::nothing_so, crate::proofs::OpenedLaws::opened_so, crate::proofs::OpenedLaws::opened_ignored, crate::proofs::OpenedLaws::child_added))]
 pub(crate) fn on_opened(
     memory: &mut Memory,
     alloc: Global,

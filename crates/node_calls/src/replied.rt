@@ -32,7 +32,7 @@ pub(crate) struct Replier<'a> {
 
 /// Reply at a live branch: the one that is waited for is heard, and its result is the answer here too. Any other is ignored.
 /// Where a root hears that its child is gone, the answer names the link, and the transaction can only be rolled back.
-#[tactic(auto, using(crate::proofs::Branches::nothing_so, crate::proofs::Replied::reply_so, crate::proofs::Replied::reply_ignored, crate::proofs::Replied::heard_there))]
+#[tactic(auto, using(crate::proofs::BranchLaws::nothing_so, crate::proofs::ReplyLaws::reply_so, crate::proofs::ReplyLaws::reply_ignored, crate::proofs::ReplyLaws::heard_there))]
 pub(crate) fn on_reply(
     memory: &mut Memory,
     alloc: Global,
@@ -51,7 +51,7 @@ pub(crate) fn on_reply(
     let Some(live) = memory.lives.get(to) else {
         return Ok(Deed::nothing(alloc));
     };
-    let Some(replier) = replier(&memory.works, to, live, &from, call) else {
+    let Some(replier) = replying(&memory.works, to, live, &from, call) else {
         return Ok(Deed::nothing(alloc));
     };
     let number = replier.number;
@@ -73,7 +73,7 @@ fn hear_gone(sessions: &mut Sessions, live: &Live, answer: &Answer)
 
 // The child whose Reply to its last call this is, where the branch waits for it.
 #[tactic(auto, unfolding(node_rules::specs::Calls::reply_of))]
-fn replier<'a>(
+fn replying<'a>(
     works: &Works,
     branch: &BranchId,
     live: &'a Live,
@@ -84,23 +84,23 @@ fn replier<'a>(
 {
     match works.get(branch) {
         None => None,
-        Some(work) => replier_by(work, live, from, call),
+        Some(work) => replying_by(work, live, from, call),
     }
 }
 
-fn replier_by<'a>(work: &Work, live: &'a Live, from: &BranchId, call: u32) -> Option<Replier<'a>>
+fn replying_by<'a>(work: &Work, live: &'a Live, from: &BranchId, call: u32) -> Option<Replier<'a>>
     ensures { option_map replier_as result ≡ reply_going (branch_with live.now work.now) from.now call work.now.going }
 {
     match &work.going {
         None => None,
         Some(going) => match &going.waits {
             Waits::ForOpened(_) => None,
-            Waits::ForReply(number) => replier_at(work, live, from, call, *number),
+            Waits::ForReply(number) => replying_at(work, live, from, call, *number),
         },
     }
 }
 
-fn replier_at<'a>(
+fn replying_at<'a>(
     work: &Work,
     live: &'a Live,
     from: &BranchId,

@@ -29,7 +29,7 @@ use tran_ids::BranchId;
 
 /// A statement at a live branch, with the room that its Exec carried: it runs here, is refused, or goes on to a child, or over a
 /// link that is used for the first time. Nothing where the branch is not live.
-#[tactic(auto, using(crate::proofs::Branches::nothing_so))]
+#[tactic(auto, using(crate::proofs::BranchLaws::nothing_so))]
 pub(crate) fn statement_at(
     memory: &mut Memory,
     alloc: Global,
@@ -85,7 +85,7 @@ pub(crate) fn statement_at(
 }
 
 // Runs a statement over a table of the node, and notes whether the branch has made changes.
-#[tactic(auto, using(crate::proofs::Grounds::changes_is))]
+#[tactic(auto, using(crate::proofs::GroundLaws::changes_is))]
 fn run_over(
     alloc: Global,
     statement: &Stmt,

@@ -23,7 +23,7 @@ use std::alloc::{AllocError, Global};
 use tran_ids::BranchId;
 
 /// Exec: a live branch takes the call, a kept one ignores it, and a gone one refuses it with DTX-08.
-#[tactic(auto, using(crate::proofs::Turns::lives_so, crate::proofs::Turns::exec_kept, crate::proofs::Turns::exec_gone))]
+#[tactic(auto, using(crate::proofs::TurnLaws::lives_so, crate::proofs::TurnLaws::exec_kept, crate::proofs::TurnLaws::exec_gone))]
 pub fn exec_turn(
     memory: &mut Memory,
     alloc: Global,
@@ -53,7 +53,7 @@ pub fn exec_turn(
 }
 
 /// Opened, which only a live branch hears.
-#[tactic(auto, using(crate::proofs::Turns::opened_alike))]
+#[tactic(auto, using(crate::proofs::TurnLaws::opened_alike))]
 pub fn opened_turn(
     memory: &mut Memory,
     alloc: Global,
@@ -73,7 +73,7 @@ pub fn opened_turn(
 }
 
 /// Reply, which only a live branch hears.
-#[tactic(auto, using(crate::proofs::Turns::reply_alike))]
+#[tactic(auto, using(crate::proofs::TurnLaws::reply_alike))]
 pub fn reply_turn(
     memory: &mut Memory,
     alloc: Global,

@@ -10,10 +10,10 @@ use Rattle.node_state.specs.Lives.{changed_by}
 use Rattle.node_deeds.specs.Gives.{Gives}
 use Rattle.node_memory.specs.Parts.{kept_in, stored_in}
 use Rattle.node_calls.specs.Handled.{at_live}
-use Rattle.node_calls.proofs.Branches.{few_changed}
-use Rattle.node_calls.proofs.Grounds.{at_store, ran_here}
-use Rattle.node_calls.proofs.Routed.{over_so, refused_so, through_so}
-use Rattle.node_calls.proofs.Tables.{has_key, rows_kept, rows_seen}
+use Rattle.node_calls.proofs.BranchLaws.{few_changed}
+use Rattle.node_calls.proofs.GroundLaws.{at_store, ran_here}
+use Rattle.node_calls.proofs.WayLaws.{over_so, refused_so, through_so}
+use Rattle.node_calls.proofs.TableLaws.{has_key, rows_kept, rows_seen}
 use Rattle.node_calls.proofs.routing.statement_at.Goals as goal
 
 -- ---- it runs here

@@ -4,8 +4,10 @@ use Rattle.tran_ids.specs.declared.branch.BranchId.{BranchId}
 use Rattle.tran_ids.specs.Listed.{item_at, put_item, set_numbered}
 use Rattle.tran_ids.proofs.ListedLemmas.{item_is, put_found}
 use Rattle.session_tree.specs.Live.{edge_at}
-use Rattle.node_rules.specs.Data.{Live, Edge, Answer, Going, Waits}
-use Rattle.node_rules.specs.Data.waiting
+use Rattle.node_rules.specs.Data.{Live, Edge, Answer}
+use Rattle.node_rules.specs.declared.work.Going.{Going}
+use Rattle.node_rules.specs.declared.work.Waits.{Waits}
+use Rattle.node_rules.specs.declared.work.Waits.TheVariants as waiting
 use Rattle.node_rules.specs.declared.work.Work.{Work}
 use Rattle.node_rules.specs.Kept.{Kept, Branch, Deed as DeedByRules, nothing, live_id, work_id, branch_at}
 use Rattle.node_rules.specs.Calls.{answered, answered_sessions, answer_ends, answer_says, heard_answer, heard_sessions, on_reply, reply_by, reply_edge, reply_going, reply_of, reply_waits, with_answer}
@@ -15,7 +17,7 @@ use Rattle.node_state.specs.Works.{work_of}
 use Rattle.node_deeds.specs.declared.deed.Deed.{Deed}
 use Rattle.node_deeds.specs.Gives.{Gives}
 use Rattle.node_calls.specs.Handled.{at_live}
-use Rattle.node_calls.proofs.Branches.{put_twice, branch_here, changed_there, somebody}
+use Rattle.node_calls.proofs.BranchLaws.{put_twice, branch_here, changed_there, somebody}
 
 found_if : (x : Branch) (i j : ℕ) (e f : Edge) (hit : Bool) → edge_at x.live j ≡ Some f → (if hit then Some (j, f) else None) ≡ Some (i, e) → edge_at x.live i ≡ Some e
 found_if x i j e f true there found = let it : (j, f) ≡ (i, e) = cc in ap (edge_at x.live) (sym (ap (λ q. q.0) it)) ∙ there ∙ ap (λ q. Some q.1) it

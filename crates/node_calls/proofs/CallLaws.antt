@@ -18,8 +18,8 @@ use Rattle.node_state.specs.Works.{change_work, with_call_taken, work_of}
 use Rattle.node_deeds.specs.declared.deed.Deed.{Deed}
 use Rattle.node_deeds.specs.Gives.{Gives}
 use Rattle.node_calls.specs.Handled.{at_live}
-use Rattle.node_calls.proofs.Branches.{branch_here, changed_twice, found_changed, somebody, work_branch}
-use Rattle.node_calls.proofs.Opened.{calls_again}
+use Rattle.node_calls.proofs.BranchLaws.{branch_here, changed_twice, found_changed, somebody, work_branch}
+use Rattle.node_calls.proofs.OpenedLaws.{calls_again}
 
 -- a statement is answered the same where its branch was put in its place before
 answered_twice : (k : Kept) (x y : Branch) (a : Answer) → x.live.me ≡ y.live.me → x.work.branch ≡ y.work.branch → answered (with_branch k x) y a ≡ answered k y a

@@ -5,9 +5,11 @@ use Rattle.tran_ids.specs.declared.branch.BranchId.{BranchId}
 use Rattle.tran_ids.specs.Listed.{item_at}
 use Rattle.tran_ids.proofs.ListedLemmas.{item_is}
 use Rattle.session_tree.specs.Live.{add_edge, new_edge, next_edge}
-use Rattle.node_rules.specs.Data.{Live, Stmt, Going, Waits}
+use Rattle.node_rules.specs.Data.{Live, Stmt}
+use Rattle.node_rules.specs.declared.work.Going.{Going}
+use Rattle.node_rules.specs.declared.work.Waits.{Waits}
 use Rattle.node_rules.specs.declared.work.Work.{Work}
-use Rattle.node_rules.specs.Data.waiting
+use Rattle.node_rules.specs.declared.work.Waits.TheVariants as waiting
 use Rattle.node_rules.specs.Kept.{Kept, Branch, Deed as DeedByRules, nothing, live_id, branch_at, with_branch}
 use Rattle.node_rules.specs.Calls.{call_pends, called, calls_over, exec_to, on_opened, opened_going, opened_waits, with_edge}
 use Rattle.session_tree.specs.Live.{peer_of}
@@ -17,7 +19,7 @@ use Rattle.node_deeds.specs.declared.deed.Deed.{Deed}
 use Rattle.node_deeds.specs.Gives.{Gives}
 use Rattle.node_calls.specs.declared.opened.Waited.{Waited}
 use Rattle.node_calls.specs.Handled.{at_live, goes_on, waited_for, waits_for}
-use Rattle.node_calls.proofs.Branches.{work_branch, branch_here, somebody, found_changed, changed_twice, calls_changed}
+use Rattle.node_calls.proofs.BranchLaws.{work_branch, branch_here, somebody, found_changed, changed_twice, calls_changed}
 
 -- what a branch does with what waited for its child, and nothing where nothing did
 abbrev goes_if : Kept → Branch → BranchId → ℕ → Option Waited → DeedByRules

@@ -16,8 +16,8 @@ use Rattle.node_state.specs.Works.{work_of}
 use Rattle.node_deeds.specs.declared.deed.Deed.{Deed}
 use Rattle.node_deeds.specs.Gives.{Gives}
 use Rattle.node_calls.specs.Handled.{at_live}
-use Rattle.node_calls.proofs.Branches.{branch_here, somebody}
-use Rattle.node_calls.proofs.Replied.{answered_again}
+use Rattle.node_calls.proofs.BranchLaws.{branch_here, somebody}
+use Rattle.node_calls.proofs.ReplyLaws.{answered_again}
 
 module _ (p : Place) (k : Kept) (b : BranchId) (l : Live) (is : item_at live_id k.lives b ≡ Some l) (s : Stmt) (given : ℕ) where
   by_way : (way : Way) → way_of p k.stored.durable l given s ≡ way → at_live k (λ x. statement_at p k x s given) (branch_at k b) ≡ goes p k (branch_here k b l) s given way

@@ -19,7 +19,7 @@ use Rattle.node_deeds.specs.Gives.{Gives}
 use Rattle.node_memory.specs.declared.memory.Memory.{Memory}
 use Rattle.node_memory.specs.Parts.{kept_in, stored_in, HasOwnUndo}
 use Rattle.node_calls.specs.Handled.{at_live, did_changes}
-use Rattle.node_calls.proofs.Routed.{ran_so}
+use Rattle.node_calls.proofs.WayLaws.{ran_so}
 
 -- what live branches have changed after a run
 owns_is : (owns : List Owned) (b : BranchId) (rows : List Keyed) (r : Ran) → owns_after_store owns b rows r ≡ owns_after owns b rows r

@@ -4,7 +4,8 @@ use Rattle.tran_ids.specs.declared.branch.BranchId.{BranchId}
 use Rattle.tran_ids.specs.Branch.{same}
 use Rattle.tran_ids.specs.Listed.{item_at}
 use Rattle.session_tree.specs.Tree.{count}
-use Rattle.node_rules.specs.Data.{Place, Live, Session, Stmt}
+use Rattle.node_rules.specs.Data.{Place, Live, Stmt}
+use Rattle.node_rules.specs.declared.session.Session.{Session}
 use Rattle.node_rules.specs.Ids.{decimal}
 use Rattle.node_rules.specs.Words.{one}
 use Rattle.node_rules.specs.Refusals.{ora}

@@ -7,7 +7,7 @@ use Rattle.node_rules.specs.Data.{Live, Answer, Stmt}
 use Rattle.node_rules.specs.Data.answers
 use Rattle.node_rules.specs.Data.dones
 use Rattle.node_rules.specs.Data.kinds
-use Rattle.node_rules.specs.Data.pending
+use Rattle.node_rules.specs.declared.session.PendingCall.TheVariants as pending
 use Rattle.node_rules.specs.Kept.{Kept, Branch, Deed as DeedByRules, live_id, work_id, with_work, branch_at, without_branch, nothing, ending, post}
 use Rattle.sql_check.specs.Words.{one}
 use Rattle.sql_check.specs.Refusals.{dtx}
@@ -20,7 +20,7 @@ use Rattle.node_state.specs.Works.{answered_with, called_over, change_work, give
 use Rattle.node_deeds.specs.declared.deed.Deed.{Deed}
 use Rattle.node_deeds.specs.Gives.{Gives}
 use Rattle.node_calls.specs.Handled.{at_live}
-use Rattle.node_calls.proofs.Branches.{put_back, branch_here, somebody}
+use Rattle.node_calls.proofs.BranchLaws.{put_back, branch_here, somebody}
 
 -- a deed of the rules, from its parts
 pub gives_so : (d e : DeedByRules) (after : Kept) (deed : Deed) → d ≡ e → after ≡ e.after → deed ≡ record { wrote = e.wrote; says = e.says; ended = e.ended } → Gives d after deed
