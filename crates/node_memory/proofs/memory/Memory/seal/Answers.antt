@@ -17,4 +17,4 @@ returns-clause-kept c =
     let changes : c.as_slice.result.now ≡ r.changes = search rules in
     subst (λ x. (record (kept_in c.drop_branch.new.self) { locks = c.hold_in_doubt.new.locks }) ≡ with_record (without_branch k b) x) (sym c.in-Sealed.is)
     (sealed_taken k (kept_in c.drop_branch.new.self) b r c.seal.new.self c.args.self.now.store.extents c.apply.new.self c.meet.new.self c.hold_in_doubt.new.locks own.0 own.1 rows
-      c.in_ok-seal.ensures.ok c.meet.ensures c.drop_branch.ensures.kept (c.in_ok-hold_in_doubt.ensures ∙ ap (with_doubt c.drop_branch.new.self.locks b) changes))
+    c.in_ok-seal.ensures.ok c.meet.ensures c.drop_branch.ensures.kept (c.in_ok-hold_in_doubt.ensures ∙ ap (with_doubt c.drop_branch.new.self.locks b) changes))
