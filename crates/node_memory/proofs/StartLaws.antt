@@ -1,9 +1,9 @@
 -- What a node keeps after a record, and after a start, put together from the parts of its memory.
-use Rattle.std.proofs.Common.{◌≡◌, ℕ, max, List, [], refl, sym, ap, ◌∙◌, arith}
+use Rattle.std.proofs.Common.{◌≡◌, ℕ, max, List, ap, ◌∙◌, arith}
 use Rattle.std.specs.Prelude.{fold}
 use Rattle.row_locks.specs.Locks.{Lock}
 use Rattle.node_rules.specs.Data.{RedoRecord}
-use Rattle.node_rules.specs.Kept.{Stored, Kept}
+use Rattle.node_rules.specs.Kept.{Kept}
 use Rattle.node_rules.specs.Records.{nothing_stored, applied, stored_by, locks_after, with_record}
 use Rattle.node_rules.specs.Turn.{with_doubt_of, kept_by, start_of}
 use Rattle.node_memory.specs.After.{with_stored}

@@ -1,5 +1,4 @@
 use Rattle.std.proofs.Common.{◌≡◌, sym, ap, subst, ◌∙◌}
-use Rattle.node_rules.specs.Kept.{standing_at}
 use Rattle.node_memory.specs.Parts.{kept_in}
 use Rattle.node_memory.specs.Acks.{with_ack}
 use Rattle.node_memory.proofs.AckLaws.{acked_me, stays_kept, with_rows, acked_is}

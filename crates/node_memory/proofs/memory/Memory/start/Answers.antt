@@ -1,9 +1,9 @@
-use Rattle.std.proofs.Common.{◌≡◌, max, [], sym, ap, subst, ◌∙◌, rules}
+use Rattle.std.proofs.Common.{◌≡◌, max, sym, ap, subst, ◌∙◌, rules}
 use Rattle.std.specs.Prelude.{fold}
 use Rattle.node_rules.specs.Kept.{Kept}
 use Rattle.node_rules.specs.Records.{nothing_stored, stored_by}
 use Rattle.node_rules.specs.Turn.{with_doubt_of, kept_by}
-use Rattle.node_memory.specs.Parts.{stored_in, kept_in}
+use Rattle.node_memory.specs.Parts.{kept_in}
 use Rattle.node_memory.specs.After.{with_stored}
 use Rattle.node_memory.specs.Following.{MayAllFollow}
 use Rattle.node_memory.specs.Doubts.{with_keys_of}
