@@ -1,5 +1,5 @@
 -- A row that is put back after an Ack.
-use Rattle.std.proofs.Common.{◌≡◌, Bool, true, false, if◌then◌else◌, List, [], ◌∷◌, Option, Some, None, refl, sym, ap, subst, ◌∙◌}
+use Rattle.std.proofs.Common.{◌≡◌, Bool, true, false, if◌then◌else◌, List, [], ◌∷◌, Some, refl, sym, ap, subst, ◌∙◌}
 use Rattle.std.specs.Prelude.{find, is_some}
 use Rattle.tran_ids.proofs.ListedLemmas.{item_is}
 use Rattle.tran_ids.specs.declared.branch.BranchId.{BranchId}

@@ -3,9 +3,9 @@ use Rattle.std.proofs.Common.{◌≡◌, ℕ, List, Option, Some, None, refl, sy
 use Rattle.catalog.specs.Catalog.{Listed}
 use Rattle.row_store.specs.declared.pending.Doubt.{Doubt}
 use Rattle.row_store.specs.Store.{Contents, held_back}
-use Rattle.redo_record.specs.Data.{RedoRecord, Standing, Durable}
-use Rattle.redo_record.specs.Data.records
-use Rattle.redo_record.specs.Data.params
+use Rattle.node_rules.specs.Data.{RedoRecord, Standing, Durable}
+use Rattle.node_rules.specs.Data.records
+use Rattle.node_rules.specs.Data.params
 use Rattle.redo_record.specs.Durable.{durable_after}
 use Rattle.redo_record.specs.Kept.{kept_after}
 use Rattle.node_memory.specs.Parts.{listed_in}

@@ -55,7 +55,7 @@ seal_is k b r extents is own =
     let keys = ap (λ m. with_doubt (without (without k.locks b) m) m r.changes) is ∙ ap (λ ls. with_doubt ls b r.changes) (without_twice k.locks b) in
     ap (with_owns (after_seal k b r (sealed (contents_in k extents) b) (kept_after k.stored.durable.kept (records.Sealed r)) (max k.stored.scn r.scn))) (owns_dropped_twice k.owns b)
     ∙ sym (ap (λ d. record done { stored = record done.stored { doubts = k.stored.doubts ++ d ∷ [] } }) doubt
-      ∙ ap (λ ls. record done { stored = record done.stored { doubts = k.stored.doubts ++ doubt_from k.stored.rows b (own_changes k b) ∷ [] }; locks = ls }) keys)
+    ∙ ap (λ ls. record done { stored = record done.stored { doubts = k.stored.doubts ++ doubt_from k.stored.rows b (own_changes k b) ∷ [] }; locks = ls }) keys)
 
 -- a branch that becomes sealed
 pub sealed_taken : (k m : Kept) (b : BranchId) (r : Sealed) (s : Contents) (extents : ℕ) (ks : List Standing) (scn : ℕ) (locks : List Lock) → r.me ≡ b → r.changes ≡ own_changes k b
@@ -63,7 +63,7 @@ pub sealed_taken : (k m : Kept) (b : BranchId) (r : Sealed) (s : Contents) (exte
     → m ≡ without_branch (with_parts k s ks scn) b → locks ≡ with_doubt m.locks b r.changes → (record m { locks = locks }) ≡ with_record (without_branch k b) (records.Sealed r)
 sealed_taken k m b r s extents ks scn locks me own kept store number is now =
     ap (λ ls. record m { locks = ls }) now
-    ∙ ap (λ j. record j { locks = with_doubt j.locks b r.changes }) is
+    ∙ ap (λ (j : Kept). record j { locks = with_doubt j.locks b r.changes }) is
     ∙ ap (λ t. after_seal k b r t ks scn) store
     ∙ ap (λ x. after_seal k b r (sealed (contents_in k extents) b) x scn) kept
     ∙ ap (after_seal k b r (sealed (contents_in k extents) b) (kept_after k.stored.durable.kept (records.Sealed r))) number

@@ -1,8 +1,5 @@
 -- What a node knows of a branch, where it stands in memory.
-use Rattle.std.specs.Prelude.{Option}
 use Rattle.std.specs.Option.{option_copied}
-use Rattle.tran_ids.specs.declared.branch.BranchId.{BranchId}
-use Rattle.node_rules.specs.declared.work.Work.{Work}
 use Rattle.node_rules.specs.Kept.{Branch, work_or}
 use Rattle.node_rules.specs.Turn.{Stand as StandByRules, Is_live, Is_kept, Is_gone}
 use Rattle.node_memory.specs.declared.branches.LiveBranch.{LiveBranch}

@@ -2,7 +2,7 @@
 -- becomes in doubt is not in doubt already.
 use Rattle.std.specs.Prelude.{◌≡◌, false, List, [], ◌∷◌}
 use Rattle.catalog.specs.Catalog.{Listed, is_used, is_link_used}
-use Rattle.row_store.specs.Store.{Contents, AreOfTables, has_table, is_in_doubt}
+use Rattle.row_store.specs.Store.{AreOfTables, has_table, is_in_doubt}
 use Rattle.node_rules.specs.Data.{RedoRecord}
 use Rattle.node_rules.specs.Data.records
 use Rattle.node_rules.specs.Rows.{TableRows}

@@ -79,7 +79,7 @@ impl Memory {
 }
 
 fn kept_or_gone(row: Option<&Standing>) -> Stand<'_>
-    ensures { stand_as result ≡ kept_or_gone_of (option_copied row) }
+    ensures { stand_as result ≡ kept_or_gone_of (option_copied row.entry) }
 {
     match row {
         Some(row) => Stand::Kept(row),

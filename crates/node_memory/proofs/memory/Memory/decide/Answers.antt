@@ -11,9 +11,9 @@ pub returns-clause-kept : goal.returns-clause-kept
 returns-clause-kept c =
     let k = kept_in c.args.self.now in
     let b = c.args.branch.now in
-    let r = c.in-Decided.decided.now in
+    let r = c.in-Decided.decided in
     let own = subst (IsOwnDecision k b) c.in-Decided.is c.requires in
     let rows = subst (λ x. c.apply.new.self ≡ kept_after c.args.self.now.kept x) c.in-Decided.is c.in_ok-apply.ensures.ok in
-    subst (λ x. _ ≡ with_record (without_branch k b) x) (sym c.in-Decided.is)
+    subst (λ x. kept_in c.drop_branch.new.self ≡ with_record (without_branch k b) x) (sym c.in-Decided.is)
     (decision_taken k (kept_in c.drop_branch.new.self) b r c.commit.new.self c.args.self.now.store.extents c.apply.new.self c.meet.new.self own.1 rows
-      c.commit.ensures c.meet.ensures c.drop_branch.ensures.kept)
+    c.commit.ensures c.meet.ensures c.drop_branch.ensures.kept)
