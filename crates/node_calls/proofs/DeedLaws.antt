@@ -2,6 +2,7 @@
 use Rattle.std.proofs.Common.{◌≡◌, ℕ, ◌+◌, List, [], ◌∷◌, Option, None, Some, refl, sym, ap, subst, ◌∙◌}
 use Rattle.tran_ids.specs.declared.branch.BranchId.{BranchId}
 use Rattle.tran_ids.specs.Listed.{item_at, put_item}
+use Rattle.tran_ids.proofs.ListedLemmas.{item_is}
 use Rattle.session_tree.specs.Live.{next_edge, peer_of}
 use Rattle.node_rules.specs.Data.{Live, Answer, Stmt}
 use Rattle.node_rules.specs.Data.answers
@@ -16,7 +17,7 @@ use Rattle.node_rules.specs.Prepare.{to_children}
 use Rattle.node_rules.specs.Client.{rollback_by, statement_given_up, waited_link}
 use Rattle.node_state.specs.Sessions.{transaction_ended}
 use Rattle.node_rules.specs.Calls.{answered, answer_ends, answer_says, answered_sessions, call_pends, calls_over, exec_to, kept_reply, nobody_at, opens_through, replies, reply_fields}
-use Rattle.node_state.specs.Works.{answered_with, called_over, change_work, given_up, waits_for_child}
+use Rattle.node_state.specs.Works.{answered_with, called_over, change_work, given_up, waits_for_child, work_of}
 use Rattle.node_deeds.specs.declared.deed.Deed.{Deed}
 use Rattle.node_deeds.specs.Gives.{Gives}
 use Rattle.node_calls.specs.Handled.{at_live}
@@ -111,7 +112,8 @@ module _ (k : Kept) (b : BranchId) (l : Live) (is : item_at live_id k.lives b �
         → Gives (statement_given_up k n (branch_at k b)) after deed
     given_up_so after deed new done =
         gives_so (statement_given_up k n (branch_at k b)) (given_up_by k.lives) after deed
-        (ap (λ o. statement_given_up k n (with_work k o)) is ∙ ap given_up_by (put_back live_id k.lives b l is)) new done
+        (ap (λ o. statement_given_up k n (with_work k o)) is
+        ∙ (ap (λ c. statement_given_up k n (Some (record { live = l; work = work_of k.works c }))) (item_is live_id k.lives b l is) ∙ ap given_up_by (put_back live_id k.lives b l is))) new done
 
     -- ---- a transaction that rolls back
 
