@@ -1,0 +1,5 @@
+pub mod KnownLemmas
+mod EndLemmas
+mod LineLemmas
+mod PlaceLemmas
+mod PointLemmas

@@ -1,0 +1,141 @@
+-- What is told, by what is known of the facts of a run: as a command begins, as a node stops, as one starts.
+use Rattle.std.specs.Prelude.{ℕ, ◌==◌, ◌&&◌, ◌||◌, not, Bool, true, false, if◌then◌else◌, List, [], ◌∷◌, ◌++◌, map, codes, Option, Some, None}
+use Rattle.crash_points.specs.declared.place.TurnPlace.{TurnPlace}
+use Rattle.crash_points.specs.declared.place.TurnPlace.TheVariants as places
+use Rattle.crash_points.specs.Points.{reached}
+use Rattle.node_rules.specs.Words.{one}
+use Rattle.node_rules.specs.Ids.{decimal}
+use Rattle.node_rules.specs.Refusals.{dtx}
+use Rattle.node_rules.specs.Points.{Passes as PassesByRules}
+use Rattle.node_points.specs.declared.places.Passes.{Passes}
+use Rattle.run_laws.specs.Data.{Said, AnswerLine, Command}
+use Rattle.run_laws.specs.Data.notices
+use Rattle.run_laws.specs.Data.said
+use Rattle.run_laws.specs.Data.commands
+use Rattle.run_laws.specs.Disks.{Strike}
+use Rattle.run_laws.specs.Telling.{Call, Page, Telling}
+use Rattle.run_laws.specs.Calls.{without_call}
+use Rattle.run_laws.specs.Commands.{has_call, call_of, page_of, hold_after, orders_after}
+use Rattle.run_laws.specs.Cuts.{appends}
+use Rattle.run_laws.specs.Lines.{fine, refuses_with, line, with_own, spent, call_line}
+use Rattle.run_laws.specs.Past.{is_stop_of, falls_if}
+use Rattle.telling.specs.declared.calls.CallKey.{CallKey}
+use Rattle.telling.specs.declared.point.Side.{Side}
+use Rattle.telling.specs.declared.point.Side.TheVariants as sides
+use Rattle.telling.specs.declared.begin.BeginFacts.{BeginFacts}
+use Rattle.telling.specs.declared.stops.StopFacts.{StopFacts}
+
+-- ---- lines
+
+-- DTX-01 for a node of this name
+abbrev pub down_said : List ℕ → Said
+down_said name = refuses_with (dtx 1 (one name))
+
+-- `node X stopped`
+abbrev pub stop_said : List ℕ → Said
+stop_said name = said.World (notices.Shown (one (codes "node " ++ name ++ codes " stopped")))
+
+-- with it
+abbrev pub with_stop_of : List ℕ → Telling → Telling
+with_stop_of name t = record t { page = record t.page { stops = t.page.stops ++ one (stop_said name) } }
+
+-- DTX-05, where messages are in flight
+abbrev pub over_by : Bool → Telling → List Said
+over_by flying t = if spent t.deliveries && flying then one (refuses_with (dtx 5 [])) else []
+
+-- the lines of a page, and those that say that it is over
+abbrev pub page_by : ℕ → Page → List Said → List AnswerLine
+page_by running page over = map (line running) page.own ++ page.others ++ map (line running) (page.stops ++ over)
+
+-- all lines
+abbrev pub told_by : ℕ → Bool → Telling → List AnswerLine
+told_by running flying t = t.lines ++ page_by running t.page (over_by flying t)
+
+-- ---- a command begins
+
+-- a call at a node that is up pends, where the session has none pending
+abbrev pub calls_by : Bool → Bool → Telling → ℕ → Command → List Call
+calls_by is_up has_transaction t c (commands.At node session statement) =
+    if is_up && not (has_call t node session) then t.calls ++ call_of c node session statement has_transaction ∷ [] else t.calls
+calls_by is_up has_transaction t c _ = t.calls
+
+-- a command of this number begins
+abbrev pub begun : BeginFacts → Telling → ℕ → Command → Telling
+begun facts t c command = record t {
+  acted = false;
+  deliveries = 0;
+  page = page_of facts.says;
+  hold = hold_after t.hold command;
+  calls = calls_by facts.is_up facts.has_transaction t c command;
+  orders = orders_after t command;
+  lines = told_by facts.running facts.flying t;
+}
+
+-- ---- a node stops
+
+-- the command and the session of a call
+abbrev pub key_of : Call → CallKey
+key_of c = record { command = c.command; session = c.session }
+
+-- a call of a stopped node ends
+abbrev pub call_falls : ℕ → Telling → ℕ → List ℕ → CallKey → Telling
+call_falls running t n name k = call_line running (without_call t n k.session) k.command (down_said name)
+
+-- these calls of a stopped node end
+abbrev pub calls_fall : ℕ → Telling → ℕ → List ℕ → List CallKey → Telling
+calls_fall running t n name [] = t
+calls_fall running t n name (k ∷ ks) = calls_fall running (call_falls running t n name k) n name ks
+
+-- whether a command is the START of a node that is down and owes no stop: an order struck that START before its Boot stood
+abbrev pub is_failed : StopFacts → Command → ℕ → Bool
+is_failed facts (commands.Start m) n = (m == n) && (not facts.is_up && not facts.is_owed)
+is_failed facts _ n = false
+
+-- such a START is refused, and the calls of its append are counted
+abbrev pub refused_start : List ℕ → StopFacts → Telling → Command → ℕ → Telling
+refused_start name facts t command n = if is_failed facts command n then with_own (appends t n 3) (one (down_said name)) else t
+
+-- no node has to stop that an order struck in its start
+abbrev pub fallen : Telling → Telling
+fallen t = record t { start_to_stop = None }
+
+-- `node X stopped`, unless this is a STOP of the node
+abbrev pub stop_told : List ℕ → Telling → Command → ℕ → Telling
+stop_told name t command n = if is_stop_of command n then t else with_stop_of name t
+
+-- the calls of a node, in order
+abbrev pub keys_of : ℕ → List Call → List CallKey
+keys_of n [] = []
+keys_of n (c ∷ cs) = if c.node == n then key_of c ∷ keys_of n cs else keys_of n cs
+
+-- a node stops: its calls end
+abbrev pub stopped_by : List ℕ → StopFacts → Telling → Command → ℕ → Telling
+stopped_by name facts t command n =
+    stop_told name (calls_fall facts.running (fallen (refused_start name facts t command n)) n name (keys_of n t.calls)) command n
+
+-- ---- a node starts
+
+-- ok, or DTX-01 where an order strikes the start after its Boot stands
+abbrev pub start_said : List ℕ → Option Strike → List Said
+start_said name None = fine
+start_said name (Some s) = one (down_said name)
+
+-- a node starts
+abbrev pub started_by : List ℕ → Telling → ℕ → Option Strike → Telling
+started_by name t n strike = record (with_own (appends t n 3) (start_said name strike)) { start_to_stop = falls_if n strike }
+
+-- ---- points
+
+-- the points at the places of a side
+abbrev pub numbers_on : Side → PassesByRules → List ℕ
+numbers_on sides.Before x = x.before
+numbers_on sides.After x = x.after
+
+-- whether a branch reaches a point at a place, where the turn has one
+abbrev pub is_at_place : Bool → ℕ → Option TurnPlace → Bool
+is_at_place at_site n None = false
+is_at_place at_site n (Some place) = reached n at_site place
+
+-- whether a turn reaches a point before its record
+abbrev pub is_before_record : Passes → ℕ → Bool
+is_before_record p n = (p.collected && reached n p.at_site places.Collected) || is_at_place p.at_site n p.before

@@ -1,0 +1,69 @@
+//! Lists of pending calls, in order of command.
+ghost use Rattle.std.specs.Prelude.{◌≡◌, not, map, filter, find, option_map, IfOk, OnOk};
+ghost use Rattle.std.specs.Option.{option_copied};
+ghost use Rattle.run_laws.specs.Calls.{is_call_at, change_call};
+ghost use Rattle.telling.specs.Known.{keys_of};
+
+use crate::Call;
+use std::alloc::{AllocError, Global};
+
+/// The command and the session of a call.
+#[derive(Clone, Copy, Debug)]
+pub(crate) struct CallKey {
+    pub(crate) command: u32,
+    pub(crate) session: u32,
+}
+
+/// The pending call of a session.
+pub(crate) fn call_at(calls: &[Call], node: u8, session: u32) -> Option<&Call>
+    ensures { option_copied result ≡ find (is_call_at node session) calls.now }
+{
+    calls.iter().find(|call| call.is_at(node, session))
+}
+
+/// The command of the pending call of a session.
+pub(crate) fn command_at(calls: &[Call], node: u8, session: u32) -> Option<u32>
+    ensures { result ≡ option_map (λ c. c.command) (find (is_call_at node session) calls.now) }
+{
+    match call_at(calls, node, session) {
+        None => None,
+        Some(call) => Some(call.command),
+    }
+}
+
+/// No call is pending at a session.
+pub(crate) fn drop_call(calls: &mut Vec<Call>, node: u8, session: u32)
+    ensures { calls.new.items ≡ filter (λ c. not (is_call_at node session c)) calls.old.items }
+{
+    calls.retain(|call| !call.is_at(node, session));
+}
+
+/// The calls of this one's command become this one. Fails where memory runs out.
+pub(crate) fn change_calls(
+    calls: &mut Vec<Call>,
+    alloc: Global,
+    new: &Call,
+) -> Result<(), AllocError>
+    ensures { OnOk result (calls.new.items ≡ map (change_call new.now) calls.old.items) }
+{
+    for call in calls.iter_mut() {
+        call.change(alloc, new)?;
+    }
+    Ok(())
+}
+
+/// The calls of a node. Fails where memory runs out.
+pub(crate) fn keys_at(alloc: Global, calls: &[Call], node: u8) -> Result<Vec<CallKey>, AllocError>
+    ensures { IfOk result (λ keys. keys.items ≡ keys_of node calls.now) }
+{
+    let mut keys = Vec::new(alloc);
+    for call in calls {
+        if call.node == node {
+            keys.push(CallKey {
+                command: call.command,
+                session: call.session,
+            })?;
+        }
+    }
+    Ok(keys)
+}
