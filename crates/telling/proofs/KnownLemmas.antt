@@ -13,7 +13,7 @@ use Rattle.run_laws.specs.Data.commands
 use Rattle.run_laws.specs.Disks.{Strike}
 use Rattle.run_laws.specs.Facts.{Facts, command_at, node_at}
 use Rattle.run_laws.specs.Telling.{Call, Past, Telling, node_name}
-use Rattle.run_laws.specs.Commands.{begins, calls_after, has_transaction}
+use Rattle.run_laws.specs.Commands.{begins, calls_after, has_transaction, orders_after}
 use Rattle.run_laws.specs.Calls.{stopped_calls}
 use Rattle.run_laws.specs.Cuts.{Cut_by, By_point, cut_by, cut_before, cut_write, arms}
 use Rattle.run_laws.specs.Lines.{told}
@@ -23,7 +23,7 @@ use Rattle.telling.specs.declared.begin.BeginFacts.{BeginFacts}
 use Rattle.telling.specs.declared.stops.StopFacts.{StopFacts}
 use Rattle.telling.specs.declared.turn.TurnFacts.{TurnFacts}
 use Rattle.telling.specs.declared.due.DueFacts.{DueFacts}
-use Rattle.telling.specs.Known.{begun, calls_by, calls_fall, is_failed, keys_of, refused_start, start_said, started_by, stopped_by, told_by}
+use Rattle.telling.specs.Known.{begun, calls_by, calls_fall, is_failed, keys_of, orders_by, refused_start, start_said, started_by, stopped_by, told_by}
 use Rattle.telling.specs.Turned.{arms_by, cut_in, cut_of, turned_by}
 use Rattle.telling.specs.Due.{act_by, due_by, may_act}
 use Rattle.telling.specs.Facts.{KnownAtBegin, KnownAtStop, KnownDue, KnownOfTurn, transaction_for, up_for}
@@ -34,13 +34,18 @@ told_is f t = refl
 
 -- ---- a command begins
 
-calls_are : (f : Facts) (t : Telling) (c : ℕ) (command : Command) → calls_by (up_for f command) (transaction_for f command) t c command ≡ calls_after f t c command
+calls_are : (f : Facts) (t : Telling) (c : ℕ) (command : Command) → calls_by (up_for f command) (transaction_for f command) t.calls c command ≡ calls_after f t c command
 calls_are f t c (commands.At node session statement) = refl
 calls_are f t c _ = refl
 
+orders_are : (t : Telling) (command : Command) → orders_by t.orders command ≡ orders_after t command
+orders_are t (commands.Crash n write how) = refl
+orders_are t (commands.Fault n call) = refl
+orders_are t _ = refl
+
 pub begun_is : (places : List Place) (f : Facts) (t : Telling) (c : ℕ) (command : Command) (facts : BeginFacts) → KnownAtBegin places f t command facts
     → begun facts t c command ≡ begins places f t c command
-begun_is places f t c command facts h = rw (h.running, h.flying, h.says, h.up, h.transaction, calls_are f t c command) refl
+begun_is places f t c command facts h = rw (h.running, h.flying, h.says, h.up, h.transaction, calls_are f t c command, orders_are t command) refl
 
 -- ---- a node stops
 

@@ -1,9 +1,9 @@
 -- What is told, by what is known of the facts of a run: as a command begins, as a node stops, as one starts.
-use Rattle.std.specs.Prelude.{ℕ, ◌==◌, ◌&&◌, ◌||◌, not, Bool, true, false, if◌then◌else◌, List, [], ◌∷◌, ◌++◌, map, codes, Option, Some, None}
+use Rattle.std.specs.Prelude.{ℕ, ◌==◌, ◌&&◌, ◌||◌, not, Bool, true, false, if◌then◌else◌, List, [], ◌∷◌, ◌++◌, map, find, unwrap_or, is_some, codes, Option, Some, None}
 use Rattle.crash_points.specs.declared.place.TurnPlace.{TurnPlace}
 use Rattle.crash_points.specs.declared.place.TurnPlace.TheVariants as places
 use Rattle.crash_points.specs.Points.{reached}
-use Rattle.node_rules.specs.Words.{one}
+use Rattle.node_rules.specs.Words.{numbered, one, set_numbered}
 use Rattle.node_rules.specs.Ids.{decimal}
 use Rattle.node_rules.specs.Refusals.{dtx}
 use Rattle.node_rules.specs.Points.{Passes as PassesByRules}
@@ -12,10 +12,10 @@ use Rattle.run_laws.specs.Data.{Said, AnswerLine, Command}
 use Rattle.run_laws.specs.Data.notices
 use Rattle.run_laws.specs.Data.said
 use Rattle.run_laws.specs.Data.commands
-use Rattle.run_laws.specs.Disks.{Strike}
+use Rattle.run_laws.specs.Disks.{DiskOrders, Strike, no_orders, opens_gate}
 use Rattle.run_laws.specs.Telling.{Call, Page, Telling}
-use Rattle.run_laws.specs.Calls.{without_call}
-use Rattle.run_laws.specs.Commands.{has_call, call_of, page_of, hold_after, orders_after}
+use Rattle.run_laws.specs.Calls.{is_call_at, without_call}
+use Rattle.run_laws.specs.Commands.{call_of, page_of, hold_after}
 use Rattle.run_laws.specs.Cuts.{appends}
 use Rattle.run_laws.specs.Lines.{fine, refuses_with, line, with_own, spent, call_line}
 use Rattle.run_laws.specs.Past.{is_stop_of, falls_if}
@@ -54,10 +54,20 @@ told_by running flying t = t.lines ++ page_by running t.page (over_by flying t)
 -- ---- a command begins
 
 -- a call at a node that is up pends, where the session has none pending
-abbrev pub calls_by : Bool → Bool → Telling → ℕ → Command → List Call
-calls_by is_up has_transaction t c (commands.At node session statement) =
-    if is_up && not (has_call t node session) then t.calls ++ call_of c node session statement has_transaction ∷ [] else t.calls
-calls_by is_up has_transaction t c _ = t.calls
+abbrev pub calls_by : Bool → Bool → List Call → ℕ → Command → List Call
+calls_by is_up has_transaction calls c (commands.At node session statement) =
+    if is_up && not (is_some (find (is_call_at node session) calls)) then calls ++ call_of c node session statement has_transaction ∷ [] else calls
+calls_by is_up has_transaction calls c _ = calls
+
+-- the orders on a disk, where these are those of all
+abbrev pub orders_in : List DiskOrders → ℕ → DiskOrders
+orders_in os n = unwrap_or (numbered os n) no_orders
+
+-- CRASH and FAULT are orders on a node's disk; a later one of the same kind takes the place of an earlier one
+abbrev pub orders_by : List DiskOrders → Command → List DiskOrders
+orders_by os (commands.Crash n write how) = set_numbered os n (record (orders_in os n) { stop = Some (record { write = write; opens = opens_gate how }) })
+orders_by os (commands.Fault n call) = set_numbered os n (record (orders_in os n) { fault = Some call })
+orders_by os _ = os
 
 -- a command of this number begins
 abbrev pub begun : BeginFacts → Telling → ℕ → Command → Telling
@@ -66,8 +76,8 @@ begun facts t c command = record t {
   deliveries = 0;
   page = page_of facts.says;
   hold = hold_after t.hold command;
-  calls = calls_by facts.is_up facts.has_transaction t c command;
-  orders = orders_after t command;
+  calls = calls_by facts.is_up facts.has_transaction t.calls c command;
+  orders = orders_by t.orders command;
   lines = told_by facts.running facts.flying t;
 }
 

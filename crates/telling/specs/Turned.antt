@@ -1,5 +1,5 @@
 -- What is told of a turn, by what is known of it: what cuts it, and what comes of it.
-use Rattle.std.specs.Prelude.{ℕ, Bool, true, false, if◌then◌else◌, List, option_map, is_none, Option, Some, None}
+use Rattle.std.specs.Prelude.{ℕ, ◌==◌, Bool, true, false, if◌then◌else◌, List, option_map, is_none, Option, Some, None}
 use Rattle.node_rules.specs.Data.{Stmt, Input}
 use Rattle.node_rules.specs.Data.inputs
 use Rattle.node_rules.specs.Data.stmts
@@ -53,6 +53,11 @@ abbrev pub ended_by : ℕ → Telling → Finished → Ending → Telling
 ended_by running t f endings.NoCall = t
 ended_by running t f (endings.Ends node session command) = call_line running (without_call t node session) command (says_node f)
 ended_by running t f (endings.Follows second) = call_follows t second
+
+-- whether a pending call is of the command that runs
+abbrev pub is_running : ℕ → Option Call → Bool
+is_running running None = false
+is_running running (Some c) = c.command == running
 
 -- ---- what comes of a turn
 

@@ -1,9 +1,11 @@
 //! A command begins.
-ghost use Rattle.std.specs.Prelude.{◌≡◌, ◌&&◌, ◌∷◌, ◌++◌, [], not, if◌then◌else◌, OnOk, IfOk};
+ghost use Rattle.std.specs.Prelude.{◌≡◌, ◌&&◌, ◌∷◌, ◌++◌, [], not, find, is_some, IfOk, OnOk};
 ghost use Rattle.std.specs.Option.{option_copied};
-ghost use Rattle.run_laws.specs.Commands.{call_of as call_of_command, commits_first as commits_first_of, hold_after, orders_after, page_of};
-ghost use Rattle.telling.specs.Known.{begun, calls_by, told_by};
+ghost use Rattle.run_laws.specs.Commands.{call_of as call_of_command, commits_first as commits_first_of, hold_after, page_of};
+ghost use Rattle.run_laws.specs.Calls.{is_call_at};
+ghost use Rattle.telling.specs.Known.{begun, calls_by, orders_by, told_by};
 
+use crate::calls::call_at;
 use crate::order::opens_gate;
 use crate::orders::{orders_at, set_orders};
 use crate::page::Page;
@@ -42,46 +44,14 @@ impl Telling {
     ) -> Result<(), AllocError>
         ensures { OnOk result (self.new ≡ begun facts self.old number command.now) }
     {
-        self.add_call(alloc, number, command, facts.is_up, facts.has_transaction)?;
+        let (up, has) = (facts.is_up, facts.has_transaction);
+        add_call(&mut self.calls, alloc, number, command, up, has)?;
         self.turn_page(alloc, facts.running, facts.flying, facts.says)?;
-        self.take_order(command);
+        take_order(&mut self.orders, command);
         self.take_hold(command);
         self.acted = false;
         self.deliveries = 0;
         Ok(())
-    }
-
-    fn add_call(
-        &mut self,
-        alloc: Global,
-        number: u32,
-        command: &Command,
-        is_up: bool,
-        has_transaction: bool,
-    ) -> Result<(), AllocError>
-        ensures { OnOk result (self.new ≡ record self.old { calls = calls_by is_up has_transaction self.old number command.now }) }
-    {
-        match command {
-            Command::At {
-                node,
-                session,
-                statement,
-            } => {
-                if is_up && !self.has_call(*node, *session) {
-                    let call = call_of(
-                        alloc,
-                        number,
-                        *node,
-                        *session,
-                        statement.as_ref(),
-                        has_transaction,
-                    )?;
-                    self.calls.push(call)?;
-                }
-                Ok(())
-            }
-            _ => Ok(()),
-        }
     }
 
     // The page of the command before is told, and a new one begins.
@@ -100,34 +70,70 @@ impl Telling {
         page.tell(&mut self.lines, running, over)
     }
 
-    // CRASH and FAULT are orders on a node's disk, in the place of an earlier one.
-    fn take_order(&mut self, command: &Command)
-        ensures { self.new ≡ record self.old { orders = orders_after self.old command.now } }
-    {
-        match command {
-            Command::Crash { node, write, how } => {
-                let orders = orders_at(&self.orders, *node);
-                let stop = Some(StopOrder {
-                    write: *write,
-                    opens: opens_gate(how),
-                });
-                set_orders(&mut self.orders, *node, DiskOrders { stop, ..orders });
-            }
-            Command::Fault { node, call } => {
-                let orders = orders_at(&self.orders, *node);
-                let fault = Some(*call);
-                set_orders(&mut self.orders, *node, DiskOrders { fault, ..orders });
-            }
-            _ => {}
-        }
-    }
-
     fn take_hold(&mut self, command: &Command)
         ensures { self.new ≡ record self.old { hold = hold_after self.old.hold command.now } }
     {
         if let Command::Hold { on } = command {
             self.hold = *on;
         }
+    }
+}
+
+// CRASH and FAULT are orders on a node's disk, in the place of an earlier one.
+fn take_order(orders: &mut Vec<DiskOrders>, command: &Command)
+    ensures { orders.new.items ≡ orders_by orders.old.items command.now }
+{
+    match command {
+        Command::Crash { node, write, how } => {
+            let fault = orders_at(orders, *node).fault;
+            let stop = Some(StopOrder {
+                write: *write,
+                opens: opens_gate(how),
+            });
+            set_orders(orders, *node, DiskOrders { stop, fault });
+        }
+        Command::Fault { node, call } => {
+            let stop = orders_at(orders, *node).stop;
+            let fault = Some(*call);
+            set_orders(orders, *node, DiskOrders { stop, fault });
+        }
+        _ => {}
+    }
+}
+
+// Whether a call pends as its command begins.
+fn begins(calls: &[Call], is_up: bool, node: u8, session: u32) -> bool
+    ensures { result ≡ (is_up && not (is_some (find (is_call_at node session) calls.now))) }
+{
+    is_up && !call_at(calls, node, session).is_some()
+}
+
+fn add_call(
+    calls: &mut Vec<Call>,
+    alloc: Global,
+    number: u32,
+    command: &Command,
+    is_up: bool,
+    has_transaction: bool,
+) -> Result<(), AllocError>
+    ensures { OnOk result (calls.new.items ≡ calls_by is_up has_transaction calls.old.items number command.now) }
+{
+    match command {
+        Command::At {
+            node,
+            session,
+            statement,
+        } => {
+            if begins(calls, is_up, *node, *session) {
+                let statement = statement.as_ref();
+                let call = call_of(alloc, number, *node, *session, statement, has_transaction)?;
+                calls.push(call)?;
+                Ok(())
+            } else {
+                Ok(())
+            }
+        }
+        _ => Ok(()),
     }
 }
 

@@ -1,8 +1,9 @@
 //! Lists of pending calls, in order of command.
-ghost use Rattle.std.specs.Prelude.{◌≡◌, not, map, filter, find, option_map, IfOk, OnOk};
+ghost use Rattle.std.specs.Prelude.{◌≡◌, not, map, filter, find, IfOk, OnOk};
 ghost use Rattle.std.specs.Option.{option_copied};
 ghost use Rattle.run_laws.specs.Calls.{is_call_at, change_call};
 ghost use Rattle.telling.specs.Known.{keys_of};
+ghost use Rattle.telling.specs.Turned.{is_running as is_running_call};
 
 use crate::Call;
 use std::alloc::{AllocError, Global};
@@ -21,13 +22,13 @@ pub(crate) fn call_at(calls: &[Call], node: u8, session: u32) -> Option<&Call>
     calls.iter().find(|call| call.is_at(node, session))
 }
 
-/// The command of the pending call of a session.
-pub(crate) fn command_at(calls: &[Call], node: u8, session: u32) -> Option<u32>
-    ensures { result ≡ option_map (λ c. c.command) (find (is_call_at node session) calls.now) }
+/// Whether a pending call is of the command that runs.
+pub(crate) fn is_running(call: Option<&Call>, running: u32) -> bool
+    ensures { result ≡ is_running_call running (option_copied call.entry) }
 {
-    match call_at(calls, node, session) {
-        None => None,
-        Some(call) => Some(call.command),
+    match call {
+        None => false,
+        Some(call) => call.command == running,
     }
 }
 

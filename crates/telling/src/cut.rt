@@ -74,14 +74,16 @@ impl Telling {
     /// An append of a node was made, after so many other calls of its disk.
     pub(crate) fn append(&mut self, node: u8, before: u32)
         requires { before ≤ 3 }
-        ensures { self.new ≡ appends self.old node before }
+        ensures appends { self.new ≡ appends self.old node before }
+        ensures count { self.new.deliveries ≡ self.old.deliveries }
     {
         let left = orders_at(&self.orders, node).after_append(before);
         set_orders(&mut self.orders, node, left);
     }
 
     fn append_if(&mut self, node: u8, writes: bool)
-        ensures { self.new ≡ appends_if self.old node writes }
+        ensures appends { self.new ≡ appends_if self.old node writes }
+        ensures count { self.new.deliveries ≡ self.old.deliveries }
     {
         if writes {
             self.append(node, 0);
@@ -89,7 +91,8 @@ impl Telling {
     }
 
     fn append_at_point(&mut self, node: u8, stands: bool, passes: &Passes, side: Side)
-        ensures { self.new ≡ record (appends_if self.old node stands) { points = map (reach (passes_as passes.now).root (numbers_on side (passes_as passes.now))) self.old.points } }
+        ensures appends { self.new ≡ record (appends_if self.old node stands) { points = map (reach (passes_as passes.now).root (numbers_on side (passes_as passes.now))) self.old.points } }
+        ensures count { self.new.deliveries ≡ self.old.deliveries }
     {
         self.append_if(node, stands);
         reach_all(&mut self.points, passes, side);
@@ -97,7 +100,8 @@ impl Telling {
 
     /// The orders and points after a turn that writes a record, or does not, and that this cuts.
     pub(crate) fn append_cut(&mut self, node: u8, writes: bool, cut: Cut)
-        ensures { self.new ≡ cut_appends self.old node writes (cut_as cut) }
+        ensures appends { self.new ≡ cut_appends self.old node writes (cut_as cut) }
+        ensures count { self.new.deliveries ≡ self.old.deliveries }
     {
         match cut {
             Cut::Whole => self.append_if(node, writes),

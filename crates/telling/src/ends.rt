@@ -4,7 +4,7 @@ ghost use Rattle.run_laws.specs.Calls.{call_at as call_of, call_follows, finishe
 ghost use Rattle.run_laws.specs.Lines.{call_line, call_line_of, reached_line, with_own};
 ghost use Rattle.telling.specs.Turned.{ended_by};
 
-use crate::calls::{call_at, change_calls, command_at, drop_call};
+use crate::calls::{call_at, change_calls, drop_call, is_running};
 use crate::ending::{Ending, ending_of};
 use crate::point::reached_of;
 use crate::says::point_reached;
@@ -149,6 +149,7 @@ impl Telling {
         }
     }
 
+    #[tactic(auto, using(crate::proofs::EndLemmas::waits_as))]
     fn wait_if_pending(
         &mut self,
         alloc: Global,
@@ -158,15 +159,10 @@ impl Telling {
     ) -> Result<(), AllocError>
         ensures { OnOk result (self.new ≡ waits_if_pending running self.old (call_of self.old node session)) }
     {
-        match command_at(&self.calls, node, session) {
-            None => Ok(()),
-            Some(command) => {
-                if command == running {
-                    self.wait(alloc)
-                } else {
-                    Ok(())
-                }
-            }
+        if is_running(call_at(&self.calls, node, session), running) {
+            self.wait(alloc)
+        } else {
+            Ok(())
         }
     }
 

@@ -127,7 +127,7 @@ fn is_open(bytes: &[u8]) -> bool
     }
 }
 
-fn strike(call: u32, is_stop: bool, stands: bool) -> Option<Strike>
+fn striking(call: u32, is_stop: bool, stands: bool) -> Option<Strike>
     ensures { result ≡ strike_of call is_stop stands }
 {
     Some(Strike {
@@ -145,8 +145,8 @@ fn stop_in(before: u32, stop: Option<StopOrder>) -> Option<Strike>
     match stop {
         None => None,
         Some(order) => match order.write {
-            1 => strike(before + 1, true, false),
-            2 => strike(before + 3, true, order.opens),
+            1 => striking(before + 1, true, false),
+            2 => striking(before + 3, true, order.opens),
             _ => None,
         },
     }
@@ -161,7 +161,7 @@ fn fault_in(before: u32, fault: Option<u32>) -> Option<Strike>
         None => None,
         Some(call) => {
             if call <= before + 4 {
-                strike(call, false, call == before + 4)
+                striking(call, false, call == before + 4)
             } else {
                 None
             }

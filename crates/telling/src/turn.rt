@@ -6,7 +6,7 @@ ghost use Rattle.run_laws.specs.Cuts.{arms_point};
 ghost use Rattle.run_laws.specs.Past.{is_call as is_call_of, delivered_more, without_following};
 ghost use Rattle.telling.specs.Turned.{appends_by, arms_by, counted_by, ends_by, turned_by};
 
-use crate::calls::command_at;
+use crate::calls::call_at;
 use crate::{Point, Telling};
 use book::{Took, Turn};
 use crash_points::point_of;
@@ -79,7 +79,8 @@ impl Telling {
 
     // A COMMIT with a crash-test comment arms its point, unless it is refused.
     fn arm(&mut self, node: u8, caller: &Session, input: &Input) -> Result<(), AllocError>
-        ensures { OnOk result (self.new ≡ arms_by self.old node caller.now input.now) }
+        ensures arms { OnOk result (self.new ≡ arms_by self.old node caller.now input.now) }
+        ensures count { OnOk result (self.new.deliveries ≡ self.old.deliveries) }
     {
         match input {
             Input::Call {
@@ -107,17 +108,19 @@ impl Telling {
         caller: &Session,
         number: Option<u8>,
     ) -> Result<(), AllocError>
-        ensures { OnOk result (self.new ≡ arms_point self.old caller.now.root (call_at_of self.old node session) number) }
+        ensures arms { OnOk result (self.new ≡ arms_point self.old caller.now.root (call_at_of self.old node session) number) }
+        ensures count { OnOk result (self.new.deliveries ≡ self.old.deliveries) }
     {
         let Some(root) = caller.root else {
             return Ok(());
         };
-        let Some(command) = command_at(&self.calls, node, session) else {
+        let Some(call) = call_at(&self.calls, node, session) else {
             return Ok(());
         };
         let Some(number) = number else {
             return Ok(());
         };
+        let command = call.command;
         self.points.push(Point {
             root,
             number,
