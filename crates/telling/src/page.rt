@@ -119,7 +119,6 @@ fn place_of(lines: &[AnswerLine], command: u32) -> usize
     lines.len()
 }
 
-#[tactic(auto, using(crate::proofs::LineLemmas::put_is_insert))]
 fn place_for(lines: &[AnswerLine], line: &AnswerLine) -> usize
     ensures added { insert lines.now result line.now ≡ put_line lines.now line.now }
     ensures within { result ≤ length lines.now }
