@@ -1,0 +1,5 @@
+mod LiveLemmas
+mod PrepareLemmas
+mod AckLemmas
+mod PurgeLemmas
+mod TurnLemmas

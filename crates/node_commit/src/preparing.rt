@@ -1,0 +1,231 @@
+//! The prepare phase at a live branch: COMMIT or Prepare comes, its children answer, CommitPoint comes.
+ghost use Rattle.std.specs.Prelude.{◌≡◌, Bool, Some, IfOk};
+ghost use Rattle.session_tree.specs.declared.live.Phase.TheVariants as phases;
+ghost use Rattle.std.specs.Option.{option_map};
+ghost use Rattle.tran_ids.specs.declared.branch.BranchId.{BranchId as BranchIdBy};
+ghost use Rattle.prepare_phase.specs.Acts.{prepare_act, heard_act};
+ghost use Rattle.node_rules.specs.Data.acts as acts;
+ghost use Rattle.node_rules.specs.Kept.{Kept, live_at as live_at_of};
+ghost use Rattle.node_rules.specs.Prepare.{act_turn as act_turn_of, collects as collects_of, with_comment, on_prepare as on_prepare_of, on_answer as on_answer_of, on_commit_point as on_commit_point_of};
+ghost use Rattle.node_memory.specs.Parts.{kept_in};
+ghost use Rattle.node_deeds.specs.Gives.{Gives};
+ghost use Rattle.node_commit.specs.Branches.{at_live, phase_of, begun, answered, MayCommit};
+
+use crate::deciding::decides;
+use crate::leaving::{abandons, finishes, says_read_only};
+use crate::looking::live_of;
+use crate::sealing::{seals_and_passes, seals_prepared};
+use commit_forget::on_commit_point as point_act;
+use dtx_values::Bytes;
+use node_deeds::{Deed, prepares, to_one};
+use node_memory::Memory;
+use session_tree::{Act, Phase, Vote};
+use std::alloc::{AllocError, Global};
+use tran_ids::BranchId;
+use wire_msg::Kind;
+
+// A branch that waits stays as it is.
+fn rests(alloc: Global) -> Deed
+    ensures { (k : Kept) (b : BranchIdBy) (site_below : Bool) → Gives (at_live k b (λ l. act_turn_of k l site_below acts.Rest)) k result }
+{
+    Deed::nothing(alloc)
+}
+
+// Prepare goes to each child.
+fn asks_down(
+    memory: &Memory,
+    alloc: Global,
+    branch: &BranchId,
+    site_below: bool,
+) -> Result<Deed, AllocError>
+    ensures { IfOk result (λ deed. Gives (at_live (kept_in memory.now) branch.now (λ l. act_turn_of (kept_in memory.now) l site_below acts.AskDown)) (kept_in memory.now) deed) }
+{
+    match live_of(memory, branch) {
+        None => Ok(Deed::nothing(alloc)),
+        Some(live) => {
+            let says = prepares(alloc, live, site_below)?;
+            Ok(Deed::saying(alloc, says))
+        }
+    }
+}
+
+// The branch answers Ready, and waits for CommitPoint.
+fn says_ready(memory: &mut Memory, alloc: Global, branch: &BranchId) -> Result<Deed, AllocError>
+    ensures gives { IfOk result (λ deed. (site_below : Bool) → Gives (at_live (kept_in memory.old) branch.now (λ l. act_turn_of (kept_in memory.old) l site_below acts.SayReady)) (kept_in memory.new) deed) }
+    ensures place { memory.new.place ≡ memory.old.place }
+{
+    match live_of(memory, branch) {
+        None => Ok(Deed::nothing(alloc)),
+        Some(live) => {
+            let says = to_one(alloc, live.me, Kind::Ready, live.parent)?;
+            memory.lives.make_ready(branch);
+            Ok(Deed::saying(alloc, says))
+        }
+    }
+}
+
+// What a branch does next.
+fn act_turn(
+    memory: &mut Memory,
+    alloc: Global,
+    branch: &BranchId,
+    site_below: bool,
+    act: Act,
+) -> Result<Deed, AllocError>
+    requires { MayCommit memory.old branch.now }
+    ensures gives { IfOk result (λ deed. Gives (at_live (kept_in memory.old) branch.now (λ l. act_turn_of (kept_in memory.old) l site_below act)) (kept_in memory.new) deed) }
+    ensures place { memory.new.place ≡ memory.old.place }
+{
+    match act {
+        Act::Rest => Ok(rests(alloc)),
+        Act::AskDown => asks_down(memory, alloc, branch, site_below),
+        Act::SayReadOnly => says_read_only(memory, alloc, branch),
+        Act::SayReady => says_ready(memory, alloc, branch),
+        Act::Seal => seals_prepared(memory, alloc, branch),
+        Act::SealAndPass(number) => seals_and_passes(memory, alloc, branch, number),
+        Act::Decide => decides(memory, alloc, branch),
+        Act::Finish => finishes(memory, alloc, branch),
+        Act::Abandon => abandons(memory, alloc, branch),
+    }
+}
+
+// The collect of a working branch begins, and the keys that it only read are given back. Tells what the branch does next.
+fn begins(
+    memory: &mut Memory,
+    alloc: Global,
+    branch: &BranchId,
+    site_below: bool,
+    comment: Bytes,
+) -> Option<Act>
+    ensures act { result ≡ option_map (λ live. prepare_act (with_comment live comment) site_below) (live_at_of (kept_in memory.old) branch.now) }
+    ensures kept { kept_in memory.new ≡ begun (kept_in memory.old) branch.now site_below comment }
+    ensures may { MayCommit memory.old branch.now → MayCommit memory.new branch.now }
+    ensures place { memory.new.place ≡ memory.old.place }
+{
+    memory.locks.drop_reads(branch);
+    memory.lives.prepare(alloc, branch, site_below, comment)
+}
+
+/// COMMIT at a working root, or Prepare at any other working branch, with the comment of the COMMIT: keys that it only read
+/// are given back, and its children are asked.
+pub fn collects(
+    memory: &mut Memory,
+    alloc: Global,
+    branch: &BranchId,
+    site_below: bool,
+    comment: Bytes,
+) -> Result<Deed, AllocError>
+    requires working { phase_of (kept_in memory.old) branch.now ≡ Some phases.Working }
+    requires may { MayCommit memory.old branch.now }
+    ensures gives { IfOk result (λ deed. Gives (at_live (kept_in memory.old) branch.now (λ l. collects_of (kept_in memory.old) (with_comment l comment) site_below)) (kept_in memory.new) deed) }
+    ensures place { memory.new.place ≡ memory.old.place }
+{
+    match begins(memory, alloc, branch, site_below, comment) {
+        None => Ok(Deed::nothing(alloc)),
+        Some(act) => act_turn(memory, alloc, branch, site_below, act),
+    }
+}
+
+/// Prepare at a live branch. One that comes again changes nothing.
+pub fn on_prepare(
+    memory: &mut Memory,
+    alloc: Global,
+    branch: &BranchId,
+    site_below: bool,
+    comment: Bytes,
+) -> Result<Deed, AllocError>
+    requires { MayCommit memory.old branch.now }
+    ensures gives { IfOk result (λ deed. Gives (at_live (kept_in memory.old) branch.now (λ l. on_prepare_of (kept_in memory.old) l site_below comment)) (kept_in memory.new) deed) }
+    ensures place { memory.new.place ≡ memory.old.place }
+{
+    match live_of(memory, branch) {
+        None => Ok(Deed::nothing(alloc)),
+        Some(live) => match live.phase {
+            Phase::Working => collects(memory, alloc, branch, site_below, comment),
+            _ => Ok(Deed::nothing(alloc)),
+        },
+    }
+}
+
+// The answer of a child is counted, where it counts. Tells what the branch does next.
+fn counts(
+    memory: &mut Memory,
+    alloc: Global,
+    branch: &BranchId,
+    from: &BranchId,
+    vote: Vote,
+) -> Option<Act>
+    ensures act { result ≡ option_map (λ live. heard_act live from.now vote) (live_at_of (kept_in memory.old) branch.now) }
+    ensures kept { kept_in memory.new ≡ answered (kept_in memory.old) branch.now from.now vote }
+    ensures may { MayCommit memory.old branch.now → MayCommit memory.new branch.now }
+    ensures place { memory.new.place ≡ memory.old.place }
+{
+    memory.lives.answer(alloc, branch, from, vote)
+}
+
+// A child's answer at a collecting branch.
+fn hears(
+    memory: &mut Memory,
+    alloc: Global,
+    branch: &BranchId,
+    site_below: bool,
+    from: &BranchId,
+    vote: Vote,
+) -> Result<Deed, AllocError>
+    requires collecting { phase_of (kept_in memory.old) branch.now ≡ Some (phases.Collecting site_below) }
+    requires may { MayCommit memory.old branch.now }
+    ensures gives { IfOk result (λ deed. Gives (at_live (kept_in memory.old) branch.now (λ l. on_answer_of (kept_in memory.old) l from.now vote)) (kept_in memory.new) deed) }
+    ensures place { memory.new.place ≡ memory.old.place }
+{
+    match counts(memory, alloc, branch, from, vote) {
+        None => Ok(Deed::nothing(alloc)),
+        Some(act) => act_turn(memory, alloc, branch, site_below, act),
+    }
+}
+
+/// A child's answer to Prepare, at a live branch: only a collecting branch hears it, and only each child's first.
+pub fn on_answer(
+    memory: &mut Memory,
+    alloc: Global,
+    branch: &BranchId,
+    from: &BranchId,
+    vote: Vote,
+) -> Result<Deed, AllocError>
+    requires { MayCommit memory.old branch.now }
+    ensures gives { IfOk result (λ deed. Gives (at_live (kept_in memory.old) branch.now (λ l. on_answer_of (kept_in memory.old) l from.now vote)) (kept_in memory.new) deed) }
+    ensures place { memory.new.place ≡ memory.old.place }
+{
+    match live_of(memory, branch) {
+        None => Ok(Deed::nothing(alloc)),
+        Some(live) => match live.phase {
+            Phase::Collecting { site_below } => {
+                hears(memory, alloc, branch, site_below, from, vote)
+            }
+            _ => Ok(Deed::nothing(alloc)),
+        },
+    }
+}
+
+/// CommitPoint at a live branch: only one that answered Ready hears it. The commit point site decides, another branch becomes
+/// sealed and passes it on.
+#[tactic(auto, unfolding(commit_forget::specs::Next::pointed_act))]
+pub fn on_commit_point(
+    memory: &mut Memory,
+    alloc: Global,
+    branch: &BranchId,
+) -> Result<Deed, AllocError>
+    requires { MayCommit memory.old branch.now }
+    ensures gives { IfOk result (λ deed. Gives (at_live (kept_in memory.old) branch.now (λ l. on_commit_point_of (kept_in memory.old) l)) (kept_in memory.new) deed) }
+    ensures place { memory.new.place ≡ memory.old.place }
+{
+    match live_of(memory, branch) {
+        None => Ok(Deed::nothing(alloc)),
+        Some(live) => match live.phase {
+            Phase::Ready => {
+                let act = point_act(live);
+                act_turn(memory, alloc, branch, true, act)
+            }
+            _ => Ok(Deed::nothing(alloc)),
+        },
+    }
+}

@@ -1,0 +1,99 @@
+//! A live branch that becomes sealed.
+ghost use Rattle.std.specs.Prelude.{◌≡◌, ◌≤◌, length, false, Some, None, IfOk};
+ghost use Rattle.dtx_values.specs.Limits.{branch_limit};
+ghost use Rattle.row_store.specs.Store.{is_in_doubt};
+ghost use Rattle.session_tree.specs.Live.{peer_of as peer_of_number};
+ghost use Rattle.node_rules.specs.Data.kinds as kinds;
+ghost use Rattle.node_rules.specs.Kept.{to_one as to_one_of};
+ghost use Rattle.node_rules.specs.Prepare.{seals as seals_of, sealed_record as sealed_record_of};
+ghost use Rattle.node_memory.specs.Parts.{kept_in};
+ghost use Rattle.node_memory.specs.Leaving.{IsOwnSeal};
+ghost use Rattle.node_deeds.specs.Gives.{Gives};
+ghost use Rattle.node_commit.specs.Branches.{at_live};
+
+use crate::looking::live_of;
+use dtx_values::Listing;
+use node_deeds::{Deed, peer_of, sealed_record, to_one};
+use node_memory::Memory;
+use reco::Posts;
+use redo_record::RedoRecord;
+use session_tree::Live;
+use std::alloc::{AllocError, Global};
+use tran_ids::BranchId;
+use wire_msg::Kind;
+
+// The record has the changes of the branch, at the node's clock.
+fn seal_record(
+    memory: &Memory,
+    alloc: Global,
+    live: &Live,
+    path: Option<u8>,
+) -> Result<RedoRecord, AllocError>
+    requires { length live.now.edges ≤ branch_limit }
+    ensures made { IfOk result (λ redo. redo ≡ sealed_record_of (kept_in memory.now) live.now path) }
+    ensures own { IfOk result (λ redo. IsOwnSeal (kept_in memory.now) live.now.me redo) }
+{
+    let changes = memory.store.own(alloc, &live.me)?;
+    sealed_record(alloc, memory.clock.now(), live, changes, path)
+}
+
+fn seals(
+    memory: &mut Memory,
+    alloc: Global,
+    branch: &BranchId,
+    path: Option<u8>,
+    says: Posts,
+) -> Result<Deed, AllocError>
+    requires { is_in_doubt memory.old.store.doubts branch.now ≡ false }
+    ensures gives { IfOk result (λ deed. Gives (at_live (kept_in memory.old) branch.now (λ l. seals_of (kept_in memory.old) l path says)) (kept_in memory.new) deed) }
+    ensures place { memory.new.place ≡ memory.old.place }
+{
+    match live_of(memory, branch) {
+        None => Ok(Deed::nothing(alloc)),
+        Some(live) => {
+            let me = live.me;
+            let redo = seal_record(memory, alloc, live, path)?;
+            memory.seal(alloc, &me, &redo)?;
+            Ok(Deed::writing(redo, says, Listing::new(alloc)))
+        }
+    }
+}
+
+/// A live branch becomes sealed, and answers Prepared.
+pub(crate) fn seals_prepared(
+    memory: &mut Memory,
+    alloc: Global,
+    branch: &BranchId,
+) -> Result<Deed, AllocError>
+    requires { is_in_doubt memory.old.store.doubts branch.now ≡ false }
+    ensures gives { IfOk result (λ deed. Gives (at_live (kept_in memory.old) branch.now (λ l. seals_of (kept_in memory.old) l None (to_one_of l.me kinds.Prepared l.parent))) (kept_in memory.new) deed) }
+    ensures place { memory.new.place ≡ memory.old.place }
+{
+    match live_of(memory, branch) {
+        None => Ok(Deed::nothing(alloc)),
+        Some(live) => {
+            let says = to_one(alloc, live.me, Kind::Prepared, live.parent)?;
+            seals(memory, alloc, branch, None, says)
+        }
+    }
+}
+
+/// A live branch becomes sealed, and passes CommitPoint on to the child of this number, from 1.
+pub(crate) fn seals_and_passes(
+    memory: &mut Memory,
+    alloc: Global,
+    branch: &BranchId,
+    number: u8,
+) -> Result<Deed, AllocError>
+    requires { is_in_doubt memory.old.store.doubts branch.now ≡ false }
+    ensures gives { IfOk result (λ deed. Gives (at_live (kept_in memory.old) branch.now (λ l. seals_of (kept_in memory.old) l (Some number) (to_one_of l.me kinds.CommitPoint (peer_of_number l number)))) (kept_in memory.new) deed) }
+    ensures place { memory.new.place ≡ memory.old.place }
+{
+    match live_of(memory, branch) {
+        None => Ok(Deed::nothing(alloc)),
+        Some(live) => {
+            let says = to_one(alloc, live.me, Kind::CommitPoint, peer_of(live, number))?;
+            seals(memory, alloc, branch, Some(number), says)
+        }
+    }
+}
