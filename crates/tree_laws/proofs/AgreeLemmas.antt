@@ -1,4 +1,4 @@
--- A lawful run whose voters weigh does what the forest of its Prepares allows, and so agrees.
+-- Each lawful run does what the forest of its Prepares allows, and so agrees.
 use Rattle.std.proofs.Common.{ℕ, List, [], ◌∷◌}
 use Rattle.std.specs.List.{AllByRecursion}
 use Rattle.node_rules.specs.Data.{BranchId, Kind, Msg}
@@ -12,7 +12,9 @@ use Rattle.run_laws.specs.RunEvents.{message_event, with_exits, events_after}
 use Rattle.run_laws.specs.EventLaws.{EachEventFrom}
 use Rattle.run_laws.specs.TreeJust.{IsTreeAllowed, TreeSends, HappensByTree, GoByTree}
 use Rattle.run_laws.proofs.TreeJustLemmas.{runs_by_trees_agree}
-use Rattle.tree_laws.specs.AgreeLaws.{LeavesByForest, RunsGoByForest, RunsAgree}
+use Rattle.run_laws.specs.Headline.{EveryBookAgrees, EveryMixedIsMarked}
+use Rattle.run_laws.proofs.CommitOrderLemmas.{commits_come_in_order}
+use Rattle.tree_laws.specs.AgreeLaws.{LeavesByForest, RunsGoByForest, RunsAgree, EveryCommitComesInOrder}
 use Rattle.tree_laws.specs.Forests.{forest_of}
 use Rattle.tree_laws.specs.MessageLaws.{AckByForest, AcksByForest, RollByForest, RollsByForest}
 use Rattle.tree_laws.specs.NameLaws.{WritesByForest}
@@ -57,11 +59,20 @@ module _ (t : History) where
   goes_so f e (h ∷ hs) by = (happens_so f e h by.0, goes_so (facts_after t.places t.commands f h) (events_after t.places t.commands f h e) hs by.1)
 
 pub runs_go_by_forest : RunsGoByForest
-runs_go_by_forest t lawful weigh =
+runs_go_by_forest t lawful =
     goes_so t (first_facts t.places) [] t.trace
     (both_each t.places t.commands _ _ (first_facts t.places) [] t.trace
-    (both_each t.places t.commands _ _ (first_facts t.places) [] t.trace (records_go_by_forest t lawful) (leaves_go_by_forest t lawful weigh))
+    (both_each t.places t.commands _ _ (first_facts t.places) [] t.trace (records_go_by_forest t lawful) (leaves_go_by_forest t lawful))
     (both_each t.places t.commands _ _ (first_facts t.places) [] t.trace (acks_go_by_forest t lawful) (rolls_go_by_forest t lawful)))
 
 pub runs_agree : RunsAgree
-runs_agree t lawful weigh = runs_by_trees_agree t lawful (forest_of t) (runs_have_forests t lawful) (runs_go_by_forest t lawful weigh)
+runs_agree t lawful = runs_by_trees_agree t lawful (forest_of t) (runs_have_forests t lawful) (runs_go_by_forest t lawful)
+
+pub every_book_agrees : EveryBookAgrees
+every_book_agrees t lawful = (runs_agree t lawful).0
+
+pub every_mixed_is_marked : EveryMixedIsMarked
+every_mixed_is_marked t lawful = (runs_agree t lawful).1.0
+
+pub every_commit_comes_in_order : EveryCommitComesInOrder
+every_commit_comes_in_order t lawful = commits_come_in_order t lawful (forest_of t) (runs_have_forests t lawful) (runs_go_by_forest t lawful)

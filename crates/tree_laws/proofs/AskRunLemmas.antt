@@ -75,7 +75,7 @@ pub record AskStand (f : Facts) (bs : List Born) : Type 0 where
   pub nodes : (n : ℕ) → IfSome (node_at f n) (NodeTold (said_in f))
 
 -- births and messages that are added leave it so
-down_more : (kind : Kind → Bool) (bs cs : List Born) (said says : List Post) (p : BranchId) → ((x : Born) → Began bs x → Began cs x) → HeardAbove kind bs said p → HeardAbove kind cs (said ++ says) p
+pub down_more : (kind : Kind → Bool) (bs cs : List Born) (said says : List Post) (p : BranchId) → ((x : Born) → Began bs x → Began cs x) → HeardAbove kind bs said p → HeardAbove kind cs (said ++ says) p
 down_more kind bs cs said says p more is = (is.0, more is.0 is.1, is.2, (λ q above. sent_more kind said says q p (is.3 q above)))
 
 told_stay : (said says : List Post) (k : Kept) → ((b : BranchId) (l : Live) → live_at k b ≡ Some l → (c : BranchId) → was_asked says l.me c ≡ false) → NodeTold said k → NodeTold (said ++ says) k
@@ -179,7 +179,7 @@ module _ (places : List Place) (asked : List Command) (each : (n : ℕ) (p : Pla
       elsewhere m other = ap flat (set_leaves f.nodes n m _ (λ e. other (sym e)))
 
       -- a branch of another node asks nobody now
-      others_silent : (m : ℕ) → m ≢ n → (j : Kept) → node_at f m ≡ Some j → (b : BranchId) (l : Live) → live_at j b ≡ Some l → (c : BranchId) → was_asked d.says l.me c ≡ false
+      pub others_silent : (m : ℕ) → m ≢ n → (j : Kept) → node_at f m ≡ Some j → (b : BranchId) (l : Live) → live_at j b ≡ Some l → (c : BranchId) → was_asked d.says l.me c ≡ false
       others_silent m other j there b l live c = by (was_asked d.says l.me c) refl
         where
           by : (q : Bool) → was_asked d.says l.me c ≡ q → q ≡ false

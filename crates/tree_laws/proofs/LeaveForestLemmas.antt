@@ -1,4 +1,4 @@
--- In every lawful run whose voters weigh, the forest allows each branch that answers ReadOnly to leave.
+-- In every lawful run the forest allows each branch that answers ReadOnly to leave.
 use Rattle.std.proofs.Common.{◌≡◌, ◌≢◌, ◌||◌, not, Bool, true, false, List, [], ◌∷◌, ◌++◌, is_none, Some, None, inl, inr, refl, sym, ap, subst, ◌∙◌}
 use Rattle.std.specs.List.{AllByRecursion, list_any}
 use Rattle.std.proofs.lemmas.Bool.{cond_both, and_parts, not-true}
@@ -40,6 +40,7 @@ use Rattle.tree_laws.proofs.LeftLemmas.{left_have_told_all}
 use Rattle.tree_laws.proofs.PrefixLemmas.{so_far, f_at, e_at, both_each, each_prefix}
 use Rattle.tree_laws.proofs.SettleLemmas.{born_of, live_in, none_below, none_above, kid_quiet}
 use Rattle.tree_laws.proofs.SettleRunLemmas.{all, ends, known, more_sent, wider, asked_then, off_before}
+use Rattle.tree_laws.proofs.VoterRunLemmas.{voters_weigh}
 use Rattle.tree_laws.proofs.WhyLemmas.{Near, SaidWhy, why_on}
 
 module _ (t : History) (whole : IsLawfulRun t) where
@@ -160,9 +161,9 @@ module _ (t : History) (whole : IsLawfulRun t) where
   leave_so before (happenings.Turn u) rest is lawful may laws = turn_leave before u rest is lawful may.0 may.1 laws
   leave_so before _ rest is lawful may laws = tt
 
-  pub leave_each : VotersWeigh t → EachEventFrom (LeavesByForest t) t.places t.commands (first_facts t.places) [] t.trace
+  leave_each : VotersWeigh t → EachEventFrom (LeavesByForest t) t.places t.commands (first_facts t.places) [] t.trace
   leave_each weigh =
       each_prefix t Law (LeavesByForest t) leave_so whole (both_each t.places t.commands _ _ (first_facts t.places) [] t.trace (left_have_told_all t whole) weigh)
 
 pub leaves_go_by_forest : LeavesGoByForest
-leaves_go_by_forest t lawful weigh = leave_each t lawful weigh
+leaves_go_by_forest t lawful = leave_each t lawful (voters_weigh t lawful)

@@ -31,3 +31,11 @@ pub mod LeaveForestLemmas
 pub mod AgreeLemmas
 pub mod TriedForestLemmas
 pub mod WeightStepLemmas
+pub mod HoldLemmas
+pub mod HoldStepLemmas
+pub mod WeightRunLemmas
+pub mod SealLemmas
+pub mod BackLemmas
+pub mod FoundLemmas
+pub mod VoterLemmas
+pub mod VoterRunLemmas

@@ -58,10 +58,10 @@ module _ (t : History) where
   abbrev pub e_at : List Happening → List Event
   e_at hs = events_of (so_far hs)
 
-  one_on : (before : List Happening) (h : Happening) → f_at (before ++ h ∷ []) ≡ facts_after t.places t.commands (f_at before) h
+  pub one_on : (before : List Happening) (h : Happening) → f_at (before ++ h ∷ []) ≡ facts_after t.places t.commands (f_at before) h
   one_on before h = facts_on t.places t.commands (first_facts t.places) before h
 
-  more_on : (before : List Happening) (h : Happening) → e_at (before ++ h ∷ []) ≡ events_after t.places t.commands (f_at before) h (e_at before)
+  pub more_on : (before : List Happening) (h : Happening) → e_at (before ++ h ∷ []) ≡ events_after t.places t.commands (f_at before) h (e_at before)
   more_on before h = events_on t.places t.commands (first_facts t.places) before h []
 
   -- each happening is so, by what came before it, and by a law of it and of all that come after

@@ -41,7 +41,7 @@ use Rattle.tree_laws.specs.WeightLaws.{TellsWeight, ToldWeight, TellsItsWeight}
 
 -- ---- messages
 
-told_split : (ms ns : List Post) (b : BranchId) (n : ℕ) (v : Option ℕ) → ToldWeight (ms ++ ns) b n v → ToldWeight ms b n v ⊎ ToldWeight ns b n v
+pub told_split : (ms ns : List Post) (b : BranchId) (n : ℕ) (v : Option ℕ) → ToldWeight (ms ++ ns) b n v → ToldWeight ms b n v ⊎ ToldWeight ns b n v
 told_split [] ns b n v is = inr is
 told_split (m ∷ ms) ns b n v (inl here) = inl (inl here)
 told_split (m ∷ ms) ns b n v (inr later) = elim (told_split ms ns b n v later) [ inl old ↦ inl (inr old) | inr new ↦ inr new ]
@@ -100,11 +100,11 @@ gone_live k b gone = gone_by k b (live_at k b) refl gone
 
 -- ---- weights
 
-collected_weight : (l : Live) (comment : List ℕ) (b : Bool) → weight (collecting (with_comment l comment) b) ≡ weight l
+pub collected_weight : (l : Live) (comment : List ℕ) (b : Bool) → weight (collecting (with_comment l comment) b) ≡ weight l
 unfolding weight
 collected_weight l comment b = ap (λ ws. weight_by l.changed l.strength (place_of_greatest 1 ws None)) (map_after (λ (e : Edge). e.weight) with_prepare_sent (λ (e : Edge). e.weight) (λ e. refl) l.edges)
 
-voted_weight : (l : Live) (from : BranchId) (v : Vote) → weight (voted l from v) ≡ weight l
+pub voted_weight : (l : Live) (from : BranchId) (v : Vote) → weight (voted l from v) ≡ weight l
 unfolding weight
 voted_weight l from v =
     ap (λ ws. weight_by l.changed l.strength (place_of_greatest 1 ws None))

@@ -1,32 +1,40 @@
 -- The turns of a lawful run do what the forest of its Prepares allows, and so the run agrees.
-use Rattle.std.specs.Prelude.{List, []}
-use Rattle.agreement.specs.Events.{Event}
+use Rattle.std.specs.Prelude.{◌≡◌, ℕ, ◌<◌, List, [], Some, None}
+use Rattle.agreement.specs.Events.{Event, Decided, exit, forced, site_of}
+use Rattle.node_rules.specs.Data.{BranchId}
 use Rattle.run_laws.specs.Data.{Happening}
 use Rattle.run_laws.specs.Data.happenings
 use Rattle.run_laws.specs.Entries.{book_of as trace_book}
 use Rattle.run_laws.specs.Book.{Agreement, MixedIsMarked, AboveSeals}
-use Rattle.run_laws.specs.Facts.{Facts, first_facts, node_at, facts_after}
-use Rattle.run_laws.specs.Lawful.{History, IsLawfulRun}
-use Rattle.run_laws.specs.RunEvents.{lives_at, with_record}
+use Rattle.run_laws.specs.Facts.{Facts, first_facts, node_at, facts_after, records_at}
+use Rattle.run_laws.specs.Lawful.{History, IsLawfulRun, facts_at}
+use Rattle.run_laws.specs.RunEvents.{events_of, lives_at, with_record}
+use Rattle.run_laws.specs.CommitOrderLaws.{LeavesAfter}
 use Rattle.run_laws.specs.EventLaws.{AtEachEvent}
 use Rattle.run_laws.specs.TreeJust.{TreeLeaves, GoByTree}
 use Rattle.tree_laws.specs.Forests.{forest_of}
-use Rattle.tree_laws.specs.WeightLaws.{VotersWeigh}
 
 -- the forest allows those to leave that answer without changes
 abbrev pub LeavesByForest : History → Facts → List Event → Happening → Type 0
 LeavesByForest t f e (happenings.Turn u) = TreeLeaves (forest_of t) (lives_at (node_at (facts_after t.places t.commands f (happenings.Turn u)) u.node)) u.sent (lives_at (node_at f u.node)) (with_record u e)
 LeavesByForest t f e _ = Unit {0}
 
--- In every lawful run whose voters weigh, a branch that answers ReadOnly is not the site, and all beyond it are gone without changes.
+-- In every lawful run a branch that answers ReadOnly is not the site, and all beyond it are gone without changes.
 abbrev pub LeavesGoByForest : Type 0
-LeavesGoByForest = (t : History) → IsLawfulRun t → VotersWeigh t → AtEachEvent (LeavesByForest t) t
+LeavesGoByForest = (t : History) → IsLawfulRun t → AtEachEvent (LeavesByForest t) t
 
--- So each turn of such a run does what the forest allows.
+-- So each turn of a lawful run does what the forest allows.
 abbrev pub RunsGoByForest : Type 0
-RunsGoByForest = (t : History) → IsLawfulRun t → VotersWeigh t → GoByTree (forest_of t) t.places t.commands (first_facts t.places) t.trace []
+RunsGoByForest = (t : History) → IsLawfulRun t → GoByTree (forest_of t) t.places t.commands (first_facts t.places) t.trace []
 
--- And such a run agrees: all branches of a transaction end as its site decided, mixed outcomes are marked, and the SCN of a decision
+-- And each lawful run agrees: all branches of a transaction end as its site decided, mixed outcomes are marked, and the SCN of a decision
 -- exceeds those of all seals of its transaction.
 abbrev pub RunsAgree : Type 0
-RunsAgree = (t : History) → IsLawfulRun t → VotersWeigh t → Agreement (trace_book t.trace) × MixedIsMarked (trace_book t.trace) × AboveSeals (trace_book t.trace)
+RunsAgree = (t : History) → IsLawfulRun t → Agreement (trace_book t.trace) × MixedIsMarked (trace_book t.trace) × AboveSeals (trace_book t.trace)
+
+-- And the transaction of a branch that was never forced has a lower SCN than that of a branch that left after it on one of its keys, where
+-- both were committed.
+abbrev pub EveryCommitComesInOrder : Type 0
+EveryCommitComesInOrder = (t : History) → IsLawfulRun t → (n : ℕ) (first second : BranchId) (k m : ℕ) → LeavesAfter (records_at (facts_at t) n) first second
+    → forced (events_of t) first ≡ None → exit (events_of t) (site_of (forest_of t) first) ≡ Some (Decided k)
+    → exit (events_of t) (site_of (forest_of t) second) ≡ Some (Decided m) → k < m

@@ -6,13 +6,15 @@ use Rattle.session_tree.specs.Tree.{weight}
 use Rattle.node_rules.specs.Data.{BranchId, Edge, Kind, Live, Post, ReplyFields}
 use Rattle.node_rules.specs.Data.kinds
 use Rattle.node_rules.specs.declared.work.Work.{Work}
+use Rattle.node_rules.specs.Words.{numbered}
 use Rattle.node_rules.specs.Kept.{Kept, Branch, branch_at}
 use Rattle.agreement.specs.Events.{Event, Send_vote, Has}
 use Rattle.run_laws.specs.Data.{Happening}
 use Rattle.run_laws.specs.Facts.{Facts, node_at}
 use Rattle.run_laws.specs.Lawful.{History, IsLawfulRun, facts_at}
 use Rattle.run_laws.specs.EventLaws.{AtEachEvent}
-use Rattle.run_laws.specs.InTurnLaws.{said_in}
+use Rattle.run_laws.specs.FreezeLaws.{was_asked}
+use Rattle.run_laws.specs.InTurnLaws.{said_in, WaitsFor, call_at, GoesOn}
 use Rattle.run_laws.specs.WalkLaws.{is_above, was_sent}
 
 -- a child that was asked off the walk, and voted, has a weight
@@ -54,3 +56,20 @@ pub record TellsItsWeight (said : List Post) (me : BranchId) (parent : Option Br
 abbrev pub RepliesTellWeights : Type 0
 RepliesTellWeights = (t : History) → IsLawfulRun t → (n : ℕ) (k : Kept) → node_at (facts_at t) n ≡ Some k → (x : Branch) → branch_at k x.live.me ≡ Some x
     → TellsItsWeight (said_in (facts_at t)) x.live.me x.live.parent (weight x.live) x.work
+
+-- ---- what edges hold
+
+-- What a branch holds of its children's weights: the weight in each edge was told by a Reply to the last call over it, unless the branch
+-- waits for that Reply or can only roll back. Of a child that it asked to prepare it is so in any case.
+pub record HoldsWeights (said : List Post) (goes_on : Type 0) (me : BranchId) (edges : List Edge) (w : Work) : Type 0 where
+  pub held : goes_on → (i : ℕ) (e : Edge) → numbered edges i ≡ Some e → WaitsFor i w.going ⊎ ToldWeight said e.peer (call_at w i) e.weight
+  pub asked : (i : ℕ) (e : Edge) → numbered edges i ≡ Some e → was_asked said me e.peer ≡ true → ToldWeight said e.peer (call_at w i) e.weight
+
+-- In every lawful run each live branch does.
+abbrev pub EdgesHoldWeights : Type 0
+EdgesHoldWeights = (t : History) → IsLawfulRun t → (n : ℕ) (k : Kept) → node_at (facts_at t) n ≡ Some k → (x : Branch) → branch_at k x.live.me ≡ Some x
+    → HoldsWeights (said_in (facts_at t)) (GoesOn k x.live) x.live.me x.live.edges x.work
+
+-- So in every lawful run each child that voted off the walk has a weight at its parent.
+abbrev pub VotersHaveWeights : Type 0
+VotersHaveWeights = (t : History) → IsLawfulRun t → VotersWeigh t

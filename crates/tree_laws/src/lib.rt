@@ -13,7 +13,9 @@ ghost use Rattle.tree_laws.specs.LearnLaws.{LearnedOfToward};
 ghost use Rattle.tree_laws.specs.AnswerLaws.{AnswersAreAsTold};
 ghost use Rattle.tree_laws.specs.BeyondLaws.{RecordsHeard};
 ghost use Rattle.tree_laws.specs.MessageLaws.{SitesDecide, AcksGoByForest, RollsGoByForest};
-ghost use Rattle.tree_laws.specs.AgreeLaws.{LeavesGoByForest, RunsGoByForest, RunsAgree};
+ghost use Rattle.tree_laws.specs.WeightLaws.{RepliesTellWeights, EdgesHoldWeights, VotersHaveWeights};
+ghost use Rattle.run_laws.specs.Headline.{EveryBookAgrees, EveryMixedIsMarked};
+ghost use Rattle.tree_laws.specs.AgreeLaws.{LeavesGoByForest, RunsGoByForest, RunsAgree, EveryCommitComesInOrder};
 ghost use Rattle.tree_laws.specs.TriedForest.{TheTriedForest};
 ghost use Rattle.tree_laws.specs.NameLaws.{RowsNameBeyond, RecordsGoByForest};
 
@@ -111,21 +113,48 @@ pub fn rolls_go_by_forest()
     ensures { RollsGoByForest }
 {}
 
-/// Where each child that voted off the walk has a weight at its parent, a branch that answers ReadOnly is not the site, and all beyond
-/// it are gone without changes.
+/// Each Reply of a live branch below a root to its last call told its weight, once it waits for nothing.
+pub fn replies_tell_weights()
+    ensures { RepliesTellWeights }
+{}
+
+/// A live branch holds in each edge the weight that the Reply to its last call over it told, unless it waits for that Reply or can only
+/// roll back. Of a child that it asked to prepare it holds it in any case.
+pub fn edges_hold_weights()
+    ensures { EdgesHoldWeights }
+{}
+
+/// A child that was asked off the walk, and voted, has a weight at its parent.
+pub fn voters_weigh()
+    ensures { VotersHaveWeights }
+{}
+
+/// So a branch that answers ReadOnly is not the site, and all beyond it are gone without changes.
 pub fn leaves_go_by_forest()
     ensures { LeavesGoByForest }
 {}
 
-/// So each turn of such a run does what the forest of its Prepares allows.
+/// So each turn of a lawful run does what the forest of its Prepares allows.
 pub fn runs_go_by_forest()
     ensures { RunsGoByForest }
 {}
 
-/// And such a run agrees: all branches of a transaction end as its commit point site decided, mixed outcomes are marked, and the SCN of a
+/// And each lawful run agrees: all branches of a transaction end as its commit point site decided, mixed outcomes are marked, and the SCN of a
 /// decision exceeds those of the seals of its transaction.
 pub fn runs_agree()
     ensures { RunsAgree }
+{}
+
+/// The book of every lawful run agrees, and its mixed outcomes are marked.
+pub fn every_book_agrees()
+    ensures agrees { EveryBookAgrees }
+    ensures marked { EveryMixedIsMarked }
+{}
+
+/// Commit SCNs are in order at each key: of two committed branches that changed one key at a node, the transaction of the one that
+/// held it first has the lower SCN, unless it was forced.
+pub fn every_commit_comes_in_order()
+    ensures { EveryCommitComesInOrder }
 {}
 
 /// No law of the forest is about nothing: in the tried run of two nodes the branch at B was asked off the walk, and is beyond the site.

@@ -1,0 +1,287 @@
+-- In every lawful run live branches told their weights in their Replies, and hold the weights that their children told.
+use Rattle.std.proofs.Common.{◌≡◌, ◌≢◌, ℕ, ◌≤◌, Bool, true, false, List, [], ◌∷◌, ◌++◌, map, Option, Some, None, inl, inr, refl, sym, ap, subst, ◌∙◌, arith, append-nil}
+use Rattle.std.specs.Prelude.{IfSome}
+use Rattle.std.specs.List.{AllByRecursion}
+use Rattle.tran_ids.proofs.ListedLemmas.{item_is}
+use Rattle.tran_ids.proofs.NumberedLemmas.{set_or_before}
+use Rattle.session_tree.specs.Tree.{weight}
+use Rattle.node_rules.specs.Data.{Answer, BranchId, Kind, Live, Post, Place, Input, RedoRecord}
+use Rattle.node_rules.specs.Data.inputs
+use Rattle.node_rules.specs.Data.kinds
+use Rattle.node_rules.specs.declared.work.Work.{Work}
+use Rattle.node_rules.specs.Words.{numbered, set_numbered}
+use Rattle.node_rules.specs.Inputs.{Came}
+use Rattle.node_rules.specs.Kept.{Kept, Deed, live_id, live_at}
+use Rattle.node_rules.specs.Sessions.{session_at}
+use Rattle.node_rules.specs.Turn.{turn_of, start_of, made, heard, deed_of}
+use Rattle.agreement.specs.Events.{Event}
+use Rattle.run_laws.specs.Data.{Packet, Turn, Happening, Command}
+use Rattle.run_laws.specs.Data.happenings
+use Rattle.run_laws.specs.Facts.{Facts, first_facts, place_at, flat, node_at, kept_after, with_boot, facts_after, facts_of}
+use Rattle.run_laws.specs.Lawful.{IsPlace, MayTurn, MayHappen, IsOwed, IsLawful, History, IsLawfulRun, facts_at}
+use Rattle.run_laws.specs.RunEvents.{events_after}
+use Rattle.run_laws.specs.Births.{Born, births_after}
+use Rattle.run_laws.specs.InTurnLaws.{post_of, packet_post, said_in, newest_reply, GoesOn}
+use Rattle.run_laws.specs.FreezeLaws.{was_asked}
+use Rattle.run_laws.proofs.ListLemmas.{all_weaker}
+use Rattle.run_laws.proofs.TurnEventLemmas.{cases_nat}
+use Rattle.run_laws.proofs.EventsStandLemmas.{first_node}
+use Rattle.run_laws.proofs.AtNodeLemmas.{turn_elsewhere}
+use Rattle.run_laws.proofs.BirthsStandLemmas.{came_so}
+use Rattle.run_laws.proofs.BirthRunLemmas.{StandBorn, stand_born_on, stand_born_first}
+use Rattle.run_laws.proofs.CodeLemmas.{AllNeed, codes_on}
+use Rattle.node_rules.specs.LiveBranches.{EachLive}
+use Rattle.node_rules.proofs.LiveLemmas.{each_same, none_live, branch_parts}
+use Rattle.run_laws.proofs.RestLemmas.{live_root}
+use Rattle.run_laws.proofs.RestRunLemmas.{NodeRests, heard_rests, RootsStand, turned, roots_stand_on, first_rests}
+use Rattle.run_laws.proofs.SaidPostLemmas.{posts_back, posts_of, said_after}
+use Rattle.run_laws.proofs.InTurnRunLemmas as calls
+use Rattle.run_laws.proofs.InTurnRunLemmas.{CallsStand, heard_calls, calls_stand_on, first_calls}
+use Rattle.run_laws.proofs.FreezeRunLemmas as frozen
+use Rattle.run_laws.proofs.FreezeRunLemmas.{FreezeStand, freeze_on, first_freeze}
+use Rattle.tree_laws.specs.WeightLaws.{ToldWeight, TellsItsWeight, RepliesTellWeights, HoldsWeights, EdgesHoldWeights}
+use Rattle.tree_laws.proofs.AskRunLemmas as runs
+use Rattle.tree_laws.proofs.AskRunLemmas.{AskStand, ask_on, first_ask}
+use Rattle.tree_laws.proofs.HoldLemmas.{holding_more}
+use Rattle.tree_laws.proofs.HoldStepLemmas.{holds_on}
+use Rattle.tree_laws.proofs.WeightStepLemmas.{told_split, told_low, tolds_on}
+
+-- ---- messages that came
+
+-- a Reply tells its weight
+abbrev ReplyTold : List Post → BranchId → Kind → Type 0
+ReplyTold said from (kinds.Reply call wt count a) = ToldWeight said from call wt
+ReplyTold said from _ = Unit {0}
+
+told_first : (ms : List Post) (from to : BranchId) (kind : Kind) → ReplyTold (record { from = from; to = to; kind = kind } ∷ ms) from kind
+told_first ms from to (kinds.Reply call wt count a) = inl (refl, (refl, refl))
+told_first ms from to _ = tt
+
+told_later : (m : Post) (ms : List Post) (from : BranchId) (kind : Kind) → ReplyTold ms from kind → ReplyTold (m ∷ ms) from kind
+told_later m ms from (kinds.Reply call wt count a) is = inr is
+told_later m ms from _ is = tt
+
+-- each that was sent did
+replies_told : (xs : List Packet) → AllByRecursion (λ x. ReplyTold (map packet_post xs) x.msg.from x.msg.kind) xs
+replies_told [] = tt
+replies_told (x ∷ xs) = (told_first (map packet_post xs) x.msg.from x.msg.to x.msg.kind, all_weaker _ _ (λ y old. told_later (packet_post x) (map packet_post xs) y.msg.from y.msg.kind old) xs (replies_told xs))
+
+-- ---- what stands
+
+abbrev pub WeighsSo : List Post → Live → Work → Type 0
+WeighsSo said l w = TellsItsWeight said l.me l.parent (weight l) w
+
+abbrev pub HoldsOf : List Post → Kept → Live → Work → Type 0
+HoldsOf said k l w = HoldsWeights said (GoesOn k l) l.me l.edges w
+
+-- of a node's live branches
+abbrev pub NodeWeighs : List Post → Kept → Type 0
+NodeWeighs said k = EachLive (WeighsSo said) k.lives k.works × EachLive (HoldsOf said k) k.lives k.works
+
+-- So it is everywhere.
+abbrev pub WeightStand : Facts → Type 0
+WeightStand f = (n : ℕ) → IfSome (node_at f n) (NodeWeighs (said_in f))
+
+-- messages without a Reply of a branch leave it so
+quiet_weighs : (said says : List Post) (l : Live) (w : Work) → newest_reply says l.me ≡ 0 → WeighsSo said l w → WeighsSo (said ++ says) l w
+quiet_weighs said says l w none is = record {
+  told = λ below some free v tells. elim (told_split said says l.me w.came.last_call v tells) [
+    | inl old ↦ is.told below some free v old
+    | inr new ↦ (let low : w.came.last_call ≤ newest_reply says l.me = told_low says l.me w.came.last_call v new in absurd (omega (arith, low, none, some)))
+  ];
+  kept = is.kept;
+  zero_calls = is.zero_calls;
+}
+
+weights_stay : (said says : List Post) (k : Kept) → ((b : BranchId) (l : Live) → live_at k b ≡ Some l → newest_reply says l.me ≡ 0) → ((b : BranchId) (l : Live) → live_at k b ≡ Some l → (c : BranchId) → was_asked says l.me c ≡ false)
+    → NodeWeighs said k → NodeWeighs (said ++ says) k
+weights_stay said says k silent none now = (
+  each_same (WeighsSo said) (WeighsSo (said ++ says)) k.lives k.works now.0 (λ y v live any is. quiet_weighs said says y v (silent y.me y live) is),
+  each_same (HoldsOf said k) (HoldsOf (said ++ says) k) k.lives k.works now.1 (λ y v live any is. holding_more said says (GoesOn k y) y.me y.edges v (λ c. none y.me y live c) is),
+)
+
+heard_sessions : (k : Kept) (input : Input) → (heard k input).sessions ≡ k.sessions
+heard_sessions k (inputs.Message m) = refl
+heard_sessions k (inputs.Call n s) = refl
+heard_sessions k (inputs.GiveUp n) = refl
+heard_sessions k inputs.Reco = refl
+
+module _ (places : List Place) (asked : List Command) (each : (n : ℕ) (p : Place) → numbered places n ≡ Some p → IsPlace places n p) where
+  module _ (f : Facts) (t : List Event) (bs : List Born) (stand : StandBorn places asked each f t bs) (roots : RootsStand places asked each f) (turns : CallsStand f) (ice : FreezeStand f) (asks : AskStand f bs) (now : WeightStand f) where
+    module _ (u : Turn) (k : Kept) (may : MayTurn places f u k) where
+      abbrev n : ℕ
+      n = u.node
+
+      abbrev p : Place
+      p = place_at places u.node
+
+      abbrev d : Deed
+      d = deed_of p k u.input
+
+      abbrev g : Facts
+      g = facts_after places asked f (happenings.Turn u)
+
+      abbrev said : List Post
+      said = said_in f
+
+      abbrev more : List Post
+      more = said ++ d.says
+
+      abbrev Here : BranchId → Type 0
+      Here = calls.Here places asked each f t bs stand roots turns u k may
+
+      abbrev May : BranchId → Type 0
+      May = calls.May places asked each f t bs stand roots turns u k may
+
+      rests : NodeRests k
+      rests = calls.rests places asked each f t bs stand roots turns u k may
+
+      rests_after : NodeRests d.after
+      unfolding turn_of
+      rests_after = turned places asked each f t bs stand roots u k may
+
+      codes : AllNeed k.sessions d.after.sessions
+      codes = subst (λ ss. AllNeed ss d.after.sessions) (heard_sessions k u.input) (codes_on p u.input (calls.step places asked each f t bs stand roots turns u k may))
+
+      -- a root that may go on after the turn needed no rollback before it
+      goes_before : (b : BranchId) (l : Live) → live_at k b ≡ Some l → (l.parent ≡ None → May l.me) → GoesOn k l
+      goes_before b l live goes none =
+          let may_go : May l.me = goes none in
+          let before : (session_at k.sessions l.me.session).root ≡ Some l.me = (live_root k rests.1 b l live none).root in
+          let me : may_go.0.me ≡ l.me = item_is live_id d.after.lives l.me may_go.0 may_go.1 in
+          let after : (session_at d.after.sessions l.me.session).root ≡ Some l.me
+          = subst (λ c. (session_at d.after.sessions c.session).root ≡ Some c) me (live_root d.after rests_after.1 l.me may_go.0 may_go.1 may_go.2).root in
+          codes l.me.session l.me before after may_go.3
+
+      olds : NodeWeighs said k
+      olds = subst (λ o. IfSome o (NodeWeighs said)) may.up (now n)
+
+      weighed : (from to : BranchId) (call : ℕ) (wt : Option ℕ) (count : ℕ) (a : Answer) → Came u.input from to (kinds.Reply call wt count a) → ToldWeight said from call wt
+      weighed from to call wt count a came = came_so (λ x y kind. ReplyTold said x kind) f (replies_told f.net.packets) k u.node u.input u.took may.comes from to (kinds.Reply call wt count a) came
+
+      told_after : EachLive (WeighsSo more) d.after.lives d.after.works
+      told_after =
+          tolds_on _ _ May Here u.input said (calls.received places asked each f t bs stand roots turns u k may) p (λ b is. is) (calls.step places asked each f t bs stand roots turns u k may) (heard_rests k u.input rests).0
+          (calls.news places asked each f t bs stand roots turns u k may) (calls.begun places asked each f t bs stand roots turns u k may) (heard_calls (WeighsSo said) k u.input olds.0)
+
+      holds_before : EachLive (λ l w. HoldsWeights said (l.parent ≡ None → May l.me) l.me l.edges w) k.lives k.works
+      holds_before = each_same (HoldsOf said k) _ k.lives k.works olds.1 (λ y v live any is. record { held = λ goes. is.held (goes_before y.me y live goes); asked = is.asked })
+
+      holds_done : EachLive (λ l w. HoldsWeights more (l.parent ≡ None → May l.me) l.me l.edges w) d.after.lives d.after.works
+      holds_done =
+          holds_on _ _ May Here u.input said (frozen.received places asked each f t bs stand roots turns ice u k may) (frozen.prepared places asked each f t bs stand roots turns ice u k may) weighed p (λ b is. is)
+          (calls.step places asked each f t bs stand roots turns u k may) (calls.granted places asked each f t bs stand roots turns u k may) (heard_rests k u.input rests).0 (runs.news places asked each f t bs stand roots turns ice asks u k may)
+          (calls.begun places asked each f t bs stand roots turns u k may) (frozen.ice places asked each f t bs stand roots turns ice u k may) (heard_calls _ k u.input holds_before)
+
+      after : NodeWeighs more d.after
+      after = (told_after, each_same _ (HoldsOf more d.after) d.after.lives d.after.works holds_done (λ y v live any is. record { held = λ goes. is.held (λ none. (y, live, none, goes none)); asked = is.asked }))
+
+      here_after : node_at g n ≡ kept_after u.cut (Some (turn_of p k u.input))
+      here_after = calls.here_after places asked each f t bs stand roots turns u k may
+
+      other_node : (m : ℕ) → m ≢ n → IfSome (node_at g m) (NodeWeighs more)
+      other_node m other = subst (λ o. IfSome o (NodeWeighs more)) (sym (turn_elsewhere places asked f stand.0.0.even u m (λ e. other (sym e))).0) (by (node_at f m) refl (now m))
+        where
+          by : (o : Option Kept) → node_at f m ≡ o → IfSome o (NodeWeighs said) → IfSome o (NodeWeighs more)
+          by None up old = tt
+          by (Some j) up old =
+              weights_stay said d.says j
+              (λ b l live. ((calls.left places asked each f t bs stand roots turns u k may).1.1 l.me (λ here. other (calls.elsewhere_is places asked each f t bs stand roots turns u k may m j up b l live here))).replies)
+              (runs.others_silent places asked each f t bs stand roots turns ice asks u k may m other j up) old
+
+      same_node : (m : ℕ) → m ≢ n → IfSome (node_at g m) (NodeWeighs said)
+      same_node m other = subst (λ o. IfSome o (NodeWeighs said)) (sym (turn_elsewhere places asked f stand.0.0.even u m (λ e. other (sym e))).0) (now m)
+
+      turn_weighs : (cut : Bool) → u.cut ≡ cut → IsOwed p k u.input u.wrote u.sent cut → WeightStand g
+      unfolding turn_of
+      turn_weighs false cut owed =
+          let sent : said_in g ≡ more = said_after places asked f (happenings.Turn u) ∙ ap (λ xs. said ++ xs) (ap (λ xs. map post_of xs) owed.1 ∙ posts_back d.after.clock d.says) in
+          let up : node_at g n ≡ Some d.after = here_after ∙ ap (λ c. kept_after c (Some (turn_of p k u.input))) cut in
+          λ m. subst (λ xs. IfSome (node_at g m) (NodeWeighs xs)) (sym sent) (elim (cases_nat m n) [
+            | inl at ↦ subst (λ i. IfSome (node_at g i) (NodeWeighs more)) (sym at) (subst (λ o. IfSome o (NodeWeighs more)) (sym up) after)
+            | inr other ↦ other_node m other
+          ])
+      turn_weighs true cut owed =
+          let sent : said_in g ≡ said = said_after places asked f (happenings.Turn u) ∙ (ap (λ xs. said ++ map post_of xs) owed.1 ∙ append-nil said) in
+          let down : node_at g n ≡ None = here_after ∙ ap (λ c. kept_after c (Some (turn_of p k u.input))) cut in
+          λ m. subst (λ xs. IfSome (node_at g m) (NodeWeighs xs)) (sym sent) (elim (cases_nat m n) [
+            | inl at ↦ subst (λ i. IfSome (node_at g i) (NodeWeighs said)) (sym at) (subst (λ o. IfSome o (NodeWeighs said)) (sym down) tt)
+            | inr other ↦ same_node m other
+          ])
+
+    -- ---- every happening
+
+    start_weighs : (ms : List Post) (zs : List RedoRecord) → NodeWeighs ms (start_of zs)
+    unfolding start_of
+    start_weighs ms zs = (none_live _, none_live _)
+
+    -- a node that is set
+    set_node : (m i : ℕ) (o : Option Kept) → IfSome o (NodeWeighs (said_in f)) → IfSome (flat (numbered (set_numbered f.nodes m o) i)) (NodeWeighs (said_in f))
+    set_node m i o new = elim (set_or_before f.nodes m i o) [
+      | inl still ↦ subst (λ x. IfSome (flat x) (NodeWeighs (said_in f))) (sym still) (now i)
+      | inr set ↦ subst (λ x. IfSome (flat x) (NodeWeighs (said_in f))) (sym set.1) new
+    ]
+
+    -- nothing is sent
+    quiet_weights : (h : Happening) → posts_of h ≡ [] → ((i : ℕ) → IfSome (node_at (facts_after places asked f h) i) (NodeWeighs (said_in f))) → WeightStand (facts_after places asked f h)
+    quiet_weights h none nodes =
+        let sent : said_in (facts_after places asked f h) ≡ said_in f = said_after places asked f h ∙ (ap (λ xs. said_in f ++ xs) none ∙ append-nil (said_in f)) in
+        λ i. subst (λ xs. IfSome (node_at (facts_after places asked f h) i) (NodeWeighs xs)) (sym sent) (nodes i)
+
+    stop_nodes : (m i : ℕ) → IfSome (node_at (facts_after places asked f (happenings.Stopped m)) i) (NodeWeighs (said_in f))
+    unfolding facts_after
+    stop_nodes m i = set_node m i None tt
+
+    start_nodes : (m boot i : ℕ) → IfSome (node_at (facts_after places asked f (happenings.Started m boot)) i) (NodeWeighs (said_in f))
+    unfolding facts_after
+    start_nodes m boot i = set_node m i (Some (start_of (with_boot f m boot))) (start_weighs _ _)
+
+    still_nodes : (h : Happening) → (facts_after places asked f h).nodes ≡ f.nodes → (i : ℕ) → IfSome (node_at (facts_after places asked f h) i) (NodeWeighs (said_in f))
+    still_nodes h is i = subst (λ (xs : List (Option Kept)). IfSome (flat (numbered xs i)) (NodeWeighs (said_in f))) (sym is) (now i)
+
+    pub weights_on : (h : Happening) → MayHappen places asked f h → WeightStand (facts_after places asked f h)
+    weights_on (happenings.Turn u) may = turn_weighs u may.0 may.1 u.cut refl may.1.owed
+    weights_on (happenings.Stopped m) may = quiet_weights (happenings.Stopped m) refl (stop_nodes m)
+    weights_on (happenings.Started m boot) may = quiet_weights (happenings.Started m boot) refl (start_nodes m boot)
+    weights_on (happenings.Begun c) may = quiet_weights (happenings.Begun c) refl (still_nodes (happenings.Begun c) (calls.same_begun places asked each f t bs stand roots turns c))
+    weights_on (happenings.Cut a b) may = quiet_weights (happenings.Cut a b) refl (still_nodes (happenings.Cut a b) (calls.same_cut places asked each f t bs stand roots turns a b))
+    weights_on (happenings.Join a b) may = quiet_weights (happenings.Join a b) refl (still_nodes (happenings.Join a b) (calls.same_join places asked each f t bs stand roots turns a b))
+    weights_on (happenings.Lost k) may = quiet_weights (happenings.Lost k) refl (still_nodes (happenings.Lost k) (calls.same_lost places asked each f t bs stand roots turns k))
+
+  -- ---- every run
+
+  made_weighs : NodeWeighs [] made
+  unfolding start_of
+  made_weighs = (none_live _, none_live _)
+
+  first_weights : WeightStand (first_facts places)
+  first_weights n = first_node (λ o. IfSome o (NodeWeighs [])) tt made_weighs places n
+
+  weights_keep : (f : Facts) (hs : List Happening) (t : List Event) (bs : List Born) → StandBorn places asked each f t bs → RootsStand places asked each f → CallsStand f → FreezeStand f → AskStand f bs → WeightStand f → IsLawful places asked f hs
+      → WeightStand (facts_of places asked f hs)
+  unfolding facts_of IsLawful
+  weights_keep f [] t bs stand roots turns ice asks now lawful = now
+  weights_keep f (h ∷ hs) t bs stand roots turns ice asks now lawful =
+      weights_keep (facts_after places asked f h) hs (events_after places asked f h t) (births_after places f h bs) (stand_born_on places asked each f t bs h stand lawful.0)
+      (roots_stand_on places asked each f t bs stand roots h lawful.0) (calls_stand_on places asked each f t bs stand roots turns h lawful.0) (freeze_on places asked each f t bs stand roots turns ice h lawful.0)
+      (ask_on places asked each f t bs stand roots turns ice asks h lawful.0) (weights_on f t bs stand roots turns ice asks now h lawful.0) lawful.1
+
+-- at the end of every run
+run_weights : (t : History) → IsLawfulRun t → WeightStand (facts_at t)
+run_weights t lawful =
+    weights_keep t.places t.commands t.of_a_script.each (first_facts t.places) t.trace [] [] (stand_born_first t.places t.commands t.of_a_script.each)
+    (first_rests t.places t.commands t.of_a_script.each) (first_calls t.places t.commands t.of_a_script.each) (first_freeze t.places t.commands t.of_a_script.each) (first_ask t.places t.commands t.of_a_script.each)
+    (first_weights t.places t.commands t.of_a_script.each) lawful
+
+node_weighs : (t : History) → IsLawfulRun t → (n : ℕ) (k : Kept) → node_at (facts_at t) n ≡ Some k → NodeWeighs (said_in (facts_at t)) k
+node_weighs t lawful n k up = subst (λ o. IfSome o (NodeWeighs (said_in (facts_at t)))) up (run_weights t lawful n)
+
+pub replies_tell_weights : RepliesTellWeights
+replies_tell_weights t lawful n k up x found =
+    let parts = branch_parts k x.live.me x found in
+    subst (WeighsSo (said_in (facts_at t)) x.live) (sym parts.1) ((node_weighs t lawful n k up).0.each x.live.me x.live parts.0)
+
+pub edges_hold_weights : EdgesHoldWeights
+edges_hold_weights t lawful n k up x found =
+    let parts = branch_parts k x.live.me x found in
+    subst (HoldsOf (said_in (facts_at t)) k x.live) (sym parts.1) ((node_weighs t lawful n k up).1.each x.live.me x.live parts.0)
