@@ -72,7 +72,7 @@ pub every_book_agrees : EveryBookAgrees
 every_book_agrees t lawful = (runs_agree t lawful).0
 
 pub every_mixed_is_marked : EveryMixedIsMarked
-every_mixed_is_marked t lawful = (runs_agree t lawful).1.0
+every_mixed_is_marked t lawful = (runs_agree t lawful).1
 
 pub every_commit_comes_in_order : EveryCommitComesInOrder
 every_commit_comes_in_order t lawful = commits_come_in_order t lawful (forest_of t) (runs_have_forests t lawful) (runs_go_by_forest t lawful)
