@@ -1,4 +1,4 @@
--- What a turn does at a branch that is not live, and of which the node keeps a row.
+-- Turns at a kept branch: its node has a row of it, and it is not live.
 use Rattle.std.proofs.Common.{◌≡◌, Option, None, Some, ap, ◌∙◌}
 use Rattle.tran_ids.specs.declared.branch.BranchId.{BranchId}
 use Rattle.session_tree.specs.declared.live.Live.{Live}

@@ -1,7 +1,7 @@
 pub mod ListLemmas
-mod TableLemmas
+pub mod TableLemmas
 mod RecordLemmas
-mod RanLemmas
+pub mod RanLemmas
 pub mod RowStepLemmas
 mod NumberLemmas
 mod CallNumberLemmas

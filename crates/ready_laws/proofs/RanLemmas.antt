@@ -67,7 +67,7 @@ module _ (k : Kept) (now : HasRows k) (b : BranchId) (t : Table) (there : table_
   own = own_there k now b
 
   -- the table is whole, and what the branch sees are rows of it
-  one_key : has_one_key t ≡ true
+  pub one_key : has_one_key t ≡ true
   one_key = whole_tables_have_one_key t (all_found _ _ k.stored.durable.tables t now.whole there)
 
   pub seen : AreRowsOf t (view k b t.name)

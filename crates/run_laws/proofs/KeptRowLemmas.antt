@@ -42,7 +42,7 @@ module _ (b : BranchId) where
   or_is false r is = inr is
 
   -- a row that is put in is there
-  put_there : (ks : List Standing) (x : Standing) → same x.me b ≡ true → HasRow b (add_kept ks x)
+  pub put_there : (ks : List Standing) (x : Standing) → same x.me b ≡ true → HasRow b (add_kept ks x)
   put_there [] x here = or_left (same x.me b) false here
   put_there (y ∷ ys) x here =
       cond_both (branch_below x.me y.me) _ _ (HasRow b) (λ below. or_left (same x.me b) (list_any (stands_at b) (y ∷ ys)) here)
@@ -124,7 +124,7 @@ module _ (b : BranchId) where
     stored_stay s (records.Param (params.Strength strength)) may has = inl has
     stored_stay s r may has = rows_stay s.durable.kept r may has
 
-    wrote_stay : (rs : List RedoRecord) (w : Option RedoRecord) → IfSome w (MayStand t) → HasRow b (stored_by nothing_stored rs).durable.kept
+    pub wrote_stay : (rs : List RedoRecord) (w : Option RedoRecord) → IfSome w (MayStand t) → HasRow b (stored_by nothing_stored rs).durable.kept
         → HasRow b (stored_by nothing_stored (rs ++ option_to_list w)).durable.kept ⊎ IsDone (with_event (wrote_event n w) t) b
     wrote_stay rs None may has = inl (subst (λ s. HasRow b s.durable.kept) (sym (stored_with rs None)) has)
     wrote_stay rs (Some r) may has =

@@ -30,7 +30,7 @@ use Rattle.run_laws.proofs.TurnEventLemmas.{cases_nat, record_may, record_own}
 use Rattle.tree_laws.specs.BeyondLaws.{IsNamed, RecordHeard, WritesHeard}
 use Rattle.tree_laws.specs.Forests.{forest_of}
 use Rattle.tree_laws.proofs.NameLemmas.{exit_on}
-use Rattle.tree_laws.proofs.RowStayLemmas.{put_there, wrote_stay}
+use Rattle.run_laws.proofs.KeptRowLemmas.{put_there, wrote_stay}
 use Rattle.tree_laws.proofs.SettleRunLemmas.{records_heard}
 use Rattle.tree_laws.proofs.SiteLemmas.{IsDecisionOf, wrote_decision, later_undecided}
 

@@ -23,7 +23,6 @@ pub mod RecordForestLemmas
 pub mod TellWhyLemmas
 pub mod SiteLemmas
 pub mod AckForestLemmas
-pub mod RowStayLemmas
 pub mod DecidedRowLemmas
 pub mod RollForestLemmas
 pub mod WeightLemmas
