@@ -4,8 +4,8 @@
 //! Here are the definitions, the laws of theirs that are proved, and proved laws of every turn of a lawful run: of what its
 //! nodes keep (`specs/NodeLaws.antt`), of the session trees that its branches form (`specs/BirthLaws.antt`), and of what
 //! branches hear and tell of one another. Agreement, marked mixed outcomes and the first half of the law of SCNs are proved of
-//! runs whose turns do what their session trees allow (`specs/TreeJust.antt`); that all lawful runs do so, the rest of that
-//! law and the commit point site stand as statements (`specs/Headline.antt`) and are not proved yet.
+//! runs whose turns do what their session trees allow (`specs/TreeJust.antt`); that all lawful runs do so is proved in
+//! tree_laws. The rest of that law and the commit point site stand as statements (`specs/Headline.antt`) and are not proved yet.
 #![tactic(auto)]
 
 ghost use Rattle.run_laws.specs.Laws.{BookIsOfTrace, FactsAreAlone, PastGoesOn, LawfulGoesOn, RunsArePlayed};
