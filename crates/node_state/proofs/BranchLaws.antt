@@ -8,35 +8,34 @@ use Rattle.indexmap.proofs.MapLemmas.{insert_entry-first, Found-position}
 use Rattle.tran_ids.specs.declared.branch.BranchId.{BranchId}
 use Rattle.tran_ids.specs.Branch.{same}
 use Rattle.tran_ids.specs.Listed.{item_at, put_item, drop_item}
-use Rattle.node_state.specs.declared.branch_key.BranchKey.{BranchKey}
-use Rattle.node_state.specs.contracts.branch_key.BranchKeyPartialEq.TheImpl as of_key
-use Rattle.node_state.specs.contracts.branch_key.BranchKeyEq.TheImpl.Laws.{laws-law}
+use Rattle.tran_ids.specs.contracts.branch.BranchIdPartialEq.TheImpl as of_key
+use Rattle.tran_ids.specs.contracts.branch.BranchIdEq.TheImpl.Laws.{laws-law}
 use Rattle.tran_ids.proofs.BranchLemmas.{equal_from_same, same_from_equal}
 use Rattle.tran_ids.proofs.ListedLemmas.{item_is, put_found}
-use Rattle.node_state.specs.ByBranch.{key_of, AreKeyed}
+use Rattle.node_state.specs.ByBranch.{AreKeyed}
 use Rattle.node_state.specs.Changed.{with_item, change_item}
 
 -- the test by which the map finds a key
-abbrev pub found_as : BranchKey → BranchKey → Bool
+abbrev pub found_as : BranchId → BranchId → Bool
 found_as = of_key.eq-value.it
 
-key_is : (b c : BranchId) → found_as (key_of b) (key_of c) ≡ same c b
-key_is b c = laws-law.symm (key_of b) (key_of c)
+key_is : (b c : BranchId) → found_as b c ≡ same c b
+key_is b c = laws-law.symm b c
 
 module _ {A : Type 0} (id : A → BranchId) (P : A → Type 0) where
   abbrev Entry : Type 0
-  Entry = BranchKey × A
+  Entry = BranchId × A
 
-  test_is : (b : BranchId) (e : Entry) → e.0 ≡ key_of (id e.1) → found_as (key_of b) e.0 ≡ same (id e.1) b
-  test_is b e keyed = ap (found_as (key_of b)) keyed ∙ key_is b (id e.1)
+  test_is : (b : BranchId) (e : Entry) → e.0 ≡ id e.1 → found_as b e.0 ≡ same (id e.1) b
+  test_is b e keyed = ap (found_as b) keyed ∙ key_is b (id e.1)
 
   -- ---- a look-up
 
   -- the item that is found
-  pub found : (b : BranchId) (es : List Entry) → AreKeyed id P es → lookup (found_as (key_of b)) es ≡ item_at id (values_of es) b
+  pub found : (b : BranchId) (es : List Entry) → AreKeyed id P es → lookup (found_as b) es ≡ item_at id (values_of es) b
   found b [] keyed = refl
   found b (e ∷ es) keyed =
-      ap (λ h. cond h (Some e.1) (lookup (found_as (key_of b)) es)) (test_is b e keyed.0.0)
+      ap (λ h. cond h (Some e.1) (lookup (found_as b) es)) (test_is b e keyed.0.0)
       ∙ ap (λ o. cond (same (id e.1) b) (Some e.1) o) (found b es keyed.1)
 
   none_from : (o : Option A) → false ≡ is_some o → o ≡ None
@@ -44,8 +43,8 @@ module _ {A : Type 0} (id : A → BranchId) (P : A → Type 0) where
   none_from (Some x) e = absurd (true≢false (sym e))
 
   -- where no key is found there is no item
-  pub none_there : (b : BranchId) (es : List Entry) → AreKeyed id P es → false ≡ is_some (lookup (found_as (key_of b)) es) → item_at id (values_of es) b ≡ None
-  none_there b es keyed none = sym (found b es keyed) ∙ none_from (lookup (found_as (key_of b)) es) none
+  pub none_there : (b : BranchId) (es : List Entry) → AreKeyed id P es → false ≡ is_some (lookup (found_as b) es) → item_at id (values_of es) b ≡ None
+  none_there b es keyed none = sym (found b es keyed) ∙ none_from (lookup (found_as b) es) none
 
   -- ---- an item that is put
 
@@ -55,22 +54,22 @@ module _ {A : Type 0} (id : A → BranchId) (P : A → Type 0) where
   put_step x false e es more rest later = ap (λ (xs : List A). e.1 ∷ xs) later
 
   -- under its branch's key
-  pub put_is : (x : A) (es : List Entry) → AreKeyed id P es → values_of (insert_entry found_as es (key_of (id x)) x) ≡ put_item id (values_of es) x
+  pub put_is : (x : A) (es : List Entry) → AreKeyed id P es → values_of (insert_entry found_as es (id x) x) ≡ put_item id (values_of es) x
   put_is x [] keyed = refl
   put_is x (e ∷ es) keyed =
-      ap (λ h. values_of (cond h ((e.0, x) ∷ es) (e ∷ insert_entry found_as es (key_of (id x)) x))) (test_is (id x) e keyed.0.0)
+      ap (λ h. values_of (cond h ((e.0, x) ∷ es) (e ∷ insert_entry found_as es (id x) x))) (test_is (id x) e keyed.0.0)
       ∙ put_step x (same (id e.1) (id x)) e es _ _ (put_is x es keyed.1)
 
   keyed_step : (x : A) (hit : Bool) (e : Entry) (es more : List Entry) → same (id e.1) (id x) ≡ hit → P x → AreKeyed id P (e ∷ es) → AreKeyed id P more
       → AreKeyed id P (cond hit ((e.0, x) ∷ es) (e ∷ more))
-  keyed_step x true e es more is holds keyed later = ((keyed.0.0 ∙ ap key_of (equal_from_same (id e.1) (id x) is), holds), keyed.1)
+  keyed_step x true e es more is holds keyed later = ((keyed.0.0 ∙ equal_from_same (id e.1) (id x) is, holds), keyed.1)
   keyed_step x false e es more is holds keyed later = (keyed.0, later)
 
   -- the keys stay those of the items
-  pub keyed_put : (x : A) (es : List Entry) → P x → AreKeyed id P es → AreKeyed id P (insert_entry found_as es (key_of (id x)) x)
+  pub keyed_put : (x : A) (es : List Entry) → P x → AreKeyed id P es → AreKeyed id P (insert_entry found_as es (id x) x)
   keyed_put x [] holds keyed = ((refl, holds), tt)
   keyed_put x (e ∷ es) holds keyed =
-      subst (λ h. AreKeyed id P (cond h ((e.0, x) ∷ es) (e ∷ insert_entry found_as es (key_of (id x)) x))) (sym (test_is (id x) e keyed.0.0))
+      subst (λ h. AreKeyed id P (cond h ((e.0, x) ∷ es) (e ∷ insert_entry found_as es (id x) x))) (sym (test_is (id x) e keyed.0.0))
       (keyed_step x (same (id e.1) (id x)) e es _ refl holds keyed (keyed_put x es holds keyed.1))
 
   twice_step : (x y z : A) (xs : List A) → id x ≡ id y → (hit : Bool) → same (id z) (id x) ≡ hit → put_item id (put_item id xs x) y ≡ put_item id xs y
@@ -92,18 +91,18 @@ module _ {A : Type 0} (id : A → BranchId) (P : A → Type 0) where
   -- ---- an item that is changed at its place
 
   -- where a key is found, there its item stands
-  pub keyed_placed : (b : BranchId) (x : A) (es : List Entry) (i : ℕ) → position (found_as (key_of b)) (keys_of es) ≡ Some i → id x ≡ b → AreKeyed id P es
+  pub keyed_placed : (b : BranchId) (x : A) (es : List Entry) (i : ℕ) → position (found_as b) (keys_of es) ≡ Some i → id x ≡ b → AreKeyed id P es
       → values_of (set_value_at es i x) ≡ put_item id (values_of es) x
   keyed_placed b x es i at is keyed =
-      let there : position (found_as (key_of (id x))) (keys_of es) ≡ Some i = subst (λ c. position (found_as (key_of c)) (keys_of es) ≡ Some i) (sym is) at in
-      ap values_of (sym (insert_entry-first found_as (key_of (id x)) x es i (Found-position (found_as (key_of (id x))) es i there).first)) ∙ put_is x es keyed
+      let there : position (found_as (id x)) (keys_of es) ≡ Some i = subst (λ c. position (found_as c) (keys_of es) ≡ Some i) (sym is) at in
+      ap values_of (sym (insert_entry-first found_as (id x) x es i (Found-position (found_as (id x)) es i there).first)) ∙ put_is x es keyed
 
   -- the keys stay those of the items
   pub still_keyed : (es : List Entry) (i : ℕ) (x y : A) → slice_get (values_of es) i ≡ Some x → id y ≡ id x → P y → AreKeyed id P es → AreKeyed id P (set_value_at es i y)
   still_keyed [] i x y there is holds keyed = tt
   still_keyed (e ∷ es) zero x y there is holds keyed =
       let it : e.1 ≡ x = cc in
-      ((keyed.0.0 ∙ ap (λ z. key_of (id z)) it ∙ ap key_of (sym is), holds), keyed.1)
+      ((keyed.0.0 ∙ ap id it ∙ sym is, holds), keyed.1)
   still_keyed (e ∷ es) (suc i) x y there is holds keyed = (keyed.0, still_keyed es i x y there is holds keyed.1)
 
   -- what holds of each item holds of one that is found
@@ -117,7 +116,7 @@ module _ {A : Type 0} (id : A → BranchId) (P : A → Type 0) where
   holds_step e x false more there holds later = later there
 
   -- and of one that is looked up
-  pub holds_found : (test : BranchKey → Bool) (es : List Entry) (x : A) → lookup test es ≡ Some x → AreKeyed id P es → P x
+  pub holds_found : (test : BranchId → Bool) (es : List Entry) (x : A) → lookup test es ≡ Some x → AreKeyed id P es → P x
   holds_found test [] x there keyed = absurd cc
   holds_found test (e ∷ es) x there keyed = holds_step e x (test e.0) (lookup test es) there keyed.0.1 (λ later. holds_found test es x later keyed.1)
 
@@ -128,18 +127,18 @@ module _ {A : Type 0} (id : A → BranchId) (P : A → Type 0) where
   same_set (e ∷ es) (suc i) x there = ap (λ (ds : List Entry). e ∷ ds) (same_set es i x there)
 
   -- another item of the branch at its place: the branch has one
-  pub placed_there : (b : BranchId) (x : A) (es : List Entry) (i : ℕ) → position (found_as (key_of b)) (keys_of es) ≡ Some i → id x ≡ b → AreKeyed id P es
+  pub placed_there : (b : BranchId) (x : A) (es : List Entry) (i : ℕ) → position (found_as b) (keys_of es) ≡ Some i → id x ≡ b → AreKeyed id P es
       → item_at id (values_of (set_value_at es i x)) b ≡ Some x
   placed_there b x es i at is keyed =
       ap (λ xs. item_at id xs b) (keyed_placed b x es i at is keyed) ∙ subst (λ c. item_at id (put_item id (values_of es) x) c ≡ Some x) is (put_found id (values_of es) x)
 
   -- what is put there afterwards stands as if it had been put in the place of the first
-  pub placed_twice : (b : BranchId) (x y : A) (es : List Entry) (i : ℕ) → position (found_as (key_of b)) (keys_of es) ≡ Some i → id x ≡ b → id y ≡ b → AreKeyed id P es
+  pub placed_twice : (b : BranchId) (x y : A) (es : List Entry) (i : ℕ) → position (found_as b) (keys_of es) ≡ Some i → id x ≡ b → id y ≡ b → AreKeyed id P es
       → put_item id (values_of (set_value_at es i x)) y ≡ put_item id (values_of es) y
   placed_twice b x y es i at is too keyed = ap (λ xs. put_item id xs y) (keyed_placed b x es i at is keyed) ∙ put_twice (values_of es) x y (is ∙ sym too)
 
   -- the branch's item changed at its place
-  pub changed_is : (b : BranchId) (f : A → A) (es : List Entry) (i : ℕ) (x y : A) → position (found_as (key_of b)) (keys_of es) ≡ Some i → lookup (found_as (key_of b)) es ≡ Some x
+  pub changed_is : (b : BranchId) (f : A → A) (es : List Entry) (i : ℕ) (x y : A) → position (found_as b) (keys_of es) ≡ Some i → lookup (found_as b) es ≡ Some x
       → y ≡ f x → id (f x) ≡ id x → AreKeyed id P es → values_of (set_value_at es i y) ≡ change_item id f (values_of es) b
   changed_is b f es i x y at there after keeps keyed =
       let item : item_at id (values_of es) b ≡ Some x = sym (found b es keyed) ∙ there in
@@ -147,12 +146,12 @@ module _ {A : Type 0} (id : A → BranchId) (P : A → Type 0) where
       keyed_placed b y es i at mine keyed ∙ ap (put_item id (values_of es)) after ∙ sym (ap (with_item id f (values_of es)) item)
 
   -- a branch that has none
-  pub unchanged_is : (b : BranchId) (f : A → A) (es : List Entry) → AreKeyed id P es → false ≡ is_some (lookup (found_as (key_of b)) es) → values_of es ≡ change_item id f (values_of es) b
+  pub unchanged_is : (b : BranchId) (f : A → A) (es : List Entry) → AreKeyed id P es → false ≡ is_some (lookup (found_as b) es) → values_of es ≡ change_item id f (values_of es) b
   unchanged_is b f es keyed none = sym (ap (with_item id f (values_of es)) (none_there b es keyed none))
 
   -- ---- an item behind the others
 
-  pub keyed_push : (es : List Entry) (x : A) → P x → AreKeyed id P es → AreKeyed id P (es ++ (key_of (id x), x) ∷ [])
+  pub keyed_push : (es : List Entry) (x : A) → P x → AreKeyed id P es → AreKeyed id P (es ++ (id x, x) ∷ [])
   keyed_push [] x holds keyed = ((refl, holds), tt)
   keyed_push (e ∷ es) x holds keyed = (keyed.0, keyed_push es x holds keyed.1)
 
@@ -167,14 +166,14 @@ module _ {A : Type 0} (id : A → BranchId) (P : A → Type 0) where
   put_absent (y ∷ ys) x none = put_absent_step x (same (id y) (id x)) y ys none (put_absent ys x)
 
   -- and its key is not there
-  pub absent_from : (b : BranchId) (es : List Entry) → AreKeyed id P es → item_at id (values_of es) b ≡ None → lookup (found_as (key_of b)) es ≡ None
+  pub absent_from : (b : BranchId) (es : List Entry) → AreKeyed id P es → item_at id (values_of es) b ≡ None → lookup (found_as b) es ≡ None
   absent_from b es keyed none = found b es keyed ∙ none
 
   -- ---- an item that is dropped
 
   module _ (b : BranchId) where
-    abbrev at : BranchKey → Bool
-    at = found_as (key_of b)
+    abbrev at : BranchId → Bool
+    at = found_as b
 
     kept_step : (hit : Bool) (e : Entry) (es : List Entry) → same (id e.1) b ≡ hit → (lookup at es ≡ None → values_of es ≡ drop_item id (values_of es) b)
         → cond hit (Some e.1) (lookup at es) ≡ None → e.1 ∷ values_of es ≡ cond (not hit) (e.1 ∷ drop_item id (values_of es) b) (drop_item id (values_of es) b)

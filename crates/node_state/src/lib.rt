@@ -2,7 +2,6 @@
 //! the definitions that the rules of a node use.
 #![tactic(auto)]
 
-mod branch_key;
 mod live_changes;
 mod lives;
 mod sessions;

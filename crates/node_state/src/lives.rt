@@ -11,7 +11,6 @@ ghost use Rattle.node_rules.specs.Prepare.{with_comment, ready};
 ghost use Rattle.node_state.specs.Changed.{change_item};
 ghost use Rattle.node_state.specs.Lives.{HasRoom, prepared, changed_by, advised, heard};
 
-use crate::branch_key::BranchKey;
 use crate::live_changes;
 use dtx_values::{Advice, Bytes};
 use indexmap::IndexMap;
@@ -24,7 +23,7 @@ use tran_ids::BranchId;
 /// The live branches of a node, in the order in which they began. A branch is found by its id.
 #[derive(Drop)]
 pub struct Lives {
-    lives: IndexMap<BranchKey, Live>,
+    lives: IndexMap<BranchId, Live>,
 }
 
 impl Model for Lives {
@@ -57,7 +56,7 @@ impl Lives {
         ensures live { option_copied result ≡ item_at live_id self.now branch.now }
         ensures room { IfSome result (λ live. HasRoom live.now) }
     {
-        self.lives.get(&BranchKey::of(branch))
+        self.lives.get(branch)
     }
 
     /// All of them, in the order in which they began.
@@ -74,7 +73,7 @@ impl Lives {
         ensures ok { OnOk result (self.new ≡ self.old ++ live ∷ []) }
         ensures err { OnErr result (self.new ≡ self.old) }
     {
-        self.lives.insert(BranchKey::of(&live.me), live)?;
+        self.lives.insert(live.me, live)?;
         Ok(())
     }
 
@@ -82,7 +81,7 @@ impl Lives {
     pub fn drop_branch(&mut self, branch: &BranchId)
         ensures { self.new ≡ drop_item live_id self.old branch.now }
     {
-        drop(self.lives.shift_remove(&BranchKey::of(branch)));
+        drop(self.lives.shift_remove(branch));
     }
 
     /// COMMIT, at a root, or Prepare comes, with the comment of the COMMIT: only a working branch hears it. Tells what the
@@ -97,7 +96,7 @@ impl Lives {
         ensures act { result ≡ option_map (λ live. prepare_act (with_comment live comment) site_below) (item_at live_id self.old branch.now) }
         ensures after { self.new ≡ change_item live_id (prepared site_below comment) self.old branch.now }
     {
-        let Some(place) = self.lives.get_index_of(&BranchKey::of(branch)) else {
+        let Some(place) = self.lives.get_index_of(branch) else {
             return None;
         };
         let act = live_changes::prepare(alloc, &mut self.lives[place], site_below, comment);
@@ -115,7 +114,7 @@ impl Lives {
         ensures act { result ≡ option_map (λ live. heard_act live from.now vote) (item_at live_id self.old branch.now) }
         ensures after { self.new ≡ change_item live_id (λ live. after_answer live from.now vote) self.old branch.now }
     {
-        let Some(place) = self.lives.get_index_of(&BranchKey::of(branch)) else {
+        let Some(place) = self.lives.get_index_of(branch) else {
             return None;
         };
         let act = on_answer(alloc, &mut self.lives[place], from, vote);
@@ -126,7 +125,7 @@ impl Lives {
     pub fn note_changes(&mut self, branch: &BranchId, changes: bool)
         ensures { self.new ≡ change_item live_id (changed_by changes) self.old branch.now }
     {
-        if let Some(place) = self.lives.get_index_of(&BranchKey::of(branch)) {
+        if let Some(place) = self.lives.get_index_of(branch) {
             live_changes::note_changes(&mut self.lives[place], changes);
         }
     }
@@ -135,7 +134,7 @@ impl Lives {
     pub fn take_advice(&mut self, branch: &BranchId, advice: Option<Advice>)
         ensures { self.new ≡ change_item live_id (advised advice) self.old branch.now }
     {
-        if let Some(place) = self.lives.get_index_of(&BranchKey::of(branch)) {
+        if let Some(place) = self.lives.get_index_of(branch) {
             live_changes::take_advice(&mut self.lives[place], advice);
         }
     }
@@ -146,7 +145,7 @@ impl Lives {
         ensures ok { OnOk result (self.new ≡ change_item live_id (λ live. add_edge_of live edge) self.old branch.now) }
         ensures err { OnErr result (self.new ≡ self.old) }
     {
-        let Some(place) = self.lives.get_index_of(&BranchKey::of(branch)) else {
+        let Some(place) = self.lives.get_index_of(branch) else {
             return Ok(());
         };
         add_edge(&mut self.lives[place], edge)?;
@@ -164,7 +163,7 @@ impl Lives {
     )
         ensures { self.new ≡ change_item live_id (heard number weight count) self.old branch.now }
     {
-        if let Some(place) = self.lives.get_index_of(&BranchKey::of(branch)) {
+        if let Some(place) = self.lives.get_index_of(branch) {
             live_changes::hear(alloc, &mut self.lives[place], number, weight, count);
         }
     }
@@ -173,7 +172,7 @@ impl Lives {
     pub fn make_ready(&mut self, branch: &BranchId)
         ensures { self.new ≡ change_item live_id ready self.old branch.now }
     {
-        if let Some(place) = self.lives.get_index_of(&BranchKey::of(branch)) {
+        if let Some(place) = self.lives.get_index_of(branch) {
             live_changes::make_ready(&mut self.lives[place]);
         }
     }

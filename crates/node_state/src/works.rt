@@ -8,7 +8,6 @@ ghost use Rattle.node_rules.specs.Kept.{work_id, no_work};
 ghost use Rattle.node_rules.specs.Calls.{next_call};
 ghost use Rattle.node_state.specs.Works.{work_of, change_work, with_call_taken, called_over, waits_for_child, with_child, answered_with, given_up};
 
-use crate::branch_key::BranchKey;
 use crate::work_changes;
 use dtx_values::Name;
 use indexmap::IndexMap;
@@ -24,7 +23,7 @@ use tran_ids::BranchId;
 /// found by its id.
 #[derive(Drop)]
 pub struct Works {
-    works: IndexMap<BranchKey, Work>,
+    works: IndexMap<BranchId, Work>,
 }
 
 impl Model for Works {
@@ -56,7 +55,7 @@ impl Works {
     pub fn get(&self, branch: &BranchId) -> Option<&Work>
         ensures { option_copied result ≡ item_at work_id self.now branch.now }
     {
-        self.works.get(&BranchKey::of(branch))
+        self.works.get(branch)
     }
 
     /// What a branch does about a call of this number.
@@ -139,7 +138,7 @@ impl Works {
         ensures ok { OnOk result (self.new ≡ change_work with_child self.old branch.now) }
         ensures err { OnErr result (self.new ≡ self.old) }
     {
-        let Some(place) = self.works.get_index_of(&BranchKey::of(branch)) else {
+        let Some(place) = self.works.get_index_of(branch) else {
             let first = work_changes::first_child(alloc, branch)?;
             self.put(first)?;
             return Ok(());
@@ -180,7 +179,7 @@ impl Works {
     pub fn drop_branch(&mut self, branch: &BranchId)
         ensures { self.new ≡ drop_item work_id self.old branch.now }
     {
-        drop(self.works.shift_remove(&BranchKey::of(branch)));
+        drop(self.works.shift_remove(branch));
     }
 
     // Takes the calls of a branch out, until they are put back.
@@ -190,7 +189,7 @@ impl Works {
         ensures absent { item_at work_id self.new branch.now ≡ None → self.new ≡ self.old }
     {
         let empty = work_changes::no_work(alloc, branch);
-        let Some(place) = self.works.get_index_of(&BranchKey::of(branch)) else {
+        let Some(place) = self.works.get_index_of(branch) else {
             return empty;
         };
         mem::replace(&mut self.works[place], empty)
@@ -202,7 +201,7 @@ impl Works {
         ensures err { OnErr result (self.new ≡ self.old) }
         ensures absent { OnErr result (item_at work_id self.old work.branch ≡ None) }
     {
-        drop(self.works.insert(BranchKey::of(&work.branch), work)?);
+        drop(self.works.insert(work.branch, work)?);
         Ok(())
     }
 }

@@ -7,7 +7,6 @@ use Rattle.dtx_values.specs.declared.value.Value.{Value}
 use Rattle.tran_ids.specs.declared.branch.BranchId.{BranchId}
 use Rattle.tran_ids.specs.Branch.{same}
 use Rattle.tran_ids.proofs.BranchLemmas.{equal_from_same}
-use Rattle.row_locks.specs.declared.branch_key.BranchKey.{BranchKey}
 use Rattle.row_locks.specs.declared.held_key.HeldKey.{HeldKey}
 use Rattle.row_locks.specs.Locks.{taken, holder_of, in_doubt_from_now, without, without_reads}
 use Rattle.row_locks.specs.Numbered.{Numbered, lock_of, locks_in, is_number, is_among, without_numbers, without_read_numbers, doubtful, changed_at, AreApart, HaveOwnNumbers, numbers_of}
@@ -16,7 +15,7 @@ use Rattle.row_locks.proofs.NumberLaws.{own_less, own_changed, last_dropped}
 use Rattle.row_locks.proofs.BranchLaws.{AreItsNumbers, its_numbers, released, reads_released, marked, none_left, beside_released, beside_reads, numbers_changed, there, left, numbers_pushed}
 use Rattle.row_locks.proofs.KeyLaws.{taken_free, none_on, free_is}
 
-module _ (b : BranchId) (ns : List ℕ) (es fs : List Numbered) (bs : List (BranchKey × List ℕ)) (are : AreLinked es bs) (its : ns ≡ numbers_at bs b) where
+module _ (b : BranchId) (ns : List ℕ) (es fs : List Numbered) (bs : List (BranchId × List ℕ)) (are : AreLinked es bs) (its : ns ≡ numbers_at bs b) where
   told : AreItsNumbers b ns es
   told = subst (λ (ms : List ℕ). AreItsNumbers b ms es) (sym (its ∙ are.linked b)) (its_numbers b es are.own)
 
@@ -29,7 +28,7 @@ module _ (b : BranchId) (ns : List ℕ) (es fs : List Numbered) (bs : List (Bran
   release_step c true is = sym (none_left b ns es told) ∙ ap (λ d. numbers_of d (without_numbers ns es)) (equal_from_same b c is)
   release_step c false is = are.linked c ∙ sym (beside_released b c is ns es told)
 
-  pub release_linked : (cs : List (BranchKey × List ℕ)) → fs ≡ without_numbers ns es → ((c : BranchId) → numbers_at cs c ≡ cond (same b c) [] (numbers_at bs c)) → AreLinked fs cs
+  pub release_linked : (cs : List (BranchId × List ℕ)) → fs ≡ without_numbers ns es → ((c : BranchId) → numbers_at cs c ≡ cond (same b c) [] (numbers_at bs c)) → AreLinked fs cs
   release_linked cs is dropped =
       subst (λ (xs : List Numbered). AreLinked xs cs) (sym is)
       (record { own = own_less (λ e. not (is_among ns e.0)) es are.own; linked = λ c. dropped c ∙ release_step c (same b c) refl })
@@ -49,7 +48,7 @@ module _ (b : BranchId) (ns : List ℕ) (es fs : List Numbered) (bs : List (Bran
       ∙ left kept (λ n. is_some (lookup (is_number n) (filter kept es))) c es (there kept es are.own)
   reads_step c false is = are.linked c ∙ sym (beside_reads b c is ns es told)
 
-  pub reads_linked : (cs : List (BranchKey × List ℕ)) → fs ≡ without_read_numbers ns es
+  pub reads_linked : (cs : List (BranchId × List ℕ)) → fs ≡ without_read_numbers ns es
       → ((c : BranchId) → numbers_at cs c ≡ cond (same b c) (filter (λ n. is_some (lookup (is_number n) fs)) (numbers_at bs c)) (numbers_at bs c)) → AreLinked fs cs
   reads_linked cs is keeps =
       subst (λ (xs : List Numbered). AreLinked xs cs) (sym is)
@@ -64,7 +63,7 @@ module _ (b : BranchId) (ns : List ℕ) (es fs : List Numbered) (bs : List (Bran
   mark_is is = ap locks_in is ∙ marked b ns es told
 
 -- locks that are changed stay linked
-pub changed_linked : (f : HeldKey → HeldKey) → ((h : HeldKey) → (f h).branch ≡ h.branch) → (ns : List ℕ) (es fs : List Numbered) (bs : List (BranchKey × List ℕ))
+pub changed_linked : (f : HeldKey → HeldKey) → ((h : HeldKey) → (f h).branch ≡ h.branch) → (ns : List ℕ) (es fs : List Numbered) (bs : List (BranchId × List ℕ))
     → AreLinked es bs → fs ≡ changed_at f ns es → AreLinked fs bs
 changed_linked f stays ns es fs bs are is =
     subst (λ (xs : List Numbered). AreLinked xs bs) (sym is)
@@ -76,7 +75,7 @@ more_step : (c : BranchId) (n : ℕ) (hit : Bool) (ns : List ℕ) → cond hit (
 more_step c n true ns = refl
 more_step c n false ns = sym (append-nil ns)
 
-pub add_linked : (h : HeldKey) (n : ℕ) (es fs : List Numbered) (bs cs : List (BranchKey × List ℕ)) → AreLinked es bs → AreApart fs → fs ≡ es ++ (n, h) ∷ []
+pub add_linked : (h : HeldKey) (n : ℕ) (es fs : List Numbered) (bs cs : List (BranchId × List ℕ)) → AreLinked es bs → AreApart fs → fs ≡ es ++ (n, h) ∷ []
     → ((c : BranchId) → numbers_at cs c ≡ cond (same h.branch c) (numbers_at bs c ++ n ∷ []) (numbers_at bs c)) → AreLinked fs cs
 add_linked h n es fs bs cs are apart is more =
     record {
@@ -96,7 +95,7 @@ add_is table key b writes n es fs free is =
 pub undone : (n : ℕ) (h : HeldKey) (es fs gs : List Numbered) → AreApart fs → fs ≡ es ++ (n, h) ∷ [] → gs ≡ without_numbers (n ∷ []) fs → gs ≡ es
 undone n h es fs gs apart is less = less ∙ ap (without_numbers (n ∷ [])) is ∙ last_dropped n h es (subst HaveOwnNumbers is apart.numbers)
 
-pub linked_back : (es gs : List Numbered) (bs cs : List (BranchKey × List ℕ)) → AreLinked es bs → gs ≡ es → cs ≡ bs → AreLinked gs cs
+pub linked_back : (es gs : List Numbered) (bs cs : List (BranchId × List ℕ)) → AreLinked es bs → gs ≡ es → cs ≡ bs → AreLinked gs cs
 linked_back es gs bs cs are is kept = subst (λ (xs : List Numbered). AreLinked xs cs) (sym is) (subst (AreLinked es) (sym kept) are)
 
 pub on_err_so : {T E P : Type 0} (r : Result T E) → is_err r ≡ true → OnErr r P → P

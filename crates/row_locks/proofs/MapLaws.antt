@@ -9,27 +9,26 @@ use Rattle.indexmap.specs.Layout.{set_value_at}
 use Rattle.tran_ids.specs.declared.branch.BranchId.{BranchId}
 use Rattle.tran_ids.specs.Branch.{same}
 use Rattle.tran_ids.proofs.BranchLemmas.{equal_from_same}
-use Rattle.row_locks.specs.declared.branch_key.BranchKey.{BranchKey}
-use Rattle.row_locks.specs.contracts.branch_key.BranchKeyPartialEq.TheImpl as of_key
-use Rattle.row_locks.specs.contracts.branch_key.BranchKeyEq.TheImpl.Laws.{laws-law}
-use Rattle.row_locks.specs.ByBranch.{key_of, branch_of, numbers_at}
+use Rattle.tran_ids.specs.contracts.branch.BranchIdPartialEq.TheImpl as of_key
+use Rattle.tran_ids.specs.contracts.branch.BranchIdEq.TheImpl.Laws.{laws-law}
+use Rattle.row_locks.specs.ByBranch.{numbers_at}
 
 -- the test by which the map finds a branch
-abbrev pub found_as : BranchKey → BranchKey → Bool
+abbrev pub found_as : BranchId → BranchId → Bool
 found_as = of_key.eq-value.it
 
 abbrev pub Entry : Type 0
-Entry = BranchKey × List ℕ
+Entry = BranchId × List ℕ
 
-key_is : (b : BranchId) (k : BranchKey) → found_as (key_of b) k ≡ same (branch_of k) b
-key_is b k = laws-law.symm (key_of b) k
+key_is : (b : BranchId) (k : BranchId) → found_as b k ≡ same k b
+key_is b k = laws-law.symm b k
 
 -- a look-up in the map
-pub numbers_are : (b : BranchId) (es : List Entry) → unwrap_or (lookup (found_as (key_of b)) es) [] ≡ numbers_at es b
+pub numbers_are : (b : BranchId) (es : List Entry) → unwrap_or (lookup (found_as b) es) [] ≡ numbers_at es b
 numbers_are b es = λ i. unwrap_or (lookup (λ k. key_is b k i) es) []
 
 -- the numbers of a branch that the map finds
-pub numbers_there : (b : BranchId) (es : List Entry) (x : List ℕ) → lookup (found_as (key_of b)) es ≡ Some x → numbers_at es b ≡ x
+pub numbers_there : (b : BranchId) (es : List Entry) (x : List ℕ) → lookup (found_as b) es ≡ Some x → numbers_at es b ≡ x
 numbers_there b es x there = sym (numbers_are b es) ∙ ap (λ o. unwrap_or o []) there
 
 put_step : (hit : Bool) (w old : Option (List ℕ)) → unwrap_or (cond hit w old) [] ≡ cond hit (unwrap_or w []) (unwrap_or old [])
@@ -38,10 +37,10 @@ put_step false w old = refl
 
 -- what the map has after a call, at each branch
 pub updated : (b : BranchId) (w : Option (List ℕ)) (es fs : List Entry)
-    → ((q : BranchKey) → lookup (found_as q) fs ≡ cond (found_as (key_of b) q) w (lookup (found_as q) es))
+    → ((q : BranchId) → lookup (found_as q) fs ≡ cond (found_as b q) w (lookup (found_as q) es))
     → (c : BranchId) → numbers_at fs c ≡ cond (same b c) (unwrap_or w []) (numbers_at es c)
 updated b w es fs put c =
-    sym (numbers_are c fs) ∙ ap (λ o. unwrap_or o []) (put (key_of c)) ∙ put_step (same b c) w (lookup (found_as (key_of c)) es)
+    sym (numbers_are c fs) ∙ ap (λ o. unwrap_or o []) (put c) ∙ put_step (same b c) w (lookup (found_as c) es)
     ∙ ap (cond (same b c) (unwrap_or w [])) (numbers_are c es)
 
 at_branch : (b c : BranchId) (hit : Bool) (f : List ℕ → List ℕ) (es : List Entry) (rest : List ℕ) → same b c ≡ hit → cond hit (f (numbers_at es b)) rest ≡ cond hit (f (numbers_at es c)) rest
@@ -50,7 +49,7 @@ at_branch b c false f es rest is = refl
 
 -- and where the branch's own have changed
 pub updated_by : (b : BranchId) (f : List ℕ → List ℕ) (x : List ℕ) (es fs : List Entry) → numbers_at es b ≡ x
-    → ((q : BranchKey) → lookup (found_as q) fs ≡ cond (found_as (key_of b) q) (Some (f x)) (lookup (found_as q) es))
+    → ((q : BranchId) → lookup (found_as q) fs ≡ cond (found_as b q) (Some (f x)) (lookup (found_as q) es))
     → (c : BranchId) → numbers_at fs c ≡ cond (same b c) (f (numbers_at es c)) (numbers_at es c)
 updated_by b f x es fs its put c =
     updated b (Some (f x)) es fs put c ∙ ap (λ ns. cond (same b c) (f ns) (numbers_at es c)) (sym its) ∙ at_branch b c (same b c) f es (numbers_at es c) refl
@@ -74,15 +73,15 @@ none_so None h = refl
 none_so (Some x) h = absurd (true≢false (sym h))
 
 -- a branch that the map does not find has none
-pub numbers_none : (b : BranchId) (es : List Entry) → false ≡ is_some (lookup (found_as (key_of b)) es) → numbers_at es b ≡ []
-numbers_none b es h = sym (numbers_are b es) ∙ none_so (lookup (found_as (key_of b)) es) h
+pub numbers_none : (b : BranchId) (es : List Entry) → false ≡ is_some (lookup (found_as b) es) → numbers_at es b ≡ []
+numbers_none b es h = sym (numbers_are b es) ∙ none_so (lookup (found_as b) es) h
 
 -- numbers that are put at the place of a branch
-pub placed : {S : Type 0} (b : BranchId) (m : IndexMap BranchKey (List ℕ) S) (i : ℕ) (x y : List ℕ) {k : BranchKey} → IsUnique found_as m → position (found_as k) (keys_of m.entries) ≡ Some i
-    → k ≡ key_of b → x ≡ y → (q : BranchKey) → lookup (found_as q) (set_value_at m.entries i x) ≡ cond (found_as (key_of b) q) (Some y) (lookup (found_as q) m.entries)
+pub placed : {S : Type 0} (b : BranchId) (m : IndexMap BranchId (List ℕ) S) (i : ℕ) (x y : List ℕ) {k : BranchId} → IsUnique found_as m → position (found_as k) (keys_of m.entries) ≡ Some i
+    → k ≡ b → x ≡ y → (q : BranchId) → lookup (found_as q) (set_value_at m.entries i x) ≡ cond (found_as b q) (Some y) (lookup (found_as q) m.entries)
 placed b m i x y unique at is value q =
     let found = subst (λ j. position (found_as j) (keys_of m.entries) ≡ Some i) is at in
-    let first = first_entry (found_as (key_of b)) m.entries i (key_of b, []) found in
-    let e = get_or m.entries i (key_of b, []) in
+    let first = first_entry (found_as b) m.entries i (b, []) found in
+    let e = get_or m.entries i (b, []) in
     let put = updates-with_value_at m i x laws-law unique e.0 e.1 first.0 in
-    put.0 q ∙ (λ j. cond (sym (laws-law.congr (key_of b) e.0 q first.1) j) (Some (value j)) (lookup (found_as q) m.entries))
+    put.0 q ∙ (λ j. cond (sym (laws-law.congr b e.0 q first.1) j) (Some (value j)) (lookup (found_as q) m.entries))

@@ -6,7 +6,6 @@ ghost use Rattle.tran_ids.specs.Branch.{same};
 ghost use Rattle.row_locks.specs.Numbered.{is_number};
 ghost use Rattle.row_locks.specs.ByBranch.{numbers_at};
 
-use crate::branch_key::BranchKey;
 use crate::numbered_locks::NumberedLocks;
 use crate::numbers::Numbers;
 use indexmap::IndexMap;
@@ -17,14 +16,14 @@ use tran_ids::BranchId;
 /// The numbers of each branch's locks, found by the branch's id.
 #[derive(Drop)]
 pub(crate) struct ByBranch {
-    numbers: IndexMap<BranchKey, Numbers>,
+    numbers: IndexMap<BranchId, Numbers>,
 }
 
 impl Model for ByBranch {
     ghost use Rattle.std.specs.Prelude.{List, ℕ};
-    ghost use Rattle.row_locks.specs.declared.branch_key.BranchKey.{BranchKey};
+    ghost use Rattle.tran_ids.specs.declared.branch.BranchId.{BranchId};
 
-    ghost Value = { List (BranchKey × List ℕ) };
+    ghost Value = { List (BranchId × List ℕ) };
 
     ghost view = { λ b. b.numbers.entries };
 }
@@ -43,7 +42,7 @@ impl ByBranch {
     pub(crate) fn numbers(&self, branch: &BranchId) -> &[u64]
         ensures { result.now ≡ numbers_at self.now branch.now }
     {
-        match self.numbers.get(&BranchKey::of(branch)) {
+        match self.numbers.get(branch) {
             Some(numbers) => numbers.as_slice(),
             None => &[],
         }
@@ -60,13 +59,12 @@ impl ByBranch {
             ≡ (if same branch.now b then numbers_at self.old b ++ number ∷ [] else numbers_at self.old b)) }
         ensures err { OnErr result (self.new ≡ self.old) }
     {
-        let key = BranchKey::of(branch);
-        if let Some(place) = self.numbers.get_index_of(&key) {
+        if let Some(place) = self.numbers.get_index_of(branch) {
             return self.numbers[place].push(number);
         }
         let mut numbers = Numbers::new(alloc);
         numbers.push(number)?;
-        drop(self.numbers.insert(key, numbers)?);
+        drop(self.numbers.insert(*branch, numbers)?);
         Ok(())
     }
 
@@ -75,7 +73,7 @@ impl ByBranch {
         ensures numbers { unwrap_or result [] ≡ numbers_at self.old branch.now }
         ensures dropped { (b : AnyBranch) → numbers_at self.new b ≡ (if same branch.now b then [] else numbers_at self.old b) }
     {
-        self.numbers.swap_remove(&BranchKey::of(branch))
+        self.numbers.swap_remove(branch)
     }
 
     /// Keeps the numbers of a branch's locks that are there.
@@ -84,7 +82,7 @@ impl ByBranch {
             ≡ (if same branch.now b then filter (λ n. is_some (lookup (is_number n) locks.now)) (numbers_at self.old b)
             else numbers_at self.old b) }
     {
-        if let Some(place) = self.numbers.get_index_of(&BranchKey::of(branch)) {
+        if let Some(place) = self.numbers.get_index_of(branch) {
             self.numbers[place].keep(locks);
         }
     }

@@ -7,7 +7,6 @@
 //! found by its key, and each branch has the numbers of its own, so that it gives back its locks without a walk over others'.
 #![tactic(auto)]
 
-mod branch_key;
 mod by_branch;
 mod held_key;
 mod lock_err;

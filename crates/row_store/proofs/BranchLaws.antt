@@ -7,37 +7,35 @@ use Rattle.indexmap.specs.Layout.{set_value_at}
 use Rattle.tran_ids.specs.declared.branch.BranchId.{BranchId}
 use Rattle.tran_ids.specs.Branch.{same}
 use Rattle.tran_ids.specs.Listed.{item_at, put_item, drop_item}
-use Rattle.row_store.specs.declared.branch_key.BranchKey.{BranchKey}
-use Rattle.row_store.specs.contracts.branch_key.BranchKeyPartialEq.TheImpl as of_key
-use Rattle.row_store.specs.contracts.branch_key.BranchKeyEq.TheImpl.Laws.{laws-law}
-use Rattle.row_store.specs.ByBranch.{key_of, branch_of}
+use Rattle.tran_ids.specs.contracts.branch.BranchIdPartialEq.TheImpl as of_key
+use Rattle.tran_ids.specs.contracts.branch.BranchIdEq.TheImpl.Laws.{laws-law}
 use Rattle.row_store.proofs.KeyedLaws.{found as found_at, put_is as put_at, placed_is as placed_at, dropped_is as dropped_at}
 
 -- the test by which the map finds a key
-abbrev pub found_as : BranchKey → BranchKey → Bool
+abbrev pub found_as : BranchId → BranchId → Bool
 found_as = of_key.eq-value.it
 
-pub key_is : (b : BranchId) (k : BranchKey) → found_as (key_of b) k ≡ same (branch_of k) b
-key_is b k = laws-law.symm (key_of b) k
+pub key_is : (b : BranchId) (k : BranchId) → found_as b k ≡ same k b
+key_is b k = laws-law.symm b k
 
 module _ {X A : Type 0} (make : BranchId → X → A) (id : A → BranchId) (is : (b : BranchId) (x : X) → id (make b x) ≡ b) where
-  abbrev item : BranchKey × X → A
-  item e = make (branch_of e.0) e.1
+  abbrev item : BranchId × X → A
+  item e = make e.0 e.1
 
   -- a look-up
-  pub found : (b : BranchId) (es : List (BranchKey × X)) → option_map (make b) (lookup (found_as (key_of b)) es) ≡ item_at id (map item es) b
-  found b es = found_at found_as key_of branch_of (λ c. refl) key_is make id is b es
+  pub found : (b : BranchId) (es : List (BranchId × X)) → option_map (make b) (lookup (found_as b) es) ≡ item_at id (map item es) b
+  found b es = found_at found_as key_is make id is b es
 
   -- an item that is put
-  pub put_is : (b : BranchId) (x : X) (es : List (BranchKey × X)) → map item (insert_entry found_as es (key_of b) x) ≡ put_item id (map item es) (make b x)
-  put_is b x es = put_at found_as key_of branch_of (λ c. refl) key_is make id is b x es
+  pub put_is : (b : BranchId) (x : X) (es : List (BranchId × X)) → map item (insert_entry found_as es b x) ≡ put_item id (map item es) (make b x)
+  put_is b x es = put_at found_as key_is make id is b x es
 
   -- in the place where the map has one
-  pub placed_is : (b : BranchId) (x : X) (es : List (BranchKey × X)) (i : ℕ) → position (found_as (key_of b)) (keys_of es) ≡ Some i
+  pub placed_is : (b : BranchId) (x : X) (es : List (BranchId × X)) (i : ℕ) → position (found_as b) (keys_of es) ≡ Some i
       → map item (set_value_at es i x) ≡ put_item id (map item es) (make b x)
-  placed_is b x es i at = placed_at found_as key_of branch_of (λ c. refl) key_is make id is b x es i at
+  placed_is b x es i at = placed_at found_as key_is make id is b x es i at
 
   -- an item that is dropped
-  pub dropped_is : (b : BranchId) (es : List (BranchKey × X)) → lookup (found_as (key_of b)) (remove_entry (found_as (key_of b)) es) ≡ None
-      → map item (remove_entry (found_as (key_of b)) es) ≡ drop_item id (map item es) b
-  dropped_is b es none = dropped_at found_as key_of branch_of (λ c. refl) key_is make id is b es none
+  pub dropped_is : (b : BranchId) (es : List (BranchId × X)) → lookup (found_as b) (remove_entry (found_as b) es) ≡ None
+      → map item (remove_entry (found_as b) es) ≡ drop_item id (map item es) b
+  dropped_is b es none = dropped_at found_as key_is make id is b es none

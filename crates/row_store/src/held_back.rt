@@ -6,7 +6,6 @@ ghost use Rattle.row_store.specs.Made.{changes_in, undo_in};
 ghost use Rattle.row_store.specs.ByBranch.{held};
 ghost use Rattle.row_store.specs.Store.{doubt_id, doubt_extents, held_back as held_back_by, is_in_doubt};
 
-use crate::branch_key::BranchKey;
 use crate::lengths::{extents, sum};
 use crate::made::{Made, MadeChanges};
 use indexmap::IndexMap;
@@ -65,7 +64,7 @@ impl HeldChanges {
 /// The branches in doubt, in the order in which they became so. What a branch holds back is found by its id.
 #[derive(Drop)]
 pub(crate) struct HeldBack {
-    doubts: IndexMap<BranchKey, HeldChanges>,
+    doubts: IndexMap<BranchId, HeldChanges>,
     // The extents that the undo of all takes.
     used: u64,
 }
@@ -105,7 +104,7 @@ impl HeldBack {
     pub(crate) fn has(&self, branch: &BranchId) -> bool
         ensures { result ≡ is_in_doubt self.now branch.now }
     {
-        self.doubts.contains_key(&BranchKey::of(branch))
+        self.doubts.contains_key(branch)
     }
 
     /// Adds a branch with its changes behind the others.
@@ -115,7 +114,7 @@ impl HeldBack {
         ensures err { OnErr result (self.new ≡ self.old) }
     {
         let used = sum(self.used, changes.extents())?;
-        drop(self.doubts.insert(BranchKey::of(branch), changes)?);
+        drop(self.doubts.insert(*branch, changes)?);
         self.used = used;
         Ok(())
     }
@@ -125,7 +124,7 @@ impl HeldBack {
         ensures changes { changes_in (unwrap_or result []) ≡ held_back_by (item_at doubt_id self.old branch.now) }
         ensures dropped { self.new ≡ drop_item doubt_id self.old branch.now }
     {
-        let changes = self.doubts.shift_remove(&BranchKey::of(branch));
+        let changes = self.doubts.shift_remove(branch);
         if let Some(changes) = &changes {
             self.used -= changes.extents();
         }

@@ -9,7 +9,6 @@
 //! memory runs out.
 #![tactic(auto)]
 
-mod branch_key;
 mod changed_key;
 mod held_back;
 mod keyed_rows;

@@ -7,7 +7,6 @@ ghost use Rattle.tran_ids.specs.Listed.{item_at, drop_item};
 ghost use Rattle.row_store.specs.Made.{set_in};
 ghost use Rattle.row_store.specs.Store.{own_id, sets_at, extents_of_sets, own_extents, with_set, without_last};
 
-use crate::branch_key::BranchKey;
 use crate::lengths::extents;
 use crate::made::Made;
 use crate::own_sets::OwnSets;
@@ -19,7 +18,7 @@ use tran_ids::BranchId;
 /// The changes of all live branches, in order of each branch's first. Those of a branch are found by its id.
 #[derive(Drop)]
 pub(crate) struct Owns {
-    owns: IndexMap<BranchKey, OwnSets>,
+    owns: IndexMap<BranchId, OwnSets>,
     // The extents that the undo of all takes.
     used: u64,
 }
@@ -59,7 +58,7 @@ impl Owns {
     pub(crate) fn sets(&self, branch: &BranchId) -> Option<&OwnSets>
         ensures { unwrap_or (option_copied result) [] ≡ sets_at self.now branch.now }
     {
-        self.owns.get(&BranchKey::of(branch))
+        self.owns.get(branch)
     }
 
     /// Adds the set of one more statement of a branch.
@@ -74,7 +73,7 @@ impl Owns {
         ensures ok { OnOk result (self.new ≡ with_set self.old branch.now (set_in set.items)) }
         ensures err { OnErr result (self.new ≡ self.old) }
     {
-        let Some(place) = self.owns.get_index_of(&BranchKey::of(branch)) else {
+        let Some(place) = self.owns.get_index_of(branch) else {
             return self.push_first(alloc, branch, set);
         };
         let before = held_at(&self.owns, place);
@@ -88,7 +87,7 @@ impl Owns {
     pub(crate) fn pop(&mut self, branch: &BranchId)
         ensures { self.new ≡ without_last self.old branch.now }
     {
-        if let Some(place) = self.owns.get_index_of(&BranchKey::of(branch)) {
+        if let Some(place) = self.owns.get_index_of(branch) {
             let before = held_at(&self.owns, place);
             self.owns[place].pop();
             let after = held_at(&self.owns, place);
@@ -101,7 +100,7 @@ impl Owns {
         ensures sets { unwrap_or result [] ≡ sets_at self.old branch.now }
         ensures dropped { self.new ≡ drop_item own_id self.old branch.now }
     {
-        let sets = self.owns.shift_remove(&BranchKey::of(branch));
+        let sets = self.owns.shift_remove(branch);
         if let Some(sets) = &sets {
             self.used -= extents(sets.undo());
         }
@@ -122,7 +121,7 @@ impl Owns {
     {
         let sets = first_set(alloc, set)?;
         let used = self.used + extents(sets.undo());
-        drop(self.owns.insert(BranchKey::of(branch), sets)?);
+        drop(self.owns.insert(*branch, sets)?);
         self.used = used;
         Ok(())
     }
@@ -138,7 +137,7 @@ fn first_set(alloc: Global, set: Vec<Made>) -> Result<OwnSets, AllocError>
 }
 
 // The extents that the sets at a place take.
-fn held_at(owns: &IndexMap<BranchKey, OwnSets>, place: usize) -> u64
+fn held_at(owns: &IndexMap<BranchId, OwnSets>, place: usize) -> u64
     requires { place < index_map_len owns.now }
     ensures { (sets : List ChangeSet) → slice_get (values owns.now) place ≡ Some sets → result ≡ extents_of_sets sets }
 {

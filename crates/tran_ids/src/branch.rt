@@ -6,7 +6,7 @@ use dtx_values::Duplicate;
 use std::alloc::{AllocError, Global};
 
 /// The id of a branch, which is one transaction's work in one session of one node. No id is ever used twice.
-#[derive(Clone, Copy, Debug, PartialEq, Eq)]
+#[derive(Clone, Copy, Debug, PartialEq, Eq, Hash)]
 pub struct BranchId {
     /// The node's number, from 1.
     pub node: u8,

@@ -27,7 +27,7 @@ add_edge-requires c =
     let b = c.args.branch.now in
     let es = c.self.inside.lives.entries in
     let x = c.index_mut.result.now in
-    let there = sym (c.in-Some.ensures.value ∙ ap (λ k. lookup (found_as k) es) c.of.ensures) ∙ c.index_mut.ensures.value in
+    let there = sym c.in-Some.ensures.value ∙ c.index_mut.ensures.value in
     let item : item_at live_id c.args.self.now b ≡ Some x = ap (λ ls. item_at live_id ls b) (sym c.self.view_is) ∙ sym (found live_id HasRoom b es c.self.invariant) ∙ there in
     asked (item_at live_id c.args.self.now b) x item c.requires
 
@@ -48,7 +48,7 @@ invariant_of-self-2 c =
     let b = c.args.branch.now in
     let es = c.self.inside.lives.entries in
     let x = c.index_mut.result.now in
-    let there = sym (c.in-Some.ensures.value ∙ ap (λ k. lookup (found_as k) es) c.of.ensures) ∙ c.index_mut.ensures.value in
+    let there = sym c.in-Some.ensures.value ∙ c.index_mut.ensures.value in
     let item : item_at live_id c.args.self.now b ≡ Some x = ap (λ ls. item_at live_id ls b) (sym c.self.view_is) ∙ sym (found live_id HasRoom b es c.self.invariant) ∙ there in
     let room = asked (item_at live_id c.args.self.now b) x item c.requires in
     still_keyed live_id HasRoom es c.in-Some.place x c.add_edge.new.live c.index_mut.ensures.value (ap live_id c.in_ok-add_edge.ensures.ok)
@@ -59,8 +59,8 @@ returns-clause-ok c =
     let b = c.args.branch.now in
     let es = c.self.inside.lives.entries in
     let x = c.index_mut.result.now in
-    let there = sym (c.in-Some.ensures.value ∙ ap (λ k. lookup (found_as k) es) c.of.ensures) ∙ c.index_mut.ensures.value in
-    let at = subst (λ k. position (found_as k) (keys_of es) ≡ Some c.in-Some.place) c.of.ensures (sym c.in-Some.ensures.index) in
+    let there = sym c.in-Some.ensures.value ∙ c.index_mut.ensures.value in
+    let at = (sym c.in-Some.ensures.index) in
     changed_is live_id HasRoom b (λ (l : Live). add_edge l c.args.edge) es c.in-Some.place x c.add_edge.new.live at there c.in_ok-add_edge.ensures.ok refl c.self.invariant
     ∙ ap (λ ls. change_item live_id (λ (l : Live). add_edge l c.args.edge) ls b) c.self.view_is
 
@@ -69,5 +69,5 @@ returns-in_default-clause-ok c =
     let b = c.args.branch.now in
     let es = c.self.inside.lives.entries in
     sym c.self.view_is
-    ∙ unchanged_is live_id HasRoom b (λ (l : Live). add_edge l c.args.edge) es c.self.invariant (c.in_default.ensures.found ∙ ap (λ k. is_some (lookup (found_as k) es)) c.of.ensures)
+    ∙ unchanged_is live_id HasRoom b (λ (l : Live). add_edge l c.args.edge) es c.self.invariant (c.in_default.ensures.found)
     ∙ ap (λ ls. change_item live_id (λ (l : Live). add_edge l c.args.edge) ls b) c.self.view_is

@@ -28,7 +28,7 @@ returns-clause-act c =
     let b = c.args.branch.now in
     let es = c.self.inside.lives.entries in
     let x = c.index_mut.result.now in
-    let there = sym (c.in-Some.ensures.value ∙ ap (λ k. lookup (found_as k) es) c.of.ensures) ∙ c.index_mut.ensures.value in
+    let there = sym c.in-Some.ensures.value ∙ c.index_mut.ensures.value in
     let item : item_at live_id c.args.self.now b ≡ Some x = ap (λ ls. item_at live_id ls b) (sym c.self.view_is) ∙ sym (found live_id HasRoom b es c.self.invariant) ∙ there in
     ap Some c.on_answer-act.ensures.act ∙ sym (ap (option_map (λ (l : Live). heard_act l c.args.from.now c.args.vote)) item)
 
@@ -37,8 +37,8 @@ returns-clause-after c =
     let b = c.args.branch.now in
     let es = c.self.inside.lives.entries in
     let x = c.index_mut.result.now in
-    let there = sym (c.in-Some.ensures.value ∙ ap (λ k. lookup (found_as k) es) c.of.ensures) ∙ c.index_mut.ensures.value in
-    let at = subst (λ k. position (found_as k) (keys_of es) ≡ Some c.in-Some.place) c.of.ensures (sym c.in-Some.ensures.index) in
+    let there = sym c.in-Some.ensures.value ∙ c.index_mut.ensures.value in
+    let at = (sym c.in-Some.ensures.index) in
     let keeps = answered_keeps x c.args.from.now c.args.vote in
     changed_is live_id HasRoom b (λ (l : Live). after_answer l c.args.from.now c.args.vote) es c.in-Some.place x c.on_answer-act.new.live at there c.on_answer-act.ensures.after keeps.me c.self.invariant
     ∙ ap (λ ls. change_item live_id (λ (l : Live). after_answer l c.args.from.now c.args.vote) ls b) c.self.view_is
@@ -49,7 +49,7 @@ returns-in_default-clause-act c =
     let es = c.self.inside.lives.entries in
     let none : item_at live_id c.args.self.now b ≡ None =
     ap (λ ls. item_at live_id ls b) (sym c.self.view_is)
-    ∙ none_there live_id HasRoom b es c.self.invariant (c.in_default.ensures.found ∙ ap (λ k. is_some (lookup (found_as k) es)) c.of.ensures) in
+    ∙ none_there live_id HasRoom b es c.self.invariant (c.in_default.ensures.found) in
     sym (ap (option_map (λ (l : Live). heard_act l c.args.from.now c.args.vote)) none)
 
 pub returns-in_default-clause-after : goal.returns-in_default-clause-after
@@ -57,5 +57,5 @@ returns-in_default-clause-after c =
     let b = c.args.branch.now in
     let es = c.self.inside.lives.entries in
     sym c.self.view_is
-    ∙ unchanged_is live_id HasRoom b (λ (l : Live). after_answer l c.args.from.now c.args.vote) es c.self.invariant (c.in_default.ensures.found ∙ ap (λ k. is_some (lookup (found_as k) es)) c.of.ensures)
+    ∙ unchanged_is live_id HasRoom b (λ (l : Live). after_answer l c.args.from.now c.args.vote) es c.self.invariant (c.in_default.ensures.found)
     ∙ ap (λ ls. change_item live_id (λ (l : Live). after_answer l c.args.from.now c.args.vote) ls b) c.self.view_is

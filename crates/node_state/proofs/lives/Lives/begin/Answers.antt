@@ -5,7 +5,7 @@ use Rattle.indexmap.proofs.CallerLemmas.{insert_entry-new}
 use Rattle.tran_ids.specs.Listed.{item_at}
 use Rattle.session_tree.specs.declared.live.Live.{Live}
 use Rattle.node_rules.specs.Kept.{live_id}
-use Rattle.node_state.specs.ByBranch.{key_of, AreKeyed}
+use Rattle.node_state.specs.ByBranch.{AreKeyed}
 use Rattle.node_state.specs.Lives.{HasRoom}
 use Rattle.node_state.proofs.BranchLaws.{found_as, put_is, put_absent, absent_from, keyed_push}
 use Rattle.node_state.proofs.lives.Lives.begin.Goals as goal
@@ -15,7 +15,7 @@ invariant_of-self-2 c =
     let x = c.args.live in
     let es = c.self.inside.lives.entries in
     let absent = absent_from live_id HasRoom x.me es c.self.invariant (ap (λ ls. item_at live_id ls x.me) c.self.view_is ∙ c.requires.new) in
-    let all = c.in_ok-insert.ensures.entries ∙ ap (λ k. insert_entry found_as es k x) c.of.ensures ∙ insert_entry-new found_as c.self.inside.lives (key_of x.me) x absent in
+    let all = c.in_ok-insert.ensures.entries ∙ insert_entry-new found_as c.self.inside.lives x.me x absent in
     subst (AreKeyed live_id HasRoom) (sym all) (keyed_push live_id HasRoom es x c.requires.room c.self.invariant)
 
 pub returns-clause-ok : goal.returns-clause-ok
@@ -23,5 +23,5 @@ returns-clause-ok c =
     let x = c.args.live in
     let es = c.self.inside.lives.entries in
     let none = ap (λ ls. item_at live_id ls x.me) c.self.view_is ∙ c.requires.new in
-    ap values_of c.in_ok-insert.ensures.entries ∙ ap (λ k. values_of (insert_entry found_as es k x)) c.of.ensures ∙ put_is live_id HasRoom x es c.self.invariant
+    ap values_of c.in_ok-insert.ensures.entries ∙ put_is live_id HasRoom x es c.self.invariant
     ∙ put_absent live_id HasRoom (values_of es) x none ∙ ap (λ (ls : List Live). ls ++ x ∷ []) c.self.view_is

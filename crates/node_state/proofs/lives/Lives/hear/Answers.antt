@@ -23,8 +23,8 @@ returns-in-Some c =
     let b = c.args.branch.now in
     let es = c.self.inside.lives.entries in
     let x = c.index_mut.result.now in
-    let there = sym (c.in-Some.ensures.value ∙ ap (λ k. lookup (found_as k) es) c.of.ensures) ∙ c.index_mut.ensures.value in
-    let at = subst (λ k. position (found_as k) (keys_of es) ≡ Some c.in-Some.place) c.of.ensures (sym c.in-Some.ensures.index) in
+    let there = sym c.in-Some.ensures.value ∙ c.index_mut.ensures.value in
+    let at = (sym c.in-Some.ensures.index) in
     let keeps = heard_keeps x c.args.number c.args.weight c.args.count in
     changed_is live_id HasRoom b (heard c.args.number c.args.weight c.args.count) es c.in-Some.place x c.hear.new.live at there c.hear.ensures keeps.me c.self.invariant
     ∙ ap (λ ls. change_item live_id (heard c.args.number c.args.weight c.args.count) ls b) c.self.view_is
@@ -34,5 +34,5 @@ returns-in_default c =
     let b = c.args.branch.now in
     let es = c.self.inside.lives.entries in
     sym c.self.view_is
-    ∙ unchanged_is live_id HasRoom b (heard c.args.number c.args.weight c.args.count) es c.self.invariant (c.in_default.ensures.found ∙ ap (λ k. is_some (lookup (found_as k) es)) c.of.ensures)
+    ∙ unchanged_is live_id HasRoom b (heard c.args.number c.args.weight c.args.count) es c.self.invariant (c.in_default.ensures.found)
     ∙ ap (λ ls. change_item live_id (heard c.args.number c.args.weight c.args.count) ls b) c.self.view_is

@@ -30,7 +30,7 @@ returns-clause-act c =
     let b = c.args.branch.now in
     let es = c.self.inside.lives.entries in
     let x = c.index_mut.result.now in
-    let there = sym (c.in-Some.ensures.value ∙ ap (λ k. lookup (found_as k) es) c.of.ensures) ∙ c.index_mut.ensures.value in
+    let there = sym c.in-Some.ensures.value ∙ c.index_mut.ensures.value in
     let item : item_at live_id c.args.self.now b ≡ Some x = ap (λ ls. item_at live_id ls b) (sym c.self.view_is) ∙ sym (found live_id HasRoom b es c.self.invariant) ∙ there in
     ap Some c.prepare-act.ensures.act ∙ sym (ap (option_map (λ (l : Live). prepare_act (with_comment l c.args.comment) c.args.site_below)) item)
 
@@ -39,8 +39,8 @@ returns-clause-after c =
     let b = c.args.branch.now in
     let es = c.self.inside.lives.entries in
     let x = c.index_mut.result.now in
-    let there = sym (c.in-Some.ensures.value ∙ ap (λ k. lookup (found_as k) es) c.of.ensures) ∙ c.index_mut.ensures.value in
-    let at = subst (λ k. position (found_as k) (keys_of es) ≡ Some c.in-Some.place) c.of.ensures (sym c.in-Some.ensures.index) in
+    let there = sym c.in-Some.ensures.value ∙ c.index_mut.ensures.value in
+    let at = (sym c.in-Some.ensures.index) in
     let keeps = prepared_keeps x c.args.site_below c.args.comment in
     changed_is live_id HasRoom b (prepared c.args.site_below c.args.comment) es c.in-Some.place x c.prepare-act.new.live at there c.prepare-act.ensures.after keeps.me c.self.invariant
     ∙ ap (λ ls. change_item live_id (prepared c.args.site_below c.args.comment) ls b) c.self.view_is
@@ -51,7 +51,7 @@ returns-in_default-clause-act c =
     let es = c.self.inside.lives.entries in
     let none : item_at live_id c.args.self.now b ≡ None =
     ap (λ ls. item_at live_id ls b) (sym c.self.view_is)
-    ∙ none_there live_id HasRoom b es c.self.invariant (c.in_default.ensures.found ∙ ap (λ k. is_some (lookup (found_as k) es)) c.of.ensures) in
+    ∙ none_there live_id HasRoom b es c.self.invariant (c.in_default.ensures.found) in
     sym (ap (option_map (λ (l : Live). prepare_act (with_comment l c.args.comment) c.args.site_below)) none)
 
 pub returns-in_default-clause-after : goal.returns-in_default-clause-after
@@ -59,5 +59,5 @@ returns-in_default-clause-after c =
     let b = c.args.branch.now in
     let es = c.self.inside.lives.entries in
     sym c.self.view_is
-    ∙ unchanged_is live_id HasRoom b (prepared c.args.site_below c.args.comment) es c.self.invariant (c.in_default.ensures.found ∙ ap (λ k. is_some (lookup (found_as k) es)) c.of.ensures)
+    ∙ unchanged_is live_id HasRoom b (prepared c.args.site_below c.args.comment) es c.self.invariant (c.in_default.ensures.found)
     ∙ ap (λ ls. change_item live_id (prepared c.args.site_below c.args.comment) ls b) c.self.view_is

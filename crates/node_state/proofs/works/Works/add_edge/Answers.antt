@@ -32,8 +32,8 @@ returns-clause-ok c =
     let b = c.args.branch.now in
     let es = c.self.inside.works.entries in
     let x = c.index_mut.result.now in
-    let there = sym (c.in-Some.ensures.value ∙ ap (λ k. lookup (found_as k) es) c.of.ensures) ∙ c.index_mut.ensures.value in
-    let at = subst (λ k. position (found_as k) (keys_of es) ≡ Some c.in-Some.place) c.of.ensures (sym c.in-Some.ensures.index) in
+    let there = sym c.in-Some.ensures.value ∙ c.index_mut.ensures.value in
+    let at = (sym c.in-Some.ensures.index) in
     let item : item_at work_id (values_of es) b ≡ Some x = sym (found work_id AnyWork b es c.self.invariant) ∙ there in
     keyed_placed work_id AnyWork b c.add_child.new.work es c.in-Some.place at (ap work_id c.in_ok-add_child.ensures.ok ∙ item_is work_id (values_of es) b x item) c.self.invariant
     ∙ ap (put_item work_id (values_of es)) (c.in_ok-add_child.ensures.ok ∙ ap (λ o. with_child (work_or b o)) (sym item))
@@ -45,5 +45,5 @@ returns-in_default-clause-ok c =
     let es = c.self.inside.works.entries in
     let none : item_at work_id c.args.self.now b ≡ None =
     ap (λ ws. item_at work_id ws b) (sym c.self.view_is)
-    ∙ none_there work_id AnyWork b es c.self.invariant (c.in_default.ensures.found ∙ ap (λ k. is_some (lookup (found_as k) es)) c.of.ensures) in
+    ∙ none_there work_id AnyWork b es c.self.invariant (c.in_default.ensures.found) in
     c.in_ok-put.ensures.ok ∙ ap (put_item work_id c.args.self.now) (c.in_ok-first.ensures ∙ ap (λ o. with_child (work_or b o)) (sym none))

@@ -10,4 +10,4 @@ pub returns : goal.returns
 returns c =
     let b = c.args.branch.now in
     let es = c.self.inside.works.entries in
-    c.get.ensures.value ∙ ap (λ k. lookup (found_as k) es) c.of.ensures ∙ found work_id AnyWork b es c.self.invariant ∙ ap (λ ws. item_at work_id ws b) c.self.view_is
+    c.get.ensures.value ∙ found work_id AnyWork b es c.self.invariant ∙ ap (λ ws. item_at work_id ws b) c.self.view_is

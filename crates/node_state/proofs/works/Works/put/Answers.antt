@@ -14,18 +14,18 @@ returns-in_err-insert-clause-absent c =
     let b = c.args.work.branch in
     let es = c.self.inside.works.entries in
     on_err c.from_residual.result (ap (λ ws. item_at work_id ws b) (sym c.self.view_is) ∙ sym (found work_id AnyWork b es c.self.invariant)
-    ∙ ap (λ k. lookup (found_as k) es) (sym c.of.ensures) ∙ c.in_err-insert.ensures.absent)
+    ∙ c.in_err-insert.ensures.absent)
 
 pub invariant_of-self-2 : goal.invariant_of-self-2
 invariant_of-self-2 c =
     let x = c.args.work in
     let es = c.self.inside.works.entries in
-    let all = c.in_ok-insert.ensures.entries ∙ ap (λ k. insert_entry found_as es k x) c.of.ensures in
+    let all = c.in_ok-insert.ensures.entries in
     subst (AreKeyed work_id AnyWork) (sym all) (keyed_put work_id AnyWork x es tt c.self.invariant)
 
 pub returns-clause-ok : goal.returns-clause-ok
 returns-clause-ok c =
     let x = c.args.work in
     let es = c.self.inside.works.entries in
-    ap values_of c.in_ok-insert.ensures.entries ∙ ap (λ k. values_of (insert_entry found_as es k x)) c.of.ensures ∙ put_is work_id AnyWork x es c.self.invariant
+    ap values_of c.in_ok-insert.ensures.entries ∙ put_is work_id AnyWork x es c.self.invariant
     ∙ ap (λ ws. put_item work_id ws x) c.self.view_is

@@ -12,7 +12,7 @@ invariant_of-self c =
     let b = c.args.branch.now in
     let es = c.self.inside.works.entries in
     let x = c.index_mut.result.now in
-    let there = sym (c.in-Some.ensures.value ∙ ap (λ k. lookup (found_as k) es) c.of.ensures) ∙ c.index_mut.ensures.value in
+    let there = sym c.in-Some.ensures.value ∙ c.index_mut.ensures.value in
     let mine = item_is work_id (values_of es) b x (sym (found work_id AnyWork b es c.self.invariant) ∙ there) in
     still_keyed work_id AnyWork es c.in-Some.place x c.replace.new.dest c.index_mut.ensures.value (ap work_id (c.replace.ensures.after ∙ c.no_work-empty.ensures) ∙ sym mine) tt c.self.invariant
 
@@ -21,7 +21,7 @@ returns-clause-work c =
     let b = c.args.branch.now in
     let es = c.self.inside.works.entries in
     let x = c.index_mut.result.now in
-    let there = sym (c.in-Some.ensures.value ∙ ap (λ k. lookup (found_as k) es) c.of.ensures) ∙ c.index_mut.ensures.value in
+    let there = sym c.in-Some.ensures.value ∙ c.index_mut.ensures.value in
     let item : item_at work_id c.args.self.now b ≡ Some x = ap (λ ws. item_at work_id ws b) (sym c.self.view_is) ∙ sym (found work_id AnyWork b es c.self.invariant) ∙ there in
     c.replace.ensures.value ∙ sym (ap (work_or b) item)
 
@@ -29,7 +29,7 @@ pub returns-clause-place : goal.returns-clause-place
 returns-clause-place c =
     let b = c.args.branch.now in
     let es = c.self.inside.works.entries in
-    let at = subst (λ k. position (found_as k) (keys_of es) ≡ Some c.in-Some.place) c.of.ensures (sym c.in-Some.ensures.index) in
+    let at = (sym c.in-Some.ensures.index) in
     let mine = ap work_id (c.replace.ensures.after ∙ c.no_work-empty.ensures) in
     λ work is. placed_twice work_id AnyWork b c.replace.new.dest work es c.in-Some.place at mine is c.self.invariant ∙ ap (λ ws. put_item work_id ws work) c.self.view_is
 
@@ -37,7 +37,7 @@ pub returns-clause-absent : goal.returns-clause-absent
 returns-clause-absent c =
     let b = c.args.branch.now in
     let es = c.self.inside.works.entries in
-    let at = subst (λ k. position (found_as k) (keys_of es) ≡ Some c.in-Some.place) c.of.ensures (sym c.in-Some.ensures.index) in
+    let at = (sym c.in-Some.ensures.index) in
     let mine = ap work_id (c.replace.ensures.after ∙ c.no_work-empty.ensures) in
     λ none. absurd (let clash : None ≡ Some c.replace.new.dest = sym none ∙ placed_there work_id AnyWork b c.replace.new.dest es c.in-Some.place at mine c.self.invariant in cc)
 
@@ -47,5 +47,5 @@ returns-in_default-clause-work c =
     let es = c.self.inside.works.entries in
     let none : item_at work_id c.args.self.now b ≡ None =
     ap (λ ws. item_at work_id ws b) (sym c.self.view_is)
-    ∙ none_there work_id AnyWork b es c.self.invariant (c.in_default.ensures.found ∙ ap (λ k. is_some (lookup (found_as k) es)) c.of.ensures) in
+    ∙ none_there work_id AnyWork b es c.self.invariant (c.in_default.ensures.found) in
     c.no_work-empty.ensures ∙ sym (ap (work_or b) none)

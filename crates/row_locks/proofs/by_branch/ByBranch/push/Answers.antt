@@ -1,4 +1,4 @@
-use Rattle.std.proofs.Common.{◌≡◌, ℕ, cond, List, [], ◌∷◌, ◌++◌, Some, is_some, sym, ap, ◌∙◌}
+use Rattle.std.proofs.Common.{◌≡◌, ℕ, cond, List, [], ◌∷◌, ◌++◌, Some, is_some, refl, sym, ap, ◌∙◌}
 use Rattle.std.specs.Map.{lookup}
 use Rattle.indexmap.specs.Layout.{set_value_at}
 use Rattle.tran_ids.specs.Branch.{same}
@@ -15,8 +15,8 @@ returns-in-Some-clause-ok c =
     on_ok c.push.result
     (λ pushed b'.
     updated_by b (λ ns. ns ++ n ∷ []) x es _
-    (numbers_there b es x (sym (c.in-Some.ensures.value ∙ ap (λ k. lookup (found_as k) es) c.of-key.ensures) ∙ c.index_mut.ensures.value))
-    (placed b c.self.inside.numbers c.in-Some.place c.push.new.self (x ++ n ∷ []) c.get_index_of.ensures.unique (sym c.in-Some.ensures.index) c.of-key.ensures pushed) b'
+    (numbers_there b es x (sym c.in-Some.ensures.value ∙ c.index_mut.ensures.value))
+    (placed b c.self.inside.numbers c.in-Some.place c.push.new.self (x ++ n ∷ []) c.get_index_of.ensures.unique (sym c.in-Some.ensures.index) refl pushed) b'
     ∙ ap (λ (fs : List Entry). cond (same b b') (numbers_at fs b' ++ n ∷ []) (numbers_at fs b')) c.self.view_is)
     c.push.ensures.ok
 
@@ -32,9 +32,9 @@ returns-clause-ok c =
     let b = c.args.branch.now in
     let es = c.self.inside.numbers.entries in
     let n = c.args.number in
-    let none = numbers_none b es (c.in_default.ensures.found ∙ ap (λ k. is_some (lookup (found_as k) es)) c.of-key.ensures) in
+    let none = numbers_none b es c.in_default.ensures.found in
     let one : c.push-2.new.self ≡ [] ++ n ∷ [] = c.in_ok-push.ensures.ok ∙ ap (λ (ns : List ℕ). ns ++ n ∷ []) c.new-numbers.ensures in
     λ b'.
     updated_by b (λ ns. ns ++ n ∷ []) [] es c.insert.new.self.entries none
-    (λ q. c.in_ok-insert.ensures.updates.0 q ∙ (λ i. cond (found_as (c.of-key.ensures i) q) (Some (one i)) (lookup (found_as q) es))) b'
+    (λ q. c.in_ok-insert.ensures.updates.0 q ∙ (λ i. cond (found_as b q) (Some (one i)) (lookup (found_as q) es))) b'
     ∙ ap (λ (fs : List Entry). cond (same b b') (numbers_at fs b' ++ n ∷ []) (numbers_at fs b')) c.self.view_is

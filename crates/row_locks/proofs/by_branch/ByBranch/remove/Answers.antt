@@ -8,7 +8,7 @@ use Rattle.row_locks.proofs.by_branch.ByBranch.remove.Goals as goal
 pub returns-clause-numbers : goal.returns-clause-numbers
 returns-clause-numbers c =
     let es = c.self.inside.numbers.entries in
-    ap (λ o. unwrap_or o []) (c.swap_remove.ensures.value ∙ ap (λ k. lookup (found_as k) es) c.of.ensures)
+    ap (λ o. unwrap_or o []) (c.swap_remove.ensures.value)
     ∙ numbers_are c.args.branch.now es ∙ ap (λ (fs : List Entry). numbers_at fs c.args.branch.now) c.self.view_is
 
 pub returns-clause-dropped : goal.returns-clause-dropped
@@ -16,5 +16,5 @@ returns-clause-dropped c =
     let b = c.args.branch.now in
     let es = c.self.inside.numbers.entries in
     λ b'.
-    updated b None es c.swap_remove.new.self.entries (λ q. c.swap_remove.ensures.updates.0 q ∙ ap (λ k. cond (found_as k q) None (lookup (found_as q) es)) c.of.ensures) b'
+    updated b None es c.swap_remove.new.self.entries (λ q. c.swap_remove.ensures.updates.0 q) b'
     ∙ ap (λ (fs : List Entry). cond (same b b') [] (numbers_at fs b')) c.self.view_is

@@ -8,4 +8,4 @@ use Rattle.row_store.proofs.held_back.HeldBack.has.Goals as goal
 pub returns : goal.returns
 returns c =
     let es = c.self.inside.doubts.entries in
-    c.contains_key.ensures ∙ ap (λ k. is_some (lookup (found_as k) es)) c.of.ensures ∙ doubt_there c.args.branch.now es ∙ ap (λ ds. is_in_doubt ds c.args.branch.now) c.self.view_is
+    c.contains_key.ensures ∙ doubt_there c.args.branch.now es ∙ ap (λ ds. is_in_doubt ds c.args.branch.now) c.self.view_is

@@ -40,8 +40,8 @@ returns-in-Some c =
     let es = c.self.inside.owns.entries in
     let x = c.index_mut.result.now in
     let there = c.index_mut.ensures.value in
-    let found = sym (c.in-Some.ensures.value ∙ ap (λ k. lookup (found_as k) es) c.of.ensures) ∙ there in
-    let at = subst (λ k. position (found_as k) (keys_of es) ≡ Some c.in-Some.place) c.of.ensures (sym c.in-Some.ensures.index) in
+    let found = sym c.in-Some.ensures.value ∙ there in
+    let at = (sym c.in-Some.ensures.index) in
     own_placed b c.pop.new.self es c.in-Some.place at ∙ ap (λ s. put_item own_id (owns_in es) (owned b s)) c.pop.ensures
     ∙ ap (less_last (owns_in es)) (sym (item_there b es x found)) ∙ ap (λ owns. without_last owns b) c.self.view_is
 
@@ -49,5 +49,5 @@ pub returns-in_default : goal.returns-in_default
 returns-in_default c =
     let none : item_at own_id c.args.self.now c.args.branch.now ≡ None =
     ap (λ owns. item_at own_id owns c.args.branch.now) (sym c.self.view_is)
-    ∙ none_there c.args.branch.now c.self.inside.owns.entries (c.in_default.ensures.found ∙ ap (λ k. is_some (lookup (found_as k) c.self.inside.owns.entries)) c.of.ensures) in
+    ∙ none_there c.args.branch.now c.self.inside.owns.entries (c.in_default.ensures.found) in
     sym (ap (less_last c.args.self.now) none)

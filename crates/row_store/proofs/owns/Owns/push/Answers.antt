@@ -20,14 +20,14 @@ pub push_first-requires-clause-none : goal.push_first-requires-clause-none
 push_first-requires-clause-none c =
     let none : item_at own_id c.args.self.now c.args.branch.now ≡ None =
     ap (λ owns. item_at own_id owns c.args.branch.now) (sym c.self.view_is)
-    ∙ none_there c.args.branch.now c.self.inside.owns.entries (c.in_default.ensures.found ∙ ap (λ k. is_some (lookup (found_as k) c.self.inside.owns.entries)) c.of.ensures) in
+    ∙ none_there c.args.branch.now c.self.inside.owns.entries (c.in_default.ensures.found) in
     none
 
 pub push_first-requires-clause-room : goal.push_first-requires-clause-room
 push_first-requires-clause-room c =
     let none : item_at own_id c.args.self.now c.args.branch.now ≡ None =
     ap (λ owns. item_at own_id owns c.args.branch.now) (sym c.self.view_is)
-    ∙ none_there c.args.branch.now c.self.inside.owns.entries (c.in_default.ensures.found ∙ ap (λ k. is_some (lookup (found_as k) c.self.inside.owns.entries)) c.of.ensures) in
+    ∙ none_there c.args.branch.now c.self.inside.owns.entries (c.in_default.ensures.found) in
     let set = set_in c.args.set.items in
     let empty : sets_at c.args.self.now c.args.branch.now ≡ [] = ap sets_of none in
     let room = subst (λ (sets : List ChangeSet). own_extents c.args.self.now + (extents_of_sets (sets ++ set ∷ []) - extents_of_sets sets) < 2 ^ 64) empty c.requires in
@@ -62,7 +62,7 @@ overflow_add-self c =
     let es = c.self.inside.owns.entries in
     let x = c.index_mut.result.now in
     let there = c.index_mut.ensures.value in
-    let found = sym (c.in-Some.ensures.value ∙ ap (λ k. lookup (found_as k) es) c.of.ensures) ∙ there in
+    let found = sym c.in-Some.ensures.value ∙ there in
     let before = c.held_at-before.ensures x there in
     let after = c.held_at-after.ensures c.push.new.self (value_set es c.in-Some.place x c.push.new.self there) in
     let more = ap extents_of_sets c.in_ok-push.ensures.ok in
@@ -91,8 +91,8 @@ returns-clause-ok c =
     let es = c.self.inside.owns.entries in
     let x = c.index_mut.result.now in
     let there = c.index_mut.ensures.value in
-    let found = sym (c.in-Some.ensures.value ∙ ap (λ k. lookup (found_as k) es) c.of.ensures) ∙ there in
-    let at = subst (λ k. position (found_as k) (keys_of es) ≡ Some c.in-Some.place) c.of.ensures (sym c.in-Some.ensures.index) in
+    let found = sym c.in-Some.ensures.value ∙ there in
+    let at = (sym c.in-Some.ensures.index) in
     let set = set_in c.args.set.items in
     let mine : sets_at c.args.self.now b ≡ x = ap (λ owns. sets_at owns b) (sym c.self.view_is) ∙ sets_there b es x found in
     own_placed b c.push.new.self es c.in-Some.place at

@@ -7,5 +7,5 @@ use Rattle.row_store.proofs.owns.Owns.sets.Goals as goal
 
 pub returns : goal.returns
 returns c =
-    ap (λ o. unwrap_or o []) (c.get.ensures.value ∙ ap (λ k. lookup (found_as k) c.self.inside.owns.entries) c.of.ensures)
+    ap (λ o. unwrap_or o []) (c.get.ensures.value)
     ∙ sets_are c.args.branch.now c.self.inside.owns.entries ∙ ap (λ owns. sets_at owns c.args.branch.now) c.self.view_is
