@@ -1,7 +1,8 @@
 //! The log, and how a record is appended.
-ghost use Rattle.std.specs.Prelude.{◌≡◌, ◌≢◌, ◌<◌, ◌≤◌, ◌^◌, List, [], length, IfOk, IfErr, OnOk, IsErrOf, MatchResult};
+ghost use Rattle.std.specs.Prelude.{◌≡◌, ◌≢◌, ◌<◌, ◌≤◌, ◌^◌, ◌↔◌, List, [], length, IfOk, IfErr, OnOk, IsErrOf, MatchResult};
 ghost use Rattle.dtx_ports.specs.Causes.{Rose};
-ghost use Rattle.block_disk.specs.Images.{AtEachMoment, IsOnly};
+ghost use Rattle.block_disk.specs.Images.{AtEachMoment, AddsNone, GoesOn, IsOnly};
+ghost use Rattle.block_disk.specs.Orders.{ordered};
 ghost use Rattle.redo_record.specs.declared.record.RedoRecord.{RedoRecord};
 ghost use Rattle.redo_log.specs.Loads.{IsLoadCount, IsAppendCount};
 ghost use Rattle.redo_log.specs.Log.{disk_of as disk_of_bodies, MayBeBegun, count_after};
@@ -13,7 +14,7 @@ ghost use Rattle.record_log.specs.Log.{disk_of, IsBroken, IsIntact, IsWritable, 
 use crate::err::load_why;
 use crate::reading::records;
 use crate::{AppendErr, LoadErr, LoadWhy, Records};
-use block_disk::Disk;
+use block_disk::{Armable, Disk, Order};
 use redo_codec::encode;
 use redo_log::{Bodies, Log, LogErr, MakeErr};
 use redo_record::RedoRecord;
@@ -167,6 +168,26 @@ impl<D: Disk> RecordLog<D> {
         ensures { result ≡ disk_of self }
     {
         self.log.into_disk()
+    }
+}
+
+impl<D: Armable> RecordLog<D> {
+    /// Gives the disk an order to stop or to fail. The log stays as it is.
+    pub fn arm(&mut self, order: Order)
+        ensures plan { D.plan (disk_of self.new) ≡ ordered (D.plan (disk_of self.old)) order }
+        ensures content { D.content (disk_of self.new) ≡ D.content (disk_of self.old) }
+        ensures images { AddsNone (D.images (disk_of self.old)) (D.images (disk_of self.new)) }
+        ensures all_images { AddsNone (D.images (disk_of self.new)) (D.images (disk_of self.old)) }
+        ensures moment { D.moment (disk_of self.new) ≡ D.moment (disk_of self.old) }
+        ensures time { GoesOn (D.moment (disk_of self.old)) (D.moment (disk_of self.new)) (D.images_since (disk_of self.old)) (D.images_since (disk_of self.new)) (D.images (disk_of self.new)) }
+        ensures usable { IsUsable D.content D.images self.old → IsUsable D.content D.images self.new }
+        ensures intact { IsIntact self.old ↔ IsIntact self.new }
+        ensures spare { D.spare (disk_of self.new) ≡ D.spare (disk_of self.old) }
+        ensures faults { D.faults (disk_of self.new) ≡ D.faults (disk_of self.old) }
+        ensures calls { D.calls (disk_of self.new) ≡ D.calls (disk_of self.old) }
+        ensures writes { D.writes (disk_of self.new) ≡ D.writes (disk_of self.old) }
+    {
+        self.log.arm(order);
     }
 }
 

@@ -1,7 +1,8 @@
 //! The log, and how a body is appended.
 ghost use Rattle.std.specs.Prelude.{◌≡◌, ◌≢◌, ◌<◌, ◌≤◌, ◌+◌, ◌-◌, ◌^◌, ◌↔◌, ◌++◌, ◌∷◌, [], Some, None, length, IfOk, IfErr, OnOk, OnErr, IsErrOf, MatchResult};
 ghost use Rattle.dtx_ports.specs.Causes.{Rose, HasCause};
-ghost use Rattle.block_disk.specs.Images.{AtEachMoment, IsOnly};
+ghost use Rattle.block_disk.specs.Images.{AtEachMoment, AddsNone, GoesOn, IsOnly};
+ghost use Rattle.block_disk.specs.Orders.{ordered};
 ghost use Rattle.redo_log.specs.declared.err.MakeWhy.{MakeWhy};
 ghost use Rattle.redo_log.specs.declared.err.LoadWhy.{LoadWhy};
 ghost use Rattle.redo_log.specs.Cells.{body_limit, bodies, held, log_of, GrowsBy};
@@ -12,7 +13,7 @@ use crate::gate::{CLOSED, OPEN};
 use crate::load::read_log;
 use crate::make::lay_gate;
 use crate::{Bodies, LoadErr, LogErr, MakeErr};
-use block_disk::{Disk, Failed};
+use block_disk::{Armable, Disk, Failed, Order};
 use std::alloc::{AllocError, Global};
 
 /// The longest body, in bytes.
@@ -184,6 +185,26 @@ impl<D: Disk> Log<D> {
         ensures { result ≡ disk_of self }
     {
         self.disk
+    }
+}
+
+impl<D: Armable> Log<D> {
+    /// Gives the disk an order to stop or to fail. The log stays as it is.
+    pub fn arm(&mut self, order: Order)
+        ensures plan { D.plan (disk_of self.new) ≡ ordered (D.plan (disk_of self.old)) order }
+        ensures content { D.content (disk_of self.new) ≡ D.content (disk_of self.old) }
+        ensures images { AddsNone (D.images (disk_of self.old)) (D.images (disk_of self.new)) }
+        ensures all_images { AddsNone (D.images (disk_of self.new)) (D.images (disk_of self.old)) }
+        ensures moment { D.moment (disk_of self.new) ≡ D.moment (disk_of self.old) }
+        ensures time { GoesOn (D.moment (disk_of self.old)) (D.moment (disk_of self.new)) (D.images_since (disk_of self.old)) (D.images_since (disk_of self.new)) (D.images (disk_of self.new)) }
+        ensures usable { IsUsable D.content D.images self.old → IsUsable D.content D.images self.new }
+        ensures intact { IsIntact self.old ↔ IsIntact self.new }
+        ensures spare { D.spare (disk_of self.new) ≡ D.spare (disk_of self.old) }
+        ensures faults { D.faults (disk_of self.new) ≡ D.faults (disk_of self.old) }
+        ensures calls { D.calls (disk_of self.new) ≡ D.calls (disk_of self.old) }
+        ensures writes { D.writes (disk_of self.new) ≡ D.writes (disk_of self.old) }
+    {
+        self.disk.arm(order);
     }
 }
 
