@@ -1,4 +1,4 @@
--- The disks in memory as their callers see them, and what their calls do to them.
+-- A disk in memory as its callers see it, and what its calls do to it.
 use Rattle.std.specs.Prelude.{ℕ, ◌-◌, List, [], length, max, Bool, true, false, None}
 use Rattle.dtx_ports.specs.Causes.{risen}
 use Rattle.block_disk.specs.Images.{MayBeTorn}
