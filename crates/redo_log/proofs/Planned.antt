@@ -32,3 +32,7 @@ last before now is_write (Err err) goes = ends _ _ before now is_write [] err go
 pub before_others : (T E U F : Type 0) (before mid now : Option Plan) (is_write : Bool) (calls : List Bool) (value : T) (result : Result U F) → GoesByPlan {E = E} before mid is_write (Ok value) → RunsByPlan calls mid now result → RunsByPlan (is_write ∷ calls) before now result
 before_others T E U F before mid now is_write calls value (Ok done_all) goes others = goes_on T E before mid now is_write calls false value goes others
 before_others T E U F before mid now is_write calls value (Err err) goes others = goes_on T E before mid now is_write calls true value goes others
+
+-- calls of which one fails, where the whole fails
+pub failed : (T E : Type 0) (before now : Option Plan) (calls : List Bool) (result : Result T E) (err : E) → result ≡ Err err → CallsGoByPlan calls before now true → RunsByPlan calls before now result
+failed T E before now calls result err is goes = subst (λ (r : Result T E). RunsByPlan calls before now r) (sym is) goes
