@@ -24,13 +24,13 @@ returns-in_err-write_at-clause-plan g c =
 
 pub returns-in_err-sync-clause-plan : goal.returns-in_err-sync-clause-plan
 returns-in_err-sync-clause-plan g c =
-    let p = err_from_is_err_and c.from_residual-2.result c.from_residual-2.ensures.1 in
+    let p = err_from_is_err_and c.from_residual-in_err-sync.result c.from_residual-in_err-sync.ensures.1 in
     failed _ _ _ _ append_calls _ _ p.1
     (goes_on _ _ _ _ _ true (false ∷ true ∷ false ∷ []) true _ c.in_ok-write_at.ensures.plan (ends _ _ _ _ false (true ∷ false ∷ []) _ c.in_err-sync.ensures.plan))
 
 pub returns-in_err-write_at-2-clause-plan : goal.returns-in_err-write_at-2-clause-plan
 returns-in_err-write_at-2-clause-plan g c =
-    let p = err_from_is_err_and c.from_residual-3.result c.from_residual-3.ensures.1 in
+    let p = err_from_is_err_and c.from_residual-in_err-write_at-2.result c.from_residual-in_err-write_at-2.ensures.1 in
     failed _ _ _ _ append_calls _ _ p.1
     (goes_on _ _ _ _ _ true (false ∷ true ∷ false ∷ []) true _ c.in_ok-write_at.ensures.plan
     (goes_on _ _ _ _ _ false (true ∷ false ∷ []) true _ c.in_ok-sync.ensures.plan (ends _ _ _ _ true (false ∷ []) _ c.in_err-write_at-2.ensures.plan)))
