@@ -37,3 +37,8 @@ is_settled (Synced ∷ earlier) = true
 -- after a sync, which counts where something was written since the last
 abbrev pub synced : List Happening → List Happening
 synced happenings = if is_settled happenings then happenings else Synced ∷ happenings
+
+-- after a write that left these bytes at a place, or none
+abbrev pub wrote : ℕ → List ℕ → List Happening → List Happening
+wrote at [] happenings = happenings
+wrote at (byte ∷ bytes) happenings = Wrote at (byte ∷ bytes) ∷ happenings

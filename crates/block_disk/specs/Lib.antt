@@ -4,4 +4,6 @@ pub mod Plan
 pub mod Happenings
 pub mod ImageLaws
 pub mod Past
+pub mod Orders
 pub mod MemDisk
+pub mod FaultlessDisk

@@ -19,3 +19,5 @@ mod messages;
 mod record_logs;
 #[cfg(test)]
 mod records;
+#[cfg(test)]
+mod struck_logs;

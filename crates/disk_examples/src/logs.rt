@@ -22,14 +22,14 @@ pub(crate) fn disk_of(alloc: Global, bytes: &[u8]) -> Result<MemDisk, LoadWhy>
 }
 
 /// A log of no body.
-fn new_log(alloc: Global) -> Option<Log<MemDisk>>
+pub(crate) fn new_log(alloc: Global) -> Option<Log<MemDisk>>
     ensures { IfSome result (IsUsable ⟦<MemDisk as Disk>⟧.content ⟦<MemDisk as Disk>⟧.images) }
 {
     Log::create(alloc, MemDisk::new(alloc)).ok()
 }
 
 /// Whether a body is appended.
-fn takes(log: &mut Log<MemDisk>, body: &[u8]) -> bool
+pub(crate) fn takes(log: &mut Log<MemDisk>, body: &[u8]) -> bool
     requires usable { IsUsable ⟦<MemDisk as Disk>⟧.content ⟦<MemDisk as Disk>⟧.images log.old }
     requires some { 0 < length body.now }
     ensures { IsUsable ⟦<MemDisk as Disk>⟧.content ⟦<MemDisk as Disk>⟧.images log.new }

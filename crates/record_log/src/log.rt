@@ -1,8 +1,10 @@
 //! The log, and how a record is appended.
-ghost use Rattle.std.specs.Prelude.{◌≡◌, ◌≢◌, ◌<◌, ◌≤◌, ◌^◌, List, [], length, IfOk, IfErr, OnOk, IsErrOf, MatchResult};
+ghost use Rattle.std.specs.Prelude.{◌≡◌, ◌≢◌, ◌<◌, ◌≤◌, ◌^◌, ◌↔◌, List, [], true, false, length, IfOk, IfErr, OnOk, IsErrOf, MatchResult};
 ghost use Rattle.dtx_ports.specs.Causes.{Rose};
-ghost use Rattle.block_disk.specs.Images.{AtEachMoment, IsOnly};
+ghost use Rattle.block_disk.specs.Images.{AtEachMoment, AddsNone, GoesOn, IsOnly};
+ghost use Rattle.block_disk.specs.Orders.{ordered};
 ghost use Rattle.redo_record.specs.declared.record.RedoRecord.{RedoRecord};
+ghost use Rattle.redo_log.specs.Plans.{CallsGoByPlan, append_calls, begin_calls, load_calls};
 ghost use Rattle.redo_log.specs.Loads.{IsLoadCount, IsAppendCount};
 ghost use Rattle.redo_log.specs.Log.{disk_of as disk_of_bodies, MayBeBegun, count_after};
 ghost use Rattle.redo_log.specs.declared.err.MakeWhy.{MakeWhy};
@@ -13,7 +15,7 @@ ghost use Rattle.record_log.specs.Log.{disk_of, IsBroken, IsIntact, IsWritable, 
 use crate::err::load_why;
 use crate::reading::records;
 use crate::{AppendErr, LoadErr, LoadWhy, Records};
-use block_disk::Disk;
+use block_disk::{Armable, Disk, Order};
 use redo_codec::encode;
 use redo_log::{Bodies, Log, LogErr, MakeErr};
 use redo_record::RedoRecord;
@@ -52,6 +54,11 @@ impl<D: Disk> RecordLog<D> {
         ensures no_memory_calls { IfErr result (λ err. err.why ≡ MakeWhy.NoMemory → D.calls err.disk ≡ D.calls disk) }
         ensures calls { IfOk result (λ log. D.calls (disk_of log) ≡ count_after 2 (D.calls disk)) }
         ensures writes { IfOk result (λ log. D.writes (disk_of log) ≡ count_after 1 (D.writes disk)) }
+
+        // Where the disk shows its plan, it is a fault exactly where an order strikes one of the calls.
+        ensures plan { IfOk result (λ log. CallsGoByPlan begin_calls (D.plan disk) (D.plan (disk_of log)) false) }
+        ensures fault_plan { IfErr result (λ err. err.why ≡ MakeWhy.Fault → CallsGoByPlan begin_calls (D.plan disk) (D.plan err.disk) true) }
+        ensures no_memory_plan { IfErr result (λ err. err.why ≡ MakeWhy.NoMemory → D.plan err.disk ≡ D.plan disk) }
     {
         match Log::create(alloc, disk) {
             Ok(log) => Ok(RecordLog {
@@ -92,6 +99,10 @@ impl<D: Disk> RecordLog<D> {
         ensures calls { IfOk result (λ loaded. D.calls (disk_of loaded.0) ≡ count_after 3 (D.calls disk)) }
         ensures failed_calls { IfErr result (λ err. IsLoadCount (D.calls disk) (D.calls err.disk)) }
         ensures writes { MatchResult result (λ loaded. D.writes (disk_of loaded.0) ≡ D.writes disk) (λ err. D.writes err.disk ≡ D.writes disk) }
+
+        // Where the disk shows its plan, it is a fault exactly where an order strikes one of the calls.
+        ensures plan { IfOk result (λ loaded. CallsGoByPlan (load_calls (D.content disk)) (D.plan disk) (D.plan (disk_of loaded.0)) false) }
+        ensures fault_plan { IfErr result (λ err. err.why ≡ LoadWhy.Fault → CallsGoByPlan (load_calls (D.content disk)) (D.plan disk) (D.plan err.disk) true) }
     {
         match Log::load(alloc, disk) {
             Ok((log, bodies)) => with_records(alloc, log, &bodies),
@@ -139,6 +150,11 @@ impl<D: Disk> RecordLog<D> {
         ensures refused_unfailed { IsErrOf result AppendErr.NoMemory → D.faults (disk_of self.new) ≡ D.faults (disk_of self.old) }
         ensures refused_calls { IsErrOf result AppendErr.NoMemory → D.calls (disk_of self.new) ≡ D.calls (disk_of self.old) }
         ensures refused_writes { IsErrOf result AppendErr.NoMemory → D.writes (disk_of self.new) ≡ D.writes (disk_of self.old) }
+
+        // Where the disk shows its plan, it is a fault exactly where an order strikes one of the calls.
+        ensures plan { OnOk result (CallsGoByPlan append_calls (D.plan (disk_of self.old)) (D.plan (disk_of self.new)) false) }
+        ensures fault_plan { IsErrOf result AppendErr.Fault → IsIntact self.old → CallsGoByPlan append_calls (D.plan (disk_of self.old)) (D.plan (disk_of self.new)) true }
+        ensures refused_plan { IsErrOf result AppendErr.NoMemory → D.plan (disk_of self.new) ≡ D.plan (disk_of self.old) }
     {
         if self.broken {
             return Err(AppendErr::Fault);
@@ -167,6 +183,26 @@ impl<D: Disk> RecordLog<D> {
         ensures { result ≡ disk_of self }
     {
         self.log.into_disk()
+    }
+}
+
+impl<D: Armable> RecordLog<D> {
+    /// Gives the disk an order to stop or to fail. The log stays as it is.
+    pub fn arm(&mut self, order: Order)
+        ensures plan { D.plan (disk_of self.new) ≡ ordered (D.plan (disk_of self.old)) order }
+        ensures content { D.content (disk_of self.new) ≡ D.content (disk_of self.old) }
+        ensures images { AddsNone (D.images (disk_of self.old)) (D.images (disk_of self.new)) }
+        ensures all_images { AddsNone (D.images (disk_of self.new)) (D.images (disk_of self.old)) }
+        ensures moment { D.moment (disk_of self.new) ≡ D.moment (disk_of self.old) }
+        ensures time { GoesOn (D.moment (disk_of self.old)) (D.moment (disk_of self.new)) (D.images_since (disk_of self.old)) (D.images_since (disk_of self.new)) (D.images (disk_of self.new)) }
+        ensures usable { IsUsable D.content D.images self.old → IsUsable D.content D.images self.new }
+        ensures intact { IsIntact self.old ↔ IsIntact self.new }
+        ensures spare { D.spare (disk_of self.new) ≡ D.spare (disk_of self.old) }
+        ensures faults { D.faults (disk_of self.new) ≡ D.faults (disk_of self.old) }
+        ensures calls { D.calls (disk_of self.new) ≡ D.calls (disk_of self.old) }
+        ensures writes { D.writes (disk_of self.new) ≡ D.writes (disk_of self.old) }
+    {
+        self.log.arm(order);
     }
 }
 

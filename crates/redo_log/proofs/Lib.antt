@@ -4,5 +4,6 @@ mod Cells
 pub mod Logs
 pub mod Moments
 pub mod Settled
+mod Planned
 mod Stored
 mod Walk

@@ -2,3 +2,4 @@ pub mod Cells
 pub mod Log
 pub mod Gates
 pub mod Loads
+pub mod Plans

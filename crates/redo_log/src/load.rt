@@ -1,10 +1,11 @@
 //! How a log is read from a disk.
-ghost use Rattle.std.specs.Prelude.{◌≡◌, ◌≢◌, ◌≤◌, ◌<◌, ◌^◌, None, length, IfOk, OnOk, OnErr, IsErrOf, MatchResult};
+ghost use Rattle.std.specs.Prelude.{◌≡◌, ◌≢◌, ◌≤◌, ◌<◌, ◌^◌, None, true, false, length, IfOk, OnOk, OnErr, IsErrOf, MatchResult};
 ghost use Rattle.dtx_ports.specs.Causes.{Rose};
 ghost use Rattle.block_disk.specs.Images.{IsOnly, AtEachMoment};
 ghost use Rattle.redo_log.specs.Cells.{bodies, IsLogTo};
 ghost use Rattle.redo_log.specs.Log.{count_after, calls_to_load};
 ghost use Rattle.redo_log.specs.Loads.{IsLoadCount};
+ghost use Rattle.redo_log.specs.Plans.{CallsGoByPlan, load_calls};
 
 use crate::gate::{Gate, first_gate};
 use crate::{Bodies, LoadWhy};
@@ -26,6 +27,9 @@ pub(crate) fn read_log<D: Disk>(alloc: Global, disk: &mut D) -> Result<(Bodies, 
     ensures calls_for_nothing { IsErrOf result LoadWhy.NotALog → D.calls disk.new ≡ count_after (calls_to_load (D.content disk.old)) (D.calls disk.old) }
     ensures failed_calls { OnErr result (IsLoadCount (D.calls disk.old) (D.calls disk.new)) }
     ensures writes { D.writes disk.new ≡ D.writes disk.old }
+    ensures plan { OnOk result (CallsGoByPlan (load_calls (D.content disk.old)) (D.plan disk.old) (D.plan disk.new) false) }
+    ensures not_a_log_plan { IsErrOf result LoadWhy.NotALog → CallsGoByPlan (load_calls (D.content disk.old)) (D.plan disk.old) (D.plan disk.new) false }
+    ensures fault_plan { IsErrOf result LoadWhy.Fault → CallsGoByPlan (load_calls (D.content disk.old)) (D.plan disk.old) (D.plan disk.new) true }
 {
     let bytes = read_synced(alloc, disk)?;
     parse(alloc, &bytes)
@@ -45,6 +49,8 @@ fn read_synced<D: Disk>(alloc: Global, disk: &mut D) -> Result<Vec<u8>, LoadWhy>
     ensures calls { OnOk result (D.calls disk.new ≡ count_after (calls_to_load (D.content disk.old)) (D.calls disk.old)) }
     ensures failed_calls { OnErr result (IsLoadCount (D.calls disk.old) (D.calls disk.new)) }
     ensures writes { D.writes disk.new ≡ D.writes disk.old }
+    ensures plan { OnOk result (CallsGoByPlan (load_calls (D.content disk.old)) (D.plan disk.old) (D.plan disk.new) false) }
+    ensures fault_plan { IsErrOf result LoadWhy.Fault → CallsGoByPlan (load_calls (D.content disk.old)) (D.plan disk.old) (D.plan disk.new) true }
 {
     disk.sync()?;
     let length = disk.len()?;

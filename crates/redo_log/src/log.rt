@@ -1,10 +1,12 @@
 //! The log, and how a body is appended.
-ghost use Rattle.std.specs.Prelude.{◌≡◌, ◌≢◌, ◌<◌, ◌≤◌, ◌+◌, ◌-◌, ◌^◌, ◌↔◌, ◌++◌, ◌∷◌, [], Some, None, length, IfOk, IfErr, OnOk, OnErr, IsErrOf, MatchResult};
+ghost use Rattle.std.specs.Prelude.{◌≡◌, ◌≢◌, ◌<◌, ◌≤◌, ◌+◌, ◌-◌, ◌^◌, ◌↔◌, ◌++◌, ◌∷◌, [], Some, None, true, false, length, IfOk, IfErr, OnOk, OnErr, IsErrOf, MatchResult};
 ghost use Rattle.dtx_ports.specs.Causes.{Rose, HasCause};
-ghost use Rattle.block_disk.specs.Images.{AtEachMoment, IsOnly};
+ghost use Rattle.block_disk.specs.Images.{AtEachMoment, AddsNone, GoesOn, IsOnly};
+ghost use Rattle.block_disk.specs.Orders.{ordered};
 ghost use Rattle.redo_log.specs.declared.err.MakeWhy.{MakeWhy};
 ghost use Rattle.redo_log.specs.declared.err.LoadWhy.{LoadWhy};
 ghost use Rattle.redo_log.specs.Cells.{body_limit, bodies, held, log_of, GrowsBy};
+ghost use Rattle.redo_log.specs.Plans.{CallsGoByPlan, RunsByPlan, append_calls, begin_calls, load_calls};
 ghost use Rattle.redo_log.specs.Loads.{IsLoadCount, IsAppendCount};
 ghost use Rattle.redo_log.specs.Log.{disk_of, IsBroken, IsIntact, IsSettled, IsUsable, MayBeBegun, calls_to_load, HoldsWithOrWithout, count_after, OnRefused, staged, with_gate, MayBeStored};
 
@@ -12,7 +14,7 @@ use crate::gate::{CLOSED, OPEN};
 use crate::load::read_log;
 use crate::make::lay_gate;
 use crate::{Bodies, LoadErr, LogErr, MakeErr};
-use block_disk::{Disk, Failed};
+use block_disk::{Armable, Disk, Failed, Order};
 use std::alloc::{AllocError, Global};
 
 /// The longest body, in bytes.
@@ -54,6 +56,11 @@ impl<D: Disk> Log<D> {
         ensures no_memory_calls { IfErr result (λ err. err.why ≡ MakeWhy.NoMemory → D.calls err.disk ≡ D.calls disk) }
         ensures calls { IfOk result (λ log. D.calls (disk_of log) ≡ count_after 2 (D.calls disk)) }
         ensures writes { IfOk result (λ log. D.writes (disk_of log) ≡ count_after 1 (D.writes disk)) }
+
+        // Where the disk shows its plan, it is a fault exactly where an order strikes one of the calls.
+        ensures plan { IfOk result (λ log. CallsGoByPlan begin_calls (D.plan disk) (D.plan (disk_of log)) false) }
+        ensures fault_plan { IfErr result (λ err. err.why ≡ MakeWhy.Fault → CallsGoByPlan begin_calls (D.plan disk) (D.plan err.disk) true) }
+        ensures no_memory_plan { IfErr result (λ err. err.why ≡ MakeWhy.NoMemory → D.plan err.disk ≡ D.plan disk) }
     {
         match lay_gate(&mut disk) {
             Ok(()) => Ok(Log {
@@ -93,6 +100,11 @@ impl<D: Disk> Log<D> {
         ensures calls_for_nothing { IfErr result (λ err. err.why ≡ LoadWhy.NotALog → D.calls err.disk ≡ count_after (calls_to_load (D.content disk)) (D.calls disk)) }
         ensures failed_calls { IfErr result (λ err. IsLoadCount (D.calls disk) (D.calls err.disk)) }
         ensures writes { MatchResult result (λ loaded. D.writes (disk_of loaded.0) ≡ D.writes disk) (λ err. D.writes err.disk ≡ D.writes disk) }
+
+        // Where the disk shows its plan, it is a fault exactly where an order strikes one of the calls.
+        ensures plan { IfOk result (λ loaded. CallsGoByPlan (load_calls (D.content disk)) (D.plan disk) (D.plan (disk_of loaded.0)) false) }
+        ensures not_a_log_plan { IfErr result (λ err. err.why ≡ LoadWhy.NotALog → CallsGoByPlan (load_calls (D.content disk)) (D.plan disk) (D.plan err.disk) false) }
+        ensures fault_plan { IfErr result (λ err. err.why ≡ LoadWhy.Fault → CallsGoByPlan (load_calls (D.content disk)) (D.plan disk) (D.plan err.disk) true) }
     {
         match read_log(alloc, &mut disk) {
             Ok((bodies, end)) => Ok((
@@ -146,6 +158,11 @@ impl<D: Disk> Log<D> {
         ensures fault_calls { IsErrOf result LogErr.Fault → IsIntact self.old → IsAppendCount (D.calls (disk_of self.old)) (D.calls (disk_of self.new)) }
         ensures refused_calls { OnRefused result (D.calls (disk_of self.new) ≡ D.calls (disk_of self.old)) }
         ensures refused_writes { OnRefused result (D.writes (disk_of self.new) ≡ D.writes (disk_of self.old)) }
+
+        // Where the disk shows its plan, it is a fault exactly where an order strikes one of the calls.
+        ensures plan { OnOk result (CallsGoByPlan append_calls (D.plan (disk_of self.old)) (D.plan (disk_of self.new)) false) }
+        ensures fault_plan { IsErrOf result LogErr.Fault → IsIntact self.old → CallsGoByPlan append_calls (D.plan (disk_of self.old)) (D.plan (disk_of self.new)) true }
+        ensures refused_plan { OnRefused result (D.plan (disk_of self.new) ≡ D.plan (disk_of self.old)) }
     {
         if self.broken {
             return Err(LogErr::Fault);
@@ -187,6 +204,26 @@ impl<D: Disk> Log<D> {
     }
 }
 
+impl<D: Armable> Log<D> {
+    /// Gives the disk an order to stop or to fail. The log stays as it is.
+    pub fn arm(&mut self, order: Order)
+        ensures plan { D.plan (disk_of self.new) ≡ ordered (D.plan (disk_of self.old)) order }
+        ensures content { D.content (disk_of self.new) ≡ D.content (disk_of self.old) }
+        ensures images { AddsNone (D.images (disk_of self.old)) (D.images (disk_of self.new)) }
+        ensures all_images { AddsNone (D.images (disk_of self.new)) (D.images (disk_of self.old)) }
+        ensures moment { D.moment (disk_of self.new) ≡ D.moment (disk_of self.old) }
+        ensures time { GoesOn (D.moment (disk_of self.old)) (D.moment (disk_of self.new)) (D.images_since (disk_of self.old)) (D.images_since (disk_of self.new)) (D.images (disk_of self.new)) }
+        ensures usable { IsUsable D.content D.images self.old → IsUsable D.content D.images self.new }
+        ensures intact { IsIntact self.old ↔ IsIntact self.new }
+        ensures spare { D.spare (disk_of self.new) ≡ D.spare (disk_of self.old) }
+        ensures faults { D.faults (disk_of self.new) ≡ D.faults (disk_of self.old) }
+        ensures calls { D.calls (disk_of self.new) ≡ D.calls (disk_of self.old) }
+        ensures writes { D.writes (disk_of self.new) ≡ D.writes (disk_of self.old) }
+    {
+        self.disk.arm(order);
+    }
+}
+
 /// What is written after a closed gate, in one write: the body's length, the body, and the next gate, closed.
 fn stage(alloc: Global, body: &[u8]) -> Result<Vec<u8>, AllocError>
     requires { length body.now < 2 ^ 32 }
@@ -214,6 +251,7 @@ fn store<D: Disk>(disk: &mut D, gate: u64, behind: &[u8]) -> Result<(), Failed>
     ensures calls { OnOk result (D.calls disk.new ≡ count_after 4 (D.calls disk.old)) }
     ensures fault_calls { OnErr result (IsAppendCount (D.calls disk.old) (D.calls disk.new)) }
     ensures writes { OnOk result (D.writes disk.new ≡ count_after 2 (D.writes disk.old)) }
+    ensures plan { RunsByPlan append_calls (D.plan disk.old) (D.plan disk.new) result }
 {
     disk.write_at(gate + 1, behind)?;
     // What follows an open gate counts, so it has to be on the disk first.

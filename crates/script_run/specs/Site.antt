@@ -1,7 +1,7 @@
 -- A site by its parts.
 use Rattle.std.specs.Prelude.{◌≡◌, ℕ, Bool, false, List, [], ◌∷◌, ◌++◌, Option, Some, None}
 use Rattle.block_disk.specs.Happenings.{content_of, IsImage}
-use Rattle.block_disk.specs.MemDisk.{DiskState}
+use Rattle.block_disk.specs.FaultlessDisk.{FaultlessState}
 use Rattle.redo_record.specs.declared.record.RedoRecord.{RedoRecord}
 use Rattle.sole_node.specs.Kept.{Kept}
 use Rattle.sole_node.specs.Turn.{start_of}
@@ -17,7 +17,7 @@ site_kept (Up node) = Some (kept_of node)
 site_kept (Down disk) = None
 
 -- its disk
-abbrev pub site_disk : Site → DiskState
+abbrev pub site_disk : Site → FaultlessState
 site_disk (Up node) = node_disk node
 site_disk (Down disk) = disk
 

@@ -19,7 +19,7 @@ ghost use Rattle.script_run.specs.Linked.{SiteIs, EndsAs, TurnsAs};
 
 use crate::line::{AnswerLine, Said};
 use crate::site::{NODE, Site};
-use block_disk::MemDisk;
+use block_disk::FaultlessDisk;
 use dtx_values::{Answer, Done, Table};
 use sole_core::{Effects, Finished, Node, TurnErr};
 use sole_laws::{Trace, nodes_are_in_order};
@@ -64,7 +64,7 @@ fn is_committed(answer: &Answer) -> bool
 }
 
 /// One turn of a node on a disk that does not fail.
-fn turn(node: &mut Node<MemDisk>, input: &Input) -> Result<Effects, AllocError>
+fn turn(node: &mut Node<FaultlessDisk>, input: &Input) -> Result<Effects, AllocError>
     requires running { IsReadySite (Up node.old) }
     requires ready { IsReady (kept_of node.old) }
     requires whole { MakesWhole input.now }

@@ -8,7 +8,7 @@ ghost use Rattle.sole_core.specs.OnDisk.{MayStart};
 ghost use Rattle.script_run.specs.declared.site.Site.TheVariants.{Up, Down};
 ghost use Rattle.script_run.specs.Site.{site_kept, site_disk, site_bytes, is_open_at, HasUndo, IsReadySite, StartsAs};
 
-use block_disk::MemDisk;
+use block_disk::FaultlessDisk;
 use sole_core::{MakeErr, MakeWhy, Node};
 use std::alloc::{AllocError, Global};
 use std::mem;
@@ -19,13 +19,13 @@ pub(crate) const NODE: u8 = 1;
 /// A node that is up, or the disk of one that is down.
 #[derive(Drop)]
 pub enum Site {
-    Up(Node<MemDisk>),
-    Down(MemDisk),
+    Up(Node<FaultlessDisk>),
+    Down(FaultlessDisk),
 }
 
 impl Site {
     /// The node's disk.
-    pub fn disk(&self) -> &MemDisk
+    pub fn disk(&self) -> &FaultlessDisk
         ensures { result.now ≡ site_disk self.now }
     {
         match self {
@@ -55,7 +55,7 @@ impl Site {
     pub fn stop(&mut self, alloc: Global)
         ensures { self.new ≡ Down (site_disk self.old) }
     {
-        let running = mem::replace(self, Site::Down(MemDisk::new(alloc)));
+        let running = mem::replace(self, Site::Down(FaultlessDisk::new(alloc)));
         *self = stopped(running);
     }
 
@@ -67,7 +67,7 @@ impl Site {
         ensures undo { OnOk result (HasUndo undo self.new) }
         ensures ready { OnOk result (IsReadySite self.new) }
     {
-        let resting = mem::replace(self, Site::Down(MemDisk::new(alloc)));
+        let resting = mem::replace(self, Site::Down(FaultlessDisk::new(alloc)));
         let (running, boot) = started(alloc, undo, resting)?;
         *self = running;
         Ok(boot)
@@ -81,7 +81,7 @@ pub fn made(alloc: Global, undo: u32) -> Result<Site, AllocError>
     ensures disk { IfOk result (λ site. IsLogOf first_records (site_bytes site)) }
     ensures ready { IfOk result IsReadySite }
 {
-    match Node::make(alloc, MemDisk::new(alloc), undo) {
+    match Node::make(alloc, FaultlessDisk::new(alloc), undo) {
         Ok(node) => Ok(Site::Up(node)),
         Err(
             MakeErr {
@@ -123,7 +123,7 @@ fn started(alloc: Global, undo: u32, site: Site) -> Result<(Site, u32), AllocErr
 }
 
 /// The node started from this disk, and the number of this start, from 1.
-fn start_disk(alloc: Global, undo: u32, disk: MemDisk) -> Result<(Site, u32), AllocError>
+fn start_disk(alloc: Global, undo: u32, disk: FaultlessDisk) -> Result<(Site, u32), AllocError>
     requires sound { (rs : List RedoRecord) × MayStart rs (content_of disk.happenings) }
     ensures starts { IfOk result (λ x. (rs : List RedoRecord) → IsLogOf rs (content_of disk.happenings) → StartsAs rs x.0 x.1) }
     ensures undo { IfOk result (λ x. HasUndo undo x.0) }

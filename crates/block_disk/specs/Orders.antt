@@ -1,0 +1,75 @@
+-- The orders of a disk in memory, and what a write leaves that they strike.
+use Rattle.std.specs.Prelude.{ℕ, ◌-◌, ◌==◌, Bool, true, false, if◌then◌else◌, List, [], length, take, Option, Some, None}
+use Rattle.block_disk.specs.Plan.{Plan, is_next, counted_down}
+use Rattle.block_disk.specs.declared.order.Order.{Order}
+use Rattle.block_disk.specs.declared.order.Order.TheVariants as orders
+use Rattle.block_disk.specs.declared.order.Stop.{Stop}
+use Rattle.block_disk.specs.declared.order.How.{How}
+use Rattle.block_disk.specs.declared.order.How.TheVariants.{Keep, Leave}
+use Rattle.block_disk.specs.declared.orders.Orders.{Orders}
+use Rattle.block_disk.specs.declared.orders.Strike.{Strike}
+use Rattle.block_disk.specs.declared.orders.Strike.TheVariants.{Spares, Fails, Stops}
+
+-- what a stop in the write of these bytes leaves at its place: the first of them, or other bytes, but no more of them
+abbrev pub left_of : How → List ℕ → List ℕ
+left_of (Keep count) bytes = take count bytes
+left_of (Leave others) bytes = take (length bytes) others.items
+
+-- the plan with a new order, which takes the place of an earlier one of its kind
+abbrev pub with_order : Plan → Order → Plan
+with_order plan (orders.Stop stop) = record plan { stop = Some stop.write }
+with_order plan (orders.Fault call) = record plan { fault = Some call }
+
+-- the plan with a new order, where the disk shows its plan
+abbrev pub ordered : Option Plan → Order → Option Plan
+ordered None order = None
+ordered (Some plan) order = Some (with_order plan order)
+
+-- the write that will stop the disk
+abbrev pub write_of : Option Stop → Option ℕ
+write_of None = None
+write_of (Some stop) = Some stop.write
+
+-- these orders as a plan
+abbrev pub plan_of : Orders → Plan
+plan_of orders = record { stopped = orders.stopped; stop = write_of orders.stop; fault = orders.fault }
+
+-- these orders and a new one, which takes the place of an earlier one of its kind
+abbrev pub after_order : Orders → Order → Orders
+after_order before (orders.Stop stop) = record before { stop = Some stop }
+after_order before (orders.Fault call) = record before { fault = Some call }
+
+-- these orders once the power is on again
+abbrev pub powered : Orders → Orders
+powered orders = record orders { stopped = false }
+
+-- a stop after one more write, which spends it where it strikes
+abbrev pub stop_counted_down : Option Stop → Option Stop
+stop_counted_down None = None
+stop_counted_down (Some stop) = if stop.write == 1 then None else Some (record stop { write = stop.write - 1 })
+
+-- the orders after the next call: only writes count for a stop, and a stopped disk counts nothing
+abbrev pub after_orders : Orders → Bool → Orders
+after_orders orders true =
+    if orders.stopped then orders
+    else (record { stopped = is_next (write_of orders.stop); stop = stop_counted_down orders.stop; fault = counted_down orders.fault })
+after_orders orders false = if orders.stopped then orders else record orders { fault = counted_down orders.fault }
+
+-- what comes of a write that no stop strikes
+abbrev pub fault_strike : Option ℕ → Strike
+fault_strike fault = if is_next fault then Fails else Spares
+
+-- what comes of a write while the disk is not stopped: where both orders strike it, the stop counts
+abbrev pub strike_by : Option Stop → Option ℕ → Strike
+strike_by None fault = fault_strike fault
+strike_by (Some stop) fault = if stop.write == 1 then Stops stop.how else fault_strike fault
+
+-- what comes of the next write
+abbrev pub strike_of : Orders → Strike
+strike_of orders = if orders.stopped then Fails else strike_by orders.stop orders.fault
+
+-- what a write of these bytes leaves at its place
+abbrev pub left_by : Strike → List ℕ → List ℕ
+left_by Spares bytes = bytes
+left_by Fails bytes = []
+left_by (Stops how) bytes = left_of how bytes
