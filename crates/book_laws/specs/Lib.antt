@@ -1,0 +1,4 @@
+pub mod DiskLaws
+pub mod SealLaws
+pub mod WriteLaws
+pub mod TriedBook
