@@ -1,11 +1,10 @@
 -- What the entries of a book say of its events, and that a transaction has one decision.
-use Rattle.std.proofs.Common.{◌≡◌, ℕ, zero, suc, ◌<◌, ◌==◌, ◌&&◌, ◌||◌, Bool, true, false, true≢false, if◌then◌else◌, List, [], ◌∷◌, ◌++◌, take, Option, Some, None, inl, inr, refl, sym, ap, subst, ◌∙◌, arith}
+use Rattle.std.proofs.Common.{◌≡◌, ℕ, zero, suc, ◌<◌, ◌||◌, Bool, true, false, true≢false, if◌then◌else◌, List, [], ◌∷◌, ◌++◌, take, Option, Some, None, inl, inr, refl, sym, ap, subst, ◌∙◌, arith}
 use Rattle.std.specs.Prelude.{◌⊎◌}
-use Rattle.std.specs.List.{list_any}
-use Rattle.std.proofs.lemmas.Bool.{and_parts, cases_lt}
-use Rattle.tran_ids.proofs.BranchLemmas.{equal_from_same, same_from_equal}
-use Rattle.agreement.specs.Outcomes.{stands, is_forced_of, is_decision_on, is_decision_at, global_in, forced_in, Follows, EachAgainst, At}
-use Rattle.agreement.specs.Events.{Forest, Decided, Event, Make, Seal, Decide, Force, Learn, exit, forced, Has, Allowed, Lawful, site_of}
+use Rattle.std.proofs.lemmas.Bool.{cases_lt}
+use Rattle.tran_ids.proofs.BranchLemmas.{equal_from_same}
+use Rattle.agreement.specs.Outcomes.{stands, is_forced_of, is_decision_on, global_in, forced_in, Follows, EachAgainst, At}
+use Rattle.agreement.specs.Events.{Forest, Decided, Event, Seal, Decide, Learn, exit, forced, Has, Lawful, site_of}
 use Rattle.agreement.specs.BookOf.{entry_by, with_entry, book_of}
 use Rattle.agreement.proofs.AgreementLaws.{exit_decided, was_allowed}
 use Rattle.agreement.proofs.BookTests.{forced_same, global_is}
@@ -13,7 +12,7 @@ use Rattle.node_rules.specs.Data.{Change, BranchId, Decision}
 use Rattle.node_rules.specs.Words.{same}
 use Rattle.run_laws.specs.Data.{Entry}
 use Rattle.run_laws.specs.Data.entries
-use Rattle.book_laws.proofs.PlaceLemmas.{IsOne, found, finds, one_before, at_place}
+use Rattle.book_laws.proofs.PlaceLemmas.{IsOne, finds, one_before, at_place}
 use Rattle.book_laws.proofs.OnDiskLemmas.{IsOf}
 
 -- ---- events

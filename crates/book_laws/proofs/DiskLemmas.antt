@@ -6,7 +6,6 @@ use Rattle.std.proofs.lemmas.Bool.{eqb-true, eq-eqb}
 use Rattle.std.proofs.lemmas.List.Elements.{filter-append}
 use Rattle.std.proofs.lemmas.Grind.{flat_map-append}
 use Rattle.node_rules.specs.Data.{RedoRecord, Place}
-use Rattle.node_rules.specs.Data.decisions
 use Rattle.node_rules.specs.Data.records
 use Rattle.node_rules.specs.Words.{numbered}
 use Rattle.run_laws.specs.Data.{Turn, Happening, Command, Entry}
@@ -14,9 +13,9 @@ use Rattle.run_laws.specs.Data.entries
 use Rattle.run_laws.specs.Data.happenings
 use Rattle.run_laws.specs.Entries.{entry_of, entries_of}
 use Rattle.run_laws.specs.Facts.{Facts, first_facts, records_at, facts_after}
-use Rattle.run_laws.specs.Lawful.{IsPlace, MayHappen, History, IsLawfulRun, facts_at}
+use Rattle.run_laws.specs.Lawful.{IsPlace, MayHappen, facts_at}
 use Rattle.run_laws.specs.IdLaws.{IsRecordOf}
-use Rattle.run_laws.specs.RunEvents.{events_after, events_of}
+use Rattle.run_laws.specs.RunEvents.{events_of}
 use Rattle.agreement.specs.Events.{Event}
 use Rattle.run_laws.proofs.FactLemmas.{book_is}
 use Rattle.run_laws.proofs.LaterLemmas.{events_keep}

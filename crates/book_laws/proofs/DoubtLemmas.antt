@@ -1,11 +1,9 @@
 -- The branches in doubt by a book: each is sealed and has no end, and none is there twice.
 use Rattle.std.proofs.Common.{◌≡◌, ℕ, ◌==◌, ◌||◌, ◌&&◌, not, Bool, true, false, true≢false, if◌then◌else◌, List, [], ◌∷◌, ◌++◌, filter, flat_map, Option, Some, None, inl, inr, refl, sym, ap, subst, ◌∙◌}
-use Rattle.std.specs.Prelude.{◌⊎◌}
-use Rattle.std.specs.List.{list_any}
 use Rattle.std.proofs.lemmas.Bool.{and_parts, or_left, or_right, eqb-true, eq-eqb}
 use Rattle.std.proofs.lemmas.List.Folds.{list_any-append}
 use Rattle.tran_ids.proofs.BranchLemmas.{same_from_equal}
-use Rattle.agreement.specs.Events.{Forest, Event, Learn, mark, learned, learned_by, forced, forced_by, Allowed, Lawful}
+use Rattle.agreement.specs.Events.{Forest, Event, Learn, mark, learned, forced, forced_by, Allowed, Lawful}
 use Rattle.agreement.specs.BookOf.{entry_by, book_of}
 use Rattle.agreement.proofs.BookTests.{shows, some_before, some_now, not_true}
 use Rattle.agreement.proofs.EventLemmas.{learned_new, learn_by, first_none}

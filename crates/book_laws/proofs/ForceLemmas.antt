@@ -1,5 +1,5 @@
 -- The branch whose outcome is forced is the only one in doubt at its node, by the book, that the statement's id names.
-use Rattle.std.proofs.Common.{◌≡◌, ◌≢◌, ℕ, ◌||◌, ◌&&◌, Bool, true, false, true≢false, if◌then◌else◌, map, List, [], ◌∷◌, ◌++◌, filter, flat_map, is_some, Option, Some, None, Ok, inl, inr, refl, sym, ap, subst, ◌∙◌}
+use Rattle.std.proofs.Common.{◌≡◌, ℕ, ◌||◌, Bool, true, false, true≢false, if◌then◌else◌, map, List, [], ◌∷◌, filter, flat_map, is_some, Option, Some, None, Ok, inl, inr, refl, sym, ap, subst, ◌∙◌}
 use Rattle.std.specs.List.{AllByRecursion, list_any}
 use Rattle.std.specs.Str.{bytes_eq}
 use Rattle.std.proofs.lemmas.Bool.{and_parts, and_from, eq-eqb}
@@ -8,19 +8,19 @@ use Rattle.tran_ids.proofs.BranchLemmas.{equal_from_same, same_from_equal}
 use Rattle.redo_record.specs.Kept.{stands_at}
 use Rattle.redo_record.specs.Rows.{sealed_as}
 use Rattle.force_cmds.specs.Named.{is_id_of as is_row_of, named_among}
-use Rattle.agreement.specs.Events.{Forest, IsForest, Sealed, Decided, Event, Forget, exit, learned, forced, Has, Knows, Lawful}
+use Rattle.agreement.specs.Events.{Sealed, Event, exit, learned, forced, Lawful}
 use Rattle.agreement.specs.BookOf.{book_of}
 use Rattle.agreement.proofs.AgreementLaws.{exit_sealed}
 use Rattle.agreement.proofs.BookTests.{has_sealed, no_end}
 use Rattle.agreement.proofs.Invariant.{Inv}
 use Rattle.agreement.proofs.InvariantKept.{inv}
-use Rattle.node_rules.specs.Data.{BranchId, Decision, RedoRecord, Sealed as SealedRecord, Standing, State, Refusal}
+use Rattle.node_rules.specs.Data.{BranchId, Decision, RedoRecord, Sealed as SealedRecord, Standing, State}
 use Rattle.node_rules.specs.Data.decisions
 use Rattle.node_rules.specs.Data.records
 use Rattle.node_rules.specs.Data.states
-use Rattle.node_rules.specs.Force.{is_sealed, is_named_by, one_named, only_one, branch_to_force}
+use Rattle.node_rules.specs.Force.{is_sealed, is_named_by, one_named, branch_to_force}
 use Rattle.node_rules.specs.Words.{same}
-use Rattle.node_rules.specs.Kept.{Kept, Stored, standing_id}
+use Rattle.node_rules.specs.Kept.{Kept, Stored}
 use Rattle.node_rules.specs.Records.{nothing_stored, stored_by}
 use Rattle.run_laws.specs.Data.{Entry}
 use Rattle.run_laws.specs.Data.entries
@@ -28,7 +28,6 @@ use Rattle.run_laws.specs.Births.{Born, born_at, births_of}
 use Rattle.run_laws.specs.BirthLaws.{Began, KeptIs, RecordNames}
 use Rattle.run_laws.specs.Book.{is_sealed_of, is_end_of, stands, in_doubt, EachAgainst}
 use Rattle.run_laws.specs.Entries.{entry_of}
-use Rattle.run_laws.specs.Entries.{book_of as trace_book}
 use Rattle.run_laws.specs.EventRows.{RowIs, IsKnown, IsForcedAs, IsDone}
 use Rattle.run_laws.specs.Facts.{first_facts, node_at, records_at}
 use Rattle.run_laws.specs.Knowledge.{sealed_in, is_id_of, named_in_doubt}

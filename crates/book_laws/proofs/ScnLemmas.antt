@@ -1,24 +1,22 @@
 -- Of two decisions that changed one key at a node the later in the book has the greater SCN. Its branch there either left after the
 -- other's, so its SCN is greater; or it left before and had ended by then, so its decision would be the older.
-use Rattle.std.proofs.Common.{◌≡◌, ℕ, ◌<◌, ◌≤◌, ◌==◌, ◌&&◌, ◌||◌, not, Bool, true, false, true≢false, if◌then◌else◌, List, [], ◌∷◌, ◌++◌, filter, flat_map, take, Option, Some, None, inl, inr, refl, sym, ap, subst, ◌∙◌, arith}
-use Rattle.std.specs.Prelude.{◌⊎◌}
+use Rattle.std.proofs.Common.{◌≡◌, ℕ, ◌<◌, ◌≤◌, ◌==◌, ◌&&◌, not, Bool, true, false, true≢false, if◌then◌else◌, List, [], ◌∷◌, filter, flat_map, take, Option, Some, None, inl, inr, refl, sym, ap, subst, ◌∙◌, arith}
 use Rattle.std.specs.List.{AllByRecursion, list_any}
 use Rattle.std.proofs.lemmas.Bool.{and_parts, cases_lt, eqb-true}
 use Rattle.tran_ids.proofs.BranchLemmas.{equal_from_same, same_from_equal}
 use Rattle.agreement.specs.Events.{Forest, IsForest, Decided, Event, exit, learned, forced, Lawful, site_of}
 use Rattle.agreement.specs.BookOf.{book_of}
 use Rattle.agreement.proofs.AgreementLaws.{undecided_from_rollback}
-use Rattle.node_rules.specs.Data.{Change, BranchId, Decision, RedoRecord}
+use Rattle.node_rules.specs.Data.{Change, BranchId, RedoRecord}
 use Rattle.node_rules.specs.Data.decisions
 use Rattle.node_rules.specs.Data.records
 use Rattle.node_rules.specs.Words.{same}
 use Rattle.run_laws.specs.Data.{Entry}
 use Rattle.run_laws.specs.Data.entries
-use Rattle.run_laws.specs.Book.{is_sealed_of, is_forced_of, is_end_of, stands, is_decision_on, is_decision_at, global_in, AsDecided, Follows, EachAgainst, At, unforced_at, transaction_in, transaction_at, is_key_in, share_a_key, InOrder, ScnLaw}
+use Rattle.run_laws.specs.Book.{is_forced_of, is_end_of, stands, is_decision_on, is_decision_at, global_in, AsDecided, Follows, EachAgainst, At, unforced_at, transaction_in, transaction_at, is_key_in, InOrder}
 use Rattle.run_laws.specs.Entries.{entry_of}
-use Rattle.run_laws.specs.Entries.{book_of as trace_book}
 use Rattle.run_laws.specs.Facts.{records_at}
-use Rattle.run_laws.specs.Lawful.{History, IsLawfulRun, facts_at}
+use Rattle.run_laws.specs.Lawful.{facts_at}
 use Rattle.run_laws.specs.RunEvents.{events_of}
 use Rattle.run_laws.specs.Headline.{EveryScnIsLater}
 use Rattle.run_laws.specs.RiseLaws.{are_of_one_key}

@@ -1,8 +1,8 @@
 -- A branch that seals has no exit before, so its transaction was not decided: a decision covers the whole tree.
-use Rattle.std.proofs.Common.{◌≡◌, ℕ, Bool, true, false, List, [], ◌∷◌, ◌++◌, Option, Some, None, inl, inr, refl, sym, ap, subst, ◌∙◌, append-nil, append_assoc, arith}
+use Rattle.std.proofs.Common.{◌≡◌, ℕ, false, List, [], ◌∷◌, ◌++◌, Some, None, inl, inr, sym, subst, append-nil, append_assoc}
 use Rattle.agreement.specs.Outcomes.{stands, is_decision_on, EachAgainst}
-use Rattle.agreement.specs.Events.{Forest, IsForest, Sealed, Decided, Event, Make, Seal, Decide, Force, Learn, exit, Lawful, site_of}
-use Rattle.agreement.specs.BookOf.{entry_by, with_entry, book_of}
+use Rattle.agreement.specs.Events.{Forest, IsForest, Decided, Event, Make, Seal, Decide, Force, Learn, exit, Lawful, site_of}
+use Rattle.agreement.specs.BookOf.{book_of}
 use Rattle.agreement.proofs.AgreementLaws.{covered}
 use Rattle.agreement.proofs.BookTests.{not_true}
 use Rattle.agreement.proofs.BookLaws.{decision_is}
