@@ -9,4 +9,5 @@ pub mod DoubtLemmas
 pub mod ForceLemmas
 pub mod KeptLemmas
 pub mod WriteLemmas
+pub mod LifeLemmas
 pub mod TriedBookLemmas

@@ -1,4 +1,5 @@
 pub mod DiskLaws
 pub mod SealLaws
 pub mod WriteLaws
+pub mod LifeLaws
 pub mod TriedBook

@@ -8,6 +8,7 @@
 ghost use Rattle.book_laws.specs.DiskLaws.{BooksAreOfDisks};
 ghost use Rattle.book_laws.specs.SealLaws.{SealsComeFirst};
 ghost use Rattle.book_laws.specs.WriteLaws.{RecordsAreDue};
+ghost use Rattle.book_laws.specs.LifeLaws.{LivesAreEnough};
 ghost use Rattle.book_laws.specs.TriedBook.{TheTriedBook};
 ghost use Rattle.run_laws.specs.Headline.{EveryScnIsLater};
 
@@ -32,6 +33,12 @@ pub fn every_scn_is_later()
 /// learned of the neighbour that the branch's Sealed record names as the one on the way to the site, and a sealed branch forgets after it.
 pub fn records_are_due()
     ensures { RecordsAreDue }
+{}
+
+/// So a lawful run writes and says all that it may where it does so as far as the lives of branches before each turn go: its seals, its
+/// decisions, the ends of its sites, and Exec, Abort and ReadOnly. Of all other records and messages it holds in any case.
+pub fn lives_are_enough()
+    ensures { LivesAreEnough }
 {}
 
 /// The law of commit SCNs is not about nothing: in a run of two transactions both change one key, and the second has the greater SCN.
