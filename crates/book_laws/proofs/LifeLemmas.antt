@@ -9,12 +9,11 @@ use Rattle.node_rules.specs.Data.params
 use Rattle.node_rules.specs.Data.kinds
 use Rattle.node_rules.specs.Kept.{Kept}
 use Rattle.run_laws.specs.Branches.{Trail, no_trail}
-use Rattle.run_laws.specs.Data.{Turn, Happening, Command}
+use Rattle.run_laws.specs.Data.{Happening, Command}
 use Rattle.run_laws.specs.Data.happenings
 use Rattle.run_laws.specs.Each.{EachFrom}
-use Rattle.run_laws.specs.Facts.{Facts, first_facts, place_at, node_at, records_at, facts_after}
-use Rattle.run_laws.specs.Knowledge.{MayWrite, MaySay, MayForget, decided_in, TurnKnows, Knows}
-use Rattle.run_laws.specs.Lawful.{History, IsLawfulRun}
+use Rattle.run_laws.specs.Facts.{Facts, first_facts, place_at, records_at, facts_after}
+use Rattle.run_laws.specs.Knowledge.{MayWrite, MaySay, MayForget, decided_in, Knows}
 use Rattle.run_laws.specs.NodeLaws.{EachFactFrom, TellsRecorded, TellsRecords}
 use Rattle.run_laws.specs.Trail.{trail_after}
 use Rattle.run_laws.proofs.KnownLemmas.{commits_are_recorded}
