@@ -113,7 +113,7 @@ open_row e s is sealed = by s.state is.force sealed
     by (states.ForcedCommit n) force sealed = absurd (true≢false (sym sealed))
     by states.ForcedRollback force sealed = absurd (true≢false (sym sealed))
 
-one_born : (bs : List Born) (x y : Born) → Began bs x → Began bs y → x.me ≡ y.me → x ≡ y
+pub one_born : (bs : List Born) (x y : Born) → Began bs x → Began bs y → x.me ≡ y.me → x ≡ y
 one_born bs x y first second same_id = let at : born_at bs x.me ≡ Some y = ap (born_at bs) same_id ∙ second in cc (first, at)
 
 row_before : (c : BranchId) (ks : List Standing) → list_any (stands_at c) (map unacked_row ks) ≡ true → list_any (stands_at c) ks ≡ true

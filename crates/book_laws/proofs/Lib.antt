@@ -10,4 +10,5 @@ pub mod ForceLemmas
 pub mod KeptLemmas
 pub mod WriteLemmas
 pub mod LifeLemmas
+pub mod LeaveLemmas
 pub mod TriedBookLemmas

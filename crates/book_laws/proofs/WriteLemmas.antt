@@ -55,7 +55,7 @@ not_false : (q : Bool) → not q ≡ true → q ≡ false
 not_false false is = refl
 not_false true is = absurd (true≢false (sym is))
 
-none_there : (o : Option BranchId) → is_none o ≡ true → o ≡ None
+pub none_there : (o : Option BranchId) → is_none o ≡ true → o ≡ None
 none_there None is = refl
 none_there (Some b) is = absurd cc
 
@@ -209,7 +209,7 @@ module _ (t : History) (before : List Happening) (lawful : IsLawfulRun (so_far t
 
 module _ (t : History) where
   -- events are left out where a law speaks of facts alone
-  of_events : (So : Facts → Happening → Type 0) (f : Facts) (e : List Event) (hs : List Happening) → EachEventFrom (λ g s h. So g h) t.places t.commands f e hs → EachFactFrom So t.places t.commands f hs
+  pub of_events : (So : Facts → Happening → Type 0) (f : Facts) (e : List Event) (hs : List Happening) → EachEventFrom (λ g s h. So g h) t.places t.commands f e hs → EachFactFrom So t.places t.commands f hs
   of_events So f e [] each = tt
   of_events So f e (h ∷ hs) each = (each.0, of_events So (facts_after t.places t.commands f h) (events_after t.places t.commands f h e) hs each.1)
 

@@ -2,4 +2,5 @@ pub mod DiskLaws
 pub mod SealLaws
 pub mod WriteLaws
 pub mod LifeLaws
+pub mod LeaveLaws
 pub mod TriedBook

@@ -8,6 +8,7 @@
 ghost use Rattle.book_laws.specs.DiskLaws.{BooksAreOfDisks};
 ghost use Rattle.book_laws.specs.SealLaws.{SealsComeFirst};
 ghost use Rattle.book_laws.specs.WriteLaws.{RecordsAreDue};
+ghost use Rattle.book_laws.specs.LeaveLaws.{BranchesLeaveDuly};
 ghost use Rattle.book_laws.specs.LifeLaws.{LivesAreEnough};
 ghost use Rattle.book_laws.specs.TriedBook.{TheTriedBook};
 ghost use Rattle.run_laws.specs.Headline.{EveryScnIsLater};
@@ -33,6 +34,12 @@ pub fn every_scn_is_later()
 /// learned of the neighbour that the branch's Sealed record names as the one on the way to the site, and a sealed branch forgets after it.
 pub fn records_are_due()
     ensures { RecordsAreDue }
+{}
+
+/// By what its node keeps of it, a live branch seals on the last answer of its children, on Prepare where it has none, or on CommitPoint from
+/// its parent. It decides on CommitPoint from its parent, or as a root on the last answer of its children, or on COMMIT where it has none.
+pub fn branches_leave_duly()
+    ensures { BranchesLeaveDuly }
 {}
 
 /// So a lawful run writes and says all that it may where it does so as far as the lives of branches before each turn go: its seals, its
