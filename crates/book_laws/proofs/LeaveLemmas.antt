@@ -1,9 +1,9 @@
 -- A live branch seals or decides on what came to it: CommitPoint from its parent, Prepare or COMMIT where it has no children, or the
 -- last answer of its children.
-use Rattle.std.proofs.Common.{◌≡◌, ℕ, Bool, true, false, List, [], ◌∷◌, map, is_none, Option, Some, None, inl, inr, refl, sym, ap, subst, ◌∙◌}
+use Rattle.std.proofs.Common.{◌≡◌, ℕ, Bool, true, false, List, [], map, is_none, Option, Some, None, inl, inr, refl, sym, ap, subst, ◌∙◌}
 use Rattle.std.specs.Prelude.{IfSome}
 use Rattle.session_tree.specs.Tree.{walk_by, best_child, step, place_of_greatest}
-use Rattle.node_rules.specs.Data.{BranchId, RedoRecord, Edge, Kind, Vote, Live, Walk, Stmt, Input, Place}
+use Rattle.node_rules.specs.Data.{BranchId, RedoRecord, Edge, Kind, Vote, Live, Stmt, Input, Place}
 use Rattle.node_rules.specs.Data.records
 use Rattle.node_rules.specs.Data.kinds
 use Rattle.node_rules.specs.Data.votes
@@ -15,7 +15,7 @@ use Rattle.node_rules.specs.Data.inputs
 use Rattle.node_rules.specs.Inputs.{Came, IsCall}
 use Rattle.node_rules.specs.Kept.{Kept, Deed, live_id}
 use Rattle.node_rules.specs.Client.{begun_by}
-use Rattle.node_rules.specs.Prepare.{sealed_record, decided_record, collecting, with_comment, with_prepare_sent}
+use Rattle.node_rules.specs.Prepare.{collecting, with_comment, with_prepare_sent}
 use Rattle.node_rules.specs.Turn.{heard, deed_of}
 use Rattle.node_rules.specs.Words.{item_at}
 use Rattle.node_rules.proofs.Steps as steps
@@ -24,7 +24,7 @@ use Rattle.run_laws.specs.Births.{Born, births_of}
 use Rattle.run_laws.specs.BirthLaws.{Began, IsChild, LiveIs, GoesSo}
 use Rattle.run_laws.specs.Data.{Turn, Happening}
 use Rattle.run_laws.specs.Data.happenings
-use Rattle.run_laws.specs.Facts.{Facts, first_facts, place_at}
+use Rattle.run_laws.specs.Facts.{first_facts, place_at}
 use Rattle.run_laws.specs.Knowledge.{IsPrepare}
 use Rattle.run_laws.specs.Lawful.{MayHappen, MayTurn, History, IsLawfulRun}
 use Rattle.run_laws.specs.Trail.{is_vote}
