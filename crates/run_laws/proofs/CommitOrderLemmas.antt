@@ -109,7 +109,7 @@ module _ (p : Forest) where
   unlearned t b (decisions.Commit n) m allowed = allowed.1
   unlearned t b decisions.Rollback m allowed = allowed.1
 
-  has_learned : (t : List Event) (b : BranchId) (d : Decision) (m : Option Bool) → Lawful p t → Has (Learn b d m) t → learned t b ≡ Some d
+  pub has_learned : (t : List Event) (b : BranchId) (d : Decision) (m : Option Bool) → Lawful p t → Has (Learn b d m) t → learned t b ≡ Some d
   has_learned [] b d m l has = absurd has
   has_learned (s ∷ t) b d m l (inl is) = learned_now s t b d m is (unlearned t b d m (subst (λ z. Allowed p t z) is l.0))
   has_learned (s ∷ t) b d m l (inr has) = learned_stays s t b d (has_learned t b d m l.1 has)
@@ -146,7 +146,7 @@ any_in q (r ∷ rs) some = by (q r) refl some (any_in q rs)
     by true is some rest = (r, inl refl, is)
     by false is some rest = let there = rest some in (there.0, inr there.1, there.2)
 
-at_split : (pre older : List RedoRecord) (s : RedoRecord) (newer : List RedoRecord) → InOrderFrom pre (older ++ s ∷ newer) → ComesInOrder (pre ++ older) s
+pub at_split : (pre older : List RedoRecord) (s : RedoRecord) (newer : List RedoRecord) → InOrderFrom pre (older ++ s ∷ newer) → ComesInOrder (pre ++ older) s
 at_split pre [] s newer all = subst (λ xs. ComesInOrder xs s) (sym (append-nil pre)) all.0
 at_split pre (x ∷ older) s newer all = subst (λ xs. ComesInOrder xs s) (append_assoc pre (x ∷ []) older) (at_split (pre ++ x ∷ []) older s newer all.1)
 

@@ -115,7 +115,7 @@ heard_gone k (inputs.GiveUp n) b gone = gone
 heard_gone k inputs.Reco b gone = gone
 
 -- each row is found, where no branch has two
-rows_found : (ks : List Standing) → ((b : BranchId) → count_of standing_id b ks ≤ 1) → AllByRecursion (λ s. item_at standing_id ks s.me ≡ Some s) ks
+pub rows_found : (ks : List Standing) → ((b : BranchId) → count_of standing_id b ks ≤ 1) → AllByRecursion (λ s. item_at standing_id ks s.me ≡ Some s) ks
 rows_found [] one = tt
 rows_found (x ∷ ks) one = (
   ap (λ q. if q then Some x else item_at standing_id ks x.me) (same_from_equal x.me x.me refl),

@@ -1,0 +1,14 @@
+pub mod PlaceLemmas
+pub mod DiskLemmas
+pub mod SealLemmas
+pub mod OnDiskLemmas
+pub mod DecisionLemmas
+pub mod ScnLemmas
+pub mod AloneLemmas
+pub mod DoubtLemmas
+pub mod ForceLemmas
+pub mod KeptLemmas
+pub mod WriteLemmas
+pub mod LifeLemmas
+pub mod LeaveLemmas
+pub mod TriedBookLemmas

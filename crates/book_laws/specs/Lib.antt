@@ -1,0 +1,6 @@
+pub mod DiskLaws
+pub mod SealLaws
+pub mod WriteLaws
+pub mod LifeLaws
+pub mod LeaveLaws
+pub mod TriedBook
