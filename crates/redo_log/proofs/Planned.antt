@@ -1,6 +1,6 @@
 -- Disk calls one after the other, each of which goes by the plan, go by it together.
 use Rattle.std.proofs.Common.{◌≡◌, ◌||◌, if◌then◌else◌, Bool, true, false, List, [], ◌∷◌, Option, Some, None, Result, Ok, Err, refl, sym, subst}
-use Rattle.block_disk.specs.Plan.{Plan, strikes, after_call, GoesByPlan}
+use Rattle.block_disk.specs.Plan.{Plan, after_call, GoesByPlan}
 use Rattle.redo_log.specs.Plans.{plan_after, strikes_any, CallsGoByPlan, RunsByPlan}
 
 -- no call is left

@@ -1,5 +1,5 @@
 -- At each moment, either nothing before the gate's end has changed or the bytes follow it.
-use Rattle.std.proofs.Common.{Bool, true, false, [], ◌∷◌}
+use Rattle.std.proofs.Common.{true, false, [], ◌∷◌}
 use Rattle.std.proofs.lemmas.Result.{err_from_is_err_and}
 use Rattle.redo_log.proofs.Stored.{while_opened, until_synced}
 use Rattle.redo_log.specs.Plans.{append_calls}
