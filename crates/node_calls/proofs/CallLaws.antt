@@ -1,16 +1,17 @@
 -- A call that comes to a branch is run, answered again, or ignored.
-use Rattle.std.proofs.Common.{◌≡◌, ℕ, ◌+◌, List, [], Option, None, Some, refl, sym, ap, subst, ◌∙◌}
+use Rattle.std.proofs.Common.{◌≡◌, ℕ, ◌+◌, ◌<◌, ◌^◌, List, [], Option, None, Some, refl, sym, ap, subst, ◌∙◌}
 use Rattle.tran_ids.specs.declared.branch.BranchId.{BranchId}
 use Rattle.tran_ids.specs.Listed.{item_at}
 use Rattle.tran_ids.proofs.ListedLemmas.{item_is}
 use Rattle.session_tree.specs.Live.{next_edge}
 use Rattle.node_rules.specs.Data.{Place, Live, Table, Stmt, Answer, Advice, Admit}
+use Rattle.node_rules.specs.declared.work.Work.{Work}
 use Rattle.node_rules.specs.Data.admits
 use Rattle.node_rules.specs.Data.answers
 use Rattle.node_rules.specs.Data.kinds
 use Rattle.node_rules.specs.Names.{Way, Runs_here, Over, Through, Nowhere_to, passed_on, way_of}
 use Rattle.node_rules.specs.Kept.{Kept, Branch, Deed as DeedByRules, nothing, saying, post, live_id, branch_at, with_branch}
-use Rattle.node_rules.specs.Calls.{admit, answered, answered_sessions, answer_ends, answer_says, call_pends, exec_by, goes, nobody_at, on_exec, opens_through, says_again, statement_at, takes_call, waits_for_opened, with_answer}
+use Rattle.node_rules.specs.Calls.{admit, answered, answered_sessions, answer_ends, answer_says, call_pends, exec_by, goes, next_call, nobody_at, on_exec, opens_through, says_again, statement_at, takes_call, waits_for_opened, with_answer}
 use Rattle.node_rules.specs.Statement.{after_run, answer_of_run, node_after_run, ran}
 use Rattle.node_state.specs.Changed.{change_item, with_item}
 use Rattle.node_state.specs.Lives.{advised}
@@ -18,7 +19,7 @@ use Rattle.node_state.specs.Works.{change_work, with_call_taken, work_of}
 use Rattle.node_deeds.specs.declared.deed.Deed.{Deed}
 use Rattle.node_deeds.specs.Gives.{Gives}
 use Rattle.node_calls.specs.Handled.{at_live}
-use Rattle.node_calls.proofs.BranchLaws.{branch_here, changed_twice, found_changed, somebody, work_branch}
+use Rattle.node_calls.proofs.BranchLaws.{branch_here, calls_changed, changed_twice, found_changed, somebody, work_branch}
 use Rattle.node_calls.proofs.OpenedLaws.{calls_again}
 
 -- a statement is answered the same where its branch was put in its place before
@@ -41,6 +42,10 @@ goes_again p k x s given (Runs_here t) =
 goes_again p k x s given (Nowhere_to r) = answered_twice k x x (answers.Refused r) refl refl
 goes_again p k x s given (Over i table) = calls_again k x i (passed_on s table) given
 goes_again p k x s given (Through node link table) = opens_again k x node link (passed_on s table) given
+
+-- each edge has the same next call number after a call is taken
+pub numbers_taken : (call : ℕ) (ws : List Work) (b : BranchId) → ((i : ℕ) → next_call (work_of ws b) i < 2 ^ 32) → (i : ℕ) → next_call (work_of (change_work (with_call_taken call) ws b) b) i < 2 ^ 32
+numbers_taken call ws b low i = subst (λ (w : Work). next_call w i < 2 ^ 32) (sym (calls_changed (with_call_taken call) (λ w. refl) ws b)) (low i)
 
 module _ (p : Place) (k : Kept) (b : BranchId) (l : Live) (is : item_at live_id k.lives b ≡ Some l) (from : BranchId) (call given : ℕ) (advice : Option Advice) (s : Stmt) where
   by_number : (a : Admit) → admit (work_of k.works b).came call ≡ a → at_live k (λ x. on_exec p k x from call given advice s) (branch_at k b) ≡ exec_by p k (branch_here k b l) from call given advice s a

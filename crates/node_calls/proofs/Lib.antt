@@ -9,3 +9,4 @@ mod CallLaws
 mod RootLaws
 mod TurnLaws
 mod TableDefined
+mod ReadyLaws

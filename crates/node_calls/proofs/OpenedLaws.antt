@@ -1,5 +1,6 @@
 -- A branch whose new child is there goes on with what waited for it.
-use Rattle.std.proofs.Common.{◌≡◌, ◌×◌, ℕ, ◌-◌, ◌==◌, Bool, true, false, if◌then◌else◌, List, [], Option, None, Some, refl, sym, ap, subst, ◌∙◌, arith}
+use Rattle.std.proofs.Common.{◌≡◌, ◌×◌, ℕ, zero, suc, ◌+◌, ◌-◌, ◌==◌, ◌<◌, ◌^◌, Bool, true, false, if◌then◌else◌, List, [], ◌∷◌, ◌++◌, length, slice_get, unwrap_or, Option, None, Some, IfSome, refl, sym, ap, subst, ◌∙◌, arith}
+use Rattle.dtx_values.specs.Limits.{branch_limit}
 use Rattle.std.proofs.lemmas.Bool.Decides.{nat_tests}
 use Rattle.tran_ids.specs.declared.branch.BranchId.{BranchId}
 use Rattle.tran_ids.specs.Listed.{item_at}
@@ -11,14 +12,14 @@ use Rattle.node_rules.specs.declared.work.Waits.{Waits}
 use Rattle.node_rules.specs.declared.work.Work.{Work}
 use Rattle.node_rules.specs.declared.work.Waits.TheVariants as waiting
 use Rattle.node_rules.specs.Kept.{Kept, Branch, Deed as DeedByRules, nothing, live_id, branch_at, with_branch}
-use Rattle.node_rules.specs.Calls.{call_pends, called, calls_over, exec_to, on_opened, opened_going, opened_waits, with_edge}
+use Rattle.node_rules.specs.Calls.{call_pends, called, calls_over, exec_to, next_call, on_opened, opened_going, opened_waits, with_edge}
 use Rattle.session_tree.specs.Live.{peer_of}
 use Rattle.node_state.specs.Changed.{change_item, with_item}
 use Rattle.node_state.specs.Works.{change_work, with_child, work_of}
 use Rattle.node_deeds.specs.declared.deed.Deed.{Deed}
 use Rattle.node_deeds.specs.Gives.{Gives}
 use Rattle.node_calls.specs.declared.opened.Waited.{Waited}
-use Rattle.node_calls.specs.Handled.{at_live, goes_on, waited_for, waits_for}
+use Rattle.node_calls.specs.Handled.{at_live, goes_on, waited_for, waits_for, HasRoomFor, HasRoomWhile}
 use Rattle.node_calls.proofs.BranchLaws.{work_branch, branch_here, somebody, found_changed, changed_twice, calls_changed}
 
 -- what a branch does with what waited for its child, and nothing where nothing did
@@ -51,6 +52,39 @@ number_is edge next (Some g) w found = number_if edge next g w (edge == next) re
 -- the calls of a branch with one more child
 pub child_added : (ws : List Work) (b : BranchId) → work_of (change_work with_child ws b) b ≡ with_child (work_of ws b)
 child_added ws b = calls_changed with_child (λ w. refl) ws b
+
+-- and each number stands for the same next call as before
+read_last : (cs : List ℕ) (i : ℕ) → unwrap_or (slice_get (cs ++ 0 ∷ []) i) 0 ≡ unwrap_or (slice_get cs i) 0
+read_last [] zero = refl
+read_last [] (suc i) = refl
+read_last (c ∷ cs) zero = refl
+read_last (c ∷ cs) (suc i) = read_last cs i
+
+next_same : (w : Work) (i : ℕ) → next_call (with_child w) i ≡ next_call w i
+next_same w zero = refl
+next_same w (suc i) = ap (λ n. n + 1) (read_last w.calls i)
+
+pub numbers_with_child : (ws : List Work) (b : BranchId) (i : ℕ) → next_call (work_of ws b) i < 2 ^ 32 → next_call (work_of (change_work with_child ws b) b) i < 2 ^ 32
+numbers_with_child ws b i low = subst (λ n. n < 2 ^ 32) (sym (ap (λ w. next_call w i) (child_added ws b) ∙ next_same (work_of ws b) i)) low
+
+-- what waits for a child has room for it
+room_of : (children : ℕ) (g : Going) (waits : Waits) (w : Waited) → waits_for g waits ≡ Some w → HasRoomFor children waits → children < branch_limit
+room_of children g (waiting.ForReply i) w found room = absurd cc
+room_of children g (waiting.ForOpened link) w found room = room
+
+room_if : (children : ℕ) (g : Going) (here : Bool) (w : Waited) → (if here then waits_for g g.waits else None) ≡ Some w → HasRoomFor children g.waits → children < branch_limit
+room_if children g true w found room = room_of children g g.waits w found room
+room_if children g false w found room = absurd cc
+
+room_while : (children edge next : ℕ) (g : Option Going) (w : Waited) → waited_for edge next g ≡ Some w → HasRoomWhile children g → children < branch_limit
+room_while children edge next None w found room = absurd cc
+room_while children edge next (Some g) w found room = room_if children g (edge == next) w found room
+
+pub room_there : (ls : List Live) (b : BranchId) (l : Live) (edge : ℕ) (g : Option Going) (w : Waited) → item_at live_id ls b ≡ Some l → waited_for edge (next_edge l) g ≡ Some w
+    → IfSome (item_at live_id ls b) (λ x. HasRoomWhile (length x.edges) g) → IfSome (item_at live_id ls b) (λ x. length x.edges < branch_limit)
+room_there ls b l edge g w is found room =
+    let there : HasRoomWhile (length l.edges) g = subst (λ o. IfSome o (λ x. HasRoomWhile (length x.edges) g)) is room in
+    subst (λ o. IfSome o (λ x. length x.edges < branch_limit)) (sym is) (room_while (length l.edges) edge (next_edge l) g w found there)
 
 -- a statement goes on the same where its branch was put in its place before
 pub calls_again : (k : Kept) (x : Branch) (i : ℕ) (s : Stmt) (given : ℕ) → calls_over (with_branch k x) x i s given ≡ calls_over k x i s given

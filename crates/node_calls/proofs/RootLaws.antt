@@ -1,21 +1,29 @@
 -- A statement of a client goes to the root of its session.
-use Rattle.std.proofs.Common.{◌≡◌, ℕ, ◌<◌, ◌^◌, Bool, true, false, if◌then◌else◌, List, [], ◌∷◌, ◌++◌, Option, None, Some, IfSome, refl, sym, ap, subst, ◌∙◌, arith}
+use Rattle.std.proofs.Common.{◌≡◌, ℕ, ◌<◌, ◌≤◌, ◌^◌, length, Bool, true, false, if◌then◌else◌, List, [], ◌∷◌, ◌++◌, Option, None, Some, IfSome, refl, sym, ap, subst, ◌∙◌, arith}
+use Rattle.dtx_values.specs.Limits.{node_limit}
+use Rattle.catalog.specs.Catalog.{is_used}
 use Rattle.tran_ids.specs.declared.branch.BranchId.{BranchId}
 use Rattle.tran_ids.specs.Branch.{same}
 use Rattle.tran_ids.specs.Listed.{item_at}
 use Rattle.session_tree.specs.Tree.{count}
 use Rattle.node_rules.specs.Data.{Place, Live, Stmt}
 use Rattle.node_rules.specs.declared.session.Session.{Session}
+use Rattle.node_rules.specs.declared.work.Work.{Work}
 use Rattle.node_rules.specs.Ids.{decimal}
 use Rattle.node_rules.specs.Words.{one}
 use Rattle.node_rules.specs.Refusals.{ora}
 use Rattle.node_rules.specs.Kept.{Kept, Branch, Deed as DeedByRules, live_id, with_work, branch_at, nothing}
 use Rattle.node_rules.specs.Sessions.{session_at}
-use Rattle.node_rules.specs.Calls.{statement_at}
-use Rattle.node_rules.specs.Client.{begun_lives, refuses, root_by, statement_by, statement_call}
+use Rattle.node_rules.specs.Calls.{next_call, statement_at}
+use Rattle.node_rules.specs.Client.{begun, begun_lives, refuses, root_by, statement_by, statement_call}
 use Rattle.node_deeds.specs.declared.deed.Deed.{Deed}
 use Rattle.node_deeds.specs.Gives.{Gives}
-use Rattle.node_calls.specs.Handled.{at_live, refuses_again}
+use Rattle.ready_laws.specs.Rows.{HasRows}
+use Rattle.ready_laws.specs.Following.{listed_in}
+use Rattle.node_state.specs.Works.{work_of}
+use Rattle.node_memory.specs.declared.memory.Memory.{Memory}
+use Rattle.node_memory.specs.Parts.{kept_in}
+use Rattle.node_calls.specs.Handled.{at_live, refuses_again, TakesStatement}
 
 -- ---- at the root of a session
 
@@ -27,6 +35,14 @@ rootless p k n s after deed none does = subst (λ d. Gives d after deed) (sym (a
 pub rooted : (p : Place) (k : Kept) (n : ℕ) (s : Stmt) (root : BranchId) (after : Kept) (deed : Deed) → (session_at k.sessions n).root ≡ Some root
     → Gives (statement_by p k n s (session_at k.sessions n).code (branch_at k root)) after deed → Gives (statement_call p k n s) after deed
 rooted p k n s root after deed is does = subst (λ d. Gives d after deed) (sym (ap (λ o. statement_by p k n s (session_at k.sessions n).code (root_by k o)) is)) does
+
+-- which may be what a node keeps once a transaction has begun
+pub rootless_in : (p : Place) (k m : Kept) (n : ℕ) (s : Stmt) (deed : Deed) → m ≡ k → (session_at m.sessions n).root ≡ None → Gives (nothing m) m deed → Gives (statement_call p k n s) m deed
+rootless_in p k m n s deed is none does = subst (λ j. Gives (statement_call p j n s) m deed) is (rootless p m n s m deed none does)
+
+pub rooted_in : (p q : Place) (k m : Kept) (n : ℕ) (s : Stmt) (root : BranchId) (after : Kept) (deed : Deed) → m ≡ k → q ≡ p → (session_at m.sessions n).root ≡ Some root
+    → Gives (statement_by q m n s (session_at m.sessions n).code (branch_at m root)) after deed → Gives (statement_call p k n s) after deed
+rooted_in p q k m n s root after deed is here at does = subst (λ r. Gives (statement_call r k n s) after deed) here (subst (λ j. Gives (statement_call q j n s) after deed) is (rooted q m n s root after deed at does))
 
 statement_is : (p : Place) (k : Kept) (n : ℕ) (s : Stmt) (o : Option Branch) → statement_by p k n s None o ≡ at_live k (λ x. statement_at p k x s 0) o
 statement_is p k n s None = refl
@@ -78,3 +94,15 @@ few_by p k n None b few = holds_begun (λ l. count l < 2 ^ 16) _ b (omega arith)
 pub few_begun : (p : Place) (k : Kept) (n : ℕ) (b : BranchId) → IfSome (item_at live_id k.lives b) (λ l. count l < 2 ^ 16)
     → IfSome (item_at live_id (begun_lives p k n (session_at k.sessions n).root) b) (λ l. count l < 2 ^ 16)
 few_begun p k n b few = few_by p k n (session_at k.sessions n).root b few
+
+-- and so a statement may come to a branch where a transaction begins
+pub takes_begun : (m q : Memory) (n : ℕ) (b : BranchId) (s : Stmt) → kept_in q ≡ begun m.place (kept_in m) n → q.place ≡ m.place → TakesStatement m b s → TakesStatement q b s
+takes_begun m q n b s kept here takes =
+    let listed : q.catalog ≡ m.catalog = ap (λ (j : Kept). listed_in j.stored.durable) kept in
+    record {
+      few = subst (λ (ls : List Live). IfSome (item_at live_id ls b) (λ l. count l < 2 ^ 16)) (sym (ap (λ (j : Kept). j.lives) kept)) (few_begun m.place (kept_in m) n b takes.few);
+      numbers = subst (λ (ws : List Work). (i : ℕ) → next_call (work_of ws b) i < 2 ^ 32) (sym (ap (λ (j : Kept). j.works) kept)) takes.numbers;
+      nodes = subst (λ (p : Place). length p.names ≤ node_limit) (sym here) takes.nodes;
+      nameless = λ none. ap (λ c. is_used c []) listed ∙ takes.nameless none;
+      rows = subst HasRows (sym kept) takes.rows;
+    }

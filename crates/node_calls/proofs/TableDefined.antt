@@ -9,7 +9,7 @@ use Rattle.node_rules.specs.Kept.{Kept}
 use Rattle.node_rules.specs.Client.{is_used}
 use Rattle.ready_laws.specs.Rows.{HasRows}
 use Rattle.ready_laws.proofs.TableLemmas.{under}
-use Rattle.node_memory.specs.Following.{MayFollow}
+use Rattle.ready_laws.specs.Following.{MayFollow}
 
 pub table_follows : (k : Kept) (t : Table) → HasRows k → is_used k.stored.durable t.name ≡ false → MayFollow k.stored (records.Table t)
 table_follows k t now free = record {

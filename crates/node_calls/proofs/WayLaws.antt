@@ -1,11 +1,16 @@
 -- A statement at a live branch: it runs here, is refused, or goes on.
-use Rattle.std.proofs.Common.{◌≡◌, ℕ, Bool, List, [], Option, None, Some, refl, sym, ap, subst, ◌∙◌}
+use Rattle.std.proofs.Common.{◌≡◌, ◌||◌, ◌<◌, ℕ, Bool, true, false, if◌then◌else◌, List, [], Option, None, Some, IfSome, refl, sym, ap, subst, ◌∙◌, arith}
+use Rattle.std.specs.Prelude.{nat_le}
+use Rattle.std.proofs.lemmas.Bool.Decides.{nat_tests}
+use Rattle.dtx_values.specs.Limits.{depth_limit}
 use Rattle.tran_ids.specs.declared.branch.BranchId.{BranchId}
 use Rattle.tran_ids.specs.Listed.{item_at, put_item}
 use Rattle.tran_ids.proofs.ListedLemmas.{item_is, put_found}
-use Rattle.node_rules.specs.Data.{Place, Live, Table, Stmt, Answer, Refusal}
+use Rattle.session_tree.specs.Live.{edge_by_link}
+use Rattle.node_rules.specs.Data.{Place, Durable, Live, Table, Stmt, Answer, Refusal}
 use Rattle.node_rules.specs.Data.answers
-use Rattle.node_rules.specs.Names.{Way, Runs_here, Over, Through, Nowhere_to, passed_on, way_of}
+use Rattle.node_rules.specs.Refusals.{ora, dtx}
+use Rattle.node_rules.specs.Names.{Named, A_table, Behind, Unknown, Way, Runs_here, Over, Through, Nowhere_to, named_by, passed_on, ref_of, target_of, way_edge, way_named, way_of, way_target}
 use Rattle.node_rules.specs.Kept.{Kept, Branch, Deed as DeedByRules, live_id, branch_at}
 use Rattle.node_rules.specs.Calls.{answered, calls_over, goes, opens_through, runs_here, statement_at}
 use Rattle.node_rules.specs.Statement.{Ran, after_run, answer_of_run, makes_changes, node_after_run, owns_after, ran, view}
@@ -64,3 +69,35 @@ module _ (p : Place) (k : Kept) (b : BranchId) (l : Live) (is : item_at live_id 
       ∙ ap (λ c. answered (node_after_run k c t (ran p k c s t)) (record { live = after_run l (ran p k c s t); work = work_of k.works b }) (answer_of_run (ran p k c s t))) me
       ∙ ap (λ q. answered (node_after_run k b t q) (record { live = after_run l q; work = work_of k.works b }) (answer_of_run q)) (sym is_r) in
       subst (λ d. Gives d after deed) (code ∙ sym rules) does
+
+-- ---- a link that is used for the first time
+
+module _ (p : Place) (d : Durable) (l : Live) (given : ℕ) (node : ℕ) (link table : List ℕ) where
+  new_deep : (n : ℕ) (to name : List ℕ) (deep full many : Bool) → nat_le depth_limit l.depth ≡ deep
+      → (if deep || full then Nowhere_to (dtx 2 []) else (if many then Nowhere_to (ora 2020 []) else Through n to name)) ≡ Through node link table → l.depth < depth_limit
+  new_deep n to name true full many at is = absurd cc
+  new_deep n to name false true many at is = absurd cc
+  new_deep n to name false false true at is = absurd cc
+  new_deep n to name false false false at is = grind (arith, nat_tests, at)
+
+  edge_deep : (n : ℕ) (to name : List ℕ) (o : Option ℕ) → way_edge p l given n to name o ≡ Through node link table → l.depth < depth_limit
+  edge_deep n to name (Some i) is = absurd cc
+  edge_deep n to name None is = new_deep n to name _ _ _ refl is
+
+  target_deep : (to name : List ℕ) (o : Option ℕ) → way_target p l given to name o ≡ Through node link table → l.depth < depth_limit
+  target_deep to name None is = absurd cc
+  target_deep to name (Some n) is = edge_deep n to name (edge_by_link l to) is
+
+  named_deep : (named : Named) → way_named p d l given named ≡ Through node link table → l.depth < depth_limit
+  named_deep Unknown is = absurd cc
+  named_deep (A_table t) is = absurd cc
+  named_deep (Behind to name) is = target_deep to name (target_of p d to) is
+
+  -- the branch is not the deepest that a tree may have
+  pub way_deep : (s : Stmt) → way_of p d l given s ≡ Through node link table → l.depth < depth_limit
+  unfolding way_of
+  way_deep s is = named_deep (named_by d (ref_of s)) is
+
+-- so it has room for a child that is deeper
+pub depth_there : (ls : List Live) (b : BranchId) (l : Live) → item_at live_id ls b ≡ Some l → l.depth < depth_limit → IfSome (item_at live_id ls b) (λ x. x.depth < depth_limit)
+depth_there ls b l is deep = subst (λ o. IfSome o (λ x. x.depth < depth_limit)) (sym is) deep

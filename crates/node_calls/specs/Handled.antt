@@ -1,6 +1,6 @@
 -- What a turn makes of a live branch of a node, and what a node needs where a statement comes to one.
 use Rattle.std.specs.Prelude.{◌≡◌, Bool, true, false, nat_lt, ℕ, ◌-◌, ◌<◌, ◌≤◌, ◌^◌, ◌==◌, if◌then◌else◌, [], length, Option, Some, None, IfSome}
-use Rattle.dtx_values.specs.Limits.{node_limit}
+use Rattle.dtx_values.specs.Limits.{branch_limit, node_limit}
 use Rattle.tran_ids.specs.declared.branch.BranchId.{BranchId}
 use Rattle.tran_ids.specs.Listed.{item_at}
 use Rattle.catalog.specs.Catalog.{is_used}
@@ -18,6 +18,7 @@ use Rattle.node_rules.specs.Refusals.{ora}
 use Rattle.node_rules.specs.Client.{refuses}
 use Rattle.node_rules.specs.Calls.{calls_over, next_call, with_edge}
 use Rattle.ready_laws.specs.Rows.{HasRows}
+use Rattle.node_state.specs.Lives.{heard}
 use Rattle.node_state.specs.Works.{work_of}
 use Rattle.node_ways.specs.Ways.{has_table}
 use Rattle.node_memory.specs.declared.memory.Memory.{Memory}
@@ -65,6 +66,24 @@ HasFew m b = IfSome (item_at live_id m.lives b) (λ l. count l < 2 ^ 16)
 -- each of its edges has a next call number
 abbrev pub HasNumbers : Memory → BranchId → Type 0
 HasNumbers m b = (i : ℕ) → next_call (work_of m.works b) i < 2 ^ 32
+
+-- so many children leave room for the one that is waited for
+abbrev pub HasRoomFor : ℕ → Waits → Type 0
+HasRoomFor children (waiting.ForOpened link) = children < branch_limit
+HasRoomFor children (waiting.ForReply i) = Unit {0}
+
+-- where a statement is under way
+abbrev pub HasRoomWhile : ℕ → Option Going → Type 0
+HasRoomWhile children None = Unit {0}
+HasRoomWhile children (Some g) = HasRoomFor children g.waits
+
+-- a branch, where it is live, has room for the child that it waits for
+abbrev pub HasRoom : Memory → BranchId → Type 0
+HasRoom m b = IfSome (item_at live_id m.lives b) (λ l. HasRoomWhile (length l.edges) (work_of m.works b).going)
+
+-- with what the Reply of any child tells it has told of few branches still
+abbrev pub HasFewWith : Memory → BranchId → Option ℕ → ℕ → Type 0
+HasFewWith m b weight told = (i : ℕ) → IfSome (item_at live_id m.lives b) (λ l. count (heard i weight told l) < 2 ^ 16)
 
 -- What a node needs where a statement comes to a branch of it.
 pub record TakesStatement (m : Memory) (b : BranchId) (s : Stmt) : Type 0 where

@@ -1,14 +1,13 @@
 //! A parent learns that its new child is there, and the statement that waited for it goes on.
-ghost use Rattle.std.specs.Prelude.{◌≡◌, ◌+◌, ◌<◌, ◌^◌, length, IfOk, IfSome};
+ghost use Rattle.std.specs.Prelude.{◌≡◌, ◌≤◌, length, IfOk};
 ghost use Rattle.dtx_values.specs.Limits.{branch_limit};
-ghost use Rattle.tran_ids.specs.Listed.{item_at};
 ghost use Rattle.session_tree.specs.Live.{new_edge as new_edge_of, next_edge as next_edge_of};
-ghost use Rattle.node_rules.specs.Kept.{branch_at, live_id};
-ghost use Rattle.node_rules.specs.Calls.{next_call, on_opened as on_opened_of};
-ghost use Rattle.node_state.specs.Works.{with_child, work_of};
+ghost use Rattle.node_rules.specs.Kept.{branch_at};
+ghost use Rattle.node_rules.specs.Calls.{on_opened as on_opened_of};
+ghost use Rattle.node_state.specs.Works.{work_of};
 ghost use Rattle.node_deeds.specs.Gives.{Gives};
 ghost use Rattle.node_memory.specs.Parts.{kept_in};
-ghost use Rattle.node_calls.specs.Handled.{at_live, waited_for as waited_for_of, waits_for as waits_for_of};
+ghost use Rattle.node_calls.specs.Handled.{at_live, HasNumbers, HasRoom, waited_for as waited_for_of, waits_for as waits_for_of};
 
 use crate::calling::call_over;
 use dtx_values::{Duplicate, Name};
@@ -41,10 +40,8 @@ pub(crate) fn on_opened(
     edge: u8,
     strength: u8,
 ) -> Result<Deed, AllocError>
-    requires room { IfSome (item_at live_id memory.old.lives to.now) (λ live. length live.edges < branch_limit) }
-
-    // The first call to the new child has a number.
-    requires numbers { next_call (with_child (work_of memory.old.works to.now)) edge < 2 ^ 32 }
+    requires room { HasRoom memory.old to.now }
+    requires numbers { HasNumbers memory.old to.now }
     ensures gives { IfOk result (λ deed.
         Gives (at_live (kept_in memory.old) (λ x. on_opened_of (kept_in memory.old) x from edge strength) (branch_at (kept_in memory.old) to.now)) (kept_in memory.new) deed) }
     ensures place { memory.new.place ≡ memory.old.place }
@@ -69,7 +66,7 @@ pub(crate) fn on_opened(
 
 // The number of the next child.
 fn next_edge(live: &Live) -> u8
-    requires { length live.now.edges < branch_limit }
+    requires { length live.now.edges ≤ branch_limit }
     ensures { result ≡ next_edge_of live.now }
 {
     live.edges.as_slice().len() as u8 + 1

@@ -1,16 +1,14 @@
 //! A child replies, and so the statement of its parent is answered.
-ghost use Rattle.std.specs.Prelude.{◌≡◌, ◌<◌, ◌^◌, ℕ, unwrap_or, IfOk, IfSome};
+ghost use Rattle.std.specs.Prelude.{◌≡◌, unwrap_or, IfOk};
 ghost use Rattle.std.specs.Option.{option_copied, option_map};
-ghost use Rattle.tran_ids.specs.Listed.{item_at, numbered};
+ghost use Rattle.tran_ids.specs.Listed.{numbered};
 ghost use Rattle.session_tree.specs.Live.{edge_at as edge_at_number};
-ghost use Rattle.session_tree.specs.Tree.{count as count_of};
-ghost use Rattle.node_rules.specs.Kept.{branch_at, live_id};
+ghost use Rattle.node_rules.specs.Kept.{branch_at};
 ghost use Rattle.node_rules.specs.Calls.{heard_sessions, on_reply as on_reply_of, reply_edge, reply_going, reply_of};
-ghost use Rattle.node_state.specs.Lives.{heard};
 ghost use Rattle.node_state.specs.Works.{work_of};
 ghost use Rattle.node_deeds.specs.Gives.{Gives, branch_with};
 ghost use Rattle.node_memory.specs.Parts.{kept_in};
-ghost use Rattle.node_calls.specs.Handled.{at_live, replier_as};
+ghost use Rattle.node_calls.specs.Handled.{at_live, replier_as, HasFewWith};
 
 use crate::answering::answer;
 use dtx_values::Answer;
@@ -43,7 +41,7 @@ pub(crate) fn on_reply(
     count: u16,
     told: Answer,
 ) -> Result<Deed, AllocError>
-    requires few { (i : ℕ) → IfSome (item_at live_id memory.old.lives to.now) (λ live. count_of (heard i weight count live) < 2 ^ 16) }
+    requires { HasFewWith memory.old to.now weight count }
     ensures gives { IfOk result (λ deed.
         Gives (at_live (kept_in memory.old) (λ x. on_reply_of (kept_in memory.old) x from call weight count told) (branch_at (kept_in memory.old) to.now)) (kept_in memory.new) deed) }
     ensures place { memory.new.place ≡ memory.old.place }

@@ -1,16 +1,9 @@
 //! Messages of calls, by what their branch is at the node: live, kept or gone.
-ghost use Rattle.std.specs.Prelude.{◌≡◌, ◌<◌, ◌^◌, ℕ, length, IfOk, IfSome};
-ghost use Rattle.dtx_values.specs.Limits.{branch_limit};
-ghost use Rattle.tran_ids.specs.Listed.{item_at};
-ghost use Rattle.session_tree.specs.Tree.{count as count_of};
-ghost use Rattle.node_rules.specs.Kept.{live_id};
-ghost use Rattle.node_rules.specs.Calls.{next_call};
+ghost use Rattle.std.specs.Prelude.{◌≡◌, IfOk};
 ghost use Rattle.node_rules.specs.Turn.{exec_turn as exec_turn_of, opened_turn as opened_turn_of, reply_turn as reply_turn_of, stand_of};
-ghost use Rattle.node_state.specs.Lives.{heard};
-ghost use Rattle.node_state.specs.Works.{with_child, work_of};
 ghost use Rattle.node_deeds.specs.Gives.{Gives};
 ghost use Rattle.node_memory.specs.Parts.{kept_in};
-ghost use Rattle.node_calls.specs.Handled.{TakesStatement};
+ghost use Rattle.node_calls.specs.Handled.{HasFewWith, HasNumbers, HasRoom, TakesStatement};
 
 use crate::executing::on_exec;
 use crate::opened::on_opened;
@@ -62,8 +55,8 @@ pub fn opened_turn(
     edge: u8,
     strength: u8,
 ) -> Result<Deed, AllocError>
-    requires room { IfSome (item_at live_id memory.old.lives to.now) (λ live. length live.edges < branch_limit) }
-    requires numbers { next_call (with_child (work_of memory.old.works to.now)) edge < 2 ^ 32 }
+    requires room { HasRoom memory.old to.now }
+    requires numbers { HasNumbers memory.old to.now }
     ensures gives { IfOk result (λ deed.
         Gives (opened_turn_of (kept_in memory.old) from edge strength (stand_of (kept_in memory.old) to.now)) (kept_in memory.new) deed) }
     ensures place { memory.new.place ≡ memory.old.place }
@@ -84,7 +77,7 @@ pub fn reply_turn(
     count: u16,
     told: Answer,
 ) -> Result<Deed, AllocError>
-    requires few { (i : ℕ) → IfSome (item_at live_id memory.old.lives to.now) (λ live. count_of (heard i weight count live) < 2 ^ 16) }
+    requires { HasFewWith memory.old to.now weight count }
     ensures gives { IfOk result (λ deed.
         Gives (reply_turn_of (kept_in memory.old) from call weight count told (stand_of (kept_in memory.old) to.now)) (kept_in memory.new) deed) }
     ensures place { memory.new.place ≡ memory.old.place }

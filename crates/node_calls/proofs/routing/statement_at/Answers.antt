@@ -75,4 +75,8 @@ returns-in-Through-clause-gives c =
     let k = kept_in m in
     let b = c.args.branch.now in
     let way = sym (c.in-Through.ensures (stored_in m).durable refl) in
-    through_so m.place k b c.in-Some.live.now (sym c.in-Some.ensures.live) c.args.statement.now c.args.given c.in-Through.node c.in-Through.link.now c.in-Through.table.now _ _ way ?
+    through_so m.place k b c.in-Some.live.now (sym c.in-Some.ensures.live) c.args.statement.now c.args.given c.in-Through.node c.in-Through.link.now c.in-Through.table.now _ _ way
+    ?
+
+pub open_through-requires : goal.open_through-requires
+open_through-requires c = ?
