@@ -31,7 +31,6 @@ fn refuse(alloc: Global, session: u32, code: u16) -> Result<Deed, AllocError>
 }
 
 /// CREATE TABLE, or ORA-00955 where a table or a synonym has the name.
-#[tactic(auto, using(crate::proofs::TableDefined::table_follows))]
 pub fn create_table(
     memory: &mut Memory,
     alloc: Global,
