@@ -56,30 +56,23 @@ pub returns-in_ok-deed-in-NowhereTo-clause-gives : goal.returns-in_ok-deed-in-No
 returns-in_ok-deed-in-NowhereTo-clause-gives c =
     let m = c.args.memory.now in
     let way = sym (c.in-NowhereTo.ensures (stored_in m).durable refl) in
-    refused_so m.place (kept_in m) c.args.branch.now c.in-Some.live.now (sym c.in-Some.ensures.live) c.args.statement.now c.args.given c.in-NowhereTo.field-0 _ _ way c.in_ok-deed-in-NowhereTo.ensures.gives
+    refused_so m.place (kept_in m) c.args.branch.now c.in-Some.live.now (sym c.in-Some.ensures.live) c.args.statement.now c.args.given c.in-NowhereTo.refusal _ _ way c.in_ok-deed-in-NowhereTo.ensures.gives
 
 -- ---- it goes on
 
 pub returns-in_ok-deed-in-Over-clause-gives : goal.returns-in_ok-deed-in-Over-clause-gives
 returns-in_ok-deed-in-Over-clause-gives c =
     let m = c.args.memory.now in
-    let k = kept_in m in
-    let b = c.args.branch.now in
     let way = sym (c.in-Over.ensures (stored_in m).durable refl) in
-    over_so m.place k b c.in-Some.live.now (sym c.in-Some.ensures.live) c.args.statement.now c.args.given c.in-Over.edge c.in-Over.table.now _ _ way
-    (subst (λ (s : Stmt). Gives (at_live k (λ x. calls_over k x c.in-Over.edge s c.args.given) (branch_at k b)) _ _) c.in_ok-passed-in-Over.ensures c.in_ok-deed-in-Over.ensures.gives)
+    over_so m.place (kept_in m) c.args.branch.now c.in-Some.live.now (sym c.in-Some.ensures.live) c.args.statement.now c.args.given c.in-Over.edge c.in-Over.table.now c.in_ok-passed-in-Over.passed _ _ way
+    c.in_ok-passed-in-Over.ensures c.in_ok-deed-in-Over.ensures.gives
 
 pub returns-in_ok-deed-in-Through-clause-gives : goal.returns-in_ok-deed-in-Through-clause-gives
 returns-in_ok-deed-in-Through-clause-gives c =
     let m = c.args.memory.now in
-    let k = kept_in m in
-    let b = c.args.branch.now in
-    let node = c.in-Through.node in
     let way = sym (c.in-Through.ensures (stored_in m).durable refl) in
-    through_so m.place k b c.in-Some.live.now (sym c.in-Some.ensures.live) c.args.statement.now c.args.given node c.in-Through.link.now c.in-Through.table.now _ _ way
-    (subst (λ (s : Stmt). Gives (at_live k (λ x. opens_through k x node c.in-Through.link.now s c.args.given) (branch_at k b)) _ _) c.in_ok-passed-in-Through.ensures
-    (subst (λ (link : List ℕ). Gives (at_live k (λ x. opens_through k x node link c.in_ok-passed-in-Through.passed c.args.given) (branch_at k b)) _ _) c.in_ok-link-in-Through.ensures
-    c.in_ok-deed-in-Through.ensures.gives))
+    through_so m.place (kept_in m) c.args.branch.now c.in-Some.live.now (sym c.in-Some.ensures.live) c.args.statement.now c.args.given c.in-Through.node c.in-Through.link.now c.in-Through.table.now
+    c.in_ok-link-in-Through.link c.in_ok-passed-in-Through.passed _ _ way c.in_ok-passed-in-Through.ensures c.in_ok-link-in-Through.ensures c.in_ok-deed-in-Through.ensures.gives
 
 pub open_through-requires : goal.open_through-requires
 open_through-requires c =
