@@ -4,13 +4,13 @@ use Rattle.tran_ids.specs.declared.branch.BranchId.{BranchId}
 use Rattle.tran_ids.specs.Listed.{item_at, put_item}
 use Rattle.tran_ids.proofs.ListedLemmas.{item_is}
 use Rattle.session_tree.specs.Live.{next_edge}
-use Rattle.node_rules.specs.Data.{Place, Live, Table, Stmt, Answer, Advice, Admit}
+use Rattle.node_rules.specs.Data.{Place, Live, Stmt, Answer, Advice, Admit}
 use Rattle.node_rules.specs.declared.work.Work.{Work}
 use Rattle.node_rules.specs.Data.admits
 use Rattle.node_rules.specs.Data.answers
 use Rattle.node_rules.specs.Data.kinds
 use Rattle.node_rules.specs.Names.{Way, Runs_here, Over, Through, Nowhere_to, passed_on, way_of}
-use Rattle.node_rules.specs.Kept.{Kept, Branch, Deed as DeedByRules, nothing, saying, post, live_id, branch_at, with_branch}
+use Rattle.node_rules.specs.Kept.{Kept, Branch, nothing, saying, post, live_id, branch_at, with_branch}
 use Rattle.node_rules.specs.Calls.{admit, answered, answered_sessions, answer_ends, answer_says, call_pends, exec_by, goes, next_call, nobody_at, on_exec, opens_through, says_again, statement_at, takes_call, waits_for_opened, with_answer}
 use Rattle.node_rules.specs.Statement.{after_run, answer_of_run, node_after_run, ran}
 use Rattle.node_state.specs.Changed.{change_item, with_item}

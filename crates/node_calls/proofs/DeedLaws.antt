@@ -1,5 +1,5 @@
 -- What a live branch does whose statement is answered, goes on, or waits for a link.
-use Rattle.std.proofs.Common.{◌≡◌, ℕ, ◌+◌, List, [], ◌∷◌, Option, None, Some, refl, sym, ap, subst, ◌∙◌}
+use Rattle.std.proofs.Common.{◌≡◌, ℕ, ◌+◌, List, [], ◌∷◌, Option, None, Some, sym, ap, subst, ◌∙◌}
 use Rattle.tran_ids.specs.declared.branch.BranchId.{BranchId}
 use Rattle.tran_ids.specs.Listed.{item_at, put_item}
 use Rattle.tran_ids.proofs.ListedLemmas.{item_is}
@@ -13,7 +13,7 @@ use Rattle.node_rules.specs.Data.answers
 use Rattle.node_rules.specs.Data.dones
 use Rattle.node_rules.specs.Data.kinds
 use Rattle.node_rules.specs.declared.session.PendingCall.TheVariants as pending
-use Rattle.node_rules.specs.Kept.{Kept, Branch, Deed as DeedByRules, live_id, work_id, with_work, branch_at, without_branch, nothing, ending, post}
+use Rattle.node_rules.specs.Kept.{Kept, Deed as DeedByRules, live_id, work_id, with_work, branch_at, without_branch, nothing, ending, post}
 use Rattle.sql_check.specs.Words.{one}
 use Rattle.sql_check.specs.Refusals.{dtx}
 use Rattle.node_rules.specs.Sessions.{with_call, needs_rollback}

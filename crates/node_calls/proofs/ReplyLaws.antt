@@ -1,7 +1,7 @@
 -- A branch hears the Reply that it waits for, and its statement is answered.
-use Rattle.std.proofs.Common.{◌≡◌, ℕ, Bool, true, false, if◌then◌else◌, List, [], Option, None, Some, refl, sym, ap, subst, ◌∙◌}
+use Rattle.std.proofs.Common.{◌≡◌, ℕ, Bool, true, false, if◌then◌else◌, List, Option, None, Some, refl, sym, ap, subst, ◌∙◌}
 use Rattle.tran_ids.specs.declared.branch.BranchId.{BranchId}
-use Rattle.tran_ids.specs.Listed.{item_at, put_item, set_numbered}
+use Rattle.tran_ids.specs.Listed.{item_at, put_item}
 use Rattle.tran_ids.proofs.ListedLemmas.{item_is, put_found}
 use Rattle.session_tree.specs.Live.{edge_at}
 use Rattle.node_rules.specs.Data.{Live, Edge, Answer}
@@ -10,10 +10,10 @@ use Rattle.node_rules.specs.declared.work.Going.{Going}
 use Rattle.node_rules.specs.declared.work.Waits.{Waits}
 use Rattle.node_rules.specs.declared.work.Waits.TheVariants as waiting
 use Rattle.node_rules.specs.declared.work.Work.{Work}
-use Rattle.node_rules.specs.Kept.{Kept, Branch, Deed as DeedByRules, nothing, live_id, work_id, branch_at}
+use Rattle.node_rules.specs.Kept.{Kept, Branch, nothing, live_id, work_id, branch_at}
 use Rattle.node_rules.specs.Calls.{answered, answered_sessions, answer_ends, answer_says, heard_answer, heard_sessions, on_reply, reply_by, reply_edge, reply_going, reply_of, reply_waits, with_answer}
 use Rattle.node_state.specs.Changed.{change_item, with_item}
-use Rattle.node_state.specs.Lives.{heard, told, as_told}
+use Rattle.node_state.specs.Lives.{heard, told}
 use Rattle.node_state.specs.Works.{work_of}
 use Rattle.node_deeds.specs.declared.deed.Deed.{Deed}
 use Rattle.node_deeds.specs.Gives.{Gives}

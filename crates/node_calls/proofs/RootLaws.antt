@@ -7,12 +7,11 @@ use Rattle.tran_ids.specs.Branch.{same}
 use Rattle.tran_ids.specs.Listed.{item_at}
 use Rattle.session_tree.specs.Tree.{count}
 use Rattle.node_rules.specs.Data.{Place, Live, Stmt}
-use Rattle.node_rules.specs.declared.session.Session.{Session}
 use Rattle.node_rules.specs.declared.work.Work.{Work}
 use Rattle.node_rules.specs.Ids.{decimal}
 use Rattle.node_rules.specs.Words.{one}
 use Rattle.node_rules.specs.Refusals.{ora}
-use Rattle.node_rules.specs.Kept.{Kept, Branch, Deed as DeedByRules, live_id, with_work, branch_at, nothing}
+use Rattle.node_rules.specs.Kept.{Kept, Branch, live_id, with_work, branch_at, nothing}
 use Rattle.node_rules.specs.Sessions.{session_at}
 use Rattle.node_rules.specs.Calls.{next_call, statement_at}
 use Rattle.node_rules.specs.Client.{begun, begun_lives, refuses, root_by, statement_by, statement_call}

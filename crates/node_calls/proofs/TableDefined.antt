@@ -1,5 +1,5 @@
 -- A table of a new name may be made: no rows stand under its name. A name that is used is refused.
-use Rattle.std.proofs.Common.{◌≡◌, ◌||◌, ℕ, Bool, true, false, if◌then◌else◌, [], Result, Ok, Err, IfOk, ap, ◌∙◌}
+use Rattle.std.proofs.Common.{◌≡◌, ℕ, true, false, if◌then◌else◌, [], Result, Ok, Err, IfOk, ap, ◌∙◌}
 use Rattle.std.proofs.lemmas.Bool.{or_parts}
 use Rattle.std.specs.List.{list_any}
 use Rattle.node_rules.specs.Data.{Link, Synonym, Table}

@@ -7,12 +7,12 @@ use Rattle.tran_ids.specs.declared.branch.BranchId.{BranchId}
 use Rattle.tran_ids.specs.Listed.{item_at, put_item}
 use Rattle.tran_ids.proofs.ListedLemmas.{item_is, put_found}
 use Rattle.session_tree.specs.Live.{edge_by_link}
-use Rattle.node_rules.specs.Data.{Place, Durable, Live, Table, Stmt, Answer, Refusal}
+use Rattle.node_rules.specs.Data.{Place, Durable, Live, Table, Stmt, Refusal}
 use Rattle.node_rules.specs.Data.answers
 use Rattle.node_rules.specs.Refusals.{ora, dtx}
 use Rattle.node_rules.specs.Names.{Named, A_table, Behind, Unknown, Way, Runs_here, Over, Through, Nowhere_to, named_by, passed_on, ref_of, target_of, way_edge, way_named, way_of, way_target}
 use Rattle.node_rules.specs.Kept.{Kept, Branch, Deed as DeedByRules, live_id, branch_at}
-use Rattle.node_rules.specs.Calls.{answered, calls_over, goes, opens_through, runs_here, statement_at}
+use Rattle.node_rules.specs.Calls.{answered, calls_over, goes, opens_through, statement_at}
 use Rattle.node_rules.specs.Statement.{Ran, after_run, answer_of_run, makes_changes, node_after_run, owns_after, ran, view}
 use Rattle.stmt_run.specs.Run.{locks_after}
 use Rattle.node_state.specs.Changed.{change_item, with_item}

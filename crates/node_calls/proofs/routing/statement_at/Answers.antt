@@ -1,15 +1,12 @@
 -- The statement runs over a table of the node, is refused, or goes on, as the rules say of its way.
-use Rattle.std.proofs.Common.{ℕ, ◌<◌, ◌^◌, List, IfSome, refl, sym, subst}
+use Rattle.std.proofs.Common.{◌<◌, ◌^◌, List, IfSome, refl, sym, subst}
 use Rattle.tran_ids.specs.Listed.{item_at}
 use Rattle.session_tree.specs.Tree.{count}
-use Rattle.node_rules.specs.Data.{Live, Stmt}
-use Rattle.node_rules.specs.Kept.{live_id, branch_at}
-use Rattle.node_rules.specs.Calls.{calls_over, opens_through}
+use Rattle.node_rules.specs.Data.{Live}
+use Rattle.node_rules.specs.Kept.{live_id}
 use Rattle.node_rules.specs.Statement.{makes_changes}
 use Rattle.node_state.specs.Lives.{changed_by}
-use Rattle.node_deeds.specs.Gives.{Gives}
 use Rattle.node_memory.specs.Parts.{kept_in, stored_in}
-use Rattle.node_calls.specs.Handled.{at_live}
 use Rattle.node_calls.proofs.BranchLaws.{few_changed}
 use Rattle.node_calls.proofs.GroundLaws.{at_store, ran_here}
 use Rattle.node_calls.proofs.WayLaws.{depth_there, over_so, refused_so, through_so, way_deep}
