@@ -28,7 +28,7 @@ use Rattle.node_calls.specs.Handled.{at_live}
 use Rattle.node_calls.proofs.BranchLaws.{put_back, branch_here, somebody}
 
 -- a deed of the rules, from its parts
-pub gives_so : (d e : DeedByRules) (after : Kept) (deed : Deed) → d ≡ e → after ≡ e.after → deed ≡ record { wrote = e.wrote; says = e.says; ended = e.ended } → Gives d after deed
+gives_so : (d e : DeedByRules) (after : Kept) (deed : Deed) → d ≡ e → after ≡ e.after → deed ≡ record { wrote = e.wrote; says = e.says; ended = e.ended } → Gives d after deed
 gives_so d e after deed is new done = subst (λ x. Gives x after deed) (sym is) (record { after = new; wrote = ap (λ x. x.wrote) done; says = ap (λ x. x.says) done; ended = ap (λ x. x.ended) done })
 
 -- a deed that only sends messages, and one that only ends a call

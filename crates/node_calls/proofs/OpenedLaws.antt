@@ -50,7 +50,7 @@ number_is edge next None w found = absurd cc
 number_is edge next (Some g) w found = number_if edge next g w (edge == next) refl found
 
 -- the calls of a branch with one more child
-pub child_added : (ws : List Work) (b : BranchId) → work_of (change_work with_child ws b) b ≡ with_child (work_of ws b)
+child_added : (ws : List Work) (b : BranchId) → work_of (change_work with_child ws b) b ≡ with_child (work_of ws b)
 child_added ws b = calls_changed with_child (λ w. refl) ws b
 
 -- and each number stands for the same next call as before

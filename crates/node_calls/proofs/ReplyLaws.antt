@@ -18,7 +18,7 @@ use Rattle.node_state.specs.Works.{work_of}
 use Rattle.node_deeds.specs.declared.deed.Deed.{Deed}
 use Rattle.node_deeds.specs.Gives.{Gives}
 use Rattle.node_calls.specs.Handled.{at_live}
-use Rattle.node_calls.proofs.BranchLaws.{put_twice, branch_here, changed_there, somebody}
+use Rattle.node_calls.proofs.BranchLaws.{put_twice, branch_here, somebody}
 
 -- a child with its number
 abbrev at_number : ℕ → Edge → ℕ × Edge
@@ -46,11 +46,6 @@ found_going x from call i e (Some g) found = found_waits x from call i e g.waits
 reply_found : (x : Branch) (from : BranchId) (call i : ℕ) (e : Edge) → reply_of x from call ≡ Some (i, e) → edge_at x.live i ≡ Some e
 unfolding reply_of
 reply_found x from call i e found = found_going x from call i e x.work.going found
-
--- a branch that hears a Reply is there
-pub heard_there : (ls : List Live) (b : BranchId) (l : Live) (i : ℕ) (weight : Option ℕ) (count : ℕ) → item_at live_id ls b ≡ Some l
-    → item_at live_id (change_item live_id (heard i weight count) ls b) b ≡ Some (heard i weight count l)
-heard_there ls b l i weight count is = changed_there (heard i weight count) (λ x. refl) ls b l is
 
 -- a statement is answered the same where its branch was put in its place before
 pub answered_again : (k : Kept) (l : Live) (w : Work) (a : Answer) → answered (record k { lives = put_item live_id k.lives l }) (record { live = l; work = w }) a ≡ answered k (record { live = l; work = w }) a

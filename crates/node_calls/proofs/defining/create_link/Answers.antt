@@ -4,7 +4,7 @@ use Rattle.node_rules.specs.Refusals.{ora}
 use Rattle.node_rules.specs.Client.{refuses}
 use Rattle.node_deeds.specs.Gives.{Gives}
 use Rattle.node_memory.specs.Parts.{kept_in}
-use Rattle.node_calls.proofs.TableDefined.{at_node, link_refused}
+use Rattle.node_calls.proofs.NameLaws.{at_node, link_refused}
 use Rattle.node_calls.proofs.defining.create_link.Goals as goal
 
 pub returns-then-is_link_used-clause-gives : goal.returns-then-is_link_used-clause-gives

@@ -4,7 +4,7 @@ use Rattle.node_rules.specs.Refusals.{ora}
 use Rattle.node_rules.specs.Client.{refuses}
 use Rattle.node_deeds.specs.Gives.{Gives}
 use Rattle.node_memory.specs.Parts.{kept_in}
-use Rattle.node_calls.proofs.TableDefined.{at_node, synonym_refused}
+use Rattle.node_calls.proofs.NameLaws.{at_node, synonym_refused}
 use Rattle.node_calls.proofs.defining.create_synonym.Goals as goal
 
 pub returns-then-is_used-clause-gives : goal.returns-then-is_used-clause-gives

@@ -7,7 +7,7 @@ use Rattle.node_rules.specs.Client.{refuses}
 use Rattle.ready_laws.specs.Following.{MayFollow}
 use Rattle.node_deeds.specs.Gives.{Gives}
 use Rattle.node_memory.specs.Parts.{kept_in, stored_in}
-use Rattle.node_calls.proofs.TableDefined.{at_node, table_follows, table_refused}
+use Rattle.node_calls.proofs.NameLaws.{at_node, table_follows, table_refused}
 use Rattle.node_calls.proofs.defining.create_table.Goals as goal
 
 pub returns-then-is_used-clause-gives : goal.returns-then-is_used-clause-gives
