@@ -18,7 +18,7 @@ use std::alloc::{AllocError, Global};
 
 /// A text that no statement has: ORA-00900.
 pub fn refuse_text(alloc: Global, session: u32) -> Result<Deed, AllocError>
-    ensures { IfOk result (λ deed. (k : Kept) → Gives (refuses_of k session (ora 900 [])) k deed) }
+    ensures gives { IfOk result (λ deed. (k : Kept) → Gives (refuses_of k session (ora 900 [])) k deed) }
 {
     refuse(alloc, session, INVALID_SQL)
 }
