@@ -7,4 +7,6 @@ pub mod PendingLemmas
 pub mod TurnCallLemmas
 pub mod StandCallLemmas
 pub mod OtherStandLemmas
+pub mod FreshCallLemmas
 pub mod RunLawfulLemmas
+pub mod ReadyRunLemmas
