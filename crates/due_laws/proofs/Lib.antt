@@ -10,3 +10,4 @@ pub mod OtherStandLemmas
 pub mod FreshCallLemmas
 pub mod RunLawfulLemmas
 pub mod ReadyRunLemmas
+pub mod NumberRunLemmas

@@ -1,1 +1,2 @@
 pub mod ReadyRuns
+pub mod NumberRuns
