@@ -10,4 +10,3 @@ pub mod OtherStandLemmas
 pub mod FreshCallLemmas
 pub mod RunLawfulLemmas
 pub mod ReadyRunLemmas
-pub mod NumberRunLemmas

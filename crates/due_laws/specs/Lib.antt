@@ -1,2 +1,1 @@
 pub mod ReadyRuns
-pub mod NumberRuns

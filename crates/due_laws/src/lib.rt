@@ -3,11 +3,9 @@
 #![tactic(auto)]
 
 ghost use Rattle.run_laws.specs.Headline.{TheRunIsLawful};
-ghost use Rattle.due_laws.specs.NumberRuns.{NumbersAreWithin, MessagesAreWithin};
 ghost use Rattle.due_laws.specs.ReadyRuns.{NodesAreReady, InputsAreExpected};
 
 use ready_laws::{records_follow, starts_are_ready, turns_stay_ready};
-use run_laws::commits_are_recorded;
 
 /// The run of a script is a lawful run: whatever is due may come. So each law of lawful runs holds of it.
 pub fn the_run_is_lawful()
@@ -23,14 +21,4 @@ pub fn nodes_are_ready()
     turns_stay_ready();
     starts_are_ready();
     records_follow();
-}
-
-/// In every lawful run the numbers of each node that is up are no more than the turns so far: its clock, the sessions that it
-/// opened, the transactions of its sessions, the calls of its branches. So are the SCNs of every message that was sent.
-pub fn numbers_are_within()
-    ensures nodes { NumbersAreWithin }
-    ensures messages { MessagesAreWithin }
-{
-    turns_stay_ready();
-    commits_are_recorded();
 }
