@@ -55,7 +55,7 @@ heard_rests k (inputs.Call n s) now = now
 heard_rests k (inputs.GiveUp n) now = now
 heard_rests k inputs.Reco now = now
 
-heard_before : (k : Kept) (input what : Input) → Before what k → Before what (heard k input)
+pub heard_before : (k : Kept) (input what : Input) → Before what k → Before what (heard k input)
 heard_before k (inputs.Message m) what before = record { free = before.free; asked = before.asked; prepared = before.prepared; either = before.either }
 heard_before k (inputs.Call n s) what before = before
 heard_before k (inputs.GiveUp n) what before = before
@@ -78,7 +78,7 @@ free_by f k node n s None comes = comes.1
 free_by f k node n s (Some t) comes = absurd comes
 
 -- a branch that was asked as a child has a parent
-asked_parent : (bs : List Born) (k : Kept) → NamesAre (Began bs) k → (from to : BranchId) → IsChild (Began bs) to from → (l : Live) → live_at k to ≡ Some l → l.parent ≢ None
+pub asked_parent : (bs : List Born) (k : Kept) → NamesAre (Began bs) k → (from to : BranchId) → IsChild (Began bs) to from → (l : Live) → live_at k to ≡ Some l → l.parent ≢ None
 asked_parent bs k names from to child l found none =
     let is : LiveIs (Began bs) l = all_found (LiveIs (Began bs)) live_id k.lives to l names.0 found in
     let me : is.born.me ≡ to = is.is_me ∙ item_is live_id k.lives to l found in
@@ -123,7 +123,7 @@ module _ (places : List Place) (asked : List Command) (each : (n : ℕ) (p : Pla
   RootsStand f = (n : ℕ) → IfSome (node_at f n) NodeRests
 
   module _ (f : Facts) (t : List Event) (bs : List Born) (stand : StandBorn places asked each f t bs) (now : RootsStand f) where
-    before_so : (u : Turn) (k : Kept) → MayTurn places f u k → Before u.input k
+    pub before_so : (u : Turn) (k : Kept) → MayTurn places f u k → Before u.input k
     before_so u k may =
         let names : NamesAre (Began bs) k = subst (λ o. IfSome o (NamesAre (Began bs))) may.up (stand.1.lives u.node) in
         record {

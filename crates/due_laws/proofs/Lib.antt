@@ -1,0 +1,12 @@
+pub mod CallEndLemmas
+pub mod RootLiveLemmas
+pub mod CallMadeLemmas
+pub mod FlightLemmas
+pub mod DueLemmas
+pub mod PendingLemmas
+pub mod TurnCallLemmas
+pub mod StandCallLemmas
+pub mod OtherStandLemmas
+pub mod FreshCallLemmas
+pub mod RunLawfulLemmas
+pub mod ReadyRunLemmas
