@@ -1,0 +1,3 @@
+pub mod Able
+pub mod Serves
+pub mod Refused
