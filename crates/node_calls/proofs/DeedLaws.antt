@@ -1,0 +1,143 @@
+-- What a live branch does whose statement is answered, goes on, or waits for a link.
+use Rattle.std.proofs.Common.{◌≡◌, ℕ, ◌+◌, List, [], ◌∷◌, Option, None, Some, refl, sym, ap, subst, ◌∙◌}
+use Rattle.tran_ids.specs.declared.branch.BranchId.{BranchId}
+use Rattle.tran_ids.specs.Listed.{item_at, put_item}
+use Rattle.tran_ids.proofs.ListedLemmas.{item_is}
+use Rattle.session_tree.specs.Live.{next_edge, peer_of}
+use Rattle.node_rules.specs.Data.{Live, Answer, Stmt}
+use Rattle.node_rules.specs.Data.answers
+use Rattle.node_rules.specs.Data.dones
+use Rattle.node_rules.specs.Data.kinds
+use Rattle.node_rules.specs.declared.session.PendingCall.TheVariants as pending
+use Rattle.node_rules.specs.Kept.{Kept, Branch, Deed as DeedByRules, live_id, work_id, with_work, branch_at, without_branch, nothing, ending, post}
+use Rattle.sql_check.specs.Words.{one}
+use Rattle.sql_check.specs.Refusals.{dtx}
+use Rattle.node_rules.specs.Sessions.{with_call, needs_rollback}
+use Rattle.node_rules.specs.Prepare.{to_children}
+use Rattle.node_rules.specs.Client.{rollback_by, statement_given_up, waited_link}
+use Rattle.node_state.specs.Sessions.{transaction_ended}
+use Rattle.node_rules.specs.Calls.{answered, answer_ends, answer_says, answered_sessions, call_pends, calls_over, exec_to, kept_reply, nobody_at, opens_through, replies, reply_fields}
+use Rattle.node_state.specs.Works.{answered_with, called_over, change_work, given_up, waits_for_child, work_of}
+use Rattle.node_deeds.specs.declared.deed.Deed.{Deed}
+use Rattle.node_deeds.specs.Gives.{Gives}
+use Rattle.node_calls.specs.Handled.{at_live}
+use Rattle.node_calls.proofs.BranchLaws.{put_back, branch_here, somebody}
+
+-- a deed of the rules, from its parts
+pub gives_so : (d e : DeedByRules) (after : Kept) (deed : Deed) → d ≡ e → after ≡ e.after → deed ≡ record { wrote = e.wrote; says = e.says; ended = e.ended } → Gives d after deed
+gives_so d e after deed is new done = subst (λ x. Gives x after deed) (sym is) (record { after = new; wrote = ap (λ x. x.wrote) done; says = ap (λ x. x.says) done; ended = ap (λ x. x.ended) done })
+
+module _ (k : Kept) (b : BranchId) (l : Live) (is : item_at live_id k.lives b ≡ Some l) where
+  -- ---- an answer
+
+  module _ (a : Answer) where
+    abbrev answered_by : List Live → Option BranchId → DeedByRules
+    answered_by ls parent = record {
+      after = record k {
+        lives = ls;
+        works = put_item work_id k.works (record (branch_here k b l).work { going = None; came = record (branch_here k b l).work.came { reply = kept_reply (branch_here k b l) a parent } });
+        sessions = answered_sessions k.sessions l parent;
+      };
+      wrote = None;
+      says = answer_says (branch_here k b l) a parent;
+      ended = answer_ends l a parent;
+    }
+
+    answered_so : (parent : Option BranchId) → l.parent ≡ parent → at_live k (λ x. answered k x a) (branch_at k b) ≡ answered_by k.lives parent
+    answered_so parent at =
+        somebody k b l (λ x. answered k x a) is ∙ ap (λ ls. answered_by ls l.parent) (put_back live_id k.lives b l is) ∙ ap (λ p. answered_by k.lives p) at
+
+    -- at a root
+    pub client_answered : (after : Kept) (deed : Deed) → l.parent ≡ None
+        → after ≡ record k { works = change_work (answered_with None) k.works b; sessions = with_call k.sessions l.me.session pending.NoCall }
+        → deed ≡ record { wrote = None; says = []; ended = (record { session = l.me.session; answer = a }) ∷ [] } → Gives (at_live k (λ x. answered k x a) (branch_at k b)) after deed
+    client_answered after deed root new done = gives_so (at_live k (λ x. answered k x a) (branch_at k b)) (answered_by k.lives None) after deed (answered_so None root) new done
+
+    -- below the root
+    pub parent_answered : (parent : BranchId) (after : Kept) (deed : Deed) → l.parent ≡ Some parent
+        → after ≡ record k { works = change_work (answered_with (Some (reply_fields l a))) k.works b }
+        → deed ≡ record { wrote = None; says = replies (branch_here k b l) parent (reply_fields l a); ended = [] } → Gives (at_live k (λ x. answered k x a) (branch_at k b)) after deed
+    parent_answered parent after deed at new done =
+        gives_so (at_live k (λ x. answered k x a) (branch_at k b)) (answered_by k.lives (Some parent)) after deed (answered_so (Some parent) at) new done
+
+  -- ---- a statement that goes on
+
+  module _ (s : Stmt) (given : ℕ) where
+    abbrev called_by : ℕ → List Live → DeedByRules
+    called_by i ls = record {
+      after = record k { lives = ls; works = change_work (called_over i s given) k.works b; sessions = call_pends k.sessions l };
+      wrote = None;
+      says = exec_to k.sessions (branch_here k b l) i s given (peer_of l i);
+      ended = [];
+    }
+
+    -- to a child
+    pub called_so : (i : ℕ) (after : Kept) (deed : Deed) → after ≡ record k { works = change_work (called_over i s given) k.works b; sessions = call_pends k.sessions l }
+        → deed ≡ record { wrote = None; says = exec_to k.sessions (branch_here k b l) i s given (peer_of l i); ended = [] }
+        → Gives (at_live k (λ x. calls_over k x i s given) (branch_at k b)) after deed
+    called_so i after deed new done =
+        gives_so (at_live k (λ x. calls_over k x i s given) (branch_at k b)) (called_by i k.lives) after deed
+        (somebody k b l (λ x. calls_over k x i s given) is ∙ ap (called_by i) (put_back live_id k.lives b l is)) new done
+
+    abbrev waits_by : ℕ → List ℕ → List Live → DeedByRules
+    waits_by node link ls = record {
+      after = record k { lives = ls; works = change_work (waits_for_child link s given) k.works b; sessions = call_pends k.sessions l };
+      wrote = None;
+      says = post l.me (nobody_at node) (kinds.Open (next_edge l) l.root (l.depth + 1));
+      ended = [];
+    }
+
+    -- over a link that is used for the first time
+    pub opened_so : (node : ℕ) (link : List ℕ) (after : Kept) (deed : Deed) → after ≡ record k { works = change_work (waits_for_child link s given) k.works b; sessions = call_pends k.sessions l }
+        → deed ≡ record { wrote = None; says = post l.me (nobody_at node) (kinds.Open (next_edge l) l.root (l.depth + 1)); ended = [] }
+        → Gives (at_live k (λ x. opens_through k x node link s given) (branch_at k b)) after deed
+    opened_so node link after deed new done =
+        gives_so (at_live k (λ x. opens_through k x node link s given) (branch_at k b)) (waits_by node link k.lives) after deed
+        (somebody k b l (λ x. opens_through k x node link s given) is ∙ ap (waits_by node link) (put_back live_id k.lives b l is)) new done
+
+  -- ---- a statement that is given up
+
+  module _ (n : ℕ) where
+    abbrev given_up_by : List Live → DeedByRules
+    given_up_by ls = record {
+      after = record k { lives = ls; works = change_work given_up k.works b; sessions = needs_rollback (with_call k.sessions n pending.NoCall) n (dtx 3 []).code };
+      wrote = None;
+      says = [];
+      ended = (record { session = n; answer = answers.Refused (dtx 3 (one (waited_link l (branch_here k b l).work.going))) }) ∷ [];
+    }
+
+    pub given_up_so : (after : Kept) (deed : Deed)
+        → after ≡ record k { works = change_work given_up k.works b; sessions = needs_rollback (with_call k.sessions n pending.NoCall) n (dtx 3 []).code }
+        → deed ≡ record { wrote = None; says = []; ended = (record { session = n; answer = answers.Refused (dtx 3 (one (waited_link l (branch_here k b l).work.going))) }) ∷ [] }
+        → Gives (statement_given_up k n (branch_at k b)) after deed
+    given_up_so after deed new done =
+        gives_so (statement_given_up k n (branch_at k b)) (given_up_by k.lives) after deed
+        (ap (λ o. statement_given_up k n (with_work k o)) is
+        ∙ (ap (λ c. statement_given_up k n (Some (record { live = l; work = work_of k.works c }))) (item_is live_id k.lives b l is) ∙ ap given_up_by (put_back live_id k.lives b l is))) new done
+
+    -- ---- a transaction that rolls back
+
+    abbrev rolled_back : DeedByRules
+    rolled_back = record {
+      after = record (without_branch k l.me) { sessions = transaction_ended k.sessions n };
+      wrote = None;
+      says = to_children l kinds.Rollback;
+      ended = (record { session = n; answer = answers.Did dones.RolledBack 0 }) ∷ [];
+    }
+
+    pub rolled_back_so : (after : Kept) (deed : Deed) → after ≡ record (without_branch k l.me) { sessions = transaction_ended k.sessions n }
+        → deed ≡ record { wrote = None; says = to_children l kinds.Rollback; ended = (record { session = n; answer = answers.Did dones.RolledBack 0 }) ∷ [] }
+        → Gives (rollback_by k n (branch_at k b)) after deed
+    rolled_back_so after deed new done =
+        gives_so (rollback_by k n (branch_at k b)) rolled_back after deed (ap (λ o. rollback_by k n (with_work k o)) is) new done
+
+-- ---- branches that are not live
+
+module _ (k : Kept) (b : BranchId) (none : item_at live_id k.lives b ≡ None) (n : ℕ) where
+  -- no statement is given up
+  pub none_given_up : (deed : Deed) → Gives (nothing k) k deed → Gives (statement_given_up k n (branch_at k b)) k deed
+  none_given_up deed does = subst (λ d. Gives d k deed) (sym (ap (λ o. statement_given_up k n (with_work k o)) none)) does
+
+  -- and only the call ends
+  pub none_to_roll_back : (deed : Deed) → Gives (ending k n (answers.Did dones.RolledBack 0)) k deed → Gives (rollback_by k n (branch_at k b)) k deed
+  none_to_roll_back deed does = subst (λ d. Gives d k deed) (sym (ap (λ o. rollback_by k n (with_work k o)) none)) does

@@ -1,0 +1,12 @@
+mod BranchLaws
+mod DeedLaws
+mod OpenedLaws
+mod ReplyLaws
+mod WayLaws
+mod GroundLaws
+mod TableLaws
+mod CallLaws
+mod RootLaws
+mod TurnLaws
+mod TableDefined
+mod ReadyLaws

@@ -1,0 +1,103 @@
+-- A statement at a live branch: it runs here, is refused, or goes on.
+use Rattle.std.proofs.Common.{◌≡◌, ◌||◌, ◌<◌, ℕ, Bool, true, false, if◌then◌else◌, List, [], Option, None, Some, IfSome, refl, sym, ap, subst, ◌∙◌, arith}
+use Rattle.std.specs.Prelude.{nat_le}
+use Rattle.std.proofs.lemmas.Bool.Decides.{nat_tests}
+use Rattle.dtx_values.specs.Limits.{depth_limit}
+use Rattle.tran_ids.specs.declared.branch.BranchId.{BranchId}
+use Rattle.tran_ids.specs.Listed.{item_at, put_item}
+use Rattle.tran_ids.proofs.ListedLemmas.{item_is, put_found}
+use Rattle.session_tree.specs.Live.{edge_by_link}
+use Rattle.node_rules.specs.Data.{Place, Durable, Live, Table, Stmt, Answer, Refusal}
+use Rattle.node_rules.specs.Data.answers
+use Rattle.node_rules.specs.Refusals.{ora, dtx}
+use Rattle.node_rules.specs.Names.{Named, A_table, Behind, Unknown, Way, Runs_here, Over, Through, Nowhere_to, named_by, passed_on, ref_of, target_of, way_edge, way_named, way_of, way_target}
+use Rattle.node_rules.specs.Kept.{Kept, Branch, Deed as DeedByRules, live_id, branch_at}
+use Rattle.node_rules.specs.Calls.{answered, calls_over, goes, opens_through, runs_here, statement_at}
+use Rattle.node_rules.specs.Statement.{Ran, after_run, answer_of_run, makes_changes, node_after_run, owns_after, ran, view}
+use Rattle.stmt_run.specs.Run.{locks_after}
+use Rattle.node_state.specs.Changed.{change_item, with_item}
+use Rattle.node_state.specs.Lives.{changed_by}
+use Rattle.node_state.specs.Works.{work_of}
+use Rattle.node_deeds.specs.declared.deed.Deed.{Deed}
+use Rattle.node_deeds.specs.Gives.{Gives}
+use Rattle.node_calls.specs.Handled.{at_live}
+use Rattle.node_calls.proofs.BranchLaws.{branch_here, somebody}
+use Rattle.node_calls.proofs.ReplyLaws.{answered_again}
+
+module _ (p : Place) (k : Kept) (b : BranchId) (l : Live) (is : item_at live_id k.lives b ≡ Some l) (s : Stmt) (given : ℕ) where
+  by_way : (way : Way) → way_of p k.stored.durable l given s ≡ way → at_live k (λ x. statement_at p k x s given) (branch_at k b) ≡ goes p k (branch_here k b l) s given way
+  by_way way at = somebody k b l (λ x. statement_at p k x s given) is ∙ ap (goes p k (branch_here k b l) s given) at
+
+  goes_so : (way : Way) (f : Branch → DeedByRules) (after : Kept) (deed : Deed) → way_of p k.stored.durable l given s ≡ way → goes p k (branch_here k b l) s given way ≡ f (branch_here k b l)
+      → Gives (at_live k f (branch_at k b)) after deed → Gives (at_live k (λ x. statement_at p k x s given) (branch_at k b)) after deed
+  goes_so way f after deed at same does = subst (λ d. Gives d after deed) (somebody k b l f is ∙ sym (by_way way at ∙ same)) does
+
+  -- it is refused
+  pub refused_so : (r : Refusal) (after : Kept) (deed : Deed) → way_of p k.stored.durable l given s ≡ Nowhere_to r
+      → Gives (at_live k (λ x. answered k x (answers.Refused r)) (branch_at k b)) after deed → Gives (at_live k (λ x. statement_at p k x s given) (branch_at k b)) after deed
+  refused_so r after deed at does = goes_so (Nowhere_to r) (λ x. answered k x (answers.Refused r)) after deed at refl does
+
+  -- it goes to a child
+  pub over_so : (i : ℕ) (table : List ℕ) (after : Kept) (deed : Deed) → way_of p k.stored.durable l given s ≡ Over i table
+      → Gives (at_live k (λ x. calls_over k x i (passed_on s table) given) (branch_at k b)) after deed → Gives (at_live k (λ x. statement_at p k x s given) (branch_at k b)) after deed
+  over_so i table after deed at does = goes_so (Over i table) (λ x. calls_over k x i (passed_on s table) given) after deed at refl does
+
+  -- it opens a link
+  pub through_so : (node : ℕ) (link table : List ℕ) (after : Kept) (deed : Deed) → way_of p k.stored.durable l given s ≡ Through node link table
+      → Gives (at_live k (λ x. opens_through k x node link (passed_on s table) given) (branch_at k b)) after deed
+      → Gives (at_live k (λ x. statement_at p k x s given) (branch_at k b)) after deed
+  through_so node link table after deed at does = goes_so (Through node link table) (λ x. opens_through k x node link (passed_on s table) given) after deed at refl does
+
+  -- it runs here
+  pub ran_so : (t : Table) (r : Ran) (m after : Kept) (deed : Deed) → way_of p k.stored.durable l given s ≡ Runs_here t → r ≡ ran p k b s t
+      → m ≡ record k { owns = owns_after k.owns b (view k b t.name) r; locks = locks_after k.locks b t r; lives = change_item live_id (changed_by (makes_changes r)) k.lives b }
+      → Gives (at_live m (λ x. answered m x (answer_of_run r)) (branch_at m b)) after deed → Gives (at_live k (λ x. statement_at p k x s given) (branch_at k b)) after deed
+  ran_so t r m after deed at is_r is_m does =
+      let n : Kept = node_after_run k b t r in
+      let y : Live = changed_by (makes_changes r) l in
+      let me : l.me ≡ b = item_is live_id k.lives b l is in
+      let put : m ≡ record n { lives = put_item live_id k.lives y } =
+      is_m ∙ ap (λ o. record n { lives = with_item live_id (changed_by (makes_changes r)) k.lives o }) is in
+      let there : item_at live_id (put_item live_id k.lives y) b ≡ Some y =
+      subst (λ c. item_at live_id (put_item live_id k.lives y) c ≡ Some y) me (put_found live_id k.lives y) in
+      let code : at_live m (λ x. answered m x (answer_of_run r)) (branch_at m b) ≡ answered n (record { live = y; work = work_of k.works b }) (answer_of_run r) =
+      ap (λ q. at_live q (λ x. answered q x (answer_of_run r)) (branch_at q b)) put
+      ∙ somebody (record n { lives = put_item live_id k.lives y }) b y (λ x. answered (record n { lives = put_item live_id k.lives y }) x (answer_of_run r)) there
+      ∙ answered_again n y (work_of k.works b) (answer_of_run r) in
+      let rules : at_live k (λ x. statement_at p k x s given) (branch_at k b) ≡ answered n (record { live = y; work = work_of k.works b }) (answer_of_run r) =
+      by_way (Runs_here t) at
+      ∙ ap (λ c. answered (node_after_run k c t (ran p k c s t)) (record { live = after_run l (ran p k c s t); work = work_of k.works b }) (answer_of_run (ran p k c s t))) me
+      ∙ ap (λ q. answered (node_after_run k b t q) (record { live = after_run l q; work = work_of k.works b }) (answer_of_run q)) (sym is_r) in
+      subst (λ d. Gives d after deed) (code ∙ sym rules) does
+
+-- ---- a link that is used for the first time
+
+module _ (p : Place) (d : Durable) (l : Live) (given : ℕ) (node : ℕ) (link table : List ℕ) where
+  new_deep : (n : ℕ) (to name : List ℕ) (deep full many : Bool) → nat_le depth_limit l.depth ≡ deep
+      → (if deep || full then Nowhere_to (dtx 2 []) else (if many then Nowhere_to (ora 2020 []) else Through n to name)) ≡ Through node link table → l.depth < depth_limit
+  new_deep n to name true full many at is = absurd cc
+  new_deep n to name false true many at is = absurd cc
+  new_deep n to name false false true at is = absurd cc
+  new_deep n to name false false false at is = grind (arith, nat_tests, at)
+
+  edge_deep : (n : ℕ) (to name : List ℕ) (o : Option ℕ) → way_edge p l given n to name o ≡ Through node link table → l.depth < depth_limit
+  edge_deep n to name (Some i) is = absurd cc
+  edge_deep n to name None is = new_deep n to name _ _ _ refl is
+
+  target_deep : (to name : List ℕ) (o : Option ℕ) → way_target p l given to name o ≡ Through node link table → l.depth < depth_limit
+  target_deep to name None is = absurd cc
+  target_deep to name (Some n) is = edge_deep n to name (edge_by_link l to) is
+
+  named_deep : (named : Named) → way_named p d l given named ≡ Through node link table → l.depth < depth_limit
+  named_deep Unknown is = absurd cc
+  named_deep (A_table t) is = absurd cc
+  named_deep (Behind to name) is = target_deep to name (target_of p d to) is
+
+  -- the branch is not the deepest that a tree may have
+  pub way_deep : (s : Stmt) → way_of p d l given s ≡ Through node link table → l.depth < depth_limit
+  unfolding way_of
+  way_deep s is = named_deep (named_by d (ref_of s)) is
+
+-- so it has room for a child that is deeper
+pub depth_there : (ls : List Live) (b : BranchId) (l : Live) → item_at live_id ls b ≡ Some l → l.depth < depth_limit → IfSome (item_at live_id ls b) (λ x. x.depth < depth_limit)
+depth_there ls b l is deep = subst (λ o. IfSome o (λ x. x.depth < depth_limit)) (sym is) deep

@@ -1,0 +1,94 @@
+-- What a turn makes of a live branch of a node, and what a node needs where a statement comes to one.
+use Rattle.std.specs.Prelude.{◌≡◌, Bool, true, false, nat_lt, ℕ, ◌-◌, ◌<◌, ◌≤◌, ◌^◌, ◌==◌, if◌then◌else◌, [], length, Option, Some, None, IfSome}
+use Rattle.dtx_values.specs.Limits.{branch_limit, node_limit}
+use Rattle.tran_ids.specs.declared.branch.BranchId.{BranchId}
+use Rattle.tran_ids.specs.Listed.{item_at}
+use Rattle.catalog.specs.Catalog.{is_used}
+use Rattle.session_tree.specs.Live.{new_edge, next_edge}
+use Rattle.session_tree.specs.Tree.{count}
+use Rattle.node_rules.specs.Data.{Answer, Edge, Stmt}
+use Rattle.node_rules.specs.declared.work.Going.{Going}
+use Rattle.node_rules.specs.declared.work.Waits.{Waits}
+use Rattle.node_rules.specs.Data.answers
+use Rattle.node_rules.specs.declared.work.Waits.TheVariants as waiting
+use Rattle.node_rules.specs.Kept.{Kept, Branch, Deed, live_id, nothing}
+use Rattle.node_rules.specs.Ids.{decimal}
+use Rattle.node_rules.specs.Words.{one}
+use Rattle.node_rules.specs.Refusals.{ora}
+use Rattle.node_rules.specs.Client.{refuses}
+use Rattle.node_rules.specs.Calls.{calls_over, next_call, with_edge}
+use Rattle.ready_laws.specs.Rows.{HasRows}
+use Rattle.node_state.specs.Lives.{heard}
+use Rattle.node_state.specs.Works.{work_of}
+use Rattle.node_ways.specs.Ways.{has_table}
+use Rattle.node_memory.specs.declared.memory.Memory.{Memory}
+use Rattle.node_memory.specs.Parts.{kept_in}
+use Rattle.node_calls.specs.declared.opened.Waited.{Waited}
+use Rattle.node_calls.specs.declared.replied.Replier.{Replier}
+
+-- what a live branch does, and nothing where it is not live
+abbrev pub at_live : Kept → (Branch → Deed) → Option Branch → Deed
+at_live k f None = nothing k
+at_live k f (Some x) = f x
+
+-- what waits for a new child
+abbrev pub waits_for : Going → Waits → Option Waited
+waits_for g (waiting.ForReply i) = None
+waits_for g (waiting.ForOpened link) = Some (record { link = link; statement = g.statement; room = g.room })
+
+-- what waits for the child of this number, which is the next one
+abbrev pub waited_for : ℕ → ℕ → Option Going → Option Waited
+waited_for number next None = None
+waited_for number next (Some g) = if number == next then waits_for g g.waits else None
+
+-- the branch goes on with what waited for its new child
+abbrev pub goes_on : Kept → Branch → BranchId → ℕ → Waited → Deed
+goes_on k x from strength w = calls_over k (with_edge x (new_edge from w.link strength)) (next_edge x.live) w.statement (w.room - 1)
+
+-- the child that replies, with its number
+abbrev pub replier_as : Replier → ℕ × Edge
+replier_as r = (r.number, r.edge.now)
+
+-- a transaction that can only be rolled back, after an answer of this code: ORA-02067 where its root is live
+abbrev pub refuses_again : Kept → ℕ → ℕ → Option Branch → Deed
+refuses_again k n code None = nothing k
+refuses_again k n code (Some x) = refuses k n (ora 2067 (one (decimal code)))
+
+-- whether an answer tells of changes
+abbrev pub did_changes : Answer → Bool
+did_changes (answers.Did d n) = nat_lt 0 n
+did_changes _ = false
+
+-- a branch, where it is live, has told of so few branches that a Reply can tell them
+abbrev pub HasFew : Memory → BranchId → Type 0
+HasFew m b = IfSome (item_at live_id m.lives b) (λ l. count l < 2 ^ 16)
+
+-- each of its edges has a next call number
+abbrev pub HasNumbers : Memory → BranchId → Type 0
+HasNumbers m b = (i : ℕ) → next_call (work_of m.works b) i < 2 ^ 32
+
+-- so many children leave room for the one that is waited for
+abbrev pub HasRoomFor : ℕ → Waits → Type 0
+HasRoomFor children (waiting.ForOpened link) = children < branch_limit
+HasRoomFor children (waiting.ForReply i) = Unit {0}
+
+-- where a statement is under way
+abbrev pub HasRoomWhile : ℕ → Option Going → Type 0
+HasRoomWhile children None = Unit {0}
+HasRoomWhile children (Some g) = HasRoomFor children g.waits
+
+-- a branch, where it is live, has room for the child that it waits for
+abbrev pub HasRoom : Memory → BranchId → Type 0
+HasRoom m b = IfSome (item_at live_id m.lives b) (λ l. HasRoomWhile (length l.edges) (work_of m.works b).going)
+
+-- with what the Reply of any child tells it has told of few branches still
+abbrev pub HasFewWith : Memory → BranchId → Option ℕ → ℕ → Type 0
+HasFewWith m b weight told = (i : ℕ) → IfSome (item_at live_id m.lives b) (λ l. count (heard i weight told l) < 2 ^ 16)
+
+-- What a node needs where a statement comes to a branch of it.
+pub record TakesStatement (m : Memory) (b : BranchId) (s : Stmt) : Type 0 where
+  pub few : HasFew m b
+  pub numbers : HasNumbers m b
+  pub nodes : length m.place.names ≤ node_limit
+  pub nameless : has_table s ≡ false → is_used m.catalog [] ≡ false  -- a form without a table names the empty name
+  pub rows : HasRows (kept_in m)

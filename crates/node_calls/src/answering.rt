@@ -1,0 +1,117 @@
+//! A statement at a live branch is answered: below the root by a Reply to the parent, at the root by the end of the session's
+//! call.
+ghost use Rattle.std.specs.Prelude.{◌≡◌, None, Some, [], ◌∷◌, IfOk, OnOk};
+ghost use Rattle.node_rules.specs.declared.session.PendingCall.TheVariants as pending;
+ghost use Rattle.node_rules.specs.Kept.{branch_at, no_work as no_work_of};
+ghost use Rattle.node_rules.specs.Calls.{answered, replies as replies_of};
+ghost use Rattle.node_rules.specs.Sessions.{with_call};
+ghost use Rattle.node_state.specs.Works.{answered_with, change_work, work_of};
+ghost use Rattle.node_deeds.specs.Gives.{Gives, branch_with};
+ghost use Rattle.node_memory.specs.Parts.{kept_in};
+ghost use Rattle.node_calls.specs.Handled.{at_live, HasFew};
+
+use dtx_values::{Answer, Duplicate, Listing};
+use link_session::{Calls, ReplyFields};
+use node_deeds::{Deed, replies, reply_fields};
+use node_memory::Memory;
+use node_rules::{PendingCall, Work};
+use node_state::Works;
+use reco::Posts;
+use session_tree::Live;
+use std::alloc::{AllocError, Global};
+use tran_ids::BranchId;
+
+/// The statement at a live branch is answered. Nothing where it is not live.
+#[tactic(auto, using(crate::proofs::BranchLaws::nothing_so, crate::proofs::DeedLaws::client_answered, crate::proofs::DeedLaws::parent_answered))]
+pub(crate) fn answer(
+    memory: &mut Memory,
+    alloc: Global,
+    branch: &BranchId,
+    answer: Answer,
+) -> Result<Deed, AllocError>
+    requires { HasFew memory.old branch.now }
+    ensures gives { IfOk result (λ deed.
+        Gives (at_live (kept_in memory.old) (λ x. answered (kept_in memory.old) x answer) (branch_at (kept_in memory.old) branch.now)) (kept_in memory.new) deed) }
+    ensures place { memory.new.place ≡ memory.old.place }
+{
+    let Some(live) = memory.lives.get(branch) else {
+        return Ok(Deed::nothing(alloc));
+    };
+    match live.parent {
+        None => {
+            let session = live.me.session;
+            let deed = answer_client(memory, alloc, branch, session, answer)?;
+            Ok(deed)
+        }
+        Some(parent) => {
+            let fields = reply_fields(live, answer);
+            let says = reply_to(alloc, &memory.works, branch, live, parent, &fields)?;
+            let deed = answer_parent(memory, alloc, branch, fields, says)?;
+            Ok(deed)
+        }
+    }
+}
+
+// Below the root the answer is kept for a call that comes again, and these messages go out.
+fn answer_parent(
+    memory: &mut Memory,
+    alloc: Global,
+    branch: &BranchId,
+    fields: ReplyFields,
+    says: Posts,
+) -> Result<Deed, AllocError>
+    ensures after { OnOk result (kept_in memory.new ≡ record (kept_in memory.old) { works = change_work (answered_with (Some fields)) memory.old.works branch.now }) }
+    ensures deed { IfOk result (λ deed. deed ≡ record { wrote = None; says = says; ended = [] }) }
+    ensures place { memory.new.place ≡ memory.old.place }
+{
+    memory.works.answer(alloc, branch, Some(fields))?;
+    Ok(Deed::saying(alloc, says))
+}
+
+// At a root the call of its session ends.
+fn answer_client(
+    memory: &mut Memory,
+    alloc: Global,
+    branch: &BranchId,
+    session: u32,
+    answer: Answer,
+) -> Result<Deed, AllocError>
+    ensures after { OnOk result (kept_in memory.new ≡ record (kept_in memory.old) { works = change_work (answered_with None) memory.old.works branch.now; sessions = with_call memory.old.sessions session pending.NoCall }) }
+    ensures deed { IfOk result (λ deed. deed ≡ record { wrote = None; says = []; ended = (record { session = session; answer = answer }) ∷ [] }) }
+    ensures place { memory.new.place ≡ memory.old.place }
+{
+    let deed = Deed::ending(alloc, session, answer)?;
+    memory.works.answer(alloc, branch, None)?;
+    memory.sessions.set_call(session, PendingCall::NoCall);
+    Ok(deed)
+}
+
+// The Reply of a live branch to its last call.
+fn reply_to(
+    alloc: Global,
+    works: &Works,
+    branch: &BranchId,
+    live: &Live,
+    parent: BranchId,
+    fields: &ReplyFields,
+) -> Result<Posts, AllocError>
+    ensures { IfOk result (λ posts. posts ≡ replies_of (branch_with live.now (work_of works.now branch.now)) parent fields.now) }
+{
+    let fields = fields.copy(alloc)?;
+    match works.get(branch) {
+        None => replies(alloc, live, &no_work(alloc, branch), parent, fields),
+        Some(work) => replies(alloc, live, work, parent, fields),
+    }
+}
+
+/// A branch to which no call came, and which made none.
+pub(crate) fn no_work(alloc: Global, branch: &BranchId) -> Work
+    ensures { result ≡ no_work_of branch.now }
+{
+    Work {
+        branch: *branch,
+        came: Calls::new(),
+        calls: Listing::new(alloc),
+        going: None,
+    }
+}

@@ -1,0 +1,148 @@
+//! INSERT, UPDATE, DELETE and SELECT of a client: a session without a transaction begins one.
+ghost use Rattle.std.specs.Prelude.{◌≡◌, ◌+◌, ◌<◌, ◌^◌, None, IfOk, OnOk};
+ghost use Rattle.tran_ids.specs.declared.branch.BranchId.{BranchId};
+ghost use Rattle.tran_ids.specs.Listed.{item_at};
+ghost use Rattle.session_tree.specs.Live.{fresh_live};
+ghost use Rattle.node_rules.specs.Kept.{branch_at, live_id};
+ghost use Rattle.node_rules.specs.Sessions.{session_at};
+ghost use Rattle.node_rules.specs.Client.{begun, begun_by, new_root as new_root_of, fresh_root as fresh_root_of, statement_by, statement_call as statement_call_of};
+ghost use Rattle.node_deeds.specs.Gives.{Gives};
+ghost use Rattle.node_memory.specs.Parts.{kept_in};
+ghost use Rattle.node_calls.specs.Handled.{refuses_again, HasFew, TakesStatement};
+
+use crate::opening::strength_of;
+use crate::routing::statement_at;
+use dtx_values::{Answer, Listing};
+use node_deeds::{Deed, needs_rollback};
+use node_memory::Memory;
+use session_tree::{Live, Phase};
+use sql_statement::Stmt;
+use std::alloc::{AllocError, Global};
+use tran_ids::BranchId;
+
+/// INSERT, UPDATE, DELETE or SELECT in a session, at its root: a session without a transaction begins one first. ORA-02067 where
+/// the transaction can only be rolled back. Nothing where the session's root is not live.
+#[tactic(auto, using(crate::proofs::RootLaws::rootless_in, crate::proofs::RootLaws::rooted_in, crate::proofs::RootLaws::takes_begun))]
+pub fn statement_call(
+    memory: &mut Memory,
+    alloc: Global,
+    session: u32,
+    statement: &Stmt,
+) -> Result<Deed, AllocError>
+    requires seq { (session_at memory.old.sessions session).seq + 1 < 2 ^ 32 }
+    requires new { item_at live_id memory.old.lives (new_root_of memory.old.place (kept_in memory.old) session) ≡ None }
+    requires takes { (root : BranchId) → TakesStatement memory.old root statement.now }
+    ensures gives { IfOk result (λ deed. Gives (statement_call_of memory.old.place (begun memory.old.place (kept_in memory.old) session) session statement.now) (kept_in memory.new) deed) }
+    ensures place { memory.new.place ≡ memory.old.place }
+{
+    begin(memory, alloc, session)?;
+    match memory.sessions.at(session).root {
+        None => Ok(Deed::nothing(alloc)),
+        Some(root) => {
+            let deed = statement_in(memory, alloc, session, &root, statement)?;
+            Ok(deed)
+        }
+    }
+}
+
+// A transaction begins in a session that has none.
+fn begin(memory: &mut Memory, alloc: Global, session: u32) -> Result<(), AllocError>
+    requires seq { (session_at memory.old.sessions session).seq + 1 < 2 ^ 32 }
+    requires new { item_at live_id memory.old.lives (new_root_of memory.old.place (kept_in memory.old) session) ≡ None }
+    ensures kept { OnOk result (kept_in memory.new ≡ begun memory.old.place (kept_in memory.old) session) }
+    ensures place { memory.new.place ≡ memory.old.place }
+{
+    match memory.sessions.at(session).root {
+        Some(_) => Ok(()),
+        None => begin_root(memory, alloc, session),
+    }
+}
+
+// A transaction begins in a session.
+fn begin_root(memory: &mut Memory, alloc: Global, session: u32) -> Result<(), AllocError>
+    requires seq { (session_at memory.old.sessions session).seq + 1 < 2 ^ 32 }
+    requires new { item_at live_id memory.old.lives (new_root_of memory.old.place (kept_in memory.old) session) ≡ None }
+    ensures kept { OnOk result (kept_in memory.new ≡ begun_by memory.old.place (kept_in memory.old) session None) }
+    ensures place { memory.new.place ≡ memory.old.place }
+{
+    let root = new_root(memory, session);
+    let live = fresh_root(alloc, memory, root);
+    memory.lives.begin(live)?;
+    memory.sessions.begin(session, &root);
+    Ok(())
+}
+
+// The id of the session's next root.
+fn new_root(memory: &Memory, session: u32) -> BranchId
+    requires { (session_at memory.now.sessions session).seq + 1 < 2 ^ 32 }
+    ensures { result ≡ new_root_of memory.now.place (kept_in memory.now) session }
+{
+    let last = memory.sessions.at(session).seq;
+    BranchId {
+        node: memory.place.number,
+        boot: memory.boot,
+        session,
+        seq: last + 1,
+    }
+}
+
+// A root that has just begun.
+fn fresh_root(alloc: Global, memory: &Memory, root: BranchId) -> Live
+    ensures { result ≡ fresh_root_of memory.now.place (kept_in memory.now) root }
+{
+    Live {
+        me: root,
+        root,
+        parent: None,
+        depth: 1,
+        changed: false,
+        strength: strength_of(memory),
+        edges: Listing::new(alloc),
+        phase: Phase::Working,
+        advice: None,
+        comment: Listing::new(alloc),
+    }
+}
+
+// A statement of a session with this root.
+#[tactic(auto, using(crate::proofs::RootLaws::statement_so, crate::proofs::RootLaws::refused_so))]
+fn statement_in(
+    memory: &mut Memory,
+    alloc: Global,
+    session: u32,
+    root: &BranchId,
+    statement: &Stmt,
+) -> Result<Deed, AllocError>
+    requires { TakesStatement memory.old root.now statement.now }
+    ensures gives { IfOk result (λ deed.
+        Gives (statement_by memory.old.place (kept_in memory.old) session statement.now (session_at memory.old.sessions session).code (branch_at (kept_in memory.old) root.now)) (kept_in memory.new) deed) }
+    ensures place { memory.new.place ≡ memory.old.place }
+{
+    match memory.sessions.at(session).code {
+        None => {
+            let deed = statement_at(memory, alloc, root, statement, 0)?;
+            Ok(deed)
+        }
+        Some(code) => refuse_again(memory, alloc, session, root, code),
+    }
+}
+
+// ORA-02067 at a live root, after an answer of this code.
+#[tactic(auto, using(crate::proofs::RootLaws::nobody_refused, crate::proofs::RootLaws::somebody_refused))]
+fn refuse_again(
+    memory: &Memory,
+    alloc: Global,
+    session: u32,
+    root: &BranchId,
+    code: u16,
+) -> Result<Deed, AllocError>
+    ensures { IfOk result (λ deed. Gives (refuses_again (kept_in memory.now) session code (branch_at (kept_in memory.now) root.now)) (kept_in memory.now) deed) }
+{
+    match memory.lives.get(root) {
+        None => Ok(Deed::nothing(alloc)),
+        Some(_) => {
+            let refusal = needs_rollback(alloc, code)?;
+            Deed::ending(alloc, session, Answer::Refused(refusal))
+        }
+    }
+}

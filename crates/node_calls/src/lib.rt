@@ -1,0 +1,35 @@
+//! The calls of clients, and statements on their way through the session tree, at a node: each handler does exactly what the
+//! rules of its name say of what the node keeps.
+//!
+//! - Statements of a client: `statement_call`, `rollback_by`, `advise`, `create_table`, `create_link`, `create_synonym`,
+//!   `set_recovery`, `refuse_text`; `statement_given_up` where it waits no more.
+//! - Messages: `on_open`, `opened_turn`, `exec_turn`, `reply_turn`.
+//!
+//! A live branch is looked up by its id, changed where it stands, and never copied. A handler changes what the node keeps, and
+//! tells what the turn does beside that. It fails where memory runs out, and then nothing is promised of what the node keeps
+//! but its place.
+#![tactic(auto)]
+
+mod advising;
+mod answering;
+mod beginning;
+mod calling;
+mod defining;
+mod ending;
+mod executing;
+mod giving_up;
+mod laws;
+mod opened;
+mod opening;
+mod replied;
+mod routing;
+mod turns;
+
+pub use advising::advise;
+pub use beginning::statement_call;
+pub use defining::{create_link, create_synonym, create_table, refuse_text, set_recovery};
+pub use ending::rollback_by;
+pub use giving_up::statement_given_up;
+pub use laws::ready_nodes_take_calls;
+pub use opening::on_open;
+pub use turns::{exec_turn, opened_turn, reply_turn};
