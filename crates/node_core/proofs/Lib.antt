@@ -1,0 +1,2 @@
+mod AbleLaws
+mod CommitLaws

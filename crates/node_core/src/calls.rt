@@ -1,0 +1,87 @@
+//! The calls of clients, by the form of the statement.
+ghost use Rattle.std.specs.Prelude.{◌≡◌, Some, IfOk};
+ghost use Rattle.std.specs.Option.{option_copied};
+ghost use Rattle.node_rules.specs.Inputs.{IsSession};
+ghost use Rattle.node_rules.specs.Client.{begun, statement_call as statement_call_of, call_turn as call_turn_of, read_turn as read_turn_of};
+ghost use Rattle.node_memory.specs.Parts.{kept_in};
+ghost use Rattle.node_deeds.specs.Gives.{Gives};
+ghost use Rattle.node_core.specs.Able.{IsAble, EndsWork};
+
+use crate::able::{may_begin, takes_statements};
+use crate::committing::commit_call;
+use node_calls::{
+    advise, create_link, create_synonym, create_table, refuse_text, rollback_by, set_recovery,
+    statement_call,
+};
+use node_commit::{commit_force, purge, rollback_force};
+use node_deeds::Deed;
+use node_memory::Memory;
+use sql_statement::Stmt;
+use std::alloc::{AllocError, Global};
+
+// INSERT, UPDATE, DELETE or SELECT.
+fn table_call(
+    memory: &mut Memory,
+    alloc: Global,
+    session: u32,
+    statement: &Stmt,
+) -> Result<Deed, AllocError>
+    requires able { IsAble memory.old.place (kept_in memory.old) }
+    requires fit { IsSession session }
+    ensures gives { IfOk result (λ deed. Gives (statement_call_of memory.old.place (begun memory.old.place (kept_in memory.old) session) session statement.now) (kept_in memory.new) deed) }
+    ensures place { memory.new.place ≡ memory.old.place }
+{
+    takes_statements(memory);
+    may_begin(memory, session);
+    statement_call(memory, alloc, session, statement)
+}
+
+// A statement of a client.
+fn call_turn(
+    memory: &mut Memory,
+    alloc: Global,
+    session: u32,
+    statement: &Stmt,
+) -> Result<Deed, AllocError>
+    requires able { IsAble memory.old.place (kept_in memory.old) }
+    requires fit { IsSession session }
+    requires commit { EndsWork (kept_in memory.old) session statement.now }
+    ensures gives { IfOk result (λ deed. Gives (call_turn_of memory.old.place (kept_in memory.old) session statement.now) (kept_in memory.new) deed) }
+    ensures place { memory.new.place ≡ memory.old.place }
+{
+    match statement {
+        Stmt::CreateTable(table) => create_table(memory, alloc, session, table),
+        Stmt::CreateLink(link) => create_link(memory, alloc, session, link),
+        Stmt::CreateSynonym(synonym) => create_synonym(memory, alloc, session, synonym),
+        Stmt::Insert { .. } | Stmt::Update { .. } | Stmt::Delete { .. } | Stmt::Select { .. } => {
+            table_call(memory, alloc, session, statement)
+        }
+        Stmt::Commit { comment } => commit_call(memory, alloc, session, comment),
+        Stmt::CommitForce { id, scn } => commit_force(memory, alloc, session, id.as_slice(), *scn),
+        Stmt::Rollback => rollback_by(memory, alloc, session),
+        Stmt::RollbackForce { id } => rollback_force(memory, alloc, session, id.as_slice()),
+        Stmt::Advise(advice) => advise(memory, alloc, session, *advice),
+        Stmt::Recovery(on) => set_recovery(memory, alloc, session, *on),
+        Stmt::PurgeMixed { id } => purge(memory, alloc, session, true, id.as_slice()),
+        Stmt::PurgeLost { id } => purge(memory, alloc, session, false, id.as_slice()),
+    }
+}
+
+/// A call of a client's session, ORA-00900 where its text is outside the grammar.
+pub(crate) fn read_turn(
+    memory: &mut Memory,
+    alloc: Global,
+    session: u32,
+    statement: Option<&Stmt>,
+) -> Result<Deed, AllocError>
+    requires able { IsAble memory.old.place (kept_in memory.old) }
+    requires fit { IsSession session }
+    requires commit { (s : Stmt) → option_copied statement ≡ Some s → EndsWork (kept_in memory.old) session s }
+    ensures gives { IfOk result (λ deed. Gives (read_turn_of memory.old.place (kept_in memory.old) session (option_copied statement)) (kept_in memory.new) deed) }
+    ensures place { memory.new.place ≡ memory.old.place }
+{
+    match statement {
+        None => refuse_text(alloc, session),
+        Some(statement) => call_turn(memory, alloc, session, statement),
+    }
+}

@@ -1,0 +1,100 @@
+//! One turn.
+ghost use Rattle.std.specs.Prelude.{◌≡◌, IfOk, IfSome, OnOk};
+ghost use Rattle.node_rules.specs.Kept.{Deed as DeedByRules};
+ghost use Rattle.node_rules.specs.Turn.{kind_scn as kind_scn_of, clock_raised_by, heard, deed_at, outcome_of, turn_of};
+ghost use Rattle.ready_laws.specs.Ready.{IsReady};
+ghost use Rattle.ready_laws.specs.Sound.{IsNext};
+ghost use Rattle.wire_msg.specs.declared.input.Input.TheVariants as inputs;
+ghost use Rattle.node_memory.specs.Parts.{stored_in, kept_in};
+ghost use Rattle.node_deeds.specs.Gives.{Gives};
+ghost use Rattle.node_core.specs.Able.{IsAble, MayTake};
+ghost use Rattle.node_core.specs.Serves.{Serves};
+
+use crate::Served;
+use crate::calls::read_turn;
+use crate::giving_up::give_up_turn;
+use crate::messages::kind_turn;
+use crate::recovery::recovery;
+use crate::served::stamped;
+use node_deeds::Deed;
+use node_memory::Memory;
+use ready_laws::turns_stay_ready;
+use std::alloc::{AllocError, Global};
+use wire_msg::{Input, Kind, Msg};
+
+fn kind_scn(kind: &Kind) -> u64
+    ensures { result ≡ kind_scn_of kind.now }
+{
+    match kind {
+        Kind::Committed { scn } => *scn,
+        _ => 0,
+    }
+}
+
+// The clock meets what a message brings.
+#[tactic(auto, using(crate::proofs::AbleLaws::able_heard))]
+fn hear(memory: &mut Memory, msg: &Msg)
+    requires { MayTake memory.old.place (kept_in memory.old) (inputs.Message msg.now) }
+    ensures able { IsAble memory.new.place (kept_in memory.new) }
+    ensures kept { kept_in memory.new ≡ clock_raised_by (kept_in memory.old) msg.now }
+    ensures place { memory.new.place ≡ memory.old.place }
+{
+    let brought = kind_scn(&msg.kind);
+    memory.raise(msg.scn.max(brought));
+}
+
+// A message: the clock meets its sender's first.
+fn message_turn(memory: &mut Memory, alloc: Global, msg: &Msg) -> Result<Deed, AllocError>
+    requires { MayTake memory.old.place (kept_in memory.old) (inputs.Message msg.now) }
+    ensures gives { IfOk result (λ deed. Gives (deed_at memory.old.place (heard (kept_in memory.old) (inputs.Message msg.now)) (inputs.Message msg.now)) (kept_in memory.new) deed) }
+    ensures place { memory.new.place ≡ memory.old.place }
+{
+    hear(memory, msg);
+    kind_turn(memory, alloc, msg.from, msg.to, &msg.kind)
+}
+
+// The messages of a deed that was done, and the rest of it.
+fn told(memory: &Memory, alloc: Global, deed: Deed) -> Result<Served, AllocError>
+    ensures { IfOk result (λ served. (d : DeedByRules) → Gives d (kept_in memory.now) deed → Serves (outcome_of d) (kept_in memory.now) served) }
+{
+    stamped(alloc, memory.clock.now(), deed)
+}
+
+// What comes to the node is done.
+#[tactic(auto, unfolding(node_rules::specs::Turn::turn_of))]
+fn take(memory: &mut Memory, alloc: Global, input: &Input) -> Result<Served, AllocError>
+    requires { MayTake memory.old.place (kept_in memory.old) input.now }
+    ensures serves { IfOk result (λ served. Serves (turn_of memory.old.place (kept_in memory.old) input.now) (kept_in memory.new) served) }
+    ensures place { memory.new.place ≡ memory.old.place }
+{
+    match input {
+        Input::Call { session, statement } => {
+            let deed = read_turn(memory, alloc, *session, statement.as_ref())?;
+            told(memory, alloc, deed)
+        }
+        Input::GiveUp { session } => {
+            let deed = give_up_turn(memory, alloc, *session)?;
+            told(memory, alloc, deed)
+        }
+        Input::Message(msg) => {
+            let deed = message_turn(memory, alloc, msg)?;
+            told(memory, alloc, deed)
+        }
+        Input::Reco => recovery(memory, alloc),
+    }
+}
+
+/// One turn of a node that can take this input. It changes what the node keeps, and tells the record, the messages and the calls
+/// that end. The node is ready again afterwards, and the record may stand next behind those that it has. Fails where memory runs
+/// out, and for no other reason; nothing is promised then of what the node keeps, except its place.
+#[tactic(auto, using(crate::proofs::AbleLaws::ready_again, crate::proofs::AbleLaws::may_follow))]
+pub fn turn(memory: &mut Memory, alloc: Global, input: &Input) -> Result<Served, AllocError>
+    requires { MayTake memory.old.place (kept_in memory.old) input.now }
+    ensures serves { IfOk result (λ served. Serves (turn_of memory.old.place (kept_in memory.old) input.now) (kept_in memory.new) served) }
+    ensures ready { OnOk result (IsReady memory.new.place (kept_in memory.new)) }
+    ensures follows { IfOk result (λ served. IfSome served.wrote (IsNext (stored_in memory.old))) }
+    ensures place { memory.new.place ≡ memory.old.place }
+{
+    turns_stay_ready();
+    take(memory, alloc, input)
+}
