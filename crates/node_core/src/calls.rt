@@ -1,6 +1,7 @@
 //! The calls of clients, by the form of the statement.
 ghost use Rattle.std.specs.Prelude.{◌≡◌, Some, IfOk};
 ghost use Rattle.std.specs.Option.{option_copied};
+ghost use Rattle.sql_statement.specs.declared.statement.Stmt.{Stmt as StmtBy};
 ghost use Rattle.node_rules.specs.Inputs.{IsSession};
 ghost use Rattle.node_rules.specs.Client.{begun, statement_call as statement_call_of, call_turn as call_turn_of, read_turn as read_turn_of};
 ghost use Rattle.node_memory.specs.Parts.{kept_in};
@@ -76,7 +77,7 @@ pub(crate) fn read_turn(
 ) -> Result<Deed, AllocError>
     requires able { IsAble memory.old.place (kept_in memory.old) }
     requires fit { IsSession session }
-    requires commit { (s : Stmt) → option_copied statement ≡ Some s → EndsWork (kept_in memory.old) session s }
+    requires commit { (s : StmtBy) → option_copied statement ≡ Some s → EndsWork (kept_in memory.old) session s }
     ensures gives { IfOk result (λ deed. Gives (read_turn_of memory.old.place (kept_in memory.old) session (option_copied statement)) (kept_in memory.new) deed) }
     ensures place { memory.new.place ≡ memory.old.place }
 {

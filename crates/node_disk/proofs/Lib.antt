@@ -1,0 +1,4 @@
+mod ReadLaws
+mod StoreLaws
+mod TurnLaws
+mod StartLaws

@@ -1,0 +1,78 @@
+//! What a turn does in memory, before its record is written.
+ghost use Rattle.std.specs.Prelude.{◌≡◌, IfOk, IfSome, OnOk};
+ghost use Rattle.std.specs.List.{AllByRecursion};
+ghost use Rattle.wire_msg.specs.declared.input.Input.{Input as InputBy};
+ghost use Rattle.msg_codec.specs.Message.{HasSpelling};
+ghost use Rattle.node_rules.specs.Kept.{Kept, Outcome};
+ghost use Rattle.node_rules.specs.Turn.{turn_of};
+ghost use Rattle.ready_laws.specs.Ready.{IsReady};
+ghost use Rattle.ready_laws.specs.Sound.{IsNext};
+ghost use Rattle.node_memory.specs.Parts.{stored_in, kept_in};
+ghost use Rattle.node_core.specs.Able.{MayTake};
+ghost use Rattle.node_core.specs.Serves.{Serves};
+ghost use Rattle.node_disk.specs.Incoming.{IsReadAs};
+ghost use Rattle.node_disk.specs.Effects.{Tells};
+ghost use Rattle.node_disk.specs.Starts.{IsButForAcks, stored_next};
+
+use crate::effects::Effects;
+use crate::finished::finish;
+use crate::incoming::{Incoming, read};
+use crate::laws::turns_store_their_records;
+use crate::mailing::mail;
+use node_core::{Served, turn};
+use node_memory::Memory;
+use std::alloc::{AllocError, Global};
+use wire_msg::Input;
+
+// What a turn tells that did this. Fails where memory runs out.
+fn effects(alloc: Global, input: Input, served: Served) -> Result<Effects, AllocError>
+    requires { AllByRecursion HasSpelling served.sent }
+    ensures input { IfOk result (λ e. e.input ≡ input) }
+    ensures tells { IfOk result (λ e. (o : Outcome) (k : Kept) → Serves o k served → Tells o k e) }
+{
+    let Served { wrote, sent, ended } = served;
+    let sent = mail(alloc, sent)?;
+    let ended = finish(alloc, ended)?;
+    Ok(Effects {
+        input,
+        wrote,
+        sent,
+        ended,
+    })
+}
+
+// One turn in memory over what was read.
+#[tactic(auto, using(crate::proofs::TurnLaws::stores_so))]
+fn take(memory: &mut Memory, alloc: Global, input: &Input) -> Result<Served, AllocError>
+    requires { MayTake memory.old.place (kept_in memory.old) input.now }
+    ensures serves { IfOk result (λ served. Serves (turn_of memory.old.place (kept_in memory.old) input.now) (kept_in memory.new) served) }
+    ensures ready { OnOk result (IsReady memory.new.place (kept_in memory.new)) }
+    ensures follows { IfOk result (λ served. IfSome served.wrote (IsNext (stored_in memory.old))) }
+    ensures stored { IfOk result (λ served. IsButForAcks (stored_next (stored_in memory.old) served.wrote) (stored_in memory.new)) }
+    ensures place { memory.new.place ≡ memory.old.place }
+{
+    turns_store_their_records();
+    turn(memory, alloc, input)
+}
+
+/// One turn in memory: what it tells once its record stands. Fails where memory runs out.
+#[tactic(auto, using(crate::proofs::TurnLaws::sent_spelled, crate::proofs::TurnLaws::wrote_as))]
+pub(crate) fn decide(
+    memory: &mut Memory,
+    alloc: Global,
+    incoming: Incoming,
+) -> Result<Effects, AllocError>
+    requires reads { (i : InputBy) × IsReadAs incoming i }
+    requires takes { (i : InputBy) → IsReadAs incoming i → MayTake memory.old.place (kept_in memory.old) i }
+    requires spelled { (i : InputBy) → IsReadAs incoming i → AllByRecursion HasSpelling (turn_of memory.old.place (kept_in memory.old) i).sent }
+    ensures input { IfOk result (λ e. IsReadAs incoming e.input) }
+    ensures tells { IfOk result (λ e. Tells (turn_of memory.old.place (kept_in memory.old) e.input) (kept_in memory.new) e) }
+    ensures ready { OnOk result (IsReady memory.new.place (kept_in memory.new)) }
+    ensures follows { IfOk result (λ e. IfSome e.wrote (IsNext (stored_in memory.old))) }
+    ensures stored { IfOk result (λ e. IsButForAcks (stored_next (stored_in memory.old) e.wrote) (stored_in memory.new)) }
+    ensures place { memory.new.place ≡ memory.old.place }
+{
+    let input = read(alloc, incoming)?;
+    let served = take(memory, alloc, &input)?;
+    effects(alloc, input, served)
+}
