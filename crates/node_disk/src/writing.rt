@@ -29,8 +29,8 @@ fn halted(wrote: Option<RedoRecord>) -> TurnErr
     }
 }
 
-// The turn has no record: the disk is left alone.
-fn leave<D: Disk>(log: &RecordLog<D>)
+/// The disk is left alone.
+pub(crate) fn leave<D: Disk>(log: &RecordLog<D>)
     requires { IsOnly (D.content (disk_of log.now)) (D.images (disk_of log.now)) }
     ensures { (rs : List RedoRecordBy) → HoldRecords rs (D.content (disk_of log.now))
         → AtEachMoment D.moment D.images_since (disk_of log.now) (disk_of log.now) (HoldRecords rs) }
