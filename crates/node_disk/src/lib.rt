@@ -14,6 +14,7 @@ mod laws;
 mod mailing;
 mod making;
 mod node;
+mod starting;
 mod writing;
 
 pub use effects::{Effects, Ends, Mailed, Sent};

@@ -29,13 +29,21 @@ fn halted(wrote: Option<RedoRecord>) -> TurnErr
     }
 }
 
-/// The disk is left alone.
+/// A disk that is left alone: a crash leaves what it may leave now.
+pub(crate) fn stands_still<D: Disk>(disk: &D)
+    ensures { AtEachMoment D.moment D.images_since disk.now disk.now (D.images disk.now) }
+{
+    let _disk = disk;
+}
+
+/// The disk of a log is left alone: a crash leaves the records that it holds.
+#[tactic(auto, using(crate::proofs::MomentLaws::held_still))]
 pub(crate) fn leave<D: Disk>(log: &RecordLog<D>)
     requires { IsOnly (D.content (disk_of log.now)) (D.images (disk_of log.now)) }
     ensures { (rs : List RedoRecordBy) → HoldRecords rs (D.content (disk_of log.now))
         → AtEachMoment D.moment D.images_since (disk_of log.now) (disk_of log.now) (HoldRecords rs) }
 {
-    let _disk = log.disk();
+    stands_still(log.disk());
 }
 
 /// Puts the record of a turn on the disk, where there is one, and gives what the turn tells. All memory is taken before the disk
