@@ -98,7 +98,7 @@ pub ready_again : TurnsStayReady → (m n : Memory) (input : Input) (served : Se
     → IsReady n.place (kept_in n)
 ready_again law m n input served may serves place =
     subst (λ (p : Place). IsReady p (kept_in n)) (sym place)
-      (subst (λ (k : Kept). IsReady m.place k) (sym serves.after) (law m.place (kept_in m) input may.expected may.able.ready).0)
+    (subst (λ (k : Kept). IsReady m.place k) (sym serves.after) (law m.place (kept_in m) input may.expected may.able.ready).0)
 
 pub may_follow : TurnsStayReady → (m n : Memory) (input : Input) (served : Served) → MayTake m.place (kept_in m) input → Serves (turn_of m.place (kept_in m) input) (kept_in n) served
     → IfSome served.wrote (IsNext (stored_in m))

@@ -1,5 +1,5 @@
 -- A node that is made: it has no record, and then that of its first start.
-use Rattle.std.proofs.Common.{◌≡◌, ℕ, ◌+◌, List, [], ◌∷◌, ◌++◌, inl, inr, refl, sym, subst, tt}
+use Rattle.std.proofs.Common.{◌≡◌, ℕ, ◌+◌, List, [], ◌∷◌, ◌++◌, inl, inr, refl, sym, subst, tt, arith}
 use Rattle.block_disk.specs.Images.{AtEachMoment, IsOnly}
 use Rattle.redo_log.specs.Log.{MayBeBegun}
 use Rattle.redo_log.proofs.Moments.{followed_by}
@@ -41,6 +41,11 @@ unfolding stored_by
 stands_made m bytes hold kept = stands_started [] m bytes hold none_had kept
 
 module _ {D : Type 0} (moment : D → ℕ) (images_since : D → ℕ → List ℕ → Type 0) where
+  -- a disk with nothing on it that is left alone
+  pub may_be_empty : (disk : D) (images : List ℕ → Type 0) → IsOnly [] images → AtEachMoment moment images_since disk disk images → AtEachMoment moment images_since disk disk MayBeMade
+  may_be_empty disk images only own =
+      weaker moment images_since disk disk images MayBeMade own (λ image is. inl (subst MayBeBegun (sym (only image is)) (record { short = omega arith; empty = refl })))
+
   -- while the log is created
   pub may_be_begun : (old now : D) → AtEachMoment moment images_since old now MayBeBegun → AtEachMoment moment images_since old now MayBeMade
   may_be_begun old now own = weaker moment images_since old now MayBeBegun MayBeMade own (λ image may. inl may)

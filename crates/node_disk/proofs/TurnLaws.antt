@@ -19,11 +19,14 @@ use Rattle.node_core.specs.declared.served.Served.{Served}
 use Rattle.node_core.specs.Able.{MayTake}
 use Rattle.node_core.specs.Serves.{Serves}
 use Rattle.node_disk.specs.declared.effects.Effects.{Effects}
+use Rattle.node_disk.specs.declared.incoming.Incoming.{Incoming}
+use Rattle.node_disk.specs.Incoming.{read_as, IsReadAs, record_of}
 use Rattle.node_disk.specs.Effects.{Tells}
 use Rattle.node_disk.specs.Starts.{MayBeHad, IsStartable, IsButForAcks, stored_next}
 use Rattle.node_disk.specs.Laws.{TurnsStoreTheirRecords}
-use Rattle.node_disk.specs.OnDisk.{StandsOn, GrowsBy, MayStand}
+use Rattle.node_disk.specs.OnDisk.{IsSpellable, StandsOn, GrowsBy, MayStand}
 use Rattle.node_disk.proofs.StoreLaws.{but_for_both, next_but_for}
+use Rattle.node_disk.proofs.MomentLaws.{weaker}
 
 -- ---- one turn in memory
 
@@ -31,13 +34,30 @@ pub stores_so : TurnsStoreTheirRecords → (m n : Memory) (input : Input) (serve
     → IsButForAcks (stored_next (stored_in m) served.wrote) (stored_in n)
 stores_so law m n input served may serves =
     subst (λ (w : Option RedoRecord). IsButForAcks (stored_next (stored_in m) w) (stored_in n)) (sym serves.wrote)
-      (subst (λ (k : Kept). IsButForAcks (stored_next (stored_in m) (turn_of m.place (kept_in m) input).wrote) k.stored) (sym serves.after) (law m.place (kept_in m) input may.expected.fit))
+    (subst (λ (k : Kept). IsButForAcks (stored_next (stored_in m) (turn_of m.place (kept_in m) input).wrote) k.stored) (sym serves.after) (law m.place (kept_in m) input may.expected.fit))
 
 pub sent_spelled : (o : Outcome) (k : Kept) (served : Served) → Serves o k served → AllByRecursion HasSpelling o.sent → AllByRecursion HasSpelling served.sent
 sent_spelled o k served serves all = subst (λ (msgs : List Msg). AllByRecursion HasSpelling msgs) (sym serves.sent) all
 
-pub wrote_as : (o : Outcome) (j k : Kept) (served : Served) (e : Effects) → Serves o j served → Tells o k e → e.wrote ≡ served.wrote
-wrote_as o j k served e serves tells = tells.wrote ∙ sym serves.wrote
+pub wrote_spelled : (o : Outcome) (k : Kept) (e : Effects) → Tells o k e → IsSpellable o → IfSome e.wrote IsSpelled
+wrote_spelled o k e tells spellable = subst (λ (w : Option RedoRecord). IfSome w IsSpelled) (sym tells.wrote) spellable.wrote
+
+-- the record is that of what was served
+same_record : (o : Outcome) (j k : Kept) (served : Served) (e : Effects) → Serves o j served → Tells o k e → served.wrote ≡ e.wrote
+same_record o j k served e serves tells = serves.wrote ∙ sym tells.wrote
+
+pub follows_so : (s : Stored) (o : Outcome) (j k : Kept) (served : Served) (e : Effects) → Serves o j served → Tells o k e → IfSome served.wrote (IsNext s) → IfSome e.wrote (IsNext s)
+follows_so s o j k served e serves tells next = subst (λ (w : Option RedoRecord). IfSome w (IsNext s)) (same_record o j k served e serves tells) next
+
+pub stored_so : (s t : Stored) (o : Outcome) (j k : Kept) (served : Served) (e : Effects) → Serves o j served → Tells o k e → IsButForAcks (stored_next s served.wrote) t → IsButForAcks (stored_next s e.wrote) t
+stored_so s t o j k served e serves tells stores = subst (λ (w : Option RedoRecord). IsButForAcks (stored_next s w) t) (same_record o j k served e serves tells) stores
+
+-- what was read is what the turn is over
+pub tells_as : (p : Place) (k new : Kept) (i : Input) (e : Effects) → e.input ≡ i → Tells (turn_of p k i) new e → Tells (turn_of p k e.input) new e
+tells_as p k new i e is tells = subst (λ (j : Input). Tells (turn_of p k j) new e) (sym is) tells
+
+pub wrote_as : (p : Place) (k new : Kept) (incoming : Incoming) (i : Input) (e : Effects) → IsReadAs incoming i → Tells (turn_of p k i) new e → e.wrote ≡ record_of p k (read_as incoming)
+wrote_as p k new incoming i e read tells = tells.wrote ∙ ap (record_of p k) (sym read)
 
 -- ---- records
 
@@ -67,16 +87,6 @@ next_unnoted law s t r is next = law (with_rows s t.durable.kept) s.durable.kept
 -- ---- at each moment
 
 module _ {D : Type 0} (moment : D → ℕ) (images_since : D → ℕ → List ℕ → Type 0) where
-  weaker : (old now : D) (P Q : List ℕ → Type 0) → AtEachMoment moment images_since old now P → ((image : List ℕ) → P image → Q image) → AtEachMoment moment images_since old now Q
-  weaker old now P Q is follows = record {
-    later = is.later;
-    each = λ image since. follows image (is.each image since);
-    earlier = λ m image le since. elim (is.earlier m image le since) [
-      | inl before ↦ inl before
-      | inr here ↦ inr (follows image here)
-    ];
-  }
-
   startable_by : RowsDoNotMatter → (s : Stored) (rs : List RedoRecord) (w : Option RedoRecord) → MayBeHad rs → IsButForAcks (stored_by nothing_stored rs) s → IfSome w (IsNext s)
       → (image : List ℕ) → MayStand rs w image → IsStartable image
   startable_by law s rs None had is next image hold = (rs, (hold, had))
@@ -89,7 +99,7 @@ module _ {D : Type 0} (moment : D → ℕ) (images_since : D → ℕ → List �
   pub startable_while : RowsDoNotMatter → (old now : D) (before : List ℕ) (s : Stored) (w : Option RedoRecord) → StandsOn before s → IfSome w (IsNext s)
       → ((rs : List RedoRecord) → HoldRecords rs before → AtEachMoment moment images_since old now (MayStand rs w)) → AtEachMoment moment images_since old now IsStartable
   startable_while law old now before s w stands next moments =
-      weaker old now (MayStand stands.0 w) IsStartable (moments stands.0 stands.1.0) (startable_by law s stands.0 w stands.1.1.0 stands.1.1.1 next)
+      weaker moment images_since old now (MayStand stands.0 w) IsStartable (moments stands.0 stands.1.0) (startable_by law s stands.0 w stands.1.1.0 stands.1.1.1 next)
 
 -- ---- after the turn
 
@@ -104,6 +114,28 @@ stands_next law before now s t None stands next stores grows =
 stands_next law before now s t (Some r) stands next stores grows =
     let rs = stands.0 in
     let under = stored_by nothing_stored rs in
-    let next_stored : IsButForAcks (applied under r) t = but_for_both (applied under r) (applied s r) t (next_but_for under s (Some r) stands.1.1.1) stores in
-    (rs ++ r ∷ [], (grows rs stands.1.0, (had_next rs r stands.1.1.0 (next_unnoted law under s r stands.1.1.1 next),
-      subst (λ (x : Stored). IsButForAcks x t) (sym (stored_last nothing_stored rs r)) next_stored)))
+    let next_stored : IsButForAcks (applied under r) t = but_for_both (applied under r) (applied s r) t (next_but_for under s (Some r) stands.1.1.1) stores in (
+      rs ++ r ∷ [],
+      (
+        grows rs stands.1.0,
+        (
+          had_next rs r stands.1.1.0 (next_unnoted law under s r stands.1.1.1 next),
+          subst (λ (x : Stored). IsButForAcks x t) (sym (stored_last nothing_stored rs r)) next_stored,
+        ),
+      ),
+    )
+
+-- records that an image holds without the one of the turn
+may_stand : (rs : List RedoRecord) (w : Option RedoRecord) (image : List ℕ) → HoldRecords rs image → MayStand rs w image
+may_stand rs None image hold = hold
+may_stand rs (Some r) image hold = inl hold
+
+module _ {D : Type 0} (moment : D → ℕ) (images_since : D → ℕ → List ℕ → Type 0) where
+  -- a turn that wrote nothing
+  pub stand_still : (disk : D) (rs : List RedoRecord) (w : Option RedoRecord) → AtEachMoment moment images_since disk disk (HoldRecords rs) → AtEachMoment moment images_since disk disk (MayStand rs w)
+  stand_still disk rs w own = weaker moment images_since disk disk (HoldRecords rs) (MayStand rs w) own (may_stand rs w)
+
+  pub startable_still : (disk : D) (bytes : List ℕ) (s : Stored) → StandsOn bytes s → ((rs : List RedoRecord) → HoldRecords rs bytes → AtEachMoment moment images_since disk disk (HoldRecords rs))
+      → AtEachMoment moment images_since disk disk IsStartable
+  startable_still disk bytes s stands own =
+      weaker moment images_since disk disk (HoldRecords stands.0) IsStartable (own stands.0 stands.1.0) (λ image hold. (stands.0, (hold, stands.1.1.0)))

@@ -13,6 +13,8 @@ use Rattle.node_rules.specs.Records.{nothing_stored, stored_by}
 use Rattle.node_rules.specs.Turn.{turn_of}
 use Rattle.node_memory.specs.Parts.{stored_in, kept_in}
 use Rattle.node_disk.specs.declared.node.Node.{Node}
+use Rattle.node_disk.specs.declared.incoming.Incoming.{Incoming}
+use Rattle.node_disk.specs.Incoming.{read_as, record_of}
 use Rattle.node_disk.specs.Starts.{MayBeHad, IsButForAcks}
 
 -- the place of a node
@@ -70,3 +72,7 @@ calls_of (Some r) = 4
 abbrev pub writes_of : Option RedoRecord → ℕ
 writes_of None = 0
 writes_of (Some r) = 2
+
+-- the record that the turn of a node over this writes, where it writes one
+abbrev pub record_at : {D : Type 0} → Node D → Incoming → Option RedoRecord
+record_at node incoming = record_of (place_of node) (kept_of node) (read_as incoming)

@@ -10,9 +10,11 @@ ghost use Rattle.ready_laws.specs.Sound.{IsNext};
 ghost use Rattle.node_memory.specs.Parts.{stored_in, kept_in};
 ghost use Rattle.node_core.specs.Able.{MayTake};
 ghost use Rattle.node_core.specs.Serves.{Serves};
-ghost use Rattle.node_disk.specs.Incoming.{IsReadAs};
+ghost use Rattle.node_disk.specs.Incoming.{read_as, IsReadAs, record_of};
 ghost use Rattle.node_disk.specs.Effects.{Tells};
+ghost use Rattle.record_log.specs.Records.{IsSpelled};
 ghost use Rattle.node_disk.specs.Starts.{IsButForAcks, stored_next};
+ghost use Rattle.node_disk.specs.OnDisk.{IsSpellable};
 
 use crate::effects::Effects;
 use crate::finished::finish;
@@ -55,8 +57,25 @@ fn take(memory: &mut Memory, alloc: Global, input: &Input) -> Result<Served, All
     turn(memory, alloc, input)
 }
 
+// One turn in memory over what was read: what it tells once its record stands. Fails where memory runs out.
+#[tactic(auto, using(crate::proofs::TurnLaws::sent_spelled, crate::proofs::TurnLaws::wrote_spelled, crate::proofs::TurnLaws::follows_so, crate::proofs::TurnLaws::stored_so))]
+fn told(memory: &mut Memory, alloc: Global, input: Input) -> Result<Effects, AllocError>
+    requires takes { MayTake memory.old.place (kept_in memory.old) input }
+    requires spellable { IsSpellable (turn_of memory.old.place (kept_in memory.old) input) }
+    ensures input { IfOk result (λ e. e.input ≡ input) }
+    ensures tells { IfOk result (λ e. Tells (turn_of memory.old.place (kept_in memory.old) input) (kept_in memory.new) e) }
+    ensures spelled { IfOk result (λ e. IfSome e.wrote IsSpelled) }
+    ensures ready { OnOk result (IsReady memory.new.place (kept_in memory.new)) }
+    ensures follows { IfOk result (λ e. IfSome e.wrote (IsNext (stored_in memory.old))) }
+    ensures stored { IfOk result (λ e. IsButForAcks (stored_next (stored_in memory.old) e.wrote) (stored_in memory.new)) }
+    ensures place { memory.new.place ≡ memory.old.place }
+{
+    let served = take(memory, alloc, &input)?;
+    effects(alloc, input, served)
+}
+
 /// One turn in memory: what it tells once its record stands. Fails where memory runs out.
-#[tactic(auto, using(crate::proofs::TurnLaws::sent_spelled, crate::proofs::TurnLaws::wrote_as))]
+#[tactic(auto, using(crate::proofs::TurnLaws::tells_as, crate::proofs::TurnLaws::wrote_as))]
 pub(crate) fn decide(
     memory: &mut Memory,
     alloc: Global,
@@ -64,15 +83,16 @@ pub(crate) fn decide(
 ) -> Result<Effects, AllocError>
     requires reads { (i : InputBy) × IsReadAs incoming i }
     requires takes { (i : InputBy) → IsReadAs incoming i → MayTake memory.old.place (kept_in memory.old) i }
-    requires spelled { (i : InputBy) → IsReadAs incoming i → AllByRecursion HasSpelling (turn_of memory.old.place (kept_in memory.old) i).sent }
+    requires spellable { (i : InputBy) → IsReadAs incoming i → IsSpellable (turn_of memory.old.place (kept_in memory.old) i) }
     ensures input { IfOk result (λ e. IsReadAs incoming e.input) }
     ensures tells { IfOk result (λ e. Tells (turn_of memory.old.place (kept_in memory.old) e.input) (kept_in memory.new) e) }
+    ensures wrote { IfOk result (λ e. e.wrote ≡ record_of memory.old.place (kept_in memory.old) (read_as incoming)) }
+    ensures spelled { IfOk result (λ e. IfSome e.wrote IsSpelled) }
     ensures ready { OnOk result (IsReady memory.new.place (kept_in memory.new)) }
     ensures follows { IfOk result (λ e. IfSome e.wrote (IsNext (stored_in memory.old))) }
     ensures stored { IfOk result (λ e. IsButForAcks (stored_next (stored_in memory.old) e.wrote) (stored_in memory.new)) }
     ensures place { memory.new.place ≡ memory.old.place }
 {
     let input = read(alloc, incoming)?;
-    let served = take(memory, alloc, &input)?;
-    effects(alloc, input, served)
+    told(memory, alloc, input)
 }

@@ -14,20 +14,19 @@ ghost use Rattle.node_disk.specs.declared.err.TurnErr.TheVariants as turns;
 ghost use Rattle.node_disk.specs.Incoming.{IsReadAs};
 ghost use Rattle.node_disk.specs.Effects.{Tells, HaltsBy};
 ghost use Rattle.node_disk.specs.Starts.{IsStartable};
-ghost use Rattle.node_disk.specs.OnDisk.{place_of, kept_of, disk_of, turn_at, IsRunning, IsSpellable, GrowsBy, MayStand, calls_of, writes_of};
+ghost use Rattle.node_disk.specs.OnDisk.{place_of, kept_of, disk_of, turn_at, record_at, IsRunning, IsSpellable, GrowsBy, MayStand, calls_of, writes_of};
 
 use crate::deciding::decide;
 use crate::effects::Effects;
 use crate::err::TurnErr;
 use crate::incoming::Incoming;
-use crate::writing::write;
+use crate::writing::{unserved, write};
 use block_disk::Disk;
 use node_memory::Memory;
 use node_state::Lives;
-use ready_laws::records_follow;
 use record_log::RecordLog;
 use redo_record::KeptRows;
-use std::alloc::Global;
+use std::alloc::{AllocError, Global};
 
 /// A node: what it keeps in memory, and the log of its records on its disk.
 #[derive(Drop)]
@@ -43,7 +42,6 @@ impl<D: Disk> Node<D> {
     ///
     /// `Halted` where the disk failed while the record was appended. `NoMemory` where memory ran out, or the disk had no room, and
     /// then the disk is as it was. After an error the node takes no further turn.
-    #[tactic(auto, using(crate::proofs::TurnLaws::startable_while, crate::proofs::TurnLaws::stands_next))]
     pub fn turn(&mut self, incoming: Incoming) -> Result<Effects, TurnErr>
         requires running { IsRunning D.content D.images self.old }
         requires reads { (i : Input) × IsReadAs incoming i }
@@ -60,8 +58,8 @@ impl<D: Disk> Node<D> {
         ensures durable { OnOk result (IsOnly (D.content (disk_of self.new)) (D.images (disk_of self.new))) }
 
         // A crash at any moment leaves the records from before, with this one or without.
-        ensures any_moment { (i : Input) → IsReadAs incoming i → (rs : List RedoRecord) → HoldRecords rs (D.content (disk_of self.old))
-            → AtEachMoment D.moment D.images_since (disk_of self.old) (disk_of self.new) (MayStand rs (turn_at self.old i).wrote) }
+        ensures any_moment { (rs : List RedoRecord) → HoldRecords rs (D.content (disk_of self.old))
+            → AtEachMoment D.moment D.images_since (disk_of self.old) (disk_of self.new) (MayStand rs (record_at self.old incoming)) }
 
         // A node can start from what a crash leaves at any moment, whatever the turn answers.
         ensures startable { AtEachMoment D.moment D.images_since (disk_of self.old) (disk_of self.new) IsStartable }
@@ -70,13 +68,13 @@ impl<D: Disk> Node<D> {
         ensures running { OnOk result (IsRunning D.content D.images self.new) }
         ensures ready { OnOk result (IsReady (place_of self.new) (kept_of self.new)) }
 
-        ensures halted { (i : Input) → IsReadAs incoming i → IfErr result (HaltsBy (turn_at self.old i).wrote (Rose (D.faults (disk_of self.old)) (D.faults (disk_of self.new)))) }
+        ensures halted { IfErr result (HaltsBy (record_at self.old incoming) (Rose (D.faults (disk_of self.old)) (D.faults (disk_of self.new)))) }
         ensures later { D.faults (disk_of self.old) ≤ D.faults (disk_of self.new) }
         ensures unfailed { OnOk result (D.faults (disk_of self.new) ≡ D.faults (disk_of self.old)) }
 
         ensures calls { IfOk result (λ e. D.calls (disk_of self.new) ≡ count_after (calls_of e.wrote) (D.calls (disk_of self.old))) }
         ensures writes { IfOk result (λ e. D.writes (disk_of self.new) ≡ count_after (writes_of e.wrote) (D.writes (disk_of self.old))) }
-        ensures halted_calls { (i : Input) → IsReadAs incoming i → IfErr result (HaltsBy (turn_at self.old i).wrote (IsAppendCount (D.calls (disk_of self.old)) (D.calls (disk_of self.new)))) }
+        ensures halted_calls { IfErr result (HaltsBy (record_at self.old incoming) (IsAppendCount (D.calls (disk_of self.old)) (D.calls (disk_of self.new)))) }
 
         // Where memory runs out, the disk is as it was.
         ensures untouched { IsErrOf result turns.NoMemory → D.content (disk_of self.new) ≡ D.content (disk_of self.old) }
@@ -84,9 +82,10 @@ impl<D: Disk> Node<D> {
         ensures untouched_calls { IsErrOf result turns.NoMemory → D.calls (disk_of self.new) ≡ D.calls (disk_of self.old) }
         ensures untouched_writes { IsErrOf result turns.NoMemory → D.writes (disk_of self.new) ≡ D.writes (disk_of self.old) }
     {
-        records_follow();
-        let effects = decide(&mut self.memory, self.alloc, incoming)?;
-        write(&mut self.log, effects)
+        match decide(&mut self.memory, self.alloc, incoming) {
+            Ok(effects) => write(&mut self.log, effects),
+            Err(AllocError) => Err(unserved(&self.log)),
+        }
     }
 
     /// The rows of the branches that the node keeps.

@@ -26,7 +26,11 @@ use std::alloc::{AllocError, Global};
 
 /// What a node keeps after a start whose record is behind these. Fails where memory runs out.
 #[tactic(auto, using(crate::proofs::StartLaws::boot_may_follow, crate::proofs::StartLaws::started_so, crate::proofs::StartLaws::boot_so))]
-pub(crate) fn started(alloc: Global, place: Place, records: &[RedoRecord]) -> Result<Memory, AllocError>
+pub(crate) fn started(
+    alloc: Global,
+    place: Place,
+    records: &[RedoRecord],
+) -> Result<Memory, AllocError>
     requires had { MayBeHad records.now }
     requires boots { last_boot records.now + 1 < 2 ^ 32 }
     ensures kept { IfOk result (λ memory. kept_in memory ≡ start_of (records.now ++ next_boot records.now ∷ [])) }

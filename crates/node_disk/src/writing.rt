@@ -1,5 +1,5 @@
 //! The record of a turn is written.
-ghost use Rattle.std.specs.Prelude.{◌≡◌, ◌≤◌, List, Some, true, is_some, IfOk, IfErr, IfSome, OnOk, IsErrOf};
+ghost use Rattle.std.specs.Prelude.{◌≡◌, ◌≤◌, List, Option, Some, true, is_some, IfOk, IfErr, IfSome, OnOk, IsErrOf};
 ghost use Rattle.dtx_ports.specs.Causes.{Rose};
 ghost use Rattle.block_disk.specs.Images.{AtEachMoment, IsOnly};
 ghost use Rattle.redo_log.specs.Loads.{IsAppendCount};
@@ -10,11 +10,15 @@ ghost use Rattle.record_log.specs.Held.{HoldRecords};
 ghost use Rattle.record_log.specs.Log.{disk_of, IsIntact, IsUsable};
 ghost use Rattle.node_disk.specs.declared.err.TurnErr.TheVariants as turns;
 ghost use Rattle.node_disk.specs.Effects.{HaltsBy};
-ghost use Rattle.node_disk.specs.OnDisk.{GrowsBy, MayStand, calls_of, writes_of};
+ghost use Rattle.node_rules.specs.Kept.{Stored};
+ghost use Rattle.ready_laws.specs.Sound.{IsNext};
+ghost use Rattle.node_disk.specs.Starts.{IsStartable, IsButForAcks, stored_next};
+ghost use Rattle.node_disk.specs.OnDisk.{StandsOn, GrowsBy, MayStand, calls_of, writes_of};
 
 use crate::effects::Effects;
 use crate::err::TurnErr;
 use block_disk::Disk;
+use ready_laws::records_follow;
 use record_log::{AppendErr, RecordLog};
 use redo_record::RedoRecord;
 
@@ -46,12 +50,23 @@ pub(crate) fn leave<D: Disk>(log: &RecordLog<D>)
     stands_still(log.disk());
 }
 
+/// A turn for which there was no memory: the disk is as it was.
+#[tactic(auto, using(crate::proofs::TurnLaws::stand_still, crate::proofs::TurnLaws::startable_still))]
+pub(crate) fn unserved<D: Disk>(log: &RecordLog<D>) -> TurnErr
+    requires { IsOnly (D.content (disk_of log.now)) (D.images (disk_of log.now)) }
+    ensures why { result ≡ turns.NoMemory }
+    ensures any_moment { (w : Option RedoRecordBy) (rs : List RedoRecordBy) → HoldRecords rs (D.content (disk_of log.now))
+        → AtEachMoment D.moment D.images_since (disk_of log.now) (disk_of log.now) (MayStand rs w) }
+    ensures startable { (s : Stored) → StandsOn (D.content (disk_of log.now)) s → AtEachMoment D.moment D.images_since (disk_of log.now) (disk_of log.now) IsStartable }
+{
+    leave(log);
+    TurnErr::NoMemory
+}
+
 /// Puts the record of a turn on the disk, where there is one, and gives what the turn tells. All memory is taken before the disk
 /// is called.
-pub(crate) fn write<D: Disk>(
-    log: &mut RecordLog<D>,
-    effects: Effects,
-) -> Result<Effects, TurnErr>
+#[tactic(auto, using(crate::proofs::TurnLaws::startable_while, crate::proofs::TurnLaws::stands_next))]
+pub(crate) fn write<D: Disk>(log: &mut RecordLog<D>, effects: Effects) -> Result<Effects, TurnErr>
     requires usable { IsUsable D.content D.images log.old }
     requires intact { IsIntact log.old }
     requires durable { IsOnly (D.content (disk_of log.old)) (D.images (disk_of log.old)) }
@@ -67,6 +82,12 @@ pub(crate) fn write<D: Disk>(
     ensures any_moment { (rs : List RedoRecordBy) → HoldRecords rs (D.content (disk_of log.old))
         → AtEachMoment D.moment D.images_since (disk_of log.old) (disk_of log.new) (MayStand rs effects.wrote) }
 
+    // So a node can start from it, and after the turn the records say what the node stores.
+    ensures startable { (s : Stored) → StandsOn (D.content (disk_of log.old)) s → IfSome effects.wrote (IsNext s)
+        → AtEachMoment D.moment D.images_since (disk_of log.old) (disk_of log.new) IsStartable }
+    ensures stands { OnOk result ((s t : Stored) → StandsOn (D.content (disk_of log.old)) s → IfSome effects.wrote (IsNext s) → IsButForAcks (stored_next s effects.wrote) t
+        → StandsOn (D.content (disk_of log.new)) t) }
+
     ensures halted { IfErr result (HaltsBy effects.wrote (Rose (D.faults (disk_of log.old)) (D.faults (disk_of log.new)))) }
     ensures later { D.faults (disk_of log.old) ≤ D.faults (disk_of log.new) }
     ensures unfailed { OnOk result (D.faults (disk_of log.new) ≡ D.faults (disk_of log.old)) }
@@ -80,6 +101,7 @@ pub(crate) fn write<D: Disk>(
     ensures untouched_calls { IsErrOf result turns.NoMemory → D.calls (disk_of log.new) ≡ D.calls (disk_of log.old) }
     ensures untouched_writes { IsErrOf result turns.NoMemory → D.writes (disk_of log.new) ≡ D.writes (disk_of log.old) }
 {
+    records_follow();
     match &effects.wrote {
         None => {
             leave(log);
