@@ -1,9 +1,9 @@
 -- COMMIT in a session, by what its root is.
-use Rattle.std.proofs.Common.{◌≡◌, ℕ, List, Option, None, Some, IfSome, refl, ap, absurd, true}
+use Rattle.std.proofs.Common.{◌≡◌, ℕ, List, Option, None, Some, IfSome, refl, ap, true}
 use Rattle.tran_ids.specs.declared.branch.BranchId.{BranchId}
 use Rattle.node_rules.specs.Data.{Live}
 use Rattle.node_rules.specs.Data.phases
-use Rattle.node_rules.specs.Data.pending
+use Rattle.node_rules.specs.declared.session.PendingCall.TheVariants as pending
 use Rattle.node_rules.specs.Kept.{Kept, Deed, live_at, with_work, branch_at}
 use Rattle.node_rules.specs.Sessions.{with_call}
 use Rattle.node_rules.specs.Prepare.{collects, with_comment}

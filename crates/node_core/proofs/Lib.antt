@@ -1,2 +1,3 @@
 mod AbleLaws
 mod CommitLaws
+mod RefusedLaws

@@ -1,2 +1,3 @@
 pub mod Able
 pub mod Serves
+pub mod Refused

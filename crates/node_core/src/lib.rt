@@ -9,10 +9,12 @@ mod able;
 mod calls;
 mod committing;
 mod giving_up;
+mod laws;
 mod messages;
 mod recovery;
 mod served;
 mod turns;
 
+pub use laws::refused_calls_leave_all;
 pub use served::Served;
 pub use turns::turn;

@@ -8,11 +8,13 @@ ghost use Rattle.wire_msg.specs.declared.input.Input.TheVariants as inputs;
 ghost use Rattle.node_memory.specs.Parts.{stored_in, kept_in};
 ghost use Rattle.node_deeds.specs.Gives.{Gives};
 ghost use Rattle.node_core.specs.Able.{IsAble, MayTake};
+ghost use Rattle.node_core.specs.Refused.{IsRefused, LeavesAll};
 ghost use Rattle.node_core.specs.Serves.{Serves};
 
 use crate::Served;
 use crate::calls::read_turn;
 use crate::giving_up::give_up_turn;
+use crate::laws::refused_calls_leave_all;
 use crate::messages::kind_turn;
 use crate::recovery::recovery;
 use crate::served::stamped;
@@ -54,6 +56,7 @@ fn message_turn(memory: &mut Memory, alloc: Global, msg: &Msg) -> Result<Deed, A
 }
 
 // The messages of a deed that was done, and the rest of it.
+#[tactic(auto, using(crate::proofs::AbleLaws::told_so))]
 fn told(memory: &Memory, alloc: Global, deed: Deed) -> Result<Served, AllocError>
     ensures { IfOk result (λ served. (d : DeedByRules) → Gives d (kept_in memory.now) deed → Serves (outcome_of d) (kept_in memory.now) served) }
 {
@@ -87,14 +90,18 @@ fn take(memory: &mut Memory, alloc: Global, input: &Input) -> Result<Served, All
 /// One turn of a node that can take this input. It changes what the node keeps, and tells the record, the messages and the calls
 /// that end. The node is ready again afterwards, and the record may stand next behind those that it has. Fails where memory runs
 /// out, and for no other reason; nothing is promised then of what the node keeps, except its place.
-#[tactic(auto, using(crate::proofs::AbleLaws::ready_again, crate::proofs::AbleLaws::may_follow))]
+#[tactic(auto, using(crate::proofs::AbleLaws::ready_again, crate::proofs::AbleLaws::may_follow, crate::proofs::AbleLaws::refused_so))]
 pub fn turn(memory: &mut Memory, alloc: Global, input: &Input) -> Result<Served, AllocError>
     requires { MayTake memory.old.place (kept_in memory.old) input.now }
     ensures serves { IfOk result (λ served. Serves (turn_of memory.old.place (kept_in memory.old) input.now) (kept_in memory.new) served) }
     ensures ready { OnOk result (IsReady memory.new.place (kept_in memory.new)) }
     ensures follows { IfOk result (λ served. IfSome served.wrote (IsNext (stored_in memory.old))) }
+
+    // A call that is refused has changed no row and no lock, and writes no record.
+    ensures refused { IfOk result (λ served. IsRefused input.now served.ended → LeavesAll (kept_in memory.old) (turn_of memory.old.place (kept_in memory.old) input.now)) }
     ensures place { memory.new.place ≡ memory.old.place }
 {
+    refused_calls_leave_all();
     turns_stay_ready();
     take(memory, alloc, input)
 }

@@ -1,5 +1,5 @@
 -- A node that is made: it has no record, and then that of its first start.
-use Rattle.std.proofs.Common.{◌≡◌, ℕ, ◌+◌, List, [], ◌∷◌, ◌++◌, inl, inr, refl, sym, subst, tt, arith}
+use Rattle.std.proofs.Common.{◌≡◌, ℕ, ◌+◌, List, [], ◌∷◌, ◌++◌, inl, inr, refl, sym, subst, arith}
 use Rattle.block_disk.specs.Images.{AtEachMoment, IsOnly}
 use Rattle.redo_log.specs.Log.{MayBeBegun}
 use Rattle.redo_log.proofs.Moments.{followed_by}

@@ -1,5 +1,5 @@
 -- Bytes that are read as a message.
-use Rattle.std.proofs.Common.{◌≡◌, ℕ, List, Option, None, Some, refl, ap, absurd}
+use Rattle.std.proofs.Common.{◌≡◌, ℕ, List, Option, None, Some, refl, ap}
 use Rattle.std.specs.Prelude.{option_map}
 use Rattle.wire_msg.specs.declared.msg.Msg.{Msg}
 use Rattle.msg_codec.specs.Message.{message_of}
