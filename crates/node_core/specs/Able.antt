@@ -31,12 +31,12 @@ abbrev pub BringsScns : Input → Type 0
 BringsScns (inputs.Message m) = max m.scn (kind_scn m.kind) < 2 ^ 48 - 1
 BringsScns _ = Unit {0}
 
--- COMMIT of a live root ends its work
+-- a COMMIT comes to a live root while that works: none is pending, and nobody has sent it Prepare
 abbrev pub EndsWork : Kept → ℕ → Stmt → Type 0
 EndsWork k n (stmts.Commit comment) = IfSome (root_at k n) (λ x. x.live.phase ≡ phases.Working)
 EndsWork k n _ = Unit {0}
 
--- so does a call that is one
+-- so it is with a call that is one
 abbrev pub BringsCommit : Kept → Input → Type 0
 BringsCommit k (inputs.Call n (Some s)) = EndsWork k n s
 BringsCommit k _ = Unit {0}

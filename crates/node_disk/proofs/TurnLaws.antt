@@ -4,7 +4,6 @@ use Rattle.std.proofs.Common.{◌≡◌, ℕ, List, [], ◌∷◌, ◌++◌, Opt
 use Rattle.std.specs.Prelude.{IfSome}
 use Rattle.std.specs.List.{AllByRecursion}
 use Rattle.block_disk.specs.Images.{AtEachMoment}
-use Rattle.msg_codec.specs.Message.{HasSpelling}
 use Rattle.record_log.specs.Records.{IsSpelled}
 use Rattle.record_log.specs.Held.{HoldRecords}
 use Rattle.node_rules.specs.Data.{RedoRecord, Standing, Place, Input, Msg}
@@ -21,7 +20,7 @@ use Rattle.node_core.specs.Serves.{Serves}
 use Rattle.node_disk.specs.declared.effects.Effects.{Effects}
 use Rattle.node_disk.specs.declared.incoming.Incoming.{Incoming}
 use Rattle.node_disk.specs.Incoming.{read_as, IsReadAs, record_of}
-use Rattle.node_disk.specs.Effects.{Tells}
+use Rattle.node_disk.specs.Effects.{MayBeMailed, Tells}
 use Rattle.node_disk.specs.Starts.{MayBeHad, IsStartable, IsButForAcks, stored_next}
 use Rattle.node_disk.specs.Laws.{TurnsStoreTheirRecords}
 use Rattle.node_disk.specs.OnDisk.{IsSpellable, StandsOn, GrowsBy, MayStand}
@@ -36,8 +35,8 @@ stores_so law m n input served may serves =
     subst (λ (w : Option RedoRecord). IsButForAcks (stored_next (stored_in m) w) (stored_in n)) (sym serves.wrote)
     (subst (λ (k : Kept). IsButForAcks (stored_next (stored_in m) (turn_of m.place (kept_in m) input).wrote) k.stored) (sym serves.after) (law m.place (kept_in m) input may.expected.fit))
 
-pub sent_spelled : (o : Outcome) (k : Kept) (served : Served) → Serves o k served → AllByRecursion HasSpelling o.sent → AllByRecursion HasSpelling served.sent
-sent_spelled o k served serves all = subst (λ (msgs : List Msg). AllByRecursion HasSpelling msgs) (sym serves.sent) all
+pub sent_spelled : (o : Outcome) (k : Kept) (served : Served) → Serves o k served → AllByRecursion MayBeMailed o.sent → AllByRecursion MayBeMailed served.sent
+sent_spelled o k served serves all = subst (λ (msgs : List Msg). AllByRecursion MayBeMailed msgs) (sym serves.sent) all
 
 pub wrote_spelled : (o : Outcome) (k : Kept) (e : Effects) → Tells o k e → IsSpellable o → IfSome e.wrote IsSpelled
 wrote_spelled o k e tells spellable = subst (λ (w : Option RedoRecord). IfSome w IsSpelled) (sym tells.wrote) spellable.wrote

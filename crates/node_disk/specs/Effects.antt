@@ -1,5 +1,6 @@
 -- What a turn tells: its messages with their bytes, the calls that ended, and its record.
 use Rattle.std.specs.Prelude.{◌≡◌, List, map, Option, Some}
+use Rattle.msg_codec.specs.Fits.{KindFits}
 use Rattle.msg_codec.specs.Message.{msg_format}
 use Rattle.node_rules.specs.Data.{RedoRecord, Msg, Finished as FinishedByRules}
 use Rattle.node_rules.specs.Kept.{Kept, Outcome}
@@ -8,6 +9,10 @@ use Rattle.node_disk.specs.declared.effects.Effects.{Effects}
 use Rattle.node_disk.specs.declared.finished.Finished.{Finished}
 use Rattle.node_disk.specs.declared.err.TurnErr.{TurnErr}
 use Rattle.node_disk.specs.declared.err.TurnErr.TheVariants as errs
+
+-- the statement, the answer or the comment of a message has a spelling
+abbrev pub MayBeMailed : Msg → Type 0
+MayBeMailed m = KindFits m.kind
 
 -- a message with its bytes
 abbrev pub mailed : Msg → Mailed

@@ -2,7 +2,6 @@
 ghost use Rattle.std.specs.Prelude.{◌≡◌, IfOk, IfSome, OnOk};
 ghost use Rattle.std.specs.List.{AllByRecursion};
 ghost use Rattle.wire_msg.specs.declared.input.Input.{Input as InputBy};
-ghost use Rattle.msg_codec.specs.Message.{HasSpelling};
 ghost use Rattle.node_rules.specs.Kept.{Kept, Outcome};
 ghost use Rattle.node_rules.specs.Turn.{turn_of};
 ghost use Rattle.ready_laws.specs.Ready.{IsReady};
@@ -11,7 +10,7 @@ ghost use Rattle.node_memory.specs.Parts.{stored_in, kept_in};
 ghost use Rattle.node_core.specs.Able.{MayTake};
 ghost use Rattle.node_core.specs.Serves.{Serves};
 ghost use Rattle.node_disk.specs.Incoming.{read_as, IsReadAs, record_of};
-ghost use Rattle.node_disk.specs.Effects.{Tells};
+ghost use Rattle.node_disk.specs.Effects.{MayBeMailed, Tells};
 ghost use Rattle.record_log.specs.Records.{IsSpelled};
 ghost use Rattle.node_disk.specs.Starts.{IsButForAcks, stored_next};
 ghost use Rattle.node_disk.specs.OnDisk.{IsSpellable};
@@ -28,7 +27,7 @@ use wire_msg::Input;
 
 // What a turn tells that did this. Fails where memory runs out.
 fn effects(alloc: Global, input: Input, served: Served) -> Result<Effects, AllocError>
-    requires { AllByRecursion HasSpelling served.sent }
+    requires { AllByRecursion MayBeMailed served.sent }
     ensures input { IfOk result (λ e. e.input ≡ input) }
     ensures tells { IfOk result (λ e. (o : Outcome) (k : Kept) → Serves o k served → Tells o k e) }
 {
