@@ -4,7 +4,8 @@ use Rattle.std.proofs.Common.{◌≡◌, ℕ, ◌+◌, ◌<◌, ◌≤◌, ◌^�
 use Rattle.tran_ids.specs.declared.branch.BranchId.{BranchId}
 use Rattle.tran_ids.specs.Listed.{item_at}
 use Rattle.row_store.specs.Store.{is_in_doubt}
-use Rattle.node_rules.specs.Data.{Stmt, RedoRecord, Live, Msg, Place, Input, Finished}
+use Rattle.node_rules.specs.Data.{Stmt, RedoRecord, Live, Msg, Place, Input}
+use Rattle.node_rules.specs.declared.session.Finished.{Finished}
 use Rattle.node_rules.specs.Data.inputs
 use Rattle.node_rules.specs.Kept.{Kept, Deed as DeedByRules, live_id, live_at}
 use Rattle.node_rules.specs.Inputs.{IsSession}

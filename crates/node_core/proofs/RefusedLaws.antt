@@ -1,7 +1,8 @@
 -- A call that is refused in the turn in which it came changes no row and no lock, and writes no record.
 use Rattle.std.proofs.Common.{◌≡◌, ℕ, Bool, true, false, if◌then◌else◌, List, [], ◌∷◌, ◌++◌, find, length, unwrap_or, Option, None, Some, refl, ap}
 use Rattle.std.specs.Prelude.{is_none, Result, Ok, Err}
-use Rattle.node_rules.specs.Data.{Table, Stmt, Answer, Done, Refusal, BranchId, RedoRecord, Standing, Edge, Live, Walk, Act, Place, Finished}
+use Rattle.node_rules.specs.Data.{Table, Stmt, Answer, Done, Refusal, BranchId, RedoRecord, Standing, Edge, Live, Walk, Act, Place}
+use Rattle.node_rules.specs.declared.session.Finished.{Finished}
 use Rattle.node_rules.specs.Data.answers
 use Rattle.node_rules.specs.Data.dones
 use Rattle.node_rules.specs.Data.stmts

@@ -77,7 +77,7 @@ pub(crate) fn read_turn(
 ) -> Result<Deed, AllocError>
     requires able { IsAble memory.old.place (kept_in memory.old) }
     requires fit { IsSession session }
-    requires commit { (s : StmtBy) → option_copied statement.entry ≡ Some s → EndsWork (kept_in memory.old) session s }
+    requires commit { (s : StmtBy) → option_copied statement ≡ Some s → EndsWork (kept_in memory.old) session s }
     ensures gives { IfOk result (λ deed. Gives (read_turn_of memory.old.place (kept_in memory.old) session (option_copied statement.entry)) (kept_in memory.new) deed) }
     ensures place { memory.new.place ≡ memory.old.place }
 {

@@ -60,7 +60,8 @@ fn message_turn(memory: &mut Memory, alloc: Global, msg: &Msg) -> Result<Deed, A
 fn told(memory: &Memory, alloc: Global, deed: Deed) -> Result<Served, AllocError>
     ensures { IfOk result (λ served. (d : DeedByRules) → Gives d (kept_in memory.now) deed → Serves (outcome_of d) (kept_in memory.now) served) }
 {
-    stamped(alloc, memory.clock.now(), deed)
+    let served = stamped(alloc, memory.clock.now(), deed)?;
+    Ok(served)
 }
 
 // What comes to the node is done.

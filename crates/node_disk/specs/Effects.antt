@@ -2,7 +2,8 @@
 use Rattle.std.specs.Prelude.{◌≡◌, List, map, Option, Some}
 use Rattle.msg_codec.specs.Fits.{KindFits}
 use Rattle.msg_codec.specs.Message.{msg_format}
-use Rattle.node_rules.specs.Data.{RedoRecord, Msg, Finished as FinishedByRules}
+use Rattle.node_rules.specs.Data.{RedoRecord, Msg}
+use Rattle.node_rules.specs.declared.session.Finished.{Finished as FinishedByRules}
 use Rattle.node_rules.specs.Kept.{Kept, Outcome}
 use Rattle.node_disk.specs.declared.effects.Mailed.{Mailed}
 use Rattle.node_disk.specs.declared.effects.Effects.{Effects}
