@@ -53,7 +53,8 @@ fn take(memory: &mut Memory, alloc: Global, input: &Input) -> Result<Served, All
     ensures place { memory.new.place ≡ memory.old.place }
 {
     turns_store_their_records();
-    turn(memory, alloc, input)
+    let served = turn(memory, alloc, input)?;
+    Ok(served)
 }
 
 // One turn in memory over what was read: what it tells once its record stands. Fails where memory runs out.
@@ -70,7 +71,8 @@ fn told(memory: &mut Memory, alloc: Global, input: Input) -> Result<Effects, All
     ensures place { memory.new.place ≡ memory.old.place }
 {
     let served = take(memory, alloc, &input)?;
-    effects(alloc, input, served)
+    let tells = effects(alloc, input, served)?;
+    Ok(tells)
 }
 
 /// One turn in memory: what it tells once its record stands. Fails where memory runs out.
@@ -93,5 +95,6 @@ pub(crate) fn decide(
     ensures place { memory.new.place ≡ memory.old.place }
 {
     let input = read(alloc, incoming)?;
-    told(memory, alloc, input)
+    let effects = told(memory, alloc, input)?;
+    Ok(effects)
 }

@@ -30,7 +30,8 @@ fn first(alloc: Global, place: Place) -> Result<Memory, AllocError>
     ensures boot { IfOk result (λ memory. memory.boot ≡ 1) }
     ensures place { IfOk result (λ memory. memory.place ≡ place) }
 {
-    started(alloc, place, &[])
+    let memory = started(alloc, place, &[])?;
+    Ok(memory)
 }
 
 impl<D: Disk> Node<D> {
@@ -59,7 +60,10 @@ impl<D: Disk> Node<D> {
         starts_are_ready();
         match first(alloc, place) {
             Ok(memory) => match RecordLog::create(alloc, disk) {
-                Ok(log) => begin(alloc, memory, log),
+                Ok(log) => match begin(alloc, memory, log) {
+                    Ok(node) => Ok(node),
+                    Err(err) => Err(err),
+                },
                 Err(redo_log::MakeErr { disk, why }) => Err(MakeErr {
                     disk,
                     why: create_why(why),

@@ -109,7 +109,10 @@ fn begin_again<D: Disk>(
 {
     starts_are_ready();
     match started(alloc, place, records.as_slice()) {
-        Ok(memory) => begin(alloc, memory, log),
+        Ok(memory) => match begin(alloc, memory, log) {
+            Ok(node) => Ok(node),
+            Err(err) => Err(err),
+        },
         Err(AllocError) => {
             leave(&log);
             Err(MakeErr {
@@ -153,7 +156,10 @@ impl<D: Disk> Node<D> {
         ensures writes { IfOk result (λ node. D.writes (disk_of node) ≡ count_after 2 (D.writes disk)) }
     {
         match RecordLog::load(alloc, disk) {
-            Ok((log, records)) => begin_again(alloc, place, log, records),
+            Ok((log, records)) => match begin_again(alloc, place, log, records) {
+                Ok(node) => Ok(node),
+                Err(err) => Err(err),
+            },
             Err(LoadErr { disk, why }) => Err(MakeErr {
                 disk,
                 why: load_why(why),
