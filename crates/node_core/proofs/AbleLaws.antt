@@ -1,18 +1,18 @@
 -- A node that can take a turn meets the conditions of each handler, also once it has heard the message that comes, and is ready
 -- again after the turn.
-use Rattle.std.proofs.Common.{◌≡◌, ℕ, ◌+◌, ◌<◌, ◌≤◌, ◌^◌, List, length, is_some, Option, None, Some, IfSome, refl, ap, subst, sym, ◌∙◌, arith}
+use Rattle.std.proofs.Common.{◌≡◌, ℕ, ◌+◌, ◌<◌, ◌≤◌, ◌^◌, List, length, is_some, Option, None, Some, IfSome, refl, ap, subst, sym, arith}
 use Rattle.tran_ids.specs.declared.branch.BranchId.{BranchId}
 use Rattle.tran_ids.specs.Listed.{item_at}
 use Rattle.row_store.specs.Store.{is_in_doubt}
 use Rattle.node_rules.specs.Data.{Stmt, RedoRecord, Live, Msg, Place, Input}
 use Rattle.node_rules.specs.declared.session.Finished.{Finished}
 use Rattle.node_rules.specs.Data.inputs
-use Rattle.node_rules.specs.Kept.{Kept, Deed as DeedByRules, live_id, live_at}
+use Rattle.node_rules.specs.Kept.{Kept, live_id, live_at}
 use Rattle.node_rules.specs.Inputs.{IsSession}
 use Rattle.node_rules.specs.Sessions.{session_at}
 use Rattle.node_rules.specs.Calls.{next_child}
 use Rattle.node_rules.specs.Client.{new_root}
-use Rattle.node_rules.specs.Turn.{clock_raised_by, outcome_of, turn_of}
+use Rattle.node_rules.specs.Turn.{clock_raised_by, turn_of}
 use Rattle.ready_laws.specs.Shapes.{count_limit}
 use Rattle.ready_laws.specs.Ids.{LivesAreFree}
 use Rattle.ready_laws.specs.Ready.{IsReady, TurnsStayReady}
@@ -22,8 +22,6 @@ use Rattle.node_memory.specs.Parts.{stored_in, kept_in}
 use Rattle.node_commit.specs.Branches.{MayCommit, MayCommitWhereLive}
 use Rattle.node_calls.specs.Handled.{HasFewWith, HasNumbers, HasRoom, TakesStatement}
 use Rattle.node_calls.specs.Ready.{IsUsable, BranchesMayOpen, OpenedMayCome, RepliesMayCome, StatementsMayCome, TransactionsMayBegin}
-use Rattle.node_deeds.specs.declared.deed.Deed.{Deed}
-use Rattle.node_deeds.specs.Gives.{Gives}
 use Rattle.node_core.specs.declared.served.Served.{Served}
 use Rattle.node_core.specs.Able.{given_limit, IsAble, MayTake}
 use Rattle.node_core.specs.Refused.{LeavesAll, IsRefused, RefusedCallsLeaveAll}
@@ -109,10 +107,6 @@ pub may_follow : TurnsStayReady → (m n : Memory) (input : Input) (served : Ser
 may_follow law m n input served may serves =
     subst (λ (wrote : Option RedoRecord). IfSome wrote (IsNext (stored_in m))) (sym serves.wrote) (law m.place (kept_in m) input may.expected may.able.ready).1
 
--- the messages of a deed have the clock of the node after it
-pub told_so : (m : Memory) (scn : ℕ) (deed : Deed) (served : Served) → scn ≡ m.clock → ((d : DeedByRules) (k : Kept) → Gives d k deed → d.after.clock ≡ scn → Serves (outcome_of d) k served)
-    → (d : DeedByRules) → Gives d (kept_in m) deed → Serves (outcome_of d) (kept_in m) served
-told_so m scn deed served is stamped d gives = stamped d (kept_in m) gives (sym (ap (λ (k : Kept). k.clock) gives.after) ∙ sym is)
-
+-- a call that is refused
 pub refused_so : RefusedCallsLeaveAll → (p : Place) (k new : Kept) (input : Input) (served : Served) → Serves (turn_of p k input) new served → IsRefused input served.ended → LeavesAll k (turn_of p k input)
 refused_so law p k new input served serves refused = law p k input (subst (λ (ended : List Finished). IsRefused input ended) serves.ended refused)

@@ -1,3 +1,4 @@
 mod AbleLaws
 mod CommitLaws
 mod RefusedLaws
+mod ServedLaws

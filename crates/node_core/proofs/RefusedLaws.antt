@@ -9,14 +9,15 @@ use Rattle.node_rules.specs.Data.stmts
 use Rattle.node_rules.specs.Data.inputs
 use Rattle.node_rules.specs.Data.walks
 use Rattle.node_rules.specs.Data.acts
+use Rattle.node_rules.specs.declared.session.PendingCall.TheVariants as pending
 use Rattle.session_tree.specs.Tree.{step}
 use Rattle.prepare_phase.specs.Acts.{root_act, first_act_by}
 use Rattle.node_rules.specs.Names.{Way, Runs_here, Over, Through, Nowhere_to, way_of}
 use Rattle.node_rules.specs.Statement.{Ran, Refuses, Reads, Writes, node_after_run, after_run, answer_of_run, ran}
 use Rattle.node_rules.specs.Kept.{Kept, Deed, Branch}
-use Rattle.node_rules.specs.Sessions.{commit_is_pending, commit_complete, session_at, tran_refusal}
+use Rattle.node_rules.specs.Sessions.{commit_is_pending, commit_complete, session_at, tran_refusal, with_call}
 use Rattle.node_rules.specs.Calls.{answer_ends, answered, goes}
-use Rattle.node_rules.specs.Prepare.{act_turn, is_alone}
+use Rattle.node_rules.specs.Prepare.{act_turn, is_alone, collecting, with_comment, without_read_keys}
 use Rattle.node_rules.specs.Force.{branch_to_force, force_commit, force_rollback, may_purge, hides, purge}
 use Rattle.node_rules.specs.Client.{refuses, writes, begun, statement_by, statement_call, commit_by, rollback_by, is_used, is_link, call_turn, read_turn, root_at}
 use Rattle.node_rules.specs.Turn.{turn_of}
@@ -76,8 +77,8 @@ none_ends n says = let is : None ≡ Some (answers.Refused says.0) = told n [] s
 run_leaves : (k : Kept) (x : Branch) (t : Table) (r : Ran) (n : ℕ) → Says n (answered (node_after_run k x.live.me t r) (record x { live = after_run x.live r }) (answer_of_run r)).ended
     → Leaves k (answered (node_after_run k x.live.me t r) (record x { live = after_run x.live r }) (answer_of_run r))
 run_leaves k x t (Refuses refusal) n says = record { stored = refl; owns = refl; locks = refl; wrote = refl }
-run_leaves k x t (Reads rows keys) n says = let is : answers.Found rows ≡ answers.Refused says.0 = ends_so _ (answers.Found rows) x.live.parent n says in absurd cc
-run_leaves k x t (Writes d cs keys undo) n says = let is : answers.Did d (length cs) ≡ answers.Refused says.0 = ends_so _ (answers.Did d (length cs)) x.live.parent n says in absurd cc
+run_leaves k x t (Reads rows keys) n says = let is : answers.Found rows ≡ answers.Refused says.0 = ends_so (after_run x.live (Reads rows keys)) (answers.Found rows) x.live.parent n says in absurd cc
+run_leaves k x t (Writes d cs keys undo) n says = let is : answers.Did d (length cs) ≡ answers.Refused says.0 = ends_so (after_run x.live (Writes d cs keys undo)) (answers.Did d (length cs)) x.live.parent n says in absurd cc
 
 goes_leaves : (p : Place) (k : Kept) (x : Branch) (s : Stmt) (given : ℕ) (way : Way) (n : ℕ) → Says n (goes p k x s given way).ended → Leaves k (goes p k x s given way)
 goes_leaves p k x s given (Runs_here t) n says = run_leaves k x t (ran p k x.live.me s t) n says
@@ -134,7 +135,10 @@ acts_refuse_none k l acts.Abandon n first says = absurd first
 commit_leaves : (k : Kept) (n : ℕ) (comment : List ℕ) (code : Option ℕ) (root : Option Branch) → Says n (commit_by k n comment code root).ended → Leaves k (commit_by k n comment code root)
 commit_leaves k n comment code None says = absurd (did_not n n dones.Committed 0 says)
 commit_leaves k n comment (Some c) (Some x) says = record { stored = refl; owns = refl; locks = refl; wrote = refl }
-commit_leaves k n comment None (Some x) says = absurd (acts_refuse_none _ _ _ n (act_first _ _) says)
+commit_leaves k n comment None (Some x) says =
+    let begun_kept = without_read_keys (record k { sessions = with_call k.sessions n pending.Commit }) x.live.me in
+    let begun_live = collecting (with_comment x.live comment) true in
+    absurd (acts_refuse_none begun_kept begun_live (first_act_by begun_live true begun_live.edges) n (act_first begun_live begun_live.edges) says)
 
 -- ---- other statements
 

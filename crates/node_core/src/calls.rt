@@ -82,7 +82,10 @@ pub(crate) fn read_turn(
     ensures place { memory.new.place ≡ memory.old.place }
 {
     match statement {
-        None => refuse_text(alloc, session),
+        None => {
+            let deed = refuse_text(alloc, session)?;
+            Ok(deed)
+        }
         Some(statement) => call_turn(memory, alloc, session, statement),
     }
 }

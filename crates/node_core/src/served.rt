@@ -1,11 +1,13 @@
 //! What a turn does beside changing what the node keeps.
 ghost use Rattle.std.specs.Prelude.{◌≡◌, IfOk};
-ghost use Rattle.node_rules.specs.Kept.{Kept, Deed as DeedByRules};
+ghost use Rattle.node_rules.specs.Kept.{Deed as DeedByRules};
 ghost use Rattle.node_rules.specs.Turn.{outcome_of};
+ghost use Rattle.node_memory.specs.Parts.{kept_in};
 ghost use Rattle.node_deeds.specs.Gives.{Gives};
 ghost use Rattle.node_core.specs.Serves.{Serves};
 
 use node_deeds::{Deed, stamp};
+use node_memory::Memory;
 use node_rules::Ended;
 use redo_record::RedoRecord;
 use std::alloc::{AllocError, Global};
@@ -22,11 +24,13 @@ pub struct Served {
     pub ended: Ended,
 }
 
-// The messages of a deed get this clock. Fails where memory runs out.
-pub(crate) fn stamped(alloc: Global, scn: u64, deed: Deed) -> Result<Served, AllocError>
-    ensures { IfOk result (λ served. (d : DeedByRules) (k : Kept) → Gives d k deed → d.after.clock ≡ scn → Serves (outcome_of d) k served) }
+/// What a turn did, as it is told once its record stands: its messages get the clock of the node as it is now. Fails where memory
+/// runs out.
+#[tactic(auto, using(crate::proofs::ServedLaws::serves_so))]
+pub(crate) fn stamped(memory: &Memory, alloc: Global, deed: Deed) -> Result<Served, AllocError>
+    ensures { IfOk result (λ served. (d : DeedByRules) → Gives d (kept_in memory.now) deed → Serves (outcome_of d) (kept_in memory.now) served) }
 {
     let Deed { wrote, says, ended } = deed;
-    let sent = stamp(alloc, scn, says)?;
+    let sent = stamp(alloc, memory.clock.now(), says)?;
     Ok(Served { wrote, sent, ended })
 }

@@ -1,7 +1,6 @@
 //! One turn.
 ghost use Rattle.std.specs.Prelude.{◌≡◌, IfOk, IfSome, OnOk};
-ghost use Rattle.node_rules.specs.Kept.{Deed as DeedByRules};
-ghost use Rattle.node_rules.specs.Turn.{kind_scn as kind_scn_of, clock_raised_by, heard, deed_at, outcome_of, turn_of};
+ghost use Rattle.node_rules.specs.Turn.{kind_scn as kind_scn_of, clock_raised_by, heard, deed_at, turn_of};
 ghost use Rattle.ready_laws.specs.Ready.{IsReady};
 ghost use Rattle.ready_laws.specs.Sound.{IsNext};
 ghost use Rattle.wire_msg.specs.declared.input.Input.TheVariants as inputs;
@@ -55,15 +54,6 @@ fn message_turn(memory: &mut Memory, alloc: Global, msg: &Msg) -> Result<Deed, A
     kind_turn(memory, alloc, msg.from, msg.to, &msg.kind)
 }
 
-// The messages of a deed that was done, and the rest of it.
-#[tactic(auto, using(crate::proofs::AbleLaws::told_so))]
-fn told(memory: &Memory, alloc: Global, deed: Deed) -> Result<Served, AllocError>
-    ensures { IfOk result (λ served. (d : DeedByRules) → Gives d (kept_in memory.now) deed → Serves (outcome_of d) (kept_in memory.now) served) }
-{
-    let served = stamped(alloc, memory.clock.now(), deed)?;
-    Ok(served)
-}
-
 // What comes to the node is done.
 #[tactic(auto, unfolding(node_rules::specs::Turn::turn_of))]
 fn take(memory: &mut Memory, alloc: Global, input: &Input) -> Result<Served, AllocError>
@@ -74,15 +64,15 @@ fn take(memory: &mut Memory, alloc: Global, input: &Input) -> Result<Served, All
     match input {
         Input::Call { session, statement } => {
             let deed = read_turn(memory, alloc, *session, statement.as_ref())?;
-            told(memory, alloc, deed)
+            stamped(memory, alloc, deed)
         }
         Input::GiveUp { session } => {
             let deed = give_up_turn(memory, alloc, *session)?;
-            told(memory, alloc, deed)
+            stamped(memory, alloc, deed)
         }
         Input::Message(msg) => {
             let deed = message_turn(memory, alloc, msg)?;
-            told(memory, alloc, deed)
+            stamped(memory, alloc, deed)
         }
         Input::Reco => recovery(memory, alloc),
     }

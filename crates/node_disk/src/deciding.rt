@@ -26,7 +26,7 @@ use std::alloc::{AllocError, Global};
 use wire_msg::Input;
 
 // What a turn tells that did this. Fails where memory runs out.
-fn effects(alloc: Global, input: Input, served: Served) -> Result<Effects, AllocError>
+fn tell(alloc: Global, input: Input, served: Served) -> Result<Effects, AllocError>
     requires { AllByRecursion MayBeMailed served.sent }
     ensures input { IfOk result (λ e. e.input ≡ input) }
     ensures tells { IfOk result (λ e. (o : Outcome) (k : Kept) → Serves o k served → Tells o k e) }
@@ -71,7 +71,7 @@ fn told(memory: &mut Memory, alloc: Global, input: Input) -> Result<Effects, All
     ensures place { memory.new.place ≡ memory.old.place }
 {
     let served = take(memory, alloc, &input)?;
-    let tells = effects(alloc, input, served)?;
+    let tells = tell(alloc, input, served)?;
     Ok(tells)
 }
 

@@ -29,7 +29,7 @@ impl Finished {
     }
 }
 
-fn finished(call: Call) -> Finished
+fn ended_call(call: Call) -> Finished
     ensures { call_of result ≡ call }
 {
     Finished { call }
@@ -42,7 +42,7 @@ pub(crate) fn finish(alloc: Global, ended: Ended) -> Result<Ends, AllocError>
     let calls = ended.into_vec();
     let mut ends = Vec::with_capacity(alloc, calls.len())?;
     for call in calls {
-        ends.push(finished(call))?;
+        ends.push(ended_call(call))?;
     }
     Ok(Listing::of(ends))
 }
