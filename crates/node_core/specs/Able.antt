@@ -1,5 +1,5 @@
 -- What a node needs for its next turn.
-use Rattle.std.specs.Prelude.{◌≡◌, ℕ, ◌-◌, ◌^◌, ◌<◌, ◌≤◌, length, max, Some, IfSome}
+use Rattle.std.specs.Prelude.{◌≡◌, ℕ, ◌-◌, ◌^◌, ◌<◌, ◌≤◌, length, max, IfSome}
 use Rattle.std.specs.List.{AllByRecursion}
 use Rattle.dtx_values.specs.Limits.{link_limit, node_limit}
 use Rattle.node_rules.specs.Data.{Stmt, Place, Input}
@@ -38,7 +38,7 @@ EndsWork k n _ = Unit {0}
 
 -- so it is with a call that is one
 abbrev pub BringsCommit : Kept → Input → Type 0
-BringsCommit k (inputs.Call n (Some s)) = EndsWork k n s
+BringsCommit k (inputs.Call n s) = IfSome s (EndsWork k n)
 BringsCommit k _ = Unit {0}
 
 -- A node that can take this in its next turn.

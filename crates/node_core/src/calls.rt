@@ -1,9 +1,8 @@
 //! The calls of clients, by the form of the statement.
-ghost use Rattle.std.specs.Prelude.{◌≡◌, Some, IfOk};
-ghost use Rattle.std.specs.Option.{option_copied};
-ghost use Rattle.sql_statement.specs.declared.statement.Stmt.{Stmt as StmtBy};
+ghost use Rattle.std.specs.Prelude.{◌≡◌, [], IfOk, IfSome};
 ghost use Rattle.node_rules.specs.Inputs.{IsSession};
-ghost use Rattle.node_rules.specs.Client.{begun, statement_call as statement_call_of, call_turn as call_turn_of, read_turn as read_turn_of};
+ghost use Rattle.node_rules.specs.Client.{refuses, begun, statement_call as statement_call_of, call_turn as call_turn_of, read_turn as read_turn_of};
+ghost use Rattle.node_rules.specs.Refusals.{ora};
 ghost use Rattle.node_memory.specs.Parts.{kept_in};
 ghost use Rattle.node_deeds.specs.Gives.{Gives};
 ghost use Rattle.node_core.specs.Able.{IsAble, EndsWork};
@@ -68,24 +67,29 @@ fn call_turn(
     }
 }
 
+// A text outside the grammar: ORA-00900.
+fn text_refused(memory: &Memory, alloc: Global, session: u32) -> Result<Deed, AllocError>
+    ensures gives { IfOk result (λ deed. Gives (refuses (kept_in memory.now) session (ora 900 [])) (kept_in memory.now) deed) }
+{
+    let deed = refuse_text(alloc, session)?;
+    Ok(deed)
+}
+
 /// A call of a client's session, ORA-00900 where its text is outside the grammar.
 pub(crate) fn read_turn(
     memory: &mut Memory,
     alloc: Global,
     session: u32,
-    statement: Option<&Stmt>,
+    statement: &Option<Stmt>,
 ) -> Result<Deed, AllocError>
     requires able { IsAble memory.old.place (kept_in memory.old) }
     requires fit { IsSession session }
-    requires commit { (s : StmtBy) → option_copied statement ≡ Some s → EndsWork (kept_in memory.old) session s }
-    ensures gives { IfOk result (λ deed. Gives (read_turn_of memory.old.place (kept_in memory.old) session (option_copied statement.entry)) (kept_in memory.new) deed) }
+    requires commit { IfSome statement.now (EndsWork (kept_in memory.old) session) }
+    ensures gives { IfOk result (λ deed. Gives (read_turn_of memory.old.place (kept_in memory.old) session statement.now) (kept_in memory.new) deed) }
     ensures place { memory.new.place ≡ memory.old.place }
 {
     match statement {
-        None => {
-            let deed = refuse_text(alloc, session)?;
-            Ok(deed)
-        }
+        None => text_refused(memory, alloc, session),
         Some(statement) => call_turn(memory, alloc, session, statement),
     }
 }

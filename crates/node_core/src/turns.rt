@@ -63,7 +63,7 @@ fn take(memory: &mut Memory, alloc: Global, input: &Input) -> Result<Served, All
 {
     match input {
         Input::Call { session, statement } => {
-            let deed = read_turn(memory, alloc, *session, statement.as_ref())?;
+            let deed = read_turn(memory, alloc, *session, statement)?;
             stamped(memory, alloc, deed)
         }
         Input::GiveUp { session } => {

@@ -1,6 +1,6 @@
 -- A turn on a disk: at each moment the disk holds records that a node can start from, and after the turn they say what the node
 -- stores.
-use Rattle.std.proofs.Common.{◌≡◌, ℕ, List, [], ◌∷◌, ◌++◌, Option, None, Some, inl, inr, refl, sym, subst, ap, ◌∙◌}
+use Rattle.std.proofs.Common.{◌≡◌, ℕ, List, [], ◌∷◌, ◌++◌, map, Option, None, Some, inl, inr, refl, sym, subst, ap, ◌∙◌}
 use Rattle.std.specs.Prelude.{IfSome}
 use Rattle.std.specs.List.{AllByRecursion}
 use Rattle.block_disk.specs.Images.{AtEachMoment}
@@ -20,7 +20,7 @@ use Rattle.node_core.specs.Serves.{Serves}
 use Rattle.node_disk.specs.declared.effects.Effects.{Effects}
 use Rattle.node_disk.specs.declared.incoming.Incoming.{Incoming}
 use Rattle.node_disk.specs.Incoming.{read_as, IsReadAs, record_of}
-use Rattle.node_disk.specs.Effects.{MayBeMailed, Tells}
+use Rattle.node_disk.specs.Effects.{MayBeMailed, mailed, call_of, Tells}
 use Rattle.node_disk.specs.Starts.{MayBeHad, IsStartable, IsButForAcks, stored_next}
 use Rattle.node_disk.specs.Laws.{TurnsStoreTheirRecords}
 use Rattle.node_disk.specs.OnDisk.{IsSpellable, StandsOn, GrowsBy, MayStand}
@@ -38,18 +38,22 @@ stores_so law m n input served may serves =
 pub sent_spelled : (o : Outcome) (k : Kept) (served : Served) → Serves o k served → AllByRecursion MayBeMailed o.sent → AllByRecursion MayBeMailed served.sent
 sent_spelled o k served serves all = subst (λ (msgs : List Msg). AllByRecursion MayBeMailed msgs) (sym serves.sent) all
 
-pub wrote_spelled : (o : Outcome) (k : Kept) (e : Effects) → Tells o k e → IsSpellable o → IfSome e.wrote IsSpelled
-wrote_spelled o k e tells spellable = subst (λ (w : Option RedoRecord). IfSome w IsSpelled) (sym tells.wrote) spellable.wrote
+pub tells_so : (o : Outcome) (k : Kept) (served : Served) (e : Effects) → Serves o k served → e.wrote ≡ served.wrote → e.sent ≡ map mailed served.sent → map call_of e.ended ≡ served.ended → Tells o k e
+tells_so o k served e serves wrote sent ended = record {
+  after = serves.after;
+  wrote = wrote ∙ serves.wrote;
+  sent = sent ∙ ap (λ (msgs : List Msg). map mailed msgs) serves.sent;
+  ended = ended ∙ serves.ended;
+}
 
--- the record is that of what was served
-same_record : (o : Outcome) (j k : Kept) (served : Served) (e : Effects) → Serves o j served → Tells o k e → served.wrote ≡ e.wrote
-same_record o j k served e serves tells = serves.wrote ∙ sym tells.wrote
+pub wrote_so : (o : Outcome) (k : Kept) (served : Served) (e : Effects) → Serves o k served → e.wrote ≡ served.wrote → IsSpellable o → IfSome e.wrote IsSpelled
+wrote_so o k served e serves wrote spellable = subst (λ (w : Option RedoRecord). IfSome w IsSpelled) (sym (wrote ∙ serves.wrote)) spellable.wrote
 
-pub follows_so : (s : Stored) (o : Outcome) (j k : Kept) (served : Served) (e : Effects) → Serves o j served → Tells o k e → IfSome served.wrote (IsNext s) → IfSome e.wrote (IsNext s)
-follows_so s o j k served e serves tells next = subst (λ (w : Option RedoRecord). IfSome w (IsNext s)) (same_record o j k served e serves tells) next
+pub follows_so : (s : Stored) (served : Served) (e : Effects) → e.wrote ≡ served.wrote → IfSome served.wrote (IsNext s) → IfSome e.wrote (IsNext s)
+follows_so s served e wrote next = subst (λ (w : Option RedoRecord). IfSome w (IsNext s)) (sym wrote) next
 
-pub stored_so : (s t : Stored) (o : Outcome) (j k : Kept) (served : Served) (e : Effects) → Serves o j served → Tells o k e → IsButForAcks (stored_next s served.wrote) t → IsButForAcks (stored_next s e.wrote) t
-stored_so s t o j k served e serves tells stores = subst (λ (w : Option RedoRecord). IsButForAcks (stored_next s w) t) (same_record o j k served e serves tells) stores
+pub stored_so : (s t : Stored) (served : Served) (e : Effects) → e.wrote ≡ served.wrote → IsButForAcks (stored_next s served.wrote) t → IsButForAcks (stored_next s e.wrote) t
+stored_so s t served e wrote stores = subst (λ (w : Option RedoRecord). IsButForAcks (stored_next s w) t) (sym wrote) stores
 
 -- what was read is what the turn is over
 pub tells_as : (p : Place) (k new : Kept) (i : Input) (e : Effects) → e.input ≡ i → Tells (turn_of p k i) new e → Tells (turn_of p k e.input) new e
