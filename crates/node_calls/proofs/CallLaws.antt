@@ -1,16 +1,16 @@
 -- A call that comes to a branch is run, answered again, or ignored.
 use Rattle.std.proofs.Common.{◌≡◌, ℕ, ◌+◌, ◌<◌, ◌^◌, List, [], Option, None, Some, refl, sym, ap, subst, ◌∙◌}
 use Rattle.tran_ids.specs.declared.branch.BranchId.{BranchId}
-use Rattle.tran_ids.specs.Listed.{item_at}
+use Rattle.tran_ids.specs.Listed.{item_at, put_item}
 use Rattle.tran_ids.proofs.ListedLemmas.{item_is}
 use Rattle.session_tree.specs.Live.{next_edge}
-use Rattle.node_rules.specs.Data.{Place, Live, Table, Stmt, Answer, Advice, Admit}
+use Rattle.node_rules.specs.Data.{Place, Live, Stmt, Answer, Advice, Admit}
 use Rattle.node_rules.specs.declared.work.Work.{Work}
 use Rattle.node_rules.specs.Data.admits
 use Rattle.node_rules.specs.Data.answers
 use Rattle.node_rules.specs.Data.kinds
 use Rattle.node_rules.specs.Names.{Way, Runs_here, Over, Through, Nowhere_to, passed_on, way_of}
-use Rattle.node_rules.specs.Kept.{Kept, Branch, Deed as DeedByRules, nothing, saying, post, live_id, branch_at, with_branch}
+use Rattle.node_rules.specs.Kept.{Kept, Branch, nothing, saying, post, live_id, branch_at, with_branch}
 use Rattle.node_rules.specs.Calls.{admit, answered, answered_sessions, answer_ends, answer_says, call_pends, exec_by, goes, next_call, nobody_at, on_exec, opens_through, says_again, statement_at, takes_call, waits_for_opened, with_answer}
 use Rattle.node_rules.specs.Statement.{after_run, answer_of_run, node_after_run, ran}
 use Rattle.node_state.specs.Changed.{change_item, with_item}
@@ -61,13 +61,16 @@ module _ (p : Place) (k : Kept) (b : BranchId) (l : Live) (is : item_at live_id 
   again_so deed at does = subst (λ d. Gives d k deed) (sym (by_number admits.Again at)) does
 
   -- a first one
-  pub run_so : (m after : Kept) (deed : Deed) → admit (work_of k.works b).came call ≡ admits.Run
-      → m ≡ record k { lives = change_item live_id (advised advice) k.lives b; works = change_work (with_call_taken call) k.works b }
-      → Gives (at_live m (λ x. statement_at p m x s given) (branch_at m b)) after deed → Gives (at_live k (λ x. on_exec p k x from call given advice s) (branch_at k b)) after deed
-  run_so m after deed at is_m does =
+  pub run_so : (lives : List Live) (works : List Work) (after : Kept) (deed : Deed) → admit (work_of k.works b).came call ≡ admits.Run
+      → lives ≡ change_item live_id (advised advice) k.lives b → works ≡ change_work (with_call_taken call) k.works b
+      → Gives (at_live (record k { lives = lives; works = works }) (λ x. statement_at p (record k { lives = lives; works = works }) x s given) (branch_at (record k { lives = lives; works = works }) b)) after deed
+      → Gives (at_live k (λ x. on_exec p k x from call given advice s) (branch_at k b)) after deed
+  run_so lives works after deed at is_lives is_works does =
+      let m : Kept = record k { lives = lives; works = works } in
       let x : Branch = takes_call (branch_here k b l) call advice in
       let put : m ≡ with_branch k x =
-      is_m ∙ ap (λ o. record k { lives = with_item live_id (advised advice) k.lives o; works = change_work (with_call_taken call) k.works b }) is in
+      ap (λ ls. record k { lives = ls; works = works }) (is_lives ∙ ap (with_item live_id (advised advice) k.lives) is)
+      ∙ ap (λ ws. record k { lives = put_item live_id k.lives x.live; works = ws }) is_works in
       let me : l.me ≡ b = item_is live_id k.lives b l is in
       let code : at_live m (λ y. statement_at p m y s given) (branch_at m b) ≡ statement_at p k x s given =
       ap (λ q. at_live q (λ y. statement_at p q y s given) (branch_at q b)) put

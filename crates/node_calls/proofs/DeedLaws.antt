@@ -1,15 +1,19 @@
 -- What a live branch does whose statement is answered, goes on, or waits for a link.
-use Rattle.std.proofs.Common.{◌≡◌, ℕ, ◌+◌, List, [], ◌∷◌, Option, None, Some, refl, sym, ap, subst, ◌∙◌}
+use Rattle.std.proofs.Common.{◌≡◌, ℕ, ◌+◌, List, [], ◌∷◌, Option, None, Some, sym, ap, subst, ◌∙◌}
 use Rattle.tran_ids.specs.declared.branch.BranchId.{BranchId}
 use Rattle.tran_ids.specs.Listed.{item_at, put_item}
 use Rattle.tran_ids.proofs.ListedLemmas.{item_is}
 use Rattle.session_tree.specs.Live.{next_edge, peer_of}
+use Rattle.link_session.specs.declared.reply.ReplyFields.{ReplyFields}
+use Rattle.reco.specs.declared.post.Post.{Post}
+use Rattle.node_rules.specs.declared.session.Session.{Session}
+use Rattle.node_rules.specs.declared.work.Work.{Work}
 use Rattle.node_rules.specs.Data.{Live, Answer, Stmt}
 use Rattle.node_rules.specs.Data.answers
 use Rattle.node_rules.specs.Data.dones
 use Rattle.node_rules.specs.Data.kinds
 use Rattle.node_rules.specs.declared.session.PendingCall.TheVariants as pending
-use Rattle.node_rules.specs.Kept.{Kept, Branch, Deed as DeedByRules, live_id, work_id, with_work, branch_at, without_branch, nothing, ending, post}
+use Rattle.node_rules.specs.Kept.{Kept, Deed as DeedByRules, live_id, work_id, with_work, branch_at, without_branch, nothing, ending, post}
 use Rattle.sql_check.specs.Words.{one}
 use Rattle.sql_check.specs.Refusals.{dtx}
 use Rattle.node_rules.specs.Sessions.{with_call, needs_rollback}
@@ -24,10 +28,24 @@ use Rattle.node_calls.specs.Handled.{at_live}
 use Rattle.node_calls.proofs.BranchLaws.{put_back, branch_here, somebody}
 
 -- a deed of the rules, from its parts
-pub gives_so : (d e : DeedByRules) (after : Kept) (deed : Deed) → d ≡ e → after ≡ e.after → deed ≡ record { wrote = e.wrote; says = e.says; ended = e.ended } → Gives d after deed
+gives_so : (d e : DeedByRules) (after : Kept) (deed : Deed) → d ≡ e → after ≡ e.after → deed ≡ record { wrote = e.wrote; says = e.says; ended = e.ended } → Gives d after deed
 gives_so d e after deed is new done = subst (λ x. Gives x after deed) (sym is) (record { after = new; wrote = ap (λ x. x.wrote) done; says = ap (λ x. x.says) done; ended = ap (λ x. x.ended) done })
 
+-- a deed that only sends messages, and one that only ends a call
+abbrev sends : List Post → Deed
+sends says = record { wrote = None; says = says; ended = [] }
+
+abbrev ends : ℕ → Answer → Deed
+ends n a = record { wrote = None; says = []; ended = (record { session = n; answer = a }) ∷ [] }
+
+-- what a node keeps with other calls and sessions
+abbrev with_calls : Kept → List Work → List Session → Kept
+with_calls k works sessions = record k { works = works; sessions = sessions }
+
 module _ (k : Kept) (b : BranchId) (l : Live) (is : item_at live_id k.lives b ≡ Some l) where
+  calls_so : (works ws : List Work) (sessions ss : List Session) → works ≡ ws → sessions ≡ ss → with_calls k works sessions ≡ with_calls k ws ss
+  calls_so works ws sessions ss same alike = ap (λ x. with_calls k x sessions) same ∙ ap (with_calls k ws) alike
+
   -- ---- an answer
 
   module _ (a : Answer) where
@@ -54,11 +72,12 @@ module _ (k : Kept) (b : BranchId) (l : Live) (is : item_at live_id k.lives b �
     client_answered after deed root new done = gives_so (at_live k (λ x. answered k x a) (branch_at k b)) (answered_by k.lives None) after deed (answered_so None root) new done
 
     -- below the root
-    pub parent_answered : (parent : BranchId) (after : Kept) (deed : Deed) → l.parent ≡ Some parent
-        → after ≡ record k { works = change_work (answered_with (Some (reply_fields l a))) k.works b }
-        → deed ≡ record { wrote = None; says = replies (branch_here k b l) parent (reply_fields l a); ended = [] } → Gives (at_live k (λ x. answered k x a) (branch_at k b)) after deed
-    parent_answered parent after deed at new done =
-        gives_so (at_live k (λ x. answered k x a) (branch_at k b)) (answered_by k.lives (Some parent)) after deed (answered_so (Some parent) at) new done
+    pub parent_answered : (parent : BranchId) (fields : ReplyFields) (says : List Post) (after : Kept) (deed : Deed) → l.parent ≡ Some parent → fields ≡ reply_fields l a
+        → says ≡ replies (branch_here k b l) parent fields → after ≡ record k { works = change_work (answered_with (Some fields)) k.works b } → deed ≡ sends says
+        → Gives (at_live k (λ x. answered k x a) (branch_at k b)) after deed
+    parent_answered parent fields says after deed at same said new done =
+        gives_so (at_live k (λ x. answered k x a) (branch_at k b)) (answered_by k.lives (Some parent)) after deed (answered_so (Some parent) at)
+        (new ∙ ap (λ f. record k { works = change_work (answered_with (Some f)) k.works b }) same) (done ∙ ap sends (said ∙ ap (replies (branch_here k b l) parent) same))
 
   -- ---- a statement that goes on
 
@@ -72,12 +91,13 @@ module _ (k : Kept) (b : BranchId) (l : Live) (is : item_at live_id k.lives b �
     }
 
     -- to a child
-    pub called_so : (i : ℕ) (after : Kept) (deed : Deed) → after ≡ record k { works = change_work (called_over i s given) k.works b; sessions = call_pends k.sessions l }
-        → deed ≡ record { wrote = None; says = exec_to k.sessions (branch_here k b l) i s given (peer_of l i); ended = [] }
-        → Gives (at_live k (λ x. calls_over k x i s given) (branch_at k b)) after deed
-    called_so i after deed new done =
-        gives_so (at_live k (λ x. calls_over k x i s given) (branch_at k b)) (called_by i k.lives) after deed
-        (somebody k b l (λ x. calls_over k x i s given) is ∙ ap (called_by i) (put_back live_id k.lives b l is)) new done
+    pub called_so : (i : ℕ) (says : List Post) (works : List Work) (sessions : List Session) (deed : Deed) → works ≡ change_work (called_over i s given) k.works b → sessions ≡ call_pends k.sessions l
+        → says ≡ exec_to k.sessions (branch_here k b l) i s given (peer_of l i) → deed ≡ sends says
+        → Gives (at_live k (λ x. calls_over k x i s given) (branch_at k b)) (with_calls k works sessions) deed
+    called_so i says works sessions deed w_is s_is said done =
+        gives_so (at_live k (λ x. calls_over k x i s given) (branch_at k b)) (called_by i k.lives) (with_calls k works sessions) deed
+        (somebody k b l (λ x. calls_over k x i s given) is ∙ ap (called_by i) (put_back live_id k.lives b l is))
+        (calls_so works (change_work (called_over i s given) k.works b) sessions (call_pends k.sessions l) w_is s_is) (done ∙ ap sends said)
 
     abbrev waits_by : ℕ → List ℕ → List Live → DeedByRules
     waits_by node link ls = record {
@@ -88,12 +108,14 @@ module _ (k : Kept) (b : BranchId) (l : Live) (is : item_at live_id k.lives b �
     }
 
     -- over a link that is used for the first time
-    pub opened_so : (node : ℕ) (link : List ℕ) (after : Kept) (deed : Deed) → after ≡ record k { works = change_work (waits_for_child link s given) k.works b; sessions = call_pends k.sessions l }
-        → deed ≡ record { wrote = None; says = post l.me (nobody_at node) (kinds.Open (next_edge l) l.root (l.depth + 1)); ended = [] }
-        → Gives (at_live k (λ x. opens_through k x node link s given) (branch_at k b)) after deed
-    opened_so node link after deed new done =
-        gives_so (at_live k (λ x. opens_through k x node link s given) (branch_at k b)) (waits_by node link k.lives) after deed
-        (somebody k b l (λ x. opens_through k x node link s given) is ∙ ap (waits_by node link) (put_back live_id k.lives b l is)) new done
+    pub opened_so : (node : ℕ) (link : List ℕ) (says : List Post) (works : List Work) (sessions : List Session) (deed : Deed) → works ≡ change_work (waits_for_child link s given) k.works b
+        → sessions ≡ call_pends k.sessions l → says ≡ post l.me (nobody_at node) (kinds.Open (next_edge l) l.root (l.depth + 1)) → deed ≡ sends says
+        → Gives (at_live k (λ x. opens_through k x node link s given) (branch_at k b)) (with_calls k works sessions) deed
+    opened_so node link says works sessions deed w_is s_is said done =
+        gives_so (at_live k (λ x. opens_through k x node link s given) (branch_at k b)) (waits_by node link k.lives) (with_calls k works sessions) deed
+        (somebody k b l (λ x. opens_through k x node link s given) is ∙ ap (waits_by node link) (put_back live_id k.lives b l is))
+        (calls_so works (change_work (waits_for_child link s given) k.works b) sessions (call_pends k.sessions l) w_is s_is)
+        (done ∙ ap sends said)
 
   -- ---- a statement that is given up
 
@@ -106,14 +128,16 @@ module _ (k : Kept) (b : BranchId) (l : Live) (is : item_at live_id k.lives b �
       ended = (record { session = n; answer = answers.Refused (dtx 3 (one (waited_link l (branch_here k b l).work.going))) }) ∷ [];
     }
 
-    pub given_up_so : (after : Kept) (deed : Deed)
-        → after ≡ record k { works = change_work given_up k.works b; sessions = needs_rollback (with_call k.sessions n pending.NoCall) n (dtx 3 []).code }
-        → deed ≡ record { wrote = None; says = []; ended = (record { session = n; answer = answers.Refused (dtx 3 (one (waited_link l (branch_here k b l).work.going))) }) ∷ [] }
-        → Gives (statement_given_up k n (branch_at k b)) after deed
-    given_up_so after deed new done =
-        gives_so (statement_given_up k n (branch_at k b)) (given_up_by k.lives) after deed
+    pub given_up_so : (a : Answer) (works : List Work) (idle sessions : List Session) (deed : Deed) → works ≡ change_work given_up k.works b → idle ≡ with_call k.sessions n pending.NoCall
+        → sessions ≡ needs_rollback idle n (dtx 3 []).code → a ≡ answers.Refused (dtx 3 (one (waited_link l (branch_here k b l).work.going))) → deed ≡ ends n a
+        → Gives (statement_given_up k n (branch_at k b)) (with_calls k works sessions) deed
+    given_up_so a works idle sessions deed w_is i_is s_is told done =
+        gives_so (statement_given_up k n (branch_at k b)) (given_up_by k.lives) (with_calls k works sessions) deed
         (ap (λ o. statement_given_up k n (with_work k o)) is
-        ∙ (ap (λ c. statement_given_up k n (Some (record { live = l; work = work_of k.works c }))) (item_is live_id k.lives b l is) ∙ ap given_up_by (put_back live_id k.lives b l is))) new done
+        ∙ (ap (λ c. statement_given_up k n (Some (record { live = l; work = work_of k.works c }))) (item_is live_id k.lives b l is) ∙ ap given_up_by (put_back live_id k.lives b l is)))
+        (calls_so works (change_work given_up k.works b) sessions (needs_rollback (with_call k.sessions n pending.NoCall) n (dtx 3 []).code) w_is
+        (s_is ∙ ap (λ ss. needs_rollback ss n (dtx 3 []).code) i_is))
+        (done ∙ ap (ends n) told)
 
     -- ---- a transaction that rolls back
 

@@ -5,9 +5,9 @@ use Rattle.tran_ids.specs.Listed.{item_at}
 use Rattle.row_locks.specs.Locks.{Lock}
 use Rattle.row_store.specs.Store.{Contents, used_extents}
 use Rattle.row_store.specs.declared.pending.Owned.{Owned}
-use Rattle.stmt_run.specs.Run.{Ground, locks_after, ran_over}
+use Rattle.stmt_run.specs.Run.{locks_after, ran_over}
 use Rattle.stmt_run.specs.Stored.{ground_in, owns_after as owns_after_store, store_after_run}
-use Rattle.node_rules.specs.Data.{Place, Live, Table, Stmt, Keyed, Answer}
+use Rattle.node_rules.specs.Data.{Live, Table, Stmt, Keyed, Answer}
 use Rattle.node_rules.specs.Kept.{Kept, live_id, branch_at}
 use Rattle.node_rules.specs.Names.{Runs_here, way_of}
 use Rattle.node_rules.specs.Calls.{answered, statement_at}

@@ -8,5 +8,5 @@ mod TableLaws
 mod CallLaws
 mod RootLaws
 mod TurnLaws
-mod TableDefined
+mod NameLaws
 mod ReadyLaws

@@ -1,12 +1,12 @@
 -- A branch whose new child is there goes on with what waited for it.
-use Rattle.std.proofs.Common.{◌≡◌, ◌×◌, ℕ, zero, suc, ◌+◌, ◌-◌, ◌==◌, ◌<◌, ◌^◌, Bool, true, false, if◌then◌else◌, List, [], ◌∷◌, ◌++◌, length, slice_get, unwrap_or, Option, None, Some, IfSome, refl, sym, ap, subst, ◌∙◌, arith}
+use Rattle.std.proofs.Common.{◌≡◌, ℕ, zero, suc, ◌+◌, ◌-◌, ◌==◌, ◌<◌, ◌^◌, Bool, true, false, if◌then◌else◌, List, [], ◌∷◌, ◌++◌, length, slice_get, unwrap_or, Option, None, Some, IfSome, refl, sym, ap, subst, ◌∙◌, arith}
 use Rattle.dtx_values.specs.Limits.{branch_limit}
 use Rattle.std.proofs.lemmas.Bool.Decides.{nat_tests}
 use Rattle.tran_ids.specs.declared.branch.BranchId.{BranchId}
-use Rattle.tran_ids.specs.Listed.{item_at}
+use Rattle.tran_ids.specs.Listed.{item_at, put_item}
 use Rattle.tran_ids.proofs.ListedLemmas.{item_is}
 use Rattle.session_tree.specs.Live.{add_edge, new_edge, next_edge}
-use Rattle.node_rules.specs.Data.{Live, Stmt}
+use Rattle.node_rules.specs.Data.{Edge, Live, Stmt}
 use Rattle.node_rules.specs.declared.work.Going.{Going}
 use Rattle.node_rules.specs.declared.work.Waits.{Waits}
 use Rattle.node_rules.specs.declared.work.Work.{Work}
@@ -50,7 +50,7 @@ number_is edge next None w found = absurd cc
 number_is edge next (Some g) w found = number_if edge next g w (edge == next) refl found
 
 -- the calls of a branch with one more child
-pub child_added : (ws : List Work) (b : BranchId) → work_of (change_work with_child ws b) b ≡ with_child (work_of ws b)
+child_added : (ws : List Work) (b : BranchId) → work_of (change_work with_child ws b) b ≡ with_child (work_of ws b)
 child_added ws b = calls_changed with_child (λ w. refl) ws b
 
 -- and each number stands for the same next call as before
@@ -105,19 +105,23 @@ module _ (k : Kept) (b : BranchId) (l : Live) (is : item_at live_id k.lives b �
   opened_ignored deed none does = subst (λ d. Gives d k deed) (sym (at_once ∙ ap (goes_if k it from strength) none)) does
 
   -- the branch with its new child, called
-  pub opened_so : (w : Waited) (m after : Kept) (deed : Deed) → waited_for edge (next_edge l) (work_of k.works b).going ≡ Some w
-      → m ≡ record k { lives = change_item live_id (λ y. add_edge y (new_edge from w.link strength)) k.lives b; works = change_work with_child k.works b }
-      → Gives (at_live m (λ x. calls_over m x edge w.statement (w.room - 1)) (branch_at m b)) after deed → Gives (at_live k (λ x. on_opened k x from edge strength) (branch_at k b)) after deed
-  opened_so w m after deed waits is_m does =
+  pub opened_so : (w : Waited) (e : Edge) (given : ℕ) (lives : List Live) (works : List Work) (after : Kept) (deed : Deed) → waited_for edge (next_edge l) (work_of k.works b).going ≡ Some w
+      → e ≡ new_edge from w.link strength → given ≡ w.room - 1 → lives ≡ change_item live_id (λ y. add_edge y e) k.lives b → works ≡ change_work with_child k.works b
+      → Gives (at_live (record k { lives = lives; works = works }) (λ x. calls_over (record k { lives = lives; works = works }) x edge w.statement given) (branch_at (record k { lives = lives; works = works }) b)) after deed
+      → Gives (at_live k (λ x. on_opened k x from edge strength) (branch_at k b)) after deed
+  opened_so w e given lives works after deed waits is_e is_given is_lives is_works does =
+      let m : Kept = record k { lives = lives; works = works } in
       let x = with_edge it (new_edge from w.link strength) in
       let put : m ≡ with_branch k x =
-      is_m ∙ ap (λ o. record k { lives = with_item live_id (λ y. add_edge y (new_edge from w.link strength)) k.lives o; works = change_work with_child k.works b }) is in
+      ap (λ ls. record k { lives = ls; works = works }) (is_lives ∙ ap (λ d. change_item live_id (λ y. add_edge y d) k.lives b) is_e ∙ ap (with_item live_id (λ y. add_edge y (new_edge from w.link strength)) k.lives) is)
+      ∙ ap (λ ws. record k { lives = put_item live_id k.lives x.live; works = ws }) is_works in
       let me : l.me ≡ b = item_is live_id k.lives b l is in
       let mine : x.work.branch ≡ x.live.me = work_branch k.works b ∙ sym me in
-      let called_so : at_live m (λ y. calls_over m y edge w.statement (w.room - 1)) (branch_at m b) ≡ calls_over k x edge w.statement (w.room - 1) =
-      ap (λ n. at_live n (λ y. calls_over n y edge w.statement (w.room - 1)) (branch_at n b)) put
+      let code : at_live m (λ y. calls_over m y edge w.statement given) (branch_at m b) ≡ calls_over k x edge w.statement (w.room - 1) =
+      ap (λ g. at_live m (λ y. calls_over m y edge w.statement g) (branch_at m b)) is_given
+      ∙ ap (λ n. at_live n (λ y. calls_over n y edge w.statement (w.room - 1)) (branch_at n b)) put
       ∙ ap (at_live (with_branch k x) (λ y. calls_over (with_branch k x) y edge w.statement (w.room - 1))) (found_changed k b x me mine)
       ∙ calls_again k x edge w.statement (w.room - 1) in
       let rules : at_live k (λ y. on_opened k y from edge strength) (branch_at k b) ≡ calls_over k x edge w.statement (w.room - 1) =
       at_once ∙ ap (goes_if k it from strength) waits ∙ ap (λ i. calls_over k x i w.statement (w.room - 1)) (sym (number_is edge (next_edge l) (work_of k.works b).going w waits)) in
-      subst (λ d. Gives d after deed) (called_so ∙ sym rules) does
+      subst (λ d. Gives d after deed) (code ∙ sym rules) does

@@ -1,5 +1,5 @@
 -- A ready node meets the conditions of the calls of this crate.
-use Rattle.std.proofs.Common.{◌≡◌, ℕ, zero, suc, ◌+◌, ◌*◌, ◌<◌, ◌≤◌, ◌^◌, List, [], ◌∷◌, length, slice_get, slice_set, unwrap_or, Option, None, Some, IfSome, refl, sym, subst, arith}
+use Rattle.std.proofs.Common.{◌≡◌, ℕ, zero, suc, ◌*◌, ◌<◌, ◌≤◌, ◌^◌, List, [], ◌∷◌, length, slice_get, slice_set, unwrap_or, Option, None, Some, IfSome, refl, arith}
 use Rattle.std.specs.Prelude.{sum_by}
 use Rattle.std.specs.List.{AllByRecursion}
 use Rattle.std.proofs.lemmas.List.Sums.{sum_by-cons}
@@ -15,7 +15,7 @@ use Rattle.node_rules.specs.declared.work.Waits.{Waits}
 use Rattle.node_rules.specs.declared.work.Waits.TheVariants as waiting
 use Rattle.node_rules.specs.Kept.{live_id}
 use Rattle.node_rules.specs.LiveBranches.{works_of}
-use Rattle.node_rules.specs.Sessions.{session_at, fresh_session}
+use Rattle.node_rules.specs.Sessions.{fresh_session}
 use Rattle.ready_laws.specs.Gives.{ChildrenAreFew, NextCallsAreWithin}
 use Rattle.ready_laws.specs.Ids.{NewIdsAreNew}
 use Rattle.ready_laws.specs.Names.{EmptyNameIsFree}
@@ -23,7 +23,7 @@ use Rattle.ready_laws.specs.Shapes.{count_limit, IsShaped, HasRoom as HasRoomSha
 use Rattle.node_state.specs.Lives.{as_told, heard, told}
 use Rattle.node_memory.specs.declared.memory.Memory.{Memory}
 use Rattle.node_memory.specs.Parts.{kept_in}
-use Rattle.node_calls.specs.Handled.{HasFew, HasFewWith, HasNumbers, HasRoom, HasRoomFor, HasRoomWhile, TakesStatement}
+use Rattle.node_calls.specs.Handled.{HasNumbers, HasRoomFor, HasRoomWhile}
 use Rattle.node_calls.specs.Ready.{IsUsable, BranchesMayOpen, OpenedMayCome, RepliesMayCome, StatementsMayCome, TransactionsMayBegin}
 
 -- ---- items by number

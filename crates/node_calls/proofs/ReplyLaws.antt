@@ -1,26 +1,33 @@
 -- A branch hears the Reply that it waits for, and its statement is answered.
-use Rattle.std.proofs.Common.{◌≡◌, ◌×◌, ℕ, Bool, true, false, if◌then◌else◌, List, [], Option, None, Some, refl, sym, ap, subst, ◌∙◌}
+use Rattle.std.proofs.Common.{◌≡◌, ℕ, Bool, true, false, if◌then◌else◌, List, Option, None, Some, refl, sym, ap, subst, ◌∙◌}
 use Rattle.tran_ids.specs.declared.branch.BranchId.{BranchId}
-use Rattle.tran_ids.specs.Listed.{item_at, put_item, set_numbered}
+use Rattle.tran_ids.specs.Listed.{item_at, put_item}
 use Rattle.tran_ids.proofs.ListedLemmas.{item_is, put_found}
 use Rattle.session_tree.specs.Live.{edge_at}
 use Rattle.node_rules.specs.Data.{Live, Edge, Answer}
+use Rattle.node_rules.specs.declared.session.Session.{Session}
 use Rattle.node_rules.specs.declared.work.Going.{Going}
 use Rattle.node_rules.specs.declared.work.Waits.{Waits}
 use Rattle.node_rules.specs.declared.work.Waits.TheVariants as waiting
 use Rattle.node_rules.specs.declared.work.Work.{Work}
-use Rattle.node_rules.specs.Kept.{Kept, Branch, Deed as DeedByRules, nothing, live_id, work_id, branch_at}
+use Rattle.node_rules.specs.Kept.{Kept, Branch, nothing, live_id, work_id, branch_at}
 use Rattle.node_rules.specs.Calls.{answered, answered_sessions, answer_ends, answer_says, heard_answer, heard_sessions, on_reply, reply_by, reply_edge, reply_going, reply_of, reply_waits, with_answer}
 use Rattle.node_state.specs.Changed.{change_item, with_item}
-use Rattle.node_state.specs.Lives.{heard, told, as_told}
+use Rattle.node_state.specs.Lives.{heard, told}
 use Rattle.node_state.specs.Works.{work_of}
 use Rattle.node_deeds.specs.declared.deed.Deed.{Deed}
 use Rattle.node_deeds.specs.Gives.{Gives}
 use Rattle.node_calls.specs.Handled.{at_live}
-use Rattle.node_calls.proofs.BranchLaws.{put_twice, branch_here, changed_there, somebody}
+use Rattle.node_calls.proofs.BranchLaws.{put_twice, branch_here, somebody}
 
-found_if : (x : Branch) (i j : ℕ) (e f : Edge) (hit : Bool) → edge_at x.live j ≡ Some f → (if hit then Some (j, f) else None) ≡ Some (i, e) → edge_at x.live i ≡ Some e
-found_if x i j e f true there found = let it : (j, f) ≡ (i, e) = cc in ap (edge_at x.live) (sym (ap (λ q. q.0) it)) ∙ there ∙ ap (λ q. Some q.1) it
+-- a child with its number
+abbrev at_number : ℕ → Edge → ℕ × Edge
+at_number i e = (i, e)
+
+found_if : (x : Branch) (i j : ℕ) (e f : Edge) (hit : Bool) → edge_at x.live j ≡ Some f → (if hit then Some (at_number j f) else None) ≡ Some (at_number i e) → edge_at x.live i ≡ Some e
+found_if x i j e f true there found =
+    let it : at_number j f ≡ at_number i e = cc in
+    ap (λ q. edge_at x.live q.0) (sym it) ∙ there ∙ ap (λ q. Some q.1) it
 found_if x i j e f false there found = absurd cc
 
 found_edge : (x : Branch) (from : BranchId) (call i j : ℕ) (e : Edge) (o : Option Edge) → edge_at x.live j ≡ o → reply_edge x from call j o ≡ Some (i, e) → edge_at x.live i ≡ Some e
@@ -40,11 +47,6 @@ reply_found : (x : Branch) (from : BranchId) (call i : ℕ) (e : Edge) → reply
 unfolding reply_of
 reply_found x from call i e found = found_going x from call i e x.work.going found
 
--- a branch that hears a Reply is there
-pub heard_there : (ls : List Live) (b : BranchId) (l : Live) (i : ℕ) (weight : Option ℕ) (count : ℕ) → item_at live_id ls b ≡ Some l
-    → item_at live_id (change_item live_id (heard i weight count) ls b) b ≡ Some (heard i weight count l)
-heard_there ls b l i weight count is = changed_there (heard i weight count) (λ x. refl) ls b l is
-
 -- a statement is answered the same where its branch was put in its place before
 pub answered_again : (k : Kept) (l : Live) (w : Work) (a : Answer) → answered (record k { lives = put_item live_id k.lives l }) (record { live = l; work = w }) a ≡ answered k (record { live = l; work = w }) a
 answered_again k l w a =
@@ -60,23 +62,26 @@ module _ (k : Kept) (b : BranchId) (l : Live) (is : item_at live_id k.lives b �
   reply_ignored deed none does = subst (λ d. Gives d k deed) (sym (at_once ∙ ap (reply_by k (branch_here k b l) weight count a) none)) does
 
   -- one that is
-  pub reply_so : (i : ℕ) (e : Edge) (m after : Kept) (deed : Deed) → reply_of (branch_here k b l) from call ≡ Some (i, e)
-      → m ≡ record k { lives = change_item live_id (heard i weight count) k.lives b; sessions = heard_sessions k.sessions l a }
-      → Gives (at_live m (λ x. answered m x (heard_answer l e.link a)) (branch_at m b)) after deed → Gives (at_live k (λ x. on_reply k x from call weight count a) (branch_at k b)) after deed
-  reply_so i e m after deed waits is_m does =
+  pub reply_so : (i : ℕ) (e : Edge) (result : Answer) (lives : List Live) (sessions : List Session) (after : Kept) (deed : Deed) → reply_of (branch_here k b l) from call ≡ Some (at_number i e)
+      → result ≡ heard_answer l e.link a → lives ≡ change_item live_id (heard i weight count) k.lives b → sessions ≡ heard_sessions k.sessions l a
+      → Gives (at_live (record k { lives = lives; sessions = sessions }) (λ x. answered (record k { lives = lives; sessions = sessions }) x result) (branch_at (record k { lives = lives; sessions = sessions }) b)) after deed
+      → Gives (at_live k (λ x. on_reply k x from call weight count a) (branch_at k b)) after deed
+  reply_so i e result lives sessions after deed waits is_result is_lives is_sessions does =
       let n : Kept = record k { sessions = heard_sessions k.sessions l a } in
-      let result : Answer = heard_answer l e.link a in
+      let m : Kept = record k { lives = lives; sessions = sessions } in
       let y : Live = heard i weight count l in
       let put : m ≡ record n { lives = put_item live_id k.lives y } =
-      is_m ∙ ap (λ o. record n { lives = with_item live_id (heard i weight count) k.lives o }) is in
+      ap (λ ls. record k { lives = ls; sessions = sessions }) (is_lives ∙ ap (with_item live_id (heard i weight count) k.lives) is)
+      ∙ ap (λ ss. record k { lives = put_item live_id k.lives y; sessions = ss }) is_sessions in
       let there : item_at live_id (put_item live_id k.lives y) b ≡ Some y =
       subst (λ c. item_at live_id (put_item live_id k.lives y) c ≡ Some y) (item_is live_id k.lives b l is) (put_found live_id k.lives y) in
-      let code : at_live m (λ x. answered m x result) (branch_at m b) ≡ answered n (record { live = y; work = work_of k.works b }) result =
+      let code : at_live m (λ x. answered m x result) (branch_at m b) ≡ answered n (record { live = y; work = work_of k.works b }) (heard_answer l e.link a) =
       ap (λ q. at_live q (λ x. answered q x result) (branch_at q b)) put
       ∙ somebody (record n { lives = put_item live_id k.lives y }) b y (λ x. answered (record n { lives = put_item live_id k.lives y }) x result) there
-      ∙ answered_again n y (work_of k.works b) result in
+      ∙ answered_again n y (work_of k.works b) result
+      ∙ ap (answered n (record { live = y; work = work_of k.works b })) is_result in
       let edge : edge_at l i ≡ Some e = reply_found (branch_here k b l) from call i e waits in
-      let rules : at_live k (λ x. on_reply k x from call weight count a) (branch_at k b) ≡ answered n (record { live = y; work = work_of k.works b }) result =
+      let rules : at_live k (λ x. on_reply k x from call weight count a) (branch_at k b) ≡ answered n (record { live = y; work = work_of k.works b }) (heard_answer l e.link a) =
       at_once ∙ ap (reply_by k (branch_here k b l) weight count a) waits
-      ∙ ap (λ es. answered n (record { live = record l { edges = es }; work = work_of k.works b }) result) (sym (ap (told i weight count l.edges) edge)) in
+      ∙ ap (λ es. answered n (record { live = record l { edges = es }; work = work_of k.works b }) (heard_answer l e.link a)) (sym (ap (told i weight count l.edges) edge)) in
       subst (λ d. Gives d after deed) (code ∙ sym rules) does

@@ -7,12 +7,11 @@ use Rattle.tran_ids.specs.Branch.{same}
 use Rattle.tran_ids.specs.Listed.{item_at}
 use Rattle.session_tree.specs.Tree.{count}
 use Rattle.node_rules.specs.Data.{Place, Live, Stmt}
-use Rattle.node_rules.specs.declared.session.Session.{Session}
 use Rattle.node_rules.specs.declared.work.Work.{Work}
 use Rattle.node_rules.specs.Ids.{decimal}
 use Rattle.node_rules.specs.Words.{one}
 use Rattle.node_rules.specs.Refusals.{ora}
-use Rattle.node_rules.specs.Kept.{Kept, Branch, Deed as DeedByRules, live_id, with_work, branch_at, nothing}
+use Rattle.node_rules.specs.Kept.{Kept, Branch, live_id, with_work, branch_at, nothing}
 use Rattle.node_rules.specs.Sessions.{session_at}
 use Rattle.node_rules.specs.Calls.{next_call, statement_at}
 use Rattle.node_rules.specs.Client.{begun, begun_lives, refuses, root_by, statement_by, statement_call}
@@ -28,11 +27,11 @@ use Rattle.node_calls.specs.Handled.{at_live, refuses_again, TakesStatement}
 -- ---- at the root of a session
 
 -- a session without a root
-pub rootless : (p : Place) (k : Kept) (n : ℕ) (s : Stmt) (after : Kept) (deed : Deed) → (session_at k.sessions n).root ≡ None → Gives (nothing k) after deed → Gives (statement_call p k n s) after deed
+rootless : (p : Place) (k : Kept) (n : ℕ) (s : Stmt) (after : Kept) (deed : Deed) → (session_at k.sessions n).root ≡ None → Gives (nothing k) after deed → Gives (statement_call p k n s) after deed
 rootless p k n s after deed none does = subst (λ d. Gives d after deed) (sym (ap (λ root. statement_by p k n s (session_at k.sessions n).code (root_by k root)) none)) does
 
 -- and one with a root
-pub rooted : (p : Place) (k : Kept) (n : ℕ) (s : Stmt) (root : BranchId) (after : Kept) (deed : Deed) → (session_at k.sessions n).root ≡ Some root
+rooted : (p : Place) (k : Kept) (n : ℕ) (s : Stmt) (root : BranchId) (after : Kept) (deed : Deed) → (session_at k.sessions n).root ≡ Some root
     → Gives (statement_by p k n s (session_at k.sessions n).code (branch_at k root)) after deed → Gives (statement_call p k n s) after deed
 rooted p k n s root after deed is does = subst (λ d. Gives d after deed) (sym (ap (λ o. statement_by p k n s (session_at k.sessions n).code (root_by k o)) is)) does
 
@@ -91,7 +90,7 @@ few_by p k n (Some root) b few = few
 few_by p k n None b few = holds_begun (λ l. count l < 2 ^ 16) _ b (omega arith) k.lives few
 
 -- a root that begins has told of no other branch
-pub few_begun : (p : Place) (k : Kept) (n : ℕ) (b : BranchId) → IfSome (item_at live_id k.lives b) (λ l. count l < 2 ^ 16)
+few_begun : (p : Place) (k : Kept) (n : ℕ) (b : BranchId) → IfSome (item_at live_id k.lives b) (λ l. count l < 2 ^ 16)
     → IfSome (item_at live_id (begun_lives p k n (session_at k.sessions n).root) b) (λ l. count l < 2 ^ 16)
 few_begun p k n b few = few_by p k n (session_at k.sessions n).root b few
 

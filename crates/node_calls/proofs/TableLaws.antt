@@ -1,6 +1,5 @@
 -- The table at which a statement runs has one key, its rows are kept, and the branch sees rows of it.
-use Rattle.std.proofs.Common.{◌≡◌, ℕ, true, List, Some}
-use Rattle.std.specs.List.{AllByRecursion}
+use Rattle.std.proofs.Common.{◌≡◌, ℕ, true}
 use Rattle.dtx_values.specs.declared.table.Table.{Table}
 use Rattle.tran_ids.specs.declared.branch.BranchId.{BranchId}
 use Rattle.sql_eval.specs.Laws.{has_one_key, AreRowsOf}

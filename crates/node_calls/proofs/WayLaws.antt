@@ -7,12 +7,12 @@ use Rattle.tran_ids.specs.declared.branch.BranchId.{BranchId}
 use Rattle.tran_ids.specs.Listed.{item_at, put_item}
 use Rattle.tran_ids.proofs.ListedLemmas.{item_is, put_found}
 use Rattle.session_tree.specs.Live.{edge_by_link}
-use Rattle.node_rules.specs.Data.{Place, Durable, Live, Table, Stmt, Answer, Refusal}
+use Rattle.node_rules.specs.Data.{Place, Durable, Live, Table, Stmt, Refusal}
 use Rattle.node_rules.specs.Data.answers
 use Rattle.node_rules.specs.Refusals.{ora, dtx}
 use Rattle.node_rules.specs.Names.{Named, A_table, Behind, Unknown, Way, Runs_here, Over, Through, Nowhere_to, named_by, passed_on, ref_of, target_of, way_edge, way_named, way_of, way_target}
 use Rattle.node_rules.specs.Kept.{Kept, Branch, Deed as DeedByRules, live_id, branch_at}
-use Rattle.node_rules.specs.Calls.{answered, calls_over, goes, opens_through, runs_here, statement_at}
+use Rattle.node_rules.specs.Calls.{answered, calls_over, goes, opens_through, statement_at}
 use Rattle.node_rules.specs.Statement.{Ran, after_run, answer_of_run, makes_changes, node_after_run, owns_after, ran, view}
 use Rattle.stmt_run.specs.Run.{locks_after}
 use Rattle.node_state.specs.Changed.{change_item, with_item}
@@ -38,15 +38,17 @@ module _ (p : Place) (k : Kept) (b : BranchId) (l : Live) (is : item_at live_id 
   refused_so r after deed at does = goes_so (Nowhere_to r) (λ x. answered k x (answers.Refused r)) after deed at refl does
 
   -- it goes to a child
-  pub over_so : (i : ℕ) (table : List ℕ) (after : Kept) (deed : Deed) → way_of p k.stored.durable l given s ≡ Over i table
-      → Gives (at_live k (λ x. calls_over k x i (passed_on s table) given) (branch_at k b)) after deed → Gives (at_live k (λ x. statement_at p k x s given) (branch_at k b)) after deed
-  over_so i table after deed at does = goes_so (Over i table) (λ x. calls_over k x i (passed_on s table) given) after deed at refl does
+  pub over_so : (i : ℕ) (table : List ℕ) (passed : Stmt) (after : Kept) (deed : Deed) → way_of p k.stored.durable l given s ≡ Over i table → passed ≡ passed_on s table
+      → Gives (at_live k (λ x. calls_over k x i passed given) (branch_at k b)) after deed → Gives (at_live k (λ x. statement_at p k x s given) (branch_at k b)) after deed
+  over_so i table passed after deed at same does =
+      goes_so (Over i table) (λ x. calls_over k x i passed given) after deed at (ap (λ t. calls_over k (branch_here k b l) i t given) (sym same)) does
 
   -- it opens a link
-  pub through_so : (node : ℕ) (link table : List ℕ) (after : Kept) (deed : Deed) → way_of p k.stored.durable l given s ≡ Through node link table
-      → Gives (at_live k (λ x. opens_through k x node link (passed_on s table) given) (branch_at k b)) after deed
-      → Gives (at_live k (λ x. statement_at p k x s given) (branch_at k b)) after deed
-  through_so node link table after deed at does = goes_so (Through node link table) (λ x. opens_through k x node link (passed_on s table) given) after deed at refl does
+  pub through_so : (node : ℕ) (link table to : List ℕ) (passed : Stmt) (after : Kept) (deed : Deed) → way_of p k.stored.durable l given s ≡ Through node link table → passed ≡ passed_on s table → to ≡ link
+      → Gives (at_live k (λ x. opens_through k x node to passed given) (branch_at k b)) after deed → Gives (at_live k (λ x. statement_at p k x s given) (branch_at k b)) after deed
+  through_so node link table to passed after deed at same is_link does =
+      goes_so (Through node link table) (λ x. opens_through k x node to passed given) after deed at
+      (ap (λ t. opens_through k (branch_here k b l) node link t given) (sym same) ∙ ap (λ n. opens_through k (branch_here k b l) node n passed given) (sym is_link)) does
 
   -- it runs here
   pub ran_so : (t : Table) (r : Ran) (m after : Kept) (deed : Deed) → way_of p k.stored.durable l given s ≡ Runs_here t → r ≡ ran p k b s t

@@ -1,5 +1,5 @@
 -- What a turn makes of a live branch of a node, and what a node needs where a statement comes to one.
-use Rattle.std.specs.Prelude.{◌≡◌, Bool, true, false, nat_lt, ℕ, ◌-◌, ◌<◌, ◌≤◌, ◌^◌, ◌==◌, if◌then◌else◌, [], length, Option, Some, None, IfSome}
+use Rattle.std.specs.Prelude.{◌≡◌, Bool, false, nat_lt, ℕ, ◌-◌, ◌<◌, ◌≤◌, ◌^◌, ◌==◌, if◌then◌else◌, [], length, Option, Some, None, IfSome}
 use Rattle.dtx_values.specs.Limits.{branch_limit, node_limit}
 use Rattle.tran_ids.specs.declared.branch.BranchId.{BranchId}
 use Rattle.tran_ids.specs.Listed.{item_at}

@@ -22,7 +22,7 @@ use std::alloc::{AllocError, Global};
 use tran_ids::BranchId;
 
 /// The statement at a live branch is answered. Nothing where it is not live.
-#[tactic(auto, using(crate::proofs::BranchLaws::nothing_so, crate::proofs::DeedLaws::client_answered, crate::proofs::DeedLaws::parent_answered))]
+#[tactic(auto, using(crate::proofs::BranchLaws::nothing_so))]
 pub(crate) fn answer(
     memory: &mut Memory,
     alloc: Global,

@@ -22,7 +22,7 @@ use tran_ids::BranchId;
 
 /// INSERT, UPDATE, DELETE or SELECT in a session, at its root: a session without a transaction begins one first. ORA-02067 where
 /// the transaction can only be rolled back. Nothing where the session's root is not live.
-#[tactic(auto, using(crate::proofs::RootLaws::rootless_in, crate::proofs::RootLaws::rooted_in, crate::proofs::RootLaws::takes_begun))]
+#[tactic(auto, using(crate::proofs::RootLaws::rootless_in, crate::proofs::RootLaws::rooted_in))]
 pub fn statement_call(
     memory: &mut Memory,
     alloc: Global,

@@ -26,7 +26,7 @@ use wire_msg::Kind;
 
 /// A statement of a live branch goes on to the child of a number, from 1, with the room that its own Exec carried. Nothing
 /// where the branch is not live.
-#[tactic(auto, using(crate::proofs::BranchLaws::nothing_so, crate::proofs::DeedLaws::called_so))]
+#[tactic(auto, using(crate::proofs::BranchLaws::nothing_so))]
 pub(crate) fn call_over(
     memory: &mut Memory,
     alloc: Global,
@@ -35,7 +35,7 @@ pub(crate) fn call_over(
     statement: Stmt,
     given: u16,
 ) -> Result<Deed, AllocError>
-    requires numbers { next_call (work_of memory.old.works branch.now) number < 2 ^ 32 }
+    requires { next_call (work_of memory.old.works branch.now) number < 2 ^ 32 }
     ensures gives { IfOk result (λ deed.
         Gives (at_live (kept_in memory.old) (λ x. calls_over (kept_in memory.old) x number statement given) (branch_at (kept_in memory.old) branch.now)) (kept_in memory.new) deed) }
     ensures place { memory.new.place ≡ memory.old.place }
@@ -43,7 +43,6 @@ pub(crate) fn call_over(
     let Some(live) = memory.lives.get(branch) else {
         return Ok(Deed::nothing(alloc));
     };
-    let passed = statement.copy(alloc)?;
     let says = exec_over(
         alloc,
         &memory.sessions,
@@ -51,7 +50,7 @@ pub(crate) fn call_over(
         branch,
         live,
         number,
-        passed,
+        &statement,
         given,
     )?;
     pend(&mut memory.sessions, live);
@@ -63,7 +62,7 @@ pub(crate) fn call_over(
 
 /// A link is used for the first time: Open goes to its node, and the statement of a live branch waits. Nothing where the
 /// branch is not live.
-#[tactic(auto, using(crate::proofs::BranchLaws::nothing_so, crate::proofs::DeedLaws::opened_so))]
+#[tactic(auto, using(crate::proofs::BranchLaws::nothing_so))]
 pub(crate) fn open_through(
     memory: &mut Memory,
     alloc: Global,
@@ -73,7 +72,7 @@ pub(crate) fn open_through(
     statement: Stmt,
     given: u16,
 ) -> Result<Deed, AllocError>
-    requires depth { IfSome (item_at live_id memory.old.lives branch.now) (λ live. live.depth < depth_limit) }
+    requires { IfSome (item_at live_id memory.old.lives branch.now) (λ live. live.depth < depth_limit) }
     ensures gives { IfOk result (λ deed.
         Gives (at_live (kept_in memory.old) (λ x. opens_through (kept_in memory.old) x node link statement given) (branch_at (kept_in memory.old) branch.now)) (kept_in memory.new) deed) }
     ensures place { memory.new.place ≡ memory.old.place }
@@ -117,16 +116,17 @@ fn exec_over(
     branch: &BranchId,
     live: &Live,
     number: u8,
-    statement: Stmt,
+    statement: &Stmt,
     given: u16,
 ) -> Result<Posts, AllocError>
     requires edges { length live.now.edges ≤ branch_limit }
     requires numbers { next_call (work_of works.now branch.now) number < 2 ^ 32 }
-    ensures { IfOk result (λ posts. posts ≡ exec_to sessions.now (branch_with live.now (work_of works.now branch.now)) number statement given (peer_of_number live.now number)) }
+    ensures { IfOk result (λ posts. posts ≡ exec_to sessions.now (branch_with live.now (work_of works.now branch.now)) number statement.now given (peer_of_number live.now number)) }
 {
     match peer_of(live, number) {
         None => Ok(Listing::new(alloc)),
         Some(peer) => {
+            let statement = statement.copy(alloc)?;
             let kind = Kind::Exec {
                 call: works.next_call(branch, number),
                 room: room(live, given),

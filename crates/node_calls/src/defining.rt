@@ -18,7 +18,7 @@ use std::alloc::{AllocError, Global};
 
 /// A text that no statement has: ORA-00900.
 pub fn refuse_text(alloc: Global, session: u32) -> Result<Deed, AllocError>
-    ensures { IfOk result (λ deed. (k : Kept) → Gives (refuses_of k session (ora 900 [])) k deed) }
+    ensures gives { IfOk result (λ deed. (k : Kept) → Gives (refuses_of k session (ora 900 [])) k deed) }
 {
     refuse(alloc, session, INVALID_SQL)
 }
@@ -31,7 +31,6 @@ fn refuse(alloc: Global, session: u32, code: u16) -> Result<Deed, AllocError>
 }
 
 /// CREATE TABLE, or ORA-00955 where a table or a synonym has the name.
-#[tactic(auto, using(crate::proofs::TableDefined::table_follows))]
 pub fn create_table(
     memory: &mut Memory,
     alloc: Global,

@@ -22,7 +22,7 @@ use tran_ids::BranchId;
 
 /// Exec at a live branch: a call that comes first is run, the last one is answered again once it was answered, and any other is
 /// ignored.
-#[tactic(auto, using(crate::proofs::BranchLaws::nothing_so, crate::proofs::CallLaws::ignored_so, crate::proofs::CallLaws::again_so, crate::proofs::CallLaws::run_so))]
+#[tactic(auto, using(crate::proofs::BranchLaws::nothing_so))]
 pub(crate) fn on_exec(
     memory: &mut Memory,
     alloc: Global,

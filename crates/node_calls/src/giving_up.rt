@@ -20,7 +20,7 @@ use tran_ids::BranchId;
 
 /// The statement of a session with this root is given up: DTX-03, which names the link that the root waits for. The transaction
 /// can only be rolled back from then on. Nothing where the root is not live.
-#[tactic(auto, using(crate::proofs::DeedLaws::given_up_so, crate::proofs::DeedLaws::none_given_up))]
+#[tactic(auto, using(crate::proofs::DeedLaws::none_given_up))]
 pub fn statement_given_up(
     memory: &mut Memory,
     alloc: Global,

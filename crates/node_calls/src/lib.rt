@@ -4,6 +4,7 @@
 //! - Statements of a client: `statement_call`, `rollback_by`, `advise`, `create_table`, `create_link`, `create_synonym`,
 //!   `set_recovery`, `refuse_text`; `statement_given_up` where it waits no more.
 //! - Messages: `on_open`, `opened_turn`, `exec_turn`, `reply_turn`.
+//! - A law: `ready_nodes_take_calls`, by which a ready node meets the conditions of all these.
 //!
 //! A live branch is looked up by its id, changed where it stands, and never copied. A handler changes what the node keeps, and
 //! tells what the turn does beside that. It fails where memory runs out, and then nothing is promised of what the node keeps

@@ -1,5 +1,5 @@
 //! A parent learns that its new child is there, and the statement that waited for it goes on.
-ghost use Rattle.std.specs.Prelude.{◌≡◌, ◌≤◌, length, IfOk};
+ghost use Rattle.std.specs.Prelude.{◌≡◌, ◌-◌, ◌≤◌, length, IfOk};
 ghost use Rattle.dtx_values.specs.Limits.{branch_limit};
 ghost use Rattle.session_tree.specs.Live.{new_edge as new_edge_of, next_edge as next_edge_of};
 ghost use Rattle.node_rules.specs.Kept.{branch_at};
@@ -31,7 +31,7 @@ pub(crate) struct Waited {
 }
 
 /// Opened at a live branch: the statement that waits for this child goes on to it. Any other Opened is ignored.
-#[tactic(auto, using(crate::proofs::BranchLaws::nothing_so, crate::proofs::OpenedLaws::opened_so, crate::proofs::OpenedLaws::opened_ignored, crate::proofs::OpenedLaws::child_added))]
+#[tactic(auto, using(crate::proofs::BranchLaws::nothing_so))]
 pub(crate) fn on_opened(
     memory: &mut Memory,
     alloc: Global,
@@ -60,8 +60,15 @@ pub(crate) fn on_opened(
     } = waited;
     memory.lives.add_edge(to, new_edge(from, link, strength))?;
     memory.works.add_edge(alloc, to)?;
-    let deed = call_over(memory, alloc, to, edge, statement, room.saturating_sub(1))?;
+    let deed = call_over(memory, alloc, to, edge, statement, one_less(room))?;
     Ok(deed)
+}
+
+// The room that is left once a child is there.
+fn one_less(room: u16) -> u16
+    ensures { result ≡ room - 1 }
+{
+    room.saturating_sub(1)
 }
 
 // The number of the next child.

@@ -30,7 +30,7 @@ pub(crate) struct Replier<'a> {
 
 /// Reply at a live branch: the one that is waited for is heard, and its result is the answer here too. Any other is ignored.
 /// Where a root hears that its child is gone, the answer names the link, and the transaction can only be rolled back.
-#[tactic(auto, using(crate::proofs::BranchLaws::nothing_so, crate::proofs::ReplyLaws::reply_so, crate::proofs::ReplyLaws::reply_ignored, crate::proofs::ReplyLaws::heard_there))]
+#[tactic(auto, using(crate::proofs::BranchLaws::nothing_so))]
 pub(crate) fn on_reply(
     memory: &mut Memory,
     alloc: Global,

@@ -16,7 +16,7 @@ use std::alloc::{AllocError, Global};
 use tran_ids::BranchId;
 
 /// Exec: a live branch takes the call, a kept one ignores it, and a gone one refuses it with DTX-08.
-#[tactic(auto, using(crate::proofs::TurnLaws::lives_so, crate::proofs::TurnLaws::exec_kept, crate::proofs::TurnLaws::exec_gone))]
+#[tactic(auto, using(crate::proofs::TurnLaws::exec_kept, crate::proofs::TurnLaws::exec_gone))]
 pub fn exec_turn(
     memory: &mut Memory,
     alloc: Global,
@@ -46,7 +46,6 @@ pub fn exec_turn(
 }
 
 /// Opened, which only a live branch hears.
-#[tactic(auto, using(crate::proofs::TurnLaws::opened_alike))]
 pub fn opened_turn(
     memory: &mut Memory,
     alloc: Global,
@@ -66,7 +65,6 @@ pub fn opened_turn(
 }
 
 /// Reply, which only a live branch hears.
-#[tactic(auto, using(crate::proofs::TurnLaws::reply_alike))]
 pub fn reply_turn(
     memory: &mut Memory,
     alloc: Global,
