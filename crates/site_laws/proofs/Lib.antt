@@ -1,0 +1,5 @@
+pub mod CalledLemmas
+pub mod WeighLemmas
+pub mod RestLemmas
+pub mod RestRunLemmas
+pub mod LeaveLemmas

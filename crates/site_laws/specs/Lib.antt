@@ -1,0 +1,3 @@
+pub mod WeighLaws
+pub mod RestLaws
+pub mod LeaveLaws
