@@ -39,10 +39,10 @@ use Rattle.site_laws.specs.RestLaws.{Rests, SameTree, LeavesAtRest}
 use Rattle.site_laws.specs.LeaveLaws.{LeavesSo, LeftSo}
 use Rattle.site_laws.proofs.LeaveLemmas.{all_quiet, was_there}
 use Rattle.site_laws.proofs.RestRunLemmas.{resting_stand_still}
-use Rattle.site_laws.proofs.TimeLemmas.{fact_at, born_end}
+use Rattle.site_laws.proofs.TimeLemmas.{Part, part_of, part_lawful, may_of, fact_at, born_end}
 
 -- who is among the live branches is found there
-among_found : (ls : List Live) (b : BranchId) → is_among b (map live_id ls) ≡ true → (l : Live) × (item_at live_id ls b ≡ Some l)
+pub among_found : (ls : List Live) (b : BranchId) → is_among b (map live_id ls) ≡ true → (l : Live) × (item_at live_id ls b ≡ Some l)
 among_found [] b is = absurd cc
 among_found (x ∷ ls) b is = by (same x.me b) refl is (among_found ls b)
   where
@@ -246,21 +246,26 @@ module _ (t : History) where
         fate_by h may k y up found rests (λ j there w is me. as_before hs h lawful may k y up found rests j (node_back hs h not y.live.me.node j there w is) w is me)
         (λ x is other. absurd (other (drops_alone hs h not y.live.me x (none hs h lawful may k y up found rests) is)))
 
-    module _ (still : (u : Turn) → MayHappen t.places t.commands (f_at t hs) (happenings.Turn u) → LeavesStill t.places (f_at t hs) (happenings.Turn u) × LeavesAtRest t.places (f_at t hs) (happenings.Turn u)) where
-      -- each happening
-      pub fate : (h : Happening) → MayHappen t.places t.commands (f_at t hs) h → (k : Kept) (y : Branch) → node_at (f_at t hs) y.live.me.node ≡ Some k → branch_at k y.live.me ≡ Some y
-          → (y.live.phase ≡ phases.Working → Rests (said_in (f_at t hs)) y.live.me y.live.parent y.work) → Fate hs h y
-      fate (happenings.Turn u) may k y up found rests =
-          let so = still u may in
-          fate_by (happenings.Turn u) may k y up found rests (turn_lives hs u lawful may k y up found rests so.0 so.1) (turn_left hs u lawful may k y up found rests)
-      fate (happenings.Stopped m) may k y up found rests = fate_apart (happenings.Stopped m) (λ u is. absurd cc) may k y up found rests
-      fate (happenings.Started m boot) may k y up found rests = fate_apart (happenings.Started m boot) (λ u is. absurd cc) may k y up found rests
-      fate (happenings.Begun x) may k y up found rests = fate_apart (happenings.Begun x) (λ u is. absurd cc) may k y up found rests
-      fate (happenings.Cut a b) may k y up found rests = fate_apart (happenings.Cut a b) (λ u is. absurd cc) may k y up found rests
-      fate (happenings.Join a b) may k y up found rests = fate_apart (happenings.Join a b) (λ u is. absurd cc) may k y up found rests
-      fate (happenings.Lost n) may k y up found rests = fate_apart (happenings.Lost n) (λ u is. absurd cc) may k y up found rests
+    -- each happening
+    pub fate : (h : Happening) → ((u : Turn) → h ≡ happenings.Turn u → LeavesStill t.places (f_at t hs) h × LeavesAtRest t.places (f_at t hs) h) → MayHappen t.places t.commands (f_at t hs) h → (k : Kept) (y : Branch)
+        → node_at (f_at t hs) y.live.me.node ≡ Some k → branch_at k y.live.me ≡ Some y → (y.live.phase ≡ phases.Working → Rests (said_in (f_at t hs)) y.live.me y.live.parent y.work) → Fate hs h y
+    fate (happenings.Turn u) still may k y up found rests =
+        let so = still u refl in
+        fate_by (happenings.Turn u) may k y up found rests (turn_lives hs u lawful may k y up found rests so.0 so.1) (turn_left hs u lawful may k y up found rests)
+    fate (happenings.Stopped m) still may k y up found rests = fate_apart (happenings.Stopped m) (λ u is. absurd cc) may k y up found rests
+    fate (happenings.Started m boot) still may k y up found rests = fate_apart (happenings.Started m boot) (λ u is. absurd cc) may k y up found rests
+    fate (happenings.Begun x) still may k y up found rests = fate_apart (happenings.Begun x) (λ u is. absurd cc) may k y up found rests
+    fate (happenings.Cut a b) still may k y up found rests = fate_apart (happenings.Cut a b) (λ u is. absurd cc) may k y up found rests
+    fate (happenings.Join a b) still may k y up found rests = fate_apart (happenings.Join a b) (λ u is. absurd cc) may k y up found rests
+    fate (happenings.Lost n) still may k y up found rests = fate_apart (happenings.Lost n) (λ u is. absurd cc) may k y up found rests
 
 -- of each happening of a lawful run
 pub fate_of : (t : History) (whole : IsLawfulRun t) (hs : List Happening) (h : Happening) (rest : List Happening) → hs ++ h ∷ rest ≡ t.trace → (k : Kept) (y : Branch) → node_at (f_at t hs) y.live.me.node ≡ Some k → branch_at k y.live.me ≡ Some y
     → (y.live.phase ≡ phases.Working → Rests (said_in (f_at t hs)) y.live.me y.live.parent y.work) → Fate t hs h y
-fate_of t whole hs h rest is k y up found rests = ?
+fate_of t whole hs h rest is k y up found rests =
+    let part : Part t whole hs = part_of t whole hs h rest is in
+    fate t hs (part_lawful t whole hs part) h
+    (λ u turn. (
+      fact_at t.places t.commands (LeavesStill t.places) (first_facts t.places) hs h rest (subst (EachFactFrom (LeavesStill t.places) t.places t.commands (first_facts t.places)) (sym is) (trees_stand_still t whole)),
+      fact_at t.places t.commands (LeavesAtRest t.places) (first_facts t.places) hs h rest (subst (EachFactFrom (LeavesAtRest t.places) t.places t.commands (first_facts t.places)) (sym is) (resting_stand_still t whole)),
+    )) (may_of t whole hs h rest is) k y up found rests

@@ -3,3 +3,9 @@ pub mod WeighLemmas
 pub mod RestLemmas
 pub mod RestRunLemmas
 pub mod LeaveLemmas
+pub mod TimeLemmas
+pub mod FateLemmas
+pub mod HeardLemmas
+pub mod StrengthLemmas
+pub mod FrozenLemmas
+pub mod MemberLemmas

@@ -1,5 +1,5 @@
 -- A run cut in two: its first part is a lawful run, and what its branches left and were told there stays so.
-use Rattle.std.proofs.Common.{◌≡◌, ◌≢◌, ℕ, true, List, [], ◌∷◌, ◌++◌, Option, Some, None, refl, sym, ap, subst, subst₂, ◌∙◌, append-nil}
+use Rattle.std.proofs.Common.{◌≡◌, ◌≢◌, ℕ, Bool, true, List, [], ◌∷◌, ◌++◌, Option, Some, None, refl, sym, ap, subst, subst₂, ◌∙◌, append-nil}
 use Rattle.std.proofs.lemmas.List.{append_assoc}
 use Rattle.agreement.specs.Events.{Event, Exit, exit}
 use Rattle.node_rules.specs.Data.{BranchId, Kind, Post}
@@ -16,6 +16,7 @@ use Rattle.run_laws.specs.RunEvents.{events_after, events_from, events_of}
 use Rattle.run_laws.specs.Trail.{is_prepare}
 use Rattle.run_laws.specs.WalkLaws.{was_sent}
 use Rattle.run_laws.specs.EventLaws.{EachEventFrom}
+use Rattle.run_laws.specs.NodeLaws.{EachFactFrom}
 use Rattle.run_laws.proofs.LaterLemmas.{exit_later, wrote_added, turn_added, stop_added}
 use Rattle.tree_laws.proofs.AskLemmas.{sent_more}
 use Rattle.tree_laws.proofs.FitLemmas.{began_all, said_all}
@@ -54,6 +55,11 @@ module _ (places : List Place) (asked : List Command) where
   each_at So f [] h rest e each = each.0
   each_at So f (x ∷ hs) h rest e each = each_at So (facts_after places asked f x) hs h rest (events_after places asked f x e) each.1
 
+  pub fact_at : (So : Facts → Happening → Type 0) (f : Facts) (hs : List Happening) (h : Happening) (rest : List Happening) → EachFactFrom So places asked f (hs ++ h ∷ rest) → So (facts_of places asked f hs) h
+  unfolding facts_of
+  fact_at So f [] h rest each = each.0
+  fact_at So f (x ∷ hs) h rest each = fact_at So (facts_after places asked f x) hs h rest each.1
+
 module _ (t : History) (whole : IsLawfulRun t) where
   -- the first part of the run
   pub record Part (hs : List Happening) : Type 0 where
@@ -82,7 +88,7 @@ module _ (t : History) (whole : IsLawfulRun t) where
     pub exit_end : (b : BranchId) (x : Exit) → exit (e_at t hs) b ≡ Some x → exit (events_of t) b ≡ Some x
     exit_end b x is = subst (λ e. exit e b ≡ Some x) (sym events_end) (exits_on t.places t.commands (f_at t hs) part.rest (e_at t hs) b x is)
 
-    pub sent_end : (kind : Kind → _) (p c : BranchId) → was_sent kind (said_in (f_at t hs)) p c ≡ true → was_sent kind (said_in (facts_at t)) p c ≡ true
+    pub sent_end : (kind : Kind → Bool) (p c : BranchId) → was_sent kind (said_in (f_at t hs)) p c ≡ true → was_sent kind (said_in (facts_at t)) p c ≡ true
     sent_end kind p c is =
         let more = said_all t.places t.commands (f_at t hs) part.rest in
         let says : said_in (facts_at t) ≡ said_in (f_at t hs) ++ more.0 = ap said_in facts_end ∙ more.1 in

@@ -5,7 +5,7 @@ use Rattle.session_tree.specs.Tree.{weight}
 use Rattle.node_rules.specs.Data.{Edge}
 use Rattle.node_rules.specs.Words.{numbered}
 use Rattle.node_rules.specs.Kept.{Kept, Branch, branch_at}
-use Rattle.run_laws.specs.Facts.{node_at}
+use Rattle.run_laws.specs.Facts.{place_at, node_at}
 use Rattle.run_laws.specs.Lawful.{History, IsLawfulRun, facts_at}
 use Rattle.run_laws.specs.InTurnLaws.{said_in, newest_exec, call_at, GoesOn}
 
@@ -25,3 +25,7 @@ abbrev pub ChildrenWeigh : Type 0
 ChildrenWeigh = (t : History) → IsLawfulRun t → (n : ℕ) (k : Kept) → node_at (facts_at t) n ≡ Some k → (x : Branch) → branch_at k x.live.me ≡ Some x → GoesOn k x.live → x.work.going ≡ None
     → (i : ℕ) (e : Edge) → numbered x.live.edges i ≡ Some e → (m : ℕ) (j : Kept) → node_at (facts_at t) m ≡ Some j → (y : Branch) → branch_at j y.live.me ≡ Some y → y.live.me ≡ e.peer
     → ChildRests t x e y
+
+-- In every lawful run a live branch has the commit point strength of its node's place.
+abbrev pub LivesHaveStrength : Type 0
+LivesHaveStrength = (t : History) → IsLawfulRun t → (n : ℕ) (k : Kept) → node_at (facts_at t) n ≡ Some k → (x : Branch) → branch_at k x.live.me ≡ Some x → x.live.strength ≡ (place_at t.places n).strength

@@ -4,7 +4,7 @@
 //! stays so (`specs/RestLaws.antt`).
 #![tactic(auto)]
 
-ghost use Rattle.site_laws.specs.WeighLaws.{EdgesWereCalled, ChildrenWeigh};
+ghost use Rattle.site_laws.specs.WeighLaws.{EdgesWereCalled, ChildrenWeigh, LivesHaveStrength};
 ghost use Rattle.site_laws.specs.RestLaws.{RestingStandStill};
 ghost use Rattle.site_laws.specs.LeaveLaws.{LeaversAreComplete};
 
@@ -28,4 +28,9 @@ pub fn resting_stand_still()
 /// a branch that answers without changes has no weight.
 pub fn leavers_are_complete()
     ensures { LeaversAreComplete }
+{}
+
+/// A live branch has the commit point strength of its node's place.
+pub fn lives_have_strength()
+    ensures { LivesHaveStrength }
 {}
