@@ -152,23 +152,23 @@ module _ (t : History) where
       | inl here ↦ by here u.cut refl
     ]
       where
+        at : (cut : Bool) → kept_after cut (Some (turn_of (place_at t.places u.node) may.0 u.input)) ≡ Some j → u.node ≡ c.node → SameTree y w
+        at true gone here = absurd cc
+        at false some here =
+            let it : (turn_of (place_at t.places u.node) may.0 u.input).after ≡ j = cc in
+            turn_still here still calm w (subst (λ i. branch_at i w.live.me ≡ Some w) (sym it) is) me
+
         by : u.node ≡ c.node → (cut : Bool) → u.cut ≡ cut → SameTree y w
         by here cut is_cut =
             let left : node_at g0 u.node ≡ kept_after cut (Some (turn_of (place_at t.places u.node) may.0 u.input))
             = (turn_here t.places t.commands f0 even u may.0 may.1.up).0 ∙ ap (λ q. kept_after q (Some (turn_of (place_at t.places u.node) may.0 u.input))) is_cut in
             at cut (sym left ∙ subst (λ i. node_at g0 i ≡ Some j) (sym here) there) here
 
-        at : (cut : Bool) → kept_after cut (Some (turn_of (place_at t.places u.node) may.0 u.input)) ≡ Some j → u.node ≡ c.node → SameTree y w
-        at true none here = absurd cc
-        at false some here =
-            let it : (turn_of (place_at t.places u.node) may.0 u.input).after ≡ j = cc in
-            turn_still here still calm w (subst (λ i. branch_at i w.live.me ≡ Some w) (sym it) is) me
-
     -- who left in it
     turn_left : (x : Exit) → exit (events_after t.places t.commands f0 (happenings.Turn u) (e_at t hs)) c ≡ Some x → x ≢ Dropped → LeavesSo (said_in f0) y.live x
     turn_left x is other =
         let clean : exit (e_at t hs) c ≡ None = none hs (happenings.Turn u) lawful may k y up found rests in
-        let left : LeftSo may.0 (said_in f0) c x = was_there t hs lawful u may.0 may.1 c clean x other is in
+        let left : LeftSo may.0 u.input (said_in f0) c x = was_there t hs lawful u may.0 may.1 c clean x other is in
         let own : left.live.me.node ≡ u.node = all_found (λ (l : Live). l.me.node ≡ u.node) live_id may.0.lives left.live.me left.live (ids_name_their_node (so_far t hs) lawful u.node may.0 may.1.up).lives left.found in
         let node : u.node ≡ c.node = sym own ∙ ap (λ i. i.node) left.is_me in
         let at : node_at f0 u.node ≡ Some k = subst (λ i. node_at f0 i ≡ Some k) (sym node) up in
@@ -209,7 +209,7 @@ module _ (t : History) where
     node_back (happenings.Lost k) not n j up w is = up
 
     -- nobody leaves in one but by a stop
-    drops_alone : (h : Happening) → ((u : Turn) → h ≢ happenings.Turn u) → (b : BranchId) (x : Exit) → exit (e_at t hs) b ≡ None → exit (events_after t.places t.commands f1 h (e_at t hs)) b ≡ Some x → x ≡ Dropped
+    pub drops_alone : (h : Happening) → ((u : Turn) → h ≢ happenings.Turn u) → (b : BranchId) (x : Exit) → exit (e_at t hs) b ≡ None → exit (events_after t.places t.commands f1 h (e_at t hs)) b ≡ Some x → x ≡ Dropped
     drops_alone (happenings.Turn u) not b x none is = absurd (not u refl)
     drops_alone (happenings.Stopped m) not b x none is = stop_drops f1 (facts_after t.places t.commands f1 (happenings.Stopped m)) m (e_at t hs) b x none is
     drops_alone (happenings.Started m boot) not b x none is = absurd (cc (none, is))

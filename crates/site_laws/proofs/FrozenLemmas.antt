@@ -73,7 +73,7 @@ module _ (t : History) (whole : IsLawfulRun t) where
     pub up : node_at (f_at t hs) x.live.me.node ≡ Some kept
     pub found : branch_at kept x.live.me ≡ Some x
 
-  strength_at : (hs : List Happening) → Part t whole hs → (x : Branch) → Found hs x → x.live.strength ≡ (place_at t.places x.live.me.node).strength
+  pub strength_at : (hs : List Happening) → Part t whole hs → (x : Branch) → Found hs x → x.live.strength ≡ (place_at t.places x.live.me.node).strength
   strength_at hs part x is = lives_have_strength (so_far t hs) (part_lawful t whole hs part) x.live.me.node is.kept is.up x is.found
 
   module _ (x : Branch) (strong : x.live.strength ≡ (place_at t.places x.live.me.node).strength) (good : (z : Exit) → exit (events_of t) x.live.me ≡ Some z → z ≢ Dropped) where

@@ -47,7 +47,7 @@ module _ (t : History) where
         → HeardAbove is_prepare (births_of (so_far t hs)) (said_in (f_at t hs)) c
     left_heard u turn c x none other is =
         let at : MayHappen t.places t.commands (f_at t hs) (happenings.Turn u) = subst (MayHappen t.places t.commands (f_at t hs)) turn may in
-        let left : LeftSo at.0 (said_in (f_at t hs)) c x
+        let left : LeftSo at.0 u.input (said_in (f_at t hs)) c x
         = was_there t hs lawful u at.0 at.1 c none x other (subst (λ y. exit (events_after t.places t.commands (f_at t hs) y (e_at t hs)) c ≡ Some x) turn is) in
         let placed : LiveIs (Began (births_of (so_far t hs))) left.live
         = all_found (LiveIs (Began (births_of (so_far t hs)))) live_id at.0.lives left.live.me left.live (nodes_name_the_born (so_far t hs) lawful u.node at.0 at.1.up).0 left.found in

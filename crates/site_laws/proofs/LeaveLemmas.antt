@@ -8,7 +8,7 @@ use Rattle.tran_ids.proofs.BranchLemmas.{equal_from_same}
 use Rattle.session_tree.specs.Live.{children_of}
 use Rattle.session_tree.specs.Tree.{weight, step}
 use Rattle.session_tree.specs.declared.act.Walk.TheVariants as walks
-use Rattle.node_rules.specs.Data.{BranchId, Kind, Live, Act, Msg, Post, RedoRecord}
+use Rattle.node_rules.specs.Data.{BranchId, Kind, Live, Act, Msg, Post, RedoRecord, Input}
 use Rattle.node_rules.specs.Data.acts
 use Rattle.node_rules.specs.Data.kinds
 use Rattle.node_rules.specs.Data.phases
@@ -53,7 +53,7 @@ use Rattle.tree_laws.proofs.SettleLemmas.{live_in, born_of}
 use Rattle.tree_laws.proofs.SiteLemmas.{IsDecisionOf, wrote_decision, later_undecided}
 use Rattle.tree_laws.proofs.WeightStepLemmas.{collected_weight, voted_weight}
 use Rattle.tree_laws.proofs.WhyLemmas.{Near, ActsIn, seal_act, WroteWhy, SaidWhy, why_on}
-use Rattle.site_laws.specs.LeaveLaws.{EndsAs, LeavesSo, LeftSo, LeaveComplete, LeaversAreComplete}
+use Rattle.site_laws.specs.LeaveLaws.{EndsAs, LeavesSo, Begins_by, LeftSo, LeaveComplete, LeaversAreComplete}
 
 -- ---- exits without changes
 
@@ -91,7 +91,7 @@ module _ (after : List BranchId) (sent : List Msg) where
         | inr new ↦ (let at = only_at_is b x Dropped Quiet (subst (λ q. exit_by (if q then Answer_read_only b else Drop b) x ≡ Some Quiet) told new.1) in absurd (cc (at.1)))
       ]
 
-  all_quiet : (bs : List BranchId) (x : BranchId) (t : List Event) → exit (with_leavers after sent bs t) x ≡ Some Quiet → (exit t x ≡ Some Quiet) ⊎ (list_any (is_quiet x) sent ≡ true)
+  pub all_quiet : (bs : List BranchId) (x : BranchId) (t : List Event) → exit (with_leavers after sent bs t) x ≡ Some Quiet → (exit t x ≡ Some Quiet) ⊎ (list_any (is_quiet x) sent ≡ true)
   all_quiet [] x t is = inl is
   all_quiet (b ∷ bs) x t is = elim (all_quiet bs x (with_leaver after sent b t) is) [ inl old ↦ left_quiet b x t old | inr new ↦ inr new ]
 
@@ -152,6 +152,11 @@ collected_step : (l : Live) (comment : List ℕ) (b : Bool) → step (collecting
 unfolding step
 collected_step l comment b = ap (λ ws. walk_by l.changed l.strength (place_of_greatest 1 ws None)) (map_after (λ (e : Edge). e.weight) with_prepare_sent (λ (e : Edge). e.weight) (λ e. refl) l.edges)
 
+-- the collect of a branch begins
+pub begins_so : {k : Kept} {input : Input} {comment : List ℕ} {b : Bool} (l : Live) → Collects k input l comment b → Begins_by input l.me
+begins_so l (steps.By_commit n given call has code is) = inl (n, given, call)
+begins_so {comment = comment} {b = b} l (steps.By_prepare from _ came working) = inr (from, b, comment, came)
+
 -- ---- a turn
 
 module _ (t : History) (before : List Happening) (lawful : IsLawfulRun (so_far t before)) (u : Turn) (k : Kept) (may : MayTurn t.places (f_at t before) u k) where
@@ -178,7 +183,7 @@ module _ (t : History) (before : List Happening) (lawful : IsLawfulRun (so_far t
 
   -- the live branch of an act, as the turn began
   abbrev Was : BranchId → Exit → Type 0
-  Was b x = LeftSo k said b x
+  Was b x = LeftSo k u.input said b x
 
   -- a root whose COMMIT came has no parent
   root_ends : {l : Live} {a : Act} {x : Exit} → Collected l true a → Ends a x → is_none l.parent ≡ true
@@ -222,6 +227,7 @@ module _ (t : History) (before : List Happening) (lawful : IsLawfulRun (so_far t
           kids = λ i c there. absurd (none_at i c l none there);
           ends = ends_alike (collecting (with_comment l comment) b) l x (collected_weight l comment b) (collected_step l comment b) (collected_ends collected ends);
         };
+        begins = λ working. begins_so l begins;
       }
   acting_was at near (steps.Hears_last l from v b a live answers other all collected) x ends =
       let found : live_at k l.me ≡ Some l = live_in t before lawful u k may at near l live in
@@ -230,6 +236,7 @@ module _ (t : History) (before : List Happening) (lawful : IsLawfulRun (so_far t
         found = found;
         is_me = refl;
         leaves = busy_leaves l found (λ working. (let is : phases.Collecting b ≡ phases.Working = sym answers.collecting ∙ working in absurd cc)) x (ends_alike _ l x (voted_weight l from v) (voted_step l from v) (collected_ends collected ends));
+        begins = λ working. (let is : phases.Collecting b ≡ phases.Working = sym answers.collecting ∙ working in absurd cc);
       }
   acting_was at near (steps.At_point l from a live came is pointed) x ends =
       let found : live_at k l.me ≡ Some l = live_in t before lawful u k may at near l live in
@@ -237,7 +244,8 @@ module _ (t : History) (before : List Happening) (lawful : IsLawfulRun (so_far t
         live = l;
         found = found;
         is_me = refl;
-        leaves = busy_leaves l found (λ working. (let no : phases.Ready ≡ phases.Working = sym is ∙ working in absurd cc)) x (pointed_ends pointed ends);
+        leaves = busy_leaves l found (λ working. (let other : phases.Ready ≡ phases.Working = sym is ∙ working in absurd cc)) x (pointed_ends pointed ends);
+        begins = λ working. (let other : phases.Ready ≡ phases.Working = sym is ∙ working in absurd cc);
       }
     where
       pointed_ends : {l : Live} {a : Act} {x : Exit} → steps.Pointed l a → Ends a x → EndsAs l x

@@ -9,3 +9,5 @@ pub mod HeardLemmas
 pub mod StrengthLemmas
 pub mod FrozenLemmas
 pub mod MemberLemmas
+pub mod CoverLemmas
+pub mod WorkLemmas

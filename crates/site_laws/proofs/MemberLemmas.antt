@@ -111,7 +111,7 @@ module _ (t : History) (whole : IsLawfulRun t) (hs0 : List Happening) (part0 : P
       parent : y.live.parent ≡ Some x.live.me
       parent = child_parent s0 lawful0 x.live.me.node member.here.kept member.here.up x member.here.found i c at c.node j up y found me
 
-      here : Found t whole hs0 y
+      abbrev here : Found t whole hs0 y
       here = record { kept = j; up = subst (λ b. node_at (f_at t hs0) b.node ≡ Some j) (sym me) up; found = found }
 
       works : y.live.phase ≡ phases.Working

@@ -24,7 +24,7 @@ use Rattle.run_laws.specs.Lawful.{boots, History, IsLawfulRun, facts_at}
 use Rattle.run_laws.specs.NodeLaws.{unacked}
 use Rattle.run_laws.proofs.NodeLemmas.{Keeps, node_keeps}
 use Rattle.run_laws.proofs.OwnLemmas.{all_found, all_with, all_without, all_last}
-use Rattle.run_laws.proofs.StoredLemmas.{with_wrote, step_stores, last_stored, stored_with}
+use Rattle.run_laws.proofs.StoredLemmas.{with_wrote, step_stores, stored_with}
 use Rattle.site_laws.specs.WeighLaws.{LivesHaveStrength}
 
 -- ---- records
@@ -123,7 +123,7 @@ module _ (p : Place) (input : Input) where
     begun_has l none is = all_last Has live_id k.lives l now (is ∙ ap (λ o. unwrap_or o p.strength) none)
 
   lives_have : {k : Kept} {d : Deed} → Step p input k d → k.stored.durable.strength ≡ None → All k → All d.after
-  lives_have (steps.Begins {k = k} n s call rows range no step) none now = lives_have step none (begun_has k now _ none refl)
+  lives_have (steps.Begins {k = k} n s call rows range free step) none now = lives_have step none (begun_has k now _ none refl)
   lives_have (steps.Pends n l given call has live code step) none now = lives_have step none now
   lives_have (steps.Lets_reads_go l comment b live begins step) none now = lives_have step none now
   lives_have (steps.Counts_ack s from kept came counts step) none now = lives_have step none now
@@ -168,7 +168,7 @@ unfolding start_of
 started p rs none = (none, none, tt)
 
 booted : (p : Place) (rs : List RedoRecord) (boot : ℕ) → Unset p rs → Unset p (rs ++ records.Boot boot ∷ [])
-booted p rs boot none = ap (λ (s : Stored). s.durable.strength) (last_stored nothing_stored rs (records.Boot boot)) ∙ (applied_strength (stored_by nothing_stored rs) (records.Boot boot) tt ∙ none)
+booted p rs boot none = ap (λ (s : Stored). s.durable.strength) (stored_with rs (Some (records.Boot boot))) ∙ (applied_strength (stored_by nothing_stored rs) (records.Boot boot) tt ∙ none)
 
 stepped : (p : Place) (rs : List RedoRecord) (input : Input) (k : Kept) (d : Deed) → Step p input k d → Strong p rs k → Strong p (rs ++ option_to_list d.wrote) d.after
 stepped p rs input k d step now =

@@ -106,7 +106,7 @@ module _ (t : History) (whole : IsLawfulRun t) where
 
   pub may_of : (hs : List Happening) (h : Happening) (rest : List Happening) → hs ++ h ∷ rest ≡ t.trace → MayHappen t.places t.commands (f_at t hs) h
   unfolding IsLawful
-  may_of hs h rest is = (rest_lawful hs (part_of hs h rest is)).0
+  may_of hs h rest is = (rest_lawful hs (record { rest = h ∷ rest; is = is })).0
 
   -- what each happening keeps, from some part of the run on
   module _ (K : List Happening → Type 0) (goes_on : (hs : List Happening) (h : Happening) (rest : List Happening) → hs ++ h ∷ rest ≡ t.trace → K hs → K (hs ++ h ∷ [])) where
