@@ -5,8 +5,10 @@ use Rattle.std.proofs.lemmas.List.{append_assoc}
 use Rattle.session_tree.specs.Live.{children_of}
 use Rattle.session_tree.specs.Tree.{place_of_greatest, weight_by, walk_by, weight, step}
 use Rattle.agreement.specs.Events.{Event, Exit, Sealed, Decided, Quiet, Dropped, exit}
-use Rattle.node_rules.specs.Data.{BranchId, Edge, Live, Post}
+use Rattle.node_rules.specs.Data.{BranchId, Edge, Live, Phase, Post}
 use Rattle.node_rules.specs.Data.phases
+use Rattle.session_tree.specs.declared.act.Walk.{Walk}
+use Rattle.session_tree.specs.declared.act.Walk.TheVariants as walks
 use Rattle.node_rules.specs.Words.{numbered}
 use Rattle.node_rules.specs.Kept.{Kept, Branch, live_id, live_at, branch_at, work_at, with_work}
 use Rattle.node_rules.proofs.StandLemmas.{live_so}
@@ -17,17 +19,26 @@ use Rattle.run_laws.specs.InTurnLaws.{said_in, newest_exec, GoesOn}
 use Rattle.run_laws.specs.FreezeLaws.{was_asked}
 use Rattle.run_laws.specs.RunEvents.{events_of}
 use Rattle.run_laws.specs.Trail.{is_prepare}
+use Rattle.run_laws.specs.WalkLaws.{is_below, was_sent}
+use Rattle.run_laws.specs.Births.{births_of}
+use Rattle.run_laws.proofs.BirthRunLemmas.{run_births}
+use Rattle.run_laws.proofs.RestRunLemmas.{run_roots}
+use Rattle.run_laws.proofs.InTurnRunLemmas.{run_calls}
+use Rattle.run_laws.proofs.SaidPostLemmas.{posts_of, said_after}
+use Rattle.tree_laws.specs.AskLaws.{path_on}
+use Rattle.tree_laws.proofs.AskLemmas.{sent_split, sent_wider, below_asks}
+use Rattle.tree_laws.proofs.LeftLemmas.{asks_live}
 use Rattle.run_laws.proofs.FreezeLemmas.{working_or}
-use Rattle.run_laws.proofs.FreezeRunLemmas.{prepare_finds_rest}
+use Rattle.run_laws.proofs.FreezeRunLemmas.{asked_stand_still, prepare_finds_rest, run_freezes}
 use Rattle.run_laws.proofs.InTurnLemmas.{numbered_map}
-use Rattle.tree_laws.proofs.AskRunLemmas.{edges_asked}
-use Rattle.tree_laws.proofs.PrefixLemmas.{so_far, f_at, e_at}
+use Rattle.tree_laws.proofs.AskRunLemmas.{edges_asked, paths_are_told, run_asks}
+use Rattle.tree_laws.proofs.PrefixLemmas.{so_far, f_at, e_at, one_on, more_on}
 use Rattle.site_laws.specs.LeaveLaws.{EndsAs, LeavesSo}
 use Rattle.site_laws.specs.RestLaws.{Rests, SameTree}
 use Rattle.site_laws.specs.WeighLaws.{ChildRests}
 use Rattle.site_laws.proofs.FateLemmas.{Fate, Stays, Leaves, fate_of}
 use Rattle.site_laws.proofs.StrengthLemmas.{lives_have_strength}
-use Rattle.site_laws.proofs.TimeLemmas.{Part, part_lawful, part_on, part_of, exit_end, sent_end, keep_on}
+use Rattle.site_laws.proofs.TimeLemmas.{Part, part_lawful, part_on, part_of, may_of, exit_end, sent_end, keep_on}
 use Rattle.site_laws.proofs.WeighLemmas.{children_weigh, child_parent}
 
 -- ---- the same tree
@@ -61,11 +72,27 @@ edge_to es i c at = by (numbered es i) refl (sym (numbered_map es i) ∙ at)
     by None is some = absurd cc
     by (Some e) is some = (e, is, (let it : Some e.peer ≡ Some c = some in cc))
 
+-- a branch told the child to which its step leads
+pub path_down : (phase : Phase) (w : Walk) (i : ℕ) → path_on phase w ≡ Some i → w ≡ walks.Down i
+path_down phases.Working w i is = absurd cc
+path_down (phases.Collecting false) w i is = absurd cc
+path_down (phases.Collecting true) walks.Here i is = absurd cc
+path_down (phases.Collecting true) walks.Nowhere i is = absurd cc
+path_down (phases.Collecting true) (walks.Down j) i is = (let it : Some j ≡ Some i = is in ap walks.Down (let same : j ≡ i = cc in same))
+path_down phases.Ready walks.Here i is = absurd cc
+path_down phases.Ready walks.Nowhere i is = absurd cc
+path_down phases.Ready (walks.Down j) i is = (let it : Some j ≡ Some i = is in ap walks.Down (let same : j ≡ i = cc in same))
+
+-- the step of a branch leads to this child
+abbrev pub PointsTo : Live → BranchId → Type 0
+PointsTo l c = (i : ℕ) × (step l ≡ walks.Down i) × (numbered (children_of l) i ≡ Some c)
+
 module _ (t : History) (whole : IsLawfulRun t) where
   -- A branch that was live once is live with the same tree, or it has left and asked its children.
   pub data State (x : Branch) (hs : List Happening) : Type 0 where
     Here : (k : Kept) (y : Branch) → node_at (f_at t hs) x.live.me.node ≡ Some k → branch_at k y.live.me ≡ Some y → y.live.me ≡ x.live.me → SameTree x y → State x hs
-    Left : (z : Exit) → exit (e_at t hs) x.live.me ≡ Some z → ((i : ℕ) (c : BranchId) → numbered (children_of x.live) i ≡ Some c → was_asked (said_in (f_at t hs)) x.live.me c ≡ true) → EndsAs x.live z → State x hs
+    Left : (z : Exit) → exit (e_at t hs) x.live.me ≡ Some z → ((i : ℕ) (c : BranchId) → numbered (children_of x.live) i ≡ Some c → was_asked (said_in (f_at t hs)) x.live.me c ≡ true) → EndsAs x.live z
+        → ((c : BranchId) → was_sent is_below (said_in (f_at t hs)) x.live.me c ≡ true → PointsTo x.live c) → State x hs
 
   -- what is known of a branch found at its node
   pub record Found (hs : List Happening) (x : Branch) : Type 0 where
@@ -99,13 +126,46 @@ module _ (t : History) (whole : IsLawfulRun t) where
       asked_on : (p c : BranchId) → was_asked (said_in (f_at t hs)) p c ≡ true → was_asked (said_in (f_at t after)) p c ≡ true
       asked_on p c asked = sent_end z lawful_z hs first_part is_prepare p c asked
 
+      -- one that has left tells nobody any more
+      silent_on : exit (e_at t after) x.live.me ≢ None → (c : BranchId) → was_sent is_below (said_in (f_at t after)) x.live.me c ≡ true → was_sent is_below (said_in (f_at t hs)) x.live.me c ≡ true
+      silent_on left c sent =
+          let s : History = so_far t hs in
+          let lawful : IsLawfulRun s = part_lawful t whole hs part in
+          let says : said_in (f_at t after) ≡ said_in (f_at t hs) ++ posts_of h = ap said_in (one_on t hs h) ∙ said_after t.places t.commands (f_at t hs) h in
+          elim (sent_split is_below (said_in (f_at t hs)) (posts_of h) x.live.me c (subst (λ xs. was_sent is_below xs x.live.me c ≡ true) says sent)) [
+            | inl old ↦ old
+            | inr new ↦ absurd (left (subst (λ e. exit e x.live.me ≡ None) (sym (more_on t hs h))
+                (asks_live t.places t.commands t.of_a_script.each is_below below_asks (f_at t hs) (e_at t hs) (births_of s) (run_births s lawful) (run_roots s lawful) (run_calls s lawful) (run_freezes s lawful) (run_asks s lawful) h (may_of t whole hs h rest is) x.live.me c new)))
+          ]
+
+      -- a live one told the child to which its step leads
+      told_down : (k : Kept) (y : Branch) → node_at (f_at t hs) y.live.me.node ≡ Some k → branch_at k y.live.me ≡ Some y → (c : BranchId) → was_sent is_below (said_in (f_at t hs)) y.live.me c ≡ true → PointsTo y.live c
+      told_down k y up found c sent =
+          let s : History = so_far t hs in
+          let lawful : IsLawfulRun s = part_lawful t whole hs part in
+          elim (working_or y.live.phase) [
+            | inl working ↦ (let no : was_asked (said_in (f_at t hs)) y.live.me c ≡ false = (asked_stand_still s lawful y.live.me.node k up y found).0 working c in
+                let yes : was_asked (said_in (f_at t hs)) y.live.me c ≡ true = sent_wider is_below is_prepare below_asks (said_in (f_at t hs)) y.live.me c sent in
+                absurd (cc (yes, no)))
+            | inr other ↦ (let told = (paths_are_told s lawful y.live.me.node k up y.live (live_so k y.live.me y found) other).0 c sent in (told.0, path_down y.live.phase (step y.live) told.0 told.1, told.2))
+          ]
+
       pub state_on : ((k : Kept) (y : Branch) → node_at (f_at t hs) x.live.me.node ≡ Some k → branch_at k y.live.me ≡ Some y → y.live.me ≡ x.live.me → y.live.phase ≡ phases.Working → Rests (said_in (f_at t hs)) y.live.me y.live.parent y.work)
           → State x hs → State x after
-      state_on rests (Left w left kids ends) = Left w (exit_end z lawful_z hs first_part x.live.me w left) (λ i c at. asked_on x.live.me c (kids i c at)) ends
+      state_on rests (Left w left kids ends told) =
+          let later_left : exit (e_at t after) x.live.me ≡ Some w = exit_end z lawful_z hs first_part x.live.me w left in
+          Left w later_left (λ i c at. asked_on x.live.me c (kids i c at)) ends (λ c sent. told c (silent_on (λ none. absurd (cc (later_left, none))) c sent))
       state_on rests (Here k y up found me same) =
           let there : node_at (f_at t hs) y.live.me.node ≡ Some k = subst (λ b. node_at (f_at t hs) b.node ≡ Some k) (sym me) up in
           by (fate_of t whole hs h rest is k y there found (rests k y up found me)) (record { kept = k; up = there; found = found })
         where
+          points : (c : BranchId) → PointsTo y.live c → Found hs y → PointsTo x.live c
+          points c is here = (
+            is.0,
+            sym (same_step x.live y.live same.changed (strength_at hs part y here ∙ (ap (λ (b : BranchId). (place_at t.places b.node).strength) me ∙ sym strong)) same.weights) ∙ is.1,
+            subst (λ bs. numbered bs is.0 ≡ Some c) same.peers is.2,
+          )
+
           by : Fate t hs h y → Found hs y → State x after
           by (Stays j w up' found' me' still) here = Here j w (subst (λ b. node_at (f_at t after) b.node ≡ Some j) me up') found' (me' ∙ me) (trans_same x y w same still)
           by (Leaves w left leaves) here =
@@ -114,6 +174,7 @@ module _ (t : History) (whole : IsLawfulRun t) where
               Left w gone
               (λ i c at. asked_on x.live.me c (subst (λ b. was_asked (said_in (f_at t hs)) b c ≡ true) me (so.kids i c (subst (λ bs. numbered bs i ≡ Some c) (sym same.peers) at))))
               (ends_same x.live y.live w same.changed (strength_at hs part y here ∙ (ap (λ (b : BranchId). (place_at t.places b.node).strength) me ∙ sym strong)) same.weights so.ends)
+              (λ c sent. points c (told_down here.kept y here.up here.found c (subst (λ b. was_sent is_below (said_in (f_at t hs)) b c ≡ true) (sym me) (silent_on (λ none. absurd (cc (gone, none))) c sent))) here)
 
   -- ---- the tree of a root that rests
 
@@ -149,7 +210,7 @@ module _ (t : History) (whole : IsLawfulRun t) where
             record { above = x.live.me; is_parent = so.0; waits = so.1; last = so.2 }
 
         by_state : State x hs → Rests (said_in (f_at t hs)) y.live.me y.live.parent y.work
-        by_state (Left z left kids ends) = asked_rests (kids i c at)
+        by_state (Left z left kids ends told) = asked_rests (kids i c at)
         by_state (Here j w up_w found_w me_w same) = elim (working_or w.live.phase) [
           | inr other ↦ asked_rests (subst (λ b. was_asked (said_in (f_at t hs)) b c ≡ true) me_w ((edges_asked s lawful x.live.me.node j up_w w.live (live_so j w.live.me w found_w) other).0 i c (subst (λ bs. numbered bs i ≡ Some c) (sym same.peers) at)))
           | inl working ↦ (let calm = member.calm hs since part j w up_w found_w me_w working in

@@ -9,7 +9,7 @@ use Rattle.run_laws.specs.Lawful.{MayHappen, History, IsLawfulRun, facts_at}
 use Rattle.run_laws.specs.Births.{Born, births_of}
 use Rattle.run_laws.specs.BirthLaws.{Began, LiveIs}
 use Rattle.run_laws.specs.InTurnLaws.{said_in}
-use Rattle.run_laws.specs.RunEvents.{events_after, events_of}
+use Rattle.run_laws.specs.RunEvents.{events_after, events_from, events_of}
 use Rattle.run_laws.specs.Trail.{is_prepare}
 use Rattle.run_laws.specs.WalkLaws.{was_sent}
 use Rattle.run_laws.proofs.BirthRunLemmas.{nodes_name_the_born}
@@ -77,6 +77,11 @@ module _ (t : History) where
         left : exit (events_after t.places t.commands (f_at t hs) h (e_at t hs)) c ≡ Some x
         left = subst (λ e. exit e c ≡ Some x) (more_on t hs h) is
 
+-- nobody has left at first
+none_first : (t : History) → Asked t []
+unfolding events_from
+none_first t c z is other = absurd cc
+
 -- who left
 pub left_were_asked : (t : History) → IsLawfulRun t → (c : BranchId) (z : Exit) → exit (events_of t) c ≡ Some z → z ≢ Dropped → HeardAbove is_prepare (births_of t) (said_in (facts_at t)) c
-left_were_asked t lawful = keep_prefix t (Asked t) (λ before h so may now. asked_on t before h so may now) lawful (λ c z is other. absurd cc)
+left_were_asked t lawful = keep_prefix t (Asked t) (λ before h so may now. asked_on t before h so may now) lawful (none_first t)

@@ -72,7 +72,7 @@ said_exit from to scn kinds.Ack t b = first_none (exit t b)
 said_exit from to scn kinds.Forgotten t b = first_none (exit t b)
 said_exit from to scn _ t b = refl
 
-messages_exit : (ms : List Msg) (t : List Event) (b : BranchId) → exit (with_messages ms t) b ≡ exit t b
+pub messages_exit : (ms : List Msg) (t : List Event) (b : BranchId) → exit (with_messages ms t) b ≡ exit t b
 messages_exit [] t b = refl
 messages_exit (m ∷ ms) t b = messages_exit ms (with_event (message_event m.from m.to m.scn m.kind) t) b ∙ said_exit m.from m.to m.scn m.kind t b
 
@@ -99,7 +99,7 @@ module _ (after : List BranchId) (sent : List Msg) where
 none_quiet : (o : Option Exit) → first o None ≡ Some Quiet → o ≡ Some Quiet
 none_quiet o is = sym (first_none o) ∙ is
 
-wrote_quiet : (n : ℕ) (t : List Event) (w : Option RedoRecord) (b : BranchId) → exit (with_event (wrote_event n w) t) b ≡ Some Quiet → exit t b ≡ Some Quiet
+pub wrote_quiet : (n : ℕ) (t : List Event) (w : Option RedoRecord) (b : BranchId) → exit (with_event (wrote_event n w) t) b ≡ Some Quiet → exit t b ≡ Some Quiet
 wrote_quiet n t None b is = is
 wrote_quiet n t (Some (records.Sealed r)) b is =
     elim (first_is (exit t b) (only_at r.me b (Sealed r.scn)) Quiet is) [ inl old ↦ old | inr new ↦ (let at = only_at_is r.me b (Sealed r.scn) Quiet new.1 in absurd (cc (at.1))) ]

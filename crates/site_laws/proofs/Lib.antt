@@ -11,3 +11,4 @@ pub mod FrozenLemmas
 pub mod MemberLemmas
 pub mod CoverLemmas
 pub mod WorkLemmas
+pub mod CommitLemmas

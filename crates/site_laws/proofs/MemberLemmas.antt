@@ -66,7 +66,7 @@ module _ (t : History) (whole : IsLawfulRun t) (hs0 : List Happening) (part0 : P
   module _ (x : Branch) (member : Member t whole hs0 part0 r x) (i : ℕ) (c : BranchId) (at : numbered (children_of x.live) i ≡ Some c) where
     -- at the end it has left
     end_asked : State t whole x t.trace → was_asked (said_in (facts_at t)) x.live.me c ≡ true
-    end_asked (Left z left kids ends) = kids i c at
+    end_asked (Left z left kids ends told) = kids i c at
     end_asked (Here k y up found me same) =
         let none : exit (events_of t) y.live.me ≡ None = all_found (λ (l : Live). exit (events_of t) l.me ≡ None) live_id k.lives y.live.me y.live (nodes_are_as_events t whole x.live.me.node k up).0 (live_so k y.live.me y found) in
         let some : exit (events_of t) y.live.me ≡ Some member.exit_good.0 = subst (λ b. exit (events_of t) b ≡ Some member.exit_good.0) (sym me) member.exit_good.1 in

@@ -21,9 +21,9 @@ use Rattle.site_laws.specs.LeaveLaws.{Begins_by}
 use Rattle.site_laws.proofs.LeaveLemmas.{begins_so}
 
 module _ (k0 : Kept) (input : Input) where
-  -- A live branch that was working as the turn began is so, or its collect begins.
+  -- A live branch that was working as the turn began, or was not live, is so, or its collect begins.
   abbrev pub Works : Live → Type 0
-  Works l = (z : Live) → item_at live_id k0.lives l.me ≡ Some z → z.phase ≡ phases.Working → (l.phase ≡ phases.Working) ⊎ Begins_by input l.me
+  Works l = ((z : Live) → item_at live_id k0.lives l.me ≡ Some z → z.phase ≡ phases.Working) → (l.phase ≡ phases.Working) ⊎ Begins_by input l.me
 
   abbrev pub All : Kept → Type 0
   All k = AllByRecursion Works k.lives
@@ -31,7 +31,7 @@ module _ (k0 : Kept) (input : Input) where
   pub first_works : AllByRecursion (λ l. item_at live_id k0.lives l.me ≡ Some l) k0.lives → All k0
   first_works found =
       all_weaker (λ l. item_at live_id k0.lives l.me ≡ Some l) Works
-      (λ l here z at working. (let both : Some z ≡ Some l = sym at ∙ here in let it : z ≡ l = cc in inl (subst (λ (y : Live). y.phase ≡ phases.Working) it working))) k0.lives found
+      (λ l here working. inl (working l here)) k0.lives found
 
   module _ (k : Kept) (now : All k) where
     found_works : (x : Branch) → branch_at k x.live.me ≡ Some x → Works x.live
@@ -42,18 +42,18 @@ module _ (k0 : Kept) (input : Input) where
     asked_works (steps.By_exec x from call given advice s came live runs) = found_works x live
 
     acting_works : {l : Live} {b : _} {a : Act} → Acting k input l b a → Works l
-    acting_works (steps.Asks_down l comment b e es live begins some) = λ z at working. inr (begins_so l begins)
-    acting_works (steps.Has_no_children l comment b a live begins none collected) = λ z at working. inr (begins_so l begins)
-    acting_works (steps.Hears_abort l from b live answers) = λ z at working. all_found Works live_id k.lives l.me l now live z at working
-    acting_works (steps.Waits_on l from v b live answers other some) = λ z at working. all_found Works live_id k.lives l.me l now live z at working
-    acting_works (steps.Hears_last l from v b a live answers other all collected) = λ z at working. all_found Works live_id k.lives l.me l now live z at working
-    acting_works (steps.At_point l from a live came is pointed) = λ z at working. all_found Works live_id k.lives l.me l now live z at working
+    acting_works (steps.Asks_down l comment b e es live begins some) = λ working. inr (begins_so l begins)
+    acting_works (steps.Has_no_children l comment b a live begins none collected) = λ working. inr (begins_so l begins)
+    acting_works (steps.Hears_abort l from b live answers) = λ working. all_found Works live_id k.lives l.me l now live working
+    acting_works (steps.Waits_on l from v b live answers other some) = λ working. all_found Works live_id k.lives l.me l now live working
+    acting_works (steps.Hears_last l from v b a live answers other all collected) = λ working. all_found Works live_id k.lives l.me l now live working
+    acting_works (steps.At_point l from a live came is pointed) = λ working. all_found Works live_id k.lives l.me l now live working
 
     acts_work : (l : Live) (b : _) (a : Act) → Works l → l.phase ≢ phases.Working → All (act_turn k l b a).after
     acts_work l b acts.Rest so other = all_with Works live_id k.lives l now so
     acts_work l b acts.AskDown so other = all_with Works live_id k.lives l now so
     acts_work l b acts.SayReady so other =
-        all_with Works live_id k.lives (ready l) now (λ z at working. elim (so z at working) [ inl still ↦ absurd (other still) | inr begins ↦ inr begins ])
+        all_with Works live_id k.lives (ready l) now (λ working. elim (so working) [ inl still ↦ absurd (other still) | inr begins ↦ inr begins ])
     acts_work l b acts.SayReadOnly so other = all_without Works live_id k.lives l.me now
     acts_work l b acts.Seal so other = all_without Works live_id k.lives l.me now
     acts_work l b (acts.SealAndPass i) so other = all_without Works live_id k.lives l.me now
@@ -62,7 +62,7 @@ module _ (k0 : Kept) (input : Input) where
     acts_work l b acts.Abandon so other = all_without Works live_id k.lives l.me now
 
     begun_works : (l : Live) → l.phase ≡ phases.Working → AllByRecursion Works (k.lives ++ l ∷ [])
-    begun_works l fresh = all_last Works live_id k.lives l now (λ z at working. inl fresh)
+    begun_works l fresh = all_last Works live_id k.lives l now (λ working. inl fresh)
 
   module _ (p : Place) where
     pub works_on : {k : Kept} {d : Deed} → Step p input k d → All k → All d.after
