@@ -63,8 +63,7 @@ module _ (t : History) where
     Stays : (k : Kept) (z : Branch) → node_at (f_at t (hs ++ h ∷ [])) y.live.me.node ≡ Some k → branch_at k z.live.me ≡ Some z → z.live.me ≡ y.live.me → SameTree y z → Fate hs h y
     Leaves : (x : Exit) → exit (e_at t (hs ++ h ∷ [])) y.live.me ≡ Some x → (x ≢ Dropped → LeavesSo (said_in (f_at t hs)) y.live x) → Fate hs h y
 
-  module _ (hs : List Happening) (h : Happening) (lawful : IsLawfulRun (so_far t hs)) (may : MayHappen t.places t.commands (f_at t hs) h) (k : Kept) (y : Branch) (up : node_at (f_at t hs) y.live.me.node ≡ Some k) (found : branch_at k y.live.me ≡ Some y)
-      (rests : y.live.phase ≡ phases.Working → Rests (said_in (f_at t hs)) y.live.me y.live.parent y.work) where
+  module _ (hs : List Happening) (h : Happening) (lawful : IsLawfulRun (so_far t hs)) (may : MayHappen t.places t.commands (f_at t hs) h) (k : Kept) (y : Branch) (up : node_at (f_at t hs) y.live.me.node ≡ Some k) (found : branch_at k y.live.me ≡ Some y) where
     abbrev s : History
     s = so_far t hs
 
@@ -120,8 +119,7 @@ module _ (t : History) where
         let here : w ≡ y = cc in
         subst (SameTree y) (sym here) same_so
 
-  module _ (hs : List Happening) (u : Turn) (lawful : IsLawfulRun (so_far t hs)) (may : MayHappen t.places t.commands (f_at t hs) (happenings.Turn u)) (k : Kept) (y : Branch) (up : node_at (f_at t hs) y.live.me.node ≡ Some k) (found : branch_at k y.live.me ≡ Some y)
-      (rests : y.live.phase ≡ phases.Working → Rests (said_in (f_at t hs)) y.live.me y.live.parent y.work) where
+  module _ (hs : List Happening) (u : Turn) (lawful : IsLawfulRun (so_far t hs)) (may : MayHappen t.places t.commands (f_at t hs) (happenings.Turn u)) (k : Kept) (y : Branch) (up : node_at (f_at t hs) y.live.me.node ≡ Some k) (found : branch_at k y.live.me ≡ Some y) where
     abbrev f0 : Facts
     f0 = f_at t hs
 
@@ -134,21 +132,29 @@ module _ (t : History) where
     even : length f0.nodes ≡ length f0.records
     even = (run_stands (so_far t hs) lawful).0.even
 
+    -- what the turn leaves of it at its own node, while it is working
+    abbrev pub Calmly : Type 0
+    Calmly = y.live.phase ≡ phases.Working → (w : Branch) → branch_at (turn_of (place_at t.places u.node) k u.input).after w.live.me ≡ Some w → w.live.me ≡ c → u.node ≡ c.node → SameTree y w
+
+    -- one that rests
+    turn_calm : (y.live.phase ≡ phases.Working → Rests (said_in (f_at t hs)) y.live.me y.live.parent y.work) → LeavesAtRest t.places f0 (happenings.Turn u) → Calmly
+    turn_calm rests calm working w is me here = calm k (subst (λ i. node_at f0 i ≡ Some k) (sym here) up) y w found (rests working) me is
+
     -- the turn's own node
-    turn_still : u.node ≡ c.node → LeavesStill t.places f0 (happenings.Turn u) → LeavesAtRest t.places f0 (happenings.Turn u) → (w : Branch) → branch_at (turn_of (place_at t.places u.node) may.0 u.input).after w.live.me ≡ Some w → w.live.me ≡ c → SameTree y w
+    turn_still : u.node ≡ c.node → LeavesStill t.places f0 (happenings.Turn u) → Calmly → (w : Branch) → branch_at (turn_of (place_at t.places u.node) may.0 u.input).after w.live.me ≡ Some w → w.live.me ≡ c → SameTree y w
     turn_still here still calm w is me =
         let at : node_at f0 u.node ≡ Some k = subst (λ i. node_at f0 i ≡ Some k) (sym here) up in
         let it : Some may.0 ≡ Some k = sym may.1.up ∙ at in
         let mine : may.0 ≡ k = cc in
         let there : branch_at (turn_of (place_at t.places u.node) k u.input).after w.live.me ≡ Some w = subst (λ (i : Kept). branch_at (turn_of (place_at t.places u.node) i u.input).after w.live.me ≡ Some w) mine is in
         elim (working_or y.live.phase) [
-          | inl working ↦ calm k at y w found (rests working) me there
+          | inl working ↦ calm working w there me here
           | inr other ↦ (let so : StandsStill y w = still k at y w found other me there in record { peers = so.peers; weights = so.weights; changed = so.changed })
         ]
 
-    turn_lives : LeavesStill t.places f0 (happenings.Turn u) → LeavesAtRest t.places f0 (happenings.Turn u) → (j : Kept) → node_at g0 c.node ≡ Some j → (w : Branch) → branch_at j w.live.me ≡ Some w → w.live.me ≡ c → SameTree y w
+    pub turn_lives : LeavesStill t.places f0 (happenings.Turn u) → Calmly → (j : Kept) → node_at g0 c.node ≡ Some j → (w : Branch) → branch_at j w.live.me ≡ Some w → w.live.me ≡ c → SameTree y w
     turn_lives still calm j there w is me = elim (cases_nat u.node c.node) [
-      | inr other ↦ as_before hs (happenings.Turn u) lawful may k y up found rests j (sym (turn_elsewhere t.places t.commands f0 even u c.node other).0 ∙ there) w is me
+      | inr other ↦ as_before hs (happenings.Turn u) lawful may k y up found j (sym (turn_elsewhere t.places t.commands f0 even u c.node other).0 ∙ there) w is me
       | inl here ↦ by here u.cut refl
     ]
       where
@@ -165,9 +171,9 @@ module _ (t : History) where
             at cut (sym left ∙ subst (λ i. node_at g0 i ≡ Some j) (sym here) there) here
 
     -- who left in it
-    turn_left : (x : Exit) → exit (events_after t.places t.commands f0 (happenings.Turn u) (e_at t hs)) c ≡ Some x → x ≢ Dropped → LeavesSo (said_in f0) y.live x
+    pub turn_left : (x : Exit) → exit (events_after t.places t.commands f0 (happenings.Turn u) (e_at t hs)) c ≡ Some x → x ≢ Dropped → LeavesSo (said_in f0) y.live x
     turn_left x is other =
-        let clean : exit (e_at t hs) c ≡ None = none hs (happenings.Turn u) lawful may k y up found rests in
+        let clean : exit (e_at t hs) c ≡ None = none hs (happenings.Turn u) lawful may k y up found in
         let left : LeftSo may.0 u.input (said_in f0) c x = was_there t hs lawful u may.0 may.1 c clean x other is in
         let own : left.live.me.node ≡ u.node = all_found (λ (l : Live). l.me.node ≡ u.node) live_id may.0.lives left.live.me left.live (ids_name_their_node (so_far t hs) lawful u.node may.0 may.1.up).lives left.found in
         let node : u.node ≡ c.node = sym own ∙ ap (λ i. i.node) left.is_me in
@@ -220,12 +226,11 @@ module _ (t : History) where
 
   module _ (hs : List Happening) (lawful : IsLawfulRun (so_far t hs)) where
     -- what is so of it where it is live afterwards, and where it has left
-    fate_by : (h : Happening) (may : MayHappen t.places t.commands (f_at t hs) h) (k : Kept) (y : Branch) (up : node_at (f_at t hs) y.live.me.node ≡ Some k) (found : branch_at k y.live.me ≡ Some y)
-        (rests : y.live.phase ≡ phases.Working → Rests (said_in (f_at t hs)) y.live.me y.live.parent y.work)
+    pub fate_by : (h : Happening) (may : MayHappen t.places t.commands (f_at t hs) h) (k : Kept) (y : Branch) (up : node_at (f_at t hs) y.live.me.node ≡ Some k) (found : branch_at k y.live.me ≡ Some y)
         → ((j : Kept) → node_at (facts_after t.places t.commands (f_at t hs) h) y.live.me.node ≡ Some j → (w : Branch) → branch_at j w.live.me ≡ Some w → w.live.me ≡ y.live.me → SameTree y w)
         → ((x : Exit) → exit (events_after t.places t.commands (f_at t hs) h (e_at t hs)) y.live.me ≡ Some x → x ≢ Dropped → LeavesSo (said_in (f_at t hs)) y.live x) → Fate hs h y
-    fate_by h may k y up found rests lives leaves =
-        elim (born_are_live_or_left (so_far t (hs ++ h ∷ [])) (lawful_z hs h lawful may k y up found rests) y.live.me (born hs h lawful may k y up found rests)) [
+    fate_by h may k y up found lives leaves =
+        elim (born_are_live_or_left (so_far t (hs ++ h ∷ [])) (lawful_z hs h lawful may k y up found) y.live.me (born hs h lawful may k y up found)) [
           | inl left ↦ elim (some_or_none (exit (e_at t (hs ++ h ∷ [])) y.live.me)) [
             | inl some ↦ Leaves some.0 some.1 (λ other. leaves some.0 (subst (λ x. exit x y.live.me ≡ Some some.0) (more_on t hs h) some.1) other)
             | inr none_is ↦ absurd (left none_is)
@@ -237,21 +242,21 @@ module _ (t : History) where
         at None is among = absurd cc
         at (Some j) is among =
             let l = among_found j.lives y.live.me among in
-            found_after hs h lawful may k y up found rests j is l.0 l.1 (λ w it me. lives j (subst (λ x. node_at x y.live.me.node ≡ Some j) (one_on t hs h) is) w it me)
+            found_after hs h lawful may k y up found j is l.0 l.1 (λ w it me. lives j (subst (λ x. node_at x y.live.me.node ≡ Some j) (one_on t hs h) is) w it me)
 
     -- a happening that is no turn
     fate_apart : (h : Happening) → ((u : Turn) → h ≢ happenings.Turn u) → MayHappen t.places t.commands (f_at t hs) h → (k : Kept) (y : Branch) → node_at (f_at t hs) y.live.me.node ≡ Some k → branch_at k y.live.me ≡ Some y
         → (y.live.phase ≡ phases.Working → Rests (said_in (f_at t hs)) y.live.me y.live.parent y.work) → Fate hs h y
     fate_apart h not may k y up found rests =
-        fate_by h may k y up found rests (λ j there w is me. as_before hs h lawful may k y up found rests j (node_back hs h not y.live.me.node j there w is) w is me)
-        (λ x is other. absurd (other (drops_alone hs h not y.live.me x (none hs h lawful may k y up found rests) is)))
+        fate_by h may k y up found (λ j there w is me. as_before hs h lawful may k y up found j (node_back hs h not y.live.me.node j there w is) w is me)
+        (λ x is other. absurd (other (drops_alone hs h not y.live.me x (none hs h lawful may k y up found) is)))
 
     -- each happening
     pub fate : (h : Happening) → ((u : Turn) → h ≡ happenings.Turn u → LeavesStill t.places (f_at t hs) h × LeavesAtRest t.places (f_at t hs) h) → MayHappen t.places t.commands (f_at t hs) h → (k : Kept) (y : Branch)
         → node_at (f_at t hs) y.live.me.node ≡ Some k → branch_at k y.live.me ≡ Some y → (y.live.phase ≡ phases.Working → Rests (said_in (f_at t hs)) y.live.me y.live.parent y.work) → Fate hs h y
     fate (happenings.Turn u) still may k y up found rests =
         let so = still u refl in
-        fate_by (happenings.Turn u) may k y up found rests (turn_lives hs u lawful may k y up found rests so.0 so.1) (turn_left hs u lawful may k y up found rests)
+        fate_by (happenings.Turn u) may k y up found (turn_lives hs u lawful may k y up found so.0 (turn_calm hs u lawful may k y up found rests so.1)) (turn_left hs u lawful may k y up found)
     fate (happenings.Stopped m) still may k y up found rests = fate_apart (happenings.Stopped m) (λ u is. absurd cc) may k y up found rests
     fate (happenings.Started m boot) still may k y up found rests = fate_apart (happenings.Started m boot) (λ u is. absurd cc) may k y up found rests
     fate (happenings.Begun x) still may k y up found rests = fate_apart (happenings.Begun x) (λ u is. absurd cc) may k y up found rests

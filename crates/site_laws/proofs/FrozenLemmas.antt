@@ -150,31 +150,31 @@ module _ (t : History) (whole : IsLawfulRun t) where
             | inr other ↦ (let told = (paths_are_told s lawful y.live.me.node k up y.live (live_so k y.live.me y found) other).0 c sent in (told.0, path_down y.live.phase (step y.live) told.0 told.1, told.2))
           ]
 
-      pub state_on : ((k : Kept) (y : Branch) → node_at (f_at t hs) x.live.me.node ≡ Some k → branch_at k y.live.me ≡ Some y → y.live.me ≡ x.live.me → y.live.phase ≡ phases.Working → Rests (said_in (f_at t hs)) y.live.me y.live.parent y.work)
-          → State x hs → State x after
-      state_on rests (Left w left kids ends told) =
+      -- by what becomes of it
+      pub state_by : (y : Branch) → y.live.me ≡ x.live.me → SameTree x y → Found hs y → Fate t hs h y → State x after
+      state_by y me same here (Stays j w up found me_w still) = Here j w (subst (λ b. node_at (f_at t after) b.node ≡ Some j) me up) found (me_w ∙ me) (trans_same x y w same still)
+      state_by y me same here (Leaves w left leaves) =
+          let gone : exit (e_at t after) x.live.me ≡ Some w = subst (λ b. exit (e_at t after) b ≡ Some w) me left in
+          let so : LeavesSo (said_in (f_at t hs)) y.live w = leaves (good w (exit_end t whole after later x.live.me w gone)) in
+          let strengths : y.live.strength ≡ x.live.strength = strength_at hs part y here ∙ (ap (λ (b : BranchId). (place_at t.places b.node).strength) me ∙ sym strong) in
+          Left w gone (λ i c at. asked_on x.live.me c (subst (λ b. was_asked (said_in (f_at t hs)) b c ≡ true) me (so.kids i c (subst (λ bs. numbered bs i ≡ Some c) (sym same.peers) at))))
+          (ends_same x.live y.live w same.changed strengths same.weights so.ends)
+          (λ c sent. (let down = told_down here.kept y here.up here.found c (subst (λ b. was_sent is_below (said_in (f_at t hs)) b c ≡ true) (sym me) (silent_on (λ none. absurd (cc (gone, none))) c sent)) in
+          (down.0, sym (same_step x.live y.live same.changed strengths same.weights) ∙ down.1, subst (λ bs. numbered bs down.0 ≡ Some c) same.peers down.2)))
+
+      -- one that has left
+      pub state_left : (w : Exit) → exit (e_at t hs) x.live.me ≡ Some w → ((i : ℕ) (c : BranchId) → numbered (children_of x.live) i ≡ Some c → was_asked (said_in (f_at t hs)) x.live.me c ≡ true) → EndsAs x.live w
+          → ((c : BranchId) → was_sent is_below (said_in (f_at t hs)) x.live.me c ≡ true → PointsTo x.live c) → State x after
+      state_left w left kids ends told =
           let later_left : exit (e_at t after) x.live.me ≡ Some w = exit_end z lawful_z hs first_part x.live.me w left in
           Left w later_left (λ i c at. asked_on x.live.me c (kids i c at)) ends (λ c sent. told c (silent_on (λ none. absurd (cc (later_left, none))) c sent))
+
+      pub state_on : ((k : Kept) (y : Branch) → node_at (f_at t hs) x.live.me.node ≡ Some k → branch_at k y.live.me ≡ Some y → y.live.me ≡ x.live.me → y.live.phase ≡ phases.Working → Rests (said_in (f_at t hs)) y.live.me y.live.parent y.work)
+          → State x hs → State x after
+      state_on rests (Left w left kids ends told) = state_left w left kids ends told
       state_on rests (Here k y up found me same) =
           let there : node_at (f_at t hs) y.live.me.node ≡ Some k = subst (λ b. node_at (f_at t hs) b.node ≡ Some k) (sym me) up in
-          by (fate_of t whole hs h rest is k y there found (rests k y up found me)) (record { kept = k; up = there; found = found })
-        where
-          points : (c : BranchId) → PointsTo y.live c → Found hs y → PointsTo x.live c
-          points c is here = (
-            is.0,
-            sym (same_step x.live y.live same.changed (strength_at hs part y here ∙ (ap (λ (b : BranchId). (place_at t.places b.node).strength) me ∙ sym strong)) same.weights) ∙ is.1,
-            subst (λ bs. numbered bs is.0 ≡ Some c) same.peers is.2,
-          )
-
-          by : Fate t hs h y → Found hs y → State x after
-          by (Stays j w up' found' me' still) here = Here j w (subst (λ b. node_at (f_at t after) b.node ≡ Some j) me up') found' (me' ∙ me) (trans_same x y w same still)
-          by (Leaves w left leaves) here =
-              let gone : exit (e_at t after) x.live.me ≡ Some w = subst (λ b. exit (e_at t after) b ≡ Some w) me left in
-              let so : LeavesSo (said_in (f_at t hs)) y.live w = leaves (good w (exit_end t whole after later x.live.me w gone)) in
-              Left w gone
-              (λ i c at. asked_on x.live.me c (subst (λ b. was_asked (said_in (f_at t hs)) b c ≡ true) me (so.kids i c (subst (λ bs. numbered bs i ≡ Some c) (sym same.peers) at))))
-              (ends_same x.live y.live w same.changed (strength_at hs part y here ∙ (ap (λ (b : BranchId). (place_at t.places b.node).strength) me ∙ sym strong)) same.weights so.ends)
-              (λ c sent. points c (told_down here.kept y here.up here.found c (subst (λ b. was_sent is_below (said_in (f_at t hs)) b c ≡ true) (sym me) (silent_on (λ none. absurd (cc (gone, none))) c sent))) here)
+          state_by y me same (record { kept = k; up = there; found = found }) (fate_of t whole hs h rest is k y there found (rests k y up found me))
 
   -- ---- the tree of a root that rests
 

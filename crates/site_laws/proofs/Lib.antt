@@ -12,3 +12,4 @@ pub mod MemberLemmas
 pub mod CoverLemmas
 pub mod WorkLemmas
 pub mod CommitLemmas
+pub mod FindLemmas

@@ -36,7 +36,7 @@ use Rattle.link_session.proofs.OnceLemmas.{run_is_new}
 use Rattle.site_laws.specs.RestLaws.{Rests}
 
 -- what a change of edges leaves of each, it leaves of all
-collected : {X : Type 0} (f : Edge → X) → ((e : Edge) → f (with_prepare_sent e) ≡ f e) → (es : List Edge) → map f (map with_prepare_sent es) ≡ map f es
+pub collected : {X : Type 0} (f : Edge → X) → ((e : Edge) → f (with_prepare_sent e) ≡ f e) → (es : List Edge) → map f (map with_prepare_sent es) ≡ map f es
 collected f each es = map_after f with_prepare_sent f each es
 
 heard_vote : {X : Type 0} (f : Edge → X) (from : BranchId) (v : Vote) → ((e : Edge) → f (record e { vote = v }) ≡ f e) → (es : List Edge) → map f (map (has_voted from v) es) ≡ map f es
