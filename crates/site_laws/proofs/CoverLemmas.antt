@@ -35,6 +35,11 @@ module _ (t : History) (whole : IsLawfulRun t) where
         trees.site_is (births_of t) (said_in (facts_at t)) (known t whole) x x.me began refl ∙
         (ap (site_from (births_of t) (said_in (facts_at t))) (root ∙ sym inside.3) ∙ (sym (trees.site_is (births_of t) (said_in (facts_at t)) (known t whole) inside.0 b inside.1 inside.2) ∙ sym at_site))
 
+    -- no other branch of the tree decides
+    pub one_decides : (c : BranchId) (m : ℕ) → exit (events_of t) c ≡ Some (Decided m) → IsIn (births_of t) r c → c ≡ b
+    one_decides c m left here =
+        (inv p (events_of t) (runs_have_forests t whole) lawful_events).decided_at c m left ∙ (ap (site_of p) (sym here.2) ∙ site_is here.0 here.1 here.3)
+
     -- it leaves as the decision covers it
     pub leaves_covered : (x : Born) → Began (births_of t) x → x.root ≡ r → asked_by (said_in (facts_at t)) x.me x.parent ≡ true
         → (x.me ≡ b) ⊎ (((m : ℕ) × (exit (events_of t) x.me ≡ Some (Sealed m))) ⊎ (exit (events_of t) x.me ≡ Some Quiet))

@@ -201,7 +201,7 @@ module _ (t : History) where
     set_back m n o j up = elim (set_or_before f1.nodes m n o) [ inl still ↦ inl (ap flat (sym still) ∙ up) | inr set ↦ inr (ap flat (sym set.1) ∙ up) ]
 
     -- a live branch after a happening that is no turn was at its node before
-    node_back : (h : Happening) → ((u : Turn) → h ≢ happenings.Turn u) → (n : ℕ) (j : Kept) → node_at (facts_after t.places t.commands f1 h) n ≡ Some j → (w : Branch) → branch_at j w.live.me ≡ Some w → node_at f1 n ≡ Some j
+    pub node_back : (h : Happening) → ((u : Turn) → h ≢ happenings.Turn u) → (n : ℕ) (j : Kept) → node_at (facts_after t.places t.commands f1 h) n ≡ Some j → (w : Branch) → branch_at j w.live.me ≡ Some w → node_at f1 n ≡ Some j
     unfolding facts_after
     node_back (happenings.Turn u) not n j up w is = absurd (not u refl)
     node_back (happenings.Stopped m) not n j up w is = elim (set_back m n None j up) [ inl old ↦ old | inr none ↦ absurd cc ]

@@ -13,3 +13,4 @@ pub mod CoverLemmas
 pub mod WorkLemmas
 pub mod CommitLemmas
 pub mod FindLemmas
+pub mod DecideLemmas
