@@ -18,7 +18,7 @@ use Rattle.run_laws.proofs.OwnLemmas.{all_found}
 use Rattle.tree_laws.specs.AskLaws.{HeardAbove}
 use Rattle.tree_laws.proofs.PrefixLemmas.{so_far, f_at, e_at, more_on, lawful_on, keep_prefix}
 use Rattle.run_laws.specs.Facts.{first_facts}
-use Rattle.site_laws.specs.LeaveLaws.{LeftSo}
+use Rattle.site_laws.specs.LeaveLaws.{LeftSo, LeftWereAsked}
 use Rattle.site_laws.proofs.LeaveLemmas.{was_there}
 use Rattle.site_laws.proofs.FateLemmas.{drops_alone}
 use Rattle.site_laws.proofs.TimeLemmas.{Part, exit_on, sent_end, born_end}
@@ -83,5 +83,5 @@ unfolding events_from
 none_first t c z is other = absurd cc
 
 -- who left
-pub left_were_asked : (t : History) → IsLawfulRun t → (c : BranchId) (z : Exit) → exit (events_of t) c ≡ Some z → z ≢ Dropped → HeardAbove is_prepare (births_of t) (said_in (facts_at t)) c
+pub left_were_asked : LeftWereAsked
 left_were_asked t lawful = keep_prefix t (Asked t) (λ before h so may now. asked_on t before h so may now) lawful (none_first t)

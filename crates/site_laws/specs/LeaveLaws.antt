@@ -14,8 +14,11 @@ use Rattle.node_rules.specs.Kept.{Kept, live_at}
 use Rattle.run_laws.specs.Data.{Happening}
 use Rattle.run_laws.specs.Data.happenings
 use Rattle.run_laws.specs.Facts.{Facts, node_at, facts_after}
-use Rattle.run_laws.specs.RunEvents.{events_after}
-use Rattle.run_laws.specs.Lawful.{History, IsLawfulRun}
+use Rattle.run_laws.specs.RunEvents.{events_after, events_of}
+use Rattle.run_laws.specs.Births.{births_of}
+use Rattle.run_laws.specs.Trail.{is_prepare}
+use Rattle.tree_laws.specs.AskLaws.{HeardAbove}
+use Rattle.run_laws.specs.Lawful.{History, IsLawfulRun, facts_at}
 use Rattle.run_laws.specs.EventLaws.{AtEachEvent}
 use Rattle.run_laws.specs.FreezeLaws.{was_asked}
 use Rattle.run_laws.specs.InTurnLaws.{said_in}
@@ -53,3 +56,7 @@ LeaveComplete t f e _ = Unit {0}
 -- In every lawful run.
 abbrev pub LeaversAreComplete : Type 0
 LeaversAreComplete = (t : History) → IsLawfulRun t → AtEachEvent (LeaveComplete t) t
+
+-- In every lawful run a branch that has left, and was not dropped, began, and its parent asked it.
+abbrev pub LeftWereAsked : Type 0
+LeftWereAsked = (t : History) → IsLawfulRun t → (c : BranchId) (z : Exit) → exit (events_of t) c ≡ Some z → z ≢ Dropped → HeardAbove is_prepare (births_of t) (said_in (facts_at t)) c

@@ -1,12 +1,15 @@
-//! The commit point site of a run: what its session trees weigh, and that they stand still once nothing is under way in them.
+//! The commit point site of a run: where a branch decides, the walk from its root ended there when the COMMIT came.
 //!
-//! While a root waits for nothing every live branch of its tree rests, weighs what its parent holds of it (`specs/WeighLaws.antt`), and
-//! stays so (`specs/RestLaws.antt`).
+//! While a root waits for nothing every live branch of its tree rests and weighs what its parent holds of it (`specs/WeighLaws.antt`), and
+//! stays so (`specs/RestLaws.antt`). A branch that leaves without a rollback was asked, and asked its children (`specs/LeaveLaws.antt`). So
+//! the tree of a root whose transaction is decided stands still from its COMMIT on, and the walk by its weights is the one that Prepares
+//! tell (`specs/DecideLaws.antt`).
 #![tactic(auto)]
 
 ghost use Rattle.site_laws.specs.WeighLaws.{EdgesWereCalled, ChildrenWeigh, LivesHaveStrength};
 ghost use Rattle.site_laws.specs.RestLaws.{RestingStandStill};
-ghost use Rattle.site_laws.specs.LeaveLaws.{LeaversAreComplete};
+ghost use Rattle.site_laws.specs.LeaveLaws.{LeaversAreComplete, LeftWereAsked};
+ghost use Rattle.site_laws.specs.DecideLaws.{DecisionsFollowWalks};
 
 /// A live branch has called each of its children.
 pub fn edges_were_called()
@@ -17,6 +20,11 @@ pub fn edges_were_called()
 /// call; unless the branch is a root that can only roll back.
 pub fn children_weigh()
     ensures { ChildrenWeigh }
+{}
+
+/// A live branch has the commit point strength of its node's place.
+pub fn lives_have_strength()
+    ensures { LivesHaveStrength }
 {}
 
 /// A live branch below a root that waits for nothing, and took its parent's last call, stands still.
@@ -30,7 +38,14 @@ pub fn leavers_are_complete()
     ensures { LeaversAreComplete }
 {}
 
-/// A live branch has the commit point strength of its node's place.
-pub fn lives_have_strength()
-    ensures { LivesHaveStrength }
+/// A branch that has left, and was not dropped, began, and its parent asked it to prepare.
+pub fn left_were_asked()
+    ensures { LeftWereAsked }
+{}
+
+/// Where a branch has decided, the COMMIT of its root came to that root at rest and was not refused. The walk from the root ended at the
+/// branch by the weights that the live branches knew then. Each branch of the tree was live then; each but the site has been
+/// sealed by now, or it had no weight.
+pub fn decisions_follow_walks()
+    ensures { DecisionsFollowWalks }
 {}
