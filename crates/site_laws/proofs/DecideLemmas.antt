@@ -301,8 +301,10 @@ module _ (t : History) (whole : IsLawfulRun t) (r : BranchId) (found : WasFound 
   lasts_on : (hs : List Happening) (y : Happening) (rest : List Happening) → hs ++ y ∷ rest ≡ t.trace → Lasts hs → Lasts (hs ++ y ∷ [])
   lasts_on hs y rest is now = (
     (now.0.0 ++ y ∷ [], sym (append_assoc hs1 now.0.0 (y ∷ [])) ∙ ap (λ xs. xs ++ y ∷ []) now.0.1),
-    (busy_on hs y rest is now.1.0,
-    state_on t whole x (strength_at t whole hs0 part0 x here) good hs y rest is (λ j w there is_w me working. absurd (not_working hs (part_of t whole hs y rest is) now.1.0 j w there is_w me working)) now.1.1),
+    (
+      busy_on hs y rest is now.1.0,
+      state_on t whole x (strength_at t whole hs0 part0 x here) good hs y rest is (λ j w there is_w me working. absurd (not_working hs (part_of t whole hs y rest is) now.1.0 j w there is_w me working)) now.1.1,
+    ),
   )
 
   lasts : (mid : List Happening) → Part t whole (hs1 ++ mid) → Lasts (hs1 ++ mid)

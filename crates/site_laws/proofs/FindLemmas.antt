@@ -198,6 +198,7 @@ module _ (t : History) (whole : IsLawfulRun t) (r : BranchId) where
               | inl same ↦ absurd (other (works k l up (sym same ∙ live)))
             ])
           ]
+
       left_begins : {x : Exit} → LeftSo k u.input (said_in f) r x → Begins_by u.input r
       left_begins so = subst (Begins_by u.input) so.is_me (so.begins (works k so.live up (subst (λ b. live_at k b ≡ Some so.live) so.is_me so.found)))
 
@@ -323,9 +324,12 @@ module _ (t : History) (whole : IsLawfulRun t) (r : BranchId) where
         in_node : exit (e_at t after) r ≡ None → (j : Kept) → node_at (f_at t after) r.node ≡ Some j → (o : Option Live) → live_at j r ≡ o → Before after ⊎ WasFound after
         in_node clean j there None at = inl (clean, (λ k l up live. absurd (let both : Some j ≡ Some k = sym there ∙ up in let it : j ≡ k = cc in let no : live_at k r ≡ None = subst (λ i. live_at i r ≡ None) it at in cc (no, live))))
         in_node clean j there (Some l) at = elim (working_or l.phase) [
-          | inl working ↦ inl (clean, (λ k y up live. (let both : Some j ≡ Some k = sym there ∙ up in let it : j ≡ k = cc in
-              let two : Some l ≡ Some y = sym (subst (λ i. live_at i r ≡ Some l) it at) ∙ live in let same : l ≡ y = cc in
-              subst (λ (z : Live). z.phase ≡ phases.Working) same working)))
+          | inl working ↦ inl (
+            clean,
+            (λ k y up live. (let both : Some j ≡ Some k = sym there ∙ up in let it : j ≡ k = cc in
+                let two : Some l ≡ Some y = sym (subst (λ i. live_at i r ≡ Some l) it at) ∙ live in let same : l ≡ y = cc in
+                subst (λ (z : Live). z.phase ≡ phases.Working) same working)),
+          )
           | inr other ↦ inr (commit_now (next_live j l there at other))
         ]
 
