@@ -53,6 +53,7 @@ use Rattle.site_laws.proofs.FindLemmas.{CommitAt, WasFound, commit_found}
 use Rattle.site_laws.proofs.FrozenLemmas.{State, Here, Left, Found, PointsTo, strength_at, state_by, state_left, state_on, Since, Member}
 use Rattle.site_laws.proofs.HeardLemmas.{left_were_asked}
 use Rattle.site_laws.proofs.MemberLemmas.{IsIn, Kid, kid_of}
+use Rattle.site_laws.proofs.SeenLemmas.{site_seen}
 use Rattle.site_laws.proofs.TimeLemmas.{Part, part_lawful, part_of, part_on, may_of, fact_at, exit_end, sent_end, born_end, keep_on}
 use Rattle.site_laws.proofs.WeighLemmas.{placed_of}
 
@@ -400,6 +401,16 @@ module _ (t : History) (whole : IsLawfulRun t) where
     site : walk_from (said_in (facts_at t)) (deepest (births_of t)) r ≡ b
     site = sym (trees.site_is (births_of t) (said_in (facts_at t)) (known t whole) heard.0 b heard.1 heard.2) ∙ sym (at_site t whole b n decided r inside)
 
+    -- a root is not above any depth
+    high : 1 ≤ found.commit.branch.live.depth
+    high =
+        let its : LiveIs (Began (births_of (so_far t found.before))) found.commit.branch.live
+        = placed_of (so_far t found.before) (part_lawful t whole found.before part_found) found.commit.branch.live.me.node member.here.kept member.here.up found.commit.branch member.here.found in
+        subst (λ d. 1 ≤ d) its.is_depth (trees.high (births_of t) (said_in (facts_at t)) (known t whole) its.born (born_end t whole found.before part_found its.born its.began))
+
+    walk_down : WalksTo (f_at t found.before) r b
+    walk_down = walks_down t whole found.before part_found r b n decided inside (deepest (births_of t)) found.commit.branch member r found.commit.is_me site
+
     pub follows : DecidedSo t b
     follows = record {
       before = found.before;
@@ -414,7 +425,8 @@ module _ (t : History) (whole : IsLawfulRun t) where
       up = subst (λ i. node_at (f_at t found.before) i ≡ Some found.commit.kept) (sym found.commit.node) found.commit.up;
       has = found.commit.root;
       accepted = found.commit.code;
-      walk = walks_down t whole found.before part_found r b n decided inside (deepest (births_of t)) found.commit.branch member r found.commit.is_me site;
+      walk = walk_down;
+      at_site = λ tr sees. site_seen t whole found.before part_found r (asked_well t whole b n decided r inside) tr sees found.commit.branch member found.commit.is_me high b walk_down;
       covers = λ c tree. covers_it t whole found.before part_found r b n decided inside c (in_it t whole found.before part_found r b n decided inside found.commit.branch member found.commit.is_me c tree);
     }
 

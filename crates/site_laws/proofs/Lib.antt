@@ -1,3 +1,4 @@
+pub mod KidLemmas
 pub mod CalledLemmas
 pub mod WeighLemmas
 pub mod RestLemmas
@@ -13,4 +14,5 @@ pub mod CoverLemmas
 pub mod WorkLemmas
 pub mod CommitLemmas
 pub mod FindLemmas
+pub mod SeenLemmas
 pub mod DecideLemmas
