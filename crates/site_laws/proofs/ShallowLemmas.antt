@@ -1,6 +1,6 @@
 -- In every lawful run a live branch with a child stands above the greatest depth of a tree.
 use Rattle.std.proofs.Common.{◌≡◌, ◌≢◌, ℕ, ◌+◌, ◌-◌, ◌≤◌, ◌||◌, Bool, true, false, if◌then◌else◌, List, [], ◌∷◌, ◌++◌, length, Option, Some, None, refl, sym, ap, subst, ◌∙◌, arith}
-use Rattle.std.specs.Prelude.{nat_le}
+use Rattle.std.specs.Prelude.{nat_le, ◌==◌}
 use Rattle.std.proofs.lemmas.Bool.Decides.{nat_tests}
 use Rattle.std.proofs.lemmas.List.{length-map}
 use Rattle.dtx_values.specs.Limits.{depth_limit}
@@ -73,7 +73,7 @@ as_many depth es xs w same is = record { child = λ some. is.child (subst (λ n.
 
 -- one that waits for no new child
 waits_not : (depth : ℕ) (es : List Edge) (w : Work) → ((g : Going) (link : List ℕ) → w.going ≡ Some g → g.waits ≡ waiting.ForOpened link → ⊥) → (1 ≤ length es → depth + 1 ≤ depth_limit) → IsHigh depth es w
-waits_not depth es w no child = record { child = child; opens = λ g link going waits. absurd (no g link going waits) }
+waits_not depth es w never child = record { child = child; opens = λ g link going waits. absurd (never g link going waits) }
 
 module _ (k : Kept) (now : Nodes k) where
   found_high : (x : Branch) → branch_at k x.live.me ≡ Some x → High x.live x.work
