@@ -14,6 +14,5 @@ pub mod CoverLemmas
 pub mod WorkLemmas
 pub mod CommitLemmas
 pub mod FindLemmas
-pub mod ShallowLemmas
 pub mod SeenLemmas
 pub mod DecideLemmas
