@@ -53,7 +53,8 @@ use Rattle.site_laws.proofs.FindLemmas.{CommitAt, WasFound, commit_found}
 use Rattle.site_laws.proofs.FrozenLemmas.{State, Here, Left, Found, PointsTo, strength_at, state_by, state_left, state_on, Since, Member}
 use Rattle.site_laws.proofs.HeardLemmas.{left_were_asked}
 use Rattle.site_laws.proofs.MemberLemmas.{IsIn, Kid, kid_of}
-use Rattle.site_laws.proofs.SeenLemmas.{site_seen}
+use Rattle.site_laws.proofs.SeenLemmas.{Low, site_seen, plan_covers}
+use Rattle.dtx_values.specs.Limits.{depth_limit}
 use Rattle.site_laws.proofs.TimeLemmas.{Part, part_lawful, part_of, part_on, may_of, fact_at, exit_end, sent_end, born_end, keep_on}
 use Rattle.site_laws.proofs.WeighLemmas.{placed_of}
 
@@ -408,6 +409,18 @@ module _ (t : History) (whole : IsLawfulRun t) where
         = placed_of (so_far t found.before) (part_lawful t whole found.before part_found) found.commit.branch.live.me.node member.here.kept member.here.up found.commit.branch member.here.found in
         subst (λ d. 1 ≤ d) its.is_depth (trees.high (births_of t) (said_in (facts_at t)) (known t whole) its.born (born_end t whole found.before part_found its.born its.began))
 
+    first_depth : found.commit.branch.live.depth ≡ 1
+    first_depth =
+        let its : LiveIs (Began (births_of (so_far t found.before))) found.commit.branch.live
+        = placed_of (so_far t found.before) (part_lawful t whole found.before part_found) found.commit.branch.live.me.node member.here.kept member.here.up found.commit.branch member.here.found in
+        let one : its.born ≡ top.0
+        = trees.same_born (births_of t) (said_in (facts_at t)) (known t whole) its.born top.0 (born_end t whole found.before part_found its.born its.began) top.1 (its.is_me ∙ (found.commit.is_me ∙ sym top.2)) in
+        let stands = trees.stands_so (births_of t) (said_in (facts_at t)) (known t whole) top.0 None top.1 top.3 in
+        sym its.is_depth ∙ (ap (λ (y : Born). y.depth) one ∙ stands.1)
+
+    root_low : Low t whole found.before part_found r (asked_well t whole b n decided r inside) r
+    root_low = record { branch = found.commit.branch; is_me = found.commit.is_me; member = member; low = subst (λ d. d ≤ depth_limit) (sym first_depth) (let one : 1 ≤ 8 = omega arith in one) }
+
     walk_down : WalksTo (f_at t found.before) r b
     walk_down = walks_down t whole found.before part_found r b n decided inside (deepest (births_of t)) found.commit.branch member r found.commit.is_me site
 
@@ -426,7 +439,11 @@ module _ (t : History) (whole : IsLawfulRun t) where
       has = found.commit.root;
       accepted = found.commit.code;
       walk = walk_down;
-      at_site = λ tr sees. site_seen t whole found.before part_found r (asked_well t whole b n decided r inside) tr sees found.commit.branch member found.commit.is_me high b walk_down;
+      planned = λ tr sees. (
+        site_seen t whole found.before part_found r (asked_well t whole b n decided r inside) tr sees root_low found.commit.branch member found.commit.is_me high b walk_down,
+        plan_covers t whole found.before part_found r (asked_well t whole b n decided r inside) tr sees root_low b
+            (λ c tree. covers_it t whole found.before part_found r b n decided inside c (in_it t whole found.before part_found r b n decided inside found.commit.branch member found.commit.is_me c tree)) found.commit.branch member found.commit.is_me,
+      );
       covers = λ c tree. covers_it t whole found.before part_found r b n decided inside c (in_it t whole found.before part_found r b n decided inside found.commit.branch member found.commit.is_me c tree);
     }
 

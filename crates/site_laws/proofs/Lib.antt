@@ -14,5 +14,6 @@ pub mod CoverLemmas
 pub mod WorkLemmas
 pub mod CommitLemmas
 pub mod FindLemmas
+pub mod ShallowLemmas
 pub mod SeenLemmas
 pub mod DecideLemmas

@@ -1,6 +1,7 @@
 -- Where a branch decides, by what live branches knew when the COMMIT of its root came: the walk from the root, by the weights that each
 -- branch held of its children, ended at that branch.
-use Rattle.std.specs.Prelude.{◌≡◌, ◌⊎◌, ◌≤◌, ℕ, List, ◌∷◌, ◌++◌, Option, Some, None}
+use Rattle.std.specs.Prelude.{◌≡◌, ◌≢◌, ◌⊎◌, ℕ, List, ◌∷◌, ◌++◌, Option, Some, None}
+use Rattle.std.specs.List.{AllByRecursion}
 use Rattle.session_tree.specs.Live.{children_of}
 use Rattle.session_tree.specs.Tree.{weight, step}
 use Rattle.session_tree.specs.declared.act.Walk.TheVariants as walks
@@ -16,9 +17,8 @@ use Rattle.run_laws.specs.Data.happenings
 use Rattle.run_laws.specs.Facts.{Facts, first_facts, node_at, facts_of}
 use Rattle.run_laws.specs.Lawful.{History, IsLawfulRun}
 use Rattle.run_laws.specs.RunEvents.{events_of}
-use Rattle.run_laws.specs.Branches.{Trail, children_at}
-use Rattle.run_laws.specs.Tree.{has_changes, site}
-use Rattle.dtx_values.specs.Limits.{depth_limit}
+use Rattle.run_laws.specs.Branches.{Trail, Planned, children_at}
+use Rattle.run_laws.specs.Tree.{has_changes, plan}
 
 -- a live branch of a node, where it is up
 abbrev pub live_of : Option Kept → BranchId → Option Live
@@ -39,16 +39,18 @@ pub data InTree (f : Facts) (r : BranchId) : BranchId → Type 0 where
   Is_root : InTree f r r
   Is_child : (p c : BranchId) (l : Live) (i : ℕ) → InTree f r p → live_in f p ≡ Some l → numbered (children_of l) i ≡ Some c → InTree f r c
 
--- What the happenings tell of the live branches of a tree is what their nodes keep: their children, and whether they have changes. None stands
--- too deep.
+-- What the happenings tell of the live branches of a tree is what their nodes keep: their children, and whether they have changes.
 pub record SeesTree (f : Facts) (tr : Trail) (r : BranchId) : Type 0 where
   pub children : (c : BranchId) (l : Live) → InTree f r c → live_in f c ≡ Some l → children_at tr c ≡ children_of l
   pub changed : (c : BranchId) (l : Live) → InTree f r c → live_in f c ≡ Some l → has_changes tr c ≡ l.changed
-  pub shallow : (c : BranchId) (l : Live) → InTree f r c → live_in f c ≡ Some l → l.depth ≤ depth_limit
 
--- The COMMIT of the root came to it after some happenings, and was not refused. The walk ended at the branch that decides, which
--- is the site by all that is told of the tree, where that is what nodes keep; every other
--- branch of the tree was live, and has been sealed by now, or had no weight.
+-- A branch of a plan other than this one, with changes on it or below it, has been sealed.
+abbrev pub IsCoveredBy : History → BranchId → Planned → Type 0
+IsCoveredBy t b x = x.me ≢ b → x.weight ≢ None → (m : ℕ) × (exit (events_of t) x.me ≡ Some (Sealed m))
+
+-- The COMMIT of the root came to it after some happenings, and was not refused. The walk ended at the branch that decides. The plan of
+-- the COMMIT has it as the site, where the happenings tell of the tree what nodes keep, and each other branch of the plan with changes on it
+-- or below it has been sealed. Every other branch of the tree was live, and has been sealed by now, or had no weight.
 pub record DecidedSo (t : History) (b : BranchId) : Type 0 where
   pub before : List Happening
   pub turn : Turn
@@ -63,7 +65,8 @@ pub record DecidedSo (t : History) (b : BranchId) : Type 0 where
   pub has : (session_at kept.sessions session).root ≡ Some root
   pub accepted : (session_at kept.sessions session).code ≡ None
   pub walk : WalksTo (facts_of t.places t.commands (first_facts t.places) before) root b
-  pub at_site : (tr : Trail) → SeesTree (facts_of t.places t.commands (first_facts t.places) before) tr root → site t.places tr root ≡ Some b
+  pub planned : (tr : Trail) → SeesTree (facts_of t.places t.commands (first_facts t.places) before) tr root
+      → ((plan t.places tr root).site ≡ Some b) × AllByRecursion (IsCoveredBy t b) (plan t.places tr root).tree
   pub covers : (c : BranchId) → InTree (facts_of t.places t.commands (first_facts t.places) before) root c
       → (l : Live) × (live_in (facts_of t.places t.commands (first_facts t.places) before) c ≡ Some l) × ((c ≡ b) ⊎ (((m : ℕ) × (exit (events_of t) c ≡ Some (Sealed m))) ⊎ (weight l ≡ None)))
 

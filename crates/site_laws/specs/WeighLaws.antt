@@ -1,6 +1,7 @@
 -- What live branches of a session tree know of one another while no statement is under way: each child weighs what its parent holds
 -- of it.
-use Rattle.std.specs.Prelude.{◌≡◌, ℕ, ◌≤◌, Some, None}
+use Rattle.std.specs.Prelude.{◌≡◌, ℕ, ◌+◌, ◌≤◌, length, Some, None}
+use Rattle.dtx_values.specs.Limits.{depth_limit}
 use Rattle.session_tree.specs.Tree.{weight}
 use Rattle.node_rules.specs.Data.{Edge}
 use Rattle.node_rules.specs.Words.{numbered}
@@ -25,6 +26,10 @@ abbrev pub ChildrenWeigh : Type 0
 ChildrenWeigh = (t : History) → IsLawfulRun t → (n : ℕ) (k : Kept) → node_at (facts_at t) n ≡ Some k → (x : Branch) → branch_at k x.live.me ≡ Some x → GoesOn k x.live → x.work.going ≡ None
     → (i : ℕ) (e : Edge) → numbered x.live.edges i ≡ Some e → (m : ℕ) (j : Kept) → node_at (facts_at t) m ≡ Some j → (y : Branch) → branch_at j y.live.me ≡ Some y → y.live.me ≡ e.peer
     → ChildRests t x e y
+
+-- In every lawful run a live branch with a child stands above the greatest depth of a tree.
+abbrev pub ParentsAreShallow : Type 0
+ParentsAreShallow = (t : History) → IsLawfulRun t → (n : ℕ) (k : Kept) → node_at (facts_at t) n ≡ Some k → (x : Branch) → branch_at k x.live.me ≡ Some x → 1 ≤ length x.live.edges → x.live.depth + 1 ≤ depth_limit
 
 -- In every lawful run a live branch has the commit point strength of its node's place.
 abbrev pub LivesHaveStrength : Type 0

@@ -6,7 +6,7 @@
 //! tell (`specs/DecideLaws.antt`).
 #![tactic(auto)]
 
-ghost use Rattle.site_laws.specs.WeighLaws.{EdgesWereCalled, ChildrenWeigh, LivesHaveStrength};
+ghost use Rattle.site_laws.specs.WeighLaws.{EdgesWereCalled, ChildrenWeigh, LivesHaveStrength, ParentsAreShallow};
 ghost use Rattle.site_laws.specs.RestLaws.{RestingStandStill};
 ghost use Rattle.site_laws.specs.LeaveLaws.{LeaversAreComplete, LeftWereAsked};
 ghost use Rattle.site_laws.specs.DecideLaws.{DecisionsFollowWalks};
@@ -20,6 +20,11 @@ pub fn edges_were_called()
 /// call; unless the branch is a root that can only roll back.
 pub fn children_weigh()
     ensures { ChildrenWeigh }
+{}
+
+/// A live branch with a child stands above the greatest depth of a session tree.
+pub fn parents_are_shallow()
+    ensures { ParentsAreShallow }
 {}
 
 /// A live branch has the commit point strength of its node's place.
@@ -44,7 +49,8 @@ pub fn left_were_asked()
 {}
 
 /// Where a branch has decided, the COMMIT of its root came to that root at rest and was not refused. The walk from the root ended at the
-/// branch by the weights that the live branches knew then. Each branch of the tree was live then; each but the site has been
+/// branch by the weights that the live branches knew then, and so it is the commit point site by all that is told of the tree, where the
+/// happenings tell of those branches what their nodes keep. Each branch of the tree was live then; each but the site has been
 /// sealed by now, or it had no weight.
 pub fn decisions_follow_walks()
     ensures { DecisionsFollowWalks }
