@@ -1,0 +1,4 @@
+pub mod WeighLaws
+pub mod RestLaws
+pub mod LeaveLaws
+pub mod DecideLaws
