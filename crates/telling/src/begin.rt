@@ -1,5 +1,5 @@
 //! A command begins.
-ghost use Rattle.std.specs.Prelude.{◌≡◌, ◌&&◌, ◌∷◌, ◌++◌, [], not, find, is_some, IfOk, OnOk};
+ghost use Rattle.std.specs.Prelude.{◌≡◌, ◌&&◌, ◌∷◌, ◌++◌, [], not, find, is_some, IfOk, OnErr, OnOk};
 ghost use Rattle.std.specs.Option.{option_copied};
 ghost use Rattle.run_laws.specs.Commands.{call_of as call_of_command, commits_first as commits_first_of, hold_after, page_of};
 ghost use Rattle.run_laws.specs.Calls.{is_call_at};
@@ -44,6 +44,7 @@ impl Telling {
     ) -> Result<(), AllocError>
         ensures by_facts { OnOk result (self.new ≡ begun facts self.old number command.now) }
         ensures tells { OnOk result (TellsBegin facts self.old number command.now self.new) }
+        ensures before { OnErr result (self.new.lines ≡ self.old.lines) }
     {
         self.open(alloc, number, command, facts)
     }
@@ -55,7 +56,8 @@ impl Telling {
         command: &Command,
         facts: BeginFacts,
     ) -> Result<(), AllocError>
-        ensures { OnOk result (self.new ≡ begun facts self.old number command.now) }
+        ensures by_facts { OnOk result (self.new ≡ begun facts self.old number command.now) }
+        ensures before { OnErr result (self.new.lines ≡ self.old.lines) }
     {
         let (up, has) = (facts.is_up, facts.has_transaction);
         add_call(&mut self.calls, alloc, number, command, up, has)?;
@@ -75,12 +77,14 @@ impl Telling {
         flying: bool,
         says: Listing<Said>,
     ) -> Result<(), AllocError>
-        ensures { OnOk result (self.new ≡ record self.old { page = page_of says; lines = told_by running flying self.old }) }
+        ensures tells { OnOk result (self.new ≡ record self.old { page = page_of says; lines = told_by running flying self.old }) }
+        ensures before { OnErr result (self.new.lines ≡ self.old.lines) }
     {
         let over = over(alloc, self.deliveries, flying)?;
         let next = Page::of(alloc, says.into_vec());
         let page = mem::replace(&mut self.page, next);
-        page.tell(&mut self.lines, running, over)
+        let mut more = page.into_lines(alloc, running, over)?;
+        self.lines.append(&mut more)
     }
 
     fn take_hold(&mut self, command: &Command)

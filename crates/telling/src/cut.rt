@@ -84,6 +84,7 @@ impl Telling {
         requires { before ≤ 3 }
         ensures appends { self.new ≡ appends self.old node before }
         ensures count { self.new.deliveries ≡ self.old.deliveries }
+        ensures before { self.new.lines ≡ self.old.lines }
     {
         let left = orders_at(&self.orders, node).after_append(before);
         set_orders(&mut self.orders, node, left);
@@ -92,6 +93,7 @@ impl Telling {
     fn append_if(&mut self, node: u8, writes: bool)
         ensures appends { self.new ≡ appends_if self.old node writes }
         ensures count { self.new.deliveries ≡ self.old.deliveries }
+        ensures before { self.new.lines ≡ self.old.lines }
     {
         if writes {
             self.append(node, 0);
@@ -101,6 +103,7 @@ impl Telling {
     fn append_at_point(&mut self, node: u8, stands: bool, passes: &Passes, side: Side)
         ensures appends { self.new ≡ record (appends_if self.old node stands) { points = map (reach (passes_as passes.now).root (numbers_on side (passes_as passes.now))) self.old.points } }
         ensures count { self.new.deliveries ≡ self.old.deliveries }
+        ensures before { self.new.lines ≡ self.old.lines }
     {
         self.append_if(node, stands);
         reach_all(&mut self.points, passes, side);
@@ -110,6 +113,7 @@ impl Telling {
     pub(crate) fn append_cut(&mut self, node: u8, writes: bool, cut: Cut)
         ensures appends { self.new ≡ cut_appends self.old node writes (cut_as cut) }
         ensures count { self.new.deliveries ≡ self.old.deliveries }
+        ensures before { self.new.lines ≡ self.old.lines }
     {
         match cut {
             Cut::Whole => self.append_if(node, writes),

@@ -18,7 +18,8 @@ use wire_msg::Input;
 impl Telling {
     // With the command's own lines while it runs, and else among the answers of earlier calls.
     fn say(&mut self, running: u32, command: u32, said: Said) -> Result<(), AllocError>
-        ensures { OnOk result (self.new ≡ call_line_of running self.old command said) }
+        ensures tells { OnOk result (self.new ≡ call_line_of running self.old command said) }
+        ensures before { self.new.lines ≡ self.old.lines }
     {
         if running == command {
             self.page.say(said)
@@ -34,7 +35,8 @@ impl Telling {
         command: u32,
         point: Option<Point>,
     ) -> Result<(), AllocError>
-        ensures { OnOk result (self.new ≡ reached_line running self.old command point) }
+        ensures tells { OnOk result (self.new ≡ reached_line running self.old command point) }
+        ensures before { self.new.lines ≡ self.old.lines }
     {
         match point {
             None => Ok(()),
@@ -53,7 +55,8 @@ impl Telling {
         command: u32,
         said: Said,
     ) -> Result<(), AllocError>
-        ensures { OnOk result (self.new ≡ call_line running self.old command said) }
+        ensures tells { OnOk result (self.new ≡ call_line running self.old command said) }
+        ensures before { self.new.lines ≡ self.old.lines }
     {
         let point = reached_of(&self.points, command);
         self.say(running, command, said)?;
@@ -70,7 +73,8 @@ impl Telling {
         command: u32,
         said: Said,
     ) -> Result<(), AllocError>
-        ensures { OnOk result (self.new ≡ call_line running (without_call self.old node session) command said) }
+        ensures tells { OnOk result (self.new ≡ call_line running (without_call self.old node session) command said) }
+        ensures before { self.new.lines ≡ self.old.lines }
     {
         drop_call(&mut self.calls, node, session);
         self.answer(alloc, running, command, said)
@@ -78,7 +82,8 @@ impl Telling {
 
     // The statement of a CREATE is the next call.
     fn follow(&mut self, alloc: Global, second: Call) -> Result<(), AllocError>
-        ensures { OnOk result (self.new ≡ call_follows self.old second) }
+        ensures tells { OnOk result (self.new ≡ call_follows self.old second) }
+        ensures before { self.new.lines ≡ self.old.lines }
     {
         change_calls(&mut self.calls, alloc, &second)?;
         self.next_call = Some(second);
@@ -93,7 +98,8 @@ impl Telling {
         node: u8,
         done: Finished,
     ) -> Result<(), AllocError>
-        ensures { OnOk result (self.new ≡ finished_call running self.old done (call_of self.old node done.session)) }
+        ensures tells { OnOk result (self.new ≡ finished_call running self.old done (call_of self.old node done.session)) }
+        ensures before { self.new.lines ≡ self.old.lines }
     {
         let ending = ending_of(alloc, &done, call_at(&self.calls, node, done.session))?;
         self.end_by(alloc, running, done, ending)
@@ -106,7 +112,8 @@ impl Telling {
         done: Finished,
         ending: Ending,
     ) -> Result<(), AllocError>
-        ensures { OnOk result (self.new ≡ ended_by running self.old done ending) }
+        ensures tells { OnOk result (self.new ≡ ended_by running self.old done ending) }
+        ensures before { self.new.lines ≡ self.old.lines }
     {
         match ending {
             Ending::NoCall => Ok(()),
@@ -130,7 +137,8 @@ impl Telling {
         node: u8,
         ended: Ended,
     ) -> Result<(), AllocError>
-        ensures { OnOk result (self.new ≡ finished running self.old node ended) }
+        ensures tells { OnOk result (self.new ≡ finished running self.old node ended) }
+        ensures before { self.new.lines ≡ self.old.lines }
     {
         for done in ended.into_vec() {
             self.end_call(alloc, running, node, done)?;
@@ -140,7 +148,8 @@ impl Telling {
 
     // With HOLD on a call that its own turn does not end is waiting.
     fn wait(&mut self, alloc: Global) -> Result<(), AllocError>
-        ensures { OnOk result (self.new ≡ waits_of self.old) }
+        ensures tells { OnOk result (self.new ≡ waits_of self.old) }
+        ensures before { self.new.lines ≡ self.old.lines }
     {
         if self.hold && self.next_call.is_none() {
             self.page.say_alone(alloc, Said::World(Notice::Waiting))
@@ -157,7 +166,8 @@ impl Telling {
         node: u8,
         session: u32,
     ) -> Result<(), AllocError>
-        ensures { OnOk result (self.new ≡ waits_if_pending running self.old (call_of self.old node session)) }
+        ensures tells { OnOk result (self.new ≡ waits_if_pending running self.old (call_of self.old node session)) }
+        ensures before { self.new.lines ≡ self.old.lines }
     {
         if is_running(call_at(&self.calls, node, session), running) {
             self.wait(alloc)
@@ -174,7 +184,8 @@ impl Telling {
         node: u8,
         input: &Input,
     ) -> Result<(), AllocError>
-        ensures { OnOk result (self.new ≡ after_input running self.old node input.now) }
+        ensures tells { OnOk result (self.new ≡ after_input running self.old node input.now) }
+        ensures before { self.new.lines ≡ self.old.lines }
     {
         match input {
             Input::Call { session, .. } => self.wait_if_pending(alloc, running, node, *session),

@@ -3,7 +3,7 @@
 //!
 //! Nothing here knows a node or a message. What a change depends on beside this the caller looks up and hands in
 //! (`specs/Facts.antt` says what it has to be), and each call then gives what the definitions of a run say. A call fails
-//! where memory runs out, and for no other reason; the telling is of no use then.
+//! where memory runs out, and for no other reason; then the lines of the commands before stay, and the rest is of no use.
 #![tactic(auto)]
 
 mod begin;

@@ -38,6 +38,7 @@ impl Telling {
     ) -> Result<(), AllocError>
         ensures by_facts { OnOk result (self.new ≡ acts (stopped_by name.now facts.now self.old command.now node)) }
         ensures tells { OnOk result (TellsStop facts.now self.old node name.now command.now self.new) }
+        ensures before { self.new.lines ≡ self.old.lines }
     {
         self.fall(alloc, node, name, command, facts)
     }
@@ -50,7 +51,8 @@ impl Telling {
         command: &Command,
         facts: &StopFacts,
     ) -> Result<(), AllocError>
-        ensures { OnOk result (self.new ≡ acts (stopped_by name.now facts.now self.old command.now node)) }
+        ensures tells { OnOk result (self.new ≡ acts (stopped_by name.now facts.now self.old command.now node)) }
+        ensures before { self.new.lines ≡ self.old.lines }
     {
         let keys = keys_at(alloc, &self.calls, node)?;
         self.refuse_start(alloc, node, name, command, facts)?;
@@ -66,12 +68,14 @@ impl Telling {
     pub fn start(&mut self, alloc: Global, node: u8, name: &[u8]) -> Result<(), AllocError>
         ensures by_name { OnOk result (self.new ≡ acts (started_by name.now self.old node (struck 3 (orders_of self.old node)))) }
         ensures tells { OnOk result (TellsStart self.old node name.now self.new) }
+        ensures before { self.new.lines ≡ self.old.lines }
     {
         self.boot(alloc, node, name)
     }
 
     fn boot(&mut self, alloc: Global, node: u8, name: &[u8]) -> Result<(), AllocError>
-        ensures { OnOk result (self.new ≡ acts (started_by name.now self.old node (struck 3 (orders_of self.old node)))) }
+        ensures tells { OnOk result (self.new ≡ acts (started_by name.now self.old node (struck 3 (orders_of self.old node)))) }
+        ensures before { self.new.lines ≡ self.old.lines }
     {
         let strike = self.orders_at(node).struck(3);
         let said = start_says(alloc, name, &strike)?;
@@ -91,7 +95,8 @@ impl Telling {
         command: &Command,
         facts: &StopFacts,
     ) -> Result<(), AllocError>
-        ensures { OnOk result (self.new ≡ refused_start name.now facts.now self.old command.now node) }
+        ensures tells { OnOk result (self.new ≡ refused_start name.now facts.now self.old command.now node) }
+        ensures before { self.new.lines ≡ self.old.lines }
     {
         if is_failed(facts, command, node) {
             let said = down(alloc, name)?;
@@ -110,7 +115,8 @@ impl Telling {
         name: &[u8],
         keys: Vec<CallKey>,
     ) -> Result<(), AllocError>
-        ensures { OnOk result (self.new ≡ calls_fall running self.old node name.now keys.items) }
+        ensures tells { OnOk result (self.new ≡ calls_fall running self.old node name.now keys.items) }
+        ensures before { self.new.lines ≡ self.old.lines }
     {
         for key in keys {
             self.drop_call(alloc, running, node, name, key)?;
@@ -126,7 +132,8 @@ impl Telling {
         name: &[u8],
         key: CallKey,
     ) -> Result<(), AllocError>
-        ensures { OnOk result (self.new ≡ call_falls running self.old node name.now key) }
+        ensures tells { OnOk result (self.new ≡ call_falls running self.old node name.now key) }
+        ensures before { self.new.lines ≡ self.old.lines }
     {
         let said = down(alloc, name)?;
         self.close(alloc, running, node, key.session, key.command, said)
@@ -140,7 +147,8 @@ impl Telling {
         name: &[u8],
         command: &Command,
     ) -> Result<(), AllocError>
-        ensures { OnOk result (self.new ≡ stop_told name.now self.old command.now node) }
+        ensures tells { OnOk result (self.new ≡ stop_told name.now self.old command.now node) }
+        ensures before { self.new.lines ≡ self.old.lines }
     {
         if is_stop_of(command, node) {
             Ok(())

@@ -111,8 +111,16 @@ impl Telling {
     {
         let over = over(alloc, self.deliveries, flying)?;
         let mut lines = self.lines;
-        self.page.tell(&mut lines, running, over)?;
+        let mut more = self.page.into_lines(alloc, running, over)?;
+        lines.append(&mut more)?;
         Ok(Listing::of(lines))
+    }
+
+    /// The lines of the commands before the one that runs.
+    pub fn into_lines_before(self) -> Listing<AnswerLine>
+        ensures { result ≡ self.lines }
+    {
+        Listing::of(self.lines)
     }
 }
 

@@ -43,6 +43,7 @@ impl Telling {
         requires { IfSome turn.now.took (λ took. self.old.deliveries < 2 ^ 32 - 1) }
         ensures by_facts { OnOk result (self.new ≡ turned_by running self.old turn.now facts) }
         ensures tells { OnOk result (TellsTurn facts running self.old turn.now self.new) }
+        ensures before { self.new.lines ≡ self.old.lines }
     {
         self.take(alloc, running, turn, facts)
     }
@@ -55,7 +56,8 @@ impl Telling {
         facts: TurnFacts,
     ) -> Result<(), AllocError>
         requires { IfSome turn.now.took (λ took. self.old.deliveries < 2 ^ 32 - 1) }
-        ensures { OnOk result (self.new ≡ turned_by running self.old turn.now facts) }
+        ensures tells { OnOk result (self.new ≡ turned_by running self.old turn.now facts) }
+        ensures before { self.new.lines ≡ self.old.lines }
     {
         self.count(turn, &facts)?;
         self.end_turn(alloc, running, turn, facts.ended)?;
@@ -66,7 +68,8 @@ impl Telling {
     // The orders, the points and the deliveries after a turn.
     fn count(&mut self, turn: &Turn, facts: &TurnFacts) -> Result<(), AllocError>
         requires { IfSome turn.now.took (λ took. self.old.deliveries < 2 ^ 32 - 1) }
-        ensures { OnOk result (self.new ≡ counted_by self.old turn.now facts.now) }
+        ensures tells { OnOk result (self.new ≡ counted_by self.old turn.now facts.now) }
+        ensures before { self.new.lines ≡ self.old.lines }
     {
         let cut = self.cut(turn.node, facts.writes, facts.passes);
         self.append_cut(turn.node, facts.writes, cut);
@@ -84,7 +87,8 @@ impl Telling {
         turn: &Turn,
         ended: Ended,
     ) -> Result<(), AllocError>
-        ensures { OnOk result (self.new ≡ ends_by running self.old turn.now ended turn.now.cut) }
+        ensures tells { OnOk result (self.new ≡ ends_by running self.old turn.now ended turn.now.cut) }
+        ensures before { self.new.lines ≡ self.old.lines }
     {
         if turn.cut {
             return Ok(());
@@ -97,6 +101,7 @@ impl Telling {
     fn arm(&mut self, node: u8, caller: &Session, input: &Input) -> Result<(), AllocError>
         ensures arms { OnOk result (self.new ≡ arms_by self.old node caller.now input.now) }
         ensures count { OnOk result (self.new.deliveries ≡ self.old.deliveries) }
+        ensures before { self.new.lines ≡ self.old.lines }
     {
         match input {
             Input::Call {
@@ -126,6 +131,7 @@ impl Telling {
     ) -> Result<(), AllocError>
         ensures arms { OnOk result (self.new ≡ arms_point self.old caller.now.root (call_at_of self.old node session) number) }
         ensures count { OnOk result (self.new.deliveries ≡ self.old.deliveries) }
+        ensures before { self.new.lines ≡ self.old.lines }
     {
         let Some(root) = caller.root else {
             return Ok(());
@@ -148,7 +154,8 @@ impl Telling {
 
     fn deliver(&mut self, took: Option<Took>)
         requires { IfSome took (λ took. self.old.deliveries < 2 ^ 32 - 1) }
-        ensures { self.new ≡ delivered_more self.old took }
+        ensures tells { self.new ≡ delivered_more self.old took }
+        ensures before { self.new.lines ≡ self.old.lines }
     {
         if took.is_some() {
             self.deliveries += 1;
@@ -157,7 +164,8 @@ impl Telling {
 
     // The second call of a CREATE has come.
     fn take_call(&mut self, input: &Input)
-        ensures { self.new ≡ without_following self.old input.now }
+        ensures tells { self.new ≡ without_following self.old input.now }
+        ensures before { self.new.lines ≡ self.old.lines }
     {
         if is_call(input) {
             self.next_call = None;

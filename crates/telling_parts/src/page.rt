@@ -1,5 +1,5 @@
 //! The lines of the command that runs.
-ghost use Rattle.std.specs.Prelude.{◌≡◌, ◌≤◌, ◌∷◌, ◌++◌, [], map, length, OnOk};
+ghost use Rattle.std.specs.Prelude.{◌≡◌, ◌≤◌, ◌∷◌, ◌++◌, [], map, length, IfOk, OnOk};
 ghost use Rattle.std.specs.List.{insert, position_or_len};
 ghost use Rattle.std.specs.Prelude.{nat_lt};
 ghost use Rattle.run_laws.specs.Lines.{line as line_of, put_line};
@@ -72,19 +72,21 @@ impl Page {
         Ok(())
     }
 
-    /// Adds its lines to those of the commands before, and then `over`. Fails where memory runs out.
-    pub fn tell(
+    /// Its lines, where the command of the number `running` is done, and then `over`. Fails where memory runs out.
+    pub fn into_lines(
         self,
-        lines: &mut Vec<AnswerLine>,
+        alloc: Global,
         running: u32,
         over: Vec<Said>,
-    ) -> Result<(), AllocError>
-        ensures { OnOk result (lines.new.items ≡ lines.old.items ++ page_by running self over.items) }
+    ) -> Result<Vec<AnswerLine>, AllocError>
+        ensures { IfOk result (λ lines. lines.items ≡ page_by running self over.items) }
     {
-        add_own(lines, running, self.own)?;
-        add_all(lines, self.others)?;
-        add_own(lines, running, self.stops)?;
-        add_own(lines, running, over)
+        let mut lines = Vec::new(alloc);
+        add_own(&mut lines, running, self.own)?;
+        add_all(&mut lines, self.others)?;
+        add_own(&mut lines, running, self.stops)?;
+        add_own(&mut lines, running, over)?;
+        Ok(lines)
     }
 }
 
