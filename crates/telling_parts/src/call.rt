@@ -7,6 +7,7 @@ use dtx_values::Duplicate;
 use sql_statement::Stmt;
 use std::alloc::{AllocError, Global};
 use std::marker::Model;
+use std::mem;
 
 /// A client's call that is pending.
 #[derive(Debug, Drop)]
@@ -72,7 +73,8 @@ impl Call {
         ensures { OnOk result (self.new ≡ change_call new.now self.old) }
     {
         if self.command == new.command {
-            *self = new.copy(alloc)?;
+            let changed = new.copy(alloc)?;
+            drop(mem::replace(self, changed));
         }
         Ok(())
     }

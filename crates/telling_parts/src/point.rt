@@ -2,6 +2,7 @@
 //! (Database Administrator's Guide, "Managing Distributed Transactions": simulating distributed transaction failure.)
 ghost use Rattle.std.specs.Prelude.{◌≡◌, ◌==◌, ◌&&◌, map, find};
 ghost use Rattle.std.specs.List.{list_any};
+ghost use Rattle.std.specs.Option.{option_copied};
 ghost use Rattle.node_rules.specs.Points.{is_armed as is_armed_by, reaches as reaches_by};
 ghost use Rattle.run_laws.specs.Lines.{is_reached as is_reached_by};
 ghost use Rattle.run_laws.specs.Cuts.{reach as reach_by};
@@ -82,14 +83,20 @@ pub fn reach_all(points: &mut Vec<Point>, passes: &Passes, side: Side)
     }
 }
 
+fn first_reached(points: &[Point], command: u32) -> Option<&Point>
+    ensures { option_copied result ≡ find (is_reached_by command) points.now }
+{
+    points.iter().find(|point| point.is_reached(command))
+}
+
 /// The point of a command that was reached.
 pub fn reached_of(points: &[Point], command: u32) -> Option<Point>
     ensures { result ≡ find (is_reached_by command) points.now }
 {
-    points
-        .iter()
-        .find(|point| point.is_reached(command))
-        .copied()
+    match first_reached(points, command) {
+        None => None,
+        Some(point) => Some(*point),
+    }
 }
 
 fn is_at(at_site: bool, place: Option<TurnPlace>, number: u8) -> bool
