@@ -1,5 +1,5 @@
 -- What is told by what is known of the facts is what is told by the facts.
-use Rattle.std.proofs.Common.{◌≡◌, ℕ, ◌==◌, ◌&&◌, not, Bool, true, false, cond, if◌then◌else◌, List, [], ◌∷◌, is_none, is_some, slice_get, option_map, Option, Some, None, refl, sym, ap, subst, ◌∙◌, arith, rules}
+use Rattle.std.proofs.Common.{◌≡◌, ℕ, ◌==◌, ◌&&◌, not, Bool, true, false, cond, if◌then◌else◌, List, [], ◌∷◌, is_none, is_some, slice_get, option_map, nat_lt, Option, Some, None, refl, sym, ap, subst, ◌∙◌, arith, rules}
 use Rattle.std.proofs.lemmas.Bool.Decides.{nat_tests}
 use Rattle.node_rules.specs.Data.{Place, Stmt, Input, RedoRecord}
 use Rattle.node_rules.specs.Data.inputs
@@ -9,14 +9,16 @@ use Rattle.node_rules.specs.Kept.{Kept, Outcome}
 use Rattle.node_rules.specs.Points.{Passes, passes, reaches}
 use Rattle.run_laws.specs.Data.{Command, Session, Turn}
 use Rattle.run_laws.specs.Data.commands
+use Rattle.net_bag.specs.Net.{first_flying}
 use Rattle.run_laws.specs.Disks.{Strike, struck}
+use Rattle.run_laws.specs.Lines.{spent}
 use Rattle.run_laws.specs.Facts.{Facts, command_at, node_at}
 use Rattle.run_laws.specs.Telling.{Call, Telling, node_name, orders_at}
 use Rattle.run_laws.specs.Commands.{calls_after, orders_after}
 use Rattle.run_laws.specs.Calls.{stopped_calls}
 use Rattle.run_laws.specs.Cuts.{cut_appends, cut_by, cut_before, cut_write, arms}
 use Rattle.run_laws.specs.Past.{acts, delivered_more, ends_calls, failed_start, started_says, without_following}
-use Rattle.run_laws.specs.Due.{Due as DueByRules, act_of, acts_once, due_of, flows, tells_first}
+use Rattle.run_laws.specs.Due.{Due as DueByRules, Delivers, act_of, acts_once, due_of, flows, most_of, next_command, next_delivery, next_give_up, next_pumped, tells_first}
 use Rattle.telling.specs.declared.begin.BeginFacts.{BeginFacts}
 use Rattle.telling.specs.declared.stops.StopFacts.{StopFacts}
 use Rattle.telling.specs.declared.turn.TurnFacts.{TurnFacts}
@@ -24,7 +26,7 @@ use Rattle.telling.specs.declared.due.DueFacts.{DueFacts}
 use Rattle.telling_parts.specs.Endings.{keys_of}
 use Rattle.telling.specs.Known.{begun, calls_by, calls_fall, is_failed, orders_by, start_said, started_by, stopped_by, told_by}
 use Rattle.telling.specs.Turned.{arms_by, cut_in, cut_of, ends_by, turned_by}
-use Rattle.telling.specs.Due.{act_by, acts_once_by, due_by, flows_by, loss_first, may_act}
+use Rattle.telling.specs.Due.{act_by, acts_once_by, due_by, flows_by, loss_first, may_act, next_command_by, next_delivery_by, next_give_up_by, next_pumped_by}
 use Rattle.telling.specs.Facts.{Cuts, IsDue, KnownAtStop, KnownDue, TellsAll, TellsBegin, TellsStart, TellsStop, TellsTurn, transaction_for, up_for}
 
 -- all lines
@@ -114,11 +116,34 @@ turned_is facts running t u k o h =
 
 acts_is : (f : Facts) (t : Telling) (facts : DueFacts) (command : Command) → facts.running ≡ f.command → facts.may_act ≡ may_act f command → act_by facts t command ≡ act_of f t command
 acts_is f t facts (commands.At node session statement) running may = rw running refl
-acts_is f t facts _ running may = rw may refl
+acts_is f t facts (commands.Lose k) running may = rw may refl
+acts_is f t facts (commands.Stop n) running may = rw may refl
+acts_is f t facts (commands.Start n) running may = rw may refl
+acts_is f t facts (commands.Deliver k) running may = rw may refl
+acts_is f t facts (commands.Again k) running may = rw may refl
+acts_is f t facts (commands.GiveUp n session) running may = rw may refl
+acts_is f t facts (commands.Reco n) running may = rw may refl
+acts_is f t facts _ running may = refl
+
+command_is : (asked : List Command) (f : Facts) (facts : DueFacts) → KnownDue asked f facts → next_command_by facts ≡ next_command asked f
+command_is asked f facts h = rw (h.running, h.asked) refl
+
+give_up_is : (asked : List Command) (f : Facts) (facts : DueFacts) → KnownDue asked f facts → (calls : List Call) → next_give_up_by facts calls ≡ next_give_up asked f calls
+give_up_is asked f facts h [] = command_is asked f facts h
+give_up_is asked f facts h (c ∷ cs) = refl
+
+pumped_is : (asked : List Command) (f : Facts) (t : Telling) (facts : DueFacts) → KnownDue asked f facts → (most : ℕ) (flying : Option ℕ) → next_pumped_by facts t most flying ≡ next_pumped asked f t most flying
+pumped_is asked f t facts h most None = command_is asked f facts h
+pumped_is asked f t facts h most (Some k) = ap (λ (d : DueByRules). if nat_lt t.deliveries most then Delivers k false else d) (command_is asked f facts h)
+
+delivery_is : (asked : List Command) (f : Facts) (t : Telling) (facts : DueFacts) → KnownDue asked f facts → (flying : Option ℕ) → next_delivery_by facts t flying ≡ next_delivery asked f t flying
+delivery_is asked f t facts h None = give_up_is asked f facts h t.calls
+delivery_is asked f t facts h (Some k) = ap (λ (d : DueByRules). if spent t.deliveries then d else Delivers k false) (give_up_is asked f facts h t.calls)
 
 flows_is : (asked : List Command) (f : Facts) (t : Telling) (facts : DueFacts) (command : Command) → KnownDue asked f facts → command ≡ command_at asked f.command
     → flows_by facts t command ≡ flows asked f t
-flows_is asked f t facts command h same = rw (same, h.running, h.asked, h.flying) refl
+flows_is asked f t facts command h same =
+    rw (same, h.flying, pumped_is asked f t facts h (most_of (command_at asked f.command)) (first_flying f.net), delivery_is asked f t facts h (first_flying f.net)) refl
 
 losses_first : (later : DueByRules) (losses : List ℕ) → loss_first later (slice_get losses 0) ≡ tells_first later losses
 losses_first later [] = refl
