@@ -6,10 +6,10 @@ ghost use Rattle.telling.specs.Facts.{IsDue};
 ghost use Rattle.telling.specs.Due.{due_as, due_by, act_by, acts_once_by, flows_by, next_command_by, next_give_up_by, next_delivery_by, next_pumped_by};
 
 use crate::Telling;
-use telling_parts::{Call, call_at};
 use dtx_values::{DELIVERY_LIMIT, Duplicate};
 use script_read::Command;
 use std::alloc::{AllocError, Global};
+use telling_parts::{Call, call_at};
 
 /// What is due next.
 #[derive(Debug, Drop)]

@@ -41,11 +41,7 @@ pub fn drop_call(calls: &mut Vec<Call>, node: u8, session: u32)
 }
 
 /// The calls of this one's command become this one. Fails where memory runs out.
-pub fn change_calls(
-    calls: &mut Vec<Call>,
-    alloc: Global,
-    new: &Call,
-) -> Result<(), AllocError>
+pub fn change_calls(calls: &mut Vec<Call>, alloc: Global, new: &Call) -> Result<(), AllocError>
     ensures { OnOk result (calls.new.items ≡ map (change_call new.now) calls.old.items) }
 {
     for call in calls.iter_mut() {

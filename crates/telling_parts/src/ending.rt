@@ -64,11 +64,7 @@ fn ends_or_follows(
 }
 
 /// How a pending call ends that a node has finished so. Fails where memory runs out.
-pub fn ending_of(
-    alloc: Global,
-    done: &Finished,
-    call: Option<&Call>,
-) -> Result<Ending, AllocError>
+pub fn ending_of(alloc: Global, done: &Finished, call: Option<&Call>) -> Result<Ending, AllocError>
     ensures { IfOk result (λ ending. ending ≡ ending_of_call done.now (option_copied call.entry)) }
 {
     match call {

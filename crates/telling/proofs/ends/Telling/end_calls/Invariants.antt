@@ -7,5 +7,5 @@ use Rattle.telling.proofs.ends.Telling.end_calls.Given as goal
 abbrev pub invariant-loop-done : goal.invariant-loop-done
 invariant-loop-done l = record {
   tells : finished l.running l.self l.node (into_iter_items l.done-iterator) ≡ finished l.running l.initial.self l.node l.fn.ended;
-  before : l.self.lines ≡ l.initial.self.lines
+  before : l.self.lines ≡ l.initial.self.lines;
 }

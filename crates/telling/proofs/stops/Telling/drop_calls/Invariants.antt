@@ -7,5 +7,5 @@ use Rattle.telling.proofs.stops.Telling.drop_calls.Given as goal
 abbrev pub invariant-loop-key : goal.invariant-loop-key
 invariant-loop-key l = record {
   tells : calls_fall l.running l.self l.node l.name (into_iter_items l.key-iterator) ≡ calls_fall l.running l.initial.self l.node l.name l.fn.keys.items;
-  before : l.self.lines ≡ l.initial.self.lines
+  before : l.self.lines ≡ l.initial.self.lines;
 }
