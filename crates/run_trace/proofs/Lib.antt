@@ -1,1 +1,2 @@
+pub mod ExtendsLemmas
 mod RecordedLemmas

@@ -2,7 +2,7 @@
 ghost use Rattle.std.specs.Prelude.{◌≡◌, ◌<◌, ◌∷◌, ◌++◌, [], IfOk, OnOk, OnErr, vec_len, vec_capacity};
 ghost use Rattle.run_laws.specs.Entries.{entries_in, book_of};
 ghost use Rattle.run_laws.specs.Past.{next};
-ghost use Rattle.run_trace.specs.Recorded.{IsNext, IsRunOfScript, past_of};
+ghost use Rattle.run_trace.specs.Recorded.{Extends, IsNext, IsRunOfScript, past_of};
 
 use book::{Book, Entry, Happening, entries};
 use dtx_values::Listing;
@@ -127,12 +127,13 @@ impl Trace {
 
     /// Adds what happens next, which has to be what is due, with its entries. Fails where memory runs out, and then adds
     /// nothing.
-    #[tactic(auto, using(crate::proofs::RecordedLemmas::recorded_steps))]
+    #[tactic(auto, using(crate::proofs::RecordedLemmas::recorded_steps, crate::proofs::ExtendsLemmas::extends_steps))]
     pub fn push(&mut self, alloc: Global, happening: Happening) -> Result<(), AllocError>
         requires { IsNext self.old happening }
         ensures ok { OnOk result (self.new ≡ record self.old { happenings = self.old.happenings ++ happening ∷ [] }) }
         ensures past { OnOk result (past_of self.new ≡ next self.old.places self.old.asked (past_of self.old) happening) }
         ensures err { OnErr result (self.new ≡ self.old) }
+        ensures extends { Extends self.old self.new }
     {
         make_room(alloc, &mut self.happenings, &mut self.book, &happening)?;
         add(&mut self.happenings, happening);

@@ -16,6 +16,10 @@ one_place : (k : ℕ) (a : Option ℕ) → is_number k a ≡ list_any (λ n. n =
 one_place k None = refl
 one_place k (Some m) = grind (arith, nat_tests)
 
+or_nothing : (k : ℕ) (a : Option ℕ) → (is_number k a || false) ≡ list_any (λ n. n == k) (option_to_list a ++ [])
+or_nothing k None = refl
+or_nothing k (Some m) = grind (arith, nat_tests)
+
 two_places : (k : ℕ) (a b : Option ℕ) → (is_number k a || is_number k b) ≡ list_any (λ n. n == k) (option_to_list a ++ option_to_list b ++ [])
 two_places k None b = one_place k b
 two_places k (Some m) None = grind (arith, nat_tests)
@@ -28,7 +32,7 @@ maybe_place at_site k (Some place) = one_place k (number_at at_site place)
 before_is : (at_site collected : Bool) (k : ℕ) (before : Option TurnPlace) (p : Passes) → p.at_site ≡ at_site → p.collected ≡ collected → p.before ≡ before
     → is_before_record p k ≡ list_any (λ n. n == k) (passes_as p).before
 before_is at_site false k before p s c b = rw (s, c, b) (maybe_place at_site k before)
-before_is at_site true k None p s c b = rw (s, c, b) (two_places k (number_at at_site places.Collected) None)
+before_is at_site true k None p s c b = rw (s, c, b) (or_nothing k (number_at at_site places.Collected))
 before_is at_site true k (Some place) p s c b = rw (s, c, b) (two_places k (number_at at_site places.Collected) (number_at at_site place))
 
 -- before the record
