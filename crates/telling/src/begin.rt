@@ -83,8 +83,7 @@ impl Telling {
         let over = over(alloc, self.deliveries, flying)?;
         let next = Page::of(alloc, says.into_vec());
         let page = mem::replace(&mut self.page, next);
-        let mut more = page.into_lines(alloc, running, over)?;
-        self.lines.append(&mut more)
+        page.tell(alloc, &mut self.lines, running, over)
     }
 
     fn take_hold(&mut self, command: &Command)

@@ -111,8 +111,7 @@ impl Telling {
     {
         let over = over(alloc, self.deliveries, flying)?;
         let mut lines = self.lines;
-        let mut more = self.page.into_lines(alloc, running, over)?;
-        lines.append(&mut more)?;
+        self.page.tell(alloc, &mut lines, running, over)?;
         Ok(Listing::of(lines))
     }
 

@@ -20,7 +20,7 @@ or_nothing : (k : ℕ) (a : Option ℕ) → (is_number k a || false) ≡ list_an
 or_nothing k None = refl
 or_nothing k (Some m) = grind (arith, nat_tests)
 
-two_places : (k : ℕ) (a b : Option ℕ) → (is_number k a || is_number k b) ≡ list_any (λ n. n == k) (option_to_list a ++ option_to_list b ++ [])
+two_places : (k : ℕ) (a b : Option ℕ) → (is_number k a || is_number k b) ≡ list_any (λ n. n == k) (option_to_list a ++ (option_to_list b ++ []))
 two_places k None b = one_place k b
 two_places k (Some m) None = grind (arith, nat_tests)
 two_places k (Some m) (Some n) = grind (arith, nat_tests)

@@ -1,5 +1,5 @@
 //! The lines of the command that runs.
-ghost use Rattle.std.specs.Prelude.{◌≡◌, ◌≤◌, ◌∷◌, ◌++◌, [], map, length, IfOk, OnOk};
+ghost use Rattle.std.specs.Prelude.{◌≡◌, ◌≤◌, ◌∷◌, ◌++◌, [], map, length, IfOk, OnErr, OnOk};
 ghost use Rattle.std.specs.List.{insert, position_or_len};
 ghost use Rattle.std.specs.Prelude.{nat_lt};
 ghost use Rattle.run_laws.specs.Lines.{line as line_of, put_line};
@@ -72,8 +72,23 @@ impl Page {
         Ok(())
     }
 
-    /// Its lines, where the command of the number `running` is done, and then `over`. Fails where memory runs out.
-    pub fn into_lines(
+    /// Adds its lines, as those of the command of the number `running`, to the lines of the commands before, and then
+    /// `over`. Fails where memory runs out, and then adds nothing.
+    pub fn tell(
+        self,
+        alloc: Global,
+        lines: &mut Vec<AnswerLine>,
+        running: u32,
+        over: Vec<Said>,
+    ) -> Result<(), AllocError>
+        ensures ok { OnOk result (lines.new.items ≡ lines.old.items ++ page_by running self over.items) }
+        ensures err { OnErr result (lines.new.items ≡ lines.old.items) }
+    {
+        let mut more = self.into_lines(alloc, running, over)?;
+        lines.append(&mut more)
+    }
+
+    fn into_lines(
         self,
         alloc: Global,
         running: u32,
