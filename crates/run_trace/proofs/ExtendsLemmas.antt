@@ -1,5 +1,5 @@
 -- A run goes on from itself; by one happening more; and from what a run goes on from that it goes on from.
-use Rattle.std.proofs.Common.{◌≡◌, ◌≤◌, ◌++◌, List, [], ◌∷◌, length, take, refl, ap, sym, ◌∙◌, arith, length-append}
+use Rattle.std.proofs.Common.{◌++◌, [], ◌∷◌, length, take, refl, ap, sym, ◌∙◌, arith, length-append}
 use Rattle.std.proofs.Math.Seq.{take-append_seam, take-length}
 use Rattle.std.proofs.lemmas.List.{take-take}
 use Rattle.run_laws.specs.Data.{Happening}

@@ -55,13 +55,13 @@ pub record KnownOfTurn (k : Kept) (u : Turn) (o : Outcome) (facts : TurnFacts) :
   pub ended : facts.ended ≡ o.ended
 
 -- This is known where it is asked what is due.
-pub record KnownDue (asked : List Command) (f : Facts) (facts : DueFacts) : Type 0 where
+pub record KnownDue (script : List Command) (f : Facts) (facts : DueFacts) : Type 0 where
   pub running : facts.running ≡ f.command
-  pub asked : facts.asked ≡ length asked
+  pub asked : facts.asked ≡ length script
   pub loss : facts.loss ≡ slice_get f.losses_to_tell 0
   pub to_stop : facts.to_stop ≡ f.node_to_stop
   pub flying : facts.flying ≡ first_flying f.net
-  pub may : facts.may_act ≡ may_act f (command_at asked f.command)
+  pub may : facts.may_act ≡ may_act f (command_at script f.command)
 
 -- ---- and each call gives what the definitions of a run say
 
