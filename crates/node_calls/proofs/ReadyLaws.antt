@@ -16,6 +16,7 @@ use Rattle.node_rules.specs.declared.work.Waits.TheVariants as waiting
 use Rattle.node_rules.specs.Kept.{live_id}
 use Rattle.node_rules.specs.LiveBranches.{works_of}
 use Rattle.node_rules.specs.Sessions.{fresh_session}
+use Rattle.ready_laws.proofs.GiveLemmas.{sum_few}
 use Rattle.ready_laws.specs.Gives.{ChildrenAreFew, NextCallsAreWithin}
 use Rattle.ready_laws.specs.Ids.{NewIdsAreNew}
 use Rattle.ready_laws.specs.Names.{EmptyNameIsFree}
@@ -52,10 +53,6 @@ module _ {A : Type 0} (P : A → Type 0) where
 
 abbrev TellsFew : Edge → Type 0
 TellsFew e = e.count ≤ count_limit
-
-sum_few : (es : List Edge) → AllByRecursion TellsFew es → sum_by (λ (e : Edge). e.count) es ≤ count_limit * length es
-sum_few [] all = omega arith
-sum_few (e ∷ es) all = let rest = sum_few es all.1 in let sum = sum_by-cons (λ (x : Edge). x.count) e es in omega (arith, all.0, rest, sum)
 
 -- once one more has told of few
 module _ (i : ℕ) (weight : Option ℕ) (n : ℕ) (few : n ≤ count_limit) where

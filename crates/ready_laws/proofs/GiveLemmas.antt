@@ -13,7 +13,7 @@ use Rattle.ready_laws.proofs.ShapeLemmas.{within}
 use Rattle.ready_laws.proofs.CallNumberLemmas.{numbered_below, work_by}
 
 -- so many branches, no more than so many for each child
-sum_few : (es : List Edge) → AllByRecursion (λ e. e.count ≤ count_limit) es → sum_by (λ (e : Edge). e.count) es ≤ count_limit * length es
+pub sum_few : (es : List Edge) → AllByRecursion (λ e. e.count ≤ count_limit) es → sum_by (λ (e : Edge). e.count) es ≤ count_limit * length es
 sum_few [] all = omega arith
 sum_few (e ∷ es) all = let rest = sum_few es all.1 in let sum = sum_by-cons (λ (x : Edge). x.count) e es in omega (arith, all.0, rest, sum)
 

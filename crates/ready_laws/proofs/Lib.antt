@@ -13,6 +13,6 @@ mod RecordIdLemmas
 mod IdStepLemmas
 mod FollowLemmas
 mod NameLemmas
-mod GiveLemmas
+pub mod GiveLemmas
 mod StartLemmas
 mod ReadyLemmas

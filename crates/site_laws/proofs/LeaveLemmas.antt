@@ -44,7 +44,7 @@ use Rattle.run_laws.proofs.LawfulLemmas.{serves, turn_of_node}
 use Rattle.run_laws.proofs.ListLemmas.{all_map}
 use Rattle.run_laws.proofs.OwnLemmas.{all_found}
 use Rattle.run_laws.proofs.SaidPostLemmas.{prepares_are_said}
-use Rattle.site_laws.proofs.KidLemmas.{child_parent, parent_of, above_of}
+use Rattle.run_laws.proofs.KidLemmas.{child_parent, parent_of, above_of}
 use Rattle.tree_laws.proofs.AskLemmas.{voted_step}
 use Rattle.tree_laws.proofs.AskRunLemmas.{edges_asked}
 use Rattle.tree_laws.proofs.PrefixLemmas.{so_far, f_at, e_at, each_prefix}

@@ -1,4 +1,3 @@
-pub mod KidLemmas
 pub mod CalledLemmas
 pub mod WeighLemmas
 pub mod RestLemmas
@@ -16,4 +15,5 @@ pub mod CommitLemmas
 pub mod FindLemmas
 pub mod ShallowLemmas
 pub mod SeenLemmas
+pub mod CommitTreeLemmas
 pub mod DecideLemmas

@@ -22,7 +22,7 @@ use Rattle.run_laws.proofs.BirthRunLemmas.{born_are_live_or_left}
 use Rattle.run_laws.proofs.EventsStandLemmas.{nodes_are_as_events}
 use Rattle.run_laws.proofs.FreezeLemmas.{working_or}
 use Rattle.run_laws.proofs.FreezeRunLemmas.{asked_stand_still}
-use Rattle.site_laws.proofs.KidLemmas.{parent_in, parent_of, child_of}
+use Rattle.run_laws.proofs.KidLemmas.{parent_in, parent_of, child_of}
 use Rattle.run_laws.proofs.NodesStandLemmas.{some_or_none}
 use Rattle.run_laws.proofs.OwnLemmas.{all_found}
 use Rattle.tree_laws.proofs.ForestLemmas as trees

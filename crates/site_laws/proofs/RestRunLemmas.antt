@@ -28,7 +28,7 @@ use Rattle.node_rules.specs.LiveBranches.{works_of}
 use Rattle.node_rules.proofs.LiveLemmas.{branch_parts}
 use Rattle.run_laws.proofs.RestRunLemmas.{RootsStand, roots_stand_on, first_rests, heard_rests}
 use Rattle.run_laws.proofs.SaidPostLemmas.{unborn_silent}
-use Rattle.site_laws.proofs.KidLemmas.{edge_of, parent_in, parent_of}
+use Rattle.run_laws.proofs.KidLemmas.{edge_of, parent_in, parent_of}
 use Rattle.run_laws.proofs.InTurnRunLemmas as calls
 use Rattle.run_laws.proofs.InTurnRunLemmas.{CallsStand, heard_calls, calls_stand_on, first_calls}
 use Rattle.site_laws.specs.RestLaws.{Rests, SameTree, LeavesAtRest, RestingStandStill}

@@ -14,7 +14,7 @@ use Rattle.run_laws.specs.InTurnLaws.{said_in, newest_exec, call_at, GoesOn, Wai
 use Rattle.run_laws.proofs.BirthRunLemmas.{nodes_name_the_born}
 use Rattle.run_laws.proofs.InTurnLemmas.{none_waits}
 use Rattle.run_laws.proofs.InTurnRunLemmas.{branches_call_in_turn, edges_fit}
-use Rattle.site_laws.proofs.KidLemmas.{child_of, parent_of, above_of}
+use Rattle.run_laws.proofs.KidLemmas.{child_of, parent_of, above_of}
 use Rattle.run_laws.proofs.OwnLemmas.{all_found}
 use Rattle.tree_laws.specs.WeightLaws.{ToldWeight, TellsItsWeight}
 use Rattle.tree_laws.proofs.VoterLemmas.{mapped_at}

@@ -1,0 +1,142 @@
+-- In every lawful run, a branch of a tree that is decided: as it was when the COMMIT came, and as it ended.
+use Rattle.std.proofs.Common.{◌≡◌, ◌≢◌, ℕ, zero, suc, ◌+◌, ◌≤◌, ◌⊎◌, Bool, true, false, List, [], ◌∷◌, ◌++◌, unwrap_or, Option, Some, None, inl, inr, refl, sym, ap, subst, subst₂, ◌∙◌, append-nil, arith}
+use Rattle.std.proofs.lemmas.List.{append_assoc}
+use Rattle.std.specs.List.{list_any}
+use Rattle.session_tree.specs.Live.{children_of}
+use Rattle.session_tree.specs.Tree.{weight, step}
+use Rattle.session_tree.specs.declared.act.Walk.TheVariants as walks
+use Rattle.agreement.specs.Events.{Exit, Sealed, Decided, Quiet, Dropped, exit, site_of}
+use Rattle.node_rules.specs.Data.{BranchId, Edge, Live, Phase, Input}
+use Rattle.node_rules.specs.Data.inputs
+use Rattle.node_rules.specs.Data.phases
+use Rattle.node_rules.specs.Data.stmts
+use Rattle.node_rules.specs.Words.{numbered}
+use Rattle.node_rules.specs.Kept.{Kept, Branch, live_id, live_at, branch_at}
+use Rattle.node_rules.specs.Turn.{turn_of, deed_of}
+use Rattle.node_rules.proofs.Steps.{HasRoot}
+use Rattle.node_rules.proofs.StandLemmas.{live_so}
+use Rattle.prepare_phase.specs.Acts.{is_awaited}
+use Rattle.tree_laws.proofs.VoterLemmas.{mapped_at}
+use Rattle.run_laws.specs.Data.{Turn, Happening}
+use Rattle.run_laws.specs.Data.happenings
+use Rattle.run_laws.specs.Facts.{Facts, first_facts, place_at, node_at, kept_after, facts_after}
+use Rattle.run_laws.specs.Lawful.{MayHappen, MayTurn, History, IsLawfulRun, facts_at}
+use Rattle.run_laws.specs.Births.{Born, births_of}
+use Rattle.run_laws.specs.BirthLaws.{Began, LiveIs}
+use Rattle.run_laws.specs.FreezeLaws.{was_asked, LeavesStill}
+use Rattle.run_laws.specs.InTurnLaws.{said_in, GoesOn}
+use Rattle.run_laws.specs.NodeLaws.{EachFactFrom}
+use Rattle.run_laws.specs.PhaseLaws.{PhaseFits}
+use Rattle.run_laws.specs.RunEvents.{events_of}
+use Rattle.run_laws.specs.Trail.{is_prepare}
+use Rattle.run_laws.specs.WalkLaws.{is_below, was_sent}
+use Rattle.run_laws.proofs.AtNodeLemmas.{turn_here}
+use Rattle.run_laws.proofs.EventsStandLemmas.{run_stands, nodes_are_as_events}
+use Rattle.run_laws.proofs.FreezeRunLemmas.{asked_stand_still}
+use Rattle.run_laws.proofs.LawfulLemmas.{turn_of_node}
+use Rattle.run_laws.proofs.OwnLemmas.{all_found}
+use Rattle.run_laws.proofs.PhaseLemmas.{phases_fit}
+use Rattle.run_laws.proofs.StillRunLemmas.{trees_stand_still}
+use Rattle.tree_laws.specs.Forests.{asked_by, told_below, next_on, walk_from, deepest}
+use Rattle.tree_laws.proofs.AskRunLemmas.{edges_asked}
+use Rattle.tree_laws.proofs.ForestLemmas as trees
+use Rattle.tree_laws.proofs.ForestLemmas.{told_sent}
+use Rattle.tree_laws.proofs.SettleRunLemmas.{known}
+use Rattle.tree_laws.proofs.PrefixLemmas.{so_far, f_at, e_at, one_on}
+use Rattle.site_laws.specs.DecideLaws.{live_of, live_in, WalksTo, Ends_here, Goes_down, InTree, Is_root, Is_child, DecidedSo, DecisionsFollowWalks}
+use Rattle.site_laws.specs.LeaveLaws.{EndsAs}
+use Rattle.site_laws.specs.RestLaws.{Rests, SameTree}
+use Rattle.site_laws.proofs.CommitLemmas.{commit_leaves}
+use Rattle.site_laws.proofs.CoverLemmas.{at_site, one_decides, leaves_well, asked_well}
+use Rattle.site_laws.proofs.FateLemmas.{Fate, fate_by, Calmly, turn_lives, turn_left}
+use Rattle.site_laws.proofs.FindLemmas.{CommitAt, WasFound, commit_found}
+use Rattle.site_laws.proofs.FrozenLemmas.{State, Here, Left, Found, PointsTo, strength_at, state_by, state_left, state_on, Since, Member}
+use Rattle.site_laws.proofs.HeardLemmas.{left_were_asked}
+use Rattle.site_laws.proofs.MemberLemmas.{IsIn, Kid, kid_of}
+use Rattle.site_laws.proofs.SeenLemmas.{Low, site_seen, plan_covers}
+use Rattle.dtx_values.specs.Limits.{depth_limit}
+use Rattle.site_laws.proofs.TimeLemmas.{Part, part_lawful, part_of, part_on, may_of, fact_at, exit_end, sent_end, born_end, keep_on}
+use Rattle.site_laws.proofs.WeighLemmas.{placed_of}
+
+module _ (t : History) (whole : IsLawfulRun t) (hs0 : List Happening) (part0 : Part t whole hs0) (r : BranchId) where
+  abbrev f0 : Facts
+  f0 = f_at t hs0
+
+  -- it is live
+  member_live : (x : Branch) → Member t whole hs0 part0 r x → (c : BranchId) → x.live.me ≡ c → live_in f0 c ≡ Some x.live
+  member_live x member c me =
+      subst (λ b. live_in f0 b ≡ Some x.live) me (ap (λ o. live_of o x.live.me) member.here.up ∙ live_so member.here.kept x.live.me x member.here.found)
+
+  -- at the end it has left
+  end_state : (x : Branch) → Member t whole hs0 part0 r x → State t whole x t.trace
+  end_state x member = member.state t.trace (part0.rest, part0.is) (record { rest = []; is = append-nil t.trace })
+
+  module _ (x : Branch) (member : Member t whole hs0 part0 r x) where
+    not_here : (k : Kept) (y : Branch) → node_at (facts_at t) x.live.me.node ≡ Some k → branch_at k y.live.me ≡ Some y → y.live.me ≡ x.live.me → ⊥
+    not_here k y up found me =
+        let none : exit (events_of t) y.live.me ≡ None = all_found (λ (l : Live). exit (events_of t) l.me ≡ None) live_id k.lives y.live.me y.live (nodes_are_as_events t whole x.live.me.node k up).0 (live_so k y.live.me y found) in
+        let some : exit (events_of t) y.live.me ≡ Some member.exit_good.0 = subst (λ b. exit (events_of t) b ≡ Some member.exit_good.0) (sym me) member.exit_good.1 in
+        absurd (cc (none, some))
+
+    member_ends : (z : Exit) → exit (events_of t) x.live.me ≡ Some z → EndsAs x.live z
+    member_ends z left = by (end_state x member)
+      where
+        by : State t whole x t.trace → EndsAs x.live z
+        by (Here k y up found me same) = absurd (not_here k y up found me)
+        by (Left w gone kids ends told) = (let both : Some w ≡ Some z = sym gone ∙ left in let it : w ≡ z = cc in subst (EndsAs x.live) it ends)
+
+    member_told : (c : BranchId) → was_sent is_below (said_in (facts_at t)) x.live.me c ≡ true → PointsTo x.live c
+    member_told c sent = by (end_state x member)
+      where
+        by : State t whole x t.trace → PointsTo x.live c
+        by (Here k y up found me same) = absurd (not_here k y up found me)
+        by (Left w gone kids ends told) = told c sent
+
+  module _ (b : BranchId) (n : ℕ) (decided : exit (events_of t) b ≡ Some (Decided n)) (inside : IsIn (births_of t) r b) where
+    covered : (q c : BranchId) → was_asked (said_in (facts_at t)) q c ≡ true → IsIn (births_of t) r c → (z : Exit) × (exit (events_of t) c ≡ Some z) × (z ≢ Dropped)
+    covered = asked_well t whole b n decided r inside
+
+    -- the walk that Prepares told is that of the weights
+    pub walks_down : (m : ℕ) (x : Branch) → Member t whole hs0 part0 r x → (c : BranchId) → x.live.me ≡ c → walk_from (said_in (facts_at t)) m c ≡ b → WalksTo f0 c b
+    walks_down zero x member c me is =
+        let here : x.live.me ≡ b = me ∙ is in
+        let ends : step x.live ≡ walks.Here = member_ends x member (Decided n) (subst (λ d. exit (events_of t) d ≡ Some (Decided n)) (sym here) decided) in
+        subst (λ d. WalksTo f0 c d) is (Ends_here x.live c (member_live x member c me) ends)
+    walks_down (suc m) x member c me is = by (told_below (said_in (facts_at t)) c) refl (λ y its d same so. walks_down m y its d same so)
+      where
+        by : (o : Option BranchId) → told_below (said_in (facts_at t)) c ≡ o → ((y : Branch) → Member t whole hs0 part0 r y → (d : BranchId) → y.live.me ≡ d → walk_from (said_in (facts_at t)) m d ≡ b → WalksTo f0 d b) → WalksTo f0 c b
+        by None none further = further x member c me (subst (λ o. walk_from (said_in (facts_at t)) m (unwrap_or o c) ≡ b) none is)
+        by (Some d) told further =
+            let sent : was_sent is_below (said_in (facts_at t)) c d ≡ true = told_sent (said_in (facts_at t)) c d told in
+            let down : PointsTo x.live d = member_told x member d (subst (λ a. was_sent is_below (said_in (facts_at t)) a d ≡ true) (sym me) sent) in
+            let k = kid_of t whole hs0 part0 r covered x member down.0 d down.2 in
+            Goes_down x.live down.0 c d b (member_live x member c me) down.1 down.2 (further k.branch k.is_member d k.is_me (subst (λ o. walk_from (said_in (facts_at t)) m (unwrap_or o c) ≡ b) told is))
+
+    -- each branch of the tree is such a one
+    pub record InIt (c : BranchId) : Type 0 where
+      pub branch : Branch
+      pub is_me : branch.live.me ≡ c
+      pub member : Member t whole hs0 part0 r branch
+
+    pub in_it : (x : Branch) → Member t whole hs0 part0 r x → x.live.me ≡ r → (c : BranchId) → InTree f0 r c → InIt c
+    in_it x member me c Is_root = record { branch = x; is_me = me; member = member }
+    in_it x member me c (Is_child p _ l i above live at) =
+        let up = in_it x member me p above in
+        let both : Some up.branch.live ≡ Some l = sym (member_live up.branch up.member p up.is_me) ∙ live in
+        let it : up.branch.live ≡ l = cc in
+        let k = kid_of t whole hs0 part0 r covered up.branch up.member i c (subst (λ (z : Live). numbered (children_of z) i ≡ Some c) (sym it) at) in
+        record { branch = k.branch; is_me = k.is_me; member = k.is_member }
+
+    member_in : (z : Branch) → Member t whole hs0 part0 r z → (c : BranchId) → z.live.me ≡ c → IsIn (births_of t) r c
+    member_in z member c me =
+        let its : LiveIs (Began (births_of (so_far t hs0))) z.live = placed_of (so_far t hs0) (part_lawful t whole hs0 part0) z.live.me.node member.here.kept member.here.up z member.here.found in
+        (its.born, born_end t whole hs0 part0 its.born its.began, its.is_me ∙ me, its.is_root ∙ member.root)
+
+    pub covers_it : (c : BranchId) → InIt c → (l : Live) × (live_in f0 c ≡ Some l) × ((c ≡ b) ⊎ (((m : ℕ) × (exit (events_of t) c ≡ Some (Sealed m))) ⊎ (weight l ≡ None)))
+    covers_it c it = (it.branch.live, member_live it.branch it.member c it.is_me, by it.member.exit_good.0 (subst (λ d. exit (events_of t) d ≡ Some it.member.exit_good.0) it.is_me it.member.exit_good.1) it.member.exit_good.2)
+      where
+        by : (z : Exit) → exit (events_of t) c ≡ Some z → z ≢ Dropped → (c ≡ b) ⊎ (((m : ℕ) × (exit (events_of t) c ≡ Some (Sealed m))) ⊎ (weight it.branch.live ≡ None))
+        by (Sealed m) left other = inr (inl (m, left))
+        by Quiet left other = inr (inr (member_ends it.branch it.member Quiet (subst (λ d. exit (events_of t) d ≡ Some Quiet) (sym it.is_me) left)))
+        by Dropped left other = absurd (other refl)
+        by (Decided m) left other = inl (one_decides t whole b n decided r inside c m left (member_in it.branch it.member c it.is_me))
