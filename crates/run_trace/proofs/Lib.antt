@@ -1,0 +1,2 @@
+mod RecordedLemmas
+pub mod ExtendsLemmas

@@ -1,0 +1,7 @@
+use Rattle.run_trace.proofs.RecordedLemmas.{recorded_push}
+use Rattle.run_trace.proofs.trace.RunTrace.push.Goals as goal
+
+pub invariant_of-self-2 : goal.invariant_of-self-2
+invariant_of-self-2 c =
+    rw (c.add.ensures, c.make_room.ensures.kept, c.in_ok-make_room.ensures.entered)
+    (recorded_push c.self.inside.places c.self.inside.commands c.self.inside.happenings.items c.self.inside.book.items c.args.happening c.self.invariant (rw (← c.self.view_is) at c.requires))
