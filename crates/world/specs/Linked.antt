@@ -1,0 +1,32 @@
+-- The world, part by part, held against the run so far.
+use Rattle.std.specs.Prelude.{◌≡◌, ℕ, List, length, map, None}
+use Rattle.node_rules.specs.Data.{Place}
+use Rattle.run_laws.specs.Telling.{Past}
+use Rattle.run_laws.specs.Lawful.{boots}
+use Rattle.run_trace.specs.Recorded.{past_of}
+use Rattle.world.specs.Needs.{IsOfScript}
+use Rattle.world.specs.Site.{SitesAre, OtherSitesAre}
+use Rattle.world.specs.Shown.{ShowDisks}
+use Rattle.world.specs.declared.world.World.{World}
+
+-- Each part of the world but its sites is that part of the run so far.
+pub record PartsAre (p : Past) (w : World) : Type 0 where
+  pub running : w.running ≡ p.facts.command
+  pub net : w.net ≡ p.facts.net
+  pub losses : w.losses.items ≡ p.facts.losses_to_tell
+  pub to_stop : w.to_stop ≡ p.facts.node_to_stop
+  pub boots : w.boots.items ≡ map boots p.facts.records
+  pub telling : w.telling ≡ p.telling
+
+-- The world is that of the run so far, also between a start that an order struck and the stop that follows it.
+pub record IsHeld (w : World) : Type 0 where
+  pub script : IsOfScript w.trace
+  pub parts : PartsAre (past_of w.trace) w
+  pub count : length w.sites.items ≡ length w.trace.places
+  pub sites : SitesAre w.trace.places (past_of w.trace) w.sites.items
+  pub shown : ShowDisks w.trace w.shown.items
+
+-- The world is that of the run so far, and each node that is up by the facts keeps its memory.
+pub record IsLinked (w : World) : Type 0 where
+  pub held : IsHeld w
+  pub upright : (past_of w.trace).telling.start_to_stop ≡ None

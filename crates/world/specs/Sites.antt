@@ -1,0 +1,33 @@
+-- The nodes of a run, by their numbers.
+use Rattle.std.specs.Prelude.{◌≡◌, ◌∷◌, ◌×◌, ℕ, List, [], Option, Some, None}
+use Rattle.record_log.specs.Held.{HoldRecords}
+use Rattle.node_rules.specs.Data.{Place}
+use Rattle.node_rules.specs.Data.records
+use Rattle.node_rules.specs.Words.{numbered}
+use Rattle.node_rules.specs.Kept.{Kept}
+use Rattle.node_rules.specs.Turn.{made}
+use Rattle.node_disk.specs.Starts.{CanBeStarted}
+use Rattle.world.specs.declared.site.Site.{Site}
+use Rattle.world.specs.Site.{site_kept, site_disk, bytes_of, images_of, RunsAt}
+
+-- what the node of a site keeps, where there is one and it is up
+abbrev pub kept_in_site : Option Site → Option Kept
+kept_in_site None = None
+kept_in_site (Some site) = site_kept site
+
+-- what the node of a number keeps, where it is up
+abbrev pub kept_at : List Site → ℕ → Option Kept
+kept_at sites n = kept_in_site (numbered sites n)
+
+-- A node of this place that was just made.
+pub record IsMade (place : Place) (site : Site) : Type 0 where
+  pub kept : site_kept site ≡ Some made
+  pub runs : RunsAt place site
+  pub holds : HoldRecords (records.Boot 1 ∷ []) (bytes_of (site_disk site))
+  pub starts : CanBeStarted bytes_of images_of (site_disk site)
+
+-- each is made, in its place
+abbrev pub AreMade : List Place → List Site → Type 0
+AreMade [] [] = Unit {0}
+AreMade (p ∷ ps) (s ∷ ss) = IsMade p s × AreMade ps ss
+AreMade _ _ = ⊥
