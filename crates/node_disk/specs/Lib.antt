@@ -1,0 +1,4 @@
+pub mod Incoming
+pub mod Effects
+pub mod Starts
+pub mod OnDisk
