@@ -4,4 +4,6 @@ pub mod Mail
 pub mod Needs
 pub mod Linked
 pub mod Steps
+pub mod Turns
+pub mod Starts
 pub mod Shown

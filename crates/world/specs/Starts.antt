@@ -1,0 +1,42 @@
+-- A start of a node whose record stands on its disk, before the trace has it.
+use Rattle.std.specs.Prelude.{◌≡◌, ◌×◌, ◌+◌, ◌<◌, ◌^◌, ℕ, length, is_none, true, if◌then◌else◌, Option, Some, None}
+use Rattle.record_log.specs.Held.{HoldRecords}
+use Rattle.node_rules.specs.Words.{numbered}
+use Rattle.node_rules.specs.Turn.{start_of}
+use Rattle.node_disk.specs.Starts.{CanBeStarted}
+use Rattle.run_laws.specs.Data.happenings
+use Rattle.run_laws.specs.Disks.{struck}
+use Rattle.run_laws.specs.Facts.{place_at, records_at, with_boot}
+use Rattle.run_laws.specs.Lawful.{IsNode, boots}
+use Rattle.run_laws.specs.Telling.{orders_at}
+use Rattle.run_trace.specs.Recorded.{IsNext, past_of}
+use Rattle.world.specs.declared.site.Site.{Site}
+use Rattle.world.specs.declared.world.World.{World}
+use Rattle.world.specs.Needs.{IsOfScript}
+use Rattle.world.specs.Linked.{PartsAre}
+use Rattle.world.specs.Shown.{ShowDisks}
+use Rattle.world.specs.Site.{site_kept, site_disk, bytes_of, images_of, RunsAt, OtherSitesAre}
+
+-- the number of the start
+abbrev pub boot_at : World → ℕ → ℕ
+boot_at w n = boots (records_at (past_of w.trace).facts n) + 1
+
+-- The site of a node whose start has its record: the node is up, unless an order struck the start behind the record.
+pub record HasBoot (w : World) (n : ℕ) (site : Site) : Type 0 where
+  pub kept : site_kept site ≡ (if is_none (struck 3 (orders_at (past_of w.trace).telling n)) then Some (start_of (with_boot (past_of w.trace).facts n (boot_at w n))) else None)
+  pub runs : RunsAt (place_at w.trace.places n) site
+  pub holds : HoldRecords (with_boot (past_of w.trace).facts n (boot_at w n)) (bytes_of (site_disk site))
+  pub starts : CanBeStarted bytes_of images_of (site_disk site)
+
+-- The start of a node is due, and its record stands; all other parts of the world are as before.
+pub record HasBegun (n : ℕ) (w : World) : Type 0 where
+  pub script : IsOfScript w.trace
+  pub parts : PartsAre (past_of w.trace) w
+  pub upright : (past_of w.trace).telling.start_to_stop ≡ None
+  pub count : length w.sites.items ≡ length w.trace.places
+  pub others : OtherSitesAre n w.trace.places (past_of w.trace) w.sites.items
+  pub shown : ShowDisks w.trace w.shown.items
+  pub there : IsNode (length w.trace.places) n
+  pub few : boot_at w n < 2 ^ 32
+  pub next : IsNext w.trace (happenings.Started n (boot_at w n))
+  pub site : (site : Site) → numbered w.sites.items n ≡ Some site → HasBoot w n site

@@ -1,0 +1,202 @@
+//! A node takes a turn.
+ghost use Rattle.std.specs.Prelude.{◌≡◌, map, OnOk, IfOk};
+ghost use Rattle.std.specs.List.{AllByRecursion};
+ghost use Rattle.wire_msg.specs.declared.input.Input.{Input as InputBy};
+ghost use Rattle.node_disk.specs.Incoming.{IsReadAs};
+ghost use Rattle.node_disk.specs.OnDisk.{kept_of};
+ghost use Rattle.net_bag.specs.Net.{sent_on, lost_at_once};
+ghost use Rattle.run_laws.specs.Facts.{taken};
+ghost use Rattle.run_trace.specs.Recorded.{Extends, past_of};
+ghost use Rattle.telling.specs.Turned.{cut_as};
+ghost use Rattle.world.specs.Needs.{due_in, IsTurnDue};
+ghost use Rattle.world.specs.Mail.{IsMailed};
+ghost use Rattle.world.specs.Linked.{IsLinked};
+ghost use Rattle.world.specs.Steps.{StepsOn};
+ghost use Rattle.world.specs.Turns.{CallerIs, TookIs, IsDuring, IsCutDuring, stands_by};
+
+use crate::World;
+use crate::laws::{numbers_stay_small, what_is_due_can_happen};
+use crate::mail::{ended_calls, send_all, take};
+use crate::site::Site;
+use block_disk::MemDisk;
+use book::{Happening, Took, Turn};
+use dtx_values::Listing;
+use node_disk::{CutTurn, Effects, Incoming, Mailed, Node, TurnErr};
+use node_rules::{PendingCall, Session};
+use std::alloc::{AllocError, Global};
+use std::collections::VecDeque;
+use telling::{Cut, TurnFacts};
+use wire_msg::Msgs;
+
+/// A turn as it is begun: its node, which message it takes, and the session that calls, where one does.
+#[derive(Clone, Copy, Debug)]
+pub(crate) struct Begun {
+    /// The node's number, from 1.
+    node: u8,
+    /// Which message was delivered, where one was.
+    took: Option<Took>,
+    /// The session before the turn that calls, where the input is a client's call.
+    caller: Session,
+}
+
+// The session that calls, where the input is a client's call.
+fn caller(node: &Node<MemDisk>, incoming: &Incoming) -> Session
+    ensures { CallerIs (kept_of node.now) incoming.now result }
+{
+    match incoming {
+        Incoming::Call {
+            session,
+            statement: _statement,
+        } => node.session(*session),
+        Incoming::GiveUp { session: _session } => no_session(),
+        Incoming::Message(_bytes) => no_session(),
+        Incoming::Reco => no_session(),
+    }
+}
+
+// A session that has made no call.
+fn no_session() -> Session {
+    Session {
+        seq: 0,
+        root: None,
+        advice: None,
+        code: None,
+        call: PendingCall::NoCall,
+    }
+}
+
+// Whether the record of a cut turn stands.
+fn stands(cut: Cut) -> bool
+    ensures { result ≡ stands_by (cut_as cut) }
+{
+    match cut {
+        Cut::Whole => false,
+        Cut::Before(_passes) => false,
+        Cut::After(_passes) => true,
+        Cut::InAppend { stands } => stands,
+    }
+}
+
+impl World {
+    /// The turn of a node that is due, over this input. Fails where memory runs out.
+    #[tactic(auto, using(crate::proofs::TurnLemmas::turn_steps))]
+    pub(crate) fn turn(
+        &mut self,
+        alloc: Global,
+        node: u8,
+        incoming: Incoming,
+        took: Option<Took>,
+    ) -> Result<(), AllocError>
+        requires linked { IsLinked self.old }
+        requires reads { (input : InputBy) × IsReadAs incoming input }
+        requires due { (input : InputBy) → IsReadAs incoming input → IsTurnDue (past_of self.old.trace).facts (due_in self.old.trace) node input }
+        requires took { TookIs (due_in self.old.trace) took }
+        ensures steps { OnOk result (StepsOn self.old self.new) }
+        ensures extends { Extends self.old.trace self.new.trace }
+    {
+        what_is_due_can_happen()?;
+        let at = usize::from(node) - 1;
+        let Site::Up(up) = &mut self.sites[at] else {
+            unreachable!();
+        };
+        let begun = Begun {
+            node,
+            took,
+            caller: caller(up, &incoming),
+        };
+        match up.turn(incoming, self.telling.points()) {
+            Ok(effects) => self.turn_whole(alloc, begun, effects),
+            Err(TurnErr::Cut(cut)) => self.turn_cut(alloc, begun, cut),
+            Err(TurnErr::NoMemory) => Err(AllocError),
+        }
+    }
+
+    // The turn was whole: its record stands, its messages are sent, and its calls end.
+    #[tactic(auto, using(crate::proofs::TurnLemmas::turn_steps))]
+    fn turn_whole(&mut self, alloc: Global, begun: Begun, effects: Effects) -> Result<(), AllocError>
+        requires during { IsDuring begun effects self.old }
+        ensures steps { OnOk result (StepsOn self.old self.new) }
+        ensures extends { Extends self.old.trace self.new.trace }
+    {
+        numbers_stay_small()?;
+        let Effects {
+            input,
+            wrote,
+            sent,
+            ended,
+            passes,
+        } = effects;
+        let facts = TurnFacts {
+            caller: begun.caller,
+            writes: wrote.is_some(),
+            passes,
+            ended: ended_calls(alloc, ended)?,
+        };
+        let sent = self.send(alloc, begun.took, sent.into_vec())?;
+        let turn = Turn {
+            node: begun.node,
+            input,
+            took: begun.took,
+            wrote,
+            sent,
+            cut: false,
+        };
+        self.telling.turn(alloc, self.running, &turn, facts)?;
+        self.trace.push(alloc, Happening::Turn(turn))
+    }
+
+    // The message of a turn is taken, and its own are sent. There is no loss to tell before it.
+    fn send(
+        &mut self,
+        alloc: Global,
+        took: Option<Took>,
+        mails: Vec<Mailed>,
+    ) -> Result<Msgs, AllocError>
+        requires { AllByRecursion IsMailed mails.items }
+        ensures sent { IfOk result (λ msgs. msgs ≡ map (λ mail. mail.msg) mails.items) }
+        ensures net { OnOk result (self.new.net ≡ sent_on (taken self.old.net took) (map (λ mail. mail.msg) mails.items)) }
+        ensures losses { OnOk result (self.new.losses.items ≡ lost_at_once (taken self.old.net took) (map (λ mail. mail.msg) mails.items)) }
+        ensures same { self.new ≡ record self.old { net = self.new.net; losses = self.new.losses } }
+    {
+        take(&mut self.net, took);
+        self.losses = VecDeque::new(alloc);
+        send_all(alloc, &mut self.net, &mut self.losses, mails)
+    }
+
+    // The turn was cut: its record stands or not, nothing is sent, and the node has to stop.
+    #[tactic(auto, using(crate::proofs::TurnLemmas::turn_steps))]
+    fn turn_cut(&mut self, alloc: Global, begun: Begun, cut: CutTurn) -> Result<(), AllocError>
+        requires during { IsCutDuring begun cut self.old }
+        ensures steps { OnOk result (StepsOn self.old self.new) }
+        ensures extends { Extends self.old.trace self.new.trace }
+    {
+        numbers_stay_small()?;
+        let CutTurn {
+            input,
+            tried,
+            passes,
+        } = cut;
+        let writes = tried.is_some();
+        let by = self.telling.cut(begun.node, writes, passes);
+        let facts = TurnFacts {
+            caller: begun.caller,
+            writes,
+            passes,
+            ended: Listing::new(alloc),
+        };
+        let turn = Turn {
+            node: begun.node,
+            input,
+            took: begun.took,
+            wrote: if stands(by) { tried } else { None },
+            sent: Listing::new(alloc),
+            cut: true,
+        };
+        take(&mut self.net, begun.took);
+        self.telling.turn(alloc, self.running, &turn, facts)?;
+        self.trace.push(alloc, Happening::Turn(turn))?;
+        self.sites[usize::from(begun.node) - 1].stop(alloc);
+        self.to_stop = Some(begun.node);
+        Ok(())
+    }
+}
