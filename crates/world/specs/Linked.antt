@@ -1,11 +1,14 @@
 -- The world, part by part, held against the run so far.
-use Rattle.std.specs.Prelude.{◌≡◌, ℕ, List, length, map, None}
+use Rattle.std.specs.Prelude.{◌≡◌, ◌⊎◌, ℕ, List, length, map, None, Some}
 use Rattle.node_rules.specs.Data.{Place}
 use Rattle.run_laws.specs.Telling.{Past}
 use Rattle.run_laws.specs.Lawful.{boots}
 use Rattle.run_trace.specs.Recorded.{past_of}
 use Rattle.world.specs.Needs.{IsOfScript}
-use Rattle.world.specs.Site.{SitesAre, OtherSitesAre}
+use Rattle.node_rules.specs.Words.{numbered}
+use Rattle.node_disk.specs.Starts.{CanBeStarted}
+use Rattle.world.specs.declared.site.Site.{Site}
+use Rattle.world.specs.Site.{site_kept, site_disk, bytes_of, images_of, RunsAt, SitesAre}
 use Rattle.world.specs.Shown.{ShowDisks}
 use Rattle.world.specs.declared.world.World.{World}
 
@@ -30,3 +33,15 @@ pub record IsHeld (w : World) : Type 0 where
 pub record IsLinked (w : World) : Type 0 where
   pub held : IsHeld w
   pub upright : (past_of w.trace).telling.start_to_stop ≡ None
+
+-- An order to a disk changes neither what its node keeps nor its bytes.
+pub record IsOrdered (before after : Site) : Type 0 where
+  pub kept : site_kept after ≡ site_kept before
+  pub runs : (place : Place) → RunsAt place before → RunsAt place after
+  pub bytes : bytes_of (site_disk after) ≡ bytes_of (site_disk before)
+  pub starts : CanBeStarted bytes_of images_of (site_disk before) → CanBeStarted bytes_of images_of (site_disk after)
+
+-- after orders to disks each site is as it was but for them
+pub record OrdersStand (before after : World) : Type 0 where
+  pub count : length after.sites.items ≡ length before.sites.items
+  pub each : (n : ℕ) (site now : Site) → numbered before.sites.items n ≡ Some site → numbered after.sites.items n ≡ Some now → (now ≡ site) ⊎ IsOrdered site now

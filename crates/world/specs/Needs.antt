@@ -1,6 +1,6 @@
 -- The laws of runs that the world stands on: the turn that is due can be taken, and what it writes and says has bytes; the message
 -- that is due is there; starts and deliveries are few.
-use Rattle.std.specs.Prelude.{◌≡◌, ◌+◌, ◌<◌, ◌≤◌, ◌^◌, ◌×◌, ℕ, Bool, true, false, if◌then◌else◌, List, length, map, Option, Some, None}
+use Rattle.std.specs.Prelude.{◌≡◌, ◌+◌, ◌<◌, ◌≤◌, ◌^◌, ℕ, Bool, true, false, if◌then◌else◌, List, length, map, Option, Some, None}
 use Rattle.node_rules.specs.Data.{Place, Input}
 use Rattle.node_rules.specs.Data.inputs
 use Rattle.node_rules.specs.Kept.{Kept}

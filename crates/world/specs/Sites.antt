@@ -1,5 +1,5 @@
 -- The nodes of a run, by their numbers.
-use Rattle.std.specs.Prelude.{◌≡◌, ◌∷◌, ◌×◌, ℕ, List, [], Option, Some, None}
+use Rattle.std.specs.Prelude.{◌≡◌, ◌∷◌, ℕ, List, [], Option, Some, None}
 use Rattle.record_log.specs.Held.{HoldRecords}
 use Rattle.node_rules.specs.Data.{Place}
 use Rattle.node_rules.specs.Data.records
@@ -7,6 +7,10 @@ use Rattle.node_rules.specs.Words.{numbered}
 use Rattle.node_rules.specs.Kept.{Kept}
 use Rattle.node_rules.specs.Turn.{made}
 use Rattle.node_disk.specs.Starts.{CanBeStarted}
+use Rattle.run_laws.specs.Data.{Command}
+use Rattle.run_laws.specs.Data.commands
+use Rattle.run_laws.specs.Shown.{shown_disk}
+use Rattle.world.specs.declared.showing.DiskShown.{DiskShown}
 use Rattle.world.specs.declared.site.Site.{Site}
 use Rattle.world.specs.Site.{site_kept, site_disk, bytes_of, images_of, RunsAt}
 
@@ -31,3 +35,17 @@ abbrev pub AreMade : List Place → List Site → Type 0
 AreMade [] [] = Unit {0}
 AreMade (p ∷ ps) (s ∷ ss) = IsMade p s × AreMade ps ss
 AreMade _ _ = ⊥
+
+-- the bytes of the disk of a site, where there is one
+abbrev pub bytes_in_site : Option Site → List ℕ
+bytes_in_site None = []
+bytes_in_site (Some site) = bytes_of (site_disk site)
+
+-- the bytes of the disk of the node of a number
+abbrev pub disk_at : List Site → ℕ → List ℕ
+disk_at sites n = bytes_in_site (numbered sites n)
+
+-- SHOW DISK shows the bytes of its node's disk, and no other command shows a disk
+abbrev pub MayShow : (ℕ → List ℕ) → ℕ → Command → Option DiskShown → Type 0
+MayShow bytes number (commands.ShowDisk n) shown = shown ≡ Some (record { command = number; lines = shown_disk (bytes n) })
+MayShow bytes number _ shown = shown ≡ None

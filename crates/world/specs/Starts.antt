@@ -1,5 +1,5 @@
 -- A start of a node whose record stands on its disk, before the trace has it.
-use Rattle.std.specs.Prelude.{◌≡◌, ◌×◌, ◌+◌, ◌<◌, ◌^◌, ℕ, length, is_none, true, if◌then◌else◌, Option, Some, None}
+use Rattle.std.specs.Prelude.{◌≡◌, ◌+◌, ◌<◌, ◌^◌, ℕ, length, is_none, true, if◌then◌else◌, Option, Some, None}
 use Rattle.record_log.specs.Held.{HoldRecords}
 use Rattle.node_rules.specs.Words.{numbered}
 use Rattle.node_rules.specs.Turn.{start_of}

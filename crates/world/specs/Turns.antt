@@ -1,5 +1,5 @@
 -- A turn of a node, between what its node did and what the trace takes.
-use Rattle.std.specs.Prelude.{◌≡◌, ◌×◌, ℕ, Bool, true, false, Option, Some, None}
+use Rattle.std.specs.Prelude.{◌≡◌, ℕ, Bool, true, false, Option, Some, None}
 use Rattle.node_rules.specs.Data.{Input, RedoRecord}
 use Rattle.node_rules.specs.Data.inputs
 use Rattle.node_rules.specs.Words.{numbered}

@@ -60,7 +60,6 @@ impl World {
     }
 
     /// A message is delivered, or a copy of one.
-    #[tactic(auto, using(crate::proofs::TurnLemmas::delivery_steps))]
     pub(crate) fn deliver(&mut self, alloc: Global, k: u64, again: bool) -> Result<(), AllocError>
         requires linked { IsLinked self.old }
         requires due { due_in self.old.trace ≡ Delivers k again }

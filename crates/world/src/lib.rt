@@ -10,6 +10,7 @@ mod calls;
 mod disk_lines;
 mod due;
 mod laws;
+mod lines;
 mod mail;
 mod network;
 mod showing;

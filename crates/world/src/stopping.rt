@@ -23,7 +23,6 @@ use tran_ids::node_name;
 
 impl World {
     /// A node whose turn was cut stops.
-    #[tactic(auto, using(crate::proofs::StopLemmas::stop_steps))]
     pub(crate) fn fall(&mut self, alloc: Global, node: u8) -> Result<(), AllocError>
         requires linked { IsLinked self.old }
         requires due { due_in self.old.trace ≡ Falls node }
@@ -36,7 +35,6 @@ impl World {
     }
 
     /// STOP.
-    #[tactic(auto, using(crate::proofs::StopLemmas::stop_steps))]
     pub(crate) fn stop(&mut self, alloc: Global, node: u8) -> Result<(), AllocError>
         requires linked { IsLinked self.old }
         requires due { due_in self.old.trace ≡ Stops node }
@@ -49,7 +47,6 @@ impl World {
     }
 
     /// A node stops, and `was_up` tells whether it was up: its calls end, messages to it are lost, and its disk is left.
-    #[tactic(auto, using(crate::proofs::StopLemmas::stop_steps))]
     pub(crate) fn halt(&mut self, alloc: Global, node: u8, was_up: bool) -> Result<(), AllocError>
         requires held { IsHeld self.old }
         requires next { IsNext self.old.trace (occurrences.Stopped node) }
@@ -68,7 +65,6 @@ impl World {
     }
 
     // What is told of a stop.
-    #[tactic(auto, using(crate::proofs::StopLemmas::stop_steps))]
     fn tell_stop(&mut self, alloc: Global, node: u8, was_up: bool) -> Result<(), AllocError>
         requires held { IsHeld self.old }
         requires up { was_up ≡ is_up_by (past_of self.old.trace).facts node }

@@ -46,7 +46,6 @@ pub struct World {
 
 impl World {
     /// The world before anything happened: every node is made on an empty disk. Fails where memory runs out.
-    #[tactic(auto, using(crate::proofs::BeginLemmas::linked_at_first))]
     pub fn new(alloc: Global, places: Places, commands: Commands) -> Result<World, AllocError>
         requires script { AreOfAScript places commands }
         requires few { length commands < 2 ^ 18 }

@@ -1,0 +1,4 @@
+mod DiskLines
+mod SiteLemmas
+mod NetworkLemmas
+mod DueLemmas

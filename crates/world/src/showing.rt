@@ -1,0 +1,271 @@
+//! What a command says as it begins, and what SHOW prints.
+ghost use Rattle.std.specs.Prelude.{◌≡◌, ◌≤◌, ◌-◌, ◌∷◌, [], Option, option_map, IfOk};
+ghost use Rattle.tran_ids.specs.Texts.{name_of};
+ghost use Rattle.node_rules.specs.Data.{Stmt};
+ghost use Rattle.pending_view.specs.Views.{pending_rows};
+ghost use Rattle.run_laws.specs.Data.commands as script;
+ghost use Rattle.sql_check.specs.Refusals.{dtx};
+ghost use Rattle.sql_check.specs.Words.{one as one_of};
+ghost use Rattle.dtx_values.specs.declared.answer.Notice.TheVariants as notices;
+ghost use Rattle.book.specs.declared.line.Said.TheVariants as saids;
+ghost use Rattle.run_laws.specs.Commands.{if_up as if_up_by, if_may as if_may_by, says_at_once as says_by};
+ghost use Rattle.run_laws.specs.Lines.{fine as fine_by, refuses_with};
+ghost use Rattle.run_laws.specs.Facts.{names_in};
+ghost use Rattle.run_trace.specs.Recorded.{past_of};
+ghost use Rattle.world.specs.Sites.{kept_at, disk_at, MayShow};
+ghost use Rattle.world.specs.Linked.{IsLinked};
+
+use crate::World;
+use crate::disk_lines::disk_lines;
+use crate::site::Site;
+use crate::sites::{is_enabled, is_up, site_at};
+use book::{Said, book_lines};
+use dtx_values::{Bytes, Listing, Name, Notice, Refusal, Texts};
+use pending_view::{PendingRows, neighbors_view, pending, pending_view};
+use script_read::Command;
+use std::alloc::{AllocError, Global};
+use tran_ids::{node_name, put_decimal};
+
+/// The codes of DTX-01, DTX-04, DTX-11, DTX-12, DTX-13 and DTX-14.
+const STOPPED: u16 = 60_001;
+const PENDING: u16 = 60_004;
+const NO_MESSAGE: u16 = 60_011;
+const DISABLED: u16 = 60_012;
+const RUNNING: u16 = 60_013;
+const NO_CALL: u16 = 60_014;
+
+/// What SHOW DISK showed.
+#[derive(Debug, Drop)]
+pub struct DiskShown {
+    /// The number of its command, from 1.
+    pub command: u32,
+    /// The lines of the disk's bytes.
+    pub lines: Texts,
+}
+
+/// What a command says.
+type Says = Listing<Said>;
+
+fn one(alloc: Global, said: Said) -> Result<Says, AllocError>
+    ensures { IfOk result (λ says. says ≡ said ∷ []) }
+{
+    Ok(Listing::of(vec![in alloc; said]?))
+}
+
+fn fine(alloc: Global) -> Result<Says, AllocError>
+    ensures { IfOk result (λ says. says ≡ fine_by) }
+{
+    one(alloc, Said::World(Notice::Fine))
+}
+
+fn shows(alloc: Global, lines: Texts) -> Result<Says, AllocError>
+    ensures { IfOk result (λ says. says ≡ saids.World (notices.Shown lines) ∷ []) }
+{
+    one(alloc, Said::World(Notice::Shown(lines)))
+}
+
+// A refusal of this code, with nothing to name.
+fn refused(alloc: Global, code: u16) -> Result<Says, AllocError>
+    requires { 60000 ≤ code }
+    ensures { IfOk result (λ says. says ≡ refuses_with (dtx (code - 60000) []) ∷ []) }
+{
+    let args = Listing::new(alloc);
+    one(alloc, Said::World(Notice::Refused(Refusal { code, args })))
+}
+
+// A refusal of this code that names this.
+fn refused_with(alloc: Global, code: u16, text: Bytes) -> Result<Says, AllocError>
+    requires { 60000 ≤ code }
+    ensures { IfOk result (λ says. says ≡ refuses_with (dtx (code - 60000) (one_of text)) ∷ []) }
+{
+    let args = Listing::of(vec![in alloc; text]?);
+    one(alloc, Said::World(Notice::Refused(Refusal { code, args })))
+}
+
+// ok, or DTX-11 where the message may not come.
+fn if_may(alloc: Global, may: bool, k: u32) -> Result<Says, AllocError>
+    ensures { IfOk result (λ says. says ≡ if_may_by may k) }
+{
+    if may {
+        fine(alloc)
+    } else {
+        let mut text = Vec::new(alloc);
+        put_decimal(&mut text, u64::from(k))?;
+        refused_with(alloc, NO_MESSAGE, Listing::of(text))
+    }
+}
+
+impl World {
+    /// What a command says as it begins. Fails where memory runs out.
+    pub(crate) fn says_at_once(&self, alloc: Global, command: &Command) -> Result<Says, AllocError>
+        requires { IsLinked self.now }
+        ensures { IfOk result (λ says. says ≡ says_by self.now.trace.places (past_of self.now.trace).facts (past_of self.now.trace).telling command.now) }
+    {
+        match command {
+            Command::At {
+                node,
+                session,
+                statement: _statement,
+            } => self.says_call(alloc, *node, *session),
+            Command::Lose { k } => if_may(alloc, self.net.in_flight(u64::from(*k)), *k),
+            Command::Deliver { k } => if_may(alloc, self.net.in_flight(u64::from(*k)), *k),
+            Command::Again { k } => if_may(alloc, self.net.again(u64::from(*k)).is_some(), *k),
+            Command::Stop { node } => self.if_up(alloc, *node, fine(alloc)?),
+            Command::Start { node } => self.says_start(alloc, *node),
+            Command::GiveUp { node, session } => self.says_give_up(alloc, *node, *session),
+            Command::Reco { node } => self.says_reco(alloc, *node),
+            Command::ShowPending { node } => self.says_pending(alloc, *node),
+            Command::ShowNeighbors { node } => self.says_neighbors(alloc, *node),
+            Command::ShowBook => shows(alloc, book_lines(alloc, self.trace.book(), self.names())?),
+            Command::ShowNet => shows(alloc, self.net.lines(alloc, self.names())?),
+            // The bytes of a disk are shown apart.
+            Command::ShowDisk { node: _node } => shows(alloc, Listing::new(alloc)),
+            _ => fine(alloc),
+        }
+    }
+
+    /// The lines of SHOW DISK, where this is one. Fails where memory runs out.
+    pub(crate) fn shown_disk(
+        &self,
+        alloc: Global,
+        number: u32,
+        command: &Command,
+    ) -> Result<Option<DiskShown>, AllocError>
+        ensures { IfOk result (λ shown. MayShow (λ n. disk_at self.now.sites.items n) number command.now shown) }
+    {
+        match command {
+            Command::ShowDisk { node } => {
+                let lines = disk_lines(alloc, self.disk(*node))?;
+                Ok(Some(DiskShown {
+                    command: number,
+                    lines,
+                }))
+            }
+            _ => Ok(None),
+        }
+    }
+
+    /// The bytes of a node's disk, none for a number past the nodes.
+    pub fn disk(&self, node: u8) -> &[u8]
+        ensures { result.now ≡ disk_at self.now.sites.items node }
+    {
+        match site_at(&self.sites, node) {
+            None => &[],
+            Some(site) => site.disk().bytes(),
+        }
+    }
+
+    /// The rows of DBA_2PC_PENDING at a node, and nothing where it is down. Fails where memory runs out.
+    pub fn pending(&self, alloc: Global, node: u8) -> Result<Option<PendingRows>, AllocError>
+        ensures { IfOk result (λ rows. rows ≡ option_map (λ k. pending_rows k.stored.durable.kept k.lives) (kept_at self.now.sites.items node)) }
+    {
+        match site_at(&self.sites, node) {
+            Some(Site::Up(up)) => Ok(Some(pending(alloc, up.kept(), up.lives())?)),
+            _ => Ok(None),
+        }
+    }
+
+    // The names of the nodes, by the first of them.
+    fn names(&self) -> &[Name]
+        ensures { result.now ≡ names_in self.now.trace.places }
+    {
+        match self.trace.places() {
+            [] => &[],
+            [place, ..] => place.names.as_slice(),
+        }
+    }
+
+    // DTX-01 or DTX-13, which name the node.
+    fn refused_node(&self, alloc: Global, code: u16, node: u8) -> Result<Says, AllocError>
+        requires { 60000 ≤ code }
+        ensures { IfOk result (λ says. says ≡ refuses_with (dtx (code - 60000) (one_of (name_of (names_in self.now.trace.places) node))) ∷ []) }
+    {
+        let name = Vec::from_slice(alloc, node_name(self.names(), node))?;
+        refused_with(alloc, code, Listing::of(name))
+    }
+
+    // This, or DTX-01 where the node is down.
+    fn if_up(&self, alloc: Global, node: u8, says: Says) -> Result<Says, AllocError>
+        requires { IsLinked self.now }
+        ensures { IfOk result (λ all. all ≡ if_up_by self.now.trace.places (past_of self.now.trace).facts node says) }
+    {
+        if is_up(&self.sites, node) {
+            Ok(says)
+        } else {
+            self.refused_node(alloc, STOPPED, node)
+        }
+    }
+
+    fn says_call(&self, alloc: Global, node: u8, session: u32) -> Result<Says, AllocError>
+        requires { IsLinked self.now }
+        ensures { IfOk result (λ says. (statement : Option Stmt) → says ≡ says_by self.now.trace.places (past_of self.now.trace).facts (past_of self.now.trace).telling (script.At node session statement)) }
+    {
+        let says = if self.telling.has_call(node, session) {
+            refused(alloc, PENDING)?
+        } else {
+            Listing::new(alloc)
+        };
+        self.if_up(alloc, node, says)
+    }
+
+    fn says_start(&self, alloc: Global, node: u8) -> Result<Says, AllocError>
+        requires { IsLinked self.now }
+        ensures { IfOk result (λ says. says ≡ says_by self.now.trace.places (past_of self.now.trace).facts (past_of self.now.trace).telling (script.Start node)) }
+    {
+        if is_up(&self.sites, node) {
+            self.refused_node(alloc, RUNNING, node)
+        } else {
+            Ok(Listing::new(alloc))
+        }
+    }
+
+    fn says_give_up(&self, alloc: Global, node: u8, session: u32) -> Result<Says, AllocError>
+        requires { IsLinked self.now }
+        ensures { IfOk result (λ says. says ≡ says_by self.now.trace.places (past_of self.now.trace).facts (past_of self.now.trace).telling (script.GiveUp node session)) }
+    {
+        let says = if self.telling.has_call(node, session) {
+            fine(alloc)?
+        } else {
+            refused(alloc, NO_CALL)?
+        };
+        self.if_up(alloc, node, says)
+    }
+
+    fn says_reco(&self, alloc: Global, node: u8) -> Result<Says, AllocError>
+        requires { IsLinked self.now }
+        ensures { IfOk result (λ says. says ≡ says_by self.now.trace.places (past_of self.now.trace).facts (past_of self.now.trace).telling (script.Reco node)) }
+    {
+        let says = if is_enabled(&self.sites, node) {
+            fine(alloc)?
+        } else {
+            refused(alloc, DISABLED)?
+        };
+        self.if_up(alloc, node, says)
+    }
+
+    fn says_pending(&self, alloc: Global, node: u8) -> Result<Says, AllocError>
+        requires { IsLinked self.now }
+        ensures { IfOk result (λ says. says ≡ says_by self.now.trace.places (past_of self.now.trace).facts (past_of self.now.trace).telling (script.ShowPending node)) }
+    {
+        match site_at(&self.sites, node) {
+            Some(Site::Up(up)) => {
+                let lines = pending_view(alloc, self.names(), up.kept(), up.lives())?;
+                shows(alloc, lines)
+            }
+            _ => self.refused_node(alloc, STOPPED, node),
+        }
+    }
+
+    fn says_neighbors(&self, alloc: Global, node: u8) -> Result<Says, AllocError>
+        requires { IsLinked self.now }
+        ensures { IfOk result (λ says. says ≡ says_by self.now.trace.places (past_of self.now.trace).facts (past_of self.now.trace).telling (script.ShowNeighbors node)) }
+    {
+        match site_at(&self.sites, node) {
+            Some(Site::Up(up)) => {
+                let lines = neighbors_view(alloc, self.names(), up.kept())?;
+                shows(alloc, lines)
+            }
+            _ => self.refused_node(alloc, STOPPED, node),
+        }
+    }
+}
