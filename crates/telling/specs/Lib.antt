@@ -1,0 +1,4 @@
+pub mod Known
+pub mod Turned
+pub mod Due
+pub mod Facts
