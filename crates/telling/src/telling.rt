@@ -83,6 +83,13 @@ impl Telling {
         call_at(&self.calls, node, session).is_some()
     }
 
+    /// The points of crash-test comments, in the order in which they were armed.
+    pub fn points(&self) -> &[Point]
+        ensures { result.now ≡ self.now.points }
+    {
+        &self.points
+    }
+
     /// The orders on a node's disk that have not struck.
     pub fn orders_at(&self, node: u8) -> DiskOrders
         ensures { result ≡ orders_of self.now node }
