@@ -2,3 +2,4 @@ mod DiskLines
 mod SiteLemmas
 mod NetworkLemmas
 mod DueLemmas
+mod BeginLemmas

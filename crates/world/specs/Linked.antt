@@ -21,11 +21,17 @@ pub record PartsAre (p : Past) (w : World) : Type 0 where
   pub boots : w.boots.items ≡ map boots p.facts.records
   pub telling : w.telling ≡ p.telling
 
+-- There are as many nodes, records and sites as places.
+pub record AreCounted (w : World) : Type 0 where
+  pub sites : length w.sites.items ≡ length w.trace.places
+  pub nodes : length (past_of w.trace).facts.nodes ≡ length w.trace.places
+  pub records : length (past_of w.trace).facts.records ≡ length w.trace.places
+
 -- The world is that of the run so far, also between a start that an order struck and the stop that follows it.
 pub record IsHeld (w : World) : Type 0 where
   pub script : IsOfScript w.trace
   pub parts : PartsAre (past_of w.trace) w
-  pub count : length w.sites.items ≡ length w.trace.places
+  pub counted : AreCounted w
   pub sites : SitesAre w.trace.places (past_of w.trace) w.sites.items
   pub shown : ShowDisks w.trace w.shown.items
 

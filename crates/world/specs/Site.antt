@@ -1,5 +1,5 @@
 -- A node of a run, up or down, by its parts, and held against the facts of the run.
-use Rattle.std.specs.Prelude.{◌≡◌, ◌<◌, ◌^◌, ◌==◌, if◌then◌else◌, ℕ, Bool, false, List, [], length, unwrap_or, Option, Some, None}
+use Rattle.std.specs.Prelude.{◌≡◌, ◌≢◌, ◌<◌, ◌^◌, ◌==◌, if◌then◌else◌, ℕ, Bool, false, List, [], length, unwrap_or, Option, Some, None}
 use Rattle.block_disk.specs.Happenings.{content_of, IsImage}
 use Rattle.block_disk.specs.MemDisk.{DiskState}
 use Rattle.record_log.specs.Held.{HoldRecords}
@@ -58,4 +58,4 @@ SitesAre places p sites = (n : ℕ) (site : Site) → numbered sites n ≡ Some 
 
 -- all but this one are
 abbrev pub OtherSitesAre : ℕ → List Place → Past → List Site → Type 0
-OtherSitesAre m places p sites = (n : ℕ) (site : Site) → (m == n) ≡ false → numbered sites n ≡ Some site → SiteIs places p n site
+OtherSitesAre m places p sites = (n : ℕ) (site : Site) → m ≢ n → numbered sites n ≡ Some site → SiteIs places p n site

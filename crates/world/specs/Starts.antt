@@ -13,7 +13,7 @@ use Rattle.run_trace.specs.Recorded.{IsNext, past_of}
 use Rattle.world.specs.declared.site.Site.{Site}
 use Rattle.world.specs.declared.world.World.{World}
 use Rattle.world.specs.Needs.{IsOfScript}
-use Rattle.world.specs.Linked.{PartsAre}
+use Rattle.world.specs.Linked.{AreCounted, PartsAre}
 use Rattle.world.specs.Shown.{ShowDisks}
 use Rattle.world.specs.Site.{site_kept, site_disk, bytes_of, images_of, RunsAt, OtherSitesAre}
 
@@ -33,7 +33,7 @@ pub record HasBegun (n : ℕ) (w : World) : Type 0 where
   pub script : IsOfScript w.trace
   pub parts : PartsAre (past_of w.trace) w
   pub upright : (past_of w.trace).telling.start_to_stop ≡ None
-  pub count : length w.sites.items ≡ length w.trace.places
+  pub counted : AreCounted w
   pub others : OtherSitesAre n w.trace.places (past_of w.trace) w.sites.items
   pub shown : ShowDisks w.trace w.shown.items
   pub there : IsNode (length w.trace.places) n

@@ -25,7 +25,7 @@ use Rattle.world.specs.declared.site.Site.{Site}
 use Rattle.world.specs.declared.turning.Begun.{Begun}
 use Rattle.world.specs.declared.world.World.{World}
 use Rattle.world.specs.Needs.{IsOfScript, IsTurnDue, due_in}
-use Rattle.world.specs.Linked.{PartsAre}
+use Rattle.world.specs.Linked.{AreCounted, PartsAre}
 use Rattle.world.specs.Shown.{ShowDisks}
 use Rattle.world.specs.Site.{site_kept, site_disk, bytes_of, images_of, RunsAt, OtherSitesAre}
 use Rattle.node_disk.specs.Starts.{CanBeStarted}
@@ -57,7 +57,7 @@ pub record IsUnderWay (begun : Begun) (input : Input) (k : Kept) (w : World) (by
   pub script : IsOfScript w.trace
   pub parts : PartsAre (past_of w.trace) w
   pub upright : (past_of w.trace).telling.start_to_stop ≡ None
-  pub count : length w.sites.items ≡ length w.trace.places
+  pub counted : AreCounted w
   pub others : OtherSitesAre begun.node w.trace.places (past_of w.trace) w.sites.items
   pub shown : ShowDisks w.trace w.shown.items
   pub due : IsTurnDue (past_of w.trace).facts (due_in w.trace) begun.node input

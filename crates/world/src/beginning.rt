@@ -55,7 +55,8 @@ impl World {
         self.telling.begin(alloc, number, &command, facts)?;
         order_net(&mut self.net, &command)?;
         self.order_disk(alloc, &command)?;
-        self.trace.push(alloc, Happening::Begun { command: number })?;
+        self.trace
+            .push(alloc, Happening::Begun { command: number })?;
         self.running = number;
         if let Some(shown) = shown {
             self.shown.push(shown)?;

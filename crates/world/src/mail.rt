@@ -50,11 +50,7 @@ pub(crate) fn send_all(
     Ok(Listing::of(msgs))
 }
 
-fn send_one(
-    net: &mut Bag,
-    losses: &mut VecDeque<u64>,
-    mail: Mailed,
-) -> Result<Msg, AllocError>
+fn send_one(net: &mut Bag, losses: &mut VecDeque<u64>, mail: Mailed) -> Result<Msg, AllocError>
     requires { message_of mail.bytes ≡ Some mail.msg }
     ensures msg { IfOk result (λ msg. msg ≡ mail.msg) }
     ensures net { OnOk result (net.new ≡ sent_one net.old mail.msg) }

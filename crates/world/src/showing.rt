@@ -28,10 +28,15 @@ use tran_ids::{node_name, put_decimal};
 
 /// The codes of DTX-01, DTX-04, DTX-11, DTX-12, DTX-13 and DTX-14.
 const STOPPED: u16 = 60_001;
+
 const PENDING: u16 = 60_004;
+
 const NO_MESSAGE: u16 = 60_011;
+
 const DISABLED: u16 = 60_012;
+
 const RUNNING: u16 = 60_013;
+
 const NO_CALL: u16 = 60_014;
 
 /// What SHOW DISK showed.

@@ -111,7 +111,12 @@ impl World {
     }
 
     // The turn was whole: its record stands, its messages are sent, and its calls end.
-    fn turn_whole(&mut self, alloc: Global, begun: Begun, effects: Effects) -> Result<(), AllocError>
+    fn turn_whole(
+        &mut self,
+        alloc: Global,
+        begun: Begun,
+        effects: Effects,
+    ) -> Result<(), AllocError>
         requires during { IsDuring begun effects self.old }
         ensures steps { OnOk result (StepsOn self.old self.new) }
         ensures extends { Extends self.old.trace self.new.trace }

@@ -46,6 +46,7 @@ pub struct World {
 
 impl World {
     /// The world before anything happened: every node is made on an empty disk. Fails where memory runs out.
+    #[tactic(auto, using(crate::proofs::BeginLemmas::begin_steps), unfolding(run_laws::specs::Past::past))]
     pub fn new(alloc: Global, places: Places, commands: Commands) -> Result<World, AllocError>
         requires script { AreOfAScript places commands }
         requires few { length commands < 2 ^ 18 }
