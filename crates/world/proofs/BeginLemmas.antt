@@ -8,9 +8,14 @@ use Rattle.node_rules.specs.Data.records
 use Rattle.node_rules.specs.Words.{numbered}
 use Rattle.node_rules.specs.Kept.{Kept}
 use Rattle.node_rules.specs.Turn.{made}
-use Rattle.run_laws.specs.Facts.{flat}
+use Rattle.run_laws.specs.Data.{Command}
+use Rattle.run_laws.specs.Data.happenings
+use Rattle.run_laws.specs.Commands.{begins}
+use Rattle.run_laws.specs.Due.{Begins, comes_next, due_of}
+use Rattle.run_laws.specs.Facts.{command_at, facts_after, flat, ordered}
+use Rattle.run_laws.specs.Past.{next}
 use Rattle.run_laws.specs.Lawful.{boots}
-use Rattle.run_laws.specs.Telling.{start}
+use Rattle.run_laws.specs.Telling.{Past, start}
 use Rattle.world.specs.declared.site.Site.{Site}
 use Rattle.world.specs.Site.{SiteIs, SitesAre}
 use Rattle.world.specs.Sites.{AreMade, IsMade}
@@ -41,4 +46,17 @@ pub booted_once : (places : List Place) → replicate (length places) 1 ≡ map 
 booted_once [] = refl
 booted_once (p ∷ ps) = ap (λ (ns : List ℕ). 1 ∷ ns) (booted_once ps)
 
-pub ruleset begin_steps = (made_sites, booted_once)
+module _ (places : List Place) (commands : List Command) where
+  -- a command that is due begins
+  pub begins_next : (p : Past) (c : ℕ) → due_of commands p ≡ Begins c → comes_next places commands p ≡ Some (happenings.Begun c)
+  begins_next p c due = rw (due) refl
+
+  pub next_begun : (p : Past) (c : ℕ) → next places commands p (happenings.Begun c)
+      ≡ record {
+        facts = record p.facts { command = c; net = ordered p.facts.net (command_at commands c) };
+        telling = begins places p.facts p.telling c (command_at commands c);
+      }
+  unfolding next facts_after
+  next_begun p c = refl
+
+pub ruleset begin_steps = (made_sites, booted_once, begins_next, next_begun)

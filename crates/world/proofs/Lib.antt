@@ -3,3 +3,7 @@ mod SiteLemmas
 mod NetworkLemmas
 mod DueLemmas
 mod BeginLemmas
+mod TurnLemmas
+mod StopLemmas
+mod StartLemmas
+mod MailLemmas

@@ -43,6 +43,7 @@ fn left_by(alloc: Global, how: &How) -> Result<LeftBy, AllocError> {
 
 impl World {
     /// The command of this number begins.
+    #[tactic(auto, using(crate::proofs::BeginLemmas::begin_steps, run_trace::proofs::ExtendsLemmas::extends_steps))]
     pub(crate) fn begin(&mut self, alloc: Global, number: u32) -> Result<(), AllocError>
         requires linked { IsLinked self.old }
         requires due { due_in self.old.trace ≡ Begins number }

@@ -31,6 +31,7 @@ pub(crate) fn take(net: &mut Bag, took: Option<Took>)
 }
 
 /// Sends these messages in order, and adds the numbers of those that are lost at once. Fails where memory runs out.
+#[tactic(auto, using(crate::proofs::MailLemmas::mail_steps))]
 pub(crate) fn send_all(
     alloc: Global,
     net: &mut Bag,

@@ -19,6 +19,7 @@ use tran_ids::node_name;
 impl World {
     /// START. An order may strike the start before the record of it stands, and then the node stays down; or after that, and then
     /// it has started, and stops at once.
+    #[tactic(auto, using(crate::proofs::StartLemmas::start_steps, run_trace::proofs::ExtendsLemmas::extends_steps))]
     pub(crate) fn start(&mut self, alloc: Global, node: u8) -> Result<(), AllocError>
         requires linked { IsLinked self.old }
         requires due { due_in self.old.trace ≡ Starts node }
@@ -45,6 +46,7 @@ impl World {
     }
 
     // The record of the start of a node stands.
+    #[tactic(auto, using(crate::proofs::StartLemmas::start_steps, run_trace::proofs::ExtendsLemmas::extends_steps))]
     fn boot(&mut self, alloc: Global, node: u8) -> Result<(), AllocError>
         requires begun { HasBegun node self.old }
         ensures steps { OnOk result (StepsTo self.old self.new) }

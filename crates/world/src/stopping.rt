@@ -23,6 +23,7 @@ use tran_ids::node_name;
 
 impl World {
     /// A node whose turn was cut stops.
+    #[tactic(auto, using(crate::proofs::StopLemmas::stop_steps, run_trace::proofs::ExtendsLemmas::extends_steps))]
     pub(crate) fn fall(&mut self, alloc: Global, node: u8) -> Result<(), AllocError>
         requires linked { IsLinked self.old }
         requires due { due_in self.old.trace ≡ Falls node }
@@ -35,6 +36,7 @@ impl World {
     }
 
     /// STOP.
+    #[tactic(auto, using(crate::proofs::StopLemmas::stop_steps, run_trace::proofs::ExtendsLemmas::extends_steps))]
     pub(crate) fn stop(&mut self, alloc: Global, node: u8) -> Result<(), AllocError>
         requires linked { IsLinked self.old }
         requires due { due_in self.old.trace ≡ Stops node }
@@ -47,6 +49,7 @@ impl World {
     }
 
     /// A node stops, and `was_up` tells whether it was up: its calls end, messages to it are lost, and its disk is left.
+    #[tactic(auto, using(crate::proofs::StopLemmas::stop_steps, run_trace::proofs::ExtendsLemmas::extends_steps))]
     pub(crate) fn halt(&mut self, alloc: Global, node: u8, was_up: bool) -> Result<(), AllocError>
         requires held { IsHeld self.old }
         requires next { IsNext self.old.trace (occurrences.Stopped node) }

@@ -79,6 +79,7 @@ fn stands(cut: Cut) -> bool
 
 impl World {
     /// The turn of a node that is due, over this input. Fails where memory runs out.
+    #[tactic(auto, using(crate::proofs::TurnLemmas::turn_steps, run_trace::proofs::ExtendsLemmas::extends_steps))]
     pub(crate) fn turn(
         &mut self,
         alloc: Global,
@@ -111,6 +112,7 @@ impl World {
     }
 
     // The turn was whole: its record stands, its messages are sent, and its calls end.
+    #[tactic(auto, using(crate::proofs::TurnLemmas::turn_steps, run_trace::proofs::ExtendsLemmas::extends_steps))]
     fn turn_whole(
         &mut self,
         alloc: Global,
@@ -167,6 +169,7 @@ impl World {
     }
 
     // The turn was cut: its record stands or not, nothing is sent, and the node has to stop.
+    #[tactic(auto, using(crate::proofs::TurnLemmas::turn_steps, run_trace::proofs::ExtendsLemmas::extends_steps))]
     fn turn_cut(&mut self, alloc: Global, begun: Begun, cut: CutTurn) -> Result<(), AllocError>
         requires during { IsCutDuring begun cut self.old }
         ensures steps { OnOk result (StepsOn self.old self.new) }
