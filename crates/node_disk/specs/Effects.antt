@@ -1,7 +1,8 @@
 -- What a turn tells: its messages with their bytes, the calls that ended, and its record; and what is left of one that was cut.
 use Rattle.std.specs.Prelude.{◌≡◌, List, false, map, option_map, Option, Some, None, IfSome}
 use Rattle.msg_codec.specs.Message.{msg_format}
-use Rattle.node_rules.specs.Data.{RedoRecord, Msg, Place, Finished as FinishedByRules}
+use Rattle.node_rules.specs.Data.{RedoRecord, Msg, Place}
+use Rattle.node_rules.specs.declared.session.Finished.{Finished as FinishedByRules}
 use Rattle.node_rules.specs.Kept.{Kept, Outcome}
 use Rattle.node_rules.specs.Turn.{turn_of}
 use Rattle.node_rules.specs.Points.{Point, Passes as PassesByRules, passes, reaches}
