@@ -23,13 +23,13 @@ use Rattle.telling.specs.declared.stops.StopFacts.{StopFacts}
 abbrev pub with_stop_of : List ℕ → Telling → Telling
 with_stop_of name t = record t { page = record t.page { stops = t.page.stops ++ one (stop_said name) } }
 
--- DTX-05, where messages are in flight
-abbrev pub over_by : Bool → Telling → List Said
-over_by flying t = if spent t.deliveries && flying then one (refuses_with (dtx 5 [])) else []
+-- DTX-05, where a command has made its most deliveries and messages are in flight
+abbrev pub over_lines : ℕ → Bool → List Said
+over_lines deliveries flying = if spent deliveries && flying then one (refuses_with (dtx 5 [])) else []
 
 -- all lines
 abbrev pub told_by : ℕ → Bool → Telling → List AnswerLine
-told_by running flying t = t.lines ++ page_by running t.page (over_by flying t)
+told_by running flying t = t.lines ++ page_by running t.page (over_lines t.deliveries flying)
 
 -- ---- a command begins
 

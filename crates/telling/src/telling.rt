@@ -1,12 +1,13 @@
 //! What is told of a run so far.
-ghost use Rattle.std.specs.Prelude.{◌≡◌, ℕ, List, is_some, length, map, replicate, unwrap_or, IfOk};
+ghost use Rattle.std.specs.Prelude.{◌≡◌, ◌++◌, ℕ, List, is_some, length, map, replicate, unwrap_or, IfOk};
 ghost use Rattle.redo_record.specs.declared.place.Place.{Place};
 ghost use Rattle.run_laws.specs.Telling.{nothing_told, orders_at as orders_of};
 ghost use Rattle.run_laws.specs.Disks.{no_orders as no_orders_of};
 ghost use Rattle.run_laws.specs.Commands.{has_call as has_call_of};
 ghost use Rattle.run_laws.specs.Past.{acts};
 ghost use Rattle.telling.specs.Facts.{TellsAll};
-ghost use Rattle.telling.specs.Known.{told_by};
+ghost use Rattle.telling.specs.Known.{over_lines, told_by};
+ghost use Rattle.telling_parts.specs.Lines.{page_by};
 
 use book::AnswerLine;
 use dtx_values::{DELIVERY_LIMIT, Listing};
@@ -116,10 +117,20 @@ impl Telling {
         ensures by_facts { IfOk result (λ lines. lines ≡ told_by running flying self) }
         ensures tells { IfOk result (λ lines. TellsAll running flying self lines) }
     {
-        let over = over(alloc, self.deliveries, flying)?;
-        let mut lines = self.lines;
-        self.page.tell(alloc, &mut lines, running, over)?;
-        Ok(Listing::of(lines))
+        self.into_told().into_lines(alloc, running, flying)
+    }
+
+    // What the lines are made of.
+    fn into_told(self) -> Told
+        ensures deliveries { result.deliveries ≡ self.deliveries }
+        ensures page { result.page ≡ self.page }
+        ensures lines { result.lines.items ≡ self.lines }
+    {
+        Told {
+            deliveries: self.deliveries,
+            page: self.page,
+            lines: self.lines,
+        }
     }
 
     /// The lines of the commands before the one that runs.
@@ -127,6 +138,30 @@ impl Telling {
         ensures { result ≡ self.lines }
     {
         Listing::of(self.lines)
+    }
+}
+
+// The deliveries and the page of the command that runs, and the lines of the commands before.
+#[derive(Drop)]
+struct Told {
+    deliveries: u32,
+    page: Page,
+    lines: Vec<AnswerLine>,
+}
+
+impl Told {
+    fn into_lines(
+        self,
+        alloc: Global,
+        running: u32,
+        flying: bool,
+    ) -> Result<Listing<AnswerLine>, AllocError>
+        ensures { IfOk result (λ lines. lines ≡ self.lines.items ++ page_by running self.page (over_lines self.deliveries flying)) }
+    {
+        let over = over(alloc, self.deliveries, flying)?;
+        let mut lines = self.lines;
+        self.page.tell(alloc, &mut lines, running, over)?;
+        Ok(Listing::of(lines))
     }
 }
 

@@ -2,7 +2,7 @@
 use Rattle.std.proofs.Common.{◌≡◌}
 use Rattle.std.specs.Vec.Iter.{into_iter_items}
 use Rattle.telling.specs.Known.{calls_fall}
-use Rattle.telling.proofs.stops.Telling.drop_calls.Given as goal
+use Rattle.telling.proofs.telling.Telling.drop_calls.Given as goal
 
 abbrev pub invariant-loop-key : goal.invariant-loop-key
 invariant-loop-key l = record {

@@ -2,7 +2,7 @@
 use Rattle.std.proofs.Common.{◌≡◌}
 use Rattle.std.specs.Vec.Iter.{into_iter_items}
 use Rattle.run_laws.specs.Calls.{finished}
-use Rattle.telling.proofs.ends.Telling.end_calls.Given as goal
+use Rattle.telling.proofs.telling.Telling.end_calls.Given as goal
 
 abbrev pub invariant-loop-done : goal.invariant-loop-done
 invariant-loop-done l = record {
