@@ -190,6 +190,7 @@ impl World {
     }
 
     // This, or DTX-01 where the node is down.
+    #[tactic(auto, using(crate::proofs::DueLemmas::due_steps))]
     fn if_up(&self, alloc: Global, node: u8, says: Says) -> Result<Says, AllocError>
         requires { IsLinked self.now }
         ensures { IfOk result (λ all. all ≡ if_up_by self.now.trace.places (past_of self.now.trace).facts node says) }
@@ -201,6 +202,7 @@ impl World {
         }
     }
 
+    #[tactic(auto, using(crate::proofs::DueLemmas::due_steps))]
     fn says_call(&self, alloc: Global, node: u8, session: u32) -> Result<Says, AllocError>
         requires { IsLinked self.now }
         ensures { IfOk result (λ says. (statement : Option Stmt) → says ≡ says_by self.now.trace.places (past_of self.now.trace).facts (past_of self.now.trace).telling (script.At node session statement)) }
@@ -213,6 +215,7 @@ impl World {
         self.if_up(alloc, node, says)
     }
 
+    #[tactic(auto, using(crate::proofs::DueLemmas::due_steps))]
     fn says_start(&self, alloc: Global, node: u8) -> Result<Says, AllocError>
         requires { IsLinked self.now }
         ensures { IfOk result (λ says. says ≡ says_by self.now.trace.places (past_of self.now.trace).facts (past_of self.now.trace).telling (script.Start node)) }
@@ -224,6 +227,7 @@ impl World {
         }
     }
 
+    #[tactic(auto, using(crate::proofs::DueLemmas::due_steps))]
     fn says_give_up(&self, alloc: Global, node: u8, session: u32) -> Result<Says, AllocError>
         requires { IsLinked self.now }
         ensures { IfOk result (λ says. says ≡ says_by self.now.trace.places (past_of self.now.trace).facts (past_of self.now.trace).telling (script.GiveUp node session)) }
@@ -236,6 +240,7 @@ impl World {
         self.if_up(alloc, node, says)
     }
 
+    #[tactic(auto, using(crate::proofs::DueLemmas::due_steps))]
     fn says_reco(&self, alloc: Global, node: u8) -> Result<Says, AllocError>
         requires { IsLinked self.now }
         ensures { IfOk result (λ says. says ≡ says_by self.now.trace.places (past_of self.now.trace).facts (past_of self.now.trace).telling (script.Reco node)) }
@@ -248,6 +253,7 @@ impl World {
         self.if_up(alloc, node, says)
     }
 
+    #[tactic(auto, using(crate::proofs::DueLemmas::due_steps))]
     fn says_pending(&self, alloc: Global, node: u8) -> Result<Says, AllocError>
         requires { IsLinked self.now }
         ensures { IfOk result (λ says. says ≡ says_by self.now.trace.places (past_of self.now.trace).facts (past_of self.now.trace).telling (script.ShowPending node)) }
@@ -261,6 +267,7 @@ impl World {
         }
     }
 
+    #[tactic(auto, using(crate::proofs::DueLemmas::due_steps))]
     fn says_neighbors(&self, alloc: Global, node: u8) -> Result<Says, AllocError>
         requires { IsLinked self.now }
         ensures { IfOk result (λ says. says ≡ says_by self.now.trace.places (past_of self.now.trace).facts (past_of self.now.trace).telling (script.ShowNeighbors node)) }
