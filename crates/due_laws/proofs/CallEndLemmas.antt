@@ -1,5 +1,5 @@
 -- Which calls of sessions a turn ends: a call that is answered is pending no more, and all other calls stay as they were.
-use Rattle.std.proofs.Common.{◌≡◌, ◌≢◌, ℕ, ◌==◌, ◌&&◌, ◌||◌, not, Bool, true, false, if◌then◌else◌, List, [], ◌∷◌, ◌++◌, is_none, unwrap_or, Option, Some, None, inl, inr, refl, sym, ap, subst, ◌∙◌, arith}
+use Rattle.std.proofs.Common.{◌≡◌, ◌≢◌, ℕ, ◌==◌, ◌&&◌, ◌||◌, not, Bool, true, false, if◌then◌else◌, List, [], ◌∷◌, is_none, unwrap_or, Option, Some, None, inl, inr, refl, sym, ap, subst, ◌∙◌, arith}
 use Rattle.std.proofs.lemmas.Bool.Decides.{nat_tests}
 use Rattle.std.proofs.lemmas.Bool.{cond_both, and_parts}
 use Rattle.std.specs.List.{list_any}
@@ -29,10 +29,10 @@ use Rattle.node_rules.proofs.Steps as steps
 use Rattle.node_rules.proofs.Steps.{Step, Asked}
 use Rattle.node_rules.proofs.StepLemmas.{branch_found}
 use Rattle.node_rules.proofs.StandLemmas.{live_so, session_set}
-use Rattle.run_laws.specs.CallLaws.{RootWaits, IsRootOf}
+use Rattle.run_laws.specs.CallLaws.{RootWaits}
 use Rattle.run_laws.proofs.OwnLemmas.{all_found, all_with}
-use Rattle.run_laws.proofs.RootLemmas.{session_or_before, SessionsFit}
-use Rattle.run_laws.proofs.RestLemmas.{Before, NodeRoots, Works, branch_root, asked_works, going_works}
+use Rattle.run_laws.proofs.RootLemmas.{session_or_before}
+use Rattle.run_laws.proofs.RestLemmas.{Before, NodeRoots, Works, branch_root, going_works}
 use Rattle.run_laws.proofs.RestStepLemmas.{going_of}
 
 -- whether a call is pending

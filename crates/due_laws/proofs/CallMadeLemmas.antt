@@ -1,21 +1,19 @@
 -- What a client's call leaves of the calls of sessions: it is answered, or pends; and of the transactions of sessions: they
 -- stay live.
-use Rattle.std.proofs.Common.{◌≡◌, ◌≢◌, ℕ, ◌≤◌, ◌==◌, ◌&&◌, ◌||◌, not, Bool, true, false, if◌then◌else◌, List, [], ◌∷◌, ◌++◌, length, find, unwrap_or, is_none, Option, Some, None, Result, Ok, Err, inl, inr, refl, sym, ap, subst, ◌∙◌, arith}
+use Rattle.std.proofs.Common.{◌≡◌, ◌≢◌, ℕ, ◌==◌, ◌&&◌, ◌||◌, not, Bool, true, false, List, [], ◌++◌, find, unwrap_or, is_none, Option, Some, None, Result, Ok, Err, inl, inr, refl, sym, ap, subst, ◌∙◌, arith}
 use Rattle.std.proofs.lemmas.Bool.Decides.{nat_tests}
 use Rattle.std.proofs.lemmas.Bool.{cond_both}
 use Rattle.std.proofs.lemmas.List.Folds.{list_any-append}
-use Rattle.node_rules.specs.Data.{Table, Stmt, Answer, Refusal, BranchId, Decision, Standing, Live, Done, RedoRecord, Place}
+use Rattle.node_rules.specs.Data.{Stmt, Answer, Refusal, BranchId, Decision, Standing, Live, Place}
 use Rattle.node_rules.specs.Data.answers
 use Rattle.node_rules.specs.Data.dones
 use Rattle.node_rules.specs.Data.decisions
-use Rattle.node_rules.specs.Data.records
-use Rattle.node_rules.specs.Data.params
 use Rattle.node_rules.specs.Data.stmts
 use Rattle.node_rules.specs.Inputs.{IsSession}
 use Rattle.node_rules.specs.declared.session.PendingCall.TheVariants as pending
 use Rattle.node_rules.specs.declared.session.Session.{Session}
 use Rattle.node_rules.specs.declared.session.Finished.{Finished}
-use Rattle.node_rules.specs.Words.{numbered, set_numbered, drop_item, put_item, item_at}
+use Rattle.node_rules.specs.Words.{set_numbered, put_item}
 use Rattle.node_rules.specs.Kept.{Kept, Branch, Deed, live_id, live_at, with_work, branch_at}
 use Rattle.node_rules.specs.Names.{Way, Runs_here, Over, Through, Nowhere_to, way_of}
 use Rattle.node_rules.specs.Statement.{ran, after_run, answer_of_run}
@@ -23,12 +21,12 @@ use Rattle.node_rules.specs.Sessions.{session_at, with_call, no_transaction, com
 use Rattle.node_rules.specs.Calls.{goes, call_pends, answered_sessions, answer_ends}
 use Rattle.node_rules.specs.Prepare.{act_turn, first_act, collecting, with_comment, without_read_keys}
 use Rattle.node_rules.specs.Force.{branch_to_force, forces, force_commit, force_rollback, hides, purge, may_purge}
-use Rattle.node_rules.specs.Client.{begun_by, begun, new_root, root_by, root_at, statement_by, statement_call, commit_by, rollback_by, is_used, is_link, refuses, writes, call_turn, read_turn}
+use Rattle.node_rules.specs.Client.{begun_by, new_root, root_by, root_at, statement_by, statement_call, commit_by, rollback_by, is_used, is_link, call_turn, read_turn}
 use Rattle.node_rules.proofs.StandLemmas.{RootSo, root_so, live_so, session_set}
 use Rattle.run_laws.proofs.AtNodeLemmas.{item_there}
 use Rattle.run_laws.proofs.RootLemmas.{SessionsFit, session_or_before, root_alone, begun_so}
-use Rattle.due_laws.proofs.CallEndLemmas.{is_pending, pends_at, is_ended, EndsSo, answer_to, and_true, and_false, same_number, ends_by, set_here, ends_after, ends_same, keeps_call, ends_here, pends_here, commit_ends, answered_ends, act_ends, none_of}
-use Rattle.due_laws.proofs.RootLiveLemmas.{RootsLive, IsUnneeded, begun_lives, answered_lives, pends_lives, act_lives, ended_lives, same_lives, done_lives, commit_lives, dropped, also, put_lives}
+use Rattle.due_laws.proofs.CallEndLemmas.{is_pending, pends_at, is_ended, EndsSo, answer_to, and_true, and_false, same_number, ends_by, set_here, ends_after, keeps_call, ends_here, pends_here, commit_ends, answered_ends, act_ends}
+use Rattle.due_laws.proofs.RootLiveLemmas.{RootsLive, begun_lives, answered_lives, pends_lives, act_lives, ended_lives, same_lives, done_lives, commit_lives, dropped, also, put_lives}
 use Rattle.tran_ids.proofs.ListedLemmas.{put_found}
 
 -- What a call leaves.

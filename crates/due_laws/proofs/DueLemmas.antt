@@ -1,14 +1,14 @@
 -- What is due next, case by case: a loss or a stop that is to be told, a call that was not made yet, or anything else where
 -- there is none such.
-use Rattle.std.proofs.Common.{◌≡◌, ℕ, ◌+◌, ◌==◌, ◌&&◌, not, Bool, true, false, if◌then◌else◌, List, [], ◌∷◌, find, position, length, slice_get, get_or, suc, Option, Some, None, inl, inr, refl, sym, ap, subst, ◌∙◌, ◌⊎◌, arith, ◌≤◌, ◌<◌}
+use Rattle.std.proofs.Common.{◌≡◌, ℕ, ◌+◌, ◌==◌, ◌&&◌, not, Bool, true, false, if◌then◌else◌, List, [], ◌∷◌, find, position, length, slice_get, get_or, suc, Option, Some, None, refl, sym, ap, subst, ◌∙◌, arith}
 use Rattle.std.specs.Prelude.{nat_lt, is_some, option_map}
 use Rattle.std.proofs.lemmas.Bool.Decides.{nat_tests}
 use Rattle.std.proofs.lemmas.List.Quantifiers.{position-Some}
 use Rattle.std.proofs.lemmas.Option.{slice_get-get_or}
 use Rattle.std.proofs.lemmas.Bool.{cond_both, and_parts}
-use Rattle.node_rules.specs.Data.{Stmt, Place}
+use Rattle.node_rules.specs.Data.{Stmt}
 use Rattle.net_bag.specs.declared.packet.Packet.{Packet}
-use Rattle.net_bag.specs.Net.{Net, flies, packet_at, first_flying, is_flying_at, may_deliver, may_repeat}
+use Rattle.net_bag.specs.Net.{flies, packet_at, first_flying, is_flying_at, may_deliver, may_repeat}
 use Rattle.tran_ids.specs.Listed.{numbered}
 use Rattle.run_laws.specs.Data.{Command}
 use Rattle.run_laws.specs.Data.commands

@@ -1,5 +1,5 @@
 -- A message in flight can pass: its pair is joined and its target is up, whatever is sent, delivered, lost, cut or stopped.
-use Rattle.std.proofs.Common.{◌≡◌, ℕ, zero, suc, ◌+◌, ◌==◌, ◌&&◌, ◌||◌, not, Bool, true, false, if◌then◌else◌, List, [], ◌∷◌, ◌++◌, map, filter, slice_set, Option, Some, None, refl, sym, ap, subst, ◌∙◌, arith}
+use Rattle.std.proofs.Common.{◌≡◌, ℕ, zero, suc, ◌==◌, ◌||◌, not, Bool, true, false, if◌then◌else◌, List, [], ◌∷◌, filter, slice_set, Option, Some, None, refl, subst, arith}
 use Rattle.std.proofs.lemmas.Bool.Decides.{nat_tests}
 use Rattle.std.proofs.lemmas.Bool.{cond_both}
 use Rattle.std.specs.List.{AllByRecursion, list_any}
@@ -8,7 +8,7 @@ use Rattle.tran_ids.specs.Listed.{numbered, set_numbered}
 use Rattle.net_bag.specs.declared.packet.Fate.{Fate}
 use Rattle.net_bag.specs.declared.packet.Fate.TheVariants as fates
 use Rattle.net_bag.specs.declared.packet.Packet.{Packet}
-use Rattle.net_bag.specs.Net.{Net, Order, still, is_pair, is_cut, is_down, is_blocked, is_order_for, packet, is_lost_at_once, first_fate, sent_one, sent_on, is_flying, flies, packet_at, fated, with_fate, delivered, lost, goes_over, lost_over, with_pair, cut_over, joined, goes_to, lost_to, with_node, stopped, started}
+use Rattle.net_bag.specs.Net.{Net, is_pair, is_cut, is_down, is_blocked, is_order_for, packet, is_lost_at_once, first_fate, sent_one, sent_on, is_flying, flies, packet_at, fated, with_fate, delivered, lost, goes_over, lost_over, with_pair, cut_over, joined, goes_to, lost_to, with_node, stopped, started}
 use Rattle.run_laws.specs.Data.{Took, Happening, Command}
 use Rattle.run_laws.specs.Data.happenings
 use Rattle.run_laws.specs.Data.commands

@@ -1,6 +1,5 @@
 -- Which calls that are told were not made yet: the one that comes next, or that of the command that runs.
 use Rattle.std.proofs.Common.{◌≡◌, ℕ, ◌==◌, ◌&&◌, ◌||◌, not, Bool, true, false, List, find, Option, Some, None, refl, sym, ap, subst, ◌∙◌, arith}
-use Rattle.std.specs.List.{AllByRecursion}
 use Rattle.node_rules.specs.Data.{Stmt}
 use Rattle.run_laws.specs.Data.{Command}
 use Rattle.run_laws.specs.Data.commands

@@ -1,6 +1,6 @@
 -- The same where no turn comes: a loss, a cut, a stop, a start, and the next command.
-use Rattle.std.proofs.Common.{◌≡◌, ◌≢◌, ℕ, zero, suc, ◌+◌, ◌≤◌, ◌<◌, ◌==◌, ◌&&◌, ◌||◌, not, Bool, true, false, if◌then◌else◌, List, [], ◌∷◌, ◌++◌, find, length, IfSome, Option, Some, None, inl, inr, refl, sym, ap, subst, ◌∙◌, ◌⊎◌, arith}
-use Rattle.std.specs.Prelude.{is_some, is_none}
+use Rattle.std.proofs.Common.{◌≡◌, ◌≢◌, ℕ, zero, suc, ◌+◌, ◌≤◌, ◌==◌, ◌&&◌, ◌||◌, not, Bool, true, false, if◌then◌else◌, List, [], ◌∷◌, ◌++◌, find, length, IfSome, Option, Some, None, inl, inr, refl, sym, ap, subst, ◌∙◌, ◌⊎◌, arith}
+use Rattle.std.specs.Prelude.{is_some}
 use Rattle.std.proofs.lemmas.Bool.Decides.{nat_tests}
 use Rattle.std.proofs.lemmas.Bool.{cond_both, and_parts}
 use Rattle.std.proofs.lemmas.List.Folds.{list_any-append}
@@ -10,19 +10,19 @@ use Rattle.node_rules.specs.Data.{Stmt, RedoRecord, Place}
 use Rattle.node_rules.specs.Data.stmts
 use Rattle.node_rules.specs.Kept.{Kept}
 use Rattle.node_rules.specs.Turn.{start_of}
-use Rattle.run_laws.specs.Data.{Happening, Command}
+use Rattle.run_laws.specs.Data.{Command}
 use Rattle.run_laws.specs.Data.commands
 use Rattle.run_laws.specs.Data.happenings
-use Rattle.run_laws.specs.Disks.{Strike, struck}
+use Rattle.run_laws.specs.Disks.{Strike}
 use Rattle.run_laws.specs.Facts.{Facts, node_at, is_up, command_at, with_boot, facts_after}
-use Rattle.run_laws.specs.Telling.{Telling, Call, orders_at}
-use Rattle.run_laws.specs.Calls.{is_call_at, call_at, stopped_calls}
+use Rattle.run_laws.specs.Telling.{Telling, Call}
+use Rattle.run_laws.specs.Calls.{is_call_at, stopped_calls}
 use Rattle.run_laws.specs.Commands.{has_call, has_transaction, commits_first, call_of, calls_after, begins}
 use Rattle.run_laws.specs.Past.{acts, failed_start, start_refused, is_stop_of, stop_line, telling_stopped, falls_if, telling_started}
 use Rattle.run_laws.specs.Lawful.{IsSettled, IsNode, IsProper}
 use Rattle.run_laws.proofs.AtNodeLemmas.{stop_here, stop_elsewhere, start_here, start_elsewhere}
 use Rattle.due_laws.proofs.CallEndLemmas.{is_pending, pends_at, and_true, same_number}
-use Rattle.due_laws.proofs.PendingLemmas.{IsOf, called_at, follows_at, there_called, none_called, found_so, at_parts, SameCalls, same_calls, same_again, StopLeaves, stop_leaves}
+use Rattle.due_laws.proofs.PendingLemmas.{IsOf, called_at, follows_at, found_so, SameCalls, same_calls, StopLeaves, stop_leaves}
 use Rattle.due_laws.proofs.TurnCallLemmas.{fresh_at}
 use Rattle.due_laws.proofs.StandCallLemmas.{is_own, is_fresh, CallsStand}
 use Rattle.run_laws.proofs.ListLemmas.{all_weaker, all_append}

@@ -1,7 +1,7 @@
 -- The pending calls as they are told: whether a session has one, whether it was made yet, and what becomes of them as calls
 -- end and nodes stop.
-use Rattle.std.proofs.Common.{◌≡◌, ◌≢◌, ℕ, ◌+◌, ◌≤◌, ◌<◌, ◌==◌, ◌&&◌, ◌||◌, not, Bool, true, false, if◌then◌else◌, List, [], ◌∷◌, ◌++◌, map, filter, find, IfSome, Option, Some, None, inl, inr, refl, sym, ap, subst, ◌∙◌, ◌⊎◌, arith}
-use Rattle.std.specs.Prelude.{is_some, is_none}
+use Rattle.std.proofs.Common.{◌≡◌, ℕ, ◌≤◌, ◌==◌, ◌&&◌, ◌||◌, not, Bool, true, false, if◌then◌else◌, List, [], ◌∷◌, map, filter, find, IfSome, Option, Some, None, inl, inr, refl, sym, ap, subst, ◌∙◌, ◌⊎◌, arith}
+use Rattle.std.specs.Prelude.{is_some}
 use Rattle.std.proofs.lemmas.Bool.Decides.{nat_tests}
 use Rattle.std.proofs.lemmas.Bool.{cond_both, and_parts}
 use Rattle.std.proofs.lemmas.Map.Views.{any-filter_same}
@@ -16,7 +16,7 @@ use Rattle.run_laws.specs.Facts.{command_at}
 use Rattle.run_laws.specs.Telling.{Telling, Call}
 use Rattle.run_laws.specs.Lines.{is_down, is_reached, says_node, call_line_of, reached_line, call_line}
 use Rattle.run_laws.specs.Calls.{is_call_at, call_at, without_call, change_call, is_complete, second_of, call_follows, call_ends, ends_or_follows, finished_call, finished, stopped_calls}
-use Rattle.run_laws.proofs.ListLemmas.{all_weaker, all_filter}
+use Rattle.run_laws.proofs.ListLemmas.{all_filter}
 use Rattle.due_laws.proofs.CallEndLemmas.{is_ended, same_number, and_true}
 
 -- A call of a command: the command is of its session, and its statements are such that a text spells.

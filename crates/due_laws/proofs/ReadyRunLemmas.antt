@@ -1,6 +1,6 @@
 -- In a lawful run each node that is up is ready, and the records of each disk may stand one after the other: by induction
 -- over the happenings.
-use Rattle.std.proofs.Common.{◌≡◌, ◌≢◌, ℕ, zero, suc, ◌+◌, ◌<◌, ◌≤◌, List, [], ◌∷◌, ◌++◌, IfSome, Option, Some, None, inl, inr, refl, sym, ap, subst, ◌∙◌, ◌⊎◌, arith, append-nil}
+use Rattle.std.proofs.Common.{◌≡◌, ℕ, zero, suc, ◌+◌, List, [], ◌∷◌, ◌++◌, IfSome, Option, Some, None, refl, sym, subst, arith, append-nil}
 use Rattle.std.specs.Option.{option_to_list}
 use Rattle.sql_statement.specs.Whole.{IsWhole}
 use Rattle.node_rules.specs.Data.{RedoRecord, Stmt, Msg, Place, Input}
@@ -9,7 +9,7 @@ use Rattle.node_rules.specs.Data.records
 use Rattle.node_rules.specs.Data.stmts
 use Rattle.node_rules.specs.Kept.{Kept, Stored}
 use Rattle.node_rules.specs.Records.{nothing_stored, applied, stored_by}
-use Rattle.node_rules.specs.Turn.{turn_of, start_of, made, deed_of}
+use Rattle.node_rules.specs.Turn.{turn_of, made}
 use Rattle.agreement.specs.Events.{Event}
 use Rattle.tran_ids.specs.Listed.{numbered}
 use Rattle.run_laws.specs.Data.{Took, Turn, Happening, Command}
@@ -17,16 +17,15 @@ use Rattle.run_laws.specs.Data.happenings
 use Rattle.run_laws.specs.Births.{Born, births_after}
 use Rattle.run_laws.specs.RunEvents.{events_after}
 use Rattle.run_laws.specs.Facts.{Facts, first_facts, place_at, node_at, records_at, facts_after, facts_of}
-use Rattle.run_laws.specs.Lawful.{IsPlace, MayTurn, MayHappen, Comes, boots, IsLawful, History, IsLawfulRun, facts_at}
-use Rattle.run_laws.specs.NodeLaws.{EachFactFrom, unacked, unacked_row}
-use Rattle.run_laws.proofs.LawfulLemmas.{comes_fit, Serves, of_wrote, serves}
+use Rattle.run_laws.specs.Lawful.{IsPlace, MayTurn, MayHappen, Comes, boots, IsLawful}
+use Rattle.run_laws.specs.NodeLaws.{EachFactFrom, unacked}
+use Rattle.run_laws.proofs.LawfulLemmas.{of_wrote, serves}
 use Rattle.run_laws.proofs.NodeLemmas.{Goes, Stays, Turns, Is_cut, Stops, Starts, goes_so}
 use Rattle.run_laws.proofs.EventsStandLemmas.{node_so}
 use Rattle.run_laws.proofs.BirthRunLemmas.{StandBorn, stand_born_on, stand_born_first}
 use Rattle.ready_laws.specs.Rows.{MakesWhole}
 use Rattle.ready_laws.specs.Names.{MakesNamed}
 use Rattle.ready_laws.specs.Shapes.{TellsFew, BringsFew}
-use Rattle.std.specs.List.{AllByRecursion}
 use Rattle.run_laws.proofs.SaidLemmas.{AllSent, numbered_so, sent_after}
 use Rattle.ready_laws.specs.Following.{MayFollow, MayAllFollow}
 use Rattle.ready_laws.specs.Sound.{IsSound, AreSound, IsNext, RowsDoNotMatter}

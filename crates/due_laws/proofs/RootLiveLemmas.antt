@@ -1,37 +1,35 @@
 -- A session's transaction is live until its COMMIT comes: each step of a node that another input brings leaves it so.
-use Rattle.std.proofs.Common.{◌≡◌, ◌≢◌, ℕ, ◌&&◌, Bool, true, false, if◌then◌else◌, List, [], ◌∷◌, ◌++◌, is_none, Option, Some, None, inl, inr, refl, sym, ap, subst, ◌∙◌, ◌⊎◌}
+use Rattle.std.proofs.Common.{◌≡◌, ◌≢◌, ℕ, ◌&&◌, Bool, true, false, if◌then◌else◌, List, [], ◌∷◌, ◌++◌, is_none, Option, Some, None, inl, inr, refl, sym, ap, subst, ◌∙◌}
 use Rattle.std.proofs.lemmas.Bool.{cond_both}
 use Rattle.tran_ids.proofs.BranchLemmas.{equal_from_same, same_from_equal}
 use Rattle.tran_ids.proofs.ListedLemmas.{item_is, put_found, put_or_before, drop_leaves}
-use Rattle.node_rules.specs.Data.{Stmt, Answer, BranchId, Decision, Standing, Phase, Live, Act, Place, Input}
+use Rattle.node_rules.specs.Data.{Stmt, Answer, BranchId, Decision, Phase, Live, Act, Place, Input}
 use Rattle.node_rules.specs.Data.acts
 use Rattle.node_rules.specs.Data.decisions
 use Rattle.node_rules.specs.Data.inputs
 use Rattle.node_rules.specs.Data.kinds
 use Rattle.node_rules.specs.Data.phases
-use Rattle.node_rules.specs.Data.stmts
 use Rattle.node_rules.specs.declared.session.PendingCall.{PendingCall}
 use Rattle.node_rules.specs.declared.session.PendingCall.TheVariants as pending
 use Rattle.node_rules.specs.declared.session.Session.{Session}
 use Rattle.commit_forget.specs.declared.next.Next.TheVariants as nexts
 use Rattle.node_rules.specs.declared.work.Going.{Going}
 use Rattle.node_rules.specs.Words.{same, item_at, set_numbered, put_item, drop_item}
-use Rattle.node_rules.specs.Inputs.{Came, IsCall}
+use Rattle.node_rules.specs.Inputs.{Came}
 use Rattle.node_rules.specs.Refusals.{dtx}
 use Rattle.session_tree.specs.Live.{is_branch, new_edge}
-use Rattle.node_rules.specs.Kept.{Kept, Branch, Deed, live_id, standing_id, live_at, with_standing}
+use Rattle.node_rules.specs.Kept.{Kept, Branch, Deed, live_id, live_at}
 use Rattle.node_rules.specs.Statement.{ran, after_run}
 use Rattle.node_rules.specs.Sessions.{session_at, with_call, needs_rollback, no_transaction, commit_is_pending, commit_ended}
 use Rattle.node_rules.specs.Calls.{call_pends, answered_sessions, heard_sessions, is_gone, with_edge, hears_reply}
-use Rattle.node_rules.specs.Prepare.{abandoned_sessions, ready, is_alone, act_turn, collecting, with_comment}
-use Rattle.node_rules.specs.Commit.{acked_by, decided_sessions}
+use Rattle.node_rules.specs.Prepare.{abandoned_sessions, ready, is_alone, act_turn}
+use Rattle.node_rules.specs.Commit.{decided_sessions}
 use Rattle.node_rules.specs.Client.{begun_by, new_root, fresh_root}
 use Rattle.node_rules.proofs.Steps as steps
 use Rattle.node_rules.proofs.Steps.{Step, Asked, Acting}
 use Rattle.node_rules.proofs.StepLemmas.{branch_found, acting_so}
-use Rattle.node_rules.proofs.StandLemmas.{live_so}
-use Rattle.run_laws.specs.CallLaws.{RootWaits, IsRootOf}
-use Rattle.run_laws.proofs.RootLemmas.{SessionsFit, session_or_before, root_alone, begun_so}
+use Rattle.run_laws.specs.CallLaws.{RootWaits}
+use Rattle.run_laws.proofs.RootLemmas.{SessionsFit, session_or_before, root_alone}
 use Rattle.run_laws.proofs.RestLemmas.{Before, NodeRoots, acting_root, asked_works, going_works}
 use Rattle.run_laws.proofs.RestStepLemmas.{going_of}
 use Rattle.due_laws.proofs.CallEndLemmas.{none_of, heard_root, acked_before}

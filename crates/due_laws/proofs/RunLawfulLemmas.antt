@@ -1,11 +1,9 @@
 -- The run of a script is a lawful run: whatever is due may come.
-use Rattle.std.proofs.Common.{◌≡◌, ◌≢◌, ℕ, suc, ◌+◌, ◌≤◌, ◌<◌, ◌==◌, ◌&&◌, ◌||◌, not, Bool, true, false, if◌then◌else◌, List, [], ◌∷◌, find, length, map, IfSome, Option, Some, None, inl, inr, refl, sym, ap, subst, ◌∙◌, ◌⊎◌, arith}
+use Rattle.std.proofs.Common.{◌≡◌, ℕ, suc, ◌+◌, ◌≤◌, ◌==◌, ◌&&◌, not, Bool, true, false, List, [], ◌∷◌, length, map, IfSome, Option, Some, None, inl, inr, refl, sym, ap, subst, ◌∙◌, arith}
 use Rattle.std.specs.Prelude.{is_some, nat_lt}
 use Rattle.std.proofs.lemmas.Bool.Decides.{nat_tests}
 use Rattle.std.proofs.lemmas.Bool.{cond_both}
-use Rattle.std.specs.List.{AllByRecursion}
-use Rattle.sql_statement.specs.Whole.{IsWhole}
-use Rattle.node_rules.specs.Data.{Stmt, Place, Input}
+use Rattle.node_rules.specs.Data.{Place, Input}
 use Rattle.node_rules.specs.Data.inputs
 use Rattle.node_rules.specs.declared.session.PendingCall.{PendingCall}
 use Rattle.node_rules.specs.declared.session.PendingCall.TheVariants as pending
@@ -17,34 +15,32 @@ use Rattle.node_rules.specs.Data.records
 use Rattle.net_bag.specs.declared.packet.Fate.{Fate}
 use Rattle.net_bag.specs.declared.packet.Fate.TheVariants as fates
 use Rattle.net_bag.specs.declared.packet.Packet.{Packet}
-use Rattle.net_bag.specs.Net.{is_flying, flies, is_blocked, packet_at, is_flying_at, may_deliver, may_pass, may_repeat}
-use Rattle.tran_ids.specs.Listed.{numbered, set_numbered}
+use Rattle.net_bag.specs.Net.{is_flying, flies, is_blocked, packet_at, is_flying_at, may_pass}
 use Rattle.tran_ids.proofs.NumberedLemmas.{set_length}
 use Rattle.agreement.specs.Events.{Event}
 use Rattle.run_laws.specs.Data.{Took, Turn, Happening, Command}
-use Rattle.run_laws.specs.Data.commands
 use Rattle.run_laws.specs.Data.happenings
 use Rattle.run_laws.specs.Births.{Born, births_after}
 use Rattle.run_laws.specs.RunEvents.{events_after}
-use Rattle.run_laws.specs.Facts.{Facts, first_facts, place_at, node_at, is_up, command_at, records_at, outcome_at, facts_after, facts_of}
+use Rattle.run_laws.specs.Facts.{Facts, first_facts, place_at, node_at, command_at, records_at, facts_after}
 use Rattle.run_laws.specs.Telling.{Past, Telling, Call, start, orders_at}
-use Rattle.run_laws.specs.Past.{is_call, acts, telling_after, turned, next}
+use Rattle.run_laws.specs.Past.{is_call, acts, telling_after, next}
 use Rattle.run_laws.specs.Calls.{is_call_at, call_at}
 use Rattle.run_laws.specs.Cuts.{Cut_by, By_nothing, By_point, By_strike, cut_by}
 use Rattle.run_laws.specs.Disks.{Strike, struck}
-use Rattle.run_laws.specs.Lawful.{IsPlace, IsNode, IsProper, IsSettled, MayCome, Comes, MayTurn, IsInFlight, MayBeLost, MayStop, boots, MayStart, MayHappen, IsLawful, IsPending, AreOfAScript, History, IsLawfulRun}
-use Rattle.run_laws.specs.Due.{Due, Tells, Falls, Pends, Gives_up, Delivers, Recovers, Cuts, Joins, Loses, Stops, Starts, Begins, Ends, due_of, whole_turn, cut_turn, turn_by, turn_comes, turn_at, start_by, delivery_at, happens, comes_next, IsTheRun}
+use Rattle.run_laws.specs.Lawful.{IsNode, IsProper, IsSettled, Comes, MayTurn, IsInFlight, MayBeLost, MayStop, boots, MayHappen, IsLawful, IsPending, AreOfAScript}
+use Rattle.run_laws.specs.Due.{Due, Pends, Gives_up, turn_by, turn_comes, turn_at, start_by, delivery_at, happens, comes_next, IsTheRun}
 use Rattle.run_laws.specs.Headline.{TheRunIsLawful}
 use Rattle.run_laws.proofs.BirthRunLemmas.{StandBorn, stand_born_on, stand_born_first}
 use Rattle.run_laws.proofs.EventsStandLemmas.{first_node}
 use Rattle.run_laws.proofs.RestRunLemmas.{RootsStand, roots_stand_on, first_rests}
-use Rattle.due_laws.proofs.CallEndLemmas.{is_pending, pends_at, and_true, and_false, same_number}
+use Rattle.due_laws.proofs.CallEndLemmas.{is_pending, pends_at, and_false, same_number}
 use Rattle.due_laws.proofs.FlightLemmas.{FlyFree, flies_on, all_at}
 use Rattle.due_laws.proofs.DueLemmas.{MakesNoCall, ComesBeside, IsDue, due_so}
 use Rattle.due_laws.proofs.DueLemmas as due
-use Rattle.due_laws.proofs.PendingLemmas.{IsOf, called_at, follows_at, there_called, none_called, found_so, at_parts}
+use Rattle.due_laws.proofs.PendingLemmas.{IsOf, called_at, follows_at, there_called, found_so, at_parts}
 use Rattle.due_laws.proofs.TurnCallLemmas.{made_by, AllLive, turn_leaves_so, all_live_on, first_live}
-use Rattle.due_laws.proofs.StandCallLemmas.{is_own, is_fresh, CallsStand, turn_stands}
+use Rattle.due_laws.proofs.StandCallLemmas.{is_fresh, CallsStand, turn_stands}
 use Rattle.due_laws.proofs.FreshCallLemmas.{quiet_beside, quiet_acted, acted_by, fresh_next, fresh_own}
 use Rattle.due_laws.proofs.OtherStandLemmas.{IsQuiet, proper_at, fresh_pends, same_stands, stop_stands, start_stands, begin_stands}
 

@@ -1,34 +1,27 @@
 -- What is told of pending calls and what nodes keep of them agree, as each happening that is due comes.
-use Rattle.std.proofs.Common.{◌≡◌, ◌≢◌, ℕ, ◌+◌, ◌≤◌, ◌<◌, ◌==◌, ◌&&◌, ◌||◌, not, Bool, true, false, if◌then◌else◌, List, [], ◌∷◌, ◌++◌, map, filter, find, length, max, IfSome, unwrap_or, Option, Some, None, inl, inr, refl, sym, ap, subst, ◌∙◌, ◌⊎◌, arith}
+use Rattle.std.proofs.Common.{◌≡◌, ◌≢◌, ℕ, ◌==◌, ◌&&◌, ◌||◌, not, Bool, true, false, if◌then◌else◌, List, find, length, IfSome, Option, Some, None, refl, sym, ap, subst, ◌∙◌, arith}
 use Rattle.std.specs.Prelude.{is_some, is_none}
 use Rattle.std.proofs.lemmas.Bool.Decides.{nat_tests}
-use Rattle.std.proofs.lemmas.Bool.{cond_both, and_parts}
-use Rattle.std.specs.List.{AllByRecursion, list_any}
-use Rattle.sql_statement.specs.Whole.{IsWhole}
-use Rattle.node_rules.specs.Data.{Stmt, BranchId, Place, Input}
+use Rattle.std.proofs.lemmas.Bool.{cond_both}
+use Rattle.std.specs.List.{AllByRecursion}
+use Rattle.node_rules.specs.Data.{BranchId, Place, Input}
 use Rattle.node_rules.specs.Data.inputs
 use Rattle.node_rules.specs.Data.stmts
-use Rattle.node_rules.specs.declared.session.PendingCall.{PendingCall}
-use Rattle.node_rules.specs.declared.session.PendingCall.TheVariants as pending
-use Rattle.node_rules.specs.declared.session.Finished.{Finished}
 use Rattle.node_rules.specs.Kept.{Kept, Outcome}
-use Rattle.node_rules.specs.Points.{Point}
 use Rattle.node_rules.specs.Sessions.{session_at}
 use Rattle.run_laws.specs.Data.{Took, Turn, Command}
-use Rattle.run_laws.specs.Data.commands
 use Rattle.run_laws.specs.Data.happenings
 use Rattle.tran_ids.specs.Listed.{numbered}
 use Rattle.node_rules.specs.Turn.{turn_of}
 use Rattle.run_laws.proofs.AtNodeLemmas.{flat_some, range_of, turn_elsewhere, turn_here}
-use Rattle.run_laws.specs.Facts.{Facts, place_at, node_at, is_up, command_at, kept_after, served, outcome_at, facts_after}
-use Rattle.run_laws.specs.Telling.{Telling, Call, orders_at}
+use Rattle.run_laws.specs.Facts.{Facts, place_at, node_at, kept_after, served, outcome_at, facts_after}
+use Rattle.run_laws.specs.Telling.{Telling, Call}
 use Rattle.run_laws.specs.Calls.{is_call_at, call_at, waits, waits_if_pending, after_input, finished}
-use Rattle.run_laws.specs.Commands.{has_call, has_transaction, commits_first, call_of, calls_after}
 use Rattle.run_laws.specs.Cuts.{Cut_by, By_nothing, By_point, By_strike, appends_if, cut_appends, cut_by, arms_point, arms, turn_appends}
 use Rattle.run_laws.specs.Past.{delivered_more, is_call, without_following, ends_calls, acts, telling_turned}
 use Rattle.run_laws.specs.Lawful.{IsSettled, IsNode}
-use Rattle.due_laws.proofs.CallEndLemmas.{is_pending, pends_at, is_ended, EndsSo, and_true, and_false, same_number}
-use Rattle.due_laws.proofs.PendingLemmas.{IsOf, called_at, follows_at, there_called, none_called, found_so, at_parts, SameCalls, same_calls, same_again, EndsFew, Leaves, few_leave}
+use Rattle.due_laws.proofs.CallEndLemmas.{pends_at, is_ended, same_number}
+use Rattle.due_laws.proofs.PendingLemmas.{IsOf, called_at, follows_at, SameCalls, same_calls, same_again, Leaves, few_leave}
 use Rattle.due_laws.proofs.TurnCallLemmas.{made_by, TurnLeaves}
 
 -- ---- calls that were not made yet

@@ -1,5 +1,5 @@
 -- What a turn of a lawful run leaves of the calls and the transactions of its node's sessions.
-use Rattle.std.proofs.Common.{◌≡◌, ◌≢◌, ℕ, ◌==◌, ◌&&◌, ◌||◌, not, Bool, true, false, if◌then◌else◌, List, [], ◌∷◌, ◌++◌, IfSome, replicate, slice_get, unwrap_or, zero, suc, Option, Some, None, refl, sym, ap, subst, ◌∙◌}
+use Rattle.std.proofs.Common.{◌≡◌, ℕ, ◌==◌, ◌||◌, Bool, true, false, if◌then◌else◌, List, [], ◌∷◌, ◌++◌, IfSome, replicate, slice_get, unwrap_or, zero, suc, Option, Some, None, refl, sym, ap, subst}
 use Rattle.std.proofs.lemmas.Bool.{cond_both}
 use Rattle.commit_forget.specs.declared.next.Next.TheVariants as nexts
 use Rattle.node_rules.specs.Data.{Stmt, Answer, BranchId, Decision, RedoRecord, Live, Act, Place, Input}
@@ -12,24 +12,22 @@ use Rattle.node_rules.specs.Data.records
 use Rattle.node_rules.specs.declared.session.PendingCall.TheVariants as pending
 use Rattle.node_rules.specs.declared.session.Session.{Session}
 use Rattle.node_rules.specs.declared.session.Finished.{Finished}
-use Rattle.node_rules.specs.Inputs.{IsSession, IsFit, Came}
-use Rattle.node_rules.specs.Kept.{Kept, Deed, live_at}
+use Rattle.node_rules.specs.Inputs.{IsFit}
+use Rattle.node_rules.specs.Kept.{Kept, Deed}
 use Rattle.node_rules.specs.Sessions.{fresh_session, session_at, commit_is_pending, commit_answer}
 use Rattle.node_rules.specs.Calls.{answer_ends, hears_reply}
 use Rattle.node_rules.specs.Statement.{ran, after_run}
 use Rattle.node_rules.specs.Prepare.{abandon_ends, is_alone, act_turn}
 use Rattle.node_rules.specs.Commit.{decision_answers}
-use Rattle.node_rules.specs.Turn.{turn_of, start_of, made, heard, deed_of}
+use Rattle.node_rules.specs.Turn.{turn_of, start_of, heard, deed_of}
 use Rattle.node_rules.proofs.Steps as steps
 use Rattle.node_rules.proofs.Steps.{Step}
 use Rattle.agreement.specs.Events.{Event}
 use Rattle.run_laws.specs.Data.{Turn, Happening, Command}
-use Rattle.run_laws.specs.Data.happenings
-use Rattle.run_laws.specs.Facts.{Facts, first_facts, place_at, node_at, records_at, facts_after}
+use Rattle.run_laws.specs.Facts.{Facts, first_facts, place_at, node_at, facts_after}
 use Rattle.run_laws.specs.Lawful.{IsPlace, MayTurn, MayHappen, Comes}
 use Rattle.run_laws.specs.Births.{Born}
 use Rattle.run_laws.specs.BirthLaws.{Began, NamesAre, GoesSo}
-use Rattle.run_laws.specs.Calls.{is_complete}
 use Rattle.tran_ids.specs.Listed.{numbered}
 use Rattle.run_laws.proofs.LawfulLemmas.{comes_fit, serves}
 use Rattle.run_laws.proofs.NodeLemmas.{Goes, Stays, Turns, Is_cut, Stops, Starts, goes_so}

@@ -1,9 +1,9 @@
 -- In every lawful run a live branch has called each of its children.
-use Rattle.std.proofs.Common.{◌≡◌, ◌≢◌, ℕ, zero, suc, ◌+◌, ◌-◌, ◌≤◌, List, [], ◌∷◌, ◌++◌, length, map, unwrap_or, Option, Some, None, refl, sym, ap, subst, ◌∙◌, arith}
+use Rattle.std.proofs.Common.{◌≡◌, ℕ, zero, suc, ◌+◌, ◌-◌, ◌≤◌, List, [], ◌∷◌, ◌++◌, length, unwrap_or, Option, Some, None, refl, sym, ap, subst, ◌∙◌, arith}
 use Rattle.std.specs.Prelude.{slice_get, slice_set}
 use Rattle.std.specs.List.{AllByRecursion}
 use Rattle.commit_forget.specs.declared.next.Next.TheVariants as nexts
-use Rattle.node_rules.specs.Data.{BranchId, Edge, Live, Place, Input, Stmt}
+use Rattle.node_rules.specs.Data.{BranchId, Live, Place, Input, Stmt}
 use Rattle.node_rules.specs.declared.work.Work.{Work}
 use Rattle.node_rules.specs.Data.acts
 use Rattle.session_tree.specs.Live.{new_edge}
@@ -12,15 +12,13 @@ use Rattle.node_rules.specs.Words.{item_at}
 use Rattle.node_rules.specs.Kept.{Kept, Branch, Deed, live_id, work_or, branch_at, with_branch, with_live, without_branch}
 use Rattle.node_rules.specs.declared.session.PendingCall.TheVariants as pending
 use Rattle.node_rules.specs.Statement.{ran, after_run, answer_of_run}
-use Rattle.node_rules.specs.Calls.{next_call, called, with_answer, waits_for_opened, with_edge, hears_reply}
+use Rattle.node_rules.specs.Calls.{next_call, called, with_answer, with_edge, hears_reply}
 use Rattle.node_rules.specs.Prepare.{ready}
 use Rattle.node_rules.specs.Client.{begun_by, gives_up}
 use Rattle.node_rules.proofs.Steps as steps
 use Rattle.node_rules.proofs.Steps.{Step, Asked}
 use Rattle.node_rules.specs.LiveBranches.{EachLive, works_of}
 use Rattle.node_rules.proofs.LiveLemmas.{none_live, each_put, each_changed, each_left, each_begun, branch_parts, work_is}
-use Rattle.run_laws.specs.CallLaws.{CallsFit}
-use Rattle.run_laws.specs.InTurnLaws.{call_at}
 use Rattle.run_laws.proofs.AtNodeLemmas.{there_too}
 use Rattle.run_laws.proofs.RootLemmas.{pends_so, begun_so}
 use Rattle.run_laws.proofs.CallLemmas.{CallsSo, calls_keep, calls_fit_edges}

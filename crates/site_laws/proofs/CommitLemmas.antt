@@ -1,28 +1,23 @@
 -- A COMMIT that comes to a node changes its session's root alone. Where a live root that is working leaves without a rollback, or begins its
 -- collect, its COMMIT came, and was not refused.
-use Rattle.std.proofs.Common.{◌≡◌, ◌≢◌, ℕ, ◌⊎◌, Bool, true, false, List, [], ◌∷◌, ◌++◌, map, unwrap_or, Option, Some, None, inl, inr, refl, sym, ap, subst, subst₂, ◌∙◌}
-use Rattle.std.specs.List.{list_any}
+use Rattle.std.proofs.Common.{◌≡◌, ◌≢◌, ℕ, ◌⊎◌, Bool, true, false, List, [], map, unwrap_or, Option, Some, None, inl, inr, refl, sym, ap, subst, ◌∙◌}
 use Rattle.tran_ids.proofs.BranchLemmas.{equal_from_same}
 use Rattle.tran_ids.proofs.ListedLemmas.{put_found, put_leaves, drop_gone, drop_leaves}
-use Rattle.agreement.specs.Events.{Event, Exit, Sealed, Decided, Quiet, Dropped, exit}
-use Rattle.node_rules.specs.Data.{BranchId, Edge, Live, Act, Place, Input, RedoRecord}
+use Rattle.node_rules.specs.Data.{BranchId, Edge, Live, Act, Place, RedoRecord}
 use Rattle.session_tree.specs.Live.{children_of}
 use Rattle.node_rules.specs.Data.acts
 use Rattle.node_rules.specs.Data.inputs
-use Rattle.node_rules.specs.Data.kinds
 use Rattle.node_rules.specs.Data.phases
-use Rattle.node_rules.specs.Data.records
 use Rattle.node_rules.specs.Data.stmts
 use Rattle.node_rules.specs.declared.session.PendingCall.TheVariants as pending
 use Rattle.node_rules.specs.Words.{same, item_at, put_item}
 use Rattle.node_rules.specs.Kept.{Kept, Branch, Deed, live_id, live_at, branch_at}
 use Rattle.node_rules.specs.Sessions.{session_at, with_call}
-use Rattle.node_rules.specs.Client.{root_by, root_at, commit_by, commit_call}
+use Rattle.node_rules.specs.Client.{root_by, root_at, commit_by}
 use Rattle.node_rules.specs.Prepare.{act_turn, ready, collecting, with_comment, first_act, without_read_keys}
-use Rattle.node_rules.specs.Turn.{turn_of, deed_of}
-use Rattle.node_rules.specs.Inputs.{IsCall}
+use Rattle.node_rules.specs.Turn.{deed_of}
 use Rattle.node_rules.proofs.Steps.{HasRoot}
-use Rattle.node_rules.proofs.StandLemmas.{RootSo, root_so, live_so}
+use Rattle.node_rules.proofs.StandLemmas.{RootSo, root_so}
 use Rattle.tree_laws.proofs.SealLemmas.{IsSealOf}
 use Rattle.tree_laws.proofs.SiteLemmas.{IsDecisionOf}
 use Rattle.site_laws.proofs.RestLemmas.{collected}

@@ -1,61 +1,33 @@
 -- In every lawful run, a branch of a tree that is decided: as it was when the COMMIT came, and as it ended.
-use Rattle.std.proofs.Common.{◌≡◌, ◌≢◌, ℕ, zero, suc, ◌+◌, ◌≤◌, ◌⊎◌, Bool, true, false, List, [], ◌∷◌, ◌++◌, unwrap_or, Option, Some, None, inl, inr, refl, sym, ap, subst, subst₂, ◌∙◌, append-nil, arith}
-use Rattle.std.proofs.lemmas.List.{append_assoc}
-use Rattle.std.specs.List.{list_any}
+use Rattle.std.proofs.Common.{◌≡◌, ◌≢◌, ℕ, zero, suc, ◌⊎◌, true, List, [], unwrap_or, Option, Some, None, inl, inr, refl, sym, ap, subst, ◌∙◌, append-nil}
 use Rattle.session_tree.specs.Live.{children_of}
 use Rattle.session_tree.specs.Tree.{weight, step}
 use Rattle.session_tree.specs.declared.act.Walk.TheVariants as walks
-use Rattle.agreement.specs.Events.{Exit, Sealed, Decided, Quiet, Dropped, exit, site_of}
-use Rattle.node_rules.specs.Data.{BranchId, Edge, Live, Phase, Input}
-use Rattle.node_rules.specs.Data.inputs
-use Rattle.node_rules.specs.Data.phases
-use Rattle.node_rules.specs.Data.stmts
+use Rattle.agreement.specs.Events.{Exit, Sealed, Decided, Quiet, Dropped, exit}
+use Rattle.node_rules.specs.Data.{BranchId, Live}
 use Rattle.node_rules.specs.Words.{numbered}
-use Rattle.node_rules.specs.Kept.{Kept, Branch, live_id, live_at, branch_at}
-use Rattle.node_rules.specs.Turn.{turn_of, deed_of}
-use Rattle.node_rules.proofs.Steps.{HasRoot}
+use Rattle.node_rules.specs.Kept.{Kept, Branch, live_id, branch_at}
 use Rattle.node_rules.proofs.StandLemmas.{live_so}
-use Rattle.prepare_phase.specs.Acts.{is_awaited}
-use Rattle.tree_laws.proofs.VoterLemmas.{mapped_at}
-use Rattle.run_laws.specs.Data.{Turn, Happening}
-use Rattle.run_laws.specs.Data.happenings
-use Rattle.run_laws.specs.Facts.{Facts, first_facts, place_at, node_at, kept_after, facts_after}
-use Rattle.run_laws.specs.Lawful.{MayHappen, MayTurn, History, IsLawfulRun, facts_at}
-use Rattle.run_laws.specs.Births.{Born, births_of}
+use Rattle.run_laws.specs.Data.{Happening}
+use Rattle.run_laws.specs.Facts.{Facts, node_at}
+use Rattle.run_laws.specs.Lawful.{History, IsLawfulRun, facts_at}
+use Rattle.run_laws.specs.Births.{births_of}
 use Rattle.run_laws.specs.BirthLaws.{Began, LiveIs}
-use Rattle.run_laws.specs.FreezeLaws.{was_asked, LeavesStill}
-use Rattle.run_laws.specs.InTurnLaws.{said_in, GoesOn}
-use Rattle.run_laws.specs.NodeLaws.{EachFactFrom}
-use Rattle.run_laws.specs.PhaseLaws.{PhaseFits}
+use Rattle.run_laws.specs.FreezeLaws.{was_asked}
+use Rattle.run_laws.specs.InTurnLaws.{said_in}
 use Rattle.run_laws.specs.RunEvents.{events_of}
-use Rattle.run_laws.specs.Trail.{is_prepare}
 use Rattle.run_laws.specs.WalkLaws.{is_below, was_sent}
-use Rattle.run_laws.proofs.AtNodeLemmas.{turn_here}
-use Rattle.run_laws.proofs.EventsStandLemmas.{run_stands, nodes_are_as_events}
-use Rattle.run_laws.proofs.FreezeRunLemmas.{asked_stand_still}
-use Rattle.run_laws.proofs.LawfulLemmas.{turn_of_node}
+use Rattle.run_laws.proofs.EventsStandLemmas.{nodes_are_as_events}
 use Rattle.run_laws.proofs.OwnLemmas.{all_found}
-use Rattle.run_laws.proofs.PhaseLemmas.{phases_fit}
-use Rattle.run_laws.proofs.StillRunLemmas.{trees_stand_still}
-use Rattle.tree_laws.specs.Forests.{asked_by, told_below, next_on, walk_from, deepest}
-use Rattle.tree_laws.proofs.AskRunLemmas.{edges_asked}
-use Rattle.tree_laws.proofs.ForestLemmas as trees
+use Rattle.tree_laws.specs.Forests.{told_below, walk_from}
 use Rattle.tree_laws.proofs.ForestLemmas.{told_sent}
-use Rattle.tree_laws.proofs.SettleRunLemmas.{known}
-use Rattle.tree_laws.proofs.PrefixLemmas.{so_far, f_at, e_at, one_on}
-use Rattle.site_laws.specs.DecideLaws.{live_of, live_in, WalksTo, Ends_here, Goes_down, InTree, Is_root, Is_child, DecidedSo, DecisionsFollowWalks}
+use Rattle.tree_laws.proofs.PrefixLemmas.{so_far, f_at}
+use Rattle.site_laws.specs.DecideLaws.{live_of, live_in, WalksTo, Ends_here, Goes_down, InTree, Is_root, Is_child}
 use Rattle.site_laws.specs.LeaveLaws.{EndsAs}
-use Rattle.site_laws.specs.RestLaws.{Rests, SameTree}
-use Rattle.site_laws.proofs.CommitLemmas.{commit_leaves}
-use Rattle.site_laws.proofs.CoverLemmas.{at_site, one_decides, leaves_well, asked_well}
-use Rattle.site_laws.proofs.FateLemmas.{Fate, fate_by, Calmly, turn_lives, turn_left}
-use Rattle.site_laws.proofs.FindLemmas.{CommitAt, WasFound, commit_found}
-use Rattle.site_laws.proofs.FrozenLemmas.{State, Here, Left, Found, PointsTo, strength_at, state_by, state_left, state_on, Since, Member}
-use Rattle.site_laws.proofs.HeardLemmas.{left_were_asked}
-use Rattle.site_laws.proofs.MemberLemmas.{IsIn, Kid, kid_of}
-use Rattle.site_laws.proofs.SeenLemmas.{Low, site_seen, plan_covers}
-use Rattle.dtx_values.specs.Limits.{depth_limit}
-use Rattle.site_laws.proofs.TimeLemmas.{Part, part_lawful, part_of, part_on, may_of, fact_at, exit_end, sent_end, born_end, keep_on}
+use Rattle.site_laws.proofs.CoverLemmas.{one_decides, asked_well}
+use Rattle.site_laws.proofs.FrozenLemmas.{State, Here, Left, PointsTo, Member}
+use Rattle.site_laws.proofs.MemberLemmas.{IsIn, kid_of}
+use Rattle.site_laws.proofs.TimeLemmas.{Part, part_lawful, born_end}
 use Rattle.site_laws.proofs.WeighLemmas.{placed_of}
 
 module _ (t : History) (whole : IsLawfulRun t) (hs0 : List Happening) (part0 : Part t whole hs0) (r : BranchId) where

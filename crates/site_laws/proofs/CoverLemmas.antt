@@ -1,6 +1,6 @@
 -- Where a branch has decided, each branch of its tree that was asked has left without a rollback.
-use Rattle.std.proofs.Common.{◌≡◌, ◌≢◌, ℕ, ◌⊎◌, true, List, Option, Some, None, inl, inr, refl, sym, ap, subst, ◌∙◌}
-use Rattle.agreement.specs.Events.{Forest, Event, Exit, Sealed, Decided, Quiet, Dropped, exit, site_of, Lawful}
+use Rattle.std.proofs.Common.{◌≡◌, ◌≢◌, ℕ, ◌⊎◌, true, Some, inl, inr, refl, sym, ap, subst, ◌∙◌}
+use Rattle.agreement.specs.Events.{Forest, Exit, Sealed, Decided, Quiet, Dropped, exit, site_of, Lawful}
 use Rattle.agreement.proofs.AgreementLaws.{covered}
 use Rattle.agreement.proofs.InvariantKept.{inv}
 use Rattle.node_rules.specs.Data.{BranchId}

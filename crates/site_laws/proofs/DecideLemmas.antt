@@ -1,15 +1,10 @@
 -- In every lawful run, where a branch decided, the walk from its root ended there when the COMMIT came.
-use Rattle.std.proofs.Common.{◌≡◌, ◌≢◌, ℕ, zero, suc, ◌+◌, ◌≤◌, ◌⊎◌, Bool, true, false, List, [], ◌∷◌, ◌++◌, unwrap_or, Option, Some, None, inl, inr, refl, sym, ap, subst, subst₂, ◌∙◌, append-nil, arith}
+use Rattle.std.proofs.Common.{◌≡◌, ◌≢◌, ℕ, zero, suc, ◌≤◌, ◌⊎◌, Bool, true, false, List, [], ◌∷◌, ◌++◌, Option, Some, None, inl, inr, refl, sym, ap, subst, subst₂, ◌∙◌, append-nil, arith}
 use Rattle.std.proofs.lemmas.List.{append_assoc}
 use Rattle.std.specs.List.{list_any}
-use Rattle.session_tree.specs.Live.{children_of}
-use Rattle.session_tree.specs.Tree.{weight, step}
-use Rattle.session_tree.specs.declared.act.Walk.TheVariants as walks
-use Rattle.agreement.specs.Events.{Exit, Sealed, Decided, Quiet, Dropped, exit, site_of}
+use Rattle.agreement.specs.Events.{Exit, Decided, Dropped, exit}
 use Rattle.node_rules.specs.Data.{BranchId, Edge, Live, Phase, Input}
-use Rattle.node_rules.specs.Data.inputs
 use Rattle.node_rules.specs.Data.phases
-use Rattle.node_rules.specs.Data.stmts
 use Rattle.node_rules.specs.Words.{numbered}
 use Rattle.node_rules.specs.Kept.{Kept, Branch, live_id, live_at, branch_at}
 use Rattle.node_rules.specs.Turn.{turn_of, deed_of}
@@ -19,8 +14,8 @@ use Rattle.prepare_phase.specs.Acts.{is_awaited}
 use Rattle.tree_laws.proofs.VoterLemmas.{mapped_at}
 use Rattle.run_laws.specs.Data.{Turn, Happening}
 use Rattle.run_laws.specs.Data.happenings
-use Rattle.run_laws.specs.Facts.{Facts, first_facts, place_at, node_at, kept_after, facts_after}
-use Rattle.run_laws.specs.Lawful.{MayHappen, MayTurn, History, IsLawfulRun, facts_at}
+use Rattle.run_laws.specs.Facts.{first_facts, place_at, node_at, kept_after, facts_after}
+use Rattle.run_laws.specs.Lawful.{MayHappen, History, IsLawfulRun, facts_at}
 use Rattle.run_laws.specs.Births.{Born, births_of}
 use Rattle.run_laws.specs.BirthLaws.{Began, LiveIs}
 use Rattle.run_laws.specs.FreezeLaws.{was_asked, LeavesStill}
@@ -29,30 +24,27 @@ use Rattle.run_laws.specs.NodeLaws.{EachFactFrom}
 use Rattle.run_laws.specs.PhaseLaws.{PhaseFits}
 use Rattle.run_laws.specs.RunEvents.{events_of}
 use Rattle.run_laws.specs.Trail.{is_prepare}
-use Rattle.run_laws.specs.WalkLaws.{is_below, was_sent}
 use Rattle.run_laws.proofs.AtNodeLemmas.{turn_here}
 use Rattle.run_laws.proofs.EventsStandLemmas.{run_stands, nodes_are_as_events}
 use Rattle.run_laws.proofs.FreezeRunLemmas.{asked_stand_still}
-use Rattle.run_laws.proofs.LawfulLemmas.{turn_of_node}
 use Rattle.run_laws.proofs.OwnLemmas.{all_found}
 use Rattle.run_laws.proofs.PhaseLemmas.{phases_fit}
 use Rattle.run_laws.proofs.StillRunLemmas.{trees_stand_still}
-use Rattle.tree_laws.specs.Forests.{asked_by, told_below, next_on, walk_from, deepest}
+use Rattle.tree_laws.specs.Forests.{asked_by, walk_from, deepest}
 use Rattle.tree_laws.proofs.AskRunLemmas.{edges_asked}
 use Rattle.tree_laws.proofs.ForestLemmas as trees
 use Rattle.tree_laws.proofs.ForestLemmas.{told_sent}
 use Rattle.tree_laws.proofs.SettleRunLemmas.{known}
 use Rattle.tree_laws.proofs.PrefixLemmas.{so_far, f_at, e_at, one_on}
-use Rattle.site_laws.specs.DecideLaws.{live_of, live_in, WalksTo, Ends_here, Goes_down, InTree, Is_root, Is_child, DecidedSo, DecisionsFollowWalks}
-use Rattle.site_laws.specs.LeaveLaws.{EndsAs}
-use Rattle.site_laws.specs.RestLaws.{Rests, SameTree}
+use Rattle.site_laws.specs.DecideLaws.{WalksTo, DecidedSo, DecisionsFollowWalks}
+use Rattle.site_laws.specs.RestLaws.{SameTree}
 use Rattle.site_laws.proofs.CommitLemmas.{commit_leaves}
-use Rattle.site_laws.proofs.CoverLemmas.{at_site, one_decides, leaves_well, asked_well}
-use Rattle.site_laws.proofs.FateLemmas.{Fate, fate_by, Calmly, turn_lives, turn_left}
+use Rattle.site_laws.proofs.CoverLemmas.{at_site, leaves_well, asked_well}
+use Rattle.site_laws.proofs.FateLemmas.{fate_by, turn_lives, turn_left}
 use Rattle.site_laws.proofs.FindLemmas.{CommitAt, WasFound, commit_found}
-use Rattle.site_laws.proofs.FrozenLemmas.{State, Here, Left, Found, PointsTo, strength_at, state_by, state_left, state_on, Since, Member}
+use Rattle.site_laws.proofs.FrozenLemmas.{State, Here, Left, Found, strength_at, state_by, state_on, Member}
 use Rattle.site_laws.proofs.HeardLemmas.{left_were_asked}
-use Rattle.site_laws.proofs.MemberLemmas.{IsIn, Kid, kid_of}
+use Rattle.site_laws.proofs.MemberLemmas.{IsIn}
 use Rattle.site_laws.proofs.SeenLemmas.{Low, site_seen, plan_covers}
 use Rattle.dtx_values.specs.Limits.{depth_limit}
 use Rattle.site_laws.proofs.TimeLemmas.{Part, part_lawful, part_of, part_on, may_of, fact_at, exit_end, sent_end, born_end, keep_on}

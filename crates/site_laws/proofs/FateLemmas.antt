@@ -1,10 +1,9 @@
 -- What becomes of a live branch in a happening of a lawful run: it stays live with the tree below it as it was, or it leaves.
 use Rattle.std.proofs.Common.{◌≡◌, ◌≢◌, ℕ, ◌||◌, ◌⊎◌, Bool, true, false, if◌then◌else◌, List, [], ◌∷◌, ◌++◌, map, length, Option, Some, None, inl, inr, refl, sym, ap, subst, subst₂, ◌∙◌}
-use Rattle.std.specs.List.{AllByRecursion}
 use Rattle.tran_ids.proofs.ListedLemmas.{item_is}
 use Rattle.tran_ids.proofs.NumberedLemmas.{set_or_before}
 use Rattle.agreement.specs.Events.{Event, Exit, Sealed, Decided, Quiet, Dropped, exit}
-use Rattle.node_rules.specs.Data.{BranchId, Live, Post, RedoRecord}
+use Rattle.node_rules.specs.Data.{BranchId, Live, RedoRecord}
 use Rattle.node_rules.specs.Data.phases
 use Rattle.node_rules.specs.Words.{same, numbered, set_numbered, item_at}
 use Rattle.node_rules.specs.Kept.{Kept, Branch, live_id, live_at, branch_at, work_at, with_work}
@@ -15,14 +14,14 @@ use Rattle.node_rules.proofs.LiveLemmas.{none_live}
 use Rattle.run_laws.specs.Data.{Turn, Happening}
 use Rattle.run_laws.specs.Data.happenings
 use Rattle.run_laws.specs.Facts.{Facts, first_facts, place_at, flat, node_at, kept_after, with_boot, facts_after}
-use Rattle.run_laws.specs.Lawful.{MayHappen, MayTurn, History, IsLawfulRun}
+use Rattle.run_laws.specs.Lawful.{MayHappen, History, IsLawfulRun}
 use Rattle.run_laws.specs.Branches.{is_among}
-use Rattle.run_laws.specs.Births.{Born, births_of, born_at}
+use Rattle.run_laws.specs.Births.{births_of, born_at}
 use Rattle.run_laws.specs.BirthLaws.{Began, LiveIs}
 use Rattle.run_laws.specs.InTurnLaws.{said_in}
 use Rattle.run_laws.specs.FreezeLaws.{LeavesStill, StandsStill}
 use Rattle.run_laws.specs.NodeLaws.{EachFactFrom}
-use Rattle.run_laws.specs.RunEvents.{lives_at, with_leavers, with_happening, events_after, events_of}
+use Rattle.run_laws.specs.RunEvents.{lives_at, with_happening, events_after}
 use Rattle.run_laws.proofs.AtNodeLemmas.{turn_elsewhere, turn_here}
 use Rattle.run_laws.proofs.BirthRunLemmas.{born_are_live_or_left, nodes_name_the_born}
 use Rattle.run_laws.proofs.EventsStandLemmas.{run_stands, nodes_are_as_events, ids_name_their_node}

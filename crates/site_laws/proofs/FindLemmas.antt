@@ -1,21 +1,19 @@
 -- Where a root leaves without a rollback, its COMMIT came before, to a root at rest, and was accepted.
-use Rattle.std.proofs.Common.{◌≡◌, ◌≢◌, ℕ, ◌⊎◌, Bool, true, false, List, [], ◌∷◌, ◌++◌, unwrap_or, Option, Some, None, inl, inr, refl, sym, ap, subst, subst₂, ◌∙◌, append-nil}
+use Rattle.std.proofs.Common.{◌≡◌, ◌≢◌, ℕ, ◌⊎◌, Bool, true, false, List, [], ◌∷◌, ◌++◌, unwrap_or, Option, Some, None, inl, inr, refl, sym, ap, subst, ◌∙◌, append-nil}
 use Rattle.std.proofs.lemmas.List.{append_assoc}
 use Rattle.std.specs.List.{AllByRecursion, list_any}
 use Rattle.tran_ids.proofs.ListedLemmas.{item_is}
 use Rattle.agreement.specs.Events.{Event, Exit, Sealed, Decided, Quiet, Dropped, exit}
 use Rattle.node_rules.specs.Data.{BranchId, Live, Input, RedoRecord, Msg}
-use Rattle.node_rules.specs.Data.inputs
 use Rattle.node_rules.specs.Data.kinds
 use Rattle.node_rules.specs.Data.phases
 use Rattle.node_rules.specs.Data.stmts
 use Rattle.node_rules.specs.Kept.{Kept, Branch, Deed, live_id, live_at, branch_at, work_at, with_work}
 use Rattle.node_rules.specs.Sessions.{session_at}
-use Rattle.node_rules.specs.Turn.{turn_of, heard, deed_of, start_of}
+use Rattle.node_rules.specs.Turn.{turn_of, deed_of, start_of}
 use Rattle.node_rules.specs.Data.records
 use Rattle.node_rules.specs.Inputs.{Came, IsCall}
 use Rattle.node_rules.proofs.Steps.{HasRoot}
-use Rattle.node_rules.proofs.StandLemmas.{live_so}
 use Rattle.run_laws.specs.Data.{Turn, Happening}
 use Rattle.run_laws.specs.Data.happenings
 use Rattle.run_laws.specs.Facts.{Facts, first_facts, place_at, node_at, kept_after, facts_after, facts_of}
@@ -42,15 +40,15 @@ use Rattle.run_laws.proofs.TurnEventLemmas.{cases_nat}
 use Rattle.tree_laws.proofs.AnswerRunLemmas.{lives_heard}
 use Rattle.tree_laws.proofs.ForestLemmas as trees
 use Rattle.tree_laws.proofs.FoundLemmas.{lives_found}
-use Rattle.tree_laws.proofs.PrefixLemmas.{so_far, f_at, e_at, one_on, more_on, lawful_on, keep_prefix}
-use Rattle.tree_laws.proofs.SealLemmas.{IsSealOf, wrote_seal, later_unsealed}
+use Rattle.tree_laws.proofs.PrefixLemmas.{so_far, f_at, e_at, one_on, more_on}
+use Rattle.tree_laws.proofs.SealLemmas.{wrote_seal, later_unsealed}
 use Rattle.tree_laws.proofs.SettleRunLemmas.{known}
-use Rattle.tree_laws.proofs.SiteLemmas.{IsDecisionOf, wrote_decision, later_undecided}
+use Rattle.tree_laws.proofs.SiteLemmas.{wrote_decision, later_undecided}
 use Rattle.site_laws.specs.LeaveLaws.{Begins_by, LeftSo}
 use Rattle.site_laws.proofs.CommitLemmas.{Ends_record, Commits_root, commit_changes, commit_writes}
 use Rattle.site_laws.proofs.FateLemmas.{node_back, drops_alone}
 use Rattle.site_laws.proofs.LeaveLemmas.{messages_exit, all_quiet, wrote_quiet, was_there}
-use Rattle.site_laws.proofs.TimeLemmas.{Part, part_of, part_on, part_lawful, may_of, fact_at, exit_end, born_end, keep_on}
+use Rattle.site_laws.proofs.TimeLemmas.{Part, part_on, part_lawful, may_of, fact_at, exit_end, born_end, keep_on}
 use Rattle.site_laws.proofs.WorkLemmas.{Works, first_works, works_on}
 
 module _ (t : History) (whole : IsLawfulRun t) (r : BranchId) where

@@ -1,21 +1,20 @@
 -- A branch of the tree of a root, from a moment at which the root rests on: as long as it is live it is as it was then, and once it has left
 -- it has asked all children that it had then.
-use Rattle.std.proofs.Common.{◌≡◌, ◌≢◌, ℕ, zero, suc, Bool, true, false, List, [], ◌∷◌, ◌++◌, map, option_map, Option, Some, None, inl, inr, refl, sym, ap, subst, subst₂, ◌∙◌, append-nil}
-use Rattle.std.proofs.lemmas.List.{append_assoc}
+use Rattle.std.proofs.Common.{◌≡◌, ◌≢◌, ℕ, true, false, List, [], ◌∷◌, ◌++◌, map, option_map, Option, Some, None, inl, inr, refl, sym, ap, subst, ◌∙◌}
 use Rattle.session_tree.specs.Live.{children_of}
 use Rattle.session_tree.specs.Tree.{place_of_greatest, weight_by, walk_by, weight, step}
-use Rattle.agreement.specs.Events.{Event, Exit, Sealed, Decided, Quiet, Dropped, exit}
-use Rattle.node_rules.specs.Data.{BranchId, Edge, Live, Phase, Post}
+use Rattle.agreement.specs.Events.{Exit, Sealed, Decided, Quiet, Dropped, exit}
+use Rattle.node_rules.specs.Data.{BranchId, Edge, Live, Phase}
 use Rattle.node_rules.specs.Data.phases
 use Rattle.session_tree.specs.declared.act.Walk.{Walk}
 use Rattle.session_tree.specs.declared.act.Walk.TheVariants as walks
 use Rattle.node_rules.specs.Words.{numbered}
-use Rattle.node_rules.specs.Kept.{Kept, Branch, live_id, live_at, branch_at, work_at, with_work}
+use Rattle.node_rules.specs.Kept.{Kept, Branch, branch_at}
 use Rattle.node_rules.proofs.StandLemmas.{live_so}
 use Rattle.run_laws.specs.Data.{Happening}
-use Rattle.run_laws.specs.Facts.{Facts, first_facts, place_at, node_at}
-use Rattle.run_laws.specs.Lawful.{MayHappen, History, IsLawfulRun, facts_at}
-use Rattle.run_laws.specs.InTurnLaws.{said_in, newest_exec, GoesOn}
+use Rattle.run_laws.specs.Facts.{place_at, node_at}
+use Rattle.run_laws.specs.Lawful.{History, IsLawfulRun}
+use Rattle.run_laws.specs.InTurnLaws.{said_in, GoesOn}
 use Rattle.run_laws.specs.FreezeLaws.{was_asked}
 use Rattle.run_laws.specs.RunEvents.{events_of}
 use Rattle.run_laws.specs.Trail.{is_prepare}
@@ -38,7 +37,7 @@ use Rattle.site_laws.specs.RestLaws.{Rests, SameTree}
 use Rattle.site_laws.specs.WeighLaws.{ChildRests}
 use Rattle.site_laws.proofs.FateLemmas.{Fate, Stays, Leaves, fate_of}
 use Rattle.site_laws.proofs.StrengthLemmas.{lives_have_strength}
-use Rattle.site_laws.proofs.TimeLemmas.{Part, part_lawful, part_on, part_of, may_of, exit_end, sent_end, keep_on}
+use Rattle.site_laws.proofs.TimeLemmas.{Part, part_lawful, part_on, part_of, may_of, exit_end, sent_end}
 use Rattle.site_laws.proofs.WeighLemmas.{children_weigh, child_parent}
 
 -- ---- the same tree

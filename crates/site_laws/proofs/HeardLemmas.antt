@@ -1,15 +1,15 @@
 -- In every lawful run a branch that left, and was not dropped, began, and its parent asked it.
-use Rattle.std.proofs.Common.{◌≡◌, ◌≢◌, ℕ, true, List, [], ◌∷◌, ◌++◌, Option, Some, None, inl, inr, refl, sym, ap, subst, ◌∙◌}
-use Rattle.agreement.specs.Events.{Event, Exit, Dropped, exit}
-use Rattle.node_rules.specs.Data.{BranchId, Live}
-use Rattle.node_rules.specs.Kept.{live_id, live_at}
+use Rattle.std.proofs.Common.{◌≡◌, ◌≢◌, true, List, [], ◌∷◌, ◌++◌, Some, None, inl, inr, refl, sym, subst, ◌∙◌}
+use Rattle.agreement.specs.Events.{Exit, Dropped, exit}
+use Rattle.node_rules.specs.Data.{BranchId}
+use Rattle.node_rules.specs.Kept.{live_id}
 use Rattle.run_laws.specs.Data.{Turn, Happening}
 use Rattle.run_laws.specs.Data.happenings
 use Rattle.run_laws.specs.Lawful.{MayHappen, History, IsLawfulRun, facts_at}
-use Rattle.run_laws.specs.Births.{Born, births_of}
+use Rattle.run_laws.specs.Births.{births_of}
 use Rattle.run_laws.specs.BirthLaws.{Began, LiveIs}
 use Rattle.run_laws.specs.InTurnLaws.{said_in}
-use Rattle.run_laws.specs.RunEvents.{events_after, events_from, events_of}
+use Rattle.run_laws.specs.RunEvents.{events_after, events_from}
 use Rattle.run_laws.specs.Trail.{is_prepare}
 use Rattle.run_laws.specs.WalkLaws.{was_sent}
 use Rattle.run_laws.proofs.BirthRunLemmas.{nodes_name_the_born}

@@ -7,14 +7,13 @@ use Rattle.std.proofs.lemmas.Bool.{and_parts}
 use Rattle.tran_ids.proofs.BranchLemmas.{equal_from_same}
 use Rattle.session_tree.specs.Live.{children_of}
 use Rattle.session_tree.specs.Tree.{weight, step}
-use Rattle.session_tree.specs.declared.act.Walk.TheVariants as walks
 use Rattle.node_rules.specs.Data.{BranchId, Kind, Live, Act, Msg, Post, RedoRecord, Input}
 use Rattle.node_rules.specs.Data.acts
 use Rattle.node_rules.specs.Data.kinds
 use Rattle.node_rules.specs.Data.phases
 use Rattle.node_rules.specs.Data.records
 use Rattle.node_rules.specs.Words.{same, numbered}
-use Rattle.node_rules.specs.Kept.{Kept, Branch, Deed, live_id, live_at, branch_at, work_at, with_work}
+use Rattle.node_rules.specs.Kept.{Kept, Branch, Deed, live_at, branch_at, work_at, with_work}
 use Rattle.node_rules.specs.Turn.{turn_of, heard, deed_of, stamped}
 use Rattle.session_tree.specs.Tree.{place_of_greatest, walk_by}
 use Rattle.node_rules.specs.Data.{Edge}
@@ -28,7 +27,7 @@ use Rattle.run_laws.specs.Data.{Turn, Happening}
 use Rattle.run_laws.specs.Data.happenings
 use Rattle.run_laws.specs.Facts.{Facts, first_facts, place_at, node_at, facts_after}
 use Rattle.run_laws.specs.Lawful.{MayTurn, MayHappen, IsOwed, History, IsLawfulRun}
-use Rattle.run_laws.specs.Births.{Born, births_of}
+use Rattle.run_laws.specs.Births.{births_of}
 use Rattle.run_laws.specs.BirthLaws.{Began, GoesSo}
 use Rattle.run_laws.specs.EventLaws.{EachEventFrom}
 use Rattle.run_laws.specs.FreezeLaws.{was_asked}
@@ -37,14 +36,12 @@ use Rattle.run_laws.specs.RunEvents.{message_event, with_event, with_messages, w
 use Rattle.run_laws.specs.Trail.{is_prepare, is_read_only, is_quiet}
 use Rattle.run_laws.proofs.BirthRunLemmas.{messages_are_of_neighbors}
 use Rattle.run_laws.proofs.BirthsStandLemmas.{came_so}
-use Rattle.run_laws.proofs.EventsStandLemmas.{nodes_are_as_events}
 use Rattle.run_laws.proofs.FreezeRunLemmas.{asked_stand_still}
 use Rattle.run_laws.proofs.LaterLemmas.{exit_made, turn_added}
 use Rattle.run_laws.proofs.LawfulLemmas.{serves, turn_of_node}
 use Rattle.run_laws.proofs.ListLemmas.{all_map}
-use Rattle.run_laws.proofs.OwnLemmas.{all_found}
 use Rattle.run_laws.proofs.SaidPostLemmas.{prepares_are_said}
-use Rattle.run_laws.proofs.KidLemmas.{child_parent, parent_of, above_of}
+use Rattle.run_laws.proofs.KidLemmas.{child_parent, above_of}
 use Rattle.tree_laws.proofs.AskLemmas.{voted_step}
 use Rattle.tree_laws.proofs.AskRunLemmas.{edges_asked}
 use Rattle.tree_laws.proofs.PrefixLemmas.{so_far, f_at, e_at, each_prefix}

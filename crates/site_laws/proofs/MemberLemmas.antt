@@ -1,5 +1,5 @@
 -- The live children of a branch of such a tree are branches of it, where those who were asked leave without a rollback.
-use Rattle.std.proofs.Common.{◌≡◌, ◌≢◌, ℕ, true, false, List, [], ◌∷◌, ◌++◌, map, Option, Some, None, inl, inr, refl, sym, ap, subst, subst₂, ◌∙◌, append-nil}
+use Rattle.std.proofs.Common.{◌≡◌, ◌≢◌, ℕ, true, false, List, [], ◌∷◌, ◌++◌, Option, Some, None, inl, inr, refl, sym, ap, subst, ◌∙◌, append-nil}
 use Rattle.std.proofs.lemmas.List.{append_assoc}
 use Rattle.tran_ids.proofs.ListedLemmas.{item_is}
 use Rattle.session_tree.specs.Live.{children_of}
@@ -10,12 +10,12 @@ use Rattle.node_rules.specs.Words.{numbered}
 use Rattle.node_rules.specs.Kept.{Kept, Branch, live_id, live_at, branch_at, work_at, with_work}
 use Rattle.node_rules.proofs.StandLemmas.{live_so}
 use Rattle.run_laws.specs.Data.{Happening}
-use Rattle.run_laws.specs.Facts.{place_at, node_at}
+use Rattle.run_laws.specs.Facts.{node_at}
 use Rattle.run_laws.specs.Lawful.{History, IsLawfulRun, facts_at}
 use Rattle.run_laws.specs.Branches.{is_among}
 use Rattle.run_laws.specs.Births.{Born, births_of, born_at, born_id}
 use Rattle.run_laws.specs.BirthLaws.{Began, LiveIs}
-use Rattle.run_laws.specs.InTurnLaws.{said_in, GoesOn}
+use Rattle.run_laws.specs.InTurnLaws.{said_in}
 use Rattle.run_laws.specs.FreezeLaws.{was_asked}
 use Rattle.run_laws.specs.RunEvents.{lives_at, events_of}
 use Rattle.run_laws.proofs.BirthRunLemmas.{born_are_live_or_left}
@@ -28,7 +28,7 @@ use Rattle.run_laws.proofs.OwnLemmas.{all_found}
 use Rattle.tree_laws.proofs.ForestLemmas as trees
 use Rattle.tree_laws.proofs.SettleRunLemmas.{known}
 use Rattle.tree_laws.proofs.PrefixLemmas.{so_far, f_at, e_at}
-use Rattle.site_laws.specs.RestLaws.{Rests, SameTree}
+use Rattle.site_laws.specs.RestLaws.{Rests}
 use Rattle.site_laws.proofs.FateLemmas.{among_found}
 use Rattle.site_laws.proofs.FrozenLemmas.{State, Here, Left, Found, strength_at, state_on, Since, Member, kid_rests}
 use Rattle.site_laws.proofs.HeardLemmas.{left_were_asked}

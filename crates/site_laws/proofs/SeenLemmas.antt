@@ -1,19 +1,18 @@
 -- Where the trail of the happenings sees the live branches of a tree as their nodes keep them, their weights and their walk are the trail's.
-use Rattle.std.proofs.Common.{◌≡◌, ◌≢◌, ℕ, zero, suc, ◌+◌, ◌≤◌, ◌⊎◌, true, List, [], ◌∷◌, ◌++◌, length, map, Option, Some, None, inl, inr, refl, sym, ap, subst, ◌∙◌, arith}
+use Rattle.std.proofs.Common.{◌≡◌, ◌≢◌, ℕ, zero, suc, ◌+◌, ◌≤◌, ◌⊎◌, true, List, [], ◌∷◌, length, map, Option, Some, None, inl, inr, refl, sym, ap, subst, ◌∙◌, arith}
 use Rattle.std.specs.Prelude.{flat_map}
 use Rattle.std.specs.List.{AllByRecursion}
 use Rattle.dtx_values.specs.Limits.{depth_limit}
 use Rattle.session_tree.specs.Live.{children_of}
 use Rattle.session_tree.specs.Tree.{place_of_greatest, weight_by, walk_by, weight, step}
-use Rattle.session_tree.specs.declared.act.Walk.{Walk}
 use Rattle.session_tree.specs.declared.act.Walk.TheVariants as walks
-use Rattle.agreement.specs.Events.{Exit, Sealed, Decided, Dropped, exit}
-use Rattle.node_rules.specs.Data.{BranchId, Edge, Live, Place}
+use Rattle.agreement.specs.Events.{Exit, Sealed, Dropped, exit}
+use Rattle.node_rules.specs.Data.{BranchId, Edge, Live}
 use Rattle.node_rules.specs.Words.{numbered}
-use Rattle.node_rules.specs.Kept.{Kept, Branch, live_at, branch_at}
+use Rattle.node_rules.specs.Kept.{Branch}
 use Rattle.node_rules.proofs.StandLemmas.{live_so}
 use Rattle.run_laws.specs.Data.{Happening}
-use Rattle.run_laws.specs.Facts.{Facts, place_at, node_at}
+use Rattle.run_laws.specs.Facts.{Facts}
 use Rattle.run_laws.specs.Lawful.{History, IsLawfulRun, facts_at}
 use Rattle.run_laws.specs.Births.{Born, births_of}
 use Rattle.run_laws.specs.BirthLaws.{Began, LiveIs}
@@ -28,8 +27,8 @@ use Rattle.tree_laws.proofs.PrefixLemmas.{so_far, f_at}
 use Rattle.tree_laws.proofs.SettleRunLemmas.{known}
 use Rattle.tree_laws.proofs.VoterLemmas.{mapped_at, all_numbered}
 use Rattle.site_laws.specs.DecideLaws.{live_of, live_in, WalksTo, Ends_here, Goes_down, InTree, Is_root, Is_child, SeesTree, IsCoveredBy}
-use Rattle.site_laws.proofs.FrozenLemmas.{Found, strength_at, Member}
-use Rattle.site_laws.proofs.MemberLemmas.{IsIn, Kid, kid_of}
+use Rattle.site_laws.proofs.FrozenLemmas.{strength_at, Member}
+use Rattle.site_laws.proofs.MemberLemmas.{IsIn, kid_of}
 use Rattle.site_laws.proofs.ShallowLemmas.{parents_are_shallow}
 use Rattle.site_laws.proofs.TimeLemmas.{Part, part_lawful, born_end}
 use Rattle.run_laws.proofs.AtNodeLemmas.{range_of}

@@ -1,11 +1,11 @@
 -- In every lawful run a live branch has the commit point strength of its node's place: no record sets another.
-use Rattle.std.proofs.Common.{◌≡◌, ℕ, ◌+◌, ◌-◌, List, [], ◌∷◌, ◌++◌, length, unwrap_or, Option, Some, None, refl, sym, ap, subst, ◌∙◌}
+use Rattle.std.proofs.Common.{◌≡◌, ℕ, List, [], ◌∷◌, ◌++◌, unwrap_or, Option, Some, None, refl, ap, ◌∙◌}
 use Rattle.std.specs.Prelude.{IfSome, option_to_list}
 use Rattle.std.specs.List.{AllByRecursion}
-use Rattle.session_tree.specs.Live.{new_edge, fresh_live}
+use Rattle.session_tree.specs.Live.{new_edge}
 use Rattle.commit_forget.specs.declared.next.Next.TheVariants as nexts
 use Rattle.redo_record.specs.declared.record.Param.TheVariants as params
-use Rattle.node_rules.specs.Data.{BranchId, Live, Act, Place, Input, RedoRecord, Stmt}
+use Rattle.node_rules.specs.Data.{Live, Act, Place, Input, RedoRecord, Stmt}
 use Rattle.node_rules.specs.Data.acts
 use Rattle.node_rules.specs.Data.records
 use Rattle.node_rules.specs.Kept.{Kept, Deed, Stored, Branch, live_id, branch_at}
@@ -19,9 +19,7 @@ use Rattle.node_rules.proofs.Steps as steps
 use Rattle.node_rules.proofs.Steps.{Step, Asked, Acting}
 use Rattle.node_rules.proofs.StandLemmas.{live_so}
 use Rattle.node_rules.proofs.StepLemmas.{acting_so}
-use Rattle.run_laws.specs.Facts.{place_at, node_at}
-use Rattle.run_laws.specs.Lawful.{boots, History, IsLawfulRun, facts_at}
-use Rattle.run_laws.specs.NodeLaws.{unacked}
+use Rattle.run_laws.specs.Facts.{place_at}
 use Rattle.run_laws.proofs.NodeLemmas.{Keeps, node_keeps}
 use Rattle.run_laws.proofs.OwnLemmas.{all_found, all_with, all_without, all_last}
 use Rattle.run_laws.proofs.StoredLemmas.{with_wrote, step_stores, stored_with}

@@ -1,8 +1,8 @@
 -- A run cut in two: its first part is a lawful run, and what its branches left and were told there stays so.
-use Rattle.std.proofs.Common.{◌≡◌, ◌≢◌, ℕ, Bool, true, List, [], ◌∷◌, ◌++◌, Option, Some, None, refl, sym, ap, subst, subst₂, ◌∙◌, append-nil}
+use Rattle.std.proofs.Common.{◌≡◌, Bool, true, List, [], ◌∷◌, ◌++◌, Some, refl, sym, ap, subst, ◌∙◌, append-nil}
 use Rattle.std.proofs.lemmas.List.{append_assoc}
 use Rattle.agreement.specs.Events.{Event, Exit, exit}
-use Rattle.node_rules.specs.Data.{BranchId, Kind, Post}
+use Rattle.node_rules.specs.Data.{BranchId, Kind}
 use Rattle.run_laws.specs.Data.{Happening, Command}
 use Rattle.run_laws.specs.Data.happenings
 use Rattle.node_rules.specs.Data.{Place}
@@ -10,17 +10,15 @@ use Rattle.run_laws.specs.Facts.{Facts, first_facts, facts_after, facts_of}
 use Rattle.run_laws.specs.Lawful.{MayHappen, IsLawful, History, IsLawfulRun, facts_at}
 use Rattle.run_laws.specs.Births.{Born, births_from, births_of}
 use Rattle.run_laws.specs.BirthLaws.{Began}
-use Rattle.run_laws.specs.FreezeLaws.{was_asked}
 use Rattle.run_laws.specs.InTurnLaws.{said_in}
 use Rattle.run_laws.specs.RunEvents.{events_after, events_from, events_of}
-use Rattle.run_laws.specs.Trail.{is_prepare}
 use Rattle.run_laws.specs.WalkLaws.{was_sent}
 use Rattle.run_laws.specs.EventLaws.{EachEventFrom}
 use Rattle.run_laws.specs.NodeLaws.{EachFactFrom}
 use Rattle.run_laws.proofs.LaterLemmas.{exit_later, wrote_added, turn_added, stop_added}
 use Rattle.tree_laws.proofs.AskLemmas.{sent_more}
 use Rattle.tree_laws.proofs.FitLemmas.{began_all, said_all}
-use Rattle.tree_laws.proofs.PrefixLemmas.{so_far, f_at, e_at, one_on, more_on, facts_join, births_join, lawful_on}
+use Rattle.tree_laws.proofs.PrefixLemmas.{so_far, f_at, e_at, facts_join, births_join}
 
 module _ (places : List Place) (asked : List Command) where
   pub events_join : (f : Facts) (hs rest : List Happening) (e : List Event) → events_from places asked f (hs ++ rest) e ≡ events_from places asked (facts_of places asked f hs) rest (events_from places asked f hs e)

@@ -1,22 +1,21 @@
 -- In every lawful run a live child of a live branch that waits for nothing rests, and weighs what the branch holds of it.
-use Rattle.std.proofs.Common.{◌≡◌, ◌≢◌, ℕ, ◌≤◌, List, Option, Some, None, inl, inr, refl, sym, ap, subst, subst₂, ◌∙◌, arith}
+use Rattle.std.proofs.Common.{◌≡◌, ◌≢◌, ℕ, ◌≤◌, List, Some, None, inl, inr, sym, ap, subst, subst₂, ◌∙◌}
 use Rattle.session_tree.specs.Live.{children_of}
-use Rattle.session_tree.specs.Tree.{weight}
 use Rattle.node_rules.specs.Data.{BranchId, Edge, Post}
 use Rattle.node_rules.specs.Words.{numbered}
 use Rattle.node_rules.specs.Kept.{Kept, Branch, live_id, branch_at}
 use Rattle.node_rules.proofs.StandLemmas.{live_so}
-use Rattle.run_laws.specs.Births.{born_at, births_of}
-use Rattle.run_laws.specs.BirthLaws.{Began, LiveIs, NamesAre, IsChildAt}
+use Rattle.run_laws.specs.Births.{births_of}
+use Rattle.run_laws.specs.BirthLaws.{Began, LiveIs}
 use Rattle.run_laws.specs.Facts.{node_at}
 use Rattle.run_laws.specs.Lawful.{History, IsLawfulRun, facts_at}
-use Rattle.run_laws.specs.InTurnLaws.{said_in, newest_exec, call_at, GoesOn, WaitsFor, EdgeFits}
+use Rattle.run_laws.specs.InTurnLaws.{said_in, newest_exec, call_at, GoesOn}
 use Rattle.run_laws.proofs.BirthRunLemmas.{nodes_name_the_born}
 use Rattle.run_laws.proofs.InTurnLemmas.{none_waits}
 use Rattle.run_laws.proofs.InTurnRunLemmas.{branches_call_in_turn, edges_fit}
 use Rattle.run_laws.proofs.KidLemmas.{child_of, parent_of, above_of}
 use Rattle.run_laws.proofs.OwnLemmas.{all_found}
-use Rattle.tree_laws.specs.WeightLaws.{ToldWeight, TellsItsWeight}
+use Rattle.tree_laws.specs.WeightLaws.{ToldWeight}
 use Rattle.tree_laws.proofs.VoterLemmas.{mapped_at}
 use Rattle.tree_laws.proofs.WeightRunLemmas.{replies_tell_weights, edges_hold_weights}
 use Rattle.site_laws.specs.WeighLaws.{ChildRests, ChildrenWeigh}

@@ -1,9 +1,9 @@
 -- A live branch that is working goes on so in each step of its node, unless its COMMIT or its Prepare comes.
-use Rattle.std.proofs.Common.{◌≡◌, ◌≢◌, ℕ, ◌+◌, ◌-◌, ◌⊎◌, List, [], ◌∷◌, ◌++◌, length, Option, Some, None, inl, inr, refl, sym, ap, subst, ◌∙◌}
+use Rattle.std.proofs.Common.{◌≡◌, ◌≢◌, ℕ, ◌⊎◌, [], ◌∷◌, ◌++◌, Some, None, inl, inr, refl}
 use Rattle.std.specs.List.{AllByRecursion}
 use Rattle.commit_forget.specs.declared.next.Next.TheVariants as nexts
-use Rattle.session_tree.specs.Live.{new_edge, fresh_live}
-use Rattle.node_rules.specs.Data.{BranchId, Live, Act, Place, Input, Stmt}
+use Rattle.session_tree.specs.Live.{new_edge}
+use Rattle.node_rules.specs.Data.{Live, Act, Place, Input, Stmt}
 use Rattle.node_rules.specs.Data.acts
 use Rattle.node_rules.specs.Data.phases
 use Rattle.node_rules.specs.Words.{item_at}

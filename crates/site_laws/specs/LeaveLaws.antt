@@ -3,7 +3,7 @@ use Rattle.std.specs.Prelude.{◌≡◌, ◌≢◌, ◌⊎◌, ℕ, Bool, List, 
 use Rattle.session_tree.specs.Live.{children_of}
 use Rattle.session_tree.specs.Tree.{weight, step}
 use Rattle.session_tree.specs.declared.act.Walk.TheVariants as walks
-use Rattle.agreement.specs.Events.{Event, Exit, Sealed, Decided, Quiet, Dropped, exit}
+use Rattle.agreement.specs.Events.{Event, Exit, Decided, Quiet, Dropped, exit}
 use Rattle.node_rules.specs.Data.{BranchId, Live, Post, Input}
 use Rattle.node_rules.specs.Data.kinds
 use Rattle.node_rules.specs.Data.phases
@@ -13,7 +13,7 @@ use Rattle.node_rules.specs.Words.{numbered}
 use Rattle.node_rules.specs.Kept.{Kept, live_at}
 use Rattle.run_laws.specs.Data.{Happening}
 use Rattle.run_laws.specs.Data.happenings
-use Rattle.run_laws.specs.Facts.{Facts, node_at, facts_after}
+use Rattle.run_laws.specs.Facts.{Facts, node_at}
 use Rattle.run_laws.specs.RunEvents.{events_after, events_of}
 use Rattle.run_laws.specs.Births.{births_of}
 use Rattle.run_laws.specs.Trail.{is_prepare}

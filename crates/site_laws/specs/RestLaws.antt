@@ -1,5 +1,5 @@
 -- A live branch that no statement is on its way to stands still: the tree below it is as it was.
-use Rattle.std.specs.Prelude.{◌≡◌, ℕ, List, map, Option, Some, None}
+use Rattle.std.specs.Prelude.{◌≡◌, List, map, Option, Some, None}
 use Rattle.session_tree.specs.Live.{children_of}
 use Rattle.node_rules.specs.Data.{BranchId, Post, Place}
 use Rattle.node_rules.specs.declared.work.Work.{Work}

@@ -1,12 +1,12 @@
 -- What is told by what is known of the facts is what is told by the facts.
-use Rattle.std.proofs.Common.{◌≡◌, ℕ, ◌==◌, ◌&&◌, not, Bool, true, false, cond, if◌then◌else◌, List, [], ◌∷◌, is_none, is_some, slice_get, option_map, nat_lt, Option, Some, None, refl, sym, ap, subst, ◌∙◌, arith, rules}
+use Rattle.std.proofs.Common.{◌≡◌, ℕ, ◌==◌, not, Bool, true, false, if◌then◌else◌, List, [], ◌∷◌, is_none, is_some, slice_get, nat_lt, Option, Some, None, refl, sym, ap, ◌∙◌, arith}
 use Rattle.std.proofs.lemmas.Bool.Decides.{nat_tests}
 use Rattle.node_rules.specs.Data.{Place, Stmt, Input, RedoRecord}
 use Rattle.node_rules.specs.Data.inputs
 use Rattle.node_rules.specs.Data.stmts
 use Rattle.node_rules.specs.Sessions.{session_at}
 use Rattle.node_rules.specs.Kept.{Kept, Outcome}
-use Rattle.node_rules.specs.Points.{Passes, passes, reaches}
+use Rattle.node_rules.specs.Points.{Passes, passes}
 use Rattle.run_laws.specs.Data.{Command, Session, Turn}
 use Rattle.run_laws.specs.Data.commands
 use Rattle.net_bag.specs.Net.{first_flying}

@@ -1,15 +1,15 @@
 -- What is told, by what is known of the facts of a run: as a command begins, as a node stops, as one starts.
-use Rattle.std.specs.Prelude.{ℕ, ◌==◌, ◌&&◌, ◌||◌, not, Bool, true, false, if◌then◌else◌, List, [], ◌∷◌, ◌++◌, map, find, unwrap_or, is_some, codes, Option, Some, None}
+use Rattle.std.specs.Prelude.{ℕ, ◌==◌, ◌&&◌, not, Bool, false, if◌then◌else◌, List, [], ◌∷◌, ◌++◌, find, unwrap_or, is_some, Option, Some, None}
 use Rattle.node_rules.specs.Words.{numbered, one, set_numbered}
 use Rattle.node_rules.specs.Refusals.{dtx}
 use Rattle.run_laws.specs.Data.{Said, AnswerLine, Command}
 use Rattle.run_laws.specs.Data.commands
 use Rattle.run_laws.specs.Disks.{DiskOrders, Strike, no_orders, opens_gate}
-use Rattle.run_laws.specs.Telling.{Call, Page, Telling}
+use Rattle.run_laws.specs.Telling.{Call, Telling}
 use Rattle.run_laws.specs.Calls.{is_call_at, without_call}
 use Rattle.run_laws.specs.Commands.{call_of, page_of, hold_after}
 use Rattle.run_laws.specs.Cuts.{appends}
-use Rattle.run_laws.specs.Lines.{fine, refuses_with, line, with_own, spent, call_line}
+use Rattle.run_laws.specs.Lines.{fine, refuses_with, with_own, spent, call_line}
 use Rattle.run_laws.specs.Past.{is_stop_of, falls_if}
 use Rattle.telling_parts.specs.declared.calls.CallKey.{CallKey}
 use Rattle.telling_parts.specs.Lines.{down_said, page_by, stop_said}

@@ -1,14 +1,14 @@
 -- What is told of a turn, by what is known of it: what cuts it, and what comes of it.
-use Rattle.std.specs.Prelude.{ℕ, ◌==◌, Bool, true, false, if◌then◌else◌, List, option_map, is_none, Option, Some, None}
-use Rattle.node_rules.specs.Data.{Stmt, Input}
+use Rattle.std.specs.Prelude.{ℕ, Bool, true, false, if◌then◌else◌, List, option_map, is_none, Option, Some, None}
+use Rattle.node_rules.specs.Data.{Input}
 use Rattle.node_rules.specs.Data.inputs
 use Rattle.node_rules.specs.Data.stmts
 use Rattle.node_rules.specs.Points.{Passes as PassesByRules, point_of, reaches}
 use Rattle.node_points.specs.Passing.{passes_as}
 use Rattle.run_laws.specs.Data.{Session, Finished, Turn}
 use Rattle.run_laws.specs.Disks.{struck}
-use Rattle.run_laws.specs.Telling.{Call, Telling, orders_at}
-use Rattle.run_laws.specs.Calls.{after_input, call_at, call_follows, finished, is_complete, second_of, without_call}
+use Rattle.run_laws.specs.Telling.{Telling, orders_at}
+use Rattle.run_laws.specs.Calls.{after_input, call_at, call_follows, finished, without_call}
 use Rattle.run_laws.specs.Lines.{call_line, says_node}
 use Rattle.run_laws.specs.Cuts.{Cut_by, By_nothing, By_point, By_strike, cut_append, cut_appends, arms_point}
 use Rattle.run_laws.specs.Past.{acts, delivered_more, without_following}
