@@ -85,9 +85,9 @@ impl Telling {
         ensures tells { OnOk result (self.new ≡ call_follows self.old second) }
         ensures before { self.new.lines ≡ self.old.lines }
     {
-        change_calls(&mut self.calls, alloc, &second)?;
+        let changed = change_calls(&mut self.calls, alloc, &second);
         self.next_call = Some(second);
-        Ok(())
+        changed
     }
 
     #[tactic(auto, using(crate::proofs::EndLemmas::ends_as))]
