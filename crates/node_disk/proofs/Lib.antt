@@ -1,0 +1,6 @@
+mod ReadLaws
+mod StoreLaws
+mod MomentLaws
+mod TurnLaws
+mod StartLaws
+mod MakeLaws
