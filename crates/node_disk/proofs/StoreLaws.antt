@@ -55,6 +55,7 @@ Stores : Kept → Deed → Type 0
 Stores k d = IsButForAcks (stored_next k.stored d.wrote) d.after.stored
 
 stores_on : (p : Place) (input : Input) {k : Kept} {d : Deed} → Step p input k d → Stores k d
+unfolding Stores
 stores_on p input (steps.Begins n s call rows fit none step) = stores_on p input step
 stores_on p input (steps.Pends n l given call has live code step) = stores_on p input step
 stores_on p input (steps.Lets_reads_go l comment site_below live begins step) = stores_on p input step
@@ -89,6 +90,6 @@ stored_heard k (inputs.GiveUp n) = refl
 stored_heard k inputs.Reco = refl
 
 pub turns_store_their_records : TurnsStoreTheirRecords
-unfolding turn_of
+unfolding turn_of Stores
 turns_store_their_records p k input fit =
     subst (λ (s : Stored). IsButForAcks (stored_next s (deed_of p k input).wrote) (deed_of p k input).after.stored) (stored_heard k input) (stores_on p input (step_of p k input fit))

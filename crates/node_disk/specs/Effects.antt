@@ -2,7 +2,7 @@
 use Rattle.std.specs.Prelude.{◌≡◌, List, map, Option, Some}
 use Rattle.msg_codec.specs.Fits.{KindFits}
 use Rattle.msg_codec.specs.Message.{msg_format}
-use Rattle.node_rules.specs.Data.{RedoRecord, Msg}
+use Rattle.node_rules.specs.Data.{RedoRecord, Msg, Input}
 use Rattle.node_rules.specs.declared.session.Finished.{Finished as FinishedByRules}
 use Rattle.node_rules.specs.Kept.{Kept, Outcome}
 use Rattle.node_disk.specs.declared.effects.Mailed.{Mailed}
@@ -33,5 +33,10 @@ pub record Tells (o : Outcome) (new : Kept) (e : Effects) : Type 0 where
 
 -- a turn that halted tried to append this record, for this reason
 abbrev pub HaltsBy : Option RedoRecord → Type 0 → TurnErr → Type 0
-HaltsBy wrote why (errs.Halted tried) = (wrote ≡ Some tried) × why
+HaltsBy wrote why (errs.Halted input tried) = (wrote ≡ Some tried) × why
 HaltsBy wrote why errs.NoMemory = Unit {0}
+
+-- a turn that halted was over an input of which this holds
+abbrev pub HaltsOver : (Input → Type 0) → TurnErr → Type 0
+HaltsOver reads (errs.Halted input tried) = reads input
+HaltsOver reads errs.NoMemory = Unit {0}

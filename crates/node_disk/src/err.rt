@@ -9,6 +9,7 @@ ghost use Rattle.node_disk.specs.declared.err.TurnErr.TheVariants as turns;
 use record_log::{AppendErr, LoadWhy};
 use redo_record::RedoRecord;
 use std::alloc::AllocError;
+use wire_msg::Input;
 
 /// Why a node was not made or started.
 #[derive(Clone, Copy, Debug, PartialEq, Eq)]
@@ -33,6 +34,8 @@ pub struct MakeErr<D> {
 pub enum TurnErr {
     /// The disk failed while the record was appended. The disk has it, or has not.
     Halted {
+        /// What came, as it was read.
+        input: Input,
         /// The record.
         tried: RedoRecord,
     },

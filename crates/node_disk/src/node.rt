@@ -12,7 +12,7 @@ ghost use Rattle.ready_laws.specs.Ready.{IsReady};
 ghost use Rattle.node_core.specs.Able.{MayTake};
 ghost use Rattle.node_disk.specs.declared.err.TurnErr.TheVariants as turns;
 ghost use Rattle.node_disk.specs.Incoming.{IsReadAs};
-ghost use Rattle.node_disk.specs.Effects.{Tells, HaltsBy};
+ghost use Rattle.node_disk.specs.Effects.{Tells, HaltsBy, HaltsOver};
 ghost use Rattle.node_disk.specs.Starts.{IsStartable};
 ghost use Rattle.node_disk.specs.OnDisk.{place_of, kept_of, disk_of, turn_at, record_at, IsRunning, IsSpellable, GrowsBy, MayStand, calls_of, writes_of};
 
@@ -69,6 +69,7 @@ impl<D: Disk> Node<D> {
         ensures ready { OnOk result (IsReady (place_of self.new) (kept_of self.new)) }
 
         ensures halted { IfErr result (HaltsBy (record_at self.old incoming) (Rose (D.faults (disk_of self.old)) (D.faults (disk_of self.new)))) }
+        ensures halted_input { IfErr result (HaltsOver (IsReadAs incoming)) }
         ensures later { D.faults (disk_of self.old) ≤ D.faults (disk_of self.new) }
         ensures unfailed { OnOk result (D.faults (disk_of self.new) ≡ D.faults (disk_of self.old)) }
 

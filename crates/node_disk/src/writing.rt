@@ -1,5 +1,5 @@
 //! The record of a turn is written.
-ghost use Rattle.std.specs.Prelude.{◌≡◌, ◌≤◌, List, Option, Some, true, is_some, IfOk, IfErr, IfSome, OnOk, IsErrOf};
+ghost use Rattle.std.specs.Prelude.{◌≡◌, ◌≤◌, List, Option, Some, true, is_some, IfErr, IfOk, IfSome, OnOk, IsErrOf};
 ghost use Rattle.dtx_ports.specs.Causes.{Rose};
 ghost use Rattle.block_disk.specs.Images.{AtEachMoment, IsOnly};
 ghost use Rattle.redo_log.specs.Loads.{IsAppendCount};
@@ -8,8 +8,9 @@ ghost use Rattle.redo_record.specs.declared.record.RedoRecord.{RedoRecord as Red
 ghost use Rattle.record_log.specs.Records.{IsSpelled};
 ghost use Rattle.record_log.specs.Held.{HoldRecords};
 ghost use Rattle.record_log.specs.Log.{disk_of, IsIntact, IsUsable};
+ghost use Rattle.record_log.specs.declared.err.AppendErr.TheVariants as appends;
 ghost use Rattle.node_disk.specs.declared.err.TurnErr.TheVariants as turns;
-ghost use Rattle.node_disk.specs.Effects.{HaltsBy};
+ghost use Rattle.node_disk.specs.Effects.{HaltsBy, HaltsOver};
 ghost use Rattle.node_rules.specs.Kept.{Stored};
 ghost use Rattle.ready_laws.specs.Sound.{IsNext};
 ghost use Rattle.node_disk.specs.Starts.{IsStartable, IsButForAcks, stored_next};
@@ -21,17 +22,6 @@ use block_disk::Disk;
 use ready_laws::records_follow;
 use record_log::{AppendErr, RecordLog};
 use redo_record::RedoRecord;
-
-// A turn whose record was not written.
-fn halted(wrote: Option<RedoRecord>) -> TurnErr
-    requires { is_some wrote ≡ true }
-    ensures { (r : RedoRecordBy) → wrote ≡ Some r → result ≡ turns.Halted r }
-{
-    match wrote {
-        Some(tried) => TurnErr::Halted { tried },
-        None => unreachable!(),
-    }
-}
 
 /// A disk that is left alone: a crash leaves what it may leave now.
 pub(crate) fn stands_still<D: Disk>(disk: &D)
@@ -63,6 +53,69 @@ pub(crate) fn unserved<D: Disk>(log: &RecordLog<D>) -> TurnErr
     TurnErr::NoMemory
 }
 
+// A turn whose record was not written, though it was tried.
+fn halted(effects: Effects) -> TurnErr
+    requires { is_some effects.wrote ≡ true }
+    ensures { (r : RedoRecordBy) → effects.wrote ≡ Some r → result ≡ turns.Halted effects.input r }
+{
+    let Effects { input, wrote, .. } = effects;
+    match wrote {
+        Some(tried) => TurnErr::Halted { input, tried },
+        None => unreachable!(),
+    }
+}
+
+// A turn whose record was not written for this reason.
+fn unwritten(effects: Effects, why: AppendErr) -> TurnErr
+    requires { why ≡ appends.Fault → is_some effects.wrote ≡ true }
+    ensures memory { why ≡ appends.NoMemory → result ≡ turns.NoMemory }
+    ensures fault { (r : RedoRecordBy) → why ≡ appends.Fault → effects.wrote ≡ Some r → result ≡ turns.Halted effects.input r }
+{
+    match why {
+        AppendErr::NoMemory => TurnErr::NoMemory,
+        AppendErr::Fault => halted(effects),
+    }
+}
+
+// Appends this record, where there is one. Where there is none the disk is not called.
+fn append<D: Disk>(log: &mut RecordLog<D>, wrote: &Option<RedoRecord>) -> Result<(), AppendErr>
+    requires usable { IsUsable D.content D.images log.old }
+    requires intact { IsIntact log.old }
+    requires durable { IsOnly (D.content (disk_of log.old)) (D.images (disk_of log.old)) }
+    requires spelled { IfSome wrote.now IsSpelled }
+
+    ensures stored { OnOk result (GrowsBy wrote.now (D.content (disk_of log.old)) (D.content (disk_of log.new))) }
+    ensures usable { OnOk result (IsUsable D.content D.images log.new) }
+    ensures intact { OnOk result (IsIntact log.new) }
+    ensures durable { OnOk result (IsOnly (D.content (disk_of log.new)) (D.images (disk_of log.new))) }
+
+    // A crash at any moment leaves the records from before, with this one or without.
+    ensures any_moment { (rs : List RedoRecordBy) → HoldRecords rs (D.content (disk_of log.old))
+        → AtEachMoment D.moment D.images_since (disk_of log.old) (disk_of log.new) (MayStand rs wrote.now) }
+
+    ensures tried { IsErrOf result appends.Fault → is_some wrote.now ≡ true }
+    ensures cause { IsErrOf result appends.Fault → Rose (D.faults (disk_of log.old)) (D.faults (disk_of log.new)) }
+    ensures later { D.faults (disk_of log.old) ≤ D.faults (disk_of log.new) }
+    ensures unfailed { OnOk result (D.faults (disk_of log.new) ≡ D.faults (disk_of log.old)) }
+    ensures calls { OnOk result (D.calls (disk_of log.new) ≡ count_after (calls_of wrote.now) (D.calls (disk_of log.old))) }
+    ensures writes { OnOk result (D.writes (disk_of log.new) ≡ count_after (writes_of wrote.now) (D.writes (disk_of log.old))) }
+    ensures fault_calls { IsErrOf result appends.Fault → IsAppendCount (D.calls (disk_of log.old)) (D.calls (disk_of log.new)) }
+
+    // Where memory runs out, the disk was not called.
+    ensures untouched { IsErrOf result appends.NoMemory → D.content (disk_of log.new) ≡ D.content (disk_of log.old) }
+    ensures untouched_faults { IsErrOf result appends.NoMemory → D.faults (disk_of log.new) ≡ D.faults (disk_of log.old) }
+    ensures untouched_calls { IsErrOf result appends.NoMemory → D.calls (disk_of log.new) ≡ D.calls (disk_of log.old) }
+    ensures untouched_writes { IsErrOf result appends.NoMemory → D.writes (disk_of log.new) ≡ D.writes (disk_of log.old) }
+{
+    match wrote {
+        None => {
+            leave(log);
+            Ok(())
+        }
+        Some(redo) => log.append(redo),
+    }
+}
+
 /// Puts the record of a turn on the disk, where there is one, and gives what the turn tells. All memory is taken before the disk
 /// is called.
 #[tactic(auto, using(crate::proofs::TurnLaws::startable_while, crate::proofs::TurnLaws::stands_next))]
@@ -89,6 +142,7 @@ pub(crate) fn write<D: Disk>(log: &mut RecordLog<D>, effects: Effects) -> Result
         → StandsOn (D.content (disk_of log.new)) t) }
 
     ensures halted { IfErr result (HaltsBy effects.wrote (Rose (D.faults (disk_of log.old)) (D.faults (disk_of log.new)))) }
+    ensures halted_input { IfErr result (HaltsOver (λ i. i ≡ effects.input)) }
     ensures later { D.faults (disk_of log.old) ≤ D.faults (disk_of log.new) }
     ensures unfailed { OnOk result (D.faults (disk_of log.new) ≡ D.faults (disk_of log.old)) }
     ensures calls { OnOk result (D.calls (disk_of log.new) ≡ count_after (calls_of effects.wrote) (D.calls (disk_of log.old))) }
@@ -102,15 +156,8 @@ pub(crate) fn write<D: Disk>(log: &mut RecordLog<D>, effects: Effects) -> Result
     ensures untouched_writes { IsErrOf result turns.NoMemory → D.writes (disk_of log.new) ≡ D.writes (disk_of log.old) }
 {
     records_follow();
-    match &effects.wrote {
-        None => {
-            leave(log);
-            Ok(effects)
-        }
-        Some(redo) => match log.append(redo) {
-            Ok(()) => Ok(effects),
-            Err(AppendErr::NoMemory) => Err(TurnErr::NoMemory),
-            Err(AppendErr::Fault) => Err(halted(effects.wrote)),
-        },
+    match append(log, &effects.wrote) {
+        Ok(()) => Ok(effects),
+        Err(why) => Err(unwritten(effects, why)),
     }
 }
