@@ -62,7 +62,7 @@ ready_started law p rs k had kept = subst (λ (x : Kept). IsReady p x) (sym kept
 stands_by : (rs : List RedoRecord) (m : Memory) (bytes : List ℕ) → HoldRecords rs bytes → MayBeHad rs → kept_in m ≡ start_of rs → StandsOn bytes (stored_in m)
 unfolding start_of
 stands_by rs m bytes hold had kept =
-    (rs, (hold, (had, subst (λ (s : Stored). IsButForAcks (stored_by nothing_stored rs) s) (sym (ap (λ (k : Kept). k.stored) kept)) refl)))
+    (rs, hold, had, subst (λ (s : Stored). IsButForAcks (stored_by nothing_stored rs) s) (sym (ap (λ (k : Kept). k.stored) kept)) refl)
 
 pub stands_started : (rs : List RedoRecord) (m : Memory) (bytes : List ℕ) → HoldRecords (rs ++ next_boot rs ∷ []) bytes → MayBeHad rs → kept_in m ≡ start_of (rs ++ next_boot rs ∷ []) → StandsOn bytes (stored_in m)
 stands_started rs m bytes hold had kept = stands_by (rs ++ next_boot rs ∷ []) m bytes hold (had_started rs had) kept
@@ -70,15 +70,15 @@ stands_started rs m bytes hold had kept = stands_by (rs ++ next_boot rs ∷ []) 
 -- ---- what was loaded
 
 pub had_of : (found : List RedoRecord) (bytes : List ℕ) → IsStartable bytes → ((rs : List RedoRecord) → HoldRecords rs bytes → found ≡ rs) → MayBeHad found
-had_of found bytes startable only = subst MayBeHad (sym (only startable.0 startable.1.0)) startable.1.1
+had_of found bytes startable only = subst MayBeHad (sym (only startable.0 startable.1)) startable.2
 
 -- ---- at each moment
 
 module _ {D : Type 0} (moment : D → ℕ) (images_since : D → ℕ → List ℕ → Type 0) where
   startable_boot : (rs : List RedoRecord) → MayBeHad rs → (image : List ℕ) → HoldWithOrWithout rs (next_boot rs) image → IsStartable image
   startable_boot rs had image may = elim may [
-    | inl hold ↦ (rs, (hold, had))
-    | inr hold ↦ (rs ++ next_boot rs ∷ [], (hold, had_started rs had))
+    | inl hold ↦ (rs, hold, had)
+    | inr hold ↦ (rs ++ next_boot rs ∷ [], hold, had_started rs had)
   ]
 
   -- while the record of a start is written
@@ -99,10 +99,10 @@ module _ {D : Type 0} (moment : D → ℕ) (images_since : D → ℕ → List �
   pub startable_left : (old now : D) (rs : List RedoRecord) → MayBeHad rs → AtEachMoment moment images_since old now (HoldRecords rs) → AtEachMoment moment images_since old now IsStartable
   startable_left old now rs had own = record {
     later = own.later;
-    each = λ image since. (rs, (own.each image since, had));
+    each = λ image since. (rs, own.each image since, had);
     earlier = λ m image le since. elim (own.earlier m image le since) [
       | inl before ↦ inl before
-      | inr here ↦ inr (rs, (here, had))
+      | inr here ↦ inr (rs, here, had)
     ];
   }
 

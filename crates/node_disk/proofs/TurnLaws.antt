@@ -92,17 +92,17 @@ next_unnoted law s t r is next = law (with_rows s t.durable.kept) s.durable.kept
 module _ {D : Type 0} (moment : D → ℕ) (images_since : D → ℕ → List ℕ → Type 0) where
   startable_by : RowsDoNotMatter → (s : Stored) (rs : List RedoRecord) (w : Option RedoRecord) → MayBeHad rs → IsButForAcks (stored_by nothing_stored rs) s → IfSome w (IsNext s)
       → (image : List ℕ) → MayStand rs w image → IsStartable image
-  startable_by law s rs None had is next image hold = (rs, (hold, had))
+  startable_by law s rs None had is next image hold = (rs, hold, had)
   startable_by law s rs (Some r) had is next image may = elim may [
-    | inl hold ↦ (rs, (hold, had))
-    | inr hold ↦ (rs ++ r ∷ [], (hold, had_next rs r had (next_unnoted law (stored_by nothing_stored rs) s r is next)))
+    | inl hold ↦ (rs, hold, had)
+    | inr hold ↦ (rs ++ r ∷ [], hold, had_next rs r had (next_unnoted law (stored_by nothing_stored rs) s r is next))
   ]
 
   -- while the record of a turn is written, the disk holds records that a node can start from
   pub startable_while : RowsDoNotMatter → (old now : D) (before : List ℕ) (s : Stored) (w : Option RedoRecord) → StandsOn before s → IfSome w (IsNext s)
       → ((rs : List RedoRecord) → HoldRecords rs before → AtEachMoment moment images_since old now (MayStand rs w)) → AtEachMoment moment images_since old now IsStartable
   startable_while law old now before s w stands next moments =
-      weaker moment images_since old now (MayStand stands.0 w) IsStartable (moments stands.0 stands.1.0) (startable_by law s stands.0 w stands.1.1.0 stands.1.1.1 next)
+      weaker moment images_since old now (MayStand stands.0 w) IsStartable (moments stands.0 stands.1) (startable_by law s stands.0 w stands.2 stands.3 next)
 
 -- ---- after the turn
 
@@ -113,19 +113,15 @@ holds_by rs (Some r) before now grows hold = inr (grows rs hold)
 -- the records of the disk say what the node stores
 pub stands_next : RowsDoNotMatter → (before now : List ℕ) (s t : Stored) (w : Option RedoRecord) → StandsOn before s → IfSome w (IsNext s) → IsButForAcks (stored_next s w) t → GrowsBy w before now → StandsOn now t
 stands_next law before now s t None stands next stores grows =
-    (stands.0, (holds_by stands.0 None before now grows stands.1.0, (stands.1.1.0, but_for_both (stored_by nothing_stored stands.0) s t stands.1.1.1 stores)))
+    (stands.0, holds_by stands.0 None before now grows stands.1, stands.2, but_for_both (stored_by nothing_stored stands.0) s t stands.3 stores)
 stands_next law before now s t (Some r) stands next stores grows =
     let rs = stands.0 in
     let under = stored_by nothing_stored rs in
-    let next_stored : IsButForAcks (applied under r) t = but_for_both (applied under r) (applied s r) t (next_but_for under s (Some r) stands.1.1.1) stores in (
+    let next_stored : IsButForAcks (applied under r) t = but_for_both (applied under r) (applied s r) t (next_but_for under s (Some r) stands.3) stores in (
       rs ++ r ∷ [],
-      (
-        grows rs stands.1.0,
-        (
-          had_next rs r stands.1.1.0 (next_unnoted law under s r stands.1.1.1 next),
-          subst (λ (x : Stored). IsButForAcks x t) (sym (stored_last nothing_stored rs r)) next_stored,
-        ),
-      ),
+      grows rs stands.1,
+      had_next rs r stands.2 (next_unnoted law under s r stands.3 next),
+      subst (λ (x : Stored). IsButForAcks x t) (sym (stored_last nothing_stored rs r)) next_stored,
     )
 
 -- records that an image holds without the one of the turn
@@ -141,4 +137,4 @@ module _ {D : Type 0} (moment : D → ℕ) (images_since : D → ℕ → List �
   pub startable_still : (disk : D) (bytes : List ℕ) (s : Stored) → StandsOn bytes s → ((rs : List RedoRecord) → HoldRecords rs bytes → AtEachMoment moment images_since disk disk (HoldRecords rs))
       → AtEachMoment moment images_since disk disk IsStartable
   startable_still disk bytes s stands own =
-      weaker moment images_since disk disk (HoldRecords stands.0) IsStartable (own stands.0 stands.1.0) (λ image hold. (stands.0, (hold, stands.1.1.0)))
+      weaker moment images_since disk disk (HoldRecords stands.0) IsStartable (own stands.0 stands.1) (λ image hold. (stands.0, hold, stands.2))

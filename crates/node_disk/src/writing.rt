@@ -118,7 +118,6 @@ fn append<D: Disk>(log: &mut RecordLog<D>, wrote: &Option<RedoRecord>) -> Result
 
 /// Puts the record of a turn on the disk, where there is one, and gives what the turn tells. All memory is taken before the disk
 /// is called.
-#[tactic(auto, using(crate::proofs::TurnLaws::startable_while, crate::proofs::TurnLaws::stands_next))]
 pub(crate) fn write<D: Disk>(log: &mut RecordLog<D>, effects: Effects) -> Result<Effects, TurnErr>
     requires usable { IsUsable D.content D.images log.old }
     requires intact { IsIntact log.old }
