@@ -1,11 +1,13 @@
 -- A turn on a disk: at each moment the disk holds records that a node can start from, and after the turn they say what the node
 -- stores.
 use Rattle.std.proofs.Common.{◌≡◌, ℕ, List, [], ◌∷◌, ◌++◌, map, Option, None, Some, inl, inr, refl, sym, subst, ap, ◌∙◌}
-use Rattle.std.specs.Prelude.{IfSome}
+use Rattle.std.specs.Prelude.{IfSome, OnOk, Result, Ok, Err}
 use Rattle.std.specs.List.{AllByRecursion}
-use Rattle.block_disk.specs.Images.{AtEachMoment}
+use Rattle.block_disk.specs.Images.{AtEachMoment, IsOnly}
 use Rattle.record_log.specs.Records.{IsSpelled}
 use Rattle.record_log.specs.Held.{HoldRecords}
+use Rattle.record_log.specs.Log.{disk_of, IsIntact, IsUsable}
+use Rattle.record_log.specs.declared.log.RecordLog.{RecordLog}
 use Rattle.node_rules.specs.Data.{RedoRecord, Standing, Place, Input, Msg}
 use Rattle.node_rules.specs.Kept.{Stored, Kept, Outcome}
 use Rattle.node_rules.specs.Records.{nothing_stored, applied, stored_by}
@@ -23,7 +25,7 @@ use Rattle.node_disk.specs.Incoming.{read_as, IsReadAs, record_of}
 use Rattle.node_disk.specs.Effects.{MayBeMailed, mailed, call_of, Tells}
 use Rattle.node_disk.specs.Starts.{MayBeHad, IsStartable, IsButForAcks, stored_next}
 use Rattle.node_disk.specs.Laws.{TurnsStoreTheirRecords}
-use Rattle.node_disk.specs.OnDisk.{IsSpellable, StandsOn, GrowsBy, MayStand}
+use Rattle.node_disk.specs.OnDisk.{IsSpellable, StandsOn, IsOpenFor, GrowsBy, MayStand}
 use Rattle.node_disk.proofs.StoreLaws.{but_for_both, next_but_for}
 use Rattle.node_disk.proofs.MomentLaws.{weaker}
 
@@ -138,3 +140,11 @@ module _ {D : Type 0} (moment : D → ℕ) (images_since : D → ℕ → List �
       → AtEachMoment moment images_since disk disk IsStartable
   startable_still disk bytes s stands own =
       weaker moment images_since disk disk (HoldRecords stands.0) IsStartable (own stands.0 stands.1) (λ image hold. (stands.0, hold, stands.2))
+
+-- ---- the next turn
+
+-- at Ok the node is running again
+pub opens_on : {T E D : Type 0} (content : D → List ℕ) (images : D → List ℕ → Type 0) (log : RecordLog D) (s : Stored) (r : Result T E) → OnOk r (IsUsable content images log) → OnOk r (IsIntact log)
+    → OnOk r (IsOnly (content (disk_of log)) (images (disk_of log))) → OnOk r (StandsOn (content (disk_of log)) s) → OnOk r (IsOpenFor content images log s)
+opens_on content images log s (Ok v) usable intact durable stands = record { usable = usable; intact = intact; durable = durable; stands = stands }
+opens_on content images log s (Err e) usable intact durable stands = tt
