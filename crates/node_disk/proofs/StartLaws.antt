@@ -54,6 +54,11 @@ pub boot_so : (rs : List RedoRecord) (m : Memory) → kept_in m ≡ start_of rs 
 unfolding start_of
 boot_so rs m kept = ap (λ (k : Kept). k.stored.durable.boot) kept
 
+-- that of this start is one more
+pub boot_started : (rs : List RedoRecord) (m : Memory) → kept_in m ≡ start_of (rs ++ next_boot rs ∷ []) → m.boot ≡ last_boot rs + 1
+unfolding applied durable_after
+boot_started rs m kept = boot_so (rs ++ next_boot rs ∷ []) m kept ∙ ap (λ (s : Stored). s.durable.boot) (stored_last nothing_stored rs (next_boot rs))
+
 -- it is ready for its next turn
 pub ready_started : StartsAreReady → (p : Place) (rs : List RedoRecord) (k : Kept) → MayBeHad rs → k ≡ start_of (rs ++ next_boot rs ∷ []) → IsReady p k
 ready_started law p rs k had kept = subst (λ (x : Kept). IsReady p x) (sym kept) (law p rs (last_boot rs + 1) had.follow had.sound (omega arith))

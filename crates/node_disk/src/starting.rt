@@ -20,12 +20,12 @@ use crate::writing::leave;
 use block_disk::Disk;
 use node_memory::Memory;
 use ready_laws::starts_are_ready;
-use record_log::{LoadErr, RecordLog, Records};
+use record_log::{LoadErr, RecordLog};
 use redo_record::{Place, RedoRecord};
 use std::alloc::{AllocError, Global};
 
 /// What a node keeps after a start whose record is behind these. Fails where memory runs out.
-#[tactic(auto, using(crate::proofs::StartLaws::boot_may_follow, crate::proofs::StartLaws::started_so, crate::proofs::StartLaws::boot_so))]
+#[tactic(auto, using(crate::proofs::StartLaws::boot_may_follow, crate::proofs::StartLaws::started_so))]
 pub(crate) fn started(
     alloc: Global,
     place: Place,
@@ -79,22 +79,22 @@ pub(crate) fn begin<D: Disk>(
 }
 
 // A node whose log holds these records starts again.
-#[tactic(auto, using(crate::proofs::StartLaws::ready_started, crate::proofs::StartLaws::stands_started, crate::proofs::StartLaws::startable_begun, crate::proofs::StartLaws::startable_left))]
+#[tactic(auto, using(crate::proofs::StartLaws::startable_left))]
 fn begin_again<D: Disk>(
     alloc: Global,
     place: Place,
     log: RecordLog<D>,
-    records: Records,
+    records: &[RedoRecord],
 ) -> Result<Node<D>, MakeErr<D>>
     requires usable { IsUsable D.content D.images log }
     requires intact { IsIntact log }
     requires durable { IsOnly (D.content (disk_of_log log)) (D.images (disk_of_log log)) }
-    requires held { HoldRecords records (D.content (disk_of_log log)) }
-    requires had { MayBeHad records }
-    requires boots { last_boot records + 1 < 2 ^ 32 }
-    ensures kept { IfOk result (λ node. kept_of node ≡ start_of (records ++ next_boot records ∷ [])) }
+    requires held { HoldRecords records.now (D.content (disk_of_log log)) }
+    requires had { MayBeHad records.now }
+    requires boots { last_boot records.now + 1 < 2 ^ 32 }
+    ensures kept { IfOk result (λ node. kept_of node ≡ start_of (records.now ++ next_boot records.now ∷ [])) }
     ensures place { IfOk result (λ node. place_of node ≡ place) }
-    ensures stored { IfOk result (λ node. HoldRecords (records ++ next_boot records ∷ []) (D.content (disk_of node))) }
+    ensures stored { IfOk result (λ node. HoldRecords (records.now ++ next_boot records.now ∷ []) (D.content (disk_of node))) }
     ensures running { IfOk result (λ node. IsRunning D.content D.images node) }
     ensures ready { IfOk result (λ node. IsReady (place_of node) (kept_of node)) }
     ensures startable { MatchResult result
@@ -108,7 +108,7 @@ fn begin_again<D: Disk>(
     ensures writes { IfOk result (λ node. D.writes (disk_of node) ≡ count_after 2 (D.writes (disk_of_log log))) }
 {
     starts_are_ready();
-    match started(alloc, place, records.as_slice()) {
+    match started(alloc, place, records) {
         Ok(memory) => match begin(alloc, memory, log) {
             Ok(node) => Ok(node),
             Err(err) => Err(err),
@@ -156,7 +156,7 @@ impl<D: Disk> Node<D> {
         ensures writes { IfOk result (λ node. D.writes (disk_of node) ≡ count_after 2 (D.writes disk)) }
     {
         match RecordLog::load(alloc, disk) {
-            Ok((log, records)) => match begin_again(alloc, place, log, records) {
+            Ok((log, records)) => match begin_again(alloc, place, log, records.as_slice()) {
                 Ok(node) => Ok(node),
                 Err(err) => Err(err),
             },
