@@ -1,6 +1,7 @@
 -- A node that is made: it has no record, and then that of its first start.
 use Rattle.std.proofs.Common.{◌≡◌, ℕ, ◌+◌, List, [], ◌∷◌, ◌++◌, inl, inr, refl, sym, subst, arith}
 use Rattle.block_disk.specs.Images.{AtEachMoment, IsOnly}
+use Rattle.redo_log.specs.Cells as cells
 use Rattle.redo_log.specs.Log.{MayBeBegun}
 use Rattle.redo_log.proofs.Moments.{followed_by}
 use Rattle.record_log.specs.Held.{HoldRecords, GrowsByRecord, HoldWithOrWithout}
@@ -32,6 +33,9 @@ pub made_so : start_of ([] ++ next_boot [] ∷ []) ≡ made
 unfolding stored_by
 made_so = refl
 
+pub holds_first : (n : ℕ) (bytes : List ℕ) → n ≡ 1 → HoldRecords (records.Boot n ∷ []) bytes → HoldRecords (records.Boot 1 ∷ []) bytes
+holds_first n bytes is hold = subst (λ (m : ℕ). HoldRecords (records.Boot m ∷ []) bytes) is hold
+
 pub ready_made : StartsAreReady → (p : Place) (k : Kept) → k ≡ made → IsReady p k
 unfolding stored_by
 ready_made law p k kept = ready_started law p [] k none_had kept
@@ -40,18 +44,24 @@ pub stands_made : (m : Memory) (bytes : List ℕ) → HoldRecords (records.Boot 
 unfolding stored_by
 stands_made m bytes hold kept = stands_started [] m bytes hold none_had kept
 
+-- no bytes are no log yet
+nothing_begun : MayBeBegun []
+unfolding cells.bodies cells.bodies_within
+nothing_begun = record { short = omega arith; empty = refl }
+
 module _ {D : Type 0} (moment : D → ℕ) (images_since : D → ℕ → List ℕ → Type 0) where
   -- a disk with nothing on it that is left alone
   pub may_be_empty : (disk : D) (images : List ℕ → Type 0) → IsOnly [] images → AtEachMoment moment images_since disk disk images → AtEachMoment moment images_since disk disk MayBeMade
   may_be_empty disk images only own =
-      weaker moment images_since disk disk images MayBeMade own (λ image is. inl (subst MayBeBegun (sym (only image is)) (record { short = omega arith; empty = refl })))
+      weaker moment images_since disk disk images MayBeMade own (λ image is. inl (subst MayBeBegun (sym (only image is)) nothing_begun))
 
   -- while the log is created
   pub may_be_begun : (old now : D) → AtEachMoment moment images_since old now MayBeBegun → AtEachMoment moment images_since old now MayBeMade
   may_be_begun old now own = weaker moment images_since old now MayBeBegun MayBeMade own (λ image may. inl may)
 
   -- and then the first record is written
-  pub may_be_made : (old mid now : D) → AtEachMoment moment images_since old mid MayBeBegun → AtEachMoment moment images_since mid now (HoldWithOrWithout [] (records.Boot 1))
+  pub may_be_made : (old mid now : D) (n : ℕ) → AtEachMoment moment images_since old mid MayBeBegun → n ≡ 1 → AtEachMoment moment images_since mid now (HoldWithOrWithout [] (records.Boot n))
       → AtEachMoment moment images_since old now MayBeMade
-  may_be_made old mid now first second =
-      followed_by moment images_since old mid now MayBeMade (HoldWithOrWithout [] (records.Boot 1)) (may_be_begun old mid first) second (λ image may. inr may)
+  may_be_made old mid now n first is second =
+      followed_by moment images_since old mid now MayBeMade (HoldWithOrWithout [] (records.Boot 1)) (may_be_begun old mid first)
+      (subst (λ (m : ℕ). AtEachMoment moment images_since mid now (HoldWithOrWithout [] (records.Boot m))) is second) (λ image may. inr may)
