@@ -1,9 +1,9 @@
 -- A turn on a disk: at each moment the disk holds records that a node can start from, and after the turn they say what the node
 -- stores.
 use Rattle.std.proofs.Common.{◌≡◌, ℕ, List, [], ◌∷◌, ◌++◌, map, Option, None, Some, inl, inr, refl, sym, subst, ap, ◌∙◌}
-use Rattle.std.specs.Prelude.{IfSome, OnOk, Result, Ok, Err}
+use Rattle.std.specs.Prelude.{◌↔◌, IfSome, OnOk, Result, Ok, Err}
 use Rattle.std.specs.List.{AllByRecursion}
-use Rattle.block_disk.specs.Images.{AtEachMoment, IsOnly}
+use Rattle.block_disk.specs.Images.{AtEachMoment, IsOnly, AddsNone}
 use Rattle.record_log.specs.Records.{IsSpelled}
 use Rattle.record_log.specs.Held.{HoldRecords}
 use Rattle.record_log.specs.Log.{disk_of, IsIntact, IsUsable}
@@ -148,3 +148,13 @@ pub opens_on : {T E D : Type 0} (content : D → List ℕ) (images : D → List 
     → OnOk r (IsOnly (content (disk_of log)) (images (disk_of log))) → OnOk r (StandsOn (content (disk_of log)) s) → OnOk r (IsOpenFor content images log s)
 opens_on content images log s (Ok v) usable intact durable stands = record { usable = usable; intact = intact; durable = durable; stands = stands }
 opens_on content images log s (Err e) usable intact durable stands = tt
+
+-- a disk that takes an order has no new image, and the node goes on as it was
+pub still_open : {D : Type 0} (content : D → List ℕ) (images : D → List ℕ → Type 0) (old new : RecordLog D) (s : Stored) → (IsUsable content images old → IsUsable content images new) → (IsIntact old ↔ IsIntact new)
+    → content (disk_of new) ≡ content (disk_of old) → AddsNone (images (disk_of old)) (images (disk_of new)) → IsOpenFor content images old s → IsOpenFor content images new s
+still_open content images old new s usable intact same adds runs = record {
+  usable = usable runs.usable;
+  intact = intact.0 runs.intact;
+  durable = λ image is. runs.durable image (adds image is) ∙ sym same;
+  stands = subst (λ (bytes : List ℕ). StandsOn bytes s) (sym same) runs.stands;
+}

@@ -1,7 +1,8 @@
 -- A node and its disk.
-use Rattle.std.specs.Prelude.{◌≡◌, ℕ, List, Option, None, Some, IfSome}
+use Rattle.std.specs.Prelude.{◌≡◌, ℕ, Bool, List, [], Option, None, Some, IfSome}
 use Rattle.std.specs.List.{AllByRecursion}
 use Rattle.block_disk.specs.Images.{IsOnly}
+use Rattle.redo_log.specs.Plans.{append_calls}
 use Rattle.record_log.specs.Records.{IsSpelled}
 use Rattle.record_log.specs.Held.{HoldRecords, GrowsByRecord, HoldWithOrWithout}
 use Rattle.record_log.specs.Log.{disk_of as disk_of_log, IsIntact, IsUsable}
@@ -62,6 +63,11 @@ GrowsBy (Some r) before now = GrowsByRecord r before now
 abbrev pub MayStand : List RedoRecord → Option RedoRecord → List ℕ → Type 0
 MayStand rs None image = HoldRecords rs image
 MayStand rs (Some r) image = HoldWithOrWithout rs r image
+
+-- the disk calls of a turn: those of an append, where there is a record
+abbrev pub turn_calls : Option RedoRecord → List Bool
+turn_calls None = []
+turn_calls (Some r) = append_calls
 
 -- how many disk calls an append makes
 abbrev pub calls_of : Option RedoRecord → ℕ

@@ -5,6 +5,7 @@
 //! one on an empty disk.
 #![tactic(auto)]
 
+mod arming;
 mod deciding;
 mod effects;
 mod err;

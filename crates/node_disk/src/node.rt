@@ -1,9 +1,10 @@
 //! A node and its disk.
-ghost use Rattle.std.specs.Prelude.{◌≡◌, ◌≤◌, List, IfOk, IfErr, IfSome, OnOk, IsErrOf};
+ghost use Rattle.std.specs.Prelude.{◌≡◌, ◌≤◌, List, false, true, IfOk, IfErr, IfSome, OnOk, IsErrOf};
 ghost use Rattle.std.specs.List.{AllByRecursion};
 ghost use Rattle.dtx_ports.specs.Causes.{Rose};
 ghost use Rattle.block_disk.specs.Images.{AtEachMoment, IsOnly};
 ghost use Rattle.redo_log.specs.Loads.{IsAppendCount};
+ghost use Rattle.redo_log.specs.Plans.{CallsGoByPlan, append_calls};
 ghost use Rattle.redo_log.specs.Log.{count_after};
 ghost use Rattle.redo_record.specs.declared.record.RedoRecord.{RedoRecord};
 ghost use Rattle.wire_msg.specs.declared.input.Input.{Input};
@@ -14,7 +15,7 @@ ghost use Rattle.node_disk.specs.declared.err.TurnErr.TheVariants as turns;
 ghost use Rattle.node_disk.specs.Incoming.{IsReadAs};
 ghost use Rattle.node_disk.specs.Effects.{Tells, HaltsBy, HaltsOver};
 ghost use Rattle.node_disk.specs.Starts.{IsStartable};
-ghost use Rattle.node_disk.specs.OnDisk.{place_of, kept_of, disk_of, turn_at, record_at, IsRunning, IsSpellable, GrowsBy, MayStand, calls_of, writes_of};
+ghost use Rattle.node_disk.specs.OnDisk.{place_of, kept_of, disk_of, turn_at, record_at, IsRunning, IsSpellable, GrowsBy, MayStand, turn_calls, calls_of, writes_of};
 
 use crate::deciding::decide;
 use crate::effects::Effects;
@@ -77,11 +78,16 @@ impl<D: Disk> Node<D> {
         ensures writes { IfOk result (λ e. D.writes (disk_of self.new) ≡ count_after (writes_of e.wrote) (D.writes (disk_of self.old))) }
         ensures halted_calls { IfErr result (HaltsBy (record_at self.old incoming) (IsAppendCount (D.calls (disk_of self.old)) (D.calls (disk_of self.new)))) }
 
+        // Where the disk shows its plan, it is a fault exactly where an order strikes one of the calls.
+        ensures plan { IfOk result (λ e. CallsGoByPlan (turn_calls e.wrote) (D.plan (disk_of self.old)) (D.plan (disk_of self.new)) false) }
+        ensures halted_plan { IfErr result (HaltsBy (record_at self.old incoming) (CallsGoByPlan append_calls (D.plan (disk_of self.old)) (D.plan (disk_of self.new)) true)) }
+
         // Where memory runs out, the disk is as it was.
         ensures untouched { IsErrOf result turns.NoMemory → D.content (disk_of self.new) ≡ D.content (disk_of self.old) }
         ensures untouched_faults { IsErrOf result turns.NoMemory → D.faults (disk_of self.new) ≡ D.faults (disk_of self.old) }
         ensures untouched_calls { IsErrOf result turns.NoMemory → D.calls (disk_of self.new) ≡ D.calls (disk_of self.old) }
         ensures untouched_writes { IsErrOf result turns.NoMemory → D.writes (disk_of self.new) ≡ D.writes (disk_of self.old) }
+        ensures untouched_plan { IsErrOf result turns.NoMemory → D.plan (disk_of self.new) ≡ D.plan (disk_of self.old) }
     {
         match decide(&mut self.memory, self.alloc, incoming) {
             Ok(effects) => write(&mut self.log, effects),

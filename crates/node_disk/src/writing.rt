@@ -1,8 +1,9 @@
 //! The record of a turn is written.
-ghost use Rattle.std.specs.Prelude.{◌≡◌, ◌≤◌, List, Option, Some, true, is_some, IfErr, IfOk, IfSome, OnOk, IsErrOf};
+ghost use Rattle.std.specs.Prelude.{◌≡◌, ◌≤◌, List, Option, Some, true, false, is_some, IfErr, IfOk, IfSome, OnOk, IsErrOf};
 ghost use Rattle.dtx_ports.specs.Causes.{Rose};
 ghost use Rattle.block_disk.specs.Images.{AtEachMoment, IsOnly};
 ghost use Rattle.redo_log.specs.Loads.{IsAppendCount};
+ghost use Rattle.redo_log.specs.Plans.{CallsGoByPlan, append_calls};
 ghost use Rattle.redo_log.specs.Log.{count_after};
 ghost use Rattle.redo_record.specs.declared.record.RedoRecord.{RedoRecord as RedoRecordBy};
 ghost use Rattle.record_log.specs.Records.{IsSpelled};
@@ -14,7 +15,7 @@ ghost use Rattle.node_disk.specs.Effects.{HaltsBy, HaltsOver};
 ghost use Rattle.node_rules.specs.Kept.{Stored};
 ghost use Rattle.ready_laws.specs.Sound.{IsNext};
 ghost use Rattle.node_disk.specs.Starts.{IsStartable, IsButForAcks, stored_next};
-ghost use Rattle.node_disk.specs.OnDisk.{StandsOn, GrowsBy, MayStand, calls_of, writes_of};
+ghost use Rattle.node_disk.specs.OnDisk.{StandsOn, GrowsBy, MayStand, turn_calls, calls_of, writes_of};
 
 use crate::effects::Effects;
 use crate::err::TurnErr;
@@ -78,6 +79,7 @@ fn unwritten(effects: Effects, why: AppendErr) -> TurnErr
 }
 
 // Appends this record, where there is one. Where there is none the disk is not called.
+#[tactic(auto, using(crate::proofs::PlanLaws::no_calls))]
 fn append<D: Disk>(log: &mut RecordLog<D>, wrote: &Option<RedoRecord>) -> Result<(), AppendErr>
     requires usable { IsUsable D.content D.images log.old }
     requires intact { IsIntact log.old }
@@ -101,11 +103,16 @@ fn append<D: Disk>(log: &mut RecordLog<D>, wrote: &Option<RedoRecord>) -> Result
     ensures writes { OnOk result (D.writes (disk_of log.new) ≡ count_after (writes_of wrote.now) (D.writes (disk_of log.old))) }
     ensures fault_calls { IsErrOf result appends.Fault → IsAppendCount (D.calls (disk_of log.old)) (D.calls (disk_of log.new)) }
 
+    // Where the disk shows its plan, it is a fault exactly where an order strikes one of the calls.
+    ensures plan { OnOk result (CallsGoByPlan (turn_calls wrote.now) (D.plan (disk_of log.old)) (D.plan (disk_of log.new)) false) }
+    ensures fault_plan { IsErrOf result appends.Fault → CallsGoByPlan append_calls (D.plan (disk_of log.old)) (D.plan (disk_of log.new)) true }
+
     // Where memory runs out, the disk was not called.
     ensures untouched { IsErrOf result appends.NoMemory → D.content (disk_of log.new) ≡ D.content (disk_of log.old) }
     ensures untouched_faults { IsErrOf result appends.NoMemory → D.faults (disk_of log.new) ≡ D.faults (disk_of log.old) }
     ensures untouched_calls { IsErrOf result appends.NoMemory → D.calls (disk_of log.new) ≡ D.calls (disk_of log.old) }
     ensures untouched_writes { IsErrOf result appends.NoMemory → D.writes (disk_of log.new) ≡ D.writes (disk_of log.old) }
+    ensures untouched_plan { IsErrOf result appends.NoMemory → D.plan (disk_of log.new) ≡ D.plan (disk_of log.old) }
 {
     match wrote {
         None => {
@@ -148,11 +155,16 @@ pub(crate) fn write<D: Disk>(log: &mut RecordLog<D>, effects: Effects) -> Result
     ensures writes { OnOk result (D.writes (disk_of log.new) ≡ count_after (writes_of effects.wrote) (D.writes (disk_of log.old))) }
     ensures halted_calls { IfErr result (HaltsBy effects.wrote (IsAppendCount (D.calls (disk_of log.old)) (D.calls (disk_of log.new)))) }
 
+    // Where the disk shows its plan, it is a fault exactly where an order strikes one of the calls.
+    ensures plan { OnOk result (CallsGoByPlan (turn_calls effects.wrote) (D.plan (disk_of log.old)) (D.plan (disk_of log.new)) false) }
+    ensures halted_plan { IfErr result (HaltsBy effects.wrote (CallsGoByPlan append_calls (D.plan (disk_of log.old)) (D.plan (disk_of log.new)) true)) }
+
     // Where memory runs out, the disk was not called.
     ensures untouched { IsErrOf result turns.NoMemory → D.content (disk_of log.new) ≡ D.content (disk_of log.old) }
     ensures untouched_faults { IsErrOf result turns.NoMemory → D.faults (disk_of log.new) ≡ D.faults (disk_of log.old) }
     ensures untouched_calls { IsErrOf result turns.NoMemory → D.calls (disk_of log.new) ≡ D.calls (disk_of log.old) }
     ensures untouched_writes { IsErrOf result turns.NoMemory → D.writes (disk_of log.new) ≡ D.writes (disk_of log.old) }
+    ensures untouched_plan { IsErrOf result turns.NoMemory → D.plan (disk_of log.new) ≡ D.plan (disk_of log.old) }
 {
     records_follow();
     match append(log, &effects.wrote) {
