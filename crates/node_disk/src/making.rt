@@ -1,9 +1,10 @@
 //! A node is made.
-ghost use Rattle.std.specs.Prelude.{◌≡◌, ◌⊎◌, ◌≤◌, [], ◌∷◌, IfOk, IfErr, MatchResult};
+ghost use Rattle.std.specs.Prelude.{◌≡◌, ◌⊎◌, ◌≤◌, [], ◌∷◌, ◌++◌, false, true, IfOk, IfErr, MatchResult};
 ghost use Rattle.dtx_ports.specs.Causes.{Rose};
 ghost use Rattle.block_disk.specs.Images.{AtEachMoment, IsOnly};
 ghost use Rattle.redo_record.specs.declared.record.RedoRecord.TheVariants as records;
 ghost use Rattle.redo_log.specs.Log.{count_after};
+ghost use Rattle.redo_log.specs.Plans.{CallsGoByPlan, append_calls, begin_calls};
 ghost use Rattle.record_log.specs.Held.{HoldRecords};
 ghost use Rattle.node_rules.specs.Turn.{made};
 ghost use Rattle.ready_laws.specs.Ready.{IsReady};
@@ -37,7 +38,7 @@ fn first(alloc: Global, place: Place) -> Result<Memory, AllocError>
 impl<D: Disk> Node<D> {
     /// Makes a node of this place on an empty disk: its log has the record of its first start. Each error gives the disk back:
     /// `Fault` where the disk failed, and `NoMemory` where memory ran out or the disk had no room, and then no record was written.
-    #[tactic(auto, using(crate::proofs::MakeLaws::may_be_begun))]
+    #[tactic(auto, using(crate::proofs::MakeLaws::may_be_begun, crate::proofs::PlanLaws::none_after))]
     pub fn make(alloc: Global, disk: D, place: Place) -> Result<Node<D>, MakeErr<D>>
         requires { D.content disk ≡ [] }
         ensures kept { IfOk result (λ node. kept_of node ≡ made) }
@@ -56,6 +57,10 @@ impl<D: Disk> Node<D> {
         ensures unwritten { IfErr result (λ err. err.why ≡ makes.NoMemory → (D.content err.disk ≡ []) ⊎ HoldRecords [] (D.content err.disk)) }
         ensures calls { IfOk result (λ node. D.calls (disk_of node) ≡ count_after 6 (D.calls disk)) }
         ensures writes { IfOk result (λ node. D.writes (disk_of node) ≡ count_after 3 (D.writes disk)) }
+
+        // Where the disk shows its plan, it is a fault exactly where an order strikes one of the calls.
+        ensures plan { IfOk result (λ node. CallsGoByPlan (begin_calls ++ append_calls) (D.plan disk) (D.plan (disk_of node)) false) }
+        ensures fault_plan { IfErr result (λ err. err.why ≡ makes.Fault → CallsGoByPlan (begin_calls ++ append_calls) (D.plan disk) (D.plan err.disk) true) }
     {
         starts_are_ready();
         match first(alloc, place) {

@@ -1,10 +1,11 @@
 //! A node starts again.
-ghost use Rattle.std.specs.Prelude.{◌≡◌, ◌+◌, ◌<◌, ◌≤◌, ◌^◌, ℕ, List, [], ◌∷◌, ◌++◌, length, IfOk, IfErr, MatchResult};
+ghost use Rattle.std.specs.Prelude.{◌≡◌, ◌+◌, ◌<◌, ◌≤◌, ◌^◌, ℕ, List, [], ◌∷◌, ◌++◌, length, false, true, IfOk, IfErr, MatchResult};
 ghost use Rattle.dtx_ports.specs.Causes.{Rose};
 ghost use Rattle.block_disk.specs.Images.{AtEachMoment, IsOnly};
 ghost use Rattle.redo_record.specs.declared.record.RedoRecord.{RedoRecord as RedoRecordBy};
 ghost use Rattle.redo_record.specs.declared.record.RedoRecord.TheVariants as records;
 ghost use Rattle.redo_log.specs.Log.{count_after};
+ghost use Rattle.redo_log.specs.Plans.{CallsGoByPlan, append_calls, load_calls};
 ghost use Rattle.record_log.specs.Held.{HoldRecords, GrowsByRecord, HoldWithOrWithout};
 ghost use Rattle.record_log.specs.Log.{disk_of as disk_of_log, IsIntact, IsUsable};
 ghost use Rattle.node_rules.specs.Turn.{start_of};
@@ -67,6 +68,9 @@ pub(crate) fn begin<D: Disk>(
     ensures unfailed { IfErr result (λ err. err.why ≡ makes.NoMemory → D.faults err.disk ≡ D.faults (disk_of_log log)) }
     ensures calls { IfOk result (λ node. D.calls (disk_of node) ≡ count_after 4 (D.calls (disk_of_log log))) }
     ensures writes { IfOk result (λ node. D.writes (disk_of node) ≡ count_after 2 (D.writes (disk_of_log log))) }
+    ensures plan { IfOk result (λ node. CallsGoByPlan append_calls (D.plan (disk_of_log log)) (D.plan (disk_of node)) false) }
+    ensures fault_plan { IfErr result (λ err. err.why ≡ makes.Fault → CallsGoByPlan append_calls (D.plan (disk_of_log log)) (D.plan err.disk) true) }
+    ensures memory_plan { IfErr result (λ err. err.why ≡ makes.NoMemory → D.plan err.disk ≡ D.plan (disk_of_log log)) }
 {
     let mut log = log;
     match log.append(&RedoRecord::Boot(memory.boot)) {
@@ -106,6 +110,9 @@ fn begin_again<D: Disk>(
     ensures unfailed { IfErr result (λ err. err.why ≡ makes.NoMemory → D.faults err.disk ≡ D.faults (disk_of_log log)) }
     ensures calls { IfOk result (λ node. D.calls (disk_of node) ≡ count_after 4 (D.calls (disk_of_log log))) }
     ensures writes { IfOk result (λ node. D.writes (disk_of node) ≡ count_after 2 (D.writes (disk_of_log log))) }
+    ensures plan { IfOk result (λ node. CallsGoByPlan append_calls (D.plan (disk_of_log log)) (D.plan (disk_of node)) false) }
+    ensures fault_plan { IfErr result (λ err. err.why ≡ makes.Fault → CallsGoByPlan append_calls (D.plan (disk_of_log log)) (D.plan err.disk) true) }
+    ensures memory_plan { IfErr result (λ err. err.why ≡ makes.NoMemory → D.plan err.disk ≡ D.plan (disk_of_log log)) }
 {
     starts_are_ready();
     match started(alloc, place, records) {
@@ -127,7 +134,7 @@ impl<D: Disk> Node<D> {
     /// Starts a node of this place again, from its disk alone, whatever a crash has left of it: what it keeps is what its records
     /// say, and the record of this start stands behind them. Each error gives the disk back: `Fault` where the disk failed, and
     /// `NoMemory` where memory ran out or the disk had no room, and then nothing was written.
-    #[tactic(auto, using(crate::proofs::StartLaws::had_of, crate::proofs::StartLaws::startable_loaded, crate::proofs::StartLaws::startable_again))]
+    #[tactic(auto, using(crate::proofs::StartLaws::had_of, crate::proofs::StartLaws::startable_loaded, crate::proofs::StartLaws::startable_again, crate::proofs::PlanLaws::one_after, crate::proofs::PlanLaws::none_after))]
     pub fn start(alloc: Global, disk: D, place: Place) -> Result<Node<D>, MakeErr<D>>
         requires short { length (D.content disk) < 2 ^ 63 }
         requires startable { IsStartable (D.content disk) }
@@ -154,6 +161,10 @@ impl<D: Disk> Node<D> {
         ensures unwritten { IfErr result (λ err. err.why ≡ makes.NoMemory → D.content err.disk ≡ D.content disk) }
         ensures calls { IfOk result (λ node. D.calls (disk_of node) ≡ count_after 7 (D.calls disk)) }
         ensures writes { IfOk result (λ node. D.writes (disk_of node) ≡ count_after 2 (D.writes disk)) }
+
+        // Where the disk shows its plan, it is a fault exactly where an order strikes one of the calls.
+        ensures plan { IfOk result (λ node. CallsGoByPlan (load_calls (D.content disk) ++ append_calls) (D.plan disk) (D.plan (disk_of node)) false) }
+        ensures fault_plan { IfErr result (λ err. err.why ≡ makes.Fault → CallsGoByPlan (load_calls (D.content disk) ++ append_calls) (D.plan disk) (D.plan err.disk) true) }
     {
         match RecordLog::load(alloc, disk) {
             Ok((log, records)) => match begin_again(alloc, place, log, records.as_slice()) {
