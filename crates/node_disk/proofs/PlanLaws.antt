@@ -16,7 +16,7 @@ GoesOver calls more plan = (plan_after (calls ++ more) plan ≡ plan_after more 
 
 over_call : (struck : Bool) (next : Plan) (calls more : List Bool) → (strikes_any calls next ≡ false → GoesOver calls more next) → (struck || strikes_any calls next) ≡ false
     → ((if struck then next else plan_after (calls ++ more) next) ≡ plan_after more (if struck then next else plan_after calls next))
-        × ((struck || strikes_any (calls ++ more) next) ≡ strikes_any more (if struck then next else plan_after calls next))
+    × ((struck || strikes_any (calls ++ more) next) ≡ strikes_any more (if struck then next else plan_after calls next))
 unfolding GoesOver
 over_call true next calls more others none = absurd cc
 over_call false next calls more others none = others none

@@ -38,7 +38,7 @@ fn first(alloc: Global, place: Place) -> Result<Memory, AllocError>
 impl<D: Disk> Node<D> {
     /// Makes a node of this place on an empty disk: its log has the record of its first start. Each error gives the disk back:
     /// `Fault` where the disk failed, and `NoMemory` where memory ran out or the disk had no room, and then no record was written.
-    #[tactic(auto, using(crate::proofs::MakeLaws::may_be_begun, crate::proofs::PlanLaws::none_after))]
+    #[tactic(auto, using(crate::proofs::MakeLaws::may_be_begun))]
     pub fn make(alloc: Global, disk: D, place: Place) -> Result<Node<D>, MakeErr<D>>
         requires { D.content disk ≡ [] }
         ensures kept { IfOk result (λ node. kept_of node ≡ made) }

@@ -1,8 +1,10 @@
 -- A node that was made is ready and can take its next turn, and a crash at any moment leaves no record or that of the first start.
-use Rattle.std.proofs.Common.{[], ◌∙◌}
+use Rattle.std.proofs.Common.{true, false, [], ◌∙◌}
+use Rattle.redo_log.specs.Plans.{append_calls, begin_calls}
 use Rattle.record_log.specs.Log.{disk_of as disk_of_log}
 use Rattle.node_disk.specs.OnDisk.{place_of, kept_of, disk_of}
 use Rattle.node_disk.proofs.MakeLaws.{holds_first, ready_made, stands_made, may_be_made, may_be_empty}
+use Rattle.node_disk.proofs.PlanLaws.{one_after, none_after}
 use Rattle.node_disk.proofs.node.Node.make.Goals as goal
 
 pub returns-in-Ok-begin-clause-stored : goal.returns-in-Ok-begin-clause-stored
@@ -44,3 +46,20 @@ pub returns-in-Err-clause-any_moment : goal.returns-in-Err-clause-any_moment
 returns-in-Err-clause-any_moment g c only =
     let d = g.D.Disk in
     may_be_empty d.moment d.images_since c.args.disk (d.images c.args.disk) only c.stands_still.ensures
+
+pub returns-in-Ok-begin-clause-plan : goal.returns-in-Ok-begin-clause-plan
+returns-in-Ok-begin-clause-plan g c =
+    let d = g.D.Disk in
+    one_after begin_calls append_calls (d.plan c.args.disk) (d.plan (disk_of_log c.in-Ok-create.log)) (d.plan (disk_of c.in-Ok-begin.node)) false c.in-Ok-create.ensures.plan
+    c.in-Ok-begin.ensures.plan
+
+pub returns-in-Err-begin-clause-fault_plan : goal.returns-in-Err-begin-clause-fault_plan
+returns-in-Err-begin-clause-fault_plan g c is =
+    let d = g.D.Disk in
+    one_after begin_calls append_calls (d.plan c.args.disk) (d.plan (disk_of_log c.in-Ok-create.log)) (d.plan c.in-Err-begin.err.disk) true c.in-Ok-create.ensures.plan
+    (c.in-Err-begin.ensures.fault_plan is)
+
+pub returns-in-Err-create-clause-fault_plan : goal.returns-in-Err-create-clause-fault_plan
+returns-in-Err-create-clause-fault_plan g c is =
+    let d = g.D.Disk in
+    none_after begin_calls append_calls (d.plan c.args.disk) (d.plan c.in-Err-create.field-0.disk) (c.in-Err-create.ensures.fault_plan (c.create_why.ensures.fault is))
