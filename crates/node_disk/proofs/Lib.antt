@@ -1,0 +1,7 @@
+mod ReadLaws
+mod StoreLaws
+mod MomentLaws
+mod PlanLaws
+mod TurnLaws
+mod StartLaws
+mod MakeLaws

@@ -1,0 +1,130 @@
+-- A start: its record may stand next, and what the node keeps is what all its records say.
+use Rattle.std.proofs.Common.{◌≡◌, ℕ, ◌+◌, ◌<◌, ◌≤◌, ◌^◌, List, [], ◌∷◌, ◌++◌, inl, inr, refl, sym, subst, ap, ◌∙◌, arith}
+use Rattle.block_disk.specs.Images.{AtEachMoment}
+use Rattle.redo_record.specs.Durable.{durable_after}
+use Rattle.redo_log.proofs.Moments.{followed_by}
+use Rattle.record_log.specs.Records.{IsSpelled}
+use Rattle.record_log.specs.Held.{HoldRecords, HoldWithOrWithout}
+use Rattle.node_rules.specs.Data.{RedoRecord, Place}
+use Rattle.node_rules.specs.Data.records
+use Rattle.node_rules.specs.Kept.{Stored, Kept}
+use Rattle.node_rules.specs.Records.{nothing_stored, applied, stored_by, with_record}
+use Rattle.node_rules.specs.Turn.{start_of, kept_by}
+use Rattle.ready_laws.specs.Following.{MayFollow}
+use Rattle.ready_laws.specs.Sound.{IsNext}
+use Rattle.ready_laws.specs.Ready.{IsReady, StartsAreReady}
+use Rattle.node_memory.specs.declared.memory.Memory.{Memory}
+use Rattle.node_memory.specs.Parts.{stored_in, kept_in}
+use Rattle.node_disk.specs.Starts.{MayBeHad, IsStartable, IsButForAcks, last_boot, next_boot}
+use Rattle.node_disk.specs.OnDisk.{StandsOn}
+use Rattle.node_disk.proofs.TurnLaws.{stored_last, had_next}
+
+-- ---- the record of a start
+
+-- it can be written
+pub boot_spelled : (n : ℕ) → n < 2 ^ 32 → IsSpelled (records.Boot n)
+boot_spelled n low = record { fits = (tt, low); short = omega arith }
+
+-- it may follow any
+pub boot_may_follow : (s : Stored) (n : ℕ) → MayFollow s (records.Boot n)
+boot_may_follow s n = record { listed = tt; stored = tt }
+
+boot_next : (rs : List RedoRecord) → IsNext (stored_by nothing_stored rs) (next_boot rs)
+boot_next rs = (record { listed = tt; stored = tt }, omega arith)
+
+-- with it a node has records that it may have
+pub had_started : (rs : List RedoRecord) → MayBeHad rs → MayBeHad (rs ++ next_boot rs ∷ [])
+had_started rs had = had_next rs (next_boot rs) had (boot_next rs)
+
+-- ---- what the node keeps
+
+-- a node that starts keeps what it would with the record of the start behind the others
+kept_started : (s : Stored) (n : ℕ) → with_record (kept_by s) (records.Boot n) ≡ kept_by (applied s (records.Boot n))
+unfolding applied durable_after
+kept_started s n = refl
+
+pub started_so : (rs : List RedoRecord) (m : Memory) → kept_in m ≡ start_of rs → with_record (kept_in m) (records.Boot (m.boot + 1)) ≡ start_of (rs ++ next_boot rs ∷ [])
+unfolding start_of
+started_so rs m kept =
+    ap (λ (k : Kept). with_record k (records.Boot (k.stored.durable.boot + 1))) kept
+    ∙ (kept_started (stored_by nothing_stored rs) (last_boot rs + 1) ∙ ap kept_by (sym (stored_last nothing_stored rs (next_boot rs))))
+
+-- the number of the last start
+pub boot_so : (rs : List RedoRecord) (m : Memory) → kept_in m ≡ start_of rs → m.boot ≡ last_boot rs
+unfolding start_of
+boot_so rs m kept = ap (λ (k : Kept). k.stored.durable.boot) kept
+
+-- that of this start is one more
+pub boot_started : (rs : List RedoRecord) (m : Memory) → kept_in m ≡ start_of (rs ++ next_boot rs ∷ []) → m.boot ≡ last_boot rs + 1
+unfolding applied durable_after
+boot_started rs m kept = boot_so (rs ++ next_boot rs ∷ []) m kept ∙ ap (λ (s : Stored). s.durable.boot) (stored_last nothing_stored rs (next_boot rs))
+
+-- it is ready for its next turn
+pub ready_started : StartsAreReady → (p : Place) (rs : List RedoRecord) (k : Kept) → MayBeHad rs → k ≡ start_of (rs ++ next_boot rs ∷ []) → IsReady p k
+ready_started law p rs k had kept = subst (λ (x : Kept). IsReady p x) (sym kept) (law p rs (last_boot rs + 1) had.follow had.sound (omega arith))
+
+-- its records say what it stores
+stands_by : (rs : List RedoRecord) (m : Memory) (bytes : List ℕ) → HoldRecords rs bytes → MayBeHad rs → kept_in m ≡ start_of rs → StandsOn bytes (stored_in m)
+unfolding start_of
+stands_by rs m bytes hold had kept =
+    (rs, hold, had, subst (λ (s : Stored). IsButForAcks (stored_by nothing_stored rs) s) (sym (ap (λ (k : Kept). k.stored) kept)) refl)
+
+pub stands_started : (rs : List RedoRecord) (m : Memory) (bytes : List ℕ) → HoldRecords (rs ++ next_boot rs ∷ []) bytes → MayBeHad rs → kept_in m ≡ start_of (rs ++ next_boot rs ∷ []) → StandsOn bytes (stored_in m)
+stands_started rs m bytes hold had kept = stands_by (rs ++ next_boot rs ∷ []) m bytes hold (had_started rs had) kept
+
+-- ---- what was loaded
+
+pub had_of : (found : List RedoRecord) (bytes : List ℕ) → IsStartable bytes → ((rs : List RedoRecord) → HoldRecords rs bytes → found ≡ rs) → MayBeHad found
+had_of found bytes startable only = subst MayBeHad (sym (only startable.0 startable.1)) startable.2
+
+-- ---- at each moment
+
+module _ {D : Type 0} (moment : D → ℕ) (images_since : D → ℕ → List ℕ → Type 0) where
+  startable_boot : (rs : List RedoRecord) → MayBeHad rs → (image : List ℕ) → HoldWithOrWithout rs (next_boot rs) image → IsStartable image
+  startable_boot rs had image may = elim may [
+    | inl hold ↦ (rs, hold, had)
+    | inr hold ↦ (rs ++ next_boot rs ∷ [], hold, had_started rs had)
+  ]
+
+  -- while the record of a start is written
+  pub startable_begun : (old now : D) (rs : List RedoRecord) (boot : ℕ) → MayBeHad rs → boot ≡ last_boot rs + 1 → AtEachMoment moment images_since old now (HoldWithOrWithout rs (records.Boot boot))
+      → AtEachMoment moment images_since old now IsStartable
+  startable_begun old now rs boot had is moments =
+      let own = subst (λ (n : ℕ). AtEachMoment moment images_since old now (HoldWithOrWithout rs (records.Boot n))) is moments in
+      record {
+        later = own.later;
+        each = λ image since. startable_boot rs had image (own.each image since);
+        earlier = λ m image le since. elim (own.earlier m image le since) [
+          | inl before ↦ inl before
+          | inr here ↦ inr (startable_boot rs had image here)
+        ];
+      }
+
+  -- while nothing is written
+  pub startable_left : (old now : D) (rs : List RedoRecord) → MayBeHad rs → AtEachMoment moment images_since old now (HoldRecords rs) → AtEachMoment moment images_since old now IsStartable
+  startable_left old now rs had own = record {
+    later = own.later;
+    each = λ image since. (rs, own.each image since, had);
+    earlier = λ m image le since. elim (own.earlier m image le since) [
+      | inl before ↦ inl before
+      | inr here ↦ inr (rs, here, had)
+    ];
+  }
+
+  -- while the log is loaded
+  pub startable_loaded : (old now : D) (images : List ℕ → Type 0) → ((image : List ℕ) → images image → IsStartable image) → AtEachMoment moment images_since old now images
+      → AtEachMoment moment images_since old now IsStartable
+  startable_loaded old now images all own = record {
+    later = own.later;
+    each = λ image since. all image (own.each image since);
+    earlier = λ m image le since. elim (own.earlier m image le since) [
+      | inl before ↦ inl before
+      | inr here ↦ inr (all image here)
+    ];
+  }
+
+  -- and then a record is written
+  pub startable_again : (old mid now : D) (images : List ℕ → Type 0) → ((image : List ℕ) → images image → IsStartable image) → AtEachMoment moment images_since old mid images
+      → AtEachMoment moment images_since mid now IsStartable → AtEachMoment moment images_since old now IsStartable
+  startable_again old mid now images all first second =
+      followed_by moment images_since old mid now IsStartable IsStartable (startable_loaded old mid images all first) second (λ image is. is)

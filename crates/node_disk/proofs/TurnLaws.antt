@@ -1,0 +1,160 @@
+-- A turn on a disk: at each moment the disk holds records that a node can start from, and after the turn they say what the node
+-- stores.
+use Rattle.std.proofs.Common.{◌≡◌, ℕ, List, [], ◌∷◌, ◌++◌, map, Option, None, Some, inl, inr, refl, sym, subst, ap, ◌∙◌}
+use Rattle.std.specs.Prelude.{◌↔◌, IfSome, OnOk, Result, Ok, Err}
+use Rattle.std.specs.List.{AllByRecursion}
+use Rattle.block_disk.specs.Images.{AtEachMoment, IsOnly, AddsNone}
+use Rattle.record_log.specs.Records.{IsSpelled}
+use Rattle.record_log.specs.Held.{HoldRecords}
+use Rattle.record_log.specs.Log.{disk_of, IsIntact, IsUsable}
+use Rattle.record_log.specs.declared.log.RecordLog.{RecordLog}
+use Rattle.node_rules.specs.Data.{RedoRecord, Standing, Place, Input, Msg}
+use Rattle.node_rules.specs.Kept.{Stored, Kept, Outcome}
+use Rattle.node_rules.specs.Records.{nothing_stored, applied, stored_by}
+use Rattle.node_rules.specs.Turn.{turn_of}
+use Rattle.ready_laws.specs.Following.{MayFollow, MayAllFollow}
+use Rattle.ready_laws.specs.Sound.{IsSound, AreSound, IsNext, with_rows, RowsDoNotMatter}
+use Rattle.node_memory.specs.declared.memory.Memory.{Memory}
+use Rattle.node_memory.specs.Parts.{stored_in, kept_in}
+use Rattle.node_core.specs.declared.served.Served.{Served}
+use Rattle.node_core.specs.Able.{MayTake}
+use Rattle.node_core.specs.Serves.{Serves}
+use Rattle.node_disk.specs.declared.effects.Effects.{Effects}
+use Rattle.node_disk.specs.declared.incoming.Incoming.{Incoming}
+use Rattle.node_disk.specs.Incoming.{read_as, IsReadAs, record_of}
+use Rattle.node_disk.specs.Effects.{MayBeMailed, mailed, call_of, Tells}
+use Rattle.node_disk.specs.Starts.{MayBeHad, IsStartable, IsButForAcks, stored_next}
+use Rattle.node_disk.specs.Laws.{TurnsStoreTheirRecords}
+use Rattle.node_disk.specs.OnDisk.{IsSpellable, StandsOn, IsOpenFor, GrowsBy, MayStand}
+use Rattle.node_disk.proofs.StoreLaws.{but_for_both, next_but_for}
+use Rattle.node_disk.proofs.MomentLaws.{weaker}
+
+-- ---- one turn in memory
+
+pub stores_so : TurnsStoreTheirRecords → (m n : Memory) (input : Input) (served : Served) → MayTake m.place (kept_in m) input → Serves (turn_of m.place (kept_in m) input) (kept_in n) served
+    → IsButForAcks (stored_next (stored_in m) served.wrote) (stored_in n)
+stores_so law m n input served may serves =
+    subst (λ (w : Option RedoRecord). IsButForAcks (stored_next (stored_in m) w) (stored_in n)) (sym serves.wrote)
+    (subst (λ (k : Kept). IsButForAcks (stored_next (stored_in m) (turn_of m.place (kept_in m) input).wrote) k.stored) (sym serves.after) (law m.place (kept_in m) input may.expected.fit))
+
+pub sent_spelled : (o : Outcome) (k : Kept) (served : Served) → Serves o k served → AllByRecursion MayBeMailed o.sent → AllByRecursion MayBeMailed served.sent
+sent_spelled o k served serves all = subst (λ (msgs : List Msg). AllByRecursion MayBeMailed msgs) (sym serves.sent) all
+
+pub tells_so : (o : Outcome) (k : Kept) (served : Served) (e : Effects) → Serves o k served → e.wrote ≡ served.wrote → e.sent ≡ map mailed served.sent → map call_of e.ended ≡ served.ended → Tells o k e
+tells_so o k served e serves wrote sent ended = record {
+  after = serves.after;
+  wrote = wrote ∙ serves.wrote;
+  sent = sent ∙ ap (λ (msgs : List Msg). map mailed msgs) serves.sent;
+  ended = ended ∙ serves.ended;
+}
+
+pub wrote_so : (o : Outcome) (k : Kept) (served : Served) (e : Effects) → Serves o k served → e.wrote ≡ served.wrote → IsSpellable o → IfSome e.wrote IsSpelled
+wrote_so o k served e serves wrote spellable = subst (λ (w : Option RedoRecord). IfSome w IsSpelled) (sym (wrote ∙ serves.wrote)) spellable.wrote
+
+pub follows_so : (s : Stored) (served : Served) (e : Effects) → e.wrote ≡ served.wrote → IfSome served.wrote (IsNext s) → IfSome e.wrote (IsNext s)
+follows_so s served e wrote next = subst (λ (w : Option RedoRecord). IfSome w (IsNext s)) (sym wrote) next
+
+pub stored_so : (s t : Stored) (served : Served) (e : Effects) → e.wrote ≡ served.wrote → IsButForAcks (stored_next s served.wrote) t → IsButForAcks (stored_next s e.wrote) t
+stored_so s t served e wrote stores = subst (λ (w : Option RedoRecord). IsButForAcks (stored_next s w) t) (sym wrote) stores
+
+-- what was read is what the turn is over
+pub tells_as : (p : Place) (k new : Kept) (i : Input) (e : Effects) → e.input ≡ i → Tells (turn_of p k i) new e → Tells (turn_of p k e.input) new e
+tells_as p k new i e is tells = subst (λ (j : Input). Tells (turn_of p k j) new e) (sym is) tells
+
+pub wrote_as : (p : Place) (k new : Kept) (incoming : Incoming) (i : Input) (e : Effects) → IsReadAs incoming i → Tells (turn_of p k i) new e → e.wrote ≡ record_of p k (read_as incoming)
+wrote_as p k new incoming i e read tells = tells.wrote ∙ ap (record_of p k) (sym read)
+
+-- ---- records
+
+pub stored_last : (s : Stored) (rs : List RedoRecord) (r : RedoRecord) → stored_by s (rs ++ r ∷ []) ≡ applied (stored_by s rs) r
+unfolding stored_by
+stored_last s [] r = refl
+stored_last s (x ∷ xs) r = stored_last (applied s x) xs r
+
+follow_last : (s : Stored) (rs : List RedoRecord) (r : RedoRecord) → MayAllFollow s rs → MayFollow (stored_by s rs) r → MayAllFollow s (rs ++ r ∷ [])
+unfolding stored_by MayAllFollow
+follow_last s [] r all next = (next, tt)
+follow_last s (x ∷ xs) r all next = (all.0, follow_last (applied s x) xs r all.1 next)
+
+sound_last : (s : Stored) (rs : List RedoRecord) (r : RedoRecord) → AreSound s rs → IsSound (stored_by s rs) r → AreSound s (rs ++ r ∷ [])
+unfolding stored_by AreSound
+sound_last s [] r all next = (next, tt)
+sound_last s (x ∷ xs) r all next = (all.0, sound_last (applied s x) xs r all.1 next)
+
+-- one more record that may stand next
+pub had_next : (rs : List RedoRecord) (r : RedoRecord) → MayBeHad rs → IsNext (stored_by nothing_stored rs) r → MayBeHad (rs ++ r ∷ [])
+had_next rs r had next = record { follow = follow_last nothing_stored rs r had.follow next.0; sound = sound_last nothing_stored rs r had.sound next.1 }
+
+-- a record that may stand next where Acks were noted may do so without them
+next_unnoted : RowsDoNotMatter → (s t : Stored) (r : RedoRecord) → IsButForAcks s t → IsNext t r → IsNext s r
+next_unnoted law s t r is next = law (with_rows s t.durable.kept) s.durable.kept r (subst (λ (x : Stored). IsNext x r) is next)
+
+-- ---- at each moment
+
+module _ {D : Type 0} (moment : D → ℕ) (images_since : D → ℕ → List ℕ → Type 0) where
+  startable_by : RowsDoNotMatter → (s : Stored) (rs : List RedoRecord) (w : Option RedoRecord) → MayBeHad rs → IsButForAcks (stored_by nothing_stored rs) s → IfSome w (IsNext s)
+      → (image : List ℕ) → MayStand rs w image → IsStartable image
+  startable_by law s rs None had is next image hold = (rs, hold, had)
+  startable_by law s rs (Some r) had is next image may = elim may [
+    | inl hold ↦ (rs, hold, had)
+    | inr hold ↦ (rs ++ r ∷ [], hold, had_next rs r had (next_unnoted law (stored_by nothing_stored rs) s r is next))
+  ]
+
+  -- while the record of a turn is written, the disk holds records that a node can start from
+  pub startable_while : RowsDoNotMatter → (old now : D) (before : List ℕ) (s : Stored) (w : Option RedoRecord) → StandsOn before s → IfSome w (IsNext s)
+      → ((rs : List RedoRecord) → HoldRecords rs before → AtEachMoment moment images_since old now (MayStand rs w)) → AtEachMoment moment images_since old now IsStartable
+  startable_while law old now before s w stands next moments =
+      weaker moment images_since old now (MayStand stands.0 w) IsStartable (moments stands.0 stands.1) (startable_by law s stands.0 w stands.2 stands.3 next)
+
+-- ---- after the turn
+
+holds_by : (rs : List RedoRecord) (w : Option RedoRecord) (before now : List ℕ) → GrowsBy w before now → HoldRecords rs before → MayStand rs w now
+holds_by rs None before now grows hold = subst (λ (bytes : List ℕ). HoldRecords rs bytes) (sym grows) hold
+holds_by rs (Some r) before now grows hold = inr (grows rs hold)
+
+-- the records of the disk say what the node stores
+pub stands_next : RowsDoNotMatter → (before now : List ℕ) (s t : Stored) (w : Option RedoRecord) → StandsOn before s → IfSome w (IsNext s) → IsButForAcks (stored_next s w) t → GrowsBy w before now → StandsOn now t
+stands_next law before now s t None stands next stores grows =
+    (stands.0, holds_by stands.0 None before now grows stands.1, stands.2, but_for_both (stored_by nothing_stored stands.0) s t stands.3 stores)
+stands_next law before now s t (Some r) stands next stores grows =
+    let rs = stands.0 in
+    let under = stored_by nothing_stored rs in
+    let next_stored : IsButForAcks (applied under r) t = but_for_both (applied under r) (applied s r) t (next_but_for under s (Some r) stands.3) stores in (
+      rs ++ r ∷ [],
+      grows rs stands.1,
+      had_next rs r stands.2 (next_unnoted law under s r stands.3 next),
+      subst (λ (x : Stored). IsButForAcks x t) (sym (stored_last nothing_stored rs r)) next_stored,
+    )
+
+-- records that an image holds without the one of the turn
+may_stand : (rs : List RedoRecord) (w : Option RedoRecord) (image : List ℕ) → HoldRecords rs image → MayStand rs w image
+may_stand rs None image hold = hold
+may_stand rs (Some r) image hold = inl hold
+
+module _ {D : Type 0} (moment : D → ℕ) (images_since : D → ℕ → List ℕ → Type 0) where
+  -- a turn that wrote nothing
+  pub stand_still : (disk : D) (rs : List RedoRecord) (w : Option RedoRecord) → AtEachMoment moment images_since disk disk (HoldRecords rs) → AtEachMoment moment images_since disk disk (MayStand rs w)
+  stand_still disk rs w own = weaker moment images_since disk disk (HoldRecords rs) (MayStand rs w) own (may_stand rs w)
+
+  pub startable_still : (disk : D) (bytes : List ℕ) (s : Stored) → StandsOn bytes s → ((rs : List RedoRecord) → HoldRecords rs bytes → AtEachMoment moment images_since disk disk (HoldRecords rs))
+      → AtEachMoment moment images_since disk disk IsStartable
+  startable_still disk bytes s stands own =
+      weaker moment images_since disk disk (HoldRecords stands.0) IsStartable (own stands.0 stands.1) (λ image hold. (stands.0, hold, stands.2))
+
+-- ---- the next turn
+
+-- at Ok the node is running again
+pub opens_on : {T E D : Type 0} (content : D → List ℕ) (images : D → List ℕ → Type 0) (log : RecordLog D) (s : Stored) (r : Result T E) → OnOk r (IsUsable content images log) → OnOk r (IsIntact log)
+    → OnOk r (IsOnly (content (disk_of log)) (images (disk_of log))) → OnOk r (StandsOn (content (disk_of log)) s) → OnOk r (IsOpenFor content images log s)
+opens_on content images log s (Ok v) usable intact durable stands = record { usable = usable; intact = intact; durable = durable; stands = stands }
+opens_on content images log s (Err e) usable intact durable stands = tt
+
+-- a disk that takes an order has no new image, and the node goes on as it was
+pub still_open : {D : Type 0} (content : D → List ℕ) (images : D → List ℕ → Type 0) (old new : RecordLog D) (s : Stored) → (IsUsable content images old → IsUsable content images new) → (IsIntact old ↔ IsIntact new)
+    → content (disk_of new) ≡ content (disk_of old) → AddsNone (images (disk_of old)) (images (disk_of new)) → IsOpenFor content images old s → IsOpenFor content images new s
+still_open content images old new s usable intact same adds runs = record {
+  usable = usable runs.usable;
+  intact = intact.0 runs.intact;
+  durable = λ image is. runs.durable image (adds image is) ∙ sym same;
+  stands = subst (λ (bytes : List ℕ). StandsOn bytes s) (sym same) runs.stands;
+}

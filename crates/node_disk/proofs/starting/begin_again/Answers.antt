@@ -1,0 +1,41 @@
+-- A node that started again is ready and can take its next turn, and a crash at any moment leaves a disk to start from.
+use Rattle.std.proofs.Common.{ℕ, List, ◌∷◌, [], ◌++◌, ◌∙◌, subst}
+use Rattle.redo_record.specs.declared.record.RedoRecord.TheVariants as records
+use Rattle.record_log.specs.Held.{HoldRecords}
+use Rattle.record_log.specs.Log.{disk_of as disk_of_log}
+use Rattle.node_disk.specs.Starts.{next_boot}
+use Rattle.node_disk.specs.OnDisk.{place_of, kept_of, disk_of}
+use Rattle.node_disk.proofs.StartLaws.{ready_started, stands_started, startable_begun}
+use Rattle.node_disk.proofs.starting.begin_again.Goals as goal
+
+pub returns-in-Ok-begin-clause-running : goal.returns-in-Ok-begin-clause-running
+returns-in-Ok-begin-clause-running g c =
+    let d = g.D.Disk in
+    let rs = c.args.records.now in
+    let node = c.in-Ok-begin.node in
+    let began = c.in-Ok-begin.ensures in
+    let bytes = d.content (disk_of node) in
+    let hold = subst (λ (n : ℕ). HoldRecords (rs ++ records.Boot n ∷ []) bytes) c.in-Ok.ensures.boot (began.stored rs c.requires.held) in
+    record {
+      usable = began.usable;
+      intact = began.intact;
+      durable = began.durable;
+      stands = stands_started rs node.memory bytes hold c.requires.had (began.kept ∙ c.in-Ok.ensures.kept);
+    }
+
+pub returns-in-Ok-begin-clause-ready : goal.returns-in-Ok-begin-clause-ready
+returns-in-Ok-begin-clause-ready g c =
+    let node = c.in-Ok-begin.node in
+    ready_started c.starts_are_ready.ensures (place_of node) c.args.records.now (kept_of node) c.requires.had (c.in-Ok-begin.ensures.kept ∙ c.in-Ok.ensures.kept)
+
+pub returns-in-Ok-begin-clause-startable : goal.returns-in-Ok-begin-clause-startable
+returns-in-Ok-begin-clause-startable g c =
+    let d = g.D.Disk in
+    let rs = c.args.records.now in
+    startable_begun d.moment d.images_since (disk_of_log c.args.log) (disk_of c.in-Ok-begin.node) rs c.in-Ok.memory.boot c.requires.had c.in-Ok.ensures.boot (c.in-Ok-begin.ensures.any_moment rs c.requires.held)
+
+pub returns-in-Err-begin-clause-startable : goal.returns-in-Err-begin-clause-startable
+returns-in-Err-begin-clause-startable g c =
+    let d = g.D.Disk in
+    let rs = c.args.records.now in
+    startable_begun d.moment d.images_since (disk_of_log c.args.log) c.in-Err-begin.err.disk rs c.in-Ok.memory.boot c.requires.had c.in-Ok.ensures.boot (c.in-Err-begin.ensures.any_moment rs c.requires.held)

@@ -1,0 +1,13 @@
+-- The number of a start is one more than the last one.
+use Rattle.std.proofs.Common.{◌∙◌, arith}
+use Rattle.node_disk.proofs.StartLaws.{boot_so, boot_started, started_so}
+use Rattle.node_disk.proofs.starting.started.Goals as goal
+
+pub overflow_add-boot : goal.overflow_add-boot
+overflow_add-boot c = omega (arith, boot_so c.args.records.now c.in_ok-memory.memory c.in_ok-memory.ensures.kept, c.requires.boots)
+
+pub returns-clause-boot : goal.returns-clause-boot
+returns-clause-boot c =
+    let rs = c.args.records.now in
+    let before = c.in_ok-memory.memory in
+    boot_started rs c.take_in.new.self (c.in_ok-take_in.ensures.kept ∙ started_so rs before c.in_ok-memory.ensures.kept)

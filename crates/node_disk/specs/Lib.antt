@@ -1,0 +1,5 @@
+pub mod Incoming
+pub mod Effects
+pub mod Starts
+pub mod OnDisk
+pub mod Laws

@@ -1,0 +1,40 @@
+-- What a node can start from.
+use Rattle.std.specs.Prelude.{◌≡◌, ◌⊎◌, ◌+◌, ℕ, List, [], ◌∷◌, Option, Some, None}
+use Rattle.redo_log.specs.Log.{MayBeBegun}
+use Rattle.record_log.specs.Held.{HoldRecords, HoldWithOrWithout}
+use Rattle.node_rules.specs.Data.{RedoRecord}
+use Rattle.node_rules.specs.Data.records
+use Rattle.node_rules.specs.Kept.{Stored}
+use Rattle.node_rules.specs.Records.{nothing_stored, applied, stored_by}
+use Rattle.ready_laws.specs.Following.{MayAllFollow}
+use Rattle.ready_laws.specs.Sound.{AreSound, with_rows}
+
+-- Records that a node may have: each may stand next behind those before it, and is sound.
+pub record MayBeHad (rs : List RedoRecord) : Type 0 where
+  pub follow : MayAllFollow nothing_stored rs
+  pub sound : AreSound nothing_stored rs
+
+-- bytes that hold such records
+abbrev pub IsStartable : List ℕ → Type 0
+IsStartable bytes = (rs : List RedoRecord) × HoldRecords rs bytes × MayBeHad rs
+
+-- the number of the last start
+abbrev pub last_boot : List RedoRecord → ℕ
+last_boot rs = (stored_by nothing_stored rs).durable.boot
+
+-- the record of the next start
+abbrev pub next_boot : List RedoRecord → RedoRecord
+next_boot rs = records.Boot (last_boot rs + 1)
+
+-- the same is stored, but for the Acks that were noted in rows of kept branches
+abbrev pub IsButForAcks : Stored → Stored → Type 0
+IsButForAcks s t = t ≡ with_rows s t.durable.kept
+
+-- what is stored when a record stands next, where there is one
+abbrev pub stored_next : Stored → Option RedoRecord → Stored
+stored_next s None = s
+stored_next s (Some r) = applied s r
+
+-- while a node is made its disk holds nothing, or at most the record of its first start
+abbrev pub MayBeMade : List ℕ → Type 0
+MayBeMade image = MayBeBegun image ⊎ HoldWithOrWithout [] (records.Boot 1) image

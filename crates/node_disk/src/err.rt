@@ -1,0 +1,85 @@
+//! Why there is no node, and why a turn came to no end.
+ghost use Rattle.std.specs.Prelude.{◌≡◌};
+ghost use Rattle.redo_log.specs.declared.err.MakeWhy.TheVariants as logs;
+ghost use Rattle.record_log.specs.declared.err.LoadWhy.TheVariants as loads;
+ghost use Rattle.record_log.specs.declared.err.AppendErr.TheVariants as appends;
+ghost use Rattle.node_disk.specs.declared.err.MakeWhy.TheVariants as makes;
+ghost use Rattle.node_disk.specs.declared.err.TurnErr.TheVariants as turns;
+
+use record_log::{AppendErr, LoadWhy};
+use redo_record::RedoRecord;
+use std::alloc::AllocError;
+use wire_msg::Input;
+
+/// Why a node was not made or started.
+#[derive(Clone, Copy, Debug, PartialEq, Eq)]
+pub enum MakeWhy {
+    /// The disk failed.
+    Fault,
+    /// There was no memory, or no room on the disk.
+    NoMemory,
+}
+
+/// A node that was not made or started.
+#[derive(Debug, Drop)]
+pub struct MakeErr<D> {
+    /// The disk that was given.
+    pub disk: D,
+    /// Why there is no node.
+    pub why: MakeWhy,
+}
+
+/// Why a turn came to no end. The node takes no further turn.
+#[derive(Debug, Drop)]
+pub enum TurnErr {
+    /// The disk failed while the record was appended. The disk has it, or has not.
+    Halted {
+        /// What came, as it was read.
+        input: Input,
+        /// The record.
+        tried: RedoRecord,
+    },
+    /// There was no memory, or no room on the disk. The disk is as it was.
+    NoMemory,
+}
+
+impl From<AllocError> for TurnErr {
+    ghost from_gives = { λ _ e. e ≡ turns.NoMemory };
+
+    fn from(_: AllocError) -> TurnErr {
+        TurnErr::NoMemory
+    }
+}
+
+/// Why no node was made whose log was not made.
+pub(crate) fn create_why(why: redo_log::MakeWhy) -> MakeWhy
+    ensures fault { result ≡ makes.Fault → why ≡ logs.Fault }
+    ensures memory { result ≡ makes.NoMemory → why ≡ logs.NoMemory }
+{
+    match why {
+        redo_log::MakeWhy::Fault => MakeWhy::Fault,
+        redo_log::MakeWhy::NoMemory => MakeWhy::NoMemory,
+    }
+}
+
+/// Why no node was started whose log was not loaded.
+pub(crate) fn load_why(why: LoadWhy) -> MakeWhy
+    ensures fault { result ≡ makes.Fault → why ≡ loads.Fault }
+    ensures memory { result ≡ makes.NoMemory → why ≡ loads.NoMemory }
+{
+    match why {
+        LoadWhy::Fault => MakeWhy::Fault,
+        LoadWhy::NoMemory => MakeWhy::NoMemory,
+    }
+}
+
+/// Why there is no node whose start was not written.
+pub(crate) fn append_why(why: AppendErr) -> MakeWhy
+    ensures fault { result ≡ makes.Fault → why ≡ appends.Fault }
+    ensures memory { result ≡ makes.NoMemory → why ≡ appends.NoMemory }
+{
+    match why {
+        AppendErr::Fault => MakeWhy::Fault,
+        AppendErr::NoMemory => MakeWhy::NoMemory,
+    }
+}
