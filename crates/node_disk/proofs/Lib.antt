@@ -5,3 +5,4 @@ mod PlanLaws
 mod TurnLaws
 mod StartLaws
 mod MakeLaws
+mod PointLaws

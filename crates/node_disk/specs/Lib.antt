@@ -3,3 +3,4 @@ pub mod Effects
 pub mod Starts
 pub mod OnDisk
 pub mod Laws
+pub mod Points

@@ -15,6 +15,7 @@ mod laws;
 mod mailing;
 mod making;
 mod node;
+mod points;
 mod starting;
 mod writing;
 
@@ -24,3 +25,4 @@ pub use finished::Finished;
 pub use incoming::Incoming;
 pub use laws::turns_store_their_records;
 pub use node::Node;
+pub use points::{Armed, stops_after, stops_before};
