@@ -1,5 +1,5 @@
 -- A start: its record may stand next, and what the node keeps is what all its records say.
-use Rattle.std.proofs.Common.{◌≡◌, ℕ, ◌+◌, ◌<◌, ◌≤◌, ◌^◌, List, [], ◌∷◌, ◌++◌, inl, inr, refl, sym, subst, ap, ◌∙◌, arith}
+use Rattle.std.proofs.Common.{◌≡◌, ℕ, ◌+◌, ◌<◌, ◌^◌, List, [], ◌∷◌, ◌++◌, inl, inr, refl, sym, subst, ap, ◌∙◌, arith}
 use Rattle.block_disk.specs.Images.{AtEachMoment}
 use Rattle.redo_record.specs.Durable.{durable_after}
 use Rattle.redo_log.proofs.Moments.{followed_by}

@@ -8,7 +8,7 @@ use Rattle.record_log.specs.Records.{IsSpelled}
 use Rattle.record_log.specs.Held.{HoldRecords}
 use Rattle.record_log.specs.Log.{disk_of, IsIntact, IsUsable}
 use Rattle.record_log.specs.declared.log.RecordLog.{RecordLog}
-use Rattle.node_rules.specs.Data.{RedoRecord, Standing, Place, Input, Msg}
+use Rattle.node_rules.specs.Data.{RedoRecord, Place, Input, Msg}
 use Rattle.node_rules.specs.Kept.{Stored, Kept, Outcome}
 use Rattle.node_rules.specs.Records.{nothing_stored, applied, stored_by}
 use Rattle.node_rules.specs.Turn.{turn_of}

@@ -1,5 +1,5 @@
 -- What a turn tells: its messages with their bytes, the calls that ended, and its record.
-use Rattle.std.specs.Prelude.{◌≡◌, List, map, Option, Some}
+use Rattle.std.specs.Prelude.{◌≡◌, map, Option, Some}
 use Rattle.msg_codec.specs.Fits.{KindFits}
 use Rattle.msg_codec.specs.Message.{msg_format}
 use Rattle.node_rules.specs.Data.{RedoRecord, Msg, Input}

@@ -1,5 +1,5 @@
 -- What a node can start from.
-use Rattle.std.specs.Prelude.{◌≡◌, ◌⊎◌, ◌+◌, ℕ, List, [], ◌∷◌, Option, Some, None}
+use Rattle.std.specs.Prelude.{◌≡◌, ◌⊎◌, ◌+◌, ℕ, List, [], Option, Some, None}
 use Rattle.redo_log.specs.Log.{MayBeBegun}
 use Rattle.record_log.specs.Held.{HoldRecords, HoldWithOrWithout}
 use Rattle.node_rules.specs.Data.{RedoRecord}

@@ -1,9 +1,8 @@
 -- A node that started again is ready and can take its next turn, and a crash at any moment leaves a disk to start from.
-use Rattle.std.proofs.Common.{ℕ, List, ◌∷◌, [], ◌++◌, ◌∙◌, subst}
+use Rattle.std.proofs.Common.{ℕ, ◌∷◌, [], ◌++◌, ◌∙◌, subst}
 use Rattle.redo_record.specs.declared.record.RedoRecord.TheVariants as records
 use Rattle.record_log.specs.Held.{HoldRecords}
 use Rattle.record_log.specs.Log.{disk_of as disk_of_log}
-use Rattle.node_disk.specs.Starts.{next_boot}
 use Rattle.node_disk.specs.OnDisk.{place_of, kept_of, disk_of}
 use Rattle.node_disk.proofs.StartLaws.{ready_started, stands_started, startable_begun}
 use Rattle.node_disk.proofs.starting.begin_again.Goals as goal
