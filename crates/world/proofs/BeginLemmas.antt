@@ -1,5 +1,5 @@
 -- The world before anything happened is that of a run in which nothing has happened.
-use Rattle.std.proofs.Common.{◌≡◌, ℕ, zero, suc, List, [], ◌∷◌, length, map, replicate, unwrap_or, Option, Some, None, refl, ap, sym, rw, ◌∙◌}
+use Rattle.std.proofs.Common.{◌≡◌, ℕ, zero, suc, List, [], ◌∷◌, length, map, replicate, unwrap_or, Option, Some, None, refl, ap, sym, ◌∙◌}
 use Rattle.std.specs.List.{slice_get}
 use Rattle.std.specs.Option.{option_map}
 use Rattle.std.proofs.lemmas.Option.{slice_get-map}
@@ -25,20 +25,20 @@ made_at : (places : List Place) (sites : List Site) (i : ℕ) (site : Site) → 
 made_at [] [] i site are is = absurd cc
 made_at [] (s ∷ ss) i site are is = absurd are
 made_at (p ∷ ps) [] i site are is = absurd are
-made_at (p ∷ ps) (s ∷ ss) zero site are is = (p, (refl, subst (λ (x : Site). IsMade p x) cc are.0))
+made_at (p ∷ ps) (s ∷ ss) zero site are is = (p, refl, subst (λ (x : Site). IsMade p x) cc are.0)
 made_at (p ∷ ps) (s ∷ ss) (suc i) site are is = made_at ps ss i site are.1 is
 
 pub made_sites : (places : List Place) (sites : List Site) → AreMade places sites → SitesAre places (start places) sites
 made_sites places sites are zero site is = absurd cc
 made_sites places sites are (suc i) site is =
     let found = made_at places sites i site are is in
-    let nodes = slice_get-map (λ (p : Place). Some made) places i ∙ ap (option_map (λ (p : Place). Some made)) found.1.0 in
-    let disks = slice_get-map (λ (p : Place). records.Boot 1 ∷ []) places i ∙ ap (option_map (λ (p : Place). records.Boot 1 ∷ [])) found.1.0 in
+    let nodes = slice_get-map (λ (p : Place). Some made) places i ∙ ap (option_map (λ (p : Place). Some made)) found.1 in
+    let disks = slice_get-map (λ (p : Place). records.Boot 1 ∷ []) places i ∙ ap (option_map (λ (p : Place). records.Boot 1 ∷ [])) found.1 in
     record {
-      kept = found.1.1.kept ∙ sym (ap flat nodes);
-      runs = rw (found.1.0) found.1.1.runs;
-      holds = rw (disks) found.1.1.holds;
-      starts = found.1.1.starts;
+      kept = found.2.kept ∙ sym (ap flat nodes);
+      runs = rw (found.1) found.2.runs;
+      holds = rw (disks) found.2.holds;
+      starts = found.2.starts;
     }
 
 -- each node has started once

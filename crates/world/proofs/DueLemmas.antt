@@ -1,5 +1,5 @@
 -- What is known where it is asked what is due, by the parts of the world.
-use Rattle.std.proofs.Common.{◌≡◌, ◌+◌, ◌<◌, ℕ, Bool, List, [], ◌∷◌, length, slice_get, is_some, Option, Some, None, refl, sym, ap, rw, ◌∙◌}
+use Rattle.std.proofs.Common.{◌≡◌, ◌+◌, ◌<◌, ℕ, Bool, List, [], ◌∷◌, length, slice_get, is_some, Option, Some, None, refl, sym, ap, ◌∙◌}
 use Rattle.node_rules.specs.Words.{numbered}
 use Rattle.node_rules.specs.Kept.{Kept}
 use Rattle.run_laws.specs.Facts.{Facts, flat, node_at}

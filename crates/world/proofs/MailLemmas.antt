@@ -1,5 +1,5 @@
 -- Messages that are sent one after the other.
-use Rattle.std.proofs.Common.{◌≡◌, ◌+◌, List, [], ◌∷◌, ◌++◌, length, ℕ, if◌then◌else◌, Bool, true, false, refl, ap, sym, rw, ◌∙◌}
+use Rattle.std.proofs.Common.{◌≡◌, ◌+◌, List, [], ◌∷◌, ◌++◌, length, ℕ, if◌then◌else◌, Bool, true, false, refl, ap, sym, ◌∙◌}
 use Rattle.node_rules.specs.Data.{Msg}
 use Rattle.net_bag.specs.Net.{Net, sent_on, sent_one, lost_at_once, is_lost_at_once}
 

@@ -1,5 +1,5 @@
 -- Sites stay as they are where a happening touches neither nodes nor records.
-use Rattle.std.proofs.Common.{◌≡◌, ◌==◌, if◌then◌else◌, ℕ, List, Option, Some, None, refl, sym, ap, subst, rw, ◌∙◌}
+use Rattle.std.proofs.Common.{◌≡◌, ◌==◌, if◌then◌else◌, ℕ, List, Option, Some, None, refl, sym, ap, subst, ◌∙◌}
 use Rattle.block_disk.specs.MemDisk.{DiskState}
 use Rattle.record_log.specs.Held.{HoldRecords}
 use Rattle.node_rules.specs.Data.{Place, RedoRecord}

@@ -1,5 +1,5 @@
 -- The world after a start.
-use Rattle.std.proofs.Common.{◌≡◌, ◌+◌, ℕ, Bool, true, false, List, Option, Some, None, refl, rw}
+use Rattle.std.proofs.Common.{◌≡◌, ◌+◌, ℕ, Bool, true, false, List, Option, Some, None, refl}
 use Rattle.node_rules.specs.Data.{Place}
 use Rattle.node_rules.specs.Words.{set_numbered}
 use Rattle.node_rules.specs.Turn.{start_of}

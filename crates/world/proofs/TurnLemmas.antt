@@ -1,5 +1,5 @@
 -- A turn that is due is the happening that comes next, and what it leaves.
-use Rattle.std.proofs.Common.{◌≡◌, ℕ, Bool, true, false, if◌then◌else◌, List, [], map, Option, Some, None, refl, ap, sym, rw, ◌∙◌}
+use Rattle.std.proofs.Common.{◌≡◌, ℕ, Bool, true, false, if◌then◌else◌, List, [], map, Option, Some, None, refl, ap, sym, ◌∙◌}
 use Rattle.node_rules.specs.Data.{RedoRecord, Place, Input, Msg}
 use Rattle.node_rules.specs.Kept.{Kept, Outcome}
 use Rattle.node_rules.specs.Turn.{turn_of}
@@ -18,7 +18,7 @@ module _ (places : List Place) (p : Past) where
       → happens places p d ≡ turn_at places p.telling n input took (node_at p.facts n)
   turn_happens (Pends c) n input took due is = rw (due.0, due.1, is) refl
   turn_happens (Gives_up m session) n input took due is = rw (due.0, due.1, is) refl
-  turn_happens (Delivers k again) n input took due is = rw (due.1.0, due.1.1.0, due.1.1.1, is) refl
+  turn_happens (Delivers k again) n input took due is = rw (due.1, due.2, due.3, is) refl
   turn_happens (Recovers m) n input took due is = rw (due.0, due.1, is) refl
   turn_happens (Tells k) n input took due is = absurd due
   turn_happens (Falls m) n input took due is = absurd due

@@ -24,7 +24,7 @@ pub(crate) fn losses_of(alloc: Global, numbers: Vec<u64>) -> Result<VecDeque<u64
 
 impl World {
     /// A loss is told.
-    #[tactic(auto, using(crate::proofs::NetworkLemmas::network_steps, crate::proofs::SiteLemmas::sites_stay, run_trace::proofs::ExtendsLemmas::extends_steps))]
+    #[tactic(auto, using(crate::proofs::NetworkLemmas::network_steps, run_trace::proofs::ExtendsLemmas::extends_steps))]
     pub(crate) fn tell_loss(&mut self, alloc: Global, k: u64) -> Result<(), AllocError>
         requires linked { IsLinked self.old }
         requires due { due_in self.old.trace ≡ Tells k }
@@ -39,7 +39,7 @@ impl World {
     }
 
     /// LOSE: the message in flight is lost.
-    #[tactic(auto, using(crate::proofs::NetworkLemmas::network_steps, crate::proofs::SiteLemmas::sites_stay, run_trace::proofs::ExtendsLemmas::extends_steps))]
+    #[tactic(auto, using(crate::proofs::NetworkLemmas::network_steps, run_trace::proofs::ExtendsLemmas::extends_steps))]
     pub(crate) fn lose(&mut self, alloc: Global, k: u64) -> Result<(), AllocError>
         requires linked { IsLinked self.old }
         requires due { due_in self.old.trace ≡ Loses k }
@@ -53,7 +53,7 @@ impl World {
     }
 
     /// CUT: no message passes between two nodes, and those in flight between them are lost.
-    #[tactic(auto, using(crate::proofs::NetworkLemmas::network_steps, crate::proofs::SiteLemmas::sites_stay, run_trace::proofs::ExtendsLemmas::extends_steps))]
+    #[tactic(auto, using(crate::proofs::NetworkLemmas::network_steps, run_trace::proofs::ExtendsLemmas::extends_steps))]
     pub(crate) fn cut(&mut self, alloc: Global, a: u8, b: u8) -> Result<(), AllocError>
         requires linked { IsLinked self.old }
         requires due { due_in self.old.trace ≡ Cuts a b }
@@ -62,12 +62,13 @@ impl World {
     {
         let lost = self.net.cut(alloc, a, b)?;
         self.losses = losses_of(alloc, lost.into_vec())?;
+        self.trace.push(alloc, Happening::Cut { a, b })?;
         self.telling.act();
-        self.trace.push(alloc, Happening::Cut { a, b })
+        Ok(())
     }
 
     /// JOIN: messages pass between two nodes again.
-    #[tactic(auto, using(crate::proofs::NetworkLemmas::network_steps, crate::proofs::SiteLemmas::sites_stay, run_trace::proofs::ExtendsLemmas::extends_steps))]
+    #[tactic(auto, using(crate::proofs::NetworkLemmas::network_steps, run_trace::proofs::ExtendsLemmas::extends_steps))]
     pub(crate) fn join(&mut self, alloc: Global, a: u8, b: u8) -> Result<(), AllocError>
         requires linked { IsLinked self.old }
         requires due { due_in self.old.trace ≡ Joins a b }

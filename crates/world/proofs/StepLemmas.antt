@@ -1,0 +1,96 @@
+-- The world after one happening more, part by part: it is that of the longer run.
+use Rattle.std.proofs.Common.{◌≡◌, ◌⊎◌, inl, inr, ◌<◌, ◌^◌, ℕ, List, [], ◌∷◌, ◌++◌, length, length-append, Option, Some, None, refl, ap, sym, subst, ◌∙◌, arith}
+use Rattle.node_rules.specs.Data.{Place}
+use Rattle.run_laws.specs.Data.{Command, Happening}
+use Rattle.run_laws.specs.Data.happenings
+use Rattle.run_laws.specs.Telling.{Past, start}
+use Rattle.run_laws.specs.Past.{next, past}
+use Rattle.run_laws.specs.Due.{IsTheRun, comes_next}
+use Rattle.run_trace.specs.Recorded.{RunSoFar, IsNext, past_of}
+use Rattle.world.specs.declared.showing.DiskShown.{DiskShown}
+use Rattle.world.specs.declared.world.World.{World}
+use Rattle.world.specs.Needs.{IsOfScript}
+use Rattle.world.specs.Linked.{IsHeld, IsLinked, PartsAre}
+use Rattle.world.specs.Shown.{ShowDisks}
+use Rattle.world.specs.Site.{SitesAre}
+use Rattle.world.specs.Steps.{StepsOn, StepsTo}
+
+-- One happening more in a trace.
+pub record IsPushed (before after : RunSoFar) (h : Happening) : Type 0 where
+  pub is : after ≡ record before { happenings = before.happenings ++ h ∷ [] }
+  pub past : past_of after ≡ next before.places before.commands (past_of before) h
+  pub few : length after.happenings < 2 ^ 63
+
+-- What the world is then: its parts but the sites are those of the longer run, and so are its sites.
+pub record Leaves (w v : World) (q : Past) : Type 0 where
+  pub parts : PartsAre q v
+  pub count : length v.sites.items ≡ length w.sites.items
+  pub nodes : length q.facts.nodes ≡ length (past_of w.trace).facts.nodes
+  pub records : length q.facts.records ≡ length (past_of w.trace).facts.records
+  pub sites : SitesAre w.trace.places q v.sites.items
+
+-- a happening at the end is the last one, or stands before it
+split_end : (xs before later : List Happening) (h g : Happening) → xs ++ h ∷ [] ≡ before ++ g ∷ later → ((h ≡ g) × (xs ≡ before)) ⊎ ((rest : List Happening) × (xs ≡ before ++ g ∷ rest))
+split_end [] [] later h g is = inl (cc, refl)
+split_end [] (b ∷ []) later h g is = absurd cc
+split_end [] (b ∷ c ∷ bs) later h g is = absurd cc
+split_end (x ∷ xs) [] later h g is = inr (xs, cc)
+split_end (x ∷ xs) (b ∷ bs) later h g is = elim (split_end xs bs later h g cc) [ inl same ↦ inl (same.0, cc) | inr more ↦ inr (more.0, cc) ]
+
+-- what is shown stays shown, where no command begins
+shows_on : (r : RunSoFar) (h : Happening) → ((c : ℕ) → h ≡ happenings.Begun c → ⊥) → (ds : List DiskShown) → ShowDisks r ds → ShowDisks (record r { happenings = r.happenings ++ h ∷ [] }) ds
+shows_on r h other [] are = tt
+shows_on r h other (d ∷ ds) are = ((are.0.0, are.0.1, λ before later split. elim (split_end r.happenings before later h (happenings.Begun d.command) split) [ inl same ↦ absurd (other d.command same.0) | inr more ↦ are.0.2 before more.0 more.1 ]), shows_on r h other ds are.1)
+
+-- one happening more is still a run of the script
+run_push : (places : List Place) (commands : List Command) (p : Past) (hs : List Happening) (h : Happening) → IsTheRun places commands p hs → comes_next places commands (past places commands p hs) ≡ Some h
+    → IsTheRun places commands p (hs ++ h ∷ [])
+unfolding past IsTheRun
+run_push places commands p [] h run due = (due, tt)
+run_push places commands p (g ∷ hs) h run due = (run.0, run_push places commands (next places commands p g) hs h run.1 due)
+
+module _ (w v : World) (h : Happening) (held : IsHeld w) (due : IsNext w.trace h) (pushed : IsPushed w.trace v.trace h) where
+  places_stay : v.trace.places ≡ w.trace.places
+  places_stay = ap (λ (r : RunSoFar). r.places) pushed.is
+
+  script_on : IsOfScript v.trace
+  script_on = subst (λ (r : RunSoFar). IsOfScript r) (sym pushed.is) (record {
+    of_a_script = held.script.of_a_script;
+    few = held.script.few;
+    run = run_push w.trace.places w.trace.commands (start w.trace.places) w.trace.happenings h held.script.run due;
+  })
+
+  longer_on : length w.trace.happenings < length v.trace.happenings
+  longer_on = let more = ap (λ (r : RunSoFar). length r.happenings) pushed.is ∙ length-append w.trace.happenings (h ∷ []) in omega (arith, more)
+
+  -- what was shown is shown still
+  pub shown_on : ((c : ℕ) → h ≡ happenings.Begun c → ⊥) → v.shown.items ≡ w.shown.items → ShowDisks v.trace v.shown.items
+  shown_on other same =
+      subst (λ (r : RunSoFar). ShowDisks r v.shown.items) (sym pushed.is)
+        (subst (λ (ds : List DiskShown). ShowDisks (record w.trace { happenings = w.trace.happenings ++ h ∷ [] }) ds) (sym same) (shows_on w.trace h other w.shown.items held.shown))
+
+  pub held_on : ShowDisks v.trace v.shown.items → Leaves w v (next w.trace.places w.trace.commands (past_of w.trace) h) → IsHeld v
+  held_on shown leaves = record {
+    script = script_on;
+    parts = subst (λ (q : Past). PartsAre q v) (sym pushed.past) leaves.parts;
+    counted = record {
+      sites = leaves.count ∙ (held.counted.sites ∙ sym (ap (λ (ps : List Place). length ps) places_stay));
+      nodes = ap (λ (q : Past). length q.facts.nodes) pushed.past ∙ (leaves.nodes ∙ (held.counted.nodes ∙ sym (ap (λ (ps : List Place). length ps) places_stay)));
+      records = ap (λ (q : Past). length q.facts.records) pushed.past ∙ (leaves.records ∙ (held.counted.records ∙ sym (ap (λ (ps : List Place). length ps) places_stay)));
+    };
+    sites = subst (λ (q : Past). SitesAre v.trace.places q v.sites.items) (sym pushed.past)
+        (subst (λ (ps : List Place). SitesAre ps (next w.trace.places w.trace.commands (past_of w.trace) h) v.sites.items) (sym places_stay) leaves.sites);
+    shown = shown;
+  }
+
+  -- one happening on, with no stop to come
+  pub steps_on : ShowDisks v.trace v.shown.items → Leaves w v (next w.trace.places w.trace.commands (past_of w.trace) h)
+      → (next w.trace.places w.trace.commands (past_of w.trace) h).telling.start_to_stop ≡ None → StepsOn w v
+  steps_on shown leaves upright = record {
+    linked = record { held = held_on shown leaves; upright = ap (λ (q : Past). q.telling.start_to_stop) pushed.past ∙ upright };
+    longer = longer_on;
+    few = pushed.few;
+  }
+
+  pub steps_to : ShowDisks v.trace v.shown.items → Leaves w v (next w.trace.places w.trace.commands (past_of w.trace) h) → StepsTo w v
+  steps_to shown leaves = record { held = held_on shown leaves; longer = longer_on; few = pushed.few }
