@@ -1,5 +1,6 @@
 mod DiskLines
 mod SiteLemmas
+mod ToStopLemmas
 mod StepLemmas
 mod NetworkLemmas
 mod DueLemmas

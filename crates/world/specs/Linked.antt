@@ -1,5 +1,5 @@
 -- The world, part by part, held against the run so far.
-use Rattle.std.specs.Prelude.{◌≡◌, ◌⊎◌, ℕ, List, length, map, None, Some}
+use Rattle.std.specs.Prelude.{◌≡◌, ◌≢◌, ◌⊎◌, false, ℕ, List, length, map, None, Some}
 use Rattle.node_rules.specs.Data.{Place}
 use Rattle.run_laws.specs.Telling.{Past}
 use Rattle.run_laws.specs.Lawful.{boots}
@@ -8,7 +8,7 @@ use Rattle.world.specs.Needs.{IsOfScript}
 use Rattle.node_rules.specs.Words.{numbered}
 use Rattle.node_disk.specs.Starts.{CanBeStarted}
 use Rattle.world.specs.declared.site.Site.{Site}
-use Rattle.world.specs.Site.{site_kept, site_disk, bytes_of, images_of, RunsAt, SitesAre}
+use Rattle.world.specs.Site.{has_to_fall, site_kept, site_disk, bytes_of, images_of, RunsAt, SitesAre}
 use Rattle.world.specs.Shown.{ShowDisks}
 use Rattle.world.specs.declared.world.World.{World}
 
@@ -51,3 +51,7 @@ pub record IsOrdered (before after : Site) : Type 0 where
 pub record OrdersStand (before after : World) : Type 0 where
   pub count : length after.sites.items ≡ length before.sites.items
   pub each : (n : ℕ) (site now : Site) → numbered before.sites.items n ≡ Some site → numbered after.sites.items n ≡ Some now → (now ≡ site) ⊎ IsOrdered site now
+
+-- no other node has to stop since an order struck its start
+abbrev pub OnlyFalls : Past → ℕ → Type 0
+OnlyFalls p n = (m : ℕ) → n ≢ m → has_to_fall p.telling.start_to_stop m ≡ false

@@ -7,7 +7,7 @@ ghost use Rattle.run_laws.specs.Due.{Falls, Stops};
 ghost use Rattle.run_laws.specs.Facts.{is_up as is_up_by};
 ghost use Rattle.run_trace.specs.Recorded.{Extends, IsNext, past_of};
 ghost use Rattle.world.specs.Needs.{due_in};
-ghost use Rattle.world.specs.Linked.{IsHeld, IsLinked};
+ghost use Rattle.world.specs.Linked.{IsHeld, IsLinked, OnlyFalls};
 ghost use Rattle.world.specs.Steps.{StepsOn};
 
 use crate::World;
@@ -23,7 +23,7 @@ use tran_ids::node_name;
 
 impl World {
     /// A node whose turn was cut stops.
-    #[tactic(auto, using(crate::proofs::StopLemmas::stop_steps, run_trace::proofs::ExtendsLemmas::extends_steps))]
+    #[tactic(auto, using(crate::proofs::StopLemmas::stop_steps, crate::proofs::DueLemmas::due_steps, run_trace::proofs::ExtendsLemmas::extends_steps))]
     pub(crate) fn fall(&mut self, alloc: Global, node: u8) -> Result<(), AllocError>
         requires linked { IsLinked self.old }
         requires due { due_in self.old.trace ≡ Falls node }
@@ -36,7 +36,7 @@ impl World {
     }
 
     /// STOP.
-    #[tactic(auto, using(crate::proofs::StopLemmas::stop_steps, run_trace::proofs::ExtendsLemmas::extends_steps))]
+    #[tactic(auto, using(crate::proofs::StopLemmas::stop_steps, crate::proofs::DueLemmas::due_steps, run_trace::proofs::ExtendsLemmas::extends_steps))]
     pub(crate) fn stop(&mut self, alloc: Global, node: u8) -> Result<(), AllocError>
         requires linked { IsLinked self.old }
         requires due { due_in self.old.trace ≡ Stops node }
@@ -49,12 +49,13 @@ impl World {
     }
 
     /// A node stops, and `was_up` tells whether it was up: its calls end, messages to it are lost, and its disk is left.
-    #[tactic(auto, using(crate::proofs::StopLemmas::stop_steps, run_trace::proofs::ExtendsLemmas::extends_steps))]
+    #[tactic(auto, using(crate::proofs::StopLemmas::stop_steps, crate::proofs::DueLemmas::due_steps, run_trace::proofs::ExtendsLemmas::extends_steps))]
     pub(crate) fn halt(&mut self, alloc: Global, node: u8, was_up: bool) -> Result<(), AllocError>
         requires held { IsHeld self.old }
         requires next { IsNext self.old.trace (occurrences.Stopped node) }
         requires there { IsNode (length self.old.trace.places) node }
         requires up { was_up ≡ is_up_by (past_of self.old.trace).facts node }
+        requires only { OnlyFalls (past_of self.old.trace) node }
         ensures steps { OnOk result (StepsOn self.old self.new) }
         ensures extends { Extends self.old.trace self.new.trace }
     {
@@ -84,6 +85,7 @@ impl World {
         };
         let place = &self.trace.places()[usize::from(node) - 1];
         let name = node_name(place.names.as_slice(), node);
-        self.telling.stop(alloc, node, name, command, &facts)
+        self.telling.stop(alloc, node, name, command, &facts)?;
+        Ok(())
     }
 }
