@@ -1,24 +1,22 @@
 //! What a command says as it begins, and what SHOW prints.
-ghost use Rattle.std.specs.Prelude.{◌≡◌, ◌≤◌, ◌-◌, ◌∷◌, [], Option, option_map, IfOk};
-ghost use Rattle.tran_ids.specs.Texts.{name_of};
-ghost use Rattle.node_rules.specs.Data.{Stmt};
+ghost use Rattle.std.specs.Prelude.{◌≡◌, ◌≤◌, ◌-◌, ◌∷◌, [], if◌then◌else◌, option_map, IfOk};
 ghost use Rattle.pending_view.specs.Views.{pending_rows};
 ghost use Rattle.run_laws.specs.Data.commands as script;
 ghost use Rattle.sql_check.specs.Refusals.{dtx};
 ghost use Rattle.sql_check.specs.Words.{one as one_of};
 ghost use Rattle.dtx_values.specs.declared.answer.Notice.TheVariants as notices;
 ghost use Rattle.book.specs.declared.line.Said.TheVariants as saids;
-ghost use Rattle.run_laws.specs.Commands.{if_up as if_up_by, if_may as if_may_by, says_at_once as says_by};
+ghost use Rattle.run_laws.specs.Commands.{has_call as has_call_by, if_up as if_up_by, if_may as if_may_by, says_at_once as says_by};
 ghost use Rattle.run_laws.specs.Lines.{fine as fine_by, refuses_with};
 ghost use Rattle.run_laws.specs.Facts.{names_in};
+ghost use Rattle.run_laws.specs.Telling.{node_name as name_by};
 ghost use Rattle.run_trace.specs.Recorded.{past_of};
 ghost use Rattle.world.specs.Sites.{kept_at, disk_at, MayShow};
 ghost use Rattle.world.specs.Linked.{IsLinked};
 
 use crate::World;
 use crate::disk_lines::disk_lines;
-use crate::site::Site;
-use crate::sites::{is_enabled, is_up, site_at};
+use crate::sites::{is_enabled, is_up, node_at, site_at};
 use book::{Said, book_lines};
 use dtx_values::{Bytes, Listing, Name, Notice, Refusal, Texts};
 use pending_view::{PendingRows, neighbors_view, pending, pending_view};
@@ -164,9 +162,9 @@ impl World {
     pub fn pending(&self, alloc: Global, node: u8) -> Result<Option<PendingRows>, AllocError>
         ensures { IfOk result (λ rows. rows ≡ option_map (λ k. pending_rows k.stored.durable.kept k.lives) (kept_at self.now.sites.items node)) }
     {
-        match site_at(&self.sites, node) {
-            Some(Site::Up(up)) => Ok(Some(pending(alloc, up.kept(), up.lives())?)),
-            _ => Ok(None),
+        match node_at(&self.sites, node) {
+            Some(up) => Ok(Some(pending(alloc, up.kept(), up.lives())?)),
+            None => Ok(None),
         }
     }
 
@@ -180,12 +178,25 @@ impl World {
         }
     }
 
+    // The name of a node by its place, empty for a number past the nodes.
+    fn name_at(&self, node: u8) -> &[u8]
+        ensures { result.now ≡ name_by self.now.trace.places node }
+    {
+        match node.checked_sub(1) {
+            None => &[],
+            Some(at) => match self.trace.places().get(usize::from(at)) {
+                None => &[],
+                Some(place) => node_name(place.names.as_slice(), node),
+            },
+        }
+    }
+
     // DTX-01 or DTX-13, which name the node.
     fn refused_node(&self, alloc: Global, code: u16, node: u8) -> Result<Says, AllocError>
         requires { 60000 ≤ code }
-        ensures { IfOk result (λ says. says ≡ refuses_with (dtx (code - 60000) (one_of (name_of (names_in self.now.trace.places) node))) ∷ []) }
+        ensures { IfOk result (λ says. says ≡ refuses_with (dtx (code - 60000) (one_of (name_by self.now.trace.places node))) ∷ []) }
     {
-        let name = Vec::from_slice(alloc, node_name(self.names(), node))?;
+        let name = Vec::from_slice(alloc, self.name_at(node))?;
         refused_with(alloc, code, Listing::of(name))
     }
 
@@ -205,7 +216,7 @@ impl World {
     #[tactic(auto, using(crate::proofs::DueLemmas::due_steps))]
     fn says_call(&self, alloc: Global, node: u8, session: u32) -> Result<Says, AllocError>
         requires { IsLinked self.now }
-        ensures { IfOk result (λ says. (statement : Option Stmt) → says ≡ says_by self.now.trace.places (past_of self.now.trace).facts (past_of self.now.trace).telling (script.At node session statement)) }
+        ensures { IfOk result (λ says. says ≡ if_up_by self.now.trace.places (past_of self.now.trace).facts node (if has_call_by (past_of self.now.trace).telling node session then refuses_with (dtx 4 []) ∷ [] else [])) }
     {
         let says = if self.telling.has_call(node, session) {
             refused(alloc, PENDING)?
@@ -258,12 +269,12 @@ impl World {
         requires { IsLinked self.now }
         ensures { IfOk result (λ says. says ≡ says_by self.now.trace.places (past_of self.now.trace).facts (past_of self.now.trace).telling (script.ShowPending node)) }
     {
-        match site_at(&self.sites, node) {
-            Some(Site::Up(up)) => {
+        match node_at(&self.sites, node) {
+            Some(up) => {
                 let lines = pending_view(alloc, self.names(), up.kept(), up.lives())?;
                 shows(alloc, lines)
             }
-            _ => self.refused_node(alloc, STOPPED, node),
+            None => self.refused_node(alloc, STOPPED, node),
         }
     }
 
@@ -272,12 +283,12 @@ impl World {
         requires { IsLinked self.now }
         ensures { IfOk result (λ says. says ≡ says_by self.now.trace.places (past_of self.now.trace).facts (past_of self.now.trace).telling (script.ShowNeighbors node)) }
     {
-        match site_at(&self.sites, node) {
-            Some(Site::Up(up)) => {
+        match node_at(&self.sites, node) {
+            Some(up) => {
                 let lines = neighbors_view(alloc, self.names(), up.kept())?;
                 shows(alloc, lines)
             }
-            _ => self.refused_node(alloc, STOPPED, node),
+            None => self.refused_node(alloc, STOPPED, node),
         }
     }
 }

@@ -9,6 +9,8 @@ ghost use Rattle.node_rules.specs.Sessions.{session_at};
 ghost use Rattle.node_rules.specs.Turn.{made as made_by, start_of};
 ghost use Rattle.node_disk.specs.Starts.{CanBeStarted, last_boot, next_boot};
 ghost use Rattle.run_laws.specs.Commands.{has_transaction, is_enabled as is_enabled_by};
+ghost use Rattle.std.specs.Option.{option_copied};
+ghost use Rattle.node_disk.specs.OnDisk.{kept_of};
 ghost use Rattle.world.specs.declared.site.Site.TheVariants.{Up, Down};
 ghost use Rattle.world.specs.Site.{site_kept, site_disk, bytes_of, images_of, RunsAt};
 
@@ -33,6 +35,16 @@ impl Site {
         match self {
             Site::Up(node) => node.disk(),
             Site::Down(disk) => disk,
+        }
+    }
+
+    /// The node, where it is up.
+    pub fn node(&self) -> Option<&Node<MemDisk>>
+        ensures { option_map kept_of (option_copied result) ≡ site_kept self.now }
+    {
+        match self {
+            Site::Up(node) => Some(node),
+            Site::Down(_disk) => None,
         }
     }
 

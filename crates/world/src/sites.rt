@@ -1,12 +1,15 @@
 //! The nodes of a run, by their numbers, from 1.
-ghost use Rattle.std.specs.Prelude.{◌≡◌, ℕ, length, Some, None, is_some, IfOk, OnOk};
+ghost use Rattle.std.specs.Prelude.{◌≡◌, ℕ, length, Some, None, is_some, option_map, IfOk, OnOk};
 ghost use Rattle.std.specs.Option.{option_copied, option_and_then};
 ghost use Rattle.tran_ids.specs.Listed.{numbered, set_numbered};
 ghost use Rattle.run_laws.specs.Commands.{has_transaction as has_transaction_by, is_enabled as is_enabled_by};
+ghost use Rattle.node_disk.specs.OnDisk.{kept_of};
 ghost use Rattle.world.specs.Sites.{kept_at, AreMade};
 
 use crate::site::{Site, made};
+use block_disk::MemDisk;
 use dtx_values::Duplicate;
+use node_disk::Node;
 use redo_record::Place;
 use std::alloc::{AllocError, Global};
 
@@ -17,6 +20,16 @@ pub fn site_at(sites: &[Site], node: u8) -> Option<&Site>
     match node.checked_sub(1) {
         None => None,
         Some(place) => sites.get(usize::from(place)),
+    }
+}
+
+/// The node of a number, where it is up.
+pub fn node_at(sites: &[Site], node: u8) -> Option<&Node<MemDisk>>
+    ensures { option_map kept_of (option_copied result) ≡ kept_at sites.now node }
+{
+    match site_at(sites, node) {
+        None => None,
+        Some(site) => site.node(),
     }
 }
 
