@@ -1,5 +1,6 @@
 -- The world before anything happened is that of a run in which nothing has happened.
-use Rattle.std.proofs.Common.{◌≡◌, ℕ, zero, suc, List, [], ◌∷◌, length, map, replicate, unwrap_or, Option, Some, None, refl, ap, sym, ◌∙◌}
+use Rattle.std.proofs.Common.{◌≡◌, ◌≤◌, ◌-◌, ◌⊎◌, inl, inr, ℕ, zero, suc, List, [], ◌∷◌, ◌++◌, length, get_or, map, replicate, unwrap_or, slice_set, Option, Some, None, refl, ap, sym, subst, ◌∙◌}
+use Rattle.std.specs.List.{AllByRecursion}
 use Rattle.std.specs.List.{slice_get}
 use Rattle.std.specs.Option.{option_map}
 use Rattle.std.proofs.lemmas.Option.{slice_get-map}
@@ -16,16 +17,39 @@ use Rattle.run_laws.specs.Facts.{command_at, facts_after, flat, ordered}
 use Rattle.run_laws.specs.Past.{next}
 use Rattle.run_laws.specs.Lawful.{boots}
 use Rattle.run_laws.specs.Telling.{Past, start}
+use Rattle.record_log.specs.Held.{HoldRecords}
+use Rattle.record_log.specs.Records.{IsSpelled}
+use Rattle.redo_codec.specs.Record.{record_format}
+use Rattle.tran_ids.proofs.NumberedLemmas.{set_or_before}
+use Rattle.net_bag.specs.Net.{Net}
+use Rattle.run_laws.specs.Data.{Happening}
+use Rattle.run_laws.specs.Data.commands
+use Rattle.run_laws.specs.Facts.{Facts, facts_of, first_facts, place_at, records_at}
+use Rattle.run_laws.specs.Headline.{StandsFor, disk_of}
+use Rattle.run_laws.specs.Lawful.{IsNode, IsProper}
+use Rattle.run_laws.specs.Shown.{shown_disk}
+use Rattle.run_laws.proofs.AtNodeLemmas.{item_there, there_too}
+use Rattle.run_laws.proofs.FactLemmas.{facts_are}
+use Rattle.run_trace.specs.Recorded.{RunSoFar, past_of}
+use Rattle.world.specs.declared.showing.DiskShown.{DiskShown}
 use Rattle.world.specs.declared.site.Site.{Site}
-use Rattle.world.specs.Site.{SiteIs, SitesAre}
-use Rattle.world.specs.Sites.{AreMade, IsMade}
+use Rattle.world.specs.declared.world.World.{World}
+use Rattle.world.specs.Needs.{due_in}
+use Rattle.world.specs.Linked.{IsLinked, IsOrdered, OrdersStand, PartsAre}
+use Rattle.world.specs.Shown.{HasBegun, ShowDisks, ShowsDiskAt}
+use Rattle.world.specs.Site.{SiteIs, SitesAre, site_disk, bytes_of}
+use Rattle.world.specs.Sites.{AreMade, IsMade, MayShow, ShowsAfter, bytes_in_site, disk_at, shows_of}
+use Rattle.world.specs.Steps.{StepsOn}
+use Rattle.world.proofs.SiteLemmas.{read_at}
+use Rattle.world.proofs.BegunLemmas.{begins_fresh}
+use Rattle.world.proofs.StepLemmas.{IsPushed, Leaves, shows_on, split_end, steps_on}
 
 -- the place of a site that was made
 made_at : (places : List Place) (sites : List Site) (i : ℕ) (site : Site) → AreMade places sites → slice_get sites i ≡ Some site → (p : Place) × (slice_get places i ≡ Some p) × IsMade p site
 made_at [] [] i site are is = absurd cc
 made_at [] (s ∷ ss) i site are is = absurd are
 made_at (p ∷ ps) [] i site are is = absurd are
-made_at (p ∷ ps) (s ∷ ss) zero site are is = (p, refl, subst (λ (x : Site). IsMade p x) cc are.0)
+made_at (p ∷ ps) (s ∷ ss) zero site are is = (p, refl, subst (λ (x : Site). IsMade p x) (cc) are.0)
 made_at (p ∷ ps) (s ∷ ss) (suc i) site are is = made_at ps ss i site are.1 is
 
 pub made_sites : (places : List Place) (sites : List Site) → AreMade places sites → SitesAre places (start places) sites
@@ -58,5 +82,182 @@ module _ (places : List Place) (commands : List Command) where
       }
   unfolding next facts_after
   next_begun p c = refl
+
+-- ---- a command begins
+
+-- only SHOW DISK shows a disk
+only_show_disk : (command : Command) (n : ℕ) → shows_of command ≡ Some n → command ≡ commands.ShowDisk n
+only_show_disk (commands.ShowDisk m) n is = cc
+only_show_disk (commands.Node name strength links undo) n is = absurd cc
+only_show_disk (commands.At node session statement) n is = absurd cc
+only_show_disk (commands.Cut a b) n is = absurd cc
+only_show_disk (commands.Join a b) n is = absurd cc
+only_show_disk (commands.Lose k) n is = absurd cc
+only_show_disk (commands.LoseNext kind from to) n is = absurd cc
+only_show_disk (commands.Stop m) n is = absurd cc
+only_show_disk (commands.Start m) n is = absurd cc
+only_show_disk (commands.Crash m write how) n is = absurd cc
+only_show_disk (commands.Fault m call) n is = absurd cc
+only_show_disk (commands.Hold on) n is = absurd cc
+only_show_disk (commands.Deliver k) n is = absurd cc
+only_show_disk (commands.Again k) n is = absurd cc
+only_show_disk (commands.Pump most) n is = absurd cc
+only_show_disk (commands.GiveUp m session) n is = absurd cc
+only_show_disk (commands.Reco m) n is = absurd cc
+only_show_disk (commands.ShowPending m) n is = absurd cc
+only_show_disk (commands.ShowNeighbors m) n is = absurd cc
+only_show_disk commands.ShowBook n is = absurd cc
+only_show_disk commands.ShowNet n is = absurd cc
+
+-- what holds of all commands holds of one
+proper_at : (count : ℕ) (asked : List Command) (i : ℕ) (command : Command) → AllByRecursion (IsProper count) asked → slice_get asked i ≡ Some command → IsProper count command
+proper_at count [] i command all is = absurd cc
+proper_at count (x ∷ xs) zero command all is = subst (λ (y : Command). IsProper count y) (cc) all.0
+proper_at count (x ∷ xs) (suc i) command all is = proper_at count xs i command all.1 is
+
+-- the node whose disk is shown is there
+shown_there : (count : ℕ) (asked : List Command) (c n : ℕ) → AllByRecursion (IsProper count) asked → command_at asked c ≡ commands.ShowDisk n → IsNode count n
+shown_there count asked zero n all is = absurd cc
+shown_there count asked (suc i) n all is = by (slice_get asked i) refl is
+  where
+    by : (o : Option Command) → slice_get asked i ≡ o → unwrap_or o commands.ShowBook ≡ commands.ShowDisk n → IsNode count n
+    by None there is = absurd cc
+    by (Some command) there is = proper_at count asked i (commands.ShowDisk n) all (there ∙ ap (λ (x : Command). Some x) is)
+
+-- records that are held are those that the bytes stand for
+all_fit : (rs : List RedoRecord) → AllByRecursion IsSpelled rs → AllByRecursion (λ (r : RedoRecord). record_format.Fits r) rs
+all_fit [] all = tt
+all_fit (r ∷ rs) all = (all.0.fits, all_fit rs all.1)
+
+stands_for : (bytes : List ℕ) (rs : List RedoRecord) → HoldRecords rs bytes → StandsFor bytes rs
+stands_for bytes rs holds = (holds.held, all_fit rs holds.spelled)
+
+-- one more disk is shown
+shows_more : (r : RunSoFar) (ds : List DiskShown) (d : DiskShown) → ShowDisks r ds → ShowsDiskAt r d → ShowDisks r (ds ++ d ∷ [])
+shows_more r [] d all one = (one, tt)
+shows_more r (x ∷ xs) d all one = (all.0, shows_more r xs d all.1 one)
+
+-- What the begin of a command leaves of the world.
+pub record BeginsAs (n : ℕ) (command : Command) (w v : World) : Type 0 where
+  pub running : v.running ≡ n
+  pub to_stop : v.to_stop ≡ w.to_stop
+  pub boots : v.boots.items ≡ w.boots.items
+  pub net : v.net ≡ ordered w.net command
+  pub losses : v.losses.items ≡ w.losses.items
+  pub telling : v.telling ≡ begins w.trace.places (past_of w.trace).facts (past_of w.trace).telling n command
+  pub sites : OrdersStand w v
+  pub shown : MayShow (λ m. disk_at w.sites.items m) n command w.shown.items v.shown.items
+
+module _ (w v : World) (n : ℕ) (linked : IsLinked w) (due : due_in w.trace ≡ Begins n) (pushed : IsPushed w.trace v.trace (happenings.Begun n))
+    (begun : BeginsAs n (command_at w.trace.commands n) w v) where
+  abbrev p : Past
+  p = past_of w.trace
+
+  abbrev command : Command
+  command = command_at w.trace.commands n
+
+  abbrev q : Past
+  q = record {
+    facts = record p.facts { command = n; net = ordered p.facts.net command };
+    telling = begins w.trace.places p.facts p.telling n command;
+  }
+
+  abbrev r : RunSoFar
+  r = record w.trace { happenings = w.trace.happenings ++ happenings.Begun n ∷ [] }
+
+  fresh : HasBegun w.trace n → ⊥
+  fresh = begins_fresh w.trace n linked.held.script.run due
+
+  -- the sites
+  site_now : (m : ℕ) (site now : Site) → SiteIs w.trace.places p m site → (now ≡ site) ⊎ IsOrdered site now → SiteIs w.trace.places q m now
+  site_now m site now is (inl same) = subst (λ (s : Site). SiteIs w.trace.places q m s) (sym same) (record { kept = is.kept; runs = is.runs; holds = is.holds; starts = is.starts })
+  site_now m site now is (inr order) = record {
+    kept = order.kept ∙ is.kept;
+    runs = order.runs (place_at w.trace.places m) is.runs;
+    holds = subst (λ (bytes : List ℕ). HoldRecords (records_at p.facts m) bytes) (sym order.bytes) is.holds;
+    starts = order.starts is.starts;
+  }
+
+  sites_now : SitesAre w.trace.places q v.sites.items
+  sites_now m now there =
+      let before = there_too v.sites.items w.sites.items m now begun.sites.count there in
+      site_now m before.0 now (linked.held.sites m before.0 before.1) (begun.sites.each m before.0 now before.1 there)
+
+  -- what is shown
+  shown_still : ShowDisks r w.shown.items
+  shown_still = shows_on w.trace (happenings.Begun n) (λ c same begun_c. fresh (subst (λ (k : ℕ). HasBegun w.trace k) (cc) begun_c)) w.shown.items linked.held.shown
+
+  held_at : (m : ℕ) → command ≡ commands.ShowDisk m → StandsFor (disk_at w.sites.items m) (records_at p.facts m)
+  held_at m is =
+      let there : IsNode (length w.trace.places) m = shown_there (length w.trace.places) w.trace.commands n m linked.held.script.of_a_script.proper is in
+      let site = item_there w.sites.items m there.0 (subst (λ (k : ℕ). m ≤ k) (sym linked.held.counted.sites) there.1) in
+      subst (λ (o : Option Site). StandsFor (bytes_in_site o) (records_at p.facts m)) (sym site.1) (stands_for (bytes_of (site_disk site.0)) (records_at p.facts m) (linked.held.sites m site.0 site.1).holds)
+
+  shown_new : (m : ℕ) → command ≡ commands.ShowDisk m → ShowsDiskAt r (record { command = n; lines = shown_disk (disk_at w.sites.items m) })
+  shown_new m is = (
+    (w.trace.happenings, [], refl),
+    disk_at w.sites.items m,
+    refl,
+    λ before later split. elim (split_end w.trace.happenings before later (happenings.Begun n) (happenings.Begun n) split) [
+      inl same ↦ subst (λ (hs : List Happening). StandsFor (disk_at w.sites.items m) (records_at (facts_of w.trace.places w.trace.commands (first_facts w.trace.places) hs) (disk_of command))) same.1
+          (subst (λ (f : Facts). StandsFor (disk_at w.sites.items m) (records_at f (disk_of command))) (facts_are w.trace.places w.trace.commands (start w.trace.places) w.trace.happenings)
+            (subst (λ (c : Command). StandsFor (disk_at w.sites.items m) (records_at p.facts (disk_of c))) (sym is) (held_at m is)))
+      | inr more ↦ absurd (fresh (before, more.0, more.1))
+    ],
+  )
+
+  shown_by : (o : Option ℕ) → shows_of command ≡ o → ShowsAfter (λ m. disk_at w.sites.items m) n o w.shown.items v.shown.items → ShowDisks r v.shown.items
+  shown_by None is same = subst (λ (ds : List DiskShown). ShowDisks r ds) (sym same) shown_still
+  shown_by (Some m) is more = subst (λ (ds : List DiskShown). ShowDisks r ds) (sym more) (shows_more r w.shown.items _ shown_still (shown_new m (only_show_disk command m is)))
+
+  shown_now : ShowDisks v.trace v.shown.items
+  shown_now = subst (λ (x : RunSoFar). ShowDisks x v.shown.items) (sym pushed.is) (shown_by (shows_of command) refl begun.shown)
+
+  leaves : Leaves w v q
+  leaves = record {
+    parts = record {
+      running = begun.running;
+      net = begun.net ∙ ap (λ (net : Net). ordered net command) linked.held.parts.net;
+      losses = begun.losses ∙ linked.held.parts.losses;
+      to_stop = begun.to_stop ∙ linked.held.parts.to_stop;
+      boots = begun.boots ∙ linked.held.parts.boots;
+      telling = begun.telling;
+    };
+    count = begun.sites.count;
+    nodes = refl;
+    records = refl;
+    sites = sites_now;
+  }
+
+  pub begin_moves : StepsOn w v
+  begin_moves =
+      let is = next_begun w.trace.places w.trace.commands p n in
+      steps_on w v (happenings.Begun n) linked.held (begins_next w.trace.places w.trace.commands p n due) pushed shown_now (subst (λ (x : Past). Leaves w v x) (sym is) leaves)
+        (ap (λ (x : Past). x.telling.start_to_stop) is ∙ linked.upright)
+
+-- the command that is read at its number
+pub command_read : (asked : List Command) (n : ℕ) (x : Command) → 1 ≤ n → n ≤ length asked → x ≡ get_or asked (n - 1) x → command_at asked n ≡ x
+command_read asked n x low high is = ap (λ (o : Option Command). unwrap_or o commands.ShowBook) (read_at asked n x low high is)
+
+-- the same orders to the same sites
+pub orders_from : (u v w x : World) → u.sites.items ≡ w.sites.items → v.sites.items ≡ x.sites.items → OrdersStand u v → OrdersStand w x
+orders_from u v w x from to stand = record {
+  count = sym (ap (λ (sites : List Site). length sites) to) ∙ (stand.count ∙ ap (λ (sites : List Site). length sites) from);
+  each = λ n site now before after. stand.each n site now (ap (λ (sites : List Site). numbered sites n) from ∙ before) (ap (λ (sites : List Site). numbered sites n) to ∙ after);
+}
+
+-- ---- orders to a disk
+
+-- one order
+pub order_stands : (sites : List Site) (i : ℕ) (old new : Site) → slice_get sites i ≡ Some old → IsOrdered old new → (n : ℕ) (site now : Site) → numbered sites n ≡ Some site → numbered (slice_set sites i new) n ≡ Some now
+    → (now ≡ site) ⊎ IsOrdered site now
+order_stands sites i old new there order n site now before after =
+    elim (set_or_before sites (suc i) n new) [
+      inl same ↦ inl (same_site now site (sym after ∙ (same ∙ before)))
+      | inr set ↦ inr (subst (λ (s : Site). IsOrdered s now) (same_site old site (sym there ∙ (ap (numbered sites) set.0 ∙ before))) (subst (λ (s : Site). IsOrdered old s) (same_site new now (sym set.1 ∙ after)) order))
+    ]
+  where
+    same_site : (a b : Site) → Some a ≡ Some b → a ≡ b
+    same_site a b is = cc
 
 pub ruleset begin_steps = (made_sites, booted_once, begins_next, next_begun)

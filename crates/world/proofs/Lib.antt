@@ -4,6 +4,7 @@ mod ToStopLemmas
 mod StepLemmas
 mod NetworkLemmas
 mod DueLemmas
+mod BegunLemmas
 mod BeginLemmas
 mod TurnLemmas
 mod StopLemmas

@@ -1,5 +1,5 @@
 -- The world after one happening more, part by part: it is that of the longer run.
-use Rattle.std.proofs.Common.{◌≡◌, ◌⊎◌, inl, inr, ◌<◌, ◌^◌, ℕ, List, [], ◌∷◌, ◌++◌, length, length-append, Option, Some, None, refl, ap, sym, subst, ◌∙◌, arith}
+use Rattle.std.proofs.Common.{◌≡◌, ◌⊎◌, inl, inr, ◌<◌, ◌^◌, ℕ, List, [], ◌∷◌, ◌++◌, length, length-append, append_assoc, Option, Some, None, refl, ap, sym, subst, ◌∙◌, arith}
 use Rattle.node_rules.specs.Data.{Place}
 use Rattle.run_laws.specs.Data.{Command, Happening}
 use Rattle.run_laws.specs.Data.happenings
@@ -11,7 +11,7 @@ use Rattle.world.specs.declared.showing.DiskShown.{DiskShown}
 use Rattle.world.specs.declared.world.World.{World}
 use Rattle.world.specs.Needs.{IsOfScript}
 use Rattle.world.specs.Linked.{IsHeld, IsLinked, PartsAre}
-use Rattle.world.specs.Shown.{ShowDisks}
+use Rattle.world.specs.Shown.{HasBegun, ShowDisks, ShowsDiskAt}
 use Rattle.world.specs.Site.{SitesAre}
 use Rattle.world.specs.Steps.{StepsOn, StepsTo}
 
@@ -30,17 +30,24 @@ pub record Leaves (w v : World) (q : Past) : Type 0 where
   pub sites : SitesAre w.trace.places q v.sites.items
 
 -- a happening at the end is the last one, or stands before it
-split_end : (xs before later : List Happening) (h g : Happening) → xs ++ h ∷ [] ≡ before ++ g ∷ later → ((h ≡ g) × (xs ≡ before)) ⊎ ((rest : List Happening) × (xs ≡ before ++ g ∷ rest))
+pub split_end : (xs before later : List Happening) (h g : Happening) → xs ++ h ∷ [] ≡ before ++ g ∷ later → ((h ≡ g) × (xs ≡ before)) ⊎ ((rest : List Happening) × (xs ≡ before ++ g ∷ rest))
 split_end [] [] later h g is = inl (cc, refl)
 split_end [] (b ∷ []) later h g is = absurd cc
 split_end [] (b ∷ c ∷ bs) later h g is = absurd cc
 split_end (x ∷ xs) [] later h g is = inr (xs, cc)
 split_end (x ∷ xs) (b ∷ bs) later h g is = elim (split_end xs bs later h g cc) [ inl same ↦ inl (same.0, cc) | inr more ↦ inr (more.0, cc) ]
 
--- what is shown stays shown, where no command begins
-shows_on : (r : RunSoFar) (h : Happening) → ((c : ℕ) → h ≡ happenings.Begun c → ⊥) → (ds : List DiskShown) → ShowDisks r ds → ShowDisks (record r { happenings = r.happenings ++ h ∷ [] }) ds
+-- what has begun has begun still
+begun_on : (r : RunSoFar) (h : Happening) (c : ℕ) → HasBegun r c → HasBegun (record r { happenings = r.happenings ++ h ∷ [] }) c
+begun_on r h c begun = (begun.0, begun.1 ++ h ∷ [], ap (λ (hs : List Happening). hs ++ h ∷ []) begun.2 ∙ append_assoc begun.0 (happenings.Begun c ∷ begun.1) (h ∷ []))
+
+-- what is shown stays shown, where no command begins again
+pub shows_on : (r : RunSoFar) (h : Happening) → ((c : ℕ) → h ≡ happenings.Begun c → HasBegun r c → ⊥) → (ds : List DiskShown) → ShowDisks r ds
+    → ShowDisks (record r { happenings = r.happenings ++ h ∷ [] }) ds
 shows_on r h other [] are = tt
-shows_on r h other (d ∷ ds) are = ((are.0.0, are.0.1, λ before later split. elim (split_end r.happenings before later h (happenings.Begun d.command) split) [ inl same ↦ absurd (other d.command same.0) | inr more ↦ are.0.2 before more.0 more.1 ]), shows_on r h other ds are.1)
+shows_on r h other (d ∷ ds) are =
+    let d0 : ShowsDiskAt r d = are.0 in
+    ((begun_on r h d.command d0.0, d0.1, d0.2, λ before later split. elim (split_end r.happenings before later h (happenings.Begun d.command) split) [ inl same ↦ absurd (other d.command same.0 d0.0) | inr more ↦ d0.3 before more.0 more.1 ]), shows_on r h other ds are.1)
 
 -- one happening more is still a run of the script
 run_push : (places : List Place) (commands : List Command) (p : Past) (hs : List Happening) (h : Happening) → IsTheRun places commands p hs → comes_next places commands (past places commands p hs) ≡ Some h
@@ -64,7 +71,7 @@ module _ (w v : World) (h : Happening) (held : IsHeld w) (due : IsNext w.trace h
   longer_on = let more = ap (λ (r : RunSoFar). length r.happenings) pushed.is ∙ length-append w.trace.happenings (h ∷ []) in omega (arith, more)
 
   -- what was shown is shown still
-  pub shown_on : ((c : ℕ) → h ≡ happenings.Begun c → ⊥) → v.shown.items ≡ w.shown.items → ShowDisks v.trace v.shown.items
+  pub shown_on : ((c : ℕ) → h ≡ happenings.Begun c → HasBegun w.trace c → ⊥) → v.shown.items ≡ w.shown.items → ShowDisks v.trace v.shown.items
   shown_on other same =
       subst (λ (r : RunSoFar). ShowDisks r v.shown.items) (sym pushed.is)
         (subst (λ (ds : List DiskShown). ShowDisks (record w.trace { happenings = w.trace.happenings ++ h ∷ [] }) ds) (sym same) (shows_on w.trace h other w.shown.items held.shown))

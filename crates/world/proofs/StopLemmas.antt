@@ -119,7 +119,7 @@ module _ (w v : World) (n : ℕ) (held : IsHeld w) (due : IsNext w.trace (happen
   pub halt_steps : StepsOn w v
   halt_steps =
       let is = next_stopped w.trace.places w.trace.commands p n in
-      steps_on w v (happenings.Stopped n) held due pushed (shown_on w v (happenings.Stopped n) held due pushed (λ c same. absurd cc) halts.shown) (subst (λ (x : Past). Leaves w v x) (sym is) leaves)
+      steps_on w v (happenings.Stopped n) held due pushed (shown_on w v (happenings.Stopped n) held due pushed (λ c same begun. absurd cc) halts.shown) (subst (λ (x : Past). Leaves w v x) (sym is) leaves)
         (ap (λ (x : Past). x.telling.start_to_stop) is ∙ none_left)
 
 -- the same happening in the same trace

@@ -16,9 +16,13 @@ use Rattle.world.specs.declared.showing.DiskShown.{DiskShown}
 abbrev pub history_of : (r : RunSoFar) → AreOfAScript r.places r.commands → History
 history_of r script = record { places = r.places; commands = r.commands; of_a_script = script; trace = r.happenings }
 
+-- a command has begun
+abbrev pub HasBegun : RunSoFar → ℕ → Type 0
+HasBegun r c = (before : List Happening) × (later : List Happening) × (r.happenings ≡ before ++ happenings.Begun c ∷ later)
+
 -- the lines are those of a disk that held its node's records when the command began
 abbrev pub ShowsDiskAt : RunSoFar → DiskShown → Type 0
-ShowsDiskAt r d = (bytes : List ℕ) × (d.lines ≡ shown_disk bytes) × ((before later : List Happening) → r.happenings ≡ before ++ happenings.Begun d.command ∷ later
+ShowsDiskAt r d = HasBegun r d.command × (bytes : List ℕ) × (d.lines ≡ shown_disk bytes) × ((before later : List Happening) → r.happenings ≡ before ++ happenings.Begun d.command ∷ later
     → StandsFor bytes (records_at (facts_of r.places r.commands (first_facts r.places) before) (disk_of (command_at r.commands d.command))))
 
 -- all of them are

@@ -1,5 +1,5 @@
 -- The nodes of a run, by their numbers.
-use Rattle.std.specs.Prelude.{◌≡◌, ◌∷◌, ℕ, List, [], Option, Some, None}
+use Rattle.std.specs.Prelude.{◌≡◌, ◌∷◌, ◌++◌, ℕ, List, [], Option, Some, None}
 use Rattle.record_log.specs.Held.{HoldRecords}
 use Rattle.node_rules.specs.Data.{Place}
 use Rattle.node_rules.specs.Data.records
@@ -45,7 +45,16 @@ bytes_in_site (Some site) = bytes_of (site_disk site)
 abbrev pub disk_at : List Site → ℕ → List ℕ
 disk_at sites n = bytes_in_site (numbered sites n)
 
+-- the node whose disk a command shows
+abbrev pub shows_of : Command → Option ℕ
+shows_of (commands.ShowDisk n) = Some n
+shows_of _ = None
+
+-- what was shown, and the bytes of this node's disk after it
+abbrev pub ShowsAfter : (ℕ → List ℕ) → ℕ → Option ℕ → List DiskShown → List DiskShown → Type 0
+ShowsAfter bytes number None before after = after ≡ before
+ShowsAfter bytes number (Some n) before after = after ≡ before ++ (record { command = number; lines = shown_disk (bytes n) }) ∷ []
+
 -- SHOW DISK shows the bytes of its node's disk, and no other command shows a disk
-abbrev pub MayShow : (ℕ → List ℕ) → ℕ → Command → Option DiskShown → Type 0
-MayShow bytes number (commands.ShowDisk n) shown = shown ≡ Some (record { command = number; lines = shown_disk (bytes n) })
-MayShow bytes number _ shown = shown ≡ None
+abbrev pub MayShow : (ℕ → List ℕ) → ℕ → Command → List DiskShown → List DiskShown → Type 0
+MayShow bytes number command before after = ShowsAfter bytes number (shows_of command) before after

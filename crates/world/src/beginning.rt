@@ -1,6 +1,7 @@
 //! A command begins.
 ghost use Rattle.std.specs.Prelude.{◌≡◌, length, OnOk, IfOk};
 ghost use Rattle.run_laws.specs.Due.{Begins};
+ghost use Rattle.run_laws.specs.Commands.{begins};
 ghost use Rattle.run_laws.specs.Facts.{command_at as command_at_of, ordered};
 ghost use Rattle.run_trace.specs.Recorded.{Extends, past_of};
 ghost use Rattle.telling.specs.Facts.{up_for as up_for_by, transaction_for as transaction_for_by, KnownAtBegin};
@@ -51,17 +52,46 @@ impl World {
         ensures extends { Extends self.old.trace self.new.trace }
     {
         let command = self.trace.commands()[number as usize - 1].copy(alloc)?;
-        let facts = self.begin_facts(alloc, &command)?;
-        let shown = self.shown_disk(alloc, number, &command)?;
-        self.telling.begin(alloc, number, &command, facts)?;
-        order_net(&mut self.net, &command)?;
-        self.order_disk(alloc, &command)?;
+        self.begin_with(alloc, number, &command)
+    }
+
+    // This command, which has this number, begins.
+    #[tactic(auto, using(crate::proofs::BeginLemmas::begin_steps, run_trace::proofs::ExtendsLemmas::extends_steps))]
+    fn begin_with(
+        &mut self,
+        alloc: Global,
+        number: u32,
+        command: &Command,
+    ) -> Result<(), AllocError>
+        requires linked { IsLinked self.old }
+        requires due { due_in self.old.trace ≡ Begins number }
+        requires command { command.now ≡ command_at_of self.old.trace.commands number }
+        ensures steps { OnOk result (StepsOn self.old self.new) }
+        ensures extends { Extends self.old.trace self.new.trace }
+    {
+        self.tell_begin(alloc, number, command)?;
+        self.show_disk(alloc, number, command)?;
+        order_net(&mut self.net, command)?;
+        self.order_disk(alloc, command)?;
         self.trace
             .push(alloc, Happening::Begun { command: number })?;
         self.running = number;
-        if let Some(shown) = shown {
-            self.shown.push(shown)?;
-        }
+        Ok(())
+    }
+
+    // What is told as a command begins. Fails where memory runs out.
+    fn tell_begin(
+        &mut self,
+        alloc: Global,
+        number: u32,
+        command: &Command,
+    ) -> Result<(), AllocError>
+        requires { IsLinked self.old }
+        ensures tells { OnOk result (self.new.telling ≡ begins self.old.trace.places (past_of self.old.trace).facts (past_of self.old.trace).telling number command.now) }
+        ensures same { self.new ≡ record self.old { telling = self.new.telling } }
+    {
+        let facts = self.begin_facts(alloc, command)?;
+        self.telling.begin(alloc, number, command, facts)?;
         Ok(())
     }
 

@@ -1,5 +1,5 @@
 //! What a command says as it begins, and what SHOW prints.
-ghost use Rattle.std.specs.Prelude.{◌≡◌, ◌≤◌, ◌-◌, ◌∷◌, [], if◌then◌else◌, option_map, IfOk};
+ghost use Rattle.std.specs.Prelude.{◌≡◌, ◌≤◌, ◌-◌, ◌∷◌, [], if◌then◌else◌, option_map, IfOk, OnOk};
 ghost use Rattle.pending_view.specs.Views.{pending_rows};
 ghost use Rattle.run_laws.specs.Data.commands as script;
 ghost use Rattle.sql_check.specs.Refusals.{dtx};
@@ -127,24 +127,26 @@ impl World {
         }
     }
 
-    /// The lines of SHOW DISK, where this is one. Fails where memory runs out.
-    pub(crate) fn shown_disk(
-        &self,
+    /// SHOW DISK shows the bytes of its node's disk. Fails where memory runs out.
+    pub(crate) fn show_disk(
+        &mut self,
         alloc: Global,
         number: u32,
         command: &Command,
-    ) -> Result<Option<DiskShown>, AllocError>
-        ensures { IfOk result (λ shown. MayShow (λ n. disk_at self.now.sites.items n) number command.now shown) }
+    ) -> Result<(), AllocError>
+        ensures shows { OnOk result (MayShow (λ n. disk_at self.old.sites.items n) number command.now self.old.shown.items self.new.shown.items) }
+        ensures same { self.new ≡ record self.old { shown = self.new.shown } }
     {
         match command {
             Command::ShowDisk { node } => {
                 let lines = disk_lines(alloc, self.disk(*node))?;
-                Ok(Some(DiskShown {
+                self.shown.push(DiskShown {
                     command: number,
                     lines,
-                }))
+                })?;
+                Ok(())
             }
-            _ => Ok(None),
+            _ => Ok(()),
         }
     }
 
