@@ -65,6 +65,13 @@ made_sites places sites are (suc i) site is =
       starts = found.2.starts;
     }
 
+-- one more is made
+pub made_more : (places : List Place) (sites : List Site) (place : Place) (site : Site) → AreMade places sites → IsMade place site → AreMade (places ++ place ∷ []) (sites ++ site ∷ [])
+made_more [] [] place site all one = (one, tt)
+made_more [] (s ∷ ss) place site all one = absurd all
+made_more (p ∷ ps) [] place site all one = absurd all
+made_more (p ∷ ps) (s ∷ ss) place site all one = (all.0, made_more ps ss place site all.1 one)
+
 -- each node has started once
 pub booted_once : (places : List Place) → replicate (length places) 1 ≡ map boots (map (λ (p : Place). records.Boot 1 ∷ []) places)
 booted_once [] = refl

@@ -10,3 +10,4 @@ mod TurnLemmas
 mod StopLemmas
 mod StartLemmas
 mod MailLemmas
+mod ShownLemmas

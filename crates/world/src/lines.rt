@@ -1,8 +1,9 @@
 //! The answer lines of a run, those of SHOW DISK with the bytes that were shown.
-ghost use Rattle.std.specs.Prelude.{◌≡◌, IfOk};
+ghost use Rattle.std.specs.Prelude.{◌≡◌, ◌∷◌, List, IfOk};
+ghost use Rattle.book.specs.declared.line.AnswerLine.{AnswerLine as LineBy};
 ghost use Rattle.run_laws.specs.Lawful.{AreOfAScript};
 ghost use Rattle.world.specs.Linked.{IsLinked};
-ghost use Rattle.world.specs.Shown.{TellsRun, disks_told};
+ghost use Rattle.world.specs.Shown.{TellsRun, disks_told, is_place as is_place_by};
 
 use crate::World;
 use crate::showing::DiskShown;
@@ -12,7 +13,9 @@ use std::alloc::{AllocError, Global};
 use std::collections::VecDeque;
 
 // Whether this stands for the bytes of a disk.
-fn is_place(said: &Said) -> bool {
+fn is_place(said: &Said) -> bool
+    ensures { result ≡ is_place_by said.now }
+{
     match said {
         Said::World(Notice::Shown(lines)) => lines.as_slice().is_empty(),
         _ => false,
@@ -20,7 +23,10 @@ fn is_place(said: &Said) -> bool {
 }
 
 // A line, or the bytes of the disk that its command shows.
-fn with_disk(line: AnswerLine, shown: &mut VecDeque<DiskShown>) -> AnswerLine {
+#[tactic(auto, unfolding(crate::specs::Shown::disks_told))]
+fn with_disk(line: AnswerLine, shown: &mut VecDeque<DiskShown>) -> AnswerLine
+    ensures { (rest : List LineBy) → disks_told (line ∷ rest) shown.old.items ≡ result ∷ disks_told rest shown.new.items }
+{
     if !is_place(&line.said) {
         return line;
     }

@@ -1,0 +1,27 @@
+-- Lines that show no disk, and lines behind which nothing is shown, stand as they are.
+use Rattle.std.proofs.Common.{◌≡◌, List, [], ◌∷◌, ◌++◌, drop, slice_get, Bool, true, false, if◌then◌else◌, Option, Some, None, refl, ap, sym, append-nil, ◌∙◌}
+use Rattle.run_laws.specs.Data.{AnswerLine}
+use Rattle.world.specs.declared.showing.DiskShown.{DiskShown}
+use Rattle.world.specs.Shown.{disks_told, is_place, showing}
+
+pub told_plain : (line : AnswerLine) (rest : List AnswerLine) (disks : List DiskShown) → is_place line.said ≡ false → disks_told (line ∷ rest) disks ≡ line ∷ disks_told rest disks
+unfolding disks_told
+told_plain line [] [] not = refl
+told_plain line (x ∷ xs) [] not = refl
+told_plain line rest (d ∷ ds) not = rw not refl
+
+-- where no disk is left
+told_end : (rest : List AnswerLine) → disks_told rest [] ≡ rest
+unfolding disks_told
+told_end [] = refl
+told_end (x ∷ xs) = refl
+
+pub told_none : (line : AnswerLine) (rest : List AnswerLine) (disks left : List DiskShown) → slice_get disks 0 ≡ None → left ≡ drop 1 disks → disks_told (line ∷ rest) disks ≡ line ∷ disks_told rest left
+unfolding disks_told
+told_none line rest [] left none is = ap (λ (ls : List AnswerLine). line ∷ ls) (sym (told_end rest) ∙ ap (disks_told rest) (sym is))
+told_none line rest (d ∷ ds) left none is = absurd cc
+
+-- lines after which none follow
+pub told_all : (told lines : List AnswerLine) (shown left : List DiskShown) → disks_told (lines ++ []) shown ≡ told ++ disks_told [] left → disks_told lines shown ≡ told
+unfolding disks_told
+told_all told lines shown left is = ap (λ (ls : List AnswerLine). disks_told ls shown) (sym (append-nil lines)) ∙ (is ∙ append-nil told)
