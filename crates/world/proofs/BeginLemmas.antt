@@ -42,7 +42,7 @@ use Rattle.world.specs.Sites.{AreMade, IsMade, MayShow, ShowsAfter, bytes_in_sit
 use Rattle.world.specs.Steps.{StepsOn}
 use Rattle.world.proofs.SiteLemmas.{read_at}
 use Rattle.world.proofs.BegunLemmas.{begins_fresh}
-use Rattle.world.proofs.StepLemmas.{IsPushed, Leaves, shows_on, split_end, steps_on}
+use Rattle.world.proofs.StepLemmas.{IsPushed, Leaves, shows_on, split_end, stands_of, steps_on}
 
 -- the place of a site that was made
 made_at : (places : List Place) (sites : List Site) (i : ℕ) (site : Site) → AreMade places sites → slice_get sites i ≡ Some site → (p : Place) × (slice_get places i ≡ Some p) × IsMade p site
@@ -239,7 +239,7 @@ module _ (w v : World) (n : ℕ) (linked : IsLinked w) (due : due_in w.trace ≡
   pub begin_moves : StepsOn w v
   begin_moves =
       let is = next_begun w.trace.places w.trace.commands p n in
-      steps_on w v (happenings.Begun n) linked.held (begins_next w.trace.places w.trace.commands p n due) pushed shown_now (subst (λ (x : Past). Leaves w v x) (sym is) leaves)
+      steps_on w v (happenings.Begun n) (stands_of w linked.held) (begins_next w.trace.places w.trace.commands p n due) pushed shown_now (subst (λ (x : Past). Leaves w v x) (sym is) leaves)
         (ap (λ (x : Past). x.telling.start_to_stop) is ∙ linked.upright)
 
 -- the command that is read at its number

@@ -16,7 +16,7 @@ use Rattle.world.specs.Linked.{IsLinked, PartsAre}
 use Rattle.world.specs.Site.{SitesAre}
 use Rattle.world.specs.Steps.{StepsOn}
 use Rattle.world.proofs.SiteLemmas.{sites_stay}
-use Rattle.world.proofs.StepLemmas.{IsPushed, Leaves, shown_on, steps_on}
+use Rattle.world.proofs.StepLemmas.{IsPushed, Leaves, shown_on, stands_of, steps_on}
 use Rattle.run_laws.specs.Due.{Due, Tells, Loses, Cuts, Joins, comes_next, due_of, tells_first}
 
 module _ (places : List Place) (commands : List Command) where
@@ -94,7 +94,7 @@ module _ (w v : World) (linked : IsLinked w) (keeps : Keeps w v) (acted : v.tell
     }
 
     moves : StepsOn w v
-    moves = steps_on w v h linked.held due pushed (shown_on w v h linked.held due pushed (λ c same begun. other c same) keeps.shown) (subst (λ (x : Past). Leaves w v x) (sym is) leaves)
+    moves = steps_on w v h (stands_of w linked.held) due pushed (shown_on w v h (stands_of w linked.held) due pushed (λ c same begun. other c same) keeps.shown) (subst (λ (x : Past). Leaves w v x) (sym is) leaves)
         (ap (λ (x : Past). x.telling.start_to_stop) is ∙ linked.upright)
 
   pub cut_steps : (a b : ℕ) → due_in w.trace ≡ Cuts a b → IsPushed w.trace v.trace (happenings.Cut a b) → v.net ≡ cut_over w.net a b → v.losses.items ≡ lost_by_cut w.net a b → StepsOn w v

@@ -94,3 +94,11 @@ pub read_at : {A : Type 0} (xs : List A) (n : ℕ) (x : A) → 1 ≤ n → n ≤
 read_at xs n x low high is =
     let inside : n - 1 < length xs = omega arith in
     sym (get_at xs n low) ∙ slice_get_read xs (length xs) (n - 1) x refl inside is
+
+-- sites that are, one and the others
+pub own_and_others : (places : List Place) (p : Past) (n : ℕ) (sites : List Site) → ((site : Site) → numbered sites n ≡ Some site → SiteIs places p n site) → OtherSitesAre n places p sites → SitesAre places p sites
+own_and_others places p n sites own others m site found = by (same_or n m)
+  where
+    by : (n ≡ m) ⊎ (n ≢ m) → SiteIs places p m site
+    by (inl same) = subst (λ (k : ℕ). SiteIs places p k site) same (own site (subst (λ (k : ℕ). numbered sites k ≡ Some site) (sym same) found))
+    by (inr other) = others m site other found

@@ -10,7 +10,7 @@ use Rattle.run_trace.specs.Recorded.{RunSoFar, IsNext, past_of}
 use Rattle.world.specs.declared.showing.DiskShown.{DiskShown}
 use Rattle.world.specs.declared.world.World.{World}
 use Rattle.world.specs.Needs.{IsOfScript}
-use Rattle.world.specs.Linked.{IsHeld, IsLinked, PartsAre}
+use Rattle.world.specs.Linked.{AreCounted, IsHeld, IsLinked, PartsAre}
 use Rattle.world.specs.Shown.{HasBegun, ShowDisks, ShowsDiskAt}
 use Rattle.world.specs.Site.{SitesAre}
 use Rattle.world.specs.Steps.{StepsOn, StepsTo}
@@ -56,7 +56,16 @@ unfolding past IsTheRun
 run_push places commands p [] h run due = (due, tt)
 run_push places commands p (g ∷ hs) h run due = (run.0, run_push places commands (next places commands p g) hs h run.1 due)
 
-module _ (w v : World) (h : Happening) (held : IsHeld w) (due : IsNext w.trace h) (pushed : IsPushed w.trace v.trace h) where
+-- What stands of the world also in the midst of a turn or a start.
+pub record Stands (w : World) : Type 0 where
+  pub script : IsOfScript w.trace
+  pub counted : AreCounted w
+  pub shown : ShowDisks w.trace w.shown.items
+
+pub stands_of : (w : World) → IsHeld w → Stands w
+stands_of w held = record { script = held.script; counted = held.counted; shown = held.shown }
+
+module _ (w v : World) (h : Happening) (held : Stands w) (due : IsNext w.trace h) (pushed : IsPushed w.trace v.trace h) where
   places_stay : v.trace.places ≡ w.trace.places
   places_stay = ap (λ (r : RunSoFar). r.places) pushed.is
 

@@ -25,7 +25,7 @@ use Rattle.world.specs.Linked.{IsHeld, IsLinked, OnlyFalls, PartsAre}
 use Rattle.world.specs.Site.{SiteIs, SitesAre, has_to_fall, up_at, site_disk, site_kept, bytes_of, images_of}
 use Rattle.world.specs.Steps.{StepsOn}
 use Rattle.world.proofs.SiteLemmas.{SameAt, down_runs, site_set}
-use Rattle.world.proofs.StepLemmas.{IsPushed, Leaves, shown_on, steps_on}
+use Rattle.world.proofs.StepLemmas.{IsPushed, Leaves, shown_on, stands_of, steps_on}
 use Rattle.world.proofs.ToStopLemmas.{stop_ends}
 use Rattle.run_laws.specs.Due.{Due, Falls, Stops, comes_next, due_of}
 
@@ -119,7 +119,7 @@ module _ (w v : World) (n : ℕ) (held : IsHeld w) (due : IsNext w.trace (happen
   pub halt_steps : StepsOn w v
   halt_steps =
       let is = next_stopped w.trace.places w.trace.commands p n in
-      steps_on w v (happenings.Stopped n) held due pushed (shown_on w v (happenings.Stopped n) held due pushed (λ c same begun. absurd cc) halts.shown) (subst (λ (x : Past). Leaves w v x) (sym is) leaves)
+      steps_on w v (happenings.Stopped n) (stands_of w held) due pushed (shown_on w v (happenings.Stopped n) (stands_of w held) due pushed (λ c same begun. absurd cc) halts.shown) (subst (λ (x : Past). Leaves w v x) (sym is) leaves)
         (ap (λ (x : Past). x.telling.start_to_stop) is ∙ none_left)
 
 -- the same happening in the same trace

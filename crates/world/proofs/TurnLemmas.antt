@@ -1,5 +1,27 @@
 -- A turn that is due is the happening that comes next, and what it leaves.
-use Rattle.std.proofs.Common.{◌≡◌, ℕ, Bool, true, false, if◌then◌else◌, List, [], map, Option, Some, None, refl, ap, sym, ◌∙◌}
+use Rattle.std.proofs.Common.{◌≡◌, ◌≢◌, ℕ, zero, suc, Bool, true, false, if◌then◌else◌, List, [], ◌∷◌, ◌++◌, length, map, unwrap_or, slice_get, slice_set, Option, Some, None, refl, ap, sym, subst, ◌∙◌}
+use Rattle.std.specs.Option.{option_to_list}
+use Rattle.record_log.specs.Held.{HoldRecords}
+use Rattle.net_bag.specs.Net.{Net, lost_at_once, sent_on}
+use Rattle.node_rules.specs.Words.{numbered, set_numbered}
+use Rattle.node_disk.specs.Starts.{CanBeStarted}
+use Rattle.tran_ids.proofs.NumberedLemmas.{set_found, set_leaves, set_length}
+use Rattle.run_laws.specs.Data.{Turn}
+use Rattle.run_laws.specs.Facts.{facts_turned, flat, kept_after, outcome_at, records_at, served, taken, to_stop_after}
+use Rattle.run_laws.specs.Lawful.{boots}
+use Rattle.run_laws.specs.Past.{next, telling_turned, turned}
+use Rattle.run_laws.specs.Telling.{Telling}
+use Rattle.run_laws.proofs.AtNodeLemmas.{there_too}
+use Rattle.run_trace.specs.Recorded.{IsNext, past_of}
+use Rattle.world.specs.declared.site.Site.{Site}
+use Rattle.world.specs.declared.turning.Begun.{Begun}
+use Rattle.world.specs.declared.world.World.{World}
+use Rattle.world.specs.Site.{OtherSitesAre, RunsAt, SiteIs, has_to_fall, up_at, site_disk, site_kept, bytes_of, images_of}
+use Rattle.world.specs.Steps.{StepsOn}
+use Rattle.world.specs.Turns.{IsUnderWay}
+use Rattle.world.proofs.SiteLemmas.{SameAt, others_stay, own_and_others}
+use Rattle.world.proofs.StepLemmas.{IsPushed, Leaves, Stands, shown_on, steps_on}
+use Rattle.world.proofs.ToStopLemmas.{turn_keeps}
 use Rattle.node_rules.specs.Data.{RedoRecord, Place, Input, Msg}
 use Rattle.node_rules.specs.Kept.{Kept, Outcome}
 use Rattle.node_rules.specs.Turn.{turn_of}
@@ -8,7 +30,7 @@ use Rattle.run_laws.specs.Data.happenings
 use Rattle.run_laws.specs.Cuts.{Cut_by, By_nothing, By_strike, By_point, cut_by}
 use Rattle.run_laws.specs.Facts.{Facts, node_at, place_at}
 use Rattle.run_laws.specs.Telling.{Past}
-use Rattle.run_laws.specs.Due.{Due, Tells, Falls, Pends, Gives_up, Delivers, Recovers, Cuts, Joins, Loses, Stops, Starts, Begins, Ends, comes_next, due_of, happens, turn_at, turn_by, turn_comes}
+use Rattle.run_laws.specs.Due.{Due, tells_first, falls_first, Tells, Falls, Pends, Gives_up, Delivers, Recovers, Cuts, Joins, Loses, Stops, Starts, Begins, Ends, comes_next, due_of, happens, turn_at, turn_by, turn_comes}
 use Rattle.world.specs.Needs.{IsTurnDue}
 use Rattle.world.specs.Turns.{TookIs, stands_by, stood}
 
@@ -46,5 +68,136 @@ cut_is n input took o (By_strike true) not = refl
 cut_is n input took o (By_strike false) not = refl
 cut_is n input took o (By_point root numbers true) not = refl
 cut_is n input took o (By_point root numbers false) not = refl
+
+-- a turn is due where no node has to stop
+settled : (commands : List Command) (p : Past) (n : ℕ) (input : Input) → IsTurnDue p.facts (due_of commands p) n input → p.facts.node_to_stop ≡ None
+unfolding due_of
+settled commands p n input due = by_parts _ p.facts.losses_to_tell p.facts.node_to_stop due
+  where
+    by_parts : (d : Due) (ks : List ℕ) (o : Option ℕ) → IsTurnDue p.facts (tells_first (falls_first d o) ks) n input → o ≡ None
+    by_parts d (k ∷ ks) o due = absurd due
+    by_parts d [] None due = refl
+    by_parts d [] (Some m) due = absurd due
+
+-- the records of a turn's node count as many starts as before
+boots_stay : (lists : List (List RedoRecord)) (n : ℕ) (wrote : Option RedoRecord) → boots (unwrap_or (numbered lists n) [] ++ option_to_list wrote) ≡ boots (unwrap_or (numbered lists n) [])
+    → map boots (set_numbered lists n (unwrap_or (numbered lists n) [] ++ option_to_list wrote)) ≡ map boots lists
+boots_stay lists zero wrote same = refl
+boots_stay lists (suc i) wrote same = by lists i same
+  where
+    by : (xs : List (List RedoRecord)) (j : ℕ) → boots (unwrap_or (slice_get xs j) [] ++ option_to_list wrote) ≡ boots (unwrap_or (slice_get xs j) [])
+        → map boots (slice_set xs j (unwrap_or (slice_get xs j) [] ++ option_to_list wrote)) ≡ map boots xs
+    by [] j same = refl
+    by (x ∷ xs) zero same = ap (λ (b : ℕ). b ∷ map boots xs) same
+    by (x ∷ xs) (suc j) same = ap (λ (bs : List ℕ). boots x ∷ bs) (by xs j same)
+
+-- What a turn leaves of the world beside its sites.
+pub record Turns (k : Kept) (u : Turn) (o : Outcome) (w v : World) : Type 0 where
+  pub running : v.running ≡ w.running
+  pub to_stop : v.to_stop ≡ to_stop_after u
+  pub boots : v.boots.items ≡ w.boots.items
+  pub shown : v.shown.items ≡ w.shown.items
+  pub net : v.net ≡ sent_on (taken w.net u.took) u.sent
+  pub losses : v.losses.items ≡ lost_at_once (taken w.net u.took) u.sent
+  pub telling : v.telling ≡ telling_turned w.running (Some k) w.telling u (Some o)
+  pub sites : length v.sites.items ≡ length w.sites.items
+  pub others : (m : ℕ) → u.node ≢ m → numbered v.sites.items m ≡ numbered w.sites.items m
+
+-- The site of the node after its turn.
+pub record HasTurned (place : Place) (kept : Option Kept) (rs : List RedoRecord) (site : Site) : Type 0 where
+  pub kept : site_kept site ≡ kept
+  pub runs : RunsAt place site
+  pub holds : HoldRecords rs (bytes_of (site_disk site))
+  pub starts : CanBeStarted bytes_of images_of (site_disk site)
+
+module _ (w v : World) (begun : Begun) (input : Input) (k : Kept) (by : Cut_by) (under : IsUnderWay begun input k w by) (u : Turn) where
+  abbrev p : Past
+  p = past_of w.trace
+
+  abbrev place : Place
+  place = place_at w.trace.places begun.node
+
+  abbrev o : Outcome
+  o = turn_of place k input
+
+  module _ (is : turn_by begun.node input begun.took o by ≡ happenings.Turn u) (pushed : IsPushed w.trace v.trace (happenings.Turn u)) (node : u.node ≡ begun.node) (input_is : u.input ≡ input)
+      (wrote : boots (records_at p.facts u.node ++ option_to_list u.wrote) ≡ boots (records_at p.facts u.node)) (turns : Turns k u o w v)
+      (own : (site : Site) → numbered v.sites.items u.node ≡ Some site → HasTurned (place_at w.trace.places u.node) (kept_after u.cut (Some o)) (records_at p.facts u.node ++ option_to_list u.wrote) site) where
+    abbrev q : Past
+    q = record { facts = facts_turned p.facts u (Some o); telling = telling_turned p.facts.command (Some k) p.telling u (Some o) }
+
+    up : node_at p.facts u.node ≡ Some k
+    up = ap (node_at p.facts) node ∙ under.up
+
+    outcome_is : outcome_at w.trace.places p.facts u ≡ Some o
+    outcome_is =
+        ap (λ (x : Option Kept). served (place_at w.trace.places u.node) u.input x) up
+        ∙ (ap (λ (n : ℕ). Some (turn_of (place_at w.trace.places n) k u.input)) node ∙ ap (λ (x : Input). Some (turn_of place k x)) input_is)
+
+    next_is : next w.trace.places w.trace.commands p (happenings.Turn u) ≡ q
+    unfolding next
+    next_is =
+        ap (λ (x : Option Outcome). turned p u x) outcome_is
+        ∙ ap (λ (x : Option Kept). record { facts = facts_turned p.facts u (Some o); telling = telling_turned p.facts.command x p.telling u (Some o) }) up
+
+    due_next : IsNext w.trace (happenings.Turn u)
+    due_next = turn_comes_next w.trace.places p w.trace.commands begun.node input begun.took k by under.due under.took under.up under.cut ∙ ap (λ (h : Happening). Some h) is
+
+    stays_upright : q.telling.start_to_stop ≡ None
+    stays_upright = turn_keeps None p.facts.command (Some k) p.telling u (Some o) under.upright
+
+    up_is : (m : ℕ) → up_at q m ≡ node_at q.facts m
+    up_is m = ap (λ (x : Option ℕ). if has_to_fall x m then None else node_at q.facts m) stays_upright
+
+    elsewhere : (m : ℕ) → u.node ≢ m → SameAt p q m
+    elsewhere m other = record {
+      kept = up_is m
+          ∙ (ap flat (set_leaves p.facts.nodes u.node m (kept_after u.cut (Some o)) other) ∙ sym (ap (λ (x : Option ℕ). if has_to_fall x m then None else node_at p.facts m) under.upright));
+      records = ap (λ (x : Option (List RedoRecord)). unwrap_or x []) (set_leaves p.facts.records u.node m (records_at p.facts u.node ++ option_to_list u.wrote) other);
+    }
+
+    own_is : (site : Site) → numbered v.sites.items u.node ≡ Some site → SiteIs w.trace.places q u.node site
+    own_is site there =
+        let has : HasTurned (place_at w.trace.places u.node) (kept_after u.cut (Some o)) (records_at p.facts u.node ++ option_to_list u.wrote) site = own site there in
+        let node_there = there_too v.sites.items p.facts.nodes u.node site (turns.sites ∙ (under.counted.sites ∙ sym under.counted.nodes)) there in
+        let records_there = there_too v.sites.items p.facts.records u.node site (turns.sites ∙ (under.counted.sites ∙ sym under.counted.records)) there in
+        record {
+          kept = has.kept ∙ sym (up_is u.node ∙ ap flat (set_found p.facts.nodes u.node node_there.0 (kept_after u.cut (Some o)) node_there.1));
+          runs = has.runs;
+          holds = subst (λ (rs : List RedoRecord). HoldRecords rs (bytes_of (site_disk site)))
+              (sym (ap (λ (x : Option (List RedoRecord)). unwrap_or x []) (set_found p.facts.records u.node records_there.0 (records_at p.facts u.node ++ option_to_list u.wrote) records_there.1))) has.holds;
+          starts = has.starts;
+        }
+
+    others_are : OtherSitesAre u.node w.trace.places q v.sites.items
+    others_are m site other there =
+        others_stay w.trace.places p q u.node elsewhere w.sites.items (λ x y not at. under.others x y (λ same. not (node ∙ same)) at) m site other (sym (turns.others m other) ∙ there)
+
+    leaves : Leaves w v q
+    leaves = record {
+      parts = record {
+        running = turns.running ∙ under.parts.running;
+        net = turns.net ∙ ap (λ (net : Net). sent_on (taken net u.took) u.sent) under.parts.net;
+        losses = turns.losses ∙ ap (λ (net : Net). lost_at_once (taken net u.took) u.sent) under.parts.net;
+        to_stop = turns.to_stop;
+        boots = turns.boots ∙ (under.parts.boots ∙ sym (boots_stay p.facts.records u.node u.wrote wrote));
+        telling = turns.telling
+            ∙ (ap (λ (running : ℕ). telling_turned running (Some k) w.telling u (Some o)) under.parts.running ∙ ap (λ (t : Telling). telling_turned p.facts.command (Some k) t u (Some o)) under.parts.telling);
+      };
+      count = turns.sites;
+      nodes = set_length p.facts.nodes u.node (kept_after u.cut (Some o));
+      records = set_length p.facts.records u.node (records_at p.facts u.node ++ option_to_list u.wrote);
+      sites = own_and_others w.trace.places q u.node v.sites.items own_is others_are;
+    }
+
+    pub turn_moves : StepsOn w v
+    turn_moves =
+        let stands : Stands w = record { script = under.script; counted = under.counted; shown = under.shown } in
+        steps_on w v (happenings.Turn u) stands due_next pushed (shown_on w v (happenings.Turn u) stands due_next pushed (λ c same begun_c. absurd cc) turns.shown)
+          (subst (λ (x : Past). Leaves w v x) (sym next_is) leaves) (ap (λ (x : Past). x.telling.start_to_stop) next_is ∙ stays_upright)
+
+  -- no node has to stop before a turn
+  pub none_to_stop : w.to_stop ≡ None
+  none_to_stop = under.parts.to_stop ∙ settled w.trace.commands p begun.node input under.due
 
 pub ruleset turn_steps = (turn_comes_next, cut_is)

@@ -20,6 +20,7 @@ use Rattle.run_laws.specs.Facts.{node_at, place_at, records_at}
 use Rattle.run_laws.specs.Cuts.{Cut_by, By_nothing, By_point, By_strike, cut_by}
 use Rattle.run_laws.specs.Telling.{Past}
 use Rattle.run_laws.specs.Due.{Due, Delivers}
+use Rattle.run_laws.specs.Lawful.{boots}
 use Rattle.run_trace.specs.Recorded.{past_of}
 use Rattle.world.specs.declared.site.Site.{Site}
 use Rattle.world.specs.declared.turning.Begun.{Begun}
@@ -64,6 +65,7 @@ pub record IsUnderWay (begun : Begun) (input : Input) (k : Kept) (w : World) (by
   pub took : TookIs (due_in w.trace) begun.took
   pub up : node_at (past_of w.trace).facts begun.node ≡ Some k
   pub caller : CallerOf k input begun.caller
+  pub boots : boots (records_at (past_of w.trace).facts begun.node ++ option_to_list (turn_of (place_at w.trace.places begun.node) k input).wrote) ≡ boots (records_at (past_of w.trace).facts begun.node)
   pub cut : cut_by (past_of w.trace).telling begun.node k input (turn_of (place_at w.trace.places begun.node) k input) ≡ by
 
 -- The node did this, and its record stands on its disk.
