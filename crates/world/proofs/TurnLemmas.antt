@@ -5,8 +5,14 @@ use Rattle.record_log.specs.Held.{HoldRecords}
 use Rattle.net_bag.specs.Net.{Net, lost_at_once, sent_on}
 use Rattle.node_rules.specs.Words.{numbered, set_numbered}
 use Rattle.node_disk.specs.Starts.{CanBeStarted}
+use Rattle.node_disk.specs.Effects.{mailed}
+use Rattle.node_disk.specs.declared.effects.Effects.{Effects}
+use Rattle.node_disk.specs.declared.effects.Mailed.{Mailed}
+use Rattle.node_rules.specs.Data.{Stmt}
+use Rattle.node_rules.specs.Data.inputs
+use Rattle.node_rules.specs.Sessions.{session_at}
 use Rattle.tran_ids.proofs.NumberedLemmas.{set_found, set_leaves, set_length}
-use Rattle.run_laws.specs.Data.{Turn}
+use Rattle.run_laws.specs.Data.{Session, Turn}
 use Rattle.run_laws.specs.Facts.{facts_turned, flat, kept_after, outcome_at, records_at, served, taken, to_stop_after}
 use Rattle.run_laws.specs.Lawful.{boots}
 use Rattle.run_laws.specs.Past.{next, telling_turned, turned}
@@ -18,7 +24,7 @@ use Rattle.world.specs.declared.turning.Begun.{Begun}
 use Rattle.world.specs.declared.world.World.{World}
 use Rattle.world.specs.Site.{OtherSitesAre, RunsAt, SiteIs, has_to_fall, up_at, site_disk, site_kept, bytes_of, images_of}
 use Rattle.world.specs.Steps.{StepsOn}
-use Rattle.world.specs.Turns.{IsUnderWay}
+use Rattle.world.specs.Turns.{CallerOf, IsDuringAt, IsUnderWay}
 use Rattle.world.proofs.SiteLemmas.{SameAt, others_stay, own_and_others}
 use Rattle.world.proofs.StepLemmas.{IsPushed, Leaves, Stands, shown_on, steps_on}
 use Rattle.world.proofs.ToStopLemmas.{turn_keeps}
@@ -104,8 +110,8 @@ pub record Turns (k : Kept) (u : Turn) (o : Outcome) (w v : World) : Type 0 wher
   pub others : (m : ℕ) → u.node ≢ m → numbered v.sites.items m ≡ numbered w.sites.items m
 
 -- The site of the node after its turn.
-pub record HasTurned (place : Place) (kept : Option Kept) (rs : List RedoRecord) (site : Site) : Type 0 where
-  pub kept : site_kept site ≡ kept
+pub record HasTurned (place : Place) (keeps : Option Kept) (rs : List RedoRecord) (site : Site) : Type 0 where
+  pub kept : site_kept site ≡ keeps
   pub runs : RunsAt place site
   pub holds : HoldRecords rs (bytes_of (site_disk site))
   pub starts : CanBeStarted bytes_of images_of (site_disk site)
@@ -199,5 +205,33 @@ module _ (w v : World) (begun : Begun) (input : Input) (k : Kept) (by : Cut_by) 
   -- no node has to stop before a turn
   pub none_to_stop : w.to_stop ≡ None
   none_to_stop = under.parts.to_stop ∙ settled w.trace.commands p begun.node input under.due
+
+-- the session that calls
+pub caller_of : (k : Kept) (input : Input) (s : Session) → CallerOf k input s → (session : ℕ) (statement : Option Stmt) → input ≡ inputs.Call session statement → s ≡ session_at k.sessions session
+caller_of k (inputs.Call x y) s is session statement same = let at : x ≡ session = cc in is ∙ ap (session_at k.sessions) at
+caller_of k (inputs.GiveUp x) s is session statement same = absurd cc
+caller_of k (inputs.Message m) s is session statement same = absurd cc
+caller_of k inputs.Reco s is session statement same = absurd cc
+
+-- messages with their bytes, and without them
+pub without_bytes : (ms : List Msg) → map (λ (x : Mailed). x.msg) (map mailed ms) ≡ ms
+without_bytes [] = refl
+without_bytes (m ∷ ms) = ap (λ (xs : List Msg). m ∷ xs) (without_bytes ms)
+
+-- a whole turn, by what its node told
+pub whole_is : (n : ℕ) (input : Input) (took : Option Took) (o : Outcome) (wrote : Option RedoRecord) (sent : List Msg) → wrote ≡ o.wrote → sent ≡ o.sent
+    → turn_by n input took o By_nothing ≡ happenings.Turn (record { node = n; input = input; took = took; wrote = wrote; sent = sent; cut = false })
+whole_is n input took o wrote sent is are =
+    ap (λ (x : Option RedoRecord). happenings.Turn (record { node = n; input = input; took = took; wrote = x; sent = o.sent; cut = false })) (sym is)
+    ∙ ap (λ (xs : List Msg). happenings.Turn (record { node = n; input = input; took = took; wrote = wrote; sent = xs; cut = false })) (sym are)
+
+-- a whole turn is the happening that comes next
+pub whole_next : (w : World) (begun : Begun) (e : Effects) (k new : Kept) → IsDuringAt begun e w k new → (sent : List Msg) → sent ≡ (turn_of (place_at w.trace.places begun.node) k e.input).sent
+    → IsNext w.trace (happenings.Turn (record { node = begun.node; input = e.input; took = begun.took; wrote = e.wrote; sent = sent; cut = false }))
+whole_next w begun e k new during sent are =
+    let under = during.under_way in
+    let out : Outcome = turn_of (place_at w.trace.places begun.node) k e.input in
+    turn_comes_next w.trace.places (past_of w.trace) w.trace.commands begun.node e.input begun.took k By_nothing under.due under.took under.up under.cut
+    ∙ ap (λ (h : Happening). Some h) (whole_is begun.node e.input begun.took out e.wrote sent during.tells.wrote are)
 
 pub ruleset turn_steps = (turn_comes_next, cut_is)

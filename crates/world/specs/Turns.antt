@@ -1,5 +1,6 @@
 -- A turn of a node, between what its node did and what the trace takes.
 use Rattle.std.specs.Prelude.{◌≡◌, ℕ, Bool, true, false, Option, Some, None}
+use Rattle.std.specs.List.{AllByRecursion}
 use Rattle.node_rules.specs.Data.{Input, RedoRecord}
 use Rattle.node_rules.specs.Data.inputs
 use Rattle.node_rules.specs.Words.{numbered}
@@ -25,6 +26,7 @@ use Rattle.run_trace.specs.Recorded.{past_of}
 use Rattle.world.specs.declared.site.Site.{Site}
 use Rattle.world.specs.declared.turning.Begun.{Begun}
 use Rattle.world.specs.declared.world.World.{World}
+use Rattle.world.specs.Mail.{IsMailed}
 use Rattle.world.specs.Needs.{IsOfScript, IsTurnDue, due_in}
 use Rattle.world.specs.Linked.{AreCounted, PartsAre}
 use Rattle.world.specs.Shown.{ShowDisks}
@@ -73,6 +75,7 @@ pub record IsDuringAt (begun : Begun) (e : Effects) (w : World) (k new : Kept) :
   pub under_way : IsUnderWay begun e.input k w By_nothing
   pub tells : Tells (turn_of (place_at w.trace.places begun.node) k e.input) new e
   pub passed : TellsPasses k (turn_of (place_at w.trace.places begun.node) k e.input) e
+  pub mailed : AllByRecursion IsMailed e.sent
   pub site : (s : Site) → numbered w.sites.items begun.node ≡ Some s → (site_kept s ≡ Some new) × RunsAt (place_at w.trace.places begun.node) s
       × HoldRecords (records_at (past_of w.trace).facts begun.node ++ option_to_list e.wrote) (bytes_of (site_disk s)) × CanBeStarted bytes_of images_of (site_disk s)
 

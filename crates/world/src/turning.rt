@@ -147,7 +147,8 @@ impl World {
             cut: false,
         };
         self.telling.turn(alloc, self.running, &turn, facts)?;
-        self.trace.push(alloc, Happening::Turn(turn))
+        self.trace.push(alloc, Happening::Turn(turn))?;
+        Ok(())
     }
 
     // The message of a turn is taken, and its own are sent. There is no loss to tell before it.
