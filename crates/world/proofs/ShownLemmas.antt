@@ -22,6 +22,6 @@ told_none line rest [] left none is = ap (λ (ls : List AnswerLine). line ∷ ls
 told_none line rest (d ∷ ds) left none is = absurd cc
 
 -- lines after which none follow
-pub told_all : (told lines : List AnswerLine) (shown left : List DiskShown) → disks_told (lines ++ []) shown ≡ told ++ disks_told [] left → disks_told lines shown ≡ told
+pub told_done : (lines told : List AnswerLine) (shown left : List DiskShown) → ((rest : List AnswerLine) → disks_told (lines ++ rest) shown ≡ told ++ disks_told rest left) → told ≡ disks_told lines shown
 unfolding disks_told
-told_all told lines shown left is = ap (λ (ls : List AnswerLine). disks_told ls shown) (sym (append-nil lines)) ∙ (is ∙ append-nil told)
+told_done lines told shown left is = sym (ap (λ (ls : List AnswerLine). disks_told ls shown) (sym (append-nil lines)) ∙ (is [] ∙ append-nil told))

@@ -1,5 +1,5 @@
 //! A node takes a turn.
-ghost use Rattle.std.specs.Prelude.{◌≡◌, map, OnOk, IfOk};
+ghost use Rattle.std.specs.Prelude.{◌≡◌, [], map, true, OnOk, IfOk};
 ghost use Rattle.std.specs.List.{AllByRecursion};
 ghost use Rattle.wire_msg.specs.declared.input.Input.{Input as InputBy};
 ghost use Rattle.node_disk.specs.Incoming.{IsReadAs};
@@ -12,7 +12,7 @@ ghost use Rattle.world.specs.Needs.{due_in, IsTurnDue};
 ghost use Rattle.world.specs.Mail.{IsMailed};
 ghost use Rattle.world.specs.Linked.{IsLinked};
 ghost use Rattle.world.specs.Steps.{StepsOn};
-ghost use Rattle.world.specs.Turns.{CallerIs, TookIs, IsDuring, IsCutDuring, stands_by};
+ghost use Rattle.world.specs.Turns.{CallerIs, TookIs, IsDuring, IsCutDuring, stands_by, stood};
 
 use crate::World;
 use crate::laws::{numbers_stay_small, what_is_due_can_happen};
@@ -74,6 +74,25 @@ fn stands(cut: Cut) -> bool
         Cut::Before(_passes) => false,
         Cut::After(_passes) => true,
         Cut::InAppend { stands } => stands,
+    }
+}
+
+// A turn that was cut: its record stands or not, and nothing is sent.
+fn cut_short(alloc: Global, begun: Begun, cut: CutTurn, stands: bool) -> Turn
+    ensures { result ≡ record { node = begun.node; input = cut.input; took = begun.took; wrote = stood stands cut.tried; sent = []; cut = true } }
+{
+    let CutTurn {
+        input,
+        tried,
+        passes: _passes,
+    } = cut;
+    Turn {
+        node: begun.node,
+        input,
+        took: begun.took,
+        wrote: if stands { tried } else { None },
+        sent: Listing::new(alloc),
+        cut: true,
     }
 }
 
@@ -177,27 +196,14 @@ impl World {
         ensures extends { Extends self.old.trace self.new.trace }
     {
         numbers_stay_small()?;
-        let CutTurn {
-            input,
-            tried,
-            passes,
-        } = cut;
-        let writes = tried.is_some();
-        let by = self.telling.cut(begun.node, writes, passes);
         let facts = TurnFacts {
             caller: begun.caller,
-            writes,
-            passes,
+            writes: cut.tried.is_some(),
+            passes: cut.passes,
             ended: Listing::new(alloc),
         };
-        let turn = Turn {
-            node: begun.node,
-            input,
-            took: begun.took,
-            wrote: if stands(by) { tried } else { None },
-            sent: Listing::new(alloc),
-            cut: true,
-        };
+        let by = self.telling.cut(begun.node, facts.writes, facts.passes);
+        let turn = cut_short(alloc, begun, cut, stands(by));
         take(&mut self.net, begun.took);
         self.telling.turn(alloc, self.running, &turn, facts)?;
         self.trace.push(alloc, Happening::Turn(turn))?;
