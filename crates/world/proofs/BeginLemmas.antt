@@ -206,9 +206,9 @@ module _ (w v : World) (n : ℕ) (linked : IsLinked w) (due : due_in w.trace ≡
     disk_at w.sites.items m,
     refl,
     λ before later split. elim (split_end w.trace.happenings before later (happenings.Begun n) (happenings.Begun n) split) [
-      inl same ↦ subst (λ (hs : List Happening). StandsFor (disk_at w.sites.items m) (records_at (facts_of w.trace.places w.trace.commands (first_facts w.trace.places) hs) (disk_of command))) same.1
+      | inl same ↦ subst (λ (hs : List Happening). StandsFor (disk_at w.sites.items m) (records_at (facts_of w.trace.places w.trace.commands (first_facts w.trace.places) hs) (disk_of command))) same.1
           (subst (λ (f : Facts). StandsFor (disk_at w.sites.items m) (records_at f (disk_of command))) (facts_are w.trace.places w.trace.commands (start w.trace.places) w.trace.happenings)
-            (subst (λ (c : Command). StandsFor (disk_at w.sites.items m) (records_at p.facts (disk_of c))) (sym is) (held_at m is)))
+          (subst (λ (c : Command). StandsFor (disk_at w.sites.items m) (records_at p.facts (disk_of c))) (sym is) (held_at m is)))
       | inr more ↦ absurd (fresh (before, more.0, more.1))
     ],
   )
@@ -240,7 +240,7 @@ module _ (w v : World) (n : ℕ) (linked : IsLinked w) (due : due_in w.trace ≡
   begin_moves =
       let is = next_begun w.trace.places w.trace.commands p n in
       steps_on w v (happenings.Begun n) (stands_of w linked.held) (begins_next w.trace.places w.trace.commands p n due) pushed shown_now (subst (λ (x : Past). Leaves w v x) (sym is) leaves)
-        (ap (λ (x : Past). x.telling.start_to_stop) is ∙ linked.upright)
+      (ap (λ (x : Past). x.telling.start_to_stop) is ∙ linked.upright)
 
 -- the command that is read at its number
 pub command_read : (asked : List Command) (n : ℕ) (x : Command) → 1 ≤ n → n ≤ length asked → x ≡ get_or asked (n - 1) x → command_at asked n ≡ x
@@ -260,7 +260,7 @@ pub order_stands : (sites : List Site) (i : ℕ) (old new : Site) → slice_get 
     → (now ≡ site) ⊎ IsOrdered site now
 order_stands sites i old new there order n site now before after =
     elim (set_or_before sites (suc i) n new) [
-      inl same ↦ inl (same_site now site (sym after ∙ (same ∙ before)))
+      | inl same ↦ inl (same_site now site (sym after ∙ (same ∙ before)))
       | inr set ↦ inr (subst (λ (s : Site). IsOrdered s now) (same_site old site (sym there ∙ (ap (numbered sites) set.0 ∙ before))) (subst (λ (s : Site). IsOrdered old s) (same_site new now (sym set.1 ∙ after)) order))
     ]
   where

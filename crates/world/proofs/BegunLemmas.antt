@@ -90,7 +90,7 @@ module _ (asked : List Command) (f : Facts) (t : Telling) where
   flows_come : Comes (flows asked f t)
   flows_come =
       either t.hold (next_pumped asked f t (most_of (command_at asked f.command)) (first_flying f.net)) (next_delivery asked f t (first_flying f.net)) (pumped_comes (most_of (command_at asked f.command)) (first_flying f.net))
-        (delivery_comes (first_flying f.net))
+      (delivery_comes (first_flying f.net))
 
   first_comes : (later : Due) (o : Option Due) → Comes later → MayCome o → Comes (acts_first later o)
   first_comes later None comes may = comes
@@ -99,7 +99,7 @@ module _ (asked : List Command) (f : Facts) (t : Telling) where
   once_comes : Comes (acts_once asked f t)
   once_comes =
       either t.acted (flows asked f t) (acts_first (flows asked f t) (act_of f t (command_at asked f.command))) flows_come
-        (first_comes (flows asked f t) (act_of f t (command_at asked f.command)) flows_come (act_comes (command_at asked f.command)))
+      (first_comes (flows asked f t) (act_of f t (command_at asked f.command)) flows_come (act_comes (command_at asked f.command)))
 
   follow_comes : (later : Due) (o : Option Call) → Comes later → Comes (follows_first later o)
   follow_comes later None comes = comes
@@ -117,8 +117,8 @@ module _ (asked : List Command) (f : Facts) (t : Telling) where
   unfolding due_of
   due_comes =
       tell_comes (falls_first (falls_first (follows_first (acts_once asked f t) t.next_call) t.start_to_stop) f.node_to_stop) f.losses_to_tell
-        (fall_comes (falls_first (follows_first (acts_once asked f t) t.next_call) t.start_to_stop) f.node_to_stop
-          (fall_comes (follows_first (acts_once asked f t) t.next_call) t.start_to_stop (follow_comes (acts_once asked f t) t.next_call once_comes)))
+      (fall_comes (falls_first (follows_first (acts_once asked f t) t.next_call) t.start_to_stop) f.node_to_stop
+      (fall_comes (follows_first (acts_once asked f t) t.next_call) t.start_to_stop (follow_comes (acts_once asked f t) t.next_call once_comes)))
 
 -- a command that is due is there
 pub begins_inside : (asked : List Command) (p : Past) (c : ℕ) → due_of asked p ≡ Begins c → (1 ≤ c) × (c ≤ length asked)
@@ -221,5 +221,5 @@ begins_fresh r c run due begun =
     let next_is = begins_next_command r.commands (past_of r) c due in
     let run_is : IsTheRun r.places r.commands (start r.places) (begun.0 ++ happenings.Begun c ∷ begun.1) = subst (λ (hs : List Happening). IsTheRun r.places r.commands (start r.places) hs) begun.2 run in
     let most : c ≤ (past_of r).facts.command =
-        subst (λ (hs : List Happening). c ≤ (past r.places r.commands (start r.places) hs).facts.command) (sym begun.2) (low r.places r.commands (start r.places) begun.0 begun.1 c run_is) in
+    subst (λ (hs : List Happening). c ≤ (past r.places r.commands (start r.places) hs).facts.command) (sym begun.2) (low r.places r.commands (start r.places) begun.0 begun.1 c run_is) in
     absurd (omega (arith, next_is, most))

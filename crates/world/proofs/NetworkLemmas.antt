@@ -100,24 +100,24 @@ module _ (w v : World) (linked : IsLinked w) (keeps : Keeps w v) (acted : v.tell
   pub cut_steps : (a b : ℕ) → due_in w.trace ≡ Cuts a b → IsPushed w.trace v.trace (happenings.Cut a b) → v.net ≡ cut_over w.net a b → v.losses.items ≡ lost_by_cut w.net a b → StepsOn w v
   cut_steps a b due pushed net losses =
       moves (happenings.Cut a b) (cuts_next w.trace.places w.trace.commands p a b due) pushed (cut_over p.facts.net a b) (lost_by_cut p.facts.net a b) (next_cut w.trace.places w.trace.commands p a b)
-        (λ c same. absurd cc) (net ∙ ap (λ (n : Net). cut_over n a b) linked.held.parts.net) (losses ∙ ap (λ (n : Net). lost_by_cut n a b) linked.held.parts.net)
+      (λ c same. absurd cc) (net ∙ ap (λ (n : Net). cut_over n a b) linked.held.parts.net) (losses ∙ ap (λ (n : Net). lost_by_cut n a b) linked.held.parts.net)
 
   pub join_steps : (a b : ℕ) → due_in w.trace ≡ Joins a b → IsPushed w.trace v.trace (happenings.Join a b) → v.net ≡ joined w.net a b → v.losses.items ≡ w.losses.items → StepsOn w v
   join_steps a b due pushed net losses =
       moves (happenings.Join a b) (joins_next w.trace.places w.trace.commands p a b due) pushed (joined p.facts.net a b) p.facts.losses_to_tell (next_join w.trace.places w.trace.commands p a b)
-        (λ c same. absurd cc) (net ∙ ap (λ (n : Net). joined n a b) linked.held.parts.net) (losses ∙ linked.held.parts.losses)
+      (λ c same. absurd cc) (net ∙ ap (λ (n : Net). joined n a b) linked.held.parts.net) (losses ∙ linked.held.parts.losses)
 
   pub tell_steps : (k : ℕ) → due_in w.trace ≡ Tells k → IsPushed w.trace v.trace (happenings.Lost k) → v.net ≡ lost w.net k → v.losses.items ≡ others w.losses.items → StepsOn w v
   tell_steps k due pushed net losses =
       moves (happenings.Lost k) (tells_next w.trace.places w.trace.commands p k due) pushed (lost p.facts.net k) (others p.facts.losses_to_tell) (next_lost w.trace.places w.trace.commands p k)
-        (λ c same. absurd cc) (net ∙ ap (λ (n : Net). lost n k) linked.held.parts.net) (losses ∙ ap others linked.held.parts.losses)
+      (λ c same. absurd cc) (net ∙ ap (λ (n : Net). lost n k) linked.held.parts.net) (losses ∙ ap others linked.held.parts.losses)
 
   -- where no loss was to be told, none is
   pub lose_steps : (k : ℕ) → due_in w.trace ≡ Loses k → IsPushed w.trace v.trace (happenings.Lost k) → v.net ≡ lost w.net k → v.losses.items ≡ w.losses.items → StepsOn w v
   lose_steps k due pushed net losses =
       let none = none_to_tell w.trace.commands p k due in
       moves (happenings.Lost k) (loses_next w.trace.places w.trace.commands p k due) pushed (lost p.facts.net k) (others p.facts.losses_to_tell) (next_lost w.trace.places w.trace.commands p k)
-        (λ c same. absurd cc) (net ∙ ap (λ (n : Net). lost n k) linked.held.parts.net) (losses ∙ (linked.held.parts.losses ∙ (none ∙ sym (ap others none))))
+      (λ c same. absurd cc) (net ∙ ap (λ (n : Net). lost n k) linked.held.parts.net) (losses ∙ (linked.held.parts.losses ∙ (none ∙ sym (ap others none))))
 
 -- all but the first
 pub rest_is : (ks : List ℕ) → drop 1 ks ≡ others ks

@@ -1,5 +1,5 @@
 -- Lines that show no disk, and lines behind which nothing is shown, stand as they are.
-use Rattle.std.proofs.Common.{◌≡◌, List, [], ◌∷◌, ◌++◌, drop, slice_get, Bool, true, false, if◌then◌else◌, Option, Some, None, refl, ap, sym, append-nil, ◌∙◌}
+use Rattle.std.proofs.Common.{◌≡◌, List, [], ◌∷◌, ◌++◌, drop, length, ℕ, ◌+◌, Bool, true, false, if◌then◌else◌, Option, Some, None, refl, ap, sym, append-nil, arith, ◌∙◌}
 use Rattle.run_laws.specs.Data.{AnswerLine}
 use Rattle.world.specs.declared.showing.DiskShown.{DiskShown}
 use Rattle.world.specs.Shown.{disks_told, is_place, showing}
@@ -16,10 +16,10 @@ unfolding disks_told
 told_end [] = refl
 told_end (x ∷ xs) = refl
 
-pub told_none : (line : AnswerLine) (rest : List AnswerLine) (disks left : List DiskShown) → slice_get disks 0 ≡ None → left ≡ drop 1 disks → disks_told (line ∷ rest) disks ≡ line ∷ disks_told rest left
+pub told_none : (line : AnswerLine) (rest : List AnswerLine) (disks left : List DiskShown) → disks ≡ left → left ≡ drop 1 disks → disks_told (line ∷ rest) disks ≡ line ∷ disks_told rest left
 unfolding disks_told
 told_none line rest [] left none is = ap (λ (ls : List AnswerLine). line ∷ ls) (sym (told_end rest) ∙ ap (disks_told rest) (sym is))
-told_none line rest (d ∷ ds) left none is = absurd cc
+told_none line rest (d ∷ ds) left none is = let e = ap (λ (xs : List DiskShown). length xs) (none ∙ is) in absurd (omega (arith, e))
 
 -- lines after which none follow
 pub told_done : (lines told : List AnswerLine) (shown left : List DiskShown) → ((rest : List AnswerLine) → disks_told (lines ++ rest) shown ≡ told ++ disks_told rest left) → told ≡ disks_told lines shown

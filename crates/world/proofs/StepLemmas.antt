@@ -83,7 +83,7 @@ module _ (w v : World) (h : Happening) (held : Stands w) (due : IsNext w.trace h
   pub shown_on : ((c : ℕ) → h ≡ happenings.Begun c → HasBegun w.trace c → ⊥) → v.shown.items ≡ w.shown.items → ShowDisks v.trace v.shown.items
   shown_on other same =
       subst (λ (r : RunSoFar). ShowDisks r v.shown.items) (sym pushed.is)
-        (subst (λ (ds : List DiskShown). ShowDisks (record w.trace { happenings = w.trace.happenings ++ h ∷ [] }) ds) (sym same) (shows_on w.trace h other w.shown.items held.shown))
+      (subst (λ (ds : List DiskShown). ShowDisks (record w.trace { happenings = w.trace.happenings ++ h ∷ [] }) ds) (sym same) (shows_on w.trace h other w.shown.items held.shown))
 
   pub held_on : ShowDisks v.trace v.shown.items → Leaves w v (next w.trace.places w.trace.commands (past_of w.trace) h) → IsHeld v
   held_on shown leaves = record {

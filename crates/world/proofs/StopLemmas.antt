@@ -120,7 +120,7 @@ module _ (w v : World) (n : ℕ) (held : IsHeld w) (due : IsNext w.trace (happen
   halt_steps =
       let is = next_stopped w.trace.places w.trace.commands p n in
       steps_on w v (happenings.Stopped n) (stands_of w held) due pushed (shown_on w v (happenings.Stopped n) (stands_of w held) due pushed (λ c same begun. absurd cc) halts.shown) (subst (λ (x : Past). Leaves w v x) (sym is) leaves)
-        (ap (λ (x : Past). x.telling.start_to_stop) is ∙ none_left)
+      (ap (λ (x : Past). x.telling.start_to_stop) is ∙ none_left)
 
 -- the same happening in the same trace
 pub pushed_in : (before same after : RunSoFar) (h : Happening) → same ≡ before → IsPushed same after h → IsPushed before after h

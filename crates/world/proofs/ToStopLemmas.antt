@@ -38,7 +38,7 @@ module _ (o : Option ℕ) where
   calls_keep places running t n [] has = has
   calls_keep places running t n (c ∷ cs) has =
       either (c.node == n) _ _ (calls_keep places running (call_line running (without_call t c.node c.session) c.command (is_down places n)) n cs (call_line_keeps running (without_call t c.node c.session) c.command (is_down places n) has))
-        (calls_keep places running t n cs has)
+      (calls_keep places running t n cs has)
 
   stop_line_keeps : (places : List Place) (t : Telling) (command : Command) (n : ℕ) → Has t → Has (stop_line places t command n)
   stop_line_keeps places t command n has = either (is_stop_of command n) _ _ has has
@@ -112,10 +112,10 @@ module _ (o : Option ℕ) where
       let ordered = turn_keeps_orders t u.node u.input k out has in
       let took = took_keeps (turn_appends t u.node u.input k out) u.took ordered in
       ends_keep running (without_following (delivered_more (turn_appends t u.node u.input k out) u.took) u.input) u u.cut out
-        (either (is_call u.input) _ _ took took)
+      (either (is_call u.input) _ _ took took)
 
 -- a stop leaves no other to come
 pub stop_ends : (places : List Place) (asked : List Command) (f : Facts) (t : Telling) (n : ℕ) → (telling_stopped places asked f t n).start_to_stop ≡ None
 stop_ends places asked f t n =
     stop_line_keeps None places (stopped_calls places f.command (record (start_refused places f t (command_at asked f.command) n) { start_to_stop = None }) n t.calls) (command_at asked f.command) n
-      (calls_keep None places f.command (record (start_refused places f t (command_at asked f.command) n) { start_to_stop = None }) n t.calls refl)
+    (calls_keep None places f.command (record (start_refused places f t (command_at asked f.command) n) { start_to_stop = None }) n t.calls refl)

@@ -200,7 +200,7 @@ module _ (w v : World) (begun : Begun) (input : Input) (k : Kept) (by : Cut_by) 
     turn_moves =
         let stands : Stands w = record { script = under.script; counted = under.counted; shown = under.shown } in
         steps_on w v (happenings.Turn u) stands due_next pushed (shown_on w v (happenings.Turn u) stands due_next pushed (λ c same begun_c. absurd cc) turns.shown)
-          (subst (λ (x : Past). Leaves w v x) (sym next_is) leaves) (ap (λ (x : Past). x.telling.start_to_stop) next_is ∙ stays_upright)
+        (subst (λ (x : Past). Leaves w v x) (sym next_is) leaves) (ap (λ (x : Past). x.telling.start_to_stop) next_is ∙ stays_upright)
 
   -- no node has to stop before a turn
   pub none_to_stop : w.to_stop ≡ None

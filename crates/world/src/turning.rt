@@ -1,14 +1,17 @@
 //! A node takes a turn.
-ghost use Rattle.std.specs.Prelude.{◌≡◌, [], map, true, OnOk, IfOk};
+ghost use Rattle.std.specs.Prelude.{◌≡◌, ◌<◌, ◌^◌, [], ◌∷◌, ◌++◌, length, map, true, OnOk, IfOk};
 ghost use Rattle.std.specs.List.{AllByRecursion};
 ghost use Rattle.wire_msg.specs.declared.input.Input.{Input as InputBy};
 ghost use Rattle.node_disk.specs.Incoming.{IsReadAs};
 ghost use Rattle.node_disk.specs.OnDisk.{kept_of};
 ghost use Rattle.net_bag.specs.Net.{sent_on, lost_at_once};
 ghost use Rattle.run_laws.specs.Facts.{taken};
-ghost use Rattle.run_trace.specs.Recorded.{Extends, past_of};
+ghost use Rattle.run_laws.specs.Data.happenings as occurrences;
+ghost use Rattle.run_laws.specs.Past.{next};
+ghost use Rattle.run_trace.specs.Recorded.{Extends, IsNext, past_of};
+ghost use Rattle.telling.specs.Facts.{TellsTurn};
 ghost use Rattle.telling.specs.Turned.{cut_as};
-ghost use Rattle.world.specs.Needs.{due_in, IsTurnDue};
+ghost use Rattle.world.specs.Needs.{due_in, IsOfScript, IsTurnDue};
 ghost use Rattle.world.specs.Mail.{IsMailed};
 ghost use Rattle.world.specs.Linked.{IsLinked};
 ghost use Rattle.world.specs.Steps.{StepsOn};
@@ -195,7 +198,6 @@ impl World {
         ensures steps { OnOk result (StepsOn self.old self.new) }
         ensures extends { Extends self.old.trace self.new.trace }
     {
-        numbers_stay_small()?;
         let facts = TurnFacts {
             caller: begun.caller,
             writes: cut.tried.is_some(),
@@ -205,10 +207,27 @@ impl World {
         let by = self.telling.cut(begun.node, facts.writes, facts.passes);
         let turn = cut_short(alloc, begun, cut, stands(by));
         take(&mut self.net, begun.took);
-        self.telling.turn(alloc, self.running, &turn, facts)?;
-        self.trace.push(alloc, Happening::Turn(turn))?;
+        self.tell_turn(alloc, turn, facts)?;
         self.sites[usize::from(begun.node) - 1].stop(alloc);
         self.to_stop = Some(begun.node);
         Ok(())
+    }
+
+    // A turn is told, and the trace takes it.
+    #[tactic(auto, using(run_trace::proofs::ExtendsLemmas::extends_steps))]
+    fn tell_turn(&mut self, alloc: Global, turn: Turn, facts: TurnFacts) -> Result<(), AllocError>
+        requires script { IsOfScript self.old.trace }
+        requires telling { self.old.telling ≡ (past_of self.old.trace).telling }
+        requires next { IsNext self.old.trace (occurrences.Turn turn) }
+        ensures tells { OnOk result (TellsTurn facts self.old.running self.old.telling turn self.new.telling) }
+        ensures trace { OnOk result (self.new.trace ≡ record self.old.trace { happenings = self.old.trace.happenings ++ occurrences.Turn turn ∷ [] }) }
+        ensures past { OnOk result (past_of self.new.trace ≡ next self.old.trace.places self.old.trace.commands (past_of self.old.trace) (occurrences.Turn turn)) }
+        ensures few { OnOk result (length self.new.trace.happenings < 2 ^ 63) }
+        ensures same { self.new ≡ record self.old { trace = self.new.trace; telling = self.new.telling } }
+        ensures extends { Extends self.old.trace self.new.trace }
+    {
+        numbers_stay_small()?;
+        self.telling.turn(alloc, self.running, &turn, facts)?;
+        self.trace.push(alloc, Happening::Turn(turn))
     }
 }

@@ -7,4 +7,4 @@ pub returns-then-not-is_place : goal.returns-then-not-is_place
 returns-then-not-is_place c = λ rest. told_plain c.args.line rest c.args.shown.now.items (sym c.is_place.ensures ∙ c.if-not-is_place.true)
 
 pub returns-in-None : goal.returns-in-None
-returns-in-None c = λ rest. told_none c.args.line rest c.args.shown.now.items c.pop_front.new.self.items (sym c.in-None.ensures.value) c.pop_front.ensures.rest
+returns-in-None c = λ rest. told_none c.args.line rest c.args.shown.now.items c.pop_front.new.self.items c.in-None.ensures.items c.pop_front.ensures.rest
