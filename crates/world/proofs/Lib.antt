@@ -6,6 +6,7 @@ mod NetworkLemmas
 mod DueLemmas
 mod BegunLemmas
 mod BeginLemmas
+mod NewLemmas
 mod TurnLemmas
 mod StopLemmas
 mod StartLemmas
