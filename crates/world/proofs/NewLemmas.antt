@@ -55,8 +55,8 @@ module _ (places : List Place) (commands : List Command) where
               (record { running = new.running; net = new.net; losses = new.losses; to_stop = new.to_stop; boots = new.boots ∙ booted_once places; telling = new.telling });
           counted = record {
             sites = new.count ∙ sym same;
-            nodes = ap (λ (q : Past). length q.facts.nodes) past_is ∙ (length-map _ places ∙ sym same);
-            records = ap (λ (q : Past). length q.facts.records) past_is ∙ (length-map _ places ∙ sym same);
+            nodes = ap (λ (q : Past). length q.facts.nodes) past_is ∙ (length-map places _ ∙ sym same);
+            records = ap (λ (q : Past). length q.facts.records) past_is ∙ (length-map places _ ∙ sym same);
           };
           sites = subst (λ (q : Past). SitesAre w.trace.places q w.sites.items) (sym past_is)
               (subst (λ (x : RunSoFar). SitesAre x.places (start places) w.sites.items) (sym new.trace) (made_sites places w.sites.items new.made));
