@@ -172,7 +172,7 @@ all_there older (r ∷ rs) once = (one_there older r rs once.0, subst (λ whole.
 pub seals_once : (t : History) → IsLawfulRun t → EachAgainst SealsOnce [] (trace_book t.trace)
 seals_once t lawful = each_once [] (trace_book t.trace) (runs_agree t lawful).0
 
--- so each seal on a disk is the only one of its branch there
+-- so no branch has two seals on one disk
 pub records_are_alone : (t : History) → IsLawfulRun t → (n : ℕ) → AllByRecursion (IsTheRecord (records_at (facts_at t) n)) (records_at (facts_at t) n)
 records_are_alone t lawful n =
     let part : EachAgainst SealsOnce [] (filter (is_of_node n) (trace_book t.trace)) = part_once (is_of_node n) [] (trace_book t.trace) (seals_once t lawful) in

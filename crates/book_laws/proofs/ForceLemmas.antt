@@ -1,4 +1,4 @@
--- The branch whose outcome is forced is the only one in doubt at its node, by the book, that the statement's id names.
+-- An outcome is forced on one branch: by the book, the statement's id names no other branch in doubt at that node.
 use Rattle.std.proofs.Common.{◌≡◌, ℕ, ◌||◌, Bool, true, false, true≢false, if◌then◌else◌, map, List, [], ◌∷◌, filter, flat_map, is_some, Option, Some, None, Ok, inl, inr, refl, sym, ap, subst, ◌∙◌}
 use Rattle.std.specs.List.{AllByRecursion, list_any}
 use Rattle.std.specs.Str.{bytes_eq}
@@ -243,7 +243,7 @@ module _ (t : History) (lawful : IsLawfulRun t) (n : ℕ) (k : Kept) (up : node_
         one_alone s.me (filter names_it (in_doubt (book_of (events_of t)) n))
         (apart_filtered names_it (in_doubt (book_of (events_of t)) n) (doubts_apart (book_of (events_of t)) n (subst (EachAgainst SealsOnce []) (sym (book_of_events t)) (seals_once t lawful)))) only there_is
 
-  -- the branch that is forced is the only one in doubt that the id names
+  -- the id names the forced branch, and no other branch in doubt
   pub named_one : (b : BranchId) → branch_to_force names k.stored.durable.kept id ≡ Ok b → named_in_doubt names (facts_at t) n id ≡ b ∷ []
   unfolding branch_to_force
   named_one b is =

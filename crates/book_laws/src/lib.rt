@@ -31,8 +31,8 @@ pub fn every_scn_is_later()
     ensures { EveryScnIsLater }
 {}
 
-/// Each record is due, as far as that hangs on no branch's life before. Records of the catalog, forced outcomes and purges are written for
-/// the statement that came, and the branch whose outcome is forced is the only one in doubt that the statement's id names. Decisions are
+/// Each record is due to what came, where that can be said without what its branch did before. Records of the catalog, forced outcomes and
+/// purges are written for the statement that came. An outcome is forced where the statement's id names one branch in doubt. Decisions are
 /// learned of the neighbour that the branch's Sealed record names as the one on the way to the site, and a sealed branch forgets after it.
 pub fn records_are_due()
     ensures { RecordsAreDue }
