@@ -1,4 +1,4 @@
--- What a record needs of its turn, as far as that hangs on no branch's life before: records of the catalog, forced outcomes and
+-- What a record needs of its turn, where that can be said without what its branch did before: records of the catalog, forced outcomes and
 -- purges are written for the statement that came; decisions are learned of the neighbour that the branch's Sealed record names as
 -- the one on the way to the site, and a sealed branch forgets after that neighbour. (Database Administrator's Guide, "Distributed
 -- Transactions Concepts": two-phase commit; "Managing Distributed Transactions": manually overriding in-doubt transactions.)

@@ -2,7 +2,7 @@
 //!
 //! The book and the disks have the same records in the same order (`specs/DiskLaws.antt`), and in the book a branch is sealed before
 //! its transaction is decided (`specs/SealLaws.antt`). From this and from the order in which branches hold a key at their node follows
-//! the law of commit SCNs. Records are due to what came (`specs/WriteLaws.antt`), as far as that hangs on no branch's life before.
+//! the law of commit SCNs. Records are due to what came (`specs/WriteLaws.antt`), where that can be said without what their branches did before.
 //! Seals and decisions are so by what the branch's node keeps of it (`specs/LeaveLaws.antt`); what the happenings tell of its life
 //! is left to be shown (`specs/LifeLaws.antt`).
 #![tactic(auto)]
