@@ -1,17 +1,18 @@
 #!/usr/bin/env python3
-"""Makes a script of many short statements at one node.
+"""Makes a script of many short statements, at one node or over two.
 
-    bench/make.py [ROWS] > SCRIPT
+    bench/make.py [one|two [COUNT]] > SCRIPT
 
-One node, one table. ROWS rows are inserted, then a quarter as many updated and a quarter as many read, each by its key
-and in no order, with a COMMIT behind every 10 changes. Without ROWS it is 15,000: with the shortest spelling of each
-command these are 1.0 MB, and 20,000 would be past the 1,048,576 bytes that a script may have.
+one: one node, one table. COUNT rows are inserted, then a quarter as many updated and a quarter as many read, each by its key
+and in no order, with a COMMIT behind every 10 changes. two: two nodes. COUNT transactions insert a row at the first node and
+one over the link at the second, and COMMIT. Without COUNT the script is the longest of its kind that is measured: with the
+shortest spelling of each command 15,000 rows are 1.0 MB and 9,600 transactions too; a script may have
+1,048,576 bytes.
 """
 
 import math
 import sys
 
-WHOLE = 15_000
 PER_TRANSACTION = 10
 LIMIT = 1_048_576
 
@@ -30,31 +31,54 @@ def committed(changes):
             yield "COMMIT", ["Commit complete."]
 
 
-def statements(rows):
-    """Each statement with the lines of its answer."""
+def at(node, statements):
+    """Statements of session 1 at a node, as commands."""
+    for statement, answer in statements:
+        yield f"AT {node} SESSION 1:{statement}", answer
+
+
+def one_node(rows):
+    """Each command of a script of one node with the lines of its answer."""
     quarter = keys(rows, rows // 4)
-    yield "CREATE TABLE T(K NUMBER PRIMARY KEY,V NUMBER)", ["Table created."]
-    yield from committed([(f"INSERT INTO T VALUES({key},1)", ["1 row created."]) for key in keys(rows, rows)])
-    yield from committed([(f"UPDATE T SET V=2WHERE K={key}", ["1 row updated."]) for key in quarter])
-    for key in quarter:
-        yield f"SELECT*FROM T WHERE K={key}", ["K|V", f"{key}|2", "1 row selected."]
+    yield "NODE A", ["ok"]
+    yield from at("A", [("CREATE TABLE T(K NUMBER PRIMARY KEY,V NUMBER)", ["Table created."])])
+    yield from at("A", committed([(f"INSERT INTO T VALUES({key},1)", ["1 row created."]) for key in keys(rows, rows)]))
+    yield from at("A", committed([(f"UPDATE T SET V=2WHERE K={key}", ["1 row updated."]) for key in quarter]))
+    yield from at("A", [(f"SELECT*FROM T WHERE K={key}", ["K|V", f"{key}|2", "1 row selected."]) for key in quarter])
 
 
-def script(rows):
-    """The script, a transaction of INSERTs or UPDATEs a line, and the report that is due."""
-    text, report = ["NODE A;\n"], ["1 ok\n"]
-    for number, (statement, answer) in enumerate(statements(rows), 2):
-        text.append(f"AT A SESSION 1:{statement};")
-        text.append("" if statement.startswith(("INSERT", "UPDATE")) else "\n")
+def two_nodes(transactions):
+    """Each command of a script of two nodes with the lines of its answer."""
+    yield from [("NODE A", ["ok"]), ("NODE B", ["ok"])]
+    for node in "AB":
+        yield from at(node, [("CREATE TABLE T(K NUMBER PRIMARY KEY)", ["Table created."])])
+    yield from at("A", [("CREATE DATABASE LINK B USING'B'", ["Database link created."])])
+    for key in keys(transactions, transactions):
+        yield from at("A", [(f"INSERT INTO T VALUES({key})", ["1 row created."])])
+        yield from at("A", [(f"INSERT INTO T@B VALUES({key})", ["1 row created."])])
+        yield from at("A", [("COMMIT", ["Commit complete."])])
+
+
+# each kind of script, and how many rows or transactions the longest has
+SCRIPTS = {"one": (one_node, 15_000), "two": (two_nodes, 9_600)}
+
+
+def script(kind, count):
+    """The script, a transaction a line, and the report that is due."""
+    text, report = [], []
+    for number, (command, answer) in enumerate(SCRIPTS[kind][0](count), 1):
+        text.append(f"{command};")
+        text.append("" if ":INSERT" in command or ":UPDATE" in command else "\n")
         report.extend(f"{number} {line}\n" for line in answer)
     return "".join(text).encode(), "".join(report).encode()
 
 
 def main():
-    rows = int(sys.argv[1]) if len(sys.argv) > 1 else WHOLE
-    text, _report = script(rows)
+    kind = sys.argv[1] if len(sys.argv) > 1 else "one"
+    count = int(sys.argv[2]) if len(sys.argv) > 2 else SCRIPTS[kind][1]
+    text, _report = script(kind, count)
     if len(text) > LIMIT:
-        sys.exit(f"{rows} rows make a script of {len(text)} bytes, more than {LIMIT}")
+        sys.exit(f"{count} make a script of {len(text)} bytes, more than {LIMIT}")
     sys.stdout.buffer.write(text)
 
 

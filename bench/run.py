@@ -1,12 +1,12 @@
 #!/usr/bin/env python3
-"""How fast a program runs the script of make.py, and one of half the rows.
+"""How fast a program runs each script of make.py, and one of half the rows or transactions.
 
     bench/run.py [PROGRAM]
 
-PROGRAM is crates/dtx/out/dtx where it is left out, which ./prove builds. For each script it prints the rows, the bytes and
-the processor time, the median of 5 runs, and then how many times as long the whole takes as the half. Each run has to
-print the report that is due. The whole is to take less than 2 seconds, and at most 2.3 times as long as the half. No gate
-asks for this, since a time depends on the machine.
+PROGRAM is crates/dtx/out/dtx where it is left out, which ./prove builds. For each script it prints the rows or
+transactions, the bytes and the processor time, the median of 5 runs, and then how many times as long the whole takes as the
+half. Each run has to print the report that is due. The whole is to take less than 2 seconds, and at most 2.3 times as long
+as the half. No gate asks for this, since a time depends on the machine.
 """
 
 import pathlib
@@ -43,18 +43,19 @@ def run(program, script, report):
     return taken
 
 
-def measured(program, rows):
-    """The median of some runs of the script with so many rows."""
-    script, report = make.script(rows)
+def measured(program, kind, count):
+    """The median of some runs of the script of a kind with so many rows or transactions."""
+    script, report = make.script(kind, count)
     taken = statistics.median(run(program, script, report) for _ in range(RUNS))
-    print(f"{rows:6} rows {len(script):9,} bytes {taken:7.3f} s")
+    print(f"{kind:4} {count:6} {len(script):9,} bytes {taken:7.3f} s")
     return taken
 
 
 def main(program):
-    half = measured(program, make.WHOLE // 2)
-    whole = measured(program, make.WHOLE)
-    print(f"{whole / half:.2f} times as long for twice the rows")
+    for kind, (_commands, count) in make.SCRIPTS.items():
+        half = measured(program, kind, count // 2)
+        whole = measured(program, kind, count)
+        print(f"{kind:4} {whole / half:.2f} times as long for twice as many")
 
 
 if __name__ == "__main__":

@@ -1,5 +1,5 @@
 #!/usr/bin/env python3
-"""Shows what no crate outside sole_core and node_disk can write: the end of a call that no turn of a node made.
+"""Shows what no crate outside node_disk can write: the end of a call that no turn of a node made.
 
     tests/must_not_compile.py
 

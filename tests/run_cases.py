@@ -1,5 +1,5 @@
 #!/usr/bin/env python3
-"""Runs the cases below tests/cases and the examples on the built program.
+"""Runs the cases below tests/cases, the examples and the scenarios of the plays on the built program.
 
     tests/run_cases.py [PROGRAM]
 
@@ -11,8 +11,10 @@ PROGRAM is the proved program where it is left out, which ./prove builds. A case
     expected    the whole standard output, byte for byte
     status      the exit status
 
-or a pair NAME.dtx and NAME.out, with the status 0, as each example is. Each failure is one line. The last line is
-`N passed, M failed`; the exit status is 1 where one failed.
+or a pair NAME.dtx and NAME.out, with the status 0, as each example is. A scenario of tests/plays is a folder with a script and
+what is expected, and has the status 0 too; it asks for the book where the last line is one of the book. Those with a command
+that the program does not take yet are left out. Each failure is one line. The last line is `N passed, M failed`; the exit
+status is 1 where one failed.
 """
 
 import pathlib
@@ -22,18 +24,35 @@ import sys
 TOP = pathlib.Path(__file__).resolve().parent.parent
 # what the expression of a make-input may call
 NAMES = {"__builtins__": {"range": range}}
+# commands of the grammar that the program refuses for now
+NOT_YET = (b"CRASH ", b"FAULT ")
+
+
+def words_of(folder):
+    """The words of the command line of a case."""
+    args = folder / "args"
+    return args.read_text().splitlines() if args.exists() else []
+
+
+def book_words(expected):
+    """The words of a scenario, by its last line: those of the book alone have no number in front."""
+    return [] if expected.splitlines()[-1][:1].isdigit() else ["--book"]
 
 
 def cases():
     """Each case: its name, its input, its words, the output and the status that are due."""
     for status in sorted(TOP.glob("tests/cases/**/status")):
         folder = status.parent
-        script, make, args = folder / "script", folder / "make-input", folder / "args"
+        script, make = folder / "script", folder / "make-input"
         data = script.read_bytes() if script.exists() else eval(make.read_text(), NAMES)
-        words = args.read_text().splitlines() if args.exists() else []
-        yield folder.relative_to(TOP), data, words, (folder / "expected").read_bytes(), int(status.read_text())
+        yield folder.relative_to(TOP), data, words_of(folder), (folder / "expected").read_bytes(), int(status.read_text())
     for script in sorted([*TOP.glob("tests/cases/**/*.dtx"), *TOP.glob("examples/*.dtx")]):
         yield script.relative_to(TOP), script.read_bytes(), [], script.with_suffix(".out").read_bytes(), 0
+    for script in sorted(TOP.glob("tests/plays/scenarios/*/*/script")):
+        data = script.read_bytes()
+        if not any(line.startswith(NOT_YET) for line in data.splitlines()):
+            expected = (script.parent / "expected").read_bytes()
+            yield script.parent.relative_to(TOP), data, book_words(expected), expected, 0
 
 
 def why_wrong(program, data, words, expected, status):

@@ -20,11 +20,13 @@ from typing import NamedTuple
 TOP = pathlib.Path(__file__).resolve().parent.parent
 PROGRAM = TOP / "crates/dtx/out/dtx"
 FIRST = (TOP / "examples/first.dtx").read_bytes()
+ORDER = (TOP / "examples/order.dtx").read_bytes()
 
 # words and input, by name
 CALLS = {
     "no words": ([], FIRST),
     "the book": (["--book"], FIRST),
+    "several nodes": (["--book"], ORDER),
     "an empty input": ([], b""),
     "a bad script": ([], b"NODE A;\nFROB;\n"),
     "an unknown word": (["--frob"], FIRST),

@@ -1,4 +1,4 @@
-"""What the only node of a run keeps, refuses and answers."""
+"""What a node without links keeps, refuses and answers."""
 
 from __future__ import annotations
 
@@ -64,6 +64,7 @@ class Change:
 
 @dataclass
 class Transaction:
+    node: int
     boot: int
     session: int
     seq: int
@@ -75,7 +76,7 @@ class Transaction:
         return f"{self.boot}.{self.session}.{self.seq}"
 
     def branch(self):
-        return b"\1" + number(self.boot, 4) + number(self.session, 4) + number(self.seq, 4)
+        return number(self.node, 1) + number(self.boot, 4) + number(self.session, 4) + number(self.seq, 4)
 
 
 class Table:
@@ -178,14 +179,15 @@ def listed(heads, rows):
 
 
 class Node:
-    def __init__(self, name, undo):
+    def __init__(self, name, place, undo, book):
         self.name = name
+        self.place = place
         self.undo = undo
         self.boot = 1
         self.scn = 0
         self.is_up = True
         self.tables = {}
-        self.book = []
+        self.book = book
         self.disk = b"\0"
         self.forget()
         self.append(1, number(1, 4))
@@ -224,7 +226,7 @@ class Node:
     def begin(self, session):
         if session not in self.open:
             seq = self.seqs[session] = self.seqs.get(session, 0) + 1
-            self.open[session] = Transaction(self.boot, session, seq)
+            self.open[session] = Transaction(self.place, self.boot, session, seq)
         return self.open[session]
 
     def end(self, session):
@@ -244,7 +246,7 @@ class Node:
         self.append(7, ended.branch() * 2 + middle + changes)
         for change in ended.changes:
             put(self.tables[change.table].rows, change)
-        root = f"{ended.local()} {self.name}.00000001.{ended.local()}"
+        root = f"{ended.local()} {self.name}.{self.place:08x}.{ended.local()}"
         self.book.append(f"decided {self.name} {root} scn {self.scn} changes {len(ended.changes)}")
 
     def view(self, transaction, table):

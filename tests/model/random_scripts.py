@@ -1,4 +1,4 @@
-"""Random scripts of one node: most of their commands are well formed, and some are not."""
+"""Random scripts of nodes without links: most of their commands are well formed, and some are not."""
 
 import random
 
@@ -13,11 +13,12 @@ BLANKS = [" "] * 12 + ["\n", " \t", "\r\n", " -- it's; a comment 'x\n", "--\n"]
 class Writer:
     def __init__(self, seed):
         self.random = random.Random(seed)
-        self.tables = {}  # the widths of the columns of each, None for numbers, and its key
+        self.tables = {}  # the widths of the columns of each table, None for numbers, and its key
         self.is_calm = self.chance(0.7)
         self.is_sound = self.chance(0.8)
-        self.is_up = True
-        self.name = self.pick(["A", "a.b", "HQ.acme", "U0$#_", "x" * 30])
+        self.stopped = set()
+        names = ["A", "a.b", "HQ.acme", "U0$#_", "x" * 30]
+        self.names = self.random.sample(names, self.pick([1, 1, 2, 3]))
 
     def pick(self, choices):
         return self.random.choice(choices)
@@ -142,7 +143,7 @@ class Writer:
     # ---- commands
 
     def node(self):
-        return "B" if self.bad(0.03) else self.spelled(self.name)
+        return "B" if self.bad(0.03) else self.spelled(self.pick(self.names))
 
     def call(self):
         session = self.pick(["0", "65", "1x", "4294967297"]) if self.bad(0.03) else self.pick(["1", "1", "2", "064"])
@@ -150,19 +151,26 @@ class Writer:
         return f"{head}:{self.blank()}{self.statement()}"
 
     def command(self):
-        if not self.is_up and self.chance(0.6):
-            return self.switch("START")
+        if self.stopped and self.chance(0.6):
+            return self.switch("START", self.pick(sorted(self.stopped)))
         if self.chance(0.9):
             return self.call()
         if self.bad(0.2):
             return self.pick(ODD_COMMANDS)
         if self.chance(0.5):
-            return self.switch(self.pick(["STOP", "STOP", "START"]))
-        return self.pick([self.show_book, self.show_disk])()
+            return self.switch(self.pick(["STOP", "STOP", "START"]), self.pick(self.names))
+        return self.pick([self.show_book, self.show_disk, self.idle])()
 
-    def switch(self, word):
-        self.is_up = word == "START"
-        return f"{self.spelled(word)}{self.blank()}{self.node()}"
+    def switch(self, word, name):
+        self.stopped = self.stopped | {name} if word == "STOP" else self.stopped - {name}
+        return f"{self.spelled(word)}{self.blank()}{self.spelled(name)}"
+
+    def idle(self):
+        """A command that finds nothing to do where no messages are sent."""
+        node, number = self.node(), self.random.randint(0, 9)
+        forms = ["SHOW NET", "HOLD ON", "HOLD OFF", "PUMP", f"PUMP {number}", f"DELIVER {number}", f"AGAIN {number}"]
+        forms += [f"LOSE {number}", f"LOSE NEXT ACK FROM {node} TO {node}", f"RECO {node}", f"SHOW PENDING {node}"]
+        return self.pick([*forms, f"SHOW NEIGHBORS {node}", f"GIVEUP AT {node} SESSION {1 + number}"])
 
     def show_book(self):
         return f"{self.spelled('SHOW')}{self.blank()}{self.spelled('BOOK')}"
@@ -170,13 +178,14 @@ class Writer:
     def show_disk(self):
         return f"{self.spelled('SHOW')}{self.blank()}{self.spelled('DISK')}{self.blank()}{self.node()}"
 
-    def first(self):
+    def made(self, name):
         undo = self.pick(["1", "2", "3", "0064", "1024"]) if not self.bad(0.1) else self.pick(["0", "1025", "x"])
         options = [self.spelled("UNDO"), undo] * self.chance(0.6)
-        return self.blank().join([self.spelled("NODE"), self.spelled(self.name), *options])
+        return self.blank().join([self.spelled("NODE"), self.spelled(name), *options])
 
     def script(self):
-        asked = [self.first()] + [self.command() for _ in range(self.random.randint(1, 120))]
+        asked = [self.made(name) for name in self.names]
+        asked += [self.command() for _ in range(self.random.randint(1, 120))]
         asked += [self.show_book(), self.show_disk()]
         script = "".join(f"{command};{self.blank()}" for command in asked)
         return (self.damaged(script) if self.bad(0.5) else script).encode()

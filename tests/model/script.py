@@ -1,124 +1,66 @@
-"""Scripts of one node: their commands, and what is printed of them."""
+"""Scripts whose nodes use no links: their commands, and what is printed of them."""
 
-import re
-
-import sql
+import commands
+from commands import Bad, pieces
 from node import Node, Refused
-
-BLANKS = b" \t\r\n"
-WORD = re.compile(rb"[A-Za-z][A-Za-z0-9_$#.]*|[0-9]+|.", re.DOTALL)
-
-
-class BadScript(Exception):
-    """The line of the first bad command."""
-
-
-def commands(script):
-    """Each command: the line that it begins in, and its text without comments, None where no semicolon ends it."""
-    found, text, first, line, place, quoted = [], bytearray(), None, 1, 0, False
-    while place < len(script):
-        byte = script[place : place + 1]
-        if not quoted and script.startswith(b"--", place):
-            end = script.find(b"\n", place)
-            place = len(script) if end < 0 else end
-            continue
-        place += 1
-        if byte == b";" and not quoted:
-            found.append((first or line, bytes(text)))
-            text, first = bytearray(), None
-            continue
-        quoted ^= byte == b"'"
-        first = first or (None if byte in BLANKS else line)
-        text += byte
-        line += byte == b"\n"
-    return found + ([(first, None)] if first else [])
-
-
-def words(text):
-    """The words, numbers and signs of a text, in capital letters."""
-    found, place = [], 0
-    while place < len(text):
-        match = WORD.match(text, place)
-        place = match.end()
-        if match.group() not in BLANKS:
-            found.append(match.group().decode("latin-1").upper())
-    return found
-
-
-def ranged(word, least, most):
-    if not (word.isascii() and word.isdigit() and least <= int(word) <= most):
-        raise ValueError(word)
-    return int(word)
 
 
 class Run:
-    """What a script asks for, checked before anything is run."""
+    """A script of nodes that send no messages: HOLD, PUMP, RECO and the like find nothing to do."""
 
     def __init__(self, script):
-        self.name = None
-        self.asked = []
-        for line, text in commands(script):
-            try:
-                if text is None:
-                    raise ValueError
-                self.asked.append(self.read(text))
-            except ValueError:
-                raise BadScript(line) from None
+        self.asked = commands.read(script)
+        self.texts = [piece.said.partition(b":")[2] for piece in pieces(script) if piece.end is not None]
+        self.book = []
+        self.nodes = []
 
-    def read(self, text):
-        """A command, as a call of a node."""
-        if words(text)[:1] == ["AT"]:
-            return self.at(*text.partition(b":"))
-        word, *rest = words(text) or [""]
-        forms = {"NODE": self.node, "STOP": self.stop, "START": self.start, "SHOW": self.show}
-        if word not in forms:
-            raise ValueError(word)
-        return forms[word](rest)
+    def node(self, number, must_be_up=True):
+        node = self.nodes[number - 1]
+        if must_be_up:
+            node.must_be_up()
+        return node
 
-    def must_be(self, names):
-        """The name of the one node stands there alone."""
-        if not self.name or names != [self.name]:
-            raise ValueError(names)
+    def made(self, name, _strength, _links, undo):
+        self.nodes.append(Node(name, len(self.nodes) + 1, undo, self.book))
+        return [b"ok"]
 
-    def at(self, head, colon, text):
-        asked = words(head)
-        if not colon or len(asked) != 4 or asked[2] != "SESSION":
-            raise ValueError(head)
-        self.must_be(asked[1:2])
-        session = ranged(asked[3], 1, 64)
-        return lambda node: node.call(session, text)
+    def shown(self, what, *of):
+        """The lines of a SHOW."""
+        if what == "BOOK":
+            return [line.encode() for line in self.book] or [b"no entries"]
+        if what == "NET":
+            return [b"no messages in flight"]
+        if what == "DISK":
+            return disk_lines(self.node(*of, must_be_up=False).disk)
+        self.node(*of)
+        return [b"no rows selected"]
 
-    def stop(self, names):
-        self.must_be(names)
-        return lambda node: node.stop() or [b"ok"]
-
-    def start(self, names):
-        self.must_be(names)
-        return lambda node: node.start() or [b"ok"]
-
-    def show(self, asked):
-        if asked == ["BOOK"] and self.name:
-            return lambda node: [line.encode() for line in node.book] or [b"no entries"]
-        if asked[:1] != ["DISK"]:
-            raise ValueError(asked)
-        self.must_be(asked[1:])
-        return lambda node: disk_lines(node.disk)
-
-    def node(self, asked):
-        if self.asked or len(asked) not in (1, 3) or not sql.is_name(asked[0]):
-            raise ValueError(asked)
-        if asked[1:2] not in ([], ["UNDO"]):
-            raise ValueError(asked)
-        self.name = asked[0]
-        self.undo = ranged(asked[2], 1, 1024) if asked[2:] else 64
-        return lambda node: [b"ok"]
+    def answered(self, command, text):
+        """The lines that answer a command."""
+        word, *rest = command
+        if word == "NODE":
+            return self.made(*rest)
+        if word == "SHOW":
+            return self.shown(*rest)
+        if word == "AT":
+            return self.node(rest[0]).call(rest[1], text)
+        if word in ("STOP", "START"):
+            node = self.node(rest[0], must_be_up=False)
+            node.stop() if word == "STOP" else node.start()
+        if word == "RECO":
+            self.node(rest[0])
+        if word == "GIVEUP":
+            self.node(rest[1])
+            raise Refused("DTX-14: no call to give up")
+        if word in ("DELIVER", "AGAIN") or (word == "LOSE" and rest[0] != "NEXT"):
+            raise Refused(f"DTX-11: message {rest[0]} cannot be delivered")
+        return [b"ok"]
 
     def printed(self):
-        node = Node(self.name, self.undo) if self.asked else None
         out = []
-        for number, call in enumerate(self.asked, 1):
+        for number, (command, text) in enumerate(zip(self.asked, self.texts), 1):
             try:
-                lines = call(node)
+                lines = self.answered(command, text)
             except Refused as refused:
                 lines = [str(refused).encode()]
             out += [b"%d %s\n" % (number, line) for line in lines]
@@ -133,5 +75,5 @@ def play(script):
     """The exit status of a script, and what is printed of it."""
     try:
         return 0, Run(script).printed()
-    except BadScript as bad:
-        return 1, b"line %d: bad command\n" % bad.args[0]
+    except Bad as bad:
+        return 1, b"line %d: %s\n" % (bad.args[0], bad.args[1].encode())

@@ -1,2 +1,3 @@
 pub mod Torn
 pub mod Struck
+pub mod Planned

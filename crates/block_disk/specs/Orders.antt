@@ -1,23 +1,16 @@
 -- The orders of a disk in memory, and what a write leaves that they strike.
-use Rattle.std.specs.Prelude.{ℕ, ◌-◌, ◌==◌, Bool, true, false, if◌then◌else◌, List, [], length, take, Option, Some, None}
-use Rattle.block_disk.specs.Plan.{Plan, is_next, counted_down}
+use Rattle.std.specs.Prelude.{ℕ, ◌==◌, Bool, true, false, if◌then◌else◌, List, [], Option, Some, None}
+use Rattle.block_disk.specs.Plan.{Plan, is_next, counted_down, write_of, stop_counted_down, left_of}
 use Rattle.block_disk.specs.declared.order.Order.{Order}
 use Rattle.block_disk.specs.declared.order.Order.TheVariants as orders
 use Rattle.block_disk.specs.declared.order.Stop.{Stop}
-use Rattle.block_disk.specs.declared.order.How.{How}
-use Rattle.block_disk.specs.declared.order.How.TheVariants.{Keep, Leave}
 use Rattle.block_disk.specs.declared.orders.Orders.{Orders}
 use Rattle.block_disk.specs.declared.orders.Strike.{Strike}
 use Rattle.block_disk.specs.declared.orders.Strike.TheVariants.{Spares, Fails, Stops}
 
--- what a stop in the write of these bytes leaves at its place: the first of them, or other bytes, but no more of them
-abbrev pub left_of : How → List ℕ → List ℕ
-left_of (Keep count) bytes = take count bytes
-left_of (Leave others) bytes = take (length bytes) others.items
-
 -- the plan with a new order, which takes the place of an earlier one of its kind
 abbrev pub with_order : Plan → Order → Plan
-with_order plan (orders.Stop stop) = record plan { stop = Some stop.write }
+with_order plan (orders.Stop stop) = record plan { stop = Some stop }
 with_order plan (orders.Fault call) = record plan { fault = Some call }
 
 -- the plan with a new order, where the disk shows its plan
@@ -25,14 +18,9 @@ abbrev pub ordered : Option Plan → Order → Option Plan
 ordered None order = None
 ordered (Some plan) order = Some (with_order plan order)
 
--- the write that will stop the disk
-abbrev pub write_of : Option Stop → Option ℕ
-write_of None = None
-write_of (Some stop) = Some stop.write
-
 -- these orders as a plan
 abbrev pub plan_of : Orders → Plan
-plan_of orders = record { stopped = orders.stopped; stop = write_of orders.stop; fault = orders.fault }
+plan_of orders = record { stopped = orders.stopped; stop = orders.stop; fault = orders.fault }
 
 -- these orders and a new one, which takes the place of an earlier one of its kind
 abbrev pub after_order : Orders → Order → Orders
@@ -42,11 +30,6 @@ after_order before (orders.Fault call) = record before { fault = Some call }
 -- these orders once the power is on again
 abbrev pub powered : Orders → Orders
 powered orders = record orders { stopped = false }
-
--- a stop after one more write, which spends it where it strikes
-abbrev pub stop_counted_down : Option Stop → Option Stop
-stop_counted_down None = None
-stop_counted_down (Some stop) = if stop.write == 1 then None else Some (record stop { write = stop.write - 1 })
 
 -- the orders after the next call: only writes count for a stop, and a stopped disk counts nothing
 abbrev pub after_orders : Orders → Bool → Orders

@@ -1,9 +1,9 @@
 //! The trait of disks.
-ghost use Rattle.std.specs.Prelude.{◌≡◌, ◌+◌, ◌-◌, ◌≤◌, ◌<◌, ℕ, List, Option, Bool, true, false, length, take, drop, IfOk, OnOk};
+ghost use Rattle.std.specs.Prelude.{◌≡◌, ◌+◌, ◌-◌, ◌≤◌, ◌<◌, ℕ, List, Option, Bool, true, false, length, take, drop, IfOk, OnOk, OnErr};
 ghost use Rattle.dtx_ports.specs.Causes.{HasCause};
 ghost use Rattle.block_disk.specs.Images.{IsWritten, TearsOnly, AddsNone, IsOnly, GoesOn};
 ghost use Rattle.block_disk.specs.Counts.{next_count};
-ghost use Rattle.block_disk.specs.Plan.{Plan, GoesByPlan};
+ghost use Rattle.block_disk.specs.Plan.{Plan, GoesByPlan, IsLeftByPlan};
 
 use dtx_ports::Failed;
 use std::alloc::AllocError;
@@ -79,7 +79,7 @@ pub trait Disk {
         ensures plan { GoesByPlan (plan self.old) (plan self.new) false result };
 
     /// Writes bytes at a place within the disk's length or at its end. Until a sync, a crash may leave any bytes in
-    /// their range. Fails only where the disk's faults rose.
+    /// their range. Fails only where the disk's faults rose, and then, where the disk shows its plan, leaves what that says.
     fn write_at(&mut self, at: u64, bytes: &[u8]) -> Result<(), Failed>
         requires within { at ≤ length (content self.old) }
         requires some { 0 < length bytes.now }
@@ -91,7 +91,8 @@ pub trait Disk {
         ensures cause { HasCause (faults self.old) (faults self.new) result }
         ensures calls { calls self.new ≡ next_count (calls self.old) }
         ensures writes { writes self.new ≡ next_count (writes self.old) }
-        ensures plan { GoesByPlan (plan self.old) (plan self.new) true result };
+        ensures plan { GoesByPlan (plan self.old) (plan self.new) true result }
+        ensures left { OnErr result (IsLeftByPlan (plan self.old) at bytes.now (content self.old) (content self.new)) };
 
     /// After a sync that succeeds, a crash leaves what a read gives. Fails only where the disk's faults rose.
     fn sync(&mut self) -> Result<(), Failed>

@@ -1,6 +1,6 @@
 //! Orders to a disk, to stop or to fail in one of its calls.
 ghost use Rattle.std.specs.Prelude.{◌≡◌, take};
-ghost use Rattle.block_disk.specs.Orders.{left_of};
+ghost use Rattle.block_disk.specs.Plan.{left_of};
 
 /// An order. Its number counts from the call of `arm`: 1 is the next write or call.
 #[derive(Debug, Drop)]

@@ -67,17 +67,7 @@ sealed_told n b (records.Sealed r ∷ rs) = by (same r.me b) (sealed_told n b rs
     by : (q : Bool) → is_some (sealed_in rs b) ≡ stands (is_sealed_of b) (flat_map (entry_of n) rs) → is_some (if q then Some r else sealed_in rs b) ≡ (q || stands (is_sealed_of b) (flat_map (entry_of n) rs))
     by true rest = refl
     by false rest = rest
-sealed_told n b (records.Boot m ∷ rs) = sealed_told n b rs
-sealed_told n b (records.Table t ∷ rs) = sealed_told n b rs
-sealed_told n b (records.Link l ∷ rs) = sealed_told n b rs
-sealed_told n b (records.Synonym y ∷ rs) = sealed_told n b rs
-sealed_told n b (records.Param x ∷ rs) = sealed_told n b rs
-sealed_told n b (records.Decided r ∷ rs) = sealed_told n b rs
-sealed_told n b (records.Ended c d ∷ rs) = sealed_told n b rs
-sealed_told n b (records.Forced c d given ∷ rs) = sealed_told n b rs
-sealed_told n b (records.Met c d mixed ∷ rs) = sealed_told n b rs
-sealed_told n b (records.Forgot c ∷ rs) = sealed_told n b rs
-sealed_told n b (records.Hidden c ∷ rs) = sealed_told n b rs
+sealed_told n b (_ ∷ rs) = sealed_told n b rs
 
 none_left : {A : Type 0} (o : Option A) → is_some o ≡ false → o ≡ None
 none_left None none = refl
@@ -121,17 +111,7 @@ sealed_after (records.Sealed x ∷ older) r rs none = by (same x.me r.me) none (
         → (if q then Some x else sealed_in (older ++ records.Sealed r ∷ rs) r.me) ≡ Some r
     by true none rest = absurd cc
     by false none rest = rest none
-sealed_after (records.Boot m ∷ older) r rs none = sealed_after older r rs none
-sealed_after (records.Table t ∷ older) r rs none = sealed_after older r rs none
-sealed_after (records.Link l ∷ older) r rs none = sealed_after older r rs none
-sealed_after (records.Synonym y ∷ older) r rs none = sealed_after older r rs none
-sealed_after (records.Param x ∷ older) r rs none = sealed_after older r rs none
-sealed_after (records.Decided x ∷ older) r rs none = sealed_after older r rs none
-sealed_after (records.Ended c d ∷ older) r rs none = sealed_after older r rs none
-sealed_after (records.Forced c d given ∷ older) r rs none = sealed_after older r rs none
-sealed_after (records.Met c d mixed ∷ older) r rs none = sealed_after older r rs none
-sealed_after (records.Forgot c ∷ older) r rs none = sealed_after older r rs none
-sealed_after (records.Hidden c ∷ older) r rs none = sealed_after older r rs none
+sealed_after (_ ∷ older) r rs none = sealed_after older r rs none
 
 -- the disk has a decision of a branch that decided
 decided_after : (older : List RedoRecord) (r : Decided) (rs : List RedoRecord) → decided_in (older ++ records.Decided r ∷ rs) r.me ≢ None
@@ -141,17 +121,7 @@ decided_after (records.Decided x ∷ older) r rs none = by (same x.me r.me) none
     by : (q : Bool) → (if q then Some x else decided_in (older ++ records.Decided r ∷ rs) r.me) ≡ None → (decided_in (older ++ records.Decided r ∷ rs) r.me ≢ None) → ⊥
     by true none rest = absurd cc
     by false none rest = rest none
-decided_after (records.Sealed x ∷ older) r rs none = decided_after older r rs none
-decided_after (records.Boot m ∷ older) r rs none = decided_after older r rs none
-decided_after (records.Table t ∷ older) r rs none = decided_after older r rs none
-decided_after (records.Link l ∷ older) r rs none = decided_after older r rs none
-decided_after (records.Synonym y ∷ older) r rs none = decided_after older r rs none
-decided_after (records.Param x ∷ older) r rs none = decided_after older r rs none
-decided_after (records.Ended c d ∷ older) r rs none = decided_after older r rs none
-decided_after (records.Forced c d given ∷ older) r rs none = decided_after older r rs none
-decided_after (records.Met c d mixed ∷ older) r rs none = decided_after older r rs none
-decided_after (records.Forgot c ∷ older) r rs none = decided_after older r rs none
-decided_after (records.Hidden c ∷ older) r rs none = decided_after older r rs none
+decided_after (_ ∷ older) r rs none = decided_after older r rs none
 
 -- a seal is the one that the disk has of its branch, a decision is one that it has
 abbrev pub IsTheRecord : List RedoRecord → RedoRecord → Type 0

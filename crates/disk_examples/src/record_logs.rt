@@ -17,7 +17,7 @@ use std::alloc::{AllocError, Global};
 const SECOND: [u8; 11] = [0, 0, 0, 6, 1, 1, 0, 0, 0, 2, 0];
 
 /// A log of the records of two starts.
-#[tactic(auto, using(crate::proofs::FirstStart::boot_spelled))]
+#[tactic(auto, using(crate::proofs::FirstStart::boot_fits))]
 fn two_starts(alloc: Global) -> Result<RecordLog<MemDisk>, AppendErr>
     ensures { IfOk result (λ log. HoldRecords (records.Boot 1 ∷ records.Boot 2 ∷ []) (⟦<MemDisk as Disk>⟧.content (disk_of_log log))) }
 {

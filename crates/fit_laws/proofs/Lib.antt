@@ -1,5 +1,12 @@
-mod WayLemmas
-mod SayLemmas
-mod SayStepLemmas
-mod WrittenLemmas
-mod WayToLemmas
+pub mod TextLemmas
+pub mod TokenLemmas
+pub mod RenamedLemmas
+pub mod NamedLemmas
+pub mod AnswerLemmas
+pub mod SayLemmas
+pub mod WayLemmas
+pub mod SayStepLemmas
+pub mod WrittenLemmas
+pub mod WayToLemmas
+pub mod RecordLemmas
+pub mod StartLemmas

@@ -1,21 +1,33 @@
--- The way of a prepared branch leads to a child that its record names, where it leads to one.
+-- The way of a prepared branch leads to a parent, or to a child that its record names.
 use Rattle.std.proofs.Common.{◌≡◌, ℕ, suc, ◌+◌, ◌-◌, ◌<◌, ◌≤◌, ◌==◌, ◌||◌, ◌⊎◌, inl, inr, Bool, true, false, if◌then◌else◌, List, [], ◌∷◌, length, map, filter, take, Option, Some, None, refl, sym, ap, subst, arith}
-use Rattle.std.specs.Prelude.{nat_lt, IfSome}
+use Rattle.std.specs.Prelude.{nat_lt, is_some, IfSome, IsTrue}
 use Rattle.std.proofs.lemmas.Bool.Decides.{nat_tests}
 use Rattle.std.proofs.lemmas.List.{length-map}
-use Rattle.prepare_phase.specs.Records.{is_prepared, named_children, prepared_before}
+use Rattle.dtx_values.specs.Limits.{link_limit}
+use Rattle.prepare_phase.specs.Acts.{with_prepare_sent, has_voted}
+use Rattle.prepare_phase.specs.Records.{is_prepared, is_place, named_children, prepared_before}
 use Rattle.session_tree.specs.Tree.{place_of_greatest, best_child, walk_by, step}
-use Rattle.node_rules.specs.Data.{Edge, Live, Place, Input}
+use Rattle.node_rules.specs.Data.{Edge, Live, Act, Place, Input}
+use Rattle.node_rules.specs.Data.towards
+use Rattle.node_rules.specs.Data.inputs
+use Rattle.node_rules.specs.declared.work.Work.{Work}
 use Rattle.node_rules.specs.Data.walks
 use Rattle.node_rules.specs.Data.acts
 use Rattle.commit_forget.specs.declared.next.Next.TheVariants as nexts
 use Rattle.node_rules.specs.Kept.{Kept, Deed}
-use Rattle.node_rules.specs.Turn.{turn_of}
+use Rattle.node_rules.specs.LiveBranches.{EachLive}
+use Rattle.node_rules.specs.Client.{begun_by}
+use Rattle.node_rules.specs.Turn.{heard, turn_of}
 use Rattle.node_rules.proofs.Steps as steps
 use Rattle.node_rules.proofs.Steps.{Step, Acting, Collected, Pointed}
-use Rattle.node_rules.proofs.StepLemmas.{made_so}
+use Rattle.node_rules.proofs.StepLemmas.{acting_so, made_so}
+use Rattle.node_rules.proofs.LiveLemmas.{each_begun}
 use Rattle.node_rules.proofs.TurnLemmas.{step_of}
-use Rattle.fit_laws.specs.Written.{HasWay, WaysLead}
+use Rattle.fit_laws.specs.Bytes.{BringsBytes, AsksChild, HasAsker, LiveHasBytes, KeepsBytes}
+use Rattle.fit_laws.specs.Record.{WayFits}
+use Rattle.fit_laws.specs.Written.{HasWay, HasFewChildren, WaysLead}
+use Rattle.fit_laws.proofs.SayLemmas.{no_comment}
+use Rattle.fit_laws.proofs.SayStepLemmas.{begins, acts_so, none_asked, heard_asks, heard_texts}
 
 -- ---- the child that the walk goes to is there
 
@@ -88,6 +100,19 @@ named_so path n (e ∷ es) low high = by (n == path) refl (named_so path (n + 1)
 down_named : (l : Live) (i : ℕ) → step l ≡ walks.Down i → prepared_before i l.edges < length (named_children (Some i) 1 l.edges)
 down_named l i is = let within = down_within l i is in named_so i 1 l.edges within.0 (omega (arith, within.1))
 
+-- a record names no more children than there are
+named_few : (path : Option ℕ) (i : ℕ) (es : List Edge) → length (named_children path i es) ≤ length es
+named_few path i [] = omega arith
+named_few path i (e ∷ es) = by (is_prepared e || is_place i path) (named_few path (i + 1) es)
+  where
+    by : (named : Bool) → length (named_children path (i + 1) es) ≤ length es
+        → length (if named then record { branch = e.peer; link = e.link } ∷ named_children path (i + 1) es else named_children path (i + 1) es) ≤ suc (length es)
+    by true few = omega (arith, few)
+    by false few = omega (arith, few)
+
+down_fits : (l : Live) (i : ℕ) → step l ≡ walks.Down i → length l.edges ≤ link_limit → WayFits (towards.Child (prepared_before i l.edges)) l.parent (length (named_children (Some i) 1 l.edges))
+down_fits l i down few = let low = down_named l i down in let named = named_few (Some i) 1 l.edges in (low, omega (arith, low, named, few))
+
 -- ---- turns
 
 passes_down : {k : Kept} {input : Input} {l : Live} {site_below : Bool} {i : ℕ} → Acting k input l site_below (acts.SealAndPass i) → step l ≡ walks.Down i
@@ -95,32 +120,52 @@ passes_down (steps.Has_no_children l comment site_below a live begun none (steps
 passes_down (steps.Hears_last l from v site_below a live answers other all (steps.Passes i root down)) = down
 passes_down (steps.At_point l from a live came ready (steps.Points_on i down)) = down
 
-ways_on : (p : Place) (input : Input) {k : Kept} {d : Deed} → Step p input k d → IfSome d.wrote HasWay
-ways_on p input (steps.Begins n s call rows fit none step) = ways_on p input step
-ways_on p input (steps.Pends n l given call has live code step) = ways_on p input step
-ways_on p input (steps.Lets_reads_go l comment site_below live begun step) = ways_on p input step
-ways_on p input (steps.Counts_ack s from kept came counts step) = ways_on p input step
-ways_on p input (steps.Acts l site_below (acts.SealAndPass i) why) = down_named l i (passes_down why)
-ways_on p input (steps.Acts l site_below acts.Seal why) = tt
-ways_on p input (steps.Acts l site_below acts.Decide why) = tt
-ways_on p input (steps.Acts l site_below acts.Rest why) = tt
-ways_on p input (steps.Acts l site_below acts.AskDown why) = tt
-ways_on p input (steps.Acts l site_below acts.SayReadOnly why) = tt
-ways_on p input (steps.Acts l site_below acts.SayReady why) = tt
-ways_on p input (steps.Acts l site_below acts.Finish why) = tt
-ways_on p input (steps.Acts l site_below acts.Abandon why) = tt
-ways_on p input (steps.Does s from (nexts.End d) kept why) = tt
-ways_on p input (steps.Does s from (nexts.Meet d mixed) kept why) = tt
-ways_on p input (steps.Does s from nexts.Forget kept why) = tt
-ways_on p input (steps.Does s from nexts.Rest kept why) = tt
-ways_on p input (steps.Does s from nexts.AckToward kept why) = tt
-ways_on p input (steps.Does s from nexts.SayForgotten kept why) = tt
-ways_on p input (steps.Does s from nexts.SayAck kept why) = tt
-ways_on p input (steps.Makes_record n s r d call makes) = made_so HasWay (λ t. tt) (λ l. tt) (λ y. tt) (λ on. tt) makes
-ways_on p input (steps.Gives_up_commit n b (Some l) gives has waits live) = tt
-ways_on p input (steps.Gives_up_commit n b None gives has waits none) = tt
-ways_on p input _ = tt
+-- who seals toward its parent has one
+seals_up : {k : Kept} {input : Input} {l : Live} {w : Work} {site_below : Bool} → LiveHasBytes l w → Acting k input l site_below acts.Seal → IsTrue (is_some l.parent)
+seals_up is (steps.Has_no_children l comment site_below a live begun none (steps.Is_prepared some)) = is.asker
+seals_up is (steps.Hears_last l from v site_below a live answers other all (steps.Is_prepared some)) = subst (HasAsker l.parent) answers.collecting is.asker
+seals_up is (steps.At_point l from a live came ready pointed) = elim pointed [ ]
+
+few_acting : {k : Kept} {input : Input} {l : Live} {site_below : Bool} {a : Act} → EachLive HasFewChildren k.lives k.works → Acting k input l site_below a → length l.edges ≤ link_limit
+few_acting few why =
+    acting_so (λ l. length l.edges ≤ link_limit)
+    (λ l comment site_below is. subst (λ n. n ≤ link_limit) (sym (length-map l.edges with_prepare_sent)) is)
+    (λ l from v is. subst (λ n. n ≤ link_limit) (sym (length-map l.edges (has_voted from v))) is)
+    (λ b l found. few.each b l found) why
+
+ways_on : (p : Place) (input : Input) → BringsBytes input → {k : Kept} {d : Deed} → Step p input k d → AsksChild k input → EachLive HasFewChildren k.lives k.works → KeepsBytes k → IfSome d.wrote HasWay
+ways_on p input brings (steps.Begins {k = k} n s call rows fit none step) asks few now =
+    ways_on p input brings step (none_asked (begun_by p k n None) call) (each_begun HasFewChildren HasFewChildren k.lives k.works few _ (omega arith) (λ y v live any so. so)) (record { lives = begins k now _ no_comment tt; synonyms = now.synonyms })
+ways_on p input brings (steps.Pends n l given call has live code step) asks few now = ways_on p input brings step asks few (record { lives = now.lives; synonyms = now.synonyms })
+ways_on p input brings (steps.Lets_reads_go l comment site_below live begun step) asks few now = ways_on p input brings step asks few (record { lives = now.lives; synonyms = now.synonyms })
+ways_on p input brings (steps.Counts_ack s from kept came counts step) asks few now = ways_on p input brings step asks few (record { lives = now.lives; synonyms = now.synonyms })
+ways_on p input brings (steps.Acts l site_below (acts.SealAndPass i) why) asks few now = down_fits l i (passes_down why) (few_acting few why)
+ways_on p input brings (steps.Acts {k = k} l site_below acts.Seal why) asks few now = seals_up (acts_so k now brings asks why) why
+ways_on p input brings (steps.Acts l site_below acts.Decide why) asks few now = tt
+ways_on p input brings (steps.Acts l site_below acts.Rest why) asks few now = tt
+ways_on p input brings (steps.Acts l site_below acts.AskDown why) asks few now = tt
+ways_on p input brings (steps.Acts l site_below acts.SayReadOnly why) asks few now = tt
+ways_on p input brings (steps.Acts l site_below acts.SayReady why) asks few now = tt
+ways_on p input brings (steps.Acts l site_below acts.Finish why) asks few now = tt
+ways_on p input brings (steps.Acts l site_below acts.Abandon why) asks few now = tt
+ways_on p input brings (steps.Does s from (nexts.End d) kept why) asks few now = tt
+ways_on p input brings (steps.Does s from (nexts.Meet d mixed) kept why) asks few now = tt
+ways_on p input brings (steps.Does s from nexts.Forget kept why) asks few now = tt
+ways_on p input brings (steps.Does s from nexts.Rest kept why) asks few now = tt
+ways_on p input brings (steps.Does s from nexts.AckToward kept why) asks few now = tt
+ways_on p input brings (steps.Does s from nexts.SayForgotten kept why) asks few now = tt
+ways_on p input brings (steps.Does s from nexts.SayAck kept why) asks few now = tt
+ways_on p input brings (steps.Makes_record n s r d call makes) asks few now = made_so HasWay (λ t. tt) (λ l. tt) (λ y. tt) (λ on. tt) makes
+ways_on p input brings (steps.Gives_up_commit n b (Some l) gives has waits live) asks few now = tt
+ways_on p input brings (steps.Gives_up_commit n b None gives has waits none) asks few now = tt
+ways_on p input brings _ asks few now = tt
+
+heard_few : (k : Kept) (input : Input) → EachLive HasFewChildren k.lives k.works → EachLive HasFewChildren (heard k input).lives (heard k input).works
+heard_few k (inputs.Message m) few = few
+heard_few k (inputs.Call n s) few = few
+heard_few k (inputs.GiveUp n) few = few
+heard_few k inputs.Reco few = few
 
 pub ways_lead : WaysLead
 unfolding turn_of
-ways_lead p k input fit = ways_on p input (step_of p k input fit)
+ways_lead p k input fit brings asks few now = ways_on p input brings (step_of p k input fit) (heard_asks k input asks) (heard_few k input few) (heard_texts k input now)

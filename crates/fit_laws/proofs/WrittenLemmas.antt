@@ -16,6 +16,7 @@ use Rattle.node_rules.specs.Data.acts
 use Rattle.commit_forget.specs.declared.next.Next.TheVariants as nexts
 use Rattle.node_rules.specs.Words.{same_text}
 use Rattle.node_rules.specs.Kept.{Kept, Deed}
+use Rattle.node_rules.specs.Client.{begun_by}
 use Rattle.node_rules.specs.Turn.{turn_of}
 use Rattle.node_rules.proofs.Steps as steps
 use Rattle.node_rules.proofs.Steps.{Step}
@@ -23,10 +24,11 @@ use Rattle.node_rules.proofs.StepLemmas.{made_so}
 use Rattle.node_rules.proofs.TurnLemmas.{step_of}
 use Rattle.ready_laws.specs.Rows.{IsChangeAt, AreChangesAt}
 use Rattle.ready_laws.proofs.ListLemmas.{all_weaker, all_found}
-use Rattle.fit_laws.specs.Sayable.{BringsSayable, HasSayings}
-use Rattle.fit_laws.specs.Written.{ChangeFits, comment_in, ChangesFit, CommentsFit}
+use Rattle.fit_laws.specs.Bytes.{BringsBytes, AsksChild, KeepsBytes}
+use Rattle.fit_laws.specs.Record.{ChangeFits}
+use Rattle.fit_laws.specs.Written.{comment_in, ChangesFit, CommentsFit}
 use Rattle.fit_laws.proofs.SayLemmas.{no_comment}
-use Rattle.fit_laws.proofs.SayStepLemmas.{begins, acts_so, heard_sayings}
+use Rattle.fit_laws.proofs.SayStepLemmas.{begins, acts_so, none_asked, heard_asks, heard_texts}
 
 -- ---- changes
 
@@ -60,36 +62,36 @@ changes_fit s _ whole sound = tt
 abbrev HasComment : Option RedoRecord → Type 0
 HasComment w = IfSome w (λ r. comment_format.Fits (comment_in r))
 
-comments_on : (p : Place) (input : Input) → BringsSayable input → {k : Kept} {d : Deed} → Step p input k d → HasSayings k → HasComment d.wrote
-comments_on p input brings (steps.Begins {k = k} n s call rows fit none step) now = comments_on p input brings step (record { lives = begins k now _ no_comment; synonyms = now.synonyms })
-comments_on p input brings (steps.Pends n l given call has live code step) now = comments_on p input brings step (record { lives = now.lives; synonyms = now.synonyms })
-comments_on p input brings (steps.Lets_reads_go l comment site_below live begun step) now = comments_on p input brings step (record { lives = now.lives; synonyms = now.synonyms })
-comments_on p input brings (steps.Counts_ack s from kept came counts step) now = comments_on p input brings step (record { lives = now.lives; synonyms = now.synonyms })
-comments_on p input brings (steps.Acts {k = k} l site_below acts.Seal why) now = (acts_so k now brings why).comment
-comments_on p input brings (steps.Acts {k = k} l site_below (acts.SealAndPass i) why) now = (acts_so k now brings why).comment
-comments_on p input brings (steps.Acts {k = k} l site_below acts.Decide why) now = (acts_so k now brings why).comment
-comments_on p input brings (steps.Acts l site_below acts.Rest why) now = tt
-comments_on p input brings (steps.Acts l site_below acts.AskDown why) now = tt
-comments_on p input brings (steps.Acts l site_below acts.SayReadOnly why) now = tt
-comments_on p input brings (steps.Acts l site_below acts.SayReady why) now = tt
-comments_on p input brings (steps.Acts l site_below acts.Finish why) now = tt
-comments_on p input brings (steps.Acts l site_below acts.Abandon why) now = tt
-comments_on p input brings (steps.Does s from (nexts.End d) kept why) now = no_comment
-comments_on p input brings (steps.Does s from (nexts.Meet d mixed) kept why) now = no_comment
-comments_on p input brings (steps.Does s from nexts.Forget kept why) now = no_comment
-comments_on p input brings (steps.Does s from nexts.Rest kept why) now = tt
-comments_on p input brings (steps.Does s from nexts.AckToward kept why) now = tt
-comments_on p input brings (steps.Does s from nexts.SayForgotten kept why) now = tt
-comments_on p input brings (steps.Does s from nexts.SayAck kept why) now = tt
-comments_on p input brings (steps.Makes_record n s r d call makes) now = made_so (λ x. comment_format.Fits (comment_in x)) (λ t. no_comment) (λ l. no_comment) (λ y. no_comment) (λ on. no_comment) makes
-comments_on p input brings (steps.Forces_given n id m b call named) now = no_comment
-comments_on p input brings (steps.Forces_commit n id b call named) now = no_comment
-comments_on p input brings (steps.Forces_rollback n id b call named) now = no_comment
-comments_on p input brings (steps.Hides n mixed id s call found) now = no_comment
-comments_on p input brings (steps.Gives_up_commit n b (Some l) gives has waits live) now = tt
-comments_on p input brings (steps.Gives_up_commit n b None gives has waits none) now = tt
-comments_on p input brings _ now = tt
+comments_on : (p : Place) (input : Input) → BringsBytes input → {k : Kept} {d : Deed} → Step p input k d → AsksChild k input → KeepsBytes k → HasComment d.wrote
+comments_on p input brings (steps.Begins {k = k} n s call rows fit none step) asks now = comments_on p input brings step (none_asked (begun_by p k n None) call) (record { lives = begins k now _ no_comment tt; synonyms = now.synonyms })
+comments_on p input brings (steps.Pends n l given call has live code step) asks now = comments_on p input brings step asks (record { lives = now.lives; synonyms = now.synonyms })
+comments_on p input brings (steps.Lets_reads_go l comment site_below live begun step) asks now = comments_on p input brings step asks (record { lives = now.lives; synonyms = now.synonyms })
+comments_on p input brings (steps.Counts_ack s from kept came counts step) asks now = comments_on p input brings step asks (record { lives = now.lives; synonyms = now.synonyms })
+comments_on p input brings (steps.Acts {k = k} l site_below acts.Seal why) asks now = (acts_so k now brings asks why).comment
+comments_on p input brings (steps.Acts {k = k} l site_below (acts.SealAndPass i) why) asks now = (acts_so k now brings asks why).comment
+comments_on p input brings (steps.Acts {k = k} l site_below acts.Decide why) asks now = (acts_so k now brings asks why).comment
+comments_on p input brings (steps.Acts l site_below acts.Rest why) asks now = tt
+comments_on p input brings (steps.Acts l site_below acts.AskDown why) asks now = tt
+comments_on p input brings (steps.Acts l site_below acts.SayReadOnly why) asks now = tt
+comments_on p input brings (steps.Acts l site_below acts.SayReady why) asks now = tt
+comments_on p input brings (steps.Acts l site_below acts.Finish why) asks now = tt
+comments_on p input brings (steps.Acts l site_below acts.Abandon why) asks now = tt
+comments_on p input brings (steps.Does s from (nexts.End d) kept why) asks now = no_comment
+comments_on p input brings (steps.Does s from (nexts.Meet d mixed) kept why) asks now = no_comment
+comments_on p input brings (steps.Does s from nexts.Forget kept why) asks now = no_comment
+comments_on p input brings (steps.Does s from nexts.Rest kept why) asks now = tt
+comments_on p input brings (steps.Does s from nexts.AckToward kept why) asks now = tt
+comments_on p input brings (steps.Does s from nexts.SayForgotten kept why) asks now = tt
+comments_on p input brings (steps.Does s from nexts.SayAck kept why) asks now = tt
+comments_on p input brings (steps.Makes_record n s r d call makes) asks now = made_so (λ x. comment_format.Fits (comment_in x)) (λ t. no_comment) (λ l. no_comment) (λ y. no_comment) (λ on. no_comment) makes
+comments_on p input brings (steps.Forces_given n id m b call named) asks now = no_comment
+comments_on p input brings (steps.Forces_commit n id b call named) asks now = no_comment
+comments_on p input brings (steps.Forces_rollback n id b call named) asks now = no_comment
+comments_on p input brings (steps.Hides n mixed id s call found) asks now = no_comment
+comments_on p input brings (steps.Gives_up_commit n b (Some l) gives has waits live) asks now = tt
+comments_on p input brings (steps.Gives_up_commit n b None gives has waits none) asks now = tt
+comments_on p input brings _ asks now = tt
 
 pub comments_fit : CommentsFit
 unfolding turn_of
-comments_fit p k input fit brings now = comments_on p input brings (step_of p k input fit) (heard_sayings k input now)
+comments_fit p k input fit brings asks now = comments_on p input brings (step_of p k input fit) (heard_asks k input asks) (heard_texts k input now)

@@ -1,2 +1,3 @@
-pub mod Sayable
+pub mod Bytes
+pub mod Record
 pub mod Written

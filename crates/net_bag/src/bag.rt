@@ -102,6 +102,14 @@ impl Bag {
         }
     }
 
+    /// The node that the message of this number is for.
+    pub fn target(&self, number: u64) -> Option<u8>
+        ensures { result ≡ option_map (λ x. x.msg.to.node) (packet_at self.now number) }
+    {
+        let parcel = self.flights.at(number)?;
+        Some(parcel.to())
+    }
+
     /// Whether the message of this number was sent and is neither delivered nor lost.
     pub fn in_flight(&self, number: u64) -> bool
         ensures { result ≡ may_deliver self.now number }

@@ -5,3 +5,6 @@ mod PlanLaws
 mod TurnLaws
 mod StartLaws
 mod MakeLaws
+mod MailLaws
+mod PassLaws
+mod CutLaws

@@ -1,14 +1,14 @@
 -- A node that is made: it has no record, and then that of its first start.
-use Rattle.std.proofs.Common.{◌≡◌, ℕ, ◌+◌, List, [], ◌∷◌, ◌++◌, inl, inr, refl, sym, subst, arith}
+use Rattle.std.proofs.Common.{◌≡◌, ℕ, List, [], ◌∷◌, ◌++◌, inl, inr, refl, sym, subst, arith}
 use Rattle.block_disk.specs.Images.{AtEachMoment, IsOnly}
 use Rattle.redo_log.specs.Cells as cells
 use Rattle.redo_log.specs.Log.{MayBeBegun}
 use Rattle.redo_log.proofs.Moments.{followed_by}
-use Rattle.record_log.specs.Held.{HoldRecords, GrowsByRecord, HoldWithOrWithout}
-use Rattle.node_rules.specs.Data.{RedoRecord, Place}
+use Rattle.record_log.specs.Held.{HoldRecords, HoldWithOrWithout}
+use Rattle.node_rules.specs.Data.{Place}
 use Rattle.node_rules.specs.Data.records
 use Rattle.node_rules.specs.Kept.{Kept}
-use Rattle.node_rules.specs.Records.{nothing_stored, stored_by}
+use Rattle.node_rules.specs.Records.{stored_by}
 use Rattle.node_rules.specs.Turn.{start_of, made}
 use Rattle.ready_laws.specs.Following.{MayAllFollow}
 use Rattle.ready_laws.specs.Sound.{AreSound}

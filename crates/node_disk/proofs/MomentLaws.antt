@@ -1,5 +1,5 @@
 -- What a crash may leave, in weaker words, and of a disk that is left alone.
-use Rattle.std.proofs.Common.{◌≡◌, ℕ, List, inl, inr, sym, subst}
+use Rattle.std.proofs.Common.{ℕ, List, inl, inr, sym, subst}
 use Rattle.block_disk.specs.Images.{AtEachMoment, IsOnly}
 use Rattle.redo_record.specs.declared.record.RedoRecord.{RedoRecord}
 use Rattle.record_log.specs.Held.{HoldRecords}

@@ -1,10 +1,13 @@
 -- A start: its record may stand next, and what the node keeps is what all its records say.
-use Rattle.std.proofs.Common.{◌≡◌, ℕ, ◌+◌, ◌<◌, ◌≤◌, ◌^◌, List, [], ◌∷◌, ◌++◌, inl, inr, refl, sym, subst, ap, ◌∙◌, arith}
+use Rattle.std.proofs.Common.{◌≡◌, ℕ, ◌+◌, ◌<◌, ◌^◌, if◌then◌else◌, Bool, true, false, List, [], ◌∷◌, ◌++◌, Option, Some, None, inl, inr, refl, sym, subst, ap, ◌∙◌, arith}
 use Rattle.block_disk.specs.Images.{AtEachMoment}
+use Rattle.block_disk.specs.Plan.{Plan}
 use Rattle.redo_record.specs.Durable.{durable_after}
+use Rattle.redo_log.specs.Plans.{CallsGoByPlan, load_calls, plan_after, strikes_any}
+use Rattle.redo_log.specs.Stands.{stands_by as stands_by_plan, stands_after}
 use Rattle.redo_log.proofs.Moments.{followed_by}
-use Rattle.record_log.specs.Records.{IsSpelled}
-use Rattle.record_log.specs.Held.{HoldRecords, HoldWithOrWithout}
+use Rattle.redo_codec.specs.Record.{record_format}
+use Rattle.record_log.specs.Held.{HoldRecords, HoldWithOrWithout, GrowsByPlan, with_record_if}
 use Rattle.node_rules.specs.Data.{RedoRecord, Place}
 use Rattle.node_rules.specs.Data.records
 use Rattle.node_rules.specs.Kept.{Stored, Kept}
@@ -15,15 +18,15 @@ use Rattle.ready_laws.specs.Sound.{IsNext}
 use Rattle.ready_laws.specs.Ready.{IsReady, StartsAreReady}
 use Rattle.node_memory.specs.declared.memory.Memory.{Memory}
 use Rattle.node_memory.specs.Parts.{stored_in, kept_in}
-use Rattle.node_disk.specs.Starts.{MayBeHad, IsStartable, IsButForAcks, last_boot, next_boot}
+use Rattle.node_disk.specs.Starts.{MayBeHad, IsStartable, CanBeStarted, IsButForAcks, StartIsLeft, last_boot, next_boot}
 use Rattle.node_disk.specs.OnDisk.{StandsOn}
 use Rattle.node_disk.proofs.TurnLaws.{stored_last, had_next}
 
 -- ---- the record of a start
 
 -- it can be written
-pub boot_spelled : (n : ℕ) → n < 2 ^ 32 → IsSpelled (records.Boot n)
-boot_spelled n low = record { fits = (tt, low); short = omega arith }
+pub boot_spelled : (n : ℕ) → n < 2 ^ 32 → record_format.Fits (records.Boot n)
+boot_spelled n low = (tt, low)
 
 -- it may follow any
 pub boot_may_follow : (s : Stored) (n : ℕ) → MayFollow s (records.Boot n)
@@ -74,8 +77,32 @@ stands_started rs m bytes hold had kept = stands_by (rs ++ next_boot rs ∷ []) 
 
 -- ---- what was loaded
 
-pub had_of : (found : List RedoRecord) (bytes : List ℕ) → IsStartable bytes → ((rs : List RedoRecord) → HoldRecords rs bytes → found ≡ rs) → MayBeHad found
-had_of found bytes startable only = subst MayBeHad (sym (only startable.0 startable.1)) startable.2
+pub had_of : {D : Type 0} (content : D → List ℕ) (images : D → List ℕ → Type 0) (disk : D) (found : List RedoRecord) → CanBeStarted content images disk
+    → ((rs : List RedoRecord) → HoldRecords rs (content disk) → found ≡ rs) → MayBeHad found
+had_of content images disk found can only = subst MayBeHad (sym (only can.now.0 can.now.1)) can.now.2
+
+-- ---- what a fault leaves
+
+-- a record that is appended after these calls stands where no order strikes one of them, and it stands by the plan that they leave
+stands_behind : (calls : List Bool) (plan : Plan) (struck : Bool) → strikes_any calls plan ≡ struck → stands_after calls plan ≡ (if struck then false else stands_by_plan (plan_after calls plan))
+stands_behind calls plan struck is = ap (λ (b : Bool). if b then false else stands_by_plan (plan_after calls plan)) is
+
+-- where the load met the fault, nothing is written
+pub left_loading : (plan now : Option Plan) (before after : List ℕ) → after ≡ before → CallsGoByPlan (load_calls before) plan now true → StartIsLeft plan before after
+left_loading None now before after same goes = tt
+left_loading (Some plan) now before after same goes = λ rs hold.
+    subst (λ (stands : Bool). HoldRecords (with_record_if stands rs (next_boot rs)) after) (sym (stands_behind (load_calls before) plan true goes.1)) (subst (λ (bytes : List ℕ). HoldRecords rs bytes) (sym same) hold)
+
+-- where the append met it, the record of the start stands by the plan
+pub left_writing : (plan mid : Option Plan) (before loaded after : List ℕ) (found : List RedoRecord) → ((rs : List RedoRecord) → HoldRecords rs before → found ≡ rs) → loaded ≡ before
+    → CallsGoByPlan (load_calls before) plan mid false → GrowsByPlan mid (next_boot found) loaded after → StartIsLeft plan before after
+left_writing None mid before loaded after found only same goes grows = tt
+left_writing (Some plan) mid before loaded after found only same goes grows = λ rs hold.
+    let calls = load_calls before in
+    let own : GrowsByPlan (Some (plan_after calls plan)) (next_boot found) loaded after = subst (λ (p : Option Plan). GrowsByPlan p (next_boot found) loaded after) goes.0 grows in
+    let held = own rs (subst (λ (bytes : List ℕ). HoldRecords rs bytes) (sym same) hold) in
+    subst (λ (stands : Bool). HoldRecords (with_record_if stands rs (next_boot rs)) after) (sym (stands_behind calls plan false goes.1))
+    (subst (λ (xs : List RedoRecord). HoldRecords (with_record_if (stands_by_plan (plan_after calls plan)) rs (next_boot xs)) after) (only rs hold) held)
 
 -- ---- at each moment
 

@@ -4,11 +4,11 @@ use Rattle.std.proofs.Common.{◌≡◌, ℕ, List, [], ◌∷◌, ◌++◌, map
 use Rattle.std.specs.Prelude.{◌↔◌, IfSome, OnOk, Result, Ok, Err}
 use Rattle.std.specs.List.{AllByRecursion}
 use Rattle.block_disk.specs.Images.{AtEachMoment, IsOnly, AddsNone}
-use Rattle.record_log.specs.Records.{IsSpelled}
+use Rattle.fit_laws.specs.Record.{RecordHasBytes}
 use Rattle.record_log.specs.Held.{HoldRecords}
 use Rattle.record_log.specs.Log.{disk_of, IsIntact, IsUsable}
 use Rattle.record_log.specs.declared.log.RecordLog.{RecordLog}
-use Rattle.node_rules.specs.Data.{RedoRecord, Standing, Place, Input, Msg}
+use Rattle.node_rules.specs.Data.{RedoRecord, Place, Input, Msg}
 use Rattle.node_rules.specs.Kept.{Stored, Kept, Outcome}
 use Rattle.node_rules.specs.Records.{nothing_stored, applied, stored_by}
 use Rattle.node_rules.specs.Turn.{turn_of}
@@ -22,10 +22,11 @@ use Rattle.node_core.specs.Serves.{Serves}
 use Rattle.node_disk.specs.declared.effects.Effects.{Effects}
 use Rattle.node_disk.specs.declared.incoming.Incoming.{Incoming}
 use Rattle.node_disk.specs.Incoming.{read_as, IsReadAs, record_of}
-use Rattle.node_disk.specs.Effects.{MayBeMailed, mailed, call_of, Tells}
+use Rattle.node_disk.specs.Effects.{mailed, call_of, Tells}
+use Rattle.node_disk.specs.Spellable.{MayBeMailed, IsSpellable}
 use Rattle.node_disk.specs.Starts.{MayBeHad, IsStartable, IsButForAcks, stored_next}
 use Rattle.node_disk.specs.Laws.{TurnsStoreTheirRecords}
-use Rattle.node_disk.specs.OnDisk.{IsSpellable, StandsOn, IsOpenFor, GrowsBy, MayStand}
+use Rattle.node_disk.specs.OnDisk.{StandsOn, IsOpenFor, HoldsNext, MayStand}
 use Rattle.node_disk.proofs.StoreLaws.{but_for_both, next_but_for}
 use Rattle.node_disk.proofs.MomentLaws.{weaker}
 
@@ -48,8 +49,8 @@ tells_so o k served e serves wrote sent ended = record {
   ended = ended ∙ serves.ended;
 }
 
-pub wrote_so : (o : Outcome) (k : Kept) (served : Served) (e : Effects) → Serves o k served → e.wrote ≡ served.wrote → IsSpellable o → IfSome e.wrote IsSpelled
-wrote_so o k served e serves wrote spellable = subst (λ (w : Option RedoRecord). IfSome w IsSpelled) (sym (wrote ∙ serves.wrote)) spellable.wrote
+pub wrote_so : (o : Outcome) (k : Kept) (served : Served) (e : Effects) → Serves o k served → e.wrote ≡ served.wrote → IsSpellable o → IfSome e.wrote RecordHasBytes
+wrote_so o k served e serves wrote spellable = subst (λ (w : Option RedoRecord). IfSome w RecordHasBytes) (sym (wrote ∙ serves.wrote)) spellable.wrote
 
 pub follows_so : (s : Stored) (served : Served) (e : Effects) → e.wrote ≡ served.wrote → IfSome served.wrote (IsNext s) → IfSome e.wrote (IsNext s)
 follows_so s served e wrote next = subst (λ (w : Option RedoRecord). IfSome w (IsNext s)) (sym wrote) next
@@ -108,12 +109,12 @@ module _ {D : Type 0} (moment : D → ℕ) (images_since : D → ℕ → List �
 
 -- ---- after the turn
 
-holds_by : (rs : List RedoRecord) (w : Option RedoRecord) (before now : List ℕ) → GrowsBy w before now → HoldRecords rs before → MayStand rs w now
+holds_by : (rs : List RedoRecord) (w : Option RedoRecord) (before now : List ℕ) → HoldsNext w before now → HoldRecords rs before → MayStand rs w now
 holds_by rs None before now grows hold = subst (λ (bytes : List ℕ). HoldRecords rs bytes) (sym grows) hold
 holds_by rs (Some r) before now grows hold = inr (grows rs hold)
 
 -- the records of the disk say what the node stores
-pub stands_next : RowsDoNotMatter → (before now : List ℕ) (s t : Stored) (w : Option RedoRecord) → StandsOn before s → IfSome w (IsNext s) → IsButForAcks (stored_next s w) t → GrowsBy w before now → StandsOn now t
+pub stands_next : RowsDoNotMatter → (before now : List ℕ) (s t : Stored) (w : Option RedoRecord) → StandsOn before s → IfSome w (IsNext s) → IsButForAcks (stored_next s w) t → HoldsNext w before now → StandsOn now t
 stands_next law before now s t None stands next stores grows =
     (stands.0, holds_by stands.0 None before now grows stands.1, stands.2, but_for_both (stored_by nothing_stored stands.0) s t stands.3 stores)
 stands_next law before now s t (Some r) stands next stores grows =

@@ -1,5 +1,7 @@
 pub mod Incoming
+pub mod Spellable
 pub mod Effects
 pub mod Starts
 pub mod OnDisk
+pub mod Cuts
 pub mod Laws

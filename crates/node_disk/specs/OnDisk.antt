@@ -1,9 +1,8 @@
 -- A node and its disk.
-use Rattle.std.specs.Prelude.{◌≡◌, ℕ, Bool, List, [], Option, None, Some, IfSome}
-use Rattle.std.specs.List.{AllByRecursion}
+pub use Rattle.node_disk.specs.Spellable.{IsSpellable}
+use Rattle.std.specs.Prelude.{◌≡◌, ℕ, Bool, List, [], Option, None, Some}
 use Rattle.block_disk.specs.Images.{IsOnly}
 use Rattle.redo_log.specs.Plans.{append_calls}
-use Rattle.record_log.specs.Records.{IsSpelled}
 use Rattle.record_log.specs.Held.{HoldRecords, GrowsByRecord, HoldWithOrWithout}
 use Rattle.record_log.specs.Log.{disk_of as disk_of_log, IsIntact, IsUsable}
 use Rattle.record_log.specs.declared.log.RecordLog.{RecordLog}
@@ -13,7 +12,6 @@ use Rattle.node_rules.specs.Records.{nothing_stored, stored_by}
 use Rattle.node_rules.specs.Turn.{turn_of}
 use Rattle.node_memory.specs.Parts.{stored_in, kept_in}
 use Rattle.node_disk.specs.declared.node.Node.{Node}
-use Rattle.node_disk.specs.Effects.{MayBeMailed}
 use Rattle.node_disk.specs.declared.incoming.Incoming.{Incoming}
 use Rattle.node_disk.specs.Incoming.{read_as, record_of}
 use Rattle.node_disk.specs.Starts.{MayBeHad, IsButForAcks}
@@ -49,15 +47,10 @@ pub record IsOpenFor {D : Type 0} (content : D → List ℕ) (images : D → Lis
 abbrev pub IsRunning : {D : Type 0} → (D → List ℕ) → (D → List ℕ → Type 0) → Node D → Type 0
 IsRunning content images node = IsOpenFor content images node.log (stored_in node.memory)
 
--- A turn whose record can be written and whose messages can be.
-pub record IsSpellable (o : Outcome) : Type 0 where
-  pub wrote : IfSome o.wrote IsSpelled
-  pub sent : AllByRecursion MayBeMailed o.sent
-
 -- the records of a disk become more by this one, where there is one
-abbrev pub GrowsBy : Option RedoRecord → List ℕ → List ℕ → Type 0
-GrowsBy None before now = now ≡ before
-GrowsBy (Some r) before now = GrowsByRecord r before now
+abbrev pub HoldsNext : Option RedoRecord → List ℕ → List ℕ → Type 0
+HoldsNext None before now = now ≡ before
+HoldsNext (Some r) before now = GrowsByRecord r before now
 
 -- an image holds the records from before, with this one or without
 abbrev pub MayStand : List RedoRecord → Option RedoRecord → List ℕ → Type 0

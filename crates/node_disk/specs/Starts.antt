@@ -1,7 +1,10 @@
 -- What a node can start from.
-use Rattle.std.specs.Prelude.{◌≡◌, ◌⊎◌, ◌+◌, ℕ, List, [], ◌∷◌, Option, Some, None}
+use Rattle.std.specs.Prelude.{◌≡◌, ◌⊎◌, ◌+◌, ℕ, List, [], Option, Some, None}
+use Rattle.block_disk.specs.Plan.{Plan}
 use Rattle.redo_log.specs.Log.{MayBeBegun}
-use Rattle.record_log.specs.Held.{HoldRecords, HoldWithOrWithout}
+use Rattle.redo_log.specs.Plans.{load_calls}
+use Rattle.redo_log.specs.Stands.{stands_after}
+use Rattle.record_log.specs.Held.{HoldRecords, HoldWithOrWithout, with_record_if}
 use Rattle.node_rules.specs.Data.{RedoRecord}
 use Rattle.node_rules.specs.Data.records
 use Rattle.node_rules.specs.Kept.{Stored}
@@ -18,6 +21,11 @@ pub record MayBeHad (rs : List RedoRecord) : Type 0 where
 abbrev pub IsStartable : List ℕ → Type 0
 IsStartable bytes = (rs : List RedoRecord) × HoldRecords rs bytes × MayBeHad rs
 
+-- A node can start from a disk, and from whatever a crash may leave of it.
+pub record CanBeStarted {D : Type 0} (content : D → List ℕ) (images : D → List ℕ → Type 0) (disk : D) : Type 0 where
+  pub now : IsStartable (content disk)
+  pub crashed : (image : List ℕ) → images disk image → IsStartable image
+
 -- the number of the last start
 abbrev pub last_boot : List RedoRecord → ℕ
 last_boot rs = (stored_by nothing_stored rs).durable.boot
@@ -25,6 +33,11 @@ last_boot rs = (stored_by nothing_stored rs).durable.boot
 -- the record of the next start
 abbrev pub next_boot : List RedoRecord → RedoRecord
 next_boot rs = records.Boot (last_boot rs + 1)
+
+-- after a start that met a fault the record of the start stands where the plan says so, if the disk shows it
+abbrev pub StartIsLeft : Option Plan → List ℕ → List ℕ → Type 0
+StartIsLeft None before now = Unit {0}
+StartIsLeft (Some plan) before now = (rs : List RedoRecord) → HoldRecords rs before → HoldRecords (with_record_if (stands_after (load_calls before) plan) rs (next_boot rs)) now
 
 -- the same is stored, but for the Acks that were noted in rows of kept branches
 abbrev pub IsButForAcks : Stored → Stored → Type 0

@@ -2,6 +2,7 @@
 ghost use Rattle.std.specs.Prelude.{◌≡◌};
 ghost use Rattle.block_disk.specs.Images.{AddsNone, GoesOn};
 ghost use Rattle.block_disk.specs.Orders.{ordered};
+ghost use Rattle.node_disk.specs.Starts.{CanBeStarted};
 ghost use Rattle.node_disk.specs.OnDisk.{place_of, kept_of, disk_of, IsRunning};
 
 use crate::Node;
@@ -9,12 +10,13 @@ use block_disk::{Armable, Order};
 
 impl<D: Armable> Node<D> {
     /// Gives the disk an order to stop or to fail. The node stays as it is.
-    #[tactic(auto, using(crate::proofs::TurnLaws::still_open))]
+    #[tactic(auto, using(crate::proofs::TurnLaws::still_open, crate::proofs::CutLaws::starts_still))]
     pub fn arm(&mut self, order: Order)
         ensures plan { D.plan (disk_of self.new) ≡ ordered (D.plan (disk_of self.old)) order }
         ensures kept { kept_of self.new ≡ kept_of self.old }
         ensures place { place_of self.new ≡ place_of self.old }
         ensures running { IsRunning D.content D.images self.old → IsRunning D.content D.images self.new }
+        ensures startable { CanBeStarted D.content D.images (disk_of self.old) → CanBeStarted D.content D.images (disk_of self.new) }
 
         ensures content { D.content (disk_of self.new) ≡ D.content (disk_of self.old) }
         ensures images { AddsNone (D.images (disk_of self.old)) (D.images (disk_of self.new)) }

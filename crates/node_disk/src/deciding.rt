@@ -1,18 +1,23 @@
 //! What a turn does in memory, before its record is written.
-ghost use Rattle.std.specs.Prelude.{◌≡◌, map, IfOk, IfSome, OnOk};
+ghost use Rattle.std.specs.Prelude.{◌≡◌, map, option_map, IfOk, IfSome, OnOk};
 ghost use Rattle.std.specs.List.{AllByRecursion};
+ghost use Rattle.fit_laws.specs.Record.{RecordHasBytes};
 ghost use Rattle.wire_msg.specs.declared.input.Input.{Input as InputBy};
+ghost use Rattle.node_rules.specs.Data.{Place};
+ghost use Rattle.node_rules.specs.Inputs.{IsFit};
+ghost use Rattle.node_rules.specs.Kept.{Kept};
 ghost use Rattle.node_rules.specs.Turn.{turn_of};
+ghost use Rattle.node_rules.specs.Points.{passes as passes_of};
 ghost use Rattle.ready_laws.specs.Ready.{IsReady};
 ghost use Rattle.ready_laws.specs.Sound.{IsNext};
+ghost use Rattle.node_points.specs.Passing.{passes_as, concerned, Foresees};
 ghost use Rattle.node_memory.specs.Parts.{stored_in, kept_in};
 ghost use Rattle.node_core.specs.Able.{MayTake};
 ghost use Rattle.node_core.specs.Serves.{Serves};
 ghost use Rattle.node_disk.specs.Incoming.{read_as, IsReadAs, record_of};
-ghost use Rattle.node_disk.specs.Effects.{MayBeMailed, mailed, call_of, Tells};
-ghost use Rattle.record_log.specs.Records.{IsSpelled};
+ghost use Rattle.node_disk.specs.Effects.{mailed, IsMailed, call_of, Tells, TellsPasses};
+ghost use Rattle.node_disk.specs.Spellable.{MayBeMailed, IsSpellable};
 ghost use Rattle.node_disk.specs.Starts.{IsButForAcks, stored_next};
-ghost use Rattle.node_disk.specs.OnDisk.{IsSpellable};
 
 use crate::effects::{Effects, Ends, Sent};
 use crate::finished::finish;
@@ -21,14 +26,48 @@ use crate::laws::turns_store_their_records;
 use crate::mailing::mail;
 use node_core::{Served, turn};
 use node_memory::Memory;
+use node_points::{Ahead, Passes, passed, turns_are_of_their_branch};
 use node_rules::Ended;
 use std::alloc::{AllocError, Global};
+use tran_ids::BranchId;
 use wire_msg::{Input, Msgs};
+
+// The branch that an input is about.
+fn about(memory: &Memory, input: &Input) -> Option<BranchId>
+    ensures { result ≡ concerned (kept_in memory.now) input.now }
+{
+    match input {
+        Input::Message(msg) => Some(msg.to),
+        Input::Call { session, .. } => memory.sessions.at(*session).root,
+        _ => None,
+    }
+}
+
+// What is ahead of that branch.
+#[tactic(auto, using(crate::proofs::PassLaws::ahead_so))]
+fn look(memory: &Memory, input: &Input) -> Ahead
+    ensures { Foresees (kept_in memory.now) (concerned (kept_in memory.now) input.now) result }
+{
+    match about(memory, input) {
+        None => Ahead::nothing(),
+        Some(branch) => Ahead::of(memory.live_at(&branch), memory.standing_at(&branch)),
+    }
+}
+
+// The places that a turn passed, by what was ahead before it.
+fn passed_by(input: &Input, served: &Served, ahead: &Ahead) -> Option<Passes>
+    ensures { (p : Place) (k new : Kept) → IsFit input.now → Foresees k (concerned k input.now) ahead.now → Serves (turn_of p k input.now) new served.now
+        → option_map passes_as result ≡ passes_of k input.now (turn_of p k input.now) }
+{
+    turns_are_of_their_branch();
+    passed(input, served.sent.as_slice(), &served.wrote, ahead)
+}
 
 // The messages with their bytes, and the calls that ended. Fails where memory runs out.
 fn tell(alloc: Global, sent: Msgs, ended: Ended) -> Result<(Sent, Ends), AllocError>
     requires { AllByRecursion MayBeMailed sent }
     ensures sent { IfOk result (λ told. told.0 ≡ map mailed sent) }
+    ensures read { IfOk result (λ told. AllByRecursion IsMailed told.0) }
     ensures ended { IfOk result (λ told. map call_of told.1 ≡ ended) }
 {
     let sent = mail(alloc, sent)?;
@@ -36,13 +75,20 @@ fn tell(alloc: Global, sent: Msgs, ended: Ended) -> Result<(Sent, Ends), AllocEr
     Ok((sent, ended))
 }
 
-// What a turn tells that did this. Fails where memory runs out.
-fn effects_of(alloc: Global, input: Input, served: Served) -> Result<Effects, AllocError>
+// What a turn tells that did this and passed these places. Fails where memory runs out.
+fn effects_of(
+    alloc: Global,
+    input: Input,
+    served: Served,
+    passes: Option<Passes>,
+) -> Result<Effects, AllocError>
     requires { AllByRecursion MayBeMailed served.sent }
     ensures input { IfOk result (λ e. e.input ≡ input) }
     ensures wrote { IfOk result (λ e. e.wrote ≡ served.wrote) }
     ensures sent { IfOk result (λ e. e.sent ≡ map mailed served.sent) }
+    ensures read { IfOk result (λ e. AllByRecursion IsMailed e.sent) }
     ensures ended { IfOk result (λ e. map call_of e.ended ≡ served.ended) }
+    ensures passes { IfOk result (λ e. e.passes ≡ passes) }
 {
     let Served { wrote, sent, ended } = served;
     match tell(alloc, sent, ended) {
@@ -51,6 +97,7 @@ fn effects_of(alloc: Global, input: Input, served: Served) -> Result<Effects, Al
             wrote,
             sent,
             ended,
+            passes,
         }),
         Err(err) => Err(err),
     }
@@ -71,6 +118,30 @@ fn take(memory: &mut Memory, alloc: Global, input: &Input) -> Result<Served, All
     Ok(served)
 }
 
+// The same, with the places that it passed.
+fn take_on(
+    memory: &mut Memory,
+    alloc: Global,
+    input: &Input,
+) -> Result<(Served, Option<Passes>), AllocError>
+    requires { MayTake memory.old.place (kept_in memory.old) input.now }
+    ensures serves { IfOk result (λ taken. Serves (turn_of memory.old.place (kept_in memory.old) input.now) (kept_in memory.new) taken.0) }
+    ensures passes { IfOk result (λ taken. option_map passes_as taken.1 ≡ passes_of (kept_in memory.old) input.now (turn_of memory.old.place (kept_in memory.old) input.now)) }
+    ensures ready { OnOk result (IsReady memory.new.place (kept_in memory.new)) }
+    ensures follows { IfOk result (λ taken. IfSome taken.0.wrote (IsNext (stored_in memory.old))) }
+    ensures stored { IfOk result (λ taken. IsButForAcks (stored_next (stored_in memory.old) taken.0.wrote) (stored_in memory.new)) }
+    ensures place { memory.new.place ≡ memory.old.place }
+{
+    let ahead = look(memory, input);
+    match take(memory, alloc, input) {
+        Ok(served) => {
+            let passes = passed_by(input, &served, &ahead);
+            Ok((served, passes))
+        }
+        Err(err) => Err(err),
+    }
+}
+
 // One turn in memory over what was read: what it tells once its record stands. Fails where memory runs out.
 #[tactic(auto, using(crate::proofs::TurnLaws::sent_spelled, crate::proofs::TurnLaws::wrote_so, crate::proofs::TurnLaws::follows_so, crate::proofs::TurnLaws::stored_so, crate::proofs::TurnLaws::tells_so))]
 fn told(memory: &mut Memory, alloc: Global, input: Input) -> Result<Effects, AllocError>
@@ -78,19 +149,21 @@ fn told(memory: &mut Memory, alloc: Global, input: Input) -> Result<Effects, All
     requires spellable { IsSpellable (turn_of memory.old.place (kept_in memory.old) input) }
     ensures input { IfOk result (λ e. e.input ≡ input) }
     ensures tells { IfOk result (λ e. Tells (turn_of memory.old.place (kept_in memory.old) input) (kept_in memory.new) e) }
-    ensures spelled { IfOk result (λ e. IfSome e.wrote IsSpelled) }
+    ensures passes { IfOk result (λ e. option_map passes_as e.passes ≡ passes_of (kept_in memory.old) input (turn_of memory.old.place (kept_in memory.old) input)) }
+    ensures read { IfOk result (λ e. AllByRecursion IsMailed e.sent) }
+    ensures has_bytes { IfOk result (λ e. IfSome e.wrote RecordHasBytes) }
     ensures ready { OnOk result (IsReady memory.new.place (kept_in memory.new)) }
     ensures follows { IfOk result (λ e. IfSome e.wrote (IsNext (stored_in memory.old))) }
     ensures stored { IfOk result (λ e. IsButForAcks (stored_next (stored_in memory.old) e.wrote) (stored_in memory.new)) }
     ensures place { memory.new.place ≡ memory.old.place }
 {
-    let served = take(memory, alloc, &input)?;
-    let effects = effects_of(alloc, input, served)?;
+    let (served, passes) = take_on(memory, alloc, &input)?;
+    let effects = effects_of(alloc, input, served, passes)?;
     Ok(effects)
 }
 
 /// One turn in memory: what it tells once its record stands. Fails where memory runs out.
-#[tactic(auto, using(crate::proofs::TurnLaws::tells_as, crate::proofs::TurnLaws::wrote_as))]
+#[tactic(auto, using(crate::proofs::TurnLaws::tells_as, crate::proofs::TurnLaws::wrote_as, crate::proofs::PassLaws::passes_for))]
 pub(crate) fn decide(
     memory: &mut Memory,
     alloc: Global,
@@ -101,8 +174,10 @@ pub(crate) fn decide(
     requires spellable { (i : InputBy) → IsReadAs incoming i → IsSpellable (turn_of memory.old.place (kept_in memory.old) i) }
     ensures input { IfOk result (λ e. IsReadAs incoming e.input) }
     ensures tells { IfOk result (λ e. Tells (turn_of memory.old.place (kept_in memory.old) e.input) (kept_in memory.new) e) }
+    ensures passes { IfOk result (λ e. TellsPasses (kept_in memory.old) (turn_of memory.old.place (kept_in memory.old) e.input) e) }
+    ensures read { IfOk result (λ e. AllByRecursion IsMailed e.sent) }
     ensures wrote { IfOk result (λ e. e.wrote ≡ record_of memory.old.place (kept_in memory.old) (read_as incoming)) }
-    ensures spelled { IfOk result (λ e. IfSome e.wrote IsSpelled) }
+    ensures has_bytes { IfOk result (λ e. IfSome e.wrote RecordHasBytes) }
     ensures ready { OnOk result (IsReady memory.new.place (kept_in memory.new)) }
     ensures follows { IfOk result (λ e. IfSome e.wrote (IsNext (stored_in memory.old))) }
     ensures stored { IfOk result (λ e. IsButForAcks (stored_next (stored_in memory.old) e.wrote) (stored_in memory.new)) }

@@ -3,6 +3,7 @@ ghost use Rattle.std.specs.Prelude.{◌≡◌};
 
 use crate::finished::Finished;
 use dtx_values::{Bytes, Listing};
+use node_points::Passes;
 use redo_record::RedoRecord;
 use wire_msg::{Input, Msg};
 
@@ -32,4 +33,6 @@ pub struct Effects {
     pub sent: Sent,
     /// The calls of clients that it ends.
     pub ended: Ends,
+    /// The places that it passed, at which a crash-test comment stops a node.
+    pub passes: Option<Passes>,
 }

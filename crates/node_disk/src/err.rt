@@ -4,11 +4,10 @@ ghost use Rattle.redo_log.specs.declared.err.MakeWhy.TheVariants as logs;
 ghost use Rattle.record_log.specs.declared.err.LoadWhy.TheVariants as loads;
 ghost use Rattle.record_log.specs.declared.err.AppendErr.TheVariants as appends;
 ghost use Rattle.node_disk.specs.declared.err.MakeWhy.TheVariants as makes;
-ghost use Rattle.node_disk.specs.declared.err.TurnErr.TheVariants as turns;
 
+use node_points::Passes;
 use record_log::{AppendErr, LoadWhy};
 use redo_record::RedoRecord;
-use std::alloc::AllocError;
 use wire_msg::Input;
 
 /// Why a node was not made or started.
@@ -29,26 +28,44 @@ pub struct MakeErr<D> {
     pub why: MakeWhy,
 }
 
+/// Where a turn was cut.
+#[derive(Clone, Copy, Debug, PartialEq, Eq)]
+pub enum CutAt {
+    /// A point was reached before the record was written: the disk was not called.
+    BeforeRecord,
+    /// The disk failed while the record was written: it has the record, or has not.
+    InAppend,
+    /// A point was reached after the record was written: the disk has it.
+    AfterRecord,
+}
+
+/// A turn that was cut: nothing of it is told but what came, and the places that it passes.
+#[derive(Debug, Drop)]
+pub struct CutTurn {
+    /// What came, as it was read.
+    pub input: Input,
+    /// The record of the turn, where there is one.
+    pub tried: Option<RedoRecord>,
+    /// The places that it passes.
+    pub passes: Option<Passes>,
+    /// Where it was cut.
+    pub at: CutAt,
+}
+
 /// Why a turn came to no end. The node takes no further turn.
 #[derive(Debug, Drop)]
 pub enum TurnErr {
-    /// The disk failed while the record was appended. The disk has it, or has not.
-    Halted {
-        /// What came, as it was read.
-        input: Input,
-        /// The record.
-        tried: RedoRecord,
-    },
-    /// There was no memory, or no room on the disk. The disk is as it was.
+    /// A point was reached, before the record was written or after, or the disk failed while it was written.
+    Cut(CutTurn),
+    /// There was no memory, or no room: on the disk, or for a count in a message or a record. The disk is as it was.
     NoMemory,
 }
 
-impl From<AllocError> for TurnErr {
-    ghost from_gives = { λ _ e. e ≡ turns.NoMemory };
-
-    fn from(_: AllocError) -> TurnErr {
-        TurnErr::NoMemory
-    }
+/// Why the record of a turn is not told: the turn is cut, or there was no room.
+#[derive(Clone, Copy, Debug, PartialEq, Eq)]
+pub(crate) enum Unwritten {
+    Cut(CutAt),
+    NoMemory,
 }
 
 /// Why no node was made whose log was not made.

@@ -27,6 +27,13 @@ impl Finished {
     {
         &self.call.answer
     }
+
+    /// The session and its answer.
+    pub fn into_call(self) -> Call
+        ensures { result ≡ call_of self }
+    {
+        self.call
+    }
 }
 
 fn ended_call(call: Call) -> Finished

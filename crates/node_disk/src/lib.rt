@@ -2,7 +2,7 @@
 //!
 //! Nodes exchange bytes. `Node::turn` reads what comes, does what the rules say, and puts the turn's record on the disk before it
 //! tells anything of the turn. `Node::start` makes a node again from whatever a crash has left of its disk, and `Node::make` makes
-//! one on an empty disk.
+//! one on an empty disk. The points of crash-test comments cut a turn before its record is written, or after.
 #![tactic(auto)]
 
 mod arming;
@@ -19,7 +19,7 @@ mod starting;
 mod writing;
 
 pub use effects::{Effects, Ends, Mailed, Sent};
-pub use err::{MakeErr, MakeWhy, TurnErr};
+pub use err::{CutAt, CutTurn, MakeErr, MakeWhy, TurnErr};
 pub use finished::Finished;
 pub use incoming::Incoming;
 pub use laws::turns_store_their_records;

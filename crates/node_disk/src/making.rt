@@ -10,7 +10,7 @@ ghost use Rattle.node_rules.specs.Turn.{made};
 ghost use Rattle.ready_laws.specs.Ready.{IsReady};
 ghost use Rattle.node_memory.specs.Parts.{kept_in};
 ghost use Rattle.node_disk.specs.declared.err.MakeWhy.TheVariants as makes;
-ghost use Rattle.node_disk.specs.Starts.{MayBeMade};
+ghost use Rattle.node_disk.specs.Starts.{MayBeMade, CanBeStarted};
 ghost use Rattle.node_disk.specs.OnDisk.{place_of, kept_of, disk_of, IsRunning};
 
 use crate::Node;
@@ -45,6 +45,7 @@ impl<D: Disk> Node<D> {
         ensures place { IfOk result (λ node. place_of node ≡ place) }
         ensures stored { IfOk result (λ node. HoldRecords (records.Boot 1 ∷ []) (D.content (disk_of node))) }
         ensures running { IfOk result (λ node. IsRunning D.content D.images node) }
+        ensures startable { IfOk result (λ node. CanBeStarted D.content D.images (disk_of node)) }
         ensures ready { IfOk result (λ node. IsReady (place_of node) (kept_of node)) }
 
         // A crash at any moment leaves a disk with the record of the first start, or one with none.

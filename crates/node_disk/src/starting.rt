@@ -6,13 +6,13 @@ ghost use Rattle.redo_record.specs.declared.record.RedoRecord.{RedoRecord as Red
 ghost use Rattle.redo_record.specs.declared.record.RedoRecord.TheVariants as records;
 ghost use Rattle.redo_log.specs.Log.{count_after};
 ghost use Rattle.redo_log.specs.Plans.{CallsGoByPlan, append_calls, load_calls};
-ghost use Rattle.record_log.specs.Held.{HoldRecords, GrowsByRecord, HoldWithOrWithout};
+ghost use Rattle.record_log.specs.Held.{HoldRecords, GrowsByRecord, GrowsByPlan, HoldWithOrWithout};
 ghost use Rattle.record_log.specs.Log.{disk_of as disk_of_log, IsIntact, IsUsable};
 ghost use Rattle.node_rules.specs.Turn.{start_of};
 ghost use Rattle.ready_laws.specs.Ready.{IsReady};
 ghost use Rattle.node_memory.specs.Parts.{kept_in};
 ghost use Rattle.node_disk.specs.declared.err.MakeWhy.TheVariants as makes;
-ghost use Rattle.node_disk.specs.Starts.{MayBeHad, IsStartable, last_boot, next_boot};
+ghost use Rattle.node_disk.specs.Starts.{MayBeHad, IsStartable, CanBeStarted, StartIsLeft, last_boot, next_boot};
 ghost use Rattle.node_disk.specs.OnDisk.{place_of, kept_of, disk_of, IsRunning};
 
 use crate::Node;
@@ -70,6 +70,7 @@ pub(crate) fn begin<D: Disk>(
     ensures writes { IfOk result (λ node. D.writes (disk_of node) ≡ count_after 2 (D.writes (disk_of_log log))) }
     ensures plan { IfOk result (λ node. CallsGoByPlan append_calls (D.plan (disk_of_log log)) (D.plan (disk_of node)) false) }
     ensures fault_plan { IfErr result (λ err. err.why ≡ makes.Fault → CallsGoByPlan append_calls (D.plan (disk_of_log log)) (D.plan err.disk) true) }
+    ensures left { IfErr result (λ err. err.why ≡ makes.Fault → GrowsByPlan (D.plan (disk_of_log log)) (records.Boot memory.boot) (D.content (disk_of_log log)) (D.content err.disk)) }
     ensures memory_plan { IfErr result (λ err. err.why ≡ makes.NoMemory → D.plan err.disk ≡ D.plan (disk_of_log log)) }
 {
     let mut log = log;
@@ -112,6 +113,7 @@ fn begin_again<D: Disk>(
     ensures writes { IfOk result (λ node. D.writes (disk_of node) ≡ count_after 2 (D.writes (disk_of_log log))) }
     ensures plan { IfOk result (λ node. CallsGoByPlan append_calls (D.plan (disk_of_log log)) (D.plan (disk_of node)) false) }
     ensures fault_plan { IfErr result (λ err. err.why ≡ makes.Fault → CallsGoByPlan append_calls (D.plan (disk_of_log log)) (D.plan err.disk) true) }
+    ensures left { IfErr result (λ err. err.why ≡ makes.Fault → GrowsByPlan (D.plan (disk_of_log log)) (next_boot records.now) (D.content (disk_of_log log)) (D.content err.disk)) }
     ensures memory_plan { IfErr result (λ err. err.why ≡ makes.NoMemory → D.plan err.disk ≡ D.plan (disk_of_log log)) }
 {
     starts_are_ready();
@@ -137,8 +139,7 @@ impl<D: Disk> Node<D> {
     #[tactic(auto, using(crate::proofs::StartLaws::had_of, crate::proofs::StartLaws::startable_loaded, crate::proofs::StartLaws::startable_again, crate::proofs::PlanLaws::one_after, crate::proofs::PlanLaws::none_after))]
     pub fn start(alloc: Global, disk: D, place: Place) -> Result<Node<D>, MakeErr<D>>
         requires short { length (D.content disk) < 2 ^ 63 }
-        requires startable { IsStartable (D.content disk) }
-        requires images { (image : List ℕ) → D.images disk image → IsStartable image }
+        requires startable { CanBeStarted D.content D.images disk }
         requires boots { (rs : List RedoRecordBy) → HoldRecords rs (D.content disk) → last_boot rs + 1 < 2 ^ 32 }
 
         // What it keeps is what its records say, with the record of this start, and that stands on the disk.
@@ -152,6 +153,7 @@ impl<D: Disk> Node<D> {
         ensures any_moment { MatchResult result
             (λ node. AtEachMoment D.moment D.images_since disk (disk_of node) IsStartable)
             (λ err. AtEachMoment D.moment D.images_since disk err.disk IsStartable) }
+        ensures startable { MatchResult result (λ node. CanBeStarted D.content D.images (disk_of node)) (λ err. CanBeStarted D.content D.images err.disk) }
 
         ensures fault { IfErr result (λ err. err.why ≡ makes.Fault → Rose (D.faults disk) (D.faults err.disk)) }
         ensures later { MatchResult result (λ node. D.faults disk ≤ D.faults (disk_of node)) (λ err. D.faults disk ≤ D.faults err.disk) }
@@ -165,6 +167,9 @@ impl<D: Disk> Node<D> {
         // Where the disk shows its plan, it is a fault exactly where an order strikes one of the calls.
         ensures plan { IfOk result (λ node. CallsGoByPlan (load_calls (D.content disk) ++ append_calls) (D.plan disk) (D.plan (disk_of node)) false) }
         ensures fault_plan { IfErr result (λ err. err.why ≡ makes.Fault → CallsGoByPlan (load_calls (D.content disk) ++ append_calls) (D.plan disk) (D.plan err.disk) true) }
+
+        // And after it the record of the start stands, or not, as the plan says.
+        ensures left { IfErr result (λ err. err.why ≡ makes.Fault → StartIsLeft (D.plan disk) (D.content disk) (D.content err.disk)) }
     {
         match RecordLog::load(alloc, disk) {
             Ok((log, records)) => match begin_again(alloc, place, log, records.as_slice()) {

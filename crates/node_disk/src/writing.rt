@@ -1,25 +1,30 @@
 //! The record of a turn is written.
-ghost use Rattle.std.specs.Prelude.{◌≡◌, ◌≤◌, List, Option, Some, true, false, is_some, IfErr, IfOk, IfSome, OnOk, IsErrOf};
+ghost use Rattle.std.specs.Prelude.{◌≡◌, ◌≤◌, List, Option, true, false, is_some, IfErr, IfOk, IfSome, OnOk, IsErrOf};
 ghost use Rattle.dtx_ports.specs.Causes.{Rose};
 ghost use Rattle.block_disk.specs.Images.{AtEachMoment, IsOnly};
 ghost use Rattle.redo_log.specs.Loads.{IsAppendCount};
 ghost use Rattle.redo_log.specs.Plans.{CallsGoByPlan, append_calls};
 ghost use Rattle.redo_log.specs.Log.{count_after};
 ghost use Rattle.redo_record.specs.declared.record.RedoRecord.{RedoRecord as RedoRecordBy};
-ghost use Rattle.record_log.specs.Records.{IsSpelled};
+ghost use Rattle.fit_laws.specs.Record.{RecordHasBytes};
 ghost use Rattle.record_log.specs.Held.{HoldRecords};
 ghost use Rattle.record_log.specs.Log.{disk_of, IsIntact, IsUsable};
 ghost use Rattle.record_log.specs.declared.err.AppendErr.TheVariants as appends;
-ghost use Rattle.node_disk.specs.declared.err.TurnErr.TheVariants as turns;
-ghost use Rattle.node_disk.specs.Effects.{HaltsBy, HaltsOver};
 ghost use Rattle.node_rules.specs.Kept.{Stored};
 ghost use Rattle.ready_laws.specs.Sound.{IsNext};
+ghost use Rattle.node_disk.specs.declared.err.CutAt.TheVariants as cuts;
+ghost use Rattle.node_disk.specs.declared.err.TurnErr.TheVariants as turns;
+ghost use Rattle.node_disk.specs.declared.err.Unwritten.TheVariants as unwritten;
+ghost use Rattle.node_disk.specs.Effects.{GoesUncut};
+ghost use Rattle.node_disk.specs.Cuts.{AtCut, AtStop, CutsShort, stops as stops_by, Stops, IsTried, CutStores, CutFaults, CutCalls, CutWrites, CutByPlan, CutStands};
 ghost use Rattle.node_disk.specs.Starts.{IsStartable, IsButForAcks, stored_next};
-ghost use Rattle.node_disk.specs.OnDisk.{StandsOn, GrowsBy, MayStand, turn_calls, calls_of, writes_of};
+ghost use Rattle.node_disk.specs.OnDisk.{StandsOn, HoldsNext, MayStand, turn_calls, calls_of, writes_of};
 
 use crate::effects::Effects;
-use crate::err::TurnErr;
+use crate::err::{CutAt, CutTurn, TurnErr, Unwritten};
 use block_disk::Disk;
+use fit_laws::{has_few, record_fits};
+use node_points::{Passes, Point, Side, reaches};
 use ready_laws::records_follow;
 use record_log::{AppendErr, RecordLog};
 use redo_record::RedoRecord;
@@ -48,45 +53,22 @@ pub(crate) fn unserved<D: Disk>(log: &RecordLog<D>) -> TurnErr
     ensures why { result ≡ turns.NoMemory }
     ensures any_moment { (w : Option RedoRecordBy) (rs : List RedoRecordBy) → HoldRecords rs (D.content (disk_of log.now))
         → AtEachMoment D.moment D.images_since (disk_of log.now) (disk_of log.now) (MayStand rs w) }
-    ensures startable { (s : Stored) → StandsOn (D.content (disk_of log.now)) s → AtEachMoment D.moment D.images_since (disk_of log.now) (disk_of log.now) IsStartable }
+    ensures any_start { (s : Stored) → StandsOn (D.content (disk_of log.now)) s → AtEachMoment D.moment D.images_since (disk_of log.now) (disk_of log.now) IsStartable }
 {
     leave(log);
     TurnErr::NoMemory
 }
 
-// A turn whose record was not written, though it was tried.
-fn halted(effects: Effects) -> TurnErr
-    requires { is_some effects.wrote ≡ true }
-    ensures { (r : RedoRecordBy) → effects.wrote ≡ Some r → result ≡ turns.Halted effects.input r }
-{
-    let Effects { input, wrote, .. } = effects;
-    match wrote {
-        Some(tried) => TurnErr::Halted { input, tried },
-        None => unreachable!(),
-    }
-}
-
-// A turn whose record was not written for this reason.
-fn unwritten(effects: Effects, why: AppendErr) -> TurnErr
-    requires { why ≡ appends.Fault → is_some effects.wrote ≡ true }
-    ensures memory { why ≡ appends.NoMemory → result ≡ turns.NoMemory }
-    ensures fault { (r : RedoRecordBy) → why ≡ appends.Fault → effects.wrote ≡ Some r → result ≡ turns.Halted effects.input r }
-{
-    match why {
-        AppendErr::NoMemory => TurnErr::NoMemory,
-        AppendErr::Fault => halted(effects),
-    }
-}
-
-// Appends this record, where there is one. Where there is none the disk is not called.
-#[tactic(auto, using(crate::proofs::PlanLaws::no_calls))]
+// Appends this record, where there is one. Where there is none, or four bytes are too few to count its children or its changes, the
+// disk is not called.
+#[tactic(auto, using(crate::proofs::PlanLaws::no_calls, crate::proofs::TurnLaws::stand_still))]
 fn append<D: Disk>(log: &mut RecordLog<D>, wrote: &Option<RedoRecord>) -> Result<(), AppendErr>
     requires usable { IsUsable D.content D.images log.old }
     requires intact { IsIntact log.old }
     requires durable { IsOnly (D.content (disk_of log.old)) (D.images (disk_of log.old)) }
-    requires spelled { IfSome wrote.now IsSpelled }
+    requires has_bytes { IfSome wrote.now RecordHasBytes }
 
-    ensures stored { OnOk result (GrowsBy wrote.now (D.content (disk_of log.old)) (D.content (disk_of log.new))) }
+    ensures stored { OnOk result (HoldsNext wrote.now (D.content (disk_of log.old)) (D.content (disk_of log.new))) }
     ensures usable { OnOk result (IsUsable D.content D.images log.new) }
     ensures intact { OnOk result (IsIntact log.new) }
     ensures durable { OnOk result (IsOnly (D.content (disk_of log.new)) (D.images (disk_of log.new))) }
@@ -107,6 +89,9 @@ fn append<D: Disk>(log: &mut RecordLog<D>, wrote: &Option<RedoRecord>) -> Result
     ensures plan { OnOk result (CallsGoByPlan (turn_calls wrote.now) (D.plan (disk_of log.old)) (D.plan (disk_of log.new)) false) }
     ensures fault_plan { IsErrOf result appends.Fault → CallsGoByPlan append_calls (D.plan (disk_of log.old)) (D.plan (disk_of log.new)) true }
 
+    // And after it the record stands, or not, as the plan says.
+    ensures stands { IsErrOf result appends.Fault → CutStands cuts.InAppend wrote.now (D.plan (disk_of log.old)) (D.content (disk_of log.old)) (D.content (disk_of log.new)) }
+
     // Where memory runs out, the disk was not called.
     ensures untouched { IsErrOf result appends.NoMemory → D.content (disk_of log.new) ≡ D.content (disk_of log.old) }
     ensures untouched_faults { IsErrOf result appends.NoMemory → D.faults (disk_of log.new) ≡ D.faults (disk_of log.old) }
@@ -119,20 +104,124 @@ fn append<D: Disk>(log: &mut RecordLog<D>, wrote: &Option<RedoRecord>) -> Result
             leave(log);
             Ok(())
         }
-        Some(redo) => log.append(redo),
+        Some(redo) => {
+            if has_few(redo) {
+                record_fits(redo);
+                log.append(redo)
+            } else {
+                leave(log);
+                Err(AppendErr::NoMemory)
+            }
+        }
     }
 }
 
-/// Puts the record of a turn on the disk, where there is one, and gives what the turn tells. All memory is taken before the disk
-/// is called.
-pub(crate) fn write<D: Disk>(log: &mut RecordLog<D>, effects: Effects) -> Result<Effects, TurnErr>
+// Whether a point stops the node at the places of a side.
+fn stops(points: &[Point], passes: Option<Passes>, side: Side) -> bool
+    ensures { result ≡ stops_by points.now side passes }
+{
+    match passes {
+        None => false,
+        Some(places) => reaches(points, &places, side),
+    }
+}
+
+// Appends this record, where there is one, unless a point stops the node before it; and one may stop it after that.
+#[tactic(auto, using(crate::proofs::TurnLaws::stand_still, crate::proofs::CutLaws::goes_uncut))]
+fn put<D: Disk>(
+    log: &mut RecordLog<D>,
+    wrote: &Option<RedoRecord>,
+    passes: Option<Passes>,
+    points: &[Point],
+) -> Result<(), Unwritten>
     requires usable { IsUsable D.content D.images log.old }
     requires intact { IsIntact log.old }
     requires durable { IsOnly (D.content (disk_of log.old)) (D.images (disk_of log.old)) }
-    requires spelled { IfSome effects.wrote IsSpelled }
+    requires has_bytes { IfSome wrote.now RecordHasBytes }
+
+    ensures uncut { OnOk result (GoesUncut points.now passes) }
+    ensures stored { OnOk result (HoldsNext wrote.now (D.content (disk_of log.old)) (D.content (disk_of log.new))) }
+    ensures usable { OnOk result (IsUsable D.content D.images log.new) }
+    ensures intact { OnOk result (IsIntact log.new) }
+    ensures durable { OnOk result (IsOnly (D.content (disk_of log.new)) (D.images (disk_of log.new))) }
+
+    // A crash at any moment leaves the records from before, with this one or without.
+    ensures any_moment { (rs : List RedoRecordBy) → HoldRecords rs (D.content (disk_of log.old))
+        → AtEachMoment D.moment D.images_since (disk_of log.old) (disk_of log.new) (MayStand rs wrote.now) }
+
+    ensures stops { IfErr result (AtStop (λ at. Stops points.now at passes)) }
+    ensures tried { IfErr result (AtStop (λ at. IsTried at wrote.now)) }
+    ensures cut_stored { IfErr result (AtStop (λ at. CutStores at wrote.now (D.content (disk_of log.old)) (D.content (disk_of log.new)))) }
+    ensures cut_faults { IfErr result (AtStop (λ at. CutFaults at (D.faults (disk_of log.old)) (D.faults (disk_of log.new)))) }
+    ensures cut_calls { IfErr result (AtStop (λ at. CutCalls at wrote.now (D.calls (disk_of log.old)) (D.calls (disk_of log.new)))) }
+    ensures cut_writes { IfErr result (AtStop (λ at. CutWrites at wrote.now (D.writes (disk_of log.old)) (D.writes (disk_of log.new)))) }
+    ensures cut_plan { IfErr result (AtStop (λ at. CutByPlan at wrote.now (D.plan (disk_of log.old)) (D.plan (disk_of log.new)))) }
+    ensures cut_stands { IfErr result (AtStop (λ at. CutStands at wrote.now (D.plan (disk_of log.old)) (D.content (disk_of log.old)) (D.content (disk_of log.new)))) }
+
+    ensures later { D.faults (disk_of log.old) ≤ D.faults (disk_of log.new) }
+    ensures unfailed { OnOk result (D.faults (disk_of log.new) ≡ D.faults (disk_of log.old)) }
+    ensures calls { OnOk result (D.calls (disk_of log.new) ≡ count_after (calls_of wrote.now) (D.calls (disk_of log.old))) }
+    ensures writes { OnOk result (D.writes (disk_of log.new) ≡ count_after (writes_of wrote.now) (D.writes (disk_of log.old))) }
+    ensures plan { OnOk result (CallsGoByPlan (turn_calls wrote.now) (D.plan (disk_of log.old)) (D.plan (disk_of log.new)) false) }
+
+    // Where memory runs out, the disk was not called.
+    ensures untouched { IsErrOf result unwritten.NoMemory → D.content (disk_of log.new) ≡ D.content (disk_of log.old) }
+    ensures untouched_faults { IsErrOf result unwritten.NoMemory → D.faults (disk_of log.new) ≡ D.faults (disk_of log.old) }
+    ensures untouched_calls { IsErrOf result unwritten.NoMemory → D.calls (disk_of log.new) ≡ D.calls (disk_of log.old) }
+    ensures untouched_writes { IsErrOf result unwritten.NoMemory → D.writes (disk_of log.new) ≡ D.writes (disk_of log.old) }
+    ensures untouched_plan { IsErrOf result unwritten.NoMemory → D.plan (disk_of log.new) ≡ D.plan (disk_of log.old) }
+{
+    if stops(points, passes, Side::Before) {
+        leave(log);
+        Err(Unwritten::Cut(CutAt::BeforeRecord))
+    } else {
+        match append(log, wrote) {
+            Ok(()) => {
+                if stops(points, passes, Side::After) {
+                    Err(Unwritten::Cut(CutAt::AfterRecord))
+                } else {
+                    Ok(())
+                }
+            }
+            Err(AppendErr::Fault) => Err(Unwritten::Cut(CutAt::InAppend)),
+            Err(AppendErr::NoMemory) => Err(Unwritten::NoMemory),
+        }
+    }
+}
+
+// A turn that was cut here: what it would have told is not told.
+fn cut(effects: Effects, at: CutAt) -> CutTurn
+    ensures { result ≡ record { input = effects.input; tried = effects.wrote; passes = effects.passes; at = at } }
+{
+    let Effects {
+        input,
+        wrote,
+        passes,
+        ..
+    } = effects;
+    CutTurn {
+        input,
+        tried: wrote,
+        passes,
+        at,
+    }
+}
+
+/// Puts the record of a turn on the disk, where there is one, and gives what the turn tells, unless it is cut. All memory is taken
+/// before the disk is called.
+pub(crate) fn write<D: Disk>(
+    log: &mut RecordLog<D>,
+    effects: Effects,
+    points: &[Point],
+) -> Result<Effects, TurnErr>
+    requires usable { IsUsable D.content D.images log.old }
+    requires intact { IsIntact log.old }
+    requires durable { IsOnly (D.content (disk_of log.old)) (D.images (disk_of log.old)) }
+    requires has_bytes { IfSome effects.wrote RecordHasBytes }
 
     ensures same { IfOk result (λ e. e ≡ effects) }
-    ensures stored { OnOk result (GrowsBy effects.wrote (D.content (disk_of log.old)) (D.content (disk_of log.new))) }
+    ensures uncut { OnOk result (GoesUncut points.now effects.passes) }
+    ensures stored { OnOk result (HoldsNext effects.wrote (D.content (disk_of log.old)) (D.content (disk_of log.new))) }
     ensures usable { OnOk result (IsUsable D.content D.images log.new) }
     ensures intact { OnOk result (IsIntact log.new) }
     ensures durable { OnOk result (IsOnly (D.content (disk_of log.new)) (D.images (disk_of log.new))) }
@@ -142,22 +231,26 @@ pub(crate) fn write<D: Disk>(log: &mut RecordLog<D>, effects: Effects) -> Result
         → AtEachMoment D.moment D.images_since (disk_of log.old) (disk_of log.new) (MayStand rs effects.wrote) }
 
     // So a node can start from it, and after the turn the records say what the node stores.
-    ensures startable { (s : Stored) → StandsOn (D.content (disk_of log.old)) s → IfSome effects.wrote (IsNext s)
+    ensures any_start { (s : Stored) → StandsOn (D.content (disk_of log.old)) s → IfSome effects.wrote (IsNext s)
         → AtEachMoment D.moment D.images_since (disk_of log.old) (disk_of log.new) IsStartable }
     ensures stands { OnOk result ((s t : Stored) → StandsOn (D.content (disk_of log.old)) s → IfSome effects.wrote (IsNext s) → IsButForAcks (stored_next s effects.wrote) t
         → StandsOn (D.content (disk_of log.new)) t) }
 
-    ensures halted { IfErr result (HaltsBy effects.wrote (Rose (D.faults (disk_of log.old)) (D.faults (disk_of log.new)))) }
-    ensures halted_input { IfErr result (HaltsOver (λ i. i ≡ effects.input)) }
+    ensures cut { IfErr result (CutsShort effects) }
+    ensures stops { IfErr result (AtCut (λ at wrote passes. Stops points.now at passes)) }
+    ensures tried { IfErr result (AtCut (λ at wrote passes. IsTried at wrote)) }
+    ensures cut_stored { IfErr result (AtCut (λ at wrote passes. CutStores at wrote (D.content (disk_of log.old)) (D.content (disk_of log.new)))) }
+    ensures cut_faults { IfErr result (AtCut (λ at wrote passes. CutFaults at (D.faults (disk_of log.old)) (D.faults (disk_of log.new)))) }
+    ensures cut_calls { IfErr result (AtCut (λ at wrote passes. CutCalls at wrote (D.calls (disk_of log.old)) (D.calls (disk_of log.new)))) }
+    ensures cut_writes { IfErr result (AtCut (λ at wrote passes. CutWrites at wrote (D.writes (disk_of log.old)) (D.writes (disk_of log.new)))) }
+    ensures cut_plan { IfErr result (AtCut (λ at wrote passes. CutByPlan at wrote (D.plan (disk_of log.old)) (D.plan (disk_of log.new)))) }
+    ensures cut_stands { IfErr result (AtCut (λ at wrote passes. CutStands at wrote (D.plan (disk_of log.old)) (D.content (disk_of log.old)) (D.content (disk_of log.new)))) }
+
     ensures later { D.faults (disk_of log.old) ≤ D.faults (disk_of log.new) }
     ensures unfailed { OnOk result (D.faults (disk_of log.new) ≡ D.faults (disk_of log.old)) }
     ensures calls { OnOk result (D.calls (disk_of log.new) ≡ count_after (calls_of effects.wrote) (D.calls (disk_of log.old))) }
     ensures writes { OnOk result (D.writes (disk_of log.new) ≡ count_after (writes_of effects.wrote) (D.writes (disk_of log.old))) }
-    ensures halted_calls { IfErr result (HaltsBy effects.wrote (IsAppendCount (D.calls (disk_of log.old)) (D.calls (disk_of log.new)))) }
-
-    // Where the disk shows its plan, it is a fault exactly where an order strikes one of the calls.
     ensures plan { OnOk result (CallsGoByPlan (turn_calls effects.wrote) (D.plan (disk_of log.old)) (D.plan (disk_of log.new)) false) }
-    ensures halted_plan { IfErr result (HaltsBy effects.wrote (CallsGoByPlan append_calls (D.plan (disk_of log.old)) (D.plan (disk_of log.new)) true)) }
 
     // Where memory runs out, the disk was not called.
     ensures untouched { IsErrOf result turns.NoMemory → D.content (disk_of log.new) ≡ D.content (disk_of log.old) }
@@ -167,8 +260,9 @@ pub(crate) fn write<D: Disk>(log: &mut RecordLog<D>, effects: Effects) -> Result
     ensures untouched_plan { IsErrOf result turns.NoMemory → D.plan (disk_of log.new) ≡ D.plan (disk_of log.old) }
 {
     records_follow();
-    match append(log, &effects.wrote) {
+    match put(log, &effects.wrote, effects.passes, points) {
         Ok(()) => Ok(effects),
-        Err(why) => Err(unwritten(effects, why)),
+        Err(Unwritten::Cut(at)) => Err(TurnErr::Cut(cut(effects, at))),
+        Err(Unwritten::NoMemory) => Err(TurnErr::NoMemory),
     }
 }

@@ -1,14 +1,19 @@
 -- The places that a turn passes, as they stand in memory, and what has to be known of its branch.
-use Rattle.std.specs.Prelude.{◌≡◌, ◌++◌, Bool, if◌then◌else◌, List, [], ◌∷◌, option_to_list, Option, Some, None}
+use Rattle.std.specs.Prelude.{◌≡◌, ◌++◌, Bool, if◌then◌else◌, List, [], ◌∷◌, option_to_list, option_map, Option, Some, None}
 use Rattle.crash_points.specs.Points.{numbers_at}
 use Rattle.crash_points.specs.declared.place.TurnPlace.TheVariants as places
-use Rattle.node_rules.specs.Data.{BranchId, RedoRecord, Msg, Live, Standing}
+use Rattle.node_rules.specs.Data.{BranchId, RedoRecord, Msg, Live, Standing, Place, Input}
+use Rattle.node_rules.specs.Data.inputs
 use Rattle.node_rules.specs.Data.records
 use Rattle.node_rules.specs.Data.decisions
 use Rattle.node_rules.specs.Words.{one}
+use Rattle.node_rules.specs.Inputs.{IsFit}
+use Rattle.node_rules.specs.Sessions.{session_at}
 use Rattle.node_rules.specs.Kept.{Kept, live_at, standing_at}
-use Rattle.node_rules.specs.Points.{Passes as PassesByRules}
+use Rattle.node_rules.specs.Points.{Passes as PassesByRules, has_edges, is_ready, ready_points, ended_points, forgot_points}
+use Rattle.node_rules.specs.Turn.{turn_of}
 use Rattle.node_points.specs.declared.places.Passes.{Passes}
+use Rattle.node_points.specs.declared.looking.Ahead.{Ahead}
 
 -- the points that these places are
 abbrev pub passes_as : Passes → PassesByRules
@@ -18,10 +23,10 @@ passes_as p = record {
   after = numbers_at p.at_site (option_to_list p.after);
 }
 
--- the sender of the first of these messages
-abbrev pub first_sender : List Msg → Option BranchId
-first_sender [] = None
-first_sender (m ∷ ms) = Some m.from
+-- the branch that says Ready in the first of these messages
+abbrev pub ready_sender : List Msg → Option BranchId
+ready_sender [] = None
+ready_sender (m ∷ ms) = if is_ready m.kind then Some m.from else None
 
 -- the branch of a record
 abbrev pub branch_of : RedoRecord → Option BranchId
@@ -32,10 +37,26 @@ branch_of _ = None
 
 -- the branch whose points a turn passes, where they depend on what the node keeps of it
 abbrev pub turns : List Msg → Option RedoRecord → Option BranchId
-turns sent None = first_sender sent
+turns sent None = ready_sender sent
 turns sent (Some r) = branch_of r
 
--- This is what the node keeps of the branch that a turn is of: where it is live, and its row.
-pub record Knows (k : Kept) (b : Option BranchId) (live : Option Live) (row : Option Standing) : Type 0 where
-  pub is_live : (c : BranchId) → b ≡ Some c → live_at k c ≡ live
-  pub is_kept : (c : BranchId) → b ≡ Some c → standing_at k c ≡ row
+-- This is ahead of a branch that is live so, and whose row is this.
+pub record IsAhead (live : Option Live) (row : Option Standing) (a : Ahead) : Type 0 where
+  pub ready : option_map passes_as a.ready ≡ ready_points live
+  pub children : a.has_children ≡ has_edges live
+  pub ended : option_map passes_as a.ended ≡ ended_points row
+  pub forgot : option_map passes_as a.forgot ≡ forgot_points row
+
+-- this is ahead of the branch that a turn is of
+abbrev pub Foresees : Kept → Option BranchId → Ahead → Type 0
+Foresees k b a = (c : BranchId) → b ≡ Some c → IsAhead (live_at k c) (standing_at k c) a
+
+-- the branch that an input is about: the one that a message is for, or the root of the session that calls
+abbrev pub concerned : Kept → Input → Option BranchId
+concerned k (inputs.Message m) = Some m.to
+concerned k (inputs.Call n s) = (session_at k.sessions n).root
+concerned k _ = None
+
+-- a turn passes places of no other branch
+abbrev pub TurnsAreOfTheirBranch : Type 0
+TurnsAreOfTheirBranch = (p : Place) (k : Kept) (input : Input) → IsFit input → (b : BranchId) → turns (turn_of p k input).sent (turn_of p k input).wrote ≡ Some b → concerned k input ≡ Some b

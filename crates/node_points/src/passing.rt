@@ -1,18 +1,13 @@
 //! Which places a turn passes.
-ghost use Rattle.std.specs.Prelude.{◌≡◌, ◌≤◌, length, map, option_map, is_some, slice_get, ◌||◌, IfSome};
-ghost use Rattle.std.specs.Option.{option_copied};
-ghost use Rattle.dtx_values.specs.Limits.{branch_limit};
+ghost use Rattle.std.specs.Prelude.{◌≡◌, map, option_map, is_some, slice_get, ◌||◌, Option, Some};
 ghost use Rattle.redo_record.specs.declared.record.RedoRecord.TheVariants as records;
-ghost use Rattle.std.specs.Prelude.{Option, Some};
-ghost use Rattle.node_rules.specs.Data.{Standing};
 ghost use Rattle.node_rules.specs.Kept.{Kept};
-ghost use Rattle.node_rules.specs.Points.{is_commit_point as is_commit_point_of, has_edges as has_edges_of, decided_points as decided_points_of, ended_points as ended_points_of, forgot_points as forgot_points_of, record_points, ready_points as ready_points_of, is_ready as is_ready_kind, sent_points, points_of};
-ghost use Rattle.node_points.specs.Passing.{passes_as, turns, Knows, branch_of, first_sender};
+ghost use Rattle.node_rules.specs.Points.{is_commit_point as is_commit_point_of, decided_points as decided_points_of, record_points, is_ready as is_ready_kind, sent_points, points_of};
+ghost use Rattle.node_points.specs.Passing.{passes_as, turns, Foresees, branch_of, ready_sender};
 
-use crate::Passes;
+use crate::{Ahead, Passes};
 use crash_points::TurnPlace;
-use redo_record::{Decided, Decision, RedoRecord, Sealed, Standing};
-use session_tree::{Live, Walk, step};
+use redo_record::{Decision, RedoRecord, Sealed};
 use tran_ids::BranchId;
 use wire_msg::{Input, Kind, Msg};
 
@@ -22,15 +17,6 @@ fn is_commit_point(input: &Input) -> bool
     match input {
         Input::Message(msg) => matches!(msg.kind, Kind::CommitPoint),
         _ => false,
-    }
-}
-
-fn has_edges(live: Option<&Live>) -> bool
-    ensures { result ≡ has_edges_of (option_copied live.entry) }
-{
-    match live {
-        None => false,
-        Some(live) => live.edges.as_slice().get(0).is_some(),
     }
 }
 
@@ -63,59 +49,8 @@ fn sealed_points(input: &Input, sealed: &Sealed) -> Passes
     }
 }
 
-fn ended_points(row: Option<&Standing>) -> Option<Passes>
-    ensures { option_map passes_as result ≡ ended_points_of (option_copied row.entry) }
-{
-    match row {
-        None => None,
-        Some(row) => Some(Passes {
-            root: row.root,
-            at_site: false,
-            collected: false,
-            before: Some(TurnPlace::BeforeEnded),
-            after: Some(TurnPlace::AfterEnded),
-        }),
-    }
-}
-
-fn forgot_points(row: Option<&Standing>) -> Option<Passes>
-    ensures { option_map passes_as result ≡ forgot_points_of (option_copied row.entry) }
-{
-    match row {
-        None => None,
-        Some(row) => Some(Passes {
-            root: row.root,
-            at_site: row.toward.is_none(),
-            collected: false,
-            before: Some(TurnPlace::BeforeForgot),
-            after: None,
-        }),
-    }
-}
-
-fn ready_points(live: Option<&Live>) -> Option<Passes>
-    requires { IfSome live (λ l. length l.now.edges ≤ branch_limit) }
-    ensures { option_map passes_as result ≡ ready_points_of (option_copied live.entry) }
-{
-    match live {
-        None => None,
-        Some(live) => Some(Passes {
-            root: live.root,
-            at_site: matches!(step(live), Walk::Here),
-            collected: true,
-            before: None,
-            after: None,
-        }),
-    }
-}
-
-fn with_record(
-    input: &Input,
-    redo: &RedoRecord,
-    live: Option<&Live>,
-    row: Option<&Standing>,
-) -> Option<Passes>
-    ensures { (k : Kept) → Knows k (branch_of redo.now) (option_copied live.entry) (option_copied row.entry) → option_map passes_as result ≡ record_points k input.now redo.now }
+fn with_record(input: &Input, redo: &RedoRecord, ahead: &Ahead) -> Option<Passes>
+    ensures { (k : Kept) → Foresees k (branch_of redo.now) ahead.now → option_map passes_as result ≡ record_points k input.now redo.now }
 {
     match redo {
         RedoRecord::Sealed(sealed) => Some(sealed_points(input, sealed)),
@@ -123,27 +58,26 @@ fn with_record(
             decided_points(
                 input,
                 decided.root,
-                decided.parent.is_some() || has_edges(live),
+                decided.parent.is_some() || ahead.has_children,
             )
         }
         RedoRecord::Ended {
             decision: Decision::Commit(_),
             ..
-        } => ended_points(row),
-        RedoRecord::Forgot(_) => forgot_points(row),
+        } => ahead.ended,
+        RedoRecord::Forgot(_) => ahead.forgot,
         _ => None,
     }
 }
 
-fn without_record(sent: &[Msg], live: Option<&Live>) -> Option<Passes>
-    requires { IfSome live (λ l. length l.now.edges ≤ branch_limit) }
-    ensures { (k : Kept) (row : Option Standing) → Knows k (first_sender sent.now) (option_copied live.entry) row → option_map passes_as result ≡ sent_points k sent.now }
+fn without_record(sent: &[Msg], ahead: &Ahead) -> Option<Passes>
+    ensures { (k : Kept) → Foresees k (ready_sender sent.now) ahead.now → option_map passes_as result ≡ sent_points k sent.now }
 {
     match sent {
         [] => None,
         [msg, ..] => {
             if matches!(msg.kind, Kind::Ready) {
-                ready_points(live)
+                ahead.ready
             } else {
                 None
             }
@@ -151,22 +85,18 @@ fn without_record(sent: &[Msg], live: Option<&Live>) -> Option<Passes>
     }
 }
 
-/// The places that a turn passes: `live` and `row` are what the node kept of the turn's branch before it, where the branch was
-/// live, and its row. A turn with a record is of the record's branch; one without a record passes a place only where it says
-/// Ready, and is of the branch that says it.
+/// The places that a turn passes, by what was ahead of its branch before it. A turn with a record is of the record's branch; one
+/// without a record passes a place only where it says Ready, and is of the branch that says it.
 pub fn passed(
     input: &Input,
     sent: &[Msg],
-    wrote: Option<&RedoRecord>,
-    live: Option<&Live>,
-    row: Option<&Standing>,
+    wrote: &Option<RedoRecord>,
+    ahead: &Ahead,
 ) -> Option<Passes>
-    requires { IfSome live (λ l. length l.now.edges ≤ branch_limit) }
-    ensures { (k : Kept) → Knows k (turns sent.now (option_copied wrote.entry)) (option_copied live.entry) (option_copied row.entry)
-        → option_map passes_as result ≡ points_of k input.now sent.now (option_copied wrote.entry) }
+    ensures { (k : Kept) → Foresees k (turns sent.now wrote.now) ahead.now → option_map passes_as result ≡ points_of k input.now sent.now wrote.now }
 {
     match wrote {
-        None => without_record(sent, live),
-        Some(redo) => with_record(input, redo, live, row),
+        None => without_record(sent, ahead),
+        Some(redo) => with_record(input, redo, ahead),
     }
 }

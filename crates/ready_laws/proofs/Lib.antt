@@ -1,18 +1,18 @@
 pub mod ListLemmas
 pub mod TableLemmas
-mod RecordLemmas
+pub mod RecordLemmas
 pub mod RanLemmas
 pub mod RowStepLemmas
-mod NumberLemmas
-mod CallNumberLemmas
-mod ShapeLemmas
-mod SeqLemmas
-mod GivenLemmas
-mod ApartLemmas
-mod RecordIdLemmas
-mod IdStepLemmas
-mod FollowLemmas
-mod NameLemmas
+pub mod NumberLemmas
+pub mod CallNumberLemmas
+pub mod ShapeLemmas
+pub mod SeqLemmas
+pub mod GivenLemmas
+pub mod ApartLemmas
+pub mod RecordIdLemmas
+pub mod IdStepLemmas
+pub mod FollowLemmas
+pub mod NameLemmas
 pub mod GiveLemmas
-mod StartLemmas
-mod ReadyLemmas
+pub mod StartLemmas
+pub mod ReadyLemmas

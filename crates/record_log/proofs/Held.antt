@@ -1,17 +1,23 @@
 -- The records that bytes hold: one list at most, read body by body, and more by each append.
-use Rattle.std.proofs.Common.{◌≡◌, ℕ, zero, suc, ◌+◌, ◌<◌, ◌≤◌, List, [], ◌∷◌, ◌++◌, length, take, slice_index_or, Option, Some, refl, sym, ap, subst, ◌∙◌, arith}
+use Rattle.std.proofs.Common.{◌≡◌, ℕ, zero, suc, ◌+◌, ◌<◌, ◌≤◌, List, [], ◌∷◌, ◌++◌, length, take, slice_index_or, Bool, true, false, Option, Some, None, refl, sym, ap, subst, ◌∙◌, arith}
 use Rattle.std.proofs.lemmas.List.{take_more, take_all}
 use Rattle.std.specs.List.{AllByRecursion}
 use Rattle.std.specs.Option.{unwrap_or}
 use Rattle.redo_record.specs.declared.record.RedoRecord.{RedoRecord}
 use Rattle.byte_format.specs.Format.{IsSpelling, HasOneReading}
 use Rattle.redo_codec.specs.Record.{record_format}
-use Rattle.redo_log.specs.Cells.{bodies, held, log_of, AllFit, GrowsBy}
+use Rattle.redo_log.specs.Cells.{body_limit, bodies, held, log_of, AllFit, GrowsBy}
+use Rattle.block_disk.specs.Plan.{Plan}
+use Rattle.redo_log.specs.Stands.{stands_by, with_body_if, HoldsByPlan}
 use Rattle.redo_log.proofs.Logs.{log_is_read}
 use Rattle.record_log.specs.Records.{IsSpelled, bodies_of, AreBodiesOf}
-use Rattle.record_log.specs.Held.{HoldRecords, GrowsExactly, HoldOneList, LogsHold, BegunHoldNone}
+use Rattle.record_log.specs.Held.{HoldRecords, with_record_if, GrowsByPlan, GrowsExactly, HoldOneList, LogsHold, BegunHoldNone}
 
 -- ---- lists of records
+
+-- a spelling that is not too long for a log
+pub is_spelled : (r : RedoRecord) (body : List ℕ) → IsSpelling record_format body r → length body ≤ body_limit → IsSpelled r
+is_spelled r body spelling short = record { fits = spelling.fits; short = subst (λ (text : List ℕ). length text ≤ body_limit) spelling.spelled short }
 
 spelled-push : (rs : List RedoRecord) (r : RedoRecord) → AllByRecursion IsSpelled rs → IsSpelled r → AllByRecursion IsSpelled (rs ++ r ∷ [])
 spelled-push [] r all last = (last, tt)
@@ -89,6 +95,16 @@ holds_more rs r body before now spelled is hold stored = record {
       ∙ ap (λ (text : List ℕ). Some (bodies_of rs ++ text ∷ [])) is
       ∙ ap (λ (list : List (List ℕ)). Some list) (sym (bodies-push rs r));
 }
+
+-- after a failed append the bytes hold the record of this body where that stands
+holds_if : (stands : Bool) (rs : List RedoRecord) (r : RedoRecord) (body before now : List ℕ) → IsSpelled r → body ≡ record_format.text r → HoldRecords rs before → bodies now ≡ Some (with_body_if stands (held before) body)
+    → HoldRecords (with_record_if stands rs r) now
+holds_if true rs r body before now spelled is hold stored = holds_more rs r body before now spelled is hold stored
+holds_if false rs r body before now spelled is hold stored = holds_still rs before now hold stored
+
+pub grows_by_plan : (plan : Option Plan) (r : RedoRecord) (body before now : List ℕ) → IsSpelled r → body ≡ record_format.text r → HoldsByPlan plan (held before) body now → GrowsByPlan plan r before now
+grows_by_plan None r body before now spelled is stored = tt
+grows_by_plan (Some plan) r body before now spelled is stored = λ rs hold. holds_if (stands_by plan) rs r body before now spelled is hold stored
 
 pub grows_exactly : (r : RedoRecord) (body before now : List ℕ) → IsSpelled r → body ≡ record_format.text r → GrowsBy body before now → GrowsExactly r before now
 grows_exactly r body before now spelled is more = λ rs log. record {

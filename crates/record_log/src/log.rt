@@ -8,18 +8,23 @@ ghost use Rattle.redo_log.specs.Plans.{CallsGoByPlan, append_calls, begin_calls,
 ghost use Rattle.redo_log.specs.Loads.{IsLoadCount, IsAppendCount};
 ghost use Rattle.redo_log.specs.Log.{disk_of as disk_of_bodies, MayBeBegun, count_after};
 ghost use Rattle.redo_log.specs.declared.err.MakeWhy.{MakeWhy};
+ghost use Rattle.redo_codec.specs.Record.{record_format};
 ghost use Rattle.record_log.specs.Records.{IsSpelled, AreBodiesOf, disk_bytes};
-ghost use Rattle.record_log.specs.Held.{HoldRecords, GrowsByRecord, GrowsExactly, HoldWithOrWithout};
+ghost use Rattle.record_log.specs.Held.{HoldRecords, GrowsByRecord, GrowsByPlan, GrowsExactly, HoldWithOrWithout};
 ghost use Rattle.record_log.specs.Log.{disk_of, IsBroken, IsIntact, IsWritable, IsUsable};
 
 use crate::err::load_why;
 use crate::reading::records;
 use crate::{AppendErr, LoadErr, LoadWhy, Records};
 use block_disk::{Armable, Disk, Order};
+use dtx_values::Bytes;
 use redo_codec::encode;
 use redo_log::{Bodies, Log, LogErr, MakeErr};
 use redo_record::RedoRecord;
 use std::alloc::{AllocError, Global};
+
+// The most bytes that a body of a log has.
+const MAX_BODY: usize = 16_777_216;
 
 /// A log of records on a disk. Each record is on the disk before its append answers Ok.
 #[derive(Drop)]
@@ -115,12 +120,12 @@ impl<D: Disk> RecordLog<D> {
 
     /// Appends a record. At Ok it is on the disk: from then on each crash leaves a log that has it.
     ///
-    /// The error is `NoMemory` where there is no memory or no room on the disk, and `Fault` where the disk failed. All
-    /// memory is taken before the disk is called. After a `Fault` each append returns `Fault`, and only a load shows
-    /// whether the disk has that record.
+    /// The error is `NoMemory` where there is no memory or no room on the disk, or the spelling of the record is longer than
+    /// 16,777,216 bytes, and `Fault` where the disk failed. All memory is taken before the disk is called. After a `Fault`
+    /// each append returns `Fault`, and only a load shows whether the disk has that record.
     pub fn append(&mut self, redo: &RedoRecord) -> Result<(), AppendErr>
         requires usable { IsUsable D.content D.images self.old }
-        requires spelled { IsSpelled redo.now }
+        requires fits { record_format.Fits redo.now }
 
         ensures stored { OnOk result (GrowsByRecord redo.now (D.content (disk_of self.old)) (D.content (disk_of self.new))) }
         ensures exact { OnOk result (GrowsExactly redo.now (D.content (disk_of self.old)) (D.content (disk_of self.new))) }
@@ -155,11 +160,14 @@ impl<D: Disk> RecordLog<D> {
         ensures plan { OnOk result (CallsGoByPlan append_calls (D.plan (disk_of self.old)) (D.plan (disk_of self.new)) false) }
         ensures fault_plan { IsErrOf result AppendErr.Fault → IsIntact self.old → CallsGoByPlan append_calls (D.plan (disk_of self.old)) (D.plan (disk_of self.new)) true }
         ensures refused_plan { IsErrOf result AppendErr.NoMemory → D.plan (disk_of self.new) ≡ D.plan (disk_of self.old) }
+
+        // And after it the disk holds the record, or not, as the plan says.
+        ensures left { IsErrOf result AppendErr.Fault → IsIntact self.old → GrowsByPlan (D.plan (disk_of self.old)) redo.now (D.content (disk_of self.old)) (D.content (disk_of self.new)) }
     {
         if self.broken {
             return Err(AppendErr::Fault);
         }
-        let body = encode(self.alloc, redo)?;
+        let body = body_of(self.alloc, redo)?;
         match self.log.append(body.as_slice()) {
             Ok(()) => Ok(()),
             Err(LogErr::Fault) => {
@@ -204,6 +212,20 @@ impl<D: Armable> RecordLog<D> {
     {
         self.log.arm(order);
     }
+}
+
+/// The spelling of a record, where it is not too long for a log. Fails where it is, or where memory runs out.
+#[tactic(auto, using(crate::proofs::Held::is_spelled))]
+fn body_of(alloc: Global, redo: &RedoRecord) -> Result<Bytes, AllocError>
+    requires { record_format.Fits redo.now }
+    ensures body { IfOk result (λ body. body ≡ record_format.text redo.now) }
+    ensures spelled { OnOk result (IsSpelled redo.now) }
+{
+    let body = encode(alloc, redo)?;
+    if body.as_slice().len() > MAX_BODY {
+        return Err(AllocError);
+    }
+    Ok(body)
 }
 
 /// A log whose bodies were loaded, and their records. Fails where memory runs out.

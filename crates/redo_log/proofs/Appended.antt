@@ -1,12 +1,14 @@
 -- What an append makes of a settled log, at each moment and at its end.
-use Rattle.std.proofs.Common.{◌≡◌, ℕ, ◌+◌, ◌<◌, ◌^◌, List, [], ◌∷◌, ◌++◌, length, drop, Some, sym, ◌∙◌, ap, subst, arith, inl}
+use Rattle.std.proofs.Common.{◌≡◌, ℕ, ◌+◌, ◌<◌, ◌^◌, List, [], ◌∷◌, ◌++◌, length, drop, Option, Some, None, sym, ◌∙◌, ap, subst, arith, inl}
 use Rattle.block_disk.specs.Images.{IsOnly, AddsNone, GoesOn, AtEachMoment}
 use Rattle.redo_log.specs.Cells.{bodies, held, GrowsBy}
 use Rattle.redo_log.specs.Log.{IsSettled, HoldsWithOrWithout, staged, with_gate, MayBeStored}
+use Rattle.block_disk.specs.Plan.{Plan}
+use Rattle.redo_log.specs.Stands.{stands_by, IsStoredIf, IsStoredByPlan, HoldsByPlan}
 use Rattle.redo_log.specs.declared.log.Log.{Log}
 use Rattle.redo_log.proofs.Logs.{grows}
 use Rattle.redo_log.proofs.Moments.{started, goes_on, followed_by}
-use Rattle.redo_log.proofs.Settled.{settled, log_holds, is_log, is_open, length-open, opened_holds, with_or_without, fits_push}
+use Rattle.redo_log.proofs.Settled.{settled, log_holds, is_log, is_open, length-open, opened_holds, with_or_without, fits_push, stored_if}
 
 module _ {D : Type 0} (content : D → List ℕ) (images : D → List ℕ → Type 0) (log : Log D) (is : IsSettled content images log) (body : List ℕ) where
   abbrev list : List (List ℕ)
@@ -50,3 +52,11 @@ module _ {D : Type 0} (content : D → List ℕ) (images : D → List ℕ → Ty
         (is_log new.end (list ++ body ∷ []) (0 ∷ drop (log.end + 1 + length (staged body)) (content log.disk)) (content new.disk)
         (now ∙ is_after ∙ is_open log.end list (content log.disk) is.cells body fits) (omega arith) (fits_push list body is.cells.fit fits)
         (ends ∙ sym (length-open log.end list (content log.disk) is.cells body fits))) only
+
+  -- after a failed call the log holds the body where that stands by the plan
+  pub left : (plan now : Option Plan) (mid behind after : List ℕ) → now ≡ plan → mid ≡ content log.disk → behind ≡ staged body → length body < 2 ^ 32 → IsStoredByPlan now log.end behind mid after → HoldsByPlan plan list body after
+  left None now mid behind after same_plan same is_staged fits stored_by = tt
+  left (Some plan) now mid behind after same_plan same is_staged fits stored_by =
+      let by_plan : IsStoredByPlan (Some plan) log.end behind mid after = subst (λ (p : Option Plan). IsStoredByPlan p log.end behind mid after) same_plan stored_by in
+      stored_if log.end list (content log.disk) is.cells body fits (stands_by plan) after
+      (subst (λ (l : List ℕ). IsStoredIf (stands_by plan) log.end (staged body) l after) same (subst (λ (b : List ℕ). IsStoredIf (stands_by plan) log.end b mid after) is_staged by_plan))

@@ -7,3 +7,4 @@ pub mod Settled
 mod Planned
 mod Stored
 mod Walk
+mod Left

@@ -1,5 +1,5 @@
 -- What a settled log holds, and what it holds while one body more is stored.
-use Rattle.std.proofs.Common.{◌≡◌, ◌≢◌, inl, inr, ℕ, ◌+◌, ◌<◌, ◌^◌, List, [], ◌∷◌, ◌++◌, length, take, drop, Option, Some, sym, ◌∙◌, ap, subst, arith, append_assoc, length-append, take-append-drop}
+use Rattle.std.proofs.Common.{◌≡◌, ◌≢◌, inl, inr, Bool, true, false, ℕ, ◌+◌, ◌<◌, ◌^◌, List, [], ◌∷◌, ◌++◌, length, take, drop, Option, Some, sym, ◌∙◌, ap, subst, arith, append_assoc, length-append, take-append-drop}
 use Rattle.std.specs.Int.{to_be_bytes, w32}
 use Rattle.std.specs.Option.{unwrap_or}
 use Rattle.std.proofs.lemmas.Bool.{cases_eq}
@@ -8,6 +8,7 @@ use Rattle.std.proofs.lemmas.List.Concat.{flat_map-append}
 use Rattle.block_disk.specs.Images.{IsOnly}
 use Rattle.redo_log.specs.Cells.{cell_of, cells_of, bodies, held, IsClosed, AllFit, IsLogTo}
 use Rattle.redo_log.specs.Log.{IsSettled, HoldsWithOrWithout, staged, with_gate, MayBeStored}
+use Rattle.redo_log.specs.Stands.{IsStoredIf, with_body_if}
 use Rattle.redo_log.specs.declared.log.Log.{Log}
 use Rattle.redo_log.proofs.Cells.{bodies-closed}
 
@@ -93,3 +94,8 @@ module _ (end : ℕ) (list : List (List ℕ)) (before : List ℕ) (is : IsLogTo 
         | inr not_one ↦ inl (ap bodies stands.1 ∙ shut_holds stands.0 not_one)
       ]
     ]
+
+    -- and by whether the bytes count
+    pub stored_if : (stands : Bool) (image : List ℕ) → IsStoredIf stands end (staged body) before image → bodies image ≡ Some (with_body_if stands list body)
+    stored_if true image is = ap bodies is ∙ opened_holds
+    stored_if false image is = elim is [ inl same ↦ unchanged image same | inr shut ↦ ap bodies shut.2 ∙ shut_holds shut.0 shut.1 ]

@@ -25,10 +25,10 @@ module _ (gate : ℕ) (behind before : List ℕ) (within : gate < length before)
   split : written ≡ take (gate + 1) before ++ (behind ++ rest)
   split = append_assoc (take (gate + 1) before) behind rest
 
-  front : take gate written ≡ take gate before
+  pub front : take gate written ≡ take gate before
   front = ap (λ (l : List ℕ). take gate l) split ∙ take-append-le gate (take (gate + 1) before) (behind ++ rest) (omega (arith, length-front)) ∙ take-take gate (gate + 1) before (omega arith)
 
-  back : drop (gate + 1) written ≡ behind ++ rest
+  pub back : drop (gate + 1) written ≡ behind ++ rest
   back = ap (λ (l : List ℕ). drop (gate + 1) l) split ∙ drop_at (take (gate + 1) before) (behind ++ rest) (gate + 1) length-front
 
   long : gate < length written

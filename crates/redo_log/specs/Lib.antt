@@ -3,3 +3,4 @@ pub mod Log
 pub mod Gates
 pub mod Loads
 pub mod Plans
+pub mod Stands

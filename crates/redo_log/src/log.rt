@@ -7,6 +7,7 @@ ghost use Rattle.redo_log.specs.declared.err.MakeWhy.{MakeWhy};
 ghost use Rattle.redo_log.specs.declared.err.LoadWhy.{LoadWhy};
 ghost use Rattle.redo_log.specs.Cells.{body_limit, bodies, held, log_of, GrowsBy};
 ghost use Rattle.redo_log.specs.Plans.{CallsGoByPlan, RunsByPlan, append_calls, begin_calls, load_calls};
+ghost use Rattle.redo_log.specs.Stands.{IsStoredByPlan, HoldsByPlan};
 ghost use Rattle.redo_log.specs.Loads.{IsLoadCount, IsAppendCount};
 ghost use Rattle.redo_log.specs.Log.{disk_of, IsBroken, IsIntact, IsSettled, IsUsable, MayBeBegun, calls_to_load, HoldsWithOrWithout, count_after, OnRefused, staged, with_gate, MayBeStored};
 
@@ -163,6 +164,9 @@ impl<D: Disk> Log<D> {
         ensures plan { OnOk result (CallsGoByPlan append_calls (D.plan (disk_of self.old)) (D.plan (disk_of self.new)) false) }
         ensures fault_plan { IsErrOf result LogErr.Fault → IsIntact self.old → CallsGoByPlan append_calls (D.plan (disk_of self.old)) (D.plan (disk_of self.new)) true }
         ensures refused_plan { OnRefused result (D.plan (disk_of self.new) ≡ D.plan (disk_of self.old)) }
+
+        // And after it the disk holds the body, or not, as the plan says.
+        ensures left { IsErrOf result LogErr.Fault → IsIntact self.old → HoldsByPlan (D.plan (disk_of self.old)) (held (D.content (disk_of self.old))) body.now (D.content (disk_of self.new)) }
     {
         if self.broken {
             return Err(LogErr::Fault);
@@ -252,6 +256,7 @@ fn store<D: Disk>(disk: &mut D, gate: u64, behind: &[u8]) -> Result<(), Failed>
     ensures fault_calls { OnErr result (IsAppendCount (D.calls disk.old) (D.calls disk.new)) }
     ensures writes { OnOk result (D.writes disk.new ≡ count_after 2 (D.writes disk.old)) }
     ensures plan { RunsByPlan append_calls (D.plan disk.old) (D.plan disk.new) result }
+    ensures left { OnErr result (IsStoredByPlan (D.plan disk.old) gate behind.now (D.content disk.old) (D.content disk.new)) }
 {
     disk.write_at(gate + 1, behind)?;
     // What follows an open gate counts, so it has to be on the disk first.

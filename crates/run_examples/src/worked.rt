@@ -4,15 +4,15 @@ use script_run::Status;
 use std::alloc::{AllocError, Global};
 
 /// A script, what it is to print, and how it is to end.
-struct Worked {
+pub(crate) struct Worked {
     /// The words of the command line.
-    words: &'static [&'static str],
+    pub(crate) words: &'static [&'static str],
     /// The script. Each `?` stands for 1,500 letters x.
-    script: &'static [u8],
+    pub(crate) script: &'static [u8],
     /// What it prints.
-    report: &'static [u8],
+    pub(crate) report: &'static [u8],
     /// How it ends.
-    status: Status,
+    pub(crate) status: Status,
 }
 
 const EMPTY: Worked = Worked {
@@ -174,7 +174,7 @@ fn filled(alloc: Global, script: &[u8]) -> Result<Vec<u8>, AllocError> {
 }
 
 /// Whether a script prints what it is to print, and ends as it is to end.
-fn holds(alloc: Global, worked: &Worked) -> Result<bool, AllocError> {
+pub(crate) fn holds(alloc: Global, worked: &Worked) -> Result<bool, AllocError> {
     let script = filled(alloc, worked.script)?;
     let end = ended(alloc, worked.words, &script, (0, 0), worked.report)?;
     Ok(match &end {

@@ -22,9 +22,11 @@ use Rattle.run_laws.specs.Births.{root_born, child_born, births_from}
 abbrev pub names : List (List ℕ)
 names = codes "A" ∷ codes "B" ∷ []
 
+-- the node of a number
 abbrev pub place_of : ℕ → Place
 place_of n = record { names = names; number = n; strength = 1; links = 4; undo = 64 }
 
+-- A and B
 abbrev pub places : List Place
 places = place_of 1 ∷ place_of 2 ∷ []
 
@@ -57,6 +59,7 @@ played f (come ∷ comes) = happenings.Turn (come f) ∷ played (facts_after pla
 
 -- ---- the run
 
+-- a column of numbers that is the key
 abbrev pub column : List ℕ → Column
 column name = record { name = name; text_max = None; not_null = false; key = true }
 
@@ -64,6 +67,7 @@ column name = record { name = name; text_max = None; not_null = false; key = tru
 abbrev pub table_of_keys : List ℕ → Table
 table_of_keys name = record { name = name; columns = column (codes "K") ∷ [] }
 
+-- the key of the rows
 abbrev pub one : Value
 one = values.Number (pos 1)
 
@@ -91,6 +95,7 @@ coming =
     ∷ takes 9
     ∷ []
 
+-- what happens in this run
 abbrev pub trace : List Happening
 trace = played (first_facts places) coming
 
@@ -100,6 +105,7 @@ trace = played (first_facts places) coming
 abbrev pub a : BranchId
 a = record { node = 1; boot = 1; session = 1; seq = 1 }
 
+-- the branch at B
 abbrev pub b : BranchId
 b = record { node = 2; boot = 1; session = 65; seq = 1 }
 

@@ -1,5 +1,5 @@
 -- One happening more, which was due: the trace is still a run of the script, and the book grows by its entries.
-use Rattle.std.proofs.Common.{◌≡◌, List, [], ◌∷◌, ◌++◌, Some, refl, ap, sym, ◌∙◌}
+use Rattle.std.proofs.Common.{◌≡◌, ◌<◌, ◌≤◌, List, [], ◌∷◌, ◌++◌, length, Some, refl, ap, sym, ◌∙◌, arith, length-append}
 use Rattle.std.proofs.lemmas.List.{append-nil}
 use Rattle.std.proofs.lemmas.Grind.{flat_map-append}
 use Rattle.node_rules.specs.Data.{Place}
@@ -10,7 +10,7 @@ use Rattle.run_laws.specs.Telling.{Past, start}
 use Rattle.run_laws.specs.Past.{next, past}
 use Rattle.run_laws.specs.Due.{IsTheRun, comes_next}
 use Rattle.run_laws.proofs.FactLemmas.{book_next, facts_next}
-use Rattle.run_trace.specs.Recorded.{IsRecorded}
+use Rattle.run_trace.specs.Recorded.{IsRecorded, happening_limit}
 
 module _ (places : List Place) (asked : List Command) where
   pub past_push : (p : Past) (hs : List Happening) (h : Happening) → past places asked p (hs ++ h ∷ []) ≡ next places asked (past places asked p hs) h
@@ -28,16 +28,20 @@ module _ (places : List Place) (asked : List Command) where
 
   pub recorded_start : IsRecorded places asked [] []
   unfolding past IsTheRun
-  recorded_start = record { due = tt; entered = refl; kept = refl }
+  recorded_start = record { due = tt; few = omega arith; entered = refl; kept = refl }
 
-  pub recorded_push : (hs : List Happening) (book : List Entry) (h : Happening) → IsRecorded places asked hs book → comes_next places asked (past places asked (start places) hs) ≡ Some h
+  pub recorded_push : (hs : List Happening) (book : List Entry) (h : Happening) → IsRecorded places asked hs book → length hs < happening_limit → comes_next places asked (past places asked (start places) hs) ≡ Some h
       → IsRecorded places asked (hs ++ h ∷ []) (book ++ entries_in h)
-  recorded_push hs book h recorded due =
+  recorded_push hs book h recorded room due =
       let p = past places asked (start places) hs in
       record {
         due = run_push (start places) hs h recorded.due due;
+        few = simp length-append (omega (arith, room));
         entered = ap (λ (es : List Entry). es ++ entries_in h) recorded.entered ∙ sym (flat_map-append entries_in hs (h ∷ []) ∙ ap (λ (es : List Entry). book_of hs ++ es) (append-nil (entries_in h)));
         kept = ap (λ (es : List Entry). es ++ entries_in h) recorded.kept ∙ (sym (next_book p h) ∙ ap (λ (q : Past). q.facts.book) (sym (past_push (start places) hs h)));
       }
 
-pub ruleset recorded_steps = (recorded_start, recorded_push, past_push)
+pub few_push : (hs : List Happening) (h : Happening) → length hs < happening_limit → length (hs ++ h ∷ []) ≤ happening_limit
+few_push hs h room = simp length-append (omega (arith, room))
+
+pub ruleset recorded_steps = (recorded_start, recorded_push, past_push, few_push)

@@ -1,5 +1,5 @@
 -- A run so far as its trace has it, and what every trace keeps.
-use Rattle.std.specs.Prelude.{◌≡◌, ◌≤◌, List, length, take, Some}
+use Rattle.std.specs.Prelude.{◌≡◌, ◌≤◌, ℕ, List, length, take, Some}
 use Rattle.node_rules.specs.Data.{Place}
 use Rattle.run_laws.specs.Data.{Command, Entry, Happening}
 use Rattle.run_laws.specs.Entries.{book_of}
@@ -32,8 +32,13 @@ pub record Extends (before now : RunSoFar) : Type 0 where
   pub longer : length before.happenings ≤ length now.happenings
   pub first : take (length before.happenings) now.happenings ≡ before.happenings
 
--- What every trace keeps: each happening was due, and the book has the entries of their records.
+-- how many happenings a trace takes at most: 2 ^ 31
+abbrev pub happening_limit : ℕ
+happening_limit = 2147483648
+
+-- What every trace keeps: each happening was due, they are not too many, and the book has the entries of their records.
 pub record IsRecorded (places : List Place) (asked : List Command) (happenings : List Happening) (book : List Entry) : Type 0 where
   pub due : IsTheRun places asked (start places) happenings
+  pub few : length happenings ≤ happening_limit
   pub entered : book ≡ book_of happenings
   pub kept : book ≡ (past places asked (start places) happenings).facts.book

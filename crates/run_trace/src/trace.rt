@@ -1,8 +1,8 @@
 //! The trace of a run, which takes only what is due, and its book.
-ghost use Rattle.std.specs.Prelude.{◌≡◌, ◌<◌, ◌∷◌, ◌++◌, [], IfOk, OnOk, OnErr, vec_len, vec_capacity};
+ghost use Rattle.std.specs.Prelude.{◌≡◌, ◌<◌, ◌≤◌, ◌∷◌, ◌++◌, [], length, true, IfOk, OnOk, OnErr, vec_len, vec_capacity};
 ghost use Rattle.run_laws.specs.Entries.{entries_in, book_of};
 ghost use Rattle.run_laws.specs.Past.{next};
-ghost use Rattle.run_trace.specs.Recorded.{Extends, IsNext, IsRunOfScript, past_of};
+ghost use Rattle.run_trace.specs.Recorded.{Extends, IsNext, IsRunOfScript, happening_limit, past_of};
 
 use book::{Book, Entry, Happening, entries};
 use dtx_values::Listing;
@@ -10,6 +10,9 @@ use redo_record::{Place, Places};
 use script_read::{Command, Commands};
 use std::alloc::{AllocError, Global};
 use std::marker::Model;
+
+/// How many happenings a trace takes.
+const HAPPENING_LIMIT: usize = 2_147_483_648;
 
 /// The nodes of a run and its script, and what has happened so far, each happening the one that was due; beside them the
 /// book of their records.
@@ -54,7 +57,14 @@ fn entered(alloc: Global, happening: &Happening) -> Result<Vec<Entry>, AllocErro
     }
 }
 
-/// Makes room for one happening more, and adds its entries to the book, or does nothing.
+/// Whether a trace takes one happening more.
+fn has_room(happenings: &Vec<Happening>) -> bool
+    ensures { result ≡ true → length happenings.now.items < happening_limit }
+{
+    happenings.len() < HAPPENING_LIMIT
+}
+
+/// Makes room for one happening more, of at most 2 ^ 31, and adds its entries to the book, or does nothing.
 fn make_room(
     alloc: Global,
     happenings: &mut Vec<Happening>,
@@ -62,10 +72,14 @@ fn make_room(
     happening: &Happening,
 ) -> Result<(), AllocError>
     ensures kept { happenings.new.items ≡ happenings.old.items }
+    ensures few { OnOk result (length happenings.old.items < happening_limit) }
     ensures room { OnOk result (vec_len happenings.new < vec_capacity happenings.new) }
     ensures entered { OnOk result (book.new.items ≡ book.old.items ++ entries_in happening.now) }
     ensures err { OnErr result (book.new.items ≡ book.old.items) }
 {
+    if !has_room(happenings) {
+        return Err(AllocError);
+    }
     let mut entries = entered(alloc, happening)?;
     happenings.try_reserve(1)?;
     book.append(&mut entries)
@@ -125,13 +139,21 @@ impl Trace {
         &self.book
     }
 
-    /// Adds what happens next, which has to be what is due, with its entries. Fails where memory runs out, and then adds
-    /// nothing.
+    /// How many happenings there were so far.
+    pub fn count(&self) -> usize
+        ensures { result ≡ length self.now.happenings }
+    {
+        self.happenings.len()
+    }
+
+    /// Adds what happens next, which has to be what is due, with its entries. Fails where memory runs out, or where there were
+    /// 2 ^ 31 happenings before, and then adds nothing.
     #[tactic(auto, using(crate::proofs::RecordedLemmas::recorded_steps, crate::proofs::ExtendsLemmas::extends_steps))]
     pub fn push(&mut self, alloc: Global, happening: Happening) -> Result<(), AllocError>
         requires { IsNext self.old happening }
         ensures ok { OnOk result (self.new ≡ record self.old { happenings = self.old.happenings ++ happening ∷ [] }) }
         ensures past { OnOk result (past_of self.new ≡ next self.old.places self.old.asked (past_of self.old) happening) }
+        ensures few { OnOk result (length self.new.happenings ≤ happening_limit) }
         ensures err { OnErr result (self.new ≡ self.old) }
         ensures extends { Extends self.old self.new }
     {
@@ -140,9 +162,10 @@ impl Trace {
         Ok(())
     }
 
-    /// Each happening was the one that was due after those before it.
+    /// Each happening was the one that was due after those before it, and there are not too many.
     pub fn is_run(&self)
-        ensures { IsRunOfScript self.now }
+        ensures run { IsRunOfScript self.now }
+        ensures few { length self.now.happenings ≤ happening_limit }
     {
         let _asked = &self.asked;
     }

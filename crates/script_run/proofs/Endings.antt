@@ -4,7 +4,8 @@ use Rattle.std.specs.Prelude.{IsOk, IsErr}
 use Rattle.std.specs.Io.KnownBytes.{Consumes, IsAtEnd, Appends}
 use Rattle.std.proofs.lemmas.List.{append-nil}
 use Rattle.dtx_ports.specs.Whole.{IsTooLong}
-use Rattle.sole_script.specs.Script.{Asked, asked}
+use Rattle.script_read.specs.Asked.{Asked, asked}
+use Rattle.script_read.specs.declared.why.Why.{Why}
 use Rattle.script_run.specs.declared.outcome.Run.{Run}
 use Rattle.script_run.specs.declared.outcome.Status.{Status}
 use Rattle.script_run.specs.declared.outcome.Status.TheVariants.{Done, BadScript, Usage, NoMemory, ReadFault, WriteFault, TooLong}
@@ -23,17 +24,17 @@ reported bytes with_book w run Usage asks whole ends = absurd ends
 reported bytes with_book w run ReadFault asks whole ends = absurd ends
 reported bytes with_book w run TooLong asks whole ends = absurd ends
 
--- the refusal of a script that is bad on this line
-pub refused : (bytes : List ℕ) (with_book : Bool) (line : ℕ) (w : Written) (run : Run) (status : Status) → asked bytes ≡ Err line → run ≡ nothing_done → EndsRefused w line status → EndsOn bytes with_book w run status
-refused bytes with_book line w run BadScript bad nothing ends =
+-- the refusal of a script that is bad on this line, for this reason
+pub refused : (bytes : List ℕ) (with_book : Bool) (line : ℕ) (why : Why) (w : Written) (run : Run) (status : Status) → asked bytes ≡ Err (line, why) → run ≡ nothing_done → EndsRefused w line why status → EndsOn bytes with_book w run status
+refused bytes with_book line why w run BadScript bad nothing ends =
     subst (λ (a : Asked). IsErr a × (run ≡ nothing_done) × Appends w.before w.now (due_of a with_book run)) (sym bad) (refl, nothing, ends)
-refused bytes with_book line w run WriteFault bad nothing ends =
+refused bytes with_book line why w run WriteFault bad nothing ends =
     subst (λ (a : Asked). ((a ≡ Ok run.commands) × IsWhole run ⊎ (IsErr a × (run ≡ nothing_done))) × IsCut w (due_of a with_book run)) (sym bad) (inr (refl, nothing), ends)
-refused bytes with_book line w run NoMemory bad nothing ends = (inr nothing, ends)
-refused bytes with_book line w run Done bad nothing ends = absurd ends
-refused bytes with_book line w run Usage bad nothing ends = absurd ends
-refused bytes with_book line w run ReadFault bad nothing ends = absurd ends
-refused bytes with_book line w run TooLong bad nothing ends = absurd ends
+refused bytes with_book line why w run NoMemory bad nothing ends = (inr nothing, ends)
+refused bytes with_book line why w run Done bad nothing ends = absurd ends
+refused bytes with_book line why w run Usage bad nothing ends = absurd ends
+refused bytes with_book line why w run ReadFault bad nothing ends = absurd ends
+refused bytes with_book line why w run TooLong bad nothing ends = absurd ends
 
 pub ruleset endings = (reported, refused)
 
@@ -53,7 +54,7 @@ not_too_long limit (Some rest) all short long =
 
 not_both : (a : Asked) → IsOk a → IsErr a → ⊥
 not_both (Ok commands) ok err = let clash : false ≡ true = err in absurd cc
-not_both (Err line) ok err = let clash : false ≡ true = ok in absurd cc
+not_both (Err bad) ok err = let clash : false ≡ true = ok in absurd cc
 
 pub is_complete : (with_book : Bool) (r : Read) (w : Written) (run : Run) (status : Status) → EndsRead with_book r w run status → IsComplete r w status
 is_complete with_book r w run Done ends bytes before short reads source sink = inl refl

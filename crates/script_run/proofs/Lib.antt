@@ -1,6 +1,6 @@
 pub mod Endings
-pub mod DiskLines
-pub mod Names
-pub mod Beginning
-pub mod Acting
-pub mod Calling
+pub mod PlaceLemmas
+pub mod ScriptLemmas
+pub mod Headlines
+pub mod FewLemmas
+pub mod AskLemmas

@@ -1,10 +1,17 @@
 -- How a run of the program ends: each status with its cause, and the bytes read and written.
-use Rattle.std.specs.Prelude.{◌≡◌, ◌++◌, ◌≤◌, ◌⊎◌, ℕ, Bool, List, Option, Some, Ok, Err, IsOk, IsErr, length, codes, decimal}
+use Rattle.std.specs.Prelude.{◌≡◌, ◌++◌, ◌≤◌, ◌⊎◌, ℕ, Bool, List, Option, Some, Ok, Err, IsOk, IsErr, length, codes}
 use Rattle.std.specs.Io.KnownBytes.{Keeps, Appends}
 use Rattle.dtx_values.specs.Limits.{script_limit}
 use Rattle.dtx_ports.specs.Causes.{Rose}
 use Rattle.dtx_ports.specs.Whole.{IsAll, IsTooLong, ReadsWithin, AppendsPrefix}
-use Rattle.sole_script.specs.Script.{Asked, asked}
+use Rattle.tran_ids.specs.Numbers.{decimal}
+use Rattle.script_read.specs.Asked.{Asked, asked}
+use Rattle.script_read.specs.declared.why.Why.{Why}
+use Rattle.script_read.specs.declared.why.Why.TheVariants as whys
+use Rattle.run_laws.specs.Telling.{start}
+use Rattle.run_laws.specs.Past.{past}
+use Rattle.run_laws.specs.Due.{Ends, due_of as next_due}
+use Rattle.run_laws.specs.Headline.{places_of, Ending, All_run, Out_of_memory}
 use Rattle.script_run.specs.declared.outcome.Run.{Run}
 use Rattle.script_run.specs.declared.outcome.Status.{Status}
 use Rattle.script_run.specs.declared.outcome.Status.TheVariants.{Done, BadScript, Usage, NoMemory, ReadFault, WriteFault, TooLong}
@@ -25,14 +32,34 @@ status_code TooLong = 6
 abbrev pub usage_line : List ℕ
 usage_line = codes "usage: dtx [--book] [--make N]\n"
 
--- what is written of a script whose first bad command is on this line
-abbrev pub refusal_line : ℕ → List ℕ
-refusal_line line = codes "line " ++ decimal line ++ codes ": bad command\n"
+-- how the run ended: memory ran out, or nothing is due any more
+abbrev pub ending_of : Status → Ending
+ending_of NoMemory = Out_of_memory
+ending_of Done = All_run
+ending_of BadScript = All_run
+ending_of Usage = All_run
+ending_of ReadFault = All_run
+ending_of WriteFault = All_run
+ending_of TooLong = All_run
 
--- what is due of a script: what its run prints, or the line of its first bad command
+-- why a command is bad
+abbrev pub why_text : Why → List ℕ
+why_text whys.Byte = codes "bad byte"
+why_text whys.Unended = codes "unended command"
+why_text whys.LateNode = codes "node after other commands"
+why_text whys.Form = codes "bad command"
+why_text whys.Twice = codes "node named twice"
+why_text whys.Many = codes "more than 16 nodes"
+why_text whys.Unknown = codes "unknown node"
+
+-- what is written of a script whose first bad command is on this line, for this reason
+abbrev pub refusal_line : ℕ → Why → List ℕ
+refusal_line line why = codes "line " ++ decimal line ++ codes ": " ++ why_text why ++ codes "\n"
+
+-- what is due of a script: what its run prints, or the line of its first bad command and why it is bad
 abbrev pub due_of : Asked → Bool → Run → List ℕ
 due_of (Ok commands) with_book run = output_of with_book run
-due_of (Err line) with_book run = refusal_line line
+due_of (Err bad) with_book run = refusal_line bad.0 bad.1
 
 -- the bytes left in a source and its count of faults, before the call and after
 pub record Read : Type 0 where
@@ -65,9 +92,9 @@ pub record IsCut (w : Written) (text : List ℕ) : Type 0 where
 abbrev pub IsAskedBy : List ℕ → Run → Type 0
 IsAskedBy bytes run = asked bytes ≡ Ok run.commands
 
--- each command was run and answered
+-- each command was run, and nothing is due any more
 abbrev pub IsWhole : Run → Type 0
-IsWhole run = length run.answers ≡ length run.commands
+IsWhole run = next_due run.commands (past (places_of run.commands) run.commands (start (places_of run.commands)) run.trace) ≡ Ends
 
 -- how the writing of the usage line ends
 abbrev pub EndsExplained : Written → Status → Type 0
@@ -85,15 +112,15 @@ pub record EndsUnread (r : Read) (w : Written) (run : Run) (status : Status) : T
   pub nothing : run ≡ nothing_done
   pub explained : EndsExplained w status
 
--- how the writing of the line ends that refuses a script which is bad on this line
-abbrev pub EndsRefused : Written → ℕ → Status → Type 0
-EndsRefused w line BadScript = Appends w.before w.now (refusal_line line)
-EndsRefused w line WriteFault = IsCut w (refusal_line line)
-EndsRefused w line NoMemory = Keeps w.before w.now
-EndsRefused w line Done = ⊥
-EndsRefused w line Usage = ⊥
-EndsRefused w line ReadFault = ⊥
-EndsRefused w line TooLong = ⊥
+-- how the writing of the line ends that refuses a script which is bad on this line, for this reason
+abbrev pub EndsRefused : Written → ℕ → Why → Status → Type 0
+EndsRefused w line why BadScript = Appends w.before w.now (refusal_line line why)
+EndsRefused w line why WriteFault = IsCut w (refusal_line line why)
+EndsRefused w line why NoMemory = Keeps w.before w.now
+EndsRefused w line why Done = ⊥
+EndsRefused w line why Usage = ⊥
+EndsRefused w line why ReadFault = ⊥
+EndsRefused w line why TooLong = ⊥
 
 -- how the writing of this output ends
 abbrev pub EndsReported : Written → List ℕ → Status → Type 0

@@ -1,27 +1,27 @@
 -- What a run claims.
-use Rattle.std.specs.Prelude.{◌≡◌, [], Some}
-use Rattle.redo_log.specs.Cells.{bodies}
+use Rattle.std.specs.Prelude.{◌≡◌, []}
+use Rattle.run_laws.specs.Entries.{book_of}
+use Rattle.run_laws.specs.Lawful.{History, AreOfAScript, IsLawfulRun}
+use Rattle.run_laws.specs.Headline.{places_of, IsTheRunOf, IsTold, Ending}
 use Rattle.run_laws.specs.Book.{Agreement, MixedIsMarked, ScnLaw}
-use Rattle.sole_node.specs.Book.{book_of, records_of}
-use Rattle.sole_node.specs.Disk.{bodies_of, disk_bytes}
-use Rattle.sole_laws.specs.Past.{start}
-use Rattle.sole_laws.specs.Lawful.{IsLawful}
-use Rattle.sole_laws.specs.Told.{told, WritesOwed, AnswersEach}
 use Rattle.script_run.specs.declared.outcome.Run.{Run}
 
--- The book is that of the trace, in which only what may happen happened. Each line is the one that the trace and the
--- book so far give: for a call, its answer over the rows that the book's committed transactions leave, with the caller's
--- own changes, and for SHOW DISK the bytes of the records so far, which stand for just these records. The lines answer
--- the commands from the first on, one each. Each turn wrote what it owes, each start the record of the next start.
--- Branches end as their site decided, mixed outcomes are marked, and the SCN law holds.
-pub record IsRun (run : Run) : Type 0 where
-  pub book : run.book ≡ book_of run.trace
-  pub lawful : IsLawful (start run.commands) run.trace
-  pub told : run.answers ≡ told run.commands run.trace
-  pub in_order : AnswersEach 1 run.answers
-  pub writes : WritesOwed (start run.commands) run.trace
-  pub stands : bodies (disk_bytes (records_of run.trace)) ≡ Some (bodies_of (records_of run.trace))
-  pub agreement : Agreement run.book
+-- a run over the nodes that its script makes, as the laws of runs have it
+abbrev pub history_of : (run : Run) → AreOfAScript (places_of run.commands) run.commands → History
+history_of run script = record { places = places_of run.commands; commands = run.commands; of_a_script = script; trace = run.trace }
+
+-- Each happening is the one that is due, with the record and the messages that the rules give, and so it may come where it
+-- came: no message comes twice unless it is repeated, over no cut pair, to no node that is down. The book has the entries of
+-- the records that were written. The lines answer the commands in order: each is the one that the rules give at its
+-- happening, and SHOW DISK shows bytes that stand for the records so far. Branches end as their site decided, mixed outcomes
+-- are marked, and the SCN law holds.
+pub record IsRun (run : Run) (ending : Ending) : Type 0 where
+  pub script : AreOfAScript (places_of run.commands) run.commands
+  pub due : IsTheRunOf (history_of run script)
+  pub lawful : IsLawfulRun (history_of run script)
+  pub booked : run.book ≡ book_of run.trace
+  pub answered : IsTold (history_of run script) run.answers ending
+  pub agrees : Agreement run.book
   pub marked : MixedIsMarked run.book
   pub scns : ScnLaw run.book
 

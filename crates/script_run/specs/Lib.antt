@@ -1,6 +1,3 @@
-pub mod Lines
-pub mod Site
-pub mod Linked
 pub mod Report
 pub mod Headline
 pub mod Ending

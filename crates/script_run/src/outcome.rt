@@ -1,24 +1,27 @@
 //! How a run of the program ends, and what was done.
 ghost use Rattle.std.specs.Prelude.{◌≡◌, []};
-ghost use Rattle.sole_node.specs.Book.{book_of};
-ghost use Rattle.sole_laws.specs.Past.{past_of};
+ghost use Rattle.script_read.specs.Sound.{IsOfAScript};
+ghost use Rattle.run_laws.specs.Headline.{places_of, All_run};
+ghost use Rattle.world.specs.Ran.{IsRan, as_ending};
 ghost use Rattle.script_run.specs.Headline.{IsRun, nothing_done};
 ghost use Rattle.script_run.specs.Ending.{status_code};
 
-use crate::line::{AnswerLine, AnswerLines};
-use book::Book;
+use book::{AnswerLines, Book, Trace};
+use book_laws::every_scn_is_later;
 use dtx_values::Listing;
-use sole_laws::{Trace, lawful_runs_are_as_told};
-use sole_node::Happenings;
-use sole_script::Commands;
+use due_laws::the_run_is_lawful;
+use run_trace::Recorded;
+use script_read::Commands;
 use std::alloc::Global;
+use tree_laws::every_book_agrees;
+use world::Ran;
 
 /// How a run of the program ends.
 #[derive(Clone, Copy, Debug, PartialEq, Eq)]
 pub enum Status {
     /// Every command was run, and the report was written.
     Done,
-    /// The script has a bad command, and the number of its line was written.
+    /// The script has a bad command, and the number of its line was written, and why it is bad.
     BadScript,
     /// The command line has other words than the program's.
     Usage,
@@ -59,41 +62,60 @@ pub struct Run {
     /// The book of the redo records that were written.
     pub book: Book,
     /// All that happened, oldest first.
-    pub trace: Happenings,
+    pub trace: Trace,
 }
 
 impl Run {
-    /// The run of this trace, whose answers these are.
-    pub fn told(trace: Trace, answers: Vec<AnswerLine>) -> Run
-        requires { answers.items ≡ (past_of trace).lines }
-        ensures is { result ≡ record { commands = trace.asked; answers = answers.items; book = book_of trace.happenings; trace = trace.happenings } }
-        ensures run { IsRun result }
+    /// A run that has ended, of a script.
+    pub fn of(ran: Ran) -> Run
+        requires script { IsOfAScript ran.recorded.asked }
+        requires places { ran.recorded.places ≡ places_of ran.recorded.asked }
+        requires ran { IsRan ran }
+        ensures commands { result.commands ≡ ran.recorded.asked }
+        ensures run { IsRun result (as_ending ran.ended) }
     {
-        lawful_runs_are_as_told();
-        let recorded = trace.into_recorded();
+        the_run_is_lawful();
+        every_book_agrees();
+        every_scn_is_later();
+        let Ran {
+            recorded,
+            answers,
+            ended: _ended,
+        } = ran;
+        let Recorded {
+            places: _places,
+            asked,
+            happenings,
+            book,
+        } = recorded;
         Run {
-            commands: recorded.asked,
-            answers: Listing::of(answers),
-            book: recorded.book,
-            trace: recorded.happenings,
+            commands: asked,
+            answers,
+            book,
+            trace: happenings,
         }
     }
 
-    /// The run in which none of these commands has begun.
-    #[tactic(auto, unfolding(sole_laws::specs::Past::past))]
-    pub fn not_begun(alloc: Global, commands: Commands) -> Run
-        ensures is { result ≡ record { commands = commands; answers = []; book = []; trace = [] } }
-        ensures run { IsRun result }
+    fn nothing(alloc: Global) -> Run
+        ensures { result ≡ nothing_done }
     {
-        Run::told(Trace::new(alloc, commands), Vec::new(alloc))
+        Run {
+            commands: Listing::new(alloc),
+            answers: Listing::new(alloc),
+            book: Listing::new(alloc),
+            trace: Listing::new(alloc),
+        }
     }
 
     /// The run in which nothing was done.
     pub fn empty(alloc: Global) -> Run
         ensures empty { result ≡ nothing_done }
-        ensures run { IsRun result }
+        ensures run { IsRun result All_run }
     {
-        Run::not_begun(alloc, Listing::new(alloc))
+        the_run_is_lawful();
+        every_book_agrees();
+        every_scn_is_later();
+        Run::nothing(alloc)
     }
 }
 

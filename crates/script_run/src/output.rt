@@ -1,24 +1,22 @@
 //! What a run prints: the report of its answers, and then the book.
 ghost use Rattle.std.specs.Prelude.{◌≡◌, ◌++◌, [], if◌then◌else◌, IfOk, OnOk};
-ghost use Rattle.script_run.specs.Report.{node_names as node_names_of, output_of};
-ghost use Rattle.script_run.specs.Lines.{told_by};
+ghost use Rattle.run_laws.specs.Headline.{names_asked};
+ghost use Rattle.script_run.specs.Report.{output_of};
 ghost use Rattle.book.specs.Texts.{book_text as book_text_of};
 ghost use Rattle.report.specs.Report.{said_text, report as report_of, printed};
 
-use crate::line::{AnswerLine, Said};
-use crate::naming::take_name;
 use crate::outcome::Run;
-use book::book_text;
-use dtx_values::{Bytes, Listing, Names};
+use crate::places::node_names;
+use book::{AnswerLine, Said, book_text};
+use dtx_values::Bytes;
 use report::{answer_lines, notice_lines, put_numbered};
-use sole_script::Command;
 use std::alloc::{AllocError, Global};
 
 fn lines(alloc: Global, said: &Said) -> Result<Vec<Bytes>, AllocError>
-    ensures { IfOk result (λ lines. lines.items ≡ said_text (told_by said.now)) }
+    ensures { IfOk result (λ lines. lines.items ≡ said_text said.now) }
 {
     match said {
-        Said::Node(finished) => answer_lines(alloc, finished.answer()),
+        Said::Node(answer) => answer_lines(alloc, answer),
         Said::World(notice) => notice_lines(alloc, notice),
     }
 }
@@ -30,27 +28,15 @@ fn reported(alloc: Global, answers: &[AnswerLine]) -> Result<Vec<u8>, AllocError
 {
     let mut out = Vec::new(alloc);
     for answer in answers {
-        let lines = lines(alloc, answer.said())?;
-        put_numbered(&mut out, answer.command(), &lines)?;
+        let lines = lines(alloc, &answer.said)?;
+        put_numbered(&mut out, answer.command, &lines)?;
     }
     Ok(out)
 }
 
-/// The names of the nodes that these commands make.
-#[tactic(auto, using(crate::proofs::Names::names_more))]
-fn node_names(alloc: Global, commands: &[Command]) -> Result<Names, AllocError>
-    ensures { IfOk result (λ names. names ≡ node_names_of commands.now) }
-{
-    let mut names = Listing::new(alloc);
-    for command in commands {
-        take_name(alloc, &mut names, command)?;
-    }
-    Ok(names)
-}
-
 /// Adds the book at the end of the text where it is wanted. It is an error only where there is no memory.
 fn put_book(alloc: Global, out: &mut Vec<u8>, with_book: bool, run: &Run) -> Result<(), AllocError>
-    ensures { OnOk result (out.new.items ≡ out.old.items ++ (if with_book then book_text_of (node_names_of run.now.commands) run.now.book else [])) }
+    ensures { OnOk result (out.new.items ≡ out.old.items ++ (if with_book then book_text_of (names_asked run.now.commands) run.now.book else [])) }
 {
     if !with_book {
         return Ok(());

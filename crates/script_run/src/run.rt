@@ -1,42 +1,28 @@
 //! The top call: from the bytes of a script to the bytes of its report.
-ghost use Rattle.std.specs.Prelude.{◌≡◌, ◌<◌, ◌^◌, Bool, Some, None, map, length};
+ghost use Rattle.std.specs.Prelude.{◌≡◌, ◌≤◌, ◌<◌, ◌^◌, Bool, Some, None, map, length, IfOk, OnOk};
+ghost use Rattle.std.specs.List.{AllByRecursion};
 ghost use Rattle.std.specs.String.{string_bytes};
+ghost use Rattle.byte_laws.specs.ByteRuns.{AsksSpelled};
+ghost use Rattle.dtx_values.specs.Limits.{script_limit};
+ghost use Rattle.script_read.specs.Sound.{IsOfAScript};
+ghost use Rattle.run_laws.specs.Headline.{places_of, All_run};
+ghost use Rattle.world.specs.Ran.{IsRan};
 ghost use Rattle.script_run.specs.Words.{wanted as wanted_by};
 ghost use Rattle.script_run.specs.Report.{output_of};
 ghost use Rattle.script_run.specs.Headline.{IsRun};
-ghost use Rattle.script_run.specs.Ending.{EndsExplained, EndsUnread, EndsRefused, EndsReported, EndsOn, EndsRead, IsComplete};
+ghost use Rattle.script_run.specs.Ending.{ending_of, EndsReported, EndsOn, EndsUnread, EndsRead, IsComplete};
 
 use crate::outcome::{Outcome, Run, Status};
 use crate::output::output;
-use crate::progress::run_commands;
+use crate::places::places;
+use crate::refusing::{explain_line, explain_words};
 use crate::words::wanted;
 use dtx_ports::{ReadErr, Sink, Source, read_whole, write_whole};
-use dtx_values::{Listing, SCRIPT_LIMIT};
-use sole_script::{ScriptErr, read_script};
-use std::alloc::Global;
-
-/// Writes how the program is called.
-fn explain_words<K: Sink>(sink: &mut K) -> Status
-    ensures { EndsExplained (record { before = K.written sink.old; now = K.written sink.new; faults_before = K.faults sink.old; faults_now = K.faults sink.new }) result }
-{
-    match write_whole(sink, b"usage: dtx [--book] [--make N]\n") {
-        Ok(()) => Status::Usage,
-        Err(_) => Status::WriteFault,
-    }
-}
-
-/// Writes which line is bad.
-fn explain_line<K: Sink>(alloc: Global, line: u32, sink: &mut K) -> Status
-    ensures { EndsRefused (record { before = K.written sink.old; now = K.written sink.new; faults_before = K.faults sink.old; faults_now = K.faults sink.new }) line result }
-{
-    match format!(in alloc; "line {line}: bad command\n") {
-        Ok(text) => match write_whole(sink, text.as_bytes()) {
-            Ok(()) => Status::BadScript,
-            Err(_) => Status::WriteFault,
-        },
-        Err(_) => Status::NoMemory,
-    }
-}
+use dtx_values::SCRIPT_LIMIT;
+use script_read::{Commands, ScriptErr, read_script};
+use sql_print::printed_statements_are_read;
+use std::alloc::{AllocError, Global};
+use world::{Ended, Ran};
 
 /// Writes what a run prints.
 fn write_output<K: Sink>(alloc: Global, with_book: bool, run: &Run, sink: &mut K) -> Status
@@ -51,11 +37,37 @@ fn write_output<K: Sink>(alloc: Global, with_book: bool, run: &Run, sink: &mut K
     }
 }
 
+/// Runs commands over the nodes that they make. Fails where there is no memory to begin.
+#[tactic(auto, using(crate::proofs::ScriptLemmas::script_steps, crate::proofs::AskLemmas::in_range))]
+fn run_commands(alloc: Global, commands: Commands) -> Result<Ran, AllocError>
+    requires sound { IsOfAScript commands }
+    requires few { length commands < 2 ^ 18 }
+    requires asks { AllByRecursion AsksSpelled commands }
+    ensures places { IfOk result (λ ran. ran.recorded.places ≡ places_of commands) }
+    ensures asked { IfOk result (λ ran. ran.recorded.asked ≡ commands) }
+    ensures ran { IfOk result IsRan }
+{
+    let places = places(alloc, commands.as_slice())?;
+    world::run(alloc, places, commands)
+}
+
+/// Writes the report of a run whose script was run to the end.
+#[tactic(auto, using(crate::proofs::Headlines::whole_runs, crate::proofs::Endings::endings))]
+fn report_run<K: Sink>(alloc: Global, with_book: bool, run: Run, sink: &mut K) -> Outcome
+    requires run { IsRun run All_run }
+    ensures is { result.run ≡ run }
+    ensures run { IsRun result.run (ending_of result.status) }
+    ensures reported { EndsReported (record { before = K.written sink.old; now = K.written sink.new; faults_before = K.faults sink.old; faults_now = K.faults sink.new }) (output_of with_book result.run) result.status }
+{
+    let status = write_output(alloc, with_book, &run, sink);
+    Outcome { status, run }
+}
+
 /// Runs the script with these bytes, and writes the report.
-#[tactic(auto, using(crate::proofs::Endings::endings))]
+#[tactic(auto, using(crate::proofs::AskLemmas::script_asks, crate::proofs::FewLemmas::few_commands, crate::proofs::Headlines::whole_runs, crate::proofs::Endings::endings))]
 fn run_bytes<K: Sink>(alloc: Global, with_book: bool, bytes: &[u8], sink: &mut K) -> Outcome
-    requires { length bytes.now < 2 ^ 30 }
-    ensures run { IsRun result.run }
+    requires { length bytes.now ≤ script_limit }
+    ensures run { IsRun result.run (ending_of result.status) }
     ensures ends { EndsOn bytes.now with_book (record { before = K.written sink.old; now = K.written sink.new; faults_before = K.faults sink.old; faults_now = K.faults sink.new }) result.run result.status }
 {
     let commands = match read_script(alloc, bytes) {
@@ -64,18 +76,23 @@ fn run_bytes<K: Sink>(alloc: Global, with_book: bool, bytes: &[u8], sink: &mut K
             status: Status::NoMemory,
             run: Run::empty(alloc),
         },
-        Err(ScriptErr::Bad { line }) => return Outcome {
-            status: explain_line(alloc, line, sink),
+        Err(ScriptErr::Bad { line, why }) => return Outcome {
+            status: explain_line(alloc, line, why, sink),
             run: Run::empty(alloc),
         },
     };
-    let (run, ran) = run_commands(alloc, Listing::of(commands));
-    match ran {
-        Ok(()) => {
-            let status = write_output(alloc, with_book, &run, sink);
-            Outcome { status, run }
-        }
-        Err(_) => Outcome {
+    printed_statements_are_read();
+    let Ok(ran) = run_commands(alloc, commands) else {
+        return Outcome {
+            status: Status::NoMemory,
+            run: Run::empty(alloc),
+        };
+    };
+    let ended = ran.ended;
+    let run = Run::of(ran);
+    match ended {
+        Ended::AllRun => report_run(alloc, with_book, run, sink),
+        Ended::OutOfMemory => Outcome {
             status: Status::NoMemory,
             run,
         },
@@ -83,13 +100,14 @@ fn run_bytes<K: Sink>(alloc: Global, with_book: bool, bytes: &[u8], sink: &mut K
 }
 
 /// Reads a script from the source, runs it, and writes the report.
+#[tactic(auto, using(crate::proofs::Headlines::whole_runs))]
 fn run_source<S: Source, K: Sink>(
     alloc: Global,
     with_book: bool,
     source: &mut S,
     sink: &mut K,
 ) -> Outcome
-    ensures run { IsRun result.run }
+    ensures run { IsRun result.run (ending_of result.status) }
     ensures ends { EndsRead with_book (record { before = S.left source.old; now = S.left source.new; faults_before = S.faults source.old; faults_now = S.faults source.new })
         (record { before = K.written sink.old; now = K.written sink.new; faults_before = K.faults sink.old; faults_now = K.faults sink.new }) result.run result.status }
 {
@@ -108,16 +126,16 @@ fn run_source<S: Source, K: Sink>(
 /// Reads a script from the source, runs it, and writes its report to the sink. The words are those of the command line
 /// after the program's name: none, or `--book` for the book after the report. For other words the usage line is written,
 /// and nothing is read.
-#[tactic(auto, using(crate::proofs::Endings::is_complete))]
+#[tactic(auto, using(crate::proofs::Headlines::whole_runs, crate::proofs::Endings::is_complete))]
 pub fn run_script<S: Source, K: Sink>(
     alloc: Global,
     words: &Vec<String>,
     source: &mut S,
     sink: &mut K,
 ) -> Outcome
-    // Each answer is the one that the rules give over the book's committed transactions, over stops and starts; branches
-    // end as their site decided, and the SCN law holds.
-    ensures run { IsRun result.run }
+    // Each happening is the one that is due, and each line the one that the rules give; branches end as their site decided,
+    // mixed outcomes are marked, and the SCN law holds. All of the script was run, or its first part where memory ran out.
+    ensures run { IsRun result.run (ending_of result.status) }
 
     // Each status has its cause.
     ensures words { wanted_by (map string_bytes words.now.items) ≡ None

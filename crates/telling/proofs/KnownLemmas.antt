@@ -7,7 +7,7 @@ use Rattle.node_rules.specs.Data.stmts
 use Rattle.node_rules.specs.Sessions.{session_at}
 use Rattle.node_rules.specs.Kept.{Kept, Outcome}
 use Rattle.node_rules.specs.Points.{Passes, passes}
-use Rattle.run_laws.specs.Data.{Command, Session, Turn}
+use Rattle.run_laws.specs.Data.{Finished, Command, Session, Turn}
 use Rattle.run_laws.specs.Data.commands
 use Rattle.net_bag.specs.Net.{first_flying}
 use Rattle.run_laws.specs.Disks.{Strike, struck}
@@ -103,14 +103,14 @@ arms_is : (t : Telling) (n : ℕ) (k : Kept) (input : Input) (caller : Session) 
 arms_is t n k (inputs.Call session (Some (stmts.Commit (Some comment)))) caller h = rw (h session (Some (stmts.Commit (Some comment))) refl) refl
 arms_is t n k _ caller h = refl
 
-ends_are : (running : ℕ) (t : Telling) (u : Turn) (o : Outcome) (cut : Bool) → ends_by running t u o.ended cut ≡ ends_calls running t u cut (Some o)
-ends_are running t u o true = refl
-ends_are running t u o false = refl
+ends_are : (running : ℕ) (t : Telling) (u : Turn) (o : Outcome) (ended : List Finished) (cut : Bool) → (cut ≡ false → ended ≡ o.ended) → ends_by running t u ended cut ≡ ends_calls running t u cut (Some o)
+ends_are running t u o ended true h = refl
+ends_are running t u o ended false h = rw (h refl) refl
 
 pub turned_is : (facts : TurnFacts) (running : ℕ) (t : Telling) (u : Turn) → TellsTurn facts running t u (turned_by running t u facts)
 turned_is facts running t u k o h =
     let a = cut_appends t u.node (is_some o.wrote) (cut_by t u.node k u.input o) in
-    rw (h.writes, h.passed, h.ended, cut_is t u.node k u.input o, arms_is a u.node k u.input facts.caller h.caller, ends_are running (without_following (delivered_more (arms a u.node k u.input) u.took) u.input) u o u.cut) refl
+    rw (h.writes, h.passed, cut_is t u.node k u.input o, arms_is a u.node k u.input facts.caller h.caller, ends_are running (without_following (delivered_more (arms a u.node k u.input) u.took) u.input) u o facts.ended u.cut h.ended) refl
 
 -- ---- what is due
 

@@ -47,12 +47,12 @@ pub record KnownAtStop (f : Facts) (n : ℕ) (facts : StopFacts) : Type 0 where
   pub up : facts.is_up ≡ is_up f n
   pub owed : facts.is_owed ≡ is_some f.node_to_stop
 
--- This is known of a turn of a node that kept this, and that came to this.
+-- This is known of a turn of a node that kept this, and that came to this; the calls that it ended, unless it was cut.
 pub record KnownOfTurn (k : Kept) (u : Turn) (o : Outcome) (facts : TurnFacts) : Type 0 where
   pub caller : (session : ℕ) (statement : Option Stmt) → u.input ≡ inputs.Call session statement → facts.caller ≡ session_at k.sessions session
   pub writes : facts.writes ≡ is_some o.wrote
   pub passed : option_map passes_as facts.passes ≡ passes k u.input o
-  pub ended : facts.ended ≡ o.ended
+  pub ended : u.cut ≡ false → facts.ended ≡ o.ended
 
 -- This is known where it is asked what is due.
 pub record KnownDue (script : List Command) (f : Facts) (facts : DueFacts) : Type 0 where

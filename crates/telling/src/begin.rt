@@ -70,7 +70,7 @@ impl Telling {
     }
 
     // The page of the command before is told, and a new one begins.
-    fn turn_page(
+    pub(crate) fn turn_page(
         &mut self,
         alloc: Global,
         running: u32,

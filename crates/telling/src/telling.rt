@@ -1,19 +1,18 @@
 //! What is told of a run so far.
-ghost use Rattle.std.specs.Prelude.{◌≡◌, ◌++◌, ℕ, List, is_some, length, map, replicate, unwrap_or, IfOk};
+ghost use Rattle.std.specs.Prelude.{◌≡◌, ℕ, List, is_some, length, map, replicate, unwrap_or, IfOk, OnErr, OnOk};
 ghost use Rattle.redo_record.specs.declared.place.Place.{Place};
 ghost use Rattle.run_laws.specs.Telling.{nothing_told, orders_at as orders_of};
 ghost use Rattle.run_laws.specs.Disks.{no_orders as no_orders_of};
 ghost use Rattle.run_laws.specs.Commands.{has_call as has_call_of};
 ghost use Rattle.run_laws.specs.Past.{acts};
 ghost use Rattle.telling.specs.Facts.{TellsAll};
-ghost use Rattle.telling.specs.Known.{over_lines, told_by};
-ghost use Rattle.telling_parts.specs.Lines.{page_by};
+ghost use Rattle.telling.specs.Known.{told_by};
 
 use book::AnswerLine;
-use dtx_values::{DELIVERY_LIMIT, Listing};
+use dtx_values::Listing;
 use std::alloc::{AllocError, Global};
 use std::marker::Model;
-use telling_parts::{Call, DiskOrders, Page, Point, call_at, orders_at, over};
+use telling_parts::{Call, DiskOrders, Page, Point, call_at, orders_at};
 
 /// What is told of a run so far, and what comes next beside its facts.
 #[derive(Drop)]
@@ -84,6 +83,13 @@ impl Telling {
         call_at(&self.calls, node, session).is_some()
     }
 
+    /// The points of crash-test comments, in the order in which they were armed.
+    pub fn points(&self) -> &[Point]
+        ensures { result.now ≡ self.now.points }
+    {
+        &self.points
+    }
+
     /// The orders on a node's disk that have not struck.
     pub fn orders_at(&self, node: u8) -> DiskOrders
         ensures { result ≡ orders_of self.now node }
@@ -98,63 +104,22 @@ impl Telling {
         self.acted = true;
     }
 
-    /// All lines, those of the command of the number `running` among them, which is the last one. `flying` tells whether
-    /// messages are in flight. Fails where memory runs out.
+    /// The lines of the last command, which has the number `running`, are told. `flying` tells whether messages are in flight.
+    /// Fails where memory runs out, and then the lines of the commands before stay.
     #[tactic(auto, using(crate::proofs::KnownLemmas::told_is))]
-    pub fn into_lines(
-        self,
-        alloc: Global,
-        running: u32,
-        flying: bool,
-    ) -> Result<Listing<AnswerLine>, AllocError>
-        ensures by_facts { IfOk result (λ lines. lines ≡ told_by running flying self) }
-        ensures tells { IfOk result (λ lines. TellsAll running flying self lines) }
+    pub fn finish(&mut self, alloc: Global, running: u32, flying: bool) -> Result<(), AllocError>
+        ensures by_facts { OnOk result (self.new.lines ≡ told_by running flying self.old) }
+        ensures tells { OnOk result (TellsAll running flying self.old self.new.lines) }
+        ensures before { OnErr result (self.new.lines ≡ self.old.lines) }
     {
-        self.into_told().into_lines(alloc, running, flying)
+        self.turn_page(alloc, running, flying, Listing::new(alloc))
     }
 
-    // What the lines are made of.
-    fn into_told(self) -> Told
-        ensures deliveries { result.deliveries ≡ self.deliveries }
-        ensures page { result.page ≡ self.page }
-        ensures lines { result.lines.items ≡ self.lines }
-    {
-        Told {
-            deliveries: self.deliveries,
-            page: self.page,
-            lines: self.lines,
-        }
-    }
-
-    /// The lines of the commands before the one that runs.
-    pub fn into_lines_before(self) -> Listing<AnswerLine>
+    /// The lines of the commands before the one that runs, and after `finish` all of them.
+    pub fn into_lines(self) -> Listing<AnswerLine>
         ensures { result ≡ self.lines }
     {
         Listing::of(self.lines)
-    }
-}
-
-// The deliveries and the page of the command that runs, and the lines of the commands before.
-#[derive(Drop)]
-struct Told {
-    deliveries: u32,
-    page: Page,
-    lines: Vec<AnswerLine>,
-}
-
-impl Told {
-    fn into_lines(
-        self,
-        alloc: Global,
-        running: u32,
-        flying: bool,
-    ) -> Result<Listing<AnswerLine>, AllocError>
-        ensures { IfOk result (λ lines. lines ≡ self.lines.items ++ page_by running self.page (over_lines self.deliveries flying)) }
-    {
-        let over = over(alloc, self.deliveries, flying)?;
-        let mut lines = self.lines;
-        self.page.tell(alloc, &mut lines, running, over)?;
-        Ok(Listing::of(lines))
     }
 }
 

@@ -1,77 +1,26 @@
-//! The points of crash-test comments.
+//! The points of crash-test comments that are reached.
 //! (Database Administrator's Guide, "Managing Distributed Transactions": simulating distributed transaction failure.)
 ghost use Rattle.std.specs.Prelude.{◌≡◌, ◌==◌, ◌&&◌, map, find};
-ghost use Rattle.std.specs.List.{list_any};
 ghost use Rattle.std.specs.Option.{option_copied};
-ghost use Rattle.node_rules.specs.Points.{is_armed as is_armed_by, reaches as reaches_by};
 ghost use Rattle.run_laws.specs.Lines.{is_reached as is_reached_by};
 ghost use Rattle.run_laws.specs.Cuts.{reach as reach_by};
-ghost use Rattle.telling_parts.specs.Points.{numbers_on, is_at_place, is_before_record};
+ghost use Rattle.telling_parts.specs.Points.{numbers_on};
 ghost use Rattle.node_points.specs.Passing.{passes_as};
 
-use crash_points::{TurnPlace, reached};
-use node_points::Passes;
-use std::marker::Model;
-use tran_ids::BranchId;
+use node_points::{Passes, Point, Side};
 
-/// A comment's point.
-#[derive(Clone, Copy, Debug)]
-pub struct Point {
-    /// The root of the transaction that it is of.
-    pub root: BranchId,
-    /// Its number, 1 to 10.
-    pub number: u8,
-    /// The command of the COMMIT that armed it.
-    pub command: u32,
-    /// Whether it was reached.
-    pub reached: bool,
-}
-
-impl Model for Point {
-    ghost use Rattle.node_rules.specs.Points.{Point as PointByRules};
-
-    ghost Value = { PointByRules };
-
-    ghost view = { λ x. record { root = x.root; number = x.number; command = x.command; reached = x.reached } };
-
-    ghost inverse = { λ x. record { root = x.root; number = x.number; command = x.command; reached = x.reached } };
-}
-
-/// Which places of a turn: those before its record, or those after it.
-#[derive(Clone, Copy, Debug)]
-pub enum Side {
-    Before,
-    After,
-}
-
-impl Point {
-    // Whether it was not reached, and is among the places of this side.
-    fn is_armed(&self, passes: &Passes, side: Side) -> bool
-        ensures { result ≡ is_armed_by (passes_as passes.now).root (numbers_on side (passes_as passes.now)) self.now }
-    {
-        self.root.is(&passes.root) && (!self.reached && is_passed(passes, side, self.number))
-    }
-
-    fn is_reached(&self, command: u32) -> bool
-        ensures { result ≡ is_reached_by command self.now }
-    {
-        self.command == command && self.reached
-    }
-
-    fn reach(&mut self, passes: &Passes, side: Side)
-        ensures { self.new ≡ reach_by (passes_as passes.now).root (numbers_on side (passes_as passes.now)) self.old }
-    {
-        if self.is_armed(passes, side) {
-            self.reached = true;
-        }
-    }
-}
-
-/// Whether a point stops the node at the places of this side.
-pub fn reaches(points: &[Point], passes: &Passes, side: Side) -> bool
-    ensures { result ≡ reaches_by points.now (passes_as passes.now).root (numbers_on side (passes_as passes.now)) }
+fn is_reached(point: &Point, command: u32) -> bool
+    ensures { result ≡ is_reached_by command point.now }
 {
-    points.iter().any(|point| point.is_armed(passes, side))
+    point.command == command && point.reached
+}
+
+fn reach(point: &mut Point, passes: &Passes, side: Side)
+    ensures { point.new ≡ reach_by (passes_as passes.now).root (numbers_on side (passes_as passes.now)) point.old }
+{
+    if point.is_armed(passes, side) {
+        point.reached = true;
+    }
 }
 
 /// Those at the places of this side are reached.
@@ -79,14 +28,14 @@ pub fn reach_all(points: &mut Vec<Point>, passes: &Passes, side: Side)
     ensures { points.new.items ≡ map (reach_by (passes_as passes.now).root (numbers_on side (passes_as passes.now))) points.old.items }
 {
     for point in points.iter_mut() {
-        point.reach(passes, side);
+        reach(point, passes, side);
     }
 }
 
 fn first_reached(points: &[Point], command: u32) -> Option<&Point>
     ensures { option_copied result ≡ find (is_reached_by command) points.now }
 {
-    points.iter().find(|point| point.is_reached(command))
+    points.iter().find(|point| is_reached(*point, command))
 }
 
 /// The point of a command that was reached.
@@ -97,31 +46,4 @@ pub fn reached_of(points: &[Point], command: u32) -> Option<Point>
         None => None,
         Some(point) => Some(*point),
     }
-}
-
-fn is_at(at_site: bool, place: Option<TurnPlace>, number: u8) -> bool
-    ensures { result ≡ is_at_place at_site number place }
-{
-    match place {
-        None => false,
-        Some(place) => reached(number, at_site, place),
-    }
-}
-
-// Whether a number is among those of a side.
-#[tactic(auto, using(crate::proofs::PointLemmas::passed_before, crate::proofs::PointLemmas::passed_after))]
-fn is_passed(passes: &Passes, side: Side, number: u8) -> bool
-    ensures { result ≡ list_any (λ n. n == number) (numbers_on side (passes_as passes.now)) }
-{
-    match side {
-        Side::Before => is_before(passes, number),
-        Side::After => is_at(passes.at_site, passes.after, number),
-    }
-}
-
-fn is_before(passes: &Passes, number: u8) -> bool
-    ensures { result ≡ is_before_record passes.now number }
-{
-    (passes.collected && reached(number, passes.at_site, TurnPlace::Collected))
-        || is_at(passes.at_site, passes.before, number)
 }

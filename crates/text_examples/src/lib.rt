@@ -8,10 +8,6 @@
 #[cfg(test)]
 mod books;
 #[cfg(test)]
-mod commands;
-#[cfg(test)]
-mod items;
-#[cfg(test)]
 mod reports;
 #[cfg(test)]
 mod scripts;

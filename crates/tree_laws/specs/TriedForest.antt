@@ -15,6 +15,7 @@ use Rattle.tree_laws.specs.Forests.{forest_by}
 abbrev pub said : List Post
 said = said_in (facts_of tried.places [] (first_facts tried.places) tried.trace)
 
+-- the forest of the run
 abbrev pub p : Forest
 p = forest_by (births_from tried.places [] (first_facts tried.places) tried.trace []) said
 

@@ -1,9 +1,16 @@
-use Rattle.fit_laws.proofs.SayLemmas.{sayable_fits}
-use Rattle.fit_laws.proofs.SayStepLemmas.{turns_stay_sayable}
+use Rattle.fit_laws.proofs.SayLemmas.{sent_fits}
+use Rattle.fit_laws.proofs.SayStepLemmas.{turns_keep_bytes}
+use Rattle.fit_laws.proofs.StartLemmas.{turns_name_tables, starts_keep_bytes}
 use Rattle.fit_laws.proofs.messages_fit.Goals as goal
 
 pub returns-clause-fits : goal.returns-clause-fits
-returns-clause-fits c = sayable_fits
+returns-clause-fits c = sent_fits
 
 pub returns-clause-turns : goal.returns-clause-turns
-returns-clause-turns c = turns_stay_sayable
+returns-clause-turns c = turns_keep_bytes
+
+pub returns-clause-names : goal.returns-clause-names
+returns-clause-names c = turns_name_tables
+
+pub returns-clause-starts : goal.returns-clause-starts
+returns-clause-starts c = starts_keep_bytes

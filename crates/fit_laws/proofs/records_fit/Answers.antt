@@ -1,5 +1,6 @@
 use Rattle.fit_laws.proofs.WrittenLemmas.{changes_fit, comments_fit}
 use Rattle.fit_laws.proofs.WayToLemmas.{ways_lead}
+use Rattle.fit_laws.proofs.RecordLemmas.{numbers_fit, records_have_bytes}
 use Rattle.fit_laws.proofs.records_fit.Goals as goal
 
 pub returns-clause-changes : goal.returns-clause-changes
@@ -10,3 +11,9 @@ returns-clause-comments c = comments_fit
 
 pub returns-clause-ways : goal.returns-clause-ways
 returns-clause-ways c = ways_lead
+
+pub returns-clause-numbers : goal.returns-clause-numbers
+returns-clause-numbers c = numbers_fit
+
+pub returns-clause-records : goal.returns-clause-records
+returns-clause-records c = records_have_bytes

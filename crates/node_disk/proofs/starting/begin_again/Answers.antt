@@ -1,9 +1,8 @@
 -- A node that started again is ready and can take its next turn, and a crash at any moment leaves a disk to start from.
-use Rattle.std.proofs.Common.{ℕ, List, ◌∷◌, [], ◌++◌, ◌∙◌, subst}
+use Rattle.std.proofs.Common.{ℕ, ◌∷◌, [], ◌++◌, ◌∙◌, subst}
 use Rattle.redo_record.specs.declared.record.RedoRecord.TheVariants as records
-use Rattle.record_log.specs.Held.{HoldRecords}
+use Rattle.record_log.specs.Held.{HoldRecords, GrowsByPlan}
 use Rattle.record_log.specs.Log.{disk_of as disk_of_log}
-use Rattle.node_disk.specs.Starts.{next_boot}
 use Rattle.node_disk.specs.OnDisk.{place_of, kept_of, disk_of}
 use Rattle.node_disk.proofs.StartLaws.{ready_started, stands_started, startable_begun}
 use Rattle.node_disk.proofs.starting.begin_again.Goals as goal
@@ -39,3 +38,9 @@ returns-in-Err-begin-clause-startable g c =
     let d = g.D.Disk in
     let rs = c.args.records.now in
     startable_begun d.moment d.images_since (disk_of_log c.args.log) c.in-Err-begin.err.disk rs c.in-Ok.memory.boot c.requires.had c.in-Ok.ensures.boot (c.in-Err-begin.ensures.any_moment rs c.requires.held)
+
+pub returns-in-Err-begin-clause-left : goal.returns-in-Err-begin-clause-left
+returns-in-Err-begin-clause-left g c is =
+    let d = g.D.Disk in
+    let disk = disk_of_log c.args.log in
+    subst (λ (n : ℕ). GrowsByPlan (d.plan disk) (records.Boot n) (d.content disk) (d.content c.in-Err-begin.err.disk)) c.in-Ok.ensures.boot (c.in-Err-begin.ensures.left is)

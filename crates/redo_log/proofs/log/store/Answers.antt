@@ -4,6 +4,7 @@ use Rattle.std.proofs.lemmas.Result.{err_from_is_err_and}
 use Rattle.redo_log.proofs.Stored.{while_opened, until_synced}
 use Rattle.redo_log.specs.Plans.{append_calls}
 use Rattle.redo_log.proofs.Planned.{ends, last, goes_on, before_others, failed}
+use Rattle.redo_log.proofs.Left.{on_err, third_left, fourth_left}
 use Rattle.redo_log.proofs.log.store.Goals as goal
 
 pub returns-in_err-write_at-2-clause-any_moment : goal.returns-in_err-write_at-2-clause-any_moment
@@ -40,3 +41,15 @@ returns-clause-plan g c =
     before_others _ _ _ _ _ _ _ true (false ∷ true ∷ false ∷ []) _ _ c.in_ok-write_at.ensures.plan
     (before_others _ _ _ _ _ _ _ false (true ∷ false ∷ []) _ _ c.in_ok-sync.ensures.plan
     (before_others _ _ _ _ _ _ _ true (false ∷ []) _ _ c.in_ok-write_at-2.ensures.plan (last _ _ false _ c.sync-2.ensures.plan)))
+
+pub returns-in_err-write_at-2-clause-left : goal.returns-in_err-write_at-2-clause-left
+returns-in_err-write_at-2-clause-left g c =
+    on_err _ _
+    (third_left _ _ _ _ _ c.requires.gate _ c.in_ok-write_at.ensures.written _ _ _ _ _ _ c.in_ok-write_at.ensures.plan c.in_ok-sync.ensures.plan _ _ c.sync.ensures.content
+    _ c.in_err-write_at-2.ensures.plan c.in_err-write_at-2.ensures.left)
+
+pub returns-clause-left : goal.returns-clause-left
+returns-clause-left g c =
+    on_err _ _
+    (fourth_left _ _ _ _ _ c.requires.gate _ c.in_ok-write_at.ensures.written _ _ _ _ _ _ c.in_ok-write_at.ensures.plan c.in_ok-sync.ensures.plan _ _ c.sync.ensures.content
+    _ _ c.in_ok-write_at-2.ensures.plan c.in_ok-write_at-2.ensures.written c.sync-2.ensures.content)

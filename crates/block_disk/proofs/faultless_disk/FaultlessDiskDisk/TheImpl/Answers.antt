@@ -20,4 +20,5 @@ write_at-tells c =
       calls = search rules;
       writes = search rules;
       plan = search rules;
+      left = search rules;
     }

@@ -5,6 +5,7 @@ use Rattle.block_disk.specs.Happenings.{IsImage, IsImageSince}
 use Rattle.block_disk.specs.MemDisk.{DiskState}
 use Rattle.block_disk.specs.Orders.{strike_of, left_by}
 use Rattle.block_disk.proofs.Struck.{left_fits, part_tears_only, part_goes_on}
+use Rattle.block_disk.proofs.Planned.{left_struck}
 use Rattle.block_disk.proofs.mem_disk.MemDiskDisk.TheImpl.Goals as goal
 
 pub write_at-tells : goal.write_at-tells
@@ -23,4 +24,5 @@ write_at-tells c =
       calls = search rules;
       writes = search rules;
       plan = search rules;
+      left = left_struck c.result disk _ at bytes c.ensures.state c.ensures.plan;
     }

@@ -4,6 +4,7 @@ use Rattle.redo_log.specs.Plans.{append_calls, begin_calls}
 use Rattle.record_log.specs.Log.{disk_of as disk_of_log}
 use Rattle.node_disk.specs.OnDisk.{place_of, kept_of, disk_of}
 use Rattle.node_disk.proofs.MakeLaws.{holds_first, ready_made, stands_made, may_be_made, may_be_empty}
+use Rattle.node_disk.proofs.CutLaws.{starts_if_only}
 use Rattle.node_disk.proofs.PlanLaws.{one_after, none_after}
 use Rattle.node_disk.proofs.node.Node.make.Goals as goal
 
@@ -22,6 +23,15 @@ returns-in-Ok-begin-clause-running g c =
       durable = began.durable;
       stands = stands_made node.memory bytes (holds_first c.in-Ok.memory.boot bytes c.in-Ok.ensures.boot (began.stored [] c.in-Ok-create.ensures.made)) (began.kept ∙ c.in-Ok.ensures.kept);
     }
+
+pub returns-in-Ok-begin-clause-startable : goal.returns-in-Ok-begin-clause-startable
+returns-in-Ok-begin-clause-startable g c =
+    let node = c.in-Ok-begin.node in
+    let began = c.in-Ok-begin.ensures in
+    let d = g.D.Disk in
+    let bytes = d.content (disk_of node) in
+    let stands = stands_made node.memory bytes (holds_first c.in-Ok.memory.boot bytes c.in-Ok.ensures.boot (began.stored [] c.in-Ok-create.ensures.made)) (began.kept ∙ c.in-Ok.ensures.kept) in
+    starts_if_only d.content d.images (disk_of node) began.durable (stands.0, stands.1, stands.2)
 
 pub returns-in-Ok-begin-clause-ready : goal.returns-in-Ok-begin-clause-ready
 returns-in-Ok-begin-clause-ready g c =

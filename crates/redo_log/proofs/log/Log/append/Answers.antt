@@ -1,6 +1,6 @@
 -- What is proved of the disk's content holds of the log's bodies, since the log was settled.
 use Rattle.std.proofs.Common.{◌∙◌, refl, arith}
-use Rattle.redo_log.proofs.Appended.{at_start, with_room, while_stored, stored, exact, settled_again}
+use Rattle.redo_log.proofs.Appended.{at_start, with_room, while_stored, stored, exact, settled_again, left}
 use Rattle.redo_log.proofs.log.Log.append.Goals as goal
 
 pub returns-then-body-gt-MAX_BODY-clause-any_moment : goal.returns-then-body-gt-MAX_BODY-clause-any_moment
@@ -39,3 +39,7 @@ returns-in-Ok-clause-usable g c =
 pub returns-in-Ok-clause-exact : goal.returns-in-Ok-clause-exact
 returns-in-Ok-clause-exact g c =
     exact _ _ _ (c.requires.usable c.if-self.false) _ _ _ _ c.room.ensures.content (c.deref.ensures.value ∙ c.in_ok-behind.ensures) (omega arith) c.in-Ok.ensures.stored
+
+pub returns-clause-left : goal.returns-clause-left
+returns-clause-left g c =
+    λ failed intact. left g.D.Disk.content g.D.Disk.images _ (c.requires.usable intact) _ _ _ _ _ _ c.room.ensures.plan c.room.ensures.content (c.deref.ensures.value ∙ c.in_ok-behind.ensures) (omega arith) c.in-Err.ensures.left

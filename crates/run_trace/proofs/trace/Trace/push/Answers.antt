@@ -4,4 +4,4 @@ use Rattle.run_trace.proofs.trace.Trace.push.Goals as goal
 pub invariant_of-self-2 : goal.invariant_of-self-2
 invariant_of-self-2 c =
     rw (c.add.ensures, c.make_room.ensures.kept, c.in_ok-make_room.ensures.entered)
-    (recorded_push c.self.inside.places c.self.inside.asked c.self.inside.happenings.items c.self.inside.book.items c.args.happening c.self.invariant (rw (← c.self.view_is) at c.requires))
+    (recorded_push c.self.inside.places c.self.inside.asked c.self.inside.happenings.items c.self.inside.book.items c.args.happening c.self.invariant c.in_ok-make_room.ensures.few (rw (← c.self.view_is) at c.requires))

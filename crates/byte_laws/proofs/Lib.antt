@@ -1,0 +1,3 @@
+pub mod ByteRunLemmas
+pub mod ScriptCallLemmas
+pub mod DueCallLemmas

@@ -1,2 +1,0 @@
-mod DigitLemmas
-mod TokenLemmas

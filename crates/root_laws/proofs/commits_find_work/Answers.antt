@@ -1,0 +1,5 @@
+use Rattle.root_laws.proofs.RootWorkLemmas.{commits_find_work}
+use Rattle.root_laws.proofs.commits_find_work.Goals as goal
+
+pub returns : goal.returns
+returns c = commits_find_work

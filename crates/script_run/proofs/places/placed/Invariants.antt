@@ -1,0 +1,6 @@
+use Rattle.std.proofs.Common.{◌≡◌, take}
+use Rattle.run_laws.specs.Headline.{places_from}
+use Rattle.script_run.proofs.places.placed.Given as goal
+
+abbrev pub invariant-loop-command : goal.invariant-loop-command
+invariant-loop-command l = l.places.items ≡ places_from l.names 1 (take l.command-index l.commands)

@@ -1,0 +1,60 @@
+//! The lines that are written in place of a report.
+ghost use Rattle.std.specs.Prelude.{◌≡◌, IfOk};
+ghost use Rattle.script_run.specs.Ending.{EndsExplained, EndsRefused, refusal_line, why_text as text_of};
+
+use crate::outcome::Status;
+use dtx_ports::{Sink, write_whole};
+use script_read::Why;
+use std::alloc::{AllocError, Global};
+use tran_ids::put_decimal;
+
+/// Writes how the program is called.
+pub fn explain_words<K: Sink>(sink: &mut K) -> Status
+    ensures { EndsExplained (record { before = K.written sink.old; now = K.written sink.new; faults_before = K.faults sink.old; faults_now = K.faults sink.new }) result }
+{
+    match write_whole(sink, b"usage: dtx [--book] [--make N]\n") {
+        Ok(()) => Status::Usage,
+        Err(_) => Status::WriteFault,
+    }
+}
+
+/// Why a command is bad.
+fn why_text(why: &Why) -> &[u8]
+    ensures { result.now ≡ text_of why.now }
+{
+    match why {
+        Why::Byte => b"bad byte",
+        Why::Unended => b"unended command",
+        Why::LateNode => b"node after other commands",
+        Why::Form => b"bad command",
+        Why::Twice => b"node named twice",
+        Why::Many => b"more than 16 nodes",
+        Why::Unknown => b"unknown node",
+    }
+}
+
+/// What is written of a script whose first bad command is on this line. Fails where memory runs out.
+fn refusal(alloc: Global, line: u32, why: Why) -> Result<Vec<u8>, AllocError>
+    ensures { IfOk result (λ text. text.items ≡ refusal_line line why) }
+{
+    let mut text = Vec::new(alloc);
+    text.extend_from_slice(b"line ")?;
+    put_decimal(&mut text, u64::from(line))?;
+    text.extend_from_slice(b": ")?;
+    text.extend_from_slice(why_text(&why))?;
+    text.push(b'\n')?;
+    Ok(text)
+}
+
+/// Writes which line is bad, and why.
+pub fn explain_line<K: Sink>(alloc: Global, line: u32, why: Why, sink: &mut K) -> Status
+    ensures { EndsRefused (record { before = K.written sink.old; now = K.written sink.new; faults_before = K.faults sink.old; faults_now = K.faults sink.new }) line why result }
+{
+    match refusal(alloc, line, why) {
+        Ok(text) => match write_whole(sink, &text) {
+            Ok(()) => Status::BadScript,
+            Err(_) => Status::WriteFault,
+        },
+        Err(_) => Status::NoMemory,
+    }
+}

@@ -1,6 +1,0 @@
-pub mod Growing
-pub mod Replays
-pub mod TableFits
-pub mod SaneLemmas
-pub mod FitLemmas
-pub mod Roots

@@ -1,4 +1,0 @@
-pub mod Finished
-pub mod Fitting
-pub mod Places
-pub mod OnDisk

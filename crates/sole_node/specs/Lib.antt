@@ -1,6 +1,0 @@
-pub mod Statements
-pub mod Kept
-pub mod Turn
-pub mod Ready
-pub mod Disk
-pub mod Book

@@ -1,4 +1,0 @@
-pub mod Comments
-pub mod Pieces
-pub mod Forms
-pub mod Script

@@ -1,0 +1,24 @@
+pub mod MomentLemmas
+pub mod PlanLemmas
+pub mod SeenLemmas
+pub mod CallLemmas
+pub mod StartLemmas
+pub mod ChildStepLemmas
+pub mod ChildTurnLemmas
+pub mod ChildRunLemmas
+pub mod UntouchedLemmas
+pub mod HearLemmas
+pub mod HeardTrailLemmas
+pub mod LowerTurnLemmas
+pub mod LowerLivesLemmas
+pub mod LowerRunLemmas
+pub mod FullLemmas
+pub mod SealedLemmas
+pub mod RootLemmas
+pub mod SiteLemmas
+pub mod OwnRecordLemmas
+pub mod OwnLemmas
+pub mod EnoughLemmas
+pub mod LeaveLemmas
+pub mod LowerLeaveLemmas
+mod TriedTrailLemmas

@@ -1,0 +1,16 @@
+pub mod Orders
+pub mod Site
+pub mod Sites
+pub mod Mail
+pub mod Needs
+pub mod Linked
+pub mod Steps
+pub mod Stops
+pub mod Served
+pub mod Turns
+pub mod Starts
+pub mod Shown
+pub mod Started
+pub mod Halts
+pub mod Left
+pub mod Ran

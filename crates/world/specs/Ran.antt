@@ -1,0 +1,35 @@
+-- A run that has ended.
+use Rattle.std.specs.Prelude.{◌≡◌}
+use Rattle.run_laws.specs.Due.{Ends}
+use Rattle.run_laws.specs.Entries.{book_of}
+use Rattle.run_laws.specs.Lawful.{AreOfAScript}
+use Rattle.run_laws.specs.Headline.{Ending, All_run, Out_of_memory, IsTold}
+use Rattle.run_trace.specs.Recorded.{RunSoFar, IsRunOfScript}
+use Rattle.run_trace.specs.declared.trace.Recorded.{Recorded}
+use Rattle.world.specs.Needs.{due_in}
+use Rattle.world.specs.Left.{IsLeft, TellsBetween}
+use Rattle.world.specs.Shown.{history_of}
+use Rattle.world.specs.declared.ran.Ended.{Ended}
+use Rattle.world.specs.declared.ran.Ended.TheVariants.{AllRun, OutOfMemory}
+use Rattle.world.specs.declared.ran.Ran.{Ran}
+use Rattle.world.specs.declared.world.World.{World}
+
+-- how it ended, as the laws of runs have it
+abbrev pub as_ending : Ended → Ending
+as_ending AllRun = All_run
+as_ending OutOfMemory = Out_of_memory
+
+-- a run that was recorded
+abbrev pub run_of : Recorded → RunSoFar
+run_of r = record { places = r.places; asked = r.asked; happenings = r.happenings }
+
+-- The run of a script, or the first part of it where memory ran out, its book, and what is told of it.
+pub record IsRan (ran : Ran) : Type 0 where
+  pub due : IsRunOfScript (run_of ran.recorded)
+  pub booked : ran.recorded.book ≡ book_of ran.recorded.happenings
+  pub told : (script : AreOfAScript ran.recorded.places ran.recorded.asked) → IsTold (history_of (run_of ran.recorded) script) ran.answers (as_ending ran.ended)
+
+-- what a world is left with whose run ended so
+abbrev pub IsLeftBy : Ended → World → Type 0
+IsLeftBy AllRun w = (due_in w.trace ≡ Ends) × TellsBetween w
+IsLeftBy OutOfMemory w = IsLeft w

@@ -1,0 +1,190 @@
+//! A command begins.
+ghost use Rattle.std.specs.Prelude.{◌≡◌, length, OnErr, OnOk, IfOk};
+ghost use Rattle.run_laws.specs.Due.{Begins};
+ghost use Rattle.run_laws.specs.Commands.{begins};
+ghost use Rattle.run_laws.specs.Facts.{command_at as command_at_of, ordered};
+ghost use Rattle.run_trace.specs.Recorded.{Extends, past_of};
+ghost use Rattle.telling.specs.Facts.{up_for as up_for_by, transaction_for as transaction_for_by, KnownAtBegin};
+ghost use Rattle.world.specs.Needs.{due_in};
+ghost use Rattle.world.specs.Left.{IsLeft};
+ghost use Rattle.world.specs.Linked.{IsLinked, OrdersStand};
+ghost use Rattle.world.specs.Orders.{how_as, ArmedAt, OrderedBy, OrdersAre};
+ghost use Rattle.world.specs.Steps.{StepsOn};
+
+use crate::World;
+use crate::laws::what_is_due_can_happen;
+use crate::sites::{has_transaction, is_up};
+use block_disk::{How as LeftBy, Order, Stop};
+use book::Happening;
+use dtx_values::Duplicate;
+use net_bag::{Bag, LoseNext};
+use script_read::{Command, How};
+use std::alloc::{AllocError, Global};
+use telling::BeginFacts;
+
+// The order of LOSE NEXT is given to the network. Fails where memory runs out.
+fn order_net(net: &mut Bag, command: &Command) -> Result<(), AllocError>
+    ensures { OnOk result (net.new ≡ ordered net.old command.now) }
+{
+    match command {
+        Command::LoseNext { kind, from, to } => net.lose_next(LoseNext {
+            kind: *kind,
+            from: *from,
+            to: *to,
+        }),
+        _ => Ok(()),
+    }
+}
+
+// What a stop leaves of a write.
+fn left_by(alloc: Global, how: &How) -> Result<LeftBy, AllocError>
+    ensures { IfOk result (λ left. how_as left ≡ how.now) }
+{
+    match how {
+        How::Keep(count) => Ok(LeftBy::Keep(*count)),
+        How::Leave(bytes) => Ok(LeftBy::Leave(Vec::from_slice(alloc, bytes.as_slice())?)),
+    }
+}
+
+impl World {
+    /// The command of this number begins.
+    #[tactic(auto, using(crate::proofs::BeginLemmas::begin_steps, crate::proofs::LeftLemmas::begin_left_steps, run_trace::proofs::ExtendsLemmas::extends_steps))]
+    pub(crate) fn begin(&mut self, alloc: Global, number: u32) -> Result<(), AllocError>
+        requires linked { IsLinked self.old }
+        requires orders { OrdersAre self.old }
+        requires due { due_in self.old.trace ≡ Begins number }
+        ensures steps { OnOk result (StepsOn self.old self.new) }
+        ensures orders { OnOk result (OrdersAre self.new) }
+        ensures extends { Extends self.old.trace self.new.trace }
+        ensures left { OnErr result (IsLeft self.new) }
+    {
+        let command = self.trace.asked()[number as usize - 1].copy(alloc)?;
+        self.begin_with(alloc, number, &command)
+    }
+
+    // This command, which has this number, begins.
+    #[tactic(auto, using(crate::proofs::BeginLemmas::begin_steps, crate::proofs::LeftLemmas::begin_left_steps, run_trace::proofs::ExtendsLemmas::extends_steps))]
+    fn begin_with(
+        &mut self,
+        alloc: Global,
+        number: u32,
+        command: &Command,
+    ) -> Result<(), AllocError>
+        requires linked { IsLinked self.old }
+        requires orders { OrdersAre self.old }
+        requires due { due_in self.old.trace ≡ Begins number }
+        requires command { command.now ≡ command_at_of self.old.trace.asked number }
+        ensures steps { OnOk result (StepsOn self.old self.new) }
+        ensures orders { OnOk result (OrdersAre self.new) }
+        ensures extends { Extends self.old.trace self.new.trace }
+        ensures left { OnErr result (IsLeft self.new) }
+    {
+        self.tell_begin(alloc, number, command)?;
+        self.show_disk(alloc, number, command)?;
+        order_net(&mut self.net, command)?;
+        self.order_disk(alloc, command)?;
+        self.trace
+            .push(alloc, Happening::Begun { command: number })?;
+        self.running = number;
+        Ok(())
+    }
+
+    // What is told as a command begins. Fails where memory runs out.
+    fn tell_begin(
+        &mut self,
+        alloc: Global,
+        number: u32,
+        command: &Command,
+    ) -> Result<(), AllocError>
+        requires { IsLinked self.old }
+        ensures tells { OnOk result (self.new.telling ≡ begins self.old.trace.places (past_of self.old.trace).facts (past_of self.old.trace).telling number command.now) }
+        ensures same { self.new ≡ record self.old { telling = self.new.telling } }
+        ensures lines { OnErr result (self.new.telling.lines ≡ self.old.telling.lines) }
+    {
+        let facts = self.begin_facts(alloc, command)?;
+        self.telling.begin(alloc, number, command, facts)?;
+        Ok(())
+    }
+
+    // What is known as a command begins. Fails where memory runs out.
+    fn begin_facts(&self, alloc: Global, command: &Command) -> Result<BeginFacts, AllocError>
+        requires { IsLinked self.now }
+        ensures { IfOk result (KnownAtBegin self.now.trace.places (past_of self.now.trace).facts (past_of self.now.trace).telling command.now) }
+    {
+        let says = self.says_at_once(alloc, command)?;
+        Ok(BeginFacts {
+            running: self.running,
+            flying: self.net.first().is_some(),
+            says,
+            is_up: self.up_for(command),
+            has_transaction: self.transaction_for(command),
+        })
+    }
+
+    // Whether the node of a client's call is up.
+    #[tactic(auto, using(crate::proofs::DueLemmas::due_steps))]
+    fn up_for(&self, command: &Command) -> bool
+        requires { IsLinked self.now }
+        ensures { result ≡ up_for_by (past_of self.now.trace).facts command.now }
+    {
+        match command {
+            Command::At {
+                node,
+                session: _session,
+                statement: _statement,
+            } => is_up(&self.sites, *node),
+            _ => false,
+        }
+    }
+
+    // Whether its session has a transaction.
+    #[tactic(auto, using(crate::proofs::DueLemmas::due_steps))]
+    fn transaction_for(&self, command: &Command) -> bool
+        requires { IsLinked self.now }
+        ensures { result ≡ transaction_for_by (past_of self.now.trace).facts command.now }
+    {
+        match command {
+            Command::At {
+                node,
+                session,
+                statement: _statement,
+            } => has_transaction(&self.sites, *node, *session),
+            _ => false,
+        }
+    }
+
+    // The order of CRASH or FAULT is given to a disk: its bytes stay. Fails where memory runs out.
+    fn order_disk(&mut self, alloc: Global, command: &Command) -> Result<(), AllocError>
+        ensures stands { OnOk result (OrdersStand self.old self.new) }
+        ensures orders { OnOk result (OrderedBy command.now self.old.sites.items self.new.sites.items) }
+        ensures same { self.new ≡ record self.old { sites = self.new.sites } }
+    {
+        match command {
+            Command::Crash { node, write, how } => {
+                let how = left_by(alloc, how)?;
+                let stop = Stop { write: *write, how };
+                self.arm(*node, Order::Stop(stop));
+                Ok(())
+            }
+            Command::Fault { node, call } => {
+                self.arm(*node, Order::Fault(*call));
+                Ok(())
+            }
+            _ => Ok(()),
+        }
+    }
+
+    fn arm(&mut self, node: u8, order: Order)
+        ensures stands { OrdersStand self.old self.new }
+        ensures armed { ArmedAt node order self.old.sites.items self.new.sites.items }
+        ensures same { self.new ≡ record self.old { sites = self.new.sites } }
+    {
+        let Some(at) = node.checked_sub(1) else {
+            return;
+        };
+        let at = usize::from(at);
+        if at < self.sites.len() {
+            self.sites[at].arm(order);
+        }
+    }
+}

@@ -1,0 +1,28 @@
+//! The world of a run: its nodes, each up or down with its disk alone, the network between them, and what is told.
+//!
+//! [`World::step`] lets happen what is due, and the trace takes it: each part of the world stays that part of the run so far
+//! (`specs/Linked.antt`, one equation a part). Where memory runs out the trace is still a first part of the run of the script,
+//! and the lines of the commands before are there; the rest of the world is of no use then.
+#![tactic(auto)]
+
+mod beginning;
+mod calls;
+mod disk_lines;
+mod disks_shown;
+mod due;
+mod laws;
+mod lines;
+mod mail;
+mod network;
+mod serving;
+mod ran;
+mod showing;
+mod site;
+mod sites;
+mod starting;
+mod stopping;
+mod turning;
+mod world;
+
+pub use ran::{Ended, Ran, run};
+pub use world::World;

@@ -1,0 +1,78 @@
+//! The messages of a turn: sent in order, and those that are lost at once.
+ghost use Rattle.std.specs.Prelude.{◌≡◌, ◌++◌, ◌∷◌, [], Some, map, IfOk, OnOk};
+ghost use Rattle.std.specs.List.{AllByRecursion};
+ghost use Rattle.msg_codec.specs.Message.{message_of};
+ghost use Rattle.net_bag.specs.Net.{sent_on, sent_one, lost_at_once};
+ghost use Rattle.node_disk.specs.Effects.{call_of};
+ghost use Rattle.run_laws.specs.Facts.{taken};
+ghost use Rattle.world.specs.Mail.{IsMailed};
+
+use book::Took;
+use dtx_values::Listing;
+use net_bag::Bag;
+use node_disk::{Finished, Mailed};
+use node_rules::Ended;
+use std::alloc::{AllocError, Global};
+use std::collections::VecDeque;
+use wire_msg::{Msg, Msgs};
+
+/// A message that was taken is delivered, unless it is a copy.
+pub(crate) fn take(net: &mut Bag, took: Option<Took>)
+    ensures { net.new ≡ taken net.old took }
+{
+    match took {
+        None => {}
+        Some(took) => {
+            if !took.again {
+                net.deliver(took.number);
+            }
+        }
+    }
+}
+
+/// Sends these messages in order, and adds the numbers of those that are lost at once. Fails where memory runs out.
+#[tactic(auto, using(crate::proofs::MailLemmas::mail_steps))]
+pub(crate) fn send_all(
+    alloc: Global,
+    net: &mut Bag,
+    losses: &mut VecDeque<u64>,
+    mails: Vec<Mailed>,
+) -> Result<Msgs, AllocError>
+    requires { AllByRecursion IsMailed mails.items }
+    ensures sent { IfOk result (λ msgs. msgs ≡ map (λ mail. mail.msg) mails.items) }
+    ensures net { OnOk result (net.new ≡ sent_on net.old (map (λ mail. mail.msg) mails.items)) }
+    ensures losses { OnOk result (losses.new.items ≡ losses.old.items ++ lost_at_once net.old (map (λ mail. mail.msg) mails.items)) }
+{
+    let mut msgs = Vec::with_capacity(alloc, mails.len())?;
+    for mail in mails {
+        let msg = send_one(net, losses, mail)?;
+        msgs.push(msg)?;
+    }
+    Ok(Listing::of(msgs))
+}
+
+fn send_one(net: &mut Bag, losses: &mut VecDeque<u64>, mail: Mailed) -> Result<Msg, AllocError>
+    requires { message_of mail.bytes ≡ Some mail.msg }
+    ensures msg { IfOk result (λ msg. msg ≡ mail.msg) }
+    ensures net { OnOk result (net.new ≡ sent_one net.old mail.msg) }
+    ensures losses { OnOk result (losses.new.items ≡ losses.old.items ++ lost_at_once net.old (mail.msg ∷ [])) }
+{
+    let Mailed { msg, bytes } = mail;
+    let sent = net.send(&msg, bytes)?;
+    if sent.is_lost {
+        losses.push_back(sent.number)?;
+    }
+    Ok(msg)
+}
+
+/// The calls that a turn ended. Fails where memory runs out.
+pub(crate) fn ended_calls(alloc: Global, ended: Listing<Finished>) -> Result<Ended, AllocError>
+    ensures { IfOk result (λ calls. calls ≡ map call_of ended) }
+{
+    let ended = ended.into_vec();
+    let mut calls = Vec::with_capacity(alloc, ended.len())?;
+    for call in ended {
+        calls.push(call.into_call())?;
+    }
+    Ok(Listing::of(calls))
+}

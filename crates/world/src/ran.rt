@@ -1,0 +1,104 @@
+//! A run that has ended, and what is told of it.
+ghost use Rattle.std.specs.Prelude.{◌≡◌, ◌<◌, ◌^◌, length, IfOk};
+ghost use Rattle.std.specs.List.{AllByRecursion};
+ghost use Rattle.byte_laws.specs.ByteRuns.{AsksSpelled};
+ghost use Rattle.script_read.specs.Sound.{IsInRange};
+ghost use Rattle.run_laws.specs.Due.{Ends};
+ghost use Rattle.run_laws.specs.Lawful.{AreOfAScript};
+ghost use Rattle.run_trace.specs.Recorded.{Extends};
+ghost use Rattle.world.specs.Linked.{IsLinked};
+ghost use Rattle.world.specs.Needs.{due_in};
+ghost use Rattle.world.specs.Orders.{OrdersAre};
+ghost use Rattle.world.specs.Ran.{IsLeftBy, IsRan};
+
+use crate::World;
+use crate::lines::with_disks;
+use book::AnswerLines;
+use redo_record::Places;
+use run_trace::Recorded;
+use script_read::Commands;
+use std::alloc::{AllocError, Global};
+
+/// How a run ended.
+#[derive(Clone, Copy, Debug, PartialEq, Eq)]
+pub enum Ended {
+    /// Its script was run to the end.
+    AllRun,
+    /// Memory ran out.
+    OutOfMemory,
+}
+
+/// A run that has ended.
+#[derive(Debug, Drop)]
+pub struct Ran {
+    /// Its nodes and its script, what happened, and the book.
+    pub recorded: Recorded,
+    /// What is told of it: the answers of its commands, in order.
+    pub answers: AnswerLines,
+    /// How it ended.
+    pub ended: Ended,
+}
+
+impl World {
+    // The lines of the last command are told, where there is memory for them.
+    #[tactic(auto, using(crate::proofs::RanLemmas::ran_steps, crate::proofs::LeftLemmas::left_steps))]
+    fn tell_end(&mut self, alloc: Global) -> Ended
+        requires linked { IsLinked self.old }
+        requires ends { due_in self.old.trace ≡ Ends }
+        ensures left { IsLeftBy result self.new }
+        ensures trace { self.new.trace ≡ self.old.trace }
+    {
+        let flying = self.net.first().is_some();
+        match self.telling.finish(alloc, self.running, flying) {
+            Ok(()) => Ended::AllRun,
+            Err(_) => Ended::OutOfMemory,
+        }
+    }
+
+    // Runs the script to its end, or as far as memory goes.
+    #[tactic(auto, using(run_trace::proofs::ExtendsLemmas::extends_steps))]
+    fn run_and_tell(&mut self, alloc: Global) -> Ended
+        requires linked { IsLinked self.old }
+        requires orders { OrdersAre self.old }
+        ensures left { IsLeftBy result self.new }
+        ensures extends { Extends self.old.trace self.new.trace }
+    {
+        match self.run(alloc) {
+            Ok(()) => self.tell_end(alloc),
+            Err(_) => Ended::OutOfMemory,
+        }
+    }
+
+    // The run, and what is told of it.
+    #[tactic(auto, using(crate::proofs::RanLemmas::ran_ends))]
+    fn into_ran(self, ended: Ended) -> Ran
+        requires left { IsLeftBy ended self }
+        ensures places { result.recorded.places ≡ self.trace.places }
+        ensures asked { result.recorded.asked ≡ self.trace.asked }
+        ensures ran { IsRan result }
+    {
+        self.trace.is_run();
+        let mut shown = self.shown;
+        let answers = with_disks(&mut shown, self.telling.into_lines());
+        Ran {
+            recorded: self.trace.into_recorded(),
+            answers,
+            ended,
+        }
+    }
+}
+
+/// Runs a script over nodes at these places, to its end or as far as memory goes. Fails where there is no memory to begin.
+pub fn run(alloc: Global, places: Places, commands: Commands) -> Result<Ran, AllocError>
+    requires script { AreOfAScript places commands }
+    requires few { length commands < 2 ^ 18 }
+    requires in_range { AllByRecursion IsInRange commands }
+    requires spelled { AllByRecursion AsksSpelled commands }
+    ensures places { IfOk result (λ ran. ran.recorded.places ≡ places) }
+    ensures asked { IfOk result (λ ran. ran.recorded.asked ≡ commands) }
+    ensures ran { IfOk result IsRan }
+{
+    let mut world = World::new(alloc, places, commands)?;
+    let ended = world.run_and_tell(alloc);
+    Ok(world.into_ran(ended))
+}

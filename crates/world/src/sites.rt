@@ -1,0 +1,77 @@
+//! The nodes of a run, by their numbers, from 1.
+ghost use Rattle.std.specs.Prelude.{◌≡◌, ℕ, length, Some, None, is_some, option_map, IfOk, OnOk};
+ghost use Rattle.std.specs.Option.{option_copied, option_and_then};
+ghost use Rattle.tran_ids.specs.Listed.{numbered, set_numbered};
+ghost use Rattle.run_laws.specs.Commands.{has_transaction as has_transaction_by, is_enabled as is_enabled_by};
+ghost use Rattle.node_disk.specs.OnDisk.{kept_of};
+ghost use Rattle.world.specs.Sites.{kept_at, AreMade};
+
+use crate::site::{Site, made};
+use block_disk::MemDisk;
+use dtx_values::Duplicate;
+use node_disk::Node;
+use redo_record::Place;
+use std::alloc::{AllocError, Global};
+
+/// The node of a number.
+pub fn site_at(sites: &[Site], node: u8) -> Option<&Site>
+    ensures { option_copied result ≡ numbered sites.now node }
+{
+    match node.checked_sub(1) {
+        None => None,
+        Some(place) => sites.get(usize::from(place)),
+    }
+}
+
+/// The node of a number, where it is up.
+pub fn node_at(sites: &[Site], node: u8) -> Option<&Node<MemDisk>>
+    ensures { option_map kept_of (option_copied result) ≡ kept_at sites.now node }
+{
+    match site_at(sites, node) {
+        None => None,
+        Some(site) => site.node(),
+    }
+}
+
+/// Whether the node of a number is up.
+pub fn is_up(sites: &[Site], node: u8) -> bool
+    ensures { result ≡ is_some (kept_at sites.now node) }
+{
+    match site_at(sites, node) {
+        None => false,
+        Some(site) => site.is_up(),
+    }
+}
+
+/// Whether a session of the node of a number has a transaction.
+pub fn has_transaction(sites: &[Site], node: u8, session: u32) -> bool
+    ensures { result ≡ has_transaction_by (kept_at sites.now node) session }
+{
+    match site_at(sites, node) {
+        None => false,
+        Some(site) => site.has_transaction(session),
+    }
+}
+
+/// Whether distributed recovery is enabled at the node of a number, and it is up.
+pub fn is_enabled(sites: &[Site], node: u8) -> bool
+    ensures { result ≡ is_enabled_by (kept_at sites.now node) }
+{
+    match site_at(sites, node) {
+        None => false,
+        Some(site) => site.is_enabled(),
+    }
+}
+
+/// Nodes of these places, each just made on an empty disk. Fails where memory runs out.
+pub fn made_all(alloc: Global, places: &[Place]) -> Result<Vec<Site>, AllocError>
+    ensures count { IfOk result (λ sites. length sites.items ≡ length places.now) }
+    ensures made { IfOk result (λ sites. AreMade places.now sites.items) }
+{
+    let mut sites = Vec::with_capacity(alloc, places.len())?;
+    for place in places {
+        let place = place.copy(alloc)?;
+        sites.push(made(alloc, place)?)?;
+    }
+    Ok(sites)
+}

@@ -1,0 +1,150 @@
+//! A node starts, where no order strikes its disk before its Boot stands.
+ghost use Rattle.std.specs.Prelude.{◌≡◌, ◌+◌, ◌<◌, ◌^◌, ℕ, Some, None, length, OnOk, OnErr};
+ghost use Rattle.node_rules.specs.Words.{numbered, set_numbered};
+ghost use Rattle.run_laws.specs.Disks.{struck};
+ghost use Rattle.run_laws.specs.Due.{Starts};
+ghost use Rattle.run_laws.specs.Lawful.{IsNode};
+ghost use Rattle.run_laws.specs.Telling.{orders_at as orders_of};
+ghost use Rattle.run_trace.specs.Recorded.{Extends, past_of};
+ghost use Rattle.world.specs.declared.site.Site.{Site as SiteBy};
+ghost use Rattle.world.specs.Needs.{due_in, DueNodesAreThere, EachStartsSeldom};
+ghost use Rattle.world.specs.Left.{StillTells};
+ghost use Rattle.world.specs.Linked.{IsLinked};
+ghost use Rattle.world.specs.Orders.{OrdersAre};
+ghost use Rattle.world.specs.Started.{CanStart, TriesAt};
+ghost use Rattle.world.specs.Steps.{StepsOn};
+ghost use Rattle.world.specs.Starts.{HasBegun, HasBooted, IsTriedAt};
+ghost use Rattle.run_laws.specs.Past.{acts, telling_started};
+
+use crate::World;
+use crate::laws::{numbers_stay_small, what_is_due_can_happen};
+use crate::site::Site;
+use book::Happening;
+use dtx_values::Duplicate;
+use record_log::hold_one_list;
+use redo_record::Place;
+use std::alloc::{AllocError, Global};
+use tran_ids::node_name;
+
+// The start of the node of a number is tried, which is of this place.
+fn try_at(alloc: Global, sites: &mut Vec<Site>, node: u8, place: Place) -> Result<(), AllocError>
+    requires there { IsNode (length sites.old.items) node }
+    requires ready { (site : SiteBy) → numbered sites.old.items node ≡ Some site → CanStart site }
+    ensures { OnOk result (TriesAt place node sites.old.items sites.new.items) }
+{
+    sites[usize::from(node) - 1].start(alloc, place)
+}
+
+// The number of the next start of a node, by how often each has started.
+fn next_boot(boots: &[u32], node: u8) -> u32
+    requires there { IsNode (length boots.now) node }
+    requires few { (k : ℕ) → numbered boots.now node ≡ Some k → k + 1 < 2 ^ 32 }
+    ensures { (k : ℕ) → numbered boots.now node ≡ Some k → result ≡ k + 1 }
+{
+    boots[usize::from(node) - 1] + 1
+}
+
+// A node has started so often now.
+fn count_boot(boots: &mut [u32], node: u8, boot: u32)
+    requires { IsNode (length boots.old) node }
+    ensures { boots.new ≡ set_numbered boots.old node boot }
+{
+    boots[usize::from(node) - 1] = boot;
+}
+
+// Nodes that are due are there, and start seldom.
+fn starts_can_be_made()
+    ensures nodes { DueNodesAreThere }
+    ensures starts { EachStartsSeldom }
+{
+    what_is_due_can_happen();
+    numbers_stay_small();
+}
+
+impl World {
+    /// START. An order may strike the start before the record of it stands, and then the node stays down; or after that, and then
+    /// it has started, and stops at once.
+    #[tactic(auto, using(crate::proofs::TryLemmas::try_steps, crate::proofs::FallLemmas::start_steps, crate::proofs::LeftLemmas::left_steps, run_trace::proofs::ExtendsLemmas::extends_steps))]
+    pub(crate) fn start(&mut self, alloc: Global, node: u8) -> Result<(), AllocError>
+        requires linked { IsLinked self.old }
+        requires orders { OrdersAre self.old }
+        requires due { due_in self.old.trace ≡ Starts node }
+        ensures steps { OnOk result (StepsOn self.old self.new) }
+        ensures orders { OnOk result (OrdersAre self.new) }
+        ensures extends { Extends self.old.trace self.new.trace }
+        ensures left { OnErr result (StillTells self.new) }
+    {
+        starts_can_be_made();
+        hold_one_list();
+        let strike = self.telling.orders_at(node).struck(3);
+        self.try_start(alloc, node)?;
+        match strike {
+            None => self.boot(alloc, node),
+            Some(strike) => {
+                if strike.stands {
+                    self.boot_and_fall(alloc, node)
+                } else {
+                    self.halt(alloc, node, false)
+                }
+            }
+        }
+    }
+
+    // The start of a node is tried on its disk.
+    #[tactic(auto, using(crate::proofs::LeftLemmas::left_steps))]
+    fn try_start(&mut self, alloc: Global, node: u8) -> Result<(), AllocError>
+        requires still { StillTells self.old }
+        requires there { IsNode (length self.old.trace.places) node }
+        requires inside { IsNode (length self.old.sites.items) node }
+        requires ready { (site : SiteBy) → numbered self.old.sites.items node ≡ Some site → CanStart site }
+        ensures tried { OnOk result (IsTriedAt node self.old self.new) }
+        ensures left { OnErr result (StillTells self.new) }
+        ensures same { self.new ≡ record self.old { sites = self.new.sites } }
+    {
+        let place = self.trace.places()[usize::from(node) - 1].copy(alloc)?;
+        try_at(alloc, &mut self.sites, node, place)
+    }
+
+    // The record of the start of a node stands: it has started.
+    #[tactic(auto, using(crate::proofs::LeftLemmas::left_steps, run_trace::proofs::ExtendsLemmas::extends_steps))]
+    fn boot(&mut self, alloc: Global, node: u8) -> Result<(), AllocError>
+        requires begun { HasBegun node self.old }
+        ensures booted { OnOk result (HasBooted node self.old self.new) }
+        ensures extends { Extends self.old.trace self.new.trace }
+        ensures left { OnErr result (StillTells self.new) }
+    {
+        let boot = next_boot(&self.boots, node);
+        self.tell_start(alloc, node)?;
+        self.trace.push(alloc, Happening::Started { node, boot })?;
+        count_boot(&mut self.boots, node, boot);
+        self.net.start(node);
+        Ok(())
+    }
+
+    // What is told of a start.
+    fn tell_start(&mut self, alloc: Global, node: u8) -> Result<(), AllocError>
+        requires there { IsNode (length self.old.trace.places) node }
+        ensures tells { OnOk result (self.new.telling ≡ acts (telling_started self.old.trace.places self.old.telling node (struck 3 (orders_of self.old.telling node)))) }
+        ensures lines { self.new.telling.lines ≡ self.old.telling.lines }
+        ensures same { self.new ≡ record self.old { telling = self.new.telling } }
+    {
+        let place = &self.trace.places()[usize::from(node) - 1];
+        let name = node_name(place.names.as_slice(), node);
+        self.telling.start(alloc, node, name)
+    }
+
+    // An order struck the start of a node behind its record: it has started, and stops at once.
+    #[tactic(auto, using(crate::proofs::FallLemmas::fall_steps, crate::proofs::LeftLemmas::left_steps, run_trace::proofs::ExtendsLemmas::extends_steps))]
+    fn boot_and_fall(&mut self, alloc: Global, node: u8) -> Result<(), AllocError>
+        requires begun { HasBegun node self.old }
+        requires due { due_in self.old.trace ≡ Starts node }
+        requires struck { struck 3 (orders_of (past_of self.old.trace).telling node) ≡ None → ⊥ }
+        ensures steps { OnOk result (StepsOn self.old self.new) }
+        ensures orders { OnOk result (OrdersAre self.new) }
+        ensures extends { Extends self.old.trace self.new.trace }
+        ensures left { OnErr result (StillTells self.new) }
+    {
+        self.boot(alloc, node)?;
+        self.halt(alloc, node, true)
+    }
+}
