@@ -5,7 +5,7 @@ use Rattle.std.specs.Option.{option_map_or}
 use Rattle.token_grammar.specs.FirstWord.{has_first_word}
 use Rattle.token_grammar.specs.Steps.{◌>>=◌}
 use Rattle.token_grammar.specs.Text.{IsTextOf, value_in}
-use Rattle.token_grammar.proofs.Options.{bind_some, test_some, chosen, some_is}
+use Rattle.token_grammar.proofs.Options.{bind_some, chosen, some_is}
 use Rattle.token_grammar.proofs.WholeLaws.{text_takes, text_again}
 use Rattle.sql_parse.specs.Statement.{statement_of}
 use Rattle.script_read.specs.declared.before.Before.{Before}
@@ -15,7 +15,7 @@ use Rattle.script_read.specs.declared.why.Why.{Why}
 use Rattle.script_read.specs.declared.why.Why.TheVariants as whys
 use Rattle.script_read.specs.Forms.{at_session, other_command}
 use Rattle.script_read.specs.Parts.{pieces_of, said, is_clean, is_empty, line_ends, begins, first_unclean}
-use Rattle.script_read.specs.Asked.{is_colon, call_of, command_of, is_supported, supported_of, trouble_of, accepted, judged, Asked, asked_at_end, then_asked, judged_then, asked_from, asked, nothing_before, with_command}
+use Rattle.script_read.specs.Asked.{is_colon, call_of, command_of, trouble_of, accepted, judged, Asked, asked_at_end, then_asked, judged_then, asked_from, asked, nothing_before, with_command}
 use Rattle.script_read.specs.Spelled.{SpelledAt, IsCommand, IsGood, AreCommands, IsScript}
 use Rattle.script_read.proofs.FormLaws.{at_session_exact, other_exact}
 
@@ -69,12 +69,6 @@ taken_is names (Some c) d e =
     let u = accepted_is names c d (trouble_of names c) refl e in
     (ap (λ (x : Command). Some x) u.0, subst (λ (x : Command). trouble_of names x ≡ None) u.0 u.1)
 
-supported_is : (names : List (List ℕ)) (text : List ℕ) (c : Command) → supported_of names text ≡ Some c → (command_of names text ≡ Some c) × (is_supported c ≡ true)
-supported_is names text c e =
-    let u = bind_some (command_of names text) (λ d. cond (is_supported d) (Some d) None) c e in
-    let t = test_some (is_supported u.0) u.0 c u.2 in
-    (u.1 ∙ ap (λ (d : Command). Some d) t.1, subst (λ (d : Command). is_supported d ≡ true) t.1 t.0)
-
 not_true : (b : Bool) → not b ≡ false → b ≡ true
 not_true true h = refl
 not_true false h = absurd cc
@@ -82,20 +76,19 @@ not_true false h = absurd cc
 pub judged_takes : (before : Before) (piece : List ℕ) (c : Command) → judged before piece ≡ Ok c → IsGood before c piece
 unfolding judged
 judged_takes before piece c e =
-    elim (chosen (not (is_clean piece)) (Err whys.Byte) (cond (before.others && has_first_word (codes "NODE") (said piece)) (Err whys.LateNode) (taken before.names (supported_of before.names (said piece)))) (Ok c) e) [
+    elim (chosen (not (is_clean piece)) (Err whys.Byte) (cond (before.others && has_first_word (codes "NODE") (said piece)) (Err whys.LateNode) (taken before.names (command_of before.names (said piece)))) (Ok c) e) [
       | inl h ↦ absurd cc
-      | inr h ↦ elim (chosen (before.others && has_first_word (codes "NODE") (said piece)) (Err whys.LateNode) (taken before.names (supported_of before.names (said piece))) (Ok c) h.1) [
+      | inr h ↦ elim (chosen (before.others && has_first_word (codes "NODE") (said piece)) (Err whys.LateNode) (taken before.names (command_of before.names (said piece))) (Ok c) h.1) [
         | inl k ↦ absurd cc
         | inr k ↦
-            let t = taken_is before.names (supported_of before.names (said piece)) c k.1 in
-            let s = supported_is before.names (said piece) c t.0 in
-            record { clean = not_true (is_clean piece) h.0; in_time = k.0; spelled = command_takes before.names (said piece) c s.0; supported = s.1; sound = t.1 }
+            let t = taken_is before.names (command_of before.names (said piece)) c k.1 in
+            record { clean = not_true (is_clean piece) h.0; in_time = k.0; spelled = command_takes before.names (said piece) c t.0; sound = t.1 }
       ]
     ]
 
 pub judged_again : (before : Before) (piece : List ℕ) (c : Command) → IsGood before c piece → judged before piece ≡ Ok c
 unfolding judged
-judged_again before piece c g = rw (g.clean, g.in_time, command_again before.names (said piece) c g.spelled, g.supported, g.sound) refl
+judged_again before piece c g = rw (g.clean, g.in_time, command_again before.names (said piece) c g.spelled, g.sound) refl
 
 -- ---- All of them.
 

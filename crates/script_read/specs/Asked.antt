@@ -34,18 +34,6 @@ call_of names head text = do
 unfoldable pub command_of : List (List ℕ) → List ℕ → Option Command
 command_of names text = option_map_or (λ place. call_of names (take place text) (drop (place + 1) text)) (position is_colon text) (value_in (other_command names) text)
 
--- whether commands of this form are run
-abbrev pub is_supported : Command → Bool
-is_supported (commands.Crash node write how) = false
-is_supported (commands.Fault node call) = false
-is_supported _ = true
-
--- the command that is said, if it is supported
-abbrev pub supported_of : List (List ℕ) → List ℕ → Option Command
-supported_of names text = do
-  command ← command_of names text
-  if is_supported command then Some command else None
-
 -- ---- A command among others.
 
 -- a NODE command
@@ -114,7 +102,7 @@ unfoldable pub judged : Before → List ℕ → Result Command Why
 judged before piece =
     if not (is_clean piece) then Err whys.Byte
     else (if before.others && has_first_word (codes "NODE") (said piece) then Err whys.LateNode
-    else option_map_or (accepted before.names) (supported_of before.names (said piece)) (Err whys.Form))
+    else option_map_or (accepted before.names) (command_of before.names (said piece)) (Err whys.Form))
 
 -- ---- The script.
 

@@ -8,7 +8,7 @@ use Rattle.script_read.specs.declared.command.Command.{Command}
 use Rattle.script_read.specs.declared.command.Command.TheVariants as commands
 use Rattle.script_read.specs.Forms.{at_session, other_command}
 use Rattle.script_read.specs.Parts.{pieces_of, said, is_clean, is_empty}
-use Rattle.script_read.specs.Asked.{is_colon, is_supported, trouble_of, nothing_before, with_command}
+use Rattle.script_read.specs.Asked.{is_colon, trouble_of, nothing_before, with_command}
 
 -- The tokens of the text spell the command. Where its first colon stands here, those before it spell a session, and
 -- what stands behind it is the text of a call.
@@ -26,7 +26,6 @@ pub record IsGood (before : Before) (command : Command) (piece : List ℕ) : Typ
   pub clean : is_clean piece ≡ true
   pub in_time : (before.others && has_first_word (codes "NODE") (said piece)) ≡ false
   pub spelled : IsCommand before.names command (said piece)
-  pub supported : is_supported command ≡ true
   pub sound : trouble_of before.names command ≡ None
 
 -- the bytes before each `;` are these commands, in order, behind those that have come; blanks and comments follow

@@ -97,25 +97,6 @@ fn command_of(alloc: Global, names: &[Name], text: &[u8]) -> Result<Command, Rea
     }
 }
 
-fn is_supported(command: &Command) -> bool
-    ensures { result ≡ spec.is_supported command.now }
-{
-    !matches!(command, Command::Crash { .. } | Command::Fault { .. })
-}
-
-/// The command that is said, if it is supported.
-fn supported_of(alloc: Global, names: &[Name], text: &[u8]) -> Result<Command, ReadErr>
-    requires { length names.now ≤ node_limit }
-    ensures { Gives (λ command. command) result (spec.supported_of names.now text.now) }
-{
-    let command = command_of(alloc, names, text)?;
-    if is_supported(&command) {
-        Ok(command)
-    } else {
-        Err(ReadErr::Bad)
-    }
-}
-
 fn is_node(command: &Command) -> bool
     ensures { result ≡ spec.is_node command.now }
 {
@@ -207,7 +188,7 @@ pub(crate) fn judged(
         return Ok(Err(Why::LateNode));
     }
     let names = before.names.as_slice();
-    match supported_of(alloc, names, &text) {
+    match command_of(alloc, names, &text) {
         Ok(command) => Ok(accepted(names, command)),
         Err(ReadErr::Bad) => Ok(Err(Why::Form)),
         Err(ReadErr::NoMemory) => Err(AllocError),

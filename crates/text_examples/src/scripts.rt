@@ -1,6 +1,6 @@
 //! What no clause says of scripts: each reason for which one is bad, with its line, and scripts that are good.
 use dtx_values::SCRIPT_LIMIT;
-use script_read::{Command, ScriptErr, Why, read_script};
+use script_read::{Command, How, ScriptErr, Why, read_script};
 use std::alloc::Global;
 use wire_msg::KindName;
 
@@ -25,7 +25,7 @@ fn verdict_of(alloc: Global, script: &[u8]) -> Option<Verdict> {
 }
 
 /// Scripts, each with the line of its first bad command and the first reason that holds.
-const BAD: [(&[u8], u32, Why); 33] = [
+const BAD: [(&[u8], u32, Why); 36] = [
     (b"NODE A; NODE A;", 1, Why::Twice),
     (b"NODE A;\n\x01\n;", 2, Why::Byte),
     (b"NODE A;\n\n -- \xc3\n\n STOP A;", 5, Why::Byte),
@@ -50,8 +50,11 @@ const BAD: [(&[u8], u32, Why); 33] = [
     (b"LOSE 4294967296;", 1, Why::Form),
     (b"PUMP 99999999999999999999;", 1, Why::Form),
     (b"LOSE NEXT CLOSE FROM A TO A;", 1, Why::Form),
-    (b"NODE A;\nCRASH A WRITE 1 KEEP 0;", 2, Why::Form),
-    (b"NODE A;\nFAULT A CALL 1;", 2, Why::Form),
+    (b"NODE A;\nCRASH A WRITE 0 KEEP 0;", 2, Why::Form),
+    (b"NODE A;\nCRASH A WRITE 1 LEAVE '0';", 2, Why::Form),
+    (b"NODE A;\nFAULT A CALL 0;", 2, Why::Form),
+    (b"NODE A;\nCRASH B WRITE 1 KEEP 0;", 2, Why::Unknown),
+    (b"NODE A;\nFAULT B CALL 1;", 2, Why::Unknown),
     (b"NODE A; NODE FROM;", 1, Why::Form),
     (b"NODE A; NODE B;\nNODE a;", 2, Why::Twice),
     (b"NODE A;\n\nSTOP B;", 3, Why::Unknown),
@@ -204,4 +207,25 @@ fn a_pump_may_have_a_number(rt: HostRuntime) {
     assert!(rt; matches!(&all, Some(Command::Pump { most: None })));
     let two = last(rt.alloc(), b"PUMP 2;");
     assert!(rt; matches!(&two, Some(Command::Pump { most: Some(2) })));
+}
+
+#[test]
+fn orders_on_disks_are_read(rt: HostRuntime) {
+    let kept = last(rt.alloc(), b"NODE a; CRASH a WRITE 2 KEEP 3;");
+    assert!(rt;
+        matches!(
+            &kept,
+            Some(Command::Crash {
+                node: 1,
+                write: 2,
+                how: How::Keep(3)
+            })
+        )
+    );
+    let left = last(rt.alloc(), b"NODE a; crash a write 1 leave 'fF00';");
+    assert!(rt;
+        matches!(&left, Some(Command::Crash { node: 1, write: 1, how: How::Leave(bytes) }) if bytes.as_slice() == b"\xff\x00")
+    );
+    let failed = last(rt.alloc(), b"NODE a; FAULT a CALL 7;");
+    assert!(rt; matches!(&failed, Some(Command::Fault { node: 1, call: 7 })));
 }

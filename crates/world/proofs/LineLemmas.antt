@@ -226,10 +226,13 @@ module _ (Q : ℕ → Type 0) (ls : List AnswerLine) where
     where
       second : Call
       second = record { command = c; node = node; session = session; statement = Some (stmts.Commit None); follows = Some s }
+
       alone : Call
       alone = record { command = c; node = node; session = session; statement = Some s; follows = None }
+
       command_in : Call → ℕ
       command_in x = x.command
+
       by : (b : Bool) → Q (command_in (if b then second else alone))
       by true = here
       by false = here
@@ -239,6 +242,7 @@ module _ (Q : ℕ → Type 0) (ls : List AnswerLine) where
     where
       new : Call
       new = call_of c node session statement (has_transaction (node_at f node) session)
+
       by : (b : Bool) → AllByRecursion (λ (x : Call). Q x.command) (if b then t.calls ++ new ∷ [] else t.calls)
       by true = all_append (λ (x : Call). Q x.command) t.calls (new ∷ []) tells.calls (call_is c node session statement (has_transaction (node_at f node) session) here, tt)
       by false = tells.calls
@@ -279,8 +283,8 @@ told_of Q p is =
     let P : AnswerLine → Type 0 = λ l. Q l.command in
     all_append P t.lines (page_lines f t) is.lines
     (all_append P (map (line f.command) t.page.own ++ t.page.others) (map (line f.command) (t.page.stops ++ over_line f t))
-      (all_append P (map (line f.command) t.page.own) t.page.others (all_each P (line f.command) t.page.own (λ s. is.running)) (all_weaker (IsCallLine Q) P (λ l of. of.of) t.page.others is.tells.others))
-      (all_each P (line f.command) (t.page.stops ++ over_line f t) (λ s. is.running)))
+    (all_append P (map (line f.command) t.page.own) t.page.others (all_each P (line f.command) t.page.own (λ s. is.running)) (all_weaker (IsCallLine Q) P (λ l of. of.of) t.page.others is.tells.others))
+    (all_each P (line f.command) (t.page.stops ++ over_line f t) (λ s. is.running)))
 
 module _ (Q : ℕ → Type 0) (places : List Place) (asked : List Command) where
   -- no happening but the begin of a command adds a line to those before

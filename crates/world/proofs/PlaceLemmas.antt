@@ -127,10 +127,10 @@ numbered_told p numbered =
     let stops : List Said = t.page.stops ++ over_line f t in
     let own : List AnswerLine = map (line n) t.page.own in
     let front : places_in (own ++ t.page.others) ≡ places_in own =
-        places_append own t.page.others ∙ (ap (λ (cs : List ℕ). places_in own ++ cs) (call_places (λ c. c ≤ n) t.page.others numbered.is.tells.others) ∙ append-nil (places_in own)) in
+    places_append own t.page.others ∙ (ap (λ (cs : List ℕ). places_in own ++ cs) (call_places (λ c. c ≤ n) t.page.others numbered.is.tells.others) ∙ append-nil (places_in own)) in
     let page : places_in (page_lines f t) ≡ places_in own =
-        places_append (own ++ t.page.others) (map (line n) stops) ∙ (ap (λ (cs : List ℕ). places_in (own ++ t.page.others) ++ cs) (plain_places n stops (plain_append t.page.stops (over_line f t) numbered.is.tells.stops (over_plain f t)))
-        ∙ (append-nil (places_in (own ++ t.page.others)) ∙ front)) in
+    places_append (own ++ t.page.others) (map (line n) stops) ∙ (ap (λ (cs : List ℕ). places_in (own ++ t.page.others) ++ cs) (plain_places n stops (plain_append t.page.stops (over_line f t) numbered.is.tells.stops (over_plain f t)))
+    ∙ (append-nil (places_in (own ++ t.page.others)) ∙ front)) in
     let all : places_in (told f t) ≡ places_in t.lines ++ places_in (map (line n) t.page.own) = places_append t.lines (page_lines f t) ∙ ap (λ (cs : List ℕ). places_in t.lines ++ cs) page in
     elim (own_places n t.page.own numbered.is.tells.own) [
       | inl none ↦ subst (λ (cs : List ℕ). IsOnce cs) (sym (all ∙ (ap (λ (cs : List ℕ). places_in t.lines ++ cs) none ∙ append-nil (places_in t.lines)))) numbered.once

@@ -226,7 +226,6 @@ at_two_more h c past =
     let c10 : c - 1 - 1 - 1 ≡ c - 3 = omega arith in
     record { strikes = simp (c1, c2, c3, c4, c5, c6, c7, c8, c9, c10); left = simp (c1, c2, c3, c4, c5, c6, c7, c8, c9, c10); stands = simp (c1, c2, c3, c4, c5, c6, c7, c8, c9, c10, opens_same h); runs = simp (c1, c2, c3, c4, c5, c6, c7, c8, c9, c10) }
 
-
 -- ---- all of them
 
 fault_by : (stop : Option Stop) (c : ℕ) → 1 ≤ c → Agrees stop (Some 1) → Agrees stop (Some 2) → Agrees stop (Some 3) → Agrees stop (Some 4) → ((n : ℕ) → 5 ≤ n → Agrees stop (Some n)) → Agrees stop (Some c)

@@ -217,16 +217,19 @@ module _ (t : Telling) (n : ℕ) (place : Place) (k : Kept) (incoming : Incoming
       cut_before_it : (ps : Option PassesByNode) → option_map passes_as ps ≡ passes k c.input o → stops t.points sides.Before ps ≡ true → bytes_of (disk_of after) ≡ bytes_of (disk_of before)
           → Some (plan_of (disk_of after).orders) ≡ Some (plan_of (disk_of before).orders) → (by : Cut_by) × Was by
       cut_before_it None is reached content plan = absurd cc
-      cut_before_it (Some q) is reached content plan = (By_point (passes_as q).root (passes_as q).before false, record {
-        input = input;
-        tried = tried;
-        passed = passed;
-        cut = cut_by_places t n k c.input o o.wrote (Some (passes_as q)) _ refl (sym is) (point_before t n o.wrote (passes_as q) reached);
-        is_cut = λ same_cut. absurd cc;
-        holds = subst (λ (xs : List RedoRecord). HoldRecords xs (bytes_of (disk_of after))) (sym (append-nil rs)) (subst (λ (bytes : List ℕ). HoldRecords rs bytes) (sym content) holds);
-        starts = starts;
-        orders = (same_plan (orders_at t n) (disk_of before) (disk_of after) orders plan).left;
-      })
+      cut_before_it (Some q) is reached content plan = (
+        By_point (passes_as q).root (passes_as q).before false,
+        record {
+          input = input;
+          tried = tried;
+          passed = passed;
+          cut = cut_by_places t n k c.input o o.wrote (Some (passes_as q)) _ refl (sym is) (point_before t n o.wrote (passes_as q) reached);
+          is_cut = λ same_cut. absurd cc;
+          holds = subst (λ (xs : List RedoRecord). HoldRecords xs (bytes_of (disk_of after))) (sym (append-nil rs)) (subst (λ (bytes : List ℕ). HoldRecords rs bytes) (sym content) holds);
+          starts = starts;
+          orders = (same_plan (orders_at t n) (disk_of before) (disk_of after) orders plan).left;
+        },
+      )
 
       -- by an order that strikes its append
       cut_in_append : (w : Option RedoRecord) → c.tried ≡ w → stops t.points sides.Before c.passes ≡ false → is_some w ≡ true
@@ -236,19 +239,21 @@ module _ (t : Telling) (n : ℕ) (place : Place) (k : Kept) (incoming : Incoming
       cut_in_append (Some r) is none some goes stands =
           let strike = one_strike (orders_at t n) (disk_of before) (disk_of after) orders goes in
           let s : Strike = strike.0 in
-          let wrote : o.wrote ≡ Some r = sym tried ∙ is in
-          (By_strike s.stands, record {
-            input = input;
-            tried = tried;
-            passed = passed;
-            cut = cut_by_places t n k c.input o (Some r) (option_map passes_as c.passes) _ wrote (sym passed) (strike_cuts t n r (option_map passes_as c.passes) s (none_before t.points c.passes none) strike.1);
-            is_cut = λ same_cut. absurd cc;
-            holds = subst (λ (x : Option RedoRecord). HoldRecords (rs ++ option_to_list (stood s.stands x)) (bytes_of (disk_of after))) (sym wrote)
-                (subst (λ (b : Bool). HoldRecords (rs ++ option_to_list (stood b (Some r))) (bytes_of (disk_of after))) (sym strike.2)
-                (stood_if (stands_by_plan (plan_of (disk_of before).orders)) r rs (bytes_of (disk_of after)) (stands rs holds)));
-            starts = starts;
-            orders = subst (λ (x : Option RedoRecord). OrdersLeft (orders_if (is_some x) (orders_at t n)) (disk_of after).orders) (sym wrote) strike.3;
-          })
+          let wrote : o.wrote ≡ Some r = sym tried ∙ is in (
+            By_strike s.stands,
+            record {
+              input = input;
+              tried = tried;
+              passed = passed;
+              cut = cut_by_places t n k c.input o (Some r) (option_map passes_as c.passes) _ wrote (sym passed) (strike_cuts t n r (option_map passes_as c.passes) s (none_before t.points c.passes none) strike.1);
+              is_cut = λ same_cut. absurd cc;
+              holds = subst (λ (x : Option RedoRecord). HoldRecords (rs ++ option_to_list (stood s.stands x)) (bytes_of (disk_of after))) (sym wrote)
+                  (subst (λ (b : Bool). HoldRecords (rs ++ option_to_list (stood b (Some r))) (bytes_of (disk_of after))) (sym strike.2)
+                  (stood_if (stands_by_plan (plan_of (disk_of before).orders)) r rs (bytes_of (disk_of after)) (stands rs holds)));
+              starts = starts;
+              orders = subst (λ (x : Option RedoRecord). OrdersLeft (orders_if (is_some x) (orders_at t n)) (disk_of after).orders) (sym wrote) strike.3;
+            },
+          )
 
       -- by a point after it
       cut_after_it : (ps : Option PassesByNode) (w : Option RedoRecord) → option_map passes_as ps ≡ passes k c.input o → o.wrote ≡ w → stops t.points sides.Before ps ≡ false → stops t.points sides.After ps ≡ true
@@ -256,17 +261,19 @@ module _ (t : Telling) (n : ℕ) (place : Place) (k : Kept) (incoming : Incoming
       cut_after_it None w is wrote none reached stored goes = absurd cc
       cut_after_it (Some q) None is wrote none reached stored goes = absurd (none_after t.points k c.input o (passes_as q) wrote (sym is) reached)
       cut_after_it (Some q) (Some r) is wrote none reached stored goes =
-          let made = subst (λ (x : Option RedoRecord). CallsGoByPlan (turn_calls x) (Some (plan_of (disk_of before).orders)) (Some (plan_of (disk_of after).orders)) false) (tried ∙ wrote) goes in
-          (By_point (passes_as q).root (passes_as q).after true, record {
-            input = input;
-            tried = tried;
-            passed = passed;
-            cut = cut_by_places t n k c.input o (Some r) (Some (passes_as q)) _ wrote (sym is) (point_after t n r (passes_as q) none (no_strike (orders_at t n) (disk_of before) (disk_of after) orders made) reached);
-            is_cut = λ same_cut. absurd cc;
-            holds = subst (λ (x : Option RedoRecord). HoldRecords (rs ++ option_to_list x) (bytes_of (disk_of after))) tried (holds_next rs c.tried (bytes_of (disk_of before)) (bytes_of (disk_of after)) stored holds);
-            starts = starts;
-            orders = (spared (orders_at t n) (disk_of before) (disk_of after) orders made).left;
-          })
+          let made = subst (λ (x : Option RedoRecord). CallsGoByPlan (turn_calls x) (Some (plan_of (disk_of before).orders)) (Some (plan_of (disk_of after).orders)) false) (tried ∙ wrote) goes in (
+            By_point (passes_as q).root (passes_as q).after true,
+            record {
+              input = input;
+              tried = tried;
+              passed = passed;
+              cut = cut_by_places t n k c.input o (Some r) (Some (passes_as q)) _ wrote (sym is) (point_after t n r (passes_as q) none (no_strike (orders_at t n) (disk_of before) (disk_of after) orders made) reached);
+              is_cut = λ same_cut. absurd cc;
+              holds = subst (λ (x : Option RedoRecord). HoldRecords (rs ++ option_to_list x) (bytes_of (disk_of after))) tried (holds_next rs c.tried (bytes_of (disk_of before)) (bytes_of (disk_of after)) stored holds);
+              starts = starts;
+              orders = (spared (orders_at t n) (disk_of before) (disk_of after) orders made).left;
+            },
+          )
 
       by_place : (place_cut : CutAt) → Stops t.points place_cut c.passes → IsTried place_cut c.tried → CutStores place_cut c.tried (bytes_of (disk_of before)) (bytes_of (disk_of after))
           → CutByPlan place_cut c.tried (Some (plan_of (disk_of before).orders)) (Some (plan_of (disk_of after).orders))

@@ -32,11 +32,14 @@ module _ (r : RunSoFar) (script : AreOfAScript r.places r.asked) (shown : Shown)
 
   -- what its command showed
   disk_is : (due : AnswerLine) (lines : List (List ℕ)) → ShowsDiskAt r due.command lines → LineIs (history_of r script) true due (showing due (Some lines))
-  disk_is due lines at = (refl, (
-    at.bytes,
-    ap (λ (ls : List (List ℕ)). said.World (notices.Shown ls)) at.lines_are,
-    λ before later split. subst (λ (n : ℕ). StandsFor at.bytes (records_at (facts_of r.places r.asked (first_facts r.places) before) n)) (sym (ap disk_of at.is)) (at.stands before later split),
-  ))
+  disk_is due lines at = (
+    refl,
+    (
+      at.bytes,
+      ap (λ (ls : List (List ℕ)). said.World (notices.Shown ls)) at.lines_are,
+      λ before later split. subst (λ (n : ℕ). StandsFor at.bytes (records_at (facts_of r.places r.asked (first_facts r.places) before) n)) (sym (ap disk_of at.is)) (at.stands before later split),
+    ),
+  )
 
   shown_is : (due : AnswerLine) (o : Option (List (List ℕ))) → shown_at shown due.command ≡ o → Begins r due.command → is_disk due ≡ true → LineIs (history_of r script) true due (showing due o)
   shown_is due None at begins is =

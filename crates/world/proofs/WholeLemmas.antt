@@ -99,8 +99,7 @@ module _ (w : World) (begun : Begun) (e : Effects) (k : Kept) (during : IsDuring
               ∙ (ap (λ (r : ℕ). telling_turned r (Some k) before.telling u (Some o)) ready.running ∙ ap (λ (tl : Telling). telling_turned w.running (Some k) tl u (Some o)) ready.telling);
           sites = ap (λ (xs : List Site). length xs) sites_same;
           others = λ m other. ap (λ (xs : List Site). numbered xs m) sites_same;
-        } in
-        (
+        } in (
           turn_moves w v begun e.input k By_nothing during.under_way u turn_is pushed refl refl boots_same turns own,
           turn_orders_are w v begun e.input k By_nothing during.under_way u turn_is pushed refl refl boots_same turns own own_orders,
         )
