@@ -8,7 +8,7 @@ processors where it is left out. A script of tests/sweeps makes nodes and tables
 COMMIT is the one that is swept. For each node and each write that the node makes from there on, and one more, a run is made
 in which that write stops the node, and leaves none of its bytes, half of them, all, or as many bytes of 1; and for each disk
 call, and one more, a run in which it fails. The order to do so stands right before the COMMIT. Behind it every node is
-started and RECO runs at each until it has come round. Of each run is asked that
+started and RECO runs at each, some times over. Of each run is asked that
 
     - the rows of all tables are those from before the transaction, or all are those from after it;
     - they are those that the answer of the COMMIT promises, where it promises any;
@@ -70,13 +70,14 @@ def looked(swept):
     return queries, [*(f"SHOW PENDING {node}" for node in swept.nodes), "SHOW NET"]
 
 
-def recovered(swept):
-    """RECO at each node, often enough for an answer to come over the whole tree."""
-    return [f"RECO {node}" for node in swept.nodes] * len(swept.nodes)
-
-
 def each(word, swept):
     return [f"{word} {node}" for node in swept.nodes]
+
+
+def recovered(swept):
+    """Each node is started, and RECO runs at it: often enough for an answer to come over the whole tree, and once more, as
+    the order may strike on the way."""
+    return [*each("START", swept), *each("RECO", swept)] * (len(swept.nodes) + 1)
 
 
 class Plan:
@@ -86,10 +87,9 @@ class Plan:
         self.swept = swept
         self.commands = [*swept.before, *order]
         self.committed = self.add([commit])[0]
-        self.add([*each("START", swept), *recovered(swept)])
+        self.add(recovered(swept))
         self.first = self.look()
-        # the second START is for an order that was left until here and struck the first
-        self.add([*each("STOP", swept), *each("START", swept), *each("START", swept), *recovered(swept)])
+        self.add([*each("STOP", swept), *recovered(swept)])
         self.second = self.look()
 
     def add(self, commands):
