@@ -44,10 +44,9 @@ class Plan:
         self.commands = writer.script()
         self.add([f"JOIN {one} {other}" for one in nodes for other in nodes if one < other])
         self.add(["HOLD OFF"])
-        self.held = len(self.commands)
-        self.add([f"START {node}" for node in nodes] * 2)
-        self.add([f"AT {node} SESSION {DBA}: ALTER SYSTEM ENABLE DISTRIBUTED RECOVERY" for node in nodes])
-        self.add(([f"START {node}" for node in nodes] + [f"RECO {node}" for node in nodes]) * ROUNDS)
+        enable = f"SESSION {DBA}: ALTER SYSTEM ENABLE DISTRIBUTED RECOVERY"
+        recovered = [f"START {node}" for node in nodes] + [f"AT {node} {enable}" for node in nodes]
+        self.add((recovered + [f"RECO {node}" for node in nodes]) * ROUNDS)
         self.pending = self.add([f"SHOW PENDING {node}" for node in nodes])
         self.disks = self.add([f"SHOW DISK {node}" for node in nodes])
         self.book = self.add(["SHOW BOOK"])[0]
