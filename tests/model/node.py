@@ -5,6 +5,7 @@ from __future__ import annotations
 from dataclasses import dataclass, field
 
 import sql
+from disk import Disk, number
 from sql import LEAST, MOST, Id
 
 EXTENT = 4096
@@ -21,10 +22,6 @@ class Refused(Exception):
 
 def extents(length):
     return -(-length // EXTENT)
-
-
-def number(value, size):
-    return value.to_bytes(size, "big")
 
 
 def name_bytes(name):
@@ -183,21 +180,32 @@ class Node:
         self.name = name
         self.place = place
         self.undo = undo
-        self.boot = 1
+        self.boot = 0
         self.scn = 0
         self.is_up = True
         self.tables = {}
         self.book = book
-        self.disk = b"\0"
+        self.disk = Disk()
+        self.disk.bytes = b"\0"
         self.forget()
-        self.append(1, number(1, 4))
+        self.append_boot()
 
     # ---- the disk, stops and starts
 
-    def append(self, kind, fields):
-        """Puts a record on the disk, behind an open gate and its length."""
-        body = bytes([1, kind]) + fields
-        self.disk = self.disk[:-1] + b"\1" + number(len(body), 4) + body + b"\0"
+    def append(self, kind, fields, takes_effect):
+        """Appends a record. It takes effect where it stands on the disk, also where an order struck."""
+        before = len(self.disk.cells()[0])
+        try:
+            self.disk.append(bytes([1, kind]) + fields)
+        finally:
+            if len(self.disk.cells()[0]) > before:
+                takes_effect()
+
+    def append_boot(self):
+        def begins():
+            self.boot += 1
+
+        self.append(1, number(self.boot + 1, 4), begins)
 
     def forget(self):
         """What a stop loses: transactions, their count in each session, locks."""
@@ -214,8 +222,8 @@ class Node:
         if self.is_up:
             raise Refused(f"DTX-13: node {self.name} is running")
         self.is_up = True
-        self.boot += 1
-        self.append(1, number(self.boot, 4))
+        self.disk.load()
+        self.append_boot()
 
     def must_be_up(self):
         if not self.is_up:
@@ -233,21 +241,25 @@ class Node:
         self.locks = {key: holder for key, holder in self.locks.items() if holder != session}
         return self.open.pop(session, None)
 
-    def commit(self, session):
+    def commit(self, session, comment=b""):
         ended = self.end(session)
         if ended and ended.changes:
-            self.decide(ended)
+            self.decide(ended, comment)
 
-    def decide(self, ended):
-        self.scn += 1
+    def decide(self, ended, comment):
+        scn = self.scn + 1
         changes = b"".join(change.bytes() for change in ended.changes)
-        # no parent, no children, no advice, no comment
-        middle = number(self.scn, 6) + bytes(1 + 4 + 1 + 2) + number(len(ended.changes), 4)
-        self.append(7, ended.branch() * 2 + middle + changes)
-        for change in ended.changes:
-            put(self.tables[change.table].rows, change)
-        root = f"{ended.local()} {self.name}.{self.place:08x}.{ended.local()}"
-        self.book.append(f"decided {self.name} {root} scn {self.scn} changes {len(ended.changes)}")
+        # no parent, no children, no advice
+        middle = number(scn, 6) + bytes(1 + 4 + 1) + number(len(comment), 2) + comment + number(len(ended.changes), 4)
+
+        def commits():
+            self.scn = scn
+            for change in ended.changes:
+                put(self.tables[change.table].rows, change)
+            root = f"{ended.local()} {self.name}.{self.place:08x}.{ended.local()}"
+            self.book.append(f"decided {self.name} {root} scn {scn} changes {len(ended.changes)}")
+
+        self.append(7, ended.branch() * 2 + middle + changes, commits)
 
     def view(self, transaction, table):
         rows = dict(table.rows)
@@ -266,6 +278,12 @@ class Node:
 
     # ---- statements
 
+    def halt(self):
+        """What an order that struck leaves of the node: its disk. The lines that tell of it."""
+        self.is_up = False
+        self.forget()
+        return [f"DTX-01: node {self.name} is stopped".encode(), f"node {self.name} stopped".encode()]
+
     def call(self, session, text):
         """The lines that answer a text of a session."""
         self.must_be_up()
@@ -274,7 +292,7 @@ class Node:
         except sql.Outside:
             raise Refused(INVALID) from None
         if isinstance(statement, sql.Commit):
-            self.commit(session)
+            self.commit(session, statement.comment)
             return [b"Commit complete."]
         if isinstance(statement, sql.Rollback):
             self.end(session)
@@ -287,9 +305,13 @@ class Node:
         self.commit(session)
         if statement.table in self.tables:
             raise Refused("ORA-00955: name is already used by an existing object")
-        table = self.tables[statement.table] = Table(statement.table, statement.columns)
-        self.book.append(f"made {self.name} {table.name}")
-        self.append(2, table.record())
+        table = Table(statement.table, statement.columns)
+
+        def is_made():
+            self.tables[table.name] = table
+            self.book.append(f"made {self.name} {table.name}")
+
+        self.append(2, table.record(), is_made)
         return [b"Table created."]
 
     def run(self, session, transaction, statement):
