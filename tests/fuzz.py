@@ -13,7 +13,8 @@ joined, nothing is held, and all is recovered. Of each run is asked that
     - the book is true: branches end as their transaction was decided, and by the number of that decision; a mixed outcome is
       told exactly where a forced one differs from the decision;
     - the records on each disk are those of which the book tells, in that order;
-    - once all is recovered, no branch is in doubt and none is collecting.
+    - once all is recovered, no branch is in doubt and none is collecting, and the rows at each node are those that the committed
+      changes on its disk leave; they stay so when every node is stopped and started again.
 
 A script on which something fails is written to fuzz_SEED.dtx, and its line says what. The last line is `N runs, M failed`; the
 exit status is 1 where one failed.
@@ -26,11 +27,10 @@ import pathlib
 import sys
 from functools import partial
 
-from fuzz_scripts import DBA, Writer
+from fuzz_scripts import DBA, TABLE, Writer
+from records import BOOKED, rows_of
 from runs import PROGRAM, Unended, disk_of, records_of, run
 
-# what the book calls a record of this kind
-BOOKED = {2: "made", 6: "sealed", 7: "decided", 8: "ended", 9: "forced", 10: "met"}
 ROUNDS = 12  # of recovery: for every order of a script that may still strike on the way
 
 
@@ -50,6 +50,11 @@ class Plan:
         self.pending = self.add([f"SHOW PENDING {node}" for node in nodes])
         self.disks = self.add([f"SHOW DISK {node}" for node in nodes])
         self.book = self.add(["SHOW BOOK"])[0]
+        queries = [f"AT {node} SESSION {DBA}: SELECT K, V FROM {TABLE}" for node in nodes]
+        self.rows = self.add(queries)
+        # an order that is left strikes one START, or two
+        self.add([f"STOP {node}" for node in nodes] + [f"START {node}" for node in nodes] * 3)
+        self.later_rows = self.add(queries)
 
     def add(self, commands):
         """Adds commands, and gives their numbers."""
@@ -140,6 +145,21 @@ def check_disks(plan, ran, book):
         need(words == [word for of, word in book.words if of == node], f"the disk of {node} and the book differ")
 
 
+def shown(value):
+    return "NULL" if value is None else str(value)
+
+
+def check_rows(plan, ran):
+    """The rows are those that the committed changes on the disks leave."""
+    for node, disk, *queries in zip(plan.nodes, plan.disks, plan.rows, plan.later_rows):
+        rows = rows_of(records_of(disk_of(ran.texts[disk]))).get(TABLE)
+        if rows is None:
+            continue
+        due = [f"{shown(key)}|{shown(row[1])}" for key, row in sorted(rows.items())]
+        for query in queries:
+            need(ran.texts[query][1:-1] == due, f"the rows of {node} are not {due}, but {ran.texts[query]}")
+
+
 def check_pending(plan, ran):
     """Whoever could be recovered is."""
     for number in plan.pending:
@@ -159,6 +179,7 @@ def try_seed(program, seed):
         book = Book([] if lines == ["no entries"] else lines)
         check_disks(plan, ran, book)
         check_pending(plan, ran)
+        check_rows(plan, ran)
     except (Wrong, Unended) as wrong:
         pathlib.Path(f"fuzz_{seed}.dtx").write_text("".join(f"{command};\n" for command in plan.commands))
         return f"FAIL {seed}: {wrong}"

@@ -7,6 +7,7 @@ KINDS = (
     " ROLLBACK ASK"
 ).split()
 BYTES = ["00", "01", "02", "ff", "0101", "0001", "01000000", "0100000001", "01ffffffff", "01" * 40, "00" * 40]
+TABLE = "T"  # each node has a table of this name, mostly
 DBA = 63  # a session that changes no rows
 TRANSACTIONS = 3  # so many client sessions of a node change rows
 KEYS = 4
@@ -66,9 +67,9 @@ class Writer:
     def prepared(self):
         """A table at most nodes, a link from each to some others, and synonyms for what stands behind these."""
         for name in self.nodes:
-            self.links[name] = ["T"]
+            self.links[name] = [TABLE]
             if self.chance(0.95):
-                yield f"AT {name} SESSION 1: CREATE TABLE T (K NUMBER PRIMARY KEY, V NUMBER, W VARCHAR2(2000))"
+                yield f"AT {name} SESSION 1: CREATE TABLE {TABLE} (K NUMBER PRIMARY KEY, V NUMBER, W VARCHAR2(2000))"
         for name in self.nodes:
             for other in self.nodes:
                 if other != name and self.chance(0.75) or other == name and self.chance(0.1):
