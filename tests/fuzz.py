@@ -10,11 +10,12 @@ joined, nothing is held, and all is recovered. Of each run is asked that
 
     - it ends within a minute, with status 0;
     - every command has an answer, and every call that was waiting has a second one;
-    - the book is true: branches end as their transaction was decided, and by the number of that decision; a mixed outcome is
-      told exactly where a forced one differs from the decision;
+    - the book is true: branches end as their transaction was decided, and by the number of that decision; a mixed outcome
+      is told exactly where a forced one differs from the decision; the numbers at a node never fall, and each decision has a
+      new one;
     - the records on each disk are those of which the book tells, in that order;
-    - once all is recovered, no branch is in doubt and none is collecting, and the rows at each node are those that the committed
-      changes on its disk leave; they stay so when every node is stopped and started again.
+    - once all is recovered, no branch is in doubt and none is collecting, and the rows at each node are those that the
+      committed changes on its disk leave; they stay so when every node is stopped and started again.
 
 A script on which something fails is written to fuzz_SEED.dtx, and its line says what. The last line is `N runs, M failed`; the
 exit status is 1 where one failed.
@@ -25,6 +26,7 @@ import multiprocessing
 import os
 import pathlib
 import sys
+from collections import defaultdict
 from functools import partial
 
 from fuzz_scripts import DBA, TABLE, Writer
@@ -91,6 +93,7 @@ class Book:
         self.ended = set()
         self.rolled_back = set()  # global ids
         self.words = []  # node and word of each entry
+        self.clocks = defaultdict(int)  # by node: the greatest number so far
         for line in lines:
             self.take(line.split(" "))
         need(not self.rolled_back & self.decided.keys(), "a transaction is decided, and a branch of it rolled back")
@@ -101,17 +104,24 @@ class Book:
         if word != "made":
             getattr(self, f"take_{word}")((node, rest[0]), rest[1:])
 
+    def rises(self, node, scn):
+        self.clocks[node] = max(self.clocks[node], scn)
+
     def take_sealed(self, branch, rest):
         need(branch not in self.sealed, f"{branch} is sealed twice")
         root, scn = rest[0], int(rest[2])
         need(root not in self.decided, f"{branch} is sealed after the decision")
+        need(scn >= self.clocks[branch[0]], f"{branch} is sealed with a number that is too low")
+        self.rises(branch[0], scn)
         self.sealed[branch] = (root, scn)
 
     def take_decided(self, branch, rest):
         root, scn = rest[0], int(rest[2])
         need(root not in self.decided, f"{root} is decided twice")
         need(branch not in self.sealed, f"the site {branch} was sealed")
-        need(all(scn > other for of, other in self.sealed.values() if of == root), f"the commit number of {root} is too low")
+        others = [other for of, other in self.sealed.values() if of == root]
+        need(scn > max([self.clocks[branch[0]], *others]), f"the commit number of {root} is too low")
+        self.rises(branch[0], scn)
         self.decided[root] = scn
 
     def take_forced(self, branch, rest):
@@ -136,6 +146,7 @@ class Book:
             self.rolled_back.add(root)
         else:
             need(self.decided.get(root) == int(rest[2]), f"{branch} is committed by a number that nobody decided")
+            self.rises(branch[0], int(rest[2]))
 
 
 def check_disks(plan, ran, book):

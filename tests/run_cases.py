@@ -13,8 +13,7 @@ PROGRAM is the proved program where it is left out, which ./prove builds. A case
 
 or a pair NAME.dtx and NAME.out, with the status 0, as each example is. A scenario of tests/plays is a folder with a script and
 what is expected, and has the status 0 too; it asks for the book where the last line is one of the book. Each failure is one
-line. The last line is `N passed, M failed`; the exit
-status is 1 where one failed.
+line. The last line is `N passed, M failed`; the exit status is 1 where one failed.
 """
 
 import pathlib

@@ -118,6 +118,8 @@ class Undisturbed:
         self.swept = swept
         self.before = self.rows(program, swept.commit.replace("COMMIT", "ROLLBACK"))
         self.after = self.rows(program, swept.commit)
+        if self.before == self.after:
+            sys.exit(f"{swept.name} changes no row")
         disks = each("SHOW DISK", swept)
         at_first = run(program, [*swept.before, *disks])
         at_last = run(program, [*swept.before, swept.commit, *recovered(swept), *disks])
