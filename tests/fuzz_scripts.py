@@ -19,7 +19,7 @@ class Writer:
     def __init__(self, seed):
         self.random = random.Random(seed)
         self.nodes = [f"N{place}" for place in range(1, self.pick([1, 2, 2, 3, 3, 4, 5]) + 1)]
-        self.links = {}  # of each node, the tables that it can name
+        self.names = {}  # of each node, the tables that it can name, here or behind a link
         self.messages = 0  # about so many were sent
         self.opened = 0  # about so many branches of other nodes began at the node that has most
         self.keys = KEYS  # the last key that was thought of
@@ -65,33 +65,32 @@ class Writer:
         return " ".join(parts)
 
     def prepared(self):
-        """A table at most nodes, a link from each to some others, and synonyms for what stands behind these."""
+        """A table at most nodes, links between most, and synonyms for what stands behind a link, synonyms among it."""
+        local = {name: [TABLE] for name in self.nodes}
+        linked = {name: [other for other in self.nodes if self.chance(0.1 if other == name else 0.75)] for name in self.nodes}
         for name in self.nodes:
-            self.links[name] = [TABLE]
             if self.chance(0.95):
                 yield f"AT {name} SESSION 1: CREATE TABLE {TABLE} (K NUMBER PRIMARY KEY, V NUMBER, W VARCHAR2(2000))"
+            for other in linked[name]:
+                yield f"AT {name} SESSION 1: CREATE DATABASE LINK L{other} USING '{other}'"
+        for number in range(self.random.randint(0, 3 * len(self.nodes))):
+            name = self.node()
+            if linked[name]:
+                other = self.pick(linked[name])
+                yield f"AT {name} SESSION 1: CREATE SYNONYM S{number} FOR {self.pick(local[other])}@L{other}"
+                local[name].append(f"S{number}")
         for name in self.nodes:
-            for other in self.nodes:
-                if other != name and self.chance(0.75) or other == name and self.chance(0.1):
-                    yield f"AT {name} SESSION 1: CREATE DATABASE LINK L{other} USING '{other}'"
-                    self.links[name].append(f"T@L{other}")
-        for name in self.nodes:
-            reached = [link.split("@")[1] for link in self.links[name][1:]]
-            for link in reached:
-                if self.chance(0.4):
-                    yield f"AT {name} SESSION 1: CREATE SYNONYM S{link} FOR T@{link}"
-                    for other in self.nodes:
-                        if f"T@L{name}" in self.links[other]:
-                            self.links[other].append(f"S{link}@L{name}")
+            behind = [f"{known}@L{other}" for other in linked[name] for known in local[other]]
+            self.names[name] = local[name] + behind
 
     # ---- statements
 
     def table(self, name):
         """A table by a name that the node knows, mostly."""
         if self.chance(0.02):
-            return self.pick(["U", "T@NOWHERE", "SLN1"])
+            return self.pick(["U", "T@NOWHERE", "S0"])
         self.messages += 2
-        return self.pick(self.links[name])
+        return self.pick(self.names[name])
 
     def key(self):
         """A key that is taken often, or one that is free."""
