@@ -28,6 +28,7 @@ FORMS = (
     "LOSE NEXT kind FROM node TO node",
     "STOP node",
     "START node",
+    "FAULT node CALL count",
     "HOLD ON",
     "HOLD OFF",
     "DELIVER num",
@@ -43,7 +44,8 @@ FORMS = (
     "SHOW DISK node",
 )
 HEAD = "AT node SESSION session"
-RANGES = {"num": (0, LIMIT), "session": (1, 64)}
+RANGES = {"num": (0, LIMIT), "count": (1, LIMIT), "session": (1, 64)}
+HEX = re.compile("([0-9A-Fa-f]{2})+")
 OPTIONS = {"STRENGTH": (0, 255), "LINKS": (1, 64), "UNDO": (1, 1024)}
 
 
@@ -163,6 +165,17 @@ def node(found):
     return ["NODE", made, options.get("STRENGTH", 1), options.get("LINKS", 4), options.get("UNDO", 64)]
 
 
+def crash(found):
+    """The node of CRASH, the write, and what is left of it: so many bytes, or a list of them."""
+    need(len(found) == 6)
+    asked = ["CRASH", *of_form("node WRITE count".split(), found[1:4])]
+    asked.insert(2, "WRITE")
+    if found[4] == "KEEP":
+        return [*asked, "KEEP", ranged(found[5], 0, LIMIT)]
+    need(found[4] == "LEAVE" and isinstance(found[5], tuple) and HEX.fullmatch(found[5][0]))
+    return [*asked, "LEAVE", str(list(bytes.fromhex(found[5][0])))]
+
+
 def is_statement(text):
     """Whether a text is COMMIT or ROLLBACK. The scripts that are compared have no other statements."""
     try:
@@ -186,6 +199,8 @@ def command(text):
     found = tokens(text)
     if found[:1] == ["NODE"]:
         return node(found)
+    if found[:1] == ["CRASH"]:
+        return crash(found)
     for form in FORMS:
         try:
             return [*first_words(form), *of_form(form.split(), found)]
