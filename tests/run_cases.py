@@ -12,9 +12,8 @@ PROGRAM is the proved program where it is left out, which ./prove builds. A case
     status      the exit status
 
 or a pair NAME.dtx and NAME.out, with the status 0, as each example is. A scenario of tests/plays is a folder with a script and
-what is expected, and has the status 0 too; it asks for the book where the last line is one of the book. Those with a command
-that the program does not take yet are left out. Each failure is one line. The last line is `N passed, M failed`; the exit
-status is 1 where one failed.
+what is expected, and has the status 0 too; it asks for the book where the last line is one of the book. Each failure is one
+line. The last line is `N passed, M failed`; the exit status is 1 where one failed.
 """
 
 import pathlib
@@ -24,8 +23,6 @@ import sys
 TOP = pathlib.Path(__file__).resolve().parent.parent
 # what the expression of a make-input may call
 NAMES = {"__builtins__": {"range": range}}
-# commands of the grammar that the program refuses for now
-NOT_YET = (b"CRASH ", b"FAULT ")
 
 
 def words_of(folder):
@@ -49,10 +46,8 @@ def cases():
     for script in sorted([*TOP.glob("tests/cases/**/*.dtx"), *TOP.glob("examples/*.dtx")]):
         yield script.relative_to(TOP), script.read_bytes(), [], script.with_suffix(".out").read_bytes(), 0
     for script in sorted(TOP.glob("tests/plays/scenarios/*/*/script")):
-        data = script.read_bytes()
-        if not any(line.startswith(NOT_YET) for line in data.splitlines()):
-            expected = (script.parent / "expected").read_bytes()
-            yield script.parent.relative_to(TOP), data, book_words(expected), expected, 0
+        expected = (script.parent / "expected").read_bytes()
+        yield script.parent.relative_to(TOP), script.read_bytes(), book_words(expected), expected, 0
 
 
 def why_wrong(program, data, words, expected, status):
