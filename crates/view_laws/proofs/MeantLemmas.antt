@@ -10,7 +10,7 @@ use Rattle.dtx_values.proofs.ValueOrder.{equal_from_same, same_from_equal}
 use Rattle.sql_statement.specs.declared.statement.Stmt.{Stmt}
 use Rattle.sql_check.specs.Checks.{checked}
 use Rattle.sql_eval.specs.declared.keyed.Keyed.{Keyed}
-use Rattle.sql_eval.specs.Rows.{get, keys_of, put_key}
+use Rattle.sql_eval.specs.Rows.{keys_of, put_key}
 use Rattle.sql_eval.specs.Meaning.{examined, examined_by, fixed_key, written, meant, meant_over, unless}
 use Rattle.sql_eval.specs.Laws.{HasOneKey, AreKeyed, at_key}
 use Rattle.sql_eval.proofs.KeyLaws.{meant_at_key, written_at_key}
@@ -18,7 +18,8 @@ use Rattle.sql_eval.proofs.RowLaws.{rows_are_keyed}
 use Rattle.sql_eval.proofs.TableLaws.{tables_have_one_key}
 use Rattle.view_laws.specs.Views.{AreCertain, AreLocked, SeesAlike}
 use Rattle.view_laws.specs.ViewLaws.{MeansAlike, MeantAlike, WritesAlike, ExaminesAlike, AvoidsAlike, EitherSeesAlike}
-use Rattle.view_laws.proofs.OrderLemmas.{with_key, at_key_is, same_rows}
+use Rattle.row_store.proofs.AtKey.{with_key, at_key_is}
+use Rattle.view_laws.proofs.OrderLemmas.{same_rows}
 
 -- ---- keys
 

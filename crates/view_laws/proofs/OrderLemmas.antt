@@ -1,5 +1,5 @@
--- Rows in the order of their keys: changes keep the order, a look-up finds the one row at a key, and two such lists that have
--- the same row at each key are one list.
+-- Rows in the order of their keys: changes keep the order, and two such lists that have the same row at each
+-- key are one list.
 use Rattle.std.proofs.Common.{◌≡◌, ℕ, Bool, true, false, cond, not, List, [], ◌∷◌, Option, None, Some, refl, sym, ap, subst, ◌∙◌}
 use Rattle.std.specs.declared.cmp.Ordering.{Ordering}
 use Rattle.std.specs.declared.cmp.Ordering.TheVariants.{Less, Equal, Greater}
@@ -15,7 +15,6 @@ use Rattle.dtx_values.proofs.ValueOrder.{same_is, same_from_equal, equal_from_sa
 use Rattle.sql_check.specs.Words.{same_text}
 use Rattle.sql_eval.specs.declared.keyed.Keyed.{Keyed}
 use Rattle.sql_eval.specs.Rows.{get, put, without, set_to, change_one, apply, keys_of}
-use Rattle.sql_eval.specs.Laws.{at_key}
 use Rattle.view_laws.specs.Views.{AreInKeyOrder}
 use Rattle.view_laws.specs.ViewLaws.{ChangesKeepOrder}
 
@@ -89,31 +88,11 @@ none_below : (k : Value) (rows : List Keyed) → IsBelow k rows → get rows k �
 none_below k [] all = refl
 none_below k (r ∷ rs) all = ap (λ (b : Bool). cond b (Some r.row) (get rs k)) (sym (same_is r.key k) ∙ ap is_eq all.0) ∙ none_below k rs all.1
 
-none_at : (k : Value) (rows : List Keyed) → IsBelow k rows → at_key rows k ≡ []
-none_at k [] all = refl
-none_at k (r ∷ rs) all = ap (λ (b : Bool). cond b (r ∷ at_key rs k) (at_key rs k)) (sym (same_is r.key k) ∙ ap is_eq all.0) ∙ none_at k rs all.1
-
 first_found : (r : Keyed) (rs : List Keyed) → get (r ∷ rs) r.key ≡ Some r.row
 first_found r rs = ap (λ (b : Bool). cond b (Some r.row) (get rs r.key)) (same_from_equal r.key r.key refl)
 
 row_is : (r q : Keyed) → r.key ≡ q.key → r.row ≡ q.row → r ≡ q
 row_is r q key row i = record { key = key i; row = row i }
-
--- a row that was found, with its key
-abbrev pub with_key : Value → Option Row → List Keyed
-with_key k None = []
-with_key k (Some row) = record { key = k; row = row } ∷ []
-
-pub at_key_is : (rows : List Keyed) (k : Value) → AreInKeyOrder rows → at_key rows k ≡ with_key k (get rows k)
-unfolding IsStrictlySortedBy
-at_key_is [] k order = refl
-at_key_is (r ∷ rs) k order = by (same_value r.key k) refl (at_key_is rs k order.1)
-  where
-    by : (b : Bool) → same_value r.key k ≡ b → at_key rs k ≡ with_key k (get rs k) → cond b (r ∷ at_key rs k) (at_key rs k) ≡ with_key k (cond b (Some r.row) (get rs k))
-    by true same rest =
-        let key = equal_from_same r.key k same in
-        ap (λ (more : List Keyed). r ∷ more) (none_at k rs (subst (λ (q : Value). IsBelow q rs) key order.0)) ∙ ap (λ (x : Keyed). x ∷ []) (row_is r (record { key = k; row = r.row }) key refl)
-    by false same rest = rest
 
 -- ---- two lists that have the same row at each key
 
