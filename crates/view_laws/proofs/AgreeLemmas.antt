@@ -1,7 +1,6 @@
 -- After a change a key has what the change leaves there, or else the row that it had; so two lists of rows agree after the
 -- same changes where they agreed before.
 use Rattle.std.proofs.Common.{◌≡◌, ℕ, Bool, true, false, cond, not, List, [], ◌∷◌, Option, None, Some, refl, sym, ap, subst, ◌∙◌, true≢false}
-use Rattle.std.specs.List.{list_any}
 use Rattle.dtx_values.specs.declared.value.Value.{Value}
 use Rattle.dtx_values.specs.declared.row.Row.{Row}
 use Rattle.dtx_values.specs.declared.row.Change.{Change}
@@ -10,7 +9,6 @@ use Rattle.dtx_values.proofs.ValueOrder.{equal_from_same}
 use Rattle.sql_check.specs.Words.{same_text}
 use Rattle.sql_eval.specs.declared.keyed.Keyed.{Keyed}
 use Rattle.sql_eval.specs.Rows.{get, put, without, set_to, change_one, apply}
-use Rattle.view_laws.specs.Views.{AgreeBut}
 use Rattle.view_laws.specs.ViewLaws.{ChangesKeepAgreement}
 
 twice : {X : Type 0} (b : Bool) (x y z : X) → cond b x (cond b y z) ≡ cond b x z

@@ -102,14 +102,14 @@ module _ (s : Stmt) (t : Table) (doubtful locked : List Value) (rows more : List
   means =
       by_key (meant_over s t rows ≡ meant_over s t more)
       (λ key fixed certain.
-          meant_at_key s t rows key one_key keyed_rows fixed ∙ ap (meant_over s t) (same_at key certain) ∙ sym (meant_at_key s t more key one_key keyed_more fixed))
+      meant_at_key s t rows key one_key keyed_rows fixed ∙ ap (meant_over s t) (same_at key certain) ∙ sym (meant_at_key s t more key one_key keyed_more fixed))
       (λ fixed none. ap (meant_over s t) (same_view none))
 
   writes : written s t rows ≡ written s t more
   writes =
       by_key (written s t rows ≡ written s t more)
       (λ key fixed certain.
-          written_at_key s t rows key one_key keyed_rows fixed ∙ ap (written s t) (same_at key certain) ∙ sym (written_at_key s t more key one_key keyed_more fixed))
+      written_at_key s t rows key one_key keyed_rows fixed ∙ ap (written s t) (same_at key certain) ∙ sym (written_at_key s t more key one_key keyed_more fixed))
       (λ fixed none. ap (written s t) (same_view none))
 
   module _ (others : List Value) where

@@ -1,6 +1,6 @@
 -- Rows in the order of their keys: changes keep the order, and two such lists that have the same row at each
 -- key are one list.
-use Rattle.std.proofs.Common.{◌≡◌, ℕ, Bool, true, false, cond, not, List, [], ◌∷◌, Option, None, Some, refl, sym, ap, subst, ◌∙◌}
+use Rattle.std.proofs.Common.{◌≡◌, Bool, true, false, cond, not, List, [], ◌∷◌, Option, None, Some, refl, sym, ap, subst, ◌∙◌}
 use Rattle.std.specs.declared.cmp.Ordering.{Ordering}
 use Rattle.std.specs.declared.cmp.Ordering.TheVariants.{Less, Equal, Greater}
 use Rattle.std.specs.Ordering.{is_eq, ordering_reverse}
@@ -14,7 +14,7 @@ use Rattle.dtx_values.proofs.RowLookups.{values_total, values_exact}
 use Rattle.dtx_values.proofs.ValueOrder.{same_is, same_from_equal, equal_from_same, below_less, apart_less}
 use Rattle.sql_check.specs.Words.{same_text}
 use Rattle.sql_eval.specs.declared.keyed.Keyed.{Keyed}
-use Rattle.sql_eval.specs.Rows.{get, put, without, set_to, change_one, apply, keys_of}
+use Rattle.sql_eval.specs.Rows.{get, put, without, set_to, change_one, keys_of}
 use Rattle.view_laws.specs.Views.{AreInKeyOrder}
 use Rattle.view_laws.specs.ViewLaws.{ChangesKeepOrder}
 

@@ -21,7 +21,7 @@ use Rattle.sql_eval.specs.declared.meant.Meant.{Meant}
 use Rattle.sql_eval.specs.declared.meant.Meant.TheVariants.{Gives, Changes, Refused}
 use Rattle.sql_eval.specs.Meaning.{examined, written, meant, meant_over, unless}
 use Rattle.sql_eval.proofs.MadeLemmas.{count_is_length}
-use Rattle.row_locks.specs.Locks.{Lock, is_lock_on, holder_of, keys_held, named}
+use Rattle.row_locks.specs.Locks.{Lock, is_lock_on, keys_held, named}
 use Rattle.row_locks.specs.Held.{in_doubt_one, doubt_on}
 use Rattle.stmt_run.specs.declared.ran.Ran.{Ran}
 use Rattle.stmt_run.specs.declared.ran.Ran.TheVariants.{Refuses, Reads, Writes}

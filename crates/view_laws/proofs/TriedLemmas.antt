@@ -1,8 +1,6 @@
 -- The tried views, by computation.
-use Rattle.std.proofs.Common.{◌≡◌, Bool, true, false, cond, List, ◌∷◌, [], None, Some, refl, sym, arith}
-use Rattle.std.specs.List.{list_any}
+use Rattle.std.proofs.Common.{refl, arith}
 use Rattle.std.specs.List.Sorted.{IsStrictlySortedBy}
-use Rattle.dtx_values.specs.Order.{same_value}
 use Rattle.dtx_values.proofs.ValueOrder.{same_is}
 use Rattle.sql_check.specs.Checks.{checked}
 use Rattle.sql_eval.specs.Meaning.{examined, written, meant_over, meant}

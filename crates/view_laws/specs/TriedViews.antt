@@ -11,7 +11,6 @@ use Rattle.tran_ids.specs.Texts.{local_text}
 use Rattle.sql_statement.specs.declared.statement.Stmt.{Stmt}
 use Rattle.sql_statement.specs.declared.statement.Stmt.TheVariants as stmts
 use Rattle.sql_statement.specs.declared.query.Picked.TheVariants as picks
-use Rattle.sql_statement.specs.declared.condition.Cond.{Cond}
 use Rattle.sql_statement.specs.declared.condition.Cond.TheVariants as conds
 use Rattle.sql_statement.specs.declared.condition.Sign.TheVariants as signs
 use Rattle.sql_check.specs.Refusals.{ora}
