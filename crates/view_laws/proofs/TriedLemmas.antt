@@ -37,6 +37,7 @@ the_tried_views = record {
   first_left = refl;
   counts = refl;
   counts_left = refl;
+  misses = refl;
   examines = refl;
   reads = refl;
   refuses = refl;

@@ -89,8 +89,8 @@ first_row = Gives (row_set (codes "K" ∷ codes "V" ∷ []) ((number 1 ∷ numbe
 abbrev pub counted : ℕ → Meant
 counted n = Gives (row_set (one (codes "COUNT(*)")) (one (one (number n))))
 
--- The row at 1 is the same in both views. COUNT(*) is not, so it must examine a key in doubt: it examines 2, where no row stands in the
--- node's view, for 2 is locked. The node gives the row at 1 and refuses COUNT(*) with ORA-01591.
+-- The row at 1 is the same in both views, and COUNT(*) is not. It examines 2, at which no row stands in the node's view, because 2 is
+-- locked. The node gives the row at 1 and refuses COUNT(*) with ORA-01591.
 pub record TheTriedViews : Type 0 where
   pub left : apply (codes "T") held_back changes ≡ committed
   pub alike : SeesAlike (row_at 1) table doubtful doubtful held_back committed
@@ -99,6 +99,7 @@ pub record TheTriedViews : Type 0 where
   pub first_left : meant (row_at 1) table committed ≡ first_row
   pub counts : meant count table held_back ≡ counted 2
   pub counts_left : meant count table committed ≡ counted 3
+  pub misses : examined count table held_back [] ≡ number 1 ∷ number 3 ∷ []
   pub examines : examined count table held_back (keys_held ground.locks (codes "T")) ≡ number 1 ∷ number 2 ∷ number 3 ∷ []
   pub reads : ran_over ground (row_at 1) table ≡ Reads (row_set (codes "K" ∷ codes "V" ∷ []) ((number 1 ∷ number 10 ∷ []) ∷ [])) []
   pub refuses : ran_over ground count table ≡ Refuses (ora 1591 (one (local_text branch)))
