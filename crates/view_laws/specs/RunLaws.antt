@@ -34,6 +34,7 @@ RunDoesAsMeant g s t (Refuses r) = Unit {0}
 RunDoesAsMeant g s t (Reads rows keys) = IsRunOf g s t (Gives rows) keys
 RunDoesAsMeant g s t (Writes d cs keys undo) = IsRunOf g s t (Changes d (length cs) cs) keys
 
+-- so it is with every run
 abbrev pub RunsDoAsMeant : Type 0
 RunsDoAsMeant = (g : Ground) (s : Stmt) (t : Table) (r : Ran) → ran_over g s t ≡ r → RunDoesAsMeant g s t r
 
@@ -57,6 +58,7 @@ RunIsMeantOver s t doubtful more (Refuses r) = Unit {0}
 RunIsMeantOver s t doubtful more (Reads rows keys) = IsMeantOver s t doubtful more (Gives rows) keys
 RunIsMeantOver s t doubtful more (Writes d cs keys undo) = IsMeantOver s t doubtful more (Changes d (length cs) cs) keys
 
+-- so it is with every run and every such view
 abbrev pub RunsMeanAlike : Type 0
 RunsMeanAlike = (g : Ground) (s : Stmt) (t : Table) (doubtful : List Value) (more : List Keyed) (r : Ran) → IsViewBeside g t doubtful more
     → ran_over g s t ≡ r → RunIsMeantOver s t doubtful more r
