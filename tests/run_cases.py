@@ -46,9 +46,8 @@ def cases():
     for script in sorted([*TOP.glob("tests/cases/**/*.dtx"), *TOP.glob("examples/*.dtx")]):
         yield script.relative_to(TOP), script.read_bytes(), [], script.with_suffix(".out").read_bytes(), 0
     for script in sorted(TOP.glob("tests/plays/scenarios/*/*/script")):
-        data = script.read_bytes()
         expected = (script.parent / "expected").read_bytes()
-        yield script.parent.relative_to(TOP), data, book_words(expected), expected, 0
+        yield script.parent.relative_to(TOP), script.read_bytes(), book_words(expected), expected, 0
 
 
 def why_wrong(program, data, words, expected, status):

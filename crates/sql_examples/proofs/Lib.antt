@@ -1,2 +1,3 @@
 mod QueryLaws
+mod StoreLemmas
 mod Staff

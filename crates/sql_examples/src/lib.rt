@@ -19,4 +19,6 @@ mod runs;
 #[cfg(test)]
 mod statements;
 #[cfg(test)]
+mod stores;
+#[cfg(test)]
 mod tokens;

@@ -45,215 +45,119 @@ opens_same (Keep zero) = refl
 opens_same (Keep (suc n)) = grind (arith, nat_tests)
 opens_same (Leave others) = same_first others.items
 
-at_none_none : Agrees None None
+-- ---- orders past an append
+
+-- The number of a write past those of an append.
+record FarWrite (n : ℕ) : Type 0 where
+  one : (n == 1) ≡ false
+  two : (n == 2) ≡ false
+  next : (n - 1 == 1) ≡ false
+  past_one : nat_lt 1 n ≡ true
+  past_two : nat_lt 2 n ≡ true
+  rest : n - 1 - 1 ≡ n - 2
+
+far_write : (n : ℕ) → 3 ≤ n → FarWrite n
+far_write n far = record {
+  one = grind (arith, nat_tests);
+  two = grind (arith, nat_tests);
+  next = grind (arith, nat_tests);
+  past_one = grind (arith, nat_tests);
+  past_two = grind (arith, nat_tests);
+  rest = omega arith;
+}
+
+-- The number of a call past those of an append.
+record FarCall (n : ℕ) : Type 0 where
+  first : (n == 1) ≡ false
+  second : (n - 1 == 1) ≡ false
+  third : (n - 1 - 1 == 1) ≡ false
+  fourth : (n - 3 == 1) ≡ false
+  far : nat_le n 4 ≡ false
+  past_first : nat_lt 1 n ≡ true
+  past_third : nat_lt 3 n ≡ true
+  past_fourth : nat_lt 4 n ≡ true
+  rest : n - 3 - 1 ≡ n - 4
+  rest_of_three : n - 1 - 1 - 1 ≡ n - 3
+
+far_call : (n : ℕ) → 5 ≤ n → FarCall n
+far_call n past = record {
+  first = grind (arith, nat_tests);
+  second = grind (arith, nat_tests);
+  third = grind (arith, nat_tests);
+  fourth = grind (arith, nat_tests);
+  far = grind (arith, nat_tests);
+  past_first = grind (arith, nat_tests);
+  past_third = grind (arith, nat_tests);
+  past_fourth = grind (arith, nat_tests);
+  rest = omega arith;
+  rest_of_three = omega arith;
+}
+
+-- ---- all orders
+
+-- no order to fail, one for each call of an append, or one past them
+by_fault : (P : Option ℕ → Type 0) → P None → P (Some 1) → P (Some 2) → P (Some 3) → P (Some 4) → ((n : ℕ) → 5 ≤ n → P (Some n)) → (fault : Option ℕ) → IfSome fault (λ n. 1 ≤ n) → P fault
+by_fault P none one two three four more None low = none
+by_fault P none one two three four more (Some zero) low = absurd (omega arith)
+by_fault P none one two three four more (Some (suc zero)) low = one
+by_fault P none one two three four more (Some (suc (suc zero))) low = two
+by_fault P none one two three four more (Some (suc (suc (suc zero)))) low = three
+by_fault P none one two three four more (Some (suc (suc (suc (suc zero))))) low = four
+by_fault P none one two three four more (Some (suc (suc (suc (suc (suc n)))))) low = more (suc (suc (suc (suc (suc n))))) (omega arith)
+
+-- no order to stop
+at_no_write : (fault : Option ℕ) → IfSome fault (λ n. 1 ≤ n) → Agrees None fault
 unfolding struck after_append
-at_none_none = record { strikes = refl; left = refl; stands = refl; runs = refl }
+at_no_write = by_fault (Agrees None)
+    (record { strikes = refl; left = refl; stands = refl; runs = refl })
+    (record { strikes = refl; left = refl; stands = refl; runs = refl })
+    (record { strikes = refl; left = refl; stands = refl; runs = refl })
+    (record { strikes = refl; left = refl; stands = refl; runs = refl })
+    (record { strikes = refl; left = refl; stands = refl; runs = refl })
+    (λ n far. let c = far_call n far in record { strikes = simp (c.first, c.second, c.third, c.fourth, c.far, c.rest_of_three); left = simp (c.first, c.second, c.third, c.fourth, c.far, c.past_fourth, c.rest, c.rest_of_three); stands = simp (c.first, c.second, c.third, c.far); runs = simp (c.first, c.second, c.third, c.fourth, c.rest, c.rest_of_three) })
 
-at_none_one : Agrees None (Some 1)
+-- one for the first write
+at_first_write : (h : How) (fault : Option ℕ) → IfSome fault (λ n. 1 ≤ n) → Agrees (Some (record { write = 1; how = h })) fault
 unfolding struck after_append
-at_none_one = record { strikes = refl; left = refl; stands = refl; runs = refl }
+at_first_write h = by_fault (Agrees (Some (record { write = 1; how = h })))
+    (record { strikes = refl; left = refl; stands = refl; runs = refl })
+    (record { strikes = refl; left = refl; stands = refl; runs = refl })
+    (record { strikes = refl; left = refl; stands = refl; runs = refl })
+    (record { strikes = refl; left = refl; stands = refl; runs = refl })
+    (record { strikes = refl; left = refl; stands = refl; runs = refl })
+    (λ n far. let c = far_call n far in record { strikes = simp (c.far); left = simp (c.first, c.far, c.past_first); stands = simp (c.far); runs = refl })
 
-at_none_two : Agrees None (Some 2)
+-- one for the second, which opens the gate or not
+at_second_write : (h : How) (fault : Option ℕ) → IfSome fault (λ n. 1 ≤ n) → Agrees (Some (record { write = 2; how = h })) fault
 unfolding struck after_append
-at_none_two = record { strikes = refl; left = refl; stands = refl; runs = refl }
+at_second_write h = by_fault (Agrees (Some (record { write = 2; how = h })))
+    (record { strikes = refl; left = refl; stands = opens_same h; runs = refl })
+    (record { strikes = refl; left = refl; stands = refl; runs = refl })
+    (record { strikes = refl; left = refl; stands = refl; runs = refl })
+    (record { strikes = refl; left = refl; stands = opens_same h; runs = refl })
+    (record { strikes = refl; left = refl; stands = opens_same h; runs = refl })
+    (λ n far. let c = far_call n far in record { strikes = simp (c.first, c.second, c.far); left = simp (c.first, c.second, c.third, c.far, c.past_third, c.rest_of_three); stands = simp (c.first, c.second, c.far, opens_same h); runs = simp (c.first, c.second) })
 
-at_none_three : Agrees None (Some 3)
+-- one past them
+at_later_write : (h : How) (m : ℕ) → 3 ≤ m → (fault : Option ℕ) → IfSome fault (λ n. 1 ≤ n) → Agrees (Some (record { write = m; how = h })) fault
 unfolding struck after_append
-at_none_three = record { strikes = refl; left = refl; stands = refl; runs = refl }
+at_later_write h m past = let w = far_write m past in by_fault (Agrees (Some (record { write = m; how = h })))
+    (record { strikes = simp (w.one, w.two, w.next); left = simp (w.one, w.two, w.next, w.past_two, w.rest); stands = simp (w.one, w.two, w.next); runs = simp (w.one, w.next, w.rest) })
+    (record { strikes = simp (w.one, w.two); left = simp (w.one, w.two, w.past_one); stands = simp (w.one, w.two); runs = simp (w.one) })
+    (record { strikes = simp (w.one, w.two); left = simp (w.one, w.two, w.past_one); stands = simp (w.one, w.two); runs = simp (w.one) })
+    (record { strikes = simp (w.one, w.two, w.next); left = simp (w.one, w.two, w.next, w.past_two, w.rest); stands = simp (w.one, w.two, w.next); runs = simp (w.one, w.next, w.rest) })
+    (record { strikes = simp (w.one, w.two, w.next); left = simp (w.one, w.two, w.next, w.past_two, w.rest); stands = simp (w.one, w.two, w.next); runs = simp (w.one, w.next, w.rest) })
+    (λ n far. let c = far_call n far in record { strikes = simp (w.one, w.two, w.next, c.first, c.second, c.third, c.fourth, c.far, c.rest_of_three); left = simp (w.one, w.two, w.next, w.past_two, w.rest, c.first, c.second, c.third, c.fourth, c.far, c.past_fourth, c.rest, c.rest_of_three); stands = simp (w.one, w.two, w.next, c.first, c.second, c.third, c.far); runs = simp (w.one, w.next, w.rest, c.first, c.second, c.third, c.fourth, c.rest, c.rest_of_three) })
 
-at_none_four : Agrees None (Some 4)
-unfolding struck after_append
-at_none_four = record { strikes = refl; left = refl; stands = refl; runs = refl }
+at_write : (h : How) (m : ℕ) → 1 ≤ m → (fault : Option ℕ) → IfSome fault (λ n. 1 ≤ n) → Agrees (Some (record { write = m; how = h })) fault
+at_write h zero low = absurd (omega arith)
+at_write h (suc zero) low = at_first_write h
+at_write h (suc (suc zero)) low = at_second_write h
+at_write h (suc (suc (suc m))) low = at_later_write h (suc (suc (suc m))) (omega arith)
 
-at_one_none : (h : How) → Agrees (Some (record { write = 1; how = h })) None
-unfolding struck after_append
-at_one_none h = record { strikes = refl; left = refl; stands = refl; runs = refl }
-
-at_one_one : (h : How) → Agrees (Some (record { write = 1; how = h })) (Some 1)
-unfolding struck after_append
-at_one_one h = record { strikes = refl; left = refl; stands = refl; runs = refl }
-
-at_one_two : (h : How) → Agrees (Some (record { write = 1; how = h })) (Some 2)
-unfolding struck after_append
-at_one_two h = record { strikes = refl; left = refl; stands = refl; runs = refl }
-
-at_one_three : (h : How) → Agrees (Some (record { write = 1; how = h })) (Some 3)
-unfolding struck after_append
-at_one_three h = record { strikes = refl; left = refl; stands = refl; runs = refl }
-
-at_one_four : (h : How) → Agrees (Some (record { write = 1; how = h })) (Some 4)
-unfolding struck after_append
-at_one_four h = record { strikes = refl; left = refl; stands = refl; runs = refl }
-
-at_two_none : (h : How) → Agrees (Some (record { write = 2; how = h })) None
-unfolding struck after_append
-at_two_none h = record { strikes = refl; left = refl; stands = opens_same h; runs = refl }
-
-at_two_one : (h : How) → Agrees (Some (record { write = 2; how = h })) (Some 1)
-unfolding struck after_append
-at_two_one h = record { strikes = refl; left = refl; stands = refl; runs = refl }
-
-at_two_two : (h : How) → Agrees (Some (record { write = 2; how = h })) (Some 2)
-unfolding struck after_append
-at_two_two h = record { strikes = refl; left = refl; stands = refl; runs = refl }
-
-at_two_three : (h : How) → Agrees (Some (record { write = 2; how = h })) (Some 3)
-unfolding struck after_append
-at_two_three h = record { strikes = refl; left = refl; stands = opens_same h; runs = refl }
-
-at_two_four : (h : How) → Agrees (Some (record { write = 2; how = h })) (Some 4)
-unfolding struck after_append
-at_two_four h = record { strikes = refl; left = refl; stands = opens_same h; runs = refl }
-
-at_more_none : (h : How) (w : ℕ) → 3 ≤ w → Agrees (Some (record { write = w; how = h })) None
-unfolding struck after_append
-at_more_none h w far =
-    let w1 : (w == 1) ≡ false = grind (arith, nat_tests) in
-    let w2 : (w == 2) ≡ false = grind (arith, nat_tests) in
-    let w3 : (w - 1 == 1) ≡ false = grind (arith, nat_tests) in
-    let w4 : nat_lt 1 w ≡ true = grind (arith, nat_tests) in
-    let w5 : nat_lt 2 w ≡ true = grind (arith, nat_tests) in
-    let w6 : w - 1 - 1 ≡ w - 2 = omega arith in
-    record { strikes = simp (w1, w2, w3, w4, w5, w6); left = simp (w1, w2, w3, w4, w5, w6); stands = simp (w1, w2, w3, w4, w5, w6); runs = simp (w1, w2, w3, w4, w5, w6) }
-
-at_more_one : (h : How) (w : ℕ) → 3 ≤ w → Agrees (Some (record { write = w; how = h })) (Some 1)
-unfolding struck after_append
-at_more_one h w far =
-    let w1 : (w == 1) ≡ false = grind (arith, nat_tests) in
-    let w2 : (w == 2) ≡ false = grind (arith, nat_tests) in
-    let w3 : (w - 1 == 1) ≡ false = grind (arith, nat_tests) in
-    let w4 : nat_lt 1 w ≡ true = grind (arith, nat_tests) in
-    let w5 : nat_lt 2 w ≡ true = grind (arith, nat_tests) in
-    let w6 : w - 1 - 1 ≡ w - 2 = omega arith in
-    record { strikes = simp (w1, w2, w3, w4, w5, w6); left = simp (w1, w2, w3, w4, w5, w6); stands = simp (w1, w2, w3, w4, w5, w6); runs = simp (w1, w2, w3, w4, w5, w6) }
-
-at_more_two : (h : How) (w : ℕ) → 3 ≤ w → Agrees (Some (record { write = w; how = h })) (Some 2)
-unfolding struck after_append
-at_more_two h w far =
-    let w1 : (w == 1) ≡ false = grind (arith, nat_tests) in
-    let w2 : (w == 2) ≡ false = grind (arith, nat_tests) in
-    let w3 : (w - 1 == 1) ≡ false = grind (arith, nat_tests) in
-    let w4 : nat_lt 1 w ≡ true = grind (arith, nat_tests) in
-    let w5 : nat_lt 2 w ≡ true = grind (arith, nat_tests) in
-    let w6 : w - 1 - 1 ≡ w - 2 = omega arith in
-    record { strikes = simp (w1, w2, w3, w4, w5, w6); left = simp (w1, w2, w3, w4, w5, w6); stands = simp (w1, w2, w3, w4, w5, w6); runs = simp (w1, w2, w3, w4, w5, w6) }
-
-at_more_three : (h : How) (w : ℕ) → 3 ≤ w → Agrees (Some (record { write = w; how = h })) (Some 3)
-unfolding struck after_append
-at_more_three h w far =
-    let w1 : (w == 1) ≡ false = grind (arith, nat_tests) in
-    let w2 : (w == 2) ≡ false = grind (arith, nat_tests) in
-    let w3 : (w - 1 == 1) ≡ false = grind (arith, nat_tests) in
-    let w4 : nat_lt 1 w ≡ true = grind (arith, nat_tests) in
-    let w5 : nat_lt 2 w ≡ true = grind (arith, nat_tests) in
-    let w6 : w - 1 - 1 ≡ w - 2 = omega arith in
-    record { strikes = simp (w1, w2, w3, w4, w5, w6); left = simp (w1, w2, w3, w4, w5, w6); stands = simp (w1, w2, w3, w4, w5, w6); runs = simp (w1, w2, w3, w4, w5, w6) }
-
-at_more_four : (h : How) (w : ℕ) → 3 ≤ w → Agrees (Some (record { write = w; how = h })) (Some 4)
-unfolding struck after_append
-at_more_four h w far =
-    let w1 : (w == 1) ≡ false = grind (arith, nat_tests) in
-    let w2 : (w == 2) ≡ false = grind (arith, nat_tests) in
-    let w3 : (w - 1 == 1) ≡ false = grind (arith, nat_tests) in
-    let w4 : nat_lt 1 w ≡ true = grind (arith, nat_tests) in
-    let w5 : nat_lt 2 w ≡ true = grind (arith, nat_tests) in
-    let w6 : w - 1 - 1 ≡ w - 2 = omega arith in
-    record { strikes = simp (w1, w2, w3, w4, w5, w6); left = simp (w1, w2, w3, w4, w5, w6); stands = simp (w1, w2, w3, w4, w5, w6); runs = simp (w1, w2, w3, w4, w5, w6) }
-
-at_more_more : (h : How) (w : ℕ) → 3 ≤ w → (c : ℕ) → 5 ≤ c → Agrees (Some (record { write = w; how = h })) (Some c)
-unfolding struck after_append
-at_more_more h w far c past =
-    let w1 : (w == 1) ≡ false = grind (arith, nat_tests) in
-    let w2 : (w == 2) ≡ false = grind (arith, nat_tests) in
-    let w3 : (w - 1 == 1) ≡ false = grind (arith, nat_tests) in
-    let w4 : nat_lt 1 w ≡ true = grind (arith, nat_tests) in
-    let w5 : nat_lt 2 w ≡ true = grind (arith, nat_tests) in
-    let w6 : w - 1 - 1 ≡ w - 2 = omega arith in
-    let c1 : (c == 1) ≡ false = grind (arith, nat_tests) in
-    let c2 : (c - 1 == 1) ≡ false = grind (arith, nat_tests) in
-    let c3 : (c - 1 - 1 == 1) ≡ false = grind (arith, nat_tests) in
-    let c4 : (c - 3 == 1) ≡ false = grind (arith, nat_tests) in
-    let c5 : nat_le c 4 ≡ false = grind (arith, nat_tests) in
-    let c6 : nat_lt 1 c ≡ true = grind (arith, nat_tests) in
-    let c7 : nat_lt 3 c ≡ true = grind (arith, nat_tests) in
-    let c8 : nat_lt 4 c ≡ true = grind (arith, nat_tests) in
-    let c9 : c - 3 - 1 ≡ c - 4 = omega arith in
-    let c10 : c - 1 - 1 - 1 ≡ c - 3 = omega arith in
-    record { strikes = simp (w1, w2, w3, w4, w5, w6, c1, c2, c3, c4, c5, c6, c7, c8, c9, c10); left = simp (w1, w2, w3, w4, w5, w6, c1, c2, c3, c4, c5, c6, c7, c8, c9, c10); stands = simp (w1, w2, w3, w4, w5, w6, c1, c2, c3, c4, c5, c6, c7, c8, c9, c10); runs = simp (w1, w2, w3, w4, w5, w6, c1, c2, c3, c4, c5, c6, c7, c8, c9, c10) }
-
-at_none_more : (c : ℕ) → 5 ≤ c → Agrees None (Some c)
-unfolding struck after_append
-at_none_more c past =
-    let c1 : (c == 1) ≡ false = grind (arith, nat_tests) in
-    let c2 : (c - 1 == 1) ≡ false = grind (arith, nat_tests) in
-    let c3 : (c - 1 - 1 == 1) ≡ false = grind (arith, nat_tests) in
-    let c4 : (c - 3 == 1) ≡ false = grind (arith, nat_tests) in
-    let c5 : nat_le c 4 ≡ false = grind (arith, nat_tests) in
-    let c6 : nat_lt 1 c ≡ true = grind (arith, nat_tests) in
-    let c7 : nat_lt 3 c ≡ true = grind (arith, nat_tests) in
-    let c8 : nat_lt 4 c ≡ true = grind (arith, nat_tests) in
-    let c9 : c - 3 - 1 ≡ c - 4 = omega arith in
-    let c10 : c - 1 - 1 - 1 ≡ c - 3 = omega arith in
-    record { strikes = simp (c1, c2, c3, c4, c5, c6, c7, c8, c9, c10); left = simp (c1, c2, c3, c4, c5, c6, c7, c8, c9, c10); stands = simp (c1, c2, c3, c4, c5, c6, c7, c8, c9, c10); runs = simp (c1, c2, c3, c4, c5, c6, c7, c8, c9, c10) }
-
-at_one_more : (h : How) (c : ℕ) → 5 ≤ c → Agrees (Some (record { write = 1; how = h })) (Some c)
-unfolding struck after_append
-at_one_more h c past =
-    let c1 : (c == 1) ≡ false = grind (arith, nat_tests) in
-    let c2 : (c - 1 == 1) ≡ false = grind (arith, nat_tests) in
-    let c3 : (c - 1 - 1 == 1) ≡ false = grind (arith, nat_tests) in
-    let c4 : (c - 3 == 1) ≡ false = grind (arith, nat_tests) in
-    let c5 : nat_le c 4 ≡ false = grind (arith, nat_tests) in
-    let c6 : nat_lt 1 c ≡ true = grind (arith, nat_tests) in
-    let c7 : nat_lt 3 c ≡ true = grind (arith, nat_tests) in
-    let c8 : nat_lt 4 c ≡ true = grind (arith, nat_tests) in
-    let c9 : c - 3 - 1 ≡ c - 4 = omega arith in
-    let c10 : c - 1 - 1 - 1 ≡ c - 3 = omega arith in
-    record { strikes = simp (c1, c2, c3, c4, c5, c6, c7, c8, c9, c10); left = simp (c1, c2, c3, c4, c5, c6, c7, c8, c9, c10); stands = simp (c1, c2, c3, c4, c5, c6, c7, c8, c9, c10); runs = refl }
-
-at_two_more : (h : How) (c : ℕ) → 5 ≤ c → Agrees (Some (record { write = 2; how = h })) (Some c)
-unfolding struck after_append
-at_two_more h c past =
-    let c1 : (c == 1) ≡ false = grind (arith, nat_tests) in
-    let c2 : (c - 1 == 1) ≡ false = grind (arith, nat_tests) in
-    let c3 : (c - 1 - 1 == 1) ≡ false = grind (arith, nat_tests) in
-    let c4 : (c - 3 == 1) ≡ false = grind (arith, nat_tests) in
-    let c5 : nat_le c 4 ≡ false = grind (arith, nat_tests) in
-    let c6 : nat_lt 1 c ≡ true = grind (arith, nat_tests) in
-    let c7 : nat_lt 3 c ≡ true = grind (arith, nat_tests) in
-    let c8 : nat_lt 4 c ≡ true = grind (arith, nat_tests) in
-    let c9 : c - 3 - 1 ≡ c - 4 = omega arith in
-    let c10 : c - 1 - 1 - 1 ≡ c - 3 = omega arith in
-    record { strikes = simp (c1, c2, c3, c4, c5, c6, c7, c8, c9, c10); left = simp (c1, c2, c3, c4, c5, c6, c7, c8, c9, c10); stands = simp (c1, c2, c3, c4, c5, c6, c7, c8, c9, c10, opens_same h); runs = simp (c1, c2, c3, c4, c5, c6, c7, c8, c9, c10) }
-
--- ---- all of them
-
-fault_by : (stop : Option Stop) (c : ℕ) → 1 ≤ c → Agrees stop (Some 1) → Agrees stop (Some 2) → Agrees stop (Some 3) → Agrees stop (Some 4) → ((n : ℕ) → 5 ≤ n → Agrees stop (Some n)) → Agrees stop (Some c)
-fault_by stop zero low one two three four more = absurd (omega arith)
-fault_by stop (suc zero) low one two three four more = one
-fault_by stop (suc (suc zero)) low one two three four more = two
-fault_by stop (suc (suc (suc zero))) low one two three four more = three
-fault_by stop (suc (suc (suc (suc zero)))) low one two three four more = four
-fault_by stop (suc (suc (suc (suc (suc n))))) low one two three four more = more (suc (suc (suc (suc (suc n))))) (omega arith)
-
-write_by : (fault : Option ℕ) (h : How) (w : ℕ) → 1 ≤ w → Agrees (Some (record { write = 1; how = h })) fault → Agrees (Some (record { write = 2; how = h })) fault
-    → ((n : ℕ) → 3 ≤ n → Agrees (Some (record { write = n; how = h })) fault) → Agrees (Some (record { write = w; how = h })) fault
-write_by fault h zero low one two more = absurd (omega arith)
-write_by fault h (suc zero) low one two more = one
-write_by fault h (suc (suc zero)) low one two more = two
-write_by fault h (suc (suc (suc n))) low one two more = more (suc (suc (suc n))) (omega arith)
-
-agrees : (stop : Option Stop) (fault : Option ℕ) → IfSome stop (λ s. 1 ≤ s.write) → IfSome fault (λ c. 1 ≤ c) → Agrees stop fault
-agrees None None write call = at_none_none
-agrees None (Some c) write call = fault_by None c call at_none_one at_none_two at_none_three at_none_four at_none_more
-agrees (Some s) None write call = write_by None s.how s.write write (at_one_none s.how) (at_two_none s.how) (at_more_none s.how)
-agrees (Some s) (Some c) write call =
-    fault_by (Some s) c call
-    (write_by (Some 1) s.how s.write write (at_one_one s.how) (at_two_one s.how) (at_more_one s.how))
-    (write_by (Some 2) s.how s.write write (at_one_two s.how) (at_two_two s.how) (at_more_two s.how))
-    (write_by (Some 3) s.how s.write write (at_one_three s.how) (at_two_three s.how) (at_more_three s.how))
-    (write_by (Some 4) s.how s.write write (at_one_four s.how) (at_two_four s.how) (at_more_four s.how))
-    (λ n far. write_by (Some n) s.how s.write write (at_one_more s.how n far) (at_two_more s.how n far) (λ m past. at_more_more s.how m past n far))
+agrees : (stop : Option Stop) (fault : Option ℕ) → IfSome stop (λ s. 1 ≤ s.write) → IfSome fault (λ n. 1 ≤ n) → Agrees stop fault
+agrees None fault write call = at_no_write fault call
+agrees (Some s) fault write call = at_write s.how s.write write fault call
 
 -- ---- orders stay for calls to come
 

@@ -1,0 +1,5 @@
+pub mod OrderLemmas
+pub mod AgreeLemmas
+pub mod MeantLemmas
+pub mod RunLemmas
+pub mod TriedLemmas

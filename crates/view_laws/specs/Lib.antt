@@ -1,0 +1,4 @@
+pub mod Views
+pub mod ViewLaws
+pub mod RunLaws
+pub mod TriedViews
