@@ -1,0 +1,23 @@
+//! What the nodes of a lawful run store, by its book.
+//!
+//! The book leaves rows at a node by the decisions of transactions, in their order in the book, while a node puts the changes of a
+//! branch into its rows when the branch learns its decision. At each key that is not in doubt both leave the same row: locks kept the
+//! transactions that changed it in order (`specs/RowLaws.antt`).
+#![tactic(auto)]
+
+ghost use Rattle.row_laws.specs.RowLaws.{DoubtsAgree, RowsAgree, BookRowsFit};
+
+/// The keys in doubt by the book are those of the changes that the branches in doubt of the node hold back, in their order.
+pub fn doubts_agree()
+    ensures { DoubtsAgree }
+{}
+
+/// At each key that is not in doubt a node has the row that the committed transactions of the book leave there, or both have none.
+pub fn rows_agree()
+    ensures { RowsAgree }
+{}
+
+/// The rows that the committed transactions of the book leave at a node are rows of their tables.
+pub fn book_rows_fit()
+    ensures { BookRowsFit }
+{}
