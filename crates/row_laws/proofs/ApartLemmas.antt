@@ -50,10 +50,10 @@ module _ (n : ℕ) (table : List ℕ) (key : Value) where
 
     -- an open branch has no changes at the key, or these changes have none there
     pub free_branch : (b : BranchId) (ds : List Change) → b.node ≡ n → is_open book b ≡ true → FreeOf book ds → (at_key (changes_of book b) ≡ []) ⊎ (at_key ds ≡ [])
-    free_branch b ds here open free = by (at_key ds) refl
+    free_branch b ds here opened free = by (at_key ds) refl
       where
         parts : (stands (is_sealed_of b) book ≡ true) × (stands (is_end_of b) book ≡ false)
-        parts = open_parts book b open
+        parts = open_parts book b opened
 
         seal : IsSealedIn book b
         seal = sealed_in_book book b parts.0
@@ -74,11 +74,11 @@ module _ (n : ℕ) (table : List ℕ) (key : Value) where
   -- of two of them one is of another node or has no changes at the key, or the other has none
   pub one_free : (book : List Entry) → AreApart book → (b c : BranchId) → b.node ≡ n → is_open book b ≡ true → is_open book c ≡ true → same c b ≡ false
       → (c.node ≡ n → at_key (changes_of book c) ≡ []) ⊎ (at_key (changes_of book b) ≡ [])
-  one_free book apart b c here open other_open other = by (c.node == n) refl
+  one_free book apart b c here opened other_open other = by (c.node == n) refl
     where
       by : (q : Bool) → (c.node == n) ≡ q → (c.node ≡ n → at_key (changes_of book c) ≡ []) ⊎ (at_key (changes_of book b) ≡ [])
       by false at = inl (λ there. absurd (true≢false (sym (eq-eqb c.node n there) ∙ at)))
-      by true at = elim (apart b c here (eqb-true c.node n at) open other_open) [
+      by true at = elim (apart b c here (eqb-true c.node n at) opened other_open) [
         | inl is ↦ absurd (true≢false (sym (same_from_equal c b (sym is)) ∙ other))
         | inr none ↦ elim (none) [ inl one ↦ inr one | inr two ↦ inl (λ there. two) ]
       ]
@@ -89,7 +89,7 @@ module _ (n : ℕ) (table : List ℕ) (key : Value) where
 
     -- of a branch that was open before
     same_changes : (b : BranchId) → is_open book b ≡ true → at_key (changes_of more b) ≡ at_key (changes_of book b)
-    same_changes b open = picked_same n table key (λ z. true) book e b (ap at_key (none_later book e follows b (open_parts book b open).0))
+    same_changes b opened = picked_same n table key (λ z. true) book e b (ap at_key (none_later book e follows b (open_parts book b opened).0))
 
     -- and of one that is sealed now
     module _ (c g : BranchId) (ds : List Change) (scn : ℕ) (new : e ≡ entries.Sealed c g ds scn) where
@@ -106,8 +106,8 @@ module _ (n : ℕ) (table : List ℕ) (key : Value) where
       free_now = subst (IsFree book) new free
 
       with_new : (b : BranchId) → b.node ≡ n → c.node ≡ n → is_open book b ≡ true → (at_key (changes_of more b) ≡ []) ⊎ (at_key (changes_of more c) ≡ [])
-      with_new b here there open = elim (free_branch book fits b ds here open (free_now there)) [
-        | inl none ↦ inl (same_changes b open ∙ none)
+      with_new b here there opened = elim (free_branch book fits b ds here opened (free_now there)) [
+        | inl none ↦ inl (same_changes b opened ∙ none)
         | inr none ↦ inr (new_changes ∙ none)
       ]
 
@@ -116,7 +116,7 @@ module _ (n : ℕ) (table : List ℕ) (key : Value) where
     turned (inr q) = inl q
 
     pub apart_next : AreApart more
-    apart_next b c here there open other = elim (open_was book e follows b open) [
+    apart_next b c here there opened other = elim (open_was book e follows b opened) [
       | inl old ↦ elim (open_was book e follows c other) [
         | inl older ↦ elim (apart b c here there old older) [
           | inl is ↦ inl is

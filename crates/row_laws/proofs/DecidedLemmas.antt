@@ -112,7 +112,14 @@ module _ (n : ℕ) (table : List ℕ) (key : Value) (book : List Entry) (c g : B
 
   -- ---- those that wait
 
-  module _ (b f : BranchId) (cs : List Change) (scn : ℕ) (old : IsOne (entries.Sealed b f cs scn) book) (here : b.node ≡ n) (open : is_open book b ≡ true) where
+  module _ (b f : BranchId) (cs : List Change) (scn : ℕ) (old : IsOne (entries.Sealed b f cs scn) book) (here : b.node ≡ n) (opened : is_open book b ≡ true) where
+    -- what is committed before, and what the branch has changed at the key
+    abbrev before : List Change
+    before = commits (counted book) book
+
+    abbrev changed : List Change
+    changed = at_key (changes_of book b)
+
     -- a seal of this branch is of its transaction
     of_one : (x h : BranchId) (es : List Change) (m : ℕ) → IsOne (entries.Sealed x h es m) book → x ≡ b → h ≡ f
     of_one x h es m there me = let both : Some h ≡ Some f = sym (fits.global x h es m there) ∙ (ap (λ z. global_in z book) me ∙ fits.global b f cs scn old) in cc both
@@ -164,25 +171,19 @@ module _ (n : ℕ) (table : List ℕ) (key : Value) (book : List Entry) (c g : B
       where
         by : (q : Bool) → (c.node == n) ≡ q → (at_key (changes_of book b) ≡ []) ⊎ ((if q then at_key ds else []) ≡ [])
         by false is = inr refl
-        by true is = free_branch n table key book fits b ds here open (free (eqb-true c.node n is))
+        by true is = free_branch n table key book fits b ds here opened (free (eqb-true c.node n is))
 
     same_changes : at_key (changes_of more b) ≡ at_key (changes_of book b)
-    same_changes = picked_same n table key (counted book) book e b (ap at_key (none_later book e follows b (open_parts book b open).0))
+    same_changes = picked_same n table key (counted book) book e b (ap at_key (none_later book e follows b (open_parts book b opened).0))
 
     -- it waits with its changes, if its transaction is the one that is decided now
     still_waits : commits (counted_or b more) more ≡ commits (counted more) more ++ waiting n table key more b f
     still_waits =
         same_commits n table key book e (counted_or b more) (counted_or b book) more (λ x at. ap (λ q. q || same b x) (counts_on x))
         ∙ (more_commits (counted_or b book) (ap (λ q. q || same b c) site_counted)
-        ∙ (ap (λ xs. xs ++ (total n table key (counted_or b book) book g ++ own)) (now.waits b f cs scn old here open)
+        ∙ (ap (λ xs. xs ++ (total n table key (counted_or b book) book g ++ own)) (now.waits b f cs scn old here opened)
         ∙ (by (same f g) refl ∙ ap (λ xs. xs ++ waiting n table key more b f) (sym now_counted))))
       where
-        abbrev before : List Change
-        before = commits (counted book) book
-
-        abbrev changed : List Change
-        changed = at_key (changes_of book b)
-
         -- with what is waiting now
         waits_now : (q : Bool) → stands (is_decision_on f) more ≡ q → waiting n table key more b f ≡ (if q then changed else [])
         waits_now q is = ap (λ q. if q then at_key (changes_of more b) else []) is ∙ ap (λ xs. if q then xs else []) same_changes
@@ -204,13 +205,13 @@ module _ (n : ℕ) (table : List ℕ) (key : Value) (book : List Entry) (c g : B
 
   all_wait : (b f : BranchId) (cs : List Change) (scn : ℕ) → IsOne (entries.Sealed b f cs scn) more → b.node ≡ n → is_open more b ≡ true
       → commits (counted_or b more) more ≡ commits (counted more) more ++ waiting n table key more b f
-  all_wait b f cs scn there here open = elim (one_of_more (entries.Sealed b f cs scn) book e there) [
-    | inl old ↦ still_waits b f cs scn old here (sym (same_open book e b refl refl) ∙ open)
+  all_wait b f cs scn there here opened = elim (one_of_more (entries.Sealed b f cs scn) book e there) [
+    | inl old ↦ still_waits b f cs scn old here (sym (same_open book e b refl refl) ∙ opened)
     | inr new ↦ absurd (cc new)
   ]
 
   pub decided_tells : Tells n table key more
   decided_tells = record {
     told = told_next n table key book e (now_counted ∙ (ap (λ xs. xs ++ own) now.told ∙ ap (λ xs. at_key (committed_at [] n book) ++ xs) (sym (picked_if n table key (c.node == n) ds))));
-    waits = λ b f cs scn there here open. all_wait b f cs scn there here open;
+    waits = λ b f cs scn there here opened. all_wait b f cs scn there here opened;
   }

@@ -61,11 +61,11 @@ module _ (n : ℕ) (table : List ℕ) (key : Value) (book : List Entry) (c : Bra
 
   -- what it waited for is what is told of it now
   told_now : (x : Decision) → AsDecided x (global_in c book) book → c.node ≡ n → waiting n table key book c seal.global ≡ at_key (commits_now book n (entries.Ended c x))
-  told_now (decisions.Commit m) as here =
-      ap (λ q. if q then at_key (changes_of book c) else []) (commit_decided book seal.global m (global_in c book) (fits.global c seal.global seal.changes seal.scn seal.there) as)
+  told_now (decisions.Commit m) decides here =
+      ap (λ q. if q then at_key (changes_of book c) else []) (commit_decided book seal.global m (global_in c book) (fits.global c seal.global seal.changes seal.scn seal.there) decides)
       ∙ ap (λ q. at_key (if q then changes_of book c else [])) (sym (eq-eqb c.node n here))
-  told_now decisions.Rollback as here =
-      ap (λ q. if q then at_key (changes_of book c) else []) (rollback_undecided book seal.global (global_in c book) (fits.global c seal.global seal.changes seal.scn seal.there) as)
+  told_now decisions.Rollback decides here =
+      ap (λ q. if q then at_key (changes_of book c) else []) (rollback_undecided book seal.global (global_in c book) (fits.global c seal.global seal.changes seal.scn seal.there) decides)
 
   none_told : (x : Decision) → (c.node == n) ≡ false → commits_now book n (entries.Ended c x) ≡ []
   none_told (decisions.Commit m) there = ap (λ q. if q then changes_of book c else []) there
@@ -90,12 +90,12 @@ module _ (n : ℕ) (table : List ℕ) (key : Value) (book : List Entry) (c : Bra
 
   -- ---- those that wait on
 
-  module _ (b g : BranchId) (cs : List Change) (scn : ℕ) (there : IsOne (entries.Sealed b g cs scn) more) (here : b.node ≡ n) (open : is_open more b ≡ true) where
+  module _ (b g : BranchId) (cs : List Change) (scn : ℕ) (there : IsOne (entries.Sealed b g cs scn) more) (here : b.node ≡ n) (opened : is_open more b ≡ true) where
     other : same c b ≡ false
-    other = not_true (same c b) (λ is. true≢false (sym (any_now (is_end_of b) book e is) ∙ (open_parts more b open).1))
+    other = not_true (same c b) (λ is. true≢false (sym (any_now (is_end_of b) book e is) ∙ (open_parts more b opened).1))
 
     before : is_open book b ≡ true
-    before = elim (open_was book e follows b open) [ inl old ↦ old | inr new ↦ absurd (let is : e ≡ entries.Sealed b new.0 new.1 new.2 = new.3 in cc is) ]
+    before = elim (open_was book e follows b opened) [ inl old ↦ old | inr new ↦ absurd (let is : e ≡ entries.Sealed b new.0 new.1 new.2 = new.3 in cc is) ]
 
     -- where the ended branch has no changes at the key
     ended_free : ((x : BranchId) → x.node ≡ n → (same c x ≡ false) ⊎ (at_key (changes_of book x) ≡ [])) → commits (counted_or b more) more ≡ commits (counted more) more ++ waiting n table key more b g
@@ -135,5 +135,5 @@ module _ (n : ℕ) (table : List ℕ) (key : Value) (book : List Entry) (c : Bra
   pub ended_tells : Tells n table key more
   ended_tells = record {
     told = told_next n table key book e (now_counted ∙ (counted_too ∙ ap (λ xs. xs ++ at_key (commits_now book n e)) now.told));
-    waits = λ b g cs scn there here open. still_waits b g cs scn there here open;
+    waits = λ b g cs scn there here opened. still_waits b g cs scn there here opened;
   }

@@ -73,7 +73,7 @@ one_of_more a [] x (inr none) = absurd none
 one_of_more a (y ∷ xs) x (inl here) = inl (inl here)
 one_of_more a (y ∷ xs) x (inr there) = elim (one_of_more a xs x there) [ inl before ↦ inl (inr before) | inr now ↦ inr now ]
 
-or_none : (q : Bool) → (q || false) ≡ q
+pub or_none : (q : Bool) → (q || false) ≡ q
 or_none true = refl
 or_none false = refl
 

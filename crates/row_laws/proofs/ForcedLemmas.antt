@@ -72,12 +72,12 @@ module _ (n : ℕ) (table : List ℕ) (key : Value) (book : List Entry) (c : Bra
       by true is = none (eqb-true c.node n is)
       by false is = refl
 
-  module _ (b g : BranchId) (cs : List Change) (scn : ℕ) (there : IsOne (entries.Sealed b g cs scn) more) (here : b.node ≡ n) (open : is_open more b ≡ true) where
+  module _ (b g : BranchId) (cs : List Change) (scn : ℕ) (there : IsOne (entries.Sealed b g cs scn) more) (here : b.node ≡ n) (opened : is_open more b ≡ true) where
     other : same c b ≡ false
-    other = not_true (same c b) (λ is. true≢false (sym (any_now (is_end_of b) book e is) ∙ (open_parts more b open).1))
+    other = not_true (same c b) (λ is. true≢false (sym (any_now (is_end_of b) book e is) ∙ (open_parts more b opened).1))
 
     before : is_open book b ≡ true
-    before = elim (open_was book e follows b open) [ inl old ↦ old | inr new ↦ absurd (let is : e ≡ entries.Sealed b new.0 new.1 new.2 = new.3 in cc is) ]
+    before = elim (open_was book e follows b opened) [ inl old ↦ old | inr new ↦ absurd (let is : e ≡ entries.Sealed b new.0 new.1 new.2 = new.3 in cc is) ]
 
     one_is_none : (waiting n table key book b g ≡ []) ⊎ (given ≡ [])
     one_is_none = elim (one_free n table key book apart b c here before was_open other) [
@@ -96,5 +96,5 @@ module _ (n : ℕ) (table : List ℕ) (key : Value) (book : List Entry) (c : Bra
   pub forced_tells : Tells n table key more
   forced_tells = record {
     told = told_next n table key book e (now_counted ∙ ap (λ xs. xs ++ given) now.told);
-    waits = λ b g cs scn there here open. still_waits b g cs scn there here open;
+    waits = λ b g cs scn there here opened. still_waits b g cs scn there here opened;
   }

@@ -37,7 +37,7 @@ module _ (k q : Value) where
       by false true same rest = refl
       by false false same rest = ap (cond (same_value r.key q) (Some r.row)) rest ∙ another r (Some row) (get rs q) same
 
-  no_row : (b : Bool) → None {A = Row} ≡ cond b None None
+  no_row : (b : Bool) → get [] q ≡ cond b None (get [] q)
   no_row true = refl
   no_row false = refl
 

@@ -14,3 +14,4 @@ pub mod RowLemmas
 pub mod NodeBookLemmas
 pub mod NodeDoubtLemmas
 pub mod RecordFitLemmas
+pub mod TriedBookRowsLemmas

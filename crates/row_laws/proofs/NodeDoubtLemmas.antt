@@ -119,8 +119,8 @@ module _ (n : ℕ) (es : List Entry) (ds : List Doubt) (now : DoubtsStand n es d
   -- a branch in doubt is sealed by an entry
   in_doubt_sealed : (d : Doubt) → IsOne d ds → stands (is_sealed_of d.branch) es ≡ true
   in_doubt_sealed d there =
-      let open : IsOpenIn es n d.branch = open_of es n d.branch (subst (IsOne d.branch) now.branches (one_mapped doubt_id d ds there)) in
-      seal_found es d.branch open.global open.changes open.scn open.sealed
+      let opened : IsOpenIn es n d.branch = open_of es n d.branch (subst (IsOne d.branch) now.branches (one_mapped doubt_id d ds there)) in
+      seal_found es d.branch opened.global opened.changes opened.scn opened.sealed
 
   module _ (e : Entry) (alone : SealsAlone es e) where
     abbrev longer : List Entry
@@ -216,12 +216,12 @@ module _ (n : ℕ) where
       subst (λ xs. DoubtsStand n xs (stored_by (applied s r) rs).doubts) (append_assoc es (entry_of n r) (told rs))
       (stands_by (es ++ entry_of n r) (applied s r) rs (rest_comes es r rs all) (record_stands es s r (one_comes es r rs all) now))
 
+  none_stand : DoubtsStand n [] []
+  unfolding in_doubt
+  none_stand = record { branches = refl; changes = tt }
+
   pub disk_stands : (rs : List RedoRecord) → EachAgainst (ComesHere n) [] (told rs) → DoubtsStand n (told rs) (stored_by nothing_stored rs).doubts
-  disk_stands rs all = stands_by [] nothing_stored rs all (record { branches = first; changes = tt })
-    where
-      first : [] ≡ in_doubt [] n
-      unfolding in_doubt
-      first = refl
+  disk_stands rs all = stands_by [] nothing_stored rs all none_stand
 
 -- ---- every run
 

@@ -117,16 +117,16 @@ decision_by g n (entries.Met b d mixed) is = absurd (true≢false (sym is))
 
 -- a commit that a branch learned was decided before
 pub commit_decided : (book : List Entry) (g : BranchId) (m : ℕ) (o : Option BranchId) → o ≡ Some g → AsDecided (decisions.Commit m) o book → stands (is_decision_on g) book ≡ true
-commit_decided book g m None is as = absurd cc
-commit_decided book g m (Some h) is as =
+commit_decided book g m None is decides = absurd cc
+commit_decided book g m (Some h) is decides =
     let one : h ≡ g = cc is in
-    let e = found (is_decision_at h m) book as in
+    let e = found (is_decision_at h m) book decides in
     subst (λ z. stands (is_decision_on z) book ≡ true) one (finds (is_decision_on h) e.0 book e.1 (decision_by h m e.0 e.2))
 
 -- and of a rollback there was no decision
 pub rollback_undecided : (book : List Entry) (g : BranchId) (o : Option BranchId) → o ≡ Some g → AsDecided decisions.Rollback o book → stands (is_decision_on g) book ≡ false
-rollback_undecided book g None is as = absurd cc
-rollback_undecided book g (Some h) is as = let one : h ≡ g = cc is in subst (λ z. stands (is_decision_on z) book ≡ false) one as
+rollback_undecided book g None is decides = absurd cc
+rollback_undecided book g (Some h) is decides = let one : h ≡ g = cc is in subst (λ z. stands (is_decision_on z) book ≡ false) one decides
 
 -- a branch that neither sealed nor decided has no changes
 pub no_changes : (book : List Entry) (c : BranchId) → stands (is_sealed_of c) book ≡ false → stands (is_decided_of c) book ≡ false → changes_of book c ≡ []
@@ -250,8 +250,8 @@ module _ (book : List Entry) (e : Entry) (follows : Follows book e) (now : Seals
     -- the end of this branch, or of another
     ended_now : (c : BranchId) (d : Decision) → Follows book (entries.Ended c d) → c ≡ b → IsSettled (entries.Ended c d)
     ended_now c (decisions.Commit m) first me =
-        let as : AsDecided (decisions.Commit m) (global_in b book) book = subst (λ z. AsDecided (decisions.Commit m) (global_in z book) book) me first.2 in
-        inl (any_before (is_decision_on g) book (entries.Ended c (decisions.Commit m)) (commit_decided book g m (global_in b book) (now.global b g cs scn old) as))
+        let decides : AsDecided (decisions.Commit m) (global_in b book) book = subst (λ z. AsDecided (decisions.Commit m) (global_in z book) book) me first.2 in
+        inl (any_before (is_decision_on g) book (entries.Ended c (decisions.Commit m)) (commit_decided book g m (global_in b book) (now.global b g cs scn old) decides))
     ended_now c decisions.Rollback first me = inr (subst (λ z. IsOne (entries.Ended z decisions.Rollback) (book ++ entries.Ended c decisions.Rollback ∷ [])) me (one_now book (entries.Ended c decisions.Rollback)))
 
     settled_old : (x : Entry) → Follows book x → counted (book ++ x ∷ []) b ≡ true → IsSettled x

@@ -62,7 +62,7 @@ module _ (n : ℕ) (table : List ℕ) (key : Value) (book : List Entry) (c h : B
 
   -- ---- those that wait
 
-  module _ (b g : BranchId) (cs : List Change) (scn : ℕ) (here : b.node ≡ n) (open : is_open more b ≡ true) (old : IsOne (entries.Sealed b g cs scn) book) where
+  module _ (b g : BranchId) (cs : List Change) (scn : ℕ) (here : b.node ≡ n) (opened : is_open more b ≡ true) (old : IsOne (entries.Sealed b g cs scn) book) where
     other : same c b ≡ false
     other = not_true (same c b) (λ is. true≢false (sym (seal_found book b g cs scn old) ∙ subst (λ z. stands (is_sealed_of z) book ≡ false) (equal_from_same c b is) follows.0))
 
@@ -75,7 +75,7 @@ module _ (n : ℕ) (table : List ℕ) (key : Value) (book : List Entry) (c h : B
     waits_on =
         same_left (counted_or b more)
         ∙ (alike_left n table key (counted_or b more) (counted_or b book) book (λ x at. elim (counts_alike x) [ inl is ↦ inl (ap (λ q. q || same b x) is) | inr none ↦ inr none ])
-        ∙ (now.waits b g cs scn old here (sym (same_open book e b other refl) ∙ open)
+        ∙ (now.waits b g cs scn old here (sym (same_open book e b other refl) ∙ opened)
         ∙ (ap (λ xs. xs ++ waiting n table key book b g) (sym now_counted) ∙ ap (λ xs. commits (counted more) more ++ xs) (sym same_waiting))))
 
   -- the one that seals waits for nothing
@@ -94,8 +94,8 @@ module _ (n : ℕ) (table : List ℕ) (key : Value) (book : List Entry) (c h : B
 
   all_wait : (b g : BranchId) (cs : List Change) (scn : ℕ) → IsOne (entries.Sealed b g cs scn) more → b.node ≡ n → is_open more b ≡ true
       → commits (counted_or b more) more ≡ commits (counted more) more ++ waiting n table key more b g
-  all_wait b g cs scn there here open = elim (one_of_more (entries.Sealed b g cs scn) book e there) [
-    | inl old ↦ waits_on b g cs scn here open old
+  all_wait b g cs scn there here opened = elim (one_of_more (entries.Sealed b g cs scn) book e there) [
+    | inl old ↦ waits_on b g cs scn here opened old
     | inr new ↦ (let me : c ≡ b = cc new in
         let global : h ≡ g = cc new in
         subst (λ z. commits (counted_or z more) more ≡ commits (counted more) more ++ waiting n table key more z g) me
@@ -103,4 +103,4 @@ module _ (n : ℕ) (table : List ℕ) (key : Value) (book : List Entry) (c h : B
   ]
 
   pub sealed_tells : Tells n table key more
-  sealed_tells = record { told = told_on n table key book e now_counted refl now; waits = λ b g cs scn there here open. all_wait b g cs scn there here open }
+  sealed_tells = record { told = told_on n table key book e now_counted refl now; waits = λ b g cs scn there here opened. all_wait b g cs scn there here opened }

@@ -66,7 +66,7 @@ module _ (n : ℕ) (table : List ℕ) (key : Value) where
   empty_stands : Stands []
   empty_stands = record {
     fits = record { global = λ b g cs scn there. absurd there; undecided = λ b g cs scn there. absurd there; settled = λ b g cs scn there. absurd there };
-    apart = λ b c here there open. absurd (true≢false (sym open));
+    apart = λ b c here there opened. absurd (true≢false (sym opened));
     tells = record { told = refl; waits = λ b g cs scn there. absurd there };
   }
 
@@ -90,8 +90,8 @@ module _ (n : ℕ) (table : List ℕ) (key : Value) where
 
   module _ (book : List Entry) (doubtless : list_any (same_value key) (keys_in_doubt book n table) ≡ false) where
     open_none : (b : BranchId) → b.node ≡ n → is_open book b ≡ true → picked n table key (changes_of book b) ≡ []
-    open_none b here open =
-        let parts = open_parts book b open in
+    open_none b here opened =
+        let parts = open_parts book b opened in
         let seal : IsSealedIn book b = sealed_in_book book b parts.0 in
         let among : IsOne b (in_doubt book n) = in_doubt_of book n b (record { global = seal.global; changes = seal.changes; scn = seal.scn; sealed = seal.there; here = here; endless = parts.1 }) in
         key_none (changes_of book b) (none_in_part (same_value key) (λ b. map (λ c. c.key) (filter (λ c. same_text c.table table) (changes_of book b))) (in_doubt book n) b doubtless among)
@@ -101,7 +101,7 @@ module _ (n : ℕ) (table : List ℕ) (key : Value) where
     all_counted = alike_left n table key (unforced n table key book) (counted book) book (λ b here. by b here (is_open book b) refl)
       where
         by : (b : BranchId) → b.node ≡ n → (q : Bool) → is_open book b ≡ q → (unforced n table key book b ≡ counted book b) ⊎ (picked n table key (changes_of book b) ≡ [])
-        by b here true open = inr (open_none b here open)
+        by b here true opened = inr (open_none b here opened)
         by b here false closed = inl (sym (ap (λ q. not (stands (is_forced_of b) book) && not q) closed ∙ and_last (not (stands (is_forced_of b) book))))
           where
             and_last : (q : Bool) → (q && true) ≡ q

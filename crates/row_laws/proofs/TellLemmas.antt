@@ -28,7 +28,7 @@ committed_more older n (x ∷ es) e =
     ∙ ap (λ os. (commits_now older n x ++ committed_at (older ++ x ∷ []) n es) ++ commits_now os n e) (append_assoc older (x ∷ []) es))
 
 -- of two lists behind another the order does not matter, where one is empty
-either_order : (xs ys zs : List Change) → (ys ≡ []) ⊎ (zs ≡ []) → (xs ++ ys) ++ zs ≡ (xs ++ zs) ++ ys
+pub either_order : (xs ys zs : List Change) → (ys ≡ []) ⊎ (zs ≡ []) → (xs ++ ys) ++ zs ≡ (xs ++ zs) ++ ys
 either_order xs ys zs (inl none) = ap (λ w. (xs ++ w) ++ zs) none ∙ (ap (λ w. w ++ zs) (append-nil xs) ∙ (sym (append-nil (xs ++ zs)) ∙ ap (λ w. (xs ++ zs) ++ w) (sym none)))
 either_order xs ys zs (inr none) = ap (λ w. (xs ++ ys) ++ w) none ∙ (append-nil (xs ++ ys) ∙ (ap (λ w. w ++ ys) (sym (append-nil xs)) ∙ ap (λ w. (xs ++ w) ++ ys) (sym none)))
 
@@ -63,26 +63,26 @@ module _ (n : ℕ) (table : List ℕ) (key : Value) where
     more = book ++ e ∷ []
 
     -- what is told with one more entry
-    told_next : commits (counted more) more ≡ at_key (committed_at [] n book) ++ at_key (commits_now book n e) → commits (counted more) more ≡ at_key (committed_at [] n more)
+    pub told_next : commits (counted more) more ≡ at_key (committed_at [] n book) ++ at_key (commits_now book n e) → commits (counted more) more ≡ at_key (committed_at [] n more)
     told_next is = is ∙ (sym (filter-append (is_change_of table key) (committed_at [] n book) (commits_now book n e)) ∙ ap at_key (sym (committed_more [] n book e)))
 
-    told_on : commits (counted more) more ≡ commits (counted book) book → commits_now book n e ≡ [] → Tells book → commits (counted more) more ≡ at_key (committed_at [] n more)
+    pub told_on : commits (counted more) more ≡ commits (counted book) book → commits_now book n e ≡ [] → Tells book → commits (counted more) more ≡ at_key (committed_at [] n more)
     told_on is none now = told_next (is ∙ (now.told ∙ (sym (append-nil (at_key (committed_at [] n book))) ∙ ap (λ cs. at_key (committed_at [] n book) ++ at_key cs) (sym none))))
 
     -- tests that count the same branches commit the same
-    same_commits : (counts others : BranchId → Bool) (bk : List Entry) → ((b : BranchId) → b.node ≡ n → counts b ≡ others b) → commits counts bk ≡ commits others bk
+    pub same_commits : (counts others : BranchId → Bool) (bk : List Entry) → ((b : BranchId) → b.node ≡ n → counts b ≡ others b) → commits counts bk ≡ commits others bk
     same_commits counts others bk same_tests = alike_left n table key counts others bk (λ b here. inl (same_tests b here))
 
     module _ (quiet : IsQuiet e) where
-      quiet_commits : (counts : BranchId → Bool) → commits counts more ≡ commits counts book ++ gives n table key counts more e
+      pub quiet_commits : (counts : BranchId → Bool) → commits counts more ≡ commits counts book ++ gives n table key counts more e
       quiet_commits counts = left_more n table key counts book e (λ x there. quiet_stays n table key counts book e (λ b. ap at_key (quiet.none b)) (quiet.parts counts) x)
 
-      quiet_waiting : (b g : BranchId) → waiting more b g ≡ waiting book b g
+      pub quiet_waiting : (b g : BranchId) → waiting more b g ≡ waiting book b g
       quiet_waiting b g =
           ap (λ q. if q then at_key (changes_of more b) else []) (any_same (is_decision_on g) book e (quiet.undecided g))
           ∙ ap (λ cs. if stands (is_decision_on g) book then cs else []) (picked_same n table key (λ z. true) book e b (ap at_key (quiet.none b)))
 
-      quiet_old : (b g : BranchId) (cs : List Change) (scn : ℕ) → IsOne (entries.Sealed b g cs scn) more → IsOne (entries.Sealed b g cs scn) book
+      pub quiet_old : (b g : BranchId) (cs : List Change) (scn : ℕ) → IsOne (entries.Sealed b g cs scn) more → IsOne (entries.Sealed b g cs scn) book
       quiet_old b g cs scn there = elim (one_of_more (entries.Sealed b g cs scn) book e there) [ inl old ↦ old | inr new ↦ absurd (quiet.unsealed b g cs scn new) ]
 
   -- ---- an entry that changes nothing: a table, or a decision that a forced branch met
@@ -98,12 +98,12 @@ module _ (n : ℕ) (table : List ℕ) (key : Value) where
     counted_commits : commits (counted (book ++ e ∷ [])) (book ++ e ∷ []) ≡ commits (counted book) book
     counted_commits = same_commits book e (counted (book ++ e ∷ [])) (counted book) (book ++ e ∷ []) (λ b here. counts_on b) ∙ silent_commits (counted book)
 
-    silent_tells : Tells (book ++ e ∷ [])
+    pub silent_tells : Tells (book ++ e ∷ [])
     silent_tells = record { told = told_on book e counted_commits commits_none now; waits = waits }
       where
         waits : Waits (book ++ e ∷ [])
-        waits b g cs scn there here open =
+        waits b g cs scn there here opened =
             same_commits book e (counted_or b (book ++ e ∷ [])) (counted_or b book) (book ++ e ∷ []) (λ c at. ap (λ q. q || same b c) (counts_on c))
             ∙ (silent_commits (counted_or b book)
-            ∙ (now.waits b g cs scn (quiet_old book e quiet b g cs scn there) here (sym (same_open book e b (still b).1 (still b).2) ∙ open)
+            ∙ (now.waits b g cs scn (quiet_old book e quiet b g cs scn there) here (sym (same_open book e b (still b).1 (still b).2) ∙ opened)
             ∙ (ap (λ xs. xs ++ waiting book b g) (sym counted_commits) ∙ ap (λ xs. commits (counted (book ++ e ∷ [])) (book ++ e ∷ []) ++ xs) (sym (quiet_waiting book e quiet b g)))))

@@ -6,6 +6,7 @@
 #![tactic(auto)]
 
 ghost use Rattle.row_laws.specs.RowLaws.{DoubtsAgree, RowsAgree, BookRowsFit};
+ghost use Rattle.row_laws.specs.TriedBookRows.{TheTriedBookRows};
 
 /// The keys in doubt by the book are those of the changes that the branches in doubt of the node hold back, in their order.
 pub fn doubts_agree()
@@ -20,4 +21,10 @@ pub fn rows_agree()
 /// The rows that the committed transactions of the book leave at a node are rows of their tables.
 pub fn book_rows_fit()
     ensures { BookRowsFit }
+{}
+
+/// These laws are not about nothing: in a run the book has a row at a node from the decision on, which the node itself has only
+/// when its branch learns the decision; until then the key is in doubt by both.
+pub fn the_tried_book_rows()
+    ensures { TheTriedBookRows }
 {}
