@@ -241,7 +241,7 @@ own_keys : (n : ℕ) (book : List Entry) (table : List ℕ) → keys_in_doubt (o
 own_keys n book table =
     ap (λ bs. flat_map (λ b. map (λ c. c.key) (filter (λ c. same_text c.table table) (changes_of (own_entries n book) b))) bs) (own_in_doubt n book)
     ∙ same_flat (λ b. map (λ c. c.key) (filter (λ c. same_text c.table table) (changes_of (own_entries n book) b))) (λ b. map (λ c. c.key) (filter (λ c. same_text c.table table) (changes_of book b))) (in_doubt book n)
-        (λ b there. ap (λ cs. map (λ c. c.key) (filter (λ c. same_text c.table table) cs)) (own_changes_of n book b (open_of book n b there).here))
+    (λ b there. ap (λ cs. map (λ c. c.key) (filter (λ c. same_text c.table table) cs)) (own_changes_of n book b (open_of book n b there).here))
 
 pub doubts_agree : DoubtsAgree
 doubts_agree t lawful n k up table =

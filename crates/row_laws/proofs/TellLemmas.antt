@@ -88,7 +88,7 @@ module _ (n : ℕ) (table : List ℕ) (key : Value) where
   -- ---- an entry that changes nothing: a table, or a decision that a forced branch met
 
   module _ (book : List Entry) (e : Entry) (quiet : IsQuiet e) (silent : (counts : BranchId → Bool) (bk : List Entry) → gives n table key counts bk e ≡ []) (commits_none : commits_now book n e ≡ [])
-    (still : (b : BranchId) → (is_forced_of b e ≡ false) × (is_sealed_of b e ≡ false) × (is_end_of b e ≡ false)) (now : Tells book) where
+      (still : (b : BranchId) → (is_forced_of b e ≡ false) × (is_sealed_of b e ≡ false) × (is_end_of b e ≡ false)) (now : Tells book) where
     silent_commits : (counts : BranchId → Bool) → commits counts (book ++ e ∷ []) ≡ commits counts book
     silent_commits counts = quiet_commits book e quiet counts ∙ (ap (λ cs. commits counts book ++ cs) (silent counts (book ++ e ∷ [])) ∙ append-nil (commits counts book))
 

@@ -8,7 +8,8 @@ use Rattle.node_rules.specs.Data.{Value, Table, Doubt}
 use Rattle.node_rules.specs.Kept.{Kept}
 use Rattle.node_rules.specs.Rows.{same_value, get, rows_of_table}
 use Rattle.node_rules.specs.Words.{same_text}
-use Rattle.run_laws.specs.Book.{rows_of}
+use Rattle.run_laws.specs.Book.{rows_of, rows_told}
+use Rattle.run_laws.specs.Entries.{book_of}
 use Rattle.run_laws.specs.Facts.{node_at}
 use Rattle.run_laws.specs.Lawful.{History, IsLawfulRun, facts_at}
 use Rattle.run_laws.specs.Runs.{keys_in_doubt}
@@ -23,7 +24,13 @@ abbrev pub DoubtsAgree : Type 0
 DoubtsAgree = (t : History) → IsLawfulRun t → (n : ℕ) (k : Kept) → node_at (facts_at t) n ≡ Some k → (table : List ℕ)
     → keys_in_doubt (facts_at t).book n table ≡ doubtful_keys k.stored.doubts table
 
--- at each key that is not in doubt the node has the row of the book, or both have none
+-- at each key that is not in doubt the commits of a node leave the same row in their own order, one entry of the book after
+-- the other, as in the order of the decisions, whether the node is up or down
+abbrev pub OrdersAgree : Type 0
+OrdersAgree = (t : History) → IsLawfulRun t → (n : ℕ) (table : List ℕ) (key : Value) → list_any (same_value key) (keys_in_doubt (book_of t.trace) n table) ≡ false
+    → get (rows_told (book_of t.trace) n table) key ≡ get (rows_of (book_of t.trace) n table) key
+
+-- so at each key that is not in doubt the node has the row of the book, or both have none
 abbrev pub RowsAgree : Type 0
 RowsAgree = (t : History) → IsLawfulRun t → (n : ℕ) (k : Kept) → node_at (facts_at t) n ≡ Some k → (table : List ℕ) (key : Value)
     → list_any (same_value key) (keys_in_doubt (facts_at t).book n table) ≡ false

@@ -5,7 +5,7 @@
 //! transactions that changed it in order (`specs/RowLaws.antt`).
 #![tactic(auto)]
 
-ghost use Rattle.row_laws.specs.RowLaws.{DoubtsAgree, RowsAgree, BookRowsFit};
+ghost use Rattle.row_laws.specs.RowLaws.{DoubtsAgree, OrdersAgree, RowsAgree, BookRowsFit};
 ghost use Rattle.row_laws.specs.TriedBookRows.{TheTriedBookRows};
 
 /// The keys in doubt by the book are those of the changes that the branches in doubt of the node hold back, in their order.
@@ -13,7 +13,13 @@ pub fn doubts_agree()
     ensures { DoubtsAgree }
 {}
 
-/// At each key that is not in doubt a node has the row that the committed transactions of the book leave there, or both have none.
+/// At each key that is not in doubt the commits of a node leave the same row in the order in which its branches learned them as in the
+/// order of the decisions: locks kept those that changed the key in order.
+pub fn orders_agree()
+    ensures { OrdersAgree }
+{}
+
+/// So at each key that is not in doubt a node has the row that the committed transactions of the book leave there, or both have none.
 pub fn rows_agree()
     ensures { RowsAgree }
 {}
