@@ -40,8 +40,8 @@ module _ (n : ℕ) (table : List ℕ) (key : Value) where
   gives counts book _ = []
 
   -- what a book commits
-  abbrev pub left : (BranchId → Bool) → List Entry → List Change
-  left counts book = flat_map (gives counts book) book
+  abbrev pub committed_by : (BranchId → Bool) → List Entry → List Change
+  committed_by counts book = flat_map (gives counts book) book
 
   -- ---- the rows of the book
 
@@ -75,7 +75,7 @@ module _ (n : ℕ) (table : List ℕ) (key : Value) where
     picked_gives (entries.Met b d mixed) = refl
 
     -- the changes whose rows the book leaves
-    pub picked_book : picked (flat_map (commits_at book n) book) ≡ left (unforced book) book
+    pub picked_book : picked (flat_map (commits_at book n) book) ≡ committed_by (unforced book) book
     picked_book = filter_flat (is_change_of table key) (commits_at book n) book ∙ same_flat (λ e. picked (commits_at book n e)) (gives (unforced book) book) book (λ e there. picked_gives e)
 
   -- ---- tests that count the same
@@ -130,8 +130,8 @@ module _ (n : ℕ) (table : List ℕ) (key : Value) where
     alike_gives (entries.Met b d mixed) = refl
 
     -- they commit the same
-    pub alike_left : left counts book ≡ left others book
-    alike_left = same_flat (gives counts book) (gives others book) book (λ e there. alike_gives e)
+    pub alike_commits : committed_by counts book ≡ committed_by others book
+    alike_commits = same_flat (gives counts book) (gives others book) book (λ e there. alike_gives e)
 
   -- ---- one more entry
 
@@ -158,8 +158,8 @@ module _ (n : ℕ) (table : List ℕ) (key : Value) where
     gives_same (entries.Met b d mixed) stays = refl
 
     -- a book commits what it did, and what the new entry commits
-    pub left_more : ((x : Entry) → IsOne x book → StaysBefore x) → left counts (book ++ e ∷ []) ≡ left counts book ++ gives counts (book ++ e ∷ []) e
-    left_more stays =
+    pub commits_more : ((x : Entry) → IsOne x book → StaysBefore x) → committed_by counts (book ++ e ∷ []) ≡ committed_by counts book ++ gives counts (book ++ e ∷ []) e
+    commits_more stays =
         flat_last (gives counts (book ++ e ∷ [])) book e
         ∙ ap (λ cs. cs ++ gives counts (book ++ e ∷ []) e) (same_flat (gives counts (book ++ e ∷ [])) (gives counts book) book (λ x there. gives_same x (stays x there)))
 

@@ -13,7 +13,7 @@ use Rattle.run_laws.specs.Book.{is_decided_of, is_end_of, stands, is_decision_on
 use Rattle.run_laws.proofs.RowEventLemmas.{same_turned}
 use Rattle.book_laws.proofs.PlaceLemmas.{IsOne, finds}
 use Rattle.row_laws.proofs.FlatLemmas.{same_flat, none_flat, filter_flat, none_if, any_same, any_more, any_now, none_passes, one_of_more, flat_last}
-use Rattle.row_laws.proofs.CountLemmas.{picked, picked_if, part, total, gives, left, StaysBefore, picked_same, left_more}
+use Rattle.row_laws.proofs.CountLemmas.{picked, picked_if, part, total, gives, committed_by, StaysBefore, picked_same, commits_more}
 use Rattle.row_laws.proofs.OpenLemmas.{is_open, counted, counted_or, counted_is, open_parts, not_forced, same_open, same_counted, none_later, SealsFit}
 use Rattle.row_laws.proofs.ApartLemmas.{FreeOf, IsFree, free_branch}
 use Rattle.row_laws.proofs.TellLemmas.{either_order, waiting, Tells, told_next, same_commits}
@@ -38,7 +38,7 @@ module _ (n : ℕ) (table : List ℕ) (key : Value) (book : List Entry) (c g : B
   at_key cs = picked n table key cs
 
   abbrev commits : (BranchId → Bool) → List Entry → List Change
-  commits counts bk = left n table key counts bk
+  commits counts bk = committed_by n table key counts bk
 
   -- ---- what the entry commits
 
@@ -69,7 +69,7 @@ module _ (n : ℕ) (table : List ℕ) (key : Value) (book : List Entry) (c g : B
 
   more_commits : (counts : BranchId → Bool) → counts c ≡ true → commits counts more ≡ commits counts book ++ (total n table key counts book g ++ own)
   more_commits counts is =
-      left_more n table key counts book e (stays counts)
+      commits_more n table key counts book e (stays counts)
       ∙ ap (λ xs. commits counts book ++ xs) (flat_last (part n table key counts g) book e ∙ ap (λ xs. total n table key counts book g ++ xs) (own_part counts is))
 
   -- ---- the transaction's branches

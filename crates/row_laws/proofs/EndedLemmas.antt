@@ -12,7 +12,7 @@ use Rattle.run_laws.specs.Data.entries
 use Rattle.run_laws.specs.Book.{is_sealed_of, is_forced_of, is_end_of, stands, is_decision_on, global_in, AsDecided, Follows, changes_of, commits_now}
 use Rattle.book_laws.proofs.PlaceLemmas.{IsOne}
 use Rattle.row_laws.proofs.FlatLemmas.{none_if, or_none, any_same, any_now, any_before}
-use Rattle.row_laws.proofs.CountLemmas.{picked, left, CountAlike, alike_left}
+use Rattle.row_laws.proofs.CountLemmas.{picked, committed_by, CountAlike, alike_commits}
 use Rattle.row_laws.proofs.OpenLemmas.{is_open, counted, counted_or, counted_is, open_parts, is_open_from, not_forced, IsSealedIn, sealed_in_book, commit_decided, rollback_undecided, same_counted, open_was, SealsFit}
 use Rattle.row_laws.proofs.ApartLemmas.{AreApart, one_free}
 use Rattle.row_laws.proofs.TellLemmas.{waiting, Waits, Tells, IsQuiet, quiet_commits, quiet_waiting, quiet_old, told_next, same_commits}
@@ -29,7 +29,7 @@ module _ (n : ℕ) (table : List ℕ) (key : Value) (book : List Entry) (c : Bra
   at_key cs = picked n table key cs
 
   abbrev commits : (BranchId → Bool) → List Entry → List Change
-  commits counts bk = left n table key counts bk
+  commits counts bk = committed_by n table key counts bk
 
   quiet : IsQuiet n table key e
   quiet = record { none = λ b. refl; parts = λ counts g. refl; undecided = λ g. refl; unsealed = λ b g cs scn is. absurd cc }
@@ -101,10 +101,10 @@ module _ (n : ℕ) (table : List ℕ) (key : Value) (book : List Entry) (c : Bra
     ended_free : ((x : BranchId) → x.node ≡ n → (same c x ≡ false) ⊎ (at_key (changes_of book x) ≡ [])) → commits (counted_or b more) more ≡ commits (counted more) more ++ waiting n table key more b g
     ended_free free =
         quietly (counted_or b more)
-        ∙ (alike_left n table key (counted_or b more) (counted_or b book) book (λ x at. elim (free x at) [ inl apart ↦ inl (ap (λ q. q || same b x) (as_before x apart)) | inr none ↦ inr none ])
+        ∙ (alike_commits n table key (counted_or b more) (counted_or b book) book (λ x at. elim (free x at) [ inl apart ↦ inl (ap (λ q. q || same b x) (as_before x apart)) | inr none ↦ inr none ])
         ∙ (now.waits b g cs scn (quiet_old n table key book e quiet b g cs scn there) here before
         ∙ (ap (λ xs. xs ++ waiting n table key book b g)
-        (sym (quietly (counted more) ∙ alike_left n table key (counted more) (counted book) book (λ x at. elim (free x at) [ inl apart ↦ inl (as_before x apart) | inr none ↦ inr none ])))
+        (sym (quietly (counted more) ∙ alike_commits n table key (counted more) (counted book) book (λ x at. elim (free x at) [ inl apart ↦ inl (as_before x apart) | inr none ↦ inr none ])))
         ∙ ap (λ xs. commits (counted more) more ++ xs) (sym (quiet_waiting n table key book e quiet b g)))))
       where
         as_before : (x : BranchId) → same c x ≡ false → counted more x ≡ counted book x
@@ -114,7 +114,7 @@ module _ (n : ℕ) (table : List ℕ) (key : Value) (book : List Entry) (c : Bra
     open_free : at_key (changes_of book b) ≡ [] → commits (counted_or b more) more ≡ commits (counted more) more ++ waiting n table key more b g
     open_free none =
         quietly (counted_or b more)
-        ∙ (alike_left n table key (counted_or b more) (counted more) book (λ x at. by x (same b x) refl)
+        ∙ (alike_commits n table key (counted_or b more) (counted more) book (λ x at. by x (same b x) refl)
         ∙ (sym (quietly (counted more))
         ∙ (sym (append-nil (commits (counted more) more)) ∙ ap (λ xs. commits (counted more) more ++ xs) (sym (quiet_waiting n table key book e quiet b g ∙ none_if (stands (is_decision_on g) book) (at_key (changes_of book b)) none)))))
       where

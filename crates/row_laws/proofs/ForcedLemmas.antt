@@ -12,7 +12,7 @@ use Rattle.run_laws.specs.Data.entries
 use Rattle.run_laws.specs.Book.{is_sealed_of, is_forced_of, is_end_of, stands, is_decision_on, Follows, changes_of, commits_now}
 use Rattle.book_laws.proofs.PlaceLemmas.{IsOne}
 use Rattle.row_laws.proofs.FlatLemmas.{none_if, any_now}
-use Rattle.row_laws.proofs.CountLemmas.{picked, picked_if, gives, left, picked_same}
+use Rattle.row_laws.proofs.CountLemmas.{picked, picked_if, gives, committed_by, picked_same}
 use Rattle.row_laws.proofs.OpenLemmas.{is_open, counted, counted_or, counted_is, open_parts, is_open_from, not_forced, same_counted, open_was}
 use Rattle.row_laws.proofs.ApartLemmas.{AreApart, one_free}
 use Rattle.row_laws.proofs.TellLemmas.{either_order, waiting, Tells, IsQuiet, quiet_commits, quiet_waiting, quiet_old, told_next, same_commits}
@@ -28,7 +28,7 @@ module _ (n : ℕ) (table : List ℕ) (key : Value) (book : List Entry) (c : Bra
   at_key cs = picked n table key cs
 
   abbrev commits : (BranchId → Bool) → List Entry → List Change
-  commits counts bk = left n table key counts bk
+  commits counts bk = committed_by n table key counts bk
 
   quiet : IsQuiet n table key e
   quiet = record { none = λ b. refl; parts = λ counts g. refl; undecided = λ g. refl; unsealed = λ b g cs scn is. absurd cc }

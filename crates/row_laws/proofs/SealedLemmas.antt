@@ -13,7 +13,7 @@ use Rattle.run_laws.proofs.RowEventLemmas.{same_turned}
 use Rattle.book_laws.specs.SealLaws.{ComesFirst}
 use Rattle.book_laws.proofs.PlaceLemmas.{IsOne}
 use Rattle.row_laws.proofs.FlatLemmas.{or_none, any_same, none_passes, one_of_more}
-use Rattle.row_laws.proofs.CountLemmas.{picked, part, left, CountAlike, alike_left, StaysBefore, picked_same, left_more}
+use Rattle.row_laws.proofs.CountLemmas.{picked, part, committed_by, CountAlike, alike_commits, StaysBefore, picked_same, commits_more}
 use Rattle.row_laws.proofs.OpenLemmas.{is_open, counted, counted_or, seal_found, no_changes, same_open, same_counted}
 use Rattle.row_laws.proofs.TellLemmas.{waiting, Tells, told_on}
 
@@ -29,7 +29,7 @@ module _ (n : ℕ) (table : List ℕ) (key : Value) (book : List Entry) (c h : B
   at_key cs = picked n table key cs
 
   abbrev commits : (BranchId → Bool) → List Entry → List Change
-  commits counts bk = left n table key counts bk
+  commits counts bk = committed_by n table key counts bk
 
   -- what the book commits stays: its transaction was not decided, and nothing was forced on it
   stays : (counts : BranchId → Bool) (x : Entry) → IsOne x book → StaysBefore n table key counts book e x
@@ -43,8 +43,8 @@ module _ (n : ℕ) (table : List ℕ) (key : Value) (book : List Entry) (c h : B
   stays counts (entries.Ended b d) there = tt
   stays counts (entries.Met b d mixed) there = tt
 
-  same_left : (counts : BranchId → Bool) → commits counts more ≡ commits counts book
-  same_left counts = left_more n table key counts book e (stays counts) ∙ append-nil (commits counts book)
+  nothing_more : (counts : BranchId → Bool) → commits counts more ≡ commits counts book
+  nothing_more counts = commits_more n table key counts book e (stays counts) ∙ append-nil (commits counts book)
 
   unchanged : at_key (changes_of book c) ≡ []
   unchanged = ap at_key (no_changes book c follows.0 follows.1)
@@ -58,7 +58,7 @@ module _ (n : ℕ) (table : List ℕ) (key : Value) (book : List Entry) (c h : B
       by false is = inl (same_counted book e x refl is refl)
 
   now_counted : commits (counted more) more ≡ commits (counted book) book
-  now_counted = same_left (counted more) ∙ alike_left n table key (counted more) (counted book) book (λ x here. counts_alike x)
+  now_counted = nothing_more (counted more) ∙ alike_commits n table key (counted more) (counted book) book (λ x here. counts_alike x)
 
   -- ---- those that wait
 
@@ -73,16 +73,16 @@ module _ (n : ℕ) (table : List ℕ) (key : Value) (book : List Entry) (c h : B
 
     waits_on : commits (counted_or b more) more ≡ commits (counted more) more ++ waiting n table key more b g
     waits_on =
-        same_left (counted_or b more)
-        ∙ (alike_left n table key (counted_or b more) (counted_or b book) book (λ x at. elim (counts_alike x) [ inl is ↦ inl (ap (λ q. q || same b x) is) | inr none ↦ inr none ])
+        nothing_more (counted_or b more)
+        ∙ (alike_commits n table key (counted_or b more) (counted_or b book) book (λ x at. elim (counts_alike x) [ inl is ↦ inl (ap (λ q. q || same b x) is) | inr none ↦ inr none ])
         ∙ (now.waits b g cs scn old here (sym (same_open book e b other refl) ∙ opened)
         ∙ (ap (λ xs. xs ++ waiting n table key book b g) (sym now_counted) ∙ ap (λ xs. commits (counted more) more ++ xs) (sym same_waiting))))
 
   -- the one that seals waits for nothing
   seal_waits : commits (counted_or c more) more ≡ commits (counted more) more ++ waiting n table key more c h
   seal_waits =
-      same_left (counted_or c more)
-      ∙ (alike_left n table key (counted_or c more) (counted book) book (λ x at. by x (same c x) refl)
+      nothing_more (counted_or c more)
+      ∙ (alike_commits n table key (counted_or c more) (counted book) book (λ x at. by x (same c x) refl)
       ∙ (sym now_counted ∙ (sym (append-nil (commits (counted more) more)) ∙ ap (λ xs. commits (counted more) more ++ xs) (sym none))))
     where
       by : (x : BranchId) (q : Bool) → same c x ≡ q → ((counted more x || same c x) ≡ counted book x) ⊎ (at_key (changes_of book x) ≡ [])

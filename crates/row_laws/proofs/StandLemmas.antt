@@ -17,7 +17,7 @@ use Rattle.book_laws.proofs.PlaceLemmas.{IsOne}
 use Rattle.book_laws.proofs.DoubtLemmas.{IsOpenIn, in_doubt_of}
 use Rattle.row_laws.proofs.FlatLemmas.{none_in_part}
 use Rattle.row_laws.proofs.KeyChangeLemmas.{last_row, got_applied}
-use Rattle.row_laws.proofs.CountLemmas.{picked, unforced, left, picked_book, alike_left}
+use Rattle.row_laws.proofs.CountLemmas.{picked, unforced, committed_by, picked_book, alike_commits}
 use Rattle.row_laws.proofs.OpenLemmas.{is_open, counted, open_parts, IsSealedIn, sealed_in_book, SealsFit, seals_fit_next}
 use Rattle.row_laws.proofs.ApartLemmas.{IsFree, AreApart, apart_next}
 use Rattle.row_laws.proofs.TellLemmas.{Tells, silent_tells}
@@ -97,8 +97,8 @@ module _ (n : ℕ) (table : List ℕ) (key : Value) where
         key_none (changes_of book b) (none_in_part (same_value key) (λ b. map (λ c. c.key) (filter (λ c. same_text c.table table) (changes_of book b))) (in_doubt book n) b doubtless among)
 
     -- all that are open have no changes at the key
-    all_counted : left n table key (unforced n table key book) book ≡ left n table key (counted book) book
-    all_counted = alike_left n table key (unforced n table key book) (counted book) book (λ b here. by b here (is_open book b) refl)
+    all_counted : committed_by n table key (unforced n table key book) book ≡ committed_by n table key (counted book) book
+    all_counted = alike_commits n table key (unforced n table key book) (counted book) book (λ b here. by b here (is_open book b) refl)
       where
         by : (b : BranchId) → b.node ≡ n → (q : Bool) → is_open book b ≡ q → (unforced n table key book b ≡ counted book b) ⊎ (picked n table key (changes_of book b) ≡ [])
         by b here true opened = inr (open_none b here opened)

@@ -16,7 +16,7 @@ use Rattle.run_laws.specs.Book.{is_sealed_of, is_decided_of, is_forced_of, is_en
 use Rattle.book_laws.specs.SealLaws.{ComesFirst}
 use Rattle.book_laws.proofs.PlaceLemmas.{IsOne, finds}
 use Rattle.row_laws.proofs.FlatLemmas.{same_flat, none_flat, filter_flat, none_if, one_of_more, or_none, any_same, any_now, any_before, none_passes}
-use Rattle.row_laws.proofs.CountLemmas.{picked, part, total, gives, left, CountAlike, alike_total, alike_left, StaysBefore, picked_same, left_more, quiet_stays}
+use Rattle.row_laws.proofs.CountLemmas.{picked, part, total, gives, committed_by, CountAlike, alike_total, alike_commits, StaysBefore, picked_same, commits_more, quiet_stays}
 use Rattle.row_laws.proofs.OpenLemmas.{is_open, counted, counted_or, counted_is, open_parts, is_open_from, not_forced, IsSealedIn, sealed_in_book, seal_found, commit_decided, rollback_undecided, no_changes, same_open, same_counted, none_later, open_was, SealsFit}
 use Rattle.row_laws.proofs.ApartLemmas.{FreeOf, IsFree, free_branch, AreApart}
 
@@ -37,7 +37,7 @@ module _ (n : ℕ) (table : List ℕ) (key : Value) where
   at_key cs = picked n table key cs
 
   abbrev commits : (BranchId → Bool) → List Entry → List Change
-  commits counts book = left n table key counts book
+  commits counts book = committed_by n table key counts book
 
   -- what an open branch has at the key, where its transaction was decided
   abbrev pub waiting : List Entry → BranchId → BranchId → List Change
@@ -71,11 +71,11 @@ module _ (n : ℕ) (table : List ℕ) (key : Value) where
 
     -- tests that count the same branches commit the same
     pub same_commits : (counts others : BranchId → Bool) (bk : List Entry) → ((b : BranchId) → b.node ≡ n → counts b ≡ others b) → commits counts bk ≡ commits others bk
-    same_commits counts others bk same_tests = alike_left n table key counts others bk (λ b here. inl (same_tests b here))
+    same_commits counts others bk same_tests = alike_commits n table key counts others bk (λ b here. inl (same_tests b here))
 
     module _ (quiet : IsQuiet e) where
       pub quiet_commits : (counts : BranchId → Bool) → commits counts more ≡ commits counts book ++ gives n table key counts more e
-      quiet_commits counts = left_more n table key counts book e (λ x there. quiet_stays n table key counts book e (λ b. ap at_key (quiet.none b)) (quiet.parts counts) x)
+      quiet_commits counts = commits_more n table key counts book e (λ x there. quiet_stays n table key counts book e (λ b. ap at_key (quiet.none b)) (quiet.parts counts) x)
 
       pub quiet_waiting : (b g : BranchId) → waiting more b g ≡ waiting book b g
       quiet_waiting b g =

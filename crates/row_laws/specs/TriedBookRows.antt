@@ -16,10 +16,11 @@ use Rattle.row_laws.specs.RowLaws.{doubtful_keys}
 abbrev pub stored_at_b : Facts → Stored
 stored_at_b f = stored_by nothing_stored (records_at f 2)
 
--- when A has decided, and at the end
+-- when A has decided
 abbrev pub decided : Facts
 decided = facts_after_so_many 12
 
+-- at the end
 abbrev pub done : Facts
 done = facts_after_so_many 15
 
