@@ -1,5 +1,5 @@
 -- Of two open branches of a node at most one has changed a key: a branch seals only on keys that no open branch has changed.
-use Rattle.std.proofs.Common.{◌≡◌, ℕ, ◌==◌, Bool, true, false, true≢false, if◌then◌else◌, List, [], ◌∷◌, ◌++◌, filter, inl, inr, refl, sym, ap, subst, ◌∙◌}
+use Rattle.std.proofs.Common.{◌≡◌, ℕ, ◌==◌, Bool, true, false, true≢false, if◌then◌else◌, List, [], ◌∷◌, ◌++◌, inl, inr, refl, sym, ap, subst, ◌∙◌}
 use Rattle.std.specs.Prelude.{◌⊎◌}
 use Rattle.std.proofs.lemmas.Bool.{eqb-true, eq-eqb}
 use Rattle.tran_ids.proofs.BranchLemmas.{equal_from_same, same_from_equal}
@@ -9,7 +9,6 @@ use Rattle.node_rules.specs.Words.{same}
 use Rattle.run_laws.specs.Data.{Entry}
 use Rattle.run_laws.specs.Data.entries
 use Rattle.run_laws.specs.Book.{is_sealed_of, is_decided_of, is_end_of, stands, Follows, changes_in, changes_of}
-use Rattle.run_laws.proofs.ToldLemmas.{changes_more}
 use Rattle.book_laws.proofs.PlaceLemmas.{IsOne}
 use Rattle.row_laws.proofs.FlatLemmas.{none_flat, filter_flat, none_passes}
 use Rattle.row_laws.proofs.CountLemmas.{picked, picked_more, picked_same}

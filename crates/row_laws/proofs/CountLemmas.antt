@@ -11,7 +11,7 @@ use Rattle.node_rules.specs.Rows.{is_change_of}
 use Rattle.node_rules.specs.Words.{same}
 use Rattle.run_laws.specs.Data.{Entry}
 use Rattle.run_laws.specs.Data.entries
-use Rattle.run_laws.specs.Book.{is_forced_of, stands, changes_in, changes_of, unforced_at, transaction_in, transaction_at, commits_at}
+use Rattle.run_laws.specs.Book.{is_forced_of, stands, changes_in, changes_of, transaction_in, transaction_at, commits_at}
 use Rattle.run_laws.proofs.ToldLemmas.{changes_more}
 use Rattle.book_laws.proofs.PlaceLemmas.{IsOne}
 use Rattle.row_laws.proofs.FlatLemmas.{same_flat, none_in_flat, filter_flat, flat_last, none_if}

@@ -9,13 +9,13 @@ use Rattle.node_rules.specs.Rows.{is_change_of}
 use Rattle.node_rules.specs.Words.{same}
 use Rattle.run_laws.specs.Data.{Entry}
 use Rattle.run_laws.specs.Data.entries
-use Rattle.run_laws.specs.Book.{is_decided_of, is_end_of, stands, is_decision_on, global_in, is_of, is_rollback_of, Follows, changes_in, changes_of, commits_now, committed_at}
+use Rattle.run_laws.specs.Book.{is_decided_of, is_end_of, stands, is_decision_on, global_in, is_of, is_rollback_of, Follows, changes_in, changes_of, committed_at}
 use Rattle.run_laws.proofs.RowEventLemmas.{same_turned}
 use Rattle.book_laws.proofs.PlaceLemmas.{IsOne, finds}
-use Rattle.row_laws.proofs.FlatLemmas.{same_flat, none_flat, filter_flat, none_if, any_same, any_more, any_now, none_passes, one_of_more, flat_last}
-use Rattle.row_laws.proofs.CountLemmas.{picked, picked_if, part, total, gives, committed_by, StaysBefore, picked_same, commits_more}
+use Rattle.row_laws.proofs.FlatLemmas.{same_flat, none_flat, filter_flat, none_if, any_same, any_now, none_passes, one_of_more, flat_last}
+use Rattle.row_laws.proofs.CountLemmas.{picked, picked_if, part, total, committed_by, StaysBefore, picked_same, commits_more}
 use Rattle.row_laws.proofs.OpenLemmas.{is_open, counted, counted_or, counted_is, open_parts, not_forced, same_open, same_counted, none_later, SealsFit}
-use Rattle.row_laws.proofs.ApartLemmas.{FreeOf, IsFree, free_branch}
+use Rattle.row_laws.proofs.ApartLemmas.{IsFree, free_branch}
 use Rattle.row_laws.proofs.TellLemmas.{either_order, waiting, Tells, told_next, same_commits}
 
 and_true : (q r : Bool) → r ≡ true → (q && r) ≡ q

@@ -12,10 +12,10 @@ use Rattle.run_laws.specs.Data.entries
 use Rattle.run_laws.specs.Book.{is_sealed_of, is_forced_of, is_end_of, stands, is_decision_on, global_in, AsDecided, Follows, changes_of, commits_now}
 use Rattle.book_laws.proofs.PlaceLemmas.{IsOne}
 use Rattle.row_laws.proofs.FlatLemmas.{none_if, or_none, any_same, any_now, any_before}
-use Rattle.row_laws.proofs.CountLemmas.{picked, committed_by, CountAlike, alike_commits}
+use Rattle.row_laws.proofs.CountLemmas.{picked, committed_by, alike_commits}
 use Rattle.row_laws.proofs.OpenLemmas.{is_open, counted, counted_or, counted_is, open_parts, is_open_from, not_forced, IsSealedIn, sealed_in_book, commit_decided, rollback_undecided, same_counted, open_was, SealsFit}
 use Rattle.row_laws.proofs.ApartLemmas.{AreApart, one_free}
-use Rattle.row_laws.proofs.TellLemmas.{waiting, Waits, Tells, IsQuiet, quiet_commits, quiet_waiting, quiet_old, told_next, same_commits}
+use Rattle.row_laws.proofs.TellLemmas.{waiting, Tells, IsQuiet, quiet_commits, quiet_waiting, quiet_old, told_next, same_commits}
 
 module _ (n : ℕ) (table : List ℕ) (key : Value) (book : List Entry) (c : BranchId) (d : Decision) (fits : SealsFit book) (apart : AreApart n table key book) (follows : Follows book (entries.Ended c d))
     (now : Tells n table key book) where

@@ -1,17 +1,17 @@
 -- What a book says of one node's branches, it says by the entries of that node alone: who is in doubt, and what they changed.
-use Rattle.std.proofs.Common.{◌≡◌, ℕ, ◌==◌, ◌||◌, ◌&&◌, not, Bool, true, false, true≢false, if◌then◌else◌, List, [], ◌∷◌, ◌++◌, filter, flat_map, refl, sym, ap, subst, ◌∙◌, append-nil}
+use Rattle.std.proofs.Common.{◌≡◌, ℕ, ◌==◌, ◌||◌, ◌&&◌, not, Bool, true, false, true≢false, if◌then◌else◌, List, [], ◌∷◌, ◌++◌, filter, refl, sym, ap, subst, ◌∙◌, append-nil}
 use Rattle.std.specs.List.{list_any}
 use Rattle.std.proofs.lemmas.Bool.{eqb-true, eq-eqb}
 use Rattle.std.proofs.lemmas.List.Elements.{filter-append}
 use Rattle.tran_ids.proofs.BranchLemmas.{equal_from_same}
 use Rattle.agreement.proofs.BookTests.{not_true}
-use Rattle.node_rules.specs.Data.{Change, BranchId}
+use Rattle.node_rules.specs.Data.{BranchId}
 use Rattle.node_rules.specs.Words.{same}
 use Rattle.run_laws.specs.Data.{Entry}
 use Rattle.run_laws.specs.Data.entries
 use Rattle.run_laws.specs.Book.{is_sealed_of, is_decided_of, is_end_of, stands, Follows, EachAgainst, changes_in, changes_of, doubt_in, in_doubt}
 use Rattle.book_laws.specs.DiskLaws.{node_of, is_of_node}
-use Rattle.book_laws.proofs.PlaceLemmas.{IsOne, any_unfiltered}
+use Rattle.book_laws.proofs.PlaceLemmas.{any_unfiltered}
 use Rattle.row_laws.proofs.FlatLemmas.{same_flat, flat_filter}
 
 -- ---- part of a book

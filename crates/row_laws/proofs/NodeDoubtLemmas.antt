@@ -1,32 +1,31 @@
 -- The branches in doubt of a node, with what they hold back, are those of its book, in their order.
-use Rattle.std.proofs.Common.{◌≡◌, ℕ, ◌==◌, ◌||◌, ◌&&◌, not, Bool, true, false, true≢false, if◌then◌else◌, List, [], ◌∷◌, ◌++◌, filter, flat_map, map, Some, inl, inr, refl, sym, ap, subst, ◌∙◌, append-nil, append_assoc}
+use Rattle.std.proofs.Common.{◌≡◌, ℕ, ◌==◌, ◌||◌, ◌&&◌, not, Bool, true, false, true≢false, if◌then◌else◌, List, [], ◌∷◌, ◌++◌, filter, flat_map, map, inl, inr, refl, sym, ap, subst, ◌∙◌, append-nil, append_assoc}
 use Rattle.std.specs.List.{AllByRecursion}
 use Rattle.std.proofs.lemmas.Bool.{eq-eqb}
 use Rattle.std.proofs.lemmas.List.{map-append}
-use Rattle.std.proofs.lemmas.List.Elements.{filter-append}
 use Rattle.tran_ids.proofs.BranchLemmas.{equal_from_same, same_from_equal}
 use Rattle.agreement.proofs.BookTests.{not_true}
-use Rattle.node_rules.specs.Data.{Value, Change, BranchId, RedoRecord, Doubt}
+use Rattle.node_rules.specs.Data.{Change, BranchId, RedoRecord, Doubt}
 use Rattle.node_rules.specs.Data.records
-use Rattle.node_rules.specs.Kept.{Stored, Kept, doubt_id}
+use Rattle.node_rules.specs.Kept.{Stored, doubt_id}
 use Rattle.node_rules.specs.Records.{applied, nothing_stored, stored_by, doubt_over}
 use Rattle.node_rules.specs.Words.{same, same_text, drop_item}
 use Rattle.run_laws.specs.Data.{Entry}
 use Rattle.run_laws.specs.Data.entries
 use Rattle.run_laws.specs.Book.{is_sealed_of, is_end_of, stands, EachAgainst, changes_in, changes_of, doubt_in, in_doubt}
 use Rattle.run_laws.specs.Entries.{entry_of, book_of}
-use Rattle.run_laws.specs.Facts.{node_at, records_at}
-use Rattle.run_laws.specs.Lawful.{History, IsLawfulRun, facts_at}
+use Rattle.run_laws.specs.Facts.{records_at}
+use Rattle.run_laws.specs.Lawful.{facts_at}
 use Rattle.run_laws.specs.Runs.{keys_in_doubt}
 use Rattle.run_laws.proofs.KeyRunLemmas.{doubts_same}
-use Rattle.run_laws.proofs.StoredLemmas.{stored_with, records_are_kept}
+use Rattle.run_laws.proofs.StoredLemmas.{records_are_kept}
 use Rattle.run_laws.proofs.ToldLemmas.{changes_more}
 use Rattle.tree_laws.proofs.AgreeLemmas.{runs_agree}
 use Rattle.book_laws.proofs.PlaceLemmas.{IsOne}
 use Rattle.book_laws.proofs.DiskLemmas.{books_are_of_disks}
 use Rattle.book_laws.proofs.DoubtLemmas.{IsOpenIn, open_of}
 use Rattle.row_laws.specs.RowLaws.{doubtful_keys, DoubtsAgree}
-use Rattle.row_laws.proofs.FlatLemmas.{same_flat, filter_flat, flat_last, any_same, any_more, none_passes}
+use Rattle.row_laws.proofs.FlatLemmas.{same_flat, filter_flat, flat_last, any_same, any_more}
 use Rattle.row_laws.proofs.NodeBookLemmas.{own_entries, own_in_doubt, own_changes_of, SealsAlone, ComesHere, all_here}
 use Rattle.row_laws.proofs.OpenLemmas.{seal_found, no_changes}
 use Rattle.row_laws.proofs.RowLemmas.{run_book}

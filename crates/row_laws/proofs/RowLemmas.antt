@@ -1,7 +1,6 @@
 -- At each key that is not in doubt a node of a lawful run has the row of the book.
-use Rattle.std.proofs.Common.{◌≡◌, ℕ, false, List, Some, refl, sym, ap, subst, ◌∙◌}
+use Rattle.std.proofs.Common.{◌≡◌, false, List, sym, ap, subst, ◌∙◌}
 use Rattle.std.specs.List.{list_any}
-use Rattle.node_rules.specs.Data.{Value}
 use Rattle.node_rules.specs.Rows.{same_value, get}
 use Rattle.run_laws.specs.Data.{Entry}
 use Rattle.run_laws.specs.Book.{rows_of}

@@ -8,12 +8,12 @@ use Rattle.node_rules.specs.Data.decisions
 use Rattle.node_rules.specs.Words.{same}
 use Rattle.run_laws.specs.Data.{Entry}
 use Rattle.run_laws.specs.Data.entries
-use Rattle.run_laws.specs.Book.{is_sealed_of, is_end_of, stands, is_decision_on, Follows, changes_in, changes_of}
+use Rattle.run_laws.specs.Book.{is_sealed_of, is_end_of, stands, is_decision_on, Follows, changes_of}
 use Rattle.run_laws.proofs.RowEventLemmas.{same_turned}
 use Rattle.book_laws.specs.SealLaws.{ComesFirst}
 use Rattle.book_laws.proofs.PlaceLemmas.{IsOne}
 use Rattle.row_laws.proofs.FlatLemmas.{or_none, any_same, none_passes, one_of_more}
-use Rattle.row_laws.proofs.CountLemmas.{picked, part, committed_by, CountAlike, alike_commits, StaysBefore, picked_same, commits_more}
+use Rattle.row_laws.proofs.CountLemmas.{picked, committed_by, alike_commits, StaysBefore, picked_same, commits_more}
 use Rattle.row_laws.proofs.OpenLemmas.{is_open, counted, counted_or, seal_found, no_changes, same_open, same_counted}
 use Rattle.row_laws.proofs.TellLemmas.{waiting, Tells, told_on}
 

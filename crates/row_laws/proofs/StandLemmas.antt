@@ -5,16 +5,15 @@ use Rattle.std.specs.Prelude.{◌⊎◌}
 use Rattle.std.specs.List.{list_any}
 use Rattle.dtx_values.proofs.ValueOrder.{same_is}
 use Rattle.node_rules.specs.Data.{Value, Change, BranchId}
-use Rattle.node_rules.specs.Data.decisions
-use Rattle.node_rules.specs.Rows.{same_value, get, is_change_of}
+use Rattle.node_rules.specs.Rows.{same_value, get}
 use Rattle.node_rules.specs.Words.{same_text}
 use Rattle.run_laws.specs.Data.{Entry}
 use Rattle.run_laws.specs.Data.entries
-use Rattle.run_laws.specs.Book.{is_sealed_of, is_forced_of, is_end_of, stands, Follows, EachAgainst, changes_of, commits_at, rows_of, committed_at, rows_told, in_doubt}
+use Rattle.run_laws.specs.Book.{is_forced_of, stands, Follows, EachAgainst, changes_of, commits_at, rows_of, committed_at, rows_told, in_doubt}
 use Rattle.run_laws.specs.Runs.{keys_in_doubt}
 use Rattle.book_laws.specs.SealLaws.{ComesFirst}
 use Rattle.book_laws.proofs.PlaceLemmas.{IsOne}
-use Rattle.book_laws.proofs.DoubtLemmas.{IsOpenIn, in_doubt_of}
+use Rattle.book_laws.proofs.DoubtLemmas.{in_doubt_of}
 use Rattle.row_laws.proofs.FlatLemmas.{none_in_part}
 use Rattle.row_laws.proofs.KeyChangeLemmas.{last_row, got_applied}
 use Rattle.row_laws.proofs.CountLemmas.{picked, unforced, committed_by, picked_book, alike_commits}

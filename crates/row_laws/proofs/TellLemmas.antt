@@ -1,24 +1,18 @@
 -- What the book tells of a key, one entry after the other, is what it commits there by decisions of the branches that are
 -- counted; and an open branch, counted too, adds its changes behind all others, where its transaction was decided.
-use Rattle.std.proofs.Common.{◌≡◌, ℕ, ◌==◌, ◌||◌, ◌&&◌, not, Bool, true, false, true≢false, if◌then◌else◌, List, [], ◌∷◌, ◌++◌, filter, flat_map, Some, inl, inr, refl, sym, ap, subst, ◌∙◌, append-nil, append_assoc}
+use Rattle.std.proofs.Common.{◌≡◌, ℕ, ◌||◌, Bool, true, false, if◌then◌else◌, List, [], ◌∷◌, ◌++◌, inl, inr, sym, ap, ◌∙◌, append-nil, append_assoc}
 use Rattle.std.specs.Prelude.{◌⊎◌}
-use Rattle.std.proofs.lemmas.Bool.{and_parts, or_right, eqb-true, eq-eqb}
 use Rattle.std.proofs.lemmas.List.Elements.{filter-append}
-use Rattle.tran_ids.proofs.BranchLemmas.{equal_from_same, same_from_equal}
-use Rattle.agreement.proofs.BookTests.{not_true}
-use Rattle.node_rules.specs.Data.{Value, Change, BranchId, Decision}
-use Rattle.node_rules.specs.Data.decisions
+use Rattle.node_rules.specs.Data.{Value, Change, BranchId}
 use Rattle.node_rules.specs.Rows.{is_change_of}
 use Rattle.node_rules.specs.Words.{same}
 use Rattle.run_laws.specs.Data.{Entry}
 use Rattle.run_laws.specs.Data.entries
-use Rattle.run_laws.specs.Book.{is_sealed_of, is_decided_of, is_forced_of, is_end_of, stands, is_decision_on, global_in, is_of, is_rollback_of, AsDecided, Follows, changes_in, changes_of, commits_now, committed_at}
-use Rattle.book_laws.specs.SealLaws.{ComesFirst}
-use Rattle.book_laws.proofs.PlaceLemmas.{IsOne, finds}
-use Rattle.row_laws.proofs.FlatLemmas.{same_flat, none_flat, filter_flat, none_if, one_of_more, or_none, any_same, any_now, any_before, none_passes}
-use Rattle.row_laws.proofs.CountLemmas.{picked, part, total, gives, committed_by, CountAlike, alike_total, alike_commits, StaysBefore, picked_same, commits_more, quiet_stays}
-use Rattle.row_laws.proofs.OpenLemmas.{is_open, counted, counted_or, counted_is, open_parts, is_open_from, not_forced, IsSealedIn, sealed_in_book, seal_found, commit_decided, rollback_undecided, no_changes, same_open, same_counted, none_later, open_was, SealsFit}
-use Rattle.row_laws.proofs.ApartLemmas.{FreeOf, IsFree, free_branch, AreApart}
+use Rattle.run_laws.specs.Book.{is_sealed_of, is_forced_of, is_end_of, stands, is_decision_on, changes_in, changes_of, commits_now, committed_at}
+use Rattle.book_laws.proofs.PlaceLemmas.{IsOne}
+use Rattle.row_laws.proofs.FlatLemmas.{one_of_more, any_same}
+use Rattle.row_laws.proofs.CountLemmas.{picked, part, gives, committed_by, alike_commits, picked_same, commits_more, quiet_stays}
+use Rattle.row_laws.proofs.OpenLemmas.{is_open, counted, counted_or, same_open, same_counted}
 
 committed_more : (older : List Entry) (n : ℕ) (es : List Entry) (e : Entry) → committed_at older n (es ++ e ∷ []) ≡ committed_at older n es ++ commits_now (older ++ es) n e
 committed_more older n [] e = append-nil (commits_now older n e) ∙ ap (λ os. commits_now os n e) (sym (append-nil older))
