@@ -7,6 +7,7 @@
 
 ghost use Rattle.row_laws.specs.RowLaws.{DoubtsAgree, OrdersAgree, RowsAgree, BookRowsFit};
 ghost use Rattle.row_laws.specs.TriedBookRows.{TheTriedBookRows};
+ghost use Rattle.row_laws.specs.TriedForcedRows.{TheTriedForcedRows};
 
 /// The keys in doubt by the book are those of the changes that the branches in doubt of the node hold back, in their order.
 pub fn doubts_agree()
@@ -33,4 +34,9 @@ pub fn book_rows_fit()
 /// when its branch learns the decision; until then the key is in doubt by both.
 pub fn the_tried_book_rows()
     ensures { TheTriedBookRows }
+{}
+
+/// Where a branch is committed by force and learns a rollback later, the mixed outcome leaves its row at the node, as by the book.
+pub fn the_tried_forced_rows()
+    ensures { TheTriedForcedRows }
 {}
