@@ -224,7 +224,7 @@ fn orders_on_disks_are_read(rt: HostRuntime) {
     );
     let left = last(rt.alloc(), b"NODE a; crash a write 1 leave 'fF00';");
     assert!(rt;
-        matches!(&left, Some(Command::Crash { node: 1, write: 1, how: How::Leave(bytes) }) if bytes.as_slice() == b"\xff\x00")
+        matches!(&left, Some(Command::Crash { node: 1, write: 1, how: How::Leave(bytes) }) if bytes.as_slice() == b"\xff\x00".as_slice())
     );
     let failed = last(rt.alloc(), b"NODE a; FAULT a CALL 7;");
     assert!(rt; matches!(&failed, Some(Command::Fault { node: 1, call: 7 })));

@@ -1,0 +1,17 @@
+pub mod FlatLemmas
+pub mod KeyChangeLemmas
+pub mod CountLemmas
+pub mod OpenLemmas
+pub mod ApartLemmas
+pub mod TellLemmas
+pub mod EndedLemmas
+pub mod ForcedLemmas
+pub mod SealedLemmas
+pub mod DecidedLemmas
+pub mod StandLemmas
+pub mod FreeLemmas
+pub mod RowLemmas
+pub mod NodeBookLemmas
+pub mod NodeDoubtLemmas
+pub mod RecordFitLemmas
+pub mod TriedBookRowsLemmas
