@@ -1,0 +1,9 @@
+pub mod TaleLemmas
+pub mod PlainLemmas
+pub mod ExecLemmas
+pub mod NameLemmas
+pub mod NumberLemmas
+pub mod BroughtLemmas
+pub mod TurnTaleLemmas
+pub mod ReplyTurnLemmas
+pub mod ReplyRunLemmas
