@@ -1,5 +1,5 @@
 -- What becomes of an Exec and of a Reply at the branch that they come to.
-use Rattle.std.proofs.Common.{◌≡◌, ◌≢◌, ℕ, ◌<◌, ◌≤◌, ◌==◌, ◌&&◌, ◌||◌, Bool, true, false, if◌then◌else◌, is_none, List, [], ◌∷◌, length, Option, Some, None, refl, sym, ap, subst, ◌∙◌, arith}
+use Rattle.std.proofs.Common.{◌≡◌, ◌≢◌, ℕ, ◌+◌, ◌<◌, ◌≤◌, ◌==◌, ◌&&◌, ◌||◌, Bool, true, false, if◌then◌else◌, is_none, List, [], ◌∷◌, length, Option, Some, None, refl, sym, ap, subst, ◌∙◌, arith}
 use Rattle.std.specs.Prelude.{nat_lt, nat_le, is_some}
 use Rattle.std.proofs.lemmas.Bool.{cond_both}
 use Rattle.std.proofs.lemmas.Bool.Decides.{nat_tests}
@@ -8,9 +8,11 @@ use Rattle.tran_ids.proofs.ListedLemmas.{put_found}
 use Rattle.link_session.proofs.OnceLemmas.{run_is_new}
 use Rattle.link_session.specs.Calls.{taken}
 use Rattle.dtx_values.specs.Limits.{depth_limit}
-use Rattle.session_tree.specs.Live.{peer_of}
+use Rattle.session_tree.specs.Live.{next_edge, peer_of}
 use Rattle.session_tree.specs.Tree.{room}
-use Rattle.node_rules.specs.Data.{Table, Stmt, Answer, Advice, Admit, BranchId, Calls, Edge, Kind, Live, Msg, Place, Input, Post, ReplyFields, Work, Finished}
+use Rattle.node_rules.specs.Data.{Table, Stmt, Answer, Advice, Admit, BranchId, Calls, Edge, Kind, Live, Msg, Place, Input, Post, ReplyFields}
+use Rattle.node_rules.specs.declared.work.Work.{Work}
+use Rattle.node_rules.specs.declared.session.Finished.{Finished}
 use Rattle.node_rules.specs.Data.admits
 use Rattle.node_rules.specs.Data.answers
 use Rattle.node_rules.specs.Data.inputs
@@ -22,14 +24,15 @@ use Rattle.node_rules.specs.Kept.{Kept, Branch, Deed, live_id, work_id, live_at,
 use Rattle.node_rules.specs.LiveBranches.{works_of, EachLive}
 use Rattle.node_rules.specs.Names.{Way, Runs_here, Over, Through, Nowhere_to, Named, A_table, Behind, Unknown, named_by, ref_of, passed_on, target_of, way_new, way_edge, way_target, way_named, way_of}
 use Rattle.node_rules.specs.Statement.{ran, after_run, answer_of_run}
-use Rattle.node_rules.specs.Calls.{admit, reply_fields, kept_reply, with_answer, answer_says, answer_ends, replies, exec_to, next_call, called, waits_for_opened, goes, statement_at, takes_call, says_again, exec_by, reply_of, reply_by, hears_reply, heard_answer, gone_reply, is_gone}
+use Rattle.node_rules.specs.Calls.{admit, reply_fields, kept_reply, with_answer, answer_says, answer_ends, replies, exec_to, nobody_at, called, waits_for_opened, goes, statement_at, takes_call, says_again, exec_by, reply_of, reply_by, hears_reply, heard_answer, gone_reply, is_gone}
 use Rattle.node_rules.specs.Turn.{Stand, Is_live, Is_kept, Is_gone, live_or, stand_of, exec_turn, reply_turn}
 use Rattle.node_rules.proofs.LiveLemmas.{each_put, each_same, branch_parts, work_is}
 use Rattle.node_rules.proofs.StandLemmas.{StandsSo, stands_so, live_so}
 use Rattle.run_laws.specs.Runs.{is_accepted}
 use Rattle.run_laws.specs.Trail.{is_reply}
+use Rattle.run_laws.proofs.KindSayLemmas.{AllSay}
 use Rattle.place_laws.proofs.PlainLemmas.{exec_mute}
-use Rattle.place_laws.proofs.TaleLemmas.{NoReply, other_reply, Tale, Stays, Says_again, Takes, Answers, Hears, calls0, Told, AreGood, Tales, mute_good, mute_replies, came_one, each_of}
+use Rattle.place_laws.proofs.TaleLemmas.{NoReply, IsMute, other_reply, Tale, Stays, Says_again, Takes, Answers, Hears, calls0, Told, AreGood, Tales, mute_good, mute_replies, came_one, each_of}
 
 -- a statement runs where its table is
 way_new_not : (p : Place) (l : Live) (given node : ℕ) (link table : List ℕ) (t : Table) → way_new p l given node link table ≡ Runs_here t → ⊥
@@ -74,6 +77,12 @@ bool_by : (q : Bool) → (P : Type 0) → (q ≡ true → P) → (q ≡ false �
 bool_by true P at_true at_false = at_true refl
 bool_by false P at_true at_false = at_false refl
 
+-- one that is not live
+live_none : (k : Kept) (b : BranchId) (o : Option Live) → live_at k b ≡ o → (st : Stand) → stand_of k b ≡ st → ((x : Branch) → st ≢ Is_live x) → o ≡ None
+unfolding stand_of
+live_none k b None at st is not_live = refl
+live_none k b (Some l) at st is not_live = absurd (not_live _ (sym is ∙ ap (λ o. live_or (with_work k o) (standing_at k b)) at))
+
 module _ (k : Kept) (m : Msg) (there : (b : BranchId) → item_at live_id k.lives b ≡ None → item_at work_id k.works b ≡ None) where
   abbrev input : Input
   input = inputs.Message m
@@ -116,7 +125,7 @@ module _ (k : Kept) (m : Msg) (there : (b : BranchId) → item_at live_id k.live
   -- an answer of a branch
   answer_silent : (z : Branch) (a : Answer) (o : Option BranchId) (b : BranchId) → same z.live.me b ≡ false → NoReply b (answer_says z a o)
   answer_silent z a None b other = refl
-  answer_silent z a (Some up) b other = other_reply b z.live.me up _ other
+  answer_silent z a (Some up) b other = other_reply b z.live.me up (kinds.Reply z.work.came.last_call (reply_fields z.live a).weight (reply_fields z.live a).count a) other
 
   answer_good : (z : Branch) (a : Answer) (o : Option BranchId) → z.live.parent ≡ o → m.to ≡ z.live.me → AreGood k input (put_item live_id k.lives z.live) (answer_says z a o)
   answer_good z a None is to = tt
@@ -149,7 +158,7 @@ module _ (k : Kept) (m : Msg) (there : (b : BranchId) → item_at live_id k.live
     gone_so none = (
       each_same Q (says_by (gone_reply m.to m.from call) []) k.lives k.works now (λ y v live any was.
       (let other : same m.to y.me ≡ false = bool_by (same m.to y.me) (same m.to y.me ≡ false) (λ here. absurd (unheard none y live (equal_from_same m.to y.me here))) (λ at. at) in
-      stays (gone_reply m.to m.from call) [] y v (other_reply y.me m.to m.from _ other) (passed y other) was)),
+      stays (gone_reply m.to m.from call) [] y v (other_reply y.me m.to m.from (kinds.Reply call None 1 (answers.Refused (dtx 8 []))) other) (passed y other) was)),
       (record { came = λ reply. came_at m.to refl; live = λ good. absurd cc }, tt),
     )
 
@@ -174,7 +183,7 @@ module _ (k : Kept) (m : Msg) (there : (b : BranchId) → item_at live_id k.live
       again_so None none at = idle (λ z live to. low z.me (subst (λ b. call ≤ (calls0 k input b).last_call) (me ∙ to) (let it : call ≤ (calls0 k input x.live.me).last_call = omega (arith, at, ap (λ (c : Calls). c.last_call) last) in it)))
       again_so (Some t) some at = (
         each_same Q (says_by (replies x m.from t) []) k.lives k.works now (λ z v live any was. bool_by (same x.live.me z.me) (says_by (replies x m.from t) [] z v) (λ here. own z v (equal_from_same x.live.me z.me here) was)
-        (λ other. stays (replies x m.from t) [] z v (other_reply z.me x.live.me m.from _ other) (passed z (ap (λ c. same c z.me) to ∙ other)) was)),
+        (λ other. stays (replies x m.from t) [] z v (other_reply z.me x.live.me m.from (kinds.Reply x.work.came.last_call t.weight t.count t.result) other) (passed z (ap (λ c. same c z.me) to ∙ other)) was)),
         (record { came = λ reply. came_at x.live.me to; live = λ good. (x.live, live_so k x.live.me x found, (λ none. absurd (cc (up, none)))) }, tt),
       )
         where
@@ -218,9 +227,13 @@ module _ (k : Kept) (m : Msg) (there : (b : BranchId) → item_at live_id k.live
             answers_so (record y { live = after_run y.live (ran p k y.live.me s t) }) (answer_of_run (ran p k y.live.me s t)) refl refl refl (λ good. (t, way_table p k y.live given s t at))
         goes_so (Nowhere_to r) at = answers_so y (answers.Refused r) refl refl refl (λ good. absurd cc)
         goes_so (Over i table) at =
-            let mute = exec_mute k.sessions y i (passed_on s table) given (peer_of y.live i) in
-            waits_so _ (called y i (passed_on s table) given).work mine refl (λ b. mute_replies b _ mute) (mute_good k input _ _ mute)
-        goes_so (Through node link table) at = waits_so _ (waits_for_opened y link (passed_on s table) given).work mine refl (λ b. mute_replies b _ (refl, tt)) (mute_good k input _ _ (refl, tt))
+            let says : List Post = exec_to k.sessions y i (passed_on s table) given (peer_of y.live i) in
+            let mute : AllSay IsMute says = exec_mute k.sessions y i (passed_on s table) given (peer_of y.live i) in
+            waits_so says (called y i (passed_on s table) given).work mine refl (λ b. mute_replies b says mute) (mute_good k input (put_item live_id k.lives y.live) says mute)
+        goes_so (Through node link table) at =
+            let says : List Post = post y.live.me (nobody_at node) (kinds.Open (next_edge y.live) y.live.root (y.live.depth + 1)) in
+            let mute : AllSay IsMute says = (refl, tt) in
+            waits_so says (waits_for_opened y link (passed_on s table) given).work mine refl (λ b. mute_replies b says mute) (mute_good k input (put_item live_id k.lives y.live) says mute)
 
       exec_so : (a : Admit) → admit x.work.came call ≡ a → Tales k input (exec_by p k x m.from call given advice s a)
       exec_so admits.Ignore at =
@@ -231,15 +244,10 @@ module _ (k : Kept) (m : Msg) (there : (b : BranchId) → item_at live_id k.live
     pub exec_tales : ((l : Live) → live_at k m.to ≡ Some l → l.parent ≡ Some m.from) → Tales k input (exec_turn p k m.from m.to call given advice s (stand_of k m.to))
     exec_tales above = by (stand_of k m.to) refl (stands_so k m.to)
       where
-        live_none : (o : Option Live) → live_at k m.to ≡ o → (st : Stand) → stand_of k m.to ≡ st → ((x : Branch) → st ≢ Is_live x) → o ≡ None
-        unfolding stand_of
-        live_none None at st is not_live = refl
-        live_none (Some l) at st is not_live = absurd (not_live _ (sym is ∙ ap (λ o. live_or (with_work k o) (standing_at k m.to)) at))
-
         by : (st : Stand) → stand_of k m.to ≡ st → StandsSo k m.to st → Tales k input (exec_turn p k m.from m.to call given advice s st)
         by (Is_live x) at so = exec_so x so.0 so.1 (above x.live (subst (λ b. live_at k b ≡ Some x.live) so.0 (live_so k x.live.me x so.1))) (admit x.work.came call) refl
-        by (Is_kept z) at so = idle (λ y live to. absurd (unheard (live_none (live_at k m.to) refl (Is_kept z) at (λ x it. absurd cc)) y live to))
-        by Is_gone at so = gone_so (live_none (live_at k m.to) refl Is_gone at (λ x it. absurd cc))
+        by (Is_kept z) at so = idle (λ y live to. absurd (unheard (live_none k m.to (live_at k m.to) refl (Is_kept z) at (λ x it. absurd cc)) y live to))
+        by Is_gone at so = gone_so (live_none k m.to (live_at k m.to) refl Is_gone at (λ x it. absurd cc))
 
   -- ---- a Reply
 
@@ -251,28 +259,32 @@ module _ (k : Kept) (m : Msg) (there : (b : BranchId) → item_at live_id k.live
     came_reply b to = subst (λ c. Came input m.from c (kinds.Reply call weight count a)) to (record { scn = m.scn; is = ap (λ kind. inputs.Message (record { from = m.from; to = m.to; scn = m.scn; kind = kind })) is })
 
     module _ (x : Branch) (me : x.live.me ≡ m.to) (found : branch_at k x.live.me ≡ Some x) where
+      last_reply : x.work.came ≡ calls0 k input x.live.me
+      last_reply = ap (λ (w : Work). w.came) (branch_parts k x.live.me x found).1
+
+      module _ (ie : ℕ × Edge) (at : reply_of x m.from call ≡ Some ie) where
+        abbrev z : Branch
+        z = hears_reply x ie.0 weight count ie.1
+
+        abbrev b : Answer
+        b = heard_answer z.live ie.1.link a
+
+        below_same : (up : BranchId) → x.live.parent ≡ Some up → b ≡ a
+        below_same up parent = ap (λ o. if is_none o && is_gone a then answers.Refused (dtx 8 (one ie.1.link)) else a) parent
+
+        heard_tale : (o : Option BranchId) → x.live.parent ≡ o → says_by (answer_says z b z.live.parent) (answer_ends z.live b z.live.parent) z.live (with_answer z b).work
+        heard_tale None none = λ below. absurd (below none)
+        heard_tale (Some up) parent = λ below.
+            Hears x up weight count a ie.0 ie.1 (reply_fields z.live b) (record { from = m.from; call = call; came = came_reply x.live.me (sym me); live = found; waits = at }) refl parent (below_same up parent)
+            (ap (λ (o : Option BranchId). record x.work.came { reply = kept_reply z b o }) parent ∙ ap (λ (c : Calls). record c { reply = Some (reply_fields z.live b) }) last_reply)
+            (ap (answer_says z b) parent ∙ ap (λ (c : Calls). post z.live.me up (kinds.Reply c.last_call (reply_fields z.live b).weight (reply_fields z.live b).count b)) last_reply)
+
+        heard_so : Tales k input (reply_by k x weight count a (Some ie))
+        heard_so = answered_so z b (work_is k x.live.me x found) (sym me) (heard_tale x.live.parent refl)
+
       reply_so : (o : Option (ℕ × Edge)) → reply_of x m.from call ≡ o → Tales k input (reply_by k x weight count a o)
       reply_so None at = idle (λ y live to. no_exec y.me)
-      reply_so (Some ie) at = answered_so z b (work_is k x.live.me x found) (sym me) (by x.live.parent refl)
-        where
-          abbrev z : Branch
-          z = hears_reply x ie.0 weight count ie.1
-
-          abbrev b : Answer
-          b = heard_answer z.live ie.1.link a
-
-          last : x.work.came ≡ calls0 k input x.live.me
-          last = ap (λ (w : Work). w.came) (branch_parts k x.live.me x found).1
-
-          below_same : (up : BranchId) → x.live.parent ≡ Some up → b ≡ a
-          below_same up parent = ap (λ o. if is_none o && is_gone a then answers.Refused (dtx 8 (one ie.1.link)) else a) parent
-
-          by : (o : Option BranchId) → x.live.parent ≡ o → says_by (answer_says z b z.live.parent) (answer_ends z.live b z.live.parent) z.live (with_answer z b).work
-          by None none = λ below. absurd (below none)
-          by (Some up) parent = λ below.
-              Hears x up weight count a ie.0 ie.1 (reply_fields z.live b) (record { from = m.from; call = call; came = came_reply x.live.me (sym me); live = found; waits = at }) refl parent (below_same up parent)
-              (ap (λ (o : Option BranchId). record x.work.came { reply = kept_reply z b o }) parent ∙ ap (λ (c : Calls). record c { reply = Some (reply_fields z.live b) }) last)
-              (ap (answer_says z b) parent ∙ ap (λ (c : Calls). post z.live.me up (kinds.Reply c.last_call (reply_fields z.live b).weight (reply_fields z.live b).count b)) last)
+      reply_so (Some ie) at = heard_so ie at
 
     pub reply_tales : Tales k input (reply_turn k m.from call weight count a (stand_of k m.to))
     reply_tales = by (stand_of k m.to) (stands_so k m.to)

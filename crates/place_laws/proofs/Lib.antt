@@ -7,3 +7,6 @@ pub mod BroughtLemmas
 pub mod TurnTaleLemmas
 pub mod ReplyTurnLemmas
 pub mod ReplyRunLemmas
+pub mod CatalogLemmas
+pub mod LineLemmas
+pub mod LineStepLemmas

@@ -17,7 +17,7 @@ numbered_map f (x ∷ xs) (suc (suc i)) = numbered_map f xs (suc i)
 
 -- an item is in the first part, or in the second
 pub numbered_append : {A : Type 0} (xs ys : List A) (n : ℕ) (x : A) → numbered (xs ++ ys) n ≡ Some x → (numbered xs n ≡ Some x) ⊎ ((j : ℕ) × (n ≡ length xs + j) × (numbered ys j ≡ Some x))
-numbered_append [] ys n x is = inr (n, refl, is)
+numbered_append [] ys n x is = inr (n, omega arith, is)
 numbered_append (y ∷ xs) ys zero x is = absurd cc
 numbered_append (y ∷ xs) ys (suc zero) x is = inl is
 numbered_append (y ∷ xs) ys (suc (suc n)) x is = elim (numbered_append xs ys (suc n) x is) [

@@ -4,8 +4,10 @@ use Rattle.tran_ids.proofs.ListedLemmas.{item_is}
 use Rattle.commit_forget.specs.declared.next.Next.TheVariants as nexts
 use Rattle.session_tree.specs.Live.{children_of, peer_of, new_edge, fresh_live}
 use Rattle.session_tree.specs.Tree.{step as step_from}
-use Rattle.node_rules.specs.Data.{Stmt, Answer, Advice, BranchId, Live, Act, Place, Input, Post, Work}
+use Rattle.node_rules.specs.Data.{Stmt, Answer, Advice, BranchId, Live, Act, Place, Input, Post}
+use Rattle.node_rules.specs.declared.work.Work.{Work}
 use Rattle.node_rules.specs.Data.acts
+use Rattle.node_rules.specs.Data.answers
 use Rattle.node_rules.specs.Data.kinds
 use Rattle.node_rules.specs.declared.session.PendingCall.TheVariants as pending
 use Rattle.node_rules.specs.declared.session.Session.{Session}
@@ -14,7 +16,7 @@ use Rattle.node_rules.specs.Inputs.{Came}
 use Rattle.node_rules.specs.Kept.{Kept, Branch, Deed, live_id, work_id, work_or, branch_at, post, to_one, to_each}
 use Rattle.node_rules.specs.LiveBranches.{works_of, EachLive}
 use Rattle.node_rules.specs.Names.{passed_on}
-use Rattle.node_rules.specs.Statement.{ran, after_run}
+use Rattle.node_rules.specs.Statement.{ran, after_run, answer_of_run}
 use Rattle.node_rules.specs.Calls.{answer_says, exec_to, next_child, strength_of, with_edge, with_answer, called, waits_for_opened}
 use Rattle.node_rules.specs.Client.{new_root, fresh_root, gives_up}
 use Rattle.node_rules.specs.Commit.{beyond}
@@ -36,7 +38,7 @@ use Rattle.place_laws.proofs.TaleLemmas.{IsMute}
 mute_decisions : OfDecisions IsMute
 mute_decisions = record { committed = λ n. refl; rolled_back = refl; rollback = refl; in_doubt = refl; ack = refl; forgotten = refl; ask = refl }
 
-exec_mute : (ss : List Session) (x : Branch) (i : ℕ) (s : Stmt) (given : ℕ) (o : Option BranchId) → AllSay IsMute (exec_to ss x i s given o)
+pub exec_mute : (ss : List Session) (x : Branch) (i : ℕ) (s : Stmt) (given : ℕ) (o : Option BranchId) → AllSay IsMute (exec_to ss x i s given o)
 exec_mute ss x i s given None = tt
 exec_mute ss x i s given (Some peer) = (refl, tt)
 
@@ -122,9 +124,10 @@ module _ (k0 : Kept) (p : Place) (input : Input) (no_exec : (from to : BranchId)
   plain_on (steps.Sends {k = k} posts why) ss news now = (now, says_mute k now why)
   plain_on (steps.Runs {k = k} x s given t ask way) ss news now =
       let root = asked_root k now ss ask in
-      (put k now (after_run x.live (ran p k x.live.me s t)) (with_answer (record x { live = after_run x.live (ran p k x.live.me s t) }) _).work root.1 (λ below. absurd (below root.0)), root_mute k now _ _ x.live.parent root.0)
+      (put k now (after_run x.live (ran p k x.live.me s t)) (with_answer (record x { live = after_run x.live (ran p k x.live.me s t) }) _).work root.1 (λ below. absurd (below root.0)),
+      root_mute k now (record x { live = after_run x.live (ran p k x.live.me s t) }) (answer_of_run (ran p k x.live.me s t)) x.live.parent root.0)
   plain_on (steps.Goes_nowhere {k = k} x s given r ask way) ss news now =
-      let root = asked_root k now ss ask in (put k now x.live (with_answer x _).work root.1 (λ below. absurd (below root.0)), root_mute k now x _ x.live.parent root.0)
+      let root = asked_root k now ss ask in (put k now x.live (with_answer x _).work root.1 (λ below. absurd (below root.0)), root_mute k now x (answers.Refused r) x.live.parent root.0)
   plain_on (steps.Calls {k = k} x s given i table ask way) ss news now =
       let root = asked_root k now ss ask in (put k now x.live (called x i (passed_on s table) given).work root.1 (λ below. absurd (below root.0)), exec_mute k.sessions x i (passed_on s table) given (peer_of x.live i))
   plain_on (steps.Opens {k = k} x s given node link table ask way) ss news now =

@@ -4,7 +4,9 @@ use Rattle.std.proofs.Common.{◌≡◌, ◌≢◌, ℕ, ◌<◌, ◌≤◌, ◌
 use Rattle.std.specs.List.{AllByRecursion, list_any}
 use Rattle.tran_ids.proofs.BranchLemmas.{same_from_equal}
 use Rattle.tran_ids.proofs.ListedLemmas.{item_is}
-use Rattle.node_rules.specs.Data.{Table, Stmt, Answer, Advice, BranchId, Kind, Edge, Live, Input, Msg, Post, ReplyFields, Calls, Work, Finished}
+use Rattle.node_rules.specs.Data.{Table, Stmt, Answer, Advice, BranchId, Kind, Edge, Live, Input, Msg, Post, ReplyFields, Calls}
+use Rattle.node_rules.specs.declared.work.Work.{Work}
+use Rattle.node_rules.specs.declared.session.Finished.{Finished}
 use Rattle.node_rules.specs.Data.inputs
 use Rattle.node_rules.specs.Data.kinds
 use Rattle.node_rules.specs.Words.{same, item_at}
