@@ -6,7 +6,8 @@ use Rattle.std.proofs.lemmas.Bool.{and_left, and_right}
 use Rattle.std.proofs.lemmas.Bool.Decides.{nat_tests}
 use Rattle.tran_ids.proofs.BranchLemmas.{equal_from_same, same_from_equal}
 use Rattle.redo_record.specs.Durable.{durable}
-use Rattle.node_rules.specs.Data.{Table, TableRef, Stmt, Answer, Advice, BranchId, Kind, Msg, Place, Input, Post, Finished}
+use Rattle.node_rules.specs.Data.{Table, TableRef, Stmt, Answer, Advice, BranchId, Kind, Msg, Place, Input, Post}
+use Rattle.node_rules.specs.declared.session.Finished.{Finished}
 use Rattle.node_rules.specs.Data.inputs
 use Rattle.node_rules.specs.Data.kinds
 use Rattle.node_rules.specs.Words.{same}
@@ -68,8 +69,8 @@ ends_none n s below [] = refl
 ends_none n s below (x ∷ xs) = ap (λ q. q || list_any (λ (y : Finished). is_root_of n y.session s) xs) (and_right (is_live_at n s) (is_none s.parent && (s.me.session == x.session)) (and_left (is_none s.parent) (s.me.session == x.session) (some s.parent below))) ∙ ends_none n s below xs
   where
     some : (o : Option BranchId) → o ≢ None → is_none o ≡ false
-    some None no = absurd (no refl)
-    some (Some b) no = refl
+    some None other = absurd (other refl)
+    some (Some b) other = refl
 
 -- the answer in one Reply
 pub replied_one : (o : Option Answer) (scn : ℕ) (b to : BranchId) (call : ℕ) (weight : Option ℕ) (count : ℕ) (a : Answer) → answer_or (ended_answer []) (replied_answer (map (stamped scn) (post b to (kinds.Reply call weight count a)))) ≡ Some a

@@ -5,14 +5,15 @@ use Rattle.std.specs.List.{list_any}
 use Rattle.std.proofs.lemmas.Bool.{cases_eq}
 use Rattle.commit_forget.specs.declared.next.Next.TheVariants as nexts
 use Rattle.redo_record.specs.Durable.{durable, durable_after, set_param}
-use Rattle.node_rules.specs.Data.{Table, TableRef, Link, Synonym, RedoRecord, Durable, Place, Input}
+use Rattle.node_rules.specs.Data.{Table, TableRef, Link, Synonym, RedoRecord, Standing, Durable, Place, Input}
 use Rattle.node_rules.specs.Data.acts
 use Rattle.node_rules.specs.Data.records
 use Rattle.node_rules.specs.Data.params
-use Rattle.node_rules.specs.Kept.{Kept, Deed}
+use Rattle.node_rules.specs.Commit.{acked_by}
+use Rattle.node_rules.specs.Kept.{Kept, Deed, standing_id}
 use Rattle.node_rules.specs.Names.{Named, A_table, Behind, Unknown, synonym_named, table_named, table_of, ref_named, named_by, node_named, target_of}
 use Rattle.node_rules.specs.Client.{is_used, is_link}
-use Rattle.node_rules.specs.Words.{same_text}
+use Rattle.node_rules.specs.Words.{same_text, put_item}
 use Rattle.node_rules.proofs.Steps as steps
 use Rattle.node_rules.proofs.Steps.{Step, Makes}
 use Rattle.std.specs.Prelude.{unwrap_or}
@@ -47,20 +48,20 @@ abbrev pub HasNewName : Durable → Option RedoRecord → Type 0
 HasNewName d None = Unit {0}
 HasNewName d (Some r) = IsNewName d r
 
+has_kept : (d : Durable) (ks : List Standing) (o : Option RedoRecord) → HasNewName (record d { kept = ks }) o → HasNewName d o
+has_kept d ks None is = tt
+has_kept d ks (Some (records.Table t)) is = is
+has_kept d ks (Some (records.Link l)) is = is
+has_kept d ks (Some (records.Synonym y)) is = is
+has_kept d ks (Some _) is = tt
+
 module _ (p : Place) (input : Input) where
   -- each step writes records with new names
   pub new_names : {k : Kept} {d : Deed} → Step p input k d → HasNewName k.stored.durable d.wrote
   new_names (steps.Begins n s call rows fit none step) = new_names step
   new_names (steps.Pends n l given call has live code step) = new_names step
   new_names (steps.Lets_reads_go l comment site_below live begins step) = new_names step
-  new_names (steps.Counts_ack {k = k} {d = d} s from kept came counts step) = by d.wrote (new_names step)
-    where
-      by : (o : Option RedoRecord) → HasNewName (record k.stored.durable { kept = _ }) o → HasNewName k.stored.durable o
-      by None is = tt
-      by (Some (records.Table t)) is = is
-      by (Some (records.Link l)) is = is
-      by (Some (records.Synonym y)) is = is
-      by (Some _) is = tt
+  new_names (steps.Counts_ack {k = k} {d = d} s from kept came counts step) = has_kept k.stored.durable (put_item standing_id k.stored.durable.kept (acked_by s from)) d.wrote (new_names step)
   new_names (steps.Makes_record n s r d call (steps.Makes_table t free)) = free
   new_names (steps.Makes_record n s r d call (steps.Makes_link l free)) = free
   new_names (steps.Makes_record n s r d call (steps.Makes_synonym y free)) = free
@@ -102,8 +103,8 @@ module _ {A : Type 0} where
       by false at rest = rest at
 
   pub none_behind : (p : A → Bool) (xs : List A) (y : A) → find p xs ≡ None → p y ≡ false → find p (xs ++ y ∷ []) ≡ None
-  none_behind p [] y none no = ap (λ q. if q then Some y else None) no
-  none_behind p (x ∷ xs) y none no = by (p x) none (λ rest. none_behind p xs y rest no)
+  none_behind p [] y none fails = ap (λ q. if q then Some y else None) fails
+  none_behind p (x ∷ xs) y none fails = by (p x) none (λ rest. none_behind p xs y rest fails)
     where
       by : (q : Bool) → (if q then Some x else find p xs) ≡ None → (find p xs ≡ None → find p (xs ++ y ∷ []) ≡ None) → (if q then Some x else find p (xs ++ y ∷ [])) ≡ None
       by true is rest = absurd cc

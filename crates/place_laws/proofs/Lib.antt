@@ -8,5 +8,8 @@ pub mod TurnTaleLemmas
 pub mod ReplyTurnLemmas
 pub mod ReplyRunLemmas
 pub mod CatalogLemmas
+pub mod PastLemmas
+pub mod OpenSentLemmas
 pub mod LineLemmas
 pub mod LineStepLemmas
+pub mod LineRunLemmas

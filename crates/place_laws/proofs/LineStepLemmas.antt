@@ -10,7 +10,7 @@ use Rattle.tran_ids.proofs.NumberedLemmas.{set_length, set_found, set_or_before}
 use Rattle.link_session.proofs.OnceLemmas.{run_is_new}
 use Rattle.commit_forget.specs.declared.next.Next.TheVariants as nexts
 use Rattle.session_tree.specs.Live.{children_of, peer_of, edge_at, new_edge, fresh_live, next_edge}
-use Rattle.session_tree.specs.Tree.{step as step_from}
+use Rattle.session_tree.specs.Tree.{room, step as step_from}
 use Rattle.node_rules.specs.Data.{Stmt, Answer, Advice, BranchId, Durable, Edge, Kind, Live, Act, Place, Input, Post}
 use Rattle.node_rules.specs.Data.acts
 use Rattle.node_rules.specs.Data.answers
@@ -31,7 +31,7 @@ use Rattle.node_rules.specs.LiveBranches.{works_of, EachLive}
 use Rattle.node_rules.specs.Names.{Behind, named_by, ref_of, passed_on, node_named, target_of}
 use Rattle.node_rules.specs.Sessions.{fresh_session, session_at, with_call, needs_rollback}
 use Rattle.node_rules.specs.Statement.{ran, after_run, answer_of_run}
-use Rattle.node_rules.specs.Calls.{answer_says, exec_to, next_call, call_pends, next_child, strength_of, nobody_at, with_edge, with_answer, called, waits_for_opened, hears_reply, heard_answer}
+use Rattle.node_rules.specs.Calls.{advice_of, answer_says, exec_to, next_call, call_pends, next_child, strength_of, nobody_at, with_edge, with_answer, called, waits_for_opened, hears_reply, heard_answer}
 use Rattle.node_rules.specs.Client.{new_root, fresh_root, gives_up}
 use Rattle.node_rules.specs.Commit.{beyond}
 use Rattle.node_rules.specs.Prepare.{path_of, site_neighbors, has_voted, with_prepare_sent, collecting, with_comment, voted, ready, answers_first, act_turn}
@@ -133,12 +133,23 @@ module _ (E : BranchId → Option ℕ) (A : BranchId → Option BranchId) (G Her
 
   -- What is known as the turn begins.
   pub record Known : Type 0 where
-    pub given : {k : Kept} {x : Branch} {s : Stmt} {given : ℕ} → SessionsFit k → Asked k input x s given → Given x.live.me x.work.came.last_call s
+    pub given : {k : Kept} {x : Branch} {s : Stmt} {given : ℕ} → SessionsFit k → Here x.live.me → Asked k input x s given → Given x.live.me x.work.came.last_call s
     pub calls : (me c : BranchId) (number : ℕ) (s : Stmt) (link table : List ℕ) → Here me → named_by D (ref_of s) ≡ Behind link table → target_of p D link ≡ Some c.node → newest_exec said me c < number → Called me c number s (passed_on s table)
     pub opened : (from to : BranchId) (edge strength : ℕ) → Came input from to (kinds.Opened edge strength) → (n : ℕ) × (x : Post) × (numbered said n ≡ Some x) × (x.from ≡ to) × (root : BranchId) × (depth : ℕ) × (x.kind ≡ kinds.Open edge root depth) × (x.to.node ≡ from.node)
 
+  -- Opens and Execs are sent by branches of the node
+  abbrev pub FromHere : List Post → Type 0
+  FromHere says = AllByRecursion (λ (x : Post). is_calling x.kind ≡ true → Here x.from) says
+
+  calm_here : (says : List Post) → AllSay IsCalm says → FromHere says
+  calm_here says all = all_weaker (λ (x : Post). IsCalm x.kind) (λ (x : Post). is_calling x.kind ≡ true → Here x.from) (λ x is calls. absurd (cc (is, calls))) says all
+
+  -- what a deed leaves
+  abbrev pub LeavesSo : List Live → List Work → List Post → Type 0
+  LeavesSo ls ws says = EachLive (LineOf (said ++ says)) ls ws × FromHere says
+
   abbrev Leaves : Deed → Type 0
-  Leaves d = EachLive (LineOf (said ++ d.says)) d.after.lives d.after.works
+  Leaves d = LeavesSo d.after.lives d.after.works d.says
 
   fresh_line : (l : Live) (w : Work) → l.edges ≡ [] → w.going ≡ None → OpensLow p D Given Called said l.me 0 → LineOf said l w
   fresh_line l w edges going low = record {
@@ -187,17 +198,17 @@ module _ (E : BranchId → Option ℕ) (A : BranchId → Option BranchId) (G Her
       stays : (says : List Post) (y : Live) (v : Work) → Quiet y.me says → LineOf said y v → LineOf (said ++ says) y v
       stays says y v quiet is = line_more p D Given Called said says y.me (turns.Goes E A G Here input said y) y.edges v quiet is
 
-      calm : (says : List Post) → AllSay IsCalm says → EachLive (LineOf (said ++ says)) k.lives k.works
-      calm says all = each_same (LineOf said) (LineOf (said ++ says)) k.lives k.works lines (λ y v live any is. stays says y v (calm_quiet y.me says all) is)
+      calm : (says : List Post) → AllSay IsCalm says → LeavesSo k.lives k.works says
+      calm says all = (each_same (LineOf said) (LineOf (said ++ says)) k.lives k.works lines (λ y v live any is. stays says y v (calm_quiet y.me says all) is), calm_here says all)
 
       put : (says : List Post) (l : Live) (w : Work) → w.branch ≡ l.me → ((b : BranchId) → same l.me b ≡ false → Quiet b says) → LineOf (said ++ says) l w → EachLive (LineOf (said ++ says)) (put_item live_id k.lives l) (put_item work_id k.works w)
       put says l w mine quiet is = each_put (LineOf said) (LineOf (said ++ says)) k.lives k.works lines l w mine is (λ y v live other was. stays says y v (quiet y.me other) was)
 
-      changed : (says : List Post) → AllSay IsCalm says → (l : Live) → LineOf said l (works_of k.works l.me) → EachLive (LineOf (said ++ says)) (put_item live_id k.lives l) k.works
-      changed says all l is = each_changed (LineOf said) (LineOf (said ++ says)) k.lives k.works lines l (stays says l (works_of k.works l.me) (calm_quiet l.me says all) is) (λ y v live other was. stays says y v (calm_quiet y.me says all) was)
+      changed : (says : List Post) → AllSay IsCalm says → (l : Live) → LineOf said l (works_of k.works l.me) → LeavesSo (put_item live_id k.lives l) k.works says
+      changed says all l is = (each_changed (LineOf said) (LineOf (said ++ says)) k.lives k.works lines l (stays says l (works_of k.works l.me) (calm_quiet l.me says all) is) (λ y v live other was. stays says y v (calm_quiet y.me says all) was), calm_here says all)
 
-      left : (says : List Post) → AllSay IsCalm says → (b : BranchId) → EachLive (LineOf (said ++ says)) (drop_item live_id k.lives b) (drop_item work_id k.works b)
-      left says all b = each_left (LineOf said) (LineOf (said ++ says)) k.lives k.works lines b (λ y v live other was. stays says y v (calm_quiet y.me says all) was)
+      left : (says : List Post) → AllSay IsCalm says → (b : BranchId) → LeavesSo (drop_item live_id k.lives b) (drop_item work_id k.works b) says
+      left says all b = (each_left (LineOf said) (LineOf (said ++ says)) k.lives k.works lines b (λ y v live other was. stays says y v (calm_quiet y.me says all) was), calm_here says all)
 
       rolls : (l : Live) → AllSay IsCalm (to_each l.me kinds.Rollback (children_of l))
       rolls l = each_says IsCalm l.me kinds.Rollback (children_of l) refl
@@ -221,7 +232,7 @@ module _ (E : BranchId → Option ℕ) (A : BranchId → Option BranchId) (G Her
             rests = was.idle (root_alone k ss n x.live.me has x.live (live_so k x.live.me x live)) s (subst (λ m. IsCall input m s) (sym (ss.roots.each n x.live.me has)) call);
             here = was.here;
             mine = work_is k x.live.me x live;
-            given = known.given ss (steps.By_call n x s call rows has code live);
+            given = known.given ss was.here (steps.By_call n x s call rows has code live);
           }
       asked_so ss (steps.By_exec x from call given advice s came live runs) =
           let was : Begun x.live x.work = branch_begun x live in
@@ -238,7 +249,7 @@ module _ (E : BranchId → Option ℕ) (A : BranchId → Option BranchId) (G Her
             rests = free;
             here = was.here;
             mine = work_is k x.live.me x live;
-            given = known.given ss (steps.By_exec x from call given advice s came live runs);
+            given = known.given ss was.here (steps.By_exec x from call given advice s came live runs);
           }
 
       -- one that was asked goes on
@@ -251,12 +262,14 @@ module _ (E : BranchId → Option ℕ) (A : BranchId → Option BranchId) (G Her
 
       -- it is answered
       answered_line : (x z : Branch) (a : Answer) → z.live.me ≡ x.live.me → z.live.parent ≡ x.live.parent → AlikeEdges x.live.edges z.live.edges → z.work.branch ≡ z.live.me → more p D Given Called x.work.going ≡ 0 → LineOf said x.live x.work
-          → EachLive (LineOf (said ++ answer_says z a z.live.parent)) (put_item live_id k.lives z.live) (put_item work_id k.works (with_answer z a).work)
-      answered_line x z a me parent alike mine still line =
+          → LeavesSo (put_item live_id k.lives z.live) (put_item work_id k.works (with_answer z a).work) (answer_says z a z.live.parent)
+      answered_line x z a me parent alike mine still line = (
           put (answer_says z a z.live.parent) z.live (with_answer z a).work mine (λ b other. calm_quiet b (answer_says z a z.live.parent) (answer_calm z.live.parent))
           (subst (λ b. Line p D Given Called (said ++ answer_says z a z.live.parent) (z.live.parent ≡ None → G b) b z.live.edges (with_answer z a).work) (sym me)
           (subst (λ o. Line p D Given Called (said ++ answer_says z a z.live.parent) (o ≡ None → G x.live.me) x.live.me z.live.edges (with_answer z a).work) (sym parent)
-          (rest_line said (answer_says z a z.live.parent) (x.live.parent ≡ None → G x.live.me) x.live.me x.live.edges z.live.edges x.work (with_answer z a).work alike refl still (calm_quiet x.live.me (answer_says z a z.live.parent) (answer_calm z.live.parent)) line)))
+          (rest_line said (answer_says z a z.live.parent) (x.live.parent ≡ None → G x.live.me) x.live.me x.live.edges z.live.edges x.work (with_answer z a).work alike refl still (calm_quiet x.live.me (answer_says z a z.live.parent) (answer_calm z.live.parent)) line))),
+          calm_here (answer_says z a z.live.parent) (answer_calm z.live.parent),
+      )
         where
           answer_calm : (o : Option BranchId) → AllSay IsCalm (answer_says z a o)
           answer_calm None = tt
@@ -266,7 +279,7 @@ module _ (E : BranchId → Option ℕ) (A : BranchId → Option BranchId) (G Her
 
       exec_other : (ss : List Session) (y : Branch) (i : ℕ) (s : Stmt) (given : ℕ) (o : Option BranchId) (b : BranchId) → same y.live.me b ≡ false → Quiet b (exec_to ss y i s given o)
       exec_other ss y i s given None b other = tt
-      exec_other ss y i s given (Some c) b other = other_quiet b y.live.me c _ other
+      exec_other ss y i s given (Some c) b other = other_quiet b y.live.me c (kinds.Exec (next_call y.work i) (room y.live given) (advice_of ss y.live) s) other
 
       exec_low : (ss : List Session) (y : Branch) (i : ℕ) (s : Stmt) (given : ℕ) (o : Option BranchId) (me : BranchId) (n : ℕ) → OpensLow p D Given Called (exec_to ss y i s given o) me n
       exec_low ss y i s given None me n = tt
@@ -276,17 +289,21 @@ module _ (E : BranchId → Option ℕ) (A : BranchId → Option BranchId) (G Her
       exec_sent ss y i s given None me c n = tt
       exec_sent ss y i s given (Some d) me c n = ((λ from to call room advice st is at. (let both : kinds.Exec _ _ _ s ≡ kinds.Exec call room advice st = is in let one : st ≡ s = cc in one)), tt)
 
+      exec_here : (ss : List Session) (y : Branch) (i : ℕ) (s : Stmt) (given : ℕ) (o : Option BranchId) → Here y.live.me → FromHere (exec_to ss y i s given o)
+      exec_here ss y i s given None here = tt
+      exec_here ss y i s given (Some c) here = ((λ calls. here), tt)
+
       -- the number of the call is above all before it
       next_number : (y : Branch) (i : ℕ) (s : Stmt) (given : ℕ) (e : Edge) → numbered y.live.edges i ≡ Some e → length y.work.calls ≡ length y.live.edges → call_at (called y i s given).work i ≡ call_at y.work i + 1
       next_number y i s given e at long = let there = there_too y.live.edges y.work.calls i e (sym long) at in ap (λ o. unwrap_or o 0) (set_found y.work.calls i there.0 (next_call y.work i) there.1)
 
-      calls_line : (ss : List Session) (y : Branch) (i : ℕ) (s0 s : Stmt) (given : ℕ) → y.work.branch ≡ y.live.me → Leads p D Given Called y.live.edges
+      calls_line : (ss : List Session) (y : Branch) (i : ℕ) (s0 s : Stmt) (given : ℕ) → Here y.live.me → y.work.branch ≡ y.live.me → Leads p D Given Called y.live.edges
           → (turns.Goes E A G Here input said y.live → OpensLow p D Given Called said y.live.me (length y.live.edges)) → Given y.live.me y.work.came.last_call s0
           → ((e : Edge) → numbered y.live.edges i ≡ Some e → Called y.live.me e.peer (call_at (called y i s given).work i) s0 s × (newest_exec said y.live.me e.peer < call_at (called y i s given).work i))
-          → EachLive (LineOf (said ++ exec_to ss y i s given (peer_of y.live i))) (put_item live_id k.lives y.live) (put_item work_id k.works (called y i s given).work)
-      calls_line ss y i s0 s given mine leads low gave new =
+          → LeavesSo (put_item live_id k.lives y.live) (put_item work_id k.works (called y i s given).work) (exec_to ss y i s given (peer_of y.live i))
+      calls_line ss y i s0 s given here mine leads low gave new =
           let says : List Post = exec_to ss y i s given (peer_of y.live i) in
-          put says y.live (called y i s given).work mine (λ b other. exec_other ss y i s given (peer_of y.live i) b other) (record {
+          (put says y.live (called y i s given).work mine (λ b other. exec_other ss y i s given (peer_of y.live i) b other) (record {
             leads = leads;
             opens = λ goes. subst (OpensLow p D Given Called (said ++ says) y.live.me) (let it : length y.live.edges ≡ length y.live.edges + 0 = omega arith in it)
                 (all_append (λ (x : Post). x.from ≡ y.live.me → (edge : ℕ) (root : BranchId) (depth : ℕ) → x.kind ≡ kinds.Open edge root depth → edge ≤ length y.live.edges) said says (low goes) (exec_low ss y i s given (peer_of y.live i) y.live.me (length y.live.edges)));
@@ -295,7 +312,7 @@ module _ (E : BranchId → Option ℕ) (A : BranchId → Option BranchId) (G Her
                 (λ e at. (let is = new e at in (is.0,
                 all_append (λ (x : Post). x.from ≡ y.live.me → x.to ≡ e.peer → (call room : ℕ) (advice : Option Advice) (st : Stmt) → x.kind ≡ kinds.Exec call room advice st → call ≡ call_at (called y i s given).work i → st ≡ s) said says
                 (unsent p D Given Called said y.live.me e.peer (call_at (called y i s given).work i) s is.1) (exec_sent ss y i s given (peer_of y.live i) y.live.me e.peer (call_at (called y i s given).work i)))))));
-          })
+          }), exec_here ss y i s given (peer_of y.live i) here)
 
       low_rest : (x : Branch) → x.work.going ≡ None → LineOf said x.live x.work → turns.Goes E A G Here input said x.live → OpensLow p D Given Called said x.live.me (length x.live.edges)
       low_rest x none line goes = subst (OpensLow p D Given Called said x.live.me) (let it : length x.live.edges + more p D Given Called x.work.going ≡ length x.live.edges = (let zero_more : more p D Given Called x.work.going ≡ 0 = ap (more p D Given Called) none in omega (arith, zero_more)) in it) (line.opens goes)
@@ -305,9 +322,9 @@ module _ (E : BranchId → Option ℕ) (A : BranchId → Option BranchId) (G Her
         named_so s link table is = sym (same_names k.stored.durable D cat (ref_of s)) ∙ is
 
         over_line : (x : Branch) (s : Stmt) (given i : ℕ) (table : List ℕ) → AskedSo x s → GoesOver p k.stored.durable x.live given s i table
-            → EachLive (LineOf (said ++ exec_to k.sessions x i (passed_on s table) given (peer_of x.live i))) (put_item live_id k.lives x.live) (put_item work_id k.works (called x i (passed_on s table) given).work)
+            → LeavesSo (put_item live_id k.lives x.live) (put_item work_id k.works (called x i (passed_on s table) given).work) (exec_to k.sessions x i (passed_on s table) given (peer_of x.live i))
         over_line x s given i table so over =
-            calls_line k.sessions x i s (passed_on s table) given so.mine so.line.leads (low_rest x so.rests so.line) so.given
+            calls_line k.sessions x i s (passed_on s table) given so.here so.mine so.line.leads (low_rest x so.rests so.line) so.given
             (λ e at. (let link_is : e.link ≡ over.link = edge_link x.live over.link i e over.edge at in
             let leads : target_of p D over.link ≡ Some e.peer.node = ap (target_of p D) (sym link_is) ∙ all_numbered (λ (y : Edge). target_of p D y.link ≡ Some y.peer.node) x.live.edges i e so.line.leads at in
             let child : numbered (children_of x.live) i ≡ Some e.peer = numbered_map x.live.edges i ∙ ap (option_map peer) at in
@@ -317,12 +334,12 @@ module _ (E : BranchId → Option ℕ) (A : BranchId → Option BranchId) (G Her
             (known.calls x.live.me e.peer (call_at (called x i (passed_on s table) given).work i) s over.link table so.here (named_so s over.link table over.named) leads above, above)))
 
         through_line : (x : Branch) (s : Stmt) (given node : ℕ) (link table : List ℕ) → AskedSo x s → turns.Goes E A G Here input said x.live → GoesThrough p k.stored.durable x.live given s node link table
-            → EachLive (LineOf (said ++ post x.live.me (nobody_at node) (kinds.Open (next_edge x.live) x.live.root (x.live.depth + 1)))) (put_item live_id k.lives x.live) (put_item work_id k.works (waits_for_opened x link (passed_on s table) given).work)
+            → LeavesSo (put_item live_id k.lives x.live) (put_item work_id k.works (waits_for_opened x link (passed_on s table) given).work) (post x.live.me (nobody_at node) (kinds.Open (next_edge x.live) x.live.root (x.live.depth + 1)))
         through_line x s given node link table so may through =
             let says : List Post = post x.live.me (nobody_at node) (kinds.Open (next_edge x.live) x.live.root (x.live.depth + 1)) in
             let low : OpensLow p D Given Called said x.live.me (length x.live.edges) = low_rest x so.rests so.line may in
             let target : target_of p D link ≡ Some node = ap (λ ls. node_named p.names (find (λ l. same_text l.name link) ls)) (sym cat.links) ∙ through.1 in
-            put says x.live (waits_for_opened x link (passed_on s table) given).work so.mine (λ b other. other_quiet b x.live.me (nobody_at node) (kinds.Open (next_edge x.live) x.live.root (x.live.depth + 1)) other) (record {
+            (put says x.live (waits_for_opened x link (passed_on s table) given).work so.mine (λ b other. other_quiet b x.live.me (nobody_at node) (kinds.Open (next_edge x.live) x.live.root (x.live.depth + 1)) other) (record {
               leads = so.line.leads;
               opens = λ goes. all_append (λ (y : Post). y.from ≡ x.live.me → (edge : ℕ) (root : BranchId) (depth : ℕ) → y.kind ≡ kinds.Open edge root depth → edge ≤ length x.live.edges + 1) said says
                   (all_weaker (λ (y : Post). y.from ≡ x.live.me → (edge : ℕ) (root : BranchId) (depth : ℕ) → y.kind ≡ kinds.Open edge root depth → edge ≤ length x.live.edges) _ (λ y was from edge root depth is. (let small = was from edge root depth is in let it : edge ≤ length x.live.edges + 1 = omega (arith, small) in it)) said low)
@@ -333,7 +350,7 @@ module _ (E : BranchId → Option ℕ) (A : BranchId → Option BranchId) (G Her
                   all_append (λ (y : Post). y.from ≡ x.live.me → (edge : ℕ) (root : BranchId) (depth : ℕ) → y.kind ≡ kinds.Open edge root depth → edge ≡ length x.live.edges + 1 → target_of p D link ≡ Some y.to.node) said says
                   (all_weaker (λ (y : Post). y.from ≡ x.live.me → (edge : ℕ) (root : BranchId) (depth : ℕ) → y.kind ≡ kinds.Open edge root depth → edge ≤ length x.live.edges) _ (λ y was from edge root depth is at. absurd (let small = was from edge root depth is in omega (arith, small, at))) said low)
                   ((λ from edge root depth is at. target), tt))));
-            })
+            }), ((λ calls. so.here), tt))
 
       -- ---- an Opened, and a Reply
 
@@ -374,12 +391,12 @@ module _ (E : BranchId → Option ℕ) (A : BranchId → Option BranchId) (G Her
             let number : j ≡ opened.edge = cc in
             absurd (omega (arith, number, edge_is, (range_of (children_of x.live) j from at).1, length_peers x.live.edges))))
 
-        opened_line : EachLive (LineOf (said ++ exec_to k.sessions y i g.statement (g.room - 1) (peer_of y.live i))) (put_item live_id k.lives y.live) (put_item work_id k.works (called y i g.statement (g.room - 1)).work)
+        opened_line : LeavesSo (put_item live_id k.lives y.live) (put_item work_id k.works (called y i g.statement (g.room - 1)).work) (exec_to k.sessions y i g.statement (g.room - 1) (peer_of y.live i))
         opened_line =
             let long : length y.live.edges ≡ length x.live.edges + 1 = length-append x.live.edges (new_edge from link strength ∷ []) in
             let last : numbered y.live.edges i ≡ Some (new_edge from link strength) = subst (λ n. numbered y.live.edges n ≡ Some (new_edge from link strength)) (let it : suc (length x.live.edges) ≡ i = omega arith in it) (numbered_last x.live.edges (new_edge from link strength)) in
             let calls_long : length y.work.calls ≡ length y.live.edges = length-append x.work.calls (0 ∷ []) ∙ (ap (λ n. n + 1) (was_begun.turn.makes.numbers ∙ length_peers x.live.edges) ∙ sym long) in
-            calls_line k.sessions y i it_waits.0 g.statement (g.room - 1) (work_is k x.live.me x opened.live)
+            calls_line k.sessions y i it_waits.0 g.statement (g.room - 1) was_begun.here (work_is k x.live.me x opened.live)
             (all_append (λ (e : Edge). target_of p D e.link ≡ Some e.peer.node) x.live.edges (new_edge from link strength ∷ []) was_line.leads (leads_there, tt))
             (λ goes. subst (OpensLow p D Given Called said x.live.me) (let it : length x.live.edges + more p D Given Called x.work.going ≡ length y.live.edges = (let one : more p D Given Called x.work.going ≡ 1 = ap (more p D Given Called) opened.going ∙ ap (more_by p D Given Called) opened.waits in omega (arith, one, long)) in it) (was_line.opens goes))
             it_waits.1
@@ -392,7 +409,7 @@ module _ (E : BranchId → Option ℕ) (A : BranchId → Option BranchId) (G Her
             (subst (Called x.live.me from (call_at (called y i g.statement (g.room - 1)).work i) it_waits.0) (sym it_waits.2.2) called_it, above)))
 
       heard_line : (x : Branch) (weight : Option ℕ) (count : ℕ) (a : Answer) (i : ℕ) (e : Edge) → steps.Is_answered k input x weight count a i e
-          → EachLive (LineOf (said ++ answer_says (hears_reply x i weight count e) (heard_answer (hears_reply x i weight count e).live e.link a) x.live.parent)) (put_item live_id k.lives (hears_reply x i weight count e).live) (put_item work_id k.works (with_answer (hears_reply x i weight count e) (heard_answer (hears_reply x i weight count e).live e.link a)).work)
+          → LeavesSo (put_item live_id k.lives (hears_reply x i weight count e).live) (put_item work_id k.works (with_answer (hears_reply x i weight count e) (heard_answer (hears_reply x i weight count e).live e.link a)).work) (answer_says (hears_reply x i weight count e) (heard_answer (hears_reply x i weight count e).live e.link a) x.live.parent)
       heard_line x weight count a i e answered =
           answered_line x (hears_reply x i weight count e) (heard_answer (hears_reply x i weight count e).live e.link a) refl refl
           (set_alike x.live.edges i e (record e { weight = weight; count = count }) (reply_is x answered.from answered.call i e answered.waits) refl refl) (work_is k x.live.me x answered.live)
@@ -419,7 +436,7 @@ module _ (E : BranchId → Option ℕ) (A : BranchId → Option BranchId) (G Her
       acts_line l q acts.Finish is = left [] tt l.me
       acts_line l q acts.Abandon is = left _ (all_append (λ x. IsCalm x.kind) (to_one l.me kinds.Abort l.parent) _ (one_says IsCalm l.me kinds.Abort l.parent refl) (rolls l)) l.me
 
-      says_line : {says : List Post} → Says k input says → EachLive (LineOf (said ++ says)) k.lives k.works
+      says_line : {says : List Post} → Says k input says → LeavesSo k.lives k.works says
       says_line (steps.Gone_replies to from call given advice s came gone) = calm _ (refl, tt)
       says_line (steps.Replies_again x to call given advice s t came live last kept) = calm _ (refl, tt)
       says_line (steps.Tells s from came kept) = calm _ (told_says IsCalm calm_decisions (kept_told s from), tt)
@@ -467,8 +484,8 @@ module _ (E : BranchId → Option ℕ) (A : BranchId → Option BranchId) (G Her
       lines_on (steps.Opens_branch {k = k} to parent edge root depth came new) granted ss news cat now lines =
           let l : Live = fresh_live (next_child p k) root (Some parent) depth (strength_of p k) in
           let says : List Post = post (next_child p k) parent (kinds.Opened edge (strength_of p k)) in
-          each_begun (LineOf said) (LineOf (said ++ says)) k.lives k.works lines l
-          (stays k now lines says l (no_work l.me) (calm_quiet l.me says (refl, tt)) (fresh_line l (no_work l.me) refl refl (news.child to parent edge root depth came new).1)) (λ y v live any is. stays k now lines says y v (calm_quiet y.me says (refl, tt)) is)
+          (each_begun (LineOf said) (LineOf (said ++ says)) k.lives k.works lines l
+          (stays k now lines says l (no_work l.me) (calm_quiet l.me says (refl, tt)) (fresh_line l (no_work l.me) refl refl (news.child to parent edge root depth came new).1)) (λ y v live any is. stays k now lines says y v (calm_quiet y.me says (refl, tt)) is), calm_here says (refl, tt))
       lines_on (steps.Acts {k = k} l q a why) granted ss news cat now lines = acts_line k now lines l q a (acting_line k now lines why)
       lines_on (steps.Drops_told {k = k} l live drops) granted ss news cat now lines = left k now lines _ (rolls k now lines l) l.me
       lines_on (steps.Drops_asked {k = k} l from live came parent) granted ss news cat now lines = left k now lines _ (refl, rolls k now lines l) l.me
@@ -483,7 +500,7 @@ module _ (E : BranchId → Option ℕ) (A : BranchId → Option BranchId) (G Her
       lines_on (steps.Gives_up {k = k} n x gives has calls live) granted ss news cat now lines =
           let refused : G x.live.me → ⊥ = λ goes. given_code k.sessions n _ x.live.me has (subst (λ m. (session_at (needs_rollback (with_call k.sessions n pending.NoCall) n (dtx 3 []).code) m).code ≡ None) (ss.roots.each n x.live.me has) (granted.sees x.live.me goes)) in
           let none : x.live.parent ≡ None = root_alone k ss n x.live.me has x.live (live_so k x.live.me x live) in
-          put k now lines [] x.live (gives_up x).work (work_is k x.live.me x live) (λ b other. tt) (record { leads = (branch_line k now lines x live).leads; opens = λ goes. absurd (refused (goes none)); waits = λ g some. absurd cc })
+          (put k now lines [] x.live (gives_up x).work (work_is k x.live.me x live) (λ b other. tt) (record { leads = (branch_line k now lines x live).leads; opens = λ goes. absurd (refused (goes none)); waits = λ g some. absurd cc }), tt)
       lines_on (steps.Gives_up_commit {k = k} n b (Some l) gives has calls live) granted ss news cat now lines = left k now lines _ (rolls k now lines l) l.me
       lines_on (steps.Gives_up_commit {k = k} n b None gives has calls live) granted ss news cat now lines = calm k now lines [] tt
       lines_on (steps.Rests {k = k}) granted ss news cat now lines = calm k now lines [] tt

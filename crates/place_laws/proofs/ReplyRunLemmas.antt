@@ -185,7 +185,7 @@ module _ (t : History) (whole : IsLawfulRun t) where
   runs_so hs u rest is from call given advice st a r came statement moment named run answer good = ran_there t hs u rest is r a moment run answer
 
   passes_so : PassesSo t whole Ran
-  passes_so hs u rest is k up x weight count a i e h below r ran = ran
+  passes_so hs u rest is k up x weight count a i e h below r n at ran = ran
 
   pub run_holds : Holds t whole Ran t.trace
   run_holds = holds_at t whole Ran runs_so passes_so t.trace (record { rest = []; is = append-nil t.trace })

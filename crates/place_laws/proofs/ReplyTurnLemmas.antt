@@ -6,7 +6,8 @@ use Rattle.std.proofs.lemmas.Bool.Decides.{nat_tests}
 use Rattle.std.proofs.lemmas.List.{length-map, length-append}
 use Rattle.tran_ids.proofs.ListedLemmas.{item_is}
 use Rattle.redo_record.specs.Durable.{durable}
-use Rattle.node_rules.specs.Data.{Table, Stmt, Answer, Advice, BranchId, Calls, Edge, Kind, Live, Msg, Place, Input, Post, ReplyFields, Finished}
+use Rattle.node_rules.specs.Data.{Table, Stmt, Answer, Advice, BranchId, Calls, Edge, Kind, Live, Msg, Place, Input, Post, ReplyFields}
+use Rattle.node_rules.specs.declared.session.Finished.{Finished}
 use Rattle.node_rules.specs.Data.inputs
 use Rattle.node_rules.specs.Data.kinds
 use Rattle.node_rules.specs.Words.{same, numbered, item_at, is_item_of}
@@ -66,11 +67,11 @@ none_at (suc j) is = absurd cc
 
 -- a message that came was sent
 pub came_sent : (f : Facts) (k : Kept) (node : ℕ) (input : Input) (took : Option Took) → Comes f k node input took → (from to : BranchId) (kind : Kind) → Came input from to kind
-    → (tk : Took) × (took ≡ Some tk) × (x : Post) × (numbered (said_in f) tk.number ≡ Some x) × (x.from ≡ from) × (x.kind ≡ kind)
+    → (tk : Took) × (took ≡ Some tk) × (x : Post) × (numbered (said_in f) tk.number ≡ Some x) × (x.from ≡ from) × (x.kind ≡ kind) × (x.to ≡ to)
 came_sent f k node (inputs.Message m) (Some tk) comes from to kind came =
     let one = came_one came in
     let sent : numbered (said_in f) tk.number ≡ Some (packet_post comes.0) = numbered_map packet_post f.net.packets tk.number ∙ ap (option_map packet_post) comes.1.sent in
-    (tk, refl, packet_post comes.0, sent, ap (λ (y : Msg). y.from) comes.1.same ∙ one.0, ap (λ (y : Msg). y.kind) comes.1.same ∙ one.2)
+    (tk, refl, packet_post comes.0, sent, ap (λ (y : Msg). y.from) comes.1.same ∙ one.0, ap (λ (y : Msg). y.kind) comes.1.same ∙ one.2, ap (λ (y : Msg). y.to) comes.1.same ∙ one.1)
 came_sent f k node (inputs.Message m) None comes from to kind came = absurd comes
 came_sent f k node (inputs.Call session statement) took comes from to kind came = absurd (cc (came.is))
 came_sent f k node (inputs.GiveUp session) took comes from to kind came = absurd (cc (came.is))
@@ -86,7 +87,7 @@ module _ (t : History) (whole : IsLawfulRun t) (Ans : BranchId → ℕ → Answe
   -- a Reply that is heard is the answer here too
   abbrev pub PassesSo : Type 0
   PassesSo = (hs : List Happening) (u : Turn) (rest : List Happening) → hs ++ happenings.Turn u ∷ rest ≡ t.trace → (k : Kept) → node_at (f_at t hs) u.node ≡ Some k → (x : Branch) (weight : Option ℕ) (count : ℕ) (a : Answer) (i : ℕ) (e : Edge)
-      → (h : Is_answered (heard k u.input) u.input x weight count a i e) → x.live.parent ≢ None → (r : Run) → Ans h.from h.call a r → Ans x.live.me x.work.came.last_call a r
+      → (h : Is_answered (heard k u.input) u.input x weight count a i e) → x.live.parent ≢ None → (r : Run) (n : ℕ) → origin_at (tr_at t hs) n ≡ Some r → Ans h.from h.call a r → Ans x.live.me x.work.came.last_call a r
 
   -- What is told of the calls of a branch is what its node keeps.
   pub record AreTold (c : Calls) (b : BranchId) (s : Seen) : Type 0 where
@@ -196,7 +197,7 @@ module _ (t : History) (whole : IsLawfulRun t) (Ans : BranchId → ℕ → Answe
         came_to : {from : BranchId} {kind : Kind} → Came u.input from l.me kind → Came u.input from s.me kind
         came_to {from = from} {kind = kind} came = subst (λ b. Came u.input from b kind) (sym me) came
 
-        took_it : (from : BranchId) (kind : Kind) → Came u.input from l.me kind → (tk : Took) × (u.took ≡ Some tk) × (x : Post) × (numbered (said_in f0) tk.number ≡ Some x) × (x.from ≡ from) × (x.kind ≡ kind)
+        took_it : (from : BranchId) (kind : Kind) → Came u.input from l.me kind → (tk : Took) × (u.took ≡ Some tk) × (x : Post) × (numbered (said_in f0) tk.number ≡ Some x) × (x.from ≡ from) × (x.kind ≡ kind) × (x.to ≡ l.me)
         took_it from kind came = came_sent f0 k u.node u.input u.took may.1.comes from l.me kind came
 
         low_last : (call : ℕ) → c0.last_call ≡ call → call ≤ s.taken
@@ -264,7 +265,7 @@ module _ (t : History) (whole : IsLawfulRun t) (Ans : BranchId → ℕ → Answe
             let heard_it : is_accepted (Some rf.result) ≡ true → (r : Run) × (origin ≡ Some r) × Ans l.me c0.last_call rf.result r
             = (λ good. (let was = now.replies took.0.number took.2 took.3 h.call weight count a took.5 (ap (λ y. is_accepted (Some y)) (sym result) ∙ good) in
             let its : Ans h.from h.call a was.0 = subst (λ b. Ans b h.call a was.0) took.4 was.2 in
-            let here : Ans x.live.me x.work.came.last_call a was.0 = passes_so hs u rest is k may.1.up x weight count a i e h x_below was.0 its in
+            let here : Ans x.live.me x.work.came.last_call a was.0 = passes_so hs u rest is k may.1.up x weight count a i e h x_below was.0 took.0.number was.1 its in
             (was.0, brought ∙ was.1, subst (λ b. Ans b c0.last_call rf.result was.0) mine (subst (λ y. Ans x.live.me c0.last_call y was.0) (sym result) (subst (λ (c : Calls). Ans x.live.me c.last_call a was.0) calls here))))) in (
               record {
                 taken = taken_still s u.input (λ from n given advice st other. (let both = (came_one (subst (λ j. Came j from s.me (kinds.Exec n given advice st)) came.is other)).2 in absurd (cc both))) ∙ (told.taken ∙ ap (λ (c : Calls). c.last_call) (sym same));
@@ -453,8 +454,7 @@ module _ (t : History) (whole : IsLawfulRun t) (Ans : BranchId → ℕ → Answe
               ∙ (ap (λ i. origin_of (find (λ (o : Origin). o.message == (length said0 + 1)) (tr0.origins ++ origins_of (i + 1) origin u.sent))) count
               ∙ (ap (λ o. origin_of (find (λ (o : Origin). o.message == (length said0 + 1)) (tr0.origins ++ origins_of (length said0 + 1) o u.sent))) found.1
               ∙ (ap (λ ms. origin_of (find (λ (o : Origin). o.message == (length said0 + 1)) (tr0.origins ++ origins_of (length said0 + 1) (Some found.0) ms))) sent ∙ origin_last tr0.origins (length said0) found.0 m refl now.low))) in
-              (found.0, at_then n found.0 origin_is, subst (λ b. Ans b call a found.0) me (subst (λ i. Ans l.me i a found.0) same_number (subst (λ y. Ans l.me said.1 y found.0) same_answer found.2)))
-            )
+              (found.0, at_then n found.0 origin_is, subst (λ b. Ans b call a found.0) me (subst (λ i. Ans l.me i a found.0) same_number (subst (λ y. Ans l.me said.1 y found.0) same_answer found.2))))
         ]
 
     replies_then : RepliesOf (said_in f1) tr1

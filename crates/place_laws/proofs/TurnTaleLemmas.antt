@@ -116,8 +116,8 @@ module _ (t : History) (whole : IsLawfulRun t) (hs : List Happening) (u : Turn) 
       absurd (cc (at, unborn))
 
   news : (none : (from to : BranchId) (call given : ℕ) (advice : Option Advice) (s : Stmt) → Came u.input from to (kinds.Exec call given advice s) → ⊥)
-      → (no : (from to : BranchId) (call : ℕ) (weight : Option ℕ) (count : ℕ) (a : Answer) → Came u.input from to (kinds.Reply call weight count a) → ⊥) → News (HadNone kk p u.input none no) p u.input kk
-  news none no =
+      → (never : (from to : BranchId) (call : ℕ) (weight : Option ℕ) (count : ℕ) (a : Answer) → Came u.input from to (kinds.Reply call weight count a) → ⊥) → News (HadNone kk p u.input none never) p u.input kk
+  news none never =
       news_of _ p k u.input
       (all_weaker (λ (y : Born). born_at bs0 y.me ≡ None) _ (λ y unborn. subst (λ ws. item_at work_id ws y.me ≡ None) (sym (heard_works u.input)) (there y.me (not_live y.me unborn (item_at live_id k.lives y.me) refl))) _
       (all_unborn t.places t.commands t.of_a_script.each f0 (events_of s0) bs0 u k stand.0.1 stand.0.0.even (node_so t.places t.commands t.of_a_script.each f0 (events_of s0) stand.0)
@@ -127,11 +127,11 @@ module _ (t : History) (whole : IsLawfulRun t) (hs : List Happening) (u : Turn) 
 
   plain : ((from to : BranchId) (call given : ℕ) (advice : Option Advice) (s : Stmt) → Came u.input from to (kinds.Exec call given advice s) → ⊥)
       → ((from to : BranchId) (call : ℕ) (weight : Option ℕ) (count : ℕ) (a : Answer) → Came u.input from to (kinds.Reply call weight count a) → ⊥) → Tales kk u.input (deed_of p k u.input)
-  plain none no =
-      let now : EachLive (Was kk p u.input none no) kk.lives kk.works = record { there = heard_there; each = λ b l found below. ap (λ c. (works_of kk.works c).came) (sym (item_is live_id kk.lives b l found)) } in
-      let left = plain_on kk p u.input none no (serves t.places f0 u k may.1).step (heard_fit u.input) (news none no) now in
+  plain none never =
+      let now : EachLive (Was kk p u.input none never) kk.lives kk.works = record { there = heard_there; each = λ b l found below. ap (λ c. (works_of kk.works c).came) (sym (item_is live_id kk.lives b l found)) } in
+      let left = plain_on kk p u.input none never (serves t.places f0 u k may.1).step (heard_fit u.input) (news none never) now in
       let d : Deed = deed_of p k u.input in (
-        each_same (Was kk p u.input none no) (Told kk u.input d.says d.ended) d.after.lives d.after.works left.0
+        each_same (Was kk p u.input none never) (Told kk u.input d.says d.ended) d.after.lives d.after.works left.0
             (λ y v live any was below. Stays (was below) (mute_replies y.me d.says left.1) (λ from call given advice s came. absurd (none from y.me call given advice s came))),
         mute_good kk u.input d.after.lives d.says left.1,
       )
