@@ -233,6 +233,7 @@ module _ (t : History) (whole : IsLawfulRun t) where
     received = calls.received t.places t.commands t.of_a_script.each f0 (events_of s0) bs0 stand roots stands u k may.1
 
     granted : Granted (edge_of bs0) (parent_of bs0) May Here u.input said received d
+    unfolding received
     granted = calls.granted t.places t.commands t.of_a_script.each f0 (events_of s0) bs0 stand roots stands u k may.1
 
     -- a branch that has not begun sent no Open

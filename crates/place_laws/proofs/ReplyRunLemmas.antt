@@ -162,7 +162,10 @@ module _ (t : History) where
       omega (arith, later, moment_on f tr h)
 
   pub moment_at : (hs : List Happening) → (tr_at t hs).moment ≡ length hs
-  moment_at hs = moments (first_facts t.places) no_trail hs
+  moment_at hs =
+      let it : (tr_at t hs).moment ≡ 0 + length hs = moments (first_facts t.places) no_trail hs in
+      let here : (tr_at t hs).moment ≡ length hs = omega (arith, it) in
+      here
 
   -- a run in one of the turns
   pub ran_there : (hs : List Happening) (u : Turn) (rest : List Happening) → hs ++ happenings.Turn u ∷ rest ≡ t.trace → (r : Run) (a : Answer) → r.moment ≡ (tr_at t hs).moment

@@ -367,7 +367,7 @@ module _ (t : History) (whole : IsLawfulRun t) (Ans : BranchId → ℕ → Answe
         by : (cut : Bool) → u.cut ≡ cut → list_any (λ (m : Msg). same m.from b && is_reply m.kind) u.sent ≡ false
         by true cut = ap (list_any (λ (m : Msg). same m.from b && is_reply m.kind)) (subst (λ c. IsOwed p k u.input u.wrote u.sent c) cut may.1.owed).1
         by false uncut = ap (list_any (λ (m : Msg). same m.from b && is_reply m.kind)) (sent_is uncut) ∙ (said_on b d.after.clock d.says
-        ∙ unspoken (λ c. (from : BranchId) × (kind : Kind) × Came u.input from c kind) b (λ c. none_came b other c.0 c.1 c.2) d.says (good d.says (tales.turn_tales t whole hs u rest is).1))
+            ∙ unspoken (λ c. (from : BranchId) × (kind : Kind) × Came u.input from c kind) b (λ c. none_came b other c.0 c.1 c.2) d.says (good d.says (tales.turn_tales t whole hs u rest is).1))
 
     elsewhere : (n : ℕ) (j : Kept) → u.node ≢ n → node_at f1 n ≡ Some j → (l : Live) → live_at j l.me ≡ Some l → l.parent ≢ None → (s : Seen) → seen_at tr1 l.me ≡ Some s → AreTold (works_of j.works l.me).came l.me s
     elsewhere n j other up l live below s at =
@@ -405,8 +405,8 @@ module _ (t : History) (whole : IsLawfulRun t) (Ans : BranchId → ℕ → Answe
     abbrev said0 : List Post
     said0 = said_in f0
 
-    count : length f0.net.packets ≡ length said0
-    count = sym (length-map f0.net.packets packet_post)
+    how_many : length f0.net.packets ≡ length said0
+    how_many = sym (length-map f0.net.packets packet_post)
 
     origins_are : tr1.origins ≡ tr0.origins ++ origins_of (length f0.net.packets + 1) origin u.sent
     unfolding trail_after
@@ -421,7 +421,7 @@ module _ (t : History) (whole : IsLawfulRun t) (Ans : BranchId → ℕ → Answe
         subst (AllByRecursion (λ (o : Origin). o.message ≤ length (said_in f1))) (sym origins_are)
         (all_append (λ (o : Origin). o.message ≤ length (said_in f1)) tr0.origins (origins_of (length f0.net.packets + 1) origin u.sent)
         (all_weaker (λ (o : Origin). o.message ≤ length said0) (λ (o : Origin). o.message ≤ length (said_in f1)) (λ o small. omega (arith, small, long)) tr0.origins now.low)
-        (all_weaker _ (λ (o : Origin). o.message ≤ length (said_in f1)) (λ o both. omega (arith, both.1, long, count)) (origins_of (length f0.net.packets + 1) origin u.sent) (origins_low (length f0.net.packets + 1) origin u.sent)))
+        (all_weaker _ (λ (o : Origin). o.message ≤ length (said_in f1)) (λ o both. omega (arith, both.1, long, how_many)) (origins_of (length f0.net.packets + 1) origin u.sent) (origins_low (length f0.net.packets + 1) origin u.sent)))
 
     at_then : (n : ℕ) (r : Run) → origin_of (find (λ (o : Origin). o.message == n) (tr0.origins ++ origins_of (length f0.net.packets + 1) origin u.sent)) ≡ Some r → origin_at tr1 n ≡ Some r
     at_then n r at = ap (λ xs. origin_of (find (λ (o : Origin). o.message == n) xs)) origins_are ∙ at
@@ -451,7 +451,7 @@ module _ (t : History) (whole : IsLawfulRun t) (Ans : BranchId → ℕ → Answe
               let last : n ≡ length said0 + 1 = omega (arith, number, one.0) in
               let origin_is : origin_of (find (λ (o : Origin). o.message == n) (tr0.origins ++ origins_of (length f0.net.packets + 1) origin u.sent)) ≡ Some found.0
               = ap (λ i. origin_of (find (λ (o : Origin). o.message == i) (tr0.origins ++ origins_of (length f0.net.packets + 1) origin u.sent))) last
-              ∙ (ap (λ i. origin_of (find (λ (o : Origin). o.message == (length said0 + 1)) (tr0.origins ++ origins_of (i + 1) origin u.sent))) count
+              ∙ (ap (λ i. origin_of (find (λ (o : Origin). o.message == (length said0 + 1)) (tr0.origins ++ origins_of (i + 1) origin u.sent))) how_many
               ∙ (ap (λ o. origin_of (find (λ (o : Origin). o.message == (length said0 + 1)) (tr0.origins ++ origins_of (length said0 + 1) o u.sent))) found.1
               ∙ (ap (λ ms. origin_of (find (λ (o : Origin). o.message == (length said0 + 1)) (tr0.origins ++ origins_of (length said0 + 1) (Some found.0) ms))) sent ∙ origin_last tr0.origins (length said0) found.0 m refl now.low))) in
               (found.0, at_then n found.0 origin_is, subst (λ b. Ans b call a found.0) me (subst (λ i. Ans l.me i a found.0) same_number (subst (λ y. Ans l.me said.1 y found.0) same_answer found.2))))
