@@ -128,7 +128,7 @@ calm_quiet me says all = all_weaker (λ (x : Post). IsCalm x.kind) (λ (x : Post
 pub other_quiet : (b c to : BranchId) (kind : Kind) → same c b ≡ false → Quiet b (post c to kind)
 other_quiet b c to kind other = ((λ from. (let both : same c b ≡ true = same_from_equal c b from in absurd (cc (both, other)))), tt)
 
-module _ (p : Place) (D : Durable) (Given : BranchId → ℕ → Stmt → Type 0) (Called : BranchId → BranchId → ℕ → Stmt → Stmt → Type 0) where
+module _ (p : Place) (D : Durable) (Given : BranchId → ℕ → Stmt → Type 0) (Called : BranchId → BranchId → ℕ → ℕ → Stmt → Stmt → Type 0) where
   -- each edge is of the node that its link leads to
   abbrev pub Leads : List Edge → Type 0
   Leads es = AllByRecursion (λ (e : Edge). target_of p D e.link ≡ Some e.peer.node) es
@@ -156,7 +156,7 @@ module _ (p : Place) (D : Durable) (Given : BranchId → ℕ → Stmt → Type 0
 
   -- what a branch waits for that was given a statement
   abbrev pub WaitsSo : List Post → BranchId → List Edge → Work → Stmt → Stmt → Waits → Type 0
-  WaitsSo said me es w s goes (waiting.ForReply i) = (e : Edge) → numbered es i ≡ Some e → Called me e.peer (call_at w i) s goes × SentSo said me e.peer (call_at w i) goes
+  WaitsSo said me es w s goes (waiting.ForReply i) = (e : Edge) → numbered es i ≡ Some e → Called me e.peer (call_at w i) w.came.last_call s goes × SentSo said me e.peer (call_at w i) goes
   WaitsSo said me es w s goes (waiting.ForOpened link) = (table : List ℕ) × (named_by D (ref_of s) ≡ Behind link table) × (goes ≡ passed_on s table) × OpensTo said me (length es + 1) link
 
   -- Where a live branch leads.

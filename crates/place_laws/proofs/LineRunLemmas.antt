@@ -1,12 +1,13 @@
 -- In every lawful run each live branch that waits leads where its statement was sent: the name of its table is behind a link, which leads to the
 -- node of the child that it calls, and was so before that call came to the child.
-use Rattle.std.proofs.Common.{◌≡◌, ◌≢◌, ℕ, ◌+◌, ◌<◌, ◌≤◌, ◌⊎◌, Bool, true, false, List, [], ◌∷◌, ◌++◌, map, length, Option, Some, None, inl, inr, refl, sym, ap, subst, ◌∙◌, append-nil}
+use Rattle.std.proofs.Common.{◌≡◌, ◌≢◌, ℕ, ◌+◌, ◌<◌, ◌≤◌, ◌⊎◌, Bool, true, false, List, [], ◌∷◌, ◌++◌, map, length, Option, Some, None, inl, inr, refl, sym, ap, subst, ◌∙◌, append-nil, arith}
 use Rattle.std.specs.Prelude.{IfSome}
 use Rattle.std.specs.List.{AllByRecursion}
 use Rattle.std.proofs.lemmas.Bool.{cases_eq}
+use Rattle.std.proofs.lemmas.List.{length-append}
 use Rattle.tran_ids.proofs.ListedLemmas.{item_is}
 use Rattle.tran_ids.proofs.NumberedLemmas.{set_or_before}
-use Rattle.node_rules.specs.Data.{Advice, Answer, BranchId, Durable, Edge, Kind, Live, Msg, Place, Post, Stmt, Input}
+use Rattle.node_rules.specs.Data.{Advice, Answer, BranchId, Durable, Edge, Kind, Live, Msg, Place, Post, RedoRecord, Stmt, Input}
 use Rattle.node_rules.specs.Data.inputs
 use Rattle.node_rules.specs.Data.kinds
 use Rattle.node_rules.specs.declared.work.Waits.{Waits}
@@ -68,8 +69,9 @@ not_true true never = absurd (never refl)
 not_true false never = refl
 
 -- what grows keeps what leads over a link
-module _ (p : Place) (D E : Durable) (grows : Extends D E) (Given : BranchId → ℕ → Stmt → Type 0) (Called : BranchId → BranchId → ℕ → Stmt → Stmt → Type 0) where
-  waits_grow : (said : List Post) (me : BranchId) (es : List Edge) (w : Work) (s goes : Stmt) (waits : Waits) → WaitsSo p D Given Called said me es w s goes waits → WaitsSo p E Given Called said me es w s goes waits
+module _ (p : Place) (D E : Durable) (grows : Extends D E) (Given Given1 : BranchId → ℕ → Stmt → Type 0) (more : (b : BranchId) (call : ℕ) (s : Stmt) → Given b call s → Given1 b call s)
+    (Called : BranchId → BranchId → ℕ → ℕ → Stmt → Stmt → Type 0) where
+  waits_grow : (said : List Post) (me : BranchId) (es : List Edge) (w : Work) (s goes : Stmt) (waits : Waits) → WaitsSo p D Given Called said me es w s goes waits → WaitsSo p E Given1 Called said me es w s goes waits
   waits_grow said me es w s goes (waiting.ForReply i) is = is
   waits_grow said me es w s goes (waiting.ForOpened link) is = (
     is.0,
@@ -79,11 +81,11 @@ module _ (p : Place) (D E : Durable) (grows : Extends D E) (Given : BranchId →
         (λ x was from edge root depth kind at. grows.leads p link x.to.node (was from edge root depth kind at)) said is.3,
   )
 
-  pub line_grows : (said : List Post) (Go Go1 : Type 0) → (Go1 → Go) → (me : BranchId) (es : List Edge) (w : Work) → Line p D Given Called said Go me es w → Line p E Given Called said Go1 me es w
+  pub line_grows : (said : List Post) (Go Go1 : Type 0) → (Go1 → Go) → (me : BranchId) (es : List Edge) (w : Work) → Line p D Given Called said Go me es w → Line p E Given1 Called said Go1 me es w
   line_grows said Go Go1 goes me es w is = record {
     leads = all_weaker (λ (e : Edge). target_of p D e.link ≡ Some e.peer.node) _ (λ e was. grows.leads p e.link e.peer.node was) es is.leads;
     opens = λ go. is.opens (goes go);
-    waits = λ g going. (let was = is.waits g going in (was.0, was.1, waits_grow said me es w was.0 g.statement g.waits was.2));
+    waits = λ g going. (let was = is.waits g going in (was.0, more me w.came.last_call was.0 was.1, waits_grow said me es w was.0 g.statement g.waits was.2));
   }
 
 module _ (t : History) (whole : IsLawfulRun t) where
@@ -97,10 +99,20 @@ module _ (t : History) (whole : IsLawfulRun t) where
     pub is : before ++ happenings.Turn turn ∷ rest ≡ t.trace
     pub how : ((from : BranchId) × (given : ℕ) × (advice : Option Advice) × Came turn.input from b (kinds.Exec call given advice s)) ⊎ (IsCall turn.input b.session s × IsOfRows s × (turn.node ≡ b.node))
 
+  -- The same in one of the first happenings.
+  pub record GivenBy (hs : List Happening) (b : BranchId) (call : ℕ) (s : Stmt) : Type 0 where
+    pub given : GivenAt b call s
+    pub soon : length given.before + 1 ≤ length hs
+
+  by_more : (hs mid : List Happening) (b : BranchId) (call : ℕ) (s : Stmt) → GivenBy hs b call s → GivenBy (hs ++ mid) b call s
+  by_more hs mid b call s is = record { given = is.given; soon = omega (arith, is.soon, length-append hs mid) }
+
   -- A branch was to call another by this number: the name in its statement was behind a link then, which led there, and no such call was made before.
-  pub record CalledAt (me c : BranchId) (number : ℕ) (s goes : Stmt) : Type 0 where
+  pub record CalledAt (me c : BranchId) (number last : ℕ) (s goes : Stmt) : Type 0 where
+    pub given : GivenAt me last s
     pub before : List Happening
     pub part : Part t whole before
+    pub since : length given.before ≤ length before
     pub link : List ℕ
     pub table : List ℕ
     pub named : named_by (catalog t whole before me.node) (ref_of s) ≡ Behind link table
@@ -109,11 +121,11 @@ module _ (t : History) (whole : IsLawfulRun t) where
     pub passes : goes ≡ passed_on s table
 
   -- the live branches of a node
-  abbrev pub LinesOf : ℕ → Durable → List Post → Kept → Type 0
-  LinesOf n D said k = EachLive (λ l w. Line (place_at t.places n) D GivenAt CalledAt said (GoesOn k l) l.me l.edges w) k.lives k.works
+  abbrev pub LinesOf : List Happening → ℕ → Durable → List Post → Kept → Type 0
+  LinesOf hs n D said k = EachLive (λ l w. Line (place_at t.places n) D (GivenBy hs) CalledAt said (GoesOn k l) l.me l.edges w) k.lives k.works
 
   abbrev pub LinesAt : List Happening → Facts → Type 0
-  LinesAt hs f = (n : ℕ) (k : Kept) → node_at f n ≡ Some k → LinesOf n (catalog t whole hs n) (said_in f) k
+  LinesAt hs f = (n : ℕ) (k : Kept) → node_at f n ≡ Some k → LinesOf hs n (catalog t whole hs n) (said_in f) k
 
   abbrev pub Stand : List Happening → Type 0
   Stand hs = LinesAt hs (f_at t hs)
@@ -237,7 +249,7 @@ module _ (t : History) (whole : IsLawfulRun t) where
     granted = calls.granted t.places t.commands t.of_a_script.each f0 (events_of s0) bs0 stand roots stands u k may.1
 
     -- a branch that has not begun sent no Open
-    unopened : (b : BranchId) → born_at bs0 b ≡ None → OpensLow p D0 GivenAt CalledAt said b 0
+    unopened : (b : BranchId) → born_at bs0 b ≡ None → OpensLow p D0 (GivenBy hs1) CalledAt said b 0
     unopened b none =
         all_map (λ (x : Post). x.from ≡ b → (edge : ℕ) (root : BranchId) (depth : ℕ) → x.kind ≡ kinds.Open edge root depth → edge ≤ 0) packet_post f0.net.packets
         (all_weaker _ _ (λ x goes from edge root depth kind.
@@ -245,24 +257,29 @@ module _ (t : History) (whole : IsLawfulRun t) where
         let at : born_at bs0 b ≡ Some opens.0 = subst (λ c. born_at bs0 c ≡ Some opens.0) (opens.2 ∙ from) opens.1 in
         absurd (cc (at, none)))) f0.net.packets (messages_are_of_neighbors s0 lawful0))
 
-    news : News (Fresh (edge_of bs0) (parent_of bs0) May Here u.input said received p D0 GivenAt CalledAt) p u.input (heard k u.input)
+    news : News (Fresh (edge_of bs0) (parent_of bs0) May Here u.input said received p D0 (GivenBy hs1) CalledAt) p u.input (heard k u.input)
     news =
         news_of _ p k u.input
         (all_weaker (λ (y : Born). born_at bs0 y.me ≡ None) _ (λ y none. ((unborn_silent bs0 stand.1.trees y.me none f0.net.packets stand.1.said, ap parent_in none), unopened y.me none)) _
         (all_unborn t.places t.commands t.of_a_script.each f0 (events_of s0) bs0 u k stand.0.1 stand.0.0.even (node_so t.places t.commands t.of_a_script.each f0 (events_of s0) stand.0)
         (owned_so t.places t.commands t.of_a_script.each f0 (events_of s0) stand.0) may.1 number stand.1))
 
-    given_so : {j : Kept} {x : Branch} {s : Stmt} {given : ℕ} → SessionsFit j → Here x.live.me → Asked j u.input x s given → GivenAt x.live.me x.work.came.last_call s
-    given_so ss here (steps.By_call n x s call rows has code live) =
-        record { before = hs; turn = u; rest = rest; is = is; how = inr (subst (λ m. IsCall u.input m s) (sym (ss.roots.each n x.live.me has)) call, rows, sym (here ∙ number)) }
-    given_so ss here (steps.By_exec x from call given advice s came live runs) = record { before = hs; turn = u; rest = rest; is = is; how = inl (from, given, advice, came) }
+    long : length hs + 1 ≤ length hs1
+    long = let it : length hs1 ≡ length hs + 1 = length-append hs (happenings.Turn u ∷ []) in omega (arith, it)
 
-    calls_so : (me c : BranchId) (n : ℕ) (s : Stmt) (link table : List ℕ) → Here me → named_by D0 (ref_of s) ≡ Behind link table → target_of p D0 link ≡ Some c.node → newest_exec said me c < n → CalledAt me c n s (passed_on s table)
-    calls_so me c n s link table here named leads unmade =
+    given_so : {j : Kept} {x : Branch} {s : Stmt} {given : ℕ} → SessionsFit j → Here x.live.me → Asked j u.input x s given → GivenBy hs1 x.live.me x.work.came.last_call s
+    given_so ss here (steps.By_call n x s call rows has code live) =
+        record { given = record { before = hs; turn = u; rest = rest; is = is; how = inr (subst (λ m. IsCall u.input m s) (sym (ss.roots.each n x.live.me has)) call, rows, sym (here ∙ number)) }; soon = long }
+    given_so ss here (steps.By_exec x from call given advice s came live runs) = record { given = record { before = hs; turn = u; rest = rest; is = is; how = inl (from, given, advice, came) }; soon = long }
+
+    calls_so : (me c : BranchId) (n last : ℕ) (s : Stmt) (link table : List ℕ) → Here me → GivenBy hs1 me last s → named_by D0 (ref_of s) ≡ Behind link table → target_of p D0 link ≡ Some c.node → newest_exec said me c < n → CalledAt me c n last s (passed_on s table)
+    calls_so me c n last s link table here gave named leads unmade =
         let at : u.node ≡ me.node = sym (here ∙ number) in
         record {
+          given = gave.given;
           before = hs;
           part = part0;
+          since = (let it : length hs1 ≡ length hs + 1 = length-append hs (happenings.Turn u ∷ []) in omega (arith, it, gave.soon));
           link = link;
           table = table;
           named = subst (λ m. named_by (catalog t whole hs m) (ref_of s) ≡ Behind link table) at named;
@@ -271,7 +288,7 @@ module _ (t : History) (whole : IsLawfulRun t) where
           passes = refl;
         }
 
-    known : Known (edge_of bs0) (parent_of bs0) May Here u.input said received p D0 GivenAt CalledAt
+    known : Known (edge_of bs0) (parent_of bs0) May Here u.input said received p D0 (GivenBy hs1) CalledAt
     known = record {
       given = given_so;
       calls = calls_so;
@@ -282,14 +299,14 @@ module _ (t : History) (whole : IsLawfulRun t) where
     cat = subst (λ s. OneCatalog s.durable D0) (sym (tales.heard_stored t whole hs u rest is u.input)) (catalog_kept k (records_at f0 u.node) (records_are_kept s0 lawful0 u.node k may.1.up))
 
     -- as the turn begins
-    lines0 : Lines (edge_of bs0) (parent_of bs0) May Here u.input said received p D0 GivenAt CalledAt said (heard k u.input)
+    lines0 : Lines (edge_of bs0) (parent_of bs0) May Here u.input said received p D0 (GivenBy hs1) CalledAt said (heard k u.input)
     lines0 =
-        heard_calls (LineOf (edge_of bs0) (parent_of bs0) May Here u.input said received p D0 GivenAt CalledAt said) k u.input
-        (each_same (λ l w. Line p D0 GivenAt CalledAt said (GoesOn k l) l.me l.edges w) (LineOf (edge_of bs0) (parent_of bs0) May Here u.input said received p D0 GivenAt CalledAt said) k.lives k.works (now u.node k may.1.up)
-        (λ y v live any was. line_grows p D0 D0 (extends_same D0) GivenAt CalledAt said (GoesOn k y) (y.parent ≡ None → May y.me) (goes_before y.me y live) y.me y.edges v was))
+        heard_calls (LineOf (edge_of bs0) (parent_of bs0) May Here u.input said received p D0 (GivenBy hs1) CalledAt said) k u.input
+        (each_same (λ l w. Line p D0 (GivenBy hs) CalledAt said (GoesOn k l) l.me l.edges w) (LineOf (edge_of bs0) (parent_of bs0) May Here u.input said received p D0 (GivenBy hs1) CalledAt said) k.lives k.works (now u.node k may.1.up)
+        (λ y v live any was. line_grows p D0 D0 (extends_same D0) (GivenBy hs) (GivenBy hs1) (by_more hs (happenings.Turn u ∷ [])) CalledAt said (GoesOn k y) (y.parent ≡ None → May y.me) (goes_before y.me y live) y.me y.edges v was))
 
-    lines1 : LeavesSo (edge_of bs0) (parent_of bs0) May Here u.input said received p D0 GivenAt CalledAt d.after.lives d.after.works d.says
-    lines1 = lines_on (edge_of bs0) (parent_of bs0) May Here u.input said received p D0 GivenAt CalledAt known (λ b at. at) step granted (heard_rests k u.input rests).0 news cat begun lines0
+    lines1 : LeavesSo (edge_of bs0) (parent_of bs0) May Here u.input said received p D0 (GivenBy hs1) CalledAt d.after.lives d.after.works d.says
+    lines1 = lines_on (edge_of bs0) (parent_of bs0) May Here u.input said received p D0 (GivenBy hs1) CalledAt known (λ b at. at) step granted (heard_rests k u.input rests).0 news cat begun lines0
 
     -- ---- after the turn
 
@@ -303,24 +320,24 @@ module _ (t : History) (whole : IsLawfulRun t) where
     unfolding turn_of
     sent_says uncut = ap (map post_of) (subst (λ c. IsOwed p k u.input u.wrote u.sent c) uncut may.1.owed).1 ∙ posts_back d.after.clock d.says
 
-    own : u.cut ≡ false → (j : Kept) → node_at f1 u.node ≡ Some j → LinesOf u.node (catalog t whole hs1 u.node) (said_in f1) j
+    own : u.cut ≡ false → (j : Kept) → node_at f1 u.node ≡ Some j → LinesOf hs1 u.node (catalog t whole hs1 u.node) (said_in f1) j
     unfolding turn_of
     own uncut j up =
         let says : said_in f1 ≡ said ++ d.says = says1 ∙ ap (λ xs. said ++ xs) (sent_says uncut) in
         let after_up : node_at f1 u.node ≡ Some d.after = (turn_here t.places t.commands f0 stand.0.0.even u k may.1.up).0 ∙ ap (λ c. kept_after c (Some (turn_of p k u.input))) uncut in
         let both : Some d.after ≡ Some j = sym after_up ∙ up in
         let one : d.after ≡ j = cc in
-        subst (LinesOf u.node (catalog t whole hs1 u.node) (said_in f1)) one (subst (λ xs. LinesOf u.node (catalog t whole hs1 u.node) xs d.after) (sym says)
-        (each_same (LineOf (edge_of bs0) (parent_of bs0) May Here u.input said received p D0 GivenAt CalledAt (said ++ d.says)) _ d.after.lives d.after.works lines1.0
-        (λ y v live any was. line_grows p D0 (catalog t whole hs1 u.node) (catalog_is u.node) GivenAt CalledAt (said ++ d.says) (y.parent ≡ None → May y.me) (GoesOn d.after y) (λ goes none. (y, live, none, goes none)) y.me y.edges v was)))
+        subst (LinesOf hs1 u.node (catalog t whole hs1 u.node) (said_in f1)) one (subst (λ xs. LinesOf hs1 u.node (catalog t whole hs1 u.node) xs d.after) (sym says)
+        (each_same (LineOf (edge_of bs0) (parent_of bs0) May Here u.input said received p D0 (GivenBy hs1) CalledAt (said ++ d.says)) _ d.after.lives d.after.works lines1.0
+        (λ y v live any was. line_grows p D0 (catalog t whole hs1 u.node) (catalog_is u.node) (GivenBy hs1) (GivenBy hs1) (λ b call s is. is) CalledAt (said ++ d.says) (y.parent ≡ None → May y.me) (GoesOn d.after y) (λ goes none. (y, live, none, goes none)) y.me y.edges v was)))
 
-    other : (n : ℕ) (j : Kept) → u.node ≢ n → node_at f1 n ≡ Some j → LinesOf n (catalog t whole hs1 n) (said_in f1) j
+    other : (n : ℕ) (j : Kept) → u.node ≢ n → node_at f1 n ≡ Some j → LinesOf hs1 n (catalog t whole hs1 n) (said_in f1) j
     other n j apart up =
         let before : node_at f0 n ≡ Some j = sym (turn_elsewhere t.places t.commands f0 (run_stands s0 lawful0).0.even u n apart).0 ∙ up in
-        subst (λ xs. LinesOf n (catalog t whole hs1 n) xs j) (sym says1)
-        (each_same (λ l w. Line (place_at t.places n) (catalog t whole hs n) GivenAt CalledAt said (GoesOn j l) l.me l.edges w) _ j.lives j.works (now n j before)
-        (λ y v live any was. line_more (place_at t.places n) (catalog t whole hs1 n) GivenAt CalledAt said (map post_of u.sent) y.me (GoesOn j y) y.edges v (far y.me (λ same. apart (sym same ∙ own_node n j before y live)))
-        (line_grows (place_at t.places n) (catalog t whole hs n) (catalog t whole hs1 n) (catalog_is n) GivenAt CalledAt said (GoesOn j y) (GoesOn j y) (λ goes. goes) y.me y.edges v was)))
+        subst (λ xs. LinesOf hs1 n (catalog t whole hs1 n) xs j) (sym says1)
+        (each_same (λ l w. Line (place_at t.places n) (catalog t whole hs n) (GivenBy hs) CalledAt said (GoesOn j l) l.me l.edges w) _ j.lives j.works (now n j before)
+        (λ y v live any was. line_more (place_at t.places n) (catalog t whole hs1 n) (GivenBy hs1) CalledAt said (map post_of u.sent) y.me (GoesOn j y) y.edges v (far y.me (λ same. apart (sym same ∙ own_node n j before y live)))
+        (line_grows (place_at t.places n) (catalog t whole hs n) (catalog t whole hs1 n) (catalog_is n) (GivenBy hs) (GivenBy hs1) (by_more hs (happenings.Turn u ∷ [])) CalledAt said (GoesOn j y) (GoesOn j y) (λ goes. goes) y.me y.edges v was)))
       where
         own_node : (n : ℕ) (j : Kept) → node_at f0 n ≡ Some j → (y : Live) → live_at j y.me ≡ Some y → y.me.node ≡ n
         own_node n j before y live = all_found (λ l. l.me.node ≡ n) live_id j.lives y.me y (ids_name_their_node s0 lawful0 n j before).lives live
@@ -339,11 +356,11 @@ module _ (t : History) (whole : IsLawfulRun t) where
 
     lines_then : LinesAt hs1 f1
     lines_then n j up = elim (cases_eq u.node n) [
-      | inl here ↦ subst (λ m. LinesOf m (catalog t whole hs1 m) (said_in f1) j) here (by u.cut refl (subst (λ m. node_at f1 m ≡ Some j) (sym here) up))
+      | inl here ↦ subst (λ m. LinesOf hs1 m (catalog t whole hs1 m) (said_in f1) j) here (by u.cut refl (subst (λ m. node_at f1 m ≡ Some j) (sym here) up))
       | inr apart ↦ other n j apart up
     ]
       where
-        by : (cut : Bool) → u.cut ≡ cut → node_at f1 u.node ≡ Some j → LinesOf u.node (catalog t whole hs1 u.node) (said_in f1) j
+        by : (cut : Bool) → u.cut ≡ cut → node_at f1 u.node ≡ Some j → LinesOf hs1 u.node (catalog t whole hs1 u.node) (said_in f1) j
         by false uncut there = own uncut j there
         by true cut there =
             let none : node_at f1 u.node ≡ None = (turn_here t.places t.commands f0 stand.0.0.even u k may.1.up).0 ∙ ap (λ c. kept_after c (Some (turn_of p k u.input))) cut in absurd (cc (none, there))
@@ -353,21 +370,21 @@ module _ (t : History) (whole : IsLawfulRun t) where
 
   -- ---- other happenings
 
-  start_lines : (n : ℕ) (D : Durable) (xs : List Post) (rs : _) → LinesOf n D xs (start_of rs)
+  start_lines : (hs : List Happening) (n : ℕ) (D : Durable) (xs : List Post) (rs : List RedoRecord) → LinesOf hs n D xs (start_of rs)
   unfolding start_of
-  start_lines n D xs rs = none_live _
+  start_lines hs n D xs rs = none_live _
 
   module _ (hs : List Happening) (h : Happening) (rest : List Happening) (is : hs ++ h ∷ rest ≡ t.trace) (now : Stand hs) where
     -- nothing is sent, and the nodes that are up were so or have just started
-    same_stands : (g : Facts) → facts_after t.places t.commands (f_at t hs) h ≡ g → said_in g ≡ said_in (f_at t hs) ++ [] → ((n : ℕ) (j : Kept) → node_at g n ≡ Some j → (node_at (f_at t hs) n ≡ Some j) ⊎ ((D : Durable) (xs : List Post) → LinesOf n D xs j)) → Stand (hs ++ h ∷ [])
+    same_stands : (g : Facts) → facts_after t.places t.commands (f_at t hs) h ≡ g → said_in g ≡ said_in (f_at t hs) ++ [] → ((n : ℕ) (j : Kept) → node_at g n ≡ Some j → (node_at (f_at t hs) n ≡ Some j) ⊎ ((D : Durable) (xs : List Post) → LinesOf (hs ++ h ∷ []) n D xs j)) → Stand (hs ++ h ∷ [])
     same_stands g facts says still n j up =
         let fact : f_at t (hs ++ h ∷ []) ≡ g = one_on t hs h ∙ facts in
         let said : said_in (f_at t (hs ++ h ∷ [])) ≡ said_in (f_at t hs) = ap said_in fact ∙ (says ∙ append-nil (said_in (f_at t hs))) in
         let grows : Extends (catalog t whole hs n) (catalog t whole (hs ++ h ∷ []) n) = catalog_on t whole n hs (h ∷ []) (part_on t whole hs h rest is) in
         elim (still n j (subst (λ f. node_at f n ≡ Some j) fact up)) [
-          | inl was ↦ subst (λ xs. LinesOf n (catalog t whole (hs ++ h ∷ []) n) xs j) (sym said)
-              (each_same (λ l w. Line (place_at t.places n) (catalog t whole hs n) GivenAt CalledAt (said_in (f_at t hs)) (GoesOn j l) l.me l.edges w) _ j.lives j.works (now n j was)
-              (λ y v live any it. line_grows (place_at t.places n) (catalog t whole hs n) (catalog t whole (hs ++ h ∷ []) n) grows GivenAt CalledAt (said_in (f_at t hs)) (GoesOn j y) (GoesOn j y) (λ goes. goes) y.me y.edges v it))
+          | inl was ↦ subst (λ xs. LinesOf (hs ++ h ∷ []) n (catalog t whole (hs ++ h ∷ []) n) xs j) (sym said)
+              (each_same (λ l w. Line (place_at t.places n) (catalog t whole hs n) (GivenBy hs) CalledAt (said_in (f_at t hs)) (GoesOn j l) l.me l.edges w) _ j.lives j.works (now n j was)
+              (λ y v live any it. line_grows (place_at t.places n) (catalog t whole hs n) (catalog t whole (hs ++ h ∷ []) n) grows (GivenBy hs) (GivenBy (hs ++ h ∷ [])) (by_more hs (h ∷ [])) CalledAt (said_in (f_at t hs)) (GoesOn j y) (GoesOn j y) (λ goes. goes) y.me y.edges v it))
           | inr new ↦ new (catalog t whole (hs ++ h ∷ []) n) (said_in (f_at t (hs ++ h ∷ [])))
         ]
 
@@ -387,22 +404,22 @@ module _ (t : History) (whole : IsLawfulRun t) where
       same_stands hs (happenings.Started m boot) rest is now _ refl (said_after t.places t.commands (f_at t hs) (happenings.Started m boot))
       (λ n j up. elim (set_still (f_at t hs) m n (Some (start_of (with_boot (f_at t hs) m boot))) j up) [
         | inl was ↦ inl was
-        | inr new ↦ inr (λ D xs. (let it : Some (start_of (with_boot (f_at t hs) m boot)) ≡ Some j = new in let one : start_of (with_boot (f_at t hs) m boot) ≡ j = cc in subst (LinesOf n D xs) one (start_lines n D xs (with_boot (f_at t hs) m boot))))
+        | inr new ↦ inr (λ D xs. (let it : Some (start_of (with_boot (f_at t hs) m boot)) ≡ Some j = new in let one : start_of (with_boot (f_at t hs) m boot) ≡ j = cc in subst (LinesOf (hs ++ happenings.Started m boot ∷ []) n D xs) one (start_lines (hs ++ happenings.Started m boot ∷ []) n D xs (with_boot (f_at t hs) m boot))))
       ])
   stand_on hs (happenings.Begun c) rest is now = same_stands hs (happenings.Begun c) rest is now _ refl (said_after t.places t.commands (f_at t hs) (happenings.Begun c)) (λ n j up. inl up)
   stand_on hs (happenings.Cut a b) rest is now = same_stands hs (happenings.Cut a b) rest is now _ refl (said_after t.places t.commands (f_at t hs) (happenings.Cut a b)) (λ n j up. inl up)
   stand_on hs (happenings.Join a b) rest is now = same_stands hs (happenings.Join a b) rest is now _ refl (said_after t.places t.commands (f_at t hs) (happenings.Join a b)) (λ n j up. inl up)
   stand_on hs (happenings.Lost x) rest is now = same_stands hs (happenings.Lost x) rest is now _ refl (said_after t.places t.commands (f_at t hs) (happenings.Lost x)) (λ n j up. inl up)
 
-  made_lines : (n : ℕ) (D : Durable) (xs : List Post) → LinesOf n D xs made
+  made_lines : (n : ℕ) (D : Durable) (xs : List Post) → LinesOf [] n D xs made
   unfolding start_of
   made_lines n D xs = none_live _
 
   first_stand : Stand []
   unfolding facts_of
   first_stand n k up =
-      subst (λ o. IfSome o (LinesOf n (catalog t whole [] n) (said_in (f_at t [])))) up
-      (first_node (λ o. IfSome o (LinesOf n (catalog t whole [] n) (said_in (f_at t [])))) tt (made_lines n (catalog t whole [] n) (said_in (f_at t []))) t.places n)
+      subst (λ o. IfSome o (LinesOf [] n (catalog t whole [] n) (said_in (f_at t [])))) up
+      (first_node (λ o. IfSome o (LinesOf [] n (catalog t whole [] n) (said_in (f_at t [])))) tt (made_lines n (catalog t whole [] n) (said_in (f_at t []))) t.places n)
 
   pub stand_at : (hs : List Happening) → Part t whole hs → Stand hs
   stand_at hs part = keep_on t whole Stand stand_on [] hs part first_stand

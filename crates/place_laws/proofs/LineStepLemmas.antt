@@ -114,7 +114,7 @@ set_alike es i e x at peer_is link_is = (set_length es i x, (λ j d found. elim 
 ]))
 
 module _ (E : BranchId → Option ℕ) (A : BranchId → Option BranchId) (G Here : BranchId → Type 0) (input : Input) (said : List Post) (received : turns.Received E A G Here input said)
-    (p : Place) (D : Durable) (Given : BranchId → ℕ → Stmt → Type 0) (Called : BranchId → BranchId → ℕ → Stmt → Stmt → Type 0) where
+    (p : Place) (D : Durable) (Given : BranchId → ℕ → Stmt → Type 0) (Called : BranchId → BranchId → ℕ → ℕ → Stmt → Stmt → Type 0) where
   abbrev Begun : Live → Work → Type 0
   Begun = turns.Begun E A G Here input said
 
@@ -134,7 +134,7 @@ module _ (E : BranchId → Option ℕ) (A : BranchId → Option BranchId) (G Her
   -- What is known as the turn begins.
   pub record Known : Type 0 where
     pub given : {k : Kept} {x : Branch} {s : Stmt} {given : ℕ} → SessionsFit k → Here x.live.me → Asked k input x s given → Given x.live.me x.work.came.last_call s
-    pub calls : (me c : BranchId) (number : ℕ) (s : Stmt) (link table : List ℕ) → Here me → named_by D (ref_of s) ≡ Behind link table → target_of p D link ≡ Some c.node → newest_exec said me c < number → Called me c number s (passed_on s table)
+    pub calls : (me c : BranchId) (number last : ℕ) (s : Stmt) (link table : List ℕ) → Here me → Given me last s → named_by D (ref_of s) ≡ Behind link table → target_of p D link ≡ Some c.node → newest_exec said me c < number → Called me c number last s (passed_on s table)
     pub opened : (from to : BranchId) (edge strength : ℕ) → Came input from to (kinds.Opened edge strength) → (n : ℕ) × (x : Post) × (numbered said n ≡ Some x) × (x.from ≡ to) × (root : BranchId) × (depth : ℕ) × (x.kind ≡ kinds.Open edge root depth) × (x.to.node ≡ from.node)
 
   -- Opens and Execs are sent by branches of the node
@@ -171,7 +171,7 @@ module _ (E : BranchId → Option ℕ) (A : BranchId → Option BranchId) (G Her
       by : (s goes : Stmt) (waits : Waits) → WaitsSo p D Given Called xs me es w s goes waits → WaitsSo p D Given Called xs me ds w s goes waits
       by s goes (waiting.ForReply i) was = λ d at.
           (let e = alike.1 i d at in let so = was e.0 e.1 in
-          (subst (λ b. Called me b (call_at w i) s goes) (sym e.2) so.0, subst (λ b. SentSo p D Given Called xs me b (call_at w i) goes) (sym e.2) so.1))
+          (subst (λ b. Called me b (call_at w i) w.came.last_call s goes) (sym e.2) so.0, subst (λ b. SentSo p D Given Called xs me b (call_at w i) goes) (sym e.2) so.1))
       by s goes (waiting.ForOpened link) was = (was.0, was.1, was.2, subst (λ n. OpensTo p D Given Called xs me (n + 1) link) (sym alike.0) was.3)
 
   -- one that waits for nothing
@@ -299,7 +299,7 @@ module _ (E : BranchId → Option ℕ) (A : BranchId → Option BranchId) (G Her
 
       calls_line : (ss : List Session) (y : Branch) (i : ℕ) (s0 s : Stmt) (given : ℕ) → Here y.live.me → y.work.branch ≡ y.live.me → Leads p D Given Called y.live.edges
           → (turns.Goes E A G Here input said y.live → OpensLow p D Given Called said y.live.me (length y.live.edges)) → Given y.live.me y.work.came.last_call s0
-          → ((e : Edge) → numbered y.live.edges i ≡ Some e → Called y.live.me e.peer (call_at (called y i s given).work i) s0 s × (newest_exec said y.live.me e.peer < call_at (called y i s given).work i))
+          → ((e : Edge) → numbered y.live.edges i ≡ Some e → Called y.live.me e.peer (call_at (called y i s given).work i) y.work.came.last_call s0 s × (newest_exec said y.live.me e.peer < call_at (called y i s given).work i))
           → LeavesSo (put_item live_id k.lives y.live) (put_item work_id k.works (called y i s given).work) (exec_to ss y i s given (peer_of y.live i))
       calls_line ss y i s0 s given here mine leads low gave new =
           let says : List Post = exec_to ss y i s given (peer_of y.live i) in
@@ -331,7 +331,7 @@ module _ (E : BranchId → Option ℕ) (A : BranchId → Option BranchId) (G Her
             let made : newest_exec said x.live.me e.peer ≡ call_at x.work i = so.free.made i e.peer child in
             let next : call_at (called x i (passed_on s table) given).work i ≡ call_at x.work i + 1 = next_number x i (passed_on s table) given e at (so.free.numbers ∙ length_peers x.live.edges) in
             let above : newest_exec said x.live.me e.peer < call_at (called x i (passed_on s table) given).work i = omega (arith, made, next) in
-            (known.calls x.live.me e.peer (call_at (called x i (passed_on s table) given).work i) s over.link table so.here (named_so s over.link table over.named) leads above, above)))
+            (known.calls x.live.me e.peer (call_at (called x i (passed_on s table) given).work i) x.work.came.last_call s over.link table so.here so.given (named_so s over.link table over.named) leads above, above)))
 
         through_line : (x : Branch) (s : Stmt) (given node : ℕ) (link table : List ℕ) → AskedSo x s → turns.Goes E A G Here input said x.live → GoesThrough p k.stored.durable x.live given s node link table
             → LeavesSo (put_item live_id k.lives x.live) (put_item work_id k.works (waits_for_opened x link (passed_on s table) given).work) (post x.live.me (nobody_at node) (kinds.Open (next_edge x.live) x.live.root (x.live.depth + 1)))
@@ -403,10 +403,10 @@ module _ (E : BranchId → Option ℕ) (A : BranchId → Option BranchId) (G Her
             (λ e at. (let it : Some (new_edge from link strength) ≡ Some e = sym last ∙ at in let one : new_edge from link strength ≡ e = cc in
             let next : call_at (called y i g.statement (g.room - 1)).work i ≡ call_at y.work i + 1 = next_number y i g.statement (g.room - 1) e at calls_long in
             let above : newest_exec said x.live.me from < call_at (called y i g.statement (g.room - 1)).work i = omega (arith, unmade, next) in
-            let called_it : Called x.live.me from (call_at (called y i g.statement (g.room - 1)).work i) it_waits.0 (passed_on it_waits.0 it_waits.2.0)
-            = known.calls x.live.me from (call_at (called y i g.statement (g.room - 1)).work i) it_waits.0 link it_waits.2.0 was_begun.here it_waits.2.1 leads_there above in
-            subst (λ (z : Edge). Called x.live.me z.peer (call_at (called y i g.statement (g.room - 1)).work i) it_waits.0 g.statement × (newest_exec said x.live.me z.peer < call_at (called y i g.statement (g.room - 1)).work i)) one
-            (subst (Called x.live.me from (call_at (called y i g.statement (g.room - 1)).work i) it_waits.0) (sym it_waits.2.2) called_it, above)))
+            let called_it : Called x.live.me from (call_at (called y i g.statement (g.room - 1)).work i) x.work.came.last_call it_waits.0 (passed_on it_waits.0 it_waits.2.0)
+            = known.calls x.live.me from (call_at (called y i g.statement (g.room - 1)).work i) x.work.came.last_call it_waits.0 link it_waits.2.0 was_begun.here it_waits.1 it_waits.2.1 leads_there above in
+            subst (λ (z : Edge). Called x.live.me z.peer (call_at (called y i g.statement (g.room - 1)).work i) x.work.came.last_call it_waits.0 g.statement × (newest_exec said x.live.me z.peer < call_at (called y i g.statement (g.room - 1)).work i)) one
+            (subst (Called x.live.me from (call_at (called y i g.statement (g.room - 1)).work i) x.work.came.last_call it_waits.0) (sym it_waits.2.2) called_it, above)))
 
       heard_line : (x : Branch) (weight : Option ℕ) (count : ℕ) (a : Answer) (i : ℕ) (e : Edge) → steps.Is_answered k input x weight count a i e
           → LeavesSo (put_item live_id k.lives (hears_reply x i weight count e).live) (put_item work_id k.works (with_answer (hears_reply x i weight count e) (heard_answer (hears_reply x i weight count e).live e.link a)).work) (answer_says (hears_reply x i weight count e) (heard_answer (hears_reply x i weight count e).live e.link a) x.live.parent)
