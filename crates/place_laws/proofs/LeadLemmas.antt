@@ -7,7 +7,7 @@ use Rattle.std.proofs.lemmas.List.{length-append}
 use Rattle.tran_ids.proofs.BranchLemmas.{same_from_equal}
 use Rattle.redo_record.specs.Durable.{durable}
 use Rattle.session_tree.specs.Live.{children_of, edge_at}
-use Rattle.node_rules.specs.Data.{Answer, Advice, BranchId, Edge, Kind, Live, Post, Stmt}
+use Rattle.node_rules.specs.Data.{Answer, Advice, BranchId, Edge, Kind, Live, Post, Stmt, Input}
 use Rattle.node_rules.specs.Data.inputs
 use Rattle.node_rules.specs.Data.kinds
 use Rattle.node_rules.specs.declared.work.Waits.TheVariants as waiting
@@ -27,7 +27,7 @@ use Rattle.run_laws.specs.Branches.{Run, origin_at}
 use Rattle.run_laws.specs.Data.{Turn, Happening}
 use Rattle.run_laws.specs.Data.happenings
 use Rattle.run_laws.specs.Facts.{Facts, first_facts, place_at, node_at, records_at, facts_of}
-use Rattle.run_laws.specs.InTurnLaws.{packet_post, said_in, exec_number, newest_exec, WaitsFor, call_at}
+use Rattle.run_laws.specs.InTurnLaws.{packet_post, said_in, exec_number, newest_exec, WaitsFor, call_at, GoesOn}
 use Rattle.run_laws.specs.Lawful.{History, IsLawfulRun, facts_at}
 use Rattle.run_laws.specs.Places.{LeadsTo, Runs_here, Passes, catalog_at}
 use Rattle.run_laws.proofs.BirthRunLemmas.{messages_are_of_neighbors, nodes_name_the_born}
@@ -48,7 +48,7 @@ use Rattle.trail_laws.proofs.CallLemmas.{call_free}
 use Rattle.trail_laws.proofs.MomentLemmas.{tr_at}
 use Rattle.place_laws.specs.LeadLaws.{AnsweredBy, RepliesLeadToRuns, KeptAnswersLeadToRuns}
 use Rattle.place_laws.proofs.CatalogLemmas.{Extends, catalog, catalog_on}
-use Rattle.place_laws.proofs.LineLemmas.{SentSo, Line}
+use Rattle.place_laws.proofs.LineLemmas.{SentSo, WaitsSo, Line}
 use Rattle.place_laws.proofs.LineRunLemmas.{GivenAt, GivenBy, CalledAt, LinesOf, stand_at}
 use Rattle.place_laws.proofs.NumberLemmas.{numbered_map, all_numbered}
 use Rattle.place_laws.proofs.OpenSentLemmas.{numbered_more}
@@ -152,7 +152,7 @@ module _ (t : History) (whole : IsLawfulRun t) where
     found : item_at live_id k.lives me ≡ Some x.live
     found = by u.input (branch_parts (heard k u.input) me x h.live).0
       where
-        by : (input : _) → item_at live_id (heard k input).lives me ≡ Some x.live → item_at live_id k.lives me ≡ Some x.live
+        by : (input : Input) → item_at live_id (heard k input).lives me ≡ Some x.live → item_at live_id k.lives me ≡ Some x.live
         by (inputs.Message m) at = at
         by (inputs.Call s c) at = at
         by (inputs.GiveUp s) at = at
@@ -161,8 +161,178 @@ module _ (t : History) (whole : IsLawfulRun t) where
     work : x.work ≡ works_of k.works me
     work = (branch_parts (heard k u.input) me x h.live).1 ∙ by u.input
       where
-        by : (input : _) → works_of (heard k input).works me ≡ works_of k.works me
+        by : (input : Input) → works_of (heard k input).works me ≡ works_of k.works me
         by (inputs.Message m) = refl
         by (inputs.Call s c) = refl
         by (inputs.GiveUp s) = refl
         by inputs.Reco = refl
+
+    pub g : (y : Going) × (x.work.going ≡ Some y)
+    g = going_of x h.from h.call i e h.waits
+
+    over : WaitsFor i x.work.going × (e.peer ≡ h.from) × (call_at x.work i ≡ h.call)
+    over = reply_for x h.from h.call i e h.waits
+
+    waits_is : g.0.waits ≡ waiting.ForReply i
+    waits_is = subst (WaitsFor i) g.1 over.0
+
+    at_edge : edge_at x.live i ≡ Some e
+    at_edge = reply_is x h.from h.call i e h.waits
+
+    line : Line (place_at t.places u.node) (catalog t whole hs u.node) (GivenBy t whole hs) (CalledAt t whole) (said_in (f_at t hs)) (GoesOn k x.live) me x.live.edges x.work
+    line = subst (λ (w : Work). Line (place_at t.places u.node) (catalog t whole hs u.node) (GivenBy t whole hs) (CalledAt t whole) (said_in (f_at t hs)) (GoesOn k x.live) me x.live.edges w) (sym work) ((stand_at t whole hs part0 u.node k up).each me x.live found)
+
+    -- what the branch waits for
+    pub record Waited : Type 0 where
+      pub statement : Stmt
+      pub given : GivenBy t whole hs me x.work.came.last_call statement
+      pub called : CalledAt t whole me e.peer (call_at x.work i) x.work.came.last_call statement g.0.statement
+      pub sent : SentSo (place_at t.places u.node) (catalog t whole hs u.node) (GivenBy t whole hs) (CalledAt t whole) (said_in (f_at t hs)) me e.peer (call_at x.work i) g.0.statement
+
+    waited : Waited
+    waited =
+        let was = line.waits g.0 g.1 in
+        let so = subst (WaitsSo (place_at t.places u.node) (catalog t whole hs u.node) (GivenBy t whole hs) (CalledAt t whole) (said_in (f_at t hs)) me x.live.edges x.work was.0 g.0.statement) waits_is was.2 in
+        let it = so e at_edge in
+        record { statement = was.0; given = was.1; called = it.0; sent = it.1 }
+
+    -- the call came to the child before now
+    cut_there : (ms : List Happening) × (later : List Happening) × (ms ++ happenings.Turn ans.turn ∷ later ≡ t.trace) × (length ms ≡ ans.moment)
+    cut_there = split_at t.trace ans.moment (happenings.Turn ans.turn) ans.there
+
+    abbrev ms : List Happening
+    ms = cut_there.0
+
+    earlier : length ms ≤ length hs
+    earlier = omega (arith, cut_there.3, ans.before, reply_before (tr_at t hs) (all_before t hs) n r told, moment_at t hs)
+
+    between : (mid : List Happening) × (hs ≡ ms ++ mid)
+    between = longer ms hs (happenings.Turn ans.turn ∷ cut_there.1) (happenings.Turn u ∷ rest) (cut_there.2 ∙ sym is) earlier
+
+    came_then : Came ans.turn.input ans.from h.from (kinds.Exec h.call ans.given ans.advice ans.statement)
+    came_then = ans.came
+
+    -- as a message
+    pub record Sent (ps : List Happening) : Type 0 where
+      pub number : ℕ
+      pub post : Post
+      pub at : numbered (said_in (f_at t ps)) number ≡ Some post
+      pub from : post.from ≡ ans.from
+      pub kind : post.kind ≡ kinds.Exec h.call ans.given ans.advice ans.statement
+      pub to : post.to ≡ h.from
+
+    sent_then : Sent ms
+    sent_then =
+        let may = may_of t whole ms (happenings.Turn ans.turn) cut_there.1 cut_there.2 in
+        let sent = came_sent (f_at t ms) may.0 ans.turn.node ans.turn.input ans.turn.took may.1.comes ans.from h.from (kinds.Exec h.call ans.given ans.advice ans.statement) came_then in
+        record { number = sent.0.number; post = sent.2; at = sent.3; from = sent.4; kind = sent.5; to = sent.6 }
+
+    sent_later : (ps mid : List Happening) → Sent ps → Sent (ps ++ mid)
+    sent_later ps mid s =
+        let more = said_grows ps mid in
+        record { number = s.number; post = s.post; at = subst (λ xs. numbered xs s.number ≡ Some s.post) (sym more.1) (numbered_more (said_in (f_at t ps)) more.0 s.number s.post s.at); from = s.from; kind = s.kind; to = s.to }
+
+    sent_now : Sent hs
+    sent_now = subst Sent (sym between.1) (sent_later ms between.0 sent_then)
+
+    -- it came from this branch
+    lives : LiveIs (Began bs0) x.live
+    lives = all_found (LiveIs (Began bs0)) live_id k.lives me x.live (nodes_name_the_born s0 lawful0 u.node k up).0 found
+
+    child : numbered (children_of x.live) i ≡ Some e.peer
+    child = turns.numbered_map x.live.edges i ∙ ap (option_map peer) at_edge
+
+    from_me : ans.from ≡ me
+    from_me =
+        let all : AllByRecursion (λ (y : Post). GoesSo (Began bs0) y.from y.to y.kind) (said_in (f_at t hs)) = all_map (λ (y : Post). GoesSo (Began bs0) y.from y.to y.kind) packet_post (f_at t hs).net.packets (messages_are_of_neighbors s0 lawful0) in
+        let goes : GoesSo (Began bs0) sent_now.post.from sent_now.post.to sent_now.post.kind = all_numbered (λ (y : Post). GoesSo (Began bs0) y.from y.to y.kind) (said_in (f_at t hs)) sent_now.number sent_now.post all sent_now.at in
+        let below_it : IsChild (Began bs0) sent_now.post.to sent_now.post.from = subst (GoesSo (Began bs0) sent_now.post.from sent_now.post.to) sent_now.kind goes in
+        let one : parent_of bs0 h.from ≡ Some ans.from = subst (λ b. parent_of bs0 b ≡ Some ans.from) sent_now.to (subst (λ b. parent_of bs0 sent_now.post.to ≡ Some b) sent_now.from (child_parent bs0 sent_now.post.to sent_now.post.from below_it)) in
+        let two : parent_of bs0 h.from ≡ Some me = subst (λ b. parent_of bs0 b ≡ Some me) over.1 (child_of bs0 x.live lives i e.peer child) in
+        let both : Some ans.from ≡ Some me = sym one ∙ two in
+        let here : ans.from ≡ me = cc in
+        here
+
+    -- with the statement that the branch passed on
+    passed : ans.statement ≡ passed_on waited.statement waited.called.table
+    passed =
+        all_numbered (λ (y : Post). y.from ≡ me → y.to ≡ e.peer → (call room : ℕ) (advice : Option Advice) (st : Stmt) → y.kind ≡ kinds.Exec call room advice st → call ≡ call_at x.work i → st ≡ g.0.statement) (said_in (f_at t hs)) sent_now.number sent_now.post waited.sent sent_now.at
+        (sent_now.from ∙ from_me) (sent_now.to ∙ sym over.1) h.call ans.given ans.advice ans.statement sent_now.kind (sym over.2)
+        ∙ waited.called.passes
+
+    -- which was sent after the name of its table was looked up
+    looked_up : length waited.called.before ≤ length ms
+    looked_up = by (nat_le (length waited.called.before) (length ms)) refl
+      where
+        by : (q : Bool) → nat_le (length waited.called.before) (length ms) ≡ q → length waited.called.before ≤ length ms
+        by true low = grind (arith, nat_tests, low)
+        by false high =
+            let less : length ms ≤ length waited.called.before = grind (arith, nat_tests, high) in
+            let more = longer ms waited.called.before (happenings.Turn ans.turn ∷ cut_there.1) waited.called.part.rest (cut_there.2 ∙ sym waited.called.part.is) less in
+            let sent : Sent waited.called.before = subst Sent (sym more.1) (sent_later ms more.0 sent_then) in
+            let newest : exec_number sent.post.kind ≤ newest_exec (said_in (f_at t waited.called.before)) me e.peer = exec_in (said_in (f_at t waited.called.before)) sent.number sent.post sent.at me e.peer (sent.from ∙ from_me) (sent.to ∙ sym over.1) in
+            let number : exec_number sent.post.kind ≡ h.call = ap exec_number sent.kind in
+            absurd (omega (arith, newest, number, over.2, waited.called.unmade))
+
+    grows : (m : ℕ) → Extends (catalog t whole waited.called.before m) (catalog t whole ms m)
+    grows m =
+        let more = longer waited.called.before ms waited.called.part.rest (happenings.Turn ans.turn ∷ cut_there.1) (waited.called.part.is ∙ sym cut_there.2) looked_up in
+        subst (λ ps. Extends (catalog t whole waited.called.before m) (catalog t whole ps m)) (sym more.1)
+        (catalog_on t whole m waited.called.before more.0 (record { rest = happenings.Turn ans.turn ∷ cut_there.1; is = ap (λ ps. ps ++ happenings.Turn ans.turn ∷ cut_there.1) (sym more.1) ∙ cut_there.2 }))
+
+    catalog_then : catalog_at t ans.moment me.node ≡ catalog t whole ms me.node
+    catalog_then = ap (λ j. catalog_at t j me.node) (sym cut_there.3) ∙ catalog_here ms (happenings.Turn ans.turn) cut_there.1 cut_there.2 me.node
+
+    leads_on : LeadsTo t r me waited.statement
+    leads_on =
+        Passes me h.from waited.statement ans.moment h.call ans.given ans.advice waited.called.link waited.called.table ans.turn ans.there ans.before
+        (subst (λ b. Came ans.turn.input b h.from (kinds.Exec h.call ans.given ans.advice (passed_on waited.statement waited.called.table))) from_me (subst (λ s. Came ans.turn.input ans.from h.from (kinds.Exec h.call ans.given ans.advice s)) passed came_then))
+        (ap (λ d. named_by d (ref_of waited.statement)) catalog_then ∙ (grows me.node).names (ref_of waited.statement) waited.called.link waited.called.table waited.called.named)
+        (ap (λ d. target_of (place_at t.places me.node) d waited.called.link) catalog_then
+        ∙ ((grows me.node).leads (place_at t.places me.node) waited.called.link e.peer.node waited.called.leads ∙ ap (λ (b : BranchId). Some b.node) over.1))
+        (subst (LeadsTo t r h.from) passed ans.leads)
+
+    -- ---- the call of the branch itself
+
+    abbrev gave : GivenAt t whole me x.work.came.last_call waited.statement
+    gave = waited.called.given
+
+    -- a branch below a root is given statements by Execs alone
+    high : 65 ≤ me.session
+    high = all_found (λ (l : Live). l.parent ≢ None → 65 ≤ l.me.session) live_id k.lives me x.live (kept_alone SessionsFit sessions_keep s0 lawful0 u.node k up).above found below
+
+    exec_gave : (from : BranchId) × (given : ℕ) × (advice : Option Advice) × Came gave.turn.input from me (kinds.Exec x.work.came.last_call given advice waited.statement)
+    exec_gave = elim gave.how [
+      | inl came ↦ came
+      | inr call ↦ (let may = may_of t whole gave.before (happenings.Turn gave.turn) gave.rest gave.is in
+          let low : IsSession me.session = (call_free (f_at t gave.before) may.0 gave.turn.node gave.turn.input gave.turn.took me.session (Some waited.statement) call.0 may.1.comes).0 in
+          absurd (omega (arith, low.1, high)))
+    ]
+
+    pub heard_so : AnsweredBy t me x.work.came.last_call a r
+    heard_so = record {
+      ran = ans.ran;
+      moment = length gave.before;
+      turn = gave.turn;
+      there = happens_at t gave.before (happenings.Turn gave.turn) gave.rest gave.is;
+      from = exec_gave.0;
+      given = exec_gave.1;
+      advice = exec_gave.2;
+      statement = waited.statement;
+      came = exec_gave.3;
+      before = omega (arith, waited.called.since, looked_up, cut_there.3, ans.before);
+      leads = leads_on;
+    }
+
+  passes_so : PassesSo t whole Ans
+  passes_so hs u rest is k up x weight count a i e h below r n told ans = heard_so hs u rest is k up x weight count a i e h below r n told ans
+
+  pub run_answers : Holds t whole Ans t.trace
+  run_answers = holds_at t whole Ans runs_so passes_so t.trace (record { rest = []; is = append-nil t.trace })
+
+pub replies_lead_to_runs : RepliesLeadToRuns
+replies_lead_to_runs t lawful number x at call weight count a reply good =
+    (run_answers t lawful).replies number (packet_post x) (numbered_map packet_post (facts_at t).net.packets number ∙ ap (option_map packet_post) at) call weight count a reply good
+
+pub kept_answers_lead_to_runs : KeptAnswersLeadToRuns
+kept_answers_lead_to_runs t lawful n k up l live below s seen rf is good = ((run_answers t lawful).calls n k up l live below s seen).kept rf is good

@@ -13,3 +13,4 @@ pub mod OpenSentLemmas
 pub mod LineLemmas
 pub mod LineStepLemmas
 pub mod LineRunLemmas
+pub mod LeadLemmas
