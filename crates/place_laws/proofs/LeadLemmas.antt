@@ -10,6 +10,7 @@ use Rattle.session_tree.specs.Live.{children_of, edge_at}
 use Rattle.node_rules.specs.Data.{Answer, Advice, BranchId, Edge, Kind, Live, Post, Stmt, Input}
 use Rattle.node_rules.specs.Data.inputs
 use Rattle.node_rules.specs.Data.kinds
+use Rattle.node_rules.specs.Data.stmts
 use Rattle.node_rules.specs.declared.work.Waits.TheVariants as waiting
 use Rattle.node_rules.specs.declared.work.Going.{Going}
 use Rattle.node_rules.specs.declared.work.Work.{Work}
@@ -20,7 +21,7 @@ use Rattle.node_rules.specs.LiveBranches.{works_of}
 use Rattle.node_rules.specs.Names.{A_table, Behind, named_by, ref_of, passed_on, target_of}
 use Rattle.node_rules.specs.Turn.{heard}
 use Rattle.node_rules.proofs.LiveLemmas.{branch_parts}
-use Rattle.node_rules.proofs.Steps.{Is_answered}
+use Rattle.node_rules.proofs.Steps.{Is_answered, IsOfRows}
 use Rattle.run_laws.specs.Births.{Born, births_of}
 use Rattle.run_laws.specs.BirthLaws.{Began, IsChild, LiveIs, GoesSo}
 use Rattle.run_laws.specs.Branches.{Run, origin_at}
@@ -30,11 +31,12 @@ use Rattle.run_laws.specs.Facts.{Facts, first_facts, place_at, node_at, records_
 use Rattle.run_laws.specs.InTurnLaws.{packet_post, said_in, exec_number, newest_exec, WaitsFor, call_at, GoesOn}
 use Rattle.run_laws.specs.Lawful.{History, IsLawfulRun, facts_at}
 use Rattle.run_laws.specs.Places.{LeadsTo, Runs_here, Passes, catalog_at}
+use Rattle.run_laws.specs.Runs.{is_of_rows}
 use Rattle.run_laws.proofs.BirthRunLemmas.{messages_are_of_neighbors, nodes_name_the_born}
 use Rattle.run_laws.proofs.InTurnLemmas.{peer, reply_for}
 use Rattle.run_laws.proofs.InTurnLemmas as turns
 use Rattle.run_laws.proofs.InTurnRunLemmas.{came_here}
-use Rattle.run_laws.proofs.KidLemmas.{parent_of, child_parent, child_of}
+use Rattle.run_laws.proofs.KidLemmas.{parent_of, above_of, child_parent, child_of}
 use Rattle.run_laws.proofs.ListLemmas.{all_map}
 use Rattle.run_laws.proofs.NeighborLemmas.{reply_is}
 use Rattle.run_laws.proofs.NodeLemmas.{kept_alone}
@@ -46,7 +48,7 @@ use Rattle.tree_laws.proofs.PrefixLemmas.{so_far, f_at, facts_join}
 use Rattle.site_laws.proofs.TimeLemmas.{Part, part_lawful, may_of}
 use Rattle.trail_laws.proofs.CallLemmas.{call_free}
 use Rattle.trail_laws.proofs.MomentLemmas.{tr_at}
-use Rattle.place_laws.specs.LeadLaws.{AnsweredBy, RepliesLeadToRuns, KeptAnswersLeadToRuns}
+use Rattle.place_laws.specs.LeadLaws.{AnsweredBy, CallAnsweredBy, RepliesLeadToRuns, KeptAnswersLeadToRuns}
 use Rattle.place_laws.proofs.CatalogLemmas.{Extends, catalog, catalog_on}
 use Rattle.place_laws.proofs.LineLemmas.{SentSo, WaitsSo, Line}
 use Rattle.place_laws.proofs.LineRunLemmas.{GivenAt, GivenBy, CalledAt, LinesOf, stand_at}
@@ -56,6 +58,14 @@ use Rattle.place_laws.proofs.PastLemmas.{all_before, reply_before}
 use Rattle.place_laws.proofs.ReplyRunLemmas.{happens_at, prefix, moment_at, ran_there, holds_at}
 use Rattle.place_laws.proofs.ReplyTurnLemmas.{RunsSo, PassesSo, Holds, came_sent}
 use Rattle.place_laws.proofs.TurnTaleLemmas as tales
+
+-- a statement that has a table
+of_rows : (s : Stmt) → IsOfRows s → is_of_rows s ≡ true
+of_rows (stmts.Insert table columns given) is = refl
+of_rows (stmts.Update table sets cs) is = refl
+of_rows (stmts.Delete table cs) is = refl
+of_rows (stmts.Select list table cs for_update) is = refl
+of_rows _ is = absurd is
 
 -- ---- parts of a run
 
@@ -132,7 +142,7 @@ module _ (t : History) (whole : IsLawfulRun t) where
   -- ---- a Reply that is heard
 
   module _ (hs : List Happening) (u : Turn) (rest : List Happening) (is : hs ++ happenings.Turn u ∷ rest ≡ t.trace) (k : Kept) (up : node_at (f_at t hs) u.node ≡ Some k)
-      (x : Branch) (weight : Option ℕ) (count : ℕ) (a : Answer) (i : ℕ) (e : Edge) (h : Is_answered (heard k u.input) u.input x weight count a i e) (below : x.live.parent ≢ None) (r : Run)
+      (x : Branch) (weight : Option ℕ) (count : ℕ) (a : Answer) (i : ℕ) (e : Edge) (h : Is_answered (heard k u.input) u.input x weight count a i e) (r : Run)
       (n : ℕ) (told : origin_at (tr_at t hs) n ≡ Some r) (ans : AnsweredBy t h.from h.call a r) where
     part0 : Part t whole hs
     part0 = record { rest = happenings.Turn u ∷ rest; is = is }
@@ -189,7 +199,7 @@ module _ (t : History) (whole : IsLawfulRun t) where
       pub called : CalledAt t whole me e.peer (call_at x.work i) x.work.came.last_call statement g.0.statement
       pub sent : SentSo (place_at t.places u.node) (catalog t whole hs u.node) (GivenBy t whole hs) (CalledAt t whole) (said_in (f_at t hs)) me e.peer (call_at x.work i) g.0.statement
 
-    waited : Waited
+    pub waited : Waited
     waited =
         let was = line.waits g.0 g.1 in
         let so = subst (WaitsSo (place_at t.places u.node) (catalog t whole hs u.node) (GivenBy t whole hs) (CalledAt t whole) (said_in (f_at t hs)) me x.live.edges x.work was.0 g.0.statement) waits_is was.2 in
@@ -226,6 +236,9 @@ module _ (t : History) (whole : IsLawfulRun t) where
         let may = may_of t whole ms (happenings.Turn ans.turn) cut_there.1 cut_there.2 in
         let sent = came_sent (f_at t ms) may.0 ans.turn.node ans.turn.input ans.turn.took may.1.comes ans.from h.from (kinds.Exec h.call ans.given ans.advice ans.statement) came_then in
         record { number = sent.0.number; post = sent.2; at = sent.3; from = sent.4; kind = sent.5; to = sent.6 }
+
+    sent_from : (ps : List Happening) (s : Sent ps) → ans.from ≡ me → exec_number s.post.kind ≤ newest_exec (said_in (f_at t ps)) me e.peer
+    sent_from ps s here = exec_in (said_in (f_at t ps)) s.number s.post s.at me e.peer (s.from ∙ here) (s.to ∙ sym over.1)
 
     sent_later : (ps mid : List Happening) → Sent ps → Sent (ps ++ mid)
     sent_later ps mid s =
@@ -270,7 +283,7 @@ module _ (t : History) (whole : IsLawfulRun t) where
             let less : length ms ≤ length waited.called.before = grind (arith, nat_tests, high) in
             let more = longer ms waited.called.before (happenings.Turn ans.turn ∷ cut_there.1) waited.called.part.rest (cut_there.2 ∙ sym waited.called.part.is) less in
             let sent : Sent waited.called.before = subst Sent (sym more.1) (sent_later ms more.0 sent_then) in
-            let newest : exec_number sent.post.kind ≤ newest_exec (said_in (f_at t waited.called.before)) me e.peer = exec_in (said_in (f_at t waited.called.before)) sent.number sent.post sent.at me e.peer (sent.from ∙ from_me) (sent.to ∙ sym over.1) in
+            let newest : exec_number sent.post.kind ≤ newest_exec (said_in (f_at t waited.called.before)) me e.peer = sent_from waited.called.before sent from_me in
             let number : exec_number sent.post.kind ≡ h.call = ap exec_number sent.kind in
             absurd (omega (arith, newest, number, over.2, waited.called.unmade))
 
@@ -294,38 +307,84 @@ module _ (t : History) (whole : IsLawfulRun t) where
 
     -- ---- the call of the branch itself
 
-    abbrev gave : GivenAt t whole me x.work.came.last_call waited.statement
+    abbrev pub gave : GivenAt t whole me x.work.came.last_call waited.statement
     gave = waited.called.given
 
+    pub gave_first : length gave.before ≤ r.moment
+    gave_first = omega (arith, waited.called.since, looked_up, cut_there.3, ans.before)
+
     -- a branch below a root is given statements by Execs alone
-    high : 65 ≤ me.session
-    high = all_found (λ (l : Live). l.parent ≢ None → 65 ≤ l.me.session) live_id k.lives me x.live (kept_alone SessionsFit sessions_keep s0 lawful0 u.node k up).above found below
+    module _ (below : x.live.parent ≢ None) where
+      high : 65 ≤ me.session
+      high = all_found (λ (l : Live). l.parent ≢ None → 65 ≤ l.me.session) live_id k.lives me x.live (kept_alone SessionsFit sessions_keep s0 lawful0 u.node k up).above found below
 
-    exec_gave : (from : BranchId) × (given : ℕ) × (advice : Option Advice) × Came gave.turn.input from me (kinds.Exec x.work.came.last_call given advice waited.statement)
-    exec_gave = elim gave.how [
-      | inl came ↦ came
-      | inr call ↦ (let may = may_of t whole gave.before (happenings.Turn gave.turn) gave.rest gave.is in
-          let low : IsSession me.session = (call_free (f_at t gave.before) may.0 gave.turn.node gave.turn.input gave.turn.took me.session (Some waited.statement) call.0 may.1.comes).0 in
-          absurd (omega (arith, low.1, high)))
-    ]
+      exec_gave : (from : BranchId) × (given : ℕ) × (advice : Option Advice) × Came gave.turn.input from me (kinds.Exec x.work.came.last_call given advice waited.statement)
+      exec_gave = elim gave.how [
+        | inl came ↦ came
+        | inr call ↦ (let may = may_of t whole gave.before (happenings.Turn gave.turn) gave.rest gave.is in
+            let low : IsSession me.session = (call_free (f_at t gave.before) may.0 gave.turn.node gave.turn.input gave.turn.took me.session (Some waited.statement) call.0 may.1.comes).0 in
+            absurd (omega (arith, low.1, high)))
+      ]
 
-    pub heard_so : AnsweredBy t me x.work.came.last_call a r
-    heard_so = record {
-      ran = ans.ran;
-      moment = length gave.before;
-      turn = gave.turn;
-      there = happens_at t gave.before (happenings.Turn gave.turn) gave.rest gave.is;
-      from = exec_gave.0;
-      given = exec_gave.1;
-      advice = exec_gave.2;
-      statement = waited.statement;
-      came = exec_gave.3;
-      before = omega (arith, waited.called.since, looked_up, cut_there.3, ans.before);
-      leads = leads_on;
-    }
+      pub heard_so : AnsweredBy t me x.work.came.last_call a r
+      heard_so = record {
+        ran = ans.ran;
+        moment = length gave.before;
+        turn = gave.turn;
+        there = happens_at t gave.before (happenings.Turn gave.turn) gave.rest gave.is;
+        from = exec_gave.0;
+        given = exec_gave.1;
+        advice = exec_gave.2;
+        statement = waited.statement;
+        came = exec_gave.3;
+        before = gave_first;
+        leads = leads_on;
+      }
+
+    -- a root is given statements by calls of its session
+    module _ (top : x.live.parent ≡ None) where
+      call_gave : IsCall gave.turn.input me.session waited.statement × IsOfRows waited.statement × (gave.turn.node ≡ me.node)
+      call_gave = elim gave.how [
+        | inl came ↦ absurd (no_exec came.0 came.1 came.2 came.3)
+        | inr call ↦ call
+      ]
+        where
+          no_exec : (from : BranchId) (given : ℕ) (advice : Option Advice) → Came gave.turn.input from me (kinds.Exec x.work.came.last_call given advice waited.statement) → ⊥
+          no_exec from given advice came =
+              let may = may_of t whole gave.before (happenings.Turn gave.turn) gave.rest gave.is in
+              let sent = came_sent (f_at t gave.before) may.0 gave.turn.node gave.turn.input gave.turn.took may.1.comes from me (kinds.Exec x.work.came.last_call given advice waited.statement) came in
+              let more = longer gave.before hs (happenings.Turn gave.turn ∷ gave.rest) (happenings.Turn u ∷ rest) (gave.is ∙ sym is) (omega (arith, waited.called.since, looked_up, earlier)) in
+              let grown = said_grows gave.before more.0 in
+              let at : numbered (said_in (f_at t hs)) sent.0.number ≡ Some sent.2
+              = subst (λ ps. numbered (said_in (f_at t ps)) sent.0.number ≡ Some sent.2) (sym more.1) (subst (λ xs. numbered xs sent.0.number ≡ Some sent.2) (sym grown.1) (numbered_more (said_in (f_at t gave.before)) grown.0 sent.0.number sent.2 sent.3)) in
+              let all : AllByRecursion (λ (y : Post). GoesSo (Began bs0) y.from y.to y.kind) (said_in (f_at t hs)) = all_map (λ (y : Post). GoesSo (Began bs0) y.from y.to y.kind) packet_post (f_at t hs).net.packets (messages_are_of_neighbors s0 lawful0) in
+              let goes : GoesSo (Began bs0) sent.2.from sent.2.to sent.2.kind = all_numbered (λ (y : Post). GoesSo (Began bs0) y.from y.to y.kind) (said_in (f_at t hs)) sent.0.number sent.2 all at in
+              let below_it : IsChild (Began bs0) sent.2.to sent.2.from = subst (GoesSo (Began bs0) sent.2.from sent.2.to) sent.5 goes in
+              let parent : parent_of bs0 me ≡ Some sent.2.from = subst (λ b. parent_of bs0 b ≡ Some sent.2.from) sent.6 (child_parent bs0 sent.2.to sent.2.from below_it) in
+              let some : x.live.parent ≡ Some sent.2.from = above_of bs0 x.live lives sent.2.from parent in
+              absurd (cc (some, top))
+
+      pub root_heard : CallAnsweredBy t me.node me.session a r
+      root_heard = record {
+        ran = ans.ran;
+        moment = length gave.before;
+        turn = gave.turn;
+        there = happens_at t gave.before (happenings.Turn gave.turn) gave.rest gave.is;
+        statement = waited.statement;
+        came = call_gave.0;
+        rows = of_rows waited.statement call_gave.1;
+        here = call_gave.2;
+        before = gave_first;
+        root = me;
+        is_root = (refl, refl);
+        leads = leads_on;
+      }
 
   passes_so : PassesSo t whole Ans
-  passes_so hs u rest is k up x weight count a i e h below r n told ans = heard_so hs u rest is k up x weight count a i e h below r n told ans
+  passes_so hs u rest is k up x weight count a i e h below r n told ans = heard_so hs u rest is k up x weight count a i e h r n told ans below
+
+  pub answers_at : (hs : List Happening) → Part t whole hs → Holds t whole Ans hs
+  answers_at hs part = holds_at t whole Ans runs_so passes_so hs part
 
   pub run_answers : Holds t whole Ans t.trace
   run_answers = holds_at t whole Ans runs_so passes_so t.trace (record { rest = []; is = append-nil t.trace })

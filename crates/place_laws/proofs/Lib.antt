@@ -14,3 +14,6 @@ pub mod LineLemmas
 pub mod LineStepLemmas
 pub mod LineRunLemmas
 pub mod LeadLemmas
+pub mod RootAnswerLemmas
+mod TriedPlaceLemmas
+pub mod AtOnceLemmas

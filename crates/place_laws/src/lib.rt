@@ -2,7 +2,8 @@
 #![tactic(auto)]
 
 ghost use Rattle.place_laws.specs.ReplyLaws.{RepliesComeFromRuns, LowerCallsAreTold};
-ghost use Rattle.place_laws.specs.LeadLaws.{RepliesLeadToRuns, KeptAnswersLeadToRuns};
+ghost use Rattle.place_laws.specs.TriedPlace.{TheTriedPlace};
+ghost use Rattle.place_laws.specs.LeadLaws.{RepliesLeadToRuns, KeptAnswersLeadToRuns, CallsEndAsReplied, CallsEndAtOnce};
 
 /// Each Reply that is no refusal comes from the run of a statement that stands in a turn of the run, and that turn answered what the Reply says.
 pub fn replies_come_from_runs()
@@ -23,4 +24,21 @@ pub fn replies_lead_to_runs()
 /// So is the run of an answer that a live branch below a root keeps for a call that comes again.
 pub fn kept_answers_lead_to_runs()
     ensures { KeptAnswersLeadToRuns }
+{}
+
+/// A client's call that ends on a Reply, and not with a refusal, ends with the answer of the run that the Reply came from. The call led to that run,
+/// which came no earlier than the call.
+pub fn calls_end_as_replied()
+    ensures { CallsEndAsReplied }
+{}
+
+/// A client's statement that is answered in the turn that it comes to, and not with a refusal, ran in that turn, at the root of its session.
+pub fn calls_end_at_once()
+    ensures { CallsEndAtOnce }
+{}
+
+/// No law of places is about nothing: in the tried run of two nodes B's Reply is told to come from its run of the statement that A passed on, and
+/// A's last answer from its own run.
+pub fn the_tried_place()
+    ensures { TheTriedPlace }
 {}
