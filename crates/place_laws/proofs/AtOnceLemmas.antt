@@ -1,9 +1,8 @@
 -- In every lawful run a client's statement that is answered in the turn that it comes to, and not with a refusal, ran in that turn.
-use Rattle.std.proofs.Common.{◌≡◌, ℕ, ◌+◌, ◌≤◌, ◌==◌, ◌&&◌, Bool, true, false, if◌then◌else◌, find, is_none, List, [], ◌∷◌, ◌++◌, length, Option, Some, None, refl, sym, ap, subst, ◌∙◌, arith}
-use Rattle.std.specs.Prelude.{slice_get, take}
+use Rattle.std.proofs.Common.{◌≡◌, ℕ, ◌==◌, ◌&&◌, true, false, if◌then◌else◌, find, is_none, List, [], ◌∷◌, ◌++◌, length, Option, Some, None, refl, sym, ap, subst, ◌∙◌, arith}
 use Rattle.std.proofs.lemmas.Bool.{and_parts, eqb-true, eq-eqb}
 use Rattle.redo_record.specs.Durable.{durable}
-use Rattle.node_rules.specs.Data.{Answer, BranchId, Durable, Live, Place, Refusal, Stmt, Table, TableRef}
+use Rattle.node_rules.specs.Data.{Answer, BranchId, Place, Refusal, Stmt, Table, TableRef}
 use Rattle.node_rules.specs.Data.answers
 use Rattle.node_rules.specs.Data.inputs
 use Rattle.node_rules.specs.Data.stmts
@@ -17,14 +16,14 @@ use Rattle.node_rules.specs.Turn.{turn_of, deed_of}
 use Rattle.run_laws.specs.Branches.{Run, Seen, Trail, is_live, is_live_at, is_root_of, root_at as told_root}
 use Rattle.run_laws.specs.Data.{Turn, Happening}
 use Rattle.run_laws.specs.Data.happenings
-use Rattle.run_laws.specs.Facts.{Facts, place_at, node_at, records_at, served, outcome_at}
+use Rattle.run_laws.specs.Facts.{Facts, place_at, records_at, served, outcome_at}
 use Rattle.run_laws.specs.Lawful.{MayHappen, History, IsLawfulRun}
 use Rattle.run_laws.specs.Places.{LeadsTo, Runs_here as Runs_there, catalog_at}
-use Rattle.run_laws.specs.Runs.{Asking, asks, asks_root, bare_name, table_by, run_at_table, run_by, run_in, ended_answer, replied_answer, answer_or, answered_by, is_of_rows, is_accepted}
+use Rattle.run_laws.specs.Runs.{asks, asks_root, bare_name, table_by, run_at_table, run_by, run_in, ended_answer, replied_answer, answer_or, answered_by, is_of_rows, is_accepted}
 use Rattle.run_laws.specs.Trail.{next_root, root_seen, with_begun, roots_begun, children_begun, begun_in_turn}
 use Rattle.run_laws.proofs.StoredLemmas.{records_are_kept}
 use Rattle.tree_laws.proofs.PrefixLemmas.{so_far, f_at}
-use Rattle.site_laws.proofs.TimeLemmas.{Part, part_lawful, may_of}
+use Rattle.site_laws.proofs.TimeLemmas.{part_lawful, may_of}
 use Rattle.trail_laws.proofs.MomentLemmas.{tr_at, by_moment}
 use Rattle.trail_laws.proofs.PlanLemmas.{find_more, find_last, find_passes}
 use Rattle.place_laws.specs.LeadLaws.{CallAnsweredBy, EndsAtOnce, CallsEndAtOnce}
@@ -48,6 +47,7 @@ module _ (p : Place) (k : Kept) (n : ℕ) (m : ℕ) (a : Answer) (good : is_acce
 
   refused_not : (r : Refusal) (session : ℕ) → (record { session = session; answer = answers.Refused r }) ∷ [] ≡ (record { session = m; answer = a }) ∷ more → ⊥
   refused_not r session ended =
+      let both : (record { session = session; answer = answers.Refused r }) ∷ [] ≡ (record { session = m; answer = a }) ∷ more = ended in
       let it : record { session = session; answer = answers.Refused r } ≡ record { session = m; answer = a } = cc in
       let one : answers.Refused r ≡ a = ap (λ (x : Finished). x.answer) it in
       let none : is_accepted (Some a) ≡ false = ap (λ y. is_accepted (Some y)) (sym one) in
@@ -163,20 +163,24 @@ module _ (t : History) (whole : IsLawfulRun t) (hs : List Happening) (u : Turn) 
       Runs_there (ap (λ d. named_by d (ref_of s)) catalog_is ∙ named)
 
   pub ran_at_once : (r : Run) × (run_in (f_at t hs) (with_begun (f_at t hs) (tr_at t hs) u) u ≡ Some r) × CallAnsweredBy t u.node session a r
-  ran_at_once = (r, ran_it, record {
-    ran = ran_there t hs u rest is r a refl ran_it answered;
-    moment = length hs;
-    turn = u;
-    there = happens_at t hs (happenings.Turn u) rest is;
-    statement = s;
-    came = call;
-    rows = rows;
-    here = refl;
-    before = omega (arith, here);
-    root = r.branch;
-    is_root = parts;
-    leads = leads;
-  })
+  ran_at_once = (
+    r,
+    ran_it,
+    record {
+      ran = ran_there t hs u rest is r a refl ran_it answered;
+      moment = length hs;
+      turn = u;
+      there = happens_at t hs (happenings.Turn u) rest is;
+      statement = s;
+      came = call;
+      rows = rows;
+      here = refl;
+      before = omega (arith, here);
+      root = r.branch;
+      is_root = parts;
+      leads = leads;
+    },
+  )
 
 pub calls_end_at_once : CallsEndAtOnce
 calls_end_at_once t lawful = by_moment t (EndsAtOnce t) each

@@ -1,12 +1,12 @@
 -- What a turn tells of a live branch below a root to which an Exec or a Reply comes: the call that it has taken, the run that its answer comes from.
-use Rattle.std.proofs.Common.{◌≡◌, ◌≢◌, ℕ, ◌+◌, ◌<◌, ◌≤◌, ◌==◌, ◌&&◌, ◌||◌, Bool, true, false, if◌then◌else◌, is_none, List, [], ◌∷◌, ◌++◌, map, length, max, Option, Some, None, refl, sym, ap, subst, ◌∙◌, arith}
+use Rattle.std.proofs.Common.{◌≡◌, ◌≢◌, ℕ, ◌+◌, ◌<◌, ◌≤◌, ◌==◌, ◌&&◌, ◌||◌, Bool, true, false, if◌then◌else◌, is_none, List, [], ◌∷◌, ◌++◌, map, length, max, Option, Some, None, refl, ap, subst, ◌∙◌, arith}
 use Rattle.std.specs.Prelude.{find, nat_lt}
 use Rattle.std.specs.List.{AllByRecursion, list_any}
 use Rattle.std.proofs.lemmas.Bool.{and_left, and_right}
 use Rattle.std.proofs.lemmas.Bool.Decides.{nat_tests}
 use Rattle.tran_ids.proofs.BranchLemmas.{equal_from_same, same_from_equal}
 use Rattle.redo_record.specs.Durable.{durable}
-use Rattle.node_rules.specs.Data.{Table, TableRef, Stmt, Answer, Advice, BranchId, Kind, Msg, Place, Input, Post}
+use Rattle.node_rules.specs.Data.{Table, TableRef, Stmt, Answer, Advice, BranchId, Kind, Msg, Input, Post}
 use Rattle.node_rules.specs.declared.session.Finished.{Finished}
 use Rattle.node_rules.specs.Data.inputs
 use Rattle.node_rules.specs.Data.kinds
@@ -18,11 +18,10 @@ use Rattle.node_rules.specs.Kept.{post}
 use Rattle.run_laws.specs.Branches.{Run, Seen, Trail, Origin, is_live, is_live_at, is_root_of, seen_at, origin_at, origin_of}
 use Rattle.run_laws.specs.Data.{Took, Turn}
 use Rattle.run_laws.specs.Facts.{Facts, records_at}
-use Rattle.run_laws.specs.Runs.{Asking, asks_branch, asks_by, asks, bare_name, table_by, run_at_table, run_by, run_in, replied_answer, answer_or, ended_answer}
-use Rattle.run_laws.specs.Trail.{is_reply, taken_by, taken_after, last_answer, handed_on, brought, origin_by, origins_of}
+use Rattle.run_laws.specs.Runs.{asks_branch, asks, bare_name, table_by, run_at_table, run_by, run_in, replied_answer, answer_or, ended_answer}
+use Rattle.run_laws.specs.Trail.{is_reply, taken_by, taken_after, last_answer, brought, origin_by, origins_of}
 use Rattle.trail_laws.proofs.PlanLemmas.{find_last}
 use Rattle.place_laws.proofs.NameLemmas.{table_at}
-use Rattle.place_laws.proofs.TaleLemmas.{NoReply, came_one}
 
 -- ---- the call that a branch has taken
 

@@ -1,17 +1,16 @@
 -- Names keep their meaning: what a name of a table means at a node, where it is behind a link, and where that link leads, it means from then on.
-use Rattle.std.proofs.Common.{◌≡◌, ℕ, ◌+◌, ◌≤◌, ◌||◌, Bool, true, false, if◌then◌else◌, find, position, List, [], ◌∷◌, ◌++◌, length, option_map, Option, Some, None, inl, inr, refl, sym, ap, subst, ◌∙◌, append-nil}
-use Rattle.std.specs.Prelude.{fold, option_to_list}
+use Rattle.std.proofs.Common.{◌≡◌, ℕ, ◌||◌, Bool, true, false, if◌then◌else◌, find, List, [], ◌∷◌, ◌++◌, Option, Some, None, inl, inr, refl, sym, ap, subst, ◌∙◌, append-nil}
+use Rattle.std.specs.Prelude.{option_to_list}
 use Rattle.std.specs.List.{list_any}
-use Rattle.std.proofs.lemmas.Bool.{cases_eq}
 use Rattle.commit_forget.specs.declared.next.Next.TheVariants as nexts
-use Rattle.redo_record.specs.Durable.{durable, durable_after, set_param}
+use Rattle.redo_record.specs.Durable.{durable, durable_after}
 use Rattle.node_rules.specs.Data.{Table, TableRef, Link, Synonym, RedoRecord, Standing, Durable, Place, Input}
 use Rattle.node_rules.specs.Data.acts
 use Rattle.node_rules.specs.Data.records
 use Rattle.node_rules.specs.Data.params
 use Rattle.node_rules.specs.Commit.{acked_by}
 use Rattle.node_rules.specs.Kept.{Kept, Deed, standing_id}
-use Rattle.node_rules.specs.Names.{Named, A_table, Behind, Unknown, synonym_named, table_named, table_of, ref_named, named_by, node_named, target_of}
+use Rattle.node_rules.specs.Names.{Behind, synonym_named, table_named, table_of, ref_named, named_by, node_named, target_of}
 use Rattle.node_rules.specs.Client.{is_used, is_link}
 use Rattle.node_rules.specs.Words.{same_text, put_item}
 use Rattle.node_rules.proofs.Steps as steps
@@ -25,7 +24,7 @@ use Rattle.node_rules.specs.Data.inputs
 use Rattle.node_rules.specs.Kept.{Stored}
 use Rattle.node_rules.specs.Turn.{heard, deed_of}
 use Rattle.node_rules.specs.Words.{numbered, set_numbered}
-use Rattle.run_laws.specs.Data.{Turn, Happening}
+use Rattle.run_laws.specs.Data.{Happening}
 use Rattle.run_laws.specs.Data.happenings
 use Rattle.run_laws.specs.Facts.{Facts, place_at, records_at, with_boot, facts_after}
 use Rattle.run_laws.specs.Lawful.{History, IsLawfulRun}

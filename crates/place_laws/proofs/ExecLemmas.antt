@@ -1,7 +1,6 @@
 -- What becomes of an Exec and of a Reply at the branch that they come to.
-use Rattle.std.proofs.Common.{◌≡◌, ◌≢◌, ℕ, ◌+◌, ◌<◌, ◌≤◌, ◌==◌, ◌&&◌, ◌||◌, Bool, true, false, if◌then◌else◌, is_none, List, [], ◌∷◌, length, Option, Some, None, refl, sym, ap, subst, ◌∙◌, arith}
+use Rattle.std.proofs.Common.{◌≡◌, ◌≢◌, ℕ, ◌+◌, ◌<◌, ◌≤◌, ◌==◌, ◌&&◌, ◌||◌, Bool, true, false, if◌then◌else◌, is_none, List, [], length, Option, Some, None, refl, sym, ap, subst, ◌∙◌, arith}
 use Rattle.std.specs.Prelude.{nat_lt, nat_le, is_some}
-use Rattle.std.proofs.lemmas.Bool.{cond_both}
 use Rattle.std.proofs.lemmas.Bool.Decides.{nat_tests}
 use Rattle.tran_ids.proofs.BranchLemmas.{equal_from_same, same_from_equal}
 use Rattle.tran_ids.proofs.ListedLemmas.{put_found}
@@ -20,19 +19,18 @@ use Rattle.node_rules.specs.Data.kinds
 use Rattle.node_rules.specs.Words.{same, one, item_at, put_item}
 use Rattle.node_rules.specs.Refusals.{dtx, ora}
 use Rattle.node_rules.specs.Inputs.{Came}
-use Rattle.node_rules.specs.Kept.{Kept, Branch, Deed, live_id, work_id, live_at, with_work, standing_at, branch_at, nothing, saying, post}
+use Rattle.node_rules.specs.Kept.{Kept, Branch, live_id, work_id, live_at, with_work, standing_at, branch_at, nothing, saying, post}
 use Rattle.node_rules.specs.LiveBranches.{works_of, EachLive}
-use Rattle.node_rules.specs.Names.{Way, Runs_here, Over, Through, Nowhere_to, Named, A_table, Behind, Unknown, named_by, ref_of, passed_on, target_of, way_new, way_edge, way_target, way_named, way_of}
+use Rattle.node_rules.specs.Names.{Way, Runs_here, Over, Through, Nowhere_to, Named, A_table, Behind, Unknown, named_by, ref_of, passed_on, way_new, way_edge, way_target, way_named, way_of}
 use Rattle.node_rules.specs.Statement.{ran, after_run, answer_of_run}
-use Rattle.node_rules.specs.Calls.{admit, reply_fields, kept_reply, with_answer, answer_says, answer_ends, replies, exec_to, nobody_at, called, waits_for_opened, goes, statement_at, takes_call, says_again, exec_by, reply_of, reply_by, hears_reply, heard_answer, gone_reply, is_gone}
+use Rattle.node_rules.specs.Calls.{admit, reply_fields, kept_reply, with_answer, answer_says, answer_ends, replies, exec_to, nobody_at, called, waits_for_opened, goes, takes_call, says_again, exec_by, reply_of, reply_by, hears_reply, heard_answer, gone_reply, is_gone}
 use Rattle.node_rules.specs.Turn.{Stand, Is_live, Is_kept, Is_gone, live_or, stand_of, exec_turn, reply_turn}
 use Rattle.node_rules.proofs.LiveLemmas.{each_put, each_same, branch_parts, work_is}
 use Rattle.node_rules.proofs.StandLemmas.{StandsSo, stands_so, live_so}
 use Rattle.run_laws.specs.Runs.{is_accepted}
-use Rattle.run_laws.specs.Trail.{is_reply}
 use Rattle.run_laws.proofs.KindSayLemmas.{AllSay}
 use Rattle.place_laws.proofs.PlainLemmas.{exec_mute}
-use Rattle.place_laws.proofs.TaleLemmas.{NoReply, IsMute, other_reply, Tale, Stays, Says_again, Takes, Answers, Hears, calls0, Told, AreGood, Tales, mute_good, mute_replies, came_one, each_of}
+use Rattle.place_laws.proofs.TaleLemmas.{NoReply, IsMute, other_reply, Stays, Says_again, Takes, Answers, Hears, calls0, Told, AreGood, Tales, mute_good, mute_replies, came_one, each_of}
 
 -- a statement runs where its table is
 way_new_not : (p : Place) (l : Live) (given node : ℕ) (link table : List ℕ) (t : Table) → way_new p l given node link table ≡ Runs_here t → ⊥
@@ -157,8 +155,8 @@ module _ (k : Kept) (m : Msg) (there : (b : BranchId) → item_at live_id k.live
     gone_so : live_at k m.to ≡ None → Tales k input (saying k (gone_reply m.to m.from call))
     gone_so none = (
       each_same Q (says_by (gone_reply m.to m.from call) []) k.lives k.works now (λ y v live any was.
-      (let other : same m.to y.me ≡ false = bool_by (same m.to y.me) (same m.to y.me ≡ false) (λ here. absurd (unheard none y live (equal_from_same m.to y.me here))) (λ at. at) in
-      stays (gone_reply m.to m.from call) [] y v (other_reply y.me m.to m.from (kinds.Reply call None 1 (answers.Refused (dtx 8 []))) other) (passed y other) was)),
+          (let other : same m.to y.me ≡ false = bool_by (same m.to y.me) (same m.to y.me ≡ false) (λ here. absurd (unheard none y live (equal_from_same m.to y.me here))) (λ at. at) in
+          stays (gone_reply m.to m.from call) [] y v (other_reply y.me m.to m.from (kinds.Reply call None 1 (answers.Refused (dtx 8 []))) other) (passed y other) was)),
       (record { came = λ reply. came_at m.to refl; live = λ good. absurd cc }, tt),
     )
 
@@ -183,7 +181,7 @@ module _ (k : Kept) (m : Msg) (there : (b : BranchId) → item_at live_id k.live
       again_so None none at = idle (λ z live to. low z.me (subst (λ b. call ≤ (calls0 k input b).last_call) (me ∙ to) (let it : call ≤ (calls0 k input x.live.me).last_call = omega (arith, at, ap (λ (c : Calls). c.last_call) last) in it)))
       again_so (Some t) some at = (
         each_same Q (says_by (replies x m.from t) []) k.lives k.works now (λ z v live any was. bool_by (same x.live.me z.me) (says_by (replies x m.from t) [] z v) (λ here. own z v (equal_from_same x.live.me z.me here) was)
-        (λ other. stays (replies x m.from t) [] z v (other_reply z.me x.live.me m.from (kinds.Reply x.work.came.last_call t.weight t.count t.result) other) (passed z (ap (λ c. same c z.me) to ∙ other)) was)),
+            (λ other. stays (replies x m.from t) [] z v (other_reply z.me x.live.me m.from (kinds.Reply x.work.came.last_call t.weight t.count t.result) other) (passed z (ap (λ c. same c z.me) to ∙ other)) was)),
         (record { came = λ reply. came_at x.live.me to; live = λ good. (x.live, live_so k x.live.me x found, (λ none. absurd (cc (up, none)))) }, tt),
       )
         where

@@ -1,13 +1,12 @@
 -- In every lawful run each Reply that is no refusal comes from a run that its call led to.
-use Rattle.std.proofs.Common.{◌≡◌, ◌≢◌, ℕ, zero, suc, ◌+◌, ◌<◌, ◌≤◌, ◌⊎◌, ◌&&◌, Bool, true, false, if◌then◌else◌, List, [], ◌∷◌, ◌++◌, length, max, option_map, Option, Some, None, inl, inr, refl, sym, ap, subst, ◌∙◌, append-nil, arith}
-use Rattle.std.specs.Prelude.{slice_get, take, nat_le}
+use Rattle.std.proofs.Common.{◌≡◌, ◌≢◌, ℕ, zero, suc, ◌≤◌, ◌&&◌, Bool, true, false, if◌then◌else◌, List, [], ◌∷◌, ◌++◌, length, max, option_map, Option, Some, None, inl, inr, refl, sym, ap, subst, ◌∙◌, append-nil, arith}
+use Rattle.std.specs.Prelude.{slice_get, nat_le}
 use Rattle.std.specs.List.{AllByRecursion}
 use Rattle.std.proofs.lemmas.Bool.Decides.{nat_tests}
-use Rattle.std.proofs.lemmas.List.{length-append}
 use Rattle.tran_ids.proofs.BranchLemmas.{same_from_equal}
 use Rattle.redo_record.specs.Durable.{durable}
 use Rattle.session_tree.specs.Live.{children_of, edge_at}
-use Rattle.node_rules.specs.Data.{Answer, Advice, BranchId, Edge, Kind, Live, Post, Stmt, Input}
+use Rattle.node_rules.specs.Data.{Answer, Advice, BranchId, Edge, Live, Post, Stmt, Input}
 use Rattle.node_rules.specs.Data.inputs
 use Rattle.node_rules.specs.Data.kinds
 use Rattle.node_rules.specs.Data.stmts
@@ -16,9 +15,9 @@ use Rattle.node_rules.specs.declared.work.Going.{Going}
 use Rattle.node_rules.specs.declared.work.Work.{Work}
 use Rattle.node_rules.specs.Words.{same, numbered, item_at}
 use Rattle.node_rules.specs.Inputs.{Came, IsCall, IsSession}
-use Rattle.node_rules.specs.Kept.{Kept, Branch, live_id, live_at}
+use Rattle.node_rules.specs.Kept.{Kept, Branch, live_id}
 use Rattle.node_rules.specs.LiveBranches.{works_of}
-use Rattle.node_rules.specs.Names.{A_table, Behind, named_by, ref_of, passed_on, target_of}
+use Rattle.node_rules.specs.Names.{A_table, named_by, ref_of, passed_on, target_of}
 use Rattle.node_rules.specs.Turn.{heard}
 use Rattle.node_rules.proofs.LiveLemmas.{branch_parts}
 use Rattle.node_rules.proofs.Steps.{Is_answered, IsOfRows}
@@ -27,7 +26,7 @@ use Rattle.run_laws.specs.BirthLaws.{Began, IsChild, LiveIs, GoesSo}
 use Rattle.run_laws.specs.Branches.{Run, origin_at}
 use Rattle.run_laws.specs.Data.{Turn, Happening}
 use Rattle.run_laws.specs.Data.happenings
-use Rattle.run_laws.specs.Facts.{Facts, first_facts, place_at, node_at, records_at, facts_of}
+use Rattle.run_laws.specs.Facts.{first_facts, place_at, node_at, records_at}
 use Rattle.run_laws.specs.InTurnLaws.{packet_post, said_in, exec_number, newest_exec, WaitsFor, call_at, GoesOn}
 use Rattle.run_laws.specs.Lawful.{History, IsLawfulRun, facts_at}
 use Rattle.run_laws.specs.Places.{LeadsTo, Runs_here, Passes, catalog_at}
@@ -51,13 +50,12 @@ use Rattle.trail_laws.proofs.MomentLemmas.{tr_at}
 use Rattle.place_laws.specs.LeadLaws.{AnsweredBy, CallAnsweredBy, RepliesLeadToRuns, KeptAnswersLeadToRuns}
 use Rattle.place_laws.proofs.CatalogLemmas.{Extends, catalog, catalog_on}
 use Rattle.place_laws.proofs.LineLemmas.{SentSo, WaitsSo, Line}
-use Rattle.place_laws.proofs.LineRunLemmas.{GivenAt, GivenBy, CalledAt, LinesOf, stand_at}
+use Rattle.place_laws.proofs.LineRunLemmas.{GivenAt, GivenBy, CalledAt, stand_at}
 use Rattle.place_laws.proofs.NumberLemmas.{numbered_map, all_numbered}
 use Rattle.place_laws.proofs.OpenSentLemmas.{numbered_more}
 use Rattle.place_laws.proofs.PastLemmas.{all_before, reply_before}
 use Rattle.place_laws.proofs.ReplyRunLemmas.{happens_at, prefix, moment_at, ran_there, holds_at}
 use Rattle.place_laws.proofs.ReplyTurnLemmas.{RunsSo, PassesSo, Holds, came_sent}
-use Rattle.place_laws.proofs.TurnTaleLemmas as tales
 
 -- a statement that has a table
 of_rows : (s : Stmt) → IsOfRows s → is_of_rows s ≡ true
@@ -240,6 +238,9 @@ module _ (t : History) (whole : IsLawfulRun t) where
     sent_from : (ps : List Happening) (s : Sent ps) → ans.from ≡ me → exec_number s.post.kind ≤ newest_exec (said_in (f_at t ps)) me e.peer
     sent_from ps s here = exec_in (said_in (f_at t ps)) s.number s.post s.at me e.peer (s.from ∙ here) (s.to ∙ sym over.1)
 
+    sent_number : (ps : List Happening) (s : Sent ps) → exec_number s.post.kind ≡ h.call
+    sent_number ps s = ap exec_number s.kind
+
     sent_later : (ps mid : List Happening) → Sent ps → Sent (ps ++ mid)
     sent_later ps mid s =
         let more = said_grows ps mid in
@@ -284,7 +285,7 @@ module _ (t : History) (whole : IsLawfulRun t) where
             let more = longer ms waited.called.before (happenings.Turn ans.turn ∷ cut_there.1) waited.called.part.rest (cut_there.2 ∙ sym waited.called.part.is) less in
             let sent : Sent waited.called.before = subst Sent (sym more.1) (sent_later ms more.0 sent_then) in
             let newest : exec_number sent.post.kind ≤ newest_exec (said_in (f_at t waited.called.before)) me e.peer = sent_from waited.called.before sent from_me in
-            let number : exec_number sent.post.kind ≡ h.call = ap exec_number sent.kind in
+            let number : exec_number sent.post.kind ≡ h.call = sent_number waited.called.before sent in
             absurd (omega (arith, newest, number, over.2, waited.called.unmade))
 
     grows : (m : ℕ) → Extends (catalog t whole waited.called.before m) (catalog t whole ms m)

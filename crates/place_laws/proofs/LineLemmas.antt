@@ -1,5 +1,5 @@
 -- Where the statement of a branch that waits leads: over its link, to the child that its edge is of. What keeps that so.
-use Rattle.std.proofs.Common.{◌≡◌, ◌≢◌, ℕ, suc, ◌+◌, ◌<◌, ◌≤◌, ◌==◌, ◌&&◌, ◌||◌, Bool, true, false, if◌then◌else◌, position, List, [], ◌∷◌, ◌++◌, map, length, max, option_map, Option, Some, None, refl, sym, ap, subst, ◌∙◌, arith}
+use Rattle.std.proofs.Common.{◌≡◌, ℕ, suc, ◌+◌, ◌<◌, ◌≤◌, ◌==◌, ◌&&◌, ◌||◌, Bool, true, false, if◌then◌else◌, position, List, [], ◌∷◌, ◌++◌, length, max, option_map, Option, Some, None, refl, sym, ap, subst, ◌∙◌, arith}
 use Rattle.std.specs.Prelude.{get_or, slice_get, nat_le}
 use Rattle.std.specs.List.{AllByRecursion}
 use Rattle.std.specs.Str.{bytes_eq}
@@ -10,7 +10,7 @@ use Rattle.tran_ids.proofs.BranchLemmas.{same_from_equal}
 use Rattle.dtx_values.specs.Limits.{depth_limit}
 use Rattle.session_tree.specs.Live.{edge_at, edge_by_link}
 use Rattle.session_tree.specs.Tree.{room}
-use Rattle.node_rules.specs.Data.{Table, Stmt, Advice, BranchId, Durable, Edge, Kind, Live, Place, Post}
+use Rattle.node_rules.specs.Data.{Stmt, Advice, BranchId, Durable, Edge, Kind, Live, Place, Post}
 use Rattle.node_rules.specs.Data.kinds
 use Rattle.node_rules.specs.declared.work.Waits.{Waits}
 use Rattle.node_rules.specs.declared.work.Waits.TheVariants as waiting
@@ -19,7 +19,7 @@ use Rattle.node_rules.specs.declared.work.Work.{Work}
 use Rattle.node_rules.specs.Words.{same, numbered}
 use Rattle.node_rules.specs.Refusals.{ora, dtx}
 use Rattle.node_rules.specs.Kept.{post}
-use Rattle.node_rules.specs.Names.{Way, Runs_here, Over, Through, Nowhere_to, Named, A_table, Behind, Unknown, named_by, ref_of, passed_on, target_of, way_new, way_edge, way_target, way_named, way_of}
+use Rattle.node_rules.specs.Names.{Over, Through, Nowhere_to, Named, A_table, Behind, Unknown, named_by, ref_of, passed_on, target_of, way_new, way_edge, way_target, way_named, way_of}
 use Rattle.run_laws.specs.InTurnLaws.{exec_number, newest_exec, call_at}
 use Rattle.run_laws.proofs.KindSayLemmas.{AllSay}
 use Rattle.run_laws.proofs.ListLemmas.{all_append, all_weaker}

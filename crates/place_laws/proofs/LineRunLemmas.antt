@@ -7,13 +7,13 @@ use Rattle.std.proofs.lemmas.Bool.{cases_eq}
 use Rattle.std.proofs.lemmas.List.{length-append}
 use Rattle.tran_ids.proofs.ListedLemmas.{item_is}
 use Rattle.tran_ids.proofs.NumberedLemmas.{set_or_before}
-use Rattle.node_rules.specs.Data.{Advice, Answer, BranchId, Durable, Edge, Kind, Live, Msg, Place, Post, RedoRecord, Stmt, Input}
+use Rattle.node_rules.specs.Data.{Advice, BranchId, Durable, Edge, Live, Place, Post, RedoRecord, Stmt, Input}
 use Rattle.node_rules.specs.Data.inputs
 use Rattle.node_rules.specs.Data.kinds
 use Rattle.node_rules.specs.declared.work.Waits.{Waits}
 use Rattle.node_rules.specs.declared.work.Waits.TheVariants as waiting
 use Rattle.node_rules.specs.declared.work.Work.{Work}
-use Rattle.node_rules.specs.Words.{numbered, set_numbered, item_at}
+use Rattle.node_rules.specs.Words.{numbered, set_numbered}
 use Rattle.node_rules.specs.Inputs.{Came, IsCall}
 use Rattle.session_tree.specs.Live.{children_of}
 use Rattle.node_rules.specs.Kept.{Kept, Branch, Deed, live_id, live_at}
@@ -42,23 +42,21 @@ use Rattle.run_laws.proofs.EventsStandLemmas.{first_node, node_so, owned_so, run
 use Rattle.run_laws.proofs.InTurnLemmas as turns
 use Rattle.run_laws.proofs.InTurnRunLemmas as calls
 use Rattle.run_laws.proofs.InTurnRunLemmas.{CallsOf, NodeCalls, CallsStand, each_both, heard_calls, run_calls}
-use Rattle.run_laws.proofs.InTurnStepLemmas.{NewBorn, Granted}
+use Rattle.run_laws.proofs.InTurnStepLemmas.{Granted}
 use Rattle.run_laws.proofs.KidLemmas.{edge_of, parent_in, parent_of, kids_of, above_of}
 use Rattle.run_laws.proofs.LawfulLemmas.{serves}
 use Rattle.run_laws.proofs.ListLemmas.{all_weaker, all_map}
 use Rattle.run_laws.proofs.NeighborLemmas.{News}
-use Rattle.run_laws.proofs.NodeLemmas.{kept_alone}
 use Rattle.run_laws.proofs.OwnLemmas.{all_found}
 use Rattle.run_laws.proofs.RestLemmas.{RootIs, live_root, free_waits}
 use Rattle.run_laws.proofs.RestRunLemmas.{NodeRests, heard_rests, free_by, RootsStand, turned, run_roots}
 use Rattle.run_laws.proofs.RootLemmas.{SessionsFit}
-use Rattle.run_laws.proofs.SaidPostLemmas.{posts_back, posts_of, said_after, unborn_silent}
+use Rattle.run_laws.proofs.SaidPostLemmas.{posts_back, said_after, unborn_silent}
 use Rattle.run_laws.proofs.StoredLemmas.{records_are_kept}
 use Rattle.tree_laws.proofs.PrefixLemmas.{so_far, f_at, one_on}
 use Rattle.site_laws.proofs.TimeLemmas.{Part, part_on, part_lawful, may_of, keep_on}
-use Rattle.trail_laws.proofs.StartLemmas.{none_made}
 use Rattle.place_laws.proofs.CatalogLemmas.{Extends, extends_same, catalog, catalog_on}
-use Rattle.place_laws.proofs.LineLemmas.{is_calling, Leads, OpensLow, OpensTo, WaitsSo, Line, Quiet, line_more}
+use Rattle.place_laws.proofs.LineLemmas.{is_calling, OpensLow, WaitsSo, Line, Quiet, line_more}
 use Rattle.place_laws.proofs.LineStepLemmas.{LineOf, Lines, Fresh, Known, LeavesSo, lines_on}
 use Rattle.place_laws.proofs.NameLemmas.{OneCatalog, catalog_kept}
 use Rattle.place_laws.proofs.OpenSentLemmas.{opened_sent}

@@ -1,20 +1,18 @@
 -- Each step of a node leaves its live branches leading where their statements were sent.
-use Rattle.std.proofs.Common.{◌≡◌, ◌≢◌, ℕ, zero, suc, ◌+◌, ◌-◌, ◌<◌, ◌≤◌, ◌==◌, find, Bool, true, false, if◌then◌else◌, is_none, List, [], ◌∷◌, ◌++◌, map, length, unwrap_or, option_map, Option, Some, None, inl, inr, refl, sym, ap, subst, ◌∙◌, arith}
+use Rattle.std.proofs.Common.{◌≡◌, ℕ, zero, suc, ◌+◌, ◌-◌, ◌<◌, ◌≤◌, find, Bool, true, false, is_none, List, [], ◌∷◌, ◌++◌, map, length, unwrap_or, option_map, Option, Some, None, inl, inr, refl, sym, ap, subst, ◌∙◌, arith}
 use Rattle.std.specs.List.{AllByRecursion}
 use Rattle.std.proofs.lemmas.Bool.{cond_both}
 use Rattle.std.proofs.lemmas.Bool.Decides.{nat_tests}
 use Rattle.std.proofs.lemmas.List.{length-map, length-append}
-use Rattle.tran_ids.proofs.BranchLemmas.{equal_from_same}
 use Rattle.tran_ids.proofs.ListedLemmas.{item_is, put_found}
 use Rattle.tran_ids.proofs.NumberedLemmas.{set_length, set_found, set_or_before}
 use Rattle.link_session.proofs.OnceLemmas.{run_is_new}
 use Rattle.commit_forget.specs.declared.next.Next.TheVariants as nexts
-use Rattle.session_tree.specs.Live.{children_of, peer_of, edge_at, new_edge, fresh_live, next_edge}
+use Rattle.session_tree.specs.Live.{children_of, peer_of, new_edge, fresh_live, next_edge}
 use Rattle.session_tree.specs.Tree.{room, step as step_from}
-use Rattle.node_rules.specs.Data.{Stmt, Answer, Advice, BranchId, Durable, Edge, Kind, Live, Act, Place, Input, Post}
+use Rattle.node_rules.specs.Data.{Stmt, Answer, Advice, BranchId, Durable, Edge, Live, Act, Place, Input, Post}
 use Rattle.node_rules.specs.Data.acts
 use Rattle.node_rules.specs.Data.answers
-use Rattle.node_rules.specs.Data.inputs
 use Rattle.node_rules.specs.Data.kinds
 use Rattle.node_rules.specs.declared.session.PendingCall.TheVariants as pending
 use Rattle.node_rules.specs.declared.session.PendingCall.{PendingCall}
@@ -23,10 +21,10 @@ use Rattle.node_rules.specs.declared.work.Waits.{Waits}
 use Rattle.node_rules.specs.declared.work.Waits.TheVariants as waiting
 use Rattle.node_rules.specs.declared.work.Going.{Going}
 use Rattle.node_rules.specs.declared.work.Work.{Work}
-use Rattle.node_rules.specs.Words.{same, same_text, numbered, set_numbered, item_at, put_item, drop_item}
+use Rattle.node_rules.specs.Words.{same, same_text, numbered, set_numbered, put_item, drop_item}
 use Rattle.node_rules.specs.Inputs.{Came, IsCall}
 use Rattle.node_rules.specs.Refusals.{dtx}
-use Rattle.node_rules.specs.Kept.{Kept, Branch, Deed, live_id, work_id, live_at, branch_at, no_work, post, to_one, to_each}
+use Rattle.node_rules.specs.Kept.{Kept, Branch, Deed, live_id, work_id, branch_at, no_work, post, to_one, to_each}
 use Rattle.node_rules.specs.LiveBranches.{works_of, EachLive}
 use Rattle.node_rules.specs.Names.{Behind, named_by, ref_of, passed_on, node_named, target_of}
 use Rattle.node_rules.specs.Sessions.{fresh_session, session_at, with_call, needs_rollback}
@@ -34,7 +32,7 @@ use Rattle.node_rules.specs.Statement.{ran, after_run, answer_of_run}
 use Rattle.node_rules.specs.Calls.{advice_of, answer_says, exec_to, next_call, call_pends, next_child, strength_of, nobody_at, with_edge, with_answer, called, waits_for_opened, hears_reply, heard_answer}
 use Rattle.node_rules.specs.Client.{new_root, fresh_root, gives_up}
 use Rattle.node_rules.specs.Commit.{beyond}
-use Rattle.node_rules.specs.Prepare.{path_of, site_neighbors, has_voted, with_prepare_sent, collecting, with_comment, voted, ready, answers_first, act_turn}
+use Rattle.node_rules.specs.Prepare.{path_of, site_neighbors, has_voted, with_prepare_sent, ready, answers_first, act_turn}
 use Rattle.node_rules.specs.Recovery.{kept_told}
 use Rattle.node_rules.proofs.LiveLemmas.{each_put, each_changed, each_left, each_begun, each_same, branch_parts, work_is}
 use Rattle.node_rules.proofs.StandLemmas.{live_so, session_set, call_set}
@@ -44,7 +42,6 @@ use Rattle.node_rules.proofs.Steps.{Step, Asked, Acting, Says}
 use Rattle.run_laws.specs.Births.{Born}
 use Rattle.run_laws.specs.InTurnLaws.{newest_exec, newest_reply, WaitsFor, call_at}
 use Rattle.run_laws.proofs.AtNodeLemmas.{there_too, range_of}
-use Rattle.run_laws.proofs.CallTurnLemmas.{Free}
 use Rattle.run_laws.proofs.InTurnLemmas as turns
 use Rattle.run_laws.proofs.InTurnLemmas.{peer, length_peers, numbered_map, reply_for, none_waits, numbered_last, numbered_split}
 use Rattle.run_laws.proofs.InTurnStepLemmas.{NewBorn, Granted, begins_so}
@@ -53,7 +50,7 @@ use Rattle.run_laws.proofs.ListLemmas.{all_append, all_weaker}
 use Rattle.run_laws.proofs.NeighborLemmas.{News, reply_is}
 use Rattle.run_laws.proofs.NeighborStepLemmas.{begun_news, pends_news, lets_news, acked_news}
 use Rattle.run_laws.proofs.RootLemmas.{SessionsFit, session_or_before, root_alone, begun_so, pends_so}
-use Rattle.place_laws.proofs.LineLemmas.{GoesOver, GoesThrough, goes_over, goes_through, edge_link, is_calling, Quiet, IsCalm, calm_quiet, other_quiet, Leads, OpensLow, OpensTo, SentSo, more_by, more, WaitsSo, Line, line_more, low_more, to_more, sent_more, unsent}
+use Rattle.place_laws.proofs.LineLemmas.{GoesOver, GoesThrough, goes_over, goes_through, edge_link, is_calling, Quiet, IsCalm, calm_quiet, other_quiet, Leads, OpensLow, OpensTo, SentSo, more_by, more, WaitsSo, Line, line_more, low_more, unsent}
 use Rattle.place_laws.proofs.NameLemmas.{OneCatalog, same_names}
 use Rattle.place_laws.proofs.NumberLemmas.{all_numbered}
 
@@ -108,10 +105,13 @@ all_at P (x ∷ xs) each = (each 1 x refl, all_at P xs (λ i y at. next i y at))
     next (suc i) y at = each (suc (suc i)) y at
 
 set_alike : (es : List Edge) (i : ℕ) (e x : Edge) → numbered es i ≡ Some e → x.peer ≡ e.peer → x.link ≡ e.link → AlikeEdges es (set_numbered es i x)
-set_alike es i e x at peer_is link_is = (set_length es i x, (λ j d found. elim (set_or_before es i j x) [
-  | inl before ↦ (d, sym before ∙ found, refl, refl)
-  | inr new ↦ (let it : Some x ≡ Some d = sym new.1 ∙ found in let one : x ≡ d = cc in (e, subst (λ n. numbered es n ≡ Some e) new.0 at, ap (λ (y : Edge). y.peer) (sym one) ∙ peer_is, ap (λ (y : Edge). y.link) (sym one) ∙ link_is))
-]))
+set_alike es i e x at peer_is link_is = (
+  set_length es i x,
+  (λ j d found. elim (set_or_before es i j x) [
+    | inl before ↦ (d, sym before ∙ found, refl, refl)
+    | inr new ↦ (let it : Some x ≡ Some d = sym new.1 ∙ found in let one : x ≡ d = cc in (e, subst (λ n. numbered es n ≡ Some e) new.0 at, ap (λ (y : Edge). y.peer) (sym one) ∙ peer_is, ap (λ (y : Edge). y.link) (sym one) ∙ link_is))
+  ]),
+)
 
 module _ (E : BranchId → Option ℕ) (A : BranchId → Option BranchId) (G Here : BranchId → Type 0) (input : Input) (said : List Post) (received : turns.Received E A G Here input said)
     (p : Place) (D : Durable) (Given : BranchId → ℕ → Stmt → Type 0) (Called : BranchId → BranchId → ℕ → ℕ → Stmt → Stmt → Type 0) where
@@ -264,11 +264,11 @@ module _ (E : BranchId → Option ℕ) (A : BranchId → Option BranchId) (G Her
       answered_line : (x z : Branch) (a : Answer) → z.live.me ≡ x.live.me → z.live.parent ≡ x.live.parent → AlikeEdges x.live.edges z.live.edges → z.work.branch ≡ z.live.me → more p D Given Called x.work.going ≡ 0 → LineOf said x.live x.work
           → LeavesSo (put_item live_id k.lives z.live) (put_item work_id k.works (with_answer z a).work) (answer_says z a z.live.parent)
       answered_line x z a me parent alike mine still line = (
-          put (answer_says z a z.live.parent) z.live (with_answer z a).work mine (λ b other. calm_quiet b (answer_says z a z.live.parent) (answer_calm z.live.parent))
-          (subst (λ b. Line p D Given Called (said ++ answer_says z a z.live.parent) (z.live.parent ≡ None → G b) b z.live.edges (with_answer z a).work) (sym me)
-          (subst (λ o. Line p D Given Called (said ++ answer_says z a z.live.parent) (o ≡ None → G x.live.me) x.live.me z.live.edges (with_answer z a).work) (sym parent)
-          (rest_line said (answer_says z a z.live.parent) (x.live.parent ≡ None → G x.live.me) x.live.me x.live.edges z.live.edges x.work (with_answer z a).work alike refl still (calm_quiet x.live.me (answer_says z a z.live.parent) (answer_calm z.live.parent)) line))),
-          calm_here (answer_says z a z.live.parent) (answer_calm z.live.parent),
+        put (answer_says z a z.live.parent) z.live (with_answer z a).work mine (λ b other. calm_quiet b (answer_says z a z.live.parent) (answer_calm z.live.parent))
+            (subst (λ b. Line p D Given Called (said ++ answer_says z a z.live.parent) (z.live.parent ≡ None → G b) b z.live.edges (with_answer z a).work) (sym me)
+            (subst (λ o. Line p D Given Called (said ++ answer_says z a z.live.parent) (o ≡ None → G x.live.me) x.live.me z.live.edges (with_answer z a).work) (sym parent)
+            (rest_line said (answer_says z a z.live.parent) (x.live.parent ≡ None → G x.live.me) x.live.me x.live.edges z.live.edges x.work (with_answer z a).work alike refl still (calm_quiet x.live.me (answer_says z a z.live.parent) (answer_calm z.live.parent)) line))),
+        calm_here (answer_says z a z.live.parent) (answer_calm z.live.parent),
       )
         where
           answer_calm : (o : Option BranchId) → AllSay IsCalm (answer_says z a o)
@@ -302,17 +302,24 @@ module _ (E : BranchId → Option ℕ) (A : BranchId → Option BranchId) (G Her
           → ((e : Edge) → numbered y.live.edges i ≡ Some e → Called y.live.me e.peer (call_at (called y i s given).work i) y.work.came.last_call s0 s × (newest_exec said y.live.me e.peer < call_at (called y i s given).work i))
           → LeavesSo (put_item live_id k.lives y.live) (put_item work_id k.works (called y i s given).work) (exec_to ss y i s given (peer_of y.live i))
       calls_line ss y i s0 s given here mine leads low gave new =
-          let says : List Post = exec_to ss y i s given (peer_of y.live i) in
-          (put says y.live (called y i s given).work mine (λ b other. exec_other ss y i s given (peer_of y.live i) b other) (record {
-            leads = leads;
-            opens = λ goes. subst (OpensLow p D Given Called (said ++ says) y.live.me) (let it : length y.live.edges ≡ length y.live.edges + 0 = omega arith in it)
-                (all_append (λ (x : Post). x.from ≡ y.live.me → (edge : ℕ) (root : BranchId) (depth : ℕ) → x.kind ≡ kinds.Open edge root depth → edge ≤ length y.live.edges) said says (low goes) (exec_low ss y i s given (peer_of y.live i) y.live.me (length y.live.edges)));
-            waits = λ g some. (let it : Some (record { statement = s; room = given; waits = waiting.ForReply i }) ≡ Some g = some in let one : record { statement = s; room = given; waits = waiting.ForReply i } ≡ g = cc in
-                (s0, gave, subst (λ (x : Going). WaitsSo p D Given Called (said ++ says) y.live.me y.live.edges (called y i s given).work s0 x.statement x.waits) one
-                (λ e at. (let is = new e at in (is.0,
-                all_append (λ (x : Post). x.from ≡ y.live.me → x.to ≡ e.peer → (call room : ℕ) (advice : Option Advice) (st : Stmt) → x.kind ≡ kinds.Exec call room advice st → call ≡ call_at (called y i s given).work i → st ≡ s) said says
-                (unsent p D Given Called said y.live.me e.peer (call_at (called y i s given).work i) s is.1) (exec_sent ss y i s given (peer_of y.live i) y.live.me e.peer (call_at (called y i s given).work i)))))));
-          }), exec_here ss y i s given (peer_of y.live i) here)
+          let says : List Post = exec_to ss y i s given (peer_of y.live i) in (
+            put says y.live (called y i s given).work mine (λ b other. exec_other ss y i s given (peer_of y.live i) b other) (record {
+              leads = leads;
+              opens = λ goes. subst (OpensLow p D Given Called (said ++ says) y.live.me) (let it : length y.live.edges ≡ length y.live.edges + 0 = omega arith in it)
+                  (all_append (λ (x : Post). x.from ≡ y.live.me → (edge : ℕ) (root : BranchId) (depth : ℕ) → x.kind ≡ kinds.Open edge root depth → edge ≤ length y.live.edges) said says (low goes) (exec_low ss y i s given (peer_of y.live i) y.live.me (length y.live.edges)));
+              waits = λ g some. (let it : Some (record { statement = s; room = given; waits = waiting.ForReply i }) ≡ Some g = some in let one : record { statement = s; room = given; waits = waiting.ForReply i } ≡ g = cc in (
+                s0,
+                gave,
+                subst (λ (x : Going). WaitsSo p D Given Called (said ++ says) y.live.me y.live.edges (called y i s given).work s0 x.statement x.waits) one
+                    (λ e at. (let is = new e at in (
+                      is.0,
+                      all_append (λ (x : Post). x.from ≡ y.live.me → x.to ≡ e.peer → (call room : ℕ) (advice : Option Advice) (st : Stmt) → x.kind ≡ kinds.Exec call room advice st → call ≡ call_at (called y i s given).work i → st ≡ s) said says
+                          (unsent p D Given Called said y.live.me e.peer (call_at (called y i s given).work i) s is.1) (exec_sent ss y i s given (peer_of y.live i) y.live.me e.peer (call_at (called y i s given).work i)),
+                    ))),
+              ));
+            }),
+            exec_here ss y i s given (peer_of y.live i) here,
+          )
 
       low_rest : (x : Branch) → x.work.going ≡ None → LineOf said x.live x.work → turns.Goes E A G Here input said x.live → OpensLow p D Given Called said x.live.me (length x.live.edges)
       low_rest x none line goes = subst (OpensLow p D Given Called said x.live.me) (let it : length x.live.edges + more p D Given Called x.work.going ≡ length x.live.edges = (let zero_more : more p D Given Called x.work.going ≡ 0 = ap (more p D Given Called) none in omega (arith, zero_more)) in it) (line.opens goes)
@@ -338,19 +345,27 @@ module _ (E : BranchId → Option ℕ) (A : BranchId → Option BranchId) (G Her
         through_line x s given node link table so may through =
             let says : List Post = post x.live.me (nobody_at node) (kinds.Open (next_edge x.live) x.live.root (x.live.depth + 1)) in
             let low : OpensLow p D Given Called said x.live.me (length x.live.edges) = low_rest x so.rests so.line may in
-            let target : target_of p D link ≡ Some node = ap (λ ls. node_named p.names (find (λ l. same_text l.name link) ls)) (sym cat.links) ∙ through.1 in
-            (put says x.live (waits_for_opened x link (passed_on s table) given).work so.mine (λ b other. other_quiet b x.live.me (nobody_at node) (kinds.Open (next_edge x.live) x.live.root (x.live.depth + 1)) other) (record {
-              leads = so.line.leads;
-              opens = λ goes. all_append (λ (y : Post). y.from ≡ x.live.me → (edge : ℕ) (root : BranchId) (depth : ℕ) → y.kind ≡ kinds.Open edge root depth → edge ≤ length x.live.edges + 1) said says
-                  (all_weaker (λ (y : Post). y.from ≡ x.live.me → (edge : ℕ) (root : BranchId) (depth : ℕ) → y.kind ≡ kinds.Open edge root depth → edge ≤ length x.live.edges) _ (λ y was from edge root depth is. (let small = was from edge root depth is in let it : edge ≤ length x.live.edges + 1 = omega (arith, small) in it)) said low)
-                  ((λ from edge root depth is. (let both : kinds.Open (next_edge x.live) x.live.root (x.live.depth + 1) ≡ kinds.Open edge root depth = is in let one : next_edge x.live ≡ edge = cc in let it : edge ≤ length x.live.edges + 1 = omega (arith, one) in it)), tt);
-              waits = λ g some. (let it : Some (record { statement = passed_on s table; room = given; waits = waiting.ForOpened link }) ≡ Some g = some in let one : record { statement = passed_on s table; room = given; waits = waiting.ForOpened link } ≡ g = cc in
-                  (s, so.given, subst (λ (y : Going). WaitsSo p D Given Called (said ++ says) x.live.me x.live.edges (waits_for_opened x link (passed_on s table) given).work s y.statement y.waits) one
-                  (table, named_so s link table through.0, refl,
-                  all_append (λ (y : Post). y.from ≡ x.live.me → (edge : ℕ) (root : BranchId) (depth : ℕ) → y.kind ≡ kinds.Open edge root depth → edge ≡ length x.live.edges + 1 → target_of p D link ≡ Some y.to.node) said says
-                  (all_weaker (λ (y : Post). y.from ≡ x.live.me → (edge : ℕ) (root : BranchId) (depth : ℕ) → y.kind ≡ kinds.Open edge root depth → edge ≤ length x.live.edges) _ (λ y was from edge root depth is at. absurd (let small = was from edge root depth is in omega (arith, small, at))) said low)
-                  ((λ from edge root depth is at. target), tt))));
-            }), ((λ calls. so.here), tt))
+            let target : target_of p D link ≡ Some node = ap (λ ls. node_named p.names (find (λ l. same_text l.name link) ls)) (sym cat.links) ∙ through.1 in (
+              put says x.live (waits_for_opened x link (passed_on s table) given).work so.mine (λ b other. other_quiet b x.live.me (nobody_at node) (kinds.Open (next_edge x.live) x.live.root (x.live.depth + 1)) other) (record {
+                leads = so.line.leads;
+                opens = λ goes. all_append (λ (y : Post). y.from ≡ x.live.me → (edge : ℕ) (root : BranchId) (depth : ℕ) → y.kind ≡ kinds.Open edge root depth → edge ≤ length x.live.edges + 1) said says
+                    (all_weaker (λ (y : Post). y.from ≡ x.live.me → (edge : ℕ) (root : BranchId) (depth : ℕ) → y.kind ≡ kinds.Open edge root depth → edge ≤ length x.live.edges) _ (λ y was from edge root depth is. (let small = was from edge root depth is in let it : edge ≤ length x.live.edges + 1 = omega (arith, small) in it)) said low)
+                    ((λ from edge root depth is. (let both : kinds.Open (next_edge x.live) x.live.root (x.live.depth + 1) ≡ kinds.Open edge root depth = is in let one : next_edge x.live ≡ edge = cc in let it : edge ≤ length x.live.edges + 1 = omega (arith, one) in it)), tt);
+                waits = λ g some. (let it : Some (record { statement = passed_on s table; room = given; waits = waiting.ForOpened link }) ≡ Some g = some in let one : record { statement = passed_on s table; room = given; waits = waiting.ForOpened link } ≡ g = cc in (
+                  s,
+                  so.given,
+                  subst (λ (y : Going). WaitsSo p D Given Called (said ++ says) x.live.me x.live.edges (waits_for_opened x link (passed_on s table) given).work s y.statement y.waits) one (
+                    table,
+                    named_so s link table through.0,
+                    refl,
+                    all_append (λ (y : Post). y.from ≡ x.live.me → (edge : ℕ) (root : BranchId) (depth : ℕ) → y.kind ≡ kinds.Open edge root depth → edge ≡ length x.live.edges + 1 → target_of p D link ≡ Some y.to.node) said says
+                        (all_weaker (λ (y : Post). y.from ≡ x.live.me → (edge : ℕ) (root : BranchId) (depth : ℕ) → y.kind ≡ kinds.Open edge root depth → edge ≤ length x.live.edges) _ (λ y was from edge root depth is at. absurd (let small = was from edge root depth is in omega (arith, small, at))) said low)
+                        ((λ from edge root depth is at. target), tt),
+                  ),
+                ));
+              }),
+              ((λ calls. so.here), tt),
+            )
 
       -- ---- an Opened, and a Reply
 
@@ -483,9 +498,11 @@ module _ (E : BranchId → Option ℕ) (A : BranchId → Option BranchId) (G Her
       lines_on (steps.Hears_reply {k = k} x weight count a i e answered) granted ss news cat now lines = heard_line k now lines x weight count a i e answered
       lines_on (steps.Opens_branch {k = k} to parent edge root depth came new) granted ss news cat now lines =
           let l : Live = fresh_live (next_child p k) root (Some parent) depth (strength_of p k) in
-          let says : List Post = post (next_child p k) parent (kinds.Opened edge (strength_of p k)) in
-          (each_begun (LineOf said) (LineOf (said ++ says)) k.lives k.works lines l
-          (stays k now lines says l (no_work l.me) (calm_quiet l.me says (refl, tt)) (fresh_line l (no_work l.me) refl refl (news.child to parent edge root depth came new).1)) (λ y v live any is. stays k now lines says y v (calm_quiet y.me says (refl, tt)) is), calm_here says (refl, tt))
+          let says : List Post = post (next_child p k) parent (kinds.Opened edge (strength_of p k)) in (
+            each_begun (LineOf said) (LineOf (said ++ says)) k.lives k.works lines l
+                (stays k now lines says l (no_work l.me) (calm_quiet l.me says (refl, tt)) (fresh_line l (no_work l.me) refl refl (news.child to parent edge root depth came new).1)) (λ y v live any is. stays k now lines says y v (calm_quiet y.me says (refl, tt)) is),
+            calm_here says (refl, tt),
+          )
       lines_on (steps.Acts {k = k} l q a why) granted ss news cat now lines = acts_line k now lines l q a (acting_line k now lines why)
       lines_on (steps.Drops_told {k = k} l live drops) granted ss news cat now lines = left k now lines _ (rolls k now lines l) l.me
       lines_on (steps.Drops_asked {k = k} l from live came parent) granted ss news cat now lines = left k now lines _ (refl, rolls k now lines l) l.me

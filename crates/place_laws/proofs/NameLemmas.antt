@@ -1,10 +1,10 @@
 -- What a name of a table means at a node is what its records say.
-use Rattle.std.proofs.Common.{◌≡◌, ℕ, List, [], ◌∷◌, find, Option, Some, None, refl, sym, ap, subst, ◌∙◌}
+use Rattle.std.proofs.Common.{◌≡◌, ℕ, List, [], ◌∷◌, find, Option, Some, None, refl, sym, ap, ◌∙◌}
 use Rattle.std.specs.Prelude.{fold}
 use Rattle.redo_record.specs.Durable.{durable, durable_after}
 use Rattle.node_rules.specs.Data.{Table, TableRef, Synonym, RedoRecord, Durable}
 use Rattle.node_rules.specs.Kept.{Kept, Stored}
-use Rattle.node_rules.specs.Names.{Named, A_table, Behind, Unknown, synonym_named, table_named, table_of, ref_named, named_by}
+use Rattle.node_rules.specs.Names.{A_table, synonym_named, table_named, table_of, ref_named, named_by}
 use Rattle.node_rules.specs.Records.{applied, nothing_stored, stored_by}
 use Rattle.node_rules.specs.Words.{same_text}
 use Rattle.run_laws.proofs.StoredLemmas.{StoresOf}

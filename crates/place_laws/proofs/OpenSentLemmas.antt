@@ -1,23 +1,23 @@
 -- A branch below another began with an Open of its parent that was sent to its node.
-use Rattle.std.proofs.Common.{◌≡◌, ℕ, zero, suc, Bool, true, false, if◌then◌else◌, find, List, [], ◌∷◌, ◌++◌, map, Option, Some, None, refl, sym, ap, subst, ◌∙◌, append-nil}
+use Rattle.std.proofs.Common.{◌≡◌, ℕ, zero, suc, Bool, true, false, if◌then◌else◌, find, List, [], ◌∷◌, ◌++◌, Option, Some, None, refl, sym, ap, subst, ◌∙◌}
 use Rattle.std.specs.List.{AllByRecursion}
 use Rattle.std.proofs.lemmas.Bool.{cond_both}
-use Rattle.node_rules.specs.Data.{BranchId, Kind, Msg, Opening, Place, Input, Post, Stmt}
+use Rattle.node_rules.specs.Data.{BranchId, Kind, Opening, Place, Input, Post, Stmt}
 use Rattle.node_rules.specs.Data.inputs
 use Rattle.node_rules.specs.Data.kinds
 use Rattle.node_rules.specs.Words.{numbered}
 use Rattle.node_rules.specs.Inputs.{Came}
 use Rattle.node_rules.specs.Kept.{Kept}
-use Rattle.node_rules.specs.Calls.{is_opening, next_child}
+use Rattle.node_rules.specs.Calls.{is_opening}
 use Rattle.node_rules.specs.Client.{new_root}
 use Rattle.node_rules.specs.Sessions.{session_at}
-use Rattle.run_laws.specs.Births.{Born, born_id, child_born, root_born, roots_by, births_by_call, births_by_open, births_by_kind, births_by, births_at, births_after, births_from, births_of, born_at}
+use Rattle.run_laws.specs.Births.{Born, born_id, root_born, roots_by, births_by_call, births_by_open, births_by_kind, births_by, births_at, births_after, births_from, births_of}
 use Rattle.run_laws.specs.BirthLaws.{Began, IsChildAt, GoesSo}
 use Rattle.run_laws.specs.Data.{Took, Turn, Happening}
 use Rattle.run_laws.specs.Data.happenings
-use Rattle.run_laws.specs.Facts.{Facts, first_facts, place_at, node_at, facts_after}
+use Rattle.run_laws.specs.Facts.{Facts, first_facts, place_at, node_at}
 use Rattle.run_laws.specs.InTurnLaws.{said_in}
-use Rattle.run_laws.specs.Lawful.{Comes, MayHappen, History, IsLawfulRun}
+use Rattle.run_laws.specs.Lawful.{Comes, History, IsLawfulRun}
 use Rattle.run_laws.specs.Runs.{is_of_rows}
 use Rattle.run_laws.proofs.BirthRunLemmas.{messages_are_of_neighbors}
 use Rattle.run_laws.proofs.BirthsStandLemmas.{came_so}
@@ -26,7 +26,7 @@ use Rattle.run_laws.proofs.ListLemmas.{all_append, all_weaker}
 use Rattle.run_laws.proofs.OwnLemmas.{all_found}
 use Rattle.run_laws.proofs.SaidPostLemmas.{posts_of, said_after}
 use Rattle.tree_laws.proofs.PrefixLemmas.{so_far, f_at, one_on, births_join}
-use Rattle.site_laws.proofs.TimeLemmas.{Part, part_lawful, part_of, may_of, keep_on}
+use Rattle.site_laws.proofs.TimeLemmas.{Part, part_lawful, may_of, keep_on}
 use Rattle.place_laws.proofs.ReplyTurnLemmas.{came_sent}
 use Rattle.place_laws.proofs.TurnTaleLemmas as tales
 
@@ -76,9 +76,11 @@ module _ (f : Facts) (k : Kept) (p : Place) (node : ℕ) (number : p.number ≡ 
 
   by_open : (from to : BranchId) (edge : ℕ) (root : BranchId) (depth : ℕ) → Came input from to (kinds.Open edge root depth) → (o : Option Opening) → AllByRecursion P (births_by_open p k from edge root depth o)
   by_open from to edge root depth came None =
-      let sent = came_sent f k node input took comes from to (kinds.Open edge root depth) came in
-      ((λ parent above. (let it : Some from ≡ Some parent = above in let one : from ≡ parent = cc in
-      record { number = sent.0.number; sent = sent.2; at = sent.3; from = sent.4 ∙ one; root = root; depth = depth; kind = sent.5; to = ap (λ (b : BranchId). b.node) sent.6 ∙ (came_here f k node input took comes from to (kinds.Open edge root depth) came ∙ sym number) })), tt)
+      let sent = came_sent f k node input took comes from to (kinds.Open edge root depth) came in (
+        (λ parent above. (let it : Some from ≡ Some parent = above in let one : from ≡ parent = cc in
+            record { number = sent.0.number; sent = sent.2; at = sent.3; from = sent.4 ∙ one; root = root; depth = depth; kind = sent.5; to = ap (λ (b : BranchId). b.node) sent.6 ∙ (came_here f k node input took comes from to (kinds.Open edge root depth) came ∙ sym number) })),
+        tt,
+      )
   by_open from to edge root depth came (Some o) = tt
 
   by_kind : (from to : BranchId) (kind : Kind) → Came input from to kind → AllByRecursion P (births_by_kind p k from kind)

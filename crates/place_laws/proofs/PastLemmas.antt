@@ -1,7 +1,7 @@
 -- The runs that are told of Replies and of answers stand in turns that came before.
-use Rattle.std.proofs.Common.{◌≡◌, ℕ, ◌+◌, ◌≤◌, ◌==◌, ◌&&◌, ◌||◌, Bool, true, false, if◌then◌else◌, find, is_none, List, [], ◌∷◌, ◌++◌, map, length, Option, Some, None, refl, sym, ap, subst, ◌∙◌, arith}
+use Rattle.std.proofs.Common.{◌≡◌, ℕ, ◌+◌, ◌≤◌, ◌==◌, ◌&&◌, Bool, true, false, if◌then◌else◌, find, is_none, List, [], ◌∷◌, ◌++◌, length, Option, Some, None, refl, sym, ap, subst, arith}
 use Rattle.std.specs.List.{AllByRecursion}
-use Rattle.node_rules.specs.Data.{Table, BranchId, Kind, Msg, Place, Stmt, Input}
+use Rattle.node_rules.specs.Data.{Table, BranchId, Kind, Msg, Place, Input}
 use Rattle.node_rules.specs.Data.inputs
 use Rattle.node_rules.specs.Data.kinds
 use Rattle.run_laws.specs.Branches.{Run, Seen, Trail, Origin, no_trail, is_live, newly_seen, seen_id, seen_at, root_at, origin_of, origin_at}

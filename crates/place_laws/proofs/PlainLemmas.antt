@@ -1,5 +1,5 @@
 -- A turn on anything but an Exec and a Reply leaves the calls that came to branches below roots, and says no Reply.
-use Rattle.std.proofs.Common.{◌≡◌, ◌≢◌, ℕ, ◌+◌, ◌-◌, Bool, List, [], ◌∷◌, ◌++◌, map, length, Option, Some, None, refl, sym, ap, subst}
+use Rattle.std.proofs.Common.{◌≡◌, ◌≢◌, ℕ, ◌+◌, ◌-◌, Bool, List, map, length, Option, Some, None, refl, sym, ap, subst}
 use Rattle.tran_ids.proofs.ListedLemmas.{item_is}
 use Rattle.commit_forget.specs.declared.next.Next.TheVariants as nexts
 use Rattle.session_tree.specs.Live.{children_of, peer_of, new_edge, fresh_live}
@@ -13,7 +13,7 @@ use Rattle.node_rules.specs.declared.session.PendingCall.TheVariants as pending
 use Rattle.node_rules.specs.declared.session.Session.{Session}
 use Rattle.node_rules.specs.Words.{item_at, put_item, drop_item}
 use Rattle.node_rules.specs.Inputs.{Came}
-use Rattle.node_rules.specs.Kept.{Kept, Branch, Deed, live_id, work_id, work_or, branch_at, post, to_one, to_each}
+use Rattle.node_rules.specs.Kept.{Kept, Branch, Deed, live_id, work_id, work_or, branch_at, to_one, to_each}
 use Rattle.node_rules.specs.LiveBranches.{works_of, EachLive}
 use Rattle.node_rules.specs.Names.{passed_on}
 use Rattle.node_rules.specs.Statement.{ran, after_run, answer_of_run}
@@ -123,9 +123,10 @@ module _ (k0 : Kept) (p : Place) (input : Input) (no_exec : (from to : BranchId)
   plain_on (steps.Counts_ack {k = k} s from kept came counts step) ss news now = plain_on step (record { roots = ss.roots; above = ss.above }) (acked_news HadNone p input k _ news) now
   plain_on (steps.Sends {k = k} posts why) ss news now = (now, says_mute k now why)
   plain_on (steps.Runs {k = k} x s given t ask way) ss news now =
-      let root = asked_root k now ss ask in
-      (put k now (after_run x.live (ran p k x.live.me s t)) (with_answer (record x { live = after_run x.live (ran p k x.live.me s t) }) _).work root.1 (λ below. absurd (below root.0)),
-      root_mute k now (record x { live = after_run x.live (ran p k x.live.me s t) }) (answer_of_run (ran p k x.live.me s t)) x.live.parent root.0)
+      let root = asked_root k now ss ask in (
+        put k now (after_run x.live (ran p k x.live.me s t)) (with_answer (record x { live = after_run x.live (ran p k x.live.me s t) }) _).work root.1 (λ below. absurd (below root.0)),
+        root_mute k now (record x { live = after_run x.live (ran p k x.live.me s t) }) (answer_of_run (ran p k x.live.me s t)) x.live.parent root.0,
+      )
   plain_on (steps.Goes_nowhere {k = k} x s given r ask way) ss news now =
       let root = asked_root k now ss ask in (put k now x.live (with_answer x _).work root.1 (λ below. absurd (below root.0)), root_mute k now x (answers.Refused r) x.live.parent root.0)
   plain_on (steps.Calls {k = k} x s given i table ask way) ss news now =
@@ -133,13 +134,16 @@ module _ (k0 : Kept) (p : Place) (input : Input) (no_exec : (from to : BranchId)
   plain_on (steps.Opens {k = k} x s given node link table ask way) ss news now =
       let root = asked_root k now ss ask in (put k now x.live (waits_for_opened x link (passed_on s table) given).work root.1 (λ below. absurd (below root.0)), (refl, tt))
   plain_on (steps.Goes_on {k = k} x from strength g link opened) ss news now =
-      let y : Branch = with_edge x (new_edge from link strength) in
-      (put k now y.live (called y (length x.live.edges + 1) g.statement (g.room - 1)).work (work_is k x.live.me x opened.live) (branch_was k now x opened.live),
-       exec_mute k.sessions y (length x.live.edges + 1) g.statement (g.room - 1) (peer_of y.live (length x.live.edges + 1)))
+      let y : Branch = with_edge x (new_edge from link strength) in (
+        put k now y.live (called y (length x.live.edges + 1) g.statement (g.room - 1)).work (work_is k x.live.me x opened.live) (branch_was k now x opened.live),
+        exec_mute k.sessions y (length x.live.edges + 1) g.statement (g.room - 1) (peer_of y.live (length x.live.edges + 1)),
+      )
   plain_on (steps.Hears_reply {k = k} x weight count a i e answered) ss news now = absurd (no_reply answered.from x.live.me answered.call weight count a answered.came)
-  plain_on (steps.Opens_branch {k = k} to parent edge root depth came new) ss news now =
-      (each_begun Was Was k.lives k.works now (fresh_live (next_child p k) root (Some parent) depth (strength_of p k))
-      (λ below. sym (ap (λ o. (work_or (next_child p k) o).came) (news.child to parent edge root depth came new))) (λ y v live any is. is), (refl, tt))
+  plain_on (steps.Opens_branch {k = k} to parent edge root depth came new) ss news now = (
+    each_begun Was Was k.lives k.works now (fresh_live (next_child p k) root (Some parent) depth (strength_of p k))
+        (λ below. sym (ap (λ o. (work_or (next_child p k) o).came) (news.child to parent edge root depth came new))) (λ y v live any is. is),
+    (refl, tt),
+  )
   plain_on (steps.Acts {k = k} l q a why) ss news now = acts_leave k now l q a (acting k now why)
   plain_on (steps.Drops_told {k = k} l live drops) ss news now = (left k now l.me, rolls k now l)
   plain_on (steps.Drops_asked {k = k} l from live came parent) ss news now = (left k now l.me, (refl, rolls k now l))

@@ -5,21 +5,18 @@ use Rattle.std.specs.List.{AllByRecursion}
 use Rattle.std.proofs.lemmas.Bool.{and_left, ne_eqb}
 use Rattle.tran_ids.proofs.ListedLemmas.{item_is}
 use Rattle.tran_ids.proofs.NumberedLemmas.{set_or_before, set_found}
-use Rattle.node_rules.specs.Data.{Answer, BranchId, Live, Post, Stmt}
-use Rattle.node_rules.specs.Data.kinds
+use Rattle.node_rules.specs.Data.{Answer, BranchId, Live, Post}
 use Rattle.node_rules.specs.Words.{numbered, set_numbered}
 use Rattle.node_rules.specs.Kept.{Kept, live_id, live_at}
-use Rattle.node_rules.specs.LiveBranches.{works_of}
 use Rattle.node_rules.specs.Turn.{start_of}
 use Rattle.run_laws.specs.Branches.{Dropped, Run, Seen, Trail, Origin, no_trail, seen_id, seen_at, is_live, is_live_at, origin_of, origin_at}
-use Rattle.run_laws.specs.Data.{Packet, Turn, Happening}
+use Rattle.run_laws.specs.Data.{Turn, Happening}
 use Rattle.run_laws.specs.Data.happenings
-use Rattle.run_laws.specs.Each.{facts_upto, trail_upto}
 use Rattle.run_laws.specs.Facts.{Facts, first_facts, flat, node_at, with_boot, outcome_at, facts_after, facts_of}
 use Rattle.run_laws.specs.InTurnLaws.{packet_post, said_in}
 use Rattle.run_laws.specs.Lawful.{History, IsLawfulRun, facts_at}
 use Rattle.run_laws.specs.Places.{RanAt}
-use Rattle.run_laws.specs.Runs.{run_in, answered_by, is_accepted}
+use Rattle.run_laws.specs.Runs.{run_in, answered_by}
 use Rattle.run_laws.specs.Trail.{stopped_by, with_begun, trail_after, trail_of}
 use Rattle.run_laws.proofs.AtNodeLemmas.{flat_some}
 use Rattle.run_laws.proofs.EventsStandLemmas.{ids_name_their_node}
@@ -32,9 +29,9 @@ use Rattle.trail_laws.proofs.LowerRunLemmas.{lower_at}
 use Rattle.trail_laws.proofs.MomentLemmas.{tr_at, trail_one_on}
 use Rattle.trail_laws.proofs.SeenLemmas.{item_mapped}
 use Rattle.trail_laws.proofs.StartLemmas.{started_none, none_made}
-use Rattle.place_laws.specs.ReplyLaws.{RepliesComeFromRuns, CallsAreTold, LowerCallsAreTold}
+use Rattle.place_laws.specs.ReplyLaws.{RepliesComeFromRuns, LowerCallsAreTold}
 use Rattle.place_laws.proofs.NumberLemmas.{numbered_map}
-use Rattle.place_laws.proofs.ReplyTurnLemmas.{RunsSo, PassesSo, AreTold, CallsOf, RepliesOf, Holds, turn_holds}
+use Rattle.place_laws.proofs.ReplyTurnLemmas.{RunsSo, PassesSo, Holds, turn_holds}
 
 module _ (t : History) (whole : IsLawfulRun t) (Ans : BranchId → ℕ → Answer → Run → Type 0) (runs_so : RunsSo t whole Ans) (passes_so : PassesSo t whole Ans) where
   abbrev H : List Happening → Type 0

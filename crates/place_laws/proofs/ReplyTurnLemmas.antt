@@ -2,11 +2,10 @@
 use Rattle.std.proofs.Common.{◌≡◌, ◌≢◌, ℕ, zero, suc, ◌+◌, ◌<◌, ◌≤◌, ◌==◌, ◌&&◌, ◌||◌, ◌⊎◌, Bool, true, false, if◌then◌else◌, find, List, [], ◌∷◌, ◌++◌, map, length, option_map, Option, Some, None, inl, inr, refl, sym, ap, subst, ◌∙◌, arith}
 use Rattle.std.specs.List.{AllByRecursion, list_any}
 use Rattle.std.proofs.lemmas.Bool.{cases_eq}
-use Rattle.std.proofs.lemmas.Bool.Decides.{nat_tests}
 use Rattle.std.proofs.lemmas.List.{length-map, length-append}
 use Rattle.tran_ids.proofs.ListedLemmas.{item_is}
 use Rattle.redo_record.specs.Durable.{durable}
-use Rattle.node_rules.specs.Data.{Table, Stmt, Answer, Advice, BranchId, Calls, Edge, Kind, Live, Msg, Place, Input, Post, ReplyFields}
+use Rattle.node_rules.specs.Data.{Stmt, Answer, Advice, BranchId, Calls, Edge, Kind, Live, Msg, Place, Input, Post, ReplyFields}
 use Rattle.node_rules.specs.declared.session.Finished.{Finished}
 use Rattle.node_rules.specs.Data.inputs
 use Rattle.node_rules.specs.Data.kinds
@@ -19,10 +18,9 @@ use Rattle.node_rules.specs.Turn.{turn_of, heard, deed_of, stamped}
 use Rattle.node_rules.proofs.LiveLemmas.{branch_parts}
 use Rattle.node_rules.proofs.Steps.{Is_answered}
 use Rattle.link_session.specs.Calls.{no_calls}
-use Rattle.net_bag.specs.Net.{packet_at}
 use Rattle.run_laws.specs.Births.{births_of, born_at}
 use Rattle.run_laws.specs.Branches.{Run, Seen, Trail, Origin, seen_id, seen_at, newly_seen, origin_of, origin_at, is_root_of}
-use Rattle.run_laws.specs.Data.{Packet, Took, Turn, Happening}
+use Rattle.run_laws.specs.Data.{Took, Turn, Happening}
 use Rattle.run_laws.specs.Data.happenings
 use Rattle.run_laws.specs.Facts.{Facts, place_at, node_at, records_at, served, outcome_at, kept_after, facts_after}
 use Rattle.run_laws.specs.InTurnLaws.{post_of, packet_post, said_in}
@@ -241,10 +239,12 @@ module _ (t : History) (whole : IsLawfulRun t) (Ans : BranchId → ℕ → Answe
             let named : named_by (durable (records_at f0 u.node)) (ref_of st) ≡ A_table table.0
             = sym (same_names k.stored.durable (durable (records_at f0 u.node)) (catalog_kept k (records_at f0 u.node) (records_are_kept s0 lawful0 u.node k may.1.up)) (ref_of st)) ∙ (ap (λ x. named_by x.durable (ref_of st)) (sym (tales.heard_stored t whole hs u rest is u.input)) ∙ table.1) in
             let is_new : s.taken < call = omega (arith, new, told.taken) in
-            let r : Run = runs f0 tr_begun u uncut from l.me s at alive call given advice st came table.0 in
-            (r, run_brings f0 tr_begun u uncut from l.me s at alive call given advice st came table.0 named is_new,
-            subst (λ b. Ans b call rf.result r) me
-            (runs_so hs u rest is from call given advice st rf.result r (came_to came) refl refl named (run_is f0 tr_begun u uncut from l.me s at alive call given advice st came table.0 named is_new) answered good)))) in (
+            let r : Run = runs f0 tr_begun u uncut from l.me s at alive call given advice st came table.0 in (
+              r,
+              run_brings f0 tr_begun u uncut from l.me s at alive call given advice st came table.0 named is_new,
+              subst (λ b. Ans b call rf.result r) me
+                  (runs_so hs u rest is from call given advice st rf.result r (came_to came) refl refl named (run_is f0 tr_begun u uncut from l.me s at alive call given advice st came table.0 named is_new) answered good),
+            ))) in (
               record {
                 taken = taken_new s u.input from call given advice st (came_to came) alive (omega (arith, new, told.taken)) ∙ ap (λ (c : Calls). c.last_call) (sym same);
                 kept = λ x some good.

@@ -1,12 +1,12 @@
 -- In every lawful run a call that ends on a Reply, and not with a refusal, ends with the answer of the run that the Reply came from, to which the call led.
 use Rattle.std.proofs.Common.{◌≡◌, ℕ, ◌&&◌, Bool, true, false, if◌then◌else◌, is_none, List, [], ◌∷◌, ◌++◌, Option, Some, None, refl, sym, ap, subst, ◌∙◌}
-use Rattle.node_rules.specs.Data.{Answer, BranchId, Edge, Kind, Live, Msg, Input, Place}
+use Rattle.node_rules.specs.Data.{Answer, BranchId, Edge, Live, Msg, Place}
 use Rattle.node_rules.specs.Data.answers
 use Rattle.node_rules.specs.Data.inputs
 use Rattle.node_rules.specs.Data.kinds
 use Rattle.node_rules.specs.declared.session.Finished.{Finished}
 use Rattle.node_rules.specs.Inputs.{Came}
-use Rattle.node_rules.specs.Kept.{Kept, Branch, Deed, Outcome, live_id, live_at, branch_at}
+use Rattle.node_rules.specs.Kept.{Kept, Branch, Outcome, live_id, branch_at}
 use Rattle.node_rules.specs.Calls.{answer_ends, reply_of, reply_by, hears_reply, heard_answer, is_gone}
 use Rattle.node_rules.specs.Refusals.{dtx}
 use Rattle.node_rules.specs.Turn.{Stand, Is_live, Is_kept, Is_gone, stand_of, reply_turn, turn_of, heard, deed_of}
@@ -16,8 +16,7 @@ use Rattle.node_rules.proofs.Steps.{Is_answered}
 use Rattle.run_laws.specs.Branches.{Run, origin_at}
 use Rattle.run_laws.specs.Data.{Took, Turn, Happening}
 use Rattle.run_laws.specs.Data.happenings
-use Rattle.run_laws.specs.Each.{AtEach}
-use Rattle.run_laws.specs.Facts.{Facts, place_at, node_at, served, outcome_at}
+use Rattle.run_laws.specs.Facts.{place_at, served, outcome_at}
 use Rattle.run_laws.specs.Lawful.{MayHappen, History, IsLawfulRun}
 use Rattle.run_laws.specs.Runs.{is_accepted}
 use Rattle.run_laws.proofs.EventsStandLemmas.{ids_name_their_node}
@@ -86,9 +85,11 @@ module _ (t : History) (whole : IsLawfulRun t) (hs : List Happening) (u : Turn) 
         let one_took : sent.0 ≡ took = cc in
         let was = (answers_at t whole hs part0).replies sent.0.number sent.2 sent.3 call weight count said sent.5 (ap (λ y. is_accepted (Some y)) same_answer ∙ good) in
         let ans : AnsweredBy t from call said was.0 = subst (λ b. AnsweredBy t b call said was.0) sent.4 was.2 in
-        let heard_it : CallAnsweredBy t x.live.me.node x.live.me.session said was.0 = root_heard t whole hs u rest is k may.1.up x weight count said i e h was.0 sent.0.number was.1 ans top in
-        (was.0, subst (λ (y : Took). origin_at (tr_at t hs) y.number ≡ Some was.0) one_took was.1,
-        subst (λ n. CallAnsweredBy t n session a was.0) its_node (subst (λ s. CallAnsweredBy t x.live.me.node s a was.0) its_session (subst (λ y. CallAnsweredBy t x.live.me.node x.live.me.session y was.0) same_answer heard_it)))
+        let heard_it : CallAnsweredBy t x.live.me.node x.live.me.session said was.0 = root_heard t whole hs u rest is k may.1.up x weight count said i e h was.0 sent.0.number was.1 ans top in (
+          was.0,
+          subst (λ (y : Took). origin_at (tr_at t hs) y.number ≡ Some was.0) one_took was.1,
+          subst (λ n. CallAnsweredBy t n session a was.0) its_node (subst (λ s. CallAnsweredBy t x.live.me.node s a was.0) its_session (subst (λ y. CallAnsweredBy t x.live.me.node x.live.me.session y was.0) same_answer heard_it)),
+        )
 
   -- the call that ends
   first_ended : (x : Branch) (i : ℕ) (e : Edge) (o : Option BranchId) (more : List Finished) → answer_ends (hears_reply x i weight count e).live (heard_answer (hears_reply x i weight count e).live e.link said) o ≡ (record { session = session; answer = a }) ∷ more

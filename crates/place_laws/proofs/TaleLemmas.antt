@@ -1,8 +1,7 @@
 -- What a turn makes of the calls that came to branches below roots: whether a branch takes a call, answers it, answers it again, or hears the Reply
 -- that it waits for.
-use Rattle.std.proofs.Common.{◌≡◌, ◌≢◌, ℕ, ◌<◌, ◌≤◌, ◌&&◌, ◌||◌, Bool, true, false, List, [], ◌∷◌, ◌++◌, map, Option, Some, None, refl, sym, ap, subst, ◌∙◌}
+use Rattle.std.proofs.Common.{◌≡◌, ◌≢◌, ℕ, ◌<◌, ◌≤◌, ◌&&◌, ◌||◌, Bool, true, false, List, [], ◌∷◌, Option, Some, None, refl, sym, ap, ◌∙◌}
 use Rattle.std.specs.List.{AllByRecursion, list_any}
-use Rattle.tran_ids.proofs.BranchLemmas.{same_from_equal}
 use Rattle.tran_ids.proofs.ListedLemmas.{item_is}
 use Rattle.node_rules.specs.Data.{Table, Stmt, Answer, Advice, BranchId, Kind, Edge, Live, Input, Msg, Post, ReplyFields, Calls}
 use Rattle.node_rules.specs.declared.work.Work.{Work}
@@ -12,7 +11,7 @@ use Rattle.node_rules.specs.Data.kinds
 use Rattle.node_rules.specs.Words.{same, item_at}
 use Rattle.node_rules.specs.Inputs.{Came}
 use Rattle.link_session.specs.Calls.{taken}
-use Rattle.node_rules.specs.Kept.{Kept, Branch, Deed, live_id, work_id, branch_at, post}
+use Rattle.node_rules.specs.Kept.{Kept, Branch, Deed, live_id, work_id, post}
 use Rattle.node_rules.specs.LiveBranches.{works_of, EachLive}
 use Rattle.node_rules.specs.Names.{A_table, named_by, ref_of}
 use Rattle.node_rules.proofs.Steps.{Is_answered}

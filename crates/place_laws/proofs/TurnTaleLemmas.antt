@@ -1,5 +1,5 @@
 -- Each turn of a lawful run leaves the calls of branches below roots as its tales say.
-use Rattle.std.proofs.Common.{◌≡◌, ℕ, List, [], ◌∷◌, ◌++◌, map, Option, Some, None, refl, sym, ap, subst, ◌∙◌}
+use Rattle.std.proofs.Common.{◌≡◌, ℕ, List, ◌∷◌, ◌++◌, Option, Some, None, refl, sym, ap, subst, ◌∙◌}
 use Rattle.std.specs.Prelude.{IfSome}
 use Rattle.tran_ids.proofs.ListedLemmas.{item_is}
 use Rattle.node_rules.specs.Data.{Answer, Advice, BranchId, Kind, Live, Msg, Stmt, Place, Input}
@@ -9,14 +9,13 @@ use Rattle.node_rules.specs.Words.{item_at}
 use Rattle.node_rules.specs.Inputs.{Came}
 use Rattle.node_rules.specs.Kept.{Kept, Deed, live_id, work_id, live_at}
 use Rattle.node_rules.specs.LiveBranches.{works_of, EachLive}
-use Rattle.node_rules.specs.Turn.{heard, deed_of, deed_at, kind_turn, stand_of}
+use Rattle.node_rules.specs.Turn.{heard, deed_of, kind_turn, stand_of}
 use Rattle.node_rules.proofs.LiveLemmas.{each_same}
-use Rattle.node_rules.proofs.Steps.{Step}
 use Rattle.run_laws.specs.Births.{Born, births_of, born_at}
 use Rattle.run_laws.specs.BirthLaws.{Began, IsChild, LiveIs, GoesSo}
 use Rattle.run_laws.specs.Data.{Turn, Happening}
 use Rattle.run_laws.specs.Data.happenings
-use Rattle.run_laws.specs.Facts.{Facts, place_at, node_at}
+use Rattle.run_laws.specs.Facts.{Facts, place_at}
 use Rattle.run_laws.specs.InTurnLaws.{said_in}
 use Rattle.run_laws.specs.Lawful.{MayHappen, History, IsLawfulRun}
 use Rattle.run_laws.specs.RunEvents.{events_of}
@@ -34,10 +33,10 @@ use Rattle.run_laws.proofs.OwnLemmas.{all_found}
 use Rattle.run_laws.proofs.RootLemmas.{SessionsFit, sessions_keep}
 use Rattle.run_laws.proofs.TurnEventLemmas.{number_is}
 use Rattle.tree_laws.proofs.PrefixLemmas.{so_far, f_at}
-use Rattle.site_laws.proofs.TimeLemmas.{Part, part_lawful, may_of}
+use Rattle.site_laws.proofs.TimeLemmas.{part_lawful, may_of}
 use Rattle.place_laws.proofs.ExecLemmas.{exec_tales, reply_tales}
 use Rattle.place_laws.proofs.PlainLemmas.{Was, HadNone, plain_on}
-use Rattle.place_laws.proofs.TaleLemmas.{Stays, calls0, Told, Tales, mute_good, mute_replies, came_one}
+use Rattle.place_laws.proofs.TaleLemmas.{Stays, Told, Tales, mute_good, mute_replies, came_one}
 
 module _ (t : History) (whole : IsLawfulRun t) (hs : List Happening) (u : Turn) (rest : List Happening) (is : hs ++ happenings.Turn u ∷ rest ≡ t.trace) where
   abbrev s0 : History

@@ -4,7 +4,6 @@ use Rattle.std.specs.Prelude.{◌≡◌, ◌≢◌, ℕ, ◌≤◌, true, false,
 use Rattle.node_rules.specs.Data.{Advice, Answer, BranchId, Live, Place, ReplyFields, Stmt}
 use Rattle.node_rules.specs.Data.inputs
 use Rattle.node_rules.specs.Data.kinds
-use Rattle.node_rules.specs.declared.work.Work.{Work}
 use Rattle.node_rules.specs.Inputs.{Came}
 use Rattle.node_rules.specs.Kept.{Kept, Outcome, live_at, work_at}
 use Rattle.net_bag.specs.Net.{packet_at}
