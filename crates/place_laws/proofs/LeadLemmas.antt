@@ -55,7 +55,8 @@ use Rattle.place_laws.proofs.NumberLemmas.{numbered_map, all_numbered}
 use Rattle.place_laws.proofs.OpenSentLemmas.{numbered_more}
 use Rattle.place_laws.proofs.PastLemmas.{all_before, reply_before}
 use Rattle.place_laws.proofs.ReplyRunLemmas.{happens_at, prefix, moment_at, ran_there, holds_at}
-use Rattle.place_laws.proofs.ReplyTurnLemmas.{RunsSo, PassesSo, Holds, came_sent}
+use Rattle.place_laws.proofs.ReplyTurnLemmas.{RunsSo, PassesSo, Holds}
+use Rattle.place_laws.proofs.SentLemmas.{came_sent}
 
 -- a statement that has a table
 of_rows : (s : Stmt) → IsOfRows s → is_of_rows s ≡ true

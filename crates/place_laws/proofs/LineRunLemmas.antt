@@ -56,35 +56,12 @@ use Rattle.run_laws.proofs.StoredLemmas.{records_are_kept}
 use Rattle.tree_laws.proofs.PrefixLemmas.{so_far, f_at, one_on}
 use Rattle.site_laws.proofs.TimeLemmas.{Part, part_on, part_lawful, may_of, keep_on}
 use Rattle.place_laws.proofs.CatalogLemmas.{Extends, extends_same, catalog, catalog_on}
+use Rattle.place_laws.proofs.LineGrowLemmas.{not_true, line_grows}
 use Rattle.place_laws.proofs.LineLemmas.{is_calling, OpensLow, WaitsSo, Line, Quiet, line_more}
 use Rattle.place_laws.proofs.LineStepLemmas.{LineOf, Lines, Fresh, Known, LeavesSo, lines_on}
 use Rattle.place_laws.proofs.NameLemmas.{OneCatalog, catalog_kept}
 use Rattle.place_laws.proofs.OpenSentLemmas.{opened_sent}
 use Rattle.place_laws.proofs.TurnTaleLemmas as tales
-
-not_true : (q : Bool) → (q ≡ true → ⊥) → q ≡ false
-not_true true never = absurd (never refl)
-not_true false never = refl
-
--- what grows keeps what leads over a link
-module _ (p : Place) (D E : Durable) (grows : Extends D E) (Given Given1 : BranchId → ℕ → Stmt → Type 0) (more : (b : BranchId) (call : ℕ) (s : Stmt) → Given b call s → Given1 b call s)
-    (Called : BranchId → BranchId → ℕ → ℕ → Stmt → Stmt → Type 0) where
-  waits_grow : (said : List Post) (me : BranchId) (es : List Edge) (w : Work) (s goes : Stmt) (waits : Waits) → WaitsSo p D Given Called said me es w s goes waits → WaitsSo p E Given1 Called said me es w s goes waits
-  waits_grow said me es w s goes (waiting.ForReply i) is = is
-  waits_grow said me es w s goes (waiting.ForOpened link) is = (
-    is.0,
-    grows.names (ref_of s) link is.0 is.1,
-    is.2,
-    all_weaker (λ (x : Post). x.from ≡ me → (edge : ℕ) (root : BranchId) (depth : ℕ) → x.kind ≡ kinds.Open edge root depth → edge ≡ length es + 1 → target_of p D link ≡ Some x.to.node) _
-        (λ x was from edge root depth kind at. grows.leads p link x.to.node (was from edge root depth kind at)) said is.3,
-  )
-
-  pub line_grows : (said : List Post) (Go Go1 : Type 0) → (Go1 → Go) → (me : BranchId) (es : List Edge) (w : Work) → Line p D Given Called said Go me es w → Line p E Given1 Called said Go1 me es w
-  line_grows said Go Go1 goes me es w is = record {
-    leads = all_weaker (λ (e : Edge). target_of p D e.link ≡ Some e.peer.node) _ (λ e was. grows.leads p e.link e.peer.node was) es is.leads;
-    opens = λ go. is.opens (goes go);
-    waits = λ g going. (let was = is.waits g going in (was.0, more me w.came.last_call was.0 was.1, waits_grow said me es w was.0 g.statement g.waits was.2));
-  }
 
 module _ (t : History) (whole : IsLawfulRun t) where
   -- ---- what is said of moments

@@ -50,68 +50,13 @@ use Rattle.run_laws.proofs.ListLemmas.{all_append, all_weaker}
 use Rattle.run_laws.proofs.NeighborLemmas.{News, reply_is}
 use Rattle.run_laws.proofs.NeighborStepLemmas.{begun_news, pends_news, lets_news, acked_news}
 use Rattle.run_laws.proofs.RootLemmas.{SessionsFit, session_or_before, root_alone, begun_so, pends_so}
+use Rattle.place_laws.proofs.LineKeepLemmas.{pends_code, given_code, set_alike, mapped_alike, same_alike, exec_other, next_number, alike_line, rest_line, exec_low, exec_sent, waits_zero}
 use Rattle.place_laws.proofs.LineLemmas.{GoesOver, GoesThrough, goes_over, goes_through, edge_link, is_calling, Quiet, IsCalm, calm_quiet, other_quiet, Leads, OpensLow, OpensTo, SentSo, more_by, more, WaitsSo, Line, line_more, low_more, unsent}
 use Rattle.place_laws.proofs.NameLemmas.{OneCatalog, same_names}
 use Rattle.place_laws.proofs.NumberLemmas.{all_numbered}
 
 calm_decisions : OfDecisions IsCalm
 calm_decisions = record { committed = λ n. refl; rolled_back = refl; rollback = refl; in_doubt = refl; ack = refl; forgotten = refl; ask = refl }
-
--- ---- codes of sessions
-
-call_code : (ss : List Session) (n m : ℕ) (c : PendingCall) → (session_at (with_call ss n c) m).code ≡ (session_at ss m).code
-call_code ss n m c = elim (session_or_before ss n m (record (session_at ss n) { call = c })) [
-  | inl still ↦ ap (λ s. s.code) still
-  | inr new ↦ ap (λ s. s.code) new.1 ∙ ap (λ i. (session_at ss i).code) new.0
-]
-
-pends_code : (ss : List Session) (l : Live) (m : ℕ) → (session_at (call_pends ss l) m).code ≡ (session_at ss m).code
-pends_code ss l m = cond_both (is_none l.parent) (with_call ss l.me.session pending.Statement) ss (λ xs. (session_at xs m).code ≡ (session_at ss m).code) (λ root. call_code ss l.me.session m pending.Statement) (λ below. refl)
-
-code_at : (ss : List Session) (n code : ℕ) (b : BranchId) (o : Option Session) → numbered ss n ≡ o → (unwrap_or o fresh_session).root ≡ Some b → session_at (needs_rollback ss n code) n ≡ record (session_at ss n) { code = Some code }
-code_at ss n code b None is has = absurd cc
-code_at ss n code b (Some s) is has = session_set ss n s (record (session_at ss n) { code = Some code }) is
-
-given_code : (ss : List Session) (n code : ℕ) (b : BranchId) → (session_at ss n).root ≡ Some b → (session_at (needs_rollback (with_call ss n pending.NoCall) n code) n).code ≡ None → ⊥
-given_code ss n code b has none =
-    let free : List Session = with_call ss n pending.NoCall in
-    let root : (session_at free n).root ≡ Some b = ap (λ s. s.root) (call_set ss n b pending.NoCall has) ∙ has in
-    let set : (session_at (needs_rollback free n code) n).code ≡ Some code = ap (λ s. s.code) (code_at free n code b (numbered free n) refl root) in
-    absurd (cc (set, none))
-
--- ---- edges
-
-module _ {A B : Type 0} (f : A → B) where
-  -- an item of a mapped list
-  pub mapped_at : (xs : List A) (i : ℕ) (y : B) → numbered (map f xs) i ≡ Some y → (x : A) × (numbered xs i ≡ Some x) × (f x ≡ y)
-  mapped_at xs zero y is = absurd cc
-  mapped_at [] (suc i) y is = absurd cc
-  mapped_at (x ∷ xs) (suc zero) y is = let it : Some (f x) ≡ Some y = is in let here : f x ≡ y = cc in (x, refl, here)
-  mapped_at (x ∷ xs) (suc (suc i)) y is = mapped_at xs (suc i) y is
-
--- the same peers over the same links
-abbrev pub AlikeEdges : List Edge → List Edge → Type 0
-AlikeEdges es ds = (length ds ≡ length es) × ((i : ℕ) (d : Edge) → numbered ds i ≡ Some d → (e : Edge) × (numbered es i ≡ Some e) × (d.peer ≡ e.peer) × (d.link ≡ e.link))
-
-mapped_alike : (f : Edge → Edge) → ((e : Edge) → (f e).peer ≡ e.peer) → ((e : Edge) → (f e).link ≡ e.link) → (es : List Edge) → AlikeEdges es (map f es)
-mapped_alike f peers links es = (length-map es f, (λ i d at. (let found = mapped_at f es i d at in (found.0, found.1, ap (λ (e : Edge). e.peer) (sym found.2) ∙ peers found.0, ap (λ (e : Edge). e.link) (sym found.2) ∙ links found.0))))
-
-all_at : {A : Type 0} (P : A → Type 0) (xs : List A) → ((i : ℕ) (x : A) → numbered xs i ≡ Some x → P x) → AllByRecursion P xs
-all_at P [] each = tt
-all_at P (x ∷ xs) each = (each 1 x refl, all_at P xs (λ i y at. next i y at))
-  where
-    next : (i : ℕ) (y : _) → numbered xs i ≡ Some y → P y
-    next zero y at = absurd cc
-    next (suc i) y at = each (suc (suc i)) y at
-
-set_alike : (es : List Edge) (i : ℕ) (e x : Edge) → numbered es i ≡ Some e → x.peer ≡ e.peer → x.link ≡ e.link → AlikeEdges es (set_numbered es i x)
-set_alike es i e x at peer_is link_is = (
-  set_length es i x,
-  (λ j d found. elim (set_or_before es i j x) [
-    | inl before ↦ (d, sym before ∙ found, refl, refl)
-    | inr new ↦ (let it : Some x ≡ Some d = sym new.1 ∙ found in let one : x ≡ d = cc in (e, subst (λ n. numbered es n ≡ Some e) new.0 at, ap (λ (y : Edge). y.peer) (sym one) ∙ peer_is, ap (λ (y : Edge). y.link) (sym one) ∙ link_is))
-  ]),
-)
 
 module _ (E : BranchId → Option ℕ) (A : BranchId → Option BranchId) (G Here : BranchId → Type 0) (input : Input) (said : List Post) (received : turns.Received E A G Here input said)
     (p : Place) (D : Durable) (Given : BranchId → ℕ → Stmt → Type 0) (Called : BranchId → BranchId → ℕ → ℕ → Stmt → Stmt → Type 0) where
@@ -157,35 +102,6 @@ module _ (E : BranchId → Option ℕ) (A : BranchId → Option BranchId) (G Her
     opens = λ goes. subst (OpensLow p D Given Called said l.me) (let it : 0 ≡ length l.edges + more p D Given Called w.going = (let one : length l.edges ≡ 0 = ap length edges in let two : more p D Given Called w.going ≡ 0 = ap (more p D Given Called) going in omega (arith, one, two)) in it) low;
     waits = λ g some. absurd (cc (some, going));
   }
-
-  -- edges that are alike
-  alike_line : (xs : List Post) (Go : Type 0) (me : BranchId) (es ds : List Edge) (w : Work) → AlikeEdges es ds → Line p D Given Called xs Go me es w → Line p D Given Called xs Go me ds w
-  alike_line xs Go me es ds w alike is = record {
-    leads = all_at (λ (e : Edge). target_of p D e.link ≡ Some e.peer.node) ds (λ i d at. (let e = alike.1 i d at in
-        let was : target_of p D e.0.link ≡ Some e.0.peer.node = all_numbered (λ (x : Edge). target_of p D x.link ≡ Some x.peer.node) es i e.0 is.leads e.1 in
-        ap (target_of p D) e.3 ∙ (was ∙ ap (λ (b : BranchId). Some b.node) (sym e.2))));
-    opens = λ goes. subst (λ n. OpensLow p D Given Called xs me (n + more p D Given Called w.going)) (sym alike.0) (is.opens goes);
-    waits = λ g going. (let was = is.waits g going in (was.0, was.1, by was.0 g.statement g.waits was.2));
-  }
-    where
-      by : (s goes : Stmt) (waits : Waits) → WaitsSo p D Given Called xs me es w s goes waits → WaitsSo p D Given Called xs me ds w s goes waits
-      by s goes (waiting.ForReply i) was = λ d at.
-          (let e = alike.1 i d at in let so = was e.0 e.1 in
-          (subst (λ b. Called me b (call_at w i) w.came.last_call s goes) (sym e.2) so.0, subst (λ b. SentSo p D Given Called xs me b (call_at w i) goes) (sym e.2) so.1))
-      by s goes (waiting.ForOpened link) was = (was.0, was.1, was.2, subst (λ n. OpensTo p D Given Called xs me (n + 1) link) (sym alike.0) was.3)
-
-  -- one that waits for nothing
-  rest_line : (xs says : List Post) (Go : Type 0) (me : BranchId) (es ds : List Edge) (w v : Work) → AlikeEdges es ds → v.going ≡ None → more p D Given Called w.going ≡ 0 → Quiet me says → Line p D Given Called xs Go me es w → Line p D Given Called (xs ++ says) Go me ds v
-  rest_line xs says Go me es ds w v alike none still quiet is =
-      alike_line (xs ++ says) Go me es ds v alike (record {
-        leads = is.leads;
-        opens = λ goes. subst (OpensLow p D Given Called (xs ++ says) me) (let it : length es + more p D Given Called w.going ≡ length es + more p D Given Called v.going = (let one : more p D Given Called v.going ≡ 0 = ap (more p D Given Called) none in omega (arith, one, still)) in it)
-            (low_more p D Given Called xs says me (length es + more p D Given Called w.going) quiet (is.opens goes));
-        waits = λ g some. absurd (cc (some, none));
-      })
-
-  same_alike : (es : List Edge) → AlikeEdges es es
-  same_alike es = (refl, (λ i d at. (d, at, refl, refl)))
 
   module _ (known : Known) where
     module _ (k : Kept) (now : Nodes k) (lines : Lines said k) where
@@ -267,7 +183,7 @@ module _ (E : BranchId → Option ℕ) (A : BranchId → Option BranchId) (G Her
         put (answer_says z a z.live.parent) z.live (with_answer z a).work mine (λ b other. calm_quiet b (answer_says z a z.live.parent) (answer_calm z.live.parent))
             (subst (λ b. Line p D Given Called (said ++ answer_says z a z.live.parent) (z.live.parent ≡ None → G b) b z.live.edges (with_answer z a).work) (sym me)
             (subst (λ o. Line p D Given Called (said ++ answer_says z a z.live.parent) (o ≡ None → G x.live.me) x.live.me z.live.edges (with_answer z a).work) (sym parent)
-            (rest_line said (answer_says z a z.live.parent) (x.live.parent ≡ None → G x.live.me) x.live.me x.live.edges z.live.edges x.work (with_answer z a).work alike refl still (calm_quiet x.live.me (answer_says z a z.live.parent) (answer_calm z.live.parent)) line))),
+            (rest_line p D Given Called said (answer_says z a z.live.parent) (x.live.parent ≡ None → G x.live.me) x.live.me x.live.edges z.live.edges x.work (with_answer z a).work alike refl still (calm_quiet x.live.me (answer_says z a z.live.parent) (answer_calm z.live.parent)) line))),
         calm_here (answer_says z a z.live.parent) (answer_calm z.live.parent),
       )
         where
@@ -277,25 +193,9 @@ module _ (E : BranchId → Option ℕ) (A : BranchId → Option BranchId) (G Her
 
       -- ---- a call over an edge
 
-      exec_other : (ss : List Session) (y : Branch) (i : ℕ) (s : Stmt) (given : ℕ) (o : Option BranchId) (b : BranchId) → same y.live.me b ≡ false → Quiet b (exec_to ss y i s given o)
-      exec_other ss y i s given None b other = tt
-      exec_other ss y i s given (Some c) b other = other_quiet b y.live.me c (kinds.Exec (next_call y.work i) (room y.live given) (advice_of ss y.live) s) other
-
-      exec_low : (ss : List Session) (y : Branch) (i : ℕ) (s : Stmt) (given : ℕ) (o : Option BranchId) (me : BranchId) (n : ℕ) → OpensLow p D Given Called (exec_to ss y i s given o) me n
-      exec_low ss y i s given None me n = tt
-      exec_low ss y i s given (Some c) me n = ((λ from edge root depth is. absurd cc), tt)
-
-      exec_sent : (ss : List Session) (y : Branch) (i : ℕ) (s : Stmt) (given : ℕ) (o : Option BranchId) (me c : BranchId) (n : ℕ) → SentSo p D Given Called (exec_to ss y i s given o) me c n s
-      exec_sent ss y i s given None me c n = tt
-      exec_sent ss y i s given (Some d) me c n = ((λ from to call room advice st is at. (let both : kinds.Exec _ _ _ s ≡ kinds.Exec call room advice st = is in let one : st ≡ s = cc in one)), tt)
-
       exec_here : (ss : List Session) (y : Branch) (i : ℕ) (s : Stmt) (given : ℕ) (o : Option BranchId) → Here y.live.me → FromHere (exec_to ss y i s given o)
       exec_here ss y i s given None here = tt
       exec_here ss y i s given (Some c) here = ((λ calls. here), tt)
-
-      -- the number of the call is above all before it
-      next_number : (y : Branch) (i : ℕ) (s : Stmt) (given : ℕ) (e : Edge) → numbered y.live.edges i ≡ Some e → length y.work.calls ≡ length y.live.edges → call_at (called y i s given).work i ≡ call_at y.work i + 1
-      next_number y i s given e at long = let there = there_too y.live.edges y.work.calls i e (sym long) at in ap (λ o. unwrap_or o 0) (set_found y.work.calls i there.0 (next_call y.work i) there.1)
 
       calls_line : (ss : List Session) (y : Branch) (i : ℕ) (s0 s : Stmt) (given : ℕ) → Here y.live.me → y.work.branch ≡ y.live.me → Leads p D Given Called y.live.edges
           → (turns.Goes E A G Here input said y.live → OpensLow p D Given Called said y.live.me (length y.live.edges)) → Given y.live.me y.work.came.last_call s0
@@ -306,7 +206,7 @@ module _ (E : BranchId → Option ℕ) (A : BranchId → Option BranchId) (G Her
             put says y.live (called y i s given).work mine (λ b other. exec_other ss y i s given (peer_of y.live i) b other) (record {
               leads = leads;
               opens = λ goes. subst (OpensLow p D Given Called (said ++ says) y.live.me) (let it : length y.live.edges ≡ length y.live.edges + 0 = omega arith in it)
-                  (all_append (λ (x : Post). x.from ≡ y.live.me → (edge : ℕ) (root : BranchId) (depth : ℕ) → x.kind ≡ kinds.Open edge root depth → edge ≤ length y.live.edges) said says (low goes) (exec_low ss y i s given (peer_of y.live i) y.live.me (length y.live.edges)));
+                  (all_append (λ (x : Post). x.from ≡ y.live.me → (edge : ℕ) (root : BranchId) (depth : ℕ) → x.kind ≡ kinds.Open edge root depth → edge ≤ length y.live.edges) said says (low goes) (exec_low p D Given Called ss y i s given (peer_of y.live i) y.live.me (length y.live.edges)));
               waits = λ g some. (let it : Some (record { statement = s; room = given; waits = waiting.ForReply i }) ≡ Some g = some in let one : record { statement = s; room = given; waits = waiting.ForReply i } ≡ g = cc in (
                 s0,
                 gave,
@@ -314,7 +214,7 @@ module _ (E : BranchId → Option ℕ) (A : BranchId → Option BranchId) (G Her
                     (λ e at. (let is = new e at in (
                       is.0,
                       all_append (λ (x : Post). x.from ≡ y.live.me → x.to ≡ e.peer → (call room : ℕ) (advice : Option Advice) (st : Stmt) → x.kind ≡ kinds.Exec call room advice st → call ≡ call_at (called y i s given).work i → st ≡ s) said says
-                          (unsent p D Given Called said y.live.me e.peer (call_at (called y i s given).work i) s is.1) (exec_sent ss y i s given (peer_of y.live i) y.live.me e.peer (call_at (called y i s given).work i)),
+                          (unsent p D Given Called said y.live.me e.peer (call_at (called y i s given).work i) s is.1) (exec_sent p D Given Called ss y i s given (peer_of y.live i) y.live.me e.peer (call_at (called y i s given).work i)),
                     ))),
               ));
             }),
@@ -368,10 +268,6 @@ module _ (E : BranchId → Option ℕ) (A : BranchId → Option BranchId) (G Her
             )
 
       -- ---- an Opened, and a Reply
-
-      waits_zero : (i : ℕ) (o : Option Going) → WaitsFor i o → more p D Given Called o ≡ 0
-      waits_zero i None waits = absurd waits
-      waits_zero i (Some g) waits = ap (more_by p D Given Called) waits
 
       module _ (x : Branch) (from : BranchId) (strength : ℕ) (g : Going) (link : List ℕ) (opened : steps.Is_opened k input x from strength g link) where
         abbrev y : Branch
@@ -428,15 +324,15 @@ module _ (E : BranchId → Option ℕ) (A : BranchId → Option BranchId) (G Her
       heard_line x weight count a i e answered =
           answered_line x (hears_reply x i weight count e) (heard_answer (hears_reply x i weight count e).live e.link a) refl refl
           (set_alike x.live.edges i e (record e { weight = weight; count = count }) (reply_is x answered.from answered.call i e answered.waits) refl refl) (work_is k x.live.me x answered.live)
-          (waits_zero i x.work.going (reply_for x answered.from answered.call i e answered.waits).0) (branch_line x answered.live)
+          (waits_zero p D Given Called i x.work.going (reply_for x answered.from answered.call i e answered.waits).0) (branch_line x answered.live)
 
       -- ---- acts of the prepare phase
 
       acting_line : {l : Live} {q : Bool} {a : Act} → Acting k input l q a → LineOf said l (works_of k.works l.me)
       acting_line why =
           acting_so (λ l. LineOf said l (works_of k.works l.me))
-          (λ l comment q is. alike_line said (turns.Goes E A G Here input said l) l.me l.edges (map with_prepare_sent l.edges) (works_of k.works l.me) (mapped_alike with_prepare_sent (λ e. refl) (λ e. refl) l.edges) is)
-          (λ l from v is. alike_line said (turns.Goes E A G Here input said l) l.me l.edges (map (has_voted from v) l.edges) (works_of k.works l.me)
+          (λ l comment q is. alike_line p D Given Called said (turns.Goes E A G Here input said l) l.me l.edges (map with_prepare_sent l.edges) (works_of k.works l.me) (mapped_alike with_prepare_sent (λ e. refl) (λ e. refl) l.edges) is)
+          (λ l from v is. alike_line p D Given Called said (turns.Goes E A G Here input said l) l.me l.edges (map (has_voted from v) l.edges) (works_of k.works l.me)
           (mapped_alike (has_voted from v) (λ e. cond_both (answers_first from e) (record e { vote = v }) e (λ y. y.peer ≡ e.peer) (λ here. refl) (λ other. refl)) (λ e. cond_both (answers_first from e) (record e { vote = v }) e (λ y. y.link ≡ e.link) (λ here. refl) (λ other. refl)) l.edges) is)
           (λ b l found. subst (λ c. LineOf said l (works_of k.works c)) (sym (item_is live_id k.lives b l found)) (lines.each b l found)) why
 

@@ -27,7 +27,7 @@ use Rattle.run_laws.proofs.OwnLemmas.{all_found}
 use Rattle.run_laws.proofs.SaidPostLemmas.{posts_of, said_after}
 use Rattle.tree_laws.proofs.PrefixLemmas.{so_far, f_at, one_on, births_join}
 use Rattle.site_laws.proofs.TimeLemmas.{Part, part_lawful, may_of, keep_on}
-use Rattle.place_laws.proofs.ReplyTurnLemmas.{came_sent}
+use Rattle.place_laws.proofs.SentLemmas.{came_sent}
 use Rattle.place_laws.proofs.TurnTaleLemmas as tales
 
 -- an item stays where it is

@@ -31,7 +31,8 @@ use Rattle.trail_laws.proofs.SeenLemmas.{item_mapped}
 use Rattle.trail_laws.proofs.StartLemmas.{started_none, none_made}
 use Rattle.place_laws.specs.ReplyLaws.{RepliesComeFromRuns, LowerCallsAreTold}
 use Rattle.place_laws.proofs.NumberLemmas.{numbered_map}
-use Rattle.place_laws.proofs.ReplyTurnLemmas.{RunsSo, PassesSo, Holds, turn_holds}
+use Rattle.place_laws.proofs.ReplyLivesLemmas.{turn_holds}
+use Rattle.place_laws.proofs.ReplyTurnLemmas.{RunsSo, PassesSo, Holds}
 
 module _ (t : History) (whole : IsLawfulRun t) (Ans : BranchId → ℕ → Answer → Run → Type 0) (runs_so : RunsSo t whole Ans) (passes_so : PassesSo t whole Ans) where
   abbrev H : List Happening → Type 0

@@ -26,7 +26,7 @@ use Rattle.site_laws.proofs.TimeLemmas.{Part, part_lawful, may_of}
 use Rattle.trail_laws.proofs.MomentLemmas.{tr_at, by_moment}
 use Rattle.place_laws.specs.LeadLaws.{AnsweredBy, CallAnsweredBy, EndsAsReplied, CallsEndAsReplied}
 use Rattle.place_laws.proofs.LeadLemmas.{answers_at, root_heard}
-use Rattle.place_laws.proofs.ReplyTurnLemmas.{came_sent}
+use Rattle.place_laws.proofs.SentLemmas.{came_sent}
 
 -- an accepted answer is what the Reply said
 heard_same : (l : Live) (link : List ℕ) (said a : Answer) → heard_answer l link said ≡ a → is_accepted (Some a) ≡ true → said ≡ a
