@@ -20,15 +20,16 @@ use Rattle.run_laws.specs.Facts.{Facts, place_at, records_at, served, outcome_at
 use Rattle.run_laws.specs.Lawful.{MayHappen, History, IsLawfulRun}
 use Rattle.run_laws.specs.Places.{LeadsTo, Runs_here as Runs_there, catalog_at}
 use Rattle.run_laws.specs.Runs.{asks, asks_root, bare_name, table_by, run_at_table, run_by, run_in, ended_answer, replied_answer, answer_or, answered_by, is_of_rows, is_accepted}
-use Rattle.run_laws.specs.Trail.{next_root, root_seen, with_begun, roots_begun, children_begun, begun_in_turn}
+use Rattle.run_laws.specs.Trail.{origin_by, next_root, root_seen, with_begun, roots_begun, children_begun, begun_in_turn}
 use Rattle.run_laws.proofs.StoredLemmas.{records_are_kept}
 use Rattle.tree_laws.proofs.PrefixLemmas.{so_far, f_at}
 use Rattle.site_laws.proofs.TimeLemmas.{part_lawful, may_of}
 use Rattle.trail_laws.proofs.MomentLemmas.{tr_at, by_moment}
 use Rattle.trail_laws.proofs.PlanLemmas.{find_more, find_last, find_passes}
-use Rattle.place_laws.specs.LeadLaws.{CallAnsweredBy, EndsAtOnce, CallsEndAtOnce}
+use Rattle.place_laws.specs.LeadLaws.{CallAnsweredBy, IsToldFor, EndsAtOnce, CallsEndAtOnce}
 use Rattle.place_laws.proofs.CatalogLemmas.{catalog}
 use Rattle.place_laws.proofs.ExecLemmas.{way_table}
+use Rattle.place_laws.proofs.RootToldLemmas.{root_brought}
 use Rattle.place_laws.proofs.NameLemmas.{catalog_kept, same_names, table_at}
 use Rattle.place_laws.proofs.ReplyRunLemmas.{happens_at, prefix, moment_at, ran_there}
 
@@ -162,7 +163,7 @@ module _ (t : History) (whole : IsLawfulRun t) (hs : List Happening) (u : Turn) 
       let catalog_is : catalog_at t r.moment r.branch.node ≡ catalog t whole hs u.node = ap (λ i. catalog_at t i r.branch.node) (sym here) ∙ (ap (λ xs. durable (records_at (f_at t xs) r.branch.node)) (prefix t hs (happenings.Turn u) rest is) ∙ ap (catalog t whole hs) parts.0) in
       Runs_there (ap (λ d. named_by d (ref_of s)) catalog_is ∙ named)
 
-  pub ran_at_once : (r : Run) × (run_in (f_at t hs) (with_begun (f_at t hs) (tr_at t hs) u) u ≡ Some r) × CallAnsweredBy t u.node session a r
+  pub ran_at_once : (r : Run) × (run_in (f_at t hs) (with_begun (f_at t hs) (tr_at t hs) u) u ≡ Some r) × CallAnsweredBy t u.node session a r × IsToldFor t.places (f_at t hs) (tr_at t hs) u n r
   ran_at_once = (
     r,
     ran_it,
@@ -180,6 +181,7 @@ module _ (t : History) (whole : IsLawfulRun t) (hs : List Happening) (u : Turn) 
       is_root = parts;
       leads = leads;
     },
+    (λ b at. root_brought t.places (f_at t hs) (tr_at t hs) u o outcome n a more ended b at ∙ ap (origin_by (with_begun (f_at t hs) (tr_at t hs) u) u (asks (with_begun (f_at t hs) (tr_at t hs) u) u.node u.input)) ran_it),
   )
 
 pub calls_end_at_once : CallsEndAtOnce

@@ -18,6 +18,7 @@ pub mod LineStepLemmas
 pub mod LineGrowLemmas
 pub mod LineRunLemmas
 pub mod LeadLemmas
+pub mod RootToldLemmas
 pub mod RootAnswerLemmas
 mod TriedPlaceLemmas
 pub mod AtOnceLemmas

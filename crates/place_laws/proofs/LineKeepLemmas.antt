@@ -1,18 +1,11 @@
 -- What keeps where a live branch leads: edges that are alike, statements that are answered, the numbers of calls.
-use Rattle.std.proofs.Common.{◌≡◌, ℕ, zero, suc, ◌+◌, ◌-◌, ◌<◌, ◌≤◌, find, Bool, true, false, is_none, List, [], ◌∷◌, ◌++◌, map, length, unwrap_or, option_map, Option, Some, None, inl, inr, refl, sym, ap, subst, ◌∙◌, arith}
+use Rattle.std.proofs.Common.{◌≡◌, ℕ, zero, suc, ◌+◌, false, is_none, List, [], ◌∷◌, ◌++◌, map, length, unwrap_or, Option, Some, None, inl, inr, refl, sym, ap, subst, ◌∙◌, arith}
 use Rattle.std.specs.List.{AllByRecursion}
 use Rattle.std.proofs.lemmas.Bool.{cond_both}
-use Rattle.std.proofs.lemmas.Bool.Decides.{nat_tests}
-use Rattle.std.proofs.lemmas.List.{length-map, length-append}
-use Rattle.tran_ids.proofs.ListedLemmas.{item_is, put_found}
+use Rattle.std.proofs.lemmas.List.{length-map}
 use Rattle.tran_ids.proofs.NumberedLemmas.{set_length, set_found, set_or_before}
-use Rattle.link_session.proofs.OnceLemmas.{run_is_new}
-use Rattle.commit_forget.specs.declared.next.Next.TheVariants as nexts
-use Rattle.session_tree.specs.Live.{children_of, peer_of, new_edge, fresh_live, next_edge}
-use Rattle.session_tree.specs.Tree.{room, step as step_from}
-use Rattle.node_rules.specs.Data.{Stmt, Answer, Advice, BranchId, Durable, Edge, Live, Act, Place, Input, Post}
-use Rattle.node_rules.specs.Data.acts
-use Rattle.node_rules.specs.Data.answers
+use Rattle.session_tree.specs.Tree.{room}
+use Rattle.node_rules.specs.Data.{Stmt, BranchId, Durable, Edge, Live, Place, Post}
 use Rattle.node_rules.specs.Data.kinds
 use Rattle.node_rules.specs.declared.session.PendingCall.TheVariants as pending
 use Rattle.node_rules.specs.declared.session.PendingCall.{PendingCall}
@@ -21,37 +14,16 @@ use Rattle.node_rules.specs.declared.work.Waits.{Waits}
 use Rattle.node_rules.specs.declared.work.Waits.TheVariants as waiting
 use Rattle.node_rules.specs.declared.work.Going.{Going}
 use Rattle.node_rules.specs.declared.work.Work.{Work}
-use Rattle.node_rules.specs.Words.{same, same_text, numbered, set_numbered, put_item, drop_item}
-use Rattle.node_rules.specs.Inputs.{Came, IsCall}
-use Rattle.node_rules.specs.Refusals.{dtx}
-use Rattle.node_rules.specs.Kept.{Kept, Branch, Deed, live_id, work_id, branch_at, no_work, post, to_one, to_each}
-use Rattle.node_rules.specs.LiveBranches.{works_of, EachLive}
-use Rattle.node_rules.specs.Names.{Behind, named_by, ref_of, passed_on, node_named, target_of}
+use Rattle.node_rules.specs.Words.{same, numbered, set_numbered}
+use Rattle.node_rules.specs.Kept.{Branch}
+use Rattle.node_rules.specs.Names.{target_of}
 use Rattle.node_rules.specs.Sessions.{fresh_session, session_at, with_call, needs_rollback}
-use Rattle.node_rules.specs.Statement.{ran, after_run, answer_of_run}
-use Rattle.node_rules.specs.Calls.{advice_of, answer_says, exec_to, next_call, call_pends, next_child, strength_of, nobody_at, with_edge, with_answer, called, waits_for_opened, hears_reply, heard_answer}
-use Rattle.node_rules.specs.Client.{new_root, fresh_root, gives_up}
-use Rattle.node_rules.specs.Commit.{beyond}
-use Rattle.node_rules.specs.Prepare.{path_of, site_neighbors, has_voted, with_prepare_sent, ready, answers_first, act_turn}
-use Rattle.node_rules.specs.Recovery.{kept_told}
-use Rattle.node_rules.proofs.LiveLemmas.{each_put, each_changed, each_left, each_begun, each_same, branch_parts, work_is}
-use Rattle.node_rules.proofs.StandLemmas.{live_so, session_set, call_set}
-use Rattle.node_rules.proofs.StepLemmas.{acting_so}
-use Rattle.node_rules.proofs.Steps as steps
-use Rattle.node_rules.proofs.Steps.{Step, Asked, Acting, Says}
-use Rattle.run_laws.specs.Births.{Born}
-use Rattle.run_laws.specs.InTurnLaws.{newest_exec, newest_reply, WaitsFor, call_at}
-use Rattle.run_laws.proofs.AtNodeLemmas.{there_too, range_of}
-use Rattle.run_laws.proofs.InTurnLemmas as turns
-use Rattle.run_laws.proofs.InTurnLemmas.{peer, length_peers, numbered_map, reply_for, none_waits, numbered_last, numbered_split}
-use Rattle.run_laws.proofs.InTurnStepLemmas.{NewBorn, Granted, begins_so}
-use Rattle.run_laws.proofs.KindSayLemmas.{OfDecisions, AllSay, one_says, each_says, prepares_say, told_says, passes_say, askings_say}
-use Rattle.run_laws.proofs.ListLemmas.{all_append, all_weaker}
-use Rattle.run_laws.proofs.NeighborLemmas.{News, reply_is}
-use Rattle.run_laws.proofs.NeighborStepLemmas.{begun_news, pends_news, lets_news, acked_news}
-use Rattle.run_laws.proofs.RootLemmas.{SessionsFit, session_or_before, root_alone, begun_so, pends_so}
-use Rattle.place_laws.proofs.LineLemmas.{GoesOver, GoesThrough, goes_over, goes_through, edge_link, is_calling, Quiet, IsCalm, calm_quiet, other_quiet, Leads, OpensLow, OpensTo, SentSo, more_by, more, WaitsSo, Line, line_more, low_more, unsent}
-use Rattle.place_laws.proofs.NameLemmas.{OneCatalog, same_names}
+use Rattle.node_rules.specs.Calls.{advice_of, exec_to, next_call, call_pends, called}
+use Rattle.node_rules.proofs.StandLemmas.{session_set, call_set}
+use Rattle.run_laws.specs.InTurnLaws.{WaitsFor, call_at}
+use Rattle.run_laws.proofs.AtNodeLemmas.{there_too}
+use Rattle.run_laws.proofs.RootLemmas.{session_or_before}
+use Rattle.place_laws.proofs.LineLemmas.{Quiet, other_quiet, OpensLow, OpensTo, SentSo, more_by, more, WaitsSo, Line, low_more}
 use Rattle.place_laws.proofs.NumberLemmas.{all_numbered}
 
 -- ---- codes of sessions

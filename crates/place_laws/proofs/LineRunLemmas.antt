@@ -7,11 +7,9 @@ use Rattle.std.proofs.lemmas.Bool.{cases_eq}
 use Rattle.std.proofs.lemmas.List.{length-append}
 use Rattle.tran_ids.proofs.ListedLemmas.{item_is}
 use Rattle.tran_ids.proofs.NumberedLemmas.{set_or_before}
-use Rattle.node_rules.specs.Data.{Advice, BranchId, Durable, Edge, Live, Place, Post, RedoRecord, Stmt, Input}
+use Rattle.node_rules.specs.Data.{Advice, BranchId, Durable, Live, Place, Post, RedoRecord, Stmt, Input}
 use Rattle.node_rules.specs.Data.inputs
 use Rattle.node_rules.specs.Data.kinds
-use Rattle.node_rules.specs.declared.work.Waits.{Waits}
-use Rattle.node_rules.specs.declared.work.Waits.TheVariants as waiting
 use Rattle.node_rules.specs.declared.work.Work.{Work}
 use Rattle.node_rules.specs.Words.{numbered, set_numbered}
 use Rattle.node_rules.specs.Inputs.{Came, IsCall}
@@ -57,7 +55,7 @@ use Rattle.tree_laws.proofs.PrefixLemmas.{so_far, f_at, one_on}
 use Rattle.site_laws.proofs.TimeLemmas.{Part, part_on, part_lawful, may_of, keep_on}
 use Rattle.place_laws.proofs.CatalogLemmas.{Extends, extends_same, catalog, catalog_on}
 use Rattle.place_laws.proofs.LineGrowLemmas.{not_true, line_grows}
-use Rattle.place_laws.proofs.LineLemmas.{is_calling, OpensLow, WaitsSo, Line, Quiet, line_more}
+use Rattle.place_laws.proofs.LineLemmas.{is_calling, OpensLow, Line, Quiet, line_more}
 use Rattle.place_laws.proofs.LineStepLemmas.{LineOf, Lines, Fresh, Known, LeavesSo, lines_on}
 use Rattle.place_laws.proofs.NameLemmas.{OneCatalog, catalog_kept}
 use Rattle.place_laws.proofs.OpenSentLemmas.{opened_sent}

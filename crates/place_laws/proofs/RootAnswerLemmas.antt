@@ -24,7 +24,10 @@ use Rattle.run_laws.proofs.OwnLemmas.{all_found}
 use Rattle.tree_laws.proofs.PrefixLemmas.{so_far, f_at}
 use Rattle.site_laws.proofs.TimeLemmas.{Part, part_lawful, may_of}
 use Rattle.trail_laws.proofs.MomentLemmas.{tr_at, by_moment}
-use Rattle.place_laws.specs.LeadLaws.{AnsweredBy, CallAnsweredBy, EndsAsReplied, CallsEndAsReplied}
+use Rattle.place_laws.specs.LeadLaws.{AnsweredBy, CallAnsweredBy, IsToldFor, EndsAsReplied, CallsEndAsReplied}
+use Rattle.trail_laws.proofs.SeenLemmas.{begun}
+use Rattle.place_laws.proofs.BroughtLemmas.{reply_brings}
+use Rattle.place_laws.proofs.RootToldLemmas.{root_brought}
 use Rattle.place_laws.proofs.LeadLemmas.{answers_at, root_heard}
 use Rattle.place_laws.proofs.SentLemmas.{came_sent}
 
@@ -110,14 +113,21 @@ module _ (t : History) (whole : IsLawfulRun t) (hs : List Happening) (u : Turn) 
   by_stand (Is_kept s) so more ended = absurd cc
   by_stand Is_gone so more ended = absurd cc
 
-  pub ends_there : (more : List Finished) (o : Outcome) → outcome_at t.places (f_at t hs) u ≡ Some o → o.ended ≡ (record { session = session; answer = a }) ∷ more → Result
+  pub ends_there : (more : List Finished) (o : Outcome) → outcome_at t.places (f_at t hs) u ≡ Some o → o.ended ≡ (record { session = session; answer = a }) ∷ more
+      → (r : Run) × (origin_at (tr_at t hs) took.number ≡ Some r) × CallAnsweredBy t u.node session a r × (u.cut ≡ false → IsToldFor t.places (f_at t hs) (tr_at t hs) u session r)
   unfolding turn_of
   ends_there more o outcome ended =
       let p : Place = place_at t.places u.node in
       let both : Some (turn_of p k u.input) ≡ Some o = sym (ap (served p u.input) may.1.up) ∙ outcome in
       let one_outcome : turn_of p k u.input ≡ o = cc in
       let its : (deed_of p k u.input).ended ≡ (record { session = session; answer = a }) ∷ more = ap (λ (y : Outcome). y.ended) one_outcome ∙ ended in
-      by_stand (stand_of kk to) (stands_so kk to) more (ap (λ input. (deed_of p k input).ended) (sym came.is) ∙ its)
+      let found : Result = by_stand (stand_of kk to) (stands_so kk to) more (ap (λ input. (deed_of p k input).ended) (sym came.is) ∙ its) in (
+        found.0,
+        found.1,
+        found.2,
+        (λ uncut s at. root_brought t.places (f_at t hs) (tr_at t hs) u o outcome session a more ended s at
+            ∙ (reply_brings (f_at t hs) (begun t.places (f_at t hs) (tr_at t hs) u) u uncut from to call weight count said came took took_is ∙ found.1)),
+      )
 
 pub calls_end_as_replied : CallsEndAsReplied
 calls_end_as_replied t lawful = by_moment t (EndsAsReplied t) each

@@ -1,51 +1,18 @@
 -- What is found in lists that grow, and a message that came, which was sent.
-use Rattle.std.proofs.Common.{◌≡◌, ◌≢◌, ℕ, zero, suc, ◌+◌, ◌<◌, ◌≤◌, ◌==◌, ◌&&◌, ◌||◌, ◌⊎◌, Bool, true, false, if◌then◌else◌, find, List, [], ◌∷◌, ◌++◌, map, length, option_map, Option, Some, None, inl, inr, refl, sym, ap, subst, ◌∙◌, arith}
-use Rattle.std.specs.List.{AllByRecursion, list_any}
-use Rattle.std.proofs.lemmas.Bool.{cases_eq}
-use Rattle.std.proofs.lemmas.List.{length-map, length-append}
-use Rattle.tran_ids.proofs.ListedLemmas.{item_is}
-use Rattle.redo_record.specs.Durable.{durable}
-use Rattle.node_rules.specs.Data.{Stmt, Answer, Advice, BranchId, Calls, Edge, Kind, Live, Msg, Place, Input, Post, ReplyFields}
-use Rattle.node_rules.specs.declared.session.Finished.{Finished}
+use Rattle.std.proofs.Common.{◌≡◌, ℕ, zero, suc, Bool, find, List, [], ◌++◌, option_map, Option, Some, None, refl, ap, ◌∙◌}
+use Rattle.node_rules.specs.Data.{BranchId, Kind, Msg, Input, Post}
 use Rattle.node_rules.specs.Data.inputs
-use Rattle.node_rules.specs.Data.kinds
-use Rattle.node_rules.specs.Words.{same, numbered, item_at, is_item_of}
+use Rattle.node_rules.specs.Words.{numbered}
 use Rattle.node_rules.specs.Inputs.{Came}
-use Rattle.node_rules.specs.Kept.{Kept, Branch, Deed, live_id, work_or, live_at, post}
-use Rattle.node_rules.specs.LiveBranches.{works_of}
-use Rattle.node_rules.specs.Names.{A_table, named_by, ref_of}
-use Rattle.node_rules.specs.Turn.{turn_of, heard, deed_of, stamped}
-use Rattle.node_rules.proofs.LiveLemmas.{branch_parts}
-use Rattle.node_rules.proofs.Steps.{Is_answered}
-use Rattle.link_session.specs.Calls.{no_calls}
-use Rattle.run_laws.specs.Births.{births_of, born_at}
-use Rattle.run_laws.specs.Branches.{Run, Seen, Trail, Origin, seen_id, seen_at, newly_seen, origin_of, origin_at, is_root_of}
-use Rattle.run_laws.specs.Data.{Took, Turn, Happening}
-use Rattle.run_laws.specs.Data.happenings
-use Rattle.run_laws.specs.Facts.{Facts, place_at, node_at, records_at, served, outcome_at, kept_after, facts_after}
-use Rattle.run_laws.specs.InTurnLaws.{post_of, packet_post, said_in}
-use Rattle.run_laws.specs.Lawful.{MayHappen, IsOwed, Comes, History, IsLawfulRun}
-use Rattle.run_laws.specs.Runs.{run_in, ended_answer, replied_answer, answer_or, answered_by, is_accepted}
-use Rattle.run_laws.specs.Trail.{is_reply, answers, ended_by, origins_of, with_begun, trail_after}
-use Rattle.run_laws.proofs.AtNodeLemmas.{turn_elsewhere}
-use Rattle.run_laws.proofs.EventsStandLemmas.{run_stands, ids_name_their_node}
-use Rattle.run_laws.proofs.InTurnRunLemmas.{came_here}
-use Rattle.run_laws.proofs.ListLemmas.{all_weaker, all_append}
-use Rattle.run_laws.proofs.OwnLemmas.{all_found}
-use Rattle.run_laws.proofs.SaidPostLemmas.{posts_back, said_after}
-use Rattle.run_laws.proofs.StoredLemmas.{records_are_kept}
-use Rattle.tree_laws.proofs.PrefixLemmas.{so_far, f_at, one_on}
-use Rattle.site_laws.proofs.TimeLemmas.{Part, part_lawful, may_of}
-use Rattle.trail_laws.specs.LowerLaws.{IsToldLive}
-use Rattle.trail_laws.proofs.ChildRunLemmas.{tells_at}
-use Rattle.trail_laws.proofs.ChildStepLemmas.{Grows, IsOpened}
-use Rattle.trail_laws.proofs.ChildTurnLemmas as kids
-use Rattle.trail_laws.proofs.LowerRunLemmas.{lower_at}
-use Rattle.trail_laws.proofs.MomentLemmas.{tr_at, trail_one_on}
+use Rattle.node_rules.specs.Kept.{Kept}
+use Rattle.run_laws.specs.Branches.{Run, Origin, origin_of}
+use Rattle.run_laws.specs.Data.{Took}
+use Rattle.run_laws.specs.Facts.{Facts}
+use Rattle.run_laws.specs.InTurnLaws.{packet_post, said_in}
+use Rattle.run_laws.specs.Lawful.{Comes}
 use Rattle.trail_laws.proofs.PlanLemmas.{find_more}
-use Rattle.trail_laws.proofs.SeenLemmas.{begun, brings, turned, seen_begun, seen_turned}
-use Rattle.place_laws.proofs.NumberLemmas.{numbered_map, numbered_append, all_numbered, alone, no_reply_there, unspoken}
-use Rattle.place_laws.proofs.TaleLemmas.{is_good_reply, NoReply, Tale, Stays, Says_again, Takes, Answers, Hears, calls0, IsGood, came_one}
+use Rattle.place_laws.proofs.NumberLemmas.{numbered_map}
+use Rattle.place_laws.proofs.TaleLemmas.{came_one}
 
 -- ---- small parts
 

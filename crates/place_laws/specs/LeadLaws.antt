@@ -7,7 +7,7 @@ use Rattle.node_rules.specs.Data.kinds
 use Rattle.node_rules.specs.Inputs.{Came}
 use Rattle.node_rules.specs.Kept.{Kept, Outcome, live_at, work_at}
 use Rattle.net_bag.specs.Net.{packet_at}
-use Rattle.run_laws.specs.Branches.{Run, Seen, Trail, seen_at, origin_at}
+use Rattle.run_laws.specs.Branches.{Run, Seen, Trail, root_at, seen_at, origin_at}
 use Rattle.run_laws.specs.Data.{Finished, Packet, Took, Turn, Happening}
 use Rattle.run_laws.specs.Data.happenings
 use Rattle.run_laws.specs.Each.{AtEach}
@@ -15,7 +15,7 @@ use Rattle.run_laws.specs.Facts.{Facts, node_at, outcome_at}
 use Rattle.run_laws.specs.Lawful.{History, IsLawfulRun, facts_at}
 use Rattle.run_laws.specs.Places.{LeadsTo, RanAt}
 use Rattle.run_laws.specs.Runs.{is_of_rows, run_in, is_accepted}
-use Rattle.run_laws.specs.Trail.{with_begun}
+use Rattle.run_laws.specs.Trail.{with_begun, trail_after}
 use Rattle.trail_laws.specs.ChildLaws.{trail_at}
 
 -- A call of a branch was answered so by a run: an Exec of its number brought the branch a statement, not after the run, and the statement led there.
@@ -58,12 +58,16 @@ pub record CallAnsweredBy (t : History) (node session : ℕ) (a : Answer) (r : R
   pub is_root : (root.node ≡ node) × (root.session ≡ session)
   pub leads : LeadsTo t r root statement
 
+-- A run is told to be the one that the last answer of a session's transaction came from, where there is one after the turn.
+abbrev pub IsToldFor : List Place → Facts → Trail → Turn → ℕ → Run → Type 0
+IsToldFor places f tr u session r = (s : Seen) → root_at (trail_after places f tr (happenings.Turn u)) u.node session ≡ Some s → s.answer ≡ Some r
+
 -- A turn that ends a call on a Reply, and not with a refusal: the run that is told of the Reply is one that the call led to.
 abbrev pub EndsAsReplied : History → List Place → Facts → Trail → Happening → Type 0
 EndsAsReplied t places f tr (happenings.Turn u) =
     (o : Outcome) → outcome_at places f u ≡ Some o → (took : Took) → u.took ≡ Some took → (from to : BranchId) (call : ℕ) (weight : Option ℕ) (count : ℕ) (said : Answer) → Came u.input from to (kinds.Reply call weight count said)
     → (session : ℕ) (a : Answer) (more : List Finished) → o.ended ≡ (record { session = session; answer = a }) ∷ more → is_accepted (Some a) ≡ true
-    → (r : Run) × (origin_at tr took.number ≡ Some r) × CallAnsweredBy t u.node session a r
+    → (r : Run) × (origin_at tr took.number ≡ Some r) × CallAnsweredBy t u.node session a r × (u.cut ≡ false → IsToldFor places f tr u session r)
 EndsAsReplied t places f tr _ = Unit {0}
 
 -- In every lawful run each turn does.
@@ -75,7 +79,7 @@ abbrev pub EndsAtOnce : History → List Place → Facts → Trail → Happening
 EndsAtOnce t places f tr (happenings.Turn u) =
     u.cut ≡ false → (o : Outcome) → outcome_at places f u ≡ Some o → (session : ℕ) (s : Stmt) → u.input ≡ inputs.Call session (Some s) → is_of_rows s ≡ true
     → (n : ℕ) (a : Answer) (more : List Finished) → o.ended ≡ (record { session = n; answer = a }) ∷ more → is_accepted (Some a) ≡ true
-    → (r : Run) × (run_in f (with_begun f tr u) u ≡ Some r) × CallAnsweredBy t u.node session a r
+    → (r : Run) × (run_in f (with_begun f tr u) u ≡ Some r) × CallAnsweredBy t u.node session a r × IsToldFor places f tr u n r
 EndsAtOnce t places f tr _ = Unit {0}
 
 -- In every lawful run each turn does.
