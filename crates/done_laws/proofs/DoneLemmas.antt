@@ -1,6 +1,6 @@
 -- A call of a statement that has a record of its own is refused and writes nothing, or it writes that record and is done; and no other turn
 -- writes such a record.
-use Rattle.std.proofs.Common.{◌≡◌, ℕ, ◌+◌, ◌==◌, ◌&&◌, Bool, true, false, true≢false, if◌then◌else◌, List, [], ◌∷◌, ◌++◌, filter, find, IfSome, Option, Some, None, Result, Ok, Err, inl, inr, refl, sym, ap, subst, ◌∙◌, arith}
+use Rattle.std.proofs.Common.{◌≡◌, ℕ, ◌+◌, ◌==◌, Bool, true, false, true≢false, if◌then◌else◌, List, [], ◌∷◌, ◌++◌, filter, find, IfSome, Option, Some, None, Result, Ok, Err, inl, inr, refl, sym, ap, subst, ◌∙◌}
 use Rattle.std.specs.Prelude.{◌⊎◌, map}
 use Rattle.std.specs.List.{list_any}
 use Rattle.std.proofs.lemmas.Bool.{and_parts, cond_both, eqb-true, eq-eqb}
@@ -17,8 +17,8 @@ use Rattle.node_rules.specs.Data.nexts
 use Rattle.node_rules.specs.Client.{call_turn, refuses, writes, is_used, is_link}
 use Rattle.node_rules.specs.Force.{branch_to_force, force_commit, force_rollback, forces, hides, purge, may_purge}
 use Rattle.node_rules.specs.Inputs.{IsCall}
-use Rattle.node_rules.specs.Kept.{Kept, Deed, ending}
-use Rattle.node_rules.specs.Sessions.{session_at, is_commit, commit_is_pending, commit_answer}
+use Rattle.node_rules.specs.Kept.{Kept, Deed}
+use Rattle.node_rules.specs.Sessions.{session_at, is_commit, commit_is_pending}
 use Rattle.node_rules.specs.Turn.{turn_of, deed_of}
 use Rattle.node_rules.proofs.Steps as steps
 use Rattle.node_rules.proofs.Steps.{Step, Makes}
@@ -192,6 +192,7 @@ module _ (places : List Place) (f : Facts) (u : Turn) (k : Kept) (may : MayTurn 
     stands_by false is owed done (inl out) = absurd (true≢false (sym done ∙ (ap (is_done n) (ended_so false is) ∙ out.1)))
     stands_by false is owed done (inr x) =
         record { written = x.written; done = x.done; of = x.of; stands = wrote_owed owed ∙ x.stands; answered = ap (answers_to n) (ended_so false is) ∙ x.answered }
+
     pub stands : is_done n (ended_in places f u) ≡ true → Stands here k n s u.wrote (ended_in places f u)
     stands done = stands_by u.cut refl may.owed done turn_comes_to
 
@@ -209,7 +210,8 @@ module _ (places : List Place) (f : Facts) (u : Turn) (k : Kept) (may : MayTurn 
           answered = λ whole. ap (answers_to n) (ended_so false whole) ∙ x.answered;
         }
 
-  abbrev Asked_so : Option RedoRecord → Type 0
+  -- the record of a statement was asked for
+  abbrev pub Asked_so : Option RedoRecord → Type 0
   Asked_so w = IfSome w (λ r. is_of_statement r ≡ true → IsAsked places f u k r)
 
   -- so of the record of the turn's step
@@ -217,7 +219,8 @@ module _ (places : List Place) (f : Facts) (u : Turn) (k : Kept) (may : MayTurn 
   asked_at None is calls = tt
   asked_at (Some r) is calls = λ one. (let c = calls one in asked_by c.0 c.1 c.2 c.3 r is (turn_comes_to c.0 c.1 c.2 c.3))
 
-  asked : Asked_so u.wrote
+  -- and of the record that stands
+  pub asked : Asked_so u.wrote
   asked = of_wrote here k u (serves places f u k may) Asked_so tt (asked_at (deed_of here k u.input).wrote refl (called here u.input (serves places f u k may).step))
 
 -- ---- every run

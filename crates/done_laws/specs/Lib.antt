@@ -1,2 +1,3 @@
 pub mod DoneLaws
+pub mod StandLaws
 pub mod TriedDone
