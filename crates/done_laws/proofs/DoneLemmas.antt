@@ -30,7 +30,7 @@ use Rattle.run_laws.specs.Runs.{is_accepted}
 use Rattle.run_laws.specs.Lawful.{MayHappen, MayTurn, Comes, IsOwed}
 use Rattle.run_laws.proofs.LawfulLemmas.{serves, of_wrote, turn_of_node}
 use Rattle.run_laws.proofs.NodeLemmas.{each_that_may}
-use Rattle.done_laws.specs.DoneLaws.{is_recorded, is_of_statement, Records, A_table, A_link, A_synonym, A_setting, A_commit_at, A_commit, A_rollback, A_mixed_row, A_lost_row, ended_by, ended_in, answers_to, is_done, Stands, WritesWhatIsDone, DoneIsWritten, IsAsked, DoesWhatIsWritten, WrittenIsDone}
+use Rattle.done_laws.specs.DoneLaws.{is_recorded, is_of_statement, Records, A_table, A_link, A_synonym, A_setting, A_commit_at, A_commit, A_rollback, A_mixed_row, A_lost_row, ended_by, ended_in, answers_to, is_done, Stands, WritesWhatIsDone, DoneIsWritten, AnswersAtOnce, EachIsAnswered, IsAsked, DoesWhatIsWritten, WrittenIsDone}
 
 -- ---- the answers of one session
 
@@ -64,10 +64,10 @@ module _ (n : ℕ) (ss : List Session) (rests : (session_at ss n).call ≡ pendi
 module _ (p : Place) (k : Kept) (n : ℕ) (rests : (session_at k.sessions n).call ≡ pending.NoCall) where
   -- it is refused and writes nothing, or it is done
   abbrev Comes_to : Stmt → Deed → Type 0
-  Comes_to s d = ((d.wrote ≡ None) × (is_done n d.ended ≡ false)) ⊎ Stands p k n s d.wrote d.ended
+  Comes_to s d = ((d.wrote ≡ None) × (r : Refusal) × (answers_to n d.ended ≡ answers.Refused r ∷ [])) ⊎ Stands p k n s d.wrote d.ended
 
   refused : (s : Stmt) (r : Refusal) → Comes_to s (refuses k n r)
-  refused s r = inl (refl, ap (list_any (λ a. is_accepted (Some a))) (own_answer n (answers.Refused r) []))
+  refused s r = inl (refl, r, own_answer n (answers.Refused r) [])
 
   written : {s : Stmt} {r : RedoRecord} {d : Done} → Records p k s r d → Comes_to s (writes k n r d)
   written {r = r} {d = d} of = inr (record { written = r; done = d; of = of; stands = refl; answered = own_answer n (answers.Did d 0) [] })
@@ -189,9 +189,18 @@ module _ (places : List Place) (f : Facts) (u : Turn) (k : Kept) (may : MayTurn 
     stands_by : (cut : Bool) → u.cut ≡ cut → IsOwed here k u.input u.wrote u.sent cut → is_done n (ended_in places f u) ≡ true → Comes_to here k n rests s (deed_of here k u.input)
         → Stands here k n s u.wrote (ended_in places f u)
     stands_by true is owed done comes = absurd (true≢false (sym done ∙ ap (is_done n) (ended_so true is)))
-    stands_by false is owed done (inl out) = absurd (true≢false (sym done ∙ (ap (is_done n) (ended_so false is) ∙ out.1)))
+    stands_by false is owed done (inl out) = absurd (true≢false (sym done ∙ (ap (is_done n) (ended_so false is) ∙ ap (list_any (λ a. is_accepted (Some a))) out.2)))
     stands_by false is owed done (inr x) =
         record { written = x.written; done = x.done; of = x.of; stands = wrote_owed owed ∙ x.stands; answered = ap (answers_to n) (ended_so false is) ∙ x.answered }
+
+    answers_by : u.cut ≡ false → IsOwed here k u.input u.wrote u.sent false → Comes_to here k n rests s (deed_of here k u.input)
+        → ((u.wrote ≡ None) × (r : Refusal) × (answers_to n (ended_in places f u) ≡ answers.Refused r ∷ [])) ⊎ Stands here k n s u.wrote (ended_in places f u)
+    answers_by whole owed (inl out) = inl (wrote_owed owed ∙ out.0, out.1, ap (answers_to n) (ended_so false whole) ∙ out.2)
+    answers_by whole owed (inr x) =
+        inr (record { written = x.written; done = x.done; of = x.of; stands = wrote_owed owed ∙ x.stands; answered = ap (answers_to n) (ended_so false whole) ∙ x.answered })
+
+    answered_at_once : u.cut ≡ false → ((u.wrote ≡ None) × (r : Refusal) × (answers_to n (ended_in places f u) ≡ answers.Refused r ∷ [])) ⊎ Stands here k n s u.wrote (ended_in places f u)
+    answered_at_once whole = answers_by whole (subst (IsOwed here k u.input u.wrote u.sent) whole may.owed) turn_comes_to
 
     pub stands : is_done n (ended_in places f u) ≡ true → Stands here k n s u.wrote (ended_in places f u)
     stands done = stands_by u.cut refl may.owed done turn_comes_to
@@ -238,3 +247,10 @@ written_done places commands f _ may = tt
 
 pub written_is_done : WrittenIsDone
 written_is_done = each_that_may DoesWhatIsWritten written_done
+
+at_once : (places : List Place) (asked : List Command) (f : Facts) (h : Happening) → MayHappen places asked f h → AnswersAtOnce places f h
+at_once places commands f (happenings.Turn u) may = λ k up n s call one whole. answered_at_once places f u k (turn_of_node places f u k commands may up) n s call one whole
+at_once places commands f _ may = tt
+
+pub each_is_answered : EachIsAnswered
+each_is_answered = each_that_may AnswersAtOnce at_once

@@ -1,9 +1,9 @@
 -- Calls that are answered as done have their records: CREATE, ALTER SYSTEM, COMMIT FORCE, ROLLBACK FORCE and the purges. (SQL Language
 -- Reference: CREATE TABLE, CREATE DATABASE LINK, CREATE SYNONYM; Database Administrator's Guide, "Managing Distributed Transactions":
 -- manually overriding in-doubt transactions, purging pending rows, DBMS_TRANSACTION, disabling and enabling RECO.)
-use Rattle.std.specs.Prelude.{◌≡◌, ℕ, ◌+◌, ◌==◌, Bool, true, false, if◌then◌else◌, List, [], ◌∷◌, map, filter, find, IfSome, Option, Some, None, Ok}
+use Rattle.std.specs.Prelude.{◌≡◌, ℕ, ◌+◌, ◌==◌, ◌⊎◌, Bool, true, false, if◌then◌else◌, List, [], ◌∷◌, map, filter, find, IfSome, Option, Some, None, Ok}
 use Rattle.std.specs.List.{list_any}
-use Rattle.node_rules.specs.Data.{Table, Link, Synonym, Stmt, Done, Answer, BranchId, RedoRecord, Standing, Place}
+use Rattle.node_rules.specs.Data.{Table, Link, Synonym, Stmt, Done, Answer, Refusal, BranchId, RedoRecord, Standing, Place}
 use Rattle.node_rules.specs.Data.answers
 use Rattle.node_rules.specs.Data.decisions
 use Rattle.node_rules.specs.Data.dones
@@ -95,7 +95,7 @@ WritesWhatIsDone places f (happenings.Turn u) =
     → Stands (place_at places u.node) k n s u.wrote (ended_in places f u)
 WritesWhatIsDone places f _ = Unit {0}
 
--- in every lawful run
+-- in every lawful run each is so
 abbrev pub DoneIsWritten : Type 0
 DoneIsWritten = (t : History) → IsLawfulRun t → AtEachFact WritesWhatIsDone t
 
@@ -113,6 +113,19 @@ abbrev pub DoesWhatIsWritten : List Place → Facts → Happening → Type 0
 DoesWhatIsWritten places f (happenings.Turn u) = (k : Kept) → node_at f u.node ≡ Some k → IfSome u.wrote (λ r. is_of_statement r ≡ true → IsAsked places f u k r)
 DoesWhatIsWritten places f _ = Unit {0}
 
--- in every lawful run
+-- in every lawful run each is so
 abbrev pub WrittenIsDone : Type 0
 WrittenIsDone = (t : History) → IsLawfulRun t → AtEachFact DoesWhatIsWritten t
+
+-- ---- at once
+
+-- a call of such a statement is refused and nothing is written, or it is done, unless its turn is cut
+abbrev pub AnswersAtOnce : List Place → Facts → Happening → Type 0
+AnswersAtOnce places f (happenings.Turn u) =
+    (k : Kept) → node_at f u.node ≡ Some k → (n : ℕ) (s : Stmt) → IsCall u.input n s → is_recorded s ≡ true → u.cut ≡ false
+    → ((u.wrote ≡ None) × (r : Refusal) × (answers_to n (ended_in places f u) ≡ answers.Refused r ∷ [])) ⊎ Stands (place_at places u.node) k n s u.wrote (ended_in places f u)
+AnswersAtOnce places f _ = Unit {0}
+
+-- in every lawful run each is so
+abbrev pub EachIsAnswered : Type 0
+EachIsAnswered = (t : History) → IsLawfulRun t → AtEachFact AnswersAtOnce t

@@ -6,7 +6,7 @@
 //! there is on a disk comes from such calls (`specs/StandLaws.antt`).
 #![tactic(auto)]
 
-ghost use Rattle.done_laws.specs.DoneLaws.{DoneIsWritten, WrittenIsDone};
+ghost use Rattle.done_laws.specs.DoneLaws.{DoneIsWritten, EachIsAnswered, WrittenIsDone};
 ghost use Rattle.done_laws.specs.StandLaws.{DoneStays, RecordsComeFromCalls};
 ghost use Rattle.done_laws.specs.TriedDone.{TheTriedDone};
 
@@ -19,6 +19,11 @@ pub fn done_is_written()
 /// and nothing else, unless the turn was cut.
 pub fn written_is_done()
     ensures { WrittenIsDone }
+{}
+
+/// A call of such a statement is answered in its own turn, once: it is refused and nothing is written, or it is done, unless the turn was cut.
+pub fn each_is_answered()
+    ensures { EachIsAnswered }
 {}
 
 /// What is written for a call that is answered as done stays on the disk of its node, through stops and starts.
