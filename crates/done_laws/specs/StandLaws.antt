@@ -5,7 +5,7 @@ use Rattle.std.specs.List.{AllByRecursion}
 use Rattle.node_rules.specs.Data.{Stmt, RedoRecord, Place}
 use Rattle.node_rules.specs.Inputs.{IsCall}
 use Rattle.node_rules.specs.Kept.{Kept}
-use Rattle.run_laws.specs.Data.{Turn, Happening, Command}
+use Rattle.run_laws.specs.Data.{Happening, Command}
 use Rattle.run_laws.specs.Data.happenings
 use Rattle.run_laws.specs.Facts.{Facts, first_facts, facts_after, node_at, records_at}
 use Rattle.run_laws.specs.Lawful.{History, IsLawfulRun, facts_at}
