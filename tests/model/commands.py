@@ -19,8 +19,8 @@ STRETCH = re.compile(rb"(?P<quoted>'[^']*(?:'|\Z))|(?P<comment>--[^\n]*)|(?P<end
 IDENTIFIER = re.compile(r"[A-Z][A-Z0-9_$#]{0,29}")
 TOKEN = re.compile(r"(?P<word>[A-Za-z][A-Za-z0-9_$#.]*)|(?P<digits>[0-9]+)|'(?P<quoted>(?:[^']|'')*)'")
 
-# A form: words in capitals stand for themselves; `name` is a new node, `node` one that there is to be, `other` another
-# than the one before; numbers have their ranges.
+# A form: words in capitals stand for themselves; `node` is a node that there is to be, `other` another than the one before,
+# `hex` bytes in quotes; numbers have their ranges.
 FORMS = (
     "CUT node other",
     "JOIN node other",
@@ -28,6 +28,8 @@ FORMS = (
     "LOSE NEXT kind FROM node TO node",
     "STOP node",
     "START node",
+    "CRASH node WRITE count KEEP num",
+    "CRASH node WRITE count LEAVE hex",
     "FAULT node CALL count",
     "HOLD ON",
     "HOLD OFF",
@@ -45,7 +47,8 @@ FORMS = (
 )
 HEAD = "AT node SESSION session"
 RANGES = {"num": (0, LIMIT), "count": (1, LIMIT), "session": (1, 64)}
-HEX = re.compile("([0-9A-Fa-f]{2})+")
+# words that are kept behind the first argument: they tell orders apart
+KEPT = ("WRITE", "KEEP", "LEAVE")
 OPTIONS = {"STRENGTH": (0, 255), "LINKS": (1, 64), "UNDO": (1, 1024)}
 
 
@@ -136,6 +139,12 @@ def ranged(token, least, most):
     return token
 
 
+def hex_bytes(token):
+    """The bytes of a text in quotes."""
+    need(isinstance(token, tuple) and re.fullmatch("([0-9A-Fa-f]{2})+", token[0]))
+    return bytes.fromhex(token[0])
+
+
 def of_form(form, found):
     """The arguments of tokens of a form: a node as a name in a list of its own."""
     need(len(form) == len(found))
@@ -149,8 +158,11 @@ def of_form(form, found):
         elif part in ("node", "other"):
             need(part == "node" or [name(token)] != arguments[-1])
             arguments.append([name(token)])
+        elif part == "hex":
+            arguments.append(hex_bytes(token))
         else:
             need(token == part)
+            arguments += [part] * (part in KEPT)
     return arguments
 
 
@@ -163,17 +175,6 @@ def node(found):
     for word, number in options.items():
         ranged(number, *OPTIONS[word])
     return ["NODE", made, options.get("STRENGTH", 1), options.get("LINKS", 4), options.get("UNDO", 64)]
-
-
-def crash(found):
-    """The node of CRASH, the write, and what is left of it: so many bytes, or a list of them."""
-    need(len(found) == 6)
-    asked = ["CRASH", *of_form("node WRITE count".split(), found[1:4])]
-    asked.insert(2, "WRITE")
-    if found[4] == "KEEP":
-        return [*asked, "KEEP", ranged(found[5], 0, LIMIT)]
-    need(found[4] == "LEAVE" and isinstance(found[5], tuple) and HEX.fullmatch(found[5][0]))
-    return [*asked, "LEAVE", str(list(bytes.fromhex(found[5][0])))]
 
 
 def is_statement(text):
@@ -199,8 +200,6 @@ def command(text):
     found = tokens(text)
     if found[:1] == ["NODE"]:
         return node(found)
-    if found[:1] == ["CRASH"]:
-        return crash(found)
     for form in FORMS:
         try:
             return [*first_words(form), *of_form(form.split(), found)]
@@ -256,10 +255,15 @@ def read(script):
     return found
 
 
+def shown(part):
+    """A word or an argument as print_script prints it: bytes as their numbers."""
+    return str(list(part)) if isinstance(part, bytes) else str(part)
+
+
 def printed(script):
     """The exit status of print_script, and what it prints."""
     try:
-        lines = [" ".join(map(str, command)) for command in read(script)]
+        lines = [" ".join(map(shown, command)) for command in read(script)]
         return 0, "".join(line + "\n" for line in lines).encode()
     except Bad as bad:
         return 1, b"line %d: %s\n" % (bad.args[0], bad.args[1].encode())

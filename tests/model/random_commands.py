@@ -7,8 +7,8 @@ NAMES = ["A", "b", "HQ.Acme", "a.b", "U0$#_", "x" * 30, "C", "D1", "WAREHOUSE.AC
 ODD_NAMES = ["SELECT", "1A", "x" * 31, "A..B", "A.", "from", "é", "A.SET", "NODE", "AT", ".".join(["y" * 30] * 5)]
 TEXTS = [" COMMIT", "commit work", "ROLLBACK", "Rollback --x;'\n work", "", " SELEC", "x y", "COMMIT COMMENT 'a;b--c:'", " é", ":::"]
 NUMBERS = [0, 1, 2, 7, 64, 2**32 - 1]
-HEX = ["01", "ff01", "Ff", "00" * 40, "aB9c"]
-ODD_HEX = ["", "0", "0g", "011", " 01", "0''", "é1"]
+HEX = ["'00'", "'0aFF'", "'01'", "'" + "9C" * 300 + "'"]
+ODD_HEX = ["''", "'0'", "'012'", "'0g'", "'00''00'", "' 00'", "'0 0'", "00", "'é'", "'00' '00'", "1"]
 ODD_NUMBERS = ["4294967296", "00000000000000000000007", "-1", "18446744073709551616", "x", "'1'", "1.5", ""]
 BLANKS = [" "] * 12 + ["\n", " \t", "\r\n", " -- it's; a comment 'x é\n", "--\n", "\n\n"]
 SLIPS = [b"'", b";", b"-", b"--", b"\n", b"\x00", b"\x7f", b"\xc3", b"\xa9", "é".encode(), b" ", b":", b"N", b"0", b"\t", b"\x1f", b"\r"]
@@ -65,6 +65,15 @@ class Writer:
                 parts += [self.spelled(word), self.number(least, most)]
         return self.joined(*parts)
 
+    def order(self):
+        """An order on a node's disk."""
+        if self.chance(0.3):
+            return self.joined(self.spelled("FAULT"), self.node(), self.spelled("CALL"), self.number(1))
+        how = self.pick(["KEEP", "LEAVE"])
+        left = self.number() if how == "KEEP" else self.pick(ODD_HEX if self.bad() else HEX)
+        head = (self.spelled("CRASH"), self.node(), self.spelled("WRITE"), self.number(1))
+        return self.joined(*head, self.spelled(how), left)
+
     def command(self):
         form = self.random.randrange(19)
         word = self.spelled
@@ -91,13 +100,10 @@ class Writer:
             return self.joined(word("GIVEUP"), word("AT"), self.node(), word("SESSION"), self.number(1, 64))
         if form == 12:
             return self.joined(word("SHOW"), word(self.pick(["BOOK", "NET"])))
+        if form in (17, 18):
+            return self.order()
         if form == 13 and self.chance(0.2 if self.badness else 0):
             return self.make_node()
-        if form == 17:
-            left = [word("KEEP"), self.number()] if self.chance(0.5) else [word("LEAVE"), f"'{self.pick(ODD_HEX if self.bad() else HEX)}'"]
-            return self.joined(word("CRASH"), self.node(), word("WRITE"), self.number(1), *left)
-        if form == 18:
-            return self.joined(word("FAULT"), self.node(), word("CALL"), self.number(1))
         if form == 14 and self.bad():
             return self.pick(FIXED).rstrip(";")
         return self.joined(word("SHOW"), word(self.pick(["PENDING", "NEIGHBORS", "DISK"])), self.node())

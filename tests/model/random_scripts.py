@@ -5,6 +5,9 @@ import random
 NUMBERS = [0, 1, 2, 3, 5, 7, 10, -1, -3, 2**62, 2**63 - 1, -(2**63), 2**63]
 TEXTS = ["", "a", "b", "ab", "abc", "abcd", "é", "Zürich", "it's", "''", "A", "10", "9", " a", "a;b", "--x"]
 LENGTHS = [4, 10, 30, 1999, 2000, 2001]
+COMMENTS = ["''", "'it''s paid'", "'ORA-2PC-CRASH-TEST-1'", "'ORA-2PC-CRASH-TEST-6'", f"'{'y' * 255}'", f"'{'y' * 256}'"]
+# what a write may leave: gates that are open, shut or odd, and lengths
+LEFT = ["00", "01", "02", "ff", "0100", "01000000060101000000ff00", "01" * 60, "ff" * 60]
 ODD_TEXTS = ["SELEC", "", "COMMIT 1", "INSERT", "'a'", "SELECT K FROM T WHERE", "DELETE FROM", "SELECT SELECT FROM T"]
 ODD_COMMANDS = ["FROB", "", "NODE C", "1", "'x'", "SHOW", "SHOW NET", "AT", "STOP A: b", "AT A SESSION 1 1: COMMIT"]
 BLANKS = [" "] * 12 + ["\n", " \t", "\r\n", " -- it's; a comment 'x\n", "--\n"]
@@ -17,6 +20,8 @@ class Writer:
         self.is_calm = self.chance(0.7)
         self.is_sound = self.chance(0.8)
         self.stopped = set()
+        self.ordered = set()  # nodes that an order may have stopped
+        self.is_struck = self.chance(0.5)
         names = ["A", "a.b", "HQ.acme", "U0$#_", "x" * 30]
         self.names = self.random.sample(names, self.pick([1, 1, 2, 3]))
 
@@ -135,6 +140,8 @@ class Writer:
             return self.create()
         if share < 0.2:
             return self.spelled(self.pick(["COMMIT", "COMMIT WORK", "ROLLBACK", "ROLLBACK WORK"]))
+        if share < 0.23:
+            return f"{self.spelled('COMMIT COMMENT')} {self.pick(COMMENTS)}"
         if self.odd(0.05):
             return self.pick(ODD_TEXTS)
         forms = [self.insert] * 5 + [self.update] * 3 + [self.delete] + [self.select] * 3
@@ -153,6 +160,8 @@ class Writer:
     def command(self):
         if self.stopped and self.chance(0.6):
             return self.switch("START", self.pick(sorted(self.stopped)))
+        if self.is_struck and self.chance(0.2):
+            return self.order() if not self.ordered or self.chance(0.3) else self.again()
         if self.chance(0.9):
             return self.call()
         if self.bad(0.2):
@@ -164,6 +173,20 @@ class Writer:
     def switch(self, word, name):
         self.stopped = self.stopped | {name} if word == "STOP" else self.stopped - {name}
         return f"{self.spelled(word)}{self.blank()}{self.spelled(name)}"
+
+    def order(self):
+        """An order on the disk of a node, which strikes one of the next few commands that write, or later."""
+        name = self.pick(self.names)
+        self.ordered.add(name)
+        if self.chance(0.4):
+            return f"{self.spelled('FAULT')} {self.spelled(name)} CALL {self.random.randint(1, self.pick([4, 9, 20]))}"
+        left = f"KEEP {self.pick([0, 1, 4, 5, 6, 20, 2**32 - 1])}" if self.chance(0.5) else f"LEAVE '{self.pick(LEFT)}'"
+        return f"{self.spelled('CRASH')} {self.spelled(name)} WRITE {self.random.randint(1, self.pick([2, 4, 8]))} {left}"
+
+    def again(self):
+        """A node that may have been stopped is started, or its disk is shown."""
+        name = self.pick(sorted(self.ordered))
+        return f"{self.pick(['START', 'START', 'STOP', 'SHOW DISK'])} {self.spelled(name)}"
 
     def idle(self):
         """A command that finds nothing to do where no messages are sent."""

@@ -2,6 +2,7 @@
 
 import commands
 from commands import Bad, pieces
+from disk import Crash, Struck
 from node import Node, Refused
 
 
@@ -31,9 +32,18 @@ class Run:
         if what == "NET":
             return [b"no messages in flight"]
         if what == "DISK":
-            return disk_lines(self.node(*of, must_be_up=False).disk)
+            return disk_lines(self.node(*of, must_be_up=False).disk.bytes)
         self.node(*of)
         return [b"no rows selected"]
+
+    def ordered(self, word, place, *rest):
+        """An order takes the place of the earlier one of its kind."""
+        disk = self.node(place, must_be_up=False).disk
+        if word == "FAULT":
+            disk.fault = rest[0]
+        else:
+            _, write, how, left = rest
+            disk.crash = Crash(write, left, b"") if how == "KEEP" else Crash(write, None, left)
 
     def answered(self, command, text):
         """The lines that answer a command."""
@@ -44,6 +54,8 @@ class Run:
             return self.shown(*rest)
         if word == "AT":
             return self.node(rest[0]).call(rest[1], text)
+        if word in ("CRASH", "FAULT"):
+            self.ordered(*command)
         if word in ("STOP", "START"):
             node = self.node(rest[0], must_be_up=False)
             node.stop() if word == "STOP" else node.start()
@@ -63,6 +75,9 @@ class Run:
                 lines = self.answered(command, text)
             except Refused as refused:
                 lines = [str(refused).encode()]
+            except Struck:
+                # a command that writes names its node first
+                lines = self.node(command[1], must_be_up=False).halt()
             out += [b"%d %s\n" % (number, line) for line in lines]
         return b"".join(out)
 

@@ -80,7 +80,7 @@ class Select:
 
 @dataclass
 class Commit:
-    pass
+    comment: bytes
 
 
 @dataclass
@@ -324,9 +324,16 @@ class Reader:
                 raise Outside
         return query
 
-    def ending(self, statement):
+    def commit(self):
         self.may("word", "WORK")
-        return statement
+        comment = self.take("text") if self.may("word", "COMMENT") else b""
+        if len(comment) > 255:
+            raise Outside
+        return Commit(comment)
+
+    def rollback(self):
+        self.may("word", "WORK")
+        return Rollback()
 
 
 def check_distinct(names):
@@ -344,8 +351,8 @@ def read(text):
         "UPDATE": reader.update,
         "DELETE": reader.delete,
         "SELECT": reader.select,
-        "COMMIT": lambda: reader.ending(Commit()),
-        "ROLLBACK": lambda: reader.ending(Rollback()),
+        "COMMIT": reader.commit,
+        "ROLLBACK": reader.rollback,
     }
     form = forms.get(reader.take("word"))
     if form is None:

@@ -1,7 +1,8 @@
 //! How a run of the program ends, and what was done.
 ghost use Rattle.std.specs.Prelude.{◌≡◌, []};
 ghost use Rattle.script_read.specs.Sound.{IsOfAScript};
-ghost use Rattle.run_laws.specs.Headline.{places_of, All_run};
+ghost use Rattle.run_laws.specs.Headline.{places_of, All_run, TheRunIsLawful, EveryRunIsMeant, EverySiteDecides, EveryBookAgrees, EveryMixedIsMarked, EveryScnIsLater};
+ghost use Rattle.trail_laws.specs.OwnLaws.{DecisionsCover};
 ghost use Rattle.world.specs.Ran.{IsRan, as_ending};
 ghost use Rattle.script_run.specs.Headline.{IsRun, nothing_done};
 ghost use Rattle.script_run.specs.Ending.{status_code};
@@ -13,6 +14,7 @@ use due_laws::the_run_is_lawful;
 use run_trace::Recorded;
 use script_read::Commands;
 use std::alloc::Global;
+use trail_laws::{decisions_cover, every_run_is_meant, every_site_decides};
 use tree_laws::every_book_agrees;
 use world::Ran;
 
@@ -65,6 +67,24 @@ pub struct Run {
     pub trace: Trace,
 }
 
+// What holds of every lawful run, and that the run of a script is one.
+fn laws_of_runs()
+    ensures lawful { TheRunIsLawful }
+    ensures meant { EveryRunIsMeant }
+    ensures sites { EverySiteDecides }
+    ensures covers { DecisionsCover }
+    ensures agrees { EveryBookAgrees }
+    ensures marked { EveryMixedIsMarked }
+    ensures later { EveryScnIsLater }
+{
+    the_run_is_lawful();
+    every_run_is_meant();
+    every_site_decides();
+    decisions_cover();
+    every_book_agrees();
+    every_scn_is_later();
+}
+
 impl Run {
     /// A run that has ended, of a script.
     pub fn of(ran: Ran) -> Run
@@ -74,9 +94,7 @@ impl Run {
         ensures commands { result.commands ≡ ran.recorded.asked }
         ensures run { IsRun result (as_ending ran.ended) }
     {
-        the_run_is_lawful();
-        every_book_agrees();
-        every_scn_is_later();
+        laws_of_runs();
         let Ran {
             recorded,
             answers,
@@ -112,9 +130,7 @@ impl Run {
         ensures empty { result ≡ nothing_done }
         ensures run { IsRun result All_run }
     {
-        the_run_is_lawful();
-        every_book_agrees();
-        every_scn_is_later();
+        laws_of_runs();
         Run::nothing(alloc)
     }
 }

@@ -3,6 +3,7 @@ use Rattle.std.proofs.Common.{◌≡◌, ◌≢◌, ℕ, zero, suc, ◌≤◌, �
 use Rattle.std.proofs.lemmas.List.{append_assoc}
 use Rattle.std.specs.List.{list_any}
 use Rattle.agreement.specs.Events.{Exit, Decided, Dropped, exit}
+use Rattle.session_tree.specs.Live.{children_of}
 use Rattle.node_rules.specs.Data.{BranchId, Edge, Live, Phase, Input}
 use Rattle.node_rules.specs.Data.phases
 use Rattle.node_rules.specs.Words.{numbered}
@@ -49,7 +50,7 @@ use Rattle.site_laws.proofs.SeenLemmas.{Low, site_seen, plan_covers}
 use Rattle.dtx_values.specs.Limits.{depth_limit}
 use Rattle.site_laws.proofs.TimeLemmas.{Part, part_lawful, part_of, part_on, may_of, fact_at, exit_end, sent_end, born_end, keep_on}
 use Rattle.site_laws.proofs.WeighLemmas.{placed_of}
-use Rattle.site_laws.proofs.CommitTreeLemmas.{walks_down, in_it, covers_it}
+use Rattle.site_laws.proofs.CommitTreeLemmas.{LeavesWell, walks_down, in_it, covers_it}
 
 -- ---- the root
 
@@ -65,7 +66,8 @@ some_edge : (es : List Edge) (f : Edge → Bool) → list_any f es ≡ true → 
 some_edge [] f is = absurd cc
 some_edge (e ∷ es) f is = (e, refl)
 
-module _ (t : History) (whole : IsLawfulRun t) (r : BranchId) (found : WasFound t whole r t.trace) (leaves : (z : Exit) × (exit (events_of t) r ≡ Some z) × (z ≢ Dropped))
+module _ (t : History) (whole : IsLawfulRun t) (r : BranchId) (found : WasFound t whole r t.trace) (well : (z : Exit) → exit (events_of t) r ≡ Some z → z ≢ Dropped)
+    (ends : State t whole found.commit.branch t.trace → (i : ℕ) (c : BranchId) → numbered (children_of found.commit.branch.live) i ≡ Some c → was_asked (said_in (facts_at t)) found.commit.branch.live.me c ≡ true)
     (top : (x : Born) × Began (births_of t) x × (x.me ≡ r) × (x.parent ≡ None) × (x.root ≡ r)) where
   abbrev hs0 : List Happening
   hs0 = found.before
@@ -107,10 +109,7 @@ module _ (t : History) (whole : IsLawfulRun t) (r : BranchId) (found : WasFound 
   may = may_of t whole hs0 h found.later found.is
 
   good : (z : Exit) → exit (events_of t) x.live.me ≡ Some z → z ≢ Dropped
-  good z is dropped =
-      let both : Some leaves.0 ≡ Some z = sym leaves.1 ∙ subst (λ b. exit (events_of t) b ≡ Some z) at.is_me is in
-      let same : leaves.0 ≡ z = cc in
-      leaves.2 (same ∙ dropped)
+  good z is = well z (subst (λ b. exit (events_of t) b ≡ Some z) at.is_me is)
 
   -- what the COMMIT leaves of it
   asked_so : (w : Branch) → branch_at (turn_of (place_at t.places u.node) k u.input).after w.live.me ≡ Some w → w.live.me ≡ x.live.me → SameTree x w × (w.live.phase ≢ phases.Working)
@@ -255,7 +254,7 @@ module _ (t : History) (whole : IsLawfulRun t) (r : BranchId) (found : WasFound 
     goes = at.goes;
     waits = at.waits;
     root = root_so;
-    exit_good = (leaves.0, subst (λ b. exit (events_of t) b ≡ Some leaves.0) (sym at.is_me) leaves.1, leaves.2);
+    asks = ends (moment t.trace part0.rest part0.is (record { rest = []; is = append-nil t.trace })).0;
     state = λ hs since part. (moment hs since.0 since.1 part).0;
     calm = λ hs since part. (moment hs since.0 since.1 part).1;
   }
@@ -304,8 +303,19 @@ module _ (t : History) (whole : IsLawfulRun t) where
     abbrev part_found : Part t whole found.before
     part_found = record { rest = happenings.Turn found.turn ∷ found.later; is = found.is }
 
+    -- at the end the root has left, and has asked its children
+    root_asks : State t whole found.commit.branch t.trace → (i : ℕ) (c : BranchId) → numbered (children_of found.commit.branch.live) i ≡ Some c → was_asked (said_in (facts_at t)) found.commit.branch.live.me c ≡ true
+    root_asks (Left z left kids ends told) i c at = kids i c at
+    root_asks (Here k y up is me same) i c at =
+        let none : exit (events_of t) y.live.me ≡ None = all_found (λ (l : Live). exit (events_of t) l.me ≡ None) live_id k.lives y.live.me y.live (nodes_are_as_events t whole found.commit.branch.live.me.node k up).0 (live_so k y.live.me y is) in
+        let some : exit (events_of t) y.live.me ≡ Some root_leaves.0 = subst (λ c. exit (events_of t) c ≡ Some root_leaves.0) (sym (me ∙ found.commit.is_me)) root_leaves.1 in
+        absurd (cc (none, some))
+
     member : Member t whole found.before part_found r found.commit.branch
-    member = root_member t whole r found root_leaves top
+    member = root_member t whole r found root_good root_asks top
+
+    well : LeavesWell t whole found.before part_found r found.commit.branch.live.me
+    well = (root_leaves.0, subst (λ c. exit (events_of t) c ≡ Some root_leaves.0) (sym found.commit.is_me) root_leaves.1, root_leaves.2)
 
     site : walk_from (said_in (facts_at t)) (deepest (births_of t)) r ≡ b
     site = sym (trees.site_is (births_of t) (said_in (facts_at t)) (known t whole) heard.0 b heard.1 heard.2) ∙ sym (at_site t whole b n decided r inside)
@@ -330,7 +340,7 @@ module _ (t : History) (whole : IsLawfulRun t) where
     root_low = record { branch = found.commit.branch; is_me = found.commit.is_me; member = member; low = subst (λ d. d ≤ depth_limit) (sym first_depth) (let one : 1 ≤ 8 = omega arith in one) }
 
     walk_down : WalksTo (f_at t found.before) r b
-    walk_down = walks_down t whole found.before part_found r b n decided inside (deepest (births_of t)) found.commit.branch member r found.commit.is_me site
+    walk_down = walks_down t whole found.before part_found r b n decided inside (deepest (births_of t)) found.commit.branch member well r found.commit.is_me site
 
     pub follows : DecidedSo t b
     follows = record {
@@ -350,9 +360,9 @@ module _ (t : History) (whole : IsLawfulRun t) where
       planned = λ tr sees. (
         site_seen t whole found.before part_found r (asked_well t whole b n decided r inside) tr sees root_low found.commit.branch member found.commit.is_me high b walk_down,
         plan_covers t whole found.before part_found r (asked_well t whole b n decided r inside) tr sees root_low b
-            (λ c tree. covers_it t whole found.before part_found r b n decided inside c (in_it t whole found.before part_found r b n decided inside found.commit.branch member found.commit.is_me c tree)) found.commit.branch member found.commit.is_me,
+            (λ c tree. covers_it t whole found.before part_found r b n decided inside c (in_it t whole found.before part_found r b n decided inside found.commit.branch member root_leaves found.commit.is_me c tree)) found.commit.branch member found.commit.is_me,
       );
-      covers = λ c tree. covers_it t whole found.before part_found r b n decided inside c (in_it t whole found.before part_found r b n decided inside found.commit.branch member found.commit.is_me c tree);
+      covers = λ c tree. covers_it t whole found.before part_found r b n decided inside c (in_it t whole found.before part_found r b n decided inside found.commit.branch member root_leaves found.commit.is_me c tree);
     }
 
 pub decisions_follow_walks : DecisionsFollowWalks

@@ -369,3 +369,11 @@ module _ (t : History) (whole : IsLawfulRun t) (r : BranchId) where
           | inl before ↦ absurd (cc (before.0, left))
           | inr found ↦ found
         ]
+
+    -- so it was where it is live and not working
+    pub commit_came : (k : Kept) (l : Live) → node_at (facts_at t) r.node ≡ Some k → live_at k r ≡ Some l → l.phase ≢ phases.Working → WasFound t.trace
+    commit_came k l up live other =
+        elim (keep_on t whole Known_so known_on [] t.trace (record { rest = []; is = append-nil t.trace }) (inl (none_left_first, (λ j y there at. absurd (none_live_first r.node j y there at))))) [
+          | inl before ↦ absurd (other (before.1 k l up live))
+          | inr found ↦ found
+        ]

@@ -13,7 +13,7 @@ use Rattle.node_rules.specs.Kept.{Kept, Branch, branch_at}
 use Rattle.node_rules.proofs.StandLemmas.{live_so}
 use Rattle.run_laws.specs.Data.{Happening}
 use Rattle.run_laws.specs.Facts.{place_at, node_at}
-use Rattle.run_laws.specs.Lawful.{History, IsLawfulRun}
+use Rattle.run_laws.specs.Lawful.{History, IsLawfulRun, facts_at}
 use Rattle.run_laws.specs.InTurnLaws.{said_in, GoesOn}
 use Rattle.run_laws.specs.FreezeLaws.{was_asked}
 use Rattle.run_laws.specs.RunEvents.{events_of}
@@ -189,7 +189,7 @@ module _ (t : History) (whole : IsLawfulRun t) where
       pub goes : GoesOn here.kept x.live
       pub waits : x.work.going ≡ None
       pub root : x.live.root ≡ r
-      pub exit_good : (z : Exit) × (exit (events_of t) x.live.me ≡ Some z) × (z ≢ Dropped)
+      pub asks : (i : ℕ) (c : BranchId) → numbered (children_of x.live) i ≡ Some c → was_asked (said_in (facts_at t)) x.live.me c ≡ true
       pub state : (hs : List Happening) → Since hs → Part t whole hs → State x hs
       pub calm : (hs : List Happening) → Since hs → Part t whole hs → (k : Kept) (y : Branch) → node_at (f_at t hs) x.live.me.node ≡ Some k → branch_at k y.live.me ≡ Some y → y.live.me ≡ x.live.me → y.live.phase ≡ phases.Working
           → GoesOn k y.live × (y.work.going ≡ None)

@@ -64,16 +64,8 @@ module _ (t : History) (whole : IsLawfulRun t) (hs0 : List Happening) (part0 : P
   lawful0 = part_lawful t whole hs0 part0
 
   module _ (x : Branch) (member : Member t whole hs0 part0 r x) (i : ℕ) (c : BranchId) (at : numbered (children_of x.live) i ≡ Some c) where
-    -- at the end it has left
-    end_asked : State t whole x t.trace → was_asked (said_in (facts_at t)) x.live.me c ≡ true
-    end_asked (Left z left kids ends told) = kids i c at
-    end_asked (Here k y up found me same) =
-        let none : exit (events_of t) y.live.me ≡ None = all_found (λ (l : Live). exit (events_of t) l.me ≡ None) live_id k.lives y.live.me y.live (nodes_are_as_events t whole x.live.me.node k up).0 (live_so k y.live.me y found) in
-        let some : exit (events_of t) y.live.me ≡ Some member.exit_good.0 = subst (λ b. exit (events_of t) b ≡ Some member.exit_good.0) (sym me) member.exit_good.1 in
-        absurd (cc (none, some))
-
     asked : was_asked (said_in (facts_at t)) x.live.me c ≡ true
-    asked = end_asked (member.state t.trace (part0.rest, part0.is) (record { rest = []; is = append-nil t.trace }))
+    asked = member.asks i c at
 
     placed : LiveIs (Began (births_of s0)) x.live
     placed = placed_of s0 lawful0 x.live.me.node member.here.kept member.here.up x member.here.found
@@ -148,6 +140,14 @@ module _ (t : History) (whole : IsLawfulRun t) (hs0 : List Happening) (part0 : P
           (keep_on t whole Lasts lasts_on hs0 since.0 (record { rest = part.rest; is = ap (λ xs. xs ++ part.rest) since.1 ∙ part.is })
           (([], append-nil hs0), Here here.kept y here.up here.found refl (record { peers = refl; weights = refl; changed = refl }))).1
 
+      -- at the end it has left
+      kid_asks : State t whole y t.trace → (j : ℕ) (b : BranchId) → numbered (children_of y.live) j ≡ Some b → was_asked (said_in (facts_at t)) y.live.me b ≡ true
+      kid_asks (Left z left kids ends told) j b there = kids j b there
+      kid_asks (Here k w up_w found_w me_w same) j b there =
+          let none : exit (events_of t) w.live.me ≡ None = all_found (λ (l : Live). exit (events_of t) l.me ≡ None) live_id k.lives w.live.me w.live (nodes_are_as_events t whole y.live.me.node k up_w).0 (live_so k w.live.me w found_w) in
+          let some : exit (events_of t) w.live.me ≡ Some leaves.0 = subst (λ b. exit (events_of t) b ≡ Some leaves.0) (sym (me_w ∙ me)) leaves.1 in
+          absurd (cc (none, some))
+
       rests_first : Rests (said_in (f_at t hs0)) y.live.me y.live.parent y.work
       rests_first = rests hs0 ([], append-nil hs0) part0 j y here.up found refl
 
@@ -158,7 +158,7 @@ module _ (t : History) (whole : IsLawfulRun t) (hs0 : List Happening) (part0 : P
         goes = λ none. absurd (cc (none, parent));
         waits = rests_first.waits;
         root = root_so;
-        exit_good = (leaves.0, subst (λ b. exit (events_of t) b ≡ Some leaves.0) (sym me) leaves.1, leaves.2);
+        asks = kid_asks (lasts t.trace (part0.rest, part0.is) (record { rest = []; is = append-nil t.trace }));
         state = lasts;
         calm = λ hs since part k w there is same working. (let so : Rests (said_in (f_at t hs)) w.live.me w.live.parent w.work = rests hs since part k w there is same in
             ((λ none. absurd (let above = so.is_parent in cc (none, above))), so.waits));
@@ -176,13 +176,14 @@ module _ (t : History) (whole : IsLawfulRun t) (hs0 : List Happening) (part0 : P
       pub branch : Branch
       pub is_me : branch.live.me ≡ c
       pub is_member : Member t whole hs0 part0 r branch
+      pub leaves : (z : Exit) × (exit (events_of t) c ≡ Some z) × (z ≢ Dropped)
 
     found_kid : (j : Kept) → node_at (f_at t hs0) c.node ≡ Some j → (l : Live) → live_at j c ≡ Some l → Kid
     found_kid j up l live =
         let me : l.me ≡ c = item_is live_id j.lives c l live in
         let y : Branch = record { live = l; work = work_at j l.me } in
         let found : branch_at j l.me ≡ Some y = ap (with_work j) (subst (λ b. live_at j b ≡ Some l) (sym me) live) in
-        record { branch = y; is_me = me; is_member = kid_member j y up found me }
+        record { branch = y; is_me = me; is_member = kid_member j y up found me; leaves = leaves }
 
     -- each child is one
     pub kid_of : Kid

@@ -171,7 +171,7 @@ module _ (t : History) (whole : IsLawfulRun t) (hs0 : List Happening) (part0 : P
         ap (λ ws. weight_by x.live.changed x.live.strength (place_of_greatest 1 ws None)) kids)
 
     -- the step of the walk
-    step_seen : (x : Branch) → Member t whole hs0 part0 r x → InTree f0 r x.live.me → seen.step t.places tr x.live.me ≡ step x.live
+    pub step_seen : (x : Branch) → Member t whole hs0 part0 r x → InTree f0 r x.live.me → seen.step t.places tr x.live.me ≡ step x.live
     unfolding step seen.step seen.weight
     step_seen x member tree =
         let kids : map (weight_in depth_limit t.places tr) (children_at tr x.live.me) ≡ map (λ (e : Edge). e.weight) x.live.edges

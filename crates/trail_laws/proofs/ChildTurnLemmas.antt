@@ -236,7 +236,7 @@ module _ (t : History) (whole : IsLawfulRun t) where
         let own : l.me.node ≡ u.node = all_found (λ l. l.me.node ≡ u.node) live_id d.after.lives b l (ids_name_their_node s1 lawful1 u.node d.after up1).lives some in
         absurd (other (sym (ap (λ (c : BranchId). c.node) (item_is live_id d.after.lives b l some)) ∙ own))
 
-    silent_else : (b : BranchId) (cs : List BranchId) → b.node ≢ u.node → children_after b cs u.sent ≡ cs
+    pub silent_else : (b : BranchId) (cs : List BranchId) → b.node ≢ u.node → children_after b cs u.sent ≡ cs
     silent_else b cs other = by u.cut refl
       where
         by : (cut : Bool) → u.cut ≡ cut → children_after b cs u.sent ≡ cs

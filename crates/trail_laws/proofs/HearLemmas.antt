@@ -50,7 +50,7 @@ among_more vs from c = list_any-append (λ d. same d c) vs (from ∷ []) ∙ ap 
     or_none false = refl
 
 -- the answer of one child more
-one_voted : (vs : List BranchId) (from : BranchId) (v : Vote) → is_awaited v ≡ false → (es : List Edge) → AreVoted vs es → AreVoted (vs ++ from ∷ []) (map (has_voted from v) es)
+pub one_voted : (vs : List BranchId) (from : BranchId) (v : Vote) → is_awaited v ≡ false → (es : List Edge) → AreVoted vs es → AreVoted (vs ++ from ∷ []) (map (has_voted from v) es)
 one_voted vs from v heard [] all = tt
 one_voted vs from v heard (e ∷ es) all = (by (answers_first from e) refl, one_voted vs from v heard es all.1)
   where
@@ -85,7 +85,7 @@ first_among votes from (e ∷ es) all some = elim (or_cases (answers_first from 
 
 -- ---- a branch that is put, or dropped
 
-put_is : (ls : List Live) (y l : Live) (b : BranchId) → y.me ≡ b → item_at live_id (put_item live_id ls y) b ≡ Some l → l ≡ y
+pub put_is : (ls : List Live) (y l : Live) (b : BranchId) → y.me ≡ b → item_at live_id (put_item live_id ls y) b ≡ Some l → l ≡ y
 put_is ls y l b me is = let both : Some y ≡ Some l = sym (put_found live_id ls y) ∙ (ap (λ c. item_at live_id (put_item live_id ls y) c) me ∙ is) in let it : l ≡ y = cc in it
 
 pub act_live : (k : Kept) (l : Live) (b : Bool) (a : Act) (w : Live) → live_at (act_turn k l b a).after l.me ≡ Some w → (w ≡ l) ⊎ (w ≡ ready l)
@@ -121,7 +121,7 @@ module _ (p : Place) (k : Kept) (x : Branch) (found : branch_at k x.live.me ≡ 
   like ls y l me phase edges is =
       subst (Alike x.live) (sym (put_is ls y l x.live.me me is)) (record { phase = phase; votes = λ busy vs all. subst (AreVoted vs) (sym edges) all })
 
-  goes_alike : (y : Branch) (s : Stmt) (given : ℕ) (w : Way) → y.live.me ≡ x.live.me → y.live.phase ≡ x.live.phase → y.live.edges ≡ x.live.edges → After (goes p k y s given w) (Alike x.live)
+  pub goes_alike : (y : Branch) (s : Stmt) (given : ℕ) (w : Way) → y.live.me ≡ x.live.me → y.live.phase ≡ x.live.phase → y.live.edges ≡ x.live.edges → After (goes p k y s given w) (Alike x.live)
   goes_alike y s given (Runs_here t) me phase edges l is = like k.lives _ l me phase edges is
   goes_alike y s given (Nowhere_to r) me phase edges l is = like k.lives y.live l me phase edges is
   goes_alike y s given (Over i table) me phase edges l is = like k.lives y.live l me phase edges is
@@ -193,7 +193,7 @@ module _ (p : Place) (k : Kept) (x : Branch) (found : branch_at k x.live.me ≡ 
       by false not_so at = absurd cc
 
   -- Prepare
-  collected_busy : (l0 l : Live) (comment : List ℕ) (b : Bool) → l0 ≡ collecting (with_comment x.live comment) b → (l ≡ l0) ⊎ (l ≡ ready l0) → IsBusy [] l
+  pub collected_busy : (l0 l : Live) (comment : List ℕ) (b : Bool) → l0 ≡ collecting (with_comment x.live comment) b → (l ≡ l0) ⊎ (l ≡ ready l0) → IsBusy [] l
   collected_busy l0 l comment b is (inl alike) = subst (IsBusy []) (sym (alike ∙ is)) ((λ working. absurd cc), none_voted x.live.edges)
   collected_busy l0 l comment b is (inr readies) = subst (IsBusy []) (sym (readies ∙ ap ready is)) ((λ working. absurd cc), none_voted x.live.edges)
 

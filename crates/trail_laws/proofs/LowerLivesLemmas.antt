@@ -35,7 +35,7 @@ use Rattle.run_laws.proofs.LawfulLemmas.{serves}
 use Rattle.run_laws.proofs.NodeLemmas.{kept_alone}
 use Rattle.run_laws.proofs.OwnLemmas.{all_found}
 use Rattle.run_laws.proofs.PhaseLemmas.{phases_fit}
-use Rattle.run_laws.proofs.RootLemmas.{SessionsFit, sessions_keep}
+use Rattle.run_laws.proofs.RootLemmas.{SessionsFit, root_alone, sessions_keep}
 use Rattle.run_laws.proofs.SaidPostLemmas.{said_after}
 use Rattle.tree_laws.proofs.PrefixLemmas.{so_far, f_at, e_at, one_on, more_on}
 use Rattle.site_laws.proofs.TimeLemmas.{Part, part_on, part_lawful, may_of}
@@ -285,7 +285,7 @@ module _ (t : History) (whole : IsLawfulRun t) where
             stays : (z : Live) → live_at k z.me ≡ Some z → z.me ≡ l.me → z.parent ≢ None → ((m : Msg) → u.input ≡ inputs.Message m → same m.to l.me ≡ false) → l ≡ z
             stays z z_live me z_below other =
                 let not_to : (from : BranchId) (kind : Kind) → Came u.input from z.me kind → ⊥ = (λ from kind came. (let no_match = other _ came.is in let here : same z.me l.me ≡ true = same_from_equal z.me l.me me in absurd (cc (no_match, here)))) in
-                let after : live_at d.after z.me ≡ Some z = stays_on p u.input z.me not_to z z_below (serves t.places f0 u k may.1).step (heard_fits u.input) (heard_live u.input z.me ∙ z_live) in
+                let after : live_at d.after z.me ≡ Some z = stays_on p u.input z.me not_to z (λ j fit at n concerns has. z_below (root_alone j fit n z.me has z at)) (serves t.places f0 u k may.1).step (heard_fits u.input) (heard_live u.input z.me ∙ z_live) in
                 let both : Some z ≡ Some l = sym after ∙ subst (λ c. live_at d.after c ≡ Some l) (sym me) live in
                 let it : l ≡ z = cc in
                 it

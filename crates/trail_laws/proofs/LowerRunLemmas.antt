@@ -38,7 +38,7 @@ module _ (t : History) (whole : IsLawfulRun t) where
         (subst (TellsLives t whole g) (sym (trail_one_on t hs h ∙ trail)) (λ n j up l live below. (let it = now n j (still n j up l live) l live below in told n j up l live it.0 it.1 it.2)))
 
   -- a stop leaves the branches of other nodes
-  stopped_other : (n : ℕ) (s : Seen) → s.me.node ≢ n → stopped_by n s ≡ s
+  pub stopped_other : (n : ℕ) (s : Seen) → s.me.node ≢ n → stopped_by n s ≡ s
   stopped_other n s other = ap (λ q. if q then record s { exit = Some Dropped } else s) (and_left (s.me.node == n) (is_live s) (ne_eqb s.me.node n other))
 
   stop_keeps_me : (n : ℕ) (s : Seen) → (stopped_by n s).me ≡ s.me
@@ -48,7 +48,7 @@ module _ (t : History) (whole : IsLawfulRun t) where
       by true = refl
       by false = refl
 
-  not_stopped : (nodes : List (Option Kept)) (n : ℕ) (j : Kept) → flat (numbered (set_numbered nodes n None) n) ≡ Some j → ⊥
+  pub not_stopped : (nodes : List (Option Kept)) (n : ℕ) (j : Kept) → flat (numbered (set_numbered nodes n None) n) ≡ Some j → ⊥
   not_stopped nodes n j up = elim (set_or_before nodes n n None) [
     | inl before ↦ (let there : numbered nodes n ≡ Some (Some j) = flat_some (numbered nodes n) j (sym (ap flat before) ∙ up) in
         let none : flat (numbered (set_numbered nodes n None) n) ≡ None = ap flat (set_found nodes n (Some j) None there) in
@@ -56,7 +56,7 @@ module _ (t : History) (whole : IsLawfulRun t) where
     | inr gone ↦ (let none : flat (numbered (set_numbered nodes n None) n) ≡ None = ap flat gone.1 in absurd (cc (none, up)))
   ]
 
-  stop_still : (f : Facts) (n m : ℕ) (j : Kept) → flat (numbered (set_numbered f.nodes n None) m) ≡ Some j → node_at f m ≡ Some j
+  pub stop_still : (f : Facts) (n m : ℕ) (j : Kept) → flat (numbered (set_numbered f.nodes n None) m) ≡ Some j → node_at f m ≡ Some j
   stop_still f n m j up = elim (set_or_before f.nodes n m None) [
     | inl before ↦ sym (ap flat before) ∙ up
     | inr gone ↦ (let none : flat (numbered (set_numbered f.nodes n None) m) ≡ None = ap flat gone.1 in absurd (cc (none, up)))

@@ -52,7 +52,7 @@ module _ (p : Place) (input : Input) where
   writes_own (steps.Gives_up_commit n b None gives has calls live) = tt
   writes_own _ = tt
 
-heard_owns : (k : Kept) (input : Input) → (heard k input).owns ≡ k.owns
+pub heard_owns : (k : Kept) (input : Input) → (heard k input).owns ≡ k.owns
 heard_owns k (inputs.Message m) = refl
 heard_owns k _ = refl
 

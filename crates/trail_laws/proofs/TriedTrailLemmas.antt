@@ -24,4 +24,4 @@ use Rattle.trail_laws.specs.TriedTrail.{TheTriedTrail}
 pub the_tried_trail : TheTriedTrail
 unfolding digits decimal hex8 kept_after durable_after checked examined written meant_over meant applied stored_by weight step ran_over ran way_of admit reply_of beyond next_on_decision next_on_ack next_on_forgotten turn_of start_of stand_of sent_on delivered facts_after facts_of
     rows_of in_doubt run_in view_by trail_after trail_of told_weight told_step walk tree plan
-the_tried_trail = record { children = refl; own = refl; own_below = refl; site = refl; decides = refl; sealed = refl }
+the_tried_trail = record { children = refl; own = refl; own_below = refl; site = refl; decides = refl; sealed = refl; root = refl; ended = refl; begun = refl }

@@ -1,5 +1,5 @@
--- A live branch below a root to which nothing comes stays as it was.
-use Rattle.std.proofs.Common.{◌≡◌, ◌≢◌, ℕ, Bool, true, false, List, [], ◌∷◌, ◌++◌, Some, None, refl, sym, subst, ◌∙◌}
+-- A live branch to which nothing comes stays as it was.
+use Rattle.std.proofs.Common.{◌≡◌, ℕ, Bool, true, false, List, [], ◌∷◌, ◌++◌, Option, Some, None, refl, sym, subst, ◌∙◌}
 use Rattle.tran_ids.proofs.BranchLemmas.{equal_from_same}
 use Rattle.tran_ids.proofs.ListedLemmas.{item_is, put_leaves, drop_leaves}
 use Rattle.commit_forget.specs.declared.next.Next.TheVariants as nexts
@@ -9,33 +9,43 @@ use Rattle.node_rules.specs.Data.acts
 use Rattle.node_rules.specs.Data.kinds
 use Rattle.node_rules.specs.declared.session.PendingCall.TheVariants as pending
 use Rattle.node_rules.specs.Words.{same, is_item_of, item_at, put_item, drop_item}
-use Rattle.node_rules.specs.Inputs.{Came}
+use Rattle.node_rules.specs.Data.inputs
+use Rattle.node_rules.specs.Data.stmts
+use Rattle.node_rules.specs.Inputs.{Came, IsCall}
 use Rattle.node_rules.specs.Kept.{Kept, Branch, Deed, live_id, live_at}
 use Rattle.node_rules.specs.Statement.{ran, after_run}
 use Rattle.node_rules.specs.Calls.{next_child, strength_of, with_edge, hears_reply}
 use Rattle.node_rules.specs.Client.{new_root, fresh_root}
 use Rattle.node_rules.specs.Prepare.{ready, act_turn}
 use Rattle.node_rules.proofs.Steps as steps
-use Rattle.node_rules.proofs.Steps.{HasRoot, Step, Asked, Collects, Acting, Drops}
-use Rattle.run_laws.proofs.RootLemmas.{SessionsFit, root_alone, pends_so, begun_so}
+use Rattle.node_rules.proofs.Steps.{HasRoot, Step, Asked, Collects, Acting, Drops, IsOfRows}
+use Rattle.run_laws.proofs.RootLemmas.{SessionsFit, pends_so, begun_so}
 use Rattle.trail_laws.proofs.PlanLemmas.{find_more}
 
-module _ (p : Place) (input : Input) (b : BranchId) (not_to : (from : BranchId) (kind : Kind) → Came input from b kind → ⊥) (z : Live) (below : z.parent ≢ None) where
+-- A call of a session that concerns its root, or that is given up.
+pub data Concerns_root (input : Input) (n : ℕ) : Type 0 where
+  Of_rows : (s : Stmt) → IsCall input n s → IsOfRows s → Concerns_root input n
+  Is_commit : (given : Option (List ℕ)) → IsCall input n (stmts.Commit given) → Concerns_root input n
+  Is_rollback : IsCall input n stmts.Rollback → Concerns_root input n
+  Gives_up : input ≡ inputs.GiveUp n → Concerns_root input n
+
+module _ (p : Place) (input : Input) (b : BranchId) (not_to : (from : BranchId) (kind : Kind) → Came input from b kind → ⊥) (z : Live)
+    (not_root : (k : Kept) → SessionsFit k → live_at k b ≡ Some z → (n : ℕ) → Concerns_root input n → HasRoot k n b → ⊥) where
   -- no message came to it
   came_not : (c : BranchId) → c ≡ b → (from : BranchId) (kind : Kind) → Came input from c kind → ⊥
   came_not c me from kind came = not_to from kind (subst (λ x. Came input from x kind) me came)
 
   module _ (k : Kept) (ss : SessionsFit k) (live : live_at k b ≡ Some z) where
-    -- nor is it the transaction of a session
-    root_not : (n : ℕ) (c : BranchId) → HasRoot k n c → c ≡ b → ⊥
-    root_not n c has me = below (root_alone k ss n b (subst (HasRoot k n) me has) z live)
+    -- nor is it the transaction of a session whose call came
+    root_not : (n : ℕ) (c : BranchId) → Concerns_root input n → HasRoot k n c → c ≡ b → ⊥
+    root_not n c concerns has me = not_root k ss live n concerns (subst (HasRoot k n) me has)
 
     asked_not : {x : Branch} {s : Stmt} {given : ℕ} → Asked k input x s given → x.live.me ≡ b → ⊥
-    asked_not (steps.By_call n x s call rows has code found) me = root_not n x.live.me has me
+    asked_not (steps.By_call n x s call rows has code found) me = root_not n x.live.me (Of_rows s call rows) has me
     asked_not (steps.By_exec x from call given advice s came found runs) me = came_not x.live.me me from (kinds.Exec call given advice s) came
 
     collects_not : {comment : List ℕ} {q : Bool} (l : Live) → Collects k input l comment q → l.me ≡ b → ⊥
-    collects_not l (steps.By_commit n given call has code is) me = root_not n l.me has me
+    collects_not l (steps.By_commit n given call has code is) me = root_not n l.me (Is_commit given call) has me
     collects_not {comment = comment} l (steps.By_prepare from q came working) me = came_not l.me me from (kinds.Prepare q comment) came
 
     acting_not : {l : Live} {q : Bool} {a : Act} → Acting k input l q a → l.me ≡ b → ⊥
@@ -102,8 +112,8 @@ module _ (p : Place) (input : Input) (b : BranchId) (not_to : (from : BranchId) 
   stays_on (steps.Does s from (nexts.End d) kept why) ss live = live
   stays_on (steps.Does s from (nexts.Meet d mixed) kept why) ss live = live
   stays_on (steps.Does s from nexts.Forget kept why) ss live = live
-  stays_on (steps.Rolls_back {k = k} n x call has found) ss live = left k ss live x.live.me (root_not k ss live n x.live.me has)
-  stays_on (steps.Gives_up {k = k} n x gives has calls found) ss live = put k ss live x.live (root_not k ss live n x.live.me has)
-  stays_on (steps.Gives_up_commit {k = k} n c (Some l) gives has calls found) ss live = left k ss live l.me (λ me. root_not k ss live n c has (sym (item_is live_id k.lives c l found) ∙ me))
+  stays_on (steps.Rolls_back {k = k} n x call has found) ss live = left k ss live x.live.me (root_not k ss live n x.live.me (Is_rollback call) has)
+  stays_on (steps.Gives_up {k = k} n x gives has calls found) ss live = put k ss live x.live (root_not k ss live n x.live.me (Gives_up gives) has)
+  stays_on (steps.Gives_up_commit {k = k} n c (Some l) gives has calls found) ss live = left k ss live l.me (λ me. root_not k ss live n c (Gives_up gives) has (sym (item_is live_id k.lives c l found) ∙ me))
   stays_on (steps.Gives_up_commit n c None gives has calls found) ss live = live
   stays_on _ ss live = live

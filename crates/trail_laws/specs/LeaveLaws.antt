@@ -1,6 +1,6 @@
 -- On what branches below a root seal and decide, by what the happenings tell of them. (Database Administrator's Guide, "Distributed
 -- Transactions Concepts": prepare phase, commit point site.)
-use Rattle.std.specs.Prelude.{◌≡◌, ◌≢◌, ◌⊎◌, ℕ, List, Some, None}
+use Rattle.std.specs.Prelude.{◌≡◌, ◌≢◌, ◌⊎◌, List, Some, None}
 use Rattle.node_rules.specs.Data.{Live, RedoRecord, Input, Place}
 use Rattle.node_rules.specs.Data.records
 use Rattle.node_rules.specs.Kept.{Kept, live_at}

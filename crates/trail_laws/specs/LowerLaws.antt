@@ -8,7 +8,7 @@ use Rattle.session_tree.specs.Live.{children_of}
 use Rattle.node_rules.specs.Data.{BranchId, Edge, Live}
 use Rattle.node_rules.specs.Data.phases
 use Rattle.node_rules.specs.Kept.{Kept, live_at}
-use Rattle.run_laws.specs.Branches.{Seen, Trail, is_among, seen_at}
+use Rattle.run_laws.specs.Branches.{Seen, is_among, seen_at}
 use Rattle.run_laws.specs.Facts.{node_at}
 use Rattle.run_laws.specs.Lawful.{History, IsLawfulRun, facts_at}
 use Rattle.trail_laws.specs.ChildLaws.{trail_at}

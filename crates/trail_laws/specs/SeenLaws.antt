@@ -1,7 +1,7 @@
 -- What the happenings tell of the roots of a run and of its branches' changes, against what nodes keep of them, and what follows where they agree:
 -- who decides, what a decision covers, whose changes a record has, and on what branches seal and decide. (Database Administrator's Guide, "Distributed Transactions Concepts": session
 -- trees, commit point site.)
-use Rattle.std.specs.Prelude.{◌≡◌, ◌≢◌, ℕ, true, List, IfSome, Option, Some, None}
+use Rattle.std.specs.Prelude.{◌≡◌, ℕ, List, IfSome, Option, Some, None}
 use Rattle.node_rules.specs.Data.{BranchId, Live, RedoRecord, Input, Place}
 use Rattle.node_rules.specs.declared.session.PendingCall.TheVariants as pending
 use Rattle.node_rules.specs.Data.phases

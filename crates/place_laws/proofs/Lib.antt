@@ -1,0 +1,24 @@
+pub mod TaleLemmas
+pub mod PlainLemmas
+pub mod ExecLemmas
+pub mod NameLemmas
+pub mod NumberLemmas
+pub mod BroughtLemmas
+pub mod TurnTaleLemmas
+pub mod SentLemmas
+pub mod ReplyTurnLemmas
+pub mod ReplyLivesLemmas
+pub mod ReplyRunLemmas
+pub mod CatalogLemmas
+pub mod PastLemmas
+pub mod OpenSentLemmas
+pub mod LineLemmas
+pub mod LineKeepLemmas
+pub mod LineStepLemmas
+pub mod LineGrowLemmas
+pub mod LineRunLemmas
+pub mod LeadLemmas
+pub mod RootToldLemmas
+pub mod RootAnswerLemmas
+mod TriedPlaceLemmas
+pub mod AtOnceLemmas

@@ -1,0 +1,398 @@
+-- In every lawful run each live branch that waits leads where its statement was sent: the name of its table is behind a link, which leads to the
+-- node of the child that it calls, and was so before that call came to the child.
+use Rattle.std.proofs.Common.{◌≡◌, ◌≢◌, ℕ, ◌+◌, ◌<◌, ◌≤◌, ◌⊎◌, Bool, true, false, List, [], ◌∷◌, ◌++◌, map, length, Option, Some, None, inl, inr, refl, sym, ap, subst, ◌∙◌, append-nil, arith}
+use Rattle.std.specs.Prelude.{IfSome}
+use Rattle.std.specs.List.{AllByRecursion}
+use Rattle.std.proofs.lemmas.Bool.{cases_eq}
+use Rattle.std.proofs.lemmas.List.{length-append}
+use Rattle.tran_ids.proofs.ListedLemmas.{item_is}
+use Rattle.tran_ids.proofs.NumberedLemmas.{set_or_before}
+use Rattle.node_rules.specs.Data.{Advice, BranchId, Durable, Live, Place, Post, RedoRecord, Stmt, Input}
+use Rattle.node_rules.specs.Data.inputs
+use Rattle.node_rules.specs.Data.kinds
+use Rattle.node_rules.specs.declared.work.Work.{Work}
+use Rattle.node_rules.specs.Words.{numbered, set_numbered}
+use Rattle.node_rules.specs.Inputs.{Came, IsCall}
+use Rattle.session_tree.specs.Live.{children_of}
+use Rattle.node_rules.specs.Kept.{Kept, Branch, Deed, live_id, live_at}
+use Rattle.node_rules.specs.LiveBranches.{EachLive}
+use Rattle.node_rules.specs.Names.{Behind, named_by, ref_of, passed_on, target_of}
+use Rattle.node_rules.specs.Sessions.{session_at}
+use Rattle.node_rules.specs.Turn.{turn_of, start_of, made, heard, deed_of}
+use Rattle.node_rules.proofs.LiveLemmas.{each_same, none_live}
+use Rattle.node_rules.proofs.Steps as steps
+use Rattle.node_rules.proofs.Steps.{Step, Asked, IsOfRows}
+use Rattle.run_laws.specs.Births.{Born, births_of, born_at}
+use Rattle.run_laws.specs.BirthLaws.{Began, LiveIs, GoesSo}
+use Rattle.run_laws.specs.Data.{Turn, Happening}
+use Rattle.run_laws.specs.Data.happenings
+use Rattle.run_laws.specs.Facts.{Facts, place_at, flat, node_at, records_at, kept_after, with_boot, facts_after, facts_of}
+use Rattle.run_laws.specs.InTurnLaws.{post_of, packet_post, said_in, newest_exec, GoesOn}
+use Rattle.run_laws.specs.Lawful.{MayHappen, IsOwed, Comes, History, IsLawfulRun}
+use Rattle.run_laws.specs.RunEvents.{events_of}
+use Rattle.run_laws.proofs.AtNodeLemmas.{turn_here, turn_elsewhere}
+use Rattle.run_laws.proofs.BirthLemmas.{news_of}
+use Rattle.run_laws.proofs.BirthRunLemmas.{StandBorn, run_births, messages_are_of_neighbors, nodes_name_the_born}
+use Rattle.run_laws.proofs.BirthsStandLemmas.{all_unborn}
+use Rattle.run_laws.proofs.CodeLemmas.{AllNeed, codes_on}
+use Rattle.run_laws.proofs.CallTurnLemmas.{in_turn_goes}
+use Rattle.run_laws.proofs.EventsStandLemmas.{first_node, node_so, owned_so, run_stands, ids_name_their_node}
+use Rattle.run_laws.proofs.InTurnLemmas as turns
+use Rattle.run_laws.proofs.InTurnRunLemmas as calls
+use Rattle.run_laws.proofs.InTurnRunLemmas.{CallsOf, NodeCalls, CallsStand, each_both, heard_calls, run_calls}
+use Rattle.run_laws.proofs.InTurnStepLemmas.{Granted}
+use Rattle.run_laws.proofs.KidLemmas.{edge_of, parent_in, parent_of, kids_of, above_of}
+use Rattle.run_laws.proofs.LawfulLemmas.{serves}
+use Rattle.run_laws.proofs.ListLemmas.{all_weaker, all_map}
+use Rattle.run_laws.proofs.NeighborLemmas.{News}
+use Rattle.run_laws.proofs.OwnLemmas.{all_found}
+use Rattle.run_laws.proofs.RestLemmas.{RootIs, live_root, free_waits}
+use Rattle.run_laws.proofs.RestRunLemmas.{NodeRests, heard_rests, free_by, RootsStand, turned, run_roots}
+use Rattle.run_laws.proofs.RootLemmas.{SessionsFit}
+use Rattle.run_laws.proofs.SaidPostLemmas.{posts_back, said_after, unborn_silent}
+use Rattle.run_laws.proofs.StoredLemmas.{records_are_kept}
+use Rattle.tree_laws.proofs.PrefixLemmas.{so_far, f_at, one_on}
+use Rattle.site_laws.proofs.TimeLemmas.{Part, part_on, part_lawful, may_of, keep_on}
+use Rattle.place_laws.proofs.CatalogLemmas.{Extends, extends_same, catalog, catalog_on}
+use Rattle.place_laws.proofs.LineGrowLemmas.{not_true, line_grows}
+use Rattle.place_laws.proofs.LineLemmas.{is_calling, OpensLow, Line, Quiet, line_more}
+use Rattle.place_laws.proofs.LineStepLemmas.{LineOf, Lines, Fresh, Known, LeavesSo, lines_on}
+use Rattle.place_laws.proofs.NameLemmas.{OneCatalog, catalog_kept}
+use Rattle.place_laws.proofs.OpenSentLemmas.{opened_sent}
+use Rattle.place_laws.proofs.TurnTaleLemmas as tales
+
+module _ (t : History) (whole : IsLawfulRun t) where
+  -- ---- what is said of moments
+
+  -- A statement came to a branch: by an Exec of this number, or by a call of its session.
+  pub record GivenAt (b : BranchId) (call : ℕ) (s : Stmt) : Type 0 where
+    pub before : List Happening
+    pub turn : Turn
+    pub rest : List Happening
+    pub is : before ++ happenings.Turn turn ∷ rest ≡ t.trace
+    pub how : ((from : BranchId) × (given : ℕ) × (advice : Option Advice) × Came turn.input from b (kinds.Exec call given advice s)) ⊎ (IsCall turn.input b.session s × IsOfRows s × (turn.node ≡ b.node))
+
+  -- The same in one of the first happenings.
+  pub record GivenBy (hs : List Happening) (b : BranchId) (call : ℕ) (s : Stmt) : Type 0 where
+    pub given : GivenAt b call s
+    pub soon : length given.before + 1 ≤ length hs
+
+  by_more : (hs mid : List Happening) (b : BranchId) (call : ℕ) (s : Stmt) → GivenBy hs b call s → GivenBy (hs ++ mid) b call s
+  by_more hs mid b call s is = record { given = is.given; soon = omega (arith, is.soon, length-append hs mid) }
+
+  -- A branch was to call another by this number: the name in its statement was behind a link then, which led there, and no such call was made before.
+  pub record CalledAt (me c : BranchId) (number last : ℕ) (s goes : Stmt) : Type 0 where
+    pub given : GivenAt me last s
+    pub before : List Happening
+    pub part : Part t whole before
+    pub since : length given.before ≤ length before
+    pub link : List ℕ
+    pub table : List ℕ
+    pub named : named_by (catalog t whole before me.node) (ref_of s) ≡ Behind link table
+    pub leads : target_of (place_at t.places me.node) (catalog t whole before me.node) link ≡ Some c.node
+    pub unmade : newest_exec (said_in (f_at t before)) me c < number
+    pub passes : goes ≡ passed_on s table
+
+  -- the live branches of a node
+  abbrev pub LinesOf : List Happening → ℕ → Durable → List Post → Kept → Type 0
+  LinesOf hs n D said k = EachLive (λ l w. Line (place_at t.places n) D (GivenBy hs) CalledAt said (GoesOn k l) l.me l.edges w) k.lives k.works
+
+  abbrev pub LinesAt : List Happening → Facts → Type 0
+  LinesAt hs f = (n : ℕ) (k : Kept) → node_at f n ≡ Some k → LinesOf hs n (catalog t whole hs n) (said_in f) k
+
+  abbrev pub Stand : List Happening → Type 0
+  Stand hs = LinesAt hs (f_at t hs)
+
+  -- ---- a turn
+
+  module _ (hs : List Happening) (u : Turn) (rest : List Happening) (is : hs ++ happenings.Turn u ∷ rest ≡ t.trace) (now : Stand hs) where
+    abbrev hs1 : List Happening
+    hs1 = hs ++ happenings.Turn u ∷ []
+
+    part0 : Part t whole hs
+    part0 = record { rest = happenings.Turn u ∷ rest; is = is }
+
+    part1 : Part t whole hs1
+    part1 = part_on t whole hs (happenings.Turn u) rest is
+
+    abbrev s0 : History
+    s0 = so_far t hs
+
+    lawful0 : IsLawfulRun s0
+    lawful0 = part_lawful t whole hs part0
+
+    abbrev f0 : Facts
+    f0 = f_at t hs
+
+    abbrev f1 : Facts
+    f1 = facts_after t.places t.commands f0 (happenings.Turn u)
+
+    abbrev may : MayHappen t.places t.commands f0 (happenings.Turn u)
+    may = may_of t whole hs (happenings.Turn u) rest is
+
+    abbrev k : Kept
+    k = may.0
+
+    abbrev p : Place
+    p = place_at t.places u.node
+
+    abbrev d : Deed
+    d = deed_of p k u.input
+
+    abbrev said : List Post
+    said = said_in f0
+
+    abbrev bs0 : List Born
+    bs0 = births_of s0
+
+    abbrev D0 : Durable
+    D0 = catalog t whole hs u.node
+
+    stand : StandBorn t.places t.commands t.of_a_script.each f0 (events_of s0) bs0
+    stand = run_births s0 lawful0
+
+    roots : RootsStand t.places t.commands t.of_a_script.each f0
+    roots = run_roots s0 lawful0
+
+    stands : CallsStand f0
+    stands = run_calls s0 lawful0
+
+    number : p.number ≡ u.node
+    number = tales.number t whole hs u rest is
+
+    abbrev Here : BranchId → Type 0
+    Here = calls.Here t.places t.commands t.of_a_script.each f0 (events_of s0) bs0 stand roots stands u k may.1
+
+    abbrev May : BranchId → Type 0
+    May = calls.May t.places t.commands t.of_a_script.each f0 (events_of s0) bs0 stand roots stands u k may.1
+
+    rests : NodeRests k
+    rests = subst (λ o. IfSome o NodeRests) may.1.up (roots u.node)
+
+    rests_after : NodeRests d.after
+    unfolding turn_of
+    rests_after = turned t.places t.commands t.of_a_script.each f0 (events_of s0) bs0 stand roots u k may.1
+
+    step : Step p u.input (heard k u.input) d
+    step = (serves t.places f0 u k may.1).step
+
+    heard_sessions : (input : Input) → (heard k input).sessions ≡ k.sessions
+    heard_sessions (inputs.Message m) = refl
+    heard_sessions (inputs.Call n s) = refl
+    heard_sessions (inputs.GiveUp n) = refl
+    heard_sessions inputs.Reco = refl
+
+    codes : AllNeed k.sessions d.after.sessions
+    codes = subst (λ ss. AllNeed ss d.after.sessions) (heard_sessions u.input) (codes_on p u.input step)
+
+    -- a root that may go on after the turn needed no rollback before it
+    goes_before : (b : BranchId) (l : Live) → live_at k b ≡ Some l → (l.parent ≡ None → May l.me) → GoesOn k l
+    goes_before b l live goes none =
+        let may_go : May l.me = goes none in
+        let before : (session_at k.sessions l.me.session).root ≡ Some l.me = (live_root k rests.1 b l live none).root in
+        let me : may_go.0.me ≡ l.me = item_is live_id d.after.lives l.me may_go.0 may_go.1 in
+        let after : (session_at d.after.sessions l.me.session).root ≡ Some l.me
+        = subst (λ c. (session_at d.after.sessions c.session).root ≡ Some c) me (live_root d.after rests_after.1 l.me may_go.0 may_go.1 may_go.2).root in
+        codes l.me.session l.me before after may_go.3
+
+    abbrev Begun : Live → Work → Type 0
+    Begun = turns.Begun (edge_of bs0) (parent_of bs0) May Here u.input said
+
+    begun : EachLive Begun (heard k u.input).lives (heard k u.input).works
+    begun =
+        heard_calls Begun k u.input
+        (each_same (λ l w. CallsOf said k l w × RootIs k.sessions l w) Begun k.lives k.works
+        (each_both (CallsOf said k) (RootIs k.sessions) k.lives k.works (subst (λ o. IfSome o (NodeCalls said)) may.1.up (stands.nodes u.node)) rests.1)
+        (λ y v live any was. record {
+          turn = in_turn_goes (GoesOn k y) (y.parent ≡ None → May y.me) said y.me y.parent (children_of y) v (goes_before y.me y live) was.0;
+          kids = kids_of bs0 y (all_found (LiveIs (Began bs0)) live_id k.lives y.me y (nodes_name_the_born s0 lawful0 u.node k may.1.up).0 live);
+          above = above_of bs0 y (all_found (LiveIs (Began bs0)) live_id k.lives y.me y (nodes_name_the_born s0 lawful0 u.node k may.1.up).0 live);
+          idle = λ none s call. (free_waits (session_at k.sessions y.me.session).call y.phase v.going (was.1 none).waits (free_by f0 k u.node y.me.session (Some s) u.took (subst (λ i. Comes f0 k u.node i u.took) call may.1.comes))).1;
+          here = all_found (λ l. l.me.node ≡ u.node) live_id k.lives y.me y (ids_name_their_node s0 lawful0 u.node k may.1.up).lives live ∙ sym number;
+        }))
+
+    abbrev R : Type 0
+    R = turns.Received (edge_of bs0) (parent_of bs0) May Here u.input said
+
+    received : R
+    received = calls.received t.places t.commands t.of_a_script.each f0 (events_of s0) bs0 stand roots stands u k may.1
+
+    granted : Granted (edge_of bs0) (parent_of bs0) May Here u.input said received d
+    unfolding received
+    granted = calls.granted t.places t.commands t.of_a_script.each f0 (events_of s0) bs0 stand roots stands u k may.1
+
+    -- a branch that has not begun sent no Open
+    unopened : (b : BranchId) → born_at bs0 b ≡ None → OpensLow p D0 (GivenBy hs1) CalledAt said b 0
+    unopened b none =
+        all_map (λ (x : Post). x.from ≡ b → (edge : ℕ) (root : BranchId) (depth : ℕ) → x.kind ≡ kinds.Open edge root depth → edge ≤ 0) packet_post f0.net.packets
+        (all_weaker _ _ (λ x goes from edge root depth kind.
+        (let opens : GoesSo (Began bs0) x.msg.from x.msg.to (kinds.Open edge root depth) = subst (GoesSo (Began bs0) x.msg.from x.msg.to) kind goes in
+        let at : born_at bs0 b ≡ Some opens.0 = subst (λ c. born_at bs0 c ≡ Some opens.0) (opens.2 ∙ from) opens.1 in
+        absurd (cc (at, none)))) f0.net.packets (messages_are_of_neighbors s0 lawful0))
+
+    news : News (Fresh (edge_of bs0) (parent_of bs0) May Here u.input said received p D0 (GivenBy hs1) CalledAt) p u.input (heard k u.input)
+    news =
+        news_of _ p k u.input
+        (all_weaker (λ (y : Born). born_at bs0 y.me ≡ None) _ (λ y none. ((unborn_silent bs0 stand.1.trees y.me none f0.net.packets stand.1.said, ap parent_in none), unopened y.me none)) _
+        (all_unborn t.places t.commands t.of_a_script.each f0 (events_of s0) bs0 u k stand.0.1 stand.0.0.even (node_so t.places t.commands t.of_a_script.each f0 (events_of s0) stand.0)
+        (owned_so t.places t.commands t.of_a_script.each f0 (events_of s0) stand.0) may.1 number stand.1))
+
+    long : length hs + 1 ≤ length hs1
+    long = let it : length hs1 ≡ length hs + 1 = length-append hs (happenings.Turn u ∷ []) in omega (arith, it)
+
+    given_so : {j : Kept} {x : Branch} {s : Stmt} {given : ℕ} → SessionsFit j → Here x.live.me → Asked j u.input x s given → GivenBy hs1 x.live.me x.work.came.last_call s
+    given_so ss here (steps.By_call n x s call rows has code live) =
+        record { given = record { before = hs; turn = u; rest = rest; is = is; how = inr (subst (λ m. IsCall u.input m s) (sym (ss.roots.each n x.live.me has)) call, rows, sym (here ∙ number)) }; soon = long }
+    given_so ss here (steps.By_exec x from call given advice s came live runs) = record { given = record { before = hs; turn = u; rest = rest; is = is; how = inl (from, given, advice, came) }; soon = long }
+
+    calls_so : (me c : BranchId) (n last : ℕ) (s : Stmt) (link table : List ℕ) → Here me → GivenBy hs1 me last s → named_by D0 (ref_of s) ≡ Behind link table → target_of p D0 link ≡ Some c.node → newest_exec said me c < n → CalledAt me c n last s (passed_on s table)
+    calls_so me c n last s link table here gave named leads unmade =
+        let at : u.node ≡ me.node = sym (here ∙ number) in
+        record {
+          given = gave.given;
+          before = hs;
+          part = part0;
+          since = (let it : length hs1 ≡ length hs + 1 = length-append hs (happenings.Turn u ∷ []) in omega (arith, it, gave.soon));
+          link = link;
+          table = table;
+          named = subst (λ m. named_by (catalog t whole hs m) (ref_of s) ≡ Behind link table) at named;
+          leads = subst (λ m. target_of (place_at t.places m) (catalog t whole hs m) link ≡ Some c.node) at leads;
+          unmade = unmade;
+          passes = refl;
+        }
+
+    known : Known (edge_of bs0) (parent_of bs0) May Here u.input said received p D0 (GivenBy hs1) CalledAt
+    known = record {
+      given = given_so;
+      calls = calls_so;
+      opened = λ from to edge strength came. (let o = opened_sent t whole hs u rest is from to edge strength came in (o.number, o.sent, o.at, o.from, o.root, o.depth, o.kind, o.to));
+    }
+
+    cat : OneCatalog (heard k u.input).stored.durable D0
+    cat = subst (λ s. OneCatalog s.durable D0) (sym (tales.heard_stored t whole hs u rest is u.input)) (catalog_kept k (records_at f0 u.node) (records_are_kept s0 lawful0 u.node k may.1.up))
+
+    -- as the turn begins
+    lines0 : Lines (edge_of bs0) (parent_of bs0) May Here u.input said received p D0 (GivenBy hs1) CalledAt said (heard k u.input)
+    lines0 =
+        heard_calls (LineOf (edge_of bs0) (parent_of bs0) May Here u.input said received p D0 (GivenBy hs1) CalledAt said) k u.input
+        (each_same (λ l w. Line p D0 (GivenBy hs) CalledAt said (GoesOn k l) l.me l.edges w) (LineOf (edge_of bs0) (parent_of bs0) May Here u.input said received p D0 (GivenBy hs1) CalledAt said) k.lives k.works (now u.node k may.1.up)
+        (λ y v live any was. line_grows p D0 D0 (extends_same D0) (GivenBy hs) (GivenBy hs1) (by_more hs (happenings.Turn u ∷ [])) CalledAt said (GoesOn k y) (y.parent ≡ None → May y.me) (goes_before y.me y live) y.me y.edges v was))
+
+    lines1 : LeavesSo (edge_of bs0) (parent_of bs0) May Here u.input said received p D0 (GivenBy hs1) CalledAt d.after.lives d.after.works d.says
+    lines1 = lines_on (edge_of bs0) (parent_of bs0) May Here u.input said received p D0 (GivenBy hs1) CalledAt known (λ b at. at) step granted (heard_rests k u.input rests).0 news cat begun lines0
+
+    -- ---- after the turn
+
+    catalog_is : (n : ℕ) → Extends (catalog t whole hs n) (catalog t whole hs1 n)
+    catalog_is n = catalog_on t whole n hs (happenings.Turn u ∷ []) part1
+
+    says1 : said_in f1 ≡ said ++ map post_of u.sent
+    says1 = said_after t.places t.commands f0 (happenings.Turn u)
+
+    sent_says : u.cut ≡ false → map post_of u.sent ≡ d.says
+    unfolding turn_of
+    sent_says uncut = ap (map post_of) (subst (λ c. IsOwed p k u.input u.wrote u.sent c) uncut may.1.owed).1 ∙ posts_back d.after.clock d.says
+
+    own : u.cut ≡ false → (j : Kept) → node_at f1 u.node ≡ Some j → LinesOf hs1 u.node (catalog t whole hs1 u.node) (said_in f1) j
+    unfolding turn_of
+    own uncut j up =
+        let says : said_in f1 ≡ said ++ d.says = says1 ∙ ap (λ xs. said ++ xs) (sent_says uncut) in
+        let after_up : node_at f1 u.node ≡ Some d.after = (turn_here t.places t.commands f0 stand.0.0.even u k may.1.up).0 ∙ ap (λ c. kept_after c (Some (turn_of p k u.input))) uncut in
+        let both : Some d.after ≡ Some j = sym after_up ∙ up in
+        let one : d.after ≡ j = cc in
+        subst (LinesOf hs1 u.node (catalog t whole hs1 u.node) (said_in f1)) one (subst (λ xs. LinesOf hs1 u.node (catalog t whole hs1 u.node) xs d.after) (sym says)
+        (each_same (LineOf (edge_of bs0) (parent_of bs0) May Here u.input said received p D0 (GivenBy hs1) CalledAt (said ++ d.says)) _ d.after.lives d.after.works lines1.0
+        (λ y v live any was. line_grows p D0 (catalog t whole hs1 u.node) (catalog_is u.node) (GivenBy hs1) (GivenBy hs1) (λ b call s is. is) CalledAt (said ++ d.says) (y.parent ≡ None → May y.me) (GoesOn d.after y) (λ goes none. (y, live, none, goes none)) y.me y.edges v was)))
+
+    other : (n : ℕ) (j : Kept) → u.node ≢ n → node_at f1 n ≡ Some j → LinesOf hs1 n (catalog t whole hs1 n) (said_in f1) j
+    other n j apart up =
+        let before : node_at f0 n ≡ Some j = sym (turn_elsewhere t.places t.commands f0 (run_stands s0 lawful0).0.even u n apart).0 ∙ up in
+        subst (λ xs. LinesOf hs1 n (catalog t whole hs1 n) xs j) (sym says1)
+        (each_same (λ l w. Line (place_at t.places n) (catalog t whole hs n) (GivenBy hs) CalledAt said (GoesOn j l) l.me l.edges w) _ j.lives j.works (now n j before)
+        (λ y v live any was. line_more (place_at t.places n) (catalog t whole hs1 n) (GivenBy hs1) CalledAt said (map post_of u.sent) y.me (GoesOn j y) y.edges v (far y.me (λ same. apart (sym same ∙ own_node n j before y live)))
+        (line_grows (place_at t.places n) (catalog t whole hs n) (catalog t whole hs1 n) (catalog_is n) (GivenBy hs) (GivenBy hs1) (by_more hs (happenings.Turn u ∷ [])) CalledAt said (GoesOn j y) (GoesOn j y) (λ goes. goes) y.me y.edges v was)))
+      where
+        own_node : (n : ℕ) (j : Kept) → node_at f0 n ≡ Some j → (y : Live) → live_at j y.me ≡ Some y → y.me.node ≡ n
+        own_node n j before y live = all_found (λ l. l.me.node ≡ n) live_id j.lives y.me y (ids_name_their_node s0 lawful0 n j before).lives live
+
+        -- a branch of another node says nothing in the turn
+        far : (b : BranchId) → b.node ≢ u.node → Quiet b (map post_of u.sent)
+        far b elsewhere = by u.cut refl
+          where
+            here_quiet : (xs : List Post) → AllByRecursion (λ (x : Post). is_calling x.kind ≡ true → Here x.from) xs → Quiet b xs
+            here_quiet xs all = all_weaker (λ (x : Post). is_calling x.kind ≡ true → Here x.from) (λ (x : Post). x.from ≡ b → is_calling x.kind ≡ false)
+                (λ x here from. not_true (is_calling x.kind) (λ calls. elsewhere (sym (ap (λ (c : BranchId). c.node) from) ∙ (here calls ∙ number)))) xs all
+
+            by : (cut : Bool) → u.cut ≡ cut → Quiet b (map post_of u.sent)
+            by true cut = subst (λ ms. Quiet b (map post_of ms)) (sym (subst (λ c. IsOwed p k u.input u.wrote u.sent c) cut may.1.owed).1) tt
+            by false uncut = subst (Quiet b) (sym (sent_says uncut)) (here_quiet d.says lines1.1)
+
+    lines_then : LinesAt hs1 f1
+    lines_then n j up = elim (cases_eq u.node n) [
+      | inl here ↦ subst (λ m. LinesOf hs1 m (catalog t whole hs1 m) (said_in f1) j) here (by u.cut refl (subst (λ m. node_at f1 m ≡ Some j) (sym here) up))
+      | inr apart ↦ other n j apart up
+    ]
+      where
+        by : (cut : Bool) → u.cut ≡ cut → node_at f1 u.node ≡ Some j → LinesOf hs1 u.node (catalog t whole hs1 u.node) (said_in f1) j
+        by false uncut there = own uncut j there
+        by true cut there =
+            let none : node_at f1 u.node ≡ None = (turn_here t.places t.commands f0 stand.0.0.even u k may.1.up).0 ∙ ap (λ c. kept_after c (Some (turn_of p k u.input))) cut in absurd (cc (none, there))
+
+    pub turn_stands : Stand hs1
+    turn_stands = subst (LinesAt hs1) (sym (one_on t hs (happenings.Turn u))) lines_then
+
+  -- ---- other happenings
+
+  start_lines : (hs : List Happening) (n : ℕ) (D : Durable) (xs : List Post) (rs : List RedoRecord) → LinesOf hs n D xs (start_of rs)
+  unfolding start_of
+  start_lines hs n D xs rs = none_live _
+
+  module _ (hs : List Happening) (h : Happening) (rest : List Happening) (is : hs ++ h ∷ rest ≡ t.trace) (now : Stand hs) where
+    -- nothing is sent, and the nodes that are up were so or have just started
+    same_stands : (g : Facts) → facts_after t.places t.commands (f_at t hs) h ≡ g → said_in g ≡ said_in (f_at t hs) ++ [] → ((n : ℕ) (j : Kept) → node_at g n ≡ Some j → (node_at (f_at t hs) n ≡ Some j) ⊎ ((D : Durable) (xs : List Post) → LinesOf (hs ++ h ∷ []) n D xs j)) → Stand (hs ++ h ∷ [])
+    same_stands g facts says still n j up =
+        let fact : f_at t (hs ++ h ∷ []) ≡ g = one_on t hs h ∙ facts in
+        let said : said_in (f_at t (hs ++ h ∷ [])) ≡ said_in (f_at t hs) = ap said_in fact ∙ (says ∙ append-nil (said_in (f_at t hs))) in
+        let grows : Extends (catalog t whole hs n) (catalog t whole (hs ++ h ∷ []) n) = catalog_on t whole n hs (h ∷ []) (part_on t whole hs h rest is) in
+        elim (still n j (subst (λ f. node_at f n ≡ Some j) fact up)) [
+          | inl was ↦ subst (λ xs. LinesOf (hs ++ h ∷ []) n (catalog t whole (hs ++ h ∷ []) n) xs j) (sym said)
+              (each_same (λ l w. Line (place_at t.places n) (catalog t whole hs n) (GivenBy hs) CalledAt (said_in (f_at t hs)) (GoesOn j l) l.me l.edges w) _ j.lives j.works (now n j was)
+              (λ y v live any it. line_grows (place_at t.places n) (catalog t whole hs n) (catalog t whole (hs ++ h ∷ []) n) grows (GivenBy hs) (GivenBy (hs ++ h ∷ [])) (by_more hs (h ∷ [])) CalledAt (said_in (f_at t hs)) (GoesOn j y) (GoesOn j y) (λ goes. goes) y.me y.edges v it))
+          | inr new ↦ new (catalog t whole (hs ++ h ∷ []) n) (said_in (f_at t (hs ++ h ∷ [])))
+        ]
+
+  set_still : (f : Facts) (m n : ℕ) (o : Option Kept) (j : Kept) → flat (numbered (set_numbered f.nodes m o) n) ≡ Some j → (node_at f n ≡ Some j) ⊎ (o ≡ Some j)
+  set_still f m n o j up = elim (set_or_before f.nodes m n o) [
+    | inl before ↦ inl (sym (ap flat before) ∙ up)
+    | inr new ↦ inr (sym (ap flat new.1) ∙ up)
+  ]
+
+  stand_on : (hs : List Happening) (h : Happening) (rest : List Happening) → hs ++ h ∷ rest ≡ t.trace → Stand hs → Stand (hs ++ h ∷ [])
+  unfolding facts_after
+  stand_on hs (happenings.Turn u) rest is now = turn_stands hs u rest is now
+  stand_on hs (happenings.Stopped m) rest is now =
+      same_stands hs (happenings.Stopped m) rest is now _ refl (said_after t.places t.commands (f_at t hs) (happenings.Stopped m))
+      (λ n j up. elim (set_still (f_at t hs) m n None j up) [ inl was ↦ inl was | inr new ↦ absurd cc ])
+  stand_on hs (happenings.Started m boot) rest is now =
+      same_stands hs (happenings.Started m boot) rest is now _ refl (said_after t.places t.commands (f_at t hs) (happenings.Started m boot))
+      (λ n j up. elim (set_still (f_at t hs) m n (Some (start_of (with_boot (f_at t hs) m boot))) j up) [
+        | inl was ↦ inl was
+        | inr new ↦ inr (λ D xs. (let it : Some (start_of (with_boot (f_at t hs) m boot)) ≡ Some j = new in let one : start_of (with_boot (f_at t hs) m boot) ≡ j = cc in subst (LinesOf (hs ++ happenings.Started m boot ∷ []) n D xs) one (start_lines (hs ++ happenings.Started m boot ∷ []) n D xs (with_boot (f_at t hs) m boot))))
+      ])
+  stand_on hs (happenings.Begun c) rest is now = same_stands hs (happenings.Begun c) rest is now _ refl (said_after t.places t.commands (f_at t hs) (happenings.Begun c)) (λ n j up. inl up)
+  stand_on hs (happenings.Cut a b) rest is now = same_stands hs (happenings.Cut a b) rest is now _ refl (said_after t.places t.commands (f_at t hs) (happenings.Cut a b)) (λ n j up. inl up)
+  stand_on hs (happenings.Join a b) rest is now = same_stands hs (happenings.Join a b) rest is now _ refl (said_after t.places t.commands (f_at t hs) (happenings.Join a b)) (λ n j up. inl up)
+  stand_on hs (happenings.Lost x) rest is now = same_stands hs (happenings.Lost x) rest is now _ refl (said_after t.places t.commands (f_at t hs) (happenings.Lost x)) (λ n j up. inl up)
+
+  made_lines : (n : ℕ) (D : Durable) (xs : List Post) → LinesOf [] n D xs made
+  unfolding start_of
+  made_lines n D xs = none_live _
+
+  first_stand : Stand []
+  unfolding facts_of
+  first_stand n k up =
+      subst (λ o. IfSome o (LinesOf [] n (catalog t whole [] n) (said_in (f_at t [])))) up
+      (first_node (λ o. IfSome o (LinesOf [] n (catalog t whole [] n) (said_in (f_at t [])))) tt (made_lines n (catalog t whole [] n) (said_in (f_at t []))) t.places n)
+
+  pub stand_at : (hs : List Happening) → Part t whole hs → Stand hs
+  stand_at hs part = keep_on t whole Stand stand_on [] hs part first_stand

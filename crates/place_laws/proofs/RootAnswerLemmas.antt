@@ -1,0 +1,137 @@
+-- In every lawful run a call that ends on a Reply, and not with a refusal, ends with the answer of the run that the Reply came from, to which the call led.
+use Rattle.std.proofs.Common.{◌≡◌, ℕ, ◌&&◌, Bool, true, false, if◌then◌else◌, is_none, List, [], ◌∷◌, ◌++◌, Option, Some, None, refl, sym, ap, subst, ◌∙◌}
+use Rattle.node_rules.specs.Data.{Answer, BranchId, Edge, Live, Msg, Place}
+use Rattle.node_rules.specs.Data.answers
+use Rattle.node_rules.specs.Data.inputs
+use Rattle.node_rules.specs.Data.kinds
+use Rattle.node_rules.specs.declared.session.Finished.{Finished}
+use Rattle.node_rules.specs.Inputs.{Came}
+use Rattle.node_rules.specs.Kept.{Kept, Branch, Outcome, live_id, branch_at}
+use Rattle.node_rules.specs.Calls.{answer_ends, reply_of, reply_by, hears_reply, heard_answer, is_gone}
+use Rattle.node_rules.specs.Refusals.{dtx}
+use Rattle.node_rules.specs.Turn.{Stand, Is_live, Is_kept, Is_gone, stand_of, reply_turn, turn_of, heard, deed_of}
+use Rattle.node_rules.specs.Words.{one}
+use Rattle.node_rules.proofs.StandLemmas.{StandsSo, stands_so, live_so}
+use Rattle.node_rules.proofs.Steps.{Is_answered}
+use Rattle.run_laws.specs.Branches.{Run, origin_at}
+use Rattle.run_laws.specs.Data.{Took, Turn, Happening}
+use Rattle.run_laws.specs.Data.happenings
+use Rattle.run_laws.specs.Facts.{place_at, served, outcome_at}
+use Rattle.run_laws.specs.Lawful.{MayHappen, History, IsLawfulRun}
+use Rattle.run_laws.specs.Runs.{is_accepted}
+use Rattle.run_laws.proofs.EventsStandLemmas.{ids_name_their_node}
+use Rattle.run_laws.proofs.OwnLemmas.{all_found}
+use Rattle.tree_laws.proofs.PrefixLemmas.{so_far, f_at}
+use Rattle.site_laws.proofs.TimeLemmas.{Part, part_lawful, may_of}
+use Rattle.trail_laws.proofs.MomentLemmas.{tr_at, by_moment}
+use Rattle.place_laws.specs.LeadLaws.{AnsweredBy, CallAnsweredBy, IsToldFor, EndsAsReplied, CallsEndAsReplied}
+use Rattle.trail_laws.proofs.SeenLemmas.{begun}
+use Rattle.place_laws.proofs.BroughtLemmas.{reply_brings}
+use Rattle.place_laws.proofs.RootToldLemmas.{root_brought}
+use Rattle.place_laws.proofs.LeadLemmas.{answers_at, root_heard}
+use Rattle.place_laws.proofs.SentLemmas.{came_sent}
+
+-- an accepted answer is what the Reply said
+heard_same : (l : Live) (link : List ℕ) (said a : Answer) → heard_answer l link said ≡ a → is_accepted (Some a) ≡ true → said ≡ a
+heard_same l link said a is good = by (is_none l.parent && is_gone said) is
+  where
+    by : (q : Bool) → (if q then answers.Refused (dtx 8 (one link)) else said) ≡ a → said ≡ a
+    by true at = absurd (let none : is_accepted (Some a) ≡ false = ap (λ x. is_accepted (Some x)) (sym at) in cc (none, good))
+    by false at = at
+
+module _ (t : History) (whole : IsLawfulRun t) (hs : List Happening) (u : Turn) (rest : List Happening) (is : hs ++ happenings.Turn u ∷ rest ≡ t.trace)
+    (took : Took) (took_is : u.took ≡ Some took) (from to : BranchId) (call : ℕ) (weight : Option ℕ) (count : ℕ) (said : Answer) (came : Came u.input from to (kinds.Reply call weight count said))
+    (session : ℕ) (a : Answer) (good : is_accepted (Some a) ≡ true) where
+  part0 : Part t whole hs
+  part0 = record { rest = happenings.Turn u ∷ rest; is = is }
+
+  lawful0 : IsLawfulRun (so_far t hs)
+  lawful0 = part_lawful t whole hs part0
+
+  abbrev may : MayHappen t.places t.commands (f_at t hs) (happenings.Turn u)
+  may = may_of t whole hs (happenings.Turn u) rest is
+
+  abbrev k : Kept
+  k = may.0
+
+  abbrev m : Msg
+  m = record { from = from; to = to; scn = came.scn; kind = kinds.Reply call weight count said }
+
+  abbrev kk : Kept
+  kk = heard k (inputs.Message m)
+
+  abbrev Result : Type 0
+  Result = (r : Run) × (origin_at (tr_at t hs) took.number ≡ Some r) × CallAnsweredBy t u.node session a r
+
+  module _ (x : Branch) (me : x.live.me ≡ to) (found : branch_at kk x.live.me ≡ Some x) (i : ℕ) (e : Edge) (waits : reply_of x from call ≡ Some (i, e)) (top : x.live.parent ≡ None)
+      (its_session : x.live.me.session ≡ session) (answer : heard_answer (hears_reply x i weight count e).live e.link said ≡ a) where
+    same_answer : said ≡ a
+    same_answer = heard_same (hears_reply x i weight count e).live e.link said a answer good
+
+    h : Is_answered (heard k u.input) u.input x weight count said i e
+    h = record {
+      from = from;
+      call = call;
+      came = subst (λ b. Came u.input from b (kinds.Reply call weight count said)) (sym me) came;
+      live = subst (λ input. branch_at (heard k input) x.live.me ≡ Some x) (sym came.is) found;
+      waits = waits;
+    }
+
+    its_node : x.live.me.node ≡ u.node
+    its_node = all_found (λ l. l.me.node ≡ u.node) live_id k.lives x.live.me x.live (ids_name_their_node (so_far t hs) lawful0 u.node k may.1.up).lives (live_so kk x.live.me x found)
+
+    root_result : Result
+    unfolding h
+    root_result =
+        let sent = came_sent (f_at t hs) k u.node u.input u.took may.1.comes from to (kinds.Reply call weight count said) came in
+        let both : Some took ≡ Some sent.0 = sym took_is ∙ sent.1 in
+        let one_took : sent.0 ≡ took = cc in
+        let was = (answers_at t whole hs part0).replies sent.0.number sent.2 sent.3 call weight count said sent.5 (ap (λ y. is_accepted (Some y)) same_answer ∙ good) in
+        let ans : AnsweredBy t from call said was.0 = subst (λ b. AnsweredBy t b call said was.0) sent.4 was.2 in
+        let heard_it : CallAnsweredBy t x.live.me.node x.live.me.session said was.0 = root_heard t whole hs u rest is k may.1.up x weight count said i e h was.0 sent.0.number was.1 ans top in (
+          was.0,
+          subst (λ (y : Took). origin_at (tr_at t hs) y.number ≡ Some was.0) one_took was.1,
+          subst (λ n. CallAnsweredBy t n session a was.0) its_node (subst (λ s. CallAnsweredBy t x.live.me.node s a was.0) its_session (subst (λ y. CallAnsweredBy t x.live.me.node x.live.me.session y was.0) same_answer heard_it)),
+        )
+
+  -- the call that ends
+  first_ended : (x : Branch) (i : ℕ) (e : Edge) (o : Option BranchId) (more : List Finished) → answer_ends (hears_reply x i weight count e).live (heard_answer (hears_reply x i weight count e).live e.link said) o ≡ (record { session = session; answer = a }) ∷ more
+      → (o ≡ None) × (x.live.me.session ≡ session) × (heard_answer (hears_reply x i weight count e).live e.link said ≡ a)
+  first_ended x i e None more ended =
+      let it : (record { session = x.live.me.session; answer = heard_answer (hears_reply x i weight count e).live e.link said }) ∷ [] ≡ (record { session = session; answer = a }) ∷ more = ended in
+      let one : record { session = x.live.me.session; answer = heard_answer (hears_reply x i weight count e).live e.link said } ≡ record { session = session; answer = a } = cc in
+      (refl, ap (λ (y : Finished). y.session) one, ap (λ (y : Finished). y.answer) one)
+  first_ended x i e (Some up) more ended = absurd cc
+
+  by_reply : (x : Branch) → x.live.me ≡ to → branch_at kk x.live.me ≡ Some x → (o : Option (ℕ × Edge)) → reply_of x from call ≡ o → (more : List Finished) → (reply_by kk x weight count said o).ended ≡ (record { session = session; answer = a }) ∷ more → Result
+  by_reply x me found None waits more ended = absurd cc
+  by_reply x me found (Some ie) waits more ended =
+      let first = first_ended x ie.0 ie.1 x.live.parent more ended in root_result x me found ie.0 ie.1 waits first.0 first.1 first.2
+
+  by_stand : (st : Stand) → StandsSo kk to st → (more : List Finished) → (reply_turn kk from call weight count said st).ended ≡ (record { session = session; answer = a }) ∷ more → Result
+  by_stand (Is_live x) so more ended = by_reply x so.0 so.1 (reply_of x from call) refl more ended
+  by_stand (Is_kept s) so more ended = absurd cc
+  by_stand Is_gone so more ended = absurd cc
+
+  pub ends_there : (more : List Finished) (o : Outcome) → outcome_at t.places (f_at t hs) u ≡ Some o → o.ended ≡ (record { session = session; answer = a }) ∷ more
+      → (r : Run) × (origin_at (tr_at t hs) took.number ≡ Some r) × CallAnsweredBy t u.node session a r × (u.cut ≡ false → IsToldFor t.places (f_at t hs) (tr_at t hs) u session r)
+  unfolding turn_of
+  ends_there more o outcome ended =
+      let p : Place = place_at t.places u.node in
+      let both : Some (turn_of p k u.input) ≡ Some o = sym (ap (served p u.input) may.1.up) ∙ outcome in
+      let one_outcome : turn_of p k u.input ≡ o = cc in
+      let its : (deed_of p k u.input).ended ≡ (record { session = session; answer = a }) ∷ more = ap (λ (y : Outcome). y.ended) one_outcome ∙ ended in
+      let found : Result = by_stand (stand_of kk to) (stands_so kk to) more (ap (λ input. (deed_of p k input).ended) (sym came.is) ∙ its) in (
+        found.0,
+        found.1,
+        found.2,
+        (λ uncut s at. root_brought t.places (f_at t hs) (tr_at t hs) u o outcome session a more ended s at
+            ∙ (reply_brings (f_at t hs) (begun t.places (f_at t hs) (tr_at t hs) u) u uncut from to call weight count said came took took_is ∙ found.1)),
+      )
+
+pub calls_end_as_replied : CallsEndAsReplied
+calls_end_as_replied t lawful = by_moment t (EndsAsReplied t) each
+  where
+    each : (hs : List Happening) (h : Happening) (rest : List Happening) → hs ++ h ∷ rest ≡ t.trace → EndsAsReplied t t.places (f_at t hs) (tr_at t hs) h
+    each hs (happenings.Turn u) rest is = λ o outcome took took_is from to call weight count said came session a more ended good. ends_there t lawful hs u rest is took took_is from to call weight count said came session a good more o outcome ended
+    each hs _ rest is = tt

@@ -1,0 +1,3 @@
+pub mod ReplyLaws
+pub mod LeadLaws
+pub mod TriedPlace

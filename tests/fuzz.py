@@ -1,0 +1,222 @@
+#!/usr/bin/env python3
+"""Runs random scripts in which anything may happen, and tests what holds of every run.
+
+    tests/fuzz.py [--count N] [--seed S] [--jobs J] [PROGRAM]
+
+N scripts (1,000 where it is left out) are made from seed S on, J at a time, and PROGRAM is the proved program where it is left
+out, which ./prove builds. fuzz_scripts.py makes them: one to five nodes, transactions over links, and among them disk orders,
+crash-test comments, lost messages, stops, forced outcomes and so on, at random places. Behind each script the network is
+joined, nothing is held, and all is recovered. Of each run is asked that
+
+    - it ends within a minute, with status 0;
+    - every command has an answer, and every call that was waiting has a second one;
+    - the book is true: branches end as their transaction was decided, and by the number of that decision; a mixed outcome
+      is told exactly where a forced one differs from the decision; the numbers at a node never fall, and each decision has a
+      new one;
+    - the records on each disk are those of which the book tells, in that order;
+    - once all is recovered, no branch is in doubt and none is collecting, and the rows at each node are those that the
+      committed changes on its disk leave; they stay so when every node is stopped and started again.
+
+A script on which something fails is written to fuzz_SEED.dtx, and its line says what. The last line is `N runs, M failed`; the
+exit status is 1 where one failed.
+"""
+
+import argparse
+import multiprocessing
+import os
+import pathlib
+import sys
+from collections import defaultdict
+from functools import partial
+
+from fuzz_scripts import DBA, TABLE, Writer
+from records import BOOKED, rows_of
+from runs import PROGRAM, Unended, disk_of, records_of, run
+
+ROUNDS = 12  # of recovery: for every order of a script that may still strike on the way
+
+
+class Plan:
+    """The commands of a run, and the numbers of those whose answers are asked for."""
+
+    def __init__(self, seed):
+        writer = Writer(seed)
+        nodes = writer.nodes
+        self.nodes = nodes
+        self.commands = writer.script()
+        self.add([f"JOIN {one} {other}" for one in nodes for other in nodes if one < other])
+        self.add(["HOLD OFF"])
+        enable = f"SESSION {DBA}: ALTER SYSTEM ENABLE DISTRIBUTED RECOVERY"
+        recovered = [f"START {node}" for node in nodes] + [f"AT {node} {enable}" for node in nodes]
+        self.add((recovered + [f"RECO {node}" for node in nodes]) * ROUNDS)
+        self.pending = self.add([f"SHOW PENDING {node}" for node in nodes])
+        self.disks = self.add([f"SHOW DISK {node}" for node in nodes])
+        self.book = self.add(["SHOW BOOK"])[0]
+        queries = [f"AT {node} SESSION {DBA}: SELECT K, V FROM {TABLE}" for node in nodes]
+        self.rows = self.add(queries)
+        # an order that is left strikes one START, or two
+        self.add([f"STOP {node}" for node in nodes] + [f"START {node}" for node in nodes] * 3)
+        self.later_rows = self.add(queries)
+
+    def add(self, commands):
+        """Adds commands, and gives their numbers."""
+        start = len(self.commands) + 1
+        self.commands += commands
+        return range(start, len(self.commands) + 1)
+
+
+class Wrong(Exception):
+    """What of a run is not as it has to be."""
+
+
+def need(holds, why):
+    if not holds:
+        raise Wrong(why)
+
+
+def check_answers(plan, ran):
+    """Every command is answered, and no call is left out there."""
+    need(0 not in ran.texts, "a line without a number")
+    for number in range(1, len(plan.commands) + 1):
+        texts = ran.texts.get(number)
+        need(texts, f"command {number} has no answer")
+        need(texts[0] != "waiting" or len(texts) > 1, f"call {number} was never answered")
+
+
+class Book:
+    """What a book tells of branches, and whether it is true."""
+
+    def __init__(self, lines):
+        self.sealed = {}  # by node and local id: global id and SCN
+        self.decided = {}  # by global id: the SCN of the decision
+        self.forced = {}  # by node and local id: commit or rollback
+        self.ended = set()
+        self.rolled_back = set()  # global ids
+        self.words = []  # node and word of each entry
+        self.clocks = defaultdict(int)  # by node: the greatest number so far
+        for line in lines:
+            self.take(line.split(" "))
+        need(not self.rolled_back & self.decided.keys(), "a transaction is decided, and a branch of it rolled back")
+
+    def take(self, entry):
+        word, node, *rest = entry
+        self.words.append((node, word))
+        if word != "made":
+            getattr(self, f"take_{word}")((node, rest[0]), rest[1:])
+
+    def rises(self, node, scn):
+        self.clocks[node] = max(self.clocks[node], scn)
+
+    def take_sealed(self, branch, rest):
+        need(branch not in self.sealed, f"{branch} is sealed twice")
+        root, scn = rest[0], int(rest[2])
+        need(root not in self.decided, f"{branch} is sealed after the decision")
+        need(scn >= self.clocks[branch[0]], f"{branch} is sealed with a number that is too low")
+        self.rises(branch[0], scn)
+        self.sealed[branch] = (root, scn)
+
+    def take_decided(self, branch, rest):
+        root, scn = rest[0], int(rest[2])
+        need(root not in self.decided, f"{root} is decided twice")
+        need(branch not in self.sealed, f"the site {branch} was sealed")
+        others = [other for of, other in self.sealed.values() if of == root]
+        need(scn > max([self.clocks[branch[0]], *others]), f"the commit number of {root} is too low")
+        self.rises(branch[0], scn)
+        self.decided[root] = scn
+
+    def take_forced(self, branch, rest):
+        need(branch in self.sealed and branch not in self.forced and branch not in self.ended, f"{branch} is forced")
+        self.forced[branch] = rest[0]
+
+    def take_ended(self, branch, rest):
+        need(branch not in self.forced, f"{branch} was forced and ends")
+        self.learns(branch, rest)
+
+    def take_met(self, branch, rest):
+        need(branch in self.forced, f"{branch} was not forced and meets")
+        self.learns(branch, rest)
+        need((rest[-1] == "yes") == (self.forced[branch] != rest[0]), f"{branch} is mixed or not")
+
+    def learns(self, branch, rest):
+        """A branch learns how its transaction ended."""
+        need(branch in self.sealed and branch not in self.ended, f"{branch} ends")
+        self.ended.add(branch)
+        root = self.sealed[branch][0]
+        if rest[0] == "rollback":
+            self.rolled_back.add(root)
+        else:
+            need(self.decided.get(root) == int(rest[2]), f"{branch} is committed by a number that nobody decided")
+            self.rises(branch[0], int(rest[2]))
+
+
+def check_disks(plan, ran, book):
+    """The records on each disk are those of which the book tells."""
+    for node, number in zip(plan.nodes, plan.disks):
+        words = [BOOKED[body[1]] for body in records_of(disk_of(ran.texts[number])) if body[1] in BOOKED]
+        need(words == [word for of, word in book.words if of == node], f"the disk of {node} and the book differ")
+
+
+def shown(value):
+    return "NULL" if value is None else str(value)
+
+
+def check_rows(plan, ran):
+    """The rows are those that the committed changes on the disks leave."""
+    for node, disk, *queries in zip(plan.nodes, plan.disks, plan.rows, plan.later_rows):
+        rows = rows_of(records_of(disk_of(ran.texts[disk]))).get(TABLE)
+        if rows is None:
+            continue
+        due = [f"{shown(key)}|{shown(row[1])}" for key, row in sorted(rows.items())]
+        for query in queries:
+            need(ran.texts[query][1:-1] == due, f"the rows of {node} are not {due}, but {ran.texts[query]}")
+
+
+def check_pending(plan, ran):
+    """Whoever could be recovered is."""
+    for number in plan.pending:
+        for row in ran.texts[number]:
+            state = row.split("|")[2:3]
+            need(state not in (["prepared"], ["collecting"]), f"after recovery: {row}")
+
+
+def try_seed(program, seed):
+    """Runs the script of a seed. The line of its failure, None where there is none."""
+    plan = Plan(seed)
+    try:
+        ran = run(program, plan.commands)
+        need(ran.status == 0, f"status {ran.status}")
+        check_answers(plan, ran)
+        lines = ran.texts[plan.book]
+        book = Book([] if lines == ["no entries"] else lines)
+        check_disks(plan, ran, book)
+        check_pending(plan, ran)
+        check_rows(plan, ran)
+    except (Wrong, Unended) as wrong:
+        pathlib.Path(f"fuzz_{seed}.dtx").write_text("".join(f"{command};\n" for command in plan.commands))
+        return f"FAIL {seed}: {wrong}"
+    return None
+
+
+def words():
+    parser = argparse.ArgumentParser(description=__doc__.splitlines()[0])
+    parser.add_argument("--count", type=int, default=1000)
+    parser.add_argument("--seed", type=int, default=0)
+    parser.add_argument("--jobs", type=int, default=os.cpu_count())
+    parser.add_argument("program", nargs="?", default=PROGRAM)
+    return parser.parse_args()
+
+
+def main(asked):
+    failed = 0
+    seeds = range(asked.seed, asked.seed + asked.count)
+    with multiprocessing.Pool(asked.jobs) as pool:
+        for failure in pool.imap_unordered(partial(try_seed, asked.program), seeds, chunksize=8):
+            if failure:
+                failed += 1
+                print(failure, flush=True)
+    print(f"{asked.count} runs, {failed} failed")
+    return 1 if failed or asked.count < 1 else 0
+
+
+if __name__ == "__main__":
+    sys.exit(main(words()))

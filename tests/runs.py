@@ -1,0 +1,54 @@
+"""Runs of the built program for the tests beside this file, and what a report of one shows."""
+
+import pathlib
+import subprocess
+from collections import defaultdict
+from typing import NamedTuple
+
+TOP = pathlib.Path(__file__).resolve().parent.parent
+PROGRAM = str(TOP / "crates/dtx/out/dtx")
+
+
+class Ran(NamedTuple):
+    """How a run ended: its status, and the texts that stand under the number of each command."""
+
+    status: int
+    texts: dict[int, list[str]]
+
+
+class Unended(Exception):
+    """The run did not end within its time."""
+
+
+def run(program, commands, seconds=60):
+    """Runs the program on commands, each without its semicolon."""
+    script = "".join(f"{command};\n" for command in commands).encode()
+    try:
+        done = subprocess.run([program], input=script, capture_output=True, timeout=seconds)
+    except subprocess.TimeoutExpired:
+        raise Unended(f"no end within {seconds} seconds") from None
+    texts = defaultdict(list)
+    for line in done.stdout.decode(errors="replace").splitlines():
+        number, _, text = line.partition(" ")
+        texts[int(number) if number.isdigit() else 0].append(text)
+    return Ran(done.returncode, texts)
+
+
+def on_one_line(commands):
+    """Commands as a script of one line, to be run again."""
+    return " ".join(f"{command};" for command in commands)
+
+
+def disk_of(lines):
+    """The bytes of a disk, from the lines of SHOW DISK."""
+    return b"" if lines == ["empty"] else b"".join(bytes.fromhex(line.split(" ")[1]) for line in lines)
+
+
+def records_of(disk):
+    """The records that a disk stands for: a cell is a gate, which is open where its byte is 1, a length and a record."""
+    found, place = [], 0
+    while disk[place] == 1:
+        length = int.from_bytes(disk[place + 1 : place + 5], "big")
+        found.append(disk[place + 5 : place + 5 + length])
+        place += 5 + length
+    return found
