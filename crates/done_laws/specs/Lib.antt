@@ -1,0 +1,3 @@
+pub mod DoneLaws
+pub mod StandLaws
+pub mod TriedDone
