@@ -1,0 +1,8 @@
+pub mod LeftStepLemmas
+pub mod LeftRecordLemmas
+pub mod LeftLemmas
+pub mod AbortStepLemmas
+pub mod AbortLemmas
+pub mod AckStepLemmas
+pub mod OnceLemmas
+pub mod AckLemmas

@@ -1,0 +1,2 @@
+pub mod AbortLaws
+pub mod ForgetLaws

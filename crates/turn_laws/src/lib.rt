@@ -1,0 +1,18 @@
+//! Whatever a turn writes or says was to be written or said.
+//!
+//! Where the happenings of a run tell of live branches what their nodes keep, a branch says Abort on what came to it
+//! (`specs/AbortLaws.antt`), and a commit point site forgets once each neighbour's Ack came (`specs/ForgetLaws.antt`).
+#![tactic(auto)]
+
+ghost use Rattle.turn_laws.specs.AbortLaws.{AbortsAreDue};
+ghost use Rattle.turn_laws.specs.ForgetLaws.{SitesForgetDuly};
+
+/// A branch says Abort on Prepare where it is gone, or on a child's Abort.
+pub fn aborts_are_due()
+    ensures { AbortsAreDue }
+{}
+
+/// A commit point site forgets once the Ack of each of its neighbours came.
+pub fn sites_forget_duly()
+    ensures { SitesForgetDuly }
+{}
