@@ -41,7 +41,8 @@ use Rattle.site_laws.proofs.TimeLemmas.{Part, part_lawful, may_of}
 use Rattle.trail_laws.proofs.FullLemmas.{Sees, SeesAll, full}
 use Rattle.trail_laws.proofs.MomentLemmas.{tr_at, at_moment, by_moment}
 use Rattle.turn_laws.specs.AbortLaws.{MayAbort, AbortsDuly, AbortsAreDue}
-use Rattle.turn_laws.proofs.LeftLemmas.{IsToldLeft, left_are_told, abort_first, abort_came}
+use Rattle.turn_laws.proofs.LeftExitLemmas.{abort_first, abort_came}
+use Rattle.turn_laws.proofs.LeftLemmas.{IsToldLeft, left_are_told}
 use Rattle.turn_laws.proofs.AbortStepLemmas.{Aborts, Was_gone, Hears_one, AbortSo, aborts_on}
 
 -- ---- a branch of which its node knows nothing

@@ -170,9 +170,11 @@ module _ (t : History) (whole : IsLawfulRun t) (sees : SeesAll t) where
     heard_so j rows s from kept came =
         let it : IsToldLeft (births_of s0) f0 tr0 s.me = row_told s (subst (λ (ks : List Standing). item_at standing_id ks s.me ≡ Some s) rows kept) in
         let b : Seen = it.seen in
-        let me : b.me ≡ s.me = item_is seen_id tr0.seen s.me b it.at in
-        (turned t.places f0 tr0 u b, seen_turned t.places f0 tr0 u s.me b it.at,
-        ap (λ i. is_among from (acks_after b i)) came.is ∙ (ap (λ q. is_among from (if q then with_once b.acks from else b.acks)) (same_from_equal s.me b.me (sym me)) ∙ once_has b.acks from))
+        let me : b.me ≡ s.me = item_is seen_id tr0.seen s.me b it.at in (
+          turned t.places f0 tr0 u b,
+          seen_turned t.places f0 tr0 u s.me b it.at,
+          ap (λ i. is_among from (acks_after b i)) came.is ∙ (ap (λ q. is_among from (if q then with_once b.acks from else b.acks)) (same_from_equal s.me b.me (sym me)) ∙ once_has b.acks from),
+        )
 
     rows_now : AllByRecursion (RowHasAcks Q) (heard k u.input).stored.durable.kept
     rows_now = subst (λ (ks : List Standing). AllByRecursion (RowHasAcks Q) ks) (sym (heard_rows k u.input)) (wider_acks (IsAcked tr0) Q more k.stored.durable.kept (now u.node k may.1.up))
@@ -217,7 +219,7 @@ module _ (t : History) (whole : IsLawfulRun t) (sees : SeesAll t) where
 
     forget_due : (w : Option RedoRecord) → IfSome w (IsRecordOf (λ b. b.node ≡ u.node)) → IfSome w (ForgetsSo Q p u.input rs) → IfSome w (SiteMayForget f0 tr1 u.input)
     forget_due None own so = tt
-    forget_due (Some (records.Forgot b)) own so r found = all_among b (neighbors_of r) (so r (subst (λ i. decided_in (records_at f0 i) b ≡ Some r) own found))
+    forget_due (Some (records.Forgot b)) own so = λ r found. all_among b (neighbors_of r) (so r (subst (λ i. decided_in (records_at f0 i) b ≡ Some r) own found))
     forget_due (Some _) own so = tt
 
     pub turn_forgets : ForgetsDuly t.places f0 tr0 (happenings.Turn u)
@@ -235,7 +237,7 @@ module _ (t : History) (whole : IsLawfulRun t) (sees : SeesAll t) where
 
   acks_after_one : (hs : List Happening) (h : Happening) (rest : List Happening) → hs ++ h ∷ rest ≡ t.trace → AcksAreTold hs → AckedAt (facts_after t.places t.commands (f_at t hs) h) (trail_after t.places (f_at t hs) (tr_at t hs) h)
   unfolding facts_after trail_after
-  acks_after_one hs (happenings.Turn u) rest is now = turn_acks hs u rest is now
+  acks_after_one hs (happenings.Turn u) rest is now m j up = turn_acks hs u rest is now m j up
   acks_after_one hs (happenings.Stopped n) rest is now m j up = elim (set_or_before (f_at t hs).nodes n m None) [
     | inl before ↦ wider_acks (IsAcked (tr_at t hs)) _
         (λ c b it. (stopped_by n it.0, item_mapped seen_id (stopped_by n) (λ s. (stopped_acks n s).0) (tr_at t hs).seen b it.0 it.1, ap (is_among c) (stopped_acks n it.0).1 ∙ it.2)) j.stored.durable.kept (now m j (sym (ap flat before) ∙ up))

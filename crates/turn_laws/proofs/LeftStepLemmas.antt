@@ -59,7 +59,7 @@ module _ (input : Input) (b : BranchId) (z : Live) where
       there none = absurd (cc (none, live))
 
       put : (y : Live) → After (put_item live_id k.lives y) → ⊥
-      put y none = elim (put_or_before live_id k.lives y b) [ | inl before ↦ there (sym before ∙ none) | inr new ↦ absurd (let found = new.1 in cc (none, found)) ]
+      put y none = elim (put_or_before live_id k.lives y b) [ inl before ↦ there (sym before ∙ none) | inr new ↦ absurd (let found = new.1 in cc (none, found)) ]
 
       more : (y : Live) → After (k.lives ++ y ∷ []) → ⊥
       more y none = let found : item_at live_id (k.lives ++ y ∷ []) b ≡ Some z = find_more (is_item_of live_id b) k.lives (y ∷ []) z live in absurd (cc (none, found))
