@@ -141,32 +141,37 @@ module _ (t : History) (whole : IsLawfulRun t) (sees : SeesAll t) (hs : List Hap
       by None comes = absurd comes
       by (Some x) comes = comes.1.here
 
-  -- one that is gone is told so
-  gone_told : (b from : BranchId) (sb : Bool) (comment : List ℕ) → Came u.input from b (kinds.Prepare sb comment) → stand_of k b ≡ Is_gone → life_at f0 tr0 b ≡ Gone
-  unfolding life_at
-  gone_told b from sb comment came gone =
-      let parts = gone_so k b gone in
-      let node : b.node ≡ u.node = came_here b from (kinds.Prepare sb comment) came in
-      let up : node_at f0 b.node ≡ Some k = ap (node_at f0) node ∙ may.1.up in
-      let child : IsChild B b from = came_so (GoesSo B) f0 (messages_are_of_neighbors s0 lawful0) k u.node u.input u.took may.1.comes from b (kinds.Prepare sb comment) came in
+  -- one that is gone has left
+  gone_left : (b from : BranchId) → IsChild B b from → node_at f0 b.node ≡ Some k → branch_at k b ≡ None → (x : Exit) × (exit (e_at t hs) b ≡ Some x)
+  gone_left b from child up none =
       let born : born_at (births_of s0) b ≡ Some child.0 = subst (λ c. born_at (births_of s0) c ≡ Some child.0) child.2 child.1 in
-      let left : (x : Exit) × (exit (e_at t hs) b ≡ Some x) = elim (born_are_live_or_left s0 lawful0 b (λ none. absurd (cc (born, none)))) [
-        | inl out ↦ elim (some_or_none (exit (e_at t hs) b)) [ inl none ↦ absurd (out none) | inr some ↦ some ]
+      elim (born_are_live_or_left s0 lawful0 b (λ unborn. absurd (cc (born, unborn)))) [
+        | inl out ↦ elim (some_or_none (exit (e_at t hs) b)) [ inl stays ↦ absurd (out stays) | inr some ↦ some ]
         | inr among ↦ (let l = among_found k.lives b (subst (λ o. is_among b (lives_at o) ≡ true) up among) in
             let there : live_at k b ≡ Some l.0 = l.1 in
             let found = ap (with_work k) there in
-            let none = parts.0 in
             absurd (cc (found, none)))
-      ] in
-      let it : IsToldLeft (births_of s0) f0 tr0 b = left_are_told t whole sees hs part0 b left.0 left.1 in
+      ]
+
+  -- and is told so
+  told_gone : (b from : BranchId) → IsChild B b from → (it : IsToldLeft (births_of s0) f0 tr0 b) → item_at standing_id (durable (records_at f0 b.node)).kept b ≡ None → life_at f0 tr0 b ≡ Gone
+  unfolding life_at
+  told_gone b from child it none =
       let one : it.born ≡ child.0 = one_born (births_of s0) it.born child.0 it.began child.1 (it.is_me ∙ sym child.2) in
-      let below : it.born.parent ≢ None = (λ none. (let above : it.born.parent ≡ Some from = ap (λ (x : Born). x.parent) one ∙ child.3 in absurd (cc (above, none)))) in
+      let below : it.born.parent ≢ None = (λ root. (let above : it.born.parent ≡ Some from = ap (λ (x : Born). x.parent) one ∙ child.3 in absurd (cc (above, root)))) in
       let out : is_live it.seen ≡ false = elim (it.left below) [
         | inl some ↦ ap is_none some.1
-        | inr stops ↦ (let none = may.1.settled.upright in absurd (cc (none, stops)))
+        | inr stops ↦ (let upright = may.1.settled.upright in absurd (cc (upright, stops)))
       ] in
-      let none : item_at standing_id (durable (records_at f0 b.node)).kept b ≡ None = no_row k (records_at f0 b.node) b (records_are_kept s0 lawful0 b.node k up) parts.1 in
       ap (life_of f0 b) it.at ∙ (ap (λ q. if q then Told_live else life_kept (item_at standing_id (durable (records_at f0 b.node)).kept b)) out ∙ ap life_kept none)
+
+  gone_told : (b from : BranchId) (sb : Bool) (comment : List ℕ) → Came u.input from b (kinds.Prepare sb comment) → stand_of k b ≡ Is_gone → life_at f0 tr0 b ≡ Gone
+  gone_told b from sb comment came gone =
+      let parts = gone_so k b gone in
+      let up : node_at f0 b.node ≡ Some k = ap (node_at f0) (came_here b from (kinds.Prepare sb comment) came) ∙ may.1.up in
+      let child : IsChild B b from = came_so (GoesSo B) f0 (messages_are_of_neighbors s0 lawful0) k u.node u.input u.took may.1.comes from b (kinds.Prepare sb comment) came in
+      let left : (x : Exit) × (exit (e_at t hs) b ≡ Some x) = gone_left b from child up parts.0 in
+      told_gone b from child (left_are_told t whole sees hs part0 b left.0 left.1) (no_row k (records_at f0 b.node) b (records_are_kept s0 lawful0 b.node k up) parts.1)
 
   -- one that hears a child's Abort
   abort_told : (b : BranchId) (z : Live) (from : BranchId) (sb : Bool) → live_at k z.me ≡ Some z → z.me ≡ b → Answers u.input z from votes.Abort sb → IsAbortTo tr0 b u.input
