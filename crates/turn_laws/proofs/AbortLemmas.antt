@@ -13,18 +13,17 @@ use Rattle.node_rules.specs.Data.kinds
 use Rattle.node_rules.specs.Data.votes
 use Rattle.node_rules.specs.Inputs.{Came}
 use Rattle.node_rules.specs.Words.{same, item_at}
-use Rattle.node_rules.specs.Kept.{Kept, Stored, Deed, Branch, live_id, live_at, standing_id, standing_at, branch_at, with_work}
+use Rattle.node_rules.specs.Kept.{Kept, Stored, Deed, Branch, live_at, standing_id, standing_at, branch_at, with_work}
 use Rattle.node_rules.specs.Records.{applied, nothing_stored, stored_by}
-use Rattle.node_rules.specs.Turn.{Stand, Is_live, Is_kept, Is_gone, kept_or_gone, live_or, stand_of, heard, deed_of, stamped}
+use Rattle.node_rules.specs.Turn.{Is_gone, kept_or_gone, live_or, stand_of, heard, deed_of, stamped}
 use Rattle.node_rules.proofs.Steps.{Answers}
 use Rattle.run_laws.specs.Births.{Born, births_of, born_at}
 use Rattle.run_laws.specs.BirthLaws.{Began, IsChild, GoesSo}
 use Rattle.run_laws.specs.Branches.{Live as Told_live, Gone, Seen, Trail, seen_id, seen_at, is_live, is_among, life_kept, life_of, life_at}
 use Rattle.run_laws.specs.Data.{Took, Turn, Happening}
 use Rattle.run_laws.specs.Data.happenings
-use Rattle.run_laws.specs.Each.{AtEach}
 use Rattle.run_laws.specs.Facts.{Facts, place_at, node_at, records_at}
-use Rattle.run_laws.specs.Knowledge.{IsPrepare, IsAbortTo}
+use Rattle.run_laws.specs.Knowledge.{IsAbortTo}
 use Rattle.run_laws.specs.Lawful.{MayHappen, Comes, History, IsLawfulRun}
 use Rattle.run_laws.specs.NodeLaws.{unacked_row}
 use Rattle.run_laws.specs.RunEvents.{lives_at}
@@ -43,7 +42,7 @@ use Rattle.trail_laws.proofs.MomentLemmas.{tr_at, at_moment, by_moment}
 use Rattle.turn_laws.specs.AbortLaws.{MayAbort, AbortsDuly, AbortsAreDue}
 use Rattle.turn_laws.proofs.LeftExitLemmas.{abort_first, abort_came}
 use Rattle.turn_laws.proofs.LeftLemmas.{IsToldLeft, left_are_told}
-use Rattle.turn_laws.proofs.AbortStepLemmas.{Aborts, Was_gone, Hears_one, AbortSo, aborts_on}
+use Rattle.turn_laws.proofs.AbortStepLemmas.{Was_gone, Hears_one, AbortSo, aborts_on}
 
 -- ---- a branch of which its node knows nothing
 

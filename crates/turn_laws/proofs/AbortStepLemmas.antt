@@ -1,5 +1,5 @@
 -- A step says Abort for a branch that is gone, to which Prepare came, or for one that hears a child's Abort.
-use Rattle.std.proofs.Common.{◌≡◌, ℕ, ◌+◌, ◌-◌, Bool, true, false, if◌then◌else◌, List, [], ◌∷◌, ◌++◌, map, length, Option, Some, None, refl, sym, ap, subst, ◌∙◌}
+use Rattle.std.proofs.Common.{◌≡◌, ℕ, ◌+◌, ◌-◌, Bool, false, List, map, length, Option, Some, None, refl, sym, ap, ◌∙◌}
 use Rattle.std.specs.List.{AllByRecursion}
 use Rattle.std.proofs.lemmas.Bool.{cond_both}
 use Rattle.reco.specs.declared.post.Post.{Post}
@@ -14,10 +14,10 @@ use Rattle.node_rules.specs.Data.kinds
 use Rattle.node_rules.specs.Data.votes
 use Rattle.node_rules.specs.declared.session.Session.{Session}
 use Rattle.node_rules.specs.Inputs.{Came, IsCall}
-use Rattle.node_rules.specs.Kept.{Kept, Deed, Branch, live_id, live_at, to_one}
+use Rattle.node_rules.specs.Kept.{Kept, Deed, Branch, live_at, to_one}
 use Rattle.node_rules.specs.Calls.{answer_says, exec_to, with_edge, hears_reply}
 use Rattle.node_rules.specs.Statement.{ran, after_run}
-use Rattle.node_rules.specs.Prepare.{path_of, prepares, site_neighbors, without_read_keys}
+use Rattle.node_rules.specs.Prepare.{path_of, site_neighbors, without_read_keys}
 use Rattle.node_rules.specs.Commit.{beyond, is_neighbor}
 use Rattle.node_rules.specs.Recovery.{told_by, told_kind}
 use Rattle.node_rules.specs.Turn.{Is_gone, stand_of}

@@ -1,8 +1,8 @@
 -- In a lawful run where what is told of live branches is what their nodes keep, the Acks that a row holds are told to have come, so a site
 -- forgets once each neighbour's is.
-use Rattle.std.proofs.Common.{◌≡◌, ◌≢◌, ℕ, ◌==◌, ◌||◌, ◌&&◌, ◌⊎◌, Bool, true, false, if◌then◌else◌, List, [], ◌∷◌, ◌++◌, map, Option, Some, None, inl, inr, refl, sym, ap, subst, ◌∙◌}
+use Rattle.std.proofs.Common.{◌≡◌, ◌≢◌, ℕ, ◌||◌, Bool, true, false, if◌then◌else◌, List, [], ◌∷◌, ◌++◌, map, Option, Some, None, inl, inr, refl, sym, ap, subst, ◌∙◌}
 use Rattle.std.specs.Prelude.{IfSome}
-use Rattle.std.specs.List.{AllByRecursion, list_any, list_all}
+use Rattle.std.specs.List.{AllByRecursion, list_all}
 use Rattle.std.proofs.lemmas.Bool.{and_from, or_left, or_right}
 use Rattle.std.proofs.lemmas.List.Folds.{list_any-append}
 use Rattle.tran_ids.proofs.BranchLemmas.{same_from_equal}
@@ -13,11 +13,10 @@ use Rattle.node_rules.specs.Data.{BranchId, Kind, Kid, Peer, RedoRecord, Decided
 use Rattle.node_rules.specs.Data.inputs
 use Rattle.node_rules.specs.Data.kinds
 use Rattle.node_rules.specs.Data.records
-use Rattle.node_rules.specs.Inputs.{Came}
 use Rattle.node_rules.specs.Words.{same, item_at, numbered, set_numbered}
 use Rattle.node_rules.specs.Kept.{Kept, Deed, standing_id}
 use Rattle.node_rules.specs.Records.{nothing_stored}
-use Rattle.node_rules.specs.Turn.{turn_of, heard, deed_of, start_of, made}
+use Rattle.node_rules.specs.Turn.{turn_of, heard, deed_of, start_of}
 use Rattle.node_rules.proofs.Steps.{IsKept}
 use Rattle.redo_record.specs.Rows.{kid_of, decided_as}
 use Rattle.run_laws.specs.Births.{births_of}
@@ -29,8 +28,7 @@ use Rattle.run_laws.specs.Facts.{Facts, first_facts, place_at, flat, node_at, re
 use Rattle.run_laws.specs.IdLaws.{IsRecordOf}
 use Rattle.run_laws.specs.Knowledge.{acks_of, decided_in, neighbors_of}
 use Rattle.run_laws.specs.Lawful.{MayHappen, History, IsLawfulRun}
-use Rattle.run_laws.specs.RunEvents.{events_of}
-use Rattle.run_laws.specs.Trail.{acked_by, acks_after, stopped_by, trail_after, trail_of}
+use Rattle.run_laws.specs.Trail.{acked_by, acks_after, stopped_by, trail_after}
 use Rattle.run_laws.proofs.AtNodeLemmas.{turn_elsewhere, turn_here}
 use Rattle.run_laws.proofs.EventsStandLemmas.{Stand, run_stands, node_so, owned_so, nodes_are_as_events, first_node}
 use Rattle.run_laws.proofs.LawfulLemmas.{of_wrote, serves}
@@ -46,7 +44,7 @@ use Rattle.trail_laws.proofs.FullLemmas.{SeesAll, full}
 use Rattle.trail_laws.proofs.MomentLemmas.{tr_at, trail_one_on, by_moment}
 use Rattle.trail_laws.proofs.SeenLemmas.{item_mapped, turned, seen_turned}
 use Rattle.turn_laws.specs.ForgetLaws.{SiteMayForget, ForgetsDuly, SitesForgetDuly}
-use Rattle.turn_laws.proofs.AckStepLemmas.{HasAcks, RowHasAcks, Heard, IsOfDecision, ForgetsSo, acks_stored, acks_on, forgets_on}
+use Rattle.turn_laws.proofs.AckStepLemmas.{RowHasAcks, Heard, IsOfDecision, ForgetsSo, acks_stored, acks_on, forgets_on}
 use Rattle.turn_laws.proofs.LeftLemmas.{IsToldLeft, left_are_told}
 use Rattle.turn_laws.proofs.OnceLemmas.{IsOnly, disks_only}
 

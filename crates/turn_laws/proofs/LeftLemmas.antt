@@ -1,30 +1,30 @@
 -- In a lawful run where what is told of live branches is what their nodes keep, each branch below a root that has left is told to be live no more,
 -- unless its node has just been cut off.
-use Rattle.std.proofs.Common.{◌≡◌, ◌≢◌, ℕ, ◌==◌, ◌||◌, ◌&&◌, ◌⊎◌, not, Bool, true, false, if◌then◌else◌, is_none, List, [], ◌∷◌, ◌++◌, map, Option, Some, None, inl, inr, refl, sym, ap, subst, subst₂, ◌∙◌}
+use Rattle.std.proofs.Common.{◌≡◌, ◌≢◌, ℕ, ◌||◌, ◌&&◌, ◌⊎◌, Bool, true, false, if◌then◌else◌, List, [], ◌∷◌, ◌++◌, map, Option, Some, None, inl, inr, refl, sym, ap, subst, subst₂, ◌∙◌}
 use Rattle.std.specs.Prelude.{IfSome}
 use Rattle.std.specs.List.{list_any}
-use Rattle.std.proofs.lemmas.Bool.{and_from, or_left, or_right, eq-eqb}
-use Rattle.tran_ids.proofs.BranchLemmas.{equal_from_same, same_from_equal}
+use Rattle.std.proofs.lemmas.Bool.{or_left}
+use Rattle.tran_ids.proofs.BranchLemmas.{same_from_equal}
 use Rattle.tran_ids.proofs.ListedLemmas.{item_is}
-use Rattle.agreement.specs.Events.{Event, Exit, Quiet, Dropped, exit}
+use Rattle.agreement.specs.Events.{Exit, exit}
 use Rattle.session_tree.specs.Live.{is_branch}
-use Rattle.node_rules.specs.Data.{BranchId, Kind, Live, Msg, RedoRecord, Input, Place}
+use Rattle.node_rules.specs.Data.{BranchId, Kind, Live, Input, Place}
 use Rattle.node_rules.specs.Data.inputs
 use Rattle.node_rules.specs.Data.kinds
 use Rattle.node_rules.specs.Inputs.{Came}
-use Rattle.node_rules.specs.Words.{same, item_at}
+use Rattle.node_rules.specs.Words.{item_at}
 use Rattle.node_rules.specs.Kept.{Kept, Deed, live_id, live_at}
 use Rattle.node_rules.specs.Turn.{turn_of, heard, deed_of, stamped}
 use Rattle.run_laws.specs.Births.{Born, births_of}
 use Rattle.run_laws.specs.BirthLaws.{Began, LiveIs}
-use Rattle.run_laws.specs.Branches.{Seen, Trail, seen_id, seen_at, is_live, is_live_at, is_among}
+use Rattle.run_laws.specs.Branches.{Seen, Trail, seen_id, seen_at, is_among}
 use Rattle.run_laws.specs.Data.{Turn, Happening}
 use Rattle.run_laws.specs.Data.happenings
 use Rattle.run_laws.specs.Facts.{Facts, first_facts, place_at, node_at, outcome_at, kept_after, facts_after}
 use Rattle.run_laws.specs.Lawful.{MayHappen, MayStop, IsOwed, History, IsLawfulRun}
 use Rattle.run_laws.specs.NodeLaws.{EachFactFrom}
-use Rattle.run_laws.specs.RunEvents.{lives_at, events_after, events_from, events_of, with_record}
-use Rattle.run_laws.specs.Trail.{is_abort, is_first_vote, is_vote, is_quiet, input_drops, kind_drops, recorded_exit, ends_siteless, whole_exit, exit_by, exit_after, with_turn, stopped_by, trail_after}
+use Rattle.run_laws.specs.RunEvents.{lives_at, events_after, events_from}
+use Rattle.run_laws.specs.Trail.{is_quiet, input_drops, recorded_exit, ends_siteless, whole_exit, exit_by, exit_after, with_turn, stopped_by, trail_after}
 use Rattle.run_laws.proofs.AtNodeLemmas.{turn_here}
 use Rattle.run_laws.proofs.BirthRunLemmas.{nodes_name_the_born}
 use Rattle.run_laws.proofs.EventsStandLemmas.{run_stands, ids_name_their_node}

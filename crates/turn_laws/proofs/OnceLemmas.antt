@@ -1,5 +1,5 @@
 -- On each disk of a lawful run a branch has one decision, and none where it has a seal.
-use Rattle.std.proofs.Common.{◌≡◌, ℕ, ◌||◌, Bool, true, false, if◌then◌else◌, unwrap_or, List, [], ◌∷◌, ◌++◌, Option, Some, None, inl, inr, refl, sym, ap, subst, ◌∙◌, append-nil}
+use Rattle.std.proofs.Common.{◌≡◌, ℕ, Bool, true, false, if◌then◌else◌, unwrap_or, List, [], ◌∷◌, ◌++◌, Option, Some, None, inl, inr, refl, sym, ap, subst, ◌∙◌, append-nil}
 use Rattle.std.specs.Prelude.{IfSome}
 use Rattle.std.specs.Option.{option_to_list}
 use Rattle.std.specs.List.{AllByRecursion}
@@ -13,7 +13,7 @@ use Rattle.run_laws.specs.Data.{Turn, Happening}
 use Rattle.run_laws.specs.Data.happenings
 use Rattle.run_laws.specs.EventLaws.{TellsAsEvents, EachEventFrom}
 use Rattle.run_laws.specs.EventRows.{MayStand}
-use Rattle.run_laws.specs.Facts.{Facts, first_facts, records_at, with_boot, facts_after, facts_of}
+use Rattle.run_laws.specs.Facts.{first_facts, records_at, with_boot, facts_after, facts_of}
 use Rattle.run_laws.specs.Knowledge.{decided_in}
 use Rattle.run_laws.specs.Lawful.{History, IsLawfulRun}
 use Rattle.run_laws.specs.RunEvents.{with_event, wrote_event, with_record, events_after, events_from}

@@ -1,5 +1,5 @@
 -- The laws of turns, tried on the run of two nodes: A decides, B acknowledges, both forget.
-use Rattle.std.specs.Prelude.{◌≡◌, List, [], ◌∷◌, option_map, Some}
+use Rattle.std.specs.Prelude.{◌≡◌, [], ◌∷◌, option_map, Some}
 use Rattle.run_laws.specs.Branches.{Gone, seen_at, life_at}
 use Rattle.run_laws.specs.Facts.{Facts, first_facts, facts_of, records_at}
 use Rattle.run_laws.specs.Knowledge.{acks_of, decided_in, neighbors_of}
