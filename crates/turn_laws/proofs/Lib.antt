@@ -1,0 +1,11 @@
+pub mod LeftStepLemmas
+pub mod LeftRecordLemmas
+pub mod LeftExitLemmas
+pub mod LeftLemmas
+pub mod AbortStepLemmas
+pub mod AbortLemmas
+pub mod AckStepLemmas
+pub mod OnceLemmas
+pub mod AckLemmas
+pub mod KnowLemmas
+mod TriedTurnsLemmas

@@ -1,0 +1,4 @@
+pub mod AbortLaws
+pub mod ForgetLaws
+pub mod KnowLaws
+pub mod TriedTurns

@@ -1,0 +1,30 @@
+//! Whatever a turn writes or says was to be written or said.
+//!
+//! In every lawful run a branch says Abort on what came to it (`specs/AbortLaws.antt`), and a commit point site forgets once each neighbour's Ack came (`specs/ForgetLaws.antt`). What is left to be
+//! shown is of Exec and of ReadOnly (`specs/KnowLaws.antt`).
+#![tactic(auto)]
+
+ghost use Rattle.turn_laws.specs.AbortLaws.{AbortsAreDue};
+ghost use Rattle.turn_laws.specs.ForgetLaws.{SitesForgetDuly};
+ghost use Rattle.turn_laws.specs.KnowLaws.{LittleIsLeft};
+ghost use Rattle.turn_laws.specs.TriedTurns.{TheTriedTurns};
+
+/// A branch says Abort on Prepare where it is gone, or on a child's Abort.
+pub fn aborts_are_due()
+    ensures { AbortsAreDue }
+{}
+
+/// A commit point site forgets once the Ack of each of its neighbours came.
+pub fn sites_forget_duly()
+    ensures { SitesForgetDuly }
+{}
+
+/// With Exec and ReadOnly, whatever a turn writes or says was to be written or said.
+pub fn little_is_left()
+    ensures { LittleIsLeft }
+{}
+
+/// No law of turns is about nothing: in the tried run of two nodes A, the site, has B as its neighbour, B's Ack came, and both are gone.
+pub fn the_tried_turns()
+    ensures { TheTriedTurns }
+{}
