@@ -19,6 +19,7 @@ pub mod LineGrowLemmas
 pub mod LineRunLemmas
 pub mod LeadLemmas
 pub mod RootToldLemmas
+pub mod EndedRootLemmas
 pub mod RootAnswerLemmas
 mod TriedPlaceLemmas
 pub mod AtOnceLemmas
