@@ -1,5 +1,5 @@
 -- After a turn that leaves no call of a session, the session's transaction is told to be the one that its node keeps.
-use Rattle.std.proofs.Common.{◌≡◌, ℕ, ◌&&◌, Bool, true, false, if◌then◌else◌, List, [], ◌∷◌, ◌++◌, is_none, unwrap_or, Option, Some, None, refl, sym, ap, subst, subst₂, ◌∙◌, arith}
+use Rattle.std.proofs.Common.{◌≡◌, ℕ, ◌&&◌, false, List, [], ◌∷◌, ◌++◌, is_none, unwrap_or, Option, Some, None, refl, sym, ap, subst, subst₂, ◌∙◌, arith}
 use Rattle.std.proofs.lemmas.Bool.{cond_both}
 use Rattle.node_rules.specs.Data.{Answer, BranchId, Live, Place}
 use Rattle.node_rules.specs.declared.session.PendingCall.TheVariants as pending
@@ -14,7 +14,7 @@ use Rattle.node_rules.specs.Turn.{turn_of, deed_of}
 use Rattle.run_laws.specs.Branches.{Seen, Trail, no_trail, root_at}
 use Rattle.run_laws.specs.Data.{Turn, Happening, Command}
 use Rattle.run_laws.specs.Data.happenings
-use Rattle.run_laws.specs.Each.{EachFrom, AtEach}
+use Rattle.run_laws.specs.Each.{EachFrom}
 use Rattle.run_laws.specs.Facts.{Facts, place_at, node_at, kept_after, first_facts, facts_after}
 use Rattle.run_laws.specs.Lawful.{MayHappen, History, IsLawfulRun}
 use Rattle.run_laws.specs.Trail.{trail_after}

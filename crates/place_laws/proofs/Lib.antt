@@ -21,5 +21,8 @@ pub mod LeadLemmas
 pub mod RootToldLemmas
 pub mod EndedRootLemmas
 pub mod RootAnswerLemmas
+pub mod ToldCallLemmas
+pub mod ToldLineLemmas
+pub mod ToldTurnLemmas
 mod TriedPlaceLemmas
 pub mod AtOnceLemmas
