@@ -286,7 +286,7 @@ module _ (t : History) (whole : IsLawfulRun t) (hs : List Happening) (u : Turn) 
     transaction = ap (told_root (trail_after t.places (f_at t hs) (tr_at t hs) (happenings.Turn u)) u.node) freed.0 ∙ seen.1;
     is_me = seen.2;
     origin = root_brought t.places (f_at t hs) (tr_at t hs) u o outcome n a more ended seen.0 (ap (told_root (trail_after t.places (f_at t hs) (tr_at t hs) (happenings.Turn u)) u.node) freed.0 ∙ seen.1)
-    ∙ ap (origin_by (with_begun (f_at t hs) (tr_at t hs) u) u (asks (with_begun (f_at t hs) (tr_at t hs) u) u.node u.input)) ran_it;
+        ∙ ap (origin_by (with_begun (f_at t hs) (tr_at t hs) u) u (asks (with_begun (f_at t hs) (tr_at t hs) u) u.node u.input)) ran_it;
   }
 
   pub ran_at_once : (r : Run) × (root : BranchId) × (run_in (f_at t hs) (with_begun (f_at t hs) (tr_at t hs) u) u ≡ Some r) × CallAnsweredBy t u.node n root a r × IsToldFor t.places (f_at t hs) (tr_at t hs) u n root r

@@ -159,7 +159,7 @@ module _ (t : History) (whole : IsLawfulRun t) (hs : List Happening) (u : Turn) 
           transaction = seen.1;
           is_me = seen.2;
           origin = root_brought t.places (f_at t hs) (tr_at t hs) u o outcome session a more ended seen.0 seen.1
-          ∙ (reply_brings (f_at t hs) (begun t.places (f_at t hs) (tr_at t hs) u) u uncut from to call weight count said came took took_is ∙ found.2);
+              ∙ (reply_brings (f_at t hs) (begun t.places (f_at t hs) (tr_at t hs) u) u uncut from to call weight count said came took took_is ∙ found.2);
         })),
       )
 

@@ -137,7 +137,7 @@ module _ (asked : List Command) where
     changed_at n s [] all = tt
     changed_at n s (d ∷ ds) all = (
       cond_both (d.command == c.command) new d (λ x. is_call_at n s x ≡ is_call_at n s d)
-      (λ here. (let same = one_command d all.0 here in ap (λ i. (i == n) && (c.session == s)) (sym same.0) ∙ ap (λ i. (d.node == n) && (i == s)) (sym same.1))) (λ other. refl),
+          (λ here. (let same = one_command d all.0 here in ap (λ i. (i == n) && (c.session == s)) (sym same.0) ∙ ap (λ i. (d.node == n) && (i == s)) (sym same.1))) (λ other. refl),
       changed_at n s ds all.1,
     )
 

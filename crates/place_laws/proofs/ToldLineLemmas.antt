@@ -172,5 +172,5 @@ module _ (P : ℕ → Answer → Type 0) where
     stopped_from places n t (c ∷ cs) now =
         cond_both (c.node == n) (stopped_calls places running (call_line running (without_call t c.node c.session) c.command (is_down places n)) n cs) (stopped_calls places running t n cs) (LinesFrom running)
         (λ here. stopped_from places n (call_line running (without_call t c.node c.session) c.command (is_down places n)) cs
-            (line_from (without_call t c.node c.session) c.command (is_down places n) tt (same_from running t (without_call t c.node c.session) refl refl now)))
+        (line_from (without_call t c.node c.session) c.command (is_down places n) tt (same_from running t (without_call t c.node c.session) refl refl now)))
         (λ other. stopped_from places n t cs now)

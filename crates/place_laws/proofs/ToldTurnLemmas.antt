@@ -217,24 +217,24 @@ module _ (places : List Place) (asked : List Command) where
         let after = input_so P f.command w u.node u.input in (
           subst (AllByRecursion (IsNamed asked)) (sym after.0) left.named,
           after.1 (finished_from P f.command asked u.node t v o.ended (named1 (Some o) comes) (were_same asked u.node t v (same (Some o) comes).calls) (from1 (Some o) comes)
-          (λ number e at d found none. (let its = call_named asked t u.node e.session d now.named found in record {
-            before = hs;
-            turn = u;
-            rest = [];
-            is = refl;
-            uncut = uncut;
-            outcome = o;
-            comes = comes;
-            session = e.session;
-            number = number;
-            answers = at;
-            call = d;
-            pending = found;
-            its = refl;
-            text = its.0.0;
-            at = its.0.1 ∙ (ap (λ n. commands.At n d.session its.0.0) its.1 ∙ ap (λ s. commands.At u.node s its.0.0) its.2);
-            over = ap (λ q. call_at (whole_told q) u.node e.session) comes ∙ (ap (λ c. call_at (ends_calls f.command v u c (Some o)) u.node e.session) uncut ∙ none_too (ends_calls f.command v u false (Some o)) w after.0 u.node e.session none);
-          }))),
+              (λ number e at d found none. (let its = call_named asked t u.node e.session d now.named found in record {
+                before = hs;
+                turn = u;
+                rest = [];
+                is = refl;
+                uncut = uncut;
+                outcome = o;
+                comes = comes;
+                session = e.session;
+                number = number;
+                answers = at;
+                call = d;
+                pending = found;
+                its = refl;
+                text = its.0.0;
+                at = its.0.1 ∙ (ap (λ n. commands.At n d.session its.0.0) its.1 ∙ ap (λ s. commands.At u.node s its.0.0) its.2);
+                over = ap (λ q. call_at (whole_told q) u.node e.session) comes ∙ (ap (λ c. call_at (ends_calls f.command v u c (Some o)) u.node e.session) uncut ∙ none_too (ends_calls f.command v u false (Some o)) w after.0 u.node e.session none);
+              }))),
         )
 
     by_cut : (c : Bool) → u.cut ≡ c → (o : Option Outcome) (comes : outcome_at places f u ≡ o) → After o comes (ends_calls f.command (t1 o comes) u c o)
@@ -388,7 +388,7 @@ lines_come_from_turns t i command a at =
       uncut = e.uncut;
       outcome = e.outcome;
       comes = ap (λ f. outcome_at t.places f e.turn)
-      (ap (λ xs. facts_of t.places t.commands (first_facts t.places) xs) upto ∙ sym (past_facts t.places t.commands (start t.places) e.before)) ∙ e.comes;
+          (ap (λ xs. facts_of t.places t.commands (first_facts t.places) xs) upto ∙ sym (past_facts t.places t.commands (start t.places) e.before)) ∙ e.comes;
       session = e.session;
       number = e.number;
       answers = e.answers;
@@ -398,5 +398,5 @@ lines_come_from_turns t i command a at =
       text = e.text;
       asked = e.at;
       over = ap (λ xs. call_at (p_at t.places t.commands xs).telling e.turn.node e.session) more
-      ∙ (ap (λ (q : Past). call_at q.telling e.turn.node e.session) (past_on t.places t.commands (start t.places) e.before h) ∙ e.over);
+          ∙ (ap (λ (q : Past). call_at q.telling e.turn.node e.session) (past_on t.places t.commands (start t.places) e.before h) ∙ e.over);
     }
