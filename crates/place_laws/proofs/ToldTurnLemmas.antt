@@ -26,6 +26,7 @@ use Rattle.run_laws.specs.Telling.{Call, Past, Telling, orders_at, start}
 use Rattle.place_laws.specs.ToldLaws.{LinesComeFromTurns}
 use Rattle.place_laws.proofs.ToldCallLemmas.{AreNamed, IsNamed, call_named, were_same, Left, all_left, stopped_named}
 use Rattle.place_laws.proofs.ToldLineLemmas.{LineFrom, LinesFrom, From, world_from, told_from, same_from, own_from, finished_from, stopped_from, says_world, started_world}
+use Rattle.place_laws.proofs.NumberLemmas.{all_slice, take_more}
 use Rattle.place_laws.proofs.ReplyRunLemmas.{happens_at, prefix}
 
 -- ---- what leaves calls and lines
@@ -363,15 +364,6 @@ module _ (places : List Place) (asked : List Command) where
 
   told_all : (hs : List Happening) → ToldSo hs (p_at hs)
   told_all hs = told_on hs [] hs refl told_first
-
-all_slice : {A : Type 0} (P : A → Type 0) (xs : List A) (i : ℕ) (x : A) → AllByRecursion P xs → slice_get xs i ≡ Some x → P x
-all_slice P [] i x all at = absurd cc
-all_slice P (y ∷ xs) zero x all at = let it : Some y ≡ Some x = at in let same : y ≡ x = cc in subst P same all.0
-all_slice P (y ∷ xs) (suc i) x all at = all_slice P xs i x all.1 at
-
-take_more : {A : Type 0} (xs : List A) (x : A) (rest : List A) → take (length xs + 1) (xs ++ x ∷ rest) ≡ xs ++ x ∷ []
-take_more [] x rest = refl
-take_more (y ∷ xs) x rest = let one : suc (length xs) + 1 ≡ suc (length xs + 1) = omega arith in ap (λ n. take n (y ∷ (xs ++ x ∷ rest))) one ∙ ap (λ zs. y ∷ zs) (take_more xs x rest)
 
 pub lines_come_from_turns : LinesComeFromTurns
 lines_come_from_turns t i command a at =
