@@ -1,5 +1,5 @@
 -- Each line of a run that has the answer of a node comes from a turn that ended the pending call of its command.
-use Rattle.std.proofs.Common.{◌≡◌, ℕ, zero, suc, ◌+◌, ◌==◌, ◌&&◌, not, Bool, true, false, if◌then◌else◌, List, [], ◌∷◌, ◌++◌, find, length, slice_get, is_none, Option, Some, None, refl, sym, ap, subst, ◌∙◌, append-nil, arith}
+use Rattle.std.proofs.Common.{◌≡◌, ℕ, ◌+◌, ◌==◌, ◌&&◌, not, Bool, true, false, if◌then◌else◌, List, [], ◌∷◌, ◌++◌, find, length, slice_get, is_none, Option, Some, None, refl, sym, ap, subst, ◌∙◌, append-nil}
 use Rattle.std.specs.Prelude.{is_some, take}
 use Rattle.std.specs.List.{AllByRecursion}
 use Rattle.std.proofs.lemmas.Bool.{cond_both}
@@ -10,7 +10,7 @@ use Rattle.node_rules.specs.Data.stmts
 use Rattle.node_rules.specs.Kept.{Kept, Outcome}
 use Rattle.node_rules.specs.Sessions.{session_at}
 use Rattle.run_laws.specs.Calls.{is_call_at, call_at, waits, waits_if_pending, after_input, finished, stopped_calls}
-use Rattle.run_laws.specs.Commands.{commits_first, has_transaction, call_of, has_call, calls_after, says_at_once, begins}
+use Rattle.run_laws.specs.Commands.{commits_first, has_transaction, call_of, has_call, calls_after, says_at_once}
 use Rattle.run_laws.specs.Cuts.{Cut_by, By_nothing, By_strike, By_point, appends, appends_if, cut_appends, cut_by, arms_point, arms, turn_appends}
 use Rattle.run_laws.specs.Data.{AnswerLine, Command, Happening, Said, Took, Turn}
 use Rattle.run_laws.specs.Data.commands
