@@ -7,12 +7,22 @@
 #[cfg(test)]
 mod coming;
 #[cfg(test)]
+mod cuts;
+#[cfg(test)]
+mod doubts;
+#[cfg(test)]
+mod forced;
+#[cfg(test)]
 mod lone;
 #[cfg(test)]
 mod orders;
 #[cfg(test)]
 mod play;
 #[cfg(test)]
+mod refused;
+#[cfg(test)]
 mod says;
 #[cfg(test)]
 mod starting;
+#[cfg(test)]
+mod struck;

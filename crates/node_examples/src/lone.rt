@@ -7,7 +7,7 @@ use block_disk::{Armable, MemDisk, Order};
 use dtx_values::{Listing, Name, Names};
 use node_disk::{CutAt, Effects, Incoming, MakeErr, Node, TurnErr};
 use node_points::Point;
-use redo_record::Place;
+use redo_record::{Place, Standing};
 use session_tree::{Live, Phase};
 use sql_statement::Stmt;
 use std::alloc::Global;
@@ -130,6 +130,11 @@ impl LoneNode {
     /// The bytes of its disk.
     pub(crate) fn bytes(&self) -> &[u8] {
         self.node.disk().bytes()
+    }
+
+    /// The rows of the branches that it keeps.
+    pub(crate) fn kept(&self) -> &[Standing] {
+        self.node.kept()
     }
 
     /// Gives its disk an order to stop or to fail.

@@ -235,7 +235,7 @@ pub(crate) const FORGET_WAREHOUSE: Step = (
 );
 
 /// The row at WAREHOUSE is changed.
-const ROW_AT_WAREHOUSE: Step = (
+pub(crate) const ROW_AT_WAREHOUSE: Step = (
     Comes::Call(2, b"SELECT * FROM STOCK"),
     Wrote::Nothing,
     &[],
@@ -406,14 +406,16 @@ pub(crate) const PASS: Step = (
     &[],
 );
 
-/// SALES learns of the decision and passes it on; both others hear that it is known, and SALES forgets the order.
-const COMPLETE: [Step; 4] = [
-    (
-        Comes::Message((STOCK, ROOT, 2, Says::Committed { scn: 2 })),
-        Wrote::Ended(Decision::Commit(2)),
-        &[(ROOT, LEDGER, 2, Says::Committed { scn: 2 })],
-        &[],
-    ),
+/// SALES learns of the decision, and passes it on.
+pub(crate) const LEARN: Step = (
+    Comes::Message((STOCK, ROOT, 2, Says::Committed { scn: 2 })),
+    Wrote::Ended(Decision::Commit(2)),
+    &[(ROOT, LEDGER, 2, Says::Committed { scn: 2 })],
+    &[],
+);
+
+/// Both others hear that it is known everywhere, and SALES forgets the order.
+const COMPLETE: [Step; 3] = [
     (
         Comes::Message((LEDGER, ROOT, 2, Says::Ack)),
         Wrote::Nothing,
@@ -436,10 +438,7 @@ const COMPLETE: [Step; 4] = [
 
 #[test]
 fn a_child_is_prepared_and_commits(rt: HostRuntime) {
-    let steps: [&[Step]; 2] = [
-        &AT_HQ,
-        &[PREPARE_HQ, COMMIT_HQ, FORGET_HQ, ROW_AT_HQ],
-    ];
+    let steps: [&[Step]; 2] = [&AT_HQ, &[PREPARE_HQ, COMMIT_HQ, FORGET_HQ, ROW_AT_HQ]];
     assert!(rt; first_other(rt.alloc(), 3, &steps) == None);
 }
 
@@ -454,6 +453,6 @@ fn the_commit_point_site_decides(rt: HostRuntime) {
 
 #[test]
 fn a_root_commits_its_order(rt: HostRuntime) {
-    let steps: [&[Step]; 4] = [&AT_SALES, &COLLECT, &[PASS], &COMPLETE];
+    let steps: [&[Step]; 4] = [&AT_SALES, &COLLECT, &[PASS, LEARN], &COMPLETE];
     assert!(rt; first_other(rt.alloc(), 1, &steps) == None);
 }

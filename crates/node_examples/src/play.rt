@@ -27,12 +27,7 @@ pub(crate) enum Wrote {
 }
 
 /// A turn: what comes, the record that it writes, the messages that it sends, and the lines of the answer that it gives.
-pub(crate) type Step = (
-    Comes,
-    Wrote,
-    &'static [Letter],
-    &'static [&'static [u8]],
-);
+pub(crate) type Step = (Comes, Wrote, &'static [Letter], &'static [&'static [u8]]);
 
 /// The record of a turn.
 fn wrote_of(wrote: &Option<RedoRecord>) -> Option<Wrote> {
@@ -51,9 +46,13 @@ fn wrote_of(wrote: &Option<RedoRecord>) -> Option<Wrote> {
         )),
         Some(RedoRecord::Ended { decision, .. }) => Some(Wrote::Ended(*decision)),
         Some(RedoRecord::Forced { decision, .. }) => Some(Wrote::Forced(*decision)),
-        Some(RedoRecord::Met {
-            decision, mixed, ..
-        }) => Some(Wrote::Met(*decision, *mixed)),
+        Some(
+            RedoRecord::Met {
+                decision,
+                mixed,
+                ..
+            },
+        ) => Some(Wrote::Met(*decision, *mixed)),
         Some(RedoRecord::Forgot(_)) => Some(Wrote::Forgot),
         Some(RedoRecord::Hidden(_)) => Some(Wrote::Hidden),
         _ => None,
@@ -113,13 +112,25 @@ fn tells(
         && are_ended(alloc, effects.ended.as_slice(), lines)
 }
 
+/// The node after a turn that tells just this; none after any other.
+pub(crate) fn expect(
+    alloc: Global,
+    node: LoneNode,
+    comes: &Comes,
+    wrote: Wrote,
+    letters: &[Letter],
+    lines: &[&[u8]],
+) -> Option<LoneNode> {
+    match node.take(alloc, comes, &[])? {
+        Took::Whole(node, effects) if tells(alloc, &effects, wrote, letters, lines) => Some(node),
+        _ => None,
+    }
+}
+
 /// The node after a turn that is as expected; none after any other.
 fn step(alloc: Global, node: LoneNode, step: &Step) -> Option<LoneNode> {
     let (comes, wrote, letters, lines) = step;
-    match node.take(alloc, comes, &[])? {
-        Took::Whole(node, effects) if tells(alloc, &effects, *wrote, letters, lines) => Some(node),
-        _ => None,
-    }
+    expect(alloc, node, comes, *wrote, letters, lines)
 }
 
 /// A turn of a test by its place: its part, and its number there, each from 1.
@@ -140,11 +151,7 @@ fn play(alloc: Global, node: LoneNode, steps: &[Step]) -> Result<LoneNode, usize
 }
 
 /// The same, for turns in parts.
-pub(crate) fn play_on(
-    alloc: Global,
-    node: LoneNode,
-    parts: &[&[Step]],
-) -> Result<LoneNode, Turn> {
+pub(crate) fn play_on(alloc: Global, node: LoneNode, parts: &[&[Step]]) -> Result<LoneNode, Turn> {
     let mut node = node;
     let mut part = 0;
     for steps in parts {
@@ -158,11 +165,7 @@ pub(crate) fn play_on(
 }
 
 /// The node of a number after these turns, if they are as expected.
-pub(crate) fn played(
-    alloc: Global,
-    number: u8,
-    parts: &[&[Step]],
-) -> Result<LoneNode, Turn> {
+pub(crate) fn played(alloc: Global, number: u8, parts: &[&[Step]]) -> Result<LoneNode, Turn> {
     match LoneNode::make(alloc, number) {
         Some(node) => play_on(alloc, node, parts),
         None => Err((0, 0)),
