@@ -1,11 +1,17 @@
 //! Messages as tests write them, and their bytes.
+ghost use Rattle.std.specs.Prelude.{◌≡◌, ◌≤◌, ◌<◌, ◌^◌, true, length, Some, IfSome};
+ghost use Rattle.fit_laws.specs.Bytes.{IsOfTable, StatementHasBytes};
+ghost use Rattle.msg_codec.specs.Fits.{KindFits};
+ghost use Rattle.msg_codec.specs.Message.{message_of};
+ghost use Rattle.node_examples.specs.Played.{IsChange, IsSaid, IsPlayed};
+ghost use Rattle.sql_print.specs.Printing.{printed};
 
 use dtx_values::{Answer, Bytes, Done, Listing};
 use msg_codec::{encode_msg, message_fits, messages_are_read};
 use sql_parse::parse;
 use sql_print::{print_stmt, printed_statements_are_read};
 use sql_statement::Stmt;
-use std::alloc::Global;
+use std::alloc::{AllocError, Global};
 use tran_ids::BranchId;
 use wire_msg::{Kind, Msg};
 
@@ -36,7 +42,6 @@ pub(crate) enum Says {
         site_below: bool,
     },
     Prepared,
-    ReadOnly,
     Ready,
     Abort,
     CommitPoint,
@@ -46,7 +51,6 @@ pub(crate) enum Says {
     RolledBack,
     Ack,
     Forgotten,
-    Rollback,
     Ask,
 }
 
@@ -56,41 +60,108 @@ pub(crate) type Letter = (BranchId, BranchId, u64, Says);
 /// The greatest SCN in a message of a test.
 const SCN_LIMIT: u64 = 1000;
 
-/// Whether a message is a Prepare.
-pub(crate) fn asks(says: &Says) -> bool {
-    matches!(says, Says::Prepare { .. })
+/// Whether a statement is over the rows of a table.
+fn is_of_table(statement: &Stmt) -> bool
+    ensures { result ≡ true → IsOfTable statement.now }
+{
+    match statement {
+        Stmt::Insert { .. } => true,
+        Stmt::Update { .. } => true,
+        Stmt::Delete { .. } => true,
+        Stmt::Select { .. } => true,
+        _ => false,
+    }
 }
 
-/// Whether a statement is over the rows of a table.
-fn is_of_table(statement: &Stmt) -> bool {
-    matches!(
-        statement,
-        Stmt::Insert { .. } | Stmt::Update { .. } | Stmt::Delete { .. } | Stmt::Select { .. }
-    )
+/// Whether four bytes count the printed text of a statement.
+fn is_short(alloc: Global, statement: &Stmt) -> bool
+    ensures { result ≡ true → length (printed statement.now) < 2 ^ 32 }
+{
+    match print_stmt(alloc, statement) {
+        Ok(text) => text.as_slice().len() < 4_294_967_296,
+        Err(AllocError) => false,
+    }
 }
 
 /// The statement of an Exec: one that this text spells, over the rows of a table.
-fn statement_of(alloc: Global, text: &[u8]) -> Option<Stmt> {
+fn statement_of(alloc: Global, text: &[u8]) -> Option<Stmt>
+    ensures bytes { IfSome result StatementHasBytes }
+    ensures short { IfSome result (λ s. length (printed s) < 2 ^ 32) }
+{
     printed_statements_are_read();
-    let statement = parse(alloc, text).ok()?;
-    let length = print_stmt(alloc, &statement).ok()?.as_slice().len();
-    if is_of_table(&statement) && length < 4_294_967_296 {
-        Some(statement)
+    match parse(alloc, text) {
+        Ok(statement) if is_of_table(&statement) && is_short(alloc, &statement) => Some(statement),
+        _ => None,
+    }
+}
+
+/// An answer that rows were changed.
+fn changed(done: Done) -> Option<Answer>
+    ensures { IfSome result IsChange }
+{
+    match done {
+        Done::Created => Some(Answer::Did(Done::Created, 1)),
+        Done::Updated => Some(Answer::Did(Done::Updated, 1)),
+        Done::Deleted => Some(Answer::Did(Done::Deleted, 1)),
+        _ => None,
+    }
+}
+
+/// An Exec of a statement. None where the text spells none that may be sent, or memory runs out.
+fn exec(alloc: Global, call: u32, room: u16, text: &[u8]) -> Option<Kind>
+    ensures { IfSome result IsSaid }
+{
+    match statement_of(alloc, text) {
+        Some(statement) => Some(Kind::Exec {
+            call,
+            room,
+            advice: None,
+            statement,
+        }),
+        None => None,
+    }
+}
+
+/// A Reply that a row was changed.
+fn did(call: u32, weight: u8, done: Done) -> Option<Kind>
+    ensures { IfSome result IsSaid }
+{
+    match changed(done) {
+        Some(result) => Some(Kind::Reply {
+            call,
+            weight: Some(weight),
+            count: 1,
+            result,
+        }),
+        None => None,
+    }
+}
+
+/// A Prepare, of a COMMIT without a comment.
+fn prepare(alloc: Global, site_below: bool) -> Kind
+    ensures { IsSaid result }
+{
+    Kind::Prepare {
+        site_below,
+        comment: Listing::new(alloc),
+    }
+}
+
+/// A Committed.
+fn committed(scn: u64) -> Option<Kind>
+    ensures { IfSome result IsSaid }
+{
+    if scn <= SCN_LIMIT {
+        Some(Kind::Committed { scn })
     } else {
         None
     }
 }
 
-/// An answer that rows were changed.
-fn changed(done: Done) -> Option<Answer> {
-    match done {
-        Done::Created | Done::Updated | Done::Deleted => Some(Answer::Did(done, 1)),
-        _ => None,
-    }
-}
-
 /// What a message says. None where it can't be said, or memory runs out.
-fn kind_of(alloc: Global, says: &Says) -> Option<Kind> {
+fn kind_of(alloc: Global, says: &Says) -> Option<Kind>
+    ensures { IfSome result IsSaid }
+{
     match says {
         Says::Open { edge, root, depth } => Some(Kind::Open {
             edge: *edge,
@@ -101,24 +172,10 @@ fn kind_of(alloc: Global, says: &Says) -> Option<Kind> {
             edge: *edge,
             strength: *strength,
         }),
-        Says::Exec { call, room, text } => Some(Kind::Exec {
-            call: *call,
-            room: *room,
-            advice: None,
-            statement: statement_of(alloc, text)?,
-        }),
-        Says::Did { call, weight, done } => Some(Kind::Reply {
-            call: *call,
-            weight: Some(*weight),
-            count: 1,
-            result: changed(*done)?,
-        }),
-        Says::Prepare { site_below } => Some(Kind::Prepare {
-            site_below: *site_below,
-            comment: Listing::new(alloc),
-        }),
+        Says::Exec { call, room, text } => exec(alloc, *call, *room, text),
+        Says::Did { call, weight, done } => did(*call, *weight, *done),
+        Says::Prepare { site_below } => Some(prepare(alloc, *site_below)),
         Says::Prepared => Some(Kind::Prepared),
-        Says::ReadOnly => Some(Kind::ReadOnly),
         Says::Ready => Some(Kind::Ready),
         Says::Abort => Some(Kind::Abort),
         Says::CommitPoint => Some(Kind::CommitPoint),
@@ -126,33 +183,41 @@ fn kind_of(alloc: Global, says: &Says) -> Option<Kind> {
         Says::RolledBack => Some(Kind::RolledBack),
         Says::Ack => Some(Kind::Ack),
         Says::Forgotten => Some(Kind::Forgotten),
-        Says::Rollback => Some(Kind::Rollback),
         Says::Ask => Some(Kind::Ask),
     }
 }
 
-/// A Committed.
-fn committed(scn: u64) -> Option<Kind> {
-    if scn <= SCN_LIMIT {
-        Some(Kind::Committed { scn })
-    } else {
-        None
+/// A message. None where it can't be said, or memory runs out.
+pub(crate) fn msg_of(alloc: Global, letter: &Letter) -> Option<Msg>
+    ensures { IfSome result IsPlayed }
+{
+    let (from, to, scn, says) = letter;
+    match kind_of(alloc, says) {
+        Some(kind) if *scn <= SCN_LIMIT => Some(Msg {
+            from: *from,
+            to: *to,
+            scn: *scn,
+            kind,
+        }),
+        _ => None,
     }
 }
 
-/// The bytes of a message. None where it can't be said, or memory runs out.
-pub(crate) fn bytes_of(alloc: Global, letter: &Letter) -> Option<Bytes> {
-    let (from, to, scn, says) = letter;
-    if *scn > SCN_LIMIT {
-        return None;
-    }
+/// The bytes of a message. None where memory runs out.
+pub(crate) fn encoded(alloc: Global, msg: &Msg) -> Option<Bytes>
+    requires { KindFits msg.now.kind }
+    ensures { IfSome result (λ bytes. message_of bytes ≡ Some msg.now) }
+{
     messages_are_read();
-    let msg = Msg {
-        from: *from,
-        to: *to,
-        scn: *scn,
-        kind: kind_of(alloc, says)?,
-    };
-    message_fits(&msg);
-    encode_msg(alloc, &msg).ok()
+    message_fits(msg);
+    match encode_msg(alloc, msg) {
+        Ok(bytes) => Some(bytes),
+        Err(AllocError) => None,
+    }
+}
+
+/// The bytes of a message, as a test writes it. None where it can't be said, or memory runs out.
+pub(crate) fn bytes_of(alloc: Global, letter: &Letter) -> Option<Bytes> {
+    let msg = msg_of(alloc, letter)?;
+    encoded(alloc, &msg)
 }
