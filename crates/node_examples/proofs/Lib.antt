@@ -1,2 +1,2 @@
-mod Playing
-mod Starting
+mod TurnLemmas
+mod StartLemmas

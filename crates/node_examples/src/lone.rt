@@ -126,7 +126,7 @@ fn works(live: &Live) -> bool
 }
 
 /// Whether each live branch works: a COMMIT finds its root so.
-#[tactic(auto, using(crate::proofs::Playing::all_work))]
+#[tactic(auto, using(crate::proofs::TurnLemmas::all_work))]
 fn all_work(lives: &[Live]) -> bool
     ensures { result ≡ true → AllByRecursion IsWorking lives.now }
 {
@@ -134,7 +134,7 @@ fn all_work(lives: &[Live]) -> bool
 }
 
 /// Whether each live branch has a parent: a Prepare finds its branch so.
-#[tactic(auto, using(crate::proofs::Playing::all_have_parents))]
+#[tactic(auto, using(crate::proofs::TurnLemmas::all_have_parents))]
 fn all_have_parents(lives: &[Live]) -> bool
     ensures { result ≡ true → AllByRecursion HasParent lives.now }
 {
@@ -149,7 +149,7 @@ fn may_take(lives: &[Live], incoming: &Incoming, asks: bool) -> bool
 }
 
 /// A turn of a node that may take this.
-#[tactic(auto, using(crate::proofs::Playing::reads, crate::proofs::Playing::takes, crate::proofs::Playing::spellable, crate::proofs::Playing::still_alone))]
+#[tactic(auto, using(crate::proofs::TurnLemmas::reads, crate::proofs::TurnLemmas::takes, crate::proofs::TurnLemmas::spellable, crate::proofs::TurnLemmas::still_alone))]
 fn turn(
     node: &mut Node<MemDisk>,
     bound: u64,

@@ -1,5 +1,5 @@
 //! A node of a test is made, and starts: what a start needs is tested on the records of its disk.
-ghost use Rattle.std.specs.Prelude.{◌≡◌, ◌<◌, ◌×◌, List, length, true, IfSome};
+ghost use Rattle.std.specs.Prelude.{◌≡◌, ◌<◌, List, length, true, IfSome};
 ghost use Rattle.std.specs.List.{AllByRecursion};
 ghost use Rattle.block_disk.specs.MemDisk.{DiskState};
 ghost use Rattle.node_disk.specs.Starts.{CanBeStarted};
@@ -63,7 +63,7 @@ fn is_low(redo: &RedoRecord) -> bool
 }
 
 /// Whether all of these records are so.
-#[tactic(auto, using(crate::proofs::Starting::all_low))]
+#[tactic(auto, using(crate::proofs::StartLemmas::all_low))]
 fn are_low(records: &[RedoRecord]) -> bool
     ensures { result ≡ true → AllByRecursion IsLow records.now }
 {
@@ -103,7 +103,7 @@ fn records_of(alloc: Global, bytes: &[u8]) -> Option<Records>
 }
 
 /// The node that is made of a place. None where memory runs out.
-#[tactic(auto, using(crate::proofs::Starting::made_alone))]
+#[tactic(auto, using(crate::proofs::StartLemmas::made_alone))]
 pub(crate) fn makes(alloc: Global, place: Place) -> Option<Node<MemDisk>>
     requires { IsSmallPlace place }
     ensures { IfSome result (IsAlone 1000) }
@@ -121,7 +121,7 @@ pub(crate) fn makes(alloc: Global, place: Place) -> Option<Node<MemDisk>>
 }
 
 /// The node that starts from a disk with these records. None where memory runs out.
-#[tactic(auto, using(crate::proofs::Starting::boots_few, crate::proofs::Starting::started_alone))]
+#[tactic(auto, using(crate::proofs::StartLemmas::boots_few, crate::proofs::StartLemmas::started_alone))]
 fn starts_from(
     alloc: Global,
     disk: MemDisk,
