@@ -1,2 +1,3 @@
+mod SaidLemmas
 mod TurnLemmas
 mod StartLemmas

@@ -138,6 +138,7 @@ fn did(call: u32, weight: u8, done: Done) -> Option<Kind>
 }
 
 /// A Prepare, of a COMMIT without a comment.
+#[tactic(auto, using(crate::proofs::SaidLemmas::prepare_said))]
 fn prepare(alloc: Global, site_below: bool) -> Kind
     ensures { IsSaid result }
 {
