@@ -1,13 +1,13 @@
 #!/usr/bin/env python3
 """Makes a script of many short statements, at one node or over two.
 
-    bench/make.py [one|two [COUNT]] > SCRIPT
+    bench/make.py [insert|one|two [COUNT]] > SCRIPT
 
-one: one node, one table. COUNT rows are inserted, then a quarter as many updated and a quarter as many read, each by its key
-and in no order, with a COMMIT behind every 10 changes. two: two nodes. COUNT transactions insert a row at the first node and
-one over the link at the second, and COMMIT. Without COUNT the script is the longest of its kind that is measured: with the
-shortest spelling of each command 15,000 rows are 1.0 MB and 9,600 transactions too; a script may have
-1,048,576 bytes.
+insert: one node, one table. COUNT rows are inserted, in no order of their keys, with a COMMIT behind every 10. one: the same,
+and then a quarter as many are updated and a quarter as many read, each by its key. two: two nodes. COUNT transactions insert a
+row at the first node and one over the link at the second, and COMMIT. Without COUNT the script is the longest of its kind that
+is measured: with the shortest spelling of each command 23,000 rows that are inserted are 1.0 MB, and so are 15,000 that are
+changed and read, and 9,600 transactions; a script may have 1,048,576 bytes.
 """
 
 import math
@@ -37,6 +37,13 @@ def at(node, statements):
         yield f"AT {node} SESSION 1:{statement}", answer
 
 
+def inserts(rows):
+    """Each command of a script that inserts rows with the lines of its answer."""
+    yield "NODE A", ["ok"]
+    yield from at("A", [("CREATE TABLE T(K NUMBER PRIMARY KEY)", ["Table created."])])
+    yield from at("A", committed([(f"INSERT INTO T VALUES({key})", ["1 row created."]) for key in keys(rows, rows)]))
+
+
 def one_node(rows):
     """Each command of a script of one node with the lines of its answer."""
     quarter = keys(rows, rows // 4)
@@ -60,7 +67,7 @@ def two_nodes(transactions):
 
 
 # each kind of script, and how many rows or transactions the longest has
-SCRIPTS = {"one": (one_node, 15_000), "two": (two_nodes, 9_600)}
+SCRIPTS = {"insert": (inserts, 23_000), "one": (one_node, 15_000), "two": (two_nodes, 9_600)}
 
 
 def script(kind, count):

@@ -47,7 +47,7 @@ def measured(program, kind, count):
     """The median of some runs of the script of a kind with so many rows or transactions."""
     script, report = make.script(kind, count)
     taken = statistics.median(run(program, script, report) for _ in range(RUNS))
-    print(f"{kind:4} {count:6} {len(script):9,} bytes {taken:7.3f} s")
+    print(f"{kind:6} {count:6} {len(script):9,} bytes {taken:7.3f} s")
     return taken
 
 
@@ -55,7 +55,7 @@ def main(program):
     for kind, (_commands, count) in make.SCRIPTS.items():
         half = measured(program, kind, count // 2)
         whole = measured(program, kind, count)
-        print(f"{kind:4} {whole / half:.2f} times as long for twice as many")
+        print(f"{kind:6} {whole / half:.2f} times as long for twice as many")
 
 
 if __name__ == "__main__":
