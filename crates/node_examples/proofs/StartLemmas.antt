@@ -40,8 +40,8 @@ one_low : (r : RedoRecord) → is_low r ≡ true → IsLow r
 one_low r is =
     let parts = and_parts (not (is_synonym r)) (nat_lt (scn_in r) 1001 && nat_lt (boot_in r) 1001) is in
     let numbers = and_parts (nat_lt (scn_in r) 1001) (nat_lt (boot_in r) 1001) parts.1 in
-    let scn : scn_in r < 1001 = grind (nat_tests, numbers.0) in
-    let boot : boot_in r < 1001 = grind (nat_tests, numbers.1) in
+    let scn : scn_in r < 1001 = grind (arith, nat_tests, numbers.0) in
+    let boot : boot_in r < 1001 = grind (arith, nat_tests, numbers.1) in
     record { names = names_table r parts.0; scn = omega (arith, scn); boot = omega (arith, boot) }
 
 pub all_low : (rs : List RedoRecord) → list_all is_low rs ≡ true → AllByRecursion IsLow rs

@@ -87,7 +87,7 @@ input_of : (asks : Bool) (incoming : Incoming) (input : Input) → IsComing asks
 input_of asks (comings.Call session o) input coming read = subst (λ (i : Input). IsPlayedInput asks i) (same_input _ input read) (call_input asks session o coming.0 coming.1)
 input_of asks (comings.GiveUp session) input coming read =
     subst (λ (i : Input). IsPlayedInput asks i) (same_input _ input read)
-    (record { expected = record { fit = coming; whole = tt; named = tt; few = tt }; bytes = tt; within = tt; asked = tt })
+    (record { expected = record { fit = tt; whole = tt; named = tt; few = tt }; bytes = tt; within = tt; asked = tt })
 input_of asks (comings.Message bytes) input coming read =
     subst (λ (i : Input). IsPlayedInput asks i) (same_input _ input (sym (ap (λ (o : Option Msg). option_map inputs.Message o) coming.1) ∙ read)) (message_input asks coming.0 coming.2 coming.3)
 input_of asks comings.Reco input coming read =
@@ -231,10 +231,6 @@ is_working phases.Working is = refl
 is_working (phases.Collecting site_below) is = absurd cc
 is_working phases.Ready is = absurd cc
 
-some_parent : (o : Option BranchId) → is_some o ≡ true → IsTrue (is_some o)
-some_parent None is = absurd cc
-some_parent (Some b) is = tt
-
 -- ---- of a node
 
 pub takes : (bound : ℕ) (asks : Bool) (node : Node DiskState) (incoming : Incoming) → IsAlone bound node → bound < 1000000 → IsComing asks incoming → Meets asks incoming (kept_of node).lives
@@ -268,4 +264,4 @@ all_work (l ∷ ls) all = let parts = and_parts (works l) (list_all works ls) al
 
 pub all_have_parents : (ls : List Live) → list_all has_parent ls ≡ true → AllByRecursion HasParent ls
 all_have_parents [] all = tt
-all_have_parents (l ∷ ls) all = let parts = and_parts (has_parent l) (list_all has_parent ls) all in (some_parent l.parent parts.0, all_have_parents ls parts.1)
+all_have_parents (l ∷ ls) all = let parts = and_parts (has_parent l) (list_all has_parent ls) all in (parts.0, all_have_parents ls parts.1)

@@ -62,7 +62,7 @@ pub record IsCalled (s : Stmt) : Type 0 where
 -- what comes to a node in a test, and whether it is Prepare
 abbrev pub IsComing : Bool → Incoming → Type 0
 IsComing asks (comings.Call session statement) = IsSession session × IfSome statement IsCalled
-IsComing asks (comings.GiveUp session) = IsSession session
+IsComing asks (comings.GiveUp session) = Unit {0}
 IsComing asks (comings.Message bytes) = (m : Msg) × (message_of bytes ≡ Some m) × IsPlayed m × (asks ≡ is_prepare m.kind)
 IsComing asks comings.Reco = Unit {0}
 

@@ -133,16 +133,14 @@ fn step(alloc: Global, node: LoneNode, step: &Step) -> Option<LoneNode> {
     expect(alloc, node, comes, *wrote, letters, lines)
 }
 
-/// A turn of a test by its place: its part, and its number there, each from 1.
+/// A turn of a test by its place: its part, and its number there, each from 0.
 pub(crate) type Turn = (usize, usize);
 
-/// The node after turns that are as expected. The number of the first that is not, from 1.
+/// The node after turns that are as expected. The number of the first that is not, from 0.
 fn play(alloc: Global, node: LoneNode, steps: &[Step]) -> Result<LoneNode, usize> {
     let mut node = node;
-    let mut number = 0;
-    for turn in steps {
-        number += 1;
-        match step(alloc, node, turn) {
+    for number in 0..steps.len() {
+        match step(alloc, node, &steps[number]) {
             Some(next) => node = next,
             None => return Err(number),
         }
@@ -153,10 +151,8 @@ fn play(alloc: Global, node: LoneNode, steps: &[Step]) -> Result<LoneNode, usize
 /// The same, for turns in parts.
 pub(crate) fn play_on(alloc: Global, node: LoneNode, parts: &[&[Step]]) -> Result<LoneNode, Turn> {
     let mut node = node;
-    let mut part = 0;
-    for steps in parts {
-        part += 1;
-        match play(alloc, node, steps) {
+    for part in 0..parts.len() {
+        match play(alloc, node, parts[part]) {
             Ok(next) => node = next,
             Err(number) => return Err((part, number)),
         }

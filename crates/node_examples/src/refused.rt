@@ -197,13 +197,11 @@ fn refuses(alloc: Global, node: LoneNode, refused: &Refused) -> Option<LoneNode>
     }
 }
 
-/// The node after all of them. The number of the first that is not refused so, from 1.
+/// The node after all of them. The number of the first that is not refused so, from 0.
 fn refuses_all(alloc: Global, node: LoneNode) -> Result<LoneNode, usize> {
     let mut node = node;
-    let mut number = 0;
-    for refused in &REFUSED {
-        number += 1;
-        match refuses(alloc, node, refused) {
+    for number in 0..REFUSED.len() {
+        match refuses(alloc, node, &REFUSED[number]) {
             Some(next) => node = next,
             None => return Err(number),
         }
@@ -211,17 +209,17 @@ fn refuses_all(alloc: Global, node: LoneNode) -> Result<LoneNode, usize> {
     Ok(node)
 }
 
-/// The number of the first statement that is not refused as it should be, and 0 where another turn is not as expected.
+/// The number of the first statement that is not refused as it should be, and 99 where another turn is not as expected.
 fn first_other(alloc: Global) -> Option<usize> {
     match played(alloc, 3, &[&AT_HQ, &BEFORE]) {
         Ok(node) => match refuses_all(alloc, node) {
             Ok(node) => match play_on(alloc, node, &[&AFTER]) {
                 Ok(_node) => None,
-                Err(_turn) => Some(0),
+                Err(_turn) => Some(99),
             },
             Err(number) => Some(number),
         },
-        Err(_turn) => Some(0),
+        Err(_turn) => Some(99),
     }
 }
 
