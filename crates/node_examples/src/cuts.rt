@@ -177,11 +177,20 @@ fn point(number: u8) -> Point {
     }
 }
 
-/// What is left of a node whose turn is cut here.
-fn cut(alloc: Global, node: LoneNode, reach: &Reach) -> Option<DownNode> {
-    match node.take(alloc, &reach.turn.0, &[point(reach.point)])? {
-        Took::Cut(at, down) if at == reach.at => Some(down),
+/// What is left of a node whose turn was cut here.
+fn left(took: Took, at: CutAt) -> Option<DownNode> {
+    match took {
+        Took::Cut(place, down) if place == at => Some(down),
         _ => None,
+    }
+}
+
+/// The same, where its turn comes to that at the point.
+fn cut(alloc: Global, node: LoneNode, reach: &Reach) -> Option<DownNode> {
+    let points = [point(reach.point)];
+    match node.take(alloc, &reach.turn.0, &points) {
+        Some(took) => left(took, reach.at),
+        None => None,
     }
 }
 

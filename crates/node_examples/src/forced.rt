@@ -61,8 +61,8 @@ fn is_mixed(node: &LoneNode) -> Option<bool> {
 
 /// HQ, whose branch is forced, and then the decision comes: whether its row is mixed, also after a start, and none where it keeps
 /// no row of it then.
-fn met(alloc: Global, steps: &[Step]) -> Result<Option<bool>, Turn> {
-    let node = played(alloc, 3, &[&AT_HQ, &[PREPARE_HQ], steps])?;
+fn met(alloc: Global, parts: &[&[Step]]) -> Result<Option<bool>, Turn> {
+    let node = played(alloc, 3, parts)?;
     let mixed = is_mixed(&node);
     match restarted(alloc, node) {
         Some(node) if is_mixed(&node) == mixed => Ok(mixed),
@@ -79,7 +79,7 @@ fn a_forced_rollback_that_meets_a_commit_is_mixed(rt: HostRuntime) {
         MEET_COMMIT_MIXED,
         NO_ROW_AT_HQ,
     ];
-    assert!(rt; met(rt.alloc(), &steps) == Ok(Some(true)));
+    assert!(rt; met(rt.alloc(), &[&AT_HQ, &[PREPARE_HQ], &steps]) == Ok(Some(true)));
 }
 
 #[test]
@@ -91,15 +91,15 @@ fn a_forced_commit_that_meets_a_rollback_is_mixed(rt: HostRuntime) {
         MEET_ROLLBACK_MIXED,
         ROW_AT_HQ,
     ];
-    assert!(rt; met(rt.alloc(), &steps) == Ok(Some(true)));
+    assert!(rt; met(rt.alloc(), &[&AT_HQ, &[PREPARE_HQ], &steps]) == Ok(Some(true)));
 }
 
 #[test]
 fn a_forced_outcome_that_meets_its_like_is_not_mixed(rt: HostRuntime) {
     let commits = [COMMIT_FORCE, MEET_COMMIT, ROW_AT_HQ];
-    assert!(rt; met(rt.alloc(), &commits) == Ok(Some(false)));
+    assert!(rt; met(rt.alloc(), &[&AT_HQ, &[PREPARE_HQ], &commits]) == Ok(Some(false)));
     let rolls_back = [ROLLBACK_FORCE, MEET_ROLLBACK, NO_ROW_AT_HQ];
-    assert!(rt; met(rt.alloc(), &rolls_back) == Ok(None));
+    assert!(rt; met(rt.alloc(), &[&AT_HQ, &[PREPARE_HQ], &rolls_back]) == Ok(None));
 }
 
 /// The first turn that is not as expected where HQ starts between the forced outcome and the decision.

@@ -112,6 +112,22 @@ fn tells(
         && are_ended(alloc, effects.ended.as_slice(), lines)
 }
 
+/// The node after a turn that was whole, with what it tells.
+fn whole(took: Took) -> Option<(LoneNode, Effects)> {
+    match took {
+        Took::Whole(node, effects) => Some((node, effects)),
+        Took::Cut(_at, _down) => None,
+    }
+}
+
+/// The node after a turn, with what it tells; none where it was cut, or could not be taken.
+fn taken(alloc: Global, node: LoneNode, comes: &Comes) -> Option<(LoneNode, Effects)> {
+    match node.take(alloc, comes, &[]) {
+        Some(took) => whole(took),
+        None => None,
+    }
+}
+
 /// The node after a turn that tells just this; none after any other.
 pub(crate) fn expect(
     alloc: Global,
@@ -121,8 +137,8 @@ pub(crate) fn expect(
     letters: &[Letter],
     lines: &[&[u8]],
 ) -> Option<LoneNode> {
-    match node.take(alloc, comes, &[])? {
-        Took::Whole(node, effects) if tells(alloc, &effects, wrote, letters, lines) => Some(node),
+    match taken(alloc, node, comes) {
+        Some((node, effects)) if tells(alloc, &effects, wrote, letters, lines) => Some(node),
         _ => None,
     }
 }
