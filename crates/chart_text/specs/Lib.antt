@@ -1,0 +1,5 @@
+pub mod Words
+pub mod Window
+pub mod Plain
+pub mod Shapes
+pub mod Svg
