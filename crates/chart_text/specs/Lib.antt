@@ -1,3 +1,4 @@
+pub mod Data
 pub mod Words
 pub mod Window
 pub mod Plain

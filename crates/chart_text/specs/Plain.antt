@@ -4,12 +4,15 @@ use Rattle.std.specs.Prelude.{ℕ, ◌+◌, ◌-◌, ◌==◌, ◌&&◌, Bool, i
 use Rattle.std.specs.List.{list_any}
 use Rattle.tran_ids.specs.Numbers.{decimal}
 use Rattle.tran_ids.specs.Texts.{name_of}
-use Rattle.book.specs.Texts.{ended_line}
-use Rattle.run_marks.specs.Data.{Band, End, Arrow, Repeat, Note, Doubt, Outage, Parting, Marks}
-use Rattle.run_marks.specs.Data.ends
+use Rattle.chart_text.specs.Data.{Band, End, Arrow, Repeat, Note, Doubt, Outage, Parting, Marks}
+use Rattle.chart_text.specs.Data.ends
 use Rattle.chart_text.specs.Words.{message_text, deed_text, parting_text}
 use Rattle.chart_text.specs.Window.{is_in, reaches, till_of, end_row}
 use Rattle.chart_text.specs.declared.window.Window.{Window}
+
+-- a line, with its line feed
+abbrev pub ended_line : List ℕ → List ℕ
+ended_line line = line ++ 10 ∷ []
 
 -- which commands are drawn
 abbrev pub window_text : Window → List ℕ

@@ -16,22 +16,26 @@ escaped_byte b =
 abbrev pub escaped : List ℕ → List ℕ
 escaped text = flat_map escaped_byte text
 
+-- words, and then a number
+abbrev pub valued : List ℕ → ℕ → List ℕ
+valued words n = words ++ decimal n
+
 -- a line from a point to a point
 abbrev pub line_svg : ℕ → ℕ → ℕ → ℕ → List ℕ → List ℕ
 line_svg x1 y1 x2 y2 style =
-    codes "<line x1=\"" ++ decimal x1 ++ codes "\" y1=\"" ++ decimal y1 ++ codes "\" x2=\"" ++ decimal x2 ++ codes "\" y2=\"" ++ decimal y2
+    valued (codes "<line x1=\"") x1 ++ valued (codes "\" y1=\"") y1 ++ valued (codes "\" x2=\"") x2 ++ valued (codes "\" y2=\"") y2
     ++ codes "\" " ++ style ++ codes "/>\n"
 
 -- a rectangle, by its upper left corner, its width and its height
 abbrev pub rect_svg : ℕ → ℕ → ℕ → ℕ → List ℕ → List ℕ
 rect_svg x y width height style =
-    codes "<rect x=\"" ++ decimal x ++ codes "\" y=\"" ++ decimal y ++ codes "\" width=\"" ++ decimal width ++ codes "\" height=\"" ++ decimal height
+    valued (codes "<rect x=\"") x ++ valued (codes "\" y=\"") y ++ valued (codes "\" width=\"") width ++ valued (codes "\" height=\"") height
     ++ codes "\" " ++ style ++ codes "/>\n"
 
 -- a text at a point
 abbrev pub text_svg : ℕ → ℕ → List ℕ → List ℕ → List ℕ
 text_svg x y style text =
-    codes "<text x=\"" ++ decimal x ++ codes "\" y=\"" ++ decimal y ++ codes "\" " ++ style ++ codes ">" ++ escaped text ++ codes "</text>\n"
+    valued (codes "<text x=\"") x ++ valued (codes "\" y=\"") y ++ codes "\" " ++ style ++ codes ">" ++ escaped text ++ codes "</text>\n"
 
 -- the white border that keeps a label readable where lines cross it
 abbrev pub halo : List ℕ
@@ -43,12 +47,12 @@ label_svg x y style text = text_svg x y (halo ++ style) text ++ text_svg x y sty
 
 -- a shape round a point
 abbrev pub shape_svg : ℕ → ℕ → List ℕ → List ℕ
-shape_svg x y shape = codes "<path transform=\"translate(" ++ decimal x ++ codes "," ++ decimal y ++ codes ")\" " ++ shape ++ codes "/>\n"
+shape_svg x y shape = valued (codes "<path transform=\"translate(") x ++ valued (codes ",") y ++ codes ")\" " ++ shape ++ codes "/>\n"
 
 -- a line of a text of several lines
 abbrev pub row_svg : ℕ → List ℕ → List ℕ
-row_svg x line = codes "<tspan x=\"" ++ decimal x ++ codes "\" dy=\"14\">" ++ escaped line ++ codes "</tspan>"
+row_svg x line = valued (codes "<tspan x=\"") x ++ codes "\" dy=\"14\">" ++ escaped line ++ codes "</tspan>"
 
 -- a text of several lines, below a point
 abbrev pub rows_svg : ℕ → ℕ → List (List ℕ) → List ℕ
-rows_svg x y lines = codes "<text x=\"" ++ decimal x ++ codes "\" y=\"" ++ decimal y ++ codes "\">" ++ flat_map (row_svg x) lines ++ codes "</text>\n"
+rows_svg x y lines = valued (codes "<text x=\"") x ++ valued (codes "\" y=\"") y ++ codes "\">" ++ flat_map (row_svg x) lines ++ codes "</text>\n"

@@ -2,13 +2,13 @@
 use Rattle.std.specs.Prelude.{ℕ, Bool, ◌+◌, ◌-◌, ◌*◌, if◌then◌else◌, nat_lt, min, max, List, [], ◌∷◌, ◌++◌, flat_map, length, take, codes}
 use Rattle.tran_ids.specs.Numbers.{decimal}
 use Rattle.tran_ids.specs.Texts.{name_of}
-use Rattle.run_marks.specs.Data.{Band, End, Arrow, Repeat, Deed, Side, Left, Right, Note, Doubt, Outage, Parting, Marks}
-use Rattle.run_marks.specs.Data.ends
-use Rattle.run_marks.specs.Data.deeds
+use Rattle.chart_text.specs.Data.{Band, End, Arrow, Repeat, Deed, Side, Left, Right, Note, Doubt, Outage, Parting, Marks}
+use Rattle.chart_text.specs.Data.ends
+use Rattle.chart_text.specs.Data.deeds
 use Rattle.chart_text.specs.Words.{message_text, deed_text, parting_text}
 use Rattle.chart_text.specs.Window.{is_in, reaches, till_of, end_row, shows_arrow}
 use Rattle.chart_text.specs.Plain.{window_text}
-use Rattle.chart_text.specs.Shapes.{line_svg, rect_svg, text_svg, label_svg, shape_svg, rows_svg}
+use Rattle.chart_text.specs.Shapes.{valued, line_svg, rect_svg, text_svg, label_svg, shape_svg, rows_svg}
 use Rattle.chart_text.specs.declared.window.Window.{Window}
 
 -- where a node's lane stands
@@ -143,7 +143,7 @@ side_anchor Right = codes "text-anchor=\"start\" font-weight=\"bold\""
 -- the label of what a node did or met
 abbrev pub note_label : Window → Note → List ℕ
 note_label w n =
-    if is_in w n.row then label_svg (side_x n.node n.side) (y_of n.row - 2) (side_anchor n.side) (deed_text n.deed) else []
+    if is_in w n.row then label_svg (side_x n.node n.side) (y_of n.row + 1) (side_anchor n.side) (deed_text n.deed) else []
 
 -- how the line between two nodes looks that are cut or joined
 abbrev pub parting_style : Bool → List ℕ
@@ -158,7 +158,7 @@ parting_line p = line_svg (x_of p.a) (y_of p.row) (x_of p.b) (y_of p.row) (parti
 abbrev pub parting_svg : Window → List (List ℕ) → Parting → List ℕ
 parting_svg w names p =
     if is_in w p.row
-    then parting_line p ++ label_svg (x_of (min p.a p.b) + 12) (y_of p.row - 2) (codes "text-anchor=\"start\"") (parting_text names p)
+    then parting_line p ++ label_svg (x_of (min p.a p.b) + 12) (y_of p.row - 4) (codes "text-anchor=\"start\"") (parting_text names p)
     else []
 
 -- the line above a command
@@ -174,9 +174,9 @@ band_svg w lanes b =
       ++ rows_svg 44 (edge_of b.row) b.text ++ rows_svg (answers_x lanes) (edge_of b.row) b.answer
     else []
 
--- the rows that are drawn
-abbrev pub body_svg : Window → Marks → List ℕ
-body_svg w m =
+-- the lines of the rows that are drawn
+abbrev pub lines_svg : Window → Marks → List ℕ
+lines_svg w m =
     flat_map (band_line w (length m.lanes)) m.bands
     ++ lanes_from w 1 m.lanes
     ++ flat_map (doubt_svg w) m.doubts
@@ -185,7 +185,11 @@ body_svg w m =
     ++ flat_map (repeat_svg w) m.repeats
     ++ flat_map (parting_svg w m.lanes) m.partings
     ++ flat_map (note_svg w) m.notes
-    ++ flat_map (arrow_label w) m.arrows
+
+-- the texts of the rows that are drawn
+abbrev pub texts_svg : Window → Marks → List ℕ
+texts_svg w m =
+    flat_map (arrow_label w) m.arrows
     ++ flat_map (repeat_label w) m.repeats
     ++ flat_map (note_label w) m.notes
     ++ flat_map (band_svg w (length m.lanes)) m.bands
@@ -193,8 +197,8 @@ body_svg w m =
 -- what a frame begins with: its width, its height, and where its view begins
 abbrev pub frame_svg : ℕ → ℕ → ℕ → List ℕ
 frame_svg width height top =
-    codes "width=\"" ++ decimal width ++ codes "\" height=\"" ++ decimal height
-    ++ codes "\" viewBox=\"0 " ++ decimal top ++ codes " " ++ decimal width ++ codes " " ++ decimal height ++ codes "\""
+    valued (codes "width=\"") width ++ valued (codes "\" height=\"") height
+    ++ valued (codes "\" viewBox=\"0 ") top ++ valued (codes " ") width ++ valued (codes " ") height ++ codes "\""
 
 -- how tall the rows are that are drawn
 abbrev pub height_of : Window → ℕ
@@ -209,23 +213,31 @@ markers =
     ++ codes "<marker id=\"open\" markerWidth=\"10\" markerHeight=\"10\" refX=\"5\" refY=\"5\" markerUnits=\"userSpaceOnUse\"><path d=\"M1 5A4 4 0 1 0 9 5A4 4 0 1 0 1 5Z\" fill=\"#ffffff\" stroke=\"#0072b2\"/></marker>\n"
     ++ codes "</defs>\n"
 
--- what the shapes mean
-unfoldable pub legend : List ℕ
-legend =
+-- what the shapes of branches mean
+unfoldable pub branch_legend : List ℕ
+branch_legend =
     codes "<path transform=\"translate(16,42)\" d=\"M0 -9L9 0L0 9L-9 0Z\" fill=\"#0072b2\" stroke=\"#000000\"/><text x=\"30\" y=\"46\">the commit point site decides to commit</text>\n"
     ++ codes "<path transform=\"translate(286,42)\" d=\"M-5 -5H5V5H-5Z\" fill=\"#e69f00\" stroke=\"#000000\"/><text x=\"300\" y=\"46\">a branch is prepared</text>\n"
     ++ codes "<rect x=\"430\" y=\"35\" width=\"14\" height=\"14\" fill=\"#e69f00\" fill-opacity=\"0.6\"/><text x=\"450\" y=\"46\">a branch is in doubt</text>\n"
     ++ codes "<path transform=\"translate(596,42)\" d=\"M-5 0A5 5 0 1 0 5 0A5 5 0 1 0 -5 0Z\" fill=\"#0072b2\" stroke=\"#000000\"/><text x=\"610\" y=\"46\">it learns the commit</text>\n"
     ++ codes "<path transform=\"translate(746,42)\" d=\"M-5 0A5 5 0 1 0 5 0A5 5 0 1 0 -5 0Z\" fill=\"#ffffff\" stroke=\"#000000\" stroke-width=\"1.5\"/><text x=\"760\" y=\"46\">it is rolled back</text>\n"
     ++ codes "<path transform=\"translate(876,42)\" d=\"M0 -7L7 5L-7 5Z\" fill=\"#0072b2\" stroke=\"#000000\"/><text x=\"890\" y=\"46\">it is forced</text>\n"
-    ++ codes "<path transform=\"translate(16,64)\" d=\"M-10 0H10\" stroke=\"#000000\" stroke-width=\"4\"/><text x=\"30\" y=\"68\">the node stops</text>\n"
+
+-- what the shapes of nodes and of calls mean
+unfoldable pub node_legend : List ℕ
+node_legend =
+    codes "<path transform=\"translate(16,64)\" d=\"M-10 0H10\" stroke=\"#000000\" stroke-width=\"4\"/><text x=\"30\" y=\"68\">the node stops</text>\n"
     ++ codes "<path transform=\"translate(136,64)\" d=\"M-7 -5H7L0 6Z\" fill=\"#000000\"/><text x=\"150\" y=\"68\">it starts</text>\n"
-    ++ codes "<line x1=\"226\" y1=\"64\" x2=\"266\" y2=\"64\" stroke=\"#0072b2\" stroke-width=\"1.5\" marker-end=\"url(#head)\"/><text x=\"274\" y=\"68\">message</text>\n"
+    ++ codes "<path transform=\"translate(676,64)\" d=\"M-10 -4L-3 0L-10 4Z\" fill=\"#555555\"/><text x=\"690\" y=\"68\">call of a client</text>\n"
+    ++ codes "<path transform=\"translate(806,64)\" d=\"M-6 -6L6 6M-6 6L6 -6\" stroke=\"#d55e00\" stroke-width=\"3\"/><text x=\"820\" y=\"68\">decision differs: mixed</text>\n"
+
+-- what the lines mean
+unfoldable pub line_legend : List ℕ
+line_legend =
+    codes "<line x1=\"226\" y1=\"64\" x2=\"266\" y2=\"64\" stroke=\"#0072b2\" stroke-width=\"1.5\" marker-end=\"url(#head)\"/><text x=\"274\" y=\"68\">message</text>\n"
     ++ codes "<line x1=\"336\" y1=\"64\" x2=\"366\" y2=\"64\" stroke=\"#d55e00\" stroke-width=\"1.5\" marker-end=\"url(#cross)\"/><text x=\"380\" y=\"68\">lost</text>\n"
     ++ codes "<line x1=\"426\" y1=\"64\" x2=\"456\" y2=\"64\" stroke=\"#0072b2\" stroke-width=\"1.5\" marker-end=\"url(#open)\"/><text x=\"468\" y=\"68\">in flight</text>\n"
     ++ codes "<line x1=\"546\" y1=\"64\" x2=\"586\" y2=\"64\" stroke=\"#0072b2\" stroke-width=\"1.5\" stroke-dasharray=\"5 3\" marker-end=\"url(#head)\"/><text x=\"594\" y=\"68\">a copy</text>\n"
-    ++ codes "<path transform=\"translate(676,64)\" d=\"M-10 -4L-3 0L-10 4Z\" fill=\"#555555\"/><text x=\"690\" y=\"68\">call of a client</text>\n"
-    ++ codes "<path transform=\"translate(806,64)\" d=\"M-6 -6L6 6M-6 6L6 -6\" stroke=\"#d55e00\" stroke-width=\"3\"/><text x=\"820\" y=\"68\">decision differs: mixed</text>\n"
 
 -- what stands above the rows
 unfoldable pub head_svg : Window → Marks → List ℕ
@@ -235,7 +247,7 @@ head_svg w m =
     ++ markers
     ++ codes "<rect width=\"100%\" height=\"100%\" fill=\"#ffffff\"/>\n"
     ++ text_svg 8 22 (codes "font-size=\"14\" font-weight=\"bold\"") (window_text w)
-    ++ legend
+    ++ branch_legend ++ node_legend ++ line_legend
     ++ names_svg 1 m.lanes
 
 -- a picture
@@ -243,5 +255,5 @@ unfoldable pub svg_of : Window → Marks → List ℕ
 svg_of w m =
     head_svg w m
     ++ codes "<svg y=\"110\" " ++ frame_svg (width_of (length m.lanes)) (height_of w) (edge_of w.top) ++ codes ">\n"
-    ++ body_svg w m
+    ++ lines_svg w m ++ texts_svg w m
     ++ codes "</svg>\n</svg>\n"

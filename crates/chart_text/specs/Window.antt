@@ -2,8 +2,8 @@
 use Rattle.std.specs.Prelude.{ℕ, ◌+◌, ◌&&◌, Bool, List, length, filter, nat_lt, nat_le, min, max, Option, Some, None}
 use Rattle.std.specs.Prelude.{if◌then◌else◌}
 use Rattle.tran_ids.specs.Listed.{numbered}
-use Rattle.run_marks.specs.Data.{Band, Arrow, End, Marks}
-use Rattle.run_marks.specs.Data.ends
+use Rattle.chart_text.specs.Data.{Band, Arrow, End, Marks}
+use Rattle.chart_text.specs.Data.ends
 use Rattle.chart_text.specs.declared.window.Window.{Window}
 
 -- a command that is drawn begins within so many rows of the first one

@@ -4,8 +4,8 @@ use Rattle.tran_ids.specs.Numbers.{decimal}
 use Rattle.tran_ids.specs.Texts.{name_of}
 use Rattle.wire_msg.specs.declared.kind.KindName.{KindName}
 use Rattle.wire_msg.specs.Names.{kind_text}
-use Rattle.run_marks.specs.Data.{Deed, Parting}
-use Rattle.run_marks.specs.Data.deeds
+use Rattle.chart_text.specs.Data.{Deed, Parting}
+use Rattle.chart_text.specs.Data.deeds
 use Rattle.std.specs.Prelude.{if◌then◌else◌}
 
 -- a message, by its number and its kind

@@ -203,7 +203,7 @@ fn put_note_label(
     let mut text = Vec::new(alloc);
     put_deed(&mut text, note.deed)?;
     let x = side_x(note.node, note.side);
-    put_label(out, x, y_of(note.row) - 2, side_anchor(note.side), &text)
+    put_label(out, x, y_of(note.row) + 1, side_anchor(note.side), &text)
 }
 
 fn between(joined: bool) -> &'static [u8]
@@ -247,7 +247,7 @@ fn put_parting_mark(
     let mut text = Vec::new(alloc);
     put_parting(&mut text, names, parting)?;
     let x = x_of(u64::from(parting.a.min(parting.b))) + 12;
-    let y = y_of(parting.row) - 2;
+    let y = y_of(parting.row) - 4;
     put_label(out, x, y, b"text-anchor=\"start\"", &text)
 }
 

@@ -2,16 +2,15 @@
 ghost use Rattle.std.specs.Prelude.{◌≡◌, ◌<◌, ◌^◌, ◌++◌, codes, length, take, OnOk};
 ghost use Rattle.chart_text.specs.Plain.{window_text};
 ghost use Rattle.chart_text.specs.Shapes.{text_svg};
-ghost use Rattle.chart_text.specs.Svg.{name_svg, names_svg, markers, legend, frame_svg, height_of, head_svg};
+ghost use Rattle.chart_text.specs.Svg.{name_svg, names_svg, markers, branch_legend, node_legend, line_legend, frame_svg, height_of, head_svg};
 
 use crate::lanes::{width, x_of};
 use crate::plain_text::put_window;
-use crate::shapes::put_text;
+use crate::shapes::{put_text, put_value};
 use crate::window::Window;
 use dtx_values::Name;
 use run_marks::Marks;
 use std::alloc::{AllocError, Global};
-use tran_ids::put_decimal;
 
 #[tactic(auto, unfolding(crate::specs::Svg::markers))]
 fn put_markers(out: &mut Vec<u8>) -> Result<(), AllocError>
@@ -24,24 +23,36 @@ fn put_markers(out: &mut Vec<u8>) -> Result<(), AllocError>
     out.extend_from_slice(b"</defs>\n")
 }
 
-#[tactic(auto, unfolding(crate::specs::Svg::legend))]
-fn put_legend(out: &mut Vec<u8>) -> Result<(), AllocError>
-    ensures { OnOk result (out.new.items ≡ out.old.items ++ legend) }
+#[tactic(auto, unfolding(crate::specs::Svg::branch_legend))]
+fn put_branch_legend(out: &mut Vec<u8>) -> Result<(), AllocError>
+    ensures { OnOk result (out.new.items ≡ out.old.items ++ branch_legend) }
 {
     out.extend_from_slice(b"<path transform=\"translate(16,42)\" d=\"M0 -9L9 0L0 9L-9 0Z\" fill=\"#0072b2\" stroke=\"#000000\"/><text x=\"30\" y=\"46\">the commit point site decides to commit</text>\n")?;
     out.extend_from_slice(b"<path transform=\"translate(286,42)\" d=\"M-5 -5H5V5H-5Z\" fill=\"#e69f00\" stroke=\"#000000\"/><text x=\"300\" y=\"46\">a branch is prepared</text>\n")?;
     out.extend_from_slice(b"<rect x=\"430\" y=\"35\" width=\"14\" height=\"14\" fill=\"#e69f00\" fill-opacity=\"0.6\"/><text x=\"450\" y=\"46\">a branch is in doubt</text>\n")?;
     out.extend_from_slice(b"<path transform=\"translate(596,42)\" d=\"M-5 0A5 5 0 1 0 5 0A5 5 0 1 0 -5 0Z\" fill=\"#0072b2\" stroke=\"#000000\"/><text x=\"610\" y=\"46\">it learns the commit</text>\n")?;
     out.extend_from_slice(b"<path transform=\"translate(746,42)\" d=\"M-5 0A5 5 0 1 0 5 0A5 5 0 1 0 -5 0Z\" fill=\"#ffffff\" stroke=\"#000000\" stroke-width=\"1.5\"/><text x=\"760\" y=\"46\">it is rolled back</text>\n")?;
-    out.extend_from_slice(b"<path transform=\"translate(876,42)\" d=\"M0 -7L7 5L-7 5Z\" fill=\"#0072b2\" stroke=\"#000000\"/><text x=\"890\" y=\"46\">it is forced</text>\n")?;
+    out.extend_from_slice(b"<path transform=\"translate(876,42)\" d=\"M0 -7L7 5L-7 5Z\" fill=\"#0072b2\" stroke=\"#000000\"/><text x=\"890\" y=\"46\">it is forced</text>\n")
+}
+
+#[tactic(auto, unfolding(crate::specs::Svg::node_legend))]
+fn put_node_legend(out: &mut Vec<u8>) -> Result<(), AllocError>
+    ensures { OnOk result (out.new.items ≡ out.old.items ++ node_legend) }
+{
     out.extend_from_slice(b"<path transform=\"translate(16,64)\" d=\"M-10 0H10\" stroke=\"#000000\" stroke-width=\"4\"/><text x=\"30\" y=\"68\">the node stops</text>\n")?;
     out.extend_from_slice(b"<path transform=\"translate(136,64)\" d=\"M-7 -5H7L0 6Z\" fill=\"#000000\"/><text x=\"150\" y=\"68\">it starts</text>\n")?;
+    out.extend_from_slice(b"<path transform=\"translate(676,64)\" d=\"M-10 -4L-3 0L-10 4Z\" fill=\"#555555\"/><text x=\"690\" y=\"68\">call of a client</text>\n")?;
+    out.extend_from_slice(b"<path transform=\"translate(806,64)\" d=\"M-6 -6L6 6M-6 6L6 -6\" stroke=\"#d55e00\" stroke-width=\"3\"/><text x=\"820\" y=\"68\">decision differs: mixed</text>\n")
+}
+
+#[tactic(auto, unfolding(crate::specs::Svg::line_legend))]
+fn put_line_legend(out: &mut Vec<u8>) -> Result<(), AllocError>
+    ensures { OnOk result (out.new.items ≡ out.old.items ++ line_legend) }
+{
     out.extend_from_slice(b"<line x1=\"226\" y1=\"64\" x2=\"266\" y2=\"64\" stroke=\"#0072b2\" stroke-width=\"1.5\" marker-end=\"url(#head)\"/><text x=\"274\" y=\"68\">message</text>\n")?;
     out.extend_from_slice(b"<line x1=\"336\" y1=\"64\" x2=\"366\" y2=\"64\" stroke=\"#d55e00\" stroke-width=\"1.5\" marker-end=\"url(#cross)\"/><text x=\"380\" y=\"68\">lost</text>\n")?;
     out.extend_from_slice(b"<line x1=\"426\" y1=\"64\" x2=\"456\" y2=\"64\" stroke=\"#0072b2\" stroke-width=\"1.5\" marker-end=\"url(#open)\"/><text x=\"468\" y=\"68\">in flight</text>\n")?;
-    out.extend_from_slice(b"<line x1=\"546\" y1=\"64\" x2=\"586\" y2=\"64\" stroke=\"#0072b2\" stroke-width=\"1.5\" stroke-dasharray=\"5 3\" marker-end=\"url(#head)\"/><text x=\"594\" y=\"68\">a copy</text>\n")?;
-    out.extend_from_slice(b"<path transform=\"translate(676,64)\" d=\"M-10 -4L-3 0L-10 4Z\" fill=\"#555555\"/><text x=\"690\" y=\"68\">call of a client</text>\n")?;
-    out.extend_from_slice(b"<path transform=\"translate(806,64)\" d=\"M-6 -6L6 6M-6 6L6 -6\" stroke=\"#d55e00\" stroke-width=\"3\"/><text x=\"820\" y=\"68\">decision differs: mixed</text>\n")
+    out.extend_from_slice(b"<line x1=\"546\" y1=\"64\" x2=\"586\" y2=\"64\" stroke=\"#0072b2\" stroke-width=\"1.5\" stroke-dasharray=\"5 3\" marker-end=\"url(#head)\"/><text x=\"594\" y=\"68\">a copy</text>\n")
 }
 
 // What still fits above a lane.
@@ -86,16 +97,11 @@ pub(crate) fn put_frame(
 ) -> Result<(), AllocError>
     ensures { OnOk result (out.new.items ≡ out.old.items ++ frame_svg width height top) }
 {
-    out.extend_from_slice(b"width=\"")?;
-    put_decimal(out, width)?;
-    out.extend_from_slice(b"\" height=\"")?;
-    put_decimal(out, height)?;
-    out.extend_from_slice(b"\" viewBox=\"0 ")?;
-    put_decimal(out, top)?;
-    out.extend_from_slice(b" ")?;
-    put_decimal(out, width)?;
-    out.extend_from_slice(b" ")?;
-    put_decimal(out, height)?;
+    put_value(out, b"width=\"", width)?;
+    put_value(out, b"\" height=\"", height)?;
+    put_value(out, b"\" viewBox=\"0 ", top)?;
+    put_value(out, b" ", width)?;
+    put_value(out, b" ", height)?;
     out.extend_from_slice(b"\"")
 }
 
@@ -134,6 +140,8 @@ pub(crate) fn put_head(
     put_markers(out)?;
     out.extend_from_slice(b"<rect width=\"100%\" height=\"100%\" fill=\"#ffffff\"/>\n")?;
     put_title(out, alloc, window)?;
-    put_legend(out)?;
+    put_branch_legend(out)?;
+    put_node_legend(out)?;
+    put_line_legend(out)?;
     put_names(out, names)
 }

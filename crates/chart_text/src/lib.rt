@@ -17,4 +17,4 @@ mod words;
 
 pub use drawing::svg;
 pub use plain_text::plain;
-pub use window::{Window, window};
+pub use window::Window;

@@ -2,7 +2,6 @@
 ghost use Rattle.std.specs.Prelude.{◌≡◌, ◌+◌, ◌-◌, ◌≤◌, ◌++◌, codes, flat_map, length, IfOk, OnOk};
 ghost use Rattle.std.specs.List.{list_any};
 ghost use Rattle.tran_ids.specs.Numbers.{decimal};
-ghost use Rattle.book.specs.Texts.{ended_line};
 ghost use Rattle.chart_text.specs.Plain.{window_text, legend, names_from, end_text, arrow_text, repeat_text, note_text, arrow_in, repeat_in, note_in, parting_in, events_in, lies_in as lies_in_stretch, doubts_at as doubts_there, is_down_at as is_down_there, cell, cells, row_line, asked_line, answer_line, band_in, row_lines, lines_from, text_of};
 
 use crate::window::{Window, end_row};

@@ -1,6 +1,6 @@
 //! The elements of SVG 1.1 that a picture is made of. Each call adds one at the end, and fails where memory runs out.
 ghost use Rattle.std.specs.Prelude.{◌≡◌, ◌++◌, flat_map, OnOk};
-ghost use Rattle.chart_text.specs.Shapes.{escaped_byte, escaped, line_svg, rect_svg, text_svg, halo, label_svg, shape_svg, row_svg, rows_svg};
+ghost use Rattle.chart_text.specs.Shapes.{escaped_byte, escaped, valued, line_svg, rect_svg, text_svg, halo, label_svg, shape_svg, row_svg, rows_svg};
 
 use dtx_values::Bytes;
 use std::alloc::AllocError;
@@ -35,6 +35,14 @@ fn put_escaped(out: &mut Vec<u8>, text: &[u8]) -> Result<(), AllocError>
     Ok(())
 }
 
+/// Words, and then a number.
+pub(crate) fn put_value(out: &mut Vec<u8>, words: &[u8], number: u64) -> Result<(), AllocError>
+    ensures { OnOk result (out.new.items ≡ out.old.items ++ valued words.now number) }
+{
+    out.extend_from_slice(words)?;
+    put_decimal(out, number)
+}
+
 /// A point of a picture.
 #[derive(Clone, Copy, Debug)]
 pub(crate) struct Spot {
@@ -53,14 +61,10 @@ pub(crate) fn put_line(
 ) -> Result<(), AllocError>
     ensures { OnOk result (out.new.items ≡ out.old.items ++ line_svg from.x from.y to.x to.y style.now) }
 {
-    out.extend_from_slice(b"<line x1=\"")?;
-    put_decimal(out, from.x)?;
-    out.extend_from_slice(b"\" y1=\"")?;
-    put_decimal(out, from.y)?;
-    out.extend_from_slice(b"\" x2=\"")?;
-    put_decimal(out, to.x)?;
-    out.extend_from_slice(b"\" y2=\"")?;
-    put_decimal(out, to.y)?;
+    put_value(out, b"<line x1=\"", from.x)?;
+    put_value(out, b"\" y1=\"", from.y)?;
+    put_value(out, b"\" x2=\"", to.x)?;
+    put_value(out, b"\" y2=\"", to.y)?;
     out.extend_from_slice(b"\" ")?;
     out.extend_from_slice(style)?;
     out.extend_from_slice(b"/>\n")
@@ -76,14 +80,10 @@ pub(crate) fn put_rect(
 ) -> Result<(), AllocError>
     ensures { OnOk result (out.new.items ≡ out.old.items ++ rect_svg corner.x corner.y width height style.now) }
 {
-    out.extend_from_slice(b"<rect x=\"")?;
-    put_decimal(out, corner.x)?;
-    out.extend_from_slice(b"\" y=\"")?;
-    put_decimal(out, corner.y)?;
-    out.extend_from_slice(b"\" width=\"")?;
-    put_decimal(out, width)?;
-    out.extend_from_slice(b"\" height=\"")?;
-    put_decimal(out, height)?;
+    put_value(out, b"<rect x=\"", corner.x)?;
+    put_value(out, b"\" y=\"", corner.y)?;
+    put_value(out, b"\" width=\"", width)?;
+    put_value(out, b"\" height=\"", height)?;
     out.extend_from_slice(b"\" ")?;
     out.extend_from_slice(style)?;
     out.extend_from_slice(b"/>\n")
@@ -99,10 +99,8 @@ pub(crate) fn put_text(
 ) -> Result<(), AllocError>
     ensures { OnOk result (out.new.items ≡ out.old.items ++ text_svg x y style.now text.now) }
 {
-    out.extend_from_slice(b"<text x=\"")?;
-    put_decimal(out, x)?;
-    out.extend_from_slice(b"\" y=\"")?;
-    put_decimal(out, y)?;
+    put_value(out, b"<text x=\"", x)?;
+    put_value(out, b"\" y=\"", y)?;
     out.extend_from_slice(b"\" ")?;
     out.extend_from_slice(style)?;
     out.extend_from_slice(b">")?;
@@ -119,10 +117,8 @@ fn put_halo(
 ) -> Result<(), AllocError>
     ensures { OnOk result (out.new.items ≡ out.old.items ++ text_svg x y (halo ++ style.now) text.now) }
 {
-    out.extend_from_slice(b"<text x=\"")?;
-    put_decimal(out, x)?;
-    out.extend_from_slice(b"\" y=\"")?;
-    put_decimal(out, y)?;
+    put_value(out, b"<text x=\"", x)?;
+    put_value(out, b"\" y=\"", y)?;
     out.extend_from_slice(b"\" ")?;
     out.extend_from_slice(b"stroke=\"#ffffff\" stroke-width=\"4\" ")?;
     out.extend_from_slice(style)?;
@@ -154,10 +150,8 @@ pub(crate) fn put_shape(
 ) -> Result<(), AllocError>
     ensures { OnOk result (out.new.items ≡ out.old.items ++ shape_svg x y shape.now) }
 {
-    out.extend_from_slice(b"<path transform=\"translate(")?;
-    put_decimal(out, x)?;
-    out.extend_from_slice(b",")?;
-    put_decimal(out, y)?;
+    put_value(out, b"<path transform=\"translate(", x)?;
+    put_value(out, b",", y)?;
     out.extend_from_slice(b")\" ")?;
     out.extend_from_slice(shape)?;
     out.extend_from_slice(b"/>\n")
@@ -166,8 +160,7 @@ pub(crate) fn put_shape(
 fn put_row(out: &mut Vec<u8>, x: u64, line: &[u8]) -> Result<(), AllocError>
     ensures { OnOk result (out.new.items ≡ out.old.items ++ row_svg x line.now) }
 {
-    out.extend_from_slice(b"<tspan x=\"")?;
-    put_decimal(out, x)?;
+    put_value(out, b"<tspan x=\"", x)?;
     out.extend_from_slice(b"\" dy=\"14\">")?;
     put_escaped(out, line)?;
     out.extend_from_slice(b"</tspan>")
@@ -186,10 +179,8 @@ fn put_each(out: &mut Vec<u8>, x: u64, lines: &[Bytes]) -> Result<(), AllocError
 pub(crate) fn put_rows(out: &mut Vec<u8>, x: u64, y: u64, lines: &[Bytes]) -> Result<(), AllocError>
     ensures { OnOk result (out.new.items ≡ out.old.items ++ rows_svg x y lines.now) }
 {
-    out.extend_from_slice(b"<text x=\"")?;
-    put_decimal(out, x)?;
-    out.extend_from_slice(b"\" y=\"")?;
-    put_decimal(out, y)?;
+    put_value(out, b"<text x=\"", x)?;
+    put_value(out, b"\" y=\"", y)?;
     out.extend_from_slice(b"\">")?;
     put_each(out, x, lines)?;
     out.extend_from_slice(b"</text>\n")

@@ -71,14 +71,14 @@ fn between(marks: &Marks, first: u32, last: u32) -> Window
     }
 }
 
-/// The window of the commands from `first` to `wanted`: of those that begin within the first rows of it.
-pub fn window(marks: &Marks, first: u32, wanted: u32) -> Window
-    ensures { result ≡ window_of marks.now first wanted }
-{
-    between(marks, first, last(marks, first, wanted))
-}
-
 impl Window {
+    /// The window of the commands from `first` to `wanted`: of those that begin within the first rows of it.
+    pub fn of(marks: &Marks, first: u32, wanted: u32) -> Window
+        ensures { result ≡ window_of marks.now first wanted }
+    {
+        between(marks, first, last(marks, first, wanted))
+    }
+
     /// Whether a row is drawn.
     pub(crate) fn is_in(self, row: u32) -> bool
         ensures { result ≡ is_in_window self row }
