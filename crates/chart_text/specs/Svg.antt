@@ -171,7 +171,7 @@ abbrev pub band_svg : Window → ℕ → Band → List ℕ
 band_svg w lanes b =
     if is_in w b.row
     then text_svg 8 (edge_of b.row + 14) (codes "font-weight=\"bold\"") (decimal b.command)
-      ++ rows_svg 44 (edge_of b.row) b.text ++ rows_svg (answers_x lanes) (edge_of b.row) b.answer
+    ++ rows_svg 44 (edge_of b.row) b.text ++ rows_svg (answers_x lanes) (edge_of b.row) b.answer
     else []
 
 -- the lines of the rows that are drawn

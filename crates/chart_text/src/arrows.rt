@@ -310,11 +310,7 @@ pub(crate) fn put_repeat_labels(
 }
 
 /// Adds the shapes of what nodes did or met.
-pub(crate) fn put_notes(
-    out: &mut Vec<u8>,
-    window: Window,
-    notes: &[Note],
-) -> Result<(), AllocError>
+pub(crate) fn put_notes(out: &mut Vec<u8>, window: Window, notes: &[Note]) -> Result<(), AllocError>
     ensures { OnOk result (out.new.items ≡ out.old.items ++ flat_map (note_svg window) notes.now) }
 {
     for note in notes {

@@ -23,10 +23,7 @@ fn put_band_line(
     }
     let y = edge(band.row);
     let from = Spot { x: 0, y };
-    let to = Spot {
-        x: width(lanes),
-        y,
-    };
+    let to = Spot { x: width(lanes), y };
     put_line(out, from, to, b"stroke=\"#bbbbbb\"")
 }
 

@@ -17,9 +17,15 @@ fn put_markers(out: &mut Vec<u8>) -> Result<(), AllocError>
     ensures { OnOk result (out.new.items ≡ out.old.items ++ markers) }
 {
     out.extend_from_slice(b"<defs>\n")?;
-    out.extend_from_slice(b"<marker id=\"head\" markerWidth=\"9\" markerHeight=\"8\" refX=\"8\" refY=\"4\" orient=\"auto\" markerUnits=\"userSpaceOnUse\"><path d=\"M0 0L8 4L0 8Z\" fill=\"#0072b2\"/></marker>\n")?;
-    out.extend_from_slice(b"<marker id=\"cross\" markerWidth=\"12\" markerHeight=\"12\" refX=\"6\" refY=\"6\" markerUnits=\"userSpaceOnUse\"><path d=\"M1 1L11 11M1 11L11 1\" stroke=\"#d55e00\" stroke-width=\"2\"/></marker>\n")?;
-    out.extend_from_slice(b"<marker id=\"open\" markerWidth=\"10\" markerHeight=\"10\" refX=\"5\" refY=\"5\" markerUnits=\"userSpaceOnUse\"><path d=\"M1 5A4 4 0 1 0 9 5A4 4 0 1 0 1 5Z\" fill=\"#ffffff\" stroke=\"#0072b2\"/></marker>\n")?;
+    out.extend_from_slice(
+        b"<marker id=\"head\" markerWidth=\"9\" markerHeight=\"8\" refX=\"8\" refY=\"4\" orient=\"auto\" markerUnits=\"userSpaceOnUse\"><path d=\"M0 0L8 4L0 8Z\" fill=\"#0072b2\"/></marker>\n",
+    )?;
+    out.extend_from_slice(
+        b"<marker id=\"cross\" markerWidth=\"12\" markerHeight=\"12\" refX=\"6\" refY=\"6\" markerUnits=\"userSpaceOnUse\"><path d=\"M1 1L11 11M1 11L11 1\" stroke=\"#d55e00\" stroke-width=\"2\"/></marker>\n",
+    )?;
+    out.extend_from_slice(
+        b"<marker id=\"open\" markerWidth=\"10\" markerHeight=\"10\" refX=\"5\" refY=\"5\" markerUnits=\"userSpaceOnUse\"><path d=\"M1 5A4 4 0 1 0 9 5A4 4 0 1 0 1 5Z\" fill=\"#ffffff\" stroke=\"#0072b2\"/></marker>\n",
+    )?;
     out.extend_from_slice(b"</defs>\n")
 }
 
@@ -27,32 +33,60 @@ fn put_markers(out: &mut Vec<u8>) -> Result<(), AllocError>
 fn put_branch_legend(out: &mut Vec<u8>) -> Result<(), AllocError>
     ensures { OnOk result (out.new.items ≡ out.old.items ++ branch_legend) }
 {
-    out.extend_from_slice(b"<path transform=\"translate(16,42)\" d=\"M0 -9L9 0L0 9L-9 0Z\" fill=\"#0072b2\" stroke=\"#000000\"/><text x=\"30\" y=\"46\">the commit point site decides to commit</text>\n")?;
-    out.extend_from_slice(b"<path transform=\"translate(286,42)\" d=\"M-5 -5H5V5H-5Z\" fill=\"#e69f00\" stroke=\"#000000\"/><text x=\"300\" y=\"46\">a branch is prepared</text>\n")?;
-    out.extend_from_slice(b"<rect x=\"430\" y=\"35\" width=\"14\" height=\"14\" fill=\"#e69f00\" fill-opacity=\"0.6\"/><text x=\"450\" y=\"46\">a branch is in doubt</text>\n")?;
-    out.extend_from_slice(b"<path transform=\"translate(596,42)\" d=\"M-5 0A5 5 0 1 0 5 0A5 5 0 1 0 -5 0Z\" fill=\"#0072b2\" stroke=\"#000000\"/><text x=\"610\" y=\"46\">it learns the commit</text>\n")?;
-    out.extend_from_slice(b"<path transform=\"translate(746,42)\" d=\"M-5 0A5 5 0 1 0 5 0A5 5 0 1 0 -5 0Z\" fill=\"#ffffff\" stroke=\"#000000\" stroke-width=\"1.5\"/><text x=\"760\" y=\"46\">it is rolled back</text>\n")?;
-    out.extend_from_slice(b"<path transform=\"translate(876,42)\" d=\"M0 -7L7 5L-7 5Z\" fill=\"#0072b2\" stroke=\"#000000\"/><text x=\"890\" y=\"46\">it is forced</text>\n")
+    out.extend_from_slice(
+        b"<path transform=\"translate(16,42)\" d=\"M0 -9L9 0L0 9L-9 0Z\" fill=\"#0072b2\" stroke=\"#000000\"/><text x=\"30\" y=\"46\">the commit point site decides to commit</text>\n",
+    )?;
+    out.extend_from_slice(
+        b"<path transform=\"translate(286,42)\" d=\"M-5 -5H5V5H-5Z\" fill=\"#e69f00\" stroke=\"#000000\"/><text x=\"300\" y=\"46\">a branch is prepared</text>\n",
+    )?;
+    out.extend_from_slice(
+        b"<rect x=\"430\" y=\"35\" width=\"14\" height=\"14\" fill=\"#e69f00\" fill-opacity=\"0.6\"/><text x=\"450\" y=\"46\">a branch is in doubt</text>\n",
+    )?;
+    out.extend_from_slice(
+        b"<path transform=\"translate(596,42)\" d=\"M-5 0A5 5 0 1 0 5 0A5 5 0 1 0 -5 0Z\" fill=\"#0072b2\" stroke=\"#000000\"/><text x=\"610\" y=\"46\">it learns the commit</text>\n",
+    )?;
+    out.extend_from_slice(
+        b"<path transform=\"translate(746,42)\" d=\"M-5 0A5 5 0 1 0 5 0A5 5 0 1 0 -5 0Z\" fill=\"#ffffff\" stroke=\"#000000\" stroke-width=\"1.5\"/><text x=\"760\" y=\"46\">it is rolled back</text>\n",
+    )?;
+    out.extend_from_slice(
+        b"<path transform=\"translate(876,42)\" d=\"M0 -7L7 5L-7 5Z\" fill=\"#0072b2\" stroke=\"#000000\"/><text x=\"890\" y=\"46\">it is forced</text>\n",
+    )
 }
 
 #[tactic(auto, unfolding(crate::specs::Svg::node_legend))]
 fn put_node_legend(out: &mut Vec<u8>) -> Result<(), AllocError>
     ensures { OnOk result (out.new.items ≡ out.old.items ++ node_legend) }
 {
-    out.extend_from_slice(b"<path transform=\"translate(16,64)\" d=\"M-10 0H10\" stroke=\"#000000\" stroke-width=\"4\"/><text x=\"30\" y=\"68\">the node stops</text>\n")?;
-    out.extend_from_slice(b"<path transform=\"translate(136,64)\" d=\"M-7 -5H7L0 6Z\" fill=\"#000000\"/><text x=\"150\" y=\"68\">it starts</text>\n")?;
-    out.extend_from_slice(b"<path transform=\"translate(676,64)\" d=\"M-10 -4L-3 0L-10 4Z\" fill=\"#555555\"/><text x=\"690\" y=\"68\">call of a client</text>\n")?;
-    out.extend_from_slice(b"<path transform=\"translate(806,64)\" d=\"M-6 -6L6 6M-6 6L6 -6\" stroke=\"#d55e00\" stroke-width=\"3\"/><text x=\"820\" y=\"68\">decision differs: mixed</text>\n")
+    out.extend_from_slice(
+        b"<path transform=\"translate(16,64)\" d=\"M-10 0H10\" stroke=\"#000000\" stroke-width=\"4\"/><text x=\"30\" y=\"68\">the node stops</text>\n",
+    )?;
+    out.extend_from_slice(
+        b"<path transform=\"translate(136,64)\" d=\"M-7 -5H7L0 6Z\" fill=\"#000000\"/><text x=\"150\" y=\"68\">it starts</text>\n",
+    )?;
+    out.extend_from_slice(
+        b"<path transform=\"translate(676,64)\" d=\"M-10 -4L-3 0L-10 4Z\" fill=\"#555555\"/><text x=\"690\" y=\"68\">call of a client</text>\n",
+    )?;
+    out.extend_from_slice(
+        b"<path transform=\"translate(806,64)\" d=\"M-6 -6L6 6M-6 6L6 -6\" stroke=\"#d55e00\" stroke-width=\"3\"/><text x=\"820\" y=\"68\">decision differs: mixed</text>\n",
+    )
 }
 
 #[tactic(auto, unfolding(crate::specs::Svg::line_legend))]
 fn put_line_legend(out: &mut Vec<u8>) -> Result<(), AllocError>
     ensures { OnOk result (out.new.items ≡ out.old.items ++ line_legend) }
 {
-    out.extend_from_slice(b"<line x1=\"226\" y1=\"64\" x2=\"266\" y2=\"64\" stroke=\"#0072b2\" stroke-width=\"1.5\" marker-end=\"url(#head)\"/><text x=\"274\" y=\"68\">message</text>\n")?;
-    out.extend_from_slice(b"<line x1=\"336\" y1=\"64\" x2=\"366\" y2=\"64\" stroke=\"#d55e00\" stroke-width=\"1.5\" marker-end=\"url(#cross)\"/><text x=\"380\" y=\"68\">lost</text>\n")?;
-    out.extend_from_slice(b"<line x1=\"426\" y1=\"64\" x2=\"456\" y2=\"64\" stroke=\"#0072b2\" stroke-width=\"1.5\" marker-end=\"url(#open)\"/><text x=\"468\" y=\"68\">in flight</text>\n")?;
-    out.extend_from_slice(b"<line x1=\"546\" y1=\"64\" x2=\"586\" y2=\"64\" stroke=\"#0072b2\" stroke-width=\"1.5\" stroke-dasharray=\"5 3\" marker-end=\"url(#head)\"/><text x=\"594\" y=\"68\">a copy</text>\n")
+    out.extend_from_slice(
+        b"<line x1=\"226\" y1=\"64\" x2=\"266\" y2=\"64\" stroke=\"#0072b2\" stroke-width=\"1.5\" marker-end=\"url(#head)\"/><text x=\"274\" y=\"68\">message</text>\n",
+    )?;
+    out.extend_from_slice(
+        b"<line x1=\"336\" y1=\"64\" x2=\"366\" y2=\"64\" stroke=\"#d55e00\" stroke-width=\"1.5\" marker-end=\"url(#cross)\"/><text x=\"380\" y=\"68\">lost</text>\n",
+    )?;
+    out.extend_from_slice(
+        b"<line x1=\"426\" y1=\"64\" x2=\"456\" y2=\"64\" stroke=\"#0072b2\" stroke-width=\"1.5\" marker-end=\"url(#open)\"/><text x=\"468\" y=\"68\">in flight</text>\n",
+    )?;
+    out.extend_from_slice(
+        b"<line x1=\"546\" y1=\"64\" x2=\"586\" y2=\"64\" stroke=\"#0072b2\" stroke-width=\"1.5\" stroke-dasharray=\"5 3\" marker-end=\"url(#head)\"/><text x=\"594\" y=\"68\">a copy</text>\n",
+    )
 }
 
 // What still fits above a lane.

@@ -63,11 +63,7 @@ fn put_lane(out: &mut Vec<u8>, window: Window, node: u64) -> Result<(), AllocErr
 }
 
 /// Adds the lanes of the nodes of these names.
-pub(crate) fn put_lanes(
-    out: &mut Vec<u8>,
-    window: Window,
-    names: &[Name],
-) -> Result<(), AllocError>
+pub(crate) fn put_lanes(out: &mut Vec<u8>, window: Window, names: &[Name]) -> Result<(), AllocError>
     requires { length names.now < 2 ^ 31 }
     ensures { OnOk result (out.new.items ≡ out.old.items ++ lanes_from window 1 names.now) }
 {

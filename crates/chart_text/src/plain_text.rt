@@ -106,12 +106,7 @@ fn put_repeat_in(
     Ok(())
 }
 
-fn put_note_in(
-    out: &mut Vec<u8>,
-    names: &[Name],
-    row: u32,
-    note: &Note,
-) -> Result<(), AllocError>
+fn put_note_in(out: &mut Vec<u8>, names: &[Name], row: u32, note: &Note) -> Result<(), AllocError>
     ensures { OnOk result (out.new.items ≡ out.old.items ++ note_in names.now row note.now) }
 {
     if note.row == row {
@@ -163,12 +158,7 @@ fn put_repeats(
     Ok(())
 }
 
-fn put_notes(
-    out: &mut Vec<u8>,
-    names: &[Name],
-    row: u32,
-    notes: &[Note],
-) -> Result<(), AllocError>
+fn put_notes(out: &mut Vec<u8>, names: &[Name], row: u32, notes: &[Note]) -> Result<(), AllocError>
     ensures { OnOk result (out.new.items ≡ out.old.items ++ flat_map (note_in names.now row) notes.now) }
 {
     for note in notes {
@@ -225,13 +215,17 @@ fn is_down_at(window: Window, node: u64, row: u32, outage: &Outage) -> bool
 fn is_in_doubt(window: Window, node: u64, row: u32, doubts: &[Doubt]) -> bool
     ensures { result ≡ list_any (doubts_there window node row) doubts.now }
 {
-    doubts.iter().any(|doubt| doubts_at(window, node, row, doubt))
+    doubts
+        .iter()
+        .any(|doubt| doubts_at(window, node, row, doubt))
 }
 
 fn is_down(window: Window, node: u64, row: u32, outages: &[Outage]) -> bool
     ensures { result ≡ list_any (is_down_there window node row) outages.now }
 {
-    outages.iter().any(|outage| is_down_at(window, node, row, outage))
+    outages
+        .iter()
+        .any(|outage| is_down_at(window, node, row, outage))
 }
 
 fn put_cell(
@@ -366,7 +360,9 @@ pub fn plain(alloc: Global, window: Window, marks: &Marks) -> Result<Vec<u8>, Al
     let mut out = Vec::new(alloc);
     put_window(&mut out, window)?;
     out.extend_from_slice(b"\n")?;
-    out.extend_from_slice(b"| node is up   # a branch is in doubt   . node is stopped   --> delivered   --x lost   --o in flight   ..> a copy\n")?;
+    out.extend_from_slice(
+        b"| node is up   # a branch is in doubt   . node is stopped   --> delivered   --x lost   --o in flight   ..> a copy\n",
+    )?;
     put_names(&mut out, marks.lanes.as_slice())?;
     out.extend_from_slice(b"\n")?;
     put_all_lines(&mut out, alloc, window, marks)?;

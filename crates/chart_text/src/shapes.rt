@@ -108,13 +108,7 @@ pub(crate) fn put_text(
     out.extend_from_slice(b"</text>\n")
 }
 
-fn put_halo(
-    out: &mut Vec<u8>,
-    x: u64,
-    y: u64,
-    style: &[u8],
-    text: &[u8],
-) -> Result<(), AllocError>
+fn put_halo(out: &mut Vec<u8>, x: u64, y: u64, style: &[u8], text: &[u8]) -> Result<(), AllocError>
     ensures { OnOk result (out.new.items ≡ out.old.items ++ text_svg x y (halo ++ style.now) text.now) }
 {
     put_value(out, b"<text x=\"", x)?;
@@ -142,12 +136,7 @@ pub(crate) fn put_label(
 }
 
 /// A shape round a point.
-pub(crate) fn put_shape(
-    out: &mut Vec<u8>,
-    x: u64,
-    y: u64,
-    shape: &[u8],
-) -> Result<(), AllocError>
+pub(crate) fn put_shape(out: &mut Vec<u8>, x: u64, y: u64, shape: &[u8]) -> Result<(), AllocError>
     ensures { OnOk result (out.new.items ≡ out.old.items ++ shape_svg x y shape.now) }
 {
     put_value(out, b"<path transform=\"translate(", x)?;

@@ -35,11 +35,7 @@ fn kind_word(kind: KindName) -> &'static [u8]
 }
 
 /// Adds a message, by its number and its kind.
-pub(crate) fn put_message(
-    out: &mut Vec<u8>,
-    number: u64,
-    kind: KindName,
-) -> Result<(), AllocError>
+pub(crate) fn put_message(out: &mut Vec<u8>, number: u64, kind: KindName) -> Result<(), AllocError>
     ensures { OnOk result (out.new.items ≡ out.old.items ++ message_text number kind) }
 {
     out.extend_from_slice(b"#")?;

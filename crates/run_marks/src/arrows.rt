@@ -101,11 +101,7 @@ fn add(arrows: &mut Vec<Arrow>, row: u32, happening: &Happening) -> Result<(), A
 }
 
 /// The messages that were sent, each with its end. Fails where memory runs out, or where there would be too many rows.
-fn ended_arrows(
-    alloc: Global,
-    tale: &[Told],
-    trace: &[Happening],
-) -> Result<Vec<Arrow>, AllocError>
+fn ended_arrows(alloc: Global, tale: &[Told], trace: &[Happening]) -> Result<Vec<Arrow>, AllocError>
     ensures { IfOk result (λ arrows. arrows.items ≡ along arrows_after tale.now [] start trace.now) }
 {
     let mut arrows = Vec::new(alloc);

@@ -49,11 +49,7 @@ fn write(doubts: &mut Vec<Doubt>, row: u32, item: &RedoRecord) -> Result<(), All
     Ok(())
 }
 
-fn write_if(
-    doubts: &mut Vec<Doubt>,
-    row: u32,
-    wrote: &Option<RedoRecord>,
-) -> Result<(), AllocError>
+fn write_if(doubts: &mut Vec<Doubt>, row: u32, wrote: &Option<RedoRecord>) -> Result<(), AllocError>
     ensures { OnOk result (doubts.new.items ≡ doubts_if doubts.old.items row wrote.now) }
 {
     match wrote {

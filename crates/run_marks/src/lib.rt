@@ -12,13 +12,12 @@ mod cursor;
 mod doubts;
 mod laws;
 mod mark;
-
 mod notes;
 mod partings;
 mod repeats;
 
+pub use all_marks::marks;
 pub use laws::each_message_has_its_arrow;
 pub use mark::{
     Arrow, Band, Deed, Doubt, End, Marks, Note, Outage, Parting, Repeat, Side, Tale, Told,
 };
-pub use all_marks::marks;

@@ -119,7 +119,13 @@ fn turn(notes: &mut Vec<Note>, row: u32, turn: &Turn) -> Result<(), AllocError>
 {
     let side = side(turn.node, &turn.input);
     note(notes, turn.node, row, side, deed_taken(&turn.input))?;
-    note(notes, turn.node, row, across(side), deed_of_written(&turn.wrote))
+    note(
+        notes,
+        turn.node,
+        row,
+        across(side),
+        deed_of_written(&turn.wrote),
+    )
 }
 
 fn add(notes: &mut Vec<Note>, row: u32, happening: &Happening) -> Result<(), AllocError>

@@ -32,29 +32,46 @@ abbrev pub how_text : How → List ℕ
 how_text (hows.Keep n) = counted (codes " KEEP ") n
 how_text (hows.Leave bytes) = counted (codes " LEAVE, bytes: ") (length bytes)
 
+-- whether messages are held
+abbrev pub hold_text : Bool → List ℕ
+hold_text on = if on then codes "HOLD ON" else codes "HOLD OFF"
+
+-- how many messages are delivered at most
+abbrev pub pump_text : Option ℕ → List ℕ
+pump_text None = codes "PUMP"
+pump_text (Some most) = counted (codes "PUMP ") most
+
+-- a command about one node, and what it shows
+abbrev pub node_text : List (List ℕ) → Command → List ℕ
+node_text names (commands.Stop node) = of_node names (codes "STOP ") node
+node_text names (commands.Start node) = of_node names (codes "START ") node
+node_text names (commands.Fault node call) = of_node names (codes "FAULT ") node ++ counted (codes " CALL ") call
+node_text names (commands.Reco node) = of_node names (codes "RECO ") node
+node_text names (commands.ShowPending node) = of_node names (codes "SHOW PENDING ") node
+node_text names (commands.ShowNeighbors node) = of_node names (codes "SHOW NEIGHBORS ") node
+node_text names (commands.ShowDisk node) = of_node names (codes "SHOW DISK ") node
+node_text names commands.ShowBook = codes "SHOW BOOK"
+node_text names commands.ShowNet = codes "SHOW NET"
+node_text names _ = []
+
+-- a command about messages, or another one
+abbrev pub net_text : List (List ℕ) → Command → List ℕ
+net_text names (commands.Cut a b) = of_pair names (codes "CUT ") a b
+net_text names (commands.Join a b) = of_pair names (codes "JOIN ") a b
+net_text names (commands.Lose k) = counted (codes "LOSE ") k
+net_text names (commands.LoseNext kind from to) = codes "LOSE NEXT " ++ kind_text kind ++ of_pair names (codes " ") from to
+net_text names (commands.Hold on) = hold_text on
+net_text names (commands.Deliver k) = counted (codes "DELIVER ") k
+net_text names (commands.Again k) = counted (codes "AGAIN ") k
+net_text names (commands.Pump most) = pump_text most
+net_text names c = node_text names c
+
 -- a command
-abbrev pub command_text : List (List ℕ) → Command → List ℕ
+unfoldable pub command_text : List (List ℕ) → Command → List ℕ
 command_text names (commands.Node name strength links undo) =
     codes "NODE " ++ name ++ counted (codes " STRENGTH ") strength ++ counted (codes " LINKS ") links ++ counted (codes " UNDO ") undo
 command_text names (commands.At node session s) =
     of_node names (codes "AT ") node ++ counted (codes " SESSION ") session ++ codes ": " ++ statement_text s
-command_text names (commands.Cut a b) = of_pair names (codes "CUT ") a b
-command_text names (commands.Join a b) = of_pair names (codes "JOIN ") a b
-command_text names (commands.Lose k) = counted (codes "LOSE ") k
-command_text names (commands.LoseNext kind from to) = codes "LOSE NEXT " ++ kind_text kind ++ of_pair names (codes " ") from to
-command_text names (commands.Stop node) = of_node names (codes "STOP ") node
-command_text names (commands.Start node) = of_node names (codes "START ") node
 command_text names (commands.Crash node write how) = of_node names (codes "CRASH ") node ++ counted (codes " WRITE ") write ++ how_text how
-command_text names (commands.Fault node call) = of_node names (codes "FAULT ") node ++ counted (codes " CALL ") call
-command_text names (commands.Hold on) = if on then codes "HOLD ON" else codes "HOLD OFF"
-command_text names (commands.Deliver k) = counted (codes "DELIVER ") k
-command_text names (commands.Again k) = counted (codes "AGAIN ") k
-command_text names (commands.Pump None) = codes "PUMP"
-command_text names (commands.Pump (Some most)) = counted (codes "PUMP ") most
 command_text names (commands.GiveUp node session) = of_node names (codes "GIVEUP AT ") node ++ counted (codes " SESSION ") session
-command_text names (commands.Reco node) = of_node names (codes "RECO ") node
-command_text names (commands.ShowPending node) = of_node names (codes "SHOW PENDING ") node
-command_text names (commands.ShowNeighbors node) = of_node names (codes "SHOW NEIGHBORS ") node
-command_text names commands.ShowBook = codes "SHOW BOOK"
-command_text names commands.ShowNet = codes "SHOW NET"
-command_text names (commands.ShowDisk node) = of_node names (codes "SHOW DISK ") node
+command_text names c = net_text names c

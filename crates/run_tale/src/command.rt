@@ -1,7 +1,7 @@
 //! The texts of commands.
 ghost use Rattle.std.specs.Prelude.{◌≡◌, ◌++◌, codes, OnOk};
 ghost use Rattle.wire_msg.specs.Names.{kind_text};
-ghost use Rattle.run_tale.specs.Commands.{statement_text, of_node, of_pair, counted, how_text, command_text};
+ghost use Rattle.run_tale.specs.Commands.{statement_text, of_node, of_pair, counted, how_text, hold_text, pump_text, node_text, net_text, command_text};
 
 use dtx_values::Name;
 use script_read::{Command, How};
@@ -23,25 +23,14 @@ fn put_stmt(out: &mut Vec<u8>, alloc: Global, statement: &Option<Stmt>) -> Resul
     }
 }
 
-fn put_node(
-    out: &mut Vec<u8>,
-    names: &[Name],
-    words: &[u8],
-    node: u8,
-) -> Result<(), AllocError>
+fn put_node(out: &mut Vec<u8>, names: &[Name], words: &[u8], node: u8) -> Result<(), AllocError>
     ensures { OnOk result (out.new.items ≡ out.old.items ++ of_node names.now words.now node) }
 {
     out.extend_from_slice(words)?;
     out.extend_from_slice(node_name(names, node))
 }
 
-fn put_pair(
-    out: &mut Vec<u8>,
-    names: &[Name],
-    words: &[u8],
-    a: u8,
-    b: u8,
-) -> Result<(), AllocError>
+fn put_pair(out: &mut Vec<u8>, names: &[Name], words: &[u8], a: u8, b: u8) -> Result<(), AllocError>
     ensures { OnOk result (out.new.items ≡ out.old.items ++ of_pair names.now words.now a b) }
 {
     out.extend_from_slice(words)?;
@@ -167,7 +156,64 @@ fn put_lose_next(
     put_pair(out, names, b" ", from, to)
 }
 
+fn put_hold(out: &mut Vec<u8>, on: bool) -> Result<(), AllocError>
+    ensures { OnOk result (out.new.items ≡ out.old.items ++ hold_text on) }
+{
+    if on {
+        out.extend_from_slice(b"HOLD ON")
+    } else {
+        out.extend_from_slice(b"HOLD OFF")
+    }
+}
+
+fn put_pump(out: &mut Vec<u8>, most: Option<u32>) -> Result<(), AllocError>
+    ensures { OnOk result (out.new.items ≡ out.old.items ++ pump_text most) }
+{
+    match most {
+        None => out.extend_from_slice(b"PUMP"),
+        Some(most) => put_counted(out, b"PUMP ", most),
+    }
+}
+
+// A command about one node, and what it shows.
+fn put_node_text(out: &mut Vec<u8>, names: &[Name], command: &Command) -> Result<(), AllocError>
+    ensures { OnOk result (out.new.items ≡ out.old.items ++ node_text names.now command.now) }
+{
+    match command {
+        Command::Stop { node } => put_node(out, names, b"STOP ", *node),
+        Command::Start { node } => put_node(out, names, b"START ", *node),
+        Command::Fault { node, call } => {
+            put_node_and(out, names, b"FAULT ", *node, b" CALL ", *call)
+        }
+        Command::Reco { node } => put_node(out, names, b"RECO ", *node),
+        Command::ShowPending { node } => put_node(out, names, b"SHOW PENDING ", *node),
+        Command::ShowNeighbors { node } => put_node(out, names, b"SHOW NEIGHBORS ", *node),
+        Command::ShowDisk { node } => put_node(out, names, b"SHOW DISK ", *node),
+        Command::ShowBook => out.extend_from_slice(b"SHOW BOOK"),
+        Command::ShowNet => out.extend_from_slice(b"SHOW NET"),
+        _ => Ok(()),
+    }
+}
+
+// A command about messages, or another one.
+fn put_net_text(out: &mut Vec<u8>, names: &[Name], command: &Command) -> Result<(), AllocError>
+    ensures { OnOk result (out.new.items ≡ out.old.items ++ net_text names.now command.now) }
+{
+    match command {
+        Command::Cut { a, b } => put_pair(out, names, b"CUT ", *a, *b),
+        Command::Join { a, b } => put_pair(out, names, b"JOIN ", *a, *b),
+        Command::Lose { k } => put_counted(out, b"LOSE ", *k),
+        Command::LoseNext { kind, from, to } => put_lose_next(out, names, *kind, *from, *to),
+        Command::Hold { on } => put_hold(out, *on),
+        Command::Deliver { k } => put_counted(out, b"DELIVER ", *k),
+        Command::Again { k } => put_counted(out, b"AGAIN ", *k),
+        Command::Pump { most } => put_pump(out, *most),
+        _ => put_node_text(out, names, command),
+    }
+}
+
 /// Adds the text of a command, where these are the names of all nodes.
+#[tactic(auto, unfolding(crate::specs::Commands::command_text))]
 pub(crate) fn put_command(
     out: &mut Vec<u8>,
     alloc: Global,
@@ -188,30 +234,10 @@ pub(crate) fn put_command(
             session,
             statement,
         } => put_at(out, alloc, names, *node, *session, statement),
-        Command::Cut { a, b } => put_pair(out, names, b"CUT ", *a, *b),
-        Command::Join { a, b } => put_pair(out, names, b"JOIN ", *a, *b),
-        Command::Lose { k } => put_counted(out, b"LOSE ", *k),
-        Command::LoseNext { kind, from, to } => put_lose_next(out, names, *kind, *from, *to),
-        Command::Stop { node } => put_node(out, names, b"STOP ", *node),
-        Command::Start { node } => put_node(out, names, b"START ", *node),
         Command::Crash { node, write, how } => put_crash(out, names, *node, *write, how),
-        Command::Fault { node, call } => {
-            put_node_and(out, names, b"FAULT ", *node, b" CALL ", *call)
-        }
-        Command::Hold { on: true } => out.extend_from_slice(b"HOLD ON"),
-        Command::Hold { on: false } => out.extend_from_slice(b"HOLD OFF"),
-        Command::Deliver { k } => put_counted(out, b"DELIVER ", *k),
-        Command::Again { k } => put_counted(out, b"AGAIN ", *k),
-        Command::Pump { most: None } => out.extend_from_slice(b"PUMP"),
-        Command::Pump { most: Some(most) } => put_counted(out, b"PUMP ", *most),
         Command::GiveUp { node, session } => {
             put_node_and(out, names, b"GIVEUP AT ", *node, b" SESSION ", *session)
         }
-        Command::Reco { node } => put_node(out, names, b"RECO ", *node),
-        Command::ShowPending { node } => put_node(out, names, b"SHOW PENDING ", *node),
-        Command::ShowNeighbors { node } => put_node(out, names, b"SHOW NEIGHBORS ", *node),
-        Command::ShowBook => out.extend_from_slice(b"SHOW BOOK"),
-        Command::ShowNet => out.extend_from_slice(b"SHOW NET"),
-        Command::ShowDisk { node } => put_node(out, names, b"SHOW DISK ", *node),
+        _ => put_net_text(out, names, command),
     }
 }
