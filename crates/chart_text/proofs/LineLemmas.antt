@@ -1,5 +1,5 @@
 -- The lines of rows, one row more.
-use Rattle.std.proofs.Common.{ℕ, ◌≡◌, ◌+◌, ◌-◌, ◌<◌, ◌++◌, suc, ap, arith, List}
+use Rattle.std.proofs.Common.{ℕ, ◌≡◌, ◌+◌, ◌-◌, ◌<◌, ◌++◌, suc, ap, arith}
 use Rattle.chart_text.specs.Data.{Marks}
 use Rattle.chart_text.specs.declared.window.Window.{Window}
 use Rattle.chart_text.specs.Plain.{row_lines, lines_from}

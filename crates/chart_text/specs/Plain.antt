@@ -7,7 +7,7 @@ use Rattle.tran_ids.specs.Texts.{name_of}
 use Rattle.chart_text.specs.Data.{Band, End, Arrow, Repeat, Note, Doubt, Outage, Parting, Marks}
 use Rattle.chart_text.specs.Data.ends
 use Rattle.chart_text.specs.Words.{message_text, deed_text, parting_text}
-use Rattle.chart_text.specs.Window.{is_in, reaches, till_of, end_row}
+use Rattle.chart_text.specs.Window.{till_of, end_row}
 use Rattle.chart_text.specs.declared.window.Window.{Window}
 
 -- a line, with its line feed

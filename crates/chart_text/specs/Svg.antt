@@ -1,7 +1,6 @@
 -- A picture as SVG 1.1. Lanes go downwards, one for each node; commands stand at the left, their answers at the right.
-use Rattle.std.specs.Prelude.{ℕ, Bool, ◌+◌, ◌-◌, ◌*◌, if◌then◌else◌, nat_lt, min, max, List, [], ◌∷◌, ◌++◌, flat_map, length, take, codes}
+use Rattle.std.specs.Prelude.{ℕ, Bool, ◌+◌, ◌-◌, ◌*◌, if◌then◌else◌, nat_lt, min, List, [], ◌∷◌, ◌++◌, flat_map, length, take, codes}
 use Rattle.tran_ids.specs.Numbers.{decimal}
-use Rattle.tran_ids.specs.Texts.{name_of}
 use Rattle.chart_text.specs.Data.{Band, End, Arrow, Repeat, Deed, Side, Left, Right, Note, Doubt, Outage, Parting, Marks}
 use Rattle.chart_text.specs.Data.ends
 use Rattle.chart_text.specs.Data.deeds

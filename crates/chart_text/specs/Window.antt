@@ -1,6 +1,5 @@
 -- Which commands are drawn.
 use Rattle.std.specs.Prelude.{ℕ, ◌+◌, ◌&&◌, Bool, List, length, filter, nat_lt, nat_le, min, max, Option, Some, None}
-use Rattle.std.specs.Prelude.{if◌then◌else◌}
 use Rattle.tran_ids.specs.Listed.{numbered}
 use Rattle.chart_text.specs.Data.{Band, Arrow, End, Marks}
 use Rattle.chart_text.specs.Data.ends

@@ -1,12 +1,11 @@
 -- What stands beside the marks of a picture.
-use Rattle.std.specs.Prelude.{ℕ, List, ◌++◌, codes}
+use Rattle.std.specs.Prelude.{ℕ, if◌then◌else◌, List, ◌++◌, codes}
 use Rattle.tran_ids.specs.Numbers.{decimal}
 use Rattle.tran_ids.specs.Texts.{name_of}
 use Rattle.wire_msg.specs.declared.kind.KindName.{KindName}
 use Rattle.wire_msg.specs.Names.{kind_text}
 use Rattle.chart_text.specs.Data.{Deed, Parting}
 use Rattle.chart_text.specs.Data.deeds
-use Rattle.std.specs.Prelude.{if◌then◌else◌}
 
 -- a message, by its number and its kind
 abbrev pub message_text : ℕ → KindName → List ℕ

@@ -1,5 +1,5 @@
 -- What was added, and what the rows to come still add, is what all rows add.
-use Rattle.std.proofs.Common.{◌≡◌, ◌≤◌, ◌-◌, ◌++◌}
+use Rattle.std.proofs.Common.{◌≡◌, ◌-◌, ◌++◌}
 use Rattle.chart_text.specs.Plain.{lines_from}
 use Rattle.chart_text.proofs.plain_text.put_all_lines.Given as goal
 
