@@ -2,7 +2,7 @@
 use Rattle.std.specs.Prelude.{ℕ, Bool, if◌then◌else◌, List, [], ◌++◌, codes, length, Option, Some, None}
 use Rattle.tran_ids.specs.Numbers.{decimal}
 use Rattle.tran_ids.specs.Texts.{name_of}
-use Rattle.sql_statement.specs.declared.stmt.Stmt.{Stmt}
+use Rattle.sql_statement.specs.declared.statement.Stmt.{Stmt}
 use Rattle.sql_print.specs.Printing.{printed}
 use Rattle.wire_msg.specs.Names.{kind_text}
 use Rattle.script_read.specs.declared.command.How.{How}
