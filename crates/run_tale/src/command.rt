@@ -39,11 +39,17 @@ fn put_pair(out: &mut Vec<u8>, names: &[Name], words: &[u8], a: u8, b: u8) -> Re
     out.extend_from_slice(node_name(names, b))
 }
 
-fn put_counted(out: &mut Vec<u8>, words: &[u8], number: u32) -> Result<(), AllocError>
+fn put_number(out: &mut Vec<u8>, words: &[u8], number: u64) -> Result<(), AllocError>
     ensures { OnOk result (out.new.items ≡ out.old.items ++ counted words.now number) }
 {
     out.extend_from_slice(words)?;
-    put_decimal(out, u64::from(number))
+    put_decimal(out, number)
+}
+
+fn put_counted(out: &mut Vec<u8>, words: &[u8], number: u32) -> Result<(), AllocError>
+    ensures { OnOk result (out.new.items ≡ out.old.items ++ counted words.now number) }
+{
+    put_number(out, words, u64::from(number))
 }
 
 fn put_how(out: &mut Vec<u8>, how: &How) -> Result<(), AllocError>
@@ -51,10 +57,7 @@ fn put_how(out: &mut Vec<u8>, how: &How) -> Result<(), AllocError>
 {
     match how {
         How::Keep(count) => put_counted(out, b" KEEP ", *count),
-        How::Leave(bytes) => {
-            out.extend_from_slice(b" LEAVE, bytes: ")?;
-            put_decimal(out, bytes.as_slice().len() as u64)
-        }
+        How::Leave(bytes) => put_number(out, b" LEAVE, bytes: ", bytes.as_slice().len() as u64),
     }
 }
 
