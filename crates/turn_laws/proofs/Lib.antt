@@ -8,4 +8,6 @@ pub mod AckStepLemmas
 pub mod OnceLemmas
 pub mod AckLemmas
 pub mod KnowLemmas
+pub mod QuietStepLemmas
+pub mod QuietAskLemmas
 mod TriedTurnsLemmas
