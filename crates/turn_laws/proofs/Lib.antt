@@ -10,4 +10,6 @@ pub mod AckLemmas
 pub mod KnowLemmas
 pub mod QuietStepLemmas
 pub mod QuietAskLemmas
+pub mod QuietTreeLemmas
+pub mod QuietLemmas
 mod TriedTurnsLemmas
