@@ -1,25 +1,25 @@
 -- In every lawful run each branch that is gone without changes is told so, and each ReadOnly is said where neither its sender nor a branch
 -- below it has changes.
-use Rattle.std.proofs.Common.{◌≡◌, ◌≢◌, ℕ, suc, ◌≤◌, ◌⊎◌, Bool, true, false, if◌then◌else◌, nat_lt, length, List, [], ◌∷◌, ◌++◌, map, Option, Some, None, inl, inr, refl, sym, ap, subst, subst₂, ◌∙◌, arith}
+use Rattle.std.proofs.Common.{◌≡◌, ◌≢◌, ℕ, suc, ◌≤◌, ◌⊎◌, Bool, true, false, if◌then◌else◌, nat_lt, length, List, [], ◌∷◌, ◌++◌, Option, Some, None, inl, inr, refl, sym, ap, subst, subst₂, ◌∙◌, arith}
 use Rattle.std.specs.List.{AllByRecursion}
 use Rattle.std.proofs.lemmas.Bool.{lt-ltb}
 use Rattle.tran_ids.proofs.ListedLemmas.{item_is}
 use Rattle.agreement.specs.Events.{Event, Exit, Quiet, Dropped, exit}
 use Rattle.session_tree.specs.Live.{children_of}
-use Rattle.node_rules.specs.Data.{BranchId, Change, Kind, Live, Msg, Stmt, Input, Place}
+use Rattle.node_rules.specs.Data.{BranchId, Change, Kind, Live, Msg, Stmt, Place}
 use Rattle.node_rules.specs.Data.inputs
 use Rattle.node_rules.specs.Data.kinds
 use Rattle.node_rules.specs.Words.{is_item_of, item_at}
 use Rattle.node_rules.specs.Kept.{Kept, Deed, live_id, live_at}
 use Rattle.node_rules.specs.Prepare.{own_changes}
-use Rattle.node_rules.specs.Turn.{turn_of, deed_of, stamped}
+use Rattle.node_rules.specs.Turn.{turn_of, deed_of}
 use Rattle.run_laws.specs.Births.{Born, births_of, born_id}
 use Rattle.run_laws.specs.Branches.{Seen, Trail, seen_id, seen_at, is_live_at}
 use Rattle.run_laws.specs.ChangedLaws.{has_changes}
 use Rattle.run_laws.specs.Data.{Turn, Happening}
 use Rattle.run_laws.specs.Data.happenings
 use Rattle.run_laws.specs.EventLaws.{EachEventFrom}
-use Rattle.run_laws.specs.Facts.{Facts, first_facts, place_at, node_at, outcome_at, kept_after, facts_after}
+use Rattle.run_laws.specs.Facts.{Facts, first_facts, place_at, node_at, kept_after, facts_after}
 use Rattle.run_laws.specs.Lawful.{MayHappen, IsOwed, History, IsLawfulRun}
 use Rattle.run_laws.specs.RunEvents.{lives_at, events_after, events_of, events_from}
 use Rattle.run_laws.specs.Runs.{run_in}

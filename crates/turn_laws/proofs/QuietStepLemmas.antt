@@ -1,5 +1,5 @@
 -- A branch that says ReadOnly was live and has no changes, its children are gone without changes, and its turn brings no statement.
-use Rattle.std.proofs.Common.{◌≡◌, ◌≢◌, ℕ, zero, suc, ◌||◌, ◌⊎◌, Bool, true, false, List, [], ◌∷◌, map, is_none, Option, Some, None, inl, inr, refl, sym, ap, subst, ◌∙◌}
+use Rattle.std.proofs.Common.{◌≡◌, ◌≢◌, ℕ, zero, suc, ◌||◌, Bool, true, false, List, [], ◌∷◌, map, is_none, Some, None, inl, inr, refl, sym, ap, subst, ◌∙◌}
 use Rattle.std.specs.List.{AllByRecursion, list_any}
 use Rattle.std.proofs.lemmas.Bool.{and_parts}
 use Rattle.tran_ids.proofs.BranchLemmas.{equal_from_same}

@@ -1,11 +1,11 @@
 -- Where each branch that is gone without changes is told so, with children that are gone so too, none of the tree below has changes.
-use Rattle.std.proofs.Common.{◌≡◌, ◌≢◌, ℕ, zero, suc, List, [], ◌∷◌, flat_map, Option, Some, None, refl, sym, ap, subst, ◌∙◌}
+use Rattle.std.proofs.Common.{◌≡◌, ◌≢◌, ℕ, zero, suc, List, [], ◌∷◌, flat_map, Some, None, refl, sym, ap, subst, ◌∙◌}
 use Rattle.std.specs.List.{AllByRecursion}
 use Rattle.agreement.specs.Events.{Event, Quiet, exit}
 use Rattle.dtx_values.specs.Limits.{depth_limit}
 use Rattle.node_rules.specs.Data.{BranchId}
 use Rattle.node_rules.specs.Words.{numbered}
-use Rattle.run_laws.specs.Branches.{Seen, Trail, seen_at, own_at, own_of, children_at, children_of}
+use Rattle.run_laws.specs.Branches.{Seen, Trail, seen_at, own_at, own_of, children_of}
 use Rattle.run_laws.specs.Knowledge.{HasNoChanges}
 use Rattle.run_laws.specs.Tree.{tree_in, tree}
 use Rattle.run_laws.proofs.ListLemmas.{all_weaker, all_append}
