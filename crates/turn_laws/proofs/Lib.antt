@@ -12,4 +12,5 @@ pub mod QuietStepLemmas
 pub mod QuietAskLemmas
 pub mod QuietTreeLemmas
 pub mod QuietLemmas
+mod TriedQuietLemmas
 mod TriedTurnsLemmas

@@ -2,4 +2,5 @@ pub mod AbortLaws
 pub mod ForgetLaws
 pub mod KnowLaws
 pub mod QuietLaws
+pub mod TriedQuiet
 pub mod TriedTurns
