@@ -1,7 +1,7 @@
 //! Whatever a turn writes or says was to be written or said.
 //!
-//! In every lawful run a branch says Abort on what came to it (`specs/AbortLaws.antt`), and a commit point site forgets once each neighbour's Ack came (`specs/ForgetLaws.antt`). What is left to be
-//! shown is of Exec and of ReadOnly (`specs/KnowLaws.antt`).
+//! In every lawful run a branch says Abort on what came to it (`specs/AbortLaws.antt`) and ReadOnly where nothing was changed on it or below (`specs/QuietLaws.antt`), and a commit point site forgets once each neighbour's Ack came (`specs/ForgetLaws.antt`). What is left to be
+//! shown is of Exec (`specs/KnowLaws.antt`).
 #![tactic(auto)]
 
 ghost use Rattle.turn_laws.specs.AbortLaws.{AbortsAreDue};
@@ -26,7 +26,7 @@ pub fn read_only_is_due()
     ensures { ReadOnlyIsDue }
 {}
 
-/// With Exec and ReadOnly, whatever a turn writes or says was to be written or said.
+/// With Exec, whatever a turn writes or says was to be written or said.
 pub fn little_is_left()
     ensures { LittleIsLeft }
 {}
