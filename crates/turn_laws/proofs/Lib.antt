@@ -7,5 +7,10 @@ pub mod AbortLemmas
 pub mod AckStepLemmas
 pub mod OnceLemmas
 pub mod AckLemmas
+pub mod QuietStepLemmas
+pub mod QuietAskLemmas
+pub mod QuietTreeLemmas
+pub mod QuietLemmas
 pub mod KnowLemmas
+mod TriedQuietLemmas
 mod TriedTurnsLemmas

@@ -1,4 +1,6 @@
 pub mod AbortLaws
 pub mod ForgetLaws
 pub mod KnowLaws
+pub mod QuietLaws
+pub mod TriedQuiet
 pub mod TriedTurns

@@ -1,12 +1,14 @@
 //! Whatever a turn writes or says was to be written or said.
 //!
-//! In every lawful run a branch says Abort on what came to it (`specs/AbortLaws.antt`), and a commit point site forgets once each neighbour's Ack came (`specs/ForgetLaws.antt`). What is left to be
-//! shown is of Exec and of ReadOnly (`specs/KnowLaws.antt`).
+//! In every lawful run a branch says Abort on what came to it (`specs/AbortLaws.antt`) and ReadOnly where nothing was changed on it or below (`specs/QuietLaws.antt`), and a commit point site forgets once each neighbour's Ack came (`specs/ForgetLaws.antt`). What is left to be
+//! shown is of Exec (`specs/KnowLaws.antt`).
 #![tactic(auto)]
 
 ghost use Rattle.turn_laws.specs.AbortLaws.{AbortsAreDue};
 ghost use Rattle.turn_laws.specs.ForgetLaws.{SitesForgetDuly};
 ghost use Rattle.turn_laws.specs.KnowLaws.{LittleIsLeft};
+ghost use Rattle.turn_laws.specs.QuietLaws.{ReadOnlyIsDue};
+ghost use Rattle.turn_laws.specs.TriedQuiet.{TheTriedQuiet};
 ghost use Rattle.turn_laws.specs.TriedTurns.{TheTriedTurns};
 
 /// A branch says Abort on Prepare where it is gone, or on a child's Abort.
@@ -19,7 +21,12 @@ pub fn sites_forget_duly()
     ensures { SitesForgetDuly }
 {}
 
-/// With Exec and ReadOnly, whatever a turn writes or says was to be written or said.
+/// ReadOnly is said where neither its sender nor a branch below it has changes.
+pub fn read_only_is_due()
+    ensures { ReadOnlyIsDue }
+{}
+
+/// With Exec, whatever a turn writes or says was to be written or said.
 pub fn little_is_left()
     ensures { LittleIsLeft }
 {}
@@ -27,4 +34,9 @@ pub fn little_is_left()
 /// No law of turns is about nothing: in the tried run of two nodes A, the site, has B as its neighbour, B's Ack came, and both are gone.
 pub fn the_tried_turns()
     ensures { TheTriedTurns }
+{}
+
+/// Nor is that of ReadOnly: in another run of both B, which was only read, says it and leaves so.
+pub fn the_tried_quiet()
+    ensures { TheTriedQuiet }
 {}
