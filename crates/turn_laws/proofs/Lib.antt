@@ -8,4 +8,7 @@ pub mod AckStepLemmas
 pub mod OnceLemmas
 pub mod AckLemmas
 pub mod KnowLemmas
+pub mod PassStepLemmas
+pub mod PassLemmas
+pub mod PassRunLemmas
 mod TriedTurnsLemmas

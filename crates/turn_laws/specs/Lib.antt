@@ -1,4 +1,5 @@
 pub mod AbortLaws
 pub mod ForgetLaws
 pub mod KnowLaws
+pub mod PassLaws
 pub mod TriedTurns

@@ -7,6 +7,7 @@
 ghost use Rattle.turn_laws.specs.AbortLaws.{AbortsAreDue};
 ghost use Rattle.turn_laws.specs.ForgetLaws.{SitesForgetDuly};
 ghost use Rattle.turn_laws.specs.KnowLaws.{LittleIsLeft};
+ghost use Rattle.turn_laws.specs.PassLaws.{ExecsPassOn};
 ghost use Rattle.turn_laws.specs.TriedTurns.{TheTriedTurns};
 
 /// A branch says Abort on Prepare where it is gone, or on a child's Abort.
@@ -17,6 +18,11 @@ pub fn aborts_are_due()
 /// A commit point site forgets once the Ack of each of its neighbours came.
 pub fn sites_forget_duly()
     ensures { SitesForgetDuly }
+{}
+
+/// An Exec passes on the statement that its sender was asked, over the link that its table is behind.
+pub fn execs_pass_on()
+    ensures { ExecsPassOn }
 {}
 
 /// With Exec and ReadOnly, whatever a turn writes or says was to be written or said.
