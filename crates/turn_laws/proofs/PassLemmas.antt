@@ -1,5 +1,5 @@
 -- What a turn tells of a branch that waits for a child, and what the Execs of the turn pass on.
-use Rattle.std.proofs.Common.{◌≡◌, ◌≢◌, ℕ, suc, ◌+◌, ◌<◌, ◌≤◌, ◌==◌, ◌&&◌, Bool, true, false, if◌then◌else◌, is_none, List, [], ◌∷◌, ◌++◌, length, option_map, Option, Some, None, inl, inr, refl, sym, ap, subst, ◌∙◌, arith}
+use Rattle.std.proofs.Common.{◌≡◌, ◌≢◌, ℕ, suc, ◌+◌, ◌-◌, ◌<◌, ◌≤◌, ◌==◌, ◌&&◌, Bool, true, false, if◌then◌else◌, is_none, List, [], ◌∷◌, ◌++◌, length, option_map, Option, Some, None, inl, inr, refl, sym, ap, subst, ◌∙◌, arith}
 use Rattle.std.specs.Prelude.{IfSome, nat_lt}
 use Rattle.std.specs.List.{AllByRecursion}
 use Rattle.std.proofs.lemmas.Bool.{and_parts, eqb-true}
@@ -34,7 +34,7 @@ use Rattle.run_laws.specs.Branches.{Seen, Trail, seen_id, seen_at, is_live, is_l
 use Rattle.run_laws.specs.Data.{Turn, Happening}
 use Rattle.run_laws.specs.Data.happenings
 use Rattle.run_laws.specs.Facts.{Facts, place_at, node_at, records_at}
-use Rattle.run_laws.specs.InTurnLaws.{said_in, newest_reply}
+use Rattle.run_laws.specs.InTurnLaws.{said_in, newest_reply, GoesOn}
 use Rattle.run_laws.specs.Knowledge.{PassesOn, asked_of}
 use Rattle.run_laws.specs.Lawful.{MayHappen, Comes, History, IsLawfulRun}
 use Rattle.run_laws.specs.RunEvents.{events_of}
@@ -297,7 +297,7 @@ module _ (t : History) (whole : IsLawfulRun t) (hs : List Happening) (u : Turn) 
   abbrev LeadsAll : Kept → Type 0
   LeadsAll j = (b : BranchId) (l : Live) → live_at j b ≡ Some l → Leads l.edges
 
-  line : (b : BranchId) (l : Live) → live_at k b ≡ Some l → Line p D0 (GivenBy t whole hs) (CalledAt t whole) said _ l.me l.edges (works_of k.works b)
+  line : (b : BranchId) (l : Live) → live_at k b ≡ Some l → Line p D0 (GivenBy t whole hs) (CalledAt t whole) said (GoesOn k l) l.me l.edges (works_of k.works b)
   line b l live = (stand_at t whole hs part0 u.node k may.1.up).each b l live
 
   lives_are : (b : BranchId) (l : Live) → live_at k1 b ≡ Some l → live_at k b ≡ Some l

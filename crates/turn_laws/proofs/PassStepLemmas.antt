@@ -21,7 +21,7 @@ use Rattle.node_rules.specs.declared.work.Going.{Going}
 use Rattle.node_rules.specs.declared.work.Work.{Work}
 use Rattle.node_rules.specs.Words.{same, item_at, put_item, drop_item}
 use Rattle.node_rules.specs.Inputs.{Came, IsCall}
-use Rattle.node_rules.specs.Kept.{Kept, Deed, Branch, work_id, work_or, to_one}
+use Rattle.node_rules.specs.Kept.{Kept, Deed, Branch, work_id, work_or, to_one, to_each}
 use Rattle.node_rules.specs.LiveBranches.{works_of}
 use Rattle.node_rules.specs.Calls.{answer_says, calls_over, opens_through, with_edge, with_answer, hears_reply}
 use Rattle.node_rules.specs.Client.{begun_by}
@@ -100,11 +100,11 @@ module _ (p : Place) (input : Input) where
     Passes_none : (d : Deed) → AllSay NoExec d.says → WaitedSo k.works d.after.works → Passing k d
 
   -- whether an Opened came
-  is_opened : Kind → Bool
+  abbrev is_opened : Kind → Bool
   is_opened (kinds.Opened edge strength) = true
   is_opened _ = false
 
-  opens : Input → Bool
+  abbrev opens : Input → Bool
   opens (inputs.Message m) = is_opened m.kind
   opens _ = false
 
@@ -147,7 +147,7 @@ module _ (p : Place) (input : Input) where
   put : (k : Kept) (d : Deed) (w : Work) → AllSay NoExec d.says → WaitsNot w.going → d.after.works ≡ put_item work_id k.works w → Passing k d
   put k d w says not_so works = Passes_none d says (λ c g link going waits. put_waited k.works w not_so c g link (ap (λ ws. (works_of ws c).going) (sym works) ∙ going) waits)
 
-  rolls : (l : Live) → AllSay NoExec _
+  rolls : (l : Live) → AllSay NoExec (to_each l.me kinds.Rollback (children_of l))
   rolls l = each_says NoExec l.me kinds.Rollback (children_of l) refl
 
   acts_so : (k : Kept) (l : Live) (q : Bool) (a : Act) → Passing k (act_turn k l q a)
