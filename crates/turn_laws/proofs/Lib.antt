@@ -9,6 +9,7 @@ pub mod OnceLemmas
 pub mod AckLemmas
 pub mod KnowLemmas
 pub mod PassStepLemmas
+pub mod PassAskLemmas
 pub mod PassLemmas
 pub mod PassRunLemmas
 mod TriedTurnsLemmas
