@@ -13,3 +13,4 @@ pub mod PassAskLemmas
 pub mod PassLemmas
 pub mod PassRunLemmas
 mod TriedTurnsLemmas
+mod TriedPassLemmas

@@ -3,3 +3,4 @@ pub mod ForgetLaws
 pub mod KnowLaws
 pub mod PassLaws
 pub mod TriedTurns
+pub mod TriedPass

@@ -8,6 +8,7 @@ ghost use Rattle.turn_laws.specs.AbortLaws.{AbortsAreDue};
 ghost use Rattle.turn_laws.specs.ForgetLaws.{SitesForgetDuly};
 ghost use Rattle.turn_laws.specs.KnowLaws.{LittleIsLeft};
 ghost use Rattle.turn_laws.specs.PassLaws.{ExecsPassOn};
+ghost use Rattle.turn_laws.specs.TriedPass.{TheTriedPass};
 ghost use Rattle.turn_laws.specs.TriedTurns.{TheTriedTurns};
 
 /// A branch says Abort on Prepare where it is gone, or on a child's Abort.
@@ -33,4 +34,9 @@ pub fn little_is_left()
 /// No law of turns is about nothing: in the tried run of two nodes A, the site, has B as its neighbour, B's Ack came, and both are gone.
 pub fn the_tried_turns()
     ensures { TheTriedTurns }
+{}
+
+/// Nor is the law of Execs: in that run A's statement goes on to B over its link, and what goes on is what B is asked.
+pub fn the_tried_pass()
+    ensures { TheTriedPass }
 {}
