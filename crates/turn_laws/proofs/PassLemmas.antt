@@ -12,7 +12,7 @@ use Rattle.node_rules.specs.declared.session.Session.{Session}
 use Rattle.node_rules.specs.declared.work.Waits.TheVariants as waiting
 use Rattle.node_rules.specs.declared.work.Going.{Going}
 use Rattle.node_rules.specs.declared.work.Work.{Work}
-use Rattle.node_rules.specs.Words.{same, numbered, item_at}
+use Rattle.node_rules.specs.Words.{numbered, item_at}
 use Rattle.node_rules.specs.Kept.{Kept, Stored, Branch, Deed, live_id, work_id, work_or, live_at}
 use Rattle.node_rules.specs.LiveBranches.{works_of}
 use Rattle.node_rules.specs.Calls.{called, exec_to, waits_for_opened, with_edge}
