@@ -1,6 +1,7 @@
 pub mod AbortLaws
 pub mod ForgetLaws
-pub mod KnowLaws
+pub mod PassLaws
 pub mod QuietLaws
 pub mod TriedQuiet
 pub mod TriedTurns
+pub mod TriedPass

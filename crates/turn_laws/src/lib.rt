@@ -1,12 +1,15 @@
 //! Whatever a turn writes or says was to be written or said.
 //!
-//! In every lawful run a branch says Abort on what came to it (`specs/AbortLaws.antt`) and ReadOnly where nothing was changed on it or below (`specs/QuietLaws.antt`), and a commit point site forgets once each neighbour's Ack came (`specs/ForgetLaws.antt`). What is left to be
-//! shown is of Exec (`specs/KnowLaws.antt`).
+//! In every lawful run a branch says Abort on what came to it (`specs/AbortLaws.antt`) and ReadOnly where nothing was changed on it or below
+//! (`specs/QuietLaws.antt`), an Exec passes on what its sender was asked (`specs/PassLaws.antt`), and a commit point site forgets once each
+//! neighbour's Ack came (`specs/ForgetLaws.antt`).
 #![tactic(auto)]
 
 ghost use Rattle.turn_laws.specs.AbortLaws.{AbortsAreDue};
 ghost use Rattle.turn_laws.specs.ForgetLaws.{SitesForgetDuly};
-ghost use Rattle.turn_laws.specs.KnowLaws.{LittleIsLeft};
+ghost use Rattle.run_laws.specs.Headline.{EveryTurnKnows};
+ghost use Rattle.turn_laws.specs.PassLaws.{ExecsPassOn};
+ghost use Rattle.turn_laws.specs.TriedPass.{TheTriedPass};
 ghost use Rattle.turn_laws.specs.QuietLaws.{ReadOnlyIsDue};
 ghost use Rattle.turn_laws.specs.TriedQuiet.{TheTriedQuiet};
 ghost use Rattle.turn_laws.specs.TriedTurns.{TheTriedTurns};
@@ -21,19 +24,29 @@ pub fn sites_forget_duly()
     ensures { SitesForgetDuly }
 {}
 
+/// An Exec passes on the statement that its sender was asked, over the link that its table is behind.
+pub fn execs_pass_on()
+    ensures { ExecsPassOn }
+{}
+
 /// ReadOnly is said where neither its sender nor a branch below it has changes.
 pub fn read_only_is_due()
     ensures { ReadOnlyIsDue }
 {}
 
-/// With Exec, whatever a turn writes or says was to be written or said.
-pub fn little_is_left()
-    ensures { LittleIsLeft }
+/// So whatever a turn writes or says was to be written or said.
+pub fn every_turn_knows()
+    ensures { EveryTurnKnows }
 {}
 
 /// No law of turns is about nothing: in the tried run of two nodes A, the site, has B as its neighbour, B's Ack came, and both are gone.
 pub fn the_tried_turns()
     ensures { TheTriedTurns }
+{}
+
+/// Nor is the law of Execs: in that run A's statement goes on to B over its link, and what goes on is what B is asked.
+pub fn the_tried_pass()
+    ensures { TheTriedPass }
 {}
 
 /// Nor is that of ReadOnly: in another run of both B, which was only read, says it and leaves so.
