@@ -1,6 +1,7 @@
--- Calls that are answered as done have their records: CREATE, ALTER SYSTEM, COMMIT FORCE, ROLLBACK FORCE and the purges. (SQL Language
--- Reference: CREATE TABLE, CREATE DATABASE LINK, CREATE SYNONYM; Database Administrator's Guide, "Managing Distributed Transactions":
--- manually overriding in-doubt transactions, purging pending rows, DBMS_TRANSACTION, disabling and enabling RECO.)
+-- Calls that are answered as done have their records: CREATE, ALTER SYSTEM, COMMIT FORCE, ROLLBACK FORCE and the purges.
+-- (SQL Language Reference: CREATE TABLE, CREATE DATABASE LINK, CREATE SYNONYM; Database Administrator's Guide, "Managing
+-- Distributed Transactions": manually overriding in-doubt transactions, purging pending rows, DBMS_TRANSACTION, disabling
+-- and enabling RECO.)
 use Rattle.std.specs.Prelude.{◌≡◌, ℕ, ◌+◌, ◌==◌, ◌⊎◌, Bool, true, false, if◌then◌else◌, List, [], ◌∷◌, map, filter, find, IfSome, Option, Some, None, Ok}
 use Rattle.std.specs.List.{list_any}
 use Rattle.node_rules.specs.Data.{Table, Link, Synonym, Stmt, Done, Answer, Refusal, BranchId, RedoRecord, Standing, Place}

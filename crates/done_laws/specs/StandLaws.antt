@@ -1,5 +1,6 @@
--- The records of statements on the disks: what a client was told is done stays there to the end of the run, and each such record on a disk
--- comes from a turn that its call came to. (Database Administrator's Guide, "Managing Distributed Transactions".)
+-- The records of statements on the disks: what a client was told is done stays there to the end of the run, and each such
+-- record on a disk comes from a turn that its call came to. (Database Administrator's Guide, "Managing Distributed
+-- Transactions".)
 use Rattle.std.specs.Prelude.{◌≡◌, ℕ, ◌⊎◌, true, List, [], ◌∷◌, Some}
 use Rattle.std.specs.List.{AllByRecursion}
 use Rattle.node_rules.specs.Data.{Stmt, RedoRecord, Place}

@@ -1,5 +1,5 @@
--- Calls that are done and their records, tried on turns of the tried run: CREATE TABLE is done once and refused the second time; while B is in
--- doubt its outcome is forced, and its row is purged then.
+-- Calls that are done and their records, tried on turns of the tried run: CREATE TABLE is done once and refused the second
+-- time; while B is in doubt its outcome is forced, and its row is purged then.
 use Rattle.std.specs.Prelude.{◌≡◌, ℕ, false, List, [], ◌∷◌, ◌++◌, codes, take, Some, None}
 use Rattle.node_rules.specs.Data.{Stmt, Answer}
 use Rattle.node_rules.specs.Data.answers

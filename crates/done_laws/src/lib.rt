@@ -1,27 +1,29 @@
 //! What a client is told is done has its record on the disk.
 //!
-//! CREATE TABLE, CREATE DATABASE LINK, CREATE SYNONYM, ALTER SYSTEM, COMMIT FORCE, ROLLBACK FORCE and the purges of DBMS_TRANSACTION each
-//! write one record, which the statement and what the node keeps determine (`specs/DoneLaws.antt`). In every lawful run such a call is
-//! answered as done only in a turn that writes its record, and such a record is written for no other call. It stays on the disk, and what
-//! there is on a disk comes from such calls (`specs/StandLaws.antt`).
+//! CREATE TABLE, CREATE DATABASE LINK, CREATE SYNONYM, ALTER SYSTEM, COMMIT FORCE, ROLLBACK FORCE and the purges of
+//! DBMS_TRANSACTION each write one record, which the statement and what the node keeps determine (`specs/DoneLaws.antt`). In
+//! every lawful run such a call is answered as done only in a turn that writes its record, and such a record is written for
+//! no other call. It stays on the disk, and what there is on a disk comes from such calls (`specs/StandLaws.antt`).
 #![tactic(auto)]
 
 ghost use Rattle.done_laws.specs.DoneLaws.{DoneIsWritten, EachIsAnswered, WrittenIsDone};
 ghost use Rattle.done_laws.specs.StandLaws.{DoneStays, RecordsComeFromCalls};
 ghost use Rattle.done_laws.specs.TriedDone.{TheTriedDone};
 
-/// A call of such a statement that is answered as done has its record written in the same turn, and is answered once, by what that record tells.
+/// A call of such a statement that is answered as done has its record written in the same turn, and is answered once, by
+/// what that record tells.
 pub fn done_is_written()
     ensures { DoneIsWritten }
 {}
 
-/// A record of such a statement is written only in a turn that came to a client's call of that very statement, and that answered it as done,
-/// and nothing else, unless the turn was cut.
+/// A record of such a statement is written only in a turn that came to a client's call of that very statement, and that
+/// answered it as done, and nothing else, unless the turn was cut.
 pub fn written_is_done()
     ensures { WrittenIsDone }
 {}
 
-/// A call of such a statement is answered in its own turn, once: it is refused and nothing is written, or it is done, unless the turn was cut.
+/// A call of such a statement is answered in its own turn, once: it is refused and nothing is written, or it is done, unless
+/// the turn was cut.
 pub fn each_is_answered()
     ensures { EachIsAnswered }
 {}
@@ -36,8 +38,8 @@ pub fn records_come_from_calls()
     ensures { RecordsComeFromCalls }
 {}
 
-/// None of this is about nothing: in the tried run of two nodes CREATE TABLE is done and then refused, and the branch in doubt at B is rolled back
-/// by force and then purged, each with its record and its answer.
+/// None of this is about nothing: in the tried run of two nodes CREATE TABLE is done and then refused, and the branch in
+/// doubt at B is rolled back by force and then purged, each with its record and its answer.
 pub fn the_tried_done()
     ensures { TheTriedDone }
 {}

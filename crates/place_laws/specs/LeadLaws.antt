@@ -1,5 +1,6 @@
--- The run that a call of a branch was answered by: the call brought a statement to the branch, which led over links and children to the table where it ran.
--- (Database Administrator's Guide, "Distributed Transactions Concepts": session trees, local and global coordinators.)
+-- The run that a call of a branch was answered by: the call brought a statement to the branch, which led over links and
+-- children to the table where it ran. (Database Administrator's Guide, "Distributed Transactions Concepts": session trees,
+-- local and global coordinators.)
 use Rattle.std.specs.Prelude.{◌≡◌, ◌≢◌, ℕ, ◌≤◌, true, false, List, ◌∷◌, slice_get, Option, Some, None}
 use Rattle.node_rules.specs.Data.{Advice, Answer, BranchId, Live, Place, ReplyFields, Stmt}
 use Rattle.node_rules.specs.Data.inputs
@@ -18,7 +19,8 @@ use Rattle.run_laws.specs.Runs.{is_of_rows, run_in, is_accepted}
 use Rattle.run_laws.specs.Trail.{with_begun, trail_after}
 use Rattle.trail_laws.specs.ChildLaws.{trail_at}
 
--- A call of a branch was answered so by a run: an Exec of its number brought the branch a statement, not after the run, and the statement led there.
+-- A call of a branch was answered so by a run: an Exec of its number brought the branch a statement, not after the run, and
+-- the statement led there.
 pub record AnsweredBy (t : History) (b : BranchId) (call : ℕ) (a : Answer) (r : Run) : Type 0 where
   pub ran : RanAt t r a
   pub moment : ℕ
@@ -42,8 +44,8 @@ abbrev pub KeptAnswersLeadToRuns : Type 0
 KeptAnswersLeadToRuns = (t : History) → IsLawfulRun t → (n : ℕ) (k : Kept) → node_at (facts_at t) n ≡ Some k → (l : Live) → live_at k l.me ≡ Some l → l.parent ≢ None → (s : Seen) → seen_at (trail_at t) l.me ≡ Some s
     → (rf : ReplyFields) → (work_at k l.me).came.reply ≡ Some rf → is_accepted (Some rf.result) ≡ true → (r : Run) × (s.answer ≡ Some r) × AnsweredBy t l.me (work_at k l.me).came.last_call rf.result r
 
--- A call of a session was answered so by a run: it brought a statement with a table to this root of the session, not after the run, and the
--- statement led there.
+-- A call of a session was answered so by a run: it brought a statement with a table to this root of the session, not after
+-- the run, and the statement led there.
 pub record CallAnsweredBy (t : History) (node session : ℕ) (root : BranchId) (a : Answer) (r : Run) : Type 0 where
   pub ran : RanAt t r a
   pub moment : ℕ
@@ -64,8 +66,8 @@ pub record IsToldFor (places : List Place) (f : Facts) (tr : Trail) (u : Turn) (
   pub is_me : seen.me ≡ root
   pub origin : seen.answer ≡ Some r
 
--- A turn that ends a call on a Reply, and not with a refusal: the run that is told of the Reply is one that the call led to, from the root that
--- is the session's transaction after the turn.
+-- A turn that ends a call on a Reply, and not with a refusal: the run that is told of the Reply is one that the call led to,
+-- from the root that is the session's transaction after the turn.
 abbrev pub EndsAsReplied : History → List Place → Facts → Trail → Happening → Type 0
 EndsAsReplied t places f tr (happenings.Turn u) =
     (o : Outcome) → outcome_at places f u ≡ Some o → (took : Took) → u.took ≡ Some took → (from to : BranchId) (call : ℕ) (weight : Option ℕ) (count : ℕ) (said : Answer) → Came u.input from to (kinds.Reply call weight count said)
@@ -77,8 +79,8 @@ EndsAsReplied t places f tr _ = Unit {0}
 abbrev pub CallsEndAsReplied : Type 0
 CallsEndAsReplied = (t : History) → IsLawfulRun t → AtEach (EndsAsReplied t) t
 
--- A turn that a client's statement with a table comes to, and that ends its call, not with a refusal: the statement ran in it, at the root that
--- is the session's transaction after the turn.
+-- A turn that a client's statement with a table comes to, and that ends its call, not with a refusal: the statement ran in
+-- it, at the root that is the session's transaction after the turn.
 abbrev pub EndsAtOnce : History → List Place → Facts → Trail → Happening → Type 0
 EndsAtOnce t places f tr (happenings.Turn u) =
     u.cut ≡ false → (o : Outcome) → outcome_at places f u ≡ Some o → (session : ℕ) (s : Stmt) → u.input ≡ inputs.Call session (Some s) → is_of_rows s ≡ true

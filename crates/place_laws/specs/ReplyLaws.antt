@@ -1,5 +1,5 @@
--- Where the answer in a Reply comes from: the run that the happenings tell of it stands in a turn of the run, which answered so. (Database
--- Administrator's Guide, "Distributed Transactions Concepts": session trees.)
+-- Where the answer in a Reply comes from: the run that the happenings tell of it stands in a turn of the run, which answered
+-- so. (Database Administrator's Guide, "Distributed Transactions Concepts": session trees.)
 use Rattle.std.specs.Prelude.{◌≡◌, ◌≢◌, ℕ, true, Option, Some, None}
 use Rattle.node_rules.specs.Data.{Answer, Live}
 use Rattle.node_rules.specs.Data.kinds
@@ -20,8 +20,8 @@ abbrev pub RepliesComeFromRuns : Type 0
 RepliesComeFromRuns = (t : History) → IsLawfulRun t → (number : ℕ) (x : Packet) → packet_at (facts_at t).net number ≡ Some x → (call : ℕ) (weight : Option ℕ) (count : ℕ) (a : Answer)
     → x.msg.kind ≡ kinds.Reply call weight count a → is_accepted (Some a) ≡ true → (r : Run) × (origin_at (trail_at t) number ≡ Some r) × RanAt t r a
 
--- What is told of the calls of a live branch below a root is what its node keeps: the last one that it took, and the run that the answer comes from which
--- it keeps for a call that comes again.
+-- What is told of the calls of a live branch below a root is what its node keeps: the last one that it took, and the run
+-- that the answer comes from which it keeps for a call that comes again.
 pub record CallsAreTold (t : History) (w : Work) (s : Seen) : Type 0 where
   pub taken : s.taken ≡ w.came.last_call
   pub kept : (rf : ReplyFields) → w.came.reply ≡ Some rf → is_accepted (Some rf.result) ≡ true → (r : Run) × (s.answer ≡ Some r) × RanAt t r rf.result

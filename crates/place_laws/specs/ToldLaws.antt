@@ -1,5 +1,5 @@
--- Where a line comes from that has the answer of a node: a turn ended the pending call of its command with that answer. (Database Administrator's
--- Guide, "Distributed Transactions Concepts": the session that waits for its call.)
+-- Where a line comes from that has the answer of a node: a turn ended the pending call of its command with that answer.
+-- (Database Administrator's Guide, "Distributed Transactions Concepts": the session that waits for its call.)
 use Rattle.std.specs.Prelude.{◌≡◌, ℕ, ◌+◌, false, slice_get, Option, Some, None}
 use Rattle.node_rules.specs.Data.{Answer, Stmt}
 use Rattle.node_rules.specs.Kept.{Outcome}
@@ -13,7 +13,8 @@ use Rattle.run_laws.specs.Lawful.{History}
 use Rattle.run_laws.specs.Places.{past_upto, node_line, told_of}
 use Rattle.run_laws.specs.Telling.{Call}
 
--- A turn ended the call of a command with this answer: the call was pending of its session, and no call of that session is pending after the turn.
+-- A turn ended the call of a command with this answer: the call was pending of its session, and no call of that session is
+-- pending after the turn.
 pub record EndedBy (t : History) (command : ℕ) (a : Answer) : Type 0 where
   pub ended : ℕ
   pub turn : Turn

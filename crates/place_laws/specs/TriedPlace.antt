@@ -1,4 +1,5 @@
--- Where answers come from, tried on the run of two nodes: A's transaction changes a row over its link to B, and then one of its own.
+-- Where answers come from, tried on the run of two nodes: A's transaction changes a row over its link to B, and then one of
+-- its own.
 use Rattle.std.specs.Prelude.{◌≡◌, codes, option_map, Some, None}
 use Rattle.run_laws.specs.Branches.{Run, seen_at, origin_at}
 use Rattle.run_laws.specs.TriedRun as tried

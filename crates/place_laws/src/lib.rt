@@ -6,7 +6,8 @@ ghost use Rattle.place_laws.specs.TriedPlace.{TheTriedPlace};
 ghost use Rattle.place_laws.specs.ToldLaws.{LinesComeFromTurns};
 ghost use Rattle.place_laws.specs.LeadLaws.{RepliesLeadToRuns, KeptAnswersLeadToRuns, CallsEndAsReplied, CallsEndAtOnce};
 
-/// Each Reply that is no refusal comes from the run of a statement that stands in a turn of the run, and that turn answered what the Reply says.
+/// Each Reply that is no refusal comes from the run of a statement that stands in a turn of the run, and that turn answered
+/// what the Reply says.
 pub fn replies_come_from_runs()
     ensures { RepliesComeFromRuns }
 {}
@@ -16,8 +17,8 @@ pub fn lower_calls_are_told()
     ensures { LowerCallsAreTold }
 {}
 
-/// That run is one that the Reply's call led to: an Exec brought the branch a statement, and the names of its table lead over links to the node and
-/// the table where it ran, with an Exec for each link, none of them after the run.
+/// That run is one that the Reply's call led to: an Exec brought the branch a statement, and the names of its table lead
+/// over links to the node and the table where it ran, with an Exec for each link, none of them after the run.
 pub fn replies_lead_to_runs()
     ensures { RepliesLeadToRuns }
 {}
@@ -27,24 +28,26 @@ pub fn kept_answers_lead_to_runs()
     ensures { KeptAnswersLeadToRuns }
 {}
 
-/// A client's call that ends on a Reply, and not with a refusal, ends with the answer of the run that the Reply came from. The call led to that run,
-/// which came no earlier than the call.
+/// A client's call that ends on a Reply, and not with a refusal, ends with the answer of the run that the Reply came from.
+/// The call led to that run, which came no earlier than the call.
 pub fn calls_end_as_replied()
     ensures { CallsEndAsReplied }
 {}
 
-/// A client's statement that is answered in the turn that it comes to, and not with a refusal, ran in that turn, at the root of its session.
+/// A client's statement that is answered in the turn that it comes to, and not with a refusal, ran in that turn, at the root
+/// of its session.
 pub fn calls_end_at_once()
     ensures { CallsEndAtOnce }
 {}
 
-/// Each line that has the answer of a node comes from a turn that ended the pending call of its command with that answer, and left the session none.
+/// Each line that has the answer of a node comes from a turn that ended the pending call of its command with that answer,
+/// and left the session none.
 pub fn lines_come_from_turns()
     ensures { LinesComeFromTurns }
 {}
 
-/// No law of places is about nothing: in the tried run of two nodes B's Reply is told to come from its run of the statement that A passed on, and
-/// A's last answer from its own run.
+/// No law of places is about nothing: in the tried run of two nodes B's Reply is told to come from its run of the statement
+/// that A passed on, and A's last answer from its own run.
 pub fn the_tried_place()
     ensures { TheTriedPlace }
 {}

@@ -1,8 +1,8 @@
 //! What the nodes of a lawful run store, by its book.
 //!
-//! The book leaves rows at a node by the decisions of transactions, in their order in the book, while a node puts the changes of a
-//! branch into its rows when the branch learns its decision. At each key that is not in doubt both leave the same row: locks kept the
-//! transactions that changed it in order (`specs/RowLaws.antt`).
+//! The book leaves rows at a node by the decisions of transactions, in their order in the book, while a node puts the
+//! changes of a branch into its rows when the branch learns its decision. At each key that is not in doubt both leave the
+//! same row: locks kept the transactions that changed it in order (`specs/RowLaws.antt`).
 #![tactic(auto)]
 
 ghost use Rattle.row_laws.specs.RowLaws.{DoubtsAgree, OrdersAgree, RowsAgree, BookRowsFit};
@@ -14,13 +14,14 @@ pub fn doubts_agree()
     ensures { DoubtsAgree }
 {}
 
-/// At each key that is not in doubt the commits of a node leave the same row in the order in which its branches learned them as in the
-/// order of the decisions: locks kept those that changed the key in order.
+/// At each key that is not in doubt the commits of a node leave the same row in the order in which its branches learned them
+/// as in the order of the decisions: locks kept those that changed the key in order.
 pub fn orders_agree()
     ensures { OrdersAgree }
 {}
 
-/// So at each key that is not in doubt a node has the row that the committed transactions of the book leave there, or both have none.
+/// So at each key that is not in doubt a node has the row that the committed transactions of the book leave there, or both
+/// have none.
 pub fn rows_agree()
     ensures { RowsAgree }
 {}
@@ -36,7 +37,8 @@ pub fn the_tried_book_rows()
     ensures { TheTriedBookRows }
 {}
 
-/// Where a branch is committed by force and learns a rollback later, the mixed outcome leaves its row at the node, as by the book.
+/// Where a branch is committed by force and learns a rollback later, the mixed outcome leaves its row at the node, as by the
+/// book.
 pub fn the_tried_forced_rows()
     ensures { TheTriedForcedRows }
 {}

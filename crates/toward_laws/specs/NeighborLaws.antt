@@ -1,5 +1,6 @@
--- Whom seals name, where their transaction is decided: the parent of their branch, and its neighbour on the way to the commit point site, as the plan of
--- the COMMIT has them. (Database Administrator's Guide, "Distributed Transactions Concepts": commit point site.)
+-- Whom seals name, where their transaction is decided: the parent of their branch, and its neighbour on the way to the
+-- commit point site, as the plan of the COMMIT has them. (Database Administrator's Guide, "Distributed Transactions
+-- Concepts": commit point site.)
 use Rattle.std.specs.Prelude.{◌≡◌, ℕ, Some}
 use Rattle.agreement.specs.Events.{Decided, exit}
 use Rattle.node_rules.specs.Data.{BranchId, RedoRecord}

@@ -1,5 +1,5 @@
--- What the happenings tell of a branch below a root: it began, and its parent and its children are those that its node keeps. (Database
--- Administrator's Guide, "Distributed Transactions Concepts": session trees.)
+-- What the happenings tell of a branch below a root: it began, and its parent and its children are those that its node
+-- keeps. (Database Administrator's Guide, "Distributed Transactions Concepts": session trees.)
 use Rattle.std.specs.Prelude.{◌≡◌, ◌≢◌, ℕ, Some, None}
 use Rattle.session_tree.specs.Live.{children_of}
 use Rattle.node_rules.specs.Data.{Live}

@@ -1,5 +1,5 @@
--- On what branches below a root seal and decide, by what the happenings tell of them. (Database Administrator's Guide, "Distributed
--- Transactions Concepts": prepare phase, commit point site.)
+-- On what branches below a root seal and decide, by what the happenings tell of them. (Database Administrator's Guide,
+-- "Distributed Transactions Concepts": prepare phase, commit point site.)
 use Rattle.std.specs.Prelude.{◌≡◌, ◌≢◌, ◌⊎◌, List, Some, None}
 use Rattle.node_rules.specs.Data.{Live, RedoRecord, Input, Place}
 use Rattle.node_rules.specs.Data.records
@@ -12,7 +12,8 @@ use Rattle.run_laws.specs.Facts.{Facts, node_at}
 use Rattle.run_laws.specs.Knowledge.{IsLastVote, IsPrepareToLeaf, IsCommitPoint}
 use Rattle.run_laws.specs.Lawful.{History, IsLawfulRun}
 
--- a branch below a root seals on the last answer of its children, on Prepare where it has none, on CommitPoint; it decides on CommitPoint
+-- a branch below a root seals on the last answer of its children, on Prepare where it has none, on CommitPoint; it decides
+-- on CommitPoint
 abbrev pub LeavesBelow : Trail → Kept → Input → RedoRecord → Type 0
 LeavesBelow tr k input (records.Sealed r) = (l : Live) → live_at k r.me ≡ Some l → l.parent ≢ None → IsLastVote tr r.me input ⊎ (IsPrepareToLeaf tr r.me input ⊎ IsCommitPoint tr r.me input)
 LeavesBelow tr k input (records.Decided r) = (l : Live) → live_at k r.me ≡ Some l → l.parent ≢ None → IsCommitPoint tr r.me input

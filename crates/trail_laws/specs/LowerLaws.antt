@@ -1,6 +1,6 @@
--- What the happenings tell of a live branch below a root is what its node keeps of it: that it is live, its parent and its children, whether its
--- collect began, and which of its children answered. (Database Administrator's Guide, "Distributed Transactions Concepts": session trees,
--- prepare phase.)
+-- What the happenings tell of a live branch below a root is what its node keeps of it: that it is live, its parent and its
+-- children, whether its collect began, and which of its children answered. (Database Administrator's Guide, "Distributed
+-- Transactions Concepts": session trees, prepare phase.)
 use Rattle.std.specs.Prelude.{◌≡◌, ◌≢◌, ℕ, not, true, false, List, [], Some, None}
 use Rattle.std.specs.List.{AllByRecursion}
 use Rattle.prepare_phase.specs.Acts.{is_awaited}

@@ -1,6 +1,7 @@
--- The changes that the happenings tell of live branches are those that their nodes keep, and answers of runs are meant. The trail computes changes
--- over the rows that the book leaves, a node over the rows that it stores. The rows agree at each key that is not in doubt, and no key in doubt is
--- examined, so both are the same where the branches are told as their nodes keep them. With what is told of roots that is all that is told. (SQL Language Reference; Database Administrator's Guide,
+-- The changes that the happenings tell of live branches are those that their nodes keep, and answers of runs are meant. The
+-- trail computes changes over the rows that the book leaves, a node over the rows that it stores. The rows agree at each key
+-- that is not in doubt, and no key in doubt is examined, so both are the same where the branches are told as their nodes
+-- keep them. With what is told of roots that is all that is told. (SQL Language Reference; Database Administrator's Guide,
 -- "Distributed Transactions Concepts": locks of in-doubt transactions.)
 use Rattle.std.specs.Prelude.{List}
 use Rattle.node_rules.specs.Data.{Place}

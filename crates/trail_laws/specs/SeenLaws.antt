@@ -1,6 +1,6 @@
--- What the happenings tell of the roots of a run and of its branches' changes, against what nodes keep of them, and what follows where they agree:
--- who decides, what a decision covers, whose changes a record has, and on what branches seal and decide. (Database Administrator's Guide, "Distributed Transactions Concepts": session
--- trees, commit point site.)
+-- What the happenings tell of the roots of a run and of its branches' changes, against what nodes keep of them, and what
+-- follows where they agree: who decides, what a decision covers, whose changes a record has, and on what branches seal and
+-- decide. (Database Administrator's Guide, "Distributed Transactions Concepts": session trees, commit point site.)
 use Rattle.std.specs.Prelude.{◌≡◌, ℕ, List, IfSome, Option, Some, None}
 use Rattle.node_rules.specs.Data.{BranchId, Live, RedoRecord, Input, Place}
 use Rattle.node_rules.specs.declared.session.PendingCall.TheVariants as pending
@@ -41,8 +41,8 @@ abbrev pub SeesRoots : Facts → Trail → Type 0
 SeesRoots f tr = (n : ℕ) (k : Kept) → node_at f n ≡ Some k → (session : ℕ) → IsSession session → (session_at k.sessions session).call ≡ pending.NoCall
     → IsSeenRoot tr k (root_at tr n session) (session_at k.sessions session).root
 
--- What the happenings tell of roots, and of the changes of live branches, is what their nodes keep. Of branches below roots all else is told so in
--- every lawful run.
+-- What the happenings tell of roots, and of the changes of live branches, is what their nodes keep. Of branches below roots
+-- all else is told so in every lawful run.
 pub record Sees (f : Facts) (tr : Trail) : Type 0 where
   pub tops : TellsTops f tr
   pub owns : TellsOwns f tr
@@ -64,12 +64,12 @@ LeavesKnowing places f tr (happenings.Turn u) =
     (k : Kept) → node_at f u.node ≡ Some k → IfSome u.wrote (LeavesOnWhatCame (place_at places u.node) f tr (trail_after places f tr (happenings.Turn u)) k u.node u.input)
 LeavesKnowing places f tr _ = Unit {0}
 
--- In a lawful run of which that is so seals and decisions are written on what came: on the last answer of the children, on Prepare or COMMIT
--- where there are none, on CommitPoint.
+-- In a lawful run of which that is so seals and decisions are written on what came: on the last answer of the children, on
+-- Prepare or COMMIT where there are none, on CommitPoint.
 abbrev pub SeenIsEnoughToLeave : Type 0
 SeenIsEnoughToLeave = (t : History) → IsLawfulRun t → SeesAll t → AtEach LeavesKnowing t
 
--- In a lawful run of which that is so each decision is made by the commit point site of its tree, covers it, and seals and decisions have
--- their branches' own changes.
+-- In a lawful run of which that is so each decision is made by the commit point site of its tree, covers it, and seals and
+-- decisions have their branches' own changes.
 abbrev pub SeenIsEnough : Type 0
 SeenIsEnough = (t : History) → IsLawfulRun t → SeesAll t → SiteDecides t × AtEach (RecordIsSo DecisionCovers) t × AtEach (RecordIsSo HasOwn) t

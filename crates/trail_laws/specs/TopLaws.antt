@@ -1,6 +1,6 @@
--- What the happenings tell of the roots of sessions: each live root is told as its node keeps it, and the transaction of a session that waits for no
--- answer is the one that is told. The next root that a session begins is told under the id that its node gives. (Database Administrator's Guide,
--- "Distributed Transactions Concepts": session trees.)
+-- What the happenings tell of the roots of sessions: each live root is told as its node keeps it, and the transaction of a
+-- session that waits for no answer is the one that is told. The next root that a session begins is told under the id that
+-- its node gives. (Database Administrator's Guide, "Distributed Transactions Concepts": session trees.)
 use Rattle.std.specs.Prelude.{◌≡◌, ℕ, List, Some, None}
 use Rattle.node_rules.specs.Data.{Place}
 use Rattle.node_rules.specs.Inputs.{IsSession}
@@ -20,8 +20,8 @@ abbrev pub NamesNext : List Place → Facts → Trail → Type 0
 NamesNext places f tr = (n : ℕ) (k : Kept) → node_at f n ≡ Some k → (session : ℕ) → IsSession session → (session_at k.sessions session).root ≡ None
     → (next_root f tr n session ≡ new_root (place_at places n) k session) × (seen_at tr (new_root (place_at places n) k session) ≡ None)
 
--- In a lawful run in which the changes that are told of live branches are those that their nodes keep, before each happening, what is told of roots is
--- so at the end.
+-- In a lawful run in which the changes that are told of live branches are those that their nodes keep, before each
+-- happening, what is told of roots is so at the end.
 abbrev pub TopsFollow : Type 0
 TopsFollow = (t : History) → IsLawfulRun t → AtEach (λ places f tr h. TellsOwns f tr) t
     → TellsTops (facts_at t) (trail_at t) × SeesRoots (facts_at t) (trail_at t) × NamesNext t.places (facts_at t) (trail_at t)

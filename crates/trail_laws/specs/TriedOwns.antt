@@ -1,5 +1,5 @@
--- What the happenings tell of changes, tried on the run of two nodes: before the COMMIT each branch is told to have changed the row that its node keeps
--- as changed, and the INSERT at A is a run that means its answer.
+-- What the happenings tell of changes, tried on the run of two nodes: before the COMMIT each branch is told to have changed
+-- the row that its node keeps as changed, and the INSERT at A is a run that means its answer.
 use Rattle.std.specs.Prelude.{◌≡◌, ℕ, List, [], take, slice_get, option_map, Option, Some, None}
 use Rattle.node_rules.specs.Data.{Change, Answer, BranchId}
 use Rattle.node_rules.specs.Data.answers

@@ -13,7 +13,8 @@ trail = trail_of tried.places [] (first_facts tried.places) no_trail tried.trace
 abbrev pub earlier : Trail
 earlier = trail_of tried.places [] (first_facts tried.places) no_trail (take 9 tried.trace)
 
--- A is the transaction of session 1 until it decides, and the one root that the session begins. B is A's child, each has its row's change, A is the site and decides, and B is sealed before.
+-- A is the transaction of session 1 until it decides, and the one root that the session begins. B is A's child, each has its
+-- row's change, A is the site and decides, and B is sealed before.
 pub record TheTriedTrail : Type 0 where
   pub children : children_at trail tried.a ≡ tried.b ∷ []
   pub own : own_at trail tried.a ≡ tried.changes

@@ -1,5 +1,5 @@
--- On what a branch says Abort: on Prepare where it is gone, or on a child's Abort. (Database Administrator's Guide, "Distributed Transactions
--- Concepts": prepare phase, unprepared response.)
+-- On what a branch says Abort: on Prepare where it is gone, or on a child's Abort. (Database Administrator's Guide,
+-- "Distributed Transactions Concepts": prepare phase, unprepared response.)
 use Rattle.std.specs.Prelude.{List, ◌++◌, option_to_list}
 use Rattle.std.specs.List.{AllByRecursion}
 use Rattle.node_rules.specs.Data.{BranchId, RedoRecord, Kind, Input, Place}

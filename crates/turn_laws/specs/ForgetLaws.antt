@@ -1,5 +1,5 @@
--- When a commit point site forgets: once the Ack of each of its neighbours came. (Database Administrator's Guide, "Distributed Transactions
--- Concepts": forget phase.)
+-- When a commit point site forgets: once the Ack of each of its neighbours came. (Database Administrator's Guide,
+-- "Distributed Transactions Concepts": forget phase.)
 use Rattle.std.specs.Prelude.{◌≡◌, List, IfSome, Some}
 use Rattle.node_rules.specs.Data.{RedoRecord, Decided, Input, Place}
 use Rattle.node_rules.specs.Data.records

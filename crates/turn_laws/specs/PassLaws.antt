@@ -1,5 +1,5 @@
--- What an Exec passes on: the statement that its sender was asked, over the link that its table is behind. (Database Administrator's Guide,
--- "Distributed Transactions Concepts": session trees.)
+-- What an Exec passes on: the statement that its sender was asked, over the link that its table is behind. (Database
+-- Administrator's Guide, "Distributed Transactions Concepts": session trees.)
 use Rattle.std.specs.Prelude.{List, ◌++◌, option_to_list}
 use Rattle.std.specs.List.{AllByRecursion}
 use Rattle.node_rules.specs.Data.{BranchId, RedoRecord, Kind, Input, Place}

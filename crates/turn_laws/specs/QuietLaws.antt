@@ -1,5 +1,5 @@
--- On what a branch answers ReadOnly: neither it nor a branch below it has changes. (Database Administrator's Guide, "Distributed Transactions
--- Concepts": prepare phase, read-only response.)
+-- On what a branch answers ReadOnly: neither it nor a branch below it has changes. (Database Administrator's Guide,
+-- "Distributed Transactions Concepts": prepare phase, read-only response.)
 use Rattle.std.specs.Prelude.{List}
 use Rattle.std.specs.List.{AllByRecursion}
 use Rattle.node_rules.specs.Data.{BranchId, Kind, Place}

@@ -1,4 +1,5 @@
--- What an Exec passes on, tried on the run of two nodes: A is asked to change a row over its link to B, and B is asked to change its own.
+-- What an Exec passes on, tried on the run of two nodes: A is asked to change a row over its link to B, and B is asked to
+-- change its own.
 use Rattle.std.specs.Prelude.{◌≡◌, codes, Some, None}
 use Rattle.run_laws.specs.Branches.{seen_at}
 use Rattle.run_laws.specs.Facts.{place_at}

@@ -1,4 +1,5 @@
--- The law of ReadOnly, tried on a run of two nodes: A changes a row, and deletes over a link where B has none, so B says ReadOnly.
+-- The law of ReadOnly, tried on a run of two nodes: A changes a row, and deletes over a link where B has none, so B says
+-- ReadOnly.
 use Rattle.std.specs.Prelude.{◌≡◌, codes, List, [], ◌∷◌, ◌++◌, map, Some, None}
 use Rattle.node_rules.specs.Data.kinds
 use Rattle.node_rules.specs.Data.stmts

@@ -1,8 +1,8 @@
 //! Whatever a turn writes or says was to be written or said.
 //!
-//! In every lawful run a branch says Abort on what came to it (`specs/AbortLaws.antt`) and ReadOnly where nothing was changed on it or below
-//! (`specs/QuietLaws.antt`), an Exec passes on what its sender was asked (`specs/PassLaws.antt`), and a commit point site forgets once each
-//! neighbour's Ack came (`specs/ForgetLaws.antt`).
+//! In every lawful run a branch says Abort on what came to it (`specs/AbortLaws.antt`) and ReadOnly where nothing was
+//! changed on it or below (`specs/QuietLaws.antt`), an Exec passes on what its sender was asked (`specs/PassLaws.antt`), and
+//! a commit point site forgets once each neighbour's Ack came (`specs/ForgetLaws.antt`).
 #![tactic(auto)]
 
 ghost use Rattle.turn_laws.specs.AbortLaws.{AbortsAreDue};
@@ -39,7 +39,8 @@ pub fn every_turn_knows()
     ensures { EveryTurnKnows }
 {}
 
-/// No law of turns is about nothing: in the tried run of two nodes A, the site, has B as its neighbour, B's Ack came, and both are gone.
+/// No law of turns is about nothing: in the tried run of two nodes A, the site, has B as its neighbour, B's Ack came, and
+/// both are gone.
 pub fn the_tried_turns()
     ensures { TheTriedTurns }
 {}

@@ -89,8 +89,8 @@ first_row = Gives (row_set (codes "K" ∷ codes "V" ∷ []) ((number 1 ∷ numbe
 abbrev pub counted : ℕ → Meant
 counted n = Gives (row_set (one (codes "COUNT(*)")) (one (one (number n))))
 
--- The row at 1 is the same in both views, and COUNT(*) is not. It examines 2, at which no row stands in the node's view, because 2 is
--- locked. The node gives the row at 1 and refuses COUNT(*) with ORA-01591.
+-- The row at 1 is the same in both views, and COUNT(*) is not. It examines 2, at which no row stands in the node's view,
+-- because 2 is locked. The node gives the row at 1 and refuses COUNT(*) with ORA-01591.
 pub record TheTriedViews : Type 0 where
   pub left : apply (codes "T") held_back changes ≡ committed
   pub alike : SeesAlike (row_at 1) table doubtful doubtful held_back committed

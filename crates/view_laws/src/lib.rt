@@ -29,15 +29,15 @@ pub fn changes_keep_views()
     ensures order { ChangesKeepOrder }
 {}
 
-/// A run that is not refused reads or writes what its statement means over the view that it saw, and examined no key that a branch
-/// in doubt holds. Over each view that agrees with this one but at such keys the statement means the same.
+/// A run that is not refused reads or writes what its statement means over the view that it saw, and examined no key that a
+/// branch in doubt holds. Over each view that agrees with this one but at such keys the statement means the same.
 pub fn runs_do_as_meant()
     ensures meant { RunsDoAsMeant }
     ensures alike { RunsMeanAlike }
 {}
 
-/// No law is about nothing: with a branch in doubt that inserts a row at 2 and updates the one at 3, a node gives the row at 1, which is
-/// the same with and without these changes, and refuses to count the rows.
+/// No law is about nothing: with a branch in doubt that inserts a row at 2 and updates the one at 3, a node gives the row at
+/// 1, which is the same with and without these changes, and refuses to count the rows.
 pub fn the_tried_views()
     ensures { TheTriedViews }
 {}
