@@ -33,7 +33,7 @@ from fuzz_scripts import DBA, TABLE, Writer
 from records import BOOKED, rows_of
 from runs import PROGRAM, Unended, disk_of, records_of, run
 
-ROUNDS = 12  # of recovery: for every order of a script that may still strike on the way
+ROUNDS = 20  # of recovery: orders of the script may still strike on the way, and a decision may go up and down a deep tree
 
 
 class Plan:

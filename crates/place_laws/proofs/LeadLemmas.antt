@@ -366,7 +366,7 @@ module _ (t : History) (whole : IsLawfulRun t) where
               let some : x.live.parent ≡ Some sent.2.from = above_of bs0 x.live lives sent.2.from parent in
               absurd (cc (some, top))
 
-      pub root_heard : CallAnsweredBy t me.node me.session a r
+      pub root_heard : CallAnsweredBy t me.node me.session me a r
       root_heard = record {
         ran = ans.ran;
         moment = length gave.before;
@@ -377,7 +377,6 @@ module _ (t : History) (whole : IsLawfulRun t) where
         rows = of_rows waited.statement call_gave.1;
         here = call_gave.2;
         before = gave_first;
-        root = me;
         is_root = (refl, refl);
         leads = leads_on;
       }

@@ -19,6 +19,10 @@ pub mod LineGrowLemmas
 pub mod LineRunLemmas
 pub mod LeadLemmas
 pub mod RootToldLemmas
+pub mod EndedRootLemmas
 pub mod RootAnswerLemmas
+pub mod ToldCallLemmas
+pub mod ToldLineLemmas
+pub mod ToldTurnLemmas
 mod TriedPlaceLemmas
 pub mod AtOnceLemmas

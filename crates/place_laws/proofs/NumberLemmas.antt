@@ -1,5 +1,6 @@
--- Items of lists by their numbers, from 1.
-use Rattle.std.proofs.Common.{◌≡◌, ℕ, zero, suc, ◌+◌, ◌⊎◌, ◌&&◌, ◌||◌, Bool, true, false, List, [], ◌∷◌, ◌++◌, map, length, option_map, Some, inl, inr, refl, ap, subst, ◌∙◌, arith}
+-- Items of lists by their numbers, from 1 and from 0.
+use Rattle.std.proofs.Common.{◌≡◌, ℕ, zero, suc, ◌+◌, ◌⊎◌, ◌&&◌, ◌||◌, Bool, true, false, List, [], ◌∷◌, ◌++◌, map, length, slice_get, option_map, Some, inl, inr, refl, ap, subst, ◌∙◌, arith}
+use Rattle.std.specs.Prelude.{take}
 use Rattle.std.specs.List.{AllByRecursion, list_any}
 use Rattle.std.proofs.lemmas.Bool.{and_from}
 use Rattle.tran_ids.proofs.BranchLemmas.{equal_from_same, same_from_equal}
@@ -61,3 +62,15 @@ unspoken P b never (x ∷ xs) all = ap (λ q. q || list_any (λ (y : Post). same
     by true true from reply = absurd (never (subst P (equal_from_same x.from b from) (all.0 reply)))
     by true false from reply = refl
     by false r from reply = refl
+
+-- ---- items by their numbers, from 0
+
+pub all_slice : {A : Type 0} (P : A → Type 0) (xs : List A) (i : ℕ) (x : A) → AllByRecursion P xs → slice_get xs i ≡ Some x → P x
+all_slice P [] i x all at = absurd cc
+all_slice P (y ∷ xs) zero x all at = let it : Some y ≡ Some x = at in let same : y ≡ x = cc in subst P same all.0
+all_slice P (y ∷ xs) (suc i) x all at = all_slice P xs i x all.1 at
+
+-- one item more than the first part
+pub take_more : {A : Type 0} (xs : List A) (x : A) (rest : List A) → take (length xs + 1) (xs ++ x ∷ rest) ≡ xs ++ x ∷ []
+take_more [] x rest = refl
+take_more (y ∷ xs) x rest = let one : suc (length xs) + 1 ≡ suc (length xs + 1) = omega arith in ap (λ n. take n (y ∷ (xs ++ x ∷ rest))) one ∙ ap (λ zs. y ∷ zs) (take_more xs x rest)

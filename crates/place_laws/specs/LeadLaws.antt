@@ -42,9 +42,9 @@ abbrev pub KeptAnswersLeadToRuns : Type 0
 KeptAnswersLeadToRuns = (t : History) → IsLawfulRun t → (n : ℕ) (k : Kept) → node_at (facts_at t) n ≡ Some k → (l : Live) → live_at k l.me ≡ Some l → l.parent ≢ None → (s : Seen) → seen_at (trail_at t) l.me ≡ Some s
     → (rf : ReplyFields) → (work_at k l.me).came.reply ≡ Some rf → is_accepted (Some rf.result) ≡ true → (r : Run) × (s.answer ≡ Some r) × AnsweredBy t l.me (work_at k l.me).came.last_call rf.result r
 
--- A call of a session was answered so by a run: it brought a statement with a table to the root of its transaction, not after the run, and the
+-- A call of a session was answered so by a run: it brought a statement with a table to this root of the session, not after the run, and the
 -- statement led there.
-pub record CallAnsweredBy (t : History) (node session : ℕ) (a : Answer) (r : Run) : Type 0 where
+pub record CallAnsweredBy (t : History) (node session : ℕ) (root : BranchId) (a : Answer) (r : Run) : Type 0 where
   pub ran : RanAt t r a
   pub moment : ℕ
   pub turn : Turn
@@ -54,32 +54,36 @@ pub record CallAnsweredBy (t : History) (node session : ℕ) (a : Answer) (r : R
   pub rows : is_of_rows statement ≡ true
   pub here : turn.node ≡ node
   pub before : moment ≤ r.moment
-  pub root : BranchId
   pub is_root : (root.node ≡ node) × (root.session ≡ session)
   pub leads : LeadsTo t r root statement
 
--- A run is told to be the one that the last answer of a session's transaction came from, where there is one after the turn.
-abbrev pub IsToldFor : List Place → Facts → Trail → Turn → ℕ → Run → Type 0
-IsToldFor places f tr u session r = (s : Seen) → root_at (trail_after places f tr (happenings.Turn u)) u.node session ≡ Some s → s.answer ≡ Some r
+-- After a turn the transaction of a session is told to be this root, and its last answer to have come from this run.
+pub record IsToldFor (places : List Place) (f : Facts) (tr : Trail) (u : Turn) (session : ℕ) (root : BranchId) (r : Run) : Type 0 where
+  pub seen : Seen
+  pub transaction : root_at (trail_after places f tr (happenings.Turn u)) u.node session ≡ Some seen
+  pub is_me : seen.me ≡ root
+  pub origin : seen.answer ≡ Some r
 
--- A turn that ends a call on a Reply, and not with a refusal: the run that is told of the Reply is one that the call led to.
+-- A turn that ends a call on a Reply, and not with a refusal: the run that is told of the Reply is one that the call led to, from the root that
+-- is the session's transaction after the turn.
 abbrev pub EndsAsReplied : History → List Place → Facts → Trail → Happening → Type 0
 EndsAsReplied t places f tr (happenings.Turn u) =
     (o : Outcome) → outcome_at places f u ≡ Some o → (took : Took) → u.took ≡ Some took → (from to : BranchId) (call : ℕ) (weight : Option ℕ) (count : ℕ) (said : Answer) → Came u.input from to (kinds.Reply call weight count said)
     → (session : ℕ) (a : Answer) (more : List Finished) → o.ended ≡ (record { session = session; answer = a }) ∷ more → is_accepted (Some a) ≡ true
-    → (r : Run) × (origin_at tr took.number ≡ Some r) × CallAnsweredBy t u.node session a r × (u.cut ≡ false → IsToldFor places f tr u session r)
+    → (r : Run) × (root : BranchId) × (origin_at tr took.number ≡ Some r) × CallAnsweredBy t u.node session root a r × (u.cut ≡ false → IsToldFor places f tr u session root r)
 EndsAsReplied t places f tr _ = Unit {0}
 
 -- In every lawful run each turn does.
 abbrev pub CallsEndAsReplied : Type 0
 CallsEndAsReplied = (t : History) → IsLawfulRun t → AtEach (EndsAsReplied t) t
 
--- A turn that a client's statement with a table comes to, and that ends its call, not with a refusal: the statement ran in it.
+-- A turn that a client's statement with a table comes to, and that ends its call, not with a refusal: the statement ran in it, at the root that
+-- is the session's transaction after the turn.
 abbrev pub EndsAtOnce : History → List Place → Facts → Trail → Happening → Type 0
 EndsAtOnce t places f tr (happenings.Turn u) =
     u.cut ≡ false → (o : Outcome) → outcome_at places f u ≡ Some o → (session : ℕ) (s : Stmt) → u.input ≡ inputs.Call session (Some s) → is_of_rows s ≡ true
     → (n : ℕ) (a : Answer) (more : List Finished) → o.ended ≡ (record { session = n; answer = a }) ∷ more → is_accepted (Some a) ≡ true
-    → (r : Run) × (run_in f (with_begun f tr u) u ≡ Some r) × CallAnsweredBy t u.node session a r × IsToldFor places f tr u n r
+    → (r : Run) × (root : BranchId) × (run_in f (with_begun f tr u) u ≡ Some r) × CallAnsweredBy t u.node n root a r × IsToldFor places f tr u n root r
 EndsAtOnce t places f tr _ = Unit {0}
 
 -- In every lawful run each turn does.

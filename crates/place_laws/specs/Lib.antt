@@ -1,3 +1,4 @@
 pub mod ReplyLaws
 pub mod LeadLaws
 pub mod TriedPlace
+pub mod ToldLaws

@@ -3,6 +3,7 @@
 
 ghost use Rattle.place_laws.specs.ReplyLaws.{RepliesComeFromRuns, LowerCallsAreTold};
 ghost use Rattle.place_laws.specs.TriedPlace.{TheTriedPlace};
+ghost use Rattle.place_laws.specs.ToldLaws.{LinesComeFromTurns};
 ghost use Rattle.place_laws.specs.LeadLaws.{RepliesLeadToRuns, KeptAnswersLeadToRuns, CallsEndAsReplied, CallsEndAtOnce};
 
 /// Each Reply that is no refusal comes from the run of a statement that stands in a turn of the run, and that turn answered what the Reply says.
@@ -35,6 +36,11 @@ pub fn calls_end_as_replied()
 /// A client's statement that is answered in the turn that it comes to, and not with a refusal, ran in that turn, at the root of its session.
 pub fn calls_end_at_once()
     ensures { CallsEndAtOnce }
+{}
+
+/// Each line that has the answer of a node comes from a turn that ended the pending call of its command with that answer, and left the session none.
+pub fn lines_come_from_turns()
+    ensures { LinesComeFromTurns }
 {}
 
 /// No law of places is about nothing: in the tried run of two nodes B's Reply is told to come from its run of the statement that A passed on, and

@@ -54,14 +54,14 @@ module _ (t : History) (whole : IsLawfulRun t) (hs0 : List Happening) (part0 : P
         let some : exit (events_of t) y.live.me ≡ Some left_well.0 = subst (λ b. exit (events_of t) b ≡ Some left_well.0) (sym me) left_well.1 in
         absurd (cc (none, some))
 
-    member_ends : (z : Exit) → exit (events_of t) x.live.me ≡ Some z → EndsAs x.live z
+    pub member_ends : (z : Exit) → exit (events_of t) x.live.me ≡ Some z → EndsAs x.live z
     member_ends z left = by (end_state x member)
       where
         by : State t whole x t.trace → EndsAs x.live z
         by (Here k y up found me same) = absurd (not_here k y up found me)
         by (Left w gone kids ends told) = (let both : Some w ≡ Some z = sym gone ∙ left in let it : w ≡ z = cc in subst (EndsAs x.live) it ends)
 
-    member_told : (c : BranchId) → was_sent is_below (said_in (facts_at t)) x.live.me c ≡ true → PointsTo x.live c
+    pub member_told : (c : BranchId) → was_sent is_below (said_in (facts_at t)) x.live.me c ≡ true → PointsTo x.live c
     member_told c sent = by (end_state x member)
       where
         by : State t whole x t.trace → PointsTo x.live c
@@ -104,7 +104,7 @@ module _ (t : History) (whole : IsLawfulRun t) (hs0 : List Happening) (part0 : P
         let k = kid_of t whole hs0 part0 r covered up.branch up.member i c (subst (λ (z : Live). numbered (children_of z) i ≡ Some c) (sym it) at) in
         record { branch = k.branch; is_me = k.is_me; member = k.is_member; leaves = k.leaves }
 
-    member_in : (z : Branch) → Member t whole hs0 part0 r z → (c : BranchId) → z.live.me ≡ c → IsIn (births_of t) r c
+    pub member_in : (z : Branch) → Member t whole hs0 part0 r z → (c : BranchId) → z.live.me ≡ c → IsIn (births_of t) r c
     member_in z member c me =
         let its : LiveIs (Began (births_of (so_far t hs0))) z.live = placed_of (so_far t hs0) (part_lawful t whole hs0 part0) z.live.me.node member.here.kept member.here.up z member.here.found in
         (its.born, born_end t whole hs0 part0 its.born its.began, its.is_me ∙ me, its.is_root ∙ member.root)

@@ -263,7 +263,7 @@ module _ (t : History) (whole : IsLawfulRun t) (r : BranchId) (found : WasFound 
 
 -- the root of a tree began
 module _ (t : History) (whole : IsLawfulRun t) where
-  abbrev IsTop : BranchId → Type 0
+  abbrev pub IsTop : BranchId → Type 0
   IsTop r = (y : Born) × Began (births_of t) y × (y.me ≡ r) × (y.parent ≡ None) × (y.root ≡ r)
 
   top_by : (n : ℕ) (x : Born) → Began (births_of t) x → x.depth ≤ n → IsTop x.root
@@ -277,19 +277,19 @@ module _ (t : History) (whole : IsLawfulRun t) where
           subst IsTop up.is_root (above_it up.up up.began (omega (arith, low, up.deeper)))
 
   module _ (b : BranchId) (n : ℕ) (decided : exit (events_of t) b ≡ Some (Decided n)) where
-    heard : (y : Born) × Began (births_of t) y × (y.me ≡ b)
+    pub heard : (y : Born) × Began (births_of t) y × (y.me ≡ b)
     heard = (let it = left_were_asked t whole b (Decided n) decided (λ is. absurd cc) in (it.0, it.1, it.2))
 
-    abbrev r : BranchId
+    abbrev pub r : BranchId
     r = heard.0.root
 
-    inside : IsIn (births_of t) r b
+    pub inside : IsIn (births_of t) r b
     inside = (heard.0, heard.1, heard.2, refl)
 
-    top : IsTop r
+    pub top : IsTop r
     top = top_by heard.0.depth heard.0 heard.1 (omega arith)
 
-    root_leaves : (z : Exit) × (exit (events_of t) r ≡ Some z) × (z ≢ Dropped)
+    pub root_leaves : (z : Exit) × (exit (events_of t) r ≡ Some z) × (z ≢ Dropped)
     root_leaves =
         let so = leaves_well t whole b n decided r inside top.0 top.1 top.4 (subst (λ o. asked_by (said_in (facts_at t)) top.0.me o ≡ true) (sym top.3) refl) in
         (so.0, subst (λ c. exit (events_of t) c ≡ Some so.0) top.2 so.1, so.2)
@@ -297,10 +297,10 @@ module _ (t : History) (whole : IsLawfulRun t) where
     root_good : (z : Exit) → exit (events_of t) r ≡ Some z → z ≢ Dropped
     root_good z is dropped = (let both : Some root_leaves.0 ≡ Some z = sym root_leaves.1 ∙ is in let same : root_leaves.0 ≡ z = cc in root_leaves.2 (same ∙ dropped))
 
-    found : WasFound t whole r t.trace
+    pub found : WasFound t whole r t.trace
     found = commit_found t whole r (top.0, top.1, top.2, top.3) root_good root_leaves.0 root_leaves.1
 
-    abbrev part_found : Part t whole found.before
+    abbrev pub part_found : Part t whole found.before
     part_found = record { rest = happenings.Turn found.turn ∷ found.later; is = found.is }
 
     -- at the end the root has left, and has asked its children
@@ -311,17 +311,17 @@ module _ (t : History) (whole : IsLawfulRun t) where
         let some : exit (events_of t) y.live.me ≡ Some root_leaves.0 = subst (λ c. exit (events_of t) c ≡ Some root_leaves.0) (sym (me ∙ found.commit.is_me)) root_leaves.1 in
         absurd (cc (none, some))
 
-    member : Member t whole found.before part_found r found.commit.branch
+    pub member : Member t whole found.before part_found r found.commit.branch
     member = root_member t whole r found root_good root_asks top
 
-    well : LeavesWell t whole found.before part_found r found.commit.branch.live.me
+    pub well : LeavesWell t whole found.before part_found r found.commit.branch.live.me
     well = (root_leaves.0, subst (λ c. exit (events_of t) c ≡ Some root_leaves.0) (sym found.commit.is_me) root_leaves.1, root_leaves.2)
 
     site : walk_from (said_in (facts_at t)) (deepest (births_of t)) r ≡ b
     site = sym (trees.site_is (births_of t) (said_in (facts_at t)) (known t whole) heard.0 b heard.1 heard.2) ∙ sym (at_site t whole b n decided r inside)
 
     -- a root is not above any depth
-    high : 1 ≤ found.commit.branch.live.depth
+    pub high : 1 ≤ found.commit.branch.live.depth
     high =
         let its : LiveIs (Began (births_of (so_far t found.before))) found.commit.branch.live
         = placed_of (so_far t found.before) (part_lawful t whole found.before part_found) found.commit.branch.live.me.node member.here.kept member.here.up found.commit.branch member.here.found in
@@ -336,7 +336,7 @@ module _ (t : History) (whole : IsLawfulRun t) where
         let stands = trees.stands_so (births_of t) (said_in (facts_at t)) (known t whole) top.0 None top.1 top.3 in
         sym its.is_depth ∙ (ap (λ (y : Born). y.depth) one ∙ stands.1)
 
-    root_low : Low t whole found.before part_found r (asked_well t whole b n decided r inside) r
+    pub root_low : Low t whole found.before part_found r (asked_well t whole b n decided r inside) r
     root_low = record { branch = found.commit.branch; is_me = found.commit.is_me; member = member; low = subst (λ d. d ≤ depth_limit) (sym first_depth) (let one : 1 ≤ 8 = omega arith in one) }
 
     walk_down : WalksTo (f_at t found.before) r b

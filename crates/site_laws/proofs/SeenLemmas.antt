@@ -60,10 +60,10 @@ module _ (t : History) (whole : IsLawfulRun t) (hs0 : List Happening) (part0 : P
   member_live x member c me =
       subst (λ b. live_in f0 b ≡ Some x.live) me (ap (λ o. live_of o x.live.me) member.here.up ∙ live_so member.here.kept x.live.me x member.here.found)
 
-  placed : (x : Branch) → Member t whole hs0 part0 r x → LiveIs (Began (births_of s0)) x.live
+  pub placed : (x : Branch) → Member t whole hs0 part0 r x → LiveIs (Began (births_of s0)) x.live
   placed x member = placed_of s0 lawful0 x.live.me.node member.here.kept member.here.up x member.here.found
 
-  kid_deeper : (x : Branch) → Member t whole hs0 part0 r x → (i : ℕ) (c : BranchId) → numbered (children_of x.live) i ≡ Some c → (y : Branch) → Member t whole hs0 part0 r y → y.live.me ≡ c → y.live.depth ≡ x.live.depth + 1
+  pub kid_deeper : (x : Branch) → Member t whole hs0 part0 r x → (i : ℕ) (c : BranchId) → numbered (children_of x.live) i ≡ Some c → (y : Branch) → Member t whole hs0 part0 r y → y.live.me ≡ c → y.live.depth ≡ x.live.depth + 1
   kid_deeper x member i c at y its_member me =
       let its : LiveIs (Began (births_of s0)) y.live = placed y its_member in
       let mine : LiveIs (Began (births_of s0)) x.live = placed x member in
@@ -129,14 +129,14 @@ module _ (t : History) (whole : IsLawfulRun t) (hs0 : List Happening) (part0 : P
 
   module _ (tr : Trail) (sees : SeesTree f0 tr r) (top : Low r) where
     -- what the trail sees of it
-    kids_seen : (x : Branch) → Member t whole hs0 part0 r x → InTree f0 r x.live.me → children_at tr x.live.me ≡ children_of x.live
+    pub kids_seen : (x : Branch) → Member t whole hs0 part0 r x → InTree f0 r x.live.me → children_at tr x.live.me ≡ children_of x.live
     kids_seen x member tree = sees.children x.live.me x.live tree (member_live x member x.live.me refl)
 
     changes_seen : (x : Branch) → Member t whole hs0 part0 r x → InTree f0 r x.live.me → has_changes tr x.live.me ≡ x.live.changed
     changes_seen x member tree = sees.changed x.live.me x.live tree (member_live x member x.live.me refl)
 
     -- none stands too deep
-    shallow : (x : Branch) → Member t whole hs0 part0 r x → InTree f0 r x.live.me → x.live.depth ≤ depth_limit
+    pub shallow : (x : Branch) → Member t whole hs0 part0 r x → InTree f0 r x.live.me → x.live.depth ≤ depth_limit
     shallow x member tree =
         let is : Low x.live.me = low_of top x.live.me tree in
         let both : Some is.branch.live ≡ Some x.live = sym (member_live is.branch is.member x.live.me is.is_me) ∙ member_live x member x.live.me refl in
@@ -146,7 +146,7 @@ module _ (t : History) (whole : IsLawfulRun t) (hs0 : List Happening) (part0 : P
     strength_seen : (x : Branch) → Member t whole hs0 part0 r x → strength_of t.places x.live.me ≡ x.live.strength
     strength_seen x member = sym (strength_at t whole hs0 part0 x member.here)
 
-    kid_in : (x : Branch) → Member t whole hs0 part0 r x → InTree f0 r x.live.me → (i : ℕ) (e : Edge) → numbered x.live.edges i ≡ Some e → InTree f0 r e.peer
+    pub kid_in : (x : Branch) → Member t whole hs0 part0 r x → InTree f0 r x.live.me → (i : ℕ) (e : Edge) → numbered x.live.edges i ≡ Some e → InTree f0 r e.peer
     kid_in x member tree i e at = Is_child x.live.me e.peer x.live i tree (member_live x member x.live.me refl) (mapped_at (λ (z : Edge). z.peer) x.live.edges i e at)
 
     -- the weights of its children through so many levels

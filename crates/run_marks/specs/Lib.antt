@@ -1,0 +1,4 @@
+pub mod Data
+pub mod Rows
+pub mod Marks
+pub mod Messages

@@ -1,0 +1,133 @@
+//! Branches in doubt, and nodes that are down: stretches of their lanes.
+ghost use Rattle.std.specs.Prelude.{◌≡◌, [], ◌++◌, map, IfOk, OnOk};
+ghost use Rattle.run_marks.specs.Rows.{start, along};
+ghost use Rattle.run_marks.specs.Marks.{settled, doubts_written, doubts_if, doubts_after, restarted, outages_after};
+
+use crate::cursor::Cursor;
+use crate::mark::{Doubt, Outage, Told};
+use book::Happening;
+use redo_record::RedoRecord;
+use std::alloc::{AllocError, Global};
+use tran_ids::BranchId;
+
+fn settle(doubt: &mut Doubt, me: &BranchId, row: u32)
+    ensures { doubt.new ≡ settled me.now row doubt.old }
+{
+    if doubt.branch.is(me) && doubt.till.is_none() {
+        doubt.till = Some(row);
+    }
+}
+
+fn settle_all(doubts: &mut Vec<Doubt>, me: &BranchId, row: u32)
+    ensures { doubts.new.items ≡ map (settled me.now row) doubts.old.items }
+{
+    for doubt in doubts.iter_mut() {
+        settle(doubt, me, row);
+    }
+}
+
+fn write(doubts: &mut Vec<Doubt>, row: u32, item: &RedoRecord) -> Result<(), AllocError>
+    ensures { OnOk result (doubts.new.items ≡ doubts_written doubts.old.items row item.now) }
+{
+    match item {
+        RedoRecord::Sealed(sealed) => doubts.push(Doubt {
+            branch: sealed.me,
+            from: row,
+            till: None,
+        })?,
+        RedoRecord::Ended {
+            me,
+            decision: _decision,
+        } => settle_all(doubts, me, row),
+        RedoRecord::Forced {
+            me,
+            decision: _decision,
+            given: _given,
+        } => settle_all(doubts, me, row),
+        _ => {}
+    }
+    Ok(())
+}
+
+fn write_if(doubts: &mut Vec<Doubt>, row: u32, wrote: &Option<RedoRecord>) -> Result<(), AllocError>
+    ensures { OnOk result (doubts.new.items ≡ doubts_if doubts.old.items row wrote.now) }
+{
+    match wrote {
+        None => Ok(()),
+        Some(item) => write(doubts, row, item),
+    }
+}
+
+fn add_doubt(doubts: &mut Vec<Doubt>, row: u32, happening: &Happening) -> Result<(), AllocError>
+    ensures { OnOk result (doubts.new.items ≡ doubts_after doubts.old.items row happening.now) }
+{
+    match happening {
+        Happening::Turn(turn) => write_if(doubts, row, &turn.wrote),
+        _ => Ok(()),
+    }
+}
+
+/// The branches in doubt. Fails where memory runs out, or where there would be too many rows.
+pub(crate) fn doubts(
+    alloc: Global,
+    tale: &[Told],
+    trace: &[Happening],
+) -> Result<Vec<Doubt>, AllocError>
+    ensures { IfOk result (λ doubts. doubts.items ≡ along doubts_after tale.now [] start trace.now) }
+{
+    let mut doubts = Vec::new(alloc);
+    let mut cursor = Cursor::start();
+    for happening in trace {
+        add_doubt(&mut doubts, cursor.row_of(happening), happening)?;
+        cursor = cursor.after(tale, happening)?;
+    }
+    Ok(doubts)
+}
+
+fn restart(outage: &mut Outage, node: u8, row: u32)
+    ensures { outage.new ≡ restarted node row outage.old }
+{
+    if outage.node == node && outage.till.is_none() {
+        outage.till = Some(row);
+    }
+}
+
+fn restart_all(outages: &mut Vec<Outage>, node: u8, row: u32)
+    ensures { outages.new.items ≡ map (restarted node row) outages.old.items }
+{
+    for outage in outages.iter_mut() {
+        restart(outage, node, row);
+    }
+}
+
+fn add_outage(outages: &mut Vec<Outage>, row: u32, happening: &Happening) -> Result<(), AllocError>
+    ensures { OnOk result (outages.new.items ≡ outages_after outages.old.items row happening.now) }
+{
+    match happening {
+        Happening::Stopped { node } => outages.push(Outage {
+            node: *node,
+            from: row,
+            till: None,
+        })?,
+        Happening::Started { node, boot: _boot } => restart_all(outages, *node, row),
+        _ => {}
+    }
+    Ok(())
+}
+
+/// The nodes that are down. Fails where memory runs out, or where there would be too many rows.
+pub(crate) fn outages(
+    alloc: Global,
+    tale: &[Told],
+    trace: &[Happening],
+) -> Result<Vec<Outage>, AllocError>
+    ensures { IfOk result (λ outages. outages.items ≡ along outages_after tale.now [] start trace.now) }
+{
+    let mut outages = Vec::new(alloc);
+    let mut cursor = Cursor::start();
+    for happening in trace {
+        add_outage(&mut outages, cursor.row_of(happening), happening)?;
+        cursor = cursor.after(tale, happening)?;
+    }
+    Ok(outages)
+}

@@ -1,0 +1,2 @@
+pub mod NeighborLaws
+pub mod TriedNeighbors
