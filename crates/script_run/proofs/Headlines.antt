@@ -12,7 +12,7 @@ use Rattle.run_laws.specs.Due.{Due, Ends, IsTheRun, due_of}
 use Rattle.run_laws.specs.Past.{past}
 use Rattle.run_laws.specs.Lawful.{AreOfAScript, History}
 use Rattle.run_laws.specs.Book.{Agreement, MixedIsMarked, ScnLaw}
-use Rattle.run_laws.specs.Headline.{places_of, Ending, All_run, Out_of_memory, IsTold, IsBetween, TheRunIsLawful, EveryBookAgrees, EveryMixedIsMarked, EveryScnIsLater, EverySiteDecides, EveryRunIsMeant}
+use Rattle.run_laws.specs.Headline.{places_of, Ending, All_run, Out_of_memory, IsTold, IsBetween, TheRunIsLawful, EveryBookAgrees, EveryMixedIsMarked, EveryScnIsLater, EverySiteDecides, EveryRunIsMeant, EveryTurnKnows}
 use Rattle.script_run.specs.declared.outcome.Run.{Run}
 use Rattle.script_run.specs.declared.outcome.Status.{Status}
 use Rattle.script_run.specs.declared.outcome.Status.TheVariants.{Done, BadScript, Usage, NoMemory, ReadFault, WriteFault, TooLong}
@@ -40,7 +40,7 @@ nothing_told : IsTold (history_of nothing_done no_script) [] All_run
 unfolding past due_of
 nothing_told = (refl, tt)
 
-module _ (lawful : TheRunIsLawful) (meant : EveryRunIsMeant) (sites : EverySiteDecides) (covers : DecisionsCover) (agrees : EveryBookAgrees) (marked : EveryMixedIsMarked) (later : EveryScnIsLater) where
+module _ (lawful : TheRunIsLawful) (knows : EveryTurnKnows) (meant : EveryRunIsMeant) (sites : EverySiteDecides) (covers : DecisionsCover) (agrees : EveryBookAgrees) (marked : EveryMixedIsMarked) (later : EveryScnIsLater) where
   -- by the laws, of what is due and told
   by_laws : (run : Run) (ending : Ending) (script : AreOfAScript (places_of run.commands) run.commands)
       → IsTheRun (places_of run.commands) run.commands (start (places_of run.commands)) run.trace → run.book ≡ book_of run.trace
@@ -54,6 +54,7 @@ module _ (lawful : TheRunIsLawful) (meant : EveryRunIsMeant) (sites : EverySiteD
         lawful = may;
         booked = booked;
         answered = told;
+        knows = knows t may;
         meant = meant t may;
         site = sites t may;
         covered = (covers t may).0;
@@ -89,6 +90,7 @@ stands_too run is = record {
   lawful = is.lawful;
   booked = is.booked;
   answered = inr (between _ is.answered.0, is.answered.1);
+  knows = is.knows;
   meant = is.meant;
   site = is.site;
   covered = is.covered;

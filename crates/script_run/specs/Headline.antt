@@ -5,6 +5,7 @@ use Rattle.run_laws.specs.Lawful.{History, AreOfAScript, IsLawfulRun}
 use Rattle.run_laws.specs.Headline.{places_of, IsTheRunOf, IsTold, Ending}
 use Rattle.run_laws.specs.Book.{Agreement, MixedIsMarked, ScnLaw}
 use Rattle.run_laws.specs.Each.{AtEach}
+use Rattle.run_laws.specs.Knowledge.{Knowledge}
 use Rattle.run_laws.specs.Meanings.{RunsAreMeant}
 use Rattle.run_laws.specs.Site.{SiteDecides, RecordIsSo, DecisionCovers}
 use Rattle.script_run.specs.declared.outcome.Run.{Run}
@@ -16,7 +17,8 @@ history_of run script = record { places = places_of run.commands; commands = run
 -- Each happening is the one that is due, with the record and the messages that the rules give, and so it may come where it
 -- came: no message comes twice unless it is repeated, over no cut pair, to no node that is down. The book has the entries of
 -- the records that were written. The lines answer the commands in order: each is the one that the rules give at its
--- happening, and SHOW DISK shows bytes that stand for the records so far. Where a node runs a query, it answers the query's
+-- happening, and SHOW DISK shows bytes that stand for the records so far. Each record and each message of a turn was to be
+-- written or said, by what came to its branch and what happened before. Where a node runs a query, it answers the query's
 -- meaning over the rows that the book leaves there, with the asker's own changes, and so a change counts the rows that it
 -- means. Each decision is made by the commit point site of its session tree, once every other branch with changes on it or
 -- below it is sealed. Branches end as their site decided, mixed outcomes are marked, and the SCN law holds.
@@ -26,6 +28,7 @@ pub record IsRun (run : Run) (ending : Ending) : Type 0 where
   pub lawful : IsLawfulRun (history_of run script)
   pub booked : run.book ≡ book_of run.trace
   pub answered : IsTold (history_of run script) run.answers ending
+  pub knows : Knowledge (history_of run script)
   pub meant : RunsAreMeant (history_of run script)
   pub site : SiteDecides (history_of run script)
   pub covered : AtEach (RecordIsSo DecisionCovers) (history_of run script)

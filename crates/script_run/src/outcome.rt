@@ -1,7 +1,7 @@
 //! How a run of the program ends, and what was done.
 ghost use Rattle.std.specs.Prelude.{◌≡◌, []};
 ghost use Rattle.script_read.specs.Sound.{IsOfAScript};
-ghost use Rattle.run_laws.specs.Headline.{places_of, All_run, TheRunIsLawful, EveryRunIsMeant, EverySiteDecides, EveryBookAgrees, EveryMixedIsMarked, EveryScnIsLater};
+ghost use Rattle.run_laws.specs.Headline.{places_of, All_run, TheRunIsLawful, EveryTurnKnows, EveryRunIsMeant, EverySiteDecides, EveryBookAgrees, EveryMixedIsMarked, EveryScnIsLater};
 ghost use Rattle.trail_laws.specs.OwnLaws.{DecisionsCover};
 ghost use Rattle.world.specs.Ran.{IsRan, as_ending};
 ghost use Rattle.script_run.specs.Headline.{IsRun, nothing_done};
@@ -16,6 +16,7 @@ use script_read::Commands;
 use std::alloc::Global;
 use trail_laws::{decisions_cover, every_run_is_meant, every_site_decides};
 use tree_laws::every_book_agrees;
+use turn_laws::every_turn_knows;
 use world::Ran;
 
 /// How a run of the program ends.
@@ -70,6 +71,7 @@ pub struct Run {
 // What holds of every lawful run, and that the run of a script is one.
 fn laws_of_runs()
     ensures lawful { TheRunIsLawful }
+    ensures knows { EveryTurnKnows }
     ensures meant { EveryRunIsMeant }
     ensures sites { EverySiteDecides }
     ensures covers { DecisionsCover }
@@ -78,6 +80,7 @@ fn laws_of_runs()
     ensures later { EveryScnIsLater }
 {
     the_run_is_lawful();
+    every_turn_knows();
     every_run_is_meant();
     every_site_decides();
     decisions_cover();
