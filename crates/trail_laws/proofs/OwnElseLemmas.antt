@@ -63,7 +63,7 @@ module _ (tr : Trail) (n : ℕ) where
   kind_node to (kinds.Exec call given advice s) here a asked = branch_node to call s (seen_at tr to) here refl a asked
   kind_node to _ here a asked = absurd cc
 
-  asks_node : (input : Input) → IsHere n input → (a : Asking) → asks tr n input ≡ Some a → a.branch.me.node ≡ n
+  pub asks_node : (input : Input) → IsHere n input → (a : Asking) → asks tr n input ≡ Some a → a.branch.me.node ≡ n
   asks_node (inputs.Call m (Some s)) here a asked = root_node m s (root_at tr n m) refl a asked
   asks_node (inputs.Call m None) here a asked = absurd cc
   asks_node (inputs.Message m) here a asked = kind_node m.to m.kind here a asked

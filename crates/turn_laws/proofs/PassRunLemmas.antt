@@ -39,7 +39,7 @@ use Rattle.trail_laws.proofs.ChildTurnLemmas as kids
 use Rattle.trail_laws.proofs.LowerRunLemmas.{stop_still}
 use Rattle.trail_laws.proofs.MomentLemmas.{tr_at, trail_one_on, at_moment, by_moment}
 use Rattle.trail_laws.proofs.OwnAskLemmas.{asking}
-use Rattle.trail_laws.proofs.OwnElseLemmas.{IsHere, comes_here}
+use Rattle.trail_laws.proofs.OwnElseLemmas.{IsHere, asks_node, comes_here}
 use Rattle.trail_laws.proofs.OwnFollowLemmas.{turn_owns, owns_follow}
 use Rattle.trail_laws.proofs.OwnKnowLemmas.{Knows}
 use Rattle.trail_laws.proofs.OwnTurnLemmas as own
@@ -61,41 +61,6 @@ bool_cases true P at_true at_false = at_true refl
 bool_cases false P at_true at_false = at_false refl
 
 module _ (tr : Trail) (n : ℕ) where
-  root_node : (m : ℕ) (s : Stmt) (o : Option Seen) → root_at tr n m ≡ o → (a : Asking) → asks_root s o ≡ Some a → a.branch.me.node ≡ n
-  root_node m s None is a asked = absurd cc
-  root_node m s (Some b) is a asked = by (is_of_rows s) asked
-    where
-      here : b.me.node ≡ n
-      here =
-          let passes = and_parts (is_live_at n b) (is_none b.parent && (b.me.session == m)) (find_passes (is_root_of n m) tr.seen b is) in
-          eqb-true b.me.node n (and_parts (b.me.node == n) (is_live b) passes.0).0
-
-      by : (q : Bool) → (if q then Some (asking b s) else None) ≡ Some a → a.branch.me.node ≡ n
-      by true asked = (let it : Some (asking b s) ≡ Some a = asked in let one : asking b s ≡ a = cc in subst (λ (x : Asking). x.branch.me.node ≡ n) one here)
-      by false asked = absurd cc
-
-  branch_node : (to : BranchId) (call : ℕ) (s : Stmt) (o : Option Seen) → to.node ≡ n → seen_at tr to ≡ o → (a : Asking) → asks_branch call s o ≡ Some a → a.branch.me.node ≡ n
-  branch_node to call s None here is a asked = absurd cc
-  branch_node to call s (Some b) here is a asked = by (is_live b && nat_lt b.taken call) asked
-    where
-      me : b.me.node ≡ n
-      me = ap (λ (c : BranchId). c.node) (item_is seen_id tr.seen to b is) ∙ here
-
-      by : (q : Bool) → (if q then Some (asking b s) else None) ≡ Some a → a.branch.me.node ≡ n
-      by true asked = (let it : Some (asking b s) ≡ Some a = asked in let one : asking b s ≡ a = cc in subst (λ (x : Asking). x.branch.me.node ≡ n) one me)
-      by false asked = absurd cc
-
-  kind_node : (to : BranchId) (kind : Kind) → to.node ≡ n → (a : Asking) → asks_by tr to kind ≡ Some a → a.branch.me.node ≡ n
-  kind_node to (kinds.Exec call given advice s) here a asked = branch_node to call s (seen_at tr to) here refl a asked
-  kind_node to _ here a asked = absurd cc
-
-  asks_node : (input : Input) → IsHere n input → (a : Asking) → asks tr n input ≡ Some a → a.branch.me.node ≡ n
-  asks_node (inputs.Call m (Some s)) here a asked = root_node m s (root_at tr n m) refl a asked
-  asks_node (inputs.Call m None) here a asked = absurd cc
-  asks_node (inputs.Message m) here a asked = kind_node m.to m.kind here a asked
-  asks_node (inputs.GiveUp m) here a asked = absurd cc
-  asks_node inputs.Reco here a asked = absurd cc
-
   -- a branch of another node is asked nothing
   unasked_elsewhere : (input : Input) → IsHere n input → (s : Seen) → s.me.node ≢ n → asked_after s (asks tr n input) ≡ s.asked
   unasked_elsewhere input here s other = by (asks tr n input) refl
@@ -103,7 +68,7 @@ module _ (tr : Trail) (n : ℕ) where
       by : (o : Option Asking) → asks tr n input ≡ o → asked_after s o ≡ s.asked
       by None none = refl
       by (Some a) some = bool_cases (same a.branch.me s.me) _
-          (λ same_one. absurd (other (sym (ap (λ (c : BranchId). c.node) (equal_from_same a.branch.me s.me same_one)) ∙ asks_node input here a some)))
+          (λ same_one. absurd (other (sym (ap (λ (c : BranchId). c.node) (equal_from_same a.branch.me s.me same_one)) ∙ asks_node tr n input here a some)))
           (λ apart. ap (λ q. if q then Some a.statement else s.asked) apart)
 
 stopped_me : (n : ℕ) (s : Seen) → (stopped_by n s).me ≡ s.me
