@@ -1,8 +1,7 @@
 -- The row that changes leave at a key hangs on those of its changes alone that are at the key.
-use Rattle.std.proofs.Common.{◌≡◌, ℕ, ◌&&◌, not, Bool, true, false, true≢false, if◌then◌else◌, cond, List, [], ◌∷◌, filter, Option, Some, None, refl, sym, ap, subst, ◌∙◌}
-use Rattle.dtx_values.proofs.ValueOrder.{equal_from_same}
+use Rattle.std.proofs.Common.{◌≡◌, ℕ, ◌&&◌, Bool, true, false, if◌then◌else◌, cond, List, [], ◌∷◌, filter, Option, refl, ap, ◌∙◌}
 use Rattle.node_rules.specs.Data.{Value, Row, Change, Keyed}
-use Rattle.node_rules.specs.Rows.{value_below, same_value, get, put, without, set_to, change_one, apply, is_change_of}
+use Rattle.node_rules.specs.Rows.{same_value, get, set_to, change_one, apply, is_change_of}
 use Rattle.node_rules.specs.Words.{same_text}
 use Rattle.view_laws.proofs.AgreeLemmas.{get_set}
 

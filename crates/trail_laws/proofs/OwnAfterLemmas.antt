@@ -1,5 +1,5 @@
 -- After a turn the changes that are told of each live branch of its node are those that the node keeps, and its answer to a run is meant.
-use Rattle.std.proofs.Common.{◌≡◌, ◌≢◌, ℕ, ◌⊎◌, true, false, List, [], ◌∷◌, ◌++◌, slice_get, zero, suc, Some, None, inl, inr, refl, sym, ap, subst, ◌∙◌, true≢false}
+use Rattle.std.proofs.Common.{◌≡◌, ℕ, ◌⊎◌, true, false, List, [], ◌∷◌, ◌++◌, slice_get, zero, suc, Some, None, inl, inr, refl, sym, ap, subst, ◌∙◌, true≢false}
 use Rattle.std.specs.List.{list_any, AllByRecursion}
 use Rattle.tran_ids.proofs.ListedLemmas.{item_is, put_found}
 use Rattle.sql_eval.specs.Meaning.{meant}

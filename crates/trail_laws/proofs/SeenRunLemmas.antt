@@ -8,12 +8,11 @@ use Rattle.run_laws.specs.Each.{EachFrom, AtEach}
 use Rattle.run_laws.specs.Facts.{Facts, first_facts, facts_after}
 use Rattle.run_laws.specs.Headline.{EveryRunIsMeant, EverySiteDecides}
 use Rattle.run_laws.specs.Lawful.{History, IsLawfulRun}
-use Rattle.run_laws.specs.Meanings.{RunsAreMeant}
 use Rattle.run_laws.specs.Trail.{trail_after}
 use Rattle.tree_laws.proofs.PrefixLemmas.{so_far, f_at}
 use Rattle.site_laws.proofs.TimeLemmas.{Part, part_lawful, part_of, keep_on}
 use Rattle.trail_laws.specs.OwnLaws.{TellsRoots, AllIsSeen, DecisionsCover, LeavesAreDue}
-use Rattle.trail_laws.specs.SeenLaws.{TellsOwns, SeesAll}
+use Rattle.trail_laws.specs.SeenLaws.{TellsOwns}
 use Rattle.trail_laws.proofs.EnoughLemmas.{seen_is_enough}
 use Rattle.trail_laws.proofs.LeaveLemmas.{seen_is_enough_to_leave}
 use Rattle.trail_laws.proofs.MomentLemmas.{tr_at}

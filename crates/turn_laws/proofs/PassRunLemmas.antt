@@ -1,15 +1,12 @@
 -- In every lawful run a branch that waits for a child is told to be asked the statement that goes on, and each Exec passes on what its sender was asked.
-use Rattle.std.proofs.Common.{◌≡◌, ◌≢◌, ℕ, ◌==◌, ◌&&◌, Bool, true, false, if◌then◌else◌, is_none, List, [], ◌∷◌, ◌++◌, map, Option, Some, None, inl, inr, refl, sym, ap, subst, ◌∙◌}
+use Rattle.std.proofs.Common.{◌≡◌, ◌≢◌, ℕ, Bool, true, false, if◌then◌else◌, List, [], ◌∷◌, ◌++◌, map, Option, Some, None, inl, inr, refl, sym, ap, subst, ◌∙◌}
 use Rattle.std.specs.Option.{option_to_list}
-use Rattle.std.specs.Prelude.{nat_lt}
 use Rattle.std.specs.List.{AllByRecursion}
-use Rattle.std.proofs.lemmas.Bool.{cases_eq, and_parts, eqb-true}
+use Rattle.std.proofs.lemmas.Bool.{cases_eq}
 use Rattle.tran_ids.proofs.BranchLemmas.{equal_from_same}
 use Rattle.tran_ids.proofs.ListedLemmas.{item_is}
 use Rattle.tran_ids.proofs.NumberedLemmas.{set_or_before}
-use Rattle.node_rules.specs.Data.{BranchId, Durable, Input, Kind, Live, Msg, Place, RedoRecord, Stmt}
-use Rattle.node_rules.specs.Data.inputs
-use Rattle.node_rules.specs.Data.kinds
+use Rattle.node_rules.specs.Data.{BranchId, Durable, Input, Live, Msg, Place, RedoRecord}
 use Rattle.node_rules.specs.declared.work.Waits.TheVariants as waiting
 use Rattle.node_rules.specs.declared.work.Going.{Going}
 use Rattle.node_rules.specs.Words.{same, item_at}
@@ -17,14 +14,14 @@ use Rattle.node_rules.specs.Names.{ref_of}
 use Rattle.node_rules.specs.Kept.{Kept, Deed, live_id, live_at}
 use Rattle.node_rules.specs.LiveBranches.{works_of}
 use Rattle.node_rules.specs.Turn.{turn_of, start_of, heard, deed_of, stamped}
-use Rattle.run_laws.specs.Branches.{Dropped, Seen, Trail, seen_id, seen_at, is_live, is_live_at, is_root_of, root_at}
+use Rattle.run_laws.specs.Branches.{Dropped, Seen, Trail, seen_id, seen_at, is_live_at}
 use Rattle.run_laws.specs.Data.{Turn, Happening}
 use Rattle.run_laws.specs.Data.happenings
 use Rattle.run_laws.specs.Each.{AtEach}
 use Rattle.run_laws.specs.Facts.{Facts, flat, place_at, node_at, records_at, with_boot, kept_after, facts_after, facts_of}
 use Rattle.run_laws.specs.Knowledge.{asked_of}
 use Rattle.run_laws.specs.Lawful.{MayHappen, IsOwed, History, IsLawfulRun}
-use Rattle.run_laws.specs.Runs.{Asking, is_of_rows, asks_root, asks_branch, asks_by, asks}
+use Rattle.run_laws.specs.Runs.{Asking, asks}
 use Rattle.run_laws.specs.Trail.{asked_after, stopped_by, trail_after}
 use Rattle.run_laws.proofs.AtNodeLemmas.{turn_elsewhere}
 use Rattle.run_laws.proofs.EventsStandLemmas.{run_stands, ids_name_their_node}
@@ -38,13 +35,11 @@ use Rattle.trail_laws.specs.SeenLaws.{TellsOwns, Sees}
 use Rattle.trail_laws.proofs.ChildTurnLemmas as kids
 use Rattle.trail_laws.proofs.LowerRunLemmas.{stop_still}
 use Rattle.trail_laws.proofs.MomentLemmas.{tr_at, trail_one_on, at_moment, by_moment}
-use Rattle.trail_laws.proofs.OwnAskLemmas.{asking}
 use Rattle.trail_laws.proofs.OwnElseLemmas.{IsHere, asks_node, comes_here}
 use Rattle.trail_laws.proofs.OwnFollowLemmas.{turn_owns, owns_follow}
 use Rattle.trail_laws.proofs.OwnKnowLemmas.{Knows}
 use Rattle.trail_laws.proofs.OwnTurnLemmas as own
 use Rattle.trail_laws.proofs.OwnTurnLemmas.{taken_of, Owns}
-use Rattle.trail_laws.proofs.PlanLemmas.{find_passes}
 use Rattle.trail_laws.proofs.SeenLemmas.{begun, seen_turned}
 use Rattle.trail_laws.proofs.SeenRunLemmas.{all_is_seen}
 use Rattle.trail_laws.proofs.StartLemmas.{started_none, none_made}
