@@ -1,14 +1,14 @@
-use Rattle.std.proofs.Common.{List, slice_index_or, sym, subst, arith}
+use Rattle.std.proofs.Common.{List, false, slice_index_or, sym, subst, arith}
 use Rattle.std.proofs.lemmas.List.Sums.{fold_more}
 use Rattle.row_locks.specs.Locks.{Lock}
 use Rattle.stmt_run.specs.Sites.{IsFree}
 use Rattle.stmt_run.proofs.Free.{free_still}
-use Rattle.stmt_run.proofs.holders.take_all.Goals as goal
+use Rattle.stmt_run.proofs.holders.take_each.Goals as goal
 
 pub loop-key-preserved : goal.loop-key-preserved
 loop-key-preserved c = record {
   taken = grind (arith, fold_more, c.in-Ok.ensures.taken);
   free = λ k d h.
       subst (λ (ls : List Lock). IsFree ls c.args.me.now c.args.table.now (slice_index_or c.args.keys.now k d)) (sym c.in-Ok.ensures.taken)
-      (free_still c.loop-key.locks c.args.me.now c.args.table.now c.key-item.result (slice_index_or c.args.keys.now k d) c.args.writes (c.loop-key.invariant.free k d h));
+      (free_still c.loop-key.locks c.args.me.now c.args.table.now c.key-item.result (slice_index_or c.args.keys.now k d) false (c.loop-key.invariant.free k d h));
 }
