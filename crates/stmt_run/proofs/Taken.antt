@@ -24,7 +24,7 @@ module _ (me : BranchId) (table : List ℕ) where
 
   first_stay : (ls : List Lock) (key : Value) → take (length ls) (taken ls me table key false) ≡ ls
   first_stay [] key = refl
-  first_stay (l ∷ ls) key = grind (arith, first_stay ls key)
+  first_stay (l ∷ ls) key = grind (arith, first_stay ls key, take-length ls)
 
   -- whatever keys are taken to read
   pub stay_first : (keys : List Value) (ls : List Lock) → take (length ls) (take_keys ls me table false keys) ≡ ls
@@ -45,7 +45,7 @@ module _ (me : BranchId) (table : List ℕ) where
   held_now [] key writes = grind (arith, (itself key).0, (itself key).1)
   held_now (l ∷ ls) key writes = grind (arith, held_now ls key writes)
 
-  held_still : (ls : List Lock) (key other : Value) (writes : Bool) → IsHeld ls table other → IsHeld (taken ls me table key writes) table other
+  pub held_still : (ls : List Lock) (key other : Value) (writes : Bool) → IsHeld ls table other → IsHeld (taken ls me table key writes) table other
   held_still [] key other writes held = absurd cc
   held_still (l ∷ ls) key other writes held = grind (arith, held_still ls key other writes, held)
 
