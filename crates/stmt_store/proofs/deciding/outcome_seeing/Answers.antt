@@ -28,8 +28,8 @@ returns-in-None-clause-free c =
     let g = ground_of site in
     let s = c.args.statement.now in
     let keys : c.in_ok-outcome.outcome.keys ≡ written s t (view_of site) = c.in_ok-outcome.ensures.keys ∙ c.requires.written in
-    let none = λ i. else_refuse (held_refusal 1591 (sym c.requires.in_doubt i)) (locked_refusal g t (sym (c.as_slice.ensures ∙ keys) i)) in
     subst (λ (ks : List Value). All (IsFree g.locks g.me t.name) ks) (sym keys)
     (All-from_recursion (IsFree g.locks g.me t.name) (written s t (view_of site))
     (written_free g t s (tables_have_one_key t c.requires.one_key) (rows_are_keyed t (view_of site) c.requires.rows)
-    (none ∙ sym c.in_ok-lock_refusal.ensures ∙ c.in-None.is)))
+    ((λ i. else_refuse (held_refusal 1591 (sym c.requires.in_doubt i)) (locked_refusal g t (sym (c.as_slice.ensures ∙ keys) i)))
+    ∙ sym c.in_ok-refusal.ensures ∙ c.in-None.is)))
