@@ -1,0 +1,5 @@
+pub mod UptoLemmas
+pub mod SameToldLemmas
+pub mod DueCallLemmas
+pub mod CallAtLemmas
+pub mod CallTurnLemmas
