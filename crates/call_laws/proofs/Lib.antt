@@ -2,4 +2,5 @@ pub mod UptoLemmas
 pub mod SameToldLemmas
 pub mod DueCallLemmas
 pub mod CallAtLemmas
+pub mod ComeLemmas
 pub mod CallTurnLemmas
