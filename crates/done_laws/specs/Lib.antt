@@ -1,3 +1,4 @@
 pub mod DoneLaws
 pub mod StandLaws
+pub mod ToldDone
 pub mod TriedDone
