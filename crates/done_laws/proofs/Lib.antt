@@ -8,3 +8,4 @@ pub mod CommitStepLemmas
 pub mod CommitEndLemmas
 pub mod ToldDoneLemmas
 mod TriedDoneLemmas
+mod TriedToldLemmas

@@ -12,6 +12,7 @@ ghost use Rattle.done_laws.specs.DoneLaws.{DoneIsWritten, EachIsAnswered, Writte
 ghost use Rattle.done_laws.specs.StandLaws.{DoneStays, RecordsComeFromCalls};
 ghost use Rattle.done_laws.specs.ToldDone.{DoneIsTold};
 ghost use Rattle.done_laws.specs.TriedDone.{TheTriedDone};
+ghost use Rattle.done_laws.specs.TriedTold.{TheTriedTold};
 
 /// A call of such a statement that is answered as done has its record written in the same turn, and is answered once, by
 /// what that record tells.
@@ -52,4 +53,10 @@ pub fn done_is_told()
 /// doubt at B is rolled back by force and then purged, each with its record and its answer.
 pub fn the_tried_done()
     ensures { TheTriedDone }
+{}
+
+/// Nor is what the report tells: in a script of one node CREATE TABLE is told to be done, and to be refused the second time,
+/// and another to be done after the COMMIT of its transaction.
+pub fn the_tried_told()
+    ensures { TheTriedTold }
 {}
