@@ -142,7 +142,7 @@ module _ (t : History) (run : IsTheRunOf t) where
 
     -- no call of the node is pending once it has stopped
     stopped_none : slice_get t.trace (i + 1) ≡ Some (happenings.Stopped u.node) → (s : ℕ) → called_at (past_upto t (i + 1 + 1)).telling.calls u.node s ≡ false
-    unfolding next
+    unfolding next facts_after
     stopped_none after s =
         let may = may_at t run (i + 1) (happenings.Stopped u.node) after in
         let stands = stand_at t run (i + 1) in

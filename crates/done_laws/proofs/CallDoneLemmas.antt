@@ -14,6 +14,11 @@ use Rattle.call_laws.proofs.CallAtLemmas.{HasShape, AreShaped, found_at, find_ke
 use Rattle.done_laws.specs.DoneLaws.{answers_to}
 use Rattle.done_laws.proofs.LineStayLemmas.{IsPut, line_put, grows_put, finished_grows}
 
+-- what is pending after an answer: the second call of a CREATE, once its COMMIT is complete
+abbrev pub after_answer : Call → Answer → Option Stmt → Option Call
+after_answer c a None = None
+after_answer c a (Some st) = if is_complete a then Some (second_of c st) else None
+
 module _ (asked : List Command) (running node : ℕ) where
   -- ---- one call that ends
 
@@ -44,7 +49,7 @@ module _ (asked : List Command) (running node : ℕ) where
         by false here x is = apart (is_call_at c.node c.session x) refl
           where
             apart : (q : Bool) → is_call_at c.node c.session x ≡ q → not q ≡ true
-            apart false no = refl
+            apart false other_one = refl
             apart true yes =
                 let mine = at_parts c.node c.session x yes in
                 let its = at_parts node s x is in
@@ -121,14 +126,17 @@ module _ (asked : List Command) (running node : ℕ) where
   pub answered_put : (t : Telling) (fs : List Finished) → AreShaped asked t.calls → (s : ℕ) (c : Call) → call_at t node s ≡ Some c → c.follows ≡ None → (a : Answer) → answers_to s fs ≡ a ∷ []
       → IsPut running (finished running t node fs) c.command (said.Node a) × (call_at (finished running t node fs) node s ≡ None)
   answered_put t [] shapes s c at alone a is = absurd cc
-  answered_put t (f ∷ fs) shapes s c at alone a is = by (f.session == s) refl
+  answered_put t (f ∷ fs) shapes s c at alone a is =
+      by (f.session == s) refl (λ there answers. answered_put (finished_call running t f (call_at t node f.session)) fs (one_shapes t shapes f (call_at t node f.session) refl) s c there alone a answers)
     where
       by : (q : Bool) → (f.session == s) ≡ q
+          → (call_at (finished_call running t f (call_at t node f.session)) node s ≡ Some c → answers_to s fs ≡ a ∷ []
+          → IsPut running (finished running (finished_call running t f (call_at t node f.session)) node fs) c.command (said.Node a) × (call_at (finished running (finished_call running t f (call_at t node f.session)) node fs) node s ≡ None))
           → IsPut running (finished running (finished_call running t f (call_at t node f.session)) node fs) c.command (said.Node a) × (call_at (finished running (finished_call running t f (call_at t node f.session)) node fs) node s ≡ None)
-      by false other =
-          answered_put (finished_call running t f (call_at t node f.session)) fs (one_shapes t shapes f (call_at t node f.session) refl) s c (one_elsewhere t shapes f (call_at t node f.session) refl s other c at) alone a
+      by false other later =
+          later (one_elsewhere t shapes f (call_at t node f.session) refl s other c at)
           (sym (ap (λ q. map (λ x. x.answer) (if q then f ∷ filter (λ x. x.session == s) fs else filter (λ x. x.session == s) fs)) other) ∙ is)
-      by true here =
+      by true here later =
           let same : f.session ≡ s = eqb-true f.session s here in
           let mine : call_at t node f.session ≡ Some c = subst (λ i. call_at t node i ≡ Some c) (sym same) at in
           let first : f.answer ∷ answers_to s fs ≡ a ∷ [] = sym (ap (λ q. map (λ x. x.answer) (if q then f ∷ filter (λ x. x.session == s) fs else filter (λ x. x.session == s) fs)) here) ∙ is in
@@ -145,29 +153,29 @@ module _ (asked : List Command) (running node : ℕ) where
   -- a call of another session is
   others_stay : (t : Telling) (fs : List Finished) → AreShaped asked t.calls → (s : ℕ) → answers_to s fs ≡ [] → (d : Call) → call_at t node s ≡ Some d → call_at (finished running t node fs) node s ≡ Some d
   others_stay t [] shapes s none d at = at
-  others_stay t (f ∷ fs) shapes s none d at = by (f.session == s) refl
+  others_stay t (f ∷ fs) shapes s none d at =
+      by (f.session == s) refl (λ left there. others_stay (finished_call running t f (call_at t node f.session)) fs (one_shapes t shapes f (call_at t node f.session) refl) s left d there)
     where
-      by : (q : Bool) → (f.session == s) ≡ q → call_at (finished running (finished_call running t f (call_at t node f.session)) node fs) node s ≡ Some d
-      by true here = absurd (let some : f.answer ∷ answers_to s fs ≡ [] = sym (ap (λ q. map (λ x. x.answer) (if q then f ∷ filter (λ x. x.session == s) fs else filter (λ x. x.session == s) fs)) here) ∙ none in cc)
-      by false other =
-          others_stay (finished_call running t f (call_at t node f.session)) fs (one_shapes t shapes f (call_at t node f.session) refl) s
-          (sym (ap (λ q. map (λ x. x.answer) (if q then f ∷ filter (λ x. x.session == s) fs else filter (λ x. x.session == s) fs)) other) ∙ none) d (one_elsewhere t shapes f (call_at t node f.session) refl s other d at)
-
-  -- of the session that is answered, the second call of a CREATE, once its COMMIT is complete
-  abbrev pub after_answer : Call → Answer → Option Stmt → Option Call
-  after_answer c a None = None
-  after_answer c a (Some st) = if is_complete a then Some (second_of c st) else None
+      by : (q : Bool) → (f.session == s) ≡ q
+          → (answers_to s fs ≡ [] → call_at (finished_call running t f (call_at t node f.session)) node s ≡ Some d → call_at (finished running (finished_call running t f (call_at t node f.session)) node fs) node s ≡ Some d)
+          → call_at (finished running (finished_call running t f (call_at t node f.session)) node fs) node s ≡ Some d
+      by true here later = absurd (let some : f.answer ∷ answers_to s fs ≡ [] = sym (ap (λ q. map (λ x. x.answer) (if q then f ∷ filter (λ x. x.session == s) fs else filter (λ x. x.session == s) fs)) here) ∙ none in cc)
+      by false other later =
+          later (sym (ap (λ q. map (λ x. x.answer) (if q then f ∷ filter (λ x. x.session == s) fs else filter (λ x. x.session == s) fs)) other) ∙ none) (one_elsewhere t shapes f (call_at t node f.session) refl s other d at)
 
   pub answered_call : (t : Telling) (fs : List Finished) → AreShaped asked t.calls → (s : ℕ) (c : Call) → call_at t node s ≡ Some c → (a : Answer) → answers_to s fs ≡ a ∷ []
       → call_at (finished running t node fs) node s ≡ after_answer c a c.follows
   answered_call t [] shapes s c at a is = absurd cc
-  answered_call t (f ∷ fs) shapes s c at a is = by (f.session == s) refl
+  answered_call t (f ∷ fs) shapes s c at a is =
+      by (f.session == s) refl (λ there answers. answered_call (finished_call running t f (call_at t node f.session)) fs (one_shapes t shapes f (call_at t node f.session) refl) s c there a answers)
     where
-      by : (q : Bool) → (f.session == s) ≡ q → call_at (finished running (finished_call running t f (call_at t node f.session)) node fs) node s ≡ after_answer c a c.follows
-      by false other =
-          answered_call (finished_call running t f (call_at t node f.session)) fs (one_shapes t shapes f (call_at t node f.session) refl) s c (one_elsewhere t shapes f (call_at t node f.session) refl s other c at) a
+      by : (q : Bool) → (f.session == s) ≡ q
+          → (call_at (finished_call running t f (call_at t node f.session)) node s ≡ Some c → answers_to s fs ≡ a ∷ [] → call_at (finished running (finished_call running t f (call_at t node f.session)) node fs) node s ≡ after_answer c a c.follows)
+          → call_at (finished running (finished_call running t f (call_at t node f.session)) node fs) node s ≡ after_answer c a c.follows
+      by false other later =
+          later (one_elsewhere t shapes f (call_at t node f.session) refl s other c at)
           (sym (ap (λ q. map (λ x. x.answer) (if q then f ∷ filter (λ x. x.session == s) fs else filter (λ x. x.session == s) fs)) other) ∙ is)
-      by true here = own c.follows refl
+      by true here later = own c.follows refl
         where
           same : f.session ≡ s
           same = eqb-true f.session s here
