@@ -50,8 +50,8 @@ module _ (asked : List Command) (running node : ℕ) where
           where
             apart : (q : Bool) → is_call_at c.node c.session x ≡ q → not q ≡ true
             apart false other_one = refl
-            apart true yes =
-                let mine = at_parts c.node c.session x yes in
+            apart true both_so =
+                let mine = at_parts c.node c.session x both_so in
                 let its = at_parts node s x is in
                 absurd (let same : (c.session == s) ≡ true = eq-eqb c.session s (sym mine.1 ∙ its.1) in cc (same, here))
 
