@@ -1,37 +1,29 @@
 -- In the run of a script each pending call has come, unless it comes next; and what comes as a client's call is pending.
-use Rattle.std.proofs.Common.{◌≡◌, ℕ, ◌+◌, ◌<◌, ◌≤◌, ◌==◌, ◌&&◌, ◌||◌, ◌⊎◌, not, Bool, true, false, List, [], ◌∷◌, ◌++◌, find, IfSome, slice_get, is_none, Option, Some, None, inl, inr, refl, sym, ap, subst, ◌∙◌, zero, suc, arith}
-use Rattle.std.specs.List.{AllByRecursion}
-use Rattle.std.proofs.lemmas.Bool.Decides.{nat_tests}
-use Rattle.std.proofs.lemmas.Bool.{cond_both, and_parts, and_from, eq-eqb}
-use Rattle.node_rules.specs.Data.{Input, Place, Stmt}
+use Rattle.std.proofs.Common.{◌≡◌, ℕ, ◌+◌, ◌&&◌, ◌||◌, ◌⊎◌, not, Bool, true, false, List, [], ◌∷◌, ◌++◌, find, slice_get, Option, Some, None, inl, inr, refl, sym, ap, subst, ◌∙◌, zero, suc, arith}
+use Rattle.std.proofs.lemmas.Bool.{cond_both, eq-eqb}
+use Rattle.node_rules.specs.Data.{Stmt}
 use Rattle.node_rules.specs.Data.inputs
-use Rattle.node_rules.specs.Kept.{Kept, Outcome}
-use Rattle.node_rules.specs.Turn.{turn_of}
-use Rattle.run_laws.specs.Calls.{is_call_at, call_at, waits, waits_if_pending, after_input, finished, stopped_calls}
+use Rattle.run_laws.specs.Calls.{is_call_at, call_at, stopped_calls}
 use Rattle.run_laws.specs.Commands.{call_of, calls_after, has_call, has_transaction}
 use Rattle.run_laws.specs.Data.{Command, Happening, Turn}
 use Rattle.run_laws.specs.Data.commands
 use Rattle.run_laws.specs.Data.happenings
-use Rattle.run_laws.specs.Each.{facts_upto}
-use Rattle.run_laws.specs.Facts.{Facts, command_at, is_up, node_at, outcome_at, place_at, served, facts_after}
+use Rattle.run_laws.specs.Facts.{Facts, command_at, is_up, node_at, facts_after}
 use Rattle.run_laws.specs.Headline.{IsTheRunOf}
-use Rattle.run_laws.specs.Lawful.{History, MayTurn}
-use Rattle.run_laws.specs.Past.{is_call, delivered_more, without_following, ends_calls, acts, telling_turned, failed_start, start_refused, is_stop_of, stop_line, telling_stopped, next, past}
+use Rattle.run_laws.specs.Lawful.{History}
+use Rattle.run_laws.specs.Past.{is_call, acts, failed_start, start_refused, is_stop_of, stop_line, telling_stopped, next, past}
 use Rattle.run_laws.specs.Places.{past_upto}
-use Rattle.run_laws.specs.Cuts.{turn_appends}
 use Rattle.run_laws.specs.Telling.{Call, Past, Telling, start}
 use Rattle.run_laws.proofs.ListLemmas.{all_append}
 use Rattle.due_laws.proofs.CallEndLemmas.{same_number}
-use Rattle.due_laws.proofs.PendingLemmas.{IsOf, EndsFew, follows_at, at_parts}
+use Rattle.due_laws.proofs.PendingLemmas.{follows_at, at_parts}
 use Rattle.due_laws.proofs.StandCallLemmas.{is_own, is_fresh}
 use Rattle.due_laws.proofs.OtherStandLemmas.{IsQuiet}
-use Rattle.due_laws.proofs.TurnCallLemmas.{turn_leaves_so}
-use Rattle.call_laws.specs.CallTurns.{Brings, What_is_asked, A_commit_first, Then_the_create, TurnOf, CameBefore, IsYetToCome, PendingCallsCame, TurnsFindCallsCome, WhatComesIsPending}
-use Rattle.call_laws.proofs.UptoLemmas.{StandsAt, one_more, none_more, facts_there, due_at, stand_at, may_at}
-use Rattle.call_laws.proofs.SameToldLemmas.{ToldBefore, before_told}
+use Rattle.call_laws.specs.CallTurns.{TurnOf, CameBefore, IsYetToCome, PendingCallsCame, TurnsFindCallsCome, WhatComesIsPending}
+use Rattle.call_laws.proofs.UptoLemmas.{one_more, none_more}
 use Rattle.call_laws.proofs.DueCallLemmas.{DueIs}
 use Rattle.call_laws.proofs.ComeLemmas.{CallsSo, further, due_there, its_turn, turn_finds, turn_so}
-use Rattle.call_laws.proofs.CallAtLemmas.{HasShape, Plain, Commits, IsSecond, NextIs, AreShaped, found_at, made_shape, find_last, Fewer, same_fewer, fewer_then, Leads, ends_lead, stopped_fewer}
+use Rattle.call_laws.proofs.CallAtLemmas.{HasShape, NextIs, AreShaped, made_shape, find_last, Fewer, same_fewer, fewer_then, stopped_fewer}
 
 module _ (t : History) (run : IsTheRunOf t) (i : ℕ) (now : CallsSo t i (past_upto t i)) where
   abbrev p : Past

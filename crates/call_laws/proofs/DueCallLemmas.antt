@@ -1,7 +1,7 @@
 -- What is due next in the run of a script: the turn of the one call that is yet to come, or no client's call.
-use Rattle.std.proofs.Common.{◌≡◌, ℕ, ◌+◌, ◌==◌, ◌&&◌, ◌⊎◌, Bool, true, false, List, Option, Some, None, inl, inr, refl, sym, ap, subst, ◌∙◌}
+use Rattle.std.proofs.Common.{◌≡◌, ℕ, ◌+◌, ◌==◌, ◌&&◌, ◌⊎◌, Bool, true, false, List, Option, Some, None, inl, inr, refl, sym, ap, subst}
 use Rattle.std.proofs.lemmas.Bool.{cond_both}
-use Rattle.node_rules.specs.Data.{Place, Stmt, Input}
+use Rattle.node_rules.specs.Data.{Place, Input}
 use Rattle.node_rules.specs.Data.inputs
 use Rattle.node_rules.specs.Kept.{Kept, Outcome}
 use Rattle.node_rules.specs.Turn.{turn_of}
@@ -12,7 +12,7 @@ use Rattle.run_laws.specs.Data.{Command, Happening, Packet, Took, Turn}
 use Rattle.run_laws.specs.Data.commands
 use Rattle.run_laws.specs.Data.happenings
 use Rattle.run_laws.specs.Disks.{Strike, struck}
-use Rattle.run_laws.specs.Due.{Due, Pends, turn_by, turn_comes, turn_at, start_by, delivery_at, happens, comes_next, due_of}
+use Rattle.run_laws.specs.Due.{Due, Pends, turn_by, turn_comes, turn_at, start_by, delivery_at, happens, comes_next}
 use Rattle.run_laws.specs.Facts.{Facts, command_at, node_at, place_at}
 use Rattle.run_laws.specs.Past.{is_call}
 use Rattle.run_laws.specs.Telling.{Call, Past, Telling, orders_at}

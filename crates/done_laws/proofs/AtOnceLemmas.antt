@@ -1,17 +1,15 @@
 -- A statement that writes one record is answered in the turn that it comes to, and its line stays.
-use Rattle.std.proofs.Common.{◌≡◌, ◌≢◌, ℕ, zero, suc, ◌+◌, ◌<◌, ◌≤◌, ◌==◌, ◌⊎◌, Bool, true, false, true≢false, if◌then◌else◌, List, [], ◌∷◌, map, filter, slice_get, IfSome, Option, Some, None, inl, inr, refl, sym, ap, subst, ◌∙◌, arith}
+use Rattle.std.proofs.Common.{◌≡◌, ℕ, zero, suc, ◌+◌, ◌<◌, ◌≤◌, ◌==◌, ◌⊎◌, Bool, true, false, if◌then◌else◌, List, [], ◌∷◌, map, filter, slice_get, Option, Some, None, inl, inr, refl, sym, ap, subst, ◌∙◌, arith}
 use Rattle.std.specs.Prelude.{take}
 use Rattle.std.specs.List.{list_any}
 use Rattle.std.proofs.lemmas.Bool.{eq-eqb}
 use Rattle.node_rules.specs.Data.{Answer, Done, Place, RedoRecord, Refusal, Stmt}
 use Rattle.node_rules.specs.Data.answers
 use Rattle.node_rules.specs.Data.inputs
-use Rattle.node_rules.specs.Data.stmts
 use Rattle.node_rules.specs.declared.session.Finished.{Finished}
 use Rattle.node_rules.specs.Inputs.{IsCall}
 use Rattle.node_rules.specs.Kept.{Kept, Outcome}
 use Rattle.run_laws.specs.Calls.{call_at}
-use Rattle.run_laws.specs.Commands.{commits_first}
 use Rattle.run_laws.specs.Data.{Command, Happening, Turn}
 use Rattle.run_laws.specs.Data.commands
 use Rattle.run_laws.specs.Data.happenings
@@ -28,17 +26,11 @@ use Rattle.net_bag.specs.Net.{lost_at_once}
 use Rattle.run_laws.proofs.AtNodeLemmas.{stop_here}
 use Rattle.due_laws.proofs.PendingLemmas.{called_at, there_called}
 use Rattle.due_laws.proofs.RunLawfulLemmas.{the_run_is_lawful}
-use Rattle.call_laws.specs.CallTurns.{Brings, What_is_asked, A_commit_first, Then_the_create, TurnOf, CameBefore}
-use Rattle.call_laws.proofs.CallTurnLemmas.{turns_find_calls_come, what_comes_is_pending}
+use Rattle.call_laws.specs.CallTurns.{CameBefore}
 use Rattle.call_laws.proofs.ComeLemmas.{below_or}
 use Rattle.call_laws.proofs.UptoLemmas.{one_more, facts_there, stand_at, may_at}
-use Rattle.place_laws.specs.ToldLaws.{EndedBy}
-use Rattle.place_laws.proofs.ToldTurnLemmas.{lines_come_from_turns}
-use Rattle.done_laws.specs.DoneLaws.{is_recorded, is_of_statement, Records, A_table, A_link, A_synonym, A_setting, A_commit_at, A_commit, A_rollback, A_mixed_row, A_lost_row, ended_by, ended_in, answers_to, is_done, Stands, AnswersAtOnce, IsAsked}
-use Rattle.done_laws.specs.StandLaws.{IsOneOf, StaysIn}
-use Rattle.done_laws.specs.ToldDone.{ComesIn, CameTo, IsWritten, DoneHasItsRecord, IsRefused, Writes_nothing, Has_no_commit, RefusedHasNone, IsTold, RecordsAreTold, TellsWhatIsDone, DoneIsTold}
-use Rattle.done_laws.proofs.DoneLemmas.{each_is_answered, written_is_done}
-use Rattle.done_laws.proofs.StandLemmas.{done_stays}
+use Rattle.done_laws.specs.DoneLaws.{is_recorded, Records, A_table, A_link, A_synonym, A_setting, A_commit_at, A_commit, A_rollback, A_mixed_row, A_lost_row, ended_by, ended_in, answers_to, is_done, Stands, AnswersAtOnce}
+use Rattle.done_laws.proofs.DoneLemmas.{each_is_answered}
 use Rattle.done_laws.proofs.LineRunLemmas.{answer_told, told_at_last}
 use Rattle.done_laws.proofs.LineStayLemmas.{Has}
 

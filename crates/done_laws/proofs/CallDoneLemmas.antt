@@ -1,16 +1,16 @@
 -- A call that a turn answers is pending no more, and its answer is a line of the page.
-use Rattle.std.proofs.Common.{◌≡◌, ℕ, ◌==◌, ◌&&◌, ◌⊎◌, not, Bool, true, false, true≢false, if◌then◌else◌, List, [], ◌∷◌, map, filter, find, Option, Some, None, inl, inr, refl, sym, ap, subst, ◌∙◌}
+use Rattle.std.proofs.Common.{◌≡◌, ℕ, ◌==◌, not, Bool, true, false, if◌then◌else◌, List, [], ◌∷◌, map, filter, find, Option, Some, None, refl, sym, ap, subst, ◌∙◌}
 use Rattle.std.specs.Prelude.{option_map}
 use Rattle.std.proofs.lemmas.Bool.{cond_both, eqb-true, eq-eqb, and_from}
 use Rattle.node_rules.specs.Data.{Answer, Stmt}
 use Rattle.node_rules.specs.declared.session.Finished.{Finished}
 use Rattle.run_laws.specs.Calls.{is_call_at, call_at, without_call, change_call, is_complete, second_of, call_follows, call_ends, ends_or_follows, finished_call, finished}
-use Rattle.run_laws.specs.Data.{Command, Said}
+use Rattle.run_laws.specs.Data.{Command}
 use Rattle.run_laws.specs.Data.said
-use Rattle.run_laws.specs.Lines.{says_node, call_line}
+use Rattle.run_laws.specs.Lines.{says_node}
 use Rattle.run_laws.specs.Telling.{Call, Telling}
-use Rattle.due_laws.proofs.PendingLemmas.{SameCalls, line_same, at_parts}
-use Rattle.call_laws.proofs.CallAtLemmas.{HasShape, AreShaped, found_at, find_kept, find_left, Fewer, gone_fewer, one_command, changed_shapes, follows_at}
+use Rattle.due_laws.proofs.PendingLemmas.{line_same, at_parts}
+use Rattle.call_laws.proofs.CallAtLemmas.{HasShape, AreShaped, found_at, find_kept, find_left, gone_fewer, one_command, changed_shapes, follows_at}
 use Rattle.done_laws.specs.DoneLaws.{answers_to}
 use Rattle.done_laws.proofs.LineStayLemmas.{IsPut, line_put, grows_put, finished_grows}
 

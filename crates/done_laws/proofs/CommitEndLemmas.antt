@@ -1,26 +1,22 @@
 -- In the run of a script the COMMIT before a CREATE leaves no line but a refusal: where it is complete, the CREATE comes.
-use Rattle.std.proofs.Common.{◌≡◌, ◌≢◌, ℕ, zero, suc, ◌+◌, ◌-◌, ◌<◌, ◌≤◌, ◌==◌, ◌⊎◌, Bool, true, false, true≢false, if◌then◌else◌, List, [], ◌∷◌, find, length, slice_get, IfSome, Option, Some, None, inl, inr, refl, sym, ap, subst, ◌∙◌, arith}
-use Rattle.node_rules.specs.Data.{Answer, Input, Phase, Refusal, Stmt}
+use Rattle.std.proofs.Common.{◌≡◌, ℕ, zero, suc, ◌+◌, ◌-◌, ◌<◌, ◌≤◌, Bool, true, false, if◌then◌else◌, List, [], ◌∷◌, find, length, slice_get, IfSome, Option, Some, None, inl, inr, refl, sym, ap, subst, ◌∙◌, arith}
+use Rattle.node_rules.specs.Data.{Answer, Input, Phase, Stmt}
 use Rattle.node_rules.specs.declared.work.Going.{Going}
-use Rattle.node_rules.specs.Data.answers
 use Rattle.node_rules.specs.Data.inputs
-use Rattle.node_rules.specs.Data.kinds
 use Rattle.node_rules.specs.Data.stmts
 use Rattle.node_rules.specs.declared.session.PendingCall.{PendingCall}
 use Rattle.node_rules.specs.declared.session.PendingCall.TheVariants as pending
 use Rattle.node_rules.specs.Kept.{Kept, Outcome}
 use Rattle.node_rules.specs.Sessions.{session_at}
 use Rattle.node_rules.specs.Turn.{turn_of, heard}
-use Rattle.node_rules.proofs.StandLemmas.{live_so}
 use Rattle.run_laws.specs.CallLaws.{RootWaits}
-use Rattle.run_laws.specs.Calls.{is_call_at, call_at, is_complete, second_of, after_input, finished}
+use Rattle.run_laws.specs.Calls.{is_call_at, call_at, is_complete, second_of, finished}
 use Rattle.run_laws.specs.Data.{Happening, Turn}
 use Rattle.run_laws.specs.Data.happenings
-use Rattle.run_laws.specs.Each.{facts_upto}
 use Rattle.run_laws.specs.Facts.{Facts, node_at, outcome_at, place_at, kept_after, served, facts_after}
 use Rattle.run_laws.specs.Headline.{IsTheRunOf}
 use Rattle.run_laws.specs.Lawful.{History, MayTurn}
-use Rattle.run_laws.specs.Past.{acts, ends_calls, telling_turned, next}
+use Rattle.run_laws.specs.Past.{ends_calls, telling_turned, next}
 use Rattle.run_laws.specs.Places.{past_upto}
 use Rattle.run_laws.specs.Runs.{is_accepted}
 use Rattle.run_laws.specs.Telling.{Call, Past, Telling}
@@ -31,7 +27,7 @@ use Rattle.run_laws.proofs.RestLemmas.{Before, branch_root}
 use Rattle.run_laws.proofs.RestRunLemmas.{NodeRests, before_so}
 use Rattle.run_laws.proofs.TurnEventLemmas.{cases_nat}
 use Rattle.due_laws.proofs.PendingLemmas.{called_at, there_called}
-use Rattle.call_laws.specs.CallTurns.{TurnOf, CameBefore}
+use Rattle.call_laws.specs.CallTurns.{CameBefore}
 use Rattle.call_laws.proofs.CallAtLemmas.{AreShaped}
 use Rattle.call_laws.proofs.CallTurnLemmas.{all_so}
 use Rattle.call_laws.proofs.ComeLemmas.{CallsSo, below_or, input_same, before_end, before_so as page_before}

@@ -1,12 +1,11 @@
 -- A COMMIT that is pending is answered once, by Commit complete or by a refusal, and is pending as a COMMIT until then.
-use Rattle.std.proofs.Common.{◌≡◌, ◌≢◌, ℕ, ◌==◌, ◌&&◌, ◌⊎◌, Bool, true, false, if◌then◌else◌, List, [], ◌∷◌, ◌++◌, map, filter, is_none, unwrap_or, Option, Some, None, inl, inr, refl, sym, ap, subst, ◌∙◌}
+use Rattle.std.proofs.Common.{◌≡◌, ◌≢◌, ℕ, ◌==◌, ◌&&◌, ◌⊎◌, Bool, true, false, if◌then◌else◌, List, [], ◌∷◌, ◌++◌, map, filter, is_none, unwrap_or, Option, Some, None, inl, inr, refl, sym, ap, ◌∙◌}
 use Rattle.std.proofs.lemmas.Bool.{cond_both, eqb-true, eq-eqb}
 use Rattle.commit_forget.specs.declared.next.Next.TheVariants as nexts
-use Rattle.node_rules.specs.Data.{Act, Advice, Answer, BranchId, Decision, Input, Kind, Live, Place, Refusal, Standing, Stmt}
+use Rattle.node_rules.specs.Data.{Act, Advice, Answer, BranchId, Decision, Input, Kind, Live, Place, Refusal, Stmt}
 use Rattle.node_rules.specs.Data.acts
 use Rattle.node_rules.specs.Data.answers
 use Rattle.node_rules.specs.Data.decisions
-use Rattle.node_rules.specs.Data.dones
 use Rattle.node_rules.specs.Data.inputs
 use Rattle.node_rules.specs.Data.kinds
 use Rattle.node_rules.specs.Data.stmts
@@ -18,7 +17,7 @@ use Rattle.session_tree.specs.Live.{new_edge}
 use Rattle.node_rules.specs.declared.work.Going.{Going}
 use Rattle.node_rules.specs.Client.{commit_by, commit_call, new_root, root_at}
 use Rattle.node_rules.specs.Commit.{decided_sessions, decision_answers}
-use Rattle.node_rules.specs.Inputs.{Came, IsCall}
+use Rattle.node_rules.specs.Inputs.{Came}
 use Rattle.node_rules.specs.Kept.{Branch, Deed, Kept, branch_at, live_at}
 use Rattle.node_rules.specs.Prepare.{abandoned_sessions, abandon_ends, act_turn, collecting, first_act, is_alone, with_comment, without_read_keys}
 use Rattle.node_rules.specs.Refusals.{dtx}

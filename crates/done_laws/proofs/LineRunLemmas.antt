@@ -13,7 +13,7 @@ use Rattle.run_laws.specs.Facts.{Facts, command_at, node_at, outcome_at, facts_t
 use Rattle.run_laws.specs.Headline.{IsTheRunOf}
 use Rattle.run_laws.specs.Lawful.{History}
 use Rattle.run_laws.specs.Lines.{line, over_line, page_lines, told}
-use Rattle.run_laws.specs.Past.{ends_calls, acts, telling_turned, failed_start, start_refused, is_stop_of, stop_line, telling_stopped, next, past}
+use Rattle.run_laws.specs.Past.{ends_calls, acts, telling_turned, failed_start, start_refused, is_stop_of, stop_line, next, past}
 use Rattle.run_laws.specs.Places.{past_upto, node_line, told_of}
 use Rattle.run_laws.specs.Telling.{Call, Past, Telling, start}
 use Rattle.call_laws.proofs.CallAtLemmas.{AreShaped, Fewer, Leads, found_at, named_so}

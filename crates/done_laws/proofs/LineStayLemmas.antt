@@ -1,15 +1,13 @@
 -- A line with the answer of a call stays in the report to the end of the run.
-use Rattle.std.proofs.Common.{◌≡◌, ℕ, zero, suc, ◌+◌, ◌==◌, ◌&&◌, ◌⊎◌, Bool, true, false, List, [], ◌∷◌, ◌++◌, map, find, slice_get, is_none, Option, Some, None, inl, inr, refl, sym, ap, subst, ◌∙◌}
+use Rattle.std.proofs.Common.{◌≡◌, ℕ, zero, suc, ◌==◌, ◌&&◌, ◌⊎◌, List, [], ◌∷◌, ◌++◌, map, find, slice_get, is_none, Option, Some, None, inl, inr, refl, sym, ap, subst, ◌∙◌}
 use Rattle.std.specs.Prelude.{nat_lt}
 use Rattle.std.proofs.lemmas.Bool.{cond_both, eqb-true}
-use Rattle.node_rules.specs.Data.{Answer, Input, Place, Stmt}
+use Rattle.node_rules.specs.Data.{Input, Place, Stmt}
 use Rattle.node_rules.specs.Data.inputs
 use Rattle.node_rules.specs.declared.session.Finished.{Finished}
-use Rattle.node_rules.specs.Kept.{Outcome}
 use Rattle.node_rules.specs.Points.{Point}
 use Rattle.run_laws.specs.Calls.{call_at, without_call, is_complete, second_of, call_follows, call_ends, ends_or_follows, finished_call, finished, stopped_calls, waits, waits_if_pending, after_input}
 use Rattle.run_laws.specs.Data.{AnswerLine, Said}
-use Rattle.run_laws.specs.Data.said
 use Rattle.run_laws.specs.Lines.{is_reached, says_node, is_down, line, put_line, call_line_of, reached_line, call_line}
 use Rattle.run_laws.specs.Telling.{Call, Telling}
 

@@ -1,5 +1,5 @@
 -- The report tells statements that write one record as they were written.
-use Rattle.std.proofs.Common.{◌≡◌, ℕ, ◌+◌, ◌≤◌, ◌⊎◌, true, false, true≢false, [], ◌∷◌, slice_get, IfSome, Option, Some, None, inl, inr, refl, sym, ap, subst, ◌∙◌}
+use Rattle.std.proofs.Common.{◌≡◌, ℕ, ◌+◌, ◌≤◌, ◌⊎◌, true, false, slice_get, IfSome, Option, Some, None, inl, inr, refl, sym, ap, subst, ◌∙◌}
 use Rattle.node_rules.specs.Data.{Answer, RedoRecord, Refusal, Stmt}
 use Rattle.node_rules.specs.Data.answers
 use Rattle.node_rules.specs.Data.inputs
@@ -10,17 +10,16 @@ use Rattle.run_laws.specs.Data.{Turn}
 use Rattle.run_laws.specs.Data.commands
 use Rattle.run_laws.specs.Data.happenings
 use Rattle.run_laws.specs.Each.{facts_upto}
-use Rattle.run_laws.specs.Facts.{command_at, node_at, outcome_at, place_at, records_at}
+use Rattle.run_laws.specs.Facts.{command_at, outcome_at, place_at, records_at}
 use Rattle.run_laws.specs.Headline.{IsTheRunOf}
 use Rattle.run_laws.specs.Lawful.{History, facts_at}
-use Rattle.run_laws.specs.Places.{node_line, told_of}
 use Rattle.run_laws.specs.Runs.{is_accepted}
 use Rattle.run_laws.specs.Telling.{Call}
 use Rattle.call_laws.specs.CallTurns.{Brings, What_is_asked, A_commit_first, Then_the_create, TurnOf, CameBefore}
 use Rattle.call_laws.proofs.CallTurnLemmas.{turns_find_calls_come, what_comes_is_pending}
 use Rattle.place_laws.specs.ToldLaws.{EndedBy}
 use Rattle.place_laws.proofs.ToldTurnLemmas.{lines_come_from_turns}
-use Rattle.done_laws.specs.DoneLaws.{is_recorded, is_of_statement, Records, ended_in, answers_to, Stands, IsAsked, DoesWhatIsWritten}
+use Rattle.done_laws.specs.DoneLaws.{is_recorded, is_of_statement, ended_in, answers_to, Stands, IsAsked, DoesWhatIsWritten}
 use Rattle.done_laws.specs.StandLaws.{IsOneOf, StaysIn}
 use Rattle.done_laws.specs.ToldDone.{ComesIn, CameTo, IsWritten, DoneHasItsRecord, IsRefused, Writes_nothing, Has_no_commit, RefusedHasNone, IsTold, RecordsAreTold, DoneIsTold}
 use Rattle.done_laws.proofs.AtOnceLemmas.{answer_among, one_answer, one_done, recorded, fact_at, lawful, up_there, ended_is, answers_so, gone_and_told, brought, at_once, same_turn}

@@ -2,7 +2,7 @@
 -- call, which wrote its record, and the record stays; a line that refuses one comes from a turn that wrote none; and each
 -- such record has its line. (SQL Language Reference: CREATE TABLE, CREATE DATABASE LINK, CREATE SYNONYM, ALTER SYSTEM,
 -- COMMIT FORCE, ROLLBACK FORCE; Database Administrator's Guide, "Managing Distributed Transactions": purging pending rows.)
-use Rattle.std.specs.Prelude.{◌≡◌, ℕ, ◌≤◌, ◌⊎◌, true, false, slice_get, Option, Some, None}
+use Rattle.std.specs.Prelude.{◌≡◌, ℕ, ◌≤◌, ◌⊎◌, true, false, slice_get, Some, None}
 use Rattle.node_rules.specs.Data.{Answer, Done, RedoRecord, Refusal, Stmt}
 use Rattle.node_rules.specs.Data.answers
 use Rattle.node_rules.specs.Data.stmts

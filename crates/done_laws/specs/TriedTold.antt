@@ -1,7 +1,7 @@
 -- What the report tells of statements that write one record, tried on a script of one node: CREATE TABLE is done, and
 -- refused the second time; another is done in a transaction, after its COMMIT.
 use Rattle.std.specs.Prelude.{◌≡◌, ℕ, codes, List, [], ◌∷◌, filter, replicate, slice_get, Some, None}
-use Rattle.node_rules.specs.Data.{RedoRecord, Stmt}
+use Rattle.node_rules.specs.Data.{Stmt}
 use Rattle.node_rules.specs.Data.answers
 use Rattle.node_rules.specs.Data.dones
 use Rattle.node_rules.specs.Data.records
