@@ -1,5 +1,5 @@
 -- A statement that writes one record is answered in the turn that it comes to, and its line stays.
-use Rattle.std.proofs.Common.{◌≡◌, ℕ, zero, suc, ◌+◌, ◌<◌, ◌≤◌, ◌==◌, ◌⊎◌, Bool, true, false, if◌then◌else◌, List, [], ◌∷◌, map, filter, slice_get, Option, Some, None, inl, inr, refl, sym, ap, subst, ◌∙◌, arith}
+use Rattle.std.proofs.Common.{◌≡◌, ℕ, zero, suc, ◌+◌, ◌<◌, ◌≤◌, ◌==◌, ◌⊎◌, Bool, true, false, if◌then◌else◌, List, [], ◌∷◌, map, filter, find, slice_get, Option, Some, None, inl, inr, refl, sym, ap, subst, ◌∙◌, arith}
 use Rattle.std.specs.Prelude.{take}
 use Rattle.std.specs.List.{list_any}
 use Rattle.std.proofs.lemmas.Bool.{eq-eqb}
@@ -9,7 +9,7 @@ use Rattle.node_rules.specs.Data.inputs
 use Rattle.node_rules.specs.declared.session.Finished.{Finished}
 use Rattle.node_rules.specs.Inputs.{IsCall}
 use Rattle.node_rules.specs.Kept.{Kept, Outcome}
-use Rattle.run_laws.specs.Calls.{call_at}
+use Rattle.run_laws.specs.Calls.{is_call_at, call_at}
 use Rattle.run_laws.specs.Data.{Command, Happening, Turn}
 use Rattle.run_laws.specs.Data.commands
 use Rattle.run_laws.specs.Data.happenings
@@ -18,20 +18,23 @@ use Rattle.run_laws.specs.Facts.{Facts, command_at, node_at, outcome_at, place_a
 use Rattle.run_laws.specs.Headline.{IsTheRunOf}
 use Rattle.run_laws.specs.Lawful.{History, IsLawfulRun, IsOwed, MayBeLost, MayHappen, MayStop}
 use Rattle.run_laws.specs.NodeLaws.{EachFactFrom, AtEachFact}
-use Rattle.run_laws.specs.Past.{next}
+use Rattle.run_laws.specs.Data.said
+use Rattle.run_laws.specs.Lines.{is_down, line}
+use Rattle.run_laws.specs.Past.{ends_calls, next}
 use Rattle.run_laws.specs.Places.{past_upto, node_line, told_of}
 use Rattle.run_laws.specs.Runs.{is_accepted}
-use Rattle.run_laws.specs.Telling.{Call, Past}
+use Rattle.run_laws.specs.Telling.{Call, Past, Telling}
 use Rattle.net_bag.specs.Net.{lost_at_once}
 use Rattle.run_laws.proofs.AtNodeLemmas.{stop_here}
 use Rattle.due_laws.proofs.PendingLemmas.{called_at, there_called}
 use Rattle.due_laws.proofs.RunLawfulLemmas.{the_run_is_lawful}
 use Rattle.call_laws.specs.CallTurns.{CameBefore}
-use Rattle.call_laws.proofs.ComeLemmas.{below_or}
+use Rattle.call_laws.proofs.CallTurnLemmas.{all_so}
+use Rattle.call_laws.proofs.ComeLemmas.{below_or, before_end, before_so}
 use Rattle.call_laws.proofs.UptoLemmas.{one_more, facts_there, stand_at, may_at}
 use Rattle.done_laws.specs.DoneLaws.{is_recorded, Records, A_table, A_link, A_synonym, A_setting, A_commit_at, A_commit, A_rollback, A_mixed_row, A_lost_row, ended_by, ended_in, answers_to, is_done, Stands, AnswersAtOnce}
 use Rattle.done_laws.proofs.DoneLemmas.{each_is_answered}
-use Rattle.done_laws.proofs.LineRunLemmas.{answer_told, told_at_last}
+use Rattle.done_laws.proofs.LineRunLemmas.{answer_told, stop_told, told_at_last}
 use Rattle.done_laws.proofs.LineStayLemmas.{Has}
 
 -- ---- lists
@@ -180,8 +183,30 @@ module _ (t : History) (run : IsTheRunOf t) where
     gone_and_told uncut s command text named c at its alone a is =
         let o = outcome_there in
         let ended : answers_to s o.0.ended ≡ a ∷ [] = ap (answers_to s) (sym (ended_is o.0 uncut o.1)) ∙ is in
-        let told = answer_told t run command u.node s text named a i u there uncut o.0 (ap (λ f. outcome_at t.places f u) (facts_there t i) ∙ o.1) refl c at its alone ended in
-        (told_at_last t run command u.node s text named a (i + 1) told.0, told.1)
+        let told = answer_told t run command u.node s text named (said.Node a) i u there uncut o.0 (ap (λ f. outcome_at t.places f u) (facts_there t i) ∙ o.1) refl c at its alone a refl ended in
+        (told_at_last t run command u.node s text named (said.Node a) (i + 1) told.0, told.1)
+
+    -- a call whose turn is cut is told that the node is down
+    cut_keeps : u.cut ≡ true → (s : ℕ) → call_at (past_upto t (i + 1)).telling u.node s ≡ call_at (past_upto t i).telling u.node s
+    unfolding next
+    cut_keeps cut s =
+        let p : Past = past_upto t i in
+        let o : Option Outcome = outcome_at t.places p.facts u in
+        let v : Telling = before_end t run i (all_so t run i) u there o in
+        ap (λ (q : Past). call_at q.telling u.node s) (one_more t i (happenings.Turn u) there)
+        ∙ (ap (λ q. call_at (ends_calls p.facts.command v u q o) u.node s) cut ∙ ap (find (is_call_at u.node s)) (before_so t run i (all_so t run i) u there o).calls)
+
+    pub cut_told : u.cut ≡ true → (h : Happening) → slice_get t.trace (i + 1) ≡ Some h → (s command : ℕ) (text : Option Stmt) → command_at t.commands command ≡ commands.At u.node s text → (c : Call)
+        → call_at (past_upto t i).telling u.node s ≡ Some c → c.command ≡ command → (j : ℕ) × (slice_get (told_of t) j ≡ Some (line command (is_down t.places u.node)))
+    cut_told cut h after s command text named c at its =
+        let stops : slice_get t.trace (i + 1) ≡ Some (happenings.Stopped u.node) = after ∙ ap Some (stops_next cut h (may_at t run (i + 1) h after)) in
+        let none : call_at (past_upto t (i + 1 + 1)).telling u.node s ≡ None = none_by (call_at (past_upto t (i + 1 + 1)).telling u.node s) refl (stopped_none stops s) in
+        told_at_last t run command u.node s text named (is_down t.places u.node) (i + 1 + 1)
+        (stop_told t run command u.node s text named (is_down t.places u.node) (i + 1) u.node stops refl refl c (cut_keeps cut s ∙ at) its none)
+      where
+        none_by : (o : Option Call) → call_at (past_upto t (i + 1 + 1)).telling u.node s ≡ o → called_at (past_upto t (i + 1 + 1)).telling.calls u.node s ≡ false → o ≡ None
+        none_by None is none = refl
+        none_by (Some d) is none = let some : called_at (past_upto t (i + 1 + 1)).telling.calls u.node s ≡ true = there_called u.node s (past_upto t (i + 1 + 1)).telling.calls d is in absurd (cc (none, some))
 
   -- ---- the turn of a recorded statement is the one that ends its call
 

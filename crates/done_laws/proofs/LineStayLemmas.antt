@@ -1,7 +1,7 @@
 -- A line with the answer of a call stays in the report to the end of the run.
-use Rattle.std.proofs.Common.{◌≡◌, ℕ, zero, suc, ◌==◌, ◌&&◌, ◌⊎◌, List, [], ◌∷◌, ◌++◌, map, find, slice_get, is_none, Option, Some, None, inl, inr, refl, sym, ap, subst, ◌∙◌}
+use Rattle.std.proofs.Common.{◌≡◌, ℕ, zero, suc, ◌==◌, ◌&&◌, ◌⊎◌, Bool, true, false, if◌then◌else◌, List, [], ◌∷◌, ◌++◌, map, find, slice_get, is_none, Option, Some, None, inl, inr, refl, sym, ap, subst, ◌∙◌}
 use Rattle.std.specs.Prelude.{nat_lt}
-use Rattle.std.proofs.lemmas.Bool.{cond_both, eqb-true}
+use Rattle.std.proofs.lemmas.Bool.{cond_both, eqb-true, eq-eqb}
 use Rattle.node_rules.specs.Data.{Input, Place, Stmt}
 use Rattle.node_rules.specs.Data.inputs
 use Rattle.node_rules.specs.declared.session.Finished.{Finished}
@@ -32,6 +32,14 @@ module _ {A : Type 0} where
   has_at [] x has = absurd has
   has_at (y ∷ xs) x (inl here) = (zero, ap Some here)
   has_at (y ∷ xs) x (inr there) = let at = has_at xs x there in (suc at.0, at.1)
+
+pub found_has : (p : Call → Bool) (xs : List Call) (c : Call) → find p xs ≡ Some c → Has xs c
+found_has p [] c is = absurd cc
+found_has p (x ∷ xs) c is = by (p x) is (found_has p xs c)
+  where
+    by : (q : Bool) → (if q then Some x else find p xs) ≡ Some c → (find p xs ≡ Some c → Has xs c) → (x ≡ c) ⊎ Has xs c
+    by true at later = inl (let it : Some x ≡ Some c = at in let same : x ≡ c = cc in same)
+    by false at later = inr (later at)
 
 pub has_line : (c : ℕ) (xs : List Said) (s : Said) → Has xs s → Has (map (line c) xs) (line c s)
 has_line c [] s has = absurd has
@@ -117,6 +125,20 @@ module _ (running : ℕ) where
       let u : Telling = call_line running (without_call t c.node c.session) c.command (is_down places n) in
       cond_both (c.node == n) (stopped_calls places running u n cs) (stopped_calls places running t n cs) (Grows t)
       (λ here. grows_then t u (stopped_calls places running u n cs) (gone_grows t c.node c.session c.command (is_down places n)) (stopped_grows places n u cs)) (λ other. stopped_grows places n t cs)
+
+  -- each call of a node that stops has its line
+  pub stopped_put : (places : List Place) (n : ℕ) (t : Telling) (cs : List Call) (c : Call) → Has cs c → c.node ≡ n → IsPut (stopped_calls places running t n cs) c.command (is_down places n)
+  stopped_put places n t [] c has here = absurd has
+  stopped_put places n t (d ∷ ds) c (inl same) here =
+      let u : Telling = call_line running (without_call t d.node d.session) d.command (is_down places n) in
+      let own : (d.node == n) ≡ true = eq-eqb d.node n (ap (λ (x : Call). x.node) same ∙ here) in
+      let put : IsPut u d.command (is_down places n) = line_put (without_call t d.node d.session) d.command (is_down places n) in
+      subst (λ q. IsPut (if q then stopped_calls places running u n ds else stopped_calls places running t n ds) c.command (is_down places n)) (sym own)
+      (grows_put u (stopped_calls places running u n ds) c.command (is_down places n) (stopped_grows places n u ds) (subst (λ (x : Call). IsPut u x.command (is_down places n)) same put))
+  stopped_put places n t (d ∷ ds) c (inr there) here =
+      let u : Telling = call_line running (without_call t d.node d.session) d.command (is_down places n) in
+      cond_both (d.node == n) (stopped_calls places running u n ds) (stopped_calls places running t n ds) (λ z. IsPut z c.command (is_down places n))
+      (λ own. stopped_put places n u ds c there here) (λ other. stopped_put places n t ds c there here)
 
   -- ---- what is said after a turn
 

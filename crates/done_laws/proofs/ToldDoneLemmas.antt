@@ -22,7 +22,7 @@ use Rattle.place_laws.proofs.ToldTurnLemmas.{lines_come_from_turns}
 use Rattle.done_laws.specs.DoneLaws.{is_recorded, is_of_statement, ended_in, answers_to, Stands, IsAsked, DoesWhatIsWritten}
 use Rattle.done_laws.specs.StandLaws.{IsOneOf, StaysIn}
 use Rattle.done_laws.specs.ToldDone.{ComesIn, CameTo, IsWritten, DoneHasItsRecord, IsRefused, Writes_nothing, Has_no_commit, RefusedHasNone, IsTold, RecordsAreTold, DoneIsTold}
-use Rattle.done_laws.proofs.AtOnceLemmas.{answer_among, one_answer, one_done, recorded, fact_at, lawful, up_there, ended_is, answers_so, gone_and_told, brought, at_once, same_turn}
+use Rattle.done_laws.proofs.AtOnceLemmas.{answer_among, one_answer, one_done, recorded, fact_at, lawful, up_there, ended_is, answers_so, gone_and_told, cut_told, brought, at_once, same_turn}
 use Rattle.done_laws.proofs.CommitEndLemmas.{commit_refused}
 use Rattle.done_laws.proofs.DoneLemmas.{written_is_done}
 use Rattle.done_laws.proofs.LineStayLemmas.{Has}
@@ -189,6 +189,7 @@ module _ (t : History) (run : IsTheRunOf t) where
           done = it_asks.done;
           of = it_asks.of;
           told = λ uncut. (gone_and_told t run moment u there uncut it_asks.session c.command (Some it_asks.statement) named c x.pending refl alone (answers.Did it_asks.done 0) (it_asks.answered uncut)).0;
+          down = λ cut h after. cut_told t run moment u there cut h after it_asks.session c.command (Some it_asks.statement) named c x.pending refl;
         }
 
     told_by : (c : Call) → TurnOf t moment u.node it_asks.session c → {text : Option Stmt} → Brings c (facts_upto t moment).command text → command_at t.commands c.command ≡ commands.At u.node it_asks.session text → IsTold t moment u r

@@ -2,20 +2,21 @@
 -- call, which wrote its record, and the record stays; a line that refuses one comes from a turn that wrote none; and each
 -- such record has its line. (SQL Language Reference: CREATE TABLE, CREATE DATABASE LINK, CREATE SYNONYM, ALTER SYSTEM,
 -- COMMIT FORCE, ROLLBACK FORCE; Database Administrator's Guide, "Managing Distributed Transactions": purging pending rows.)
-use Rattle.std.specs.Prelude.{◌≡◌, ℕ, ◌≤◌, ◌⊎◌, true, false, slice_get, Some, None}
+use Rattle.std.specs.Prelude.{◌≡◌, ℕ, ◌+◌, ◌≤◌, ◌⊎◌, true, false, slice_get, Some, None}
 use Rattle.node_rules.specs.Data.{Answer, Done, RedoRecord, Refusal, Stmt}
 use Rattle.node_rules.specs.Data.answers
 use Rattle.node_rules.specs.Data.stmts
 use Rattle.node_rules.specs.Inputs.{IsCall}
 use Rattle.node_rules.specs.Kept.{Kept}
 use Rattle.run_laws.specs.Commands.{commits_first}
-use Rattle.run_laws.specs.Data.{Turn}
+use Rattle.run_laws.specs.Data.{Happening, Turn}
 use Rattle.run_laws.specs.Data.commands
 use Rattle.run_laws.specs.Data.happenings
 use Rattle.run_laws.specs.Each.{facts_upto}
 use Rattle.run_laws.specs.Facts.{command_at, node_at, place_at, records_at}
 use Rattle.run_laws.specs.Headline.{IsTheRunOf}
 use Rattle.run_laws.specs.Lawful.{History, facts_at}
+use Rattle.run_laws.specs.Lines.{is_down, line}
 use Rattle.run_laws.specs.Places.{node_line, told_of}
 use Rattle.run_laws.specs.Runs.{is_accepted}
 use Rattle.done_laws.specs.DoneLaws.{is_recorded, is_of_statement, Records}
@@ -70,7 +71,7 @@ RefusedHasNone t = (i command node session : ℕ) (s : Stmt) (r : Refusal) → c
 -- ---- records
 
 -- The record of a statement was written in the turn that the statement of a command came to, and the report says that it is
--- done, unless the turn is cut.
+-- done; or that the node is down, where the turn was cut, once the node has stopped.
 pub record IsTold (t : History) (moment : ℕ) (u : Turn) (r : RedoRecord) : Type 0 where
   pub command : ℕ
   pub session : ℕ
@@ -83,6 +84,7 @@ pub record IsTold (t : History) (moment : ℕ) (u : Turn) (r : RedoRecord) : Typ
   pub done : Done
   pub of : Records (place_at t.places u.node) kept statement r done
   pub told : u.cut ≡ false → (i : ℕ) × (slice_get (told_of t) i ≡ Some (node_line command (answers.Did done 0)))
+  pub down : u.cut ≡ true → (h : Happening) → slice_get t.trace (moment + 1) ≡ Some h → (i : ℕ) × (slice_get (told_of t) i ≡ Some (line command (is_down t.places u.node)))
 
 -- each record of such a statement is told
 abbrev pub RecordsAreTold : History → Type 0

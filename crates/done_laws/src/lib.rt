@@ -44,7 +44,8 @@ pub fn records_come_from_calls()
 
 /// In the run of a script each line of the report that says that such a statement is done comes from the turn that its call
 /// came to, which wrote its record, and the record stays to the end of the run; each line that refuses one comes from a turn
-/// that wrote nothing, or from the COMMIT before a CREATE; and each such record has its line, unless its turn was cut.
+/// that wrote nothing, or from the COMMIT before a CREATE; and each such record has its line: that the statement is done, or
+/// that the node is down, where the turn was cut and the node has stopped.
 pub fn done_is_told()
     ensures { DoneIsTold }
 {}
