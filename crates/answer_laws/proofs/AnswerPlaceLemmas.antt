@@ -35,8 +35,9 @@ use Rattle.place_laws.proofs.ReplyRunLemmas.{taken_first, prefix, moment_at}
 use Rattle.place_laws.proofs.RootAnswerLemmas.{calls_end_as_replied}
 use Rattle.place_laws.proofs.SentLemmas.{came_sent}
 use Rattle.place_laws.proofs.ToldTurnLemmas.{lines_come_from_turns}
-use Rattle.answer_laws.proofs.EndingLemmas.{Ending, By_call, By_reply, By_commit, k, turn_ends, commit_last}
-use Rattle.answer_laws.proofs.LastCallLemmas.{LastCall, one_moment, one_text}
+use Rattle.answer_laws.proofs.EndingLemmas.{Ending, By_call, By_reply, By_commit, kept_there, turn_ends, commit_last}
+use Rattle.answer_laws.specs.EndLaws.{LastCall}
+use Rattle.answer_laws.proofs.LastCallLemmas.{one_moment, one_text}
 
 -- a statement with a table commits nothing first
 rows_first : (s : Stmt) → is_of_rows s ≡ true → commits_first s ≡ false
@@ -57,7 +58,7 @@ rows_brought c running s rows (Then_the_create q first is none at) = absurd (let
 module _ (t : History) (whole : IsLawfulRun t) where
   command_after : (f : Facts) (h : Happening) → MayHappen t.places t.commands f h → f.command ≤ (facts_after t.places t.commands f h).command
   unfolding facts_after
-  command_after f (happenings.Begun c) may = omega (arith, may.1.0)
+  command_after f (happenings.Begun c) may = omega (arith, may.1)
   command_after f (happenings.Turn u) may = omega arith
   command_after f (happenings.Cut a b) may = omega arith
   command_after f (happenings.Join a b) may = omega arith
@@ -143,7 +144,7 @@ module _ (found : TurnsFindCallsCome) (t : History) (due : IsTheRunOf t) (comman
     pub told : IsToldFor t.places (f_at t hs) (tr_at t hs) u e.session root run
 
   abbrev Ends : Type 0
-  Ends = Ending u.input (k t whole hs u cut_there.1 cut_there.2).sessions e.outcome.ended e.session a
+  Ends = Ending u.input (kept_there t whole hs u cut_there.1 cut_there.2).sessions e.outcome.ended e.session a
 
   ends : Ends
   ends = turn_ends t whole hs u cut_there.1 cut_there.2 e.outcome outcome e.session e.number a good e.answers
@@ -160,14 +161,10 @@ module _ (found : TurnsFindCallsCome) (t : History) (due : IsTheRunOf t) (comman
       let is = at_moment t (EndsAsReplied t) (calls_end_as_replied t whole) hs (happenings.Turn u) cut_there.1 cut_there.2 e.outcome outcome took.0 took.1 from to call weight count said came_so e.session a [] only good in
       record { run = is.0; root = is.1; by_it = is.3; told = is.4 e.uncut }
   its_end (By_commit commits) =
-      let last = commit_last t whole hs u cut_there.1 cut_there.2 e.session commits in
-      let here : LastCall t u.node e.session e.ended = subst (LastCall t u.node e.session) cut_there.3 last.0 in
-      let text : here.text ≡ Some (stmts.Commit last.1) = by cut_there.3 ∙ last.2 in
-      let same : Some (stmts.Commit last.1) ≡ Some s = sym text ∙ (one_text t u.node e.session e.ended here its_call ∙ brings.0) in
+      let last : (x : LastCall t u.node e.session e.ended) × (comment : Option (List ℕ)) × (x.text ≡ Some (stmts.Commit comment))
+      = subst (λ m. (x : LastCall t u.node e.session m) × (comment : Option (List ℕ)) × (x.text ≡ Some (stmts.Commit comment))) cut_there.3 (commit_last t whole hs u cut_there.1 cut_there.2 e.session commits) in
+      let same : Some (stmts.Commit last.1) ≡ Some s = sym last.2 ∙ (one_text t u.node e.session e.ended last.0 its_call ∙ brings.0) in
       absurd (let one : stmts.Commit last.1 ≡ s = cc in let none : is_of_rows s ≡ false = ap is_of_rows (sym one) in cc (none, rows))
-    where
-      by : {m n : ℕ} {x : LastCall t u.node e.session m} (same : m ≡ n) → (subst (LastCall t u.node e.session) same x).text ≡ x.text
-      by refl = refl
 
   answered : Answered
   answered = its_end ends

@@ -12,13 +12,15 @@ use Rattle.node_rules.specs.Data.records
 use Rattle.node_rules.specs.Data.stmts
 use Rattle.node_rules.specs.declared.session.PendingCall.TheVariants as pending
 use Rattle.node_rules.specs.declared.session.Session.{Session}
-use Rattle.node_rules.specs.Calls.{call_pends, answered_sessions, heard_sessions, is_gone}
+use Rattle.session_tree.specs.Live.{new_edge}
+use Rattle.node_rules.specs.Calls.{call_pends, answered_sessions, hears_reply, heard_sessions, is_gone, with_edge}
 use Rattle.node_rules.specs.Client.{new_root}
 use Rattle.node_rules.specs.Commit.{decided_sessions}
 use Rattle.node_rules.specs.Kept.{Kept, Deed}
 use Rattle.node_rules.specs.Prepare.{abandoned_sessions, is_alone, act_turn}
 use Rattle.node_rules.specs.Refusals.{dtx}
 use Rattle.node_rules.specs.Sessions.{session_at, with_call, needs_rollback, no_transaction, commit_is_pending, commit_ended}
+use Rattle.node_rules.specs.Statement.{ran, after_run}
 use Rattle.node_rules.specs.Turn.{turn_of, start_of, made, heard, deed_of}
 use Rattle.node_rules.specs.Words.{numbered, set_numbered}
 use Rattle.node_rules.proofs.Steps as steps
@@ -112,13 +114,13 @@ module _ (p : Place) (input : Input) (m : ℕ) where
   ]
   commits_on (steps.Lets_reads_go l comment site_below live begins step) is = commits_on step is
   commits_on (steps.Counts_ack s from kept came counts step) is = commits_on step is
-  commits_on (steps.Runs {k = k} x s given t asked way) is = inl (answered k.sessions m _ x.live.parent is)
+  commits_on (steps.Runs {k = k} x s given t asked way) is = inl (answered k.sessions m (after_run x.live (ran p k x.live.me s t)) x.live.parent is)
   commits_on (steps.Goes_nowhere {k = k} x s given r asked way) is = inl (answered k.sessions m x.live x.live.parent is)
   commits_on (steps.Calls {k = k} x s given i table asked way) is = inl (goes_on k.sessions m x.live is)
   commits_on (steps.Opens {k = k} x s given node link table asked way) is = inl (goes_on k.sessions m x.live is)
-  commits_on (steps.Goes_on {k = k} x from strength g link opened) is = inl (goes_on k.sessions m _ is)
+  commits_on (steps.Goes_on {k = k} x from strength g link opened) is = inl (goes_on k.sessions m (with_edge x (new_edge from link strength)).live is)
   commits_on (steps.Hears_reply {k = k} x weight count a i e heard_it) is =
-      inl (heard_so k.sessions m _ a (answered (heard_sessions k.sessions _ a) m _ x.live.parent is))
+      let y : Live = (hears_reply x i weight count e).live in inl (heard_so k.sessions m y a (answered (heard_sessions k.sessions y a) m y x.live.parent is))
   commits_on (steps.Acts {k = k} l site_below a why) is = inl (act_so k m l site_below a is)
   commits_on (steps.Does {k = k} s from (nexts.End d) kept why) is = inl (decided k.sessions m s.me d is)
   commits_on (steps.Does {k = k} s from (nexts.Meet d mixed) kept why) is = inl (decided k.sessions m s.me d is)

@@ -7,18 +7,7 @@ use Rattle.node_rules.specs.Data.inputs
 use Rattle.run_laws.specs.Data.{Turn}
 use Rattle.run_laws.specs.Data.happenings
 use Rattle.run_laws.specs.Lawful.{History}
-use Rattle.place_laws.specs.LeadLaws.{NoCallSince}
-
--- The last call of a session at a node, up to a moment.
-pub record LastCall (t : History) (node session now : ℕ) : Type 0 where
-  pub moment : ℕ
-  pub turn : Turn
-  pub there : slice_get t.trace moment ≡ Some (happenings.Turn turn)
-  pub here : turn.node ≡ node
-  pub text : Option Stmt
-  pub came : turn.input ≡ inputs.Call session text
-  pub soon : moment ≤ now
-  pub last : NoCallSince t node session moment now
+use Rattle.answer_laws.specs.EndLaws.{LastCall}
 
 module _ (t : History) (node session now : ℕ) (x y : LastCall t node session now) where
   pub one_moment : x.moment ≡ y.moment

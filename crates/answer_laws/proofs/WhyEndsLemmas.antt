@@ -18,30 +18,17 @@ use Rattle.node_rules.specs.Calls.{answer_ends, hears_reply}
 use Rattle.node_rules.specs.Client.{new_root, begun_by}
 use Rattle.node_rules.specs.Commit.{decision_answers}
 use Rattle.node_rules.specs.Inputs.{Came}
-use Rattle.node_rules.specs.Kept.{Kept, Deed, live_at}
+use Rattle.node_rules.specs.Kept.{Kept, Branch, Deed, live_at}
 use Rattle.node_rules.specs.Prepare.{abandon_ends, is_alone, act_turn}
 use Rattle.node_rules.specs.Sessions.{session_at, with_call, with_root, is_commit, commit_is_pending, commit_answer}
 use Rattle.node_rules.specs.Statement.{ran, after_run}
 use Rattle.node_rules.proofs.StandLemmas.{live_so}
 use Rattle.node_rules.proofs.Steps as steps
 use Rattle.node_rules.proofs.Steps.{Step, Asked}
-use Rattle.run_laws.specs.Runs.{is_of_rows, is_accepted}
+use Rattle.run_laws.specs.Runs.{is_accepted}
 use Rattle.run_laws.proofs.RootLemmas.{SessionsFit, session_or_before, begun_so, pends_so}
 use Rattle.session_tree.specs.Live.{is_branch}
-
--- Why a call ends, by what came and by the calls that were pending.
-pub data EndsFor (input : Input) (ss : List Session) (f : Finished) : Type 0 where
-  Is_refused : is_accepted (Some f.answer) ≡ false → EndsFor input ss f
-  Is_own : (s : Option Stmt) → input ≡ inputs.Call f.session s → EndsFor input ss f
-  Is_replied : (from to : BranchId) (call : ℕ) (weight : Option ℕ) (count : ℕ) (said : Answer) → Came input from to (kinds.Reply call weight count said) → EndsFor input ss f
-  Was_commit : (session_at ss f.session).call ≡ pending.Commit → EndsFor input ss f
-
--- The calls that a turn ends: at most one, but where a user forces an outcome, whose COMMIT is refused then.
-pub data EndsFew (input : Input) (ss : List Session) : List Finished → Type 0 where
-  Ends_none : EndsFew input ss []
-  Ends_one : (f : Finished) → EndsFor input ss f → EndsFew input ss (f ∷ [])
-  Ends_forced : (f : Finished) (n : ℕ) (s : Stmt) (a : Answer) → is_accepted (Some f.answer) ≡ false → input ≡ inputs.Call n (Some s) → is_of_rows s ≡ false
-      → EndsFew input ss (f ∷ (record { session = n; answer = a }) ∷ [])
+use Rattle.answer_laws.specs.EndLaws.{EndsFor, Is_refused, Is_own, Is_replied, Was_commit, forces_outcome, EndsFew, Ends_none, Ends_one, Ends_forced}
 
 is_commit_call : (c : PendingCall) → is_commit c ≡ true → c ≡ pending.Commit
 is_commit_call pending.NoCall is = absurd cc
@@ -73,10 +60,10 @@ module _ (input : Input) (ss : List Session) where
   abandon_few l (Some parent) = Ends_none
 
   -- one that is forced, and the call of the user
-  forced_few : (b : BranchId) (r : Refusal) (n : ℕ) (s : Stmt) (a : Answer) → input ≡ inputs.Call n (Some s) → is_of_rows s ≡ false → EndsFew input ss (commit_answer ss b (answers.Refused r) ++ (record { session = n; answer = a }) ∷ [])
-  forced_few b r n s a call other =
+  forced_few : (b : BranchId) (r : Refusal) (n : ℕ) (s : Stmt) (a : Answer) → input ≡ inputs.Call n (Some s) → forces_outcome s ≡ true → EndsFew input ss (commit_answer ss b (answers.Refused r) ++ (record { session = n; answer = a }) ∷ [])
+  forced_few b r n s a call forces =
       cond_both (commit_is_pending ss b) ((record { session = b.session; answer = answers.Refused r }) ∷ []) [] (λ fs. EndsFew input ss (fs ++ (record { session = n; answer = a }) ∷ []))
-      (λ is. Ends_forced (record { session = b.session; answer = answers.Refused r }) n s a refl call other) (λ none. Ends_one (record { session = n; answer = a }) (Is_own (Some s) call))
+      (λ is. Ends_forced (record { session = b.session; answer = answers.Refused r }) n s a refl (commit_pends b is) call forces) (λ none. Ends_one (record { session = n; answer = a }) (Is_own (Some s) call))
 
   -- an answer at a root
   answer_few : (l : Live) (a : Answer) (o : Option BranchId) → (o ≡ None → EndsFor input ss (record { session = l.me.session; answer = a })) → EndsFew input ss (answer_ends l a o)
@@ -96,17 +83,23 @@ act_few input k l site_below (acts.SealAndPass i) = Ends_none
 
 -- ---- what the turn's own call changes first
 
-module _ (input : Input) (ss zs : List Session) (before : (m : ℕ) → (session_at zs m).call ≡ pending.Commit → ((session_at ss m).call ≡ pending.Commit) ⊎ ((s : Option Stmt) × (input ≡ inputs.Call m s))) where
+module _ (input : Input) (ss zs : List Session) (before : (m : ℕ) → (session_at zs m).call ≡ pending.Commit → ((session_at ss m).call ≡ pending.Commit) ⊎ ((comment : Option (List ℕ)) × (input ≡ inputs.Call m (Some (stmts.Commit comment))))) where
   for_before : (f : Finished) → EndsFor input zs f → EndsFor input ss f
   for_before f (Is_refused is) = Is_refused is
   for_before f (Is_own s is) = Is_own s is
   for_before f (Is_replied from to call weight count said came) = Is_replied from to call weight count said came
-  for_before f (Was_commit is) = elim (before f.session is) [ inl was ↦ Was_commit was | inr own ↦ Is_own own.0 own.1 ]
+  for_before f (Was_commit is) = elim (before f.session is) [ inl was ↦ Was_commit was | inr own ↦ Is_own (Some (stmts.Commit own.0)) own.1 ]
 
-  few_before : (fs : List Finished) → EndsFew input zs fs → EndsFew input ss fs
-  few_before [] few = Ends_none
-  few_before (f ∷ []) (Ends_one g why) = Ends_one f (for_before f why)
-  few_before (f ∷ g ∷ []) (Ends_forced h n s a refused call other) = Ends_forced f n s a refused call other
+  few_before : {fs : List Finished} → EndsFew input zs fs → EndsFew input ss fs
+  few_before Ends_none = Ends_none
+  few_before (Ends_one f why) = Ends_one f (for_before f why)
+  few_before (Ends_forced f n s a refused commits call forces) = elim (before f.session commits) [
+    | inl was ↦ Ends_forced f n s a refused was call forces
+    | inr own ↦ absurd (let both : inputs.Call n (Some s) ≡ inputs.Call f.session (Some (stmts.Commit own.0)) = sym call ∙ own.1 in
+      let one : s ≡ stmts.Commit own.0 = cc in
+      let none : forces_outcome s ≡ false = ap forces_outcome one in
+      cc (none, forces))
+  ]
 
 -- a session that is set
 pub set_commit : (ss : List Session) (n m : ℕ) (s : Session) → (s.call ≡ pending.Commit → (session_at ss n).call ≡ pending.Commit) → (session_at (set_numbered ss n s) m).call ≡ pending.Commit → (session_at ss m).call ≡ pending.Commit
@@ -122,7 +115,7 @@ abbrev pub ExecsBelow : Input → Kept → Type 0
 ExecsBelow input k = (from to : BranchId) (call given : ℕ) (advice : Option Advice) (s : Stmt) → Came input from to (kinds.Exec call given advice s) → (l : Live) → live_at k to ≡ Some l → l.parent ≢ None
 
 -- a statement that came to a root is its client's
-asked_own : {input : Input} {k : Kept} {x : _} {s : Stmt} {given : ℕ} → SessionsFit k → ExecsBelow input k → Asked k input x s given → (l : Live) → l.me ≡ x.live.me → l.parent ≡ x.live.parent → (a : Answer)
+asked_own : {input : Input} {k : Kept} {x : Branch} {s : Stmt} {given : ℕ} → SessionsFit k → ExecsBelow input k → Asked k input x s given → (l : Live) → l.me ≡ x.live.me → l.parent ≡ x.live.parent → (a : Answer)
     → l.parent ≡ None → EndsFor input k.sessions (record { session = l.me.session; answer = a })
 asked_own fit below (steps.By_call n x s call rows has code live) l me parent a none =
     Is_own (Some s) (call ∙ ap (λ m. inputs.Call m (Some s)) (sym (ap (λ (b : BranchId). b.session) me ∙ fit.roots.each n x.live.me has)))
@@ -134,14 +127,14 @@ no_exec {n = n} {s = q} k call from to number given advice s came l live none = 
 pub few_on : (p : Place) (input : Input) {k : Kept} {d : Deed} → Step p input k d → SessionsFit k → ExecsBelow input k → EndsFew input k.sessions d.ended
 few_on p input (steps.Begins {k = k} {d = d} n s call rows range none step) fit below =
     few_before input k.sessions (begun_by p k n None).sessions
-    (λ m is. inl (set_commit k.sessions n m (record (session_at k.sessions n) { seq = (new_root p k n).seq; root = Some (new_root p k n) }) (λ was. was) is)) d.ended
+    (λ m is. inl (set_commit k.sessions n m (record (session_at k.sessions n) { seq = (new_root p k n).seq; root = Some (new_root p k n) }) (λ was. was) is))
     (few_on p input step (begun_so k fit p n) (no_exec (begun_by p k n None) call))
 few_on p input (steps.Pends {k = k} {d = d} n l given call has live code step) fit below =
     few_before input k.sessions (with_call k.sessions n pending.Commit)
     (λ m is. elim (session_or_before k.sessions n m (record (session_at k.sessions n) { call = pending.Commit })) [
       | inl still ↦ inl (ap (λ z. z.call) (sym still) ∙ is)
-      | inr new ↦ inr (Some (stmts.Commit given), subst (λ i. input ≡ inputs.Call i (Some (stmts.Commit given))) new.0 call)
-    ]) d.ended
+      | inr new ↦ inr (given, subst (λ i. input ≡ inputs.Call i (Some (stmts.Commit given))) new.0 call)
+    ])
     (few_on p input step (pends_so k fit n pending.Commit) below)
 few_on p input (steps.Lets_reads_go l comment site_below live begins step) fit below = few_on p input step (record { roots = fit.roots; above = fit.above }) below
 few_on p input (steps.Counts_ack s from kept came counts step) fit below = few_on p input step (record { roots = fit.roots; above = fit.above }) below

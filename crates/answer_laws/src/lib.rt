@@ -3,9 +3,21 @@
 #![tactic(auto)]
 
 ghost use Rattle.run_laws.specs.Headline.{EveryAnswerHasItsPlace};
+ghost use Rattle.answer_laws.specs.EndLaws.{CallsEndForCause, PendingCommitsCame};
 ghost use Rattle.answer_laws.specs.TriedAnswers.{TheTriedAnswers};
 
 use call_laws::turns_find_calls_come;
+
+/// A turn of a lawful run ends at most one client's call, and only with a refusal, in the call's own turn, on a Reply, or as a
+/// COMMIT that was pending. Only where a user forces the outcome of a root in doubt does that root's COMMIT end too, refused.
+pub fn calls_end_for_cause()
+    ensures { CallsEndForCause }
+{}
+
+/// A COMMIT that is pending at a node is the last call of its session.
+pub fn pending_commits_came()
+    ensures { PendingCommitsCame }
+{}
 
 /// In the run of a script each line with a node's answer to a SELECT, INSERT, UPDATE or DELETE, unless it is a refusal, is
 /// the answer of a run of that command's statement: the client's call was pending and ended with it, the run is the one that
