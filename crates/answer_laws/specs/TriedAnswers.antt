@@ -83,7 +83,7 @@ b = record { node = 3; boot = 1; session = 65; seq = 1 }
 
 -- the run of the count
 abbrev pub counts : Run
-counts = record { moment = 0; branch = b; statement = count (codes "T"); table = table }
+counts = record { moment = 30; branch = b; statement = count (codes "T"); table = table }
 
 -- the row and the count
 abbrev pub counted : Answer

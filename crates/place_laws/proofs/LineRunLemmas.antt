@@ -261,12 +261,15 @@ module _ (t : History) (whole : IsLawfulRun t) where
     cat : OneCatalog (heard k u.input).stored.durable D0
     cat = subst (λ s. OneCatalog s.durable D0) (sym (tales.heard_stored t whole hs u rest is u.input)) (catalog_kept k (records_at f0 u.node) (records_are_kept s0 lawful0 u.node k may.1.up))
 
+    abbrev Before : Live → Work → Type 0
+    Before l w = Line p D0 (GivenLast t whole hs) (CalledLast t whole hs) said (GoesOn k l) l.me l.edges w
+
     -- as the turn begins
     lines0 : Lines (edge_of bs0) (parent_of bs0) May Here u.input said received p D0 (GivenLast t whole hs1) (CalledLast t whole hs1) said (heard k u.input)
     lines0 =
         heard_calls (LineOf (edge_of bs0) (parent_of bs0) May Here u.input said received p D0 (GivenLast t whole hs1) (CalledLast t whole hs1) said) k u.input
-        (each_same (λ l w. Line p D0 (GivenLast t whole hs) (CalledLast t whole hs) said (GoesOn k l) l.me l.edges w × RootIs k.sessions l w)
-        (LineOf (edge_of bs0) (parent_of bs0) May Here u.input said received p D0 (GivenLast t whole hs1) (CalledLast t whole hs1) said) k.lives k.works (each_both _ (RootIs k.sessions) k.lives k.works (now u.node k may.1.up) rests.1)
+        (each_same (λ l w. Before l w × RootIs k.sessions l w) (LineOf (edge_of bs0) (parent_of bs0) May Here u.input said received p D0 (GivenLast t whole hs1) (CalledLast t whole hs1) said) k.lives k.works
+        (each_both Before (RootIs k.sessions) k.lives k.works (now u.node k may.1.up) rests.1)
         (λ y v live any was. line_grows p D0 D0 (extends_same D0) (GivenLast t whole hs) (GivenLast t whole hs1) (CalledLast t whole hs) (CalledLast t whole hs1) said (GoesOn k y) (y.parent ≡ None → May y.me) (goes_before y.me y live) y.me y.edges v
         (λ g going. still_known t whole hs (happenings.Turn u) y.me (uncalled y v g live was.1 going)) was.0))
 
