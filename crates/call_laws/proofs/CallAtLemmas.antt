@@ -139,7 +139,7 @@ module _ (asked : List Command) where
 
   -- What is pending was pending, or comes next.
   pub record Leads (t u : Telling) : Type 0 where
-    pub was : (n s : ℕ) (c : Call) → call_at u n s ≡ Some c → (call_at t n s ≡ Some c) ⊎ (u.next_call ≡ Some c)
+    pub was : (n s : ℕ) (c : Call) → call_at u n s ≡ Some c → (call_at t n s ≡ Some c) ⊎ ((u.next_call ≡ Some c) × (d : Call) × (call_at t n s ≡ Some d))
     pub shapes : AreShaped asked u.calls
     pub next : NextIs asked u
 
@@ -162,14 +162,14 @@ module _ (asked : List Command) where
     second : IsSecond asked new
     second = second_is its
 
-    one_command : (d : Call) → HasShape asked d → (d.command == c.command) ≡ true → (d.node ≡ c.node) × (d.session ≡ c.session)
+    pub one_command : (d : Call) → HasShape asked d → (d.command == c.command) ≡ true → (d.node ≡ c.node) × (d.session ≡ c.session)
     one_command d is same =
         let d_named = named_so asked d is in
         let c_named = named_so asked c its in
         let it : commands.At d.node d.session d_named.0 ≡ commands.At c.node c.session c_named.0 = sym d_named.1 ∙ (ap (command_at asked) (same_number d.command c.command same) ∙ c_named.1) in
         (let one : d.node ≡ c.node = cc in one, let two : d.session ≡ c.session = cc in two)
 
-    changed_shapes : (cs : List Call) → AreShaped asked cs → AreShaped asked (map (change_call new) cs)
+    pub changed_shapes : (cs : List Call) → AreShaped asked cs → AreShaped asked (map (change_call new) cs)
     changed_shapes [] all = tt
     changed_shapes (d ∷ ds) all = (cond_both (d.command == c.command) new d (HasShape asked) (λ same. Plain (Some st) second.named refl refl) (λ other. all.0), changed_shapes ds all.1)
 
@@ -181,15 +181,15 @@ module _ (asked : List Command) where
       changed_at n s ds all.1,
     )
 
-    follows_at : (n s : ℕ) → call_at (call_follows t new) n s ≡ option_map (change_call new) (call_at t n s)
+    pub follows_at : (n s : ℕ) → call_at (call_follows t new) n s ≡ option_map (change_call new) (call_at t n s)
     follows_at n s = find_mapped (is_call_at n s) (change_call new) t.calls (changed_at n s t.calls shapes)
 
-    was_or_new : (e : Call) (o : Option Call) → option_map (change_call new) o ≡ Some e → (o ≡ Some e) ⊎ (Some new ≡ Some e)
+    was_or_new : (e : Call) (o : Option Call) → option_map (change_call new) o ≡ Some e → (o ≡ Some e) ⊎ ((Some new ≡ Some e) × (d : Call) × (o ≡ Some d))
     was_or_new e None is = absurd cc
     was_or_new e (Some d) is = by (d.command == c.command) is
       where
-        by : (q : Bool) → Some (if q then new else d) ≡ Some e → (Some d ≡ Some e) ⊎ (Some new ≡ Some e)
-        by true at = inr at
+        by : (q : Bool) → Some (if q then new else d) ≡ Some e → (Some d ≡ Some e) ⊎ ((Some new ≡ Some e) × (x : Call) × (Some d ≡ Some x))
+        by true at = inr (at, d, refl)
         by false at = inl at
 
     follows_leads : (n s : ℕ) → call_at t n s ≡ Some c → Leads t (call_follows t new)

@@ -112,10 +112,8 @@ module _ (t : History) (run : IsTheRunOf t) (i : ℕ) (now : CallsSo t i (past_u
         }
 
   -- a node stops
-  stopped_so : (n : ℕ) → slice_get t.trace i ≡ Some (happenings.Stopped n) → CallsSo t (i + 1) (next t.places t.commands p (happenings.Stopped n))
-  unfolding next facts_after
-  stopped_so n there =
-      let due = due_there t run i now (happenings.Stopped n) there in
+  pub stop_fewer : (n : ℕ) → Fewer t.commands told (acts (telling_stopped t.places t.commands f told n))
+  stop_fewer n =
       let command : Command = command_at t.commands f.command in
       let refused : Telling = start_refused t.places f told command n in
       let one : Fewer t.commands told refused = cond_both (failed_start f command n) _ told (Fewer t.commands told) (λ failed. same_fewer t.commands told _ now.shapes refl refl) (λ other. same_fewer t.commands told told now.shapes refl refl) in
@@ -126,8 +124,15 @@ module _ (t : History) (run : IsTheRunOf t) (i : ℕ) (now : CallsSo t i (past_u
       let stop : Telling = stop_line t.places left command n in
       let four : Fewer t.commands left stop = cond_both (is_stop_of command n) left _ (Fewer t.commands left) (λ own. same_fewer t.commands left left three.shapes refl refl) (λ other. same_fewer t.commands left _ three.shapes refl refl) in
       let five : Fewer t.commands stop (acts stop) = same_fewer t.commands stop (acts stop) four.shapes refl refl in
-      let all : Fewer t.commands told (acts stop) = fewer_then t.commands told refused (acts stop) one (fewer_then t.commands refused falls (acts stop) two (fewer_then t.commands falls left (acts stop) three (fewer_then t.commands left stop (acts stop) four five))) in
-      other_so (happenings.Stopped n) there (λ u is. absurd cc) (next t.places t.commands p (happenings.Stopped n)) due.0 all (alone_next (happenings.Stopped n) there (λ u is. absurd cc) (acts stop) (all.next ∙ due.1)) refl
+      fewer_then t.commands told refused (acts stop) one (fewer_then t.commands refused falls (acts stop) two (fewer_then t.commands falls left (acts stop) three (fewer_then t.commands left stop (acts stop) four five)))
+
+  stopped_so : (n : ℕ) → slice_get t.trace i ≡ Some (happenings.Stopped n) → CallsSo t (i + 1) (next t.places t.commands p (happenings.Stopped n))
+  unfolding next facts_after
+  stopped_so n there =
+      let due = due_there t run i now (happenings.Stopped n) there in
+      let stop : Telling = acts (telling_stopped t.places t.commands f told n) in
+      let fewer : Fewer t.commands told stop = stop_fewer n in
+      other_so (happenings.Stopped n) there (λ u is. absurd cc) (next t.places t.commands p (happenings.Stopped n)) due.0 fewer (alone_next (happenings.Stopped n) there (λ u is. absurd cc) stop (fewer.next ∙ due.1)) refl
 
   happens_so : (h : Happening) → slice_get t.trace i ≡ Some h → CallsSo t (i + 1) (next t.places t.commands p h)
   unfolding next facts_after
@@ -164,7 +169,7 @@ module _ (t : History) where
     one_so i now None none = further_so i now none
     one_so i now (Some h) there = subst (CallsSo t (i + 1)) (sym (one_more t i h there)) (happens_so t run i now h there)
 
-    all_so : (i : ℕ) → CallsSo t i (past_upto t i)
+    pub all_so : (i : ℕ) → CallsSo t i (past_upto t i)
     unfolding past
     all_so zero = first_so
     all_so (suc i) = let one : i + 1 ≡ suc i = omega arith in subst (λ j. CallsSo t j (past_upto t j)) one (one_so i (all_so i) (slice_get t.trace i) refl)
@@ -209,7 +214,7 @@ turns_find_calls_come t run i u there node session c at = turn_finds t run i (al
 pub what_comes_is_pending : WhatComesIsPending
 what_comes_is_pending t run i u there session s came = by (due_there t run i (all_so t run i) (happenings.Turn u) there)
   where
-    by : DueIs (past_upto t i) (happenings.Turn u) → (c : Call) × TurnOf t i u.node session c
+    by : DueIs t.commands (past_upto t i) (happenings.Turn u) → (c : Call) × TurnOf t i u.node session c
     by (inl is) =
         let it : inputs.Call is.call.session is.call.statement ≡ inputs.Call session s = sym is.came ∙ came in
         let same : is.call.session ≡ session = cc in

@@ -34,7 +34,7 @@ use Rattle.call_laws.proofs.CallAtLemmas.{HasShape, Plain, Commits, IsSecond, Ne
 
 -- ---- numbers
 
-below_or : (k i : ℕ) → k < i + 1 → (k < i) ⊎ (k ≡ i)
+pub below_or : (k i : ℕ) → k < i + 1 → (k < i) ⊎ (k ≡ i)
 below_or k i is = by (k == i) refl
   where
     by : (q : Bool) → (k == i) ≡ q → (k < i) ⊎ (k ≡ i)
@@ -51,7 +51,7 @@ module _ (t : Telling) where
   pending_same running None = (refl, refl)
   pending_same running (Some c) = cond_both (c.command == running) (waits t) t (λ (u : Telling). (u.calls ≡ t.calls) × (u.next_call ≡ t.next_call)) (λ own. waits_same) (λ other. (refl, refl))
 
-  input_same : (running node : ℕ) (input : Input) → ((after_input running t node input).calls ≡ t.calls) × ((after_input running t node input).next_call ≡ t.next_call)
+  pub input_same : (running node : ℕ) (input : Input) → ((after_input running t node input).calls ≡ t.calls) × ((after_input running t node input).next_call ≡ t.next_call)
   input_same running node (inputs.Call session s) = pending_same running (call_at t node session)
   input_same running node (inputs.GiveUp session) = (refl, refl)
   input_same running node (inputs.Message m) = (refl, refl)
@@ -102,7 +102,7 @@ module _ (t : History) where
     stands : StandsAt t.places t.commands t.of_a_script p
     stands = stand_at t run i
 
-    pub due_there : (h : Happening) → slice_get t.trace i ≡ Some h → DueIs p h
+    pub due_there : (h : Happening) → slice_get t.trace i ≡ Some h → DueIs t.commands p h
     due_there h is = due_here t.places t.commands _ p stands.so.calls h (due_at t run i h is)
 
     -- ---- the turn of a call
@@ -165,7 +165,7 @@ module _ (t : History) where
             comes_now i n s c (subst (TurnOf t i n s) same turn)
 
         -- none that has come comes again
-        not_again : DueIs p (happenings.Turn u) → is_fresh f.command told n s ≡ false → (v : Turn) → slice_get t.trace i ≡ Some (happenings.Turn v) → v.node ≡ n → (st : Option Stmt) → v.input ≡ inputs.Call s st → ⊥
+        not_again : DueIs t.commands p (happenings.Turn u) → is_fresh f.command told n s ≡ false → (v : Turn) → slice_get t.trace i ≡ Some (happenings.Turn v) → v.node ≡ n → (st : Option Stmt) → v.input ≡ inputs.Call s st → ⊥
         not_again due old v again here st came =
             let it : Some (happenings.Turn v) ≡ Some (happenings.Turn u) = sym again ∙ there in
             let same : v ≡ u = cc in
@@ -178,7 +178,7 @@ module _ (t : History) where
               | inr none ↦ (let call : is_call u.input ≡ true = ap (λ (x : Turn). is_call x.input) (sym same) ∙ ap is_call came in let no = none.2 in absurd (cc (no, call)))
             ]
 
-        finds : DueIs p (happenings.Turn u) → CameBefore t (i + 1) n s c
+        finds : DueIs t.commands p (happenings.Turn u) → CameBefore t (i + 1) n s c
         finds due = by (is_fresh f.command told n s) refl
           where
             by : (q : Bool) → is_fresh f.command told n s ≡ q → CameBefore t (i + 1) n s c
@@ -193,14 +193,14 @@ module _ (t : History) where
 
       -- ---- after the turn
 
-      quiet_or_call : DueIs p (happenings.Turn u) → is_call u.input ≡ false → told.next_call ≡ None
+      quiet_or_call : DueIs t.commands p (happenings.Turn u) → is_call u.input ≡ false → told.next_call ≡ None
       quiet_or_call (inl is) other = let call : is_call u.input ≡ true = ap is_call is.came in absurd (cc (call, other))
       quiet_or_call (inr none) other = none.1
 
-      abbrev before_end : Option Outcome → Telling
+      abbrev pub before_end : Option Outcome → Telling
       before_end o = without_following (delivered_more (turn_appends told u.node u.input (node_at f u.node) o) u.took) u.input
 
-      before_so : (o : Option Outcome) → ToldBefore told (before_end o)
+      pub before_so : (o : Option Outcome) → ToldBefore told (before_end o)
       before_so o = before_told told u.node u.input (node_at f u.node) o u.took (quiet_or_call (due_there (happenings.Turn u) there))
 
       few_end : (o : Outcome) → outcome_at t.places f u ≡ Some o → EndsFew o.ended
@@ -232,13 +232,13 @@ module _ (t : History) where
           let after = input_same w f.command u.node u.input in record {
             was = λ n s c at. elim (leads.was n s c (ap (find (is_call_at n s)) (sym after.0) ∙ at)) [
               | inl here ↦ inl (ap (find (is_call_at n s)) (sym same) ∙ here)
-              | inr follows ↦ inr (after.1 ∙ follows)
+              | inr follows ↦ inr (after.1 ∙ follows.0, follows.1, ap (find (is_call_at n s)) (sym same) ∙ follows.2)
             ];
             shapes = subst (AreShaped t.commands) (sym after.0) leads.shapes;
             next = λ c is. (let it = leads.next c (sym after.1 ∙ is) in (it.0, ap (find (is_call_at c.node c.session)) after.0 ∙ it.1));
           }
 
-      turn_leads : (o : Option Outcome) → outcome_at t.places f u ≡ o → Leads t.commands told (telling_turned f.command (node_at f u.node) told u o)
+      pub turn_leads : (o : Option Outcome) → outcome_at t.places f u ≡ o → Leads t.commands told (telling_turned f.command (node_at f u.node) told u o)
       turn_leads None comes = by u.cut
         where
           by : (cut : Bool) → Leads t.commands told (acts (ends_calls f.command (before_end None) u cut None))
@@ -262,6 +262,6 @@ module _ (t : History) where
             next = leads.next;
             came = λ n s c at old. elim (leads.was n s c at) [
               | inl here ↦ turn_finds n s c here
-              | inr follows ↦ (let fresh : is_fresh f.command v n s ≡ true = fresh_next v n s c leads.shapes at follows in absurd (cc (fresh, old)))
+              | inr follows ↦ (let fresh : is_fresh f.command v n s ≡ true = fresh_next v n s c leads.shapes at follows.0 in absurd (cc (fresh, old)))
             ];
           }

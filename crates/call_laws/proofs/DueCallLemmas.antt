@@ -37,11 +37,12 @@ abbrev pub NoneComes : Past → Turn → Type 0
 NoneComes p u = IsQuiet p.facts p.telling × (p.telling.next_call ≡ None) × (is_call u.input ≡ false)
 
 -- what is due next
-abbrev pub DueIs : Past → Happening → Type 0
-DueIs p (happenings.Turn u) = ComesNow p u ⊎ NoneComes p u
-DueIs p (happenings.Lost k) = IsQuiet p.facts p.telling
-DueIs p (happenings.Begun c) = IsQuiet p.facts p.telling × (p.telling.next_call ≡ None) × (c ≡ p.facts.command + 1)
-DueIs p _ = IsQuiet p.facts p.telling × (p.telling.next_call ≡ None)
+abbrev pub DueIs : List Command → Past → Happening → Type 0
+DueIs asked p (happenings.Turn u) = ComesNow p u ⊎ NoneComes p u
+DueIs asked p (happenings.Lost k) = IsQuiet p.facts p.telling
+DueIs asked p (happenings.Started n boot) = IsQuiet p.facts p.telling × (p.telling.next_call ≡ None) × (command_at asked p.facts.command ≡ commands.Start n)
+DueIs asked p (happenings.Begun c) = IsQuiet p.facts p.telling × (p.telling.next_call ≡ None) × (c ≡ p.facts.command + 1)
+DueIs asked p _ = IsQuiet p.facts p.telling × (p.telling.next_call ≡ None)
 
 -- ---- happenings
 
@@ -84,39 +85,39 @@ module _ (places : List Place) (asked : List Command) (count : ℕ) (p : Past) (
 
   -- a call comes
   pends_is : (c : Call) → ((n s : ℕ) → is_fresh f.command t n s ≡ ((c.node == n) && (c.session == s))) → ((call_at t c.node c.session ≡ Some c) × (f.command ≡ c.command)) ⊎ (t.next_call ≡ Some c)
-      → (h : Happening) → happens places p (Pends c) ≡ Some h → DueIs p h
+      → (h : Happening) → happens places p (Pends c) ≡ Some h → DueIs asked p h
   pends_is c fresh there h is =
-      turn_is (DueIs p) places t c.node (inputs.Call c.session c.statement) None (node_at f c.node) h (λ u node input. inl (record { call = c; here = node; came = input; fresh = fresh; there = there })) is
+      turn_is (DueIs asked p) places t c.node (inputs.Call c.session c.statement) None (node_at f c.node) h (λ u node input. inl (record { call = c; here = node; came = input; fresh = fresh; there = there })) is
 
   -- none comes
   module _ (quiet : IsQuiet f t) (alone : t.next_call ≡ None) where
-    other_is : (u : Turn) → is_call u.input ≡ false → DueIs p (happenings.Turn u)
+    other_is : (u : Turn) → is_call u.input ≡ false → DueIs asked p (happenings.Turn u)
     other_is u none = inr (quiet, alone, none)
 
-    beside_is : {d : Due} → ComesBeside asked f t d → (h : Happening) → happens places p d ≡ Some h → DueIs p h
-    beside_is (due.Gives n s c at) h is = turn_is (DueIs p) places t n (inputs.GiveUp s) None (node_at f n) h (λ u node input. other_is u (ap is_call input)) is
-    beside_is (due.Takes k may) h is = delivery_is (DueIs p) places p k false (packet_at f.net k) h other_is is
-    beside_is (due.Repeats k may) h is = delivery_is (DueIs p) places p k true (packet_at f.net k) h other_is is
-    beside_is (due.Asks n) h is = turn_is (DueIs p) places t n inputs.Reco None (node_at f n) h (λ u node input. other_is u (ap is_call input)) is
-    beside_is (due.Cuts_so a b command) h is = it_is (DueIs p) (happenings.Cut a b) h (quiet, alone) is
-    beside_is (due.Joins_so a b command) h is = it_is (DueIs p) (happenings.Join a b) h (quiet, alone) is
-    beside_is (due.Loses_so k may) h is = it_is (DueIs p) (happenings.Lost k) h quiet is
-    beside_is (due.Stops_so n command) h is = it_is (DueIs p) (happenings.Stopped n) h (quiet, alone) is
+    beside_is : {d : Due} → ComesBeside asked f t d → (h : Happening) → happens places p d ≡ Some h → DueIs asked p h
+    beside_is (due.Gives n s c at) h is = turn_is (DueIs asked p) places t n (inputs.GiveUp s) None (node_at f n) h (λ u node input. other_is u (ap is_call input)) is
+    beside_is (due.Takes k may) h is = delivery_is (DueIs asked p) places p k false (packet_at f.net k) h other_is is
+    beside_is (due.Repeats k may) h is = delivery_is (DueIs asked p) places p k true (packet_at f.net k) h other_is is
+    beside_is (due.Asks n) h is = turn_is (DueIs asked p) places t n inputs.Reco None (node_at f n) h (λ u node input. other_is u (ap is_call input)) is
+    beside_is (due.Cuts_so a b command) h is = it_is (DueIs asked p) (happenings.Cut a b) h (quiet, alone) is
+    beside_is (due.Joins_so a b command) h is = it_is (DueIs asked p) (happenings.Join a b) h (quiet, alone) is
+    beside_is (due.Loses_so k may) h is = it_is (DueIs asked p) (happenings.Lost k) h quiet is
+    beside_is (due.Stops_so n command) h is = it_is (DueIs asked p) (happenings.Stopped n) h (quiet, alone) is
     beside_is (due.Starts_so n fresh command off) h is =
-        it_is (DueIs p) (start_by f n (struck 3 (orders_at t n))) h (start_is (DueIs p) f n (struck 3 (orders_at t n)) (λ boot. (quiet, alone)) (quiet, alone)) is
-    beside_is (due.Next more) h is = it_is (DueIs p) (happenings.Begun (f.command + 1)) h (quiet, alone, refl) is
+        it_is (DueIs asked p) (start_by f n (struck 3 (orders_at t n))) h (start_is (DueIs asked p) f n (struck 3 (orders_at t n)) (λ boot. (quiet, alone, command)) (quiet, alone)) is
+    beside_is (due.Next more) h is = it_is (DueIs asked p) (happenings.Begun (f.command + 1)) h (quiet, alone, refl) is
     beside_is due.None_left h is = absurd cc
 
-  due_is : {d : Due} → IsDue asked f t d → (h : Happening) → happens places p d ≡ Some h → DueIs p h
+  due_is : {d : Due} → IsDue asked f t d → (h : Happening) → happens places p d ≡ Some h → DueIs asked p h
   due_is (due.Told k ks losses) h is =
-      it_is (DueIs p) (happenings.Lost k) h (quiet_acted asked count f t stand (acted_by asked count f t stand t.acted refl (λ all. (let none = all.0.told in absurd (cc (none, losses)))))) is
+      it_is (DueIs asked p) (happenings.Lost k) h (quiet_acted asked count f t stand (acted_by asked count f t stand t.acted refl (λ all. (let none = all.0.told in absurd (cc (none, losses)))))) is
   due_is (due.Node_falls n told stops) h is =
-      it_is (DueIs p) (happenings.Stopped n) h (
+      it_is (DueIs asked p) (happenings.Stopped n) h (
         quiet_acted asked count f t stand (acted_by asked count f t stand t.acted refl (λ all. (let none = all.0.upright in absurd (cc (none, stops))))),
         stand.stop_alone (λ none. absurd (cc (none, stops))),
       ) is
   due_is (due.Start_falls n told upright falls) h is =
-      it_is (DueIs p) (happenings.Stopped n) h (
+      it_is (DueIs asked p) (happenings.Stopped n) h (
         quiet_acted asked count f t stand (acted_by asked count f t stand t.acted refl (λ all. (let none = all.1 in absurd (cc (none, falls))))),
         stand.start_alone (λ none. absurd (cc (none, falls))),
       ) is
@@ -127,5 +128,5 @@ module _ (places : List Place) (asked : List Command) (count : ℕ) (p : Past) (
       pends_is c (fresh_own asked count f t stand c n s text alone fresh command at mine) (inl (there, sym (same_number c.command f.command mine))) h is
   due_is (due.Beside settled no_start alone none comes) h is = beside_is (quiet_beside asked count f t stand alone none) alone comes h is
 
-  pub due_here : (h : Happening) → comes_next places asked p ≡ Some h → DueIs p h
+  pub due_here : (h : Happening) → comes_next places asked p ≡ Some h → DueIs asked p h
   due_here h is = due_is (due_so asked p) h is

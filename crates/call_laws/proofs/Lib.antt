@@ -4,3 +4,4 @@ pub mod DueCallLemmas
 pub mod CallAtLemmas
 pub mod ComeLemmas
 pub mod CallTurnLemmas
+mod TriedCallLemmas

@@ -3,6 +3,7 @@
 #![tactic(auto)]
 
 ghost use Rattle.call_laws.specs.CallTurns.{PendingCallsCame, TurnsFindCallsCome, WhatComesIsPending};
+ghost use Rattle.call_laws.specs.TriedCalls.{TheTriedCalls};
 
 /// A pending call came in a turn of its session's node and has been pending since, with no other call of the session, unless
 /// it comes next.
@@ -18,4 +19,10 @@ pub fn turns_find_calls_come()
 /// What comes to a node as a client's call is the pending call of its session, with what its command asks.
 pub fn what_comes_is_pending()
     ensures { WhatComesIsPending }
+{}
+
+/// None of this is about nothing: in a script of two nodes an INSERT over a link waits for its Reply, and a CREATE TABLE for
+/// its COMMIT.
+pub fn the_tried_calls()
+    ensures { TheTriedCalls }
 {}
