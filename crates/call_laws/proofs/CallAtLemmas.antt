@@ -153,14 +153,14 @@ module _ (asked : List Command) where
     abbrev new : Call
     new = second_of c st
 
-    second_is : HasShape asked c → IsSecond asked new
+    second_is : HasShape asked c → (command_at asked c.command ≡ commands.At c.node c.session (Some st)) × (commits_first st ≡ true)
     second_is (Plain text named own last) = absurd (cc (last, follows))
     second_is (Commits s named creates own next) =
         let it : Some s ≡ Some st = sym next ∙ follows in let same : s ≡ st = cc in
-        record { create = st; named = subst (λ z. command_at asked c.command ≡ commands.At c.node c.session (Some z)) same named; creates = subst (λ z. commits_first z ≡ true) same creates; own = refl; last = refl }
+        (subst (λ z. command_at asked c.command ≡ commands.At c.node c.session (Some z)) same named, subst (λ z. commits_first z ≡ true) same creates)
 
     second : IsSecond asked new
-    second = second_is its
+    second = record { create = st; named = (second_is its).0; creates = (second_is its).1; own = refl; last = refl }
 
     pub one_command : (d : Call) → HasShape asked d → (d.command == c.command) ≡ true → (d.node ≡ c.node) × (d.session ≡ c.session)
     one_command d is same =
@@ -171,7 +171,7 @@ module _ (asked : List Command) where
 
     pub changed_shapes : (cs : List Call) → AreShaped asked cs → AreShaped asked (map (change_call new) cs)
     changed_shapes [] all = tt
-    changed_shapes (d ∷ ds) all = (cond_both (d.command == c.command) new d (HasShape asked) (λ same. Plain (Some st) second.named refl refl) (λ other. all.0), changed_shapes ds all.1)
+    changed_shapes (d ∷ ds) all = (cond_both (d.command == c.command) new d (HasShape asked) (λ same. Plain (Some st) (second_is its).0 refl refl) (λ other. all.0), changed_shapes ds all.1)
 
     changed_at : (n s : ℕ) (cs : List Call) → AreShaped asked cs → AllByRecursion (λ d. is_call_at n s (change_call new d) ≡ is_call_at n s d) cs
     changed_at n s [] all = tt
@@ -235,7 +235,7 @@ module _ (asked : List Command) where
         let u : Telling = finished_call running t f (call_at t node f.session) in
         let fewer : Fewer t u = refused_fewer t f shapes few (call_at t node f.session) in
         let rest : Leads u (finished_call running u g (call_at u node g.session)) = one_leads u g fewer.shapes (fewer.next ∙ alone) (call_at u node g.session) refl in record {
-          was = λ n s c at. elim (rest.was n s c at) [ inl here ↦ inl (fewer.was n s c here) | inr next ↦ inr next ];
+          was = λ n s c at. elim (rest.was n s c at) [ inl here ↦ inl (fewer.was n s c here) | inr next ↦ inr (next.0, next.1, fewer.was n s next.1 next.2) ];
           shapes = rest.shapes;
           next = rest.next;
         }

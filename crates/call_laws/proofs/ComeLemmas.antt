@@ -210,9 +210,6 @@ module _ (t : History) where
           let same : turn_of (place_at t.places u.node) may.0 u.input ≡ o = cc in
           subst (λ (x : Outcome). EndsFew x.ended) same (turn_leaves_so t.places t.commands t.of_a_script.each f stands.events stands.births stands.born stands.roots stands.so.live u may.0 may.1).few
 
-      starts_fewer : (o : Option Outcome) → Fewer t.commands told (record (before_end o) { next_call = told.next_call })
-      starts_fewer o = same_fewer t.commands told (record (before_end o) { next_call = told.next_call }) now.shapes (before_so o).calls refl
-
       -- the calls are those before
       still_leads : (o : Option Outcome) (v : Telling) → v.calls ≡ (before_end o).calls → v.next_call ≡ (before_end o).next_call → Leads t.commands told v
       still_leads o v calls next =

@@ -22,10 +22,6 @@ use Rattle.due_laws.proofs.RunLawfulLemmas.{Standing_so, goes_on, first_stands}
 
 -- ---- one happening further
 
-none_taken : {A : Type 0} (i : ℕ) → take {X = A} i [] ≡ []
-none_taken zero = refl
-none_taken (suc i) = refl
-
 module _ (places : List Place) (asked : List Command) where
   pub next_is : (p : Past) (h : Happening) → next places asked p h ≡ record { facts = facts_after places asked p.facts h; telling = telling_after places asked p.facts p.telling h }
   unfolding next facts_after
@@ -37,6 +33,11 @@ module _ (places : List Place) (asked : List Command) where
   next_is p (happenings.Stopped n) = refl
   next_is p (happenings.Started n boot) = refl
 
+  none_come : (p : Past) (i : ℕ) → past places asked p (take i []) ≡ p
+  unfolding past
+  none_come p zero = refl
+  none_come p (suc i) = refl
+
   more : (p : Past) (hs : List Happening) (i : ℕ) (h : Happening) → slice_get hs i ≡ Some h → past places asked p (take (i + 1) hs) ≡ next places asked (past places asked p (take i hs)) h
   unfolding past
   more p [] i h is = absurd cc
@@ -45,7 +46,7 @@ module _ (places : List Place) (asked : List Command) where
 
   all_come : (p : Past) (hs : List Happening) (i : ℕ) → slice_get hs i ≡ None → past places asked p (take (i + 1) hs) ≡ past places asked p (take i hs)
   unfolding past
-  all_come p [] i is = ap (past places asked p) (none_taken (i + 1) ∙ sym (none_taken i))
+  all_come p [] i is = none_come p (i + 1) ∙ sym (none_come p i)
   all_come p (x ∷ hs) zero is = absurd cc
   all_come p (x ∷ hs) (suc i) is = let one : suc i + 1 ≡ suc (i + 1) = omega arith in ap (λ n. past places asked p (take n (x ∷ hs))) one ∙ all_come (next places asked p x) hs i is
 
@@ -78,7 +79,7 @@ module _ (places : List Place) (asked : List Command) where
 
     stands_there : (p : Past) (hs : List Happening) (i : ℕ) → IsTheRun places asked p hs → StandsAt p → StandsAt (past places asked p (take i hs))
     unfolding past IsTheRun
-    stands_there p [] i run now = subst (λ hs. StandsAt (past places asked p hs)) (sym (none_taken i)) now
+    stands_there p [] i run now = subst StandsAt (sym (none_come p i)) now
     stands_there p (x ∷ hs) zero run now = now
     stands_there p (x ∷ hs) (suc i) run now = stands_there (next places asked p x) hs i run.1 (stands_next p x now run.0)
 

@@ -49,5 +49,5 @@ pub record TheTriedCalls : Type 0 where
   pub waits : pending 9 ≡ Some (call 3 insert None)
   pub answered : pending 10 ≡ None
   pub commits : pending 12 ≡ Some (call 4 (stmts.Commit None) (Some create))
-  pub next : (after 16).telling.next_call ≡ Some (call 4 create None)
-  pub last : pending 17 ≡ None
+  pub next : (after 18).telling.next_call ≡ Some (call 4 create None)
+  pub last : pending 19 ≡ None

@@ -1,6 +1,7 @@
 -- In the run of a script the COMMIT before a CREATE leaves no line but a refusal: where it is complete, the CREATE comes.
-use Rattle.std.proofs.Common.{◌≡◌, ◌≢◌, ℕ, zero, suc, ◌+◌, ◌-◌, ◌<◌, ◌≤◌, ◌==◌, ◌⊎◌, Bool, true, false, true≢false, if◌then◌else◌, List, [], ◌∷◌, find, slice_get, IfSome, Option, Some, None, inl, inr, refl, sym, ap, subst, ◌∙◌, arith}
-use Rattle.node_rules.specs.Data.{Answer, Input, Refusal, Stmt}
+use Rattle.std.proofs.Common.{◌≡◌, ◌≢◌, ℕ, zero, suc, ◌+◌, ◌-◌, ◌<◌, ◌≤◌, ◌==◌, ◌⊎◌, Bool, true, false, true≢false, if◌then◌else◌, List, [], ◌∷◌, find, length, slice_get, IfSome, Option, Some, None, inl, inr, refl, sym, ap, subst, ◌∙◌, arith}
+use Rattle.node_rules.specs.Data.{Answer, Input, Phase, Refusal, Stmt}
+use Rattle.node_rules.specs.declared.work.Going.{Going}
 use Rattle.node_rules.specs.Data.answers
 use Rattle.node_rules.specs.Data.inputs
 use Rattle.node_rules.specs.Data.kinds
@@ -45,7 +46,7 @@ use Rattle.done_laws.proofs.LineStayLemmas.{Has}
 
 -- ---- a node
 
-waits_none : (c : PendingCall) (phase : _) (going : _) → RootWaits c phase going → c ≡ pending.Commit → going ≡ None
+waits_none : (c : PendingCall) (phase : Phase) (going : Option Going) → RootWaits c phase going → c ≡ pending.Commit → going ≡ None
 waits_none pending.NoCall phase going waits is = absurd cc
 waits_none pending.Statement phase going waits is = absurd cc
 waits_none pending.Commit phase going waits is = waits
@@ -116,7 +117,7 @@ module _ (t : History) (run : IsTheRunOf t) where
           absurd (cc (none, is))
 
   module _ (bound n s : ℕ) (c : Call) (came : CameBefore t bound n s c) (given : Option (List ℕ)) (own : c.statement ≡ Some (stmts.Commit given)) where
-    Pends : ℕ → Type 0
+    abbrev Pends : ℕ → Type 0
     Pends j = (k : Kept) → node_at (past_upto t j).facts n ≡ Some k → (session_at k.sessions s).call ≡ pending.Commit
 
     -- what a turn does about it
@@ -133,7 +134,7 @@ module _ (t : History) (run : IsTheRunOf t) where
       abbrev p : Past
       p = past_upto t j
 
-      even : _
+      even : length p.facts.nodes ≡ length p.facts.records
       even = (stand_at t run j).born.0.0.even
 
       pending_here : call_at p.telling n s ≡ Some c

@@ -165,7 +165,7 @@ module _ (m : ℕ) (p : Place) (input : Input) (other : (s : Option Stmt) → in
   -- a statement that came is that of another root
   asked_other : {k : Kept} {x : Branch} {s : Stmt} {given : ℕ} → Commits m input k → Asked k input x s given → x.live.parent ≡ None → (x.live.me.session == m) ≡ false
   asked_other now (steps.By_call n x s call rows has code live) root = ap (λ i. i == m) (now.roots n x.live.me has) ∙ not_mine n (Some s) call
-  asked_other now (steps.By_exec x from call given advice s came live runs) root = absurd (now.below from x.live.me call given advice s came x.live (live_so _ x.live.me x live) root)
+  asked_other {k = k} now (steps.By_exec x from call given advice s came live runs) root = absurd (now.below from x.live.me call given advice s came x.live (live_so k x.live.me x live) root)
 
   -- nor is one that waited
   waits_other : {k : Kept} (x : Branch) (g : Going) → Commits m input k → ((n : ℕ) (s : Option Stmt) → input ≡ inputs.Call n s → ⊥) → branch_at k x.live.me ≡ Some x → x.work.going ≡ Some g → x.live.parent ≡ None

@@ -50,7 +50,7 @@ module _ (t : History) (run : IsTheRunOf t) where
       call : IsCall u.input e.session s
       call = brought t run e.ended e.turn e.there e.session e.turn.node e.call came s own one alone
 
-      came_to : CameTo t command u.node e.session s
+      abbrev came_to : CameTo t command u.node e.session s
       came_to = record { moment = came.moment; turn = u; there = came.turn.there; here = refl; call = call; running = runs }
 
       turn_is : u ≡ e.turn
