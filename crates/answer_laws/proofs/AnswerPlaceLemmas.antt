@@ -134,6 +134,14 @@ module _ (found : TurnsFindCallsCome) (t : History) (due : IsTheRunOf t) (comman
     last = λ j high low w there here q call. came.last j high (omega (arith, low)) w there here q call;
   }
 
+  its_text : its_call.text ≡ Some s
+  unfolding its_call
+  its_text = brings.0
+
+  its_moment : its_call.moment ≡ came.moment
+  unfolding its_call
+  its_moment = refl
+
   -- ---- the run that answered it
 
   -- What stands after the turn.
@@ -152,7 +160,7 @@ module _ (found : TurnsFindCallsCome) (t : History) (due : IsTheRunOf t) (comman
   its_end : Ends → Answered
   its_end (By_call text call only) =
       let here : LastCall t u.node e.session e.ended = record { moment = e.ended; turn = u; there = e.there; here = refl; text = text; came = call; soon = omega arith; last = λ j high low w there at q comes. absurd (omega (arith, high, low)) } in
-      let same : text ≡ Some s = one_text t u.node e.session e.ended here its_call ∙ brings.0 in
+      let same : text ≡ Some s = one_text t u.node e.session e.ended here its_call ∙ its_text in
       let is = at_moment t (EndsAtOnce t) (calls_end_at_once t whole) hs (happenings.Turn u) cut_there.1 cut_there.2 e.uncut e.outcome outcome e.session s (call ∙ ap (inputs.Call e.session) same) rows e.session a [] (only s same rows) good in
       record { run = is.0; root = is.1; by_it = is.3; told = is.4 }
   its_end (By_reply from to call weight count said came_so only) =
@@ -163,7 +171,7 @@ module _ (found : TurnsFindCallsCome) (t : History) (due : IsTheRunOf t) (comman
   its_end (By_commit commits) =
       let last : (x : LastCall t u.node e.session e.ended) × (comment : Option (List ℕ)) × (x.text ≡ Some (stmts.Commit comment))
       = subst (λ m. (x : LastCall t u.node e.session m) × (comment : Option (List ℕ)) × (x.text ≡ Some (stmts.Commit comment))) cut_there.3 (commit_last t whole hs u cut_there.1 cut_there.2 e.session commits) in
-      let same : Some (stmts.Commit last.1) ≡ Some s = sym last.2 ∙ (one_text t u.node e.session e.ended last.0 its_call ∙ brings.0) in
+      let same : Some (stmts.Commit last.1) ≡ Some s = sym last.2 ∙ (one_text t u.node e.session e.ended last.0 its_call ∙ its_text) in
       absurd (let one : stmts.Commit last.1 ≡ s = cc in let none : is_of_rows s ≡ false = ap is_of_rows (sym one) in cc (none, rows))
 
   answered : Answered
@@ -186,12 +194,20 @@ module _ (found : TurnsFindCallsCome) (t : History) (due : IsTheRunOf t) (comman
         last = λ j high low w there here q call. ca.last j high (omega (arith, low, now)) w there here q call;
       }
 
+  last_text : its_last.text ≡ Some ca.statement
+  unfolding its_last
+  last_text = refl
+
+  last_moment : its_last.moment ≡ ca.moment
+  unfolding its_last
+  last_moment = refl
+
   statement_is : ca.statement ≡ s
-  statement_is = let both : Some ca.statement ≡ Some s = one_text t u.node e.session e.ended its_last its_call ∙ brings.0 in cc
+  statement_is = let both : Some ca.statement ≡ Some s = sym last_text ∙ (one_text t u.node e.session e.ended its_last its_call ∙ its_text) in cc
 
   not_before : command ≤ (facts_upto t answered.run.moment).command
   not_before =
-      let same : ca.moment ≡ came.moment = one_moment t u.node e.session e.ended its_last its_call in
+      let same : ca.moment ≡ came.moment = sym last_moment ∙ (one_moment t u.node e.session e.ended its_last its_call ∙ its_moment) in
       let rises : (facts_upto t ca.moment).command ≤ (facts_upto t answered.run.moment).command = command_rises t whole ca.moment answered.run.moment (happenings.Turn ca.turn) (happenings.Turn ca.ran.turn) ca.there ca.ran.there ca.before in
       let running : (facts_upto t ca.moment).command ≡ command = ap (λ m. (facts_upto t m).command) same ∙ (brings.1 ∙ e.its) in
       omega (arith, rises, running)

@@ -196,7 +196,7 @@ module _ (t : History) (whole : IsLawfulRun t) where
     own : (m : ℕ) → (session_at (deed_of (place_at t.places u.node) k u.input).after.sessions m).call ≡ pending.Commit → CommitCame (hs ++ happenings.Turn u ∷ []) u.node m
     own m commits = elim (commits_on (place_at t.places u.node) u.input m (serves t.places (f_at t hs) u k may.1).step commits) [
       | inl was ↦ (let before : (session_at k.sessions m).call ≡ pending.Commit = subst (λ ss. (session_at ss m).call ≡ pending.Commit) (heard_same u.input) was in
-        came_on hs (happenings.Turn u) u.node m (uncalled m before) (now u.node k may.1.up m before))
+          came_on hs (happenings.Turn u) u.node m (uncalled m before) (now u.node k may.1.up m before))
       | inr came ↦ record { before = hs; turn = u; later = []; since = refl; here = refl; comment = came.0; came = came.1; quiet = tt }
     ]
 
@@ -237,17 +237,17 @@ module _ (t : History) (whole : IsLawfulRun t) where
   came_after : (hs : List Happening) (h : Happening) (rest : List Happening) → hs ++ h ∷ rest ≡ t.trace → CommitsCame hs (f_at t hs) → CommitsCame (hs ++ h ∷ []) (facts_after t.places t.commands (f_at t hs) h)
   unfolding facts_after
   came_after hs (happenings.Turn u) rest is now = turn_came hs u rest is now
-  came_after hs (happenings.Stopped m) rest is now = still_came hs (happenings.Stopped m) (λ n q. tt) now _ (λ n j up. elim (set_still (f_at t hs) m n None j up) [ inl was ↦ inl was | inr new ↦ absurd cc ])
+  came_after hs (happenings.Stopped m) rest is now = still_came hs (happenings.Stopped m) (λ n q. tt) now (facts_after t.places t.commands (f_at t hs) (happenings.Stopped m)) (λ n j up. elim (set_still (f_at t hs) m n None j up) [ inl was ↦ inl was | inr new ↦ absurd cc ])
   came_after hs (happenings.Started m boot) rest is now =
-      still_came hs (happenings.Started m boot) (λ n q. tt) now _
+      still_came hs (happenings.Started m boot) (λ n q. tt) now (facts_after t.places t.commands (f_at t hs) (happenings.Started m boot))
       (λ n j up. elim (set_still (f_at t hs) m n (Some (start_of (with_boot (f_at t hs) m boot))) j up) [
         | inl was ↦ inl was
         | inr new ↦ inr (λ q. (let one : start_of (with_boot (f_at t hs) m boot) ≡ j = (let both : Some (start_of (with_boot (f_at t hs) m boot)) ≡ Some j = new in cc) in subst (λ (x : Kept). (session_at x.sessions q).call ≡ pending.NoCall) one (started_free (with_boot (f_at t hs) m boot) q)))
       ])
-  came_after hs (happenings.Begun c) rest is now = still_came hs (happenings.Begun c) (λ n q. tt) now _ (λ n j up. inl up)
-  came_after hs (happenings.Cut a b) rest is now = still_came hs (happenings.Cut a b) (λ n q. tt) now _ (λ n j up. inl up)
-  came_after hs (happenings.Join a b) rest is now = still_came hs (happenings.Join a b) (λ n q. tt) now _ (λ n j up. inl up)
-  came_after hs (happenings.Lost x) rest is now = still_came hs (happenings.Lost x) (λ n q. tt) now _ (λ n j up. inl up)
+  came_after hs (happenings.Begun c) rest is now = still_came hs (happenings.Begun c) (λ n q. tt) now (facts_after t.places t.commands (f_at t hs) (happenings.Begun c)) (λ n j up. inl up)
+  came_after hs (happenings.Cut a b) rest is now = still_came hs (happenings.Cut a b) (λ n q. tt) now (facts_after t.places t.commands (f_at t hs) (happenings.Cut a b)) (λ n j up. inl up)
+  came_after hs (happenings.Join a b) rest is now = still_came hs (happenings.Join a b) (λ n q. tt) now (facts_after t.places t.commands (f_at t hs) (happenings.Join a b)) (λ n j up. inl up)
+  came_after hs (happenings.Lost x) rest is now = still_came hs (happenings.Lost x) (λ n q. tt) now (facts_after t.places t.commands (f_at t hs) (happenings.Lost x)) (λ n j up. inl up)
 
   first_came : CommitsCame [] (first_facts t.places)
   first_came n k up m commits =

@@ -96,9 +96,9 @@ module _ (input : Input) (ss zs : List Session) (before : (m : ℕ) → (session
   few_before (Ends_forced f n s a refused commits call forces) = elim (before f.session commits) [
     | inl was ↦ Ends_forced f n s a refused was call forces
     | inr own ↦ absurd (let both : inputs.Call n (Some s) ≡ inputs.Call f.session (Some (stmts.Commit own.0)) = sym call ∙ own.1 in
-      let one : s ≡ stmts.Commit own.0 = cc in
-      let none : forces_outcome s ≡ false = ap forces_outcome one in
-      cc (none, forces))
+        let one : s ≡ stmts.Commit own.0 = cc in
+        let none : forces_outcome s ≡ false = ap forces_outcome one in
+        cc (none, forces))
   ]
 
 -- a session that is set
