@@ -1,6 +1,6 @@
 -- In the run of a script each accepted answer of a statement with a table has its place: the call of its command, the run
 -- that answered, and the way there.
-use Rattle.std.proofs.Common.{◌≡◌, ℕ, ◌+◌, ◌≤◌, List, [], ◌∷◌, ◌++◌, length, Option, Some, None, refl, sym, ap, subst, ◌∙◌, arith}
+use Rattle.std.proofs.Common.{◌≡◌, ℕ, ◌+◌, ◌≤◌, List, [], ◌∷◌, ◌++◌, length, Option, Some, refl, sym, ap, subst, ◌∙◌, arith}
 use Rattle.std.specs.Prelude.{slice_get, take, true, false}
 use Rattle.std.proofs.lemmas.List.{append_assoc, length-append}
 use Rattle.call_laws.specs.CallTurns.{Brings, What_is_asked, A_commit_first, Then_the_create, CameBefore, TurnsFindCallsCome}
@@ -9,23 +9,21 @@ use Rattle.node_rules.specs.Data.{Answer, BranchId, Stmt}
 use Rattle.node_rules.specs.Data.inputs
 use Rattle.node_rules.specs.Data.kinds
 use Rattle.node_rules.specs.Data.stmts
-use Rattle.node_rules.specs.declared.session.Finished.{Finished}
-use Rattle.node_rules.specs.Inputs.{Came}
-use Rattle.run_laws.specs.Branches.{Run, Seen, Trail, root_at}
+use Rattle.run_laws.specs.Branches.{Run, Trail, root_at}
 use Rattle.run_laws.specs.Commands.{commits_first}
-use Rattle.run_laws.specs.Data.{Command, Turn, Happening}
+use Rattle.run_laws.specs.Data.{Turn, Happening}
 use Rattle.run_laws.specs.Data.commands
 use Rattle.run_laws.specs.Data.happenings
 use Rattle.run_laws.specs.Each.{facts_upto, trail_upto}
 use Rattle.run_laws.specs.Facts.{Facts, first_facts, command_at, facts_after, facts_of, outcome_at}
 use Rattle.run_laws.specs.Headline.{IsTheRunOf, EveryAnswerHasItsPlace}
 use Rattle.run_laws.specs.Lawful.{MayHappen, IsLawful, History, IsLawfulRun}
-use Rattle.run_laws.specs.Places.{LeadsTo, PlaceOf, node_line, told_of}
+use Rattle.run_laws.specs.Places.{LeadsTo, PlaceOf}
 use Rattle.run_laws.specs.Runs.{is_of_rows, is_accepted}
 use Rattle.run_laws.specs.Telling.{Call}
 use Rattle.run_laws.specs.Trail.{trail_after}
 use Rattle.tree_laws.proofs.PrefixLemmas.{f_at, facts_join}
-use Rattle.site_laws.proofs.TimeLemmas.{Part, may_of, lawful_split}
+use Rattle.site_laws.proofs.TimeLemmas.{may_of, lawful_split}
 use Rattle.trail_laws.proofs.MomentLemmas.{tr_at, trail_one_on, at_moment}
 use Rattle.place_laws.specs.LeadLaws.{CallAnsweredBy, IsToldFor, EndsAsReplied, EndsAtOnce}
 use Rattle.place_laws.specs.ToldLaws.{EndedBy}

@@ -1,10 +1,10 @@
 -- A COMMIT that is pending at a node was the last call of its session.
-use Rattle.std.proofs.Common.{◌≡◌, ◌≢◌, ℕ, ◌&&◌, ◌⊎◌, Bool, true, false, if◌then◌else◌, is_none, List, [], ◌∷◌, ◌++◌, map, length, IfSome, Option, Some, None, inl, inr, refl, sym, ap, subst, ◌∙◌}
+use Rattle.std.proofs.Common.{◌≡◌, ◌≢◌, ℕ, ◌&&◌, ◌⊎◌, Bool, true, false, if◌then◌else◌, is_none, List, [], ◌∷◌, ◌++◌, length, IfSome, Option, Some, None, inl, inr, refl, sym, ap, subst, ◌∙◌}
 use Rattle.std.specs.List.{AllByRecursion}
 use Rattle.std.proofs.lemmas.Bool.{cases_eq, cond_both}
 use Rattle.std.proofs.lemmas.List.{append_assoc}
 use Rattle.commit_forget.specs.declared.next.Next.TheVariants as nexts
-use Rattle.node_rules.specs.Data.{Stmt, Answer, BranchId, Decision, Live, Act, Place, Input, RedoRecord}
+use Rattle.node_rules.specs.Data.{Answer, BranchId, Decision, Live, Act, Place, Input, RedoRecord}
 use Rattle.node_rules.specs.Data.acts
 use Rattle.node_rules.specs.Data.decisions
 use Rattle.node_rules.specs.Data.inputs
@@ -21,7 +21,7 @@ use Rattle.node_rules.specs.Prepare.{abandoned_sessions, is_alone, act_turn}
 use Rattle.node_rules.specs.Refusals.{dtx}
 use Rattle.node_rules.specs.Sessions.{session_at, with_call, needs_rollback, no_transaction, commit_is_pending, commit_ended}
 use Rattle.node_rules.specs.Statement.{ran, after_run}
-use Rattle.node_rules.specs.Turn.{turn_of, start_of, made, heard, deed_of}
+use Rattle.node_rules.specs.Turn.{turn_of, start_of, heard, deed_of}
 use Rattle.node_rules.specs.Words.{numbered, set_numbered}
 use Rattle.node_rules.proofs.Steps as steps
 use Rattle.node_rules.proofs.Steps.{Step}

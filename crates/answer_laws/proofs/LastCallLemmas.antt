@@ -1,8 +1,7 @@
 -- The last call of a session up to a moment is one.
-use Rattle.std.proofs.Common.{◌≡◌, ℕ, ◌<◌, ◌≤◌, Bool, true, false, Option, Some, refl, sym, ap, subst, ◌∙◌, arith}
+use Rattle.std.proofs.Common.{◌≡◌, ℕ, ◌<◌, Bool, true, false, Some, refl, sym, ap, ◌∙◌, arith}
 use Rattle.std.specs.Prelude.{slice_get, nat_lt}
 use Rattle.std.proofs.lemmas.Bool.Decides.{nat_tests}
-use Rattle.node_rules.specs.Data.{Stmt}
 use Rattle.node_rules.specs.Data.inputs
 use Rattle.run_laws.specs.Data.{Turn}
 use Rattle.run_laws.specs.Data.happenings

@@ -1,5 +1,5 @@
 -- Why a call of a client ends in a turn: with a refusal, in the call's own turn, on a Reply, or as a COMMIT that was pending.
-use Rattle.std.proofs.Common.{◌≡◌, ◌≢◌, ℕ, ◌&&◌, ◌⊎◌, Bool, true, false, if◌then◌else◌, List, [], ◌∷◌, ◌++◌, Option, Some, None, inl, inr, refl, sym, ap, subst, ◌∙◌}
+use Rattle.std.proofs.Common.{◌≡◌, ◌≢◌, ℕ, ◌⊎◌, Bool, true, false, if◌then◌else◌, List, [], ◌∷◌, ◌++◌, Option, Some, None, inl, inr, refl, sym, ap, subst, ◌∙◌}
 use Rattle.std.proofs.lemmas.Bool.{cond_both, and_parts}
 use Rattle.commit_forget.specs.declared.next.Next.TheVariants as nexts
 use Rattle.node_rules.specs.Data.{Stmt, Answer, Advice, BranchId, Decision, Refusal, Live, Act, Place, Input}
@@ -20,12 +20,11 @@ use Rattle.node_rules.specs.Commit.{decision_answers}
 use Rattle.node_rules.specs.Inputs.{Came}
 use Rattle.node_rules.specs.Kept.{Kept, Branch, Deed, live_at}
 use Rattle.node_rules.specs.Prepare.{abandon_ends, is_alone, act_turn}
-use Rattle.node_rules.specs.Sessions.{session_at, with_call, with_root, is_commit, commit_is_pending, commit_answer}
+use Rattle.node_rules.specs.Sessions.{session_at, with_call, is_commit, commit_is_pending, commit_answer}
 use Rattle.node_rules.specs.Statement.{ran, after_run}
 use Rattle.node_rules.proofs.StandLemmas.{live_so}
 use Rattle.node_rules.proofs.Steps as steps
 use Rattle.node_rules.proofs.Steps.{Step, Asked}
-use Rattle.run_laws.specs.Runs.{is_accepted}
 use Rattle.run_laws.proofs.RootLemmas.{SessionsFit, session_or_before, begun_so, pends_so}
 use Rattle.session_tree.specs.Live.{is_branch}
 use Rattle.answer_laws.specs.EndLaws.{EndsFor, Is_refused, Is_own, Is_replied, Was_commit, forces_outcome, EndsFew, Ends_none, Ends_one, Ends_forced}

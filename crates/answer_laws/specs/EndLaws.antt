@@ -1,6 +1,6 @@
 -- Why a turn ends the call of a client, and which call of a session came last. (Database Administrator's Guide,
 -- "Distributed Transactions Concepts": the session that waits for its call.)
-use Rattle.std.specs.Prelude.{◌≡◌, ℕ, ◌+◌, ◌≤◌, Bool, true, false, List, [], ◌∷◌, slice_get, Option, Some}
+use Rattle.std.specs.Prelude.{◌≡◌, ℕ, ◌≤◌, Bool, true, false, List, [], ◌∷◌, slice_get, Option, Some}
 use Rattle.node_rules.specs.Data.{Answer, BranchId, Input, Stmt}
 use Rattle.node_rules.specs.Data.inputs
 use Rattle.node_rules.specs.Data.kinds

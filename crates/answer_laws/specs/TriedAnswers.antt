@@ -1,7 +1,7 @@
 -- Where answers come from, tried on a script: R's synonym S is for A's synonym U, which is for B's table T. A row goes in
 -- through S, and while a count of S waits, the Reply to the INSERT comes once more.
-use Rattle.std.specs.Prelude.{◌≡◌, ℕ, true, false, List, [], ◌∷◌, codes, pos, replicate, slice_get, option_map, Option, Some, None}
-use Rattle.node_rules.specs.Data.{Answer, BranchId, Column, Place, Stmt, Table, TableRef}
+use Rattle.std.specs.Prelude.{◌≡◌, ℕ, true, false, List, [], ◌∷◌, codes, pos, replicate, slice_get, option_map, Some, None}
+use Rattle.node_rules.specs.Data.{Answer, BranchId, Place, Stmt, Table, TableRef}
 use Rattle.node_rules.specs.Data.answers
 use Rattle.node_rules.specs.Data.dones
 use Rattle.node_rules.specs.Data.picks
@@ -9,7 +9,7 @@ use Rattle.node_rules.specs.Data.stmts
 use Rattle.node_rules.specs.Data.terms
 use Rattle.node_rules.specs.Data.values
 use Rattle.run_laws.specs.Branches.{Run, Trail, no_trail, root_at}
-use Rattle.run_laws.specs.Data.{AnswerLine, Command, Happening}
+use Rattle.run_laws.specs.Data.{AnswerLine, Command}
 use Rattle.run_laws.specs.Data.commands
 use Rattle.run_laws.specs.Due.{runs_on, happened}
 use Rattle.run_laws.specs.Facts.{first_facts}
