@@ -1,9 +1,8 @@
 -- In every lawful run each Reply that is no refusal comes from a run that its call led to.
-use Rattle.std.proofs.Common.{◌≡◌, ◌≢◌, ℕ, zero, suc, ◌≤◌, ◌&&◌, Bool, true, false, if◌then◌else◌, List, [], ◌∷◌, ◌++◌, length, max, option_map, Option, Some, None, inl, inr, refl, sym, ap, subst, ◌∙◌, append-nil, arith}
+use Rattle.std.proofs.Common.{◌≡◌, ◌≢◌, ℕ, ◌≤◌, Bool, true, false, List, [], ◌∷◌, ◌++◌, length, option_map, Option, Some, None, inl, inr, refl, sym, ap, subst, ◌∙◌, append-nil, arith}
 use Rattle.std.specs.Prelude.{nat_le}
 use Rattle.std.specs.List.{AllByRecursion}
 use Rattle.std.proofs.lemmas.Bool.Decides.{nat_tests}
-use Rattle.tran_ids.proofs.BranchLemmas.{same_from_equal}
 use Rattle.redo_record.specs.Durable.{durable}
 use Rattle.session_tree.specs.Live.{children_of, edge_at}
 use Rattle.node_rules.specs.Data.{Answer, Advice, BranchId, Edge, Live, Post, Stmt, Input}
@@ -13,7 +12,7 @@ use Rattle.node_rules.specs.Data.stmts
 use Rattle.node_rules.specs.declared.work.Waits.TheVariants as waiting
 use Rattle.node_rules.specs.declared.work.Going.{Going}
 use Rattle.node_rules.specs.declared.work.Work.{Work}
-use Rattle.node_rules.specs.Words.{same, numbered, item_at}
+use Rattle.node_rules.specs.Words.{numbered, item_at}
 use Rattle.node_rules.specs.Inputs.{Came, IsCall, IsSession}
 use Rattle.node_rules.specs.Kept.{Kept, Branch, live_id}
 use Rattle.node_rules.specs.LiveBranches.{works_of}

@@ -8,14 +8,14 @@ use Rattle.std.proofs.lemmas.Bool.{cases_eq}
 use Rattle.std.proofs.lemmas.List.{length-append}
 use Rattle.tran_ids.proofs.ListedLemmas.{item_is}
 use Rattle.tran_ids.proofs.NumberedLemmas.{set_or_before}
-use Rattle.node_rules.specs.Data.{Advice, BranchId, Durable, Live, Place, Post, RedoRecord, Stmt, Input}
+use Rattle.node_rules.specs.Data.{BranchId, Durable, Live, Place, Post, RedoRecord, Stmt, Input}
 use Rattle.node_rules.specs.Data.inputs
 use Rattle.node_rules.specs.Data.kinds
 use Rattle.node_rules.specs.declared.session.PendingCall.TheVariants as pending
 use Rattle.node_rules.specs.declared.work.Going.{Going}
 use Rattle.node_rules.specs.declared.work.Work.{Work}
 use Rattle.node_rules.specs.Words.{numbered, set_numbered}
-use Rattle.node_rules.specs.Inputs.{Came, IsCall, IsSession}
+use Rattle.node_rules.specs.Inputs.{IsCall, IsSession}
 use Rattle.session_tree.specs.Live.{children_of}
 use Rattle.node_rules.specs.Kept.{Kept, Branch, Deed, live_id, live_at}
 use Rattle.node_rules.specs.LiveBranches.{EachLive}
