@@ -1,5 +1,5 @@
-//! Each answer that a client gets to a statement with a table has its place: the call of its command, the run of the statement that gave
-//! the answer, and the way from the one to the other through the session tree.
+//! Each answer that a client gets to a statement with a table has its place: the call of its command, the run of the
+//! statement that gave the answer, and the way from the one to the other through the session tree.
 #![tactic(auto)]
 
 ghost use Rattle.run_laws.specs.Headline.{EveryAnswerHasItsPlace};
