@@ -1,0 +1,6 @@
+pub mod Undisturbed
+pub mod TriedCommit
+pub mod DeliveryLaws
+pub mod WaitLaws
+pub mod LeaveLaws
+pub mod StillLaws
