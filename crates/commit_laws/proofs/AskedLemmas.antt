@@ -1,20 +1,18 @@
 -- In every lawful run whoever answered Prepare with Prepared, ReadOnly or Ready was asked by the receiver.
-use Rattle.std.proofs.Common.{◌≡◌, ◌≢◌, ℕ, Bool, true, false, List, [], ◌∷◌, Some, None, refl, sym, ap, subst, ◌∙◌}
-use Rattle.std.specs.List.{AllByRecursion}
-use Rattle.agreement.specs.Events.{Event, Exit, Sealed, Quiet, Dropped, exit, Send_vote, Has}
+use Rattle.std.proofs.Common.{◌≡◌, ◌≢◌, ℕ, true, List, Some, sym, subst, ◌∙◌}
+use Rattle.agreement.specs.Events.{Exit, Sealed, Quiet, Dropped, exit}
 use Rattle.node_rules.specs.Data.{BranchId, Kind}
 use Rattle.node_rules.specs.Data.kinds
 use Rattle.run_laws.specs.Births.{Born, births_of, born_at}
 use Rattle.run_laws.specs.BirthLaws.{Began, IsChild, GoesSo}
 use Rattle.run_laws.specs.Data.{Packet}
-use Rattle.run_laws.specs.Facts.{Facts}
 use Rattle.run_laws.specs.FreezeLaws.{was_asked}
 use Rattle.run_laws.specs.HeardLaws.{QuietIs}
 use Rattle.run_laws.specs.InTurnLaws.{said_in}
 use Rattle.run_laws.specs.Lawful.{History, IsLawfulRun, facts_at}
 use Rattle.run_laws.specs.RunEvents.{events_of}
 use Rattle.run_laws.specs.Trail.{is_prepare}
-use Rattle.run_laws.specs.WalkLaws.{is_below, was_sent}
+use Rattle.run_laws.specs.WalkLaws.{is_below}
 use Rattle.run_laws.proofs.BirthRunLemmas.{messages_are_of_neighbors}
 use Rattle.run_laws.proofs.EventsStandLemmas.{run_stands}
 use Rattle.run_laws.proofs.HeardStandLemmas.{quiets_are_gone}

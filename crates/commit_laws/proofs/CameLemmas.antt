@@ -1,5 +1,5 @@
 -- In every lawful run each message that was delivered came to its receiver in a turn.
-use Rattle.std.proofs.Common.{◌≡◌, ℕ, List, [], ◌∷◌, ◌++◌, refl, sym, ap, subst, ◌∙◌, append-nil}
+use Rattle.std.proofs.Common.{◌≡◌, List, [], ◌∷◌, ◌++◌, refl, sym, ap, subst, ◌∙◌, append-nil}
 use Rattle.std.proofs.lemmas.List.{append_assoc}
 use Rattle.node_rules.specs.Data.{Msg}
 use Rattle.run_laws.specs.Data.{Happening}

@@ -1,9 +1,7 @@
 -- In every lawful run a branch to which Prepare was delivered is not working, and one to which an answer was delivered waits for that child
 -- no more.
-use Rattle.std.proofs.Common.{◌≡◌, ◌≢◌, ℕ, Bool, true, false, List, [], ◌∷◌, ◌++◌, Option, Some, None, refl, sym, ap, subst, ◌∙◌}
-use Rattle.std.specs.List.{AllByRecursion}
+use Rattle.std.proofs.Common.{◌≡◌, ◌≢◌, Bool, true, false, List, [], ◌∷◌, ◌++◌, Option, Some, None, refl, sym, ap, subst, ◌∙◌}
 use Rattle.std.proofs.lemmas.List.{append_assoc}
-use Rattle.agreement.specs.Events.{Exit, Quiet, Sealed, exit, Send_vote, Has as Told}
 use Rattle.tran_ids.proofs.ListedLemmas.{item_is}
 use Rattle.node_rules.specs.Data.{BranchId, Kind, Live, Msg, Place, Vote, Input}
 use Rattle.node_rules.specs.Data.inputs
@@ -16,15 +14,12 @@ use Rattle.node_rules.specs.Turn.{turn_of, heard, deed_of, kind_turn, stand_of}
 use Rattle.run_laws.specs.Births.{Born, births_of, born_id}
 use Rattle.run_laws.specs.BirthLaws.{Began, IsChild, GoesSo, StandsBelow}
 use Rattle.run_laws.specs.Data.{Turn, Happening}
-use Rattle.run_laws.specs.Data.fates
 use Rattle.run_laws.specs.Data.happenings
-use Rattle.run_laws.specs.EventLaws.{AtEachEvent}
-use Rattle.run_laws.specs.Facts.{Facts, first_facts, place_at, node_at, kept_after, facts_after}
+use Rattle.run_laws.specs.Facts.{Facts, place_at, node_at, kept_after, facts_after}
 use Rattle.run_laws.specs.FreezeLaws.{was_asked}
 use Rattle.run_laws.specs.InTurnLaws.{said_in}
-use Rattle.run_laws.specs.Lawful.{Comes, MayHappen, MayTurn, History, IsLawfulRun, facts_at}
+use Rattle.run_laws.specs.Lawful.{MayHappen, History, IsLawfulRun, facts_at}
 use Rattle.run_laws.specs.PhaseLaws.{PhaseFits}
-use Rattle.run_laws.specs.RunEvents.{events_of}
 use Rattle.run_laws.specs.Trail.{is_prepare}
 use Rattle.run_laws.proofs.AtNodeLemmas.{turn_here}
 use Rattle.run_laws.proofs.BirthRunLemmas.{births_are_trees, messages_are_of_neighbors}
@@ -35,12 +30,12 @@ use Rattle.run_laws.proofs.ListLemmas.{all_weaker}
 use Rattle.run_laws.proofs.OwnLemmas.{all_found}
 use Rattle.run_laws.proofs.PhaseLemmas.{phases_fit}
 use Rattle.tree_laws.proofs.PrefixLemmas.{so_far, f_at, one_on}
-use Rattle.site_laws.proofs.TimeLemmas.{Part, part_on, part_of, part_lawful, may_of, born_end}
+use Rattle.site_laws.proofs.TimeLemmas.{part_on, part_of, part_lawful, may_of, born_end}
 use Rattle.commit_laws.specs.DeliveryLaws.{CameInTurn, IsBusy, PreparesAreHeard, is_answer, HasAnswerOf, AnswersAreHeard}
 use Rattle.commit_laws.proofs.AskedLemmas.{answers_were_asked}
 use Rattle.commit_laws.proofs.CameLemmas.{deliveries_came}
 use Rattle.commit_laws.proofs.KeepLemmas.{Served}
-use Rattle.commit_laws.proofs.ServedLemmas.{ServedAt, HasBorn, StaysServed, served_end}
+use Rattle.commit_laws.proofs.ServedLemmas.{ServedAt, HasBorn, served_end}
 use Rattle.commit_laws.proofs.TurnLemmas.{prepare_served, answer_served}
 
 -- the vote of an answer

@@ -1,8 +1,7 @@
 -- A live branch that is not working, and waits for no answer of a child, stays so in each step of its node where it stays live.
-use Rattle.std.proofs.Common.{◌≡◌, ◌≢◌, ℕ, ◌&&◌, Bool, true, false, List, [], ◌∷◌, ◌++◌, map, unwrap_or, Option, Some, None, refl, sym, ap, subst, ◌∙◌}
-use Rattle.std.specs.List.{AllByRecursion, list_any}
-use Rattle.std.proofs.lemmas.Bool.{cond_both, and_from}
-use Rattle.tran_ids.proofs.BranchLemmas.{same_from_equal}
+use Rattle.std.proofs.Common.{◌≡◌, ◌≢◌, ℕ, Bool, false, List, [], ◌∷◌, map, Option, Some, None, refl, sym, ap, subst, ◌∙◌}
+use Rattle.std.specs.List.{AllByRecursion}
+use Rattle.std.proofs.lemmas.Bool.{cond_both}
 use Rattle.commit_forget.specs.declared.next.Next.TheVariants as nexts
 use Rattle.session_tree.specs.Live.{new_edge}
 use Rattle.node_rules.specs.Data.{Live, Act, BranchId, Edge, Kind, Vote, Place, Input, Stmt}
@@ -12,7 +11,7 @@ use Rattle.node_rules.specs.Data.stmts
 use Rattle.node_rules.specs.Data.votes
 use Rattle.node_rules.specs.Data.inputs
 use Rattle.node_rules.specs.declared.session.PendingCall.TheVariants as pending
-use Rattle.node_rules.specs.Words.{same, numbered, set_numbered}
+use Rattle.node_rules.specs.Words.{numbered, set_numbered}
 use Rattle.node_rules.specs.Inputs.{IsCall}
 use Rattle.node_rules.specs.Kept.{Kept, Branch, Deed, live_id, live_at, branch_at}
 use Rattle.node_rules.specs.Sessions.{session_at, with_call}
@@ -23,7 +22,6 @@ use Rattle.node_rules.specs.Prepare.{ready, voted, has_voted, answers_first, is_
 use Rattle.node_rules.proofs.Steps as steps
 use Rattle.node_rules.proofs.Steps.{Step, Asked, Acting, Collects, HasRoot, IsOfRows, vote_kind}
 use Rattle.node_rules.proofs.StandLemmas.{live_so, call_set}
-use Rattle.run_laws.proofs.FreezeLemmas.{acting_phase}
 use Rattle.run_laws.proofs.ListLemmas.{all_weaker, all_append, all_map}
 use Rattle.run_laws.proofs.NeighborLemmas.{News, reply_is}
 use Rattle.run_laws.proofs.NeighborStepLemmas.{begun_news, pends_news, lets_news, acked_news}

@@ -1,5 +1,5 @@
 -- In every lawful run a branch below another that has left, and was not dropped, has answered it, or its node has stopped since.
-use Rattle.std.proofs.Common.{◌≡◌, ◌≢◌, ℕ, ◌+◌, ◌<◌, ◌≤◌, ◌&&◌, ◌||◌, Bool, true, false, List, [], ◌∷◌, ◌++◌, map, length, Option, Some, None, inl, inr, refl, sym, ap, subst, subst₂, ◌∙◌, arith, append-nil}
+use Rattle.std.proofs.Common.{◌≡◌, ◌≢◌, ◌+◌, ◌<◌, ◌≤◌, ◌&&◌, ◌||◌, Bool, true, false, List, [], ◌∷◌, ◌++◌, map, length, Option, Some, None, inl, inr, refl, sym, ap, subst, subst₂, ◌∙◌, arith, append-nil}
 use Rattle.std.specs.Prelude.{◌⊎◌, IfSome}
 use Rattle.std.specs.Option.{option_to_list}
 use Rattle.std.specs.List.{AllByRecursion, list_any}
@@ -10,18 +10,17 @@ use Rattle.tran_ids.proofs.ListedLemmas.{item_is}
 use Rattle.agreement.specs.Events.{Event, Exit, Sealed, Decided, Quiet, Dropped, exit}
 use Rattle.node_rules.specs.Data.{BranchId, Kind, Live, Msg, Place, Post, RedoRecord}
 use Rattle.node_rules.specs.Data.kinds
-use Rattle.node_rules.specs.Data.phases
 use Rattle.node_rules.specs.Data.records
 use Rattle.node_rules.specs.Words.{same}
 use Rattle.node_rules.specs.Kept.{Kept, Deed, live_id, live_at}
-use Rattle.node_rules.specs.Turn.{turn_of, heard, deed_of, stamped}
+use Rattle.node_rules.specs.Turn.{turn_of, heard, deed_of}
 use Rattle.run_laws.specs.Births.{Born, births_of, born_at}
 use Rattle.run_laws.specs.BirthLaws.{Began, IsChild, GoesSo, RecordNames}
 use Rattle.run_laws.specs.Data.{Packet, Turn, Happening}
 use Rattle.run_laws.specs.Data.happenings
 use Rattle.run_laws.specs.Facts.{Facts, place_at, node_at, records_at, kept_after, with_boot, facts_after}
 use Rattle.run_laws.specs.InTurnLaws.{post_of, packet_post, said_in}
-use Rattle.run_laws.specs.Lawful.{IsOwed, MayHappen, MayTurn, MayStart, History, IsLawfulRun, facts_at, boots}
+use Rattle.run_laws.specs.Lawful.{IsOwed, MayHappen, MayTurn, History, IsLawfulRun, facts_at, boots}
 use Rattle.run_laws.specs.RunEvents.{with_record, with_exits, lives_at, events_after, events_from, events_of}
 use Rattle.run_laws.specs.Trail.{is_quiet, is_read_only}
 use Rattle.run_laws.specs.WalkLaws.{was_sent}

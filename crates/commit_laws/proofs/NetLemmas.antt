@@ -1,5 +1,5 @@
 -- What is so of each message that was delivered stays so with each happening, where it is so of what a turn takes.
-use Rattle.std.proofs.Common.{◌≡◌, ℕ, zero, suc, Bool, true, false, List, [], ◌∷◌, slice_get, slice_set, Option, Some, None, refl, sym, ap, subst, ◌∙◌}
+use Rattle.std.proofs.Common.{◌≡◌, ℕ, zero, suc, List, [], ◌∷◌, slice_get, slice_set, Option, Some, None, refl, sym, ap, subst, ◌∙◌}
 use Rattle.std.specs.List.{AllByRecursion}
 use Rattle.std.proofs.lemmas.Bool.{cond_both}
 use Rattle.node_rules.specs.Data.{Msg, Place, Input}
@@ -7,7 +7,7 @@ use Rattle.node_rules.specs.Data.inputs
 use Rattle.node_rules.specs.Words.{numbered, set_numbered}
 use Rattle.node_rules.specs.Kept.{Kept}
 use Rattle.net_bag.specs.Net.{Net, sent_one, sent_on, is_lost_at_once, first_fate, fated, with_fate, flies, packet, packet_at, delivered, lost, goes_over, lost_over, cut_over, joined, goes_to, lost_to, stopped, started}
-use Rattle.run_laws.specs.Data.{Fate, Packet, Took, Turn, Happening, Command}
+use Rattle.run_laws.specs.Data.{Packet, Took, Happening, Command}
 use Rattle.run_laws.specs.Data.commands
 use Rattle.run_laws.specs.Data.fates
 use Rattle.run_laws.specs.Data.happenings

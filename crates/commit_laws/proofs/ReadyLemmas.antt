@@ -3,16 +3,15 @@ use Rattle.std.proofs.Common.{◌≡◌, ◌≢◌, ℕ, Bool, true, false, List
 use Rattle.std.specs.Prelude.{IfSome}
 use Rattle.std.specs.List.{AllByRecursion}
 use Rattle.tran_ids.proofs.NumberedLemmas.{set_or_before}
-use Rattle.node_rules.specs.Data.{BranchId, Live, Post, RedoRecord}
+use Rattle.node_rules.specs.Data.{Live, Post, RedoRecord}
 use Rattle.node_rules.specs.Words.{numbered, set_numbered}
 use Rattle.node_rules.specs.Kept.{Kept, Deed, live_id}
-use Rattle.node_rules.specs.Turn.{turn_of, start_of, made, heard, deed_of}
+use Rattle.node_rules.specs.Turn.{turn_of, start_of, deed_of}
 use Rattle.run_laws.specs.Data.{Turn, Happening}
 use Rattle.run_laws.specs.Data.happenings
-use Rattle.run_laws.specs.Facts.{Facts, first_facts, place_at, flat, node_at, kept_after, with_boot, facts_after, facts_of}
+use Rattle.run_laws.specs.Facts.{Facts, place_at, flat, node_at, kept_after, with_boot, facts_after, facts_of}
 use Rattle.run_laws.specs.InTurnLaws.{post_of, said_in}
 use Rattle.run_laws.specs.Lawful.{IsOwed, MayHappen, MayTurn, History, IsLawfulRun, facts_at}
-use Rattle.run_laws.specs.WalkLaws.{was_sent}
 use Rattle.run_laws.proofs.AtNodeLemmas.{turn_elsewhere, turn_here}
 use Rattle.run_laws.proofs.EventsStandLemmas.{first_node, run_stands}
 use Rattle.run_laws.proofs.LawfulLemmas.{serves}

@@ -1,7 +1,7 @@
 -- In every lawful run a live branch below a root leaves in a turn for a reason.
-use Rattle.std.proofs.Common.{◌≡◌, ◌≢◌, ℕ, List, [], ◌∷◌, ◌++◌, Some, None, refl, sym, ap, subst, ◌∙◌}
+use Rattle.std.proofs.Common.{◌≡◌, List, [], ◌∷◌, ◌++◌, Some, refl, sym, subst, ◌∙◌}
 use Rattle.std.proofs.lemmas.List.{append_assoc}
-use Rattle.node_rules.specs.Data.{BranchId, Live, Place}
+use Rattle.node_rules.specs.Data.{Live, Place}
 use Rattle.node_rules.specs.Words.{item_at}
 use Rattle.node_rules.specs.Kept.{Kept, Deed, live_id, live_at}
 use Rattle.node_rules.specs.Sessions.{session_at}

@@ -1,6 +1,6 @@
 -- What the turn says in which a branch becomes sealed whose neighbour toward the site is its parent: Prepared, to the parent. A branch that
 -- seals or decides otherwise, below another, was Ready.
-use Rattle.std.proofs.Common.{◌≡◌, ◌≢◌, ℕ, ◌+◌, Bool, true, false, List, [], ◌∷◌, ◌++◌, is_none, Option, Some, None, inl, inr, refl, sym, ap, subst, ◌∙◌}
+use Rattle.std.proofs.Common.{◌≡◌, ℕ, ◌+◌, Bool, true, List, is_none, Option, Some, None, inl, inr, refl, sym, ap, subst, ◌∙◌}
 use Rattle.std.specs.Prelude.{◌⊎◌, IfSome}
 use Rattle.commit_forget.specs.declared.next.Next.TheVariants as nexts
 use Rattle.prepare_phase.specs.Records.{sealed_of, decided_of}

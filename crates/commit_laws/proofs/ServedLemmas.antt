@@ -1,12 +1,9 @@
 -- In every lawful run a live branch that is not working, and waits for no answer of a child, stays so while it is live.
-use Rattle.std.proofs.Common.{◌≡◌, ◌≢◌, ℕ, Bool, true, false, List, [], ◌∷◌, ◌++◌, Option, Some, None, inl, inr, refl, sym, ap, subst, ◌∙◌, append-nil}
+use Rattle.std.proofs.Common.{◌≡◌, ◌≢◌, Bool, true, false, List, [], ◌∷◌, ◌++◌, Option, Some, None, inl, inr, refl, sym, ap, subst, ◌∙◌, append-nil}
 use Rattle.std.specs.List.{AllByRecursion}
 use Rattle.tran_ids.proofs.ListedLemmas.{item_is}
-use Rattle.agreement.specs.Events.{Event}
 use Rattle.node_rules.specs.Data.{BranchId, Live, Place}
-use Rattle.node_rules.specs.Data.phases
 use Rattle.node_rules.specs.Data.stmts
-use Rattle.node_rules.specs.Inputs.{IsCall}
 use Rattle.node_rules.specs.Words.{item_at}
 use Rattle.node_rules.specs.Kept.{Kept, Branch, Deed, live_id, live_at, branch_at, work_at, with_work}
 use Rattle.node_rules.specs.Turn.{turn_of, heard, deed_of}
@@ -19,7 +16,6 @@ use Rattle.run_laws.specs.Data.happenings
 use Rattle.run_laws.specs.Facts.{Facts, first_facts, place_at, node_at, kept_after, facts_after}
 use Rattle.run_laws.specs.Lawful.{MayHappen, MayTurn, History, IsLawfulRun, facts_at}
 use Rattle.run_laws.specs.NodeLaws.{EachFactFrom}
-use Rattle.run_laws.specs.RunEvents.{events_of}
 use Rattle.run_laws.proofs.AtNodeLemmas.{turn_elsewhere, turn_here}
 use Rattle.run_laws.proofs.BirthLemmas.{news_of}
 use Rattle.run_laws.proofs.BirthRunLemmas.{StandBorn, run_births}
@@ -35,7 +31,7 @@ use Rattle.tree_laws.proofs.AnswerRunLemmas.{lives_heard}
 use Rattle.tree_laws.proofs.FoundLemmas.{lives_found}
 use Rattle.tree_laws.proofs.PrefixLemmas.{so_far, f_at, e_at, one_on}
 use Rattle.site_laws.proofs.FateLemmas.{node_back}
-use Rattle.site_laws.proofs.TimeLemmas.{Part, part_on, part_of, part_lawful, may_of, fact_at, born_end, keep_on}
+use Rattle.site_laws.proofs.TimeLemmas.{part_on, part_of, part_lawful, may_of, fact_at, born_end, keep_on}
 use Rattle.commit_laws.proofs.KeepLemmas.{Served, IfMe, AllServed, CallsOther, served_on}
 
 module _ (t : History) (whole : IsLawfulRun t) (b : BranchId) (c : Option BranchId) where

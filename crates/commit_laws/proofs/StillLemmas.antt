@@ -1,20 +1,19 @@
 -- In every lawful run each message of the transaction of an undisturbed COMMIT was delivered, and no branch of it collects any more, where
 -- none below the root was dropped.
-use Rattle.std.proofs.Common.{◌≡◌, ◌≢◌, ℕ, suc, ◌+◌, ◌<◌, ◌&&◌, ◌||◌, not, Bool, true, false, cond, List, [], ◌∷◌, map, filter, length, nat_lt, position, option_map, Option, Some, None, refl, sym, ap, subst, ◌∙◌, arith}
+use Rattle.std.proofs.Common.{◌≡◌, ◌≢◌, ℕ, ◌+◌, ◌<◌, ◌&&◌, ◌||◌, Bool, true, false, cond, List, [], ◌∷◌, map, filter, length, position, option_map, Option, Some, None, refl, ap, subst, ◌∙◌, arith}
 use Rattle.std.specs.List.{AllByRecursion, list_any, position_or_len}
-use Rattle.std.proofs.lemmas.Bool.{cond_both, or_right}
+use Rattle.std.proofs.lemmas.Bool.{or_right}
 use Rattle.tran_ids.proofs.BranchLemmas.{equal_from_same, same_from_equal}
-use Rattle.node_rules.specs.Data.{BranchId, Live}
-use Rattle.node_rules.specs.Words.{same, item_at}
+use Rattle.node_rules.specs.Data.{BranchId}
+use Rattle.node_rules.specs.Words.{same}
 use Rattle.node_rules.specs.Kept.{Kept}
-use Rattle.node_rules.specs.Records.{nothing_stored, stored_by}
 use Rattle.net_bag.specs.Net.{is_flying, flies}
 use Rattle.run_laws.specs.Births.{Born, births_of, born_id, born_at}
 use Rattle.run_laws.specs.BirthLaws.{Began}
 use Rattle.run_laws.specs.Branches.{is_among}
 use Rattle.run_laws.specs.Data.{Fate, Packet}
 use Rattle.run_laws.specs.Data.fates
-use Rattle.run_laws.specs.Facts.{Facts, node_at, records_at}
+use Rattle.run_laws.specs.Facts.{node_at, records_at}
 use Rattle.run_laws.specs.Lawful.{History, IsLawfulRun, facts_at, boots}
 use Rattle.run_laws.specs.RunEvents.{events_of}
 use Rattle.run_laws.proofs.EventsStandLemmas.{run_stands, node_so}

@@ -1,5 +1,5 @@
 -- The tried COMMITs, by computation.
-use Rattle.std.proofs.Common.{◌≡◌, List, [], ◌∷◌, ◌++◌, take, drop, Option, Some, None, refl}
+use Rattle.std.proofs.Common.{List, [], take, drop, None, refl}
 use Rattle.std.specs.Fmt.{digits}
 use Rattle.tran_ids.specs.Numbers.{decimal, hex8}
 use Rattle.redo_record.specs.Kept.{kept_after}
@@ -18,10 +18,9 @@ use Rattle.net_bag.specs.Net.{sent_on, delivered, lost}
 use Rattle.run_laws.specs.Book.{rows_of, in_doubt}
 use Rattle.run_laws.specs.Births.{births_from}
 use Rattle.run_laws.specs.Data.{Turn, Happening}
-use Rattle.run_laws.specs.Data.happenings
-use Rattle.run_laws.specs.Facts.{Facts, first_facts, facts_after, facts_of}
+use Rattle.run_laws.specs.Facts.{first_facts, facts_after, facts_of}
 use Rattle.run_laws.specs.TriedRun as tried
-use Rattle.commit_laws.specs.Undisturbed.{Commit, Undisturbed, IsComplete, facts_by}
+use Rattle.commit_laws.specs.Undisturbed.{facts_by}
 use Rattle.commit_laws.specs.TriedCommit.{lost_trace, TheTriedCommit}
 
 -- up to the COMMIT

@@ -8,12 +8,11 @@ use Rattle.std.proofs.lemmas.Bool.{and_parts}
 use Rattle.tran_ids.proofs.BranchLemmas.{equal_from_same}
 use Rattle.tran_ids.proofs.ListedLemmas.{item_is}
 use Rattle.agreement.specs.Events.{Exit, Sealed, Decided, Quiet, Dropped, exit}
-use Rattle.session_tree.specs.Live.{children_of}
 use Rattle.node_rules.specs.Data.{BranchId, Edge, Kind, Live, Phase}
 use Rattle.node_rules.specs.Data.phases
 use Rattle.node_rules.specs.Data.votes
 use Rattle.node_rules.specs.Words.{same, numbered}
-use Rattle.node_rules.specs.Kept.{Kept, Branch, live_id, live_at, branch_at, work_at, with_work}
+use Rattle.node_rules.specs.Kept.{Kept, live_id, live_at, work_at, with_work}
 use Rattle.node_rules.specs.Prepare.{is_awaited}
 use Rattle.run_laws.specs.Births.{Born, births_of, born_id, born_at}
 use Rattle.run_laws.specs.BirthLaws.{Began, IsChild, StandsBelow, LiveIs}

@@ -1,6 +1,6 @@
 -- What a message that was delivered has done: it came to its receiver in a turn, Prepare leaves no working branch, and an answer to
 -- Prepare leaves no branch that waits for it. (Database Administrator's Guide, "Distributed Transactions Concepts": prepare phase.)
-use Rattle.std.specs.Prelude.{◌≡◌, ◌≢◌, ℕ, Bool, true, false, List, ◌∷◌, ◌++◌, Some}
+use Rattle.std.specs.Prelude.{◌≡◌, ◌≢◌, Bool, true, false, List, ◌∷◌, ◌++◌, Some}
 use Rattle.std.specs.List.{AllByRecursion}
 use Rattle.node_rules.specs.Data.{BranchId, Kind, Live, Msg}
 use Rattle.node_rules.specs.Data.inputs

@@ -1,6 +1,6 @@
 -- Why a live branch below a root leaves in a turn: its seal or its decision is written, it says ReadOnly, or it is dropped: a rollback
 -- reaches it, its parent asks it, or a child says Abort. (Database Administrator's Guide, "Distributed Transactions Concepts": prepare phase.)
-use Rattle.std.specs.Prelude.{◌≡◌, ◌≢◌, ℕ, true, List, Option, Some, None}
+use Rattle.std.specs.Prelude.{◌≡◌, ◌≢◌, true, List, Option, Some, None}
 use Rattle.std.specs.List.{list_any}
 use Rattle.node_rules.specs.Data.{BranchId, Live, Msg, Place, RedoRecord, Sealed, Decided, Input}
 use Rattle.node_rules.specs.Data.kinds

@@ -1,6 +1,6 @@
 -- The definitions of an undisturbed COMMIT and of a complete one, tried on the run of two nodes. In a second run the message is lost that
 -- tells B the commit: all else is as before, and A's call is not answered, and B stays in doubt.
-use Rattle.std.specs.Prelude.{◌≡◌, List, [], ◌∷◌, ◌++◌, take, Some, None}
+use Rattle.std.specs.Prelude.{◌≡◌, List, [], ◌∷◌, ◌++◌, take, None}
 use Rattle.std.specs.List.{AllByRecursion}
 use Rattle.node_rules.specs.Sessions.{session_at}
 use Rattle.node_rules.specs.Data.{BranchId}

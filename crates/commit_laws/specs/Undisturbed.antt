@@ -16,7 +16,7 @@ use Rattle.net_bag.specs.Net.{first_flying}
 use Rattle.run_laws.specs.Births.{Born, born_id, births_from}
 use Rattle.run_laws.specs.Book.{At}
 use Rattle.run_laws.specs.Branches.{is_among}
-use Rattle.run_laws.specs.Data.{Command, Entry, Fate, Finished, Packet, Turn, Happening}
+use Rattle.run_laws.specs.Data.{Command, Entry, Fate, Packet, Turn, Happening}
 use Rattle.run_laws.specs.Data.entries
 use Rattle.run_laws.specs.Data.fates
 use Rattle.run_laws.specs.Data.happenings
