@@ -14,3 +14,5 @@ pub mod LeftLemmas
 pub mod WaitLemmas
 pub mod StillLemmas
 pub mod ReasonRunLemmas
+pub mod OnceStepLemmas
+pub mod OnceLemmas

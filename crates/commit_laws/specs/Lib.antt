@@ -3,4 +3,5 @@ pub mod TriedCommit
 pub mod DeliveryLaws
 pub mod WaitLaws
 pub mod LeaveLaws
+pub mod OnceLaws
 pub mod StillLaws

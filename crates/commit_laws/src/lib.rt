@@ -14,6 +14,7 @@ ghost use Rattle.commit_laws.specs.WaitLaws.{LeftHaveAnswered};
 ghost use Rattle.commit_laws.specs.WaitLaws.{CollectorsWait};
 ghost use Rattle.commit_laws.specs.WaitLaws.{CollectsAreOver};
 ghost use Rattle.commit_laws.specs.LeaveLaws.{LeaversHaveReasons};
+ghost use Rattle.commit_laws.specs.OnceLaws.{PreparesAreSentOnce};
 ghost use Rattle.commit_laws.specs.StillLaws.{UndisturbedMessagesCome};
 ghost use Rattle.commit_laws.specs.StillLaws.{UndisturbedCollectsEnd};
 ghost use Rattle.commit_laws.specs.TriedCommit.{TheTriedCommit};
@@ -63,6 +64,11 @@ pub fn collects_are_over()
 /// of its parent or a child's Abort came.
 pub fn leavers_have_reasons()
     ensures { LeaversHaveReasons }
+{}
+
+/// A branch sent Prepare to another at most once.
+pub fn prepares_are_sent_once()
+    ensures { PreparesAreSentOnce }
 {}
 
 /// Each message of the transaction of an undisturbed COMMIT was delivered.
