@@ -16,3 +16,4 @@ pub mod StillLemmas
 pub mod ReasonRunLemmas
 pub mod OnceStepLemmas
 pub mod OnceLemmas
+pub mod RootLemmas

@@ -35,7 +35,7 @@ pub the_tried_commit : TheTriedCommit
 unfolding digits decimal hex8 kept_after durable_after checked examined written meant_over meant applied stored_by weight step ran_over ran way_of admit reply_of beyond next_on_decision next_on_ack next_on_forgotten turn_of start_of stand_of sent_on delivered lost facts_after facts_of
     rows_of in_doubt births_from
 the_tried_commit = record {
-  commit = record { before = before; call = call; during = drop 10 tried.trace; is = refl; session = 1; comment = None; asks = refl; kept = _; up = refl; root = tried.a; of = refl };
+  commit = record { before = before; call = call; during = drop 10 tried.trace; is = refl; session = 1; comment = None; asks = refl; kept = _; up = refl; root = tried.a; of = refl; live = _; there = refl };
   undisturbed = record {
     goes_on = refl;
     still = refl;
@@ -47,7 +47,7 @@ the_tried_commit = record {
     calm = (refl, (refl, (refl, (refl, (refl, (refl, (refl, (refl, (refl, (refl, (refl, (refl, (refl, (refl, (refl, tt)))))))))))))));
   };
   complete = record { answered = refl; ended = (tt, (tt, ((λ of. (1, 4, refl)), (tt, (tt, tt))))); gone = (refl, (refl, tt)) };
-  lost = record { before = before; call = call; during = drop 10 lost_trace; is = refl; session = 1; comment = None; asks = refl; kept = _; up = refl; root = tried.a; of = refl };
+  lost = record { before = before; call = call; during = drop 10 lost_trace; is = refl; session = 1; comment = None; asks = refl; kept = _; up = refl; root = tried.a; of = refl; live = _; there = refl };
   lost_goes_on = refl;
   lost_still = refl;
   lost_over = refl;

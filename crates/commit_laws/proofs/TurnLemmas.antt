@@ -55,7 +55,7 @@ module _ (c : Option BranchId) (k : Kept) (l : Live) (below : Bool) (so : Served
 
 -- ---- Prepare
 
-none_named : (es : List Edge) → AllByRecursion (Has None) es
+pub none_named : (es : List Edge) → AllByRecursion (Has None) es
 none_named [] = tt
 none_named (e ∷ es) = (tt, none_named es)
 

@@ -26,3 +26,8 @@ DroppedNone t root = (b : Born) → Began (births_of t) b → b.root ≡ root �
 abbrev pub UndisturbedCollectsEnd : Type 0
 UndisturbedCollectsEnd = (t : History) → IsLawfulRun t → (c : Commit t.places t.commands t.trace) → Undisturbed t.places t.commands t.trace c → DroppedNone t c.root
     → (n : ℕ) (k : Kept) → node_at (facts_at t) n ≡ Some k → (l : Live) → live_at k l.me ≡ Some l → l.root ≡ c.root → (below : Bool) → l.phase ≢ phases.Collecting below
+
+-- And its root is live no more, where none below it was dropped.
+abbrev pub UndisturbedRootsLeave : Type 0
+UndisturbedRootsLeave = (t : History) → IsLawfulRun t → (c : Commit t.places t.commands t.trace) → Undisturbed t.places t.commands t.trace c → DroppedNone t c.root
+    → (k : Kept) → node_at (facts_at t) c.root.node ≡ Some k → live_at k c.root ≡ None

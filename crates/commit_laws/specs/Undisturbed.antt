@@ -2,13 +2,13 @@
 -- two-phase commit mechanism, prepare, commit and forget phases.)
 use Rattle.std.specs.Prelude.{◌≡◌, ℕ, ◌==◌, ◌&&◌, Bool, true, false, if◌then◌else◌, List, [], ◌∷◌, ◌++◌, map, filter, option_map, Option, Some, None}
 use Rattle.std.specs.List.{AllByRecursion}
-use Rattle.node_rules.specs.Data.{Answer, BranchId, Kind, Place, Input}
+use Rattle.node_rules.specs.Data.{Answer, BranchId, Kind, Live, Place, Input}
 use Rattle.node_rules.specs.Data.decisions
 use Rattle.node_rules.specs.Data.inputs
 use Rattle.node_rules.specs.Data.kinds
 use Rattle.node_rules.specs.Data.stmts
 use Rattle.node_rules.specs.Inputs.{IsCall}
-use Rattle.node_rules.specs.Kept.{Kept}
+use Rattle.node_rules.specs.Kept.{Kept, live_at}
 use Rattle.node_rules.specs.Sessions.{session_at, commit_complete}
 use Rattle.node_rules.specs.Turn.{Stand, Is_gone, stand_of}
 use Rattle.node_rules.specs.Words.{same}
@@ -28,7 +28,7 @@ use Rattle.run_laws.specs.Trail.{ended_by}
 abbrev pub facts_by : List Place → List Command → List Happening → Facts
 facts_by places asked hs = facts_of places asked (first_facts places) hs
 
--- A COMMIT of the transaction of a root, and what has happened since the turn of its call.
+-- A COMMIT of the transaction of a live root, and what has happened since the turn of its call.
 pub record Commit (places : List Place) (asked : List Command) (trace : List Happening) : Type 0 where
   pub before : List Happening
   pub call : Turn
@@ -41,6 +41,8 @@ pub record Commit (places : List Place) (asked : List Command) (trace : List Hap
   pub up : node_at (facts_by places asked before) call.node ≡ Some kept
   pub root : BranchId
   pub of : (session_at kept.sessions session).root ≡ Some root
+  pub live : Live
+  pub there : live_at kept root ≡ Some live
 
 -- ---- what may disturb it
 

@@ -17,6 +17,7 @@ ghost use Rattle.commit_laws.specs.LeaveLaws.{LeaversHaveReasons};
 ghost use Rattle.commit_laws.specs.OnceLaws.{PreparesAreSentOnce};
 ghost use Rattle.commit_laws.specs.StillLaws.{UndisturbedMessagesCome};
 ghost use Rattle.commit_laws.specs.StillLaws.{UndisturbedCollectsEnd};
+ghost use Rattle.commit_laws.specs.StillLaws.{UndisturbedRootsLeave};
 ghost use Rattle.commit_laws.specs.TriedCommit.{TheTriedCommit};
 
 /// Each message that was delivered came to its receiver in a turn.
@@ -79,6 +80,11 @@ pub fn undisturbed_messages_come()
 /// So none of its branches collects any more, where none below the root was dropped.
 pub fn undisturbed_collects_end()
     ensures { UndisturbedCollectsEnd }
+{}
+
+/// And its root is live no more, where none below it was dropped.
+pub fn undisturbed_roots_leave()
+    ensures { UndisturbedRootsLeave }
 {}
 
 /// No definition of undisturbed COMMITs is about nothing: the COMMIT of the tried run is undisturbed and complete; where a message
