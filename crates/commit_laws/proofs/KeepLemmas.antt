@@ -1,5 +1,5 @@
 -- A live branch that is not working, and waits for no answer of a child, stays so in each step of its node where it stays live.
-use Rattle.std.proofs.Common.{◌≡◌, ◌≢◌, ℕ, Bool, false, List, [], ◌∷◌, map, Option, Some, None, refl, sym, ap, subst, ◌∙◌}
+use Rattle.std.proofs.Common.{◌≡◌, ◌≢◌, ℕ, Bool, false, List, [], ◌∷◌, map, Option, Some, None, refl, sym, ap, ◌∙◌}
 use Rattle.std.specs.List.{AllByRecursion}
 use Rattle.std.proofs.lemmas.Bool.{cond_both}
 use Rattle.commit_forget.specs.declared.next.Next.TheVariants as nexts
@@ -7,25 +7,20 @@ use Rattle.session_tree.specs.Live.{new_edge}
 use Rattle.node_rules.specs.Data.{Live, Act, BranchId, Edge, Kind, Vote, Place, Input, Stmt}
 use Rattle.node_rules.specs.Data.acts
 use Rattle.node_rules.specs.Data.phases
-use Rattle.node_rules.specs.Data.stmts
 use Rattle.node_rules.specs.Data.votes
-use Rattle.node_rules.specs.Data.inputs
-use Rattle.node_rules.specs.declared.session.PendingCall.TheVariants as pending
 use Rattle.node_rules.specs.Words.{numbered, set_numbered}
-use Rattle.node_rules.specs.Inputs.{IsCall}
 use Rattle.node_rules.specs.Kept.{Kept, Branch, Deed, live_id, live_at, branch_at}
-use Rattle.node_rules.specs.Sessions.{session_at, with_call}
 use Rattle.node_rules.specs.Statement.{ran, after_run}
 use Rattle.node_rules.specs.Calls.{with_edge, hears_reply}
-use Rattle.node_rules.specs.Client.{begun_by}
 use Rattle.node_rules.specs.Prepare.{ready, voted, has_voted, answers_first, is_awaited, act_turn}
 use Rattle.node_rules.proofs.Steps as steps
 use Rattle.node_rules.proofs.Steps.{Step, Asked, Acting, Collects, HasRoot, IsOfRows, vote_kind}
-use Rattle.node_rules.proofs.StandLemmas.{live_so, call_set}
+use Rattle.node_rules.proofs.StandLemmas.{live_so}
 use Rattle.run_laws.proofs.ListLemmas.{all_weaker, all_append, all_map}
 use Rattle.run_laws.proofs.NeighborLemmas.{News, reply_is}
 use Rattle.run_laws.proofs.NeighborStepLemmas.{begun_news, pends_news, lets_news, acked_news}
 use Rattle.run_laws.proofs.OwnLemmas.{all_found, all_with, all_without, all_last}
+use Rattle.commit_laws.proofs.CommitCallLemmas.{OfCommit, begun_commit, pends_commit}
 use Rattle.commit_laws.proofs.NetLemmas.{numbered_all, set_all}
 
 -- no answer of a child is waited for, where one is named
@@ -77,21 +72,7 @@ module _ (b : BranchId) (c : Option BranchId) (p : Place) (input : Input) where
 
   -- no COMMIT comes to the branch
   abbrev pub CallsOther : Kept → Type 0
-  CallsOther k = (n : ℕ) (given : Option (List ℕ)) (l : Live) → IsCall input n (stmts.Commit given) → HasRoot k n l.me → live_at k l.me ≡ Some l → l.me ≢ b
-
-  one_call : (n m : ℕ) (s t : Stmt) → IsCall input n s → IsCall input m t → (n ≡ m) × (s ≡ t)
-  one_call n m s t first second = let it : inputs.Call n (Some s) ≡ inputs.Call m (Some t) = sym first ∙ second in (cc, cc)
-
-  begun_other : (k : Kept) (n : ℕ) (s : Stmt) → IsCall input n s → IsOfRows s → CallsOther (begun_by p k n None)
-  begun_other k n s call rows m given l commit has live =
-      let it : s ≡ stmts.Commit given = (one_call n m s (stmts.Commit given) call commit).1 in absurd (subst IsOfRows it rows)
-
-  pends_other : (k : Kept) (n : ℕ) (l : Live) (given : Option (List ℕ)) → IsCall input n (stmts.Commit given) → HasRoot k n l.me → CallsOther k → CallsOther (record k { sessions = with_call k.sessions n pending.Commit })
-  pends_other k n l given call root other m more x commit has live =
-      let it : n ≡ m = (one_call n m (stmts.Commit given) (stmts.Commit more) call commit).0 in
-      let same_root : (session_at (with_call k.sessions n pending.Commit) n).root ≡ (session_at k.sessions n).root = ap (λ s. s.root) (call_set k.sessions n l.me pending.Commit root) in
-      let at : (session_at (with_call k.sessions n pending.Commit) n).root ≡ Some x.me = subst (λ i. (session_at (with_call k.sessions n pending.Commit) i).root ≡ Some x.me) (sym it) has in
-      other n given x call (sym same_root ∙ at) live
+  CallsOther k = OfCommit (λ l. l.me ≢ b) p input k
 
   module _ (k : Kept) (now : AllServed k) where
     found : (x : Branch) → branch_at k x.live.me ≡ Some x → IfMe x.live
@@ -131,8 +112,8 @@ module _ (b : BranchId) (c : Option BranchId) (p : Place) (input : Input) where
 
   pub served_on : {k : Kept} {d : Deed} → Step p input k d → News (λ y. y.me ≢ b) p input k → CallsOther k → AllServed k → AllServed d.after
   served_on (steps.Begins {k = k} n s call rows range free step) news other now =
-      served_on step (begun_news (λ y. y.me ≢ b) p input k n news) (begun_other k n s call rows) (all_last IfMe live_id k.lives _ now (λ is. absurd (news.root n s call rows free is)))
-  served_on (steps.Pends {k = k} n l given call has live code step) news other now = served_on step (pends_news (λ y. y.me ≢ b) p input k n given call news) (pends_other k n l given call has other) now
+      served_on step (begun_news (λ y. y.me ≢ b) p input k n news) (begun_commit (λ l. l.me ≢ b) p input k n s call rows) (all_last IfMe live_id k.lives _ now (λ is. absurd (news.root n s call rows free is)))
+  served_on (steps.Pends {k = k} n l given call has live code step) news other now = served_on step (pends_news (λ y. y.me ≢ b) p input k n given call news) (pends_commit (λ l. l.me ≢ b) p input k n l given call has other) now
   served_on (steps.Lets_reads_go {k = k} l comment below live begins step) news other now = served_on step (lets_news (λ y. y.me ≢ b) p input k l.me news) other now
   served_on (steps.Counts_ack {k = k} s from kept came counts step) news other now = served_on step (acked_news (λ y. y.me ≢ b) p input k _ news) other now
   served_on (steps.Runs {k = k} x s given t asked way) news other now =

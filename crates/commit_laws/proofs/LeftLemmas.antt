@@ -8,7 +8,7 @@ use Rattle.std.proofs.lemmas.List.Folds.{list_any-append}
 use Rattle.tran_ids.proofs.BranchLemmas.{equal_from_same, same_from_equal}
 use Rattle.tran_ids.proofs.ListedLemmas.{item_is}
 use Rattle.agreement.specs.Events.{Event, Exit, Sealed, Decided, Quiet, Dropped, exit}
-use Rattle.node_rules.specs.Data.{BranchId, Kind, Live, Msg, Place, Post, RedoRecord}
+use Rattle.node_rules.specs.Data.{BranchId, Kind, Live, Msg, Place, RedoRecord}
 use Rattle.node_rules.specs.Data.kinds
 use Rattle.node_rules.specs.Data.records
 use Rattle.node_rules.specs.Words.{same}
@@ -47,6 +47,7 @@ use Rattle.site_laws.proofs.TimeLemmas.{Part, part_on, part_of, part_lawful, may
 use Rattle.commit_laws.specs.DeliveryLaws.{is_answer}
 use Rattle.commit_laws.specs.WaitLaws.{HasStopped, LeftHaveAnswered}
 use Rattle.commit_laws.proofs.ReadyLemmas.{ready_have_answered}
+use Rattle.commit_laws.proofs.ReasonLemmas.{is_quiet_post}
 use Rattle.commit_laws.proofs.SealSayLemmas.{SaysSeal, seal_says, WasReady, decides_ready, seals_answer}
 
 -- ---- an answer goes to the parent
@@ -67,10 +68,6 @@ three true true true e i j k = refl
 three true true false e i j k = absurd cc
 three true false d e i j k = absurd cc
 three false b d e i j k = absurd cc
-
--- whether a message is ReadOnly of this branch
-abbrev is_quiet_post : BranchId → Post → Bool
-is_quiet_post c m = same m.from c && is_read_only m.kind
 
 any_posts : (c : BranchId) (ms : List Msg) → list_any (is_quiet c) ms ≡ list_any (is_quiet_post c) (map post_of ms)
 any_posts c [] = refl

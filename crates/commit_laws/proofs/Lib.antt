@@ -1,5 +1,6 @@
 mod TriedCommitLemmas
 pub mod NetLemmas
+pub mod CommitCallLemmas
 pub mod KeepLemmas
 pub mod TurnLemmas
 pub mod ReadyStepLemmas

@@ -1,15 +1,12 @@
 -- In every lawful run a branch sent Prepare to another at most once.
-use Rattle.std.proofs.Common.{◌≡◌, ◌≢◌, ℕ, ◌+◌, ◌<◌, ◌≤◌, ◌&&◌, ◌||◌, Bool, true, false, if◌then◌else◌, List, [], ◌∷◌, ◌++◌, map, Option, Some, None, inl, inr, refl, sym, ap, subst, ◌∙◌, arith, append-nil}
+use Rattle.std.proofs.Common.{◌≡◌, ℕ, ◌+◌, ◌<◌, ◌≤◌, ◌&&◌, ◌||◌, Bool, true, false, if◌then◌else◌, List, [], ◌∷◌, ◌++◌, map, Option, Some, inl, inr, refl, sym, ap, subst, ◌∙◌, arith, append-nil}
 use Rattle.std.specs.Prelude.{◌⊎◌}
-use Rattle.std.specs.List.{AllByRecursion}
 use Rattle.std.proofs.lemmas.Bool.{and_parts}
 use Rattle.tran_ids.proofs.BranchLemmas.{equal_from_same}
 use Rattle.node_rules.specs.Data.{BranchId, Edge, Kind, Live, Place, Post}
-use Rattle.node_rules.specs.Data.phases
 use Rattle.node_rules.specs.Data.stmts
-use Rattle.node_rules.specs.Inputs.{IsCall}
 use Rattle.node_rules.specs.Words.{same, item_at}
-use Rattle.node_rules.specs.Kept.{Kept, Branch, Deed, live_id, live_at, branch_at, work_at, with_work}
+use Rattle.node_rules.specs.Kept.{Kept, Deed, live_id, live_at, branch_at, work_at, with_work}
 use Rattle.node_rules.specs.Prepare.{prepares, with_prepare_sent}
 use Rattle.node_rules.specs.Turn.{turn_of, heard, deed_of}
 use Rattle.node_rules.proofs.Steps.{HasRoot}
@@ -18,10 +15,10 @@ use Rattle.run_laws.specs.BirthLaws.{Began, ChildrenAre, LiveIs}
 use Rattle.run_laws.specs.CallLaws.{ComesAtRest}
 use Rattle.run_laws.specs.Data.{Turn, Happening}
 use Rattle.run_laws.specs.Data.happenings
-use Rattle.run_laws.specs.Facts.{Facts, first_facts, place_at, node_at, facts_after, facts_of}
+use Rattle.run_laws.specs.Facts.{Facts, first_facts, place_at, facts_of}
 use Rattle.run_laws.specs.FreezeLaws.{was_asked}
 use Rattle.run_laws.specs.InTurnLaws.{post_of, said_in}
-use Rattle.run_laws.specs.Lawful.{IsOwed, MayHappen, MayTurn, History, IsLawfulRun, facts_at}
+use Rattle.run_laws.specs.Lawful.{IsOwed, MayHappen, MayTurn, History, IsLawfulRun}
 use Rattle.run_laws.specs.NodeLaws.{EachFactFrom}
 use Rattle.run_laws.specs.Trail.{is_prepare}
 use Rattle.run_laws.proofs.BirthRunLemmas.{nodes_name_the_born}

@@ -1,33 +1,27 @@
 -- Which steps of a node say Prepare: those in which the collect of a working branch with children begins.
-use Rattle.std.proofs.Common.{◌≡◌, ◌≢◌, ℕ, ◌+◌, ◌-◌, Bool, true, false, List, [], ◌∷◌, ◌++◌, map, length, Option, Some, None, inl, inr, refl, sym, ap, subst, ◌∙◌}
+use Rattle.std.proofs.Common.{◌≡◌, ℕ, ◌+◌, ◌-◌, Bool, List, map, length, Option, Some, None, inl, inr, refl, subst}
 use Rattle.std.specs.Prelude.{◌⊎◌}
 use Rattle.commit_forget.specs.declared.next.Next.TheVariants as nexts
 use Rattle.session_tree.specs.Live.{children_of, peer_of, new_edge}
 use Rattle.session_tree.specs.Tree.{step as step_from}
 use Rattle.node_rules.specs.Data.{Answer, Stmt, BranchId, Live, Act, Post, Place, Input}
 use Rattle.node_rules.specs.Data.acts
-use Rattle.node_rules.specs.Data.inputs
 use Rattle.node_rules.specs.Data.kinds
 use Rattle.node_rules.specs.Data.phases
-use Rattle.node_rules.specs.Data.stmts
-use Rattle.node_rules.specs.declared.session.PendingCall.TheVariants as pending
 use Rattle.node_rules.specs.declared.session.Session.{Session}
-use Rattle.node_rules.specs.Inputs.{IsCall}
-use Rattle.node_rules.specs.Kept.{Kept, Branch, Deed, live_at, post, to_one, to_each}
-use Rattle.node_rules.specs.Sessions.{session_at, with_call}
+use Rattle.node_rules.specs.Kept.{Kept, Branch, Deed, live_at, to_one, to_each}
 use Rattle.node_rules.specs.Calls.{answer_says, exec_to, with_edge, hears_reply}
 use Rattle.node_rules.specs.Statement.{ran, after_run}
-use Rattle.node_rules.specs.Client.{begun_by}
 use Rattle.node_rules.specs.Prepare.{path_of, with_prepare_sent, collecting, with_comment, prepares, site_neighbors, act_turn}
 use Rattle.node_rules.specs.Recovery.{kept_told}
 use Rattle.node_rules.proofs.Steps as steps
 use Rattle.node_rules.proofs.Steps.{Step, Acting, Collects, Collected, Pointed, Says, HasRoot, IsOfRows}
-use Rattle.node_rules.proofs.StandLemmas.{call_set}
 use Rattle.run_laws.proofs.FreezeLemmas.{IsPlain, plain_decisions, no_ask}
 use Rattle.run_laws.proofs.KindSayLemmas.{AllSay, one_says, each_says, told_says, passes_say, askings_say}
 use Rattle.run_laws.proofs.ListLemmas.{all_append}
 use Rattle.run_laws.proofs.QuietLemmas.{NoRows, acting_apart}
 use Rattle.tree_laws.proofs.WhyLemmas.{Near}
+use Rattle.commit_laws.proofs.CommitCallLemmas.{OfCommit, begun_commit, pends_commit}
 
 -- ---- messages that are no Prepare
 
@@ -64,20 +58,7 @@ pub record AsksDown (k0 : Kept) (says : List Post) : Type 0 where
 module _ (k0 : Kept) (p : Place) (input : Input) where
   -- COMMIT finds its root working
   abbrev pub FindsWork : Kept → Type 0
-  FindsWork k = (n : ℕ) (given : Option (List ℕ)) (l : Live) → IsCall input n (stmts.Commit given) → HasRoot k n l.me → live_at k l.me ≡ Some l → l.phase ≡ phases.Working
-
-  one_call : (n m : ℕ) (s t : Stmt) → IsCall input n s → IsCall input m t → (n ≡ m) × (s ≡ t)
-  one_call n m s t first second = let it : inputs.Call n (Some s) ≡ inputs.Call m (Some t) = sym first ∙ second in (cc, cc)
-
-  begun_work : (k : Kept) (n : ℕ) (s : Stmt) → IsCall input n s → IsOfRows s → FindsWork (begun_by p k n None)
-  begun_work k n s call rows m given l commit has live = let it : s ≡ stmts.Commit given = (one_call n m s (stmts.Commit given) call commit).1 in absurd (subst IsOfRows it rows)
-
-  pends_work : (k : Kept) (n : ℕ) (l : Live) (given : Option (List ℕ)) → IsCall input n (stmts.Commit given) → HasRoot k n l.me → FindsWork k → FindsWork (record k { sessions = with_call k.sessions n pending.Commit })
-  pends_work k n l given call root work m more x commit has live =
-      let it : n ≡ m = (one_call n m (stmts.Commit given) (stmts.Commit more) call commit).0 in
-      let same_root : (session_at (with_call k.sessions n pending.Commit) n).root ≡ (session_at k.sessions n).root = ap (λ s. s.root) (call_set k.sessions n l.me pending.Commit root) in
-      let at : (session_at (with_call k.sessions n pending.Commit) n).root ≡ Some x.me = subst (λ i. (session_at (with_call k.sessions n pending.Commit) i).root ≡ Some x.me) (sym it) has in
-      work n given x call (sym same_root ∙ at) live
+  FindsWork k = OfCommit (λ l. l.phase ≡ phases.Working) p input k
 
   abbrev pub Asks : List Post → Type 0
   Asks says = AllSay IsPlain says ⊎ AsksDown k0 says
@@ -111,8 +92,8 @@ module _ (k0 : Kept) (p : Place) (input : Input) where
     acts_ask {l = l} acts.Abandon why = inl (all_append (λ x. IsPlain x.kind) (to_one l.me kinds.Abort l.parent) _ (one_says IsPlain l.me kinds.Abort l.parent refl) (rolled_plain l))
 
   pub asks_on : {k : Kept} {d : Deed} → Step p input k d → (NoRows input → Near k0 k) → FindsWork k → Asks d.says
-  asks_on (steps.Begins {k = k} n s call rows range none step) near work = asks_on step (λ apart. absurd (apart n s call rows)) (begun_work k n s call rows)
-  asks_on (steps.Pends {k = k} n l given call has live code step) near work = asks_on step (λ apart. (let is = near apart in record { lives = is.lives; clock = is.clock })) (pends_work k n l given call has work)
+  asks_on (steps.Begins {k = k} n s call rows range none step) near work = asks_on step (λ apart. absurd (apart n s call rows)) (begun_commit (λ l. l.phase ≡ phases.Working) p input k n s call rows)
+  asks_on (steps.Pends {k = k} n l given call has live code step) near work = asks_on step (λ apart. (let is = near apart in record { lives = is.lives; clock = is.clock })) (pends_commit (λ l. l.phase ≡ phases.Working) p input k n l given call has work)
   asks_on (steps.Lets_reads_go {k = k} l comment b live begins step) near work = asks_on step (λ apart. (let is = near apart in record { lives = is.lives; clock = is.clock })) work
   asks_on (steps.Counts_ack {k = k} s from kept came counts step) near work = asks_on step (λ apart. (let is = near apart in record { lives = is.lives; clock = is.clock })) work
   asks_on (steps.Sends says why) near work = inl (says_plain why)

@@ -1,16 +1,16 @@
 -- In every lawful run the root of an undisturbed COMMIT is live no more when nothing is in flight, where no branch below it was dropped.
-use Rattle.std.proofs.Common.{◌≡◌, ◌≢◌, ℕ, Bool, true, false, List, [], ◌∷◌, ◌++◌, unwrap_or, Option, Some, None, refl, sym, ap, subst, ◌∙◌}
+use Rattle.std.proofs.Common.{◌≡◌, ℕ, true, List, [], ◌∷◌, ◌++◌, unwrap_or, Option, Some, None, refl, sym, ap, subst, ◌∙◌}
 use Rattle.std.proofs.lemmas.List.{append_assoc}
 use Rattle.tran_ids.proofs.ListedLemmas.{item_is}
-use Rattle.node_rules.specs.Data.{BranchId, Live, Phase, Place, Input}
+use Rattle.node_rules.specs.Data.{BranchId, Live, Phase, Input}
 use Rattle.node_rules.specs.Data.inputs
 use Rattle.node_rules.specs.Data.phases
 use Rattle.node_rules.specs.Data.stmts
 use Rattle.node_rules.specs.declared.session.PendingCall.TheVariants as pending
 use Rattle.node_rules.specs.Client.{root_by, root_at, commit_by}
-use Rattle.node_rules.specs.Kept.{Kept, Branch, Deed, live_id, live_at, branch_at, work_at, with_work}
+use Rattle.node_rules.specs.Kept.{Kept, Branch, Deed, live_id, live_at, work_at, with_work}
 use Rattle.node_rules.specs.Prepare.{collecting, with_comment, without_read_keys, first_act}
-use Rattle.node_rules.specs.Sessions.{session_at, with_call}
+use Rattle.node_rules.specs.Sessions.{with_call}
 use Rattle.node_rules.specs.Turn.{turn_of, deed_of}
 use Rattle.run_laws.specs.Births.{Born, births_of, born_id, born_at}
 use Rattle.run_laws.specs.BirthLaws.{Began, LiveIs, StandsBelow}
