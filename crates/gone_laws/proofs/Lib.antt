@@ -1,0 +1,3 @@
+pub mod WellLemmas
+pub mod WellStepLemmas
+pub mod WellRunLemmas
