@@ -4,7 +4,7 @@ use Rattle.std.specs.Prelude.{IfSome}
 use Rattle.std.specs.List.{AllByRecursion}
 use Rattle.tran_ids.proofs.ListedLemmas.{item_is}
 use Rattle.tran_ids.proofs.NumberedLemmas.{set_or_before}
-use Rattle.node_rules.specs.Data.{Answer, BranchId, Kind, Live, Post, Place, Input, RedoRecord}
+use Rattle.node_rules.specs.Data.{Answer, BranchId, Kind, Live, Msg, Post, Place, Input, RedoRecord}
 use Rattle.node_rules.specs.Data.inputs
 use Rattle.node_rules.specs.Data.kinds
 use Rattle.node_rules.specs.declared.work.Work.{Work}
@@ -16,7 +16,7 @@ use Rattle.node_rules.specs.Sessions.{session_at}
 use Rattle.node_rules.specs.Turn.{turn_of, start_of, made, heard, deed_of}
 use Rattle.node_rules.specs.LiveBranches.{EachLive}
 use Rattle.node_rules.proofs.LiveLemmas.{each_same, none_live, branch_parts}
-use Rattle.agreement.specs.Events.{Event}
+use Rattle.agreement.specs.Events.{Event, exit}
 use Rattle.run_laws.specs.Births.{Born, births_after}
 use Rattle.run_laws.specs.Data.{Packet, Turn, Happening, Command}
 use Rattle.run_laws.specs.Data.happenings
@@ -32,12 +32,13 @@ use Rattle.run_laws.proofs.EventsStandLemmas.{first_node}
 use Rattle.run_laws.proofs.InTurnRunLemmas as calls
 use Rattle.run_laws.proofs.InTurnRunLemmas.{CallsStand, heard_calls, calls_stand_on, first_calls}
 use Rattle.run_laws.proofs.ListLemmas.{all_weaker}
+use Rattle.run_laws.proofs.OwnLemmas.{all_found}
 use Rattle.run_laws.proofs.RestLemmas.{live_root}
 use Rattle.run_laws.proofs.RestRunLemmas.{NodeRests, heard_rests, RootsStand, turned, roots_stand_on, first_rests}
 use Rattle.run_laws.proofs.SaidPostLemmas.{posts_back, posts_of, said_after}
 use Rattle.run_laws.proofs.TurnEventLemmas.{cases_nat}
 use Rattle.gone_laws.specs.GoneLaws.{ToldWell, HoldsWell, CallsWell, BranchesHoldWell, CallsFollowAnswers}
-use Rattle.gone_laws.proofs.WellLemmas.{well_low, well_split, held_more}
+use Rattle.gone_laws.proofs.WellLemmas.{QuietOf, well_low, well_split, held_more}
 use Rattle.gone_laws.proofs.WellStepLemmas.{wells_on}
 
 -- ---- messages that came
@@ -160,7 +161,7 @@ module _ (places : List Place) (asked : List Command) (each : (n : ℕ) (p : Pla
       before : EachLive (λ l w. HoldsWell said (l.parent ≡ None → May l.me) l.me l.edges w) k.lives k.works
       before = each_same (WellOf said k) _ k.lives k.works olds (λ y v live any is. record { held = λ goes. is.held (goes_before y.me y live goes); kept = is.kept; first = is.first })
 
-      done : EachLive (λ l w. HoldsWell more (l.parent ≡ None → May l.me) l.me l.edges w) d.after.lives d.after.works × CallsWell more
+      done : EachLive (λ l w. HoldsWell more (l.parent ≡ None → May l.me) l.me l.edges w) d.after.lives d.after.works × CallsWell more × ((b : BranchId) → item_at live_id d.after.lives b ≡ None → QuietOf d.says b)
       done =
           wells_on _ _ May (calls.Here places asked each f t bs stand roots turns u k may) u.input said (calls.received places asked each f t bs stand roots turns u k may) welled p (λ b is. is)
           (calls.step places asked each f t bs stand roots turns u k may) (calls.granted places asked each f t bs stand roots turns u k may) (heard_rests k u.input rests).0 (calls.news places asked each f t bs stand roots turns u k may)
@@ -207,7 +208,36 @@ module _ (places : List Place) (asked : List Command) (each : (n : ℕ) (p : Pla
             ]);
           }
 
+      -- who answers so in it is live after it
+      turn_tells : (cut : Bool) → u.cut ≡ cut → IsOwed p k u.input u.wrote u.sent cut → (b : BranchId) (number : ℕ) (v : Option ℕ) → ToldWell (map post_of u.sent) b number v → exit (events_after places asked f (happenings.Turn u) t) b ≡ None
+      unfolding turn_of
+      turn_tells true cut owed b number v tells = absurd (subst (λ (ms : List Msg). ToldWell (map post_of ms) b number v) owed.1 tells)
+      turn_tells false cut owed b number v tells = by (item_at live_id d.after.lives b) refl
+        where
+          new : ToldWell d.says b number v
+          new = subst (λ xs. ToldWell xs b number v) (ap (λ xs. map post_of xs) owed.1 ∙ posts_back d.after.clock d.says) tells
+
+          all : AllByRecursion (λ l. exit (events_after places asked f (happenings.Turn u) t) l.me ≡ None) d.after.lives
+          all =
+              subst (λ o. IfSome o (λ x. AllByRecursion (λ l. exit (events_after places asked f (happenings.Turn u) t) l.me ≡ None) x.lives)) (here_after ∙ ap (λ c. kept_after c (Some (turn_of p k u.input))) cut)
+              ((stand_born_on places asked each f t bs (happenings.Turn u) stand (k, may)).0.1.lives u.node)
+
+          by : (o : Option Live) → item_at live_id d.after.lives b ≡ o → exit (events_after places asked f (happenings.Turn u) t) b ≡ None
+          by None none = absurd (done.2 b none number v new)
+          by (Some l) at =
+              subst (λ c. exit (events_after places asked f (happenings.Turn u) t) c ≡ None) (item_is live_id d.after.lives b l at)
+              (all_found (λ (y : Live). exit (events_after places asked f (happenings.Turn u) t) y.me ≡ None) live_id d.after.lives b l all at)
+
     -- ---- every happening
+
+    pub tells_live : (h : Happening) → MayHappen places asked f h → (b : BranchId) (number : ℕ) (v : Option ℕ) → ToldWell (posts_of h) b number v → exit (events_after places asked f h t) b ≡ None
+    tells_live (happenings.Turn u) may b number v tells = turn_tells u may.0 may.1 u.cut refl may.1.owed b number v tells
+    tells_live (happenings.Stopped m) may b number v tells = absurd tells
+    tells_live (happenings.Started m boot) may b number v tells = absurd tells
+    tells_live (happenings.Begun c) may b number v tells = absurd tells
+    tells_live (happenings.Cut x y) may b number v tells = absurd tells
+    tells_live (happenings.Join x y) may b number v tells = absurd tells
+    tells_live (happenings.Lost m) may b number v tells = absurd tells
 
     start_well : (ms : List Post) (zs : List RedoRecord) → NodeWell ms (start_of zs)
     unfolding start_of
@@ -263,7 +293,7 @@ module _ (places : List Place) (asked : List Command) (each : (n : ℕ) (p : Pla
       (roots_stand_on places asked each f t bs stand roots h lawful.0) (calls_stand_on places asked each f t bs stand roots turns h lawful.0) (well_on f t bs stand roots turns now h lawful.0) lawful.1
 
 -- at the end of every run
-run_well : (t : History) → IsLawfulRun t → WellStand (facts_at t)
+pub run_well : (t : History) → IsLawfulRun t → WellStand (facts_at t)
 run_well t lawful =
     well_keep t.places t.commands t.of_a_script.each (first_facts t.places) t.trace [] [] (stand_born_first t.places t.commands t.of_a_script.each)
     (first_rests t.places t.commands t.of_a_script.each) (first_calls t.places t.commands t.of_a_script.each) (first_well t.places t.commands t.of_a_script.each) lawful

@@ -52,15 +52,7 @@ use Rattle.run_laws.proofs.TurnEventLemmas.{cases_nat}
 use Rattle.tree_laws.proofs.HoldLemmas.{none_here, some_going, given_code}
 use Rattle.gone_laws.specs.GoneLaws.{ToldWell, HasGone, HoldsWell, CallsWell}
 use Rattle.gone_laws.proofs.WellLemmas.{well_split, well_more, well_low, IsIdle, idle_decisions, QuietOf, idle_quiet, other_quiet, NoExec, idle_execs, calls_stay, stays_well, Well, WellBut, called_well, opened_well, heard_well, no_call}
-
--- a gone branch is not live
-gone_by : (k : Kept) (b : BranchId) (o : Option Live) → live_at k b ≡ o → live_or (with_work k o) (standing_at k b) ≡ Is_gone → o ≡ None
-gone_by k b None is gone = refl
-gone_by k b (Some l) is gone = absurd cc
-
-gone_live : (k : Kept) (b : BranchId) → stand_of k b ≡ Is_gone → live_at k b ≡ None
-unfolding stand_of
-gone_live k b gone = gone_by k b (live_at k b) refl gone
+use Rattle.gone_laws.proofs.WellDeedLemmas as deed
 
 -- ---- the code of a root that hears such a refusal
 
@@ -98,188 +90,35 @@ edge_there es i c at = by (numbered es i) refl (sym (numbered_map es i) ∙ at)
     by None is some = absurd cc
     by (Some e) is some = (e, is, (let it : Some e.peer ≡ Some c = some in cc))
 
-numbered_back : (f : Edge → Edge) (es : List Edge) (i : ℕ) (y : Edge) → numbered (map f es) i ≡ Some y → (e : Edge) × (numbered es i ≡ Some e) × (f e ≡ y)
-numbered_back f es zero y at = absurd cc
-numbered_back f [] (suc i) y at = absurd cc
-numbered_back f (e ∷ es) (suc zero) y at = let it : Some (f e) ≡ Some y = at in (e, refl, (let here : f e ≡ y = cc in here))
-numbered_back f (e ∷ es) (suc (suc i)) y at = numbered_back f es (suc i) y at
-
 module _ (E : BranchId → Option ℕ) (A : BranchId → Option BranchId) (G Here : BranchId → Type 0) (input : Input) (said : List Post) (received : turns.Received E A G Here input said) where
   abbrev Begun : Live → Work → Type 0
-  Begun = turns.Begun E A G Here input said
+  Begun = deed.Begun E A G Here input said received
 
   abbrev Nodes : Kept → Type 0
-  Nodes k = EachLive Begun k.lives k.works
+  Nodes = deed.Nodes E A G Here input said received
 
   abbrev FreeOf : Branch → Type 0
-  FreeOf = turns.FreeOf E A G Here input said
+  FreeOf = deed.FreeOf E A G Here input said received
 
   abbrev Goes : Live → Type 0
-  Goes l = l.parent ≡ None → G l.me
+  Goes = deed.Goes E A G Here input said received
 
-  abbrev pub Old : Live → Work → Type 0
-  Old l w = HoldsWell said (Goes l) l.me l.edges w
+  abbrev Old : Live → Work → Type 0
+  Old = deed.Old E A G Here input said received
 
-  abbrev pub Olds : Kept → Type 0
-  Olds k = EachLive Old k.lives k.works
+  abbrev Olds : Kept → Type 0
+  Olds = deed.Olds E A G Here input said received
 
-  abbrev pub Then : List Post → Live → Work → Type 0
-  Then says l w = HoldsWell (said ++ says) (Goes l) l.me l.edges w
+  abbrev Then : List Post → Live → Work → Type 0
+  Then = deed.Then E A G Here input said received
 
-  -- what a step leaves
+  abbrev All : List Post → List Live → List Work → Type 0
+  All = deed.All E A G Here input said received
+
   abbrev pub Leaves : Deed → Type 0
-  Leaves d = EachLive (Then d.says) d.after.lives d.after.works × CallsWell (said ++ d.says)
-
-  -- a branch that begins
-  fresh_well : (says : List Post) (l : Live) (w : Work) → l.edges ≡ [] → w.came.reply ≡ None → HoldsWell says (Goes l) l.me l.edges w
-  fresh_well says l w none unanswered = record {
-    held = λ goes i e at. absurd (none_here i e (subst (λ (es : List Edge). numbered es i ≡ Some e) none at));
-    kept = λ gone v tells. (let some = gone.1 in absurd (cc (some, unanswered)));
-    first = λ last. unanswered;
-  }
-
-  -- edges with the same children and weights
-  mapped : (f : Edge → Edge) → ((e : Edge) → ((f e).peer ≡ e.peer) × ((f e).weight ≡ e.weight)) → (l : Live) (w : Work) → Old l w → HoldsWell said (Goes l) l.me (map f l.edges) w
-  mapped f same_so l w is = record {
-    held = λ goes i y at. (let b = numbered_back f l.edges i y at in subst (λ (z : Edge). WaitsFor i w.going ⊎ (ToldWell said z.peer (call_at w i) z.weight ⊎ HasGone w)) b.2
-        (elim (is.held goes i b.0 b.1) [
-          | inl waits ↦ inl waits
-          | inr told ↦ elim told [ inl well ↦ inr (inl (subst₂ (λ c v. ToldWell said c (call_at w i) v) (sym (same_so b.0).0) (sym (same_so b.0).1) well)) | inr gone ↦ inr (inr gone) ]
-        ]));
-    kept = is.kept;
-    first = is.first;
-  }
-
-  -- ---- what becomes of the branches
+  Leaves = deed.Leaves E A G Here input said received
 
   module _ (k : Kept) (calls : CallsWell said) (now : Olds k) where
-    stay : (says : List Post) (y : Live) (v : Work) → QuietOf says y.me → Old y v → Then says y v
-    stay says y v quiet is = stays_well said says (Goes y) y.me y.edges v quiet is
-
-    quiet : (says : List Post) → AllSay IsIdle says → EachLive (Then says) k.lives k.works × CallsWell (said ++ says)
-    quiet says idle = (each_same Old (Then says) k.lives k.works now (λ y v live any is. stay says y v (idle_quiet says y.me idle) is), calls_stay said says (idle_execs says idle) calls)
-
-    left : (b : BranchId) (says : List Post) → AllSay IsIdle says → EachLive (Then says) (drop_item live_id k.lives b) (drop_item work_id k.works b) × CallsWell (said ++ says)
-    left b says idle = (each_left Old (Then says) k.lives k.works now b (λ y v live other is. stay says y v (idle_quiet says y.me idle) is), calls_stay said says (idle_execs says idle) calls)
-
-    begun : (says : List Post) → AllSay IsIdle says → (l : Live) → l.edges ≡ [] → EachLive (Then says) (k.lives ++ l ∷ []) k.works × CallsWell (said ++ says)
-    begun says idle l none =
-        (each_begun Old (Then says) k.lives k.works now l (fresh_well (said ++ says) l (no_work l.me) none refl) (λ y v live any is. stay says y v (idle_quiet says y.me idle) is), calls_stay said says (idle_execs says idle) calls)
-
-    put : (says : List Post) (l : Live) (w : Work) → w.branch ≡ l.me → ((b : BranchId) → same l.me b ≡ false → QuietOf says b) → Then says l w → EachLive (Then says) (put_item live_id k.lives l) (put_item work_id k.works w)
-    put says l w mine others is = each_put Old (Then says) k.lives k.works now l w mine is (λ y v live other so. stay says y v (others y.me other) so)
-
-    -- ---- a branch answers
-
-    answer_quiet : (x : Branch) (a : Answer) (o : Option BranchId) (b : BranchId) → same x.live.me b ≡ false → QuietOf (answer_says x a o) b
-    answer_quiet x a None b other n v is = is
-    answer_quiet x a (Some parent) b other n v is = other_quiet x.live.me parent b (kinds.Reply x.work.came.last_call (reply_fields x.live a).weight (reply_fields x.live a).count (reply_fields x.live a).result) other n v is
-
-    answer_execs : (x : Branch) (a : Answer) (o : Option BranchId) → NoExec (answer_says x a o)
-    answer_execs x a None b c = refl
-    answer_execs x a (Some parent) b c = by (same x.live.me b && same parent c)
-      where
-        by : (q : Bool) → (if q then max 0 0 else 0) ≡ 0
-        by true = refl
-        by false = refl
-
-    answers_by : (x : Branch) (a : Answer) → x.work.branch ≡ x.live.me → FreeOf x
-        → (Goes x.live → (j : ℕ) (e : Edge) → numbered x.live.edges j ≡ Some e → ToldWell (said ++ answer_says x a x.live.parent) e.peer (call_at x.work j) e.weight ⊎ HasGone (with_answer x a).work)
-        → EachLive (Then (answer_says x a x.live.parent)) (put_item live_id k.lives x.live) (put_item work_id k.works (with_answer x a).work) × CallsWell (said ++ answer_says x a x.live.parent)
-    answers_by x a mine free held = (
-      put (answer_says x a x.live.parent) x.live (with_answer x a).work mine (λ b other. answer_quiet x a x.live.parent b other) (record {
-        held = λ goes j e at. inr (held goes j e at);
-        kept = λ gone v tells. kept_so x.live.parent refl gone v tells;
-        first = λ last. first_so x.live.parent refl last;
-      }),
-      calls_stay said (answer_says x a x.live.parent) (answer_execs x a x.live.parent) calls,
-    )
-      where
-        kept_so : (o : Option BranchId) → x.live.parent ≡ o → (t : ReplyFields) × (kept_reply x a o ≡ Some t) × (is_gone t.result ≡ true) → (v : Option ℕ) → ToldWell (said ++ answer_says x a o) x.live.me x.work.came.last_call v → ⊥
-        kept_so None top gone v tells = (let some = gone.1 in let none = free.unanswered in absurd (cc (some, none)))
-        kept_so (Some q) above gone v tells = elim (well_split said (answer_says x a (Some q)) x.live.me x.work.came.last_call v tells) [
-          | inl old ↦ (let low : x.work.came.last_call ≤ newest_reply said x.live.me = well_low said x.live.me x.work.came.last_call v old in
-              let owed : newest_reply said x.live.me + 1 ≤ x.work.came.last_call = free.owes (λ none. absurd (cc (none, above))) in
-              absurd (omega (arith, low, owed)))
-          | inr new ↦ own new
-        ]
-          where
-            own : ToldWell (answer_says x a (Some q)) x.live.me x.work.came.last_call v → ⊥
-            own (inl here) =
-                let both : Some (reply_fields x.live a) ≡ Some gone.0 = gone.1 in
-                let it : reply_fields x.live a ≡ gone.0 = cc in
-                let yes : is_gone a ≡ true = ap (λ (t : ReplyFields). is_gone t.result) it ∙ gone.2 in
-                let no : is_gone a ≡ false = here.1.2 in
-                absurd (cc (yes, no))
-            own (inr none) = none
-
-        first_so : (o : Option BranchId) → x.live.parent ≡ o → x.work.came.last_call ≡ 0 → kept_reply x a o ≡ None
-        first_so None top last = free.unanswered
-        first_so (Some q) above last = (let owed : newest_reply said x.live.me + 1 ≤ x.work.came.last_call = free.owes (λ none. absurd (cc (none, above))) in absurd (omega (arith, owed, last)))
-
-    -- one that was told well by all its children
-    answers_well : (x : Branch) (a : Answer) → x.work.branch ≡ x.live.me → FreeOf x → Well said (Goes x.live) x
-        → EachLive (Then (answer_says x a x.live.parent)) (put_item live_id k.lives x.live) (put_item work_id k.works (with_answer x a).work) × CallsWell (said ++ answer_says x a x.live.parent)
-    answers_well x a mine free told = answers_by x a mine free (λ goes j e at. inl (well_more said (answer_says x a x.live.parent) e.peer (call_at x.work j) e.weight (told goes j e at)))
-
-    -- ---- a branch calls a child
-
-    exec_quiet : (ss : List Session) (x : Branch) (i : ℕ) (s : Stmt) (given : ℕ) (o : Option BranchId) (b : BranchId) → QuietOf (exec_to ss x i s given o) b
-    exec_quiet ss x i s given None b n v is = is
-    exec_quiet ss x i s given (Some c) b n v (inl here) = here.1
-    exec_quiet ss x i s given (Some c) b n v (inr none) = none
-
-    exec_call : (ss : List Session) (x : Branch) (i : ℕ) (s : Stmt) (given : ℕ) → FreeOf x → ((c : BranchId) → numbered (children_of x.live) i ≡ Some c → 1 ≤ call_at x.work i → (v : Option ℕ) × ToldWell said c (call_at x.work i) v)
-        → (c : BranchId) → numbered (children_of x.live) i ≡ Some c → (p d : BranchId) (n : ℕ) → 1 ≤ n → n + 1 ≤ newest_exec (said ++ exec_to ss x i s given (Some c)) p d → (v : Option ℕ) × ToldWell (said ++ exec_to ss x i s given (Some c)) d n v
-    exec_call ss x i s given free told c at p d n some low = by (same x.live.me p && same c d) refl
-      where
-        says : List Post
-        says = exec_to ss x i s given (Some c)
-
-        new : (q : Bool) → (same x.live.me p && same c d) ≡ q → newest_exec says p d ≡ (if q then next_call x.work i else 0)
-        new q is = one_exec x.live.me c p d (kinds.Exec (next_call x.work i) (room x.live given) (advice_of ss x.live) s) ∙ ap (λ w. if w then next_call x.work i else 0) is
-
-        old : n + 1 ≤ newest_exec said p d → (v : Option ℕ) × ToldWell (said ++ says) d n v
-        old it = (let is = calls p d n some it in (is.0, well_more said says d n is.0 is.1))
-
-        by : (q : Bool) → (same x.live.me p && same c d) ≡ q → (v : Option ℕ) × ToldWell (said ++ says) d n v
-        by false other = (let none : newest_exec says p d ≡ 0 = new false other in old (omega (arith, low, exec_more said says p d, none)))
-        by true here =
-            let parts = and_parts (same x.live.me p) (same c d) here in
-            let from : x.live.me ≡ p = equal_from_same x.live.me p parts.0 in
-            let to : c ≡ d = equal_from_same c d parts.1 in
-            let one : newest_exec says p d ≡ call_at x.work i + 1 = new true here in
-            let made : newest_exec said p d ≡ call_at x.work i = subst (λ e. newest_exec said p e ≡ call_at x.work i) to (subst (λ b. newest_exec said b c ≡ call_at x.work i) from (free.made i c at)) in
-            let few : n ≤ call_at x.work i = omega (arith, low, exec_more said says p d, one, made) in
-            elim (cases_nat n (call_at x.work i)) [
-              | inl last ↦ (let it = told c at (omega (arith, some, last)) in (it.0, well_more said says d n it.0 (subst (λ m. ToldWell said d m it.0) (sym last) (subst (λ e. ToldWell said e (call_at x.work i) it.0) to it.1))))
-              | inr other ↦ old (less n (call_at x.work i) (newest_exec said p d) other few made)
-            ]
-          where
-            less : (a b m : ℕ) → a ≢ b → a ≤ b → m ≡ b → a + 1 ≤ m
-            less a b m other few is = lt (nat_lt a b) refl
-              where
-                lt : (q : Bool) → nat_lt a b ≡ q → a + 1 ≤ m
-                lt true it = (let under : a < b = grind (arith, nat_tests, it) in omega (arith, under, is))
-                lt false it = (let same_number : a ≡ b = grind (arith, nat_tests, it, few) in absurd (other same_number))
-
-    exec_calls : (ss : List Session) (x : Branch) (i : ℕ) (s : Stmt) (given : ℕ) → FreeOf x → ((c : BranchId) → numbered (children_of x.live) i ≡ Some c → 1 ≤ call_at x.work i → (v : Option ℕ) × ToldWell said c (call_at x.work i) v)
-        → (o : Option BranchId) → numbered (children_of x.live) i ≡ o → CallsWell (said ++ exec_to ss x i s given o)
-    exec_calls ss x i s given free told None at = calls_stay said [] (λ a b. refl) calls
-    exec_calls ss x i s given free told (Some c) at = λ p d n some low. exec_call ss x i s given free told c at p d n some low
-
-    calls_over : (ss : List Session) (x : Branch) (i : ℕ) (s : Stmt) (given : ℕ) → x.work.branch ≡ x.live.me → FreeOf x → WellBut said (Goes x.live) x i
-        → ((c : BranchId) → numbered (children_of x.live) i ≡ Some c → 1 ≤ call_at x.work i → (v : Option ℕ) × ToldWell said c (call_at x.work i) v)
-        → EachLive (Then (exec_to ss x i s given (peer_of x.live i))) (put_item live_id k.lives x.live) (put_item work_id k.works (called x i s given).work) × CallsWell (said ++ exec_to ss x i s given (peer_of x.live i))
-    calls_over ss x i s given mine free told last = (
-      put (exec_to ss x i s given (peer_of x.live i)) x.live (called x i s given).work mine (λ b other. exec_quiet ss x i s given (peer_of x.live i) b) (record {
-        held = called_well said (Goes x.live) x (exec_to ss x i s given (peer_of x.live i)) i s given told;
-        kept = λ gone v tells. (let some = gone.1 in let none = free.unanswered in absurd (cc (some, none)));
-        first = λ zero_calls. free.unanswered;
-      }),
-      exec_calls ss x i s given free last (peer_of x.live i) (numbered_map x.live.edges i),
-    )
-
     -- ---- what is known of a branch
 
     module _ (ss : SessionsFit k) (nodes : Nodes k) where
@@ -348,95 +187,25 @@ module _ (E : BranchId → Option ℕ) (A : BranchId → Option BranchId) (G Her
 
       acting_old : {l : Live} {b : Bool} {a : Act} → Acting k input l b a → Old l (works_of k.works l.me)
       acting_old why =
-          acting_so (λ l. Old l (works_of k.works l.me)) (λ l comment b is. mapped with_prepare_sent (λ e. (refl, refl)) l (works_of k.works l.me) is)
-          (λ l from v is. mapped (has_voted from v) (λ e. cond_both (answers_first from e) (record e { vote = v }) e (λ y. (y.peer ≡ e.peer) × (y.weight ≡ e.weight)) (λ here. (refl, refl)) (λ other. (refl, refl))) l (works_of k.works l.me) is)
+          acting_so (λ l. Old l (works_of k.works l.me)) (λ l comment b is. deed.mapped E A G Here input said received with_prepare_sent (λ e. (refl, refl)) l (works_of k.works l.me) is)
+          (λ l from v is. deed.mapped E A G Here input said received (has_voted from v) (λ e. cond_both (answers_first from e) (record e { vote = v }) e (λ y. (y.peer ≡ e.peer) × (y.weight ≡ e.weight)) (λ here. (refl, refl)) (λ other. (refl, refl))) l (works_of k.works l.me) is)
           (λ b l found. subst (λ m. Old l (works_of k.works m)) (sym (item_is live_id k.lives b l found)) (now.each b l found)) why
 
-      stays : (l : Live) (says : List Post) → AllSay IsIdle says → Old l (works_of k.works l.me) → EachLive (Then says) (put_item live_id k.lives l) k.works × CallsWell (said ++ says)
+      stays : (l : Live) (says : List Post) → AllSay IsIdle says → Old l (works_of k.works l.me) → All says (put_item live_id k.lives l) k.works
       stays l says idle is =
-          (each_changed Old (Then says) k.lives k.works now l (stay says l (works_of k.works l.me) (idle_quiet says l.me idle) is) (λ y v live other so. stay says y v (idle_quiet says y.me idle) so), calls_stay said says (idle_execs says idle) calls)
+          (each_changed Old (Then says) k.lives k.works now l (deed.stay E A G Here input said received k calls now says l (works_of k.works l.me) (idle_quiet says l.me idle) is) (λ y v live other so. deed.stay E A G Here input said received k calls now says y v (idle_quiet says y.me idle) so), calls_stay said says (idle_execs says idle) calls, (λ b none. idle_quiet says b idle))
 
       acts_well : {l : Live} {b : Bool} (a : Act) → Acting k input l b a → Leaves (act_turn k l b a)
       acts_well {l = l} acts.Rest why = stays l [] tt (acting_old why)
       acts_well {l = l} {b = b} acts.AskDown why = stays l _ (prepares_say IsIdle (λ q c. ((λ n v is. is), refl)) l.me l.comment (path_of b (step_from l)) 1 l.edges) (acting_old why)
       acts_well {l = l} acts.SayReady why = stays (ready l) _ (one_says IsIdle l.me kinds.Ready l.parent ((λ n v is. is), refl)) (acting_old why)
-      acts_well {l = l} acts.SayReadOnly why = left l.me _ (one_says IsIdle l.me kinds.ReadOnly l.parent ((λ n v is. is), refl))
-      acts_well {l = l} acts.Seal why = left l.me _ (one_says IsIdle l.me kinds.Prepared l.parent ((λ n v is. is), refl))
-      acts_well {l = l} (acts.SealAndPass i) why = left l.me _ (one_says IsIdle l.me kinds.CommitPoint (peer_of l i) ((λ n v is. is), refl))
-      acts_well {l = l} acts.Decide why = left l.me _ (each_says IsIdle l.me (kinds.Committed (k.clock + 1)) (site_neighbors l) ((λ n v is. is), refl))
-      acts_well {l = l} acts.Finish why = left l.me [] tt
+      acts_well {l = l} acts.SayReadOnly why = deed.left E A G Here input said received k calls now l.me _ (one_says IsIdle l.me kinds.ReadOnly l.parent ((λ n v is. is), refl))
+      acts_well {l = l} acts.Seal why = deed.left E A G Here input said received k calls now l.me _ (one_says IsIdle l.me kinds.Prepared l.parent ((λ n v is. is), refl))
+      acts_well {l = l} (acts.SealAndPass i) why = deed.left E A G Here input said received k calls now l.me _ (one_says IsIdle l.me kinds.CommitPoint (peer_of l i) ((λ n v is. is), refl))
+      acts_well {l = l} acts.Decide why = deed.left E A G Here input said received k calls now l.me _ (each_says IsIdle l.me (kinds.Committed (k.clock + 1)) (site_neighbors l) ((λ n v is. is), refl))
+      acts_well {l = l} acts.Finish why = deed.left E A G Here input said received k calls now l.me [] tt
       acts_well {l = l} acts.Abandon why =
-          left l.me _ (all_append (λ x. IsIdle x.kind) (to_one l.me kinds.Abort l.parent) _ (one_says IsIdle l.me kinds.Abort l.parent ((λ n v is. is), refl)) (each_says IsIdle l.me kinds.Rollback (children_of l) ((λ n v is. is), refl)))
-
-    -- ---- messages alone
-
-    still : (says : List Post) → NoExec says → ((b : BranchId) (y : Live) → live_at k b ≡ Some y → QuietOf says y.me) → EachLive (Then says) k.lives k.works × CallsWell (said ++ says)
-    still says none quiet_all = (each_same Old (Then says) k.lives k.works now (λ y v live any is. stay says y v (quiet_all y.me y live) is), calls_stay said says none calls)
-
-    reply_execs : (a to : BranchId) (n : ℕ) (v : Option ℕ) (count : ℕ) (r : Answer) → NoExec (post a to (kinds.Reply n v count r))
-    reply_execs a to n v count r b c = by (same a b && same to c)
-      where
-        by : (q : Bool) → (if q then max 0 0 else 0) ≡ 0
-        by true = refl
-        by false = refl
-
-    -- the refusal of a gone branch
-    gone_quiet : (to from : BranchId) (call : ℕ) (b : BranchId) → QuietOf (post to from (kinds.Reply call None 1 (answers.Refused (dtx 8 [])))) b
-    gone_quiet to from call b n v (inl here) = (let no : is_gone (answers.Refused (dtx 8 [])) ≡ false = here.1.2 in absurd cc)
-    gone_quiet to from call b n v (inr none) = none
-
-    -- the last Reply once more
-    again_says : (x : Branch) (to : BranchId) (t : ReplyFields) → branch_at k x.live.me ≡ Some x → x.work.came.reply ≡ Some t → EachLive (Then (replies x to t)) k.lives k.works × CallsWell (said ++ replies x to t)
-    again_says x to t found kept = (record { there = now.there; each = λ b l live. by b l live (same x.live.me b) refl }, calls_stay said (replies x to t) (reply_execs x.live.me to x.work.came.last_call t.weight t.count t.result) calls)
-      where
-        parts : (live_at k x.live.me ≡ Some x.live) × (x.work ≡ works_of k.works x.live.me)
-        parts = branch_parts k x.live.me x found
-
-        was : Old x.live x.work
-        was = subst (Old x.live) (sym parts.1) (now.each x.live.me x.live parts.0)
-
-        own : HasGone x.work → (v : Option ℕ) → ToldWell (replies x to t) x.live.me x.work.came.last_call v → ⊥
-        own gone v (inl here) =
-            let both : Some t ≡ Some gone.0 = sym kept ∙ gone.1 in
-            let it : t ≡ gone.0 = cc in
-            let yes : is_gone t.result ≡ true = ap (λ (y : ReplyFields). is_gone y.result) it ∙ gone.2 in
-            let no : is_gone t.result ≡ false = here.1.2 in
-            absurd (cc (yes, no))
-        own gone v (inr none) = none
-
-        mine : Then (replies x to t) x.live x.work
-        mine = record {
-          held = λ goes i e at. elim (was.held goes i e at) [
-            | inl waits ↦ inl waits
-            | inr told ↦ elim told [ inl well ↦ inr (inl (well_more said (replies x to t) e.peer (call_at x.work i) e.weight well)) | inr gone ↦ inr (inr gone) ]
-          ];
-          kept = λ gone v tells. elim (well_split said (replies x to t) x.live.me x.work.came.last_call v tells) [ inl old ↦ was.kept gone v old | inr new ↦ own gone v new ];
-          first = was.first;
-        }
-
-        by : (b : BranchId) (l : Live) → live_at k b ≡ Some l → (q : Bool) → same x.live.me b ≡ q → Then (replies x to t) l (works_of k.works b)
-        by b l live true is =
-            let me : x.live.me ≡ b = equal_from_same x.live.me b is in
-            let it : Some x.live ≡ Some l = sym parts.0 ∙ (ap (λ c. live_at k c) me ∙ live) in
-            let here : x.live ≡ l = cc in
-            subst (λ c. Then (replies x to t) l (works_of k.works c)) me (subst (λ y. Then (replies x to t) y (works_of k.works x.live.me)) here (subst (λ w. Then (replies x to t) x.live w) parts.1 mine))
-        by b l live false is =
-            stay (replies x to t) l (works_of k.works b) (other_quiet x.live.me to l.me (kinds.Reply x.work.came.last_call t.weight t.count t.result) (subst (λ c. same x.live.me c ≡ false) (sym (item_is live_id k.lives b l live)) is)) (now.each b l live)
-
-    says_well : {says : List Post} → Says k input says → EachLive (Then says) k.lives k.works × CallsWell (said ++ says)
-    says_well (steps.Gone_replies to from call given advice s came gone) = still _ (reply_execs to from call None 1 (answers.Refused (dtx 8 []))) (λ b y live. gone_quiet to from call y.me)
-    says_well (steps.Replies_again x to call given advice s t came live last kept) = again_says x to t live kept
-    says_well (steps.Tells s from came kept) = quiet _ (told_says IsIdle idle_decisions (kept_told s from), tt)
-    says_well (steps.Recovers reco) = quiet _ (askings_say IsIdle idle_decisions k)
-    says_well (steps.Gone_aborts to from b comment came gone) = quiet _ (((λ n v is. is), refl), tt)
-    says_well (steps.Gone_rolls_back to from came gone) = quiet _ (((λ n v is. is), refl), tt)
-    says_well (steps.Gone_acks to from n came gone) = quiet _ (((λ n v is. is), refl), tt)
-    says_well (steps.Gone_forgets to from came gone) = quiet _ (((λ n v is. is), refl), tt)
-    says_well (steps.Opened_again to parent edge root depth o came found) = quiet _ (((λ n v is. is), refl), tt)
-    says_well (steps.Prepared_again s from b comment came kept again) = quiet _ (((λ n v is. is), refl), tt)
-    says_well (steps.Knows_commit s from n came kept knows) = quiet _ (((λ n v is. is), refl), tt)
-    says_well (steps.Knows_rollback s from came kept knows) = quiet _ (((λ n v is. is), refl), tt)
-    says_well (steps.Is_in_doubt l from came live other) = quiet _ (((λ n v is. is), refl), tt)
+          deed.left E A G Here input said received k calls now l.me _ (all_append (λ x. IsIdle x.kind) (to_one l.me kinds.Abort l.parent) _ (one_says IsIdle l.me kinds.Abort l.parent ((λ n v is. is), refl)) (each_says IsIdle l.me kinds.Rollback (children_of l) ((λ n v is. is), refl)))
 
   -- ---- every step
 
@@ -482,12 +251,12 @@ module _ (E : BranchId → Option ℕ) (A : BranchId → Option BranchId) (G Her
         by (Some q) above = (reply_fields y.live told_answer, refl, passed_answer x.live e.link a q above gone)
         by None top = absurd (heard_code k.sessions x.live a top gone (rooted answered.from x.live.me _ answered.came x.live (live_so k x.live.me x answered.live) top) (seen top (goes top)))
 
-    reply_well : EachLive (Then (answer_says y told_answer y.live.parent)) (put_item live_id k.lives y.live) (put_item work_id k.works (with_answer y told_answer).work) × CallsWell (said ++ answer_says y told_answer y.live.parent)
+    reply_well : All (answer_says y told_answer y.live.parent) (put_item live_id k.lives y.live) (put_item work_id k.works (with_answer y told_answer).work)
     reply_well = by (is_gone a) refl
       where
-        by : (q : Bool) → is_gone a ≡ q → EachLive (Then (answer_says y told_answer y.live.parent)) (put_item live_id k.lives y.live) (put_item work_id k.works (with_answer y told_answer).work) × CallsWell (said ++ answer_says y told_answer y.live.parent)
-        by false well = answers_well k calls now y told_answer (work_is k x.live.me x answered.live) free (fine well)
-        by true gone = answers_by k calls now y told_answer (work_is k x.live.me x answered.live) free (λ goes j z at. inr (passed gone goes))
+        by : (q : Bool) → is_gone a ≡ q → All (answer_says y told_answer y.live.parent) (put_item live_id k.lives y.live) (put_item work_id k.works (with_answer y told_answer).work)
+        by false well = deed.answers_well E A G Here input said received k calls now y told_answer (work_is k x.live.me x answered.live) free (fine well)
+        by true gone = deed.answers_by E A G Here input said received k calls now y told_answer (work_is k x.live.me x answered.live) free (λ goes j z at. inr (passed gone goes))
 
   module _ (welled : Welled) (p : Place) (place : (b : BranchId) → b.node ≡ p.number → Here b) where
     pub wells_on : {k : Kept} {d : Deed} → Step p input k d → deeds.Granted E A G Here input said received d → SessionsFit k → News (deeds.NewBorn E A G Here input said received) p input k → Rooted k → Nodes k → CallsWell said → Olds k → Leaves d
@@ -495,78 +264,80 @@ module _ (E : BranchId → Option ℕ) (A : BranchId → Option BranchId) (G Her
         let root = news.root n s call rows none in
         wells_on step granted (begun_so k ss p n) (begun_news (deeds.NewBorn E A G Here input said received) p input k n news) (no_call_came (begun_by p k n None) n s call)
         (deeds.begins_so E A G Here input said received k nodes (fresh_root p k (new_root p k n)) refl (place (new_root p k n) refl) root) calls
-        (each_begun Old Old k.lives k.works now (fresh_root p k (new_root p k n)) (fresh_well said (fresh_root p k (new_root p k n)) (no_work (new_root p k n)) refl refl) (λ y v live any is. is))
+        (each_begun Old Old k.lives k.works now (fresh_root p k (new_root p k n)) (deed.fresh_well E A G Here input said received said (fresh_root p k (new_root p k n)) (no_work (new_root p k n)) refl refl) (λ y v live any is. is))
     wells_on (steps.Pends {k = k} n l given call has live code step) granted ss news rooted nodes calls now =
         wells_on step granted (pends_so k ss n pending.Commit) (pends_news (deeds.NewBorn E A G Here input said received) p input k n given call news) (no_call_came (record k { sessions = with_call k.sessions n pending.Commit }) n (stmts.Commit given) call) nodes calls now
     wells_on (steps.Lets_reads_go {k = k} l comment b live begins step) granted ss news rooted nodes calls now =
         wells_on step granted (record { roots = ss.roots; above = ss.above }) (lets_news (deeds.NewBorn E A G Here input said received) p input k l.me news) rooted nodes calls now
     wells_on (steps.Counts_ack {k = k} s from kept came counts step) granted ss news rooted nodes calls now =
         wells_on step granted (record { roots = ss.roots; above = ss.above }) (acked_news (deeds.NewBorn E A G Here input said received) p input k _ news) rooted nodes calls now
-    wells_on (steps.Sends {k = k} posts why) granted ss news rooted nodes calls now = says_well k calls now why
+    wells_on (steps.Sends {k = k} posts why) granted ss news rooted nodes calls now = deed.says_well E A G Here input said received k calls now why
     wells_on (steps.Runs {k = k} x s given t asked way) granted ss news rooted nodes calls now =
         let free : FreeOf x = turns.asked_free E A G Here input said received k ss nodes asked in
-        answers_well k calls now (record x { live = after_run x.live (ran p k x.live.me s t) }) _ (deeds.asked_mine E A G Here input said received k asked)
+        deed.answers_well E A G Here input said received k calls now (record x { live = after_run x.live (ran p k x.live.me s t) }) _ (deeds.asked_mine E A G Here input said received k asked)
         (record { kids = free.kids; taken = free.taken; told = free.told; owes = free.owes; unanswered = free.unanswered; numbers = free.numbers; made = free.made; no_other = free.no_other; heard = free.heard })
         (asked_well k calls now ss nodes asked)
     wells_on (steps.Goes_nowhere {k = k} x s given r asked way) granted ss news rooted nodes calls now =
-        answers_well k calls now x _ (deeds.asked_mine E A G Here input said received k asked) (turns.asked_free E A G Here input said received k ss nodes asked) (asked_well k calls now ss nodes asked)
+        deed.answers_well E A G Here input said received k calls now x _ (deeds.asked_mine E A G Here input said received k asked) (turns.asked_free E A G Here input said received k ss nodes asked) (asked_well k calls now ss nodes asked)
     wells_on (steps.Calls {k = k} x s given i table asked way) granted ss news rooted nodes calls now =
         let told = asked_well k calls now ss nodes asked in
         let goes = asked_goes k calls now ss nodes asked (λ none code. granted.grants x.live.me x.live (put_found live_id k.lives x.live) none code) in
-        calls_over k calls now k.sessions x i (passed_on s table) given (deeds.asked_mine E A G Here input said received k asked) (turns.asked_free E A G Here input said received k ss nodes asked) (λ g j e other at. told g j e at)
+        deed.calls_over E A G Here input said received k calls now k.sessions x i (passed_on s table) given (deeds.asked_mine E A G Here input said received k asked) (turns.asked_free E A G Here input said received k ss nodes asked) (λ g j e other at. told g j e at)
         (told_at k calls now ss nodes x i goes told)
     wells_on (steps.Opens {k = k} x s given node link table asked way) granted ss news rooted nodes calls now =
         let free : FreeOf x = turns.asked_free E A G Here input said received k ss nodes asked in
         let told = asked_well k calls now ss nodes asked in
         let says : List Post = post x.live.me (nobody_at node) (kinds.Open (next_edge x.live) x.live.root (x.live.depth + 1)) in (
-          put k calls now says x.live (waits_for_opened x link (passed_on s table) given).work (deeds.asked_mine E A G Here input said received k asked) (λ b other. idle_quiet says b (((λ n v is. is), refl), tt)) (record {
+          deed.put E A G Here input said received k calls now says x.live (waits_for_opened x link (passed_on s table) given).work (deeds.asked_mine E A G Here input said received k asked) (λ b other. idle_quiet says b (((λ n v is. is), refl), tt)) (record {
             held = λ goes j e at. inr (inl (well_more said says e.peer (call_at x.work j) e.weight (told goes j e at)));
             kept = λ gone v tells. (let some = gone.1 in let unanswered = free.unanswered in absurd (cc (some, unanswered)));
             first = λ last. free.unanswered;
           }),
           calls_stay said says (idle_execs says (((λ n v is. is), refl), tt)) calls,
+          (λ b none. idle_quiet says b (((λ n v is. is), refl), tt)),
         )
     wells_on (steps.Goes_on {k = k} x from strength g link opened) granted ss news rooted nodes calls now =
         let was : Begun x.live x.work = turns.branch_begun E A G Here input said received k nodes x opened.live in
         let even = was.turn.makes.numbers ∙ length_peers x.live.edges in
         let unanswered : x.work.came.reply ≡ None = was.turn.answered (λ none. (let some = opened.going in absurd (cc (none, some)))) in
-        calls_over k calls now k.sessions (with_edge x (new_edge from link strength)) (length x.live.edges + 1) g.statement (g.room - 1) (work_is k x.live.me x opened.live) (opened_free E A G Here input said received k nodes x from strength g link opened)
+        deed.calls_over E A G Here input said received k calls now k.sessions (with_edge x (new_edge from link strength)) (length x.live.edges + 1) g.statement (g.room - 1) (work_is k x.live.me x opened.live) (opened_free E A G Here input said received k nodes x from strength g link opened)
         (opened_well said (Goes x.live) x (found_old k calls now ss nodes x opened.live).held unanswered (new_edge from link strength) g link opened.going opened.waits even)
         (λ c at some. (let none : call_at (with_edge x (new_edge from link strength)).work (length x.live.edges + 1) ≡ 0 = no_call x.work.calls x.live.edges even in absurd (omega (arith, some, none))))
     wells_on (steps.Hears_reply {k = k} x weight count a i e answered) granted ss news rooted nodes calls now =
         reply_well welled k calls now ss nodes rooted x weight count a i e answered (λ none goes. granted.sees x.live.me goes)
     wells_on (steps.Opens_branch {k = k} to parent edge root depth came new) granted ss news rooted nodes calls now =
-        begun k calls now (post (next_child p k) parent (kinds.Opened edge (strength_of p k))) (((λ n v is. is), refl), tt) (fresh_live (next_child p k) root (Some parent) depth (strength_of p k)) refl
+        deed.begun E A G Here input said received k calls now (post (next_child p k) parent (kinds.Opened edge (strength_of p k))) (((λ n v is. is), refl), tt) (fresh_live (next_child p k) root (Some parent) depth (strength_of p k)) refl
     wells_on (steps.Acts {k = k} l b a why) granted ss news rooted nodes calls now = acts_well k calls now ss nodes a why
-    wells_on (steps.Drops_told {k = k} l live drops) granted ss news rooted nodes calls now = left k calls now l.me _ (rolled l)
-    wells_on (steps.Drops_asked {k = k} l from live came parent) granted ss news rooted nodes calls now = left k calls now l.me _ (((λ n v is. is), refl), rolled l)
-    wells_on (steps.Does {k = k} s from (nexts.End d) kept why) granted ss news rooted nodes calls now = quiet k calls now _ (passes_say IsIdle idle_decisions s d)
-    wells_on (steps.Does {k = k} s from (nexts.Meet d mixed) kept why) granted ss news rooted nodes calls now = quiet k calls now _ (passes_say IsIdle idle_decisions s d)
-    wells_on (steps.Does {k = k} s from nexts.AckToward kept why) granted ss news rooted nodes calls now = quiet k calls now _ (one_says IsIdle s.me kinds.Ack s.toward ((λ n v is. is), refl))
-    wells_on (steps.Does {k = k} s from nexts.Forget kept why) granted ss news rooted nodes calls now = quiet k calls now _ (each_says IsIdle s.me kinds.Forgotten (map (λ b. b.branch) (beyond s)) ((λ n v is. is), refl))
-    wells_on (steps.Does {k = k} s from nexts.SayForgotten kept why) granted ss news rooted nodes calls now = quiet k calls now _ (((λ n v is. is), refl), tt)
-    wells_on (steps.Does {k = k} s from nexts.SayAck kept why) granted ss news rooted nodes calls now = quiet k calls now _ (((λ n v is. is), refl), tt)
-    wells_on (steps.Does {k = k} s from nexts.Rest kept why) granted ss news rooted nodes calls now = quiet k calls now [] tt
-    wells_on (steps.Rolls_back {k = k} n x call has live) granted ss news rooted nodes calls now = left k calls now x.live.me _ (rolled x.live)
+    wells_on (steps.Drops_told {k = k} l live drops) granted ss news rooted nodes calls now = deed.left E A G Here input said received k calls now l.me _ (rolled l)
+    wells_on (steps.Drops_asked {k = k} l from live came parent) granted ss news rooted nodes calls now = deed.left E A G Here input said received k calls now l.me _ (((λ n v is. is), refl), rolled l)
+    wells_on (steps.Does {k = k} s from (nexts.End d) kept why) granted ss news rooted nodes calls now = deed.quiet E A G Here input said received k calls now _ (passes_say IsIdle idle_decisions s d)
+    wells_on (steps.Does {k = k} s from (nexts.Meet d mixed) kept why) granted ss news rooted nodes calls now = deed.quiet E A G Here input said received k calls now _ (passes_say IsIdle idle_decisions s d)
+    wells_on (steps.Does {k = k} s from nexts.AckToward kept why) granted ss news rooted nodes calls now = deed.quiet E A G Here input said received k calls now _ (one_says IsIdle s.me kinds.Ack s.toward ((λ n v is. is), refl))
+    wells_on (steps.Does {k = k} s from nexts.Forget kept why) granted ss news rooted nodes calls now = deed.quiet E A G Here input said received k calls now _ (each_says IsIdle s.me kinds.Forgotten (map (λ b. b.branch) (beyond s)) ((λ n v is. is), refl))
+    wells_on (steps.Does {k = k} s from nexts.SayForgotten kept why) granted ss news rooted nodes calls now = deed.quiet E A G Here input said received k calls now _ (((λ n v is. is), refl), tt)
+    wells_on (steps.Does {k = k} s from nexts.SayAck kept why) granted ss news rooted nodes calls now = deed.quiet E A G Here input said received k calls now _ (((λ n v is. is), refl), tt)
+    wells_on (steps.Does {k = k} s from nexts.Rest kept why) granted ss news rooted nodes calls now = deed.quiet E A G Here input said received k calls now [] tt
+    wells_on (steps.Rolls_back {k = k} n x call has live) granted ss news rooted nodes calls now = deed.left E A G Here input said received k calls now x.live.me _ (rolled x.live)
     wells_on (steps.Gives_up {k = k} n x gives has pends live) granted ss news rooted nodes calls now =
         let was : Old x.live x.work = found_old k calls now ss nodes x live in
         let none : x.live.parent ≡ None = root_alone k ss n x.live.me has x.live (live_so k x.live.me x live) in
         let refused : G x.live.me → ⊥ = λ goes. given_code k.sessions n _ x.live.me has (subst (λ m. (session_at (needs_rollback (with_call k.sessions n pending.NoCall) n (dtx 3 []).code) m).code ≡ None) (ss.roots.each n x.live.me has) (granted.sees x.live.me goes)) in (
-          put k calls now [] x.live (gives_up x).work (work_is k x.live.me x live) (λ b other n v is. is) (record {
+          deed.put E A G Here input said received k calls now [] x.live (gives_up x).work (work_is k x.live.me x live) (λ b other n v is. is) (record {
             held = λ goes i e at. absurd (refused (goes none));
-            kept = (stay k calls now [] x.live x.work (λ n v is. is) was).kept;
+            kept = (deed.stay E A G Here input said received k calls now [] x.live x.work (λ n v is. is) was).kept;
             first = was.first;
           }),
           calls_stay said [] (λ a b. refl) calls,
+          (λ b none n v is. is),
         )
-    wells_on (steps.Gives_up_commit {k = k} n b (Some l) gives has pends live) granted ss news rooted nodes calls now = left k calls now l.me _ (rolled l)
-    wells_on (steps.Gives_up_commit {k = k} n b None gives has pends live) granted ss news rooted nodes calls now = quiet k calls now [] tt
-    wells_on (steps.Rests {k = k}) granted ss news rooted nodes calls now = quiet k calls now [] tt
-    wells_on (steps.Refuses {k = k} n s r is) granted ss news rooted nodes calls now = quiet k calls now [] tt
-    wells_on (steps.Completes_at_once {k = k} n s d call completes none) granted ss news rooted nodes calls now = quiet k calls now [] tt
-    wells_on (steps.Makes_record {k = k} n s r d call makes) granted ss news rooted nodes calls now = quiet k calls now [] tt
-    wells_on (steps.Forces_given {k = k} n id m b call named) granted ss news rooted nodes calls now = quiet k calls now [] tt
-    wells_on (steps.Forces_commit {k = k} n id b call named) granted ss news rooted nodes calls now = quiet k calls now [] tt
-    wells_on (steps.Forces_rollback {k = k} n id b call named) granted ss news rooted nodes calls now = quiet k calls now [] tt
-    wells_on (steps.Hides {k = k} n mixed id s call found) granted ss news rooted nodes calls now = quiet k calls now [] tt
-    wells_on (steps.Advises {k = k} n a call) granted ss news rooted nodes calls now = quiet k calls now [] tt
+    wells_on (steps.Gives_up_commit {k = k} n b (Some l) gives has pends live) granted ss news rooted nodes calls now = deed.left E A G Here input said received k calls now l.me _ (rolled l)
+    wells_on (steps.Gives_up_commit {k = k} n b None gives has pends live) granted ss news rooted nodes calls now = deed.quiet E A G Here input said received k calls now [] tt
+    wells_on (steps.Rests {k = k}) granted ss news rooted nodes calls now = deed.quiet E A G Here input said received k calls now [] tt
+    wells_on (steps.Refuses {k = k} n s r is) granted ss news rooted nodes calls now = deed.quiet E A G Here input said received k calls now [] tt
+    wells_on (steps.Completes_at_once {k = k} n s d call completes none) granted ss news rooted nodes calls now = deed.quiet E A G Here input said received k calls now [] tt
+    wells_on (steps.Makes_record {k = k} n s r d call makes) granted ss news rooted nodes calls now = deed.quiet E A G Here input said received k calls now [] tt
+    wells_on (steps.Forces_given {k = k} n id m b call named) granted ss news rooted nodes calls now = deed.quiet E A G Here input said received k calls now [] tt
+    wells_on (steps.Forces_commit {k = k} n id b call named) granted ss news rooted nodes calls now = deed.quiet E A G Here input said received k calls now [] tt
+    wells_on (steps.Forces_rollback {k = k} n id b call named) granted ss news rooted nodes calls now = deed.quiet E A G Here input said received k calls now [] tt
+    wells_on (steps.Hides {k = k} n mixed id s call found) granted ss news rooted nodes calls now = deed.quiet E A G Here input said received k calls now [] tt
+    wells_on (steps.Advises {k = k} n a call) granted ss news rooted nodes calls now = deed.quiet E A G Here input said received k calls now [] tt
