@@ -13,7 +13,7 @@ use Rattle.node_rules.specs.Calls.{called, with_edge, hears_reply}
 use Rattle.run_laws.specs.InTurnLaws.{exec_number, newest_exec, newest_reply, WaitsFor, call_at}
 use Rattle.run_laws.proofs.AtNodeLemmas.{range_of}
 use Rattle.run_laws.proofs.CallTurnLemmas.{exec_more}
-use Rattle.run_laws.proofs.InTurnLemmas.{numbered_split, numbered_last, calls_before, one_waits, opened_none, none_waits}
+use Rattle.run_laws.proofs.InTurnLemmas.{numbered_split, numbered_last, calls_before, one_waits, opened_none}
 use Rattle.run_laws.proofs.KindSayLemmas.{OfDecisions, AllSay}
 use Rattle.run_laws.proofs.TurnEventLemmas.{cases_nat}
 use Rattle.tree_laws.specs.WeightLaws.{TellsWeight, ToldWeight}

@@ -1,57 +1,50 @@
 -- Each step of a node passes refusals of gone branches on, and calls a child only after an answer that is none.
-use Rattle.std.proofs.Common.{◌≡◌, ◌≢◌, ℕ, zero, suc, ◌+◌, ◌-◌, ◌<◌, ◌≤◌, ◌⊎◌, ◌&&◌, Bool, true, false, if◌then◌else◌, List, [], ◌∷◌, ◌++◌, map, length, max, is_none, unwrap_or, option_map, Option, Some, None, inl, inr, refl, sym, ap, subst, subst₂, ◌∙◌, arith}
-use Rattle.std.specs.Prelude.{nat_lt}
-use Rattle.std.proofs.lemmas.Bool.{cond_both, and_parts}
-use Rattle.std.proofs.lemmas.Bool.Decides.{nat_tests}
-use Rattle.tran_ids.proofs.BranchLemmas.{equal_from_same}
+use Rattle.std.proofs.Common.{◌≡◌, ◌≢◌, ℕ, zero, suc, ◌+◌, ◌-◌, ◌<◌, ◌≤◌, ◌&&◌, Bool, true, false, if◌then◌else◌, List, [], map, length, is_none, unwrap_or, option_map, Option, Some, None, inl, inr, refl, sym, ap, subst, ◌∙◌, arith}
+use Rattle.std.proofs.lemmas.Bool.{cond_both}
 use Rattle.tran_ids.proofs.ListedLemmas.{item_is, put_found}
 use Rattle.link_session.proofs.OnceLemmas.{run_is_new}
 use Rattle.commit_forget.specs.declared.next.Next.TheVariants as nexts
 use Rattle.session_tree.specs.Live.{children_of, peer_of, new_edge, next_edge, fresh_live}
-use Rattle.session_tree.specs.Tree.{room, step as step_from}
-use Rattle.node_rules.specs.Data.{Stmt, Answer, BranchId, Edge, Live, Act, Kind, Post, ReplyFields, Vote, Place, Input}
+use Rattle.session_tree.specs.Tree.{step as step_from}
+use Rattle.node_rules.specs.Data.{Stmt, Answer, BranchId, Edge, Live, Act, Kind, Post, ReplyFields, Place, Input}
 use Rattle.node_rules.specs.Data.acts
 use Rattle.node_rules.specs.Data.answers
 use Rattle.node_rules.specs.Data.kinds
 use Rattle.node_rules.specs.Data.stmts
 use Rattle.node_rules.specs.declared.session.Session.{Session}
 use Rattle.node_rules.specs.declared.session.PendingCall.TheVariants as pending
-use Rattle.node_rules.specs.declared.work.Going.{Going}
 use Rattle.node_rules.specs.declared.work.Work.{Work}
-use Rattle.node_rules.specs.Words.{same, one, numbered, put_item, drop_item}
+use Rattle.node_rules.specs.Words.{one, numbered, put_item}
 use Rattle.node_rules.specs.Refusals.{dtx}
 use Rattle.node_rules.specs.Inputs.{Came, IsCall}
-use Rattle.node_rules.specs.Kept.{Kept, Branch, Deed, live_id, work_id, live_at, branch_at, post, to_one, to_each, no_work, with_work, standing_at}
+use Rattle.node_rules.specs.Kept.{Kept, Branch, Deed, live_id, work_id, live_at, branch_at, post, to_one, to_each, no_work}
 use Rattle.node_rules.specs.Sessions.{fresh_session, session_at, with_call, needs_rollback}
 use Rattle.node_rules.specs.Names.{passed_on}
 use Rattle.node_rules.specs.Statement.{ran, after_run}
-use Rattle.node_rules.specs.Calls.{advice_of, reply_fields, kept_reply, with_answer, answer_says, called, exec_to, next_call, next_child, strength_of, with_edge, waits_for_opened, hears_reply, replies, nobody_at, is_gone, heard_answer, heard_sessions, answered_sessions, call_pends}
+use Rattle.node_rules.specs.Calls.{reply_fields, kept_reply, with_answer, answer_says, next_child, strength_of, with_edge, waits_for_opened, hears_reply, nobody_at, is_gone, heard_answer, heard_sessions, answered_sessions, call_pends}
 use Rattle.node_rules.specs.Client.{new_root, fresh_root, begun_by, gives_up}
-use Rattle.node_rules.specs.Prepare.{path_of, prepares, with_prepare_sent, has_voted, answers_first, site_neighbors, ready, collecting, with_comment, act_turn}
+use Rattle.node_rules.specs.Prepare.{path_of, with_prepare_sent, has_voted, answers_first, site_neighbors, ready, act_turn}
 use Rattle.node_rules.specs.Commit.{beyond}
-use Rattle.node_rules.specs.Recovery.{kept_told}
-use Rattle.node_rules.specs.Turn.{Is_gone, live_or, stand_of}
 use Rattle.node_rules.proofs.Steps as steps
 use Rattle.node_rules.proofs.Steps.{Step, Asked, Acting, Says}
 use Rattle.node_rules.proofs.StandLemmas.{live_so, session_set, call_set}
 use Rattle.node_rules.proofs.StepLemmas.{acting_so}
-use Rattle.node_rules.specs.LiveBranches.{EachLive, works_of}
-use Rattle.node_rules.proofs.LiveLemmas.{each_put, each_changed, each_left, each_begun, each_same, branch_parts, work_is}
-use Rattle.run_laws.specs.InTurnLaws.{newest_exec, newest_reply, WaitsFor, call_at}
+use Rattle.node_rules.specs.LiveBranches.{works_of}
+use Rattle.node_rules.proofs.LiveLemmas.{each_changed, each_begun, branch_parts, work_is}
+use Rattle.run_laws.specs.InTurnLaws.{newest_exec, newest_reply, call_at}
 use Rattle.run_laws.proofs.ListLemmas.{all_append}
 use Rattle.run_laws.proofs.RootLemmas.{SessionsFit, root_alone, pends_so, begun_so}
 use Rattle.run_laws.proofs.NeighborLemmas.{News, reply_is}
 use Rattle.run_laws.proofs.NeighborStepLemmas.{begun_news, pends_news, lets_news, acked_news}
-use Rattle.run_laws.proofs.KindSayLemmas.{AllSay, one_says, each_says, prepares_say, told_says, passes_say, askings_say}
-use Rattle.run_laws.proofs.CallTurnLemmas.{exec_more, one_exec}
+use Rattle.run_laws.proofs.KindSayLemmas.{AllSay, one_says, each_says, prepares_say, passes_say}
 use Rattle.run_laws.proofs.InTurnLemmas as turns
 use Rattle.run_laws.proofs.InTurnLemmas.{length_peers, numbered_map, reply_for, none_waits}
 use Rattle.run_laws.proofs.InTurnEdgeLemmas.{opened_free, heard_free}
 use Rattle.run_laws.proofs.InTurnStepLemmas as deeds
 use Rattle.run_laws.proofs.TurnEventLemmas.{cases_nat}
-use Rattle.tree_laws.proofs.HoldLemmas.{none_here, some_going, given_code}
-use Rattle.gone_laws.specs.GoneLaws.{ToldWell, HasGone, HoldsWell, CallsWell}
-use Rattle.gone_laws.proofs.WellLemmas.{well_split, well_more, well_low, IsIdle, idle_decisions, QuietOf, idle_quiet, other_quiet, NoExec, idle_execs, calls_stay, stays_well, Well, WellBut, called_well, opened_well, heard_well, no_call}
+use Rattle.tree_laws.proofs.HoldLemmas.{given_code}
+use Rattle.gone_laws.specs.GoneLaws.{ToldWell, HasGone, CallsWell}
+use Rattle.gone_laws.proofs.WellLemmas.{well_more, IsIdle, idle_decisions, idle_quiet, idle_execs, calls_stay, Well, opened_well, heard_well, no_call}
 use Rattle.gone_laws.proofs.WellDeedLemmas as deed
 
 -- ---- the code of a root that hears such a refusal
