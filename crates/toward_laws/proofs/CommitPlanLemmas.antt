@@ -73,10 +73,6 @@ module _ (t : History) (whole : IsLawfulRun t) (sees : SeesAll t) (r : BranchId)
   unplanned : plan_at tr0 top.0.me ≡ None
   unplanned = let it = saw.lives v.node k up l l_found in subst (λ c. plan_at tr0 c ≡ None) (at.is_me ∙ sym top.2) (it.2.unplanned root_alone at.working)
 
-  -- no COMMIT of it came before
-  pub unplanned_root : plan_at tr0 r ≡ None
-  unplanned_root = subst (λ c. plan_at tr0 c ≡ None) top.2 unplanned
-
   planned_then : plan_at (trail_after t.places f0 tr0 (happenings.Turn v)) r ≡ Some (plan t.places tr0 r)
   planned_then =
       subst (λ c. plan_at (trail_after t.places f0 tr0 (happenings.Turn v)) c ≡ Some (plan t.places tr0 c)) top.2

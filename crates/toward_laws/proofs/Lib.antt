@@ -1,7 +1,6 @@
 pub mod ChainLemmas
 pub mod AboveLemmas
 pub mod ListedLemmas
-pub mod OrderLemmas
 pub mod StandLemmas
 pub mod StepLemmas
 pub mod SentLemmas

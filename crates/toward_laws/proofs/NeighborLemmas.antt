@@ -1,6 +1,5 @@
--- Each seal of a transaction that is decided, or whose tree was whole when its COMMIT came, is of a branch of the plan of the COMMIT, and names the parent and
--- the neighbour on the way to the site that the plan has.
-use Rattle.std.proofs.Common.{◌≡◌, ◌≢◌, ℕ, ◌+◌, ◌-◌, ◌≤◌, ◌⊎◌, true, false, List, [], ◌∷◌, ◌++◌, Option, Some, None, inl, inr, refl, sym, ap, subst, ◌∙◌, arith}
+-- Each seal is of a branch of the plan of the COMMIT, and names the parent and the neighbour on the way to the site that the plan has.
+use Rattle.std.proofs.Common.{◌≡◌, ◌≢◌, ◌+◌, ◌-◌, ◌≤◌, true, false, List, [], ◌∷◌, ◌++◌, Option, Some, None, inl, inr, refl, sym, ap, subst, ◌∙◌, arith}
 use Rattle.std.proofs.lemmas.List.{append_assoc}
 use Rattle.std.specs.Prelude.{IfSome}
 use Rattle.std.specs.List.{AllByRecursion}
@@ -8,11 +7,11 @@ use Rattle.std.specs.Option.{option_to_list}
 use Rattle.dtx_values.specs.Limits.{depth_limit}
 use Rattle.tran_ids.proofs.ListedLemmas.{item_is}
 use Rattle.redo_record.specs.Rows.{toward_of, sealed_as}
-use Rattle.agreement.specs.Events.{Decided, Dropped, exit}
+use Rattle.agreement.specs.Events.{Dropped, exit}
 use Rattle.node_rules.specs.Data.{BranchId, Live, RedoRecord, Sealed as SealedRecord}
 use Rattle.node_rules.specs.Data.phases
 use Rattle.node_rules.specs.Data.records
-use Rattle.node_rules.specs.Kept.{Kept, Branch, live_id, live_at, branch_at, work_at, with_work}
+use Rattle.node_rules.specs.Kept.{Kept, Branch, live_id, live_at, work_at, with_work}
 use Rattle.node_rules.proofs.StandLemmas.{live_so}
 use Rattle.run_laws.specs.Births.{Born, births_of}
 use Rattle.run_laws.specs.BirthLaws.{Began, KeptIs, LiveIs, RecordNames}
@@ -20,12 +19,13 @@ use Rattle.run_laws.specs.Branches.{Trail, Planned, seen_at, plan_at}
 use Rattle.run_laws.specs.Data.{Turn, Happening}
 use Rattle.run_laws.specs.Data.happenings
 use Rattle.run_laws.specs.Each.{AtEach}
-use Rattle.run_laws.specs.Facts.{first_facts, node_at, records_at, facts_after}
+use Rattle.run_laws.specs.Facts.{first_facts, node_at, records_at}
 use Rattle.run_laws.specs.FreezeLaws.{was_asked}
 use Rattle.run_laws.specs.InTurnLaws.{said_in}
 use Rattle.run_laws.specs.Lawful.{MayHappen, History, IsLawfulRun, facts_at}
+use Rattle.run_laws.specs.EventLaws.{EachEventFrom, TellsAsEvents}
+use Rattle.run_laws.specs.EventRows.{MayStand}
 use Rattle.run_laws.specs.NodeLaws.{EachFactFrom}
-use Rattle.run_laws.specs.RunEvents.{events_of}
 use Rattle.run_laws.specs.Site.{NamesToward, RecordIsSo}
 use Rattle.run_laws.specs.Trail.{is_prepare, trail_after}
 use Rattle.run_laws.specs.Tree as seen
@@ -33,10 +33,8 @@ use Rattle.run_laws.specs.Tree.{parent_of, toward_by, tree_in, planned, plan}
 use Rattle.run_laws.specs.WalkLaws.{is_above, is_below, was_sent}
 use Rattle.run_laws.proofs.AtNodeLemmas.{turn_here}
 use Rattle.run_laws.proofs.BirthRunLemmas.{records_name_the_born}
-use Rattle.run_laws.proofs.EventsStandLemmas.{run_stands, nodes_are_as_events}
-use Rattle.run_laws.proofs.FreezeRunLemmas.{asked_stand_still}
-use Rattle.run_laws.proofs.OwnLemmas.{all_found}
-use Rattle.tree_laws.specs.Forests.{comes_to, asked_by, forest_of}
+use Rattle.run_laws.proofs.EventsStandLemmas.{run_stands, turns_tell_as_events}
+use Rattle.tree_laws.specs.Forests.{comes_to, asked_by}
 use Rattle.tree_laws.specs.RecordLaws.{LeadsTo, RecordLeads, WritesAsTold}
 use Rattle.tree_laws.proofs.AskLemmas.{sent_wider, below_asks, tells_asks}
 use Rattle.tree_laws.proofs.ForestLemmas as trees
@@ -44,26 +42,23 @@ use Rattle.tree_laws.proofs.ForestLemmas.{Known}
 use Rattle.tree_laws.proofs.PrefixLemmas.{so_far, f_at, e_at, one_on}
 use Rattle.tree_laws.proofs.RecordRunLemmas.{records_are_as_told}
 use Rattle.tree_laws.proofs.SettleRunLemmas.{known}
-use Rattle.site_laws.specs.DecideLaws.{InTree, SeesTree}
-use Rattle.site_laws.proofs.CommitTreeLemmas.{LeavesWell, in_it}
-use Rattle.site_laws.proofs.DecideLemmas as deciding
+use Rattle.site_laws.specs.DecideLaws.{SeesTree}
 use Rattle.site_laws.proofs.FindLemmas.{WasFound}
-use Rattle.site_laws.proofs.TimeLemmas.{Part, part_lawful, part_on, may_of, fact_at, sent_end, born_end}
+use Rattle.site_laws.proofs.TimeLemmas.{Part, part_lawful, part_on, may_of, fact_at, each_at, exit_end, born_end}
 use Rattle.site_laws.proofs.WeighLemmas.{placed_of}
 use Rattle.trail_laws.proofs.FullLemmas.{Sees, SeesAll, full}
 use Rattle.trail_laws.proofs.MomentLemmas.{tr_at, trail_one_on, at_moment, by_moment}
 use Rattle.trail_laws.proofs.RootLemmas.{last_so}
 use Rattle.trail_laws.proofs.SeenRunLemmas.{all_is_seen}
 use Rattle.trail_laws.proofs.SiteLemmas.{sees_tree}
-use Rattle.toward_laws.specs.NeighborLaws.{HasDecided, IsWholeUntilCommit, NamesTowardIn, SealsNameToward}
+use Rattle.toward_laws.specs.NeighborLaws.{SealsNameToward}
 use Rattle.toward_laws.proofs.AboveLemmas.{Top, top_of, root_asked}
-use Rattle.toward_laws.proofs.CommitPlanLemmas.{planned_after, unplanned_root}
+use Rattle.toward_laws.proofs.CommitPlanLemmas.{planned_after}
 use Rattle.toward_laws.proofs.FoundLemmas.{commit_before}
 use Rattle.toward_laws.proofs.ListedLemmas.{IsListed, Reach, reach_up, reach_listed, listed_map}
 use Rattle.toward_laws.proofs.OnWalkLemmas.{InPlan, in_plan, as_born, not_deep, toward_told}
-use Rattle.toward_laws.proofs.OrderLemmas.{Order, At_once, Earlier, Later, order_of}
 use Rattle.toward_laws.proofs.RootPathLemmas.{same_commit, root_path}
-use Rattle.toward_laws.proofs.StandLemmas.{NoneDropped}
+use Rattle.toward_laws.proofs.StepLemmas.{HasNext}
 use Rattle.toward_laws.proofs.StayLemmas.{OnPath}
 
 module _ (t : History) (whole : IsLawfulRun t) (sees : SeesAll t) (hs : List Happening) (u : Turn) (rest : List Happening) (is : hs ++ happenings.Turn u ∷ rest ≡ t.trace) (r : SealedRecord) (wrote : u.wrote ≡ Some (records.Sealed r)) where
@@ -195,7 +190,7 @@ module _ (t : History) (whole : IsLawfulRun t) (sees : SeesAll t) (hs : List Hap
 
   -- ---- by the tree at the COMMIT
 
-  module _ (found : WasFound s lawful r.root hs) (none : NoneDropped t found.before r.root) where
+  module _ (found : WasFound s lawful r.root hs) where
     abbrev hs0 : List Happening
     hs0 = found.before
 
@@ -246,11 +241,24 @@ module _ (t : History) (whole : IsLawfulRun t) (sees : SeesAll t) (hs : List Hap
     abbrev part0 : Part s lawful hs0
     part0 = record { rest = v ∷ found.later; is = found.is }
 
-    root : OnPath s lawful hs0 part0 r.root none r.root
-    root = root_path s lawful r.root found top none busy
+    next : HasNext s hs0
+    next = (v, found.later, found.is)
 
-    there : InPlan s lawful hs0 part0 r.root none root top tr0 sees0 z
-    there = in_plan s lawful hs0 part0 r.root none root top tr0 sees0 z it.began it.is_root it.asked
+    -- the sealed branch had not left
+    kept_in : exit (e_at t hs0) z.me ≢ Some Dropped
+    kept_in dropped =
+        let tells : TellsAsEvents (f_at t hs) (e_at t hs) h
+        = each_at t.places t.commands TellsAsEvents (first_facts t.places) hs h rest [] (subst (EachEventFrom TellsAsEvents t.places t.commands (first_facts t.places) []) (sym is) (turns_tell_as_events t whole)) in
+        let still : exit (e_at t hs) r.me ≡ None = (subst (λ w. IfSome w (MayStand (e_at t hs))) wrote tells.0).0 in
+        let mine : exit (e_at t hs) z.me ≡ None = subst (λ b. exit (e_at t hs) b ≡ None) (sym it.is_me) still in
+        let later : exit (e_at t hs) z.me ≡ Some Dropped = exit_end s lawful hs0 part0 z.me Dropped dropped in
+        cc (later, mine)
+
+    root : OnPath s lawful hs0 part0 r.root r.root
+    root = root_path s lawful r.root found top busy
+
+    there : InPlan s lawful hs0 part0 r.root next root top sees0 z
+    there = in_plan s lawful hs0 part0 r.root next root top sees0 z it.began it.is_root it.asked kept_in
 
     -- what is told of its parent
     parent_told : parent_of (seen_at tr0 z.me) ≡ z.parent
@@ -259,7 +267,7 @@ module _ (t : History) (whole : IsLawfulRun t) (sees : SeesAll t) (hs : List Hap
         let its = there.path.stands.here in
         let saw : Sees (f_at t hs0) tr0 = at_moment t (λ places f tr h. Sees f tr) sees hs0 v (found.later ++ h ∷ rest) commit_is in
         let told = saw.lives b.live.me.node its.kept its.up b.live (live_so its.kept b.live.me b its.found) in
-        subst (λ c. parent_of (seen_at tr0 c) ≡ z.parent) there.path.is_me (ap parent_of told.1 ∙ (told.2.told.parent ∙ (as_born s lawful hs0 part0 r.root none root top tr0 sees0 z it.began there.path).0))
+        subst (λ c. parent_of (seen_at tr0 c) ≡ z.parent) there.path.is_me (ap parent_of told.1 ∙ (told.2.told.parent ∙ (as_born s lawful hs0 part0 r.root next root top sees0 z it.began there.path).0))
 
     abbrev x : Planned
     x = planned t.places tr0 (seen.walk t.places tr0 r.root) z.me
@@ -267,7 +275,7 @@ module _ (t : History) (whole : IsLawfulRun t) (sees : SeesAll t) (hs : List Hap
     listed : IsListed (plan t.places tr0 r.root).tree x
     unfolding plan seen.tree
     listed =
-        let low : z.depth ≤ depth_limit = not_deep s lawful hs0 part0 r.root none root top tr0 sees0 z it.began there.path in
+        let low : z.depth ≤ depth_limit = not_deep s lawful hs0 part0 r.root next root top sees0 z it.began there.path in
         let levels : (depth_limit - z.depth) + z.depth ≡ depth_limit = omega (arith, low) in
         listed_map (planned t.places tr0 (seen.walk t.places tr0 r.root)) (tree_in depth_limit tr0 r.root) z.me
         (reach_listed tr0 depth_limit r.root z.me (subst (λ m. Reach tr0 m r.root z.me) levels (reach_up tr0 (depth_limit - z.depth) z.depth r.root z.me there.reach)))
@@ -276,7 +284,7 @@ module _ (t : History) (whole : IsLawfulRun t) (sees : SeesAll t) (hs : List Hap
     toward_so =
         let so : LeadsTo (said_in (f_at t hs)) z.me z.parent (Some q)
         = subst (λ c. LeadsTo (said_in (f_at t hs)) c z.parent (Some q)) (sym it.is_me) (subst (λ o. LeadsTo (said_in (f_at t hs)) r.me o (Some q)) (sym it.is_parent) leads.2) in
-        ap (toward_by (seen.walk t.places tr0 r.root) z.me) parent_told ∙ toward_told s lawful hs0 part0 r.root none root top tr0 sees0 z it.began it.is_root it.asked q so
+        ap (toward_by (seen.walk t.places tr0 r.root) z.me) parent_told ∙ toward_told s lawful hs0 part0 r.root next root top sees0 z it.began it.is_root it.asked kept_in q so
 
     abbrev tr1 : Trail
     tr1 = trail_after t.places (f_at t hs) (tr_at t hs) h
@@ -290,99 +298,22 @@ module _ (t : History) (whole : IsLawfulRun t) (sees : SeesAll t) (hs : List Hap
     names : NamesToward tr1 (records.Sealed r)
     names = (x, record { plan = plan t.places tr0 r.root; planned = planned_so; place = listed.0; listed = listed.1 }, it.is_me, sym it.is_parent ∙ sym parent_told, leads.1 ∙ sym toward_so)
 
-  -- ---- where the tree was whole
-
-  found_by : WasFound s lawful r.root hs
-  found_by = commit_before s lawful r.root top it.top.0 it.top.1
-
-  whole_names : IsWholeUntilCommit t r.root → NamesToward (trail_after t.places (f_at t hs) (tr_at t hs) h) (records.Sealed r)
-  whole_names until =
-      let commit_is : found_by.before ++ happenings.Turn found_by.turn ∷ (found_by.later ++ h ∷ rest) ≡ t.trace
-      = sym (append_assoc found_by.before (happenings.Turn found_by.turn ∷ found_by.later) (h ∷ rest)) ∙ (ap (λ xs. xs ++ h ∷ rest) found_by.is ∙ is) in
-      let found_t : WasFound t whole r.root t.trace = record {
-        before = found_by.before;
-        turn = found_by.turn;
-        later = found_by.later ++ h ∷ rest;
-        is = commit_is;
-        commit = same_commit s t lawful whole r.root found_by.before found_by.turn (λ n. refl) found_by.commit;
-      } in
-      names found_by (until found_by.before (happenings.Turn found_by.turn ∷ (found_by.later ++ h ∷ rest)) commit_is (unplanned_root t whole sees r.root found_t))
-
-  -- ---- where it is decided
-
-  module _ (b : BranchId) (n : ℕ) (decided : exit (events_of t) b ≡ Some (Decided n)) (of_root : (forest_of t).root b ≡ r.root) where
-    abbrev found_d : WasFound t whole (deciding.r t whole b n decided) t.trace
-    found_d = deciding.found t whole b n decided
-
-    same_root : deciding.r t whole b n decided ≡ r.root
-    same_root = (let heard = deciding.heard t whole b n decided in sym (trees.root_is (births_of t) (said_in (facts_at t)) (known t whole) heard.0 b heard.1 heard.2) ∙ of_root)
-
-    abbrev d : BranchId
-    d = deciding.r t whole b n decided
-
-    -- each branch of the tree was live
-    decided_whole : NoneDropped t found_d.before d
-    decided_whole c inside dropped =
-        let part_d : Part t whole found_d.before = deciding.part_found t whole b n decided in
-        let leaves = deciding.well t whole b n decided in
-        let me = found_d.commit.is_me in
-        let well : LeavesWell t whole found_d.before part_d d d = (leaves.0, subst (λ a. exit (events_of t) a ≡ Some leaves.0) me leaves.1, leaves.2) in
-        let its = in_it t whole found_d.before part_d d b n decided (deciding.inside t whole b n decided) found_d.commit.branch (deciding.member t whole b n decided) well me c inside in
-        let l : Live = its.branch.live in
-        let clean : exit (e_at t found_d.before) l.me ≡ None
-        = all_found (λ (y : Live). exit (e_at t found_d.before) y.me ≡ None) live_id its.member.here.kept.lives l.me l
-        (nodes_are_as_events (so_far t found_d.before) (part_lawful t whole found_d.before part_d) l.me.node its.member.here.kept its.member.here.up).0 (live_so its.member.here.kept l.me its.branch its.member.here.found) in
-        let none : exit (e_at t found_d.before) c ≡ None = subst (λ a. exit (e_at t found_d.before) a ≡ None) its.is_me clean in
-        absurd (cc (none, dropped))
-
-    -- the root has asked nobody when its COMMIT comes
-    unasked : (found : WasFound t whole r.root t.trace) → Part t whole found.before → (c : BranchId) → was_asked (said_in (f_at t found.before)) r.root c ≡ false
-    unasked found part_f c =
-        let at = found.commit in
-        let up : node_at (f_at t found.before) at.branch.live.me.node ≡ Some at.kept = subst (λ a. node_at (f_at t found.before) a.node ≡ Some at.kept) (sym at.is_me) at.up in
-        subst (λ a. was_asked (said_in (f_at t found.before)) a c ≡ false) at.is_me
-        ((asked_stand_still (so_far t found.before) (part_lawful t whole found.before part_f) at.branch.live.me.node at.kept up at.branch at.found).0 at.working c)
-
-    abbrev WholeCommit : BranchId → Type 0
-    WholeCommit c = (found : WasFound t whole c t.trace) × NoneDropped t found.before c
-
-    whole_commit : WholeCommit r.root
-    whole_commit = subst WholeCommit same_root (found_d, decided_whole)
-
-    decided_names : NamesToward (trail_after t.places (f_at t hs) (tr_at t hs) h) (records.Sealed r)
-    decided_names = by whole_commit.0 whole_commit.1
-      where
-        by : (found : WasFound t whole r.root t.trace) → NoneDropped t found.before r.root → NamesToward (trail_after t.places (f_at t hs) (tr_at t hs) h) (records.Sealed r)
-        by found none = of (order_of hs found.before h (happenings.Turn found.turn) rest found.later (is ∙ sym found.is))
-          where
-            part_f : Part t whole found.before
-            part_f = record { rest = happenings.Turn found.turn ∷ found.later; is = found.is }
-
-            not_before : was_asked (said_in (f_at t found.before)) r.root it.top.0 ≡ true → ⊥
-            not_before was = (let no : was_asked (said_in (f_at t found.before)) r.root it.top.0 ≡ false = unasked found part_f it.top.0 in absurd (cc (was, no)))
-
-            of : Order hs h found.before (happenings.Turn found.turn) → NamesToward (trail_after t.places (f_at t hs) (tr_at t hs) h) (records.Sealed r)
-            of (At_once place one) = absurd (not_before (subst (λ xs. was_asked (said_in (f_at t xs)) r.root it.top.0 ≡ true) place it.top.1))
-            of (Earlier mid at) = absurd (not_before (sent_end (so_far t found.before) (part_lawful t whole found.before part_f) hs (record { rest = h ∷ mid; is = at }) is_prepare r.root it.top.0 it.top.1))
-            of (Later mid at) =
-                names (record { before = found.before; turn = found.turn; later = mid; is = at; commit = same_commit t s whole lawful r.root found.before found.turn (λ n. refl) found.commit }) none
-
-  pub names_so : HasDecided t r.root ⊎ IsWholeUntilCommit t r.root → NamesToward (trail_after t.places (f_at t hs) (tr_at t hs) h) (records.Sealed r)
-  names_so so = elim so [ inl it ↦ decided_names it.branch it.scn it.decided it.of_root | inr until ↦ whole_names until ]
+  pub names_so : NamesToward (trail_after t.places (f_at t hs) (tr_at t hs) h) (records.Sealed r)
+  names_so = names (commit_before s lawful r.root top it.top.0 it.top.1)
 
 module _ (t : History) (whole : IsLawfulRun t) (sees : SeesAll t) where
   record_names : (hs : List Happening) (u : Turn) (rest : List Happening) → hs ++ happenings.Turn u ∷ rest ≡ t.trace → (w : Option RedoRecord) → u.wrote ≡ w
-      → IfSome w (NamesTowardIn t (trail_after t.places (f_at t hs) (tr_at t hs) (happenings.Turn u)))
+      → IfSome w (NamesToward (trail_after t.places (f_at t hs) (tr_at t hs) (happenings.Turn u)))
   record_names hs u rest is None wrote = tt
   record_names hs u rest is (Some (records.Sealed r)) wrote = names_so t whole sees hs u rest is r wrote
   record_names hs u rest is (Some _) wrote = tt
 
-  at_each : (hs : List Happening) (h : Happening) (rest : List Happening) → hs ++ h ∷ rest ≡ t.trace → RecordIsSo (NamesTowardIn t) t.places (f_at t hs) (tr_at t hs) h
+  at_each : (hs : List Happening) (h : Happening) (rest : List Happening) → hs ++ h ∷ rest ≡ t.trace → RecordIsSo NamesToward t.places (f_at t hs) (tr_at t hs) h
   at_each hs (happenings.Turn u) rest is = record_names hs u rest is u.wrote refl
   at_each hs _ rest is = tt
 
-  pub neighbors_named : AtEach (RecordIsSo (NamesTowardIn t)) t
-  neighbors_named = by_moment t (RecordIsSo (NamesTowardIn t)) at_each
+  pub neighbors_named : AtEach (RecordIsSo NamesToward) t
+  neighbors_named = by_moment t (RecordIsSo NamesToward) at_each
 
 pub seals_name_toward : SealsNameToward
 seals_name_toward t lawful = neighbors_named t lawful (full t lawful (all_is_seen t lawful))

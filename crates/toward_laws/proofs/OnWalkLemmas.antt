@@ -1,5 +1,5 @@
 -- The branches that were asked are in the tree that is told when the COMMIT comes, and the walk there is the way that Prepares tell.
-use Rattle.std.proofs.Common.{◌≡◌, ◌≢◌, ℕ, zero, suc, ◌+◌, ◌≤◌, ◌⊎◌, ◌||◌, Bool, true, false, if◌then◌else◌, List, [], ◌∷◌, Option, Some, None, inl, inr, refl, sym, ap, subst, subst₂, ◌∙◌, arith}
+use Rattle.std.proofs.Common.{◌≡◌, ◌≢◌, ℕ, zero, suc, ◌+◌, ◌≤◌, ◌⊎◌, Bool, true, false, if◌then◌else◌, List, [], ◌∷◌, Option, Some, None, inl, inr, refl, sym, ap, subst, subst₂, ◌∙◌, arith}
 use Rattle.std.proofs.lemmas.Bool.{or_cases, or_left, or_right}
 use Rattle.dtx_values.specs.Limits.{depth_limit}
 use Rattle.tran_ids.proofs.BranchLemmas.{same_from_equal, equal_from_same}
@@ -7,9 +7,9 @@ use Rattle.session_tree.specs.Live.{children_of}
 use Rattle.session_tree.specs.Tree.{step}
 use Rattle.session_tree.specs.declared.act.Walk.{Walk}
 use Rattle.session_tree.specs.declared.act.Walk.TheVariants as walks
+use Rattle.agreement.specs.Events.{Dropped, exit}
 use Rattle.node_rules.specs.Data.{BranchId, Post}
 use Rattle.node_rules.specs.Words.{same, numbered}
-use Rattle.node_rules.specs.Kept.{Branch}
 use Rattle.run_laws.specs.Births.{Born, births_of}
 use Rattle.run_laws.specs.BirthLaws.{Began, LiveIs}
 use Rattle.run_laws.specs.Branches.{Trail, is_among, children_at}
@@ -21,27 +21,32 @@ use Rattle.run_laws.specs.Trail.{is_prepare}
 use Rattle.run_laws.specs.Tree as seen
 use Rattle.run_laws.specs.Tree.{walk_in}
 use Rattle.run_laws.specs.WalkLaws.{is_below, is_above, was_sent}
-use Rattle.run_laws.proofs.KidLemmas.{child_of}
 use Rattle.tree_laws.specs.Forests.{depth_in, depth_at, told_below, comes_to, asked_by}
 use Rattle.tree_laws.specs.RecordLaws.{LeadsTo}
 use Rattle.tree_laws.proofs.AskLemmas.{sent_wider, below_asks}
 use Rattle.tree_laws.proofs.ForestLemmas as trees
 use Rattle.tree_laws.proofs.ForestLemmas.{Known, told_sent}
-use Rattle.tree_laws.proofs.PrefixLemmas.{so_far, f_at}
+use Rattle.tree_laws.proofs.PrefixLemmas.{so_far, f_at, e_at}
 use Rattle.tree_laws.proofs.SettleRunLemmas.{known}
-use Rattle.site_laws.specs.DecideLaws.{live_in, SeesTree}
+use Rattle.site_laws.specs.DecideLaws.{SeesTree}
 use Rattle.site_laws.proofs.DecideLemmas.{IsTop}
 use Rattle.site_laws.proofs.FrozenLemmas.{PointsTo}
-use Rattle.site_laws.proofs.MemberLemmas.{born_below}
-use Rattle.site_laws.proofs.TimeLemmas.{Part, part_lawful, born_end}
-use Rattle.toward_laws.proofs.AboveLemmas.{above_of}
+use Rattle.site_laws.proofs.MemberLemmas.{BornBelow, IsIn}
+use Rattle.site_laws.proofs.TimeLemmas.{Part, part_lawful, exit_end, born_end}
+use Rattle.trail_laws.proofs.MomentLemmas.{tr_at}
+use Rattle.toward_laws.proofs.AboveLemmas.{above_of, root_asked}
 use Rattle.toward_laws.proofs.ChainLemmas.{Steps, Arrives, Goes, comes_steps, steps_deeper, sent_told}
 use Rattle.toward_laws.proofs.ListedLemmas.{Reach, Itself, reach_kid}
-use Rattle.toward_laws.proofs.StandLemmas.{NoneDropped, Stands, stands_live, placed, kid_of}
+use Rattle.toward_laws.proofs.SentLemmas.{sent_then}
+use Rattle.toward_laws.proofs.StandLemmas.{placed, unasked}
 use Rattle.toward_laws.proofs.StayLemmas.{OnPath, asked_kid, told_kid, tells_on, kid_path, kid_deeper}
-use Rattle.toward_laws.proofs.StepLemmas.{next_kid, next_goes, kids_seen, step_seen}
+use Rattle.toward_laws.proofs.StepLemmas.{HasNext, KidsTold, told_standing, told_below_it, kids_seen, step_seen, next_goes}
 
-module _ (t : History) (whole : IsLawfulRun t) (hs0 : List Happening) (part0 : Part t whole hs0) (r : BranchId) (none : NoneDropped t hs0 r) (root : OnPath t whole hs0 part0 r none r) (top : IsTop t whole r) (tr : Trail) (sees : SeesTree (f_at t hs0) tr r) where
+module _ (t : History) (whole : IsLawfulRun t) (hs0 : List Happening) (part0 : Part t whole hs0) (r : BranchId) (next : HasNext t hs0) (root : OnPath t whole hs0 part0 r r) (top : IsTop t whole r)
+    (sees : SeesTree (f_at t hs0) (tr_at t hs0) r) where
+  abbrev tr : Trail
+  tr = tr_at t hs0
+
   abbrev said : List Post
   said = said_in (facts_at t)
 
@@ -55,7 +60,50 @@ module _ (t : History) (whole : IsLawfulRun t) (hs0 : List Happening) (part0 : P
   knows = known t whole
 
   abbrev Path : BranchId → Type 0
-  Path c = OnPath t whole hs0 part0 r none c
+  Path c = OnPath t whole hs0 part0 r c
+
+  -- ---- who asks
+
+  -- a child of a branch of the tree is one of it
+  in_kid : (p : BranchId) → IsIn bs r p → (x : Born) → Began bs x → x.parent ≡ Some p → x.root ≡ r
+  in_kid p inside x began above =
+      let up = trees.below_of bs said knows x p began above in
+      let one : up.up ≡ inside.0 = trees.same_born bs said knows up.up inside.0 up.began inside.1 (up.is_me ∙ sym inside.2) in
+      sym up.is_root ∙ (ap (λ (y : Born). y.root) one ∙ inside.3)
+
+  asked_in : (p c : BranchId) → IsIn bs r p → was_asked said p c ≡ true → IsIn bs r c
+  asked_in p c inside asked = (let kid = knows.child p c asked in (kid.0, kid.1, kid.2, in_kid p inside kid.0 kid.1 kid.3))
+
+  lawful0 : IsLawfulRun s0
+  lawful0 = part_lawful t whole hs0 part0
+
+  knows0 : Known (births_of s0) (said_in (f_at t hs0))
+  knows0 = known s0 lawful0
+
+  -- none of them had asked when the COMMIT came
+  quiet : (p c : BranchId) → IsIn bs r p → was_asked (said_in (f_at t hs0)) p c ≡ false
+  quiet p c inside = by (was_asked (said_in (f_at t hs0)) p c) refl
+    where
+      by : (w : Bool) → was_asked (said_in (f_at t hs0)) p c ≡ w → w ≡ false
+      by false asked = refl
+      by true asked =
+          let kid = knows0.child p c asked in
+          let of_root : kid.0.root ≡ r = in_kid p inside kid.0 (born_end t whole hs0 part0 kid.0 kid.1) kid.3 in
+          let it = root_asked (births_of s0) (said_in (f_at t hs0)) knows0 kid.0 p kid.1 kid.3 (subst (λ b. was_asked (said_in (f_at t hs0)) p b ≡ true) (sym kid.2) asked) in
+          let no : was_asked (said_in (f_at t hs0)) r it.0 ≡ false = subst (λ b. was_asked (said_in (f_at t hs0)) b it.0 ≡ false) root.is_me (unasked t whole hs0 part0 r root.branch root.stands it.0) in
+          let yes : was_asked (said_in (f_at t hs0)) r it.0 ≡ true = subst (λ b. was_asked (said_in (f_at t hs0)) b it.0 ≡ true) of_root it.1 in
+          absurd (cc (yes, no))
+
+  abbrev KeptIn : BranchId → Type 0
+  KeptIn c = exit (e_at t hs0) c ≢ Some Dropped
+
+  -- who asked later had not been dropped
+  asker_kept : (p c : BranchId) → IsIn bs r p → was_asked said p c ≡ true → KeptIn p
+  asker_kept p c inside asked dropped =
+      let it = sent_then t whole hs0 part0 is_prepare (λ z so. so) p c (quiet p c inside) asked in
+      let later : exit (e_at t it.moment) p ≡ Some Dropped = exit_end (so_far t it.moment) (part_lawful t whole it.moment it.part) hs0 (record { rest = it.since.0; is = it.since.1 }) p Dropped dropped in
+      let still : exit (e_at t it.moment) p ≡ None = it.live in
+      cc (later, still)
 
   -- ---- the tree
 
@@ -72,32 +120,34 @@ module _ (t : History) (whole : IsLawfulRun t) (hs0 : List Happening) (part0 : P
 
   -- what is told of its children
   kids_told : (c : BranchId) (it : Path c) → children_at tr c ≡ children_of it.branch.live
-  kids_told c it = subst (λ b. children_at tr b ≡ children_of it.branch.live) it.is_me (kids_seen t whole hs0 part0 r none tr sees it.branch it.stands)
+  kids_told c it = subst (λ b. children_at tr b ≡ children_of it.branch.live) it.is_me (kids_seen t whole hs0 part0 r next sees it.branch it.stands)
 
   step_told : (c : BranchId) (it : Path c) → seen.step t.places tr c ≡ step it.branch.live
-  step_told c it = step_seen t whole hs0 part0 r none tr sees it.branch it.stands c it.is_me
+  step_told c it = step_seen t whole hs0 part0 r next sees it.branch it.stands c it.is_me
 
-  kid_in : (z up : Born) → up.depth + 1 ≡ z.depth → was_asked said up.me z.me ≡ true → InPlan up → InPlan z
-  kid_in z up deeper asked it =
-      let kid = asked_kid t whole hs0 part0 r none up.me it.path z.me asked in
+  kid_in : (z up : Born) → up.depth + 1 ≡ z.depth → was_asked said up.me z.me ≡ true → KeptIn z.me → InPlan up → InPlan z
+  kid_in z up deeper asked kept_in it =
+      let kid = asked_kid t whole hs0 part0 r up.me it.path z.me asked in
       let depth : suc up.depth ≡ z.depth = omega (arith, deeper) in
       record {
-        path = kid_path t whole hs0 part0 r none up.me it.path z.me asked;
+        path = kid_path t whole hs0 part0 r up.me it.path z.me asked kept_in;
         reach = subst (λ d. Reach tr d r z.me) depth (reach_kid tr up.depth kid.0 r up.me z.me it.reach (subst (λ ps. numbered ps kid.0 ≡ Some z.me) (sym (kids_told up.me it.path)) kid.1));
       }
 
-  in_plan_by : (m : ℕ) (z : Born) → Began bs z → z.depth ≤ m → z.root ≡ r → asked_by said z.me z.parent ≡ true → InPlan z
-  in_plan_by zero z began low is_root asked = (let high : 1 ≤ z.depth = trees.high bs said knows z began in absurd (omega (arith, low, high)))
-  in_plan_by (suc m) z began low is_root asked = by z.parent refl asked (λ y its less of_root on. in_plan_by m y its less of_root on)
+  in_plan_by : (m : ℕ) (z : Born) → Began bs z → z.depth ≤ m → z.root ≡ r → asked_by said z.me z.parent ≡ true → KeptIn z.me → InPlan z
+  in_plan_by zero z began low is_root asked kept_in = (let high : 1 ≤ z.depth = trees.high bs said knows z began in absurd (omega (arith, low, high)))
+  in_plan_by (suc m) z began low is_root asked kept_in = by z.parent refl asked (λ y its less of_root on kept. in_plan_by m y its less of_root on kept)
     where
-      by : (o : Option BranchId) → z.parent ≡ o → asked_by said z.me o ≡ true → ((y : Born) → Began bs y → y.depth ≤ m → y.root ≡ r → asked_by said y.me y.parent ≡ true → InPlan y) → InPlan z
+      by : (o : Option BranchId) → z.parent ≡ o → asked_by said z.me o ≡ true → ((y : Born) → Began bs y → y.depth ≤ m → y.root ≡ r → asked_by said y.me y.parent ≡ true → KeptIn y.me → InPlan y) → InPlan z
       by None no_parent so above = top_in z began is_root no_parent
       by (Some q) is sent above =
           let up = above_of bs said knows z q began is sent in
-          kid_in z up.up up.deeper (subst (λ p. was_asked said p z.me ≡ true) (sym up.is_me) sent) (above up.up up.began (omega (arith, low, up.deeper)) (up.is_root ∙ is_root) up.asked)
+          let by_up : was_asked said up.up.me z.me ≡ true = subst (λ p. was_asked said p z.me ≡ true) (sym up.is_me) sent in
+          let of_root : up.up.root ≡ r = up.is_root ∙ is_root in
+          kid_in z up.up up.deeper by_up kept_in (above up.up up.began (omega (arith, low, up.deeper)) of_root up.asked (asker_kept up.up.me z.me (up.up, up.began, refl, of_root) by_up))
 
-  pub in_plan : (z : Born) → Began bs z → z.root ≡ r → asked_by said z.me z.parent ≡ true → InPlan z
-  in_plan z began is_root asked = in_plan_by z.depth z began (omega arith) is_root asked
+  pub in_plan : (z : Born) → Began bs z → z.root ≡ r → asked_by said z.me z.parent ≡ true → KeptIn z.me → InPlan z
+  in_plan z began is_root asked kept_in = in_plan_by z.depth z began (omega arith) is_root asked kept_in
 
   -- it is as it was born
   pub as_born : (z : Born) → Began bs z → (it : Path z.me) → (it.branch.live.parent ≡ z.parent) × (it.branch.live.depth ≡ z.depth)
@@ -125,23 +175,25 @@ module _ (t : History) (whole : IsLawfulRun t) (hs0 : List Happening) (part0 : P
 
   -- One step, to a child that was told so.
   record OneStep (b d : BranchId) : Type 0 where
-    pub next : Path d
     pub on : (m : ℕ) → Walked (suc m) b ≡ b ∷ Walked m d
     pub first : (m : ℕ) → (rest : List BranchId) × (Walked (suc m) d ≡ d ∷ rest)
 
+  asks_next : (b d : BranchId) → told_below said b ≡ Some d → was_asked said b d ≡ true
+  asks_next b d told = sent_wider is_below is_prepare below_asks said b d (told_sent said b d told)
+
   one_step : (b d : BranchId) → Path b → told_below said b ≡ Some d → OneStep b d
   one_step b d it told =
-      let sent : was_sent is_below said b d ≡ true = told_sent said b d told in
-      let asked : was_asked said b d ≡ true = sent_wider is_below is_prepare below_asks said b d sent in
-      let down : PointsTo it.branch.live d = told_kid t whole hs0 part0 r none b it d sent in
-      let k = next_kid t whole hs0 part0 r none it.branch it.stands d down in
+      let down : PointsTo it.branch.live d = told_kid t whole hs0 part0 r b it d (told_sent said b d told) in
       let there : numbered (children_at tr b) down.0 ≡ Some d = subst (λ ps. numbered ps down.0 ≡ Some d) (sym (kids_told b it)) down.2 in
-      let its_step : seen.step t.places tr d ≡ step k.branch.live = step_seen t whole hs0 part0 r none tr sees k.branch k.stands d k.is_me in
       record {
-        next = kid_path t whole hs0 part0 r none b it d asked;
         on = λ m. ap (λ w. seen.walks_by (walk_in m t.places tr) b (children_at tr b) w) (step_told b it ∙ down.1) ∙ ap (λ o. b ∷ seen.goes_down (walk_in m t.places tr) o) there;
-        first = λ m. starts m d (λ nowhere. next_goes t whole hs0 part0 r none it.branch it.stands d down (sym its_step ∙ nowhere));
+        first = λ m. starts m d (next_goes t whole hs0 part0 r next sees it.branch it.stands d down);
       }
+
+  -- one that is passed was told of the next
+  told_on : (j : ℕ) (e c d : BranchId) → Steps said j e c → told_below said c ≡ Some d → (f : BranchId) × (told_below said e ≡ Some f)
+  told_on j e c d (Arrives _) told = (d, told)
+  told_on j e c d (Goes k _ f _ on rest) told = (f, on)
 
   abbrev Passes : ℕ → BranchId → BranchId → BranchId → Type 0
   Passes m b c d = (is_among c (Walked m b) ≡ true) × (seen.next_on c (Walked m b) ≡ Some d)
@@ -153,21 +205,25 @@ module _ (t : History) (whole : IsLawfulRun t) (hs0 : List Happening) (part0 : P
   next_later b c e rest other = ap (λ q. if q then Some e else seen.next_on c (e ∷ rest)) other
 
   -- the walk passes the branches that were told so
-  passes : (k m : ℕ) (b c d : BranchId) → Steps said k b c → Path b → told_below said c ≡ Some d → suc (suc k) ≤ m → Passes m b c d
-  passes k zero b c d steps it told low = absurd (omega (arith, low))
-  passes k (suc zero) b c d steps it told low = absurd (omega (arith, low))
-  passes k (suc (suc m)) b c d (Arrives _) it told low =
+  passes : (k m : ℕ) (b c d : BranchId) → Steps said k b c → Path b → IsIn bs r b → told_below said c ≡ Some d → suc (suc k) ≤ m → Passes m b c d
+  passes k zero b c d steps it inside told low = absurd (omega (arith, low))
+  passes k (suc zero) b c d steps it inside told low = absurd (omega (arith, low))
+  passes k (suc (suc m)) b c d (Arrives _) it inside told low =
       let one : OneStep b d = one_step b d it told in
-      let next = one.first m in
-      let all : Walked (suc (suc m)) b ≡ b ∷ d ∷ next.0 = one.on (suc m) ∙ ap (λ ds. b ∷ ds) next.1 in
-      subst (λ ds. (is_among b ds ≡ true) × (seen.next_on b ds ≡ Some d)) (sym all) (or_left (same b b) _ (same_from_equal b b refl), next_here b d next.0)
-  passes k (suc (suc m)) b c d (Goes j _ e _ on rest) it told low =
+      let first = one.first m in
+      let all : Walked (suc (suc m)) b ≡ b ∷ d ∷ first.0 = one.on (suc m) ∙ ap (λ ds. b ∷ ds) first.1 in
+      subst (λ ds. (is_among b ds ≡ true) × (seen.next_on b ds ≡ Some d)) (sym all) (or_left (same b b) _ (same_from_equal b b refl), next_here b d first.0)
+  passes k (suc (suc m)) b c d (Goes j _ e _ on rest) it inside told low =
       let one : OneStep b e = one_step b e it on in
-      let later : Passes (suc m) e c d = passes j (suc m) e c d rest one.next told (omega (arith, low)) in
-      let next = one.first m in
-      let all : Walked (suc (suc m)) b ≡ b ∷ e ∷ next.0 = one.on (suc m) ∙ ap (λ ds. b ∷ ds) next.1 in
-      let so : (is_among c (e ∷ next.0) ≡ true) × (seen.next_on c (e ∷ next.0) ≡ Some d) = subst (λ ds. (is_among c ds ≡ true) × (seen.next_on c ds ≡ Some d)) next.1 later in
-      subst (λ ds. (is_among c ds ≡ true) × (seen.next_on c ds ≡ Some d)) (sym all) (or_right (same b c) _ so.0, next_later b c e next.0 (apart (same b c) refl) ∙ so.1)
+      let asked : was_asked said b e ≡ true = asks_next b e on in
+      let its : IsIn bs r e = asked_in b e inside asked in
+      let further = told_on j e c d rest told in
+      let path : Path e = kid_path t whole hs0 part0 r b it e asked (asker_kept e further.0 its (asks_next e further.0 further.1)) in
+      let later : Passes (suc m) e c d = passes j (suc m) e c d rest path its told (omega (arith, low)) in
+      let first = one.first m in
+      let all : Walked (suc (suc m)) b ≡ b ∷ e ∷ first.0 = one.on (suc m) ∙ ap (λ ds. b ∷ ds) first.1 in
+      let so : (is_among c (e ∷ first.0) ≡ true) × (seen.next_on c (e ∷ first.0) ≡ Some d) = subst (λ ds. (is_among c ds ≡ true) × (seen.next_on c ds ≡ Some d)) first.1 later in
+      subst (λ ds. (is_among c ds ≡ true) × (seen.next_on c ds ≡ Some d)) (sym all) (or_right (same b c) _ so.0, next_later b c e first.0 (apart (same b c) refl) ∙ so.1)
     where
       apart : (q : Bool) → same b c ≡ q → q ≡ false
       apart false is = refl
@@ -178,35 +234,53 @@ module _ (t : History) (whole : IsLawfulRun t) (hs0 : List Happening) (part0 : P
 
   -- ---- who is on the walk
 
-  abbrev Led : ℕ → BranchId → BranchId → Type 0
-  Led m b c = (w : Branch) × Stands t whole hs0 part0 r w × (is_among w.live.me (Walked m b) ≡ true) × PointsTo w.live c
+  -- The step of a branch on the walk leads to this one, which began below it.
+  record Led (m : ℕ) (b c : BranchId) : Type 0 where
+    pub from : BranchId
+    pub among : is_among from (Walked m b) ≡ true
+    pub place : ℕ
+    pub leads : seen.step t.places tr from ≡ walks.Down place
+    pub there : numbered (children_at tr from) place ≡ Some c
+    pub below : BornBelow (births_of s0) c from
+
+  abbrev KidsAreTold : BranchId → Type 0
+  KidsAreTold b = KidsTold t whole hs0 part0 r next sees b
 
   -- a branch on the walk is its first, or the step of one before it leads there
-  led : (m : ℕ) (x : Branch) → Stands t whole hs0 part0 r x → (b c : BranchId) → x.live.me ≡ b → is_among c (Walked m b) ≡ true → (c ≡ b) ⊎ Led m b c
-  led zero x it b c me among = absurd cc
-  led (suc m) x it b c me among = by (step x.live) refl (subst (λ w. is_among c (seen.walks_by (walk_in m t.places tr) b (children_at tr b) w) ≡ true) its among) (λ y stands d is_me on. led m y stands d c is_me on)
+  led : (m : ℕ) (b c : BranchId) → KidsAreTold b → is_among c (Walked m b) ≡ true → (c ≡ b) ⊎ Led m b c
+  led zero b c kids among = absurd cc
+  led (suc m) b c kids among = by (seen.step t.places tr b) refl among (λ d its on. led m d c its on)
     where
-      its : seen.step t.places tr b ≡ step x.live
-      its = step_seen t whole hs0 part0 r none tr sees x it b me
-
       first : same b c ≡ true → (c ≡ b) ⊎ Led (suc m) b c
       first here = inl (sym (equal_from_same b c here))
 
-      down : (i : ℕ) → step x.live ≡ walks.Down i → (o : Option BranchId) → numbered (children_at tr b) i ≡ o → is_among c (seen.goes_down (walk_in m t.places tr) o) ≡ true
-          → ((y : Branch) → Stands t whole hs0 part0 r y → (d : BranchId) → y.live.me ≡ d → is_among c (Walked m d) ≡ true → (c ≡ d) ⊎ Led m d c) → (c ≡ b) ⊎ Led (suc m) b c
+      down : (i : ℕ) → seen.step t.places tr b ≡ walks.Down i → (o : Option BranchId) → numbered (children_at tr b) i ≡ o → is_among c (seen.goes_down (walk_in m t.places tr) o) ≡ true
+          → ((d : BranchId) → KidsAreTold d → is_among c (Walked m d) ≡ true → (c ≡ d) ⊎ Led m d c) → (c ≡ b) ⊎ Led (suc m) b c
       down i is None at on further = absurd cc
       down i is (Some d) at on further =
-          let kids : children_at tr b ≡ children_of x.live = subst (λ a. children_at tr a ≡ children_of x.live) me (kids_seen t whole hs0 part0 r none tr sees x it) in
-          let there : numbered (children_of x.live) i ≡ Some d = subst (λ ps. numbered ps i ≡ Some d) kids at in
-          let k = kid_of t whole hs0 part0 r none x it i d there in
-          let all : Walked (suc m) b ≡ b ∷ Walked m d = ap (λ w. seen.walks_by (walk_in m t.places tr) b (children_at tr b) w) (its ∙ is) ∙ ap (λ o. b ∷ seen.goes_down (walk_in m t.places tr) o) at in
-          elim (further k.branch k.stands d k.is_me on) [
-            | inl here ↦ inr (x, it, subst (λ ds. is_among x.live.me ds ≡ true) (sym all) (or_left (same b x.live.me) _ (same_from_equal b x.live.me (sym me))), (i, is, subst (λ e. numbered (children_of x.live) i ≡ Some e) (sym here) there))
-            | inr it ↦ inr (it.0, it.1, subst (λ ds. is_among it.0.live.me ds ≡ true) (sym all) (or_right (same b it.0.live.me) _ it.2), it.3)
+          let kid = kids i d at in
+          let all : Walked (suc m) b ≡ b ∷ Walked m d = ap (λ w. seen.walks_by (walk_in m t.places tr) b (children_at tr b) w) is ∙ ap (λ o. b ∷ seen.goes_down (walk_in m t.places tr) o) at in
+          elim (further d (told_below_it t whole hs0 part0 r next sees b d kid) on) [
+            | inl here ↦ inr (record {
+                from = b;
+                among = subst (λ ds. is_among b ds ≡ true) (sym all) (or_left (same b b) _ (same_from_equal b b refl));
+                place = i;
+                leads = is;
+                there = subst (λ e. numbered (children_at tr b) i ≡ Some e) (sym here) at;
+                below = subst (λ e. BornBelow (births_of s0) e b) (sym here) kid.2;
+              })
+            | inr it ↦ inr (record {
+                from = it.from;
+                among = subst (λ ds. is_among it.from ds ≡ true) (sym all) (or_right (same b it.from) _ it.among);
+                place = it.place;
+                leads = it.leads;
+                there = it.there;
+                below = it.below;
+              })
           ]
 
-      by : (w : Walk) → step x.live ≡ w → is_among c (seen.walks_by (walk_in m t.places tr) b (children_at tr b) w) ≡ true
-          → ((y : Branch) → Stands t whole hs0 part0 r y → (d : BranchId) → y.live.me ≡ d → is_among c (Walked m d) ≡ true → (c ≡ d) ⊎ Led m d c) → (c ≡ b) ⊎ Led (suc m) b c
+      by : (w : Walk) → seen.step t.places tr b ≡ w → is_among c (seen.walks_by (walk_in m t.places tr) b (children_at tr b) w) ≡ true
+          → ((d : BranchId) → KidsAreTold d → is_among c (Walked m d) ≡ true → (c ≡ d) ⊎ Led m d c) → (c ≡ b) ⊎ Led (suc m) b c
       by walks.Here is on further = elim (or_cases (same b c) false on) [ inl here ↦ first here | inr never ↦ absurd cc ]
       by walks.Nowhere is on further = absurd cc
       by (walks.Down i) is on further = elim (or_cases (same b c) (is_among c (seen.goes_down (walk_in m t.places tr) (numbered (children_at tr b) i))) on) [
@@ -222,38 +296,40 @@ module _ (t : History) (whole : IsLawfulRun t) (hs0 : List Happening) (part0 : P
       by : (o : Option BranchId) → z.parent ≡ o → asked_by said z.me o ≡ true
           → ((y : Born) → Began bs y → y.depth ≤ m → y.root ≡ r → asked_by said y.me y.parent ≡ true → is_among y.me (Walked depth_limit r) ≡ true → comes_to said y.me y.parent ≡ true) → comes_to said z.me o ≡ true
       by None no_parent so above = refl
-      by (Some q) is sent above = elim (led depth_limit root.branch root.stands r z.me root.is_me among) [
+      by (Some q) is sent above = elim (led depth_limit r z.me (told_standing t whole hs0 part0 r next sees root.branch root.stands r root.is_me) among) [
         | inl here ↦ (let one : z ≡ top.0 = trees.same_born bs said knows z top.0 began top.1 (here ∙ sym top.2) in
             let no : z.parent ≡ None = ap (λ (y : Born). y.parent) one ∙ top.3 in
             absurd (cc (no, is)))
-        | inr it ↦ (let w : Branch = it.0 in
-            let below = born_below (births_of s0) z.me w.live.me (child_of (births_of s0) w.live (placed t whole hs0 part0 r w it.1) it.3.0 z.me it.3.2) in
-            let one : below.born ≡ z = trees.same_born bs said knows below.born z (born_end t whole hs0 part0 below.born below.began) began below.is_me in
-            let same_up : Some w.live.me ≡ Some q = sym below.is_parent ∙ (ap (λ (y : Born). y.parent) one ∙ is) in
-            let me : w.live.me ≡ q = cc in
+        | inr it ↦ (let one : it.below.born ≡ z = trees.same_born bs said knows it.below.born z (born_end t whole hs0 part0 it.below.born it.below.began) began it.below.is_me in
+            let same_up : Some it.from ≡ Some q = sym it.below.is_parent ∙ (ap (λ (y : Born). y.parent) one ∙ is) in
+            let me : it.from ≡ q = cc in
             let up = above_of bs said knows z q began is sent in
-            let path : Path up.up.me = (in_plan up.up up.began (up.is_root ∙ is_root) up.asked).path in
-            let me_up : w.live.me ≡ up.up.me = me ∙ sym up.is_me in
-            let both : Some w.live ≡ Some path.branch.live = sym (stands_live t whole hs0 part0 r w it.1 up.up.me me_up) ∙ stands_live t whole hs0 part0 r path.branch path.stands up.up.me path.is_me in
-            let live : w.live ≡ path.branch.live = cc in
-            let comes : comes_to said up.up.me up.up.parent ≡ true = above up.up up.began (omega (arith, low, up.deeper)) (up.is_root ∙ is_root) up.asked (subst (λ b. is_among b (Walked depth_limit r) ≡ true) me_up it.2) in
-            subst (λ p. was_sent is_below said p z.me ≡ true) up.is_me
-            (tells_on t whole hs0 part0 r none up.up.me path up.up up.began refl comes z.me (subst (λ p. was_asked said p z.me ≡ true) (sym up.is_me) sent) (subst (λ l. PointsTo l z.me) live it.3)))
+            let of_root : up.up.root ≡ r = up.is_root ∙ is_root in
+            let by_up : was_asked said up.up.me z.me ≡ true = subst (λ p. was_asked said p z.me ≡ true) (sym up.is_me) sent in
+            let path : Path up.up.me = (in_plan up.up up.began of_root up.asked (asker_kept up.up.me z.me (up.up, up.began, refl, of_root) by_up)).path in
+            let me_up : it.from ≡ up.up.me = me ∙ sym up.is_me in
+            let comes : comes_to said up.up.me up.up.parent ≡ true = above up.up up.began (omega (arith, low, up.deeper)) of_root up.asked (subst (λ b. is_among b (Walked depth_limit r) ≡ true) me_up it.among) in
+            let points : PointsTo path.branch.live z.me = (
+              it.place,
+              sym (step_told up.up.me path) ∙ subst (λ b. seen.step t.places tr b ≡ walks.Down it.place) me_up it.leads,
+              subst (λ ps. numbered ps it.place ≡ Some z.me) (kids_told up.up.me path) (subst (λ b. numbered (children_at tr b) it.place ≡ Some z.me) me_up it.there),
+            ) in
+            subst (λ p. was_sent is_below said p z.me ≡ true) up.is_me (tells_on t whole hs0 part0 r up.up.me path up.up up.began refl comes z.me by_up points))
       ]
 
   -- ---- toward the site
 
-  module _ (z : Born) (began : Began bs z) (is_root : z.root ≡ r) (asked : asked_by said z.me z.parent ≡ true) (q : BranchId) where
+  module _ (z : Born) (began : Began bs z) (is_root : z.root ≡ r) (asked : asked_by said z.me z.parent ≡ true) (kept_in : KeptIn z.me) (q : BranchId) where
     abbrev its : Path z.me
-    its = (in_plan z began is_root asked).path
+    its = (in_plan z began is_root asked kept_in).path
 
     on_way : comes_to said z.me z.parent ≡ true → was_sent is_below said z.me q ≡ true → seen.toward_by (Walked depth_limit r) z.me z.parent ≡ Some q
     on_way comes sent =
         let told : told_below said z.me ≡ Some q = sent_told said bs knows z.me q sent in
         let steps = comes_steps said bs knows z.me z began refl comes in
         let mine : depth_at bs z.me ≡ z.depth = ap depth_in began in
-        let deep : z.depth + 1 ≤ depth_limit = subst (λ d. d + 1 ≤ depth_limit) (as_born z began its).1 (kid_deeper t whole hs0 part0 r none z.me its q (sent_wider is_below is_prepare below_asks said z.me q sent)) in
-        let so : Passes depth_limit r z.me q = passes steps.0 depth_limit r z.me q (subst (λ c. Steps said steps.0 c z.me) is_root steps.1) root told (omega (arith, mine, deep, steps.2)) in
+        let deep : z.depth + 1 ≤ depth_limit = subst (λ d. d + 1 ≤ depth_limit) (as_born z began its).1 (kid_deeper t whole hs0 part0 r z.me its q (sent_wider is_below is_prepare below_asks said z.me q sent)) in
+        let so : Passes depth_limit r z.me q = passes steps.0 depth_limit r z.me q (subst (λ c. Steps said steps.0 c z.me) is_root steps.1) root (top.0, top.1, top.2, top.4) told (omega (arith, mine, deep, steps.2)) in
         ap (λ a. if a then seen.next_on z.me (Walked depth_limit r) else z.parent) so.0 ∙ so.1
 
     off_way : z.parent ≡ Some q → was_sent is_above said q z.me ≡ true → seen.toward_by (Walked depth_limit r) z.me z.parent ≡ Some q

@@ -1,5 +1,6 @@
 -- The root of such a tree, from its COMMIT on.
-use Rattle.std.proofs.Common.{◌≡◌, ◌≢◌, ℕ, ◌≤◌, true, List, [], ◌∷◌, ◌++◌, Some, None, refl, sym, ap, subst, ◌∙◌, append-nil, arith}
+use Rattle.std.proofs.Common.{◌≡◌, ◌≢◌, ℕ, ◌≤◌, true, List, [], ◌∷◌, ◌++◌, Option, Some, None, refl, sym, ap, subst, ◌∙◌, append-nil, arith}
+use Rattle.std.specs.Prelude.{IfSome}
 use Rattle.std.proofs.lemmas.List.{append_assoc}
 use Rattle.dtx_values.specs.Limits.{depth_limit}
 use Rattle.session_tree.specs.Live.{children_of}
@@ -8,6 +9,8 @@ use Rattle.node_rules.specs.Data.{BranchId, Live}
 use Rattle.node_rules.specs.Data.phases
 use Rattle.node_rules.specs.Words.{numbered}
 use Rattle.node_rules.specs.Kept.{Kept, Branch, live_at, branch_at}
+use Rattle.node_rules.specs.LiveBranches.{EachLive}
+use Rattle.node_rules.proofs.LiveLemmas.{branch_parts}
 use Rattle.node_rules.proofs.StandLemmas.{live_so}
 use Rattle.run_laws.specs.Births.{Born, births_of}
 use Rattle.run_laws.specs.BirthLaws.{Began, LiveIs}
@@ -15,8 +18,10 @@ use Rattle.run_laws.specs.Data.{Turn, Happening}
 use Rattle.run_laws.specs.Data.happenings
 use Rattle.run_laws.specs.Facts.{node_at}
 use Rattle.run_laws.specs.FreezeLaws.{was_asked}
-use Rattle.run_laws.specs.InTurnLaws.{said_in}
+use Rattle.run_laws.specs.InTurnLaws.{said_in, GoesOn}
 use Rattle.run_laws.specs.Lawful.{History, IsLawfulRun, facts_at}
+use Rattle.run_laws.proofs.CallTurnLemmas.{InTurn}
+use Rattle.run_laws.proofs.InTurnRunLemmas.{run_calls}
 use Rattle.tree_laws.proofs.AskRunLemmas.{edges_asked}
 use Rattle.tree_laws.proofs.ForestLemmas as trees
 use Rattle.tree_laws.proofs.PrefixLemmas.{so_far, f_at, e_at}
@@ -24,10 +29,10 @@ use Rattle.tree_laws.proofs.SettleRunLemmas.{known}
 use Rattle.site_laws.specs.DecideLaws.{InTree, Is_root}
 use Rattle.site_laws.proofs.DecideLemmas.{IsTop, root_member}
 use Rattle.site_laws.proofs.FindLemmas.{CommitAt, WasFound}
-use Rattle.site_laws.proofs.FrozenLemmas.{State, Here, Left, Found, Since}
+use Rattle.site_laws.proofs.FrozenLemmas.{State, Here, Left, Since}
 use Rattle.site_laws.proofs.TimeLemmas.{Part, part_lawful, born_end}
 use Rattle.site_laws.proofs.WeighLemmas.{placed_of}
-use Rattle.toward_laws.proofs.StandLemmas.{NoneDropped, Stands}
+use Rattle.toward_laws.proofs.StandLemmas.{Stands}
 use Rattle.toward_laws.proofs.StayLemmas.{StillThere, OnPath}
 
 cancel : {A : Type 0} (xs ys zs : List A) → xs ++ ys ≡ xs ++ zs → ys ≡ zs
@@ -57,7 +62,6 @@ same_commit t z whole its r hs u same at = record {
 }
 
 module _ (t : History) (whole : IsLawfulRun t) (r : BranchId) (found : WasFound t whole r t.trace) (top : IsTop t whole r)
-    (none : NoneDropped t found.before r)
     (busy : (m mid : List Happening) → Part t whole m → found.before ++ happenings.Turn found.turn ∷ mid ≡ m → (k : Kept) (l : Live) → node_at (f_at t m) r.node ≡ Some k → live_at k r ≡ Some l → l.phase ≢ phases.Working) where
   abbrev hs0 : List Happening
   hs0 = found.before
@@ -78,6 +82,13 @@ module _ (t : History) (whole : IsLawfulRun t) (r : BranchId) (found : WasFound 
   born : placed.born ≡ top.0
   born = trees.same_born (births_of t) (said_in (facts_at t)) (known t whole) placed.born top.0 (born_end t whole hs0 part0 placed.born placed.began) top.1 (placed.is_me ∙ (found.commit.is_me ∙ sym top.2))
 
+  -- it keeps no reply
+  alone : x.live.parent ≡ None → x.work.came.reply ≡ None
+  alone no_parent =
+      let parts = branch_parts found.commit.kept x.live.me x found.commit.found in
+      let calls = subst (λ (o : Option Kept). IfSome o (λ k. EachLive (λ l w. InTurn (GoesOn k l) (said_in (f_at t hs0)) l.me l.parent (children_of l) w) k.lives k.works)) up ((run_calls (so_far t hs0) (part_lawful t whole hs0 part0)).nodes x.live.me.node) in
+      ap (λ w. w.came.reply) parts.1 ∙ (calls.each x.live.me x.live parts.0).alone no_parent
+
   pub top_stands : Stands t whole hs0 part0 r x
   top_stands = record {
     here = record { kept = found.commit.kept; up = up; found = found.commit.found };
@@ -90,6 +101,10 @@ module _ (t : History) (whole : IsLawfulRun t) (r : BranchId) (found : WasFound 
         let one : x.live.depth ≡ 1 = sym placed.is_depth ∙ (ap (λ (y : Born). y.depth) born ∙ stands.1) in
         let few : 1 ≤ depth_limit = omega arith in
         subst (λ d. d ≤ depth_limit) (sym one) few);
+    fine = λ gone. (let no_parent : x.live.parent ≡ None = sym placed.is_parent ∙ (ap (λ (y : Born). y.parent) born ∙ top.3) in
+        let no : x.work.came.reply ≡ None = alone no_parent in
+        let some : x.work.came.reply ≡ Some gone.0 = gone.1 in
+        cc (no, some));
   }
 
   -- ---- later on
@@ -127,19 +142,19 @@ module _ (t : History) (whole : IsLawfulRun t) (r : BranchId) (found : WasFound 
     asks (Here k y up_y found_y me same) i c at =
         subst (λ b. was_asked (said_in (facts_at z)) b c ≡ true) me ((edges_asked z lawful x.live.me.node k up_y y.live (live_so k y.live.me y found_y) (out k y up_y found_y me)).0 i c (subst (λ bs. numbered bs i ≡ Some c) (sym same.peers) at))
 
-    still : State z lawful x m → StillThere t whole hs0 part0 r none x m
+    still : State z lawful x m → StillThere t whole hs0 part0 r x m
     still (Left w left kids ends told) = (let gone : exit (e_at t m) r ≡ Some w = subst (λ b. exit (e_at t m) b ≡ Some w) found.commit.is_me left in absurd (cc (gone, live)))
     still (Here k y up_y found_y me same) = record { kept = k; now = y; up = up_y; found = found_y; is_me = me; same = same; calm = λ working. absurd (out k y up_y found_y me working) }
 
-    pub still_there : StillThere t whole hs0 part0 r none x m
+    pub still_there : StillThere t whole hs0 part0 r x m
     still_there =
         still ((root_member z lawful r found_z (λ w left. (let gone : exit (e_at t m) r ≡ Some w = left in absurd (cc (gone, live)))) asks top_z).state m (happenings.Turn found.turn ∷ mid, is) (record { rest = []; is = append-nil m }))
 
-  root_stays : (m : List Happening) → Part t whole m → Since t whole hs0 part0 m → exit (e_at t m) r ≡ None → StillThere t whole hs0 part0 r none x m
+  root_stays : (m : List Happening) → Part t whole m → Since t whole hs0 part0 m → exit (e_at t m) r ≡ None → StillThere t whole hs0 part0 r x m
   root_stays m part since live = by since.0 since.1
     where
-      by : (mid : List Happening) → hs0 ++ mid ≡ m → StillThere t whole hs0 part0 r none x m
-      by [] is = subst (StillThere t whole hs0 part0 r none x) (sym (append-nil hs0) ∙ is) (record {
+      by : (mid : List Happening) → hs0 ++ mid ≡ m → StillThere t whole hs0 part0 r x m
+      by [] is = subst (StillThere t whole hs0 part0 r x) (sym (append-nil hs0) ∙ is) (record {
         kept = found.commit.kept;
         now = x;
         up = up;
@@ -153,5 +168,5 @@ module _ (t : History) (whole : IsLawfulRun t) (r : BranchId) (found : WasFound 
           let it : y ≡ happenings.Turn found.turn = first_is y (happenings.Turn found.turn) (mid ++ part.rest) found.later (cancel hs0 (y ∷ (mid ++ part.rest)) (happenings.Turn found.turn ∷ found.later) all) in
           still_there m mid part (ap (λ h. hs0 ++ h ∷ mid) (sym it) ∙ is) live
 
-  pub root_path : OnPath t whole hs0 part0 r none r
+  pub root_path : OnPath t whole hs0 part0 r r
   root_path = record { branch = x; is_me = found.commit.is_me; stands = top_stands; stays = root_stays }

@@ -1,12 +1,12 @@
--- The tree of a root, at a moment at which the root rests and no branch of the tree has been dropped: each child of a live branch is live, rests, and
--- weighs what the branch holds of it.
-use Rattle.std.proofs.Common.{◌≡◌, ◌≢◌, ℕ, ◌+◌, ◌≤◌, true, false, List, length, Option, Some, None, inl, inr, refl, sym, ap, subst, ◌∙◌, arith}
+-- The tree of a root, at a moment at which the root rests: each child of a live branch that has not been dropped is live, rests, and weighs what the
+-- branch holds of it.
+use Rattle.std.proofs.Common.{◌≡◌, ◌≢◌, ℕ, ◌+◌, ◌≤◌, true, false, List, length, Option, Some, None, inl, inr, refl, sym, ap, subst, subst₂, ◌∙◌, arith}
 use Rattle.dtx_values.specs.Limits.{depth_limit}
 use Rattle.tran_ids.proofs.ListedLemmas.{item_is}
 use Rattle.session_tree.specs.Live.{children_of}
 use Rattle.session_tree.specs.Tree.{weight}
 use Rattle.agreement.specs.Events.{Exit, Dropped, exit}
-use Rattle.node_rules.specs.Data.{BranchId, Edge, Live}
+use Rattle.node_rules.specs.Data.{BranchId, Edge}
 use Rattle.node_rules.specs.Data.phases
 use Rattle.node_rules.specs.Words.{numbered}
 use Rattle.node_rules.specs.Kept.{Kept, Branch, live_id, live_at, branch_at, work_at, with_work}
@@ -17,20 +17,22 @@ use Rattle.run_laws.specs.Branches.{is_among}
 use Rattle.run_laws.specs.Data.{Happening}
 use Rattle.run_laws.specs.Facts.{Facts, node_at}
 use Rattle.run_laws.specs.FreezeLaws.{was_asked}
-use Rattle.run_laws.specs.InTurnLaws.{said_in, GoesOn}
+use Rattle.run_laws.specs.InTurnLaws.{said_in, call_at, GoesOn}
 use Rattle.run_laws.specs.Lawful.{History, IsLawfulRun}
 use Rattle.run_laws.specs.RunEvents.{lives_at}
 use Rattle.run_laws.proofs.AtNodeLemmas.{range_of}
 use Rattle.run_laws.proofs.BirthRunLemmas.{born_are_live_or_left}
 use Rattle.run_laws.proofs.FreezeLemmas.{working_or}
 use Rattle.run_laws.proofs.FreezeRunLemmas.{asked_stand_still}
-use Rattle.run_laws.proofs.InTurnLemmas.{length_peers}
+use Rattle.run_laws.proofs.InTurnLemmas.{none_waits, length_peers}
+use Rattle.run_laws.proofs.InTurnRunLemmas.{branches_call_in_turn}
 use Rattle.run_laws.proofs.KidLemmas.{child_of}
 use Rattle.run_laws.proofs.NodesStandLemmas.{some_or_none}
 use Rattle.tree_laws.proofs.ForestLemmas as trees
 use Rattle.tree_laws.proofs.PrefixLemmas.{so_far, f_at, e_at}
 use Rattle.tree_laws.proofs.SettleRunLemmas.{known}
-use Rattle.tree_laws.proofs.VoterLemmas.{mapped_at}
+use Rattle.gone_laws.specs.GoneLaws.{ToldWell, HasGone}
+use Rattle.gone_laws.proofs.WellRunLemmas.{branches_hold_well}
 use Rattle.site_laws.specs.DecideLaws.{live_of, live_in, InTree, Is_child}
 use Rattle.site_laws.proofs.FateLemmas.{among_found}
 use Rattle.site_laws.proofs.FrozenLemmas.{Found, edge_to}
@@ -39,10 +41,6 @@ use Rattle.site_laws.proofs.MemberLemmas.{BornBelow, born_below}
 use Rattle.site_laws.proofs.ShallowLemmas.{parents_are_shallow}
 use Rattle.site_laws.proofs.TimeLemmas.{Part, part_lawful}
 use Rattle.site_laws.proofs.WeighLemmas.{children_weigh, child_parent, placed_of}
-
--- no branch of the tree of a root has been dropped
-abbrev pub NoneDropped : History → List Happening → BranchId → Type 0
-NoneDropped t hs r = (c : BranchId) → InTree (f_at t hs) r c → exit (e_at t hs) c ≢ Some Dropped
 
 module _ (t : History) (whole : IsLawfulRun t) (hs0 : List Happening) (part0 : Part t whole hs0) (r : BranchId) where
   abbrev f0 : Facts
@@ -63,6 +61,7 @@ module _ (t : History) (whole : IsLawfulRun t) (hs0 : List Happening) (part0 : P
     pub root : x.live.root ≡ r
     pub tree : InTree f0 r x.live.me
     pub low : x.live.depth ≤ depth_limit
+    pub fine : HasGone x.work → ⊥
 
   -- it is live
   pub stands_live : (x : Branch) → Stands x → (c : BranchId) → x.live.me ≡ c → live_in f0 c ≡ Some x.live
@@ -84,7 +83,7 @@ module _ (t : History) (whole : IsLawfulRun t) (hs0 : List Happening) (part0 : P
       let below : 1 ≤ length (children_of x.live) = omega (arith, range.0, range.1) in
       parents_are_shallow s0 lawful0 x.live.me.node it.here.kept it.here.up x it.here.found (subst (λ n. 1 ≤ n) (length_peers x.live.edges) below)
 
-  module _ (none : NoneDropped t hs0 r) (x : Branch) (it : Stands x) (i : ℕ) (c : BranchId) (at : numbered (children_of x.live) i ≡ Some c) where
+  module _ (x : Branch) (it : Stands x) (i : ℕ) (c : BranchId) (at : numbered (children_of x.live) i ≡ Some c) (kept_in : exit (e_at t hs0) c ≢ Some Dropped) where
     below : BornBelow (births_of s0) c x.live.me
     below = born_below (births_of s0) c x.live.me (child_of (births_of s0) x.live (placed x it) i c at)
 
@@ -94,7 +93,7 @@ module _ (t : History) (whole : IsLawfulRun t) (hs0 : List Happening) (part0 : P
     -- it has not left
     not_left : (z : Exit) → exit (e_at t hs0) c ≡ Some z → ⊥
     not_left z left =
-        let heard = left_were_asked s0 lawful0 c z left (λ dropped. none c inside (left ∙ ap Some dropped)) in
+        let heard = left_were_asked s0 lawful0 c z left (λ dropped. kept_in (left ∙ ap Some dropped)) in
         let two : Some heard.0 ≡ Some below.born = sym heard.1 ∙ (ap (born_at (births_of s0)) (heard.2 ∙ sym below.is_me) ∙ below.began) in
         let born : heard.0 ≡ below.born = cc in
         let yes : was_asked (said_in f0) x.live.me c ≡ true = heard.3 x.live.me (ap (λ (b : Born). b.parent) born ∙ below.is_parent) in
@@ -140,6 +139,21 @@ module _ (t : History) (whole : IsLawfulRun t) (hs0 : List Happening) (part0 : P
       deeper_so : y.live.depth ≡ x.live.depth + 1
       deeper_so = sym its.is_depth ∙ (sym above.deeper ∙ ap (λ d. d + 1) (ap (λ (b : Born). b.depth) one ∙ (placed x it).is_depth))
 
+      -- it has not refused a call as gone
+      told : (e : Edge) → numbered x.live.edges i ≡ Some e → ToldWell (said_in f0) e.peer (call_at x.work i) e.weight
+      told e there = elim ((branches_hold_well s0 lawful0 x.live.me.node it.here.kept it.here.up x it.here.found).held it.goes i e there) [
+        | inl waiting ↦ absurd (none_waits i x.work.going it.waits waiting)
+        | inr other ↦ elim other [ inl is ↦ is | inr gone ↦ absurd (it.fine gone) ]
+      ]
+
+      fine_kid : HasGone y.work → ⊥
+      fine_kid gone =
+          let edge = edge_to x.live.edges i c at in
+          let peer_at : numbered (children_of x.live) i ≡ Some y.live.me = at ∙ ap Some (sym me) in
+          let made = (branches_call_in_turn s0 lawful0 x.live.me.node it.here.kept it.here.up x it.here.found).1.made i y.live.me peer_at in
+          let rests = children_weigh s0 lawful0 x.live.me.node it.here.kept it.here.up x it.here.found it.goes it.waits i edge.0 edge.1 c.node j up y found (me ∙ sym edge.2) in
+          (branches_hold_well s0 lawful0 c.node j up y found).kept gone edge.0.weight (subst₂ (λ b n. ToldWell (said_in f0) b n edge.0.weight) (edge.2 ∙ sym me) (sym made ∙ rests.last) (told edge.0 edge.1))
+
       found_kid : Kid
       found_kid =
           let edge = edge_to x.live.edges i c at in
@@ -155,6 +169,7 @@ module _ (t : History) (whole : IsLawfulRun t) (hs0 : List Happening) (part0 : P
               root = sym its.is_root ∙ (sym above.is_root ∙ (ap (λ (b : Born). b.root) one ∙ ((placed x it).is_root ∙ it.root)));
               tree = subst (InTree f0 r) (sym me) inside;
               low = subst (λ d. d ≤ depth_limit) (sym deeper_so) (shallow x it i c at);
+              fine = fine_kid;
             };
             edge = edge.0;
             place = edge.1;

@@ -1,13 +1,11 @@
 -- The branches of such a tree that were asked, from that moment on: as long as such a branch is live the tree below it is as it was, and it
 -- asks and tells its children by the step that it had then.
 use Rattle.std.proofs.Common.{◌≡◌, ◌≢◌, ℕ, ◌+◌, ◌≤◌, Bool, true, false, List, [], ◌∷◌, ◌++◌, Option, Some, None, inl, inr, refl, sym, ap, subst, ◌∙◌, append-nil}
-use Rattle.std.proofs.lemmas.List.{append_assoc}
 use Rattle.dtx_values.specs.Limits.{depth_limit}
 use Rattle.session_tree.specs.Live.{children_of}
 use Rattle.session_tree.specs.Tree.{step}
-use Rattle.session_tree.specs.declared.act.Walk.{Walk}
 use Rattle.session_tree.specs.declared.act.Walk.TheVariants as walks
-use Rattle.agreement.specs.Events.{Exit, exit}
+use Rattle.agreement.specs.Events.{Dropped, exit}
 use Rattle.node_rules.specs.Data.{BranchId, Kind, Phase, Post}
 use Rattle.node_rules.specs.Data.phases
 use Rattle.node_rules.specs.Words.{numbered}
@@ -40,9 +38,9 @@ use Rattle.site_laws.proofs.FrozenLemmas.{Found, Since, PointsTo, edge_to, path_
 use Rattle.site_laws.proofs.TimeLemmas.{Part, part_lawful, part_on, part_of, each_at, exit_end, sent_end, born_end, keep_on}
 use Rattle.site_laws.proofs.WeighLemmas.{children_weigh, child_parent, placed_of}
 use Rattle.toward_laws.proofs.SentLemmas.{since_on, SentThen, sent_then}
-use Rattle.toward_laws.proofs.StandLemmas.{NoneDropped, Stands, Kid, kid_of, unasked}
+use Rattle.toward_laws.proofs.StandLemmas.{Stands, Kid, kid_of, shallow, unasked}
 
-module _ (t : History) (whole : IsLawfulRun t) (hs0 : List Happening) (part0 : Part t whole hs0) (r : BranchId) (none : NoneDropped t hs0 r) where
+module _ (t : History) (whole : IsLawfulRun t) (hs0 : List Happening) (part0 : Part t whole hs0) (r : BranchId) where
   abbrev said : List Post
   said = said_in (facts_at t)
 
@@ -199,12 +197,16 @@ module _ (t : History) (whole : IsLawfulRun t) (hs0 : List Happening) (part0 : P
 
     -- ---- a child that it asked
 
-    module _ (c : BranchId) (asked : was_asked said q c ≡ true) where
+    -- it is one deeper
+    pub kid_deeper : (c : BranchId) → was_asked said q c ≡ true → x.live.depth + 1 ≤ depth_limit
+    kid_deeper c asked = (let at = asked_kid c asked in shallow t whole hs0 part0 r x up.stands at.0 c at.1)
+
+    module _ (c : BranchId) (asked : was_asked said q c ≡ true) (kept_in : exit (e_at t hs0) c ≢ Some Dropped) where
       abbrev place : ℕ
       place = (asked_kid c asked).0
 
-      abbrev k : Kid t whole hs0 part0 r none x up.stands place c (asked_kid c asked).1
-      k = kid_of t whole hs0 part0 r none x up.stands place c (asked_kid c asked).1
+      abbrev k : Kid t whole hs0 part0 r x up.stands place c (asked_kid c asked).1 kept_in
+      k = kid_of t whole hs0 part0 r x up.stands place c (asked_kid c asked).1 kept_in
 
       -- it rests at a later moment
       module _ (m : List Happening) (part : Part t whole m) (since : After m) (j : Kept) (y : Branch) (there : node_at (f_at t m) y.live.me.node ≡ Some j) (found : branch_at j y.live.me ≡ Some y) (me : y.live.me ≡ c) where
@@ -296,7 +298,3 @@ module _ (t : History) (whole : IsLawfulRun t) (hs0 : List Happening) (part0 : P
 
       pub kid_path : OnPath c
       kid_path = record { branch = k.branch; is_me = k.is_me; stands = k.stands; stays = stays_later }
-
-      -- it is one deeper
-      pub kid_deeper : x.live.depth + 1 ≤ depth_limit
-      kid_deeper = subst (λ d. d ≤ depth_limit) k.deeper k.stands.low

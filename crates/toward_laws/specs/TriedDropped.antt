@@ -1,14 +1,13 @@
 -- A run in which a branch is dropped before the COMMIT: A's transaction changes a row at B and one at C, whose strength is
 -- the greatest. C stops and starts again. At COMMIT A still holds C's weight, so the walk goes to C, and B, which is off the
 -- walk, becomes sealed. C answers Abort, so nobody decides.
-use Rattle.std.specs.Prelude.{◌≡◌, ℕ, true, false, List, [], ◌∷◌, map, option_map, take, codes, pos, Option, Some, None}
+use Rattle.std.specs.Prelude.{◌≡◌, ℕ, false, List, [], ◌∷◌, map, option_map, take, codes, Option, Some, None}
 use Rattle.node_rules.specs.Data.{BranchId, Place, Stmt, Input}
 use Rattle.node_rules.specs.Data.stmts
 use Rattle.node_rules.specs.Data.inputs
-use Rattle.node_rules.specs.Kept.{Outcome}
 use Rattle.net_bag.specs.Net.{packet_at}
 use Rattle.run_laws.specs.Branches.{Sealed, Dropped, Trail, no_trail, exit_at, plan_at}
-use Rattle.run_laws.specs.Data.{Packet, Took, Turn, Happening}
+use Rattle.run_laws.specs.Data.{Packet, Took, Happening}
 use Rattle.run_laws.specs.Data.happenings
 use Rattle.run_laws.specs.Facts.{Facts, first_facts, outcome_at, facts_after, facts_of}
 use Rattle.run_laws.specs.Knowledge.{toward_at}

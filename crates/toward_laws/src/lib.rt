@@ -1,20 +1,18 @@
 //! Whom the seals of a run name: the parent of their branch, and its neighbour on the way to the commit point site.
 //!
-//! Where no branch of a session tree has been dropped when the COMMIT comes, its live branches rest and weigh what their
-//! parents hold of them (`proofs/StandLemmas.antt`), so the walk that the happenings tell makes the steps that the branches
-//! make (`proofs/StepLemmas.antt`), and those that are asked later ask and tell by these steps (`proofs/StayLemmas.antt`).
-//! So the plan of the COMMIT has each branch that is sealed, with the neighbours that its record names
-//! (`specs/NeighborLaws.antt`). A transaction that is decided had such a tree. Of one that is not, and of which a branch was
-//! dropped before its COMMIT, it is not proved.
+//! When the COMMIT comes the live branches of a session tree rest and weigh what their parents hold of them
+//! (`proofs/StandLemmas.antt`), and branches that were dropped are told with the weight that their parents hold of them (crate
+//! weigh_laws). So the walk that the happenings tell makes the steps that live branches make (`proofs/StepLemmas.antt`), and
+//! those that are asked later ask and tell by these steps (`proofs/StayLemmas.antt`). So the plan of the COMMIT has each branch
+//! that is sealed, with the neighbours that its record names (`specs/NeighborLaws.antt`).
 #![tactic(auto)]
 
 ghost use Rattle.toward_laws.specs.NeighborLaws.{SealsNameToward};
 ghost use Rattle.toward_laws.specs.TriedNeighbors.{TheTriedNeighbors};
 ghost use Rattle.toward_laws.specs.TriedDropped.{TheTriedDropped};
 
-/// In every lawful run each seal of a transaction that is decided by the end of the run, or of which no branch had been
-/// dropped when its COMMIT came, is of a branch of the tree of the COMMIT, and names that branch's parent and its neighbour
-/// on the way to the commit point site.
+/// In every lawful run each seal is of a branch of the tree of the COMMIT, and names that branch's parent and its neighbour on
+/// the way to the commit point site.
 pub fn seals_name_toward()
     ensures { SealsNameToward }
 {}
