@@ -62,8 +62,13 @@ def link(source, target):
 
 def check_once(top):
     """Checks the plays below this folder: whether all is proved, and of each crate that failed its errors."""
+    return check_crate(top, "plays")
+
+
+def check_crate(top, name):
+    """Checks a crate below this folder, and those below it: whether all is proved, and of each that failed its errors."""
     done = subprocess.run(
-        ["rt", "check"], cwd=top / "crates" / "plays", stdout=subprocess.PIPE, stderr=subprocess.STDOUT, text=True
+        ["rt", "check"], cwd=top / "crates" / name, stdout=subprocess.PIPE, stderr=subprocess.STDOUT, text=True
     )
     parts = CRATE.split(done.stdout)
     errors = {name: [Error(*found) for found in ERROR.findall(text)] for name, text in zip(parts[1::2], parts[2::2])}
@@ -82,8 +87,9 @@ def drop_laws(top):
         shutil.rmtree(crate / "proofs")
 
 
-def drop_code(top):
-    """Leaves the types and definitions of the parts, and no code: no module that cites definitions of its crate."""
+def drop_code(top, lemmas=False):
+    """Leaves the types and definitions of the parts, their lemmas too if they are wanted, and no code: no module that cites
+    definitions of its crate."""
     for crate in (top / "crates" / name for name in PARTS):
         lib = crate / "src" / "lib.rt"
         lines = [line for line in lib.read_text().splitlines() if line.startswith(DECLARATIONS)]
@@ -93,7 +99,9 @@ def drop_code(top):
                 lines = [line for line in lines if not declared.match(line)]
                 file.unlink()
         lib.write_text("\n".join(lines) + "\n")
-        shutil.rmtree(crate / "proofs", ignore_errors=True)
+        proofs = crate / "proofs"
+        for path in [path for path in proofs.glob("*") if path.is_dir()] if lemmas else [proofs]:
+            shutil.rmtree(path, ignore_errors=True)
 
 
 def laws_that_fail(errors):

@@ -2,6 +2,7 @@
 """Tries slips of the pen in the definitions: each must make a play fail.
 
     tests/plays/try_slips.py [NAME ..]
+    tests/plays/try_slips.py --laws [NAME ..]    asks the laws over the definitions, and not the plays
 
 A slip is a file tests/plays/slips/NAME.edit, and without a NAME all of them are tried. Its lines are
 
@@ -17,6 +18,10 @@ each slip is made, the crate plays is checked, and the slip is unmade. One line 
 Where proofs of the laws over the definitions fail too, the line says so, and the plays are checked without those laws.
 Of some slips it stands below which file of lemmas they have to break; there a law has to fail, and not plays alone.
 Code that is proved against definitions which a slip changes is left out.
+
+With --laws the crates of laws are checked from below, and one line a slip names the first crate that is not proved any more
+and the lemmas of it that fail. Slips of the folder tests/plays/slips/laws are tried then too: the plays need not catch them.
+A law above that crate may fail as well; it is not looked at. broken_laws.md beside this file tells what was seen.
 The exit status is 1 where a slip was not caught, does not break its lemmas, does not apply or is not well typed.
 """
 
@@ -27,6 +32,7 @@ import shutil
 import sys
 
 from copies import LAWS, PARTS, TOP, check_once, copied_crates, drop_code, drop_laws, laws_that_fail
+from laws import NotTyped, first_broken
 
 SLIPS = TOP / "tests" / "plays" / "slips"
 NAMED = 3  # so many plays are named of those that catch a slip
@@ -114,13 +120,38 @@ def told(slip, top):
     return bool(plays) and not missed, f"{slip.stem}: {by}{lemmas}{missed}"
 
 
-def main(names):
-    slips = [SLIPS / f"{name}.edit" for name in names] or sorted(SLIPS.glob("*.edit"))
+def told_by_laws(slip, top):
+    """Whether a slip breaks a law, and the line that tells which."""
+    try:
+        if not set(PARTS).isdisjoint(crates_of(slip)):
+            drop_code(top, lemmas=True)
+        apply(slip, top)
+        broken = first_broken(top)
+    except (Misfit, NotTyped) as why:
+        return False, f"{slip.stem}: {why}"
+    if broken is None:
+        return False, f"{slip.stem}: BREAKS NO LAW"
+    more = f" and {len(broken.lemmas) - NAMED} more" if len(broken.lemmas) > NAMED else ""
+    return True, f"{slip.stem}: {broken.crate} is not proved: {', '.join(broken.lemmas[:NAMED])}{more}"
+
+
+def slips_named(names, pattern):
+    """The slips of these names, or without a name all that are found so."""
+    found = sorted(SLIPS.glob(pattern))
+    for name in names:
+        if not any(slip.stem == name for slip in found):
+            sys.exit(f"no slip: {name}")
+    return [slip for slip in found if not names or slip.stem in names]
+
+
+def main(words):
+    by_laws = words[:1] == ["--laws"]
+    slips = slips_named(words[1:] if by_laws else words, "**/*.edit" if by_laws else "*.edit")
     all_caught = True
     with copied_crates() as top:
         # slips of one crate follow one another, so that few crates are checked again
         for slip in sorted(slips, key=crates_of):
-            is_caught, line = told(slip, top)
+            is_caught, line = told_by_laws(slip, top) if by_laws else told(slip, top)
             print(line, flush=True)
             all_caught = all_caught and is_caught
             restore({*LAWS, *PARTS, *crates_of(slip)}, top)

@@ -1,2 +1,3 @@
 pub mod NeighborLaws
 pub mod TriedNeighbors
+pub mod TriedDropped

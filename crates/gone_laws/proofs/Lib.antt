@@ -1,0 +1,4 @@
+pub mod WellLemmas
+pub mod WellDeedLemmas
+pub mod WellStepLemmas
+pub mod WellRunLemmas

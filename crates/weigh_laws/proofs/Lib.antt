@@ -1,0 +1,2 @@
+pub mod LeftTrailLemmas
+pub mod HeldLemmas
