@@ -4,11 +4,10 @@ use Rattle.run_laws.specs.Entries.{book_of}
 use Rattle.run_laws.specs.Lawful.{History, AreOfAScript, IsLawfulRun}
 use Rattle.run_laws.specs.Headline.{places_of, IsTheRunOf, IsTold, Ending}
 use Rattle.run_laws.specs.Book.{Agreement, MixedIsMarked, ScnLaw}
-use Rattle.run_laws.specs.Each.{AtEach}
 use Rattle.run_laws.specs.Knowledge.{Knowledge}
 use Rattle.run_laws.specs.Meanings.{RunsAreMeant}
 use Rattle.run_laws.specs.Places.{AnswersHavePlaces}
-use Rattle.run_laws.specs.Site.{SiteDecides, RecordIsSo, DecisionCovers, HasOwn}
+use Rattle.run_laws.specs.Site.{SiteDecides, Coverage}
 use Rattle.done_laws.specs.ToldDone.{TellsWhatIsDone}
 use Rattle.script_run.specs.declared.outcome.Run.{Run}
 
@@ -24,8 +23,8 @@ history_of run script = record { places = places_of run.commands; commands = run
 -- meaning over the rows that the book leaves there, with the asker's own changes, and so a change counts the rows that it
 -- means; what a client is answered is what such a run answered, at the table to which the names in its statement lead. What a
 -- client is told is created, set, forced or purged is on the disk, and nothing else is. Each decision is made by the commit point site of its session tree, once every other branch with changes on it or
--- below it is sealed, and a branch is sealed or decided with the changes that its own statements made. Branches end as their
--- site decided, mixed outcomes are marked, and the SCN law holds.
+-- below it is sealed; a branch is sealed or decided with the changes that its own statements made, and a seal names the
+-- neighbour on the way to the site. Branches end as their site decided, mixed outcomes are marked, and the SCN law holds.
 pub record IsRun (run : Run) (ending : Ending) : Type 0 where
   pub script : AreOfAScript (places_of run.commands) run.commands
   pub due : IsTheRunOf (history_of run script)
@@ -37,8 +36,7 @@ pub record IsRun (run : Run) (ending : Ending) : Type 0 where
   pub come : AnswersHavePlaces (history_of run script)
   pub done : TellsWhatIsDone (history_of run script)
   pub site : SiteDecides (history_of run script)
-  pub covered : AtEach (RecordIsSo DecisionCovers) (history_of run script)
-  pub own : AtEach (RecordIsSo HasOwn) (history_of run script)
+  pub covers : Coverage (history_of run script)
   pub agrees : Agreement run.book
   pub marked : MixedIsMarked run.book
   pub scns : ScnLaw run.book

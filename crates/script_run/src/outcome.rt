@@ -1,8 +1,7 @@
 //! How a run of the program ends, and what was done.
 ghost use Rattle.std.specs.Prelude.{◌≡◌, []};
 ghost use Rattle.script_read.specs.Sound.{IsOfAScript};
-ghost use Rattle.run_laws.specs.Headline.{places_of, All_run, TheRunIsLawful, EveryTurnKnows, EveryRunIsMeant, EveryAnswerHasItsPlace, EverySiteDecides, EveryBookAgrees, EveryMixedIsMarked, EveryScnIsLater};
-ghost use Rattle.trail_laws.specs.OwnLaws.{DecisionsCover};
+ghost use Rattle.run_laws.specs.Headline.{places_of, All_run, TheRunIsLawful, EveryTurnKnows, EveryRunIsMeant, EveryAnswerHasItsPlace, EverySiteDecides, EveryDecisionCovers, EveryBookAgrees, EveryMixedIsMarked, EveryScnIsLater};
 ghost use Rattle.done_laws.specs.ToldDone.{DoneIsTold};
 ghost use Rattle.world.specs.Ran.{IsRan, as_ending};
 ghost use Rattle.script_run.specs.Headline.{IsRun, nothing_done};
@@ -11,13 +10,14 @@ ghost use Rattle.script_run.specs.Ending.{status_code};
 use answer_laws::every_answer_has_its_place;
 use book::{AnswerLines, Book, Trace};
 use book_laws::every_scn_is_later;
-use dtx_values::Listing;
 use done_laws::done_is_told;
+use dtx_values::Listing;
 use due_laws::the_run_is_lawful;
 use run_trace::Recorded;
 use script_read::Commands;
 use std::alloc::Global;
-use trail_laws::{decisions_cover, every_run_is_meant, every_site_decides};
+use toward_laws::every_decision_covers;
+use trail_laws::{every_run_is_meant, every_site_decides};
 use tree_laws::every_book_agrees;
 use turn_laws::every_turn_knows;
 use world::Ran;
@@ -79,7 +79,7 @@ fn laws_of_runs()
     ensures comes { EveryAnswerHasItsPlace }
     ensures tells { DoneIsTold }
     ensures sites { EverySiteDecides }
-    ensures covers { DecisionsCover }
+    ensures covers { EveryDecisionCovers }
     ensures agrees { EveryBookAgrees }
     ensures marked { EveryMixedIsMarked }
     ensures later { EveryScnIsLater }
@@ -90,7 +90,7 @@ fn laws_of_runs()
     every_answer_has_its_place();
     done_is_told();
     every_site_decides();
-    decisions_cover();
+    every_decision_covers();
     every_book_agrees();
     every_scn_is_later();
 }

@@ -7,15 +7,27 @@
 //! that is sealed, with the neighbours that its record names (`specs/NeighborLaws.antt`).
 #![tactic(auto)]
 
+ghost use Rattle.run_laws.specs.Headline.{EveryDecisionCovers};
 ghost use Rattle.toward_laws.specs.NeighborLaws.{SealsNameToward};
 ghost use Rattle.toward_laws.specs.TriedNeighbors.{TheTriedNeighbors};
 ghost use Rattle.toward_laws.specs.TriedDropped.{TheTriedDropped};
+
+use trail_laws::decisions_cover;
 
 /// In every lawful run each seal is of a branch of the tree of the COMMIT, and names that branch's parent and its neighbour on
 /// the way to the commit point site.
 pub fn seals_name_toward()
     ensures { SealsNameToward }
 {}
+
+/// So each decision covers its tree: every other branch with changes on it or below it is sealed before, seals and decisions have
+/// their branches' own changes, and seals name their branches' neighbours.
+pub fn every_decision_covers()
+    ensures { EveryDecisionCovers }
+{
+    decisions_cover();
+    seals_name_toward();
+}
 
 /// The law is about something: in the tried run of two nodes B is sealed below A, the site, and the plan has A as its parent
 /// and on its way there.
