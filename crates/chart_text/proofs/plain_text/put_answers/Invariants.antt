@@ -1,0 +1,7 @@
+use Rattle.std.proofs.Common.{◌≡◌, ◌++◌, take}
+use Rattle.std.specs.List.{flat_map}
+use Rattle.chart_text.specs.Plain.{answer_line}
+use Rattle.chart_text.proofs.plain_text.put_answers.Given as goal
+
+abbrev pub invariant-loop-line : goal.invariant-loop-line
+invariant-loop-line l = l.out.items ≡ l.initial.out.items ++ flat_map (answer_line l.command) (take l.line-index l.lines)

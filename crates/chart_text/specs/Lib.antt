@@ -1,0 +1,9 @@
+pub mod Data
+pub mod Words
+pub mod Window
+pub mod Plain
+pub mod Places
+pub mod Layout
+pub mod Head
+pub mod Looks
+pub mod Svg
