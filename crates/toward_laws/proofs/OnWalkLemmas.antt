@@ -262,21 +262,21 @@ module _ (t : History) (whole : IsLawfulRun t) (hs0 : List Happening) (part0 : P
           let all : Walked (suc m) b ≡ b ∷ Walked m d = ap (λ w. seen.walks_by (walk_in m t.places tr) b (children_at tr b) w) is ∙ ap (λ o. b ∷ seen.goes_down (walk_in m t.places tr) o) at in
           elim (further d (told_below_it t whole hs0 part0 r next sees b d kid) on) [
             | inl here ↦ inr (record {
-                from = b;
-                among = subst (λ ds. is_among b ds ≡ true) (sym all) (or_left (same b b) _ (same_from_equal b b refl));
-                place = i;
-                leads = is;
-                there = subst (λ e. numbered (children_at tr b) i ≡ Some e) (sym here) at;
-                below = subst (λ e. BornBelow (births_of s0) e b) (sym here) kid.2;
-              })
+              from = b;
+              among = subst (λ ds. is_among b ds ≡ true) (sym all) (or_left (same b b) _ (same_from_equal b b refl));
+              place = i;
+              leads = is;
+              there = subst (λ e. numbered (children_at tr b) i ≡ Some e) (sym here) at;
+              below = subst (λ e. BornBelow (births_of s0) e b) (sym here) kid.2;
+            })
             | inr it ↦ inr (record {
-                from = it.from;
-                among = subst (λ ds. is_among it.from ds ≡ true) (sym all) (or_right (same b it.from) _ it.among);
-                place = it.place;
-                leads = it.leads;
-                there = it.there;
-                below = it.below;
-              })
+              from = it.from;
+              among = subst (λ ds. is_among it.from ds ≡ true) (sym all) (or_right (same b it.from) _ it.among);
+              place = it.place;
+              leads = it.leads;
+              there = it.there;
+              below = it.below;
+            })
           ]
 
       by : (w : Walk) → seen.step t.places tr b ≡ w → is_among c (seen.walks_by (walk_in m t.places tr) b (children_at tr b) w) ≡ true
