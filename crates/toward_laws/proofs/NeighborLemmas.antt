@@ -20,6 +20,7 @@ use Rattle.run_laws.specs.Data.{Turn, Happening}
 use Rattle.run_laws.specs.Data.happenings
 use Rattle.run_laws.specs.Each.{AtEach}
 use Rattle.run_laws.specs.Facts.{first_facts, node_at, records_at}
+use Rattle.run_laws.specs.Headline.{EveryDecisionCovers}
 use Rattle.run_laws.specs.FreezeLaws.{was_asked}
 use Rattle.run_laws.specs.InTurnLaws.{said_in}
 use Rattle.run_laws.specs.Lawful.{MayHappen, History, IsLawfulRun, facts_at}
@@ -49,7 +50,7 @@ use Rattle.site_laws.proofs.WeighLemmas.{placed_of}
 use Rattle.trail_laws.proofs.FullLemmas.{Sees, SeesAll, full}
 use Rattle.trail_laws.proofs.MomentLemmas.{tr_at, trail_one_on, at_moment, by_moment}
 use Rattle.trail_laws.proofs.RootLemmas.{last_so}
-use Rattle.trail_laws.proofs.SeenRunLemmas.{all_is_seen}
+use Rattle.trail_laws.proofs.SeenRunLemmas.{all_is_seen, decisions_cover}
 use Rattle.trail_laws.proofs.SiteLemmas.{sees_tree}
 use Rattle.toward_laws.specs.NeighborLaws.{SealsNameToward}
 use Rattle.toward_laws.proofs.AboveLemmas.{Top, top_of, root_asked}
@@ -317,3 +318,6 @@ module _ (t : History) (whole : IsLawfulRun t) (sees : SeesAll t) where
 
 pub seals_name_toward : SealsNameToward
 seals_name_toward t lawful = neighbors_named t lawful (full t lawful (all_is_seen t lawful))
+
+pub every_decision_covers : EveryDecisionCovers
+every_decision_covers t lawful = (let both = decisions_cover t lawful in record { covered = both.0; own = both.1; neighbors = seals_name_toward t lawful })

@@ -7,6 +7,7 @@
 //! that is sealed, with the neighbours that its record names (`specs/NeighborLaws.antt`).
 #![tactic(auto)]
 
+ghost use Rattle.run_laws.specs.Headline.{EveryDecisionCovers};
 ghost use Rattle.toward_laws.specs.NeighborLaws.{SealsNameToward};
 ghost use Rattle.toward_laws.specs.TriedNeighbors.{TheTriedNeighbors};
 ghost use Rattle.toward_laws.specs.TriedDropped.{TheTriedDropped};
@@ -15,6 +16,12 @@ ghost use Rattle.toward_laws.specs.TriedDropped.{TheTriedDropped};
 /// the way to the commit point site.
 pub fn seals_name_toward()
     ensures { SealsNameToward }
+{}
+
+/// In every lawful run each other branch of the tree with changes on it or below it is sealed before its root's transaction is
+/// decided, each record has its branch's own changes, and each seal names its branch's neighbours.
+pub fn every_decision_covers()
+    ensures { EveryDecisionCovers }
 {}
 
 /// The law is about something: in the tried run of two nodes B is sealed below A, the site, and the plan has A as its parent
