@@ -113,8 +113,7 @@ module _ (t : History) (whole : IsLawfulRun t) where
     edges_told i e at =
         let peer_at : numbered (children_of x.live) i ≡ Some e.peer = mapped_at (λ (z : Edge). z.peer) x.live.edges i e at in
         let made : newest_exec (said_in (f_at t hs)) x.live.me e.peer ≡ call_at x.work i = (branches_call_in_turn s lawful x.live.me.node k up x found).1.made i e.peer peer_at in
-        let some : 1 ≤ call_at x.work i = edges_were_called s lawful x.live.me.node k up x found i e at in
-        (
+        let some : 1 ≤ call_at x.work i = edges_were_called s lawful x.live.me.node k up x found i e at in (
           record { number = call_at x.work i; some = some; newest = omega (arith, made); told = well i e at },
           born_below (births_of s) e.peer x.live.me (child_of (births_of s) x.live (placed_of s lawful x.live.me.node k up x found) i e.peer peer_at),
         )
@@ -259,8 +258,7 @@ module _ (t : History) (whole : IsLawfulRun t) where
 
       kid_on : (i : ℕ) (e : Edge) → numbered was.last.edges i ≡ Some e → ToldLast (said_in (f_at t (hs ++ h ∷ []))) c e.peer e.weight × BornBelow (births_of (so_far t (hs ++ h ∷ []))) e.peer c
       kid_on i e at =
-          let old = was.each i e at in
-          (
+          let old = was.each i e at in (
             record {
               number = old.0.number;
               some = old.0.some;
