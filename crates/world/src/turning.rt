@@ -1,5 +1,5 @@
 //! A node takes a turn.
-ghost use Rattle.std.specs.Prelude.{◌≡◌, ◌<◌, ◌≤◌, ◌-◌, ◌^◌, [], ◌∷◌, ◌++◌, length, map, is_some, true, OnOk, IfOk, IfErr, IfSome, OnErr};
+ghost use Rattle.std.specs.Prelude.{◌≡◌, ◌<◌, ◌-◌, ◌^◌, [], length, map, is_some, true, OnOk, IfOk, IfErr, IfSome, OnErr};
 ghost use Rattle.std.specs.List.{AllByRecursion};
 ghost use Rattle.net_bag.specs.Net.{sent_on, lost_at_once};
 ghost use Rattle.node_disk.specs.Effects.{call_of};
@@ -19,7 +19,7 @@ ghost use Rattle.world.specs.Turns.{TookIs, IsComingDue, IsDuring, IsCutDuring, 
 
 use crate::World;
 use crate::laws::{numbers_stay_small, what_is_due_can_happen};
-use crate::mail::{ended_calls, send_all, take};
+use crate::mail::{ended_calls, send_all};
 use crate::serving::{caller, serve};
 use crate::site::Site;
 use book::{Happening, Took, Turn};
@@ -30,6 +30,7 @@ use std::alloc::{AllocError, Global};
 use std::collections::VecDeque;
 use telling::{Cut, TurnFacts};
 use wire_msg::Msgs;
+use world_parts::take;
 
 /// A turn as it is begun: its node, which message it takes, and the session that calls, where one does.
 #[derive(Clone, Copy, Debug)]
