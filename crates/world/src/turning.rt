@@ -30,7 +30,7 @@ use std::alloc::{AllocError, Global};
 use std::collections::VecDeque;
 use telling::{Cut, TurnFacts};
 use wire_msg::Msgs;
-use world_parts::take;
+use world_parts::take_message;
 
 /// A turn as it is begun: its node, which message it takes, and the session that calls, where one does.
 #[derive(Clone, Copy, Debug)]
@@ -238,7 +238,7 @@ impl World {
         ensures losses { OnOk result (self.new.losses.items ≡ lost_at_once (taken self.old.net took) (map (λ mail. mail.msg) mails.items)) }
         ensures same { self.new ≡ record self.old { net = self.new.net; losses = self.new.losses } }
     {
-        take(&mut self.net, took);
+        take_message(&mut self.net, took);
         self.losses = VecDeque::new(alloc);
         send_all(alloc, &mut self.net, &mut self.losses, mails)
     }
@@ -254,7 +254,7 @@ impl World {
         let facts = cut_facts(alloc, begun, &cut);
         let by = self.telling.cut(begun.node, facts.writes, facts.passes);
         let turn = cut_short(alloc, begun, cut, stands(by));
-        take(&mut self.net, begun.took);
+        take_message(&mut self.net, begun.took);
         stop_at(alloc, &mut self.sites, begun.node);
         self.to_stop = Some(begun.node);
         self.tell_turn(alloc, turn, facts)

@@ -11,7 +11,7 @@ use std::alloc::{AllocError, Global};
 use std::collections::VecDeque;
 
 /// A message that was taken is delivered, unless it is a copy.
-pub fn take(net: &mut Bag, took: Option<Took>)
+pub fn take_message(net: &mut Bag, took: Option<Took>)
     ensures { net.new ≡ taken net.old took }
 {
     match took {
