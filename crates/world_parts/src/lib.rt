@@ -7,7 +7,7 @@
 
 mod boots;
 mod commands;
-mod disk_lines;
+mod disk_bytes;
 mod disks_shown;
 mod lines;
 mod messages;
@@ -15,7 +15,7 @@ mod says;
 
 pub use boots::{count_boot, next_boot, once_each};
 pub use commands::{command_at, left_by, order_net};
-pub use disk_lines::disk_lines;
+pub use disk_bytes::disk_lines;
 pub use disks_shown::DisksShown;
 pub use lines::with_disks;
 pub use messages::{bytes_of, losses_of, take_message};

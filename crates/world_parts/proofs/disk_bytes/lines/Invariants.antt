@@ -1,7 +1,7 @@
 use Rattle.std.proofs.Common.{◌≡◌, ◌*◌, map}
 use Rattle.std.specs.List.{range_with_len}
 use Rattle.run_laws.specs.Shown.{disk_line}
-use Rattle.world_parts.proofs.disk_lines.lines.Given as goal
+use Rattle.world_parts.proofs.disk_bytes.lines.Given as goal
 
 -- so many lines are there
 abbrev pub invariant-loop-i : goal.invariant-loop-i

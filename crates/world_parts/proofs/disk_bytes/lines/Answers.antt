@@ -2,7 +2,7 @@ use Rattle.std.proofs.Common.{ℕ, List, [], ◌∷◌, ◌++◌, ◌*◌, map, 
 use Rattle.std.specs.List.{range_with_len}
 use Rattle.run_laws.specs.Shown.{disk_line}
 use Rattle.world_parts.proofs.DiskLines.{one_more}
-use Rattle.world_parts.proofs.disk_lines.lines.Goals as goal
+use Rattle.world_parts.proofs.disk_bytes.lines.Goals as goal
 
 pub loop-i-preserved : goal.loop-i-preserved
 loop-i-preserved c =
