@@ -1,3 +1,11 @@
 pub mod DoneLemmas
 pub mod StandLemmas
+pub mod LineStayLemmas
+pub mod CallDoneLemmas
+pub mod LineRunLemmas
+pub mod AtOnceLemmas
+pub mod CommitStepLemmas
+pub mod CommitEndLemmas
+pub mod ToldDoneLemmas
 mod TriedDoneLemmas
+mod TriedToldLemmas

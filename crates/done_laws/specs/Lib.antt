@@ -1,3 +1,5 @@
 pub mod DoneLaws
 pub mod StandLaws
+pub mod ToldDone
 pub mod TriedDone
+pub mod TriedTold

@@ -265,7 +265,7 @@ module _ (t : History) (whole : IsLawfulRun t) (hs : List Happening) (u : Turn) 
   seen : (b : Seen) × (told_root (trail_after t.places (f_at t hs) (tr_at t hs) (happenings.Turn u)) u.node session ≡ Some b) × (b.me ≡ me)
   seen = root_after t whole hs u rest is uncut session comes.0 me (subst (λ input. Freed (deed_of p k input).after.sessions session me) (sym call) freed.1)
 
-  answered_so : CallAnsweredBy t u.node session r.branch a r
+  answered_so : CallAnsweredBy t (tr_at t hs).moment u.node session r.branch a r
   answered_so = record {
     ran = ran_there t hs u rest is r a refl ran_it answered;
     moment = length hs;
@@ -278,6 +278,8 @@ module _ (t : History) (whole : IsLawfulRun t) (hs : List Happening) (u : Turn) 
     before = omega (arith, here);
     is_root = parts;
     leads = leads;
+    soon = omega (arith, here);
+    last = λ j high low w there at q comes_too. absurd (omega (arith, high, low, here));
   }
 
   told_so : IsToldFor t.places (f_at t hs) (tr_at t hs) u n r.branch r
@@ -289,8 +291,8 @@ module _ (t : History) (whole : IsLawfulRun t) (hs : List Happening) (u : Turn) 
         ∙ ap (origin_by (with_begun (f_at t hs) (tr_at t hs) u) u (asks (with_begun (f_at t hs) (tr_at t hs) u) u.node u.input)) ran_it;
   }
 
-  pub ran_at_once : (r : Run) × (root : BranchId) × (run_in (f_at t hs) (with_begun (f_at t hs) (tr_at t hs) u) u ≡ Some r) × CallAnsweredBy t u.node n root a r × IsToldFor t.places (f_at t hs) (tr_at t hs) u n root r
-  ran_at_once = (r, r.branch, ran_it, subst (λ m. CallAnsweredBy t u.node m r.branch a r) (sym freed.0) answered_so, told_so)
+  pub ran_at_once : (r : Run) × (root : BranchId) × (run_in (f_at t hs) (with_begun (f_at t hs) (tr_at t hs) u) u ≡ Some r) × CallAnsweredBy t (tr_at t hs).moment u.node n root a r × IsToldFor t.places (f_at t hs) (tr_at t hs) u n root r
+  ran_at_once = (r, r.branch, ran_it, subst (λ m. CallAnsweredBy t (tr_at t hs).moment u.node m r.branch a r) (sym freed.0) answered_so, told_so)
 
 pub calls_end_at_once : CallsEndAtOnce
 calls_end_at_once t lawful = by_moment t (EndsAtOnce t) each

@@ -1,9 +1,8 @@
 -- In every lawful run each Reply that is no refusal comes from a run that its call led to.
-use Rattle.std.proofs.Common.{◌≡◌, ◌≢◌, ℕ, zero, suc, ◌≤◌, ◌&&◌, Bool, true, false, if◌then◌else◌, List, [], ◌∷◌, ◌++◌, length, max, option_map, Option, Some, None, inl, inr, refl, sym, ap, subst, ◌∙◌, append-nil, arith}
-use Rattle.std.specs.Prelude.{slice_get, nat_le}
+use Rattle.std.proofs.Common.{◌≡◌, ◌≢◌, ℕ, ◌≤◌, Bool, true, false, List, [], ◌∷◌, ◌++◌, length, option_map, Option, Some, None, inl, inr, refl, sym, ap, subst, ◌∙◌, append-nil, arith}
+use Rattle.std.specs.Prelude.{nat_le}
 use Rattle.std.specs.List.{AllByRecursion}
 use Rattle.std.proofs.lemmas.Bool.Decides.{nat_tests}
-use Rattle.tran_ids.proofs.BranchLemmas.{same_from_equal}
 use Rattle.redo_record.specs.Durable.{durable}
 use Rattle.session_tree.specs.Live.{children_of, edge_at}
 use Rattle.node_rules.specs.Data.{Answer, Advice, BranchId, Edge, Live, Post, Stmt, Input}
@@ -13,7 +12,7 @@ use Rattle.node_rules.specs.Data.stmts
 use Rattle.node_rules.specs.declared.work.Waits.TheVariants as waiting
 use Rattle.node_rules.specs.declared.work.Going.{Going}
 use Rattle.node_rules.specs.declared.work.Work.{Work}
-use Rattle.node_rules.specs.Words.{same, numbered, item_at}
+use Rattle.node_rules.specs.Words.{numbered, item_at}
 use Rattle.node_rules.specs.Inputs.{Came, IsCall, IsSession}
 use Rattle.node_rules.specs.Kept.{Kept, Branch, live_id}
 use Rattle.node_rules.specs.LiveBranches.{works_of}
@@ -47,16 +46,19 @@ use Rattle.tree_laws.proofs.PrefixLemmas.{so_far, f_at, facts_join}
 use Rattle.site_laws.proofs.TimeLemmas.{Part, part_lawful, may_of}
 use Rattle.trail_laws.proofs.CallLemmas.{call_free}
 use Rattle.trail_laws.proofs.MomentLemmas.{tr_at}
-use Rattle.place_laws.specs.LeadLaws.{AnsweredBy, CallAnsweredBy, RepliesLeadToRuns, KeptAnswersLeadToRuns}
+use Rattle.place_laws.specs.LeadLaws.{NoCallSince, AnsweredBy, CallAnsweredBy, RepliesLeadToRuns, KeptAnswersLeadToRuns}
 use Rattle.place_laws.proofs.CatalogLemmas.{Extends, catalog, catalog_on}
+use Rattle.place_laws.proofs.GivenLemmas.{GivenAt, CalledAt, LastIn, GivenLast, CalledLast}
 use Rattle.place_laws.proofs.LineLemmas.{SentSo, WaitsSo, Line}
-use Rattle.place_laws.proofs.LineRunLemmas.{GivenAt, GivenBy, CalledAt, stand_at}
+use Rattle.place_laws.proofs.LineRunLemmas.{stand_last}
+use Rattle.place_laws.proofs.NoCallLemmas.{no_call_since}
 use Rattle.place_laws.proofs.NumberLemmas.{numbered_map, all_numbered}
 use Rattle.place_laws.proofs.OpenSentLemmas.{numbered_more}
+use Rattle.place_laws.proofs.PartLemmas.{split_at, longer}
 use Rattle.place_laws.proofs.PastLemmas.{all_before, reply_before}
 use Rattle.place_laws.proofs.ReplyRunLemmas.{happens_at, prefix, moment_at, ran_there, holds_at}
 use Rattle.place_laws.proofs.ReplyTurnLemmas.{RunsSo, PassesSo, Holds}
-use Rattle.place_laws.proofs.SentLemmas.{came_sent}
+use Rattle.place_laws.proofs.SentLemmas.{came_sent, exec_in}
 
 -- a statement that has a table
 of_rows : (s : Stmt) → IsOfRows s → is_of_rows s ≡ true
@@ -65,44 +67,6 @@ of_rows (stmts.Update table sets cs) is = refl
 of_rows (stmts.Delete table cs) is = refl
 of_rows (stmts.Select list table cs for_update) is = refl
 of_rows _ is = absurd is
-
--- ---- parts of a run
-
-module _ {A : Type 0} where
-  -- a run up to one of its happenings
-  split_at : (xs : List A) (i : ℕ) (h : A) → slice_get xs i ≡ Some h → (hs : List A) × (rest : List A) × (hs ++ h ∷ rest ≡ xs) × (length hs ≡ i)
-  split_at [] zero h is = absurd cc
-  split_at [] (suc i) h is = absurd cc
-  split_at (x ∷ xs) zero h is = let it : Some x ≡ Some h = is in let one : h ≡ x = cc in ([], xs, ap (λ y. y ∷ xs) one, refl)
-  split_at (x ∷ xs) (suc i) h is = let more = split_at xs i h is in (x ∷ more.0, more.1, ap (λ ys. x ∷ ys) more.2, ap suc more.3)
-
-  -- of two first parts the shorter is one of the longer
-  longer : (hs ms r1 r2 : List A) → hs ++ r1 ≡ ms ++ r2 → length hs ≤ length ms → (mid : List A) × (ms ≡ hs ++ mid)
-  longer [] ms r1 r2 is low = (ms, refl)
-  longer (x ∷ hs) [] r1 r2 is low = absurd (omega (arith, low))
-  longer (x ∷ hs) (y ∷ ms) r1 r2 is low =
-      let it : x ∷ (hs ++ r1) ≡ y ∷ (ms ++ r2) = is in
-      let head : x ≡ y = cc in
-      let tail : hs ++ r1 ≡ ms ++ r2 = cc in
-      let more = longer hs ms r1 r2 tail (omega (arith, low)) in
-      (more.0, ap (λ z. z ∷ ms) (sym head) ∙ ap (λ zs. x ∷ zs) more.1)
-
--- an Exec is no newer than the newest
-exec_in : (said : List Post) (n : ℕ) (x : Post) → numbered said n ≡ Some x → (a b : BranchId) → x.from ≡ a → x.to ≡ b → exec_number x.kind ≤ newest_exec said a b
-exec_in said zero x is a b from to = absurd cc
-exec_in [] (suc n) x is a b from to = absurd cc
-exec_in (y ∷ ys) (suc zero) x is a b from to =
-    let it : Some y ≡ Some x = is in
-    let one : y ≡ x = cc in
-    let both : (same y.from a && same y.to b) ≡ true = ap (λ q. q && same y.to b) (same_from_equal y.from a (ap (λ (z : Post). z.from) one ∙ from)) ∙ same_from_equal y.to b (ap (λ (z : Post). z.to) one ∙ to) in
-    let here : newest_exec (y ∷ ys) a b ≡ max (exec_number y.kind) (newest_exec ys a b) = ap (λ q. if q then max (exec_number y.kind) (newest_exec ys a b) else newest_exec ys a b) both in
-    let number : exec_number y.kind ≡ exec_number x.kind = ap (λ (z : Post). exec_number z.kind) one in
-    omega (arith, here, number)
-exec_in (y ∷ ys) (suc (suc n)) x is a b from to = by (same y.from a && same y.to b) (exec_in ys (suc n) x is a b from to)
-  where
-    by : (q : Bool) → exec_number x.kind ≤ newest_exec ys a b → exec_number x.kind ≤ (if q then max (exec_number y.kind) (newest_exec ys a b) else newest_exec ys a b)
-    by true low = omega (arith, low)
-    by false low = low
 
 module _ (t : History) (whole : IsLawfulRun t) where
   abbrev Ans : BranchId → ℕ → Answer → Run → Type 0
@@ -188,22 +152,22 @@ module _ (t : History) (whole : IsLawfulRun t) where
     at_edge : edge_at x.live i ≡ Some e
     at_edge = reply_is x h.from h.call i e h.waits
 
-    line : Line (place_at t.places u.node) (catalog t whole hs u.node) (GivenBy t whole hs) (CalledAt t whole) (said_in (f_at t hs)) (GoesOn k x.live) me x.live.edges x.work
-    line = subst (λ (w : Work). Line (place_at t.places u.node) (catalog t whole hs u.node) (GivenBy t whole hs) (CalledAt t whole) (said_in (f_at t hs)) (GoesOn k x.live) me x.live.edges w) (sym work) ((stand_at t whole hs part0 u.node k up).each me x.live found)
+    line : Line (place_at t.places u.node) (catalog t whole hs u.node) (GivenLast t whole hs) (CalledLast t whole hs) (said_in (f_at t hs)) (GoesOn k x.live) me x.live.edges x.work
+    line = subst (λ (w : Work). Line (place_at t.places u.node) (catalog t whole hs u.node) (GivenLast t whole hs) (CalledLast t whole hs) (said_in (f_at t hs)) (GoesOn k x.live) me x.live.edges w) (sym work) ((stand_last t whole hs part0 u.node k up).each me x.live found)
 
     -- what the branch waits for
     pub record Waited : Type 0 where
       pub statement : Stmt
-      pub given : GivenBy t whole hs me x.work.came.last_call statement
       pub called : CalledAt t whole me e.peer (call_at x.work i) x.work.came.last_call statement g.0.statement
-      pub sent : SentSo (place_at t.places u.node) (catalog t whole hs u.node) (GivenBy t whole hs) (CalledAt t whole) (said_in (f_at t hs)) me e.peer (call_at x.work i) g.0.statement
+      pub last : LastIn t whole hs me x.work.came.last_call statement called.given
+      pub sent : SentSo (place_at t.places u.node) (catalog t whole hs u.node) (GivenLast t whole hs) (CalledLast t whole hs) (said_in (f_at t hs)) me e.peer (call_at x.work i) g.0.statement
 
     pub waited : Waited
     waited =
         let was = line.waits g.0 g.1 in
-        let so = subst (WaitsSo (place_at t.places u.node) (catalog t whole hs u.node) (GivenBy t whole hs) (CalledAt t whole) (said_in (f_at t hs)) me x.live.edges x.work was.0 g.0.statement) waits_is was.2 in
+        let so = subst (WaitsSo (place_at t.places u.node) (catalog t whole hs u.node) (GivenLast t whole hs) (CalledLast t whole hs) (said_in (f_at t hs)) me x.live.edges x.work was.0 g.0.statement) waits_is was.2 in
         let it = so e at_edge in
-        record { statement = was.0; given = was.1; called = it.0; sent = it.1 }
+        record { statement = was.0; called = it.0.0; last = it.0.1; sent = it.1 }
 
     -- the call came to the child before now
     cut_there : (ms : List Happening) × (later : List Happening) × (ms ++ happenings.Turn ans.turn ∷ later ≡ t.trace) × (length ms ≡ ans.moment)
@@ -366,7 +330,13 @@ module _ (t : History) (whole : IsLawfulRun t) where
               let some : x.live.parent ≡ Some sent.2.from = above_of bs0 x.live lives sent.2.from parent in
               absurd (cc (some, top))
 
-      pub root_heard : CallAnsweredBy t me.node me.session me a r
+      -- no call of its session came after it
+      last_call : NoCallSince t me.node me.session (length gave.before) (length hs)
+      last_call =
+          no_call_since t me.node me.session gave.before (happenings.Turn gave.turn) waited.last.later hs u rest waited.last.since is waited.last.quiet
+          (λ here s call. (let reply : inputs.Call me.session s ≡ inputs.Message _ = sym call ∙ h.came.is in absurd cc))
+
+      pub root_heard : CallAnsweredBy t (length hs) me.node me.session me a r
       root_heard = record {
         ran = ans.ran;
         moment = length gave.before;
@@ -378,6 +348,8 @@ module _ (t : History) (whole : IsLawfulRun t) where
         here = call_gave.2;
         before = gave_first;
         is_root = (refl, refl);
+        soon = omega (arith, waited.called.since, looked_up, earlier);
+        last = last_call;
         leads = leads_on;
       }
 

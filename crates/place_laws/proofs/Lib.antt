@@ -16,6 +16,9 @@ pub mod LineLemmas
 pub mod LineKeepLemmas
 pub mod LineStepLemmas
 pub mod LineGrowLemmas
+pub mod GivenLemmas
+pub mod PartLemmas
+pub mod NoCallLemmas
 pub mod LineRunLemmas
 pub mod LeadLemmas
 pub mod RootToldLemmas

@@ -1,5 +1,6 @@
 -- In every lawful run each live branch that waits leads where its statement was sent: the name of its table is behind a link, which leads to the
 -- node of the child that it calls, and was so before that call came to the child.
+pub use Rattle.place_laws.proofs.GivenLemmas.{GivenBy, CalledAt}
 use Rattle.std.proofs.Common.{◌≡◌, ◌≢◌, ℕ, ◌+◌, ◌<◌, ◌≤◌, ◌⊎◌, Bool, true, false, List, [], ◌∷◌, ◌++◌, map, length, Option, Some, None, inl, inr, refl, sym, ap, subst, ◌∙◌, append-nil, arith}
 use Rattle.std.specs.Prelude.{IfSome}
 use Rattle.std.specs.List.{AllByRecursion}
@@ -7,12 +8,14 @@ use Rattle.std.proofs.lemmas.Bool.{cases_eq}
 use Rattle.std.proofs.lemmas.List.{length-append}
 use Rattle.tran_ids.proofs.ListedLemmas.{item_is}
 use Rattle.tran_ids.proofs.NumberedLemmas.{set_or_before}
-use Rattle.node_rules.specs.Data.{Advice, BranchId, Durable, Live, Place, Post, RedoRecord, Stmt, Input}
+use Rattle.node_rules.specs.Data.{BranchId, Durable, Live, Place, Post, RedoRecord, Stmt, Input}
 use Rattle.node_rules.specs.Data.inputs
 use Rattle.node_rules.specs.Data.kinds
+use Rattle.node_rules.specs.declared.session.PendingCall.TheVariants as pending
+use Rattle.node_rules.specs.declared.work.Going.{Going}
 use Rattle.node_rules.specs.declared.work.Work.{Work}
 use Rattle.node_rules.specs.Words.{numbered, set_numbered}
-use Rattle.node_rules.specs.Inputs.{Came, IsCall}
+use Rattle.node_rules.specs.Inputs.{IsCall, IsSession}
 use Rattle.session_tree.specs.Live.{children_of}
 use Rattle.node_rules.specs.Kept.{Kept, Branch, Deed, live_id, live_at}
 use Rattle.node_rules.specs.LiveBranches.{EachLive}
@@ -53,49 +56,21 @@ use Rattle.run_laws.proofs.SaidPostLemmas.{posts_back, said_after, unborn_silent
 use Rattle.run_laws.proofs.StoredLemmas.{records_are_kept}
 use Rattle.tree_laws.proofs.PrefixLemmas.{so_far, f_at, one_on}
 use Rattle.site_laws.proofs.TimeLemmas.{Part, part_on, part_lawful, may_of, keep_on}
+use Rattle.trail_laws.proofs.CallLemmas.{call_free}
 use Rattle.place_laws.proofs.CatalogLemmas.{Extends, extends_same, catalog, catalog_on}
+use Rattle.place_laws.proofs.GivenLemmas.{GivenLast, CalledLast, last_soon, still_known}
 use Rattle.place_laws.proofs.LineGrowLemmas.{not_true, line_grows}
 use Rattle.place_laws.proofs.LineLemmas.{is_calling, OpensLow, Line, Quiet, line_more}
 use Rattle.place_laws.proofs.LineStepLemmas.{LineOf, Lines, Fresh, Known, LeavesSo, lines_on}
 use Rattle.place_laws.proofs.NameLemmas.{OneCatalog, catalog_kept}
+use Rattle.place_laws.proofs.NoCallLemmas.{IsNoCall}
 use Rattle.place_laws.proofs.OpenSentLemmas.{opened_sent}
 use Rattle.place_laws.proofs.TurnTaleLemmas as tales
 
 module _ (t : History) (whole : IsLawfulRun t) where
-  -- ---- what is said of moments
-
-  -- A statement came to a branch: by an Exec of this number, or by a call of its session.
-  pub record GivenAt (b : BranchId) (call : ℕ) (s : Stmt) : Type 0 where
-    pub before : List Happening
-    pub turn : Turn
-    pub rest : List Happening
-    pub is : before ++ happenings.Turn turn ∷ rest ≡ t.trace
-    pub how : ((from : BranchId) × (given : ℕ) × (advice : Option Advice) × Came turn.input from b (kinds.Exec call given advice s)) ⊎ (IsCall turn.input b.session s × IsOfRows s × (turn.node ≡ b.node))
-
-  -- The same in one of the first happenings.
-  pub record GivenBy (hs : List Happening) (b : BranchId) (call : ℕ) (s : Stmt) : Type 0 where
-    pub given : GivenAt b call s
-    pub soon : length given.before + 1 ≤ length hs
-
-  by_more : (hs mid : List Happening) (b : BranchId) (call : ℕ) (s : Stmt) → GivenBy hs b call s → GivenBy (hs ++ mid) b call s
-  by_more hs mid b call s is = record { given = is.given; soon = omega (arith, is.soon, length-append hs mid) }
-
-  -- A branch was to call another by this number: the name in its statement was behind a link then, which led there, and no such call was made before.
-  pub record CalledAt (me c : BranchId) (number last : ℕ) (s goes : Stmt) : Type 0 where
-    pub given : GivenAt me last s
-    pub before : List Happening
-    pub part : Part t whole before
-    pub since : length given.before ≤ length before
-    pub link : List ℕ
-    pub table : List ℕ
-    pub named : named_by (catalog t whole before me.node) (ref_of s) ≡ Behind link table
-    pub leads : target_of (place_at t.places me.node) (catalog t whole before me.node) link ≡ Some c.node
-    pub unmade : newest_exec (said_in (f_at t before)) me c < number
-    pub passes : goes ≡ passed_on s table
-
   -- the live branches of a node
   abbrev pub LinesOf : List Happening → ℕ → Durable → List Post → Kept → Type 0
-  LinesOf hs n D said k = EachLive (λ l w. Line (place_at t.places n) D (GivenBy hs) CalledAt said (GoesOn k l) l.me l.edges w) k.lives k.works
+  LinesOf hs n D said k = EachLive (λ l w. Line (place_at t.places n) D (GivenLast t whole hs) (CalledLast t whole hs) said (GoesOn k l) l.me l.edges w) k.lives k.works
 
   abbrev pub LinesAt : List Happening → Facts → Type 0
   LinesAt hs f = (n : ℕ) (k : Kept) → node_at f n ≡ Some k → LinesOf hs n (catalog t whole hs n) (said_in f) k
@@ -211,6 +186,19 @@ module _ (t : History) (whole : IsLawfulRun t) where
           here = all_found (λ l. l.me.node ≡ u.node) live_id k.lives y.me y (ids_name_their_node s0 lawful0 u.node k may.1.up).lives live ∙ sym number;
         }))
 
+    -- no call comes to the session of a branch that waits
+    uncalled : (y : Live) (v : Work) (g : Going) → live_at k y.me ≡ Some y → RootIs k.sessions y v → v.going ≡ Some g → IsNoCall y.me.node y.me.session (happenings.Turn u)
+    uncalled y v g live root going here s call = by y.parent refl
+      where
+        free : IsSession y.me.session × ((session_at k.sessions y.me.session).call ≡ pending.NoCall)
+        free = call_free f0 k u.node u.input u.took y.me.session s call may.1.comes
+
+        by : (o : Option BranchId) → y.parent ≡ o → ⊥
+        by None none = let rest_is : v.going ≡ None = (free_waits (session_at k.sessions y.me.session).call y.phase v.going (root none).waits free.1).1 in absurd (cc (rest_is, going))
+        by (Some b) above =
+            let high : 65 ≤ y.me.session = all_found (λ (l : Live). l.parent ≢ None → 65 ≤ l.me.session) live_id k.lives y.me y rests.0.above live (λ none. (let both : None ≡ Some b = sym none ∙ above in absurd cc)) in
+            absurd (omega (arith, high, free.0.1))
+
     abbrev R : Type 0
     R = turns.Received (edge_of bs0) (parent_of bs0) May Here u.input said
 
@@ -222,7 +210,7 @@ module _ (t : History) (whole : IsLawfulRun t) where
     granted = calls.granted t.places t.commands t.of_a_script.each f0 (events_of s0) bs0 stand roots stands u k may.1
 
     -- a branch that has not begun sent no Open
-    unopened : (b : BranchId) → born_at bs0 b ≡ None → OpensLow p D0 (GivenBy hs1) CalledAt said b 0
+    unopened : (b : BranchId) → born_at bs0 b ≡ None → OpensLow p D0 (GivenLast t whole hs1) (CalledLast t whole hs1) said b 0
     unopened b none =
         all_map (λ (x : Post). x.from ≡ b → (edge : ℕ) (root : BranchId) (depth : ℕ) → x.kind ≡ kinds.Open edge root depth → edge ≤ 0) packet_post f0.net.packets
         (all_weaker _ _ (λ x goes from edge root depth kind.
@@ -230,38 +218,40 @@ module _ (t : History) (whole : IsLawfulRun t) where
         let at : born_at bs0 b ≡ Some opens.0 = subst (λ c. born_at bs0 c ≡ Some opens.0) (opens.2 ∙ from) opens.1 in
         absurd (cc (at, none)))) f0.net.packets (messages_are_of_neighbors s0 lawful0))
 
-    news : News (Fresh (edge_of bs0) (parent_of bs0) May Here u.input said received p D0 (GivenBy hs1) CalledAt) p u.input (heard k u.input)
+    news : News (Fresh (edge_of bs0) (parent_of bs0) May Here u.input said received p D0 (GivenLast t whole hs1) (CalledLast t whole hs1)) p u.input (heard k u.input)
     news =
         news_of _ p k u.input
         (all_weaker (λ (y : Born). born_at bs0 y.me ≡ None) _ (λ y none. ((unborn_silent bs0 stand.1.trees y.me none f0.net.packets stand.1.said, ap parent_in none), unopened y.me none)) _
         (all_unborn t.places t.commands t.of_a_script.each f0 (events_of s0) bs0 u k stand.0.1 stand.0.0.even (node_so t.places t.commands t.of_a_script.each f0 (events_of s0) stand.0)
         (owned_so t.places t.commands t.of_a_script.each f0 (events_of s0) stand.0) may.1 number stand.1))
 
-    long : length hs + 1 ≤ length hs1
-    long = let it : length hs1 ≡ length hs + 1 = length-append hs (happenings.Turn u ∷ []) in omega (arith, it)
+    given_so : {j : Kept} {x : Branch} {s : Stmt} {given : ℕ} → SessionsFit j → Here x.live.me → Asked j u.input x s given → GivenLast t whole hs1 x.live.me x.work.came.last_call s
+    given_so ss here (steps.By_call n x s call rows has code live) = (
+      record { before = hs; turn = u; rest = rest; is = is; how = inr (subst (λ m. IsCall u.input m s) (sym (ss.roots.each n x.live.me has)) call, rows, sym (here ∙ number)) },
+      record { later = []; since = refl; quiet = tt },
+    )
+    given_so ss here (steps.By_exec x from call given advice s came live runs) = (record { before = hs; turn = u; rest = rest; is = is; how = inl (from, given, advice, came) }, record { later = []; since = refl; quiet = tt })
 
-    given_so : {j : Kept} {x : Branch} {s : Stmt} {given : ℕ} → SessionsFit j → Here x.live.me → Asked j u.input x s given → GivenBy hs1 x.live.me x.work.came.last_call s
-    given_so ss here (steps.By_call n x s call rows has code live) =
-        record { given = record { before = hs; turn = u; rest = rest; is = is; how = inr (subst (λ m. IsCall u.input m s) (sym (ss.roots.each n x.live.me has)) call, rows, sym (here ∙ number)) }; soon = long }
-    given_so ss here (steps.By_exec x from call given advice s came live runs) = record { given = record { before = hs; turn = u; rest = rest; is = is; how = inl (from, given, advice, came) }; soon = long }
-
-    calls_so : (me c : BranchId) (n last : ℕ) (s : Stmt) (link table : List ℕ) → Here me → GivenBy hs1 me last s → named_by D0 (ref_of s) ≡ Behind link table → target_of p D0 link ≡ Some c.node → newest_exec said me c < n → CalledAt me c n last s (passed_on s table)
+    calls_so : (me c : BranchId) (n last : ℕ) (s : Stmt) (link table : List ℕ) → Here me → GivenLast t whole hs1 me last s → named_by D0 (ref_of s) ≡ Behind link table → target_of p D0 link ≡ Some c.node → newest_exec said me c < n
+        → CalledLast t whole hs1 me c n last s (passed_on s table)
     calls_so me c n last s link table here gave named leads unmade =
-        let at : u.node ≡ me.node = sym (here ∙ number) in
-        record {
-          given = gave.given;
-          before = hs;
-          part = part0;
-          since = (let it : length hs1 ≡ length hs + 1 = length-append hs (happenings.Turn u ∷ []) in omega (arith, it, gave.soon));
-          link = link;
-          table = table;
-          named = subst (λ m. named_by (catalog t whole hs m) (ref_of s) ≡ Behind link table) at named;
-          leads = subst (λ m. target_of (place_at t.places m) (catalog t whole hs m) link ≡ Some c.node) at leads;
-          unmade = unmade;
-          passes = refl;
-        }
+        let at : u.node ≡ me.node = sym (here ∙ number) in (
+          record {
+            given = gave.0;
+            before = hs;
+            part = part0;
+            since = (let it : length hs1 ≡ length hs + 1 = length-append hs (happenings.Turn u ∷ []) in omega (arith, it, last_soon t whole hs1 me last s gave.0 gave.1));
+            link = link;
+            table = table;
+            named = subst (λ m. named_by (catalog t whole hs m) (ref_of s) ≡ Behind link table) at named;
+            leads = subst (λ m. target_of (place_at t.places m) (catalog t whole hs m) link ≡ Some c.node) at leads;
+            unmade = unmade;
+            passes = refl;
+          },
+          gave.1,
+        )
 
-    known : Known (edge_of bs0) (parent_of bs0) May Here u.input said received p D0 (GivenBy hs1) CalledAt
+    known : Known (edge_of bs0) (parent_of bs0) May Here u.input said received p D0 (GivenLast t whole hs1) (CalledLast t whole hs1)
     known = record {
       given = given_so;
       calls = calls_so;
@@ -271,15 +261,20 @@ module _ (t : History) (whole : IsLawfulRun t) where
     cat : OneCatalog (heard k u.input).stored.durable D0
     cat = subst (λ s. OneCatalog s.durable D0) (sym (tales.heard_stored t whole hs u rest is u.input)) (catalog_kept k (records_at f0 u.node) (records_are_kept s0 lawful0 u.node k may.1.up))
 
-    -- as the turn begins
-    lines0 : Lines (edge_of bs0) (parent_of bs0) May Here u.input said received p D0 (GivenBy hs1) CalledAt said (heard k u.input)
-    lines0 =
-        heard_calls (LineOf (edge_of bs0) (parent_of bs0) May Here u.input said received p D0 (GivenBy hs1) CalledAt said) k u.input
-        (each_same (λ l w. Line p D0 (GivenBy hs) CalledAt said (GoesOn k l) l.me l.edges w) (LineOf (edge_of bs0) (parent_of bs0) May Here u.input said received p D0 (GivenBy hs1) CalledAt said) k.lives k.works (now u.node k may.1.up)
-        (λ y v live any was. line_grows p D0 D0 (extends_same D0) (GivenBy hs) (GivenBy hs1) (by_more hs (happenings.Turn u ∷ [])) CalledAt said (GoesOn k y) (y.parent ≡ None → May y.me) (goes_before y.me y live) y.me y.edges v was))
+    abbrev Before : Live → Work → Type 0
+    Before l w = Line p D0 (GivenLast t whole hs) (CalledLast t whole hs) said (GoesOn k l) l.me l.edges w
 
-    lines1 : LeavesSo (edge_of bs0) (parent_of bs0) May Here u.input said received p D0 (GivenBy hs1) CalledAt d.after.lives d.after.works d.says
-    lines1 = lines_on (edge_of bs0) (parent_of bs0) May Here u.input said received p D0 (GivenBy hs1) CalledAt known (λ b at. at) step granted (heard_rests k u.input rests).0 news cat begun lines0
+    -- as the turn begins
+    lines0 : Lines (edge_of bs0) (parent_of bs0) May Here u.input said received p D0 (GivenLast t whole hs1) (CalledLast t whole hs1) said (heard k u.input)
+    lines0 =
+        heard_calls (LineOf (edge_of bs0) (parent_of bs0) May Here u.input said received p D0 (GivenLast t whole hs1) (CalledLast t whole hs1) said) k u.input
+        (each_same (λ l w. Before l w × RootIs k.sessions l w) (LineOf (edge_of bs0) (parent_of bs0) May Here u.input said received p D0 (GivenLast t whole hs1) (CalledLast t whole hs1) said) k.lives k.works
+        (each_both Before (RootIs k.sessions) k.lives k.works (now u.node k may.1.up) rests.1)
+        (λ y v live any was. line_grows p D0 D0 (extends_same D0) (GivenLast t whole hs) (GivenLast t whole hs1) (CalledLast t whole hs) (CalledLast t whole hs1) said (GoesOn k y) (y.parent ≡ None → May y.me) (goes_before y.me y live) y.me y.edges v
+        (λ g going. still_known t whole hs (happenings.Turn u) y.me (uncalled y v g live was.1 going)) was.0))
+
+    lines1 : LeavesSo (edge_of bs0) (parent_of bs0) May Here u.input said received p D0 (GivenLast t whole hs1) (CalledLast t whole hs1) d.after.lives d.after.works d.says
+    lines1 = lines_on (edge_of bs0) (parent_of bs0) May Here u.input said received p D0 (GivenLast t whole hs1) (CalledLast t whole hs1) known (λ b at. at) step granted (heard_rests k u.input rests).0 news cat begun lines0
 
     -- ---- after the turn
 
@@ -301,16 +296,18 @@ module _ (t : History) (whole : IsLawfulRun t) where
         let both : Some d.after ≡ Some j = sym after_up ∙ up in
         let one : d.after ≡ j = cc in
         subst (LinesOf hs1 u.node (catalog t whole hs1 u.node) (said_in f1)) one (subst (λ xs. LinesOf hs1 u.node (catalog t whole hs1 u.node) xs d.after) (sym says)
-        (each_same (LineOf (edge_of bs0) (parent_of bs0) May Here u.input said received p D0 (GivenBy hs1) CalledAt (said ++ d.says)) _ d.after.lives d.after.works lines1.0
-        (λ y v live any was. line_grows p D0 (catalog t whole hs1 u.node) (catalog_is u.node) (GivenBy hs1) (GivenBy hs1) (λ b call s is. is) CalledAt (said ++ d.says) (y.parent ≡ None → May y.me) (GoesOn d.after y) (λ goes none. (y, live, none, goes none)) y.me y.edges v was)))
+        (each_same (LineOf (edge_of bs0) (parent_of bs0) May Here u.input said received p D0 (GivenLast t whole hs1) (CalledLast t whole hs1) (said ++ d.says)) _ d.after.lives d.after.works lines1.0
+        (λ y v live any was. line_grows p D0 (catalog t whole hs1 u.node) (catalog_is u.node) (GivenLast t whole hs1) (GivenLast t whole hs1) (CalledLast t whole hs1) (CalledLast t whole hs1) (said ++ d.says) (y.parent ≡ None → May y.me) (GoesOn d.after y)
+        (λ goes none. (y, live, none, goes none)) y.me y.edges v (λ g going. record { given = λ call s it. it; called = λ c n call s goes it. it }) was)))
 
     other : (n : ℕ) (j : Kept) → u.node ≢ n → node_at f1 n ≡ Some j → LinesOf hs1 n (catalog t whole hs1 n) (said_in f1) j
     other n j apart up =
         let before : node_at f0 n ≡ Some j = sym (turn_elsewhere t.places t.commands f0 (run_stands s0 lawful0).0.even u n apart).0 ∙ up in
         subst (λ xs. LinesOf hs1 n (catalog t whole hs1 n) xs j) (sym says1)
-        (each_same (λ l w. Line (place_at t.places n) (catalog t whole hs n) (GivenBy hs) CalledAt said (GoesOn j l) l.me l.edges w) _ j.lives j.works (now n j before)
-        (λ y v live any was. line_more (place_at t.places n) (catalog t whole hs1 n) (GivenBy hs1) CalledAt said (map post_of u.sent) y.me (GoesOn j y) y.edges v (far y.me (λ same. apart (sym same ∙ own_node n j before y live)))
-        (line_grows (place_at t.places n) (catalog t whole hs n) (catalog t whole hs1 n) (catalog_is n) (GivenBy hs) (GivenBy hs1) (by_more hs (happenings.Turn u ∷ [])) CalledAt said (GoesOn j y) (GoesOn j y) (λ goes. goes) y.me y.edges v was)))
+        (each_same (λ l w. Line (place_at t.places n) (catalog t whole hs n) (GivenLast t whole hs) (CalledLast t whole hs) said (GoesOn j l) l.me l.edges w) _ j.lives j.works (now n j before)
+        (λ y v live any was. line_more (place_at t.places n) (catalog t whole hs1 n) (GivenLast t whole hs1) (CalledLast t whole hs1) said (map post_of u.sent) y.me (GoesOn j y) y.edges v (far y.me (λ same. apart (sym same ∙ own_node n j before y live)))
+        (line_grows (place_at t.places n) (catalog t whole hs n) (catalog t whole hs1 n) (catalog_is n) (GivenLast t whole hs) (GivenLast t whole hs1) (CalledLast t whole hs) (CalledLast t whole hs1) said (GoesOn j y) (GoesOn j y) (λ goes. goes) y.me y.edges v
+        (λ g going. still_known t whole hs (happenings.Turn u) y.me (λ here s call. apart (here ∙ own_node n j before y live))) was)))
       where
         own_node : (n : ℕ) (j : Kept) → node_at f0 n ≡ Some j → (y : Live) → live_at j y.me ≡ Some y → y.me.node ≡ n
         own_node n j before y live = all_found (λ l. l.me.node ≡ n) live_id j.lives y.me y (ids_name_their_node s0 lawful0 n j before).lives live
@@ -349,15 +346,16 @@ module _ (t : History) (whole : IsLawfulRun t) where
 
   module _ (hs : List Happening) (h : Happening) (rest : List Happening) (is : hs ++ h ∷ rest ≡ t.trace) (now : Stand hs) where
     -- nothing is sent, and the nodes that are up were so or have just started
-    same_stands : (g : Facts) → facts_after t.places t.commands (f_at t hs) h ≡ g → said_in g ≡ said_in (f_at t hs) ++ [] → ((n : ℕ) (j : Kept) → node_at g n ≡ Some j → (node_at (f_at t hs) n ≡ Some j) ⊎ ((D : Durable) (xs : List Post) → LinesOf (hs ++ h ∷ []) n D xs j)) → Stand (hs ++ h ∷ [])
-    same_stands g facts says still n j up =
+    same_stands : ((node session : ℕ) → IsNoCall node session h) → (g : Facts) → facts_after t.places t.commands (f_at t hs) h ≡ g → said_in g ≡ said_in (f_at t hs) ++ [] → ((n : ℕ) (j : Kept) → node_at g n ≡ Some j → (node_at (f_at t hs) n ≡ Some j) ⊎ ((D : Durable) (xs : List Post) → LinesOf (hs ++ h ∷ []) n D xs j)) → Stand (hs ++ h ∷ [])
+    same_stands no_call g facts says still n j up =
         let fact : f_at t (hs ++ h ∷ []) ≡ g = one_on t hs h ∙ facts in
         let said : said_in (f_at t (hs ++ h ∷ [])) ≡ said_in (f_at t hs) = ap said_in fact ∙ (says ∙ append-nil (said_in (f_at t hs))) in
         let grows : Extends (catalog t whole hs n) (catalog t whole (hs ++ h ∷ []) n) = catalog_on t whole n hs (h ∷ []) (part_on t whole hs h rest is) in
         elim (still n j (subst (λ f. node_at f n ≡ Some j) fact up)) [
           | inl was ↦ subst (λ xs. LinesOf (hs ++ h ∷ []) n (catalog t whole (hs ++ h ∷ []) n) xs j) (sym said)
-              (each_same (λ l w. Line (place_at t.places n) (catalog t whole hs n) (GivenBy hs) CalledAt (said_in (f_at t hs)) (GoesOn j l) l.me l.edges w) _ j.lives j.works (now n j was)
-              (λ y v live any it. line_grows (place_at t.places n) (catalog t whole hs n) (catalog t whole (hs ++ h ∷ []) n) grows (GivenBy hs) (GivenBy (hs ++ h ∷ [])) (by_more hs (h ∷ [])) CalledAt (said_in (f_at t hs)) (GoesOn j y) (GoesOn j y) (λ goes. goes) y.me y.edges v it))
+              (each_same (λ l w. Line (place_at t.places n) (catalog t whole hs n) (GivenLast t whole hs) (CalledLast t whole hs) (said_in (f_at t hs)) (GoesOn j l) l.me l.edges w) _ j.lives j.works (now n j was)
+              (λ y v live any it. line_grows (place_at t.places n) (catalog t whole hs n) (catalog t whole (hs ++ h ∷ []) n) grows (GivenLast t whole hs) (GivenLast t whole (hs ++ h ∷ [])) (CalledLast t whole hs) (CalledLast t whole (hs ++ h ∷ [])) (said_in (f_at t hs)) (GoesOn j y) (GoesOn j y)
+              (λ goes. goes) y.me y.edges v (λ g going. still_known t whole hs h y.me (no_call y.me.node y.me.session)) it))
           | inr new ↦ new (catalog t whole (hs ++ h ∷ []) n) (said_in (f_at t (hs ++ h ∷ [])))
         ]
 
@@ -371,18 +369,18 @@ module _ (t : History) (whole : IsLawfulRun t) where
   unfolding facts_after
   stand_on hs (happenings.Turn u) rest is now = turn_stands hs u rest is now
   stand_on hs (happenings.Stopped m) rest is now =
-      same_stands hs (happenings.Stopped m) rest is now _ refl (said_after t.places t.commands (f_at t hs) (happenings.Stopped m))
+      same_stands hs (happenings.Stopped m) rest is now (λ node session. tt) _ refl (said_after t.places t.commands (f_at t hs) (happenings.Stopped m))
       (λ n j up. elim (set_still (f_at t hs) m n None j up) [ inl was ↦ inl was | inr new ↦ absurd cc ])
   stand_on hs (happenings.Started m boot) rest is now =
-      same_stands hs (happenings.Started m boot) rest is now _ refl (said_after t.places t.commands (f_at t hs) (happenings.Started m boot))
+      same_stands hs (happenings.Started m boot) rest is now (λ node session. tt) _ refl (said_after t.places t.commands (f_at t hs) (happenings.Started m boot))
       (λ n j up. elim (set_still (f_at t hs) m n (Some (start_of (with_boot (f_at t hs) m boot))) j up) [
         | inl was ↦ inl was
         | inr new ↦ inr (λ D xs. (let it : Some (start_of (with_boot (f_at t hs) m boot)) ≡ Some j = new in let one : start_of (with_boot (f_at t hs) m boot) ≡ j = cc in subst (LinesOf (hs ++ happenings.Started m boot ∷ []) n D xs) one (start_lines (hs ++ happenings.Started m boot ∷ []) n D xs (with_boot (f_at t hs) m boot))))
       ])
-  stand_on hs (happenings.Begun c) rest is now = same_stands hs (happenings.Begun c) rest is now _ refl (said_after t.places t.commands (f_at t hs) (happenings.Begun c)) (λ n j up. inl up)
-  stand_on hs (happenings.Cut a b) rest is now = same_stands hs (happenings.Cut a b) rest is now _ refl (said_after t.places t.commands (f_at t hs) (happenings.Cut a b)) (λ n j up. inl up)
-  stand_on hs (happenings.Join a b) rest is now = same_stands hs (happenings.Join a b) rest is now _ refl (said_after t.places t.commands (f_at t hs) (happenings.Join a b)) (λ n j up. inl up)
-  stand_on hs (happenings.Lost x) rest is now = same_stands hs (happenings.Lost x) rest is now _ refl (said_after t.places t.commands (f_at t hs) (happenings.Lost x)) (λ n j up. inl up)
+  stand_on hs (happenings.Begun c) rest is now = same_stands hs (happenings.Begun c) rest is now (λ node session. tt) _ refl (said_after t.places t.commands (f_at t hs) (happenings.Begun c)) (λ n j up. inl up)
+  stand_on hs (happenings.Cut a b) rest is now = same_stands hs (happenings.Cut a b) rest is now (λ node session. tt) _ refl (said_after t.places t.commands (f_at t hs) (happenings.Cut a b)) (λ n j up. inl up)
+  stand_on hs (happenings.Join a b) rest is now = same_stands hs (happenings.Join a b) rest is now (λ node session. tt) _ refl (said_after t.places t.commands (f_at t hs) (happenings.Join a b)) (λ n j up. inl up)
+  stand_on hs (happenings.Lost x) rest is now = same_stands hs (happenings.Lost x) rest is now (λ node session. tt) _ refl (said_after t.places t.commands (f_at t hs) (happenings.Lost x)) (λ n j up. inl up)
 
   made_lines : (n : ℕ) (D : Durable) (xs : List Post) → LinesOf [] n D xs made
   unfolding start_of
@@ -394,5 +392,13 @@ module _ (t : History) (whole : IsLawfulRun t) where
       subst (λ o. IfSome o (LinesOf [] n (catalog t whole [] n) (said_in (f_at t [])))) up
       (first_node (λ o. IfSome o (LinesOf [] n (catalog t whole [] n) (said_in (f_at t [])))) tt (made_lines n (catalog t whole [] n) (said_in (f_at t []))) t.places n)
 
-  pub stand_at : (hs : List Happening) → Part t whole hs → Stand hs
-  stand_at hs part = keep_on t whole Stand stand_on [] hs part first_stand
+  pub stand_last : (hs : List Happening) → Part t whole hs → Stand hs
+  stand_last hs part = keep_on t whole Stand stand_on [] hs part first_stand
+
+  -- the same without what comes last
+  pub stand_at : (hs : List Happening) → Part t whole hs → (n : ℕ) (k : Kept) → node_at (f_at t hs) n ≡ Some k
+      → EachLive (λ l w. Line (place_at t.places n) (catalog t whole hs n) (GivenBy t whole hs) (CalledAt t whole) (said_in (f_at t hs)) (GoesOn k l) l.me l.edges w) k.lives k.works
+  stand_at hs part n k up =
+      each_same (λ l w. Line (place_at t.places n) (catalog t whole hs n) (GivenLast t whole hs) (CalledLast t whole hs) (said_in (f_at t hs)) (GoesOn k l) l.me l.edges w) _ k.lives k.works (stand_last hs part n k up)
+      (λ y v live any was. line_grows (place_at t.places n) (catalog t whole hs n) (catalog t whole hs n) (extends_same _) (GivenLast t whole hs) (GivenBy t whole hs) (CalledLast t whole hs) (CalledAt t whole) (said_in (f_at t hs)) (GoesOn k y) (GoesOn k y)
+      (λ goes. goes) y.me y.edges v (λ g going. record { given = λ call s is. record { given = is.0; soon = last_soon t whole hs y.me call s is.0 is.1 }; called = λ c number call s goes is. is.0 }) was)

@@ -1,6 +1,6 @@
 -- In every lawful run a call that ends on a Reply, and not with a refusal, ends with the answer of the run that the Reply came from, to which the call led.
 use Rattle.std.specs.Prelude.{IfSome}
-use Rattle.std.proofs.Common.{◌≡◌, ℕ, ◌&&◌, Bool, true, false, if◌then◌else◌, is_none, List, [], ◌∷◌, ◌++◌, Option, Some, None, refl, sym, ap, subst, ◌∙◌}
+use Rattle.std.proofs.Common.{◌≡◌, ℕ, ◌&&◌, Bool, true, false, if◌then◌else◌, is_none, List, [], ◌∷◌, ◌++◌, length, Option, Some, None, refl, sym, ap, subst, ◌∙◌}
 use Rattle.node_rules.specs.Data.{Answer, BranchId, Edge, Live, Msg, Place}
 use Rattle.node_rules.specs.Data.answers
 use Rattle.node_rules.specs.Data.inputs
@@ -36,6 +36,7 @@ use Rattle.place_laws.proofs.BroughtLemmas.{reply_brings}
 use Rattle.place_laws.proofs.EndedRootLemmas.{Freed, call_freed, heard_root, root_range, root_after}
 use Rattle.place_laws.proofs.RootToldLemmas.{root_brought}
 use Rattle.place_laws.proofs.LeadLemmas.{answers_at, root_heard}
+use Rattle.place_laws.proofs.ReplyRunLemmas.{moment_at}
 use Rattle.place_laws.proofs.SentLemmas.{came_sent}
 
 -- an accepted answer is what the Reply said
@@ -69,7 +70,7 @@ module _ (t : History) (whole : IsLawfulRun t) (hs : List Happening) (u : Turn) 
 
   -- the run, and the root, which after the turn is the session's transaction and waits for no answer
   abbrev Result : List Session → Type 0
-  Result ss = (r : Run) × (root : BranchId) × (origin_at (tr_at t hs) took.number ≡ Some r) × CallAnsweredBy t u.node session root a r × IsSession session × Freed ss session root
+  Result ss = (r : Run) × (root : BranchId) × (origin_at (tr_at t hs) took.number ≡ Some r) × CallAnsweredBy t (tr_at t hs).moment u.node session root a r × IsSession session × Freed ss session root
 
   rests : NodeRests kk
   rests = heard_rests k (inputs.Message m) (subst (λ o. IfSome o NodeRests) may.1.up (run_roots (so_far t hs) lawful0 u.node))
@@ -112,11 +113,12 @@ module _ (t : History) (whole : IsLawfulRun t) (hs : List Happening) (u : Turn) 
         let one_took : sent.0 ≡ took = cc in
         let was = (answers_at t whole hs part0).replies sent.0.number sent.2 sent.3 call weight count said sent.5 (ap (λ y. is_accepted (Some y)) same_answer ∙ good) in
         let ans : AnsweredBy t from call said was.0 = subst (λ b. AnsweredBy t b call said was.0) sent.4 was.2 in
-        let heard_it : CallAnsweredBy t x.live.me.node x.live.me.session x.live.me said was.0 = root_heard t whole hs u rest is k may.1.up x weight count said i e h was.0 sent.0.number was.1 ans top in (
+        let heard_it : CallAnsweredBy t (length hs) x.live.me.node x.live.me.session x.live.me said was.0 = root_heard t whole hs u rest is k may.1.up x weight count said i e h was.0 sent.0.number was.1 ans top in (
           was.0,
           x.live.me,
           subst (λ (y : Took). origin_at (tr_at t hs) y.number ≡ Some was.0) one_took was.1,
-          subst (λ n. CallAnsweredBy t n session x.live.me a was.0) its_node (subst (λ s. CallAnsweredBy t x.live.me.node s x.live.me a was.0) its_session (subst (λ y. CallAnsweredBy t x.live.me.node x.live.me.session x.live.me y was.0) same_answer heard_it)),
+          subst (λ m. CallAnsweredBy t m u.node session x.live.me a was.0) (sym (moment_at t hs))
+              (subst (λ n. CallAnsweredBy t (length hs) n session x.live.me a was.0) its_node (subst (λ s. CallAnsweredBy t (length hs) x.live.me.node s x.live.me a was.0) its_session (subst (λ y. CallAnsweredBy t (length hs) x.live.me.node x.live.me.session x.live.me y was.0) same_answer heard_it))),
           root_range kk.sessions session x.live.me has rests.0.roots,
           freed,
         )
@@ -141,7 +143,7 @@ module _ (t : History) (whole : IsLawfulRun t) (hs : List Happening) (u : Turn) 
   by_stand Is_gone so more ended = absurd cc
 
   pub ends_there : (more : List Finished) (o : Outcome) → outcome_at t.places (f_at t hs) u ≡ Some o → o.ended ≡ (record { session = session; answer = a }) ∷ more
-      → (r : Run) × (root : BranchId) × (origin_at (tr_at t hs) took.number ≡ Some r) × CallAnsweredBy t u.node session root a r × (u.cut ≡ false → IsToldFor t.places (f_at t hs) (tr_at t hs) u session root r)
+      → (r : Run) × (root : BranchId) × (origin_at (tr_at t hs) took.number ≡ Some r) × CallAnsweredBy t (tr_at t hs).moment u.node session root a r × (u.cut ≡ false → IsToldFor t.places (f_at t hs) (tr_at t hs) u session root r)
   unfolding turn_of
   ends_there more o outcome ended =
       let p : Place = place_at t.places u.node in

@@ -1,14 +1,15 @@
 -- What is found in lists that grow, and a message that came, which was sent.
-use Rattle.std.proofs.Common.{◌≡◌, ℕ, zero, suc, Bool, find, List, [], ◌++◌, option_map, Option, Some, None, refl, ap, ◌∙◌}
+use Rattle.std.proofs.Common.{◌≡◌, ℕ, zero, suc, ◌≤◌, ◌&&◌, Bool, true, false, if◌then◌else◌, find, List, [], ◌∷◌, ◌++◌, max, option_map, Option, Some, None, refl, ap, ◌∙◌, arith}
+use Rattle.tran_ids.proofs.BranchLemmas.{same_from_equal}
 use Rattle.node_rules.specs.Data.{BranchId, Kind, Msg, Input, Post}
 use Rattle.node_rules.specs.Data.inputs
-use Rattle.node_rules.specs.Words.{numbered}
+use Rattle.node_rules.specs.Words.{same, numbered}
 use Rattle.node_rules.specs.Inputs.{Came}
 use Rattle.node_rules.specs.Kept.{Kept}
 use Rattle.run_laws.specs.Branches.{Run, Origin, origin_of}
 use Rattle.run_laws.specs.Data.{Took}
 use Rattle.run_laws.specs.Facts.{Facts}
-use Rattle.run_laws.specs.InTurnLaws.{packet_post, said_in}
+use Rattle.run_laws.specs.InTurnLaws.{packet_post, said_in, exec_number, newest_exec}
 use Rattle.run_laws.specs.Lawful.{Comes}
 use Rattle.trail_laws.proofs.PlanLemmas.{find_more}
 use Rattle.place_laws.proofs.NumberLemmas.{numbered_map}
@@ -38,3 +39,20 @@ came_sent f k node (inputs.Message m) None comes from to kind came = absurd come
 came_sent f k node (inputs.Call session statement) took comes from to kind came = absurd (cc (came.is))
 came_sent f k node (inputs.GiveUp session) took comes from to kind came = absurd (cc (came.is))
 came_sent f k node inputs.Reco took comes from to kind came = absurd (cc (came.is))
+
+-- an Exec is no newer than the newest
+pub exec_in : (said : List Post) (n : ℕ) (x : Post) → numbered said n ≡ Some x → (a b : BranchId) → x.from ≡ a → x.to ≡ b → exec_number x.kind ≤ newest_exec said a b
+exec_in said zero x is a b from to = absurd cc
+exec_in [] (suc n) x is a b from to = absurd cc
+exec_in (y ∷ ys) (suc zero) x is a b from to =
+    let it : Some y ≡ Some x = is in
+    let one : y ≡ x = cc in
+    let both : (same y.from a && same y.to b) ≡ true = ap (λ q. q && same y.to b) (same_from_equal y.from a (ap (λ (z : Post). z.from) one ∙ from)) ∙ same_from_equal y.to b (ap (λ (z : Post). z.to) one ∙ to) in
+    let here : newest_exec (y ∷ ys) a b ≡ max (exec_number y.kind) (newest_exec ys a b) = ap (λ q. if q then max (exec_number y.kind) (newest_exec ys a b) else newest_exec ys a b) both in
+    let number : exec_number y.kind ≡ exec_number x.kind = ap (λ (z : Post). exec_number z.kind) one in
+    omega (arith, here, number)
+exec_in (y ∷ ys) (suc (suc n)) x is a b from to = by (same y.from a && same y.to b) (exec_in ys (suc n) x is a b from to)
+  where
+    by : (q : Bool) → exec_number x.kind ≤ newest_exec ys a b → exec_number x.kind ≤ (if q then max (exec_number y.kind) (newest_exec ys a b) else newest_exec ys a b)
+    by true low = omega (arith, low)
+    by false low = low

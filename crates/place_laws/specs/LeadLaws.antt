@@ -1,7 +1,7 @@
 -- The run that a call of a branch was answered by: the call brought a statement to the branch, which led over links and
 -- children to the table where it ran. (Database Administrator's Guide, "Distributed Transactions Concepts": session trees,
 -- local and global coordinators.)
-use Rattle.std.specs.Prelude.{◌≡◌, ◌≢◌, ℕ, ◌≤◌, true, false, List, ◌∷◌, slice_get, Option, Some, None}
+use Rattle.std.specs.Prelude.{◌≡◌, ◌≢◌, ℕ, ◌<◌, ◌≤◌, true, false, List, ◌∷◌, slice_get, Option, Some, None}
 use Rattle.node_rules.specs.Data.{Advice, Answer, BranchId, Live, Place, ReplyFields, Stmt}
 use Rattle.node_rules.specs.Data.inputs
 use Rattle.node_rules.specs.Data.kinds
@@ -44,9 +44,13 @@ abbrev pub KeptAnswersLeadToRuns : Type 0
 KeptAnswersLeadToRuns = (t : History) → IsLawfulRun t → (n : ℕ) (k : Kept) → node_at (facts_at t) n ≡ Some k → (l : Live) → live_at k l.me ≡ Some l → l.parent ≢ None → (s : Seen) → seen_at (trail_at t) l.me ≡ Some s
     → (rf : ReplyFields) → (work_at k l.me).came.reply ≡ Some rf → is_accepted (Some rf.result) ≡ true → (r : Run) × (s.answer ≡ Some r) × AnsweredBy t l.me (work_at k l.me).came.last_call rf.result r
 
--- A call of a session was answered so by a run: it brought a statement with a table to this root of the session, not after
--- the run, and the statement led there.
-pub record CallAnsweredBy (t : History) (node session : ℕ) (root : BranchId) (a : Answer) (r : Run) : Type 0 where
+-- no call of this session comes to this node after one moment, up to another
+abbrev pub NoCallSince : History → ℕ → ℕ → ℕ → ℕ → Type 0
+NoCallSince t node session from upto = (j : ℕ) → from < j → j ≤ upto → (u : Turn) → slice_get t.trace j ≡ Some (happenings.Turn u) → u.node ≡ node → (s : Option Stmt) → u.input ≡ inputs.Call session s → ⊥
+
+-- The last call of a session, up to this moment, was answered so by a run: it brought a statement with a table to this root
+-- of the session, not after the run, and the statement led there.
+pub record CallAnsweredBy (t : History) (now node session : ℕ) (root : BranchId) (a : Answer) (r : Run) : Type 0 where
   pub ran : RanAt t r a
   pub moment : ℕ
   pub turn : Turn
@@ -58,6 +62,8 @@ pub record CallAnsweredBy (t : History) (node session : ℕ) (root : BranchId) (
   pub before : moment ≤ r.moment
   pub is_root : (root.node ≡ node) × (root.session ≡ session)
   pub leads : LeadsTo t r root statement
+  pub soon : moment ≤ now
+  pub last : NoCallSince t node session moment now
 
 -- After a turn the transaction of a session is told to be this root, and its last answer to have come from this run.
 pub record IsToldFor (places : List Place) (f : Facts) (tr : Trail) (u : Turn) (session : ℕ) (root : BranchId) (r : Run) : Type 0 where
@@ -72,7 +78,7 @@ abbrev pub EndsAsReplied : History → List Place → Facts → Trail → Happen
 EndsAsReplied t places f tr (happenings.Turn u) =
     (o : Outcome) → outcome_at places f u ≡ Some o → (took : Took) → u.took ≡ Some took → (from to : BranchId) (call : ℕ) (weight : Option ℕ) (count : ℕ) (said : Answer) → Came u.input from to (kinds.Reply call weight count said)
     → (session : ℕ) (a : Answer) (more : List Finished) → o.ended ≡ (record { session = session; answer = a }) ∷ more → is_accepted (Some a) ≡ true
-    → (r : Run) × (root : BranchId) × (origin_at tr took.number ≡ Some r) × CallAnsweredBy t u.node session root a r × (u.cut ≡ false → IsToldFor places f tr u session root r)
+    → (r : Run) × (root : BranchId) × (origin_at tr took.number ≡ Some r) × CallAnsweredBy t tr.moment u.node session root a r × (u.cut ≡ false → IsToldFor places f tr u session root r)
 EndsAsReplied t places f tr _ = Unit {0}
 
 -- In every lawful run each turn does.
@@ -85,7 +91,7 @@ abbrev pub EndsAtOnce : History → List Place → Facts → Trail → Happening
 EndsAtOnce t places f tr (happenings.Turn u) =
     u.cut ≡ false → (o : Outcome) → outcome_at places f u ≡ Some o → (session : ℕ) (s : Stmt) → u.input ≡ inputs.Call session (Some s) → is_of_rows s ≡ true
     → (n : ℕ) (a : Answer) (more : List Finished) → o.ended ≡ (record { session = n; answer = a }) ∷ more → is_accepted (Some a) ≡ true
-    → (r : Run) × (root : BranchId) × (run_in f (with_begun f tr u) u ≡ Some r) × CallAnsweredBy t u.node n root a r × IsToldFor places f tr u n root r
+    → (r : Run) × (root : BranchId) × (run_in f (with_begun f tr u) u ≡ Some r) × CallAnsweredBy t tr.moment u.node n root a r × IsToldFor places f tr u n root r
 EndsAtOnce t places f tr _ = Unit {0}
 
 -- In every lawful run each turn does.

@@ -12,7 +12,7 @@ use Rattle.run_laws.specs.Due.{Due, Ends, IsTheRun, due_of}
 use Rattle.run_laws.specs.Past.{past}
 use Rattle.run_laws.specs.Lawful.{AreOfAScript, History}
 use Rattle.run_laws.specs.Book.{Agreement, MixedIsMarked, ScnLaw}
-use Rattle.run_laws.specs.Headline.{places_of, Ending, All_run, Out_of_memory, IsTold, IsBetween, TheRunIsLawful, EveryBookAgrees, EveryMixedIsMarked, EveryScnIsLater, EverySiteDecides, EveryRunIsMeant, EveryTurnKnows}
+use Rattle.run_laws.specs.Headline.{places_of, Ending, All_run, Out_of_memory, IsTold, IsBetween, TheRunIsLawful, EveryBookAgrees, EveryMixedIsMarked, EveryScnIsLater, EverySiteDecides, EveryRunIsMeant, EveryAnswerHasItsPlace, EveryTurnKnows}
 use Rattle.script_run.specs.declared.outcome.Run.{Run}
 use Rattle.script_run.specs.declared.outcome.Status.{Status}
 use Rattle.script_run.specs.declared.outcome.Status.TheVariants.{Done, BadScript, Usage, NoMemory, ReadFault, WriteFault, TooLong}
@@ -21,6 +21,7 @@ use Rattle.script_run.specs.Ending.{IsWhole, ending_of}
 use Rattle.script_run.proofs.ScriptLemmas.{of_a_script}
 use Rattle.world.specs.declared.ran.Ran.{Ran}
 use Rattle.trail_laws.specs.OwnLaws.{DecisionsCover}
+use Rattle.done_laws.specs.ToldDone.{DoneIsTold}
 use Rattle.world.specs.Ran.{IsRan, as_ending}
 
 -- the run that these lists tell
@@ -40,7 +41,7 @@ nothing_told : IsTold (history_of nothing_done no_script) [] All_run
 unfolding past due_of
 nothing_told = (refl, tt)
 
-module _ (lawful : TheRunIsLawful) (knows : EveryTurnKnows) (meant : EveryRunIsMeant) (sites : EverySiteDecides) (covers : DecisionsCover) (agrees : EveryBookAgrees) (marked : EveryMixedIsMarked) (later : EveryScnIsLater) where
+module _ (lawful : TheRunIsLawful) (knows : EveryTurnKnows) (meant : EveryRunIsMeant) (comes : EveryAnswerHasItsPlace) (tells : DoneIsTold) (sites : EverySiteDecides) (covers : DecisionsCover) (agrees : EveryBookAgrees) (marked : EveryMixedIsMarked) (later : EveryScnIsLater) where
   -- by the laws, of what is due and told
   by_laws : (run : Run) (ending : Ending) (script : AreOfAScript (places_of run.commands) run.commands)
       → IsTheRun (places_of run.commands) run.commands (start (places_of run.commands)) run.trace → run.book ≡ book_of run.trace
@@ -56,6 +57,8 @@ module _ (lawful : TheRunIsLawful) (knows : EveryTurnKnows) (meant : EveryRunIsM
         answered = told;
         knows = knows t may;
         meant = meant t may;
+        come = comes t due;
+        done = tells t due;
         site = sites t may;
         covered = (covers t may).0;
         own = (covers t may).1;
@@ -93,6 +96,8 @@ stands_too run is = record {
   answered = inr (between _ is.answered.0, is.answered.1);
   knows = is.knows;
   meant = is.meant;
+  come = is.come;
+  done = is.done;
   site = is.site;
   covered = is.covered;
   own = is.own;

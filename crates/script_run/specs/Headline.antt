@@ -7,7 +7,9 @@ use Rattle.run_laws.specs.Book.{Agreement, MixedIsMarked, ScnLaw}
 use Rattle.run_laws.specs.Each.{AtEach}
 use Rattle.run_laws.specs.Knowledge.{Knowledge}
 use Rattle.run_laws.specs.Meanings.{RunsAreMeant}
+use Rattle.run_laws.specs.Places.{AnswersHavePlaces}
 use Rattle.run_laws.specs.Site.{SiteDecides, RecordIsSo, DecisionCovers, HasOwn}
+use Rattle.done_laws.specs.ToldDone.{TellsWhatIsDone}
 use Rattle.script_run.specs.declared.outcome.Run.{Run}
 
 -- a run over the nodes that its script makes, as the laws of runs have it
@@ -20,7 +22,8 @@ history_of run script = record { places = places_of run.commands; commands = run
 -- happening, and SHOW DISK shows bytes that stand for the records so far. Each record and each message of a turn was to be
 -- written or said, by what came to its branch and what happened before. Where a node runs a query, it answers the query's
 -- meaning over the rows that the book leaves there, with the asker's own changes, and so a change counts the rows that it
--- means. Each decision is made by the commit point site of its session tree, once every other branch with changes on it or
+-- means; what a client is answered is what such a run answered, at the table to which the names in its statement lead. What a
+-- client is told is created, set, forced or purged is on the disk, and nothing else is. Each decision is made by the commit point site of its session tree, once every other branch with changes on it or
 -- below it is sealed, and a branch is sealed or decided with the changes that its own statements made. Branches end as their
 -- site decided, mixed outcomes are marked, and the SCN law holds.
 pub record IsRun (run : Run) (ending : Ending) : Type 0 where
@@ -31,6 +34,8 @@ pub record IsRun (run : Run) (ending : Ending) : Type 0 where
   pub answered : IsTold (history_of run script) run.answers ending
   pub knows : Knowledge (history_of run script)
   pub meant : RunsAreMeant (history_of run script)
+  pub come : AnswersHavePlaces (history_of run script)
+  pub done : TellsWhatIsDone (history_of run script)
   pub site : SiteDecides (history_of run script)
   pub covered : AtEach (RecordIsSo DecisionCovers) (history_of run script)
   pub own : AtEach (RecordIsSo HasOwn) (history_of run script)

@@ -1,15 +1,18 @@
 //! How a run of the program ends, and what was done.
 ghost use Rattle.std.specs.Prelude.{◌≡◌, []};
 ghost use Rattle.script_read.specs.Sound.{IsOfAScript};
-ghost use Rattle.run_laws.specs.Headline.{places_of, All_run, TheRunIsLawful, EveryTurnKnows, EveryRunIsMeant, EverySiteDecides, EveryBookAgrees, EveryMixedIsMarked, EveryScnIsLater};
+ghost use Rattle.run_laws.specs.Headline.{places_of, All_run, TheRunIsLawful, EveryTurnKnows, EveryRunIsMeant, EveryAnswerHasItsPlace, EverySiteDecides, EveryBookAgrees, EveryMixedIsMarked, EveryScnIsLater};
 ghost use Rattle.trail_laws.specs.OwnLaws.{DecisionsCover};
+ghost use Rattle.done_laws.specs.ToldDone.{DoneIsTold};
 ghost use Rattle.world.specs.Ran.{IsRan, as_ending};
 ghost use Rattle.script_run.specs.Headline.{IsRun, nothing_done};
 ghost use Rattle.script_run.specs.Ending.{status_code};
 
+use answer_laws::every_answer_has_its_place;
 use book::{AnswerLines, Book, Trace};
 use book_laws::every_scn_is_later;
 use dtx_values::Listing;
+use done_laws::done_is_told;
 use due_laws::the_run_is_lawful;
 use run_trace::Recorded;
 use script_read::Commands;
@@ -73,6 +76,8 @@ fn laws_of_runs()
     ensures lawful { TheRunIsLawful }
     ensures knows { EveryTurnKnows }
     ensures meant { EveryRunIsMeant }
+    ensures comes { EveryAnswerHasItsPlace }
+    ensures tells { DoneIsTold }
     ensures sites { EverySiteDecides }
     ensures covers { DecisionsCover }
     ensures agrees { EveryBookAgrees }
@@ -82,6 +87,8 @@ fn laws_of_runs()
     the_run_is_lawful();
     every_turn_knows();
     every_run_is_meant();
+    every_answer_has_its_place();
+    done_is_told();
     every_site_decides();
     decisions_cover();
     every_book_agrees();

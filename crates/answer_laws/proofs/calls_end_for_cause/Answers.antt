@@ -1,0 +1,5 @@
+use Rattle.answer_laws.proofs.EndingLemmas.{calls_end_for_cause}
+use Rattle.answer_laws.proofs.calls_end_for_cause.Goals as goal
+
+pub returns : goal.returns
+returns c = calls_end_for_cause

@@ -1,0 +1,36 @@
+//! Each answer that a client gets to a statement with a table has its place: the call of its command, the run of the
+//! statement that gave the answer, and the way from the one to the other through the session tree.
+#![tactic(auto)]
+
+ghost use Rattle.run_laws.specs.Headline.{EveryAnswerHasItsPlace};
+ghost use Rattle.answer_laws.specs.EndLaws.{CallsEndForCause, PendingCommitsCame};
+ghost use Rattle.answer_laws.specs.TriedAnswers.{TheTriedAnswers};
+
+use call_laws::turns_find_calls_come;
+
+/// A turn of a lawful run ends at most one client's call, and only with a refusal, in the call's own turn, on a Reply, or as a
+/// COMMIT that was pending. Only where a user forces the outcome of a root in doubt does that root's COMMIT end too, refused.
+pub fn calls_end_for_cause()
+    ensures { CallsEndForCause }
+{}
+
+/// A COMMIT that is pending at a node is the last call of its session.
+pub fn pending_commits_came()
+    ensures { PendingCommitsCame }
+{}
+
+/// In the run of a script each line with a node's answer to a SELECT, INSERT, UPDATE or DELETE, unless it is a refusal, is
+/// the answer of a run of that command's statement: the client's call was pending and ended with it, the run is the one that
+/// the last answer of the session's transaction came from, the names of its table lead from the statement of the command over
+/// links to the table where it ran, and it ran no earlier than the command.
+pub fn every_answer_has_its_place()
+    ensures { EveryAnswerHasItsPlace }
+{
+    turns_find_calls_come();
+}
+
+/// The law of places is about something: in the tried script a row goes in and is counted through two synonyms and over two
+/// links, the count is told to come from its run at the table, and a Reply to the INSERT that comes again changes nothing.
+pub fn the_tried_answers()
+    ensures { TheTriedAnswers }
+{}

@@ -1,0 +1,2 @@
+pub mod CallTurns
+pub mod TriedCalls
