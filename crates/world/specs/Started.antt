@@ -7,7 +7,7 @@ use Rattle.node_rules.specs.Words.{numbered}
 use Rattle.node_disk.specs.Starts.{CanBeStarted, last_boot, next_boot}
 use Rattle.run_laws.specs.Disks.{DiskOrders, struck, after_append}
 use Rattle.world.specs.declared.site.Site.{Site}
-use Rattle.world_parts.specs.Orders.{HasOrders}
+use Rattle.world_parts.specs.Orders.{HasOrders, stands_in}
 use Rattle.world.specs.Site.{site_kept, site_disk, bytes_of, images_of, RunsAt}
 
 -- A node that is down, and that can be started from its disk.
