@@ -1,12 +1,12 @@
 //! Points of crash-test comments: each cuts a turn before its record or after it.
-use crate::coming::Comes;
-use crate::doubts::{KEY_IN_DOUBT, NO_ROW_AT_HQ};
+use crate::branches::ROOT;
+use crate::hq::{AT_HQ, COMMIT_HQ, FORGET_HQ, KEY_IN_DOUBT, NO_ROW_AT_HQ, PREPARE_HQ, ROW_AT_HQ};
 use crate::lone::{DownNode, LoneNode, Took};
-use crate::orders::{
-    AT_HQ, AT_SALES, AT_WAREHOUSE, COLLECT, COMMIT_HQ, DECIDE, FORGET_HQ, FORGET_WAREHOUSE, LEARN,
-    PASS, PREPARE_HQ, READY, ROOT, ROW_AT_HQ, ROW_AT_WAREHOUSE,
+use crate::play::{Step, play_on, played};
+use crate::sales::{AT_SALES, COLLECT, KEY_IN_DOUBT_AT_SALES, LEARN, NO_ROW_AT_SALES, PASS};
+use crate::warehouse::{
+    AT_WAREHOUSE, DECIDE, FORGET_WAREHOUSE, OLD_ROW_AT_WAREHOUSE, READY, ROW_AT_WAREHOUSE,
 };
-use crate::play::{Step, Wrote, play_on, played};
 use node_disk::CutAt;
 use node_points::Point;
 use std::alloc::Global;
@@ -28,30 +28,7 @@ struct Reach {
     after: &'static [Step],
 }
 
-/// The row at WAREHOUSE is as it was before the order.
-const OLD_ROW_AT_WAREHOUSE: Step = (
-    Comes::Call(2, b"SELECT * FROM STOCK"),
-    Wrote::Nothing,
-    &[],
-    &[b"ITEM|N", b"'BOLT'|50", b"1 row selected."],
-);
-
-/// The order has no row at SALES.
-const NO_ROW_AT_SALES: Step = (
-    Comes::Call(2, b"SELECT * FROM ORDERS"),
-    Wrote::Nothing,
-    &[],
-    &[b"no rows selected"],
-);
-
-/// The order is in doubt at SALES.
-const KEY_IN_DOUBT_AT_SALES: Step = (
-    Comes::Call(2, b"SELECT * FROM ORDERS"),
-    Wrote::Nothing,
-    &[],
-    &[b"ORA-01591: lock held by in-doubt distributed transaction 1.1.1"],
-);
-
+/// Each point of the order at a node that reaches it.
 const REACHES: [Reach; 14] = [
     Reach {
         point: 1,
@@ -177,7 +154,7 @@ fn point(number: u8) -> Point {
     }
 }
 
-/// What is left of a node whose turn was cut here.
+/// What is left of a node whose turn was cut here; none where it was not.
 fn left(took: Took, at: CutAt) -> Option<DownNode> {
     match took {
         Took::Cut(place, down) if place == at => Some(down),
@@ -185,7 +162,7 @@ fn left(took: Took, at: CutAt) -> Option<DownNode> {
     }
 }
 
-/// The same, where its turn comes to that at the point.
+/// What is left of a node whose turn is cut at the point, where that cuts it; none elsewhere.
 fn cut(alloc: Global, node: LoneNode, reach: &Reach) -> Option<DownNode> {
     let points = [point(reach.point)];
     match node.take(alloc, &reach.turn.0, &points) {

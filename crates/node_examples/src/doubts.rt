@@ -1,29 +1,14 @@
 //! A branch that is prepared when its node stops: it is in doubt after the start, until the decision comes.
+use crate::branches::{LEDGER, ROOT};
 use crate::coming::Comes;
+use crate::hq::{
+    AT_HQ, COMMIT_HQ, FORGET_HQ, IN_DOUBT, KEY_IN_DOUBT, NO_ROW_AT_HQ, PREPARE_HQ, ROW_AT_HQ,
+};
 use crate::lone::LoneNode;
-use crate::orders::{AT_HQ, COMMIT_HQ, FORGET_HQ, LEDGER, PREPARE_HQ, ROOT, ROW_AT_HQ};
 use crate::play::{Step, Turn, Wrote, play_on, played};
 use crate::says::Says;
 use redo_record::Decision;
 use std::alloc::Global;
-
-const IN_DOUBT: &[u8] = b"ORA-01591: lock held by in-doubt distributed transaction 1.65.1";
-
-/// The key of the order's row is in doubt.
-pub(crate) const KEY_IN_DOUBT: Step = (
-    Comes::Call(2, b"SELECT * FROM LEDGER WHERE ID = 1"),
-    Wrote::Nothing,
-    &[],
-    &[IN_DOUBT],
-);
-
-/// The order has no row at HQ.
-pub(crate) const NO_ROW_AT_HQ: Step = (
-    Comes::Call(2, b"SELECT * FROM LEDGER"),
-    Wrote::Nothing,
-    &[],
-    &[b"no rows selected"],
-);
 
 /// The branch in doubt keeps readers and writers from its key, and nobody from others; RECO asks for the decision.
 const DOUBT: [Step; 4] = [
@@ -49,7 +34,7 @@ const DOUBT: [Step; 4] = [
 ];
 
 /// HQ learns of a rollback.
-pub(crate) const ROLL_BACK_HQ: Step = (
+const ROLL_BACK_HQ: Step = (
     Comes::Message((ROOT, LEDGER, 1, Says::RolledBack)),
     Wrote::Ended(Decision::Rollback),
     &[],

@@ -1,8 +1,9 @@
 //! A branch in doubt whose outcome is forced, and the decision that it meets later.
+use crate::branches::{LEDGER, ROOT};
 use crate::coming::Comes;
-use crate::doubts::{NO_ROW_AT_HQ, restarted};
+use crate::doubts::restarted;
+use crate::hq::{AT_HQ, NO_ROW_AT_HQ, PREPARE_HQ, ROW_AT_HQ};
 use crate::lone::LoneNode;
-use crate::orders::{AT_HQ, LEDGER, PREPARE_HQ, ROOT, ROW_AT_HQ};
 use crate::play::{Step, Turn, Wrote, play_on, played};
 use crate::says::{Letter, Says};
 use redo_record::Decision;

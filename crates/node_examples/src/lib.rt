@@ -5,6 +5,8 @@
 #![tactic(auto)]
 
 #[cfg(test)]
+mod branches;
+#[cfg(test)]
 mod coming;
 #[cfg(test)]
 mod cuts;
@@ -12,6 +14,8 @@ mod cuts;
 mod doubts;
 #[cfg(test)]
 mod forced;
+#[cfg(test)]
+mod hq;
 #[cfg(test)]
 mod lone;
 #[cfg(test)]
@@ -21,8 +25,12 @@ mod play;
 #[cfg(test)]
 mod refused;
 #[cfg(test)]
+mod sales;
+#[cfg(test)]
 mod says;
 #[cfg(test)]
 mod starting;
 #[cfg(test)]
 mod struck;
+#[cfg(test)]
+mod warehouse;

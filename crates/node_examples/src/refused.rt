@@ -1,7 +1,7 @@
 //! A statement that is refused changes no row, no lock and no byte of the log.
 use crate::coming::Comes;
+use crate::hq::{AT_HQ, PREPARE_HQ};
 use crate::lone::LoneNode;
-use crate::orders::{AT_HQ, PREPARE_HQ};
 use crate::play::{Step, Wrote, expect, play_on, played};
 use std::alloc::Global;
 

@@ -1,13 +1,13 @@
 //! Appends that an order strikes: the node starts from what is left, and the record stands or not.
+use crate::branches::{LEDGER, ROOT, STOCK};
 use crate::coming::Comes;
-use crate::doubts::{KEY_IN_DOUBT, NO_ROW_AT_HQ};
+use crate::hq::{AT_HQ, COMMIT_HQ, KEY_IN_DOUBT, NO_ROW_AT_HQ, PREPARE_HQ, ROW_AT_HQ};
 use crate::lone::{DownNode, LoneNode, Took};
-use crate::orders::{
-    AT_HQ, AT_WAREHOUSE, COMMIT_HQ, DECIDE, FORGET_WAREHOUSE, LEDGER, PREPARE_HQ, READY, ROOT,
-    ROW_AT_HQ, ROW_AT_WAREHOUSE, STOCK,
-};
-use crate::play::{Step, Turn, Wrote, play_on, played};
+use crate::play::{Step, Wrote, play_on, played};
 use crate::says::Says;
+use crate::warehouse::{
+    AT_WAREHOUSE, DECIDE, FORGET_WAREHOUSE, OLD_ROW_AT_WAREHOUSE, READY, ROW_AT_WAREHOUSE,
+};
 use block_disk::{How, Order, Stop};
 use node_disk::CutAt;
 use std::alloc::Global;
@@ -57,12 +57,7 @@ const DECISION: Strike = Strike {
         FORGET_WAREHOUSE,
     ],
     lacks: &[
-        (
-            Comes::Call(2, b"SELECT * FROM STOCK"),
-            Wrote::Nothing,
-            &[],
-            &[b"ITEM|N", b"'BOLT'|50", b"1 row selected."],
-        ),
+        OLD_ROW_AT_WAREHOUSE,
         (
             Comes::Message((ROOT, STOCK, 1, Says::Ask)),
             Wrote::Nothing,
@@ -132,11 +127,14 @@ fn length_of(alloc: Global, strike: &Strike) -> Option<usize> {
     after.checked_sub(before)
 }
 
+/// How many bytes of a record are written: some of its length alone, some of what it says, and all of it.
+const COUNTS: [u32; 12] = [0, 1, 3, 4, 5, 6, 9, 20, 30, 39, 80, 200];
+
 #[test]
 fn a_record_that_is_written_in_part_does_not_stand(rt: HostRuntime) {
     for strike in [SEAL, DECISION] {
         assert!(rt; matches!(length_of(rt.alloc(), &strike), Some(40..=200)));
-        for count in 0..=200 {
+        for count in COUNTS {
             assert!(rt; keeps(rt.alloc(), &strike, 1, count, false), "{count}");
         }
     }
