@@ -4,6 +4,7 @@ mod KeyLaws
 mod KeptLaws
 mod MapLaws
 mod LinkLaws
+mod LastLaws
 mod TakeLaws
 pub mod Held
 pub mod Holders

@@ -1,5 +1,5 @@
 //! Which locks each branch has.
-ghost use Rattle.std.specs.Prelude.{◌≡◌, if◌then◌else◌, [], ◌∷◌, ◌++◌, filter, is_some, unwrap_or, OnOk, OnErr};
+ghost use Rattle.std.specs.Prelude.{◌≡◌, ◌-◌, if◌then◌else◌, [], ◌∷◌, ◌++◌, take, length, filter, is_some, unwrap_or, OnOk, OnErr};
 ghost use Rattle.std.specs.Map.{lookup};
 ghost use Rattle.tran_ids.specs.declared.branch.BranchId.{BranchId as AnyBranch};
 ghost use Rattle.tran_ids.specs.Branch.{same};
@@ -66,6 +66,16 @@ impl ByBranch {
         numbers.push(number)?;
         drop(self.numbers.insert(*branch, numbers)?);
         Ok(())
+    }
+
+    /// Drops the last number of a branch, where it has one.
+    pub(crate) fn pop(&mut self, branch: &BranchId)
+        ensures { (b : AnyBranch) → numbers_at self.new b
+            ≡ (if same branch.now b then take (length (numbers_at self.old b) - 1) (numbers_at self.old b) else numbers_at self.old b) }
+    {
+        if let Some(place) = self.numbers.get_index_of(branch) {
+            self.numbers[place].pop();
+        }
     }
 
     /// Drops a branch, and gives the numbers of its locks where it had some.

@@ -1,5 +1,5 @@
 //! The locks of a node.
-ghost use Rattle.std.specs.Prelude.{◌≡◌, [], ◌&&◌, true, None, IfOk, OnOk, OnErr, IsErrOf};
+ghost use Rattle.std.specs.Prelude.{◌≡◌, ◌-◌, [], ◌&&◌, take, length, true, None, IfOk, OnOk, OnErr, IsErrOf};
 ghost use Rattle.std.specs.List.{list_any};
 ghost use Rattle.std.specs.Str.{bytes_eq};
 ghost use Rattle.row_locks.specs.declared.lock_err.LockErr.TheVariants.{NoMemory};
@@ -73,6 +73,13 @@ impl Locks {
         ensures { result ≡ list_any (λ l. l.in_doubt && bytes_eq l.table table.now) self.now }
     {
         self.locks.has_doubt(table)
+    }
+
+    /// How many keys are held.
+    pub fn len(&self) -> usize
+        ensures { result ≡ length self.now }
+    {
+        self.locks.len()
     }
 
     /// Takes a key for a branch, to write its row or only to read it. A key that the branch has stays where it is, and
@@ -157,6 +164,26 @@ impl Locks {
     {
         if let Some(numbers) = self.by_branch.remove(branch) {
             remove_all(&mut self.locks, numbers.as_slice());
+        }
+    }
+
+    /// Gives back the keys that were taken last, but for the first so many.
+    pub fn keep_first(&mut self, many: usize)
+        ensures { self.new ≡ take many self.old }
+    {
+        let given_back = self.len().saturating_sub(many);
+        for _ in 0..given_back {
+            self.drop_last();
+        }
+    }
+
+    // Gives back the key that was taken last.
+    fn drop_last(&mut self)
+        ensures { self.new ≡ take (length self.old - 1) self.old }
+    {
+        if let Some(last) = self.locks.last() {
+            self.locks.remove(last.number);
+            self.by_branch.pop(&last.branch);
         }
     }
 

@@ -1,11 +1,12 @@
 //! The locks of a node in the order in which they were taken.
-ghost use Rattle.std.specs.Prelude.{◌≡◌, ℕ, if◌then◌else◌, ◌&&◌, List, [], ◌∷◌, ◌++◌, map, filter, find, is_some, false, None, IfOk, OnErr};
-ghost use Rattle.std.specs.List.{list_any};
+ghost use Rattle.std.specs.Prelude.{◌≡◌, ℕ, ◌-◌, if◌then◌else◌, ◌&&◌, List, [], ◌∷◌, ◌++◌, map, filter, find, length, is_some, false, None, IfOk, OnErr};
+ghost use Rattle.std.specs.List.{list_any, slice_get};
 ghost use Rattle.std.specs.Map.{lookup};
+ghost use Rattle.std.specs.Option.{option_map};
 ghost use Rattle.std.specs.Str.{bytes_eq};
 ghost use Rattle.dtx_values.specs.declared.value.Value.{Value as AnyValue};
 ghost use Rattle.row_locks.specs.Locks.{is_lock_on};
-ghost use Rattle.row_locks.specs.Numbered.{lock_of, is_on, is_number, number_at, holder_on, is_live_one, is_read_one, without_numbers, without_read_numbers, written, doubtful, changed_at, AreApart};
+ghost use Rattle.row_locks.specs.Numbered.{lock_of, is_on, is_number, number_at, holder_in, holder_on, is_live_one, is_read_one, without_numbers, without_read_numbers, written, doubtful, changed_at, AreApart};
 
 use crate::held_key::{HeldKey, Holder};
 use crate::lock_key::{LockKey, owned_key};
@@ -65,6 +66,26 @@ impl NumberedLocks {
         let lock = self.locks.get(&number)?;
         Some(Holder {
             number,
+            branch: lock.branch,
+            in_doubt: lock.in_doubt,
+        })
+    }
+
+    /// How many locks there are.
+    pub(crate) fn len(&self) -> usize
+        ensures { result ≡ length self.now }
+    {
+        self.locks.len()
+    }
+
+    /// Who holds the key of the last lock, where there is one.
+    pub(crate) fn last(&self) -> Option<Holder>
+        ensures holder { result ≡ option_map holder_in (slice_get self.now (length self.now - 1)) }
+        ensures apart { AreApart self.now }
+    {
+        let (number, lock) = self.locks.last_key_value()?;
+        Some(Holder {
+            number: *number,
             branch: lock.branch,
             in_doubt: lock.in_doubt,
         })

@@ -1,5 +1,5 @@
 //! The numbers of a branch's locks.
-ghost use Rattle.std.specs.Prelude.{◌≡◌, [], ◌∷◌, ◌++◌, filter, is_some, OnOk, OnErr};
+ghost use Rattle.std.specs.Prelude.{◌≡◌, ◌-◌, [], ◌∷◌, ◌++◌, take, length, filter, is_some, OnOk, OnErr};
 ghost use Rattle.std.specs.Map.{lookup};
 ghost use Rattle.row_locks.specs.Numbered.{is_number};
 
@@ -48,6 +48,13 @@ impl Numbers {
     {
         self.numbers.push(number)?;
         Ok(())
+    }
+
+    /// Drops the last number, where there is one.
+    pub(crate) fn pop(&mut self)
+        ensures { self.new ≡ take (length self.old - 1) self.old }
+    {
+        self.numbers.pop();
     }
 
     /// Keeps the numbers of locks that are there.

@@ -5,8 +5,8 @@
 //! nodes keep (`specs/NodeLaws.antt`), of the session trees that its branches form (`specs/BirthLaws.antt`), and of what
 //! branches hear and tell of one another. Agreement, marked mixed outcomes and the first half of the law of SCNs are proved of
 //! runs whose turns do what their session trees allow (`specs/TreeJust.antt`); that all lawful runs do so is proved in
-//! tree_laws, and the whole law of SCNs in book_laws. The commit point site stands as a statement (`specs/Headline.antt`) and is
-//! not proved yet; site_laws has what is proved of it.
+//! tree_laws, and the whole law of SCNs in book_laws. That the commit point site decides, and that answers are meant, is proved
+//! in trail_laws.
 #![tactic(auto)]
 
 ghost use Rattle.run_laws.specs.Laws.{BookIsOfTrace, FactsAreAlone, PastGoesOn, LawfulGoesOn, RunsArePlayed};

@@ -58,6 +58,7 @@ module _ (lawful : TheRunIsLawful) (knows : EveryTurnKnows) (meant : EveryRunIsM
         meant = meant t may;
         site = sites t may;
         covered = (covers t may).0;
+        own = (covers t may).1;
         agrees = subst Agreement (sym booked) (agrees t may);
         marked = subst MixedIsMarked (sym booked) (marked t may);
         scns = subst ScnLaw (sym booked) (later t may);
@@ -94,6 +95,7 @@ stands_too run is = record {
   meant = is.meant;
   site = is.site;
   covered = is.covered;
+  own = is.own;
   agrees = is.agrees;
   marked = is.marked;
   scns = is.scns;

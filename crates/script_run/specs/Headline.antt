@@ -7,7 +7,7 @@ use Rattle.run_laws.specs.Book.{Agreement, MixedIsMarked, ScnLaw}
 use Rattle.run_laws.specs.Each.{AtEach}
 use Rattle.run_laws.specs.Knowledge.{Knowledge}
 use Rattle.run_laws.specs.Meanings.{RunsAreMeant}
-use Rattle.run_laws.specs.Site.{SiteDecides, RecordIsSo, DecisionCovers}
+use Rattle.run_laws.specs.Site.{SiteDecides, RecordIsSo, DecisionCovers, HasOwn}
 use Rattle.script_run.specs.declared.outcome.Run.{Run}
 
 -- a run over the nodes that its script makes, as the laws of runs have it
@@ -21,7 +21,8 @@ history_of run script = record { places = places_of run.commands; commands = run
 -- written or said, by what came to its branch and what happened before. Where a node runs a query, it answers the query's
 -- meaning over the rows that the book leaves there, with the asker's own changes, and so a change counts the rows that it
 -- means. Each decision is made by the commit point site of its session tree, once every other branch with changes on it or
--- below it is sealed. Branches end as their site decided, mixed outcomes are marked, and the SCN law holds.
+-- below it is sealed, and a branch is sealed or decided with the changes that its own statements made. Branches end as their
+-- site decided, mixed outcomes are marked, and the SCN law holds.
 pub record IsRun (run : Run) (ending : Ending) : Type 0 where
   pub script : AreOfAScript (places_of run.commands) run.commands
   pub due : IsTheRunOf (history_of run script)
@@ -32,6 +33,7 @@ pub record IsRun (run : Run) (ending : Ending) : Type 0 where
   pub meant : RunsAreMeant (history_of run script)
   pub site : SiteDecides (history_of run script)
   pub covered : AtEach (RecordIsSo DecisionCovers) (history_of run script)
+  pub own : AtEach (RecordIsSo HasOwn) (history_of run script)
   pub agrees : Agreement run.book
   pub marked : MixedIsMarked run.book
   pub scns : ScnLaw run.book

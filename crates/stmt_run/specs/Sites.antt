@@ -1,11 +1,11 @@
 -- The ground of a statement, where it stands in memory; the room that is left after it, and the keys that it may lock.
-use Rattle.std.specs.Prelude.{◌≡◌, ℕ, ◌+◌, ◌^◌, ◌<◌, ◌≤◌, List, ◌++◌, None}
+use Rattle.std.specs.Prelude.{◌≡◌, ℕ, ◌+◌, ◌^◌, ◌<◌, ◌≤◌, List, ◌++◌, None, is_some, true}
 use Rattle.std.specs.List.{All}
 use Rattle.dtx_values.specs.declared.value.Value.{Value}
 use Rattle.dtx_values.specs.declared.table.Table.{Table}
 use Rattle.dtx_values.specs.Limits.{changes_limit}
 use Rattle.tran_ids.specs.declared.branch.BranchId.{BranchId}
-use Rattle.row_locks.specs.Locks.{Lock, other_holder}
+use Rattle.row_locks.specs.Locks.{Lock, holder_of, other_holder}
 use Rattle.row_store.specs.Tables.{TableRows}
 use Rattle.row_store.specs.Own.{Own, changes_length, view_of}
 use Rattle.stmt_run.specs.declared.ran.Ran.{Ran}
@@ -38,6 +38,10 @@ ground_at me tables own locks free t = record {
 -- a key is free, or the branch's own
 abbrev pub IsFree : List Lock → BranchId → List ℕ → Value → Type 0
 IsFree locks me table key = other_holder locks me table key ≡ None
+
+-- somebody has a key
+abbrev pub IsHeld : List Lock → List ℕ → Value → Type 0
+IsHeld locks table key = is_some (holder_of locks table key) ≡ true
 
 -- the keys that a run locks are free, or the branch's own
 abbrev pub LocksFreeKeys : List Lock → BranchId → Table → Ran → Type 0

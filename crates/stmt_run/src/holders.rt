@@ -1,11 +1,11 @@
 //! Who holds the keys of a statement, and taking them.
-ghost use Rattle.std.specs.Prelude.{◌≡◌, map, IfOk, OnOk};
+ghost use Rattle.std.specs.Prelude.{◌≡◌, map, take, length, true, false, IfOk, OnOk, OnErr};
 ghost use Rattle.std.specs.List.{All};
 ghost use Rattle.sql_check.specs.Words.{first_some};
 ghost use Rattle.sql_check.specs.Refusals.{else_refuse};
 ghost use Rattle.row_locks.specs.Held.{doubt_on as doubt_on_of, hold_on as hold_on_of};
 ghost use Rattle.stmt_run.specs.Run.{held_refusal, locked_refusal, take_keys};
-ghost use Rattle.stmt_run.specs.Sites.{ground_of, IsFree};
+ghost use Rattle.stmt_run.specs.Sites.{ground_of, IsFree, IsHeld};
 
 use crate::Site;
 use crate::refusal::held;
@@ -33,26 +33,58 @@ pub fn lock_refusal(
     held(alloc, 2049, holder)
 }
 
-/// Takes keys, to write their rows or only to read them.
+/// Takes keys to read their rows. After an error no key is taken.
 pub fn take_all(
     alloc: Global,
     locks: &mut Locks,
     me: &BranchId,
     table: &Name,
     keys: &[Value],
-    writes: bool,
 ) -> Result<(), AllocError>
     requires { All (IsFree locks.old me.now table.now) keys.now }
-    ensures { OnOk result (locks.new ≡ take_keys locks.old me.now table.now writes keys.now) }
+    ensures ok { OnOk result (locks.new ≡ take_keys locks.old me.now table.now false keys.now) }
+    ensures err { OnErr result (locks.new ≡ locks.old) }
+{
+    let before = locks.len();
+    match take_each(alloc, locks, me, table, keys) {
+        Ok(()) => Ok(()),
+        Err(e) => {
+            locks.keep_first(before);
+            Err(e)
+        }
+    }
+}
+
+// Takes keys to read their rows. After an error some of them may be taken, behind the locks from before.
+fn take_each(
+    alloc: Global,
+    locks: &mut Locks,
+    me: &BranchId,
+    table: &Name,
+    keys: &[Value],
+) -> Result<(), AllocError>
+    requires { All (IsFree locks.old me.now table.now) keys.now }
+    ensures ok { OnOk result (locks.new ≡ take_keys locks.old me.now table.now false keys.now) }
+    ensures err { OnErr result (take (length locks.old) locks.new ≡ locks.old) }
 {
     for key in keys {
-        match locks.take(alloc, me, table, key, writes) {
+        match locks.take(alloc, me, table, key, false) {
             Ok(()) => {}
             Err(LockErr::NoMemory) => return Err(AllocError),
             Err(LockErr::Held { .. }) => unreachable!(),
         }
     }
     Ok(())
+}
+
+/// The rows of keys that the branch has are written from now on.
+pub fn write_all(alloc: Global, locks: &mut Locks, me: &BranchId, table: &Name, keys: &[Value])
+    requires { All (IsHeld locks.old table.now) keys.now }
+    ensures { locks.new ≡ take_keys locks.old me.now table.now true keys.now }
+{
+    for key in keys {
+        locks.hold(alloc, me, table, key).unwrap();
+    }
 }
 
 // The branch in doubt that holds a key.

@@ -79,13 +79,3 @@ kept_by s locks b t d cs keys None are = store_takes_one_set s b t cs (of_one_ta
 pub store_as_told : (s : Contents) (locks : List Lock) (b : BranchId) (t : Table) (d : Done) (cs : List Change) (keys : List Value) (r : Option Refusal) → AreChangesOf t cs
     → r ≡ refusal_told (refusal_of s b cs) → kept_unless r s b cs ≡ store_after_run s b t (ran_changing (ground_in s locks b t) d cs keys)
 store_as_told s locks b t d cs keys r are is = kept_by s locks b t d cs keys r are ∙ ap (store_after_run s b t) (sym (ran_as_told s locks b t d cs keys r are is))
-
--- the keys that a statement locks are free or the branch's own
-pub locks_free : (s : Contents) (locks : List Lock) (b : BranchId) (st : Stmt) (t : Table) (r : Ran) → has_one_key t ≡ true → AreRowsOf t (seen_by s b t.name)
-    → ran_over (ground_in s locks b t) st t ≡ r → LocksFreeKeys locks b t r
-locks_free s locks b st t r one are is = run_locks_free (ground_in s locks b t) t st (tables_have_one_key t one) (rows_are_keyed t (seen_by s b t.name) are) r is
-
--- what holds holds after an error
-pub on_err : {T E P : Type 0} (r : Result T E) → P → OnErr r P
-on_err (Ok x) p = tt
-on_err (Err e) p = p

@@ -34,10 +34,6 @@ abbrev pub kept_unless : Option Refusal → Contents → BranchId → List Chang
 kept_unless None s b cs = with_pending s b cs
 kept_unless (Some r) s b cs = s
 
--- a store is as the one or as the other
-abbrev pub IsOneOf : Contents → Contents → Contents → Type 0
-IsOneOf one other s = (s ≡ one) ⊎ (s ≡ other)
-
 -- what changes come to: they are kept, or refused for want of space
 abbrev pub ran_changing : Ground → Done → List Change → List Value → Ran
 ran_changing g d cs keys = ran_within g (space_refusal g cs) d cs keys

@@ -1,5 +1,6 @@
 //! What a statement means at a store, before its space is tested.
 ghost use Rattle.std.specs.Prelude.{◌≡◌, true, map, [], None, IfOk};
+ghost use Rattle.std.specs.List.{All};
 ghost use Rattle.row_locks.specs.Held.{doubt_on};
 ghost use Rattle.row_locks.specs.Locks.{keys_held};
 ghost use Rattle.sql_check.specs.Checks.{checked as checked_of};
@@ -10,6 +11,7 @@ ghost use Rattle.sql_eval.specs.Laws.{has_one_key, AreRowsOf};
 ghost use Rattle.sql_eval.specs.Meaning.{examined, meant_over as meant_over_of, written as written_of};
 ghost use Rattle.sql_eval.specs.declared.meant.Meant.TheVariants as meants;
 ghost use Rattle.stmt_run.specs.Run.{held_refusal, locked_refusal, ran_checked, ran_locked, ran_meant, ran_over};
+ghost use Rattle.stmt_run.specs.Sites.{IsFree};
 ghost use Rattle.stmt_store.specs.Stores.{ground_of, view_of, ChangesOnly};
 
 use crate::sight::Sight;
@@ -36,6 +38,9 @@ pub(crate) fn outcome_at(
     ensures ran { IfOk result (λ outcome.
         ran_over (ground_of site.now) statement.now site.now.table.now ≡ ran_meant (ground_of site.now) outcome.keys outcome.meant) }
     ensures changes { IfOk result (λ outcome. ChangesOnly site.now.table.now outcome.meant) }
+
+    // The keys are free, or the branch's own.
+    ensures free { IfOk result (λ outcome. All (IsFree site.now.locks.now site.now.me.now site.now.table.now.name) outcome.keys) }
 {
     let cells = match checked(alloc, statement, site.table)? {
         Checked::Refused(refusal) => return Ok(refused(alloc, refusal)),
@@ -81,6 +86,7 @@ fn outcome_seeing(
     ensures ran { IfOk result (λ outcome.
         ran_checked (ground_of site.now) statement.now site.now.table.now None ≡ ran_meant (ground_of site.now) outcome.keys outcome.meant) }
     ensures changes { IfOk result (λ outcome. ChangesOnly site.now.table.now outcome.meant) }
+    ensures free { IfOk result (λ outcome. All (IsFree site.now.locks.now site.now.me.now site.now.table.now.name) outcome.keys) }
 {
     let Sight { rows, in_doubt } = sight;
     let outcome = outcome_over(alloc, statement, site.table, cells, rows)?;

@@ -1,21 +1,23 @@
 //! The changes of a statement, where there is space for them.
 ghost use Rattle.std.specs.Prelude.{◌≡◌, true, None, IfOk, OnOk, OnErr};
+ghost use Rattle.std.specs.List.{All};
 ghost use Rattle.row_store.specs.Store.{AreOfTables, has_table, refusal_of};
 ghost use Rattle.sql_eval.specs.Laws.{AreChangesOf};
 ghost use Rattle.stmt_run.specs.Run.{answer_of_run, locks_after};
-ghost use Rattle.stmt_run.specs.Sites.{LocksFreeKeys};
+ghost use Rattle.stmt_run.specs.Sites.{IsFree};
 ghost use Rattle.stmt_run.specs.Stored.{ground_in, refusal_told, store_after_run};
-ghost use Rattle.stmt_store.specs.Stores.{kept_unless, ran_changing, IsOneOf};
+ghost use Rattle.stmt_store.specs.Stores.{kept_unless, ran_changing};
 
 use dtx_values::{Answer, Changes, Done, Refusal, Table};
 use row_locks::{Keys, Locks};
 use row_store::{Store, StoreErr};
 use std::alloc::{AllocError, Global};
-use stmt_run::holders::take_all;
+use stmt_run::holders::{take_all, write_all};
 use stmt_run::refusal::{no_extents, too_many_changes};
 use tran_ids::BranchId;
 
-/// Keeps the changes of a statement of a branch and locks their keys, or refuses them where there is no space.
+/// Keeps the changes of a statement of a branch and locks their keys, or refuses them where there is no space. After an error
+/// all is as before.
 pub(crate) fn keep(
     alloc: Global,
     table: &Table,
@@ -28,20 +30,30 @@ pub(crate) fn keep(
 ) -> Result<Answer, AllocError>
     requires changes { AreChangesOf table.now changes }
     requires table { has_table store.old.rows table.now.name ≡ true }
-    requires free { LocksFreeKeys locks.old branch.now table.now (ran_changing (ground_in store.old locks.old branch.now table.now) done changes keys) }
+    requires free { All (IsFree locks.old branch.now table.now.name) keys }
     ensures answer { IfOk result (λ answer. answer ≡ answer_of_run (ran_changing (ground_in store.old locks.old branch.now table.now) done changes keys)) }
     ensures store { OnOk result (store.new ≡ store_after_run store.old branch.now table.now (ran_changing (ground_in store.old locks.old branch.now table.now) done changes keys)) }
     ensures locks { OnOk result (locks.new ≡ locks_after locks.old branch.now table.now (ran_changing (ground_in store.old locks.old branch.now table.now) done changes keys)) }
     ensures undo { store.new.extents ≡ store.old.extents }
-    ensures err { OnErr result (IsOneOf store.old (store_after_run store.old branch.now table.now (ran_changing (ground_in store.old locks.old branch.now table.now) done changes keys)) store.new) }
+    ensures err_store { OnErr result (store.new ≡ store.old) }
+    ensures err_locks { OnErr result (locks.new ≡ locks.old) }
 {
     let many = changes.as_slice().len();
-    match take_in(alloc, store, branch, changes)? {
-        Some(refusal) => Ok(Answer::Refused(refusal)),
-        None => {
-            take_all(alloc, locks, branch, &table.name, keys.as_slice(), true)?;
+    let before = locks.len();
+    take_all(alloc, locks, branch, &table.name, keys.as_slice())?;
+    match take_in(alloc, store, branch, changes) {
+        Ok(None) => {
+            write_all(alloc, locks, branch, &table.name, keys.as_slice());
             let count = many as u32;
             Ok(Answer::Did(done, count))
+        }
+        Ok(Some(refusal)) => {
+            locks.keep_first(before);
+            Ok(Answer::Refused(refusal))
+        }
+        Err(e) => {
+            locks.keep_first(before);
+            Err(e)
         }
     }
 }

@@ -1,10 +1,12 @@
 //! Running a statement over a store.
 ghost use Rattle.std.specs.Prelude.{◌≡◌, true, IfOk, OnOk, OnErr};
+ghost use Rattle.std.specs.List.{All};
 ghost use Rattle.row_store.specs.Store.{has_table, seen_by};
 ghost use Rattle.sql_eval.specs.Laws.{has_one_key, AreRowsOf};
 ghost use Rattle.stmt_run.specs.Run.{answer_of_run, locks_after, ran_over, ran_meant};
+ghost use Rattle.stmt_run.specs.Sites.{IsFree};
 ghost use Rattle.stmt_run.specs.Stored.{ground_in, store_after_run};
-ghost use Rattle.stmt_store.specs.Stores.{ChangesOnly, IsOneOf};
+ghost use Rattle.stmt_store.specs.Stores.{ChangesOnly};
 
 use crate::deciding::outcome_at;
 use crate::keeping::keep;
@@ -20,7 +22,7 @@ use tran_ids::BranchId;
 
 /// Runs a statement of a branch over a table of a store, and keeps what it leaves: the changes that it makes as one more set
 /// of the branch, and the keys that it locks. A statement that is refused changes nothing and locks nothing. Fails where memory
-/// runs out, and then the store may have the changes, and the branch some of the keys.
+/// runs out, and then all is as before.
 pub fn run(
     alloc: Global,
     statement: &Stmt,
@@ -42,15 +44,15 @@ pub fn run(
         (locks.new ≡ locks_after locks.old branch.now table.now (ran_over (ground_in store.old locks.old branch.now table.now) statement.now table.now)) }
     ensures undo { store.new.extents ≡ store.old.extents }
 
-    // After an error the store is as before, or has the changes of the statement.
-    ensures err { OnErr result
-        (IsOneOf store.old (store_after_run store.old branch.now table.now (ran_over (ground_in store.old locks.old branch.now table.now) statement.now table.now)) store.new) }
+    // After an error all is as before.
+    ensures err_store { OnErr result (store.new ≡ store.old) }
+    ensures err_locks { OnErr result (locks.new ≡ locks.old) }
 {
     let Outcome { keys, meant } = outcome_in(alloc, statement, table, store, locks, branch)?;
     match meant {
         Meant::Refused(refusal) => Ok(Answer::Refused(refusal)),
         Meant::Gives(rows) => {
-            take_all(alloc, locks, branch, &table.name, keys.as_slice(), false)?;
+            take_all(alloc, locks, branch, &table.name, keys.as_slice())?;
             Ok(Answer::Found(rows))
         }
         Meant::Changes {
@@ -75,6 +77,7 @@ fn outcome_in<'a>(
     ensures ran { IfOk result (λ outcome.
         ran_over (ground_in store.now locks.now me.now table.now) statement.now table.now ≡ ran_meant (ground_in store.now locks.now me.now table.now) outcome.keys outcome.meant) }
     ensures changes { IfOk result (λ outcome. ChangesOnly table.now outcome.meant) }
+    ensures free { IfOk result (λ outcome. All (IsFree locks.now me.now table.now.name) outcome.keys) }
 {
     let site = StoreSite {
         me,
