@@ -59,7 +59,7 @@ answer_among (f ∷ fs) (suc i) n a at = by (f.session == n) (answer_among fs i 
     by true has = inr has
     by false has = has
 
--- and the only one
+-- where a session has one answer, each of its answers is that one
 pub one_answer : (xs : List Answer) (x a : Answer) → xs ≡ x ∷ [] → Has xs a → x ≡ a
 one_answer xs x a is has = by (subst (λ ys. Has ys a) is has)
   where
@@ -67,6 +67,7 @@ one_answer xs x a is has = by (subst (λ ys. Has ys a) is has)
     by (inl same) = same
     by (inr none) = absurd none
 
+-- a call whose one answer is that its statement was done is done
 pub one_done : (fs : List Finished) (n : ℕ) (d : Done) → answers_to n fs ≡ answers.Did d 0 ∷ [] → is_done n fs ≡ true
 one_done fs n d is = ap (list_any (λ a. is_accepted (Some a))) is
 
