@@ -1,19 +1,8 @@
 //! What no script shows of what statements mean, by an example: the order in which keys are examined.
 use crate::given::{is_text, text};
 use dtx_values::{Cells, Row, Value};
-use row_store::KeyedRows;
-use sql_eval::examined;
+use sql_eval::{KeyedRef, examined};
 use std::alloc::{AllocError, Global};
-
-/// Rows at 9 and 10.
-fn rows(alloc: Global) -> Result<KeyedRows, AllocError> {
-    let mut rows = KeyedRows::new(alloc);
-    for key in [9, 10] {
-        let cells = Cells::new(alloc);
-        rows.put(Value::Number(key), Row { cells })?;
-    }
-    Ok(rows)
-}
 
 /// Keys that are locked, out of their order.
 fn locked(alloc: Global) -> Result<Vec<Value>, AllocError> {
@@ -24,9 +13,12 @@ fn locked(alloc: Global) -> Result<Vec<Value>, AllocError> {
 
 /// The keys that a statement examines which fixes none, where there are rows at 9 and 10 beside those.
 fn keys_of(alloc: Global) -> Result<Vec<Value>, AllocError> {
-    let locked = locked(alloc)?;
-    let rows = rows(alloc)?;
-    examined(alloc, &rows.refs(alloc)?, &locked)
+    let row = &Row {
+        cells: Cells::new(alloc),
+    };
+    let (nine, ten) = (&Value::Number(9), &Value::Number(10));
+    let seen = [KeyedRef { key: nine, row }, KeyedRef { key: ten, row }];
+    examined(alloc, &seen, &locked(alloc)?)
 }
 
 /// Whether these are the keys in their order, each once.
