@@ -11,14 +11,23 @@ fn locked(alloc: Global) -> Result<Vec<Value>, AllocError> {
     Ok(vec![in alloc; long, Value::Number(-1), Value::Number(10), short]?)
 }
 
-/// The keys that a statement examines which fixes none, where there are rows at 9 and 10 beside those.
+/// The keys that a statement examines which fixes none, where this row stands at two keys beside those.
+fn keys_beside<'a>(
+    alloc: Global,
+    first: &'a Value,
+    second: &'a Value,
+    row: &'a Row,
+) -> Result<Vec<Value>, AllocError> {
+    let rows = [KeyedRef { key: first, row }, KeyedRef { key: second, row }];
+    examined(alloc, &rows, &locked(alloc)?)
+}
+
+/// The same where there are rows at 9 and 10.
 fn keys_of(alloc: Global) -> Result<Vec<Value>, AllocError> {
-    let row = &Row {
+    let row = Row {
         cells: Cells::new(alloc),
     };
-    let (nine, ten) = (&Value::Number(9), &Value::Number(10));
-    let seen = [KeyedRef { key: nine, row }, KeyedRef { key: ten, row }];
-    examined(alloc, &seen, &locked(alloc)?)
+    keys_beside(alloc, &Value::Number(9), &Value::Number(10), &row)
 }
 
 /// Whether these are the keys in their order, each once.

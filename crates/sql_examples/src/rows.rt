@@ -110,7 +110,8 @@ fn make(alloc: Global, store: &mut Store, table: &Name, changes: &Changes) -> Re
     requires changes { AllByRecursion (λ c. c.table ≡ table.now) changes.now }
     ensures { OnOk result (has_table store.new.rows table.now ≡ true) }
 {
-    store.apply(alloc, changes.as_slice())
+    store.apply(alloc, changes.as_slice())?;
+    Ok(())
 }
 
 /// Whether these rows stand in the order of their keys.
