@@ -9,3 +9,4 @@ pub mod ComesOnceLemmas
 pub mod DropLemmas
 pub mod TurnStayLemmas
 pub mod StayLemmas
+mod TriedStayLemmas

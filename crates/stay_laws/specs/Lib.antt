@@ -1,2 +1,3 @@
 pub mod GotLaws
 pub mod StayLaws
+pub mod TriedStay

@@ -7,6 +7,7 @@
 
 ghost use Rattle.stay_laws.specs.GotLaws.{CollectorsGotPrepare, LeaversGotPrepare, CommitsComeFirst};
 ghost use Rattle.stay_laws.specs.StayLaws.{UndisturbedDropsNone, UndisturbedAbortsNone, UndisturbedCollectsAreOver, UndisturbedRootsAreGone};
+ghost use Rattle.stay_laws.specs.TriedStay.{TheTriedStay};
 
 /// A live branch below a root that is not working got Prepare of its parent.
 pub fn collectors_got_prepare()
@@ -41,4 +42,10 @@ pub fn undisturbed_collects_are_over()
 /// And its root is live no more.
 pub fn undisturbed_roots_are_gone()
     ensures { UndisturbedRootsAreGone }
+{}
+
+/// The tried run, computed: B gets Prepare after the COMMIT and is sealed. Where its node stops before the COMMIT it is
+/// dropped, and says Abort.
+pub fn the_tried_stay()
+    ensures { TheTriedStay }
 {}
