@@ -106,9 +106,6 @@ module _ (t : History) (whole : IsLawfulRun t) where
     lawful : IsLawfulRun s
     lawful = part_lawful t whole hs part
 
-    lawful_z : IsLawfulRun (so_far t after)
-    lawful_z = part_lawful t whole after part_z
-
     even : length f.nodes ≡ length f.records
     even = (run_stands s lawful).0.even
 

@@ -32,7 +32,7 @@ use Rattle.tree_laws.proofs.AnswerRunLemmas.{lives_heard}
 use Rattle.tree_laws.proofs.PrefixLemmas.{so_far, f_at, e_at}
 use Rattle.site_laws.proofs.FateLemmas.{among_found}
 use Rattle.site_laws.proofs.LeaveLemmas.{messages_exit}
-use Rattle.site_laws.proofs.TimeLemmas.{Part, part_on, part_of, part_lawful, fact_at, born_end}
+use Rattle.site_laws.proofs.TimeLemmas.{Part, part_of, part_lawful, fact_at, born_end}
 use Rattle.turn_laws.proofs.AbortStepLemmas.{Was_gone, Hears_one, AbortSo, aborts_on}
 use Rattle.commit_laws.specs.LeaveLaws.{Reason, Seals, Decides, Says_read_only, Gets_rollback, Is_rolled_back, Is_asked, Hears_abort, TurnsHaveReasons}
 use Rattle.commit_laws.specs.Undisturbed.{Commit, Undisturbed, branches_in, disturbs, is_disturbed, IsCalm}
@@ -61,9 +61,6 @@ module _ (t : History) (whole : IsLawfulRun t) (c : Commit t.places t.commands t
     abbrev f : Facts
     f = f_at t hs
 
-    abbrev g : Facts
-    g = facts_after t.places t.commands f h
-
     abbrev e : List Event
     e = e_at t hs
 
@@ -75,9 +72,6 @@ module _ (t : History) (whole : IsLawfulRun t) (c : Commit t.places t.commands t
 
     part : Part t whole hs
     part = part_of t whole hs h rest is
-
-    part_z : Part t whole after
-    part_z = part_on t whole hs h rest is
 
     lawful : IsLawfulRun s
     lawful = part_lawful t whole hs part
