@@ -1,0 +1,65 @@
+//! How a decided commit comes to each sealed branch of its transaction.
+//!
+//! Who knows a commit tells it its neighbours away from the commit point site (`specs/TellLaws.antt`), and a sealed branch
+//! that heard it so has learned it (`specs/HearLaws.antt`): laws of every lawful run. So where all messages came a commit
+//! reaches every sealed branch (`specs/ReachLaws.antt`). No branch of a transaction is sealed before its COMMIT, and none is
+//! forced in an undisturbed one (`specs/BeforeLaws.antt`), so each of its sealed branches ends with commit, where one has
+//! decided (`specs/SealLaws.antt`).
+#![tactic(auto)]
+
+ghost use Rattle.told_laws.specs.TellLaws.{CommitsAreTold};
+ghost use Rattle.told_laws.specs.HearLaws.{CommitsAreHeard, RowsHaveHeard};
+ghost use Rattle.told_laws.specs.ReachLaws.{CommitsReachAll};
+ghost use Rattle.told_laws.specs.BeforeLaws.{NoneAskedBefore, NoneSealedBefore, NoneForced};
+ghost use Rattle.told_laws.specs.SealLaws.{UndisturbedSealsEnd};
+ghost use Rattle.told_laws.specs.TriedTelling.{TheTriedTelling};
+
+/// A branch that has decided, or learned a commit, has told it each neighbour away from the commit point site, or its node
+/// has stopped since the branch began.
+pub fn commits_are_told()
+    ensures { CommitsAreTold }
+{}
+
+/// A sealed branch to which its neighbour on the way to the site told a commit has learned it, or its node has stopped since
+/// the branch began.
+pub fn commits_are_heard()
+    ensures { CommitsAreHeard }
+{}
+
+/// So the row of such a branch knows the decision, where its node keeps one.
+pub fn rows_have_heard()
+    ensures { RowsHaveHeard }
+{}
+
+/// Where all messages of a transaction came, and no node of its branches stopped, each sealed branch has learned the commit
+/// that its site decided.
+pub fn commits_reach_all()
+    ensures { CommitsReachAll }
+{}
+
+/// No branch of a transaction has asked another to prepare when its COMMIT is called.
+pub fn none_asked_before()
+    ensures { NoneAskedBefore }
+{}
+
+/// So none is sealed by then.
+pub fn none_sealed_before()
+    ensures { NoneSealedBefore }
+{}
+
+/// And no branch of the transaction of an undisturbed COMMIT is forced.
+pub fn none_forced()
+    ensures { NoneForced }
+{}
+
+/// Each sealed branch of an undisturbed COMMIT has its Ended commit, where no branch below the root was dropped and one has
+/// decided.
+pub fn undisturbed_seals_end()
+    ensures { UndisturbedSealsEnd }
+{}
+
+/// No law of what is told is about nothing: in the tried run of two nodes B learns the commit that A tells it; where the
+/// message is lost it does not.
+pub fn the_tried_telling()
+    ensures { TheTriedTelling }
+{}
