@@ -7,7 +7,7 @@ use Rattle.agreement.specs.Events.{Forest, Event, Sealed, Seal, Learn, mark, exi
 use Rattle.agreement.specs.Outcomes.{At, stands, is_decision_on}
 use Rattle.agreement.proofs.AgreementLaws.{exit_sealed, was_allowed}
 use Rattle.agreement.proofs.BookLaws.{decision_is}
-use Rattle.agreement.proofs.BookTests.{some_before, some_now}
+use Rattle.agreement.proofs.BookTests.{shows, some_before, some_now}
 use Rattle.agreement.proofs.EventLemmas.{learned_new, learn_by, first_none}
 use Rattle.node_rules.specs.Data.{BranchId, Change}
 use Rattle.node_rules.specs.Data.decisions
@@ -56,14 +56,7 @@ seal_entry _ b g n cs is = absurd cc
 -- and it stands in the book
 seal_stands : (t : List Event) (root b g : BranchId) (n : ℕ) (cs : List Change) → Has (Seal b g n cs) t → same g root ≡ true → stands (is_seal_on root) (book_of t) ≡ true
 seal_stands [] root b g n cs has of = absurd has
-seal_stands (s ∷ t) root b g n cs (inl is) of = some_now (is_seal_on root) s t (subst (λ x. shows_it x ≡ true) (sym is) of)
-  where
-    shows_it : Event → Bool
-    shows_it x = shown (entry_by x)
-      where
-        shown : Option Entry → Bool
-        shown None = false
-        shown (Some e) = is_seal_on root e
+seal_stands (s ∷ t) root b g n cs (inl is) of = some_now (is_seal_on root) s t (subst (λ x. shows (is_seal_on root) (entry_by x) ≡ true) (sym is) of)
 seal_stands (s ∷ t) root b g n cs (inr has) of = some_before (is_seal_on root) s t (seal_stands t root b g n cs has of)
 
 front_at : {A : Type 0} (xs ys : List A) (i : ℕ) (x : A) → slice_get xs i ≡ Some x → slice_get (xs ++ ys) i ≡ Some x
