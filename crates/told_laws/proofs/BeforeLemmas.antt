@@ -1,6 +1,6 @@
 -- In every lawful run no branch of a transaction has asked another to prepare, or is sealed, when its COMMIT is called; and
 -- none of an undisturbed COMMIT is forced.
-use Rattle.std.proofs.Common.{◌≡◌, ◌≢◌, ℕ, zero, suc, ◌+◌, ◌≤◌, Bool, true, false, List, [], ◌∷◌, ◌++◌, Option, Some, None, inl, inr, refl, sym, ap, subst, ◌∙◌, arith}
+use Rattle.std.proofs.Common.{◌≡◌, ◌≢◌, ℕ, zero, suc, ◌≤◌, Bool, true, false, List, [], ◌∷◌, Option, Some, None, refl, sym, ap, subst, ◌∙◌, arith}
 use Rattle.std.specs.Prelude.{IfSome}
 use Rattle.std.specs.List.{AllByRecursion}
 use Rattle.tran_ids.proofs.ListedLemmas.{item_is}
@@ -14,16 +14,14 @@ use Rattle.node_rules.specs.Data.records
 use Rattle.node_rules.specs.Data.stmts
 use Rattle.node_rules.specs.Inputs.{IsCall}
 use Rattle.node_rules.specs.Kept.{Kept, Branch, Deed, live_id, live_at, branch_at, work_at, with_work}
-use Rattle.node_rules.specs.Sessions.{session_at}
-use Rattle.node_rules.specs.Turn.{heard, deed_of}
 use Rattle.node_rules.proofs.Steps as steps
 use Rattle.node_rules.proofs.Steps.{Step}
-use Rattle.run_laws.specs.Births.{Born, births_of, born_at}
+use Rattle.run_laws.specs.Births.{Born, births_of}
 use Rattle.run_laws.specs.BirthLaws.{Began}
 use Rattle.run_laws.specs.CallLaws.{ComesAtRest}
 use Rattle.run_laws.specs.Data.{Took, Turn, Happening, Command}
 use Rattle.run_laws.specs.Data.happenings
-use Rattle.run_laws.specs.Facts.{Facts, first_facts, place_at, node_at, facts_after}
+use Rattle.run_laws.specs.Facts.{Facts, first_facts, place_at, facts_after}
 use Rattle.run_laws.specs.FreezeLaws.{was_asked}
 use Rattle.run_laws.specs.InTurnLaws.{said_in}
 use Rattle.run_laws.specs.Lawful.{Comes, MayHappen, IsLawful, History, IsLawfulRun, facts_at}
@@ -33,7 +31,7 @@ use Rattle.run_laws.specs.Trail.{is_prepare}
 use Rattle.run_laws.specs.WalkLaws.{was_sent}
 use Rattle.run_laws.proofs.EventsStandLemmas.{nodes_are_as_events}
 use Rattle.run_laws.proofs.FreezeRunLemmas.{asked_stand_still}
-use Rattle.run_laws.proofs.LaterLemmas.{forced_same, later_forced, turn_added, stop_added}
+use Rattle.run_laws.proofs.LaterLemmas.{forced_same, later_forced, turn_added}
 use Rattle.run_laws.proofs.LawfulLemmas.{serves, of_wrote}
 use Rattle.run_laws.proofs.OwnLemmas.{all_found}
 use Rattle.run_laws.proofs.RestRunLemmas.{calls_come_at_rest}
@@ -44,7 +42,7 @@ use Rattle.tree_laws.proofs.ForestRunLemmas.{run_known}
 use Rattle.tree_laws.proofs.PrefixLemmas.{so_far, f_at, e_at}
 use Rattle.site_laws.proofs.HeardLemmas.{left_were_asked}
 use Rattle.site_laws.proofs.TimeLemmas.{Part, part_of, part_lawful, rest_lawful, fact_at, born_end, events_join}
-use Rattle.commit_laws.specs.Undisturbed.{Commit, Undisturbed, IsDelivery}
+use Rattle.commit_laws.specs.Undisturbed.{Commit, IsDelivery}
 use Rattle.told_laws.specs.BeforeLaws.{NoneAskedBefore, NoneSealedBefore, NoneForced}
 use Rattle.told_laws.proofs.MoreLemmas.{inv_at}
 
@@ -235,8 +233,8 @@ module _ (places : List Place) (asked : List Command) (b : BranchId) where
 
   deliveries_force : (f : Facts) (hs : List Happening) (e : List Event) → IsLawful places asked f hs → AllByRecursion IsDelivery hs → forced (events_from places asked f hs e) b ≡ forced e b
   unfolding events_from IsLawful
-  deliveries_force f [] e lawful all = refl
-  deliveries_force f (h ∷ hs) e lawful all = deliveries_force (facts_after places asked f h) hs (events_after places asked f h e) lawful.1 all.1 ∙ delivered_forces f h e lawful.0 all.0
+  deliveries_force f [] e may all = refl
+  deliveries_force f (h ∷ hs) e may all = deliveries_force (facts_after places asked f h) hs (events_after places asked f h e) may.1 all.1 ∙ delivered_forces f h e may.0 all.0
 
   -- a COMMIT, and deliveries
   commit_forces : (f : Facts) (u : Turn) (hs : List Happening) (e : List Event) (n : ℕ) (comment : Option (List ℕ)) → IsCall u.input n (stmts.Commit comment) → IsLawful places asked f (happenings.Turn u ∷ hs) → AllByRecursion IsDelivery hs
@@ -245,8 +243,8 @@ module _ (places : List Place) (asked : List Command) (b : BranchId) where
   commit_forces f u hs e n comment asks lawful all =
       deliveries_force (facts_after places asked f (happenings.Turn u)) hs (events_after places asked f (happenings.Turn u) e) lawful.1 all
       ∙ turn_forces f u e lawful.0 (λ m s call forces. (let it : inputs.Call n (Some (stmts.Commit comment)) ≡ inputs.Call m (Some s) = sym asks ∙ call in
-          let same : stmts.Commit comment ≡ s = cc in
-          absurd (subst Forces (sym same) forces)))
+      let same : stmts.Commit comment ≡ s = cc in
+      absurd (subst Forces (sym same) forces)))
 
 pub none_asked_before : NoneAskedBefore
 none_asked_before t whole c z began of b = none_asked t whole c z began of b
@@ -256,8 +254,7 @@ none_sealed_before t whole c z began of m = not_sealed t whole c z began of m
 
 pub none_forced : NoneForced
 none_forced t whole c u z began of =
-    let part : Part t whole c.before = part_of t whole c.before (happenings.Turn c.call) c.during c.is in
     let ends : events_of t ≡ events_from t.places t.commands (f_at t c.before) (happenings.Turn c.call ∷ c.during) (e_at t c.before)
     = ap (λ xs. events_from t.places t.commands (first_facts t.places) xs []) (sym c.is) ∙ events_join t.places t.commands (first_facts t.places) c.before (happenings.Turn c.call ∷ c.during) [] in
     ap (λ e. forced e z.me) ends
-    ∙ (commit_forces t.places t.commands z.me (f_at t c.before) c.call c.during (e_at t c.before) c.session c.comment c.asks (rest_lawful t whole c.before part) u.delivers ∙ not_forced t whole c z began of)
+    ∙ (commit_forces t.places t.commands z.me (f_at t c.before) c.call c.during (e_at t c.before) c.session c.comment c.asks (rest_lawful t whole c.before (record { rest = happenings.Turn c.call ∷ c.during; is = c.is })) u.delivers ∙ not_forced t whole c z began of)

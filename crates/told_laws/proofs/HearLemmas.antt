@@ -1,13 +1,12 @@
 -- In every lawful run a sealed branch to which toward told a commit has learned it, or its node has stopped since.
-use Rattle.std.proofs.Common.{◌≡◌, ◌≢◌, ℕ, Bool, true, false, if◌then◌else◌, List, [], ◌∷◌, ◌++◌, length, Option, Some, None, inl, inr, refl, sym, ap, subst, ◌∙◌, append-nil}
+use Rattle.std.proofs.Common.{◌≡◌, ◌≢◌, ℕ, Bool, true, false, if◌then◌else◌, List, [], ◌∷◌, ◌++◌, Option, Some, None, inl, inr, refl, sym, ap, subst, ◌∙◌, append-nil}
 use Rattle.std.specs.Prelude.{◌⊎◌}
-use Rattle.std.specs.List.{AllByRecursion}
 use Rattle.std.proofs.lemmas.List.{append_assoc}
 use Rattle.tran_ids.proofs.BranchLemmas.{same_from_equal}
 use Rattle.tran_ids.proofs.ListedLemmas.{item_is}
 use Rattle.commit_forget.specs.declared.next.Next.TheVariants as nexts
 use Rattle.session_tree.specs.Live.{is_branch}
-use Rattle.agreement.specs.Events.{Forest, Event, Exit, Sealed, Decided, Quiet, Learn, Send_commit, Forget, exit, learned, Has, Knows, site_of}
+use Rattle.agreement.specs.Events.{Forest, Event, Exit, Sealed, Decided, Quiet, Learn, Send_commit, exit, learned, Has, Knows, site_of}
 use Rattle.agreement.proofs.AgreementLaws.{covered, undecided_from_rollback}
 use Rattle.agreement.proofs.Invariant.{Inv}
 use Rattle.agreement.proofs.WholeTree.{site_root}
@@ -17,14 +16,13 @@ use Rattle.node_rules.specs.Data.inputs
 use Rattle.node_rules.specs.Data.kinds
 use Rattle.node_rules.specs.Data.states
 use Rattle.node_rules.specs.Inputs.{Came}
-use Rattle.node_rules.specs.Kept.{Kept, Deed, live_id, standing_id, live_at, standing_at, branch_at}
-use Rattle.node_rules.specs.Commit.{next_on_decision, decision_at, first_decision, next_turn, on_decision}
+use Rattle.node_rules.specs.Kept.{Kept, Deed, live_id, standing_id, live_at, standing_at}
+use Rattle.node_rules.specs.Commit.{next_on_decision, decision_at, first_decision, next_turn}
 use Rattle.node_rules.specs.Turn.{Stand, Is_live, Is_kept, Is_gone, turn_of, heard, deed_of, committed_turn, kind_turn, stand_of}
 use Rattle.node_rules.proofs.StandLemmas.{StandsSo, stands_so, live_so}
 use Rattle.run_laws.specs.Data.{Turn, Happening}
-use Rattle.run_laws.specs.Data.fates
 use Rattle.run_laws.specs.Data.happenings
-use Rattle.run_laws.specs.EventRows.{RowIs, RowsAre, IsKnown, IsForcedAs, IsDone}
+use Rattle.run_laws.specs.EventRows.{RowIs, IsKnown, IsForcedAs, IsDone}
 use Rattle.run_laws.specs.Facts.{Facts, place_at, node_at, facts_after}
 use Rattle.run_laws.specs.Lawful.{IsOwed, MayHappen, History, IsLawfulRun, facts_at}
 use Rattle.run_laws.specs.RunEvents.{with_event, wrote_event, with_record, events_after, events_of}
@@ -37,7 +35,7 @@ use Rattle.run_laws.proofs.RowEventLemmas.{learned_now}
 use Rattle.run_laws.proofs.SaidLemmas.{came_said}
 use Rattle.tree_laws.specs.Forests.{forest_of}
 use Rattle.tree_laws.proofs.AckForestLemmas.{gone_before}
-use Rattle.tree_laws.proofs.PrefixLemmas.{so_far, f_at, e_at, one_on, more_on}
+use Rattle.tree_laws.proofs.PrefixLemmas.{so_far, f_at, e_at, more_on}
 use Rattle.site_laws.proofs.TimeLemmas.{Part, part_on, part_of, part_lawful, may_of, exit_end}
 use Rattle.commit_laws.specs.DeliveryLaws.{CameInTurn}
 use Rattle.commit_laws.specs.WaitLaws.{HasStopped}

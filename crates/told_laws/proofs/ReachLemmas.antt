@@ -1,12 +1,10 @@
 -- In every lawful run the commit of a transaction has reached each of its sealed branches, where all its messages came and no
 -- node of its branches stopped: by their distance from the commit point site, the nearest first.
-use Rattle.std.proofs.Common.{◌≡◌, ◌≢◌, ℕ, zero, suc, ◌<◌, ◌≤◌, ◌&&◌, ◌||◌, Bool, true, false, List, [], ◌∷◌, map, slice_get, Option, Some, None, inl, inr, refl, sym, ap, subst, ◌∙◌, arith}
-use Rattle.std.specs.Prelude.{◌⊎◌}
-use Rattle.std.specs.List.{AllByRecursion}
+use Rattle.std.proofs.Common.{◌≡◌, ℕ, zero, suc, ◌≤◌, ◌&&◌, ◌||◌, Bool, true, false, List, [], ◌∷◌, map, slice_get, Some, inl, inr, refl, sym, ap, subst, ◌∙◌, arith}
 use Rattle.std.proofs.lemmas.Bool.{and_parts}
 use Rattle.std.proofs.lemmas.Bool.Decides.{nat_tests}
 use Rattle.tran_ids.proofs.BranchLemmas.{equal_from_same}
-use Rattle.agreement.specs.Events.{Forest, IsForest, Event, Sealed, Decided, Quiet, Beyond, exit, learned, Knows, site_of}
+use Rattle.agreement.specs.Events.{Forest, Event, Sealed, Decided, Quiet, Beyond, exit, learned, Knows, site_of}
 use Rattle.agreement.proofs.AgreementLaws.{covers}
 use Rattle.agreement.proofs.Invariant.{Inv}
 use Rattle.agreement.proofs.SameBranch.{cases_same}

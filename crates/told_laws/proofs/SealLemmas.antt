@@ -1,10 +1,10 @@
 -- In every lawful run each sealed branch of an undisturbed COMMIT has its Ended commit, where its transaction is decided.
-use Rattle.std.proofs.Common.{◌≡◌, ◌≢◌, ℕ, zero, suc, ◌||◌, Bool, true, false, List, [], ◌∷◌, ◌++◌, length, slice_get, Option, Some, None, inl, inr, refl, sym, ap, subst, ◌∙◌}
-use Rattle.std.specs.List.{AllByRecursion, list_any}
+use Rattle.std.proofs.Common.{◌≡◌, ℕ, zero, suc, true, List, [], ◌∷◌, ◌++◌, length, slice_get, Option, Some, None, inl, inr, refl, sym, ap, subst, ◌∙◌}
+use Rattle.std.specs.List.{AllByRecursion}
 use Rattle.tran_ids.proofs.BranchLemmas.{equal_from_same}
 use Rattle.agreement.specs.BookOf.{entry_by, with_entry, book_of}
 use Rattle.agreement.specs.Events.{Forest, Event, Sealed, Seal, Learn, mark, exit, learned, forced, Has, Allowed, Lawful}
-use Rattle.agreement.specs.Outcomes.{At, stands, is_decision_on}
+use Rattle.agreement.specs.Outcomes.{At, stands}
 use Rattle.agreement.proofs.AgreementLaws.{exit_sealed, was_allowed}
 use Rattle.agreement.proofs.BookLaws.{decision_is}
 use Rattle.agreement.proofs.BookTests.{shows, some_before, some_now}

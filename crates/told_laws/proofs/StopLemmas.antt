@@ -2,7 +2,7 @@
 use Rattle.std.proofs.Common.{◌≡◌, ◌≢◌, ◌+◌, ◌<◌, ◌≤◌, true, List, [], ◌∷◌, ◌++◌, length, Some, None, inl, inr, refl, sym, ap, subst, subst₂, ◌∙◌, arith, append-nil}
 use Rattle.std.specs.Prelude.{IfSome}
 use Rattle.std.specs.Option.{option_to_list}
-use Rattle.agreement.specs.Events.{Event, Exit, exit}
+use Rattle.agreement.specs.Events.{Event, exit}
 use Rattle.node_rules.specs.Data.{BranchId, RedoRecord}
 use Rattle.node_rules.specs.Kept.{Kept}
 use Rattle.node_rules.specs.Turn.{turn_of}

@@ -1,25 +1,25 @@
 -- In every lawful run a branch that knows a commit has told it each neighbour beyond, or its node has stopped since.
-use Rattle.std.proofs.Common.{◌≡◌, ◌≢◌, ℕ, Bool, true, false, List, [], ◌∷◌, ◌++◌, map, length, Option, Some, None, inl, inr, refl, sym, ap, subst, ◌∙◌, append-nil}
+use Rattle.std.proofs.Common.{◌≡◌, ◌≢◌, ℕ, Bool, true, false, List, [], ◌∷◌, ◌++◌, map, Option, Some, None, inl, inr, refl, sym, ap, subst, ◌∙◌, append-nil}
 use Rattle.std.specs.Prelude.{◌⊎◌, IfSome}
 use Rattle.std.specs.Option.{option_to_list}
 use Rattle.std.specs.List.{AllByRecursion}
 use Rattle.tran_ids.proofs.ListedLemmas.{item_is}
 use Rattle.session_tree.specs.Live.{is_branch}
-use Rattle.agreement.specs.Events.{Forest, Event, Sealed, Decided, Quiet, Beyond, first, only_at, exit, learned, Knows, site_of}
+use Rattle.agreement.specs.Events.{Forest, Event, Sealed, Decided, Quiet, Beyond, first, only_at, exit, learned, Knows}
 use Rattle.agreement.proofs.EventLemmas.{first_is, only_at_is}
 use Rattle.node_rules.specs.Data.{BranchId, Place, RedoRecord, Standing}
 use Rattle.node_rules.specs.Data.decisions
 use Rattle.node_rules.specs.Data.records
 use Rattle.node_rules.specs.Words.{item_at}
-use Rattle.node_rules.specs.Kept.{Kept, Deed, standing_id, standing_at}
+use Rattle.node_rules.specs.Kept.{Kept, Deed, standing_id}
 use Rattle.node_rules.specs.Turn.{turn_of, heard, deed_of}
 use Rattle.run_laws.specs.Data.{Turn, Happening}
 use Rattle.run_laws.specs.Data.happenings
 use Rattle.run_laws.specs.EventLaws.{EachEventFrom}
-use Rattle.run_laws.specs.Facts.{Facts, first_facts, place_at, node_at, records_at, facts_after}
+use Rattle.run_laws.specs.Facts.{Facts, first_facts, place_at, records_at, facts_after}
 use Rattle.run_laws.specs.IdLaws.{IsRecordOf}
 use Rattle.run_laws.specs.InTurnLaws.{post_of, said_in}
-use Rattle.run_laws.specs.Lawful.{IsOwed, MayHappen, MayTurn, History, IsLawfulRun, facts_at}
+use Rattle.run_laws.specs.Lawful.{IsOwed, MayHappen, MayTurn, History, IsLawfulRun}
 use Rattle.run_laws.specs.RunEvents.{with_event, wrote_event, events_after, events_from, events_of}
 use Rattle.run_laws.specs.WalkLaws.{was_sent}
 use Rattle.run_laws.proofs.AtNodeLemmas.{turn_here}
@@ -29,7 +29,7 @@ use Rattle.run_laws.proofs.LawfulLemmas.{serves}
 use Rattle.run_laws.proofs.OwnLemmas.{all_found}
 use Rattle.run_laws.proofs.SaidPostLemmas.{posts_back, posts_of, said_after}
 use Rattle.run_laws.proofs.TowardLemmas.{heard_rows}
-use Rattle.tree_laws.specs.BeyondLaws.{IsNamed, RecordHeard, WritesHeard}
+use Rattle.tree_laws.specs.BeyondLaws.{RecordHeard, WritesHeard}
 use Rattle.tree_laws.specs.Forests.{forest_of}
 use Rattle.tree_laws.specs.NameLaws.{RowNames, NodesName}
 use Rattle.tree_laws.proofs.AskLemmas.{sent_more, sent_new}
@@ -267,8 +267,8 @@ module _ (t : History) (whole : IsLawfulRun t) (b x : BranchId) (edge : Beyond (
 
   first_tells : TellsAll []
   unfolding events_from
-  first_tells n (inl no) = absurd cc
-  first_tells n (inr no) = absurd cc
+  first_tells n (inl none) = absurd cc
+  first_tells n (inr none) = absurd cc
 
   pub told_all : TellsAll t.trace
   told_all = keep_on t whole TellsAll tells_next [] t.trace (record { rest = []; is = append-nil t.trace }) first_tells

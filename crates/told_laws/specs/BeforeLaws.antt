@@ -1,6 +1,6 @@
 -- What a COMMIT finds: none of the branches of its transaction has asked another to prepare, and none is sealed. So an
 -- administrator can force none before it.
-use Rattle.std.specs.Prelude.{◌≡◌, ◌≢◌, ℕ, Bool, false, Some, None}
+use Rattle.std.specs.Prelude.{◌≡◌, ◌≢◌, ℕ, false, Some, None}
 use Rattle.agreement.specs.Events.{Sealed, exit, forced}
 use Rattle.node_rules.specs.Data.{BranchId}
 use Rattle.run_laws.specs.Births.{Born, births_of}
