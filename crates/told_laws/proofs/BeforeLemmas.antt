@@ -43,7 +43,7 @@ use Rattle.tree_laws.proofs.PrefixLemmas.{so_far, f_at, e_at}
 use Rattle.site_laws.proofs.HeardLemmas.{left_were_asked}
 use Rattle.site_laws.proofs.TimeLemmas.{Part, part_of, part_lawful, rest_lawful, fact_at, born_end, events_join}
 use Rattle.commit_laws.specs.Undisturbed.{Commit, IsDelivery}
-use Rattle.told_laws.specs.BeforeLaws.{NoneAskedBefore, NoneSealedBefore, NoneForced}
+use Rattle.told_laws.specs.BeforeLaws.{NoneSealedBefore, NoneForced}
 use Rattle.told_laws.proofs.MoreLemmas.{inv_at}
 
 module _ (t : History) (whole : IsLawfulRun t) (c : Commit t.places t.commands t.trace) where
@@ -245,9 +245,6 @@ module _ (places : List Place) (asked : List Command) (b : BranchId) where
       ∙ turn_forces f u e lawful.0 (λ m s call forces. (let it : inputs.Call n (Some (stmts.Commit comment)) ≡ inputs.Call m (Some s) = sym asks ∙ call in
       let same : stmts.Commit comment ≡ s = cc in
       absurd (subst Forces (sym same) forces)))
-
-pub none_asked_before : NoneAskedBefore
-none_asked_before t whole c z began of b = none_asked t whole c z began of b
 
 pub none_sealed_before : NoneSealedBefore
 none_sealed_before t whole c z began of m = not_sealed t whole c z began of m

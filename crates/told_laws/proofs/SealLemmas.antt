@@ -1,14 +1,14 @@
 -- In every lawful run each sealed branch of an undisturbed COMMIT has its Ended commit, where its transaction is decided.
 use Rattle.std.proofs.Common.{◌≡◌, ℕ, zero, suc, true, List, [], ◌∷◌, ◌++◌, length, slice_get, Option, Some, None, inl, inr, refl, sym, ap, subst, ◌∙◌}
 use Rattle.std.specs.List.{AllByRecursion}
-use Rattle.tran_ids.proofs.BranchLemmas.{equal_from_same}
+use Rattle.tran_ids.proofs.BranchLemmas.{equal_from_same, same_from_equal}
 use Rattle.agreement.specs.BookOf.{entry_by, with_entry, book_of}
-use Rattle.agreement.specs.Events.{Forest, Event, Sealed, Seal, Learn, mark, exit, learned, forced, Has, Allowed, Lawful}
+use Rattle.agreement.specs.Events.{Forest, Event, Sealed, Decided, Seal, Learn, mark, exit, learned, forced, Has, Allowed, Lawful}
 use Rattle.agreement.specs.Outcomes.{At, stands}
 use Rattle.agreement.proofs.AgreementLaws.{exit_sealed, was_allowed}
 use Rattle.agreement.proofs.BookLaws.{decision_is}
 use Rattle.agreement.proofs.BookTests.{shows, some_before, some_now}
-use Rattle.agreement.proofs.EventLemmas.{learned_new, learn_by, first_none}
+use Rattle.agreement.proofs.EventLemmas.{exit_new, learned_new, sealed_by, learn_by, first_none}
 use Rattle.node_rules.specs.Data.{BranchId, Change}
 use Rattle.node_rules.specs.Data.decisions
 use Rattle.node_rules.specs.Words.{same}
@@ -88,6 +88,14 @@ ended_at p (s ∷ t) b n lawful learnt free = elim (learned_new s t b (decisions
     before : forced t b ≡ None
     before = (first_none (forced t b) _ free).0
 
+-- a branch that sealed has its seal
+seal_there : (t : List Event) (b : BranchId) (m : ℕ) → exit t b ≡ Some (Sealed m) → (g : BranchId) × (cs : List Change) × Has (Seal b g m cs) t
+seal_there [] b m is = absurd cc
+seal_there (s ∷ t) b m is = elim (exit_new s t b (Sealed m) is) [
+  | inl old ↦ (let rest = seal_there t b m old in (rest.0, rest.1, inr rest.2))
+  | inr new ↦ (let it = sealed_by s b m new.1 in (it.0, it.1, inl it.2))
+]
+
 -- ---- every run
 
 module _ (t : History) (whole : IsLawfulRun t) (c : Commit t.places t.commands t.trace) (u : Undisturbed t.places t.commands t.trace c) (dropped : DroppedNone t c.root) where
@@ -103,32 +111,44 @@ module _ (t : History) (whole : IsLawfulRun t) (c : Commit t.places t.commands t
   lawful : Lawful p e
   lawful = events_lawful t whole
 
-  module _ (decided : SealsAreDecided book c.root) where
-    seal_ended : (b g : BranchId) (m : ℕ) (cs : List Change) → Has (Seal b g m cs) e → same g c.root ≡ true → (n i : ℕ) × At book i (entries.Ended b (decisions.Commit n))
-    seal_ended b g m cs has of =
-        let site = decision_is p e c.root lawful (decided (seal_stands e c.root b g m cs has of)) in
-        let sealed : exit e b ≡ Some (Sealed m) = exit_sealed p e b g m cs lawful has in
-        let root : p.root b ≡ c.root = (was_allowed p (Seal b g m cs) e lawful has).1.4 ∙ equal_from_same g c.root of in
-        let learnt : learned e b ≡ Some (decisions.Commit site.0) = commits_reach_all t whole c.root (all_came t whole c u dropped) site.0 site.1 b m sealed root in
+  -- the book that the facts keep
+  kept_book : (facts_at t).book ≡ book
+  kept_book = book_is t.places t.commands (first_facts t.places) t.trace ∙ sym (book_of_events t)
+
+  -- where a branch of the transaction is sealed, its site has decided
+  abbrev pub SitesDecide : Type 0
+  SitesDecide = (b : BranchId) (m : ℕ) → exit e b ≡ Some (Sealed m) → p.root b ≡ c.root → (n : ℕ) × (exit e (p.site c.root) ≡ Some (Decided n))
+
+  module _ (decided : SitesDecide) where
+    -- each sealed branch has learned the commit, and none was forced
+    pub sealed_learned : (b : BranchId) (m : ℕ) → exit e b ≡ Some (Sealed m) → p.root b ≡ c.root → (n : ℕ) × (exit e (p.site c.root) ≡ Some (Decided n)) × (learned e b ≡ Some (decisions.Commit n)) × (forced e b ≡ None)
+    sealed_learned b m sealed root =
+        let site = decided b m sealed root in
         let above = left_were_asked t whole b (Sealed m) sealed (λ no. absurd cc) in
         let born : above.0.root ≡ c.root = sym (trees.root_is (births_of t) (said_in (facts_at t)) (run_known t whole) above.0 b above.1 above.2) ∙ root in
-        let free : forced e b ≡ None = subst (λ i. forced e i ≡ None) above.2 (none_forced t whole c u above.0 above.1 born) in
-        let ended = ended_at p e b site.0 lawful learnt free in
-        (site.0, ended.0, ended.1)
+        (site.0, site.1, commits_reach_all t whole c.root (all_came t whole c u dropped) site.0 site.1 b m sealed root, subst (λ i. forced e i ≡ None) above.2 (none_forced t whole c u above.0 above.1 born))
+
+    seal_ended : (b g : BranchId) (m : ℕ) (cs : List Change) → Has (Seal b g m cs) e → same g c.root ≡ true → (n i : ℕ) × At book i (entries.Ended b (decisions.Commit n))
+    seal_ended b g m cs has of =
+        let root : p.root b ≡ c.root = (was_allowed p (Seal b g m cs) e lawful has).1.4 ∙ equal_from_same g c.root of in
+        let it = sealed_learned b m (exit_sealed p e b g m cs lawful has) root in
+        let ended = ended_at p e b it.0 lawful it.2 it.3 in
+        (it.0, ended.0, ended.1)
 
     entry_ended : (s : Event) (x : Entry) → Has s e → entry_by s ≡ Some x → SealIsEnded book c.root x
     entry_ended s (entries.Sealed b g cs m) has is = λ of. seal_ended b g m cs (subst (λ y. Has y e) (seal_entry s b g m cs is) has) of
     entry_ended s _ has is = tt
 
-    all_ended : AllByRecursion (SealIsEnded book c.root) book
-    all_ended = each_entry (SealIsEnded book c.root) e entry_ended
+    -- so each Sealed of the transaction has its Ended commit
+    pub seals_end : AllByRecursion (SealIsEnded (facts_at t).book c.root) (facts_at t).book
+    seals_end = subst (λ es. AllByRecursion (SealIsEnded es c.root) es) (sym kept_book) (each_entry (SealIsEnded book c.root) e entry_ended)
 
-  -- the book that the facts keep
-  kept_book : (facts_at t).book ≡ book
-  kept_book = book_is t.places t.commands (first_facts t.places) t.trace ∙ sym (book_of_events t)
-
-  pub seals_end : SealsAreDecided (facts_at t).book c.root → AllByRecursion (SealIsEnded (facts_at t).book c.root) (facts_at t).book
-  seals_end decided = subst (λ es. AllByRecursion (SealIsEnded es c.root) es) (sym kept_book) (all_ended (subst (λ es. SealsAreDecided es c.root) kept_book decided))
+  -- the same by the book
+  decided_by_book : SealsAreDecided (facts_at t).book c.root → SitesDecide
+  decided_by_book decided b m sealed root =
+      let seal = seal_there e b m sealed in
+      let of : same seal.0 c.root ≡ true = same_from_equal seal.0 c.root (sym (was_allowed p (Seal b seal.0 m seal.1) e lawful seal.2).1.4 ∙ root) in
+      decision_is p e c.root lawful (subst (λ es. SealsAreDecided es c.root) kept_book decided (seal_stands e c.root b seal.0 m seal.1 seal.2 of))
 
 pub undisturbed_seals_end : UndisturbedSealsEnd
-undisturbed_seals_end t whole c u dropped decided = seals_end t whole c u dropped decided
+undisturbed_seals_end t whole c u dropped decided = seals_end t whole c u dropped (decided_by_book t whole c u dropped decided)

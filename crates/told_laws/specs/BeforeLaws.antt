@@ -1,13 +1,10 @@
--- What a COMMIT finds: none of the branches of its transaction has asked another to prepare, and none is sealed. So an
--- administrator can force none before it.
-use Rattle.std.specs.Prelude.{◌≡◌, ◌≢◌, ℕ, false, Some, None}
+-- What a COMMIT finds: no branch of its transaction is sealed. An administrator forces branches that are in doubt, so none of
+-- an undisturbed COMMIT was forced.
+use Rattle.std.specs.Prelude.{◌≡◌, ◌≢◌, ℕ, Some, None}
 use Rattle.agreement.specs.Events.{Sealed, exit, forced}
-use Rattle.node_rules.specs.Data.{BranchId}
 use Rattle.run_laws.specs.Births.{Born, births_of}
 use Rattle.run_laws.specs.BirthLaws.{Began}
-use Rattle.run_laws.specs.FreezeLaws.{was_asked}
-use Rattle.run_laws.specs.InTurnLaws.{said_in}
-use Rattle.run_laws.specs.Lawful.{History, IsLawfulRun, facts_at}
+use Rattle.run_laws.specs.Lawful.{History, IsLawfulRun}
 use Rattle.run_laws.specs.RunEvents.{events_of}
 use Rattle.commit_laws.specs.Undisturbed.{Commit, Undisturbed}
 
@@ -15,12 +12,7 @@ use Rattle.commit_laws.specs.Undisturbed.{Commit, Undisturbed}
 abbrev pub run_before : (t : History) → Commit t.places t.commands t.trace → History
 run_before t c = record { places = t.places; commands = t.commands; of_a_script = t.of_a_script; trace = c.before }
 
--- In every lawful run no branch of the transaction of a COMMIT had asked another to prepare when it was called.
-abbrev pub NoneAskedBefore : Type 0
-NoneAskedBefore = (t : History) → IsLawfulRun t → (c : Commit t.places t.commands t.trace) → (x : Born) → Began (births_of (run_before t c)) x → x.root ≡ c.root
-    → (b : BranchId) → was_asked (said_in (facts_at (run_before t c))) x.me b ≡ false
-
--- So none was sealed.
+-- In every lawful run no branch of the transaction of a COMMIT was sealed when it was called.
 abbrev pub NoneSealedBefore : Type 0
 NoneSealedBefore = (t : History) → IsLawfulRun t → (c : Commit t.places t.commands t.trace) → (x : Born) → Began (births_of t) x → x.root ≡ c.root
     → (m : ℕ) → exit (events_of (run_before t c)) x.me ≢ Some (Sealed m)

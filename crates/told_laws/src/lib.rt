@@ -10,7 +10,7 @@
 ghost use Rattle.told_laws.specs.TellLaws.{CommitsAreTold};
 ghost use Rattle.told_laws.specs.HearLaws.{CommitsAreHeard, RowsHaveHeard};
 ghost use Rattle.told_laws.specs.ReachLaws.{CommitsReachAll};
-ghost use Rattle.told_laws.specs.BeforeLaws.{NoneAskedBefore, NoneSealedBefore, NoneForced};
+ghost use Rattle.told_laws.specs.BeforeLaws.{NoneSealedBefore, NoneForced};
 ghost use Rattle.told_laws.specs.SealLaws.{UndisturbedSealsEnd};
 ghost use Rattle.told_laws.specs.TriedTelling.{TheTriedTelling};
 
@@ -37,17 +37,12 @@ pub fn commits_reach_all()
     ensures { CommitsReachAll }
 {}
 
-/// No branch of a transaction has asked another to prepare when its COMMIT is called.
-pub fn none_asked_before()
-    ensures { NoneAskedBefore }
-{}
-
-/// So none is sealed by then.
+/// No branch of a transaction is sealed when its COMMIT is called.
 pub fn none_sealed_before()
     ensures { NoneSealedBefore }
 {}
 
-/// And no branch of the transaction of an undisturbed COMMIT is forced.
+/// So no branch of the transaction of an undisturbed COMMIT was forced.
 pub fn none_forced()
     ensures { NoneForced }
 {}
