@@ -6,5 +6,6 @@ pub mod TellLemmas
 pub mod HearLemmas
 pub mod ReachLemmas
 pub mod BeforeLemmas
+pub mod ComeLemmas
 pub mod SealLemmas
 mod TriedTellingLemmas

@@ -26,10 +26,10 @@ use Rattle.tree_laws.specs.Forests.{forest_of}
 use Rattle.tree_laws.proofs.ForestLemmas as trees
 use Rattle.tree_laws.proofs.ForestRunLemmas.{run_known}
 use Rattle.site_laws.proofs.HeardLemmas.{left_were_asked}
-use Rattle.commit_laws.specs.WaitLaws.{HasStopped, AllCame}
+use Rattle.commit_laws.specs.WaitLaws.{HasStopped}
 use Rattle.commit_laws.proofs.NetLemmas.{numbered_all}
 use Rattle.told_laws.specs.HearLaws.{HasHeard}
-use Rattle.told_laws.specs.ReachLaws.{CommitsReachAll}
+use Rattle.told_laws.specs.ReachLaws.{HasAllCome, CommitsReachAll}
 use Rattle.told_laws.specs.TellLaws.{is_commit_at}
 use Rattle.told_laws.proofs.HearLemmas.{commits_are_heard}
 use Rattle.told_laws.proofs.MoreLemmas.{forest, events_lawful, inv_end}
@@ -66,7 +66,7 @@ heard_as t from to n _ is so = absurd cc
 
 -- ---- every run
 
-module _ (t : History) (whole : IsLawfulRun t) (root : BranchId) (all : AllCame t root) (n : ℕ) (decided : exit (events_of t) ((forest_of t).site root) ≡ Some (Decided n)) where
+module _ (t : History) (whole : IsLawfulRun t) (root : BranchId) (all : HasAllCome t root) (n : ℕ) (decided : exit (events_of t) ((forest_of t).site root) ≡ Some (Decided n)) where
   abbrev p : Forest
   p = forest_of t
 

@@ -26,11 +26,10 @@ use Rattle.tree_laws.specs.Forests.{forest_of}
 use Rattle.tree_laws.proofs.ForestLemmas as trees
 use Rattle.tree_laws.proofs.ForestRunLemmas.{run_known}
 use Rattle.site_laws.proofs.HeardLemmas.{left_were_asked}
-use Rattle.commit_laws.specs.StillLaws.{DroppedNone}
 use Rattle.commit_laws.specs.Undisturbed.{Commit, Undisturbed, SealIsEnded}
-use Rattle.commit_laws.proofs.StillLemmas.{all_came}
 use Rattle.told_laws.specs.SealLaws.{is_seal_on, SealsAreDecided, UndisturbedSealsEnd}
 use Rattle.told_laws.proofs.BeforeLemmas.{none_forced}
+use Rattle.told_laws.proofs.ComeLemmas.{undisturbed_has_come}
 use Rattle.told_laws.proofs.MoreLemmas.{events_lawful}
 use Rattle.told_laws.proofs.ReachLemmas.{commits_reach_all}
 
@@ -98,7 +97,7 @@ seal_there (s ∷ t) b m is = elim (exit_new s t b (Sealed m) is) [
 
 -- ---- every run
 
-module _ (t : History) (whole : IsLawfulRun t) (c : Commit t.places t.commands t.trace) (u : Undisturbed t.places t.commands t.trace c) (dropped : DroppedNone t c.root) where
+module _ (t : History) (whole : IsLawfulRun t) (c : Commit t.places t.commands t.trace) (u : Undisturbed t.places t.commands t.trace c) where
   abbrev p : Forest
   p = forest_of t
 
@@ -126,7 +125,7 @@ module _ (t : History) (whole : IsLawfulRun t) (c : Commit t.places t.commands t
         let site = decided b m sealed root in
         let above = left_were_asked t whole b (Sealed m) sealed (λ no. absurd cc) in
         let born : above.0.root ≡ c.root = sym (trees.root_is (births_of t) (said_in (facts_at t)) (run_known t whole) above.0 b above.1 above.2) ∙ root in
-        (site.0, site.1, commits_reach_all t whole c.root (all_came t whole c u dropped) site.0 site.1 b m sealed root, subst (λ i. forced e i ≡ None) above.2 (none_forced t whole c u above.0 above.1 born))
+        (site.0, site.1, commits_reach_all t whole c.root (undisturbed_has_come t whole c u) site.0 site.1 b m sealed root, subst (λ i. forced e i ≡ None) above.2 (none_forced t whole c u above.0 above.1 born))
 
     seal_ended : (b g : BranchId) (m : ℕ) (cs : List Change) → Has (Seal b g m cs) e → same g c.root ≡ true → (n i : ℕ) × At book i (entries.Ended b (decisions.Commit n))
     seal_ended b g m cs has of =
@@ -151,4 +150,4 @@ module _ (t : History) (whole : IsLawfulRun t) (c : Commit t.places t.commands t
       decision_is p e c.root lawful (subst (λ es. SealsAreDecided es c.root) kept_book decided (seal_stands e c.root b seal.0 m seal.1 seal.2 of))
 
 pub undisturbed_seals_end : UndisturbedSealsEnd
-undisturbed_seals_end t whole c u dropped decided = seals_end t whole c u dropped (decided_by_book t whole c u dropped decided)
+undisturbed_seals_end t whole c u decided = seals_end t whole c u (decided_by_book t whole c u decided)

@@ -1,4 +1,4 @@
--- In every lawful run a branch that knows a commit has told it each neighbour beyond, or its node has stopped since.
+-- In every lawful run a branch that knows a commit has told it to each neighbour beyond, or its node has stopped since.
 use Rattle.std.proofs.Common.{◌≡◌, ◌≢◌, ℕ, Bool, true, false, List, [], ◌∷◌, ◌++◌, map, Option, Some, None, inl, inr, refl, sym, ap, subst, ◌∙◌, append-nil}
 use Rattle.std.specs.Prelude.{◌⊎◌, IfSome}
 use Rattle.std.specs.Option.{option_to_list}

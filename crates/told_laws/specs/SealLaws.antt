@@ -7,7 +7,6 @@ use Rattle.run_laws.specs.Book.{is_decision_on}
 use Rattle.run_laws.specs.Data.{Entry}
 use Rattle.run_laws.specs.Data.entries
 use Rattle.run_laws.specs.Lawful.{History, IsLawfulRun, facts_at}
-use Rattle.commit_laws.specs.StillLaws.{DroppedNone}
 use Rattle.commit_laws.specs.Undisturbed.{Commit, Undisturbed, SealIsEnded}
 
 -- whether an entry seals a branch of this transaction
@@ -19,8 +18,7 @@ is_seal_on g _ = false
 abbrev pub SealsAreDecided : List Entry → BranchId → Type 0
 SealsAreDecided book root = list_any (is_seal_on root) book ≡ true → list_any (is_decision_on root) book ≡ true
 
--- In every lawful run each sealed branch of an undisturbed COMMIT has its Ended commit, where no branch below the root was
--- dropped and, if one is sealed, one has decided.
+-- In every lawful run each sealed branch of an undisturbed COMMIT has its Ended commit where, if one is sealed, one has decided.
 abbrev pub UndisturbedSealsEnd : Type 0
-UndisturbedSealsEnd = (t : History) → IsLawfulRun t → (c : Commit t.places t.commands t.trace) → Undisturbed t.places t.commands t.trace c → DroppedNone t c.root → SealsAreDecided (facts_at t).book c.root
+UndisturbedSealsEnd = (t : History) → IsLawfulRun t → (c : Commit t.places t.commands t.trace) → Undisturbed t.places t.commands t.trace c → SealsAreDecided (facts_at t).book c.root
     → AllByRecursion (SealIsEnded (facts_at t).book c.root) (facts_at t).book

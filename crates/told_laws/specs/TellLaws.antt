@@ -16,7 +16,7 @@ abbrev pub is_commit_at : ℕ → Kind → Bool
 is_commit_at n (kinds.Committed m) = m == n
 is_commit_at n _ = false
 
--- In every lawful run a branch that has decided, or learned a commit, has told it each neighbour beyond that is not gone
+-- In every lawful run a branch that has decided, or learned a commit, has told it to each neighbour beyond that is not gone
 -- without changes, or its node has stopped since.
 abbrev pub CommitsAreTold : Type 0
 CommitsAreTold = (t : History) → IsLawfulRun t → (b x : BranchId) (n : ℕ) → Knows (events_of t) b n → Beyond (forest_of t) x b → exit (events_of t) x ≢ Some Quiet

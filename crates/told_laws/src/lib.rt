@@ -1,10 +1,10 @@
 //! How a decided commit comes to each sealed branch of its transaction.
 //!
-//! Who knows a commit tells it its neighbours away from the commit point site (`specs/TellLaws.antt`), and a sealed branch
-//! that heard it so has learned it (`specs/HearLaws.antt`): laws of every lawful run. So where all messages came a commit
-//! reaches every sealed branch (`specs/ReachLaws.antt`). No branch of a transaction is sealed before its COMMIT, and none is
-//! forced in an undisturbed one (`specs/BeforeLaws.antt`), so each of its sealed branches ends with commit, where one has
-//! decided (`specs/SealLaws.antt`).
+//! A branch that knows a commit tells it to its neighbours away from the commit point site (`specs/TellLaws.antt`), and a
+//! sealed one that heard it from its neighbour on the way to the site has learned it (`specs/HearLaws.antt`): laws of every
+//! lawful run. So where all messages of a transaction came its commit reaches each sealed branch (`specs/ReachLaws.antt`).
+//! No branch is sealed before the COMMIT, and none is forced in an undisturbed one (`specs/BeforeLaws.antt`), so each of its
+//! sealed branches ends with commit, where one has decided (`specs/SealLaws.antt`).
 #![tactic(auto)]
 
 ghost use Rattle.told_laws.specs.TellLaws.{CommitsAreTold};
@@ -14,8 +14,8 @@ ghost use Rattle.told_laws.specs.BeforeLaws.{NoneSealedBefore, NoneForced};
 ghost use Rattle.told_laws.specs.SealLaws.{UndisturbedSealsEnd};
 ghost use Rattle.told_laws.specs.TriedTelling.{TheTriedTelling};
 
-/// A branch that has decided, or learned a commit, has told it each neighbour away from the commit point site, or its node
-/// has stopped since the branch began.
+/// A branch that has decided, or learned a commit, has told it to each neighbour away from the commit point site, or its
+/// node has stopped since the branch began.
 pub fn commits_are_told()
     ensures { CommitsAreTold }
 {}
@@ -47,8 +47,7 @@ pub fn none_forced()
     ensures { NoneForced }
 {}
 
-/// Each sealed branch of an undisturbed COMMIT has its Ended commit, where no branch below the root was dropped and one has
-/// decided.
+/// Each sealed branch of an undisturbed COMMIT has its Ended commit, where one has decided.
 pub fn undisturbed_seals_end()
     ensures { UndisturbedSealsEnd }
 {}
