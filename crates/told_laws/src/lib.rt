@@ -26,7 +26,7 @@ pub fn commits_are_heard()
     ensures { CommitsAreHeard }
 {}
 
-/// So the row of such a branch knows the decision, where its node keeps one.
+/// So the row of such a branch, where its node keeps one, knows the decision, or the node has stopped since.
 pub fn rows_have_heard()
     ensures { RowsHaveHeard }
 {}
