@@ -104,11 +104,11 @@ module _ (t : History) (whole : IsLawfulRun t) (c : Commit t.places t.commands t
 
   -- no rollback comes to a branch of the transaction
   pub never_disturbed : (hs : List Happening) (w : Turn) (rest : List Happening) → hs ++ happenings.Turn w ∷ rest ≡ t.trace → (b : Born) → Began bs b → b.root ≡ c.root → (from : BranchId) (kind : Kind) → disturbs kind ≡ true → Came w.input from b.me kind → ⊥
-  never_disturbed hs w rest is b began of from kind yes came =
+  never_disturbed hs w rest is b began of from kind disturbing came =
       let calm : is_disturbed (branches_in bs c.root) w.input ≡ false
       = all_at (IsCalm (branches_in bs c.root)) hs (happenings.Turn w) rest (subst (λ xs. AllByRecursion (IsCalm (branches_in bs c.root)) xs) (sym is) u.calm) in
       let here : (is_among b.me (branches_in bs c.root) && disturbs kind) ≡ false = sym (ap (is_disturbed (branches_in bs c.root)) came.is) ∙ calm in
-      let there : (is_among b.me (branches_in bs c.root) && disturbs kind) ≡ true = ap (λ q. q && disturbs kind) (among b began of) ∙ yes in
+      let there : (is_among b.me (branches_in bs c.root) && disturbs kind) ≡ true = ap (λ q. q && disturbs kind) (among b began of) ∙ disturbing in
       absurd (cc (here, there))
 
   -- ---- from the COMMIT on
@@ -117,11 +117,11 @@ module _ (t : History) (whole : IsLawfulRun t) (c : Commit t.places t.commands t
   pub record IsPlain (h : Happening) : Type 0 where
     pub turn : Turn
     pub is : h ≡ happenings.Turn turn
-    pub whole : turn.cut ≡ false
+    pub uncut : turn.cut ≡ false
     pub comes : ((n : ℕ) × (comment : Option (List ℕ)) × IsCall turn.input n (stmts.Commit comment)) ⊎ ((x : Took) × (turn.took ≡ Some x))
 
   delivery_plain : (h : Happening) → IsDelivery h → IsPlain h
-  delivery_plain (happenings.Turn w) is = record { turn = w; is = refl; whole = is.0; comes = inr (_, is.2) }
+  delivery_plain (happenings.Turn w) is = record { turn = w; is = refl; uncut = is.0; comes = inr (_, is.2) }
   delivery_plain (happenings.Stopped n) is = absurd is
   delivery_plain (happenings.Started n boot) is = absurd is
   delivery_plain (happenings.Begun n) is = absurd is
@@ -133,7 +133,7 @@ module _ (t : History) (whole : IsLawfulRun t) (c : Commit t.places t.commands t
   plain since h rest is = by since (cancel c.before (since ++ h ∷ rest) (happenings.Turn c.call ∷ c.during) (sym (append_assoc c.before since (h ∷ rest)) ∙ (is ∙ sym c.is)))
     where
       by : (xs : List Happening) → xs ++ h ∷ rest ≡ happenings.Turn c.call ∷ c.during → IsPlain h
-      by [] it = (let here : h ≡ happenings.Turn c.call = cc in record { turn = c.call; is = here; whole = u.whole; comes = inl (c.session, c.comment, c.asks) })
+      by [] it = (let here : h ≡ happenings.Turn c.call = cc in record { turn = c.call; is = here; uncut = u.whole; comes = inl (c.session, c.comment, c.asks) })
       by (x ∷ xs) it =
           let later : xs ++ h ∷ rest ≡ c.during = (let both : x ∷ (xs ++ h ∷ rest) ≡ happenings.Turn c.call ∷ c.during = it in cc) in
           delivery_plain h (all_at IsDelivery xs h rest (subst (λ ys. AllByRecursion IsDelivery ys) (sym later) u.delivers))

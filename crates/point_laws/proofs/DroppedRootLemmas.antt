@@ -100,7 +100,7 @@ module _ (t : History) (whole : IsLawfulRun t) (c : Commit t.places t.commands t
   found : live_at c.kept c.live.me ≡ Some c.live
   found = subst (λ i. live_at c.kept i ≡ Some c.live) (sym me) c.there
 
-  placed : LiveIs (Began (births_of (so_far t c.before))) c.live
+  pub placed : LiveIs (Began (births_of (so_far t c.before))) c.live
   placed = all_found (LiveIs (Began (births_of (so_far t c.before)))) live_id c.kept.lives c.live.me c.live (nodes_name_the_born (so_far t c.before) lawful0 c.call.node c.kept c.up).0 found
 
   -- the root as it began
@@ -282,4 +282,4 @@ module _ (t : History) (whole : IsLawfulRun t) (c : Commit t.places t.commands t
   root_found dropped =
       let it : LeftThen t whole c.before b Dropped = left_then t whole c.before part0 b none_before Dropped dropped in
       let is : IsPlain t whole c u it.happening = plain t whole c u it.since it.happening it.later it.is in
-      found_so it is.turn is.is is.whole is refl
+      found_so it is.turn is.is is.uncut is refl

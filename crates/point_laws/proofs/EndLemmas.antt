@@ -80,11 +80,11 @@ module _ (t : History) (whole : IsLawfulRun t) where
   told_not_site : (b c : BranchId) → was_sent is_below said b c ≡ true → b ≢ site_of p b
   told_not_site b c told =
       let from = walk_goes_on t whole b c told in
-      (leads_so bs said known from.0 b c from.1 from.2 (inr (comes from.0.parent refl from.3, told))).not_site
+      (leads_so bs said known from.0 b c from.1 from.2 (inr (comes from.0 from.0.parent refl from.3, told))).not_site
     where
-      comes : {x : Born} (o : Option BranchId) → x.parent ≡ o → ((q : BranchId) → x.parent ≡ Some q → was_sent is_below said q b ≡ true) → comes_to said b x.parent ≡ true
-      comes None is told_it = ap (comes_to said b) is
-      comes (Some q) is told_it = ap (comes_to said b) is ∙ told_it q is
+      comes : (x : Born) (o : Option BranchId) → x.parent ≡ o → ((q : BranchId) → x.parent ≡ Some q → was_sent is_below said q b ≡ true) → comes_to said b x.parent ≡ true
+      comes x None is told_it = ap (comes_to said b) is
+      comes x (Some q) is told_it = ap (comes_to said b) is ∙ told_it q is
 
   module _ (c : Commit t.places t.commands t.trace) (u : Undisturbed t.places t.commands t.trace c) (below : DroppedNone t c.root) where
     abbrev r : BranchId
@@ -209,7 +209,7 @@ module _ (t : History) (whole : IsLawfulRun t) where
         let high : 1 ≤ placed.born.depth = trees.high bs said known placed.born placed.began in
         let its_depth : placed.born.depth ≡ l.depth = placed.is_depth in
         absurd (omega (arith, high, its_depth, low))
-    none_ready (suc m) = ready_step m (none_ready m)
+    none_ready (suc m) n k up l live of ready low = ready_step m (none_ready m) n k up l live of ready low
 
     pub leave_ready : (n : ℕ) (k : Kept) → node_at f n ≡ Some k → (l : Live) → live_at k l.me ≡ Some l → l.root ≡ r → l.phase ≢ phases.Ready
     leave_ready n k up l live of ready = none_ready l.depth n k up l live of ready (omega arith)

@@ -14,3 +14,4 @@ pub mod RootLemmas
 pub mod CalmLemmas
 pub mod DroppedRootLemmas
 pub mod EndLemmas
+mod TriedPointLemmas

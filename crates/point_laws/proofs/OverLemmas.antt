@@ -13,7 +13,7 @@ use Rattle.node_rules.specs.Data.votes
 use Rattle.node_rules.specs.Inputs.{Came}
 use Rattle.node_rules.specs.Kept.{Kept, live_id, live_at}
 use Rattle.node_rules.specs.Points.{is_ready}
-use Rattle.node_rules.specs.Prepare.{is_awaited, answers_first, has_voted, voted}
+use Rattle.node_rules.specs.Prepare.{with_prepare_sent, is_awaited, answers_first, has_voted, voted}
 use Rattle.node_rules.specs.Turn.{heard}
 use Rattle.node_rules.specs.Words.{same}
 use Rattle.node_rules.proofs.Steps as steps
@@ -126,7 +126,7 @@ module _ (t : History) (before : List Happening) (lawful : IsLawfulRun (so_far t
 
   pub edges_over : (at : Kept) → Near k0 at → {l : Live} {b : Bool} {a : Act} → Acting at u.input l b a → Over a → AllByRecursion (EdgeOver e said l.me) l.edges
   edges_over at near (steps.Asks_down l comment b y ys live begins has) over = elim over [ ]
-  edges_over at near (steps.Has_no_children l comment b a live begins none collected) over = subst (λ (xs : List Edge). AllByRecursion (EdgeOver e said l.me) (map (λ x. record x { vote = votes.Asked }) xs)) (sym none) tt
+  edges_over at near (steps.Has_no_children l comment b a live begins none collected) over = subst (λ (xs : List Edge). AllByRecursion (EdgeOver e said l.me) (map with_prepare_sent xs)) (sym none) tt
   edges_over at near (steps.Hears_abort l from b live answers) over = elim over [ ]
   edges_over at near (steps.Waits_on l from v b live answers other some) over = elim over [ ]
   edges_over at near (steps.Hears_last l from v b a live answers other all_so collected) over =

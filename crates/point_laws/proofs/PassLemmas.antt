@@ -6,7 +6,7 @@ use Rattle.std.specs.List.{AllByRecursion}
 use Rattle.session_tree.specs.Live.{children_of, peer_of}
 use Rattle.session_tree.specs.Tree.{step}
 use Rattle.session_tree.specs.declared.act.Walk.TheVariants as walks
-use Rattle.agreement.specs.Events.{Event, Quiet, exit}
+use Rattle.agreement.specs.Events.{Event, Exit, Sealed, Quiet, exit}
 use Rattle.node_rules.specs.Data.{BranchId, Edge, Kind, Live, Place, Post, RedoRecord, Vote}
 use Rattle.node_rules.specs.Data.acts
 use Rattle.node_rules.specs.Data.kinds
@@ -162,20 +162,20 @@ module _ (t : History) (whole : IsLawfulRun t) (p c : BranchId) (it : SentIn t w
   abbrev e : List Event
   e = e_at t hs
 
-  abbrev said : List Post
-  said = said_in (f_at t hs)
+  abbrev told : List Post
+  told = said_in (f_at t hs)
 
   -- what is to be shown
   abbrev Finds : Type 0
   Finds = (was_sent is_ready (said_in (facts_at t)) c p ≡ true) ⊎ (exit (events_of t) c ≢ None)
 
-  left_before : (z : _) → exit e c ≡ Some z → Finds
+  left_before : (z : Exit) → exit e c ≡ Some z → Finds
   left_before z left = inr (λ none. (let end : exit (events_of t) c ≡ Some z = exit_end t whole hs part c z left in absurd (cc (end, none))))
 
-  by_edge : (x : Edge) → x.peer ≡ c → EdgeOver e said p x → Finds
-  by_edge x peer (inl vote) = (let sealed = votes_are_of_sealed (so_far t hs) lawful x.peer vote.0 vote.1 in left_before _ (subst (λ b. exit e b ≡ Some _) peer sealed.1))
+  by_edge : (x : Edge) → x.peer ≡ c → EdgeOver e told p x → Finds
+  by_edge x peer (inl vote) = (let sealed = votes_are_of_sealed (so_far t hs) lawful x.peer vote.0 vote.1 in left_before (Sealed sealed.0) (subst (λ b. exit e b ≡ Some (Sealed sealed.0)) peer sealed.1))
   by_edge x peer (inr (inl quiet)) = left_before Quiet (subst (λ b. exit e b ≡ Some Quiet) peer quiet)
-  by_edge x peer (inr (inr ready)) = inl (sent_end t whole hs part is_ready c p (subst (λ b. was_sent is_ready said b p ≡ true) peer ready.0))
+  by_edge x peer (inr (inr ready)) = inl (sent_end t whole hs part is_ready c p (subst (λ b. was_sent is_ready told b p ≡ true) peer ready.0))
 
   sent_d : was_sent is_point d.says p c ≡ true
   sent_d = (turn_says t hs u k may.1 is_point p c it.says).1
@@ -189,9 +189,9 @@ module _ (t : History) (whole : IsLawfulRun t) (p c : BranchId) (it : SentIn t w
       let says : d.says ≡ to_one l.me kinds.CommitPoint (peer_of l i) = so.says_it ∙ ap (seal_says l) is in
       let goes = found_in is_point (λ a b kind. (l.me ≡ a) × (peer_of l i ≡ Some b)) p c d.says (subst (λ xs. AllByRecursion (λ x. (l.me ≡ x.from) × (peer_of l i ≡ Some x.to)) xs) (sym says) (one_goes l.me kinds.CommitPoint (peer_of l i))) sent_d in
       let acting : Acting so.acts_in.here u.input l so.site_below (acts.SealAndPass i) = subst (λ o. Acting so.acts_in.here u.input l so.site_below (seal_act o)) is so.acts_in.acting in
-      let all : AllByRecursion (EdgeOver e said l.me) l.edges = edges_over t hs lawful u k may.1 so.acts_in.here so.acts_in.near acting (Passes_on i) in
+      let all : AllByRecursion (EdgeOver e told l.me) l.edges = edges_over t hs lawful u k may.1 so.acts_in.here so.acts_in.near acting (Passes_on i) in
       let edge = edge_to l.edges i c (numbered_map l.edges i ∙ goes.2.1) in
-      by_edge edge.0 edge.2 (subst (λ b. EdgeOver e said b edge.0) goes.2.0 (numbered_all (EdgeOver e said l.me) l.edges i edge.0 all edge.1))
+      by_edge edge.0 edge.2 (subst (λ b. EdgeOver e told b edge.0) goes.2.0 (numbered_all (EdgeOver e told l.me) l.edges i edge.0 all edge.1))
 
   by_record : (w : Option RedoRecord) → PointWhy (heard k u.input) u.input d.says w → Finds
   by_record (Some (records.Sealed r)) why = by_path r.me why why.path refl

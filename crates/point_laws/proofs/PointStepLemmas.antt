@@ -12,6 +12,7 @@ use Rattle.node_rules.specs.Data.kinds
 use Rattle.node_rules.specs.Data.records
 use Rattle.node_rules.specs.declared.session.Session.{Session}
 use Rattle.node_rules.specs.Kept.{Kept, Branch, Deed, post, to_one, to_each}
+use Rattle.node_rules.specs.Statement.{ran, after_run}
 use Rattle.node_rules.specs.Calls.{answer_says, exec_to, with_edge, hears_reply}
 use Rattle.node_rules.specs.Prepare.{path_of, own_changes, site_neighbors, act_turn}
 use Rattle.node_rules.specs.Recovery.{kept_told}
@@ -89,7 +90,7 @@ module _ (k0 : Kept) (input : Input) where
     point_why (steps.Lets_reads_go {k = k} l comment b live begins step) near = point_why step (λ no. (let is = near no in record { lives = is.lives; clock = is.clock }))
     point_why (steps.Counts_ack {k = k} s from kept came counts step) near = point_why step (λ no. (let is = near no in record { lives = is.lives; clock = is.clock }))
     point_why (steps.Sends says why) near = says_other why
-    point_why (steps.Runs {k = k} x s given t asked way) near = answer_other _ _ x.live.parent
+    point_why (steps.Runs {k = k} x s given t asked way) near = answer_other (record x { live = after_run x.live (ran p k x.live.me s t) }) _ x.live.parent
     point_why (steps.Goes_nowhere x s given r asked way) near = answer_other x _ x.live.parent
     point_why (steps.Calls {k = k} x s given i table asked way) near = exec_other k.sessions x i _ given (peer_of x.live i)
     point_why (steps.Opens x s given node link table asked way) near = (refl, tt)

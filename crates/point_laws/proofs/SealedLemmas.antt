@@ -139,7 +139,7 @@ module _ (t : History) (whole : IsLawfulRun t) (b : BranchId) (c : BranchId) (to
     sealed_so owed (Some (records.Sealed r)) wrote me = passes_so r.me me (subst (PointWhy (heard k u.input) u.input d.says) (sym (wrote_is owed) ∙ wrote) why) (posts_are owed)
     sealed_so owed _ wrote never = absurd never
 
-    pub by_cut : (n : _) → z ≡ Sealed n → (cut : Bool) → u.cut ≡ cut → IsOwed p k u.input u.wrote u.sent cut → Passes
+    by_cut : (n : _) → z ≡ Sealed n → (cut : Bool) → u.cut ≡ cut → IsOwed p k u.input u.wrote u.sent cut → Passes
     by_cut n is_sealed true cut owed = cut_so cut
     by_cut n is_sealed false cut owed =
         let sealed : exit (events_after t.places t.commands f h e) b ≡ Some (Sealed n) = left ∙ ap Some is_sealed in
@@ -148,7 +148,7 @@ module _ (t : History) (whole : IsLawfulRun t) (b : BranchId) (c : BranchId) (to
           | inr made ↦ absurd (later_unsealed b n made.0 made.1 made.2)
         ]
 
-    pub passed : (n : _) → z ≡ Sealed n → Passes
+    passed : (n : _) → z ≡ Sealed n → Passes
     passed n is_sealed = by_cut n is_sealed u.cut refl may.1.owed
 
   by_happening : (n : _) (hs : List Happening) (h : Happening) (rest : List Happening) → hs ++ h ∷ rest ≡ t.trace → exit (e_at t hs) b ≡ None → exit (events_after t.places t.commands (f_at t hs) h (e_at t hs)) b ≡ Some (Sealed n) → Passes

@@ -216,7 +216,7 @@ module _ (t : History) (whole : IsLawfulRun t) (q c : BranchId) (it : SentIn t w
           record { above = q; is_parent = so.0; waits = so.1; last = so.2 }
 
       by_fate : Fate t hs h x → weight y.live ≢ None
-      by_fate (Leaves z left leaves) =
+      by_fate (Leaves z left leaves) none =
           let gone : exit (e_at t after) c ≡ Some z = subst (λ b. exit (e_at t after) b ≡ Some z) was.is_me left in
           let still = none_after in
           absurd (cc (gone, still))

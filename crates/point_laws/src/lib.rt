@@ -8,6 +8,7 @@
 
 ghost use Rattle.point_laws.specs.PointLaws.{ReadyWereSaid, ReadyStay, WalksFindWeights, PointsFindReady, PointsAreHeard, SealedPassOn, QuietTellNone};
 ghost use Rattle.point_laws.specs.RootLaws.{RootsHaveReasons};
+ghost use Rattle.point_laws.specs.TriedPoint.{TheTriedPoint};
 ghost use Rattle.point_laws.specs.EndLaws.{UndisturbedLeaveReady, UndisturbedTowardsLeave, UndisturbedWalksEnd};
 
 /// Each child whose answer Ready a live branch holds has said Ready to it.
@@ -63,4 +64,10 @@ pub fn undisturbed_towards_leave()
 /// So its site has decided, or its root is gone and each other branch that was asked is gone without changes.
 pub fn undisturbed_walks_end()
     ensures { UndisturbedWalksEnd }
+{}
+
+/// The walk of CommitPoint is about something: in a run of three nodes A passes it on to C, which decides, and the COMMIT of
+/// that run is undisturbed.
+pub fn the_tried_point()
+    ensures { TheTriedPoint }
 {}
