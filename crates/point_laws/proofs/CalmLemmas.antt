@@ -20,14 +20,17 @@ use Rattle.run_laws.specs.Data.{Packet, Took, Turn, Happening}
 use Rattle.run_laws.specs.Data.fates
 use Rattle.run_laws.specs.Data.happenings
 use Rattle.run_laws.specs.Facts.{Facts}
+use Rattle.run_laws.specs.FreezeLaws.{was_asked}
 use Rattle.run_laws.specs.InTurnLaws.{packet_post, said_in}
 use Rattle.run_laws.specs.Lawful.{Comes, History, IsLawfulRun, facts_at}
+use Rattle.run_laws.specs.Trail.{is_prepare}
 use Rattle.run_laws.specs.WalkLaws.{was_sent}
 use Rattle.run_laws.proofs.TurnEventLemmas.{all_both}
-use Rattle.commit_laws.specs.DeliveryLaws.{CameInTurn}
+use Rattle.commit_laws.specs.DeliveryLaws.{CameInTurn, IsBusy}
 use Rattle.commit_laws.specs.Undisturbed.{Commit, Undisturbed, branches_in, IsCalm, IsDelivery, disturbs, is_disturbed}
 use Rattle.commit_laws.specs.WaitLaws.{AllCame}
 use Rattle.commit_laws.proofs.CameLemmas.{deliveries_came}
+use Rattle.commit_laws.proofs.HeardLemmas.{prepares_are_heard}
 use Rattle.point_laws.specs.PointLaws.{is_point, IsNotLive}
 use Rattle.point_laws.specs.RootLaws.{is_rollback}
 use Rattle.point_laws.proofs.HeardLemmas.{points_are_heard}
@@ -151,6 +154,14 @@ module _ (t : History) (whole : IsLawfulRun t) (c : Commit t.places t.commands t
         = packet_found is_point (λ y. IfSent y × (y.fate ≡ fates.Delivered → is_point y.msg.kind ≡ true → IsNotLive (facts_at t) y.msg.to)) a.me b (facts_at t).net.packets
         (all_both IfSent (λ y. y.fate ≡ fates.Delivered → is_point y.msg.kind ≡ true → IsNotLive (facts_at t) y.msg.to) (facts_at t).net.packets all.messages (points_are_heard t whole)) sent in
         subst (IsNotLive (facts_at t)) x.is_to (x.so.1 (x.so.0 a began (sym x.is_from) of) x.is_kind)
+
+    -- so was Prepare
+    pub prepare_heard : was_asked (said_in (facts_at t)) a.me b ≡ true → IsBusy (facts_at t) b
+    prepare_heard sent =
+        let x : SentSo is_prepare (λ y. IfSent y × (y.fate ≡ fates.Delivered → is_prepare y.msg.kind ≡ true → IsBusy (facts_at t) y.msg.to)) a.me b
+        = packet_found is_prepare (λ y. IfSent y × (y.fate ≡ fates.Delivered → is_prepare y.msg.kind ≡ true → IsBusy (facts_at t) y.msg.to)) a.me b (facts_at t).net.packets
+        (all_both IfSent (λ y. y.fate ≡ fates.Delivered → is_prepare y.msg.kind ≡ true → IsBusy (facts_at t) y.msg.to) (facts_at t).net.packets all.messages (prepares_are_heard t whole)) sent in
+        subst (IsBusy (facts_at t)) x.is_to (x.so.1 (x.so.0 a began (sym x.is_from) of) x.is_kind)
 
   -- no branch of the transaction sends another one Rollback
   pub none_rolled : AllCame t c.root → (a b : Born) → Began bs a → a.root ≡ c.root → Began bs b → b.root ≡ c.root → was_sent is_rollback (said_in (facts_at t)) a.me b.me ≡ true → ⊥

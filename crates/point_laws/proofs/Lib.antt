@@ -13,5 +13,8 @@ pub mod RootStepLemmas
 pub mod RootLemmas
 pub mod CalmLemmas
 pub mod DroppedRootLemmas
-pub mod EndLemmas
+pub mod ReadyEndLemmas
+pub mod WalkEndLemmas
+pub mod AskedEndLemmas
+pub mod BookEndLemmas
 mod TriedPointLemmas

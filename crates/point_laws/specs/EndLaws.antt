@@ -2,11 +2,15 @@
 -- branch has as its neighbour on the way to the commit point site one that is sealed too, or the site, which has decided;
 -- or no branch had changes. (Database Administrator's Guide, "Distributed Transactions Concepts": commit point site,
 -- commit phase, read-only optimization.)
-use Rattle.std.specs.Prelude.{◌≡◌, ◌≢◌, ◌⊎◌, ℕ, true, Some, None}
-use Rattle.agreement.specs.Events.{Sealed, Decided, Quiet, Dropped, exit, site_of}
-use Rattle.node_rules.specs.Data.{BranchId, Live}
+use Rattle.std.specs.Prelude.{◌≡◌, ◌≢◌, ◌⊎◌, ℕ, true, List, Some, None}
+use Rattle.std.specs.List.{AllByRecursion}
+use Rattle.agreement.specs.Events.{Forest, Event, Sealed, Decided, Quiet, Dropped, exit}
+use Rattle.node_rules.specs.Data.{BranchId, Change, Live}
 use Rattle.node_rules.specs.Data.phases
 use Rattle.node_rules.specs.Kept.{Kept, live_at}
+use Rattle.run_laws.specs.Book.{At}
+use Rattle.run_laws.specs.Data.{Entry}
+use Rattle.run_laws.specs.Data.entries
 use Rattle.run_laws.specs.Facts.{node_at}
 use Rattle.run_laws.specs.Lawful.{History, IsLawfulRun, facts_at}
 use Rattle.run_laws.specs.RunEvents.{events_of}
@@ -33,3 +37,26 @@ pub data WalkEnd (t : History) (root : BranchId) : Type 0 where
 -- So the walk of an undisturbed COMMIT has ended.
 abbrev pub UndisturbedWalksEnd : Type 0
 UndisturbedWalksEnd = (t : History) → IsLawfulRun t → (c : Commit t.places t.commands t.trace) → Undisturbed t.places t.commands t.trace c → DroppedNone t c.root → WalkEnd t c.root
+
+-- And each branch of its tree that was asked to prepare is live no more.
+abbrev pub UndisturbedAskedLeave : Type 0
+UndisturbedAskedLeave = (t : History) → IsLawfulRun t → (c : Commit t.places t.commands t.trace) → Undisturbed t.places t.commands t.trace c → DroppedNone t c.root
+    → (b : BranchId) → (forest_of t).member b ≡ true → (forest_of t).root b ≡ c.root → exit (events_of t) b ≢ None
+
+-- ---- in the book
+
+-- a seal in the book, and a decision, are of a branch that left so, of that transaction
+abbrev pub EntryIs : Forest → List Event → Entry → Type 0
+EntryIs p e (entries.Sealed b g cs scn) = (exit e b ≡ Some (Sealed scn)) × (p.root b ≡ g)
+EntryIs p e (entries.Decided b g cs scn) = (exit e b ≡ Some (Decided scn)) × (p.root b ≡ g)
+EntryIs p e _ = Unit {0}
+
+-- In every lawful run they are.
+abbrev pub EntriesAreExits : Type 0
+EntriesAreExits = (t : History) → IsLawfulRun t → AllByRecursion (EntryIs (forest_of t) (events_of t)) (facts_at t).book
+
+-- So where a branch of an undisturbed COMMIT is sealed by the book, the book has the decision of its transaction.
+abbrev pub UndisturbedSealsAreDecided : Type 0
+UndisturbedSealsAreDecided = (t : History) → IsLawfulRun t → (c : Commit t.places t.commands t.trace) → Undisturbed t.places t.commands t.trace c → DroppedNone t c.root
+    → (b : BranchId) (cs : List Change) (scn i : ℕ) → At (facts_at t).book i (entries.Sealed b c.root cs scn)
+    → (d : BranchId) × (ds : List Change) × (n j : ℕ) × At (facts_at t).book j (entries.Decided d c.root ds n)

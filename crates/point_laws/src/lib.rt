@@ -9,7 +9,7 @@
 ghost use Rattle.point_laws.specs.PointLaws.{ReadyWereSaid, ReadyStay, WalksFindWeights, PointsFindReady, PointsAreHeard, SealedPassOn, QuietTellNone};
 ghost use Rattle.point_laws.specs.RootLaws.{RootsHaveReasons};
 ghost use Rattle.point_laws.specs.TriedPoint.{TheTriedPoint};
-ghost use Rattle.point_laws.specs.EndLaws.{UndisturbedLeaveReady, UndisturbedTowardsLeave, UndisturbedWalksEnd};
+ghost use Rattle.point_laws.specs.EndLaws.{UndisturbedLeaveReady, UndisturbedTowardsLeave, UndisturbedWalksEnd, UndisturbedAskedLeave, EntriesAreExits, UndisturbedSealsAreDecided};
 
 /// Each child whose answer Ready a live branch holds has said Ready to it.
 pub fn ready_were_said()
@@ -64,6 +64,21 @@ pub fn undisturbed_towards_leave()
 /// So its site has decided, or its root is gone and each other branch that was asked is gone without changes.
 pub fn undisturbed_walks_end()
     ensures { UndisturbedWalksEnd }
+{}
+
+/// And each branch of it that was asked to prepare is live no more.
+pub fn undisturbed_asked_leave()
+    ensures { UndisturbedAskedLeave }
+{}
+
+/// The seals and decisions of the book are exits of branches, of the transactions that they name.
+pub fn entries_are_exits()
+    ensures { EntriesAreExits }
+{}
+
+/// So where the book has a seal of the transaction of an undisturbed COMMIT it has its decision.
+pub fn undisturbed_seals_are_decided()
+    ensures { UndisturbedSealsAreDecided }
 {}
 
 /// The walk of CommitPoint is about something: in a run of three nodes A passes it on to C, which decides, and the COMMIT of

@@ -1,4 +1,4 @@
-use Rattle.point_laws.proofs.EndLemmas.{undisturbed_leave_ready}
+use Rattle.point_laws.proofs.ReadyEndLemmas.{undisturbed_leave_ready}
 use Rattle.point_laws.proofs.undisturbed_leave_ready.Goals as goal
 
 pub returns : goal.returns

@@ -1,4 +1,4 @@
-use Rattle.point_laws.proofs.EndLemmas.{undisturbed_towards_leave}
+use Rattle.point_laws.proofs.WalkEndLemmas.{undisturbed_towards_leave}
 use Rattle.point_laws.proofs.undisturbed_towards_leave.Goals as goal
 
 pub returns : goal.returns

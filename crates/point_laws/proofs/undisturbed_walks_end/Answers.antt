@@ -1,4 +1,4 @@
-use Rattle.point_laws.proofs.EndLemmas.{undisturbed_walks_end}
+use Rattle.point_laws.proofs.WalkEndLemmas.{undisturbed_walks_end}
 use Rattle.point_laws.proofs.undisturbed_walks_end.Goals as goal
 
 pub returns : goal.returns
