@@ -1,10 +1,8 @@
 -- In every lawful run each branch of an undisturbed COMMIT that was asked to prepare is live no more when nothing is in flight:
 -- Prepare came to it, its collect is over, and it is not Ready.
-use Rattle.std.proofs.Common.{◌≡◌, ◌≢◌, ℕ, Bool, true, Option, Some, None, inl, inr, refl, sym, ap, subst, ◌∙◌}
-use Rattle.std.specs.Prelude.{◌⊎◌}
+use Rattle.std.proofs.Common.{◌≡◌, true, Option, Some, None, inl, inr, refl, sym, subst, ◌∙◌}
 use Rattle.agreement.specs.Events.{exit}
 use Rattle.node_rules.specs.Data.{BranchId}
-use Rattle.node_rules.specs.Data.phases
 use Rattle.node_rules.specs.Kept.{live_at}
 use Rattle.run_laws.specs.Births.{Born, births_of}
 use Rattle.run_laws.specs.BirthLaws.{Began}
@@ -13,7 +11,7 @@ use Rattle.run_laws.specs.FreezeLaws.{was_asked}
 use Rattle.run_laws.specs.InTurnLaws.{said_in}
 use Rattle.run_laws.specs.Lawful.{History, IsLawfulRun, facts_at}
 use Rattle.run_laws.specs.RunEvents.{events_of}
-use Rattle.tree_laws.specs.Forests.{asked_by, forest_of}
+use Rattle.tree_laws.specs.Forests.{asked_by}
 use Rattle.tree_laws.proofs.ForestLemmas as trees
 use Rattle.tree_laws.proofs.ForestRunLemmas.{run_known}
 use Rattle.commit_laws.specs.DeliveryLaws.{IsBusy}

@@ -1,7 +1,6 @@
 -- In every lawful run the seals and decisions of the book are exits of branches, of the transactions that they name. So where
 -- the book has a seal of an undisturbed COMMIT it has its decision.
-use Rattle.std.proofs.Common.{◌≡◌, ◌≢◌, ℕ, zero, suc, ◌+◌, List, [], ◌∷◌, ◌++◌, length, slice_get, Option, Some, None, inl, inr, refl, sym, ap, subst, ◌∙◌}
-use Rattle.std.specs.Prelude.{◌⊎◌}
+use Rattle.std.proofs.Common.{◌≡◌, ℕ, zero, suc, ◌+◌, List, [], ◌∷◌, ◌++◌, length, slice_get, Option, Some, None, inl, inr, refl, sym, subst, ◌∙◌}
 use Rattle.std.specs.List.{AllByRecursion}
 use Rattle.agreement.specs.BookOf.{entry_by, with_entry, book_of}
 use Rattle.agreement.specs.Events.{Forest, Allowed, Event, Make, Seal, Decide, Answer_read_only, Drop, Force, Learn, Forget, Send_vote, Send_commit, Send_rollback, Send_ack, Send_forgotten, Exit, Sealed, Decided, first, only_at, exit, Lawful}
@@ -11,14 +10,12 @@ use Rattle.run_laws.specs.Book.{At}
 use Rattle.run_laws.specs.Data.{Entry}
 use Rattle.run_laws.specs.Data.entries
 use Rattle.run_laws.specs.Facts.{first_facts}
-use Rattle.run_laws.specs.Lawful.{History, IsLawfulRun, facts_at}
+use Rattle.run_laws.specs.Lawful.{History, facts_at}
 use Rattle.run_laws.specs.RunEvents.{events_of}
 use Rattle.run_laws.proofs.EventBookLemmas.{book_of_events}
 use Rattle.run_laws.proofs.FactLemmas.{book_is}
 use Rattle.run_laws.proofs.ListLemmas.{all_weaker, all_append}
 use Rattle.tree_laws.specs.Forests.{forest_of}
-use Rattle.commit_laws.specs.StillLaws.{DroppedNone}
-use Rattle.commit_laws.specs.Undisturbed.{Commit, Undisturbed}
 use Rattle.point_laws.specs.EndLaws.{EntryIs, EntriesAreExits, UndisturbedSealsAreDecided}
 use Rattle.point_laws.proofs.ReadyEndLemmas.{run_lawful}
 use Rattle.point_laws.proofs.WalkEndLemmas.{sealed_site}
@@ -99,8 +96,7 @@ module _ (p : Forest) where
     | inl old ↦ (let it : InBook t b n = decided_in t lawful.1 b n old in (it.0, it.1, entry_more (book_of t) (entry_by s) it.1 (entries.Decided b (p.root b) it.0 n) it.2))
     | inr new ↦ (let by = decided_by s b n new.1 in
         let root : p.root b ≡ by.0 = (subst (Allowed p t) by.2 lawful.0).3 in
-        let at : At (book_of t ++ entries.Decided b by.0 by.1 n ∷ []) (length (book_of t)) (entries.Decided b by.0 by.1 n) = at_last (book_of t) (entries.Decided b by.0 by.1 n) in
-        (
+        let at : At (book_of t ++ entries.Decided b by.0 by.1 n ∷ []) (length (book_of t)) (entries.Decided b by.0 by.1 n) = at_last (book_of t) (entries.Decided b by.0 by.1 n) in (
           by.1,
           length (book_of t),
           subst (λ (x : Event). At (book_of (x ∷ t)) (length (book_of t)) (entries.Decided b (p.root b) by.1 n)) (sym by.2)
@@ -120,8 +116,7 @@ pub undisturbed_seals_are_decided : UndisturbedSealsAreDecided
 undisturbed_seals_are_decided t whole c u below b cs scn i at =
     let is : EntryIs (forest_of t) (events_of t) (entries.Sealed b c.root cs scn) = slice_all (EntryIs (forest_of t) (events_of t)) (facts_at t).book i (entries.Sealed b c.root cs scn) (entries_are_exits t whole) at in
     let site = sealed_site t whole c u below b scn is.0 is.1 in
-    let it = decided_in (forest_of t) (events_of t) (run_lawful t whole) site.0 site.1 site.2 in
-    (
+    let it = decided_in (forest_of t) (events_of t) (run_lawful t whole) site.0 site.1 site.2 in (
       site.0,
       it.0,
       site.1,

@@ -1,12 +1,11 @@
 -- The root of an undisturbed COMMIT that was dropped has found no changes: no rollback came, no child said Abort, and its
 -- session neither rolled back nor gave up.
 use Rattle.std.proofs.Common.{◌≡◌, ◌≢◌, ℕ, ◌||◌, Bool, true, false, if◌then◌else◌, List, [], ◌∷◌, ◌++◌, map, Option, Some, None, inl, inr, refl, sym, ap, subst, ◌∙◌}
-use Rattle.std.specs.Prelude.{◌⊎◌}
 use Rattle.tran_ids.proofs.ListedLemmas.{item_is}
 use Rattle.agreement.specs.Events as exits
 use Rattle.agreement.specs.Events.{Event, Exit, Dropped, Quiet, first, only_at, exit}
 use Rattle.agreement.proofs.EventLemmas.{first_is, only_at_is, only_at_same}
-use Rattle.node_rules.specs.Data.{BranchId, Kind, Live, Place, RedoRecord, Sealed, Decided, Input}
+use Rattle.node_rules.specs.Data.{BranchId, Live, Place, RedoRecord, Sealed, Decided, Input}
 use Rattle.node_rules.specs.Data.inputs
 use Rattle.node_rules.specs.Data.kinds
 use Rattle.node_rules.specs.Data.records
@@ -22,7 +21,6 @@ use Rattle.run_laws.specs.Data.{Turn, Happening}
 use Rattle.run_laws.specs.Data.happenings
 use Rattle.run_laws.specs.EventLaws.{EachEventFrom}
 use Rattle.run_laws.specs.Facts.{Facts, first_facts, place_at, node_at, kept_after, facts_after}
-use Rattle.run_laws.specs.FreezeLaws.{was_asked}
 use Rattle.run_laws.specs.InTurnLaws.{post_of, said_in}
 use Rattle.run_laws.specs.Lawful.{IsOwed, MayHappen, History, IsLawfulRun, facts_at}
 use Rattle.run_laws.specs.RunEvents.{wrote_event, with_event, with_record, lives_at, events_after, events_of}

@@ -1,12 +1,10 @@
 -- What a branch has told and asked when it leaves it has told and asked before. One that leaves without changes told no child
 -- that the walk to the commit point site comes there.
-use Rattle.std.proofs.Common.{◌≡◌, ◌≢◌, ℕ, Bool, true, false, if◌then◌else◌, List, [], ◌∷◌, ◌++◌, Option, Some, None, inl, inr, refl, sym, ap, subst, ◌∙◌, append-nil}
-use Rattle.std.specs.Prelude.{nat_lt, ◌⊎◌}
+use Rattle.std.proofs.Common.{◌≡◌, ◌≢◌, ℕ, Bool, true, false, List, [], ◌∷◌, ◌++◌, Option, Some, None, inl, inr, refl, sym, ap, subst, ◌∙◌, append-nil}
 use Rattle.session_tree.specs.Tree.{best_child, weight_by, walk_by, weight, step}
 use Rattle.session_tree.specs.declared.act.Walk.TheVariants as walks
-use Rattle.agreement.specs.Events.{Exit, Quiet, Dropped, exit}
+use Rattle.agreement.specs.Events.{Quiet, Dropped, exit}
 use Rattle.node_rules.specs.Data.{BranchId, Kind, Live}
-use Rattle.node_rules.specs.Kept.{live_at}
 use Rattle.run_laws.specs.Births.{births_of}
 use Rattle.run_laws.specs.Data.{Turn, Happening}
 use Rattle.run_laws.specs.Data.happenings
@@ -15,7 +13,7 @@ use Rattle.run_laws.specs.Facts.{first_facts}
 use Rattle.run_laws.specs.FreezeLaws.{was_asked}
 use Rattle.run_laws.specs.InTurnLaws.{said_in}
 use Rattle.run_laws.specs.Lawful.{MayHappen, History, IsLawfulRun, facts_at}
-use Rattle.run_laws.specs.RunEvents.{events_after, events_of}
+use Rattle.run_laws.specs.RunEvents.{events_after}
 use Rattle.run_laws.specs.Trail.{is_prepare}
 use Rattle.run_laws.specs.WalkLaws.{is_below, was_sent}
 use Rattle.run_laws.proofs.BirthRunLemmas.{run_births}

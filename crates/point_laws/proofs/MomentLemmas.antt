@@ -20,7 +20,7 @@ use Rattle.run_laws.specs.WalkLaws.{was_sent}
 use Rattle.run_laws.proofs.NodesStandLemmas.{some_or_none}
 use Rattle.run_laws.proofs.SaidPostLemmas.{posts_back, posts_of, said_after}
 use Rattle.tree_laws.proofs.AskLemmas.{sent_split, sent_new}
-use Rattle.tree_laws.proofs.PrefixLemmas.{so_far, f_at, e_at, one_on, more_on}
+use Rattle.tree_laws.proofs.PrefixLemmas.{f_at, e_at, one_on, more_on}
 use Rattle.site_laws.proofs.TimeLemmas.{Part, part_on, exit_end, keep_on}
 
 -- what is so of each of these messages is so of one that was sent

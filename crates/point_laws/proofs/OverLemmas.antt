@@ -1,6 +1,6 @@
 -- A branch whose collect is over, at the turn in which it passes CommitPoint on or finds no changes: each of its children has
 -- voted, is gone without changes, or said Ready and was told that the walk comes there.
-use Rattle.std.proofs.Common.{◌≡◌, ◌≢◌, ℕ, ◌≤◌, ◌&&◌, ◌⊎◌, Bool, true, false, List, [], ◌∷◌, map, Option, Some, None, inl, inr, refl, sym, ap, subst, ◌∙◌}
+use Rattle.std.proofs.Common.{◌≡◌, ◌≢◌, ℕ, ◌⊎◌, Bool, true, false, List, [], ◌∷◌, map, Some, inl, inr, refl, sym, ap, subst}
 use Rattle.std.specs.List.{AllByRecursion, list_any}
 use Rattle.std.proofs.lemmas.Bool.{cond_both, and_parts, not-true}
 use Rattle.tran_ids.proofs.BranchLemmas.{equal_from_same}
@@ -17,7 +17,7 @@ use Rattle.node_rules.specs.Prepare.{with_prepare_sent, is_awaited, answers_firs
 use Rattle.node_rules.specs.Turn.{heard}
 use Rattle.node_rules.specs.Words.{same}
 use Rattle.node_rules.proofs.Steps as steps
-use Rattle.node_rules.proofs.Steps.{Acting, Answers, vote_kind}
+use Rattle.node_rules.proofs.Steps.{Acting, vote_kind}
 use Rattle.run_laws.specs.Data.{Turn, Happening}
 use Rattle.run_laws.specs.Facts.{Facts}
 use Rattle.run_laws.specs.HeardLaws.{AnswersAre, EdgeIs, QuietIs, VoteIs}

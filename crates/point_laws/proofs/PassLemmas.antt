@@ -1,13 +1,13 @@
 -- A branch that becomes sealed, and told a child that the walk to the commit point site comes there, passes CommitPoint on to
 -- that child. Whom CommitPoint is sent said Ready, or has left.
-use Rattle.std.proofs.Common.{◌≡◌, ◌≢◌, ℕ, zero, suc, Bool, true, false, List, [], ◌∷◌, ◌++◌, map, Option, Some, None, inl, inr, refl, sym, ap, subst, ◌∙◌}
+use Rattle.std.proofs.Common.{◌≡◌, ◌≢◌, ℕ, zero, suc, Bool, true, false, List, [], map, Option, Some, None, inl, inr, refl, sym, ap, subst, ◌∙◌}
 use Rattle.std.specs.Prelude.{◌⊎◌}
 use Rattle.std.specs.List.{AllByRecursion}
 use Rattle.session_tree.specs.Live.{children_of, peer_of}
 use Rattle.session_tree.specs.Tree.{step}
 use Rattle.session_tree.specs.declared.act.Walk.TheVariants as walks
 use Rattle.agreement.specs.Events.{Event, Exit, Sealed, Quiet, exit}
-use Rattle.node_rules.specs.Data.{BranchId, Edge, Kind, Live, Place, Post, RedoRecord, Vote}
+use Rattle.node_rules.specs.Data.{BranchId, Edge, Kind, Live, Place, Post, RedoRecord}
 use Rattle.node_rules.specs.Data.acts
 use Rattle.node_rules.specs.Data.kinds
 use Rattle.node_rules.specs.Data.phases

@@ -1,20 +1,17 @@
 -- Who says CommitPoint: a branch that becomes sealed in the turn, to the child to which its step leads.
-use Rattle.std.proofs.Common.{◌≡◌, ◌≢◌, ℕ, ◌+◌, ◌-◌, Bool, true, false, List, [], ◌∷◌, ◌++◌, length, Option, Some, None, refl, ap}
-use Rattle.std.specs.Prelude.{IfSome}
-use Rattle.std.specs.List.{AllByRecursion}
+use Rattle.std.proofs.Common.{◌≡◌, ℕ, ◌+◌, ◌-◌, Bool, false, List, length, Option, Some, None, refl}
 use Rattle.commit_forget.specs.declared.next.Next.TheVariants as nexts
-use Rattle.prepare_phase.specs.Records.{sealed_of}
 use Rattle.session_tree.specs.Live.{children_of, peer_of, new_edge}
 use Rattle.session_tree.specs.Tree.{step as step_from}
-use Rattle.node_rules.specs.Data.{Answer, Stmt, BranchId, Change, Kind, Live, Act, Post, RedoRecord, Place, Input}
+use Rattle.node_rules.specs.Data.{Answer, Stmt, BranchId, Kind, Live, Act, Post, RedoRecord, Place, Input}
 use Rattle.node_rules.specs.Data.acts
 use Rattle.node_rules.specs.Data.kinds
 use Rattle.node_rules.specs.Data.records
 use Rattle.node_rules.specs.declared.session.Session.{Session}
-use Rattle.node_rules.specs.Kept.{Kept, Branch, Deed, post, to_one, to_each}
+use Rattle.node_rules.specs.Kept.{Kept, Branch, Deed, to_one, to_each}
 use Rattle.node_rules.specs.Statement.{ran, after_run}
 use Rattle.node_rules.specs.Calls.{answer_says, exec_to, with_edge, hears_reply}
-use Rattle.node_rules.specs.Prepare.{path_of, own_changes, site_neighbors, act_turn}
+use Rattle.node_rules.specs.Prepare.{path_of, site_neighbors, act_turn}
 use Rattle.node_rules.specs.Recovery.{kept_told}
 use Rattle.node_rules.proofs.Steps as steps
 use Rattle.node_rules.proofs.Steps.{Step, Acting, Says}

@@ -1,15 +1,13 @@
 -- In every lawful run a live root leaves in a turn for a reason. Where its collect found no changes, each child that it asked
 -- is gone without changes, and the walk went to none.
 use Rattle.std.proofs.Common.{◌≡◌, ◌≢◌, ℕ, ◌&&◌, ◌||◌, Bool, true, false, List, [], ◌∷◌, ◌++◌, map, is_none, Option, Some, None, inl, inr, refl, sym, ap, subst, ◌∙◌}
-use Rattle.std.specs.Prelude.{◌⊎◌}
 use Rattle.std.specs.List.{AllByRecursion, list_any}
-use Rattle.std.proofs.lemmas.Bool.{and_parts}
 use Rattle.tran_ids.proofs.BranchLemmas.{same_from_equal}
 use Rattle.session_tree.specs.Live.{children_of}
 use Rattle.session_tree.specs.Tree.{weight, step}
 use Rattle.session_tree.specs.declared.act.Walk.TheVariants as walks
 use Rattle.agreement.specs.Events.{Event, Quiet, Send_vote, exit, Has}
-use Rattle.node_rules.specs.Data.{BranchId, Edge, Kind, Live, Msg, Place, Post, Vote, Input}
+use Rattle.node_rules.specs.Data.{BranchId, Edge, Kind, Live, Post}
 use Rattle.node_rules.specs.Data.acts
 use Rattle.node_rules.specs.Data.kinds
 use Rattle.node_rules.specs.Data.phases
@@ -18,7 +16,7 @@ use Rattle.node_rules.specs.Words.{same, item_at, numbered}
 use Rattle.node_rules.specs.Inputs.{Came}
 use Rattle.node_rules.specs.Kept.{Kept, Branch, Deed, live_id, live_at, branch_at, work_at, with_work, to_each}
 use Rattle.node_rules.specs.Prepare.{answers_first, is_awaited, voted}
-use Rattle.node_rules.specs.Turn.{turn_of, heard, deed_of, stamped}
+use Rattle.node_rules.specs.Turn.{turn_of, heard, deed_of}
 use Rattle.node_rules.proofs.Steps as steps
 use Rattle.node_rules.proofs.Steps.{Acting, Collected, Collects}
 use Rattle.run_laws.specs.Births.{births_of}
@@ -26,9 +24,9 @@ use Rattle.run_laws.specs.BirthLaws.{Began, IsChild, GoesSo}
 use Rattle.run_laws.specs.Data.{Turn, Happening}
 use Rattle.run_laws.specs.Data.happenings
 use Rattle.run_laws.specs.EventLaws.{EachEventFrom}
-use Rattle.run_laws.specs.Facts.{Facts, place_at, node_at}
+use Rattle.run_laws.specs.Facts.{Facts, place_at}
 use Rattle.run_laws.specs.FreezeLaws.{was_asked}
-use Rattle.run_laws.specs.InTurnLaws.{post_of, said_in}
+use Rattle.run_laws.specs.InTurnLaws.{said_in}
 use Rattle.run_laws.specs.Lawful.{MayHappen, MayTurn, History, IsLawfulRun}
 use Rattle.run_laws.specs.Trail.{is_prepare}
 use Rattle.run_laws.specs.WalkLaws.{is_below, is_above, was_sent}
@@ -50,8 +48,7 @@ use Rattle.tree_laws.proofs.PrefixLemmas.{so_far, f_at, e_at, each_prefix}
 use Rattle.tree_laws.proofs.SettleLemmas.{born_of, live_in}
 use Rattle.tree_laws.proofs.VoterRunLemmas.{voters_weigh}
 use Rattle.tree_laws.proofs.WeightLemmas.{weightless, asked_way}
-use Rattle.tree_laws.proofs.WeightStepLemmas.{voted_weight}
-use Rattle.tree_laws.proofs.WhyLemmas.{Near, ActsIn}
+use Rattle.tree_laws.proofs.WhyLemmas.{Near}
 use Rattle.site_laws.proofs.FrozenLemmas.{edge_to, path_down}
 use Rattle.commit_laws.proofs.NetLemmas.{numbered_all}
 use Rattle.point_laws.specs.RootLaws.{FoundNothing, is_rollback, RootReason, Seals, Decides, Finishes, Hears_abort, Gets_rollback, Rolls_back, Gives_up, RootLeaves, TurnsLeaveRoots, RootsHaveReasons}
@@ -193,8 +190,7 @@ module _ (t : History) (before : List Happening) (lawful : IsLawfulRun (so_far t
   aborts : (at : Kept) → {l : Live} {b : Bool} → Acting at u.input l b acts.Abandon → (from : BranchId) × Came u.input from l.me kinds.Abort × (list_any (λ c. same c from) (children_of l) ≡ true)
   aborts at (steps.Hears_abort l from b live answers) =
       let it : Some kinds.Abort ≡ Some answers.kind = answers.is_vote in
-      let kind : answers.kind ≡ kinds.Abort = cc in
-      (
+      let kind : answers.kind ≡ kinds.Abort = cc in (
         from,
         subst (Came u.input from l.me) kind answers.came,
         ap (list_any (λ c. same c from)) (voted_peers from votes.Abort l.edges) ∙ first_there from l.edges answers.first,

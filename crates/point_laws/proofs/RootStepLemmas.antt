@@ -1,10 +1,10 @@
 -- Each step of a node that leaves a root no longer live has a reason: an act of its prepare phase, or a rollback.
-use Rattle.std.proofs.Common.{◌≡◌, ◌≢◌, ℕ, Bool, true, false, if◌then◌else◌, List, [], ◌∷◌, ◌++◌, Option, Some, None, refl, sym, ap, subst, ◌∙◌}
+use Rattle.std.proofs.Common.{◌≡◌, ℕ, Bool, true, false, if◌then◌else◌, List, [], ◌∷◌, ◌++◌, Option, Some, None, refl, sym, ap, subst, ◌∙◌}
 use Rattle.tran_ids.proofs.BranchLemmas.{equal_from_same}
-use Rattle.tran_ids.proofs.ListedLemmas.{item_is, put_found, put_leaves, drop_leaves}
+use Rattle.tran_ids.proofs.ListedLemmas.{put_found, put_leaves, drop_leaves}
 use Rattle.commit_forget.specs.declared.next.Next.TheVariants as nexts
 use Rattle.session_tree.specs.Live.{is_branch, new_edge}
-use Rattle.node_rules.specs.Data.{Live, Act, BranchId, Place, Post, RedoRecord, Sealed, Decided, Input}
+use Rattle.node_rules.specs.Data.{Live, Act, BranchId, Place, Sealed, Decided, Input}
 use Rattle.node_rules.specs.Data.acts
 use Rattle.node_rules.specs.Data.kinds
 use Rattle.node_rules.specs.Data.inputs
@@ -18,7 +18,6 @@ use Rattle.node_rules.specs.Calls.{with_edge, hears_reply}
 use Rattle.node_rules.specs.Prepare.{ready, act_turn, to_children}
 use Rattle.node_rules.proofs.Steps as steps
 use Rattle.node_rules.proofs.Steps.{Step, Acting}
-use Rattle.node_rules.proofs.StandLemmas.{live_so}
 use Rattle.run_laws.proofs.QuietLemmas.{NoRows, acting_apart}
 use Rattle.tree_laws.proofs.WhyLemmas.{Near, ActsIn}
 

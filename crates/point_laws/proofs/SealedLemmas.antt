@@ -1,44 +1,35 @@
 -- In every lawful run a sealed branch that told a child that the walk to the commit point site comes there has sent it
 -- CommitPoint in the turn of its seal, or that turn was cut and its node has stopped.
-use Rattle.std.proofs.Common.{◌≡◌, ◌≢◌, Bool, true, false, List, [], ◌∷◌, ◌++◌, map, Option, Some, None, inl, inr, refl, sym, ap, subst, ◌∙◌, append-nil}
+use Rattle.std.proofs.Common.{◌≡◌, ◌≢◌, Bool, true, false, List, [], ◌∷◌, ◌++◌, map, Option, Some, None, inl, inr, refl, sym, ap, subst, ◌∙◌}
 use Rattle.std.specs.Prelude.{◌⊎◌}
 use Rattle.agreement.specs.Events.{Event, Exit, Sealed, Dropped, exit}
-use Rattle.node_rules.specs.Data.{BranchId, Live, Place, Post, RedoRecord}
+use Rattle.node_rules.specs.Data.{BranchId, Live, Place, RedoRecord}
 use Rattle.node_rules.specs.Data.kinds
 use Rattle.node_rules.specs.Data.records
 use Rattle.node_rules.specs.Kept.{Kept, Deed, to_one}
 use Rattle.node_rules.specs.Turn.{turn_of, heard, deed_of}
 use Rattle.session_tree.specs.Live.{peer_of}
-use Rattle.run_laws.specs.Births.{births_of}
 use Rattle.run_laws.specs.Data.{Turn, Happening}
 use Rattle.run_laws.specs.Data.happenings
-use Rattle.run_laws.specs.EventLaws.{EachEventFrom}
-use Rattle.run_laws.specs.Facts.{Facts, first_facts, place_at, node_at, kept_after, facts_after}
+use Rattle.run_laws.specs.Facts.{Facts, place_at, node_at, kept_after, facts_after}
 use Rattle.run_laws.specs.InTurnLaws.{post_of, said_in}
-use Rattle.run_laws.specs.Lawful.{IsOwed, MayHappen, MayTurn, History, IsLawfulRun, facts_at}
-use Rattle.run_laws.specs.RunEvents.{events_after, events_of}
+use Rattle.run_laws.specs.Lawful.{IsOwed, MayHappen, History, IsLawfulRun, facts_at}
+use Rattle.run_laws.specs.RunEvents.{events_after}
 use Rattle.run_laws.specs.WalkLaws.{is_below, was_sent}
 use Rattle.run_laws.proofs.AtNodeLemmas.{turn_here}
-use Rattle.run_laws.proofs.BirthRunLemmas.{run_births}
 use Rattle.run_laws.proofs.EventsStandLemmas.{run_stands, ids_name_their_node}
-use Rattle.run_laws.proofs.FreezeRunLemmas.{run_freezes}
-use Rattle.run_laws.proofs.InTurnRunLemmas.{run_calls}
 use Rattle.run_laws.proofs.LaterLemmas.{exit_made, turn_added}
 use Rattle.run_laws.proofs.LawfulLemmas.{serves}
 use Rattle.run_laws.proofs.OwnLemmas.{all_found}
-use Rattle.run_laws.proofs.RestRunLemmas.{run_roots}
 use Rattle.run_laws.proofs.SaidPostLemmas.{posts_back, posts_of, said_after}
-use Rattle.tree_laws.specs.AskLaws.{HasToldAll}
-use Rattle.tree_laws.proofs.AskLemmas.{sent_new, sent_split, below_asks}
-use Rattle.tree_laws.proofs.AskRunLemmas.{run_asks}
-use Rattle.tree_laws.proofs.LeftLemmas.{asks_live, left_have_told_all}
+use Rattle.tree_laws.proofs.AskLemmas.{sent_new}
 use Rattle.tree_laws.proofs.PrefixLemmas.{so_far, f_at, e_at, one_on, more_on}
 use Rattle.tree_laws.proofs.SealLemmas.{IsSealOf, wrote_seal, later_unsealed}
 use Rattle.node_rules.specs.Kept.{live_id}
 use Rattle.site_laws.specs.LeaveLaws.{LeftSo}
 use Rattle.site_laws.proofs.FateLemmas.{drops_alone}
 use Rattle.site_laws.proofs.LeaveLemmas.{was_there}
-use Rattle.site_laws.proofs.TimeLemmas.{Part, part_on, part_of, part_lawful, may_of, each_at, sent_end}
+use Rattle.site_laws.proofs.TimeLemmas.{Part, part_on, part_of, part_lawful, may_of, sent_end}
 use Rattle.commit_laws.specs.WaitLaws.{HasStopped}
 use Rattle.commit_laws.proofs.ReadyStepLemmas.{one_sent}
 use Rattle.point_laws.specs.PointLaws.{is_point, SealedPassOn}

@@ -1,6 +1,6 @@
 -- In every lawful run a live branch that said Ready still is: it was Ready then, waited for no answer and does not work or
 -- collect again.
-use Rattle.std.proofs.Common.{◌≡◌, ◌≢◌, ℕ, ◌||◌, Bool, true, false, List, [], ◌∷◌, ◌++◌, Some, refl, sym, ap, subst, ◌∙◌}
+use Rattle.std.proofs.Common.{◌≡◌, ℕ, ◌||◌, true, false, List, [], ◌∷◌, ◌++◌, Some, refl, sym, ap, subst, ◌∙◌}
 use Rattle.std.specs.List.{AllByRecursion, list_any}
 use Rattle.std.proofs.lemmas.List.{append_assoc}
 use Rattle.node_rules.specs.Data.{BranchId, Edge, Kind, Live, Phase, Place}
@@ -15,10 +15,8 @@ use Rattle.run_laws.specs.BirthLaws.{Began, LiveIs}
 use Rattle.run_laws.specs.Data.{Turn, Happening}
 use Rattle.run_laws.specs.Data.happenings
 use Rattle.run_laws.specs.Facts.{place_at, node_at, kept_after, facts_after}
-use Rattle.run_laws.specs.InTurnLaws.{said_in}
-use Rattle.run_laws.specs.Lawful.{MayHappen, MayTurn, History, IsLawfulRun, facts_at}
+use Rattle.run_laws.specs.Lawful.{MayHappen, History, IsLawfulRun, facts_at}
 use Rattle.run_laws.specs.PhaseLaws.{PhaseFits}
-use Rattle.run_laws.specs.WalkLaws.{was_sent}
 use Rattle.run_laws.proofs.AtNodeLemmas.{turn_here}
 use Rattle.run_laws.proofs.BirthRunLemmas.{nodes_name_the_born}
 use Rattle.run_laws.proofs.EventsStandLemmas.{run_stands, ids_name_their_node}

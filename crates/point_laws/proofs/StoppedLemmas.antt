@@ -1,8 +1,8 @@
 -- In every lawful run a node that has stopped since a branch of it began stays so: a start begins a later boot.
-use Rattle.std.proofs.Common.{◌≡◌, ◌≢◌, ℕ, ◌+◌, ◌<◌, ◌≤◌, List, [], ◌∷◌, ◌++◌, length, Option, Some, None, inl, inr, refl, sym, ap, subst, subst₂, ◌∙◌, arith, append-nil}
-use Rattle.std.specs.Prelude.{◌⊎◌, IfSome}
+use Rattle.std.proofs.Common.{◌≡◌, ◌≢◌, ◌+◌, ◌<◌, ◌≤◌, List, [], ◌∷◌, ◌++◌, length, Some, None, inl, inr, refl, sym, ap, subst, subst₂, ◌∙◌, arith, append-nil}
+use Rattle.std.specs.Prelude.{IfSome}
 use Rattle.std.specs.Option.{option_to_list}
-use Rattle.agreement.specs.Events.{Event, Exit, exit}
+use Rattle.agreement.specs.Events.{Event, exit}
 use Rattle.node_rules.specs.Data.{BranchId, RedoRecord}
 use Rattle.node_rules.specs.Kept.{Kept}
 use Rattle.run_laws.specs.Data.{Turn, Happening}

@@ -166,6 +166,10 @@ module _ (t : History) (whole : IsLawfulRun t) (c : Commit t.places t.commands t
   pub sealed_site : (b : BranchId) (n : ℕ) → exit e b ≡ Some (Sealed n) → p.root b ≡ r → (d : BranchId) × (m : ℕ) × (exit e d ≡ Some (Decided m)) × (p.root d ≡ r)
   sealed_site b n sealed of = (let it = sealed_ends (p.far b) b n sealed of (omega arith) in (p.site r, it.0, it.1, it.2))
 
+  -- that is, the site decided
+  pub seals_have_site : (b : BranchId) (n : ℕ) → exit e b ≡ Some (Sealed n) → p.root b ≡ r → (m : ℕ) × (exit e (p.site r) ≡ Some (Decided m))
+  seals_have_site b n sealed of = (let it = sealed_ends (p.far b) b n sealed of (omega arith) in (it.0, it.1))
+
   root_root : p.root r ≡ r
   root_root = trees.root_is bs said known rb r (root_began t whole c u all) (root_me t whole c u all) ∙ root_of t whole c u all
 

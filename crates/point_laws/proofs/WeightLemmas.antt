@@ -1,9 +1,8 @@
 -- In every lawful run a live branch that was told that the walk to the commit point site comes there has a weight: the one
 -- by which its parent took that step.
 use Rattle.std.proofs.Common.{◌≡◌, ◌≢◌, ℕ, suc, ◌+◌, ◌≤◌, Bool, true, false, if◌then◌else◌, List, [], ◌∷◌, ◌++◌, map, Option, Some, None, inl, inr, refl, sym, ap, subst, subst₂, ◌∙◌, arith, append-nil}
-use Rattle.std.specs.Prelude.{nat_lt, ◌⊎◌}
+use Rattle.std.specs.Prelude.{nat_lt}
 use Rattle.tran_ids.proofs.ListedLemmas.{item_is}
-use Rattle.session_tree.specs.Live.{children_of}
 use Rattle.session_tree.specs.Tree.{place_of_greatest, best_child, weight_by, walk_by, weight, step}
 use Rattle.session_tree.specs.declared.act.Walk.TheVariants as walks
 use Rattle.session_tree.proofs.Greatest.{greatest_is}
@@ -46,7 +45,7 @@ use Rattle.site_laws.proofs.CalledLemmas.{edges_were_called}
 use Rattle.site_laws.proofs.FateLemmas.{Fate, Stays, Leaves, among_found, fate_of}
 use Rattle.site_laws.proofs.FrozenLemmas.{edge_to, path_down}
 use Rattle.site_laws.proofs.StrengthLemmas.{lives_have_strength}
-use Rattle.site_laws.proofs.TimeLemmas.{Part, part_on, part_of, part_lawful, may_of, exit_end, sent_end, born_end, keep_on}
+use Rattle.site_laws.proofs.TimeLemmas.{Part, part_on, part_of, part_lawful, may_of, exit_end, sent_end, keep_on}
 use Rattle.point_laws.specs.PointLaws.{WalksFindWeights}
 use Rattle.point_laws.proofs.MomentLemmas.{SentIn, sent_in, sent_there}
 
@@ -273,8 +272,8 @@ module _ (t : History) (whole : IsLawfulRun t) (q c : BranchId) (it : SentIn t w
     first_weighs = (
       sent,
       (λ j y up found me.
-      told_weighs (so_far t after0) lawful0 q.node teller.kept teller.up teller.branch teller.found c.node j up y found
-      (subst₂ (λ a b. was_sent is_below (said_in (f_at t after0)) a b ≡ true) (sym teller.is_me) (sym me) sent)),
+          told_weighs (so_far t after0) lawful0 q.node teller.kept teller.up teller.branch teller.found c.node j up y found
+          (subst₂ (λ a b. was_sent is_below (said_in (f_at t after0)) a b ≡ true) (sym teller.is_me) (sym me) sent)),
     )
 
     pub end_weighs : WeighsAt t.trace

@@ -3,7 +3,7 @@
 -- Guide, "Distributed Transactions Concepts": prepare phase, read-only optimization.)
 use Rattle.std.specs.Prelude.{◌≡◌, ℕ, Bool, true, false, List, map, Option, Some, None}
 use Rattle.agreement.specs.Events.{Event, Quiet, exit}
-use Rattle.node_rules.specs.Data.{BranchId, Kind, Live, Msg, Place, Post, RedoRecord, Sealed, Decided, Input}
+use Rattle.node_rules.specs.Data.{BranchId, Kind, Live, Place, Post, RedoRecord, Sealed, Decided, Input}
 use Rattle.node_rules.specs.Data.inputs
 use Rattle.node_rules.specs.Data.kinds
 use Rattle.node_rules.specs.Data.records

@@ -2,7 +2,7 @@
 -- the greatest. At COMMIT B becomes sealed, C says Ready, A becomes sealed and passes CommitPoint on to C, which decides.
 use Rattle.std.specs.Prelude.{◌≡◌, ℕ, true, false, List, [], ◌∷◌, codes, option_map, take, Option, Some, None}
 use Rattle.agreement.specs.Events.{Forest, Event, Sealed, Decided, exit, site_of}
-use Rattle.node_rules.specs.Data.{BranchId, Place, Post, Stmt, Input}
+use Rattle.node_rules.specs.Data.{BranchId, Place, Post, Stmt}
 use Rattle.node_rules.specs.Data.stmts
 use Rattle.node_rules.specs.Data.inputs
 use Rattle.node_rules.specs.Kept.{live_at}
