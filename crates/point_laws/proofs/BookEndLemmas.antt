@@ -1,6 +1,6 @@
 -- In every lawful run the seals and decisions of the book are exits of branches, of the transactions that they name. So where
 -- the book has a seal of an undisturbed COMMIT it has its decision.
-use Rattle.std.proofs.Common.{◌≡◌, ℕ, zero, suc, ◌+◌, List, [], ◌∷◌, ◌++◌, length, slice_get, Option, Some, None, inl, inr, refl, sym, subst, ◌∙◌}
+use Rattle.std.proofs.Common.{◌≡◌, ℕ, zero, suc, List, [], ◌∷◌, ◌++◌, length, slice_get, Option, Some, None, inl, inr, refl, sym, subst, ◌∙◌}
 use Rattle.std.specs.List.{AllByRecursion}
 use Rattle.agreement.specs.BookOf.{entry_by, with_entry, book_of}
 use Rattle.agreement.specs.Events.{Forest, Allowed, Event, Make, Seal, Decide, Answer_read_only, Drop, Force, Learn, Forget, Send_vote, Send_commit, Send_rollback, Send_ack, Send_forgotten, Exit, Sealed, Decided, first, only_at, exit, Lawful}

@@ -152,7 +152,6 @@ module _ (t : History) (before : List Happening) (lawful : IsLawfulRun (so_far t
         absurd (cc (nowhere, down))))) in
         let acting : Acting at u.input (voted l from v) b acts.Finish = steps.Hears_last l from v b acts.Finish live answers other all_so collected in
         let all : AllByRecursion (EdgeOver e said l.me) (voted l from v).edges = edges_over t before lawful u k may at near acting over.Finishes in
-        let none : AllByRecursion (λ y. y.weight ≡ None) (voted l from v).edges = weightless (voted l from v) (is_none_of (weight (voted l from v)) (nowhere_weighs (voted l from v) (finish_nowhere collected).1)) in
         let light : AllByRecursion (λ y. y.weight ≡ None) l.edges = weightless l (is_none_of (weight l) (nowhere_weighs l nowhere)) in
         let weighs : AllByRecursion (EdgeWeighs e said l.me) l.edges = all_found (LiveWeighs e said) live_id k.lives l.me l weigh here in
         record {
