@@ -1,0 +1,12 @@
+pub mod RowLemmas
+pub mod RowStepLemmas
+pub mod AckTurnLemmas
+pub mod VotedLemmas
+pub mod EventLemmas
+pub mod RowRunLemmas
+pub mod StopLemmas
+pub mod WayLemmas
+pub mod NotedStepLemmas
+pub mod DeliveredLemmas
+pub mod ForgetStepLemmas
+pub mod ForgetRunLemmas
