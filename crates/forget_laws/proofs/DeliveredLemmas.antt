@@ -55,7 +55,7 @@ use Rattle.forget_laws.proofs.StopLemmas.{Here, TurnsKeep, here_end, stopped_end
 use Rattle.forget_laws.proofs.WayLemmas.{WayIs, rows_way}
 
 -- a row whose branch learned a commit knows it
-knows_it : (e : List Event) (s : Standing) (d : Option Decision) (n : ℕ) → IsKnown e s d → Knows e s.me n → (learned e s.me ≡ Some decisions.Rollback → ⊥) → knows_commit d ≡ true
+pub knows_it : (e : List Event) (s : Standing) (d : Option Decision) (n : ℕ) → IsKnown e s d → Knows e s.me n → (learned e s.me ≡ Some decisions.Rollback → ⊥) → knows_commit d ≡ true
 knows_it e s None n is (inl decided) none = (let sealed = is.0 in absurd (cc (sealed, decided)))
 knows_it e s None n is (inr learnt) none = (let no = is.1 in absurd (cc (no, learnt)))
 knows_it e s (Some (decisions.Commit m)) n is knows none = refl

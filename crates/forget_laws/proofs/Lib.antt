@@ -10,3 +10,6 @@ pub mod NotedStepLemmas
 pub mod DeliveredLemmas
 pub mod ForgetStepLemmas
 pub mod ForgetRunLemmas
+pub mod EndedLemmas
+pub mod DecidedEndLemmas
+pub mod RowsGoLemmas

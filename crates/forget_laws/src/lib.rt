@@ -2,6 +2,7 @@
 #![tactic(auto)]
 
 ghost use Rattle.forget_laws.specs.RowLaws.{RowsTell};
+ghost use Rattle.forget_laws.specs.GoneLaws.{EndedRowsGo, UndisturbedRowsGo};
 ghost use Rattle.forget_laws.specs.ForgetLaws.{AcksAreNoted, ForgottensAreHeard, ForgetsAreTold, ForgetsComeFromToward};
 
 /// A row.
@@ -27,4 +28,14 @@ pub fn forgets_are_told()
 /// A sealed branch.
 pub fn forgets_come_from_toward()
     ensures { ForgetsComeFromToward }
+{}
+
+/// Rows go.
+pub fn ended_rows_go()
+    ensures { EndedRowsGo }
+{}
+
+/// Of an undisturbed COMMIT.
+pub fn undisturbed_rows_go()
+    ensures { UndisturbedRowsGo }
 {}
