@@ -1,10 +1,9 @@
 -- In every lawful run the rows of nodes tell of their neighbours, and of what their branches said, unless the node has
 -- stopped since the branch began.
-use Rattle.std.proofs.Common.{◌≡◌, ◌≢◌, ℕ, ◌+◌, ◌<◌, ◌≤◌, ◌⊎◌, Bool, true, false, if◌then◌else◌, List, [], ◌∷◌, ◌++◌, map, length, Option, Some, None, inl, inr, refl, sym, ap, subst, subst₂, ◌∙◌, arith, append-nil}
+use Rattle.std.proofs.Common.{◌≡◌, ◌≢◌, ℕ, ◌+◌, ◌<◌, ◌≤◌, ◌⊎◌, Bool, true, false, List, [], ◌∷◌, ◌++◌, map, length, Option, Some, None, inl, inr, refl, sym, ap, subst, subst₂, ◌∙◌, arith, append-nil}
 use Rattle.std.specs.Prelude.{IfSome}
 use Rattle.std.specs.Option.{option_to_list}
 use Rattle.std.specs.List.{AllByRecursion}
-use Rattle.tran_ids.proofs.BranchLemmas.{same_from_equal}
 use Rattle.redo_record.specs.Durable.{durable_after}
 use Rattle.agreement.specs.Events.{Event, Forget, exit, Has}
 use Rattle.node_rules.specs.Data.{BranchId, Input, Kind, Msg, Place, Post, RedoRecord, Standing}
@@ -12,8 +11,7 @@ use Rattle.node_rules.specs.Data.inputs
 use Rattle.node_rules.specs.Data.kinds
 use Rattle.node_rules.specs.Data.records
 use Rattle.node_rules.specs.Inputs.{Came}
-use Rattle.node_rules.specs.Words.{same, item_at}
-use Rattle.node_rules.specs.Kept.{Kept, Deed, standing_id, live_id}
+use Rattle.node_rules.specs.Kept.{Kept, Deed}
 use Rattle.node_rules.specs.Records.{applied, nothing_stored, stored_by}
 use Rattle.node_rules.specs.Turn.{turn_of, start_of, heard, deed_of, kind_turn, ack_turn, stand_of}
 use Rattle.run_laws.specs.Data.{Happening, Turn}
@@ -23,12 +21,11 @@ use Rattle.run_laws.specs.Facts.{Facts, first_facts, place_at, node_at, records_
 use Rattle.run_laws.specs.IdLaws.{IsRecordOf}
 use Rattle.run_laws.specs.InTurnLaws.{post_of, said_in}
 use Rattle.run_laws.specs.Lawful.{IsOwed, MayHappen, MayTurn, MayStart, History, IsLawfulRun, facts_at, boots}
-use Rattle.run_laws.specs.NodeLaws.{EachFactFrom, count_of}
+use Rattle.run_laws.specs.NodeLaws.{EachFactFrom}
 use Rattle.run_laws.specs.RunEvents.{with_event, wrote_event, with_record, events_after, events_from, events_of}
 use Rattle.run_laws.proofs.AtNodeLemmas.{turn_elsewhere, turn_here, stop_elsewhere, stop_here, start_elsewhere, start_here}
 use Rattle.run_laws.proofs.BootLemmas.{IsOfTurn, step_of_turn, boots_started, boots_with}
 use Rattle.run_laws.proofs.EventsStandLemmas.{first_node, node_so, owned_so, run_stands, tells_so, ids_name_their_node}
-use Rattle.run_laws.proofs.FreshLemmas.{ids_are_fresh}
 use Rattle.run_laws.proofs.LaterLemmas.{exit_later, turn_added}
 use Rattle.run_laws.proofs.LawfulLemmas.{serves, of_wrote}
 use Rattle.run_laws.proofs.ListLemmas.{all_weaker}
@@ -49,41 +46,7 @@ use Rattle.forget_laws.proofs.EventLemmas.{part_inv, forgot_left, turn_back, sto
 use Rattle.forget_laws.proofs.RowLemmas.{Tells, Stays, plain_stays, tells_stays}
 use Rattle.forget_laws.proofs.RowStepLemmas.{After, Found, rows_on}
 use Rattle.forget_laws.proofs.VotedLemmas.{deed_voted}
-
--- ---- each row is found by its branch
-
-found_counts : (ks : List Standing) (b : BranchId) (y : Standing) → item_at standing_id ks b ≡ Some y → 1 ≤ count_of standing_id b ks
-found_counts [] b y found = absurd cc
-found_counts (x ∷ ks) b y found = by (same x.me b) found (found_counts ks b y)
-  where
-    by : (q : Bool) → (if q then Some x else item_at standing_id ks b) ≡ Some y → (item_at standing_id ks b ≡ Some y → 1 ≤ count_of standing_id b ks) → 1 ≤ (if q then 1 + count_of standing_id b ks else count_of standing_id b ks)
-    by true here rest = omega arith
-    by false later rest = rest later
-
-module _ (x : Standing) (ks : List Standing) where
-  fewer : (b : BranchId) → count_of standing_id b (x ∷ ks) ≤ 1 → count_of standing_id b ks ≤ 1
-  fewer b one = by (same x.me b) one
-    where
-      by : (q : Bool) → (if q then 1 + count_of standing_id b ks else count_of standing_id b ks) ≤ 1 → count_of standing_id b ks ≤ 1
-      by true low = omega (arith, low)
-      by false low = low
-
-  later_found : (b : BranchId) (y : Standing) → count_of standing_id b (x ∷ ks) ≤ 1 → item_at standing_id ks b ≡ Some y → item_at standing_id (x ∷ ks) b ≡ Some y
-  later_found b y one found = by (same x.me b) one
-    where
-      by : (q : Bool) → (if q then 1 + count_of standing_id b ks else count_of standing_id b ks) ≤ 1 → (if q then Some x else item_at standing_id ks b) ≡ Some y
-      by true low = (let some : 1 ≤ count_of standing_id b ks = found_counts ks b y found in absurd (omega (arith, low, some)))
-      by false low = found
-
-each_found : (ks : List Standing) → ((b : BranchId) → count_of standing_id b ks ≤ 1) → Found ks
-each_found [] one = tt
-each_found (x ∷ ks) one = (
-  ap (λ q. if q then Some x else item_at standing_id ks x.me) (same_from_equal x.me x.me refl),
-  all_weaker (λ s. item_at standing_id ks s.me ≡ Some s) (λ s. item_at standing_id (x ∷ ks) s.me ≡ Some s) (λ s found. later_found x ks s.me s (one s.me) found) ks (each_found ks (λ b. fewer x ks b (one b))),
-)
-
-pub rows_found : (t : History) → IsLawfulRun t → (n : ℕ) (k : Kept) → node_at (facts_at t) n ≡ Some k → Found k.stored.durable.kept
-rows_found t lawful n k up = each_found k.stored.durable.kept (λ b. (let one : count_of standing_id b k.stored.durable.kept + count_of live_id b k.lives ≤ 1 = ids_are_fresh t lawful n k up b in omega (arith, one)))
+use Rattle.forget_laws.proofs.FoundRowLemmas.{rows_found}
 
 ack_is : (kind : Kind) → is_ack kind ≡ true → kind ≡ kinds.Ack
 ack_is kinds.Ack is = refl

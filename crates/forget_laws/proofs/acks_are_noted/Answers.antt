@@ -1,4 +1,4 @@
-use Rattle.forget_laws.proofs.DeliveredLemmas.{acks_are_noted}
+use Rattle.forget_laws.proofs.AckHeardLemmas.{acks_are_noted}
 use Rattle.forget_laws.proofs.acks_are_noted.Goals as goal
 
 pub returns : goal.returns

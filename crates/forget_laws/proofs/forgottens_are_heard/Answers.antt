@@ -1,4 +1,4 @@
-use Rattle.forget_laws.proofs.DeliveredLemmas.{forgottens_are_heard}
+use Rattle.forget_laws.proofs.ForgottenHeardLemmas.{forgottens_are_heard}
 use Rattle.forget_laws.proofs.forgottens_are_heard.Goals as goal
 
 pub returns : goal.returns
