@@ -88,6 +88,13 @@ ended_is (Send_rollback x y) b d is = absurd cc
 ended_is (Send_ack x y) b d is = absurd cc
 ended_is (Send_forgotten x y) b d is = absurd cc
 
+-- the entry of an Ended commit is of that event
+ended_learns : (t : List Event) (b : BranchId) (d : Decision) (i : ℕ) → At (book_of t) i (entries.Ended b d) → Has (Learn b d None) t
+ended_learns t b d i at = (let it = entry_has t i (entries.Ended b d) at in by it.0 it.1 it.2)
+  where
+    by : (s : Event) → Has s t → entry_by s ≡ Some (entries.Ended b d) → Has (Learn b d None) t
+    by s has is = subst (λ e. Has e t) (ended_is s b d is) has
+
 seal_stands : (t : List Event) (b : BranchId) (n : ℕ) → exit t b ≡ Some (Sealed n) → (g : BranchId) × (cs : List Change) × Has (Seal b g n cs) t
 seal_stands [] b n h = absurd cc
 seal_stands (s ∷ t) b n h = elim (exit_new s t b (Sealed n) h) [
@@ -138,9 +145,7 @@ module _ (t : History) (whole : IsLawfulRun t) where
       let ends : SealIsEnded (book_of (events_of t)) root (entries.Sealed b there.0 there.1 m)
       = entry_so (SealIsEnded (book_of (events_of t)) root) (events_of t) each (Seal b there.0 m there.1) there.2 (entries.Sealed b there.0 there.1 m) refl in
       let it = ends (same_from_equal there.0 root (sym global ∙ of)) in
-      let event = entry_has (events_of t) it.1 (entries.Ended b (decisions.Commit it.0)) it.2 in
-      let is : event.0 ≡ Learn b (decisions.Commit it.0) None = ended_is event.0 b (decisions.Commit it.0) event.2 in
-      let both = ends_so p b it.0 (events_of t) lawful (subst (λ s. Has s (events_of t)) is event.1) in
+      let both = ends_so p b it.0 (events_of t) lawful (ended_learns (events_of t) b (decisions.Commit it.0) it.1 it.2) in
       (it.0, both.0, both.1)
 
 -- ---- an Ack was sent

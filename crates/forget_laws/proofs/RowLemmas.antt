@@ -143,24 +143,30 @@ module _ (said : List Post) (t : List Event) (bound : ℕ) where
   pub sealed_tells : (says : List Post) (r : SealedRecord) → (Has (Forget r.me) t → ⊥) → AllByRecursion (λ y. IsSealed t y.branch) (beyond (sealed_as r)) → Tells (said ++ says) (Seal r.me r.root r.scn r.changes ∷ t) bound (sealed_as r)
   sealed_tells says r fresh voted =
       let e : Event = Seal r.me r.root r.scn r.changes in
-      inl (record {
-        sealed = all_weaker _ _ (λ y is. (is.0, exit_stays e t y.branch (Sealed is.0) is.1)) (beyond (sealed_as r)) voted;
-        unheard = λ none. sealed_unacked r;
-        whole = λ un. (refl, refl);
-        forgets = λ has. elim has [ inl here ↦ absurd cc | inr there ↦ absurd (fresh there) ];
-      }, λ knows new all. absurd cc)
+      inl (
+        record {
+          sealed = all_weaker _ _ (λ y is. (is.0, exit_stays e t y.branch (Sealed is.0) is.1)) (beyond (sealed_as r)) voted;
+          unheard = λ none. sealed_unacked r;
+          whole = λ un. (refl, refl);
+          forgets = λ has. elim has [ inl here ↦ absurd cc | inr there ↦ absurd (fresh there) ];
+        },
+        λ knows new all. absurd cc,
+      )
 
   -- a branch that decides
   pub decided_tells : (says : List Post) (r : DecidedRecord) → (Has (Forget r.me) t → ⊥) → AllByRecursion (λ y. IsSealed t y.branch) (beyond (decided_as r)) → has_neighbors (decided_as r) ≡ true
       → Tells (said ++ says) (Decide r.me r.root r.scn r.changes ∷ t) bound (decided_as r)
   decided_tells says r fresh voted some =
       let e : Event = Decide r.me r.root r.scn r.changes in
-      inl (record {
-        sealed = all_weaker _ _ (λ y is. (is.0, exit_stays e t y.branch (Sealed is.0) is.1)) (beyond (decided_as r)) voted;
-        unheard = λ none. absurd cc;
-        whole = λ un. (refl, refl);
-        forgets = λ has. elim has [ inl here ↦ absurd cc | inr there ↦ absurd (fresh there) ];
-      }, λ knows new all. absurd (decided_beyond r some all))
+      inl (
+        record {
+          sealed = all_weaker _ _ (λ y is. (is.0, exit_stays e t y.branch (Sealed is.0) is.1)) (beyond (decided_as r)) voted;
+          unheard = λ none. absurd cc;
+          whole = λ un. (refl, refl);
+          forgets = λ has. elim has [ inl here ↦ absurd cc | inr there ↦ absurd (fresh there) ];
+        },
+        λ knows new all. absurd (decided_beyond r some all),
+      )
 
   -- ---- the commit is learned
 
@@ -183,12 +189,15 @@ module _ (said : List Post) (t : List Event) (bound : ℕ) where
   ended_tells n s none sealed q at (inl is) =
       let e : Event = Learn s.me (decisions.Commit n) None in
       let stays : Stays t (e ∷ t) s.me = stays_with t e s.me (λ no. absurd cc) in
-      inl (record {
-        sealed = subst (λ (bs : List Beyond). AllByRecursion (λ y. IsSealed (e ∷ t) y.branch) bs) (sym (ended_beyond n s)) (plain_stays t (e ∷ t) s stays is.0).sealed;
-        unheard = λ no. absurd cc;
-        whole = λ un. is.0.whole (ap is_forced sealed);
-        forgets = λ has. is.0.forgets (stays.forgets has);
-      }, λ knows new all. learnt_acks s n (ended_commit n s) refl refl (ended_beyond n s) (is.0.unheard none) q at all)
+      inl (
+        record {
+          sealed = subst (λ (bs : List Beyond). AllByRecursion (λ y. IsSealed (e ∷ t) y.branch) bs) (sym (ended_beyond n s)) (plain_stays t (e ∷ t) s stays is.0).sealed;
+          unheard = λ no. absurd cc;
+          whole = λ un. is.0.whole (ap is_forced sealed);
+          forgets = λ has. is.0.forgets (stays.forgets has);
+        },
+        λ knows new all. learnt_acks s n (ended_commit n s) refl refl (ended_beyond n s) (is.0.unheard none) q at all,
+      )
 
   -- so does a forced one
   pub met_tells : (n : ℕ) (mixed : Bool) (s : Standing) → s.decision ≡ None → is_forced s.state ≡ true → (q : BranchId) → s.toward ≡ Some q → Tells said t bound s
@@ -197,12 +206,15 @@ module _ (said : List Post) (t : List Event) (bound : ℕ) where
   met_tells n mixed s none was q at (inl is) =
       let e : Event = Learn s.me (decisions.Commit n) (Some mixed) in
       let stays : Stays t (e ∷ t) s.me = stays_with t e s.me (λ no. absurd cc) in
-      inl (record {
-        sealed = subst (λ (bs : List Beyond). AllByRecursion (λ y. IsSealed (e ∷ t) y.branch) bs) (sym (met_beyond (decisions.Commit n) mixed s)) (plain_stays t (e ∷ t) s stays is.0).sealed;
-        unheard = λ no. absurd cc;
-        whole = λ un. absurd (cc (un, was));
-        forgets = λ has. is.0.forgets (stays.forgets has);
-      }, λ knows new all. learnt_acks s n (met_as (decisions.Commit n) mixed s) refl refl (met_beyond (decisions.Commit n) mixed s) (is.0.unheard none) q at all)
+      inl (
+        record {
+          sealed = subst (λ (bs : List Beyond). AllByRecursion (λ y. IsSealed (e ∷ t) y.branch) bs) (sym (met_beyond (decisions.Commit n) mixed s)) (plain_stays t (e ∷ t) s stays is.0).sealed;
+          unheard = λ no. absurd cc;
+          whole = λ un. absurd (cc (un, was));
+          forgets = λ has. is.0.forgets (stays.forgets has);
+        },
+        λ knows new all. learnt_acks s n (met_as (decisions.Commit n) mixed s) refl refl (met_beyond (decisions.Commit n) mixed s) (is.0.unheard none) q at all,
+      )
 
   -- a mixed branch learns the rollback
   pub met_rollback_tells : (says : List Post) (mixed : Bool) (s : Standing) → is_forced s.state ≡ true → Tells said t bound s → Tells (said ++ says) (Learn s.me decisions.Rollback (Some mixed) ∷ t) bound (met_as decisions.Rollback mixed s)
@@ -210,12 +222,15 @@ module _ (said : List Post) (t : List Event) (bound : ℕ) where
   met_rollback_tells says mixed s was (inl is) =
       let e : Event = Learn s.me decisions.Rollback (Some mixed) in
       let stays : Stays t (e ∷ t) s.me = stays_with t e s.me (λ no. absurd cc) in
-      inl (record {
-        sealed = subst (λ (bs : List Beyond). AllByRecursion (λ y. IsSealed (e ∷ t) y.branch) bs) (sym (met_beyond decisions.Rollback mixed s)) (plain_stays t (e ∷ t) s stays is.0).sealed;
-        unheard = λ no. absurd cc;
-        whole = λ un. absurd (cc (un, was));
-        forgets = λ has. is.0.forgets (stays.forgets has);
-      }, λ knows new all. absurd cc)
+      inl (
+        record {
+          sealed = subst (λ (bs : List Beyond). AllByRecursion (λ y. IsSealed (e ∷ t) y.branch) bs) (sym (met_beyond decisions.Rollback mixed s)) (plain_stays t (e ∷ t) s stays is.0).sealed;
+          unheard = λ no. absurd cc;
+          whole = λ un. absurd (cc (un, was));
+          forgets = λ has. is.0.forgets (stays.forgets has);
+        },
+        λ knows new all. absurd cc,
+      )
 
   -- ---- forced, hidden
 
@@ -229,22 +244,28 @@ module _ (said : List Post) (t : List Event) (bound : ℕ) where
       let e : Event = Force s.me d in
       let stays : Stays t (e ∷ t) s.me = stays_with t e s.me (λ no. absurd cc) in
       let next : Plain (e ∷ t) s = plain_stays t (e ∷ t) s stays is.0 in
-      inl (record {
-        sealed = subst (λ (bs : List Beyond). AllByRecursion (λ y. IsSealed (e ∷ t) y.branch) bs) (sym (state_beyond (forced_state d) s)) next.sealed;
-        unheard = λ none. subst (λ (bs : List Beyond). AllByRecursion (λ y. y.acked ≡ false) bs) (sym (state_beyond (forced_state d) s)) (next.unheard none);
-        whole = λ un. (let was : is_forced (forced_state d) ≡ true = forced_is d in absurd (cc (un, was)));
-        forgets = next.forgets;
-      }, λ knows new all. acks_more said says s is.1 knows new (subst (λ (bs : List Beyond). list_all (λ z. z.acked) bs ≡ true) (state_beyond (forced_state d) s) all))
+      inl (
+        record {
+          sealed = subst (λ (bs : List Beyond). AllByRecursion (λ y. IsSealed (e ∷ t) y.branch) bs) (sym (state_beyond (forced_state d) s)) next.sealed;
+          unheard = λ none. subst (λ (bs : List Beyond). AllByRecursion (λ y. y.acked ≡ false) bs) (sym (state_beyond (forced_state d) s)) (next.unheard none);
+          whole = λ un. (let was : is_forced (forced_state d) ≡ true = forced_is d in absurd (cc (un, was)));
+          forgets = next.forgets;
+        },
+        λ knows new all. acks_more said says s is.1 knows new (subst (λ (bs : List Beyond). list_all (λ z. z.acked) bs ≡ true) (state_beyond (forced_state d) s) all),
+      )
 
   pub hidden_tells : (says : List Post) (s : Standing) → Tells said t bound s → Tells (said ++ says) t bound (hidden_as s)
   hidden_tells says s (inr old) = inr old
   hidden_tells says s (inl is) =
-      inl (record {
-        sealed = subst (λ (bs : List Beyond). AllByRecursion (λ y. IsSealed t y.branch) bs) (sym (hidden_beyond s)) is.0.sealed;
-        unheard = λ none. subst (λ (bs : List Beyond). AllByRecursion (λ y. y.acked ≡ false) bs) (sym (hidden_beyond s)) (is.0.unheard none);
-        whole = is.0.whole;
-        forgets = is.0.forgets;
-      }, λ knows new all. acks_more said says s is.1 knows new (subst (λ (bs : List Beyond). list_all (λ z. z.acked) bs ≡ true) (hidden_beyond s) all))
+      inl (
+        record {
+          sealed = subst (λ (bs : List Beyond). AllByRecursion (λ y. IsSealed t y.branch) bs) (sym (hidden_beyond s)) is.0.sealed;
+          unheard = λ none. subst (λ (bs : List Beyond). AllByRecursion (λ y. y.acked ≡ false) bs) (sym (hidden_beyond s)) (is.0.unheard none);
+          whole = is.0.whole;
+          forgets = is.0.forgets;
+        },
+        λ knows new all. acks_more said says s is.1 knows new (subst (λ (bs : List Beyond). list_all (λ z. z.acked) bs ≡ true) (hidden_beyond s) all),
+      )
 
   -- ---- Forgot
 
@@ -265,12 +286,15 @@ module _ (said : List Post) (t : List Event) (bound : ℕ) where
       own : (x : Standing) → x.me ≡ b → Left x → Tells (said ++ says) (Forget b ∷ t) bound (forgot_as x)
       own x me is = elim is.0 [
         | inr old ↦ inr old
-        | inl so ↦ inl (record {
+        | inl so ↦ inl (
+          record {
             sealed = subst (λ (bs : List Beyond). AllByRecursion (λ y. IsSealed (Forget b ∷ t) y.branch) bs) (sym (forgot_beyond x)) (all_weaker _ _ (λ y at. (at.0, exit_stays (Forget b) t y.branch (Sealed at.0) at.1)) (beyond x) so.0.sealed);
             unheard = λ none. subst (λ (bs : List Beyond). AllByRecursion (λ y. y.acked ≡ false) bs) (sym (forgot_beyond x)) (so.0.unheard none);
             whole = λ un. (let no = (so.0.whole un).0 in let yes = is.1 me in absurd (cc (no, yes)));
             forgets = λ has. refl;
-          }, λ knows new every. absurd cc)
+          },
+          λ knows new every. absurd cc,
+        )
       ]
 
       other : (x : Standing) → same x.me b ≡ false → Left x → Tells (said ++ says) (Forget b ∷ t) bound x
