@@ -15,7 +15,7 @@ use Rattle.node_rules.specs.Data.decisions
 use Rattle.node_rules.specs.Data.states
 use Rattle.node_rules.specs.Words.{same}
 use Rattle.node_rules.specs.Kept.{Kept, standing_id, live_id, live_at, standing_at}
-use Rattle.run_laws.specs.Births.{Born, births_of}
+use Rattle.run_laws.specs.Births.{Born, births_of, born_at}
 use Rattle.run_laws.specs.BirthLaws.{Began, IsChild, KeptIs}
 use Rattle.run_laws.specs.Data.{Packet}
 use Rattle.run_laws.specs.Data.fates
@@ -30,7 +30,6 @@ use Rattle.run_laws.proofs.EventsStandLemmas.{nodes_are_as_events, ids_name_thei
 use Rattle.run_laws.proofs.GoneLemmas.{gone_are_done}
 use Rattle.run_laws.proofs.OwnLemmas.{all_found}
 use Rattle.tree_laws.specs.Forests.{depth_at, deepest, comes_to, site_from, root_in, parent_in, forest_of}
-use Rattle.run_laws.specs.Births.{born_at}
 use Rattle.tree_laws.proofs.ForestLemmas as trees
 use Rattle.tree_laws.proofs.ForestRunLemmas.{run_known, runs_have_forests}
 use Rattle.site_laws.proofs.TimeLemmas.{Part}

@@ -9,11 +9,10 @@ use Rattle.node_rules.specs.Data.{BranchId, Kid, Standing}
 use Rattle.node_rules.specs.Words.{same}
 use Rattle.node_rules.specs.Kept.{Kept, Branch, live_at, branch_at, standing_at, with_work}
 use Rattle.node_rules.specs.Turn.{Is_gone, live_or, stand_of}
-use Rattle.run_laws.specs.Births.{Born}
+use Rattle.run_laws.specs.Births.{Born, born_at}
 use Rattle.run_laws.specs.BirthLaws.{IsChild, KeptIs}
 use Rattle.run_laws.proofs.ListLemmas.{all_filter, all_append, all_map}
 use Rattle.tree_laws.specs.Forests.{depth_in, depth_at, deepest, far_by}
-use Rattle.run_laws.specs.Births.{born_at}
 
 -- ---- lists
 

@@ -11,8 +11,7 @@ use Rattle.redo_record.specs.Rows.{kid_of, sealed_as, decided_as, has_neighbors}
 use Rattle.session_tree.specs.Live.{is_branch}
 use Rattle.agreement.specs.Events.{Event, Sealed, Seal, Decide, Force, Learn, Forget, Has}
 use Rattle.agreement.proofs.EventLemmas.{exit_stays}
-use Rattle.node_rules.specs.Data.{BranchId, Decision, Kid, Peer, Post, Standing, State}
-use Rattle.node_rules.specs.Data.{Sealed as SealedRecord, Decided as DecidedRecord}
+use Rattle.node_rules.specs.Data.{BranchId, Decision, Kid, Peer, Post, Standing, State, Sealed as SealedRecord, Decided as DecidedRecord}
 use Rattle.node_rules.specs.Data.decisions
 use Rattle.node_rules.specs.Data.kinds
 use Rattle.node_rules.specs.Data.states

@@ -9,8 +9,7 @@ use Rattle.redo_record.specs.Durable.{durable_after}
 use Rattle.redo_record.specs.Kept.{stands_at, ended_commit, forced_state, in_state, met_as, hidden_as, kept_after}
 use Rattle.redo_record.specs.Rows.{sealed_as, decided_as, has_neighbors}
 use Rattle.agreement.specs.Events.{Event, Seal, Decide, Force, Learn, Forget, Make, exit, Has}
-use Rattle.node_rules.specs.Data.{BranchId, Decision, Input, Place, Post, RedoRecord, Standing, State}
-use Rattle.node_rules.specs.Data.{Sealed as SealedRecord, Decided as DecidedRecord}
+use Rattle.node_rules.specs.Data.{BranchId, Decision, Input, Place, Post, RedoRecord, Standing, State, Sealed as SealedRecord, Decided as DecidedRecord}
 use Rattle.node_rules.specs.Data.acts
 use Rattle.node_rules.specs.Data.decisions
 use Rattle.node_rules.specs.Data.kinds

@@ -1,6 +1,6 @@
 -- Where all messages of a transaction came, no node has stopped, and each of its seals has ended with commit, no node keeps a row
 -- of it: each branch forgot, the nearest to the site first.
-use Rattle.std.proofs.Common.{◌≡◌, ◌≢◌, ℕ, zero, suc, ◌<◌, ◌≤◌, ◌⊎◌, true, List, Option, Some, None, inl, inr, refl, sym, subst, ◌∙◌, arith}
+use Rattle.std.proofs.Common.{◌≡◌, ◌≢◌, ℕ, zero, suc, ◌<◌, ◌≤◌, ◌⊎◌, true, List, Option, Some, None, inl, inr, refl, sym, ap, subst, ◌∙◌, arith}
 use Rattle.tran_ids.proofs.ListedLemmas.{item_is}
 use Rattle.agreement.specs.Events.{Forest, Event, Sealed, Decided, Forget, Beyond, exit, Has, site_of}
 use Rattle.agreement.proofs.Invariant.{Inv}
@@ -8,7 +8,7 @@ use Rattle.node_rules.specs.Data.{BranchId, Live, Post, Standing}
 use Rattle.node_rules.specs.Data.decisions
 use Rattle.node_rules.specs.Kept.{Kept, live_id, live_at, standing_at}
 use Rattle.node_rules.specs.Turn.{Is_gone, stand_of}
-use Rattle.run_laws.specs.Births.{Born, births_of}
+use Rattle.run_laws.specs.Births.{Born, births_of, born_id}
 use Rattle.run_laws.specs.BirthLaws.{Began}
 use Rattle.run_laws.specs.EventRows.{HasRow}
 use Rattle.run_laws.specs.NodeLaws.{unacked_row}
@@ -22,7 +22,7 @@ use Rattle.run_laws.specs.RunEvents.{events_of}
 use Rattle.run_laws.specs.WalkLaws.{was_sent}
 use Rattle.run_laws.proofs.EventsStandLemmas.{nodes_are_as_events}
 use Rattle.run_laws.proofs.GoneLemmas.{kept_not_gone}
-use Rattle.run_laws.proofs.ListLemmas.{all_weaker}
+use Rattle.run_laws.proofs.ListLemmas.{all_weaker, all_map, all_filter}
 use Rattle.run_laws.proofs.OwnLemmas.{all_found}
 use Rattle.tree_laws.specs.Forests.{forest_of}
 use Rattle.tree_laws.proofs.ForestLemmas as trees
@@ -31,12 +31,17 @@ use Rattle.commit_laws.specs.WaitLaws.{HasStopped}
 use Rattle.commit_laws.proofs.StillLemmas.{all_came}
 use Rattle.forget_laws.specs.RowLaws.{IsSealed}
 use Rattle.forget_laws.specs.ForgetLaws.{is_forgotten}
-use Rattle.forget_laws.specs.GoneLaws.{AllEnded, RowsAreGone, EndedRowsGo, UndisturbedRowsGo}
+use Rattle.forget_laws.specs.GoneLaws.{AllEnded, RowsAreGone, EndedRowsGo, EndedBranchesGo, UndisturbedRowsGo}
+use Rattle.commit_laws.specs.Undisturbed.{branches_in, stand_at}
+use Rattle.std.specs.Prelude.{option_map, filter}
+use Rattle.tran_ids.proofs.BranchLemmas.{equal_from_same}
+use Rattle.node_rules.specs.Words.{same}
+use Rattle.std.specs.List.{AllByRecursion}
 use Rattle.forget_laws.proofs.DecidedEndLemmas.{decided_end}
 use Rattle.forget_laws.proofs.ForgottenHeardLemmas.{forgottens_are_heard}
 use Rattle.forget_laws.proofs.EventLemmas.{run_lawful, learn_knows}
 use Rattle.forget_laws.proofs.ForgetRunLemmas.{forgets_are_told}
-use Rattle.forget_laws.proofs.FoundRowLemmas.{rows_found}
+use Rattle.forget_laws.proofs.FoundRowLemmas.{births_found, rows_found}
 use Rattle.forget_laws.proofs.NearLemmas.{gone_so, none_live}
 use Rattle.forget_laws.proofs.AckedLemmas as acked
 
@@ -166,6 +171,18 @@ module _ (t : History) (whole : IsLawfulRun t) (root : BranchId) (ended : AllEnd
     gone = gone_now;
   }
 
+  -- none of its branches is known, where none is live
+  module _ (left_all : (b : Born) → Began bs b → b.root ≡ root → (k : Kept) → node_at f b.me.node ≡ Some k → live_at k b.me ≡ None) where
+    is_gone_at : (b : Born) → Began bs b → b.root ≡ root → stand_at f b.me ≡ Some Is_gone
+    is_gone_at b began of =
+        let at = up_at b.me (b, began, refl, of) in
+        ap (λ o. option_map (λ (k : Kept). stand_of k b.me) o) at.1 ∙ ap Some (gone_now b began of at.0 at.1 (left_all b began of at.0 at.1))
+
+    pub branches_gone : AllByRecursion (λ b. stand_at f b ≡ Some Is_gone) (branches_in bs root)
+    branches_gone =
+        all_map (λ b. stand_at f b ≡ Some Is_gone) born_id (filter (λ x. same x.root root) bs)
+        (all_filter (λ x. Began bs x) (λ x. stand_at f x.me ≡ Some Is_gone) (λ x. same x.root root) (λ x passes began. is_gone_at x began (equal_from_same x.root root passes)) bs (births_found t whole))
+
 pub ended_rows_go : EndedRowsGo
 ended_rows_go t whole root ended = rows_gone t whole root ended
 
@@ -173,3 +190,6 @@ pub undisturbed_rows_go : UndisturbedRowsGo
 undisturbed_rows_go t whole c undisturbed dropped ended =
     let all = all_came t whole c undisturbed dropped in
     rows_gone t whole c.root (record { messages = all.messages; up = all.up; ended = ended })
+
+pub ended_branches_go : EndedBranchesGo
+ended_branches_go t whole root ended left_all = branches_gone t whole root ended left_all

@@ -12,8 +12,7 @@ use Rattle.redo_record.specs.Rows.{sealed_as, decided_as, toward_of}
 use Rattle.session_tree.specs.Live.{is_branch, children_of}
 use Rattle.session_tree.specs.Tree.{step}
 use Rattle.agreement.specs.Events.{Event}
-use Rattle.node_rules.specs.Data.{Act, BranchId, Edge, Input, Kind, Live, Peer, Post, RedoRecord, Standing, Vote}
-use Rattle.node_rules.specs.Data.{Sealed as SealedRecord, Decided as DecidedRecord}
+use Rattle.node_rules.specs.Data.{Act, BranchId, Edge, Input, Kind, Live, Peer, Post, RedoRecord, Standing, Vote, Sealed as SealedRecord, Decided as DecidedRecord}
 use Rattle.node_rules.specs.Data.acts
 use Rattle.node_rules.specs.Data.inputs
 use Rattle.node_rules.specs.Data.kinds

@@ -13,7 +13,7 @@ use Rattle.run_laws.specs.Data.fates
 use Rattle.run_laws.specs.Facts.{node_at}
 use Rattle.run_laws.specs.Lawful.{History, IsLawfulRun, facts_at}
 use Rattle.commit_laws.specs.StillLaws.{DroppedNone}
-use Rattle.commit_laws.specs.Undisturbed.{Commit, Undisturbed, SealIsEnded}
+use Rattle.commit_laws.specs.Undisturbed.{Commit, Undisturbed, SealIsEnded, branches_in, stand_at}
 use Rattle.commit_laws.specs.WaitLaws.{HasStopped}
 
 -- All messages of the branches of a transaction came, no node of them has stopped since they began, and each of its seals
@@ -31,6 +31,12 @@ pub record RowsAreGone (t : History) (root : BranchId) : Type 0 where
 -- In every lawful run it is so of such a transaction.
 abbrev pub EndedRowsGo : Type 0
 EndedRowsGo = (t : History) → IsLawfulRun t → (root : BranchId) → AllEnded t root → RowsAreGone t root
+
+-- So where none of its branches is live any more the nodes know nothing of them.
+abbrev pub EndedBranchesGo : Type 0
+EndedBranchesGo = (t : History) → IsLawfulRun t → (root : BranchId) → AllEnded t root
+    → ((b : Born) → Began (births_of t) b → b.root ≡ root → (k : Kept) → node_at (facts_at t) b.me.node ≡ Some k → live_at k b.me ≡ None)
+    → AllByRecursion (λ b. stand_at (facts_at t) b ≡ Some Is_gone) (branches_in (births_of t) root)
 
 -- So it is of an undisturbed COMMIT, where none of its branches below the root was dropped, and each seal has ended with commit.
 abbrev pub UndisturbedRowsGo : Type 0

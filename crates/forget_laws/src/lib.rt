@@ -8,7 +8,7 @@
 #![tactic(auto)]
 
 ghost use Rattle.forget_laws.specs.ForgetLaws.{AcksAreNoted, ForgottensAreHeard, ForgetsAreTold, ForgetsComeFromToward};
-ghost use Rattle.forget_laws.specs.GoneLaws.{EndedRowsGo, UndisturbedRowsGo};
+ghost use Rattle.forget_laws.specs.GoneLaws.{EndedBranchesGo, EndedRowsGo, UndisturbedRowsGo};
 ghost use Rattle.forget_laws.specs.RowLaws.{RowsTell};
 ghost use Rattle.forget_laws.specs.TriedForget.{TheTriedForget};
 
@@ -45,6 +45,11 @@ pub fn forgets_come_from_toward()
 /// nodes has stopped, no node keeps a row of it, and each of its branches that is not live is gone.
 pub fn ended_rows_go()
     ensures { EndedRowsGo }
+{}
+
+/// So where none of its branches is live any more their nodes know nothing of them.
+pub fn ended_branches_go()
+    ensures { EndedBranchesGo }
 {}
 
 /// So it is of an undisturbed COMMIT, where none of its branches below the root was dropped and each sealed one has ended with
