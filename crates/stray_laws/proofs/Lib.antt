@@ -1,0 +1,13 @@
+pub mod TreeLemmas
+pub mod SessionLemmas
+pub mod LastLemmas
+pub mod AloneLemmas
+pub mod RootActLemmas
+pub mod EffectLemmas
+pub mod AnswerLemmas
+pub mod OpenLemmas
+pub mod OpenStepLemmas
+pub mod OpenRunLemmas
+pub mod SentLemmas
+pub mod EdgeLemmas
+pub mod AskLemmas
