@@ -4,6 +4,9 @@ pub mod LastLemmas
 pub mod AloneLemmas
 pub mod RootActLemmas
 pub mod EffectLemmas
+pub mod CallLemmas
+pub mod PendLemmas
+pub mod CallTurnLemmas
 pub mod AnswerLemmas
 pub mod OpenLemmas
 pub mod OpenStepLemmas
