@@ -1,65 +1,29 @@
 -- In every lawful run an undisturbed COMMIT has one answer, Commit complete, once neither its root is live nor a row of it is left.
-use Rattle.std.proofs.Common.{◌≡◌, ◌≢◌, ℕ, ◌==◌, ◌&&◌, ◌||◌, ◌⊎◌, Bool, true, false, not, if◌then◌else◌, List, [], ◌∷◌, ◌++◌, map, filter, find, length, is_none, unwrap_or, Option, Some, None, inl, inr, refl, sym, ap, subst, ◌∙◌, append-nil}
+use Rattle.std.proofs.Common.{◌≡◌, ◌≢◌, ℕ, ◌==◌, ◌&&◌, ◌||◌, Bool, true, false, not, if◌then◌else◌, List, [], ◌∷◌, ◌++◌, find, length, Some, None, inl, inr, refl, sym, ap, subst, ◌∙◌, append-nil}
 use Rattle.std.specs.List.{AllByRecursion, list_any}
-use Rattle.std.proofs.lemmas.Bool.{cond_both, and_parts, eqb-true, eq-eqb}
+use Rattle.std.proofs.lemmas.Bool.{eqb-true, eq-eqb}
 use Rattle.std.proofs.lemmas.List.{append_assoc}
-use Rattle.tran_ids.proofs.BranchLemmas.{equal_from_same, same_from_equal}
-use Rattle.tran_ids.proofs.ListedLemmas.{item_is}
-use Rattle.node_rules.specs.Data.{Act, Advice, Answer, BranchId, Edge, Input, Kind, Live, Msg, Place, Post, Standing, Stmt}
-use Rattle.node_rules.specs.Data.acts
-use Rattle.node_rules.specs.Data.inputs
-use Rattle.node_rules.specs.Data.kinds
-use Rattle.node_rules.specs.Data.phases
-use Rattle.node_rules.specs.Data.stmts
-use Rattle.node_rules.specs.declared.session.PendingCall.TheVariants as pending
-use Rattle.node_rules.specs.declared.session.Session.{Session}
-use Rattle.node_rules.specs.declared.session.Finished.{Finished}
-use Rattle.node_rules.specs.Client.{root_by, root_at, commit_by, commit_call}
-use Rattle.node_rules.specs.Inputs.{Came}
-use Rattle.node_rules.specs.Kept.{Kept, Branch, Deed, live_id, live_at, branch_at, standing_id, standing_at, work_at, with_work}
-use Rattle.node_rules.specs.Prepare.{act_turn, collecting, collected_act, first_act, first_act_by, root_act, with_comment, with_prepare_sent, without_read_keys}
-use Rattle.node_rules.specs.Sessions.{session_at, with_call, commit_complete}
-use Rattle.node_rules.specs.Turn.{turn_of, deed_of, heard}
-use Rattle.node_rules.specs.Words.{same, is_item_of, item_at}
-use Rattle.session_tree.specs.Tree.{step}
-use Rattle.session_tree.specs.declared.act.Walk.{Walk}
-use Rattle.session_tree.specs.declared.act.Walk.TheVariants as walks
-use Rattle.node_rules.proofs.StandLemmas.{call_set}
-use Rattle.run_laws.specs.Births.{Born, births_of, born_id, born_at}
-use Rattle.run_laws.specs.BirthLaws.{Began, GoesSo, IsChild, LiveIs, StandsBelow}
-use Rattle.run_laws.specs.Branches.{is_among}
-use Rattle.run_laws.specs.CallLaws.{ComesAtRest, IsRootOf, RootWaits}
-use Rattle.run_laws.specs.Data.{Happening, Packet, Took, Turn}
+use Rattle.node_rules.specs.Data.{Answer, BranchId, Place, Standing}
+use Rattle.node_rules.specs.Kept.{Kept, Deed, live_id, standing_id}
+use Rattle.node_rules.specs.Sessions.{commit_complete}
+use Rattle.node_rules.specs.Turn.{turn_of, deed_of}
+use Rattle.node_rules.specs.Words.{same, is_item_of}
+use Rattle.run_laws.specs.Data.{Happening, Turn}
 use Rattle.run_laws.specs.Data.happenings
 use Rattle.run_laws.specs.Facts.{Facts, first_facts, place_at, node_at, kept_after, served, outcome_at, facts_after, facts_of}
-use Rattle.run_laws.specs.InTurnLaws.{packet_post, said_in}
-use Rattle.run_laws.specs.Lawful.{Comes, History, IsLawfulRun, MayHappen, MayTurn, facts_at}
-use Rattle.run_laws.specs.NodeLaws.{EachFactFrom}
+use Rattle.run_laws.specs.Lawful.{Comes, History, IsLawfulRun, MayHappen, facts_at}
 use Rattle.run_laws.specs.Trail.{ended_by}
-use Rattle.run_laws.specs.WalkLaws.{was_sent}
 use Rattle.run_laws.proofs.AtNodeLemmas.{turn_here, turn_elsewhere}
-use Rattle.run_laws.proofs.BirthRunLemmas.{births_are_trees, messages_are_of_neighbors, nodes_name_the_born}
-use Rattle.run_laws.proofs.BirthsStandLemmas.{came_so}
-use Rattle.run_laws.proofs.EventsStandLemmas.{run_stands, ids_name_their_node}
-use Rattle.run_laws.proofs.LawfulLemmas.{serves}
-use Rattle.run_laws.proofs.ListLemmas.{any_found}
-use Rattle.run_laws.proofs.OwnLemmas.{all_found}
-use Rattle.run_laws.proofs.RestRunLemmas.{asked_parent, calls_come_at_rest, roots_wait}
-use Rattle.run_laws.proofs.RootLemmas.{roots_are_of_sessions, session_or_before}
+use Rattle.run_laws.proofs.EventsStandLemmas.{run_stands}
 use Rattle.run_laws.proofs.TurnEventLemmas.{cases_nat}
-use Rattle.tree_laws.specs.AskLaws.{way_of}
-use Rattle.tree_laws.proofs.AskRunLemmas.{live_told, sent_from}
 use Rattle.tree_laws.proofs.PrefixLemmas.{so_far, f_at, one_on, facts_join}
-use Rattle.site_laws.proofs.TimeLemmas.{Part, part_on, part_of, part_lawful, may_of, fact_at, born_end, sent_end}
+use Rattle.site_laws.proofs.TimeLemmas.{Part, part_of, part_lawful, may_of}
 use Rattle.commit_laws.specs.StillLaws.{DroppedNone}
-use Rattle.commit_laws.specs.Undisturbed.{Commit, Undisturbed, IsCalm, IsDelivery, answers_in, answers_from, branches_in, disturbs, is_disturbed}
+use Rattle.commit_laws.specs.Undisturbed.{Commit, Undisturbed, IsDelivery, answers_in, answers_from}
 use Rattle.commit_laws.proofs.RootLemmas.{undisturbed_roots_leave}
 use Rattle.stray_laws.specs.CallLaws.{AbortsNone, HasNoRow, UndisturbedCallsEnd}
-use Rattle.stray_laws.proofs.EffectLemmas.{effect_on}
-use Rattle.stray_laws.proofs.RootActLemmas.{IsNoCall, Known, Effect, upsets, decides_so, finishes_so, seals_so, still, lasts_put}
-use Rattle.stray_laws.proofs.LastLemmas.{Lasts, has_row, is_living, is_unforgotten}
+use Rattle.stray_laws.proofs.LastLemmas.{Lasts, has_row}
 use Rattle.stray_laws.proofs.SessionLemmas.{answers_of}
-use Rattle.stray_laws.proofs.TreeLemmas.{all_at, is_in}
 use Rattle.stray_laws.proofs.CallLemmas as call
 use Rattle.stray_laws.proofs.CallTurnLemmas.{state_first}
 use Rattle.stray_laws.proofs.PendLemmas.{State, Waits, Done, delivered, state_next}
@@ -91,6 +55,7 @@ row_there r (s ∷ ks) is = by (same s.me r) s.forgot is (row_there r ks)
     by : (q w : Bool) → ((q && not w) || has_row r ks) ≡ true → (has_row r ks ≡ true → list_any (is_item_of standing_id r) ks ≡ true) → (q || list_any (is_item_of standing_id r) ks) ≡ true
     by true w found rest = refl
     by false w found rest = rest found
+
 module _ (t : History) (whole : IsLawfulRun t) (c : Commit t.places t.commands t.trace) (u : Undisturbed t.places t.commands t.trace c) (quiet : AbortsNone t c.root) where
   abbrev m : ℕ
   m = c.session
@@ -234,6 +199,7 @@ module _ (t : History) (whole : IsLawfulRun t) (c : Commit t.places t.commands t
           ∙ (ap (λ q. if q then [] else (if c.call.node == c.call.node then answers_of m (ended_by (outcome_at t.places f0 c.call)) else [])) u.whole
           ∙ (ap (λ q. if q then answers_of m (ended_by (outcome_at t.places f0 c.call)) else []) (eq-eqb c.call.node c.call.node refl)
           ∙ ap (λ o. answers_of m (ended_by (served (place_at t.places c.call.node) c.call.input o))) c.up))
+
   -- ---- up to the end
 
   walk : (mid rest : List Happening) → mid ++ rest ≡ c.during → AllByRecursion IsDelivery rest → Status mid → Status c.during
@@ -264,5 +230,6 @@ module _ (t : History) (whole : IsLawfulRun t) (c : Commit t.places t.commands t
         by : State t whole c u quiet last.kept (answered c.during) → answered c.during ≡ commit_complete ∷ []
         by (Waits root call lasts none) = absurd (no_last lasts)
         by (Done free all) = all
+
 pub undisturbed_calls_end : UndisturbedCallsEnd
 undisturbed_calls_end t whole c u below quiet gone = one_answer t whole c u quiet below gone

@@ -1,74 +1,48 @@
--- In every lawful run each branch of the transaction of an undisturbed COMMIT was asked by its parent, where none below the root
--- was dropped, and none is live any more, where none is Ready.
-use Rattle.std.proofs.Common.{◌≡◌, ◌≢◌, ℕ, zero, suc, ◌+◌, ◌<◌, ◌≤◌, ◌&&◌, ◌||◌, ◌⊎◌, Bool, true, false, List, [], ◌∷◌, ◌++◌, map, length, option_map, unwrap_or, Option, Some, None, inl, inr, refl, sym, ap, subst, ◌∙◌, arith, append-nil}
+-- In every lawful run each branch of the transaction of an undisturbed COMMIT that began below another than the root was asked
+-- by its parent, where that was, and none below the root was dropped.
+use Rattle.std.proofs.Common.{◌≡◌, ◌≢◌, ℕ, ◌≤◌, ◌&&◌, ◌||◌, ◌⊎◌, Bool, true, false, List, [], ◌∷◌, ◌++◌, map, length, Option, Some, None, inl, inr, refl, sym, ap, subst, ◌∙◌, arith, append-nil}
 use Rattle.std.specs.List.{AllByRecursion}
 use Rattle.std.proofs.lemmas.Bool.{and_parts}
-use Rattle.std.proofs.lemmas.List.{append_assoc}
 use Rattle.tran_ids.proofs.BranchLemmas.{equal_from_same}
-use Rattle.tran_ids.proofs.ListedLemmas.{item_is, put_found}
+use Rattle.tran_ids.proofs.ListedLemmas.{item_is}
 use Rattle.agreement.specs.Events.{Dropped, Exit, exit, Sealed, Decided, Quiet}
-use Rattle.node_rules.specs.Data.{BranchId, Edge, Input, Kind, Live, Phase, Place}
-use Rattle.node_rules.specs.Data.acts
-use Rattle.node_rules.specs.Data.inputs
-use Rattle.node_rules.specs.Data.kinds
+use Rattle.node_rules.specs.Data.{BranchId, Live}
 use Rattle.node_rules.specs.Data.phases
-use Rattle.node_rules.specs.Data.stmts
-use Rattle.node_rules.specs.declared.session.PendingCall.TheVariants as pending
-use Rattle.node_rules.specs.Client.{commit_by, root_by, root_at}
-use Rattle.node_rules.specs.Kept.{Kept, Branch, Deed, live_id, live_at, branch_at, work_at, with_work}
-use Rattle.node_rules.specs.Prepare.{act_turn, collecting, first_act_by, with_comment, with_prepare_sent, without_read_keys}
-use Rattle.node_rules.specs.Sessions.{session_at, with_call}
-use Rattle.node_rules.specs.Turn.{turn_of, deed_of}
+use Rattle.node_rules.specs.Kept.{Kept, Branch, live_id, live_at, work_at, with_work}
 use Rattle.node_rules.specs.Words.{same, numbered}
 use Rattle.session_tree.specs.Live.{children_of}
-use Rattle.node_rules.proofs.Steps.{IsOfRows}
-use Rattle.run_laws.specs.Births.{Born, births_of, born_id, born_at}
-use Rattle.run_laws.specs.BirthLaws.{Began, IsChild, LiveIs, StandsBelow}
+use Rattle.run_laws.specs.Births.{Born, births_of, born_at}
+use Rattle.run_laws.specs.BirthLaws.{Began, LiveIs}
 use Rattle.run_laws.specs.Branches.{is_among}
-use Rattle.run_laws.specs.CallLaws.{ComesAtRest}
 use Rattle.run_laws.specs.Data.{Happening, Packet, Turn}
 use Rattle.run_laws.specs.Data.fates
 use Rattle.run_laws.specs.Data.happenings
-use Rattle.run_laws.specs.Facts.{Facts, first_facts, place_at, node_at, kept_after, facts_after, facts_of}
+use Rattle.run_laws.specs.Facts.{node_at}
 use Rattle.run_laws.specs.FreezeLaws.{was_asked}
-use Rattle.run_laws.specs.InTurnLaws.{GoesOn, packet_post, said_in}
-use Rattle.run_laws.specs.Lawful.{Comes, History, IsLawfulRun, MayHappen, MayTurn, facts_at}
-use Rattle.run_laws.specs.NodeLaws.{EachFactFrom}
+use Rattle.run_laws.specs.InTurnLaws.{packet_post, said_in}
+use Rattle.run_laws.specs.Lawful.{History, IsLawfulRun, MayHappen, MayTurn, facts_at}
 use Rattle.run_laws.specs.RunEvents.{events_after, events_from, events_of, lives_at}
 use Rattle.run_laws.specs.Trail.{is_prepare}
-use Rattle.run_laws.proofs.AtNodeLemmas.{item_there, turn_here}
-use Rattle.run_laws.proofs.BirthRunLemmas.{births_are_trees, born_are_live_or_left, nodes_name_the_born}
-use Rattle.run_laws.proofs.EventsStandLemmas.{ids_name_their_node, run_stands}
+use Rattle.run_laws.proofs.BirthRunLemmas.{born_are_live_or_left, nodes_name_the_born}
 use Rattle.run_laws.proofs.FreezeRunLemmas.{prepare_finds_rest}
-use Rattle.run_laws.proofs.KidLemmas.{child_of, kids_of}
 use Rattle.run_laws.proofs.OwnLemmas.{all_found}
-use Rattle.run_laws.proofs.RestRunLemmas.{calls_come_at_rest}
-use Rattle.run_laws.proofs.RootLemmas.{roots_are_of_sessions}
 use Rattle.tree_laws.proofs.AskRunLemmas.{edges_asked}
-use Rattle.tree_laws.proofs.PrefixLemmas.{so_far, f_at, e_at, one_on, more_on}
+use Rattle.tree_laws.proofs.PrefixLemmas.{so_far, f_at, e_at, more_on}
 use Rattle.site_laws.specs.LeaveLaws.{LeftSo}
 use Rattle.site_laws.proofs.FateLemmas.{among_found, drops_alone}
 use Rattle.site_laws.proofs.LeaveLemmas.{was_there}
-use Rattle.site_laws.proofs.MemberLemmas.{BornBelow, born_below}
-use Rattle.site_laws.proofs.TimeLemmas.{Part, part_on, part_of, part_lawful, may_of, fact_at, born_end, exit_end, exit_on, sent_end, keep_on}
+use Rattle.site_laws.proofs.TimeLemmas.{Part, part_on, part_of, part_lawful, may_of, born_end, exit_end, sent_end, keep_on}
 use Rattle.commit_laws.specs.DeliveryLaws.{IsBusy}
 use Rattle.commit_laws.specs.StillLaws.{DroppedNone}
-use Rattle.commit_laws.specs.Undisturbed.{Commit, Undisturbed, HasNotStopped, IsDelivery, branches_in}
+use Rattle.commit_laws.specs.Undisturbed.{Commit, Undisturbed}
 use Rattle.commit_laws.proofs.HeardLemmas.{prepares_are_heard}
-use Rattle.commit_laws.proofs.RootLemmas.{undisturbed_roots_leave}
-use Rattle.commit_laws.proofs.StillLemmas.{messages_come, undisturbed_collects_end}
-use Rattle.place_laws.proofs.OpenSentLemmas.{IsOpenTo}
-use Rattle.stray_laws.specs.StrayLaws.{count_opens, UndisturbedBranchesAreAsked, UndisturbedBranchesLeave}
-use Rattle.stray_laws.proofs.EdgeLemmas.{edges_have_one_child}
-use Rattle.stray_laws.proofs.OpenLemmas.{counts}
-use Rattle.stray_laws.proofs.OpenRunLemmas.{IsRowsCall, opened_low, adds_any, adds, count_on, opens_once}
-use Rattle.stray_laws.proofs.SentLemmas.{WasOpened, opened_at}
-use Rattle.stray_laws.proofs.TreeLemmas.{all_at, is_in, among_all}
-
--- ---- lists
+use Rattle.commit_laws.proofs.StillLemmas.{messages_come}
+use Rattle.stray_laws.specs.StrayLaws.{count_opens}
+use Rattle.stray_laws.proofs.OpenRunLemmas.{opened_low, adds_any, count_on}
+use Rattle.stray_laws.proofs.ChildLemmas.{zero_or, at_most, same_born, parent_of_tree, opened, is_child}
 
 -- what is so of the receiver of each Prepare that was delivered is so of one that was asked
-asked_so : (P Q : BranchId → Type 0) (xs : List Packet) → AllByRecursion (λ x. P x.msg.from → x.fate ≡ fates.Delivered) xs → AllByRecursion (λ x. x.fate ≡ fates.Delivered → is_prepare x.msg.kind ≡ true → Q x.msg.to) xs
+pub asked_so : (P Q : BranchId → Type 0) (xs : List Packet) → AllByRecursion (λ x. P x.msg.from → x.fate ≡ fates.Delivered) xs → AllByRecursion (λ x. x.fate ≡ fates.Delivered → is_prepare x.msg.kind ≡ true → Q x.msg.to) xs
     → (p c : BranchId) → P p → was_asked (map packet_post xs) p c ≡ true → Q c
 asked_so P Q [] came heard p c so is = absurd cc
 asked_so P Q (x ∷ xs) came heard p c so is = by ((same x.msg.from p && same x.msg.to c) && is_prepare x.msg.kind) refl is (asked_so P Q xs came.1 heard.1 p c so)
@@ -80,25 +54,6 @@ asked_so P Q (x ∷ xs) came heard p c so is = by ((same x.msg.from p && same x.
         subst Q (equal_from_same x.msg.to c ends.1) (heard.0 (came.0 (subst P (sym (equal_from_same x.msg.from p ends.0)) so)) parts.1)
     by false here found later = later found
 
-numbered_peer : (es : List Edge) (i : ℕ) (e : Edge) → numbered es i ≡ Some e → numbered (map (λ (x : Edge). x.peer) es) i ≡ Some e.peer
-numbered_peer es zero e at = absurd cc
-numbered_peer [] (suc i) e at = absurd cc
-numbered_peer (x ∷ es) (suc zero) e at = ap (λ o. option_map (λ (y : Edge). y.peer) o) at
-numbered_peer (x ∷ es) (suc (suc i)) e at = numbered_peer es (suc i) e at
-
-asked_peers : (es : List Edge) → map (λ (x : Edge). x.peer) (map with_prepare_sent es) ≡ map (λ (x : Edge). x.peer) es
-asked_peers [] = refl
-asked_peers (x ∷ es) = ap (λ xs. x.peer ∷ xs) (asked_peers es)
-
-zero_or : (n : ℕ) → (n ≡ 0) ⊎ (1 ≤ n)
-zero_or zero = inl refl
-zero_or (suc n) = inr (omega arith)
-
-at_most : (n m : ℕ) → (n ≤ m) ⊎ (m < n)
-at_most zero m = inl (omega arith)
-at_most (suc n) zero = inr (omega arith)
-at_most (suc n) (suc m) = elim (at_most n m) [ inl low ↦ inl (omega (arith, low)) | inr high ↦ inr (omega (arith, high)) ]
-
 module _ (t : History) (whole : IsLawfulRun t) (c : Commit t.places t.commands t.trace) (u : Undisturbed t.places t.commands t.trace c) (below : DroppedNone t c.root) where
   abbrev r : BranchId
   r = c.root
@@ -109,77 +64,6 @@ module _ (t : History) (whole : IsLawfulRun t) (c : Commit t.places t.commands t
   abbrev end : Part t whole t.trace
   end = record { rest = []; is = append-nil t.trace }
 
-  same_born : (x y : Born) → Began bs x → Began bs y → x.me ≡ y.me → x ≡ y
-  same_born x y began_x began_y me =
-      let one : born_at bs y.me ≡ Some x = subst (λ b. born_at bs b ≡ Some x) me began_x in
-      let both : Some x ≡ Some y = sym one ∙ began_y in
-      cc
-
-  stays : (x : Born) → Began bs x → x.root ≡ r → HasNotStopped (facts_at t) x.me
-  stays x began of = among_all (HasNotStopped (facts_at t)) (branches_in bs r) x.me u.stopped (is_in bs r x.me x began of)
-
-  -- a branch has the root of its parent
-  parent_of_tree : (x : Born) → Began bs x → (p : BranchId) → x.parent ≡ Some p → (y : Born) × Began bs y × (y.me ≡ p) × (y.root ≡ x.root) × (y.depth + 1 ≡ x.depth)
-  parent_of_tree x began p above = subst (StandsBelow (Began bs) x) above (all_found (λ z. StandsBelow (Began bs) z z.parent) born_id bs x.me x (births_are_trees t whole) began)
-
-  opened : (x : Born) → Began bs x → (p : BranchId) → x.parent ≡ Some p → 1 ≤ count_opens (said_in (facts_at t)) p x.edge
-  opened x began p above =
-      let open_x : IsOpenTo (said_in (facts_at t)) p x.edge x.me.node = all_found (WasOpened (said_in (facts_at t))) born_id bs x.me x (opened_at t whole t.trace end) began p above in
-      counts (said_in (facts_at t)) open_x.number open_x.sent p x.edge open_x.root open_x.depth open_x.at open_x.from open_x.kind
-
-  -- edges are numbered from 1
-  edge_above : (x : Born) → Began bs x → (p : BranchId) → x.parent ≡ Some p → 1 ≤ x.edge
-  edge_above x began p above = elim (zero_or x.edge) [
-    | inr some ↦ some
-    | inl none ↦ (let some : 1 ≤ count_opens (said_in (facts_at t)) p 0 = subst (λ i. 1 ≤ count_opens (said_in (facts_at t)) p i) none (opened x began p above) in
-        let no : count_opens (said_in (facts_at t)) p 0 ≡ 0 = (opens_once t whole p 0).1 in
-        absurd (omega (arith, some, no)))
-  ]
-
-  -- the child over the edge of a branch's birth is that branch
-  module _ (x : Born) (began : Began bs x) (of : x.root ≡ r) (p : BranchId) (above : x.parent ≡ Some p) (hs : List Happening) (part : Part t whole hs) (k : Kept) (n : ℕ) (up : node_at (f_at t hs) n ≡ Some k) (l : Live) (live : live_at k l.me ≡ Some l) (me : l.me ≡ p)
-      (wide : x.edge ≤ length l.edges) where
-    abbrev s : History
-    s = so_far t hs
-
-    placed : LiveIs (Began (births_of s)) l
-    placed = all_found (LiveIs (Began (births_of s))) live_id k.lives l.me l (nodes_name_the_born s (part_lawful t whole hs part) n k up).0 live
-
-    edge : (e : Edge) × (numbered l.edges x.edge ≡ Some e)
-    edge = item_there l.edges x.edge (edge_above x began p above) wide
-
-    at : numbered (children_of l) x.edge ≡ Some edge.0.peer
-    at = numbered_peer l.edges x.edge edge.0 edge.1
-
-    kid : BornBelow (births_of s) edge.0.peer l.me
-    kid = born_below (births_of s) edge.0.peer l.me (child_of (births_of s) l placed x.edge edge.0.peer at)
-
-    kid_edge : kid.born.edge ≡ x.edge
-    kid_edge =
-        let number = kids_of (births_of s) l placed x.edge edge.0.peer at in
-        let its : born_at (births_of s) edge.0.peer ≡ Some kid.born = subst (λ b. born_at (births_of s) b ≡ Some kid.born) kid.is_me kid.began in
-        let both : Some kid.born.edge ≡ Some x.edge = sym (ap (λ o. option_map (λ (y : Born). y.edge) o) its) ∙ number in
-        cc
-
-    kid_began : Began bs kid.born
-    kid_began = born_end t whole hs part kid.born kid.began
-
-    kid_above : kid.born.parent ≡ Some p
-    kid_above = kid.is_parent ∙ ap Some me
-
-    kid_of : kid.born.root ≡ r
-    kid_of =
-        let one = parent_of_tree kid.born kid_began p kid_above in
-        let two = parent_of_tree x began p above in
-        let same_parent : one.0 ≡ two.0 = same_born one.0 two.0 one.1 two.1 (one.2 ∙ sym two.2) in
-        sym one.3 ∙ (ap (λ (z : Born). z.root) same_parent ∙ (two.3 ∙ of))
-
-    kid_is : edge.0.peer ≡ x.me
-    kid_is = sym kid.is_me ∙ edges_have_one_child t whole kid.born x kid_began began p kid_above above kid_edge (stays kid.born kid_began kid_of) (stays x began of)
-
-    pub is_child : numbered (children_of l) x.edge ≡ Some x.me
-    is_child = at ∙ ap Some kid_is
-
   -- ---- below the root
 
   module _ (x : Born) (began : Began bs x) (of : x.root ≡ r) (p : BranchId) (above : x.parent ≡ Some p) (y : Born) (began_y : Began bs y) (me_y : y.me ≡ p) (of_y : y.root ≡ r) (q : BranchId) (above_y : y.parent ≡ Some q) (asked : was_asked (said_in (facts_at t)) q p ≡ true) where
@@ -188,7 +72,7 @@ module _ (t : History) (whole : IsLawfulRun t) (c : Commit t.places t.commands t
     parent_is hs part n k up l live me =
         let s0 : History = so_far t hs in
         let its : LiveIs (Began (births_of s0)) l = all_found (LiveIs (Began (births_of s0))) live_id k.lives l.me l (nodes_name_the_born s0 (part_lawful t whole hs part) n k up).0 live in
-        let one : its.born ≡ y = same_born its.born y (born_end t whole hs part its.born its.began) began_y (its.is_me ∙ (me ∙ sym me_y)) in
+        let one : its.born ≡ y = same_born t whole c u its.born y (born_end t whole hs part its.born its.began) began_y (its.is_me ∙ (me ∙ sym me_y)) in
         sym its.is_parent ∙ (ap (λ (z : Born). z.parent) one ∙ above_y)
 
     -- its edges go as far as its Opens, while it waits for nothing
@@ -208,7 +92,7 @@ module _ (t : History) (whole : IsLawfulRun t) (c : Commit t.places t.commands t
 
     busy : IsBusy (facts_at t) p
     busy =
-        let up_y = parent_of_tree y began_y q above_y in
+        let up_y = parent_of_tree t whole c u y began_y q above_y in
         asked_so (λ b. (z : Born) × Began bs z × (z.me ≡ b) × (z.root ≡ r)) (IsBusy (facts_at t)) (facts_at t).net.packets (came (facts_at t).net.packets (messages_come t whole c u)) (prepares_are_heard t whole) q p
         (up_y.0, up_y.1, up_y.2, up_y.3 ∙ of_y) asked
       where
@@ -222,8 +106,8 @@ module _ (t : History) (whole : IsLawfulRun t) (c : Commit t.places t.commands t
     live_asks n k up l live me node =
         let there : node_at (facts_at t) p.node ≡ Some k = subst (λ i. node_at (facts_at t) i ≡ Some k) (sym node) up in
         let other : l.phase ≢ phases.Working = busy k l there (subst (λ b. live_at k b ≡ Some l) me live) in
-        let far : x.edge ≤ length l.edges = wide t.trace end n k up l live me asked (opened x began p above) in
-        let child : numbered (children_of l) x.edge ≡ Some x.me = is_child x began of p above t.trace end k n up l live me far in
+        let far : x.edge ≤ length l.edges = wide t.trace end n k up l live me asked (opened t whole c u x began p above) in
+        let child : numbered (children_of l) x.edge ≡ Some x.me = is_child t whole c u x began of p above t.trace end k n up l live me far in
         subst (λ b. was_asked (said_in (facts_at t)) b x.me ≡ true) me ((edges_asked t whole n k up l live other).0 x.edge x.me child)
 
     -- where it has left
@@ -278,7 +162,7 @@ module _ (t : History) (whole : IsLawfulRun t) (c : Commit t.places t.commands t
           elim (zero_or (count_opens (said_in (f_at t hs)) p x.edge)) [
             | inl nothing ↦ (let left : exit (e_at t after) p ≢ None = (λ gone. absurd (cc (now, gone))) in inr (inr (inr (left, unopened left nothing))))
             | inr some ↦ (let far : x.edge ≤ length so.live.edges = wide hs part w.node k may.up so.live so.found so.is_me asked_p some in
-                let child : numbered (children_of so.live) x.edge ≡ Some x.me = is_child x began of p above hs part k w.node may.up so.live so.found so.is_me far in
+                let child : numbered (children_of so.live) x.edge ≡ Some x.me = is_child t whole c u x began of p above hs part k w.node may.up so.live so.found so.is_me far in
                 let sent : was_asked (said_in (f_at t hs)) p x.me ≡ true = subst (λ b. was_asked (said_in (f_at t hs)) b x.me ≡ true) so.is_me (so.leaves.kids x.edge x.me child) in
                 inr (inr (inl (asked_on p x.me sent))))
           ]
@@ -323,7 +207,7 @@ module _ (t : History) (whole : IsLawfulRun t) (c : Commit t.places t.commands t
       | inl none ↦ absurd (cc (none, left))
       | inr (inl dropped) ↦ absurd (below y began_y of_y (λ none. (let clash : None ≡ Some q = sym none ∙ above_y in absurd cc)) (subst (λ b. exit (events_of t) b ≡ Some Dropped) (sym me_y) dropped))
       | inr (inr (inl sent)) ↦ sent
-      | inr (inr (inr gone)) ↦ (let some = opened x began p above in let none = gone.1 in absurd (omega (arith, some, none)))
+      | inr (inr (inr gone)) ↦ (let some = opened t whole c u x began p above in let none = gone.1 in absurd (omega (arith, some, none)))
     ]
 
     pub kid_asked : was_asked (said_in (facts_at t)) p x.me ≡ true

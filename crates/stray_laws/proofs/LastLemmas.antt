@@ -1,5 +1,5 @@
 -- A branch stays live, or its row stays and has not forgot, with each change of a node that is not of this branch.
-use Rattle.std.proofs.Common.{◌≡◌, ◌≢◌, ℕ, ◌&&◌, ◌||◌, ◌⊎◌, Bool, true, false, not, if◌then◌else◌, List, [], ◌∷◌, ◌++◌, Option, Some, None, inl, inr, refl, sym, ap, subst, ◌∙◌}
+use Rattle.std.proofs.Common.{◌≡◌, ◌≢◌, ◌&&◌, ◌||◌, ◌⊎◌, Bool, true, false, not, if◌then◌else◌, List, [], ◌∷◌, Some, refl, sym, ap, ◌∙◌}
 use Rattle.std.specs.List.{list_any}
 use Rattle.std.proofs.lemmas.Bool.{cond_both, or_right, and_parts}
 use Rattle.tran_ids.proofs.BranchLemmas.{equal_from_same, same_from_equal}
@@ -7,13 +7,13 @@ use Rattle.node_rules.specs.Data.{BranchId, Decided, Live, RedoRecord, Sealed, S
 use Rattle.node_rules.specs.Data.decisions
 use Rattle.node_rules.specs.Data.params
 use Rattle.node_rules.specs.Data.records
-use Rattle.node_rules.specs.Kept.{Kept, Stored, live_id, standing_id, with_standing, stands_at}
+use Rattle.node_rules.specs.Kept.{Kept, Stored, live_id, standing_id, stands_at}
 use Rattle.node_rules.specs.Records.{applied}
 use Rattle.node_rules.specs.Words.{same, is_item_of, item_at, put_item, drop_item, put_by_branch, change_where, drop_where, branch_below}
 use Rattle.redo_record.specs.Durable.{durable_after}
 use Rattle.redo_record.specs.Kept.{kept_after, ended_commit, in_state, forced_state, met_as, forgot_as, hidden_as, is_done}
 use Rattle.redo_record.specs.Rows.{sealed_as, decided_as, has_neighbors}
-use Rattle.run_laws.proofs.ListLemmas.{any_more, any_dropped, any_put}
+use Rattle.run_laws.proofs.ListLemmas.{any_dropped, any_put}
 
 -- ---- what lasts
 

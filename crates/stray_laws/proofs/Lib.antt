@@ -12,5 +12,8 @@ pub mod OpenLemmas
 pub mod OpenStepLemmas
 pub mod OpenRunLemmas
 pub mod SentLemmas
+pub mod OpeningLemmas
 pub mod EdgeLemmas
+pub mod ChildLemmas
 pub mod AskLemmas
+pub mod RootAskLemmas

@@ -1,7 +1,6 @@
 -- In every lawful run a branch sent the Open of an edge once at most, and a branch that has left sends none.
-use Rattle.std.proofs.Common.{◌≡◌, ◌≢◌, ℕ, zero, ◌+◌, ◌<◌, ◌≤◌, ◌⊎◌, Bool, true, false, List, [], ◌∷◌, ◌++◌, map, length, Option, Some, None, inl, inr, refl, sym, ap, subst, ◌∙◌, arith, append-nil}
+use Rattle.std.proofs.Common.{◌≡◌, ◌≢◌, ℕ, ◌+◌, ◌<◌, ◌≤◌, ◌⊎◌, Bool, true, false, List, [], ◌∷◌, ◌++◌, map, length, Option, Some, None, inl, inr, refl, sym, ap, subst, ◌∙◌, arith, append-nil}
 use Rattle.std.specs.List.{AllByRecursion}
-use Rattle.std.specs.Prelude.{IfSome}
 use Rattle.agreement.specs.Events.{exit}
 use Rattle.tran_ids.proofs.ListedLemmas.{item_is}
 use Rattle.node_rules.specs.Data.{Advice, BranchId, Kind, Live, Place, Post, Stmt, Input}
@@ -21,11 +20,11 @@ use Rattle.node_rules.proofs.Steps.{HasRoot, IsOfRows}
 use Rattle.run_laws.specs.Births.{Born, births_of, born_at}
 use Rattle.run_laws.specs.BirthLaws.{Began, GoesSo, IsChild}
 use Rattle.run_laws.specs.CallLaws.{ComesAtRest}
-use Rattle.run_laws.specs.Data.{Turn, Happening, Packet}
+use Rattle.run_laws.specs.Data.{Turn, Happening}
 use Rattle.run_laws.specs.Data.happenings
 use Rattle.run_laws.specs.Facts.{Facts, first_facts, place_at, node_at, kept_after, facts_after, facts_of}
 use Rattle.run_laws.specs.InTurnLaws.{post_of, packet_post, said_in, GoesOn, exec_number, newest_exec, newest_reply}
-use Rattle.run_laws.specs.Lawful.{IsOwed, MayHappen, MayTurn, History, IsLawfulRun, facts_at}
+use Rattle.run_laws.specs.Lawful.{IsOwed, MayHappen, MayTurn, History, IsLawfulRun}
 use Rattle.run_laws.specs.NodeLaws.{EachFactFrom}
 use Rattle.run_laws.proofs.AtNodeLemmas.{turn_here}
 use Rattle.run_laws.proofs.BirthLemmas.{news_of}
@@ -41,7 +40,6 @@ use Rattle.run_laws.proofs.RestRunLemmas.{asked_parent, calls_come_at_rest}
 use Rattle.run_laws.proofs.RootLemmas.{roots_are_of_sessions}
 use Rattle.run_laws.proofs.SaidPostLemmas.{execs_are_low, posts_back, posts_of, said_after}
 use Rattle.run_laws.proofs.TurnEventLemmas.{number_is}
-use Rattle.tree_laws.proofs.AnswerRunLemmas.{lives_heard}
 use Rattle.tree_laws.proofs.PrefixLemmas.{so_far, f_at, e_at, one_on}
 use Rattle.site_laws.proofs.TimeLemmas.{Part, part_on, part_of, part_lawful, may_of, fact_at, keep_on}
 use Rattle.place_laws.proofs.CatalogLemmas.{catalog}

@@ -1,11 +1,11 @@
 -- Which steps of a node say Open: those in which a statement goes over a new link. Who says it stays live, and the Open is of
 -- its next edge.
-use Rattle.std.proofs.Common.{◌≡◌, ℕ, ◌+◌, ◌-◌, ◌⊎◌, List, [], ◌∷◌, map, length, Option, Some, None, inl, inr, refl, sym, ap, subst, ◌∙◌}
+use Rattle.std.proofs.Common.{◌≡◌, ℕ, ◌+◌, ◌-◌, ◌⊎◌, List, map, length, Option, Some, None, inl, inr, refl, sym, ap, subst, ◌∙◌}
 use Rattle.tran_ids.proofs.ListedLemmas.{put_found}
 use Rattle.session_tree.specs.Live.{children_of, peer_of, new_edge}
 use Rattle.session_tree.specs.Tree.{step as step_from}
 use Rattle.commit_forget.specs.declared.next.Next.TheVariants as nexts
-use Rattle.node_rules.specs.Data.{Answer, BranchId, Input, Kind, Live, Place, Post, Stmt}
+use Rattle.node_rules.specs.Data.{Answer, BranchId, Input, Live, Place, Post, Stmt}
 use Rattle.node_rules.specs.Data.acts
 use Rattle.node_rules.specs.Data.inputs
 use Rattle.node_rules.specs.Data.kinds
@@ -15,7 +15,7 @@ use Rattle.node_rules.specs.declared.session.Session.{Session}
 use Rattle.node_rules.specs.Calls.{answer_says, exec_to, nobody_at, with_edge, hears_reply}
 use Rattle.node_rules.specs.Client.{begun_by, new_root}
 use Rattle.node_rules.specs.Commit.{acked_by, beyond}
-use Rattle.node_rules.specs.Inputs.{Came, IsCall}
+use Rattle.node_rules.specs.Inputs.{IsCall}
 use Rattle.node_rules.specs.Kept.{Kept, Branch, Deed, live_id, live_at, post, to_one, to_each, with_standing}
 use Rattle.node_rules.specs.Prepare.{path_of, site_neighbors, without_read_keys}
 use Rattle.node_rules.specs.Recovery.{kept_told}
@@ -106,8 +106,6 @@ module _ (Q : BranchId → ℕ → Type 0) (p : Place) (input : Input) where
               subst (λ j. Q (new_root p (begun_by p k n None) j) (i + 1)) it (subst (λ b. Q b (i + 1)) (sym same_root) (begins n s call rows none i)))
           | inr new ↦ absurd (let clash : Some (new_root p k n) ≡ None = sym (ap (λ (z : Session). z.root) new.1) ∙ free_n in cc)
         ]
-
-
 
   reads_back : (k : Kept) (b : BranchId) (x : Branch) (s : Stmt) (given : ℕ) → Asked (without_read_keys k b) input x s given → Asked k input x s given
   reads_back k b x s given (steps.By_call n y st call rows has code live) = steps.By_call n y st call rows has code live

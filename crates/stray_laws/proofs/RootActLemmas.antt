@@ -1,41 +1,28 @@
 -- What an act of the prepare phase does to the session of a root whose COMMIT is pending: it stays as it was, and so does the
 -- root or its row; or the COMMIT is answered with Commit complete. No Abort comes to the root.
-use Rattle.std.proofs.Common.{◌≡◌, ◌≢◌, ℕ, ◌+◌, ◌⊎◌, Bool, true, false, if◌then◌else◌, List, [], ◌∷◌, Option, Some, None, inl, inr, refl, sym, ap, subst, ◌∙◌}
-use Rattle.std.proofs.lemmas.Bool.{cond_both}
+use Rattle.std.proofs.Common.{◌≡◌, ◌≢◌, ℕ, ◌+◌, ◌⊎◌, Bool, true, false, if◌then◌else◌, [], ◌∷◌, Option, Some, None, inl, inr, refl, sym, ap, subst, ◌∙◌}
 use Rattle.tran_ids.proofs.BranchLemmas.{equal_from_same, same_from_equal}
 use Rattle.tran_ids.proofs.ListedLemmas.{item_is}
-use Rattle.commit_forget.specs.declared.next.Next.{Next}
-use Rattle.commit_forget.specs.declared.next.Next.TheVariants as nexts
-use Rattle.node_rules.specs.Data.{Act, Advice, Answer, BranchId, Decision, Input, Kind, Live, Msg, Place, RedoRecord, Standing, Stmt}
+use Rattle.node_rules.specs.Data.{Act, Advice, BranchId, Input, Kind, Live, RedoRecord, Stmt}
 use Rattle.node_rules.specs.Data.acts
-use Rattle.node_rules.specs.Data.decisions
 use Rattle.node_rules.specs.Data.inputs
 use Rattle.node_rules.specs.Data.kinds
-use Rattle.node_rules.specs.Data.phases
 use Rattle.node_rules.specs.Data.records
 use Rattle.node_rules.specs.declared.session.PendingCall.TheVariants as pending
-use Rattle.node_rules.specs.declared.session.Session.{Session}
 use Rattle.node_rules.specs.declared.work.Going.{Going}
-use Rattle.node_rules.specs.Calls.{answered_sessions, answer_ends, heard_answer, heard_sessions, hears_reply, with_edge, takes_call}
-use Rattle.node_rules.specs.Inputs.{Came, Brings, Rollback_came, Rolled_back_came}
-use Rattle.node_rules.specs.Kept.{Kept, Branch, Deed, live_id, live_at, branch_at, standing_id, standing_at, with_standing, without_branch}
-use Rattle.node_rules.specs.Commit.{acked_by, next_turn}
+use Rattle.node_rules.specs.Inputs.{Came}
+use Rattle.node_rules.specs.Kept.{Kept, Branch, Deed, live_id, live_at, branch_at}
 use Rattle.node_rules.specs.Records.{applied}
-use Rattle.node_rules.specs.Prepare.{act_turn, collecting, is_alone, with_comment, without_read_keys, sealed_of, decided_of, own_changes, ready}
+use Rattle.node_rules.specs.Prepare.{act_turn, is_alone, sealed_of, decided_of, own_changes, ready}
 use Rattle.node_rules.specs.Sessions.{session_at, commit_complete, commit_ended, commit_answer}
-use Rattle.node_rules.specs.Statement.{ran, after_run}
 use Rattle.node_rules.specs.Words.{same, put_item, drop_item}
-use Rattle.redo_record.specs.Rows.{decided_as, has_neighbors}
-use Rattle.session_tree.specs.Live.{new_edge}
 use Rattle.tree_laws.specs.AskLaws.{way_of}
 use Rattle.node_rules.proofs.StandLemmas.{live_so}
 use Rattle.node_rules.proofs.Steps as steps
 use Rattle.node_rules.proofs.Steps.{Acting, Asked, Collects, Collected, Pointed, Answers, Doing, Drops, IsKept, Step}
-use Rattle.run_laws.proofs.ListLemmas.{any_more}
-use Rattle.run_laws.proofs.RestStepLemmas.{going_of}
 use Rattle.stray_laws.proofs.AloneLemmas.{alone_or_kept}
-use Rattle.stray_laws.proofs.LastLemmas.{Lasts, Spares, has_row, is_living, row_applied, sealed_row, decided_row, lives_put, lives_drop, acked_row}
-use Rattle.stray_laws.proofs.SessionLemmas.{Keeps, answers_of, same_keeps, commit_keeps, alone_keeps, decision_keeps, abandon_keeps, answered_keeps, going_keeps, heard_same, own_ends, own_free}
+use Rattle.stray_laws.proofs.LastLemmas.{Lasts, Spares, has_row, is_living, row_applied, sealed_row, decided_row, lives_put, lives_drop}
+use Rattle.stray_laws.proofs.SessionLemmas.{Keeps, answers_of, same_keeps, commit_keeps, alone_keeps, abandon_keeps, own_ends, own_free}
 
 -- whether a message may end the COMMIT of a root that waits, or begins no collect of one
 abbrev pub upsets : Kind → Bool

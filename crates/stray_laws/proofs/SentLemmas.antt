@@ -1,19 +1,17 @@
 -- A branch below another began with an Open of its parent that was sent to its node.
-use Rattle.std.proofs.Common.{◌≡◌, ℕ, zero, suc, Bool, true, false, if◌then◌else◌, find, List, [], ◌∷◌, ◌++◌, Option, Some, None, refl, sym, ap, subst, ◌∙◌}
+use Rattle.std.proofs.Common.{◌≡◌, ℕ, Bool, true, false, if◌then◌else◌, find, List, [], ◌∷◌, ◌++◌, Option, Some, None, refl, sym, ap, subst, ◌∙◌}
 use Rattle.std.specs.List.{AllByRecursion}
 use Rattle.std.proofs.lemmas.Bool.{cond_both}
 use Rattle.node_rules.specs.Data.{BranchId, Kind, Opening, Place, Input, Post, Stmt}
 use Rattle.node_rules.specs.Data.inputs
 use Rattle.node_rules.specs.Data.kinds
-use Rattle.node_rules.specs.Words.{numbered}
 use Rattle.node_rules.specs.Inputs.{Came}
 use Rattle.node_rules.specs.Kept.{Kept}
 use Rattle.node_rules.specs.Calls.{is_opening}
 use Rattle.node_rules.specs.Client.{new_root}
 use Rattle.node_rules.specs.Sessions.{session_at}
-use Rattle.run_laws.specs.Births.{Born, born_id, root_born, roots_by, births_by_call, births_by_open, births_by_kind, births_by, births_at, births_after, births_from, births_of}
-use Rattle.run_laws.specs.BirthLaws.{Began, IsChildAt, GoesSo}
-use Rattle.run_laws.specs.Data.{Took, Turn, Happening}
+use Rattle.run_laws.specs.Births.{Born, root_born, roots_by, births_by_call, births_by_open, births_by_kind, births_by, births_at, births_after, births_from, births_of}
+use Rattle.run_laws.specs.Data.{Took, Happening}
 use Rattle.run_laws.specs.Data.happenings
 use Rattle.run_laws.specs.Facts.{Facts, first_facts, place_at, node_at}
 use Rattle.run_laws.specs.InTurnLaws.{said_in}
@@ -111,4 +109,3 @@ module _ (t : History) (whole : IsLawfulRun t) where
   pub opened_at : (hs : List Happening) → Part t whole hs → AreOpened hs
   unfolding births_from
   opened_at hs part = keep_on t whole AreOpened opened_on [] hs part tt
-

@@ -1,11 +1,10 @@
 -- A session whose transaction is another's, or that has none, stays as it was where a COMMIT or a statement ends, and the
 -- COMMIT of its own transaction ends once, with its answer.
-use Rattle.std.proofs.Common.{◌≡◌, ◌≢◌, ℕ, ◌==◌, ◌&&◌, Bool, true, false, if◌then◌else◌, List, [], ◌∷◌, ◌++◌, map, filter, is_none, unwrap_or, Option, Some, None, inl, inr, refl, sym, ap, subst, ◌∙◌}
+use Rattle.std.proofs.Common.{◌≡◌, ◌≢◌, ℕ, ◌==◌, ◌&&◌, Bool, true, false, if◌then◌else◌, List, [], ◌∷◌, map, filter, is_none, unwrap_or, Option, Some, None, inl, inr, refl, sym, ap, subst, ◌∙◌}
 use Rattle.std.proofs.lemmas.Bool.{cond_both, and_parts, eqb-true, eq-eqb}
 use Rattle.tran_ids.proofs.BranchLemmas.{equal_from_same, same_from_equal}
 use Rattle.node_rules.specs.Data.{Answer, BranchId, Decision, Live}
 use Rattle.node_rules.specs.Data.decisions
-use Rattle.node_rules.specs.declared.session.PendingCall.{PendingCall}
 use Rattle.node_rules.specs.declared.session.PendingCall.TheVariants as pending
 use Rattle.node_rules.specs.declared.session.Session.{Session}
 use Rattle.node_rules.specs.declared.session.Finished.{Finished}
@@ -14,7 +13,7 @@ use Rattle.node_rules.specs.Commit.{decided_sessions, decision_answers}
 use Rattle.node_rules.specs.Prepare.{abandoned_sessions, abandon_ends}
 use Rattle.node_rules.specs.Refusals.{dtx}
 use Rattle.node_rules.specs.Sessions.{fresh_session, session_at, with_call, needs_rollback, no_transaction, is_commit, commit_is_pending, commit_ended, commit_answer, tran_refusal}
-use Rattle.node_rules.specs.Words.{same, numbered, set_numbered}
+use Rattle.node_rules.specs.Words.{numbered, set_numbered}
 use Rattle.session_tree.specs.Live.{is_branch}
 use Rattle.node_rules.proofs.StandLemmas.{session_set}
 use Rattle.run_laws.proofs.RootLemmas.{session_or_before}

@@ -1,6 +1,6 @@
 -- The answer of an undisturbed COMMIT: as long as it is pending its root is live, or has a row that has not forgot. (SQL
 -- Language Reference: COMMIT; Database Administrator's Guide, "Distributed Transactions Concepts": commit and forget phases.)
-use Rattle.std.specs.Prelude.{◌≡◌, ◌≢◌, List, [], ◌∷◌, None, Some}
+use Rattle.std.specs.Prelude.{◌≡◌, ◌≢◌, [], ◌∷◌, None, Some}
 use Rattle.std.specs.List.{AllByRecursion}
 use Rattle.node_rules.specs.Data.{BranchId}
 use Rattle.node_rules.specs.Data.kinds
