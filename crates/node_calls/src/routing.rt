@@ -71,9 +71,14 @@ pub(crate) fn statement_at(
             call_over(memory, alloc, branch, edge, passed, given)
         }
         Way::Through { node, link, table } => {
-            let passed = passed_on(alloc, statement, table)?;
             let link = link.copy(alloc)?;
-            open_through(memory, alloc, branch, node, link, passed, given)
+            match passed_on(alloc, statement, table) {
+                Err(error) => {
+                    drop(link);
+                    Err(error)
+                }
+                Ok(passed) => open_through(memory, alloc, branch, node, link, passed, given),
+            }
         }
     }
 }

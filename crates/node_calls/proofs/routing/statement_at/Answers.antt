@@ -65,12 +65,12 @@ returns-in_ok-passed-in-Over-clause-gives c =
     over_so m.place (kept_in m) c.args.branch.now c.in-Some.live.now (sym c.in-Some.ensures.live) c.args.statement.now c.args.given c.in-Over.edge c.in-Over.table.now c.in_ok-passed-in-Over.passed
     (kept_in c.call_over.new.memory) c.call_over.result way c.in_ok-passed-in-Over.ensures c.call_over.ensures.gives
 
-pub returns-in_ok-link-in-Through-clause-gives : goal.returns-in_ok-link-in-Through-clause-gives
-returns-in_ok-link-in-Through-clause-gives c =
+pub returns-in-Ok-clause-gives : goal.returns-in-Ok-clause-gives
+returns-in-Ok-clause-gives c =
     let m = c.args.memory.now in
     let way = sym (c.in-Through.ensures (stored_in m).durable refl) in
     through_so m.place (kept_in m) c.args.branch.now c.in-Some.live.now (sym c.in-Some.ensures.live) c.args.statement.now c.args.given c.in-Through.node c.in-Through.link.now c.in-Through.table.now
-    c.in_ok-link-in-Through.link c.in_ok-passed-in-Through.passed (kept_in c.open_through.new.memory) c.open_through.result way c.in_ok-passed-in-Through.ensures c.in_ok-link-in-Through.ensures c.open_through.ensures.gives
+    c.in_ok-link-in-Through.link c.in-Ok.passed (kept_in c.open_through.new.memory) c.open_through.result way c.in-Ok.ensures c.in_ok-link-in-Through.ensures c.open_through.ensures.gives
 
 pub open_through-requires : goal.open_through-requires
 open_through-requires c =
