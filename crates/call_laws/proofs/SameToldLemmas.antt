@@ -22,7 +22,7 @@ pub record SameTold (t u : Telling) : Type 0 where
 same_told : (t : Telling) → SameTold t t
 same_told t = record { calls = refl; next_call = refl; page = refl; lines = refl }
 
-then_told : (t u v : Telling) → SameTold t u → SameTold u v → SameTold t v
+pub then_told : (t u v : Telling) → SameTold t u → SameTold u v → SameTold t v
 then_told t u v one two = record { calls = two.calls ∙ one.calls; next_call = two.next_call ∙ one.next_call; page = two.page ∙ one.page; lines = two.lines ∙ one.lines }
 
 module _ (t : Telling) where
@@ -45,11 +45,11 @@ module _ (t : Telling) where
   arms_told n k (inputs.Call session (Some (stmts.Commit (Some comment)))) = cond_both (is_none (session_at k.sessions session).code) _ t (SameTold t) (λ none. point_told _ _ _) (λ some. same_told t)
   arms_told n k _ = same_told t
 
-  took_told : (o : Option Took) → SameTold t (delivered_more t o)
+  pub took_told : (o : Option Took) → SameTold t (delivered_more t o)
   took_told None = same_told t
   took_told (Some took) = record { calls = refl; next_call = refl; page = refl; lines = refl }
 
-turn_told : (t : Telling) (n : ℕ) (input : Input) (k : Option Kept) (o : Option Outcome) → SameTold t (turn_appends t n input k o)
+pub turn_told : (t : Telling) (n : ℕ) (input : Input) (k : Option Kept) (o : Option Outcome) → SameTold t (turn_appends t n input k o)
 turn_told t n input (Some k) (Some o) =
     let u : Telling = cut_appends t n (is_some o.wrote) (cut_by t n k input o) in then_told t u (arms u n k input) (cut_told t n (is_some o.wrote) (cut_by t n k input o)) (arms_told u n k input)
 turn_told t n input None o = same_told t

@@ -14,11 +14,14 @@ pub mod PastLemmas
 pub mod OpenSentLemmas
 pub mod LineLemmas
 pub mod LineKeepLemmas
+pub mod LineBranchLemmas
+pub mod LineCallLemmas
 pub mod LineStepLemmas
 pub mod LineGrowLemmas
 pub mod GivenLemmas
 pub mod PartLemmas
 pub mod NoCallLemmas
+pub mod LineTurnLemmas
 pub mod LineRunLemmas
 pub mod LeadLemmas
 pub mod RootToldLemmas

@@ -12,28 +12,9 @@ use Rattle.run_laws.specs.Telling.{Telling, Call}
 use Rattle.run_laws.specs.Lines.{is_reached, says_node, is_down, call_line_of, reached_line, call_line}
 use Rattle.run_laws.specs.Calls.{is_call_at, call_at, without_call, change_call, is_complete, second_of, call_follows, call_ends, ends_or_follows, finished_call, finished, stopped_calls}
 use Rattle.run_laws.proofs.ListLemmas.{all_filter}
+use Rattle.call_laws.proofs.CallAtLemmas.{find_kept, find_left}
 
 -- ---- lists
-
-module _ (p r : Call → Bool) where
-  keeps : ((x : Call) → p x ≡ true → r x ≡ true) → (xs : List Call) → find p (filter r xs) ≡ find p xs
-  keeps so [] = refl
-  keeps so (x ∷ xs) = by (r x) (p x) refl refl (keeps so xs)
-    where
-      by : (q w : Bool) → r x ≡ q → p x ≡ w → find p (filter r xs) ≡ find p xs → find p (if q then x ∷ filter r xs else filter r xs) ≡ (if w then Some x else find p xs)
-      by true true kept is rest = ap (λ b. if b then Some x else find p (filter r xs)) is
-      by true false kept is rest = ap (λ b. if b then Some x else find p (filter r xs)) is ∙ rest
-      by false true kept is rest = absurd (let yes : r x ≡ true = so x is in cc (yes, kept))
-      by false false kept is rest = rest
-
-  drops : ((x : Call) → p x ≡ true → r x ≡ false) → (xs : List Call) → find p (filter r xs) ≡ None
-  drops so [] = refl
-  drops so (x ∷ xs) = by (r x) (p x) refl refl (drops so xs)
-    where
-      by : (q w : Bool) → r x ≡ q → p x ≡ w → find p (filter r xs) ≡ None → find p (if q then x ∷ filter r xs else filter r xs) ≡ None
-      by true true kept is rest = absurd (let no : r x ≡ false = so x is in cc (no, kept))
-      by true false kept is rest = ap (λ b. if b then Some x else find p (filter r xs)) is ∙ rest
-      by false w kept is rest = rest
 
 module _ (p : Call → Bool) (g : Call → Call) where
   map_find : (xs : List Call) (y : Call) → AllByRecursion (λ x. p (g x) ≡ p x) xs → find p (map g xs) ≡ Some y → (x : Call) × (find p xs ≡ Some x) × (g x ≡ y)
@@ -108,12 +89,12 @@ module _ (asked : List Command) where
       so x is = let parts = parts_of node s x is in ap (λ i. not ((i == m) && (x.session == q))) parts.0 ∙ ap (λ i. not ((node == m) && (i == q))) parts.1
 
       by : (b : Bool) → ((node == m) && (s == q)) ≡ b → (d : Call) × (call_at t node s ≡ Some d) × (d.command ≡ c.command)
-      by true here = absurd (let none : find (is_call_at node s) (filter (λ x. not (is_call_at m q x)) t.calls) ≡ None = drops (is_call_at node s) (λ x. not (is_call_at m q x)) (λ x is. so x is ∙ ap not here) t.calls in cc (none, at))
-      by false other = (c, sym (keeps (is_call_at node s) (λ x. not (is_call_at m q x)) (λ x is. so x is ∙ ap not other) t.calls) ∙ at, refl)
+      by true here = absurd (let none : find (is_call_at node s) (filter (λ x. not (is_call_at m q x)) t.calls) ≡ None = find_left (is_call_at node s) (λ x. not (is_call_at m q x)) (λ x is. so x is ∙ ap not here) t.calls in cc (none, at))
+      by false other = (c, sym (find_kept (is_call_at node s) (λ x. not (is_call_at m q x)) (λ x is. so x is ∙ ap not other) t.calls) ∙ at, refl)
 
   without_none : (t : Telling) (n s m q : ℕ) → n ≡ m → s ≡ q → call_at (without_call t m q) n s ≡ None
   without_none t n s m q node session =
-      drops (is_call_at n s) (λ x. not (is_call_at m q x))
+      find_left (is_call_at n s) (λ x. not (is_call_at m q x))
       (λ x is. (let parts = parts_of n s x is in let here : is_call_at m q x ≡ true = and_from (x.node == m) (x.session == q) (eq-eqb x.node m (parts.0 ∙ node)) (eq-eqb x.session q (parts.1 ∙ session)) in ap not here)) t.calls
 
   without_named : (t : Telling) (m q : ℕ) → AreNamed t → AreNamed (without_call t m q)

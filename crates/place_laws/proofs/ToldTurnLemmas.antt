@@ -1,17 +1,15 @@
 -- Each line of a run that has the answer of a node comes from a turn that ended the pending call of its command.
 use Rattle.std.proofs.Common.{◌≡◌, ℕ, ◌+◌, ◌==◌, ◌&&◌, not, Bool, true, false, List, [], ◌∷◌, ◌++◌, find, length, slice_get, is_none, Option, Some, None, refl, sym, ap, subst, ◌∙◌, append-nil}
-use Rattle.std.specs.Prelude.{is_some, take}
+use Rattle.std.specs.Prelude.{take}
 use Rattle.std.specs.List.{AllByRecursion}
 use Rattle.std.proofs.lemmas.Bool.{cond_both}
 use Rattle.std.proofs.lemmas.List.{append_assoc}
-use Rattle.node_rules.specs.Data.{Answer, BranchId, Input, Place, Stmt}
+use Rattle.node_rules.specs.Data.{Answer, Input, Place, Stmt}
 use Rattle.node_rules.specs.Data.inputs
-use Rattle.node_rules.specs.Data.stmts
 use Rattle.node_rules.specs.Kept.{Kept, Outcome}
-use Rattle.node_rules.specs.Sessions.{session_at}
 use Rattle.run_laws.specs.Calls.{is_call_at, call_at, waits, waits_if_pending, after_input, finished, stopped_calls}
 use Rattle.run_laws.specs.Commands.{commits_first, has_transaction, call_of, has_call, calls_after, says_at_once}
-use Rattle.run_laws.specs.Cuts.{Cut_by, By_nothing, By_strike, By_point, appends, appends_if, cut_appends, cut_by, arms_point, arms, turn_appends}
+use Rattle.run_laws.specs.Cuts.{appends, turn_appends}
 use Rattle.run_laws.specs.Data.{AnswerLine, Command, Happening, Said, Took, Turn}
 use Rattle.run_laws.specs.Data.commands
 use Rattle.run_laws.specs.Data.happenings
@@ -23,6 +21,7 @@ use Rattle.run_laws.proofs.ListLemmas.{all_append}
 use Rattle.run_laws.specs.Past.{delivered_more, is_call, without_following, ends_calls, acts, telling_turned, failed_start, start_refused, is_stop_of, stop_line, started_says, telling_started, next, past}
 use Rattle.run_laws.specs.Places.{node_line}
 use Rattle.run_laws.specs.Telling.{Call, Past, Telling, orders_at, start}
+use Rattle.call_laws.proofs.SameToldLemmas.{SameTold, then_told, turn_told, took_told}
 use Rattle.place_laws.specs.ToldLaws.{LinesComeFromTurns}
 use Rattle.place_laws.proofs.ToldCallLemmas.{AreNamed, IsNamed, call_named, were_same, Left, all_left, stopped_named}
 use Rattle.place_laws.proofs.ToldLineLemmas.{LineFrom, LinesFrom, From, world_from, told_from, same_from, own_from, finished_from, stopped_from, says_world, started_world}
@@ -32,55 +31,19 @@ use Rattle.place_laws.proofs.ReplyRunLemmas.{happens_at, prefix}
 -- ---- what leaves calls and lines
 
 -- The same calls are pending and the same is told.
-record SameTold (t u : Telling) : Type 0 where
+record StaysTold (t u : Telling) : Type 0 where
   calls : u.calls ≡ t.calls
   page : u.page ≡ t.page
   lines : u.lines ≡ t.lines
 
-same_told : (t : Telling) → SameTold t t
-same_told t = record { calls = refl; page = refl; lines = refl }
-
-then_told : (t u v : Telling) → SameTold t u → SameTold u v → SameTold t v
-then_told t u v one two = record { calls = two.calls ∙ one.calls; page = two.page ∙ one.page; lines = two.lines ∙ one.lines }
-
-module _ (t : Telling) where
-  appends_told : (n : ℕ) (writes : Bool) → SameTold t (appends_if t n writes)
-  appends_told n true = record { calls = refl; page = refl; lines = refl }
-  appends_told n false = same_told t
-
-  cut_told : (n : ℕ) (writes : Bool) (c : Cut_by) → SameTold t (cut_appends t n writes c)
-  cut_told n writes By_nothing = appends_told n writes
-  cut_told n writes (By_strike stands) = appends_told n writes
-  cut_told n writes (By_point root numbers stands) = let is = appends_told n stands in record { calls = is.calls; page = is.page; lines = is.lines }
-
-  point_told : (b : Option BranchId) (c : Option Call) (number : Option ℕ) → SameTold t (arms_point t b c number)
-  point_told (Some root) (Some c) (Some number) = record { calls = refl; page = refl; lines = refl }
-  point_told None c number = same_told t
-  point_told (Some root) None number = same_told t
-  point_told (Some root) (Some c) None = same_told t
-
-  arms_told : (n : ℕ) (k : Kept) (input : Input) → SameTold t (arms t n k input)
-  arms_told n k (inputs.Call session (Some (stmts.Commit (Some comment)))) = cond_both (is_none (session_at k.sessions session).code) _ t (SameTold t) (λ none. point_told _ _ _) (λ some. same_told t)
-  arms_told n k _ = same_told t
-
-  took_told : (o : Option Took) → SameTold t (delivered_more t o)
-  took_told None = same_told t
-  took_told (Some took) = record { calls = refl; page = refl; lines = refl }
-
-  following_told : (input : Input) → SameTold t (without_following t input)
-  following_told input = cond_both (is_call input) (record t { next_call = None }) t (SameTold t) (λ call. record { calls = refl; page = refl; lines = refl }) (λ other. same_told t)
-
-turn_told : (t : Telling) (n : ℕ) (input : Input) (k : Option Kept) (o : Option Outcome) → SameTold t (turn_appends t n input k o)
-turn_told t n input (Some k) (Some o) =
-    let u : Telling = cut_appends t n (is_some o.wrote) (cut_by t n k input o) in then_told t u (arms u n k input) (cut_told t n (is_some o.wrote) (cut_by t n k input o)) (arms_told u n k input)
-turn_told t n input None o = same_told t
-turn_told t n input (Some k) None = same_told t
-
-before_told : (t : Telling) (n : ℕ) (input : Input) (k : Option Kept) (o : Option Outcome) (took : Option Took) → SameTold t (without_following (delivered_more (turn_appends t n input k o) took) input)
+-- so it is before a turn's calls end
+before_told : (t : Telling) (n : ℕ) (input : Input) (k : Option Kept) (o : Option Outcome) (took : Option Took) → StaysTold t (without_following (delivered_more (turn_appends t n input k o) took) input)
 before_told t n input k o took =
     let u : Telling = turn_appends t n input k o in
     let v : Telling = delivered_more u took in
-    then_told t u (without_following v input) (turn_told t n input k o) (then_told u v (without_following v input) (took_told u took) (following_told v input))
+    let same : SameTold t v = then_told t u v (turn_told t n input k o) (took_told u took) in
+    let stays : StaysTold t v = record { calls = same.calls; page = same.page; lines = same.lines } in
+    cond_both (is_call input) (record v { next_call = None }) v (StaysTold t) (λ call. record { calls = same.calls; page = same.page; lines = same.lines }) (λ other. stays)
 
 -- what is said after a turn
 module _ (P : ℕ → Answer → Type 0) (running : ℕ) (t : Telling) where
@@ -191,7 +154,7 @@ module _ (places : List Place) (asked : List Command) where
       abbrev t1 : Telling
       t1 = without_following (delivered_more (turn_appends t u.node u.input (node_at f u.node) o) u.took) u.input
 
-      same : SameTold t t1
+      same : StaysTold t t1
       same = before_told t u.node u.input (node_at f u.node) o u.took
 
       named1 : AreNamed asked t1
