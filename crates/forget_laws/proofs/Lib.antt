@@ -20,3 +20,6 @@ pub mod DecidedEndLemmas
 pub mod NearLemmas
 pub mod AckedLemmas
 pub mod RowsGoLemmas
+pub mod PendingLemmas
+pub mod CallStepLemmas
+pub mod CallRunLemmas

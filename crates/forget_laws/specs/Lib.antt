@@ -2,3 +2,4 @@ pub mod RowLaws
 pub mod ForgetLaws
 pub mod GoneLaws
 pub mod TriedForget
+pub mod CallLaws
