@@ -9,7 +9,7 @@ use Rattle.node_rules.specs.declared.session.PendingCall.TheVariants as pending
 use Rattle.node_rules.specs.Kept.{Kept, standing_at}
 use Rattle.node_rules.specs.Sessions.{session_at}
 use Rattle.net_bag.specs.Net.{packet_at}
-use Rattle.run_laws.specs.Births.{Born, root_born, child_born, births_from}
+use Rattle.run_laws.specs.Births.{root_born, child_born, births_from}
 use Rattle.run_laws.specs.Branches.{is_among}
 use Rattle.run_laws.specs.Data.{Happening, Packet, Turn}
 use Rattle.run_laws.specs.Data.happenings
