@@ -75,9 +75,6 @@ module _ (t : History) (whole : IsLawfulRun t) (c : Commit t.places t.commands t
   abbrev node : c.call.node ≡ r.node
   node = call.node t whole c
 
-  abbrev k : Kept
-  k = c.kept
-
   abbrev answered : List Happening → List Answer
   answered mid = answers_from t.places t.commands f0 c.call.node m (first ∷ mid)
 

@@ -1,5 +1,5 @@
 -- The turn of an undisturbed COMMIT's call: it is pending from then on, or is answered at once.
-use Rattle.std.proofs.Common.{◌≡◌, ◌≢◌, ℕ, true, false, List, [], ◌∷◌, ◌++◌, is_none, Some, None, inl, inr, refl, sym, ap, subst, ◌∙◌}
+use Rattle.std.proofs.Common.{◌≡◌, ◌≢◌, ℕ, true, false, List, [], ◌∷◌, is_none, Some, None, inl, inr, refl, sym, ap, subst, ◌∙◌}
 use Rattle.std.proofs.lemmas.Bool.{cond_both}
 use Rattle.node_rules.specs.Data.{Act, BranchId, Edge, Input, Live}
 use Rattle.node_rules.specs.Data.acts
@@ -54,9 +54,6 @@ module _ (t : History) (whole : IsLawfulRun t) (c : Commit t.places t.commands t
 
   abbrev first : Happening
   first = happenings.Turn c.call
-
-  abbrev after : List Happening
-  after = c.before ++ first ∷ []
 
   abbrev lawful0 : IsLawfulRun (so_far t c.before)
   lawful0 = call.lawful0 t whole c

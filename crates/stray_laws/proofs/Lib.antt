@@ -1,3 +1,4 @@
+mod TriedStrayLemmas
 pub mod TreeLemmas
 pub mod SessionLemmas
 pub mod LastLemmas

@@ -30,11 +30,11 @@ use Rattle.run_laws.proofs.AtNodeLemmas.{turn_here, turn_elsewhere, stop_here, s
 use Rattle.run_laws.proofs.BirthLemmas.{Begins, Child_begins, None_begins, Root_begins, begins_so}
 use Rattle.run_laws.proofs.BirthRunLemmas.{born_are_live_or_left}
 use Rattle.run_laws.proofs.BootLemmas.{IsOfTurn, step_of_turn, boots_started, boots_with}
-use Rattle.run_laws.proofs.EventsStandLemmas.{node_so, run_stands}
+use Rattle.run_laws.proofs.EventsStandLemmas.{run_stands}
 use Rattle.run_laws.proofs.LawfulLemmas.{serves, of_wrote}
 use Rattle.run_laws.proofs.OwnLemmas.{all_found}
 use Rattle.run_laws.proofs.TurnEventLemmas.{cases_nat, number_is}
-use Rattle.tree_laws.proofs.PrefixLemmas.{so_far, f_at, e_at, one_on, births_join}
+use Rattle.tree_laws.proofs.PrefixLemmas.{so_far, f_at, one_on, births_join}
 use Rattle.site_laws.proofs.TimeLemmas.{part_of, part_lawful, may_of, keep_on}
 use Rattle.stray_laws.proofs.TreeLemmas.{find_kept, find_either, find_last}
 
@@ -171,9 +171,6 @@ module _ (t : History) (whole : IsLawfulRun t) where
     same_boots =
         let of_turn : IfSome u.wrote IsOfTurn = of_wrote p k u (serves t.places f1 u k may.1) (λ w. IfSome w IsOfTurn) tt (step_of_turn p u.input (serves t.places f1 u k may.1).step) in
         ap boots here.1 ∙ boots_with (records_at f1 u.node) u.wrote of_turn
-
-    started : k.stored.durable.boot ≡ boots (records_at f1 u.node)
-    started = (let node = node_so t.places t.commands t.of_a_script.each f1 (e_at t hs) (run_stands s1 lawful1) u.node k may.1.up in ap (λ z. z.durable.boot) node.stored ∙ node.boot)
 
     -- those that began before stay answers
     old_stay : (x : Born) → IsAnswerTo u.node (boots (records_at f1 u.node)) k x → IsAnswerTo u.node (boots (records_at g1 u.node)) d.after x

@@ -86,9 +86,6 @@ module _ (t : History) (whole : IsLawfulRun t) (c : Commit t.places t.commands t
   abbrev r : BranchId
   r = c.root
 
-  abbrev f0 : Facts
-  f0 = f_at t c.before
-
   abbrev first : Happening
   first = happenings.Turn c.call
 

@@ -9,6 +9,7 @@
 
 ghost use Rattle.stray_laws.specs.StrayLaws.{OpensAreSentOnce, EdgesHaveOneChild, UndisturbedBranchesAreAsked, UndisturbedBranchesLeave};
 ghost use Rattle.stray_laws.specs.CallLaws.{UndisturbedCallsEnd};
+ghost use Rattle.stray_laws.specs.TriedStray.{TheTriedStray};
 
 /// In every lawful run a branch sent the Open of each of its edges once at most.
 pub fn opens_are_sent_once()
@@ -34,4 +35,10 @@ pub fn undisturbed_branches_leave()
 /// dropped and none said Abort.
 pub fn undisturbed_calls_end()
     ensures { UndisturbedCallsEnd }
+{}
+
+/// None of this is about nothing: in the tried run of two nodes one Open is sent, B is asked, and A's COMMIT waits with A and
+/// then with its row; where B's node starts again and the Open comes again, a second branch begins over the same edge.
+pub fn the_tried_stray()
+    ensures { TheTriedStray }
 {}
