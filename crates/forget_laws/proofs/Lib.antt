@@ -20,6 +20,3 @@ pub mod DecidedEndLemmas
 pub mod NearLemmas
 pub mod AckedLemmas
 pub mod RowsGoLemmas
-pub mod PendingLemmas
-pub mod CallStepLemmas
-pub mod CallRunLemmas

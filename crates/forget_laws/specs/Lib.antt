@@ -2,4 +2,3 @@ pub mod RowLaws
 pub mod ForgetLaws
 pub mod GoneLaws
 pub mod TriedForget
-pub mod CallLaws

@@ -7,7 +7,6 @@
 //! farthest from the site first, and all forgot, the nearest first: no node keeps a row of it (`specs/GoneLaws.antt`).
 #![tactic(auto)]
 
-ghost use Rattle.forget_laws.specs.CallLaws.{PendingRootsAreThere};
 ghost use Rattle.forget_laws.specs.ForgetLaws.{AcksAreNoted, ForgottensAreHeard, ForgetsAreTold, ForgetsComeFromToward};
 ghost use Rattle.forget_laws.specs.GoneLaws.{EndedBranchesGo, EndedRowsGo, UndisturbedRowsGo};
 ghost use Rattle.forget_laws.specs.RowLaws.{RowsTell};
@@ -57,11 +56,6 @@ pub fn ended_branches_go()
 /// commit.
 pub fn undisturbed_rows_go()
     ensures { UndisturbedRowsGo }
-{}
-
-/// A root whose COMMIT is pending is live, or has a row.
-pub fn pending_roots_are_there()
-    ensures { PendingRootsAreThere }
 {}
 
 /// No law of the forget phase is about nothing: in the tried run of two nodes B acknowledges, A, the site, waits for it,
