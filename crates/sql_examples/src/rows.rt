@@ -270,13 +270,14 @@ fn needed(alloc: Global, table: &Name, rows: &Changes, changes: Changes) -> Resu
     }
 }
 
-/// The extents that the undo of removing two rows needs, with texts of these lengths.
-fn needed_to_remove(alloc: Global, lengths: (usize, usize)) -> Result<u64, AllocError> {
+/// The extents that the undo of removing three rows needs, with texts of 1,340 bytes, as many again, and so many.
+fn needed_to_remove(alloc: Global, last: usize) -> Result<u64, AllocError> {
     let table = table(alloc)?;
     let mut rows = Changes::new(alloc);
-    rows.push(long_change(alloc, &table, 0, lengths.0)?)?;
-    rows.push(long_change(alloc, &table, 1, lengths.1)?)?;
-    let gone = changes(alloc, &table, &[(0, None), (1, None)])?;
+    rows.push(long_change(alloc, &table, 0, 1340)?)?;
+    rows.push(long_change(alloc, &table, 1, 1340)?)?;
+    rows.push(long_change(alloc, &table, 2, last)?)?;
+    let gone = changes(alloc, &table, &[(0, None), (1, None), (2, None)])?;
     needed(alloc, &table, &rows, gone)
 }
 
@@ -291,8 +292,8 @@ fn needed_to_insert(alloc: Global, count: i64) -> Result<u64, AllocError> {
 #[test]
 fn undo_keeps_the_row_from_before(rt: HostRuntime) {
     // each removed row takes 25 bytes beside its text, and an extent has 4,096
-    assert!(rt; needed_to_remove(rt.alloc(), (2000, 2046)) == Ok(1));
-    assert!(rt; needed_to_remove(rt.alloc(), (2000, 2047)) == Ok(2));
+    assert!(rt; needed_to_remove(rt.alloc(), 1341) == Ok(1));
+    assert!(rt; needed_to_remove(rt.alloc(), 1342) == Ok(2));
     // a new row has none from before: 12 bytes each
     assert!(rt; needed_to_insert(rt.alloc(), 341) == Ok(1));
     assert!(rt; needed_to_insert(rt.alloc(), 342) == Ok(2));
