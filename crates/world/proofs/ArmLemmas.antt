@@ -22,13 +22,14 @@ use Rattle.script_read.specs.Sound.{IsInRange}
 use Rattle.std.specs.List.{AllByRecursion}
 use Rattle.world.specs.declared.world.World.{World}
 use Rattle.world.specs.Linked.{IsLinked}
-use Rattle.world.proofs.CountLemmas.{orders_counted}
+use Rattle.world_parts.proofs.CountLemmas.{orders_counted}
 use Rattle.run_laws.specs.Disks.{DiskOrders, Stop_order, no_orders, opens_gate}
 use Rattle.world.specs.declared.site.Site.{Site}
-use Rattle.world.specs.Orders.{ArmedAt, HasOrders, IsToCome, OrderedBy, OrdersAre, armed, how_as, ordered_at, stop_as}
+use Rattle.world_parts.specs.Orders.{HasOrders, IsToCome, armed, how_as, ordered_at, stop_as}
+use Rattle.world.specs.Orders.{ArmedAt, OrderedBy, OrdersAre}
 use Rattle.world.specs.Site.{site_disk}
 use Rattle.world.proofs.SiteLemmas.{get_at, same_of, set_at}
-use Rattle.world.proofs.StartOrders.{some_plan}
+use Rattle.world_parts.proofs.StartOrders.{some_plan}
 
 -- a disk with one order more
 armed_by : (order : Order) (before after : DiskState) (d : DiskOrders) → plan_of after.orders ≡ with_order (plan_of before.orders) order → IsToCome order → HasOrders d before → HasOrders (armed order d) after

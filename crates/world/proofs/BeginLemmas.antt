@@ -35,12 +35,12 @@ use Rattle.world.specs.declared.site.Site.{Site}
 use Rattle.world.specs.declared.world.World.{World}
 use Rattle.world.specs.Needs.{due_in}
 use Rattle.world.specs.Linked.{IsLinked, IsOrdered, OrdersStand}
-use Rattle.world.specs.Shown.{HasBegun, ShowDisks, Shown, ShowsDiskAt, shown_at}
+use Rattle.world_parts.specs.Shown.{HasBegun, ShowDisks, Shown, ShowsDiskAt, shown_at}
 use Rattle.world.specs.Site.{SiteIs, SitesAre, site_disk, bytes_of}
 use Rattle.world.specs.Sites.{AreMade, IsMade, MayShow, ShowsAfter, bytes_in_site, disk_at, shows_of}
 use Rattle.world.specs.Steps.{StepsOn}
 use Rattle.world.proofs.SiteLemmas.{read_at}
-use Rattle.world.proofs.BegunLemmas.{begins_fresh}
+use Rattle.world_parts.proofs.BegunLemmas.{begins_fresh}
 use Rattle.world.proofs.StepLemmas.{IsPushed, Leaves, begun_before, shows_on, split_end, stands_of, steps_on}
 
 -- the place of a site that was made

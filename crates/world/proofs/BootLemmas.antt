@@ -21,11 +21,12 @@ use Rattle.run_laws.proofs.AtNodeLemmas.{item_there, there_too}
 use Rattle.run_trace.specs.Recorded.{RunSoFar, past_of}
 use Rattle.world.specs.declared.site.Site.{Site}
 use Rattle.world.specs.declared.world.World.{World}
-use Rattle.world.specs.Orders.{HasOrders, OrdersAre}
+use Rattle.world_parts.specs.Orders.{HasOrders}
+use Rattle.world.specs.Orders.{OrdersAre}
 use Rattle.world.specs.Site.{SiteIs, SitesAre, has_to_fall, site_disk, bytes_of}
 use Rattle.world.specs.Starts.{HasBegun, HasBoot, HasBooted, boot_at}
 use Rattle.world.proofs.SiteLemmas.{SameAt, others_stay, own_and_others, same_or}
-use Rattle.world.proofs.StartLemmas.{next_started}
+use Rattle.world_parts.proofs.StartLemmas.{next_started}
 use Rattle.world.proofs.StepLemmas.{IsPushed, Leaves, Stands, shown_on, steps_to}
 
 -- ---- orders

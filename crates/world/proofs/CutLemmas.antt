@@ -31,12 +31,13 @@ use Rattle.telling.specs.Facts.{Cuts, KnownOfTurn}
 use Rattle.world.specs.declared.site.Site.{Site}
 use Rattle.world.specs.declared.turning.Begun.{Begun}
 use Rattle.world.specs.declared.world.World.{World}
-use Rattle.world.specs.Orders.{HasOrders, OrdersAre, OrdersLeft, cut_orders}
+use Rattle.world_parts.specs.Orders.{HasOrders, OrdersLeft, cut_orders}
+use Rattle.world.specs.Orders.{OrdersAre}
 use Rattle.world.specs.Site.{bytes_of, site_disk}
 use Rattle.world.specs.Steps.{StepsOn}
 use Rattle.world.specs.Stops.{HasStopped, IsPowered, StopsAt}
 use Rattle.world.specs.Turns.{IsCutDuringAt, IsTold, stands_by, stood}
-use Rattle.world.proofs.MailLemmas.{sent_none}
+use Rattle.world_parts.proofs.MailLemmas.{sent_none}
 use Rattle.world.proofs.SiteLemmas.{down_runs, same_of}
 use Rattle.world.proofs.StepLemmas.{IsPushed}
 use Rattle.world.proofs.StopLemmas.{pushed_in}

@@ -27,17 +27,18 @@ use Rattle.world.specs.declared.world.World.{World}
 use Rattle.world.specs.Halts.{HasHalted}
 use Rattle.world.specs.Linked.{IsLinked, OnlyFalls}
 use Rattle.world.specs.Needs.{DueNodesAreThere, EachStartsSeldom, due_in}
-use Rattle.world.specs.Orders.{HasOrders, OrdersAre, OrdersLeft, OtherOrdersAre}
+use Rattle.world_parts.specs.Orders.{HasOrders, OrdersLeft}
+use Rattle.world.specs.Orders.{OrdersAre, OtherOrdersAre}
 use Rattle.world.specs.Site.{has_to_fall, site_disk}
 use Rattle.world.specs.Starts.{HasBegun, HasBooted, IsTriedAt, boot_at}
 use Rattle.world.specs.Steps.{StepsOn, StepsTo}
-use Rattle.world.proofs.BegunLemmas.{falls_owed, starts_down, starts_settled, stops_command}
+use Rattle.world_parts.proofs.BegunLemmas.{falls_owed, starts_down, starts_settled, stops_command}
 use Rattle.world.proofs.BootLemmas.{counted_elsewhere, counted_here, other_falls}
 use Rattle.world.proofs.SiteLemmas.{same_or}
-use Rattle.world.proofs.StartLemmas.{next_started}
+use Rattle.world_parts.proofs.StartLemmas.{next_started}
 use Rattle.world.proofs.StartedLemmas.{powered_has}
 use Rattle.world.proofs.StopLemmas.{falls_next, next_stopped}
-use Rattle.world.proofs.ToStopLemmas.{stop_orders}
+use Rattle.world_parts.proofs.ToStopLemmas.{stop_orders}
 use Rattle.world.proofs.TryLemmas.{own_tried, start_is_down, start_there}
 
 -- ---- orders after a stop

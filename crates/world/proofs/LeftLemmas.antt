@@ -17,11 +17,11 @@ use Rattle.world.specs.declared.world.World.{World}
 use Rattle.world.specs.Needs.{due_in}
 use Rattle.world.specs.Left.{IsLeft, LinesStay, StillTells}
 use Rattle.world.specs.Linked.{IsHeld, IsLinked}
-use Rattle.world.specs.Shown.{ShowDisks, Shown, disk_told, is_place, shown_at, showing}
+use Rattle.world_parts.specs.Shown.{ShowDisks, Shown, disk_told, is_place, shown_at, showing}
 use Rattle.world.specs.Sites.{MayShow, ShowsAfter, shows_of}
-use Rattle.world.proofs.BegunLemmas.{begins_next_command}
-use Rattle.world.proofs.LineLemmas.{same_tells, told_of}
-use Rattle.world.proofs.PlaceLemmas.{IsNumbered, run_numbered}
+use Rattle.world_parts.proofs.BegunLemmas.{begins_next_command}
+use Rattle.world_parts.proofs.LineLemmas.{same_tells, told_of}
+use Rattle.world_parts.proofs.PlaceLemmas.{IsNumbered, run_numbered}
 use Rattle.world.proofs.StepLemmas.{all_on}
 
 -- ---- the lines of the commands before

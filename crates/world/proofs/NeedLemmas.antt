@@ -29,7 +29,7 @@ use Rattle.number_laws.specs.There.{DueMessagesAreThere as MessagesThereByRuns, 
 use Rattle.number_laws.specs.Turns.{DueTurnsFindAble, FindsAble, IsTurnDue}
 use Rattle.run_trace.specs.Recorded.{RunSoFar, past_of}
 use Rattle.world.specs.Needs.{IsOfScript, CanTake, DueTurnsCanBeTaken, DueMessagesAreThere, DueNodesAreThere, EachStartsSeldom, DeliveriesAreFew, due_in}
-use Rattle.world.specs.Shown.{history_of}
+use Rattle.world_parts.specs.Shown.{history_of}
 
 abbrev run_of : (r : RunSoFar) → IsOfScript r → History
 run_of r script = history_of r script.of_a_script

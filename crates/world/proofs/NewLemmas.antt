@@ -15,14 +15,14 @@ use Rattle.world.specs.declared.world.World.{World}
 use Rattle.world.specs.Linked.{IsLinked, PartsAre}
 use Rattle.byte_laws.specs.ByteRuns.{AsksSpelled}
 use Rattle.world.specs.Needs.{IsOfScript}
-use Rattle.world.specs.Shown.{HasBegun, ShowDisks, Shown}
+use Rattle.world_parts.specs.Shown.{HasBegun, ShowDisks, Shown}
 use Rattle.world.specs.Site.{SitesAre}
 use Rattle.world.specs.Sites.{AreMade}
 use Rattle.node_rules.specs.Words.{numbered}
 use Rattle.run_laws.specs.Disks.{DiskOrders, no_orders}
 use Rattle.run_laws.specs.Telling.{orders_at}
 use Rattle.world.specs.declared.site.Site.{Site}
-use Rattle.world.specs.Orders.{HasOrders}
+use Rattle.world_parts.specs.Orders.{HasOrders}
 use Rattle.world.specs.Site.{site_disk}
 use Rattle.world.proofs.BeginLemmas.{booted_once, made_at, made_sites}
 

@@ -16,9 +16,9 @@ use Rattle.world.specs.Left.{StillTells, TellsBetween}
 use Rattle.world.specs.Linked.{IsLinked}
 use Rattle.world.specs.Needs.{due_in}
 use Rattle.world.specs.Ran.{IsLeftBy, IsRan, as_ending, run_of}
-use Rattle.world.specs.Shown.{IsOnce, ShowDisks, Shown, disk_told, history_of, places_in}
-use Rattle.world.proofs.PlaceLemmas.{numbered_told, run_numbered}
-use Rattle.world.proofs.ToldLemmas.{before_are, told_are}
+use Rattle.world_parts.specs.Shown.{IsOnce, ShowDisks, Shown, disk_told, history_of, places_in}
+use Rattle.world_parts.proofs.PlaceLemmas.{numbered_told, run_numbered}
+use Rattle.world_parts.proofs.ToldLemmas.{before_are, told_are}
 
 -- ---- each command has one line at most that stands for a disk
 

@@ -34,13 +34,13 @@ use Rattle.run_laws.specs.Disks.{DiskOrders, Strike, struck}
 use Rattle.run_laws.specs.Telling.{Telling, orders_at}
 use Rattle.world.specs.declared.site.Site.{Site}
 use Rattle.world.specs.declared.site.Site.TheVariants.{Up, Down}
-use Rattle.world.specs.Orders.{HasOrders, OrdersLeft, cut_orders, orders_if}
+use Rattle.world_parts.specs.Orders.{HasOrders, OrdersLeft, cut_orders, orders_if}
 use Rattle.world.specs.Mail.{IsMailed}
 use Rattle.world.specs.Served.{CanServe, HasFailed, HasServed, NodeFailed, NodeServed}
 use Rattle.world.specs.Site.{RunsAt, bytes_of, images_of, site_disk, site_kept}
 use Rattle.world.specs.Turns.{TellsAll, stands_by, stood}
 use Rattle.world.proofs.SiteLemmas.{same_of}
-use Rattle.world.proofs.PlanLemmas.{no_strike, one_strike, same_plan, spared}
+use Rattle.world_parts.proofs.PlanLemmas.{no_strike, one_strike, same_plan, spared}
 
 -- ---- what cuts a turn
 

@@ -20,11 +20,12 @@ use Rattle.node_disk.specs.declared.node.Node.{Node}
 use Rattle.run_laws.specs.Disks.{DiskOrders, Strike, no_orders, struck}
 use Rattle.world.specs.declared.site.Site.{Site}
 use Rattle.world.specs.declared.site.Site.TheVariants.{Up}
-use Rattle.world.specs.Orders.{HasOrders, OrdersLeft, orders_as, stop_as}
+use Rattle.world_parts.specs.Orders.{HasOrders, OrdersLeft, orders_as, stop_as}
 use Rattle.world.specs.Site.{site_kept, site_disk, bytes_of, images_of}
-use Rattle.world.specs.Started.{IsTried, stands_in}
-use Rattle.world.proofs.CallRuns.{looks}
-use Rattle.world.proofs.StartOrders.{GoAs, some_plan, start_goes, start_stands}
+use Rattle.world_parts.specs.Orders.{stands_in}
+use Rattle.world.specs.Started.{IsTried}
+use Rattle.world_parts.proofs.CallRuns.{looks}
+use Rattle.world_parts.proofs.StartOrders.{GoAs, some_plan, start_goes, start_stands}
 use Rattle.world.proofs.SiteLemmas.{down_runs}
 
 -- bytes that hold records are some

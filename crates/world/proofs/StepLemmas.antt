@@ -10,7 +10,7 @@ use Rattle.run_trace.specs.Recorded.{RunSoFar, IsNext, happening_limit, past_of}
 use Rattle.world.specs.declared.world.World.{World}
 use Rattle.world.specs.Needs.{IsOfScript}
 use Rattle.world.specs.Linked.{AreCounted, IsHeld, PartsAre}
-use Rattle.world.specs.Shown.{HasBegun, ShowDisks, Shown, ShowsDiskAt}
+use Rattle.world_parts.specs.Shown.{HasBegun, ShowDisks, Shown, ShowsDiskAt}
 use Rattle.world.specs.Site.{SitesAre}
 use Rattle.world.specs.Steps.{StepsOn, StepsTo}
 

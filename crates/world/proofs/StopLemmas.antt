@@ -24,7 +24,7 @@ use Rattle.world.specs.Steps.{StepsOn}
 use Rattle.world.specs.Stops.{HasStopped}
 use Rattle.world.proofs.SiteLemmas.{SameAt, down_runs, site_set}
 use Rattle.world.proofs.StepLemmas.{IsPushed, Leaves, shown_on, stands_of, steps_on}
-use Rattle.world.proofs.ToStopLemmas.{stop_ends}
+use Rattle.world_parts.proofs.ToStopLemmas.{stop_ends}
 use Rattle.run_laws.specs.Due.{Due, Falls, Stops, comes_next, due_of}
 
 module _ (places : List Place) (commands : List Command) where

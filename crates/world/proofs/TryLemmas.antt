@@ -23,11 +23,12 @@ use Rattle.world.specs.Needs.{DueNodesAreThere, EachStartsSeldom, NamesNodes, du
 use Rattle.world.specs.Linked.{IsHeld, IsLinked}
 use Rattle.world.specs.Orders.{OrdersAre}
 use Rattle.world.specs.Site.{SiteIs, has_to_fall, up_at, site_disk, bytes_of}
-use Rattle.world.specs.Started.{CanStart, IsTried, TriedFrom, TriesAt, stands_in}
+use Rattle.world_parts.specs.Orders.{stands_in}
+use Rattle.world.specs.Started.{CanStart, IsTried, TriedFrom, TriesAt}
 use Rattle.world.specs.Starts.{HasBegun, IsTriedAt, boot_at}
-use Rattle.world.proofs.BegunLemmas.{starts_down}
+use Rattle.world_parts.proofs.BegunLemmas.{starts_down}
 use Rattle.world.proofs.SiteLemmas.{own_and_others, same_of}
-use Rattle.world.proofs.StartLemmas.{failed_starts_next, starts_next, struck_starts_next}
+use Rattle.world_parts.proofs.StartLemmas.{failed_starts_next, starts_next, struck_starts_next}
 
 not_up : (o : Option Kept) → is_some o ≡ false → o ≡ None
 not_up None is = refl

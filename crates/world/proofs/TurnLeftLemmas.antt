@@ -10,9 +10,9 @@ use Rattle.run_trace.specs.Recorded.{RunSoFar, past_of}
 use Rattle.world.specs.declared.world.World.{World}
 use Rattle.world.specs.Left.{StillTells}
 use Rattle.world.specs.Linked.{IsLinked}
-use Rattle.world.specs.Shown.{ShowDisks, Shown}
+use Rattle.world_parts.specs.Shown.{ShowDisks, Shown}
 use Rattle.world.proofs.StepLemmas.{all_on}
-use Rattle.world.proofs.ToStopLemmas.{turn_lines}
+use Rattle.world_parts.proofs.ToStopLemmas.{turn_lines}
 
 next_lines : (places : List Place) (asked : List Command) (p : Past) (u : Turn) → (next places asked p (happenings.Turn u)).telling.lines ≡ p.telling.lines
 unfolding next

@@ -24,13 +24,14 @@ use Rattle.world.specs.declared.site.Site.{Site}
 use Rattle.world.specs.declared.turning.Begun.{Begun}
 use Rattle.world.specs.declared.world.World.{World}
 use Rattle.world.specs.Site.{OtherSitesAre, RunsAt, SiteIs, has_to_fall, up_at, site_disk, site_kept, bytes_of, images_of}
-use Rattle.world.specs.Orders.{HasOrders, OrdersAre, cut_orders}
+use Rattle.world_parts.specs.Orders.{HasOrders, cut_orders}
+use Rattle.world.specs.Orders.{OrdersAre}
 use Rattle.world.specs.Steps.{StepsOn}
 use Rattle.world.specs.Turns.{CallerOf, IsDuringAt, IsUnderWay}
 use Rattle.world.proofs.SiteLemmas.{SameAt, others_stay, own_and_others, same_or}
 use Rattle.world.proofs.StepLemmas.{IsPushed, Leaves, Stands, shown_on, steps_on}
-use Rattle.world.proofs.OrderLemmas.{cut_elsewhere, cut_here}
-use Rattle.world.proofs.ToStopLemmas.{turn_orders, turn_upright}
+use Rattle.world_parts.proofs.OrderLemmas.{cut_elsewhere, cut_here}
+use Rattle.world_parts.proofs.ToStopLemmas.{turn_orders, turn_upright}
 use Rattle.node_rules.specs.Data.{RedoRecord, Place, Input, Msg}
 use Rattle.node_rules.specs.Kept.{Kept, Outcome}
 use Rattle.node_rules.specs.Turn.{turn_of}

@@ -25,7 +25,8 @@ use Rattle.telling.specs.Facts.{KnownOfTurn}
 use Rattle.world.specs.declared.site.Site.{Site}
 use Rattle.world.specs.declared.turning.Begun.{Begun}
 use Rattle.world.specs.declared.world.World.{World}
-use Rattle.world.specs.Orders.{HasOrders, OrdersAre, orders_if}
+use Rattle.world_parts.specs.Orders.{HasOrders, orders_if}
+use Rattle.world.specs.Orders.{OrdersAre}
 use Rattle.world.specs.Site.{bytes_of, site_disk}
 use Rattle.world.specs.Steps.{StepsOn}
 use Rattle.world.specs.Turns.{IsDuringAt, IsTold}

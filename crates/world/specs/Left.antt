@@ -4,7 +4,7 @@ use Rattle.run_laws.specs.Headline.{IsBetween}
 use Rattle.run_laws.specs.Lines.{told}
 use Rattle.run_trace.specs.Recorded.{past_of}
 use Rattle.world.specs.Needs.{due_in}
-use Rattle.world.specs.Shown.{ShowDisks, Shown, disk_told}
+use Rattle.world_parts.specs.Shown.{ShowDisks, Shown, disk_told}
 use Rattle.world.specs.declared.world.World.{World}
 
 -- It has the lines of the commands before the one that runs, and what SHOW DISK has shown.

@@ -9,7 +9,6 @@ pub mod Stops
 pub mod Served
 pub mod Turns
 pub mod Starts
-pub mod Shown
 pub mod Started
 pub mod Halts
 pub mod Left

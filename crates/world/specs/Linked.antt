@@ -9,7 +9,7 @@ use Rattle.node_rules.specs.Words.{numbered}
 use Rattle.node_disk.specs.Starts.{CanBeStarted}
 use Rattle.world.specs.declared.site.Site.{Site}
 use Rattle.world.specs.Site.{has_to_fall, site_kept, site_disk, bytes_of, images_of, RunsAt, SitesAre}
-use Rattle.world.specs.Shown.{ShowDisks}
+use Rattle.world_parts.specs.Shown.{ShowDisks}
 use Rattle.world.specs.declared.world.World.{World}
 
 -- Each part of the world but its sites is that part of the run so far.

@@ -8,7 +8,7 @@ use Rattle.run_trace.specs.Recorded.{RunSoFar, IsRunOfScript}
 use Rattle.run_trace.specs.declared.trace.Recorded.{Recorded}
 use Rattle.world.specs.Needs.{due_in}
 use Rattle.world.specs.Left.{IsLeft, TellsBetween}
-use Rattle.world.specs.Shown.{history_of}
+use Rattle.world_parts.specs.Shown.{history_of}
 use Rattle.world.specs.declared.ran.Ended.{Ended}
 use Rattle.world.specs.declared.ran.Ended.TheVariants.{AllRun, OutOfMemory}
 use Rattle.world.specs.declared.ran.Ran.{Ran}

@@ -11,9 +11,9 @@ use Rattle.run_laws.specs.Data.{Command}
 use Rattle.run_laws.specs.Data.commands
 use Rattle.run_laws.specs.Shown.{shown_disk}
 use Rattle.world.specs.declared.site.Site.{Site}
-use Rattle.world.specs.Shown.{Shown, shown_at}
+use Rattle.world_parts.specs.Shown.{Shown, shown_at}
 use Rattle.run_laws.specs.Disks.{no_orders}
-use Rattle.world.specs.Orders.{HasOrders}
+use Rattle.world_parts.specs.Orders.{HasOrders}
 use Rattle.world.specs.Site.{site_kept, site_disk, bytes_of, images_of, RunsAt}
 
 -- what the node of a site keeps, where there is one and it is up

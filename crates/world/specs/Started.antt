@@ -1,19 +1,14 @@
 -- What a start of a node leaves of its site, where an order may strike its disk.
-use Rattle.std.specs.Prelude.{◌≡◌, ◌≢◌, ◌+◌, ◌<◌, ◌^◌, ◌∷◌, ◌++◌, [], ℕ, Bool, true, if◌then◌else◌, List, length, is_none, Option, Some, None}
+use Rattle.std.specs.Prelude.{◌≡◌, ◌≢◌, ◌+◌, ◌<◌, ◌^◌, ◌∷◌, ◌++◌, [], ℕ, if◌then◌else◌, List, length, is_none, Some, None}
 use Rattle.record_log.specs.Held.{HoldRecords, with_record_if}
 use Rattle.node_rules.specs.Data.{RedoRecord, Place}
 use Rattle.node_rules.specs.Turn.{start_of}
 use Rattle.node_rules.specs.Words.{numbered}
 use Rattle.node_disk.specs.Starts.{CanBeStarted, last_boot, next_boot}
-use Rattle.run_laws.specs.Disks.{DiskOrders, Strike, struck, after_append}
+use Rattle.run_laws.specs.Disks.{DiskOrders, struck, after_append}
 use Rattle.world.specs.declared.site.Site.{Site}
-use Rattle.world.specs.Orders.{HasOrders}
+use Rattle.world_parts.specs.Orders.{HasOrders, stands_in}
 use Rattle.world.specs.Site.{site_kept, site_disk, bytes_of, images_of, RunsAt}
-
--- whether the record of an append stands: no order strikes it, or one that strikes behind it
-abbrev pub stands_in : Option Strike → Bool
-stands_in None = true
-stands_in (Some s) = s.stands
 
 -- A node that is down, and that can be started from its disk.
 pub record CanStart (site : Site) : Type 0 where

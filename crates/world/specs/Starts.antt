@@ -15,9 +15,10 @@ use Rattle.world.specs.declared.site.Site.{Site}
 use Rattle.world.specs.declared.world.World.{World}
 use Rattle.world.specs.Needs.{IsOfScript}
 use Rattle.world.specs.Linked.{AreCounted, PartsAre}
-use Rattle.world.specs.Orders.{HasOrders, OrdersAre, OtherOrdersAre}
+use Rattle.world_parts.specs.Orders.{HasOrders}
+use Rattle.world.specs.Orders.{OrdersAre, OtherOrdersAre}
 use Rattle.world.specs.Steps.{StepsTo}
-use Rattle.world.specs.Shown.{ShowDisks}
+use Rattle.world_parts.specs.Shown.{ShowDisks}
 use Rattle.world.specs.Site.{site_kept, site_disk, bytes_of, images_of, RunsAt, OtherSitesAre}
 use Rattle.world.specs.Started.{TriesAt}
 

@@ -34,11 +34,12 @@ use Rattle.world.specs.declared.site.Site.{Site}
 use Rattle.world.specs.declared.turning.Begun.{Begun}
 use Rattle.world.specs.declared.world.World.{World}
 use Rattle.world.specs.Mail.{IsMailed}
-use Rattle.world.specs.Orders.{HasOrders, OrdersAre, OrdersLeft, OtherOrdersAre, cut_orders, orders_if}
+use Rattle.world_parts.specs.Orders.{HasOrders, OrdersLeft, cut_orders, orders_if}
+use Rattle.world.specs.Orders.{OrdersAre, OtherOrdersAre}
 use Rattle.world.specs.Sites.{kept_at}
 use Rattle.world.specs.Needs.{DeliveriesAreFew, DueTurnsCanBeTaken, IsOfScript, IsTurnDue, due_in}
 use Rattle.world.specs.Linked.{AreCounted, IsLinked, PartsAre}
-use Rattle.world.specs.Shown.{ShowDisks}
+use Rattle.world_parts.specs.Shown.{ShowDisks}
 use Rattle.world.specs.Site.{site_kept, site_disk, bytes_of, images_of, RunsAt, OtherSitesAre}
 use Rattle.node_disk.specs.Starts.{CanBeStarted}
 

@@ -1,50 +1,25 @@
 //! A command begins.
-ghost use Rattle.std.specs.Prelude.{◌≡◌, length, OnErr, OnOk, IfOk};
+ghost use Rattle.std.specs.Prelude.{◌≡◌, OnErr, OnOk, IfOk};
 ghost use Rattle.run_laws.specs.Due.{Begins};
 ghost use Rattle.run_laws.specs.Commands.{begins};
-ghost use Rattle.run_laws.specs.Facts.{command_at as command_at_of, ordered};
+ghost use Rattle.run_laws.specs.Facts.{command_at as command_at_of};
 ghost use Rattle.run_trace.specs.Recorded.{Extends, past_of};
 ghost use Rattle.telling.specs.Facts.{up_for as up_for_by, transaction_for as transaction_for_by, KnownAtBegin};
 ghost use Rattle.world.specs.Needs.{due_in};
 ghost use Rattle.world.specs.Left.{IsLeft};
 ghost use Rattle.world.specs.Linked.{IsLinked, OrdersStand};
-ghost use Rattle.world.specs.Orders.{how_as, ArmedAt, OrderedBy, OrdersAre};
+ghost use Rattle.world.specs.Orders.{ArmedAt, OrderedBy, OrdersAre};
 ghost use Rattle.world.specs.Steps.{StepsOn};
 
 use crate::World;
-use crate::laws::what_is_due_can_happen;
 use crate::sites::{has_transaction, is_up};
-use block_disk::{How as LeftBy, Order, Stop};
+use block_disk::{Order, Stop};
 use book::Happening;
 use dtx_values::Duplicate;
-use net_bag::{Bag, LoseNext};
-use script_read::{Command, How};
+use script_read::Command;
 use std::alloc::{AllocError, Global};
 use telling::BeginFacts;
-
-// The order of LOSE NEXT is given to the network. Fails where memory runs out.
-fn order_net(net: &mut Bag, command: &Command) -> Result<(), AllocError>
-    ensures { OnOk result (net.new ≡ ordered net.old command.now) }
-{
-    match command {
-        Command::LoseNext { kind, from, to } => net.lose_next(LoseNext {
-            kind: *kind,
-            from: *from,
-            to: *to,
-        }),
-        _ => Ok(()),
-    }
-}
-
-// What a stop leaves of a write.
-fn left_by(alloc: Global, how: &How) -> Result<LeftBy, AllocError>
-    ensures { IfOk result (λ left. how_as left ≡ how.now) }
-{
-    match how {
-        How::Keep(count) => Ok(LeftBy::Keep(*count)),
-        How::Leave(bytes) => Ok(LeftBy::Leave(Vec::from_slice(alloc, bytes.as_slice())?)),
-    }
-}
+use world_parts::{left_by, order_net};
 
 impl World {
     /// The command of this number begins.

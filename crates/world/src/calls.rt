@@ -1,7 +1,5 @@
 //! What comes to a node: a client's call, a call that is given up, a message, RECO.
-ghost use Rattle.std.specs.Prelude.{◌≡◌, true, is_some, if◌then◌else◌, option_map, IfOk, IfSome, OnErr, OnOk};
-ghost use Rattle.msg_codec.specs.Message.{message_of};
-ghost use Rattle.net_bag.specs.Net.{may_deliver, may_repeat, packet_at};
+ghost use Rattle.std.specs.Prelude.{◌≡◌, OnErr, OnOk};
 ghost use Rattle.run_laws.specs.Due.{Pends, Gives_up, Delivers, Recovers};
 ghost use Rattle.run_trace.specs.Recorded.{Extends};
 ghost use Rattle.world.specs.Needs.{due_in};
@@ -13,30 +11,10 @@ ghost use Rattle.world.specs.Steps.{StepsOn};
 use crate::World;
 use crate::laws::what_is_due_can_happen;
 use book::Took;
-use dtx_values::{Bytes, Listing};
-use net_bag::Bag;
 use node_disk::Incoming;
 use std::alloc::{AllocError, Global};
 use telling_parts::Call;
-
-// The bytes of a message that can come, or be repeated.
-fn bytes_at(net: &Bag, k: u64, again: bool) -> Option<&[u8]>
-    ensures variant { is_some result ≡ (if again then may_repeat net.now k else may_deliver net.now k) }
-    ensures bytes { IfSome result (λ bytes. option_map (λ x. x.msg) (packet_at net.now k) ≡ message_of bytes.now) }
-{
-    if again { net.again(k) } else { net.flying(k) }
-}
-
-// A copy of them. Fails where memory runs out.
-fn bytes_of(alloc: Global, net: &Bag, k: u64, again: bool) -> Result<Bytes, AllocError>
-    requires there { (if again then may_repeat net.now k else may_deliver net.now k) ≡ true }
-    ensures { IfOk result (λ bytes. option_map (λ x. x.msg) (packet_at net.now k) ≡ message_of bytes) }
-{
-    match bytes_at(net, k, again) {
-        Some(bytes) => Ok(Listing::of(Vec::from_slice(alloc, bytes)?)),
-        None => unreachable!(),
-    }
-}
+use world_parts::bytes_of;
 
 impl World {
     /// A client's call.

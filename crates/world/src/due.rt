@@ -1,6 +1,5 @@
 //! What is due next.
 ghost use Rattle.std.specs.Prelude.{◌≡◌, IfOk};
-ghost use Rattle.run_laws.specs.Data.commands as script;
 ghost use Rattle.run_laws.specs.Facts.{command_at as command_at_of};
 ghost use Rattle.run_trace.specs.Recorded.{past_of};
 ghost use Rattle.telling.specs.Due.{due_as, may_act as may_act_by};
@@ -13,20 +12,7 @@ use crate::sites::{is_enabled, is_up};
 use script_read::Command;
 use std::alloc::{AllocError, Global};
 use telling::{Due, DueFacts};
-
-/// The command of a number, or `none` where there is none.
-pub(crate) fn command_at<'a>(commands: &'a [Command], number: u32, none: &'a Command) -> &'a Command
-    requires { none.now ≡ script.ShowBook }
-    ensures { result.now ≡ command_at_of commands.now number }
-{
-    match number.checked_sub(1) {
-        None => none,
-        Some(place) => match commands.get(place as usize) {
-            None => none,
-            Some(command) => command,
-        },
-    }
-}
+use world_parts::command_at;
 
 impl World {
     /// What is due next. Fails where memory runs out.

@@ -7,11 +7,8 @@
 
 mod beginning;
 mod calls;
-mod disk_lines;
-mod disks_shown;
 mod due;
 mod laws;
-mod lines;
 mod mail;
 mod network;
 mod ran;

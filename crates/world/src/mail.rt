@@ -4,10 +4,8 @@ ghost use Rattle.std.specs.List.{AllByRecursion};
 ghost use Rattle.msg_codec.specs.Message.{message_of};
 ghost use Rattle.net_bag.specs.Net.{sent_on, sent_one, lost_at_once};
 ghost use Rattle.node_disk.specs.Effects.{call_of};
-ghost use Rattle.run_laws.specs.Facts.{taken};
 ghost use Rattle.world.specs.Mail.{IsMailed};
 
-use book::Took;
 use dtx_values::Listing;
 use net_bag::Bag;
 use node_disk::{Finished, Mailed};
@@ -16,22 +14,8 @@ use std::alloc::{AllocError, Global};
 use std::collections::VecDeque;
 use wire_msg::{Msg, Msgs};
 
-/// A message that was taken is delivered, unless it is a copy.
-pub(crate) fn take(net: &mut Bag, took: Option<Took>)
-    ensures { net.new ≡ taken net.old took }
-{
-    match took {
-        None => {}
-        Some(took) => {
-            if !took.again {
-                net.deliver(took.number);
-            }
-        }
-    }
-}
-
 /// Sends these messages in order, and adds the numbers of those that are lost at once. Fails where memory runs out.
-#[tactic(auto, using(crate::proofs::MailLemmas::mail_steps))]
+#[tactic(auto, using(world_parts::proofs::MailLemmas::mail_steps))]
 pub(crate) fn send_all(
     alloc: Global,
     net: &mut Bag,

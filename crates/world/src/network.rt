@@ -1,5 +1,5 @@
 //! What happens to the network alone: losses, CUT, JOIN.
-ghost use Rattle.std.specs.Prelude.{◌≡◌, IfOk, OnErr, OnOk};
+ghost use Rattle.std.specs.Prelude.{◌≡◌, OnErr, OnOk};
 ghost use Rattle.run_laws.specs.Due.{Tells, Cuts, Joins, Loses};
 ghost use Rattle.run_trace.specs.Recorded.{Extends};
 ghost use Rattle.world.specs.Needs.{due_in};
@@ -11,18 +11,7 @@ ghost use Rattle.world.specs.Steps.{StepsOn};
 use crate::World;
 use book::Happening;
 use std::alloc::{AllocError, Global};
-use std::collections::VecDeque;
-
-/// Takes these numbers of messages as losses to tell, in order. Fails where memory runs out.
-pub(crate) fn losses_of(alloc: Global, numbers: Vec<u64>) -> Result<VecDeque<u64>, AllocError>
-    ensures { IfOk result (λ losses. losses.items ≡ numbers.items) }
-{
-    let mut losses = VecDeque::new(alloc);
-    for number in numbers {
-        losses.push_back(number)?;
-    }
-    Ok(losses)
-}
+use world_parts::losses_of;
 
 impl World {
     /// A loss is told.

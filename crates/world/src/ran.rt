@@ -12,12 +12,12 @@ ghost use Rattle.world.specs.Orders.{OrdersAre};
 ghost use Rattle.world.specs.Ran.{IsLeftBy, IsRan};
 
 use crate::World;
-use crate::lines::with_disks;
 use book::AnswerLines;
 use redo_record::Places;
 use run_trace::Recorded;
 use script_read::Commands;
 use std::alloc::{AllocError, Global};
+use world_parts::with_disks;
 
 /// How a run ended.
 #[derive(Clone, Copy, Debug, PartialEq, Eq)]

@@ -4,10 +4,8 @@ ghost use Rattle.pending_view.specs.Views.{pending_rows};
 ghost use Rattle.run_laws.specs.Data.commands as script;
 ghost use Rattle.sql_check.specs.Refusals.{dtx};
 ghost use Rattle.sql_check.specs.Words.{one as one_of};
-ghost use Rattle.dtx_values.specs.declared.answer.Notice.TheVariants as notices;
-ghost use Rattle.book.specs.declared.line.Said.TheVariants as saids;
-ghost use Rattle.run_laws.specs.Commands.{has_call as has_call_by, if_up as if_up_by, if_may as if_may_by, says_at_once as says_by};
-ghost use Rattle.run_laws.specs.Lines.{fine as fine_by, refuses_with};
+ghost use Rattle.run_laws.specs.Commands.{has_call as has_call_by, if_up as if_up_by, says_at_once as says_by};
+ghost use Rattle.run_laws.specs.Lines.{refuses_with};
 ghost use Rattle.run_laws.specs.Facts.{names_in};
 ghost use Rattle.run_laws.specs.Telling.{node_name as name_by};
 ghost use Rattle.run_trace.specs.Recorded.{past_of};
@@ -15,79 +13,25 @@ ghost use Rattle.world.specs.Sites.{kept_at, disk_at, MayShow};
 ghost use Rattle.world.specs.Linked.{IsLinked};
 
 use crate::World;
-use crate::disk_lines::disk_lines;
 use crate::sites::{is_enabled, is_up, node_at, site_at};
-use book::{Said, book_lines};
-use dtx_values::{Bytes, Listing, Name, Notice, Refusal, Texts};
+use book::book_lines;
+use dtx_values::{Listing, Name};
 use pending_view::{PendingRows, neighbors_view, pending, pending_view};
 use script_read::Command;
 use std::alloc::{AllocError, Global};
-use tran_ids::{node_name, put_decimal};
+use tran_ids::node_name;
+use world_parts::{Says, disk_lines, fine, if_may, refused, refused_with, shows};
 
-/// The codes of DTX-01, DTX-04, DTX-11, DTX-12, DTX-13 and DTX-14.
+/// The codes of DTX-01, DTX-04, DTX-12, DTX-13 and DTX-14.
 const STOPPED: u16 = 60_001;
 
 const PENDING: u16 = 60_004;
-
-const NO_MESSAGE: u16 = 60_011;
 
 const DISABLED: u16 = 60_012;
 
 const RUNNING: u16 = 60_013;
 
 const NO_CALL: u16 = 60_014;
-
-/// What a command says.
-type Says = Listing<Said>;
-
-fn one(alloc: Global, said: Said) -> Result<Says, AllocError>
-    ensures { IfOk result (λ says. says ≡ said ∷ []) }
-{
-    Ok(Listing::of(vec![in alloc; said]?))
-}
-
-fn fine(alloc: Global) -> Result<Says, AllocError>
-    ensures { IfOk result (λ says. says ≡ fine_by) }
-{
-    one(alloc, Said::World(Notice::Fine))
-}
-
-fn shows(alloc: Global, lines: Texts) -> Result<Says, AllocError>
-    ensures { IfOk result (λ says. says ≡ saids.World (notices.Shown lines) ∷ []) }
-{
-    one(alloc, Said::World(Notice::Shown(lines)))
-}
-
-// A refusal of this code, with nothing to name.
-fn refused(alloc: Global, code: u16) -> Result<Says, AllocError>
-    requires { 60000 ≤ code }
-    ensures { IfOk result (λ says. says ≡ refuses_with (dtx (code - 60000) []) ∷ []) }
-{
-    let args = Listing::new(alloc);
-    one(alloc, Said::World(Notice::Refused(Refusal { code, args })))
-}
-
-// A refusal of this code that names this.
-fn refused_with(alloc: Global, code: u16, text: Bytes) -> Result<Says, AllocError>
-    requires { 60000 ≤ code }
-    ensures { IfOk result (λ says. says ≡ refuses_with (dtx (code - 60000) (one_of text)) ∷ []) }
-{
-    let args = Listing::of(vec![in alloc; text]?);
-    one(alloc, Said::World(Notice::Refused(Refusal { code, args })))
-}
-
-// ok, or DTX-11 where the message may not come.
-fn if_may(alloc: Global, may: bool, k: u32) -> Result<Says, AllocError>
-    ensures { IfOk result (λ says. says ≡ if_may_by may k) }
-{
-    if may {
-        fine(alloc)
-    } else {
-        let mut text = Vec::new(alloc);
-        put_decimal(&mut text, u64::from(k))?;
-        refused_with(alloc, NO_MESSAGE, Listing::of(text))
-    }
-}
 
 impl World {
     /// What a command says as it begins. Fails where memory runs out.

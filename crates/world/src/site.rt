@@ -1,10 +1,9 @@
 //! A node of a run: up, or down with its disk alone.
-ghost use Rattle.std.specs.Prelude.{◌≡◌, ◌∷◌, [], List, Some, None, is_some, option_map, IfOk, OnOk};
+ghost use Rattle.std.specs.Prelude.{◌≡◌, ◌∷◌, [], Some, None, is_some, option_map, IfOk, OnOk};
 ghost use Rattle.block_disk.specs.Orders.{ordered, plan_of, powered};
 ghost use Rattle.redo_record.specs.declared.place.Place.{Place as PlaceBy};
 ghost use Rattle.redo_record.specs.declared.record.RedoRecord.TheVariants as records;
 ghost use Rattle.record_log.specs.Held.{HoldRecords};
-ghost use Rattle.node_rules.specs.Sessions.{session_at};
 ghost use Rattle.node_rules.specs.Turn.{made as made_by};
 ghost use Rattle.node_disk.specs.Starts.{CanBeStarted};
 ghost use Rattle.run_laws.specs.Commands.{has_transaction, is_enabled as is_enabled_by};
@@ -12,7 +11,7 @@ ghost use Rattle.std.specs.Option.{option_copied};
 ghost use Rattle.node_disk.specs.OnDisk.{kept_of};
 ghost use Rattle.world.specs.declared.site.Site.TheVariants.{Up, Down};
 ghost use Rattle.run_laws.specs.Disks.{no_orders};
-ghost use Rattle.world.specs.Orders.{HasOrders};
+ghost use Rattle.world_parts.specs.Orders.{HasOrders};
 ghost use Rattle.world.specs.Started.{CanStart, TriedFrom};
 ghost use Rattle.world.specs.Site.{site_kept, site_disk, bytes_of, images_of, RunsAt};
 

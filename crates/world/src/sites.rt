@@ -1,7 +1,7 @@
 //! The nodes of a run, by their numbers, from 1.
-ghost use Rattle.std.specs.Prelude.{◌≡◌, ℕ, length, Some, None, is_some, option_map, IfOk, OnOk};
-ghost use Rattle.std.specs.Option.{option_copied, option_and_then};
-ghost use Rattle.tran_ids.specs.Listed.{numbered, set_numbered};
+ghost use Rattle.std.specs.Prelude.{◌≡◌, length, Some, None, is_some, option_map, IfOk};
+ghost use Rattle.std.specs.Option.{option_copied};
+ghost use Rattle.tran_ids.specs.Listed.{numbered};
 ghost use Rattle.run_laws.specs.Commands.{has_transaction as has_transaction_by, is_enabled as is_enabled_by};
 ghost use Rattle.node_disk.specs.OnDisk.{kept_of};
 ghost use Rattle.world.specs.Sites.{kept_at, AreMade};

@@ -1,6 +1,6 @@
 //! A node starts, where no order strikes its disk before its Boot stands.
-ghost use Rattle.std.specs.Prelude.{◌≡◌, ◌+◌, ◌<◌, ◌^◌, ℕ, Some, None, length, OnOk, OnErr};
-ghost use Rattle.node_rules.specs.Words.{numbered, set_numbered};
+ghost use Rattle.std.specs.Prelude.{◌≡◌, Some, None, length, OnOk, OnErr};
+ghost use Rattle.node_rules.specs.Words.{numbered};
 ghost use Rattle.run_laws.specs.Disks.{struck};
 ghost use Rattle.run_laws.specs.Due.{Starts};
 ghost use Rattle.run_laws.specs.Lawful.{IsNode};
@@ -25,6 +25,7 @@ use record_log::hold_one_list;
 use redo_record::Place;
 use std::alloc::{AllocError, Global};
 use tran_ids::node_name;
+use world_parts::{count_boot, next_boot};
 
 // The start of the node of a number is tried, which is of this place.
 fn try_at(alloc: Global, sites: &mut Vec<Site>, node: u8, place: Place) -> Result<(), AllocError>
@@ -33,23 +34,6 @@ fn try_at(alloc: Global, sites: &mut Vec<Site>, node: u8, place: Place) -> Resul
     ensures { OnOk result (TriesAt place node sites.old.items sites.new.items) }
 {
     sites[usize::from(node) - 1].start(alloc, place)
-}
-
-// The number of the next start of a node, by how often each has started.
-fn next_boot(boots: &[u32], node: u8) -> u32
-    requires there { IsNode (length boots.now) node }
-    requires few { (k : ℕ) → numbered boots.now node ≡ Some k → k + 1 < 2 ^ 32 }
-    ensures { (k : ℕ) → numbered boots.now node ≡ Some k → result ≡ k + 1 }
-{
-    boots[usize::from(node) - 1] + 1
-}
-
-// A node has started so often now.
-fn count_boot(boots: &mut [u32], node: u8, boot: u32)
-    requires { IsNode (length boots.old) node }
-    ensures { boots.new ≡ set_numbered boots.old node boot }
-{
-    boots[usize::from(node) - 1] = boot;
 }
 
 // Nodes that are due are there, and start seldom.

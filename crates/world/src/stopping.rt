@@ -14,15 +14,14 @@ ghost use Rattle.world.specs.Orders.{OrdersAre};
 ghost use Rattle.world.specs.Steps.{StepsOn};
 
 use crate::World;
-use crate::due::command_at;
 use crate::laws::what_is_due_can_happen;
-use crate::network::losses_of;
 use crate::sites::is_up;
 use book::Happening;
 use script_read::Command;
 use std::alloc::{AllocError, Global};
 use telling::StopFacts;
 use tran_ids::node_name;
+use world_parts::{command_at, losses_of};
 
 impl World {
     /// A node whose turn was cut stops.

@@ -1,5 +1,5 @@
 //! A node takes a turn.
-ghost use Rattle.std.specs.Prelude.{◌≡◌, ◌<◌, ◌≤◌, ◌-◌, ◌^◌, [], ◌∷◌, ◌++◌, length, map, is_some, true, OnOk, IfOk, IfErr, IfSome, OnErr};
+ghost use Rattle.std.specs.Prelude.{◌≡◌, ◌<◌, ◌-◌, ◌^◌, [], length, map, is_some, true, OnOk, IfOk, IfErr, IfSome, OnErr};
 ghost use Rattle.std.specs.List.{AllByRecursion};
 ghost use Rattle.net_bag.specs.Net.{sent_on, lost_at_once};
 ghost use Rattle.node_disk.specs.Effects.{call_of};
@@ -19,7 +19,7 @@ ghost use Rattle.world.specs.Turns.{TookIs, IsComingDue, IsDuring, IsCutDuring, 
 
 use crate::World;
 use crate::laws::{numbers_stay_small, what_is_due_can_happen};
-use crate::mail::{ended_calls, send_all, take};
+use crate::mail::{ended_calls, send_all};
 use crate::serving::{caller, serve};
 use crate::site::Site;
 use book::{Happening, Took, Turn};
@@ -30,6 +30,7 @@ use std::alloc::{AllocError, Global};
 use std::collections::VecDeque;
 use telling::{Cut, TurnFacts};
 use wire_msg::Msgs;
+use world_parts::take_message;
 
 /// A turn as it is begun: its node, which message it takes, and the session that calls, where one does.
 #[derive(Clone, Copy, Debug)]
@@ -237,7 +238,7 @@ impl World {
         ensures losses { OnOk result (self.new.losses.items ≡ lost_at_once (taken self.old.net took) (map (λ mail. mail.msg) mails.items)) }
         ensures same { self.new ≡ record self.old { net = self.new.net; losses = self.new.losses } }
     {
-        take(&mut self.net, took);
+        take_message(&mut self.net, took);
         self.losses = VecDeque::new(alloc);
         send_all(alloc, &mut self.net, &mut self.losses, mails)
     }
@@ -253,7 +254,7 @@ impl World {
         let facts = cut_facts(alloc, begun, &cut);
         let by = self.telling.cut(begun.node, facts.writes, facts.passes);
         let turn = cut_short(alloc, begun, cut, stands(by));
-        take(&mut self.net, begun.took);
+        take_message(&mut self.net, begun.took);
         stop_at(alloc, &mut self.sites, begun.node);
         self.to_stop = Some(begun.node);
         self.tell_turn(alloc, turn, facts)

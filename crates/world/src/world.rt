@@ -1,9 +1,9 @@
 //! The world of a run.
-ghost use Rattle.std.specs.Prelude.{◌≡◌, ◌<◌, ◌^◌, [], length, replicate, IfOk, OnErr, OnOk};
+ghost use Rattle.std.specs.Prelude.{◌≡◌, ◌<◌, ◌^◌, [], length, IfOk, OnErr, OnOk};
 ghost use Rattle.run_laws.specs.Due.{Ends};
 ghost use Rattle.run_laws.specs.Entries.{book_of};
 ghost use Rattle.run_laws.specs.Lawful.{AreOfAScript};
-ghost use Rattle.run_trace.specs.Recorded.{Extends, past_of};
+ghost use Rattle.run_trace.specs.Recorded.{Extends};
 ghost use Rattle.world.specs.Needs.{due_in};
 ghost use Rattle.world.specs.Linked.{IsLinked};
 ghost use Rattle.world.specs.Orders.{OrdersAre};
@@ -11,12 +11,10 @@ ghost use Rattle.telling.specs.Due.{due_as};
 ghost use Rattle.telling.specs.declared.due.Due.TheVariants as dues;
 ghost use Rattle.world.specs.Left.{IsLeft};
 ghost use Rattle.world.specs.Steps.{Steps, StepsOn};
-ghost use Rattle.world.specs.Site.{site_disk, bytes_of};
 ghost use Rattle.std.specs.List.{AllByRecursion};
 ghost use Rattle.script_read.specs.Sound.{IsInRange};
 ghost use Rattle.byte_laws.specs.ByteRuns.{AsksSpelled};
 
-use crate::disks_shown::DisksShown;
 use crate::site::Site;
 use crate::sites::made_all;
 use book::Entry;
@@ -27,6 +25,7 @@ use script_read::Commands;
 use std::alloc::{AllocError, Global};
 use std::collections::VecDeque;
 use telling::{Due, Telling};
+use world_parts::{DisksShown, once_each};
 
 /// The world of a run so far.
 #[derive(Drop)]
@@ -159,15 +158,4 @@ impl World {
     {
         &self.trace
     }
-}
-
-// Each node has started once.
-fn once_each(alloc: Global, nodes: usize) -> Result<Vec<u32>, AllocError>
-    ensures { IfOk result (λ boots. boots.items ≡ replicate nodes 1) }
-{
-    let mut boots = Vec::with_capacity(alloc, nodes)?;
-    for _ in 0..nodes {
-        boots.push(1)?;
-    }
-    Ok(boots)
 }

@@ -3,7 +3,7 @@ use Rattle.std.proofs.lemmas.List.{map-append}
 use Rattle.node_rules.specs.Data.{Msg}
 use Rattle.net_bag.specs.Net.{Net, lost_at_once, sent_on, sent_one}
 use Rattle.node_disk.specs.declared.effects.Mailed.{Mailed}
-use Rattle.world.proofs.MailLemmas.{lost_then, sent_last, sent_none}
+use Rattle.world_parts.proofs.MailLemmas.{lost_then, sent_last, sent_none}
 use Rattle.world.proofs.mail.send_all.Goals as goal
 
 pub loop-mail-init : goal.loop-mail-init

@@ -2,7 +2,7 @@ use Rattle.std.proofs.Common.{◌-◌, List, length, get_or, ap, sym, ◌∙◌,
 use Rattle.run_laws.specs.Data.{Command}
 use Rattle.run_trace.specs.Recorded.{past_of}
 use Rattle.world.proofs.BeginLemmas.{command_read}
-use Rattle.world.proofs.BegunLemmas.{begins_inside}
+use Rattle.world_parts.proofs.BegunLemmas.{begins_inside}
 use Rattle.world.proofs.world.World.begin.Goals as goal
 
 pub overflow_sub-number : goal.overflow_sub-number

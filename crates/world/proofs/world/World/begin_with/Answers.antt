@@ -11,7 +11,7 @@ use Rattle.world.specs.declared.site.Site.{Site}
 use Rattle.world.specs.Orders.{OrderedBy}
 use Rattle.world.proofs.ArmLemmas.{begun_orders, range_at}
 use Rattle.world.specs.declared.world.World.{World}
-use Rattle.world.specs.Shown.{Shown, shown_at}
+use Rattle.world_parts.specs.Shown.{Shown, shown_at}
 use Rattle.world.specs.Sites.{MayShow, disk_at}
 use Rattle.world.proofs.BeginLemmas.{begin_moves, next_begun, orders_from}
 use Rattle.world.proofs.LeftLemmas.{begin_left, linked_still, may_show_but, on_err, stays_still, still_left}

@@ -1,5 +1,5 @@
 use Rattle.std.proofs.Common.{map, ap, ◌∙◌}
-use Rattle.world.specs.Shown.{disk_told}
+use Rattle.world_parts.specs.Shown.{disk_told}
 use Rattle.world.proofs.RanLemmas.{is_ran}
 use Rattle.world.proofs.world.World.into_ran.Goals as goal
 

@@ -7,7 +7,7 @@ use Rattle.run_trace.specs.Recorded.{past_of}
 use Rattle.world.specs.declared.world.World.{World}
 use Rattle.world.specs.Halts.{HasHalted}
 use Rattle.world.specs.Needs.{due_in}
-use Rattle.world.specs.Started.{stands_in}
+use Rattle.world_parts.specs.Orders.{stands_in}
 use Rattle.world.specs.Starts.{HasBooted}
 use Rattle.world.proofs.FallLemmas.{booted_on, failed_orders}
 use Rattle.world.proofs.TryLemmas.{can_start, on_ok, start_is_down, strike_is, tried_begins, tried_stays}

@@ -33,7 +33,7 @@ returns-clause-steps c =
     cut_steps w c.args.begun c.args.cut c.requires.during.0 c.requires.during.1 during c.stands.result stands c.cut_short-turn.result c.cut_short-turn.ensures c.cut_facts-facts.result
     (cut_known w c.args.begun c.args.cut c.requires.during.0 c.requires.during.1 during c.stands.result stands c.cut_facts-facts.result c.cut_facts-facts.ensures.caller c.cut_facts-facts.ensures.writes c.cut_facts-facts.ensures.passes)
     _ c.tell_turn.new.self
-    (record { trace = refl; running = refl; losses = refl; boots_are = refl; shown = refl; telling = refl; net = c.take.ensures; to_stop = refl; stops = c.stop_at.ensures })
+    (record { trace = refl; running = refl; losses = refl; boots_are = refl; shown = refl; telling = refl; net = c.take_message.ensures; to_stop = refl; stops = c.stop_at.ensures })
     c.tell_turn.ensures.same c.tell_turn.result c.tell_turn.ensures.told
 
 pub returns-clause-orders : goal.returns-clause-orders
@@ -45,7 +45,7 @@ returns-clause-orders c =
     cut_keeps_orders w c.args.begun c.args.cut c.requires.during.0 c.requires.during.1 during c.stands.result stands c.cut_short-turn.result c.cut_short-turn.ensures c.cut_facts-facts.result
     (cut_known w c.args.begun c.args.cut c.requires.during.0 c.requires.during.1 during c.stands.result stands c.cut_facts-facts.result c.cut_facts-facts.ensures.caller c.cut_facts-facts.ensures.writes c.cut_facts-facts.ensures.passes)
     _ c.tell_turn.new.self
-    (record { trace = refl; running = refl; losses = refl; boots_are = refl; shown = refl; telling = refl; net = c.take.ensures; to_stop = refl; stops = c.stop_at.ensures })
+    (record { trace = refl; running = refl; losses = refl; boots_are = refl; shown = refl; telling = refl; net = c.take_message.ensures; to_stop = refl; stops = c.stop_at.ensures })
     c.tell_turn.ensures.same c.tell_turn.result c.tell_turn.ensures.told
 
 pub returns-clause-left : goal.returns-clause-left

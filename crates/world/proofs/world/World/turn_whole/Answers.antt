@@ -7,7 +7,7 @@ use Rattle.run_laws.specs.Data.happenings
 use Rattle.run_laws.specs.Facts.{taken}
 use Rattle.run_trace.specs.Recorded.{RunSoFar, IsNext, past_of}
 use Rattle.world.specs.Mail.{IsMailed}
-use Rattle.world.specs.Shown.{ShowDisks}
+use Rattle.world_parts.specs.Shown.{ShowDisks}
 use Rattle.world.specs.declared.world.World.{World}
 use Rattle.world.proofs.TurnLemmas.{whole_next, without_bytes}
 use Rattle.world.proofs.WholeLemmas.{whole_keeps_orders, whole_known, whole_steps}

@@ -1,0 +1,14 @@
+pub mod DiskLines
+pub mod ToStopLemmas
+pub mod BegunLemmas
+pub mod OrderLemmas
+pub mod CallRuns
+pub mod StartOrders
+pub mod PlanLemmas
+pub mod StartLemmas
+pub mod MailLemmas
+pub mod ShownLemmas
+pub mod LineLemmas
+pub mod PlaceLemmas
+pub mod ToldLemmas
+pub mod CountLemmas
