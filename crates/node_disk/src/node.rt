@@ -152,6 +152,8 @@ impl<D: Disk> Node<D> {
     pub fn into_disk(self) -> D
         ensures { result ≡ disk_of self }
     {
-        self.log.into_disk()
+        let Node { memory, log, .. } = self;
+        drop(memory);
+        log.into_disk()
     }
 }

@@ -39,9 +39,16 @@ pub(crate) fn started(
     ensures place { IfOk result (λ memory. memory.place ≡ place) }
 {
     let mut memory = Memory::rebuild(alloc, place, records)?;
-    let boot = memory.boot + 1;
-    memory.take_in(alloc, &RedoRecord::Boot(boot))?;
-    Ok(memory)
+    let redo = RedoRecord::Boot(memory.boot + 1);
+    let taken = memory.take_in(alloc, &redo);
+    drop(redo);
+    match taken {
+        Ok(()) => Ok(memory),
+        Err(error) => {
+            drop(memory);
+            Err(error)
+        }
+    }
 }
 
 /// A node that keeps this and whose log is this: the record of its start is written behind those that the log holds.
@@ -74,12 +81,18 @@ pub(crate) fn begin<D: Disk>(
     ensures memory_plan { IfErr result (λ err. err.why ≡ makes.NoMemory → D.plan err.disk ≡ D.plan (disk_of_log log)) }
 {
     let mut log = log;
-    match log.append(&RedoRecord::Boot(memory.boot)) {
+    let redo = RedoRecord::Boot(memory.boot);
+    let written = log.append(&redo);
+    drop(redo);
+    match written {
         Ok(()) => Ok(Node { alloc, memory, log }),
-        Err(why) => Err(MakeErr {
-            disk: log.into_disk(),
-            why: append_why(why),
-        }),
+        Err(why) => {
+            drop(memory);
+            Err(MakeErr {
+                disk: log.into_disk(),
+                why: append_why(why),
+            })
+        }
     }
 }
 

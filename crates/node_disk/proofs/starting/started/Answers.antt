@@ -3,11 +3,11 @@ use Rattle.std.proofs.Common.{◌∙◌, arith}
 use Rattle.node_disk.proofs.StartLaws.{boot_so, boot_started, started_so}
 use Rattle.node_disk.proofs.starting.started.Goals as goal
 
-pub overflow_add-boot : goal.overflow_add-boot
-overflow_add-boot c = omega (arith, boot_so c.args.records.now c.in_ok-memory.memory c.in_ok-memory.ensures.kept, c.requires.boots)
+pub overflow_add-redo : goal.overflow_add-redo
+overflow_add-redo c = omega (arith, boot_so c.args.records.now c.in_ok-memory.memory c.in_ok-memory.ensures.kept, c.requires.boots)
 
-pub returns-clause-boot : goal.returns-clause-boot
-returns-clause-boot c =
+pub returns-in-Ok-clause-boot : goal.returns-in-Ok-clause-boot
+returns-in-Ok-clause-boot c =
     let rs = c.args.records.now in
     let before = c.in_ok-memory.memory in
-    boot_started rs c.take_in.new.self (c.in_ok-take_in.ensures.kept ∙ started_so rs before c.in_ok-memory.ensures.kept)
+    boot_started rs c.take_in-taken.new.self (c.in-Ok.ensures.kept ∙ started_so rs before c.in_ok-memory.ensures.kept)
