@@ -1,5 +1,5 @@
 -- In every lawful run a branch below another that has left, and was not dropped, has answered it, or its node has stopped since.
-use Rattle.std.proofs.Common.{◌≡◌, ◌≢◌, ◌+◌, ◌<◌, ◌≤◌, ◌&&◌, ◌||◌, Bool, true, false, List, [], ◌∷◌, ◌++◌, map, length, Option, Some, None, inl, inr, refl, sym, ap, subst, subst₂, ◌∙◌, arith, append-nil}
+use Rattle.std.proofs.Common.{◌≡◌, ◌≢◌, ◌&&◌, ◌||◌, Bool, true, false, List, [], ◌∷◌, ◌++◌, map, length, Option, Some, None, inl, inr, refl, sym, ap, subst, ◌∙◌, append-nil}
 use Rattle.std.specs.Prelude.{◌⊎◌, IfSome}
 use Rattle.std.specs.Option.{option_to_list}
 use Rattle.std.specs.List.{AllByRecursion, list_any}
@@ -18,22 +18,20 @@ use Rattle.run_laws.specs.Births.{Born, births_of, born_at}
 use Rattle.run_laws.specs.BirthLaws.{Began, IsChild, GoesSo, RecordNames}
 use Rattle.run_laws.specs.Data.{Packet, Turn, Happening}
 use Rattle.run_laws.specs.Data.happenings
-use Rattle.run_laws.specs.Facts.{Facts, place_at, node_at, records_at, kept_after, with_boot, facts_after}
+use Rattle.run_laws.specs.Facts.{Facts, place_at, node_at, records_at, facts_after}
 use Rattle.run_laws.specs.InTurnLaws.{post_of, packet_post, said_in}
-use Rattle.run_laws.specs.Lawful.{IsOwed, MayHappen, MayTurn, History, IsLawfulRun, facts_at, boots}
+use Rattle.run_laws.specs.Lawful.{IsOwed, MayHappen, MayTurn, History, IsLawfulRun, facts_at}
 use Rattle.run_laws.specs.RunEvents.{with_record, with_exits, lives_at, events_after, events_from, events_of}
 use Rattle.run_laws.specs.Trail.{is_quiet, is_read_only}
 use Rattle.run_laws.specs.WalkLaws.{was_sent}
-use Rattle.run_laws.proofs.AtNodeLemmas.{turn_elsewhere, turn_here, stop_elsewhere, stop_here, start_elsewhere, start_here}
+use Rattle.run_laws.proofs.AtNodeLemmas.{turn_here}
 use Rattle.run_laws.proofs.BirthRunLemmas.{messages_are_of_neighbors, records_name_the_born}
-use Rattle.run_laws.proofs.BootLemmas.{IsOfTurn, step_of_turn, boots_started, boots_with}
 use Rattle.run_laws.proofs.EventsStandLemmas.{run_stands, ids_name_their_node}
 use Rattle.run_laws.proofs.LaterLemmas.{exit_made, turn_added}
-use Rattle.run_laws.proofs.LawfulLemmas.{serves, of_wrote}
+use Rattle.run_laws.proofs.LawfulLemmas.{serves}
 use Rattle.run_laws.proofs.NodesStandLemmas.{some_or_none}
 use Rattle.run_laws.proofs.OwnLemmas.{all_found}
 use Rattle.run_laws.proofs.SaidPostLemmas.{posts_back, posts_of, said_after}
-use Rattle.run_laws.proofs.TurnEventLemmas.{cases_nat}
 use Rattle.tree_laws.proofs.AnswerRunLemmas.{lives_heard}
 use Rattle.tree_laws.proofs.AskLemmas.{sent_more, sent_new}
 use Rattle.tree_laws.proofs.PrefixLemmas.{so_far, f_at, e_at, one_on, more_on}
@@ -46,9 +44,12 @@ use Rattle.site_laws.proofs.LeaveLemmas.{messages_exit, all_quiet, wrote_quiet, 
 use Rattle.site_laws.proofs.TimeLemmas.{Part, part_on, part_of, part_lawful, may_of, exit_on, born_end, keep_on}
 use Rattle.commit_laws.specs.DeliveryLaws.{is_answer}
 use Rattle.commit_laws.specs.WaitLaws.{HasStopped, LeftHaveAnswered}
+use Rattle.commit_laws.proofs.ListLemmas.{all_at}
 use Rattle.commit_laws.proofs.ReadyLemmas.{ready_have_answered}
 use Rattle.commit_laws.proofs.ReasonLemmas.{is_quiet_post}
 use Rattle.commit_laws.proofs.SealSayLemmas.{SaysSeal, seal_says, WasReady, decides_ready, seals_answer}
+use Rattle.commit_laws.proofs.StopLemmas.{stopped_on, cut_stops}
+use Rattle.commit_laws.proofs.UnlessStoppedLemmas.{left_on}
 
 -- ---- an answer goes to the parent
 
@@ -89,10 +90,6 @@ quiet_sent bs c q one (x ∷ xs) all is = by (same x.msg.from c) (is_read_only x
         three (same x.msg.from c) (same x.msg.to q) (is_answer x.msg.kind) _ me to answers
     by true false me quiet found rest = or_right ((same x.msg.from c && same x.msg.to q) && is_answer x.msg.kind) _ (rest found)
     by false r me quiet found rest = or_right ((same x.msg.from c && same x.msg.to q) && is_answer x.msg.kind) _ (rest found)
-
-last_of : {A : Type 0} (P : A → Type 0) (xs : List A) (a : A) → AllByRecursion P (xs ++ a ∷ []) → P a
-last_of P [] a all = all.0
-last_of P (x ∷ xs) a all = last_of P xs a all.1
 
 module _ (t : History) (whole : IsLawfulRun t) (x : Born) (began : Began (births_of t) x) (q : BranchId) (above : x.parent ≡ Some q) where
   abbrev c : BranchId
@@ -153,71 +150,16 @@ module _ (t : History) (whole : IsLawfulRun t) (x : Born) (began : Began (births
     exit_stays : (z : Exit) → exit e c ≡ Some z → exit (e_at t after) c ≡ Some z
     exit_stays z left = subst (λ y. exit y c ≡ Some z) (sym (more_on t hs h)) (exit_on t.places t.commands f h e c z left)
 
-    some_stays : exit e c ≢ None → exit (e_at t after) c ≢ None
-    some_stays some none = elim (some_or_none (exit e c)) [
-      | inl left ↦ (let stays : exit (e_at t after) c ≡ Some left.0 = exit_stays left.0 left.1 in absurd (cc (stays, none)))
-      | inr gone ↦ absurd (some gone)
-    ]
-
-    -- ---- a node that has stopped
-
     even : length f.nodes ≡ length f.records
     even = (run_stands s lawful).0.even
-
-    many : length f.nodes ≡ length t.places
-    many = (run_stands s lawful).1.many
-
-    stops_turn : (u : Turn) → h ≡ happenings.Turn u → (k : Kept) → MayTurn t.places f u k → u.node ≡ c.node → HasStopped f c → HasStopped g c
-    stops_turn u turn k may node stops j up =
-        let p = place_at t.places u.node in
-        let there : node_at f c.node ≡ Some k = subst (λ i. node_at f i ≡ Some k) node may.up in
-        let of_turn : IfSome u.wrote IsOfTurn = of_wrote p k u (serves t.places f u k may) (λ w. IfSome w IsOfTurn) tt (step_of_turn p u.input (serves t.places f u k may).step) in
-        let here : records_at (facts_after t.places t.commands f (happenings.Turn u)) u.node ≡ records_at f u.node ++ option_to_list u.wrote = (turn_here t.places t.commands f even u k may.up).1 in
-        let its : records_at (facts_after t.places t.commands f (happenings.Turn u)) c.node ≡ records_at f c.node ++ option_to_list u.wrote
-        = subst (λ i. records_at (facts_after t.places t.commands f (happenings.Turn u)) i ≡ records_at f i ++ option_to_list u.wrote) node here in
-        let mine : records_at g c.node ≡ records_at f c.node ++ option_to_list u.wrote = subst (λ (y : Happening). records_at (facts_after t.places t.commands f y) c.node ≡ records_at f c.node ++ option_to_list u.wrote) (sym turn) its in
-        let count : boots (records_at g c.node) ≡ boots (records_at f c.node) = ap boots mine ∙ boots_with (records_at f c.node) u.wrote of_turn in
-        let low : c.boot < boots (records_at f c.node) = stops k there in
-        omega (arith, low, count)
-
-    stops_next : (y : Happening) → h ≡ y → MayHappen t.places t.commands f y → c.boot ≤ boots (records_at f c.node) → HasStopped f c → HasStopped (facts_after t.places t.commands f y) c
-    unfolding facts_after
-    stops_next (happenings.Turn u) turn may low stops = elim (cases_nat u.node c.node) [
-      | inl node ↦ subst (λ (y : Happening). HasStopped (facts_after t.places t.commands f y) c) turn (stops_turn u turn may.0 may.1 node stops)
-      | inr other ↦ (let same_there = turn_elsewhere t.places t.commands f even u c.node other in
-          subst₂ (λ o (rs : List RedoRecord). (k : Kept) → o ≡ Some k → c.boot < boots rs) (sym same_there.0) (sym same_there.1) stops)
-    ]
-    stops_next (happenings.Stopped m) it may low stops = elim (cases_nat m c.node) [
-      | inl node ↦ (λ k up. (let down : node_at (facts_after t.places t.commands f (happenings.Stopped m)) m ≡ None = (stop_here t.places t.commands f even m may.0.0 (omega (arith, may.0.1, many))).0 in
-          let none : node_at (facts_after t.places t.commands f (happenings.Stopped m)) c.node ≡ None = subst (λ i. node_at (facts_after t.places t.commands f (happenings.Stopped m)) i ≡ None) node down in
-          absurd (cc (none, up))))
-      | inr other ↦ (let same_there = stop_elsewhere t.places t.commands f even m c.node other in
-          subst₂ (λ o (rs : List RedoRecord). (k : Kept) → o ≡ Some k → c.boot < boots rs) (sym same_there.0) (sym same_there.1) stops)
-    ]
-    stops_next (happenings.Started m boot) it may low stops = elim (cases_nat m c.node) [
-      | inl node ↦ (λ k up. (let here : records_at (facts_after t.places t.commands f (happenings.Started m boot)) m ≡ with_boot f m boot = (start_here t.places t.commands f even m boot may.there.0 (omega (arith, may.there.1, many))).1 in
-          let its : records_at (facts_after t.places t.commands f (happenings.Started m boot)) c.node ≡ with_boot f c.node boot
-          = subst (λ i. records_at (facts_after t.places t.commands f (happenings.Started m boot)) i ≡ with_boot f i boot) node here in
-          let count : boots (records_at (facts_after t.places t.commands f (happenings.Started m boot)) c.node) ≡ boots (records_at f c.node) + 1 = ap boots its ∙ boots_started (records_at f c.node) boot in
-          omega (arith, low, count)))
-      | inr other ↦ (let same_there = start_elsewhere t.places t.commands f even m boot c.node other in
-          subst₂ (λ o (rs : List RedoRecord). (k : Kept) → o ≡ Some k → c.boot < boots rs) (sym same_there.0) (sym same_there.1) stops)
-    ]
-    stops_next (happenings.Begun m) it may low stops = stops
-    stops_next (happenings.Cut a b) it may low stops = stops
-    stops_next (happenings.Join a b) it may low stops = stops
-    stops_next (happenings.Lost m) it may low stops = stops
 
     may : MayHappen t.places t.commands f h
     may = may_of t whole hs h rest is
 
-    stopped_stays : exit e c ≢ None → HasStopped f c → HasStopped (f_at t after) c
-    stopped_stays some stops = subst (λ y. HasStopped y c) (sym (one_on t hs h)) (stops_next h refl may ((run_stands s lawful).1.given c some).0 stops)
-
     settled_stays : IsSettled hs → IsSettled after
     settled_stays (inl dropped) = inl (exit_stays Dropped dropped)
     settled_stays (inr (inl sent)) = inr (inl (sent_stays sent))
-    settled_stays (inr (inr stopped)) = inr (inr (some_stays stopped.0, stopped_stays stopped.0 stopped.1))
+    settled_stays (inr (inr stopped)) = inr (inr (left_on t c hs h stopped.0, stopped_on t whole c hs h rest is stopped.0 stopped.1))
 
     -- ---- a turn in which it leaves
 
@@ -229,12 +171,7 @@ module _ (t : History) (whole : IsLawfulRun t) (x : Born) (began : Began (births
       d = deed_of p k u.input
 
       left_cut : u.cut ≡ true → (z : Exit) → exit (e_at t after) c ≡ Some z → IsSettled after
-      left_cut cut z now =
-          let here : node_at (facts_after t.places t.commands f (happenings.Turn u)) u.node ≡ None = (turn_here t.places t.commands f even u k may_u.up).0 ∙ ap (λ y. kept_after y (Some (turn_of p k u.input))) cut in
-          let there : node_at (facts_after t.places t.commands f (happenings.Turn u)) c.node ≡ None = subst (λ i. node_at (facts_after t.places t.commands f (happenings.Turn u)) i ≡ None) node here in
-          let its : node_at g c.node ≡ None = subst (λ (y : Happening). node_at (facts_after t.places t.commands f y) c.node ≡ None) (sym turn) there in
-          let down : node_at (f_at t after) c.node ≡ None = subst (λ y. node_at y c.node ≡ None) (sym (one_on t hs h)) its in
-          inr (inr ((λ no. absurd (cc (no, now))), (λ j up. absurd (cc (down, up)))))
+      left_cut cut z now = inr (inr ((λ no. absurd (cc (no, now))), cut_stops t whole c hs h rest is u turn k may_u.up node cut))
 
       posts_are : IsOwed p k u.input u.wrote u.sent false → posts_of h ≡ d.says
       unfolding turn_of
@@ -271,7 +208,7 @@ module _ (t : History) (whole : IsLawfulRun t) (x : Born) (began : Began (births
           = subst (λ (y : Happening). records_at (facts_after t.places t.commands f y) u.node ≡ records_at f u.node ++ option_to_list u.wrote) (sym turn) here in
           let mine : records_at (f_at t after) u.node ≡ records_at f u.node ++ r ∷ []
           = subst (λ y. records_at y u.node ≡ records_at f u.node ++ option_to_list u.wrote) (sym (one_on t hs h)) its ∙ ap (λ o. records_at f u.node ++ option_to_list o) wrote in
-          last_of (RecordNames (Began (births_of (so_far t after)))) (records_at f u.node) r (subst (λ xs. AllByRecursion (RecordNames (Began (births_of (so_far t after)))) xs) mine all)
+          all_at (RecordNames (Began (births_of (so_far t after)))) (records_at f u.node) r [] (subst (λ xs. AllByRecursion (RecordNames (Began (births_of (so_far t after)))) xs) mine all)
 
       sealed_so : IsOwed p k u.input u.wrote u.sent false → (w : Option RedoRecord) → u.wrote ≡ w → IsSealOf c w → IsSettled after
       sealed_so owed (Some (records.Sealed r)) wrote me =

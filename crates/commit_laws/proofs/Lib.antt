@@ -1,4 +1,9 @@
 mod TriedCommitLemmas
+pub mod ListLemmas
+pub mod AmongLemmas
+pub mod SentLemmas
+pub mod UnlessStoppedLemmas
+pub mod StopLemmas
 pub mod NetLemmas
 pub mod CommitCallLemmas
 pub mod KeepLemmas

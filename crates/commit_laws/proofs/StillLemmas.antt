@@ -1,14 +1,11 @@
 -- In every lawful run each message of the transaction of an undisturbed COMMIT was delivered, and no branch of it collects
 -- any more, where none below the root was dropped.
-use Rattle.std.proofs.Common.{◌≡◌, ◌≢◌, ℕ, ◌+◌, ◌<◌, ◌&&◌, ◌||◌, Bool, true, false, cond, List, [], ◌∷◌, map, filter, length, position, option_map, Option, Some, None, refl, ap, subst, ◌∙◌, arith}
+use Rattle.std.proofs.Common.{◌≡◌, ◌≢◌, ℕ, ◌+◌, ◌<◌, ◌&&◌, ◌||◌, Bool, true, false, List, [], ◌∷◌, length, position, option_map, Option, Some, None, refl, ap, subst, ◌∙◌, arith}
 use Rattle.std.specs.List.{AllByRecursion, list_any, position_or_len}
-use Rattle.std.proofs.lemmas.Bool.{or_right}
-use Rattle.tran_ids.proofs.BranchLemmas.{equal_from_same, same_from_equal}
 use Rattle.node_rules.specs.Data.{BranchId}
-use Rattle.node_rules.specs.Words.{same}
 use Rattle.node_rules.specs.Kept.{Kept}
 use Rattle.net_bag.specs.Net.{is_flying, flies}
-use Rattle.run_laws.specs.Births.{Born, births_of, born_id, born_at}
+use Rattle.run_laws.specs.Births.{Born, births_of}
 use Rattle.run_laws.specs.BirthLaws.{Began}
 use Rattle.run_laws.specs.Branches.{is_among}
 use Rattle.run_laws.specs.Data.{Fate, Packet}
@@ -22,6 +19,7 @@ use Rattle.run_laws.proofs.TurnEventLemmas.{all_both}
 use Rattle.commit_laws.specs.StillLaws.{UndisturbedMessagesCome, DroppedNone, UndisturbedCollectsEnd}
 use Rattle.commit_laws.specs.Undisturbed.{Commit, Undisturbed, branches_in, is_lost, HasNotStopped}
 use Rattle.commit_laws.specs.WaitLaws.{HasStopped, AllCame}
+use Rattle.commit_laws.proofs.AmongLemmas.{among_all, is_in}
 use Rattle.commit_laws.proofs.WaitLemmas.{collects_are_over}
 
 -- ---- lists
@@ -47,31 +45,6 @@ module _ {A : Type 0} (p : A → Bool) where
       by true here none rest = absurd cc
       by false other none rest = (other, rest none)
 
--- what is so of each branch is so of one among them
-module _ (P : BranchId → Type 0) where
-  among_all : (bs : List BranchId) (b : BranchId) → AllByRecursion P bs → is_among b bs ≡ true → P b
-  among_all [] b all is = absurd cc
-  among_all (c ∷ bs) b all is = by (same c b) refl is (among_all bs b all.1)
-    where
-      by : (q : Bool) → same c b ≡ q → (q || is_among b bs) ≡ true → (is_among b bs ≡ true → P b) → P b
-      by true here found rest = subst P (equal_from_same c b here) all.0
-      by false other found rest = rest found
-
--- a branch that began in a transaction is among its branches
-is_in : (bs : List Born) (root m : BranchId) (b : Born) → born_at bs m ≡ Some b → b.root ≡ root → is_among m (branches_in bs root) ≡ true
-is_in [] root m b at of = absurd cc
-is_in (x ∷ bs) root m b at of = by (same x.me m) (same x.root root) refl refl at (is_in bs root m b)
-  where
-    by : (q r : Bool) → same x.me m ≡ q → same x.root root ≡ r → (cond q (Some x) (born_at bs m)) ≡ Some b → (born_at bs m ≡ Some b → b.root ≡ root → is_among m (branches_in bs root) ≡ true)
-        → is_among m (map born_id (cond r (x ∷ filter (λ (y : Born). same y.root root) bs) (filter (λ (y : Born). same y.root root) bs))) ≡ true
-    by true true me its found rest = ap (λ q. q || is_among m (branches_in bs root)) me
-    by true false me its found rest =
-        let it : x ≡ b = (let both : Some x ≡ Some b = found in cc) in
-        let mine : same x.root root ≡ true = same_from_equal x.root root (ap (λ (y : Born). y.root) it ∙ of) in
-        absurd (cc (mine, its))
-    by false true me its found rest = or_right (same x.me m) (is_among m (branches_in bs root)) (rest found of)
-    by false false me its found rest = rest found of
-
 -- ---- fates
 
 flown : (fate : Fate) → is_lost fate ≡ false → (fate ≢ fates.InFlight) → fate ≡ fates.Delivered
@@ -95,7 +68,7 @@ module _ (t : History) (whole : IsLawfulRun t) (c : Commit t.places t.commands t
   abbrev bs : List Born
   bs = births_of t
 
-  among : (b : Born) → Began bs b → b.root ≡ c.root → is_among b.me (branches_in bs c.root) ≡ true
+  pub among : (b : Born) → Began bs b → b.root ≡ c.root → is_among b.me (branches_in bs c.root) ≡ true
   among b began of = is_in bs c.root b.me b began of
 
   one_came : (x : Packet) → (is_among x.msg.from (branches_in bs c.root) && is_lost x.fate) ≡ false → flies x ≡ false → (b : Born) → Began bs b → b.me ≡ x.msg.from → b.root ≡ c.root → x.fate ≡ fates.Delivered
@@ -126,11 +99,18 @@ module _ (t : History) (whole : IsLawfulRun t) (c : Commit t.places t.commands t
           let low : b.boot < boots (records_at (facts_at t) b.node) = stops k up in
           absurd (omega (arith, boot, its, low))
 
+  -- no node of its branches has stopped
+  pub stays_up : (b : Born) → Began bs b → b.root ≡ c.root → HasNotStopped (facts_at t) b.me
+  stays_up b began of = among_all (HasNotStopped (facts_at t)) (branches_in bs c.root) b.me u.stopped (among b began of)
+
+  pub never_stopped : (b : Born) → Began bs b → b.root ≡ c.root → HasStopped (facts_at t) b.me → ⊥
+  never_stopped b began of stops = not_stopped b.me (stays_up b began of) stops
+
   pub all_came : DroppedNone t c.root → AllCame t c.root
   all_came below = record {
     messages = messages_come;
     below = below;
-    up = λ b began of stopped. not_stopped b.me (among_all (HasNotStopped (facts_at t)) (branches_in bs c.root) b.me u.stopped (among b began of)) stopped;
+    up = never_stopped;
   }
 
 pub undisturbed_messages_come : UndisturbedMessagesCome

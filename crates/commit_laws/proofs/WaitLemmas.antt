@@ -1,18 +1,16 @@
 -- In every lawful run a branch that awaits the answer of a child waits for one that was not asked, collects, or has
 -- answered, or that takes no part any more. So where all messages came, and no branch was dropped or stopped, none
 -- collects.
-use Rattle.std.proofs.Common.{◌≡◌, ◌≢◌, ℕ, zero, suc, ◌+◌, ◌≤◌, ◌&&◌, ◌||◌, Bool, true, false, List, [], ◌∷◌, map, length, slice_get, Option, Some, None, inl, inr, refl, sym, ap, subst, ◌∙◌, arith}
+use Rattle.std.proofs.Common.{◌≡◌, ◌≢◌, ℕ, zero, suc, ◌+◌, ◌≤◌, ◌||◌, Bool, true, false, List, [], ◌∷◌, map, length, Option, Some, None, inl, inr, refl, sym, ap, subst, ◌∙◌, arith}
 use Rattle.std.specs.Prelude.{◌⊎◌}
 use Rattle.std.specs.List.{AllByRecursion, list_any}
 use Rattle.dtx_values.specs.Limits.{depth_limit}
-use Rattle.std.proofs.lemmas.Bool.{and_parts}
-use Rattle.tran_ids.proofs.BranchLemmas.{equal_from_same}
 use Rattle.tran_ids.proofs.ListedLemmas.{item_is}
 use Rattle.agreement.specs.Events.{Exit, Sealed, Decided, Quiet, Dropped, exit}
 use Rattle.node_rules.specs.Data.{BranchId, Edge, Kind, Live, Phase}
 use Rattle.node_rules.specs.Data.phases
 use Rattle.node_rules.specs.Data.votes
-use Rattle.node_rules.specs.Words.{same, numbered}
+use Rattle.node_rules.specs.Words.{numbered}
 use Rattle.node_rules.specs.Kept.{Kept, live_id, live_at, work_at, with_work}
 use Rattle.node_rules.specs.Prepare.{is_awaited}
 use Rattle.run_laws.specs.Births.{Born, births_of, born_id, born_at}
@@ -22,7 +20,7 @@ use Rattle.run_laws.specs.Data.{Fate, Packet}
 use Rattle.run_laws.specs.Data.fates
 use Rattle.run_laws.specs.Facts.{Facts, node_at}
 use Rattle.run_laws.specs.FreezeLaws.{was_asked}
-use Rattle.run_laws.specs.InTurnLaws.{packet_post, said_in}
+use Rattle.run_laws.specs.InTurnLaws.{said_in}
 use Rattle.run_laws.specs.Lawful.{History, IsLawfulRun, facts_at}
 use Rattle.run_laws.specs.PhaseLaws.{IsUnasked, PhaseFits}
 use Rattle.run_laws.specs.RunEvents.{lives_at, events_of}
@@ -39,27 +37,14 @@ use Rattle.site_laws.proofs.FateLemmas.{among_found}
 use Rattle.site_laws.proofs.ShallowLemmas.{parents_are_shallow}
 use Rattle.commit_laws.specs.DeliveryLaws.{IsBusy, is_answer, HasAnswerOf}
 use Rattle.commit_laws.specs.WaitLaws.{HasStopped, HasNotCome, Awaits, Not_asked, Collects_too, Not_answered, Was_dropped, Has_stopped, CollectorsWait, AllCame, CollectsAreOver}
+use Rattle.commit_laws.proofs.ListLemmas.{IsIn, all_in, in_all}
 use Rattle.commit_laws.proofs.NetLemmas.{numbered_all}
+use Rattle.commit_laws.proofs.SentLemmas.{IsSent, sent_found}
 use Rattle.commit_laws.proofs.HeardLemmas.{prepares_are_heard, answers_are_heard}
 use Rattle.commit_laws.proofs.LeftLemmas.{left_have_answered}
 use Rattle.commit_laws.proofs.ReadyLemmas.{ready_have_answered}
 
 -- ---- lists
-
--- an item is in a list
-abbrev IsIn : {A : Type 0} → A → List A → Type 0
-IsIn a [] = ⊥
-IsIn a (x ∷ xs) = (x ≡ a) ⊎ IsIn a xs
-
-module _ {A : Type 0} (P : A → Type 0) where
-  all_in : (xs : List A) → ((a : A) → IsIn a xs → P a) → AllByRecursion P xs
-  all_in [] each = tt
-  all_in (x ∷ xs) each = (each x (inl refl), all_in xs (λ a at. each a (inr at)))
-
-  in_all : (xs : List A) (a : A) → AllByRecursion P xs → IsIn a xs → P a
-  in_all [] a all at = absurd at
-  in_all (x ∷ xs) a all (inl is) = subst P is all.0
-  in_all (x ∷ xs) a all (inr at) = in_all xs a all.1 at
 
 module _ {A : Type 0} (test : A → Bool) where
   -- one of those that pass a test
@@ -81,28 +66,6 @@ all_peers P (e ∷ es) each = (each 1 e.peer refl, all_peers P es (λ i c at. la
     later (suc i) c at = each (suc (suc i)) c at
 
 -- ---- messages
-
--- A message of a kind from a branch to another.
-record IsSent (kind : Kind → Bool) (from to : BranchId) (xs : List Packet) : Type 0 where
-  pub place : ℕ
-  pub packet : Packet
-  pub there : slice_get xs place ≡ Some packet
-  pub is_from : packet.msg.from ≡ from
-  pub is_to : packet.msg.to ≡ to
-  pub is_kind : kind packet.msg.kind ≡ true
-
-sent_found : (kind : Kind → Bool) (from to : BranchId) (xs : List Packet) → was_sent kind (map packet_post xs) from to ≡ true → IsSent kind from to xs
-sent_found kind from to [] is = absurd cc
-sent_found kind from to (x ∷ xs) is = by ((same x.msg.from from && same x.msg.to to) && kind x.msg.kind) refl is (sent_found kind from to xs)
-  where
-    by : (q : Bool) → ((same x.msg.from from && same x.msg.to to) && kind x.msg.kind) ≡ q → (q || was_sent kind (map packet_post xs) from to) ≡ true → (was_sent kind (map packet_post xs) from to ≡ true → IsSent kind from to xs) → IsSent kind from to (x ∷ xs)
-    by true here found rest =
-        let parts = and_parts (same x.msg.from from && same x.msg.to to) (kind x.msg.kind) here in
-        let ends = and_parts (same x.msg.from from) (same x.msg.to to) parts.0 in
-        record { place = 0; packet = x; there = refl; is_from = equal_from_same x.msg.from from ends.0; is_to = equal_from_same x.msg.to to ends.1; is_kind = parts.1 }
-    by false other found rest =
-        let it : IsSent kind from to xs = rest found in
-        record { place = suc it.place; packet = it.packet; there = it.there; is_from = it.is_from; is_to = it.is_to; is_kind = it.is_kind }
 
 -- whether a message was delivered
 come_or : (fate : Fate) → (fate ≡ fates.Delivered) ⊎ (fate ≢ fates.Delivered)

@@ -3,6 +3,7 @@ use Rattle.std.specs.Prelude.{◌≡◌, ◌≢◌, ℕ, Bool, Some, None}
 use Rattle.std.specs.List.{AllByRecursion}
 use Rattle.agreement.specs.Events.{Dropped, exit}
 use Rattle.node_rules.specs.Data.{BranchId, Live}
+use Rattle.node_rules.specs.Data.kinds
 use Rattle.node_rules.specs.Data.phases
 use Rattle.node_rules.specs.Kept.{Kept, live_at}
 use Rattle.run_laws.specs.Births.{Born, births_of}
@@ -21,6 +22,10 @@ UndisturbedMessagesCome = (t : History) → IsLawfulRun t → (c : Commit t.plac
 -- no branch of a transaction below its root was dropped
 abbrev pub DroppedNone : History → BranchId → Type 0
 DroppedNone t root = (b : Born) → Began (births_of t) b → b.root ≡ root → b.parent ≢ None → exit (events_of t) b.me ≢ Some Dropped
+
+-- no branch of a transaction said Abort
+abbrev pub AbortsNone : History → BranchId → Type 0
+AbortsNone t root = AllByRecursion (λ x. (b : Born) → Began (births_of t) b → b.me ≡ x.msg.from → b.root ≡ root → x.msg.kind ≢ kinds.Abort) (facts_at t).net.packets
 
 -- So none of its branches collects any more, where none below the root was dropped.
 abbrev pub UndisturbedCollectsEnd : Type 0

@@ -21,7 +21,8 @@ use Rattle.run_laws.proofs.OwnLemmas.{all_found}
 use Rattle.tree_laws.proofs.PrefixLemmas.{so_far}
 use Rattle.site_laws.proofs.TimeLemmas.{born_end, part_lawful}
 use Rattle.commit_laws.specs.StillLaws.{DroppedNone}
-use Rattle.commit_laws.specs.Undisturbed.{Commit, Undisturbed, IsComplete, UndisturbedCommitsAreComplete, HasNotStopped, SealIsEnded, branches_in, stand_at}
+use Rattle.commit_laws.specs.Undisturbed.{Commit, Undisturbed, IsComplete, UndisturbedCommitsAreComplete, SealIsEnded, branches_in, stand_at}
+use Rattle.commit_laws.proofs.StillLemmas.{stays_up}
 use Rattle.stay_laws.proofs.StayLemmas.{undisturbed_commits_drop_none, undisturbed_commits_abort_none}
 use Rattle.point_laws.proofs.BookEndLemmas.{undisturbed_seals_are_decided}
 use Rattle.point_laws.proofs.ReadyEndLemmas.{undisturbed_leave_ready}
@@ -32,7 +33,6 @@ use Rattle.forget_laws.proofs.RowsGoLemmas.{undisturbed_rows_go}
 use Rattle.stray_laws.proofs.AnswerLemmas.{undisturbed_calls_end}
 use Rattle.stray_laws.proofs.CallLemmas as call
 use Rattle.stray_laws.proofs.RootAskLemmas.{undisturbed_branches_leave}
-use Rattle.stray_laws.proofs.TreeLemmas.{is_in, among_all}
 use Rattle.complete_laws.specs.CompleteLaws.{LawfulCommitsAreComplete}
 
 -- ---- lists
@@ -153,7 +153,7 @@ module _ (t : History) (whole : IsLawfulRun t) (c : Commit t.places t.commands t
 
   -- and its node is up
   gone : (b : Born) → Began bs b → b.root ≡ c.root → stand_at (facts_at t) b.me ≡ Some Is_gone
-  gone b began of = by (node_at (facts_at t) b.me.node) refl (among_all (HasNotStopped (facts_at t)) (branches_in bs c.root) b.me u.stopped (is_in bs c.root b.me b began of))
+  gone b began of = by (node_at (facts_at t) b.me.node) refl (stays_up t whole c u b began of)
     where
       by : (o : Option Kept) → node_at (facts_at t) b.me.node ≡ o → option_map (λ (k : Kept). k.stored.durable.boot) o ≡ Some b.me.boot → option_map (λ (k : Kept). stand_of k b.me) (node_at (facts_at t) b.me.node) ≡ Some Is_gone
       by None up is = absurd cc

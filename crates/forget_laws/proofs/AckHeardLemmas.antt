@@ -36,13 +36,13 @@ use Rattle.tree_laws.proofs.PrefixLemmas.{so_far, f_at, e_at}
 use Rattle.site_laws.proofs.TimeLemmas.{Part, part_of, part_lawful}
 use Rattle.commit_laws.specs.DeliveryLaws.{CameInTurn}
 use Rattle.commit_laws.proofs.CameLemmas.{deliveries_came}
+use Rattle.commit_laws.proofs.UnlessStoppedLemmas.{Here, TurnsKeep, here_end}
 use Rattle.forget_laws.specs.RowLaws.{is_ack, IsSealed}
 use Rattle.forget_laws.specs.ForgetLaws.{HoldsAck, IsNoted, AcksAreNoted}
 use Rattle.forget_laws.proofs.EventLemmas.{part_added, part_allowed, learn_knows}
 use Rattle.forget_laws.proofs.NotedStepLemmas.{Holds, Held, NotNew, recorded, held_on, put_once, now_held, none_named}
 use Rattle.forget_laws.proofs.FoundRowLemmas.{rows_found}
 use Rattle.forget_laws.proofs.RowStepLemmas.{Found}
-use Rattle.forget_laws.proofs.StopLemmas.{Here, TurnsKeep, here_end}
 use Rattle.forget_laws.proofs.CameHereLemmas as here
 use Rattle.forget_laws.proofs.CameHereLemmas.{knows_it}
 

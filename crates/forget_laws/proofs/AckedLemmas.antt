@@ -34,6 +34,7 @@ use Rattle.tree_laws.proofs.ForestLemmas as trees
 use Rattle.tree_laws.proofs.ForestRunLemmas.{run_known, runs_have_forests}
 use Rattle.site_laws.proofs.TimeLemmas.{Part}
 use Rattle.commit_laws.specs.WaitLaws.{HasStopped}
+use Rattle.commit_laws.proofs.ListLemmas.{IsIn, all_in, in_all}
 use Rattle.forget_laws.specs.RowLaws.{is_ack, is_forced, IsSealed, SaidAck, RowTells}
 use Rattle.forget_laws.specs.ForgetLaws.{HoldsAck, IsNoted}
 use Rattle.forget_laws.specs.GoneLaws.{AllEnded}
@@ -44,7 +45,7 @@ use Rattle.forget_laws.proofs.EventLemmas.{run_lawful, part_inv}
 use Rattle.forget_laws.proofs.ForgetRunLemmas.{forgets_come_from_toward}
 use Rattle.forget_laws.proofs.RowRunLemmas.{rows_tell}
 use Rattle.forget_laws.proofs.WayLemmas.{WayIs, rows_way, child_beyond, parent_beyond}
-use Rattle.forget_laws.proofs.NearLemmas.{IsIn, all_in, in_all, all_true, deep_low, far_low, IsOff, beyond_off, gone_so, none_live}
+use Rattle.forget_laws.proofs.NearLemmas.{all_true, deep_low, far_low, IsOff, beyond_off, gone_so, none_live}
 
 module _ (t : History) (whole : IsLawfulRun t) (root : BranchId) (ended : AllEnded t root) where
   abbrev pub f : Facts

@@ -1,6 +1,6 @@
 -- In every lawful run a branch that has forgotten told so to each neighbour beyond that is not gone without changes, and was
 -- told so by toward, where it is not the site. Unless its node has stopped.
-use Rattle.std.proofs.Common.{◌≡◌, ◌⊎◌, Bool, true, false, List, [], ◌∷◌, ◌++◌, map, Some, None, inl, inr, refl, sym, ap, subst, ◌∙◌, append-nil}
+use Rattle.std.proofs.Common.{◌≡◌, ◌⊎◌, Bool, true, false, List, [], ◌∷◌, ◌++◌, map, Some, inl, inr, refl, sym, ap, subst, ◌∙◌, append-nil}
 use Rattle.std.specs.Prelude.{IfSome}
 use Rattle.std.specs.List.{AllByRecursion}
 use Rattle.tran_ids.proofs.ListedLemmas.{item_is}
@@ -15,14 +15,13 @@ use Rattle.node_rules.specs.Turn.{turn_of, deed_of}
 use Rattle.run_laws.specs.Data.{Happening, Turn}
 use Rattle.run_laws.specs.Data.happenings
 use Rattle.run_laws.specs.EventLaws.{EachEventFrom}
-use Rattle.run_laws.specs.Facts.{Facts, first_facts, place_at, node_at, kept_after, facts_after}
+use Rattle.run_laws.specs.Facts.{Facts, first_facts, place_at, facts_after}
 use Rattle.run_laws.specs.IdLaws.{IsRecordOf}
 use Rattle.run_laws.specs.InTurnLaws.{post_of, said_in}
 use Rattle.run_laws.specs.Lawful.{IsOwed, MayHappen, MayTurn, History, IsLawfulRun, facts_at}
 use Rattle.run_laws.specs.RunEvents.{events_after, events_from, events_of}
 use Rattle.run_laws.specs.TowardLaws.{IsRowLike, ForgetsSo, GoesByRow, WritesByRow}
 use Rattle.run_laws.specs.WalkLaws.{was_sent}
-use Rattle.run_laws.proofs.AtNodeLemmas.{turn_here}
 use Rattle.run_laws.proofs.EventsStandLemmas.{node_so, owned_so, run_stands}
 use Rattle.run_laws.proofs.LaterLemmas.{Added, Any, exit_later, has_later}
 use Rattle.run_laws.proofs.LawfulLemmas.{serves}
@@ -41,10 +40,10 @@ use Rattle.tree_laws.proofs.PrefixLemmas.{so_far, f_at, e_at, one_on, more_on}
 use Rattle.tree_laws.proofs.RowLemmas.{kid_branch}
 use Rattle.site_laws.proofs.TimeLemmas.{Part, part_of, part_lawful, may_of, each_at, keep_on}
 use Rattle.commit_laws.specs.WaitLaws.{HasStopped}
+use Rattle.commit_laws.proofs.StopLemmas.{stopped_on, cut_stops}
 use Rattle.forget_laws.specs.ForgetLaws.{is_forgotten, ToldForgotten, ForgetsAreTold, ForgetsComeFromToward}
 use Rattle.forget_laws.proofs.EventLemmas.{happening_added, part_inv, forgot_left, turn_back, stop_back, wrote_back}
 use Rattle.forget_laws.proofs.ForgetStepLemmas.{SaysForgot, forgot_says, same_kids, beyond_told}
-use Rattle.forget_laws.proofs.StopLemmas.{Stopped, stopped_on}
 use Rattle.forget_laws.proofs.WayLemmas.{WayIs, rows_way}
 
 module _ (t : History) (whole : IsLawfulRun t) (b : BranchId) where
@@ -60,7 +59,7 @@ module _ (t : History) (whole : IsLawfulRun t) (b : BranchId) where
   Came_to hs = (b ≡ site_of p b) ⊎ Has (Send_forgotten (p.toward b) b) (e_at t hs)
 
   abbrev Forgets : List Happening → Type 0
-  Forgets hs = Has (Forget b) (e_at t hs) → (Told hs ⊎ Stopped t whole b (f_at t hs)) × Came_to hs
+  Forgets hs = Has (Forget b) (e_at t hs) → (Told hs ⊎ HasStopped (f_at t hs) b) × Came_to hs
 
   module _ (hs : List Happening) (h : Happening) (rest : List Happening) (is : hs ++ h ∷ rest ≡ t.trace) (now : Forgets hs) where
     abbrev f : Facts
@@ -94,7 +93,7 @@ module _ (t : History) (whole : IsLawfulRun t) (b : BranchId) where
       | inr quiet ↦ inr (exit_later x Quiet added quiet)
     ]
 
-    old_on : Has (Forget b) e → (Told after ⊎ Stopped t whole b (f_at t after)) × Came_to after
+    old_on : Has (Forget b) e → (Told after ⊎ HasStopped (f_at t after) b) × Came_to after
     old_on has =
         let was = now has in (
           elim was.0 [
@@ -175,16 +174,9 @@ module _ (t : History) (whole : IsLawfulRun t) (b : BranchId) where
         ]
       ]
 
-      here : node_at (facts_after t.places t.commands f (happenings.Turn u)) u.node ≡ kept_after u.cut (Some (turn_of place k u.input))
-      here = (turn_here t.places t.commands f (run_stands (so_far t hs) lawful).0.even u k may.up).0
-
-      told_by : (cut : Bool) → u.cut ≡ cut → IsOwed place k u.input u.wrote u.sent cut → Told after ⊎ Stopped t whole b (f_at t after)
+      told_by : (cut : Bool) → u.cut ≡ cut → IsOwed place k u.input u.wrote u.sent cut → Told after ⊎ HasStopped (f_at t after) b
       unfolding turn_of
-      told_by true cut owed =
-          let down : node_at (facts_after t.places t.commands f (happenings.Turn u)) u.node ≡ None = here ∙ ap (λ c. kept_after c (Some (turn_of place k u.input))) cut in
-          let none : node_at (f_at t after) b.node ≡ None
-          = subst (λ x. node_at x b.node ≡ None) (sym (one_on t hs h)) (subst (λ y. node_at (facts_after t.places t.commands f y) b.node ≡ None) (sym turn) (subst (λ n. node_at (facts_after t.places t.commands f (happenings.Turn u)) n ≡ None) (sym node) down)) in
-          inr (λ j up. absurd (cc (none, up)))
+      told_by true cut owed = inr (cut_stops t whole b hs h rest is u turn k may.up (sym node) cut)
       told_by false cut owed =
           let posts : posts_of (happenings.Turn u) ≡ d.says = ap (λ xs. map post_of xs) owed.1 ∙ posts_back d.after.clock d.says in
           let its : posts_of h ≡ d.says = ap posts_of turn ∙ posts in
@@ -195,10 +187,10 @@ module _ (t : History) (whole : IsLawfulRun t) (b : BranchId) where
             | inr quiet ↦ inr (exit_later x Quiet added quiet)
           ])
 
-      new_on : (Told after ⊎ Stopped t whole b (f_at t after)) × Came_to after
+      new_on : (Told after ⊎ HasStopped (f_at t after) b) × Came_to after
       new_on = (told_by u.cut refl may.owed, came_stays came_now)
 
-    forgets_by : (y : Happening) → h ≡ y → MayHappen t.places t.commands f y → Has (Forget b) (events_after t.places t.commands f y e) → (Told after ⊎ Stopped t whole b (f_at t after)) × Came_to after
+    forgets_by : (y : Happening) → h ≡ y → MayHappen t.places t.commands f y → Has (Forget b) (events_after t.places t.commands f y e) → (Told after ⊎ HasStopped (f_at t after) b) × Came_to after
     forgets_by (happenings.Turn u) turn may has = elim (wrote_back b u.node u.wrote e (turn_back b f (facts_after t.places t.commands f (happenings.Turn u)) u e has)) [
       | inl old ↦ old_on old
       | inr new ↦ new_on u may.0 may.1 turn new
@@ -220,10 +212,7 @@ module _ (t : History) (whole : IsLawfulRun t) (b : BranchId) where
   pub forgets_end : Has (Forget b) (events_of t) → (ToldForgotten t b ⊎ HasStopped (facts_at t) b) × ((b ≡ site_of p b) ⊎ Has (Send_forgotten (p.toward b) b) (events_of t))
   forgets_end has =
       let all : Forgets t.trace = keep_on t whole Forgets forgets_on [] t.trace (record { rest = []; is = append-nil t.trace }) first in
-      let it = all has in (
-        elim it.0 [ inl told ↦ inl told | inr stopped ↦ inr (λ k up. elim (stopped k up) [ inl low ↦ low | inr never ↦ absurd never ]) ],
-        it.1,
-      )
+      all has
 
 pub forgets_are_told : ForgetsAreTold
 forgets_are_told t whole b has = (forgets_end t whole b has).0

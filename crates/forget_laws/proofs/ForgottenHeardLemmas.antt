@@ -33,10 +33,10 @@ use Rattle.site_laws.proofs.TimeLemmas.{Part, part_on}
 use Rattle.commit_laws.specs.DeliveryLaws.{CameInTurn}
 use Rattle.commit_laws.specs.WaitLaws.{HasStopped}
 use Rattle.commit_laws.proofs.CameLemmas.{deliveries_came}
+use Rattle.commit_laws.proofs.StopLemmas.{stopped_end}
 use Rattle.forget_laws.specs.RowLaws.{IsSealed}
 use Rattle.forget_laws.specs.ForgetLaws.{is_forgotten, ForgottensAreHeard}
 use Rattle.forget_laws.proofs.EventLemmas.{part_added}
-use Rattle.forget_laws.proofs.StopLemmas.{stopped_end}
 use Rattle.forget_laws.proofs.WayLemmas.{WayIs, rows_way}
 use Rattle.forget_laws.proofs.CameHereLemmas as here
 use Rattle.forget_laws.proofs.CameHereLemmas.{knows_it}

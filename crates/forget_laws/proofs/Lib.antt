@@ -7,7 +7,6 @@ pub mod VotedLemmas
 pub mod EventLemmas
 pub mod FoundRowLemmas
 pub mod RowRunLemmas
-pub mod StopLemmas
 pub mod WayLemmas
 pub mod NotedStepLemmas
 pub mod CameHereLemmas

@@ -1,5 +1,5 @@
 -- Lists, how far branches can be from the site, and the neighbours that a row names and that are not toward.
-use Rattle.std.proofs.Common.{◌≡◌, ℕ, ◌+◌, ◌≤◌, ◌⊎◌, ◌&&◌, not, Bool, true, false, List, [], ◌∷◌, filter, Option, Some, None, inl, inr, refl, ap, subst, ◌∙◌, arith}
+use Rattle.std.proofs.Common.{◌≡◌, ℕ, ◌+◌, ◌≤◌, ◌⊎◌, ◌&&◌, not, Bool, true, false, List, [], ◌∷◌, filter, Option, Some, None, inl, inr, refl, ap, ◌∙◌, arith}
 use Rattle.std.specs.List.{AllByRecursion, list_all}
 use Rattle.std.proofs.lemmas.Bool.{cond_both, not-true}
 use Rattle.commit_forget.specs.declared.next.Beyond.{Beyond as Neighbor}
@@ -15,21 +15,6 @@ use Rattle.run_laws.proofs.ListLemmas.{all_filter, all_append, all_map}
 use Rattle.tree_laws.specs.Forests.{depth_in, depth_at, deepest, far_by}
 
 -- ---- lists
-
--- an item is in a list
-abbrev pub IsIn : {A : Type 0} → A → List A → Type 0
-IsIn a [] = ⊥
-IsIn a (x ∷ xs) = (x ≡ a) ⊎ IsIn a xs
-
-module _ {A : Type 0} (P : A → Type 0) where
-  pub all_in : (xs : List A) → ((a : A) → IsIn a xs → P a) → AllByRecursion P xs
-  all_in [] each = tt
-  all_in (x ∷ xs) each = (each x (inl refl), all_in xs (λ a at. each a (inr at)))
-
-  pub in_all : (xs : List A) (a : A) → AllByRecursion P xs → IsIn a xs → P a
-  in_all [] a all at = absurd at
-  in_all (x ∷ xs) a all (inl is) = subst P is all.0
-  in_all (x ∷ xs) a all (inr at) = in_all xs a all.1 at
 
 pub all_true : (ys : List Neighbor) → AllByRecursion (λ y. y.acked ≡ true) ys → list_all (λ y. y.acked) ys ≡ true
 all_true [] all = refl

@@ -1,11 +1,11 @@
 -- In an undisturbed COMMIT each message of the transaction came, no rollback came to its branches, and from the COMMIT on
 -- there are whole turns alone: the one of the COMMIT, and deliveries.
-use Rattle.std.proofs.Common.{◌≡◌, ℕ, ◌&&◌, ◌||◌, Bool, true, false, cond, List, [], ◌∷◌, ◌++◌, map, filter, Option, Some, None, inl, inr, refl, sym, ap, subst, ◌∙◌}
+use Rattle.std.proofs.Common.{◌≡◌, ℕ, ◌&&◌, ◌||◌, Bool, true, false, List, [], ◌∷◌, ◌++◌, map, Option, Some, None, inl, inr, refl, sym, ap, subst, ◌∙◌}
 use Rattle.std.specs.Prelude.{◌⊎◌}
 use Rattle.std.specs.List.{AllByRecursion}
-use Rattle.std.proofs.lemmas.Bool.{and_parts, or_right}
+use Rattle.std.proofs.lemmas.Bool.{and_parts}
 use Rattle.std.proofs.lemmas.List.{append_assoc}
-use Rattle.tran_ids.proofs.BranchLemmas.{equal_from_same, same_from_equal}
+use Rattle.tran_ids.proofs.BranchLemmas.{equal_from_same}
 use Rattle.node_rules.specs.Data.{BranchId, Kind, Input}
 use Rattle.node_rules.specs.Data.inputs
 use Rattle.node_rules.specs.Data.kinds
@@ -13,7 +13,7 @@ use Rattle.node_rules.specs.Data.stmts
 use Rattle.node_rules.specs.Inputs.{Came, IsCall}
 use Rattle.node_rules.specs.Kept.{Kept}
 use Rattle.node_rules.specs.Words.{same}
-use Rattle.run_laws.specs.Births.{Born, births_of, born_id, born_at}
+use Rattle.run_laws.specs.Births.{Born, births_of}
 use Rattle.run_laws.specs.BirthLaws.{Began}
 use Rattle.run_laws.specs.Branches.{is_among}
 use Rattle.run_laws.specs.Data.{Packet, Took, Turn, Happening}
@@ -31,31 +31,13 @@ use Rattle.commit_laws.specs.Undisturbed.{Commit, Undisturbed, branches_in, IsCa
 use Rattle.commit_laws.specs.WaitLaws.{AllCame}
 use Rattle.commit_laws.proofs.CameLemmas.{deliveries_came}
 use Rattle.commit_laws.proofs.HeardLemmas.{prepares_are_heard}
+use Rattle.commit_laws.proofs.ListLemmas.{all_at}
+use Rattle.commit_laws.proofs.StillLemmas.{among}
 use Rattle.point_laws.specs.PointLaws.{is_point, IsNotLive}
 use Rattle.point_laws.specs.RootLaws.{is_rollback}
 use Rattle.point_laws.proofs.HeardLemmas.{points_are_heard}
 
 -- ---- lists
-
--- a branch that began in a transaction is among its branches
-is_in : (bs : List Born) (root m : BranchId) (b : Born) → born_at bs m ≡ Some b → b.root ≡ root → is_among m (branches_in bs root) ≡ true
-is_in [] root m b at of = absurd cc
-is_in (x ∷ bs) root m b at of = by (same x.me m) (same x.root root) refl refl at (is_in bs root m b)
-  where
-    by : (q r : Bool) → same x.me m ≡ q → same x.root root ≡ r → (cond q (Some x) (born_at bs m)) ≡ Some b → (born_at bs m ≡ Some b → b.root ≡ root → is_among m (branches_in bs root) ≡ true)
-        → is_among m (map born_id (cond r (x ∷ filter (λ (y : Born). same y.root root) bs) (filter (λ (y : Born). same y.root root) bs))) ≡ true
-    by true true me its found rest = ap (λ q. q || is_among m (branches_in bs root)) me
-    by true false me its found rest =
-        let it : x ≡ b = (let both : Some x ≡ Some b = found in cc) in
-        let mine : same x.root root ≡ true = same_from_equal x.root root (ap (λ (y : Born). y.root) it ∙ of) in
-        absurd (cc (mine, its))
-    by false true me its found rest = or_right (same x.me m) (is_among m (branches_in bs root)) (rest found of)
-    by false false me its found rest = rest found of
-
--- what is so of each is so of one in the middle
-pub all_at : {A : Type 0} (P : A → Type 0) (xs : List A) (y : A) (ys : List A) → AllByRecursion P (xs ++ y ∷ ys) → P y
-all_at P [] y ys all = all.0
-all_at P (x ∷ xs) y ys all = all_at P xs y ys all.1
 
 cancel : {A : Type 0} (xs ys zs : List A) → xs ++ ys ≡ xs ++ zs → ys ≡ zs
 cancel [] ys zs is = is
@@ -102,16 +84,13 @@ module _ (t : History) (whole : IsLawfulRun t) (c : Commit t.places t.commands t
   abbrev bs : List Born
   bs = births_of t
 
-  pub among : (b : Born) → Began bs b → b.root ≡ c.root → is_among b.me (branches_in bs c.root) ≡ true
-  among b began of = is_in bs c.root b.me b began of
-
   -- no rollback comes to a branch of the transaction
   pub never_disturbed : (hs : List Happening) (w : Turn) (rest : List Happening) → hs ++ happenings.Turn w ∷ rest ≡ t.trace → (b : Born) → Began bs b → b.root ≡ c.root → (from : BranchId) (kind : Kind) → disturbs kind ≡ true → Came w.input from b.me kind → ⊥
   never_disturbed hs w rest is b began of from kind disturbing came =
       let calm : is_disturbed (branches_in bs c.root) w.input ≡ false
       = all_at (IsCalm (branches_in bs c.root)) hs (happenings.Turn w) rest (subst (λ xs. AllByRecursion (IsCalm (branches_in bs c.root)) xs) (sym is) u.calm) in
       let here : (is_among b.me (branches_in bs c.root) && disturbs kind) ≡ false = sym (ap (is_disturbed (branches_in bs c.root)) came.is) ∙ calm in
-      let there : (is_among b.me (branches_in bs c.root) && disturbs kind) ≡ true = ap (λ q. q && disturbs kind) (among b began of) ∙ disturbing in
+      let there : (is_among b.me (branches_in bs c.root) && disturbs kind) ≡ true = ap (λ q. q && disturbs kind) (among t whole c u b began of) ∙ disturbing in
       absurd (cc (here, there))
 
   -- ---- from the COMMIT on

@@ -7,7 +7,6 @@ pub mod OverLemmas
 pub mod PassLemmas
 pub mod LeaveLemmas
 pub mod HeardLemmas
-pub mod StoppedLemmas
 pub mod SealedLemmas
 pub mod RootStepLemmas
 pub mod RootLemmas

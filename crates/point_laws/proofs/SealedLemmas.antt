@@ -11,13 +11,12 @@ use Rattle.node_rules.specs.Turn.{turn_of, heard, deed_of}
 use Rattle.session_tree.specs.Live.{peer_of}
 use Rattle.run_laws.specs.Data.{Turn, Happening}
 use Rattle.run_laws.specs.Data.happenings
-use Rattle.run_laws.specs.Facts.{Facts, place_at, node_at, kept_after, facts_after}
+use Rattle.run_laws.specs.Facts.{Facts, place_at, facts_after}
 use Rattle.run_laws.specs.InTurnLaws.{post_of, said_in}
 use Rattle.run_laws.specs.Lawful.{IsOwed, MayHappen, History, IsLawfulRun, facts_at}
 use Rattle.run_laws.specs.RunEvents.{events_after}
 use Rattle.run_laws.specs.WalkLaws.{is_below, was_sent}
-use Rattle.run_laws.proofs.AtNodeLemmas.{turn_here}
-use Rattle.run_laws.proofs.EventsStandLemmas.{run_stands, ids_name_their_node}
+use Rattle.run_laws.proofs.EventsStandLemmas.{ids_name_their_node}
 use Rattle.run_laws.proofs.LaterLemmas.{exit_made, turn_added}
 use Rattle.run_laws.proofs.LawfulLemmas.{serves}
 use Rattle.run_laws.proofs.OwnLemmas.{all_found}
@@ -32,12 +31,12 @@ use Rattle.site_laws.proofs.LeaveLemmas.{was_there}
 use Rattle.site_laws.proofs.TimeLemmas.{Part, part_on, part_of, part_lawful, may_of, sent_end}
 use Rattle.commit_laws.specs.WaitLaws.{HasStopped}
 use Rattle.commit_laws.proofs.ReadyStepLemmas.{one_sent}
+use Rattle.commit_laws.proofs.StopLemmas.{cut_stops, stopped_end}
 use Rattle.point_laws.specs.PointLaws.{is_point, SealedPassOn}
 use Rattle.point_laws.proofs.MomentLemmas.{LeftThen, left_then, none_at_first}
 use Rattle.point_laws.proofs.LeaveLemmas.{told_before_leaving}
 use Rattle.point_laws.proofs.PassLemmas.{passes_to}
 use Rattle.point_laws.proofs.PointStepLemmas.{PointWhy, SealsSo, seal_says, point_why}
-use Rattle.point_laws.proofs.StoppedLemmas.{stopped_end}
 
 module _ (t : History) (whole : IsLawfulRun t) (b : BranchId) (c : BranchId) (told : was_sent is_below (said_in (facts_at t)) b c ≡ true) where
   -- it passed CommitPoint on, or its node has stopped
@@ -99,11 +98,7 @@ module _ (t : History) (whole : IsLawfulRun t) (b : BranchId) (c : BranchId) (to
         sym (all_found (λ (l : Live). l.me.node ≡ u.node) live_id k.lives so.live.me so.live (ids_name_their_node s lawful u.node k may.1.up).lives so.found) ∙ ap (λ (i : BranchId). i.node) so.is_me
 
     cut_so : u.cut ≡ true → Passes
-    cut_so cut =
-        let here : node_at g u.node ≡ None = (turn_here t.places t.commands f (run_stands s lawful).0.even u k may.1.up).0 ∙ ap (λ y. kept_after y (Some (turn_of p k u.input))) cut in
-        let there : node_at g b.node ≡ None = subst (λ i. node_at g i ≡ None) node here in
-        let down : node_at (f_at t after) b.node ≡ None = subst (λ y. node_at y b.node ≡ None) (sym (one_on t hs h)) there in
-        inr (stopped_end t whole b after part_z (left_after, (λ j up. absurd (cc (down, up)))))
+    cut_so cut = inr (stopped_end t whole b after part_z.rest part_z.is left_after (cut_stops t whole b hs h rest is u refl k may.1.up node cut))
 
     posts_are : IsOwed p k u.input u.wrote u.sent false → posts_of h ≡ d.says
     unfolding turn_of

@@ -3,7 +3,6 @@ pub mod GotStepLemmas
 pub mod GotLeaveLemmas
 pub mod GotLemmas
 pub mod FirstLemmas
-pub mod StopLemmas
 pub mod TreeLemmas
 pub mod ComesOnceLemmas
 pub mod DropLemmas

@@ -17,13 +17,13 @@ use Rattle.run_laws.proofs.NodesStandLemmas.{some_or_none}
 use Rattle.run_laws.proofs.SaidLemmas.{sent_after}
 use Rattle.tree_laws.proofs.PrefixLemmas.{f_at, e_at, one_on, more_on}
 use Rattle.site_laws.proofs.TimeLemmas.{Part, part_on, may_of, exit_on, keep_on}
-use Rattle.commit_laws.specs.StillLaws.{DroppedNone}
+use Rattle.commit_laws.specs.StillLaws.{DroppedNone, AbortsNone}
 use Rattle.commit_laws.specs.Undisturbed.{Commit, Undisturbed}
 use Rattle.commit_laws.specs.WaitLaws.{HasStopped}
 use Rattle.commit_laws.proofs.RootLemmas.{undisturbed_roots_leave}
-use Rattle.commit_laws.proofs.StillLemmas.{undisturbed_collects_end}
-use Rattle.stay_laws.specs.StayLaws.{AbortsNone, UndisturbedDropsNone, UndisturbedAbortsNone, UndisturbedCollectsAreOver, UndisturbedRootsAreGone}
-use Rattle.stay_laws.proofs.StopLemmas.{down_stopped, stop_down, stopped_end, never_stopped}
+use Rattle.commit_laws.proofs.StillLemmas.{never_stopped, undisturbed_collects_end}
+use Rattle.commit_laws.proofs.StopLemmas.{stop_stops, stopped_end}
+use Rattle.stay_laws.specs.StayLaws.{UndisturbedDropsNone, UndisturbedAbortsNone, UndisturbedCollectsAreOver, UndisturbedRootsAreGone}
 use Rattle.stay_laws.proofs.TreeLemmas.{NoneAborts, NobodyAborts, DropsNone, Stays}
 use Rattle.stay_laws.proofs.TurnStayLemmas.{among_node, sends_none, turn_stops}
 
@@ -51,7 +51,7 @@ module _ (t : History) (whole : IsLawfulRun t) (c : Commit t.places t.commands t
       | inl old ↦ absurd (cc (old, none))
       | inr made ↦ (let so = later_exit x.me made.0 Dropped made.1 made.2 in
           let own : x.me.node ≡ m = among_node t whole c u hs h rest is now m x.me (node_at f m) refl so.0 in
-          down_stopped t whole x.me hs h rest is (stop_down t whole x.me hs h rest is m it (sym own)))
+          stop_stops t whole x.me hs h rest is m it (sym own))
     ]
     drop_stops (happenings.Started m boot) it may x began of below none dropped = absurd (cc (none, dropped))
     drop_stops (happenings.Begun m) it may x began of below none dropped = absurd (cc (none, dropped))
@@ -69,7 +69,7 @@ module _ (t : History) (whole : IsLawfulRun t) (c : Commit t.places t.commands t
           let it : old.0 ≡ Dropped = cc in
           absurd (now.0 x began of below (subst (λ y. exit e x.me ≡ Some y) it old.1)))
       | inr none ↦ (let stops : HasStopped (f_at t after) x.me = drop_stops h refl may_h x began of below none follows in
-          never_stopped t whole c u x began of (stopped_end t whole x.me after part_z ((λ gone. absurd (cc (gone, dropped))), stops)))
+          never_stopped t whole c u x began of (stopped_end t whole x.me after part_z.rest part_z.is (λ gone. absurd (cc (gone, dropped))) stops))
     ]
       where
         follows : exit (events_after t.places t.commands f h e) x.me ≡ Some Dropped

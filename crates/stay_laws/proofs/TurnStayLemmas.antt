@@ -38,11 +38,12 @@ use Rattle.commit_laws.specs.LeaveLaws.{Reason, Seals, Decides, Says_read_only, 
 use Rattle.commit_laws.specs.Undisturbed.{Commit, Undisturbed, branches_in, disturbs, is_disturbed, IsCalm}
 use Rattle.commit_laws.specs.WaitLaws.{HasStopped}
 use Rattle.commit_laws.proofs.ReasonRunLemmas.{leavers_have_reasons}
+use Rattle.commit_laws.proofs.StillLemmas.{among}
+use Rattle.commit_laws.proofs.StopLemmas.{cut_stops}
 use Rattle.stay_laws.specs.GotLaws.{GotPrepare}
 use Rattle.stay_laws.proofs.ComesOnceLemmas.{mid_all, comes_once}
 use Rattle.stay_laws.proofs.DropLemmas.{all_dropped, wrote_dropped, seal_ends, decision_ends, none_found, both_not}
 use Rattle.stay_laws.proofs.GotLemmas.{came_here, same_born, leavers_got_prepare}
-use Rattle.stay_laws.proofs.StopLemmas.{down_stopped, among}
 use Rattle.stay_laws.proofs.TreeLemmas.{NoneAborts, Stays, parent_in, child_in}
 
 -- a live branch is not gone
@@ -221,10 +222,8 @@ module _ (t : History) (whole : IsLawfulRun t) (c : Commit t.places t.commands t
 
         left_so : (cut : Bool) → v.cut ≡ cut → IsOwed p k v.input v.wrote v.sent cut → is_among x.me (lives_at (node_at f v.node)) ≡ true → is_among x.me (lives_at (node_at g0 v.node)) ≡ false → HasStopped (f_at t after) x.me
         left_so true cut owed was gone =
-            let here : node_at g0 v.node ≡ None = (turn_here t.places t.commands f even v k may.up).0 ∙ ap (λ y. kept_after y (Some o)) cut in
             let own : x.me.node ≡ v.node = among_node v.node x.me (node_at f v.node) refl was in
-            let there : node_at g0 x.me.node ≡ None = subst (λ i. node_at g0 i ≡ None) (sym own) here in
-            down_stopped t whole x.me hs h rest is (subst (λ (y : Happening). node_at (facts_after t.places t.commands f y) x.me.node ≡ None) (sym turn) there)
+            cut_stops t whole x.me hs h rest is v turn k may.up (sym own) cut
         left_so false cut owed was gone =
             let here : node_at g0 v.node ≡ Some o.after = (turn_here t.places t.commands f even v k may.up).0 ∙ ap (λ y. kept_after y (Some o)) cut in
             let l = among_found k.lives x.me (subst (λ y. is_among x.me (lives_at y) ≡ true) may.up was) in

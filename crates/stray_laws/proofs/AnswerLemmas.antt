@@ -18,10 +18,10 @@ use Rattle.run_laws.proofs.EventsStandLemmas.{run_stands}
 use Rattle.run_laws.proofs.TurnEventLemmas.{cases_nat}
 use Rattle.tree_laws.proofs.PrefixLemmas.{so_far, f_at, one_on, facts_join}
 use Rattle.site_laws.proofs.TimeLemmas.{Part, part_of, part_lawful, may_of}
-use Rattle.commit_laws.specs.StillLaws.{DroppedNone}
+use Rattle.commit_laws.specs.StillLaws.{DroppedNone, AbortsNone}
 use Rattle.commit_laws.specs.Undisturbed.{Commit, Undisturbed, IsDelivery, answers_in, answers_from}
 use Rattle.commit_laws.proofs.RootLemmas.{undisturbed_roots_leave}
-use Rattle.stray_laws.specs.CallLaws.{AbortsNone, HasNoRow, UndisturbedCallsEnd}
+use Rattle.stray_laws.specs.CallLaws.{HasNoRow, UndisturbedCallsEnd}
 use Rattle.stray_laws.proofs.LastLemmas.{Lasts, has_row}
 use Rattle.stray_laws.proofs.SessionLemmas.{answers_of}
 use Rattle.stray_laws.proofs.CallLemmas as call

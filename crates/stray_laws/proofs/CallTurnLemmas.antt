@@ -27,8 +27,8 @@ use Rattle.run_laws.proofs.RootLemmas.{session_or_before}
 use Rattle.tree_laws.specs.AskLaws.{way_of}
 use Rattle.tree_laws.proofs.PrefixLemmas.{so_far, f_at}
 use Rattle.site_laws.proofs.TimeLemmas.{fact_at}
+use Rattle.commit_laws.specs.StillLaws.{AbortsNone}
 use Rattle.commit_laws.specs.Undisturbed.{Commit, Undisturbed}
-use Rattle.stray_laws.specs.CallLaws.{AbortsNone}
 use Rattle.stray_laws.proofs.RootActLemmas.{Known, Effect, decides_so, finishes_so, seals_so, still, lasts_put}
 use Rattle.stray_laws.proofs.LastLemmas.{is_living}
 use Rattle.stray_laws.proofs.SessionLemmas.{answers_of}

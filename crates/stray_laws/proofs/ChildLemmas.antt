@@ -17,14 +17,14 @@ use Rattle.run_laws.proofs.OwnLemmas.{all_found}
 use Rattle.tree_laws.proofs.PrefixLemmas.{so_far, f_at}
 use Rattle.site_laws.proofs.MemberLemmas.{BornBelow, born_below}
 use Rattle.site_laws.proofs.TimeLemmas.{Part, part_lawful, born_end}
-use Rattle.commit_laws.specs.Undisturbed.{Commit, Undisturbed, HasNotStopped, branches_in}
+use Rattle.commit_laws.specs.Undisturbed.{Commit, Undisturbed, HasNotStopped}
+use Rattle.commit_laws.proofs.StillLemmas.{stays_up}
 use Rattle.place_laws.proofs.OpenSentLemmas.{IsOpenTo}
 use Rattle.stray_laws.specs.StrayLaws.{count_opens}
 use Rattle.stray_laws.proofs.EdgeLemmas.{edges_have_one_child}
 use Rattle.stray_laws.proofs.OpenLemmas.{counts}
 use Rattle.stray_laws.proofs.OpenRunLemmas.{opens_once}
 use Rattle.stray_laws.proofs.SentLemmas.{WasOpened, opened_at}
-use Rattle.stray_laws.proofs.TreeLemmas.{is_in, among_all}
 
 pub numbered_peer : (es : List Edge) (i : ℕ) (e : Edge) → numbered es i ≡ Some e → numbered (map (λ (x : Edge). x.peer) es) i ≡ Some e.peer
 numbered_peer es zero e at = absurd cc
@@ -58,7 +58,7 @@ module _ (t : History) (whole : IsLawfulRun t) (c : Commit t.places t.commands t
       cc
 
   pub stays : (x : Born) → Began bs x → x.root ≡ r → HasNotStopped (facts_at t) x.me
-  stays x began of = among_all (HasNotStopped (facts_at t)) (branches_in bs r) x.me u.stopped (is_in bs r x.me x began of)
+  stays x began of = stays_up t whole c u x began of
 
   -- a branch has the root of its parent
   pub parent_of_tree : (x : Born) → Began bs x → (p : BranchId) → x.parent ≡ Some p → (y : Born) × Began bs y × (y.me ≡ p) × (y.root ≡ x.root) × (y.depth + 1 ≡ x.depth)

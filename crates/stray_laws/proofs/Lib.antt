@@ -1,5 +1,5 @@
 mod TriedStrayLemmas
-pub mod TreeLemmas
+pub mod FindLemmas
 pub mod SessionLemmas
 pub mod LastLemmas
 pub mod AloneLemmas

@@ -36,7 +36,7 @@ use Rattle.run_laws.proofs.OwnLemmas.{all_found}
 use Rattle.run_laws.proofs.TurnEventLemmas.{cases_nat, number_is}
 use Rattle.tree_laws.proofs.PrefixLemmas.{so_far, f_at, one_on, births_join}
 use Rattle.site_laws.proofs.TimeLemmas.{part_of, part_lawful, may_of, keep_on}
-use Rattle.stray_laws.proofs.TreeLemmas.{find_kept, find_either, find_last}
+use Rattle.stray_laws.proofs.FindLemmas.{find_kept, find_either, find_last}
 
 -- ---- a step
 

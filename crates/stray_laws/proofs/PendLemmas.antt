@@ -35,13 +35,14 @@ use Rattle.tree_laws.specs.AskLaws.{way_of}
 use Rattle.tree_laws.proofs.AskRunLemmas.{live_told, sent_from}
 use Rattle.tree_laws.proofs.PrefixLemmas.{so_far, f_at}
 use Rattle.site_laws.proofs.TimeLemmas.{Part, part_of, part_lawful, born_end, sent_end}
+use Rattle.commit_laws.specs.StillLaws.{AbortsNone}
 use Rattle.commit_laws.specs.Undisturbed.{Commit, Undisturbed, IsCalm, branches_in, disturbs, is_disturbed}
-use Rattle.stray_laws.specs.CallLaws.{AbortsNone}
+use Rattle.commit_laws.proofs.AmongLemmas.{is_in}
+use Rattle.commit_laws.proofs.ListLemmas.{all_at}
 use Rattle.stray_laws.proofs.EffectLemmas.{effect_on}
 use Rattle.stray_laws.proofs.RootActLemmas.{Known, Effect, upsets}
 use Rattle.stray_laws.proofs.LastLemmas.{Lasts}
 use Rattle.stray_laws.proofs.SessionLemmas.{answers_of}
-use Rattle.stray_laws.proofs.TreeLemmas.{all_at, is_in}
 use Rattle.stray_laws.proofs.CallLemmas as call
 
 -- ---- messages

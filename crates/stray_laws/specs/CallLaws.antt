@@ -1,22 +1,14 @@
 -- The answer of an undisturbed COMMIT: as long as it is pending its root is live, or has a row that has not forgot. (SQL
 -- Language Reference: COMMIT; Database Administrator's Guide, "Distributed Transactions Concepts": commit and forget phases.)
-use Rattle.std.specs.Prelude.{◌≡◌, ◌≢◌, [], ◌∷◌, None, Some}
-use Rattle.std.specs.List.{AllByRecursion}
+use Rattle.std.specs.Prelude.{◌≡◌, [], ◌∷◌, None, Some}
 use Rattle.node_rules.specs.Data.{BranchId}
-use Rattle.node_rules.specs.Data.kinds
 use Rattle.node_rules.specs.Kept.{Kept, standing_at}
 use Rattle.node_rules.specs.Sessions.{commit_complete}
-use Rattle.run_laws.specs.Births.{Born, births_of}
-use Rattle.run_laws.specs.BirthLaws.{Began}
 use Rattle.run_laws.specs.Data.happenings
 use Rattle.run_laws.specs.Facts.{node_at}
 use Rattle.run_laws.specs.Lawful.{History, IsLawfulRun, facts_at}
-use Rattle.commit_laws.specs.StillLaws.{DroppedNone}
+use Rattle.commit_laws.specs.StillLaws.{DroppedNone, AbortsNone}
 use Rattle.commit_laws.specs.Undisturbed.{Commit, Undisturbed, facts_by, answers_from}
-
--- no branch of a transaction said Abort
-abbrev pub AbortsNone : History → BranchId → Type 0
-AbortsNone t root = AllByRecursion (λ x. (b : Born) → Began (births_of t) b → b.me ≡ x.msg.from → b.root ≡ root → x.msg.kind ≢ kinds.Abort) (facts_at t).net.packets
 
 -- a branch has no row at its node, where that is up
 abbrev pub HasNoRow : History → BranchId → Type 0

@@ -1,6 +1,6 @@
--- In every lawful run no branch of a transaction has asked another to prepare, or is sealed, when its COMMIT is called; and
--- none of an undisturbed COMMIT is forced.
-use Rattle.std.proofs.Common.{◌≡◌, ◌≢◌, ℕ, zero, suc, ◌≤◌, Bool, true, false, List, [], ◌∷◌, Option, Some, None, refl, sym, ap, subst, ◌∙◌, arith}
+-- In every lawful run no branch of a transaction is sealed when its COMMIT is called, as none has asked another to prepare;
+-- and none of an undisturbed COMMIT is forced.
+use Rattle.std.proofs.Common.{◌≡◌, ◌≢◌, ℕ, true, false, List, [], ◌∷◌, Option, Some, None, refl, sym, ap, subst, ◌∙◌}
 use Rattle.std.specs.Prelude.{IfSome}
 use Rattle.std.specs.List.{AllByRecursion}
 use Rattle.tran_ids.proofs.ListedLemmas.{item_is}
@@ -9,40 +9,34 @@ use Rattle.agreement.specs.Events.{Event, Sealed, first, exit, forced}
 use Rattle.node_rules.specs.Data.{BranchId, Decision, Live, Place, Post, RedoRecord, Stmt, Input}
 use Rattle.node_rules.specs.Data.acts
 use Rattle.node_rules.specs.Data.inputs
-use Rattle.node_rules.specs.Data.phases
 use Rattle.node_rules.specs.Data.records
 use Rattle.node_rules.specs.Data.stmts
 use Rattle.node_rules.specs.Inputs.{IsCall}
-use Rattle.node_rules.specs.Kept.{Kept, Branch, Deed, live_id, live_at, branch_at, work_at, with_work}
+use Rattle.node_rules.specs.Kept.{Kept, Deed, live_id}
 use Rattle.node_rules.proofs.Steps as steps
 use Rattle.node_rules.proofs.Steps.{Step}
 use Rattle.run_laws.specs.Births.{Born, births_of}
 use Rattle.run_laws.specs.BirthLaws.{Began}
-use Rattle.run_laws.specs.CallLaws.{ComesAtRest}
 use Rattle.run_laws.specs.Data.{Took, Turn, Happening, Command}
 use Rattle.run_laws.specs.Data.happenings
 use Rattle.run_laws.specs.Facts.{Facts, first_facts, place_at, facts_after}
 use Rattle.run_laws.specs.FreezeLaws.{was_asked}
 use Rattle.run_laws.specs.InTurnLaws.{said_in}
 use Rattle.run_laws.specs.Lawful.{Comes, MayHappen, IsLawful, History, IsLawfulRun, facts_at}
-use Rattle.run_laws.specs.NodeLaws.{EachFactFrom}
 use Rattle.run_laws.specs.RunEvents.{with_event, wrote_event, events_after, events_from, events_of}
 use Rattle.run_laws.specs.Trail.{is_prepare}
-use Rattle.run_laws.specs.WalkLaws.{was_sent}
 use Rattle.run_laws.proofs.EventsStandLemmas.{nodes_are_as_events}
-use Rattle.run_laws.proofs.FreezeRunLemmas.{asked_stand_still}
 use Rattle.run_laws.proofs.LaterLemmas.{forced_same, later_forced, turn_added}
 use Rattle.run_laws.proofs.LawfulLemmas.{serves, of_wrote}
 use Rattle.run_laws.proofs.OwnLemmas.{all_found}
-use Rattle.run_laws.proofs.RestRunLemmas.{calls_come_at_rest}
 use Rattle.tree_laws.specs.AskLaws.{HeardAbove}
-use Rattle.tree_laws.proofs.AskRunLemmas.{askers_were_asked}
 use Rattle.tree_laws.proofs.ForestLemmas as trees
 use Rattle.tree_laws.proofs.ForestRunLemmas.{run_known}
 use Rattle.tree_laws.proofs.PrefixLemmas.{so_far, f_at, e_at}
 use Rattle.site_laws.proofs.HeardLemmas.{left_were_asked}
-use Rattle.site_laws.proofs.TimeLemmas.{Part, part_of, part_lawful, rest_lawful, fact_at, born_end, events_join}
+use Rattle.site_laws.proofs.TimeLemmas.{Part, part_of, part_lawful, rest_lawful, born_end, events_join}
 use Rattle.commit_laws.specs.Undisturbed.{Commit, IsDelivery}
+use Rattle.stay_laws.proofs.FirstLemmas.{commits_come_first}
 use Rattle.told_laws.specs.BeforeLaws.{NoneSealedBefore, NoneForced}
 use Rattle.told_laws.proofs.MoreLemmas.{inv_at}
 
@@ -74,60 +68,15 @@ module _ (t : History) (whole : IsLawfulRun t) (c : Commit t.places t.commands t
   known : trees.Known bs said
   known = run_known s lawful
 
-  -- ---- the root is at work
+  -- ---- the root is live
 
   me : c.live.me ≡ c.root
   me = item_is live_id k.lives c.root c.live c.there
 
-  found : live_at k c.live.me ≡ Some c.live
-  found = subst (λ i. live_at k i ≡ Some c.live) (sym me) c.there
-
-  abbrev x : Branch
-  x = record { live = c.live; work = work_at k c.live.me }
-
-  there : branch_at k c.live.me ≡ Some x
-  there = ap (with_work k) found
-
-  working : c.live.phase ≡ phases.Working
-  working =
-      let rests : ComesAtRest t.places f (happenings.Turn c.call)
-      = fact_at t.places t.commands (ComesAtRest t.places) (first_facts t.places) hs (happenings.Turn c.call) c.during (subst (λ xs. EachFactFrom (ComesAtRest t.places) t.places t.commands (first_facts t.places) xs) (sym c.is) (calls_come_at_rest t whole)) in
-      (rests k c.up c.session (Some (stmts.Commit c.comment)) c.asks x (c.of ∙ ap Some (sym me)) there).0
-
-  root_asked_none : (b : BranchId) → was_asked said c.root b ≡ false
-  root_asked_none b = subst (λ i. was_asked said i b ≡ false) me ((asked_stand_still s lawful c.call.node k c.up x there).0 working b)
-
   root_is_live : exit (e_at t hs) c.root ≡ None
   root_is_live = subst (λ i. exit (e_at t hs) i ≡ None) me (all_found (λ (l : Live). exit (e_at t hs) l.me ≡ None) live_id k.lives c.root c.live (nodes_are_as_events s lawful c.call.node k c.up).0 c.there)
 
-  -- ---- so nobody of its transaction has asked
-
-  asked_not : (fuel : ℕ) (z : Born) → Began bs z → z.root ≡ c.root → z.depth ≤ fuel → (b : BranchId) → was_asked said z.me b ≡ true → ⊥
-  asked_not zero z began of low b asked = absurd (omega (arith, trees.high bs said known z began, low))
-  asked_not (suc fuel) z began of low b asked = by z.parent refl (λ y up yours shallow. asked_not fuel y up yours shallow z.me)
-    where
-      above : HeardAbove is_prepare bs said z.me
-      above = askers_were_asked s lawful z.me b asked
-
-      by : (o : Option BranchId) → z.parent ≡ o → ((y : Born) → Began bs y → y.root ≡ c.root → y.depth ≤ fuel → was_asked said y.me z.me ≡ true → ⊥) → ⊥
-      by None top next =
-          let mine : z.me ≡ c.root = sym (trees.stands_so bs said known z None began top).0 ∙ of in
-          let none : was_asked said z.me b ≡ false = subst (λ i. was_asked said i b ≡ false) (sym mine) (root_asked_none b) in
-          absurd (cc (none, asked))
-      by (Some q) up next =
-          let y = trees.below_of bs said known z q began up in
-          let same : above.0 ≡ z = trees.same_born bs said known above.0 z above.1 began above.2 in
-          let told : was_sent is_prepare said q z.me ≡ true = above.3 q (ap (λ (a : Born). a.parent) same ∙ up) in
-          next y.up y.began (y.is_root ∙ of) (omega (arith, y.deeper, low)) (subst (λ i. was_asked said i z.me ≡ true) (sym y.is_me) told)
-
-  pub none_asked : (z : Born) → Began bs z → z.root ≡ c.root → (b : BranchId) → was_asked said z.me b ≡ false
-  none_asked z began of b = by (was_asked said z.me b) refl
-    where
-      by : (q : Bool) → was_asked said z.me b ≡ q → q ≡ false
-      by false is = refl
-      by true is = absurd (asked_not z.depth z began of (omega arith) b is)
-
-  -- ---- and none is sealed
+  -- ---- none is sealed, as nobody has asked
 
   module _ (z : Born) (began : Began (births_of t) z) (of : z.root ≡ c.root) where
     pub not_sealed : (m : ℕ) → exit (e_at t hs) z.me ≢ Some (Sealed m)
@@ -150,7 +99,7 @@ module _ (t : History) (whole : IsLawfulRun t) (c : Commit t.places t.commands t
         by (Some q) up =
             let y = trees.below_of bs said known above.0 q above.1 up in
             let asked : was_asked said y.up.me z.me ≡ true = subst (λ i. was_asked said i z.me ≡ true) (sym y.is_me) (above.3 q up) in
-            let none : was_asked said y.up.me z.me ≡ false = none_asked y.up y.began (y.is_root ∙ its) z.me in
+            let none : was_asked said y.up.me z.me ≡ false = commits_come_first t whole c y.up (born_end t whole hs part y.up y.began) (y.is_root ∙ its) z.me in
             absurd (cc (none, asked))
 
     pub not_forced : forced (e_at t hs) z.me ≡ None

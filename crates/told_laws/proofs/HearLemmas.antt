@@ -40,10 +40,10 @@ use Rattle.site_laws.proofs.TimeLemmas.{Part, part_on, part_of, part_lawful, may
 use Rattle.commit_laws.specs.DeliveryLaws.{CameInTurn}
 use Rattle.commit_laws.specs.WaitLaws.{HasStopped}
 use Rattle.commit_laws.proofs.CameLemmas.{deliveries_came}
+use Rattle.commit_laws.proofs.StopLemmas.{stopped_end, cut_stops}
 use Rattle.told_laws.specs.HearLaws.{HasHeard, CommitsAreHeard, RowHasHeard, RowsHaveHeard}
 use Rattle.told_laws.proofs.FitRowLemmas.{RowFits, rows_fit}
 use Rattle.told_laws.proofs.MoreLemmas.{forest, inv_end, added_end, lawful_at, inv_at}
-use Rattle.told_laws.proofs.StopLemmas.{stopped_end, cut_stops}
 
 -- ---- a row that hears a commit
 
@@ -200,7 +200,7 @@ module _ (t : History) (whole : IsLawfulRun t) (m : Msg) (came : CameInTurn t.tr
     cut_heard : u.cut ≡ true → Heard
     cut_heard cut =
         let there : exit (e_at t after) b ≢ None = (λ gone. (let left = left_after in absurd (cc (left, gone)))) in
-        inr (stopped_end t whole b after came.later (append_assoc hs (h ∷ []) came.later ∙ came.is) (there, cut_stops t whole b hs h came.later came.is u refl k may.1.up came.here cut))
+        inr (stopped_end t whole b after came.later (append_assoc hs (h ∷ []) came.later ∙ came.is) there (cut_stops t whole b hs h came.later came.is u refl k may.1.up came.here cut))
       where
         left_after : exit (e_at t after) b ≡ Some (Sealed was_sealed.0)
         left_after = exit_end (so_far t after) (part_lawful t whole after part_z) hs (record { rest = h ∷ []; is = refl }) b (Sealed was_sealed.0) was_sealed.1

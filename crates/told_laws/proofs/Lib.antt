@@ -1,5 +1,4 @@
 pub mod MoreLemmas
-pub mod StopLemmas
 pub mod FitRowLemmas
 pub mod TellStepLemmas
 pub mod TellLemmas

@@ -1,9 +1,7 @@
 -- In every lawful run the commit of a transaction has reached each of its sealed branches, where all its messages came and no
 -- node of its branches stopped: by their distance from the commit point site, the nearest first.
-use Rattle.std.proofs.Common.{◌≡◌, ℕ, zero, suc, ◌≤◌, ◌&&◌, ◌||◌, Bool, true, false, List, [], ◌∷◌, map, slice_get, Some, inl, inr, refl, sym, ap, subst, ◌∙◌, arith}
-use Rattle.std.proofs.lemmas.Bool.{and_parts}
+use Rattle.std.proofs.Common.{◌≡◌, ℕ, zero, suc, ◌≤◌, true, List, [], Some, inl, inr, refl, sym, ap, subst, ◌∙◌, arith}
 use Rattle.std.proofs.lemmas.Bool.Decides.{nat_tests}
-use Rattle.tran_ids.proofs.BranchLemmas.{equal_from_same}
 use Rattle.agreement.specs.Events.{Forest, Event, Sealed, Decided, Quiet, Beyond, exit, learned, Knows, site_of}
 use Rattle.agreement.proofs.AgreementLaws.{covers}
 use Rattle.agreement.proofs.Invariant.{Inv}
@@ -11,16 +9,14 @@ use Rattle.agreement.proofs.SameBranch.{cases_same}
 use Rattle.node_rules.specs.Data.{BranchId, Kind}
 use Rattle.node_rules.specs.Data.decisions
 use Rattle.node_rules.specs.Data.kinds
-use Rattle.node_rules.specs.Words.{same}
 use Rattle.run_laws.specs.Births.{Born, births_of}
 use Rattle.run_laws.specs.BirthLaws.{Began}
 use Rattle.run_laws.specs.Data.{Packet}
 use Rattle.run_laws.specs.Data.fates
-use Rattle.run_laws.specs.InTurnLaws.{packet_post, said_in}
+use Rattle.run_laws.specs.InTurnLaws.{said_in}
 use Rattle.run_laws.specs.Lawful.{History, IsLawfulRun, facts_at}
 use Rattle.run_laws.specs.RunEvents.{events_of}
 use Rattle.run_laws.specs.Trail.{is_prepare}
-use Rattle.run_laws.specs.WalkLaws.{was_sent}
 use Rattle.tree_laws.specs.AskLaws.{HeardAbove}
 use Rattle.tree_laws.specs.Forests.{forest_of}
 use Rattle.tree_laws.proofs.ForestLemmas as trees
@@ -28,36 +24,13 @@ use Rattle.tree_laws.proofs.ForestRunLemmas.{run_known}
 use Rattle.site_laws.proofs.HeardLemmas.{left_were_asked}
 use Rattle.commit_laws.specs.WaitLaws.{HasStopped}
 use Rattle.commit_laws.proofs.NetLemmas.{numbered_all}
+use Rattle.commit_laws.proofs.SentLemmas.{IsSent, sent_found}
 use Rattle.told_laws.specs.HearLaws.{HasHeard}
 use Rattle.told_laws.specs.ReachLaws.{HasAllCome, CommitsReachAll}
 use Rattle.told_laws.specs.TellLaws.{is_commit_at}
 use Rattle.told_laws.proofs.HearLemmas.{commits_are_heard}
 use Rattle.told_laws.proofs.MoreLemmas.{forest, events_lawful, inv_end}
 use Rattle.told_laws.proofs.TellLemmas.{commits_are_told}
-
--- ---- messages
-
--- A message of a kind from a branch to another.
-record IsSent (kind : Kind → Bool) (from to : BranchId) (xs : List Packet) : Type 0 where
-  pub place : ℕ
-  pub packet : Packet
-  pub there : slice_get xs place ≡ Some packet
-  pub is_from : packet.msg.from ≡ from
-  pub is_to : packet.msg.to ≡ to
-  pub is_kind : kind packet.msg.kind ≡ true
-
-sent_found : (kind : Kind → Bool) (from to : BranchId) (xs : List Packet) → was_sent kind (map packet_post xs) from to ≡ true → IsSent kind from to xs
-sent_found kind from to [] is = absurd cc
-sent_found kind from to (x ∷ xs) is = by ((same x.msg.from from && same x.msg.to to) && kind x.msg.kind) refl is (sent_found kind from to xs)
-  where
-    by : (q : Bool) → ((same x.msg.from from && same x.msg.to to) && kind x.msg.kind) ≡ q → (q || was_sent kind (map packet_post xs) from to) ≡ true → (was_sent kind (map packet_post xs) from to ≡ true → IsSent kind from to xs) → IsSent kind from to (x ∷ xs)
-    by true here found rest =
-        let parts = and_parts (same x.msg.from from && same x.msg.to to) (kind x.msg.kind) here in
-        let ends = and_parts (same x.msg.from from) (same x.msg.to to) parts.0 in
-        record { place = 0; packet = x; there = refl; is_from = equal_from_same x.msg.from from ends.0; is_to = equal_from_same x.msg.to to ends.1; is_kind = parts.1 }
-    by false other found rest =
-        let it : IsSent kind from to xs = rest found in
-        record { place = suc it.place; packet = it.packet; there = it.there; is_from = it.is_from; is_to = it.is_to; is_kind = it.is_kind }
 
 -- what Committed says has been heard
 heard_as : (t : History) (from to : BranchId) (n : ℕ) (kind : Kind) → is_commit_at n kind ≡ true → HasHeard t from to kind → HasHeard t from to (kinds.Committed n)

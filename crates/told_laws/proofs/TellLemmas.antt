@@ -40,10 +40,10 @@ use Rattle.tree_laws.proofs.SettleRunLemmas.{records_heard}
 use Rattle.tree_laws.proofs.SiteLemmas.{later_undecided}
 use Rattle.site_laws.proofs.TimeLemmas.{Part, part_on, part_of, part_lawful, may_of, each_at, exit_end, keep_on}
 use Rattle.commit_laws.specs.WaitLaws.{HasStopped}
+use Rattle.commit_laws.proofs.StopLemmas.{stopped_on, cut_stops}
 use Rattle.told_laws.specs.TellLaws.{is_commit_at, CommitsAreTold}
 use Rattle.told_laws.proofs.FitRowLemmas.{RowFits, rows_fit}
 use Rattle.told_laws.proofs.MoreLemmas.{forest, inv_at}
-use Rattle.told_laws.proofs.StopLemmas.{stopped_on, cut_stops}
 use Rattle.told_laws.proofs.TellStepLemmas.{TellsByRow, TellsCommit, tells_on, named_beyond}
 
 -- ---- what teaches a branch a commit
@@ -159,7 +159,7 @@ module _ (t : History) (whole : IsLawfulRun t) (b x : BranchId) (edge : Beyond (
 
     told_stays : (n : ℕ) → Knows e b n → Told n hs → Told n after
     told_stays n knows (inl sent) = inl (subst (λ xs. was_sent (is_commit_at n) xs b x ≡ true) (sym said_is) (sent_more (is_commit_at n) (said_in f) (posts_of h) b x sent))
-    told_stays n knows (inr stopped) = inr (stopped_on t whole b hs h rest is (left_of n knows, stopped)).1
+    told_stays n knows (inr stopped) = inr (stopped_on t whole b hs h rest is (left_of n knows) stopped)
 
     -- ---- a turn in which it learns of it
 

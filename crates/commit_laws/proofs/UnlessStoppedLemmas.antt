@@ -3,7 +3,7 @@
 use Rattle.std.proofs.Common.{◌≡◌, ◌≢◌, ◌+◌, ◌<◌, ◌≤◌, ◌⊎◌, Bool, true, false, List, [], ◌∷◌, ◌++◌, length, Some, None, inl, inr, refl, sym, ap, subst, ◌∙◌, arith, append-nil}
 use Rattle.std.specs.Prelude.{IfSome}
 use Rattle.std.specs.Option.{option_to_list}
-use Rattle.agreement.specs.Events.{Event, exit}
+use Rattle.agreement.specs.Events.{exit}
 use Rattle.node_rules.specs.Data.{BranchId, Place, RedoRecord}
 use Rattle.node_rules.specs.Kept.{Kept, Deed}
 use Rattle.node_rules.specs.Turn.{turn_of, deed_of}
@@ -19,28 +19,32 @@ use Rattle.run_laws.proofs.NodesStandLemmas.{some_or_none}
 use Rattle.run_laws.proofs.TurnEventLemmas.{cases_nat}
 use Rattle.tree_laws.proofs.PrefixLemmas.{so_far, f_at, e_at, one_on, more_on}
 use Rattle.site_laws.proofs.TimeLemmas.{part_of, part_lawful, may_of, exit_on, keep_on}
-use Rattle.commit_laws.specs.WaitLaws.{HasStopped}
+
+module _ (t : History) (b : BranchId) where
+  -- the branch has left
+  abbrev pub HasLeft : List Happening → Type 0
+  HasLeft hs = exit (e_at t hs) b ≢ None
+
+  -- it stays so
+  pub left_on : (hs : List Happening) (h : Happening) → HasLeft hs → HasLeft (hs ++ h ∷ [])
+  left_on hs h left none = elim (some_or_none (exit (e_at t hs) b)) [
+    | inl some ↦ (let stays : exit (e_at t (hs ++ h ∷ [])) b ≡ Some some.0 = subst (λ y. exit y b ≡ Some some.0) (sym (more_on t hs h)) (exit_on t.places t.commands (f_at t hs) h (e_at t hs) b some.0 some.1) in absurd (cc (stays, none)))
+    | inr gone ↦ absurd (left gone)
+  ]
 
 module _ (t : History) (whole : IsLawfulRun t) (b : BranchId) (Q : Kept → Type 0) where
   -- it is so at the branch's node, or the node has stopped
   abbrev pub Here : Facts → Type 0
   Here f = (k : Kept) → node_at f b.node ≡ Some k → (b.boot < boots (records_at f b.node)) ⊎ Q k
 
-  -- the branch has left
-  abbrev pub HasLeft : List Happening → Type 0
-  HasLeft hs = exit (e_at t hs) b ≢ None
-
   -- each whole turn of its node keeps it
   abbrev pub TurnsKeep : Type 0
-  TurnsKeep = (hs : List Happening) (rest : List Happening) (u : Turn) → hs ++ happenings.Turn u ∷ rest ≡ t.trace → HasLeft hs → (k : Kept) (may : MayTurn t.places (f_at t hs) u k) → u.node ≡ b.node
+  TurnsKeep = (hs : List Happening) (rest : List Happening) (u : Turn) → hs ++ happenings.Turn u ∷ rest ≡ t.trace → HasLeft t b hs → (k : Kept) (may : MayTurn t.places (f_at t hs) u k) → u.node ≡ b.node
       → u.wrote ≡ (deed_of (place_at t.places u.node) k u.input).wrote → Q k → Q (deed_of (place_at t.places u.node) k u.input).after
 
-  module _ (keeps : TurnsKeep) (hs : List Happening) (h : Happening) (rest : List Happening) (is : hs ++ h ∷ rest ≡ t.trace) (left : HasLeft hs) (now : Here (f_at t hs)) where
+  module _ (keeps : TurnsKeep) (hs : List Happening) (h : Happening) (rest : List Happening) (is : hs ++ h ∷ rest ≡ t.trace) (left : HasLeft t b hs) (now : Here (f_at t hs)) where
     abbrev f : Facts
     f = f_at t hs
-
-    abbrev e : List Event
-    e = e_at t hs
 
     lawful : IsLawfulRun (so_far t hs)
     lawful = part_lawful t whole hs (part_of t whole hs h rest is)
@@ -121,31 +125,9 @@ module _ (t : History) (whole : IsLawfulRun t) (b : BranchId) (Q : Kept → Type
     pub here_on : Here (f_at t (hs ++ h ∷ []))
     here_on = subst Here (sym (one_on t hs h)) (here_by h refl (may_of t whole hs h rest is))
 
-    pub left_on : HasLeft (hs ++ h ∷ [])
-    left_on none = elim (some_or_none (exit e b)) [
-      | inl some ↦ (let stays : exit (e_at t (hs ++ h ∷ [])) b ≡ Some some.0 = subst (λ y. exit y b ≡ Some some.0) (sym (more_on t hs h)) (exit_on t.places t.commands f h e b some.0 some.1) in absurd (cc (stays, none)))
-      | inr gone ↦ absurd (left gone)
-    ]
-
   -- so it is so at the end
-  pub here_end : TurnsKeep → (hs mid : List Happening) → hs ++ mid ≡ t.trace → HasLeft hs → Here (f_at t hs) → Here (facts_at t)
-  here_end keeps hs mid is left now =
-      let both : HasLeft (hs ++ mid) × Here (f_at t (hs ++ mid))
-      = keep_on t whole (λ xs. HasLeft xs × Here (f_at t xs)) (λ xs h rest at so. (left_on keeps xs h rest at so.0 so.1, here_on keeps xs h rest at so.0 so.1)) hs mid (record { rest = []; is = append-nil (hs ++ mid) ∙ is }) (left, now) in
+  pub here_end : TurnsKeep → (hs later : List Happening) → hs ++ later ≡ t.trace → HasLeft t b hs → Here (f_at t hs) → Here (facts_at t)
+  here_end keeps hs later is left now =
+      let both : HasLeft t b (hs ++ later) × Here (f_at t (hs ++ later))
+      = keep_on t whole (λ xs. HasLeft t b xs × Here (f_at t xs)) (λ xs h rest at so. (left_on t b xs h so.0, here_on keeps xs h rest at so.0 so.1)) hs later (record { rest = []; is = append-nil (hs ++ later) ∙ is }) (left, now) in
       subst (λ xs. Here (f_at t xs)) is both.1
-
--- ---- a node that has stopped
-
-module _ (t : History) (whole : IsLawfulRun t) (b : BranchId) where
-  -- nothing else is so
-  abbrev pub Stopped : Facts → Type 0
-  Stopped f = Here t whole b (λ k. ⊥) f
-
-  nothing_kept : TurnsKeep t whole b (λ k. ⊥)
-  nothing_kept hs rest u is left k may node wrote so = so
-
-  pub stopped_on : (hs : List Happening) (h : Happening) (rest : List Happening) → hs ++ h ∷ rest ≡ t.trace → exit (e_at t hs) b ≢ None → Stopped (f_at t hs) → Stopped (f_at t (hs ++ h ∷ []))
-  stopped_on hs h rest is left now = here_on t whole b (λ k. ⊥) nothing_kept hs h rest is left now
-
-  pub stopped_end : (hs mid : List Happening) → hs ++ mid ≡ t.trace → exit (e_at t hs) b ≢ None → Stopped (f_at t hs) → HasStopped (facts_at t) b
-  stopped_end hs mid is left now k up = elim (here_end t whole b (λ k. ⊥) nothing_kept hs mid is left now k up) [ inl stopped ↦ stopped | inr never ↦ absurd never ]

@@ -1,5 +1,5 @@
--- Lists and branches of a transaction.
-use Rattle.std.proofs.Common.{◌≡◌, ◌⊎◌, if◌then◌else◌, find, inl, inr, None, ◌||◌, Bool, true, false, cond, List, [], ◌∷◌, ◌++◌, map, filter, Some, refl, ap, subst, ◌∙◌}
+-- The branches of a transaction: one that began in it is among them, and what is so of all of them is so of it.
+use Rattle.std.proofs.Common.{◌≡◌, ◌||◌, Bool, true, false, cond, List, [], ◌∷◌, map, filter, Some, refl, ap, subst, ◌∙◌}
 use Rattle.std.specs.List.{AllByRecursion}
 use Rattle.std.proofs.lemmas.Bool.{or_right}
 use Rattle.tran_ids.proofs.BranchLemmas.{equal_from_same, same_from_equal}
@@ -8,36 +8,6 @@ use Rattle.node_rules.specs.Words.{same}
 use Rattle.run_laws.specs.Births.{Born, born_id, born_at}
 use Rattle.run_laws.specs.Branches.{is_among}
 use Rattle.commit_laws.specs.Undisturbed.{branches_in}
-
--- what is so of all is so of the one at a place
-pub all_at : {A : Type 0} (P : A → Type 0) (xs : List A) (x : A) (ys : List A) → AllByRecursion P (xs ++ x ∷ ys) → P x
-all_at P [] x ys all = all.0
-all_at P (z ∷ xs) x ys all = all_at P xs x ys all.1
-
--- what is found in lists that grow
-pub find_kept : {A : Type 0} (p : A → Bool) (xs ys : List A) (x : A) → find p xs ≡ Some x → find p (xs ++ ys) ≡ Some x
-find_kept p [] ys x is = absurd cc
-find_kept p (z ∷ xs) ys x is = by (p z) is (find_kept p xs ys x)
-  where
-    by : (q : Bool) → (if q then Some z else find p xs) ≡ Some x → (find p xs ≡ Some x → find p (xs ++ ys) ≡ Some x) → (if q then Some z else find p (xs ++ ys)) ≡ Some x
-    by true here rest = here
-    by false here rest = rest here
-
-pub find_either : {A : Type 0} (p : A → Bool) (xs ys : List A) (x : A) → find p (xs ++ ys) ≡ Some x → (find p xs ≡ Some x) ⊎ (find p ys ≡ Some x)
-find_either p [] ys x is = inr is
-find_either p (z ∷ xs) ys x is = by (p z) is (find_either p xs ys x)
-  where
-    by : (q : Bool) → (if q then Some z else find p (xs ++ ys)) ≡ Some x → (find p (xs ++ ys) ≡ Some x → (find p xs ≡ Some x) ⊎ (find p ys ≡ Some x)) → ((if q then Some z else find p xs) ≡ Some x) ⊎ (find p ys ≡ Some x)
-    by true here rest = inl here
-    by false here rest = rest here
-
-pub find_last : {A : Type 0} (p : A → Bool) (xs : List A) (x : A) → find p xs ≡ None → p x ≡ true → find p (xs ++ x ∷ []) ≡ Some x
-find_last p [] x none is = ap (λ q. if q then Some x else None) is
-find_last p (z ∷ xs) x none is = by (p z) none (λ rest. find_last p xs x rest is)
-  where
-    by : (q : Bool) → (if q then Some z else find p xs) ≡ None → (find p xs ≡ None → find p (xs ++ x ∷ []) ≡ Some x) → (if q then Some z else find p (xs ++ x ∷ [])) ≡ Some x
-    by true here rest = absurd cc
-    by false here rest = rest here
 
 -- a branch that began in a transaction is among its branches
 pub is_in : (bs : List Born) (root m : BranchId) (b : Born) → born_at bs m ≡ Some b → b.root ≡ root → is_among m (branches_in bs root) ≡ true
