@@ -1,0 +1,6 @@
+pub mod TotalLemmas
+pub mod WorthLemmas
+pub mod ActLemmas
+pub mod KeptLemmas
+pub mod SayLemmas
+pub mod TurnLemmas
