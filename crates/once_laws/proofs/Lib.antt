@@ -4,3 +4,5 @@ pub mod ActLemmas
 pub mod KeptLemmas
 pub mod SayLemmas
 pub mod TurnLemmas
+pub mod DepthLemmas
+pub mod FullLemmas
