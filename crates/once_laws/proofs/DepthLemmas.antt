@@ -180,7 +180,7 @@ module _ (t : History) (whole : IsLawfulRun t) where
           (subst (λ o. AllByRecursion (λ (x : Born). x.depth ≤ 8) (births_at (place_at t.places u.node) u.input o)) (sym may.up) (input_low (place_at t.places u.node) u.input u.took may.comes)))
 
       turn_sent : AllByRecursion (λ (m : Msg). IsLow m.kind) u.sent
-      turn_sent = of_sent t.places f u k may (λ w ms. AllByRecursion (λ (m : Msg). IsLow m.kind) ms) tt (stamped_low _ _ (lows_on (place_at t.places u.node) u.input (serves t.places f u k may).step))
+      turn_sent = of_sent (place_at t.places u.node) k u (serves t.places f u k may) (λ w ms. AllByRecursion (λ (m : Msg). IsLow m.kind) ms) tt (stamped_low _ _ (lows_on (place_at t.places u.node) u.input (serves t.places f u k may).step))
 
     low_by : (y : Happening) → MayHappen t.places t.commands f y → AllByRecursion (λ (x : Born). x.depth ≤ 8) (births_after t.places f y (births_of (so_far t hs))) × AllByRecursion (λ (x : Packet). IsLow x.msg.kind) (facts_after t.places t.commands f y).net.packets
     low_by (happenings.Turn u) may = (turn_births u may.0 may.1, sent_after (λ m. IsLow m.kind) t.places t.commands f (happenings.Turn u) (turn_sent u may.0 may.1) now.1)

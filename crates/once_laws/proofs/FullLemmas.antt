@@ -7,7 +7,8 @@ use Rattle.std.proofs.lemmas.List.Sums.{sum_by-cons}
 use Rattle.tran_ids.proofs.ListedLemmas.{item_is}
 use Rattle.session_tree.specs.Live.{children_of}
 use Rattle.session_tree.specs.Tree.{count}
-use Rattle.node_rules.specs.Data.{BranchId, Edge, Live, Phase, Post, Work}
+use Rattle.node_rules.specs.Data.{BranchId, Edge, Live, Phase, Post}
+use Rattle.node_rules.specs.declared.work.Work.{Work}
 use Rattle.node_rules.specs.Data.phases
 use Rattle.node_rules.specs.LiveBranches.{EachLive}
 use Rattle.node_rules.specs.Words.{numbered}

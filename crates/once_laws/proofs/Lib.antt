@@ -6,3 +6,4 @@ pub mod SayLemmas
 pub mod TurnLemmas
 pub mod DepthLemmas
 pub mod FullLemmas
+pub mod FlightLemmas

@@ -17,6 +17,7 @@ use Rattle.node_rules.specs.Commit.{acked_by, ack_counts, is_beyond, is_asked_ag
 use Rattle.node_rules.specs.Kept.{Kept, Deed, live_id, live_at, work_at, with_work, standing_id, standing_at, with_standing, nothing, saying, post}
 use Rattle.node_rules.specs.Prepare.{act_turn, collecting, with_comment, without_read_keys, first_act, first_act_by, prepare_in, answer_in, answer_act, next_act, all_answered, collected_act, voted, has_voted, with_prepare_sent, commit_point_in, commit_point_act}
 use Rattle.node_rules.specs.Turn.{Stand, Is_live, Is_kept, Is_gone, kept_or_gone, live_or, stand_of, kind_turn}
+use Rattle.run_laws.specs.Trail.{is_prepare}
 use Rattle.commit_laws.specs.Undisturbed.{disturbs}
 use Rattle.once_laws.proofs.WorthLemmas.{phase_pot, worth, says_worth, live_pot, node_pot, live_low, live_is, asked_worth, sent_worth, mapped_length}
 use Rattle.once_laws.proofs.ActLemmas.{act_cost, act_low, collected_cost, point_cost}
@@ -71,7 +72,7 @@ module _ (g : BranchId) (ask far : BranchId → ℕ) (low : (b : BranchId) → f
     one : (w : ℕ) (kind : Kind) → 1 + worth g ask far from kind ≤ w → in_course kind ≡ true → (me : BranchId) → me ≡ to → Fits k to w (saying k (post me from kind))
     one w kind some so me is = record { less = omega (arith, some); said = ((is, so), tt); works = λ c y at works. at }
 
-    module _ (l : Live) (found : live_at k to ≡ Some l) (of : same l.root g ≡ true) (works : l.phase ≡ phases.Working → 24 + asked_worth g ask far l.edges + 21 * length l.edges ≤ ask to) (asks : 2 ≤ ask to) where
+    module _ (l : Live) (found : live_at k to ≡ Some l) (of : same l.root g ≡ true) (asks : 2 ≤ ask to) where
       me : l.me ≡ to
       me = item_is live_id k.lives to l found
 
@@ -81,8 +82,8 @@ module _ (g : BranchId) (ask far : BranchId → ℕ) (low : (b : BranchId) → f
       said_here : (ms : List Post) → AllByRecursion (SaidSo l.me) ms → AllByRecursion (SaidSo to) ms
       said_here ms all = subst (λ b. AllByRecursion (SaidSo b) ms) me all
 
-      prepares_so : (b : Bool) (comment : List ℕ) (phase : Phase) → l.phase ≡ phase → Fits k to (ask to) (prepare_in k l b comment phase)
-      prepares_so b comment phases.Working is =
+      prepares_so : (b : Bool) (comment : List ℕ) (phase : Phase) → l.phase ≡ phase → (l.phase ≡ phases.Working → 24 + asked_worth g ask far l.edges + 21 * length l.edges ≤ ask to) → Fits k to (ask to) (prepare_in k l b comment phase)
+      prepares_so b comment phases.Working is works =
           let y : Live = collecting (with_comment l comment) b in
           let cost : act_cost g ask far y (first_act y b) ≤ (23 + 21 * length y.edges) + asked_worth g ask far y.edges = first_cost y b y.edges refl in
           let many : length (map with_prepare_sent l.edges) ≡ length l.edges = mapped_length with_prepare_sent l.edges in
@@ -94,8 +95,8 @@ module _ (g : BranchId) (ask far : BranchId → ℕ) (low : (b : BranchId) → f
             said = said_here _ (act_said (without_read_keys k l.me) y b (first_act y b));
             works = act_works (without_read_keys k l.me) y (λ same. absurd cc) b (first_act y b);
           }
-      prepares_so b comment (phases.Collecting c) is = idle (ask to) (omega (arith, asks))
-      prepares_so b comment phases.Ready is = idle (ask to) (omega (arith, asks))
+      prepares_so b comment (phases.Collecting c) is works = idle (ask to) (omega (arith, asks))
+      prepares_so b comment phases.Ready is works = idle (ask to) (omega (arith, asks))
 
       answers_so : (v : Vote) (phase : Phase) → l.phase ≡ phase → Fits k to 1 (answer_in k l from v phase)
       answers_so v phases.Working is = idle 1 (omega arith)
@@ -126,24 +127,24 @@ module _ (g : BranchId) (ask far : BranchId → ℕ) (low : (b : BranchId) → f
             works = act_works k l (λ working. (let both : phases.Ready ≡ phases.Working = sym is ∙ working in absurd cc)) true (commit_point_act (step l));
           }
 
-      pub live_fits : (kind : Kind) → in_course kind ≡ true → disturbs kind ≡ false → Fits k to (worth g ask far to kind) (kind_turn p k from to kind (Is_live (record { live = l; work = work_at k l.me })))
-      live_fits (kinds.Prepare b comment) so calm = prepares_so b comment l.phase refl
-      live_fits kinds.Prepared so calm = answers_so votes.Prepared l.phase refl
-      live_fits kinds.ReadOnly so calm = answers_so votes.ReadOnly l.phase refl
-      live_fits kinds.Ready so calm = answers_so votes.Ready l.phase refl
-      live_fits kinds.Abort so calm = answers_so votes.Abort l.phase refl
-      live_fits kinds.CommitPoint so calm = points_so l.phase refl
-      live_fits (kinds.Committed n) so calm = idle 20 (omega arith)
-      live_fits kinds.Ack so calm = idle (2 + far to) (omega arith)
-      live_fits kinds.Forgotten so calm = idle 1 (omega arith)
-      live_fits kinds.Rollback so calm = absurd cc
-      live_fits kinds.RolledBack so calm = absurd cc
-      live_fits (kinds.Open i r d) so calm = absurd cc
-      live_fits (kinds.Opened i r) so calm = absurd cc
-      live_fits (kinds.Exec i r d s) so calm = absurd cc
-      live_fits (kinds.Reply i r d s) so calm = absurd cc
-      live_fits kinds.InDoubt so calm = absurd cc
-      live_fits kinds.Ask so calm = absurd cc
+      pub live_fits : (kind : Kind) → (l.phase ≡ phases.Working → is_prepare kind ≡ true → 24 + asked_worth g ask far l.edges + 21 * length l.edges ≤ ask to) → in_course kind ≡ true → disturbs kind ≡ false → Fits k to (worth g ask far to kind) (kind_turn p k from to kind (Is_live (record { live = l; work = work_at k l.me })))
+      live_fits (kinds.Prepare b comment) works so calm = prepares_so b comment l.phase refl (λ is. works is refl)
+      live_fits kinds.Prepared works so calm = answers_so votes.Prepared l.phase refl
+      live_fits kinds.ReadOnly works so calm = answers_so votes.ReadOnly l.phase refl
+      live_fits kinds.Ready works so calm = answers_so votes.Ready l.phase refl
+      live_fits kinds.Abort works so calm = answers_so votes.Abort l.phase refl
+      live_fits kinds.CommitPoint works so calm = points_so l.phase refl
+      live_fits (kinds.Committed n) works so calm = idle 20 (omega arith)
+      live_fits kinds.Ack works so calm = idle (2 + far to) (omega arith)
+      live_fits kinds.Forgotten works so calm = idle 1 (omega arith)
+      live_fits kinds.Rollback works so calm = absurd cc
+      live_fits kinds.RolledBack works so calm = absurd cc
+      live_fits (kinds.Open i r d) works so calm = absurd cc
+      live_fits (kinds.Opened i r) works so calm = absurd cc
+      live_fits (kinds.Exec i r d s) works so calm = absurd cc
+      live_fits (kinds.Reply i r d s) works so calm = absurd cc
+      live_fits kinds.InDoubt works so calm = absurd cc
+      live_fits kinds.Ask works so calm = absurd cc
 
     module _ (s : Standing) (found : standing_at k to ≡ Some s) (of : same s.root g ≡ true) (near : (q : BranchId) → s.toward ≡ Some q → far q < far s.me) (asks : 2 ≤ ask to) where
       own : s.me ≡ to
@@ -222,15 +223,15 @@ module _ (g : BranchId) (ask far : BranchId → ℕ) (low : (b : BranchId) → f
     gone_fits asks kinds.Ask so calm = absurd cc
 
     -- What is to be known of the receiver.
-    pub record Known : Type 0 where
+    pub record Known (kind : Kind) : Type 0 where
       pub asks : 2 ≤ ask to
       pub mine : (l : Live) → live_at k to ≡ Some l → same l.root g ≡ true
-      pub works : (l : Live) → live_at k to ≡ Some l → l.phase ≡ phases.Working → 24 + asked_worth g ask far l.edges + 21 * length l.edges ≤ ask to
+      pub works : (l : Live) → live_at k to ≡ Some l → l.phase ≡ phases.Working → is_prepare kind ≡ true → 24 + asked_worth g ask far l.edges + 21 * length l.edges ≤ ask to
       pub rows : (s : Standing) → standing_at k to ≡ Some s → (same s.root g ≡ true) × ((q : BranchId) → s.toward ≡ Some q → far q < far s.me)
 
     -- so a delivery is less than its message was worth
-    pub turn_fits : Known → (kind : Kind) → in_course kind ≡ true → disturbs kind ≡ false → Fits k to (worth g ask far to kind) (kind_turn p k from to kind (stand_of k to))
-    turn_fits known kind so calm = by_live (live_at k to) refl
+    pub turn_fits : (kind : Kind) → Known kind → in_course kind ≡ true → disturbs kind ≡ false → Fits k to (worth g ask far to kind) (kind_turn p k from to kind (stand_of k to))
+    turn_fits kind known so calm = by_live (live_at k to) refl
       where
         by_row : (o : Option Standing) → live_at k to ≡ None → standing_at k to ≡ o → Fits k to (worth g ask far to kind) (kind_turn p k from to kind (stand_of k to))
         by_row None none is = subst (λ (x : Stand). Fits k to (worth g ask far to kind) (kind_turn p k from to kind x)) (sym (stand_kept k to None none is)) (gone_fits known.asks kind so calm)
@@ -239,4 +240,4 @@ module _ (g : BranchId) (ask far : BranchId → ℕ) (low : (b : BranchId) → f
         by_live : (o : Option Live) → live_at k to ≡ o → Fits k to (worth g ask far to kind) (kind_turn p k from to kind (stand_of k to))
         by_live None is = by_row (standing_at k to) is refl
         by_live (Some l) is =
-            subst (λ (x : Stand). Fits k to (worth g ask far to kind) (kind_turn p k from to kind x)) (sym (stand_live k to l is)) (live_fits l is (known.mine l is) (known.works l is) known.asks kind so calm)
+            subst (λ (x : Stand). Fits k to (worth g ask far to kind) (kind_turn p k from to kind x)) (sym (stand_live k to l is)) (live_fits l is (known.mine l is) known.asks kind (known.works l is) so calm)
