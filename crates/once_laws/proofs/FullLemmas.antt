@@ -29,7 +29,8 @@ use Rattle.run_laws.proofs.RestRunLemmas.{RootsStand, roots_stand_on, first_rest
 use Rattle.count_laws.proofs.SentLemmas.{AllFit, Told, told_gave}
 use Rattle.count_laws.proofs.CountLemmas.{counts}
 use Rattle.count_laws.proofs.CountRunLemmas.{CountStand, LiveFits, NodeFits, counts_on, first_counts}
-use Rattle.stay_laws.proofs.GotLemmas.{same_born}
+use Rattle.tree_laws.proofs.ForestLemmas.{same_born}
+use Rattle.tree_laws.proofs.ForestRunLemmas.{run_known}
 use Rattle.once_laws.proofs.TotalLemmas.{total}
 use Rattle.once_laws.proofs.WorthLemmas.{asked_worth}
 
@@ -146,7 +147,7 @@ module _ (t : History) (whole : IsLawfulRun t) where
           let edge = edges_fit t whole n k up x there i e.peer (peer_numbered l.edges i e at) e.peer.node j upj z there_z me in
           let born = child_parent l.edges 1 i e at placed.children in
           let own : LiveIs (Began (births_of t)) y = all_found (LiveIs (Began (births_of t))) live_id j.lives y.me y (nodes_name_the_born t whole e.peer.node j upj).0 found in
-          let it : own.born ≡ born.0 = same_born t whole own.born born.0 own.began born.1 (own.is_me ∙ (me ∙ sym born.2)) in
+          let it : own.born ≡ born.0 = same_born (births_of t) said (run_known t whole) own.born born.0 own.began born.1 (own.is_me ∙ (me ∙ sym born.2)) in
           let parent : y.parent ≡ Some l.me = sym own.is_parent ∙ (ap (λ (q : Born). q.parent) it ∙ born.3) in
           elim (edge.rests goes) [
             | inl waits ↦ no_wait i _ waits
