@@ -7,3 +7,4 @@ pub mod TurnLemmas
 pub mod DepthLemmas
 pub mod FullLemmas
 pub mod FlightLemmas
+pub mod CourseLemmas

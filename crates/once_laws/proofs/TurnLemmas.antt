@@ -44,7 +44,7 @@ module _ (g : BranchId) (ask far : BranchId → ℕ) (low : (b : BranchId) → f
 
   -- ---- acts
 
-  first_cost : (l : Live) (b : Bool) (es : List Edge) → l.phase ≡ phases.Collecting b → act_cost g ask far l (first_act_by l b es) ≤ (23 + 21 * length l.edges) + asked_worth g ask far l.edges
+  pub first_cost : (l : Live) (b : Bool) (es : List Edge) → l.phase ≡ phases.Collecting b → act_cost g ask far l (first_act_by l b es) ≤ (23 + 21 * length l.edges) + asked_worth g ask far l.edges
   first_cost l b [] is = (let few = collected_cost g ask far l b in omega (arith, few))
   first_cost l b (e ∷ es) is =
       let few : live_pot g ask far l ≤ phase_pot l.phase (length l.edges) = live_low g ask far l in
