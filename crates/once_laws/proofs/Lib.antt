@@ -8,3 +8,4 @@ pub mod DepthLemmas
 pub mod FullLemmas
 pub mod FlightLemmas
 pub mod CourseLemmas
+pub mod FewLemmas

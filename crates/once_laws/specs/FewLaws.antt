@@ -1,7 +1,7 @@
 -- How many messages are delivered in the course of a COMMIT that nothing disturbs: fewer than the 4,096 that a command may have
 -- delivered. (Database Administrator's Guide, "Distributed Transactions Concepts": two-phase commit mechanism; the limit
 -- is dtx's own.)
-use Rattle.std.specs.Prelude.{◌≡◌, ◌≤◌, ◌<◌, ℕ, List, length, None}
+use Rattle.std.specs.Prelude.{◌≡◌, ◌≤◌, ◌<◌, ℕ, false, List, length, None}
 use Rattle.std.specs.List.{AllByRecursion}
 use Rattle.dtx_values.specs.Limits.{delivery_limit}
 use Rattle.node_rules.specs.Data.{Place}
@@ -10,11 +10,12 @@ use Rattle.run_laws.specs.Data.{Command, Happening}
 use Rattle.run_laws.specs.Lawful.{History, IsLawfulRun}
 use Rattle.commit_laws.specs.Undisturbed.{Commit, IsDelivery, IsCalm, facts_by, branches_by}
 
--- A COMMIT flows: nothing is in flight when it is called; from then on there were deliveries alone, each the first of its message,
+-- A COMMIT flows: nothing is in flight when it is called, and the turn of the call is whole; from then on there were deliveries alone, each the first of its message,
 -- of whole turns; and neither a rollback nor a question of the recoverer came to a branch of its transaction. Messages may
 -- still be in flight.
 pub record Flows (places : List Place) (asked : List Command) (trace : List Happening) (c : Commit places asked trace) : Type 0 where
   pub still : first_flying (facts_by places asked c.before).net ≡ None
+  pub whole : c.call.cut ≡ false
   pub delivers : AllByRecursion IsDelivery c.during
   pub calm : AllByRecursion (IsCalm (branches_by places asked trace c.root)) trace
 
