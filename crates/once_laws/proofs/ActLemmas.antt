@@ -1,5 +1,5 @@
 -- What an act of the prepare phase costs: it sends and keeps no more than its branch had.
-use Rattle.std.proofs.Common.{◌≡◌, ℕ, ◌+◌, ◌*◌, ◌≤◌, ◌||◌, Bool, true, false, if◌then◌else◌, List, [], ◌∷◌, ◌++◌, map, filter, length, is_none, is_some, Option, Some, None, refl, sym, ap, subst, ◌∙◌, arith}
+use Rattle.std.proofs.Common.{◌≡◌, ℕ, ◌+◌, ◌*◌, ◌≤◌, ◌||◌, Bool, true, false, if◌then◌else◌, List, [], ◌∷◌, map, filter, length, is_none, Option, Some, None, refl, sym, ap, subst, arith}
 use Rattle.std.proofs.lemmas.Bool.{cond_both}
 use Rattle.std.specs.Option.{option_to_list}
 use Rattle.redo_record.specs.Durable.{durable_after}
@@ -8,18 +8,17 @@ use Rattle.redo_record.specs.Rows.{sealed_as, decided_as, has_neighbors, kid_of}
 use Rattle.session_tree.specs.Live.{children_of, peer_of}
 use Rattle.session_tree.specs.Tree.{weight, step}
 use Rattle.prepare_phase.specs.Records.{is_place}
-use Rattle.node_rules.specs.Data.{Act, BranchId, Edge, Kind, Live, Peer, Phase, Post, Walk}
+use Rattle.node_rules.specs.Data.{Act, BranchId, Edge, Live, Post, Walk}
 use Rattle.node_rules.specs.Data.acts
 use Rattle.node_rules.specs.Data.kinds
 use Rattle.node_rules.specs.Data.phases
 use Rattle.node_rules.specs.Data.records
 use Rattle.node_rules.specs.Data.walks
-use Rattle.node_rules.specs.Words.{same}
 use Rattle.node_rules.specs.Records.{applied, with_record}
-use Rattle.node_rules.specs.Kept.{Kept, Deed, live_id, live_at, standing_id, to_each, to_one, with_live, without_branch}
+use Rattle.node_rules.specs.Kept.{Kept, live_id, live_at, standing_id, to_each, to_one, with_live, without_branch}
 use Rattle.node_rules.specs.Prepare.{act_turn, path_of, named_children, is_prepared, ready, site_neighbors, sealed_of, decided_of, own_changes, collected_act, root_act, commit_point_act}
 use Rattle.once_laws.proofs.TotalLemmas.{total, total_append, drop_total, put_total, insert_total}
-use Rattle.once_laws.proofs.WorthLemmas.{one_of, phase_pot, known_pot, neighbors, worth, post_worth, says_worth, live_pot, row_pot, node_pot, live_low, row_low, each_worth, one_worth, asked_worth, asks_worth, mapped_length, joined_length, filtered_low}
+use Rattle.once_laws.proofs.WorthLemmas.{one_of, phase_pot, post_worth, says_worth, live_pot, row_pot, node_pot, live_low, row_low, each_worth, one_worth, asked_worth, asks_worth, mapped_length, joined_length, filtered_low}
 
 -- ---- records
 

@@ -1,5 +1,5 @@
 -- No branch of a lawful run stands deeper than a session tree may be, so none is farther from its site than 17.
-use Rattle.std.proofs.Common.{◌≡◌, ℕ, zero, suc, ◌+◌, ◌-◌, ◌≤◌, ◌==◌, ◌||◌, Bool, true, false, if◌then◌else◌, List, [], ◌∷◌, ◌++◌, map, length, Option, Some, None, inl, inr, refl, sym, ap, subst, ◌∙◌, arith, append-nil}
+use Rattle.std.proofs.Common.{◌≡◌, ℕ, ◌+◌, ◌-◌, ◌≤◌, ◌==◌, ◌||◌, Bool, true, false, if◌then◌else◌, List, [], ◌∷◌, ◌++◌, map, length, Option, Some, None, refl, sym, subst, arith, append-nil}
 use Rattle.std.specs.Prelude.{nat_le}
 use Rattle.std.specs.List.{AllByRecursion}
 use Rattle.std.proofs.lemmas.Bool.{cond_both}
@@ -7,8 +7,7 @@ use Rattle.std.proofs.lemmas.Bool.Decides.{nat_tests}
 use Rattle.dtx_values.specs.Limits.{depth_limit}
 use Rattle.session_tree.specs.Live.{children_of, peer_of, edge_by_link, new_edge}
 use Rattle.session_tree.specs.Tree.{room}
-use Rattle.link_session.specs.Opens.{is_opening}
-use Rattle.node_rules.specs.Data.{Answer, Act, BranchId, Durable, Edge, Input, Kind, Live, Msg, Next, Place, Post, RedoRecord, Refusal, Stmt, Opening}
+use Rattle.node_rules.specs.Data.{Answer, Act, BranchId, Durable, Input, Kind, Live, Msg, Place, Post, Refusal, Stmt, Opening}
 use Rattle.node_rules.specs.Data.acts
 use Rattle.node_rules.specs.Data.inputs
 use Rattle.node_rules.specs.Data.kinds
@@ -19,14 +18,13 @@ use Rattle.node_rules.specs.Calls.{answer_says, exec_to, with_edge, hears_reply}
 use Rattle.node_rules.specs.Statement.{ran, after_run}
 use Rattle.node_rules.specs.Kept.{Kept, Branch, Deed, to_one, to_each}
 use Rattle.node_rules.specs.Names.{Named, Unknown, A_table, Behind, Nowhere_to, Through, named_by, ref_of, target_of, way_edge, way_target, way_named, way_of}
-use Rattle.node_rules.specs.Prepare.{act_turn, path_of, prepares, site_neighbors}
+use Rattle.node_rules.specs.Prepare.{act_turn, site_neighbors}
 use Rattle.node_rules.specs.Recovery.{kept_told}
-use Rattle.node_rules.specs.Turn.{deed_of, stamped, heard}
+use Rattle.node_rules.specs.Turn.{stamped}
 use Rattle.node_rules.specs.Sessions.{session_at}
 use Rattle.node_rules.proofs.Steps as steps
 use Rattle.node_rules.proofs.Steps.{Step, Acting, Says}
-use Rattle.net_bag.specs.Net.{packet_at}
-use Rattle.run_laws.specs.Births.{Born, births_of, births_after, births_at, births_by, births_by_kind, births_by_open, births_by_call, roots_by, births_from, born_id, born_at}
+use Rattle.run_laws.specs.Births.{Born, births_of, births_after, births_at, births_by, births_by_kind, births_by_open, roots_by, births_from, born_id, born_at}
 use Rattle.run_laws.specs.Runs.{is_of_rows}
 use Rattle.run_laws.specs.Data.{Packet, Took, Turn, Happening}
 use Rattle.run_laws.specs.Data.happenings
@@ -34,12 +32,12 @@ use Rattle.run_laws.specs.Facts.{Facts, first_facts, place_at, node_at, facts_af
 use Rattle.run_laws.specs.Lawful.{Comes, MayTurn, MayHappen, History, IsLawfulRun}
 use Rattle.run_laws.proofs.KindSayLemmas.{OfDecisions, AllSay, one_says, each_says, prepares_say, told_says, passes_say, askings_say}
 use Rattle.run_laws.proofs.LawfulLemmas.{serves, of_sent}
-use Rattle.run_laws.proofs.ListLemmas.{all_append, all_map}
+use Rattle.run_laws.proofs.ListLemmas.{all_append}
 use Rattle.run_laws.proofs.OwnLemmas.{all_found}
 use Rattle.run_laws.proofs.SaidLemmas.{sent_after}
 use Rattle.tree_laws.specs.Forests.{forest_of, depth_in, depth_at, far_by}
 use Rattle.tree_laws.proofs.PrefixLemmas.{so_far, f_at, one_on, births_join}
-use Rattle.site_laws.proofs.TimeLemmas.{part_of, may_of, keep_on}
+use Rattle.site_laws.proofs.TimeLemmas.{may_of, keep_on}
 use Rattle.commit_laws.proofs.NetLemmas.{numbered_all}
 
 -- an Open goes no deeper than a tree may be

@@ -1,103 +1,46 @@
--- A COMMIT that flows has few messages delivered: nothing of its transaction was on the way when it was called, and its call
--- leaves no more than 45 for each branch.
-use Rattle.std.proofs.Common.{◌≡◌, ◌≢◌, ℕ, zero, suc, ◌+◌, ◌-◌, ◌*◌, ◌≤◌, ◌<◌, ◌||◌, Bool, true, false, if◌then◌else◌, List, [], ◌∷◌, ◌++◌, length, map, position, option_map, unwrap_or, is_none, Option, Some, None, inl, inr, refl, sym, ap, subst, ◌∙◌, arith, append-nil}
-use Rattle.std.specs.Prelude.{◌⊎◌}
-use Rattle.std.specs.List.{AllByRecursion, list_any, position_or_len}
+-- A COMMIT that flows has few messages delivered: its call leaves no more than 45 for each branch of its tree.
+use Rattle.std.proofs.Common.{◌≡◌, ℕ, ◌+◌, ◌*◌, ◌≤◌, ◌<◌, true, false, List, [], ◌∷◌, ◌++◌, length, map, unwrap_or, Option, Some, None, refl, sym, ap, subst, ◌∙◌, arith}
+use Rattle.std.specs.List.{AllByRecursion}
 use Rattle.std.proofs.lemmas.List.{append_assoc}
-use Rattle.tran_ids.proofs.BranchLemmas.{equal_from_same, same_from_equal}
 use Rattle.tran_ids.proofs.ListedLemmas.{item_is}
 use Rattle.session_tree.specs.Tree.{count}
-use Rattle.agreement.specs.Events.{Exit, Sealed, Decided, Dropped, exit, learned}
-use Rattle.node_rules.specs.Data.{BranchId, Decision, Live, Msg, Phase, Place, Post, Standing, Input}
-use Rattle.node_rules.specs.Data.decisions
+use Rattle.node_rules.specs.Data.{BranchId, Live, Place, Post, Input}
 use Rattle.node_rules.specs.Data.inputs
-use Rattle.node_rules.specs.Data.phases
 use Rattle.node_rules.specs.declared.session.PendingCall.TheVariants as pending
 use Rattle.node_rules.specs.Data.stmts
-use Rattle.node_rules.specs.Words.{same, numbered, item_at}
-use Rattle.node_rules.specs.Kept.{Kept, Branch, Deed, live_id, live_at, branch_at, work_at, with_work, standing_id}
+use Rattle.node_rules.specs.Kept.{Kept, Branch, Deed, live_id, live_at, branch_at, work_at, with_work}
 use Rattle.node_rules.specs.Prepare.{collecting, with_comment, without_read_keys, first_act, act_turn, collects, with_prepare_sent}
 use Rattle.node_rules.specs.Sessions.{session_at, with_call}
-use Rattle.node_rules.specs.Client.{commit_by, commit_call, root_by, root_at}
+use Rattle.node_rules.specs.Client.{commit_by, root_by, root_at}
 use Rattle.node_rules.specs.Turn.{deed_of, stamped, turn_of}
-use Rattle.net_bag.specs.Net.{Net, flies, first_flying}
-use Rattle.run_laws.specs.Births.{Born, births_of, born_at}
-use Rattle.run_laws.specs.BirthLaws.{Began, LiveIs, KeptIs}
-use Rattle.run_laws.specs.CallLaws.{ComesAtRest}
-use Rattle.run_laws.specs.Data.{Packet, Took, Turn, Happening}
+use Rattle.run_laws.specs.Births.{Born, births_of}
+use Rattle.run_laws.specs.BirthLaws.{Began, LiveIs}
+use Rattle.run_laws.specs.Data.{Took, Turn, Happening}
 use Rattle.run_laws.specs.Data.happenings
-use Rattle.run_laws.specs.EventRows.{RowIs, IsKnown}
-use Rattle.run_laws.specs.Facts.{Facts, first_facts, flat, place_at, node_at, taken, facts_after}
-use Rattle.run_laws.specs.FreezeLaws.{was_asked}
+use Rattle.run_laws.specs.Facts.{Facts, place_at, taken, facts_after}
 use Rattle.run_laws.specs.InTurnLaws.{said_in, GoesOn}
-use Rattle.run_laws.specs.Lawful.{Comes, IsOwed, MayTurn, History, IsLawfulRun, facts_at}
-use Rattle.run_laws.specs.NodeLaws.{EachFactFrom}
-use Rattle.run_laws.specs.Trail.{is_prepare}
+use Rattle.run_laws.specs.Lawful.{Comes, IsOwed, MayTurn, History, IsLawfulRun}
 use Rattle.run_laws.proofs.BirthRunLemmas.{nodes_name_the_born}
-use Rattle.run_laws.proofs.EventsStandLemmas.{nodes_are_as_events, run_stands, ids_name_their_node}
-use Rattle.run_laws.proofs.FreezeRunLemmas.{asked_stand_still}
-use Rattle.run_laws.proofs.ListLemmas.{all_weaker}
+use Rattle.run_laws.proofs.EventsStandLemmas.{run_stands}
 use Rattle.run_laws.proofs.OwnLemmas.{all_found}
-use Rattle.run_laws.proofs.RestRunLemmas.{calls_come_at_rest}
 use Rattle.run_laws.proofs.RootLemmas.{roots_are_of_sessions}
-use Rattle.run_laws.proofs.TurnEventLemmas.{all_both}
-use Rattle.tree_laws.specs.AskLaws.{HeardAbove}
-use Rattle.tree_laws.proofs.FoundLemmas.{lives_found}
 use Rattle.tree_laws.proofs.ForestLemmas as trees
 use Rattle.tree_laws.proofs.ForestRunLemmas.{run_known}
-use Rattle.tree_laws.proofs.PrefixLemmas.{so_far, f_at, e_at, one_on}
-use Rattle.site_laws.proofs.HeardLemmas.{left_were_asked}
-use Rattle.site_laws.proofs.TimeLemmas.{Part, part_of, part_lawful, may_of, fact_at, born_end}
+use Rattle.tree_laws.proofs.PrefixLemmas.{so_far, f_at, one_on}
+use Rattle.site_laws.proofs.TimeLemmas.{Part, part_of, part_lawful, may_of, born_end}
 use Rattle.commit_laws.specs.Undisturbed.{Commit}
-use Rattle.told_laws.proofs.BeforeLemmas.{none_asked}
-use Rattle.told_laws.proofs.MoreLemmas.{inv_at}
 use Rattle.once_laws.specs.FewLaws.{Flows, DeliveriesAreFew, DeliveriesStayBelow}
-use Rattle.once_laws.proofs.TotalLemmas.{total}
-use Rattle.once_laws.proofs.WorthLemmas.{phase_pot, known_pot, neighbors, worth, says_worth, live_pot, row_pot, node_pot, asked_worth, sent_worth, mapped_length}
+use Rattle.once_laws.proofs.WorthLemmas.{says_worth, live_pot, node_pot, asked_worth, sent_worth, mapped_length}
 use Rattle.once_laws.proofs.ActLemmas.{act_cost, act_low}
-use Rattle.once_laws.proofs.SayLemmas.{in_course, SaidSo, WorksOn, act_said, act_works}
+use Rattle.once_laws.proofs.SayLemmas.{SaidSo, WorksOn, act_said, act_works}
 use Rattle.once_laws.proofs.TurnLemmas.{first_cost}
 use Rattle.once_laws.proofs.DepthLemmas.{far_low}
-use Rattle.once_laws.proofs.FullLemmas.{full, live_in, ask_in, few, asks_low}
-use Rattle.once_laws.proofs.FlightLemmas.{flight, net_pot, kept_pot, all_pot, AllFly, turned_low, turned_nodes, turn_fly}
-use Rattle.once_laws.proofs.CourseLemmas.{far, Course, few_more}
+use Rattle.once_laws.proofs.FullLemmas.{ask_in, few, asks_low}
+use Rattle.once_laws.proofs.FlightLemmas.{net_pot, all_pot, AllFly, turned_low, turned_nodes, turn_fly}
+use Rattle.once_laws.proofs.TreeLemmas.{far, Course}
+use Rattle.once_laws.proofs.CourseLemmas.{few_more}
 
--- ---- sums of nothing
-
-total_none : {A : Type 0} (f : A → ℕ) (xs : List A) → AllByRecursion (λ x. f x ≡ 0) xs → total f xs ≡ 0
-total_none f [] all = refl
-total_none f (x ∷ xs) all = (let here = all.0 in let rest = total_none f xs all.1 in omega (arith, here, rest))
-
-total_each : {A : Type 0} (f : A → ℕ) (xs : List A) → ((n : ℕ) (x : A) → numbered xs n ≡ Some x → f x ≡ 0) → total f xs ≡ 0
-total_each f [] each = refl
-total_each f (x ∷ xs) each = (let here = each 1 x refl in let rest = total_each f xs (λ n y at. later n y at) in omega (arith, here, rest))
-  where
-    later : (n : ℕ) (y : _) → numbered xs n ≡ Some y → f y ≡ 0
-    later zero y at = absurd cc
-    later (suc i) y at = each (suc (suc i)) y at
-
-if_none : (q : Bool) (n : ℕ) → (q ≡ true → n ≡ 0) → (if q then n else 0) ≡ 0
-if_none true n none = none refl
-if_none false n none = refl
-
-any_placed : {A : Type 0} (p : A → Bool) (xs : List A) → list_any p xs ≡ true → position_or_len p xs < length xs
-any_placed p [] is = absurd cc
-any_placed p (x ∷ xs) is = grind (arith, any_placed p xs)
-
-none_placed : {A : Type 0} (p : A → Bool) (xs : List A) → option_map (λ i. i + 1) (position p xs) ≡ None → list_any p xs ≡ false
-none_placed p xs none = by (list_any p xs) refl
-  where
-    by : (q : Bool) → list_any p xs ≡ q → list_any p xs ≡ false
-    by false is = is
-    by true is = (let low : position_or_len p xs < length xs = any_placed p xs is in absurd (grind (arith, low, none)))
-
-none_all : {A : Type 0} (p : A → Bool) (xs : List A) → list_any p xs ≡ false → AllByRecursion (λ x. p x ≡ false) xs
-none_all p [] is = tt
-none_all p (x ∷ xs) is = by (p x) refl is (none_all p xs)
-  where
-    by : (q : Bool) → p x ≡ q → (q || list_any p xs) ≡ false → (list_any p xs ≡ false → AllByRecursion (λ y. p y ≡ false) xs) → AllByRecursion (λ y. p y ≡ false) (x ∷ xs)
-    by true here none rest = absurd cc
-    by false other none rest = (other, rest none)
+use Rattle.once_laws.proofs.BeforeLemmas as before
 
 module _ (t : History) (whole : IsLawfulRun t) (c : Commit t.places t.commands t.trace) (flows : Flows t.places t.commands t.trace c) where
   abbrev hs : List Happening
@@ -130,11 +73,6 @@ module _ (t : History) (whole : IsLawfulRun t) (c : Commit t.places t.commands t
   lawful : IsLawfulRun s
   lawful = part_lawful t whole hs part
 
-  known : trees.Known bs said
-  known = run_known s lawful
-
-  -- ---- the root is at rest
-
   me : c.live.me ≡ c.root
   me = item_is live_id k.lives c.root c.live c.there
 
@@ -147,119 +85,8 @@ module _ (t : History) (whole : IsLawfulRun t) (c : Commit t.places t.commands t
   there : branch_at k c.live.me ≡ Some x
   there = ap (with_work k) found
 
-  rests : (c.live.phase ≡ phases.Working) × ((work_at k c.live.me).going ≡ None)
-  rests =
-      let each : ComesAtRest t.places f (happenings.Turn c.call)
-      = fact_at t.places t.commands (ComesAtRest t.places) (first_facts t.places) hs (happenings.Turn c.call) c.during (subst (λ xs. EachFactFrom (ComesAtRest t.places) t.places t.commands (first_facts t.places) xs) (sym c.is) (calls_come_at_rest t whole)) in
-      each k c.up c.session (Some (stmts.Commit c.comment)) c.asks x (c.of ∙ ap Some (sym me)) there
-
-  root_is_live : exit (e_at t hs) c.root ≡ None
-  root_is_live = subst (λ i. exit (e_at t hs) i ≡ None) me (all_found (λ (l : Live). exit (e_at t hs) l.me ≡ None) live_id k.lives c.root c.live (nodes_are_as_events s lawful c.call.node k c.up).0 c.there)
-
-  -- ---- nothing of it is on the way before
-
-  -- a branch below one of the transaction was not asked
-  unasked : (z : Born) → Began bs z → z.root ≡ c.root → (q : BranchId) → z.parent ≡ Some q → was_asked said q z.me ≡ true → ⊥
-  unasked z began of q up asked =
-      let y = trees.below_of bs said known z q began up in
-      let none : was_asked said y.up.me z.me ≡ false = none_asked t whole c y.up y.began (y.is_root ∙ of) z.me in
-      let yes : was_asked said y.up.me z.me ≡ true = subst (λ i. was_asked said i z.me ≡ true) (sym y.is_me) asked in
-      absurd (cc (yes, none))
-
-  root_me : (z : Born) → Began bs z → z.root ≡ c.root → z.parent ≡ None → z.me ≡ c.root
-  root_me z began of top = sym (trees.stands_so bs said known z None began top).0 ∙ of
-
-  -- none has left but by a drop
-  not_left : (z : Born) → Began bs z → z.root ≡ c.root → (w : Exit) → w ≢ Dropped → exit (e_at t hs) z.me ≡ Some w → ⊥
-  not_left z began of w other left = by z.parent refl
-    where
-      above : HeardAbove is_prepare bs said z.me
-      above = left_were_asked s lawful z.me w left other
-
-      it : above.0 ≡ z
-      it = trees.same_born bs said known above.0 z above.1 began above.2
-
-      by : (o : Option BranchId) → z.parent ≡ o → ⊥
-      by None top = (let none : exit (e_at t hs) z.me ≡ None = subst (λ i. exit (e_at t hs) i ≡ None) (sym (root_me z began of top)) root_is_live in absurd (cc (none, left)))
-      by (Some q) up = unasked z began of q up (above.3 q (ap (λ (a : Born). a.parent) it ∙ up))
-
-  module _ (n : ℕ) (j : Kept) (upj : node_at f n ≡ Some j) where
-    live_none : (l : Live) → live_at j l.me ≡ Some l → LiveIs (Began bs) l → live_pot c.root (λ b. 0) gone l ≡ 0
-    live_none l live placed = if_none (same l.root c.root) (phase_pot l.phase (length l.edges)) (λ of. by_phase (equal_from_same l.root c.root of) l.phase refl)
-      where
-        y : Branch
-        y = record { live = l; work = work_at j l.me }
-
-        call_node : c.live.me.node ≡ c.call.node
-        call_node = all_found (λ (a : Live). a.me.node ≡ c.call.node) live_id k.lives c.live.me c.live (ids_name_their_node s lawful c.call.node k c.up).lives found
-
-        own_node : l.me.node ≡ n
-        own_node = all_found (λ (a : Live). a.me.node ≡ n) live_id j.lives l.me l (ids_name_their_node s lawful n j upj).lives live
-
-        root_phase : l.me ≡ c.root → l.phase ≡ phases.Working
-        root_phase mine =
-            let at : live_at j c.root ≡ Some l = subst (λ i. live_at j i ≡ Some l) mine live in
-            let here : c.root.node ≡ c.call.node = ap (λ (i : BranchId). i.node) (sym me) ∙ call_node in
-            let one : n ≡ c.call.node = sym own_node ∙ (ap (λ (i : BranchId). i.node) mine ∙ here) in
-            let both : Some j ≡ Some k = sym upj ∙ (ap (λ i. node_at f i) one ∙ c.up) in
-            let same_node : j ≡ k = cc in
-            let two : Some l ≡ Some c.live = sym at ∙ (ap (λ i. live_at i c.root) same_node ∙ c.there) in
-            let same_live : l ≡ c.live = cc in
-            ap (λ (z : Live). z.phase) same_live ∙ rests.0
-
-        busy : l.root ≡ c.root → l.phase ≢ phases.Working → (o : Option BranchId) → l.parent ≡ o → ⊥
-        busy of other None top = other (root_phase (sym placed.is_me ∙ root_me placed.born placed.began (placed.is_root ∙ of) (placed.is_parent ∙ top)))
-        busy of other (Some q) up =
-            let asked : was_asked said q l.me ≡ true = (((asked_stand_still s lawful n j upj y (ap (with_work j) live)).1 other).1 q up).0 in
-            unasked placed.born placed.began (placed.is_root ∙ of) q (placed.is_parent ∙ up) (subst (λ i. was_asked said q i ≡ true) (sym placed.is_me) asked)
-
-        by_phase : l.root ≡ c.root → (p : Phase) → l.phase ≡ p → phase_pot p (length l.edges) ≡ 0
-        by_phase of phases.Working is = refl
-        by_phase of (phases.Collecting b) is = absurd (busy of (λ working. (let both : phases.Collecting b ≡ phases.Working = sym is ∙ working in absurd cc)) l.parent refl)
-        by_phase of phases.Ready is = absurd (busy of (λ working. (let both : phases.Ready ≡ phases.Working = sym is ∙ working in absurd cc)) l.parent refl)
-
-    row_none : (r : Standing) → RowIs (e_at t hs) r → KeptIs (Began bs) r → row_pot c.root (λ b. 0) gone r ≡ 0
-    row_none r row placed = if_none (same r.root c.root) (known_pot r.forgot r.decision (neighbors r)) (λ of. absurd (by (equal_from_same r.root c.root of) r.decision row.known))
-      where
-        left_so : r.root ≡ c.root → (w : Exit) → w ≢ Dropped → exit (e_at t hs) r.me ≡ Some w → ⊥
-        left_so of w other left = not_left placed.born placed.began (placed.is_root ∙ of) w other (subst (λ i. exit (e_at t hs) i ≡ Some w) (sym placed.is_me) left)
-
-        sealed_so : r.root ≡ c.root → (d : Decision) → learned (e_at t hs) r.me ≡ Some d → ⊥
-        sealed_so of d is = (let sealed = (inv_at t whole hs part).learned_sealed r.me d is in left_so of (Sealed sealed.0) (λ no. absurd cc) sealed.1)
-
-        by : r.root ≡ c.root → (o : Option Decision) → IsKnown (e_at t hs) r o → ⊥
-        by of None is = left_so of (Sealed r.scn) (λ no. absurd cc) is.0
-        by of (Some (decisions.Commit m)) (inl decided) = left_so of (Decided m) (λ no. absurd cc) decided
-        by of (Some (decisions.Commit m)) (inr knows) = sealed_so of (decisions.Commit m) knows
-        by of (Some decisions.Rollback) is = sealed_so of decisions.Rollback is
-
-    node_none : node_pot c.root (λ b. 0) gone j ≡ 0
-    node_none =
-        let names = nodes_name_the_born s lawful n j upj in
-        let events = nodes_are_as_events s lawful n j upj in
-        let lives : total (live_pot c.root (λ b. 0) gone) j.lives ≡ 0 = total_none (live_pot c.root (λ b. 0) gone) j.lives
-            (all_weaker (λ (l : Live). (item_at live_id j.lives l.me ≡ Some l) × LiveIs (Began bs) l) (λ l. live_pot c.root (λ b. 0) gone l ≡ 0) (λ l so. live_none l so.0 so.1) j.lives
-            (all_both (λ (l : Live). item_at live_id j.lives l.me ≡ Some l) (LiveIs (Began bs)) j.lives (lives_found s lawful n j upj) names.0)) in
-        let rows : total (row_pot c.root (λ b. 0) gone) j.stored.durable.kept ≡ 0 = total_none (row_pot c.root (λ b. 0) gone) j.stored.durable.kept
-            (all_weaker (λ (r : Standing). RowIs (e_at t hs) r × KeptIs (Began bs) r) (λ r. row_pot c.root (λ b. 0) gone r ≡ 0) (λ r so. row_none r so.0 so.1) j.stored.durable.kept
-            (all_both (RowIs (e_at t hs)) (KeptIs (Began bs)) j.stored.durable.kept events.1 names.1)) in
-        omega (arith, lives, rows)
-
-  nodes_none : total (kept_pot c.root gone) f.nodes ≡ 0
-  nodes_none = total_each (kept_pot c.root gone) f.nodes each
-    where
-      each : (n : ℕ) (o : Option Kept) → numbered f.nodes n ≡ Some o → kept_pot c.root gone o ≡ 0
-      each n None at = refl
-      each n (Some j) at = node_none n j (ap flat at)
-
-  down : AllByRecursion (λ y. flies y ≡ false) f.net.packets
-  down = none_all flies f.net.packets (none_placed flies f.net.packets flows.still)
-
-  net_none : (ask : BranchId → ℕ) → net_pot c.root gone ask f.net ≡ 0
-  net_none ask = total_none (flight c.root gone ask) f.net.packets (all_weaker (λ (y : Packet). flies y ≡ false) (λ y. flight c.root gone ask y ≡ 0) (λ y is. ap (λ q. if q then worth c.root ask gone y.msg.to y.msg.kind else 0) is) f.net.packets down)
-
-  none_fly : AllFly (Course t whole c) f.net
-  none_fly = all_weaker (λ (y : Packet). flies y ≡ false) (λ y. flies y ≡ true → Course t whole c y.msg) (λ y is flying. absurd (cc (is, flying))) f.net.packets down
+  free : (work_at k c.live.me).going ≡ None
+  free = (before.rests t whole c flows).1
 
   -- ---- the call
 
@@ -290,8 +117,8 @@ module _ (t : History) (whole : IsLawfulRun t) (c : Commit t.places t.commands t
       let alike : asked_worth c.root ask gone (map with_prepare_sent c.live.edges) ≡ asked_worth c.root ask gone c.live.edges = sent_worth c.root ask gone c.live.edges in
       let all : says_worth c.root ask gone (act_turn j y true (first_act y true)).says + node_pot c.root (λ b. 0) gone (act_turn j y true (first_act y true)).after + live_pot c.root ask gone c.live ≤ act_cost c.root ask gone y (first_act y true) + node_pot c.root (λ b. 0) gone k
       = act_low c.root ask gone j c.live y found true (first_act y true) in
-      let room : (asked_worth c.root ask gone c.live.edges + 21 * length c.live.edges) + 45 ≤ 45 * count c.live = asks_low s lawful v.node k c.up c.live found (goes none) rests.1 in
-      let few_branches : count c.live ≤ 64 = few s lawful v.node k c.up c.live found (goes none) rests.1 in
+      let room : (asked_worth c.root ask gone c.live.edges + 21 * length c.live.edges) + 45 ≤ 45 * count c.live = asks_low s lawful v.node k c.up c.live found (goes none) free in
+      let few_branches : count c.live ≤ 64 = few s lawful v.node k c.up c.live found (goes none) free in
       record {
         low = omega (arith, cost, many, alike, all, room, few_branches);
         said_so = subst (λ b. AllByRecursion (SaidSo b) (act_turn j y true (first_act y true)).says) me (act_said j y true (first_act y true));
@@ -334,8 +161,8 @@ module _ (t : History) (whole : IsLawfulRun t) (c : Commit t.places t.commands t
       let even : length f.nodes ≡ length f.records = (run_stands s lawful).0.even in
       let one = turned_low c.root gone t.places t.commands f even v k c.up flows.whole owed.1 call_low.works in
       let two = turned_nodes c.root gone t.places t.commands f even v k c.up flows.whole owed.1 in
-      let none : net_pot c.root gone ask (taken f.net v.took) ≡ 0 = ap (λ o. net_pot c.root gone ask (taken f.net o)) untaken ∙ net_none ask in
-      let nodes = nodes_none in
+      let none : net_pot c.root gone ask (taken f.net v.took) ≡ 0 = ap (λ o. net_pot c.root gone ask (taken f.net o)) untaken ∙ before.net_none t whole c flows ask in
+      let nodes = before.nodes_none t whole c flows in
       let cost = call_low.low in
       omega (arith, one, two, none, nodes, cost)
 
@@ -343,7 +170,7 @@ module _ (t : History) (whole : IsLawfulRun t) (c : Commit t.places t.commands t
   root_in =
       let it : LiveIs (Began bs) c.live = all_found (LiveIs (Began bs)) live_id k.lives c.root c.live (nodes_name_the_born s lawful v.node k c.up).0 c.there in
       let top : c.live.parent ≡ None = (roots_are_of_sessions s lawful v.node k c.up c.session c.root c.of).1 c.live c.there in
-      let own : it.born.root ≡ it.born.me = (trees.stands_so bs said known it.born None it.began (it.is_parent ∙ top)).0 in
+      let own : it.born.root ≡ it.born.me = (trees.stands_so bs said (run_known s lawful) it.born None it.began (it.is_parent ∙ top)).0 in
       (it.born, born_end t whole hs part it.born it.began, (it.is_me ∙ me), (own ∙ (it.is_me ∙ me)))
 
   stamped_so : (clock : ℕ) (ms : List Post) → AllByRecursion (SaidSo c.root) ms → AllByRecursion (Course t whole c) (map (stamped clock) ms)
@@ -352,7 +179,7 @@ module _ (t : History) (whole : IsLawfulRun t) (c : Commit t.places t.commands t
 
   called_fly : AllFly (Course t whole c) after.net
   unfolding turn_of
-  called_fly = turn_fly (Course t whole c) t.places t.commands f v none_fly (subst (AllByRecursion (Course t whole c)) (sym owed.1) (stamped_so (deed_of p k v.input).after.clock (deed_of p k v.input).says call_low.said_so))
+  called_fly = turn_fly (Course t whole c) t.places t.commands f v (before.none_fly t whole c flows) (subst (AllByRecursion (Course t whole c)) (sym owed.1) (stamped_so (deed_of p k v.input).after.clock (deed_of p k v.input).says call_low.said_so))
 
   -- so few are delivered
   pub few_deliveries : length c.during ≤ 2880

@@ -1,17 +1,15 @@
 -- All that is in flight and kept, and how a delivery lessens it.
-use Rattle.std.proofs.Common.{◌≡◌, ◌≢◌, ℕ, ◌+◌, ◌-◌, ◌*◌, ◌≤◌, Bool, true, false, if◌then◌else◌, List, [], ◌∷◌, ◌++◌, map, length, Option, Some, None, inl, inr, refl, sym, ap, subst, ◌∙◌, arith}
-use Rattle.std.specs.Prelude.{◌⊎◌}
+use Rattle.std.proofs.Common.{◌≡◌, ℕ, ◌+◌, ◌≤◌, Bool, true, false, if◌then◌else◌, List, [], ◌∷◌, map, length, Option, Some, None, inl, inr, refl, sym, ap, subst, ◌∙◌, arith}
 use Rattle.std.specs.List.{AllByRecursion}
 use Rattle.node_rules.specs.Data.{BranchId, Kind, Live, Msg, Phase, Place, Post}
-use Rattle.node_rules.specs.Data.inputs
 use Rattle.node_rules.specs.Data.kinds
 use Rattle.node_rules.specs.Data.phases
-use Rattle.node_rules.specs.Words.{numbered, set_numbered}
+use Rattle.node_rules.specs.Words.{numbered}
 use Rattle.node_rules.specs.Kept.{Kept, Deed, live_at}
 use Rattle.node_rules.specs.Turn.{stamped, turn_of, deed_of}
 use Rattle.session_tree.specs.Tree.{count}
 use Rattle.net_bag.specs.Net.{Net, packet, packet_at, flies, is_flying, fated, with_fate, first_fate, delivered, sent_on, sent_one}
-use Rattle.run_laws.specs.Data.{Command, Fate, Packet, Took, Turn, Happening}
+use Rattle.run_laws.specs.Data.{Command, Packet, Took, Turn}
 use Rattle.run_laws.specs.Data.fates
 use Rattle.run_laws.specs.Data.happenings
 use Rattle.std.proofs.lemmas.Bool.{cond_both}

@@ -1,16 +1,13 @@
 -- What a branch may ask for: a working branch whose Prepare comes knows how many branches stand below it, by the answers of
 -- its children.
-use Rattle.std.proofs.Common.{◌≡◌, ◌≢◌, ℕ, zero, suc, ◌+◌, ◌-◌, ◌*◌, ◌≤◌, ◌⊎◌, Bool, true, false, List, [], ◌∷◌, ◌++◌, map, length, Option, Some, None, inl, inr, refl, sym, ap, subst, ◌∙◌, arith}
-use Rattle.std.specs.Prelude.{IfSome, sum_by}
-use Rattle.std.specs.List.{AllByRecursion}
+use Rattle.std.proofs.Common.{◌≡◌, ℕ, zero, suc, ◌+◌, ◌-◌, ◌*◌, ◌≤◌, List, [], ◌∷◌, map, length, Option, Some, None, inl, inr, refl, sym, ap, subst, ◌∙◌, arith}
+use Rattle.std.specs.Prelude.{IfSome}
 use Rattle.std.proofs.lemmas.List.Sums.{sum_by-cons}
 use Rattle.tran_ids.proofs.ListedLemmas.{item_is}
-use Rattle.session_tree.specs.Live.{children_of}
 use Rattle.session_tree.specs.Tree.{count}
 use Rattle.node_rules.specs.Data.{BranchId, Edge, Live, Phase, Post}
 use Rattle.node_rules.specs.declared.work.Work.{Work}
 use Rattle.node_rules.specs.Data.phases
-use Rattle.node_rules.specs.LiveBranches.{EachLive}
 use Rattle.node_rules.specs.Words.{numbered}
 use Rattle.node_rules.specs.Kept.{Kept, Branch, live_id, live_at, branch_at, work_at, with_work}
 use Rattle.agreement.specs.Events.{Event}
@@ -26,7 +23,7 @@ use Rattle.run_laws.proofs.BirthRunLemmas.{StandBorn, stand_born_on, stand_born_
 use Rattle.run_laws.proofs.InTurnRunLemmas.{CallsStand, calls_stand_on, first_calls, edges_fit}
 use Rattle.run_laws.proofs.OwnLemmas.{all_found}
 use Rattle.run_laws.proofs.RestRunLemmas.{RootsStand, roots_stand_on, first_rests}
-use Rattle.count_laws.proofs.SentLemmas.{AllFit, Told, told_gave}
+use Rattle.count_laws.proofs.SentLemmas.{Told, told_gave}
 use Rattle.count_laws.proofs.CountLemmas.{counts}
 use Rattle.count_laws.proofs.CountRunLemmas.{CountStand, LiveFits, NodeFits, counts_on, first_counts}
 use Rattle.tree_laws.proofs.ForestLemmas.{same_born}

@@ -1,5 +1,5 @@
 -- What the turn of a kept branch costs: it sends and keeps no more than its row and the message had.
-use Rattle.std.proofs.Common.{◌≡◌, ℕ, ◌+◌, ◌*◌, ◌≤◌, ◌<◌, ◌&&◌, not, Bool, true, false, cond, if◌then◌else◌, List, [], ◌∷◌, map, filter, length, is_none, Option, Some, None, refl, sym, ap, subst, ◌∙◌, arith}
+use Rattle.std.proofs.Common.{◌≡◌, ℕ, ◌+◌, ◌*◌, ◌≤◌, ◌<◌, ◌&&◌, not, Bool, true, false, if◌then◌else◌, List, [], ◌∷◌, map, filter, length, is_none, Option, Some, None, refl, ap, ◌∙◌, arith}
 use Rattle.std.proofs.lemmas.Bool.{cond_both, and_parts, not-true}
 use Rattle.tran_ids.proofs.ListedLemmas.{put_found}
 use Rattle.redo_record.specs.Durable.{durable_after}
@@ -7,7 +7,7 @@ use Rattle.redo_record.specs.Kept.{stands_at, kept_after, ended_commit, met_as, 
 use Rattle.redo_record.specs.Lists.{change_where, drop_where}
 use Rattle.session_tree.specs.Live.{is_branch}
 use Rattle.commit_forget.specs.Beyond.{beyond}
-use Rattle.node_rules.specs.Data.{BranchId, Decision, Kid, Standing, State, Next, RedoRecord, Beyond}
+use Rattle.node_rules.specs.Data.{BranchId, Decision, Standing, State, Next, Beyond}
 use Rattle.node_rules.specs.Data.decisions
 use Rattle.node_rules.specs.Data.kinds
 use Rattle.node_rules.specs.Data.nexts
@@ -15,9 +15,9 @@ use Rattle.node_rules.specs.Data.records
 use Rattle.node_rules.specs.Data.states
 use Rattle.node_rules.specs.Words.{same}
 use Rattle.node_rules.specs.Records.{applied, with_record}
-use Rattle.node_rules.specs.Commit.{acked_by, acks_kid, all_acked, ack_counts, is_beyond, is_mixed, knows_commit, first_decision, known_decision, decision_at, next_on_decision, next_on_ack, next_on_forgotten, next_turn, passes_commit, to_beyond}
-use Rattle.node_rules.specs.Kept.{Kept, standing_id, standing_at, with_standing, to_each, to_one}
-use Rattle.once_laws.proofs.TotalLemmas.{total, total_low, total_map, put_total, change_total}
+use Rattle.node_rules.specs.Commit.{acked_by, acks_kid, all_acked, knows_commit, first_decision, known_decision, decision_at, next_on_decision, next_on_ack, next_on_forgotten, next_turn, passes_commit}
+use Rattle.node_rules.specs.Kept.{Kept, standing_id, standing_at, with_standing, to_one}
+use Rattle.once_laws.proofs.TotalLemmas.{total, total_map, put_total, change_total}
 use Rattle.once_laws.proofs.WorthLemmas.{one_of, known_pot, neighbors, says_worth, row_pot, node_pot, row_low, row_is, each_worth, one_worth, beyond_low, mapped_length}
 
 -- ---- rows

@@ -7,5 +7,7 @@ pub mod TurnLemmas
 pub mod DepthLemmas
 pub mod FullLemmas
 pub mod FlightLemmas
+pub mod TreeLemmas
 pub mod CourseLemmas
+pub mod BeforeLemmas
 pub mod FewLemmas

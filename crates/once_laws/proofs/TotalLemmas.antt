@@ -1,7 +1,7 @@
 -- Sums over lists: where an item is put, left out, changed or set.
-use Rattle.std.proofs.Common.{◌≡◌, ℕ, zero, suc, ◌+◌, ◌≤◌, not, Bool, true, false, if◌then◌else◌, cond, List, [], ◌∷◌, ◌++◌, map, slice_get, slice_set, Option, Some, None, refl, sym, ap, subst, ◌∙◌, arith}
+use Rattle.std.proofs.Common.{◌≡◌, ℕ, zero, suc, ◌+◌, ◌≤◌, not, Bool, true, false, if◌then◌else◌, cond, List, [], ◌∷◌, ◌++◌, map, slice_get, slice_set, Some, refl, ap, arith}
 use Rattle.tran_ids.specs.Branch.{branch_below, put_by_branch}
-use Rattle.redo_record.specs.Lists.{change_where, drop_where}
+use Rattle.redo_record.specs.Lists.{change_where}
 use Rattle.node_rules.specs.Data.{BranchId}
 use Rattle.node_rules.specs.Words.{same, is_item_of, item_at, put_item, drop_item, numbered, set_numbered}
 

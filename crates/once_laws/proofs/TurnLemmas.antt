@@ -1,19 +1,18 @@
 -- What a delivery in the course of a COMMIT costs: less than the message and its branch were worth.
-use Rattle.std.proofs.Common.{◌≡◌, ◌≢◌, ℕ, ◌+◌, ◌*◌, ◌≤◌, ◌<◌, Bool, true, false, if◌then◌else◌, List, [], ◌∷◌, map, length, Option, Some, None, refl, sym, ap, subst, ◌∙◌, arith}
+use Rattle.std.proofs.Common.{◌≡◌, ℕ, ◌+◌, ◌*◌, ◌≤◌, ◌<◌, Bool, true, false, if◌then◌else◌, List, [], ◌∷◌, map, length, Option, Some, None, refl, sym, ap, subst, ◌∙◌, arith}
 use Rattle.std.specs.List.{AllByRecursion}
 use Rattle.std.proofs.lemmas.Bool.{cond_both, and_parts}
 use Rattle.tran_ids.proofs.ListedLemmas.{item_is}
 use Rattle.prepare_phase.specs.Acts.{is_first_answer}
 use Rattle.session_tree.specs.Tree.{step}
-use Rattle.node_rules.specs.Data.{Act, BranchId, Decision, Edge, Kind, Live, Phase, Place, Post, Standing, Vote}
+use Rattle.node_rules.specs.Data.{BranchId, Decision, Edge, Kind, Live, Phase, Place, Post, Standing, Vote}
 use Rattle.node_rules.specs.Data.acts
 use Rattle.node_rules.specs.Data.decisions
 use Rattle.node_rules.specs.Data.kinds
-use Rattle.node_rules.specs.Data.nexts
 use Rattle.node_rules.specs.Data.phases
 use Rattle.node_rules.specs.Data.votes
 use Rattle.node_rules.specs.Words.{same}
-use Rattle.node_rules.specs.Commit.{acked_by, ack_counts, is_beyond, is_asked_again, knows_commit, next_turn, next_on_decision, next_on_ack, next_on_forgotten, counts_ack, commit_point_known}
+use Rattle.node_rules.specs.Commit.{acked_by, ack_counts, is_beyond, is_asked_again, knows_commit, next_on_decision, next_on_ack, next_on_forgotten, counts_ack, commit_point_known}
 use Rattle.node_rules.specs.Kept.{Kept, Deed, live_id, live_at, work_at, with_work, standing_id, standing_at, with_standing, nothing, saying, post}
 use Rattle.node_rules.specs.Prepare.{act_turn, collecting, with_comment, without_read_keys, first_act, first_act_by, prepare_in, answer_in, answer_act, next_act, all_answered, collected_act, voted, has_voted, with_prepare_sent, commit_point_in, commit_point_act}
 use Rattle.node_rules.specs.Turn.{Stand, Is_live, Is_kept, Is_gone, kept_or_gone, live_or, stand_of, kind_turn}

@@ -1,5 +1,5 @@
 -- What a message in flight is worth, and what a branch of a transaction may still send: in deliveries that it may lead to.
-use Rattle.std.proofs.Common.{◌≡◌, ℕ, zero, suc, ◌+◌, ◌*◌, ◌≤◌, Bool, true, false, if◌then◌else◌, List, [], ◌∷◌, ◌++◌, map, filter, not, length, Option, Some, None, refl, sym, ap, subst, ◌∙◌, arith}
+use Rattle.std.proofs.Common.{◌≡◌, ℕ, suc, ◌+◌, ◌*◌, ◌≤◌, Bool, true, false, if◌then◌else◌, List, [], ◌∷◌, ◌++◌, map, filter, not, length, Option, Some, None, refl, ap, arith}
 use Rattle.std.proofs.lemmas.Bool.{cond_both}
 use Rattle.commit_forget.specs.Beyond.{beyond, parent_beyond, kid_beyond}
 use Rattle.session_tree.specs.Live.{is_branch}
@@ -9,7 +9,7 @@ use Rattle.node_rules.specs.Data.phases
 use Rattle.node_rules.specs.Words.{same}
 use Rattle.node_rules.specs.Kept.{Kept, to_each, to_one}
 use Rattle.node_rules.specs.Prepare.{prepares, with_prepare_sent}
-use Rattle.once_laws.proofs.TotalLemmas.{total, total_append}
+use Rattle.once_laws.proofs.TotalLemmas.{total}
 
 -- a parent counts as one neighbour
 abbrev pub one_of : Option BranchId → ℕ

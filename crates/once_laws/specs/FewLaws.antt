@@ -1,7 +1,7 @@
 -- How many messages are delivered in the course of a COMMIT that nothing disturbs: fewer than the 4,096 that a command may have
 -- delivered. (Database Administrator's Guide, "Distributed Transactions Concepts": two-phase commit mechanism; the limit
 -- is dtx's own.)
-use Rattle.std.specs.Prelude.{◌≡◌, ◌≤◌, ◌<◌, ℕ, false, List, length, None}
+use Rattle.std.specs.Prelude.{◌≡◌, ◌≤◌, ◌<◌, false, List, length, None}
 use Rattle.std.specs.List.{AllByRecursion}
 use Rattle.dtx_values.specs.Limits.{delivery_limit}
 use Rattle.node_rules.specs.Data.{Place}
