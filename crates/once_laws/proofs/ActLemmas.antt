@@ -18,7 +18,7 @@ use Rattle.node_rules.specs.Records.{applied, with_record}
 use Rattle.node_rules.specs.Kept.{Kept, live_id, live_at, standing_id, to_each, to_one, with_live, without_branch}
 use Rattle.node_rules.specs.Prepare.{act_turn, path_of, named_children, is_prepared, ready, site_neighbors, sealed_of, decided_of, own_changes, collected_act, root_act, commit_point_act}
 use Rattle.once_laws.proofs.TotalLemmas.{total, total_append, drop_total, put_total, insert_total}
-use Rattle.once_laws.proofs.WorthLemmas.{one_of, phase_pot, post_worth, says_worth, live_pot, row_pot, node_pot, live_low, row_low, each_worth, one_worth, asked_worth, asks_worth, mapped_length, joined_length, filtered_low}
+use Rattle.once_laws.proofs.WorthLemmas.{one_of, phase_worth, post_worth, says_worth, live_worth, row_worth, node_worth, live_low, row_low, each_worth, one_worth, asked_worth, asks_worth, map_length, append_length, filter_low}
 
 -- ---- records
 
@@ -26,7 +26,7 @@ named_low : (path : Option ℕ) (i : ℕ) (es : List Edge) → length (named_chi
 named_low path i [] = omega arith
 named_low path i (e ∷ es) =
     (let rest = named_low path (i + 1) es in
-      by (is_prepared e || is_place i path) rest)
+    by (is_prepared e || is_place i path) rest)
   where
     by : (q : Bool) → length (named_children path (i + 1) es) ≤ length es → length (if q then record { branch = e.peer; link = e.link } ∷ named_children path (i + 1) es else named_children path (i + 1) es) ≤ length (e ∷ es)
     by true rest = omega (arith, rest)
@@ -39,22 +39,22 @@ list_of (Some q) = refl
 site_low : (l : Live) → length (site_neighbors l) ≤ one_of l.parent + length l.edges
 site_low l =
     let one = list_of l.parent in
-    let two : length (map (λ (e : Edge). e.peer) (filter is_prepared l.edges)) ≡ length (filter is_prepared l.edges) = mapped_length (λ (e : Edge). e.peer) (filter is_prepared l.edges) in
-    let three : length (filter is_prepared l.edges) ≤ length l.edges = filtered_low is_prepared l.edges in
-    let all : length (site_neighbors l) ≡ length (option_to_list l.parent) + length (map (λ (e : Edge). e.peer) (filter is_prepared l.edges)) = joined_length (option_to_list l.parent) (map (λ (e : Edge). e.peer) (filter is_prepared l.edges)) in
+    let two : length (map (λ (e : Edge). e.peer) (filter is_prepared l.edges)) ≡ length (filter is_prepared l.edges) = map_length (λ (e : Edge). e.peer) (filter is_prepared l.edges) in
+    let three : length (filter is_prepared l.edges) ≤ length l.edges = filter_low is_prepared l.edges in
+    let all : length (site_neighbors l) ≡ length (option_to_list l.parent) + length (map (λ (e : Edge). e.peer) (filter is_prepared l.edges)) = append_length (option_to_list l.parent) (map (λ (e : Edge). e.peer) (filter is_prepared l.edges)) in
     omega (arith, one, two, three, all)
 
 module _ (g : BranchId) (ask far : BranchId → ℕ) where
   abbrev says : List Post → ℕ
   says ms = says_worth g ask far ms
 
-  abbrev pot : Kept → ℕ
-  pot k = node_pot g ask far k
+  abbrev held : Kept → ℕ
+  held k = node_worth g ask far k
 
   -- what an act may cost
   abbrev pub act_cost : Live → Act → ℕ
-  act_cost l acts.Rest = live_pot g ask far l
-  act_cost l acts.AskDown = live_pot g ask far l + asked_worth g ask far l.edges
+  act_cost l acts.Rest = live_worth g ask far l
+  act_cost l acts.AskDown = live_worth g ask far l + asked_worth g ask far l.edges
   act_cost l acts.SayReadOnly = 1
   act_cost l acts.SayReady = 23 + 21 * length l.edges
   act_cost l acts.Seal = 1 + 21 * (one_of l.parent + length l.edges)
@@ -64,71 +64,71 @@ module _ (g : BranchId) (ask far : BranchId → ℕ) where
   act_cost l acts.Abandon = 1
 
   module _ (k : Kept) (x l : Live) (found : live_at k l.me ≡ Some x) where
-    left : pot (without_branch k l.me) + live_pot g ask far x ≤ pot k
-    left = (let low = drop_total (live_pot g ask far) live_id l.me k.lives x found in omega (arith, low))
+    left : held (without_branch k l.me) + live_worth g ask far x ≤ held k
+    left = (let low = drop_total (live_worth g ask far) live_id l.me k.lives x found in omega (arith, low))
 
-    stays : (y : Live) → y.me ≡ l.me → pot (with_live k y) + live_pot g ask far x ≡ pot k + live_pot g ask far y
+    stays : (y : Live) → y.me ≡ l.me → held (with_live k y) + live_worth g ask far x ≡ held k + live_worth g ask far y
     stays y me =
         let at : live_at k y.me ≡ Some x = subst (λ b. live_at k b ≡ Some x) (sym me) found in
-        let is = put_total (live_pot g ask far) live_id k.lives y x at in
+        let is = put_total (live_worth g ask far) live_id k.lives y x at in
         omega (arith, is)
 
-    sealed_low : (scn : ℕ) (path : Option ℕ) → row_pot g ask far (sealed_as (sealed_of scn l (own_changes k l.me) path)) ≤ 21 * (one_of l.parent + length l.edges)
+    sealed_low : (scn : ℕ) (path : Option ℕ) → row_worth g ask far (sealed_as (sealed_of scn l (own_changes k l.me) path)) ≤ 21 * (one_of l.parent + length l.edges)
     sealed_low scn path =
         let low = row_low g ask far (sealed_as (sealed_of scn l (own_changes k l.me) path)) in
-        let kids : length (map kid_of (named_children path 1 l.edges)) ≡ length (named_children path 1 l.edges) = mapped_length kid_of (named_children path 1 l.edges) in
+        let kids : length (map kid_of (named_children path 1 l.edges)) ≡ length (named_children path 1 l.edges) = map_length kid_of (named_children path 1 l.edges) in
         let few = named_low path 1 l.edges in
         omega (arith, low, kids, few)
 
-    decided_low : (scn : ℕ) → row_pot g ask far (decided_as (decided_of scn l (own_changes k l.me))) ≤ one_of l.parent + length l.edges
+    decided_low : (scn : ℕ) → row_worth g ask far (decided_as (decided_of scn l (own_changes k l.me))) ≤ one_of l.parent + length l.edges
     decided_low scn =
         let low = row_low g ask far (decided_as (decided_of scn l (own_changes k l.me))) in
-        let kids : length (map kid_of (named_children None 1 l.edges)) ≡ length (named_children None 1 l.edges) = mapped_length kid_of (named_children None 1 l.edges) in
+        let kids : length (map kid_of (named_children None 1 l.edges)) ≡ length (named_children None 1 l.edges) = map_length kid_of (named_children None 1 l.edges) in
         let few = named_low None 1 l.edges in
         omega (arith, low, kids, few)
 
     seals_low : (b : Bool) (path : Option ℕ) (ms : List Post) (n : ℕ) → says ms ≤ n
-        → says ms + pot (with_record (without_branch k l.me) (records.Sealed (sealed_of k.clock l (own_changes k l.me) path))) + live_pot g ask far x ≤ (n + 21 * (one_of l.parent + length l.edges)) + pot k
+        → says ms + held (with_record (without_branch k l.me) (records.Sealed (sealed_of k.clock l (own_changes k l.me) path))) + live_worth g ask far x ≤ (n + 21 * (one_of l.parent + length l.edges)) + held k
     unfolding applied durable_after kept_after
     seals_low b path ms n few =
         let gone = left in
         let row = sealed_low k.clock path in
-        let more = insert_total (row_pot g ask far) standing_id k.stored.durable.kept (sealed_as (sealed_of k.clock l (own_changes k l.me) path)) in
+        let more = insert_total (row_worth g ask far) standing_id k.stored.durable.kept (sealed_as (sealed_of k.clock l (own_changes k l.me) path)) in
         omega (arith, few, gone, row, more)
 
-    decides_low : says (act_turn k l true acts.Decide).says + pot (act_turn k l true acts.Decide).after + live_pot g ask far x ≤ 21 * (one_of l.parent + length l.edges) + pot k
+    decides_low : says (act_turn k l true acts.Decide).says + held (act_turn k l true acts.Decide).after + live_worth g ask far x ≤ 21 * (one_of l.parent + length l.edges) + held k
     unfolding applied durable_after kept_after
     decides_low =
         let gone = left in
         let row = decided_low (k.clock + 1) in
         let told = each_worth g ask far l.me (kinds.Committed (k.clock + 1)) (site_neighbors l) 20 (λ to. refl) in
         let few = site_low l in
-        let more : total (row_pot g ask far) (keep_decided k.stored.durable.kept (decided_as (decided_of (k.clock + 1) l (own_changes k l.me)))) ≤ total (row_pot g ask far) k.stored.durable.kept + row_pot g ask far (decided_as (decided_of (k.clock + 1) l (own_changes k l.me)))
+        let more : total (row_worth g ask far) (keep_decided k.stored.durable.kept (decided_as (decided_of (k.clock + 1) l (own_changes k l.me)))) ≤ total (row_worth g ask far) k.stored.durable.kept + row_worth g ask far (decided_as (decided_of (k.clock + 1) l (own_changes k l.me)))
         = cond_both (has_neighbors (decided_as (decided_of (k.clock + 1) l (own_changes k l.me)))) (add_kept k.stored.durable.kept (decided_as (decided_of (k.clock + 1) l (own_changes k l.me)))) k.stored.durable.kept
-            (λ ks. total (row_pot g ask far) ks ≤ total (row_pot g ask far) k.stored.durable.kept + row_pot g ask far (decided_as (decided_of (k.clock + 1) l (own_changes k l.me))))
-            (λ some. (let is = insert_total (row_pot g ask far) standing_id k.stored.durable.kept (decided_as (decided_of (k.clock + 1) l (own_changes k l.me))) in omega (arith, is))) (λ none. omega arith) in
+        (λ ks. total (row_worth g ask far) ks ≤ total (row_worth g ask far) k.stored.durable.kept + row_worth g ask far (decided_as (decided_of (k.clock + 1) l (own_changes k l.me))))
+        (λ some. (let is = insert_total (row_worth g ask far) standing_id k.stored.durable.kept (decided_as (decided_of (k.clock + 1) l (own_changes k l.me))) in omega (arith, is))) (λ none. omega arith) in
         omega (arith, gone, row, told, few, more)
 
     -- so an act sends and keeps no more
-    pub act_low : (b : Bool) (a : Act) → says (act_turn k l b a).says + pot (act_turn k l b a).after + live_pot g ask far x ≤ act_cost l a + pot k
+    pub act_low : (b : Bool) (a : Act) → says (act_turn k l b a).says + held (act_turn k l b a).after + live_worth g ask far x ≤ act_cost l a + held k
     act_low b acts.Rest = (let is = stays l refl in omega (arith, is))
     act_low b acts.AskDown = (let is = stays l refl in let asks = asks_worth g ask far l.me l.comment (path_of b (step l)) 1 l.edges in omega (arith, is, asks))
     act_low b acts.SayReadOnly = (let gone = left in let few = one_worth g ask far l.me kinds.ReadOnly l.parent 1 (λ to. omega arith) in omega (arith, gone, few))
     act_low b acts.SayReady =
         (let is = stays (ready l) refl in
-          let few = one_worth g ask far l.me kinds.Ready l.parent 1 (λ to. omega arith) in
-          let low : live_pot g ask far (ready l) ≤ 22 + 21 * length l.edges = live_low g ask far (ready l) in
-          omega (arith, is, few, low))
+        let few = one_worth g ask far l.me kinds.Ready l.parent 1 (λ to. omega arith) in
+        let low : live_worth g ask far (ready l) ≤ 22 + 21 * length l.edges = live_low g ask far (ready l) in
+        omega (arith, is, few, low))
     act_low b acts.Seal = seals_low b None (to_one l.me kinds.Prepared l.parent) 1 (one_worth g ask far l.me kinds.Prepared l.parent 1 (λ to. omega arith))
     act_low b (acts.SealAndPass i) = seals_low b (Some i) (to_one l.me kinds.CommitPoint (peer_of l i)) 21 (one_worth g ask far l.me kinds.CommitPoint (peer_of l i) 21 (λ to. omega arith))
     act_low b acts.Decide = decides_low
     act_low b acts.Finish = (let gone = left in omega (arith, gone))
     act_low b acts.Abandon =
         (let gone = left in
-          let few = one_worth g ask far l.me kinds.Abort l.parent 1 (λ to. omega arith) in
-          let none = each_worth g ask far l.me kinds.Rollback (children_of l) 0 (λ to. refl) in
-          let both = total_append (post_worth g ask far) (to_one l.me kinds.Abort l.parent) (to_each l.me kinds.Rollback (children_of l)) in
-          omega (arith, gone, few, none, both))
+        let few = one_worth g ask far l.me kinds.Abort l.parent 1 (λ to. omega arith) in
+        let none = each_worth g ask far l.me kinds.Rollback (children_of l) 0 (λ to. refl) in
+        let both = total_append (post_worth g ask far) (to_one l.me kinds.Abort l.parent) (to_each l.me kinds.Rollback (children_of l)) in
+        omega (arith, gone, few, none, both))
 
   -- ---- which acts
 
@@ -155,6 +155,6 @@ module _ (g : BranchId) (ask far : BranchId → ℕ) where
   point_cost l walks.Here is = (let low = one_low l.parent in omega (arith, low))
   point_cost l (walks.Down i) is = (let low = one_low l.parent in omega (arith, low))
   point_cost l walks.Nowhere is =
-      (let low : live_pot g ask far l ≤ phase_pot l.phase (length l.edges) = live_low g ask far l in
-        let ready : phase_pot l.phase (length l.edges) ≡ 22 + 21 * length l.edges = ap (λ p. phase_pot p (length l.edges)) is in
-        omega (arith, low, ready))
+      (let low : live_worth g ask far l ≤ phase_worth l.phase (length l.edges) = live_low g ask far l in
+      let ready : phase_worth l.phase (length l.edges) ≡ 22 + 21 * length l.edges = ap (λ p. phase_worth p (length l.edges)) is in
+      omega (arith, low, ready))

@@ -43,8 +43,8 @@ use Rattle.told_laws.proofs.BeforeLemmas.{none_asked}
 use Rattle.told_laws.proofs.MoreLemmas.{inv_at}
 use Rattle.once_laws.specs.FewLaws.{Flows}
 use Rattle.once_laws.proofs.TotalLemmas.{total}
-use Rattle.once_laws.proofs.WorthLemmas.{phase_pot, known_pot, neighbors, worth, live_pot, row_pot, node_pot}
-use Rattle.once_laws.proofs.FlightLemmas.{flight, net_pot, kept_pot, AllFly}
+use Rattle.once_laws.proofs.WorthLemmas.{phase_worth, known_worth, neighbors, worth, live_worth, row_worth, node_worth}
+use Rattle.once_laws.proofs.FlightLemmas.{flight, net_worth, kept_worth, AllFly}
 use Rattle.once_laws.proofs.TreeLemmas.{far, Course}
 
 -- ---- sums of nothing
@@ -106,8 +106,8 @@ module _ (t : History) (whole : IsLawfulRun t) (c : Commit t.places t.commands t
   abbrev v : Turn
   v = c.call
 
-  abbrev gone : BranchId → ℕ
-  gone b = far t whole c b
+  abbrev distance : BranchId → ℕ
+  distance b = far t whole c b
 
   pub part : Part t whole hs
   part = part_of t whole hs (happenings.Turn c.call) c.during c.is
@@ -169,8 +169,8 @@ module _ (t : History) (whole : IsLawfulRun t) (c : Commit t.places t.commands t
       by (Some q) up = unasked z began of q up (above.3 q (ap (λ (a : Born). a.parent) it ∙ up))
 
   module _ (n : ℕ) (j : Kept) (upj : node_at f n ≡ Some j) where
-    live_none : (l : Live) → live_at j l.me ≡ Some l → LiveIs (Began bs) l → live_pot c.root (λ b. 0) gone l ≡ 0
-    live_none l live placed = if_none (same l.root c.root) (phase_pot l.phase (length l.edges)) (λ of. by_phase (equal_from_same l.root c.root of) l.phase refl)
+    live_none : (l : Live) → live_at j l.me ≡ Some l → LiveIs (Began bs) l → live_worth c.root (λ b. 0) distance l ≡ 0
+    live_none l live placed = if_none (same l.root c.root) (phase_worth l.phase (length l.edges)) (λ of. by_phase (equal_from_same l.root c.root of) l.phase refl)
       where
         y : Branch
         y = record { live = l; work = work_at j l.me }
@@ -198,13 +198,13 @@ module _ (t : History) (whole : IsLawfulRun t) (c : Commit t.places t.commands t
             let asked : was_asked said q l.me ≡ true = (((asked_stand_still s lawful n j upj y (ap (with_work j) live)).1 other).1 q up).0 in
             unasked placed.born placed.began (placed.is_root ∙ of) q (placed.is_parent ∙ up) (subst (λ i. was_asked said q i ≡ true) (sym placed.is_me) asked)
 
-        by_phase : l.root ≡ c.root → (p : Phase) → l.phase ≡ p → phase_pot p (length l.edges) ≡ 0
+        by_phase : l.root ≡ c.root → (p : Phase) → l.phase ≡ p → phase_worth p (length l.edges) ≡ 0
         by_phase of phases.Working is = refl
         by_phase of (phases.Collecting b) is = absurd (busy of (λ working. (let both : phases.Collecting b ≡ phases.Working = sym is ∙ working in absurd cc)) l.parent refl)
         by_phase of phases.Ready is = absurd (busy of (λ working. (let both : phases.Ready ≡ phases.Working = sym is ∙ working in absurd cc)) l.parent refl)
 
-    row_none : (r : Standing) → RowIs (e_at t hs) r → KeptIs (Began bs) r → row_pot c.root (λ b. 0) gone r ≡ 0
-    row_none r row placed = if_none (same r.root c.root) (known_pot r.forgot r.decision (neighbors r)) (λ of. absurd (by (equal_from_same r.root c.root of) r.decision row.known))
+    row_none : (r : Standing) → RowIs (e_at t hs) r → KeptIs (Began bs) r → row_worth c.root (λ b. 0) distance r ≡ 0
+    row_none r row placed = if_none (same r.root c.root) (known_worth r.forgot r.decision (neighbors r)) (λ of. absurd (by (equal_from_same r.root c.root of) r.decision row.known))
       where
         left_so : r.root ≡ c.root → (w : Exit) → w ≢ Dropped → exit (e_at t hs) r.me ≡ Some w → ⊥
         left_so of w other left = not_left placed.born placed.began (placed.is_root ∙ of) w other (subst (λ i. exit (e_at t hs) i ≡ Some w) (sym placed.is_me) left)
@@ -218,30 +218,30 @@ module _ (t : History) (whole : IsLawfulRun t) (c : Commit t.places t.commands t
         by of (Some (decisions.Commit m)) (inr knows) = sealed_so of (decisions.Commit m) knows
         by of (Some decisions.Rollback) is = sealed_so of decisions.Rollback is
 
-    node_none : node_pot c.root (λ b. 0) gone j ≡ 0
+    node_none : node_worth c.root (λ b. 0) distance j ≡ 0
     node_none =
         let names = nodes_name_the_born s lawful n j upj in
         let events = nodes_are_as_events s lawful n j upj in
-        let lives : total (live_pot c.root (λ b. 0) gone) j.lives ≡ 0 = total_none (live_pot c.root (λ b. 0) gone) j.lives
-            (all_weaker (λ (l : Live). (item_at live_id j.lives l.me ≡ Some l) × LiveIs (Began bs) l) (λ l. live_pot c.root (λ b. 0) gone l ≡ 0) (λ l so. live_none l so.0 so.1) j.lives
-            (all_both (λ (l : Live). item_at live_id j.lives l.me ≡ Some l) (LiveIs (Began bs)) j.lives (lives_found s lawful n j upj) names.0)) in
-        let rows : total (row_pot c.root (λ b. 0) gone) j.stored.durable.kept ≡ 0 = total_none (row_pot c.root (λ b. 0) gone) j.stored.durable.kept
-            (all_weaker (λ (r : Standing). RowIs (e_at t hs) r × KeptIs (Began bs) r) (λ r. row_pot c.root (λ b. 0) gone r ≡ 0) (λ r so. row_none r so.0 so.1) j.stored.durable.kept
-            (all_both (RowIs (e_at t hs)) (KeptIs (Began bs)) j.stored.durable.kept events.1 names.1)) in
+        let lives : total (live_worth c.root (λ b. 0) distance) j.lives ≡ 0 = total_none (live_worth c.root (λ b. 0) distance) j.lives
+        (all_weaker (λ (l : Live). (item_at live_id j.lives l.me ≡ Some l) × LiveIs (Began bs) l) (λ l. live_worth c.root (λ b. 0) distance l ≡ 0) (λ l so. live_none l so.0 so.1) j.lives
+        (all_both (λ (l : Live). item_at live_id j.lives l.me ≡ Some l) (LiveIs (Began bs)) j.lives (lives_found s lawful n j upj) names.0)) in
+        let rows : total (row_worth c.root (λ b. 0) distance) j.stored.durable.kept ≡ 0 = total_none (row_worth c.root (λ b. 0) distance) j.stored.durable.kept
+        (all_weaker (λ (r : Standing). RowIs (e_at t hs) r × KeptIs (Began bs) r) (λ r. row_worth c.root (λ b. 0) distance r ≡ 0) (λ r so. row_none r so.0 so.1) j.stored.durable.kept
+        (all_both (RowIs (e_at t hs)) (KeptIs (Began bs)) j.stored.durable.kept events.1 names.1)) in
         omega (arith, lives, rows)
 
-  pub nodes_none : total (kept_pot c.root gone) f.nodes ≡ 0
-  nodes_none = total_each (kept_pot c.root gone) f.nodes each
+  pub nodes_none : total (kept_worth c.root distance) f.nodes ≡ 0
+  nodes_none = total_each (kept_worth c.root distance) f.nodes each
     where
-      each : (n : ℕ) (o : Option Kept) → numbered f.nodes n ≡ Some o → kept_pot c.root gone o ≡ 0
+      each : (n : ℕ) (o : Option Kept) → numbered f.nodes n ≡ Some o → kept_worth c.root distance o ≡ 0
       each n None at = refl
       each n (Some j) at = node_none n j (ap flat at)
 
   down : AllByRecursion (λ y. flies y ≡ false) f.net.packets
   down = none_all flies f.net.packets (none_placed flies f.net.packets flows.still)
 
-  pub net_none : (ask : BranchId → ℕ) → net_pot c.root gone ask f.net ≡ 0
-  net_none ask = total_none (flight c.root gone ask) f.net.packets (all_weaker (λ (y : Packet). flies y ≡ false) (λ y. flight c.root gone ask y ≡ 0) (λ y is. ap (λ q. if q then worth c.root ask gone y.msg.to y.msg.kind else 0) is) f.net.packets down)
+  pub net_none : (ask : BranchId → ℕ) → net_worth c.root distance ask f.net ≡ 0
+  net_none ask = total_none (flight c.root distance ask) f.net.packets (all_weaker (λ (y : Packet). flies y ≡ false) (λ y. flight c.root distance ask y ≡ 0) (λ y is. ap (λ q. if q then worth c.root ask distance y.msg.to y.msg.kind else 0) is) f.net.packets down)
 
   pub none_fly : AllFly (Course t whole c) f.net
   none_fly = all_weaker (λ (y : Packet). flies y ≡ false) (λ y. flies y ≡ true → Course t whole c y.msg) (λ y is flying. absurd (cc (is, flying))) f.net.packets down

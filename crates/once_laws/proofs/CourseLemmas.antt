@@ -28,13 +28,12 @@ use Rattle.tree_laws.proofs.PrefixLemmas.{so_far, f_at, one_on}
 use Rattle.site_laws.proofs.TimeLemmas.{part_of, part_lawful, may_of}
 use Rattle.commit_laws.specs.Undisturbed.{Commit, IsCalm, IsDelivery, branches_in, branches_by, disturbs, is_disturbed}
 use Rattle.commit_laws.proofs.NetLemmas.{numbered_all}
-use Rattle.once_laws.proofs.WorthLemmas.{worth, says_worth, node_pot, asked_worth}
+use Rattle.once_laws.proofs.WorthLemmas.{worth, says_worth, node_worth, asked_worth}
 use Rattle.once_laws.proofs.SayLemmas.{SaidSo}
 use Rattle.once_laws.proofs.TurnLemmas.{Fits, Known, turn_fits}
 use Rattle.once_laws.proofs.DepthLemmas.{far_low}
 use Rattle.once_laws.proofs.FullLemmas.{full, full_by, live_in, ask_in, ask_two, asks_low}
-use Rattle.once_laws.proofs.FlightLemmas.{all_pot, AllFly, turned_low, turned_nodes, turn_takes, turn_fly}
-
+use Rattle.once_laws.proofs.FlightLemmas.{all_worth, AllFly, turned_low, turned_nodes, turn_takes, turn_fly}
 use Rattle.once_laws.proofs.TreeLemmas as tree
 use Rattle.once_laws.proofs.TreeLemmas.{mid_all, second_false, is_in, Taken, take_it}
 
@@ -146,12 +145,12 @@ module _ (t : History) (whole : IsLawfulRun t) (c : Commit t.places t.commands t
       abbrev after : Facts
       after = facts_after t.places t.commands f (happenings.Turn v)
 
-      pub less : 1 + all_pot g far after ≤ all_pot g far f
+      pub less : 1 + all_worth g far after ≤ all_worth g far f
       less =
           let one = turned_low g far t.places t.commands f even v k may.up uncut owed.1 fits.works in
           let two = turned_nodes g far t.places t.commands f even v k may.up uncut owed.1 in
           let three = turn_takes g far t.places t.commands f even v k may.up uncut owed.1 number takes.packet took takes.sent takes.flying in
-          let four : 1 + says_worth g ask far d.says + node_pot g (λ b. 0) far d.after ≤ worth g ask far m.to m.kind + node_pot g (λ b. 0) far k = fits.less in
+          let four : 1 + says_worth g ask far d.says + node_worth g (λ b. 0) far d.after ≤ worth g ask far m.to m.kind + node_worth g (λ b. 0) far k = fits.less in
           let five : worth g ask far takes.packet.msg.to takes.packet.msg.kind ≡ worth g ask far m.to m.kind = ap (λ (y : Msg). worth g ask far y.to y.kind) takes.same_message in
           omega (arith, one, two, three, four, five)
 
@@ -167,12 +166,12 @@ module _ (t : History) (whole : IsLawfulRun t) (c : Commit t.places t.commands t
 
   module _ (calm : AllByRecursion (IsCalm (branches_by t.places t.commands t.trace c.root)) t.trace) where
     one_more : (hs : List Happening) (h : Happening) (rest : List Happening) → hs ++ h ∷ rest ≡ t.trace → (y : Happening) → h ≡ y → IsDelivery y → AllFly Course (f_at t hs).net
-        → (1 + all_pot g far (f_at t (hs ++ h ∷ [])) ≤ all_pot g far (f_at t hs)) × AllFly Course (f_at t (hs ++ h ∷ [])).net
+        → (1 + all_worth g far (f_at t (hs ++ h ∷ [])) ≤ all_worth g far (f_at t hs)) × AllFly Course (f_at t (hs ++ h ∷ [])).net
     one_more hs h rest is (happenings.Turn v) turn it now =
         let may = subst (MayHappen t.places t.commands (f_at t hs)) turn (may_of t whole hs h rest is) in
         let on : f_at t (hs ++ h ∷ []) ≡ facts_after t.places t.commands (f_at t hs) (happenings.Turn v) = one_on t hs h ∙ ap (facts_after t.places t.commands (f_at t hs)) turn in
         let number = it.1 in
-        subst (λ (x : Facts). (1 + all_pot g far x ≤ all_pot g far (f_at t hs)) × AllFly Course x.net) (sym on) (
+        subst (λ (x : Facts). (1 + all_worth g far x ≤ all_worth g far (f_at t hs)) × AllFly Course x.net) (sym on) (
           less hs h rest is calm v turn it.0 number it.2 may.0 may.1 now,
           flies_on hs h rest is calm v turn it.0 number it.2 may.0 may.1 now,
         )
@@ -184,7 +183,7 @@ module _ (t : History) (whole : IsLawfulRun t) (c : Commit t.places t.commands t
     one_more hs h rest is (happenings.Started n boot) turn it now = absurd it
 
     -- so they are few
-    pub few_more : (hs mid : List Happening) → hs ++ mid ≡ t.trace → AllByRecursion IsDelivery mid → AllFly Course (f_at t hs).net → length mid ≤ all_pot g far (f_at t hs)
+    pub few_more : (hs mid : List Happening) → hs ++ mid ≡ t.trace → AllByRecursion IsDelivery mid → AllFly Course (f_at t hs).net → length mid ≤ all_worth g far (f_at t hs)
     few_more hs [] is all now = omega arith
     few_more hs (h ∷ mid) is all now =
         let next = one_more hs h mid is h refl all.0 now in

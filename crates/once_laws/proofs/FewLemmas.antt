@@ -30,16 +30,15 @@ use Rattle.tree_laws.proofs.PrefixLemmas.{so_far, f_at, one_on}
 use Rattle.site_laws.proofs.TimeLemmas.{Part, part_of, part_lawful, may_of, born_end}
 use Rattle.commit_laws.specs.Undisturbed.{Commit}
 use Rattle.once_laws.specs.FewLaws.{Flows, DeliveriesAreFew, DeliveriesStayBelow}
-use Rattle.once_laws.proofs.WorthLemmas.{says_worth, live_pot, node_pot, asked_worth, sent_worth, mapped_length}
+use Rattle.once_laws.proofs.WorthLemmas.{says_worth, live_worth, node_worth, asked_worth, sent_worth, map_length}
 use Rattle.once_laws.proofs.ActLemmas.{act_cost, act_low}
 use Rattle.once_laws.proofs.SayLemmas.{SaidSo, WorksOn, act_said, act_works}
 use Rattle.once_laws.proofs.TurnLemmas.{first_cost}
 use Rattle.once_laws.proofs.DepthLemmas.{far_low}
 use Rattle.once_laws.proofs.FullLemmas.{ask_in, few, asks_low}
-use Rattle.once_laws.proofs.FlightLemmas.{net_pot, all_pot, AllFly, turned_low, turned_nodes, turn_fly}
+use Rattle.once_laws.proofs.FlightLemmas.{net_worth, all_worth, AllFly, turned_low, turned_nodes, turn_fly}
 use Rattle.once_laws.proofs.TreeLemmas.{far, Course}
 use Rattle.once_laws.proofs.CourseLemmas.{few_more}
-
 use Rattle.once_laws.proofs.BeforeLemmas as before
 
 module _ (t : History) (whole : IsLawfulRun t) (c : Commit t.places t.commands t.trace) (flows : Flows t.places t.commands t.trace c) where
@@ -64,8 +63,8 @@ module _ (t : History) (whole : IsLawfulRun t) (c : Commit t.places t.commands t
   abbrev v : Turn
   v = c.call
 
-  abbrev gone : BranchId → ℕ
-  gone b = far t whole c b
+  abbrev distance : BranchId → ℕ
+  distance b = far t whole c b
 
   part : Part t whole hs
   part = part_of t whole hs (happenings.Turn c.call) c.during c.is
@@ -98,7 +97,7 @@ module _ (t : History) (whole : IsLawfulRun t) (c : Commit t.places t.commands t
 
   -- What the call leaves.
   record Called (d : Deed) : Type 0 where
-    pub low : says_worth c.root ask gone d.says + node_pot c.root (λ b. 0) gone d.after ≤ 2880 + node_pot c.root (λ b. 0) gone k
+    pub low : says_worth c.root ask distance d.says + node_worth c.root (λ b. 0) distance d.after ≤ 2880 + node_worth c.root (λ b. 0) distance k
     pub said_so : AllByRecursion (SaidSo c.root) d.says
     pub works : WorksOn k d.after
 
@@ -112,12 +111,12 @@ module _ (t : History) (whole : IsLawfulRun t) (c : Commit t.places t.commands t
   collects_low comment none =
       let j : Kept = without_read_keys (record k { sessions = with_call k.sessions c.session pending.Commit }) c.live.me in
       let y : Live = collecting (with_comment c.live comment) true in
-      let cost : act_cost c.root ask gone y (first_act y true) ≤ (23 + 21 * length y.edges) + asked_worth c.root ask gone y.edges = first_cost c.root ask gone (far_low t whole) y true y.edges refl in
-      let many : length (map with_prepare_sent c.live.edges) ≡ length c.live.edges = mapped_length with_prepare_sent c.live.edges in
-      let alike : asked_worth c.root ask gone (map with_prepare_sent c.live.edges) ≡ asked_worth c.root ask gone c.live.edges = sent_worth c.root ask gone c.live.edges in
-      let all : says_worth c.root ask gone (act_turn j y true (first_act y true)).says + node_pot c.root (λ b. 0) gone (act_turn j y true (first_act y true)).after + live_pot c.root ask gone c.live ≤ act_cost c.root ask gone y (first_act y true) + node_pot c.root (λ b. 0) gone k
-      = act_low c.root ask gone j c.live y found true (first_act y true) in
-      let room : (asked_worth c.root ask gone c.live.edges + 21 * length c.live.edges) + 45 ≤ 45 * count c.live = asks_low s lawful v.node k c.up c.live found (goes none) free in
+      let cost : act_cost c.root ask distance y (first_act y true) ≤ (23 + 21 * length y.edges) + asked_worth c.root ask distance y.edges = first_cost c.root ask distance (far_low t whole) y true y.edges refl in
+      let many : length (map with_prepare_sent c.live.edges) ≡ length c.live.edges = map_length with_prepare_sent c.live.edges in
+      let alike : asked_worth c.root ask distance (map with_prepare_sent c.live.edges) ≡ asked_worth c.root ask distance c.live.edges = sent_worth c.root ask distance c.live.edges in
+      let all : says_worth c.root ask distance (act_turn j y true (first_act y true)).says + node_worth c.root (λ b. 0) distance (act_turn j y true (first_act y true)).after + live_worth c.root ask distance c.live ≤ act_cost c.root ask distance y (first_act y true) + node_worth c.root (λ b. 0) distance k
+      = act_low c.root ask distance j c.live y found true (first_act y true) in
+      let room : (asked_worth c.root ask distance c.live.edges + 21 * length c.live.edges) + 45 ≤ 45 * count c.live = asks_low s lawful v.node k c.up c.live found (goes none) free in
       let few_branches : count c.live ≤ 64 = few s lawful v.node k c.up c.live found (goes none) free in
       record {
         low = omega (arith, cost, many, alike, all, room, few_branches);
@@ -139,9 +138,9 @@ module _ (t : History) (whole : IsLawfulRun t) (c : Commit t.places t.commands t
 
   may : MayTurn t.places f v k
   may = (let it = may_of t whole hs (happenings.Turn v) c.during c.is in
-    let both : Some it.0 ≡ Some k = sym it.1.up ∙ c.up in
-    let same_node : it.0 ≡ k = cc in
-    subst (MayTurn t.places f v) same_node it.1)
+      let both : Some it.0 ≡ Some k = sym it.1.up ∙ c.up in
+      let same_node : it.0 ≡ k = cc in
+      subst (MayTurn t.places f v) same_node it.1)
 
   owed : IsOwed p k v.input v.wrote v.sent false
   owed = subst (IsOwed p k v.input v.wrote v.sent) flows.whole may.owed
@@ -156,12 +155,12 @@ module _ (t : History) (whole : IsLawfulRun t) (c : Commit t.places t.commands t
   abbrev after : Facts
   after = facts_after t.places t.commands f (happenings.Turn v)
 
-  called_low : all_pot c.root gone after ≤ 2880
+  called_low : all_worth c.root distance after ≤ 2880
   called_low =
       let even : length f.nodes ≡ length f.records = (run_stands s lawful).0.even in
-      let one = turned_low c.root gone t.places t.commands f even v k c.up flows.whole owed.1 call_low.works in
-      let two = turned_nodes c.root gone t.places t.commands f even v k c.up flows.whole owed.1 in
-      let none : net_pot c.root gone ask (taken f.net v.took) ≡ 0 = ap (λ o. net_pot c.root gone ask (taken f.net o)) untaken ∙ before.net_none t whole c flows ask in
+      let one = turned_low c.root distance t.places t.commands f even v k c.up flows.whole owed.1 call_low.works in
+      let two = turned_nodes c.root distance t.places t.commands f even v k c.up flows.whole owed.1 in
+      let none : net_worth c.root distance ask (taken f.net v.took) ≡ 0 = ap (λ o. net_worth c.root distance ask (taken f.net o)) untaken ∙ before.net_none t whole c flows ask in
       let nodes = before.nodes_none t whole c flows in
       let cost = call_low.low in
       omega (arith, one, two, none, nodes, cost)
@@ -186,11 +185,11 @@ module _ (t : History) (whole : IsLawfulRun t) (c : Commit t.places t.commands t
   few_deliveries =
       let on : f_at t (hs ++ happenings.Turn v ∷ []) ≡ after = one_on t hs (happenings.Turn v) in
       let is : (hs ++ happenings.Turn v ∷ []) ++ c.during ≡ t.trace = append_assoc hs (happenings.Turn v ∷ []) c.during ∙ c.is in
-      let more : length c.during ≤ all_pot c.root gone (f_at t (hs ++ happenings.Turn v ∷ []))
+      let more : length c.during ≤ all_worth c.root distance (f_at t (hs ++ happenings.Turn v ∷ []))
       = few_more t whole c flows.calm (hs ++ happenings.Turn v ∷ []) c.during is flows.delivers (subst (λ (g : Facts). AllFly (Course t whole c) g.net) (sym on) called_fly) in
-      let same_pot : all_pot c.root gone (f_at t (hs ++ happenings.Turn v ∷ [])) ≡ all_pot c.root gone after = ap (λ (g : Facts). all_pot c.root gone g) on in
+      let same_worth : all_worth c.root distance (f_at t (hs ++ happenings.Turn v ∷ [])) ≡ all_worth c.root distance after = ap (λ (g : Facts). all_worth c.root distance g) on in
       let low = called_low in
-      omega (arith, more, same_pot, low)
+      omega (arith, more, same_worth, low)
 
 pub deliveries_are_few : DeliveriesAreFew
 deliveries_are_few t whole c flows = few_deliveries t whole c flows

@@ -20,7 +20,7 @@ use Rattle.run_laws.proofs.ListLemmas.{all_append}
 use Rattle.run_laws.proofs.TurnEventLemmas.{cases_nat}
 use Rattle.commit_laws.proofs.NetLemmas.{set_all}
 use Rattle.once_laws.proofs.TotalLemmas.{total, total_append, total_low, set_total}
-use Rattle.once_laws.proofs.WorthLemmas.{worth, says_worth, node_pot}
+use Rattle.once_laws.proofs.WorthLemmas.{worth, says_worth, node_worth}
 use Rattle.once_laws.proofs.SayLemmas.{WorksOn}
 use Rattle.once_laws.proofs.FullLemmas.{full_by, full, live_in, ask_in, ask_two}
 
@@ -37,20 +37,20 @@ module _ (g : BranchId) (far : BranchId → ℕ) where
   abbrev pub flight : (BranchId → ℕ) → Packet → ℕ
   flight ask x = if flies x then worth g ask far x.msg.to x.msg.kind else 0
 
-  abbrev pub net_pot : (BranchId → ℕ) → Net → ℕ
-  net_pot ask net = total (flight ask) net.packets
+  abbrev pub net_worth : (BranchId → ℕ) → Net → ℕ
+  net_worth ask net = total (flight ask) net.packets
 
   -- what a node keeps, where it is up
-  abbrev pub kept_pot : Option Kept → ℕ
-  kept_pot None = 0
-  kept_pot (Some k) = node_pot g (λ b. 0) far k
+  abbrev pub kept_worth : Option Kept → ℕ
+  kept_worth None = 0
+  kept_worth (Some k) = node_worth g (λ b. 0) far k
 
   -- all of it
-  abbrev pub all_pot : Facts → ℕ
-  all_pot f = net_pot (ask_in f) f.net + total kept_pot f.nodes
+  abbrev pub all_worth : Facts → ℕ
+  all_worth f = net_worth (ask_in f) f.net + total kept_worth f.nodes
 
   module _ (ask : BranchId → ℕ) where
-    sent_low : (net : Net) (ms : List Msg) → net_pot ask (sent_on net ms) ≤ net_pot ask net + total (λ m. worth g ask far m.to m.kind) ms
+    sent_low : (net : Net) (ms : List Msg) → net_worth ask (sent_on net ms) ≤ net_worth ask net + total (λ m. worth g ask far m.to m.kind) ms
     unfolding sent_on
     sent_low net [] = omega arith
     sent_low net (m ∷ ms) =
@@ -74,12 +74,12 @@ module _ (g : BranchId) (far : BranchId → ℕ) where
         let now : flight ask (fated fates.Delivered y) ≡ 0 = ap (λ q. flight ask (if q then packet y.msg fates.Delivered else y)) flew in
         omega (arith, all, was, now)
 
-    delivered_less : (net : Net) (n : ℕ) (x : Packet) → packet_at net n ≡ Some x → x.fate ≡ fates.InFlight → net_pot ask (delivered net n) + worth g ask far x.msg.to x.msg.kind ≤ net_pot ask net
+    delivered_less : (net : Net) (n : ℕ) (x : Packet) → packet_at net n ≡ Some x → x.fate ≡ fates.InFlight → net_worth ask (delivered net n) + worth g ask far x.msg.to x.msg.kind ≤ net_worth ask net
     unfolding delivered
     delivered_less net n x at flying = fated_less net.packets n (packet_at net n) x refl at flying
 
-    taken_less : (net : Net) (took : Option Took) (n : ℕ) (x : Packet) → took ≡ Some (record { number = n; again = false }) → packet_at net n ≡ Some x → x.fate ≡ fates.InFlight → net_pot ask (taken net took) + worth g ask far x.msg.to x.msg.kind ≤ net_pot ask net
-    taken_less net took n x is at flying = subst (λ o. net_pot ask (taken net o) + worth g ask far x.msg.to x.msg.kind ≤ net_pot ask net) (sym is) (delivered_less net n x at flying)
+    taken_less : (net : Net) (took : Option Took) (n : ℕ) (x : Packet) → took ≡ Some (record { number = n; again = false }) → packet_at net n ≡ Some x → x.fate ≡ fates.InFlight → net_worth ask (taken net took) + worth g ask far x.msg.to x.msg.kind ≤ net_worth ask net
+    taken_less net took n x is at flying = subst (λ o. net_worth ask (taken net o) + worth g ask far x.msg.to x.msg.kind ≤ net_worth ask net) (sym is) (delivered_less net n x at flying)
 
   worth_low : (ask less : BranchId → ℕ) → ((b : BranchId) → less b ≤ ask b) → (to : BranchId) (kind : Kind) → worth g less far to kind ≤ worth g ask far to kind
   worth_low ask less low to (kinds.Prepare b c) = low to
@@ -100,7 +100,7 @@ module _ (g : BranchId) (far : BranchId → ℕ) where
   worth_low ask less low to kinds.InDoubt = omega arith
   worth_low ask less low to kinds.Ask = omega arith
 
-  net_low : (ask less : BranchId → ℕ) → ((b : BranchId) → less b ≤ ask b) → (net : Net) → net_pot less net ≤ net_pot ask net
+  net_low : (ask less : BranchId → ℕ) → ((b : BranchId) → less b ≤ ask b) → (net : Net) → net_worth less net ≤ net_worth ask net
   net_low ask less low net = total_low (flight less) (flight ask) (λ x. if_both (flies x) _ _ (worth_low ask less low x.msg.to x.msg.kind)) net.packets
 
   -- ---- a whole turn
@@ -117,18 +117,18 @@ module _ (g : BranchId) (far : BranchId → ℕ) where
     unfolding turn_of
     kept_now = ap (λ q. kept_after q (outcome_at places f u)) uncut ∙ ap (λ o. kept_after false (served (place_at places u.node) u.input o)) up
 
-    nodes_now : total kept_pot after.nodes + node_pot g (λ b. 0) far k ≡ total kept_pot f.nodes + node_pot g (λ b. 0) far d.after
+    nodes_now : total kept_worth after.nodes + node_worth g (λ b. 0) far k ≡ total kept_worth f.nodes + node_worth g (λ b. 0) far d.after
     unfolding facts_after
     nodes_now =
-        let all = set_total kept_pot f.nodes u.node (Some k) (kept_after u.cut (outcome_at places f u)) (flat_some (numbered f.nodes u.node) k up) in
-        let now : kept_pot (kept_after u.cut (outcome_at places f u)) ≡ node_pot g (λ b. 0) far d.after = ap kept_pot kept_now in
+        let all = set_total kept_worth f.nodes u.node (Some k) (kept_after u.cut (outcome_at places f u)) (flat_some (numbered f.nodes u.node) k up) in
+        let now : kept_worth (kept_after u.cut (outcome_at places f u)) ≡ node_worth g (λ b. 0) far d.after = ap kept_worth kept_now in
         omega (arith, all, now)
 
     sent_total : (ask : BranchId → ℕ) → total (λ (m : Msg). worth g ask far m.to m.kind) u.sent ≡ says_worth g ask far d.says
     unfolding turn_of
     sent_total ask = ap (total (λ (m : Msg). worth g ask far m.to m.kind)) sent ∙ stamped_total ask d.after.clock d.says
 
-    net_now : (ask : BranchId → ℕ) → net_pot ask after.net ≤ net_pot ask (taken f.net u.took) + says_worth g ask far d.says
+    net_now : (ask : BranchId → ℕ) → net_worth ask after.net ≤ net_worth ask (taken f.net u.took) + says_worth g ask far d.says
     unfolding facts_after
     net_now ask = (let low = sent_low ask (taken f.net u.took) u.sent in let is = sent_total ask in omega (arith, low, is))
 
@@ -168,17 +168,17 @@ module _ (g : BranchId) (far : BranchId → ℕ) where
             omega (arith, now, low)
 
     -- what it comes to
-    pub turned_low : WorksOn k d.after → all_pot after ≤ net_pot (ask_in f) (taken f.net u.took) + says_worth g (ask_in f) far d.says + total kept_pot after.nodes
+    pub turned_low : WorksOn k d.after → all_worth after ≤ net_worth (ask_in f) (taken f.net u.took) + says_worth g (ask_in f) far d.says + total kept_worth after.nodes
     turned_low works =
         let one = net_low (ask_in f) (ask_in after) (asks_less works) after.net in
         let two = net_now (ask_in f) in
         omega (arith, one, two)
 
-    pub turned_nodes : total kept_pot after.nodes + node_pot g (λ b. 0) far k ≡ total kept_pot f.nodes + node_pot g (λ b. 0) far d.after
+    pub turned_nodes : total kept_worth after.nodes + node_worth g (λ b. 0) far k ≡ total kept_worth f.nodes + node_worth g (λ b. 0) far d.after
     turned_nodes = nodes_now
 
     pub turn_takes : (n : ℕ) (x : Packet) → u.took ≡ Some (record { number = n; again = false }) → packet_at f.net n ≡ Some x → x.fate ≡ fates.InFlight
-        → net_pot (ask_in f) (taken f.net u.took) + worth g (ask_in f) far x.msg.to x.msg.kind ≤ net_pot (ask_in f) f.net
+        → net_worth (ask_in f) (taken f.net u.took) + worth g (ask_in f) far x.msg.to x.msg.kind ≤ net_worth (ask_in f) f.net
     turn_takes n x is at flying = taken_less (ask_in f) f.net u.took n x is at flying
 
 -- ---- what is so of all that is in flight

@@ -11,3 +11,4 @@ pub mod TreeLemmas
 pub mod CourseLemmas
 pub mod BeforeLemmas
 pub mod FewLemmas
+mod TriedFlowLemmas

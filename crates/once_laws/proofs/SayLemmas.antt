@@ -80,10 +80,10 @@ abbrev pub WorksOn : Kept → Kept → Type 0
 WorksOn k j = (c : BranchId) (y : Live) → live_at j c ≡ Some y → y.phase ≡ phases.Working → live_at k c ≡ Some y
 
 module _ (k : Kept) (l : Live) (busy : l.phase ≢ phases.Working) where
-  put_works : (x : Live) → x.phase ≢ phases.Working → (c : BranchId) (y : Live) → live_at (record k { lives = k.lives }) c ≡ live_at k c → (item : Option Live) → item ≡ Some y → y.phase ≡ phases.Working
+  put_works : (x : Live) → x.phase ≢ phases.Working → (c : BranchId) (y : Live) (item : Option Live) → item ≡ Some y → y.phase ≡ phases.Working
       → ((item ≡ live_at k c) ⊎ ((x.me ≡ c) × (item ≡ Some x))) → live_at k c ≡ Some y
-  put_works x other c y same_lives item at works (inl old) = sym old ∙ at
-  put_works x other c y same_lives item at works (inr new) =
+  put_works x other c y item at works (inl old) = sym old ∙ at
+  put_works x other c y item at works (inr new) =
       let both : Some x ≡ Some y = sym new.1 ∙ at in
       let it : x ≡ y = cc in
       absurd (other (ap (λ (z : Live). z.phase) it ∙ works))
@@ -98,9 +98,9 @@ module _ (k : Kept) (l : Live) (busy : l.phase ≢ phases.Working) where
       by false other = sym (drop_leaves live_id k.lives l.me c other) ∙ at
 
   pub act_works : (b : Bool) (a : Act) → WorksOn k (act_turn k l b a).after
-  act_works b acts.Rest c y at works = put_works l busy c y refl _ at works (put_or_before live_id k.lives l c)
-  act_works b acts.AskDown c y at works = put_works l busy c y refl _ at works (put_or_before live_id k.lives l c)
-  act_works b acts.SayReady c y at works = put_works (ready l) (λ is. absurd cc) c y refl _ at works (put_or_before live_id k.lives (ready l) c)
+  act_works b acts.Rest c y at works = put_works l busy c y _ at works (put_or_before live_id k.lives l c)
+  act_works b acts.AskDown c y at works = put_works l busy c y _ at works (put_or_before live_id k.lives l c)
+  act_works b acts.SayReady c y at works = put_works (ready l) (λ is. absurd cc) c y _ at works (put_or_before live_id k.lives (ready l) c)
   act_works b acts.SayReadOnly c y at works = drop_works c y at
   act_works b acts.Seal c y at works = drop_works c y at
   act_works b (acts.SealAndPass i) c y at works = drop_works c y at

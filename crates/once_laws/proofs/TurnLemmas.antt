@@ -18,7 +18,7 @@ use Rattle.node_rules.specs.Prepare.{act_turn, collecting, with_comment, without
 use Rattle.node_rules.specs.Turn.{Stand, Is_live, Is_kept, Is_gone, kept_or_gone, live_or, stand_of, kind_turn}
 use Rattle.run_laws.specs.Trail.{is_prepare}
 use Rattle.commit_laws.specs.Undisturbed.{disturbs}
-use Rattle.once_laws.proofs.WorthLemmas.{phase_pot, worth, says_worth, live_pot, node_pot, live_low, live_is, asked_worth, sent_worth, mapped_length}
+use Rattle.once_laws.proofs.WorthLemmas.{phase_worth, worth, says_worth, live_worth, node_worth, live_low, live_is, asked_worth, sent_worth, map_length}
 use Rattle.once_laws.proofs.ActLemmas.{act_cost, act_low, collected_cost, point_cost}
 use Rattle.once_laws.proofs.KeptLemmas.{committed_costs, forgotten_costs, noted_costs, noted_same, noted_found}
 use Rattle.once_laws.proofs.SayLemmas.{in_course, SaidSo, WorksOn, act_said, act_works, next_said, next_works}
@@ -32,12 +32,12 @@ unfolding stand_of
 stand_kept k b o is row = ap (λ x. live_or (with_work k x) (standing_at k b)) is ∙ ap kept_or_gone row
 
 module _ (g : BranchId) (ask far : BranchId → ℕ) (low : (b : BranchId) → far b ≤ 17) where
-  abbrev pot : Kept → ℕ
-  pot k = node_pot g ask far k
+  abbrev held : Kept → ℕ
+  held k = node_worth g ask far k
 
   -- A turn of a branch costs at most so much, says what belongs to the course, and makes nobody work.
   pub record Fits (k : Kept) (to : BranchId) (w : ℕ) (d : Deed) : Type 0 where
-    pub less : 1 + says_worth g ask far d.says + pot d.after ≤ w + pot k
+    pub less : 1 + says_worth g ask far d.says + held d.after ≤ w + held k
     pub said : AllByRecursion (SaidSo to) d.says
     pub works : WorksOn k d.after
 
@@ -46,14 +46,14 @@ module _ (g : BranchId) (ask far : BranchId → ℕ) (low : (b : BranchId) → f
   pub first_cost : (l : Live) (b : Bool) (es : List Edge) → l.phase ≡ phases.Collecting b → act_cost g ask far l (first_act_by l b es) ≤ (23 + 21 * length l.edges) + asked_worth g ask far l.edges
   first_cost l b [] is = (let few = collected_cost g ask far l b in omega (arith, few))
   first_cost l b (e ∷ es) is =
-      let few : live_pot g ask far l ≤ phase_pot l.phase (length l.edges) = live_low g ask far l in
-      let full : phase_pot l.phase (length l.edges) ≡ 23 + 21 * length l.edges = ap (λ p. phase_pot p (length l.edges)) is in
+      let few : live_worth g ask far l ≤ phase_worth l.phase (length l.edges) = live_low g ask far l in
+      let full : phase_worth l.phase (length l.edges) ≡ 23 + 21 * length l.edges = ap (λ p. phase_worth p (length l.edges)) is in
       omega (arith, few, full)
 
   next_cost : (l : Live) (b : Bool) → l.phase ≡ phases.Collecting b → act_cost g ask far l (next_act l b) ≤ 23 + 21 * length l.edges
   next_cost l b is =
-      let few : live_pot g ask far l ≤ phase_pot l.phase (length l.edges) = live_low g ask far l in
-      let full : phase_pot l.phase (length l.edges) ≡ 23 + 21 * length l.edges = ap (λ p. phase_pot p (length l.edges)) is in
+      let few : live_worth g ask far l ≤ phase_worth l.phase (length l.edges) = live_low g ask far l in
+      let full : phase_worth l.phase (length l.edges) ≡ 23 + 21 * length l.edges = ap (λ p. phase_worth p (length l.edges)) is in
       cond_both (all_answered l) (collected_act l b) acts.Rest (λ a. act_cost g ask far l a ≤ 23 + 21 * length l.edges) (λ all. collected_cost g ask far l b) (λ some. omega (arith, few, full))
 
   answer_cost : (l : Live) (b : Bool) (v : Vote) → l.phase ≡ phases.Collecting b → act_cost g ask far l (answer_act l b v) ≤ 23 + 21 * length l.edges
@@ -85,7 +85,7 @@ module _ (g : BranchId) (ask far : BranchId → ℕ) (low : (b : BranchId) → f
       prepares_so b comment phases.Working is works =
           let y : Live = collecting (with_comment l comment) b in
           let cost : act_cost g ask far y (first_act y b) ≤ (23 + 21 * length y.edges) + asked_worth g ask far y.edges = first_cost y b y.edges refl in
-          let many : length (map with_prepare_sent l.edges) ≡ length l.edges = mapped_length with_prepare_sent l.edges in
+          let many : length (map with_prepare_sent l.edges) ≡ length l.edges = map_length with_prepare_sent l.edges in
           let alike : asked_worth g ask far (map with_prepare_sent l.edges) ≡ asked_worth g ask far l.edges = sent_worth g ask far l.edges in
           let all = act_low g ask far (without_read_keys k l.me) l y here b (first_act y b) in
           let enough = works is in
@@ -103,9 +103,9 @@ module _ (g : BranchId) (ask far : BranchId → ℕ) (low : (b : BranchId) → f
       answers_so v (phases.Collecting b) is =
           let y : Live = voted l from v in
           let cost : act_cost g ask far y (answer_act y b v) ≤ 23 + 21 * length y.edges = answer_cost y b v is in
-          let many : length (map (has_voted from v) l.edges) ≡ length l.edges = mapped_length (has_voted from v) l.edges in
+          let many : length (map (has_voted from v) l.edges) ≡ length l.edges = map_length (has_voted from v) l.edges in
           let all = act_low g ask far k l y here b (answer_act y b v) in
-          let had : live_pot g ask far l ≡ 23 + 21 * length l.edges = live_is g ask far l of ∙ ap (λ q. phase_pot q (length l.edges)) is in
+          let had : live_worth g ask far l ≡ 23 + 21 * length l.edges = live_is g ask far l of ∙ ap (λ q. phase_worth q (length l.edges)) is in
           cond_both (is_first_answer l from) (act_turn k y b (answer_act y b v)) (nothing k) (Fits k to 1)
           (λ first. record {
             less = omega (arith, cost, many, all, had);
@@ -119,7 +119,7 @@ module _ (g : BranchId) (ask far : BranchId → ℕ) (low : (b : BranchId) → f
       points_so phases.Ready is =
           let cost = point_cost g ask far l (step l) is in
           let all = act_low g ask far k l l here true (commit_point_act (step l)) in
-          let had : live_pot g ask far l ≡ 22 + 21 * length l.edges = live_is g ask far l of ∙ ap (λ q. phase_pot q (length l.edges)) is in
+          let had : live_worth g ask far l ≡ 22 + 21 * length l.edges = live_is g ask far l of ∙ ap (λ q. phase_worth q (length l.edges)) is in
           record {
             less = omega (arith, cost, all, had);
             said = said_here _ (act_said k l true (commit_point_act (step l)));
@@ -166,14 +166,14 @@ module _ (g : BranchId) (ask far : BranchId → ℕ) (low : (b : BranchId) → f
       acks_so : Fits k to (2 + far to) (if ack_counts s from then counts_ack k (acked_by s from) from else nothing k)
       acks_so = cond_both (ack_counts s from) (counts_ack k (acked_by s from) from) (nothing k) (Fits k to (2 + far to))
           (λ counts. (let knows = (and_parts (knows_commit s.decision) (is_beyond s from) counts).0 in
-            let same_pot = noted_same g ask far low k s from there in
-            let cost = noted_costs g ask far low (with_standing k (acked_by s from)) (acked_by s from) from (noted_found g ask far low k s from there) of near knows in
-            let where_to : far s.me ≡ far to = ap far own in
-            record {
-              less = omega (arith, same_pot, cost, where_to);
-              said = said_there _ (next_said (with_standing k (acked_by s from)) (acked_by s from) from (next_on_ack (acked_by s from)));
-              works = next_works (with_standing k (acked_by s from)) (acked_by s from) from (next_on_ack (acked_by s from));
-            })) (λ other. idle (2 + far to) (omega arith))
+          let same_worth = noted_same g ask far low k s from there in
+          let cost = noted_costs g ask far low (with_standing k (acked_by s from)) (acked_by s from) from (noted_found g ask far low k s from there) of near knows in
+          let where_to : far s.me ≡ far to = ap far own in
+          record {
+            less = omega (arith, same_worth, cost, where_to);
+            said = said_there _ (next_said (with_standing k (acked_by s from)) (acked_by s from) from (next_on_ack (acked_by s from)));
+            works = next_works (with_standing k (acked_by s from)) (acked_by s from) from (next_on_ack (acked_by s from));
+          })) (λ other. idle (2 + far to) (omega arith))
 
       pub kept_fits : (kind : Kind) → in_course kind ≡ true → disturbs kind ≡ false → Fits k to (worth g ask far to kind) (kind_turn p k from to kind (Is_kept s))
       kept_fits (kinds.Prepare b comment) so calm = again_so

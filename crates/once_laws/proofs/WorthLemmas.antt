@@ -17,16 +17,16 @@ one_of None = 0
 one_of (Some q) = 1
 
 -- by the phase of a branch with so many children
-abbrev pub phase_pot : Phase → ℕ → ℕ
-phase_pot phases.Working n = 0
-phase_pot (phases.Collecting b) n = 23 + 21 * n
-phase_pot phases.Ready n = 22 + 21 * n
+abbrev pub phase_worth : Phase → ℕ → ℕ
+phase_worth phases.Working n = 0
+phase_worth (phases.Collecting b) n = 23 + 21 * n
+phase_worth phases.Ready n = 22 + 21 * n
 
 -- of a row with so many neighbours
-abbrev pub known_pot : Bool → Option Decision → ℕ → ℕ
-known_pot forgot None n = 21 * n
-known_pot true (Some d) n = 0
-known_pot false (Some d) n = n
+abbrev pub known_worth : Bool → Option Decision → ℕ → ℕ
+known_worth forgot None n = 21 * n
+known_worth true (Some d) n = 0
+known_worth false (Some d) n = n
 
 -- the neighbours of a row
 abbrev pub neighbors : Standing → ℕ
@@ -53,35 +53,35 @@ module _ (g : BranchId) (ask far : BranchId → ℕ) where
   says_worth ms = total post_worth ms
 
   -- a live branch of the transaction
-  abbrev pub live_pot : Live → ℕ
-  live_pot l = if same l.root g then phase_pot l.phase (length l.edges) else 0
+  abbrev pub live_worth : Live → ℕ
+  live_worth l = if same l.root g then phase_worth l.phase (length l.edges) else 0
 
-  abbrev pub row_pot : Standing → ℕ
-  row_pot s = if same s.root g then known_pot s.forgot s.decision (neighbors s) else 0
+  abbrev pub row_worth : Standing → ℕ
+  row_worth s = if same s.root g then known_worth s.forgot s.decision (neighbors s) else 0
 
   -- all of them at a node
-  abbrev pub node_pot : Kept → ℕ
-  node_pot k = total live_pot k.lives + total row_pot k.stored.durable.kept
+  abbrev pub node_worth : Kept → ℕ
+  node_worth k = total live_worth k.lives + total row_worth k.stored.durable.kept
 
-  pub live_low : (l : Live) → live_pot l ≤ phase_pot l.phase (length l.edges)
-  live_low l = by (same l.root g) (phase_pot l.phase (length l.edges))
+  pub live_low : (l : Live) → live_worth l ≤ phase_worth l.phase (length l.edges)
+  live_low l = by (same l.root g) (phase_worth l.phase (length l.edges))
     where
       by : (q : Bool) (n : ℕ) → (if q then n else 0) ≤ n
       by true n = omega arith
       by false n = omega arith
 
-  pub live_is : (l : Live) → same l.root g ≡ true → live_pot l ≡ phase_pot l.phase (length l.edges)
-  live_is l of = ap (λ q. if q then phase_pot l.phase (length l.edges) else 0) of
+  pub live_is : (l : Live) → same l.root g ≡ true → live_worth l ≡ phase_worth l.phase (length l.edges)
+  live_is l of = ap (λ q. if q then phase_worth l.phase (length l.edges) else 0) of
 
-  pub row_low : (s : Standing) → row_pot s ≤ known_pot s.forgot s.decision (neighbors s)
-  row_low s = by (same s.root g) (known_pot s.forgot s.decision (neighbors s))
+  pub row_low : (s : Standing) → row_worth s ≤ known_worth s.forgot s.decision (neighbors s)
+  row_low s = by (same s.root g) (known_worth s.forgot s.decision (neighbors s))
     where
       by : (q : Bool) (n : ℕ) → (if q then n else 0) ≤ n
       by true n = omega arith
       by false n = omega arith
 
-  pub row_is : (s : Standing) → same s.root g ≡ true → row_pot s ≡ known_pot s.forgot s.decision (neighbors s)
-  row_is s of = ap (λ q. if q then known_pot s.forgot s.decision (neighbors s) else 0) of
+  pub row_is : (s : Standing) → same s.root g ≡ true → row_worth s ≡ known_worth s.forgot s.decision (neighbors s)
+  row_is s of = ap (λ q. if q then known_worth s.forgot s.decision (neighbors s) else 0) of
 
   -- ---- messages
 
@@ -110,11 +110,11 @@ module _ (g : BranchId) (ask far : BranchId → ℕ) where
 
 -- ---- neighbours
 
-filter_low : {A : Type 0} (p : A → Bool) (xs : List A) → length (filter p xs) ≤ length xs
+pub filter_low : {A : Type 0} (p : A → Bool) (xs : List A) → length (filter p xs) ≤ length xs
 filter_low p [] = omega arith
 filter_low p (x ∷ xs) = (let rest = filter_low p xs in cond_both (p x) (x ∷ filter p xs) (filter p xs) (λ ys. length ys ≤ length (x ∷ xs)) (λ is. omega (arith, rest)) (λ other. omega (arith, rest)))
 
-map_length : {A B : Type 0} (h : A → B) (xs : List A) → length (map h xs) ≡ length xs
+pub map_length : {A B : Type 0} (h : A → B) (xs : List A) → length (map h xs) ≡ length xs
 map_length h [] = refl
 map_length h (x ∷ xs) = (let rest = map_length h xs in omega (arith, rest))
 
@@ -122,7 +122,7 @@ parent_low : (s : Standing) (o : Option BranchId) → length (parent_beyond s o)
 parent_low s None = omega arith
 parent_low s (Some b) = cond_both (is_branch b s.toward) [] (record { branch = b; acked = s.parent_acked; is_parent = true } ∷ []) (λ (ys : List Beyond). length ys ≤ 1) (λ is. omega arith) (λ other. omega arith)
 
-append_length : {A : Type 0} (xs ys : List A) → length (xs ++ ys) ≡ length xs + length ys
+pub append_length : {A : Type 0} (xs ys : List A) → length (xs ++ ys) ≡ length xs + length ys
 append_length [] ys = omega arith
 append_length (x ∷ xs) ys = (let rest = append_length xs ys in omega (arith, rest))
 
@@ -136,12 +136,3 @@ beyond_low s =
     let one : length (map kid_beyond kids) ≡ length kids = map_length kid_beyond kids in
     let both : length (parent_beyond s s.parent ++ map kid_beyond kids) ≡ length (parent_beyond s s.parent) + length (map kid_beyond kids) = append_length (parent_beyond s s.parent) (map kid_beyond kids) in
     omega (arith, ps, low, one, both)
-
-pub mapped_length : {A B : Type 0} (h : A → B) (xs : List A) → length (map h xs) ≡ length xs
-mapped_length h xs = map_length h xs
-
-pub joined_length : {A : Type 0} (xs ys : List A) → length (xs ++ ys) ≡ length xs + length ys
-joined_length xs ys = append_length xs ys
-
-pub filtered_low : {A : Type 0} (p : A → Bool) (xs : List A) → length (filter p xs) ≤ length xs
-filtered_low p xs = filter_low p xs

@@ -7,6 +7,7 @@
 #![tactic(auto)]
 
 ghost use Rattle.once_laws.specs.FewLaws.{DeliveriesAreFew, DeliveriesStayBelow};
+ghost use Rattle.once_laws.specs.TriedFlow.{TheTriedFlow};
 
 /// A COMMIT that flows has had at most 2,880 messages delivered.
 pub fn deliveries_are_few()
@@ -16,4 +17,10 @@ pub fn deliveries_are_few()
 /// So it has had fewer than a command may have.
 pub fn deliveries_stay_below()
     ensures { DeliveriesStayBelow }
+{}
+
+/// No COMMIT that flows is about nothing: that of the tried run flows while its third message is in flight, and when all
+/// five came.
+pub fn the_tried_flow()
+    ensures { TheTriedFlow }
 {}
