@@ -1,0 +1,2 @@
+pub mod CommandCalls
+pub mod CommitCourse
