@@ -167,6 +167,11 @@ module _ (places : List Place) (asked : List Command) (p : Past) where
 
   -- ---- in the course of a command
 
+  -- a loss comes first
+  pub told_first : (k : ℕ) (ks : List ℕ) → f.losses_to_tell ≡ k ∷ ks → due_of asked p ≡ Tells k
+  unfolding due_of
+  told_first k ks at = ap (tells_first (falls_first (falls_first (follows_first (acts_once asked f t) t.next_call) t.start_to_stop) f.node_to_stop)) at
+
   module _ (told : f.losses_to_tell ≡ []) (upright : f.node_to_stop ≡ None) where
     settled_due : due_of asked p ≡ falls_first (follows_first (acts_once asked f t) t.next_call) t.start_to_stop
     unfolding due_of

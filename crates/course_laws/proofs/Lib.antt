@@ -1,3 +1,6 @@
 pub mod WayLemmas
 pub mod DueLemmas
 pub mod CommandLemmas
+pub mod FlowLemmas
+pub mod AnsweredLemmas
+pub mod CourseLemmas

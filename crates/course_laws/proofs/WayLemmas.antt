@@ -59,7 +59,7 @@ module _ (running : ℕ) where
   call_way t f None = same_way t
   call_way t f (Some c) = ends_way t c f c.follows
 
-  finished_way : (node : ℕ) (t : Telling) (fs : List Finished) → SameWay t (finished running t node fs)
+  pub finished_way : (node : ℕ) (t : Telling) (fs : List Finished) → SameWay t (finished running t node fs)
   finished_way node t [] = same_way t
   finished_way node t (f ∷ fs) = let u : Telling = finished_call running t f (call_at t node f.session) in way_then t u (finished running u node fs) (call_way t f (call_at t node f.session)) (finished_way node u fs)
 
@@ -187,7 +187,7 @@ module _ (P : Call → Type 0) (second : (c : Call) (s : Stmt) → P c → P (se
   call_so t f None found all = all
   call_so t f (Some c) found all = ends_so t c f c.follows (found c refl) all
 
-  finished_so : (node : ℕ) (t : Telling) (fs : List Finished) → AllSo t → AllSo (finished running t node fs)
+  pub finished_so : (node : ℕ) (t : Telling) (fs : List Finished) → AllSo t → AllSo (finished running t node fs)
   finished_so node t [] all = all
   finished_so node t (f ∷ fs) all =
       finished_so node (finished_call running t f (call_at t node f.session)) fs (call_so t f (call_at t node f.session) (λ c at. (found_so P (is_call_at node f.session) t.calls c all at).0) all)

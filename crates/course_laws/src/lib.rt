@@ -3,6 +3,7 @@
 #![tactic(auto)]
 
 ghost use Rattle.course_laws.specs.CommandCalls.{HoldIsKept, CommandsFindNoCall, CommandsHoldTheirCall};
+ghost use Rattle.course_laws.specs.CommitCourse.{CommitsFlow, CommitsEnd};
 
 /// Only HOLD ON and HOLD OFF change HOLD.
 pub fn hold_is_kept()
@@ -17,4 +18,14 @@ pub fn commands_find_no_call()
 /// While HOLD is off nothing but the call of the command that runs is pending, unless that is HOLD OFF.
 pub fn commands_hold_their_call()
     ensures { CommandsHoldTheirCall }
+{}
+
+/// While messages are in flight in the command of a COMMIT that goes well, with HOLD off, the first of them is delivered next.
+pub fn commits_flow()
+    ensures { CommitsFlow }
+{}
+
+/// Where such a COMMIT has been answered and nothing is in flight any more, no call is pending and the next command is due.
+pub fn commits_end()
+    ensures { CommitsEnd }
 {}
