@@ -4,3 +4,5 @@ pub mod CommandLemmas
 pub mod FlowLemmas
 pub mod AnsweredLemmas
 pub mod CourseLemmas
+pub mod EarlierLemmas
+pub mod QuietLemmas

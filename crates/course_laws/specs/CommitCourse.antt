@@ -18,7 +18,7 @@ use Rattle.run_laws.specs.Lawful.{History}
 use Rattle.run_laws.specs.Lines.{spent}
 use Rattle.run_laws.specs.Past.{past}
 use Rattle.run_laws.specs.Telling.{Past, start}
-use Rattle.commit_laws.specs.Undisturbed.{Commit, Undisturbed, IsComplete, LostNone, HasNotStopped, IsCalm, facts_by, branches_by, answers_from}
+use Rattle.commit_laws.specs.Undisturbed.{Commit, Undisturbed, IsComplete, UndisturbedCommitsAreComplete, LostNone, HasNotStopped, IsCalm, facts_by, branches_by, answers_from}
 
 -- what these happenings leave, with what is told of them
 abbrev pub past_by : List Place → List Command → List Happening → Past
@@ -92,3 +92,7 @@ HasFewDeliveries t front = spent (past_by t.places t.commands front).telling.del
 abbrev pub QuietCommitsAreComplete : Type 0
 QuietCommitsAreComplete = (t : History) → IsTheRunOf t → (front later : List Happening) (c : Commit t.places t.commands front) → QuietCommit t front later c → HasFewDeliveries t front
     → Undisturbed t.places t.commands front c × IsComplete t.places t.commands front c
+
+-- It is so where undisturbed COMMITs are complete.
+abbrev pub QuietCommitsFollow : Type 0
+QuietCommitsFollow = UndisturbedCommitsAreComplete → QuietCommitsAreComplete

@@ -3,7 +3,7 @@
 #![tactic(auto)]
 
 ghost use Rattle.course_laws.specs.CommandCalls.{HoldIsKept, CommandsFindNoCall, CommandsHoldTheirCall};
-ghost use Rattle.course_laws.specs.CommitCourse.{CommitsFlow, CommitsEnd};
+ghost use Rattle.course_laws.specs.CommitCourse.{CommitsFlow, CommitsEnd, QuietCommitsFollow};
 
 /// Only HOLD ON and HOLD OFF change HOLD.
 pub fn hold_is_kept()
@@ -28,4 +28,10 @@ pub fn commits_flow()
 /// Where such a COMMIT has been answered and nothing is in flight any more, no call is pending and the next command is due.
 pub fn commits_end()
     ensures { CommitsEnd }
+{}
+
+/// A quiet COMMIT is undisturbed, and complete when its command is done, where undisturbed COMMITs are complete and fewer than
+/// 4,096 messages are delivered in the command.
+pub fn quiet_commits_follow()
+    ensures { QuietCommitsFollow }
 {}
