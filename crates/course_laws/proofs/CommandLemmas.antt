@@ -107,6 +107,35 @@ module _ (t : History) (p : Past) where
       line_kept n (λ (v : Telling). AllByRecursion (Of f.command) v.calls) all all
   calls_next (happenings.Started n boot) is now off other = now off other
 
+  -- ---- deliveries
+
+  -- none was made before something else happened
+  abbrev pub IsFresh : Past → Type 0
+  IsFresh q = q.telling.acted ≡ false → q.telling.deliveries ≡ 0
+
+  fresh_next : (h : Happening) → IsFresh (record { facts = facts_after t.places t.commands f h; telling = telling_after t.places t.commands f told h })
+  fresh_next (happenings.Begun c) = λ fresh. refl
+  fresh_next (happenings.Turn u) = λ fresh. absurd cc
+  fresh_next (happenings.Cut a b) = λ fresh. absurd cc
+  fresh_next (happenings.Join a b) = λ fresh. absurd cc
+  fresh_next (happenings.Lost k) = λ fresh. absurd cc
+  fresh_next (happenings.Stopped n) = λ fresh. absurd cc
+  fresh_next (happenings.Started n boot) = λ fresh. absurd cc
+
+pub fresh_deliveries : (t : History) (i : ℕ) → (past_upto t i).telling.acted ≡ false → (past_upto t i).telling.deliveries ≡ 0
+unfolding past
+fresh_deliveries t zero = λ fresh. absurd cc
+fresh_deliveries t (suc i) = by (slice_get t.trace i) refl (fresh_deliveries t i)
+  where
+    one : suc i ≡ i + 1
+    one = omega arith
+
+    by : (o : Option Happening) → slice_get t.trace i ≡ o → IsFresh t (past_upto t i) (past_upto t i) → IsFresh t (past_upto t i) (past_upto t (suc i))
+    by None is now = subst (λ n. IsFresh t (past_upto t i) (past_upto t n)) (sym one) (subst (IsFresh t (past_upto t i)) (sym (none_more t i is)) now)
+    by (Some h) is now =
+        subst (λ n. IsFresh t (past_upto t i) (past_upto t n)) (sym one)
+        (subst (IsFresh t (past_upto t i)) (sym (one_more t i h is ∙ next_is t.places t.commands (past_upto t i) h)) (fresh_next t (past_upto t i) h))
+
 pub hold_is_kept : HoldIsKept
 hold_is_kept t i h is = ap (λ (q : Past). q.telling.hold) (one_more t i h is ∙ next_is t.places t.commands (past_upto t i) h) ∙ hold_next t (past_upto t i) h
 

@@ -4,7 +4,7 @@ use Rattle.std.specs.Prelude.{take}
 use Rattle.std.specs.List.{AllByRecursion}
 use Rattle.std.proofs.lemmas.Bool.{eq-eqb}
 use Rattle.std.proofs.lemmas.List.{append_assoc}
-use Rattle.node_rules.specs.Data.{Answer, Place, Stmt}
+use Rattle.node_rules.specs.Data.{Answer, Input, Place, Stmt}
 use Rattle.node_rules.specs.Data.inputs
 use Rattle.node_rules.specs.Data.stmts
 use Rattle.node_rules.specs.Kept.{Kept}
@@ -12,15 +12,16 @@ use Rattle.node_rules.specs.Sessions.{commit_complete}
 use Rattle.net_bag.specs.Net.{first_flying}
 use Rattle.run_laws.specs.Calls.{is_call_at}
 use Rattle.run_laws.specs.Commands.{commits_first}
-use Rattle.run_laws.specs.Data.{Command, Happening, Turn}
+use Rattle.run_laws.specs.Data.{Command, Happening, Took, Turn}
 use Rattle.run_laws.specs.Data.commands
 use Rattle.run_laws.specs.Data.happenings
 use Rattle.run_laws.specs.Due.{next_command, due_of, comes_next, IsTheRun}
-use Rattle.run_laws.specs.Facts.{Facts, command_at, first_facts, facts_after, facts_of}
+use Rattle.run_laws.specs.Facts.{Facts, command_at, node_at, outcome_at, first_facts, facts_after, facts_of}
 use Rattle.run_laws.specs.Headline.{IsTheRunOf}
 use Rattle.run_laws.specs.Lawful.{History, IsSettled, MayTurn}
+use Rattle.run_laws.specs.Lawful.{Comes as Comes_lawful}
 use Rattle.run_laws.specs.Lines.{spent}
-use Rattle.run_laws.specs.Past.{next, past}
+use Rattle.run_laws.specs.Past.{delivered_more, is_call, next, past}
 use Rattle.run_laws.specs.Places.{past_upto}
 use Rattle.run_laws.specs.Telling.{Call, Past, start}
 use Rattle.run_laws.proofs.FactLemmas.{facts_are}
@@ -31,7 +32,8 @@ use Rattle.call_laws.proofs.UptoLemmas.{due_at, may_at}
 use Rattle.commit_laws.specs.Undisturbed.{Commit, facts_by, answers_from}
 use Rattle.course_laws.specs.CommandCalls.{is_hold}
 use Rattle.course_laws.specs.CommitCourse.{past_by, GoesWell, IsUnderWay, Delivers, CommitsFlow, IsAnswered, IsStill, CommitsEnd}
-use Rattle.course_laws.proofs.CommandLemmas.{commands_hold_their_call}
+use Rattle.course_laws.proofs.CommandLemmas.{commands_hold_their_call, fresh_deliveries}
+use Rattle.course_laws.proofs.WayLemmas.{turn_way}
 use Rattle.course_laws.proofs.DueLemmas.{stands_here, follows_here}
 use Rattle.course_laws.proofs.FlowLemmas.{IsWholeTurn, IsItsCall, HasOne, Flows, flows_turn, Comes, Delivery, Give_up, comes_so, end_due, Course, course}
 use Rattle.course_laws.proofs.AnsweredLemmas.{none_pending, answered_none}
@@ -141,6 +143,28 @@ module _ (t : History) (run : IsTheRunOf t) (front later : List Happening) (c : 
   pub one_call : HasOne c.call.node c.session p.telling
   one_call = record { calls = all_its t.commands p.facts.command c.call.node c.session c.comment own p.telling.calls its shapes; alone = alone }
 
+  -- it is the first thing to happen in its command
+  fresh : p.telling.acted ≡ false
+  fresh = by p.telling.acted refl
+    where
+      flows : p.telling.acted ≡ true → Flows c.call.node c.session p
+      flows acted = record { acted = acted; off = goes.off; stands = stands; upright = settled.upright; one = one_call }
+
+      call : is_call c.call.input ≡ true
+      call = ap is_call c.asks
+
+      other_input : {q : Past} (g : Happening) → Comes c.call.node c.session q g → g ≡ happenings.Turn c.call → ⊥
+      other_input _ (Delivery k u at few other whole took) same = (let it : u ≡ c.call = cc in let input : is_call c.call.input ≡ false = subst (λ (v : Turn). is_call v.input ≡ false) it other in cc (input, call))
+      other_input _ (Give_up u x xs at why other whole) same = (let it : u ≡ c.call = cc in let input : is_call c.call.input ≡ false = subst (λ (v : Turn). is_call v.input ≡ false) it other in cc (input, call))
+
+      by : (q : Bool) → p.telling.acted ≡ q → q ≡ false
+      by true acted = absurd (other_input (happenings.Turn c.call) (comes_so c.call.node c.session t.places t.commands p (flows acted) (happenings.Turn c.call) goes.whole due).1 refl)
+      by false none = refl
+
+  -- no message was delivered before
+  none_before : p.telling.deliveries ≡ 0
+  none_before = (subst (λ (q : Past). q.telling.acted ≡ false → q.telling.deliveries ≡ 0) upto (fresh_deliveries t i)) fresh
+
   -- ---- after it
 
   abbrev pub first : Past
@@ -148,6 +172,20 @@ module _ (t : History) (run : IsTheRunOf t) (front later : List Happening) (c : 
 
   pub first_flows : Flows c.call.node c.session first
   first_flows = flows_turn c.call.node c.session t.places t.commands p c.call goes.off stands one_call goes.whole
+
+  none_taken : c.call.took ≡ None
+  none_taken = by c.call.took refl (subst (λ x. Comes_so x c.call.took) c.asks may.1.comes)
+    where
+      Comes_so : Input → Option Took → Type 0
+      Comes_so input took = Comes_lawful p.facts may.0 c.call.node input took
+
+      by : (o : Option Took) → c.call.took ≡ o → Comes_so (inputs.Call c.session (Some (stmts.Commit c.comment))) c.call.took → o ≡ None
+      by None at comes = refl
+      by (Some k) at comes = absurd (subst (Comes_so (inputs.Call c.session (Some (stmts.Commit c.comment)))) at comes)
+
+  pub first_none : first.telling.deliveries ≡ 0
+  unfolding next
+  first_none = (turn_way p.facts.command (node_at p.facts c.call.node) p.telling c.call (outcome_at t.places p.facts c.call)).deliveries ∙ (ap (λ o. (delivered_more p.telling o).deliveries) none_taken ∙ none_before)
 
   pub first_run : IsTheRun t.places t.commands first (c.during ++ later)
   unfolding IsTheRun
@@ -190,12 +228,12 @@ commits_flow t run front later h c goes well k flying few =
     (ap (λ (f : Facts). first_flying f.net) (sym (facts_end t run front (h ∷ later) c goes)) ∙ flying) (ap (λ (q : Past). spent q.telling.deliveries) (sym (end_is t run front (h ∷ later) c goes)) ∙ few)
   where
     by : {q : Past} (g : Happening) → Comes c.call.node c.session q g → first_flying q.facts.net ≡ Some k → spent q.telling.deliveries ≡ false → Delivers k g
-    by _ (Delivery n u at more whole took) flies yet =
+    by _ (Delivery n u at more other whole took) flies yet =
         let both : Some n ≡ Some k = sym at ∙ flies in
         let same : n ≡ k = cc in
         (whole, subst (λ m. u.took ≡ Some (record { number = m; again = false })) same took)
-    by _ (Give_up u x xs calls (inl none) whole) flies yet = absurd cc
-    by _ (Give_up u x xs calls (inr all) whole) flies yet = absurd cc
+    by _ (Give_up u x xs calls (inl none) other whole) flies yet = absurd cc
+    by _ (Give_up u x xs calls (inr all) other whole) flies yet = absurd cc
 
 pub commits_end : CommitsEnd
 commits_end t run front later c goes answered still =

@@ -18,6 +18,7 @@ use Rattle.run_laws.specs.Disks.{Strike, struck}
 use Rattle.run_laws.specs.Due.{Due, Tells, Falls, Pends, Gives_up, Delivers, Recovers, Cuts, Joins, Loses, Stops, Starts, Begins, Ends, if_due, call_due, act_of, next_command, next_give_up, next_delivery, most_of, next_pumped, flows, acts_first, acts_once, follows_first, falls_first, tells_first, due_of, turn_by, turn_comes, turn_at, start_by, delivery_at, happens, comes_next}
 use Rattle.run_laws.specs.Facts.{Facts, command_at, is_up, node_at, place_at}
 use Rattle.run_laws.specs.Lines.{spent}
+use Rattle.run_laws.specs.Past.{is_call}
 use Rattle.run_laws.specs.Telling.{Call, Past, Telling, orders_at}
 
 -- ---- a turn that is due
@@ -37,10 +38,10 @@ module _ (P : Happening → Type 0) (places : List Place) (p : Past) where
       by o (By_strike stands) = each _ refl refl
       by o (By_point root numbers stands) = each _ refl refl
 
-  pub delivery_is : (k : ℕ) (again : Bool) (o : Option Packet) (h : Happening) → ((u : Turn) → u.took ≡ Some (record { number = k; again = again }) → P (happenings.Turn u)) → delivery_at places p k again o ≡ Some h → P h
+  pub delivery_is : (k : ℕ) (again : Bool) (o : Option Packet) (h : Happening) → ((u : Turn) → is_call u.input ≡ false → u.took ≡ Some (record { number = k; again = again }) → P (happenings.Turn u)) → delivery_at places p k again o ≡ Some h → P h
   delivery_is k again None h each is = absurd cc
   delivery_is k again (Some x) h each is =
-      turn_is x.msg.to.node (inputs.Message x.msg) (Some (record { number = k; again = again })) (node_at p.facts x.msg.to.node) h (λ u input took. each u took) is
+      turn_is x.msg.to.node (inputs.Message x.msg) (Some (record { number = k; again = again })) (node_at p.facts x.msg.to.node) h (λ u input took. each u (ap is_call input) took) is
 
 -- ---- a command that begins
 
@@ -69,7 +70,7 @@ module _ (places : List Place) (asked : List Command) (p : Past) where
   begins_is (Falls n) c is = absurd (no_begin (happenings.Stopped n) c tt is)
   begins_is (Pends x) c is = absurd (turn_is IsNoBegin places p x.node (inputs.Call x.session x.statement) None (node_at f x.node) (happenings.Begun c) (λ u input took. tt) is)
   begins_is (Gives_up n s) c is = absurd (turn_is IsNoBegin places p n (inputs.GiveUp s) None (node_at f n) (happenings.Begun c) (λ u input took. tt) is)
-  begins_is (Delivers k again) c is = absurd (delivery_is IsNoBegin places p k again (packet_at f.net k) (happenings.Begun c) (λ u took. tt) is)
+  begins_is (Delivers k again) c is = absurd (delivery_is IsNoBegin places p k again (packet_at f.net k) (happenings.Begun c) (λ u other took. tt) is)
   begins_is (Recovers n) c is = absurd (turn_is IsNoBegin places p n inputs.Reco None (node_at f n) (happenings.Begun c) (λ u input took. tt) is)
   begins_is (Cuts a b) c is = absurd (no_begin (happenings.Cut a b) c tt is)
   begins_is (Joins a b) c is = absurd (no_begin (happenings.Join a b) c tt is)

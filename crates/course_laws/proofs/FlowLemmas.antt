@@ -18,7 +18,7 @@ use Rattle.run_laws.specs.Due.{Due, Tells, Gives_up, Delivers, Begins, Ends, nex
 use Rattle.run_laws.specs.Facts.{Facts, node_at, outcome_at}
 use Rattle.run_laws.specs.Headline.{IsBetween}
 use Rattle.run_laws.specs.Lines.{says_node, spent}
-use Rattle.run_laws.specs.Past.{delivered_more, without_following, ends_calls, telling_turned, next, past}
+use Rattle.run_laws.specs.Past.{delivered_more, is_call, without_following, ends_calls, telling_turned, next, past}
 use Rattle.run_laws.specs.Telling.{Call, Past, Telling}
 use Rattle.due_laws.proofs.PendingLemmas.{found_so, line_same}
 use Rattle.call_laws.proofs.ComeLemmas.{input_same}
@@ -90,8 +90,8 @@ module _ (node session : ℕ) where
 
   -- What comes next: a delivery, or a give-up where there is none to make.
   pub data Comes (p : Past) : Happening → Type 0 where
-    Delivery : (k : ℕ) (u : Turn) → first_flying p.facts.net ≡ Some k → spent p.telling.deliveries ≡ false → u.cut ≡ false → u.took ≡ Some (record { number = k; again = false }) → Comes p (happenings.Turn u)
-    Give_up : (u : Turn) (c : Call) (cs : List Call) → p.telling.calls ≡ c ∷ cs → (first_flying p.facts.net ≡ None) ⊎ (spent p.telling.deliveries ≡ true) → u.cut ≡ false → Comes p (happenings.Turn u)
+    Delivery : (k : ℕ) (u : Turn) → first_flying p.facts.net ≡ Some k → spent p.telling.deliveries ≡ false → is_call u.input ≡ false → u.cut ≡ false → u.took ≡ Some (record { number = k; again = false }) → Comes p (happenings.Turn u)
+    Give_up : (u : Turn) (c : Call) (cs : List Call) → p.telling.calls ≡ c ∷ cs → (first_flying p.facts.net ≡ None) ⊎ (spent p.telling.deliveries ≡ true) → is_call u.input ≡ false → u.cut ≡ false → Comes p (happenings.Turn u)
 
   module _ (places : List Place) (asked : List Command) where
     pub flows_turn : (p : Past) (u : Turn) → p.telling.hold ≡ false → p.telling.start_to_stop ≡ None → HasOne p.telling → u.cut ≡ false → Flows (next places asked p (happenings.Turn u))
@@ -135,7 +135,7 @@ module _ (node session : ℕ) where
 
         give_up_comes : (cs : List Call) → t.calls ≡ cs → (h : Happening) → GoesWell h → happens places p (next_give_up asked f cs) ≡ Some h → Comes p h
         give_up_comes [] at h well is = command_comes (nat_lt f.command (length asked)) h well is
-        give_up_comes (c ∷ cs) at h well is = turn_is (λ g. GoesWell g → Comes p g) places p c.node (inputs.GiveUp c.session) None (node_at f c.node) h (λ u input took so. Give_up u c cs at why so) is well
+        give_up_comes (c ∷ cs) at h well is = turn_is (λ g. GoesWell g → Comes p g) places p c.node (inputs.GiveUp c.session) None (node_at f c.node) h (λ u input took so. Give_up u c cs at why (ap is_call input) so) is well
 
         give_up_between : (cs : List Call) → t.calls ≡ cs → IsBetween (next_give_up asked f cs) → t.calls ≡ []
         give_up_between [] at is = at
@@ -147,7 +147,7 @@ module _ (node session : ℕ) where
         where
           by : (q : Bool) → spent t.deliveries ≡ q → happens places p (if q then next_give_up asked f t.calls else Delivers k false) ≡ Some h → Comes p h
           by true all due = give_up_comes (inr all) t.calls refl h well due
-          by false more due = delivery_is (λ g. GoesWell g → Comes p g) places p k false (packet_at f.net k) h (λ u took so. Delivery k u at more so took) due well
+          by false more due = delivery_is (λ g. GoesWell g → Comes p g) places p k false (packet_at f.net k) h (λ u other took so. Delivery k u at more other so took) due well
 
       delivery_between : (o : Option ℕ) → first_flying f.net ≡ o → IsBetween (next_delivery asked f t o) → ((first_flying f.net ≡ None) ⊎ (spent t.deliveries ≡ true)) × (t.calls ≡ [])
       delivery_between None at is = (inl at, give_up_between (inl at) t.calls refl is)
@@ -195,8 +195,8 @@ module _ (node session : ℕ) where
       pub more : p.telling.deliveries ≤ (next places asked p h).telling.deliveries
 
     pub further : (p : Past) (h : Happening) → Flows p → Comes p h → Further p h
-    further p _ flow (Delivery k u at few whole took) = record { whole = whole; flow = flows_turn p u flow.off flow.stands flow.one whole; more = more_deliveries p u }
-    further p _ flow (Give_up u c cs at why whole) = record { whole = whole; flow = flows_turn p u flow.off flow.stands flow.one whole; more = more_deliveries p u }
+    further p _ flow (Delivery k u at few other whole took) = record { whole = whole; flow = flows_turn p u flow.off flow.stands flow.one whole; more = more_deliveries p u }
+    further p _ flow (Give_up u c cs at why other whole) = record { whole = whole; flow = flows_turn p u flow.off flow.stands flow.one whole; more = more_deliveries p u }
 
     -- What the happenings of a command leave that goes well.
     pub record Course (p : Past) (hs : List Happening) : Type 0 where

@@ -2,7 +2,7 @@
 -- number, until none is in flight; then the call has been answered, and the next command begins. So an administrator sees
 -- that a COMMIT that nothing disturbs is complete in its own command. (Database Administrator's Guide, "Distributed
 -- Transactions Concepts": two-phase commit mechanism.)
-use Rattle.std.specs.Prelude.{◌≡◌, ℕ, ◌∷◌, ◌++◌, false, List, [], Some, None}
+use Rattle.std.specs.Prelude.{◌≡◌, ℕ, ◌<◌, ◌∷◌, ◌++◌, false, List, [], length, Some, None}
 use Rattle.std.specs.List.{AllByRecursion}
 use Rattle.node_rules.specs.Data.{Place}
 use Rattle.node_rules.specs.Data.stmts
@@ -14,11 +14,11 @@ use Rattle.run_laws.specs.Data.happenings
 use Rattle.run_laws.specs.Due.{next_command, due_of}
 use Rattle.run_laws.specs.Facts.{command_at}
 use Rattle.run_laws.specs.Headline.{IsBetween, IsTheRunOf}
-use Rattle.run_laws.specs.Lawful.{History}
+use Rattle.run_laws.specs.Lawful.{History, IsLawfulRun}
 use Rattle.run_laws.specs.Lines.{spent}
 use Rattle.run_laws.specs.Past.{past}
 use Rattle.run_laws.specs.Telling.{Past, start}
-use Rattle.commit_laws.specs.Undisturbed.{Commit, Undisturbed, IsComplete, UndisturbedCommitsAreComplete, LostNone, HasNotStopped, IsCalm, facts_by, branches_by, answers_from}
+use Rattle.commit_laws.specs.Undisturbed.{Commit, Undisturbed, IsComplete, UndisturbedCommitsAreComplete, IsDelivery, LostNone, HasNotStopped, IsCalm, facts_by, branches_by, answers_from}
 
 -- what these happenings leave, with what is told of them
 abbrev pub past_by : List Place → List Command → List Happening → Past
@@ -83,16 +83,30 @@ pub record QuietCommit (t : History) (front later : List Happening) (c : Commit 
   pub stopped : AllByRecursion (HasNotStopped (facts_by t.places t.commands front)) (branches_by t.places t.commands front c.root)
   pub calm : AllByRecursion (IsCalm (branches_by t.places t.commands front c.root)) front
 
+-- Such a COMMIT is undisturbed, and it is complete when its command is done.
+abbrev pub IsDone : (t : History) (front : List Happening) → Commit t.places t.commands front → Type 0
+IsDone t front c = Undisturbed t.places t.commands front c × IsComplete t.places t.commands front c
+
+-- In the run of a script each quiet COMMIT is.
+abbrev pub QuietCommitsAreComplete : Type 0
+QuietCommitsAreComplete = (t : History) → IsTheRunOf t → (front later : List Happening) (c : Commit t.places t.commands front) → QuietCommit t front later c → IsDone t front c
+
+-- ---- on what that stands
+
 -- fewer than 4,096 messages were delivered in the command
 abbrev pub HasFewDeliveries : (t : History) (front : List Happening) → Type 0
 HasFewDeliveries t front = spent (past_by t.places t.commands front).telling.deliveries ≡ false
 
--- In the run of a script a quiet COMMIT, where fewer than 4,096 messages are delivered in its command, is undisturbed, and it
--- is complete when its command is done.
-abbrev pub QuietCommitsAreComplete : Type 0
-QuietCommitsAreComplete = (t : History) → IsTheRunOf t → (front later : List Happening) (c : Commit t.places t.commands front) → QuietCommit t front later c → HasFewDeliveries t front
-    → Undisturbed t.places t.commands front c × IsComplete t.places t.commands front c
+-- a quiet COMMIT with fewer than 4,096 deliveries is so, where every undisturbed COMMIT is complete
+abbrev pub ShortCommitsFollow : Type 0
+ShortCommitsFollow = UndisturbedCommitsAreComplete → (t : History) → IsTheRunOf t → (front later : List Happening) (c : Commit t.places t.commands front) → QuietCommit t front later c → HasFewDeliveries t front
+    → IsDone t front c
 
--- It is so where undisturbed COMMITs are complete.
+-- in every lawful run fewer than 4,096 messages are delivered in the course of a COMMIT that deliveries alone follow
+abbrev pub FewAreDelivered : Type 0
+FewAreDelivered = (t : History) → IsLawfulRun t → (c : Commit t.places t.commands t.trace) → first_flying (facts_by t.places t.commands c.before).net ≡ None → AllByRecursion IsDelivery c.during
+    → AllByRecursion (IsCalm (branches_by t.places t.commands t.trace c.root)) t.trace → length c.during < 4096
+
+-- each quiet COMMIT is so, where that holds too
 abbrev pub QuietCommitsFollow : Type 0
-QuietCommitsFollow = UndisturbedCommitsAreComplete → QuietCommitsAreComplete
+QuietCommitsFollow = UndisturbedCommitsAreComplete → FewAreDelivered → QuietCommitsAreComplete

@@ -3,7 +3,7 @@
 #![tactic(auto)]
 
 ghost use Rattle.course_laws.specs.CommandCalls.{HoldIsKept, CommandsFindNoCall, CommandsHoldTheirCall};
-ghost use Rattle.course_laws.specs.CommitCourse.{CommitsFlow, CommitsEnd, QuietCommitsFollow};
+ghost use Rattle.course_laws.specs.CommitCourse.{CommitsFlow, CommitsEnd, ShortCommitsFollow, QuietCommitsFollow};
 
 /// Only HOLD ON and HOLD OFF change HOLD.
 pub fn hold_is_kept()
@@ -30,8 +30,13 @@ pub fn commits_end()
     ensures { CommitsEnd }
 {}
 
-/// A quiet COMMIT is undisturbed, and complete when its command is done, where undisturbed COMMITs are complete and fewer than
-/// 4,096 messages are delivered in the command.
+/// A quiet COMMIT in whose command fewer than 4,096 messages are delivered is undisturbed, and complete when its command is
+/// done, where undisturbed COMMITs are complete.
+pub fn short_commits_follow()
+    ensures { ShortCommitsFollow }
+{}
+
+/// Each quiet COMMIT is, where fewer are delivered in the course of every COMMIT that nothing disturbs.
 pub fn quiet_commits_follow()
     ensures { QuietCommitsFollow }
 {}
