@@ -4,8 +4,8 @@ use Rattle.std.specs.List.{AllByRecursion}
 use Rattle.std.proofs.lemmas.Bool.{eqb-true}
 use Rattle.node_rules.specs.Data.{Answer, Place, Stmt}
 use Rattle.node_rules.specs.declared.session.Finished.{Finished}
-use Rattle.node_rules.specs.Kept.{Kept, Outcome}
-use Rattle.run_laws.specs.Calls.{is_call_at, call_at, without_call, ends_or_follows, finished_call, finished, after_input}
+use Rattle.node_rules.specs.Kept.{Outcome}
+use Rattle.run_laws.specs.Calls.{is_call_at, call_at, without_call, ends_or_follows, finished_call, finished}
 use Rattle.run_laws.specs.Cuts.{turn_appends}
 use Rattle.run_laws.specs.Data.{Command, Happening, Turn}
 use Rattle.run_laws.specs.Data.happenings

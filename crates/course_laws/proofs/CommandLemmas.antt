@@ -1,25 +1,24 @@
 -- HOLD stays as its commands leave it, a command begins with HOLD off only where no call is pending, and so the pending calls
 -- are the running command's.
-use Rattle.std.proofs.Common.{◌≡◌, ℕ, zero, suc, ◌+◌, ◌&&◌, not, Bool, true, false, if◌then◌else◌, List, [], ◌∷◌, ◌++◌, slice_get, Option, Some, None, inl, inr, refl, sym, ap, subst, ◌∙◌, arith}
+use Rattle.std.proofs.Common.{◌≡◌, ℕ, zero, suc, ◌+◌, ◌&&◌, not, Bool, false, [], ◌∷◌, ◌++◌, slice_get, Option, Some, None, refl, sym, ap, subst, ◌∙◌, arith}
 use Rattle.std.specs.List.{AllByRecursion}
 use Rattle.std.proofs.lemmas.Bool.{cond_both}
 use Rattle.node_rules.specs.Data.{Stmt}
-use Rattle.run_laws.specs.Calls.{second_of, stopped_calls}
-use Rattle.run_laws.specs.Commands.{begins, hold_after, calls_after, call_of, commits_first, has_call, has_transaction}
+use Rattle.run_laws.specs.Calls.{stopped_calls}
+use Rattle.run_laws.specs.Commands.{hold_after, calls_after, call_of, commits_first, has_call, has_transaction}
 use Rattle.run_laws.specs.Data.{Command, Happening}
 use Rattle.run_laws.specs.Data.commands
 use Rattle.run_laws.specs.Data.happenings
 use Rattle.run_laws.specs.Due.{comes_next}
 use Rattle.run_laws.specs.Facts.{Facts, command_at, facts_after, is_up, node_at, outcome_at}
-use Rattle.run_laws.specs.Headline.{IsTheRunOf}
 use Rattle.run_laws.specs.Lawful.{History}
 use Rattle.run_laws.specs.Lines.{with_stop}
-use Rattle.run_laws.specs.Past.{past, next, telling_after, telling_stopped, stop_line, is_stop_of, start_refused, failed_start}
+use Rattle.run_laws.specs.Past.{past, telling_after, telling_stopped, is_stop_of, start_refused, failed_start}
 use Rattle.run_laws.specs.Places.{past_upto}
 use Rattle.run_laws.specs.Telling.{Call, Past, Telling}
 use Rattle.call_laws.proofs.UptoLemmas.{one_more, none_more, next_is, due_at}
 use Rattle.course_laws.specs.CommandCalls.{is_hold, hold_by, HoldIsKept, CommandsFindNoCall, HasItsCallAlone, CommandsHoldTheirCall}
-use Rattle.course_laws.proofs.WayLemmas.{SameWay, way_then, stopped_way, turn_way, stopped_so, turn_so}
+use Rattle.course_laws.proofs.WayLemmas.{stopped_way, turn_way, stopped_so, turn_so}
 use Rattle.course_laws.proofs.DueLemmas.{begun_alone}
 
 module _ (t : History) (p : Past) where

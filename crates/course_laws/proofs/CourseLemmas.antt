@@ -1,10 +1,10 @@
 -- The turn of a COMMIT's call in the run of a script, and what comes after it in its command.
-use Rattle.std.proofs.Common.{◌≡◌, ℕ, zero, suc, ◌+◌, ◌==◌, ◌&&◌, Bool, true, false, List, [], ◌∷◌, ◌++◌, length, slice_get, Option, Some, None, inl, inr, refl, sym, ap, subst, ◌∙◌}
+use Rattle.std.proofs.Common.{◌≡◌, ℕ, ◌==◌, ◌&&◌, Bool, true, false, List, [], ◌∷◌, ◌++◌, length, slice_get, Option, Some, None, inl, inr, refl, sym, ap, subst, ◌∙◌}
 use Rattle.std.specs.Prelude.{take}
 use Rattle.std.specs.List.{AllByRecursion}
 use Rattle.std.proofs.lemmas.Bool.{eq-eqb}
 use Rattle.std.proofs.lemmas.List.{append_assoc}
-use Rattle.node_rules.specs.Data.{Answer, Input, Place, Stmt}
+use Rattle.node_rules.specs.Data.{Input, Place, Stmt}
 use Rattle.node_rules.specs.Data.inputs
 use Rattle.node_rules.specs.Data.stmts
 use Rattle.node_rules.specs.Kept.{Kept}
@@ -16,7 +16,7 @@ use Rattle.run_laws.specs.Data.{Command, Happening, Took, Turn}
 use Rattle.run_laws.specs.Data.commands
 use Rattle.run_laws.specs.Data.happenings
 use Rattle.run_laws.specs.Due.{next_command, due_of, comes_next, IsTheRun}
-use Rattle.run_laws.specs.Facts.{Facts, command_at, node_at, outcome_at, first_facts, facts_after, facts_of}
+use Rattle.run_laws.specs.Facts.{Facts, command_at, node_at, outcome_at}
 use Rattle.run_laws.specs.Headline.{IsTheRunOf}
 use Rattle.run_laws.specs.Lawful.{History, IsSettled, MayTurn}
 use Rattle.run_laws.specs.Lawful.{Comes as Comes_lawful}
@@ -31,7 +31,7 @@ use Rattle.call_laws.proofs.CallTurnLemmas.{all_so}
 use Rattle.call_laws.proofs.UptoLemmas.{due_at, may_at}
 use Rattle.commit_laws.specs.Undisturbed.{Commit, facts_by, answers_from}
 use Rattle.course_laws.specs.CommandCalls.{is_hold}
-use Rattle.course_laws.specs.CommitCourse.{past_by, GoesWell, IsUnderWay, Delivers, CommitsFlow, IsAnswered, IsStill, CommitsEnd}
+use Rattle.course_laws.specs.CommitCourse.{past_by, IsUnderWay, Delivers, CommitsFlow, CommitsEnd}
 use Rattle.course_laws.proofs.CommandLemmas.{commands_hold_their_call, fresh_deliveries}
 use Rattle.course_laws.proofs.WayLemmas.{turn_way}
 use Rattle.course_laws.proofs.DueLemmas.{stands_here, follows_here}
@@ -40,11 +40,11 @@ use Rattle.course_laws.proofs.AnsweredLemmas.{none_pending, answered_none}
 
 -- ---- lists
 
-slice_mid : {A : Type 0} (xs : List A) (x : A) (ys : List A) → slice_get (xs ++ x ∷ ys) (length xs) ≡ Some x
+pub slice_mid : {A : Type 0} (xs : List A) (x : A) (ys : List A) → slice_get (xs ++ x ∷ ys) (length xs) ≡ Some x
 slice_mid [] x ys = refl
 slice_mid (y ∷ xs) x ys = slice_mid xs x ys
 
-take_first : {A : Type 0} (xs ys : List A) → take (length xs) (xs ++ ys) ≡ xs
+pub take_first : {A : Type 0} (xs ys : List A) → take (length xs) (xs ++ ys) ≡ xs
 take_first [] [] = refl
 take_first [] (y ∷ ys) = refl
 take_first (x ∷ xs) ys = ap (λ zs. x ∷ zs) (take_first xs ys)
@@ -93,22 +93,22 @@ module _ (t : History) (run : IsTheRunOf t) (front later : List Happening) (c : 
   pub parts : c.before ++ happenings.Turn c.call ∷ (c.during ++ later) ≡ t.trace
   parts = sym (append_assoc c.before (happenings.Turn c.call ∷ c.during) later) ∙ (ap (λ hs. hs ++ later) c.is ∙ goes.within)
 
-  there : slice_get t.trace i ≡ Some (happenings.Turn c.call)
+  pub there : slice_get t.trace i ≡ Some (happenings.Turn c.call)
   there = ap (λ hs. slice_get hs i) (sym parts) ∙ slice_mid c.before (happenings.Turn c.call) (c.during ++ later)
 
-  upto : past_upto t i ≡ p
+  pub upto : past_upto t i ≡ p
   upto = ap (past t.places t.commands (start t.places)) (ap (take i) (sym parts) ∙ take_first c.before (happenings.Turn c.call ∷ (c.during ++ later)))
 
   due : comes_next t.places t.commands p ≡ Some (happenings.Turn c.call)
   due = subst (λ q. comes_next t.places t.commands q ≡ Some (happenings.Turn c.call)) upto (due_at t run i (happenings.Turn c.call) there)
 
-  facts_before : p.facts ≡ facts_by t.places t.commands c.before
+  pub facts_before : p.facts ≡ facts_by t.places t.commands c.before
   facts_before = facts_are t.places t.commands (start t.places) c.before
 
-  own : command_at t.commands p.facts.command ≡ commands.At c.call.node c.session (Some (stmts.Commit c.comment))
+  pub own : command_at t.commands p.facts.command ≡ commands.At c.call.node c.session (Some (stmts.Commit c.comment))
   own = ap (λ (f : Facts). command_at t.commands f.command) facts_before ∙ goes.own
 
-  its : AllByRecursion (λ (x : Call). x.command ≡ p.facts.command) p.telling.calls
+  pub its : AllByRecursion (λ (x : Call). x.command ≡ p.facts.command) p.telling.calls
   its = subst (λ (q : Past). q.telling.hold ≡ false → is_hold (command_at t.commands q.facts.command) ≡ false → AllByRecursion (λ (x : Call). x.command ≡ q.facts.command) q.telling.calls) upto (commands_hold_their_call t run i) goes.off (ap is_hold own)
 
   shapes : AllByRecursion (HasShape t.commands) p.telling.calls
@@ -212,9 +212,9 @@ module _ (t : History) (run : IsTheRunOf t) (front later : List Happening) (c : 
   answered_so hs whole answers =
       none_pending (past t.places t.commands first hs).telling.calls
       (answered_none c.call.node c.session t.places t.commands p (happenings.Turn c.call ∷ hs) one_call (goes.whole, whole)
-          (λ none. (let it : answers_from t.places t.commands p.facts c.call.node c.session (happenings.Turn c.call ∷ hs) ≡ commit_complete ∷ []
-          = ap (λ f. answers_from t.places t.commands f c.call.node c.session (happenings.Turn c.call ∷ hs)) facts_before ∙ answers in
-          let no : [] ≡ commit_complete ∷ [] = sym none ∙ it in absurd cc)))
+      (λ none. (let it : answers_from t.places t.commands p.facts c.call.node c.session (happenings.Turn c.call ∷ hs) ≡ commit_complete ∷ []
+      = ap (λ f. answers_from t.places t.commands f c.call.node c.session (happenings.Turn c.call ∷ hs)) facts_before ∙ answers in
+      let no : [] ≡ commit_complete ∷ [] = sym none ∙ it in absurd cc)))
 
 -- ---- the laws
 

@@ -1,7 +1,6 @@
 -- What is due while HOLD is off: the next message in flight, a give-up, or the next command, which comes only where no call is
 -- pending.
-use Rattle.std.proofs.Common.{◌≡◌, ℕ, ◌+◌, ◌==◌, ◌&&◌, not, Bool, true, false, if◌then◌else◌, List, [], ◌∷◌, length, is_some, Option, Some, None, refl, sym, ap, subst, ◌∙◌}
-use Rattle.std.specs.Prelude.{nat_lt}
+use Rattle.std.proofs.Common.{◌≡◌, ℕ, ◌==◌, ◌&&◌, not, Bool, true, false, if◌then◌else◌, List, [], ◌∷◌, is_some, Option, Some, None, refl, sym, ap, subst, ◌∙◌}
 use Rattle.std.proofs.lemmas.Bool.{cond_both}
 use Rattle.node_rules.specs.Data.{Input, Place}
 use Rattle.node_rules.specs.Data.inputs
@@ -15,7 +14,7 @@ use Rattle.run_laws.specs.Data.{Command, Happening, Packet, Took, Turn}
 use Rattle.run_laws.specs.Data.commands
 use Rattle.run_laws.specs.Data.happenings
 use Rattle.run_laws.specs.Disks.{Strike, struck}
-use Rattle.run_laws.specs.Due.{Due, Tells, Falls, Pends, Gives_up, Delivers, Recovers, Cuts, Joins, Loses, Stops, Starts, Begins, Ends, if_due, call_due, act_of, next_command, next_give_up, next_delivery, most_of, next_pumped, flows, acts_first, acts_once, follows_first, falls_first, tells_first, due_of, turn_by, turn_comes, turn_at, start_by, delivery_at, happens, comes_next}
+use Rattle.run_laws.specs.Due.{Due, Tells, Falls, Pends, Gives_up, Delivers, Recovers, Cuts, Joins, Loses, Stops, Starts, Begins, Ends, if_due, call_due, act_of, next_give_up, next_delivery, most_of, next_pumped, flows, acts_first, acts_once, follows_first, falls_first, tells_first, due_of, turn_by, turn_comes, turn_at, start_by, delivery_at, happens, comes_next}
 use Rattle.run_laws.specs.Facts.{Facts, command_at, is_up, node_at, place_at}
 use Rattle.run_laws.specs.Lines.{spent}
 use Rattle.run_laws.specs.Past.{is_call}
@@ -210,4 +209,4 @@ module _ (places : List Place) (asked : List Command) (p : Past) where
       pub flow_due : t.next_call ≡ None → t.acted ≡ true → t.hold ≡ false → due_of asked p ≡ next_delivery asked f t (first_flying f.net)
       flow_due alone acted off =
           follows_due ∙ (ap (follows_first (acts_once asked f t)) alone ∙ (ap (λ q. if q then flows asked f t else acts_first (flows asked f t) (act_of f t (command_at asked f.command))) acted
-              ∙ ap (λ q. if q then next_pumped asked f t (most_of (command_at asked f.command)) (first_flying f.net) else next_delivery asked f t (first_flying f.net)) off))
+          ∙ ap (λ q. if q then next_pumped asked f t (most_of (command_at asked f.command)) (first_flying f.net) else next_delivery asked f t (first_flying f.net)) off))

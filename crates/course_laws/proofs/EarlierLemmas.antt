@@ -3,7 +3,6 @@
 use Rattle.std.proofs.Common.{◌≡◌, ℕ, zero, suc, ◌&&◌, ◌||◌, Bool, true, false, if◌then◌else◌, cond, List, [], ◌∷◌, ◌++◌, map, filter, length, option_map, slice_get, slice_set, IfSome, Option, Some, None, inl, inr, refl, sym, ap, subst, ◌∙◌, append-nil}
 use Rattle.std.specs.List.{AllByRecursion}
 use Rattle.std.specs.Option.{option_to_list}
-use Rattle.std.proofs.lemmas.Bool.{or_right}
 use Rattle.std.proofs.lemmas.List.{append_assoc}
 use Rattle.node_rules.specs.Data.{BranchId, Input, Msg, Place}
 use Rattle.node_rules.specs.Data.inputs
@@ -233,5 +232,5 @@ module _ (t : History) (lawful : IsLawfulRun t) where
     stopped_back hs (happenings.Turn u ∷ mid) rest is whole stays =
         stopped_turn hs (mid ++ rest) u whole.0 is
         (stopped_back (hs ++ happenings.Turn u ∷ []) mid rest (append_assoc hs (happenings.Turn u ∷ []) (mid ++ rest) ∙ is) whole.1
-            (subst (λ xs. HasNotStopped (f_at t xs) b) (sym (append_assoc hs (happenings.Turn u ∷ []) mid)) stays))
+        (subst (λ xs. HasNotStopped (f_at t xs) b) (sym (append_assoc hs (happenings.Turn u ∷ []) mid)) stays))
     stopped_back hs (h ∷ mid) rest is whole stays = absurd whole.0

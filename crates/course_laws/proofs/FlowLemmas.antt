@@ -1,20 +1,19 @@
 -- While a command goes well with HOLD off, and nothing but the one call of its session is pending: the next happening is the
 -- delivery of the first message in flight, or that call is given up.
 use Rattle.std.proofs.Common.{◌≡◌, ℕ, ◌+◌, ◌≤◌, ◌⊎◌, Bool, true, false, if◌then◌else◌, List, [], ◌∷◌, ◌++◌, length, Option, Some, None, inl, inr, refl, sym, ap, subst, ◌∙◌, arith}
-use Rattle.std.specs.Prelude.{nat_lt, nat_le}
+use Rattle.std.specs.Prelude.{nat_lt}
 use Rattle.std.specs.List.{AllByRecursion}
-use Rattle.std.proofs.lemmas.Bool.{cond_both}
 use Rattle.std.proofs.lemmas.Bool.Decides.{nat_tests}
 use Rattle.node_rules.specs.Data.{Place, Stmt}
 use Rattle.node_rules.specs.Data.inputs
 use Rattle.node_rules.specs.declared.session.Finished.{Finished}
 use Rattle.node_rules.specs.Kept.{Kept, Outcome}
 use Rattle.net_bag.specs.Net.{first_flying, packet_at}
-use Rattle.run_laws.specs.Calls.{is_call_at, call_at, without_call, second_of, ends_or_follows, finished_call, finished, after_input}
+use Rattle.run_laws.specs.Calls.{is_call_at, call_at, without_call, ends_or_follows, finished_call, finished}
 use Rattle.run_laws.specs.Cuts.{turn_appends}
 use Rattle.run_laws.specs.Data.{Command, Happening, Took, Turn}
 use Rattle.run_laws.specs.Data.happenings
-use Rattle.run_laws.specs.Due.{Due, Tells, Gives_up, Delivers, Begins, Ends, next_command, next_give_up, next_delivery, due_of, happens, comes_next, IsTheRun}
+use Rattle.run_laws.specs.Due.{Tells, Delivers, Begins, Ends, next_command, next_give_up, next_delivery, due_of, happens, comes_next, IsTheRun}
 use Rattle.run_laws.specs.Facts.{Facts, node_at, outcome_at}
 use Rattle.run_laws.specs.Headline.{IsBetween}
 use Rattle.run_laws.specs.Lines.{says_node, spent}
@@ -23,7 +22,7 @@ use Rattle.run_laws.specs.Telling.{Call, Past, Telling}
 use Rattle.due_laws.proofs.PendingLemmas.{found_so, line_same}
 use Rattle.call_laws.proofs.ComeLemmas.{input_same}
 use Rattle.course_laws.specs.CommitCourse.{GoesWell}
-use Rattle.course_laws.proofs.WayLemmas.{Before, Turned, turn_before, turn_way, finished_so}
+use Rattle.course_laws.proofs.WayLemmas.{turn_before, turn_way, finished_so}
 use Rattle.course_laws.proofs.DueLemmas.{turn_is, delivery_is, told_first, flow_due}
 
 -- a turn that is whole

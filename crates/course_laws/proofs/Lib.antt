@@ -5,4 +5,6 @@ pub mod FlowLemmas
 pub mod AnsweredLemmas
 pub mod CourseLemmas
 pub mod EarlierLemmas
+pub mod ToldLemmas
 pub mod QuietLemmas
+mod TriedCourseLemmas

@@ -1,6 +1,6 @@
 -- A quiet COMMIT is undisturbed, and complete when its command is done: at the first moment at which nothing is in flight it has
 -- been answered, so no call is given up, and nothing comes but the next command.
-use Rattle.std.proofs.Common.{◌≡◌, ℕ, ◌+◌, ◌<◌, ◌≤◌, ◌⊎◌, Bool, true, false, List, [], ◌∷◌, ◌++◌, length, None, inl, inr, refl, sym, ap, subst, ◌∙◌, arith}
+use Rattle.std.proofs.Common.{◌≡◌, ℕ, ◌+◌, ◌<◌, ◌≤◌, Bool, true, false, List, [], ◌∷◌, ◌++◌, length, None, inl, inr, refl, sym, ap, subst, ◌∙◌, arith}
 use Rattle.std.specs.List.{AllByRecursion}
 use Rattle.std.proofs.lemmas.Bool.Decides.{nat_tests}
 use Rattle.std.proofs.lemmas.List.{append_assoc}
@@ -21,13 +21,14 @@ use Rattle.run_laws.proofs.FactLemmas.{facts_are}
 use Rattle.run_laws.proofs.ListLemmas.{all_weaker}
 use Rattle.due_laws.proofs.RunLawfulLemmas.{the_run_is_lawful}
 use Rattle.tree_laws.proofs.PrefixLemmas.{so_far, births_join, facts_join}
-use Rattle.site_laws.proofs.TimeLemmas.{Part, part_lawful}
+use Rattle.site_laws.proofs.TimeLemmas.{part_lawful}
 use Rattle.commit_laws.specs.Undisturbed.{Commit, Undisturbed, IsComplete, UndisturbedCommitsAreComplete, IsDelivery, LostNone, HasNotStopped, IsCalm, facts_by, branches_in, branches_by}
-use Rattle.course_laws.specs.CommitCourse.{past_by, GoesWell, QuietCommit, HasFewDeliveries, FewAreDelivered, ShortCommitsFollow, QuietCommitsFollow}
+use Rattle.course_laws.specs.CommitCourse.{GoesWell, QuietCommit, HasFewDeliveries, FewAreDelivered, IsDone, ShortCommitsFollow, QuietCommitsFollow}
 use Rattle.run_laws.proofs.PastLemmas.{past_on}
 use Rattle.course_laws.proofs.WayLemmas.{turn_way}
-use Rattle.course_laws.proofs.FlowLemmas.{IsWholeTurn, Flows, more_deliveries, Comes, Delivery, Give_up, comes_so, between_so, Further, further, Course, course, still_spent}
-use Rattle.course_laws.proofs.CourseLemmas.{first, first_none, first_flows, first_run, past_is, end_is, facts_end, its_course, answered_so, parts}
+use Rattle.course_laws.proofs.FlowLemmas.{IsWholeTurn, Flows, more_deliveries, Comes, Delivery, Give_up, comes_so, between_so, Further, further, Course, still_spent}
+use Rattle.course_laws.proofs.CourseLemmas.{first, first_none, first_flows, first_run, past_is, end_is, facts_end, its_course, answered_so}
+use Rattle.course_laws.proofs.ToldLemmas.{answered_commits_are_told}
 use Rattle.course_laws.proofs.EarlierLemmas.{all_front, all_back, lost_back, births_more, among_more, all_fewer, lost_fewer, calm_fewer, stopped_back}
 
 -- ---- deliveries alone
@@ -231,8 +232,10 @@ module _ (complete : UndisturbedCommitsAreComplete) (t : History) (run : IsTheRu
       calm = quiet.calm;
     }
 
-    pub its_end : Undisturbed t.places t.commands front c × IsComplete t.places t.commands front c
-    its_end = (undisturbed, complete (so_far t front) (part_lawful t lawful front (record { rest = later; is = quiet.goes.within })) c undisturbed)
+    pub its_end : IsDone t front c
+    its_end =
+        let end : IsComplete t.places t.commands front c = complete (so_far t front) (part_lawful t lawful front (record { rest = later; is = quiet.goes.within })) c undisturbed in
+        record { undisturbed = undisturbed; complete = end; told = answered_commits_are_told t run front later c quiet.goes end.answered }
 
   pub few_at_end : HasFewDeliveries t front → StayFew c.call.node c.session t.places t.commands p c.during
   few_at_end few = few_by_end c.call.node c.session t.places t.commands p c.during way.whole (ap (λ (q : Past). spent q.telling.deliveries) (sym (end_is t run front later c quiet.goes)) ∙ few)

@@ -1,5 +1,5 @@
 -- What a turn and a stop leave of HOLD, of the count of deliveries and of the pending calls.
-use Rattle.std.proofs.Common.{◌≡◌, ℕ, ◌+◌, ◌==◌, ◌&&◌, not, Bool, true, false, List, [], ◌∷◌, map, filter, find, is_none, Option, Some, None, refl, sym, ap, subst, ◌∙◌}
+use Rattle.std.proofs.Common.{◌≡◌, ℕ, ◌+◌, ◌==◌, ◌&&◌, not, Bool, true, false, List, [], ◌∷◌, map, is_none, Option, Some, None, refl, sym, ap, subst, ◌∙◌}
 use Rattle.std.specs.Prelude.{is_some}
 use Rattle.std.specs.List.{AllByRecursion}
 use Rattle.std.proofs.lemmas.Bool.{cond_both}
@@ -13,7 +13,7 @@ use Rattle.node_rules.specs.Sessions.{session_at}
 use Rattle.run_laws.specs.Calls.{is_call_at, call_at, without_call, change_call, is_complete, second_of, call_follows, call_ends, ends_or_follows, finished_call, finished, stopped_calls, waits, waits_if_pending, after_input}
 use Rattle.run_laws.specs.Cuts.{Cut_by, By_nothing, By_strike, By_point, appends_if, cut_appends, cut_by, arms_point, arms, turn_appends}
 use Rattle.run_laws.specs.Data.{Said, Took, Turn}
-use Rattle.run_laws.specs.Lines.{is_down, is_reached, says_node, call_line_of, reached_line, call_line}
+use Rattle.run_laws.specs.Lines.{is_down, says_node, call_line_of, reached_line, call_line}
 use Rattle.run_laws.specs.Past.{delivered_more, is_call, without_following, ends_calls, telling_turned}
 use Rattle.run_laws.specs.Telling.{Call, Telling}
 use Rattle.run_laws.proofs.ListLemmas.{all_filter}

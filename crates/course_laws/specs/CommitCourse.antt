@@ -2,7 +2,7 @@
 -- number, until none is in flight; then the call has been answered, and the next command begins. So an administrator sees
 -- that a COMMIT that nothing disturbs is complete in its own command. (Database Administrator's Guide, "Distributed
 -- Transactions Concepts": two-phase commit mechanism.)
-use Rattle.std.specs.Prelude.{◌≡◌, ℕ, ◌<◌, ◌∷◌, ◌++◌, false, List, [], length, Some, None}
+use Rattle.std.specs.Prelude.{◌≡◌, ℕ, ◌<◌, ◌∷◌, ◌++◌, false, List, [], length, slice_get, Some, None}
 use Rattle.std.specs.List.{AllByRecursion}
 use Rattle.node_rules.specs.Data.{Place}
 use Rattle.node_rules.specs.Data.stmts
@@ -17,6 +17,7 @@ use Rattle.run_laws.specs.Headline.{IsBetween, IsTheRunOf}
 use Rattle.run_laws.specs.Lawful.{History, IsLawfulRun}
 use Rattle.run_laws.specs.Lines.{spent}
 use Rattle.run_laws.specs.Past.{past}
+use Rattle.run_laws.specs.Places.{node_line, told_of}
 use Rattle.run_laws.specs.Telling.{Past, start}
 use Rattle.commit_laws.specs.Undisturbed.{Commit, Undisturbed, IsComplete, UndisturbedCommitsAreComplete, IsDelivery, LostNone, HasNotStopped, IsCalm, facts_by, branches_by, answers_from}
 
@@ -68,6 +69,14 @@ abbrev pub CommitsEnd : Type 0
 CommitsEnd = (t : History) → IsTheRunOf t → (front later : List Happening) (c : Commit t.places t.commands front) → IsUnderWay t front later c → IsAnswered t front c → IsStill t front
     → ((past_by t.places t.commands front).telling.calls ≡ []) × (due_of t.commands (past_by t.places t.commands front) ≡ next_command t.commands (facts_by t.places t.commands front))
 
+-- the report has the line of a COMMIT's command: Commit complete
+abbrev pub IsToldComplete : (t : History) (front : List Happening) → Commit t.places t.commands front → Type 0
+IsToldComplete t front c = (i : ℕ) × (slice_get (told_of t) i ≡ Some (node_line (facts_by t.places t.commands c.before).command commit_complete))
+
+-- In the run of a script, where such a COMMIT has been answered in its command, the report says so.
+abbrev pub AnsweredCommitsAreTold : Type 0
+AnsweredCommitsAreTold = (t : History) → IsTheRunOf t → (front later : List Happening) (c : Commit t.places t.commands front) → IsUnderWay t front later c → IsAnswered t front c → IsToldComplete t front c
+
 -- ---- a quiet COMMIT
 
 -- A COMMIT of the run of a script is quiet: no statement of its transaction asked for a rollback; HOLD is off and nothing is
@@ -83,9 +92,11 @@ pub record QuietCommit (t : History) (front later : List Happening) (c : Commit 
   pub stopped : AllByRecursion (HasNotStopped (facts_by t.places t.commands front)) (branches_by t.places t.commands front c.root)
   pub calm : AllByRecursion (IsCalm (branches_by t.places t.commands front c.root)) front
 
--- Such a COMMIT is undisturbed, and it is complete when its command is done.
-abbrev pub IsDone : (t : History) (front : List Happening) → Commit t.places t.commands front → Type 0
-IsDone t front c = Undisturbed t.places t.commands front c × IsComplete t.places t.commands front c
+-- A COMMIT is undisturbed, it is complete when its command is done, and the report says so.
+pub record IsDone (t : History) (front : List Happening) (c : Commit t.places t.commands front) : Type 0 where
+  pub undisturbed : Undisturbed t.places t.commands front c
+  pub complete : IsComplete t.places t.commands front c
+  pub told : IsToldComplete t front c
 
 -- In the run of a script each quiet COMMIT is.
 abbrev pub QuietCommitsAreComplete : Type 0

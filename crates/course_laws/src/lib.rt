@@ -3,7 +3,8 @@
 #![tactic(auto)]
 
 ghost use Rattle.course_laws.specs.CommandCalls.{HoldIsKept, CommandsFindNoCall, CommandsHoldTheirCall};
-ghost use Rattle.course_laws.specs.CommitCourse.{CommitsFlow, CommitsEnd, ShortCommitsFollow, QuietCommitsFollow};
+ghost use Rattle.course_laws.specs.CommitCourse.{CommitsFlow, CommitsEnd, AnsweredCommitsAreTold, ShortCommitsFollow, QuietCommitsFollow};
+ghost use Rattle.course_laws.specs.TriedCourse.{TheTriedCourse};
 
 /// Only HOLD ON and HOLD OFF change HOLD.
 pub fn hold_is_kept()
@@ -30,6 +31,11 @@ pub fn commits_end()
     ensures { CommitsEnd }
 {}
 
+/// Where such a COMMIT has been answered in its command, the report has its line, Commit complete.
+pub fn answered_commits_are_told()
+    ensures { AnsweredCommitsAreTold }
+{}
+
 /// A quiet COMMIT in whose command fewer than 4,096 messages are delivered is undisturbed, and complete when its command is
 /// done, where undisturbed COMMITs are complete.
 pub fn short_commits_follow()
@@ -39,4 +45,10 @@ pub fn short_commits_follow()
 /// Each quiet COMMIT is, where fewer are delivered in the course of every COMMIT that nothing disturbs.
 pub fn quiet_commits_follow()
     ensures { QuietCommitsFollow }
+{}
+
+/// None of this is about nothing: in a script of two nodes a COMMIT is quiet, and the report says Commit complete; where a
+/// message of it is lost, its call is given up.
+pub fn the_tried_course()
+    ensures { TheTriedCourse }
 {}
