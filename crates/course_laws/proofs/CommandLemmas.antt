@@ -17,9 +17,9 @@ use Rattle.run_laws.specs.Past.{past, telling_after, telling_stopped, is_stop_of
 use Rattle.run_laws.specs.Places.{past_upto}
 use Rattle.run_laws.specs.Telling.{Call, Past, Telling}
 use Rattle.call_laws.proofs.UptoLemmas.{one_more, none_more, next_is, due_at}
-use Rattle.course_laws.specs.CommandCalls.{is_hold, hold_by, HoldIsKept, CommandsFindNoCall, HasItsCallAlone, CommandsHoldTheirCall}
+use Rattle.course_laws.specs.CommandCalls.{is_hold, hold_by, HoldIsKept, CommandsFindNoCall, CommandsFindNothingInFlight, HasItsCallAlone, CommandsHoldTheirCall}
 use Rattle.course_laws.proofs.WayLemmas.{stopped_way, turn_way, stopped_so, turn_so}
-use Rattle.course_laws.proofs.DueLemmas.{begun_alone}
+use Rattle.course_laws.proofs.DueLemmas.{begun_over}
 
 module _ (t : History) (p : Past) where
   abbrev f : Facts
@@ -94,7 +94,7 @@ module _ (t : History) (p : Past) where
 
   calls_next : (h : Happening) → comes_next t.places t.commands p ≡ Some h → IsAlone p → IsAlone (record { facts = facts_after t.places t.commands f h; telling = telling_after t.places t.commands f told h })
   unfolding facts_after
-  calls_next (happenings.Begun c) is now off other = begun_calls c (command_at t.commands c) (begun_alone t.places t.commands p (sym (hold_same told.hold (command_at t.commands c) other) ∙ off) c is)
+  calls_next (happenings.Begun c) is now off other = begun_calls c (command_at t.commands c) (begun_over t.places t.commands p (sym (hold_same told.hold (command_at t.commands c) other) ∙ off) c is).0
   calls_next (happenings.Turn u) is now off other =
       turn_so (Of f.command) (λ c s so. so) f.command (node_at f u.node) told u (outcome_at t.places f u) (now (sym (turn_way f.command (node_at f u.node) told u (outcome_at t.places f u)).hold ∙ off) other)
   calls_next (happenings.Cut a b) is now off other = now off other
@@ -139,7 +139,10 @@ pub hold_is_kept : HoldIsKept
 hold_is_kept t i h is = ap (λ (q : Past). q.telling.hold) (one_more t i h is ∙ next_is t.places t.commands (past_upto t i) h) ∙ hold_next t (past_upto t i) h
 
 pub commands_find_no_call : CommandsFindNoCall
-commands_find_no_call t run i c is off = begun_alone t.places t.commands (past_upto t i) off c (due_at t run i (happenings.Begun c) is)
+commands_find_no_call t run i c is off = (begun_over t.places t.commands (past_upto t i) off c (due_at t run i (happenings.Begun c) is)).0
+
+pub commands_find_nothing_in_flight : CommandsFindNothingInFlight
+commands_find_nothing_in_flight t run i c is off = (begun_over t.places t.commands (past_upto t i) off c (due_at t run i (happenings.Begun c) is)).1
 
 pub commands_hold_their_call : CommandsHoldTheirCall
 unfolding past

@@ -1,6 +1,6 @@
 -- What is due while HOLD is off: the next message in flight, a give-up, or the next command, which comes only where no call is
 -- pending.
-use Rattle.std.proofs.Common.{◌≡◌, ℕ, ◌==◌, ◌&&◌, not, Bool, true, false, if◌then◌else◌, List, [], ◌∷◌, is_some, Option, Some, None, refl, sym, ap, subst, ◌∙◌}
+use Rattle.std.proofs.Common.{◌≡◌, ℕ, ◌==◌, ◌&&◌, not, Bool, true, false, if◌then◌else◌, List, [], ◌∷◌, is_some, Option, Some, None, refl, sym, ap, subst, ◌∙◌, ◌⊎◌, inl, inr}
 use Rattle.std.proofs.lemmas.Bool.{cond_both}
 use Rattle.node_rules.specs.Data.{Input, Place}
 use Rattle.node_rules.specs.Data.inputs
@@ -78,19 +78,23 @@ module _ (places : List Place) (asked : List Command) (p : Past) where
   begins_is (Starts n) c is = absurd (no_begin (start_by f n (struck 3 (orders_at t n))) c (start_is n (struck 3 (orders_at t n))) is)
   begins_is Ends c is = absurd cc
 
-  -- ---- with HOLD off it begins only where no call is pending
+  -- ---- with HOLD off it begins only where no call is pending, and nothing is in flight
+
+  -- no call is pending, and nothing is in flight, unless the command made all its deliveries
+  abbrev pub IsOver : Type 0
+  IsOver = (t.calls ≡ []) × ((first_flying f.net ≡ None) ⊎ (spent t.deliveries ≡ true))
 
   give_up_begins : (cs : List Call) (c : ℕ) → next_give_up asked f cs ≡ Begins c → cs ≡ []
   give_up_begins [] c is = refl
   give_up_begins (x ∷ cs) c is = absurd cc
 
-  delivery_begins : (o : Option ℕ) (c : ℕ) → next_delivery asked f t o ≡ Begins c → t.calls ≡ []
-  delivery_begins None c is = give_up_begins t.calls c is
-  delivery_begins (Some k) c is = by (spent t.deliveries) is
+  delivery_begins : (o : Option ℕ) (c : ℕ) → first_flying f.net ≡ o → next_delivery asked f t o ≡ Begins c → IsOver
+  delivery_begins None c at is = (give_up_begins t.calls c is, inl at)
+  delivery_begins (Some k) c at is = by (spent t.deliveries) refl is
     where
-      by : (q : Bool) → (if q then next_give_up asked f t.calls else Delivers k false) ≡ Begins c → t.calls ≡ []
-      by true due = give_up_begins t.calls c due
-      by false due = absurd cc
+      by : (q : Bool) → spent t.deliveries ≡ q → (if q then next_give_up asked f t.calls else Delivers k false) ≡ Begins c → IsOver
+      by true all due = (give_up_begins t.calls c due, inr all)
+      by false more due = absurd cc
 
   due_if : (q : Bool) (d e : Due) → if_due q d ≡ Some e → d ≡ e
   due_if true d e is = (let it : Some d ≡ Some e = is in let same : d ≡ e = cc in same)
@@ -127,43 +131,43 @@ module _ (places : List Place) (asked : List Command) (p : Past) where
     flows_off : flows asked f t ≡ next_delivery asked f t (first_flying f.net)
     flows_off = ap (λ q. if q then next_pumped asked f t (most_of (command_at asked f.command)) (first_flying f.net) else next_delivery asked f t (first_flying f.net)) off
 
-    flows_begin : flows asked f t ≡ Begins c → t.calls ≡ []
-    flows_begin is = delivery_begins (first_flying f.net) c (sym flows_off ∙ is)
+    flows_begin : flows asked f t ≡ Begins c → IsOver
+    flows_begin is = delivery_begins (first_flying f.net) c refl (sym flows_off ∙ is)
 
-    act_first : (o : Option Due) → (o ≡ Some (Begins c) → ⊥) → acts_first (flows asked f t) o ≡ Begins c → t.calls ≡ []
+    act_first : (o : Option Due) → (o ≡ Some (Begins c) → ⊥) → acts_first (flows asked f t) o ≡ Begins c → IsOver
     act_first None none is = flows_begin is
     act_first (Some d) none is = absurd (none (ap Some is))
 
-    once_begins : acts_once asked f t ≡ Begins c → t.calls ≡ []
+    once_begins : acts_once asked f t ≡ Begins c → IsOver
     once_begins = by t.acted
       where
-        by : (q : Bool) → (if q then flows asked f t else acts_first (flows asked f t) (act_of f t (command_at asked f.command))) ≡ Begins c → t.calls ≡ []
+        by : (q : Bool) → (if q then flows asked f t else acts_first (flows asked f t) (act_of f t (command_at asked f.command))) ≡ Begins c → IsOver
         by true is = flows_begin is
         by false is = act_first (act_of f t (command_at asked f.command)) (act_begins (command_at asked f.command) c) is
 
-    follows_begin : (o : Option Call) → follows_first (acts_once asked f t) o ≡ Begins c → t.calls ≡ []
+    follows_begin : (o : Option Call) → follows_first (acts_once asked f t) o ≡ Begins c → IsOver
     follows_begin None is = once_begins is
     follows_begin (Some x) is = absurd cc
 
-    start_begins : (o : Option ℕ) → falls_first (follows_first (acts_once asked f t) t.next_call) o ≡ Begins c → t.calls ≡ []
+    start_begins : (o : Option ℕ) → falls_first (follows_first (acts_once asked f t) t.next_call) o ≡ Begins c → IsOver
     start_begins None is = follows_begin t.next_call is
     start_begins (Some n) is = absurd cc
 
-    stop_begins : (o : Option ℕ) → falls_first (falls_first (follows_first (acts_once asked f t) t.next_call) t.start_to_stop) o ≡ Begins c → t.calls ≡ []
+    stop_begins : (o : Option ℕ) → falls_first (falls_first (follows_first (acts_once asked f t) t.next_call) t.start_to_stop) o ≡ Begins c → IsOver
     stop_begins None is = start_begins t.start_to_stop is
     stop_begins (Some n) is = absurd cc
 
-    tell_begins : (ks : List ℕ) → tells_first (falls_first (falls_first (follows_first (acts_once asked f t) t.next_call) t.start_to_stop) f.node_to_stop) ks ≡ Begins c → t.calls ≡ []
+    tell_begins : (ks : List ℕ) → tells_first (falls_first (falls_first (follows_first (acts_once asked f t) t.next_call) t.start_to_stop) f.node_to_stop) ks ≡ Begins c → IsOver
     tell_begins [] is = stop_begins f.node_to_stop is
     tell_begins (k ∷ ks) is = absurd cc
 
-    due_begins : due_of asked p ≡ Begins c → t.calls ≡ []
+    due_begins : due_of asked p ≡ Begins c → IsOver
     unfolding due_of
     due_begins is = tell_begins f.losses_to_tell is
 
     -- a command begins
-    pub begun_alone : comes_next places asked p ≡ Some (happenings.Begun c) → t.calls ≡ []
-    begun_alone is = due_begins (begins_is (due_of asked p) c is)
+    pub begun_over : comes_next places asked p ≡ Some (happenings.Begun c) → IsOver
+    begun_over is = due_begins (begins_is (due_of asked p) c is)
 
   -- ---- in the course of a command
 

@@ -1,7 +1,9 @@
--- The pending calls of a script's commands: with HOLD off each command ends with no call pending, so that nothing but its own
--- call is pending in the next. HOLD, which keeps messages and calls from going on by themselves, is dtx's own.
-use Rattle.std.specs.Prelude.{◌≡◌, ℕ, ◌+◌, Bool, true, false, List, [], slice_get, Some}
+-- The pending calls of a script's commands: with HOLD off each command ends with no call pending and nothing in flight, so
+-- that nothing but its own call is pending in the next. HOLD, which keeps messages and calls from going on by themselves, is
+-- dtx's own.
+use Rattle.std.specs.Prelude.{◌≡◌, ℕ, ◌+◌, ◌⊎◌, Bool, true, false, List, [], slice_get, Some, None}
 use Rattle.std.specs.List.{AllByRecursion}
+use Rattle.net_bag.specs.Net.{first_flying}
 use Rattle.run_laws.specs.Commands.{hold_after}
 use Rattle.run_laws.specs.Data.{Command, Happening}
 use Rattle.run_laws.specs.Data.commands
@@ -9,6 +11,7 @@ use Rattle.run_laws.specs.Data.happenings
 use Rattle.run_laws.specs.Facts.{command_at}
 use Rattle.run_laws.specs.Headline.{IsTheRunOf}
 use Rattle.run_laws.specs.Lawful.{History}
+use Rattle.run_laws.specs.Lines.{spent}
 use Rattle.run_laws.specs.Places.{past_upto}
 use Rattle.run_laws.specs.Telling.{Past}
 
@@ -29,6 +32,11 @@ HoldIsKept = (t : History) → (i : ℕ) (h : Happening) → slice_get t.trace i
 -- In the run of a script no call is pending as a command begins, where HOLD is off.
 abbrev pub CommandsFindNoCall : Type 0
 CommandsFindNoCall = (t : History) → IsTheRunOf t → (i c : ℕ) → slice_get t.trace i ≡ Some (happenings.Begun c) → (past_upto t i).telling.hold ≡ false → (past_upto t i).telling.calls ≡ []
+
+-- And nothing is in flight then, unless the command before has had its 4,096 deliveries.
+abbrev pub CommandsFindNothingInFlight : Type 0
+CommandsFindNothingInFlight = (t : History) → IsTheRunOf t → (i c : ℕ) → slice_get t.trace i ≡ Some (happenings.Begun c) → (past_upto t i).telling.hold ≡ false
+    → (first_flying (past_upto t i).facts.net ≡ None) ⊎ (spent (past_upto t i).telling.deliveries ≡ true)
 
 -- each pending call is that of the command that runs
 abbrev pub HasItsCallAlone : Past → Type 0

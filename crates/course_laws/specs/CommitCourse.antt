@@ -80,9 +80,9 @@ AnsweredCommitsAreTold = (t : History) → IsTheRunOf t → (front later : List 
 -- ---- a quiet COMMIT
 
 -- A COMMIT of the run of a script is quiet: no statement of its transaction asked for a rollback; HOLD is off and nothing is
--- in flight when it is called; until its command is done no turn is cut, no message is lost and no node stops; of its
--- transaction no message was lost, no node of its branches has stopped since they began, and neither a rollback nor a
--- question of the recoverer came to any of them.
+-- in flight when it is called; until its command is done, so that the next one or the end of the script is due, no turn is
+-- cut, no message is lost and no node stops; of its transaction no message was lost before, no node of its branches has
+-- stopped since they began, and neither a rollback nor a question of the recoverer came to any of them.
 pub record QuietCommit (t : History) (front later : List Happening) (c : Commit t.places t.commands front) : Type 0 where
   pub goes : IsUnderWay t front later c
   pub done : IsBetween (due_of t.commands (past_by t.places t.commands front))

@@ -2,7 +2,7 @@
 //! in flight, and it is complete in its own command where nothing disturbs it.
 #![tactic(auto)]
 
-ghost use Rattle.course_laws.specs.CommandCalls.{HoldIsKept, CommandsFindNoCall, CommandsHoldTheirCall};
+ghost use Rattle.course_laws.specs.CommandCalls.{HoldIsKept, CommandsFindNoCall, CommandsFindNothingInFlight, CommandsHoldTheirCall};
 ghost use Rattle.course_laws.specs.CommitCourse.{CommitsFlow, CommitsEnd, AnsweredCommitsAreTold, ShortCommitsFollow, QuietCommitsFollow};
 ghost use Rattle.course_laws.specs.TriedCourse.{TheTriedCourse};
 
@@ -14,6 +14,11 @@ pub fn hold_is_kept()
 /// With HOLD off a command begins only where no call is pending.
 pub fn commands_find_no_call()
     ensures { CommandsFindNoCall }
+{}
+
+/// And nothing is in flight then, unless the command before has had its 4,096 deliveries.
+pub fn commands_find_nothing_in_flight()
+    ensures { CommandsFindNothingInFlight }
 {}
 
 /// While HOLD is off nothing but the call of the command that runs is pending, unless that is HOLD OFF.
