@@ -1,0 +1,3 @@
+pub mod CommandCalls
+pub mod CommitCourse
+pub mod TriedCourse
