@@ -207,7 +207,7 @@ module _ (complete : UndisturbedCommitsAreComplete) (t : History) (run : IsTheRu
     -- and few have been delivered, where few are of every such COMMIT
     pub few_so : FewAreDelivered → AllByRecursion IsDelivery done → spent (past t.places t.commands p done).telling.deliveries ≡ false
     few_so law delivers =
-        let below : length done < 4096 = law (so_far t sooner) (part_lawful t lawful sooner (record { rest = rest ++ later; is = trace_is })) c' quiet.still delivers calm_sooner in
+        let below : length done < 4096 = law (so_far t sooner) (part_lawful t lawful sooner (record { rest = rest ++ later; is = trace_is })) c' quiet.still quiet.goes.whole delivers calm_sooner in
         let none : p.telling.deliveries ≡ 0 = first_none t run front later c quiet.goes in
         let count : (past t.places t.commands p done).telling.deliveries ≡ p.telling.deliveries + length done = counted c.call.node c.session t.places t.commands p done delivers in
         grind (arith, nat_tests, below, none, count)

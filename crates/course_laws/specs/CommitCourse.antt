@@ -98,9 +98,13 @@ pub record IsDone (t : History) (front : List Happening) (c : Commit t.places t.
   pub complete : IsComplete t.places t.commands front c
   pub told : IsToldComplete t front c
 
--- In the run of a script each quiet COMMIT is.
+-- Each quiet COMMIT of a run is.
+abbrev pub QuietCommitsAreDone : History → Type 0
+QuietCommitsAreDone t = (front later : List Happening) (c : Commit t.places t.commands front) → QuietCommit t front later c → IsDone t front c
+
+-- So it is in the run of every script.
 abbrev pub QuietCommitsAreComplete : Type 0
-QuietCommitsAreComplete = (t : History) → IsTheRunOf t → (front later : List Happening) (c : Commit t.places t.commands front) → QuietCommit t front later c → IsDone t front c
+QuietCommitsAreComplete = (t : History) → IsTheRunOf t → QuietCommitsAreDone t
 
 -- ---- on what that stands
 
@@ -113,10 +117,11 @@ abbrev pub ShortCommitsFollow : Type 0
 ShortCommitsFollow = UndisturbedCommitsAreComplete → (t : History) → IsTheRunOf t → (front later : List Happening) (c : Commit t.places t.commands front) → QuietCommit t front later c → HasFewDeliveries t front
     → IsDone t front c
 
--- in every lawful run fewer than 4,096 messages are delivered in the course of a COMMIT that deliveries alone follow
+-- in every lawful run fewer than 4,096 messages are delivered in the course of a COMMIT that is called when nothing is in
+-- flight, that deliveries alone follow, and that no rollback or question disturbs
 abbrev pub FewAreDelivered : Type 0
-FewAreDelivered = (t : History) → IsLawfulRun t → (c : Commit t.places t.commands t.trace) → first_flying (facts_by t.places t.commands c.before).net ≡ None → AllByRecursion IsDelivery c.during
-    → AllByRecursion (IsCalm (branches_by t.places t.commands t.trace c.root)) t.trace → length c.during < 4096
+FewAreDelivered = (t : History) → IsLawfulRun t → (c : Commit t.places t.commands t.trace) → first_flying (facts_by t.places t.commands c.before).net ≡ None → c.call.cut ≡ false
+    → AllByRecursion IsDelivery c.during → AllByRecursion (IsCalm (branches_by t.places t.commands t.trace c.root)) t.trace → length c.during < 4096
 
 -- each quiet COMMIT is so, where that holds too
 abbrev pub QuietCommitsFollow : Type 0

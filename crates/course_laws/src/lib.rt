@@ -3,7 +3,7 @@
 #![tactic(auto)]
 
 ghost use Rattle.course_laws.specs.CommandCalls.{HoldIsKept, CommandsFindNoCall, CommandsFindNothingInFlight, CommandsHoldTheirCall};
-ghost use Rattle.course_laws.specs.CommitCourse.{CommitsFlow, CommitsEnd, AnsweredCommitsAreTold, ShortCommitsFollow, QuietCommitsFollow};
+ghost use Rattle.course_laws.specs.CommitCourse.{CommitsFlow, CommitsEnd, AnsweredCommitsAreTold, ShortCommitsFollow, QuietCommitsFollow, QuietCommitsAreComplete};
 ghost use Rattle.course_laws.specs.TriedCourse.{TheTriedCourse};
 
 /// Only HOLD ON and HOLD OFF change HOLD.
@@ -50,6 +50,11 @@ pub fn short_commits_follow()
 /// Each quiet COMMIT is, where fewer are delivered in the course of every COMMIT that nothing disturbs.
 pub fn quiet_commits_follow()
     ensures { QuietCommitsFollow }
+{}
+
+/// So in the run of a script each quiet COMMIT is undisturbed, it is complete when its command is done, and the report says so.
+pub fn quiet_commits_are_complete()
+    ensures { QuietCommitsAreComplete }
 {}
 
 /// None of this is about nothing: in a script of two nodes a COMMIT is quiet, and the report says Commit complete; where a

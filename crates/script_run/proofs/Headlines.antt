@@ -21,7 +21,7 @@ use Rattle.script_run.specs.Ending.{IsWhole, ending_of}
 use Rattle.script_run.proofs.ScriptLemmas.{of_a_script}
 use Rattle.world.specs.declared.ran.Ran.{Ran}
 use Rattle.done_laws.specs.ToldDone.{DoneIsTold}
-use Rattle.complete_laws.specs.CompleteLaws.{LawfulCommitsAreComplete}
+use Rattle.course_laws.specs.CommitCourse.{QuietCommitsAreComplete}
 use Rattle.world.specs.Ran.{IsRan, as_ending}
 
 -- the run that these lists tell
@@ -41,7 +41,7 @@ nothing_told : IsTold (history_of nothing_done no_script) [] All_run
 unfolding past due_of
 nothing_told = (refl, tt)
 
-module _ (lawful : TheRunIsLawful) (knows : EveryTurnKnows) (meant : EveryRunIsMeant) (comes : EveryAnswerHasItsPlace) (tells : DoneIsTold) (completes : LawfulCommitsAreComplete) (sites : EverySiteDecides) (covers : EveryDecisionCovers) (agrees : EveryBookAgrees) (marked : EveryMixedIsMarked) (later : EveryScnIsLater) where
+module _ (lawful : TheRunIsLawful) (knows : EveryTurnKnows) (meant : EveryRunIsMeant) (comes : EveryAnswerHasItsPlace) (tells : DoneIsTold) (completes : QuietCommitsAreComplete) (sites : EverySiteDecides) (covers : EveryDecisionCovers) (agrees : EveryBookAgrees) (marked : EveryMixedIsMarked) (later : EveryScnIsLater) where
   -- by the laws, of what is due and told
   by_laws : (run : Run) (ending : Ending) (script : AreOfAScript (places_of run.commands) run.commands)
       → IsTheRun (places_of run.commands) run.commands (start (places_of run.commands)) run.trace → run.book ≡ book_of run.trace
@@ -59,7 +59,7 @@ module _ (lawful : TheRunIsLawful) (knows : EveryTurnKnows) (meant : EveryRunIsM
         meant = meant t may;
         come = comes t due;
         done = tells t due;
-        completes = completes t may;
+        completes = completes t due;
         site = sites t may;
         covers = covers t may;
         agrees = subst Agreement (sym booked) (agrees t may);

@@ -9,7 +9,7 @@ use Rattle.run_laws.specs.Meanings.{RunsAreMeant}
 use Rattle.run_laws.specs.Places.{AnswersHavePlaces}
 use Rattle.run_laws.specs.Site.{SiteDecides, Coverage}
 use Rattle.done_laws.specs.ToldDone.{TellsWhatIsDone}
-use Rattle.complete_laws.specs.CompleteLaws.{CommitsAreComplete}
+use Rattle.course_laws.specs.CommitCourse.{QuietCommitsAreDone}
 use Rattle.script_run.specs.declared.outcome.Run.{Run}
 
 -- a run over the nodes that its script makes, as the laws of runs have it
@@ -38,7 +38,7 @@ pub record IsRun (run : Run) (ending : Ending) : Type 0 where
   pub meant : RunsAreMeant (history_of run script)
   pub come : AnswersHavePlaces (history_of run script)
   pub done : TellsWhatIsDone (history_of run script)
-  pub completes : CommitsAreComplete (history_of run script)
+  pub completes : QuietCommitsAreDone (history_of run script)
   pub site : SiteDecides (history_of run script)
   pub covers : Coverage (history_of run script)
   pub agrees : Agreement run.book
