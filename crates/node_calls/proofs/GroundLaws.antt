@@ -1,5 +1,5 @@
 -- What a statement meets at a node is what it meets at the node's store, and what it leaves there is the same.
-use Rattle.std.proofs.Common.{◌≡◌, ℕ, ◌-◌, List, Some, refl, ap, subst, ◌∙◌}
+use Rattle.std.proofs.Common.{◌≡◌, ℕ, ◌-◌, List, Some, Result, IfOk, refl, ap, subst, ◌∙◌}
 use Rattle.tran_ids.specs.declared.branch.BranchId.{BranchId}
 use Rattle.tran_ids.specs.Listed.{item_at}
 use Rattle.row_locks.specs.Locks.{Lock}
@@ -79,12 +79,12 @@ module _ (m : Memory) (own : HasOwnUndo m) (b : BranchId) (s : Stmt) (t : Table)
       ∙ ap (λ x. with_parts m store_by (locks_after m.locks b t by_rules) x) (v_is ∙ ap (λ r. change_item live_id (changed_by (makes_changes r)) m.lives b) ran_is)
 
   -- and so the branch answers it by the rules
-  pub ran_here : (l : Live) (given : ℕ) (told : Answer) (store : Contents) (locks : List Lock) (lives : List Live) (after : Kept) (deed : Deed)
+  pub ran_here : {E : Type 0} (l : Live) (given : ℕ) (told : Answer) (store : Contents) (locks : List Lock) (lives : List Live) (after : Kept) (result : Result Deed E)
       → item_at live_id m.lives b ≡ Some l → way_of m.place (stored_in m).durable l given s ≡ Runs_here t → told ≡ answer_of_run at_store
       → store ≡ store_after_run m.store b t at_store → locks ≡ locks_after m.locks b t at_store → lives ≡ change_item live_id (changed_by (makes_changes at_store)) m.lives b
-      → Gives (at_live (with_parts m store locks lives) (λ x. answered (with_parts m store locks lives) x told) (branch_at (with_parts m store locks lives) b)) after deed
-      → Gives (at_live (kept_in m) (λ x. statement_at m.place (kept_in m) x s given) (branch_at (kept_in m) b)) after deed
-  ran_here l given told store locks lives after deed is way t_is s_is l_is v_is does =
+      → IfOk result (λ deed. Gives (at_live (with_parts m store locks lives) (λ x. answered (with_parts m store locks lives) x told) (branch_at (with_parts m store locks lives) b)) after deed)
+      → IfOk result (λ deed. Gives (at_live (kept_in m) (λ x. statement_at m.place (kept_in m) x s given) (branch_at (kept_in m) b)) after deed)
+  ran_here l given told store locks lives after result is way t_is s_is l_is v_is does =
       let k = with_parts m store locks lives in
-      ran_so m.place (kept_in m) b l is s given t by_rules k after deed way refl (kept_is store locks lives s_is l_is v_is)
-      (subst (λ a. Gives (at_live k (λ x. answered k x a) (branch_at k b)) after deed) (t_is ∙ ap answer_of_run ran_is) does)
+      ran_so m.place (kept_in m) b l is s given t by_rules k after result way refl (kept_is store locks lives s_is l_is v_is)
+      (subst (λ a. IfOk result (λ deed. Gives (at_live k (λ x. answered k x a) (branch_at k b)) after deed)) (t_is ∙ ap answer_of_run ran_is) does)

@@ -1,5 +1,5 @@
 -- A statement at a live branch: it runs here, is refused, or goes on.
-use Rattle.std.proofs.Common.{◌≡◌, ◌||◌, ◌<◌, ℕ, Bool, true, false, if◌then◌else◌, List, [], Option, None, Some, IfSome, refl, sym, ap, subst, ◌∙◌, arith}
+use Rattle.std.proofs.Common.{◌≡◌, ◌||◌, ◌<◌, ℕ, Bool, true, false, if◌then◌else◌, List, [], Option, None, Some, Result, IfOk, IfSome, refl, sym, ap, subst, ◌∙◌, arith}
 use Rattle.std.specs.Prelude.{nat_le}
 use Rattle.std.proofs.lemmas.Bool.Decides.{nat_tests}
 use Rattle.dtx_values.specs.Limits.{depth_limit}
@@ -28,33 +28,33 @@ module _ (p : Place) (k : Kept) (b : BranchId) (l : Live) (is : item_at live_id 
   by_way : (way : Way) → way_of p k.stored.durable l given s ≡ way → at_live k (λ x. statement_at p k x s given) (branch_at k b) ≡ goes p k (branch_here k b l) s given way
   by_way way at = somebody k b l (λ x. statement_at p k x s given) is ∙ ap (goes p k (branch_here k b l) s given) at
 
-  goes_so : (way : Way) (f : Branch → DeedByRules) (after : Kept) (deed : Deed) → way_of p k.stored.durable l given s ≡ way → goes p k (branch_here k b l) s given way ≡ f (branch_here k b l)
-      → Gives (at_live k f (branch_at k b)) after deed → Gives (at_live k (λ x. statement_at p k x s given) (branch_at k b)) after deed
-  goes_so way f after deed at same does = subst (λ d. Gives d after deed) (somebody k b l f is ∙ sym (by_way way at ∙ same)) does
+  goes_so : {E : Type 0} (way : Way) (f : Branch → DeedByRules) (after : Kept) (result : Result Deed E) → way_of p k.stored.durable l given s ≡ way → goes p k (branch_here k b l) s given way ≡ f (branch_here k b l)
+      → IfOk result (λ deed. Gives (at_live k f (branch_at k b)) after deed) → IfOk result (λ deed. Gives (at_live k (λ x. statement_at p k x s given) (branch_at k b)) after deed)
+  goes_so way f after result at same does = subst (λ d. IfOk result (λ deed. Gives d after deed)) (somebody k b l f is ∙ sym (by_way way at ∙ same)) does
 
   -- it is refused
-  pub refused_so : (r : Refusal) (after : Kept) (deed : Deed) → way_of p k.stored.durable l given s ≡ Nowhere_to r
-      → Gives (at_live k (λ x. answered k x (answers.Refused r)) (branch_at k b)) after deed → Gives (at_live k (λ x. statement_at p k x s given) (branch_at k b)) after deed
-  refused_so r after deed at does = goes_so (Nowhere_to r) (λ x. answered k x (answers.Refused r)) after deed at refl does
+  pub refused_so : {E : Type 0} (r : Refusal) (after : Kept) (result : Result Deed E) → way_of p k.stored.durable l given s ≡ Nowhere_to r
+      → IfOk result (λ deed. Gives (at_live k (λ x. answered k x (answers.Refused r)) (branch_at k b)) after deed) → IfOk result (λ deed. Gives (at_live k (λ x. statement_at p k x s given) (branch_at k b)) after deed)
+  refused_so r after result at does = goes_so (Nowhere_to r) (λ x. answered k x (answers.Refused r)) after result at refl does
 
   -- it goes to a child
-  pub over_so : (i : ℕ) (table : List ℕ) (passed : Stmt) (after : Kept) (deed : Deed) → way_of p k.stored.durable l given s ≡ Over i table → passed ≡ passed_on s table
-      → Gives (at_live k (λ x. calls_over k x i passed given) (branch_at k b)) after deed → Gives (at_live k (λ x. statement_at p k x s given) (branch_at k b)) after deed
-  over_so i table passed after deed at same does =
-      goes_so (Over i table) (λ x. calls_over k x i passed given) after deed at (ap (λ t. calls_over k (branch_here k b l) i t given) (sym same)) does
+  pub over_so : {E : Type 0} (i : ℕ) (table : List ℕ) (passed : Stmt) (after : Kept) (result : Result Deed E) → way_of p k.stored.durable l given s ≡ Over i table → passed ≡ passed_on s table
+      → IfOk result (λ deed. Gives (at_live k (λ x. calls_over k x i passed given) (branch_at k b)) after deed) → IfOk result (λ deed. Gives (at_live k (λ x. statement_at p k x s given) (branch_at k b)) after deed)
+  over_so i table passed after result at same does =
+      goes_so (Over i table) (λ x. calls_over k x i passed given) after result at (ap (λ t. calls_over k (branch_here k b l) i t given) (sym same)) does
 
   -- it opens a link
-  pub through_so : (node : ℕ) (link table to : List ℕ) (passed : Stmt) (after : Kept) (deed : Deed) → way_of p k.stored.durable l given s ≡ Through node link table → passed ≡ passed_on s table → to ≡ link
-      → Gives (at_live k (λ x. opens_through k x node to passed given) (branch_at k b)) after deed → Gives (at_live k (λ x. statement_at p k x s given) (branch_at k b)) after deed
-  through_so node link table to passed after deed at same is_link does =
-      goes_so (Through node link table) (λ x. opens_through k x node to passed given) after deed at
+  pub through_so : {E : Type 0} (node : ℕ) (link table to : List ℕ) (passed : Stmt) (after : Kept) (result : Result Deed E) → way_of p k.stored.durable l given s ≡ Through node link table → passed ≡ passed_on s table → to ≡ link
+      → IfOk result (λ deed. Gives (at_live k (λ x. opens_through k x node to passed given) (branch_at k b)) after deed) → IfOk result (λ deed. Gives (at_live k (λ x. statement_at p k x s given) (branch_at k b)) after deed)
+  through_so node link table to passed after result at same is_link does =
+      goes_so (Through node link table) (λ x. opens_through k x node to passed given) after result at
       (ap (λ t. opens_through k (branch_here k b l) node link t given) (sym same) ∙ ap (λ n. opens_through k (branch_here k b l) node n passed given) (sym is_link)) does
 
   -- it runs here
-  pub ran_so : (t : Table) (r : Ran) (m after : Kept) (deed : Deed) → way_of p k.stored.durable l given s ≡ Runs_here t → r ≡ ran p k b s t
+  pub ran_so : {E : Type 0} (t : Table) (r : Ran) (m after : Kept) (result : Result Deed E) → way_of p k.stored.durable l given s ≡ Runs_here t → r ≡ ran p k b s t
       → m ≡ record k { owns = owns_after k.owns b (view k b t.name) r; locks = locks_after k.locks b t r; lives = change_item live_id (changed_by (makes_changes r)) k.lives b }
-      → Gives (at_live m (λ x. answered m x (answer_of_run r)) (branch_at m b)) after deed → Gives (at_live k (λ x. statement_at p k x s given) (branch_at k b)) after deed
-  ran_so t r m after deed at is_r is_m does =
+      → IfOk result (λ deed. Gives (at_live m (λ x. answered m x (answer_of_run r)) (branch_at m b)) after deed) → IfOk result (λ deed. Gives (at_live k (λ x. statement_at p k x s given) (branch_at k b)) after deed)
+  ran_so t r m after result at is_r is_m does =
       let n : Kept = node_after_run k b t r in
       let y : Live = changed_by (makes_changes r) l in
       let me : l.me ≡ b = item_is live_id k.lives b l is in
@@ -70,7 +70,7 @@ module _ (p : Place) (k : Kept) (b : BranchId) (l : Live) (is : item_at live_id 
       by_way (Runs_here t) at
       ∙ ap (λ c. answered (node_after_run k c t (ran p k c s t)) (record { live = after_run l (ran p k c s t); work = work_of k.works b }) (answer_of_run (ran p k c s t))) me
       ∙ ap (λ q. answered (node_after_run k b t q) (record { live = after_run l q; work = work_of k.works b }) (answer_of_run q)) (sym is_r) in
-      subst (λ d. Gives d after deed) (code ∙ sym rules) does
+      subst (λ d. IfOk result (λ deed. Gives d after deed)) (code ∙ sym rules) does
 
 -- ---- a link that is used for the first time
 

@@ -35,6 +35,7 @@ pub(crate) fn answer(
     ensures place { memory.new.place ≡ memory.old.place }
 {
     let Some(live) = memory.lives.get(branch) else {
+        drop(answer);
         return Ok(Deed::nothing(alloc));
     };
     match live.parent {
@@ -45,9 +46,16 @@ pub(crate) fn answer(
         }
         Some(parent) => {
             let fields = reply_fields(live, answer);
-            let says = reply_to(alloc, &memory.works, branch, live, parent, &fields)?;
-            let deed = answer_parent(memory, alloc, branch, fields, says)?;
-            Ok(deed)
+            match reply_to(alloc, &memory.works, branch, live, parent, &fields) {
+                Err(error) => {
+                    drop(fields);
+                    Err(error)
+                }
+                Ok(says) => {
+                    let deed = answer_parent(memory, alloc, branch, fields, says)?;
+                    Ok(deed)
+                }
+            }
         }
     }
 }
@@ -81,9 +89,16 @@ fn answer_client(
     ensures place { memory.new.place ≡ memory.old.place }
 {
     let deed = Deed::ending(alloc, session, answer)?;
-    memory.works.answer(alloc, branch, None)?;
-    memory.sessions.set_call(session, PendingCall::NoCall);
-    Ok(deed)
+    match memory.works.answer(alloc, branch, None) {
+        Err(error) => {
+            drop(deed);
+            Err(error)
+        }
+        Ok(()) => {
+            memory.sessions.set_call(session, PendingCall::NoCall);
+            Ok(deed)
+        }
+    }
 }
 
 // The Reply of a live branch to its last call.
@@ -99,7 +114,12 @@ fn reply_to(
 {
     let fields = fields.copy(alloc)?;
     match works.get(branch) {
-        None => replies(alloc, live, &no_work(alloc, branch), parent, fields),
+        None => {
+            let none = no_work(alloc, branch);
+            let says = replies(alloc, live, &none, parent, fields);
+            drop(none);
+            says
+        }
         Some(work) => replies(alloc, live, work, parent, fields),
     }
 }

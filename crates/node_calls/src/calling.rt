@@ -41,9 +41,10 @@ pub(crate) fn call_over(
     ensures place { memory.new.place ≡ memory.old.place }
 {
     let Some(live) = memory.lives.get(branch) else {
+        drop(statement);
         return Ok(Deed::nothing(alloc));
     };
-    let says = exec_over(
+    match exec_over(
         alloc,
         &memory.sessions,
         &memory.works,
@@ -52,12 +53,25 @@ pub(crate) fn call_over(
         number,
         &statement,
         given,
-    )?;
-    pend(&mut memory.sessions, live);
-    memory
-        .works
-        .call_over(alloc, branch, number, statement, given)?;
-    Ok(Deed::saying(alloc, says))
+    ) {
+        Err(error) => {
+            drop(statement);
+            Err(error)
+        }
+        Ok(says) => {
+            pend(&mut memory.sessions, live);
+            match memory
+                .works
+                .call_over(alloc, branch, number, statement, given)
+            {
+                Err(error) => {
+                    drop(says);
+                    Err(error)
+                }
+                Ok(()) => Ok(Deed::saying(alloc, says)),
+            }
+        }
+    }
 }
 
 /// A link is used for the first time: Open goes to its node, and the statement of a live branch waits. Nothing where the
@@ -78,14 +92,30 @@ pub(crate) fn open_through(
     ensures place { memory.new.place ≡ memory.old.place }
 {
     let Some(live) = memory.lives.get(branch) else {
+        drop(link);
+        drop(statement);
         return Ok(Deed::nothing(alloc));
     };
-    let says = open_says(alloc, live, node)?;
-    pend(&mut memory.sessions, live);
-    memory
-        .works
-        .wait_for_opened(alloc, branch, link, statement, given)?;
-    Ok(Deed::saying(alloc, says))
+    match open_says(alloc, live, node) {
+        Err(error) => {
+            drop(link);
+            drop(statement);
+            Err(error)
+        }
+        Ok(says) => {
+            pend(&mut memory.sessions, live);
+            match memory
+                .works
+                .wait_for_opened(alloc, branch, link, statement, given)
+            {
+                Err(error) => {
+                    drop(says);
+                    Err(error)
+                }
+                Ok(()) => Ok(Deed::saying(alloc, says)),
+            }
+        }
+    }
 }
 
 // At a root the session's call is pending from now on.

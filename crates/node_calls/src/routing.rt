@@ -63,23 +63,22 @@ pub(crate) fn statement_at(
                 &mut memory.lives,
                 branch,
             )?;
-            let deed = answer(memory, alloc, branch, told)?;
-            Ok(deed)
+            answer(memory, alloc, branch, told)
         }
-        Way::NowhereTo(refusal) => {
-            let deed = answer(memory, alloc, branch, Answer::Refused(refusal))?;
-            Ok(deed)
-        }
+        Way::NowhereTo(refusal) => answer(memory, alloc, branch, Answer::Refused(refusal)),
         Way::Over { edge, table } => {
             let passed = passed_on(alloc, statement, table)?;
-            let deed = call_over(memory, alloc, branch, edge, passed, given)?;
-            Ok(deed)
+            call_over(memory, alloc, branch, edge, passed, given)
         }
         Way::Through { node, link, table } => {
-            let passed = passed_on(alloc, statement, table)?;
             let link = link.copy(alloc)?;
-            let deed = open_through(memory, alloc, branch, node, link, passed, given)?;
-            Ok(deed)
+            match passed_on(alloc, statement, table) {
+                Err(error) => {
+                    drop(link);
+                    Err(error)
+                }
+                Ok(passed) => open_through(memory, alloc, branch, node, link, passed, given),
+            }
         }
     }
 }

@@ -6,7 +6,7 @@ use Rattle.row_store.specs.Store.{is_in_doubt}
 use Rattle.prepare_phase.specs.Acts.{after_answer}
 use Rattle.node_state.specs.Changed.{change_item}
 use Rattle.node_state.specs.Lives.{prepared}
-use Rattle.node_rules.specs.Data.{BranchId, Live, Vote, Phase, Standing}
+use Rattle.node_rules.specs.Data.{BranchId, Live, Vote, Phase, Standing, Decision, RedoRecord}
 use Rattle.node_rules.specs.declared.session.Session.{Session}
 use Rattle.node_rules.specs.Data.answers
 use Rattle.node_rules.specs.Data.dones
@@ -49,6 +49,16 @@ where_kept k f (Some s) = f s
 -- what is done at a branch where the node keeps a row of it
 abbrev pub at_kept : Kept → BranchId → (Standing → Deed) → Deed
 at_kept k b f = where_kept k f (standing_at k b)
+
+-- the record of a decision that a kept branch learns: Met where it was forced, with whether the two differ
+abbrev pub learned : BranchId → Decision → Option Bool → RedoRecord
+learned b d None = records.Ended b d
+learned b d (Some mixed) = records.Met b d mixed
+
+-- what a node keeps after a turn that wrote this
+abbrev pub with_wrote : Kept → Option RedoRecord → Kept
+with_wrote k None = k
+with_wrote k (Some r) = with_record k r
 
 -- A branch may become sealed or decide: it is not in doubt yet, and the clock has a number left.
 pub record MayCommit (m : Memory) (b : BranchId) : Type 0 where

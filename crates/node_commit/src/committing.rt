@@ -1,19 +1,77 @@
 //! The commit and forget phases, at a branch that the node keeps a row of.
-ghost use Rattle.std.specs.Prelude.{◌≡◌, IfOk};
-ghost use Rattle.node_rules.specs.Commit.{learns as learns_of, forgets as forgets_of, next_turn as next_turn_of, on_decision as on_decision_of, on_ack as on_ack_of, on_forgotten as on_forgotten_of};
+ghost use Rattle.std.specs.Prelude.{◌≡◌, Some, IfOk, IfSome, OnOk};
+ghost use Rattle.node_rules.specs.Commit.{decision_answers as decision_answers_of, learns as learns_of, forgets as forgets_of, next_turn as next_turn_of, on_decision as on_decision_of, on_ack as on_ack_of, on_forgotten as on_forgotten_of, passes as passes_of, to_beyond as to_beyond_of};
+ghost use Rattle.node_rules.specs.Data.kinds;
+ghost use Rattle.node_rules.specs.Data.records;
+ghost use Rattle.node_rules.specs.Sessions.{commit_answer as commit_answer_of, commit_complete as commit_complete_of};
 ghost use Rattle.node_memory.specs.Parts.{stored_in, kept_in};
 ghost use Rattle.ready_laws.specs.Following.{MayFollow};
 ghost use Rattle.node_deeds.specs.Gives.{Gives};
-ghost use Rattle.node_commit.specs.Branches.{at_kept};
+ghost use Rattle.node_commit.specs.Branches.{at_kept, learned as learned_of, with_wrote};
 
 use crate::session_ends::{decision_answers, end_decided};
 use commit_forget::{Next, on_decision as decision_next, on_forgotten as forgotten_next};
 use node_deeds::{Deed, commit_complete, passes, post, to_beyond, to_one};
 use node_memory::Memory;
-use redo_record::{Decision, RedoRecord};
+use node_state::Sessions;
+use redo_record::{Decision, RedoRecord, Standing};
 use std::alloc::{AllocError, Global};
 use tran_ids::BranchId;
 use wire_msg::Kind;
+
+// The record of a decision that a kept branch learns: Met where the branch was forced, with whether the two differ.
+fn learned(me: BranchId, decision: Decision, mixed: Option<bool>) -> RedoRecord
+    ensures { result ≡ learned_of me decision mixed }
+{
+    match mixed {
+        None => RedoRecord::Ended { me, decision },
+        Some(mixed) => RedoRecord::Met {
+            me,
+            decision,
+            mixed,
+        },
+    }
+}
+
+// What a kept branch writes, says and answers that learns a decision.
+fn learning(
+    alloc: Global,
+    sessions: &Sessions,
+    row: &Standing,
+    decision: Decision,
+    mixed: Option<bool>,
+) -> Result<Deed, AllocError>
+    ensures { IfOk result (λ deed.
+        deed ≡ record { wrote = Some (learned_of row.now.me decision mixed); says = passes_of row.now decision; ended = decision_answers_of sessions.now row.now.me decision }) }
+{
+    let says = passes(alloc, row, decision)?;
+    let ended = decision_answers(alloc, sessions, row.me, decision)?;
+    let redo = learned(row.me, decision, mixed);
+    Ok(Deed::writing(redo, says, ended))
+}
+
+// What a kept branch writes, says and answers that forgets.
+fn forgetting(alloc: Global, sessions: &Sessions, row: &Standing) -> Result<Deed, AllocError>
+    ensures { IfOk result (λ deed.
+        deed ≡ record { wrote = Some (records.Forgot row.now.me); says = to_beyond_of row.now kinds.Forgotten; ended = commit_answer_of sessions.now row.now.me commit_complete_of }) }
+{
+    let says = to_beyond(alloc, row, &Kind::Forgotten)?;
+    let ended = sessions.commit_answer(alloc, &row.me, commit_complete())?;
+    Ok(Deed::writing(RedoRecord::Forgot(row.me), says, ended))
+}
+
+// The record of a deed becomes part of what the node keeps.
+fn taken_in(memory: &mut Memory, alloc: Global, deed: Deed) -> Result<Deed, AllocError>
+    requires { IfSome deed.wrote (MayFollow (stored_in memory.old)) }
+    ensures deed { IfOk result (λ same. same ≡ deed) }
+    ensures kept { OnOk result (kept_in memory.new ≡ with_wrote (kept_in memory.old) deed.wrote) }
+    ensures place { memory.new.place ≡ memory.old.place }
+{
+    if let Some(redo) = &deed.wrote {
+        memory.take_in(alloc, redo)?;
+    }
+    Ok(deed)
+}
 
 // The decision's record stands, and the decision goes on.
 fn learns(
@@ -21,23 +79,19 @@ fn learns(
     alloc: Global,
     branch: &BranchId,
     decision: Decision,
-    redo: RedoRecord,
+    mixed: Option<bool>,
 ) -> Result<Deed, AllocError>
-    requires { MayFollow (stored_in memory.old) redo }
-    ensures gives { IfOk result (λ deed. Gives (at_kept (kept_in memory.old) branch.now (λ s. learns_of (kept_in memory.old) s decision redo)) (kept_in memory.new) deed) }
+    ensures gives { IfOk result (λ deed.
+        Gives (at_kept (kept_in memory.old) branch.now (λ s. learns_of (kept_in memory.old) s decision (learned_of s.me decision mixed))) (kept_in memory.new) deed) }
     ensures place { memory.new.place ≡ memory.old.place }
 {
-    match memory.standing_at(branch) {
-        None => Ok(Deed::nothing(alloc)),
-        Some(row) => {
-            let me = row.me;
-            let says = passes(alloc, row, decision)?;
-            let ended = decision_answers(alloc, &memory.sessions, me, decision)?;
-            end_decided(&mut memory.sessions, &me, decision);
-            memory.take_in(alloc, &redo)?;
-            Ok(Deed::writing(redo, says, ended))
-        }
-    }
+    let Some(row) = memory.standing_at(branch) else {
+        return Ok(Deed::nothing(alloc));
+    };
+    let me = row.me;
+    let deed = learning(alloc, &memory.sessions, row, decision, mixed)?;
+    end_decided(&mut memory.sessions, &me, decision);
+    taken_in(memory, alloc, deed)
 }
 
 // Forgot stands, those beyond are told, and the COMMIT of a root is complete.
@@ -45,20 +99,13 @@ fn forgets(memory: &mut Memory, alloc: Global, branch: &BranchId) -> Result<Deed
     ensures gives { IfOk result (λ deed. Gives (at_kept (kept_in memory.old) branch.now (λ s. forgets_of (kept_in memory.old) s)) (kept_in memory.new) deed) }
     ensures place { memory.new.place ≡ memory.old.place }
 {
-    match memory.standing_at(branch) {
-        None => Ok(Deed::nothing(alloc)),
-        Some(row) => {
-            let me = row.me;
-            let says = to_beyond(alloc, row, &Kind::Forgotten)?;
-            let ended = memory
-                .sessions
-                .commit_answer(alloc, &me, commit_complete())?;
-            let redo = RedoRecord::Forgot(me);
-            memory.sessions.end_commit(&me);
-            memory.take_in(alloc, &redo)?;
-            Ok(Deed::writing(redo, says, ended))
-        }
-    }
+    let Some(row) = memory.standing_at(branch) else {
+        return Ok(Deed::nothing(alloc));
+    };
+    let me = row.me;
+    let deed = forgetting(alloc, &memory.sessions, row)?;
+    memory.sessions.end_commit(&me);
+    taken_in(memory, alloc, deed)
 }
 
 // What a kept branch does next.
@@ -78,18 +125,8 @@ fn next_turn(
     let me = row.me;
     match next {
         Next::Rest => Ok(Deed::nothing(alloc)),
-        Next::End(decision) => {
-            let redo = RedoRecord::Ended { me, decision };
-            learns(memory, alloc, branch, decision, redo)
-        }
-        Next::Meet { decision, mixed } => {
-            let redo = RedoRecord::Met {
-                me,
-                decision,
-                mixed,
-            };
-            learns(memory, alloc, branch, decision, redo)
-        }
+        Next::End(decision) => learns(memory, alloc, branch, decision, None),
+        Next::Meet { decision, mixed } => learns(memory, alloc, branch, decision, Some(mixed)),
         Next::AckToward => {
             let says = to_one(alloc, me, Kind::Ack, row.toward)?;
             Ok(Deed::saying(alloc, says))

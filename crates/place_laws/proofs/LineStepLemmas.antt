@@ -44,6 +44,7 @@ use Rattle.place_laws.proofs.LineCallLemmas.{over_line, through_line, opened_lin
 
 calm_decisions : OfDecisions IsCalm
 calm_decisions = record { committed = λ n. refl; rolled_back = refl; rollback = refl; in_doubt = refl; ack = refl; forgotten = refl; ask = refl }
+
 rolls : (l : Live) → AllSay IsCalm (to_each l.me kinds.Rollback (children_of l))
 rolls l = each_says IsCalm l.me kinds.Rollback (children_of l) refl
 

@@ -1,7 +1,6 @@
 -- Changes keep a table's rows in the order of their keys.
-use Rattle.std.proofs.Common.{◌≡◌, ℕ, Bool, true, false, cond, not, List, [], ◌∷◌, ◌++◌, None, Some, Option, refl, sym, ap, subst, ◌∙◌, true≢false, append_assoc}
-use Rattle.std.specs.declared.cmp.Ordering.TheVariants.{Less, Greater}
-use Rattle.std.specs.Ordering.{is_eq, is_lt, ordering_reverse}
+use Rattle.std.proofs.Common.{◌≡◌, ℕ, Bool, true, false, cond, not, List, [], ◌∷◌, None, Some, Option, refl, subst}
+use Rattle.std.specs.declared.cmp.Ordering.TheVariants.{Less}
 use Rattle.std.specs.List.{AllByRecursion}
 use Rattle.std.specs.List.Sorted.{IsStrictlySortedBy}
 use Rattle.dtx_values.specs.declared.value.Value.{Value}
@@ -13,7 +12,7 @@ use Rattle.sql_eval.specs.declared.keyed.Keyed.{Keyed}
 use Rattle.sql_check.specs.Words.{same_text}
 use Rattle.dtx_values.specs.Order.{same_value, value_below}
 use Rattle.sql_eval.specs.Rows.{put, without, set_to, change_one, apply, keys_of}
-use Rattle.dtx_values.proofs.ValueOrder.{same_is, equal_from_same, below_less, apart_less}
+use Rattle.dtx_values.proofs.ValueOrder.{equal_from_same, below_less, apart_less}
 
 -- the keys of these rows rise
 abbrev pub are_in_order : List Keyed → Type 0
@@ -92,35 +91,3 @@ pub apply_in_order : (table : List ℕ) (rows : List Keyed) (cs : List Change) �
 apply_in_order table rows [] ordered = ordered
 apply_in_order table rows (c ∷ cs) ordered =
     apply_in_order table (change_one table rows c) cs (changed_in_order (same_text c.table table) rows c ordered)
-
--- ---- a copy, row by row: a key above all others goes last
-
-module _ (k : Value) (row : Row) where
-  above_not_below : (p : Value) → value_cmp p k ≡ Less → value_cmp k p ≡ Greater
-  above_not_below p less = values_total.antisymm k p ∙ ap ordering_reverse less
-
-  put_behind : (r : Keyed) (rs : List Keyed) (same before : Bool) → same_value r.key k ≡ same → value_below k r.key ≡ before → value_cmp r.key k ≡ Less
-      → put rs k row ≡ rs ++ record { key = k; row = row } ∷ []
-      → cond same (record { key = k; row = row } ∷ rs) (cond before (record { key = k; row = row } ∷ r ∷ rs) (r ∷ put rs k row)) ≡ r ∷ (rs ++ record { key = k; row = row } ∷ [])
-  put_behind r rs true before same where_ less rest = absurd (true≢false (sym same ∙ sym (same_is r.key k) ∙ ap is_eq (above_not_below r.key less)))
-  put_behind r rs false true same where_ less rest = absurd (true≢false (ap is_lt (sym (below_less k r.key where_) ∙ above_not_below r.key less)))
-  put_behind r rs false false same where_ less rest = ap (λ (all : List Keyed). r ∷ all) rest
-
-  put_last : (rows : List Keyed) → AllByRecursion (λ r. value_cmp r.key k ≡ Less) rows → put rows k row ≡ rows ++ record { key = k; row = row } ∷ []
-  put_last [] all = refl
-  put_last (r ∷ rs) all = put_behind r rs (same_value r.key k) (value_below k r.key) refl refl all.0 (put_last rs all.1)
-
-  below_middle : (p : Value) (rows more : List Keyed) → is_below p (rows ++ record { key = k; row = row } ∷ more) → value_cmp p k ≡ Less
-  below_middle p [] more all = all.0
-  below_middle p (r ∷ rs) more all = below_middle p rs more all.1
-
-  all_below : (rows more : List Keyed) → are_in_order (rows ++ record { key = k; row = row } ∷ more) → AllByRecursion (λ r. value_cmp r.key k ≡ Less) rows
-  unfolding IsStrictlySortedBy
-  all_below [] more ordered = tt
-  all_below (r ∷ rs) more ordered = (below_middle r.key rs more ordered.0, all_below rs more ordered.1)
-
-  -- rows that stand in order are put one behind another
-  pub put_next : (rows more all : List Keyed) → rows ++ record { key = k; row = row } ∷ more ≡ all → are_in_order all → put rows k row ++ more ≡ all
-  put_next rows more all is ordered =
-      ap (λ (front : List Keyed). front ++ more) (put_last rows (all_below rows more (subst are_in_order (sym is) ordered)))
-      ∙ append_assoc rows (record { key = k; row = row } ∷ []) more ∙ is

@@ -1,8 +1,6 @@
 pub mod AtKey
-mod Entries
 mod InOrder
 mod Lookups
-mod Applied
 mod Places
 mod Named
 mod PlaceLaws

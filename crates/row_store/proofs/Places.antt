@@ -1,6 +1,5 @@
 -- The index of a branch's changes finds the last change at each key.
-use Rattle.std.proofs.Common.{◌≡◌, ℕ, ◌+◌, ◌≤◌, Bool, true, false, cond, ◌&&◌, List, [], ◌∷◌, ◌++◌, length, slice_get, None, Some, Option, refl, sym, ap, ◌∙◌, arith, append_assoc, length-append, zero-add, add-zero}
-use Rattle.std.proofs.lemmas.List.Sums.{sum_by_push, sum_by-cons}
+use Rattle.std.proofs.Common.{◌≡◌, ℕ, ◌+◌, Bool, true, false, cond, ◌&&◌, List, [], ◌∷◌, ◌++◌, length, slice_get, None, Some, Option, refl, sym, ap, ◌∙◌, arith, append_assoc, length-append, zero-add, add-zero}
 use Rattle.std.proofs.lemmas.Bool.{and_parts}
 use Rattle.std.specs.Cmp.Lexicographic.{nat_list_eq_equiv, bytes_decides}
 use Rattle.std.specs.Cow.{cow_value}
@@ -12,25 +11,13 @@ use Rattle.dtx_values.specs.declared.value.Value.{Value}
 use Rattle.dtx_values.specs.declared.row.Change.{Change}
 use Rattle.dtx_values.specs.contracts.value.ValuePartialEq.TheImpl as of_value
 use Rattle.dtx_values.specs.Order.{same_value}
-use Rattle.dtx_values.specs.Limits.{changes_limit}
-use Rattle.sql_eval.specs.Rows.{change_length}
 use Rattle.row_store.specs.declared.changed_key.ChangedKey.{ChangedKey}
 use Rattle.row_store.specs.contracts.changed_key.ChangedKeyPartialEq.TheImpl as of_key
 use Rattle.row_store.specs.contracts.changed_key.ChangedKeyEq.TheImpl.Laws.{laws-law}
-use Rattle.row_store.specs.Own.{is_change_of, last_at, changes_length}
-use Rattle.row_store.specs.Kept.{is_key, place_at, last_place, after_at, IsKept}
+use Rattle.row_store.specs.Own.{is_change_of, last_at}
+use Rattle.row_store.specs.Kept.{is_key, place_at, last_place, after_at}
 use Rattle.dtx_values.proofs.ValueOrder.{derived_same, same_is, equal_from_same}
 use Rattle.sql_check.specs.Words.{same_text}
-
--- ---- the bytes
-
--- each change has a byte at least
-few_changes : (cs : List Change) → length cs ≤ changes_length cs
-few_changes [] = omega arith
-few_changes (c ∷ cs) = omega (arith, few_changes cs, sum_by-cons change_length c cs)
-
-pub few_kept : (places : List (ChangedKey × ℕ)) (cs : List Change) (bytes : ℕ) → IsKept places cs bytes → length cs ≤ changes_limit
-few_kept places cs bytes kept = omega (arith, few_changes cs, kept.few)
 
 -- ---- how the map finds a key
 
@@ -128,12 +115,3 @@ module _ (k : ChangedKey) (c : Change) (tables : cow_value k.table ≡ c.table) 
       place_set k c tables keys es fs (Some (length cs)) given table key
       ∙ (λ i. cond (is_change_of table key c) (Some (place i)) (before table key i))
       ∙ sym (last_place_push table key c 0 cs None)
-
-  pub kept_more : (es fs : List (ChangedKey × ℕ)) (cs : List Change) (bytes more : ℕ) → IsKept es cs bytes
-      → ((q : ChangedKey) → lookup (found_as q) fs ≡ cond (found_as k q) (Some (length cs)) (lookup (found_as q) es))
-      → more ≡ change_length c → changes_length (cs ++ c ∷ []) ≤ changes_limit → IsKept fs (cs ++ c ∷ []) (bytes + more)
-  kept_more es fs cs bytes more kept given length few = record {
-    indexed = indexed_more es fs cs given kept.indexed;
-    counted = (λ i. kept.counted i + length i) ∙ sym (sum_by_push change_length cs c);
-    few = few;
-  }

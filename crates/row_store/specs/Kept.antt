@@ -1,16 +1,15 @@
--- How the changes of a branch are kept: with the place of the last change at each key, and with the bytes of all.
-use Rattle.std.specs.Prelude.{◌≡◌, ℕ, ◌+◌, ◌≤◌, ◌&&◌, Bool, if◌then◌else◌, List, [], ◌∷◌, slice_get, Option, Some, None}
+-- How the last change at a key is found: by an index that has its place among the changes.
+use Rattle.std.specs.Prelude.{ℕ, ◌+◌, ◌&&◌, Bool, if◌then◌else◌, List, [], ◌∷◌, slice_get, Option, Some, None}
 use Rattle.std.specs.Cow.{cow_value}
 use Rattle.std.specs.Map.{lookup}
 use Rattle.std.specs.Option.{option_map}
 use Rattle.dtx_values.specs.declared.value.Value.{Value}
 use Rattle.dtx_values.specs.declared.row.Row.{Row}
 use Rattle.dtx_values.specs.declared.row.Change.{Change}
-use Rattle.dtx_values.specs.Limits.{changes_limit}
 use Rattle.sql_check.specs.Words.{same_text}
 use Rattle.dtx_values.specs.Order.{same_value}
 use Rattle.row_store.specs.declared.changed_key.ChangedKey.{ChangedKey}
-use Rattle.row_store.specs.Own.{is_change_of, changes_length}
+use Rattle.row_store.specs.Own.{is_change_of}
 
 -- whether a key of the index is this one
 abbrev pub is_key : List ℕ → Value → ChangedKey → Bool
@@ -29,9 +28,3 @@ last_place place (c ∷ cs) table key last = last_place (place + 1) cs table key
 abbrev pub after_at : List Change → Option ℕ → Option (Option Row)
 after_at cs None = None
 after_at cs (Some place) = option_map (λ c. c.after) (slice_get cs place)
-
--- the index has the place of the last change at each key, and the bytes are those of the changes, within their limit
-pub record IsKept (places : List (ChangedKey × ℕ)) (changes : List Change) (bytes : ℕ) : Type 0 where
-  pub indexed : (table : List ℕ) (key : Value) → place_at places table key ≡ last_place 0 changes table key None
-  pub counted : bytes ≡ changes_length changes
-  pub few : changes_length changes ≤ changes_limit

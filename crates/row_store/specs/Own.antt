@@ -1,6 +1,6 @@
--- What a branch has changed, what it sees of a table, and the undo that it holds.
+-- The last change at a key, what a branch sees of a table, and the undo of its changes.
 use Rattle.std.specs.Int.{div_ceil}
-use Rattle.std.specs.Prelude.{ℕ, ◌+◌, ◌&&◌, Bool, if◌then◌else◌, List, [], ◌∷◌, ◌++◌, sum_by, Option, Some}
+use Rattle.std.specs.Prelude.{ℕ, ◌&&◌, Bool, if◌then◌else◌, List, [], ◌∷◌, sum_by, Option, Some}
 use Rattle.dtx_values.specs.declared.value.Value.{Value}
 use Rattle.dtx_values.specs.declared.row.Row.{Row}
 use Rattle.dtx_values.specs.declared.row.Change.{Change}
@@ -10,19 +10,6 @@ use Rattle.sql_check.specs.Words.{same_text}
 use Rattle.dtx_values.specs.Order.{same_value}
 use Rattle.sql_eval.specs.Rows.{get, apply, change_length}
 use Rattle.row_store.specs.Tables.{TableRows, rows_of_table}
-
--- What a branch has changed so far, in order, and how many bytes the undo of that takes.
-pub record Own : Type 0 where
-  pub changes : List Change
-  pub undo : ℕ
-
--- a branch that has changed nothing
-abbrev pub nothing_changed : Own
-nothing_changed = record { changes = []; undo = 0 }
-
--- with the changes of one more statement, and their undo
-abbrev pub with_changes : Own → List Change → ℕ → Own
-with_changes own cs undo = record { changes = own.changes ++ cs; undo = own.undo + undo }
 
 -- the bytes of these changes
 abbrev pub changes_length : List Change → ℕ

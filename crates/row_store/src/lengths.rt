@@ -8,8 +8,8 @@ ghost use Rattle.row_store.specs.Own.{changes_length, extents as extents_of};
 use dtx_values::{Change, EXTENT_SIZE, Row, Value};
 use std::alloc::AllocError;
 
-/// The bytes of a value: one for NULL, nine for a number, and three more than its own for a text.
-pub fn value_len(value: &Value) -> u64
+// The bytes of a value: one for NULL, nine for a number, and three more than its own for a text.
+fn value_len(value: &Value) -> u64
     ensures { result ≡ value_length value.now }
 {
     match value {
@@ -19,8 +19,8 @@ pub fn value_len(value: &Value) -> u64
     }
 }
 
-/// The bytes of a row, or of no row.
-pub fn row_len(row: Option<&Row>) -> Result<u64, AllocError>
+// The bytes of a row, or of no row.
+fn row_len(row: Option<&Row>) -> Result<u64, AllocError>
     ensures bytes { IfOk result (λ bytes. bytes ≡ row_length (option_copied row.entry)) }
     ensures many { OnErr result (2 ^ 64 ≤ row_length (option_copied row.entry)) }
 {
@@ -31,7 +31,7 @@ pub fn row_len(row: Option<&Row>) -> Result<u64, AllocError>
 }
 
 /// The bytes of a change with this row in place of its own, or with no row.
-pub fn change_len_with(change: &Change, after: Option<&Row>) -> Result<u64, AllocError>
+pub(crate) fn change_len_with(change: &Change, after: Option<&Row>) -> Result<u64, AllocError>
     ensures bytes { IfOk result (λ bytes. bytes ≡ change_length (record change.now { after = option_copied after.entry })) }
     ensures many { OnErr result (2 ^ 64 ≤ change_length (record change.now { after = option_copied after.entry })) }
 {
@@ -41,7 +41,7 @@ pub fn change_len_with(change: &Change, after: Option<&Row>) -> Result<u64, Allo
 }
 
 /// The bytes of a change.
-pub fn change_len(change: &Change) -> Result<u64, AllocError>
+pub(crate) fn change_len(change: &Change) -> Result<u64, AllocError>
     ensures bytes { IfOk result (λ bytes. bytes ≡ change_length change.now) }
     ensures many { OnErr result (2 ^ 64 ≤ change_length change.now) }
 {

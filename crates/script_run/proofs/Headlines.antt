@@ -21,6 +21,7 @@ use Rattle.script_run.specs.Ending.{IsWhole, ending_of}
 use Rattle.script_run.proofs.ScriptLemmas.{of_a_script}
 use Rattle.world.specs.declared.ran.Ran.{Ran}
 use Rattle.done_laws.specs.ToldDone.{DoneIsTold}
+use Rattle.complete_laws.specs.CompleteLaws.{LawfulCommitsAreComplete}
 use Rattle.world.specs.Ran.{IsRan, as_ending}
 
 -- the run that these lists tell
@@ -40,7 +41,7 @@ nothing_told : IsTold (history_of nothing_done no_script) [] All_run
 unfolding past due_of
 nothing_told = (refl, tt)
 
-module _ (lawful : TheRunIsLawful) (knows : EveryTurnKnows) (meant : EveryRunIsMeant) (comes : EveryAnswerHasItsPlace) (tells : DoneIsTold) (sites : EverySiteDecides) (covers : EveryDecisionCovers) (agrees : EveryBookAgrees) (marked : EveryMixedIsMarked) (later : EveryScnIsLater) where
+module _ (lawful : TheRunIsLawful) (knows : EveryTurnKnows) (meant : EveryRunIsMeant) (comes : EveryAnswerHasItsPlace) (tells : DoneIsTold) (completes : LawfulCommitsAreComplete) (sites : EverySiteDecides) (covers : EveryDecisionCovers) (agrees : EveryBookAgrees) (marked : EveryMixedIsMarked) (later : EveryScnIsLater) where
   -- by the laws, of what is due and told
   by_laws : (run : Run) (ending : Ending) (script : AreOfAScript (places_of run.commands) run.commands)
       → IsTheRun (places_of run.commands) run.commands (start (places_of run.commands)) run.trace → run.book ≡ book_of run.trace
@@ -58,6 +59,7 @@ module _ (lawful : TheRunIsLawful) (knows : EveryTurnKnows) (meant : EveryRunIsM
         meant = meant t may;
         come = comes t due;
         done = tells t due;
+        completes = completes t may;
         site = sites t may;
         covers = covers t may;
         agrees = subst Agreement (sym booked) (agrees t may);
@@ -96,6 +98,7 @@ stands_too run is = record {
   meant = is.meant;
   come = is.come;
   done = is.done;
+  completes = is.completes;
   site = is.site;
   covers = is.covers;
   agrees = is.agrees;

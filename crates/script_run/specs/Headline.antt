@@ -9,6 +9,7 @@ use Rattle.run_laws.specs.Meanings.{RunsAreMeant}
 use Rattle.run_laws.specs.Places.{AnswersHavePlaces}
 use Rattle.run_laws.specs.Site.{SiteDecides, Coverage}
 use Rattle.done_laws.specs.ToldDone.{TellsWhatIsDone}
+use Rattle.complete_laws.specs.CompleteLaws.{CommitsAreComplete}
 use Rattle.script_run.specs.declared.outcome.Run.{Run}
 
 -- a run over the nodes that its script makes, as the laws of runs have it
@@ -22,9 +23,11 @@ history_of run script = record { places = places_of run.commands; commands = run
 -- written or said, by what came to its branch and what happened before. Where a node runs a query, it answers the query's
 -- meaning over the rows that the book leaves there, with the asker's own changes, and so a change counts the rows that it
 -- means; what a client is answered is what such a run answered, at the table to which the names in its statement lead. What a
--- client is told is created, set, forced or purged is on the disk, and nothing else is. Each decision is made by the commit point site of its session tree, once every other branch with changes on it or
--- below it is sealed; a branch is sealed or decided with the changes that its own statements made, and a seal names the
--- neighbour on the way to the site. Branches end as their site decided, mixed outcomes are marked, and the SCN law holds.
+-- client is told is created, set, forced or purged is on the disk, and nothing else is. A COMMIT that nothing disturbs is
+-- answered Commit complete, and leaves nothing in doubt. Each decision is made by the commit point site of its session tree,
+-- once every other branch with changes on it or below it is sealed; a branch is sealed or decided with the changes that its
+-- own statements made, and a seal names the neighbour on the way to the site. Branches end as their site decided, mixed
+-- outcomes are marked, and the SCN law holds.
 pub record IsRun (run : Run) (ending : Ending) : Type 0 where
   pub script : AreOfAScript (places_of run.commands) run.commands
   pub due : IsTheRunOf (history_of run script)
@@ -35,6 +38,7 @@ pub record IsRun (run : Run) (ending : Ending) : Type 0 where
   pub meant : RunsAreMeant (history_of run script)
   pub come : AnswersHavePlaces (history_of run script)
   pub done : TellsWhatIsDone (history_of run script)
+  pub completes : CommitsAreComplete (history_of run script)
   pub site : SiteDecides (history_of run script)
   pub covers : Coverage (history_of run script)
   pub agrees : Agreement run.book

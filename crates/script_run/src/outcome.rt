@@ -3,6 +3,7 @@ ghost use Rattle.std.specs.Prelude.{◌≡◌, []};
 ghost use Rattle.script_read.specs.Sound.{IsOfAScript};
 ghost use Rattle.run_laws.specs.Headline.{places_of, All_run, TheRunIsLawful, EveryTurnKnows, EveryRunIsMeant, EveryAnswerHasItsPlace, EverySiteDecides, EveryDecisionCovers, EveryBookAgrees, EveryMixedIsMarked, EveryScnIsLater};
 ghost use Rattle.done_laws.specs.ToldDone.{DoneIsTold};
+ghost use Rattle.complete_laws.specs.CompleteLaws.{LawfulCommitsAreComplete};
 ghost use Rattle.world.specs.Ran.{IsRan, as_ending};
 ghost use Rattle.script_run.specs.Headline.{IsRun, nothing_done};
 ghost use Rattle.script_run.specs.Ending.{status_code};
@@ -10,6 +11,7 @@ ghost use Rattle.script_run.specs.Ending.{status_code};
 use answer_laws::every_answer_has_its_place;
 use book::{AnswerLines, Book, Trace};
 use book_laws::every_scn_is_later;
+use complete_laws::lawful_commits_are_complete;
 use done_laws::done_is_told;
 use dtx_values::Listing;
 use due_laws::the_run_is_lawful;
@@ -78,6 +80,7 @@ fn laws_of_runs()
     ensures meant { EveryRunIsMeant }
     ensures comes { EveryAnswerHasItsPlace }
     ensures tells { DoneIsTold }
+    ensures completes { LawfulCommitsAreComplete }
     ensures sites { EverySiteDecides }
     ensures covers { EveryDecisionCovers }
     ensures agrees { EveryBookAgrees }
@@ -89,6 +92,7 @@ fn laws_of_runs()
     every_run_is_meant();
     every_answer_has_its_place();
     done_is_told();
+    lawful_commits_are_complete();
     every_site_decides();
     every_decision_covers();
     every_book_agrees();

@@ -10,6 +10,11 @@ use Rattle.sql_check.specs.Words.{same_text}
 use Rattle.sql_eval.specs.Rows.{apply}
 use Rattle.sql_eval.specs.Laws.{has_one_key, AreRowsOf, IsChangeOf}
 use Rattle.sql_eval.proofs.RowLaws.{rows_stay}
+use Rattle.tran_ids.specs.declared.branch.BranchId.{BranchId}
+use Rattle.row_store.specs.declared.pending.Owned.{Owned}
+use Rattle.row_store.specs.Own.{view_of}
+use Rattle.row_store.specs.Pending.{changes_of}
+use Rattle.row_store.specs.Store.{Contents, sets_at, seen_by}
 use Rattle.row_store.specs.Tables.{TableRows, apply_all, rows_of_table, with_table}
 
 -- of two columns of different names the first is the key
@@ -29,3 +34,7 @@ rows_of_two t a b tables first second are =
     let Is = λ (c : Change). same_text c.table t.name ≡ true → IsChangeOf t c in
     let rows = rows_stay t [] (a ∷ b ∷ []) tt (All-cons Is a (b ∷ []) (λ same. first) (All-cons Is b [] (λ same. second) (All-nil Is))) in
     subst (λ (ts : List TableRows). AreRowsOf t (rows_of_table ts t.name)) (sym are) (either t (same_text t.name t.name) (apply t.name [] (a ∷ b ∷ [])) rows)
+
+-- where no branch has changed anything, each sees the committed rows
+pub seen_at_first : (t : Table) (s : Contents) (b : BranchId) → s.owns ≡ [] → AreRowsOf t (rows_of_table s.rows t.name) → AreRowsOf t (seen_by s b t.name)
+seen_at_first t s b none are = subst (λ (owns : List Owned). AreRowsOf t (view_of s.rows (changes_of (sets_at owns b)) t.name)) (sym none) are

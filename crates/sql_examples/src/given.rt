@@ -1,5 +1,9 @@
 //! What several examples begin with. Where the bytes are no name or no text, it is as if there were no memory for it.
-use dtx_values::{Name, Str, Value};
+ghost use Rattle.std.specs.Prelude.{◌≡◌, true, IfOk};
+ghost use Rattle.row_store.specs.Store.{has_table};
+
+use dtx_values::{Duplicate, Name, Str, Value};
+use row_store::Store;
 use std::alloc::{AllocError, Global};
 
 pub(crate) fn name(alloc: Global, bytes: &[u8]) -> Result<Name, AllocError> {
@@ -18,4 +22,13 @@ pub(crate) fn text(alloc: Global, bytes: &[u8]) -> Result<Value, AllocError> {
 
 pub(crate) fn is_text(value: &Value, bytes: &[u8]) -> bool {
     matches!(value, Value::Text(text) if text.as_bytes() == bytes)
+}
+
+/// A store of so many extents with a table, which has no rows.
+pub(crate) fn store_of(alloc: Global, table: &Name, undo: u32) -> Result<Store, AllocError>
+    ensures { IfOk result (λ store. has_table store.rows table.now ≡ true) }
+{
+    let mut store = Store::new(alloc, undo);
+    store.add_table(alloc, table.copy(alloc)?)?;
+    Ok(store)
 }

@@ -1,19 +1,8 @@
 //! What no script shows of what statements mean, by an example: the order in which keys are examined.
 use crate::given::{is_text, text};
 use dtx_values::{Cells, Row, Value};
-use row_store::KeyedRows;
-use sql_eval::examined;
+use sql_eval::{KeyedRef, examined};
 use std::alloc::{AllocError, Global};
-
-/// Rows at 9 and 10.
-fn rows(alloc: Global) -> Result<KeyedRows, AllocError> {
-    let mut rows = KeyedRows::new(alloc);
-    for key in [9, 10] {
-        let cells = Cells::new(alloc);
-        rows.put(Value::Number(key), Row { cells })?;
-    }
-    Ok(rows)
-}
 
 /// Keys that are locked, out of their order.
 fn locked(alloc: Global) -> Result<Vec<Value>, AllocError> {
@@ -22,11 +11,23 @@ fn locked(alloc: Global) -> Result<Vec<Value>, AllocError> {
     Ok(vec![in alloc; long, Value::Number(-1), Value::Number(10), short]?)
 }
 
-/// The keys that a statement examines which fixes none, where there are rows at 9 and 10 beside those.
+/// The keys that a statement examines which fixes none, where this row stands at two keys beside those.
+fn keys_beside<'a>(
+    alloc: Global,
+    first: &'a Value,
+    second: &'a Value,
+    row: &'a Row,
+) -> Result<Vec<Value>, AllocError> {
+    let rows = [KeyedRef { key: first, row }, KeyedRef { key: second, row }];
+    examined(alloc, &rows, &locked(alloc)?)
+}
+
+/// The same where there are rows at 9 and 10.
 fn keys_of(alloc: Global) -> Result<Vec<Value>, AllocError> {
-    let locked = locked(alloc)?;
-    let rows = rows(alloc)?;
-    examined(alloc, &rows.refs(alloc)?, &locked)
+    let row = Row {
+        cells: Cells::new(alloc),
+    };
+    keys_beside(alloc, &Value::Number(9), &Value::Number(10), &row)
 }
 
 /// Whether these are the keys in their order, each once.

@@ -1,17 +1,18 @@
 //! What no script can show yet of a statement at its node: a key in doubt, by an example.
-ghost use Rattle.std.specs.Prelude.{◌≡◌, true, false, length, position, Some, IfOk};
+ghost use Rattle.std.specs.Prelude.{◌≡◌, [], true, false, length, position, Some, IfOk};
 ghost use Rattle.std.specs.Str.{bytes_eq};
 ghost use Rattle.sql_eval.specs.Laws.{has_one_key, AreRowsOf, IsChangeOf};
+ghost use Rattle.row_store.specs.Store.{has_table};
 ghost use Rattle.row_store.specs.Tables.{rows_of_table};
 
 use crate::given::name;
 use crate::statements::statement;
 use dtx_values::{Answer, Change, Column, Duplicate, Listing, Name, Row, Table, Value};
 use row_locks::Locks;
-use row_store::{OwnChanges, Tables};
+use row_store::Store;
 use sql_statement::Stmt;
 use std::alloc::{AllocError, Global};
-use stmt_run::run;
+use stmt_store::run;
 use token_grammar::ReadErr;
 use tran_ids::BranchId;
 
@@ -89,18 +90,20 @@ fn employed(alloc: Global, table: &Table, number: i64) -> Result<Change, AllocEr
     })
 }
 
-/// EMP with the employees 1 and 2.
-fn staffed(alloc: Global, table: &Table) -> Result<Tables, AllocError>
+/// A store of one extent where EMP has the employees 1 and 2, and no branch has changed anything.
+fn staffed(alloc: Global, table: &Table) -> Result<Store, AllocError>
     requires columns { length table.now.columns ≡ 2 }
     requires key { position (λ c. c.key) table.now.columns ≡ Some 0 }
-    ensures { IfOk result (λ tables. AreRowsOf table.now (rows_of_table tables table.now.name)) }
+    ensures table { IfOk result (λ store. has_table store.rows table.now.name ≡ true) }
+    ensures rows { IfOk result (λ store. AreRowsOf table.now (rows_of_table store.rows table.now.name)) }
+    ensures owns { IfOk result (λ store. store.owns ≡ []) }
 {
     let first = employed(alloc, table, 1)?;
     let second = employed(alloc, table, 2)?;
-    let mut tables = Tables::new(alloc);
-    tables.add_table(alloc, table.name.copy(alloc)?)?;
-    tables.apply(alloc, &[first, second])?;
-    Ok(tables)
+    let mut store = Store::new(alloc, 1);
+    store.add_table(alloc, table.name.copy(alloc)?)?;
+    store.apply(alloc, &[first, second])?;
+    Ok(store)
 }
 
 /// The code of a refusal, or 0.
@@ -116,22 +119,23 @@ fn first(
     alloc: Global,
     statement: &Stmt,
     table: &Table,
-    tables: &Tables,
+    store: &mut Store,
     locks: &mut Locks,
 ) -> Result<u16, AllocError>
     requires one_key { has_one_key table.now ≡ true }
-    requires rows { AreRowsOf table.now (rows_of_table tables.now table.now.name) }
+    requires table { has_table store.old.rows table.now.name ≡ true }
+    requires rows { AreRowsOf table.now (rows_of_table store.old.rows table.now.name) }
+    requires owns { store.old.owns ≡ [] }
 {
-    let mut own = OwnChanges::new(alloc);
-    let answer = run(alloc, statement, table, tables, &mut own, locks, &ME, 1)?;
+    let answer = run(alloc, statement, table, store, locks, &ME)?;
     Ok(code_of(&answer))
 }
 
 /// The same at a node where EMP has the employees 1 and 2.
 fn among_staff(alloc: Global, statement: &Stmt, locks: &mut Locks) -> Result<u16, AllocError> {
     let table = emp(alloc)?;
-    let tables = staffed(alloc, &table)?;
-    first(alloc, statement, &table, &tables, locks)
+    let mut store = staffed(alloc, &table)?;
+    first(alloc, statement, &table, &mut store, locks)
 }
 
 /// Puts a lock on the key 1, of another branch, and on the key 2, of a branch in doubt.

@@ -2,9 +2,9 @@
 ghost use Rattle.std.specs.Prelude.{◌≡◌, IfOk};
 ghost use Rattle.std.specs.List.{AllByRecursion};
 
-use crate::given::{name, text};
+use crate::given::{name, store_of, text};
 use dtx_values::{Cells, Change, Changes, Duplicate, Name, Row, Value};
-use row_store::{Store, StoreErr};
+use row_store::StoreErr;
 use std::alloc::{AllocError, Global};
 use tran_ids::BranchId;
 
@@ -55,8 +55,7 @@ fn said_to(alloc: Global, count: i64) -> Result<Said, AllocError> {
     let table = name(alloc, b"t")?;
     let letters = text(alloc, vec![in alloc; b'x'; 2000]?.as_slice())?;
     let changes = wide_changes(alloc, &table, &letters, count)?;
-    let mut store = Store::new(alloc, 2048);
-    store.add_table(alloc, table.copy(alloc)?)?;
+    let mut store = store_of(alloc, &table, 2048)?;
     let said = store.set_pending(alloc, &branch(), changes);
     let rows = store.all(alloc, &branch(), &table)?.len();
     Ok((said, store.free(), store.has_changes(&branch()), rows))

@@ -21,7 +21,7 @@ use Rattle.row_locks.specs.Locks.{Lock, another, holder_of, taken, keys_held}
 use Rattle.row_locks.specs.Held.{in_doubt_one, live_one, doubt_on, hold_on}
 use Rattle.stmt_run.specs.declared.ran.Ran.{Ran}
 use Rattle.stmt_run.specs.Run.{Ground, held_refusal, in_doubt_refusal, locked_refusal, space_refusal, ran_within, ran_meant, ran_locked, ran_checked, ran_over}
-use Rattle.stmt_run.specs.Sites.{IsFree, LocksFreeKeys}
+use Rattle.stmt_run.specs.Keys.{IsFree, LocksFreeKeys}
 use Rattle.stmt_run.proofs.Examined.{written_examined}
 
 -- ---- a key that is taken leaves the others free

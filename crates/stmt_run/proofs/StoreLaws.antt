@@ -1,5 +1,5 @@
 -- A store refuses the changes of a statement exactly where the rules of space do, and takes them as one set.
-use Rattle.std.proofs.Common.{◌≡◌, ℕ, ◌+◌, ◌-◌, Bool, true, false, cond, List, [], ◌∷◌, ◌++◌, Option, None, Some, map, nat_lt, refl, sym, ap, ◌∙◌, arith}
+use Rattle.std.proofs.Common.{◌≡◌, ℕ, ◌+◌, ◌-◌, Bool, true, false, cond, List, [], ◌∷◌, ◌++◌, Option, None, Some, map, nat_lt, refl, sym, ap, ◌∙◌}
 use Rattle.std.proofs.lemmas.List.Sums.{sum_by-cons, sum_by-append}
 use Rattle.std.proofs.lemmas.Grind.{flat_map-append}
 use Rattle.dtx_values.specs.declared.row.Change.{Change}
@@ -10,9 +10,9 @@ use Rattle.sql_eval.specs.Rows.{change_length}
 use Rattle.sql_check.specs.Refusals.{ora, dtx, else_refuse, refuse_if}
 use Rattle.row_store.specs.declared.pending.ChangeSet.{ChangeSet}
 use Rattle.row_store.specs.declared.store_err.StoreErr.{StoreErr}
-use Rattle.row_store.specs.declared.store_err.StoreErr.TheVariants.{Full, TooLarge, NoMemory}
+use Rattle.row_store.specs.declared.store_err.StoreErr.TheVariants.{Full, TooLarge}
 use Rattle.row_store.specs.Own.{before, changes_length, extents, undo_length}
-use Rattle.row_store.specs.Pending.{undo_of, set_over}
+use Rattle.row_store.specs.Pending.{undo_of}
 use Rattle.row_store.specs.Store.{sets_at, set_seen, seen_by, own_changes, extents_free, with_set}
 use Rattle.row_store.proofs.SetOver.{set_seen_over}
 use Rattle.stmt_run.specs.Stored.{refusal_told, StoreRefusesAlike, StoreTakesOneSet}

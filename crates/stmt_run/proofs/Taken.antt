@@ -13,7 +13,7 @@ use Rattle.dtx_values.proofs.ValueOrder.{same_from_equal}
 use Rattle.tran_ids.specs.declared.branch.BranchId.{BranchId}
 use Rattle.row_locks.specs.Locks.{Lock, taken}
 use Rattle.stmt_run.specs.Run.{take_keys}
-use Rattle.stmt_run.specs.Sites.{IsHeld}
+use Rattle.stmt_run.specs.Keys.{IsHeld}
 
 module _ (me : BranchId) (table : List ℕ) where
   -- ---- the locks from before stand first

@@ -1,3 +1,3 @@
 pub mod Run
-pub mod Sites
+pub mod Keys
 pub mod Stored

@@ -21,7 +21,7 @@ use Rattle.sql_check.specs.Checks.{checked}
 use Rattle.sql_eval.specs.Meaning.{examined, written, meant_over}
 use Rattle.row_locks.specs.Locks.{Lock, keys_held, taken}
 use Rattle.row_locks.specs.Held.{doubt_on, hold_on}
-use Rattle.row_store.specs.Own.{Own, with_changes, changes_length, undo_length, extents}
+use Rattle.row_store.specs.Own.{changes_length, undo_length, extents}
 use Rattle.stmt_run.specs.declared.ran.Ran.{Ran}
 use Rattle.stmt_run.specs.declared.ran.Ran.TheVariants.{Refuses, Reads, Writes}
 
@@ -99,12 +99,6 @@ abbrev pub locks_after : List Lock → BranchId → Table → Ran → List Lock
 locks_after locks me t (Refuses r) = locks
 locks_after locks me t (Reads rows keys) = take_keys locks me t.name false keys
 locks_after locks me t (Writes d cs keys undo) = take_keys locks me t.name true keys
-
--- what the branch has changed after a run
-abbrev pub own_after : Own → Ran → Own
-own_after own (Refuses r) = own
-own_after own (Reads rows keys) = own
-own_after own (Writes d cs keys undo) = with_changes own cs undo
 
 -- what is answered to a run
 abbrev pub answer_of_run : Ran → Answer

@@ -17,7 +17,7 @@ use Rattle.row_store.specs.Own.{changes_length}
 use Rattle.row_store.specs.Pending.{undo_of, set_over}
 use Rattle.row_store.specs.Store.{Contents, sets_at, with_set, with_pending, own_changes, seen_by, extents_free, refusal_of}
 use Rattle.stmt_run.specs.declared.ran.Ran.{Ran}
-use Rattle.stmt_run.specs.declared.ran.Ran.TheVariants.{Refuses, Reads, Writes}
+use Rattle.stmt_run.specs.declared.ran.Ran.TheVariants.{Writes}
 use Rattle.stmt_run.specs.Run.{Ground, space_refusal}
 
 -- what a statement of a branch meets at a table of a store

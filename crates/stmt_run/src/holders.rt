@@ -1,37 +1,15 @@
 //! Who holds the keys of a statement, and taking them.
-ghost use Rattle.std.specs.Prelude.{◌≡◌, map, take, length, true, false, IfOk, OnOk, OnErr};
+ghost use Rattle.std.specs.Prelude.{◌≡◌, map, take, length, true, false, OnOk, OnErr};
 ghost use Rattle.std.specs.List.{All};
 ghost use Rattle.sql_check.specs.Words.{first_some};
-ghost use Rattle.sql_check.specs.Refusals.{else_refuse};
 ghost use Rattle.row_locks.specs.Held.{doubt_on as doubt_on_of, hold_on as hold_on_of};
-ghost use Rattle.stmt_run.specs.Run.{held_refusal, locked_refusal, take_keys};
-ghost use Rattle.stmt_run.specs.Sites.{ground_of, IsFree, IsHeld};
+ghost use Rattle.stmt_run.specs.Run.{take_keys};
+ghost use Rattle.stmt_run.specs.Keys.{IsFree, IsHeld};
 
-use crate::Site;
-use crate::refusal::held;
-use dtx_values::{Name, Refusal, Table, Value};
+use dtx_values::{Name, Value};
 use row_locks::{LockErr, Locks};
 use std::alloc::{AllocError, Global};
 use tran_ids::BranchId;
-
-/// ORA-01591 where a branch in doubt holds an examined key, or else ORA-02049 for the first of the written keys that another
-/// live branch holds.
-pub fn lock_refusal(
-    alloc: Global,
-    table: &Table,
-    site: &Site,
-    in_doubt: Option<BranchId>,
-    written: &[Value],
-) -> Result<Option<Refusal>, AllocError>
-    ensures { IfOk result (λ refusal.
-        refusal ≡ else_refuse (held_refusal 1591 in_doubt) (locked_refusal (ground_of site.now) table.now written.now)) }
-{
-    if let Some(refusal) = held(alloc, 1591, in_doubt)? {
-        return Ok(Some(refusal));
-    }
-    let holder = first_holder(site.locks, site.me, &table.name, written);
-    held(alloc, 2049, holder)
-}
 
 /// Takes keys to read their rows. After an error no key is taken.
 pub fn take_all(

@@ -27,7 +27,7 @@ use Rattle.row_store.specs.Store.{Contents, AreOfTables, bytes_with, extents_nee
 use Rattle.row_store.specs.Tables.{TableRows}
 use Rattle.stmt_run.specs.declared.ran.Ran.{Ran}
 use Rattle.stmt_run.specs.Run.{ran_over, ran_within}
-use Rattle.stmt_run.specs.Sites.{LocksFreeKeys}
+use Rattle.stmt_run.specs.Keys.{LocksFreeKeys}
 use Rattle.stmt_run.specs.Stored.{AreOfOneTable, ground_in, refusal_told, store_after_run}
 use Rattle.stmt_run.proofs.Free.{run_locks_free}
 use Rattle.stmt_run.proofs.Lengths.{count_bound}

@@ -11,7 +11,7 @@ ghost use Rattle.sql_eval.specs.Laws.{has_one_key, AreRowsOf};
 ghost use Rattle.sql_eval.specs.Meaning.{examined, meant_over as meant_over_of, written as written_of};
 ghost use Rattle.sql_eval.specs.declared.meant.Meant.TheVariants as meants;
 ghost use Rattle.stmt_run.specs.Run.{held_refusal, locked_refusal, ran_checked, ran_locked, ran_meant, ran_over};
-ghost use Rattle.stmt_run.specs.Sites.{IsFree};
+ghost use Rattle.stmt_run.specs.Keys.{IsFree};
 ghost use Rattle.stmt_store.specs.Stores.{ground_of, view_of, ChangesOnly};
 
 use crate::sight::Sight;

@@ -4,7 +4,7 @@ ghost use Rattle.std.specs.List.{All};
 ghost use Rattle.row_store.specs.Store.{AreOfTables, has_table, refusal_of};
 ghost use Rattle.sql_eval.specs.Laws.{AreChangesOf};
 ghost use Rattle.stmt_run.specs.Run.{answer_of_run, locks_after};
-ghost use Rattle.stmt_run.specs.Sites.{IsFree};
+ghost use Rattle.stmt_run.specs.Keys.{IsFree};
 ghost use Rattle.stmt_run.specs.Stored.{ground_in, refusal_told, store_after_run};
 ghost use Rattle.stmt_store.specs.Stores.{kept_unless, ran_changing};
 

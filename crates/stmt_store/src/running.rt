@@ -4,7 +4,7 @@ ghost use Rattle.std.specs.List.{All};
 ghost use Rattle.row_store.specs.Store.{has_table, seen_by};
 ghost use Rattle.sql_eval.specs.Laws.{has_one_key, AreRowsOf};
 ghost use Rattle.stmt_run.specs.Run.{answer_of_run, locks_after, ran_over, ran_meant};
-ghost use Rattle.stmt_run.specs.Sites.{IsFree};
+ghost use Rattle.stmt_run.specs.Keys.{IsFree};
 ghost use Rattle.stmt_run.specs.Stored.{ground_in, store_after_run};
 ghost use Rattle.stmt_store.specs.Stores.{ChangesOnly};
 

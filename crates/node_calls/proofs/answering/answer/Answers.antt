@@ -9,8 +9,8 @@ returns-in_ok-deed-in-None-clause-gives c =
     client_answered (kept_in c.args.memory.now) c.args.branch.now c.in-Some.live.now (sym c.in-Some.ensures.live) c.args.answer _ _ c.in-None.is c.in_ok-deed-in-None.ensures.after
     c.in_ok-deed-in-None.ensures.deed
 
-pub returns-in_ok-deed-in-Some-parent-clause-gives : goal.returns-in_ok-deed-in-Some-parent-clause-gives
-returns-in_ok-deed-in-Some-parent-clause-gives c =
+pub returns-in_ok-deed-in-Ok-clause-gives : goal.returns-in_ok-deed-in-Ok-clause-gives
+returns-in_ok-deed-in-Ok-clause-gives c =
     parent_answered (kept_in c.args.memory.now) c.args.branch.now c.in-Some.live.now (sym c.in-Some.ensures.live) c.args.answer c.in-Some-parent.parent c.reply_fields-fields.result
-    c.in_ok-says-in-Some-parent.says _ _ c.in-Some-parent.is c.reply_fields-fields.ensures c.in_ok-says-in-Some-parent.ensures c.in_ok-deed-in-Some-parent.ensures.after
-    c.in_ok-deed-in-Some-parent.ensures.deed
+    c.in-Ok.says _ _ c.in-Some-parent.is c.reply_fields-fields.ensures c.in-Ok.ensures c.in_ok-deed-in-Ok.ensures.after
+    c.in_ok-deed-in-Ok.ensures.deed

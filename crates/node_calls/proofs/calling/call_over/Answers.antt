@@ -4,7 +4,7 @@ use Rattle.node_memory.specs.Parts.{kept_in}
 use Rattle.node_calls.proofs.DeedLaws.{called_so}
 use Rattle.node_calls.proofs.calling.call_over.Goals as goal
 
-pub returns-clause-gives : goal.returns-clause-gives
-returns-clause-gives c =
-    called_so (kept_in c.args.memory.now) c.args.branch.now c.in-Some.live.now (sym c.in-Some.ensures.live) c.args.statement c.args.given c.args.number c.in_ok-says.says _ _ _
-    c.in_ok-call_over.ensures.ok c.pend.ensures c.in_ok-says.ensures c.saying.ensures.is
+pub returns-in-Ok-call_over-clause-gives : goal.returns-in-Ok-call_over-clause-gives
+returns-in-Ok-call_over-clause-gives c =
+    called_so (kept_in c.args.memory.now) c.args.branch.now c.in-Some.live.now (sym c.in-Some.ensures.live) c.args.statement c.args.given c.args.number c.in-Ok.says _ _ _
+    c.in-Ok-call_over.ensures.ok c.pend.ensures c.in-Ok.ensures c.saying.ensures.is

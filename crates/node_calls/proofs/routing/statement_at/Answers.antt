@@ -40,36 +40,37 @@ answer-requires c =
     let changes = makes_changes (at_store m m.own_undo b c.args.statement.now c.in-RunsHere.table.now) in
     subst (λ (ls : List Live). IfSome (item_at live_id ls b) (λ l. count l < 2 ^ 16)) (sym c.in_ok-told-in-RunsHere.ensures.lives) (few_changed (changed_by changes) (λ l. refl) (λ l. refl) m.lives b c.requires.few)
 
-pub returns-in_ok-deed-in-RunsHere-clause-gives : goal.returns-in_ok-deed-in-RunsHere-clause-gives
-returns-in_ok-deed-in-RunsHere-clause-gives c =
+pub returns-in_ok-told-in-RunsHere-clause-gives : goal.returns-in_ok-told-in-RunsHere-clause-gives
+returns-in_ok-told-in-RunsHere-clause-gives c =
     let m = c.args.memory.now in
     let way = sym (c.in-RunsHere.ensures (stored_in m).durable refl) in
-    ran_here m m.own_undo c.args.branch.now c.args.statement.now c.in-RunsHere.table.now c.in-Some.live.now c.args.given c.in_ok-told-in-RunsHere.told _ _ _ _ _ (sym c.in-Some.ensures.live) way
-    c.in_ok-told-in-RunsHere.ensures.answer c.in_ok-told-in-RunsHere.ensures.store c.in_ok-told-in-RunsHere.ensures.locks c.in_ok-told-in-RunsHere.ensures.lives c.in_ok-deed-in-RunsHere.ensures.gives
+    ran_here m m.own_undo c.args.branch.now c.args.statement.now c.in-RunsHere.table.now c.in-Some.live.now c.args.given c.in_ok-told-in-RunsHere.told _ _ _ (kept_in c.answer.new.memory) c.answer.result (sym c.in-Some.ensures.live) way
+    c.in_ok-told-in-RunsHere.ensures.answer c.in_ok-told-in-RunsHere.ensures.store c.in_ok-told-in-RunsHere.ensures.locks c.in_ok-told-in-RunsHere.ensures.lives c.answer.ensures.gives
 
 -- ---- it is refused
 
-pub returns-in_ok-deed-in-NowhereTo-clause-gives : goal.returns-in_ok-deed-in-NowhereTo-clause-gives
-returns-in_ok-deed-in-NowhereTo-clause-gives c =
+pub returns-in-NowhereTo-clause-gives : goal.returns-in-NowhereTo-clause-gives
+returns-in-NowhereTo-clause-gives c =
     let m = c.args.memory.now in
     let way = sym (c.in-NowhereTo.ensures (stored_in m).durable refl) in
-    refused_so m.place (kept_in m) c.args.branch.now c.in-Some.live.now (sym c.in-Some.ensures.live) c.args.statement.now c.args.given c.in-NowhereTo.refusal _ _ way c.in_ok-deed-in-NowhereTo.ensures.gives
+    refused_so m.place (kept_in m) c.args.branch.now c.in-Some.live.now (sym c.in-Some.ensures.live) c.args.statement.now c.args.given c.in-NowhereTo.refusal (kept_in c.answer-in-NowhereTo.new.memory) c.answer-in-NowhereTo.result way
+    c.answer-in-NowhereTo.ensures.gives
 
 -- ---- it goes on
 
-pub returns-in_ok-deed-in-Over-clause-gives : goal.returns-in_ok-deed-in-Over-clause-gives
-returns-in_ok-deed-in-Over-clause-gives c =
+pub returns-in_ok-passed-in-Over-clause-gives : goal.returns-in_ok-passed-in-Over-clause-gives
+returns-in_ok-passed-in-Over-clause-gives c =
     let m = c.args.memory.now in
     let way = sym (c.in-Over.ensures (stored_in m).durable refl) in
-    over_so m.place (kept_in m) c.args.branch.now c.in-Some.live.now (sym c.in-Some.ensures.live) c.args.statement.now c.args.given c.in-Over.edge c.in-Over.table.now c.in_ok-passed-in-Over.passed _ _ way
-    c.in_ok-passed-in-Over.ensures c.in_ok-deed-in-Over.ensures.gives
+    over_so m.place (kept_in m) c.args.branch.now c.in-Some.live.now (sym c.in-Some.ensures.live) c.args.statement.now c.args.given c.in-Over.edge c.in-Over.table.now c.in_ok-passed-in-Over.passed
+    (kept_in c.call_over.new.memory) c.call_over.result way c.in_ok-passed-in-Over.ensures c.call_over.ensures.gives
 
-pub returns-in_ok-deed-in-Through-clause-gives : goal.returns-in_ok-deed-in-Through-clause-gives
-returns-in_ok-deed-in-Through-clause-gives c =
+pub returns-in-Ok-clause-gives : goal.returns-in-Ok-clause-gives
+returns-in-Ok-clause-gives c =
     let m = c.args.memory.now in
     let way = sym (c.in-Through.ensures (stored_in m).durable refl) in
     through_so m.place (kept_in m) c.args.branch.now c.in-Some.live.now (sym c.in-Some.ensures.live) c.args.statement.now c.args.given c.in-Through.node c.in-Through.link.now c.in-Through.table.now
-    c.in_ok-link-in-Through.link c.in_ok-passed-in-Through.passed _ _ way c.in_ok-passed-in-Through.ensures c.in_ok-link-in-Through.ensures c.in_ok-deed-in-Through.ensures.gives
+    c.in_ok-link-in-Through.link c.in-Ok.passed (kept_in c.open_through.new.memory) c.open_through.result way c.in-Ok.ensures c.in_ok-link-in-Through.ensures c.open_through.ensures.gives
 
 pub open_through-requires : goal.open_through-requires
 open_through-requires c =

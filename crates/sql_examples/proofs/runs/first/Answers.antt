@@ -1,8 +1,5 @@
-use Rattle.std.proofs.Common.{List, sym, subst}
-use Rattle.sql_eval.specs.Laws.{AreRowsOf}
-use Rattle.row_store.specs.Own.{Own, view_of}
+use Rattle.sql_examples.proofs.Staff.{seen_at_first}
 use Rattle.sql_examples.proofs.runs.first.Goals as goal
 
 pub run-requires-clause-rows : goal.run-requires-clause-rows
-run-requires-clause-rows c =
-    subst (λ (own : Own). AreRowsOf c.args.table.now (view_of c.args.tables.now own.changes c.args.table.now.name)) (sym c.new-own.ensures) c.requires.rows
+run-requires-clause-rows c = seen_at_first c.args.table.now c.args.store.now _ c.requires.owns c.requires.rows

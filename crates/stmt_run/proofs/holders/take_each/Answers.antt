@@ -1,7 +1,7 @@
 use Rattle.std.proofs.Common.{List, false, take, length, slice_index_or, sym, ap, subst, ◌∙◌, arith}
 use Rattle.std.proofs.lemmas.List.Sums.{fold_more}
 use Rattle.row_locks.specs.Locks.{Lock}
-use Rattle.stmt_run.specs.Sites.{IsFree}
+use Rattle.stmt_run.specs.Keys.{IsFree}
 use Rattle.stmt_run.proofs.Free.{free_still}
 use Rattle.stmt_run.proofs.Taken.{stay_first}
 use Rattle.stmt_run.proofs.holders.take_each.Goals as goal

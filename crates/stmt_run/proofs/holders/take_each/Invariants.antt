@@ -1,7 +1,7 @@
 use Rattle.std.proofs.Common.{◌≡◌, false, take}
 use Rattle.std.specs.List.{All}
 use Rattle.stmt_run.specs.Run.{take_keys}
-use Rattle.stmt_run.specs.Sites.{IsFree}
+use Rattle.stmt_run.specs.Keys.{IsFree}
 use Rattle.stmt_run.proofs.holders.take_each.Given as goal
 
 -- the keys so far are taken, and all are free or the branch's own

@@ -2,7 +2,7 @@ use Rattle.std.proofs.Common.{◌≡◌, List, true, slice_index_or, sym, subst,
 use Rattle.std.specs.Prelude.{OnOk}
 use Rattle.std.proofs.lemmas.List.Sums.{fold_more}
 use Rattle.row_locks.specs.Locks.{Lock, taken}
-use Rattle.stmt_run.specs.Sites.{IsHeld}
+use Rattle.stmt_run.specs.Keys.{IsHeld}
 use Rattle.stmt_run.proofs.Taken.{held_still}
 use Rattle.stmt_run.proofs.holders.write_all.Goals as goal
 

@@ -1,7 +1,7 @@
 use Rattle.std.proofs.Common.{◌≡◌, true, take}
 use Rattle.std.specs.List.{All}
 use Rattle.stmt_run.specs.Run.{take_keys}
-use Rattle.stmt_run.specs.Sites.{IsHeld}
+use Rattle.stmt_run.specs.Keys.{IsHeld}
 use Rattle.stmt_run.proofs.holders.write_all.Given as goal
 
 -- the keys so far are taken to write, and all are held

@@ -9,7 +9,7 @@ use Rattle.sql_eval.specs.Meaning.{written}
 use Rattle.sql_eval.proofs.TableLaws.{tables_have_one_key}
 use Rattle.sql_eval.proofs.RowLaws.{rows_are_keyed}
 use Rattle.stmt_run.specs.Run.{held_refusal, locked_refusal}
-use Rattle.stmt_run.specs.Sites.{IsFree}
+use Rattle.stmt_run.specs.Keys.{IsFree}
 use Rattle.stmt_run.proofs.Free.{written_free}
 use Rattle.stmt_store.specs.Stores.{ground_of, view_of}
 use Rattle.stmt_store.proofs.ChangeLaws.{changes_only}

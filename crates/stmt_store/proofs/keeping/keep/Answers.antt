@@ -6,7 +6,7 @@ use Rattle.dtx_values.specs.declared.value.Value.{Value}
 use Rattle.dtx_values.specs.declared.answer.Answer.TheVariants as answers
 use Rattle.row_locks.specs.Locks.{Lock}
 use Rattle.stmt_run.specs.Run.{answer_of_run, locks_after, take_keys}
-use Rattle.stmt_run.specs.Sites.{IsFree, IsHeld}
+use Rattle.stmt_run.specs.Keys.{IsFree, IsHeld}
 use Rattle.stmt_run.proofs.Taken.{stay_first, all_held, written_then}
 use Rattle.stmt_store.proofs.ChangeLaws.{few_changes, of_tables, ran_as_told, store_as_told}
 use Rattle.stmt_store.proofs.keeping.keep.Goals as goal

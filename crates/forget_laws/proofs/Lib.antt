@@ -1,0 +1,22 @@
+mod TriedForgetLemmas
+pub mod RowLemmas
+pub mod RowStepLemmas
+pub mod AckTurnLemmas
+pub mod NamedLemmas
+pub mod VotedLemmas
+pub mod EventLemmas
+pub mod FoundRowLemmas
+pub mod RowRunLemmas
+pub mod StopLemmas
+pub mod WayLemmas
+pub mod NotedStepLemmas
+pub mod CameHereLemmas
+pub mod AckHeardLemmas
+pub mod ForgottenHeardLemmas
+pub mod ForgetStepLemmas
+pub mod ForgetRunLemmas
+pub mod EndedLemmas
+pub mod DecidedEndLemmas
+pub mod NearLemmas
+pub mod AckedLemmas
+pub mod RowsGoLemmas

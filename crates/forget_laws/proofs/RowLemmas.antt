@@ -1,0 +1,304 @@
+-- What the row of a branch tells, as records change it: seals, decisions, what it learns, forced outcomes, and Forgot.
+use Rattle.std.proofs.Common.{◌≡◌, ℕ, ◌<◌, ◌⊎◌, ◌&&◌, ◌||◌, not, Bool, true, false, if◌then◌else◌, List, [], ◌∷◌, ◌++◌, map, filter, is_some, slice_get, Option, Some, None, inl, inr, refl, sym, ap, subst, ◌∙◌}
+use Rattle.std.specs.List.{AllByRecursion, list_all}
+use Rattle.std.proofs.lemmas.Bool.{cond_both, and_parts, not-true}
+use Rattle.tran_ids.proofs.BranchLemmas.{equal_from_same, same_from_equal}
+use Rattle.commit_forget.specs.declared.next.Beyond.{Beyond}
+use Rattle.commit_forget.specs.Beyond.{beyond, parent_beyond, kid_beyond, all_acked}
+use Rattle.commit_forget.specs.Next.{knows_commit}
+use Rattle.redo_record.specs.Kept.{stands_at, ended_commit, forced_state, in_state, met_as, forgot_as, is_done, hidden_as, forgotten}
+use Rattle.redo_record.specs.Rows.{kid_of, sealed_as, decided_as, has_neighbors}
+use Rattle.session_tree.specs.Live.{is_branch}
+use Rattle.agreement.specs.Events.{Event, Sealed, Seal, Decide, Force, Learn, Forget, Has}
+use Rattle.agreement.proofs.EventLemmas.{exit_stays}
+use Rattle.node_rules.specs.Data.{BranchId, Decision, Kid, Peer, Post, Standing, State, Sealed as SealedRecord, Decided as DecidedRecord}
+use Rattle.node_rules.specs.Data.decisions
+use Rattle.node_rules.specs.Data.kinds
+use Rattle.node_rules.specs.Data.states
+use Rattle.node_rules.specs.Words.{same, change_where, drop_where}
+use Rattle.node_rules.specs.Commit.{passes, passes_commit}
+use Rattle.run_laws.specs.WalkLaws.{was_sent}
+use Rattle.run_laws.proofs.ListLemmas.{all_weaker, all_filter, all_append, all_map, all_each}
+use Rattle.tree_laws.proofs.AskLemmas.{sent_more, sent_new}
+use Rattle.commit_laws.proofs.ReadyStepLemmas.{one_sent}
+use Rattle.forget_laws.specs.RowLaws.{is_ack, is_forced, IsSealed, SaidAck}
+
+-- What a row tells, but for its Ack. Until the branch knows its decision no Ack is held.
+pub record Plain (t : List Event) (s : Standing) : Type 0 where
+  pub sealed : AllByRecursion (λ y. IsSealed t y.branch) (beyond s)
+  pub unheard : s.decision ≡ None → AllByRecursion (λ y. y.acked ≡ false) (beyond s)
+  pub whole : is_forced s.state ≡ false → (s.mixed ≡ false) × (s.forgot ≡ false)
+  pub forgets : Has (Forget s.me) t → s.forgot ≡ true
+
+-- it acknowledged, once all beyond did
+abbrev pub Acks : List Post → Standing → Type 0
+Acks said s = knows_commit s.decision ≡ true → s.forgot ≡ false → all_acked s ≡ true → SaidAck said s
+
+-- a row tells so, or its branch began before the node's last start
+abbrev pub Tells : List Post → List Event → ℕ → Standing → Type 0
+Tells said t bound s = (Plain t s × Acks said s) ⊎ (s.me.boot < bound)
+
+-- the same, but for the Acks of one branch
+abbrev pub TellsBut : List Post → List Event → ℕ → BranchId → Standing → Type 0
+TellsBut said t bound b s = (Plain t s × (same s.me b ≡ false → Acks said s)) ⊎ (s.me.boot < bound)
+
+-- ---- lists of rows
+
+module _ (P Q : Standing → Type 0) where
+  pub rows_changed : (b : BranchId) (g : Standing → Standing) → ((x : Standing) → x.me ≡ b → P x → Q (g x)) → ((x : Standing) → same x.me b ≡ false → P x → Q x) → (ks : List Standing)
+      → AllByRecursion P ks → AllByRecursion Q (change_where (stands_at b) g ks)
+  rows_changed b g new others ks all =
+      all_map Q (λ x. if stands_at b x then g x else x) ks
+      (all_weaker P _ (λ x is. cond_both (stands_at b x) (g x) x Q (λ here. new x (equal_from_same x.me b here) is) (λ other. others x other is)) ks all)
+
+  pub rows_left : (test : Standing → Bool) → ((x : Standing) → test x ≡ false → P x → Q x) → (ks : List Standing) → AllByRecursion P ks → AllByRecursion Q (drop_where test ks)
+  rows_left test each ks all = all_filter P Q (λ x. not (test x)) (λ x passes is. each x (not-true (test x) passes) is) ks all
+
+-- ---- more events
+
+-- seals stay, and the branch has not forgotten by these events if it had not before
+pub record Stays (t r : List Event) (b : BranchId) : Type 0 where
+  pub seals : (c : BranchId) → IsSealed t c → IsSealed r c
+  pub forgets : Has (Forget b) r → Has (Forget b) t
+
+pub stays_with : (t : List Event) (e : Event) (b : BranchId) → ((is : e ≡ Forget b) → ⊥) → Stays t (e ∷ t) b
+stays_with t e b other = record {
+  seals = λ c is. (is.0, exit_stays e t c (Sealed is.0) is.1);
+  forgets = λ has. elim has [ inl here ↦ absurd (other here) | inr there ↦ there ];
+}
+
+pub stays_same : (t : List Event) (b : BranchId) → Stays t t b
+stays_same t b = record { seals = λ c is. is; forgets = λ has. has }
+
+pub plain_stays : (t r : List Event) (s : Standing) → Stays t r s.me → Plain t s → Plain r s
+plain_stays t r s stays is = record {
+  sealed = all_weaker _ _ (λ y so. stays.seals y.branch so) (beyond s) is.sealed;
+  unheard = is.unheard;
+  whole = is.whole;
+  forgets = λ has. is.forgets (stays.forgets has);
+}
+
+pub acks_more : (said says : List Post) (s : Standing) → Acks said s → Acks (said ++ says) s
+acks_more said says s is knows fresh all = (let told = is knows fresh all in (told.0, told.1, sent_more is_ack said says s.me told.0 told.2))
+
+pub tells_stays : (said says : List Post) (t r : List Event) (bound : ℕ) (s : Standing) → Stays t r s.me → Tells said t bound s → Tells (said ++ says) r bound s
+tells_stays said says t r bound s stays (inl is) = inl (plain_stays t r s stays is.0, acks_more said says s is.1)
+tells_stays said says t r bound s stays (inr old) = inr old
+
+-- ---- a row that is changed has the same neighbours beyond
+
+pub ended_beyond : (n : ℕ) (s : Standing) → beyond (ended_commit n s) ≡ beyond s
+unfolding beyond
+ended_beyond n s = refl
+
+pub met_beyond : (d : Decision) (mixed : Bool) (s : Standing) → beyond (met_as d mixed s) ≡ beyond s
+unfolding beyond
+met_beyond d mixed s = refl
+
+pub state_beyond : (state : State) (s : Standing) → beyond (in_state state s) ≡ beyond s
+unfolding beyond
+state_beyond state s = refl
+
+pub forgot_beyond : (s : Standing) → beyond (forgot_as s) ≡ beyond s
+unfolding beyond
+forgot_beyond s = refl
+
+pub hidden_beyond : (s : Standing) → beyond (hidden_as s) ≡ beyond s
+unfolding beyond
+hidden_beyond s = refl
+
+-- ---- a new row
+
+kid_unacked : (toward : Option BranchId) (ps : List Peer) → AllByRecursion (λ (y : Beyond). y.acked ≡ false) (map kid_beyond (filter (λ c. not (is_branch c.branch toward)) (map kid_of ps)))
+kid_unacked toward ps =
+    all_map (λ (y : Beyond). y.acked ≡ false) kid_beyond (filter (λ c. not (is_branch c.branch toward)) (map kid_of ps))
+    (all_filter (λ (c : Kid). c.acked ≡ false) (λ (c : Kid). c.acked ≡ false) (λ c. not (is_branch c.branch toward)) (λ c off is. is) (map kid_of ps) (all_each (λ (c : Kid). c.acked ≡ false) kid_of ps (λ q. refl)))
+
+parent_unacked : (s : Standing) → s.parent_acked ≡ false → (o : Option BranchId) → AllByRecursion (λ (y : Beyond). y.acked ≡ false) (parent_beyond s o)
+parent_unacked s none None = tt
+parent_unacked s none (Some b) = cond_both (is_branch b s.toward) _ _ (AllByRecursion (λ (y : Beyond). y.acked ≡ false)) (λ on. tt) (λ off. (none, tt))
+
+sealed_unacked : (r : SealedRecord) → AllByRecursion (λ (y : Beyond). y.acked ≡ false) (beyond (sealed_as r))
+unfolding beyond
+sealed_unacked r = all_append (λ (y : Beyond). y.acked ≡ false) (parent_beyond (sealed_as r) r.parent) _ (parent_unacked (sealed_as r) refl r.parent) (kid_unacked (sealed_as r).toward r.children)
+
+-- somebody beyond has not acknowledged
+none_acked : (bs : List Beyond) → AllByRecursion (λ y. y.acked ≡ false) bs → list_all (λ y. y.acked) bs ≡ true → bs ≡ []
+none_acked [] none all = refl
+none_acked (y ∷ ys) none all = (let parts = and_parts y.acked (list_all (λ z. z.acked) ys) all in let no = none.0 in let yes = parts.0 in absurd (cc (no, yes)))
+
+decided_beyond : (r : DecidedRecord) → has_neighbors (decided_as r) ≡ true → all_acked (decided_as r) ≡ true → ⊥
+unfolding beyond
+decided_beyond r some all = by r.parent r.children some all
+  where
+    by : (o : Option BranchId) (ps : List Peer) → (is_some o || is_some (slice_get (map kid_of ps) 0)) ≡ true
+        → list_all (λ (y : Beyond). y.acked) (parent_beyond (decided_as r) o ++ map kid_beyond (filter (λ c. not (is_branch c.branch None)) (map kid_of ps))) ≡ true → ⊥
+    by (Some q) ps is every = absurd cc
+    by None (p ∷ ps) is every = absurd cc
+    by None [] is every = absurd cc
+
+module _ (said : List Post) (t : List Event) (bound : ℕ) where
+  -- a branch that becomes sealed
+  pub sealed_tells : (says : List Post) (r : SealedRecord) → (Has (Forget r.me) t → ⊥) → AllByRecursion (λ y. IsSealed t y.branch) (beyond (sealed_as r)) → Tells (said ++ says) (Seal r.me r.root r.scn r.changes ∷ t) bound (sealed_as r)
+  sealed_tells says r fresh voted =
+      let e : Event = Seal r.me r.root r.scn r.changes in
+      inl (
+        record {
+          sealed = all_weaker _ _ (λ y is. (is.0, exit_stays e t y.branch (Sealed is.0) is.1)) (beyond (sealed_as r)) voted;
+          unheard = λ none. sealed_unacked r;
+          whole = λ un. (refl, refl);
+          forgets = λ has. elim has [ inl here ↦ absurd cc | inr there ↦ absurd (fresh there) ];
+        },
+        λ knows new all. absurd cc,
+      )
+
+  -- a branch that decides
+  pub decided_tells : (says : List Post) (r : DecidedRecord) → (Has (Forget r.me) t → ⊥) → AllByRecursion (λ y. IsSealed t y.branch) (beyond (decided_as r)) → has_neighbors (decided_as r) ≡ true
+      → Tells (said ++ says) (Decide r.me r.root r.scn r.changes ∷ t) bound (decided_as r)
+  decided_tells says r fresh voted some =
+      let e : Event = Decide r.me r.root r.scn r.changes in
+      inl (
+        record {
+          sealed = all_weaker _ _ (λ y is. (is.0, exit_stays e t y.branch (Sealed is.0) is.1)) (beyond (decided_as r)) voted;
+          unheard = λ none. absurd cc;
+          whole = λ un. (refl, refl);
+          forgets = λ has. elim has [ inl here ↦ absurd cc | inr there ↦ absurd (fresh there) ];
+        },
+        λ knows new all. absurd (decided_beyond r some all),
+      )
+
+  -- ---- the commit is learned
+
+  -- what is passed on where nobody is beyond
+  passed_ack : (s : Standing) (n : ℕ) (bs : List Beyond) → bs ≡ [] → (q : BranchId) → s.toward ≡ Some q → was_sent is_ack (passes_commit s n bs) s.me q ≡ true
+  passed_ack s n [] none q at = one_sent is_ack s.me kinds.Ack s.toward q refl at
+  passed_ack s n (y ∷ ys) none q at = absurd cc
+
+  learnt_acks : (s : Standing) (n : ℕ) (y : Standing) → y.me ≡ s.me → y.toward ≡ s.toward → beyond y ≡ beyond s → AllByRecursion (λ z. z.acked ≡ false) (beyond s) → (q : BranchId) → s.toward ≡ Some q
+      → all_acked y ≡ true → SaidAck (said ++ passes s (decisions.Commit n)) y
+  learnt_acks s n y me toward same_beyond none q at all =
+      let empty : beyond s ≡ [] = none_acked (beyond s) none (subst (λ (bs : List Beyond). list_all (λ z. z.acked) bs ≡ true) same_beyond all) in
+      let told : was_sent is_ack (passes_commit s n (beyond s)) s.me q ≡ true = passed_ack s n (beyond s) empty q at in
+      (q, toward ∙ at, subst (λ b. was_sent is_ack (said ++ passes s (decisions.Commit n)) b q ≡ true) (sym me) (sent_new is_ack said (passes s (decisions.Commit n)) s.me q told))
+
+  -- a sealed branch learns the commit
+  pub ended_tells : (n : ℕ) (s : Standing) → s.decision ≡ None → s.state ≡ states.Sealed → (q : BranchId) → s.toward ≡ Some q → Tells said t bound s
+      → Tells (said ++ passes s (decisions.Commit n)) (Learn s.me (decisions.Commit n) None ∷ t) bound (ended_commit n s)
+  ended_tells n s none sealed q at (inr old) = inr old
+  ended_tells n s none sealed q at (inl is) =
+      let e : Event = Learn s.me (decisions.Commit n) None in
+      let stays : Stays t (e ∷ t) s.me = stays_with t e s.me (λ no. absurd cc) in
+      inl (
+        record {
+          sealed = subst (λ (bs : List Beyond). AllByRecursion (λ y. IsSealed (e ∷ t) y.branch) bs) (sym (ended_beyond n s)) (plain_stays t (e ∷ t) s stays is.0).sealed;
+          unheard = λ no. absurd cc;
+          whole = λ un. is.0.whole (ap is_forced sealed);
+          forgets = λ has. is.0.forgets (stays.forgets has);
+        },
+        λ knows new all. learnt_acks s n (ended_commit n s) refl refl (ended_beyond n s) (is.0.unheard none) q at all,
+      )
+
+  -- so does a forced one
+  pub met_tells : (n : ℕ) (mixed : Bool) (s : Standing) → s.decision ≡ None → is_forced s.state ≡ true → (q : BranchId) → s.toward ≡ Some q → Tells said t bound s
+      → Tells (said ++ passes s (decisions.Commit n)) (Learn s.me (decisions.Commit n) (Some mixed) ∷ t) bound (met_as (decisions.Commit n) mixed s)
+  met_tells n mixed s none was q at (inr old) = inr old
+  met_tells n mixed s none was q at (inl is) =
+      let e : Event = Learn s.me (decisions.Commit n) (Some mixed) in
+      let stays : Stays t (e ∷ t) s.me = stays_with t e s.me (λ no. absurd cc) in
+      inl (
+        record {
+          sealed = subst (λ (bs : List Beyond). AllByRecursion (λ y. IsSealed (e ∷ t) y.branch) bs) (sym (met_beyond (decisions.Commit n) mixed s)) (plain_stays t (e ∷ t) s stays is.0).sealed;
+          unheard = λ no. absurd cc;
+          whole = λ un. absurd (cc (un, was));
+          forgets = λ has. is.0.forgets (stays.forgets has);
+        },
+        λ knows new all. learnt_acks s n (met_as (decisions.Commit n) mixed s) refl refl (met_beyond (decisions.Commit n) mixed s) (is.0.unheard none) q at all,
+      )
+
+  -- a mixed branch learns the rollback
+  pub met_rollback_tells : (says : List Post) (mixed : Bool) (s : Standing) → is_forced s.state ≡ true → Tells said t bound s → Tells (said ++ says) (Learn s.me decisions.Rollback (Some mixed) ∷ t) bound (met_as decisions.Rollback mixed s)
+  met_rollback_tells says mixed s was (inr old) = inr old
+  met_rollback_tells says mixed s was (inl is) =
+      let e : Event = Learn s.me decisions.Rollback (Some mixed) in
+      let stays : Stays t (e ∷ t) s.me = stays_with t e s.me (λ no. absurd cc) in
+      inl (
+        record {
+          sealed = subst (λ (bs : List Beyond). AllByRecursion (λ y. IsSealed (e ∷ t) y.branch) bs) (sym (met_beyond decisions.Rollback mixed s)) (plain_stays t (e ∷ t) s stays is.0).sealed;
+          unheard = λ no. absurd cc;
+          whole = λ un. absurd (cc (un, was));
+          forgets = λ has. is.0.forgets (stays.forgets has);
+        },
+        λ knows new all. absurd cc,
+      )
+
+  -- ---- forced, hidden
+
+  forced_is : (d : Decision) → is_forced (forced_state d) ≡ true
+  forced_is (decisions.Commit n) = refl
+  forced_is decisions.Rollback = refl
+
+  pub forced_tells : (says : List Post) (d : Decision) (s : Standing) → Tells said t bound s → Tells (said ++ says) (Force s.me d ∷ t) bound (in_state (forced_state d) s)
+  forced_tells says d s (inr old) = inr old
+  forced_tells says d s (inl is) =
+      let e : Event = Force s.me d in
+      let stays : Stays t (e ∷ t) s.me = stays_with t e s.me (λ no. absurd cc) in
+      let next : Plain (e ∷ t) s = plain_stays t (e ∷ t) s stays is.0 in
+      inl (
+        record {
+          sealed = subst (λ (bs : List Beyond). AllByRecursion (λ y. IsSealed (e ∷ t) y.branch) bs) (sym (state_beyond (forced_state d) s)) next.sealed;
+          unheard = λ none. subst (λ (bs : List Beyond). AllByRecursion (λ y. y.acked ≡ false) bs) (sym (state_beyond (forced_state d) s)) (next.unheard none);
+          whole = λ un. (let was : is_forced (forced_state d) ≡ true = forced_is d in absurd (cc (un, was)));
+          forgets = next.forgets;
+        },
+        λ knows new all. acks_more said says s is.1 knows new (subst (λ (bs : List Beyond). list_all (λ z. z.acked) bs ≡ true) (state_beyond (forced_state d) s) all),
+      )
+
+  pub hidden_tells : (says : List Post) (s : Standing) → Tells said t bound s → Tells (said ++ says) t bound (hidden_as s)
+  hidden_tells says s (inr old) = inr old
+  hidden_tells says s (inl is) =
+      inl (
+        record {
+          sealed = subst (λ (bs : List Beyond). AllByRecursion (λ y. IsSealed t y.branch) bs) (sym (hidden_beyond s)) is.0.sealed;
+          unheard = λ none. subst (λ (bs : List Beyond). AllByRecursion (λ y. y.acked ≡ false) bs) (sym (hidden_beyond s)) (is.0.unheard none);
+          whole = is.0.whole;
+          forgets = is.0.forgets;
+        },
+        λ knows new all. acks_more said says s is.1 knows new (subst (λ (bs : List Beyond). list_all (λ z. z.acked) bs ≡ true) (hidden_beyond s) all),
+      )
+
+  -- ---- Forgot
+
+  mixed_if : (q m : Bool) → (q && not m) ≡ false → q ≡ true → m ≡ true
+  mixed_if true true is here = refl
+  mixed_if true false is here = absurd cc
+  mixed_if false m is here = absurd cc
+
+  -- the row of a branch that forgets goes, or it was mixed
+  pub forgot_tells : (says : List Post) (b : BranchId) (ks : List Standing) → AllByRecursion (TellsBut said t bound b) ks → AllByRecursion (Tells (said ++ says) (Forget b ∷ t) bound) (forgotten ks b)
+  forgot_tells says b ks all =
+      rows_changed Left (Tells (said ++ says) (Forget b ∷ t) bound) b forgot_as own other (drop_where (is_done b) ks)
+      (rows_left (TellsBut said t bound b) Left (is_done b) (λ x stays is. (is, λ me. mixed_if (same x.me b) x.mixed stays (same_from_equal x.me b me))) ks all)
+    where
+      Left : Standing → Type 0
+      Left x = TellsBut said t bound b x × (x.me ≡ b → x.mixed ≡ true)
+
+      own : (x : Standing) → x.me ≡ b → Left x → Tells (said ++ says) (Forget b ∷ t) bound (forgot_as x)
+      own x me is = elim is.0 [
+        | inr old ↦ inr old
+        | inl so ↦ inl (
+          record {
+            sealed = subst (λ (bs : List Beyond). AllByRecursion (λ y. IsSealed (Forget b ∷ t) y.branch) bs) (sym (forgot_beyond x)) (all_weaker _ _ (λ y at. (at.0, exit_stays (Forget b) t y.branch (Sealed at.0) at.1)) (beyond x) so.0.sealed);
+            unheard = λ none. subst (λ (bs : List Beyond). AllByRecursion (λ y. y.acked ≡ false) bs) (sym (forgot_beyond x)) (so.0.unheard none);
+            whole = λ un. (let no = (so.0.whole un).0 in let yes = is.1 me in absurd (cc (no, yes)));
+            forgets = λ has. refl;
+          },
+          λ knows new every. absurd cc,
+        )
+      ]
+
+      other : (x : Standing) → same x.me b ≡ false → Left x → Tells (said ++ says) (Forget b ∷ t) bound x
+      other x apart is = elim is.0 [
+        | inr old ↦ inr old
+        | inl so ↦ (let stays : Stays t (Forget b ∷ t) x.me = stays_with t (Forget b) x.me (λ at. (let it : b ≡ x.me = cc in let yes : same x.me b ≡ true = same_from_equal x.me b (sym it) in absurd (cc (apart, yes)))) in
+            inl (plain_stays t (Forget b ∷ t) x stays so.0, acks_more said says x (so.1 apart)))
+      ]

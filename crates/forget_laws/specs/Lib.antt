@@ -1,0 +1,4 @@
+pub mod RowLaws
+pub mod ForgetLaws
+pub mod GoneLaws
+pub mod TriedForget

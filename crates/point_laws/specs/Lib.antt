@@ -1,0 +1,4 @@
+pub mod PointLaws
+pub mod RootLaws
+pub mod EndLaws
+pub mod TriedPoint

@@ -1,0 +1,12 @@
+pub mod DeliveredLemmas
+pub mod GotStepLemmas
+pub mod GotLeaveLemmas
+pub mod GotLemmas
+pub mod FirstLemmas
+pub mod StopLemmas
+pub mod TreeLemmas
+pub mod ComesOnceLemmas
+pub mod DropLemmas
+pub mod TurnStayLemmas
+pub mod StayLemmas
+mod TriedStayLemmas

@@ -1,0 +1,3 @@
+pub mod GotLaws
+pub mod StayLaws
+pub mod TriedStay

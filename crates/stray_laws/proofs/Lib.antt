@@ -1,0 +1,20 @@
+mod TriedStrayLemmas
+pub mod TreeLemmas
+pub mod SessionLemmas
+pub mod LastLemmas
+pub mod AloneLemmas
+pub mod RootActLemmas
+pub mod EffectLemmas
+pub mod CallLemmas
+pub mod PendLemmas
+pub mod CallTurnLemmas
+pub mod AnswerLemmas
+pub mod OpenLemmas
+pub mod OpenStepLemmas
+pub mod OpenRunLemmas
+pub mod SentLemmas
+pub mod OpeningLemmas
+pub mod EdgeLemmas
+pub mod ChildLemmas
+pub mod AskLemmas
+pub mod RootAskLemmas

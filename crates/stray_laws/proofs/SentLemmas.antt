@@ -1,0 +1,111 @@
+-- A branch below another began with an Open of its parent that was sent to its node.
+use Rattle.std.proofs.Common.{◌≡◌, ℕ, Bool, true, false, if◌then◌else◌, find, List, [], ◌∷◌, ◌++◌, Option, Some, None, refl, sym, ap, subst, ◌∙◌}
+use Rattle.std.specs.List.{AllByRecursion}
+use Rattle.std.proofs.lemmas.Bool.{cond_both}
+use Rattle.node_rules.specs.Data.{BranchId, Kind, Opening, Place, Input, Post, Stmt}
+use Rattle.node_rules.specs.Data.inputs
+use Rattle.node_rules.specs.Data.kinds
+use Rattle.node_rules.specs.Inputs.{Came}
+use Rattle.node_rules.specs.Kept.{Kept}
+use Rattle.node_rules.specs.Calls.{is_opening}
+use Rattle.node_rules.specs.Client.{new_root}
+use Rattle.node_rules.specs.Sessions.{session_at}
+use Rattle.run_laws.specs.Births.{Born, root_born, roots_by, births_by_call, births_by_open, births_by_kind, births_by, births_at, births_after, births_from, births_of}
+use Rattle.run_laws.specs.Data.{Took, Happening}
+use Rattle.run_laws.specs.Data.happenings
+use Rattle.run_laws.specs.Facts.{Facts, first_facts, place_at, node_at}
+use Rattle.run_laws.specs.InTurnLaws.{said_in}
+use Rattle.run_laws.specs.Lawful.{Comes, History, IsLawfulRun}
+use Rattle.run_laws.specs.Runs.{is_of_rows}
+use Rattle.run_laws.proofs.InTurnRunLemmas.{came_here}
+use Rattle.run_laws.proofs.ListLemmas.{all_append, all_weaker}
+use Rattle.run_laws.proofs.SaidPostLemmas.{posts_of, said_after}
+use Rattle.tree_laws.proofs.PrefixLemmas.{so_far, f_at, one_on, births_join}
+use Rattle.site_laws.proofs.TimeLemmas.{Part, may_of, keep_on}
+use Rattle.place_laws.proofs.OpenSentLemmas.{IsOpenTo, numbered_more}
+use Rattle.place_laws.proofs.SentLemmas.{came_sent}
+use Rattle.place_laws.proofs.TurnTaleLemmas as tales
+
+abbrev pub WasOpened : List Post → Born → Type 0
+WasOpened said x = (parent : BranchId) → x.parent ≡ Some parent → IsOpenTo said parent x.edge x.me.node
+
+opened_more : (said more : List Post) (x : Born) → WasOpened said x → WasOpened (said ++ more) x
+opened_more said more x was parent above =
+    let is : IsOpenTo said parent x.edge x.me.node = was parent above in
+    record { number = is.number; sent = is.sent; at = numbered_more said more is.number is.sent is.at; from = is.from; root = is.root; depth = is.depth; kind = is.kind; to = is.to }
+
+module _ (f : Facts) (k : Kept) (p : Place) (node : ℕ) (number : p.number ≡ node) (input : Input) (took : Option Took) (comes : Comes f k node input took) where
+  abbrev P : Born → Type 0
+  P = WasOpened (said_in f)
+
+  root_opened : (b : BranchId) → P (root_born b)
+  root_opened b parent above = absurd cc
+
+  by_roots : (n : ℕ) (o : Option BranchId) → AllByRecursion P (roots_by p k n o)
+  by_roots n None = (root_opened (new_root p k n), tt)
+  by_roots n (Some root) = tt
+
+  by_call : (n : ℕ) (s : Stmt) → AllByRecursion P (births_by_call p k n s)
+  by_call n s = by (is_of_rows s)
+    where
+      by : (q : Bool) → AllByRecursion P (if q then roots_by p k n (session_at k.sessions n).root else [])
+      by true = by_roots n (session_at k.sessions n).root
+      by false = tt
+
+  by_open : (from to : BranchId) (edge : ℕ) (root : BranchId) (depth : ℕ) → Came input from to (kinds.Open edge root depth) → (o : Option Opening) → AllByRecursion P (births_by_open p k from edge root depth o)
+  by_open from to edge root depth came None =
+      let sent = came_sent f k node input took comes from to (kinds.Open edge root depth) came in (
+        (λ parent above. (let it : Some from ≡ Some parent = above in let one : from ≡ parent = cc in
+            record { number = sent.0.number; sent = sent.2; at = sent.3; from = sent.4 ∙ one; root = root; depth = depth; kind = sent.5; to = ap (λ (b : BranchId). b.node) sent.6 ∙ (came_here f k node input took comes from to (kinds.Open edge root depth) came ∙ sym number) })),
+        tt,
+      )
+  by_open from to edge root depth came (Some o) = tt
+
+  by_kind : (from to : BranchId) (kind : Kind) → Came input from to kind → AllByRecursion P (births_by_kind p k from kind)
+  by_kind from to (kinds.Open edge root depth) came = by_open from to edge root depth came (find (is_opening from edge) k.opens)
+  by_kind from to _ came = tt
+
+  by_input : (i : Input) → input ≡ i → AllByRecursion P (births_by p k i)
+  by_input (inputs.Call n (Some s)) is = by_call n s
+  by_input (inputs.Call n None) is = tt
+  by_input (inputs.Message m) is = by_kind m.from m.to m.kind (record { scn = m.scn; is = is })
+  by_input (inputs.GiveUp n) is = tt
+  by_input inputs.Reco is = tt
+
+  pub births_opened : AllByRecursion P (births_by p k input)
+  births_opened = by_input input refl
+
+module _ (t : History) (whole : IsLawfulRun t) where
+  abbrev AreOpened : List Happening → Type 0
+  AreOpened hs = AllByRecursion (WasOpened (said_in (f_at t hs))) (births_of (so_far t hs))
+
+  born_on : (hs : List Happening) (h : Happening) → births_of (so_far t (hs ++ h ∷ [])) ≡ births_after t.places (f_at t hs) h (births_of (so_far t hs))
+  unfolding births_from
+  born_on hs h = births_join t.places t.commands (first_facts t.places) hs (h ∷ []) []
+
+  same_opened : (hs : List Happening) (h : Happening) → AreOpened hs → AllByRecursion (WasOpened (said_in (f_at t (hs ++ h ∷ [])))) (births_of (so_far t hs))
+  same_opened hs h now =
+      let said : said_in (f_at t (hs ++ h ∷ [])) ≡ said_in (f_at t hs) ++ posts_of h = ap said_in (one_on t hs h) ∙ said_after t.places t.commands (f_at t hs) h in
+      subst (λ xs. AllByRecursion (WasOpened xs) (births_of (so_far t hs))) (sym said) (all_weaker (WasOpened (said_in (f_at t hs))) (WasOpened (said_in (f_at t hs) ++ posts_of h)) (opened_more (said_in (f_at t hs)) (posts_of h)) (births_of (so_far t hs)) now)
+
+  opened_on : (hs : List Happening) (h : Happening) (rest : List Happening) → hs ++ h ∷ rest ≡ t.trace → AreOpened hs → AreOpened (hs ++ h ∷ [])
+  opened_on hs (happenings.Turn u) rest is now =
+      let may = may_of t whole hs (happenings.Turn u) rest is in
+      let said : said_in (f_at t (hs ++ happenings.Turn u ∷ [])) ≡ said_in (f_at t hs) ++ posts_of (happenings.Turn u) = ap said_in (one_on t hs (happenings.Turn u)) ∙ said_after t.places t.commands (f_at t hs) (happenings.Turn u) in
+      let new : AllByRecursion (WasOpened (said_in (f_at t hs))) (births_by (place_at t.places u.node) may.0 u.input)
+      = births_opened (f_at t hs) may.0 (place_at t.places u.node) u.node (tales.number t whole hs u rest is) u.input u.took may.1.comes in
+      let at : births_at (place_at t.places u.node) u.input (node_at (f_at t hs) u.node) ≡ births_by (place_at t.places u.node) may.0 u.input = ap (births_at (place_at t.places u.node) u.input) may.1.up in
+      let later : AllByRecursion (WasOpened (said_in (f_at t (hs ++ happenings.Turn u ∷ [])))) (births_at (place_at t.places u.node) u.input (node_at (f_at t hs) u.node))
+      = subst (AllByRecursion (WasOpened (said_in (f_at t (hs ++ happenings.Turn u ∷ []))))) (sym at) (subst (λ xs. AllByRecursion (WasOpened xs) (births_by (place_at t.places u.node) may.0 u.input)) (sym said)
+      (all_weaker (WasOpened (said_in (f_at t hs))) (WasOpened (said_in (f_at t hs) ++ posts_of (happenings.Turn u))) (opened_more (said_in (f_at t hs)) (posts_of (happenings.Turn u))) (births_by (place_at t.places u.node) may.0 u.input) new)) in
+      subst (AllByRecursion (WasOpened (said_in (f_at t (hs ++ happenings.Turn u ∷ []))))) (sym (born_on hs (happenings.Turn u))) (by (same_opened hs (happenings.Turn u) now) later)
+    where
+      by : AllByRecursion (WasOpened (said_in (f_at t (hs ++ happenings.Turn u ∷ [])))) (births_of (so_far t hs)) → AllByRecursion (WasOpened (said_in (f_at t (hs ++ happenings.Turn u ∷ [])))) (births_at (place_at t.places u.node) u.input (node_at (f_at t hs) u.node))
+          → AllByRecursion (WasOpened (said_in (f_at t (hs ++ happenings.Turn u ∷ [])))) (if u.cut then births_of (so_far t hs) else births_of (so_far t hs) ++ births_at (place_at t.places u.node) u.input (node_at (f_at t hs) u.node))
+      by old new = cond_both u.cut (births_of (so_far t hs)) (births_of (so_far t hs) ++ births_at (place_at t.places u.node) u.input (node_at (f_at t hs) u.node)) (AllByRecursion (WasOpened (said_in (f_at t (hs ++ happenings.Turn u ∷ []))))) (λ is. old)
+          (λ is. all_append (WasOpened (said_in (f_at t (hs ++ happenings.Turn u ∷ [])))) (births_of (so_far t hs)) (births_at (place_at t.places u.node) u.input (node_at (f_at t hs) u.node)) old new)
+  opened_on hs h rest is now = subst (AllByRecursion (WasOpened (said_in (f_at t (hs ++ h ∷ []))))) (sym (born_on hs h)) (same_opened hs h now)
+
+  pub opened_at : (hs : List Happening) → Part t whole hs → AreOpened hs
+  unfolding births_from
+  opened_at hs part = keep_on t whole AreOpened opened_on [] hs part tt

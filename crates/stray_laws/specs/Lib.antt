@@ -1,0 +1,3 @@
+pub mod StrayLaws
+pub mod CallLaws
+pub mod TriedStray
