@@ -37,7 +37,7 @@ use Rattle.tree_laws.proofs.ForestLemmas as trees
 use Rattle.tree_laws.proofs.ForestRunLemmas.{run_known}
 use Rattle.tree_laws.proofs.PrefixLemmas.{so_far, f_at, e_at}
 use Rattle.site_laws.proofs.HeardLemmas.{left_were_asked}
-use Rattle.site_laws.proofs.TimeLemmas.{Part, part_of, part_lawful, fact_at}
+use Rattle.site_laws.proofs.TimeLemmas.{Part, part_of, part_lawful, born_end, fact_at}
 use Rattle.commit_laws.specs.Undisturbed.{Commit}
 use Rattle.stay_laws.proofs.FirstLemmas.{commits_come_first}
 use Rattle.told_laws.proofs.MoreLemmas.{inv_at}
@@ -147,7 +147,7 @@ module _ (t : History) (whole : IsLawfulRun t) (c : Commit t.places t.commands t
   unasked : (z : Born) → Began bs z → z.root ≡ c.root → (q : BranchId) → z.parent ≡ Some q → was_asked said q z.me ≡ true → ⊥
   unasked z began of q up asked =
       let y = trees.below_of bs said known z q began up in
-      let none : was_asked said y.up.me z.me ≡ false = commits_come_first t whole c y.up y.began (y.is_root ∙ of) z.me in
+      let none : was_asked said y.up.me z.me ≡ false = commits_come_first t whole c y.up (born_end t whole hs part y.up y.began) (y.is_root ∙ of) z.me in
       let yes : was_asked said y.up.me z.me ≡ true = subst (λ i. was_asked said i z.me ≡ true) (sym y.is_me) asked in
       absurd (cc (yes, none))
 
