@@ -1,0 +1,3 @@
+mod SaidLemmas
+mod TurnLemmas
+mod StartLemmas
