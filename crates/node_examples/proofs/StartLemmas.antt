@@ -37,6 +37,7 @@ names_table (records.Synonym y) is = absurd cc
 names_table _ is = tt
 
 one_low : (r : RedoRecord) → is_low r ≡ true → IsLow r
+unfolding is_low
 one_low r is =
     let parts = and_parts (not (is_synonym r)) (nat_lt (scn_in r) 1001 && nat_lt (boot_in r) 1001) is in
     let numbers = and_parts (nat_lt (scn_in r) 1001) (nat_lt (boot_in r) 1001) parts.1 in

@@ -161,7 +161,7 @@ is_synonym (records.Synonym y) = true
 is_synonym _ = false
 
 -- whether a record is one of a test: with a low SCN, and a low number where it is of a start, and no synonym's
-abbrev pub is_low : RedoRecord → Bool
+unfoldable pub is_low : RedoRecord → Bool
 is_low r = not (is_synonym r) && (nat_lt (scn_in r) 1001 && nat_lt (boot_in r) 1001)
 
 -- such a record

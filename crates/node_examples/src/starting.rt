@@ -1,6 +1,6 @@
 //! A node of a test is made, and starts: what a start needs is tested on the records of its disk.
 ghost use Rattle.std.specs.Prelude.{◌≡◌, ◌<◌, List, length, true, IfSome};
-ghost use Rattle.std.specs.List.{AllByRecursion};
+ghost use Rattle.std.specs.List.{AllByRecursion, list_all};
 ghost use Rattle.block_disk.specs.MemDisk.{DiskState};
 ghost use Rattle.node_disk.specs.Starts.{CanBeStarted};
 ghost use Rattle.node_examples.specs.Played.{bytes_of, images_of, decided_at as decided_at_by, scn_in as scn_in_by, boot_in as boot_in_by, is_synonym as is_synonym_by, is_low as is_low_by, IsLow, IsAlone, IsSmallPlace};
@@ -56,6 +56,7 @@ fn is_synonym(redo: &RedoRecord) -> bool
 }
 
 /// Whether a record has low numbers, and is no synonym's.
+#[tactic(auto, unfolding(crate::specs::Played::is_low))]
 fn is_low(redo: &RedoRecord) -> bool
     ensures { result ≡ is_low_by redo.now }
 {
@@ -63,9 +64,8 @@ fn is_low(redo: &RedoRecord) -> bool
 }
 
 /// Whether all of these records are so.
-#[tactic(auto, using(crate::proofs::StartLemmas::all_low))]
 fn are_low(records: &[RedoRecord]) -> bool
-    ensures { result ≡ true → AllByRecursion IsLow records.now }
+    ensures { result ≡ list_all is_low_by records.now }
 {
     records.iter().all(|redo| is_low(redo))
 }
@@ -150,6 +150,7 @@ fn starts_from(
 }
 
 /// The node that starts from a disk. None where a condition of the start does not hold, or memory runs out.
+#[tactic(auto, using(crate::proofs::StartLemmas::all_low))]
 pub(crate) fn starts(alloc: Global, disk: MemDisk, place: Place) -> Option<Node<MemDisk>>
     requires starts { CanBeStarted bytes_of images_of disk }
     requires small { IsSmallPlace place }
