@@ -1,15 +1,17 @@
 //! What comes to a node, as tests write it.
-ghost use Rattle.std.specs.Prelude.{◌≡◌, true, false, IfSome};
-ghost use Rattle.node_examples.specs.Played.{is_prepare as is_prepare_by, IsCalled, IsComing};
+ghost use Rattle.std.specs.Prelude.{◌≡◌, true, false, Some, IfSome};
+ghost use Rattle.node_examples.specs.Played.{is_prepare as is_prepare_by, IsCalled, IsPlayed, IsComing};
+ghost use Rattle.msg_codec.specs.Message.{message_of};
 ghost use Rattle.node_rules.specs.Inputs.{IsSession};
 
 use crate::says::{Letter, encoded, msg_of};
+use dtx_values::Bytes;
 use node_disk::Incoming;
 use sql_parse::{ParseErr, parse, spelled_statements_are_whole};
 use sql_print::printed_statements_are_read;
 use sql_statement::Stmt;
 use std::alloc::Global;
-use wire_msg::Kind;
+use wire_msg::{Kind, Msg};
 
 /// What comes to a node.
 #[derive(Clone, Copy, Debug)]
@@ -46,9 +48,12 @@ fn is_session(session: u32) -> bool
 fn call(alloc: Global, session: u32, text: &[u8]) -> Option<Incoming>
     ensures { IfSome result (IsComing false) }
 {
+    if !is_session(session) {
+        return None;
+    }
     match called(alloc, text) {
-        Some(statement) if is_session(session) => Some(Incoming::Call { session, statement }),
-        _ => None,
+        Some(statement) => Some(Incoming::Call { session, statement }),
+        None => None,
     }
 }
 
@@ -59,13 +64,24 @@ fn is_prepare(kind: &Kind) -> bool
     matches!(kind, Kind::Prepare { .. })
 }
 
+/// The bytes of this message as they come, and whether it is Prepare.
+fn brings(bytes: Option<Bytes>, msg: &Msg) -> Option<(Incoming, bool)>
+    requires bytes { IfSome bytes (λ b. message_of b ≡ Some msg.now) }
+    requires played { IsPlayed msg.now }
+    ensures { IfSome result (λ coming. IsComing coming.1 coming.0) }
+{
+    match bytes {
+        Some(bytes) => Some((Incoming::Message(bytes), is_prepare(&msg.kind))),
+        None => None,
+    }
+}
+
 /// A message, and whether it is Prepare. None where it can't be said, or memory runs out.
 fn message(alloc: Global, letter: &Letter) -> Option<(Incoming, bool)>
     ensures { IfSome result (λ coming. IsComing coming.1 coming.0) }
 {
     let msg = msg_of(alloc, letter)?;
-    let bytes = encoded(alloc, &msg)?;
-    Some((Incoming::Message(bytes), is_prepare(&msg.kind)))
+    brings(encoded(alloc, &msg), &msg)
 }
 
 /// What comes, for a node to read, and whether it is Prepare. None where it can't come, or memory runs out.

@@ -1,7 +1,7 @@
 //! Points of crash-test comments: each cuts a turn before its record or after it.
 use crate::branches::ROOT;
 use crate::hq::{AT_HQ, COMMIT_HQ, FORGET_HQ, KEY_IN_DOUBT, NO_ROW_AT_HQ, PREPARE_HQ, ROW_AT_HQ};
-use crate::lone::{DownNode, LoneNode, Took};
+use crate::lone::{DownNode, LoneNode};
 use crate::play::{Step, play_on, played};
 use crate::sales::{AT_SALES, COLLECT, KEY_IN_DOUBT_AT_SALES, LEARN, NO_ROW_AT_SALES, PASS};
 use crate::warehouse::{
@@ -154,29 +154,17 @@ fn point(number: u8) -> Point {
     }
 }
 
-/// Where a turn was cut, and what is left of the node; none of a turn that was whole.
-fn left(took: Took) -> Option<(CutAt, DownNode)> {
-    match took {
-        Took::Cut(at, down) => Some((at, down)),
-        Took::Whole(_node, _effects) => None,
-    }
-}
-
 /// What is left of a node whose turn was cut here; none where it was cut elsewhere.
-fn left_at(left: (CutAt, DownNode), at: CutAt) -> Option<DownNode> {
+pub(crate) fn left_at(left: (CutAt, DownNode), at: CutAt) -> Option<DownNode> {
     let (place, down) = left;
-    if place == at {
-        Some(down)
-    } else {
-        None
-    }
+    if place == at { Some(down) } else { None }
 }
 
 /// What is left of a node whose turn is cut at the point, where that cuts it; none elsewhere.
 fn cut(alloc: Global, node: LoneNode, reach: &Reach) -> Option<DownNode> {
     let points = [point(reach.point)];
     let took = node.take(alloc, &reach.turn.0, &points)?;
-    left_at(left(took)?, reach.at)
+    left_at(took.cut()?, reach.at)
 }
 
 /// Whether the disk of a node is as it was exactly where its turn is cut before the record.
@@ -209,10 +197,8 @@ fn a_point_cuts_a_turn_before_its_record_or_after_it(rt: HostRuntime) {
 /// Whether a turn with this point is whole.
 fn is_whole(alloc: Global, point: Point) -> Option<bool> {
     let node = played(alloc, 3, &[&AT_HQ]).ok()?;
-    match node.take(alloc, &PREPARE_HQ.0, &[point])? {
-        Took::Whole(_node, _effects) => Some(true),
-        _ => Some(false),
-    }
+    let took = node.take(alloc, &PREPARE_HQ.0, &[point])?;
+    Some(took.cut().is_none())
 }
 
 #[test]

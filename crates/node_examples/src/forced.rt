@@ -60,14 +60,21 @@ fn is_mixed(node: &LoneNode) -> Option<bool> {
     }
 }
 
+/// The same after a start; none where it can't start.
+fn is_mixed_again(alloc: Global, node: LoneNode) -> Option<Option<bool>> {
+    let node = restarted(alloc, node)?;
+    Some(is_mixed(&node))
+}
+
 /// HQ, whose branch is forced, and then the decision comes: whether its row is mixed, also after a start, and none where it keeps
 /// no row of it then.
 fn met(alloc: Global, parts: &[&[Step]]) -> Result<Option<bool>, Turn> {
     let node = played(alloc, 3, parts)?;
     let mixed = is_mixed(&node);
-    match restarted(alloc, node) {
-        Some(node) if is_mixed(&node) == mixed => Ok(mixed),
-        _ => Err((0, 0)),
+    if is_mixed_again(alloc, node) == Some(mixed) {
+        Ok(mixed)
+    } else {
+        Err((0, 0))
     }
 }
 

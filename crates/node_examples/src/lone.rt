@@ -10,7 +10,7 @@ use crate::starting::{makes, starts};
 use block_disk::{Armable, MemDisk, Order};
 use dtx_values::{Listing, Name, Names};
 use fit_laws::{messages_fit, records_fit};
-use node_disk::{CutAt, Effects, Incoming, Node, TurnErr};
+use node_disk::{CutAt, CutTurn, Effects, Incoming, Node, TurnErr};
 use node_points::Point;
 use ready_laws::turns_stay_ready;
 use redo_record::{Place, Standing};
@@ -69,6 +69,24 @@ pub(crate) enum Took {
     Whole(LoneNode, Effects),
     /// It was cut here, and the node is stopped.
     Cut(CutAt, DownNode),
+}
+
+impl Took {
+    /// The node after a turn that was whole, with what it tells; none of one that was cut.
+    pub(crate) fn whole(self) -> Option<(LoneNode, Effects)> {
+        match self {
+            Took::Whole(node, effects) => Some((node, effects)),
+            Took::Cut(_at, _down) => None,
+        }
+    }
+
+    /// Where a turn was cut, and what is left of the node; none of one that was whole.
+    pub(crate) fn cut(self) -> Option<(CutAt, DownNode)> {
+        match self {
+            Took::Cut(at, down) => Some((at, down)),
+            Took::Whole(_node, _effects) => None,
+        }
+    }
 }
 
 /// The names of the nodes.
@@ -141,11 +159,19 @@ fn all_have_parents(lives: &[Live]) -> bool
     lives.iter().all(|live| live.parent.is_some())
 }
 
-/// Whether a node with these live branches may take this.
-fn may_take(lives: &[Live], incoming: &Incoming, asks: bool) -> bool
+/// Whether live branches may meet this.
+fn may_meet(lives: &[Live], incoming: &Incoming, asks: bool) -> bool
     ensures { result ≡ true → Meets asks incoming.now lives.now }
 {
     (!commits(incoming) || all_work(lives)) && (!asks || all_have_parents(lives))
+}
+
+/// Whether a node with these live branches, whose numbers are within this bound, may take this.
+fn may_take(bound: u64, lives: &[Live], incoming: &Incoming, asks: bool) -> bool
+    ensures few { result ≡ true → bound < 1000000 }
+    ensures meets { result ≡ true → Meets asks incoming.now lives.now }
+{
+    bound < TURN_LIMIT && may_meet(lives, incoming, asks)
 }
 
 /// A turn of a node that may take this.
@@ -171,6 +197,11 @@ fn turn(
         Ok(effects) => Ok(effects),
         Err(err) => Err(err),
     }
+}
+
+/// Where a turn was cut.
+fn cut_at(cut: CutTurn) -> CutAt {
+    cut.at
 }
 
 /// What is left of a node that stops: its disk, with the power on again.
@@ -204,8 +235,26 @@ fn take_turn(
             },
             effects,
         )),
-        Err(TurnErr::Cut(cut)) => Some(Took::Cut(cut.at, fallen(node))),
+        Err(TurnErr::Cut(cut)) => Some(Took::Cut(cut_at(cut), fallen(node))),
         Err(TurnErr::NoMemory) => None,
+    }
+}
+
+/// The node takes a turn, where it may. None where it may not, or memory runs out.
+fn take_if(
+    node: Node<MemDisk>,
+    bound: u64,
+    incoming: Incoming,
+    asks: bool,
+    points: &[Point],
+) -> Option<Took>
+    requires alone { IsAlone bound node }
+    requires coming { IsComing asks incoming }
+{
+    if may_take(bound, node.lives(), &incoming, asks) {
+        take_turn(node, bound, incoming, asks, points)
+    } else {
+        None
     }
 }
 
@@ -221,11 +270,8 @@ impl LoneNode {
     pub(crate) fn take(self, alloc: Global, comes: &Comes, points: &[Point]) -> Option<Took> {
         let LoneNode { node, bound } = self;
         match incoming(alloc, comes) {
-            Some((incoming, asks))
-                if bound < TURN_LIMIT && may_take(node.lives(), &incoming, asks) => {
-                take_turn(node, bound, incoming, asks, points)
-            }
-            _ => None,
+            Some((incoming, asks)) => take_if(node, bound, incoming, asks, points),
+            None => None,
         }
     }
 

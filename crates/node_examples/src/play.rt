@@ -1,7 +1,7 @@
 //! Turns as tests expect them.
 
 use crate::coming::Comes;
-use crate::lone::{LoneNode, Took};
+use crate::lone::LoneNode;
 use crate::says::{Letter, bytes_of};
 use node_disk::{Effects, Finished, Mailed};
 use redo_record::{Decision, RedoRecord};
@@ -102,7 +102,7 @@ fn are_ended(alloc: Global, ends: &[Finished], lines: &[&[u8]]) -> bool {
 /// Whether a turn tells just this.
 fn tells(
     alloc: Global,
-    effects: &Effects,
+    effects: Effects,
     wrote: Wrote,
     letters: &[Letter],
     lines: &[&[u8]],
@@ -112,18 +112,10 @@ fn tells(
         && are_ended(alloc, effects.ended.as_slice(), lines)
 }
 
-/// The node after a turn that was whole, with what it tells.
-fn whole(took: Took) -> Option<(LoneNode, Effects)> {
-    match took {
-        Took::Whole(node, effects) => Some((node, effects)),
-        Took::Cut(_at, _down) => None,
-    }
-}
-
 /// The node after a turn, with what it tells; none where it was cut, or could not be taken.
 fn taken(alloc: Global, node: LoneNode, comes: &Comes) -> Option<(LoneNode, Effects)> {
     match node.take(alloc, comes, &[]) {
-        Some(took) => whole(took),
+        Some(took) => took.whole(),
         None => None,
     }
 }
@@ -137,9 +129,11 @@ pub(crate) fn expect(
     letters: &[Letter],
     lines: &[&[u8]],
 ) -> Option<LoneNode> {
-    match taken(alloc, node, comes) {
-        Some((node, effects)) if tells(alloc, &effects, wrote, letters, lines) => Some(node),
-        _ => None,
+    let (node, effects) = taken(alloc, node, comes)?;
+    if tells(alloc, effects, wrote, letters, lines) {
+        Some(node)
+    } else {
+        None
     }
 }
 

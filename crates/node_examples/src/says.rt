@@ -4,7 +4,7 @@ ghost use Rattle.fit_laws.specs.Bytes.{IsOfTable, StatementHasBytes};
 ghost use Rattle.msg_codec.specs.Fits.{KindFits};
 ghost use Rattle.msg_codec.specs.Message.{message_of};
 ghost use Rattle.node_examples.specs.Played.{IsChange, IsSaid, IsPlayed};
-ghost use Rattle.sql_print.specs.Printing.{printed};
+ghost use Rattle.sql_print.specs.Printing.{IsPrintable, printed};
 
 use dtx_values::{Answer, Bytes, Done, Listing};
 use msg_codec::{encode_msg, message_fits, messages_are_read};
@@ -83,6 +83,27 @@ fn is_short(alloc: Global, statement: &Stmt) -> bool
     }
 }
 
+/// Whether a statement may be sent: it is over the rows of a table, and four bytes count its text.
+fn may_be_sent(alloc: Global, statement: &Stmt) -> bool
+    ensures of_table { result ≡ true → IsOfTable statement.now }
+    ensures short { result ≡ true → length (printed statement.now) < 2 ^ 32 }
+{
+    is_of_table(statement) && is_short(alloc, statement)
+}
+
+/// The statement, where it may be sent.
+fn sendable(alloc: Global, statement: Stmt) -> Option<Stmt>
+    requires { IsPrintable statement }
+    ensures bytes { IfSome result StatementHasBytes }
+    ensures short { IfSome result (λ s. length (printed s) < 2 ^ 32) }
+{
+    if may_be_sent(alloc, &statement) {
+        Some(statement)
+    } else {
+        None
+    }
+}
+
 /// The statement of an Exec: one that this text spells, over the rows of a table.
 fn statement_of(alloc: Global, text: &[u8]) -> Option<Stmt>
     ensures bytes { IfSome result StatementHasBytes }
@@ -90,8 +111,8 @@ fn statement_of(alloc: Global, text: &[u8]) -> Option<Stmt>
 {
     printed_statements_are_read();
     match parse(alloc, text) {
-        Ok(statement) if is_of_table(&statement) && is_short(alloc, &statement) => Some(statement),
-        _ => None,
+        Ok(statement) => sendable(alloc, statement),
+        Err(_why) => None,
     }
 }
 
@@ -194,14 +215,17 @@ pub(crate) fn msg_of(alloc: Global, letter: &Letter) -> Option<Msg>
     ensures { IfSome result IsPlayed }
 {
     let (from, to, scn, says) = letter;
+    if *scn > SCN_LIMIT {
+        return None;
+    }
     match kind_of(alloc, says) {
-        Some(kind) if *scn <= SCN_LIMIT => Some(Msg {
+        Some(kind) => Some(Msg {
             from: *from,
             to: *to,
             scn: *scn,
             kind,
         }),
-        _ => None,
+        None => None,
     }
 }
 

@@ -1,8 +1,9 @@
 //! Appends that an order strikes: the node starts from what is left, and the record stands or not.
 use crate::branches::{LEDGER, ROOT, STOCK};
 use crate::coming::Comes;
+use crate::cuts::left_at;
 use crate::hq::{AT_HQ, COMMIT_HQ, KEY_IN_DOUBT, NO_ROW_AT_HQ, PREPARE_HQ, ROW_AT_HQ};
-use crate::lone::{DownNode, LoneNode, Took};
+use crate::lone::{DownNode, LoneNode};
 use crate::play::{Step, Wrote, play_on, played};
 use crate::says::Says;
 use crate::warehouse::{
@@ -69,10 +70,8 @@ const DECISION: Strike = Strike {
 
 /// What is left of a node whose turn is cut in the append of its record.
 fn cut(alloc: Global, node: LoneNode, comes: &Comes) -> Option<DownNode> {
-    match node.take(alloc, comes, &[])? {
-        Took::Cut(CutAt::InAppend, down) => Some(down),
-        _ => None,
-    }
+    let took = node.take(alloc, comes, &[])?;
+    left_at(took.cut()?, CutAt::InAppend)
 }
 
 /// What an order leaves of the node of a strike.
