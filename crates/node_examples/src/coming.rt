@@ -14,7 +14,7 @@ use std::alloc::Global;
 use wire_msg::{Kind, Msg};
 
 /// What comes to a node.
-#[derive(Clone, Copy, Debug)]
+#[derive(Clone, Copy)]
 pub(crate) enum Comes {
     /// A call of a client session: its number, and the text of the statement.
     Call(u32, &'static [u8]),
@@ -81,7 +81,9 @@ fn message(alloc: Global, letter: &Letter) -> Option<(Incoming, bool)>
     ensures { IfSome result (λ coming. IsComing coming.1 coming.0) }
 {
     let msg = msg_of(alloc, letter)?;
-    brings(encoded(alloc, &msg), &msg)
+    let coming = brings(encoded(alloc, &msg), &msg);
+    drop(msg);
+    coming
 }
 
 /// What comes, for a node to read, and whether it is Prepare. None where it can't come, or memory runs out.

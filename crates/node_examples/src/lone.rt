@@ -76,7 +76,10 @@ impl Took {
     pub(crate) fn whole(self) -> Option<(LoneNode, Effects)> {
         match self {
             Took::Whole(node, effects) => Some((node, effects)),
-            Took::Cut(_at, _down) => None,
+            Took::Cut(_at, down) => {
+                drop(down);
+                None
+            }
         }
     }
 
@@ -84,7 +87,11 @@ impl Took {
     pub(crate) fn cut(self) -> Option<(CutAt, DownNode)> {
         match self {
             Took::Cut(at, down) => Some((at, down)),
-            Took::Whole(_node, _effects) => None,
+            Took::Whole(node, effects) => {
+                drop(effects);
+                drop(node);
+                None
+            }
         }
     }
 }
@@ -201,7 +208,9 @@ fn turn(
 
 /// Where a turn was cut.
 fn cut_at(cut: CutTurn) -> CutAt {
-    cut.at
+    let at = cut.at;
+    drop(cut);
+    at
 }
 
 /// What is left of a node that stops: its disk, with the power on again.
@@ -236,7 +245,10 @@ fn take_turn(
             effects,
         )),
         Err(TurnErr::Cut(cut)) => Some(Took::Cut(cut_at(cut), fallen(node))),
-        Err(TurnErr::NoMemory) => None,
+        Err(TurnErr::NoMemory) => {
+            drop(node);
+            None
+        }
     }
 }
 
@@ -254,6 +266,8 @@ fn take_if(
     if may_take(bound, node.lives(), &incoming, asks) {
         take_turn(node, bound, incoming, asks, points)
     } else {
+        drop(incoming);
+        drop(node);
         None
     }
 }
@@ -271,7 +285,10 @@ impl LoneNode {
         let LoneNode { node, bound } = self;
         match incoming(alloc, comes) {
             Some((incoming, asks)) => take_if(node, bound, incoming, asks, points),
-            None => None,
+            None => {
+                drop(node);
+                None
+            }
         }
     }
 

@@ -9,7 +9,7 @@ use report::answer_lines;
 use std::alloc::Global;
 
 /// The record of a turn, by what a test looks at.
-#[derive(Clone, Copy, Debug, PartialEq, Eq)]
+#[derive(Clone, Copy, PartialEq, Eq)]
 pub(crate) enum Wrote {
     Nothing,
     /// A table, a link or a setting.
@@ -107,9 +107,11 @@ fn tells(
     letters: &[Letter],
     lines: &[&[u8]],
 ) -> bool {
-    wrote_of(&effects.wrote) == Some(wrote)
+    let tells = wrote_of(&effects.wrote) == Some(wrote)
         && are_sent(alloc, effects.sent.as_slice(), letters)
-        && are_ended(alloc, effects.ended.as_slice(), lines)
+        && are_ended(alloc, effects.ended.as_slice(), lines);
+    drop(effects);
+    tells
 }
 
 /// The node after a turn, with what it tells; none where it was cut, or could not be taken.
@@ -133,6 +135,7 @@ pub(crate) fn expect(
     if tells(alloc, effects, wrote, letters, lines) {
         Some(node)
     } else {
+        drop(node);
         None
     }
 }

@@ -16,7 +16,7 @@ use tran_ids::BranchId;
 use wire_msg::{Kind, Msg};
 
 /// What a message says.
-#[derive(Clone, Copy, Debug)]
+#[derive(Clone, Copy)]
 pub(crate) enum Says {
     Open {
         edge: u8,
@@ -100,6 +100,7 @@ fn sendable(alloc: Global, statement: Stmt) -> Option<Stmt>
     if may_be_sent(alloc, &statement) {
         Some(statement)
     } else {
+        drop(statement);
         None
     }
 }
@@ -245,5 +246,7 @@ pub(crate) fn encoded(alloc: Global, msg: &Msg) -> Option<Bytes>
 /// The bytes of a message, as a test writes it. None where it can't be said, or memory runs out.
 pub(crate) fn bytes_of(alloc: Global, letter: &Letter) -> Option<Bytes> {
     let msg = msg_of(alloc, letter)?;
-    encoded(alloc, &msg)
+    let bytes = encoded(alloc, &msg);
+    drop(msg);
+    bytes
 }
