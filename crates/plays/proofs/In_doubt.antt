@@ -148,6 +148,27 @@ lost_committed_message :
 unfolding playing
 lost_committed_message = refl
 
+-- the lost word of the commit comes after all: the COMMIT was not complete in its command, and its row is free now
+lost_message_of_a_commit_comes_again :
+    report (told (played 332 places_1 (opening_1 ++
+    commands.LoseNext kind_names.Committed 2 1
+    ∷ at 1 1 commit
+    ∷ commands.Again 14
+    ∷ at 1 2 (rows (here (codes "ORDERS")) [])
+    ∷ commands.ShowPending 1
+    ∷ [])))
+    ≡ opening_1_lines ++
+    codes "14 ok"
+    ∷ codes "15 ORA-02054: transaction 1.1.1 in-doubt"
+    ∷ codes "16 ok"
+    ∷ codes "17 ID|QTY"
+    ∷ codes "17 1|10"
+    ∷ codes "17 1 row selected."
+    ∷ codes "18 no rows selected"
+    ∷ []
+unfolding playing
+lost_message_of_a_commit_comes_again = refl
+
 -- a branch in doubt holds its undo extents over a restart, until the commit has come
 undo_in_doubt_outlasts_a_restart :
     report (told (played 318 places_2 (

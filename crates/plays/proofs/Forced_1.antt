@@ -1,94 +1,13 @@
 -- Plays of the topic forced.
-use Rattle.std.proofs.Common.{◌≡◌, ℕ, List, [], ◌∷◌, ◌++◌, Some, None, codes, refl}
+use Rattle.std.proofs.Common.{◌≡◌, [], ◌∷◌, ◌++◌, Some, None, codes, refl}
 use Rattle.run_laws.specs.Report.{report}
-use Rattle.node_rules.specs.Data.{Place}
 use Rattle.node_rules.specs.Data.stmts
 use Rattle.node_rules.specs.Data.advices
-use Rattle.run_laws.specs.Data.{Command}
 use Rattle.run_laws.specs.Data.kind_names
 use Rattle.run_laws.specs.Data.commands
-use Rattle.plays.proofs.Script.{place, number_column, number_key, text_key, table, link, synonym, here, over, num, text, literal, minus, set, equal, insert, rows, commit, commit_comment, node, at, played, told}
+use Rattle.plays.proofs.Script.{link, here, over, num, text, literal, minus, set, equal, insert, rows, commit, commit_comment, at, played, told}
 use Rattle.plays.proofs.Playing.{playing}
-
-abbrev names_1 : List (List ℕ)
-names_1 = codes "SALES" ∷ codes "WAREHOUSE" ∷ codes "HQ" ∷ []
-
-abbrev names_2 : List (List ℕ)
-names_2 = codes "R" ∷ codes "A" ∷ codes "B" ∷ codes "C" ∷ []
-
-abbrev places_1 : List Place
-places_1 = place names_1 1 100 ∷ place names_1 2 140 ∷ place names_1 3 75 ∷ []
-
-abbrev places_2 : List Place
-places_2 = place names_2 1 1 ∷ place names_2 2 100 ∷ place names_2 3 50 ∷ place names_2 4 200 ∷ []
-
-abbrev opening_1 : List Command
-opening_1 =
-    node (codes "SALES") 100
-    ∷ node (codes "WAREHOUSE") 140
-    ∷ node (codes "HQ") 75
-    ∷ at 1 1 (table (codes "ORDERS") (number_key (codes "ID") ∷ number_column (codes "QTY") ∷ []))
-    ∷ at 1 1 (link (codes "WH") (codes "WAREHOUSE"))
-    ∷ at 1 1 (link (codes "HQ") (codes "HQ"))
-    ∷ at 2 1 (table (codes "STOCK") (text_key (codes "ITEM") 20 ∷ number_column (codes "N") ∷ []))
-    ∷ at 2 1 (insert (here (codes "STOCK")) (text (codes "BOLT") ∷ num 50 ∷ []))
-    ∷ at 2 1 commit
-    ∷ at 3 1 (table (codes "LEDGER") (number_key (codes "ID") ∷ number_column (codes "AMOUNT") ∷ []))
-    ∷ []
-
-abbrev opening_1_lines : List (List ℕ)
-opening_1_lines =
-    codes "1 ok"
-    ∷ codes "2 ok"
-    ∷ codes "3 ok"
-    ∷ codes "4 Table created."
-    ∷ codes "5 Database link created."
-    ∷ codes "6 Database link created."
-    ∷ codes "7 Table created."
-    ∷ codes "8 1 row created."
-    ∷ codes "9 Commit complete."
-    ∷ codes "10 Table created."
-    ∷ []
-
-abbrev opening_2 : List Command
-opening_2 =
-    node (codes "R") 1
-    ∷ node (codes "A") 100
-    ∷ node (codes "B") 50
-    ∷ node (codes "C") 200
-    ∷ at 2 1 (table (codes "T") (number_key (codes "K") ∷ []))
-    ∷ at 3 1 (table (codes "T") (number_key (codes "K") ∷ []))
-    ∷ at 4 1 (table (codes "T") (number_key (codes "K") ∷ []))
-    ∷ at 3 1 (link (codes "LC") (codes "C"))
-    ∷ at 3 1 (synonym (codes "TC") (codes "T") (codes "LC"))
-    ∷ at 1 1 (link (codes "LA") (codes "A"))
-    ∷ at 1 1 (link (codes "LB") (codes "B"))
-    ∷ at 1 1 (insert (over (codes "T") (codes "LA")) (num 1 ∷ []))
-    ∷ at 1 1 (insert (over (codes "T") (codes "LB")) (num 1 ∷ []))
-    ∷ at 1 1 (insert (over (codes "TC") (codes "LB")) (num 1 ∷ []))
-    ∷ commands.LoseNext kind_names.Committed 1 3
-    ∷ at 1 1 commit
-    ∷ []
-
-abbrev opening_2_lines : List (List ℕ)
-opening_2_lines =
-    codes "1 ok"
-    ∷ codes "2 ok"
-    ∷ codes "3 ok"
-    ∷ codes "4 ok"
-    ∷ codes "5 Table created."
-    ∷ codes "6 Table created."
-    ∷ codes "7 Table created."
-    ∷ codes "8 Database link created."
-    ∷ codes "9 Synonym created."
-    ∷ codes "10 Database link created."
-    ∷ codes "11 Database link created."
-    ∷ codes "12 1 row created."
-    ∷ codes "13 1 row created."
-    ∷ codes "14 1 row created."
-    ∷ codes "15 ok"
-    ∷ codes "16 ORA-02053: transaction 1.1.1 committed, some remote DBs may be in-doubt"
-    ∷ []
+use Rattle.plays.proofs.Forced_shared.{places_1, places_2, opening_1, opening_1_lines, opening_2, opening_2_lines}
 
 -- the session's advice and the comment of COMMIT stand in the row of a prepared branch
 advice_and_comment_in_the_view :
@@ -277,6 +196,37 @@ mixed_branch_that_forgot_answers_those_beyond :
     ∷ []
 unfolding playing
 mixed_branch_that_forgot_answers_those_beyond = refl
+
+-- a query between a forced rollback and the decision sees the rows of the rollback, and so does one after it
+query_between_a_forced_rollback_and_the_decision :
+    report (told (played 360 places_1 (opening_1 ++
+    at 1 1 (insert (here (codes "ORDERS")) (num 1 ∷ num 10 ∷ []))
+    ∷ at 1 1 (stmts.Update (over (codes "STOCK") (codes "WH")) (set (codes "N") (minus (codes "N") 10) ∷ []) (equal (codes "ITEM") (text (codes "BOLT")) ∷ []))
+    ∷ at 1 1 (insert (over (codes "LEDGER") (codes "HQ")) (num 1 ∷ num 250 ∷ []))
+    ∷ commands.LoseNext kind_names.Committed 1 3
+    ∷ at 1 1 commit
+    ∷ at 3 2 (stmts.RollbackForce (codes "1.65.1"))
+    ∷ at 3 2 (rows (here (codes "LEDGER")) [])
+    ∷ commands.Reco 3
+    ∷ at 3 2 (rows (here (codes "LEDGER")) [])
+    ∷ at 1 1 (rows (here (codes "ORDERS")) [])
+    ∷ [])))
+    ≡ opening_1_lines ++
+    codes "11 1 row created."
+    ∷ codes "12 1 row updated."
+    ∷ codes "13 1 row created."
+    ∷ codes "14 ok"
+    ∷ codes "15 ORA-02053: transaction 1.1.1 committed, some remote DBs may be in-doubt"
+    ∷ codes "16 Rollback complete."
+    ∷ codes "17 no rows selected"
+    ∷ codes "18 ok"
+    ∷ codes "19 no rows selected"
+    ∷ codes "20 ID|QTY"
+    ∷ codes "20 1|10"
+    ∷ codes "20 1 row selected."
+    ∷ []
+unfolding playing
+query_between_a_forced_rollback_and_the_decision = refl
 
 -- a prepared branch is forced to roll back; it meets the commit, is mixed, and is purged once
 rollback_against_the_commit_is_mixed :
