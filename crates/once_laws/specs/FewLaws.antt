@@ -10,9 +10,9 @@ use Rattle.run_laws.specs.Data.{Command, Happening}
 use Rattle.run_laws.specs.Lawful.{History, IsLawfulRun}
 use Rattle.commit_laws.specs.Undisturbed.{Commit, IsDelivery, IsCalm, facts_by, branches_by}
 
--- A COMMIT flows: nothing is in flight when it is called, and the turn of the call is whole; from then on there were deliveries alone, each the first of its message,
--- of whole turns; and neither a rollback nor a question of the recoverer came to a branch of its transaction. Messages may
--- still be in flight.
+-- A COMMIT flows: nothing is in flight when it is called, and the turn of the call is whole. From then on messages are
+-- delivered in whole turns, each for the first time, and nothing else happens. No rollback and no question of the recoverer
+-- has come to a branch of its transaction. Messages may still be in flight.
 pub record Flows (places : List Place) (asked : List Command) (trace : List Happening) (c : Commit places asked trace) : Type 0 where
   pub still : first_flying (facts_by places asked c.before).net ≡ None
   pub whole : c.call.cut ≡ false

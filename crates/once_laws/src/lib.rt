@@ -2,8 +2,8 @@
 //!
 //! A command of a script has at most 4,096 messages delivered. That a COMMIT never comes to that is shown by what each message
 //! in flight, each live branch and each row may still lead to: a delivery is worth more than what its turn sends and keeps. A
-//! branch stands at most 8 deep, so an acknowledgement goes on at most 17 times; and a session tree has at most 64 branches,
-//! of which the call of COMMIT leaves no more than 45 deliveries each (`specs/FewLaws.antt`).
+//! branch stands at most 8 deep, so an acknowledgement goes on at most 17 times. A session tree has at most 64 branches, and
+//! when COMMIT is called each of them still leads to at most 45 deliveries (`specs/FewLaws.antt`).
 #![tactic(auto)]
 
 ghost use Rattle.once_laws.specs.FewLaws.{DeliveriesAreFew, DeliveriesStayBelow};

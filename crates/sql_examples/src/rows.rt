@@ -147,7 +147,7 @@ fn rows_stand_in_key_order(rt: HostRuntime) {
     assert!(rt; are_given_in_order(rt.alloc()) == Ok(true));
 }
 
-/// A store whose table has rows at the keys 1 and 2, of which the first was put twice, but for those that were removed.
+/// A store with a table in which the row 1 was put twice and the row 2 once. The keys in `removed` have no row any more.
 fn put_again(alloc: Global, table: &Name, removed: &[Cell]) -> Result<Store, AllocError> {
     let mut store = store_of(alloc, table, 0)?;
     let put = changes(alloc, table, &[(1, Some(10)), (2, Some(20)), (1, Some(30))])?;
