@@ -1,9 +1,8 @@
 -- While a command goes well with HOLD off, and nothing but the one call of its session is pending: the next happening is the
 -- delivery of the first message in flight, or that call is given up.
-use Rattle.std.proofs.Common.{◌≡◌, ℕ, ◌+◌, ◌≤◌, ◌⊎◌, Bool, true, false, if◌then◌else◌, List, [], ◌∷◌, ◌++◌, length, Option, Some, None, inl, inr, refl, sym, ap, subst, ◌∙◌, arith}
+use Rattle.std.proofs.Common.{◌≡◌, ℕ, ◌+◌, ◌⊎◌, Bool, true, false, if◌then◌else◌, List, [], ◌∷◌, ◌++◌, length, Option, Some, None, inl, inr, refl, sym, ap, subst, ◌∙◌}
 use Rattle.std.specs.Prelude.{nat_lt}
 use Rattle.std.specs.List.{AllByRecursion}
-use Rattle.std.proofs.lemmas.Bool.Decides.{nat_tests}
 use Rattle.node_rules.specs.Data.{Place, Stmt}
 use Rattle.node_rules.specs.Data.inputs
 use Rattle.node_rules.specs.declared.session.Finished.{Finished}
@@ -11,7 +10,7 @@ use Rattle.node_rules.specs.Kept.{Kept, Outcome}
 use Rattle.net_bag.specs.Net.{first_flying, packet_at}
 use Rattle.run_laws.specs.Calls.{is_call_at, call_at, without_call, ends_or_follows, finished_call, finished}
 use Rattle.run_laws.specs.Cuts.{turn_appends}
-use Rattle.run_laws.specs.Data.{Command, Happening, Took, Turn}
+use Rattle.run_laws.specs.Data.{Command, Happening, Turn}
 use Rattle.run_laws.specs.Data.happenings
 use Rattle.run_laws.specs.Due.{Tells, Delivers, Begins, Ends, next_command, next_give_up, next_delivery, due_of, happens, comes_next, IsTheRun}
 use Rattle.run_laws.specs.Facts.{Facts, node_at, outcome_at}
@@ -105,17 +104,6 @@ module _ (node session : ℕ) where
           one = one_turn p.facts.command (node_at p.facts u.node) p.telling u o one;
         }
 
-    pub more_deliveries : (p : Past) (u : Turn) → p.telling.deliveries ≤ (next places asked p (happenings.Turn u)).telling.deliveries
-    unfolding next
-    more_deliveries p u = by u.took (turn_way p.facts.command (node_at p.facts u.node) p.telling u (outcome_at places p.facts u)).deliveries
-      where
-        after : ℕ
-        after = (telling_turned p.facts.command (node_at p.facts u.node) p.telling u (outcome_at places p.facts u)).deliveries
-
-        by : (took : Option Took) → after ≡ (delivered_more p.telling took).deliveries → p.telling.deliveries ≤ after
-        by None is = omega (arith, is)
-        by (Some k) is = omega (arith, is)
-
     module _ (p : Past) where
       abbrev f : Facts
       f = p.facts
@@ -191,26 +179,20 @@ module _ (node session : ℕ) where
     pub record Further (p : Past) (h : Happening) : Type 0 where
       pub whole : IsWholeTurn h
       pub flow : Flows (next places asked p h)
-      pub more : p.telling.deliveries ≤ (next places asked p h).telling.deliveries
 
     pub further : (p : Past) (h : Happening) → Flows p → Comes p h → Further p h
-    further p _ flow (Delivery k u at few other whole took) = record { whole = whole; flow = flows_turn p u flow.off flow.stands flow.one whole; more = more_deliveries p u }
-    further p _ flow (Give_up u c cs at why other whole) = record { whole = whole; flow = flows_turn p u flow.off flow.stands flow.one whole; more = more_deliveries p u }
+    further p _ flow (Delivery k u at few other whole took) = record { whole = whole; flow = flows_turn p u flow.off flow.stands flow.one whole }
+    further p _ flow (Give_up u c cs at why other whole) = record { whole = whole; flow = flows_turn p u flow.off flow.stands flow.one whole }
 
     -- What the happenings of a command leave that goes well.
     pub record Course (p : Past) (hs : List Happening) : Type 0 where
       pub whole : AllByRecursion IsWholeTurn hs
       pub flow : Flows (past places asked p hs)
-      pub more : p.telling.deliveries ≤ (past places asked p hs).telling.deliveries
 
     pub course : (p : Past) (hs later : List Happening) → Flows p → IsTheRun places asked p (hs ++ later) → AllByRecursion GoesWell hs → Course p hs
     unfolding past IsTheRun
-    course p [] later flow run well = record { whole = tt; flow = flow; more = omega arith }
+    course p [] later flow run well = record { whole = tt; flow = flow }
     course p (h ∷ hs) later flow run well =
         let on : Further p h = further p h flow (comes_so p flow h well.0 run.0).1 in
         let rest : Course (next places asked p h) hs = course (next places asked p h) hs later on.flow run.1 well.1 in
-        record { whole = (on.whole, rest.whole); flow = rest.flow; more = (let one = on.more in let two = rest.more in omega (arith, one, two)) }
-
--- more deliveries are not fewer
-pub still_spent : (n m : ℕ) → n ≤ m → spent n ≡ true → spent m ≡ true
-still_spent n m more is = grind (arith, nat_tests, more, is)
+        record { whole = (on.whole, rest.whole); flow = rest.flow }

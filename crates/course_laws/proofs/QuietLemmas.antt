@@ -1,6 +1,6 @@
 -- A quiet COMMIT is undisturbed, and complete when its command is done: at the first moment at which nothing is in flight it has
 -- been answered, so no call is given up, and nothing comes but the next command.
-use Rattle.std.proofs.Common.{◌≡◌, ℕ, ◌+◌, ◌<◌, ◌≤◌, Bool, true, false, List, [], ◌∷◌, ◌++◌, length, None, inl, inr, refl, sym, ap, subst, ◌∙◌, arith}
+use Rattle.std.proofs.Common.{◌≡◌, ℕ, ◌+◌, ◌<◌, true, false, List, [], ◌∷◌, ◌++◌, length, None, inl, inr, refl, sym, ap, subst, ◌∙◌, arith}
 use Rattle.std.specs.List.{AllByRecursion}
 use Rattle.std.proofs.lemmas.Bool.Decides.{nat_tests}
 use Rattle.std.proofs.lemmas.List.{append_assoc}
@@ -23,10 +23,10 @@ use Rattle.due_laws.proofs.RunLawfulLemmas.{the_run_is_lawful}
 use Rattle.tree_laws.proofs.PrefixLemmas.{so_far, births_join, facts_join}
 use Rattle.site_laws.proofs.TimeLemmas.{part_lawful}
 use Rattle.commit_laws.specs.Undisturbed.{Commit, Undisturbed, IsComplete, UndisturbedCommitsAreComplete, IsDelivery, LostNone, HasNotStopped, IsCalm, facts_by, branches_in, branches_by}
-use Rattle.course_laws.specs.CommitCourse.{GoesWell, QuietCommit, HasFewDeliveries, FewAreDelivered, IsDone, ShortCommitsFollow, QuietCommitsFollow}
-use Rattle.run_laws.proofs.PastLemmas.{past_on}
+use Rattle.once_laws.specs.FewLaws.{DeliveriesStayBelow}
+use Rattle.course_laws.specs.CommitCourse.{GoesWell, QuietCommit, IsDone, QuietCommitsAreComplete}
 use Rattle.course_laws.proofs.WayLemmas.{turn_way}
-use Rattle.course_laws.proofs.FlowLemmas.{IsWholeTurn, Flows, more_deliveries, Comes, Delivery, Give_up, comes_so, between_so, Further, further, Course, still_spent}
+use Rattle.course_laws.proofs.FlowLemmas.{IsWholeTurn, Flows, Comes, Delivery, Give_up, comes_so, between_so, Further, further, Course}
 use Rattle.course_laws.proofs.CourseLemmas.{first, first_none, first_flows, first_run, past_is, end_is, facts_end, its_course, answered_so}
 use Rattle.course_laws.proofs.ToldLemmas.{answered_commits_are_told}
 use Rattle.course_laws.proofs.EarlierLemmas.{all_front, all_back, lost_back, births_more, among_more, all_fewer, lost_fewer, calm_fewer, stopped_back}
@@ -70,28 +70,6 @@ module _ (node session : ℕ) (places : List Place) (asked : List Command) where
       ((here, rest.0), rest.1)
 
   -- ---- how many there are
-
-  more_at_end : (p : Past) (hs : List Happening) → AllByRecursion IsWholeTurn hs → p.telling.deliveries ≤ (past places asked p hs).telling.deliveries
-  unfolding past
-  more_at_end p [] whole = omega arith
-  more_at_end p (happenings.Turn u ∷ hs) whole =
-      let one = more_deliveries node session places asked p u in let rest = more_at_end (next places asked p (happenings.Turn u)) hs whole.1 in omega (arith, one, rest)
-  more_at_end p (h ∷ hs) whole = absurd whole.0
-
-  -- fewer at the end are fewer before
-  few_before : (n m : ℕ) → n ≤ m → spent m ≡ false → spent n ≡ false
-  few_before n m more few = by (spent n) refl
-    where
-      by : (q : Bool) → spent n ≡ q → q ≡ false
-      by true all = (let too : spent m ≡ true = still_spent n m more all in absurd cc)
-      by false none = refl
-
-  pub few_by_end : (p : Past) (hs : List Happening) → AllByRecursion IsWholeTurn hs → spent (past places asked p hs).telling.deliveries ≡ false → StayFew p hs
-  few_by_end p hs whole few done rest is all =
-      let parts_whole : AllByRecursion IsWholeTurn (done ++ rest) = subst (AllByRecursion IsWholeTurn) (sym is) whole in
-      let on : past places asked p hs ≡ past places asked (past places asked p done) rest = ap (past places asked p) (sym is) ∙ past_on places asked p done rest in
-      few_before (past places asked p done).telling.deliveries (past places asked p hs).telling.deliveries
-      (subst (λ (q : Past). (past places asked p done).telling.deliveries ≤ q.telling.deliveries) (sym on) (more_at_end (past places asked p done) rest (all_back IsWholeTurn done rest parts_whole))) few
 
   -- each delivery is counted
   pub counted : (p : Past) (hs : List Happening) → AllByRecursion IsDelivery hs → (past places asked p hs).telling.deliveries ≡ p.telling.deliveries + length hs
@@ -205,9 +183,9 @@ module _ (complete : UndisturbedCommitsAreComplete) (t : History) (run : IsTheRu
         (complete (so_far t sooner) (part_lawful t lawful sooner (record { rest = rest ++ later; is = trace_is })) c' (so_far_quiet delivers still)).answered
 
     -- and few have been delivered, where few are of every such COMMIT
-    pub few_so : FewAreDelivered → AllByRecursion IsDelivery done → spent (past t.places t.commands p done).telling.deliveries ≡ false
+    pub few_so : DeliveriesStayBelow → AllByRecursion IsDelivery done → spent (past t.places t.commands p done).telling.deliveries ≡ false
     few_so law delivers =
-        let below : length done < 4096 = law (so_far t sooner) (part_lawful t lawful sooner (record { rest = rest ++ later; is = trace_is })) c' quiet.still quiet.goes.whole delivers calm_sooner in
+        let below : length done < 4096 = law (so_far t sooner) (part_lawful t lawful sooner (record { rest = rest ++ later; is = trace_is })) c' (record { still = quiet.still; whole = quiet.goes.whole; delivers = delivers; calm = calm_sooner }) in
         let none : p.telling.deliveries ≡ 0 = first_none t run front later c quiet.goes in
         let count : (past t.places t.commands p done).telling.deliveries ≡ p.telling.deliveries + length done = counted c.call.node c.session t.places t.commands p done delivers in
         grind (arith, nat_tests, below, none, count)
@@ -237,11 +215,5 @@ module _ (complete : UndisturbedCommitsAreComplete) (t : History) (run : IsTheRu
         let end : IsComplete t.places t.commands front c = complete (so_far t front) (part_lawful t lawful front (record { rest = later; is = quiet.goes.within })) c undisturbed in
         record { undisturbed = undisturbed; complete = end; told = answered_commits_are_told t run front later c quiet.goes end.answered }
 
-  pub few_at_end : HasFewDeliveries t front → StayFew c.call.node c.session t.places t.commands p c.during
-  few_at_end few = few_by_end c.call.node c.session t.places t.commands p c.during way.whole (ap (λ (q : Past). spent q.telling.deliveries) (sym (end_is t run front later c quiet.goes)) ∙ few)
-
-pub short_commits_follow : ShortCommitsFollow
-short_commits_follow complete t run front later c quiet few = its_end complete t run front later c quiet (few_at_end complete t run front later c quiet few)
-
-pub quiet_commits_follow : QuietCommitsFollow
+pub quiet_commits_follow : UndisturbedCommitsAreComplete → DeliveriesStayBelow → QuietCommitsAreComplete
 quiet_commits_follow complete law t run front later c quiet = its_end complete t run front later c quiet (λ done rest is delivers. few_so complete t run front later c quiet done rest is law delivers)

@@ -2,7 +2,7 @@
 -- number, until none is in flight; then the call has been answered, and the next command begins. So an administrator sees
 -- that a COMMIT that nothing disturbs is complete in its own command. (Database Administrator's Guide, "Distributed
 -- Transactions Concepts": two-phase commit mechanism.)
-use Rattle.std.specs.Prelude.{◌≡◌, ℕ, ◌<◌, ◌∷◌, ◌++◌, false, List, [], length, slice_get, Some, None}
+use Rattle.std.specs.Prelude.{◌≡◌, ℕ, ◌∷◌, ◌++◌, false, List, [], slice_get, Some, None}
 use Rattle.std.specs.List.{AllByRecursion}
 use Rattle.node_rules.specs.Data.{Place}
 use Rattle.node_rules.specs.Data.stmts
@@ -14,12 +14,12 @@ use Rattle.run_laws.specs.Data.happenings
 use Rattle.run_laws.specs.Due.{next_command, due_of}
 use Rattle.run_laws.specs.Facts.{command_at}
 use Rattle.run_laws.specs.Headline.{IsBetween, IsTheRunOf}
-use Rattle.run_laws.specs.Lawful.{History, IsLawfulRun}
+use Rattle.run_laws.specs.Lawful.{History}
 use Rattle.run_laws.specs.Lines.{spent}
 use Rattle.run_laws.specs.Past.{past}
 use Rattle.run_laws.specs.Places.{node_line, told_of}
 use Rattle.run_laws.specs.Telling.{Past, start}
-use Rattle.commit_laws.specs.Undisturbed.{Commit, Undisturbed, IsComplete, UndisturbedCommitsAreComplete, IsDelivery, LostNone, HasNotStopped, IsCalm, facts_by, branches_by, answers_from}
+use Rattle.commit_laws.specs.Undisturbed.{Commit, Undisturbed, IsComplete, LostNone, HasNotStopped, IsCalm, facts_by, branches_by, answers_from}
 
 -- what these happenings leave, with what is told of them
 abbrev pub past_by : List Place → List Command → List Happening → Past
@@ -105,24 +105,3 @@ QuietCommitsAreDone t = (front later : List Happening) (c : Commit t.places t.co
 -- So it is in the run of every script.
 abbrev pub QuietCommitsAreComplete : Type 0
 QuietCommitsAreComplete = (t : History) → IsTheRunOf t → QuietCommitsAreDone t
-
--- ---- on what that stands
-
--- fewer than 4,096 messages were delivered in the command
-abbrev pub HasFewDeliveries : (t : History) (front : List Happening) → Type 0
-HasFewDeliveries t front = spent (past_by t.places t.commands front).telling.deliveries ≡ false
-
--- a quiet COMMIT with fewer than 4,096 deliveries is so, where every undisturbed COMMIT is complete
-abbrev pub ShortCommitsFollow : Type 0
-ShortCommitsFollow = UndisturbedCommitsAreComplete → (t : History) → IsTheRunOf t → (front later : List Happening) (c : Commit t.places t.commands front) → QuietCommit t front later c → HasFewDeliveries t front
-    → IsDone t front c
-
--- in every lawful run fewer than 4,096 messages are delivered in the course of a COMMIT that is called when nothing is in
--- flight, that deliveries alone follow, and that no rollback or question disturbs
-abbrev pub FewAreDelivered : Type 0
-FewAreDelivered = (t : History) → IsLawfulRun t → (c : Commit t.places t.commands t.trace) → first_flying (facts_by t.places t.commands c.before).net ≡ None → c.call.cut ≡ false
-    → AllByRecursion IsDelivery c.during → AllByRecursion (IsCalm (branches_by t.places t.commands t.trace c.root)) t.trace → length c.during < 4096
-
--- each quiet COMMIT is so, where that holds too
-abbrev pub QuietCommitsFollow : Type 0
-QuietCommitsFollow = UndisturbedCommitsAreComplete → FewAreDelivered → QuietCommitsAreComplete

@@ -3,7 +3,7 @@
 #![tactic(auto)]
 
 ghost use Rattle.course_laws.specs.CommandCalls.{HoldIsKept, CommandsFindNoCall, CommandsFindNothingInFlight, CommandsHoldTheirCall};
-ghost use Rattle.course_laws.specs.CommitCourse.{CommitsFlow, CommitsEnd, AnsweredCommitsAreTold, ShortCommitsFollow, QuietCommitsFollow, QuietCommitsAreComplete};
+ghost use Rattle.course_laws.specs.CommitCourse.{CommitsFlow, CommitsEnd, AnsweredCommitsAreTold, QuietCommitsAreComplete};
 ghost use Rattle.course_laws.specs.TriedCourse.{TheTriedCourse};
 
 /// Only HOLD ON and HOLD OFF change HOLD.
@@ -41,18 +41,7 @@ pub fn answered_commits_are_told()
     ensures { AnsweredCommitsAreTold }
 {}
 
-/// A quiet COMMIT in whose command fewer than 4,096 messages are delivered is undisturbed, and complete when its command is
-/// done, where undisturbed COMMITs are complete.
-pub fn short_commits_follow()
-    ensures { ShortCommitsFollow }
-{}
-
-/// Each quiet COMMIT is, where fewer are delivered in the course of every COMMIT that nothing disturbs.
-pub fn quiet_commits_follow()
-    ensures { QuietCommitsFollow }
-{}
-
-/// So in the run of a script each quiet COMMIT is undisturbed, it is complete when its command is done, and the report says so.
+/// In the run of a script each quiet COMMIT is undisturbed, it is complete when its command is done, and the report says so.
 pub fn quiet_commits_are_complete()
     ensures { QuietCommitsAreComplete }
 {}

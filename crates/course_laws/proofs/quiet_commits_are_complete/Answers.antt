@@ -4,6 +4,4 @@ use Rattle.course_laws.proofs.QuietLemmas.{quiet_commits_follow}
 use Rattle.course_laws.proofs.quiet_commits_are_complete.Goals as goal
 
 pub returns : goal.returns
-returns c =
-    quiet_commits_follow every_undisturbed_commit_is_complete
-    (λ t lawful commit still whole delivers calm. deliveries_stay_below t lawful commit (record { still = still; whole = whole; delivers = delivers; calm = calm }))
+returns c = quiet_commits_follow every_undisturbed_commit_is_complete deliveries_stay_below
