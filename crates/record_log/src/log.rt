@@ -5,7 +5,7 @@ ghost use Rattle.block_disk.specs.Images.{AtEachMoment, AddsNone, GoesOn, IsOnly
 ghost use Rattle.block_disk.specs.Orders.{ordered};
 ghost use Rattle.redo_record.specs.declared.record.RedoRecord.{RedoRecord};
 ghost use Rattle.redo_log.specs.Plans.{CallsGoByPlan, append_calls, begin_calls, load_calls};
-ghost use Rattle.redo_log.specs.Loads.{IsLoadCount, IsAppendCount};
+ghost use Rattle.redo_log.specs.Loads.{IsLoadCount, IsAppendCount, IsBeginCount};
 ghost use Rattle.redo_log.specs.Log.{disk_of as disk_of_bodies, MayBeBegun, count_after};
 ghost use Rattle.redo_log.specs.declared.err.MakeWhy.{MakeWhy};
 ghost use Rattle.redo_codec.specs.Record.{record_format};
@@ -59,6 +59,8 @@ impl<D: Disk> RecordLog<D> {
         ensures no_memory_calls { IfErr result (λ err. err.why ≡ MakeWhy.NoMemory → D.calls err.disk ≡ D.calls disk) }
         ensures calls { IfOk result (λ log. D.calls (disk_of log) ≡ count_after 2 (D.calls disk)) }
         ensures writes { IfOk result (λ log. D.writes (disk_of log) ≡ count_after 1 (D.writes disk)) }
+        ensures fault_calls { IfErr result (λ err. err.why ≡ MakeWhy.Fault → IsBeginCount (D.calls disk) (D.calls err.disk)) }
+        ensures fault_writes { IfErr result (λ err. err.why ≡ MakeWhy.Fault → D.writes err.disk ≡ count_after 1 (D.writes disk)) }
 
         // Where the disk shows its plan, it is a fault exactly where an order strikes one of the calls.
         ensures plan { IfOk result (λ log. CallsGoByPlan begin_calls (D.plan disk) (D.plan (disk_of log)) false) }

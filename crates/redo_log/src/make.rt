@@ -3,6 +3,7 @@ ghost use Rattle.std.specs.Prelude.{◌≡◌, ◌≤◌, [], ◌∷◌, true, f
 ghost use Rattle.dtx_ports.specs.Causes.{Rose};
 ghost use Rattle.block_disk.specs.Images.{IsOnly, AtEachMoment};
 ghost use Rattle.redo_log.specs.Log.{count_after, MayBeBegun};
+ghost use Rattle.redo_log.specs.Loads.{IsBeginCount};
 ghost use Rattle.redo_log.specs.Plans.{CallsGoByPlan, begin_calls};
 
 use crate::MakeWhy;
@@ -22,6 +23,8 @@ pub(crate) fn lay_gate<D: Disk>(disk: &mut D) -> Result<(), MakeWhy>
     ensures no_memory_calls { IsErrOf result MakeWhy.NoMemory → D.calls disk.new ≡ D.calls disk.old }
     ensures calls { OnOk result (D.calls disk.new ≡ count_after 2 (D.calls disk.old)) }
     ensures writes { OnOk result (D.writes disk.new ≡ count_after 1 (D.writes disk.old)) }
+    ensures fault_calls { IsErrOf result MakeWhy.Fault → IsBeginCount (D.calls disk.old) (D.calls disk.new) }
+    ensures fault_writes { IsErrOf result MakeWhy.Fault → D.writes disk.new ≡ count_after 1 (D.writes disk.old) }
     ensures plan { OnOk result (CallsGoByPlan begin_calls (D.plan disk.old) (D.plan disk.new) false) }
     ensures fault_plan { IsErrOf result MakeWhy.Fault → CallsGoByPlan begin_calls (D.plan disk.old) (D.plan disk.new) true }
     ensures no_memory_plan { IsErrOf result MakeWhy.NoMemory → D.plan disk.new ≡ D.plan disk.old }
