@@ -73,7 +73,7 @@ impl Lives {
         ensures ok { OnOk result (self.new ≡ self.old ++ live ∷ []) }
         ensures err { OnErr result (self.new ≡ self.old) }
     {
-        self.lives.insert(live.me, live)?;
+        drop(self.lives.insert(live.me, live)?);
         Ok(())
     }
 

@@ -122,14 +122,16 @@ impl Sessions {
     ) -> Result<Ended, AllocError>
         ensures { IfOk result (λ ended. ended ≡ commit_answer self.now root.now answer) }
     {
-        let mut ended = Listing::new(alloc);
         if self.commit_is_pending(root) {
-            ended.push(Finished {
+            let finished = Finished {
                 session: root.session,
                 answer,
-            })?;
+            };
+            Ok(Listing::of(vec![in alloc; finished]?))
+        } else {
+            drop(answer);
+            Ok(Listing::new(alloc))
         }
-        Ok(ended)
     }
 
     fn set(&mut self, number: u32, session: Session)

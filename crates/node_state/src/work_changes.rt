@@ -45,8 +45,13 @@ pub(crate) fn first_child(alloc: Global, branch: &BranchId) -> Result<Work, Allo
     ensures { IfOk result (λ work. work ≡ with_child (no_work_of branch.now)) }
 {
     let mut work = no_work(alloc, branch);
-    add_child(&mut work)?;
-    Ok(work)
+    match add_child(&mut work) {
+        Ok(()) => Ok(work),
+        Err(error) => {
+            drop(work);
+            Err(error)
+        }
+    }
 }
 
 /// One more child, to which no call was made. Fails where memory runs out, and then nothing changes.
@@ -76,10 +81,11 @@ pub(crate) fn next_call(work: &Work, number: u8) -> u32
 pub(crate) fn take_call(work: &mut Work, call: u32)
     ensures { work.new ≡ with_call_taken call work.old }
 {
-    work.came = Calls {
+    let taken = Calls {
         last_call: call,
         reply: None,
     };
+    drop(mem::replace(&mut work.came, taken));
 }
 
 /// A statement goes on to the child of a number. No memory is taken.
@@ -91,11 +97,12 @@ pub(crate) fn call_over(alloc: Global, work: &mut Work, number: u8, statement: S
     let mut calls = mem::replace(&mut work.calls, Listing::new(alloc)).into_vec();
     set_call(&mut calls, number, call);
     work.calls = Listing::of(calls);
-    work.going = Some(Going {
+    let going = Going {
         statement,
         room,
         waits: Waits::ForReply(number),
-    });
+    };
+    wait_for(work, Some(going));
 }
 
 fn set_call(calls: &mut Vec<u32>, number: u8, call: u32)
@@ -113,20 +120,23 @@ fn set_call(calls: &mut Vec<u32>, number: u8, call: u32)
 pub(crate) fn wait_for_opened(work: &mut Work, link: Name, statement: Stmt, room: u16)
     ensures { work.new ≡ waits_for_child link statement room work.old }
 {
-    work.going = Some(Going {
+    let going = Going {
         statement,
         room,
         waits: Waits::ForOpened(link),
-    });
+    };
+    wait_for(work, Some(going));
 }
 
 /// The statement is answered; the answer is kept where there is one.
 pub(crate) fn answer(work: &mut Work, reply: Option<ReplyFields>)
     ensures { work.new ≡ answered_with reply work.old }
 {
-    work.going = None;
+    wait_for(work, None);
     if reply.is_some() {
-        work.came.reply = reply;
+        drop(mem::replace(&mut work.came.reply, reply));
+    } else {
+        drop(reply);
     }
 }
 
@@ -134,5 +144,12 @@ pub(crate) fn answer(work: &mut Work, reply: Option<ReplyFields>)
 pub(crate) fn give_up(work: &mut Work)
     ensures { work.new ≡ given_up work.old }
 {
-    work.going = None;
+    wait_for(work, None);
+}
+
+// The branch waits for this from now on.
+fn wait_for(work: &mut Work, going: Option<Going>)
+    ensures { work.new ≡ record work.old { going = going } }
+{
+    drop(mem::replace(&mut work.going, going));
 }

@@ -64,7 +64,12 @@ impl Works {
     {
         match self.get(branch) {
             Some(work) => work_changes::admit(&work.came, call),
-            None => work_changes::admit(&Calls::new(), call),
+            None => {
+                let none = Calls::new();
+                let admit = work_changes::admit(&none, call);
+                drop(none);
+                admit
+            }
         }
     }
 
