@@ -72,7 +72,10 @@ pub fn exec_to(
     ensures { IfOk result (λ posts. posts ≡ exec_to_of sessions.now (branch_with live.now work.now) number statement given (peer_of_number live.now number)) }
 {
     match peer_of(live, number) {
-        None => Ok(Listing::new(alloc)),
+        None => {
+            drop(statement);
+            Ok(Listing::new(alloc))
+        }
         Some(peer) => post(
             alloc,
             live.me,

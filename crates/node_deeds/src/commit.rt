@@ -46,7 +46,12 @@ fn passes_commit(
 {
     match beyond {
         [] => to_one(alloc, row.me, Kind::Ack, row.toward),
-        _ => to_these(alloc, row.me, &Kind::Committed { scn }, beyond),
+        _ => {
+            let kind = Kind::Committed { scn };
+            let posts = to_these(alloc, row.me, &kind, beyond);
+            drop(kind);
+            posts
+        }
     }
 }
 

@@ -47,10 +47,11 @@ impl Deed {
         ensures is { IfOk result (λ deed. deed ≡ record { wrote = None; says = []; ended = (record { session = session; answer = answer }) ∷ [] }) }
         ensures gives { IfOk result (λ deed. (k : Kept) → Gives (ending_of k session answer) k deed) }
     {
+        let ended = ended(alloc, session, answer)?;
         Ok(Deed {
             wrote: None,
             says: Listing::new(alloc),
-            ended: ended(alloc, session, answer)?,
+            ended,
         })
     }
 

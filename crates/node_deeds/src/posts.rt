@@ -42,7 +42,10 @@ pub fn to_one(
     ensures { IfOk result (λ posts. posts ≡ to_one_of from kind to) }
 {
     match to {
-        None => Ok(Listing::new(alloc)),
+        None => {
+            drop(kind);
+            Ok(Listing::new(alloc))
+        }
         Some(to) => post(alloc, from, to, kind),
     }
 }

@@ -90,13 +90,10 @@ pub fn drop_says(alloc: Global, live: &Live, first: Posts) -> Result<Posts, Allo
     ensures { IfOk result (λ posts. posts ≡ first ++ to_children_of live.now kinds.Rollback) }
 {
     let mut posts = first.into_vec();
-    add_to_children(
-        &mut posts,
-        alloc,
-        live.me,
-        &Kind::Rollback,
-        live.edges.as_slice(),
-    )?;
+    let kind = Kind::Rollback;
+    let added = add_to_children(&mut posts, alloc, live.me, &kind, live.edges.as_slice());
+    drop(kind);
+    added?;
     Ok(Listing::of(posts))
 }
 

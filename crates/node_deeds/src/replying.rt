@@ -108,7 +108,10 @@ pub fn answer_ends(alloc: Global, live: &Live, answer: Answer) -> Result<Ended, 
 {
     match live.parent {
         None => ended(alloc, live.me.session, answer),
-        Some(_) => Ok(Listing::new(alloc)),
+        Some(_) => {
+            drop(answer);
+            Ok(Listing::new(alloc))
+        }
     }
 }
 
@@ -165,6 +168,7 @@ pub fn heard_answer(
     ensures { IfOk result (λ heard. heard ≡ heard_answer_of live.now link.now answer) }
 {
     if live.parent.is_none() && is_gone(&answer) {
+        drop(answer);
         Ok(Answer::Refused(gone_behind(alloc, link.as_bytes())?))
     } else {
         Ok(answer)

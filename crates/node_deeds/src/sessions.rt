@@ -72,6 +72,7 @@ pub fn commit_answer(
     if commit_is_pending(sessions, root) {
         ended(alloc, root.session, answer)
     } else {
+        drop(answer);
         Ok(Listing::new(alloc))
     }
 }
