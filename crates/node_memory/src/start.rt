@@ -53,8 +53,13 @@ impl Memory {
         ensures place { IfOk result (λ memory. memory.place ≡ place) }
     {
         let mut memory = Memory::new(alloc, place)?;
-        memory.start(alloc, records)?;
-        Ok(memory)
+        match memory.start(alloc, records) {
+            Ok(()) => Ok(memory),
+            Err(error) => {
+                drop(memory);
+                Err(error)
+            }
+        }
     }
 
     // A node that has no record yet starts with these.
