@@ -111,7 +111,18 @@ fn write(
     ensures gives { IfOk result (λ deed. Gives (writes_of (kept_in memory.old) session redo done) (kept_in memory.new) deed) }
     ensures place { memory.new.place ≡ memory.old.place }
 {
-    let ends = ended(alloc, session, Answer::Did(done, 0))?;
-    memory.take_in(alloc, &redo)?;
-    Ok(Deed::writing(redo, Listing::new(alloc), ends))
+    match ended(alloc, session, Answer::Did(done, 0)) {
+        Err(error) => {
+            drop(redo);
+            Err(error)
+        }
+        Ok(ends) => match memory.take_in(alloc, &redo) {
+            Err(error) => {
+                drop(redo);
+                drop(ends);
+                Err(error)
+            }
+            Ok(()) => Ok(Deed::writing(redo, Listing::new(alloc), ends)),
+        },
+    }
 }

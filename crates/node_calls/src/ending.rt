@@ -39,9 +39,16 @@ fn rollback_root(
     };
     let me = live.me;
     let says = to_children(alloc, live, &Kind::Rollback)?;
-    let ended = ended(alloc, session, Answer::Did(Done::RolledBack, 0))?;
-    memory.sessions.end(session);
-    memory.drop_branch(&me);
-    let wrote = None;
-    Ok(Deed { wrote, says, ended })
+    match ended(alloc, session, Answer::Did(Done::RolledBack, 0)) {
+        Err(error) => {
+            drop(says);
+            Err(error)
+        }
+        Ok(ended) => {
+            memory.sessions.end(session);
+            memory.drop_branch(&me);
+            let wrote = None;
+            Ok(Deed { wrote, says, ended })
+        }
+    }
 }

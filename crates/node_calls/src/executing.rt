@@ -67,7 +67,12 @@ fn reply_again(
     ensures { IfOk result (λ posts. posts ≡ says_again_of (branch_with live.now (work_of works.now branch.now)) to (work_of works.now branch.now).came.reply) }
 {
     match works.get(branch) {
-        None => says_again(alloc, live, &no_work(alloc, branch), to),
+        None => {
+            let none = no_work(alloc, branch);
+            let says = says_again(alloc, live, &none, to);
+            drop(none);
+            says
+        }
         Some(work) => says_again(alloc, live, work, to),
     }
 }

@@ -35,10 +35,17 @@ pub fn statement_given_up(
     };
     let answer = answer_lost(alloc, &memory.works, root, live)?;
     let deed = Deed::ending(alloc, session, answer)?;
-    memory.works.give_up(alloc, root)?;
-    memory.sessions.set_call(session, PendingCall::NoCall);
-    memory.sessions.need_rollback(session, NO_ANSWER);
-    Ok(deed)
+    match memory.works.give_up(alloc, root) {
+        Err(error) => {
+            drop(deed);
+            Err(error)
+        }
+        Ok(()) => {
+            memory.sessions.set_call(session, PendingCall::NoCall);
+            memory.sessions.need_rollback(session, NO_ANSWER);
+            Ok(deed)
+        }
+    }
 }
 
 // DTX-03, with the link that a live branch waits for.

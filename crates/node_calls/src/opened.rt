@@ -58,10 +58,22 @@ pub(crate) fn on_opened(
         statement,
         room,
     } = waited;
-    memory.lives.add_edge(to, new_edge(from, link, strength))?;
-    memory.works.add_edge(alloc, to)?;
-    let deed = call_over(memory, alloc, to, edge, statement, one_less(room))?;
-    Ok(deed)
+    match memory.lives.add_edge(to, new_edge(from, link, strength)) {
+        Err(error) => {
+            drop(statement);
+            Err(error)
+        }
+        Ok(()) => match memory.works.add_edge(alloc, to) {
+            Err(error) => {
+                drop(statement);
+                Err(error)
+            }
+            Ok(()) => {
+                let deed = call_over(memory, alloc, to, edge, statement, one_less(room))?;
+                Ok(deed)
+            }
+        },
+    }
 }
 
 // The room that is left once a child is there.

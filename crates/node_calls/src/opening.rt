@@ -33,11 +33,9 @@ pub fn on_open(
         Some(opening) => Ok(Deed::saying(alloc, opened_says(alloc, &opening)?)),
         None => {
             let opening = new_opening(memory, parent, edge);
-            let says = opened_says(alloc, &opening)?;
-            let live = begun(alloc, &opening, root, depth);
-            memory.lives.begin(live)?;
+            memory.lives.begin(begun(alloc, &opening, root, depth))?;
             memory.opens.add(opening)?;
-            Ok(Deed::saying(alloc, says))
+            Ok(Deed::saying(alloc, opened_says(alloc, &opening)?))
         }
     }
 }

@@ -47,9 +47,11 @@ pub(crate) fn on_reply(
     ensures place { memory.new.place ≡ memory.old.place }
 {
     let Some(live) = memory.lives.get(to) else {
+        drop(told);
         return Ok(Deed::nothing(alloc));
     };
     let Some(replier) = replying(&memory.works, to, live, &from, call) else {
+        drop(told);
         return Ok(Deed::nothing(alloc));
     };
     let number = replier.number;
