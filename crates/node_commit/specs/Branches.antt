@@ -15,7 +15,7 @@ use Rattle.node_rules.specs.Words.{one}
 use Rattle.node_rules.specs.Refusals.{dtx}
 use Rattle.node_rules.specs.Records.{with_record}
 use Rattle.node_rules.specs.Sessions.{commit_ended}
-use Rattle.node_rules.specs.Kept.{Kept, Deed, nothing, ending, live_id, live_at, standing_at}
+use Rattle.node_rules.specs.Kept.{Kept, Deed, nothing, ending, live_id, live_at, standing_at, without_branch}
 use Rattle.node_rules.specs.Prepare.{without_read_keys}
 use Rattle.node_memory.specs.declared.memory.Memory.{Memory}
 use Rattle.node_memory.specs.Parts.{kept_in}
@@ -59,6 +59,11 @@ learned b d (Some mixed) = records.Met b d mixed
 abbrev pub with_wrote : Kept → Option RedoRecord → Kept
 with_wrote k None = k
 with_wrote k (Some r) = with_record k r
+
+-- what a node keeps after a live branch left with this record
+abbrev pub left_by : Kept → BranchId → Option RedoRecord → Kept
+left_by k b None = k
+left_by k b (Some r) = with_record (without_branch k b) r
 
 -- A branch may become sealed or decide: it is not in doubt yet, and the clock has a number left.
 pub record MayCommit (m : Memory) (b : BranchId) : Type 0 where

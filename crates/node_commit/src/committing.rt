@@ -60,15 +60,18 @@ fn forgetting(alloc: Global, sessions: &Sessions, row: &Standing) -> Result<Deed
     Ok(Deed::writing(RedoRecord::Forgot(row.me), says, ended))
 }
 
-// The record of a deed becomes part of what the node keeps.
-fn taken_in(memory: &mut Memory, alloc: Global, deed: Deed) -> Result<Deed, AllocError>
+/// The record of a deed becomes part of what the node keeps.
+pub(crate) fn taken_in(memory: &mut Memory, alloc: Global, deed: Deed) -> Result<Deed, AllocError>
     requires { IfSome deed.wrote (MayFollow (stored_in memory.old)) }
     ensures deed { IfOk result (λ same. same ≡ deed) }
     ensures kept { OnOk result (kept_in memory.new ≡ with_wrote (kept_in memory.old) deed.wrote) }
     ensures place { memory.new.place ≡ memory.old.place }
 {
-    if let Some(redo) = &deed.wrote {
-        memory.take_in(alloc, redo)?;
+    if let Some(redo) = &deed.wrote
+        && let Err(error) = memory.take_in(alloc, redo)
+    {
+        drop(deed);
+        return Err(error);
     }
     Ok(deed)
 }

@@ -1,5 +1,5 @@
 //! The commit point site decides.
-ghost use Rattle.std.specs.Prelude.{◌≡◌, ◌+◌, ◌-◌, ◌^◌, ◌<◌, ◌≤◌, length, if◌then◌else◌, [], IfOk};
+ghost use Rattle.std.specs.Prelude.{◌≡◌, ◌+◌, ◌-◌, ◌^◌, ◌<◌, ◌≤◌, length, if◌then◌else◌, [], Some, IfOk, IfSome, OnOk};
 ghost use Rattle.dtx_values.specs.Limits.{branch_limit};
 ghost use Rattle.redo_record.specs.declared.record.RedoRecord.TheVariants as records;
 ghost use Rattle.node_rules.specs.Data.kinds as kinds;
@@ -9,7 +9,7 @@ ghost use Rattle.node_rules.specs.Sessions.{commit_answer, commit_complete as co
 ghost use Rattle.node_memory.specs.Parts.{kept_in};
 ghost use Rattle.node_memory.specs.Leaving.{IsOwnDecision};
 ghost use Rattle.node_deeds.specs.Gives.{Gives};
-ghost use Rattle.node_commit.specs.Branches.{at_live, ended_if};
+ghost use Rattle.node_commit.specs.Branches.{at_live, ended_if, left_by};
 
 use crate::looking::live_of;
 use dtx_values::Listing;
@@ -45,12 +45,10 @@ fn decision_says(alloc: Global, live: &Live, scn: u64) -> Result<Posts, AllocErr
     ensures { IfOk result (λ posts. posts ≡ to_each_of live.now.me (kinds.Committed scn) (site_neighbors_of live.now)) }
 {
     let neighbors = site_neighbors(alloc, live)?;
-    to_each(
-        alloc,
-        live.me,
-        &Kind::Committed { scn },
-        neighbors.as_slice(),
-    )
+    let kind = Kind::Committed { scn };
+    let says = to_each(alloc, live.me, &kind, neighbors.as_slice());
+    drop(kind);
+    says
 }
 
 // Without neighbours the COMMIT is complete.
@@ -62,6 +60,54 @@ fn decision_ends(alloc: Global, sessions: &Sessions, live: &Live) -> Result<Ende
     } else {
         Ok(Listing::new(alloc))
     }
+}
+
+// What the commit point site writes, says and answers.
+fn deciding(
+    alloc: Global,
+    sessions: &Sessions,
+    live: &Live,
+    scn: u64,
+    redo: RedoRecord,
+) -> Result<Deed, AllocError>
+    ensures { IfOk result (λ deed.
+        deed ≡ record { wrote = Some redo; says = to_each_of live.now.me (kinds.Committed scn) (site_neighbors_of live.now); ended = if is_alone_of live.now then commit_answer sessions.now live.now.me commit_complete_of else [] }) }
+{
+    match decision_says(alloc, live, scn) {
+        Err(error) => {
+            drop(redo);
+            Err(error)
+        }
+        Ok(says) => match decision_ends(alloc, sessions, live) {
+            Err(error) => {
+                drop(redo);
+                drop(says);
+                Err(error)
+            }
+            Ok(ended) => Ok(Deed::writing(redo, says, ended)),
+        },
+    }
+}
+
+// The record of the decision becomes part of what the node keeps, and the branch is live no longer.
+fn decided(
+    memory: &mut Memory,
+    alloc: Global,
+    branch: &BranchId,
+    deed: Deed,
+) -> Result<Deed, AllocError>
+    requires { IfSome deed.wrote (IsOwnDecision (kept_in memory.old) branch.now) }
+    ensures deed { IfOk result (λ same. same ≡ deed) }
+    ensures kept { OnOk result (kept_in memory.new ≡ left_by (kept_in memory.old) branch.now deed.wrote) }
+    ensures place { memory.new.place ≡ memory.old.place }
+{
+    if let Some(redo) = &deed.wrote
+        && let Err(error) = memory.decide(alloc, branch, redo)
+    {
+        drop(deed);
+        return Err(error);
+    }
+    Ok(deed)
 }
 
 fn end_if(alone: bool, sessions: &mut Sessions, branch: &BranchId)
@@ -90,12 +136,10 @@ pub(crate) fn decides(
             let alone = is_alone(live);
             let scn = memory.clock.now() + 1;
             let redo = decision_record(memory, alloc, live, scn)?;
-            let says = decision_says(alloc, live, scn)?;
-            let ended = decision_ends(alloc, &memory.sessions, live)?;
+            let deed = deciding(alloc, &memory.sessions, live, scn, redo)?;
             end_if(alone, &mut memory.sessions, &me);
             memory.clock.next();
-            memory.decide(alloc, &me, &redo)?;
-            Ok(Deed::writing(redo, says, ended))
+            decided(memory, alloc, &me, deed)
         }
     }
 }

@@ -1,18 +1,51 @@
 //! Forced outcomes and purges.
-ghost use Rattle.std.specs.Prelude.{◌≡◌, ◌-◌, ◌<◌, ◌^◌, Ok, IfOk};
+ghost use Rattle.std.specs.Prelude.{◌≡◌, ◌-◌, ◌<◌, ◌^◌, ◌++◌, ◌∷◌, [], Ok, IfOk};
 ghost use Rattle.node_rules.specs.Force.{branch_to_force as branch_to_force_of, forces as forces_of, force_commit as force_commit_of, force_rollback as force_rollback_of, purge as purge_of};
+ghost use Rattle.node_rules.specs.Sessions.{commit_answer as commit_answer_of, tran_refusal as tran_refusal_of};
 ghost use Rattle.node_memory.specs.Parts.{kept_in};
 ghost use Rattle.node_deeds.specs.Gives.{Gives};
 ghost use Rattle.node_commit.specs.Branches.{hides_named};
 
+use crate::committing::taken_in;
 use dtx_values::{Answer, Done, Listing, Refusal};
 use force_cmds::may_purge;
 use node_deeds::{Deed, branch_to_force, ended, nothing_to_purge, tran_refusal};
 use node_memory::Memory;
-use node_rules::Finished;
+use node_rules::{Ended, Finished};
+use node_state::Sessions;
 use redo_record::{Decision, RedoRecord};
 use std::alloc::{AllocError, Global};
 use tran_ids::BranchId;
+
+// The COMMIT of this root is answered, where it is pending: it is in doubt.
+fn doubt_ends(alloc: Global, sessions: &Sessions, branch: &BranchId) -> Result<Ended, AllocError>
+    ensures { IfOk result (λ ends. ends ≡ commit_answer_of sessions.now branch.now (tran_refusal_of 2054 branch.now)) }
+{
+    let refusal = tran_refusal(alloc, 2054, *branch)?;
+    sessions.commit_answer(alloc, branch, refusal)
+}
+
+// What a forced outcome answers.
+fn forced_ends(
+    alloc: Global,
+    sessions: &Sessions,
+    session: u32,
+    branch: &BranchId,
+    answer: Answer,
+) -> Result<Ended, AllocError>
+    ensures { IfOk result (λ ends. ends ≡ commit_answer_of sessions.now branch.now (tran_refusal_of 2054 branch.now) ++ (record { session = session; answer = answer }) ∷ []) }
+{
+    match doubt_ends(alloc, sessions, branch) {
+        Err(error) => {
+            drop(answer);
+            Err(error)
+        }
+        Ok(mut ends) => {
+            ends.push(Finished { session, answer })?;
+            Ok(ends)
+        }
+    }
+}
 
 // The outcome is forced; a root whose COMMIT is pending is in doubt.
 fn forces(
@@ -27,17 +60,15 @@ fn forces(
     ensures gives { IfOk result (λ deed. Gives (forces_of (kept_in memory.old) session branch decision given answer) (kept_in memory.new) deed) }
     ensures place { memory.new.place ≡ memory.old.place }
 {
-    let refusal = tran_refusal(alloc, 2054, branch)?;
-    let mut ends = memory.sessions.commit_answer(alloc, &branch, refusal)?;
-    ends.push(Finished { session, answer })?;
+    let ends = forced_ends(alloc, &memory.sessions, session, &branch, answer)?;
     let redo = RedoRecord::Forced {
         me: branch,
         decision,
         given,
     };
     memory.sessions.end_commit(&branch);
-    memory.take_in(alloc, &redo)?;
-    Ok(Deed::writing(redo, Listing::new(alloc), ends))
+    let deed = Deed::writing(redo, Listing::new(alloc), ends);
+    taken_in(memory, alloc, deed)
 }
 
 // COMMIT FORCE of a branch.
@@ -173,9 +204,8 @@ fn hides(
         }
         Some(me) => {
             let ends = ended(alloc, session, Answer::Did(Done::Purged, 0))?;
-            let redo = RedoRecord::Hidden(me);
-            memory.take_in(alloc, &redo)?;
-            Ok(Deed::writing(redo, Listing::new(alloc), ends))
+            let deed = Deed::writing(RedoRecord::Hidden(me), Listing::new(alloc), ends);
+            taken_in(memory, alloc, deed)
         }
     }
 }

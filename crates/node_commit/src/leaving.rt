@@ -1,8 +1,9 @@
 //! A live branch that rolls back, or leaves without a record.
-ghost use Rattle.std.specs.Prelude.{◌≡◌, IfOk};
+ghost use Rattle.std.specs.Prelude.{◌≡◌, None, IfOk};
 ghost use Rattle.node_rules.specs.Data.kinds as kinds;
 ghost use Rattle.node_rules.specs.Kept.{saying, to_one as to_one_of, without_branch};
-ghost use Rattle.node_rules.specs.Prepare.{drops as drops_of, root_drops as root_drops_of, abandons as abandons_of, finishes as finishes_of};
+ghost use Rattle.node_rules.specs.Prepare.{drops as drops_of, root_drops as root_drops_of, to_children as to_children_of, abandons as abandons_of, finishes as finishes_of};
+ghost use Rattle.node_rules.specs.Sessions.{commit_answer as commit_answer_of};
 ghost use Rattle.node_memory.specs.Parts.{kept_in};
 ghost use Rattle.node_deeds.specs.Gives.{Gives};
 ghost use Rattle.node_commit.specs.Branches.{at_live};
@@ -12,7 +13,9 @@ use crate::session_ends::{abandon_ends, end_abandoned};
 use dtx_values::{Answer, Listing};
 use node_deeds::{Deed, abandon_says, commit_complete, drop_says, to_children, to_one};
 use node_memory::Memory;
+use node_state::Sessions;
 use reco::Posts;
+use session_tree::Live;
 use std::alloc::{AllocError, Global};
 use tran_ids::BranchId;
 use wire_msg::Kind;
@@ -28,13 +31,40 @@ pub fn drops(
     ensures place { memory.new.place ≡ memory.old.place }
 {
     match live_of(memory, branch) {
-        None => Ok(Deed::nothing(alloc)),
+        None => {
+            drop(first);
+            Ok(Deed::nothing(alloc))
+        }
         Some(live) => {
             let me = live.me;
             let says = drop_says(alloc, live, first)?;
             memory.drop_branch(&me);
             Ok(Deed::saying(alloc, says))
         }
+    }
+}
+
+// What a root says that rolls back, and the answer to its COMMIT.
+fn root_dropping(
+    alloc: Global,
+    sessions: &Sessions,
+    live: &Live,
+    answer: Answer,
+) -> Result<Deed, AllocError>
+    ensures { IfOk result (λ deed.
+        deed ≡ record { wrote = None; says = to_children_of live.now kinds.Rollback; ended = commit_answer_of sessions.now live.now.me answer }) }
+{
+    let ended = sessions.commit_answer(alloc, &live.me, answer)?;
+    match to_children(alloc, live, &Kind::Rollback) {
+        Err(error) => {
+            drop(ended);
+            Err(error)
+        }
+        Ok(says) => Ok(Deed {
+            wrote: None,
+            says,
+            ended,
+        }),
     }
 }
 
@@ -49,18 +79,16 @@ pub fn root_drops(
     ensures place { memory.new.place ≡ memory.old.place }
 {
     match live_of(memory, branch) {
-        None => Ok(Deed::nothing(alloc)),
+        None => {
+            drop(answer);
+            Ok(Deed::nothing(alloc))
+        }
         Some(live) => {
             let me = live.me;
-            let says = to_children(alloc, live, &Kind::Rollback)?;
-            let ended = memory.sessions.commit_answer(alloc, &me, answer)?;
+            let deed = root_dropping(alloc, &memory.sessions, live, answer)?;
             memory.sessions.end_commit(&me);
             memory.drop_branch(&me);
-            Ok(Deed {
-                wrote: None,
-                says,
-                ended,
-            })
+            Ok(deed)
         }
     }
 }

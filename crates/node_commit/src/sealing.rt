@@ -1,5 +1,5 @@
 //! A live branch that becomes sealed.
-ghost use Rattle.std.specs.Prelude.{◌≡◌, ◌≤◌, length, false, Some, None, IfOk};
+ghost use Rattle.std.specs.Prelude.{◌≡◌, ◌≤◌, length, false, Some, None, IfOk, IfSome, OnOk};
 ghost use Rattle.dtx_values.specs.Limits.{branch_limit};
 ghost use Rattle.row_store.specs.Store.{is_in_doubt};
 ghost use Rattle.session_tree.specs.Live.{peer_of as peer_of_number};
@@ -9,7 +9,7 @@ ghost use Rattle.node_rules.specs.Prepare.{seals as seals_of, sealed_record as s
 ghost use Rattle.node_memory.specs.Parts.{kept_in};
 ghost use Rattle.node_memory.specs.Leaving.{IsOwnSeal};
 ghost use Rattle.node_deeds.specs.Gives.{Gives};
-ghost use Rattle.node_commit.specs.Branches.{at_live};
+ghost use Rattle.node_commit.specs.Branches.{at_live, left_by};
 
 use crate::looking::live_of;
 use dtx_values::Listing;
@@ -37,6 +37,29 @@ fn seal_record(
     sealed_record(alloc, memory.clock.now(), live, changes, path)
 }
 
+// The record of the branch becomes part of what the node keeps, and the branch is live no longer.
+fn sealed(
+    memory: &mut Memory,
+    alloc: Global,
+    branch: &BranchId,
+    deed: Deed,
+) -> Result<Deed, AllocError>
+    requires apart { is_in_doubt memory.old.store.doubts branch.now ≡ false }
+    requires own { IfSome deed.wrote (IsOwnSeal (kept_in memory.old) branch.now) }
+    ensures deed { IfOk result (λ same. same ≡ deed) }
+    ensures kept { OnOk result (kept_in memory.new ≡ left_by (kept_in memory.old) branch.now deed.wrote) }
+    ensures place { memory.new.place ≡ memory.old.place }
+{
+    if let Some(redo) = &deed.wrote
+        && let Err(error) = memory.seal(alloc, branch, redo)
+    {
+        drop(deed);
+        return Err(error);
+    }
+    Ok(deed)
+}
+
+// The branch becomes sealed, and says this.
 fn seals(
     memory: &mut Memory,
     alloc: Global,
@@ -48,13 +71,19 @@ fn seals(
     ensures gives { IfOk result (λ deed. Gives (at_live (kept_in memory.old) branch.now (λ l. seals_of (kept_in memory.old) l path says)) (kept_in memory.new) deed) }
     ensures place { memory.new.place ≡ memory.old.place }
 {
-    match live_of(memory, branch) {
-        None => Ok(Deed::nothing(alloc)),
-        Some(live) => {
-            let me = live.me;
-            let redo = seal_record(memory, alloc, live, path)?;
-            memory.seal(alloc, &me, &redo)?;
-            Ok(Deed::writing(redo, says, Listing::new(alloc)))
+    let Some(live) = live_of(memory, branch) else {
+        drop(says);
+        return Ok(Deed::nothing(alloc));
+    };
+    let me = live.me;
+    match seal_record(memory, alloc, live, path) {
+        Err(error) => {
+            drop(says);
+            Err(error)
+        }
+        Ok(redo) => {
+            let deed = Deed::writing(redo, says, Listing::new(alloc));
+            sealed(memory, alloc, &me, deed)
         }
     }
 }
