@@ -31,6 +31,12 @@ pub(crate) fn stamped(memory: &Memory, alloc: Global, deed: Deed) -> Result<Serv
     ensures { IfOk result (λ served. (d : DeedByRules) → Gives d (kept_in memory.now) deed → Serves (outcome_of d) (kept_in memory.now) served) }
 {
     let Deed { wrote, says, ended } = deed;
-    let sent = stamp(alloc, memory.clock.now(), says)?;
-    Ok(Served { wrote, sent, ended })
+    match stamp(alloc, memory.clock.now(), says) {
+        Err(error) => {
+            drop(wrote);
+            drop(ended);
+            Err(error)
+        }
+        Ok(sent) => Ok(Served { wrote, sent, ended }),
+    }
 }
