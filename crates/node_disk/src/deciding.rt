@@ -70,9 +70,19 @@ fn tell(alloc: Global, sent: Msgs, ended: Ended) -> Result<(Sent, Ends), AllocEr
     ensures read { IfOk result (λ told. AllByRecursion IsMailed told.0) }
     ensures ended { IfOk result (λ told. map call_of told.1 ≡ ended) }
 {
-    let sent = mail(alloc, sent)?;
-    let ended = finish(alloc, ended)?;
-    Ok((sent, ended))
+    match mail(alloc, sent) {
+        Err(error) => {
+            drop(ended);
+            Err(error)
+        }
+        Ok(sent) => match finish(alloc, ended) {
+            Err(error) => {
+                drop(sent);
+                Err(error)
+            }
+            Ok(ended) => Ok((sent, ended)),
+        },
+    }
 }
 
 // What a turn tells that did this and passed these places. Fails where memory runs out.
@@ -99,7 +109,11 @@ fn effects_of(
             ended,
             passes,
         }),
-        Err(err) => Err(err),
+        Err(err) => {
+            drop(input);
+            drop(wrote);
+            Err(err)
+        }
     }
 }
 
@@ -157,9 +171,16 @@ fn told(memory: &mut Memory, alloc: Global, input: Input) -> Result<Effects, All
     ensures stored { IfOk result (λ e. IsButForAcks (stored_next (stored_in memory.old) e.wrote) (stored_in memory.new)) }
     ensures place { memory.new.place ≡ memory.old.place }
 {
-    let (served, passes) = take_on(memory, alloc, &input)?;
-    let effects = effects_of(alloc, input, served, passes)?;
-    Ok(effects)
+    match take_on(memory, alloc, &input) {
+        Err(err) => {
+            drop(input);
+            Err(err)
+        }
+        Ok((served, passes)) => {
+            let effects = effects_of(alloc, input, served, passes)?;
+            Ok(effects)
+        }
+    }
 }
 
 /// One turn in memory: what it tells once its record stands. Fails where memory runs out.

@@ -111,10 +111,18 @@ fn mail_one(alloc: Global, msg: Msg) -> Result<Mailed, AllocError>
     ensures read { IfOk result IsMailed }
 {
     messages_are_read();
-    kind_fits(alloc, &msg.kind)?;
+    if let Err(error) = kind_fits(alloc, &msg.kind) {
+        drop(msg);
+        return Err(error);
+    }
     message_fits(&msg);
-    let bytes = encode_msg(alloc, &msg)?;
-    Ok(Mailed { msg, bytes })
+    match encode_msg(alloc, &msg) {
+        Err(error) => {
+            drop(msg);
+            Err(error)
+        }
+        Ok(bytes) => Ok(Mailed { msg, bytes }),
+    }
 }
 
 /// The messages with their bytes. Fails where one is too long for its counts, or memory runs out.

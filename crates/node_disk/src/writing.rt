@@ -196,9 +196,12 @@ fn cut(effects: Effects, at: CutAt) -> CutTurn
     let Effects {
         input,
         wrote,
+        sent,
+        ended,
         passes,
-        ..
     } = effects;
+    drop(sent);
+    drop(ended);
     CutTurn {
         input,
         tried: wrote,
@@ -263,6 +266,9 @@ pub(crate) fn write<D: Disk>(
     match put(log, &effects.wrote, effects.passes, points) {
         Ok(()) => Ok(effects),
         Err(Unwritten::Cut(at)) => Err(TurnErr::Cut(cut(effects, at))),
-        Err(Unwritten::NoMemory) => Err(TurnErr::NoMemory),
+        Err(Unwritten::NoMemory) => {
+            drop(effects);
+            Err(TurnErr::NoMemory)
+        }
     }
 }
