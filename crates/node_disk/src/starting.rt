@@ -185,11 +185,10 @@ impl<D: Disk> Node<D> {
         ensures left { IfErr result (λ err. err.why ≡ makes.Fault → StartIsLeft (D.plan disk) (D.content disk) (D.content err.disk)) }
     {
         match RecordLog::load(alloc, disk) {
-            Ok((log, records)) => {
-                let begun = begin_again(alloc, place, log, records.as_slice());
-                drop(records);
-                begun
-            }
+            Ok((log, records)) => match begin_again(alloc, place, log, records.as_slice()) {
+                Ok(node) => Ok(node),
+                Err(err) => Err(err),
+            },
             Err(LoadErr { disk, why }) => Err(MakeErr {
                 disk,
                 why: load_why(why),
