@@ -1,28 +1,25 @@
 -- In every lawful run a branch below another that has left, and was not dropped, has answered it, or its node has stopped since.
-use Rattle.std.proofs.Common.{◌≡◌, ◌≢◌, ◌&&◌, ◌||◌, Bool, true, false, List, [], ◌∷◌, ◌++◌, map, length, Option, Some, None, inl, inr, refl, sym, ap, subst, ◌∙◌, append-nil}
+use Rattle.std.proofs.Common.{◌≡◌, ◌≢◌, Bool, true, false, List, [], ◌∷◌, ◌++◌, map, length, Option, Some, None, inl, inr, refl, sym, ap, subst, ◌∙◌, append-nil}
 use Rattle.std.specs.Prelude.{◌⊎◌, IfSome}
 use Rattle.std.specs.Option.{option_to_list}
 use Rattle.std.specs.List.{AllByRecursion, list_any}
 use Rattle.std.proofs.lemmas.Bool.{or_right}
 use Rattle.std.proofs.lemmas.List.Folds.{list_any-append}
-use Rattle.tran_ids.proofs.BranchLemmas.{equal_from_same, same_from_equal}
 use Rattle.tran_ids.proofs.ListedLemmas.{item_is}
 use Rattle.agreement.specs.Events.{Event, Exit, Sealed, Decided, Quiet, Dropped, exit}
-use Rattle.node_rules.specs.Data.{BranchId, Kind, Live, Msg, Place, RedoRecord}
-use Rattle.node_rules.specs.Data.kinds
+use Rattle.node_rules.specs.Data.{BranchId, Live, Place, RedoRecord}
 use Rattle.node_rules.specs.Data.records
-use Rattle.node_rules.specs.Words.{same}
 use Rattle.node_rules.specs.Kept.{Kept, Deed, live_id, live_at}
 use Rattle.node_rules.specs.Turn.{turn_of, heard, deed_of}
 use Rattle.run_laws.specs.Births.{Born, births_of, born_at}
-use Rattle.run_laws.specs.BirthLaws.{Began, IsChild, GoesSo, RecordNames}
-use Rattle.run_laws.specs.Data.{Packet, Turn, Happening}
+use Rattle.run_laws.specs.BirthLaws.{Began, IsChild, RecordNames}
+use Rattle.run_laws.specs.Data.{Turn, Happening}
 use Rattle.run_laws.specs.Data.happenings
 use Rattle.run_laws.specs.Facts.{Facts, place_at, node_at, records_at, facts_after}
-use Rattle.run_laws.specs.InTurnLaws.{post_of, packet_post, said_in}
+use Rattle.run_laws.specs.InTurnLaws.{post_of, said_in}
 use Rattle.run_laws.specs.Lawful.{IsOwed, MayHappen, MayTurn, History, IsLawfulRun, facts_at}
 use Rattle.run_laws.specs.RunEvents.{with_record, with_exits, lives_at, events_after, events_from, events_of}
-use Rattle.run_laws.specs.Trail.{is_quiet, is_read_only}
+use Rattle.run_laws.specs.Trail.{is_quiet}
 use Rattle.run_laws.specs.WalkLaws.{was_sent}
 use Rattle.run_laws.proofs.AtNodeLemmas.{turn_here}
 use Rattle.run_laws.proofs.BirthRunLemmas.{messages_are_of_neighbors, records_name_the_born}
@@ -50,46 +47,7 @@ use Rattle.commit_laws.proofs.ReasonLemmas.{is_quiet_post}
 use Rattle.commit_laws.proofs.SealSayLemmas.{SaysSeal, seal_says, WasReady, decides_ready, seals_answer}
 use Rattle.commit_laws.proofs.StopLemmas.{stopped_on, cut_stops}
 use Rattle.commit_laws.proofs.UnlessStoppedLemmas.{left_on}
-
--- ---- an answer goes to the parent
-
--- a message of a branch that is an answer was sent to its parent
-answer_goes : (bs : List Born) (c q : BranchId) → ((x : BranchId) → IsChild (Began bs) c x → x ≡ q) → (from to : BranchId) (kind : Kind) → GoesSo (Began bs) from to kind → from ≡ c → is_answer kind ≡ true → to ≡ q
-answer_goes bs c q one from to kinds.Prepared goes me is = one to (subst (λ i. IsChild (Began bs) i to) me goes)
-answer_goes bs c q one from to kinds.ReadOnly goes me is = one to (subst (λ i. IsChild (Began bs) i to) me goes)
-answer_goes bs c q one from to kinds.Ready goes me is = one to (subst (λ i. IsChild (Began bs) i to) me goes)
-answer_goes bs c q one from to _ goes me is = absurd cc
-
-quiet_answers : (kind : Kind) → is_read_only kind ≡ true → is_answer kind ≡ true
-quiet_answers kinds.ReadOnly is = refl
-quiet_answers _ is = absurd cc
-
-three : (a b d e : Bool) → a ≡ true → b ≡ true → d ≡ true → (((a && b) && d) || e) ≡ true
-three true true true e i j k = refl
-three true true false e i j k = absurd cc
-three true false d e i j k = absurd cc
-three false b d e i j k = absurd cc
-
-any_posts : (c : BranchId) (ms : List Msg) → list_any (is_quiet c) ms ≡ list_any (is_quiet_post c) (map post_of ms)
-any_posts c [] = refl
-any_posts c (m ∷ ms) = ap (λ r. is_quiet c m || r) (any_posts c ms)
-
--- ReadOnly among these messages
-quiet_sent : (bs : List Born) (c q : BranchId) → ((x : BranchId) → IsChild (Began bs) c x → x ≡ q) → (xs : List Packet) → AllByRecursion (λ x. GoesSo (Began bs) x.msg.from x.msg.to x.msg.kind) xs
-    → list_any (is_quiet_post c) (map packet_post xs) ≡ true → was_sent is_answer (map packet_post xs) c q ≡ true
-quiet_sent bs c q one [] all is = absurd cc
-quiet_sent bs c q one (x ∷ xs) all is = by (same x.msg.from c) (is_read_only x.msg.kind) refl refl is (quiet_sent bs c q one xs all.1)
-  where
-    by : (a r : Bool) → same x.msg.from c ≡ a → is_read_only x.msg.kind ≡ r → ((a && r) || list_any (is_quiet_post c) (map packet_post xs)) ≡ true
-        → (list_any (is_quiet_post c) (map packet_post xs) ≡ true → was_sent is_answer (map packet_post xs) c q ≡ true)
-        → (((same x.msg.from c && same x.msg.to q) && is_answer x.msg.kind) || was_sent is_answer (map packet_post xs) c q) ≡ true
-    by true true me quiet found rest =
-        let answers : is_answer x.msg.kind ≡ true = quiet_answers x.msg.kind quiet in
-        let from : x.msg.from ≡ c = equal_from_same x.msg.from c me in
-        let to : same x.msg.to q ≡ true = same_from_equal x.msg.to q (answer_goes bs c q one x.msg.from x.msg.to x.msg.kind all.0 from answers) in
-        three (same x.msg.from c) (same x.msg.to q) (is_answer x.msg.kind) _ me to answers
-    by true false me quiet found rest = or_right ((same x.msg.from c && same x.msg.to q) && is_answer x.msg.kind) _ (rest found)
-    by false r me quiet found rest = or_right ((same x.msg.from c && same x.msg.to q) && is_answer x.msg.kind) _ (rest found)
+use Rattle.commit_laws.proofs.AnswerGoesLemmas.{any_posts, quiet_sent}
 
 module _ (t : History) (whole : IsLawfulRun t) (x : Born) (began : Began (births_of t) x) (q : BranchId) (above : x.parent ≡ Some q) where
   abbrev c : BranchId

@@ -16,6 +16,7 @@ pub mod CameLemmas
 pub mod ServedLemmas
 pub mod AskedLemmas
 pub mod HeardLemmas
+pub mod AnswerGoesLemmas
 pub mod LeftLemmas
 pub mod WaitLemmas
 pub mod StillLemmas

@@ -1,4 +1,4 @@
-//! Laws of the run of a script, that the code of its nodes stands on: it is a lawful run, and its nodes are ready for what
+//! Laws of the run of a script, on which the code of its nodes rests: it is a lawful run, and its nodes are ready for what
 //! comes to them.
 #![tactic(auto)]
 

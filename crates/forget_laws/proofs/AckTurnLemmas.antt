@@ -21,7 +21,7 @@ use Rattle.run_laws.proofs.OwnLemmas.{all_found, all_with}
 use Rattle.tree_laws.proofs.AskLemmas.{sent_new}
 use Rattle.commit_laws.proofs.ReadyStepLemmas.{one_sent}
 use Rattle.forget_laws.specs.RowLaws.{is_ack, IsSealed}
-use Rattle.forget_laws.proofs.RowLemmas.{Plain, Acks, Tells, TellsBut}
+use Rattle.forget_laws.proofs.TellLemmas.{Plain, Acks, Tells, TellsBut}
 use Rattle.forget_laws.proofs.RowStepLemmas.{AllTell, After, more, but, forgot_rows}
 
 all_split : {A : Type 0} (P : A → Type 0) (xs ys : List A) → AllByRecursion P (xs ++ ys) → AllByRecursion P xs × AllByRecursion P ys

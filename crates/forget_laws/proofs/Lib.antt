@@ -1,4 +1,5 @@
 mod TriedForgetLemmas
+pub mod TellLemmas
 pub mod RowLemmas
 pub mod RowStepLemmas
 pub mod AckTurnLemmas

@@ -29,7 +29,7 @@ use Rattle.run_laws.proofs.ListLemmas.{all_put, all_append}
 use Rattle.run_laws.proofs.OwnLemmas.{all_found, all_with}
 use Rattle.forget_laws.specs.ForgetLaws.{HoldsAck}
 use Rattle.forget_laws.proofs.AckTurnLemmas.{acked_so}
-use Rattle.forget_laws.proofs.RowLemmas.{rows_changed, rows_left, ended_beyond, met_beyond, state_beyond, forgot_beyond, hidden_beyond}
+use Rattle.forget_laws.proofs.TellLemmas.{rows_changed, rows_left, ended_beyond, met_beyond, state_beyond, forgot_beyond, hidden_beyond}
 
 module _ (x b : BranchId) where
   -- the row of the branch holds it

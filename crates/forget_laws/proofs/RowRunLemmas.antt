@@ -43,7 +43,7 @@ use Rattle.commit_laws.specs.WaitLaws.{HasStopped}
 use Rattle.forget_laws.specs.RowLaws.{is_ack, RowTells, RowsTell}
 use Rattle.forget_laws.proofs.AckTurnLemmas.{ack_rows}
 use Rattle.forget_laws.proofs.EventLemmas.{part_inv, forgot_left, turn_back, stop_back, wrote_back}
-use Rattle.forget_laws.proofs.RowLemmas.{Tells, Stays, plain_stays, tells_stays}
+use Rattle.forget_laws.proofs.TellLemmas.{Tells, Stays, plain_stays, tells_stays}
 use Rattle.forget_laws.proofs.RowStepLemmas.{After, Found, rows_on}
 use Rattle.forget_laws.proofs.VotedLemmas.{deed_voted}
 use Rattle.forget_laws.proofs.FoundRowLemmas.{rows_found}

@@ -30,7 +30,8 @@ use Rattle.run_laws.specs.RunEvents.{with_event, wrote_event}
 use Rattle.run_laws.proofs.ListLemmas.{all_weaker, all_put}
 use Rattle.run_laws.proofs.TurnEventLemmas.{all_both}
 use Rattle.forget_laws.specs.RowLaws.{is_forced, IsSealed}
-use Rattle.forget_laws.proofs.RowLemmas.{Tells, TellsBut, rows_changed, rows_left, stays_with, stays_same, tells_stays, sealed_tells, decided_tells, ended_tells, met_tells, met_rollback_tells, forced_tells, hidden_tells, forgot_tells}
+use Rattle.forget_laws.proofs.TellLemmas.{Tells, TellsBut, rows_changed, rows_left, stays_with, stays_same, tells_stays}
+use Rattle.forget_laws.proofs.RowLemmas.{sealed_tells, decided_tells, ended_tells, met_tells, met_rollback_tells, forced_tells, hidden_tells, forgot_tells}
 
 -- the neighbours beyond a branch that becomes sealed, or decides, are sealed
 abbrev pub RecordVoted : List Event → RedoRecord → Type 0

@@ -1,4 +1,4 @@
-//! Laws of the runs of scripts that the code which plays them stands on: the numbers of nodes and messages are below the
+//! Laws of the runs of scripts, on which the code that runs them rests: the numbers of nodes and messages are below the
 //! limits of their turns, and what is due names nodes and messages that are there.
 #![tactic(auto)]
 

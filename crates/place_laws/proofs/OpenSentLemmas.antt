@@ -48,6 +48,7 @@ pub record IsOpenTo (said : List Post) (parent : BranchId) (edge node : ℕ) : T
   pub kind : sent.kind ≡ kinds.Open edge root depth
   pub to : sent.to.node ≡ node
 
+-- a branch below another was opened over its edge, at its node
 abbrev pub WasOpened : List Post → Born → Type 0
 WasOpened said x = (parent : BranchId) → x.parent ≡ Some parent → IsOpenTo said parent x.edge x.me.node
 
@@ -128,7 +129,8 @@ module _ (t : History) (whole : IsLawfulRun t) where
           (λ is. all_append (WasOpened (said_in (f_at t (hs ++ happenings.Turn u ∷ [])))) (births_of (so_far t hs)) (births_at (place_at t.places u.node) u.input (node_at (f_at t hs) u.node)) old new)
   opened_on hs h rest is now = subst (AllByRecursion (WasOpened (said_in (f_at t (hs ++ h ∷ []))))) (sym (born_on hs h)) (same_opened hs h now)
 
-  opened_at : (hs : List Happening) → Part t whole hs → AreOpened hs
+  -- by the end of a first part of the run each branch that began below another was opened so
+  pub opened_at : (hs : List Happening) → Part t whole hs → AreOpened hs
   unfolding births_from
   opened_at hs part = keep_on t whole AreOpened opened_on [] hs part tt
 

@@ -23,6 +23,7 @@ fn said_of(holds: bool) -> &'static str {
 }
 
 /// A command as a line, in the words of the script; a node as its number, and a call's text as whether it is a statement.
+/// Fails where memory runs out.
 pub fn line_of(alloc: Global, command: &Command) -> Result<String, AllocError> {
     match command {
         Command::Node {

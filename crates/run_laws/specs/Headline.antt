@@ -1,12 +1,12 @@
--- What holds of every run of a script: the book is that of the trace, what is told is what the rules tell, each answer of a
--- query is its meaning, branches end as their site decided, forced branches that met another decision are marked, and
--- commit SCNs exceed the seals'. (Database Administrator's Guide, "Distributed Transactions Concepts".)
-use Rattle.std.specs.Prelude.{◌≡◌, ℕ, ◌+◌, ◌^◌, ◌<◌, ◌⊎◌, Bool, true, false, List, [], ◌∷◌, ◌++◌, map, length, Some}
+-- What is told of the run of a script, and the laws of every run, each proved in a crate above: answers are meant and have
+-- their places, branches end as their site decided, forced branches that met another decision are marked, and commit SCNs
+-- exceed the seals'. (Database Administrator's Guide, "Distributed Transactions Concepts".)
+use Rattle.std.specs.Prelude.{◌≡◌, ℕ, ◌+◌, ◌⊎◌, Bool, true, false, List, [], ◌∷◌, ◌++◌, map, Some}
 use Rattle.std.specs.List.{AllByRecursion}
 use Rattle.redo_log.specs.Cells.{bodies}
 use Rattle.redo_codec.specs.Record.{record_format}
 use Rattle.node_rules.specs.Data.{Place, RedoRecord}
-use Rattle.run_laws.specs.Data.{Command, Said, AnswerLine, Entry, Happening}
+use Rattle.run_laws.specs.Data.{Command, Said, AnswerLine, Happening}
 use Rattle.run_laws.specs.Data.commands
 use Rattle.run_laws.specs.Data.said
 use Rattle.run_laws.specs.Data.notices
@@ -18,8 +18,7 @@ use Rattle.run_laws.specs.Telling.{Past, start}
 use Rattle.run_laws.specs.Past.{past}
 use Rattle.run_laws.specs.Lines.{told}
 use Rattle.run_laws.specs.Due.{Due, Begins, Ends, IsTheRun, due_of}
-use Rattle.run_laws.specs.Lawful.{History, IsLawfulRun, facts_at}
-use Rattle.run_laws.specs.Bounds.{AreBelow}
+use Rattle.run_laws.specs.Lawful.{History, IsLawfulRun}
 use Rattle.run_laws.specs.Knowledge.{Knowledge}
 use Rattle.run_laws.specs.Book.{Agreement, MixedIsMarked, ScnLaw}
 use Rattle.run_laws.specs.Site.{SiteDecides, Coverage}
@@ -102,35 +101,17 @@ IsToldOf t p answers Out_of_memory = LinesAre t p.telling.lines answers ⊎ (IsB
 abbrev pub IsTold : History → List AnswerLine → Ending → Type 0
 IsTold t answers ending = IsToldOf t (past_of t) answers ending
 
--- ---- what holds of a run
+-- ---- the run of a script
 
 -- a history is the run of its script, or the first part of it
 abbrev pub IsTheRunOf : History → Type 0
 IsTheRunOf t = IsTheRun t.places t.commands (start t.places) t.trace
 
--- What holds of every run of a script.
-pub record Headline (t : History) (answers : List AnswerLine) (book : List Entry) (ending : Ending) : Type 0 where
-  pub placed : t.places ≡ places_of t.commands
-  pub lawful : IsLawfulRun t
-  pub due : IsTheRunOf t
-  pub booked : book ≡ book_of t.trace
-  pub answered : IsTold t answers ending
-  pub meant : RunsAreMeant t
-  pub come : AnswersHavePlaces t
-  pub agrees : Agreement book
-  pub marked : MixedIsMarked book
-  pub scns : ScnLaw book
-  pub site : SiteDecides t
-
--- ---- the laws that make it so
+-- ---- laws of every run
 
 -- the run of a script is one of the lawful ones
 abbrev pub TheRunIsLawful : Type 0
 TheRunIsLawful = (t : History) → IsTheRunOf t → IsLawfulRun t
-
--- its numbers stay below their bounds
-abbrev pub EveryNumberIsBelow : Type 0
-EveryNumberIsBelow = (t : History) → length t.commands < 2 ^ 18 → IsTheRunOf t → AreBelow (facts_at t)
 
 -- of every lawful run the book agrees
 abbrev pub EveryBookAgrees : Type 0
@@ -160,6 +141,6 @@ EveryRunIsMeant = (t : History) → IsLawfulRun t → RunsAreMeant t
 abbrev pub EveryAnswerHasItsPlace : Type 0
 EveryAnswerHasItsPlace = (t : History) → IsTheRunOf t → AnswersHavePlaces t
 
--- whatever a turn writes or says was to be written or said
+-- each record and each message of a turn has its cause in what came and what happened before
 abbrev pub EveryTurnKnows : Type 0
 EveryTurnKnows = (t : History) → IsLawfulRun t → Knowledge t

@@ -23,7 +23,6 @@ pub mod Site
 pub mod Meanings
 pub mod Places
 pub mod Knowledge
-pub mod Bounds
 pub mod Headline
 pub mod Laws
 pub mod NodeLaws

@@ -19,12 +19,13 @@ history_of run script = record { places = places_of run.commands; commands = run
 -- Each happening is the one that is due, with the record and the messages that the rules give, and so it may come where it
 -- came: no message comes twice unless it is repeated, over no cut pair, to no node that is down. The book has the entries of
 -- the records that were written. The lines answer the commands in order: each is the one that the rules give at its
--- happening, and SHOW DISK shows bytes that stand for the records so far. Each record and each message of a turn was to be
--- written or said, by what came to its branch and what happened before. Where a node runs a query, it answers the query's
--- meaning over the rows that the book leaves there, with the asker's own changes, and so a change counts the rows that it
--- means; what a client is answered is what such a run answered, at the table to which the names in its statement lead. What a
--- client is told is created, set, forced or purged is on the disk, and nothing else is. A COMMIT that nothing disturbs is
--- answered Commit complete, and leaves nothing in doubt. Each decision is made by the commit point site of its session tree,
+-- happening, and SHOW DISK shows bytes that stand for the records so far. Each record of a turn, and each Exec, Abort, ReadOnly
+-- and Committed, has its cause in what came to its branch and what happened before. Where a node runs a query, it answers the
+-- query's meaning over the rows that the book leaves there, with the changes of the asking branch, and examines no key in
+-- doubt; a change counts the rows that it means; what a client is answered is what such a run answered, at the table to which
+-- the names in its statement lead. What a client is told is created, set, forced or purged is on the disk, and such a record
+-- is written for no other call. A COMMIT that nothing disturbs is answered Commit complete, its sealed branches end with
+-- commit, and no node keeps a branch of it. Each decision is made by the commit point site of its session tree,
 -- once every other branch with changes on it or below it is sealed; a branch is sealed or decided with the changes that its
 -- own statements made, and a seal names the neighbour on the way to the site. Branches end as their site decided, mixed
 -- outcomes are marked, and the SCN law holds.

@@ -19,12 +19,11 @@ use Rattle.site_laws.proofs.MemberLemmas.{BornBelow, born_below}
 use Rattle.site_laws.proofs.TimeLemmas.{Part, part_lawful, born_end}
 use Rattle.commit_laws.specs.Undisturbed.{Commit, Undisturbed, HasNotStopped}
 use Rattle.commit_laws.proofs.StillLemmas.{stays_up}
-use Rattle.place_laws.proofs.OpenSentLemmas.{IsOpenTo}
+use Rattle.place_laws.proofs.OpenSentLemmas.{IsOpenTo, WasOpened, opened_at}
 use Rattle.stray_laws.specs.StrayLaws.{count_opens}
 use Rattle.stray_laws.proofs.EdgeLemmas.{edges_have_one_child}
 use Rattle.stray_laws.proofs.OpenLemmas.{counts}
 use Rattle.stray_laws.proofs.OpenRunLemmas.{opens_once}
-use Rattle.stray_laws.proofs.SentLemmas.{WasOpened, opened_at}
 
 pub numbered_peer : (es : List Edge) (i : ℕ) (e : Edge) → numbered es i ≡ Some e → numbered (map (λ (x : Edge). x.peer) es) i ≡ Some e.peer
 numbered_peer es zero e at = absurd cc

@@ -14,11 +14,10 @@ use Rattle.run_laws.specs.RunEvents.{events_of}
 use Rattle.run_laws.proofs.EventsStandLemmas.{node_so, run_stands}
 use Rattle.run_laws.proofs.OwnLemmas.{all_found}
 use Rattle.commit_laws.specs.Undisturbed.{HasNotStopped}
-use Rattle.place_laws.proofs.OpenSentLemmas.{IsOpenTo}
+use Rattle.place_laws.proofs.OpenSentLemmas.{IsOpenTo, WasOpened, opened_at}
 use Rattle.stray_laws.specs.StrayLaws.{EdgesHaveOneChild}
 use Rattle.stray_laws.proofs.OpenLemmas.{one_open}
 use Rattle.stray_laws.proofs.OpenRunLemmas.{opens_once}
-use Rattle.stray_laws.proofs.SentLemmas.{WasOpened, opened_at}
 use Rattle.stray_laws.proofs.OpeningLemmas.{answered_end}
 
 module _ (t : History) (whole : IsLawfulRun t) where

@@ -1,4 +1,4 @@
--- A branch stays live, or its row stays and has not forgot, with each change of a node that is not of this branch.
+-- A branch stays live, or its row stays and has not forgotten, with each change of a node that is not of this branch.
 use Rattle.std.proofs.Common.{◌≡◌, ◌≢◌, ◌&&◌, ◌||◌, ◌⊎◌, Bool, true, false, not, if◌then◌else◌, List, [], ◌∷◌, Some, refl, sym, ap, ◌∙◌}
 use Rattle.std.specs.List.{list_any}
 use Rattle.std.proofs.lemmas.Bool.{cond_both, or_right, and_parts}
@@ -17,7 +17,7 @@ use Rattle.run_laws.proofs.ListLemmas.{any_dropped, any_put}
 
 -- ---- what lasts
 
--- a row of a branch that has not forgot
+-- a row of a branch that has not forgotten
 abbrev pub is_unforgotten : BranchId → Standing → Bool
 is_unforgotten r s = same s.me r && not s.forgot
 

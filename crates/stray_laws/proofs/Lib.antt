@@ -12,7 +12,6 @@ pub mod AnswerLemmas
 pub mod OpenLemmas
 pub mod OpenStepLemmas
 pub mod OpenRunLemmas
-pub mod SentLemmas
 pub mod OpeningLemmas
 pub mod EdgeLemmas
 pub mod ChildLemmas

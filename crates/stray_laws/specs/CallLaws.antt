@@ -1,4 +1,4 @@
--- The answer of an undisturbed COMMIT: as long as it is pending its root is live, or has a row that has not forgot. (SQL
+-- The answer of an undisturbed COMMIT: as long as it is pending its root is live, or has a row that has not forgotten it. (SQL
 -- Language Reference: COMMIT; Database Administrator's Guide, "Distributed Transactions Concepts": commit and forget phases.)
 use Rattle.std.specs.Prelude.{◌≡◌, [], ◌∷◌, None, Some}
 use Rattle.node_rules.specs.Data.{BranchId}

@@ -30,7 +30,7 @@ count_opens (m ∷ ms) p i = if same m.from p && is_open_of i m.kind then 1 + co
 abbrev pub OpensAreSentOnce : Type 0
 OpensAreSentOnce = (t : History) → IsLawfulRun t → (p : BranchId) (i : ℕ) → (count_opens (said_in (facts_at t)) p i ≤ 1) × (count_opens (said_in (facts_at t)) p 0 ≡ 0)
 
--- In every lawful run two branches that began over one edge of a parent are one, where the nodes of neither has stopped since.
+-- In every lawful run two branches that began over one edge of a parent are one, where the node of neither has stopped since.
 abbrev pub EdgesHaveOneChild : Type 0
 EdgesHaveOneChild = (t : History) → IsLawfulRun t → (x y : Born) → Began (births_of t) x → Began (births_of t) y → (p : BranchId) → x.parent ≡ Some p → y.parent ≡ Some p → x.edge ≡ y.edge
     → HasNotStopped (facts_at t) x.me → HasNotStopped (facts_at t) y.me → x.me ≡ y.me

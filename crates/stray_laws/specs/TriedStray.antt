@@ -1,5 +1,5 @@
 -- The laws of branches and calls, tried on the run of two nodes: A opens its edge to B once, B is asked, and A's COMMIT is
--- pending while A is live, and then while A's row has not forgot. In a second run B's node stops and starts before Opened
+-- pending while A is live, and then while A's row has not forgotten. In a second run B's node stops and starts before Opened
 -- comes, and the Open comes again: a second branch begins over the same edge, and the first is a stray.
 use Rattle.std.specs.Prelude.{◌≡◌, ℕ, Bool, true, false, List, [], ◌∷◌, ◌++◌, take, option_map, Option, Some, None}
 use Rattle.node_rules.specs.Data.{BranchId, Post}
@@ -32,7 +32,7 @@ said = said_in (facts_by 15)
 abbrev pub call_at : Facts → ℕ → Option PendingCall
 call_at f n = option_map (λ k. (session_at k.sessions 1).call) (node_at f n)
 
--- whether the row of a branch has forgot, where there is one
+-- whether the row of a branch has forgotten, where there is one
 abbrev pub has_forgot : Option Kept → BranchId → Option Bool
 has_forgot None b = None
 has_forgot (Some k) b = option_map (λ s. s.forgot) (standing_at k b)

@@ -2,7 +2,7 @@
 //!
 //! A branch opens each of its edges once, and a node begins one branch for it as long as it is not stopped; so no branch is a
 //! stray that its parent does not know, each was asked to prepare, and none is live when nothing is in flight any more
-//! (`specs/StrayLaws.antt`). While the COMMIT is pending its root is live, or has a row that has not forgot; so the COMMIT has
+//! (`specs/StrayLaws.antt`). While the COMMIT is pending its root is live, or has a row that has not forgotten it; so the COMMIT has
 //! its answer, Commit complete, once neither is there (`specs/CallLaws.antt`). That no branch below the root was dropped, that
 //! none said Abort, that none is Ready and that no row is left are premises here.
 #![tactic(auto)]
@@ -16,7 +16,7 @@ pub fn opens_are_sent_once()
     ensures { OpensAreSentOnce }
 {}
 
-/// Two branches that began over one edge of a parent are one, where the nodes of neither has stopped since.
+/// Two branches that began over one edge of a parent are one, where the node of neither has stopped since.
 pub fn edges_have_one_child()
     ensures { EdgesHaveOneChild }
 {}

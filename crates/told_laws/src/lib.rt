@@ -14,8 +14,8 @@ ghost use Rattle.told_laws.specs.BeforeLaws.{NoneSealedBefore, NoneForced};
 ghost use Rattle.told_laws.specs.SealLaws.{UndisturbedSealsEnd};
 ghost use Rattle.told_laws.specs.TriedTelling.{TheTriedTelling};
 
-/// A branch that has decided, or learned a commit, has told it to each neighbour away from the commit point site, or its
-/// node has stopped since the branch began.
+/// A branch that has decided, or learned a commit, has told it to each neighbour away from the commit point site that is not
+/// gone without changes, or its node has stopped since the branch began.
 pub fn commits_are_told()
     ensures { CommitsAreTold }
 {}

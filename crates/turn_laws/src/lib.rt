@@ -1,4 +1,4 @@
-//! Whatever a turn writes or says was to be written or said.
+//! Each record that a turn writes, and each message that it sends, has its cause in what came and what happened before.
 //!
 //! In every lawful run a branch says Abort on what came to it (`specs/AbortLaws.antt`) and ReadOnly where nothing was
 //! changed on it or below (`specs/QuietLaws.antt`), an Exec passes on what its sender was asked (`specs/PassLaws.antt`), and
@@ -34,7 +34,7 @@ pub fn read_only_is_due()
     ensures { ReadOnlyIsDue }
 {}
 
-/// So whatever a turn writes or says was to be written or said.
+/// So each record of a turn, and each Exec, Abort, ReadOnly and Committed, has its cause in what came and what happened before.
 pub fn every_turn_knows()
     ensures { EveryTurnKnows }
 {}

@@ -24,7 +24,9 @@ use std::mem;
 /// A node that is up, or the disk of one that is down.
 #[derive(Drop)]
 pub enum Site {
+    /// The node runs. Its disk is a part of it.
     Up(Node<MemDisk>),
+    /// The node is stopped: of it there is the disk alone.
     Down(MemDisk),
 }
 

@@ -8,9 +8,8 @@ use Rattle.run_laws.specs.Data.notices
 use Rattle.run_laws.specs.Data.happenings
 use Rattle.run_laws.specs.Data.commands
 use Rattle.run_laws.specs.Facts.{command_at, records_at, facts_of, first_facts}
-use Rattle.run_laws.specs.Headline.{StandsFor, LinesAre, past_of as past_of_history}
+use Rattle.run_laws.specs.Headline.{StandsFor}
 use Rattle.run_laws.specs.Lawful.{History, AreOfAScript}
-use Rattle.run_laws.specs.Lines.{told}
 use Rattle.run_laws.specs.Shown.{shown_disk}
 use Rattle.run_trace.specs.Recorded.{RunSoFar}
 
@@ -43,10 +42,6 @@ shown_at shown command = lookup (nat_eq command) shown
 pub record ShowDisks (r : RunSoFar) (shown : Shown) : Type 0 where
   pub each : (command : ℕ) (lines : List (List ℕ)) → shown_at shown command ≡ Some lines → ShowsDiskAt r command lines
   pub all : (command n : ℕ) → HasBegun r command → command_at r.asked command ≡ commands.ShowDisk n → is_some (shown_at shown command) ≡ true
-
--- all lines of a run are told, and of each disk its bytes
-abbrev pub TellsRun : (r : RunSoFar) → AreOfAScript r.places r.asked → List AnswerLine → Type 0
-TellsRun r script lines = LinesAre (history_of r script) (told (past_of_history (history_of r script)).facts (past_of_history (history_of r script)).telling) lines
 
 -- whether a line stands for the bytes of a disk
 abbrev pub is_place : Said → Bool
