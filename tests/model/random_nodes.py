@@ -6,15 +6,11 @@ that are down more often than by chance.
 
 from dataclasses import dataclass
 
-from commands import KINDS, read
-from random_statements import TABLES, WIDE, Statements
+from commands import KINDS
+from random_running import Running
 from records import global_text
-from world import World
 
 OF_COMMITS = set(KINDS.values()) - {"Open", "Opened", "Exec", "Reply"}
-NAMES = ["A", "B", "C", "D.X", "HQ", "E_1", "ON", "OPEN", "NODE", "at.to", "SESSION", "x" * 30]
-CHAINED = "R"
-STRENGTHS = [0, 1, 2, 5, 5, 100, 200, 255]
 # what a write may leave: gates that are open, shut or odd, and lengths
 LEFT = ["00", "01", "02", "ff", "0100", "01" * 9, "0000000b", "ff" * 40]
 
@@ -46,93 +42,17 @@ BENTS = [
 ]
 
 
-class Writer(Statements):
+class Writer(Running):
     def __init__(self, seed):
         super().__init__(seed)
-        self.world = World()
-        self.asked = []
-        self.lines = []
         self.bent = self.pick(BENTS)
-        self.is_wide = self.chance(0.08)  # it has trees of many branches
-        self.is_deep = self.chance(0.2)  # each node has a synonym or a table of one name, over chains and rings of links
 
     def script(self):
         self.begin()
         for _ in range(self.random.randint(5, 60)):
             self.give_next()
         self.settle()
-        return "".join(f"{command};\n" for command in self.asked).encode()
-
-    def printed(self):
-        """What the second program prints of the script."""
-        return b"".join(b"%d %s\n" % line for line in self.lines)
-
-    def give(self, command):
-        """Adds a command, and runs it."""
-        self.asked.append(command)
-        nodes = "" if command.startswith("NODE") else "".join(f"NODE {name};" for name in self.names)
-        asked = read(f"{nodes}{command};".encode())[-1]
-        self.lines += self.world.run(asked, command.partition(":")[2].encode())
-
-    def at(self, node, session, text):
-        self.give(f"AT {node.name} SESSION {session}: {text}")
-
-    # ---- nodes
-
-    @property
-    def names(self):
-        return self.world.names
-
-    def down(self):
-        return [node for node in self.world.nodes if not node.is_up]
-
-    def node(self):
-        """A node, mostly one that is up."""
-        up = [node for node in self.world.nodes if node.is_up]
-        return self.pick(up if up and not self.chance(0.05) else self.world.nodes)
-
-    def begin(self):
-        for name in self.random.sample(NAMES, self.pick([2, 3, 3, 4, 4, 5, 6])):
-            self.give(f"NODE {name}{self.options()}")
-        for name in self.names:
-            self.furnish(name)
-        for name in self.names * 2:
-            for _ in range(self.pick([0, 1, 2, 4 * self.is_wide]) if self.links[name] else 0):
-                self.make_synonym(name)
-        for name in self.names if self.is_deep else []:
-            self.make_chained(name)
-
-    def options(self):
-        text = f" STRENGTH {self.pick(STRENGTHS)}" if self.chance(0.8) else ""
-        if self.is_wide or self.chance(0.1):
-            text += f" LINKS {64 if self.is_wide else self.pick([1, 2, 3])}"
-        return text + (f" UNDO {self.pick([1, 2, 3])}" if self.chance(0.9 if self.has_wide else 0.1) else "")
-
-    def furnish(self, name):
-        self.links[name], self.synonyms[name] = {}, {}
-        for table, columns in TABLES.items():
-            self.give(f"AT {name} SESSION 1: CREATE TABLE {table} {columns}")
-        if self.has_wide:
-            self.give(f"AT {name} SESSION 1: CREATE TABLE {WIDE} (K NUMBER PRIMARY KEY, V VARCHAR2(2000))")
-        for number, other in enumerate(self.names, 1):
-            for more in ["", ".A", ".B", ".C", ".D", ".E"] if self.is_wide else [""]:
-                if self.chance(0.8 if other != name else 0.1):
-                    self.links[name][f"L{number}{more}"] = other
-                    self.give(f"AT {name} SESSION 1: CREATE DATABASE LINK L{number}{more} USING '{other}'")
-
-    def make_synonym(self, name):
-        synonym, link = f"Y{len(self.synonyms[name])}", self.pick(self.links[name])
-        found, table = self.known(self.links[name][link])
-        self.synonyms[name][synonym] = table
-        self.give(f"AT {name} SESSION 1: CREATE SYNONYM {synonym} FOR {found}@{link}")
-
-    def make_chained(self, name):
-        """A part of a chain, which may be a ring, of synonyms of one name."""
-        self.synonyms[name][CHAINED] = "T"
-        if self.links[name] and self.chance(0.8):
-            self.give(f"AT {name} SESSION 1: CREATE SYNONYM {CHAINED} FOR {CHAINED}@{self.pick(self.links[name])}")
-        else:
-            self.give(f"AT {name} SESSION 1: CREATE TABLE {CHAINED} {TABLES['T']}")
+        return self.text()
 
     # ---- the next commands
 
@@ -141,12 +61,20 @@ class Writer(Statements):
             self.under_hold()
         if self.down() and self.chance(0.5):
             self.give(f"START {self.pick(self.down()).name}")
-        if self.chance(0.5):
+        if self.kept() and self.chance(0.5):
+            self.meddle()
+        elif self.chance(0.5):
             self.work()
-        elif self.is_wide and self.chance(0.05):
+        elif self.is_wide and self.chance(0.01):
             self.flood()
         else:
             self.disturb()
+
+    def meddle(self):
+        """What branches that are kept may meet."""
+        ways = [self.recover] * 3 + [self.again] * 2 + [self.force] * 2 + [self.look] * 2 + [self.stop, self.cut]
+        for _ in range(self.pick([1, 2, 5])):
+            self.pick([*ways, self.strike, lambda: self.lose_next(OF_COMMITS)])()
 
     def disturb(self):
         """Something else than the work of transactions."""

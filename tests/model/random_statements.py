@@ -2,12 +2,13 @@
 
 import random
 
+WIDE = "W"  # a table whose rows fill undo extents
 TABLES = {
     "T": "(K NUMBER PRIMARY KEY, V NUMBER)",
     "U": "(S VARCHAR2(4) NOT NULL, K NUMBER PRIMARY KEY, N NUMBER)",
     "P": "(ID VARCHAR2(5) PRIMARY KEY, N NUMBER NOT NULL)",
+    WIDE: "(K NUMBER PRIMARY KEY, V VARCHAR2(2000))",
 }
-WIDE = "W"  # a table whose rows fill undo extents
 COLUMNS = {"T": ["K", "V"], "U": ["S", "K", "N"], "P": ["ID", "N"], WIDE: ["K", "V"]}
 TEXT_COLUMNS = ["S", "ID"]
 TEXTS = ["''", "'a'", "'it''s'", "''''", "'é'", "' b'", "'a;b'", "'--x'", "'abcd'", "'abcde'", "'10'"]
@@ -25,7 +26,7 @@ class Statements:
         self.synonyms = {}  # and its synonyms, with the table of each at the end of its way
         self.keys = self.pick([2, 3, 5])
         self.newest = 10  # of the keys of rows
-        self.has_wide = self.chance(0.1)
+        self.tables = ["T", *[name for name in "UP" if self.chance(0.4)], *[WIDE] * self.chance(0.1)]
 
     def pick(self, choices):
         return self.random.choice(list(choices))
@@ -42,7 +43,7 @@ class Statements:
         synonyms = list(self.synonyms[name].items())
         if synonyms and self.chance(0.6):
             return self.pick(synonyms)
-        table = self.pick([*TABLES, *[WIDE] * self.has_wide])
+        table = self.pick(self.tables)
         return table, table
 
     def ref(self, name):
@@ -108,7 +109,7 @@ class Statements:
     def statement(self, name, only_inserts):
         ref, table = self.ref(name)
         if self.chance(0.02):
-            table = self.pick(TABLES)
+            table = self.pick("TUP")
         if only_inserts:
             return self.insert(ref, table)
         if self.chance(0.2):
