@@ -36,7 +36,8 @@ BENTS = [
     Bent(holds=0.6, cuts=0.08, stops=0.08),
     Bent(holds=0.9, losses=0.2, forces=0.3, recoveries=0.2),
     Bent(holds=0.15, strikes=0.4),
-    Bent(holds=0.15, comments=0.8, recoveries=0.2),
+    Bent(holds=0.15, comments=0.8, losses=0.2, recoveries=0.2),
+    Bent(holds=0.1, comments=0.6, losses=0.4, forces=0.6, recoveries=0.3),
     Bent(holds=0.2, losses=0.3, forces=0.5, recoveries=0.25, comments=0.2),
     Bent(holds=0.4, losses=0.2, cuts=0.15, stops=0.2, strikes=0.2, comments=0.3, forces=0.3, recoveries=0.3, oddities=0.15),
 ]
@@ -70,11 +71,18 @@ class Writer(Running):
         else:
             self.disturb()
 
+    def open_again(self):
+        """A branch is opened again at a node that has started anew, and asks its parent, which may know another child."""
+        self.stop()
+        for _ in range(3):
+            self.again({"Open"})
+        self.recover()
+
     def meddle(self):
         """What branches that are kept may meet."""
         ways = [self.recover] * 3 + [self.again] * 2 + [self.force] * 2 + [self.look] * 2 + [self.stop, self.cut]
         for _ in range(self.pick([1, 2, 5])):
-            self.pick([*ways, self.strike, lambda: self.lose_next(OF_COMMITS)])()
+            self.pick([*ways, self.strike, self.open_again, lambda: self.lose_next(OF_COMMITS)])()
 
     def disturb(self):
         """Something else than the work of transactions."""
@@ -83,6 +91,10 @@ class Writer(Running):
         ways = [(bent.recoveries, self.recover), (share_of_forces, self.force), (0.2, self.again), (bent.stops, self.stop)]
         ways += [(bent.losses, self.lose_next), (bent.cuts, self.cut), (bent.strikes, self.strike), (bent.oddities, self.odd)]
         next((way for share, way in ways if self.chance(share)), self.look)()
+
+    def is_stuck(self, node, session):
+        """Whether a session can't do more before others answer or it rolls back."""
+        return node.is_up and (node.session(session).call is not None or node.session(session).is_broken)
 
     def free_session(self, node):
         """A session, mostly one that has no call out and needs no rollback."""
@@ -100,10 +112,12 @@ class Writer(Running):
         session, only_inserts = self.free_session(node), self.chance(0.5)
         if self.chance(0.1):
             self.at(node, session, self.alter())
-        for _ in range(self.pick([2, 10, 40] if self.is_wide else [1, 2, 2, 3, 4])):
+        for _ in range(self.pick([2, 10, 70] if self.is_wide else [1, 2, 2, 3, 4])):
+            if self.is_stuck(node, session) and self.chance(0.8):
+                break
             self.at(node, session, self.statement(node.name, only_inserts))
-            if self.world.holds and self.chance(0.8):
-                self.give("PUMP")
+            if self.world.holds and self.chance(0.6):
+                self.give(self.pick(["PUMP", "PUMP", "PUMP 2"]))
         if self.chance(0.6):
             self.before_commit()
             self.at(node, session, self.commit(self.bent.comments))
@@ -167,7 +181,7 @@ class Writer(Running):
 
     def deliveries(self):
         flying = sorted(self.world.network.in_flight)
-        choices = [f"PUMP {self.pick([1, 2, 3, 5])}", "SHOW NET", self.pick(["PUMP", "PUMP 0"])]
+        choices = [f"PUMP {self.pick([1, 2, 3, 5])}", "SHOW NET", "SHOW NET", self.pick(["PUMP", "PUMP 0"])]
         choices += [f"DELIVER {self.pick(flying)}"] * 6 + [f"LOSE {self.pick(flying)}"] if flying else []
         out = self.world.calls_out()
         if out and self.chance(0.3):
@@ -184,14 +198,15 @@ class Writer(Running):
                 self.give(f"RECO {node.name}")
         self.give(self.pick(["HOLD OFF", "PUMP", "PUMP 4095", "PUMP 4096", "PUMP 5000"]))
 
-    def again(self):
-        """A message comes again: one of the last, or one of a commit."""
+    def again(self, kinds=None):
+        """A message comes again, mostly one of a commit: one of the last, or any."""
         messages = self.world.network.messages
         if messages:
             first = max(1, len(messages) - self.pick([6, 20, 10000]))
             numbers = range(first, len(messages) + 1)
-            of_commits = [number for number in numbers if messages[number - 1].kind in OF_COMMITS]
-            self.give(f"AGAIN {self.pick(of_commits if of_commits and self.chance(0.7) else numbers)}")
+            kinds = kinds or self.pick([OF_COMMITS, OF_COMMITS, OF_COMMITS, {"CommitPoint", "Prepare"}, {"Open"}, set(KINDS.values())])
+            fit = [number for number in numbers if messages[number - 1].kind in kinds]
+            self.give(f"AGAIN {self.pick(fit or numbers)}")
 
     # ---- branches that are kept
 
