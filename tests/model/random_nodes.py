@@ -39,7 +39,7 @@ BENTS = [
     Bent(holds=0.15, comments=0.8, losses=0.2, recoveries=0.2),
     Bent(holds=0.1, comments=0.6, losses=0.4, forces=0.6, recoveries=0.3),
     Bent(holds=0.2, losses=0.3, forces=0.5, recoveries=0.25, comments=0.2),
-    Bent(holds=0.4, losses=0.2, cuts=0.15, stops=0.2, strikes=0.2, comments=0.3, forces=0.3, recoveries=0.3, oddities=0.15),
+    Bent(0.4, losses=0.2, cuts=0.15, stops=0.2, strikes=0.2, comments=0.3, forces=0.3, recoveries=0.3, oddities=0.15),
 ]
 
 
@@ -88,8 +88,9 @@ class Writer(Running):
         """Something else than the work of transactions."""
         bent = self.bent
         share_of_forces = bent.forces if self.kept() else 0.02
-        ways = [(bent.recoveries, self.recover), (share_of_forces, self.force), (0.2, self.again), (bent.stops, self.stop)]
-        ways += [(bent.losses, self.lose_next), (bent.cuts, self.cut), (bent.strikes, self.strike), (bent.oddities, self.odd)]
+        ways = [(bent.recoveries, self.recover), (share_of_forces, self.force), (0.2, self.again)]
+        ways += [(bent.stops, self.stop), (bent.losses, self.lose_next), (bent.cuts, self.cut)]
+        ways += [(bent.strikes, self.strike), (bent.oddities, self.odd)]
         next((way for share, way in ways if self.chance(share)), self.look)()
 
     def is_stuck(self, node, session):
@@ -204,7 +205,7 @@ class Writer(Running):
         if messages:
             first = max(1, len(messages) - self.pick([6, 20, 10000]))
             numbers = range(first, len(messages) + 1)
-            kinds = kinds or self.pick([OF_COMMITS, OF_COMMITS, OF_COMMITS, {"CommitPoint", "Prepare"}, {"Open"}, set(KINDS.values())])
+            kinds = kinds or self.pick([*[OF_COMMITS] * 3, {"CommitPoint", "Prepare"}, {"Open"}, set(KINDS.values())])
             fit = [number for number in numbers if messages[number - 1].kind in kinds]
             self.give(f"AGAIN {self.pick(fit or numbers)}")
 

@@ -73,7 +73,8 @@ class Running(Statements):
         for key in range(1, self.pick([0, 0, self.keys]) + 1):
             self.give(f"AT {name} SESSION 1: INSERT INTO T VALUES ({key}, 0)")
         for number, other in enumerate(self.names, 1):
-            for more in ["", *[f".{letter}" for letter in "ABCDEFGHIJK"[: self.random.randint(3, 11)]]] if self.is_wide else [""]:
+            letters = "ABCDEFGHIJK"[: self.random.randint(3, 11)] if self.is_wide else ""
+            for more in ["", *[f".{letter}" for letter in letters]]:
                 if self.chance(0.8 if other != name else 0.1):
                     self.links[name][f"L{number}{more}"] = other
                     self.give(f"AT {name} SESSION 1: CREATE DATABASE LINK L{number}{more} USING '{other}'")
