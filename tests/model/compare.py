@@ -7,9 +7,9 @@ COUNT scripts (1,000 where it is left out) are made from SEED on, and PROGRAM is
 which ./prove builds. A script on which the two differ is written to differs_SEED.dtx. The last line is `N scripts, M
 differ`; the exit status is 1 where one differs.
 
-The second program is script.py, node.py, tables.py, disk.py and sql.py, and reads commands by commands.py. It knows the
-forms of statements that a node runs on tables of its own; random_scripts.py makes no others but by chance, as texts that are
-no statement. Half of the scripts have orders on disks, by which nodes stop in writes or fail calls.
+The second program is script.py and what it imports. random_scripts.py makes scripts of nodes without links, with all forms
+of statements on tables of their own. Half of the scripts have orders on disks, by which nodes stop in writes or fail calls.
+compare_nodes.py is the same for many nodes.
 """
 
 import pathlib

@@ -71,6 +71,10 @@ class Disk:
             place += 5 + length
         return records, place
 
+    def count(self):
+        """How many records the disk stands for."""
+        return len(self.cells()[0])
+
     def append(self, record):
         """Writes a record behind a gate that is shut until all of it stands."""
         _, gate = self.cells()

@@ -1,218 +1,257 @@
-"""What a node without links keeps, refuses and answers."""
+"""What a node keeps on its disk and in memory, and what its records make of that."""
 
 from __future__ import annotations
 
 from dataclasses import dataclass, field
 
-import sql
-from disk import Disk, number
-from tables import Change, Refused, Table, answered, check_columns, check_types, counted, inserted, put, updated
+import records
+from branches import (
+    COMMITTED,
+    FORCED_COMMIT,
+    FORCED_ROLLBACK,
+    ROLLBACK,
+    BranchId,
+    Decision,
+    Kept,
+    Live,
+)
+from disk import Disk
+from statements import Create
+from tables import Change, Refused, put
 
-EXTENT = 4096
-MOST_CHANGED = 8_388_608
-LOCKED = "ORA-02049: timeout: distributed transaction waiting for lock"
-INVALID = "ORA-00900: invalid SQL statement"
-
-
-def extents(length):
-    return -(-length // EXTENT)
+FIRST_REMOTE_SESSION = 65
 
 
 @dataclass
-class Transaction:
-    node: int
-    boot: int
+class Call:
+    """A client's call that has not ended."""
+
+    command: int
     session: int
-    seq: int
-    changes: list[Change] = field(default_factory=list)
-    length: int = 0  # of its changes, in bytes
-    undo: int = 0  # the same of its undo
+    root: BranchId | None = None  # of the transaction that a COMMIT ends
+    link: str | None = None  # by which a statement left the root
+    after: Create | None = None  # what is carried out once this COMMIT is complete
 
-    def local(self):
-        return f"{self.boot}.{self.session}.{self.seq}"
 
-    def branch(self):
-        return number(self.node, 1) + number(self.boot, 4) + number(self.session, 4) + number(self.seq, 4)
+@dataclass
+class Session:
+    seq: int = 0
+    advice: int = 0
+    branch: BranchId | None = None  # the root of its transaction
+    is_broken: bool = False  # its transaction takes a rollback alone
+    call: Call | None = None
+
+
+@dataclass
+class Lock:
+    holder: BranchId
+    is_written: bool  # not by FOR UPDATE alone
+
+
+@dataclass
+class Memory:
+    """What a running node knows. What its records say is all that is left of it after a stop."""
+
+    boot: int = 0
+    clock: int = 0
+    recovers: bool = True
+    tables: dict = field(default_factory=dict)
+    links: dict = field(default_factory=dict)
+    synonyms: dict = field(default_factory=dict)
+    kept: dict[BranchId, Kept] = field(default_factory=dict)
+    lives: dict[BranchId, Live] = field(default_factory=dict)
+    locks: dict[tuple, Lock] = field(default_factory=dict)
+    undo: dict[BranchId, int] = field(default_factory=dict)  # lengths in bytes
+    sessions: dict[int, Session] = field(default_factory=dict)
+    opened: dict[tuple, BranchId] = field(default_factory=dict)  # by parent and edge
+    next_session: int = FIRST_REMOTE_SESSION
+
+    # ---- locks, changes, undo
+
+    def release(self, branch):
+        self.locks = {key: lock for key, lock in self.locks.items() if lock.holder != branch}
+        self.undo.pop(branch, None)
+
+    def release_unwritten(self, branch):
+        """Locks that FOR UPDATE took on keys without a change."""
+        self.locks = {key: lock for key, lock in self.locks.items() if lock.holder != branch or lock.is_written}
+
+    def lock(self, branch, table, keys, writes):
+        for key in keys:
+            lock = self.locks.setdefault((table, key), Lock(branch, writes))
+            lock.is_written = lock.is_written or writes
+
+    def commit(self, changes):
+        for change in changes:
+            put(self.tables[change.table].rows, change)
+
+    def drop(self, branch):
+        """A live branch is gone, its changes undone."""
+        del self.lives[branch]
+        self.release(branch)
+
+    # ---- records
+
+    def apply(self, record):
+        """Takes in a record, as it is written or as it is read at a start."""
+        getattr(self, "apply_" + type(record).__name__)(record)
+
+    def apply_Boot(self, record):
+        self.boot = record.boot
+
+    def apply_TableMade(self, record):
+        self.tables[record.table.name] = record.table.without_rows()
+
+    def apply_LinkMade(self, record):
+        self.links[record.name] = record.target
+
+    def apply_SynonymMade(self, record):
+        self.synonyms[record.name] = (record.table, record.link)
+
+    def apply_RecoverySet(self, record):
+        self.recovers = record.is_on
+
+    def keep(self, record, **more):
+        self.lives.pop(record.id, None)
+        kept = Kept(
+            record.id,
+            record.root,
+            record.scn,
+            getattr(record, "toward", None),
+            record.parent,
+            record.children,
+            record.advice,
+            record.comment,
+            record.changes,
+            **more,
+        )
+        self.kept[record.id] = kept
+        self.clock = max(self.clock, record.scn)
+        return kept
+
+    def apply_Sealed(self, record):
+        self.keep(record)
+        for change in record.changes:
+            self.lock(record.id, change.table, [change.key], True)
+        self.undo[record.id] = self.undo_length({}, record.changes)
+
+    def apply_Decided(self, record):
+        decision = Decision(True, record.scn)
+        kept = self.keep(record, state=COMMITTED, decision=decision, number=record.scn)
+        self.commit(record.changes)
+        self.release(record.id)
+        if not kept.neighbours():
+            del self.kept[record.id]
+
+    def apply_Ended(self, record):
+        kept = self.kept[record.id]
+        self.release(record.id)
+        if not record.decision.is_commit:
+            del self.kept[record.id]
+            return
+        self.commit(kept.changes)
+        kept.state, kept.decision, kept.number = COMMITTED, record.decision, record.decision.scn
+        self.clock = max(self.clock, record.decision.scn)
+
+    def apply_Forced(self, record):
+        kept = self.kept[record.id]
+        self.release(record.id)
+        kept.state = FORCED_ROLLBACK
+        if record.decision.is_commit:
+            self.commit(kept.changes)
+            kept.state, kept.number = FORCED_COMMIT, record.decision.scn
+            if not record.is_given:
+                self.clock = max(self.clock, record.decision.scn)
+
+    def apply_Met(self, record):
+        kept = self.kept[record.id]
+        kept.decision, kept.is_mixed = record.decision, record.is_mixed
+        kept.is_hidden = kept.is_hidden and not record.is_mixed
+        if record.decision.is_commit:
+            self.clock = max(self.clock, record.decision.scn)
+        if record.decision == ROLLBACK and not kept.is_mixed:
+            del self.kept[record.id]
+
+    def apply_Forgot(self, record):
+        self.kept[record.id].has_forgotten = True
+        if not self.kept[record.id].is_mixed:
+            del self.kept[record.id]
+
+    def apply_Hidden(self, record):
+        self.kept[record.id].is_hidden = True
+
+    # ---- undo
+
+    def undo_length(self, views, changes):
+        """The bytes of the undo of changes, made one after the other over views by table, else over the committed rows."""
+        views, length = {table: dict(rows) for table, rows in views.items()}, 0
+        for change in changes:
+            rows = views.setdefault(change.table, dict(self.tables[change.table].rows))
+            length += len(Change(change.table, change.key, rows.get(change.key)).bytes())
+            put(rows, change)
+        return length
 
 
 class Node:
-    def __init__(self, name, place, undo, book):
+    """A node: its place, its disk, the records that stand there, and what it knows while it is up."""
+
+    def __init__(self, name, number, strength, links, undo):
         self.name = name
-        self.place = place
+        self.number = number
+        self.strength = strength
+        self.links = links
         self.undo = undo
-        self.boot = 0
-        self.scn = 0
-        self.is_up = True
-        self.tables = {}
-        self.book = book
         self.disk = Disk()
         self.disk.bytes = b"\0"
-        self.forget()
-        self.append_boot()
-
-    # ---- the disk, stops and starts
-
-    def append(self, kind, fields, takes_effect):
-        """Appends a record. It takes effect where it stands on the disk, also where an order struck."""
-        before = len(self.disk.cells()[0])
-        try:
-            self.disk.append(bytes([1, kind]) + fields)
-        finally:
-            if len(self.disk.cells()[0]) > before:
-                takes_effect()
-
-    def append_boot(self):
-        def begins():
-            self.boot += 1
-
-        self.append(1, number(self.boot + 1, 4), begins)
-
-    def forget(self):
-        """What a stop loses: transactions, their count in each session, locks."""
-        self.open = {}
-        self.seqs = {}
-        self.locks = {}
-
-    def stop(self):
-        self.must_be_up()
-        self.is_up = False
-        self.forget()
-
-    def start(self):
-        if self.is_up:
-            raise Refused(f"DTX-13: node {self.name} is running")
+        self.records = []
+        self.memory = Memory()
+        self.append(records.Boot(1))
         self.is_up = True
-        self.disk.load()
-        self.append_boot()
 
     def must_be_up(self):
         if not self.is_up:
             raise Refused(f"DTX-01: node {self.name} is stopped")
 
-    # ---- transactions
-
-    def begin(self, session):
-        if session not in self.open:
-            seq = self.seqs[session] = self.seqs.get(session, 0) + 1
-            self.open[session] = Transaction(self.place, self.boot, session, seq)
-        return self.open[session]
-
-    def end(self, session):
-        self.locks = {key: holder for key, holder in self.locks.items() if holder != session}
-        return self.open.pop(session, None)
-
-    def commit(self, session, comment=b""):
-        ended = self.end(session)
-        if ended and ended.changes:
-            self.decide(ended, comment)
-
-    def decide(self, ended, comment):
-        scn = self.scn + 1
-        changes = b"".join(change.bytes() for change in ended.changes)
-        # no parent, no children, no advice
-        middle = number(scn, 6) + bytes(1 + 4 + 1) + number(len(comment), 2) + comment + number(len(ended.changes), 4)
-
-        def commits():
-            self.scn = scn
-            for change in ended.changes:
-                put(self.tables[change.table].rows, change)
-            root = f"{ended.local()} {self.name}.{self.place:08x}.{ended.local()}"
-            self.book.append(f"decided {self.name} {root} scn {scn} changes {len(ended.changes)}")
-
-        self.append(7, ended.branch() * 2 + middle + changes, commits)
-
-    def view(self, transaction, table):
-        rows = dict(table.rows)
-        for change in transaction.changes:
-            if change.table == table.name:
-                put(rows, change)
-        return rows
-
-    def lock(self, session, table, keys):
-        for key in keys:
-            self.locks[table.name, key] = session
-
-    def must_be_free(self, session, table, keys):
-        if any(self.locks.get((table.name, key), session) != session for key in keys):
-            raise Refused(LOCKED)
-
-    # ---- statements
+    def append(self, record):
+        """Appends a record. It stands, and takes effect, where it can be read, also where an order struck."""
+        before = self.disk.count()
+        try:
+            self.disk.append(record.bytes())
+        finally:
+            if self.disk.count() > before:
+                self.records.append(record)
+                self.memory.apply(record)
 
     def halt(self):
-        """What an order that struck leaves of the node: its disk. The lines that tell of it."""
+        """A stop leaves the disk alone."""
         self.is_up = False
-        self.forget()
-        return [f"DTX-01: node {self.name} is stopped".encode(), f"node {self.name} stopped".encode()]
+        self.memory = None
 
-    def call(self, session, text):
-        """The lines that answer a text of a session."""
-        self.must_be_up()
-        try:
-            statement = sql.read(text)
-        except sql.Outside:
-            raise Refused(INVALID) from None
-        if isinstance(statement, sql.Commit):
-            self.commit(session, statement.comment)
-            return [b"Commit complete."]
-        if isinstance(statement, sql.Rollback):
-            self.end(session)
-            return [b"Rollback complete."]
-        if isinstance(statement, sql.Create):
-            return self.create(session, statement)
-        return self.run(session, self.begin(session), statement)
+    def start(self):
+        self.is_up = True
+        self.memory = Memory()
+        self.disk.load()
+        for record in self.records:
+            self.memory.apply(record)
+        self.append(records.Boot(self.memory.boot + 1))
 
-    def create(self, session, statement):
-        self.commit(session)
-        if statement.table in self.tables:
-            raise Refused("ORA-00955: name is already used by an existing object")
-        table = Table(statement.table, statement.columns)
+    # ---- branches
 
-        def is_made():
-            self.tables[table.name] = table
-            self.book.append(f"made {self.name} {table.name}")
+    def session(self, number):
+        return self.memory.sessions.setdefault(number, Session())
 
-        self.append(2, table.record(), is_made)
-        return [b"Table created."]
+    def begin(self, session, number):
+        """The root of a session's transaction, which begins where there is none."""
+        if session.branch is None:
+            session.seq += 1
+            session.branch = BranchId(self.number, self.memory.boot, number, session.seq)
+            live = Live(session.branch, session.branch, None, 1, self.strength)
+            self.memory.lives[live.id] = live
+        return self.memory.lives[session.branch]
 
-    def run(self, session, transaction, statement):
-        table = self.tables.get(statement.table)
-        if table is None:
-            raise Refused("ORA-00942: table or view does not exist")
-        check_columns(table, statement)
-        check_types(table, statement)
-        view = self.view(transaction, table)
-        if isinstance(statement, sql.Insert):
-            change = inserted(table, statement)
-            self.must_be_free(session, table, [change.key])
-            if change.key in view:
-                raise Refused(f"ORA-00001: unique constraint (APP.{table.name}_PK) violated")
-            return self.change(session, transaction, table, view, [change], "created")
-        found = [(key, view[key]) for key in sorted(view) if table.satisfies(view[key], statement.conditions)]
-        keys = [key for key, _ in found]
-        if isinstance(statement, sql.Select):
-            if statement.for_update:
-                self.must_be_free(session, table, keys)
-            lines = answered(table, statement, [row for _, row in found])
-            if statement.for_update:
-                self.lock(session, table, keys)
-            return lines
-        self.must_be_free(session, table, keys)
-        if isinstance(statement, sql.Update):
-            changes = [Change(table.name, key, updated(table, statement, row)) for key, row in found]
-            return self.change(session, transaction, table, view, changes, "updated")
-        changes = [Change(table.name, key, None) for key in keys]
-        return self.change(session, transaction, table, view, changes, "deleted")
-
-    def change(self, session, transaction, table, view, changes, done):
-        length = sum(len(change.bytes()) for change in changes)
-        undo = sum(len(Change(table.name, change.key, view.get(change.key)).bytes()) for change in changes)
-        if transaction.length + length > MOST_CHANGED:
-            raise Refused("DTX-16: changes of one branch too large")
-        needed = extents(transaction.undo + undo) - extents(transaction.undo)
-        if needed > self.undo - sum(extents(held.undo) for held in self.open.values()):
-            raise Refused(f"ORA-30036: unable to extend segment by {needed} in undo tablespace 'UNDOTBS1'")
-        transaction.changes += changes
-        transaction.length += length
-        transaction.undo += undo
-        self.lock(session, table, [change.key for change in changes])
-        return counted(len(changes), done)
+    def open(self, root, parent, depth):
+        """A branch in a session of its own."""
+        branch = BranchId(self.number, self.memory.boot, self.memory.next_session, 1)
+        self.memory.next_session += 1
+        self.memory.lives[branch] = Live(branch, root, parent, depth, self.strength)
+        return branch

@@ -1,181 +1,33 @@
-"""Statements, read from their texts: the forms that a node runs on tables of its own. Every other text is Outside."""
+"""Statements, read from their texts. Every other text is Outside."""
 
-from __future__ import annotations
-
-import re
-from dataclasses import dataclass
-
-RESERVED = set(
-    "SELECT FROM WHERE AND INTO VALUES SET FOR IS NOT NULL INSERT UPDATE DELETE CREATE TABLE SYNONYM ALTER".split()
+from statements import (
+    Advise,
+    Column,
+    Commit,
+    Condition,
+    CreateLink,
+    CreateSynonym,
+    CreateTable,
+    Delete,
+    Force,
+    Id,
+    Insert,
+    Purge,
+    Recovery,
+    Rollback,
+    Select,
+    Update,
 )
+from tokens import Outside, Tokens, is_name
+
 LEAST, MOST = -(2**63), 2**63 - 1
 COMPARISONS = {"=", "<>", "!=", "<", "<=", ">", ">="}
-TOKEN = re.compile(
-    r"(?P<blank>[ \t\r\n]+)|(?P<word>[A-Za-z][A-Za-z0-9_$#]*(?:\.[A-Za-z0-9_$#]+)*)|(?P<number>[0-9]+)"
-    r"|(?P<text>'(?:[^']|'')*')|(?P<sign><>|!=|<=|>=|[(),*=<>+\-@])"
-)
-IDENTIFIER = re.compile(r"[A-Z][A-Z0-9_$#]{0,29}")
+MOST_TEXT, MOST_COMMENT, MOST_NAME = 2000, 255, 128
+ADVICE = {"NOTHING": 0, "COMMIT": 1, "ROLLBACK": 2}
 
 
-class Outside(Exception):
-    """The text is none of these statements."""
-
-
-@dataclass
-class Column:
-    name: str
-    width: int | None  # of a VARCHAR2, in bytes; None for a NUMBER
-    not_null: bool
-    key: bool
-
-
-@dataclass
-class Id:
-    """A column, as a term."""
-
-    name: str
-
-
-@dataclass
-class Condition:
-    column: str
-    test: str  # a comparison, or IS NULL, or IS NOT NULL
-    literal: int | bytes | None = None
-
-
-@dataclass
-class Create:
-    table: str
-    columns: list[Column]
-
-
-@dataclass
-class Insert:
-    table: str
-    columns: list[str] | None
-    values: list[list]  # sums: pairs of a sign and a term
-
-
-@dataclass
-class Update:
-    table: str
-    sets: list[tuple]  # pairs of a column and a sum
-    conditions: list[Condition]
-
-
-@dataclass
-class Delete:
-    table: str
-    conditions: list[Condition]
-
-
-@dataclass
-class Select:
-    table: str
-    wanted: str | list[str]  # "*", "COUNT(*)", or the columns
-    summed: str | None  # the column of SUM
-    conditions: list[Condition]
-    for_update: bool
-
-
-@dataclass
-class Commit:
-    comment: bytes
-
-
-@dataclass
-class Rollback:
-    pass
-
-
-def is_identifier(word):
-    return IDENTIFIER.fullmatch(word) is not None and word not in RESERVED
-
-
-def is_name(word):
-    """Whether a word is one or more identifiers joined by dots."""
-    return 0 < len(word) <= 128 and all(is_identifier(part) for part in word.split("."))
-
-
-def tokens(text):
-    """The tokens of a text: pairs of a kind and a value."""
-    try:
-        text = text.decode()
-    except UnicodeDecodeError:
-        raise Outside from None
-    found, place = [], 0
-    while place < len(text):
-        match = TOKEN.match(text, place)
-        if match is None:
-            raise Outside
-        place = match.end()
-        if match.lastgroup != "blank":
-            found.append((match.lastgroup, value_of(match.lastgroup, match.group())))
-    return found
-
-
-def value_of(kind, spelled):
-    if kind == "word":
-        return spelled.upper()
-    if kind == "number":
-        return int(spelled)
-    if kind == "text":
-        if any(ord(letter) < 32 or ord(letter) == 127 for letter in spelled):
-            raise Outside
-        return spelled[1:-1].replace("''", "'").encode()
-    return spelled
-
-
-class Reader:
-    """Takes tokens from the front, and raises Outside where another stands there."""
-
-    def __init__(self, text):
-        self.left = tokens(text)
-
-    def next_is(self, kind, value):
-        return self.left[:1] == [(kind, value)]
-
-    def may(self, kind, value):
-        """Takes this token where it stands there."""
-        stands = self.next_is(kind, value)
-        if stands:
-            self.left.pop(0)
-        return stands
-
-    def must(self, kind, value):
-        if not self.may(kind, value):
-            raise Outside
-
-    def words(self, *words):
-        for word in words:
-            self.must("word", word)
-
-    def take(self, kind):
-        if not self.left or self.left[0][0] != kind:
-            raise Outside
-        return self.left.pop(0)[1]
-
-    def identifier(self):
-        word = self.take("word")
-        if not is_identifier(word):
-            raise Outside
-        return word
-
-    def commas(self, item):
-        items = [item()]
-        while self.may("sign", ","):
-            items.append(item())
-        return items
-
-    def bracketed(self, item):
-        self.must("sign", "(")
-        items = self.commas(item)
-        self.must("sign", ")")
-        return items
-
-    def end(self):
-        if self.left:
-            raise Outside
+class Reader(Tokens):
+    """Reads a statement from its tokens."""
 
     # ---- parts
 
@@ -183,10 +35,7 @@ class Reader:
         if self.may("word", "NULL"):
             return None
         if self.left[:1] and self.left[0][0] == "text":
-            text = self.take("text")
-            if len(text) > 2000:
-                raise Outside
-            return text or None
+            return self.quoted(MOST_TEXT) or None
         sign = -1 if self.may("sign", "-") else 1
         number = sign * self.take("number")
         if not LEAST <= number <= MOST:
@@ -212,11 +61,8 @@ class Reader:
         return terms
 
     def table(self):
-        """A table of the node's own: one behind a link is no form of these."""
-        name = self.identifier()
-        if self.next_is("sign", "@"):
-            raise Outside
-        return name
+        """A table's name, and the link that it is behind."""
+        return self.identifier(), self.name() if self.may("sign", "@") else None
 
     def condition(self):
         column = self.identifier()
@@ -263,8 +109,36 @@ class Reader:
     # ---- statements
 
     def create(self):
-        self.words("TABLE")
-        made = Create(self.identifier(), self.bracketed(self.column))
+        if self.may("word", "TABLE"):
+            return self.create_table()
+        if self.may("word", "SYNONYM"):
+            return self.create_synonym()
+        self.may("word", "PUBLIC")
+        self.words("DATABASE", "LINK")
+        return self.create_link()
+
+    def create_link(self):
+        link = self.name()
+        if self.may("word", "CONNECT"):
+            self.words("TO")
+            self.identifier()
+            self.words("IDENTIFIED", "BY")
+            self.identifier()
+        self.words("USING")
+        target = self.quoted(MOST_NAME).upper()
+        if not target.isascii() or not is_name(target.decode()):
+            raise Outside
+        return CreateLink(link, target.decode())
+
+    def create_synonym(self):
+        synonym = self.identifier()
+        self.words("FOR")
+        table = self.identifier()
+        self.must("sign", "@")
+        return CreateSynonym(synonym, table, self.name())
+
+    def create_table(self):
+        made = CreateTable(self.identifier(), self.bracketed(self.column))
         check_distinct(column.name for column in made.columns)
         if sum(column.key for column in made.columns) != 1 or len(made.columns) > 32:
             raise Outside
@@ -272,11 +146,11 @@ class Reader:
 
     def insert(self):
         self.words("INTO")
-        table = self.table()
+        table, link = self.table()
         columns = self.bracketed(self.identifier) if self.next_is("sign", "(") else None
         check_distinct(columns or [])
         self.words("VALUES")
-        return Insert(table, columns, self.bracketed(lambda: self.sum(ids=False)))
+        return Insert(table, link, columns, self.bracketed(lambda: self.sum(ids=False)))
 
     def set(self):
         column = self.identifier()
@@ -284,15 +158,15 @@ class Reader:
         return column, self.sum(ids=True)
 
     def update(self):
-        table = self.table()
+        table, link = self.table()
         self.words("SET")
         sets = self.commas(self.set)
         check_distinct(column for column, _ in sets)
-        return Update(table, sets, self.conditions())
+        return Update(table, link, sets, self.conditions())
 
     def delete(self):
         self.may("word", "FROM")
-        return Delete(self.table(), self.conditions())
+        return Delete(*self.table(), self.conditions())
 
     def wanted(self):
         """What a query asks for, and the column of its SUM."""
@@ -317,7 +191,7 @@ class Reader:
     def select(self):
         wanted, summed = self.wanted()
         self.words("FROM")
-        query = Select(self.table(), wanted, summed, self.conditions(), self.may("word", "FOR"))
+        query = Select(*self.table(), wanted, summed, self.conditions(), self.may("word", "FOR"))
         if query.for_update:
             self.words("UPDATE")
             if wanted == "COUNT(*)" or summed:
@@ -326,14 +200,36 @@ class Reader:
 
     def commit(self):
         self.may("word", "WORK")
-        comment = self.take("text") if self.may("word", "COMMENT") else b""
-        if len(comment) > 255:
+        if self.may("word", "FORCE"):
+            return Force(True, self.quoted(MOST_TEXT), self.scn() if self.may("sign", ",") else None)
+        return Commit(self.quoted(MOST_COMMENT) if self.may("word", "COMMENT") else b"")
+
+    def scn(self):
+        scn = self.take("number")
+        if scn >= 2**48:
             raise Outside
-        return Commit(comment)
+        return scn
 
     def rollback(self):
         self.may("word", "WORK")
+        if self.may("word", "FORCE"):
+            return Force(False, self.quoted(MOST_TEXT), None)
         return Rollback()
+
+    def alter(self):
+        if self.one_of("SESSION", "SYSTEM") == "SESSION":
+            self.words("ADVISE")
+            return Advise(ADVICE[self.one_of(*ADVICE)])
+        is_on = self.one_of("ENABLE", "DISABLE") == "ENABLE"
+        self.words("DISTRIBUTED", "RECOVERY")
+        return Recovery(is_on)
+
+    def execute(self):
+        call = self.one_of("DBMS_TRANSACTION.PURGE_MIXED", "DBMS_TRANSACTION.PURGE_LOST_DB_ENTRY")
+        self.must("sign", "(")
+        purge = Purge(call.endswith("MIXED"), self.quoted(MOST_TEXT))
+        self.must("sign", ")")
+        return purge
 
 
 def check_distinct(names):
@@ -353,6 +249,9 @@ def read(text):
         "SELECT": reader.select,
         "COMMIT": reader.commit,
         "ROLLBACK": reader.rollback,
+        "ALTER": reader.alter,
+        "EXECUTE": reader.execute,
+        "EXEC": reader.execute,
     }
     form = forms.get(reader.take("word"))
     if form is None:

@@ -4,9 +4,9 @@ from __future__ import annotations
 
 from dataclasses import dataclass
 
-import sql
 from disk import number
-from sql import LEAST, MOST, Id
+from sql import LEAST, MOST
+from statements import Id, Insert, Select, Update
 
 WRONG_TYPE = "DTX-10: value of the wrong type"
 OUT_OF_RANGE = "DTX-09: number out of range"
@@ -58,6 +58,9 @@ class Table:
         self.places = {column.name: place for place, column in enumerate(columns)}
         self.key = next(place for place, column in enumerate(columns) if column.key)
         self.rows = {}
+
+    def without_rows(self):
+        return Table(self.name, self.columns)
 
     def column(self, name):
         return self.columns[self.places[name]]
@@ -159,13 +162,13 @@ def put(rows, change):
 
 def named_columns(statement):
     """The columns that a statement names, in the order of its text."""
-    if isinstance(statement, sql.Insert):
+    if isinstance(statement, Insert):
         return statement.columns or []
     names = []
-    if isinstance(statement, sql.Update):
+    if isinstance(statement, Update):
         for column, terms in statement.sets:
             names += [column] + [term.name for _, term in terms if isinstance(term, Id)]
-    if isinstance(statement, sql.Select):
+    if isinstance(statement, Select):
         names += statement.wanted if isinstance(statement.wanted, list) else []
         names += [statement.summed] if statement.summed else []
     return names + [condition.column for condition in statement.conditions]
@@ -175,9 +178,9 @@ def check_columns(table, statement):
     for name in named_columns(statement):
         if name not in table.places:
             raise Refused(f'ORA-00904: "{name}": invalid identifier')
-    if isinstance(statement, sql.Update) and any(table.column(name).key for name, _ in statement.sets):
+    if isinstance(statement, Update) and any(table.column(name).key for name, _ in statement.sets):
         raise Refused("DTX-15: key column cannot be changed")
-    if isinstance(statement, sql.Insert):
+    if isinstance(statement, Insert):
         wanted = len(target(table, statement))
         if len(statement.values) < wanted:
             raise Refused("ORA-00947: not enough values")
@@ -191,13 +194,13 @@ def target(table, statement):
 
 
 def check_types(table, statement):
-    if isinstance(statement, sql.Insert):
+    if isinstance(statement, Insert):
         fit = all(table.sum_fits(terms, name) for name, terms in zip(target(table, statement), statement.values))
     else:
         fit = all(table.fits(table.kind(condition.literal), condition.column) for condition in statement.conditions)
-    if isinstance(statement, sql.Update):
+    if isinstance(statement, Update):
         fit = fit and all(table.sum_fits(terms, name) for name, terms in statement.sets)
-    if isinstance(statement, sql.Select) and statement.summed:
+    if isinstance(statement, Select) and statement.summed:
         fit = fit and table.fits(int, statement.summed)
     if not fit:
         raise Refused(WRONG_TYPE)

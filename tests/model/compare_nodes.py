@@ -1,0 +1,47 @@
+#!/usr/bin/env python3
+"""Compares the built program with a second one, written from the rules alone, on random scripts of many nodes.
+
+    tests/model/compare_nodes.py [COUNT [SEED [PROGRAM]]]
+
+COUNT scripts (300 where it is left out) are made from SEED on, and PROGRAM is the proved program where it is left out,
+which ./prove builds. A script on which the two differ is written to differs_SEED.dtx, and the first line that differs is
+printed. The last line is `N scripts, M differ`; the exit status is 1 where one differs.
+
+The second program is script.py and what it imports; random_nodes.py makes the scripts. They have two to six nodes with
+links, synonyms and sessions, and most of their transactions reach over several links. Messages are held, lost and repeated,
+pairs cut, nodes stopped in the middle of disk writes and by comments, branches in doubt are forced, and all is shown.
+"""
+
+import itertools
+import pathlib
+import subprocess
+import sys
+
+from random_nodes import Writer
+
+TOP = pathlib.Path(__file__).resolve().parent.parent.parent
+
+
+def first_difference(due, printed):
+    """The first line that differs, as it is due and as it is printed."""
+    pairs = itertools.zip_longest(due.split(b"\n"), printed.split(b"\n"))
+    return next((pair for pair in pairs if pair[0] != pair[1]), None)
+
+
+def main(count="300", seed="0", program=str(TOP / "crates/dtx/out/dtx")):
+    differing = 0
+    for number in range(int(seed), int(seed) + int(count)):
+        writer = Writer(number)
+        script = writer.script()
+        ran = subprocess.run([program], input=script, capture_output=True, timeout=60)
+        difference = first_difference(writer.printed(), ran.stdout)
+        if ran.returncode != 0 or difference:
+            differing += 1
+            pathlib.Path(f"differs_{number}.dtx").write_bytes(script)
+            print(f"{number}: status {ran.returncode}, due and printed: {difference}", flush=True)
+    print(f"{count} scripts, {differing} differ")
+    return 1 if differing else 0
+
+
+if __name__ == "__main__":
+    sys.exit(main(*sys.argv[1:]))
