@@ -1,12 +1,12 @@
 //! Points of crash-test comments: each cuts a turn before its record or after it.
 use crate::branches::ROOT;
 use crate::hq::{AT_HQ, COMMIT_HQ, FORGET_HQ, KEY_IN_DOUBT, NO_ROW_AT_HQ, PREPARE_HQ, ROW_AT_HQ};
-use crate::lone::LoneNode;
-use crate::play::{Step, goes_on, is_as_expected, played};
+use crate::lives::{goes_on, played};
 use crate::sales::{AT_SALES, COLLECT, KEY_IN_DOUBT_AT_SALES, LEARN, NO_ROW_AT_SALES, PASS};
 use crate::warehouse::{
     AT_WAREHOUSE, DECIDE, FORGET_WAREHOUSE, OLD_ROW_AT_WAREHOUSE, READY, ROW_AT_WAREHOUSE,
 };
+use lone_node::{LoneNode, Step};
 use node_disk::CutAt;
 use node_points::Point;
 use std::alloc::Global;
@@ -186,8 +186,8 @@ fn a_point_cuts_a_turn_before_its_record_or_after_it(rt: HostRuntime) {
 /// Whether the turn in which HQ is prepared is as it is without this point. None where there is no such node.
 fn is_whole(alloc: Global, point: Point) -> Option<bool> {
     let mut node = played(alloc, 3, &[&AT_HQ])?;
-    let is_whole = is_as_expected(alloc, &mut node, &PREPARE_HQ, &[point]);
-    drop(node);
+    let is_whole = node.does(alloc, &PREPARE_HQ, &[point]);
+    node.end();
     Some(is_whole)
 }
 

@@ -1,11 +1,10 @@
 //! A branch that is prepared when its node stops: it is in doubt after the start, until the decision comes.
 use crate::branches::{LEDGER, ROOT};
-use crate::coming::Comes;
 use crate::hq::{
     AT_HQ, COMMIT_HQ, FORGET_HQ, IN_DOUBT, KEY_IN_DOUBT, NO_ROW_AT_HQ, PREPARE_HQ, ROW_AT_HQ,
 };
-use crate::play::{Step, Turn, Wrote, play_out, restarted};
-use crate::says::Says;
+use crate::lives::{play_out, restarted};
+use lone_node::{Comes, Says, Step, Turn, Wrote};
 use redo_record::Decision;
 use std::alloc::Global;
 

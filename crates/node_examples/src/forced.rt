@@ -1,10 +1,8 @@
 //! A branch in doubt whose outcome is forced, and the decision that it meets later.
 use crate::branches::{LEDGER, ROOT};
-use crate::coming::Comes;
 use crate::hq::{AT_HQ, NO_ROW_AT_HQ, PREPARE_HQ, ROW_AT_HQ};
-use crate::lone::LoneNode;
-use crate::play::{Step, Turn, Wrote, play_out, played, restarted};
-use crate::says::{Letter, Says};
+use crate::lives::{play_out, played, restarted};
+use lone_node::{Comes, Letter, LoneNode, Says, Step, Turn, Wrote};
 use redo_record::Decision;
 use std::alloc::Global;
 
@@ -65,7 +63,7 @@ fn mixed_after(alloc: Global, steps: &[Step]) -> Option<(Option<bool>, Option<bo
     let before = is_mixed(&node);
     let node = node.restart(alloc)?;
     let after = is_mixed(&node);
-    drop(node);
+    node.end();
     Some((before, after))
 }
 

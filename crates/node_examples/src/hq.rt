@@ -1,9 +1,7 @@
 //! The turns of HQ in the order: a child that is prepared and then commits.
 use crate::branches::{HQ, LEDGER, ROOT};
-use crate::coming::Comes;
-use crate::play::{Step, Wrote};
-use crate::says::Says;
 use dtx_values::Done;
+use lone_node::{Comes, Says, Step, Wrote};
 use redo_record::Decision;
 
 /// HQ, until the order has a row there.

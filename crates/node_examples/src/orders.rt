@@ -1,9 +1,9 @@
 //! An order over three nodes, each of them alone: a child, the commit point site and the root.
 use crate::hq::{AT_HQ, COMMIT_HQ, FORGET_HQ, PREPARE_HQ, ROW_AT_HQ};
-use crate::lone::LoneNode;
-use crate::play::{Step, Turn, play_out};
+use crate::lives::play_out;
 use crate::sales::{AT_SALES, COLLECT, COMPLETE, LEARN, PASS};
 use crate::warehouse::{AT_WAREHOUSE, DECIDE, FORGET_WAREHOUSE, READY, ROW_AT_WAREHOUSE};
+use lone_node::{LoneNode, Step, Turn};
 use std::alloc::Global;
 
 /// The first of these turns of the node of a number that is not as expected.

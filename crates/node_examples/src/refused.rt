@@ -1,8 +1,7 @@
 //! A statement that is refused changes no row, no lock and no byte of the log.
-use crate::coming::Comes;
 use crate::hq::{AT_HQ, PREPARE_HQ};
-use crate::lone::LoneNode;
-use crate::play::{Step, Turn, Wrote, is_answered_by, play, played};
+use crate::lives::played;
+use lone_node::{Comes, LoneNode, Step, Turn, Wrote};
 use std::alloc::Global;
 
 /// A statement of session 1 that is refused, and the line that says so.
@@ -182,7 +181,7 @@ const AFTER: [Step; 4] = [
 fn is_refused(alloc: Global, node: &mut LoneNode, refused: &Refused) -> Option<bool> {
     let (text, line) = refused;
     let before = node.bytes().to_vec(alloc).ok()?;
-    let is_told = is_answered_by(alloc, node, *text, &[*line]);
+    let is_told = node.answers(alloc, *text, &[*line]);
     Some(is_told && node.bytes() == before.as_slice())
 }
 
@@ -200,8 +199,8 @@ fn first_unrefused(alloc: Global, node: &mut LoneNode) -> Option<usize> {
 fn first_others(alloc: Global) -> Option<(Option<usize>, Option<Turn>)> {
     let mut node = played(alloc, 3, &[&AT_HQ, &BEFORE])?;
     let unrefused = first_unrefused(alloc, &mut node);
-    let other = play(alloc, &mut node, &[&AFTER]);
-    drop(node);
+    let other = node.play(alloc, &[&AFTER]);
+    node.end();
     Some((unrefused, other))
 }
 

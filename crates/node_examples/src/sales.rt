@@ -1,9 +1,7 @@
 //! The turns of SALES in the order: the root, which collects the other two and passes the decision on.
 use crate::branches::{HQ, LEDGER, ROOT, STOCK, WAREHOUSE};
-use crate::coming::Comes;
-use crate::play::{Step, Wrote};
-use crate::says::Says;
 use dtx_values::Done;
+use lone_node::{Comes, Says, Step, Wrote};
 use redo_record::Decision;
 
 /// SALES, until the order is complete.

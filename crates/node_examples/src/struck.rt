@@ -1,14 +1,12 @@
 //! Appends that an order strikes: the node starts from what is left, and the record stands or not.
 use crate::branches::{LEDGER, ROOT, STOCK};
-use crate::coming::Comes;
 use crate::hq::{AT_HQ, COMMIT_HQ, KEY_IN_DOUBT, NO_ROW_AT_HQ, PREPARE_HQ, ROW_AT_HQ};
-use crate::lone::LoneNode;
-use crate::play::{Step, Wrote, goes_on, played};
-use crate::says::Says;
+use crate::lives::{goes_on, played};
 use crate::warehouse::{
     AT_WAREHOUSE, DECIDE, FORGET_WAREHOUSE, OLD_ROW_AT_WAREHOUSE, READY, ROW_AT_WAREHOUSE,
 };
 use block_disk::{How, Order, Stop};
+use lone_node::{Comes, LoneNode, Says, Step, Wrote};
 use node_disk::CutAt;
 use std::alloc::Global;
 
@@ -122,7 +120,7 @@ fn strikes(alloc: Global, order: Order) -> Option<bool> {
     match played(alloc, SEAL.number, SEAL.before) {
         Some(mut node) => {
             let is_struck = is_struck(alloc, &mut node, &SEAL, order);
-            drop(node);
+            node.end();
             Some(is_struck)
         }
         None => {
@@ -138,7 +136,7 @@ fn length_at(alloc: Global, strike: &Strike, write: u32) -> Option<usize> {
     let how = How::Keep(0);
     let is_struck = is_struck(alloc, &mut node, strike, Order::Stop(Stop { write, how }));
     let length = node.bytes().len();
-    drop(node);
+    node.end();
     if is_struck { Some(length) } else { None }
 }
 

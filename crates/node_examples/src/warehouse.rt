@@ -1,9 +1,7 @@
 //! The turns of WAREHOUSE in the order: the commit point site, which decides.
 use crate::branches::{ROOT, STOCK, WAREHOUSE};
-use crate::coming::Comes;
-use crate::play::{Step, Wrote};
-use crate::says::Says;
 use dtx_values::Done;
+use lone_node::{Comes, Says, Step, Wrote};
 
 /// WAREHOUSE, until the order has changed a row there.
 pub(crate) const AT_WAREHOUSE: [Step; 5] = [

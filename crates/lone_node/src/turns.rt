@@ -3,7 +3,7 @@ ghost use Rattle.std.specs.Prelude.{◌≡◌, ◌<◌, ◌+◌, true, OnOk};
 ghost use Rattle.std.specs.List.{AllByRecursion};
 ghost use Rattle.node_disk.specs.OnDisk.{disk_of, kept_of};
 ghost use Rattle.node_disk.specs.Starts.{CanBeStarted};
-ghost use Rattle.node_examples.specs.Played.{commits as commits_by, works as works_by, IsWorking, HasParent, IsComing, Meets, bytes_of, images_of, IsAlone};
+ghost use Rattle.lone_node.specs.Played.{commits as commits_by, works as works_by, IsWorking, HasParent, IsComing, Meets, bytes_of, images_of, IsAlone};
 
 use crate::coming::{Comes, incoming};
 use block_disk::MemDisk;
@@ -128,7 +128,8 @@ fn take_this(
     }
 }
 
-/// The node takes a turn. The place where it is cut; none where a condition of the turn does not hold, or memory runs out.
+/// The node takes a turn. The error is the place where it is cut, and none where a condition of the turn does not hold, or memory
+/// runs out.
 pub(crate) fn take(
     alloc: Global,
     node: &mut Node<MemDisk>,

@@ -3,7 +3,7 @@ ghost use Rattle.std.specs.Prelude.{◌≡◌, ◌<◌, List, length, true, IfSo
 ghost use Rattle.std.specs.List.{AllByRecursion, list_all};
 ghost use Rattle.block_disk.specs.MemDisk.{DiskState, blank};
 ghost use Rattle.node_disk.specs.Starts.{CanBeStarted};
-ghost use Rattle.node_examples.specs.Played.{bytes_of, images_of, decided_at as decided_at_by, scn_in as scn_in_by, boot_in as boot_in_by, is_synonym as is_synonym_by, is_low as is_low_by, IsLow, IsAlone, IsSmallPlace};
+ghost use Rattle.lone_node.specs.Played.{bytes_of, images_of, decided_at as decided_at_by, scn_in as scn_in_by, boot_in as boot_in_by, is_synonym as is_synonym_by, is_low as is_low_by, IsLow, IsAlone, IsSmallPlace};
 ghost use Rattle.record_log.specs.Held.{HoldRecords};
 ghost use Rattle.redo_record.specs.declared.record.RedoRecord.{RedoRecord as RedoRecordBy};
 

@@ -2,7 +2,7 @@
 ghost use Rattle.std.specs.Prelude.{IfSome};
 ghost use Rattle.node_disk.specs.OnDisk.{disk_of};
 ghost use Rattle.node_disk.specs.Starts.{CanBeStarted};
-ghost use Rattle.node_examples.specs.Played.{bytes_of, images_of, IsAlone};
+ghost use Rattle.lone_node.specs.Played.{bytes_of, images_of, IsAlone};
 
 use crate::coming::Comes;
 use crate::places::place;
@@ -15,21 +15,20 @@ use redo_record::Standing;
 use std::alloc::Global;
 use std::marker::Model;
 
-/// A node whose clients and neighbours a test plays.
-#[derive(Drop)]
-pub(crate) struct LoneNode {
+/// A node whose clients and neighbours a test plays. It goes by `end` alone.
+pub struct LoneNode {
     node: Node<MemDisk>,
     /// Its number.
     number: u8,
     /// No number that it keeps is greater.
     bound: u64,
-    /// Whether it takes turns: none was cut since it started.
+    /// Whether it takes turns: each was whole since it started.
     is_up: bool,
 }
 
 impl Model for LoneNode {
     ghost use Rattle.std.specs.Prelude.{Bool};
-    ghost use Rattle.node_examples.specs.Played.{IsInPlay};
+    ghost use Rattle.lone_node.specs.Played.{IsInPlay};
 
     ghost Value = { Bool };
 
@@ -39,6 +38,7 @@ impl Model for LoneNode {
 }
 
 /// The disk of a node that stops, with the power on again.
+#[tactic(auto, using(crate::proofs::PlayLemmas::powered))]
 fn fallen(node: Node<MemDisk>) -> MemDisk
     requires { CanBeStarted bytes_of images_of (disk_of node) }
     ensures { CanBeStarted bytes_of images_of result }
@@ -66,15 +66,15 @@ fn up(node: Option<Node<MemDisk>>, number: u8) -> Option<LoneNode>
 
 impl LoneNode {
     /// Makes the node of a number. None where memory runs out.
-    pub(crate) fn make(alloc: Global, number: u8) -> Option<LoneNode> {
+    pub fn make(alloc: Global, number: u8) -> Option<LoneNode> {
         match place(alloc, number) {
             Some(place) => up(makes(alloc, place), number),
             None => None,
         }
     }
 
-    /// The node takes a turn. The place where it is cut; none where it is down, a condition of the turn does not hold, or memory
-    /// runs out.
+    /// The node takes a turn. The error is the place where it is cut, and none where the node is down, a condition of the turn does
+    /// not hold, or memory runs out.
     #[tactic(auto, using(crate::proofs::PlayLemmas::alone_up, crate::proofs::PlayLemmas::up_at, crate::proofs::PlayLemmas::down_at))]
     pub(crate) fn take(
         &mut self,
@@ -100,7 +100,7 @@ impl LoneNode {
     }
 
     /// Where a turn is cut; none where it is whole, or is not taken.
-    pub(crate) fn cut(&mut self, alloc: Global, comes: &Comes, points: &[Point]) -> Option<CutAt> {
+    pub fn cut(&mut self, alloc: Global, comes: &Comes, points: &[Point]) -> Option<CutAt> {
         match self.take(alloc, comes, points) {
             Ok(effects) => {
                 drop(effects);
@@ -112,29 +112,48 @@ impl LoneNode {
 
     /// Gives its disk an order to stop or to fail.
     #[tactic(auto, using(crate::proofs::PlayLemmas::armed))]
-    pub(crate) fn arm(&mut self, order: Order) {
+    pub fn arm(&mut self, order: Order) {
         self.node.arm(order);
     }
 
+    // Stops the node: its disk, and its number.
+    fn stop(self) -> (MemDisk, u8)
+        ensures { CanBeStarted bytes_of images_of result.0 }
+    {
+        let LoneNode {
+            node,
+            number,
+            bound: _bound,
+            is_up: _is_up,
+        } = self;
+        (fallen(node), number)
+    }
+
     /// Stops the node, and starts it from its disk. None where a condition of the start does not hold, or memory runs out.
-    pub(crate) fn restart(self, alloc: Global) -> Option<LoneNode> {
-        let LoneNode { node, number, .. } = self;
+    pub fn restart(self, alloc: Global) -> Option<LoneNode> {
+        let (disk, number) = self.stop();
         match place(alloc, number) {
-            Some(place) => up(starts(alloc, fallen(node), place), number),
+            Some(place) => up(starts(alloc, disk, place), number),
             None => {
-                drop(node);
+                drop(disk);
                 None
             }
         }
     }
 
+    /// Stops the node, which is not needed any more.
+    pub fn end(self) {
+        let (disk, _number) = self.stop();
+        drop(disk);
+    }
+
     /// The bytes of its disk.
-    pub(crate) fn bytes(&self) -> &[u8] {
+    pub fn bytes(&self) -> &[u8] {
         self.node.disk().bytes()
     }
 
     /// The rows of the branches that it keeps.
-    pub(crate) fn kept(&self) -> &[Standing] {
+    pub fn kept(&self) -> &[Standing] {
         self.node.kept()
     }
 }

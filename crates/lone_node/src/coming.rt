@@ -1,6 +1,6 @@
 //! What comes to a node, as tests write it.
 ghost use Rattle.std.specs.Prelude.{◌≡◌, true, false, Some, IfSome};
-ghost use Rattle.node_examples.specs.Played.{is_prepare as is_prepare_by, IsCalled, IsPlayed, IsComing};
+ghost use Rattle.lone_node.specs.Played.{is_prepare as is_prepare_by, IsCalled, IsPlayed, IsComing};
 ghost use Rattle.msg_codec.specs.Message.{message_of};
 ghost use Rattle.node_rules.specs.Inputs.{IsSession};
 
@@ -15,7 +15,7 @@ use wire_msg::{Kind, Msg};
 
 /// What comes to a node.
 #[derive(Clone, Copy)]
-pub(crate) enum Comes {
+pub enum Comes {
     /// A call of a client session: its number, and the text of the statement.
     Call(u32, &'static [u8]),
     /// A message.

@@ -1,5 +1,4 @@
 //! Turns as tests expect them.
-
 use crate::coming::Comes;
 use crate::lone::LoneNode;
 use crate::says::{Letter, bytes_of};
@@ -11,7 +10,7 @@ use std::alloc::Global;
 
 /// The record of a turn, by what a test looks at.
 #[derive(Clone, Copy, PartialEq, Eq)]
-pub(crate) enum Wrote {
+pub enum Wrote {
     Nothing,
     /// A table, a link or a setting.
     Made,
@@ -28,7 +27,7 @@ pub(crate) enum Wrote {
 }
 
 /// A turn: what comes, the record that it writes, the messages that it sends, and the lines of the answer that it gives.
-pub(crate) type Step = (Comes, Wrote, &'static [Letter], &'static [&'static [u8]]);
+pub type Step = (Comes, Wrote, &'static [Letter], &'static [&'static [u8]]);
 
 /// The record of a turn.
 fn wrote_of(wrote: &Option<RedoRecord>) -> Option<Wrote> {
@@ -115,90 +114,44 @@ fn tells(
     tells
 }
 
-/// Whether a turn of the node is whole under these points, and as expected.
-pub(crate) fn is_as_expected(
-    alloc: Global,
-    node: &mut LoneNode,
-    step: &Step,
-    points: &[Point],
-) -> bool {
-    let (comes, wrote, letters, lines) = step;
-    match node.take(alloc, comes, points) {
-        Ok(effects) => tells(alloc, effects, *wrote, letters, lines),
-        Err(_at) => false,
-    }
-}
-
-/// Whether a call of session 1 is ended in its turn with just these lines, and nothing is written or sent.
-pub(crate) fn is_answered_by(
-    alloc: Global,
-    node: &mut LoneNode,
-    text: &'static [u8],
-    lines: &[&[u8]],
-) -> bool {
-    match node.take(alloc, &Comes::Call(1, text), &[]) {
-        Ok(effects) => tells(alloc, effects, Wrote::Nothing, &[], lines),
-        Err(_at) => false,
-    }
-}
-
 /// A turn of a test by its place: its part, and its number there, each from 0.
-pub(crate) type Turn = (usize, usize);
+pub type Turn = (usize, usize);
 
-/// The number of the first of these turns that is not as expected, from 0.
-fn first_other(alloc: Global, node: &mut LoneNode, steps: &[Step]) -> Option<usize> {
-    for number in 0..steps.len() {
-        if !is_as_expected(alloc, node, &steps[number], &[]) {
-            return Some(number);
+impl LoneNode {
+    /// Whether a turn is whole under these points, and as expected.
+    pub fn does(&mut self, alloc: Global, step: &Step, points: &[Point]) -> bool {
+        let (comes, wrote, letters, lines) = step;
+        match self.take(alloc, comes, points) {
+            Ok(effects) => tells(alloc, effects, *wrote, letters, lines),
+            Err(_at) => false,
         }
     }
-    None
-}
 
-/// The first turn of these parts that is not as expected.
-pub(crate) fn play(alloc: Global, node: &mut LoneNode, parts: &[&[Step]]) -> Option<Turn> {
-    for part in 0..parts.len() {
-        if let Some(number) = first_other(alloc, node, parts[part]) {
-            return Some((part, number));
+    /// Whether a call of session 1 ends in its turn with just these lines, and nothing is written or sent.
+    pub fn answers(&mut self, alloc: Global, text: &'static [u8], lines: &[&[u8]]) -> bool {
+        match self.take(alloc, &Comes::Call(1, text), &[]) {
+            Ok(effects) => tells(alloc, effects, Wrote::Nothing, &[], lines),
+            Err(_at) => false,
         }
     }
-    None
-}
 
-/// The first turn of a node that is not as expected, and then it is let go. The first of all where there is no node.
-pub(crate) fn play_out(alloc: Global, node: Option<LoneNode>, parts: &[&[Step]]) -> Option<Turn> {
-    match node {
-        Some(mut node) => {
-            let other = play(alloc, &mut node, parts);
-            drop(node);
-            other
+    // The number of the first of these turns that is not as expected, from 0.
+    fn first_other(&mut self, alloc: Global, steps: &[Step]) -> Option<usize> {
+        for number in 0..steps.len() {
+            if !self.does(alloc, &steps[number], &[]) {
+                return Some(number);
+            }
         }
-        None => Some((0, 0)),
-    }
-}
-
-/// The node of a number after these turns. None where one is not as expected.
-pub(crate) fn played(alloc: Global, number: u8, parts: &[&[Step]]) -> Option<LoneNode> {
-    let mut node = LoneNode::make(alloc, number)?;
-    if play(alloc, &mut node, parts).is_none() {
-        Some(node)
-    } else {
-        drop(node);
         None
     }
-}
 
-/// The same after a stop and a start.
-pub(crate) fn restarted(alloc: Global, number: u8, parts: &[&[Step]]) -> Option<LoneNode> {
-    played(alloc, number, parts)?.restart(alloc)
-}
-
-/// Whether a node whose turn was cut as it should be starts again, and goes on with these turns.
-pub(crate) fn goes_on(alloc: Global, node: LoneNode, is_cut: bool, steps: &[Step]) -> bool {
-    if is_cut {
-        play_out(alloc, node.restart(alloc), &[steps]).is_none()
-    } else {
-        drop(node);
-        false
+    /// The first turn of these parts that is not as expected.
+    pub fn play(&mut self, alloc: Global, parts: &[&[Step]]) -> Option<Turn> {
+        for part in 0..parts.len() {
+            if let Some(number) = self.first_other(alloc, parts[part]) {
+                return Some((part, number));
+            }
+        }
+        None
     }
 }

@@ -17,7 +17,7 @@ use Rattle.node_disk.specs.declared.effects.Effects.{Effects}
 use Rattle.node_disk.specs.declared.incoming.Incoming.{Incoming}
 use Rattle.node_disk.specs.declared.incoming.Incoming.TheVariants as comings
 use Rattle.node_disk.specs.declared.node.Node.{Node}
-use Rattle.node_examples.specs.Played.{low_limit, IsSaid, IsPlayed, is_prepare, IsCalled, IsComing, is_commit, commits, is_working_phase, works, has_parent, IsWorking, HasParent, Meets, bytes_of, images_of, IsKeptWithin, IsAlone}
+use Rattle.lone_node.specs.Played.{low_limit, IsSaid, IsPlayed, is_prepare, IsCalled, IsComing, is_commit, commits, is_working_phase, works, has_parent, IsWorking, HasParent, Meets, bytes_of, images_of, IsKeptWithin, IsAlone}
 use Rattle.node_rules.specs.Data.{Stmt, Answer, BranchId, Phase, Live, Kind, Msg, Place, Input}
 use Rattle.node_rules.specs.Data.answers
 use Rattle.node_rules.specs.Data.inputs

@@ -1,7 +1,7 @@
 -- A Prepare without a comment can be said.
 use Rattle.std.proofs.Common.{◌≡◌, ℕ, Bool, List, [], sym, subst, arith}
 use Rattle.fit_laws.proofs.SayLemmas.{no_comment}
-use Rattle.node_examples.specs.Played.{IsSaid}
+use Rattle.lone_node.specs.Played.{IsSaid}
 use Rattle.node_rules.specs.Data.kinds
 
 no_comment_said : (site_below : Bool) → IsSaid (kinds.Prepare site_below [])

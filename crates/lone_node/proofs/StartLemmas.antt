@@ -9,7 +9,7 @@ use Rattle.fit_laws.specs.Bytes.{NamesTable, StartsKeepBytes}
 use Rattle.node_disk.specs.OnDisk.{disk_of, kept_of, place_of, IsRunning}
 use Rattle.node_disk.specs.Starts.{CanBeStarted, last_boot, next_boot}
 use Rattle.node_disk.specs.declared.node.Node.{Node}
-use Rattle.node_examples.specs.Played.{low_limit, bytes_of, images_of, IsKeptWithin, IsAlone, IsSmallPlace, decided_at, scn_in, boot_in, is_synonym, is_low, IsLow}
+use Rattle.lone_node.specs.Played.{low_limit, bytes_of, images_of, IsKeptWithin, IsAlone, IsSmallPlace, decided_at, scn_in, boot_in, is_synonym, is_low, IsLow}
 use Rattle.node_rules.specs.Data.{RedoRecord, Place}
 use Rattle.node_rules.specs.Data.decisions
 use Rattle.node_rules.specs.Data.params

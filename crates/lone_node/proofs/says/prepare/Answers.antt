@@ -1,5 +1,5 @@
-use Rattle.node_examples.proofs.SaidLemmas.{prepare_said}
-use Rattle.node_examples.proofs.says.prepare.Goals as goal
+use Rattle.lone_node.proofs.SaidLemmas.{prepare_said}
+use Rattle.lone_node.proofs.says.prepare.Goals as goal
 
 -- src/says.rt:141:1
 pub returns : goal.returns

@@ -3,7 +3,7 @@ ghost use Rattle.std.specs.Prelude.{◌≡◌, ◌≤◌, ◌<◌, ◌^◌, true
 ghost use Rattle.fit_laws.specs.Bytes.{IsOfTable, StatementHasBytes};
 ghost use Rattle.msg_codec.specs.Fits.{KindFits};
 ghost use Rattle.msg_codec.specs.Message.{message_of};
-ghost use Rattle.node_examples.specs.Played.{IsChange, IsSaid, IsPlayed};
+ghost use Rattle.lone_node.specs.Played.{IsChange, IsSaid, IsPlayed};
 ghost use Rattle.sql_print.specs.Printing.{IsPrintable, printed};
 
 use dtx_values::{Answer, Bytes, Done, Listing};
@@ -17,7 +17,7 @@ use wire_msg::{Kind, Msg};
 
 /// What a message says.
 #[derive(Clone, Copy)]
-pub(crate) enum Says {
+pub enum Says {
     Open {
         edge: u8,
         root: BranchId,
@@ -55,7 +55,7 @@ pub(crate) enum Says {
 }
 
 /// A message: who sends it, who it is for, the sender's clock, and what it says.
-pub(crate) type Letter = (BranchId, BranchId, u64, Says);
+pub type Letter = (BranchId, BranchId, u64, Says);
 
 /// The greatest SCN in a message of a test.
 const SCN_LIMIT: u64 = 1000;

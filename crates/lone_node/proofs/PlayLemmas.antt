@@ -1,10 +1,11 @@
--- A node of a test stays one: over a turn, a turn that is cut, and an order to its disk.
+-- A node of a test stays one: over a turn, a turn that is cut, and an order to its disk. Its disk can be started from once the
+-- power is on again.
 use Rattle.std.proofs.Common.{◌≡◌, ℕ, Bool, true, false, sym, subst}
-use Rattle.block_disk.specs.MemDisk.{DiskState}
+use Rattle.block_disk.specs.MemDisk.{DiskState, after_power_on}
 use Rattle.node_disk.specs.OnDisk.{disk_of, kept_of, place_of, IsRunning}
 use Rattle.node_disk.specs.Starts.{CanBeStarted}
 use Rattle.node_disk.specs.declared.node.Node.{Node}
-use Rattle.node_examples.specs.Played.{bytes_of, images_of, IsKeptWithin, IsAlone, IsInPlay}
+use Rattle.lone_node.specs.Played.{bytes_of, images_of, IsKeptWithin, IsAlone, IsInPlay}
 use Rattle.node_rules.specs.Data.{Place}
 use Rattle.node_rules.specs.Kept.{Kept}
 
@@ -33,3 +34,6 @@ armed up bound before after plays kept place running starts = record {
   alone = λ is. alone_armed bound before after (plays.alone is) kept place running starts;
   starts = starts plays.starts;
 }
+
+pub powered : (before after : DiskState) → after ≡ after_power_on before → CanBeStarted bytes_of images_of before → CanBeStarted bytes_of images_of after
+powered before after is starts = subst (λ (d : DiskState). CanBeStarted bytes_of images_of d) (sym is) (record { now = starts.now; crashed = starts.crashed })

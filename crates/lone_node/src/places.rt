@@ -1,6 +1,6 @@
 //! The nodes of the tests.
 ghost use Rattle.std.specs.Prelude.{IfSome};
-ghost use Rattle.node_examples.specs.Played.{IsSmallPlace};
+ghost use Rattle.lone_node.specs.Played.{IsSmallPlace};
 
 use dtx_values::{Listing, Name, Names};
 use redo_record::Place;
