@@ -148,7 +148,7 @@ pub(crate) fn makes(alloc: Global, place: Place) -> Option<Node<MemDisk>>
 }
 
 /// The node that starts from a disk with these records. None where memory runs out.
-#[tactic(auto, using(crate::proofs::StartLemmas::boots_few, crate::proofs::StartLemmas::started_alone))]
+#[tactic(auto, using(crate::proofs::StartLemmas::boots_few))]
 fn starts_from(
     alloc: Global,
     disk: MemDisk,

@@ -82,7 +82,7 @@ fn cut_of(err: TurnErr) -> Option<CutAt> {
 }
 
 /// A turn of a node that may take this.
-#[tactic(auto, using(crate::proofs::TurnLemmas::reads, crate::proofs::TurnLemmas::takes, crate::proofs::TurnLemmas::spellable, crate::proofs::TurnLemmas::still_alone))]
+#[tactic(auto, using(crate::proofs::TurnLemmas::reads))]
 fn turn(
     node: &mut Node<MemDisk>,
     bound: u64,
