@@ -1,5 +1,5 @@
 -- A node of a test starts from records with low numbers.
-use Rattle.std.proofs.Common.{◌≡◌, ℕ, zero, suc, ◌+◌, ◌^◌, ◌<◌, ◌≤◌, ◌&&◌, not, Bool, true, false, List, [], ◌∷◌, ◌++◌, length, replicate, refl, sym, subst, ◌∙◌, arith}
+use Rattle.std.proofs.Common.{◌≡◌, ℕ, zero, suc, ◌+◌, ◌^◌, ◌<◌, ◌≤◌, ◌&&◌, not, true, false, List, [], ◌∷◌, ◌++◌, replicate, sym, subst, arith}
 use Rattle.std.specs.Prelude.{nat_lt}
 use Rattle.std.specs.List.{AllByRecursion, list_all}
 use Rattle.std.proofs.lemmas.Bool.{and_parts}
@@ -9,7 +9,7 @@ use Rattle.fit_laws.specs.Bytes.{NamesTable, StartsKeepBytes}
 use Rattle.node_disk.specs.OnDisk.{disk_of, kept_of, place_of, IsRunning}
 use Rattle.node_disk.specs.Starts.{CanBeStarted, last_boot, next_boot}
 use Rattle.node_disk.specs.declared.node.Node.{Node}
-use Rattle.lone_node.specs.Played.{low_limit, bytes_of, images_of, IsKeptWithin, IsAlone, IsSmallPlace, decided_at, scn_in, boot_in, is_synonym, is_low, IsLow}
+use Rattle.lone_node.specs.Played.{low_limit, bytes_of, images_of, IsKeptWithin, IsAlone, IsSmallPlace, scn_in, boot_in, is_synonym, is_low, IsLow}
 use Rattle.node_rules.specs.Data.{RedoRecord, Place}
 use Rattle.node_rules.specs.Data.decisions
 use Rattle.node_rules.specs.Data.params

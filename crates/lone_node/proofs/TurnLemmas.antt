@@ -1,6 +1,6 @@
 -- A node of a test can take what comes, and can take turns after it.
-use Rattle.std.proofs.Common.{◌≡◌, ℕ, ◌+◌, ◌-◌, ◌^◌, ◌<◌, ◌≤◌, Bool, true, false, List, [], ◌∷◌, length, max, option_map, Option, Some, None, refl, sym, ap, subst, ◌∙◌, arith}
-use Rattle.std.specs.Prelude.{IfSome, IsTrue, is_some}
+use Rattle.std.proofs.Common.{◌≡◌, ℕ, ◌+◌, ◌-◌, ◌^◌, ◌<◌, ◌≤◌, Bool, true, List, [], ◌∷◌, length, max, option_map, Option, Some, None, refl, sym, ap, subst, ◌∙◌, arith}
+use Rattle.std.specs.Prelude.{IfSome}
 use Rattle.std.specs.List.{AllByRecursion, list_all}
 use Rattle.std.proofs.lemmas.Bool.{and_parts}
 use Rattle.block_disk.specs.MemDisk.{DiskState}
@@ -17,7 +17,7 @@ use Rattle.node_disk.specs.declared.effects.Effects.{Effects}
 use Rattle.node_disk.specs.declared.incoming.Incoming.{Incoming}
 use Rattle.node_disk.specs.declared.incoming.Incoming.TheVariants as comings
 use Rattle.node_disk.specs.declared.node.Node.{Node}
-use Rattle.lone_node.specs.Played.{low_limit, IsSaid, IsPlayed, is_prepare, IsCalled, IsComing, is_commit, commits, is_working_phase, works, has_parent, IsWorking, HasParent, Meets, bytes_of, images_of, IsKeptWithin, IsAlone}
+use Rattle.lone_node.specs.Played.{low_limit, IsPlayed, is_prepare, IsCalled, IsComing, is_commit, commits, is_working_phase, works, has_parent, IsWorking, HasParent, Meets, bytes_of, images_of, IsKeptWithin, IsAlone}
 use Rattle.node_rules.specs.Data.{Stmt, Answer, BranchId, Phase, Live, Kind, Msg, Place, Input}
 use Rattle.node_rules.specs.Data.answers
 use Rattle.node_rules.specs.Data.inputs
@@ -27,12 +27,12 @@ use Rattle.node_rules.specs.Data.stmts
 use Rattle.node_rules.specs.declared.session.Session.{Session}
 use Rattle.node_rules.specs.declared.work.Work.{Work}
 use Rattle.node_rules.specs.Client.{root_by}
-use Rattle.node_rules.specs.Inputs.{IsSession, Came}
+use Rattle.node_rules.specs.Inputs.{IsSession}
 use Rattle.node_rules.specs.Kept.{Kept, Outcome, live_id, live_at, with_work}
 use Rattle.node_rules.specs.Sessions.{session_at}
 use Rattle.node_rules.specs.Turn.{kind_scn, turn_of}
 use Rattle.ready_laws.specs.Names.{MakesNamed}
-use Rattle.ready_laws.specs.Ready.{IsReady, IsExpected, IsWithin, BringsWithin, NumbersStayWithin}
+use Rattle.ready_laws.specs.Ready.{IsReady, IsExpected, BringsWithin, NumbersStayWithin}
 use Rattle.ready_laws.specs.Rows.{MakesWhole}
 use Rattle.ready_laws.proofs.ListLemmas.{all_found, all_weaker}
 use Rattle.sql_statement.specs.Whole.{IsWhole}

@@ -8,7 +8,6 @@ use Rattle.fit_laws.specs.Bytes.{HasBytes, KeepsBytes, NamesTable}
 use Rattle.msg_codec.specs.Fits.{KindFits}
 use Rattle.msg_codec.specs.Message.{message_of}
 use Rattle.node_rules.specs.Data.{Stmt, Answer, Decision, RedoRecord, Phase, Live, Kind, Msg, Place}
-use Rattle.node_rules.specs.Data.answers
 use Rattle.node_rules.specs.Data.decisions
 use Rattle.node_rules.specs.Data.kinds
 use Rattle.node_rules.specs.Data.phases
