@@ -47,19 +47,26 @@ const COMMIT_GONE: Step = (
     &[],
 );
 
+/// HQ until it is prepared.
+const PREPARED: &[&[Step]] = &[&AT_HQ, &[PREPARE_HQ]];
+
+/// The commit comes.
+const COMMITS: &[&[Step]] = &[&DOUBT, &[COMMIT_HQ, ROW_AT_HQ, FORGET_HQ, ROW_AT_HQ]];
+
+/// The rollback comes.
+const ROLLS_BACK: &[&[Step]] = &[&DOUBT, &[ROLL_BACK_HQ, NO_ROW_AT_HQ, COMMIT_GONE]];
+
 /// The first of these turns that is not as expected where HQ is prepared, stops and starts.
 fn first_other_in_doubt(alloc: Global, parts: &[&[Step]]) -> Option<Turn> {
-    play_out(alloc, restarted(alloc, 3, &[&AT_HQ, &[PREPARE_HQ]]), parts)
+    play_out(alloc, restarted(alloc, 3, PREPARED), parts)
 }
 
 #[test]
 fn a_branch_is_in_doubt_after_a_start_until_its_commit_comes(rt: HostRuntime) {
-    let parts: [&[Step]; 2] = [&DOUBT, &[COMMIT_HQ, ROW_AT_HQ, FORGET_HQ, ROW_AT_HQ]];
-    assert!(rt; first_other_in_doubt(rt.alloc(), &parts) == None);
+    assert!(rt; first_other_in_doubt(rt.alloc(), COMMITS) == None);
 }
 
 #[test]
 fn a_branch_is_in_doubt_after_a_start_until_its_rollback_comes(rt: HostRuntime) {
-    let parts: [&[Step]; 2] = [&DOUBT, &[ROLL_BACK_HQ, NO_ROW_AT_HQ, COMMIT_GONE]];
-    assert!(rt; first_other_in_doubt(rt.alloc(), &parts) == None);
+    assert!(rt; first_other_in_doubt(rt.alloc(), ROLLS_BACK) == None);
 }

@@ -49,6 +49,43 @@ const PURGE_MIXED: Step = (
     &[b"PL/SQL procedure successfully completed."],
 );
 
+/// HQ is prepared, rolls back by force, and learns of the commit.
+const ROLLBACK_MEETS_COMMIT: &[&[Step]] = &[
+    &AT_HQ,
+    &[PREPARE_HQ, ROLLBACK_FORCE, FORCE_NOBODY, NO_ROW_AT_HQ],
+    &[MEET_COMMIT_MIXED, NO_ROW_AT_HQ],
+];
+
+/// It commits by force, and learns of the rollback.
+const COMMIT_MEETS_ROLLBACK: &[&[Step]] = &[
+    &AT_HQ,
+    &[PREPARE_HQ, COMMIT_FORCE, FORCE_NOBODY, ROW_AT_HQ],
+    &[MEET_ROLLBACK_MIXED, ROW_AT_HQ],
+];
+
+/// It commits by force, and learns of the commit.
+const COMMIT_MEETS_COMMIT: &[&[Step]] = &[
+    &AT_HQ,
+    &[PREPARE_HQ, COMMIT_FORCE, MEET_COMMIT, ROW_AT_HQ],
+];
+
+/// It rolls back by force, and learns of the rollback.
+const ROLLBACK_MEETS_ROLLBACK: &[&[Step]] = &[
+    &AT_HQ,
+    &[PREPARE_HQ, ROLLBACK_FORCE, MEET_ROLLBACK, NO_ROW_AT_HQ],
+];
+
+/// It rolls back by force.
+const ROLLED_BACK_BY_FORCE: &[&[Step]] = &[&AT_HQ, &[PREPARE_HQ, ROLLBACK_FORCE]];
+
+/// It learns of the commit after a start.
+const COMMIT_COMES_LATE: &[&[Step]] = &[&[
+    NO_ROW_AT_HQ,
+    MEET_COMMIT_MIXED,
+    NO_ROW_AT_HQ,
+    PURGE_MIXED,
+]];
+
 /// Whether the one row that the node keeps is marked as mixed; none where it does not keep one.
 fn is_mixed(node: &LoneNode) -> Option<bool> {
     match node.kept() {
@@ -57,9 +94,9 @@ fn is_mixed(node: &LoneNode) -> Option<bool> {
     }
 }
 
-/// The same before a start and after it, where HQ is prepared and goes through these turns. None where one is not as expected.
-fn mixed_after(alloc: Global, steps: &[Step]) -> Option<(Option<bool>, Option<bool>)> {
-    let node = played(alloc, 3, &[&AT_HQ, &[PREPARE_HQ], steps])?;
+/// The same before a start and after it, where HQ goes through these turns. None where one is not as expected.
+fn mixed_after(alloc: Global, parts: &[&[Step]]) -> Option<(Option<bool>, Option<bool>)> {
+    let node = played(alloc, 3, parts)?;
     let before = is_mixed(&node);
     let node = node.restart(alloc)?;
     let after = is_mixed(&node);
@@ -69,44 +106,30 @@ fn mixed_after(alloc: Global, steps: &[Step]) -> Option<(Option<bool>, Option<bo
 
 #[test]
 fn a_forced_rollback_that_meets_a_commit_is_mixed(rt: HostRuntime) {
-    let steps = [
-        ROLLBACK_FORCE,
-        FORCE_NOBODY,
-        NO_ROW_AT_HQ,
-        MEET_COMMIT_MIXED,
-        NO_ROW_AT_HQ,
-    ];
-    assert!(rt; mixed_after(rt.alloc(), &steps) == Some((Some(true), Some(true))));
+    assert!(rt; mixed_after(rt.alloc(), ROLLBACK_MEETS_COMMIT) == Some((Some(true), Some(true))));
 }
 
 #[test]
 fn a_forced_commit_that_meets_a_rollback_is_mixed(rt: HostRuntime) {
-    let steps = [
-        COMMIT_FORCE,
-        FORCE_NOBODY,
-        ROW_AT_HQ,
-        MEET_ROLLBACK_MIXED,
-        ROW_AT_HQ,
-    ];
-    assert!(rt; mixed_after(rt.alloc(), &steps) == Some((Some(true), Some(true))));
+    assert!(rt; mixed_after(rt.alloc(), COMMIT_MEETS_ROLLBACK) == Some((Some(true), Some(true))));
 }
 
 #[test]
 fn a_forced_outcome_that_meets_its_like_is_not_mixed(rt: HostRuntime) {
-    let commits = [COMMIT_FORCE, MEET_COMMIT, ROW_AT_HQ];
-    assert!(rt; mixed_after(rt.alloc(), &commits) == Some((Some(false), Some(false))));
-    let rolls_back = [ROLLBACK_FORCE, MEET_ROLLBACK, NO_ROW_AT_HQ];
-    assert!(rt; mixed_after(rt.alloc(), &rolls_back) == Some((None, None)));
+    assert!(rt; mixed_after(rt.alloc(), COMMIT_MEETS_COMMIT) == Some((Some(false), Some(false))));
+    assert!(rt; mixed_after(rt.alloc(), ROLLBACK_MEETS_ROLLBACK) == Some((None, None)));
 }
 
-/// The first of these turns that is not as expected where HQ starts after a forced rollback.
-fn first_other_when_forced(alloc: Global, steps: &[Step]) -> Option<Turn> {
-    let parts: [&[Step]; 2] = [&AT_HQ, &[PREPARE_HQ, ROLLBACK_FORCE]];
-    play_out(alloc, restarted(alloc, 3, &parts), &[steps])
+/// The first of those last turns that is not as expected.
+fn first_other_when_forced(alloc: Global) -> Option<Turn> {
+    play_out(
+        alloc,
+        restarted(alloc, 3, ROLLED_BACK_BY_FORCE),
+        COMMIT_COMES_LATE,
+    )
 }
 
 #[test]
 fn a_forced_outcome_is_known_after_a_start(rt: HostRuntime) {
-    let steps = [NO_ROW_AT_HQ, MEET_COMMIT_MIXED, NO_ROW_AT_HQ, PURGE_MIXED];
-    assert!(rt; first_other_when_forced(rt.alloc(), &steps) == None);
+    assert!(rt; first_other_when_forced(rt.alloc()) == None);
 }

@@ -8,7 +8,7 @@ use std::alloc::Global;
 type Refused = (&'static [u8], &'static [u8]);
 
 /// Beside a branch in doubt with the key 1, committed rows with the keys 3 and 5, and changes of session 2 at the keys 2 and 5.
-const REFUSED: [Refused; 25] = [
+const REFUSED: &[Refused] = &[
     (b"SELEKT", b"ORA-00900: invalid SQL statement"),
     (
         b"SELECT * FROM LEDGER@HQ",
@@ -109,48 +109,51 @@ const REFUSED: [Refused; 25] = [
 ];
 
 /// Rows of session 1 that are committed, changes of session 2 that are not, and another table, beside the branch in doubt.
-const BEFORE: [Step; 7] = [
-    PREPARE_HQ,
-    (
-        Comes::Call(1, b"CREATE TABLE NOTES (K VARCHAR2(2) PRIMARY KEY)"),
-        Wrote::Made,
-        &[],
-        &[b"Table created."],
-    ),
-    (
-        Comes::Call(1, b"INSERT INTO LEDGER VALUES (3, 7)"),
-        Wrote::Nothing,
-        &[],
-        &[b"1 row created."],
-    ),
-    (
-        Comes::Call(1, b"INSERT INTO LEDGER VALUES (5, 7)"),
-        Wrote::Nothing,
-        &[],
-        &[b"1 row created."],
-    ),
-    (
-        Comes::Call(1, b"COMMIT"),
-        Wrote::Decided(2, 2),
-        &[],
-        &[b"Commit complete."],
-    ),
-    (
-        Comes::Call(2, b"INSERT INTO LEDGER VALUES (2, 7)"),
-        Wrote::Nothing,
-        &[],
-        &[b"1 row created."],
-    ),
-    (
-        Comes::Call(2, b"UPDATE LEDGER SET AMOUNT = 8 WHERE ID = 5"),
-        Wrote::Nothing,
-        &[],
-        &[b"1 row updated."],
-    ),
+const BEFORE: &[&[Step]] = &[
+    &AT_HQ,
+    &[
+        PREPARE_HQ,
+        (
+            Comes::Call(1, b"CREATE TABLE NOTES (K VARCHAR2(2) PRIMARY KEY)"),
+            Wrote::Made,
+            &[],
+            &[b"Table created."],
+        ),
+        (
+            Comes::Call(1, b"INSERT INTO LEDGER VALUES (3, 7)"),
+            Wrote::Nothing,
+            &[],
+            &[b"1 row created."],
+        ),
+        (
+            Comes::Call(1, b"INSERT INTO LEDGER VALUES (5, 7)"),
+            Wrote::Nothing,
+            &[],
+            &[b"1 row created."],
+        ),
+        (
+            Comes::Call(1, b"COMMIT"),
+            Wrote::Decided(2, 2),
+            &[],
+            &[b"Commit complete."],
+        ),
+        (
+            Comes::Call(2, b"INSERT INTO LEDGER VALUES (2, 7)"),
+            Wrote::Nothing,
+            &[],
+            &[b"1 row created."],
+        ),
+        (
+            Comes::Call(2, b"UPDATE LEDGER SET AMOUNT = 8 WHERE ID = 5"),
+            Wrote::Nothing,
+            &[],
+            &[b"1 row updated."],
+        ),
+    ],
 ];
 
 /// What session 3 finds: no row is changed, and none is locked.
-const AFTER: [Step; 4] = [
+const AFTER: &[&[Step]] = &[&[
     (
         Comes::Call(3, b"SELECT * FROM LEDGER WHERE ID = 3"),
         Wrote::Nothing,
@@ -175,7 +178,7 @@ const AFTER: [Step; 4] = [
         &[],
         &[b"1 row created."],
     ),
-];
+]];
 
 /// Whether a statement is refused with its line, and changes no byte of the disk. None where memory runs out.
 fn is_refused(alloc: Global, node: &mut LoneNode, refused: &Refused) -> Option<bool> {
@@ -197,9 +200,9 @@ fn first_unrefused(alloc: Global, node: &mut LoneNode) -> Option<usize> {
 
 /// The number of the first statement that is not refused as it should be, and the first turn after them that is not as expected.
 fn first_others(alloc: Global) -> Option<(Option<usize>, Option<Turn>)> {
-    let mut node = played(alloc, 3, &[&AT_HQ, &BEFORE])?;
+    let mut node = played(alloc, 3, BEFORE)?;
     let unrefused = first_unrefused(alloc, &mut node);
-    let other = node.play(alloc, &[&AFTER]);
+    let other = node.play(alloc, AFTER);
     node.end();
     Some((unrefused, other))
 }
