@@ -25,7 +25,7 @@ struct Reach {
     /// Where the turn is cut.
     at: CutAt,
     /// The turns after a start.
-    after: &'static [Step],
+    after: &'static [&'static [Step]],
 }
 
 /// Each point of the order at a node that reaches it.
@@ -36,7 +36,7 @@ const REACHES: &[Reach] = &[
         before: &[&AT_WAREHOUSE],
         turn: READY,
         at: CutAt::BeforeRecord,
-        after: &[OLD_ROW_AT_WAREHOUSE],
+        after: &[&[OLD_ROW_AT_WAREHOUSE]],
     },
     Reach {
         point: 2,
@@ -44,7 +44,7 @@ const REACHES: &[Reach] = &[
         before: &[&AT_HQ],
         turn: PREPARE_HQ,
         at: CutAt::BeforeRecord,
-        after: &[NO_ROW_AT_HQ],
+        after: &[&[NO_ROW_AT_HQ]],
     },
     Reach {
         point: 3,
@@ -52,7 +52,7 @@ const REACHES: &[Reach] = &[
         before: &[&AT_HQ],
         turn: PREPARE_HQ,
         at: CutAt::BeforeRecord,
-        after: &[NO_ROW_AT_HQ],
+        after: &[&[NO_ROW_AT_HQ]],
     },
     Reach {
         point: 4,
@@ -60,7 +60,7 @@ const REACHES: &[Reach] = &[
         before: &[&AT_HQ],
         turn: PREPARE_HQ,
         at: CutAt::AfterRecord,
-        after: &[KEY_IN_DOUBT, COMMIT_HQ, ROW_AT_HQ],
+        after: &[&[KEY_IN_DOUBT, COMMIT_HQ, ROW_AT_HQ]],
     },
     Reach {
         point: 2,
@@ -68,7 +68,7 @@ const REACHES: &[Reach] = &[
         before: &[&AT_SALES, &COLLECT],
         turn: PASS,
         at: CutAt::BeforeRecord,
-        after: &[NO_ROW_AT_SALES],
+        after: &[&[NO_ROW_AT_SALES]],
     },
     Reach {
         point: 3,
@@ -76,7 +76,7 @@ const REACHES: &[Reach] = &[
         before: &[&AT_SALES, &COLLECT],
         turn: PASS,
         at: CutAt::BeforeRecord,
-        after: &[NO_ROW_AT_SALES],
+        after: &[&[NO_ROW_AT_SALES]],
     },
     Reach {
         point: 4,
@@ -84,7 +84,7 @@ const REACHES: &[Reach] = &[
         before: &[&AT_SALES, &COLLECT],
         turn: PASS,
         at: CutAt::AfterRecord,
-        after: &[KEY_IN_DOUBT_AT_SALES, LEARN],
+        after: &[&[KEY_IN_DOUBT_AT_SALES, LEARN]],
     },
     Reach {
         point: 5,
@@ -92,7 +92,7 @@ const REACHES: &[Reach] = &[
         before: &[&AT_WAREHOUSE, &[READY]],
         turn: DECIDE,
         at: CutAt::BeforeRecord,
-        after: &[OLD_ROW_AT_WAREHOUSE],
+        after: &[&[OLD_ROW_AT_WAREHOUSE]],
     },
     Reach {
         point: 6,
@@ -100,7 +100,7 @@ const REACHES: &[Reach] = &[
         before: &[&AT_WAREHOUSE, &[READY]],
         turn: DECIDE,
         at: CutAt::AfterRecord,
-        after: &[ROW_AT_WAREHOUSE, FORGET_WAREHOUSE],
+        after: &[&[ROW_AT_WAREHOUSE, FORGET_WAREHOUSE]],
     },
     Reach {
         point: 7,
@@ -108,7 +108,7 @@ const REACHES: &[Reach] = &[
         before: &[&AT_HQ, &[PREPARE_HQ]],
         turn: COMMIT_HQ,
         at: CutAt::BeforeRecord,
-        after: &[KEY_IN_DOUBT, COMMIT_HQ, ROW_AT_HQ],
+        after: &[&[KEY_IN_DOUBT, COMMIT_HQ, ROW_AT_HQ]],
     },
     Reach {
         point: 8,
@@ -116,7 +116,7 @@ const REACHES: &[Reach] = &[
         before: &[&AT_HQ, &[PREPARE_HQ]],
         turn: COMMIT_HQ,
         at: CutAt::AfterRecord,
-        after: &[ROW_AT_HQ, FORGET_HQ],
+        after: &[&[ROW_AT_HQ, FORGET_HQ]],
     },
     Reach {
         point: 9,
@@ -124,7 +124,7 @@ const REACHES: &[Reach] = &[
         before: &[&AT_WAREHOUSE, &[READY, DECIDE]],
         turn: FORGET_WAREHOUSE,
         at: CutAt::BeforeRecord,
-        after: &[ROW_AT_WAREHOUSE, FORGET_WAREHOUSE],
+        after: &[&[ROW_AT_WAREHOUSE, FORGET_WAREHOUSE]],
     },
     Reach {
         point: 10,
@@ -132,7 +132,7 @@ const REACHES: &[Reach] = &[
         before: &[&AT_HQ, &[PREPARE_HQ, COMMIT_HQ]],
         turn: FORGET_HQ,
         at: CutAt::BeforeRecord,
-        after: &[ROW_AT_HQ, FORGET_HQ],
+        after: &[&[ROW_AT_HQ, FORGET_HQ]],
     },
     Reach {
         point: 7,
@@ -140,7 +140,7 @@ const REACHES: &[Reach] = &[
         before: &[&AT_SALES, &COLLECT, &[PASS]],
         turn: LEARN,
         at: CutAt::BeforeRecord,
-        after: &[KEY_IN_DOUBT_AT_SALES, LEARN],
+        after: &[&[KEY_IN_DOUBT_AT_SALES, LEARN]],
     },
 ];
 

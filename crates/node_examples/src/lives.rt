@@ -31,9 +31,9 @@ pub(crate) fn restarted(alloc: Global, number: u8, parts: &[&[Step]]) -> Option<
 }
 
 /// Whether a node whose turn was cut as it should be starts again, and goes on with these turns.
-pub(crate) fn goes_on(alloc: Global, node: LoneNode, is_cut: bool, steps: &[Step]) -> bool {
+pub(crate) fn goes_on(alloc: Global, node: LoneNode, is_cut: bool, parts: &[&[Step]]) -> bool {
     if is_cut {
-        play_out(alloc, node.restart(alloc), &[steps]).is_none()
+        play_out(alloc, node.restart(alloc), parts).is_none()
     } else {
         node.end();
         false

@@ -17,9 +17,9 @@ struct Strike {
     before: &'static [&'static [Step]],
     struck: Step,
     /// The turns after a start from a disk on which the record stands.
-    stands: &'static [Step],
+    stands: &'static [&'static [Step]],
     /// The turns after one from a disk without it.
-    lacks: &'static [Step],
+    lacks: &'static [&'static [Step]],
 }
 
 /// The record by which HQ is prepared.
@@ -27,8 +27,8 @@ const SEAL: &Strike = &Strike {
     number: 3,
     before: &[&AT_HQ],
     struck: PREPARE_HQ,
-    stands: &[KEY_IN_DOUBT, COMMIT_HQ, ROW_AT_HQ],
-    lacks: &[
+    stands: &[&[KEY_IN_DOUBT, COMMIT_HQ, ROW_AT_HQ]],
+    lacks: &[&[
         (
             Comes::Message((ROOT, LEDGER, 1, Says::Prepare { site_below: false })),
             Wrote::Nothing,
@@ -36,7 +36,7 @@ const SEAL: &Strike = &Strike {
             &[],
         ),
         NO_ROW_AT_HQ,
-    ],
+    ]],
 };
 
 /// The record by which WAREHOUSE decides.
@@ -44,7 +44,7 @@ const DECISION: &Strike = &Strike {
     number: 2,
     before: &[&AT_WAREHOUSE, &[READY]],
     struck: DECIDE,
-    stands: &[
+    stands: &[&[
         ROW_AT_WAREHOUSE,
         (
             Comes::Message((ROOT, STOCK, 1, Says::Ask)),
@@ -53,8 +53,8 @@ const DECISION: &Strike = &Strike {
             &[],
         ),
         FORGET_WAREHOUSE,
-    ],
-    lacks: &[
+    ]],
+    lacks: &[&[
         OLD_ROW_AT_WAREHOUSE,
         (
             Comes::Message((ROOT, STOCK, 1, Says::Ask)),
@@ -62,7 +62,7 @@ const DECISION: &Strike = &Strike {
             &[(STOCK, ROOT, 1, Says::RolledBack)],
             &[],
         ),
-    ],
+    ]],
 };
 
 /// Whether the node is cut in the append of its record, once its disk has the order.
@@ -76,7 +76,7 @@ fn goes_on_after(alloc: Global, strike: &Strike, order: Order, stands: bool) -> 
     match played(alloc, strike.number, strike.before) {
         Some(mut node) => {
             let is_struck = is_struck(alloc, &mut node, strike, order);
-            goes_on(alloc, node, is_struck, steps_after(strike, stands))
+            goes_on(alloc, node, is_struck, parts_after(strike, stands))
         }
         None => {
             drop(order);
@@ -86,7 +86,7 @@ fn goes_on_after(alloc: Global, strike: &Strike, order: Order, stands: bool) -> 
 }
 
 /// The turns after a start, where the record stands or does not.
-fn steps_after(strike: &Strike, stands: bool) -> &'static [Step] {
+fn parts_after(strike: &Strike, stands: bool) -> &'static [&'static [Step]] {
     if stands { strike.stands } else { strike.lacks }
 }
 
