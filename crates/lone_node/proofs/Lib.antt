@@ -1,0 +1,4 @@
+mod SaidLemmas
+mod TurnLemmas
+mod StartLemmas
+mod PlayLemmas
