@@ -35,14 +35,19 @@ impl Model for Call {
 impl Duplicate for Call {
     fn copy(&self, alloc: Global) -> Result<Call, AllocError> {
         let statement = self.statement.copy(alloc)?;
-        let follows = self.follows.copy(alloc)?;
-        Ok(Call {
-            command: self.command,
-            node: self.node,
-            session: self.session,
-            statement,
-            follows,
-        })
+        match self.follows.copy(alloc) {
+            Err(error) => {
+                drop(statement);
+                Err(error)
+            }
+            Ok(follows) => Ok(Call {
+                command: self.command,
+                node: self.node,
+                session: self.session,
+                statement,
+                follows,
+            }),
+        }
     }
 }
 
