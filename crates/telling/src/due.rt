@@ -236,7 +236,7 @@ fn delivery(k: u64, again: bool) -> Due
 fn if_due(test: bool, due: Due) -> Option<Due>
     ensures { option_map due_as result ≡ if_due_of test (due_as due) }
 {
-    if test { Some(due) } else { None }
+    test.then_some(due)
 }
 
 fn most_of(command: &Command) -> u32

@@ -9,6 +9,7 @@ use book::{AnswerLine, Said};
 use dtx_values::Notice;
 use node_rules::{Ended, Finished};
 use std::alloc::{AllocError, Global};
+use std::mem;
 use telling_parts::{
     Call, Ending, Point, call_at, change_calls, drop_call, ending_of, is_running, point_reached,
     reached_of,
@@ -86,7 +87,7 @@ impl Telling {
         ensures before { self.new.lines ≡ self.old.lines }
     {
         let changed = change_calls(&mut self.calls, alloc, &second);
-        self.next_call = Some(second);
+        drop(mem::replace(&mut self.next_call, Some(second)));
         changed
     }
 
@@ -101,8 +102,13 @@ impl Telling {
         ensures tells { OnOk result (self.new ≡ finished_call running self.old done (call_of self.old node done.session)) }
         ensures before { self.new.lines ≡ self.old.lines }
     {
-        let ending = ending_of(alloc, &done, call_at(&self.calls, node, done.session))?;
-        self.end_by(alloc, running, done, ending)
+        match ending_of(alloc, &done, call_at(&self.calls, node, done.session)) {
+            Err(error) => {
+                drop(done);
+                Err(error)
+            }
+            Ok(ending) => self.end_by(alloc, running, done, ending),
+        }
     }
 
     fn end_by(
@@ -116,7 +122,10 @@ impl Telling {
         ensures before { self.new.lines ≡ self.old.lines }
     {
         match ending {
-            Ending::NoCall => Ok(()),
+            Ending::NoCall => {
+                drop(done);
+                Ok(())
+            }
             Ending::Ends {
                 node,
                 session,
@@ -125,7 +134,10 @@ impl Telling {
                 let said = Said::Node(done.answer);
                 self.close(alloc, running, node, session, command, said)
             }
-            Ending::Follows(second) => self.follow(alloc, second),
+            Ending::Follows(second) => {
+                drop(done);
+                self.follow(alloc, second)
+            }
         }
     }
 

@@ -168,7 +168,7 @@ impl Telling {
         ensures before { self.new.lines ≡ self.old.lines }
     {
         if is_call(input) {
-            self.next_call = None;
+            drop(self.next_call.take());
         }
     }
 }
