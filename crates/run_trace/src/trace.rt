@@ -157,9 +157,16 @@ impl Trace {
         ensures err { OnErr result (self.new ≡ self.old) }
         ensures extends { Extends self.old self.new }
     {
-        make_room(alloc, &mut self.happenings, &mut self.book, &happening)?;
-        add(&mut self.happenings, happening);
-        Ok(())
+        match make_room(alloc, &mut self.happenings, &mut self.book, &happening) {
+            Err(error) => {
+                drop(happening);
+                Err(error)
+            }
+            Ok(()) => {
+                add(&mut self.happenings, happening);
+                Ok(())
+            }
+        }
     }
 
     /// Each happening was the one that was due after those before it, and there are not too many.
