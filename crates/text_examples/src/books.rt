@@ -109,12 +109,11 @@ fn put_commit(alloc: Global, book: &mut Vec<Entry>) -> Result<(), NameErr> {
     Ok(())
 }
 
-fn order_book(alloc: Global) -> Result<Vec<Entry>, NameErr> {
-    let mut book = Vec::new(alloc);
-    put_goods(alloc, &mut book)?;
-    put_order(alloc, &mut book)?;
-    put_commit(alloc, &mut book)?;
-    Ok(book)
+/// Puts all entries of the order.
+fn put_all(alloc: Global, book: &mut Vec<Entry>) -> Result<(), NameErr> {
+    put_goods(alloc, book)?;
+    put_order(alloc, book)?;
+    put_commit(alloc, book)
 }
 
 /// Whether a book is printed as this text, of so many lines.
@@ -126,8 +125,13 @@ fn is_book(alloc: Global, book: &[Entry], text: &str, count: usize) -> Result<bo
 
 /// Whether the book of the order is printed as it is to be.
 fn is_order_printed(alloc: Global) -> Result<bool, NameErr> {
-    let book = order_book(alloc)?;
-    is_book(alloc, &book, TEXT, 9)
+    let mut book = Vec::new(alloc);
+    let is = match put_all(alloc, &mut book) {
+        Ok(()) => is_book(alloc, &book, TEXT, 9),
+        Err(error) => Err(error),
+    };
+    drop(book);
+    is
 }
 
 #[test]
@@ -143,29 +147,49 @@ fn is_printed(alloc: Global, entry: &Entry, due: &[u8]) -> Result<bool, NameErr>
     Ok(text.as_slice() == due)
 }
 
-#[test]
-fn a_forced_outcome_is_printed(rt: HostRuntime) {
+/// Whether this outcome, which was forced upon the branch of HQ, is printed so.
+fn is_forced_printed(alloc: Global, outcome: Decision, due: &[u8]) -> Result<bool, NameErr> {
     let forced = Entry::Forced {
         branch: branch(HQ, 65),
-        outcome: Decision::Rollback,
+        outcome,
     };
-    assert!(rt; is_printed(rt.alloc(), &forced, b"forced HQ 1.65.1 rollback") == Ok(true));
+    let is = is_printed(alloc, &forced, due);
+    drop(forced);
+    is
+}
+
+#[test]
+fn a_forced_outcome_is_printed(rt: HostRuntime) {
+    let due = b"forced HQ 1.65.1 rollback";
+    assert!(rt; is_forced_printed(rt.alloc(), Decision::Rollback, due) == Ok(true));
+}
+
+/// Whether this decision, which the branch of HQ met after another outcome, is printed so.
+fn is_met_printed(alloc: Global, decision: Decision, due: &[u8]) -> Result<bool, NameErr> {
+    let met = Entry::Met {
+        branch: branch(HQ, 65),
+        decision,
+        mixed: true,
+    };
+    let is = is_printed(alloc, &met, due);
+    drop(met);
+    is
 }
 
 #[test]
 fn a_met_decision_is_printed(rt: HostRuntime) {
-    let met = Entry::Met {
-        branch: branch(HQ, 65),
-        decision: Decision::Commit(2),
-        mixed: true,
-    };
     let due = b"met HQ 1.65.1 commit scn 2 mixed yes";
-    assert!(rt; is_printed(rt.alloc(), &met, due) == Ok(true));
+    assert!(rt; is_met_printed(rt.alloc(), Decision::Commit(2), due) == Ok(true));
 }
 
-/// How many entries a turn of HQ has.
-fn entry_count(alloc: Global, wrote: &Option<RedoRecord>) -> Result<usize, AllocError> {
-    Ok(entries(alloc, HQ, wrote)?.len())
+/// How many entries a turn of HQ has in which it wrote this record, or none.
+fn entry_count(alloc: Global, wrote: Option<RedoRecord>) -> Result<usize, AllocError> {
+    let entries = entries(alloc, HQ, &wrote);
+    drop(wrote);
+    let entries = entries?;
+    let count = entries.len();
+    drop(entries);
+    Ok(count)
 }
 
 /// How many entries a turn of HQ has in which its branch is rolled back.
@@ -174,17 +198,17 @@ fn ended_count(alloc: Global) -> Result<usize, AllocError> {
         me: branch(HQ, 65),
         decision: Decision::Rollback,
     };
-    entry_count(alloc, &Some(ended))
+    entry_count(alloc, Some(ended))
 }
 
 /// How many entries a turn of HQ has in which its branch is forgotten.
 fn forgotten_count(alloc: Global) -> Result<usize, AllocError> {
-    entry_count(alloc, &Some(RedoRecord::Forgot(branch(HQ, 65))))
+    entry_count(alloc, Some(RedoRecord::Forgot(branch(HQ, 65))))
 }
 
 #[test]
 fn a_turn_has_the_entry_of_its_outcome(rt: HostRuntime) {
-    assert!(rt; entry_count(rt.alloc(), &None) == Ok(0));
+    assert!(rt; entry_count(rt.alloc(), None) == Ok(0));
     assert!(rt; forgotten_count(rt.alloc()) == Ok(0));
     assert!(rt; ended_count(rt.alloc()) == Ok(1));
 }

@@ -23,8 +23,10 @@ fn text_of(alloc: Global, lines: &[Bytes]) -> Result<Vec<u8>, AllocError> {
 
 fn says(alloc: Global, code: u16, args: &[&[u8]], due: &[u8]) -> Result<bool, AllocError> {
     let args = texts(alloc, args)?;
-    let text = refusal_text(alloc, &Refusal { code, args })?;
-    Ok(text.as_slice() == due)
+    let refusal = Refusal { code, args };
+    let text = refusal_text(alloc, &refusal);
+    drop(refusal);
+    Ok(text?.as_slice() == due)
 }
 
 /// Refusals by their codes and arguments, each with its text.
@@ -63,14 +65,19 @@ fn refusals_are_written(rt: HostRuntime) {
     }
 }
 
-/// Rows with these numbers in the column ID, and NULL in the column GOODS.
-fn found(alloc: Global, ids: &[i64]) -> Result<Answer, AllocError> {
-    let heads = texts(alloc, &[b"ID", b"GOODS"])?;
+/// Rows with these numbers in their first cells, and NULL in the second.
+fn rows_of(alloc: Global, ids: &[i64]) -> Result<Listing<Row>, AllocError> {
     let mut rows = Vec::new(alloc);
     for id in ids {
         rows.push(a_row(alloc, *id)?)?;
     }
-    let rows = Listing::of(rows);
+    Ok(Listing::of(rows))
+}
+
+/// Rows with these numbers in the column ID, and NULL in the column GOODS.
+fn found(alloc: Global, ids: &[i64]) -> Result<Answer, AllocError> {
+    let heads = texts(alloc, &[b"ID", b"GOODS"])?;
+    let rows = rows_of(alloc, ids)?;
     Ok(Answer::Found(RowSet { heads, rows }))
 }
 
@@ -79,15 +86,21 @@ fn a_row(alloc: Global, id: i64) -> Result<Row, AllocError> {
     Ok(Row { cells })
 }
 
-fn tells(alloc: Global, answer: &Answer, due: &[u8]) -> Result<bool, AllocError> {
-    let lines = answer_lines(alloc, answer)?;
-    Ok(text_of(alloc, &lines)?.as_slice() == due)
+/// Whether these lines, each with its end, are this text.
+fn are(alloc: Global, lines: &[Bytes], due: &[u8]) -> Result<bool, AllocError> {
+    Ok(text_of(alloc, lines)?.as_slice() == due)
+}
+
+/// Whether the answer is written as this text.
+fn tells(alloc: Global, answer: Answer, due: &[u8]) -> Result<bool, AllocError> {
+    let lines = answer_lines(alloc, &answer);
+    drop(answer);
+    are(alloc, &lines?, due)
 }
 
 /// Whether such rows are written as this text.
 fn tells_found(alloc: Global, ids: &[i64], due: &[u8]) -> Result<bool, AllocError> {
-    let answer = found(alloc, ids)?;
-    tells(alloc, &answer, due)
+    tells(alloc, found(alloc, ids)?, due)
 }
 
 #[test]
@@ -99,7 +112,7 @@ fn found_rows_are_written(rt: HostRuntime) {
 
 /// Whether the answer that this was done, to no row, is written as this text.
 fn tells_done(alloc: Global, done: Done, due: &[u8]) -> Result<bool, AllocError> {
-    tells(alloc, &Answer::Did(done, 0), due)
+    tells(alloc, Answer::Did(done, 0), due)
 }
 
 #[test]
@@ -111,7 +124,7 @@ fn what_was_done_is_written(rt: HostRuntime) {
 /// Whether the notice is written as this text.
 fn is_noted(alloc: Global, notice: &Notice, due: &[u8]) -> Result<bool, AllocError> {
     let lines = notice_lines(alloc, notice)?;
-    Ok(text_of(alloc, &lines)?.as_slice() == due)
+    are(alloc, &lines, due)
 }
 
 /// Whether lines are written as this text, behind the number of their command.

@@ -1,8 +1,7 @@
 //! What no clause says of scripts: each reason for which one is bad, with its line, and scripts that are good.
 use dtx_values::SCRIPT_LIMIT;
-use script_read::{Command, How, ScriptErr, Why, read_script};
+use script_read::{ScriptErr, Why, read_script};
 use std::alloc::Global;
-use wire_msg::KindName;
 
 /// What becomes of a script.
 #[derive(Clone, Copy, PartialEq, Eq)]
@@ -18,7 +17,10 @@ fn verdict_of(alloc: Global, script: &[u8]) -> Option<Verdict> {
         return None;
     }
     match read_script(alloc, script) {
-        Ok(_commands) => Some(Verdict::Good),
+        Ok(commands) => {
+            drop(commands);
+            Some(Verdict::Good)
+        }
         Err(ScriptErr::Bad { line, why }) => Some(Verdict::Bad { line, why }),
         Err(ScriptErr::NoMemory) => None,
     }
@@ -116,116 +118,17 @@ fn nodes(alloc: Global, count: u8) -> Result<Vec<u8>, std::alloc::AllocError> {
     Ok(script)
 }
 
+/// What becomes of so many NODE commands.
+fn verdict_of_nodes(alloc: Global, count: u8) -> Option<Verdict> {
+    verdict_of(alloc, &nodes(alloc, count).ok()?)
+}
+
 #[test]
 fn takes_16_nodes(rt: HostRuntime) {
-    let alloc = rt.alloc();
-    let sixteen = nodes(alloc, 16);
-    assert!(rt; matches!(&sixteen, Ok(script) if verdict_of(alloc, script) == Some(Verdict::Good)));
-    let more = nodes(alloc, 17);
     let bad = Verdict::Bad {
         line: 1,
         why: Why::Many,
     };
-    assert!(rt; matches!(&more, Ok(script) if verdict_of(alloc, script) == Some(bad)));
-}
-
-/// The last command of a script.
-fn last(alloc: Global, script: &[u8]) -> Option<Command> {
-    if script.len() > SCRIPT_LIMIT {
-        return None;
-    }
-    read_script(alloc, script).ok()?.into_vec().pop()
-}
-
-#[test]
-fn a_node_has_its_options(rt: HostRuntime) {
-    let node = last(rt.alloc(), b"NODE a Undo 7;");
-    assert!(rt;
-        matches!(
-            &node,
-            Some(Command::Node {
-                strength: 1,
-                links: 4,
-                undo: 7,
-                ..
-            })
-        )
-    );
-}
-
-#[test]
-fn a_call_has_its_statement(rt: HostRuntime) {
-    let call = last(rt.alloc(), b"NODE a; NODE b; At b\nsession 3: commit;");
-    assert!(rt;
-        matches!(
-            &call,
-            Some(Command::At {
-                node: 2,
-                session: 3,
-                statement: Some(_)
-            })
-        )
-    );
-}
-
-#[test]
-fn an_empty_call_has_no_statement(rt: HostRuntime) {
-    let call = last(rt.alloc(), b"NODE a; AT a SESSION 1: ;");
-    assert!(rt;
-        matches!(
-            &call,
-            Some(Command::At {
-                node: 1,
-                session: 1,
-                statement: None
-            })
-        )
-    );
-}
-
-#[test]
-fn names_of_nodes_are_numbers(rt: HostRuntime) {
-    let lost = last(
-        rt.alloc(),
-        b"NODE a; NODE b; LOSE NEXT CommitPoint FROM b TO a;",
-    );
-    assert!(rt;
-        matches!(
-            &lost,
-            Some(Command::LoseNext {
-                kind: KindName::CommitPoint,
-                from: 2,
-                to: 1
-            })
-        )
-    );
-}
-
-#[test]
-fn a_pump_may_have_a_number(rt: HostRuntime) {
-    let all = last(rt.alloc(), b"PUMP;");
-    assert!(rt; matches!(&all, Some(Command::Pump { most: None })));
-    let two = last(rt.alloc(), b"PUMP 2;");
-    assert!(rt; matches!(&two, Some(Command::Pump { most: Some(2) })));
-}
-
-#[test]
-fn orders_on_disks_are_read(rt: HostRuntime) {
-    let kept = last(rt.alloc(), b"NODE a; CRASH a WRITE 2 KEEP 3;");
-    assert!(rt;
-        matches!(
-            &kept,
-            Some(Command::Crash {
-                node: 1,
-                write: 2,
-                how: How::Keep(3)
-            })
-        )
-    );
-    let left = last(rt.alloc(), b"NODE a; crash a write 1 leave 'fF00';");
-    assert!(rt;
-        matches!(&left, Some(Command::Crash { node: 1, write: 1, how: How::Leave(bytes) }) if bytes.as_slice() == b"\xff\x00".as_slice())
-    );
-    let failed = last(rt.alloc(), b"NODE a; FAULT a CALL 7;");
-    assert!(rt; matches!(&failed, Some(Command::Fault { node: 1, call: 7 })));
+    assert!(rt; verdict_of_nodes(rt.alloc(), 16) == Some(Verdict::Good));
+    assert!(rt; verdict_of_nodes(rt.alloc(), 17) == Some(bad));
 }
