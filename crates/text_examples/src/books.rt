@@ -1,7 +1,8 @@
 //! What no clause says of the book: that calls succeed, and the book of one commit over three nodes as it is to be
 //! printed.
+use crate::texts::is_text;
 use book::{Entry, book_lines, book_text, entries, entry_text};
-use dtx_values::{Change, Listing, Name, NameErr, Table, Value};
+use dtx_values::{Change, Changes, Listing, Name, NameErr, Table, Texts, Value};
 use redo_record::{Decision, RedoRecord};
 use std::alloc::{AllocError, Global};
 use tran_ids::BranchId;
@@ -33,10 +34,20 @@ fn branch(node: u8, session: u32) -> BranchId {
     }
 }
 
+/// The nodes by name.
+const NODES: [&[u8]; 3] = [b"SALES", b"WAREHOUSE", b"HQ"];
+
+/// Adds the name at the end.
+fn put_name(alloc: Global, names: &mut Vec<Name>, text: &[u8]) -> Result<(), NameErr> {
+    let name = Name::from_bytes(alloc, text)?;
+    names.push(name)?;
+    Ok(())
+}
+
 fn names(alloc: Global) -> Result<Vec<Name>, NameErr> {
     let mut names = Vec::new(alloc);
-    for text in [b"SALES".as_slice(), b"WAREHOUSE", b"HQ"] {
-        names.push(Name::from_bytes(alloc, text)?)?;
+    for text in &NODES {
+        put_name(alloc, &mut names, text)?;
     }
     Ok(names)
 }
@@ -49,7 +60,7 @@ fn made(alloc: Global, node: u8, table: &[u8]) -> Result<Entry, NameErr> {
     Ok(Entry::Made { node, table })
 }
 
-fn one_change(alloc: Global, table: &[u8]) -> Result<Listing<Change>, NameErr> {
+fn one_change(alloc: Global, table: &[u8]) -> Result<Changes, NameErr> {
     let change = Change {
         table: Name::from_bytes(alloc, table)?,
         key: Value::Number(1),
@@ -87,128 +98,132 @@ fn ended(branch: BranchId) -> Entry {
     }
 }
 
-fn put_goods(alloc: Global, book: &mut Vec<Entry>) -> Result<(), NameErr> {
+/// Adds an entry at the end, and says whether there was one to add, and memory for it.
+fn put(book: &mut Vec<Entry>, entry: Result<Entry, NameErr>) -> bool {
+    match entry {
+        Ok(entry) => book.push(entry).is_ok(),
+        Err(_) => false,
+    }
+}
+
+fn put_goods(alloc: Global, book: &mut Vec<Entry>) -> bool {
     let stock = branch(WAREHOUSE, 1);
-    book.push(made(alloc, SALES, b"ORDERS")?)?;
-    book.push(made(alloc, WAREHOUSE, b"STOCK")?)?;
-    book.push(decided(alloc, stock, stock, 1)?)?;
-    Ok(())
+    put(book, made(alloc, SALES, b"ORDERS"))
+        && put(book, made(alloc, WAREHOUSE, b"STOCK"))
+        && put(book, decided(alloc, stock, stock, 1))
 }
 
-fn put_order(alloc: Global, book: &mut Vec<Entry>) -> Result<(), NameErr> {
-    book.push(made(alloc, HQ, b"LEDGER")?)?;
-    book.push(sealed(alloc, branch(HQ, 65), b"LEDGER")?)?;
-    book.push(sealed(alloc, branch_of_order(), b"ORDERS")?)?;
-    Ok(())
+fn put_order(alloc: Global, book: &mut Vec<Entry>) -> bool {
+    put(book, made(alloc, HQ, b"LEDGER"))
+        && put(book, sealed(alloc, branch(HQ, 65), b"LEDGER"))
+        && put(book, sealed(alloc, branch_of_order(), b"ORDERS"))
 }
 
-fn put_commit(alloc: Global, book: &mut Vec<Entry>) -> Result<(), NameErr> {
-    book.push(decided(alloc, branch(WAREHOUSE, 65), branch_of_order(), 2)?)?;
-    book.push(ended(branch_of_order()))?;
-    book.push(ended(branch(HQ, 65)))?;
-    Ok(())
+fn put_commit(alloc: Global, book: &mut Vec<Entry>) -> bool {
+    let decided = decided(alloc, branch(WAREHOUSE, 65), branch_of_order(), 2);
+    put(book, decided)
+        && put(book, Ok(ended(branch_of_order())))
+        && put(book, Ok(ended(branch(HQ, 65))))
 }
 
-/// Puts all entries of the order.
-fn put_all(alloc: Global, book: &mut Vec<Entry>) -> Result<(), NameErr> {
-    put_goods(alloc, book)?;
-    put_order(alloc, book)?;
-    put_commit(alloc, book)
+/// Whether there are so many lines.
+fn are(lines: Result<Texts, AllocError>, count: usize) -> bool {
+    match lines {
+        Ok(lines) => lines.as_slice().len() == count,
+        Err(_) => false,
+    }
 }
 
 /// Whether a book is printed as this text, of so many lines.
-fn is_book(alloc: Global, book: &[Entry], text: &str, count: usize) -> Result<bool, NameErr> {
-    let names = names(alloc)?;
-    let is_text = book_text(alloc, book, &names)?.as_slice() == text.as_bytes();
-    Ok(is_text && book_lines(alloc, book, &names)?.as_slice().len() == count)
+fn is_book(alloc: Global, book: &[Entry], text: &str, count: usize) -> bool {
+    match names(alloc) {
+        Ok(names) => {
+            is_text(book_text(alloc, book, &names), text.as_bytes())
+                && are(book_lines(alloc, book, &names), count)
+        }
+        Err(_) => false,
+    }
 }
 
 /// Whether the book of the order is printed as it is to be.
-fn is_order_printed(alloc: Global) -> Result<bool, NameErr> {
+fn is_order_printed(alloc: Global) -> bool {
     let mut book = Vec::new(alloc);
-    let is = match put_all(alloc, &mut book) {
-        Ok(()) => is_book(alloc, &book, TEXT, 9),
-        Err(error) => Err(error),
-    };
+    let is = put_goods(alloc, &mut book)
+        && put_order(alloc, &mut book)
+        && put_commit(alloc, &mut book)
+        && is_book(alloc, &book, TEXT, 9);
     drop(book);
     is
 }
 
 #[test]
 fn the_book_of_a_commit_is_printed(rt: HostRuntime) {
-    assert!(rt; is_order_printed(rt.alloc()) == Ok(true));
+    assert!(rt; is_order_printed(rt.alloc()));
     // a book of no entry has a line that says so, but no text
-    assert!(rt; is_book(rt.alloc(), &[], "", 1) == Ok(true));
+    assert!(rt; is_book(rt.alloc(), &[], "", 1));
 }
 
-fn is_printed(alloc: Global, entry: &Entry, due: &[u8]) -> Result<bool, NameErr> {
-    let names = names(alloc)?;
-    let text = entry_text(alloc, entry, &names)?;
-    Ok(text.as_slice() == due)
-}
-
-/// Whether this outcome, which was forced upon the branch of HQ, is printed so.
-fn is_forced_printed(alloc: Global, outcome: Decision, due: &[u8]) -> Result<bool, NameErr> {
-    let forced = Entry::Forced {
-        branch: branch(HQ, 65),
-        outcome,
+/// Whether an entry is printed as this text.
+fn is_printed(alloc: Global, entry: Entry, due: &[u8]) -> bool {
+    let is = match names(alloc) {
+        Ok(names) => is_text(entry_text(alloc, &entry, &names), due),
+        Err(_) => false,
     };
-    let is = is_printed(alloc, &forced, due);
-    drop(forced);
+    drop(entry);
     is
 }
 
 #[test]
 fn a_forced_outcome_is_printed(rt: HostRuntime) {
-    let due = b"forced HQ 1.65.1 rollback";
-    assert!(rt; is_forced_printed(rt.alloc(), Decision::Rollback, due) == Ok(true));
-}
-
-/// Whether this decision, which the branch of HQ met after another outcome, is printed so.
-fn is_met_printed(alloc: Global, decision: Decision, due: &[u8]) -> Result<bool, NameErr> {
-    let met = Entry::Met {
+    let forced = Entry::Forced {
         branch: branch(HQ, 65),
-        decision,
-        mixed: true,
+        outcome: Decision::Rollback,
     };
-    let is = is_printed(alloc, &met, due);
-    drop(met);
-    is
+    assert!(rt; is_printed(rt.alloc(), forced, b"forced HQ 1.65.1 rollback"));
 }
 
 #[test]
 fn a_met_decision_is_printed(rt: HostRuntime) {
+    let met = Entry::Met {
+        branch: branch(HQ, 65),
+        decision: Decision::Commit(2),
+        mixed: true,
+    };
     let due = b"met HQ 1.65.1 commit scn 2 mixed yes";
-    assert!(rt; is_met_printed(rt.alloc(), Decision::Commit(2), due) == Ok(true));
+    assert!(rt; is_printed(rt.alloc(), met, due));
 }
 
-/// How many entries a turn of HQ has in which it wrote this record, or none.
-fn entry_count(alloc: Global, wrote: Option<RedoRecord>) -> Result<usize, AllocError> {
+/// Whether a turn of HQ in which it wrote this record, or none, has so many entries.
+fn has_entries(alloc: Global, wrote: Option<RedoRecord>, count: usize) -> bool {
     let entries = entries(alloc, HQ, &wrote);
     drop(wrote);
-    let entries = entries?;
-    let count = entries.len();
-    drop(entries);
-    Ok(count)
+    match entries {
+        Ok(entries) => {
+            let is = entries.len() == count;
+            drop(entries);
+            is
+        }
+        Err(_) => false,
+    }
 }
 
-/// How many entries a turn of HQ has in which its branch is rolled back.
-fn ended_count(alloc: Global) -> Result<usize, AllocError> {
+/// Whether a turn of HQ in which its branch is rolled back has one entry.
+fn is_end_an_entry(alloc: Global) -> bool {
     let ended = RedoRecord::Ended {
         me: branch(HQ, 65),
         decision: Decision::Rollback,
     };
-    entry_count(alloc, Some(ended))
+    has_entries(alloc, Some(ended), 1)
 }
 
-/// How many entries a turn of HQ has in which its branch is forgotten.
-fn forgotten_count(alloc: Global) -> Result<usize, AllocError> {
-    entry_count(alloc, Some(RedoRecord::Forgot(branch(HQ, 65))))
+/// Whether a turn of HQ in which its branch is forgotten has no entry.
+fn is_forgetting_no_entry(alloc: Global) -> bool {
+    has_entries(alloc, Some(RedoRecord::Forgot(branch(HQ, 65))), 0)
 }
 
 #[test]
 fn a_turn_has_the_entry_of_its_outcome(rt: HostRuntime) {
-    assert!(rt; entry_count(rt.alloc(), None) == Ok(0));
-    assert!(rt; forgotten_count(rt.alloc()) == Ok(0));
-    assert!(rt; ended_count(rt.alloc()) == Ok(1));
+    assert!(rt; has_entries(rt.alloc(), None, 0));
+    assert!(rt; is_forgetting_no_entry(rt.alloc()));
+    assert!(rt; is_end_an_entry(rt.alloc()));
 }

@@ -1,32 +1,20 @@
 //! What no clause says of answers: that calls succeed, and texts as they are to be printed.
-use dtx_values::{Answer, Bytes, Done, Listing, Notice, Refusal, Row, RowSet, Texts, Value};
+use crate::texts::{is_text, texts};
+use dtx_values::{Answer, Bytes, Done, Listing, Notice, Refusal, Row, RowSet, Rows, Value};
 use report::{answer_lines, notice_lines, put_numbered, refusal_text};
 use std::alloc::{AllocError, Global};
 
-fn texts(alloc: Global, parts: &[&[u8]]) -> Result<Texts, AllocError> {
-    let mut texts = Vec::new(alloc);
-    for part in parts {
-        texts.push(Listing::of(Vec::from_slice(alloc, part)?))?;
+/// Whether the refusal with this code and these arguments is written as this text.
+fn says(alloc: Global, code: u16, args: &[&[u8]], due: &[u8]) -> bool {
+    match texts(alloc, args) {
+        Ok(args) => {
+            let refusal = Refusal { code, args };
+            let text = refusal_text(alloc, &refusal);
+            drop(refusal);
+            is_text(text, due)
+        }
+        Err(_) => false,
     }
-    Ok(Listing::of(texts))
-}
-
-/// The text of these lines, each with its end.
-fn text_of(alloc: Global, lines: &[Bytes]) -> Result<Vec<u8>, AllocError> {
-    let mut text = Vec::new(alloc);
-    for line in lines {
-        text.extend_from_slice(line.as_slice())?;
-        text.push(b'\n')?;
-    }
-    Ok(text)
-}
-
-fn says(alloc: Global, code: u16, args: &[&[u8]], due: &[u8]) -> Result<bool, AllocError> {
-    let args = texts(alloc, args)?;
-    let refusal = Refusal { code, args };
-    let text = refusal_text(alloc, &refusal);
-    drop(refusal);
-    Ok(text?.as_slice() == due)
 }
 
 /// Refusals by their codes and arguments, each with its text.
@@ -55,88 +43,113 @@ const REFUSALS: [(u16, &[&[u8]], &str); 6] = [
     (60013, &[b"HQ"], "DTX-13: node HQ is running"),
 ];
 
+/// The first text that is not written for its refusal.
+fn first_unsaid(alloc: Global) -> Option<&'static str> {
+    for (code, args, due) in &REFUSALS {
+        if !says(alloc, *code, args, due.as_bytes()) {
+            return Some(*due);
+        }
+    }
+    None
+}
+
 #[test]
 fn refusals_are_written(rt: HostRuntime) {
-    for (code, args, due) in REFUSALS {
-        assert!(rt;
-            says(rt.alloc(), code, args, due.as_bytes()) == Ok(true),
-            "{due}"
-        );
+    assert!(rt; first_unsaid(rt.alloc()).is_none());
+}
+
+/// Whether these lines came about, and are those that are due.
+fn are(lines: Result<Vec<Bytes>, AllocError>, due: &[&[u8]]) -> bool {
+    match lines {
+        Ok(lines) => are_same(&lines, due),
+        Err(_) => false,
     }
 }
 
-/// Rows with these numbers in their first cells, and NULL in the second.
-fn rows_of(alloc: Global, ids: &[i64]) -> Result<Listing<Row>, AllocError> {
-    let mut rows = Vec::new(alloc);
-    for id in ids {
-        rows.push(a_row(alloc, *id)?)?;
-    }
-    Ok(Listing::of(rows))
+fn are_same(lines: &[Bytes], due: &[&[u8]]) -> bool {
+    lines.len() == due.len()
+        && lines
+            .iter()
+            .zip(due)
+            .all(|(line, due)| line.as_slice() == *due)
 }
 
-/// Rows with these numbers in the column ID, and NULL in the column GOODS.
-fn found(alloc: Global, ids: &[i64]) -> Result<Answer, AllocError> {
-    let heads = texts(alloc, &[b"ID", b"GOODS"])?;
-    let rows = rows_of(alloc, ids)?;
-    Ok(Answer::Found(RowSet { heads, rows }))
-}
-
-fn a_row(alloc: Global, id: i64) -> Result<Row, AllocError> {
-    let cells = Listing::of(vec![in alloc; Value::Number(id), Value::Null]?);
-    Ok(Row { cells })
-}
-
-/// Whether these lines, each with its end, are this text.
-fn are(alloc: Global, lines: &[Bytes], due: &[u8]) -> Result<bool, AllocError> {
-    Ok(text_of(alloc, lines)?.as_slice() == due)
-}
-
-/// Whether the answer is written as this text.
-fn tells(alloc: Global, answer: Answer, due: &[u8]) -> Result<bool, AllocError> {
+/// Whether the answer is written in these lines.
+fn tells(alloc: Global, answer: Answer, due: &[&[u8]]) -> bool {
     let lines = answer_lines(alloc, &answer);
     drop(answer);
-    are(alloc, &lines?, due)
+    are(lines, due)
 }
 
-/// Whether such rows are written as this text.
-fn tells_found(alloc: Global, ids: &[i64], due: &[u8]) -> Result<bool, AllocError> {
-    tells(alloc, found(alloc, ids)?, due)
+/// A row with -1 in the column ID, and NULL in the column GOODS.
+fn one_row(alloc: Global) -> Result<Rows, AllocError> {
+    let cells = Listing::of(vec![in alloc; Value::Number(-1), Value::Null]?);
+    Ok(Listing::of(vec![in alloc; Row { cells }]?))
+}
+
+/// Whether these rows of the columns ID and GOODS are written in these lines.
+fn tells_found(alloc: Global, rows: Rows, due: &[&[u8]]) -> bool {
+    match texts(alloc, &[b"ID", b"GOODS"]) {
+        Ok(heads) => tells(alloc, Answer::Found(RowSet { heads, rows }), due),
+        Err(_) => {
+            drop(rows);
+            false
+        }
+    }
+}
+
+fn tells_none(alloc: Global) -> bool {
+    tells_found(alloc, Listing::new(alloc), &[b"no rows selected"])
+}
+
+fn tells_one(alloc: Global) -> bool {
+    match one_row(alloc) {
+        Ok(rows) => tells_found(alloc, rows, &[b"ID|GOODS", b"-1|NULL", b"1 row selected."]),
+        Err(_) => false,
+    }
 }
 
 #[test]
 fn found_rows_are_written(rt: HostRuntime) {
-    let one = b"ID|GOODS\n-1|NULL\n1 row selected.\n";
-    assert!(rt; tells_found(rt.alloc(), &[], b"no rows selected\n") == Ok(true));
-    assert!(rt; tells_found(rt.alloc(), &[-1], one) == Ok(true));
+    assert!(rt; tells_none(rt.alloc()));
+    assert!(rt; tells_one(rt.alloc()));
 }
 
-/// Whether the answer that this was done, to no row, is written as this text.
-fn tells_done(alloc: Global, done: Done, due: &[u8]) -> Result<bool, AllocError> {
-    tells(alloc, Answer::Did(done, 0), due)
+/// Whether the answer that this was done, to no row, is written as this line.
+fn tells_done(alloc: Global, done: Done, due: &[u8]) -> bool {
+    tells(alloc, Answer::Did(done, 0), &[due])
 }
 
 #[test]
 fn what_was_done_is_written(rt: HostRuntime) {
-    assert!(rt; tells_done(rt.alloc(), Done::Created, b"0 rows created.\n") == Ok(true));
-    assert!(rt; tells_done(rt.alloc(), Done::Committed, b"Commit complete.\n") == Ok(true));
+    assert!(rt; tells_done(rt.alloc(), Done::Created, b"0 rows created."));
+    assert!(rt; tells_done(rt.alloc(), Done::Committed, b"Commit complete."));
 }
 
-/// Whether the notice is written as this text.
-fn is_noted(alloc: Global, notice: &Notice, due: &[u8]) -> Result<bool, AllocError> {
-    let lines = notice_lines(alloc, notice)?;
-    are(alloc, &lines, due)
+/// Whether the notice is written as this line.
+fn is_noted(alloc: Global, notice: Notice, due: &[u8]) -> bool {
+    let lines = notice_lines(alloc, &notice);
+    drop(notice);
+    are(lines, &[due])
+}
+
+/// The text of the lines, each behind the number of their command.
+fn numbered(alloc: Global, lines: &[Bytes]) -> Result<Bytes, AllocError> {
+    let mut out = Vec::new(alloc);
+    put_numbered(&mut out, 12, lines)?;
+    Ok(Listing::of(out))
 }
 
 /// Whether lines are written as this text, behind the number of their command.
-fn are_numbered(alloc: Global, lines: &[&[u8]], due: &[u8]) -> Result<bool, AllocError> {
-    let lines = texts(alloc, lines)?;
-    let mut out = Vec::new(alloc);
-    put_numbered(&mut out, 12, lines.as_slice())?;
-    Ok(out.as_slice() == due)
+fn are_numbered(alloc: Global, lines: &[&[u8]], due: &[u8]) -> bool {
+    match texts(alloc, lines) {
+        Ok(lines) => is_text(numbered(alloc, lines.as_slice()), due),
+        Err(_) => false,
+    }
 }
 
 #[test]
 fn notices_and_numbered_lines_are_written(rt: HostRuntime) {
-    assert!(rt; is_noted(rt.alloc(), &Notice::Waiting, b"waiting\n") == Ok(true));
-    assert!(rt; are_numbered(rt.alloc(), &[b"ID", b"1"], b"12 ID\n12 1\n") == Ok(true));
+    assert!(rt; is_noted(rt.alloc(), Notice::Waiting, b"waiting"));
+    assert!(rt; are_numbered(rt.alloc(), &[b"ID", b"1"], b"12 ID\n12 1\n"));
 }

@@ -3,31 +3,24 @@ use dtx_values::SCRIPT_LIMIT;
 use script_read::{ScriptErr, Why, read_script};
 use std::alloc::Global;
 
-/// What becomes of a script.
-#[derive(Clone, Copy, PartialEq, Eq)]
-enum Verdict {
-    Good,
-    Bad { line: u32, why: Why },
+/// Why a script is refused, or nothing where it is good.
+fn refusal_of(alloc: Global, script: &[u8]) -> Option<ScriptErr> {
+    if script.len() > SCRIPT_LIMIT {
+        return Some(ScriptErr::NoMemory);
+    }
+    read_script(alloc, script).err()
 }
 
-/// Whether a script is good, or else the line of its first bad command and why it is bad; nothing where that cannot be
-/// said.
-fn verdict_of(alloc: Global, script: &[u8]) -> Option<Verdict> {
-    if script.len() > SCRIPT_LIMIT {
-        return None;
-    }
-    match read_script(alloc, script) {
-        Ok(commands) => {
-            drop(commands);
-            Some(Verdict::Good)
-        }
-        Err(ScriptErr::Bad { line, why }) => Some(Verdict::Bad { line, why }),
-        Err(ScriptErr::NoMemory) => None,
-    }
-}
+/// As many nodes as a script may have.
+const NODES_16: &[u8] = b"NODE NA;NODE NB;NODE NC;NODE ND;NODE NE;NODE NF;NODE NG;NODE NH;\
+    NODE NI;NODE NJ;NODE NK;NODE NL;NODE NM;NODE NN;NODE NO;NODE NP;";
+
+/// One node more.
+const NODES_17: &[u8] = b"NODE NA;NODE NB;NODE NC;NODE ND;NODE NE;NODE NF;NODE NG;NODE NH;\
+    NODE NI;NODE NJ;NODE NK;NODE NL;NODE NM;NODE NN;NODE NO;NODE NP;NODE NQ;";
 
 /// Scripts, each with the line of its first bad command and the first reason that holds.
-const BAD: [(&[u8], u32, Why); 36] = [
+const BAD: [(&[u8], u32, Why); 37] = [
     (b"NODE A; NODE A;", 1, Why::Twice),
     (b"NODE A;\n\x01\n;", 2, Why::Byte),
     (b"NODE A;\n\n -- \xc3\n\n STOP A;", 5, Why::Byte),
@@ -64,10 +57,11 @@ const BAD: [(&[u8], u32, Why); 36] = [
     (b"LOSE NEXT ACK FROM A TO B;", 1, Why::Unknown),
     (b"AT A SESSION 1: COMMIT;", 1, Why::Unknown),
     (b"NODE A; GIVEUP AT B SESSION 1;", 1, Why::Unknown),
+    (NODES_17, 1, Why::Many),
 ];
 
 /// Scripts without a bad command.
-const GOOD: [&[u8]; 8] = [
+const GOOD: [&[u8]; 9] = [
     b"",
     b" \t\r\n-- done; '",
     b"PUMP;PUMP 5;HOLD OFF;SHOW NET;",
@@ -76,12 +70,13 @@ const GOOD: [&[u8]; 8] = [
     b"NODE A; LOSE NEXT ready FROM A TO A; DELIVER 4294967295; AGAIN 000;",
     b"NODE NODE; NODE AT; CUT NODE AT; SHOW PENDING AT;",
     b"NODE A; AT A SESSION 1: \xc3\xa9;",
+    NODES_16,
 ];
 
 fn first_wrong(alloc: Global) -> Option<&'static [u8]> {
     for (script, line, why) in &BAD {
         let (line, why) = (*line, *why);
-        if verdict_of(alloc, script) != Some(Verdict::Bad { line, why }) {
+        if refusal_of(alloc, script) != Some(ScriptErr::Bad { line, why }) {
             return Some(*script);
         }
     }
@@ -90,7 +85,7 @@ fn first_wrong(alloc: Global) -> Option<&'static [u8]> {
 
 fn first_refused(alloc: Global) -> Option<&'static [u8]> {
     for script in &GOOD {
-        if verdict_of(alloc, script) != Some(Verdict::Good) {
+        if refusal_of(alloc, script).is_some() {
             return Some(*script);
         }
     }
@@ -105,30 +100,4 @@ fn tells_the_first_reason(rt: HostRuntime) {
 #[test]
 fn reads_good_scripts(rt: HostRuntime) {
     assert!(rt; first_refused(rt.alloc()).is_none());
-}
-
-/// So many NODE commands.
-fn nodes(alloc: Global, count: u8) -> Result<Vec<u8>, std::alloc::AllocError> {
-    let mut script = Vec::new(alloc);
-    for number in 0..count {
-        script.extend_from_slice(b"NODE N")?;
-        script.push(b'A' + number % 26)?;
-        script.push(b';')?;
-    }
-    Ok(script)
-}
-
-/// What becomes of so many NODE commands.
-fn verdict_of_nodes(alloc: Global, count: u8) -> Option<Verdict> {
-    verdict_of(alloc, &nodes(alloc, count).ok()?)
-}
-
-#[test]
-fn takes_16_nodes(rt: HostRuntime) {
-    let bad = Verdict::Bad {
-        line: 1,
-        why: Why::Many,
-    };
-    assert!(rt; verdict_of_nodes(rt.alloc(), 16) == Some(Verdict::Good));
-    assert!(rt; verdict_of_nodes(rt.alloc(), 17) == Some(bad));
 }
