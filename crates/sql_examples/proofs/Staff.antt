@@ -1,7 +1,8 @@
 -- What the runs begin with: a table with one key, and rows of it.
 use Rattle.std.proofs.Common.{◌≡◌, ℕ, Bool, true, false, cond, List, [], ◌∷◌, Some, position, refl, sym, subst}
 use Rattle.std.specs.Str.{bytes_eq}
-use Rattle.std.proofs.lemmas.List.Elements.{All-nil, All-cons}
+use Rattle.std.specs.List.{AllByRecursion}
+use Rattle.std.proofs.lemmas.List.Elements.{All-weaker, All-from_recursion}
 use Rattle.dtx_values.specs.declared.row.Change.{Change}
 use Rattle.dtx_values.specs.declared.table.Column.{Column}
 use Rattle.dtx_values.specs.declared.table.Table.{Table}
@@ -29,11 +30,11 @@ either t true rows are = are
 either t false rows are = tt
 
 -- changes of a table leave rows of it
-pub rows_of_two : (t : Table) (a b : Change) (tables : List TableRows) → IsChangeOf t a → IsChangeOf t b → tables ≡ apply_all (with_table [] t.name) (a ∷ b ∷ []) → AreRowsOf t (rows_of_table tables t.name)
-rows_of_two t a b tables first second are =
+pub rows_of_changes : (t : Table) (cs : List Change) (tables : List TableRows) → AllByRecursion (IsChangeOf t) cs → tables ≡ apply_all (with_table [] t.name) cs → AreRowsOf t (rows_of_table tables t.name)
+rows_of_changes t cs tables all are =
     let Is = λ (c : Change). same_text c.table t.name ≡ true → IsChangeOf t c in
-    let rows = rows_stay t [] (a ∷ b ∷ []) tt (All-cons Is a (b ∷ []) (λ same. first) (All-cons Is b [] (λ same. second) (All-nil Is))) in
-    subst (λ (ts : List TableRows). AreRowsOf t (rows_of_table ts t.name)) (sym are) (either t (same_text t.name t.name) (apply t.name [] (a ∷ b ∷ [])) rows)
+    let rows = rows_stay t [] cs tt (All-weaker (IsChangeOf t) Is (λ c is same. is) cs (All-from_recursion (IsChangeOf t) cs all)) in
+    subst (λ (ts : List TableRows). AreRowsOf t (rows_of_table ts t.name)) (sym are) (either t (same_text t.name t.name) (apply t.name [] cs) rows)
 
 -- where no branch has changed anything, each sees the committed rows
 pub seen_at_first : (t : Table) (s : Contents) (b : BranchId) → s.owns ≡ [] → AreRowsOf t (rows_of_table s.rows t.name) → AreRowsOf t (seen_by s b t.name)

@@ -59,7 +59,9 @@ fn make_all(catalog: &mut Catalog, alloc: Global, all: &[(Made, Result<(), CatEr
 /// Whether each is made in a new catalog, or refused, as it is due.
 fn are_made(alloc: Global, all: &[(Made, Result<(), CatErr>)]) -> bool {
     let mut catalog = Catalog::new(alloc);
-    make_all(&mut catalog, alloc, all)
+    let are = make_all(&mut catalog, alloc, all);
+    drop(catalog);
+    are
 }
 
 /// What is made in a catalog in this order, and whether the name is taken.
@@ -123,7 +125,9 @@ fn make_and_find(catalog: &mut Catalog, alloc: Global) -> Result<bool, CatErr> {
 /// Whether what is made in a new catalog is found.
 fn are_found(alloc: Global) -> Result<bool, CatErr> {
     let mut catalog = Catalog::new(alloc);
-    make_and_find(&mut catalog, alloc)
+    let are = make_and_find(&mut catalog, alloc);
+    drop(catalog);
+    are
 }
 
 #[test]

@@ -1,6 +1,7 @@
 //! What several examples begin with. Where the bytes are no name or no text, it is as if there were no memory for it.
-ghost use Rattle.std.specs.Prelude.{◌≡◌, true, IfOk};
-ghost use Rattle.row_store.specs.Store.{has_table};
+ghost use Rattle.std.specs.Prelude.{◌≡◌, [], true, IfOk};
+ghost use Rattle.row_store.specs.Store.{has_table, nothing_kept};
+ghost use Rattle.row_store.specs.Tables.{with_table};
 
 use dtx_values::{Duplicate, Name, Str, Value};
 use row_store::Store;
@@ -26,9 +27,16 @@ pub(crate) fn is_text(value: &Value, bytes: &[u8]) -> bool {
 
 /// A store of so many extents with a table, which has no rows.
 pub(crate) fn store_of(alloc: Global, table: &Name, undo: u32) -> Result<Store, AllocError>
-    ensures { IfOk result (λ store. has_table store.rows table.now ≡ true) }
+    ensures made { IfOk result (λ store. store ≡ record (nothing_kept undo) { rows = with_table [] table.now }) }
+    ensures table { IfOk result (λ store. has_table store.rows table.now ≡ true) }
 {
+    let table = table.copy(alloc)?;
     let mut store = Store::new(alloc, undo);
-    store.add_table(alloc, table.copy(alloc)?)?;
-    Ok(store)
+    match store.add_table(alloc, table) {
+        Ok(()) => Ok(store),
+        Err(error) => {
+            drop(store);
+            Err(error)
+        }
+    }
 }

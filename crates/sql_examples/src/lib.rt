@@ -1,7 +1,7 @@
 //! Examples, as tests, of the texts of statements, and of the tables, rows and locks that they work on.
 //!
-//! One module a crate. Each shows what no clause says: that calls succeed, and texts and values that were worked out by
-//! hand from the rules, never taken from the program.
+//! One module a crate, and undo for the extents of row_store. Each shows what no clause says: that calls succeed,
+//! and texts and values that were worked out by hand from the rules, never taken from the program.
 #![tactic(auto)]
 
 #[cfg(test)]
@@ -22,3 +22,5 @@ mod statements;
 mod stores;
 #[cfg(test)]
 mod tokens;
+#[cfg(test)]
+mod undo;

@@ -36,23 +36,36 @@ enum First {
     Ended,
 }
 
-/// Locks with the key alone, which the first branch has taken.
-fn taken(alloc: Global, emp: &Name, first: First) -> Result<Locks, LockErr> {
-    let mut locks = Locks::new(alloc);
+/// The first branch takes the key, and that becomes of it.
+fn take_first(alloc: Global, locks: &mut Locks, emp: &Name, first: First) -> Result<(), LockErr> {
     locks.take(alloc, &FIRST, emp, &Value::Number(KEY), true)?;
     match first {
         First::Live => {}
         First::InDoubt => locks.mark_in_doubt(&FIRST),
         First::Ended => locks.release(&FIRST),
     }
-    Ok(locks)
+    Ok(())
+}
+
+/// Locks with the key alone, which the first branch has taken.
+fn taken(alloc: Global, emp: &Name, first: First) -> Result<Locks, LockErr> {
+    let mut locks = Locks::new(alloc);
+    match take_first(alloc, &mut locks, emp, first) {
+        Ok(()) => Ok(locks),
+        Err(error) => {
+            drop(locks);
+            Err(error)
+        }
+    }
 }
 
 /// What the second branch is told where it takes the key only to read its row.
 fn told(alloc: Global, first: First) -> Result<(), LockErr> {
     let emp = emp(alloc)?;
     let mut locks = taken(alloc, &emp, first)?;
-    locks.take(alloc, &SECOND, &emp, &Value::Number(KEY), false)
+    let told = locks.take(alloc, &SECOND, &emp, &Value::Number(KEY), false);
+    drop(locks);
+    told
 }
 
 #[test]
@@ -82,7 +95,9 @@ fn a_key_is_held_until_its_branch_ends(rt: HostRuntime) {
 fn holder(alloc: Global, first: First) -> Result<Option<(BranchId, bool)>, LockErr> {
     let emp = emp(alloc)?;
     let locks = taken(alloc, &emp, first)?;
-    Ok(locks.holder(&emp, &Value::Number(KEY)))
+    let holder = locks.holder(&emp, &Value::Number(KEY));
+    drop(locks);
+    Ok(holder)
 }
 
 #[test]
@@ -107,8 +122,9 @@ fn keys_kept(alloc: Global, locks: &mut Locks, emp: &Name) -> Result<Keys, LockE
 fn keeps_the_key(alloc: Global) -> Result<bool, LockErr> {
     let emp = emp(alloc)?;
     let mut locks = taken(alloc, &emp, First::Live)?;
-    let left = keys_kept(alloc, &mut locks, &emp)?;
-    Ok(left.as_slice() == [Value::Number(KEY)].as_slice())
+    let left = keys_kept(alloc, &mut locks, &emp);
+    drop(locks);
+    Ok(left?.as_slice() == [Value::Number(KEY)].as_slice())
 }
 
 #[test]

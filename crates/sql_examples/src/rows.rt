@@ -5,12 +5,12 @@ ghost use Rattle.row_store.specs.Store.{has_table};
 
 use crate::given::{is_text, name, store_of, text};
 use dtx_values::{Cells, Change, Changes, Duplicate, Name, Row, Value};
-use row_store::{Store, StoreErr, changes_len, extents};
+use row_store::{Store, StoreErr};
 use sql_eval::KeyedRef;
 use std::alloc::{AllocError, Global};
 use tran_ids::BranchId;
 
-const ME: BranchId = BranchId {
+pub(crate) const ME: BranchId = BranchId {
     node: 1,
     boot: 1,
     session: 65,
@@ -25,9 +25,9 @@ const OTHER: BranchId = BranchId {
 };
 
 /// A key with the number of the row there, where there is one.
-type Cell = (i64, Option<i64>);
+pub(crate) type Cell = (i64, Option<i64>);
 
-fn row(alloc: Global, cell: i64) -> Result<Row, AllocError> {
+pub(crate) fn row(alloc: Global, cell: i64) -> Result<Row, AllocError> {
     let mut cells = Cells::new(alloc);
     cells.push(Value::Number(cell))?;
     Ok(Row { cells })
@@ -40,7 +40,12 @@ fn row_or_none(alloc: Global, cell: Option<i64>) -> Result<Option<Row>, AllocErr
     }
 }
 
-fn change(alloc: Global, table: &Name, key: Value, after: Option<Row>) -> Result<Change, AllocError>
+pub(crate) fn change(
+    alloc: Global,
+    table: &Name,
+    key: Value,
+    after: Option<Row>,
+) -> Result<Change, AllocError>
     ensures { IfOk result (λ change. change.table ≡ table.now) }
 {
     Ok(Change {
@@ -51,7 +56,7 @@ fn change(alloc: Global, table: &Name, key: Value, after: Option<Row>) -> Result
 }
 
 // Changes of the table at these keys: each to a row of one number, or to none.
-fn changes(alloc: Global, table: &Name, cells: &[Cell]) -> Result<Changes, AllocError>
+pub(crate) fn changes(alloc: Global, table: &Name, cells: &[Cell]) -> Result<Changes, AllocError>
     ensures { IfOk result (λ changes. AllByRecursion (λ c. c.table ≡ table.now) changes) }
 {
     let mut changes = Changes::new(alloc);
@@ -74,38 +79,17 @@ fn rows_at(alloc: Global, table: &Name, keys: Vec<Value>) -> Result<Changes, All
     Ok(changes)
 }
 
-// A change of the table to a row of a number and a text of so many bytes.
-fn long_change(alloc: Global, table: &Name, key: i64, length: usize) -> Result<Change, AllocError>
-    ensures { IfOk result (λ change. change.table ≡ table.now) }
-{
-    let bytes = vec![in alloc; b'x'; length]?;
-    let mut row = row(alloc, key)?;
-    row.cells.push(text(alloc, bytes.as_slice())?)?;
-    change(alloc, table, Value::Number(key), Some(row))
-}
-
-// Such changes at so many keys.
-fn long_changes(
-    alloc: Global,
-    table: &Name,
-    count: i64,
-    length: usize,
-) -> Result<Changes, AllocError>
-    ensures { IfOk result (λ changes. AllByRecursion (λ c. c.table ≡ table.now) changes) }
-{
-    let mut changes = Changes::new(alloc);
-    for key in 0..count {
-        changes.push(long_change(alloc, table, key, length)?)?;
-    }
-    Ok(changes)
-}
-
-fn table(alloc: Global) -> Result<Name, AllocError> {
+pub(crate) fn table(alloc: Global) -> Result<Name, AllocError> {
     name(alloc, b"t")
 }
 
 /// Makes these changes of the table, as if they had been committed.
-fn make(alloc: Global, store: &mut Store, table: &Name, changes: &Changes) -> Result<(), AllocError>
+pub(crate) fn make(
+    alloc: Global,
+    store: &mut Store,
+    table: &Name,
+    changes: &Changes,
+) -> Result<(), AllocError>
     requires table { has_table store.old.rows table.now ≡ true }
     requires changes { AllByRecursion (λ c. c.table ≡ table.now) changes.now }
     ensures { OnOk result (has_table store.new.rows table.now ≡ true) }
@@ -114,12 +98,23 @@ fn make(alloc: Global, store: &mut Store, table: &Name, changes: &Changes) -> Re
     Ok(())
 }
 
+/// Makes changes of the table at these keys, as if they had been committed.
+fn put(alloc: Global, store: &mut Store, table: &Name, cells: &[Cell]) -> Result<(), AllocError>
+    requires { has_table store.old.rows table.now ≡ true }
+    ensures { OnOk result (has_table store.new.rows table.now ≡ true) }
+{
+    let changes = changes(alloc, table, cells)?;
+    let made = make(alloc, store, table, &changes);
+    drop(changes);
+    made
+}
+
 /// Whether these rows stand in the order of their keys.
 fn are_in_order(rows: &[KeyedRef]) -> bool {
     match rows {
         [least, number, first, last] => {
-            *least.key == Value::Number(-2)
-                && *number.key == Value::Number(10)
+            matches!(least.key, Value::Number(-2))
+                && matches!(number.key, Value::Number(10))
                 && is_text(first.key, b"a")
                 && is_text(last.key, b"b")
         }
@@ -133,13 +128,31 @@ fn shuffled(alloc: Global) -> Result<Vec<Value>, AllocError> {
     Ok(vec![in alloc; last, Value::Number(10), first, Value::Number(-2)]?)
 }
 
+/// Makes rows of the table whose keys come out of their order.
+fn put_shuffled(alloc: Global, store: &mut Store, table: &Name) -> Result<(), AllocError>
+    requires { has_table store.old.rows table.now ≡ true }
+{
+    let rows = rows_at(alloc, table, shuffled(alloc)?)?;
+    let made = make(alloc, store, table, &rows);
+    drop(rows);
+    made
+}
+
+/// Whether a store gives such rows in the order of their keys.
+fn gives_in_order(alloc: Global, store: &mut Store, table: &Name) -> Result<bool, AllocError>
+    requires { has_table store.old.rows table.now ≡ true }
+{
+    put_shuffled(alloc, store, table)?;
+    Ok(are_in_order(&store.all(alloc, &ME, table)?))
+}
+
 /// Whether rows that came in another order are given in the order of their keys.
 fn are_given_in_order(alloc: Global) -> Result<bool, AllocError> {
     let table = table(alloc)?;
     let mut store = store_of(alloc, &table, 0)?;
-    let rows = rows_at(alloc, &table, shuffled(alloc)?)?;
-    make(alloc, &mut store, &table, &rows)?;
-    Ok(are_in_order(&store.all(alloc, &ME, &table)?))
+    let are = gives_in_order(alloc, &mut store, &table);
+    drop(store);
+    are
 }
 
 #[test]
@@ -147,14 +160,30 @@ fn rows_stand_in_key_order(rt: HostRuntime) {
     assert!(rt; are_given_in_order(rt.alloc()) == Ok(true));
 }
 
-/// A store with a table in which the row 1 was put twice and the row 2 once. The keys in `removed` have no row any more.
-fn put_again(alloc: Global, table: &Name, removed: &[Cell]) -> Result<Store, AllocError> {
+/// Puts the row 1 twice and the row 2 once. The keys in `removed` have no row any more then.
+fn put_again(
+    alloc: Global,
+    store: &mut Store,
+    table: &Name,
+    removed: &[Cell],
+) -> Result<(), AllocError>
+    requires { has_table store.old.rows table.now ≡ true }
+{
+    let cells = [(1, Some(10)), (2, Some(20)), (1, Some(30))];
+    put(alloc, store, table, &cells)?;
+    put(alloc, store, table, removed)
+}
+
+/// A store with a table in which that was done.
+fn left(alloc: Global, table: &Name, removed: &[Cell]) -> Result<Store, AllocError> {
     let mut store = store_of(alloc, table, 0)?;
-    let put = changes(alloc, table, &[(1, Some(10)), (2, Some(20)), (1, Some(30))])?;
-    make(alloc, &mut store, table, &put)?;
-    let gone = changes(alloc, table, removed)?;
-    make(alloc, &mut store, table, &gone)?;
-    Ok(store)
+    match put_again(alloc, &mut store, table, removed) {
+        Ok(()) => Ok(store),
+        Err(error) => {
+            drop(store);
+            Err(error)
+        }
+    }
 }
 
 /// The number of the row that a branch sees at a key.
@@ -169,8 +198,10 @@ fn number_at(store: &Store, branch: &BranchId, table: &Name, key: i64) -> Option
 /// The number of the row at a key once the rows at these keys were removed.
 fn left_at(alloc: Global, removed: &[Cell], key: i64) -> Result<Option<i64>, AllocError> {
     let table = table(alloc)?;
-    let store = put_again(alloc, &table, removed)?;
-    Ok(number_at(&store, &ME, &table, key))
+    let store = left(alloc, &table, removed)?;
+    let number = number_at(&store, &ME, &table, key);
+    drop(store);
+    Ok(number)
 }
 
 #[test]
@@ -184,11 +215,18 @@ fn a_key_has_its_last_row_until_it_is_removed(rt: HostRuntime) {
     }
 }
 
+/// How many rows a table has.
+fn count_in(alloc: Global, store: &Store, table: &Name) -> Result<usize, AllocError> {
+    Ok(store.all(alloc, &ME, table)?.len())
+}
+
 /// How many rows are left once those at these keys were removed.
 fn count_left(alloc: Global, removed: &[Cell]) -> Result<usize, AllocError> {
     let table = table(alloc)?;
-    let store = put_again(alloc, &table, removed)?;
-    Ok(store.all(alloc, &ME, &table)?.len())
+    let store = left(alloc, &table, removed)?;
+    let count = count_in(alloc, &store, &table);
+    drop(store);
+    count
 }
 
 #[test]
@@ -197,16 +235,27 @@ fn only_rows_that_are_there_are_removed(rt: HostRuntime) {
     assert!(rt; count_left(rt.alloc(), &[(1, None), (2, None)]) == Ok(0));
 }
 
-/// A store with committed rows at the keys 1, 2 and 3, and a branch that has changed the row 1 twice, and has removed the row
-/// 2 and inserted the row 4.
+/// Puts committed rows at the keys 1, 2 and 3. Then a branch changes the row 1 twice, removes the row 2 and inserts the row
+/// 4.
+fn change_rows(alloc: Global, store: &mut Store, table: &Name) -> Result<(), StoreErr>
+    requires { has_table store.old.rows table.now ≡ true }
+{
+    let rows = [(1, Some(10)), (2, Some(20)), (3, Some(30))];
+    put(alloc, store, table, &rows)?;
+    let cells = [(1, Some(11)), (2, None), (4, Some(40)), (1, Some(12))];
+    store.set_pending(alloc, &ME, changes(alloc, table, &cells)?)
+}
+
+/// A store with a table in which that was done.
 fn changed(alloc: Global, table: &Name) -> Result<Store, StoreErr> {
     let mut store = store_of(alloc, table, 1)?;
-    let rows = changes(alloc, table, &[(1, Some(10)), (2, Some(20)), (3, Some(30))])?;
-    make(alloc, &mut store, table, &rows)?;
-    let cells = [(1, Some(11)), (2, None), (4, Some(40)), (1, Some(12))];
-    let own = changes(alloc, table, &cells)?;
-    store.set_pending(alloc, &ME, own)?;
-    Ok(store)
+    match change_rows(alloc, &mut store, table) {
+        Ok(()) => Ok(store),
+        Err(error) => {
+            drop(store);
+            Err(error)
+        }
+    }
 }
 
 /// The number at a key, whether there is a row, and how many rows there are in all.
@@ -228,7 +277,9 @@ fn seen(
 fn seen_by(alloc: Global, branch: &BranchId, key: i64) -> Result<Seen, StoreErr> {
     let table = table(alloc)?;
     let store = changed(alloc, &table)?;
-    Ok(seen(alloc, &store, branch, &table, key)?)
+    let seen = seen(alloc, &store, branch, &table, key);
+    drop(store);
+    Ok(seen?)
 }
 
 #[test]
@@ -254,60 +305,4 @@ fn another_branch_sees_the_committed_rows(rt: HostRuntime) {
             "at {key}"
         );
     }
-}
-
-/// The extents that the undo of these changes over these rows needs, as a store says that has none; or 0.
-fn needed(alloc: Global, table: &Name, rows: &Changes, changes: Changes) -> Result<u64, AllocError>
-    requires rows { AllByRecursion (λ c. c.table ≡ table.now) rows.now }
-    requires changes { AllByRecursion (λ c. c.table ≡ table.now) changes }
-{
-    let mut store = store_of(alloc, table, 0)?;
-    make(alloc, &mut store, table, rows)?;
-    match store.set_pending(alloc, &ME, changes) {
-        Err(StoreErr::Full { need, free: 0 }) => Ok(need),
-        Err(StoreErr::NoMemory) => Err(AllocError),
-        Ok(()) | Err(StoreErr::TooLarge { .. } | StoreErr::Full { .. }) => Ok(0),
-    }
-}
-
-/// The extents that the undo of removing three rows needs, with texts of 1,340 bytes, as many again, and so many.
-fn needed_to_remove(alloc: Global, last: usize) -> Result<u64, AllocError> {
-    let table = table(alloc)?;
-    let mut rows = Changes::new(alloc);
-    rows.push(long_change(alloc, &table, 0, 1340)?)?;
-    rows.push(long_change(alloc, &table, 1, 1340)?)?;
-    rows.push(long_change(alloc, &table, 2, last)?)?;
-    let gone = changes(alloc, &table, &[(0, None), (1, None), (2, None)])?;
-    needed(alloc, &table, &rows, gone)
-}
-
-/// The extents that the undo of so many new rows needs.
-fn needed_to_insert(alloc: Global, count: i64) -> Result<u64, AllocError> {
-    let table = table(alloc)?;
-    let rows = Changes::new(alloc);
-    let new = long_changes(alloc, &table, count, 1)?;
-    needed(alloc, &table, &rows, new)
-}
-
-#[test]
-fn undo_keeps_the_row_from_before(rt: HostRuntime) {
-    // each removed row takes 25 bytes beside its text, and an extent has 4,096
-    assert!(rt; needed_to_remove(rt.alloc(), 1341) == Ok(1));
-    assert!(rt; needed_to_remove(rt.alloc(), 1342) == Ok(2));
-    // a new row has none from before: 12 bytes each
-    assert!(rt; needed_to_insert(rt.alloc(), 341) == Ok(1));
-    assert!(rt; needed_to_insert(rt.alloc(), 342) == Ok(2));
-}
-
-/// How many bytes so many changes have, each to a row with a text of so many.
-fn bytes_of(alloc: Global, count: i64, length: usize) -> Result<u64, AllocError> {
-    let table = table(alloc)?;
-    changes_len(long_changes(alloc, &table, count, length)?.as_slice())
-}
-
-#[test]
-fn long_changes_are_soon_too_many(rt: HostRuntime) {
-    let bytes = 5000 * 2025;
-    assert!(rt; bytes_of(rt.alloc(), 5000, 2000) == Ok(bytes));
-    assert!(rt; bytes > 8_388_608 && extents(bytes) == 2472);
 }

@@ -1,13 +1,14 @@
 //! What no script can show yet of a statement at its node: a key in doubt, by an example.
 ghost use Rattle.std.specs.Prelude.{◌≡◌, [], true, false, length, position, Some, IfOk};
+ghost use Rattle.std.specs.List.{AllByRecursion};
 ghost use Rattle.std.specs.Str.{bytes_eq};
 ghost use Rattle.sql_eval.specs.Laws.{has_one_key, AreRowsOf, IsChangeOf};
 ghost use Rattle.row_store.specs.Store.{has_table};
 ghost use Rattle.row_store.specs.Tables.{rows_of_table};
 
-use crate::given::name;
+use crate::given::{name, store_of};
 use crate::statements::statement;
-use dtx_values::{Answer, Change, Column, Duplicate, Listing, Name, Row, Table, Value};
+use dtx_values::{Answer, Change, Changes, Column, Duplicate, Listing, Name, Row, Table, Value};
 use row_locks::Locks;
 use row_store::Store;
 use sql_statement::Stmt;
@@ -80,9 +81,10 @@ fn employed(alloc: Global, table: &Table, number: i64) -> Result<Change, AllocEr
     requires key { position (λ c. c.key) table.now.columns ≡ Some 0 }
     ensures { IfOk result (IsChangeOf table.now) }
 {
+    let name = table.name.copy(alloc)?;
     let cells = vec![in alloc; Value::Number(number), Value::Number(100)]?;
     Ok(Change {
-        table: table.name.copy(alloc)?,
+        table: name,
         key: Value::Number(number),
         after: Some(Row {
             cells: Listing::of(cells),
@@ -90,7 +92,37 @@ fn employed(alloc: Global, table: &Table, number: i64) -> Result<Change, AllocEr
     })
 }
 
-/// A store of one extent where EMP has the employees 1 and 2, and no branch has changed anything.
+/// The changes by which EMP gets the employees 1 and 2.
+fn staff(alloc: Global, table: &Table) -> Result<Changes, AllocError>
+    requires columns { length table.now.columns ≡ 2 }
+    requires key { position (λ c. c.key) table.now.columns ≡ Some 0 }
+    ensures { IfOk result (AllByRecursion (IsChangeOf table.now)) }
+{
+    let mut staff = Changes::new(alloc);
+    for number in 1..=2 {
+        staff.push(employed(alloc, table, number)?)?;
+    }
+    Ok(staff)
+}
+
+/// A store of one extent with these rows of its table, where no branch has changed anything.
+fn store_with(alloc: Global, table: &Table, rows: &Changes) -> Result<Store, AllocError>
+    requires { AllByRecursion (IsChangeOf table.now) rows.now }
+    ensures table { IfOk result (λ store. has_table store.rows table.now.name ≡ true) }
+    ensures rows { IfOk result (λ store. AreRowsOf table.now (rows_of_table store.rows table.now.name)) }
+    ensures owns { IfOk result (λ store. store.owns ≡ []) }
+{
+    let mut store = store_of(alloc, &table.name, 1)?;
+    match store.apply(alloc, rows.as_slice()) {
+        Ok(()) => Ok(store),
+        Err(error) => {
+            drop(store);
+            Err(error)
+        }
+    }
+}
+
+/// The same where EMP has the employees 1 and 2.
 fn staffed(alloc: Global, table: &Table) -> Result<Store, AllocError>
     requires columns { length table.now.columns ≡ 2 }
     requires key { position (λ c. c.key) table.now.columns ≡ Some 0 }
@@ -98,12 +130,10 @@ fn staffed(alloc: Global, table: &Table) -> Result<Store, AllocError>
     ensures rows { IfOk result (λ store. AreRowsOf table.now (rows_of_table store.rows table.now.name)) }
     ensures owns { IfOk result (λ store. store.owns ≡ []) }
 {
-    let first = employed(alloc, table, 1)?;
-    let second = employed(alloc, table, 2)?;
-    let mut store = Store::new(alloc, 1);
-    store.add_table(alloc, table.name.copy(alloc)?)?;
-    store.apply(alloc, &[first, second])?;
-    Ok(store)
+    let staff = staff(alloc, table)?;
+    let store = store_with(alloc, table, &staff);
+    drop(staff);
+    store
 }
 
 /// The code of a refusal, or 0.
@@ -128,14 +158,18 @@ fn first(
     requires owns { store.old.owns ≡ [] }
 {
     let answer = run(alloc, statement, table, store, locks, &ME)?;
-    Ok(code_of(&answer))
+    let code = code_of(&answer);
+    drop(answer);
+    Ok(code)
 }
 
 /// The same at a node where EMP has the employees 1 and 2.
 fn among_staff(alloc: Global, statement: &Stmt, locks: &mut Locks) -> Result<u16, AllocError> {
     let table = emp(alloc)?;
     let mut store = staffed(alloc, &table)?;
-    first(alloc, statement, &table, &mut store, locks)
+    let code = first(alloc, statement, &table, &mut store, locks);
+    drop(store);
+    code
 }
 
 /// Puts a lock on the key 1, of another branch, and on the key 2, of a branch in doubt.
@@ -170,7 +204,10 @@ fn code_over(
 fn raise_code(alloc: Global, in_doubt: bool) -> Result<u16, ReadErr> {
     let raise = statement(alloc, b"UPDATE EMP SET SAL = SAL + 1")?;
     let mut locks = Locks::new(alloc);
-    Ok(code_over(alloc, &raise, &mut locks, in_doubt)?)
+    let code = code_over(alloc, &raise, &mut locks, in_doubt);
+    drop(locks);
+    drop(raise);
+    Ok(code?)
 }
 
 #[test]

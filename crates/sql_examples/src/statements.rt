@@ -14,12 +14,23 @@ pub(crate) fn statement(alloc: Global, text: &[u8]) -> Result<Box<Stmt>, ReadErr
     }
 }
 
+/// Why a text is no statement.
+fn refusal(alloc: Global, text: &[u8]) -> Option<ReadErr> {
+    match statement(alloc, text) {
+        Ok(statement) => {
+            drop(statement);
+            None
+        }
+        Err(error) => Some(error),
+    }
+}
+
 fn is_statement(alloc: Global, text: &[u8]) -> bool {
-    statement(alloc, text).is_ok()
+    refusal(alloc, text).is_none()
 }
 
 fn is_refused(alloc: Global, text: &[u8]) -> bool {
-    matches!(&statement(alloc, text), Err(ReadErr::Bad))
+    refusal(alloc, text) == Some(ReadErr::Bad)
 }
 
 /// Texts that are statements.
@@ -145,7 +156,11 @@ const PRINTED: [(&[u8], &[u8]); 9] = [
 /// Whether the statement of a text is printed so.
 fn is_printed_as(alloc: Global, text: &[u8], printed: &[u8]) -> bool {
     match statement(alloc, text) {
-        Ok(statement) => is_printed(alloc, &statement, printed),
+        Ok(statement) => {
+            let is = is_printed(alloc, &statement, printed);
+            drop(statement);
+            is
+        }
         Err(_) => false,
     }
 }

@@ -1,10 +1,11 @@
 //! A store refuses the changes of a statement that take too many bytes, tells how many they take, and stays as it was.
-ghost use Rattle.std.specs.Prelude.{◌≡◌, IfOk};
+ghost use Rattle.std.specs.Prelude.{◌≡◌, true, IfOk};
 ghost use Rattle.std.specs.List.{AllByRecursion};
+ghost use Rattle.row_store.specs.Store.{has_table};
 
 use crate::given::{name, store_of, text};
 use dtx_values::{Cells, Change, Changes, Duplicate, Name, Row, Value};
-use row_store::StoreErr;
+use row_store::{Store, StoreErr};
 use std::alloc::{AllocError, Global};
 use tran_ids::BranchId;
 
@@ -38,6 +39,17 @@ fn wide_changes(
     Ok(changes)
 }
 
+/// Such changes of 2,025 bytes each.
+fn changes_of(alloc: Global, table: &Name, count: i64) -> Result<Changes, AllocError>
+    ensures { IfOk result (λ changes. AllByRecursion (λ c. c.table ≡ table.now) changes) }
+{
+    let bytes = vec![in alloc; b'x'; 2000]?;
+    let letters = text(alloc, bytes.as_slice())?;
+    let changes = wide_changes(alloc, table, &letters, count);
+    drop(letters);
+    changes
+}
+
 fn branch() -> BranchId {
     BranchId {
         node: 1,
@@ -50,15 +62,23 @@ fn branch() -> BranchId {
 /// What a store says to changes, and what it has afterwards: its free extents, whether the branch has changes, its rows.
 type Said = (Result<(), StoreErr>, u64, bool, usize);
 
-/// What a store of 2,048 extents says to so many changes of 2,025 bytes each.
+/// What a store says to so many changes of its table.
+fn said_by(alloc: Global, store: &mut Store, table: &Name, count: i64) -> Result<Said, AllocError>
+    requires { has_table store.old.rows table.now ≡ true }
+{
+    let changes = changes_of(alloc, table, count)?;
+    let said = store.set_pending(alloc, &branch(), changes);
+    let rows = store.all(alloc, &branch(), table)?.len();
+    Ok((said, store.free(), store.has_changes(&branch()), rows))
+}
+
+/// What a store of 2,048 extents says to so many changes.
 fn said_to(alloc: Global, count: i64) -> Result<Said, AllocError> {
     let table = name(alloc, b"t")?;
-    let letters = text(alloc, vec![in alloc; b'x'; 2000]?.as_slice())?;
-    let changes = wide_changes(alloc, &table, &letters, count)?;
     let mut store = store_of(alloc, &table, 2048)?;
-    let said = store.set_pending(alloc, &branch(), changes);
-    let rows = store.all(alloc, &branch(), &table)?.len();
-    Ok((said, store.free(), store.has_changes(&branch()), rows))
+    let said = said_by(alloc, &mut store, &table, count);
+    drop(store);
+    said
 }
 
 #[test]

@@ -6,7 +6,7 @@ use Rattle.sql_examples.proofs.runs.employed.Goals as goal
 pub returns : goal.returns
 returns c =
     let cells = c.of.ensures ∙ c.in_ok-cells.ensures.items in (
-      c.in_ok-copy.ensures,
+      c.in_ok-name.ensures,
       refl,
       (
         ap length cells ∙ sym c.requires.columns,
