@@ -11,7 +11,7 @@ use std::alloc::{AllocError, Global};
 use tran_ids::{BranchId, global_text, local_text};
 
 /// The branch that an id of COMMIT FORCE or ROLLBACK FORCE names, where `names` are the names of all nodes: a branch that
-/// is neither ended nor forced, whose printed local id it is, or whose transaction's global id.
+/// is neither ended nor forced, whose printed local id it is, or whose transaction's global id. Fails where memory runs out.
 pub fn find(
     alloc: Global,
     names: &[Name],

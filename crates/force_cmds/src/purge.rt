@@ -8,7 +8,7 @@ use std::alloc::{AllocError, Global};
 use tran_ids::BranchId;
 
 /// The branch whose row a purge hides: the first that is shown, has this local id, and is mixed for PURGE_MIXED, or
-/// committed or forced for PURGE_LOST_DB_ENTRY.
+/// committed or forced for PURGE_LOST_DB_ENTRY. Fails where memory runs out.
 pub fn may_purge(
     alloc: Global,
     kept: &[Standing],

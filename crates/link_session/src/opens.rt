@@ -62,7 +62,7 @@ impl Opens {
         })
     }
 
-    /// Takes note of an Open that is answered for the first time.
+    /// Takes note of an Open that is answered for the first time. Fails where memory runs out, and then nothing has changed.
     pub fn add(&mut self, opening: Opening) -> Result<(), AllocError>
         requires { opening_of self.old opening.parent opening.edge ≡ None }
         ensures ok { OnOk result (self.new ≡ with_opening self.old opening) }

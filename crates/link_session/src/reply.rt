@@ -7,9 +7,11 @@ use std::alloc::{AllocError, Global};
 /// What a Reply says beside its call number. A call that comes again is answered with it.
 #[derive(Debug, Drop)]
 pub struct ReplyFields {
+    /// The commit point strength that the branch weighs, where there are changes on it or below it.
     pub weight: Option<u8>,
     /// The branches of the subtree.
     pub count: u16,
+    /// The answer of the statement.
     pub result: Answer,
 }
 

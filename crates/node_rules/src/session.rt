@@ -7,8 +7,11 @@ use tran_ids::BranchId;
 /// Which call of a session is pending.
 #[derive(Clone, Copy, Debug, PartialEq, Eq)]
 pub enum PendingCall {
+    /// None.
     NoCall,
+    /// A statement that was passed on over a link.
     Statement,
+    /// A COMMIT that waits for other nodes.
     Commit,
 }
 
@@ -23,6 +26,7 @@ pub struct Session {
     pub advice: Option<Advice>,
     /// The code of the answer after which its transaction can only be rolled back.
     pub code: Option<u16>,
+    /// Its call that is not answered yet.
     pub call: PendingCall,
 }
 
@@ -32,7 +36,9 @@ pub type Sessions = Listing<Session>;
 /// The end of a client's call.
 #[derive(Debug, Drop)]
 pub struct Finished {
+    /// The client's session, 1 to 64.
     pub session: u32,
+    /// What the client is answered.
     pub answer: Answer,
 }
 

@@ -18,9 +18,11 @@ pub enum Waits {
 /// A statement that was passed on and is not answered yet.
 #[derive(Debug, Drop)]
 pub struct Going {
+    /// As it came to the branch.
     pub statement: Stmt,
     /// How many branches the tree may still get, as the Exec that brought the statement told it. At a root it is 0, and not used.
     pub room: u16,
+    /// What the branch waits for.
     pub waits: Waits,
 }
 
@@ -30,11 +32,13 @@ pub type CallNumbers = Listing<u32>;
 /// The calls of a live branch.
 #[derive(Debug, Drop)]
 pub struct Work {
+    /// The live branch.
     pub branch: BranchId,
     /// The calls that came to it.
     pub came: Calls,
     /// The last call number of each edge, and 0 before any.
     pub calls: CallNumbers,
+    /// The statement that it passed on and that is not answered yet.
     pub going: Option<Going>,
 }
 

@@ -12,7 +12,8 @@ use std::alloc::{AllocError, Global};
 use tran_ids::BranchId;
 
 /// The record of a branch that becomes sealed at this SCN with these changes. It names the children that answered Prepared
-/// and the child that the walk goes to, whose number `path` is, and which of these, or the parent, is toward the site.
+/// and the child that the walk goes to, whose number `path` is, and which of these, or the parent, is toward the site. Fails
+/// where memory runs out.
 pub fn sealed_of(
     alloc: Global,
     scn: u64,
@@ -38,7 +39,7 @@ pub fn sealed_of(
 }
 
 /// The record of the commit point site that decides with these changes, at this commit SCN. It names the children that
-/// answered Prepared.
+/// answered Prepared. Fails where memory runs out.
 pub fn decided_of(
     alloc: Global,
     scn: u64,
@@ -71,7 +72,7 @@ fn copies(alloc: Global, live: &Live, path: Option<u8>) -> Result<(Peers, Bytes)
     Ok((children, comment))
 }
 
-/// The neighbours of the commit point site: its parent, then the children that answered Prepared.
+/// The neighbours of the commit point site: its parent, then the children that answered Prepared. Fails where memory runs out.
 pub fn site_neighbors(alloc: Global, live: &Live) -> Result<Listing<BranchId>, AllocError>
     ensures { IfOk result (λ neighbors. neighbors ≡ site_neighbors_of live.now) }
 {

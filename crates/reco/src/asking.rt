@@ -8,7 +8,9 @@ use tran_ids::BranchId;
 /// What one branch sends when its node recovers.
 #[derive(Debug, Drop)]
 pub struct Asking {
+    /// The branch that sends.
     pub me: BranchId,
+    /// Its messages.
     pub says: Posts,
 }
 

@@ -8,8 +8,11 @@ use wire_msg::Kind;
 /// A message before the node's clock is set on it.
 #[derive(Debug, Drop)]
 pub struct Post {
+    /// The branch that sends it.
     pub from: BranchId,
+    /// The branch that it is for.
     pub to: BranchId,
+    /// What it says.
     pub kind: Kind,
 }
 

@@ -1,6 +1,10 @@
 mod NumberLaws
 mod BranchLaws
 mod KeyLaws
+mod FindLaws
+mod MoreLaws
+mod LessLaws
+mod ChangedLaws
 mod KeptLaws
 mod MapLaws
 mod LinkLaws

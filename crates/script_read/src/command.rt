@@ -60,9 +60,11 @@ pub enum Command {
         from: u8,
         to: u8,
     },
+    /// Stops a node at once.
     Stop {
         node: u8,
     },
+    /// Starts a node from the records on its disk.
     Start {
         node: u8,
     },
@@ -102,14 +104,19 @@ pub enum Command {
     Reco {
         node: u8,
     },
+    /// Shows a node's DBA_2PC_PENDING.
     ShowPending {
         node: u8,
     },
+    /// Shows a node's DBA_2PC_NEIGHBORS.
     ShowNeighbors {
         node: u8,
     },
+    /// Shows the book of all nodes.
     ShowBook,
+    /// Shows the messages in flight.
     ShowNet,
+    /// Shows the bytes of a node's disk.
     ShowDisk {
         node: u8,
     },

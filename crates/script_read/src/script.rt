@@ -112,7 +112,8 @@ fn commands_in(alloc: Global, bytes: &[u8]) -> Result<Commands, ScriptErr>
     Ok(reading.commands)
 }
 
-/// What a script asks for: its commands in order, or the line of the first bad one and why it is bad.
+/// What a script asks for: its commands in order, or the line of the first bad one and why it is bad. Fails with NoMemory
+/// where memory runs out.
 pub fn read_script(alloc: Global, bytes: &[u8]) -> Result<Commands, ScriptErr>
     requires short { length bytes.now ≤ script_limit }
     // Just what is asked for: the commands, or the first bad one's line and reason.

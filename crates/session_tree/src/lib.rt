@@ -1,7 +1,6 @@
 //! Live branches and their session trees: what a branch weighs, the walk to the commit point site, the room in a tree.
 //!
-//! Children have numbers from 1, in the order in which they were opened. `specs/Tree.antt` defines the weight of a branch,
-//! the walk to the commit point site, and the room in a tree.
+//! Children have numbers from 1, in the order in which they were opened. `specs/Tree.antt` has the definitions.
 #![tactic(auto)]
 
 mod act;

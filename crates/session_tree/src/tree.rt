@@ -93,7 +93,7 @@ pub fn room(live: &Live, given: u16) -> u16
     }
 }
 
-/// Adds a child behind the others.
+/// Adds a child behind the others. Fails where memory runs out, and then nothing has changed.
 pub fn add_edge(live: &mut Live, edge: Edge) -> Result<(), AllocError>
     requires { length live.old.edges < branch_limit }
     ensures ok { OnOk result (live.new ≡ add_edge_of live.old edge) }

@@ -12,7 +12,7 @@ use std::alloc::{AllocError, Global};
 use telling_parts::{Call, call_at};
 
 /// What is due next.
-#[derive(Debug, Drop)]
+#[derive(Drop)]
 pub enum Due {
     /// A loss that is to be told.
     Tells { k: u64 },

@@ -10,7 +10,7 @@ use std::marker::Model;
 use std::mem;
 
 /// A client's call that is pending.
-#[derive(Debug, Drop)]
+#[derive(Drop)]
 pub struct Call {
     /// The number of its command, from 1.
     pub command: u32,

@@ -12,7 +12,7 @@ use sql_statement::Stmt;
 use std::alloc::{AllocError, Global};
 
 /// How a pending call ends.
-#[derive(Debug, Drop)]
+#[derive(Drop)]
 pub enum Ending {
     /// No call was pending.
     NoCall,

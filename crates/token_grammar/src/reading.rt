@@ -1,7 +1,8 @@
 //! What stands at the front of some tokens, and the tokens behind it.
 //!
 //! Each function is the reader of one grammar of `specs/Grammar.antt`. A grammar made of several is read by calling
-//! theirs one after the other, and its contract follows from theirs.
+//! theirs one after the other, and its contract follows from theirs. A reader fails with Bad where the tokens in front are
+//! none of its grammar, and one of names with NoMemory too where memory runs out.
 ghost use Rattle.std.specs.Prelude.{◌≡◌, ◌==◌, if◌then◌else◌, length, nat_le, Option, Some, None};
 ghost use Rattle.dtx_values.specs.Name.{name_of};
 ghost use Rattle.token_grammar.specs.Gives.{Gives};

@@ -31,7 +31,8 @@ pub trait Repeated {
         ensures { Gives (λ x. (x.0, x.1.now)) result (grammar.read tokens.now) };
 }
 
-/// As many of it as stand one after the other.
+/// As many of it as stand one after the other. Fails with Bad where one begins and is not whole, and with NoMemory where
+/// memory runs out.
 pub fn many<R: Repeated>(
     alloc: Global,
     tokens: &[Token],
@@ -118,7 +119,8 @@ impl<S: Separator, P: Part> Repeated for Behind<S, P> {
     }
 }
 
-/// One part or more, with a separator between them.
+/// One part or more, with a separator between them. Fails with Bad where there is no part in front or behind a separator, and
+/// with NoMemory where memory runs out.
 pub fn separated<S: Separator, P: Part>(
     alloc: Global,
     tokens: &[Token],
@@ -131,7 +133,7 @@ pub fn separated<S: Separator, P: Part>(
     Ok((parts, rest))
 }
 
-/// One part or more, with commas between them.
+/// One part or more, with commas between them. Fails as [`separated`] does.
 pub fn commas<P: Part>(alloc: Global, tokens: &[Token]) -> Result<(Vec<P::Item>, &[Token]), ReadErr>
     ensures { Gives (λ x. (x.0.items, x.1.now)) result ((spec.commas P.grammar).read tokens.now) }
 {

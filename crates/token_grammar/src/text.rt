@@ -16,7 +16,7 @@ fn value_in<P: Part>(alloc: Global, text: &[u8]) -> Result<P::Item, ReadErr>
     whole(value, rest)
 }
 
-/// The value that a text spells, all of it.
+/// The value that a text spells, all of it. Fails with Bad where it spells none, and with NoMemory where memory runs out.
 pub fn read_text<P: Part>(alloc: Global, text: &[u8]) -> Result<P::Item, ReadErr>
     requires { IsExact P.grammar anything }
     // The text spells what is returned.

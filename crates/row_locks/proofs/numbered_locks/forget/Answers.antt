@@ -2,7 +2,8 @@ use Rattle.std.proofs.Common.{None, get_or, sym, subst, ◌∙◌}
 use Rattle.std.specs.Prelude.{IfSome}
 use Rattle.indexmap.specs.IndexMap.{Updates}
 use Rattle.row_locks.specs.declared.lock_key.LockKey.{LockKey}
-use Rattle.row_locks.proofs.KeptLaws.{found_as, asked, first_entry, forgotten, nothing_forgotten}
+use Rattle.row_locks.proofs.FindLaws.{found_as, asked}
+use Rattle.row_locks.proofs.KeptLaws.{first_entry, forgotten, nothing_forgotten}
 use Rattle.row_locks.proofs.numbered_locks.forget.Goals as goal
 
 pub returns-in-Some : goal.returns-in-Some

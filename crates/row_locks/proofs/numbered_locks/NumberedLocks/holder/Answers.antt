@@ -4,7 +4,8 @@ use Rattle.std.specs.Option.{option_copied, option_map}
 use Rattle.row_locks.specs.declared.held_key.HeldKey.{HeldKey}
 use Rattle.row_locks.specs.declared.lock_key.LockKey.{LockKey}
 use Rattle.row_locks.specs.Numbered.{holder_in, holder_on, number_on}
-use Rattle.row_locks.proofs.KeptLaws.{lookup_is, nobody_on, lock_on}
+use Rattle.row_locks.proofs.FindLaws.{lookup_is}
+use Rattle.row_locks.proofs.KeptLaws.{nobody_on, lock_on}
 use Rattle.row_locks.proofs.numbered_locks.NumberedLocks.holder.Goals as goal
 
 pub returns-in_err-number-clause-holder : goal.returns-in_err-number-clause-holder

@@ -1,7 +1,8 @@
 use Rattle.std.proofs.Common.{◌≡◌, ◌<◌, List, true, length, sym, ap, ◌∙◌, arith}
 use Rattle.std.specs.Map.{lookup}
 use Rattle.row_locks.specs.Numbered.{Numbered, is_number, is_live_one}
-use Rattle.row_locks.proofs.KeptLaws.{not_all_doubted, one_doubted, doubted_before}
+use Rattle.row_locks.proofs.KeptLaws.{not_all_doubted, one_doubted}
+use Rattle.row_locks.proofs.ChangedLaws.{doubted_before}
 use Rattle.row_locks.proofs.numbered_locks.NumberedLocks.mark_in_doubt.Goals as goal
 
 pub prove-unreachable-requires : goal.prove-unreachable-requires

@@ -6,7 +6,8 @@ use Rattle.indexmap.specs.IndexMap.{Updates}
 use Rattle.row_locks.specs.Numbered.{Numbered, is_on}
 use Rattle.std.proofs.Common.{find}
 use Rattle.row_locks.proofs.NumberLaws.{insert_last}
-use Rattle.row_locks.proofs.KeptLaws.{found_as, one_more}
+use Rattle.row_locks.proofs.FindLaws.{found_as}
+use Rattle.row_locks.proofs.KeptLaws.{one_more}
 use Rattle.row_locks.proofs.numbered_locks.NumberedLocks.push.Goals as goal
 
 pub invariant_of-self-2 : goal.invariant_of-self-2

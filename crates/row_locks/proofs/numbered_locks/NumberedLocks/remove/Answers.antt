@@ -2,7 +2,8 @@ use Rattle.std.proofs.Common.{◌≡◌, ◌-◌, ◌≤◌, List, [], ◌∷◌
 use Rattle.std.specs.Map.{lookup}
 use Rattle.row_locks.specs.Numbered.{Numbered, is_number, without_numbers}
 use Rattle.row_locks.proofs.NumberLaws.{removed}
-use Rattle.row_locks.proofs.KeptLaws.{one_if, one_less, some_doubted}
+use Rattle.row_locks.proofs.LessLaws.{one_if}
+use Rattle.row_locks.proofs.KeptLaws.{one_less, some_doubted}
 use Rattle.row_locks.proofs.numbered_locks.NumberedLocks.remove.Goals as goal
 
 pub overflow_sub-self : goal.overflow_sub-self
