@@ -1,37 +1,35 @@
 -- In every lawful run who answered Ready was told that the walk comes there, and once a branch collects each of its children was asked.
-use Rattle.std.proofs.Common.{◌≡◌, ℕ, Bool, true, false, List, [], ◌∷◌, ◌++◌, map, Option, Some, None, inl, inr, refl, sym, ap, subst, ◌∙◌, append-nil}
+use Rattle.std.proofs.Common.{◌≡◌, ℕ, Bool, true, false, List, [], ◌∷◌, ◌++◌, map, Some, None, inl, inr, refl, sym, ap, subst, ◌∙◌}
 use Rattle.std.specs.Prelude.{IfSome}
 use Rattle.std.specs.List.{AllByRecursion}
-use Rattle.tran_ids.proofs.NumberedLemmas.{set_or_before}
 use Rattle.node_rules.specs.Data.{BranchId, Kind, Live, Msg, Post, Input, RedoRecord}
 use Rattle.node_rules.specs.Data.inputs
 use Rattle.node_rules.specs.Data.kinds
 use Rattle.node_rules.specs.Data.phases
 use Rattle.node_rules.specs.declared.work.Going.{Going}
-use Rattle.node_rules.specs.Words.{numbered, set_numbered}
 use Rattle.node_rules.specs.Inputs.{Came}
 use Rattle.node_rules.specs.Kept.{Kept, Branch, Deed, live_at, branch_at}
-use Rattle.node_rules.specs.Turn.{turn_of, start_of, made, heard, deed_of, stamped}
+use Rattle.node_rules.specs.Turn.{turn_of, start_of, heard, deed_of, stamped}
 use Rattle.run_laws.specs.Data.{Turn, Happening}
 use Rattle.run_laws.specs.Data.happenings
-use Rattle.run_laws.specs.Facts.{Facts, first_facts, place_at, flat, node_at, kept_after, with_boot, facts_after, facts_of}
+use Rattle.run_laws.specs.Facts.{Facts, first_facts, place_at, node_at, kept_after, facts_after, facts_of}
 use Rattle.run_laws.specs.Lawful.{MayTurn, MayHappen, IsOwed, History, IsLawfulRun, facts_at}
 use Rattle.run_laws.specs.InTurnLaws.{post_of, said_in}
 use Rattle.run_laws.specs.WalkLaws.{is_below, was_sent}
 use Rattle.run_laws.proofs.ListLemmas.{all_weaker, all_map}
 use Rattle.run_laws.proofs.LawfulLemmas.{serves}
 use Rattle.run_laws.proofs.SaidLemmas.{sent_after}
-use Rattle.run_laws.proofs.AtNodeLemmas.{turn_here, turn_elsewhere}
-use Rattle.run_laws.proofs.TurnEventLemmas.{cases_nat}
-use Rattle.run_laws.proofs.EventsStandLemmas.{first_node, run_stands}
+use Rattle.run_laws.proofs.AtNodeLemmas.{turn_here}
+use Rattle.run_laws.proofs.EventsStandLemmas.{run_stands}
 use Rattle.run_laws.proofs.BirthsStandLemmas.{came_so}
-use Rattle.run_laws.proofs.SaidPostLemmas.{posts_back, posts_of, said_after}
+use Rattle.run_laws.proofs.SaidPostLemmas.{posts_of, said_after}
 use Rattle.run_laws.proofs.FreezeLemmas.{working_or}
 use Rattle.run_laws.proofs.FreezeRunLemmas.{asked_stand_still}
 use Rattle.tree_laws.specs.AskLaws.{way_of}
 use Rattle.tree_laws.specs.AnswerLaws.{AnswersTold, ReadyIs, AnswersAreAsTold}
 use Rattle.tree_laws.proofs.AskLemmas.{sent_more}
 use Rattle.tree_laws.proofs.AskRunLemmas.{collects_as_told}
+use Rattle.tree_laws.proofs.EachNodeLemmas.{EachNode, turn_nodes, quiet_says, nodes_on, nodes_first}
 use Rattle.tree_laws.proofs.PrefixLemmas.{so_far, f_at, facts_on, lawful_on, keep_prefix}
 use Rattle.tree_laws.proofs.WhyLemmas.{SaidWhy, why_on}
 use Rattle.tree_laws.proofs.AnswerStepLemmas.{answers_on}
@@ -69,12 +67,12 @@ NodeAnswers said k = AllByRecursion (AnswersTold said) k.lives
 
 -- The answers of all live branches, and each Ready that was sent.
 pub record AnswerStand (f : Facts) : Type 0 where
-  pub nodes : (n : ℕ) → IfSome (node_at f n) (NodeAnswers (said_in f))
+  pub nodes : EachNode NodeAnswers f
   pub ready : AllByRecursion (λ x. ReadyIs (said_in f) x.msg.from x.msg.to x.msg.kind) f.net.packets
 
-node_more : (said says : List Post) (o : Option Kept) → IfSome o (NodeAnswers said) → IfSome o (NodeAnswers (said ++ says))
-node_more said says None is = tt
-node_more said says (Some k) is = lives_more said says k.lives is
+start_answers : (ms : List Post) (zs : List RedoRecord) → NodeAnswers ms (start_of zs)
+unfolding start_of
+start_answers ms zs = tt
 
 module _ (t : History) (before : List Happening) (lawful : IsLawfulRun (so_far t before)) (now : AnswerStand (f_at t before)) where
   abbrev f : Facts
@@ -111,27 +109,8 @@ module _ (t : History) (before : List Happening) (lawful : IsLawfulRun (so_far t
         answers_on said (place_at t.places u.node) u.input came_ready (serves t.places f u k may).step works
         (subst (λ (ls : List Live). AllByRecursion (AnswersTold said) ls) (sym (lives_heard k u.input)) lives_before)
 
-    sent_is : u.cut ≡ false → IsOwed (place_at t.places u.node) k u.input u.wrote u.sent false → said_in g ≡ said ++ d.says
-    unfolding turn_of
-    sent_is cut owed = said_after t.places t.commands f (happenings.Turn u) ∙ ap (λ xs. said ++ xs) (ap (λ xs. map post_of xs) owed.1 ∙ posts_back d.after.clock d.says)
-
     here : node_at g u.node ≡ kept_after u.cut (Some (turn_of (place_at t.places u.node) k u.input))
     here = (turn_here t.places t.commands f (run_stands (so_far t before) lawful).0.even u k may.up).0
-
-    nodes_after : (cut : Bool) → u.cut ≡ cut → IsOwed (place_at t.places u.node) k u.input u.wrote u.sent cut → (m : ℕ) → IfSome (node_at g m) (NodeAnswers (said_in g))
-    unfolding turn_of
-    nodes_after true cut owed m =
-        subst (λ xs. IfSome (node_at g m) (NodeAnswers xs)) (sym (said_after t.places t.commands f (happenings.Turn u)))
-        (node_more said (map post_of u.sent) (node_at g m) (elim (cases_nat m u.node) [
-          | inl at ↦ subst (λ i. IfSome (node_at g i) (NodeAnswers said)) (sym at) (subst (λ o. IfSome o (NodeAnswers said)) (sym (here ∙ ap (λ c. kept_after c (Some (turn_of (place_at t.places u.node) k u.input))) cut)) tt)
-          | inr other ↦ subst (λ o. IfSome o (NodeAnswers said)) (sym (turn_elsewhere t.places t.commands f (run_stands (so_far t before) lawful).0.even u m (λ e. other (sym e))).0) (now.nodes m)
-        ]))
-    nodes_after false cut owed m =
-        subst (λ xs. IfSome (node_at g m) (NodeAnswers xs)) (sym (said_after t.places t.commands f (happenings.Turn u)))
-        (node_more said (map post_of u.sent) (node_at g m) (elim (cases_nat m u.node) [
-          | inl at ↦ subst (λ i. IfSome (node_at g i) (NodeAnswers said)) (sym at) (subst (λ o. IfSome o (NodeAnswers said)) (sym (here ∙ ap (λ c. kept_after c (Some (turn_of (place_at t.places u.node) k u.input))) cut)) lives_after)
-          | inr other ↦ subst (λ o. IfSome o (NodeAnswers said)) (sym (turn_elsewhere t.places t.commands f (run_stands (so_far t before) lawful).0.even u m (λ e. other (sym e))).0) (now.nodes m)
-        ]))
 
     -- the run with this turn
     abbrev after : List Happening
@@ -171,60 +150,41 @@ module _ (t : History) (before : List Happening) (lawful : IsLawfulRun (so_far t
         subst (λ xs. AllByRecursion (λ x. ReadyIs xs x.msg.from x.msg.to x.msg.kind) f.net.packets) (sym (said_after t.places t.commands f (happenings.Turn u)))
         (all_weaker (λ x. ReadyIs said x.msg.from x.msg.to x.msg.kind) _ (λ x is. ready_more said (map post_of u.sent) x.msg.from x.msg.to x.msg.kind is) f.net.packets now.ready)
 
-    turn_answers : AnswerStand g
-    turn_answers = record {
-      nodes = nodes_after u.cut refl may.owed;
-      ready = sent_after (λ m. ReadyIs (said_in g) m.from m.to m.kind) t.places t.commands f (happenings.Turn u) (ready_after u.cut refl may.owed) old_ready;
-    }
-
   -- ---- every happening
 
-  start_answers : (ms : List Post) (zs : List RedoRecord) → NodeAnswers ms (start_of zs)
-  unfolding start_of
-  start_answers ms zs = tt
-
-  set_node : (m i : ℕ) (o : Option Kept) → IfSome o (NodeAnswers said) → IfSome (flat (numbered (set_numbered f.nodes m o) i)) (NodeAnswers said)
-  set_node m i o new = elim (set_or_before f.nodes m i o) [
-    | inl still ↦ subst (λ x. IfSome (flat x) (NodeAnswers said)) (sym still) (now.nodes i)
-    | inr set ↦ subst (λ x. IfSome (flat x) (NodeAnswers said)) (sym set.1) new
-  ]
-
-  -- nothing is sent
-  quiet : (h : Happening) → posts_of h ≡ [] → AllByRecursion (λ x. ReadyIs said x.msg.from x.msg.to x.msg.kind) (facts_after t.places t.commands f h).net.packets
-      → ((i : ℕ) → IfSome (node_at (facts_after t.places t.commands f h) i) (NodeAnswers said)) → AnswerStand (facts_after t.places t.commands f h)
-  quiet h none ready nodes =
-      let sent : said_in (facts_after t.places t.commands f h) ≡ said = said_after t.places t.commands f h ∙ (ap (λ xs. said ++ xs) none ∙ append-nil said) in
-      record {
-        nodes = λ i. subst (λ xs. IfSome (node_at (facts_after t.places t.commands f h) i) (NodeAnswers xs)) (sym sent) (nodes i);
-        ready = subst (λ xs. AllByRecursion (λ x. ReadyIs xs x.msg.from x.msg.to x.msg.kind) (facts_after t.places t.commands f h).net.packets) (sym sent) ready;
-      }
-
+  -- a happening that sends nothing
   abbrev ReadySo : Msg → Type 0
   ReadySo m = ReadyIs said m.from m.to m.kind
 
+  quiet : (h : Happening) → posts_of h ≡ [] → AllByRecursion (λ x. ReadySo x.msg) (facts_after t.places t.commands f h).net.packets
+      → AllByRecursion (λ x. ReadyIs (said_in (facts_after t.places t.commands f h)) x.msg.from x.msg.to x.msg.kind) (facts_after t.places t.commands f h).net.packets
+  quiet h none = quiet_says t.places t.commands f (λ xs. AllByRecursion (λ x. ReadyIs xs x.msg.from x.msg.to x.msg.kind) (facts_after t.places t.commands f h).net.packets) h none
+
+  ready_on : (h : Happening) → MayHappen t.places t.commands f h → AllByRecursion (λ x. ReadyIs (said_in (facts_after t.places t.commands f h)) x.msg.from x.msg.to x.msg.kind) (facts_after t.places t.commands f h).net.packets
+  ready_on (happenings.Turn u) may =
+      sent_after (λ m. ReadyIs (said_in (g u may.0 may.1)) m.from m.to m.kind) t.places t.commands f (happenings.Turn u) (ready_after u may.0 may.1 u.cut refl may.1.owed) (old_ready u may.0 may.1)
+  ready_on (happenings.Stopped m) may = quiet (happenings.Stopped m) refl (sent_after ReadySo t.places t.commands f (happenings.Stopped m) tt now.ready)
+  ready_on (happenings.Started m boot) may = quiet (happenings.Started m boot) refl (sent_after ReadySo t.places t.commands f (happenings.Started m boot) tt now.ready)
+  ready_on (happenings.Begun c) may = quiet (happenings.Begun c) refl (sent_after ReadySo t.places t.commands f (happenings.Begun c) tt now.ready)
+  ready_on (happenings.Cut a b) may = quiet (happenings.Cut a b) refl (sent_after ReadySo t.places t.commands f (happenings.Cut a b) tt now.ready)
+  ready_on (happenings.Join a b) may = quiet (happenings.Join a b) refl (sent_after ReadySo t.places t.commands f (happenings.Join a b) tt now.ready)
+  ready_on (happenings.Lost j) may = quiet (happenings.Lost j) refl (sent_after ReadySo t.places t.commands f (happenings.Lost j) tt now.ready)
+
   answers_go_on : (h : Happening) → MayHappen t.places t.commands f h → AnswerStand (facts_after t.places t.commands f h)
-  unfolding facts_after
-  answers_go_on (happenings.Turn u) may = turn_answers u may.0 may.1
-  answers_go_on (happenings.Stopped m) may = quiet (happenings.Stopped m) refl (sent_after ReadySo t.places t.commands f (happenings.Stopped m) tt now.ready) (λ i. set_node m i None tt)
-  answers_go_on (happenings.Started m boot) may =
-      quiet (happenings.Started m boot) refl (sent_after ReadySo t.places t.commands f (happenings.Started m boot) tt now.ready) (λ i. set_node m i (Some (start_of (with_boot f m boot))) (start_answers said (with_boot f m boot)))
-  answers_go_on (happenings.Begun c) may = quiet (happenings.Begun c) refl (sent_after ReadySo t.places t.commands f (happenings.Begun c) tt now.ready) now.nodes
-  answers_go_on (happenings.Cut a b) may = quiet (happenings.Cut a b) refl (sent_after ReadySo t.places t.commands f (happenings.Cut a b) tt now.ready) now.nodes
-  answers_go_on (happenings.Join a b) may = quiet (happenings.Join a b) refl (sent_after ReadySo t.places t.commands f (happenings.Join a b) tt now.ready) now.nodes
-  answers_go_on (happenings.Lost j) may = quiet (happenings.Lost j) refl (sent_after ReadySo t.places t.commands f (happenings.Lost j) tt now.ready) now.nodes
+  answers_go_on h may = record {
+    nodes = nodes_on t.places t.commands f NodeAnswers start_answers now.nodes
+        (λ u k may. turn_nodes t.places t.commands f (run_stands (so_far t before) lawful).0.even u k may NodeAnswers now.nodes (lives_more said _ _ (lives_after u k may)) (λ m other j there old. lives_more said _ j.lives old)) h may;
+    ready = ready_on h may;
+  }
 
   pub answers_next : (h : Happening) → MayHappen t.places t.commands f h → AnswerStand (f_at t (before ++ h ∷ []))
   answers_next h may = subst AnswerStand (sym (facts_on t.places t.commands (first_facts t.places) before h)) (answers_go_on h may)
 
 -- ---- every run
 
-made_answers : NodeAnswers [] made
-unfolding start_of
-made_answers = tt
-
 first_answers : (t : History) → AnswerStand (f_at t [])
 unfolding facts_of
-first_answers t = record { nodes = λ n. first_node (λ o. IfSome o (NodeAnswers [])) tt made_answers t.places n; ready = tt }
+first_answers t = record { nodes = nodes_first NodeAnswers start_answers t.places; ready = tt }
 
 pub run_answers : (t : History) → IsLawfulRun t → AnswerStand (facts_at t)
 run_answers t lawful = keep_prefix t (λ hs. AnswerStand (f_at t hs)) (λ before h so may now. answers_next t before so now h may) lawful (first_answers t)

@@ -1,34 +1,32 @@
 -- In every lawful run Prepares go down the tree, and live branches collect as their parents told them.
-use Rattle.std.proofs.Common.{◌≡◌, ◌≢◌, ℕ, ◌&&◌, ◌||◌, Bool, true, false, List, [], ◌∷◌, ◌++◌, map, Option, Some, None, inl, inr, refl, sym, ap, subst, ◌∙◌, append-nil}
+use Rattle.std.proofs.Common.{◌≡◌, ◌≢◌, ℕ, ◌&&◌, ◌||◌, Bool, true, false, List, [], ◌∷◌, ◌++◌, map, Some, None, inl, inr, refl, sym, ap, subst, ◌∙◌}
 use Rattle.std.specs.Prelude.{IfSome}
 use Rattle.std.specs.List.{AllByRecursion}
 use Rattle.std.proofs.lemmas.Bool.{cond_both, or_right}
 use Rattle.tran_ids.proofs.BranchLemmas.{same_from_equal}
-use Rattle.tran_ids.proofs.NumberedLemmas.{set_or_before, set_leaves}
 use Rattle.session_tree.specs.Live.{children_of}
 use Rattle.session_tree.specs.Tree.{step}
 use Rattle.node_rules.specs.Data.{BranchId, Kind, Live, Post, Place, RedoRecord}
 use Rattle.node_rules.specs.Data.kinds
-use Rattle.node_rules.specs.Words.{same, numbered, set_numbered}
+use Rattle.node_rules.specs.Words.{same, numbered}
 use Rattle.node_rules.specs.Inputs.{Came}
 use Rattle.node_rules.specs.Kept.{Kept, Deed, live_id, live_at}
-use Rattle.node_rules.specs.Turn.{turn_of, start_of, made, heard, deed_of}
+use Rattle.node_rules.specs.Turn.{start_of, heard, deed_of}
 use Rattle.agreement.specs.Events.{Event}
 use Rattle.run_laws.specs.Data.{Packet, Turn, Happening, Command}
 use Rattle.run_laws.specs.Data.happenings
-use Rattle.run_laws.specs.Facts.{Facts, first_facts, place_at, flat, node_at, kept_after, with_boot, facts_after, facts_of}
-use Rattle.run_laws.specs.Lawful.{IsPlace, MayTurn, MayHappen, IsOwed, IsLawful, History, IsLawfulRun, facts_at}
+use Rattle.run_laws.specs.Facts.{Facts, first_facts, place_at, node_at, facts_after, facts_of}
+use Rattle.run_laws.specs.Lawful.{IsPlace, MayTurn, MayHappen, IsLawful, History, IsLawfulRun, facts_at}
 use Rattle.run_laws.specs.RunEvents.{events_after}
 use Rattle.run_laws.specs.Births.{Born, births_after, births_from, births_of, born_at}
 use Rattle.run_laws.specs.BirthLaws.{Began, LiveIs, NamesAre}
 use Rattle.run_laws.specs.Trail.{is_prepare}
-use Rattle.run_laws.specs.InTurnLaws.{post_of, packet_post, said_in}
+use Rattle.run_laws.specs.InTurnLaws.{packet_post, said_in}
 use Rattle.run_laws.specs.FreezeLaws.{was_asked}
 use Rattle.run_laws.specs.WalkLaws.{is_below, was_sent}
 use Rattle.run_laws.proofs.ListLemmas.{all_weaker}
 use Rattle.run_laws.proofs.OwnLemmas.{all_found}
-use Rattle.run_laws.proofs.TurnEventLemmas.{cases_nat}
-use Rattle.run_laws.proofs.EventsStandLemmas.{first_node, node_so, owned_so}
+use Rattle.run_laws.proofs.EventsStandLemmas.{node_so, owned_so}
 use Rattle.run_laws.proofs.BirthLemmas.{news_of, began_more}
 use Rattle.run_laws.proofs.BirthsStandLemmas.{came_so, all_unborn}
 use Rattle.run_laws.proofs.BirthRunLemmas.{StandBorn, stand_born_on, stand_born_first}
@@ -36,7 +34,7 @@ use Rattle.run_laws.proofs.NeighborLemmas.{News}
 use Rattle.node_rules.specs.LiveBranches.{EachLive}
 use Rattle.node_rules.proofs.LiveLemmas.{each_same, none_live}
 use Rattle.run_laws.proofs.RestRunLemmas.{heard_rests, RootsStand, roots_stand_on, first_rests}
-use Rattle.run_laws.proofs.SaidPostLemmas.{posts_back, posts_of, said_after, unborn_asks}
+use Rattle.run_laws.proofs.SaidPostLemmas.{unborn_asks}
 use Rattle.run_laws.proofs.InTurnRunLemmas as calls
 use Rattle.run_laws.proofs.InTurnRunLemmas.{CallsStand, heard_calls, calls_stand_on, first_calls}
 use Rattle.run_laws.proofs.FreezeStepLemmas as frost
@@ -45,6 +43,7 @@ use Rattle.run_laws.proofs.FreezeRunLemmas.{FreezeStand, freeze_on, first_freeze
 use Rattle.tree_laws.specs.AskLaws.{HeardAbove, GoesDown, AskersWereAsked, WalkGoesOn, way_of, tells, AsTold, CollectsAsTold, EdgesAsked, PathsAreTold}
 use Rattle.tree_laws.proofs.AskLemmas.{sent_more, sent_split, sent_wider, tells_asks, below_asks, tells_own, stays_told}
 use Rattle.tree_laws.proofs.AskStepLemmas.{Asker, Leaves, told_on}
+use Rattle.tree_laws.proofs.EachNodeLemmas.{EachNode, turn_says, turn_nodes, quiet_says, nodes_on, nodes_first}
 
 -- ---- messages that came
 
@@ -72,7 +71,7 @@ NodeTold said k = EachLive (λ l w. AsTold said l) k.lives k.works
 pub record AskStand (f : Facts) (bs : List Born) : Type 0 where
   pub asks : GoesDown is_prepare bs (said_in f)
   pub walk : GoesDown is_below bs (said_in f)
-  pub nodes : (n : ℕ) → IfSome (node_at f n) (NodeTold (said_in f))
+  pub nodes : EachNode NodeTold f
 
 -- births and messages that are added leave it so
 pub down_more : (kind : Kind → Bool) (bs cs : List Born) (said says : List Post) (p : BranchId) → ((x : Born) → Began bs x → Began cs x) → HeardAbove kind bs said p → HeardAbove kind cs (said ++ says) p
@@ -81,6 +80,10 @@ down_more kind bs cs said says p more is = (is.0, more is.0 is.1, is.2, (λ q ab
 told_stay : (said says : List Post) (k : Kept) → ((b : BranchId) (l : Live) → live_at k b ≡ Some l → (c : BranchId) → was_asked says l.me c ≡ false) → NodeTold said k → NodeTold (said ++ says) k
 told_stay said says k none now =
     each_same (λ l w. AsTold said l) (λ l w. AsTold (said ++ says) l) k.lives k.works now (λ y v live any is. stays_told said says y.me y.parent y.phase (children_of y) (step y) (λ c. none y.me y live c) is)
+
+start_told : (ms : List Post) (zs : List RedoRecord) → NodeTold ms (start_of zs)
+unfolding start_of
+start_told ms zs = none_live _
 
 module _ (places : List Place) (asked : List Command) (each : (n : ℕ) (p : Place) → numbered places n ≡ Some p → IsPlace places n p) where
   module _ (f : Facts) (t : List Event) (bs : List Born) (stand : StandBorn places asked each f t bs) (roots : RootsStand places asked each f) (turned : CallsStand f) (ice : FreezeStand f) (now : AskStand f bs) where
@@ -141,9 +144,6 @@ module _ (places : List Place) (asked : List Command) (each : (n : ℕ) (p : Pla
       abbrev more : List Post
       more = said ++ d.says
 
-      here_after : node_at g n ≡ kept_after u.cut (Some (turn_of p k u.input))
-      here_after = calls.here_after places asked each f t bs stand roots turned u k may
-
       wider : (x : Born) → Began bs x → Began bs2 x
       wider x is = cond_both u.cut bs (bs ++ _) (λ xs. Began xs x) (λ cut. is) (λ whole. began_more bs _ x is)
 
@@ -174,10 +174,6 @@ module _ (places : List Place) (asked : List Command) (each : (n : ℕ) (p : Pla
             let told = above_told q c a in
             (told.0, told.1, told.2, (λ r above. subst (λ b. was_sent (tells b) more r q ≡ true) (a.below is) (told.3 r above)))
 
-      elsewhere : (m : ℕ) → m ≢ n → node_at g m ≡ node_at f m
-      unfolding facts_after
-      elsewhere m other = ap flat (set_leaves f.nodes n m _ (λ e. other (sym e)))
-
       -- a branch of another node asks nobody now
       pub others_silent : (m : ℕ) → m ≢ n → (j : Kept) → node_at f m ≡ Some j → (b : BranchId) (l : Live) → live_at j b ≡ Some l → (c : BranchId) → was_asked d.says l.me c ≡ false
       others_silent m other j there b l live c = by (was_asked d.says l.me c) refl
@@ -186,16 +182,6 @@ module _ (places : List Place) (asked : List Command) (each : (n : ℕ) (p : Pla
           by false is = refl
           by true is = absurd (other (calls.elsewhere_is places asked each f t bs stand roots turned u k may m j there b l live (leaves.1 l.me c is).here))
 
-      other_node : (m : ℕ) → m ≢ n → IfSome (node_at g m) (NodeTold more)
-      other_node m other = subst (λ o. IfSome o (NodeTold more)) (sym (elsewhere m other)) (by (node_at f m) refl (now.nodes m))
-        where
-          by : (o : Option Kept) → node_at f m ≡ o → IfSome o (NodeTold said) → IfSome o (NodeTold more)
-          by None there old = tt
-          by (Some j) there old = told_stay said d.says j (others_silent m other j there) old
-
-      same_node : (m : ℕ) → m ≢ n → IfSome (node_at g m) (NodeTold said)
-      same_node m other = subst (λ o. IfSome o (NodeTold said)) (sym (elsewhere m other)) (now.nodes m)
-
       -- all messages after the turn
       down_all : (kind : Kind → Bool) → GoesDown kind bs said → ((q c : BranchId) → was_sent kind d.says q c ≡ true → HeardAbove kind bs2 more q) → GoesDown kind bs2 more
       down_all kind old new q c is = elim (sent_split kind said d.says q c is) [ inl before ↦ down_more kind bs bs2 said d.says q wider (old q c before) | inr now ↦ new q c now ]
@@ -203,82 +189,31 @@ module _ (places : List Place) (asked : List Command) (each : (n : ℕ) (p : Pla
       down_same : (kind : Kind → Bool) → GoesDown kind bs said → GoesDown kind bs2 said
       down_same kind old q c is = let it = old q c is in (it.0, wider it.0 it.1, it.2, it.3)
 
-      turn_asks : (cut : Bool) → u.cut ≡ cut → IsOwed p k u.input u.wrote u.sent cut → AskStand g bs2
-      unfolding turn_of
-      turn_asks false cut owed =
-          let sent : said_in g ≡ more = said_after places asked f (happenings.Turn u) ∙ ap (λ xs. said ++ xs) (ap (λ xs. map post_of xs) owed.1 ∙ posts_back d.after.clock d.says) in
-          let up : node_at g n ≡ Some d.after = here_after ∙ ap (λ c. kept_after c (Some (turn_of p k u.input))) cut in
-          record {
-            asks = subst (GoesDown is_prepare bs2) (sym sent) (down_all is_prepare now.asks (asks_new up));
-            walk = subst (GoesDown is_below bs2) (sym sent) (down_all is_below now.walk (walk_new up));
-            nodes = λ m. subst (λ xs. IfSome (node_at g m) (NodeTold xs)) (sym sent) (elim (cases_nat m n) [
-              | inl at ↦ subst (λ i. IfSome (node_at g i) (NodeTold more)) (sym at) (subst (λ o. IfSome o (NodeTold more)) (sym up) leaves.0)
-              | inr other ↦ other_node m other
-            ]);
-          }
-      turn_asks true cut owed =
-          let sent : said_in g ≡ said = said_after places asked f (happenings.Turn u) ∙ (ap (λ xs. said ++ map post_of xs) owed.1 ∙ append-nil said) in
-          let down : node_at g n ≡ None = here_after ∙ ap (λ c. kept_after c (Some (turn_of p k u.input))) cut in
-          record {
-            asks = subst (GoesDown is_prepare bs2) (sym sent) (down_same is_prepare now.asks);
-            walk = subst (GoesDown is_below bs2) (sym sent) (down_same is_below now.walk);
-            nodes = λ m. subst (λ xs. IfSome (node_at g m) (NodeTold xs)) (sym sent) (elim (cases_nat m n) [
-              | inl at ↦ subst (λ i. IfSome (node_at g i) (NodeTold said)) (sym at) (subst (λ o. IfSome o (NodeTold said)) (sym down) tt)
-              | inr other ↦ same_node m other
-            ]);
-          }
-
     -- ---- every happening
 
-    start_told : (ms : List Post) (zs : List RedoRecord) → NodeTold ms (start_of zs)
-    unfolding start_of
-    start_told ms zs = none_live _
-
-    -- a node that is set
-    set_node : (m i : ℕ) (o : Option Kept) → IfSome o (NodeTold (said_in f)) → IfSome (flat (numbered (set_numbered f.nodes m o) i)) (NodeTold (said_in f))
-    set_node m i o new = elim (set_or_before f.nodes m i o) [
-      | inl still ↦ subst (λ x. IfSome (flat x) (NodeTold (said_in f))) (sym still) (now.nodes i)
-      | inr set ↦ subst (λ x. IfSome (flat x) (NodeTold (said_in f))) (sym set.1) new
-    ]
-
-    -- nothing is sent
-    quiet_asks : (h : Happening) → posts_of h ≡ [] → births_after places f h bs ≡ bs → ((i : ℕ) → IfSome (node_at (facts_after places asked f h) i) (NodeTold (said_in f))) → AskStand (facts_after places asked f h) (births_after places f h bs)
-    quiet_asks h none births nodes =
-        let sent : said_in (facts_after places asked f h) ≡ said_in f = said_after places asked f h ∙ (ap (λ xs. said_in f ++ xs) none ∙ append-nil (said_in f)) in
-        subst (AskStand (facts_after places asked f h)) (sym births) (record {
-          asks = subst (GoesDown is_prepare bs) (sym sent) now.asks;
-          walk = subst (GoesDown is_below bs) (sym sent) now.walk;
-          nodes = λ i. subst (λ xs. IfSome (node_at (facts_after places asked f h) i) (NodeTold xs)) (sym sent) (nodes i);
-        })
-
-    stop_nodes : (m i : ℕ) → IfSome (node_at (facts_after places asked f (happenings.Stopped m)) i) (NodeTold (said_in f))
-    unfolding facts_after
-    stop_nodes m i = set_node m i None tt
-
-    start_nodes : (m boot i : ℕ) → IfSome (node_at (facts_after places asked f (happenings.Started m boot)) i) (NodeTold (said_in f))
-    unfolding facts_after
-    start_nodes m boot i = set_node m i (Some (start_of (with_boot f m boot))) (start_told _ _)
-
-    still_nodes : (h : Happening) → (facts_after places asked f h).nodes ≡ f.nodes → (i : ℕ) → IfSome (node_at (facts_after places asked f h) i) (NodeTold (said_in f))
-    still_nodes h is i = subst (λ (xs : List (Option Kept)). IfSome (flat (numbered xs i)) (NodeTold (said_in f))) (sym is) (now.nodes i)
+    goes_down : (kind : Kind → Bool) → GoesDown kind bs (said_in f)
+        → ((u : Turn) (k : Kept) (may : MayTurn places f u k) → node_at (facts_after places asked f (happenings.Turn u)) u.node ≡ Some (d u k may).after → (q c : BranchId) → was_sent kind (d u k may).says q c ≡ true → HeardAbove kind (bs2 u k may) (more u k may) q)
+        → (h : Happening) → MayHappen places asked f h → GoesDown kind (births_after places f h bs) (said_in (facts_after places asked f h))
+    goes_down kind old new (happenings.Turn u) may =
+        turn_says places asked f stand.0.0.even u may.0 may.1 (GoesDown kind (bs2 u may.0 may.1)) (λ down. down_same u may.0 may.1 kind old) (λ up. down_all u may.0 may.1 kind old (new u may.0 may.1 up))
+    goes_down kind old new (happenings.Stopped m) may = quiet_says places asked f (GoesDown kind bs) (happenings.Stopped m) refl old
+    goes_down kind old new (happenings.Started m boot) may = quiet_says places asked f (GoesDown kind bs) (happenings.Started m boot) refl old
+    goes_down kind old new (happenings.Begun c) may = quiet_says places asked f (GoesDown kind bs) (happenings.Begun c) refl old
+    goes_down kind old new (happenings.Cut a b) may = quiet_says places asked f (GoesDown kind bs) (happenings.Cut a b) refl old
+    goes_down kind old new (happenings.Join a b) may = quiet_says places asked f (GoesDown kind bs) (happenings.Join a b) refl old
+    goes_down kind old new (happenings.Lost i) may = quiet_says places asked f (GoesDown kind bs) (happenings.Lost i) refl old
 
     pub ask_on : (h : Happening) → MayHappen places asked f h → AskStand (facts_after places asked f h) (births_after places f h bs)
-    ask_on (happenings.Turn u) may = turn_asks u may.0 may.1 u.cut refl may.1.owed
-    ask_on (happenings.Stopped m) may = quiet_asks (happenings.Stopped m) refl refl (stop_nodes m)
-    ask_on (happenings.Started m boot) may = quiet_asks (happenings.Started m boot) refl refl (start_nodes m boot)
-    ask_on (happenings.Begun c) may = quiet_asks (happenings.Begun c) refl refl (still_nodes (happenings.Begun c) (calls.same_begun places asked each f t bs stand roots turned c))
-    ask_on (happenings.Cut a b) may = quiet_asks (happenings.Cut a b) refl refl (still_nodes (happenings.Cut a b) (calls.same_cut places asked each f t bs stand roots turned a b))
-    ask_on (happenings.Join a b) may = quiet_asks (happenings.Join a b) refl refl (still_nodes (happenings.Join a b) (calls.same_join places asked each f t bs stand roots turned a b))
-    ask_on (happenings.Lost k) may = quiet_asks (happenings.Lost k) refl refl (still_nodes (happenings.Lost k) (calls.same_lost places asked each f t bs stand roots turned k))
+    ask_on h may = record {
+      asks = goes_down is_prepare now.asks asks_new h may;
+      walk = goes_down is_below now.walk walk_new h may;
+      nodes = nodes_on places asked f NodeTold start_told now.nodes (λ u k may. turn_nodes places asked f stand.0.0.even u k may NodeTold now.nodes (leaves u k may).0 (λ m other j there. told_stay _ _ j (others_silent u k may m other j there))) h may;
+    }
 
   -- ---- every run
 
-  made_told : NodeTold [] made
-  unfolding start_of
-  made_told = none_live _
-
   pub first_ask : AskStand (first_facts places) []
-  first_ask = record { asks = λ p c is. absurd cc; walk = λ p c is. absurd cc; nodes = λ n. first_node (λ o. IfSome o (NodeTold [])) tt made_told places n }
+  first_ask = record { asks = λ p c is. absurd cc; walk = λ p c is. absurd cc; nodes = nodes_first NodeTold start_told places }
 
   ask_keep : (f : Facts) (hs : List Happening) (t : List Event) (bs : List Born) → StandBorn places asked each f t bs → RootsStand places asked each f → CallsStand f → FreezeStand f → AskStand f bs → IsLawful places asked f hs
       → AskStand (facts_of places asked f hs) (births_from places asked f hs bs)

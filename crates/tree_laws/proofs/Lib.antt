@@ -11,6 +11,7 @@ pub mod FitLemmas
 pub mod RowLemmas
 pub mod LearnLemmas
 pub mod PrefixLemmas
+pub mod EachNodeLemmas
 pub mod WhyLemmas
 pub mod AnswerStepLemmas
 pub mod AnswerRunLemmas

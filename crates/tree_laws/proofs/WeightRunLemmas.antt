@@ -1,32 +1,27 @@
 -- In every lawful run live branches told their weights in their Replies, and hold the weights that their children told.
-use Rattle.std.proofs.Common.{◌≡◌, ◌≢◌, ℕ, ◌≤◌, Bool, true, false, List, [], ◌∷◌, ◌++◌, map, Option, Some, None, inl, inr, refl, sym, ap, subst, ◌∙◌, arith, append-nil}
+use Rattle.std.proofs.Common.{◌≡◌, ◌≢◌, ℕ, ◌≤◌, false, List, [], ◌∷◌, ◌++◌, map, Option, Some, None, inl, inr, refl, sym, subst, arith}
 use Rattle.std.specs.Prelude.{IfSome}
 use Rattle.std.specs.List.{AllByRecursion}
 use Rattle.tran_ids.proofs.ListedLemmas.{item_is}
-use Rattle.tran_ids.proofs.NumberedLemmas.{set_or_before}
 use Rattle.session_tree.specs.Tree.{weight}
 use Rattle.node_rules.specs.Data.{Answer, BranchId, Kind, Live, Post, Place, Input, RedoRecord}
 use Rattle.node_rules.specs.Data.inputs
 use Rattle.node_rules.specs.Data.kinds
 use Rattle.node_rules.specs.declared.work.Work.{Work}
-use Rattle.node_rules.specs.Words.{numbered, set_numbered}
+use Rattle.node_rules.specs.Words.{numbered}
 use Rattle.node_rules.specs.Inputs.{Came}
 use Rattle.node_rules.specs.Kept.{Kept, Deed, live_id, live_at}
 use Rattle.node_rules.specs.Sessions.{session_at}
-use Rattle.node_rules.specs.Turn.{turn_of, start_of, made, heard, deed_of}
+use Rattle.node_rules.specs.Turn.{turn_of, start_of, heard, deed_of}
 use Rattle.agreement.specs.Events.{Event}
 use Rattle.run_laws.specs.Data.{Packet, Turn, Happening, Command}
-use Rattle.run_laws.specs.Data.happenings
-use Rattle.run_laws.specs.Facts.{Facts, first_facts, place_at, flat, node_at, kept_after, with_boot, facts_after, facts_of}
-use Rattle.run_laws.specs.Lawful.{IsPlace, MayTurn, MayHappen, IsOwed, IsLawful, History, IsLawfulRun, facts_at}
+use Rattle.run_laws.specs.Facts.{Facts, first_facts, place_at, node_at, facts_after, facts_of}
+use Rattle.run_laws.specs.Lawful.{IsPlace, MayTurn, MayHappen, IsLawful, History, IsLawfulRun, facts_at}
 use Rattle.run_laws.specs.RunEvents.{events_after}
 use Rattle.run_laws.specs.Births.{Born, births_after}
-use Rattle.run_laws.specs.InTurnLaws.{post_of, packet_post, said_in, newest_reply, GoesOn}
+use Rattle.run_laws.specs.InTurnLaws.{packet_post, said_in, newest_reply, GoesOn}
 use Rattle.run_laws.specs.FreezeLaws.{was_asked}
 use Rattle.run_laws.proofs.ListLemmas.{all_weaker}
-use Rattle.run_laws.proofs.TurnEventLemmas.{cases_nat}
-use Rattle.run_laws.proofs.EventsStandLemmas.{first_node}
-use Rattle.run_laws.proofs.AtNodeLemmas.{turn_elsewhere}
 use Rattle.run_laws.proofs.BirthsStandLemmas.{came_so}
 use Rattle.run_laws.proofs.BirthRunLemmas.{StandBorn, stand_born_on, stand_born_first}
 use Rattle.run_laws.proofs.CodeLemmas.{AllNeed, codes_on}
@@ -34,7 +29,6 @@ use Rattle.node_rules.specs.LiveBranches.{EachLive}
 use Rattle.node_rules.proofs.LiveLemmas.{each_same, none_live, branch_parts}
 use Rattle.run_laws.proofs.RestLemmas.{live_root}
 use Rattle.run_laws.proofs.RestRunLemmas.{NodeRests, heard_rests, RootsStand, turned, roots_stand_on, first_rests}
-use Rattle.run_laws.proofs.SaidPostLemmas.{posts_back, posts_of, said_after}
 use Rattle.run_laws.proofs.InTurnRunLemmas as calls
 use Rattle.run_laws.proofs.InTurnRunLemmas.{CallsStand, heard_calls, calls_stand_on, first_calls}
 use Rattle.run_laws.proofs.FreezeRunLemmas as frozen
@@ -42,6 +36,7 @@ use Rattle.run_laws.proofs.FreezeRunLemmas.{FreezeStand, freeze_on, first_freeze
 use Rattle.tree_laws.specs.WeightLaws.{ToldWeight, TellsItsWeight, RepliesTellWeights, HoldsWeights, EdgesHoldWeights}
 use Rattle.tree_laws.proofs.AskRunLemmas as runs
 use Rattle.tree_laws.proofs.AskRunLemmas.{AskStand, ask_on, first_ask}
+use Rattle.tree_laws.proofs.EachNodeLemmas.{EachNode, turn_nodes, nodes_on, nodes_first}
 use Rattle.tree_laws.proofs.HoldLemmas.{holding_more}
 use Rattle.tree_laws.proofs.HoldStepLemmas.{holds_on}
 use Rattle.tree_laws.proofs.WeightStepLemmas.{told_split, told_low, tolds_on}
@@ -80,7 +75,7 @@ NodeWeighs said k = EachLive (WeighsSo said) k.lives k.works × EachLive (HoldsO
 
 -- So it is everywhere.
 abbrev pub WeightStand : Facts → Type 0
-WeightStand f = (n : ℕ) → IfSome (node_at f n) (NodeWeighs (said_in f))
+WeightStand f = EachNode NodeWeighs f
 
 -- messages without a Reply of a branch leave it so
 quiet_weighs : (said says : List Post) (l : Live) (w : Work) → newest_reply says l.me ≡ 0 → WeighsSo said l w → WeighsSo (said ++ says) l w
@@ -100,6 +95,10 @@ weights_stay said says k silent none now = (
   each_same (HoldsOf said k) (HoldsOf (said ++ says) k) k.lives k.works now.1 (λ y v live any is. holding_more said says (GoesOn k y) y.me y.edges v (λ c. none y.me y live c) is),
 )
 
+start_weighs : (ms : List Post) (zs : List RedoRecord) → NodeWeighs ms (start_of zs)
+unfolding start_of
+start_weighs ms zs = (none_live _, none_live _)
+
 heard_sessions : (k : Kept) (input : Input) → (heard k input).sessions ≡ k.sessions
 heard_sessions k (inputs.Message m) = refl
 heard_sessions k (inputs.Call n s) = refl
@@ -117,9 +116,6 @@ module _ (places : List Place) (asked : List Command) (each : (n : ℕ) (p : Pla
 
       abbrev d : Deed
       d = deed_of p k u.input
-
-      abbrev g : Facts
-      g = facts_after places asked f (happenings.Turn u)
 
       abbrev said : List Post
       said = said_in f
@@ -176,86 +172,19 @@ module _ (places : List Place) (asked : List Command) (each : (n : ℕ) (p : Pla
       after : NodeWeighs more d.after
       after = (told_after, each_same _ (HoldsOf more d.after) d.after.lives d.after.works holds_done (λ y v live any is. record { held = λ goes. is.held (λ none. (y, live, none, goes none)); asked = is.asked }))
 
-      here_after : node_at g n ≡ kept_after u.cut (Some (turn_of p k u.input))
-      here_after = calls.here_after places asked each f t bs stand roots turns u k may
-
-      other_node : (m : ℕ) → m ≢ n → IfSome (node_at g m) (NodeWeighs more)
-      other_node m other = subst (λ o. IfSome o (NodeWeighs more)) (sym (turn_elsewhere places asked f stand.0.0.even u m (λ e. other (sym e))).0) (by (node_at f m) refl (now m))
-        where
-          by : (o : Option Kept) → node_at f m ≡ o → IfSome o (NodeWeighs said) → IfSome o (NodeWeighs more)
-          by None up old = tt
-          by (Some j) up old =
-              weights_stay said d.says j
-              (λ b l live. ((calls.left places asked each f t bs stand roots turns u k may).1.1 l.me (λ here. other (calls.elsewhere_is places asked each f t bs stand roots turns u k may m j up b l live here))).replies)
-              (runs.others_silent places asked each f t bs stand roots turns ice asks u k may m other j up) old
-
-      same_node : (m : ℕ) → m ≢ n → IfSome (node_at g m) (NodeWeighs said)
-      same_node m other = subst (λ o. IfSome o (NodeWeighs said)) (sym (turn_elsewhere places asked f stand.0.0.even u m (λ e. other (sym e))).0) (now m)
-
-      turn_weighs : (cut : Bool) → u.cut ≡ cut → IsOwed p k u.input u.wrote u.sent cut → WeightStand g
-      unfolding turn_of
-      turn_weighs false cut owed =
-          let sent : said_in g ≡ more = said_after places asked f (happenings.Turn u) ∙ ap (λ xs. said ++ xs) (ap (λ xs. map post_of xs) owed.1 ∙ posts_back d.after.clock d.says) in
-          let up : node_at g n ≡ Some d.after = here_after ∙ ap (λ c. kept_after c (Some (turn_of p k u.input))) cut in
-          λ m. subst (λ xs. IfSome (node_at g m) (NodeWeighs xs)) (sym sent) (elim (cases_nat m n) [
-            | inl at ↦ subst (λ i. IfSome (node_at g i) (NodeWeighs more)) (sym at) (subst (λ o. IfSome o (NodeWeighs more)) (sym up) after)
-            | inr other ↦ other_node m other
-          ])
-      turn_weighs true cut owed =
-          let sent : said_in g ≡ said = said_after places asked f (happenings.Turn u) ∙ (ap (λ xs. said ++ map post_of xs) owed.1 ∙ append-nil said) in
-          let down : node_at g n ≡ None = here_after ∙ ap (λ c. kept_after c (Some (turn_of p k u.input))) cut in
-          λ m. subst (λ xs. IfSome (node_at g m) (NodeWeighs xs)) (sym sent) (elim (cases_nat m n) [
-            | inl at ↦ subst (λ i. IfSome (node_at g i) (NodeWeighs said)) (sym at) (subst (λ o. IfSome o (NodeWeighs said)) (sym down) tt)
-            | inr other ↦ same_node m other
-          ])
-
-    -- ---- every happening
-
-    start_weighs : (ms : List Post) (zs : List RedoRecord) → NodeWeighs ms (start_of zs)
-    unfolding start_of
-    start_weighs ms zs = (none_live _, none_live _)
-
-    -- a node that is set
-    set_node : (m i : ℕ) (o : Option Kept) → IfSome o (NodeWeighs (said_in f)) → IfSome (flat (numbered (set_numbered f.nodes m o) i)) (NodeWeighs (said_in f))
-    set_node m i o new = elim (set_or_before f.nodes m i o) [
-      | inl still ↦ subst (λ x. IfSome (flat x) (NodeWeighs (said_in f))) (sym still) (now i)
-      | inr set ↦ subst (λ x. IfSome (flat x) (NodeWeighs (said_in f))) (sym set.1) new
-    ]
-
-    -- nothing is sent
-    quiet_weights : (h : Happening) → posts_of h ≡ [] → ((i : ℕ) → IfSome (node_at (facts_after places asked f h) i) (NodeWeighs (said_in f))) → WeightStand (facts_after places asked f h)
-    quiet_weights h none nodes =
-        let sent : said_in (facts_after places asked f h) ≡ said_in f = said_after places asked f h ∙ (ap (λ xs. said_in f ++ xs) none ∙ append-nil (said_in f)) in
-        λ i. subst (λ xs. IfSome (node_at (facts_after places asked f h) i) (NodeWeighs xs)) (sym sent) (nodes i)
-
-    stop_nodes : (m i : ℕ) → IfSome (node_at (facts_after places asked f (happenings.Stopped m)) i) (NodeWeighs (said_in f))
-    unfolding facts_after
-    stop_nodes m i = set_node m i None tt
-
-    start_nodes : (m boot i : ℕ) → IfSome (node_at (facts_after places asked f (happenings.Started m boot)) i) (NodeWeighs (said_in f))
-    unfolding facts_after
-    start_nodes m boot i = set_node m i (Some (start_of (with_boot f m boot))) (start_weighs _ _)
-
-    still_nodes : (h : Happening) → (facts_after places asked f h).nodes ≡ f.nodes → (i : ℕ) → IfSome (node_at (facts_after places asked f h) i) (NodeWeighs (said_in f))
-    still_nodes h is i = subst (λ (xs : List (Option Kept)). IfSome (flat (numbered xs i)) (NodeWeighs (said_in f))) (sym is) (now i)
+      others : (m : ℕ) → m ≢ n → (j : Kept) → node_at f m ≡ Some j → NodeWeighs said j → NodeWeighs more j
+      others m other j up old =
+          weights_stay said d.says j
+          (λ b l live. ((calls.left places asked each f t bs stand roots turns u k may).1.1 l.me (λ here. other (calls.elsewhere_is places asked each f t bs stand roots turns u k may m j up b l live here))).replies)
+          (runs.others_silent places asked each f t bs stand roots turns ice asks u k may m other j up) old
 
     pub weights_on : (h : Happening) → MayHappen places asked f h → WeightStand (facts_after places asked f h)
-    weights_on (happenings.Turn u) may = turn_weighs u may.0 may.1 u.cut refl may.1.owed
-    weights_on (happenings.Stopped m) may = quiet_weights (happenings.Stopped m) refl (stop_nodes m)
-    weights_on (happenings.Started m boot) may = quiet_weights (happenings.Started m boot) refl (start_nodes m boot)
-    weights_on (happenings.Begun c) may = quiet_weights (happenings.Begun c) refl (still_nodes (happenings.Begun c) (calls.same_begun places asked each f t bs stand roots turns c))
-    weights_on (happenings.Cut a b) may = quiet_weights (happenings.Cut a b) refl (still_nodes (happenings.Cut a b) (calls.same_cut places asked each f t bs stand roots turns a b))
-    weights_on (happenings.Join a b) may = quiet_weights (happenings.Join a b) refl (still_nodes (happenings.Join a b) (calls.same_join places asked each f t bs stand roots turns a b))
-    weights_on (happenings.Lost k) may = quiet_weights (happenings.Lost k) refl (still_nodes (happenings.Lost k) (calls.same_lost places asked each f t bs stand roots turns k))
+    weights_on = nodes_on places asked f NodeWeighs start_weighs now (λ u k may. turn_nodes places asked f stand.0.0.even u k may NodeWeighs now (after u k may) (others u k may))
 
   -- ---- every run
 
-  made_weighs : NodeWeighs [] made
-  unfolding start_of
-  made_weighs = (none_live _, none_live _)
-
   first_weights : WeightStand (first_facts places)
-  first_weights n = first_node (λ o. IfSome o (NodeWeighs [])) tt made_weighs places n
+  first_weights = nodes_first NodeWeighs start_weighs places
 
   weights_keep : (f : Facts) (hs : List Happening) (t : List Event) (bs : List Born) → StandBorn places asked each f t bs → RootsStand places asked each f → CallsStand f → FreezeStand f → AskStand f bs → WeightStand f → IsLawful places asked f hs
       → WeightStand (facts_of places asked f hs)
