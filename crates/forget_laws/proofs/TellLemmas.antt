@@ -10,7 +10,6 @@ use Rattle.agreement.specs.Events.{Event, Sealed, Forget, Has}
 use Rattle.agreement.proofs.EventLemmas.{exit_stays}
 use Rattle.node_rules.specs.Data.{BranchId, Decision, Post, Standing, State}
 use Rattle.node_rules.specs.Words.{same, change_where, drop_where}
-use Rattle.node_rules.specs.Commit.{passes}
 use Rattle.run_laws.proofs.ListLemmas.{all_weaker, all_filter, all_map}
 use Rattle.tree_laws.proofs.AskLemmas.{sent_more}
 use Rattle.forget_laws.specs.RowLaws.{is_ack, is_forced, IsSealed, SaidAck}

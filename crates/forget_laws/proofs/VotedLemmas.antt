@@ -1,10 +1,9 @@
 -- The neighbours beyond a branch that becomes sealed, or decides, are sealed: the children that its record names answered
 -- Prepared, but for the one that the walk goes to, and the parent from which the walk comes sent CommitPoint.
-use Rattle.std.proofs.Common.{◌≡◌, ◌≢◌, ℕ, suc, ◌+◌, ◌≤◌, ◌⊎◌, Bool, true, false, List, [], ◌∷◌, map, Option, Some, None, inl, inr, refl, sym, ap, subst, ◌∙◌, arith}
+use Rattle.std.proofs.Common.{◌≡◌, ◌≢◌, ℕ, suc, ◌+◌, ◌⊎◌, Bool, true, false, List, [], ◌∷◌, map, Option, Some, None, inl, inr, refl, sym, ap, subst, ◌∙◌, arith}
 use Rattle.std.specs.Prelude.{IfSome}
 use Rattle.std.specs.List.{AllByRecursion}
-use Rattle.std.proofs.lemmas.Bool.{cond_both, and_parts}
-use Rattle.tran_ids.proofs.BranchLemmas.{equal_from_same, same_from_equal}
+use Rattle.tran_ids.proofs.BranchLemmas.{same_from_equal}
 use Rattle.commit_forget.specs.declared.next.Beyond.{Beyond}
 use Rattle.commit_forget.specs.Beyond.{beyond, parent_beyond}
 use Rattle.prepare_phase.specs.Records.{named_children, is_prepared, is_prepared_answer, sealed_of, decided_of}
@@ -12,63 +11,44 @@ use Rattle.redo_record.specs.Rows.{sealed_as, decided_as, toward_of}
 use Rattle.session_tree.specs.Live.{is_branch, children_of}
 use Rattle.session_tree.specs.Tree.{step}
 use Rattle.agreement.specs.Events.{Event}
-use Rattle.node_rules.specs.Data.{Act, BranchId, Edge, Input, Kind, Live, Peer, Post, RedoRecord, Standing, Vote, Sealed as SealedRecord, Decided as DecidedRecord}
+use Rattle.node_rules.specs.Data.{Act, BranchId, Edge, Live, Peer, Post, RedoRecord, Standing, Vote, Sealed as SealedRecord, Decided as DecidedRecord}
 use Rattle.node_rules.specs.Data.acts
-use Rattle.node_rules.specs.Data.inputs
-use Rattle.node_rules.specs.Data.kinds
 use Rattle.node_rules.specs.Data.phases
 use Rattle.node_rules.specs.Data.records
 use Rattle.node_rules.specs.Data.votes
 use Rattle.node_rules.specs.Data.walks
-use Rattle.node_rules.specs.Inputs.{Came}
-use Rattle.node_rules.specs.Words.{same, numbered, item_at}
-use Rattle.node_rules.specs.Kept.{Kept, Deed, live_id, live_at}
-use Rattle.node_rules.specs.Prepare.{answers_first, has_voted, voted, is_awaited, with_prepare_sent}
+use Rattle.node_rules.specs.Words.{numbered}
+use Rattle.node_rules.specs.Kept.{Kept, Deed, live_at}
+use Rattle.node_rules.specs.Prepare.{voted, with_prepare_sent}
 use Rattle.node_rules.specs.Turn.{heard, deed_of}
 use Rattle.node_rules.proofs.Steps as steps
-use Rattle.node_rules.proofs.Steps.{Acting, Answers, Collected, vote_kind}
+use Rattle.node_rules.proofs.Steps.{Acting, Collected}
 use Rattle.run_laws.specs.Births.{Born, births_of}
 use Rattle.run_laws.specs.BirthLaws.{Began, LiveIs}
 use Rattle.run_laws.specs.Data.{Turn, Happening}
 use Rattle.run_laws.specs.Facts.{Facts, place_at}
-use Rattle.run_laws.specs.HeardLaws.{VoteIs, EdgeIs, AnswersAre, QuietIs}
+use Rattle.run_laws.specs.HeardLaws.{VoteIs, EdgeIs}
 use Rattle.run_laws.specs.InTurnLaws.{said_in}
 use Rattle.run_laws.specs.Lawful.{MayTurn, History, IsLawfulRun}
 use Rattle.run_laws.specs.WalkLaws.{is_below, is_above, was_sent}
-use Rattle.run_laws.proofs.BirthRunLemmas.{nodes_name_the_born}
-use Rattle.run_laws.proofs.BirthsStandLemmas.{came_so}
-use Rattle.run_laws.proofs.EventsStandLemmas.{run_stands}
-use Rattle.run_laws.proofs.HeardLemmas.{risen_answers}
-use Rattle.run_laws.proofs.HeardStandLemmas.{answers_are_true, quiets_are_gone}
 use Rattle.run_laws.proofs.LawfulLemmas.{serves}
-use Rattle.run_laws.proofs.ListLemmas.{all_weaker, all_map, all_each, all_append}
-use Rattle.run_laws.proofs.OwnLemmas.{all_found}
-use Rattle.run_laws.proofs.SaidLemmas.{came_said}
+use Rattle.run_laws.proofs.ListLemmas.{all_weaker, all_each, all_append}
 use Rattle.run_laws.proofs.VoteLemmas.{votes_are_of_sealed}
 use Rattle.tree_laws.specs.AskLaws.{path_on}
 use Rattle.tree_laws.specs.Forests.{comes_to}
 use Rattle.tree_laws.specs.RecordLaws.{LeadsTo, RecordLeads}
-use Rattle.tree_laws.proofs.AnswerRunLemmas.{lives_heard}
 use Rattle.tree_laws.proofs.AskLemmas.{voted_step}
 use Rattle.tree_laws.proofs.AskRunLemmas.{paths_are_told}
 use Rattle.tree_laws.proofs.AskStepLemmas.{voted_peers}
 use Rattle.tree_laws.proofs.ForestLemmas as trees
 use Rattle.tree_laws.proofs.ForestRunLemmas.{run_known}
 use Rattle.tree_laws.proofs.PrefixLemmas.{so_far, f_at, e_at}
+use Rattle.tree_laws.proofs.SettleLemmas as settle
 use Rattle.tree_laws.proofs.SettleLemmas.{Settling, Seals, Passes_on, Decides, above_heard}
 use Rattle.tree_laws.proofs.WhyLemmas.{Near, ActsIn, WroteWhy, seal_act, why_on}
 use Rattle.forget_laws.specs.RowLaws.{IsSealed}
 use Rattle.forget_laws.proofs.RowStepLemmas.{RecordVoted}
 use Rattle.forget_laws.proofs.NamedLemmas.{named_so, kids_so, parent_so}
-
-clock_up : (k : Kept) (input : Input) → k.clock ≤ (heard k input).clock
-clock_up k (inputs.Message m) = omega arith
-clock_up k (inputs.Call n s) = omega arith
-clock_up k (inputs.GiveUp n) = omega arith
-clock_up k inputs.Reco = omega arith
-
-scn_met : (k : Kept) (input : Input) (from to : BranchId) (kind : Kind) (came : Came input from to kind) → came.scn ≤ (heard k input).clock
-scn_met k input from to kind came = subst (λ i. came.scn ≤ (heard k i).clock) (sym came.is) (omega arith)
 
 module _ (t : History) (before : List Happening) (lawful : IsLawfulRun (so_far t before)) (u : Turn) (k : Kept) (may : MayTurn t.places (f_at t before) u k) where
   abbrev s : History
@@ -95,37 +75,14 @@ module _ (t : History) (before : List Happening) (lawful : IsLawfulRun (so_far t
   known : trees.Known bs said
   known = run_known s lawful
 
-  live_in : (at : Kept) → Near k0 at → (l : Live) → live_at at l.me ≡ Some l → live_at k l.me ≡ Some l
-  live_in at near l live = subst (λ (ls : List Live). item_at live_id ls l.me ≡ Some l) (near.lives ∙ lives_heard k u.input) live
-
-  born_of : (l : Live) → live_at k l.me ≡ Some l → LiveIs (Began bs) l
-  born_of l live = all_found (LiveIs (Began bs)) live_id k.lives l.me l (nodes_name_the_born s lawful u.node k may.up).0 live
-
   -- the branch began, with this parent
   abbrev BornSo : BranchId → Option BranchId → Type 0
   BornSo me parent = (x : Born) × Began bs x × (x.me ≡ me) × (x.parent ≡ parent)
 
   placed : (l : Live) → live_at k l.me ≡ Some l → BornSo l.me l.parent
-  placed l live = (let b : LiveIs (Began bs) l = born_of l live in (b.born, b.began, b.is_me, b.is_parent))
+  placed l live = (let b : LiveIs (Began bs) l = settle.born_of t before lawful u k may l live in (b.born, b.began, b.is_me, b.is_parent))
 
   -- ---- answers
-
-  answers_now : (l : Live) → live_at k l.me ≡ Some l → AllByRecursion (EdgeIs e k0.clock) l.edges
-  answers_now l live =
-      all_found (AnswersAre e k0.clock) live_id k.lives l.me l (risen_answers e k.clock k0.clock (clock_up k u.input) k.lives (answers_are_true s lawful u.node k may.up)) live
-
-  vote_is : (from to : BranchId) (v : Vote) (kind : Kind) → vote_kind v ≡ Some kind → Came u.input from to kind → VoteIs e k0.clock from v
-  vote_is from to votes.Prepared kinds.Prepared is came = (came.scn, came_said f e (run_stands s lawful).2 k u.node u.input u.took may.comes from to kinds.Prepared came, scn_met k u.input from to kinds.Prepared came)
-  vote_is from to votes.Prepared _ is came = absurd cc
-  vote_is from to votes.ReadOnly kinds.ReadOnly is came = came_so (λ x y kind. QuietIs e x kind) f (quiets_are_gone s lawful) k u.node u.input u.took may.comes from to kinds.ReadOnly came
-  vote_is from to votes.ReadOnly _ is came = absurd cc
-  vote_is from to _ kind is came = tt
-
-  voted_edges : (l : Live) (from : BranchId) (v : Vote) (b : Bool) → live_at k l.me ≡ Some l → Answers u.input l from v b → AllByRecursion (EdgeIs e k0.clock) (voted l from v).edges
-  voted_edges l from v b live answers =
-      all_map (EdgeIs e k0.clock) (has_voted from v) l.edges
-      (all_weaker (EdgeIs e k0.clock) _ (λ y is. cond_both (answers_first from y) (record y { vote = v }) y (EdgeIs e k0.clock)
-      (λ first. subst (λ c. VoteIs e k0.clock c v) (sym (equal_from_same y.peer from (and_parts (same y.peer from) (is_awaited y.vote) first).0)) (vote_is from l.me v answers.kind answers.is_vote answers.came)) (λ other. is)) l.edges (answers_now l live))
 
   sealed_vote : (b : BranchId) (v : Vote) → VoteIs e k0.clock b v → v ≡ votes.Prepared → IsSealed e b
   sealed_vote b votes.Prepared is at = let sealed = votes_are_of_sealed s lawful b is.0 is.1 in (sealed.0, sealed.1)
@@ -163,17 +120,17 @@ module _ (t : History) (before : List Happening) (lawful : IsLawfulRun (so_far t
       (prepared_edges (map with_prepare_sent l.edges) (all_each (EdgeIs e k0.clock) with_prepare_sent l.edges (λ y. tt)))
       (λ j c there is. absurd (none_there (map with_prepare_sent l.edges) (ap (λ es. map with_prepare_sent es) none) j c there))
   passing i at near (steps.Hears_last l from v b _ live answers other all collected) =
-      let here : live_at k l.me ≡ Some l = live_in at near l live in
+      let here : live_at k l.me ≡ Some l = settle.live_in t before lawful u k may at near l live in
       let busy : l.phase ≢ phases.Working = (λ is. (let phase = answers.collecting in absurd (cc (phase, is)))) in
       let down = down_of collected in
       let way : path_on l.phase (step l) ≡ Some i = ap (λ ph. path_on ph (step l)) (answers.collecting ∙ ap phases.Collecting down.0) ∙ ap (path_on (phases.Collecting true)) (sym (voted_step l from v) ∙ down.1) in
-      named_so (IsSealed e) (On l.me) (Some i) 1 (voted l from v).edges (prepared_edges (voted l from v).edges (voted_edges l from v b here answers))
+      named_so (IsSealed e) (On l.me) (Some i) 1 (voted l from v).edges (prepared_edges (voted l from v).edges (settle.voted_edges t before lawful u k may l from v b here answers))
       (λ j c there is. paths l here busy (suc j) c (way ∙ (is ∙ ap Some (omega arith))) (subst (λ ps. numbered ps (suc j) ≡ Some c) (voted_peers from v l.edges) there))
   passing i at near (steps.At_point l from _ live came is (steps.Points_on _ goes)) =
-      let here : live_at k l.me ≡ Some l = live_in at near l live in
+      let here : live_at k l.me ≡ Some l = settle.live_in t before lawful u k may at near l live in
       let busy : l.phase ≢ phases.Working = (λ working. absurd (cc (is, working))) in
       let way : path_on l.phase (step l) ≡ Some i = ap (λ ph. path_on ph (step l)) is ∙ ap (path_on phases.Ready) goes in
-      named_so (IsSealed e) (On l.me) (Some i) 1 l.edges (prepared_edges l.edges (answers_now l here)) (λ j c there at_place. paths l here busy (suc j) c (way ∙ (at_place ∙ ap Some (omega arith))) there)
+      named_so (IsSealed e) (On l.me) (Some i) 1 l.edges (prepared_edges l.edges (settle.answers_now t before lawful u k may l here)) (λ j c there at_place. paths l here busy (suc j) c (way ∙ (at_place ∙ ap Some (omega arith))) there)
 
   -- of one that does not
   staying : (at : Kept) → Near k0 at → {l : Live} {b : Bool} {a : Act} → Acting at u.input l b a → NamedSo l.me (named_children None 1 l.edges)
@@ -182,10 +139,10 @@ module _ (t : History) (before : List Happening) (lawful : IsLawfulRun (so_far t
       edges_of : {y : Live} {b : Bool} {a : Act} → Acting at u.input y b a → AllByRecursion (EdgeIs e k0.clock) y.edges
       edges_of (steps.Asks_down y comment b x es live begins some) = all_each (EdgeIs e k0.clock) with_prepare_sent y.edges (λ z. tt)
       edges_of (steps.Has_no_children y comment b a live begins none collected) = all_each (EdgeIs e k0.clock) with_prepare_sent y.edges (λ z. tt)
-      edges_of (steps.Hears_abort y from b live answers) = voted_edges y from votes.Abort b (live_in at near y live) answers
-      edges_of (steps.Waits_on y from v b live answers other some) = voted_edges y from v b (live_in at near y live) answers
-      edges_of (steps.Hears_last y from v b a live answers other all collected) = voted_edges y from v b (live_in at near y live) answers
-      edges_of (steps.At_point y from a live came is pointed) = answers_now y (live_in at near y live)
+      edges_of (steps.Hears_abort y from b live answers) = settle.voted_edges t before lawful u k may y from votes.Abort b (settle.live_in t before lawful u k may at near y live) answers
+      edges_of (steps.Waits_on y from v b live answers other some) = settle.voted_edges t before lawful u k may y from v b (settle.live_in t before lawful u k may at near y live) answers
+      edges_of (steps.Hears_last y from v b a live answers other all collected) = settle.voted_edges t before lawful u k may y from v b (settle.live_in t before lawful u k may at near y live) answers
+      edges_of (steps.At_point y from a live came is pointed) = settle.answers_now t before lawful u k may y (settle.live_in t before lawful u k may at near y live)
 
   -- ---- the way
 
@@ -213,12 +170,12 @@ module _ (t : History) (before : List Happening) (lawful : IsLawfulRun (so_far t
   comes_from me parent (Some q) (inr down) x above off = sym (ap (comes_to said me) above) ∙ down.0
 
   live_of : (at : Kept) → Near k0 at → {l : Live} {b : Bool} {a : Act} → Acting at u.input l b a → BornSo l.me l.parent
-  live_of at near (steps.Asks_down l comment b x es live begins some) = placed l (live_in at near l live)
-  live_of at near (steps.Has_no_children l comment b a live begins none collected) = placed l (live_in at near l live)
-  live_of at near (steps.Hears_abort l from b live answers) = placed l (live_in at near l live)
-  live_of at near (steps.Waits_on l from v b live answers other some) = placed l (live_in at near l live)
-  live_of at near (steps.Hears_last l from v b a live answers other all collected) = placed l (live_in at near l live)
-  live_of at near (steps.At_point l from a live came is pointed) = placed l (live_in at near l live)
+  live_of at near (steps.Asks_down l comment b x es live begins some) = placed l (settle.live_in t before lawful u k may at near l live)
+  live_of at near (steps.Has_no_children l comment b a live begins none collected) = placed l (settle.live_in t before lawful u k may at near l live)
+  live_of at near (steps.Hears_abort l from b live answers) = placed l (settle.live_in t before lawful u k may at near l live)
+  live_of at near (steps.Waits_on l from v b live answers other some) = placed l (settle.live_in t before lawful u k may at near l live)
+  live_of at near (steps.Hears_last l from v b a live answers other all collected) = placed l (settle.live_in t before lawful u k may at near l live)
+  live_of at near (steps.At_point l from a live came is pointed) = placed l (settle.live_in t before lawful u k may at near l live)
 
   module _ {l : Live} {b : Bool} {a : Act} (acts_in : ActsIn k0 u.input l b a) (settles : Settling a) where
     born : BornSo l.me l.parent

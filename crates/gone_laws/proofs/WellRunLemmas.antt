@@ -1,42 +1,39 @@
 -- In every lawful run refusals of gone branches go up to the root.
-use Rattle.std.proofs.Common.{◌≡◌, ◌≢◌, ℕ, ◌≤◌, Bool, true, false, List, [], ◌∷◌, ◌++◌, map, Option, Some, None, inl, inr, refl, sym, ap, subst, ◌∙◌, arith, append-nil}
+use Rattle.std.proofs.Common.{◌≡◌, ◌≢◌, ℕ, ◌≤◌, Bool, true, false, List, [], ◌∷◌, ◌++◌, map, Option, Some, None, inl, inr, refl, sym, ap, subst, ◌∙◌, arith}
 use Rattle.std.specs.Prelude.{IfSome}
 use Rattle.std.specs.List.{AllByRecursion}
 use Rattle.tran_ids.proofs.ListedLemmas.{item_is}
-use Rattle.tran_ids.proofs.NumberedLemmas.{set_or_before}
 use Rattle.node_rules.specs.Data.{Answer, BranchId, Kind, Live, Msg, Post, Place, Input, RedoRecord}
 use Rattle.node_rules.specs.Data.inputs
 use Rattle.node_rules.specs.Data.kinds
 use Rattle.node_rules.specs.declared.work.Work.{Work}
-use Rattle.node_rules.specs.Words.{numbered, set_numbered, item_at}
+use Rattle.node_rules.specs.Words.{numbered, item_at}
 use Rattle.node_rules.specs.Inputs.{Came}
 use Rattle.node_rules.specs.Kept.{Kept, Deed, live_id, live_at}
 use Rattle.node_rules.specs.Calls.{is_gone}
 use Rattle.node_rules.specs.Sessions.{session_at}
-use Rattle.node_rules.specs.Turn.{turn_of, start_of, made, heard, deed_of}
+use Rattle.node_rules.specs.Turn.{turn_of, start_of, heard, deed_of}
 use Rattle.node_rules.specs.LiveBranches.{EachLive}
 use Rattle.node_rules.proofs.LiveLemmas.{each_same, none_live, branch_parts}
 use Rattle.agreement.specs.Events.{Event, exit}
 use Rattle.run_laws.specs.Births.{Born, births_after}
 use Rattle.run_laws.specs.Data.{Packet, Turn, Happening, Command}
 use Rattle.run_laws.specs.Data.happenings
-use Rattle.run_laws.specs.Facts.{Facts, first_facts, place_at, flat, node_at, kept_after, with_boot, facts_after, facts_of}
+use Rattle.run_laws.specs.Facts.{Facts, first_facts, place_at, node_at, kept_after, facts_after, facts_of}
 use Rattle.run_laws.specs.InTurnLaws.{post_of, packet_post, said_in, newest_reply, GoesOn}
 use Rattle.run_laws.specs.Lawful.{IsPlace, MayTurn, MayHappen, IsOwed, IsLawful, History, IsLawfulRun, facts_at}
 use Rattle.run_laws.specs.RunEvents.{events_after}
-use Rattle.run_laws.proofs.AtNodeLemmas.{turn_elsewhere}
 use Rattle.run_laws.proofs.BirthRunLemmas.{StandBorn, stand_born_on, stand_born_first}
 use Rattle.run_laws.proofs.BirthsStandLemmas.{came_so}
-use Rattle.run_laws.proofs.CodeLemmas.{AllNeed, codes_on}
-use Rattle.run_laws.proofs.EventsStandLemmas.{first_node}
 use Rattle.run_laws.proofs.InTurnRunLemmas as calls
 use Rattle.run_laws.proofs.InTurnRunLemmas.{CallsStand, heard_calls, calls_stand_on, first_calls}
 use Rattle.run_laws.proofs.ListLemmas.{all_weaker}
 use Rattle.run_laws.proofs.OwnLemmas.{all_found}
 use Rattle.run_laws.proofs.RestLemmas.{live_root}
-use Rattle.run_laws.proofs.RestRunLemmas.{NodeRests, heard_rests, RootsStand, turned, roots_stand_on, first_rests}
-use Rattle.run_laws.proofs.SaidPostLemmas.{posts_back, posts_of, said_after}
-use Rattle.run_laws.proofs.TurnEventLemmas.{cases_nat}
+use Rattle.run_laws.proofs.RestRunLemmas.{NodeRests, heard_rests, RootsStand, roots_stand_on, first_rests}
+use Rattle.run_laws.proofs.SaidPostLemmas.{posts_back, posts_of}
+use Rattle.tree_laws.proofs.EachNodeLemmas.{EachNode, turn_says, turn_nodes, says_on, nodes_on, nodes_first}
+use Rattle.tree_laws.proofs.GoOnLemmas.{heard_sessions, goes_before}
 use Rattle.gone_laws.specs.GoneLaws.{ToldWell, HoldsWell, CallsWell, BranchesHoldWell, CallsFollowAnswers}
 use Rattle.gone_laws.proofs.WellLemmas.{QuietOf, well_low, well_split, held_more}
 use Rattle.gone_laws.proofs.WellStepLemmas.{wells_on}
@@ -73,7 +70,7 @@ NodeWell said k = EachLive (WellOf said k) k.lives k.works
 -- So it is everywhere.
 pub record WellStand (f : Facts) : Type 0 where
   pub calls : CallsWell (said_in f)
-  pub nodes : (n : ℕ) → IfSome (node_at f n) (NodeWell (said_in f))
+  pub nodes : EachNode NodeWell f
 
 -- messages without a Reply of a branch leave it so
 silent_well : (said says : List Post) (G : Type 0) (l : Live) (w : Work) → newest_reply says l.me ≡ 0 → HoldsWell said G l.me l.edges w → HoldsWell (said ++ says) G l.me l.edges w
@@ -90,17 +87,15 @@ silent_well said says G l w none is = record {
   first = is.first;
 }
 
-heard_sessions : (k : Kept) (input : Input) → (heard k input).sessions ≡ k.sessions
-heard_sessions k (inputs.Message m) = refl
-heard_sessions k (inputs.Call n s) = refl
-heard_sessions k (inputs.GiveUp n) = refl
-heard_sessions k inputs.Reco = refl
-
 heard_lives : (k : Kept) (input : Input) → (heard k input).lives ≡ k.lives
 heard_lives k (inputs.Message m) = refl
 heard_lives k (inputs.Call n s) = refl
 heard_lives k (inputs.GiveUp n) = refl
 heard_lives k inputs.Reco = refl
+
+start_well : (ms : List Post) (zs : List RedoRecord) → NodeWell ms (start_of zs)
+unfolding start_of
+start_well ms zs = none_live _
 
 module _ (places : List Place) (asked : List Command) (each : (n : ℕ) (p : Place) → numbered places n ≡ Some p → IsPlace places n p) where
   module _ (f : Facts) (t : List Event) (bs : List Born) (stand : StandBorn places asked each f t bs) (roots : RootsStand places asked each f) (turns : CallsStand f) (now : WellStand f) where
@@ -114,9 +109,6 @@ module _ (places : List Place) (asked : List Command) (each : (n : ℕ) (p : Pla
       abbrev d : Deed
       d = deed_of p k u.input
 
-      abbrev g : Facts
-      g = facts_after places asked f (happenings.Turn u)
-
       abbrev said : List Post
       said = said_in f
 
@@ -128,23 +120,6 @@ module _ (places : List Place) (asked : List Command) (each : (n : ℕ) (p : Pla
 
       rests : NodeRests k
       rests = calls.rests places asked each f t bs stand roots turns u k may
-
-      rests_after : NodeRests d.after
-      unfolding turn_of
-      rests_after = turned places asked each f t bs stand roots u k may
-
-      codes : AllNeed k.sessions d.after.sessions
-      codes = subst (λ ss. AllNeed ss d.after.sessions) (heard_sessions k u.input) (codes_on p u.input (calls.step places asked each f t bs stand roots turns u k may))
-
-      -- a root that may go on after the turn needed no rollback before it
-      goes_before : (b : BranchId) (l : Live) → live_at k b ≡ Some l → (l.parent ≡ None → May l.me) → GoesOn k l
-      goes_before b l live goes none =
-          let may_go : May l.me = goes none in
-          let before : (session_at k.sessions l.me.session).root ≡ Some l.me = (live_root k rests.1 b l live none).root in
-          let me : may_go.0.me ≡ l.me = item_is live_id d.after.lives l.me may_go.0 may_go.1 in
-          let after : (session_at d.after.sessions l.me.session).root ≡ Some l.me
-          = subst (λ c. (session_at d.after.sessions c.session).root ≡ Some c) me (live_root d.after rests_after.1 l.me may_go.0 may_go.1 may_go.2).root in
-          codes l.me.session l.me before after may_go.3
 
       -- live roots are the transactions of their sessions
       rooted : (from to : BranchId) (kind : Kind) → Came u.input from to kind → (l : Live) → live_at (heard k u.input) l.me ≡ Some l → l.parent ≡ None → (session_at (heard k u.input).sessions l.me.session).root ≡ Some l.me
@@ -159,7 +134,7 @@ module _ (places : List Place) (asked : List Command) (each : (n : ℕ) (p : Pla
       welled from to call wt count a came = came_so (λ x y kind. ReplyTold said x kind) f (replies_told f.net.packets) k u.node u.input u.took may.comes from to (kinds.Reply call wt count a) came
 
       before : EachLive (λ l w. HoldsWell said (l.parent ≡ None → May l.me) l.me l.edges w) k.lives k.works
-      before = each_same (WellOf said k) _ k.lives k.works olds (λ y v live any is. record { held = λ goes. is.held (goes_before y.me y live goes); kept = is.kept; first = is.first })
+      before = each_same (WellOf said k) _ k.lives k.works olds (λ y v live any is. record { held = λ goes. is.held (goes_before places asked each f t bs stand roots turns u k may y.me y live goes); kept = is.kept; first = is.first })
 
       done : EachLive (λ l w. HoldsWell more (l.parent ≡ None → May l.me) l.me l.edges w) d.after.lives d.after.works × CallsWell more × ((b : BranchId) → item_at live_id d.after.lives b ≡ None → QuietOf d.says b)
       done =
@@ -170,43 +145,10 @@ module _ (places : List Place) (asked : List Command) (each : (n : ℕ) (p : Pla
       after : NodeWell more d.after
       after = each_same _ (WellOf more d.after) d.after.lives d.after.works done.0 (λ y v live any is. record { held = λ goes. is.held (λ none. (y, live, none, goes none)); kept = is.kept; first = is.first })
 
-      here_after : node_at g n ≡ kept_after u.cut (Some (turn_of p k u.input))
-      here_after = calls.here_after places asked each f t bs stand roots turns u k may
-
-      other_node : (m : ℕ) → m ≢ n → IfSome (node_at g m) (NodeWell more)
-      other_node m other = subst (λ o. IfSome o (NodeWell more)) (sym (turn_elsewhere places asked f stand.0.0.even u m (λ e. other (sym e))).0) (by (node_at f m) refl (now.nodes m))
-        where
-          by : (o : Option Kept) → node_at f m ≡ o → IfSome o (NodeWell said) → IfSome o (NodeWell more)
-          by None up old = tt
-          by (Some j) up old =
-              each_same (WellOf said j) (WellOf more j) j.lives j.works old
-              (λ y v live any is. silent_well said d.says (GoesOn j y) y v ((calls.left places asked each f t bs stand roots turns u k may).1.1 y.me (λ here. other (calls.elsewhere_is places asked each f t bs stand roots turns u k may m j up y.me y live here))).replies is)
-
-      same_node : (m : ℕ) → m ≢ n → IfSome (node_at g m) (NodeWell said)
-      same_node m other = subst (λ o. IfSome o (NodeWell said)) (sym (turn_elsewhere places asked f stand.0.0.even u m (λ e. other (sym e))).0) (now.nodes m)
-
-      turn_well : (cut : Bool) → u.cut ≡ cut → IsOwed p k u.input u.wrote u.sent cut → WellStand g
-      unfolding turn_of
-      turn_well false cut owed =
-          let sent : said_in g ≡ more = said_after places asked f (happenings.Turn u) ∙ ap (λ xs. said ++ xs) (ap (λ xs. map post_of xs) owed.1 ∙ posts_back d.after.clock d.says) in
-          let up : node_at g n ≡ Some d.after = here_after ∙ ap (λ c. kept_after c (Some (turn_of p k u.input))) cut in
-          record {
-            calls = subst CallsWell (sym sent) done.1;
-            nodes = λ m. subst (λ xs. IfSome (node_at g m) (NodeWell xs)) (sym sent) (elim (cases_nat m n) [
-              | inl at ↦ subst (λ i. IfSome (node_at g i) (NodeWell more)) (sym at) (subst (λ o. IfSome o (NodeWell more)) (sym up) after)
-              | inr other ↦ other_node m other
-            ]);
-          }
-      turn_well true cut owed =
-          let sent : said_in g ≡ said = said_after places asked f (happenings.Turn u) ∙ (ap (λ xs. said ++ map post_of xs) owed.1 ∙ append-nil said) in
-          let down : node_at g n ≡ None = here_after ∙ ap (λ c. kept_after c (Some (turn_of p k u.input))) cut in
-          record {
-            calls = subst CallsWell (sym sent) now.calls;
-            nodes = λ m. subst (λ xs. IfSome (node_at g m) (NodeWell xs)) (sym sent) (elim (cases_nat m n) [
-              | inl at ↦ subst (λ i. IfSome (node_at g i) (NodeWell said)) (sym at) (subst (λ o. IfSome o (NodeWell said)) (sym down) tt)
-              | inr other ↦ same_node m other
-            ]);
-          }
+      others : (m : ℕ) → m ≢ n → (j : Kept) → node_at f m ≡ Some j → NodeWell said j → NodeWell more j
+      others m other j up old =
+          each_same (WellOf said j) (WellOf more j) j.lives j.works old
+          (λ y v live any is. silent_well said d.says (GoesOn j y) y v ((calls.left places asked each f t bs stand roots turns u k may).1.1 y.me (λ here. other (calls.elsewhere_is places asked each f t bs stand roots turns u k may m j up y.me y live here))).replies is)
 
       -- who answers so in it is live after it
       turn_tells : (cut : Bool) → u.cut ≡ cut → IsOwed p k u.input u.wrote u.sent cut → (b : BranchId) (number : ℕ) (v : Option ℕ) → ToldWell (map post_of u.sent) b number v → exit (events_after places asked f (happenings.Turn u) t) b ≡ None
@@ -219,7 +161,7 @@ module _ (places : List Place) (asked : List Command) (each : (n : ℕ) (p : Pla
 
           all : AllByRecursion (λ l. exit (events_after places asked f (happenings.Turn u) t) l.me ≡ None) d.after.lives
           all =
-              subst (λ o. IfSome o (λ x. AllByRecursion (λ l. exit (events_after places asked f (happenings.Turn u) t) l.me ≡ None) x.lives)) (here_after ∙ ap (λ c. kept_after c (Some (turn_of p k u.input))) cut)
+              subst (λ o. IfSome o (λ x. AllByRecursion (λ l. exit (events_after places asked f (happenings.Turn u) t) l.me ≡ None) x.lives)) (calls.here_after places asked each f t bs stand roots turns u k may ∙ ap (λ c. kept_after c (Some (turn_of p k u.input))) cut)
               ((stand_born_on places asked each f t bs (happenings.Turn u) stand (k, may)).0.1.lives u.node)
 
           by : (o : Option Live) → item_at live_id d.after.lives b ≡ o → exit (events_after places asked f (happenings.Turn u) t) b ≡ None
@@ -239,51 +181,16 @@ module _ (places : List Place) (asked : List Command) (each : (n : ℕ) (p : Pla
     tells_live (happenings.Join x y) may b number v tells = absurd tells
     tells_live (happenings.Lost m) may b number v tells = absurd tells
 
-    start_well : (ms : List Post) (zs : List RedoRecord) → NodeWell ms (start_of zs)
-    unfolding start_of
-    start_well ms zs = none_live _
-
-    -- a node that is set
-    set_node : (m i : ℕ) (o : Option Kept) → IfSome o (NodeWell (said_in f)) → IfSome (flat (numbered (set_numbered f.nodes m o) i)) (NodeWell (said_in f))
-    set_node m i o new = elim (set_or_before f.nodes m i o) [
-      | inl still ↦ subst (λ x. IfSome (flat x) (NodeWell (said_in f))) (sym still) (now.nodes i)
-      | inr set ↦ subst (λ x. IfSome (flat x) (NodeWell (said_in f))) (sym set.1) new
-    ]
-
-    -- nothing is sent
-    quiet_well : (h : Happening) → posts_of h ≡ [] → ((i : ℕ) → IfSome (node_at (facts_after places asked f h) i) (NodeWell (said_in f))) → WellStand (facts_after places asked f h)
-    quiet_well h none nodes =
-        let sent : said_in (facts_after places asked f h) ≡ said_in f = said_after places asked f h ∙ (ap (λ xs. said_in f ++ xs) none ∙ append-nil (said_in f)) in
-        record { calls = subst CallsWell (sym sent) now.calls; nodes = λ i. subst (λ xs. IfSome (node_at (facts_after places asked f h) i) (NodeWell xs)) (sym sent) (nodes i) }
-
-    stop_nodes : (m i : ℕ) → IfSome (node_at (facts_after places asked f (happenings.Stopped m)) i) (NodeWell (said_in f))
-    unfolding facts_after
-    stop_nodes m i = set_node m i None tt
-
-    start_nodes : (m boot i : ℕ) → IfSome (node_at (facts_after places asked f (happenings.Started m boot)) i) (NodeWell (said_in f))
-    unfolding facts_after
-    start_nodes m boot i = set_node m i (Some (start_of (with_boot f m boot))) (start_well _ _)
-
-    still_nodes : (h : Happening) → (facts_after places asked f h).nodes ≡ f.nodes → (i : ℕ) → IfSome (node_at (facts_after places asked f h) i) (NodeWell (said_in f))
-    still_nodes h is i = subst (λ (xs : List (Option Kept)). IfSome (flat (numbered xs i)) (NodeWell (said_in f))) (sym is) (now.nodes i)
-
     pub well_on : (h : Happening) → MayHappen places asked f h → WellStand (facts_after places asked f h)
-    well_on (happenings.Turn u) may = turn_well u may.0 may.1 u.cut refl may.1.owed
-    well_on (happenings.Stopped m) may = quiet_well (happenings.Stopped m) refl (stop_nodes m)
-    well_on (happenings.Started m boot) may = quiet_well (happenings.Started m boot) refl (start_nodes m boot)
-    well_on (happenings.Begun c) may = quiet_well (happenings.Begun c) refl (still_nodes (happenings.Begun c) (calls.same_begun places asked each f t bs stand roots turns c))
-    well_on (happenings.Cut a b) may = quiet_well (happenings.Cut a b) refl (still_nodes (happenings.Cut a b) (calls.same_cut places asked each f t bs stand roots turns a b))
-    well_on (happenings.Join a b) may = quiet_well (happenings.Join a b) refl (still_nodes (happenings.Join a b) (calls.same_join places asked each f t bs stand roots turns a b))
-    well_on (happenings.Lost k) may = quiet_well (happenings.Lost k) refl (still_nodes (happenings.Lost k) (calls.same_lost places asked each f t bs stand roots turns k))
+    well_on h may = record {
+      calls = says_on places asked f CallsWell now.calls (λ u k may. turn_says places asked f stand.0.0.even u k may CallsWell (λ down. now.calls) (λ up. (done u k may).1)) h may;
+      nodes = nodes_on places asked f NodeWell start_well now.nodes (λ u k may. turn_nodes places asked f stand.0.0.even u k may NodeWell now.nodes (after u k may) (others u k may)) h may;
+    }
 
   -- ---- every run
 
-  made_well : NodeWell [] made
-  unfolding start_of
-  made_well = none_live _
-
   first_well : WellStand (first_facts places)
-  first_well = record { calls = λ p c n some low. absurd (omega (arith, some, low)); nodes = λ n. first_node (λ o. IfSome o (NodeWell [])) tt made_well places n }
+  first_well = record { calls = λ p c n some low. absurd (omega (arith, some, low)); nodes = nodes_first NodeWell start_well places }
 
   well_keep : (f : Facts) (hs : List Happening) (t : List Event) (bs : List Born) → StandBorn places asked each f t bs → RootsStand places asked each f → CallsStand f → WellStand f → IsLawful places asked f hs → WellStand (facts_of places asked f hs)
   unfolding facts_of IsLawful

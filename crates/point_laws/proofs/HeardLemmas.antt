@@ -43,7 +43,8 @@ use Rattle.commit_laws.proofs.CameLemmas.{deliveries_came}
 use Rattle.point_laws.specs.PointLaws.{is_point, IsNotLive, PointsAreHeard}
 use Rattle.point_laws.proofs.PassLemmas.{points_find_ready}
 use Rattle.point_laws.proofs.StayReadyLemmas.{ready_stay}
-use Rattle.point_laws.proofs.WeightLemmas.{Lives, lives_still, nowhere_weighs, walks_find_weights}
+use Rattle.tree_laws.proofs.StepWeightLemmas.{nowhere_weighs}
+use Rattle.point_laws.proofs.WeightLemmas.{Lives, lives_still, walks_find_weights}
 
 -- who has left is not live
 pub left_not_live : (t : History) (whole : IsLawfulRun t) (b : BranchId) (z : Exit) → exit (events_of t) b ≡ Some z → IsNotLive (facts_at t) b

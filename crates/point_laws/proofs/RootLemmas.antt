@@ -56,7 +56,7 @@ use Rattle.point_laws.proofs.OverLemmas as over
 use Rattle.point_laws.proofs.OverLemmas.{EdgeOver, edges_over}
 use Rattle.point_laws.proofs.PassLemmas.{none_at}
 use Rattle.point_laws.proofs.RootStepLemmas.{StepReason, Wrote_seal, Wrote_decision, Found_none, Said_none, Abandons, Told_rollback, Rolls, Gives, root_leaves}
-use Rattle.point_laws.proofs.WeightLemmas.{nowhere_weighs}
+use Rattle.tree_laws.proofs.StepWeightLemmas.{nowhere_weighs}
 
 -- ---- acts
 

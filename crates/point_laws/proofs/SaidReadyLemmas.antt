@@ -1,41 +1,36 @@
 -- In every lawful run each child whose answer Ready a live branch holds has said Ready to it. The messages are turned round
 -- for it: each Ready as a Prepare that goes back, so that what steps keep of Prepares they keep of Readys.
-use Rattle.std.proofs.Common.{◌≡◌, ◌≢◌, ℕ, ◌&&◌, ◌||◌, Bool, true, false, List, [], ◌∷◌, ◌++◌, map, Option, Some, None, inl, inr, refl, sym, ap, subst, ◌∙◌}
+use Rattle.std.proofs.Common.{◌≡◌, ℕ, ◌&&◌, ◌||◌, Bool, true, false, List, [], ◌∷◌, ◌++◌, map, Some, None, inl, inr, refl, sym, ap, subst, ◌∙◌}
 use Rattle.std.specs.Prelude.{IfSome}
 use Rattle.std.specs.List.{AllByRecursion}
 use Rattle.std.proofs.lemmas.List.{map-append}
-use Rattle.tran_ids.proofs.NumberedLemmas.{set_or_before}
 use Rattle.node_rules.specs.Data.{BranchId, Live, Post, RedoRecord}
 use Rattle.node_rules.specs.Data.kinds
 use Rattle.node_rules.specs.Data.phases
 use Rattle.node_rules.specs.declared.work.Going.{Going}
 use Rattle.node_rules.specs.Inputs.{Came}
 use Rattle.node_rules.specs.Points.{is_ready}
-use Rattle.node_rules.specs.Words.{same, numbered, set_numbered}
+use Rattle.node_rules.specs.Words.{same}
 use Rattle.node_rules.specs.Kept.{Kept, Branch, Deed, live_id, branch_at}
-use Rattle.node_rules.specs.Turn.{turn_of, start_of, heard, deed_of}
+use Rattle.node_rules.specs.Turn.{start_of, heard, deed_of}
 use Rattle.run_laws.specs.Data.{Turn, Happening}
-use Rattle.run_laws.specs.Data.happenings
-use Rattle.run_laws.specs.Facts.{Facts, place_at, flat, node_at, kept_after, with_boot, facts_after, facts_of}
-use Rattle.run_laws.specs.InTurnLaws.{post_of, said_in}
-use Rattle.run_laws.specs.Lawful.{IsOwed, MayHappen, MayTurn, History, IsLawfulRun, facts_at}
+use Rattle.run_laws.specs.Facts.{Facts, place_at}
+use Rattle.run_laws.specs.InTurnLaws.{said_in}
+use Rattle.run_laws.specs.Lawful.{MayTurn, History, IsLawfulRun, facts_at}
 use Rattle.run_laws.specs.WalkLaws.{is_below, was_sent}
-use Rattle.run_laws.proofs.AtNodeLemmas.{turn_elsewhere, turn_here}
 use Rattle.run_laws.proofs.BirthsStandLemmas.{came_so}
-use Rattle.run_laws.proofs.EventsStandLemmas.{first_node, run_stands}
 use Rattle.run_laws.proofs.FreezeLemmas.{working_or}
 use Rattle.run_laws.proofs.FreezeRunLemmas.{asked_stand_still}
 use Rattle.run_laws.proofs.LawfulLemmas.{serves}
 use Rattle.run_laws.proofs.ListLemmas.{all_weaker}
 use Rattle.run_laws.proofs.OwnLemmas.{all_found}
-use Rattle.run_laws.proofs.SaidPostLemmas.{posts_back, posts_of, said_after}
-use Rattle.run_laws.proofs.TurnEventLemmas.{cases_nat}
 use Rattle.tree_laws.specs.AnswerLaws.{AnswersTold}
 use Rattle.tree_laws.proofs.AnswerRunLemmas.{heard_branch, lives_heard}
 use Rattle.tree_laws.proofs.AnswerStepLemmas.{answers_on}
 use Rattle.tree_laws.proofs.AskLemmas.{sent_more}
 use Rattle.tree_laws.proofs.AskRunLemmas.{sent_from}
-use Rattle.tree_laws.proofs.PrefixLemmas.{so_far, f_at, one_on, keep_prefix}
+use Rattle.tree_laws.proofs.EachNodeLemmas.{EachNode, node_end}
+use Rattle.tree_laws.proofs.PrefixLemmas.{so_far, f_at}
 use Rattle.point_laws.specs.PointLaws.{ReadyWereSaid}
 
 -- ---- messages turned round
@@ -76,20 +71,13 @@ lives_more said says ls all = all_weaker (Said said) (Said (said ++ says)) (λ l
 abbrev NodeSaid : List Post → Kept → Type 0
 NodeSaid said k = AllByRecursion (Said said) k.lives
 
-node_more : (said says : List Post) (o : Option Kept) → IfSome o (NodeSaid said) → IfSome o (NodeSaid (said ++ says))
-node_more said says None is = tt
-node_more said says (Some k) is = lives_more said says k.lives is
-
-abbrev NodesSaid : Facts → Type 0
-NodesSaid f = (n : ℕ) → IfSome (node_at f n) (NodeSaid (said_in f))
-
 started_so : (said : List Post) (rs : List RedoRecord) → NodeSaid said (start_of rs)
 unfolding start_of
 started_so said rs = tt
 
--- ---- each happening
+-- ---- each turn
 
-module _ (t : History) (before : List Happening) (lawful : IsLawfulRun (so_far t before)) (now : NodesSaid (f_at t before)) where
+module _ (t : History) (before : List Happening) (lawful : IsLawfulRun (so_far t before)) (now : EachNode NodeSaid (f_at t before)) where
   abbrev f : Facts
   f = f_at t before
 
@@ -99,9 +87,6 @@ module _ (t : History) (before : List Happening) (lawful : IsLawfulRun (so_far t
   module _ (u : Turn) (k : Kept) (may : MayTurn t.places f u k) where
     abbrev d : Deed
     d = deed_of (place_at t.places u.node) k u.input
-
-    abbrev g : Facts
-    g = facts_after t.places t.commands f (happenings.Turn u)
 
     works : (from to : BranchId) (edge strength : ℕ) → Came u.input from to (kinds.Opened edge strength) → (x : Branch) (w : Going) → branch_at (heard k u.input) x.live.me ≡ Some x → x.work.going ≡ Some w → x.live.phase ≡ phases.Working
     works from to edge strength came x w found going = elim (working_or x.live.phase) [
@@ -124,59 +109,8 @@ module _ (t : History) (before : List Happening) (lawful : IsLawfulRun (so_far t
         (answers_on (turned said) (place_at t.places u.node) u.input came_ready (serves t.places f u k may).step works
         (subst (λ (ls : List Live). AllByRecursion (Said said) ls) (sym (lives_heard k u.input)) lives_before))
 
-    sent_is : u.cut ≡ false → IsOwed (place_at t.places u.node) k u.input u.wrote u.sent false → said_in g ≡ said ++ d.says
-    unfolding turn_of
-    sent_is cut owed = said_after t.places t.commands f (happenings.Turn u) ∙ ap (λ xs. said ++ xs) (ap (λ xs. map post_of xs) owed.1 ∙ posts_back d.after.clock d.says)
-
-    here : node_at g u.node ≡ kept_after u.cut (Some (turn_of (place_at t.places u.node) k u.input))
-    here = (turn_here t.places t.commands f (run_stands (so_far t before) lawful).0.even u k may.up).0
-
-    elsewhere : (m : ℕ) → u.node ≢ m → IfSome (node_at g m) (NodeSaid (said_in g))
-    elsewhere m other =
-        subst (λ xs. IfSome (node_at g m) (NodeSaid xs)) (sym (said_after t.places t.commands f (happenings.Turn u)))
-        (node_more said (posts_of (happenings.Turn u)) (node_at g m) (subst (λ o. IfSome o (NodeSaid said)) (sym (turn_elsewhere t.places t.commands f (run_stands (so_far t before) lawful).0.even u m other).0) (now m)))
-
-    at_node : (cut : Bool) → u.cut ≡ cut → IsOwed (place_at t.places u.node) k u.input u.wrote u.sent cut → IfSome (node_at g u.node) (NodeSaid (said_in g))
-    unfolding turn_of
-    at_node true cut owed = subst (λ o. IfSome o (NodeSaid (said_in g))) (sym (here ∙ ap (λ c. kept_after c (Some (turn_of (place_at t.places u.node) k u.input))) cut)) tt
-    at_node false cut owed =
-        subst (λ o. IfSome o (NodeSaid (said_in g))) (sym (here ∙ ap (λ c. kept_after c (Some (turn_of (place_at t.places u.node) k u.input))) cut))
-        (subst (λ xs. NodeSaid xs d.after) (sym (sent_is cut owed)) lives_after)
-
-    turn_so : NodesSaid g
-    turn_so m = elim (cases_nat u.node m) [
-      | inl at ↦ subst (λ i. IfSome (node_at g i) (NodeSaid (said_in g))) at (at_node u.cut refl may.owed)
-      | inr other ↦ elsewhere m other
-    ]
-
-  -- ---- other happenings
-
-  set_so : (m n : ℕ) (o : Option Kept) → IfSome o (NodeSaid said) → IfSome (flat (numbered (set_numbered f.nodes m o) n)) (NodeSaid said)
-  set_so m n o new = elim (set_or_before f.nodes m n o) [
-    | inl still ↦ subst (λ x. IfSome x (NodeSaid said)) (ap flat (sym still)) (now n)
-    | inr set ↦ subst (λ x. IfSome x (NodeSaid said)) (ap flat (sym set.1)) new
-  ]
-
-  still_so : (h : Happening) (n : ℕ) → IfSome (node_at (facts_after t.places t.commands f h) n) (NodeSaid said) → IfSome (node_at (facts_after t.places t.commands f h) n) (NodeSaid (said_in (facts_after t.places t.commands f h)))
-  still_so h n so =
-      subst (λ xs. IfSome (node_at (facts_after t.places t.commands f h) n) (NodeSaid xs)) (sym (said_after t.places t.commands f h)) (node_more said (posts_of h) (node_at (facts_after t.places t.commands f h) n) so)
-
-  pub said_next : (h : Happening) → MayHappen t.places t.commands f h → NodesSaid (facts_after t.places t.commands f h)
-  unfolding facts_after
-  said_next (happenings.Turn u) may = turn_so u may.0 may.1
-  said_next (happenings.Stopped m) may = λ n. still_so (happenings.Stopped m) n (set_so m n None tt)
-  said_next (happenings.Started m boot) may = λ n. still_so (happenings.Started m boot) n (set_so m n (Some (start_of (with_boot f m boot))) (started_so said (with_boot f m boot)))
-  said_next (happenings.Begun c) may = λ n. still_so (happenings.Begun c) n (now n)
-  said_next (happenings.Cut a b) may = λ n. still_so (happenings.Cut a b) n (now n)
-  said_next (happenings.Join a b) may = λ n. still_so (happenings.Join a b) n (now n)
-  said_next (happenings.Lost k) may = λ n. still_so (happenings.Lost k) n (now n)
-
-first_said : (t : History) → NodesSaid (f_at t [])
-unfolding facts_of
-first_said t n = first_node (λ o. IfSome o (NodeSaid [])) tt (started_so [] _) t.places n
-
 pub ready_were_said : ReadyWereSaid
 ready_were_said t lawful n k up l live =
-    let all : NodesSaid (facts_at t) = keep_prefix t (λ hs. NodesSaid (f_at t hs)) (λ before h so may now. subst NodesSaid (sym (one_on t before h)) (said_next t before so now h may)) lawful (first_said t) in
-    let its : Said (said_in (facts_at t)) l = all_found (Said (said_in (facts_at t))) live_id k.lives l.me l (subst (λ o. IfSome o (NodeSaid (said_in (facts_at t)))) up (all n)) live in
+    let all : NodeSaid (said_in (facts_at t)) k = node_end NodeSaid started_so t (λ said says k. lives_more said says k.lives) (lives_after t) lawful n k up in
+    let its : Said (said_in (facts_at t)) l = all_found (Said (said_in (facts_at t))) live_id k.lives l.me l all live in
     all_weaker _ _ (λ e is ready. sym (turned_is (said_in (facts_at t)) e.peer l.me) ∙ is.ready ready) l.edges its

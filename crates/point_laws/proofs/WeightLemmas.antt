@@ -1,15 +1,11 @@
 -- In every lawful run a live branch that was told that the walk to the commit point site comes there has a weight: the one
 -- by which its parent took that step.
-use Rattle.std.proofs.Common.{◌≡◌, ◌≢◌, ℕ, suc, ◌≤◌, Bool, true, false, if◌then◌else◌, List, [], ◌∷◌, ◌++◌, map, Option, Some, None, inl, inr, refl, sym, ap, subst, subst₂, ◌∙◌, arith, append-nil}
-use Rattle.std.specs.Prelude.{nat_lt}
+use Rattle.std.proofs.Common.{◌≡◌, ◌≢◌, ℕ, ◌≤◌, true, false, List, [], ◌∷◌, ◌++◌, map, Option, Some, None, inl, inr, refl, sym, ap, subst, subst₂, ◌∙◌, append-nil}
 use Rattle.tran_ids.proofs.ListedLemmas.{item_is}
-use Rattle.session_tree.specs.Tree.{place_of_greatest, best_child, weight_by, walk_by, weight, step}
-use Rattle.session_tree.specs.declared.act.Walk.TheVariants as walks
-use Rattle.session_tree.proofs.Greatest.{greatest_is}
+use Rattle.session_tree.specs.Tree.{place_of_greatest, weight_by, weight, step}
 use Rattle.agreement.specs.Events.{exit}
 use Rattle.node_rules.specs.Data.{BranchId, Edge, Live}
 use Rattle.node_rules.specs.Data.phases
-use Rattle.node_rules.specs.Words.{numbered}
 use Rattle.node_rules.specs.Kept.{Kept, Branch, live_id, live_at, branch_at, work_at, with_work}
 use Rattle.node_rules.proofs.StandLemmas.{live_so}
 use Rattle.run_laws.specs.Births.{Born, births_of, born_at}
@@ -38,7 +34,7 @@ use Rattle.tree_laws.proofs.ForestLemmas as trees
 use Rattle.tree_laws.proofs.ForestRunLemmas.{run_known}
 use Rattle.tree_laws.proofs.LeftLemmas.{asks_live}
 use Rattle.tree_laws.proofs.PrefixLemmas.{so_far, f_at, e_at, more_on}
-use Rattle.tree_laws.proofs.VoterLemmas.{mapped_at}
+use Rattle.tree_laws.proofs.StepWeightLemmas.{down_weighs}
 use Rattle.tree_laws.proofs.WeightRunLemmas.{replies_tell_weights, edges_hold_weights}
 use Rattle.site_laws.specs.RestLaws.{Rests, SameTree}
 use Rattle.site_laws.proofs.CalledLemmas.{edges_were_called}
@@ -49,49 +45,7 @@ use Rattle.site_laws.proofs.TimeLemmas.{Part, part_on, part_of, part_lawful, may
 use Rattle.point_laws.specs.PointLaws.{WalksFindWeights}
 use Rattle.point_laws.proofs.MomentLemmas.{SentIn, sent_in, sent_there}
 
--- ---- steps and weights
-
--- a step down goes to the first child of the greatest weight
-best_down : (q : Bool) (n : ℕ) (o : Option (ℕ × ℕ)) (i : ℕ) → walk_by q n o ≡ walks.Down i → (w : ℕ) × (o ≡ Some (w, i))
-best_down true n None i is = absurd cc
-best_down true n (Some b) i is = by (nat_lt n b.0) is
-  where
-    by : (q : Bool) → (if q then walks.Down b.1 else walks.Here) ≡ walks.Down i → (w : ℕ) × (Some b ≡ Some (w, i))
-    by true it = (let same : b.1 ≡ i = cc in (b.0, ap (λ j. Some (b.0, j)) same))
-    by false it = absurd cc
-best_down false n None i is = absurd cc
-best_down false n (Some b) i is = (let same : b.1 ≡ i = cc in (b.0, ap (λ j. Some (b.0, j)) same))
-
--- to which it has a weight
-down_weighs : (l : Live) (i : ℕ) (e : Edge) → step l ≡ walks.Down i → numbered l.edges i ≡ Some e → e.weight ≢ None
-unfolding step
-down_weighs l i e is at =
-    let best = best_down l.changed l.strength (best_child l) i is in
-    elim (greatest_is best.0 i 1 (map (λ (y : Edge). y.weight) l.edges) None (λ b same. absurd cc) best.1).found [
-      | inl never ↦ absurd cc
-      | inr found ↦ (λ none. (let number : i ≡ suc found.0 = omega (arith, found.1) in
-          let there : numbered (map (λ (y : Edge). y.weight) l.edges) i ≡ Some e.weight = mapped_at (λ (y : Edge). y.weight) l.edges i e at in
-          let it : numbered (map (λ (y : Edge). y.weight) l.edges) i ≡ Some (Some best.0) = ap (numbered (map (λ (y : Edge). y.weight) l.edges)) number ∙ found.2 in
-          absurd (cc (there, it, none))))
-    ]
-
--- a branch from which the walk goes nowhere has no weight
-nowhere_by : (q : Bool) (n : ℕ) (o : Option (ℕ × ℕ)) → walk_by q n o ≡ walks.Nowhere → weight_by q n o ≡ None
-nowhere_by q n o is = by q o is
-  where
-    shut : (q : Bool) (i : ℕ) → (if q then walks.Down i else walks.Here) ≡ walks.Nowhere → ⊥
-    shut true i it = cc
-    shut false i it = cc
-
-    by : (q : Bool) (o : Option (ℕ × ℕ)) → walk_by q n o ≡ walks.Nowhere → weight_by q n o ≡ None
-    by true None it = absurd cc
-    by true (Some b) it = absurd (shut (nat_lt n b.0) b.1 it)
-    by false None it = refl
-    by false (Some b) it = absurd cc
-
-pub nowhere_weighs : (l : Live) → step l ≡ walks.Nowhere → weight l ≡ None
-unfolding step weight
-nowhere_weighs l is = nowhere_by l.changed l.strength (best_child l) is
+-- ---- weights
 
 same_weight : (x y : Live) → y.changed ≡ x.changed → y.strength ≡ x.strength → map (λ e. e.weight) y.edges ≡ map (λ e. e.weight) x.edges → weight y ≡ weight x
 unfolding weight

@@ -12,6 +12,7 @@ pub mod RowLemmas
 pub mod LearnLemmas
 pub mod PrefixLemmas
 pub mod EachNodeLemmas
+pub mod GoOnLemmas
 pub mod WhyLemmas
 pub mod AnswerStepLemmas
 pub mod AnswerRunLemmas
@@ -38,4 +39,5 @@ pub mod SealLemmas
 pub mod BackLemmas
 pub mod FoundLemmas
 pub mod VoterLemmas
+pub mod StepWeightLemmas
 pub mod VoterRunLemmas

@@ -139,7 +139,7 @@ module _ (t : History) (before : List Happening) (lawful : IsLawfulRun (so_far t
 
   -- ---- its children
 
-  answers_now : (l : Live) → live_at k l.me ≡ Some l → AllByRecursion (EdgeIs e k0.clock) l.edges
+  pub answers_now : (l : Live) → live_at k l.me ≡ Some l → AllByRecursion (EdgeIs e k0.clock) l.edges
   answers_now l live =
       all_found (AnswersAre e k0.clock) live_id k.lives l.me l (risen_answers e k.clock k0.clock (clock_up k u.input) k.lives (answers_are_true s lawful u.node k may.up)) live
 
@@ -150,7 +150,7 @@ module _ (t : History) (before : List Happening) (lawful : IsLawfulRun (so_far t
   vote_is from to votes.ReadOnly _ is came = absurd cc
   vote_is from to _ kind is came = tt
 
-  voted_edges : (l : Live) (from : BranchId) (v : Vote) (b : Bool) → live_at k l.me ≡ Some l → Answers u.input l from v b → AllByRecursion (EdgeIs e k0.clock) (voted l from v).edges
+  pub voted_edges : (l : Live) (from : BranchId) (v : Vote) (b : Bool) → live_at k l.me ≡ Some l → Answers u.input l from v b → AllByRecursion (EdgeIs e k0.clock) (voted l from v).edges
   voted_edges l from v b live answers =
       all_map (EdgeIs e k0.clock) (has_voted from v) l.edges
       (all_weaker (EdgeIs e k0.clock) _ (λ y is. cond_both (answers_first from y) (record y { vote = v }) y (EdgeIs e k0.clock)

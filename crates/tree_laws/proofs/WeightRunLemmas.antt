@@ -2,17 +2,14 @@
 use Rattle.std.proofs.Common.{◌≡◌, ◌≢◌, ℕ, ◌≤◌, false, List, [], ◌∷◌, ◌++◌, map, Option, Some, None, inl, inr, refl, sym, subst, arith}
 use Rattle.std.specs.Prelude.{IfSome}
 use Rattle.std.specs.List.{AllByRecursion}
-use Rattle.tran_ids.proofs.ListedLemmas.{item_is}
 use Rattle.session_tree.specs.Tree.{weight}
-use Rattle.node_rules.specs.Data.{Answer, BranchId, Kind, Live, Post, Place, Input, RedoRecord}
-use Rattle.node_rules.specs.Data.inputs
+use Rattle.node_rules.specs.Data.{Answer, BranchId, Kind, Live, Post, Place, RedoRecord}
 use Rattle.node_rules.specs.Data.kinds
 use Rattle.node_rules.specs.declared.work.Work.{Work}
 use Rattle.node_rules.specs.Words.{numbered}
 use Rattle.node_rules.specs.Inputs.{Came}
-use Rattle.node_rules.specs.Kept.{Kept, Deed, live_id, live_at}
-use Rattle.node_rules.specs.Sessions.{session_at}
-use Rattle.node_rules.specs.Turn.{turn_of, start_of, heard, deed_of}
+use Rattle.node_rules.specs.Kept.{Kept, Deed, live_at}
+use Rattle.node_rules.specs.Turn.{start_of, deed_of}
 use Rattle.agreement.specs.Events.{Event}
 use Rattle.run_laws.specs.Data.{Packet, Turn, Happening, Command}
 use Rattle.run_laws.specs.Facts.{Facts, first_facts, place_at, node_at, facts_after, facts_of}
@@ -24,11 +21,9 @@ use Rattle.run_laws.specs.FreezeLaws.{was_asked}
 use Rattle.run_laws.proofs.ListLemmas.{all_weaker}
 use Rattle.run_laws.proofs.BirthsStandLemmas.{came_so}
 use Rattle.run_laws.proofs.BirthRunLemmas.{StandBorn, stand_born_on, stand_born_first}
-use Rattle.run_laws.proofs.CodeLemmas.{AllNeed, codes_on}
 use Rattle.node_rules.specs.LiveBranches.{EachLive}
 use Rattle.node_rules.proofs.LiveLemmas.{each_same, none_live, branch_parts}
-use Rattle.run_laws.proofs.RestLemmas.{live_root}
-use Rattle.run_laws.proofs.RestRunLemmas.{NodeRests, heard_rests, RootsStand, turned, roots_stand_on, first_rests}
+use Rattle.run_laws.proofs.RestRunLemmas.{NodeRests, heard_rests, RootsStand, roots_stand_on, first_rests}
 use Rattle.run_laws.proofs.InTurnRunLemmas as calls
 use Rattle.run_laws.proofs.InTurnRunLemmas.{CallsStand, heard_calls, calls_stand_on, first_calls}
 use Rattle.run_laws.proofs.FreezeRunLemmas as frozen
@@ -37,6 +32,7 @@ use Rattle.tree_laws.specs.WeightLaws.{ToldWeight, TellsItsWeight, RepliesTellWe
 use Rattle.tree_laws.proofs.AskRunLemmas as runs
 use Rattle.tree_laws.proofs.AskRunLemmas.{AskStand, ask_on, first_ask}
 use Rattle.tree_laws.proofs.EachNodeLemmas.{EachNode, turn_nodes, nodes_on, nodes_first}
+use Rattle.tree_laws.proofs.GoOnLemmas.{goes_before}
 use Rattle.tree_laws.proofs.HoldLemmas.{holding_more}
 use Rattle.tree_laws.proofs.HoldStepLemmas.{holds_on}
 use Rattle.tree_laws.proofs.WeightStepLemmas.{told_split, told_low, tolds_on}
@@ -99,12 +95,6 @@ start_weighs : (ms : List Post) (zs : List RedoRecord) → NodeWeighs ms (start_
 unfolding start_of
 start_weighs ms zs = (none_live _, none_live _)
 
-heard_sessions : (k : Kept) (input : Input) → (heard k input).sessions ≡ k.sessions
-heard_sessions k (inputs.Message m) = refl
-heard_sessions k (inputs.Call n s) = refl
-heard_sessions k (inputs.GiveUp n) = refl
-heard_sessions k inputs.Reco = refl
-
 module _ (places : List Place) (asked : List Command) (each : (n : ℕ) (p : Place) → numbered places n ≡ Some p → IsPlace places n p) where
   module _ (f : Facts) (t : List Event) (bs : List Born) (stand : StandBorn places asked each f t bs) (roots : RootsStand places asked each f) (turns : CallsStand f) (ice : FreezeStand f) (asks : AskStand f bs) (now : WeightStand f) where
     module _ (u : Turn) (k : Kept) (may : MayTurn places f u k) where
@@ -132,23 +122,6 @@ module _ (places : List Place) (asked : List Command) (each : (n : ℕ) (p : Pla
       rests : NodeRests k
       rests = calls.rests places asked each f t bs stand roots turns u k may
 
-      rests_after : NodeRests d.after
-      unfolding turn_of
-      rests_after = turned places asked each f t bs stand roots u k may
-
-      codes : AllNeed k.sessions d.after.sessions
-      codes = subst (λ ss. AllNeed ss d.after.sessions) (heard_sessions k u.input) (codes_on p u.input (calls.step places asked each f t bs stand roots turns u k may))
-
-      -- a root that may go on after the turn needed no rollback before it
-      goes_before : (b : BranchId) (l : Live) → live_at k b ≡ Some l → (l.parent ≡ None → May l.me) → GoesOn k l
-      goes_before b l live goes none =
-          let may_go : May l.me = goes none in
-          let before : (session_at k.sessions l.me.session).root ≡ Some l.me = (live_root k rests.1 b l live none).root in
-          let me : may_go.0.me ≡ l.me = item_is live_id d.after.lives l.me may_go.0 may_go.1 in
-          let after : (session_at d.after.sessions l.me.session).root ≡ Some l.me
-          = subst (λ c. (session_at d.after.sessions c.session).root ≡ Some c) me (live_root d.after rests_after.1 l.me may_go.0 may_go.1 may_go.2).root in
-          codes l.me.session l.me before after may_go.3
-
       olds : NodeWeighs said k
       olds = subst (λ o. IfSome o (NodeWeighs said)) may.up (now n)
 
@@ -161,7 +134,7 @@ module _ (places : List Place) (asked : List Command) (each : (n : ℕ) (p : Pla
           (calls.news places asked each f t bs stand roots turns u k may) (calls.begun places asked each f t bs stand roots turns u k may) (heard_calls (WeighsSo said) k u.input olds.0)
 
       holds_before : EachLive (λ l w. HoldsWeights said (l.parent ≡ None → May l.me) l.me l.edges w) k.lives k.works
-      holds_before = each_same (HoldsOf said k) _ k.lives k.works olds.1 (λ y v live any is. record { held = λ goes. is.held (goes_before y.me y live goes); asked = is.asked })
+      holds_before = each_same (HoldsOf said k) _ k.lives k.works olds.1 (λ y v live any is. record { held = λ goes. is.held (goes_before places asked each f t bs stand roots turns u k may y.me y live goes); asked = is.asked })
 
       holds_done : EachLive (λ l w. HoldsWeights more (l.parent ≡ None → May l.me) l.me l.edges w) d.after.lives d.after.works
       holds_done =
