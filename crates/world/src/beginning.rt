@@ -34,7 +34,9 @@ impl World {
         ensures left { OnErr result (IsLeft self.new) }
     {
         let command = self.trace.asked()[number as usize - 1].copy(alloc)?;
-        self.begin_with(alloc, number, &command)
+        let begun = self.begin_with(alloc, number, &command);
+        drop(command);
+        begun
     }
 
     // This command, which has this number, begins.

@@ -24,7 +24,9 @@ impl World {
         let none = Command::ShowBook;
         let command = command_at(self.trace.asked(), self.running, &none);
         let facts = self.due_facts(command);
-        self.telling.due(alloc, command, &facts)
+        let due = self.telling.due(alloc, command, &facts);
+        drop(none);
+        due
     }
 
     // What is known where it is asked what is due.

@@ -6,7 +6,7 @@ ghost use Rattle.net_bag.specs.Net.{sent_on, sent_one, lost_at_once};
 ghost use Rattle.node_disk.specs.Effects.{call_of};
 ghost use Rattle.world.specs.Mail.{IsMailed};
 
-use dtx_values::Listing;
+use dtx_values::{Bytes, Listing};
 use net_bag::Bag;
 use node_disk::{Finished, Mailed};
 use node_rules::Ended;
@@ -42,11 +42,26 @@ fn send_one(net: &mut Bag, losses: &mut VecDeque<u64>, mail: Mailed) -> Result<M
     ensures losses { OnOk result (losses.new.items ≡ losses.old.items ++ lost_at_once net.old (mail.msg ∷ [])) }
 {
     let Mailed { msg, bytes } = mail;
-    let sent = net.send(&msg, bytes)?;
+    match put(net, losses, &msg, bytes) {
+        Ok(()) => Ok(msg),
+        Err(err) => {
+            drop(msg);
+            Err(err)
+        }
+    }
+}
+
+// The message goes onto the network, and its number to the losses where it is lost at once.
+fn put(net: &mut Bag, losses: &mut VecDeque<u64>, msg: &Msg, bytes: Bytes) -> Result<(), AllocError>
+    requires { message_of bytes ≡ Some msg.now }
+    ensures net { OnOk result (net.new ≡ sent_one net.old msg.now) }
+    ensures losses { OnOk result (losses.new.items ≡ losses.old.items ++ lost_at_once net.old (msg.now ∷ [])) }
+{
+    let sent = net.send(msg, bytes)?;
     if sent.is_lost {
         losses.push_back(sent.number)?;
     }
-    Ok(msg)
+    Ok(())
 }
 
 /// The calls that a turn ended. Fails where memory runs out.

@@ -100,7 +100,8 @@ impl Site {
         ensures power { (site_disk self.new).orders ≡ powered (site_disk self.old).orders }
     {
         let running = mem::replace(self, Site::Down(MemDisk::new(alloc)));
-        *self = stopped(running);
+        // What stood in for the node goes by a call.
+        drop(mem::replace(self, stopped(running)));
     }
 
     /// Starts the node of this place, which is down, from its disk. An order may strike its start, and then the disk is left, with
@@ -111,7 +112,7 @@ impl Site {
     {
         let resting = mem::replace(self, Site::Down(MemDisk::new(alloc)));
         let tried = started(alloc, place, resting)?;
-        *self = tried;
+        drop(mem::replace(self, tried));
         Ok(())
     }
 }

@@ -96,7 +96,8 @@ impl World {
         };
         let place = &self.trace.places()[usize::from(node) - 1];
         let name = node_name(place.names.as_slice(), node);
-        self.telling.stop(alloc, node, name, command, &facts)?;
-        Ok(())
+        let told = self.telling.stop(alloc, node, name, command, &facts);
+        drop(none);
+        told
     }
 }

@@ -201,7 +201,11 @@ impl World {
                 };
                 self.tell_turn(alloc, turn, facts)
             }
-            Err(err) => Err(err),
+            Err(err) => {
+                drop(input);
+                drop(wrote);
+                Err(err)
+            }
         }
     }
 

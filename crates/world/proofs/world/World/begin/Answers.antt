@@ -14,8 +14,8 @@ bounds-asked-number c =
     let asked = ap (λ (cs : List Command). length cs) c.asked.ensures in
     omega (arith, inside.0, inside.1, asked)
 
-pub begin_with-requires-clause-command : goal.begin_with-requires-clause-command
-begin_with-requires-clause-command c =
+pub begin_with-begun-requires-clause-command : goal.begin_with-begun-requires-clause-command
+begin_with-begun-requires-clause-command c =
     let inside = begins_inside c.args.self.now.trace.asked (past_of c.args.self.now.trace) c.args.number c.requires.due in
     let x = c.index-asked-number.result in
     c.in_ok-command.ensures

@@ -7,6 +7,7 @@ use Rattle.run_trace.specs.Recorded.{past_of}
 use Rattle.run_laws.specs.Telling.{Telling}
 use Rattle.run_laws.specs.Past.{acts, telling_stopped}
 use Rattle.world.proofs.SiteLemmas.{place_is}
+use Rattle.world.proofs.TryLemmas.{on_ok}
 use Rattle.world.proofs.world.World.tell_stop.Goals as goal
 
 pub returns-clause-tells : goal.returns-clause-tells
@@ -14,8 +15,9 @@ returns-clause-tells c =
     let x = c.index-places-from.result in
     let place = place_is c.args.self.now.trace.places c.args.node x c.requires.there.0 c.requires.there.1
     (c.index-places-from.is ∙ (ap (λ (ps : List Place). get_or ps (c.from.result - 1) x) c.places.ensures ∙ ap (λ (k : ℕ). get_or c.args.self.now.trace.places (k - 1) x) c.from.ensures)) in
-    c.in_ok-stop.ensures.tells c.args.self.now.trace.places c.args.self.now.trace.asked (past_of c.args.self.now.trace).facts
+    on_ok c.stop-told.result _ _ c.stop-told.ensures.tells (λ tells.
+    tells c.args.self.now.trace.places c.args.self.now.trace.asked (past_of c.args.self.now.trace).facts
     (record { running = c.requires.held.parts.running; up = c.requires.up; owed = c.is_some.ensures ∙ ap is_some c.requires.held.parts.to_stop })
     (c.node_name-name.ensures ∙ ap (λ (names : List (List ℕ)). name_of names c.args.node) (c.as_slice.ensures ∙ sym (ap (λ (p : Place). p.names) place)))
     (c.command_at-command.ensures ∙ (ap (λ (cs : List Command). command_at cs c.args.self.now.running) c.asked.ensures ∙ ap (λ (n : ℕ). command_at c.args.self.now.trace.asked n) c.requires.held.parts.running))
-    ∙ ap (λ (t : Telling). acts (telling_stopped c.args.self.now.trace.places c.args.self.now.trace.asked (past_of c.args.self.now.trace).facts t c.args.node)) c.requires.held.parts.telling
+    ∙ ap (λ (t : Telling). acts (telling_stopped c.args.self.now.trace.places c.args.self.now.trace.asked (past_of c.args.self.now.trace).facts t c.args.node)) c.requires.held.parts.telling)
