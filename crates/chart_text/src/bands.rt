@@ -3,7 +3,7 @@ ghost use Rattle.std.specs.Prelude.{◌≡◌, ◌<◌, ◌^◌, ◌++◌, ◌�
 ghost use Rattle.chart_text.specs.Layout.{number_at, lines_at, band_line, band_texts};
 
 use crate::places::{answers_x, edge, width};
-use crate::shape::{LineKind, Shape, Spot, TextKind};
+use crate::shape::{LineKind, Shape, Spot, TextKind, add};
 use crate::window::Window;
 use dtx_values::{Duplicate, Listing, Texts};
 use run_marks::Band;
@@ -21,11 +21,14 @@ fn put_band_line(
 {
     if window.is_in(band.row) {
         let y = edge(band.row);
-        shapes.push(Shape::Line {
-            from: Spot { x: 0, y },
-            to: Spot { x: width(lanes), y },
-            kind: LineKind::Command,
-        })?;
+        add(
+            shapes,
+            Shape::Line {
+                from: Spot { x: 0, y },
+                to: Spot { x: width(lanes), y },
+                kind: LineKind::Command,
+            },
+        )?;
     }
     Ok(())
 }
@@ -40,12 +43,14 @@ fn put_number(
 {
     let mut number = Vec::new(alloc);
     put_decimal(&mut number, u64::from(command))?;
-    shapes.push(Shape::Text {
-        at,
-        kind: TextKind::Number,
-        text: Listing::of(number),
-    })?;
-    Ok(())
+    add(
+        shapes,
+        Shape::Text {
+            at,
+            kind: TextKind::Number,
+            text: Listing::of(number),
+        },
+    )
 }
 
 fn put_lines(
@@ -57,8 +62,7 @@ fn put_lines(
     ensures { OnOk result (shapes.new.items ≡ shapes.old.items ++ lines_at at lines.now ∷ []) }
 {
     let lines = lines.copy(alloc)?;
-    shapes.push(Shape::Lines { at, lines })?;
-    Ok(())
+    add(shapes, Shape::Lines { at, lines })
 }
 
 fn put_band(

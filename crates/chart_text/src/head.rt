@@ -3,7 +3,7 @@ ghost use Rattle.std.specs.Prelude.{◌≡◌, ◌<◌, ◌^◌, ◌++◌, ◌�
 ghost use Rattle.chart_text.specs.Head.{meaning as meaning_at, sign_meaning, line_meaning, doubt_meaning, decides_words as words_of_decision, decision_meaning, seal_meaning, end_meanings, node_meanings, message_meanings, name_above as name_of_lane, names_from, title, head_shapes};
 
 use crate::places::x_of;
-use crate::shape::{BarKind, LineKind, Shape, Spot, TextKind};
+use crate::shape::{BarKind, LineKind, Shape, Spot, TextKind, add};
 use crate::window::Window;
 use crate::words::put_window;
 use dtx_values::{Listing, Name};
@@ -21,12 +21,14 @@ fn put_meaning(
     ensures { OnOk result (shapes.new.items ≡ shapes.old.items ++ meaning_at x y words.now ∷ []) }
 {
     let text = Vec::from_slice(alloc, words)?;
-    shapes.push(Shape::Text {
-        at: Spot { x, y: y + 4 },
-        kind: TextKind::Meaning,
-        text: Listing::of(text),
-    })?;
-    Ok(())
+    add(
+        shapes,
+        Shape::Text {
+            at: Spot { x, y: y + 4 },
+            kind: TextKind::Meaning,
+            text: Listing::of(text),
+        },
+    )
 }
 
 #[tactic(auto, unfolding(crate::specs::Head::sign_meaning))]
@@ -42,10 +44,13 @@ fn put_sign_meaning(
     requires y { y < 2 ^ 32 }
     ensures { OnOk result (shapes.new.items ≡ shapes.old.items ++ sign_meaning x y deed words.now) }
 {
-    shapes.push(Shape::Sign {
-        at: Spot { x, y },
-        deed,
-    })?;
+    add(
+        shapes,
+        Shape::Sign {
+            at: Spot { x, y },
+            deed,
+        },
+    )?;
     put_meaning(shapes, alloc, x + 14, y, words)
 }
 
@@ -62,11 +67,14 @@ fn put_line_meaning(
     requires y { y < 2 ^ 32 }
     ensures { OnOk result (shapes.new.items ≡ shapes.old.items ++ line_meaning x y kind words.now) }
 {
-    shapes.push(Shape::Line {
-        from: Spot { x, y },
-        to: Spot { x: x + 30, y },
-        kind,
-    })?;
+    add(
+        shapes,
+        Shape::Line {
+            from: Spot { x, y },
+            to: Spot { x: x + 30, y },
+            kind,
+        },
+    )?;
     put_meaning(shapes, alloc, x + 42, y, words)
 }
 
@@ -74,12 +82,15 @@ fn put_line_meaning(
 fn put_doubt_meaning(shapes: &mut Vec<Shape>, alloc: Global) -> Result<(), AllocError>
     ensures { OnOk result (shapes.new.items ≡ shapes.old.items ++ doubt_meaning) }
 {
-    shapes.push(Shape::Bar {
-        corner: Spot { x: 430, y: 35 },
-        width: 14,
-        height: 14,
-        kind: BarKind::Doubt,
-    })?;
+    add(
+        shapes,
+        Shape::Bar {
+            corner: Spot { x: 430, y: 35 },
+            width: 14,
+            height: 14,
+            kind: BarKind::Doubt,
+        },
+    )?;
     put_meaning(shapes, alloc, 450, 42, b"a branch is in doubt")
 }
 
@@ -158,15 +169,17 @@ fn put_name(
     ensures { OnOk result (shapes.new.items ≡ shapes.old.items ++ name_of_lane node name.now ∷ []) }
 {
     let text = Vec::from_slice(alloc, short(name))?;
-    shapes.push(Shape::Text {
-        at: Spot {
-            x: x_of(node),
-            y: 100,
+    add(
+        shapes,
+        Shape::Text {
+            at: Spot {
+                x: x_of(node),
+                y: 100,
+            },
+            kind: TextKind::Node,
+            text: Listing::of(text),
         },
-        kind: TextKind::Node,
-        text: Listing::of(text),
-    })?;
-    Ok(())
+    )
 }
 
 fn put_names(shapes: &mut Vec<Shape>, alloc: Global, names: &[Name]) -> Result<(), AllocError>
@@ -187,12 +200,33 @@ fn put_title(shapes: &mut Vec<Shape>, alloc: Global, window: Window) -> Result<(
 {
     let mut text = Vec::new(alloc);
     put_window(&mut text, window)?;
-    shapes.push(Shape::Text {
-        at: Spot { x: 8, y: 22 },
-        kind: TextKind::Title,
-        text: Listing::of(text),
-    })?;
-    Ok(())
+    add(
+        shapes,
+        Shape::Text {
+            at: Spot { x: 8, y: 22 },
+            kind: TextKind::Title,
+            text: Listing::of(text),
+        },
+    )
+}
+
+fn put_head(
+    shapes: &mut Vec<Shape>,
+    alloc: Global,
+    window: Window,
+    marks: &Marks,
+) -> Result<(), AllocError>
+    requires { length marks.now.lanes < 2 ^ 31 }
+    ensures { OnOk result (shapes.new.items ≡ shapes.old.items ++ head_shapes window marks.now) }
+{
+    put_title(shapes, alloc, window)?;
+    put_decision_meaning(shapes, alloc)?;
+    put_seal_meaning(shapes, alloc)?;
+    put_doubt_meaning(shapes, alloc)?;
+    put_end_meanings(shapes, alloc)?;
+    put_node_meanings(shapes, alloc)?;
+    put_message_meanings(shapes, alloc)?;
+    put_names(shapes, alloc, marks.lanes.as_slice())
 }
 
 /// What stands above the rows.
@@ -201,13 +235,6 @@ pub(crate) fn head(alloc: Global, window: Window, marks: &Marks) -> Result<Vec<S
     ensures { IfOk result (λ shapes. shapes.items ≡ head_shapes window marks.now) }
 {
     let mut shapes = Vec::new(alloc);
-    put_title(&mut shapes, alloc, window)?;
-    put_decision_meaning(&mut shapes, alloc)?;
-    put_seal_meaning(&mut shapes, alloc)?;
-    put_doubt_meaning(&mut shapes, alloc)?;
-    put_end_meanings(&mut shapes, alloc)?;
-    put_node_meanings(&mut shapes, alloc)?;
-    put_message_meanings(&mut shapes, alloc)?;
-    put_names(&mut shapes, alloc, marks.lanes.as_slice())?;
+    put_head(&mut shapes, alloc, window, marks)?;
     Ok(shapes)
 }

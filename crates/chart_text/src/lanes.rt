@@ -3,7 +3,7 @@ ghost use Rattle.std.specs.Prelude.{◌≡◌, ◌<◌, ◌^◌, ◌++◌, flat_
 ghost use Rattle.chart_text.specs.Layout.{lane as lane_of, lanes_from, stretch as stretch_of, doubt_bar, outage_bar};
 
 use crate::places::{edge, x_of, y_of};
-use crate::shape::{BarKind, LineKind, Shape, Spot};
+use crate::shape::{BarKind, LineKind, Shape, Spot, add};
 use crate::window::Window;
 use dtx_values::Name;
 use run_marks::{Doubt, Outage};
@@ -38,7 +38,7 @@ pub(crate) fn put_lanes(
 {
     let mut node: u64 = 1;
     for _name in names {
-        shapes.push(lane(window, node))?;
+        add(shapes, lane(window, node))?;
         node += 1;
     }
     Ok(())
@@ -63,7 +63,10 @@ fn put_doubt(shapes: &mut Vec<Shape>, window: Window, doubt: &Doubt) -> Result<(
 {
     let till = window.till(doubt.till);
     if window.reaches(doubt.from, till) {
-        shapes.push(stretch(doubt.branch.node, doubt.from, till, BarKind::Doubt))?;
+        add(
+            shapes,
+            stretch(doubt.branch.node, doubt.from, till, BarKind::Doubt),
+        )?;
     }
     Ok(())
 }
@@ -73,7 +76,10 @@ fn put_outage(shapes: &mut Vec<Shape>, window: Window, outage: &Outage) -> Resul
 {
     let till = window.till(outage.till);
     if window.reaches(outage.from, till) {
-        shapes.push(stretch(outage.node, outage.from, till, BarKind::Outage))?;
+        add(
+            shapes,
+            stretch(outage.node, outage.from, till, BarKind::Outage),
+        )?;
     }
     Ok(())
 }

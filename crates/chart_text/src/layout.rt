@@ -45,13 +45,25 @@ fn put_texts(
     put_bands(shapes, alloc, window, lanes, marks.bands.as_slice())
 }
 
+fn put_rows(
+    shapes: &mut Vec<Shape>,
+    alloc: Global,
+    window: Window,
+    marks: &Marks,
+) -> Result<(), AllocError>
+    requires { length marks.now.lanes < 2 ^ 31 }
+    ensures { OnOk result (shapes.new.items ≡ shapes.old.items ++ row_shapes window marks.now) }
+{
+    put_lines(shapes, window, marks)?;
+    put_texts(shapes, alloc, window, marks)
+}
+
 /// The shapes of the rows that are drawn.
 pub(crate) fn rows(alloc: Global, window: Window, marks: &Marks) -> Result<Vec<Shape>, AllocError>
     requires { length marks.now.lanes < 2 ^ 31 }
     ensures { IfOk result (λ shapes. shapes.items ≡ row_shapes window marks.now) }
 {
     let mut shapes = Vec::new(alloc);
-    put_lines(&mut shapes, window, marks)?;
-    put_texts(&mut shapes, alloc, window, marks)?;
+    put_rows(&mut shapes, alloc, window, marks)?;
     Ok(shapes)
 }

@@ -3,7 +3,7 @@ ghost use Rattle.std.specs.Prelude.{◌≡◌, ◌++◌, flat_map, OnOk};
 ghost use Rattle.chart_text.specs.Layout.{level as level_of, kind_of, arrow as arrow_of, arrow_line, arrow_label, repeat_line, repeat_label};
 
 use crate::places::{beside, gap, side_toward, x_of, y_of};
-use crate::shape::{LineKind, Shape, Spot, TextKind};
+use crate::shape::{LineKind, Shape, Spot, TextKind, add};
 use crate::window::{Window, end_row};
 use crate::words::put_message;
 use dtx_values::Listing;
@@ -59,7 +59,7 @@ fn put_arrow(shapes: &mut Vec<Shape>, window: Window, arrow: &Arrow) -> Result<(
     ensures { OnOk result (shapes.new.items ≡ shapes.old.items ++ arrow_line window arrow.now) }
 {
     if window.shows_arrow(arrow) {
-        shapes.push(line(arrow))?;
+        add(shapes, line(arrow))?;
     }
     Ok(())
 }
@@ -83,19 +83,24 @@ fn put_arrow_label(
     };
     let mut text = Vec::new(alloc);
     put_message(&mut text, arrow.number, arrow.kind)?;
-    shapes.push(Shape::Text {
-        at,
-        kind: TextKind::Message(side),
-        text: Listing::of(text),
-    })?;
-    Ok(())
+    add(
+        shapes,
+        Shape::Text {
+            at,
+            kind: TextKind::Message(side),
+            text: Listing::of(text),
+        },
+    )
 }
 
 fn put_repeat(shapes: &mut Vec<Shape>, window: Window, repeat: &Repeat) -> Result<(), AllocError>
     ensures { OnOk result (shapes.new.items ≡ shapes.old.items ++ repeat_line window repeat.now) }
 {
     if window.is_in(repeat.row) {
-        shapes.push(level(repeat.row, repeat.from, repeat.to, LineKind::Repeat))?;
+        add(
+            shapes,
+            level(repeat.row, repeat.from, repeat.to, LineKind::Repeat),
+        )?;
     }
     Ok(())
 }
@@ -119,12 +124,14 @@ fn put_repeat_label(
     let mut text = Vec::new(alloc);
     put_message(&mut text, repeat.number, repeat.kind)?;
     text.extend_from_slice(b" again")?;
-    shapes.push(Shape::Text {
-        at,
-        kind: TextKind::Message(side),
-        text: Listing::of(text),
-    })?;
-    Ok(())
+    add(
+        shapes,
+        Shape::Text {
+            at,
+            kind: TextKind::Message(side),
+            text: Listing::of(text),
+        },
+    )
 }
 
 /// Adds the lines of messages.

@@ -4,7 +4,7 @@ ghost use Rattle.chart_text.specs.Layout.{kind_of_parting, parting_line, parting
 
 use crate::messages::level;
 use crate::places::{beside, x_of, y_of};
-use crate::shape::{LineKind, Shape, Spot, TextKind};
+use crate::shape::{LineKind, Shape, Spot, TextKind, add};
 use crate::window::Window;
 use crate::words::{put_deed, put_parting};
 use dtx_values::{Listing, Name};
@@ -19,10 +19,13 @@ fn put_sign(shapes: &mut Vec<Shape>, window: Window, note: &Note) -> Result<(), 
             x: x_of(u64::from(note.node)),
             y: y_of(note.row),
         };
-        shapes.push(Shape::Sign {
-            at,
-            deed: note.deed,
-        })?;
+        add(
+            shapes,
+            Shape::Sign {
+                at,
+                deed: note.deed,
+            },
+        )?;
     }
     Ok(())
 }
@@ -44,12 +47,14 @@ fn put_note_label(
     };
     let mut text = Vec::new(alloc);
     put_deed(&mut text, note.deed)?;
-    shapes.push(Shape::Text {
-        at,
-        kind: TextKind::Deed(note.side),
-        text: Listing::of(text),
-    })?;
-    Ok(())
+    add(
+        shapes,
+        Shape::Text {
+            at,
+            kind: TextKind::Deed(note.side),
+            text: Listing::of(text),
+        },
+    )
 }
 
 fn kind(joined: bool) -> LineKind
@@ -70,7 +75,10 @@ fn put_parting_line(
     ensures { OnOk result (shapes.new.items ≡ shapes.old.items ++ parting_line window parting.now) }
 {
     if window.is_in(parting.row) {
-        shapes.push(level(parting.row, parting.a, parting.b, kind(parting.joined)))?;
+        add(
+            shapes,
+            level(parting.row, parting.a, parting.b, kind(parting.joined)),
+        )?;
     }
     Ok(())
 }
@@ -93,12 +101,14 @@ fn put_parting_label(
     };
     let mut text = Vec::new(alloc);
     put_parting(&mut text, names, parting)?;
-    shapes.push(Shape::Text {
-        at,
-        kind: TextKind::Message(Side::Right),
-        text: Listing::of(text),
-    })?;
-    Ok(())
+    add(
+        shapes,
+        Shape::Text {
+            at,
+            kind: TextKind::Message(Side::Right),
+            text: Listing::of(text),
+        },
+    )
 }
 
 /// Adds the signs of what nodes did or met.

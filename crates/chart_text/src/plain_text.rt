@@ -168,16 +168,22 @@ fn put_partings(
     Ok(())
 }
 
+fn put_events(out: &mut Vec<u8>, marks: &Marks, row: u32) -> Result<(), AllocError>
+    ensures { OnOk result (out.new.items ≡ out.old.items ++ events_in marks.now row) }
+{
+    let names = marks.lanes.as_slice();
+    put_arrows(out, names, row, marks.arrows.as_slice())?;
+    put_repeats(out, names, row, marks.repeats.as_slice())?;
+    put_notes(out, names, row, marks.notes.as_slice())?;
+    put_partings(out, names, row, marks.partings.as_slice())
+}
+
 // All that stands in a row.
 fn events(alloc: Global, marks: &Marks, row: u32) -> Result<Vec<u8>, AllocError>
     ensures { IfOk result (λ text. text.items ≡ events_in marks.now row) }
 {
-    let names = marks.lanes.as_slice();
     let mut out = Vec::new(alloc);
-    put_arrows(&mut out, names, row, marks.arrows.as_slice())?;
-    put_repeats(&mut out, names, row, marks.repeats.as_slice())?;
-    put_notes(&mut out, names, row, marks.notes.as_slice())?;
-    put_partings(&mut out, names, row, marks.partings.as_slice())?;
+    put_events(&mut out, marks, row)?;
     Ok(out)
 }
 
@@ -346,17 +352,28 @@ fn legend() -> &'static [u8]
     b"| node is up   # a branch is in doubt   . node is stopped   --> delivered   --x lost   --o in flight   ..> a copy\n"
 }
 
-/// A picture as plain text. Fails where memory runs out.
 #[tactic(auto, unfolding(crate::specs::Plain::text_of))]
+fn put_text(
+    out: &mut Vec<u8>,
+    alloc: Global,
+    window: Window,
+    marks: &Marks,
+) -> Result<(), AllocError>
+    ensures { OnOk result (out.new.items ≡ out.old.items ++ text_of window marks.now) }
+{
+    put_window(out, window)?;
+    out.extend_from_slice(b"\n")?;
+    out.extend_from_slice(legend())?;
+    put_names(out, marks.lanes.as_slice())?;
+    out.extend_from_slice(b"\n")?;
+    put_all_lines(out, alloc, window, marks)
+}
+
+/// A picture as plain text. Fails where memory runs out.
 pub fn plain(alloc: Global, window: Window, marks: &Marks) -> Result<Vec<u8>, AllocError>
     ensures { IfOk result (λ text. text.items ≡ text_of window marks.now) }
 {
     let mut out = Vec::new(alloc);
-    put_window(&mut out, window)?;
-    out.extend_from_slice(b"\n")?;
-    out.extend_from_slice(legend())?;
-    put_names(&mut out, marks.lanes.as_slice())?;
-    out.extend_from_slice(b"\n")?;
-    put_all_lines(&mut out, alloc, window, marks)?;
+    put_text(&mut out, alloc, window, marks)?;
     Ok(out)
 }

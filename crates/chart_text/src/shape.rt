@@ -1,7 +1,9 @@
 //! What a picture is made of.
+ghost use Rattle.std.specs.Prelude.{◌≡◌, ◌++◌, ◌∷◌, [], OnOk};
 
 use dtx_values::{Bytes, Texts};
 use run_marks::{Deed, Side};
+use std::alloc::AllocError;
 
 /// A point of a picture.
 #[derive(Clone, Copy, Debug)]
@@ -105,4 +107,17 @@ pub enum Shape {
         /// The lines.
         lines: Texts,
     },
+}
+
+/// Adds a shape at the end.
+pub(crate) fn add(shapes: &mut Vec<Shape>, shape: Shape) -> Result<(), AllocError>
+    ensures { OnOk result (shapes.new.items ≡ shapes.old.items ++ shape ∷ []) }
+{
+    match shapes.push(shape) {
+        Ok(()) => Ok(()),
+        Err(error) => {
+            drop(error);
+            Err(AllocError)
+        }
+    }
 }

@@ -1,6 +1,9 @@
 //! A picture as SVG: how shapes are spelled. Each call adds at the end, and fails where memory runs out.
 ghost use Rattle.std.specs.Prelude.{◌≡◌, ◌<◌, ◌^◌, ◌++◌, flat_map, length, IfOk, OnOk};
 ghost use Rattle.chart_text.specs.Svg.{path_start as start_of_path, border as white_border, head_marker as marker_of_head, cross_marker as marker_of_cross, open_marker as marker_of_open, svg_start as start_of_svg, white as white_paper, escaped_byte, escaped, valued, line_svg, rect_svg, path_svg, words_svg, border_svg, text_svg, span_svg, lines_svg, shape_svg, frame_svg, markers, paper_svg, rows_start as start_of_rows, rows_svg, svg_of};
+ghost use Rattle.chart_text.specs.Places.{edge_of, height_of};
+ghost use Rattle.chart_text.specs.Head.{head_shapes};
+ghost use Rattle.chart_text.specs.Layout.{row_shapes};
 
 use crate::head::head;
 use crate::layout::rows;
@@ -280,21 +283,49 @@ fn put_rows(
     out.extend_from_slice(b"</svg>\n")
 }
 
-#[tactic(auto, unfolding(crate::specs::Svg::svg_of))]
-fn draw(alloc: Global, window: Window, marks: &Marks) -> Result<Vec<u8>, AllocError>
+// Adds what stands above the rows.
+fn put_head(
+    out: &mut Vec<u8>,
+    alloc: Global,
+    window: Window,
+    marks: &Marks,
+) -> Result<(), AllocError>
     requires { length marks.now.lanes < 2 ^ 31 }
-    ensures { IfOk result (λ text. text.items ≡ svg_of window marks.now) }
+    ensures { OnOk result (out.new.items ≡ out.old.items ++ flat_map shape_svg (head_shapes window marks.now)) }
+{
+    let head = head(alloc, window, marks)?;
+    let put = put_shapes(out, &head);
+    drop(head);
+    put
+}
+
+// Adds the rows that are drawn.
+fn put_drawn(
+    out: &mut Vec<u8>,
+    alloc: Global,
+    window: Window,
+    marks: &Marks,
+    width: u64,
+) -> Result<(), AllocError>
+    requires { length marks.now.lanes < 2 ^ 31 }
+    ensures { OnOk result (out.new.items ≡ out.old.items ++ rows_svg width (height_of window) (edge_of window.top) (row_shapes window marks.now)) }
+{
+    let rows = rows(alloc, window, marks)?;
+    let put = put_rows(out, width, height(window), edge(window.top), &rows);
+    drop(rows);
+    put
+}
+
+#[tactic(auto, unfolding(crate::specs::Svg::svg_of))]
+fn draw(out: &mut Vec<u8>, alloc: Global, window: Window, marks: &Marks) -> Result<(), AllocError>
+    requires { length marks.now.lanes < 2 ^ 31 }
+    ensures { OnOk result (out.new.items ≡ out.old.items ++ svg_of window marks.now) }
 {
     let width = width(marks.lanes.as_slice().len() as u64);
-    let height = height(window);
-    let head = head(alloc, window, marks)?;
-    let rows = rows(alloc, window, marks)?;
-    let mut out = Vec::new(alloc);
-    put_paper(&mut out, width, 120 + height)?;
-    put_shapes(&mut out, &head)?;
-    put_rows(&mut out, width, height, edge(window.top), &rows)?;
-    out.extend_from_slice(b"</svg>\n")?;
-    Ok(out)
+    put_paper(out, width, 120 + height(window))?;
+    put_head(out, alloc, window, marks)?;
+    put_drawn(out, alloc, window, marks, width)?;
+    out.extend_from_slice(b"</svg>\n")
 }
 
 /// A picture as SVG 1.1. Fails where memory runs out, and where there are more than 65,536 lanes.
@@ -304,5 +335,7 @@ pub fn svg(alloc: Global, window: Window, marks: &Marks) -> Result<Vec<u8>, Allo
     if marks.lanes.as_slice().len() > 65_536 {
         return Err(AllocError);
     }
-    draw(alloc, window, marks)
+    let mut out = Vec::new(alloc);
+    draw(&mut out, alloc, window, marks)?;
+    Ok(out)
 }

@@ -21,3 +21,5 @@ mod record_logs;
 mod records;
 #[cfg(test)]
 mod struck_logs;
+#[cfg(test)]
+mod texts;

@@ -1,13 +1,25 @@
 //! Logs by examples: how their bytes are laid out, and that calls over a disk in memory succeed.
-ghost use Rattle.std.specs.Prelude.{◌≡◌, ◌<◌, length, IfOk, IfSome};
+ghost use Rattle.std.specs.Prelude.{◌≡◌, ◌<◌, [], length, IfOk, OnOk, IfSome};
 ghost use Rattle.redo_log.specs.Log.{IsUsable};
 
 use block_disk::{Disk, MemDisk};
-use redo_log::{Bodies, LoadErr, LoadWhy, Log, LogErr, cell, count};
+use redo_log::{Bodies, LoadWhy, Log, LogErr, cell, count};
 use std::alloc::Global;
 
 /// A log of the one body `ab`.
 const ONE_BODY: [u8; 8] = *b"\x01\x00\x00\x00\x02ab\x00";
+
+/// Writes bytes to an empty disk.
+fn fill(disk: &mut MemDisk, bytes: &[u8]) -> Result<(), LoadWhy>
+    requires empty { ⟦<MemDisk as Disk>⟧.content disk.old ≡ [] }
+    requires some { 0 < length bytes.now }
+    ensures { OnOk result (⟦<MemDisk as Disk>⟧.content disk.new ≡ bytes.now) }
+{
+    disk.room(bytes.len() as u64)?;
+    disk.write_at(0, bytes)?;
+    disk.sync()?;
+    Ok(())
+}
 
 /// A disk that holds these bytes.
 pub(crate) fn disk_of(alloc: Global, bytes: &[u8]) -> Result<MemDisk, LoadWhy>
@@ -15,10 +27,13 @@ pub(crate) fn disk_of(alloc: Global, bytes: &[u8]) -> Result<MemDisk, LoadWhy>
     ensures { IfOk result (λ disk. ⟦<MemDisk as Disk>⟧.content disk ≡ bytes.now) }
 {
     let mut disk = MemDisk::new(alloc);
-    disk.room(bytes.len() as u64)?;
-    disk.write_at(0, bytes)?;
-    disk.sync()?;
-    Ok(disk)
+    match fill(&mut disk, bytes) {
+        Ok(()) => Ok(disk),
+        Err(why) => {
+            drop(disk);
+            Err(why)
+        }
+    }
 }
 
 /// A log of no body.
@@ -46,7 +61,11 @@ fn is_laid_out(log: &Log<MemDisk>, bytes: &[u8]) -> bool {
 fn lays_out_a_cell(alloc: Global) -> bool {
     match new_log(alloc) {
         Some(mut log) => {
-            is_laid_out(&log, b"\x00") && takes(&mut log, b"ab") && is_laid_out(&log, &ONE_BODY)
+            let lays_out = is_laid_out(&log, b"\x00")
+                && takes(&mut log, b"ab")
+                && is_laid_out(&log, &ONE_BODY);
+            drop(log);
+            lays_out
         }
         None => false,
     }
@@ -69,7 +88,11 @@ fn has_two_cells(log: &Log<MemDisk>) -> bool {
 fn lays_out_two_cells(alloc: Global) -> bool {
     match new_log(alloc) {
         Some(mut log) => {
-            takes(&mut log, b"ab") && takes(&mut log, &[0; 258]) && has_two_cells(&log)
+            let lays_out = takes(&mut log, b"ab")
+                && takes(&mut log, &[0; 258])
+                && has_two_cells(&log);
+            drop(log);
+            lays_out
         }
         None => false,
     }
@@ -85,48 +108,81 @@ fn loaded(alloc: Global, bytes: &[u8]) -> Result<(Bodies, bool), LoadWhy>
     requires { 0 < length bytes.now }
 {
     match Log::load(alloc, disk_of(alloc, bytes)?) {
-        Ok((log, bodies)) => Ok((bodies, is_laid_out(&log, bytes))),
-        Err(LoadErr { disk: _disk, why }) => Err(why),
+        Ok((log, bodies)) => {
+            let is_as_it_was = is_laid_out(&log, bytes);
+            drop(log);
+            Ok((bodies, is_as_it_was))
+        }
+        Err(error) => {
+            let why = error.why;
+            drop(error);
+            Err(why)
+        }
     }
 }
 
 /// Whether the log of `ab` is loaded with its body, and its disk is as it was.
-fn is_loaded(alloc: Global) -> Result<bool, LoadWhy> {
-    let (bodies, is_as_it_was) = loaded(alloc, &ONE_BODY)?;
-    Ok(is_as_it_was && bodies.len() == 1 && bodies.at(0) == b"ab".as_slice())
+fn is_loaded(alloc: Global) -> bool {
+    match loaded(alloc, &ONE_BODY) {
+        Ok((bodies, is_as_it_was)) => {
+            let is = is_as_it_was && bodies.len() == 1 && bodies.at(0) == b"ab".as_slice();
+            drop(bodies);
+            is
+        }
+        Err(_) => false,
+    }
 }
 
 #[test]
 fn a_log_is_loaded_with_its_bodies(rt: HostRuntime) {
-    assert!(rt; is_loaded(rt.alloc()) == Ok(true));
+    assert!(rt; is_loaded(rt.alloc()));
 }
 
-/// How many bodies the log of `ab` has with this byte as its first gate.
-fn count_behind(alloc: Global, gate: u8) -> Result<usize, LoadWhy> {
+/// Whether the log of `ab` has no body with this byte as its first gate.
+fn is_closed_by(alloc: Global, gate: u8) -> bool {
     let mut bytes = ONE_BODY;
     bytes[0] = gate;
-    let (bodies, _is_as_it_was) = loaded(alloc, &bytes)?;
-    Ok(bodies.len())
+    match loaded(alloc, &bytes) {
+        Ok((bodies, _is_as_it_was)) => {
+            let is = bodies.len() == 0;
+            drop(bodies);
+            is
+        }
+        Err(_) => false,
+    }
 }
 
 #[test]
 fn nothing_counts_behind_a_closed_gate(rt: HostRuntime) {
-    for gate in [0, 2, 255] {
-        assert!(rt; count_behind(rt.alloc(), gate) == Ok(0), "{gate}");
-    }
+    assert!(rt; is_closed_by(rt.alloc(), 0));
+    assert!(rt; is_closed_by(rt.alloc(), 2));
+    assert!(rt; is_closed_by(rt.alloc(), 255));
 }
 
 /// Whether the bytes of an empty disk are said to be no log.
 fn is_nothing_no_log(alloc: Global) -> bool {
     match Log::load(alloc, MemDisk::new(alloc)) {
-        Ok(_loaded) => false,
-        Err(LoadErr { disk: _disk, why }) => why == LoadWhy::NotALog,
+        Ok(loaded) => {
+            drop(loaded);
+            false
+        }
+        Err(error) => {
+            let is = matches!(error.why, LoadWhy::NotALog);
+            drop(error);
+            is
+        }
     }
 }
 
 /// Whether a log without the byte at its end is said to be none.
 fn is_part_no_log(alloc: Global) -> bool {
-    matches!(loaded(alloc, &ONE_BODY[..7]), Err(LoadWhy::NotALog))
+    match loaded(alloc, &ONE_BODY[..7]) {
+        Ok((bodies, _is_as_it_was)) => {
+            drop(bodies);
+            false
+        }
+        Err(why) => matches!(why, LoadWhy::NotALog),
+    }
 }
 
 #[test]
@@ -135,59 +191,83 @@ fn bytes_without_a_closed_gate_are_no_log(rt: HostRuntime) {
     assert!(rt; is_part_no_log(rt.alloc()));
 }
 
-/// Whether a body of so many bytes is too long, and leaves the log as it was.
-fn is_too_long(alloc: Global, length: usize) -> Result<bool, LogErr>
-    requires { 0 < length }
-{
-    let body = vec![in alloc; 0; length]?;
-    match new_log(alloc) {
-        Some(mut log) => Ok(refuses(&mut log, &body) && is_laid_out(&log, b"\x00")),
-        None => Ok(false),
-    }
-}
-
 /// Whether a body is said to be too long.
 fn refuses(log: &mut Log<MemDisk>, body: &[u8]) -> bool
     requires usable { IsUsable ⟦<MemDisk as Disk>⟧.content ⟦<MemDisk as Disk>⟧.images log.old }
     requires some { 0 < length body.now }
 {
-    log.append(body) == Err(LogErr::TooLong)
+    matches!(log.append(body), Err(LogErr::TooLong))
+}
+
+/// Whether a body is too long, and leaves a log as it was.
+fn is_too_long(alloc: Global, body: &[u8]) -> bool
+    requires { 0 < length body.now }
+{
+    match new_log(alloc) {
+        Some(mut log) => {
+            let is = refuses(&mut log, body) && is_laid_out(&log, b"\x00");
+            drop(log);
+            is
+        }
+        None => false,
+    }
+}
+
+/// Whether a body of so many bytes is too long.
+fn are_too_many(alloc: Global, length: usize) -> Result<bool, LogErr>
+    requires { 0 < length }
+{
+    let body = vec![in alloc; 0; length]?;
+    let are = is_too_long(alloc, &body);
+    drop(body);
+    Ok(are)
 }
 
 #[test]
 fn a_body_of_more_than_16_mebibytes_is_too_long(rt: HostRuntime) {
-    assert!(rt; is_too_long(rt.alloc(), 16_777_217) == Ok(true));
+    assert!(rt; matches!(are_too_many(rt.alloc(), 16_777_217), Ok(true)));
 }
 
-/// Whether so many bodies count in these bytes.
-fn has_bodies(bytes: &[u8], wanted: Option<u64>) -> bool {
-    count(bytes) == wanted
+/// A log without the byte at its end.
+const CUT: [u8; 7] = *b"\x01\x00\x00\x00\x02ab";
+
+/// Bytes, each with the number of bodies that count in them.
+const COUNTS: [(&[u8], Option<u64>); 3] = [(&ONE_BODY, Some(1)), (&CUT, None), (&[0, 1], Some(0))];
+
+/// The first of these bytes in which another number counts.
+fn first_miscounted() -> Option<&'static [u8]> {
+    for (bytes, wanted) in &COUNTS {
+        if count(*bytes) != *wanted {
+            return Some(*bytes);
+        }
+    }
+    None
 }
 
 #[test]
 fn plain_bytes_are_counted(rt: HostRuntime) {
-    for (bytes, wanted) in [
-        (ONE_BODY.as_slice(), Some(1)),
-        (&ONE_BODY[..7], None),
-        (&[0, 1], Some(0)),
-    ] {
-        assert!(rt; has_bodies(bytes, wanted));
-    }
+    assert!(rt; first_miscounted().is_none());
 }
 
-/// Whether the cell of this number in these bytes has this body, or there is none.
-fn has_cell(bytes: &[u8], number: u64, body: Option<&[u8]>) -> bool {
-    cell(bytes, number) == body
+/// Bytes with the number of a cell, and its body, where there is one.
+const CELLS: [(&[u8], u64, Option<&[u8]>); 4] = [
+    (&ONE_BODY, 0, None),
+    (&ONE_BODY, 1, Some(b"ab")),
+    (&ONE_BODY, 2, None),
+    (&CUT, 1, None),
+];
+
+/// The number of the first of these cells that is another, with its bytes.
+fn first_other_cell() -> Option<(&'static [u8], u64)> {
+    for (bytes, number, body) in &CELLS {
+        if cell(*bytes, *number) != *body {
+            return Some((*bytes, *number));
+        }
+    }
+    None
 }
 
 #[test]
 fn plain_bytes_are_numbered(rt: HostRuntime) {
-    for (bytes, number, body) in [
-        (ONE_BODY.as_slice(), 0, None),
-        (&ONE_BODY, 1, Some(b"ab".as_slice())),
-        (&ONE_BODY, 2, None),
-        (&ONE_BODY[..7], 1, None),
-    ] {
-        assert!(rt; has_cell(bytes, number, body));
-    }
+    assert!(rt; first_other_cell().is_none());
 }

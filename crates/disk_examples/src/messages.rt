@@ -3,6 +3,7 @@ ghost use Rattle.std.specs.Prelude.{◌≡◌, true, IfOk};
 ghost use Rattle.msg_codec.specs.Fits.{IsShort};
 ghost use Rattle.msg_codec.specs.Message.{HasSpelling, IsMessage};
 
+use crate::texts::are_bytes;
 use msg_codec::{
     WireErr, decode_msg, encode_msg, message_fits, messages_are_read, read_messages_fit,
 };
@@ -37,7 +38,7 @@ fn is_ack(msg: &Msg) -> bool {
 }
 
 /// Whether the Ack is written as its bytes.
-fn is_ack_written(alloc: Global) -> Result<bool, AllocError> {
+fn is_ack_written(alloc: Global) -> bool {
     let ack = Msg {
         from: SENDER,
         to: RECEIVER,
@@ -45,28 +46,53 @@ fn is_ack_written(alloc: Global) -> Result<bool, AllocError> {
         kind: Kind::Ack,
     };
     message_fits(&ack);
-    Ok(encode_msg(alloc, &ack)?.as_slice() == ACK.as_slice())
+    let written = encode_msg(alloc, &ack);
+    drop(ack);
+    are_bytes(written, &ACK)
+}
+
+/// Whether the Ack is read from its bytes.
+fn is_ack_read(alloc: Global) -> bool {
+    match decode_msg(alloc, &ACK) {
+        Ok(msg) => {
+            let is = is_ack(&msg);
+            drop(msg);
+            is
+        }
+        Err(_) => false,
+    }
 }
 
 /// Whether the bytes are no message's.
 fn is_refused(alloc: Global, bytes: &[u8]) -> bool {
-    matches!(decode_msg(alloc, bytes), Err(WireErr::NotAMessage))
+    match decode_msg(alloc, bytes) {
+        Ok(msg) => {
+            drop(msg);
+            false
+        }
+        Err(error) => matches!(error, WireErr::NotAMessage),
+    }
 }
 
 #[test]
 fn an_ack_is_written_and_read(rt: HostRuntime) {
-    assert!(rt; is_ack_written(rt.alloc()) == Ok(true));
-    assert!(rt; matches!(&decode_msg(rt.alloc(), &ACK), Ok(msg) if is_ack(msg)));
+    assert!(rt; is_ack_written(rt.alloc()));
+    assert!(rt; is_ack_read(rt.alloc()));
     assert!(rt; is_refused(rt.alloc(), &ACK[..34]));
     assert!(rt; is_refused(rt.alloc(), &[]));
 }
 
-/// The bytes of a message of this kind from the sender to the receiver at clock 2, with these fields.
-fn bytes_of(alloc: Global, kind: u8, fields: &[u8]) -> Result<Vec<u8>, AllocError> {
-    let mut bytes = Vec::new(alloc);
+/// Adds the bytes of a message of this kind from the sender to the receiver at clock 2, with these fields.
+fn put_bytes(bytes: &mut Vec<u8>, kind: u8, fields: &[u8]) -> Result<(), AllocError> {
     bytes.push(kind)?;
     bytes.extend_from_slice(&ACK[1..])?;
-    bytes.extend_from_slice(fields)?;
+    bytes.extend_from_slice(fields)
+}
+
+/// Those bytes.
+fn bytes_of(alloc: Global, kind: u8, fields: &[u8]) -> Result<Vec<u8>, AllocError> {
+    let mut bytes = Vec::new(alloc);
+    put_bytes(&mut bytes, kind, fields)?;
     Ok(bytes)
 }
 
@@ -121,21 +147,28 @@ fn is_written(alloc: Global, msg: &Msg, read: &[u8], bytes: &[u8]) -> Result<boo
         return Ok(false);
     }
     read_message_fits(msg, read);
-    Ok(encode_msg(alloc, msg)?.as_slice() == bytes)
+    Ok(are_bytes(encode_msg(alloc, msg), bytes))
 }
 
 /// Whether a message of this kind is read from these bytes, and written as those.
-fn is_read(alloc: Global, what: &str, bytes: &[u8], written: &[u8]) -> Result<bool, AllocError> {
+fn is_read(alloc: Global, what: &str, bytes: &[u8], written: &[u8]) -> bool {
     match decode_msg(alloc, bytes) {
-        Ok(msg) => Ok(name_of(&msg.kind) == what && is_written(alloc, &msg, bytes, written)?),
-        Err(_) => Ok(false),
+        Ok(msg) => {
+            let is = name_of(&msg.kind) == what
+                && matches!(is_written(alloc, &msg, bytes, written), Ok(true));
+            drop(msg);
+            is
+        }
+        Err(_) => false,
     }
 }
 
 /// Whether a message with these fields is read as one of this kind, and written as it was.
-fn is_kept(alloc: Global, what: &str, kind: u8, fields: &[u8]) -> Result<bool, AllocError> {
-    let bytes = bytes_of(alloc, kind, fields)?;
-    is_read(alloc, what, &bytes, &bytes)
+fn is_kept(alloc: Global, what: &str, kind: u8, fields: &[u8]) -> bool {
+    match bytes_of(alloc, kind, fields) {
+        Ok(bytes) => is_read(alloc, what, &bytes, &bytes),
+        Err(_) => false,
+    }
 }
 
 /// A message of each kind: its kind, the byte of it, and its fields.
@@ -175,28 +208,46 @@ const KINDS: [(&str, u8, &[u8]); 19] = [
     ("ask", 17, &[]),
 ];
 
+/// The first kind of a message that is not kept.
+fn first_unkept(alloc: Global) -> Option<&'static str> {
+    for (what, kind, fields) in &KINDS {
+        if !is_kept(alloc, *what, *kind, *fields) {
+            return Some(*what);
+        }
+    }
+    None
+}
+
 #[test]
 fn each_kind_is_read_and_written_again(rt: HostRuntime) {
-    for (what, kind, fields) in KINDS {
-        assert!(rt;
-            is_kept(rt.alloc(), what, kind, fields) == Ok(true),
-            "{what}"
-        );
+    assert!(rt; first_unkept(rt.alloc()).is_none());
+}
+
+/// The fields of a statement as it is sent.
+const SENT: &[u8] = b"\x00\x00\x00\x07\x00\x3c\x00\x00\x00\x00\x16delete  t  where K='a'";
+
+/// And as it is printed.
+const PRINTED: &[u8] = b"\x00\x00\x00\x07\x00\x3c\x00\x00\x00\x00\x1bDELETE FROM T WHERE K = 'a'";
+
+/// Whether a statement is read from these bytes, and written as it is printed.
+fn is_read_as_printed(alloc: Global, sent: &[u8]) -> bool {
+    match bytes_of(alloc, 3, PRINTED) {
+        Ok(printed) => is_read(alloc, "exec", sent, &printed),
+        Err(_) => false,
     }
 }
 
 /// Whether a statement is read from another text of it, and written as it is printed.
-fn reads_other_texts(alloc: Global) -> Result<bool, AllocError> {
-    let sent = b"\x00\x00\x00\x07\x00\x3c\x00\x00\x00\x00\x16delete  t  where K='a'";
-    let printed = b"\x00\x00\x00\x07\x00\x3c\x00\x00\x00\x00\x1bDELETE FROM T WHERE K = 'a'";
-    let sent = bytes_of(alloc, 3, sent)?;
-    let printed = bytes_of(alloc, 3, printed)?;
-    is_read(alloc, "exec", &sent, &printed)
+fn reads_other_texts(alloc: Global) -> bool {
+    match bytes_of(alloc, 3, SENT) {
+        Ok(sent) => is_read_as_printed(alloc, &sent),
+        Err(_) => false,
+    }
 }
 
 #[test]
 fn a_statement_is_read_from_each_of_its_texts(rt: HostRuntime) {
-    assert!(rt; reads_other_texts(rt.alloc()) == Ok(true));
+    assert!(rt; reads_other_texts(rt.alloc()));
 }
 
 /// Kinds and fields that are no message's.
@@ -242,19 +293,26 @@ const NO_MESSAGES: [(&str, u8, &[u8]); 14] = [
 ];
 
 /// Whether a message of this kind cannot have these fields.
-fn is_refused_with(alloc: Global, kind: u8, fields: &[u8]) -> Result<bool, AllocError> {
-    let bytes = bytes_of(alloc, kind, fields)?;
-    Ok(is_refused(alloc, &bytes))
+fn is_refused_with(alloc: Global, kind: u8, fields: &[u8]) -> bool {
+    match bytes_of(alloc, kind, fields) {
+        Ok(bytes) => is_refused(alloc, &bytes),
+        Err(_) => false,
+    }
+}
+
+/// What is said of the first of them that is not refused.
+fn first_taken(alloc: Global) -> Option<&'static str> {
+    for (what, kind, fields) in &NO_MESSAGES {
+        if !is_refused_with(alloc, *kind, *fields) {
+            return Some(*what);
+        }
+    }
+    None
 }
 
 #[test]
 fn what_is_no_message_is_refused(rt: HostRuntime) {
-    for (what, kind, fields) in NO_MESSAGES {
-        assert!(rt;
-            is_refused_with(rt.alloc(), kind, fields) == Ok(true),
-            "{what}"
-        );
-    }
+    assert!(rt; first_taken(rt.alloc()).is_none());
 }
 
 #[test]

@@ -1,14 +1,13 @@
 //! Logs of records by examples: that calls over a disk in memory succeed, and what is loaded after a crash.
-ghost use Rattle.std.specs.Prelude.{◌≡◌, ◌≢◌, [], ◌∷◌, List, IfOk};
+ghost use Rattle.std.specs.Prelude.{◌≡◌, ◌≢◌, [], ◌∷◌, List, IfOk, IfSome, OnOk};
 ghost use Rattle.redo_record.specs.declared.record.RedoRecord.TheVariants as records;
+ghost use Rattle.redo_codec.specs.Record.{record_format};
 ghost use Rattle.record_log.specs.Held.{HoldRecords};
-ghost use Rattle.record_log.specs.Log.{disk_of as disk_of_log};
+ghost use Rattle.record_log.specs.Log.{disk_of as disk_of_log, IsUsable};
 
 use crate::logs::disk_of;
 use block_disk::{Disk, MemDisk};
-use record_log::{
-    AppendErr, LoadErr, RecordLog, Records, begun_hold_none, hold_one_list, logs_hold,
-};
+use record_log::{AppendErr, RecordLog, Records, begun_hold_none, hold_one_list, logs_hold};
 use redo_record::RedoRecord;
 use std::alloc::{AllocError, Global};
 
@@ -16,58 +15,108 @@ use std::alloc::{AllocError, Global};
 /// next gate, closed.
 const SECOND: [u8; 11] = [0, 0, 0, 6, 1, 1, 0, 0, 0, 2, 0];
 
-/// A log of the records of two starts.
-#[tactic(auto, using(crate::proofs::FirstStart::boot_fits))]
-fn two_starts(alloc: Global) -> Result<RecordLog<MemDisk>, AppendErr>
-    ensures { IfOk result (λ log. HoldRecords (records.Boot 1 ∷ records.Boot 2 ∷ []) (⟦<MemDisk as Disk>⟧.content (disk_of_log log))) }
+/// Appends two records to a log of none.
+fn append_two(
+    log: &mut RecordLog<MemDisk>,
+    first: &RedoRecord,
+    second: &RedoRecord,
+) -> Result<(), AppendErr>
+    requires usable { IsUsable ⟦<MemDisk as Disk>⟧.content ⟦<MemDisk as Disk>⟧.images log.old }
+    requires none { HoldRecords [] (⟦<MemDisk as Disk>⟧.content (disk_of_log log.old)) }
+    requires first { record_format.Fits first.now }
+    requires second { record_format.Fits second.now }
+    ensures { OnOk result (HoldRecords (first.now ∷ second.now ∷ []) (⟦<MemDisk as Disk>⟧.content (disk_of_log log.new))) }
 {
-    match RecordLog::create(alloc, MemDisk::new(alloc)) {
-        Ok(mut log) => {
-            log.append(&RedoRecord::Boot(1))?;
-            log.append(&RedoRecord::Boot(2))?;
-            Ok(log)
-        }
-        Err(_) => Err(AppendErr::NoMemory),
+    log.append(first)?;
+    log.append(second)?;
+    Ok(())
+}
+
+/// Appends the records of two starts to a log of none.
+#[tactic(auto, using(crate::proofs::FirstStart::boot_fits))]
+fn append_starts(log: &mut RecordLog<MemDisk>) -> Result<(), AppendErr>
+    requires usable { IsUsable ⟦<MemDisk as Disk>⟧.content ⟦<MemDisk as Disk>⟧.images log.old }
+    requires none { HoldRecords [] (⟦<MemDisk as Disk>⟧.content (disk_of_log log.old)) }
+    ensures { OnOk result (HoldRecords (records.Boot 1 ∷ records.Boot 2 ∷ []) (⟦<MemDisk as Disk>⟧.content (disk_of_log log.new))) }
+{
+    let first = RedoRecord::Boot(1);
+    let second = RedoRecord::Boot(2);
+    let appended = append_two(log, &first, &second);
+    drop(first);
+    drop(second);
+    appended
+}
+
+/// A log of the records of two starts.
+fn two_starts(alloc: Global) -> Option<RecordLog<MemDisk>>
+    ensures { IfSome result (λ log. HoldRecords (records.Boot 1 ∷ records.Boot 2 ∷ []) (⟦<MemDisk as Disk>⟧.content (disk_of_log log))) }
+{
+    let mut log = RecordLog::create(alloc, MemDisk::new(alloc)).ok()?;
+    if append_starts(&mut log).is_ok() {
+        Some(log)
+    } else {
+        drop(log);
+        None
     }
 }
 
-/// The records that are loaded from a disk with these bytes, which stays as it was.
-fn loaded(alloc: Global, bytes: &[u8]) -> Option<Records>
+/// The records that are loaded from a disk with these bytes, and whether it stayed as it was.
+fn loaded(alloc: Global, bytes: &[u8]) -> Option<(Records, bool)>
     requires { (rs : List RedoRecord) × HoldRecords rs bytes.now }
 {
     if bytes.is_empty() {
         return None;
     }
     match RecordLog::load(alloc, disk_of(alloc, bytes).ok()?) {
-        Ok((log, records)) if log.disk().bytes() == bytes => Some(records),
-        Ok(_changed) => None,
-        Err(
-            LoadErr {
-                disk: _disk,
-                why: _why,
-            },
-        ) => None,
+        Ok((log, records)) => {
+            let is_as_it_was = log.disk().bytes() == bytes;
+            drop(log);
+            Some((records, is_as_it_was))
+        }
+        Err(error) => {
+            drop(error);
+            None
+        }
     }
 }
 
-/// Whether these are the records of the first two starts.
-fn are_two_starts(records: &Records) -> bool {
-    matches!(
-        records.as_slice(),
-        [RedoRecord::Boot(1), RedoRecord::Boot(2)]
-    )
+/// Whether these are the records of so many first starts, of one or of two.
+fn are_starts(records: &[RedoRecord], count: u8) -> bool {
+    match records {
+        [RedoRecord::Boot(1)] => count == 1,
+        [RedoRecord::Boot(1), RedoRecord::Boot(2)] => count == 2,
+        _ => false,
+    }
 }
+
+/// Whether the records of so many first starts are loaded from a disk with these bytes, which stays as it was.
+fn loads_starts(alloc: Global, bytes: &[u8], count: u8) -> bool
+    requires { (rs : List RedoRecord) × HoldRecords rs bytes.now }
+{
+    match loaded(alloc, bytes) {
+        Some((records, is_as_it_was)) => {
+            let loads = is_as_it_was && are_starts(records.as_slice(), count);
+            drop(records);
+            loads
+        }
+        None => false,
+    }
+}
+
+/// The bytes of a log of the records of two starts.
+const TWO_STARTS: &[u8] =
+    b"\x01\x00\x00\x00\x06\x01\x01\x00\x00\x00\x01\x01\x00\x00\x00\x06\x01\x01\x00\x00\x00\x02\x00";
 
 /// Whether two records are laid out one behind the other, and loaded.
 fn loads_two_starts(alloc: Global) -> bool {
     match two_starts(alloc) {
-        Ok(log) => {
+        Some(log) => {
             let bytes = log.disk().bytes();
-            bytes
-                == b"\x01\x00\x00\x00\x06\x01\x01\x00\x00\x00\x01\x01\x00\x00\x00\x06\x01\x01\x00\x00\x00\x02\x00".as_slice()
-                && matches!(&loaded(alloc, bytes), Some(records) if are_two_starts(records))
+            let loads = bytes == TWO_STARTS && loads_starts(alloc, bytes, 2);
+            drop(log);
+            loads
         }
-        Err(_) => false,
+        None => false,
     }
 }
 
@@ -92,22 +141,24 @@ fn has_the_first_alone(alloc: Global, gate: u8, behind: &[u8]) -> bool
     requires { gate ≢ 1 }
 {
     match with_end(alloc, gate, behind) {
-        Ok(bytes) => matches!(
-            &loaded(alloc, &bytes),
-            Some(records) if matches!(records.as_slice(), [RedoRecord::Boot(1)])
-        ),
-        Err(AllocError) => false,
+        Ok(bytes) => loads_starts(alloc, &bytes, 1),
+        Err(_) => false,
     }
+}
+
+/// The first count of bytes of the second record with which more than the first is loaded.
+fn first_to_count(alloc: Global) -> Option<usize> {
+    for count in 0..=SECOND.len() {
+        if !has_the_first_alone(alloc, 0, &SECOND[..count]) {
+            return Some(count);
+        }
+    }
+    None
 }
 
 #[test]
 fn part_of_a_record_behind_a_closed_gate_does_not_count(rt: HostRuntime) {
-    for count in 0..=SECOND.len() {
-        assert!(rt;
-            has_the_first_alone(rt.alloc(), 0, &SECOND[..count]),
-            "{count}"
-        );
-    }
+    assert!(rt; first_to_count(rt.alloc()).is_none());
 }
 
 #[test]

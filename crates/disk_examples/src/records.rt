@@ -1,6 +1,7 @@
 //! The bytes of records by examples from outside, and that calls succeed.
 ghost use Rattle.redo_codec.specs.Record.{record_format};
 
+use crate::texts::are_bytes;
 use dtx_values::{Advice, Bytes, Column, Columns, Name, NameErr, Table};
 use field_codec::{branch_fits, table_fits};
 use redo_codec::{DecodeErr, decode, encode, records_are_exact};
@@ -102,57 +103,73 @@ const NO_RECORDS: [(&str, &[u8]); 13] = [
     ),
 ];
 
+/// The branch ended, and committed at 2.
+const ENDED: [u8; 22] = [
+    1, 8, 1, 0, 0, 0, 1, 0, 0, 0, 65, 0, 0, 0, 1, 1, 0, 0, 0, 0, 0, 2,
+];
+
 /// Whether the record is written as this body.
-fn is_written(alloc: Global, redo: &RedoRecord, body: &[u8]) -> Result<bool, AllocError>
-    requires { record_format.Fits redo.now }
+fn is_written(alloc: Global, redo: RedoRecord, body: &[u8]) -> bool
+    requires { record_format.Fits redo }
 {
-    Ok(encode(alloc, redo)?.as_slice() == body)
+    let written = encode(alloc, &redo);
+    drop(redo);
+    are_bytes(written, body)
 }
 
 /// Whether the record of the first start is written.
-fn is_start_written(alloc: Global) -> Result<bool, AllocError> {
-    is_written(alloc, &RedoRecord::Boot(1), &START)
+fn is_start_written(alloc: Global) -> bool {
+    is_written(alloc, RedoRecord::Boot(1), &START)
 }
 
 /// Whether the record is written that the branch forgot.
-fn is_forgotten_written(alloc: Global) -> Result<bool, AllocError> {
+fn is_forgotten_written(alloc: Global) -> bool {
     branch_fits(&BRANCH);
-    is_written(alloc, &RedoRecord::Forgot(BRANCH), &FORGOTTEN)
+    is_written(alloc, RedoRecord::Forgot(BRANCH), &FORGOTTEN)
 }
 
-/// Whether the record is written that the branch ended, and committed at 2.
-fn is_ended_written(alloc: Global, body: &[u8]) -> Result<bool, AllocError> {
+/// Whether the record is written that the branch ended.
+fn is_ended_written(alloc: Global) -> bool {
     branch_fits(&BRANCH);
     let ended = RedoRecord::Ended {
         me: BRANCH,
         decision: Decision::Commit(2),
     };
-    is_written(alloc, &ended, body)
+    is_written(alloc, ended, &ENDED)
 }
 
 #[test]
 fn records_are_written(rt: HostRuntime) {
-    let ended = [
-        1, 8, 1, 0, 0, 0, 1, 0, 0, 0, 65, 0, 0, 0, 1, 1, 0, 0, 0, 0, 0, 2,
-    ];
-    assert!(rt; is_start_written(rt.alloc()) == Ok(true));
-    assert!(rt; is_forgotten_written(rt.alloc()) == Ok(true));
-    assert!(rt; is_ended_written(rt.alloc(), &ended) == Ok(true));
+    assert!(rt; is_start_written(rt.alloc()));
+    assert!(rt; is_forgotten_written(rt.alloc()));
+    assert!(rt; is_ended_written(rt.alloc()));
 }
 
 /// Whether the body is read, and written as it was.
 fn is_kept(alloc: Global, body: &[u8]) -> bool {
     match decode(alloc, body) {
-        Ok(record) => matches!(&encode(alloc, &record), Ok(bytes) if bytes.as_slice() == body),
+        Ok(record) => {
+            let written = encode(alloc, &record);
+            drop(record);
+            are_bytes(written, body)
+        }
         Err(_) => false,
     }
 }
 
+/// The first kind of a record that is not kept.
+fn first_unkept(alloc: Global) -> Option<&'static str> {
+    for (what, body) in &KINDS {
+        if !is_kept(alloc, *body) {
+            return Some(*what);
+        }
+    }
+    None
+}
+
 #[test]
 fn each_kind_is_read_and_written_again(rt: HostRuntime) {
-    for (what, body) in KINDS {
-        assert!(rt; is_kept(rt.alloc(), body), "{what}");
-    }
+    assert!(rt; first_unkept(rt.alloc()).is_none());
 }
 
 /// Whether it is the prepared branch.
@@ -167,7 +184,7 @@ fn is_sealed(record: &RedoRecord) -> bool {
 fn leads_to_the_child(sealed: &Sealed) -> bool {
     sealed.me == BRANCH
         && sealed.scn == 5
-        && sealed.toward == Toward::Child(0)
+        && matches!(sealed.toward, Toward::Child(0))
         && sealed.parent.is_none()
 }
 
@@ -179,31 +196,66 @@ fn has_its_lists(sealed: &Sealed) -> bool {
         && sealed.changes.as_slice().len() == 1
 }
 
+/// Whether the prepared branch is read from its body.
+fn reads_sealed(alloc: Global) -> bool {
+    match decode(alloc, &SEALED) {
+        Ok(record) => {
+            let is = is_sealed(&record);
+            drop(record);
+            is
+        }
+        Err(_) => false,
+    }
+}
+
 #[test]
 fn a_prepared_branch_is_read(rt: HostRuntime) {
-    assert!(rt; matches!(&decode(rt.alloc(), &SEALED), Ok(record) if is_sealed(record)));
+    assert!(rt; reads_sealed(rt.alloc()));
 }
 
 /// Whether the bytes are no record's body.
 fn is_refused(alloc: Global, body: &[u8]) -> bool {
-    matches!(decode(alloc, body), Err(DecodeErr::NotARecord))
+    match decode(alloc, body) {
+        Ok(record) => {
+            drop(record);
+            false
+        }
+        Err(error) => matches!(error, DecodeErr::NotARecord),
+    }
+}
+
+/// What is said of the first of these bytes that are not refused.
+fn first_taken(alloc: Global) -> Option<&'static str> {
+    for (what, body) in &NO_RECORDS {
+        if !is_refused(alloc, *body) {
+            return Some(*what);
+        }
+    }
+    None
 }
 
 #[test]
 fn what_is_no_record_is_refused(rt: HostRuntime) {
-    for (what, body) in NO_RECORDS {
-        assert!(rt; is_refused(rt.alloc(), body), "{what}");
+    assert!(rt; first_taken(rt.alloc()).is_none());
+}
+
+/// Puts this byte at this place, if there is such a place.
+fn put_at(bytes: &mut [u8], place: usize, byte: u8) -> bool {
+    match bytes.get_mut(place) {
+        Some(there) => {
+            *there = byte;
+            true
+        }
+        None => false,
     }
 }
 
 /// Whether the body is no record's with this byte at this place.
-fn is_refused_with(alloc: Global, body: &[u8], place: usize, byte: u8) -> Result<bool, AllocError> {
-    let mut bytes = body.to_vec(alloc)?;
-    match bytes.get_mut(place) {
-        Some(there) => *there = byte,
-        None => return Ok(false),
+fn is_refused_with(alloc: Global, body: &[u8], place: usize, byte: u8) -> bool {
+    match body.to_vec(alloc) {
+        Ok(mut bytes) => put_at(&mut bytes, place, byte) && is_refused(alloc, &bytes),
+        Err(_) => false,
     }
-    Ok(is_refused(alloc, &bytes))
 }
 
 /// Bodies that are no record's with another byte at a place.
@@ -219,14 +271,19 @@ const NO_BODIES: [(&str, &[u8], usize, u8); 9] = [
     ("a key that is NULL", &SEALED, 67, 0),
 ];
 
+/// What is said of the first of them that is not refused.
+fn first_body(alloc: Global) -> Option<&'static str> {
+    for (what, body, place, byte) in &NO_BODIES {
+        if !is_refused_with(alloc, *body, *place, *byte) {
+            return Some(*what);
+        }
+    }
+    None
+}
+
 #[test]
 fn what_is_no_table_or_prepared_branch_is_refused(rt: HostRuntime) {
-    for (what, body, place, byte) in NO_BODIES {
-        assert!(rt;
-            is_refused_with(rt.alloc(), body, place, byte) == Ok(true),
-            "{what}"
-        );
-    }
+    assert!(rt; first_body(rt.alloc()).is_none());
 }
 
 #[test]
@@ -237,26 +294,45 @@ fn no_bytes_are_two_records() {
 /// The body of a table of this name with one column, a key of texts of at most 10 bytes.
 fn table_body(alloc: Global, name: Name, key: Name) -> Result<Bytes, AllocError> {
     let mut columns = Columns::new(alloc);
-    columns.push(Column {
+    match columns.push(Column {
         name: key,
         text_max: Some(10),
         not_null: true,
         key: true,
-    })?;
-    let table = Table { name, columns };
-    table_fits(&table);
-    encode(alloc, &RedoRecord::Table(table))
+    }) {
+        Ok(()) => {
+            let table = Table { name, columns };
+            table_fits(&table);
+            let record = RedoRecord::Table(table);
+            let body = encode(alloc, &record);
+            drop(record);
+            body
+        }
+        Err(error) => {
+            drop(name);
+            drop(columns);
+            Err(error)
+        }
+    }
 }
 
-/// Whether this is the body of such a table, T with the key K.
-fn is_table_written(alloc: Global, body: &[u8]) -> Result<bool, NameErr> {
+/// The body of such a table, T with the key K.
+fn table_t(alloc: Global) -> Result<Bytes, NameErr> {
     let name = Name::from_bytes(alloc, b"t")?;
     let key = Name::from_bytes(alloc, b"k")?;
-    Ok(table_body(alloc, name, key)?.as_slice() == body)
+    Ok(table_body(alloc, name, key)?)
+}
+
+/// Whether this is its body.
+fn is_table_written(alloc: Global, body: &[u8]) -> bool {
+    match table_t(alloc) {
+        Ok(written) => written.as_slice() == body,
+        Err(_) => false,
+    }
 }
 
 #[test]
 fn a_table_that_was_made_is_written(rt: HostRuntime) {
     let body = b"\x01\x02\x01T\x01\x01K\x02\x00\x0a\x01\x01";
-    assert!(rt; is_table_written(rt.alloc(), body) == Ok(true));
+    assert!(rt; is_table_written(rt.alloc(), body));
 }

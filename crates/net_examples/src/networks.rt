@@ -1,36 +1,12 @@
 //! What no clause says of the network: that calls succeed, and what becomes of a few messages between three nodes.
 ghost use Rattle.std.specs.Prelude.{◌≡◌};
 
-use dtx_values::{Listing, Name, NameErr};
-use msg_codec::{WireErr, decode_msg};
-use net_bag::{Bag, LoseNext, Sent};
+use crate::given::{HQ, SALES, WAREHOUSE, are, names};
+use dtx_values::Listing;
+use msg_codec::decode_msg;
+use net_bag::{Bag, LoseNext, Numbers, Sent};
 use std::alloc::{AllocError, Global};
 use wire_msg::KindName;
-
-const SALES: u8 = 1;
-
-const WAREHOUSE: u8 = 2;
-
-const HQ: u8 = 3;
-
-/// Why a message was not sent.
-#[derive(Clone, Copy, Debug, PartialEq, Eq)]
-enum Failed {
-    NoMemory,
-    NotAMessage,
-}
-
-impl From<AllocError> for Failed {
-    fn from(_e: AllocError) -> Failed {
-        Failed::NoMemory
-    }
-}
-
-impl From<WireErr> for Failed {
-    fn from(_e: WireErr) -> Failed {
-        Failed::NotAMessage
-    }
-}
 
 /// The bytes of a branch of a node.
 fn put_branch(out: &mut Vec<u8>, node: u8) -> Result<(), AllocError> {
@@ -38,176 +14,223 @@ fn put_branch(out: &mut Vec<u8>, node: u8) -> Result<(), AllocError> {
 }
 
 /// The bytes of an Ack: its kind, its two branches, and the clock.
+fn put_ack(out: &mut Vec<u8>, from: u8, to: u8) -> Result<(), AllocError> {
+    out.push(14)?;
+    put_branch(out, from)?;
+    put_branch(out, to)?;
+    out.extend_from_slice(&[0, 0, 0, 0, 0, 0, 0, 7])
+}
+
+/// Those bytes.
 fn ack(alloc: Global, from: u8, to: u8) -> Result<Vec<u8>, AllocError> {
-    let mut out = vec![in alloc; 14]?;
-    put_branch(&mut out, from)?;
-    put_branch(&mut out, to)?;
-    out.extend_from_slice(&[0, 0, 0, 0, 0, 0, 0, 7])?;
+    let mut out = Vec::new(alloc);
+    put_ack(&mut out, from, to)?;
     Ok(out)
 }
 
-/// Sends an Ack.
-fn send(alloc: Global, bag: &mut Bag, from: u8, to: u8) -> Result<Sent, Failed> {
-    let bytes = ack(alloc, from, to)?;
-    let msg = decode_msg(alloc, bytes.as_slice())?;
-    Ok(bag.send(&msg, Listing::of(bytes))?)
+/// What becomes of an Ack that is sent; None where it is not sent.
+fn send(alloc: Global, bag: &mut Bag, from: u8, to: u8) -> Option<Sent> {
+    let bytes = ack(alloc, from, to).ok()?;
+    match decode_msg(alloc, bytes.as_slice()) {
+        Ok(msg) => {
+            let sent = bag.send(&msg, Listing::of(bytes));
+            drop(msg);
+            sent.ok()
+        }
+        Err(_) => None,
+    }
 }
 
-/// Sends three Acks, numbered from 1: to WAREHOUSE, back from there, and to HQ.
-fn send_three(alloc: Global, bag: &mut Bag) -> Result<(), Failed> {
-    send(alloc, bag, SALES, WAREHOUSE)?;
-    send(alloc, bag, WAREHOUSE, SALES)?;
-    send(alloc, bag, SALES, HQ)?;
-    Ok(())
+/// Whether an Ack is sent, and is lost at once, or not.
+fn goes(alloc: Global, bag: &mut Bag, from: u8, to: u8, is_lost: bool) -> bool {
+    match send(alloc, bag, from, to) {
+        Some(sent) => sent.is_lost == is_lost,
+        None => false,
+    }
+}
+
+/// Whether three Acks are sent, numbered from 1: to WAREHOUSE, back from there, and to HQ.
+fn send_three(alloc: Global, bag: &mut Bag) -> bool {
+    goes(alloc, bag, SALES, WAREHOUSE, false)
+        && goes(alloc, bag, WAREHOUSE, SALES, false)
+        && goes(alloc, bag, SALES, HQ, false)
+}
+
+/// Whether these are the numbers of the messages that were lost.
+fn were_lost(lost: Result<Numbers, AllocError>, numbers: &[u64]) -> bool {
+    match lost {
+        Ok(lost) => lost.as_slice() == numbers,
+        Err(_) => false,
+    }
 }
 
 /// Whether a cut loses both messages over it and says their numbers, and the third is still in flight.
-fn is_lost_by_cut(alloc: Global, bag: &mut Bag) -> Result<bool, Failed> {
-    send_three(alloc, bag)?;
-    let lost = bag.cut(alloc, WAREHOUSE, SALES)?;
-    Ok(lost.as_slice() == [1, 2].as_slice() && bag.first() == Some(3))
+fn is_lost_by_cut(alloc: Global) -> bool {
+    let mut bag = Bag::new(alloc);
+    let is = send_three(alloc, &mut bag)
+        && were_lost(bag.cut(alloc, WAREHOUSE, SALES), &[1, 2])
+        && matches!(bag.first(), Some(3));
+    drop(bag);
+    is
 }
 
 #[test]
 fn a_cut_loses_what_is_in_flight_over_it(rt: HostRuntime) {
-    let mut bag = Bag::new(rt.alloc());
-    assert!(rt; is_lost_by_cut(rt.alloc(), &mut bag) == Ok(true));
+    assert!(rt; is_lost_by_cut(rt.alloc()));
 }
 
 /// Whether a stop loses the message to the node and says its number, and not the one from it.
-fn is_lost_by_stop(alloc: Global, bag: &mut Bag) -> Result<bool, Failed> {
-    send_three(alloc, bag)?;
-    let lost = bag.stop(alloc, WAREHOUSE)?;
-    Ok(lost.as_slice() == [1].as_slice() && bag.first() == Some(2))
+fn is_lost_by_stop(alloc: Global) -> bool {
+    let mut bag = Bag::new(alloc);
+    let is = send_three(alloc, &mut bag)
+        && were_lost(bag.stop(alloc, WAREHOUSE), &[1])
+        && matches!(bag.first(), Some(2));
+    drop(bag);
+    is
 }
 
 #[test]
 fn a_stop_loses_what_is_in_flight_to_the_node(rt: HostRuntime) {
-    let mut bag = Bag::new(rt.alloc());
-    assert!(rt; is_lost_by_stop(rt.alloc(), &mut bag) == Ok(true));
+    assert!(rt; is_lost_by_stop(rt.alloc()));
 }
 
-/// Whether a message over a cut pair is lost as it is sent.
-fn is_lost_over_cut(alloc: Global, bag: &mut Bag) -> Result<bool, Failed> {
-    bag.cut(alloc, SALES, WAREHOUSE)?;
-    Ok(send(alloc, bag, SALES, WAREHOUSE)?.is_lost)
-}
-
-/// Whether it is repeated once the pair is joined.
+/// Whether the first message is repeated once the pair is joined.
 fn is_repeated(bag: &mut Bag) -> bool {
     let before = bag.again(1).is_some();
     bag.join(WAREHOUSE, SALES);
     !before && bag.again(1).is_some() && bag.flying(1).is_none()
 }
 
+/// Whether a message over a cut pair is lost as it is sent, and repeated over the joined pair.
+fn is_lost_over_cut(alloc: Global) -> bool {
+    let mut bag = Bag::new(alloc);
+    let is = were_lost(bag.cut(alloc, SALES, WAREHOUSE), &[])
+        && goes(alloc, &mut bag, SALES, WAREHOUSE, true)
+        && is_repeated(&mut bag);
+    drop(bag);
+    is
+}
+
 #[test]
 fn a_lost_message_is_repeated_over_a_joined_pair(rt: HostRuntime) {
-    let mut bag = Bag::new(rt.alloc());
-    assert!(rt; is_lost_over_cut(rt.alloc(), &mut bag) == Ok(true));
-    assert!(rt; is_repeated(&mut bag));
+    assert!(rt; is_lost_over_cut(rt.alloc()));
+}
+
+/// Whether a message to a node is not lost after its start, and is the second.
+fn is_second_after_start(alloc: Global, bag: &mut Bag) -> bool {
+    bag.start(HQ);
+    match send(alloc, bag, SALES, HQ) {
+        Some(sent) => !sent.is_lost && sent.number == 2,
+        None => false,
+    }
 }
 
 /// Whether a message to a node that is down is lost, and one after its start is not.
-fn is_lost_while_down(alloc: Global, bag: &mut Bag) -> Result<bool, Failed> {
-    bag.stop(alloc, HQ)?;
-    let first = send(alloc, bag, SALES, HQ)?;
-    bag.start(HQ);
-    let second = send(alloc, bag, SALES, HQ)?;
-    Ok(first.is_lost && !second.is_lost && second.number == 2)
+fn is_lost_while_down(alloc: Global) -> bool {
+    let mut bag = Bag::new(alloc);
+    let is = were_lost(bag.stop(alloc, HQ), &[])
+        && goes(alloc, &mut bag, SALES, HQ, true)
+        && is_second_after_start(alloc, &mut bag);
+    drop(bag);
+    is
 }
 
 #[test]
 fn a_node_that_is_down_gets_nothing(rt: HostRuntime) {
-    let mut bag = Bag::new(rt.alloc());
-    assert!(rt; is_lost_while_down(rt.alloc(), &mut bag) == Ok(true));
+    assert!(rt; is_lost_while_down(rt.alloc()));
 }
 
+/// An order to lose the next Ack to HQ.
+const ORDER: LoseNext = LoseNext {
+    kind: KindName::Ack,
+    from: SALES,
+    to: HQ,
+};
+
 /// Whether an order loses one message of its kind, and no other.
-fn is_lost_by_order(alloc: Global, bag: &mut Bag) -> Result<bool, Failed> {
-    bag.lose_next(LoseNext {
-        kind: KindName::Ack,
-        from: SALES,
-        to: HQ,
-    })?;
-    let back = send(alloc, bag, HQ, SALES)?;
-    let first = send(alloc, bag, SALES, HQ)?;
-    let second = send(alloc, bag, SALES, HQ)?;
-    Ok(!back.is_lost && first.is_lost && !second.is_lost)
+fn is_lost_by_order(alloc: Global) -> bool {
+    let mut bag = Bag::new(alloc);
+    let is = bag.lose_next(ORDER).is_ok()
+        && goes(alloc, &mut bag, HQ, SALES, false)
+        && goes(alloc, &mut bag, SALES, HQ, true)
+        && goes(alloc, &mut bag, SALES, HQ, false);
+    drop(bag);
+    is
 }
 
 #[test]
 fn an_order_loses_one_message(rt: HostRuntime) {
-    let mut bag = Bag::new(rt.alloc());
-    assert!(rt; is_lost_by_order(rt.alloc(), &mut bag) == Ok(true));
+    assert!(rt; is_lost_by_order(rt.alloc()));
 }
 
 /// Whether message 2 has the bytes that were sent.
-fn is_taken(alloc: Global, bag: &Bag) -> Result<bool, Failed> {
-    let due = ack(alloc, WAREHOUSE, SALES)?;
-    match bag.flying(2) {
-        None => Ok(false),
-        Some(bytes) => Ok(bytes == due.as_slice()),
+fn is_taken(alloc: Global, bag: &Bag) -> bool {
+    match ack(alloc, WAREHOUSE, SALES) {
+        Ok(due) => matches!(bag.flying(2), Some(bytes) if bytes == due.as_slice()),
+        Err(_) => false,
     }
 }
 
 /// Whether it is in flight no more once it was delivered, and the first still is.
 fn is_delivered(bag: &mut Bag) -> bool {
     bag.deliver(2);
-    !bag.in_flight(2) && bag.first() == Some(1)
+    !bag.in_flight(2) && matches!(bag.first(), Some(1))
 }
 
 /// Whether the first is lost once, and the third is the next.
 fn is_lost_once(bag: &mut Bag) -> bool {
     let once = bag.lose(1);
     let twice = bag.lose(1);
-    once && !twice && bag.first() == Some(3)
+    once && !twice && matches!(bag.first(), Some(3))
+}
+
+/// Whether three messages are taken so.
+fn are_taken_once(alloc: Global) -> bool {
+    let mut bag = Bag::new(alloc);
+    let are = send_three(alloc, &mut bag)
+        && is_taken(alloc, &bag)
+        && is_delivered(&mut bag)
+        && is_lost_once(&mut bag);
+    drop(bag);
+    are
 }
 
 #[test]
 fn each_message_is_taken_once(rt: HostRuntime) {
-    let mut bag = Bag::new(rt.alloc());
-    assert!(rt; send_three(rt.alloc(), &mut bag) == Ok(()));
-    assert!(rt; is_taken(rt.alloc(), &bag) == Ok(true));
-    assert!(rt; is_delivered(&mut bag));
-    assert!(rt; is_lost_once(&mut bag));
+    assert!(rt; are_taken_once(rt.alloc()));
 }
 
-fn names(alloc: Global) -> Result<Vec<Name>, NameErr> {
-    let mut names = Vec::new(alloc);
-    for text in [b"SALES".as_slice(), b"WAREHOUSE", b"HQ"] {
-        names.push(Name::from_bytes(alloc, text)?)?;
+/// Whether the messages in flight are shown in these lines.
+fn is_shown(alloc: Global, bag: &Bag, due: &[&[u8]]) -> bool {
+    match names(alloc) {
+        Ok(names) => are(bag.lines(alloc, &names), due),
+        Err(_) => false,
     }
-    Ok(names)
-}
-
-/// Whether the messages in flight are shown as this text.
-fn is_shown(alloc: Global, bag: &Bag, due: &str) -> Result<bool, NameErr> {
-    let names = names(alloc)?;
-    let mut text = Vec::new(alloc);
-    for line in bag.lines(alloc, &names)?.as_slice() {
-        text.extend_from_slice(line.as_slice())?;
-        text.push(b'\n')?;
-    }
-    Ok(text.as_slice() == due.as_bytes())
 }
 
 /// The messages in flight before message 2 is delivered.
-const SHOWN: &str = "1 ACK SALES WAREHOUSE
-2 ACK WAREHOUSE SALES
-3 ACK SALES HQ
-";
+const SHOWN: [&[u8]; 3] = [
+    b"1 ACK SALES WAREHOUSE",
+    b"2 ACK WAREHOUSE SALES",
+    b"3 ACK SALES HQ",
+];
 
 /// And after it.
-const SHOWN_AFTER: &str = "1 ACK SALES WAREHOUSE
-3 ACK SALES HQ
-";
+const SHOWN_AFTER: [&[u8]; 2] = [b"1 ACK SALES WAREHOUSE", b"3 ACK SALES HQ"];
+
+/// Whether the messages in flight are shown before any is sent, before message 2 is delivered, and after it.
+fn are_shown(alloc: Global) -> bool {
+    let mut bag = Bag::new(alloc);
+    let are = is_shown(alloc, &bag, &[b"no messages in flight"])
+        && send_three(alloc, &mut bag)
+        && is_shown(alloc, &bag, &SHOWN)
+        && is_delivered(&mut bag)
+        && is_shown(alloc, &bag, &SHOWN_AFTER);
+    drop(bag);
+    are
+}
 
 #[test]
 fn the_messages_in_flight_are_shown(rt: HostRuntime) {
-    let mut bag = Bag::new(rt.alloc());
-    assert!(rt; is_shown(rt.alloc(), &bag, "no messages in flight\n") == Ok(true));
-    assert!(rt; send_three(rt.alloc(), &mut bag) == Ok(()));
-    assert!(rt; is_shown(rt.alloc(), &bag, SHOWN) == Ok(true));
-    bag.deliver(2);
-    assert!(rt; is_shown(rt.alloc(), &bag, SHOWN_AFTER) == Ok(true));
+    assert!(rt; are_shown(rt.alloc()));
 }

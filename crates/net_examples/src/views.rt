@@ -1,36 +1,36 @@
 //! What no clause says of the views of pending transactions: that calls succeed, and the views of a node as they are to be
 //! printed.
-use dtx_values::{Advice, Bytes, Listing, Name, NameErr, Texts};
+use crate::given::{HQ, SALES, WAREHOUSE, are, names};
+use dtx_values::{Advice, Bytes, Listing, Name, NameErr};
 use pending_view::{neighbors_view, pending_view};
 use redo_record::{Decision, Kid, Standing, State};
 use session_tree::{Edge, Live, Phase, Vote};
 use std::alloc::{AllocError, Global};
 use tran_ids::BranchId;
 
-const SALES: u8 = 1;
-
-const WAREHOUSE: u8 = 2;
-
-const HQ: u8 = 3;
-
 /// DBA_2PC_PENDING of HQ.
-const PENDING: &str = "LOCAL_TRAN_ID|GLOBAL_TRAN_ID|STATE|MIXED|ADVICE|TRAN_COMMENT|COMMIT#
-1.1.4|HQ.00000003.1.1.4|collecting|no||stock|
-1.65.1|WAREHOUSE.00000002.1.1.1|committed|no|||7
-1.66.1|SALES.00000001.1.1.1|prepared|no|C|orders|
-2.65.1|SALES.00000001.1.1.3|forced rollback|yes|R||
-4 rows selected.
-";
+const PENDING: [&[u8]; 6] = [
+    b"LOCAL_TRAN_ID|GLOBAL_TRAN_ID|STATE|MIXED|ADVICE|TRAN_COMMENT|COMMIT#",
+    b"1.1.4|HQ.00000003.1.1.4|collecting|no||stock|",
+    b"1.65.1|WAREHOUSE.00000002.1.1.1|committed|no|||7",
+    b"1.66.1|SALES.00000001.1.1.1|prepared|no|C|orders|",
+    b"2.65.1|SALES.00000001.1.1.3|forced rollback|yes|R||",
+    b"4 rows selected.",
+];
 
 /// DBA_2PC_NEIGHBORS of HQ.
-const NEIGHBORS: &str = "LOCAL_TRAN_ID|IN_OUT|DATABASE|DBUSER_OWNER|INTERFACE
-1.65.1|in|WAREHOUSE|APP|N
-1.66.1|in|SALES|APP|C
-1.66.1|out|WAREHOUSE|APP|N
-2.65.1|in|SALES|APP|N
-2.65.1|out|DEPOT|APP|C
-5 rows selected.
-";
+const NEIGHBORS: [&[u8]; 7] = [
+    b"LOCAL_TRAN_ID|IN_OUT|DATABASE|DBUSER_OWNER|INTERFACE",
+    b"1.65.1|in|WAREHOUSE|APP|N",
+    b"1.66.1|in|SALES|APP|C",
+    b"1.66.1|out|WAREHOUSE|APP|N",
+    b"2.65.1|in|SALES|APP|N",
+    b"2.65.1|out|DEPOT|APP|C",
+    b"5 rows selected.",
+];
+
+/// What is shown where there is no row.
+const NO_ROWS: [&[u8]; 1] = [b"no rows selected"];
 
 fn branch(node: u8, boot: u32, session: u32, seq: u32) -> BranchId {
     BranchId {
@@ -41,36 +41,33 @@ fn branch(node: u8, boot: u32, session: u32, seq: u32) -> BranchId {
     }
 }
 
-fn names(alloc: Global) -> Result<Vec<Name>, NameErr> {
-    let mut names = Vec::new(alloc);
-    for text in [b"SALES".as_slice(), b"WAREHOUSE", b"HQ"] {
-        names.push(Name::from_bytes(alloc, text)?)?;
-    }
-    Ok(names)
-}
-
 fn bytes(alloc: Global, text: &[u8]) -> Result<Bytes, AllocError> {
     Ok(Listing::of(Vec::from_slice(alloc, text)?))
 }
 
-/// A prepared branch of HQ below this root, towards which its commit point site is, without a child or a comment.
-fn prepared(alloc: Global, me: BranchId, root: BranchId) -> Standing {
+/// A prepared branch of HQ below this root, towards which its commit point site is.
+fn prepared(me: BranchId, root: BranchId, children: Listing<Kid>, comment: Bytes) -> Standing {
     Standing {
         me,
         root,
         scn: 5,
         parent: Some(root),
         parent_acked: false,
-        children: Listing::new(alloc),
+        children,
         toward: Some(root),
         advice: None,
-        comment: Listing::new(alloc),
+        comment,
         state: State::Sealed,
         decision: None,
         mixed: false,
         forgot: false,
         hidden: false,
     }
+}
+
+/// One without a child or a comment.
+fn plain(alloc: Global, me: BranchId, root: BranchId) -> Standing {
+    prepared(me, root, Listing::new(alloc), Listing::new(alloc))
 }
 
 fn one_child(alloc: Global, branch: BranchId, link: &[u8]) -> Result<Listing<Kid>, NameErr> {
@@ -84,7 +81,7 @@ fn one_child(alloc: Global, branch: BranchId, link: &[u8]) -> Result<Listing<Kid
 
 /// A branch that has committed at its commit point site.
 fn committed(alloc: Global) -> Standing {
-    let row = prepared(alloc, branch(HQ, 1, 65, 1), branch(WAREHOUSE, 1, 1, 1));
+    let row = plain(alloc, branch(HQ, 1, 65, 1), branch(WAREHOUSE, 1, 1, 1));
     Standing {
         toward: None,
         state: State::Committed,
@@ -95,20 +92,18 @@ fn committed(alloc: Global) -> Standing {
 
 /// A branch in doubt, with a child at WAREHOUSE.
 fn in_doubt(alloc: Global) -> Result<Standing, NameErr> {
-    let children = one_child(alloc, branch(WAREHOUSE, 1, 65, 1), b"WAREHOUSE")?;
     let comment = bytes(alloc, b"orders")?;
-    let row = prepared(alloc, branch(HQ, 1, 66, 1), branch(SALES, 1, 1, 1));
+    let children = one_child(alloc, branch(WAREHOUSE, 1, 65, 1), b"WAREHOUSE")?;
+    let (me, root) = (branch(HQ, 1, 66, 1), branch(SALES, 1, 1, 1));
     Ok(Standing {
-        children,
-        comment,
         advice: Some(Advice::Commit),
-        ..row
+        ..prepared(me, root, children, comment)
     })
 }
 
 /// A branch whose row a purge took out of the view.
 fn purged(alloc: Global) -> Standing {
-    let row = prepared(alloc, branch(HQ, 1, 67, 1), branch(SALES, 1, 1, 2));
+    let row = plain(alloc, branch(HQ, 1, 67, 1), branch(SALES, 1, 1, 2));
     Standing {
         state: State::ForcedCommit(9),
         mixed: true,
@@ -121,28 +116,60 @@ fn purged(alloc: Global) -> Standing {
 fn rolled_back(alloc: Global) -> Result<Standing, NameErr> {
     let child = branch(WAREHOUSE, 1, 70, 1);
     let children = one_child(alloc, child, b"DEPOT")?;
-    let row = prepared(alloc, branch(HQ, 2, 65, 1), branch(SALES, 1, 1, 3));
+    let (me, root) = (branch(HQ, 2, 65, 1), branch(SALES, 1, 1, 3));
     Ok(Standing {
-        children,
         toward: Some(child),
         advice: Some(Advice::Rollback),
         state: State::ForcedRollback,
         mixed: true,
-        ..row
+        ..prepared(me, root, children, Listing::new(alloc))
     })
 }
 
-fn kept(alloc: Global) -> Result<Vec<Standing>, NameErr> {
-    let mut kept = Vec::new(alloc);
-    kept.push(committed(alloc))?;
-    kept.push(in_doubt(alloc)?)?;
-    kept.push(purged(alloc))?;
-    kept.push(rolled_back(alloc)?)?;
-    Ok(kept)
+/// Adds an item at the end, and says whether there is memory for it.
+fn add<T: Drop>(items: &mut Vec<T>, item: T) -> bool {
+    match items.push(item) {
+        Ok(()) => true,
+        Err(error) => {
+            drop(error);
+            false
+        }
+    }
 }
 
-/// A root of HQ in this phase, with a child at WAREHOUSE.
-fn live(alloc: Global, session: u32, phase: Phase) -> Result<Live, NameErr> {
+/// Adds a row at the end, and says whether there was one to add, and memory for it.
+fn put(kept: &mut Vec<Standing>, row: Result<Standing, NameErr>) -> bool {
+    match row {
+        Ok(row) => add(kept, row),
+        Err(_) => false,
+    }
+}
+
+fn put_kept(alloc: Global, kept: &mut Vec<Standing>) -> bool {
+    put(kept, Ok(committed(alloc)))
+        && put(kept, in_doubt(alloc))
+        && put(kept, Ok(purged(alloc)))
+        && put(kept, rolled_back(alloc))
+}
+
+/// A root of HQ in this phase.
+fn root(session: u32, phase: Phase, edges: Listing<Edge>, comment: Bytes) -> Live {
+    let me = branch(HQ, 1, session, 4);
+    Live {
+        me,
+        root: me,
+        parent: None,
+        depth: 1,
+        changed: true,
+        strength: 1,
+        edges,
+        phase,
+        advice: None,
+        comment,
+    }
+}
+
+fn one_edge(alloc: Global, session: u32) -> Result<Listing<Edge>, NameErr> {
     let edge = Edge {
         peer: branch(WAREHOUSE, 1, 71, session),
         link: Name::from_bytes(alloc, b"WAREHOUSE")?,
@@ -151,89 +178,74 @@ fn live(alloc: Global, session: u32, phase: Phase) -> Result<Live, NameErr> {
         count: 1,
         vote: Vote::Asked,
     };
-    let me = branch(HQ, 1, session, 4);
-    Ok(Live {
-        me,
-        root: me,
-        parent: None,
-        depth: 1,
-        changed: true,
-        strength: 1,
-        edges: Listing::of(vec![in alloc; edge]?),
-        phase,
-        advice: None,
-        comment: bytes(alloc, b"stock")?,
-    })
+    Ok(Listing::of(vec![in alloc; edge]?))
+}
+
+/// A root of HQ in this phase, with a child at WAREHOUSE.
+fn live(alloc: Global, session: u32, phase: Phase) -> Result<Live, NameErr> {
+    let comment = bytes(alloc, b"stock")?;
+    let edges = one_edge(alloc, session)?;
+    Ok(root(session, phase, edges, comment))
 }
 
 /// A branch that answered Ready and has no child.
 fn alone(alloc: Global) -> Result<Live, NameErr> {
-    let ready = live(alloc, 2, Phase::Ready)?;
-    Ok(Live {
-        edges: Listing::new(alloc),
-        ..ready
-    })
+    let comment = bytes(alloc, b"stock")?;
+    Ok(root(2, Phase::Ready, Listing::new(alloc), comment))
 }
 
-/// A root that waits for its child, a branch without children, and one that takes statements.
-fn lives(alloc: Global) -> Result<Vec<Live>, NameErr> {
-    let mut lives = Vec::new(alloc);
-    lives.push(alone(alloc)?)?;
-    lives.push(live(alloc, 1, Phase::Collecting { site_below: false })?)?;
-    lives.push(live(alloc, 3, Phase::Working)?)?;
-    Ok(lives)
-}
-
-/// Whether these lines are this text.
-fn are(alloc: Global, lines: &Texts, due: &str) -> Result<bool, AllocError> {
-    let mut text = Vec::new(alloc);
-    for line in lines.as_slice() {
-        text.extend_from_slice(line.as_slice())?;
-        text.push(b'\n')?;
+/// Adds a branch at the end, and says whether there was one to add, and memory for it.
+fn put_live(lives: &mut Vec<Live>, live: Result<Live, NameErr>) -> bool {
+    match live {
+        Ok(live) => add(lives, live),
+        Err(_) => false,
     }
-    Ok(text.as_slice() == due.as_bytes())
 }
 
-fn is_pending_shown(
-    alloc: Global,
-    kept: &[Standing],
-    lives: &[Live],
-    due: &str,
-) -> Result<bool, NameErr> {
-    let names = names(alloc)?;
-    let lines = pending_view(alloc, &names, kept, lives)?;
-    Ok(are(alloc, &lines, due)?)
+/// Puts a root that waits for its child, a branch without children, and one that takes statements.
+fn put_lives(alloc: Global, lives: &mut Vec<Live>) -> bool {
+    put_live(lives, alone(alloc))
+        && put_live(
+            lives,
+            live(alloc, 1, Phase::Collecting { site_below: false }),
+        )
+        && put_live(lives, live(alloc, 3, Phase::Working))
 }
 
-fn are_neighbors_shown(alloc: Global, kept: &[Standing], due: &str) -> Result<bool, NameErr> {
-    let names = names(alloc)?;
-    let lines = neighbors_view(alloc, &names, kept)?;
-    Ok(are(alloc, &lines, due)?)
+fn is_pending_shown(alloc: Global, kept: &[Standing], lives: &[Live], due: &[&[u8]]) -> bool {
+    match names(alloc) {
+        Ok(names) => are(pending_view(alloc, &names, kept, lives), due),
+        Err(_) => false,
+    }
 }
 
-fn is_node_shown(alloc: Global) -> Result<bool, NameErr> {
-    let kept = kept(alloc)?;
-    let lives = lives(alloc)?;
-    is_pending_shown(alloc, &kept, &lives, PENDING)
+fn are_neighbors_shown(alloc: Global, kept: &[Standing], due: &[&[u8]]) -> bool {
+    match names(alloc) {
+        Ok(names) => are(neighbors_view(alloc, &names, kept), due),
+        Err(_) => false,
+    }
 }
 
-fn are_its_neighbors_shown(alloc: Global) -> Result<bool, NameErr> {
-    let kept = kept(alloc)?;
-    are_neighbors_shown(alloc, &kept, NEIGHBORS)
+/// Whether the pending transactions of HQ and their neighbors are shown.
+fn is_node_shown(alloc: Global) -> bool {
+    let mut kept = Vec::new(alloc);
+    let mut lives = Vec::new(alloc);
+    let is = put_kept(alloc, &mut kept)
+        && put_lives(alloc, &mut lives)
+        && is_pending_shown(alloc, &kept, &lives, &PENDING)
+        && are_neighbors_shown(alloc, &kept, &NEIGHBORS);
+    drop(kept);
+    drop(lives);
+    is
 }
 
 #[test]
-fn pending_transactions_are_shown(rt: HostRuntime) {
-    assert!(rt; is_node_shown(rt.alloc()) == Ok(true));
-}
-
-#[test]
-fn their_neighbors_are_shown(rt: HostRuntime) {
-    assert!(rt; are_its_neighbors_shown(rt.alloc()) == Ok(true));
+fn pending_transactions_and_their_neighbors_are_shown(rt: HostRuntime) {
+    assert!(rt; is_node_shown(rt.alloc()));
 }
 
 #[test]
 fn a_node_without_rows_shows_that(rt: HostRuntime) {
-    assert!(rt; is_pending_shown(rt.alloc(), &[], &[], "no rows selected\n") == Ok(true));
-    assert!(rt; are_neighbors_shown(rt.alloc(), &[], "no rows selected\n") == Ok(true));
+    assert!(rt; is_pending_shown(rt.alloc(), &[], &[], &NO_ROWS));
+    assert!(rt; are_neighbors_shown(rt.alloc(), &[], &NO_ROWS));
 }

@@ -11,11 +11,9 @@ use node_disk::CutAt;
 use node_points::Point;
 use std::alloc::Global;
 
-/// A turn in which a point is reached.
+/// A turn that a point cuts.
 #[derive(Clone, Copy)]
-struct Reach {
-    /// The number of the point.
-    point: u8,
+struct Cut {
     /// The number of the node.
     node: u8,
     /// The turns before it.
@@ -28,120 +26,130 @@ struct Reach {
     after: &'static [&'static [Step]],
 }
 
-/// Each point of the order at a node that reaches it.
-const REACHES: &[Reach] = &[
-    Reach {
-        point: 1,
-        node: 2,
-        before: &[&AT_WAREHOUSE],
-        turn: READY,
-        at: CutAt::BeforeRecord,
-        after: &[&[OLD_ROW_AT_WAREHOUSE]],
-    },
-    Reach {
-        point: 2,
-        node: 3,
-        before: &[&AT_HQ],
-        turn: PREPARE_HQ,
-        at: CutAt::BeforeRecord,
-        after: &[&[NO_ROW_AT_HQ]],
-    },
-    Reach {
-        point: 3,
-        node: 3,
-        before: &[&AT_HQ],
-        turn: PREPARE_HQ,
-        at: CutAt::BeforeRecord,
-        after: &[&[NO_ROW_AT_HQ]],
-    },
-    Reach {
-        point: 4,
-        node: 3,
-        before: &[&AT_HQ],
-        turn: PREPARE_HQ,
-        at: CutAt::AfterRecord,
-        after: &[&[KEY_IN_DOUBT, COMMIT_HQ, ROW_AT_HQ]],
-    },
-    Reach {
-        point: 2,
-        node: 1,
-        before: &[&AT_SALES, &COLLECT],
-        turn: PASS,
-        at: CutAt::BeforeRecord,
-        after: &[&[NO_ROW_AT_SALES]],
-    },
-    Reach {
-        point: 3,
-        node: 1,
-        before: &[&AT_SALES, &COLLECT],
-        turn: PASS,
-        at: CutAt::BeforeRecord,
-        after: &[&[NO_ROW_AT_SALES]],
-    },
-    Reach {
-        point: 4,
-        node: 1,
-        before: &[&AT_SALES, &COLLECT],
-        turn: PASS,
-        at: CutAt::AfterRecord,
-        after: &[&[KEY_IN_DOUBT_AT_SALES, LEARN]],
-    },
-    Reach {
-        point: 5,
-        node: 2,
-        before: &[&AT_WAREHOUSE, &[READY]],
-        turn: DECIDE,
-        at: CutAt::BeforeRecord,
-        after: &[&[OLD_ROW_AT_WAREHOUSE]],
-    },
-    Reach {
-        point: 6,
-        node: 2,
-        before: &[&AT_WAREHOUSE, &[READY]],
-        turn: DECIDE,
-        at: CutAt::AfterRecord,
-        after: &[&[ROW_AT_WAREHOUSE, FORGET_WAREHOUSE]],
-    },
-    Reach {
-        point: 7,
-        node: 3,
-        before: &[&AT_HQ, &[PREPARE_HQ]],
-        turn: COMMIT_HQ,
-        at: CutAt::BeforeRecord,
-        after: &[&[KEY_IN_DOUBT, COMMIT_HQ, ROW_AT_HQ]],
-    },
-    Reach {
-        point: 8,
-        node: 3,
-        before: &[&AT_HQ, &[PREPARE_HQ]],
-        turn: COMMIT_HQ,
-        at: CutAt::AfterRecord,
-        after: &[&[ROW_AT_HQ, FORGET_HQ]],
-    },
-    Reach {
-        point: 9,
-        node: 2,
-        before: &[&AT_WAREHOUSE, &[READY, DECIDE]],
-        turn: FORGET_WAREHOUSE,
-        at: CutAt::BeforeRecord,
-        after: &[&[ROW_AT_WAREHOUSE, FORGET_WAREHOUSE]],
-    },
-    Reach {
-        point: 10,
-        node: 3,
-        before: &[&AT_HQ, &[PREPARE_HQ, COMMIT_HQ]],
-        turn: FORGET_HQ,
-        at: CutAt::BeforeRecord,
-        after: &[&[ROW_AT_HQ, FORGET_HQ]],
-    },
-    Reach {
-        point: 7,
-        node: 1,
-        before: &[&AT_SALES, &COLLECT, &[PASS]],
-        turn: LEARN,
-        at: CutAt::BeforeRecord,
-        after: &[&[KEY_IN_DOUBT_AT_SALES, LEARN]],
-    },
+/// HQ is cut before it is prepared.
+const HQ_UNPREPARED: Cut = Cut {
+    node: 3,
+    before: &[&AT_HQ],
+    turn: PREPARE_HQ,
+    at: CutAt::BeforeRecord,
+    after: &[&[NO_ROW_AT_HQ]],
+};
+
+/// SALES is cut before it is prepared.
+const SALES_UNPREPARED: Cut = Cut {
+    node: 1,
+    before: &[&AT_SALES, &COLLECT],
+    turn: PASS,
+    at: CutAt::BeforeRecord,
+    after: &[&[NO_ROW_AT_SALES]],
+};
+
+/// Each point of the order, with the turn that it cuts at a node that reaches it.
+const REACHES: &[(u8, Cut)] = &[
+    (
+        1,
+        Cut {
+            node: 2,
+            before: &[&AT_WAREHOUSE],
+            turn: READY,
+            at: CutAt::BeforeRecord,
+            after: &[&[OLD_ROW_AT_WAREHOUSE]],
+        },
+    ),
+    (2, HQ_UNPREPARED),
+    (3, HQ_UNPREPARED),
+    (
+        4,
+        Cut {
+            node: 3,
+            before: &[&AT_HQ],
+            turn: PREPARE_HQ,
+            at: CutAt::AfterRecord,
+            after: &[&[KEY_IN_DOUBT, COMMIT_HQ, ROW_AT_HQ]],
+        },
+    ),
+    (2, SALES_UNPREPARED),
+    (3, SALES_UNPREPARED),
+    (
+        4,
+        Cut {
+            node: 1,
+            before: &[&AT_SALES, &COLLECT],
+            turn: PASS,
+            at: CutAt::AfterRecord,
+            after: &[&[KEY_IN_DOUBT_AT_SALES, LEARN]],
+        },
+    ),
+    (
+        5,
+        Cut {
+            node: 2,
+            before: &[&AT_WAREHOUSE, &[READY]],
+            turn: DECIDE,
+            at: CutAt::BeforeRecord,
+            after: &[&[OLD_ROW_AT_WAREHOUSE]],
+        },
+    ),
+    (
+        6,
+        Cut {
+            node: 2,
+            before: &[&AT_WAREHOUSE, &[READY]],
+            turn: DECIDE,
+            at: CutAt::AfterRecord,
+            after: &[&[ROW_AT_WAREHOUSE, FORGET_WAREHOUSE]],
+        },
+    ),
+    (
+        7,
+        Cut {
+            node: 3,
+            before: &[&AT_HQ, &[PREPARE_HQ]],
+            turn: COMMIT_HQ,
+            at: CutAt::BeforeRecord,
+            after: &[&[KEY_IN_DOUBT, COMMIT_HQ, ROW_AT_HQ]],
+        },
+    ),
+    (
+        8,
+        Cut {
+            node: 3,
+            before: &[&AT_HQ, &[PREPARE_HQ]],
+            turn: COMMIT_HQ,
+            at: CutAt::AfterRecord,
+            after: &[&[ROW_AT_HQ, FORGET_HQ]],
+        },
+    ),
+    (
+        9,
+        Cut {
+            node: 2,
+            before: &[&AT_WAREHOUSE, &[READY, DECIDE]],
+            turn: FORGET_WAREHOUSE,
+            at: CutAt::BeforeRecord,
+            after: &[&[ROW_AT_WAREHOUSE, FORGET_WAREHOUSE]],
+        },
+    ),
+    (
+        10,
+        Cut {
+            node: 3,
+            before: &[&AT_HQ, &[PREPARE_HQ, COMMIT_HQ]],
+            turn: FORGET_HQ,
+            at: CutAt::BeforeRecord,
+            after: &[&[ROW_AT_HQ, FORGET_HQ]],
+        },
+    ),
+    (
+        7,
+        Cut {
+            node: 1,
+            before: &[&AT_SALES, &COLLECT, &[PASS]],
+            turn: LEARN,
+            at: CutAt::BeforeRecord,
+            after: &[&[KEY_IN_DOUBT_AT_SALES, LEARN]],
+        },
+    ),
 ];
 
 /// A point of the order that was not reached yet.
@@ -156,19 +164,19 @@ fn point(number: u8) -> Point {
 
 /// Whether the point cuts the turn where it should, and the disk is as it was exactly where that is before the record. None
 /// where memory runs out.
-fn is_cut(alloc: Global, node: &mut LoneNode, reach: &Reach) -> Option<bool> {
+fn is_cut(alloc: Global, node: &mut LoneNode, number: u8, cut: &Cut) -> Option<bool> {
     let before = node.bytes().to_vec(alloc).ok()?;
-    let at = node.cut(alloc, &reach.turn.0, &[point(reach.point)]);
+    let at = node.cut(alloc, &cut.turn.0, &[point(number)]);
     let is_unwritten = before.as_slice() == node.bytes();
-    Some(at == Some(reach.at) && is_unwritten == (reach.at == CutAt::BeforeRecord))
+    Some(at == Some(cut.at) && is_unwritten == (cut.at == CutAt::BeforeRecord))
 }
 
-/// Whether a turn is cut at its point, and the node starts from what is left and goes on as it should.
-fn is_reached(alloc: Global, reach: &Reach) -> bool {
-    match played(alloc, reach.node, reach.before) {
+/// Whether a turn is cut at the point of a number, and the node starts from what is left and goes on as it should.
+fn is_reached(alloc: Global, number: u8, cut: &Cut) -> bool {
+    match played(alloc, cut.node, cut.before) {
         Some(mut node) => {
-            let is_cut = is_cut(alloc, &mut node, reach) == Some(true);
-            goes_on(alloc, node, is_cut, reach.after)
+            let is_cut = matches!(is_cut(alloc, &mut node, number, cut), Some(true));
+            goes_on(alloc, node, is_cut, cut.after)
         }
         None => false,
     }
@@ -177,7 +185,8 @@ fn is_reached(alloc: Global, reach: &Reach) -> bool {
 /// The place of the first of the points above that is not reached so, from 0.
 fn first_unreached(alloc: Global) -> Option<usize> {
     for place in 0..REACHES.len() {
-        if !is_reached(alloc, &REACHES[place]) {
+        let (number, cut) = &REACHES[place];
+        if !is_reached(alloc, *number, cut) {
             return Some(place);
         }
     }
@@ -186,7 +195,7 @@ fn first_unreached(alloc: Global) -> Option<usize> {
 
 #[test]
 fn a_point_cuts_a_turn_before_its_record_or_after_it(rt: HostRuntime) {
-    assert!(rt; first_unreached(rt.alloc()) == None);
+    assert!(rt; first_unreached(rt.alloc()).is_none());
 }
 
 /// Whether the turn in which HQ is prepared is as it is without this point. None where there is no such node.
@@ -200,12 +209,12 @@ fn is_whole(alloc: Global, point: Point) -> Option<bool> {
 #[test]
 fn a_point_elsewhere_cuts_nothing(rt: HostRuntime) {
     // It is of another place, of another transaction, or was reached.
-    assert!(rt; is_whole(rt.alloc(), point(5)) == Some(true));
+    assert!(rt; matches!(is_whole(rt.alloc(), point(5)), Some(true)));
     let mut other = point(3);
     other.root.seq = 2;
-    assert!(rt; is_whole(rt.alloc(), other) == Some(true));
+    assert!(rt; matches!(is_whole(rt.alloc(), other), Some(true)));
     let mut reached = point(3);
     reached.reached = true;
-    assert!(rt; is_whole(rt.alloc(), reached) == Some(true));
-    assert!(rt; is_whole(rt.alloc(), point(3)) == Some(false));
+    assert!(rt; matches!(is_whole(rt.alloc(), reached), Some(true)));
+    assert!(rt; matches!(is_whole(rt.alloc(), point(3)), Some(false)));
 }

@@ -63,10 +63,10 @@ fn first_other_in_doubt(alloc: Global, parts: &[&[Step]]) -> Option<Turn> {
 
 #[test]
 fn a_branch_is_in_doubt_after_a_start_until_its_commit_comes(rt: HostRuntime) {
-    assert!(rt; first_other_in_doubt(rt.alloc(), COMMITS) == None);
+    assert!(rt; first_other_in_doubt(rt.alloc(), COMMITS).is_none());
 }
 
 #[test]
 fn a_branch_is_in_doubt_after_a_start_until_its_rollback_comes(rt: HostRuntime) {
-    assert!(rt; first_other_in_doubt(rt.alloc(), ROLLS_BACK) == None);
+    assert!(rt; first_other_in_doubt(rt.alloc(), ROLLS_BACK).is_none());
 }

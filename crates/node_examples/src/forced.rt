@@ -86,38 +86,51 @@ const COMMIT_COMES_LATE: &[&[Step]] = &[&[
     PURGE_MIXED,
 ]];
 
-/// Whether the one row that the node keeps is marked as mixed; none where it does not keep one.
-fn is_mixed(node: &LoneNode) -> Option<bool> {
+/// Whether the one row that the node keeps is marked so as mixed or not, or it does not keep one where that is due.
+fn is_marked(node: &LoneNode, due: Option<bool>) -> bool {
     match node.kept() {
-        [row] => Some(row.mixed),
-        _ => None,
+        [row] => due == Some(row.mixed),
+        _ => due.is_none(),
     }
 }
 
-/// The same before a start and after it, where HQ goes through these turns. None where one is not as expected.
-fn mixed_after(alloc: Global, parts: &[&[Step]]) -> Option<(Option<bool>, Option<bool>)> {
-    let node = played(alloc, 3, parts)?;
-    let before = is_mixed(&node);
-    let node = node.restart(alloc)?;
-    let after = is_mixed(&node);
-    node.end();
-    Some((before, after))
+/// Whether that is so before a start and after it, where HQ goes through these turns as expected.
+fn stays_marked(alloc: Global, parts: &[&[Step]], due: Option<bool>) -> bool {
+    match played(alloc, 3, parts) {
+        Some(node) => {
+            let before = is_marked(&node, due);
+            is_marked_after(alloc, node, due) && before
+        }
+        None => false,
+    }
+}
+
+/// Whether it is so after a start of the node, which then ends.
+fn is_marked_after(alloc: Global, node: LoneNode, due: Option<bool>) -> bool {
+    match node.restart(alloc) {
+        Some(node) => {
+            let is = is_marked(&node, due);
+            node.end();
+            is
+        }
+        None => false,
+    }
 }
 
 #[test]
 fn a_forced_rollback_that_meets_a_commit_is_mixed(rt: HostRuntime) {
-    assert!(rt; mixed_after(rt.alloc(), ROLLBACK_MEETS_COMMIT) == Some((Some(true), Some(true))));
+    assert!(rt; stays_marked(rt.alloc(), ROLLBACK_MEETS_COMMIT, Some(true)));
 }
 
 #[test]
 fn a_forced_commit_that_meets_a_rollback_is_mixed(rt: HostRuntime) {
-    assert!(rt; mixed_after(rt.alloc(), COMMIT_MEETS_ROLLBACK) == Some((Some(true), Some(true))));
+    assert!(rt; stays_marked(rt.alloc(), COMMIT_MEETS_ROLLBACK, Some(true)));
 }
 
 #[test]
 fn a_forced_outcome_that_meets_its_like_is_not_mixed(rt: HostRuntime) {
-    assert!(rt; mixed_after(rt.alloc(), COMMIT_MEETS_COMMIT) == Some((Some(false), Some(false))));
-    assert!(rt; mixed_after(rt.alloc(), ROLLBACK_MEETS_ROLLBACK) == Some((None, None)));
+    assert!(rt; stays_marked(rt.alloc(), COMMIT_MEETS_COMMIT, Some(false)));
+    assert!(rt; stays_marked(rt.alloc(), ROLLBACK_MEETS_ROLLBACK, None));
 }
 
 /// The first of those last turns that is not as expected.
@@ -131,5 +144,5 @@ fn first_other_when_forced(alloc: Global) -> Option<Turn> {
 
 #[test]
 fn a_forced_outcome_is_known_after_a_start(rt: HostRuntime) {
-    assert!(rt; first_other_when_forced(rt.alloc()) == None);
+    assert!(rt; first_other_when_forced(rt.alloc()).is_none());
 }

@@ -1,6 +1,6 @@
 //! The turns of HQ in the order: a child that is prepared and then commits.
-use crate::branches::{HQ, LEDGER, ROOT};
-use dtx_values::Done;
+use crate::branches::{LEDGER, ROOT};
+use crate::letters::{CHANGE_LEDGER, LEDGER_CHANGED, OPEN_LEDGER, OPENED_LEDGER};
 use lone_node::{Comes, Says, Step, Wrote};
 use redo_record::Decision;
 
@@ -16,50 +16,15 @@ pub(crate) const AT_HQ: [Step; 3] = [
         &[b"Table created."],
     ),
     (
-        Comes::Message((
-            ROOT,
-            HQ,
-            1,
-            Says::Open {
-                edge: 2,
-                root: ROOT,
-                depth: 2,
-            },
-        )),
+        Comes::Message(OPEN_LEDGER),
         Wrote::Nothing,
-        &[(
-            LEDGER,
-            ROOT,
-            1,
-            Says::Opened {
-                edge: 2,
-                strength: 75,
-            },
-        )],
+        &[OPENED_LEDGER],
         &[],
     ),
     (
-        Comes::Message((
-            ROOT,
-            LEDGER,
-            1,
-            Says::Exec {
-                call: 1,
-                room: 61,
-                text: b"INSERT INTO LEDGER VALUES (1, 250)",
-            },
-        )),
+        Comes::Message(CHANGE_LEDGER),
         Wrote::Nothing,
-        &[(
-            LEDGER,
-            ROOT,
-            1,
-            Says::Did {
-                call: 1,
-                weight: 75,
-                done: Done::Created,
-            },
-        )],
+        &[LEDGER_CHANGED],
         &[],
     ),
 ];

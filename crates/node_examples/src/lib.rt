@@ -14,6 +14,8 @@ mod forced;
 #[cfg(test)]
 mod hq;
 #[cfg(test)]
+mod letters;
+#[cfg(test)]
 mod lives;
 #[cfg(test)]
 mod orders;

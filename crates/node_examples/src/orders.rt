@@ -25,15 +25,15 @@ fn first_other(alloc: Global, number: u8, parts: &[&[Step]]) -> Option<Turn> {
 
 #[test]
 fn a_child_is_prepared_and_commits(rt: HostRuntime) {
-    assert!(rt; first_other(rt.alloc(), 3, LIFE_OF_HQ) == None);
+    assert!(rt; first_other(rt.alloc(), 3, LIFE_OF_HQ).is_none());
 }
 
 #[test]
 fn the_commit_point_site_decides(rt: HostRuntime) {
-    assert!(rt; first_other(rt.alloc(), 2, LIFE_OF_WAREHOUSE) == None);
+    assert!(rt; first_other(rt.alloc(), 2, LIFE_OF_WAREHOUSE).is_none());
 }
 
 #[test]
 fn a_root_commits_its_order(rt: HostRuntime) {
-    assert!(rt; first_other(rt.alloc(), 1, LIFE_OF_SALES) == None);
+    assert!(rt; first_other(rt.alloc(), 1, LIFE_OF_SALES).is_none());
 }

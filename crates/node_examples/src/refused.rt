@@ -1,7 +1,7 @@
 //! A statement that is refused changes no row, no lock and no byte of the log.
 use crate::hq::{AT_HQ, PREPARE_HQ};
 use crate::lives::played;
-use lone_node::{Comes, LoneNode, Step, Turn, Wrote};
+use lone_node::{Comes, LoneNode, Step, Wrote};
 use std::alloc::Global;
 
 /// A statement of session 1 that is refused, and the line that says so.
@@ -191,23 +191,27 @@ fn is_refused(alloc: Global, node: &mut LoneNode, refused: &Refused) -> Option<b
 /// The number of the first of them that is not refused so, from 0.
 fn first_unrefused(alloc: Global, node: &mut LoneNode) -> Option<usize> {
     for number in 0..REFUSED.len() {
-        if is_refused(alloc, node, &REFUSED[number]) != Some(true) {
+        if !matches!(is_refused(alloc, node, &REFUSED[number]), Some(true)) {
             return Some(number);
         }
     }
     None
 }
 
-/// The number of the first statement that is not refused as it should be, and the first turn after them that is not as expected.
-fn first_others(alloc: Global) -> Option<(Option<usize>, Option<Turn>)> {
-    let mut node = played(alloc, 3, BEFORE)?;
-    let unrefused = first_unrefused(alloc, &mut node);
-    let other = node.play(alloc, AFTER);
-    node.end();
-    Some((unrefused, other))
+/// Whether each statement is refused as it should be, and each turn after them is as expected.
+fn change_nothing(alloc: Global) -> bool {
+    match played(alloc, 3, BEFORE) {
+        Some(mut node) => {
+            let change_nothing = first_unrefused(alloc, &mut node).is_none()
+                && node.play(alloc, AFTER).is_none();
+            node.end();
+            change_nothing
+        }
+        None => false,
+    }
 }
 
 #[test]
 fn a_refused_statement_changes_nothing(rt: HostRuntime) {
-    assert!(rt; first_others(rt.alloc()) == Some((None, None)));
+    assert!(rt; change_nothing(rt.alloc()));
 }

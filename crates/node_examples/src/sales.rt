@@ -1,6 +1,9 @@
 //! The turns of SALES in the order: the root, which collects the other two and passes the decision on.
-use crate::branches::{HQ, LEDGER, ROOT, STOCK, WAREHOUSE};
-use dtx_values::Done;
+use crate::branches::{LEDGER, ROOT, STOCK};
+use crate::letters::{
+    CHANGE_LEDGER, CHANGE_STOCK, LEDGER_CHANGED, OPEN_LEDGER, OPEN_STOCK, OPENED_LEDGER,
+    OPENED_STOCK, STOCK_CHANGED,
+};
 use lone_node::{Comes, Says, Step, Wrote};
 use redo_record::Decision;
 
@@ -36,52 +39,17 @@ pub(crate) const AT_SALES: [Step; 10] = [
     (
         Comes::Call(1, b"UPDATE STOCK@WH SET N = N - 10 WHERE ITEM = 'BOLT'"),
         Wrote::Nothing,
-        &[(
-            ROOT,
-            WAREHOUSE,
-            0,
-            Says::Open {
-                edge: 1,
-                root: ROOT,
-                depth: 2,
-            },
-        )],
+        &[OPEN_STOCK],
         &[],
     ),
     (
-        Comes::Message((
-            STOCK,
-            ROOT,
-            1,
-            Says::Opened {
-                edge: 1,
-                strength: 140,
-            },
-        )),
+        Comes::Message(OPENED_STOCK),
         Wrote::Nothing,
-        &[(
-            ROOT,
-            STOCK,
-            1,
-            Says::Exec {
-                call: 1,
-                room: 62,
-                text: b"UPDATE STOCK SET N = N - 10 WHERE ITEM = 'BOLT'",
-            },
-        )],
+        &[CHANGE_STOCK],
         &[],
     ),
     (
-        Comes::Message((
-            STOCK,
-            ROOT,
-            1,
-            Says::Did {
-                call: 1,
-                weight: 140,
-                done: Done::Updated,
-            },
-        )),
+        Comes::Message(STOCK_CHANGED),
         Wrote::Nothing,
         &[],
         &[b"1 row updated."],
@@ -89,52 +57,17 @@ pub(crate) const AT_SALES: [Step; 10] = [
     (
         Comes::Call(1, b"INSERT INTO LEDGER@HQ VALUES (1, 250)"),
         Wrote::Nothing,
-        &[(
-            ROOT,
-            HQ,
-            1,
-            Says::Open {
-                edge: 2,
-                root: ROOT,
-                depth: 2,
-            },
-        )],
+        &[OPEN_LEDGER],
         &[],
     ),
     (
-        Comes::Message((
-            LEDGER,
-            ROOT,
-            1,
-            Says::Opened {
-                edge: 2,
-                strength: 75,
-            },
-        )),
+        Comes::Message(OPENED_LEDGER),
         Wrote::Nothing,
-        &[(
-            ROOT,
-            LEDGER,
-            1,
-            Says::Exec {
-                call: 1,
-                room: 61,
-                text: b"INSERT INTO LEDGER VALUES (1, 250)",
-            },
-        )],
+        &[CHANGE_LEDGER],
         &[],
     ),
     (
-        Comes::Message((
-            LEDGER,
-            ROOT,
-            1,
-            Says::Did {
-                call: 1,
-                weight: 75,
-                done: Done::Created,
-            },
-        )),
+        Comes::Message(LEDGER_CHANGED),
         Wrote::Nothing,
         &[],
         &[b"1 row created."],

@@ -147,9 +147,9 @@ const COUNTS: [u32; 12] = [0, 1, 3, 4, 5, 6, 9, 20, 30, 39, 80, 200];
 
 /// The first of these counts after which the node does not go on without the record.
 fn first_standing(alloc: Global, strike: &Strike) -> Option<u32> {
-    for count in COUNTS {
-        if !keeps(alloc, strike, 1, count, false) {
-            return Some(count);
+    for count in &COUNTS {
+        if !keeps(alloc, strike, 1, *count, false) {
+            return Some(*count);
         }
     }
     None
@@ -163,8 +163,8 @@ fn is_long(alloc: Global, strike: &Strike) -> bool {
 #[test]
 fn a_record_that_is_written_in_part_does_not_stand(rt: HostRuntime) {
     assert!(rt; is_long(rt.alloc(), SEAL) && is_long(rt.alloc(), DECISION));
-    assert!(rt; first_standing(rt.alloc(), SEAL) == None);
-    assert!(rt; first_standing(rt.alloc(), DECISION) == None);
+    assert!(rt; first_standing(rt.alloc(), SEAL).is_none());
+    assert!(rt; first_standing(rt.alloc(), DECISION).is_none());
 }
 
 /// Whether no bytes behind a closed gate are a record.
@@ -217,7 +217,12 @@ fn a_call_that_fails_writes_nothing(rt: HostRuntime) {
 
 #[test]
 fn an_order_past_the_calls_of_an_append_does_not_strike_it(rt: HostRuntime) {
-    assert!(rt; strikes(rt.alloc(), Order::Fault(5)) == Some(false));
+    assert!(rt; matches!(strikes(rt.alloc(), Order::Fault(5)), Some(false)));
     let how = How::Keep(0);
-    assert!(rt; strikes(rt.alloc(), Order::Stop(Stop { write: 3, how })) == Some(false));
+    assert!(rt;
+        matches!(
+            strikes(rt.alloc(), Order::Stop(Stop { write: 3, how })),
+            Some(false)
+        )
+    );
 }

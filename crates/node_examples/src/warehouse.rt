@@ -1,6 +1,6 @@
 //! The turns of WAREHOUSE in the order: the commit point site, which decides.
-use crate::branches::{ROOT, STOCK, WAREHOUSE};
-use dtx_values::Done;
+use crate::branches::{ROOT, STOCK};
+use crate::letters::{CHANGE_STOCK, OPEN_STOCK, OPENED_STOCK, STOCK_CHANGED};
 use lone_node::{Comes, Says, Step, Wrote};
 
 /// WAREHOUSE, until the order has changed a row there.
@@ -27,50 +27,15 @@ pub(crate) const AT_WAREHOUSE: [Step; 5] = [
         &[b"Commit complete."],
     ),
     (
-        Comes::Message((
-            ROOT,
-            WAREHOUSE,
-            0,
-            Says::Open {
-                edge: 1,
-                root: ROOT,
-                depth: 2,
-            },
-        )),
+        Comes::Message(OPEN_STOCK),
         Wrote::Nothing,
-        &[(
-            STOCK,
-            ROOT,
-            1,
-            Says::Opened {
-                edge: 1,
-                strength: 140,
-            },
-        )],
+        &[OPENED_STOCK],
         &[],
     ),
     (
-        Comes::Message((
-            ROOT,
-            STOCK,
-            1,
-            Says::Exec {
-                call: 1,
-                room: 62,
-                text: b"UPDATE STOCK SET N = N - 10 WHERE ITEM = 'BOLT'",
-            },
-        )),
+        Comes::Message(CHANGE_STOCK),
         Wrote::Nothing,
-        &[(
-            STOCK,
-            ROOT,
-            1,
-            Says::Did {
-                call: 1,
-                weight: 140,
-                done: Done::Updated,
-            },
-        )],
+        &[STOCK_CHANGED],
         &[],
     ),
 ];

@@ -1,8 +1,9 @@
 //! Worked scripts over several nodes, from the bytes of the script to the bytes of the report.
-use crate::worked::{Worked, holds};
+use crate::worked::{Worked, first_other};
 use script_run::Status;
 
 const ORDER: Worked = Worked {
+    what: "an order over two nodes commits",
     words: &["--book"],
     script: b"NODE SALES STRENGTH 100;
 NODE HQ STRENGTH 75;
@@ -31,6 +32,7 @@ ended HQ 1.65.1 commit scn 1
 };
 
 const LOST_DECISION: Worked = Worked {
+    what: "a decision that is lost leaves a branch in doubt",
     words: &[],
     script: b"NODE SALES STRENGTH 10;
 NODE HQ STRENGTH 75;
@@ -71,23 +73,16 @@ AT SALES SESSION 2: SELECT * FROM ORDERS;
 };
 
 const NODE_BEHIND_A_COMMAND: Worked = Worked {
+    what: "a node comes before other commands",
     words: &[],
     script: b"NODE A;\nSHOW BOOK;\nNODE B;\n",
     report: b"line 3: node after other commands\n",
     status: Status::BadScript,
 };
 
-#[test]
-fn an_order_over_two_nodes_commits(rt: HostRuntime) {
-    assert!(rt; holds(rt.alloc(), &ORDER) == Ok(true));
-}
+const ALL: [Worked; 3] = [ORDER, LOST_DECISION, NODE_BEHIND_A_COMMAND];
 
 #[test]
-fn a_decision_that_is_lost_leaves_a_branch_in_doubt(rt: HostRuntime) {
-    assert!(rt; holds(rt.alloc(), &LOST_DECISION) == Ok(true));
-}
-
-#[test]
-fn a_node_comes_before_other_commands(rt: HostRuntime) {
-    assert!(rt; holds(rt.alloc(), &NODE_BEHIND_A_COMMAND) == Ok(true));
+fn scripts_over_nodes_print_what_they_are_to_print(rt: HostRuntime) {
+    assert!(rt; first_other(rt.alloc(), &ALL).is_none());
 }

@@ -1,6 +1,6 @@
 //! How a run ends: words, and sources and sinks that fail.
 use dtx_ports::{MemSink, MemSource};
-use script_run::{Run, Status, run_script};
+use script_run::{Outcome, Status, run_script};
 use std::alloc::{AllocError, Global};
 
 /// How many bytes a sink takes.
@@ -22,24 +22,74 @@ pub(crate) type Ended = (Status, [usize; 3]);
 /// Of a run that does nothing.
 const NOTHING: [usize; 3] = [0; 3];
 
+/// Adds the word at the end.
+fn put_word(alloc: Global, words: &mut Vec<String>, word: &str) -> Result<(), AllocError> {
+    let word = String::from_str(alloc, word)?;
+    words.push(word)?;
+    Ok(())
+}
+
 /// The words of a command line.
 fn words_of(alloc: Global, words: &[&str]) -> Result<Vec<String>, AllocError> {
     let mut owned = Vec::new(alloc);
     for word in words {
-        owned.push(String::from_str(alloc, word)?)?;
+        put_word(alloc, &mut owned, *word)?;
     }
     Ok(owned)
 }
 
-fn counts(run: &Run) -> [usize; 3] {
-    [
+/// A source of these bytes, whose call of this number fails.
+fn source_of(alloc: Global, script: &[u8], failing: u32) -> Result<MemSource, AllocError> {
+    let script = script.to_vec(alloc)?;
+    let failing = Vec::from_slice(alloc, &[failing])?;
+    Ok(MemSource::new(script, failing))
+}
+
+/// A sink whose call of this number fails.
+fn sink_of(alloc: Global, failing: u32) -> Result<MemSink, AllocError> {
+    let failing = Vec::from_slice(alloc, &[failing])?;
+    MemSink::new(alloc, ROOM, failing)
+}
+
+fn end_of(outcome: &Outcome) -> Ended {
+    let run = &outcome.run;
+    let counts = [
         run.answers.as_slice().len(),
         run.trace.as_slice().len(),
         run.book.as_slice().len(),
-    ]
+    ];
+    (outcome.status, counts)
 }
 
-/// How a run of a script ends, where the calls of these numbers fail at the source and the sink, each but 0; nothing where
+/// How a run of a script ends.
+fn run(alloc: Global, words: &Vec<String>, source: &mut MemSource, sink: &mut MemSink) -> Ended {
+    let outcome = run_script(alloc, words, source, sink);
+    let end = end_of(&outcome);
+    drop(outcome);
+    end
+}
+
+/// How a run from a source ends, where the call of this number fails at the sink; None where it writes other bytes than are
+/// due.
+fn ended_from(
+    alloc: Global,
+    words: &Vec<String>,
+    source: &mut MemSource,
+    write: u32,
+    due: &[u8],
+) -> Option<Ended> {
+    match sink_of(alloc, write) {
+        Ok(mut sink) => {
+            let end = run(alloc, words, source, &mut sink);
+            let is_due = sink.bytes() == due;
+            drop(sink);
+            if is_due { Some(end) } else { None }
+        }
+        Err(_) => None,
+    }
+}
+
+/// How a run of a script ends, where the calls of these numbers fail at the source and the sink, each but 0; None where
 /// it writes other bytes than are due.
 pub(crate) fn ended(
     alloc: Global,
@@ -47,64 +97,114 @@ pub(crate) fn ended(
     script: &[u8],
     (read, write): (u32, u32),
     due: &[u8],
-) -> Result<Option<Ended>, AllocError> {
-    let words = words_of(alloc, words)?;
-    let mut source = MemSource::new(script.to_vec(alloc)?, [read].to_vec(alloc)?);
-    let mut sink = MemSink::new(alloc, ROOM, [write].to_vec(alloc)?)?;
-    let outcome = run_script(alloc, &words, &mut source, &mut sink);
-    let ended = (outcome.status, counts(&outcome.run));
-    Ok(if sink.bytes() == due {
-        Some(ended)
-    } else {
-        None
-    })
+) -> Option<Ended> {
+    let words = words_of(alloc, words).ok()?;
+    match source_of(alloc, script, read) {
+        Ok(mut source) => {
+            let end = ended_from(alloc, &words, &mut source, write, due);
+            drop(source);
+            end
+        }
+        Err(_) => None,
+    }
+}
+
+/// What is shown, the words of a command line, a script, the calls that fail, the bytes that are due, and the end.
+type Case = (
+    &'static str,
+    &'static [&'static str],
+    &'static [u8],
+    (u32, u32),
+    &'static [u8],
+    Ended,
+);
+
+const CASES: [Case; 7] = [
+    (
+        "a script is run to its end",
+        &[],
+        SCRIPT,
+        (0, 0),
+        REPORT,
+        (Status::Done, [5, 9, 2]),
+    ),
+    (
+        "a read that fails runs nothing",
+        &[],
+        SCRIPT,
+        (2, 0),
+        b"",
+        (Status::ReadFault, NOTHING),
+    ),
+    (
+        "a write that fails keeps the run",
+        &[],
+        SCRIPT,
+        (0, 1),
+        b"",
+        (Status::WriteFault, [5, 9, 2]),
+    ),
+    (
+        "an unknown word is answered by the usage line",
+        &["--frob"],
+        SCRIPT,
+        (0, 0),
+        b"usage: dtx [--book] [--make N]\n",
+        (Status::Usage, NOTHING),
+    ),
+    (
+        "the usage line may fail to be written",
+        &["--frob"],
+        SCRIPT,
+        (0, 1),
+        b"",
+        (Status::WriteFault, NOTHING),
+    ),
+    (
+        "a bad command is answered by its line",
+        &[],
+        b"FROB;",
+        (0, 0),
+        b"line 1: bad command\n",
+        (Status::BadScript, NOTHING),
+    ),
+    (
+        "its line may fail to be written",
+        &[],
+        b"FROB;",
+        (0, 1),
+        b"",
+        (Status::WriteFault, NOTHING),
+    ),
+];
+
+/// The first of these runs that ends otherwise.
+fn first_other(alloc: Global, cases: &[Case]) -> Option<&'static str> {
+    for (what, words, script, failing, due, end) in cases {
+        if ended(alloc, *words, *script, *failing, *due) != Some(*end) {
+            return Some(*what);
+        }
+    }
+    None
 }
 
 #[test]
-fn a_script_is_run_to_its_end(rt: HostRuntime) {
-    let run = ended(rt.alloc(), &[], SCRIPT, (0, 0), REPORT);
-    assert!(rt; run == Ok(Some((Status::Done, [5, 9, 2]))));
-}
-
-#[test]
-fn a_read_that_fails_runs_nothing(rt: HostRuntime) {
-    let run = ended(rt.alloc(), &[], SCRIPT, (2, 0), b"");
-    assert!(rt; run == Ok(Some((Status::ReadFault, NOTHING))));
-}
-
-#[test]
-fn a_write_that_fails_keeps_the_run(rt: HostRuntime) {
-    let run = ended(rt.alloc(), &[], SCRIPT, (0, 1), b"");
-    assert!(rt; run == Ok(Some((Status::WriteFault, [5, 9, 2]))));
-}
-
-#[test]
-fn an_unknown_word_is_answered_by_the_usage_line(rt: HostRuntime) {
-    let usage = b"usage: dtx [--book] [--make N]\n";
-    let told = ended(rt.alloc(), &["--frob"], SCRIPT, (0, 0), usage);
-    assert!(rt; told == Ok(Some((Status::Usage, NOTHING))));
-    let untold = ended(rt.alloc(), &["--frob"], SCRIPT, (0, 1), b"");
-    assert!(rt; untold == Ok(Some((Status::WriteFault, NOTHING))));
-}
-
-#[test]
-fn a_bad_command_is_answered_by_its_line(rt: HostRuntime) {
-    let told = ended(rt.alloc(), &[], b"FROB;", (0, 0), b"line 1: bad command\n");
-    assert!(rt; told == Ok(Some((Status::BadScript, NOTHING))));
-    let untold = ended(rt.alloc(), &[], b"FROB;", (0, 1), b"");
-    assert!(rt; untold == Ok(Some((Status::WriteFault, NOTHING))));
+fn runs_end_by_their_words_scripts_and_ports(rt: HostRuntime) {
+    assert!(rt; first_other(rt.alloc(), &CASES).is_none());
 }
 
 /// How a run of so many blanks ends.
-fn blanks_end(alloc: Global, length: usize) -> Result<Option<Ended>, AllocError> {
-    let blanks = vec![in alloc; b' '; length]?;
-    ended(alloc, &[], &blanks, (0, 0), b"")
+fn blanks_end(alloc: Global, length: usize) -> Option<Ended> {
+    match vec![in alloc; b' '; length] {
+        Ok(blanks) => ended(alloc, &[], &blanks, (0, 0), b""),
+        Err(_) => None,
+    }
 }
 
 #[test]
 fn the_longest_script_is_read_and_no_longer_one(rt: HostRuntime) {
     let longest = blanks_end(rt.alloc(), LONGEST);
-    assert!(rt; longest == Ok(Some((Status::Done, NOTHING))));
+    assert!(rt; matches!(longest, Some((Status::Done, NOTHING))));
     let longer = blanks_end(rt.alloc(), LONGEST + 1);
-    assert!(rt; longer == Ok(Some((Status::TooLong, NOTHING))));
+    assert!(rt; matches!(longer, Some((Status::TooLong, NOTHING))));
 }

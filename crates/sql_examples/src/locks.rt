@@ -47,87 +47,100 @@ fn take_first(alloc: Global, locks: &mut Locks, emp: &Name, first: First) -> Res
     Ok(())
 }
 
-/// Locks with the key alone, which the first branch has taken.
-fn taken(alloc: Global, emp: &Name, first: First) -> Result<Locks, LockErr> {
-    let mut locks = Locks::new(alloc);
-    match take_first(alloc, &mut locks, emp, first) {
-        Ok(()) => Ok(locks),
-        Err(error) => {
+/// What becomes of the first branch, the branch that holds the key then and whether it is in doubt, and what the second is
+/// told where it takes the key only to read its row.
+type Case = (First, Option<(BranchId, bool)>, Result<(), LockErr>);
+
+const CASES: [Case; 3] = [
+    (
+        First::Live,
+        Some((FIRST, false)),
+        Err(LockErr::Held {
+            by: FIRST,
+            in_doubt: false,
+        }),
+    ),
+    (
+        First::InDoubt,
+        Some((FIRST, true)),
+        Err(LockErr::Held {
+            by: FIRST,
+            in_doubt: true,
+        }),
+    ),
+    (First::Ended, None, Ok(())),
+];
+
+/// Whether the holder of the key is named so, and the second branch told so.
+fn are_told(alloc: Global, locks: &mut Locks, emp: &Name, case: &Case) -> bool {
+    let (first, holder, told) = *case;
+    let key = Value::Number(KEY);
+    let are = take_first(alloc, locks, emp, first).is_ok()
+        && locks.holder(emp, &key) == holder
+        && locks.take(alloc, &SECOND, emp, &key, false) == told;
+    drop(key);
+    are
+}
+
+/// Whether that is so of new locks.
+fn is_right(alloc: Global, case: &Case) -> bool {
+    match emp(alloc) {
+        Ok(emp) => {
+            let mut locks = Locks::new(alloc);
+            let is = are_told(alloc, &mut locks, &emp, case);
             drop(locks);
-            Err(error)
+            is
+        }
+        Err(_) => false,
+    }
+}
+
+/// The place of the first case that is otherwise, from 0.
+fn first_other(alloc: Global) -> Option<usize> {
+    for place in 0..CASES.len() {
+        if !is_right(alloc, &CASES[place]) {
+            return Some(place);
         }
     }
-}
-
-/// What the second branch is told where it takes the key only to read its row.
-fn told(alloc: Global, first: First) -> Result<(), LockErr> {
-    let emp = emp(alloc)?;
-    let mut locks = taken(alloc, &emp, first)?;
-    let told = locks.take(alloc, &SECOND, &emp, &Value::Number(KEY), false);
-    drop(locks);
-    told
+    None
 }
 
 #[test]
-fn a_key_is_held_until_its_branch_ends(rt: HostRuntime) {
-    for (first, due) in [
-        (
-            First::Live,
-            Err(LockErr::Held {
-                by: FIRST,
-                in_doubt: false,
-            }),
-        ),
-        (
-            First::InDoubt,
-            Err(LockErr::Held {
-                by: FIRST,
-                in_doubt: true,
-            }),
-        ),
-        (First::Ended, Ok(())),
-    ] {
-        assert!(rt; told(rt.alloc(), first) == due);
-    }
+fn a_key_is_held_in_the_name_of_its_branch_until_it_ends(rt: HostRuntime) {
+    assert!(rt; first_other(rt.alloc()).is_none());
 }
 
-/// The branch that holds the key, and whether it is in doubt.
-fn holder(alloc: Global, first: First) -> Result<Option<(BranchId, bool)>, LockErr> {
-    let emp = emp(alloc)?;
-    let locks = taken(alloc, &emp, first)?;
-    let holder = locks.holder(&emp, &Value::Number(KEY));
-    drop(locks);
-    Ok(holder)
-}
-
-#[test]
-fn the_holder_of_a_key_is_named(rt: HostRuntime) {
-    for (first, due) in [
-        (First::Live, Some((FIRST, false))),
-        (First::InDoubt, Some((FIRST, true))),
-        (First::Ended, None),
-    ] {
-        assert!(rt; holder(rt.alloc(), first) == Ok(due));
-    }
-}
-
-/// The keys that are left of the first branch once it has read another row, and gives back those that it only read.
+/// The keys that are left of the first branch once it took the key, has read another row, and gives back those that it
+/// only read.
 fn keys_kept(alloc: Global, locks: &mut Locks, emp: &Name) -> Result<Keys, LockErr> {
+    take_first(alloc, locks, emp, First::Live)?;
     locks.take(alloc, &FIRST, emp, &Value::Number(1), false)?;
     locks.drop_reads(&FIRST);
     Ok(locks.keys(alloc, emp)?)
 }
 
+/// Whether the key is there alone.
+fn is_alone(keys: Result<Keys, LockErr>) -> bool {
+    match keys {
+        Ok(keys) => matches!(keys.as_slice(), [Value::Number(KEY)]),
+        Err(_) => false,
+    }
+}
+
 /// Whether the key alone is left.
-fn keeps_the_key(alloc: Global) -> Result<bool, LockErr> {
-    let emp = emp(alloc)?;
-    let mut locks = taken(alloc, &emp, First::Live)?;
-    let left = keys_kept(alloc, &mut locks, &emp);
-    drop(locks);
-    Ok(left?.as_slice() == [Value::Number(KEY)].as_slice())
+fn keeps_the_key(alloc: Global) -> bool {
+    match emp(alloc) {
+        Ok(emp) => {
+            let mut locks = Locks::new(alloc);
+            let left = keys_kept(alloc, &mut locks, &emp);
+            drop(locks);
+            is_alone(left)
+        }
+        Err(_) => false,
+    }
 }
 
 #[test]
 fn keys_that_were_only_read_are_given_back(rt: HostRuntime) {
-    assert!(rt; keeps_the_key(rt.alloc()) == Ok(true));
+    assert!(rt; keeps_the_key(rt.alloc()));
 }

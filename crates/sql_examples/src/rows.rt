@@ -48,23 +48,46 @@ pub(crate) fn change(
 ) -> Result<Change, AllocError>
     ensures { IfOk result (λ change. change.table ≡ table.now) }
 {
-    Ok(Change {
-        table: table.copy(alloc)?,
-        key,
-        after,
-    })
+    match table.copy(alloc) {
+        Ok(table) => Ok(Change { table, key, after }),
+        Err(error) => {
+            drop(key);
+            drop(after);
+            Err(error)
+        }
+    }
 }
 
-// Changes of the table at these keys: each to a row of one number, or to none.
+// A change of the table at a key to a row of one number, or to none.
+fn cell_change(alloc: Global, table: &Name, cell: &Cell) -> Result<Change, AllocError>
+    ensures { IfOk result (λ change. change.table ≡ table.now) }
+{
+    let after = row_or_none(alloc, cell.1)?;
+    change(alloc, table, Value::Number(cell.0), after)
+}
+
+// Such changes of the table at these keys.
 pub(crate) fn changes(alloc: Global, table: &Name, cells: &[Cell]) -> Result<Changes, AllocError>
     ensures { IfOk result (λ changes. AllByRecursion (λ c. c.table ≡ table.now) changes) }
 {
     let mut changes = Changes::new(alloc);
-    for (key, cell) in cells {
-        let after = row_or_none(alloc, *cell)?;
-        changes.push(change(alloc, table, Value::Number(*key), after)?)?;
+    for cell in cells {
+        changes.push(cell_change(alloc, table, cell)?)?;
     }
     Ok(changes)
+}
+
+// A change of the table to a row at this key.
+fn row_change(alloc: Global, table: &Name, key: Value) -> Result<Change, AllocError>
+    ensures { IfOk result (λ change. change.table ≡ table.now) }
+{
+    match row(alloc, 0) {
+        Ok(after) => change(alloc, table, key, Some(after)),
+        Err(error) => {
+            drop(key);
+            Err(error)
+        }
+    }
 }
 
 // Changes of the table to rows at these keys.
@@ -73,8 +96,7 @@ fn rows_at(alloc: Global, table: &Name, keys: Vec<Value>) -> Result<Changes, All
 {
     let mut changes = Changes::new(alloc);
     for key in keys {
-        let after = row(alloc, 0)?;
-        changes.push(change(alloc, table, key, Some(after))?)?;
+        changes.push(row_change(alloc, table, key)?)?;
     }
     Ok(changes)
 }
@@ -143,7 +165,10 @@ fn gives_in_order(alloc: Global, store: &mut Store, table: &Name) -> Result<bool
     requires { has_table store.old.rows table.now ≡ true }
 {
     put_shuffled(alloc, store, table)?;
-    Ok(are_in_order(&store.all(alloc, &ME, table)?))
+    match store.all(alloc, &ME, table) {
+        Ok(rows) => Ok(are_in_order(&rows)),
+        Err(error) => Err(error),
+    }
 }
 
 /// Whether rows that came in another order are given in the order of their keys.
@@ -157,7 +182,7 @@ fn are_given_in_order(alloc: Global) -> Result<bool, AllocError> {
 
 #[test]
 fn rows_stand_in_key_order(rt: HostRuntime) {
-    assert!(rt; are_given_in_order(rt.alloc()) == Ok(true));
+    assert!(rt; matches!(are_given_in_order(rt.alloc()), Ok(true)));
 }
 
 /// Puts the row 1 twice and the row 2 once. The keys in `removed` have no row any more then.
@@ -174,65 +199,69 @@ fn put_again(
     put(alloc, store, table, removed)
 }
 
-/// A store with a table in which that was done.
-fn left(alloc: Global, table: &Name, removed: &[Cell]) -> Result<Store, AllocError> {
-    let mut store = store_of(alloc, table, 0)?;
-    match put_again(alloc, &mut store, table, removed) {
-        Ok(()) => Ok(store),
-        Err(error) => {
-            drop(store);
-            Err(error)
-        }
-    }
-}
-
 /// The number of the row that a branch sees at a key.
 fn number_at(store: &Store, branch: &BranchId, table: &Name, key: i64) -> Option<i64> {
-    let row = store.view(branch, table, &Value::Number(key))?;
-    match row.cells.as_slice() {
+    let key = Value::Number(key);
+    let number = match store.view(branch, table, &key) {
+        Some(row) => first_number(row.cells.as_slice()),
+        None => None,
+    };
+    drop(key);
+    number
+}
+
+fn first_number(cells: &[Value]) -> Option<i64> {
+    match cells {
         [Value::Number(cell), ..] => Some(*cell),
         _ => None,
     }
 }
 
-/// The number of the row at a key once the rows at these keys were removed.
-fn left_at(alloc: Global, removed: &[Cell], key: i64) -> Result<Option<i64>, AllocError> {
+/// The number of the row at a key, if there is one, and how many rows there are in all.
+type Left = (Option<i64>, usize);
+
+/// What is left of the table.
+fn left_in(alloc: Global, store: &Store, table: &Name, key: i64) -> Result<Left, AllocError> {
+    let number = number_at(store, &ME, table, key);
+    let count = store.all(alloc, &ME, table)?.len();
+    Ok((number, count))
+}
+
+/// The same once the rows at these keys were removed.
+fn left(alloc: Global, removed: &[Cell], key: i64) -> Result<Left, AllocError> {
     let table = table(alloc)?;
-    let store = left(alloc, &table, removed)?;
-    let number = number_at(&store, &ME, &table, key);
+    let mut store = store_of(alloc, &table, 0)?;
+    let left = match put_again(alloc, &mut store, &table, removed) {
+        Ok(()) => left_in(alloc, &store, &table, key),
+        Err(error) => Err(error),
+    };
     drop(store);
-    Ok(number)
+    left
+}
+
+/// Keys that are removed, and what is left at a key.
+const REMOVED: [(&[Cell], i64, Left); 5] = [
+    (&[], 1, (Some(30), 2)),
+    (&[(3, None), (1, None)], 1, (None, 1)),
+    (&[(3, None), (1, None)], 2, (Some(20), 1)),
+    (&[(3, None)], 3, (None, 2)),
+    (&[(1, None), (2, None)], 1, (None, 0)),
+];
+
+/// The place of the first case in which something else is left, from 0.
+fn first_other_left(alloc: Global) -> Option<usize> {
+    for place in 0..REMOVED.len() {
+        let (removed, key, due) = REMOVED[place];
+        if left(alloc, removed, key) != Ok(due) {
+            return Some(place);
+        }
+    }
+    None
 }
 
 #[test]
 fn a_key_has_its_last_row_until_it_is_removed(rt: HostRuntime) {
-    for (removed, key, left) in [
-        ([].as_slice(), 1, Some(30)),
-        (&[(3, None), (1, None)], 1, None),
-        (&[(3, None), (1, None)], 2, Some(20)),
-    ] {
-        assert!(rt; left_at(rt.alloc(), removed, key) == Ok(left));
-    }
-}
-
-/// How many rows a table has.
-fn count_in(alloc: Global, store: &Store, table: &Name) -> Result<usize, AllocError> {
-    Ok(store.all(alloc, &ME, table)?.len())
-}
-
-/// How many rows are left once those at these keys were removed.
-fn count_left(alloc: Global, removed: &[Cell]) -> Result<usize, AllocError> {
-    let table = table(alloc)?;
-    let store = left(alloc, &table, removed)?;
-    let count = count_in(alloc, &store, &table);
-    drop(store);
-    count
-}
-
-#[test]
-fn only_rows_that_are_there_are_removed(rt: HostRuntime) {
-    assert!(rt; count_left(rt.alloc(), &[(3, None)]) == Ok(2));
-    assert!(rt; count_left(rt.alloc(), &[(1, None), (2, None)]) == Ok(0));
+    assert!(rt; first_other_left(rt.alloc()).is_none());
 }
 
 /// Puts committed rows at the keys 1, 2 and 3. Then a branch changes the row 1 twice, removes the row 2 and inserts the row
@@ -244,18 +273,6 @@ fn change_rows(alloc: Global, store: &mut Store, table: &Name) -> Result<(), Sto
     put(alloc, store, table, &rows)?;
     let cells = [(1, Some(11)), (2, None), (4, Some(40)), (1, Some(12))];
     store.set_pending(alloc, &ME, changes(alloc, table, &cells)?)
-}
-
-/// A store with a table in which that was done.
-fn changed(alloc: Global, table: &Name) -> Result<Store, StoreErr> {
-    let mut store = store_of(alloc, table, 1)?;
-    match change_rows(alloc, &mut store, table) {
-        Ok(()) => Ok(store),
-        Err(error) => {
-            drop(store);
-            Err(error)
-        }
-    }
 }
 
 /// The number at a key, whether there is a row, and how many rows there are in all.
@@ -273,36 +290,41 @@ fn seen(
     Ok((number_at(store, branch, table, key), is_there, all.len()))
 }
 
-/// What a branch sees of the table.
-fn seen_by(alloc: Global, branch: &BranchId, key: i64) -> Result<Seen, StoreErr> {
-    let table = table(alloc)?;
-    let store = changed(alloc, &table)?;
-    let seen = seen(alloc, &store, branch, &table, key);
+/// What a branch sees of the table once that was done.
+fn seen_by(alloc: Global, branch: &BranchId, key: i64) -> Option<Seen> {
+    let table = table(alloc).ok()?;
+    let mut store = store_of(alloc, &table, 1).ok()?;
+    let seen = match change_rows(alloc, &mut store, &table) {
+        Ok(()) => seen(alloc, &store, branch, &table, key).ok(),
+        Err(_) => None,
+    };
     drop(store);
-    Ok(seen?)
+    seen
+}
+
+/// A branch, a key, and what the branch sees: its own changes over committed rows, and another branch those alone.
+const SEEN: [(BranchId, i64, Seen); 7] = [
+    (ME, 1, (Some(12), true, 3)),
+    (ME, 2, (None, false, 3)),
+    (ME, 3, (Some(30), true, 3)),
+    (ME, 4, (Some(40), true, 3)),
+    (OTHER, 1, (Some(10), true, 3)),
+    (OTHER, 2, (Some(20), true, 3)),
+    (OTHER, 4, (None, false, 3)),
+];
+
+/// The place of the first case in which a branch sees something else, from 0.
+fn first_other_seen(alloc: Global) -> Option<usize> {
+    for place in 0..SEEN.len() {
+        let (branch, key, due) = SEEN[place];
+        if seen_by(alloc, &branch, key) != Some(due) {
+            return Some(place);
+        }
+    }
+    None
 }
 
 #[test]
 fn own_changes_are_seen_over_committed_rows(rt: HostRuntime) {
-    for (key, cell, is_there) in [
-        (1, Some(12), true),
-        (2, None, false),
-        (3, Some(30), true),
-        (4, Some(40), true),
-    ] {
-        assert!(rt;
-            seen_by(rt.alloc(), &ME, key) == Ok((cell, is_there, 3)),
-            "at {key}"
-        );
-    }
-}
-
-#[test]
-fn another_branch_sees_the_committed_rows(rt: HostRuntime) {
-    for (key, cell, is_there) in [(1, Some(10), true), (2, Some(20), true), (4, None, false)] {
-        assert!(rt;
-            seen_by(rt.alloc(), &OTHER, key) == Ok((cell, is_there, 3)),
-            "at {key}"
-        );
-    }
+    assert!(rt; first_other_seen(rt.alloc()).is_none());
 }

@@ -14,7 +14,6 @@ use row_store::Store;
 use sql_statement::Stmt;
 use std::alloc::{AllocError, Global};
 use stmt_store::run;
-use token_grammar::ReadErr;
 use tran_ids::BranchId;
 
 const ME: BranchId = BranchId {
@@ -201,17 +200,22 @@ fn code_over(
     among_staff(alloc, statement, locks)
 }
 
-fn raise_code(alloc: Global, in_doubt: bool) -> Result<u16, ReadErr> {
-    let raise = statement(alloc, b"UPDATE EMP SET SAL = SAL + 1")?;
-    let mut locks = Locks::new(alloc);
-    let code = code_over(alloc, &raise, &mut locks, in_doubt);
-    drop(locks);
-    drop(raise);
-    Ok(code?)
+/// The same of a statement that raises all salaries, or 0 where memory runs out.
+fn raise_code(alloc: Global, in_doubt: bool) -> u16 {
+    match statement(alloc, b"UPDATE EMP SET SAL = SAL + 1") {
+        Ok(raise) => {
+            let mut locks = Locks::new(alloc);
+            let code = code_over(alloc, &raise, &mut locks, in_doubt);
+            drop(locks);
+            drop(raise);
+            code.unwrap_or(0)
+        }
+        Err(_) => 0,
+    }
 }
 
 #[test]
 fn a_key_in_doubt_refuses_before_a_key_that_is_held(rt: HostRuntime) {
-    assert!(rt; raise_code(rt.alloc(), true) == Ok(1591));
-    assert!(rt; raise_code(rt.alloc(), false) == Ok(2049));
+    assert!(rt; raise_code(rt.alloc(), true) == 1591);
+    assert!(rt; raise_code(rt.alloc(), false) == 2049);
 }

@@ -1,21 +1,17 @@
 //! What no clause says of statements: texts that are statements, texts that are none, and how statements are printed.
+use dtx_values::Bytes;
 use sql_parse::{ParseErr, parse};
 use sql_print::print_stmt;
 use sql_statement::Stmt;
 use std::alloc::{AllocError, Global};
-use token_grammar::ReadErr;
 
 /// The statement of a text.
-pub(crate) fn statement(alloc: Global, text: &[u8]) -> Result<Box<Stmt>, ReadErr> {
-    match parse(alloc, text) {
-        Ok(statement) => Ok(Box::new(alloc, statement)?),
-        Err(ParseErr::BadSql) => Err(ReadErr::Bad),
-        Err(ParseErr::NoMemory) => Err(ReadErr::NoMemory),
-    }
+pub(crate) fn statement(alloc: Global, text: &[u8]) -> Result<Stmt, ParseErr> {
+    parse(alloc, text)
 }
 
 /// Why a text is no statement.
-fn refusal(alloc: Global, text: &[u8]) -> Option<ReadErr> {
+fn refusal(alloc: Global, text: &[u8]) -> Option<ParseErr> {
     match statement(alloc, text) {
         Ok(statement) => {
             drop(statement);
@@ -23,14 +19,6 @@ fn refusal(alloc: Global, text: &[u8]) -> Option<ReadErr> {
         }
         Err(error) => Some(error),
     }
-}
-
-fn is_statement(alloc: Global, text: &[u8]) -> bool {
-    refusal(alloc, text).is_none()
-}
-
-fn is_refused(alloc: Global, text: &[u8]) -> bool {
-    refusal(alloc, text) == Some(ReadErr::Bad)
 }
 
 /// Texts that are statements.
@@ -62,11 +50,19 @@ const STATEMENTS: [&[u8]; 25] = [
     b"EXECUTE DBMS_TRANSACTION.PURGE_LOST_DB_ENTRY ( '' )",
 ];
 
+/// The first of these texts that is not read.
+fn first_refused(alloc: Global) -> Option<&'static [u8]> {
+    for text in &STATEMENTS {
+        if refusal(alloc, *text).is_some() {
+            return Some(*text);
+        }
+    }
+    None
+}
+
 #[test]
 fn statements_are_read(rt: HostRuntime) {
-    for text in STATEMENTS {
-        assert!(rt; is_statement(rt.alloc(), text));
-    }
+    assert!(rt; first_refused(rt.alloc()).is_none());
 }
 
 /// Texts that are no statement.
@@ -109,11 +105,19 @@ const NO_STATEMENTS: [&[u8]; 36] = [
     b"EXEC DBMS_TRANSACTION.PURGE_MIXED '1'",
 ];
 
+/// The first of these texts that is not refused.
+fn first_read(alloc: Global) -> Option<&'static [u8]> {
+    for text in &NO_STATEMENTS {
+        if !matches!(refusal(alloc, *text), Some(ParseErr::BadSql)) {
+            return Some(*text);
+        }
+    }
+    None
+}
+
 #[test]
 fn other_texts_are_refused(rt: HostRuntime) {
-    for text in NO_STATEMENTS {
-        assert!(rt; is_refused(rt.alloc(), text));
-    }
+    assert!(rt; first_read(rt.alloc()).is_none());
 }
 
 /// Statements, each with the text that it is printed as.
@@ -153,43 +157,39 @@ const PRINTED: [(&[u8], &[u8]); 9] = [
     ),
 ];
 
+/// Whether there is a text, and it is the one that is due.
+fn is_text(text: Result<Bytes, AllocError>, due: &[u8]) -> bool {
+    match text {
+        Ok(text) => text.as_slice() == due,
+        Err(_) => false,
+    }
+}
+
 /// Whether the statement of a text is printed so.
 fn is_printed_as(alloc: Global, text: &[u8], printed: &[u8]) -> bool {
     match statement(alloc, text) {
         Ok(statement) => {
-            let is = is_printed(alloc, &statement, printed);
+            let text = print_stmt(alloc, &statement);
             drop(statement);
-            is
+            is_text(text, printed)
         }
         Err(_) => false,
     }
 }
 
-fn is_printed(alloc: Global, statement: &Stmt, printed: &[u8]) -> bool {
-    matches!(&print_stmt(alloc, statement), Ok(text) if text.as_slice() == printed)
+/// The first of these texts whose statement is printed in another way.
+fn first_other_print(alloc: Global) -> Option<&'static [u8]> {
+    for (text, printed) in &PRINTED {
+        if !is_printed_as(alloc, *text, *printed) {
+            return Some(*text);
+        }
+    }
+    None
 }
 
 #[test]
 fn statements_are_printed_in_one_way(rt: HostRuntime) {
-    for (text, printed) in PRINTED {
-        assert!(rt; is_printed_as(rt.alloc(), text, printed));
-    }
-}
-
-// The front, so many times the piece, and the end.
-fn repeated(
-    alloc: Global,
-    front: &[u8],
-    piece: &[u8],
-    count: usize,
-    end: &[u8],
-) -> Result<Vec<u8>, AllocError> {
-    let mut text = front.to_vec(alloc)?;
-    for _ in 0..count {
-        text.extend_from_slice(piece)?;
-    }
-    text.extend_from_slice(end)?;
-    Ok(text)
+    assert!(rt; first_other_print(rt.alloc()).is_none());
 }
 
 /// A text's front, the piece that stands so many times at most, and the end.
@@ -202,16 +202,42 @@ const LIMITS: [Limit; 4] = [
     (b"SELECT A", b", A", 254, b" FROM T"),
 ];
 
+/// Adds the front, so many times the piece, and the end.
+fn put(text: &mut Vec<u8>, limit: &Limit, count: usize) -> Result<(), AllocError> {
+    text.extend_from_slice(limit.0)?;
+    for _ in 0..count {
+        text.extend_from_slice(limit.1)?;
+    }
+    text.extend_from_slice(limit.3)
+}
+
+/// Why that text is no statement.
+fn refusal_of(alloc: Global, limit: &Limit, count: usize) -> Option<ParseErr> {
+    let mut text = Vec::new(alloc);
+    match put(&mut text, limit, count) {
+        Ok(()) => refusal(alloc, &text),
+        Err(_) => Some(ParseErr::NoMemory),
+    }
+}
+
 /// Whether the text is a statement with the piece as often as it may stand, and refused where it stands once more.
-fn ends(alloc: Global, (front, piece, most, end): Limit) -> Result<bool, AllocError> {
-    let longest = repeated(alloc, front, piece, usize::from(most), end)?;
-    let longer = repeated(alloc, front, piece, usize::from(most) + 1, end)?;
-    Ok(is_statement(alloc, &longest) && is_refused(alloc, &longer))
+fn ends(alloc: Global, limit: &Limit) -> bool {
+    let most = usize::from(limit.2);
+    refusal_of(alloc, limit, most).is_none()
+        && matches!(refusal_of(alloc, limit, most + 1), Some(ParseErr::BadSql))
+}
+
+/// The front of the first text that ends elsewhere.
+fn first_other_limit(alloc: Global) -> Option<&'static [u8]> {
+    for limit in &LIMITS {
+        if !ends(alloc, limit) {
+            return Some(limit.0);
+        }
+    }
+    None
 }
 
 #[test]
 fn texts_end_at_their_limits(rt: HostRuntime) {
-    for limit in LIMITS {
-        assert!(rt; ends(rt.alloc(), limit) == Ok(true));
-    }
+    assert!(rt; first_other_limit(rt.alloc()).is_none());
 }

@@ -1,54 +1,13 @@
 //! A store refuses the changes of a statement that take too many bytes, tells how many they take, and stays as it was.
-ghost use Rattle.std.specs.Prelude.{◌≡◌, true, IfOk};
-ghost use Rattle.std.specs.List.{AllByRecursion};
+ghost use Rattle.std.specs.Prelude.{◌≡◌, true};
 ghost use Rattle.row_store.specs.Store.{has_table};
 
-use crate::given::{name, store_of, text};
-use dtx_values::{Cells, Change, Changes, Duplicate, Name, Row, Value};
+use crate::given::{name, store_of};
+use crate::undo::long_changes;
+use dtx_values::Name;
 use row_store::{Store, StoreErr};
 use std::alloc::{AllocError, Global};
 use tran_ids::BranchId;
-
-/// A change of a table to a row of a number and this text.
-fn wide_change(alloc: Global, table: &Name, key: i64, letters: &Value) -> Result<Change, AllocError>
-    ensures { IfOk result (λ change. change.table ≡ table.now) }
-{
-    let mut cells = Cells::new(alloc);
-    cells.push(Value::Number(key))?;
-    cells.push(letters.copy(alloc)?)?;
-    Ok(Change {
-        table: table.copy(alloc)?,
-        key: Value::Number(key),
-        after: Some(Row { cells }),
-    })
-}
-
-/// Such changes at so many keys.
-fn wide_changes(
-    alloc: Global,
-    table: &Name,
-    letters: &Value,
-    count: i64,
-) -> Result<Changes, AllocError>
-    ensures { IfOk result (λ changes. AllByRecursion (λ c. c.table ≡ table.now) changes) }
-{
-    let mut changes = Changes::new(alloc);
-    for key in 0..count {
-        changes.push(wide_change(alloc, table, key, letters)?)?;
-    }
-    Ok(changes)
-}
-
-/// Such changes of 2,025 bytes each.
-fn changes_of(alloc: Global, table: &Name, count: i64) -> Result<Changes, AllocError>
-    ensures { IfOk result (λ changes. AllByRecursion (λ c. c.table ≡ table.now) changes) }
-{
-    let bytes = vec![in alloc; b'x'; 2000]?;
-    let letters = text(alloc, bytes.as_slice())?;
-    let changes = wide_changes(alloc, table, &letters, count);
-    drop(letters);
-    changes
-}
 
 fn branch() -> BranchId {
     BranchId {
@@ -62,14 +21,16 @@ fn branch() -> BranchId {
 /// What a store says to changes, and what it has afterwards: its free extents, whether the branch has changes, its rows.
 type Said = (Result<(), StoreErr>, u64, bool, usize);
 
-/// What a store says to so many changes of its table.
+/// What a store says to so many changes of its table, of 2,025 bytes each.
 fn said_by(alloc: Global, store: &mut Store, table: &Name, count: i64) -> Result<Said, AllocError>
     requires { has_table store.old.rows table.now ≡ true }
 {
-    let changes = changes_of(alloc, table, count)?;
+    let changes = long_changes(alloc, table, count, 2000)?;
     let said = store.set_pending(alloc, &branch(), changes);
-    let rows = store.all(alloc, &branch(), table)?.len();
-    Ok((said, store.free(), store.has_changes(&branch()), rows))
+    match store.all(alloc, &branch(), table) {
+        Ok(rows) => Ok((said, store.free(), store.has_changes(&branch()), rows.len())),
+        Err(error) => Err(error),
+    }
 }
 
 /// What a store of 2,048 extents says to so many changes.

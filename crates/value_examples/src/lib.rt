@@ -12,4 +12,6 @@ mod ids;
 #[cfg(test)]
 mod ports;
 #[cfg(test)]
+mod texts;
+#[cfg(test)]
 mod values;

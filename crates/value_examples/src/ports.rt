@@ -56,63 +56,99 @@ fn read_within(alloc: Global, source: &mut MemSource, limit: usize) -> Result<Ve
 /// What is read within a limit of a source of these bytes, whose calls of these numbers fail.
 fn read_of(alloc: Global, bytes: &[u8], failing: &[u32], limit: usize) -> Result<Vec<u8>, ReadErr> {
     let mut source = source_of(alloc, bytes, failing)?;
-    read_within(alloc, &mut source, limit)
+    let read = read_within(alloc, &mut source, limit);
+    drop(source);
+    read
 }
 
-/// Whether a source of these bytes is read to its end within a limit.
-fn is_read(alloc: Global, bytes: &[u8], limit: usize) -> Result<bool, ReadErr> {
-    Ok(read_of(alloc, bytes, &[], limit)?.as_slice() == bytes)
+/// Whether a source of these bytes, whose calls of these numbers fail, is read to its end within a limit.
+fn is_read(alloc: Global, bytes: &[u8], failing: &[u32], limit: usize) -> Result<bool, ReadErr> {
+    match read_of(alloc, bytes, failing, limit) {
+        Ok(read) => Ok(read.as_slice() == bytes),
+        Err(error) => Err(error),
+    }
 }
 
 /// Whether a text is read that takes several reads, 10,000 bytes, where the calls of these numbers fail.
 fn is_long_text_read(alloc: Global, failing: &[u32]) -> Result<bool, ReadErr> {
     let text = b"wxyz".repeat(alloc, 2500)?;
-    Ok(read_of(alloc, &text, failing, usize::MAX)?.as_slice() == text.as_slice())
+    let is = is_read(alloc, &text, failing, usize::MAX);
+    drop(text);
+    is
 }
 
 #[test]
 fn a_source_is_read_to_its_end_within_the_limit(rt: HostRuntime) {
-    assert!(rt; is_read(rt.alloc(), b"abc", 3) == Ok(true));
-    assert!(rt; is_read(rt.alloc(), b"", 0) == Ok(true));
-    assert!(rt; is_long_text_read(rt.alloc(), &[]) == Ok(true));
+    assert!(rt; matches!(is_read(rt.alloc(), b"abc", &[], 3), Ok(true)));
+    assert!(rt; matches!(is_read(rt.alloc(), b"", &[], 0), Ok(true)));
+    assert!(rt; matches!(is_long_text_read(rt.alloc(), &[]), Ok(true)));
 }
 
 #[test]
 fn a_text_that_cannot_be_read_whole_does_not_come(rt: HostRuntime) {
-    assert!(rt; is_read(rt.alloc(), b"abc", 2) == Err(ReadErr::TooLong));
-    assert!(rt; is_long_text_read(rt.alloc(), &[2]) == Err(ReadErr::Fault));
+    assert!(rt; matches!(is_read(rt.alloc(), b"abc", &[], 2), Err(ReadErr::TooLong)));
+    assert!(rt; matches!(is_long_text_read(rt.alloc(), &[2]), Err(ReadErr::Fault)));
 }
 
-fn is_abc(bytes: &[u8]) -> bool {
-    bytes == b"abc".as_slice()
+/// Whether `abc` was read.
+fn is_abc(read: Result<Vec<u8>, ReadErr>) -> bool {
+    match read {
+        Ok(bytes) => bytes.as_slice() == b"abc".as_slice(),
+        Err(_) => false,
+    }
+}
+
+/// Whether the read failed.
+fn is_fault(read: Result<Vec<u8>, ReadErr>) -> bool {
+    match read {
+        Ok(_bytes) => false,
+        Err(error) => matches!(error, ReadErr::Fault),
+    }
 }
 
 /// Whether a source is read to its end behind a read that failed.
-fn is_read_again(alloc: Global) -> Result<bool, ReadErr> {
-    let mut source = source_of(alloc, b"abc", &[1])?;
-    let has_failed = matches!(read_within(alloc, &mut source, 3), Err(ReadErr::Fault));
-    Ok(has_failed && is_abc(&read_within(alloc, &mut source, 3)?))
+fn is_read_again(alloc: Global) -> bool {
+    match source_of(alloc, b"abc", &[1]) {
+        Ok(mut source) => {
+            let is = is_fault(read_within(alloc, &mut source, 3))
+                && is_abc(read_within(alloc, &mut source, 3));
+            drop(source);
+            is
+        }
+        Err(_) => false,
+    }
 }
 
 #[test]
 fn a_source_is_read_again_behind_a_fault(rt: HostRuntime) {
-    assert!(rt; is_read_again(rt.alloc()) == Ok(true));
+    assert!(rt; is_read_again(rt.alloc()));
 }
 
 /// Whether the second read fails, and the next one goes on: each fills the front of what the one before left.
-fn goes_on(alloc: Global) -> Result<bool, AllocError> {
-    let mut source = source_of(alloc, b"abc", &[2])?;
+fn reads_on(source: &mut MemSource) -> bool {
     let mut buffer = [0; 2];
-    let first = source.read(&mut buffer);
-    let second = source.read(&mut buffer);
-    let third = source.read(&mut buffer);
-    let last = source.read(&mut buffer);
-    Ok(buffer == *b"cb" && [first, second, third, last] == [Ok(2), Err(Failed), Ok(1), Ok(0)])
+    matches!(source.read(&mut buffer), Ok(2))
+        && matches!(source.read(&mut buffer), Err(Failed))
+        && matches!(source.read(&mut buffer), Ok(1))
+        && matches!(source.read(&mut buffer), Ok(0))
+        && buffer == *b"cb"
+}
+
+/// The same of a source of three bytes whose second call fails.
+fn goes_on(alloc: Global) -> bool {
+    match source_of(alloc, b"abc", &[2]) {
+        Ok(mut source) => {
+            let goes_on = reads_on(&mut source);
+            drop(source);
+            goes_on
+        }
+        Err(_) => false,
+    }
 }
 
 #[test]
 fn a_listed_read_fails_and_the_next_one_goes_on(rt: HostRuntime) {
-    assert!(rt; goes_on(rt.alloc()) == Ok(true));
+    assert!(rt; goes_on(rt.alloc()));
 }
 
 /// What is written to a sink, whether it takes it, and what it holds then.
@@ -135,85 +171,125 @@ fn goes(sink: &mut MemSink, (bytes, is_taken, held): Step) -> bool {
     write_whole(sink, bytes).is_ok() == is_taken && sink.bytes() == held
 }
 
-/// Whether a sink with room for so many bytes, one of whose calls fails, goes each of these steps.
-fn goes_all(alloc: Global, room: usize, failing: u32, steps: &[Step]) -> Result<bool, AllocError> {
-    let mut sink = sink_of(alloc, room, failing)?;
+/// Whether the sink goes each of these steps.
+fn goes_all(sink: &mut MemSink, steps: &[Step]) -> bool {
     for step in steps {
-        if !goes(&mut sink, *step) {
-            return Ok(false);
+        if !goes(sink, *step) {
+            return false;
         }
     }
-    Ok(true)
+    true
+}
+
+/// Whether a sink with room for so many bytes, one of whose calls fails, goes each of these steps.
+fn is_right(alloc: Global, room: usize, failing: u32, steps: &[Step]) -> bool {
+    match sink_of(alloc, room, failing) {
+        Ok(mut sink) => {
+            let is_right = goes_all(&mut sink, steps);
+            drop(sink);
+            is_right
+        }
+        Err(_) => false,
+    }
+}
+
+/// The room of the first sink that does not go its steps.
+fn first_wrong(alloc: Global) -> Option<usize> {
+    for (room, failing, steps) in &SINKS {
+        if !is_right(alloc, *room, *failing, *steps) {
+            return Some(*room);
+        }
+    }
+    None
 }
 
 #[test]
 fn a_sink_holds_what_it_took(rt: HostRuntime) {
-    for (room, failing, steps) in SINKS {
-        assert!(rt;
-            goes_all(rt.alloc(), room, failing, steps) == Ok(true),
-            "room for {room}"
-        );
-    }
+    assert!(rt; first_wrong(rt.alloc()).is_none());
 }
 
 /// What a port to this reader gives within 3 bytes.
 fn read_through<R: Read + Drop>(alloc: Global, reader: R) -> Result<Vec<u8>, ReadErr> {
     let mut port = ReadPort::new(reader);
-    read_whole(alloc, &mut port, 3)
+    let read = read_whole(alloc, &mut port, 3);
+    drop(port);
+    read
 }
 
 #[test]
 fn a_port_reads_what_its_reader_gives(rt: HostRuntime) {
-    let read = read_through(rt.alloc(), b"abc".as_slice());
-    assert!(rt; matches!(&read, Ok(bytes) if is_abc(bytes)));
+    assert!(rt; is_abc(read_through(rt.alloc(), b"abc".as_slice())));
+}
+
+/// Whether a port fails to a reader that has given its byte, or has not.
+fn fails_to_read(alloc: Global, has_given: bool) -> bool {
+    is_fault(read_through(alloc, CutReader { has_given }))
 }
 
 #[test]
 fn a_port_fails_where_its_reader_does(rt: HostRuntime) {
-    for has_given in [true, false] {
-        let read = read_through(rt.alloc(), CutReader { has_given });
-        assert!(rt; matches!(&read, Err(ReadErr::Fault)));
-    }
+    assert!(rt; fails_to_read(rt.alloc(), true));
+    assert!(rt; fails_to_read(rt.alloc(), false));
 }
 
 /// Whether a port to this writer takes `abc`.
 fn writes_through<W: Write + Drop>(writer: W) -> bool {
     let mut port = WritePort::new(writer);
-    write_whole(&mut port, b"abc").is_ok()
+    let is_taken = write_whole(&mut port, b"abc").is_ok();
+    drop(port);
+    is_taken
+}
+
+/// Whether `abc` is written.
+fn is_written(alloc: Global) -> bool {
+    let mut text = Vec::new(alloc);
+    let is_taken = writes_through(&mut text);
+    is_taken && is_abc(Ok(text))
 }
 
 #[test]
 fn a_port_writes_what_its_writer_takes(rt: HostRuntime) {
-    let mut text = Vec::new(rt.alloc());
-    assert!(rt; writes_through(&mut text));
-    assert!(rt; is_abc(&text));
+    assert!(rt; is_written(rt.alloc()));
+}
+
+/// Whether a port fails to a writer that fails so.
+fn fails_to_write(error: Option<ErrorKind>) -> bool {
+    !writes_through(FullWriter { error })
 }
 
 #[test]
 fn a_port_fails_where_its_writer_does(rt: HostRuntime) {
-    for error in [Some(ErrorKind::StorageFull), None] {
-        assert!(rt; !writes_through(FullWriter { error }));
+    assert!(rt; fails_to_write(Some(ErrorKind::StorageFull)));
+    assert!(rt; fails_to_write(None));
+}
+
+/// Whether there is a text, and it is the one that is due.
+fn is_text(text: Result<String, AllocError>, due: &str) -> bool {
+    match text {
+        Ok(text) => text.as_str() == due,
+        Err(_) => false,
     }
 }
 
-/// Whether this is the text of a failure.
-fn has_text(alloc: Global, error: ReadErr, text: &str) -> Result<bool, AllocError> {
-    Ok(error.to_string(alloc)?.as_str() == text)
-}
+/// Failures, each with its text.
+const TEXTS: [(ReadErr, &str); 3] = [
+    (ReadErr::Fault, "a read failed"),
+    (ReadErr::TooLong, "there is more to read than is allowed"),
+    (ReadErr::NoMemory, "out of memory"),
+];
 
-/// Whether this is the text of a port's failure.
-fn is_failed_text(alloc: Global, text: &str) -> Result<bool, AllocError> {
-    Ok(Failed.to_string(alloc)?.as_str() == text)
+/// The text of the first failure that has another.
+fn first_other_text(alloc: Global) -> Option<&'static str> {
+    for (error, text) in &TEXTS {
+        if !is_text(error.to_string(alloc), text) {
+            return Some(*text);
+        }
+    }
+    None
 }
 
 #[test]
 fn failures_have_a_text(rt: HostRuntime) {
-    assert!(rt; is_failed_text(rt.alloc(), "a source or a sink failed") == Ok(true));
-    for (error, text) in [
-        (ReadErr::Fault, "a read failed"),
-        (ReadErr::TooLong, "there is more to read than is allowed"),
-        (ReadErr::NoMemory, "out of memory"),
-    ] {
-        assert!(rt; has_text(rt.alloc(), error, text) == Ok(true));
-    }
+    assert!(rt; is_text(Failed.to_string(rt.alloc()), "a source or a sink failed"));
+    assert!(rt; first_other_text(rt.alloc()).is_none());
 }

@@ -2,5 +2,5 @@ use Rattle.std.proofs.Common.{◌≡◌}
 use Rattle.std.specs.List.{AllByRecursion}
 use Rattle.sql_examples.proofs.rows.changes.Given as goal
 
-abbrev pub invariant-loop-key : goal.invariant-loop-key
-invariant-loop-key l = AllByRecursion (λ c. c.table ≡ l.table) l.changes
+abbrev pub invariant-loop-cell : goal.invariant-loop-cell
+invariant-loop-cell l = AllByRecursion (λ c. c.table ≡ l.table) l.changes
