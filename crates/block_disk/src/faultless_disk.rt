@@ -12,7 +12,7 @@ use std::marker::Model;
 
 /// A disk in memory that takes no orders, so that no counted call of it fails. It keeps each write and sync, so what a
 /// crash at each moment might have left is known.
-#[derive(Debug, Drop)]
+#[derive(Drop)]
 pub struct FaultlessDisk {
     surface: Surface,
     calls: u64,

@@ -15,7 +15,7 @@ use std::marker::Model;
 
 /// A disk in memory. A counted call of it fails exactly where an order strikes it, or where the disk is stopped. It keeps
 /// each write and sync, so what a crash at each moment might have left is known.
-#[derive(Debug, Drop)]
+#[derive(Drop)]
 pub struct MemDisk {
     surface: Surface,
     orders: Orders,

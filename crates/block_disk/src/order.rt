@@ -3,7 +3,7 @@ ghost use Rattle.std.specs.Prelude.{◌≡◌, take};
 ghost use Rattle.block_disk.specs.Plan.{left_of};
 
 /// An order. Its number counts from the call of `arm`: 1 is the next write or call.
-#[derive(Debug, Drop)]
+#[derive(Drop)]
 pub enum Order {
     /// The disk stops in a write.
     Stop(Stop),
@@ -12,7 +12,7 @@ pub enum Order {
 }
 
 /// An order to stop.
-#[derive(Debug, Drop)]
+#[derive(Drop)]
 pub struct Stop {
     /// The number of the write in which the disk stops.
     pub write: u32,
@@ -21,7 +21,7 @@ pub struct Stop {
 }
 
 /// What a struck write leaves at its place. What was there past these bytes stays.
-#[derive(Debug, Drop)]
+#[derive(Drop)]
 pub enum How {
     /// The first so many of its bytes, all where it has no more.
     Keep(u32),

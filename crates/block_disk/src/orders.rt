@@ -6,7 +6,7 @@ ghost use Rattle.block_disk.specs.Orders.{plan_of, after_order, powered, after_o
 use crate::order::{How, Order, Stop};
 
 /// Whether the disk is stopped, and its orders, whose numbers count from now on.
-#[derive(Debug, Drop)]
+#[derive(Drop)]
 pub struct Orders {
     stopped: bool,
     stop: Option<Stop>,
@@ -14,7 +14,7 @@ pub struct Orders {
 }
 
 /// What comes of a write.
-#[derive(Debug, Drop)]
+#[derive(Drop)]
 pub enum Strike {
     /// It is done.
     Spares,

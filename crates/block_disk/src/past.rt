@@ -16,7 +16,7 @@ pub enum Event {
 
 /// The writes and syncs of a disk, with the bytes that were written, oldest first. `spare` more bytes can be written,
 /// each by a write of its own with a sync after it, before memory is needed.
-#[derive(Debug, Drop)]
+#[derive(Drop)]
 pub struct Past {
     events: Vec<Event>,
     written: Vec<u8>,

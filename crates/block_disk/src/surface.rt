@@ -7,7 +7,7 @@ use std::alloc::{AllocError, Global};
 use std::marker::Model;
 
 /// The bytes of a disk in memory, and its writes and syncs, so that what a crash at each moment might have left is known.
-#[derive(Debug, Drop)]
+#[derive(Drop)]
 pub struct Surface {
     bytes: Vec<u8>,
     past: Past,

@@ -9,7 +9,6 @@ use tran_ids::BranchId;
 
 /// What the book says of a redo record. An entry names a branch, and `global` is the root of its transaction, which
 /// gives the transaction its global id.
-#[derive(Debug, Drop)]
 pub enum Entry {
     /// A table was created.
     Made {
@@ -63,6 +62,39 @@ pub enum Entry {
         /// Whether it differs from the forced outcome.
         mixed: bool,
     },
+}
+
+impl Drop for Entry {
+    fn drop(self) {
+        match self {
+            Entry::Made { node: _node, table } => drop(table),
+            Entry::Sealed {
+                branch: _branch,
+                global: _global,
+                changes,
+                scn: _scn,
+            } => drop(changes),
+            Entry::Decided {
+                branch: _branch,
+                global: _global,
+                changes,
+                scn: _scn,
+            } => drop(changes),
+            Entry::Ended {
+                branch: _branch,
+                outcome: _outcome,
+            } => {}
+            Entry::Forced {
+                branch: _branch,
+                outcome: _outcome,
+            } => {}
+            Entry::Met {
+                branch: _branch,
+                decision: _decision,
+                mixed: _mixed,
+            } => {}
+        }
+    }
 }
 
 /// Entries in the order in which their records came to the disks.

@@ -22,7 +22,6 @@ impl Duplicate for Took {
 }
 
 /// A turn of a node: it takes an input, writes at most one redo record, and then sends messages.
-#[derive(Debug, Drop)]
 pub struct Turn {
     /// The node's number, from 1.
     pub node: u8,
@@ -38,8 +37,23 @@ pub struct Turn {
     pub cut: bool,
 }
 
+impl Drop for Turn {
+    fn drop(self) {
+        let Turn {
+            node: _node,
+            input,
+            took: _took,
+            wrote,
+            sent,
+            cut: _cut,
+        } = self;
+        drop(input);
+        drop(wrote);
+        drop(sent);
+    }
+}
+
 /// One step of a run.
-#[derive(Debug, Drop)]
 pub enum Happening {
     /// The command with this number begins. Numbers count from 1.
     Begun { command: u32 },
@@ -55,6 +69,23 @@ pub enum Happening {
     Stopped { node: u8 },
     /// The node starts from the records of its log, as the start with this number. Its Boot record is on the disk.
     Started { node: u8, boot: u32 },
+}
+
+impl Drop for Happening {
+    fn drop(self) {
+        match self {
+            Happening::Begun { command: _command } => {}
+            Happening::Turn(turn) => drop(turn),
+            Happening::Cut { a: _a, b: _b } => {}
+            Happening::Join { a: _a, b: _b } => {}
+            Happening::Lost { k: _k } => {}
+            Happening::Stopped { node: _node } => {}
+            Happening::Started {
+                node: _node,
+                boot: _boot,
+            } => {}
+        }
+    }
 }
 
 /// Happenings, oldest first.

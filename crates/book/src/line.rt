@@ -5,12 +5,20 @@ use dtx_values::{Answer, Duplicate, Listing, Notice};
 use std::alloc::{AllocError, Global};
 
 /// The answer of a command.
-#[derive(Debug, Drop)]
 pub enum Said {
     /// A node's answer to a statement.
     Node(Answer),
     /// What the run answers in a node's place: that it is done, that the call is pending, a refusal, or printed lines.
     World(Notice),
+}
+
+impl Drop for Said {
+    fn drop(self) {
+        match self {
+            Said::Node(answer) => drop(answer),
+            Said::World(notice) => drop(notice),
+        }
+    }
 }
 
 impl Duplicate for Said {
@@ -23,12 +31,21 @@ impl Duplicate for Said {
 }
 
 /// An answer with the number of its command.
-#[derive(Debug, Drop)]
 pub struct AnswerLine {
     /// The command's number in the script, from 1.
     pub command: u32,
     /// Its answer.
     pub said: Said,
+}
+
+impl Drop for AnswerLine {
+    fn drop(self) {
+        let AnswerLine {
+            command: _command,
+            said,
+        } = self;
+        drop(said);
+    }
 }
 
 /// Answers in order.

@@ -11,12 +11,25 @@ use std::alloc::Global;
 use std::marker::Model;
 
 /// Tables, links and synonyms by name, and whether recovery is enabled.
-#[derive(Drop)]
 pub struct Catalog {
     recovery: bool,
     tables: ByName<Table>,
     links: ByName<Link>,
     synonyms: ByName<Synonym>,
+}
+
+impl Drop for Catalog {
+    fn drop(self) {
+        let Catalog {
+            recovery: _recovery,
+            tables,
+            links,
+            synonyms,
+        } = self;
+        drop(tables);
+        drop(links);
+        drop(synonyms);
+    }
 }
 
 impl Model for Catalog {

@@ -60,7 +60,7 @@ pub enum TextKind {
 }
 
 /// A shape of a picture.
-#[derive(Debug, Drop)]
+#[derive(Drop)]
 pub enum Shape {
     /// A line from a point to a point.
     Line {

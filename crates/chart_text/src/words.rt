@@ -1,6 +1,5 @@
 //! The words of a picture: its title, and what stands beside its marks.
 ghost use Rattle.std.specs.Prelude.{◌≡◌, ◌++◌, OnOk};
-ghost use Rattle.wire_msg.specs.Names.{kind_text};
 ghost use Rattle.chart_text.specs.Words.{title_words as title_start, window_text, message_text, deed_words as words_of, deed_number as number_of, number_text, parting_text};
 
 use crate::window::Window;
@@ -9,30 +8,6 @@ use run_marks::{Deed, Parting};
 use std::alloc::AllocError;
 use tran_ids::{node_name, put_decimal};
 use wire_msg::KindName;
-
-fn kind_word(kind: KindName) -> &'static [u8]
-    ensures { result.now ≡ kind_text kind }
-{
-    match kind {
-        KindName::Open => b"OPEN",
-        KindName::Opened => b"OPENED",
-        KindName::Exec => b"EXEC",
-        KindName::Reply => b"REPLY",
-        KindName::Prepare => b"PREPARE",
-        KindName::Prepared => b"PREPARED",
-        KindName::ReadOnly => b"READONLY",
-        KindName::Ready => b"READY",
-        KindName::Abort => b"ABORT",
-        KindName::CommitPoint => b"COMMITPOINT",
-        KindName::Committed => b"COMMITTED",
-        KindName::RolledBack => b"ROLLEDBACK",
-        KindName::InDoubt => b"INDOUBT",
-        KindName::Ack => b"ACK",
-        KindName::Forgotten => b"FORGOTTEN",
-        KindName::Rollback => b"ROLLBACK",
-        KindName::Ask => b"ASK",
-    }
-}
 
 #[tactic(auto, unfolding(crate::specs::Words::title_words))]
 fn title_words() -> &'static [u8]
@@ -61,7 +36,7 @@ pub(crate) fn put_message(out: &mut Vec<u8>, number: u64, kind: KindName) -> Res
     out.extend_from_slice(b"#")?;
     put_decimal(out, number)?;
     out.extend_from_slice(b" ")?;
-    out.extend_from_slice(kind_word(kind))
+    out.extend_from_slice(kind.text())
 }
 
 fn deed_words(deed: Deed) -> &'static [u8]

@@ -6,7 +6,7 @@ use crate::count::Count;
 use std::marker::Model;
 
 /// The numbers of the calls that fail, counted from 1, and how many calls were made.
-#[derive(Debug, Drop)]
+#[derive(Drop)]
 pub struct CallPlan {
     fail: Vec<u32>,
     made: Count,

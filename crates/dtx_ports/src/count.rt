@@ -5,7 +5,7 @@ ghost use Rattle.dtx_ports.specs.Causes.{risen};
 use std::marker::Model;
 
 /// A count that never falls and, once at 2^64 - 1, stays there.
-#[derive(Debug, Drop)]
+#[derive(Drop)]
 pub struct Count {
     number: u64,
 }

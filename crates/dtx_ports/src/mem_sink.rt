@@ -12,7 +12,7 @@ use std::marker::Model;
 
 /// Room in memory for a number of bytes, taken once, so that a write needs no memory. A write stores what still fits,
 /// and fails where nothing does.
-#[derive(Debug, Drop)]
+#[derive(Drop)]
 pub struct MemSink {
     bytes: Vec<u8>,
     room: usize,

@@ -11,7 +11,7 @@ use crate::{Failed, Source};
 use std::marker::Model;
 
 /// Bytes in memory, given in as few reads as the buffers allow, but for the calls that are to fail.
-#[derive(Debug, Drop)]
+#[derive(Drop)]
 pub struct MemSource {
     bytes: Vec<u8>,
     read: usize,

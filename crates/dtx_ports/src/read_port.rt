@@ -10,7 +10,7 @@ use std::io::Read;
 use std::marker::Model;
 
 /// A reader, with a count of its faults: each error that a read answers is one.
-#[derive(Debug, Drop)]
+#[derive(Drop)]
 pub struct ReadPort<R> {
     reader: R,
     faults: Count,

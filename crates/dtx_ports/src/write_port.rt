@@ -11,7 +11,7 @@ use std::marker::Model;
 /// A writer, with a count of its faults: each error that a write answers is one, and each write that takes no byte.
 ///
 /// It never flushes, so the writer is to keep nothing back.
-#[derive(Debug, Drop)]
+#[derive(Drop)]
 pub struct WritePort<W> {
     writer: W,
     faults: Count,

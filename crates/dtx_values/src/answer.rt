@@ -11,12 +11,19 @@ pub const INVALID_SQL: u16 = 900;
 pub const UNIQUE_VIOLATED: u16 = 1;
 
 /// The rows that a query found, behind the names of what it asked for.
-#[derive(Debug, Drop)]
 pub struct RowSet {
     /// A head for each column, in order.
     pub heads: Texts,
     /// The rows, each with a cell for each head.
     pub rows: Rows,
+}
+
+impl Drop for RowSet {
+    fn drop(self) {
+        let RowSet { heads, rows } = self;
+        drop(heads);
+        drop(rows);
+    }
 }
 
 impl Duplicate for RowSet {
@@ -29,12 +36,18 @@ impl Duplicate for RowSet {
 }
 
 /// A refusal: its code, as 900 for ORA-00900, and what its text names.
-#[derive(Debug, Drop)]
 pub struct Refusal {
     /// The number of ORA-nnnnn, or 60000 and the number of DTX-nn.
     pub code: u16,
     /// What stands in the places that the text of this code leaves open, in order.
     pub args: Texts,
+}
+
+impl Drop for Refusal {
+    fn drop(self) {
+        let Refusal { code: _code, args } = self;
+        drop(args);
+    }
 }
 
 impl Duplicate for Refusal {
@@ -81,7 +94,6 @@ impl Duplicate for Done {
 }
 
 /// What a node answers to a call.
-#[derive(Debug, Drop)]
 pub enum Answer {
     /// It was done, to so many rows.
     Did(Done, u32),
@@ -89,6 +101,16 @@ pub enum Answer {
     Found(RowSet),
     /// It was refused.
     Refused(Refusal),
+}
+
+impl Drop for Answer {
+    fn drop(self) {
+        match self {
+            Answer::Did(_done, _rows) => {}
+            Answer::Found(found) => drop(found),
+            Answer::Refused(refusal) => drop(refusal),
+        }
+    }
 }
 
 impl Duplicate for Answer {
@@ -102,7 +124,6 @@ impl Duplicate for Answer {
 }
 
 /// What is said of a command that no node answers.
-#[derive(Debug, Drop)]
 pub enum Notice {
     /// The command was carried out.
     Fine,
@@ -112,6 +133,17 @@ pub enum Notice {
     Refused(Refusal),
     /// It shows these lines.
     Shown(Texts),
+}
+
+impl Drop for Notice {
+    fn drop(self) {
+        match self {
+            Notice::Fine => {}
+            Notice::Waiting => {}
+            Notice::Refused(refusal) => drop(refusal),
+            Notice::Shown(lines) => drop(lines),
+        }
+    }
 }
 
 impl Duplicate for Notice {

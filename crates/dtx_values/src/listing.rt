@@ -5,7 +5,7 @@ use std::alloc::{AllocError, Global};
 use std::marker::Model;
 
 /// Items in order.
-#[derive(Debug, Drop)]
+#[derive(Drop)]
 pub struct Listing<T> {
     items: Vec<T>,
 }

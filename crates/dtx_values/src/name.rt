@@ -18,7 +18,7 @@ use std::hash::{Hash, Hasher};
 use std::marker::Model;
 
 /// A name, in upper case: identifiers joined by dots. Names are compared by their bytes.
-#[derive(Debug, Drop)]
+#[derive(Drop)]
 pub struct Name {
     text: Bytes,
 }

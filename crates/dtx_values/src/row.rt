@@ -5,10 +5,26 @@ use crate::{Cells, Duplicate, Listing, Name, Value};
 use std::alloc::{AllocError, Global};
 
 /// One row of a table, a cell for each column.
-#[derive(Debug, Drop)]
 pub struct Row {
     /// A cell for each column of the table, in their order.
     pub cells: Cells,
+}
+
+impl Drop for Row {
+    fn drop(self) {
+        let Row { cells } = self;
+        drop(cells);
+    }
+}
+
+impl Row {
+    /// The cells alone.
+    pub fn into_cells(self) -> Cells
+        ensures { result ≡ self.cells }
+    {
+        let Row { cells } = self;
+        cells
+    }
 }
 
 /// Rows in order.
@@ -22,7 +38,6 @@ impl Duplicate for Row {
 }
 
 /// What a table has at a key afterwards: a row, or none.
-#[derive(Debug, Drop)]
 pub struct Change {
     /// The name of the table.
     pub table: Name,
@@ -30,6 +45,15 @@ pub struct Change {
     pub key: Value,
     /// The row that stands at the key afterwards, or nothing where it is deleted.
     pub after: Option<Row>,
+}
+
+impl Drop for Change {
+    fn drop(self) {
+        let Change { table, key, after } = self;
+        drop(table);
+        drop(key);
+        drop(after);
+    }
 }
 
 /// Changes in the order in which they were made.

@@ -19,7 +19,7 @@ use std::hash::{Hash, Hasher};
 use std::marker::Model;
 
 /// A text of UTF-8, of 1 to 2,000 bytes. Texts are compared by their bytes.
-#[derive(Debug, Drop)]
+#[derive(Drop)]
 pub struct Str {
     text: String,
 }

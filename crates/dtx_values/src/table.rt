@@ -5,7 +5,6 @@ use crate::{Duplicate, Listing, Name};
 use std::alloc::{AllocError, Global};
 
 /// A column of a table.
-#[derive(Debug, Drop)]
 pub struct Column {
     /// Its name.
     pub name: Name,
@@ -15,6 +14,18 @@ pub struct Column {
     pub not_null: bool,
     /// Whether this is the primary key.
     pub key: bool,
+}
+
+impl Drop for Column {
+    fn drop(self) {
+        let Column {
+            name,
+            text_max: _text_max,
+            not_null: _not_null,
+            key: _key,
+        } = self;
+        drop(name);
+    }
 }
 
 /// The columns of a table, in order.
@@ -33,12 +44,19 @@ impl Duplicate for Column {
 }
 
 /// A table as it was created.
-#[derive(Debug, Drop)]
 pub struct Table {
     /// Its name.
     pub name: Name,
     /// Its columns, in the order of the statement that created it.
     pub columns: Columns,
+}
+
+impl Drop for Table {
+    fn drop(self) {
+        let Table { name, columns } = self;
+        drop(name);
+        drop(columns);
+    }
 }
 
 impl Duplicate for Table {
@@ -51,12 +69,19 @@ impl Duplicate for Table {
 }
 
 /// A database link, and the node that it leads to.
-#[derive(Debug, Drop)]
 pub struct Link {
     /// Its own name.
     pub name: Name,
     /// The name of the node.
     pub target: Name,
+}
+
+impl Drop for Link {
+    fn drop(self) {
+        let Link { name, target } = self;
+        drop(name);
+        drop(target);
+    }
 }
 
 impl Duplicate for Link {
@@ -69,7 +94,6 @@ impl Duplicate for Link {
 }
 
 /// A name for a table that is reached over a database link.
-#[derive(Debug, Drop)]
 pub struct Synonym {
     /// Its own name.
     pub name: Name,
@@ -77,6 +101,15 @@ pub struct Synonym {
     pub table: Name,
     /// The name of the link.
     pub link: Name,
+}
+
+impl Drop for Synonym {
+    fn drop(self) {
+        let Synonym { name, table, link } = self;
+        drop(name);
+        drop(table);
+        drop(link);
+    }
 }
 
 impl Duplicate for Synonym {

@@ -11,7 +11,7 @@ pub type Bytes = Listing<u8>;
 pub type Texts = Listing<Bytes>;
 
 /// What a cell of a row holds. NULL comes first in order, then the numbers by value, and then the texts by their bytes.
-#[derive(Debug, Drop, PartialEq, Eq, PartialOrd, Ord, Hash)]
+#[derive(Drop, PartialEq, Eq, PartialOrd, Ord, Hash)]
 pub enum Value {
     /// NULL.
     Null,

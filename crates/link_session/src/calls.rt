@@ -15,10 +15,19 @@ pub enum Admit {
 }
 
 /// The calls that came to a branch from its parent.
-#[derive(Debug, Drop)]
 pub struct Calls {
     /// The greatest call number that came, and 0 before any.
     pub last_call: u32,
     /// What that call was answered with, once it was.
     pub reply: Option<ReplyFields>,
+}
+
+impl Drop for Calls {
+    fn drop(self) {
+        let Calls {
+            last_call: _last_call,
+            reply,
+        } = self;
+        drop(reply);
+    }
 }

@@ -11,9 +11,15 @@ use std::marker::Model;
 use tran_ids::BranchId;
 
 /// The Opens that a node answered since it started, in order. An Open that comes again is found by its parent and edge.
-#[derive(Drop)]
 pub struct Opens {
     opened: IndexMap<OpenKey, Opened>,
+}
+
+impl Drop for Opens {
+    fn drop(self) {
+        let Opens { opened } = self;
+        drop(opened);
+    }
 }
 
 impl Model for Opens {

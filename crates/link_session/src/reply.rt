@@ -5,7 +5,7 @@ use dtx_values::{Answer, Duplicate};
 use std::alloc::{AllocError, Global};
 
 /// What a Reply says beside its call number. A call that comes again is answered with it.
-#[derive(Debug, Drop)]
+#[derive(Drop)]
 pub struct ReplyFields {
     /// The commit point strength that the branch weighs, where there are changes on it or below it.
     pub weight: Option<u8>,

@@ -1,6 +1,6 @@
 //! The name of a message's kind.
 ghost use Rattle.std.specs.Prelude.{◌≡◌};
-ghost use Rattle.wire_msg.specs.Names.{kind_text, name_of_kind, place_of_kind, same_kind as same_kind_of};
+ghost use Rattle.wire_msg.specs.Names.{name_of_kind, place_of_kind, same_kind as same_kind_of};
 
 use wire_msg::{Kind, KindName};
 
@@ -57,30 +57,5 @@ fn place(name: KindName) -> u8
         KindName::Forgotten => 15,
         KindName::Rollback => 16,
         KindName::Ask => 17,
-    }
-}
-
-/// A name as it is printed.
-pub(crate) fn name_text(name: KindName) -> &'static [u8]
-    ensures { result.now ≡ kind_text name }
-{
-    match name {
-        KindName::Open => b"OPEN",
-        KindName::Opened => b"OPENED",
-        KindName::Exec => b"EXEC",
-        KindName::Reply => b"REPLY",
-        KindName::Prepare => b"PREPARE",
-        KindName::Prepared => b"PREPARED",
-        KindName::ReadOnly => b"READONLY",
-        KindName::Ready => b"READY",
-        KindName::Abort => b"ABORT",
-        KindName::CommitPoint => b"COMMITPOINT",
-        KindName::Committed => b"COMMITTED",
-        KindName::RolledBack => b"ROLLEDBACK",
-        KindName::InDoubt => b"INDOUBT",
-        KindName::Ack => b"ACK",
-        KindName::Forgotten => b"FORGOTTEN",
-        KindName::Rollback => b"ROLLBACK",
-        KindName::Ask => b"ASK",
     }
 }

@@ -7,7 +7,7 @@ use std::marker::Model;
 use wire_msg::{KindName, Msg};
 
 /// An order, given by LOSE NEXT, to lose the next message of a kind from one node to another.
-#[derive(Debug, Drop)]
+#[derive(Drop)]
 pub struct LoseNext {
     /// The kind.
     pub kind: KindName,

@@ -23,7 +23,7 @@ impl Duplicate for Fate {
 }
 
 /// A message that was sent, with what became of it.
-#[derive(Debug, Drop)]
+#[derive(Drop)]
 pub struct Packet {
     /// The message.
     pub msg: Msg,

@@ -5,7 +5,7 @@ ghost use Rattle.net_bag.specs.Net.{fated, flies as flies_of, goes_over as goes_
 ghost use Rattle.net_bag.specs.Texts.{packet_text};
 
 use crate::Fate;
-use crate::kind_name::{kind_name, name_text};
+use crate::kind_name::kind_name;
 use dtx_values::{Bytes, Listing, Name};
 use std::alloc::{AllocError, Global};
 use std::marker::Model;
@@ -13,7 +13,7 @@ use tran_ids::{node_name, put_decimal};
 use wire_msg::{KindName, Msg};
 
 /// A message's bytes, its kind and its two nodes, and what became of it. Contracts see the message with its fate.
-#[derive(Debug, Drop)]
+#[derive(Drop)]
 pub(crate) struct Parcel {
     bytes: Bytes,
     kind: KindName,
@@ -112,7 +112,7 @@ impl Parcel {
         let mut out = Vec::new(alloc);
         put_decimal(&mut out, number)?;
         out.push(b' ')?;
-        out.extend_from_slice(name_text(self.kind))?;
+        out.extend_from_slice(self.kind.text())?;
         out.push(b' ')?;
         out.extend_from_slice(node_name(names, self.from))?;
         out.push(b' ')?;

@@ -84,52 +84,44 @@ fn one_child(alloc: Global, branch: BranchId, link: &[u8]) -> Result<Listing<Kid
 
 /// A branch that has committed at its commit point site.
 fn committed(alloc: Global) -> Standing {
-    let row = prepared(alloc, branch(HQ, 1, 65, 1), branch(WAREHOUSE, 1, 1, 1));
-    Standing {
-        toward: None,
-        state: State::Committed,
-        decision: Some(Decision::Commit(7)),
-        ..row
-    }
+    let mut row = prepared(alloc, branch(HQ, 1, 65, 1), branch(WAREHOUSE, 1, 1, 1));
+    row.toward = None;
+    row.state = State::Committed;
+    row.decision = Some(Decision::Commit(7));
+    row
 }
 
 /// A branch in doubt, with a child at WAREHOUSE.
 fn in_doubt(alloc: Global) -> Result<Standing, NameErr> {
     let children = one_child(alloc, branch(WAREHOUSE, 1, 65, 1), b"WAREHOUSE")?;
     let comment = bytes(alloc, b"orders")?;
-    let row = prepared(alloc, branch(HQ, 1, 66, 1), branch(SALES, 1, 1, 1));
-    Ok(Standing {
-        children,
-        comment,
-        advice: Some(Advice::Commit),
-        ..row
-    })
+    let mut row = prepared(alloc, branch(HQ, 1, 66, 1), branch(SALES, 1, 1, 1));
+    row.children = children;
+    row.comment = comment;
+    row.advice = Some(Advice::Commit);
+    Ok(row)
 }
 
 /// A branch whose row a purge took out of the view.
 fn purged(alloc: Global) -> Standing {
-    let row = prepared(alloc, branch(HQ, 1, 67, 1), branch(SALES, 1, 1, 2));
-    Standing {
-        state: State::ForcedCommit(9),
-        mixed: true,
-        hidden: true,
-        ..row
-    }
+    let mut row = prepared(alloc, branch(HQ, 1, 67, 1), branch(SALES, 1, 1, 2));
+    row.state = State::ForcedCommit(9);
+    row.mixed = true;
+    row.hidden = true;
+    row
 }
 
 /// A branch that was rolled back by force. Its commit point site is below its child.
 fn rolled_back(alloc: Global) -> Result<Standing, NameErr> {
     let child = branch(WAREHOUSE, 1, 70, 1);
     let children = one_child(alloc, child, b"DEPOT")?;
-    let row = prepared(alloc, branch(HQ, 2, 65, 1), branch(SALES, 1, 1, 3));
-    Ok(Standing {
-        children,
-        toward: Some(child),
-        advice: Some(Advice::Rollback),
-        state: State::ForcedRollback,
-        mixed: true,
-        ..row
-    })
+    let mut row = prepared(alloc, branch(HQ, 2, 65, 1), branch(SALES, 1, 1, 3));
+    row.children = children;
+    row.toward = Some(child);
+    row.advice = Some(Advice::Rollback);
+    row.state = State::ForcedRollback;
+    row.mixed = true;
+    Ok(row)
 }
 
 fn kept(alloc: Global) -> Result<Vec<Standing>, NameErr> {
@@ -168,11 +160,9 @@ fn live(alloc: Global, session: u32, phase: Phase) -> Result<Live, NameErr> {
 
 /// A branch that answered Ready and has no child.
 fn alone(alloc: Global) -> Result<Live, NameErr> {
-    let ready = live(alloc, 2, Phase::Ready)?;
-    Ok(Live {
-        edges: Listing::new(alloc),
-        ..ready
-    })
+    let mut ready = live(alloc, 2, Phase::Ready)?;
+    ready.edges = Listing::new(alloc);
+    Ok(ready)
 }
 
 /// A root that waits for its child, a branch without children, and one that takes statements.

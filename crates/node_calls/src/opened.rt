@@ -21,7 +21,7 @@ use std::alloc::{AllocError, Global};
 use tran_ids::BranchId;
 
 /// A statement that waits for a child.
-#[derive(Debug, Drop)]
+#[derive(Drop)]
 pub(crate) struct Waited {
     /// The link over which the child was asked for.
     pub link: Name,

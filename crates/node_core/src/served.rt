@@ -14,7 +14,7 @@ use std::alloc::{AllocError, Global};
 use wire_msg::Msgs;
 
 /// What a turn does beside changing what the node keeps.
-#[derive(Debug, Drop)]
+#[derive(Drop)]
 pub struct Served {
     /// The record that has to stand on the disk before the messages go out and the calls end, where there is one.
     pub wrote: Option<RedoRecord>,

@@ -11,7 +11,7 @@ use redo_record::RedoRecord;
 use std::alloc::{AllocError, Global};
 
 /// What a turn does beside changing what the node keeps.
-#[derive(Debug, Drop)]
+#[derive(Drop)]
 pub struct Deed {
     /// The record that it writes, where it writes one.
     pub wrote: Option<RedoRecord>,

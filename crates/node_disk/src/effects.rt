@@ -8,7 +8,7 @@ use redo_record::RedoRecord;
 use wire_msg::{Input, Msg};
 
 /// A message as it is sent.
-#[derive(Debug, Drop)]
+#[derive(Drop)]
 pub struct Mailed {
     /// The message.
     pub msg: Msg,
@@ -23,7 +23,7 @@ pub type Sent = Listing<Mailed>;
 pub type Ends = Listing<Finished>;
 
 /// What a turn tells. Its record stands on the disk then.
-#[derive(Debug, Drop)]
+#[derive(Drop)]
 pub struct Effects {
     /// What came, as it was read.
     pub input: Input,

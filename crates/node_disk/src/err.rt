@@ -11,7 +11,7 @@ use redo_record::RedoRecord;
 use wire_msg::Input;
 
 /// Why a node was not made or started.
-#[derive(Clone, Copy, Debug, PartialEq, Eq)]
+#[derive(Clone, Copy)]
 pub enum MakeWhy {
     /// The disk failed.
     Fault,
@@ -20,7 +20,7 @@ pub enum MakeWhy {
 }
 
 /// A node that was not made or started.
-#[derive(Debug, Drop)]
+#[derive(Drop)]
 pub struct MakeErr<D> {
     /// The disk that was given.
     pub disk: D,
@@ -29,7 +29,7 @@ pub struct MakeErr<D> {
 }
 
 /// Where a turn was cut.
-#[derive(Clone, Copy, Debug, PartialEq, Eq)]
+#[derive(Clone, Copy, PartialEq, Eq)]
 pub enum CutAt {
     /// A point was reached before the record was written: the disk was not called.
     BeforeRecord,
@@ -40,7 +40,7 @@ pub enum CutAt {
 }
 
 /// A turn that was cut: nothing of it is told but what came, and the places that it passes.
-#[derive(Debug, Drop)]
+#[derive(Drop)]
 pub struct CutTurn {
     /// What came, as it was read.
     pub input: Input,
@@ -53,7 +53,7 @@ pub struct CutTurn {
 }
 
 /// Why a turn came to no end. The node takes no further turn.
-#[derive(Debug, Drop)]
+#[derive(Drop)]
 pub enum TurnErr {
     /// A point was reached, before the record was written or after, or the disk failed while it was written.
     Cut(CutTurn),
@@ -62,7 +62,7 @@ pub enum TurnErr {
 }
 
 /// Why the record of a turn is not told: the turn is cut, or there was no room.
-#[derive(Clone, Copy, Debug, PartialEq, Eq)]
+#[derive(Clone, Copy)]
 pub(crate) enum Unwritten {
     Cut(CutAt),
     NoMemory,

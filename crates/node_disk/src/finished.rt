@@ -8,7 +8,7 @@ use node_rules::{Ended, Finished as Call};
 use std::alloc::{AllocError, Global};
 
 /// The end of a client's call: the session that made it, and its answer. A node's turn alone makes one.
-#[derive(Debug, Drop)]
+#[derive(Drop)]
 pub struct Finished {
     call: Call,
 }

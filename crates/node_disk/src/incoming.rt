@@ -12,7 +12,7 @@ use std::alloc::{AllocError, Global};
 use wire_msg::{Input, Msg as MsgValue};
 
 /// What comes to a node from outside.
-#[derive(Debug, Drop)]
+#[derive(Drop)]
 pub enum Incoming {
     /// A call of a client session.
     Call {

@@ -25,7 +25,6 @@ use redo_record::Place;
 use std::alloc::{AllocError, Global};
 
 // What a node keeps at its first start. Fails where memory runs out.
-#[tactic(auto, using(crate::proofs::MakeLaws::none_had, crate::proofs::MakeLaws::none_booted, crate::proofs::MakeLaws::made_so))]
 fn first(alloc: Global, place: Place) -> Result<Memory, AllocError>
     ensures kept { IfOk result (λ memory. kept_in memory ≡ made) }
     ensures boot { IfOk result (λ memory. memory.boot ≡ 1) }
@@ -38,7 +37,6 @@ fn first(alloc: Global, place: Place) -> Result<Memory, AllocError>
 impl<D: Disk> Node<D> {
     /// Makes a node of this place on an empty disk: its log has the record of its first start. Each error gives the disk back:
     /// `Fault` where the disk failed, and `NoMemory` where memory ran out or the disk had no room, and then no record was written.
-    #[tactic(auto, using(crate::proofs::MakeLaws::may_be_begun))]
     pub fn make(alloc: Global, disk: D, place: Place) -> Result<Node<D>, MakeErr<D>>
         requires { D.content disk ≡ [] }
         ensures kept { IfOk result (λ node. kept_of node ≡ made) }
@@ -70,10 +68,13 @@ impl<D: Disk> Node<D> {
                     Ok(node) => Ok(node),
                     Err(err) => Err(err),
                 },
-                Err(redo_log::MakeErr { disk, why }) => Err(MakeErr {
-                    disk,
-                    why: create_why(why),
-                }),
+                Err(redo_log::MakeErr { disk, why }) => {
+                    drop(memory);
+                    Err(MakeErr {
+                        disk,
+                        why: create_why(why),
+                    })
+                }
             },
             Err(AllocError) => {
                 stands_still(&disk);

@@ -26,7 +26,6 @@ use redo_record::{Place, RedoRecord};
 use std::alloc::{AllocError, Global};
 
 /// What a node keeps after a start whose record is behind these. Fails where memory runs out.
-#[tactic(auto, using(crate::proofs::StartLaws::boot_may_follow, crate::proofs::StartLaws::started_so))]
 pub(crate) fn started(
     alloc: Global,
     place: Place,
@@ -97,7 +96,6 @@ pub(crate) fn begin<D: Disk>(
 }
 
 // A node whose log holds these records starts again.
-#[tactic(auto, using(crate::proofs::StartLaws::startable_left))]
 fn begin_again<D: Disk>(
     alloc: Global,
     place: Place,
@@ -149,7 +147,6 @@ impl<D: Disk> Node<D> {
     /// Starts a node of this place again, from its disk alone, whatever a crash has left of it: what it keeps is what its records
     /// say, and the record of this start stands behind them. Each error gives the disk back: `Fault` where the disk failed, and
     /// `NoMemory` where memory ran out or the disk had no room, and then nothing was written.
-    #[tactic(auto, using(crate::proofs::StartLaws::had_of, crate::proofs::StartLaws::startable_loaded, crate::proofs::StartLaws::startable_again, crate::proofs::PlanLaws::one_after, crate::proofs::PlanLaws::none_after))]
     pub fn start(alloc: Global, disk: D, place: Place) -> Result<Node<D>, MakeErr<D>>
         requires short { length (D.content disk) < 2 ^ 63 }
         requires startable { CanBeStarted D.content D.images disk }
@@ -186,8 +183,14 @@ impl<D: Disk> Node<D> {
     {
         match RecordLog::load(alloc, disk) {
             Ok((log, records)) => match begin_again(alloc, place, log, records.as_slice()) {
-                Ok(node) => Ok(node),
-                Err(err) => Err(err),
+                Ok(node) => {
+                    drop(records);
+                    Ok(node)
+                }
+                Err(err) => {
+                    drop(records);
+                    Err(err)
+                }
             },
             Err(LoadErr { disk, why }) => Err(MakeErr {
                 disk,

@@ -10,7 +10,6 @@ use row_store::Store;
 use tran_ids::Clock;
 
 /// All that a node keeps from turn to turn. Contracts see it as the rules' `Kept` by `kept_in`.
-#[derive(Drop)]
 pub struct Memory {
     /// The node's number, name and settings, and the names of all nodes.
     pub place: Place,
@@ -40,4 +39,33 @@ pub struct Memory {
     pub sessions: Sessions,
     // The store has the undo extents of the node's place.
     ghost own_undo: { store.extents ≡ place.undo },
+}
+
+impl Drop for Memory {
+    fn drop(self) {
+        let Memory {
+            place,
+            boot: _boot,
+            strength: _strength,
+            catalog,
+            kept,
+            store,
+            scn: _scn,
+            lives,
+            works,
+            locks,
+            clock: _clock,
+            opens,
+            sessions,
+        } = self;
+        drop(place);
+        drop(catalog);
+        drop(kept);
+        drop(store);
+        drop(lives);
+        drop(works);
+        drop(locks);
+        drop(opens);
+        drop(sessions);
+    }
 }

@@ -11,7 +11,7 @@ use redo_record::Standing;
 use session_tree::{Live, Walk, step};
 
 /// The places that a branch may pass in its next turn, as far as they depend on what its node keeps of it.
-#[derive(Clone, Copy, Debug)]
+#[derive(Clone, Copy)]
 pub struct Ahead {
     /// Where it says Ready.
     pub ready: Option<Passes>,

@@ -11,7 +11,7 @@ use std::marker::Model;
 use tran_ids::BranchId;
 
 /// A comment's point.
-#[derive(Clone, Copy, Debug)]
+#[derive(Clone, Copy)]
 pub struct Point {
     /// The root of the transaction that it is of.
     pub root: BranchId,
@@ -34,7 +34,7 @@ impl Model for Point {
 }
 
 /// Which places of a turn: those before its record, or those after it.
-#[derive(Clone, Copy, Debug)]
+#[derive(Clone, Copy)]
 pub enum Side {
     /// Before its record.
     Before,

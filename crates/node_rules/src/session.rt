@@ -34,7 +34,7 @@ pub struct Session {
 pub type Sessions = Listing<Session>;
 
 /// The end of a client's call.
-#[derive(Debug, Drop)]
+#[derive(Drop)]
 pub struct Finished {
     /// The client's session, 1 to 64.
     pub session: u32,

@@ -7,7 +7,6 @@ use sql_statement::Stmt;
 use tran_ids::BranchId;
 
 /// What a statement that was passed on waits for.
-#[derive(Debug, Drop)]
 pub enum Waits {
     /// The child that an Open asks for, over this link.
     ForOpened(Name),
@@ -15,8 +14,16 @@ pub enum Waits {
     ForReply(u8),
 }
 
+impl Drop for Waits {
+    fn drop(self) {
+        match self {
+            Waits::ForOpened(link) => drop(link),
+            Waits::ForReply(_number) => {}
+        }
+    }
+}
+
 /// A statement that was passed on and is not answered yet.
-#[derive(Debug, Drop)]
 pub struct Going {
     /// As it came to the branch.
     pub statement: Stmt,
@@ -26,11 +33,22 @@ pub struct Going {
     pub waits: Waits,
 }
 
+impl Drop for Going {
+    fn drop(self) {
+        let Going {
+            statement,
+            room: _room,
+            waits,
+        } = self;
+        drop(statement);
+        drop(waits);
+    }
+}
+
 /// The call numbers of edges, in order of reference.
 pub type CallNumbers = Listing<u32>;
 
 /// The calls of a live branch.
-#[derive(Debug, Drop)]
 pub struct Work {
     /// The live branch.
     pub branch: BranchId,
@@ -40,6 +58,20 @@ pub struct Work {
     pub calls: CallNumbers,
     /// The statement that it passed on and that is not answered yet.
     pub going: Option<Going>,
+}
+
+impl Drop for Work {
+    fn drop(self) {
+        let Work {
+            branch: _branch,
+            came,
+            calls,
+            going,
+        } = self;
+        drop(came);
+        drop(calls);
+        drop(going);
+    }
 }
 
 /// The calls of live branches.

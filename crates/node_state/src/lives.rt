@@ -21,9 +21,15 @@ use std::marker::Model;
 use tran_ids::BranchId;
 
 /// The live branches of a node, in the order in which they began. A branch is found by its id.
-#[derive(Drop)]
 pub struct Lives {
     lives: IndexMap<BranchId, Live>,
+}
+
+impl Drop for Lives {
+    fn drop(self) {
+        let Lives { lives } = self;
+        drop(lives);
+    }
 }
 
 impl Model for Lives {

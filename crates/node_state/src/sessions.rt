@@ -13,7 +13,7 @@ use tran_ids::BranchId;
 
 /// The client sessions of a node, which have numbers from 1 to 64. A number beyond those has a session that has done
 /// nothing, and stays so.
-#[derive(Debug, Drop)]
+#[derive(Drop)]
 pub struct Sessions {
     sessions: Vec<Session>,
 }

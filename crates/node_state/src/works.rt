@@ -21,9 +21,15 @@ use tran_ids::BranchId;
 
 /// The calls of the live branches of a node, in the order in which a branch's first came or was made. Those of a branch are
 /// found by its id.
-#[derive(Drop)]
 pub struct Works {
     works: IndexMap<BranchId, Work>,
+}
+
+impl Drop for Works {
+    fn drop(self) {
+        let Works { works } = self;
+        drop(works);
+    }
 }
 
 impl Model for Works {

@@ -10,7 +10,7 @@ use std::marker::Model;
 use tran_ids::{BranchId, node_name};
 
 /// A row of DBA_2PC_NEIGHBORS: the edge from a branch to a neighbour.
-#[derive(Debug, Drop)]
+#[derive(Drop)]
 pub struct NeighborRow {
     /// LOCAL_TRAN_ID: the branch.
     pub me: BranchId,

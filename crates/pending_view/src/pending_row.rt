@@ -13,7 +13,7 @@ use std::marker::Model;
 use tran_ids::BranchId;
 
 /// A row of DBA_2PC_PENDING.
-#[derive(Debug, Drop)]
+#[derive(Drop)]
 pub struct PendingRow {
     /// LOCAL_TRAN_ID: the branch.
     pub me: BranchId,

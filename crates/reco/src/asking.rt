@@ -6,7 +6,7 @@ use dtx_values::Listing;
 use tran_ids::BranchId;
 
 /// What one branch sends when its node recovers.
-#[derive(Debug, Drop)]
+#[derive(Drop)]
 pub struct Asking {
     /// The branch that sends.
     pub me: BranchId,

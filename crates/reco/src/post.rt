@@ -6,7 +6,7 @@ use tran_ids::BranchId;
 use wire_msg::Kind;
 
 /// A message before the node's clock is set on it.
-#[derive(Debug, Drop)]
+#[derive(Drop)]
 pub struct Post {
     /// The branch that sends it.
     pub from: BranchId,

@@ -25,7 +25,7 @@ pub enum LoadWhy {
 }
 
 /// A log that was not loaded.
-#[derive(Debug, Drop)]
+#[derive(Drop)]
 pub struct LoadErr<D> {
     /// The disk that was given.
     pub disk: D,

@@ -5,7 +5,7 @@ use std::alloc::{AllocFailed, Global};
 use std::marker::Model;
 
 /// The bodies of a log, in their order.
-#[derive(Debug, Drop)]
+#[derive(Drop)]
 pub struct Bodies {
     items: Vec<Vec<u8>>,
 }

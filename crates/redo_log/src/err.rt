@@ -39,7 +39,7 @@ pub enum LoadWhy {
 }
 
 /// A log that was not made.
-#[derive(Debug, Drop)]
+#[derive(Drop)]
 pub struct MakeErr<D> {
     /// The disk that was given.
     pub disk: D,
@@ -48,7 +48,7 @@ pub struct MakeErr<D> {
 }
 
 /// A log that was not loaded.
-#[derive(Debug, Drop)]
+#[derive(Drop)]
 pub struct LoadErr<D> {
     /// The disk that was given.
     pub disk: D,

@@ -28,7 +28,6 @@ impl Duplicate for State {
 }
 
 /// A child of a kept branch.
-#[derive(Debug, Drop)]
 pub struct Kid {
     /// The child.
     pub branch: BranchId,
@@ -36,6 +35,17 @@ pub struct Kid {
     pub link: Name,
     /// Whether it has acknowledged the commit. This is kept in memory alone.
     pub acked: bool,
+}
+
+impl Drop for Kid {
+    fn drop(self) {
+        let Kid {
+            branch: _branch,
+            link,
+            acked: _acked,
+        } = self;
+        drop(link);
+    }
 }
 
 /// Children in order of reference.
@@ -53,7 +63,6 @@ impl Duplicate for Kid {
 }
 
 /// A branch that the node keeps a row of.
-#[derive(Debug, Drop)]
 pub struct Standing {
     /// The branch.
     pub me: BranchId,
@@ -85,6 +94,29 @@ pub struct Standing {
     pub hidden: bool,
 }
 
+impl Drop for Standing {
+    fn drop(self) {
+        let Standing {
+            me: _me,
+            root: _root,
+            scn: _scn,
+            parent: _parent,
+            parent_acked: _parent_acked,
+            children,
+            toward: _toward,
+            advice: _advice,
+            comment,
+            state: _state,
+            decision: _decision,
+            mixed: _mixed,
+            forgot: _forgot,
+            hidden: _hidden,
+        } = self;
+        drop(children);
+        drop(comment);
+    }
+}
+
 impl Duplicate for Standing {
     fn copy(&self, alloc: Global) -> Result<Standing, AllocError> {
         let children = self.children.copy(alloc)?;
@@ -109,7 +141,6 @@ impl Duplicate for Standing {
 }
 
 /// What the records of a node say, but for its rows.
-#[derive(Debug, Drop)]
 pub struct Durable {
     /// Which start of the node this is, from 1, and 0 before it is made.
     pub boot: u32,
@@ -125,6 +156,24 @@ pub struct Durable {
     pub kept: KeptRows,
     /// The commit point strength that was set, where one was.
     pub strength: Option<u8>,
+}
+
+impl Drop for Durable {
+    fn drop(self) {
+        let Durable {
+            boot: _boot,
+            recovery: _recovery,
+            tables,
+            links,
+            synonyms,
+            kept,
+            strength: _strength,
+        } = self;
+        drop(tables);
+        drop(links);
+        drop(synonyms);
+        drop(kept);
+    }
 }
 
 impl Durable {

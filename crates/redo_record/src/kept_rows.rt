@@ -17,9 +17,15 @@ use std::mem;
 use tran_ids::BranchId;
 
 /// The rows of the branches that a node keeps, in the order of their ids. A row is found by halves.
-#[derive(Debug, Drop)]
 pub struct KeptRows {
     rows: Vec<Standing>,
+}
+
+impl Drop for KeptRows {
+    fn drop(self) {
+        let KeptRows { rows } = self;
+        drop(rows);
+    }
 }
 
 impl Model for KeptRows {

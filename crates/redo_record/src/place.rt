@@ -5,7 +5,6 @@ use dtx_values::{Duplicate, Listing, Names};
 use std::alloc::{AllocError, Global};
 
 /// A node's place among the nodes of a run.
-#[derive(Debug, Drop)]
 pub struct Place {
     /// The names of all nodes, in the order of their numbers.
     pub names: Names,
@@ -17,6 +16,19 @@ pub struct Place {
     pub links: u32,
     /// Its undo space, in extents of 4,096 bytes.
     pub undo: u32,
+}
+
+impl Drop for Place {
+    fn drop(self) {
+        let Place {
+            names,
+            number: _number,
+            strength: _strength,
+            links: _links,
+            undo: _undo,
+        } = self;
+        drop(names);
+    }
 }
 
 /// The places of all nodes, in the order of their numbers.

@@ -7,12 +7,21 @@ use std::alloc::{AllocError, Global};
 use tran_ids::BranchId;
 
 /// A child of a branch, and the link that leads to it.
-#[derive(Debug, Drop)]
 pub struct Peer {
     /// The child.
     pub branch: BranchId,
     /// The link.
     pub link: Name,
+}
+
+impl Drop for Peer {
+    fn drop(self) {
+        let Peer {
+            branch: _branch,
+            link,
+        } = self;
+        drop(link);
+    }
 }
 
 /// Children in order of reference.
@@ -59,7 +68,6 @@ impl Duplicate for Param {
 }
 
 /// A branch is prepared: its changes wait for the decision.
-#[derive(Debug, Drop)]
 pub struct Sealed {
     /// The branch.
     pub me: BranchId,
@@ -79,6 +87,25 @@ pub struct Sealed {
     pub comment: Bytes,
     /// What the branch changed.
     pub changes: Changes,
+}
+
+impl Drop for Sealed {
+    fn drop(self) {
+        let Sealed {
+            me: _me,
+            root: _root,
+            scn: _scn,
+            toward: _toward,
+            parent: _parent,
+            children,
+            advice: _advice,
+            comment,
+            changes,
+        } = self;
+        drop(children);
+        drop(comment);
+        drop(changes);
+    }
 }
 
 impl Duplicate for Sealed {
@@ -101,7 +128,6 @@ impl Duplicate for Sealed {
 }
 
 /// The commit point site decided to commit.
-#[derive(Debug, Drop)]
 pub struct Decided {
     /// The commit point site's branch.
     pub me: BranchId,
@@ -119,6 +145,24 @@ pub struct Decided {
     pub comment: Bytes,
     /// What the branch changed.
     pub changes: Changes,
+}
+
+impl Drop for Decided {
+    fn drop(self) {
+        let Decided {
+            me: _me,
+            root: _root,
+            scn: _scn,
+            parent: _parent,
+            children,
+            advice: _advice,
+            comment,
+            changes,
+        } = self;
+        drop(children);
+        drop(comment);
+        drop(changes);
+    }
 }
 
 impl Duplicate for Decided {
@@ -140,7 +184,6 @@ impl Duplicate for Decided {
 }
 
 /// What a node writes to its log.
-#[derive(Debug, Drop)]
 pub enum RedoRecord {
     /// The node was started: the number of this start, from 1.
     Boot(u32),
@@ -185,6 +228,36 @@ pub enum RedoRecord {
     Forgot(BranchId),
     /// A purge took the branch's row out of the view.
     Hidden(BranchId),
+}
+
+impl Drop for RedoRecord {
+    fn drop(self) {
+        match self {
+            RedoRecord::Boot(_boot) => {}
+            RedoRecord::Table(table) => drop(table),
+            RedoRecord::Link(link) => drop(link),
+            RedoRecord::Synonym(synonym) => drop(synonym),
+            RedoRecord::Param(_param) => {}
+            RedoRecord::Sealed(sealed) => drop(sealed),
+            RedoRecord::Decided(decided) => drop(decided),
+            RedoRecord::Ended {
+                me: _me,
+                decision: _decision,
+            } => {}
+            RedoRecord::Forced {
+                me: _me,
+                decision: _decision,
+                given: _given,
+            } => {}
+            RedoRecord::Met {
+                me: _me,
+                decision: _decision,
+                mixed: _mixed,
+            } => {}
+            RedoRecord::Forgot(_branch) => {}
+            RedoRecord::Hidden(_branch) => {}
+        }
+    }
 }
 
 impl Duplicate for RedoRecord {

@@ -14,9 +14,15 @@ use std::marker::Model;
 use tran_ids::BranchId;
 
 /// The numbers of each branch's locks, found by the branch's id.
-#[derive(Drop)]
 pub(crate) struct ByBranch {
     numbers: IndexMap<BranchId, Numbers>,
+}
+
+impl Drop for ByBranch {
+    fn drop(self) {
+        let ByBranch { numbers } = self;
+        drop(numbers);
+    }
 }
 
 impl Model for ByBranch {

@@ -4,7 +4,6 @@ use dtx_values::{Name, Value};
 use tran_ids::BranchId;
 
 /// A key of a table that a branch holds.
-#[derive(Drop)]
 pub(crate) struct HeldKey {
     pub(crate) table: Name,
     pub(crate) key: Value,
@@ -12,6 +11,20 @@ pub(crate) struct HeldKey {
     /// Whether the branch writes the row of the key.
     pub(crate) writes: bool,
     pub(crate) in_doubt: bool,
+}
+
+impl Drop for HeldKey {
+    fn drop(self) {
+        let HeldKey {
+            table,
+            key,
+            branch: _branch,
+            writes: _writes,
+            in_doubt: _in_doubt,
+        } = self;
+        drop(table);
+        drop(key);
+    }
 }
 
 /// The branch that holds a key.

@@ -20,10 +20,17 @@ pub type Keys = Listing<Value>;
 
 /// Which branch holds which key of which table. What a branch does to its locks costs what it has, however many others there
 /// are.
-#[derive(Drop)]
 pub struct Locks {
     locks: NumberedLocks,
     by_branch: ByBranch,
+}
+
+impl Drop for Locks {
+    fn drop(self) {
+        let Locks { locks, by_branch } = self;
+        drop(locks);
+        drop(by_branch);
+    }
 }
 
 impl Model for Locks {

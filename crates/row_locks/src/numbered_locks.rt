@@ -18,7 +18,6 @@ use std::collections::BTreeMap;
 use std::marker::Model;
 
 /// The locks of a node, each with a number of its own. A lock that is taken later has a greater number.
-#[derive(Drop)]
 pub(crate) struct NumberedLocks {
     locks: BTreeMap<u64, HeldKey>,
     // The number of the lock on each key.
@@ -27,6 +26,19 @@ pub(crate) struct NumberedLocks {
     next: u64,
     // How many locks are in doubt.
     doubts: usize,
+}
+
+impl Drop for NumberedLocks {
+    fn drop(self) {
+        let NumberedLocks {
+            locks,
+            numbers,
+            next: _next,
+            doubts: _doubts,
+        } = self;
+        drop(locks);
+        drop(numbers);
+    }
 }
 
 impl Model for NumberedLocks {

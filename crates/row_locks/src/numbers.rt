@@ -8,9 +8,15 @@ use std::alloc::{AllocError, Global};
 use std::marker::Model;
 
 /// The numbers of a branch's locks, in order.
-#[derive(Drop)]
 pub(crate) struct Numbers {
     numbers: Vec<u64>,
+}
+
+impl Drop for Numbers {
+    fn drop(self) {
+        let Numbers { numbers } = self;
+        drop(numbers);
+    }
 }
 
 impl Model for Numbers {

@@ -14,11 +14,20 @@ use std::marker::Model;
 use tran_ids::BranchId;
 
 /// The changes of a branch in doubt, each with the row from before it.
-#[derive(Drop)]
 pub(crate) struct HeldChanges {
     made: Vec<Made>,
     // The extents that their undo takes.
     extents: u64,
+}
+
+impl Drop for HeldChanges {
+    fn drop(self) {
+        let HeldChanges {
+            made,
+            extents: _extents,
+        } = self;
+        drop(made);
+    }
 }
 
 impl Model for HeldChanges {
@@ -57,16 +66,29 @@ impl HeldChanges {
     pub(crate) fn into_vec(self) -> Vec<Made>
         ensures { result.items ≡ self }
     {
-        self.made
+        let HeldChanges {
+            made,
+            extents: _extents,
+        } = self;
+        made
     }
 }
 
 /// The branches in doubt, in the order in which they became so. What a branch holds back is found by its id.
-#[derive(Drop)]
 pub(crate) struct HeldBack {
     doubts: IndexMap<BranchId, HeldChanges>,
     // The extents that the undo of all takes.
     used: u64,
+}
+
+impl Drop for HeldBack {
+    fn drop(self) {
+        let HeldBack {
+            doubts,
+            used: _used,
+        } = self;
+        drop(doubts);
+    }
 }
 
 impl Model for HeldBack {

@@ -33,7 +33,6 @@ struct Next {
 }
 
 /// Changes in order. The last one at a key is found by a hash table of the keys.
-#[derive(Drop)]
 pub(crate) struct MadeChanges {
     made: Vec<Made>,
     // For each change, the place of the last one before it at its key.
@@ -42,6 +41,21 @@ pub(crate) struct MadeChanges {
     places: IndexMap<ChangedKey<'static>, usize>,
     bytes: u64,
     undo: u64,
+}
+
+impl Drop for MadeChanges {
+    fn drop(self) {
+        let MadeChanges {
+            made,
+            earlier,
+            places,
+            bytes: _bytes,
+            undo: _undo,
+        } = self;
+        drop(made);
+        drop(earlier);
+        drop(places);
+    }
 }
 
 impl Model for MadeChanges {
@@ -88,7 +102,16 @@ impl MadeChanges {
     pub(crate) fn into_vec(self) -> Vec<Made>
         ensures { result.items ≡ self }
     {
-        self.made
+        let MadeChanges {
+            made,
+            earlier,
+            places,
+            bytes: _bytes,
+            undo: _undo,
+        } = self;
+        drop(earlier);
+        drop(places);
+        made
     }
 
     /// The bytes of the changes.

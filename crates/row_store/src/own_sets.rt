@@ -11,11 +11,18 @@ use std::alloc::{AllocError, Global};
 use std::marker::Model;
 
 /// The changes of a branch, a set for each statement. The last set can be taken back.
-#[derive(Drop)]
 pub(crate) struct OwnSets {
     made: MadeChanges,
     // How many changes each set has.
     sizes: Vec<usize>,
+}
+
+impl Drop for OwnSets {
+    fn drop(self) {
+        let OwnSets { made, sizes } = self;
+        drop(made);
+        drop(sizes);
+    }
 }
 
 impl Model for OwnSets {
@@ -80,7 +87,9 @@ impl OwnSets {
     pub(crate) fn into_made(self) -> Vec<Made>
         ensures { changes_in result.items ≡ changes_of self }
     {
-        self.made.into_vec()
+        let OwnSets { made, sizes } = self;
+        drop(sizes);
+        made.into_vec()
     }
 
     /// Adds the set of one more statement.

@@ -16,11 +16,17 @@ use std::marker::Model;
 use tran_ids::BranchId;
 
 /// The changes of all live branches, in order of each branch's first. Those of a branch are found by its id.
-#[derive(Drop)]
 pub(crate) struct Owns {
     owns: IndexMap<BranchId, OwnSets>,
     // The extents that the undo of all takes.
     used: u64,
+}
+
+impl Drop for Owns {
+    fn drop(self) {
+        let Owns { owns, used: _used } = self;
+        drop(owns);
+    }
 }
 
 impl Model for Owns {

@@ -5,7 +5,6 @@ use dtx_values::{Changes, Listing};
 use tran_ids::BranchId;
 
 /// What one statement changed.
-#[derive(Debug, Drop)]
 pub struct ChangeSet {
     /// The changes, in order.
     pub changes: Changes,
@@ -13,11 +12,18 @@ pub struct ChangeSet {
     pub undo: Changes,
 }
 
+impl Drop for ChangeSet {
+    fn drop(self) {
+        let ChangeSet { changes, undo } = self;
+        drop(changes);
+        drop(undo);
+    }
+}
+
 /// The changes of several statements, in the order in which these were run.
 pub type ChangeSets = Listing<ChangeSet>;
 
 /// What a live branch has changed.
-#[derive(Debug, Drop)]
 pub struct Owned {
     /// The branch.
     pub branch: BranchId,
@@ -25,11 +31,20 @@ pub struct Owned {
     pub sets: ChangeSets,
 }
 
+impl Drop for Owned {
+    fn drop(self) {
+        let Owned {
+            branch: _branch,
+            sets,
+        } = self;
+        drop(sets);
+    }
+}
+
 /// The changes of all live branches, in order of each branch's first.
 pub type OwnedList = Listing<Owned>;
 
 /// What a branch in doubt holds back.
-#[derive(Debug, Drop)]
 pub struct Doubt {
     /// The branch.
     pub branch: BranchId,
@@ -37,6 +52,18 @@ pub struct Doubt {
     pub changes: Changes,
     /// The key of each change, with the row from before it.
     pub undo: Changes,
+}
+
+impl Drop for Doubt {
+    fn drop(self) {
+        let Doubt {
+            branch: _branch,
+            changes,
+            undo,
+        } = self;
+        drop(changes);
+        drop(undo);
+    }
 }
 
 /// The branches in doubt, in the order in which they were sealed.

@@ -34,8 +34,9 @@ fn make_change(tables: &mut TablePlaces, change: Change)
     ensures rows { rows_in tables.new ≡ apply_all (rows_in tables.old) (change ∷ []) }
     ensures places { (name : List ℕ) (key : AnyValue) → has_place_in tables.new name key ≡ has_place_in tables.old name key }
 {
-    let Change { table, key, after } = change;
-    tables.set(&table, &key, after);
+    let mut change = change;
+    let after = change.after.take();
+    tables.set(&change.table, &change.key, after);
 }
 
 /// Makes a place for each of these changes. After an error some may have been made.

@@ -17,9 +17,15 @@ use std::marker::Model;
 use std::mem;
 
 /// The rows of a table by their keys, and places for rows to come. A row that is put at a place takes no memory.
-#[derive(Drop)]
 pub(crate) struct RowPlaces {
     rows: BTreeMap<Value, Option<Row>>,
+}
+
+impl Drop for RowPlaces {
+    fn drop(self) {
+        let RowPlaces { rows } = self;
+        drop(rows);
+    }
 }
 
 impl Model for RowPlaces {

@@ -30,12 +30,25 @@ use tran_ids::BranchId;
 /// The committed rows of a node, for each live branch the changes of its statements with the rows from before them, and the
 /// changes that branches in doubt hold back. A commit moves rows to places that were made for them when the changes came, and
 /// takes no memory.
-#[derive(Drop)]
 pub struct Store {
     tables: TablePlaces,
     owns: Owns,
     doubts: HeldBack,
     extents: u32,
+}
+
+impl Drop for Store {
+    fn drop(self) {
+        let Store {
+            tables,
+            owns,
+            doubts,
+            extents: _extents,
+        } = self;
+        drop(tables);
+        drop(owns);
+        drop(doubts);
+    }
 }
 
 impl Model for Store {

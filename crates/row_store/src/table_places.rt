@@ -17,9 +17,15 @@ use std::alloc::{AllocError, Global};
 use std::marker::Model;
 
 /// The rows of each table, found by a hash table of the names.
-#[derive(Drop)]
 pub(crate) struct TablePlaces {
     tables: IndexMap<Name, RowPlaces>,
+}
+
+impl Drop for TablePlaces {
+    fn drop(self) {
+        let TablePlaces { tables } = self;
+        drop(tables);
+    }
 }
 
 impl Model for TablePlaces {

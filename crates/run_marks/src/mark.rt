@@ -8,7 +8,7 @@ use tran_ids::BranchId;
 use wire_msg::KindName;
 
 /// A command as it was asked, and its answers, both as lines.
-#[derive(Debug, Drop)]
+#[derive(Drop)]
 pub struct Told {
     /// The text of the command.
     pub text: Texts,
@@ -20,7 +20,7 @@ pub struct Told {
 pub type Tale = Listing<Told>;
 
 /// The rows of a command: from its own row to that of the next one.
-#[derive(Debug, Drop)]
+#[derive(Drop)]
 pub struct Band {
     /// The command's number, from 1.
     pub command: u32,
@@ -174,7 +174,7 @@ pub struct Parting {
 }
 
 /// All that a picture shows.
-#[derive(Debug, Drop)]
+#[derive(Drop)]
 pub struct Marks {
     /// A lane for each node, by the names of the nodes in the order of their numbers.
     pub lanes: Names,

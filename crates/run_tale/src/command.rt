@@ -121,30 +121,6 @@ fn put_node_and(
     put_counted(out, what, number)
 }
 
-fn kind_word(kind: KindName) -> &'static [u8]
-    ensures { result.now ≡ kind_text kind }
-{
-    match kind {
-        KindName::Open => b"OPEN",
-        KindName::Opened => b"OPENED",
-        KindName::Exec => b"EXEC",
-        KindName::Reply => b"REPLY",
-        KindName::Prepare => b"PREPARE",
-        KindName::Prepared => b"PREPARED",
-        KindName::ReadOnly => b"READONLY",
-        KindName::Ready => b"READY",
-        KindName::Abort => b"ABORT",
-        KindName::CommitPoint => b"COMMITPOINT",
-        KindName::Committed => b"COMMITTED",
-        KindName::RolledBack => b"ROLLEDBACK",
-        KindName::InDoubt => b"INDOUBT",
-        KindName::Ack => b"ACK",
-        KindName::Forgotten => b"FORGOTTEN",
-        KindName::Rollback => b"ROLLBACK",
-        KindName::Ask => b"ASK",
-    }
-}
-
 fn put_lose_next(
     out: &mut Vec<u8>,
     names: &[Name],
@@ -155,7 +131,7 @@ fn put_lose_next(
     ensures { OnOk result (out.new.items ≡ out.old.items ++ codes "LOSE NEXT " ++ kind_text kind ++ of_pair names.now (codes " ") from to) }
 {
     out.extend_from_slice(b"LOSE NEXT ")?;
-    out.extend_from_slice(kind_word(kind))?;
+    out.extend_from_slice(kind.text())?;
     put_pair(out, names, b" ", from, to)
 }
 

@@ -16,7 +16,7 @@ const HAPPENING_LIMIT: usize = 2_147_483_648;
 
 /// The nodes of a run and its script, and what has happened so far, each happening the one that was due; beside them the
 /// book of their records.
-#[derive(Debug, Drop)]
+#[derive(Drop)]
 pub struct Trace {
     places: Places,
     asked: Commands,
@@ -35,7 +35,7 @@ impl Model for Trace {
 }
 
 /// A trace as plain lists.
-#[derive(Debug, Drop)]
+#[derive(Drop)]
 pub struct Recorded {
     /// The places of the nodes, in the order of their numbers.
     pub places: Places,

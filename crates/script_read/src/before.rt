@@ -3,7 +3,7 @@
 use dtx_values::Names;
 
 /// The nodes so far, and whether a command has come that makes none.
-#[derive(Debug, Drop)]
+#[derive(Drop)]
 pub struct Before {
     pub names: Names,
     pub others: bool,

@@ -7,7 +7,7 @@ use std::alloc::{AllocError, Global};
 use wire_msg::KindName;
 
 /// What a write that stops a node leaves on the disk.
-#[derive(Debug, Drop)]
+#[derive(Drop)]
 pub enum How {
     /// So many of its first bytes.
     Keep(u32),
@@ -25,7 +25,7 @@ impl Duplicate for How {
 }
 
 /// A command of a script. A node stands as its number, from 1 in the order of the NODE commands.
-#[derive(Debug, Drop)]
+#[derive(Drop)]
 pub enum Command {
     /// Makes a node.
     Node {

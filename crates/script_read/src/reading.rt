@@ -4,7 +4,7 @@ use crate::before::Before;
 use crate::command::Commands;
 
 /// The commands so far.
-#[derive(Debug, Drop)]
+#[derive(Drop)]
 pub struct Reading {
     pub commands: Commands,
     pub before: Before,

@@ -61,7 +61,7 @@ impl Status {
 }
 
 /// What was done.
-#[derive(Debug, Drop)]
+#[derive(Drop)]
 pub struct Run {
     /// The commands of the script.
     pub commands: Commands,
@@ -150,7 +150,7 @@ impl Run {
 }
 
 /// How the program ended, and what it did.
-#[derive(Debug, Drop)]
+#[derive(Drop)]
 pub struct Outcome {
     /// How it ended.
     pub status: Status,

@@ -29,7 +29,6 @@ impl Duplicate for Vote {
 }
 
 /// A child of a live branch, and what the branch knows of it from its answers.
-#[derive(Debug, Drop)]
 pub struct Edge {
     /// The child.
     pub peer: BranchId,
@@ -43,6 +42,20 @@ pub struct Edge {
     pub count: u16,
     /// Its answer to Prepare.
     pub vote: Vote,
+}
+
+impl Drop for Edge {
+    fn drop(self) {
+        let Edge {
+            peer: _peer,
+            link,
+            strength: _strength,
+            weight: _weight,
+            count: _count,
+            vote: _vote,
+        } = self;
+        drop(link);
+    }
 }
 
 /// Edges in order of reference.

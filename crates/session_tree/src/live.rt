@@ -27,7 +27,6 @@ impl Duplicate for Phase {
 }
 
 /// A live branch: neither sealed nor decided nor gone. A stop of its node loses it.
-#[derive(Debug, Drop)]
 pub struct Live {
     /// Its id.
     pub me: BranchId,
@@ -49,6 +48,25 @@ pub struct Live {
     pub advice: Option<Advice>,
     /// The comment of the COMMIT, once that has come; empty before.
     pub comment: Bytes,
+}
+
+impl Drop for Live {
+    fn drop(self) {
+        let Live {
+            me: _me,
+            root: _root,
+            parent: _parent,
+            depth: _depth,
+            changed: _changed,
+            strength: _strength,
+            edges,
+            phase: _phase,
+            advice: _advice,
+            comment,
+        } = self;
+        drop(edges);
+        drop(comment);
+    }
 }
 
 /// Live branches in order of beginning.

@@ -3,7 +3,7 @@
 use dtx_values::{Cells, Refusal};
 
 /// What the checks of a statement come to.
-#[derive(Debug, Drop)]
+#[derive(Drop)]
 pub enum Checked {
     /// The first refusal that applies.
     Refused(Refusal),

@@ -6,7 +6,7 @@ use std::alloc::{AllocError, Global};
 use std::marker::Model;
 
 /// A row of a table, and its key. A table's rows stand in the order of their keys.
-#[derive(Debug, Drop)]
+#[derive(Drop)]
 pub struct Keyed {
     /// What the row has in the key column.
     pub key: Value,

@@ -3,7 +3,7 @@
 use dtx_values::{Changes, Done, Listing, Refusal, RowSet, Value};
 
 /// What a statement says of a table, once it has passed the checks that need no row.
-#[derive(Debug, Drop)]
+#[derive(Drop)]
 pub enum Meant {
     /// A query finds rows.
     Gives(RowSet),
@@ -21,7 +21,7 @@ pub enum Meant {
 }
 
 /// What a statement comes to over the rows of its table.
-#[derive(Debug, Drop)]
+#[derive(Drop)]
 pub struct Outcome {
     /// The keys that it writes.
     pub keys: Listing<Value>,

@@ -6,7 +6,7 @@ use dtx_values::Refusal;
 use std::alloc::{AllocError, AllocFailed};
 
 /// Why a statement came to nothing.
-#[derive(Debug, Drop)]
+#[derive(Drop)]
 pub enum SqlErr {
     /// It is refused.
     Refused(Refusal),

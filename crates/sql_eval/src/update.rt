@@ -14,7 +14,7 @@ use std::alloc::{AllocError, Global};
 fn with_cell(row: Row, place: usize, value: Value) -> Row
     ensures { result ≡ record { cells = slice_set row.cells place value } }
 {
-    let mut cells = row.cells.into_vec();
+    let mut cells = row.into_cells().into_vec();
     if let Some(cell) = cells.get_mut(place) {
         *cell = value;
     }

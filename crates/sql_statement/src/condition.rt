@@ -28,7 +28,6 @@ impl Duplicate for Sign {
 }
 
 /// One condition on a row.
-#[derive(Debug, Drop)]
 pub enum Cond {
     /// `column sign literal`
     Compare {
@@ -46,6 +45,25 @@ pub enum Cond {
         /// Whether NOT stands.
         negated: bool,
     },
+}
+
+impl Drop for Cond {
+    fn drop(self) {
+        match self {
+            Cond::Compare {
+                column,
+                sign: _sign,
+                literal,
+            } => {
+                drop(column);
+                drop(literal);
+            }
+            Cond::IsNull {
+                column,
+                negated: _negated,
+            } => drop(column),
+        }
+    }
 }
 
 /// The conditions of a WHERE, joined by AND; none where a statement has no WHERE.

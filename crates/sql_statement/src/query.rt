@@ -5,7 +5,6 @@ use dtx_values::{Duplicate, Name, Names};
 use std::alloc::{AllocError, Global};
 
 /// The list of a SELECT.
-#[derive(Debug, Drop)]
 pub enum Picked {
     /// `*`
     All,
@@ -15,6 +14,17 @@ pub enum Picked {
     Sum(Name),
     /// Columns by their names.
     Columns(Names),
+}
+
+impl Drop for Picked {
+    fn drop(self) {
+        match self {
+            Picked::All => {}
+            Picked::Count => {}
+            Picked::Sum(name) => drop(name),
+            Picked::Columns(names) => drop(names),
+        }
+    }
 }
 
 impl Duplicate for Picked {

@@ -9,12 +9,19 @@ use dtx_values::{Advice, Bytes, Duplicate, Link, Listing, Name, Names, Synonym, 
 use std::alloc::{AllocError, Global};
 
 /// A table by its name, `T`, or a remote table, `T@LINK`.
-#[derive(Debug, Drop)]
 pub struct TableRef {
     /// The name of the table, or of a synonym of one.
     pub name: Name,
     /// The database link of a remote table.
     pub link: Option<Name>,
+}
+
+impl Drop for TableRef {
+    fn drop(self) {
+        let TableRef { name, link } = self;
+        drop(name);
+        drop(link);
+    }
 }
 
 impl Duplicate for TableRef {
@@ -27,12 +34,19 @@ impl Duplicate for TableRef {
 }
 
 /// An assignment of an UPDATE.
-#[derive(Debug, Drop)]
 pub struct Set {
     /// The column that gets a value.
     pub column: Name,
     /// Its new value, over the row as it was.
     pub to: Sum,
+}
+
+impl Drop for Set {
+    fn drop(self) {
+        let Set { column, to } = self;
+        drop(column);
+        drop(to);
+    }
 }
 
 /// The assignments of an UPDATE, in the order of its text.
@@ -48,7 +62,6 @@ impl Duplicate for Set {
 }
 
 /// A statement.
-#[derive(Debug, Drop)]
 pub enum Stmt {
     /// CREATE TABLE
     CreateTable(Table),
@@ -125,6 +138,45 @@ pub enum Stmt {
         /// A local transaction id.
         id: Bytes,
     },
+}
+
+impl Drop for Stmt {
+    fn drop(self) {
+        match self {
+            Stmt::CreateTable(table) => drop(table),
+            Stmt::CreateLink(link) => drop(link),
+            Stmt::CreateSynonym(synonym) => drop(synonym),
+            Stmt::Insert {
+                table,
+                columns,
+                values,
+            } => {
+                drop(table);
+                drop(columns);
+                drop(values);
+            }
+            Stmt::Update { table, sets, conds } => drop((table, sets, conds)),
+            Stmt::Delete { table, conds } => drop((table, conds)),
+            Stmt::Select {
+                list,
+                table,
+                conds,
+                for_update: _for_update,
+            } => {
+                drop(list);
+                drop(table);
+                drop(conds);
+            }
+            Stmt::Commit { comment } => drop(comment),
+            Stmt::CommitForce { id, scn: _scn } => drop(id),
+            Stmt::RollbackForce { id } | Stmt::PurgeMixed { id } | Stmt::PurgeLost { id } => {
+                drop(id)
+            }
+            Stmt::Rollback => {}
+            Stmt::Advise(_advice) => {}
+            Stmt::Recovery(_on) => {}
+        }
+    }
 }
 
 impl Duplicate for Stmt {

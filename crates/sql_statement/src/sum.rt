@@ -5,12 +5,20 @@ use dtx_values::{Duplicate, Listing, Name, Value};
 use std::alloc::{AllocError, Global};
 
 /// One term of a sum.
-#[derive(Debug, Drop)]
 pub enum Term {
     /// What the row has in this column.
     Column(Name),
     /// A literal.
     Literal(Value),
+}
+
+impl Drop for Term {
+    fn drop(self) {
+        match self {
+            Term::Column(name) => drop(name),
+            Term::Literal(value) => drop(value),
+        }
+    }
 }
 
 impl Duplicate for Term {
@@ -23,12 +31,21 @@ impl Duplicate for Term {
 }
 
 /// A further term, added or subtracted.
-#[derive(Debug, Drop)]
 pub struct Step {
     /// Whether the term is subtracted.
     pub minus: bool,
     /// The term.
     pub term: Term,
+}
+
+impl Drop for Step {
+    fn drop(self) {
+        let Step {
+            minus: _minus,
+            term,
+        } = self;
+        drop(term);
+    }
 }
 
 /// The terms after the first, from left to right.
@@ -45,12 +62,19 @@ impl Duplicate for Step {
 }
 
 /// A term, or several terms that are added up from left to right.
-#[derive(Debug, Drop)]
 pub struct Sum {
     /// The first term.
     pub first: Term,
     /// The terms after it, with their signs.
     pub rest: Steps,
+}
+
+impl Drop for Sum {
+    fn drop(self) {
+        let Sum { first, rest } = self;
+        drop(first);
+        drop(rest);
+    }
 }
 
 /// Sums in order.

@@ -4,7 +4,7 @@ use dtx_values::{Changes, Done, Refusal, RowSet};
 use row_locks::Keys;
 
 /// What a statement does at the node of its table.
-#[derive(Debug, Drop)]
+#[derive(Drop)]
 pub enum Ran {
     /// It is refused: nothing is changed and nothing is locked.
     Refuses(Refusal),

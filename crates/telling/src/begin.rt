@@ -18,7 +18,7 @@ use telling_parts::{
 };
 
 /// What is known of the facts of a run as a command begins.
-#[derive(Debug, Drop)]
+#[derive(Drop)]
 pub struct BeginFacts {
     /// The number of the command before it, and 0 before the first.
     pub running: u32,

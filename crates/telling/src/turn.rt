@@ -18,7 +18,7 @@ use telling_parts::{Point, call_at};
 use wire_msg::Input;
 
 /// What is known of a turn beside its happening.
-#[derive(Debug, Drop)]
+#[derive(Drop)]
 pub struct TurnFacts {
     /// The session before the turn that calls, where the input is a client's call.
     pub caller: Session,

@@ -11,7 +11,7 @@ use std::alloc::{AllocError, Global};
 use std::marker::Model;
 
 /// The lines of the command that runs.
-#[derive(Debug, Drop)]
+#[derive(Drop)]
 pub struct Page {
     // Its own.
     own: Vec<Said>,

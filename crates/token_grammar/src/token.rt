@@ -4,7 +4,7 @@ use crate::Mark;
 use dtx_values::{Bytes, Listing};
 
 /// A piece of a text, as long as it can be.
-#[derive(Debug, Drop)]
+#[derive(Drop)]
 pub enum Token {
     /// A letter and the letters, digits, `_`, `$`, `#` and dots that run on from it, kept in upper case. Keywords are
     /// words, and so are names: whether a word is a name is for the grammar to say.

@@ -5,7 +5,7 @@ ghost use Rattle.std.specs.Prelude.{◌≡◌, ◌+◌, ◌-◌, ◌<◌, ◌^�
 use std::marker::Model;
 
 /// A clock of system change numbers (SCNs), which have 48 bits. It never goes back.
-#[derive(Debug, Drop)]
+#[derive(Drop)]
 pub struct Clock {
     scn: u64,
 }

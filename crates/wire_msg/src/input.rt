@@ -7,7 +7,6 @@ use sql_statement::Stmt;
 use std::alloc::{AllocError, Global};
 
 /// What comes to a node.
-#[derive(Debug, Drop)]
 pub enum Input {
     /// A call of a client session.
     Call {
@@ -25,6 +24,20 @@ pub enum Input {
     Message(Msg),
     /// The recoverer process RECO is called: the node asks about its branches in doubt.
     Reco,
+}
+
+impl Drop for Input {
+    fn drop(self) {
+        match self {
+            Input::Call {
+                session: _session,
+                statement,
+            } => drop(statement),
+            Input::GiveUp { session: _session } => {}
+            Input::Message(msg) => drop(msg),
+            Input::Reco => {}
+        }
+    }
 }
 
 impl Duplicate for Input {

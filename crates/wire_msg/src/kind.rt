@@ -1,5 +1,6 @@
 //! The kinds of messages. The guide has the phases prepare, commit and forget; the messages are dtx's own.
 ghost use Rattle.std.specs.Prelude.{◌≡◌};
+ghost use Rattle.wire_msg.specs.Names.{kind_text};
 
 use dtx_values::{Advice, Answer, Bytes, Duplicate};
 use sql_statement::Stmt;
@@ -7,7 +8,6 @@ use std::alloc::{AllocError, Global};
 use tran_ids::BranchId;
 
 /// What a message says.
-#[derive(Debug, Drop)]
 pub enum Kind {
     /// A branch asks a node for a child, over a link that it has not used yet.
     Open {
@@ -81,6 +81,69 @@ pub enum Kind {
     Rollback,
     /// RECO asks for the decision.
     Ask,
+}
+
+impl Drop for Kind {
+    fn drop(self) {
+        match self {
+            Kind::Open {
+                edge: _edge,
+                root: _root,
+                depth: _depth,
+            } => {}
+            Kind::Opened {
+                edge: _edge,
+                strength: _strength,
+            } => {}
+            Kind::Exec {
+                call: _call,
+                room: _room,
+                advice: _advice,
+                statement,
+            } => drop(statement),
+            Kind::Reply {
+                call: _call,
+                weight: _weight,
+                count: _count,
+                result,
+            } => drop(result),
+            Kind::Prepare {
+                site_below: _site_below,
+                comment,
+            } => drop(comment),
+            Kind::Prepared | Kind::ReadOnly | Kind::Ready | Kind::Abort | Kind::CommitPoint => {}
+            Kind::Committed { scn: _scn } => {}
+            Kind::RolledBack | Kind::InDoubt | Kind::Ack => {}
+            Kind::Forgotten | Kind::Rollback | Kind::Ask => {}
+        }
+    }
+}
+
+impl KindName {
+    /// The name as it is printed.
+    pub fn text(self) -> &'static [u8]
+        ensures { result.now ≡ kind_text self }
+    {
+        match self {
+            KindName::Open => b"OPEN",
+            KindName::Opened => b"OPENED",
+            KindName::Exec => b"EXEC",
+            KindName::Reply => b"REPLY",
+            KindName::Prepare => b"PREPARE",
+            KindName::Prepared => b"PREPARED",
+            KindName::ReadOnly => b"READONLY",
+            KindName::Ready => b"READY",
+            KindName::Abort => b"ABORT",
+            KindName::CommitPoint => b"COMMITPOINT",
+            KindName::Committed => b"COMMITTED",
+            KindName::RolledBack => b"ROLLEDBACK",
+            KindName::InDoubt => b"INDOUBT",
+            KindName::Ack => b"ACK",
+            KindName::Forgotten => b"FORGOTTEN",
+            KindName::Rollback => b"ROLLBACK",
+            KindName::Ask => b"ASK",
+        }
+    }
 }
 
 impl Duplicate for Kind {

@@ -8,7 +8,6 @@ use tran_ids::BranchId;
 
 /// A message from a branch to a branch. An Open is for a node, since its branch is not there yet: boot, session and
 /// seq of its `to` are 0.
-#[derive(Debug, Drop)]
 pub struct Msg {
     /// The branch that sends it.
     pub from: BranchId,
@@ -18,6 +17,18 @@ pub struct Msg {
     pub scn: u64,
     /// Its kind, with what it says.
     pub kind: Kind,
+}
+
+impl Drop for Msg {
+    fn drop(self) {
+        let Msg {
+            from: _from,
+            to: _to,
+            scn: _scn,
+            kind,
+        } = self;
+        drop(kind);
+    }
 }
 
 /// Messages in order.

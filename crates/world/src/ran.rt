@@ -29,7 +29,7 @@ pub enum Ended {
 }
 
 /// A run that has ended.
-#[derive(Debug, Drop)]
+#[derive(Drop)]
 pub struct Ran {
     /// Its nodes and its script, what happened, and the book.
     pub recorded: Recorded,

@@ -4,7 +4,7 @@ ghost use Rattle.std.specs.Prelude.{◌≡◌};
 use std::marker::Model;
 
 /// The numbers of the places that a parcel passes, in order.
-#[derive(Debug, Drop)]
+#[derive(Drop)]
 pub struct Stops {
     items: Vec<u16>,
 }
@@ -34,7 +34,7 @@ impl Stops {
 }
 
 /// Some bytes.
-#[derive(Debug, Drop)]
+#[derive(Drop)]
 pub struct Text {
     bytes: Vec<u8>,
 }
@@ -64,7 +64,7 @@ impl Text {
 }
 
 /// What a parcel holds.
-#[derive(Debug, Drop)]
+#[derive(Drop)]
 pub enum Contents {
     /// So many letters.
     Letters(u16),
@@ -73,7 +73,7 @@ pub enum Contents {
 }
 
 /// The label of a parcel.
-#[derive(Debug, Drop)]
+#[derive(Drop)]
 pub struct Label {
     /// Its weight in grams.
     pub weight: u16,

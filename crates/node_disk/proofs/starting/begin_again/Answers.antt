@@ -1,10 +1,12 @@
 -- A node that started again is ready and can take its next turn, and a crash at any moment leaves a disk to start from.
-use Rattle.std.proofs.Common.{ℕ, ◌∷◌, [], ◌++◌, ◌∙◌, subst}
+use Rattle.std.proofs.Common.{ℕ, ◌∷◌, [], ◌++◌, ◌∙◌, sym, subst}
 use Rattle.redo_record.specs.declared.record.RedoRecord.TheVariants as records
 use Rattle.record_log.specs.Held.{HoldRecords, GrowsByPlan}
 use Rattle.record_log.specs.Log.{disk_of as disk_of_log}
+use Rattle.block_disk.specs.Images.{AtEachMoment}
+use Rattle.node_disk.specs.Starts.{IsStartable}
 use Rattle.node_disk.specs.OnDisk.{place_of, kept_of, disk_of}
-use Rattle.node_disk.proofs.StartLaws.{ready_started, stands_started, startable_begun}
+use Rattle.node_disk.proofs.StartLaws.{ready_started, stands_started, startable_begun, startable_left}
 use Rattle.node_disk.proofs.starting.begin_again.Goals as goal
 
 pub returns-in-Ok-begin-clause-running : goal.returns-in-Ok-begin-clause-running
@@ -44,3 +46,10 @@ returns-in-Err-begin-clause-left g c is =
     let d = g.D.Disk in
     let disk = disk_of_log c.args.log in
     subst (λ (n : ℕ). GrowsByPlan (d.plan disk) (records.Boot n) (d.content disk) (d.content c.in-Err-begin.err.disk)) c.in-Ok.ensures.boot (c.in-Err-begin.ensures.left is)
+
+pub returns-in-Err-clause-startable : goal.returns-in-Err-clause-startable
+returns-in-Err-clause-startable g c =
+    let d = g.D.Disk in
+    let disk = disk_of_log c.args.log in
+    let rs = c.args.records.now in
+    subst (λ x. AtEachMoment d.moment d.images_since disk x IsStartable) (sym c.into_disk.ensures) (startable_left d.moment d.images_since disk disk rs c.requires.had (c.leave.ensures rs c.requires.held))

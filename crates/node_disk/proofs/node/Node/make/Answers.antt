@@ -3,7 +3,7 @@ use Rattle.std.proofs.Common.{true, false, [], ◌∙◌}
 use Rattle.redo_log.specs.Plans.{append_calls, begin_calls}
 use Rattle.record_log.specs.Log.{disk_of as disk_of_log}
 use Rattle.node_disk.specs.OnDisk.{place_of, kept_of, disk_of}
-use Rattle.node_disk.proofs.MakeLaws.{holds_first, ready_made, stands_made, may_be_made, may_be_empty}
+use Rattle.node_disk.proofs.MakeLaws.{holds_first, ready_made, stands_made, may_be_begun, may_be_made, may_be_empty}
 use Rattle.node_disk.proofs.CutLaws.{starts_if_only}
 use Rattle.node_disk.proofs.PlanLaws.{one_after, none_after}
 use Rattle.node_disk.proofs.node.Node.make.Goals as goal
@@ -51,6 +51,11 @@ returns-in-Err-begin-clause-any_moment g c only =
     let log = c.in-Ok-create.ensures in
     may_be_made d.moment d.images_since c.args.disk (disk_of_log c.in-Ok-create.log) c.in-Err-begin.err.disk c.in-Ok.memory.boot (log.any_moment only) c.in-Ok.ensures.boot
     (c.in-Err-begin.ensures.any_moment [] log.made)
+
+pub returns-in-Err-create-clause-any_moment : goal.returns-in-Err-create-clause-any_moment
+returns-in-Err-create-clause-any_moment g c only =
+    let d = g.D.Disk in
+    may_be_begun d.moment d.images_since c.args.disk c.in-Err-create.field-0.disk (c.in-Err-create.ensures.any_moment only)
 
 pub returns-in-Err-clause-any_moment : goal.returns-in-Err-clause-any_moment
 returns-in-Err-clause-any_moment g c only =
