@@ -21,10 +21,11 @@ use Rattle.node_rules.specs.Prepare.{abandoned_sessions, is_alone, act_turn}
 use Rattle.node_rules.specs.Refusals.{dtx}
 use Rattle.node_rules.specs.Sessions.{session_at, with_call, needs_rollback, no_transaction, commit_is_pending, commit_ended}
 use Rattle.node_rules.specs.Statement.{ran, after_run}
-use Rattle.node_rules.specs.Turn.{turn_of, start_of, heard, deed_of}
+use Rattle.node_rules.specs.Turn.{turn_of, start_of, deed_of}
 use Rattle.node_rules.specs.Words.{numbered, set_numbered}
 use Rattle.node_rules.proofs.Steps as steps
 use Rattle.node_rules.proofs.Steps.{Step}
+use Rattle.node_rules.proofs.HeardLemmas.{heard_sessions}
 use Rattle.run_laws.specs.Data.{Turn, Happening}
 use Rattle.run_laws.specs.Data.happenings
 use Rattle.run_laws.specs.Facts.{Facts, first_facts, place_at, flat, node_at, kept_after, with_boot, facts_after, facts_of}
@@ -183,19 +184,13 @@ module _ (t : History) (whole : IsLawfulRun t) where
     even : length (f_at t hs).nodes ≡ length (f_at t hs).records
     even = (run_stands (so_far t hs) (part_lawful t whole hs (record { rest = happenings.Turn u ∷ rest; is = is }))).0.even
 
-    heard_same : (input : Input) → (heard k input).sessions ≡ k.sessions
-    heard_same (inputs.Message x) = refl
-    heard_same (inputs.Call n s) = refl
-    heard_same (inputs.GiveUp n) = refl
-    heard_same inputs.Reco = refl
-
     -- no call comes where COMMIT is pending
     uncalled : (m : ℕ) → (session_at k.sessions m).call ≡ pending.Commit → IsNoCall u.node m (happenings.Turn u)
     uncalled m commits = λ here s call. (let free = call_free (f_at t hs) k u.node u.input u.took m s call may.1.comes in absurd (cc (commits, free.1)))
 
     own : (m : ℕ) → (session_at (deed_of (place_at t.places u.node) k u.input).after.sessions m).call ≡ pending.Commit → CommitCame (hs ++ happenings.Turn u ∷ []) u.node m
     own m commits = elim (commits_on (place_at t.places u.node) u.input m (serves t.places (f_at t hs) u k may.1).step commits) [
-      | inl was ↦ (let before : (session_at k.sessions m).call ≡ pending.Commit = subst (λ ss. (session_at ss m).call ≡ pending.Commit) (heard_same u.input) was in
+      | inl was ↦ (let before : (session_at k.sessions m).call ≡ pending.Commit = subst (λ ss. (session_at ss m).call ≡ pending.Commit) (heard_sessions k u.input) was in
           came_on hs (happenings.Turn u) u.node m (uncalled m before) (now u.node k may.1.up m before))
       | inr came ↦ record { before = hs; turn = u; later = []; since = refl; here = refl; comment = came.0; came = came.1; quiet = tt }
     ]

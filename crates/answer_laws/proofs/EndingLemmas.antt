@@ -12,6 +12,7 @@ use Rattle.node_rules.specs.Inputs.{Came}
 use Rattle.node_rules.specs.Kept.{Kept, Outcome}
 use Rattle.node_rules.specs.Sessions.{session_at}
 use Rattle.node_rules.specs.Turn.{turn_of, heard, deed_of}
+use Rattle.node_rules.proofs.HeardLemmas.{heard_sessions}
 use Rattle.run_laws.specs.Births.{births_of}
 use Rattle.run_laws.specs.Data.{Turn, Happening}
 use Rattle.run_laws.specs.Data.happenings
@@ -98,17 +99,11 @@ module _ (t : History) (whole : IsLawfulRun t) (hs : List Happening) (u : Turn) 
   before : Before u.input (heard k u.input)
   before = heard_before k u.input u.input (before_so t.places t.commands t.of_a_script.each (f_at t hs) (events_of s0) (births_of s0) (run_births s0 lawful0) (run_roots s0 lawful0) u k may.1)
 
-  heard_same : (input : Input) → (heard k input).sessions ≡ k.sessions
-  heard_same (inputs.Message x) = refl
-  heard_same (inputs.Call n s) = refl
-  heard_same (inputs.GiveUp n) = refl
-  heard_same inputs.Reco = refl
-
   -- which calls it ends
   pub turn_few : EndsFew u.input k.sessions (deed_of (place_at t.places u.node) k u.input).ended
   turn_few =
       let p : Place = place_at t.places u.node in
-      subst (λ ss. EndsFew u.input ss (deed_of p k u.input).ended) (heard_same u.input) (few_on p u.input (serves t.places (f_at t hs) u k may.1).step rests.0 before.asked)
+      subst (λ ss. EndsFew u.input ss (deed_of p k u.input).ended) (heard_sessions k u.input) (few_on p u.input (serves t.places (f_at t hs) u k may.1).step rests.0 before.asked)
 
   -- and how
   pub turn_ends : (o : Outcome) → outcome_at t.places (f_at t hs) u ≡ Some o → (session number : ℕ) (a : Answer) → is_accepted (Some a) ≡ true → slice_get o.ended number ≡ Some (record { session = session; answer = a })

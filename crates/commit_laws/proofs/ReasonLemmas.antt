@@ -14,13 +14,14 @@ use Rattle.node_rules.specs.Data.stmts
 use Rattle.node_rules.specs.Words.{same, item_at, put_item, drop_item}
 use Rattle.node_rules.specs.Inputs.{Came, IsCall}
 use Rattle.node_rules.specs.Kept.{Kept, Deed, live_id, live_at, to_one}
-use Rattle.node_rules.specs.Turn.{heard, stamped}
+use Rattle.node_rules.specs.Turn.{stamped}
 use Rattle.node_rules.specs.Statement.{ran, after_run}
 use Rattle.node_rules.specs.Calls.{with_edge, hears_reply}
 use Rattle.node_rules.specs.Prepare.{ready, act_turn}
 use Rattle.node_rules.proofs.Steps as steps
 use Rattle.node_rules.proofs.Steps.{Step, Acting, HasRoot, IsOfRows}
 use Rattle.node_rules.proofs.StandLemmas.{live_so}
+use Rattle.node_rules.proofs.HeardLemmas.{heard_sessions}
 use Rattle.run_laws.specs.Trail.{is_quiet, is_read_only}
 use Rattle.commit_laws.specs.LeaveLaws.{Reason, Seals, Decides, Says_read_only, Gets_rollback, Is_rolled_back, Is_asked, Hears_abort}
 
@@ -215,8 +216,3 @@ module _ (p : Place) (input : Input) (b : BranchId) (parent : Option BranchId) (
       absurd (below (sym (its_parent k lives l its me) ∙ roots n (inr gives) l (subst (HasRoot k n) here has) (subst (λ i. live_at k i ≡ Some l) here live)))
 
 -- what a node hears leaves its sessions
-pub sessions_same : (k : Kept) (input : Input) → (heard k input).sessions ≡ k.sessions
-sessions_same k (inputs.Message m) = refl
-sessions_same k (inputs.Call n s) = refl
-sessions_same k (inputs.GiveUp n) = refl
-sessions_same k inputs.Reco = refl

@@ -5,14 +5,13 @@ use Rattle.std.specs.List.{AllByRecursion}
 use Rattle.tran_ids.proofs.ListedLemmas.{item_is}
 use Rattle.tran_ids.proofs.NumberedLemmas.{set_or_before}
 use Rattle.session_tree.specs.Tree.{count}
-use Rattle.node_rules.specs.Data.{BranchId, Edge, Kind, Live, Msg, Post, Place, Input, RedoRecord}
-use Rattle.node_rules.specs.Data.inputs
+use Rattle.node_rules.specs.Data.{BranchId, Edge, Kind, Live, Msg, Post, Place, RedoRecord}
 use Rattle.node_rules.specs.Data.kinds
 use Rattle.node_rules.specs.declared.work.Work.{Work}
 use Rattle.node_rules.specs.Words.{numbered, set_numbered}
 use Rattle.node_rules.specs.Kept.{Kept, Deed, live_id, live_at}
 use Rattle.node_rules.specs.Sessions.{session_at}
-use Rattle.node_rules.specs.Turn.{stamped, turn_of, start_of, made, heard, deed_of}
+use Rattle.node_rules.specs.Turn.{stamped, turn_of, start_of, made, deed_of}
 use Rattle.agreement.specs.Events.{Event}
 use Rattle.run_laws.specs.Data.{Packet, Turn, Happening, Command}
 use Rattle.run_laws.specs.Data.happenings
@@ -32,6 +31,7 @@ use Rattle.run_laws.proofs.CodeLemmas.{AllNeed, codes_on}
 use Rattle.run_laws.proofs.CallTurnLemmas.{Silent}
 use Rattle.node_rules.specs.LiveBranches.{EachLive}
 use Rattle.node_rules.proofs.LiveLemmas.{each_same, none_live}
+use Rattle.node_rules.proofs.HeardLemmas.{heard_sessions}
 use Rattle.run_laws.proofs.RestLemmas.{live_root}
 use Rattle.run_laws.proofs.RestRunLemmas.{NodeRests, heard_rests, RootsStand, turned, roots_stand_on, first_rests}
 use Rattle.run_laws.proofs.SaidPostLemmas.{posts_back, posts_of, said_after}
@@ -119,12 +119,6 @@ node_stays said says k new silent now = each_same (LiveFits said k) (LiveFits (s
   child_more said says y.me y.parent (count y) (spare y.parent (count y) v.going) v.came v.going (silent y.me y live).replies is.0,
   parent_more said says (GoesOn k y) y.me (count y) (spare y.parent (count y) v.going) y.edges v new (silent y.me y live) is.1,
 ))
-
-heard_sessions : (k : Kept) (input : Input) → (heard k input).sessions ≡ k.sessions
-heard_sessions k (inputs.Message m) = refl
-heard_sessions k (inputs.Call n s) = refl
-heard_sessions k (inputs.GiveUp n) = refl
-heard_sessions k inputs.Reco = refl
 
 module _ (places : List Place) (asked : List Command) (each : (n : ℕ) (p : Place) → numbered places n ≡ Some p → IsPlace places n p) where
   module _ (f : Facts) (t : List Event) (bs : List Born) (stand : StandBorn places asked each f t bs) (roots : RootsStand places asked each f) (turns : CallsStand f) (now : CountStand f) where

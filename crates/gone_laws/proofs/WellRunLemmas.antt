@@ -33,7 +33,8 @@ use Rattle.run_laws.proofs.RestLemmas.{live_root}
 use Rattle.run_laws.proofs.RestRunLemmas.{NodeRests, heard_rests, RootsStand, roots_stand_on, first_rests}
 use Rattle.run_laws.proofs.SaidPostLemmas.{posts_back, posts_of}
 use Rattle.tree_laws.proofs.EachNodeLemmas.{EachNode, turn_says, turn_nodes, says_on, nodes_on, nodes_first}
-use Rattle.tree_laws.proofs.GoOnLemmas.{heard_sessions, goes_before}
+use Rattle.node_rules.proofs.HeardLemmas.{heard_sessions}
+use Rattle.tree_laws.proofs.GoOnLemmas.{goes_before}
 use Rattle.gone_laws.specs.GoneLaws.{ToldWell, HoldsWell, CallsWell, BranchesHoldWell, CallsFollowAnswers}
 use Rattle.gone_laws.proofs.WellLemmas.{QuietOf, well_low, well_split, held_more}
 use Rattle.gone_laws.proofs.WellStepLemmas.{wells_on}

@@ -4,24 +4,22 @@ use Rattle.std.specs.Prelude.{IfSome}
 use Rattle.std.specs.List.{AllByRecursion, list_all}
 use Rattle.std.proofs.lemmas.Bool.{and_parts}
 use Rattle.block_disk.specs.MemDisk.{DiskState}
-use Rattle.fit_laws.specs.Bytes.{AnswerHasBytes, HasBytes, BringsBytes, AsksChild, KeepsBytes, TurnsKeepBytes}
-use Rattle.fit_laws.specs.Written.{HasRoomForScn, RecordsHaveBytes}
+use Rattle.fit_laws.specs.Bytes.{HasBytes, BringsBytes, AsksChild, KeepsBytes, TurnsKeepBytes}
+use Rattle.fit_laws.specs.Written.{RecordsHaveBytes}
 use Rattle.msg_codec.specs.Message.{message_of}
 use Rattle.node_core.specs.Able.{IsAble, BringsScns, EndsWork, BringsCommit, MayTake, given_limit}
 use Rattle.node_disk.specs.Effects.{Tells}
 use Rattle.node_disk.specs.Incoming.{IsReadAs}
 use Rattle.node_disk.specs.OnDisk.{disk_of, kept_of, place_of, turn_at, IsRunning, IsSpellable}
-use Rattle.node_disk.specs.Spellable.{AnswerMayBeMailed, KindMayBeMailed, MayBeMailed}
 use Rattle.node_disk.specs.Starts.{CanBeStarted}
 use Rattle.node_disk.specs.declared.effects.Effects.{Effects}
 use Rattle.node_disk.specs.declared.incoming.Incoming.{Incoming}
 use Rattle.node_disk.specs.declared.incoming.Incoming.TheVariants as comings
 use Rattle.node_disk.specs.declared.node.Node.{Node}
+use Rattle.node_disk.proofs.NeedLemmas.{all_mailed, room_of}
 use Rattle.lone_node.specs.Played.{low_limit, IsPlayed, is_prepare, IsCalled, IsComing, is_commit, commits, is_working_phase, works, has_parent, IsWorking, HasParent, Meets, bytes_of, images_of, IsKeptWithin, IsAlone}
-use Rattle.node_rules.specs.Data.{Stmt, Answer, BranchId, Phase, Live, Kind, Msg, Place, Input}
-use Rattle.node_rules.specs.Data.answers
+use Rattle.node_rules.specs.Data.{Stmt, BranchId, Phase, Live, Msg, Place, Input}
 use Rattle.node_rules.specs.Data.inputs
-use Rattle.node_rules.specs.Data.kinds
 use Rattle.node_rules.specs.Data.phases
 use Rattle.node_rules.specs.Data.stmts
 use Rattle.node_rules.specs.declared.session.Session.{Session}
@@ -137,16 +135,6 @@ brings_scns (inputs.Call session statement) within = tt
 brings_scns (inputs.GiveUp session) within = tt
 brings_scns inputs.Reco within = tt
 
-less_max : (a b n : ℕ) → a < n → b < n → max a b < n
-less_max a b n first second = omega (arith, first, second)
-
--- the clock leaves room for an SCN more
-room_of : (k : Kept) (input : Input) → k.clock < 2 ^ 48 - 1 → BringsScns input → HasRoomForScn k input
-room_of k (inputs.Message m) clock scns = less_max k.clock (max m.scn (kind_scn m.kind)) (2 ^ 48 - 1) clock scns
-room_of k (inputs.Call session statement) clock scns = clock
-room_of k (inputs.GiveUp session) clock scns = clock
-room_of k inputs.Reco clock scns = clock
-
 brings_more : (n m : ℕ) (input : Input) → n ≤ m → BringsWithin n input → BringsWithin m input
 brings_more n m (inputs.Message x) more within = omega (arith, more, within)
 brings_more n m (inputs.Call session statement) more within = tt
@@ -155,23 +143,6 @@ brings_more n m inputs.Reco more within = tt
 
 within_given : (n bound : ℕ) → bound < 1000000 → n ≤ bound → n ≤ given_limit
 within_given n bound few within = omega (arith, few, within)
-
--- ---- messages
-
-answer_mailed : (a : Answer) → AnswerHasBytes a → AnswerMayBeMailed a
-answer_mailed (answers.Did done count) has = has
-answer_mailed (answers.Found found) has = has
-answer_mailed (answers.Refused refusal) has = has
-
-kind_mailed : (kind : Kind) → HasBytes kind → KindMayBeMailed kind
-kind_mailed (kinds.Exec call room advice s) has = has.0
-kind_mailed (kinds.Reply call weight count result) has = answer_mailed result has
-kind_mailed (kinds.Prepare site_below comment) has = has
-kind_mailed _ has = tt
-
-all_mailed : (ms : List Msg) → AllByRecursion (λ (m : Msg). HasBytes m.kind) ms → AllByRecursion MayBeMailed ms
-all_mailed [] all = tt
-all_mailed (m ∷ ms) all = (kind_mailed m.kind all.0, all_mailed ms all.1)
 
 -- ---- turns
 

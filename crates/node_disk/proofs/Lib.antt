@@ -8,3 +8,4 @@ mod MakeLaws
 mod MailLaws
 mod PassLaws
 mod CutLaws
+pub mod NeedLemmas

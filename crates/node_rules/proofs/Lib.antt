@@ -7,3 +7,4 @@ pub mod RowLemmas
 pub mod LiveLemmas
 pub mod StepLemmas
 pub mod SessionLemmas
+pub mod HeardLemmas

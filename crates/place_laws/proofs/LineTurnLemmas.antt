@@ -5,8 +5,7 @@ use Rattle.std.specs.Prelude.{IfSome}
 use Rattle.std.specs.List.{AllByRecursion}
 use Rattle.std.proofs.lemmas.List.{length-append}
 use Rattle.tran_ids.proofs.ListedLemmas.{item_is}
-use Rattle.node_rules.specs.Data.{BranchId, Durable, Live, Place, Post, Stmt, Input}
-use Rattle.node_rules.specs.Data.inputs
+use Rattle.node_rules.specs.Data.{BranchId, Durable, Live, Place, Post, Stmt}
 use Rattle.node_rules.specs.Data.kinds
 use Rattle.node_rules.specs.declared.session.PendingCall.TheVariants as pending
 use Rattle.node_rules.specs.declared.work.Going.{Going}
@@ -21,6 +20,7 @@ use Rattle.node_rules.specs.Turn.{turn_of, heard, deed_of}
 use Rattle.node_rules.proofs.LiveLemmas.{each_same}
 use Rattle.node_rules.proofs.Steps as steps
 use Rattle.node_rules.proofs.Steps.{Step, Asked}
+use Rattle.node_rules.proofs.HeardLemmas.{heard_sessions}
 use Rattle.run_laws.specs.Births.{Born, births_of, born_at}
 use Rattle.run_laws.specs.BirthLaws.{Began, LiveIs, GoesSo}
 use Rattle.run_laws.specs.Data.{Turn, Happening}
@@ -147,14 +147,8 @@ module _ (t : History) (whole : IsLawfulRun t) where
     step : Step p u.input (heard k u.input) d
     step = (serves t.places f0 u k may.1).step
 
-    heard_sessions : (input : Input) → (heard k input).sessions ≡ k.sessions
-    heard_sessions (inputs.Message m) = refl
-    heard_sessions (inputs.Call n s) = refl
-    heard_sessions (inputs.GiveUp n) = refl
-    heard_sessions inputs.Reco = refl
-
     codes : AllNeed k.sessions d.after.sessions
-    codes = subst (λ ss. AllNeed ss d.after.sessions) (heard_sessions u.input) (codes_on p u.input step)
+    codes = subst (λ ss. AllNeed ss d.after.sessions) (heard_sessions k u.input) (codes_on p u.input step)
 
     -- a root that may go on after the turn needed no rollback before it
     goes_before : (b : BranchId) (l : Live) → live_at k b ≡ Some l → (l.parent ≡ None → May l.me) → GoesOn k l

@@ -16,12 +16,13 @@ use Rattle.session_tree.specs.Live.{new_edge}
 use Rattle.node_rules.specs.Prepare.{is_alone}
 use Rattle.node_rules.specs.Client.{new_root, begun_by}
 use Rattle.node_rules.specs.Inputs.{IsCall}
-use Rattle.node_rules.specs.Turn.{heard, turn_of}
+use Rattle.node_rules.specs.Turn.{turn_of}
 use Rattle.node_rules.proofs.Steps as steps
 use Rattle.node_rules.proofs.Steps.{Step, HasRoot}
 use Rattle.node_rules.proofs.StandLemmas.{call_set, session_set}
 use Rattle.node_rules.proofs.SessionLemmas.{seqs, seq_at, session_seq, set_seqs, call_seqs, needs_seqs, ended_seqs, pends_seqs, answered_seqs, heard_seqs, decided_seqs, abandoned_seqs, ended_if_seqs, still_seqs}
 use Rattle.node_rules.proofs.TurnLemmas.{step_of}
+use Rattle.node_rules.proofs.HeardLemmas.{heard_sessions}
 use Rattle.ready_laws.specs.Numbers.{SeqsRiseByOne}
 use Rattle.ready_laws.proofs.ListLemmas.{all_weaker}
 
@@ -137,12 +138,6 @@ seqs_on p input n (steps.Gives_up_commit {k = k} m b (Some l) gives has calls li
 seqs_on p input n (steps.Gives_up_commit {k = k} m b None gives has calls live) now = subst (Low (n + 1)) (sym (ended_seqs k.sessions b)) (after input n k now)
 seqs_on p input n {k = k} _ now = after input n k now
 
-seqs_heard : (k : Kept) (input : Input) → (heard k input).sessions ≡ k.sessions
-seqs_heard k (inputs.Message m) = refl
-seqs_heard k (inputs.Call n s) = refl
-seqs_heard k (inputs.GiveUp n) = refl
-seqs_heard k inputs.Reco = refl
-
 -- the numbers of sessions one by one
 to_low : (n : ℕ) (ss : List Session) → AllByRecursion (λ s. s.seq ≤ n) ss → Low n (seqs ss)
 to_low n [] all = tt
@@ -155,4 +150,4 @@ from_low n (s ∷ ss) all = (all.0, from_low n ss all.1)
 pub seqs_rise_by_one : SeqsRiseByOne
 unfolding turn_of
 seqs_rise_by_one p k input n fit all =
-    from_low (n + 1) _ (seqs_on p input n (step_of p k input fit) (inl (subst (λ ss. Low n (seqs ss)) (sym (seqs_heard k input)) (to_low n k.sessions all))))
+    from_low (n + 1) _ (seqs_on p input n (step_of p k input fit) (inl (subst (λ ss. Low n (seqs ss)) (sym (heard_sessions k input)) (to_low n k.sessions all))))

@@ -37,6 +37,7 @@ use Rattle.run_laws.proofs.BirthRunLemmas.{StandBorn, stand_born_on, stand_born_
 use Rattle.run_laws.proofs.NeighborLemmas.{News}
 use Rattle.node_rules.specs.LiveBranches.{EachLive}
 use Rattle.node_rules.proofs.LiveLemmas.{each_same, none_live, branch_parts}
+use Rattle.node_rules.proofs.HeardLemmas.{heard_sessions}
 use Rattle.run_laws.proofs.RestLemmas.{RootIs, live_root, free_waits}
 use Rattle.run_laws.proofs.RestRunLemmas.{NodeRests, heard_rests, free_by, RootsStand, turned, roots_stand_on, first_rests}
 use Rattle.run_laws.proofs.CodeLemmas.{AllNeed, codes_on}
@@ -68,12 +69,6 @@ heard_calls P k (inputs.Message m) now = now
 heard_calls P k (inputs.Call n s) now = now
 heard_calls P k (inputs.GiveUp n) now = now
 heard_calls P k inputs.Reco now = now
-
-heard_sessions : (k : Kept) (input : Input) → (heard k input).sessions ≡ k.sessions
-heard_sessions k (inputs.Message m) = refl
-heard_sessions k (inputs.Call n s) = refl
-heard_sessions k (inputs.GiveUp n) = refl
-heard_sessions k inputs.Reco = refl
 
 -- what comes is for a branch of the node
 message_here : (node : ℕ) (m : Msg) (from to : BranchId) (scn : ℕ) (kind : Kind) → m.to.node ≡ node → inputs.Message m ≡ inputs.Message (record { from = from; to = to; scn = scn; kind = kind }) → to.node ≡ node

@@ -16,6 +16,7 @@ use Rattle.node_rules.specs.Kept.{Kept, Branch, Deed, live_id, live_at, branch_a
 use Rattle.node_rules.specs.Sessions.{session_at, commit_complete}
 use Rattle.node_rules.specs.Turn.{deed_of, heard}
 use Rattle.node_rules.specs.Words.{same}
+use Rattle.node_rules.proofs.HeardLemmas.{heard_sessions}
 use Rattle.run_laws.specs.Births.{Born, births_of, born_id, born_at}
 use Rattle.run_laws.specs.BirthLaws.{Began, GoesSo, IsChild, LiveIs, StandsBelow}
 use Rattle.run_laws.specs.Branches.{is_among}
@@ -73,12 +74,6 @@ delivered f k node (inputs.Message x) took comes = (x, refl)
 delivered f k node (inputs.Call n s) took comes = absurd comes
 delivered f k node (inputs.GiveUp n) took comes = absurd comes
 delivered f k node inputs.Reco took comes = absurd comes
-
-heard_same : (k : Kept) (input : Input) → (heard k input).sessions ≡ k.sessions
-heard_same k (inputs.Message x) = refl
-heard_same k (inputs.Call n s) = refl
-heard_same k (inputs.GiveUp n) = refl
-heard_same k inputs.Reco = refl
 
 module _ (t : History) (whole : IsLawfulRun t) (c : Commit t.places t.commands t.trace) (u : Undisturbed t.places t.commands t.trace c) (quiet : AbortsNone t c.root) where
   abbrev m : ℕ
@@ -235,7 +230,7 @@ module _ (t : History) (whole : IsLawfulRun t) (c : Commit t.places t.commands t
     state_next x message = by (effect x message) state
       where
         sessions : k1.sessions ≡ k.sessions
-        sessions = heard_same k h.input
+        sessions = heard_sessions k h.input
 
         root_is : (o : Option BranchId) → (session_at k.sessions m).root ≡ o → (session_at k1.sessions m).root ≡ o
         root_is o root = ap (λ (ss : List Session). (session_at ss m).root) sessions ∙ root

@@ -16,6 +16,7 @@ use Rattle.node_rules.specs.Client.{new_root}
 use Rattle.node_rules.specs.Turn.{turn_of, heard, deed_of}
 use Rattle.node_rules.proofs.Steps.{IsOfRows}
 use Rattle.node_rules.proofs.SessionLemmas.{seqs, seq_at, session_seq}
+use Rattle.node_rules.proofs.HeardLemmas.{heard_sessions}
 use Rattle.run_laws.specs.Births.{Born, births_of, born_id}
 use Rattle.run_laws.specs.BirthLaws.{Began}
 use Rattle.run_laws.specs.Branches.{Seen, Trail}
@@ -148,12 +149,6 @@ module _ (t : History) (whole : IsLawfulRun t) where
       seq_of : seqs d.after.sessions ≡ seqs k.sessions → (session_at d.after.sessions session).seq ≡ (session_at k.sessions session).seq
       seq_of same = session_seq d.after.sessions session ∙ (ap (λ ms. seq_at ms session) same ∙ sym (session_seq k.sessions session))
 
-      heard_sessions_same : (input : Input) → (heard k input).sessions ≡ k.sessions
-      heard_sessions_same (inputs.Message m) = refl
-      heard_sessions_same (inputs.Call n s) = refl
-      heard_sessions_same (inputs.GiveUp n) = refl
-      heard_sessions_same inputs.Reco = refl
-
       heard_fits : (input : Input) → SessionsFit (heard k input)
       heard_fits (inputs.Message m) = record { roots = (births.fit t whole hs u rest is sees counts born).roots; above = (births.fit t whole hs u rest is sees counts born).above }
       heard_fits (inputs.Call n s) = births.fit t whole hs u rest is sees counts born
@@ -162,8 +157,8 @@ module _ (t : History) (whole : IsLawfulRun t) where
 
       quiet_seq : ((n : ℕ) (s : Stmt) → IsCall u.input n s → is_of_rows s ≡ true → (session_at k.sessions n).root ≡ None → ⊥) → (session_at d.after.sessions session).seq ≡ (session_at k.sessions session).seq
       quiet_seq nobody = elim (seqs_on p u.input (births.serving t whole hs u rest is sees counts born).step (heard_fits u.input)) [
-        | inl same ↦ seq_of (same ∙ ap seqs (heard_sessions_same u.input))
-        | inr begins ↦ absurd (nobody begins.session begins.statement begins.call (rows_so begins.statement begins.rows) (subst (λ (ss : List Session). (session_at ss begins.session).root ≡ None) (heard_sessions_same u.input) begins.none))
+        | inl same ↦ seq_of (same ∙ ap seqs (heard_sessions k u.input))
+        | inr begins ↦ absurd (nobody begins.session begins.statement begins.call (rows_so begins.statement begins.rows) (subst (λ (ss : List Session). (session_at ss begins.session).root ≡ None) (heard_sessions k u.input) begins.none))
       ]
 
       -- the session of the root that begins gets the next one

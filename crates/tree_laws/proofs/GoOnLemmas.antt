@@ -1,12 +1,12 @@
 -- A root that may go on after a turn could go on before it.
-use Rattle.std.proofs.Common.{◌≡◌, ℕ, List, Some, None, refl, subst}
+use Rattle.std.proofs.Common.{◌≡◌, ℕ, List, Some, None, subst}
 use Rattle.tran_ids.proofs.ListedLemmas.{item_is}
-use Rattle.node_rules.specs.Data.{BranchId, Live, Place, Input}
-use Rattle.node_rules.specs.Data.inputs
+use Rattle.node_rules.specs.Data.{BranchId, Live, Place}
 use Rattle.node_rules.specs.Words.{numbered}
 use Rattle.node_rules.specs.Kept.{Kept, Deed, live_id, live_at}
 use Rattle.node_rules.specs.Sessions.{session_at}
-use Rattle.node_rules.specs.Turn.{turn_of, heard, deed_of}
+use Rattle.node_rules.specs.Turn.{turn_of, deed_of}
+use Rattle.node_rules.proofs.HeardLemmas.{heard_sessions}
 use Rattle.agreement.specs.Events.{Event}
 use Rattle.run_laws.specs.Births.{Born}
 use Rattle.run_laws.specs.Data.{Turn, Command}
@@ -19,12 +19,6 @@ use Rattle.run_laws.proofs.InTurnRunLemmas as calls
 use Rattle.run_laws.proofs.InTurnRunLemmas.{CallsStand}
 use Rattle.run_laws.proofs.RestLemmas.{live_root}
 use Rattle.run_laws.proofs.RestRunLemmas.{NodeRests, RootsStand, turned}
-
-pub heard_sessions : (k : Kept) (input : Input) → (heard k input).sessions ≡ k.sessions
-heard_sessions k (inputs.Message m) = refl
-heard_sessions k (inputs.Call n s) = refl
-heard_sessions k (inputs.GiveUp n) = refl
-heard_sessions k inputs.Reco = refl
 
 module _ (places : List Place) (asked : List Command) (each : (n : ℕ) (p : Place) → numbered places n ≡ Some p → IsPlace places n p) where
   module _ (f : Facts) (t : List Event) (bs : List Born) (stand : StandBorn places asked each f t bs) (roots : RootsStand places asked each f) (turns : CallsStand f) (u : Turn) (k : Kept) (may : MayTurn places f u k) where

@@ -1,18 +1,13 @@
 -- What other crates prove of the runs of scripts, as the world needs it: the turn that is due can be taken, what is due is there, and
 -- starts and deliveries are few.
-use Rattle.std.proofs.Common.{◌≡◌, ◌<◌, ◌^◌, ◌-◌, ℕ, List, [], ◌∷◌, max, Option, Some, None, IfSome, refl, sym, subst, arith}
-use Rattle.std.specs.List.{AllByRecursion}
-use Rattle.dtx_values.specs.declared.answer.Answer.{Answer}
-use Rattle.dtx_values.specs.declared.answer.Answer.TheVariants as answers
-use Rattle.node_rules.specs.Data.{Kind, Msg, Input, Stmt}
-use Rattle.node_rules.specs.Data.kinds
+use Rattle.std.proofs.Common.{◌≡◌, ◌-◌, ℕ, Option, Some, None, IfSome, refl, sym, subst, arith}
+use Rattle.node_rules.specs.Data.{Input, Stmt}
 use Rattle.node_rules.specs.Data.inputs
 use Rattle.node_rules.specs.Kept.{Kept, Outcome}
-use Rattle.node_rules.specs.Turn.{kind_scn, turn_of}
-use Rattle.node_core.specs.Able.{BringsScns, BringsCommit, MayTake}
-use Rattle.node_disk.specs.Spellable.{IsSpellable, KindMayBeMailed, MayBeMailed, AnswerMayBeMailed}
-use Rattle.fit_laws.specs.Bytes.{AnswerHasBytes, HasBytes}
-use Rattle.fit_laws.specs.Written.{HasRoomForScn}
+use Rattle.node_rules.specs.Turn.{turn_of}
+use Rattle.node_core.specs.Able.{BringsCommit, MayTake}
+use Rattle.node_disk.specs.Spellable.{IsSpellable}
+use Rattle.node_disk.proofs.NeedLemmas.{all_mailed, room_of}
 use Rattle.byte_laws.specs.ByteRuns.{CallIsSpelled, DueCallsAreSpelled, IsSpelledRun, ScriptsCallsAreSpelled, TurnHasBytes, TurnsHaveBytes}
 use Rattle.count_laws.specs.CountLaws.{CountsAreFew}
 use Rattle.root_laws.specs.RootLaws.{CommitsFindWork}
@@ -36,33 +31,8 @@ run_of r script = history_of r script.of_a_script
 
 -- ---- turns
 
-answer_mailed : (a : Answer) → AnswerHasBytes a → AnswerMayBeMailed a
-answer_mailed (answers.Did done count) has = has
-answer_mailed (answers.Found found) has = has
-answer_mailed (answers.Refused refusal) has = has
-
-kind_mailed : (kind : Kind) → HasBytes kind → KindMayBeMailed kind
-kind_mailed (kinds.Exec call room advice s) has = has.0
-kind_mailed (kinds.Reply call weight count result) has = answer_mailed result has
-kind_mailed (kinds.Prepare site_below comment) has = has
-kind_mailed _ has = tt
-
-all_mailed : (ms : List Msg) → AllByRecursion (λ (m : Msg). HasBytes m.kind) ms → AllByRecursion MayBeMailed ms
-all_mailed [] all = tt
-all_mailed (m ∷ ms) all = (kind_mailed m.kind all.0, all_mailed ms all.1)
-
 turn_spellable : (o : Outcome) → TurnHasBytes o → IsSpellable o
 turn_spellable o has = record { wrote = has.wrote; sent = all_mailed o.sent has.sent }
-
-less_max : (a b n : ℕ) → a < n → b < n → max a b < n
-less_max a b n first second = omega (arith, first, second)
-
--- the clock leaves room for an SCN more
-room_of : (k : Kept) (input : Input) → k.clock < 2 ^ 48 - 1 → BringsScns input → HasRoomForScn k input
-room_of k (inputs.Message m) clock scns = less_max k.clock (max m.scn (kind_scn m.kind)) (2 ^ 48 - 1) clock scns
-room_of k (inputs.Call session statement) clock scns = clock
-room_of k (inputs.GiveUp session) clock scns = clock
-room_of k inputs.Reco clock scns = clock
 
 statement_spelled : (session : ℕ) (s : Option Stmt) → IfSome s IsPrintable → CallIsSpelled (inputs.Call session s)
 statement_spelled session None spelled = tt
