@@ -12,7 +12,7 @@ use Rattle.node_rules.specs.Inputs.{Came}
 use Rattle.node_rules.specs.Kept.{Kept, Outcome}
 use Rattle.node_rules.specs.Sessions.{session_at}
 use Rattle.node_rules.specs.Turn.{turn_of, heard, deed_of}
-use Rattle.node_rules.proofs.HeardLemmas.{heard_sessions}
+use Rattle.node_rules.proofs.HeardLemmas.{sessions_heard}
 use Rattle.run_laws.specs.Births.{births_of}
 use Rattle.run_laws.specs.Data.{Turn, Happening}
 use Rattle.run_laws.specs.Data.happenings
@@ -103,7 +103,7 @@ module _ (t : History) (whole : IsLawfulRun t) (hs : List Happening) (u : Turn) 
   pub turn_few : EndsFew u.input k.sessions (deed_of (place_at t.places u.node) k u.input).ended
   turn_few =
       let p : Place = place_at t.places u.node in
-      subst (λ ss. EndsFew u.input ss (deed_of p k u.input).ended) (heard_sessions k u.input) (few_on p u.input (serves t.places (f_at t hs) u k may.1).step rests.0 before.asked)
+      subst (λ ss. EndsFew u.input ss (deed_of p k u.input).ended) (sessions_heard k u.input) (few_on p u.input (serves t.places (f_at t hs) u k may.1).step rests.0 before.asked)
 
   -- and how
   pub turn_ends : (o : Outcome) → outcome_at t.places (f_at t hs) u ≡ Some o → (session number : ℕ) (a : Answer) → is_accepted (Some a) ≡ true → slice_get o.ended number ≡ Some (record { session = session; answer = a })

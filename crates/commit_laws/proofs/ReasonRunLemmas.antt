@@ -6,7 +6,7 @@ use Rattle.node_rules.specs.Words.{item_at}
 use Rattle.node_rules.specs.Kept.{Kept, Deed, live_id, live_at}
 use Rattle.node_rules.specs.Sessions.{session_at}
 use Rattle.node_rules.specs.Turn.{turn_of, heard, deed_of}
-use Rattle.node_rules.proofs.HeardLemmas.{heard_sessions}
+use Rattle.node_rules.proofs.HeardLemmas.{sessions_heard}
 use Rattle.run_laws.specs.Data.{Turn, Happening}
 use Rattle.run_laws.specs.Data.happenings
 use Rattle.run_laws.specs.Facts.{Facts, place_at, node_at, facts_of}
@@ -40,7 +40,7 @@ module _ (t : History) (whole : IsLawfulRun t) (hs : List Happening) (rest : Lis
       let may : MayTurn t.places (f_at t hs) u k = turn_of_node t.places (f_at t hs) u k t.commands (may_of t whole hs (happenings.Turn u) rest is) up in
       let there : live_at (heard k u.input) b ≡ Some l = subst (λ (ls : List Live). item_at live_id ls b ≡ Some l) (sym (lives_heard k u.input)) live in
       leaves_on p u.input b l.parent some (serves t.places (f_at t hs) u k may).step (l, there, refl)
-      (λ n of x has at. (roots_are_of_sessions (so_far t hs) lawful u.node k up n b (subst (λ ss. (session_at ss n).root ≡ Some b) (heard_sessions k u.input) has)).1 x (subst (λ (ls : List Live). item_at live_id ls b ≡ Some x) (lives_heard k u.input) at))
+      (λ n of x has at. (roots_are_of_sessions (so_far t hs) lawful u.node k up n b (subst (λ ss. (session_at ss n).root ≡ Some b) (sessions_heard k u.input) has)).1 x (subst (λ (ls : List Live). item_at live_id ls b ≡ Some x) (lives_heard k u.input) at))
       none _ (stamped_quiet b d.after.clock d.says)
 
   reasons : (h : Happening) → hs ++ h ∷ rest ≡ t.trace → TurnsHaveReasons t.places (f_at t hs) h

@@ -31,7 +31,7 @@ use Rattle.run_laws.proofs.CodeLemmas.{AllNeed, codes_on}
 use Rattle.run_laws.proofs.CallTurnLemmas.{Silent}
 use Rattle.node_rules.specs.LiveBranches.{EachLive}
 use Rattle.node_rules.proofs.LiveLemmas.{each_same, none_live}
-use Rattle.node_rules.proofs.HeardLemmas.{heard_sessions}
+use Rattle.node_rules.proofs.HeardLemmas.{sessions_heard}
 use Rattle.run_laws.proofs.RestLemmas.{live_root}
 use Rattle.run_laws.proofs.RestRunLemmas.{NodeRests, heard_rests, RootsStand, turned, roots_stand_on, first_rests}
 use Rattle.run_laws.proofs.SaidPostLemmas.{posts_back, posts_of, said_after}
@@ -155,7 +155,7 @@ module _ (places : List Place) (asked : List Command) (each : (n : ℕ) (p : Pla
       rests_after = turned places asked each f t bs stand roots u k may
 
       codes : AllNeed k.sessions d.after.sessions
-      codes = subst (λ ss. AllNeed ss d.after.sessions) (heard_sessions k u.input) (codes_on p u.input (calls.step places asked each f t bs stand roots turns u k may))
+      codes = subst (λ ss. AllNeed ss d.after.sessions) (sessions_heard k u.input) (codes_on p u.input (calls.step places asked each f t bs stand roots turns u k may))
 
       -- a root that may go on after the turn needed no rollback before it
       goes_before : (b : BranchId) (l : Live) → live_at k b ≡ Some l → (l.parent ≡ None → May l.me) → GoesOn k l

@@ -33,7 +33,7 @@ use Rattle.run_laws.proofs.RestLemmas.{live_root}
 use Rattle.run_laws.proofs.RestRunLemmas.{NodeRests, heard_rests, RootsStand, roots_stand_on, first_rests}
 use Rattle.run_laws.proofs.SaidPostLemmas.{posts_back, posts_of}
 use Rattle.tree_laws.proofs.EachNodeLemmas.{EachNode, turn_says, turn_nodes, says_on, nodes_on, nodes_first}
-use Rattle.node_rules.proofs.HeardLemmas.{heard_sessions}
+use Rattle.node_rules.proofs.HeardLemmas.{sessions_heard}
 use Rattle.tree_laws.proofs.GoOnLemmas.{goes_before}
 use Rattle.gone_laws.specs.GoneLaws.{ToldWell, HoldsWell, CallsWell, BranchesHoldWell, CallsFollowAnswers}
 use Rattle.gone_laws.proofs.WellLemmas.{QuietOf, well_low, well_split, held_more}
@@ -126,7 +126,7 @@ module _ (places : List Place) (asked : List Command) (each : (n : ℕ) (p : Pla
       rooted : (from to : BranchId) (kind : Kind) → Came u.input from to kind → (l : Live) → live_at (heard k u.input) l.me ≡ Some l → l.parent ≡ None → (session_at (heard k u.input).sessions l.me.session).root ≡ Some l.me
       rooted from to kind came l live none =
           let its : live_at k l.me ≡ Some l = subst (λ ls. item_at live_id ls l.me ≡ Some l) (heard_lives k u.input) live in
-          subst (λ ss. (session_at ss l.me.session).root ≡ Some l.me) (sym (heard_sessions k u.input)) (live_root k rests.1 l.me l its none).root
+          subst (λ ss. (session_at ss l.me.session).root ≡ Some l.me) (sym (sessions_heard k u.input)) (live_root k rests.1 l.me l its none).root
 
       olds : NodeWell said k
       olds = subst (λ o. IfSome o (NodeWell said)) may.up (now.nodes n)

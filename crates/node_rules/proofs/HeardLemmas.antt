@@ -5,8 +5,8 @@ use Rattle.node_rules.specs.Data.inputs
 use Rattle.node_rules.specs.Kept.{Kept}
 use Rattle.node_rules.specs.Turn.{heard}
 
-pub heard_sessions : (k : Kept) (input : Input) → (heard k input).sessions ≡ k.sessions
-heard_sessions k (inputs.Message m) = refl
-heard_sessions k (inputs.Call session statement) = refl
-heard_sessions k (inputs.GiveUp session) = refl
-heard_sessions k inputs.Reco = refl
+pub sessions_heard : (k : Kept) (input : Input) → (heard k input).sessions ≡ k.sessions
+sessions_heard k (inputs.Message m) = refl
+sessions_heard k (inputs.Call session statement) = refl
+sessions_heard k (inputs.GiveUp session) = refl
+sessions_heard k inputs.Reco = refl

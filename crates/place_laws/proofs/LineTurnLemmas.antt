@@ -20,7 +20,7 @@ use Rattle.node_rules.specs.Turn.{turn_of, heard, deed_of}
 use Rattle.node_rules.proofs.LiveLemmas.{each_same}
 use Rattle.node_rules.proofs.Steps as steps
 use Rattle.node_rules.proofs.Steps.{Step, Asked}
-use Rattle.node_rules.proofs.HeardLemmas.{heard_sessions}
+use Rattle.node_rules.proofs.HeardLemmas.{sessions_heard}
 use Rattle.run_laws.specs.Births.{Born, births_of, born_at}
 use Rattle.run_laws.specs.BirthLaws.{Began, LiveIs, GoesSo}
 use Rattle.run_laws.specs.Data.{Turn, Happening}
@@ -148,7 +148,7 @@ module _ (t : History) (whole : IsLawfulRun t) where
     step = (serves t.places f0 u k may.1).step
 
     codes : AllNeed k.sessions d.after.sessions
-    codes = subst (λ ss. AllNeed ss d.after.sessions) (heard_sessions k u.input) (codes_on p u.input step)
+    codes = subst (λ ss. AllNeed ss d.after.sessions) (sessions_heard k u.input) (codes_on p u.input step)
 
     -- a root that may go on after the turn needed no rollback before it
     goes_before : (b : BranchId) (l : Live) → live_at k b ≡ Some l → (l.parent ≡ None → May l.me) → GoesOn k l

@@ -22,7 +22,7 @@ use Rattle.node_rules.proofs.Steps.{Step, HasRoot}
 use Rattle.node_rules.proofs.StandLemmas.{call_set, session_set}
 use Rattle.node_rules.proofs.SessionLemmas.{seqs, seq_at, session_seq, set_seqs, call_seqs, needs_seqs, ended_seqs, pends_seqs, answered_seqs, heard_seqs, decided_seqs, abandoned_seqs, ended_if_seqs, still_seqs}
 use Rattle.node_rules.proofs.TurnLemmas.{step_of}
-use Rattle.node_rules.proofs.HeardLemmas.{heard_sessions}
+use Rattle.node_rules.proofs.HeardLemmas.{sessions_heard}
 use Rattle.ready_laws.specs.Numbers.{SeqsRiseByOne}
 use Rattle.ready_laws.proofs.ListLemmas.{all_weaker}
 
@@ -150,4 +150,4 @@ from_low n (s ∷ ss) all = (all.0, from_low n ss all.1)
 pub seqs_rise_by_one : SeqsRiseByOne
 unfolding turn_of
 seqs_rise_by_one p k input n fit all =
-    from_low (n + 1) _ (seqs_on p input n (step_of p k input fit) (inl (subst (λ ss. Low n (seqs ss)) (sym (heard_sessions k input)) (to_low n k.sessions all))))
+    from_low (n + 1) _ (seqs_on p input n (step_of p k input fit) (inl (subst (λ ss. Low n (seqs ss)) (sym (sessions_heard k input)) (to_low n k.sessions all))))

@@ -37,7 +37,7 @@ use Rattle.run_laws.proofs.BirthRunLemmas.{StandBorn, stand_born_on, stand_born_
 use Rattle.run_laws.proofs.NeighborLemmas.{News}
 use Rattle.node_rules.specs.LiveBranches.{EachLive}
 use Rattle.node_rules.proofs.LiveLemmas.{each_same, none_live, branch_parts}
-use Rattle.node_rules.proofs.HeardLemmas.{heard_sessions}
+use Rattle.node_rules.proofs.HeardLemmas.{sessions_heard}
 use Rattle.run_laws.proofs.RestLemmas.{RootIs, live_root, free_waits}
 use Rattle.run_laws.proofs.RestRunLemmas.{NodeRests, heard_rests, free_by, RootsStand, turned, roots_stand_on, first_rests}
 use Rattle.run_laws.proofs.CodeLemmas.{AllNeed, codes_on}
@@ -133,7 +133,7 @@ module _ (places : List Place) (asked : List Command) (each : (n : ℕ) (p : Pla
       step = (serves places f u k may).step
 
       codes : AllNeed k.sessions d.after.sessions
-      codes = subst (λ ss. AllNeed ss d.after.sessions) (heard_sessions k u.input) (codes_on p u.input step)
+      codes = subst (λ ss. AllNeed ss d.after.sessions) (sessions_heard k u.input) (codes_on p u.input step)
 
       pub names : NamesAre (Began bs) k
       names = subst (λ o. IfSome o (NamesAre (Began bs))) may.up (stand.1.lives n)

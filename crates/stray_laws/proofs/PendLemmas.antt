@@ -16,7 +16,7 @@ use Rattle.node_rules.specs.Kept.{Kept, Branch, Deed, live_id, live_at, branch_a
 use Rattle.node_rules.specs.Sessions.{session_at, commit_complete}
 use Rattle.node_rules.specs.Turn.{deed_of, heard}
 use Rattle.node_rules.specs.Words.{same}
-use Rattle.node_rules.proofs.HeardLemmas.{heard_sessions}
+use Rattle.node_rules.proofs.HeardLemmas.{sessions_heard}
 use Rattle.run_laws.specs.Births.{Born, births_of, born_id, born_at}
 use Rattle.run_laws.specs.BirthLaws.{Began, GoesSo, IsChild, LiveIs, StandsBelow}
 use Rattle.run_laws.specs.Branches.{is_among}
@@ -230,7 +230,7 @@ module _ (t : History) (whole : IsLawfulRun t) (c : Commit t.places t.commands t
     state_next x message = by (effect x message) state
       where
         sessions : k1.sessions ≡ k.sessions
-        sessions = heard_sessions k h.input
+        sessions = sessions_heard k h.input
 
         root_is : (o : Option BranchId) → (session_at k.sessions m).root ≡ o → (session_at k1.sessions m).root ≡ o
         root_is o root = ap (λ (ss : List Session). (session_at ss m).root) sessions ∙ root

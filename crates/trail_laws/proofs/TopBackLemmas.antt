@@ -18,7 +18,7 @@ use Rattle.node_rules.specs.Prepare.{is_awaited, voted}
 use Rattle.node_rules.specs.Turn.{turn_of, heard, deed_of, stamped}
 use Rattle.node_rules.proofs.Steps.{Answers, vote_kind}
 use Rattle.node_rules.proofs.StepLemmas.{branch_found}
-use Rattle.node_rules.proofs.HeardLemmas.{heard_sessions}
+use Rattle.node_rules.proofs.HeardLemmas.{sessions_heard}
 use Rattle.run_laws.specs.Births.{births_of}
 use Rattle.run_laws.specs.Branches.{Seen, Trail, is_among, all_voted, is_live, is_live_at, is_root_of, seen_at, plan_at}
 use Rattle.run_laws.specs.Data.{Turn, Happening}
@@ -294,7 +294,7 @@ module _ (t : History) (whole : IsLawfulRun t) (hs : List Happening) (u : Turn) 
 
     why : live_at d.after s.me ≡ None → Why u.input s.me z k.sessions d.wrote d.says
     why gone =
-        subst (λ ss. Why u.input s.me z ss d.wrote d.says) (heard_sessions k u.input)
+        subst (λ ss. Why u.input s.me z ss d.wrote d.says) (sessions_heard k u.input)
         (why_on u.input s.me z p (λ from sb comment came. before.prepared from s.me sb comment came z found)
         (λ top phase. (live_told s0 lawful0 u.node k may.1.up z z_live).root top (ap way_of phase)) (serves t.places f0 u k may.1).step (heard_fits u.input) (heard_live u.input s.me ∙ found) gone)
 

@@ -16,7 +16,7 @@ use Rattle.node_rules.specs.Client.{new_root}
 use Rattle.node_rules.specs.Turn.{turn_of, heard, deed_of}
 use Rattle.node_rules.proofs.Steps.{IsOfRows}
 use Rattle.node_rules.proofs.SessionLemmas.{seqs, seq_at, session_seq}
-use Rattle.node_rules.proofs.HeardLemmas.{heard_sessions}
+use Rattle.node_rules.proofs.HeardLemmas.{sessions_heard}
 use Rattle.run_laws.specs.Births.{Born, births_of, born_id}
 use Rattle.run_laws.specs.BirthLaws.{Began}
 use Rattle.run_laws.specs.Branches.{Seen, Trail}
@@ -157,8 +157,8 @@ module _ (t : History) (whole : IsLawfulRun t) where
 
       quiet_seq : ((n : ℕ) (s : Stmt) → IsCall u.input n s → is_of_rows s ≡ true → (session_at k.sessions n).root ≡ None → ⊥) → (session_at d.after.sessions session).seq ≡ (session_at k.sessions session).seq
       quiet_seq nobody = elim (seqs_on p u.input (births.serving t whole hs u rest is sees counts born).step (heard_fits u.input)) [
-        | inl same ↦ seq_of (same ∙ ap seqs (heard_sessions k u.input))
-        | inr begins ↦ absurd (nobody begins.session begins.statement begins.call (rows_so begins.statement begins.rows) (subst (λ (ss : List Session). (session_at ss begins.session).root ≡ None) (heard_sessions k u.input) begins.none))
+        | inl same ↦ seq_of (same ∙ ap seqs (sessions_heard k u.input))
+        | inr begins ↦ absurd (nobody begins.session begins.statement begins.call (rows_so begins.statement begins.rows) (subst (λ (ss : List Session). (session_at ss begins.session).root ≡ None) (sessions_heard k u.input) begins.none))
       ]
 
       -- the session of the root that begins gets the next one

@@ -6,7 +6,7 @@ use Rattle.node_rules.specs.Words.{numbered}
 use Rattle.node_rules.specs.Kept.{Kept, Deed, live_id, live_at}
 use Rattle.node_rules.specs.Sessions.{session_at}
 use Rattle.node_rules.specs.Turn.{turn_of, deed_of}
-use Rattle.node_rules.proofs.HeardLemmas.{heard_sessions}
+use Rattle.node_rules.proofs.HeardLemmas.{sessions_heard}
 use Rattle.agreement.specs.Events.{Event}
 use Rattle.run_laws.specs.Births.{Born}
 use Rattle.run_laws.specs.Data.{Turn, Command}
@@ -39,7 +39,7 @@ module _ (places : List Place) (asked : List Command) (each : (n : ℕ) (p : Pla
     rests_after = turned places asked each f t bs stand roots u k may
 
     codes : AllNeed k.sessions d.after.sessions
-    codes = subst (λ ss. AllNeed ss d.after.sessions) (heard_sessions k u.input) (codes_on p u.input (calls.step places asked each f t bs stand roots turns u k may))
+    codes = subst (λ ss. AllNeed ss d.after.sessions) (sessions_heard k u.input) (codes_on p u.input (calls.step places asked each f t bs stand roots turns u k may))
 
     -- a root that may go on after the turn needed no rollback before it
     pub goes_before : (b : BranchId) (l : Live) → live_at k b ≡ Some l → (l.parent ≡ None → May l.me) → GoesOn k l
