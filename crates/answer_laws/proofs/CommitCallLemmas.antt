@@ -190,7 +190,7 @@ module _ (t : History) (whole : IsLawfulRun t) where
 
     own : (m : ℕ) → (session_at (deed_of (place_at t.places u.node) k u.input).after.sessions m).call ≡ pending.Commit → CommitCame (hs ++ happenings.Turn u ∷ []) u.node m
     own m commits = elim (commits_on (place_at t.places u.node) u.input m (serves t.places (f_at t hs) u k may.1).step commits) [
-      | inl was ↦ (let before : (session_at k.sessions m).call ≡ pending.Commit = subst (λ ss. (session_at ss m).call ≡ pending.Commit) (heard_sessions k u.input) was in
+      | inl was ↦ (let before : (session_at k.sessions m).call ≡ pending.Commit = subst (λ ss. (session_at ss m).call ≡ pending.Commit) (sessions_heard k u.input) was in
           came_on hs (happenings.Turn u) u.node m (uncalled m before) (now u.node k may.1.up m before))
       | inr came ↦ record { before = hs; turn = u; later = []; since = refl; here = refl; comment = came.0; came = came.1; quiet = tt }
     ]
