@@ -1,13 +1,14 @@
 //! The lanes of a picture, and the bars on them.
-ghost use Rattle.std.specs.Prelude.{◌≡◌, ◌<◌, ◌^◌, ◌++◌, flat_map, length, OnOk};
+ghost use Rattle.std.specs.Prelude.{◌≡◌, ◌<◌, ◌^◌, ◌++◌, length, OnOk};
 ghost use Rattle.chart_text.specs.Layout.{lane as lane_of, lanes_from, stretch as stretch_of, doubt_bar, outage_bar};
 
+use crate::drawn::Drawn;
 use crate::places::{edge, x_of, y_of};
 use crate::shape::{BarKind, LineKind, Shape, Spot};
 use crate::window::Window;
 use dtx_values::Name;
 use run_marks::{Doubt, Outage};
-use std::alloc::AllocError;
+use std::alloc::{AllocError, Global};
 
 fn lane(window: Window, node: u64) -> Shape
     requires { node < 2 ^ 32 }
@@ -58,50 +59,46 @@ fn stretch(node: u8, from: u32, till: u32, kind: BarKind) -> Shape
     }
 }
 
-fn put_doubt(shapes: &mut Vec<Shape>, window: Window, doubt: &Doubt) -> Result<(), AllocError>
-    ensures { OnOk result (shapes.new.items ≡ shapes.old.items ++ doubt_bar window doubt.now) }
-{
-    let till = window.till(doubt.till);
-    if window.reaches(doubt.from, till) {
-        shapes.push(stretch(doubt.branch.node, doubt.from, till, BarKind::Doubt))?;
+/// The bar of a branch in doubt.
+pub(crate) struct DoubtBar;
+
+impl Drawn for DoubtBar {
+    type Mark = Doubt;
+
+    ghost shapes = { doubt_bar };
+
+    fn put(
+        drawn: &mut Vec<Shape>,
+        _alloc: Global,
+        window: Window,
+        doubt: &Doubt,
+    ) -> Result<(), AllocError> {
+        let till = window.till(doubt.till);
+        if window.reaches(doubt.from, till) {
+            drawn.push(stretch(doubt.branch.node, doubt.from, till, BarKind::Doubt))?;
+        }
+        Ok(())
     }
-    Ok(())
 }
 
-fn put_outage(shapes: &mut Vec<Shape>, window: Window, outage: &Outage) -> Result<(), AllocError>
-    ensures { OnOk result (shapes.new.items ≡ shapes.old.items ++ outage_bar window outage.now) }
-{
-    let till = window.till(outage.till);
-    if window.reaches(outage.from, till) {
-        shapes.push(stretch(outage.node, outage.from, till, BarKind::Outage))?;
-    }
-    Ok(())
-}
+/// The bar of a node that is down.
+pub(crate) struct OutageBar;
 
-/// Adds the branches in doubt.
-pub(crate) fn put_doubts(
-    shapes: &mut Vec<Shape>,
-    window: Window,
-    doubts: &[Doubt],
-) -> Result<(), AllocError>
-    ensures { OnOk result (shapes.new.items ≡ shapes.old.items ++ flat_map (doubt_bar window) doubts.now) }
-{
-    for doubt in doubts {
-        put_doubt(shapes, window, doubt)?;
-    }
-    Ok(())
-}
+impl Drawn for OutageBar {
+    type Mark = Outage;
 
-/// Adds the nodes that are down.
-pub(crate) fn put_outages(
-    shapes: &mut Vec<Shape>,
-    window: Window,
-    outages: &[Outage],
-) -> Result<(), AllocError>
-    ensures { OnOk result (shapes.new.items ≡ shapes.old.items ++ flat_map (outage_bar window) outages.now) }
-{
-    for outage in outages {
-        put_outage(shapes, window, outage)?;
+    ghost shapes = { outage_bar };
+
+    fn put(
+        drawn: &mut Vec<Shape>,
+        _alloc: Global,
+        window: Window,
+        outage: &Outage,
+    ) -> Result<(), AllocError> {
+        let till = window.till(outage.till);
+        if window.reaches(outage.from, till) {
+            drawn.push(stretch(outage.node, outage.from, till, BarKind::Outage))?;
+        }
+        Ok(())
     }
-    Ok(())
 }

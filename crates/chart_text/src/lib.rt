@@ -7,6 +7,7 @@
 #![tactic(auto)]
 
 mod bands;
+mod drawn;
 mod head;
 mod lanes;
 mod layout;

@@ -1,7 +1,8 @@
 //! Messages and their copies: lines from lane to lane, and their labels.
-ghost use Rattle.std.specs.Prelude.{◌≡◌, ◌++◌, flat_map, OnOk};
+ghost use Rattle.std.specs.Prelude.{◌≡◌};
 ghost use Rattle.chart_text.specs.Layout.{level as level_of, kind_of, arrow as arrow_of, arrow_line, arrow_label, repeat_line, repeat_label};
 
+use crate::drawn::Drawn;
 use crate::places::{beside, gap, side_toward, x_of, y_of};
 use crate::shape::{LineKind, Shape, Spot, TextKind};
 use crate::window::{Window, end_row};
@@ -55,132 +56,112 @@ fn line(arrow: &Arrow) -> Shape
     }
 }
 
-fn put_arrow(shapes: &mut Vec<Shape>, window: Window, arrow: &Arrow) -> Result<(), AllocError>
-    ensures { OnOk result (shapes.new.items ≡ shapes.old.items ++ arrow_line window arrow.now) }
-{
-    if window.shows_arrow(arrow) {
-        shapes.push(line(arrow))?;
+/// The line of a message.
+pub(crate) struct ArrowLine;
+
+impl Drawn for ArrowLine {
+    type Mark = Arrow;
+
+    ghost shapes = { arrow_line };
+
+    fn put(
+        drawn: &mut Vec<Shape>,
+        _alloc: Global,
+        window: Window,
+        arrow: &Arrow,
+    ) -> Result<(), AllocError> {
+        if window.shows_arrow(arrow) {
+            drawn.push(line(arrow))?;
+        }
+        Ok(())
     }
-    Ok(())
 }
 
-fn put_arrow_label(
-    shapes: &mut Vec<Shape>,
-    alloc: Global,
-    window: Window,
-    arrow: &Arrow,
-) -> Result<(), AllocError>
-    ensures { OnOk result (shapes.new.items ≡ shapes.old.items ++ arrow_label window arrow.now) }
-{
-    let row = end_row(arrow.end);
-    if !window.is_in(row) {
-        return Ok(());
+/// The label of a message.
+pub(crate) struct ArrowLabel;
+
+impl Drawn for ArrowLabel {
+    type Mark = Arrow;
+
+    ghost shapes = { arrow_label };
+
+    fn put(
+        drawn: &mut Vec<Shape>,
+        alloc: Global,
+        window: Window,
+        arrow: &Arrow,
+    ) -> Result<(), AllocError> {
+        let row = end_row(arrow.end);
+        if !window.is_in(row) {
+            return Ok(());
+        }
+        let side = side_toward(arrow.to, arrow.from);
+        let at = Spot {
+            x: beside(arrow.to, side, gap(arrow.end) + 12),
+            y: y_of(row) + 3,
+        };
+        let mut text = Vec::new(alloc);
+        put_message(&mut text, arrow.number, arrow.kind)?;
+        drawn.push(Shape::Text {
+            at,
+            kind: TextKind::Message(side),
+            text: Listing::of(text),
+        })?;
+        Ok(())
     }
-    let side = side_toward(arrow.to, arrow.from);
-    let at = Spot {
-        x: beside(arrow.to, side, gap(arrow.end) + 12),
-        y: y_of(row) + 3,
-    };
-    let mut text = Vec::new(alloc);
-    put_message(&mut text, arrow.number, arrow.kind)?;
-    shapes.push(Shape::Text {
-        at,
-        kind: TextKind::Message(side),
-        text: Listing::of(text),
-    })?;
-    Ok(())
 }
 
-fn put_repeat(shapes: &mut Vec<Shape>, window: Window, repeat: &Repeat) -> Result<(), AllocError>
-    ensures { OnOk result (shapes.new.items ≡ shapes.old.items ++ repeat_line window repeat.now) }
-{
-    if window.is_in(repeat.row) {
-        shapes.push(level(repeat.row, repeat.from, repeat.to, LineKind::Repeat))?;
+/// The line of a copy.
+pub(crate) struct RepeatLine;
+
+impl Drawn for RepeatLine {
+    type Mark = Repeat;
+
+    ghost shapes = { repeat_line };
+
+    fn put(
+        drawn: &mut Vec<Shape>,
+        _alloc: Global,
+        window: Window,
+        repeat: &Repeat,
+    ) -> Result<(), AllocError> {
+        if window.is_in(repeat.row) {
+            drawn.push(level(repeat.row, repeat.from, repeat.to, LineKind::Repeat))?;
+        }
+        Ok(())
     }
-    Ok(())
 }
 
-fn put_repeat_label(
-    shapes: &mut Vec<Shape>,
-    alloc: Global,
-    window: Window,
-    repeat: &Repeat,
-) -> Result<(), AllocError>
-    ensures { OnOk result (shapes.new.items ≡ shapes.old.items ++ repeat_label window repeat.now) }
-{
-    if !window.is_in(repeat.row) {
-        return Ok(());
-    }
-    let side = side_toward(repeat.to, repeat.from);
-    let at = Spot {
-        x: beside(repeat.to, side, 12),
-        y: y_of(repeat.row) - 2,
-    };
-    let mut text = Vec::new(alloc);
-    put_message(&mut text, repeat.number, repeat.kind)?;
-    text.extend_from_slice(b" again")?;
-    shapes.push(Shape::Text {
-        at,
-        kind: TextKind::Message(side),
-        text: Listing::of(text),
-    })?;
-    Ok(())
-}
+/// The label of a copy.
+pub(crate) struct RepeatLabel;
 
-/// Adds the lines of messages.
-pub(crate) fn put_arrows(
-    shapes: &mut Vec<Shape>,
-    window: Window,
-    arrows: &[Arrow],
-) -> Result<(), AllocError>
-    ensures { OnOk result (shapes.new.items ≡ shapes.old.items ++ flat_map (arrow_line window) arrows.now) }
-{
-    for arrow in arrows {
-        put_arrow(shapes, window, arrow)?;
-    }
-    Ok(())
-}
+impl Drawn for RepeatLabel {
+    type Mark = Repeat;
 
-/// Adds the labels of messages.
-pub(crate) fn put_arrow_labels(
-    shapes: &mut Vec<Shape>,
-    alloc: Global,
-    window: Window,
-    arrows: &[Arrow],
-) -> Result<(), AllocError>
-    ensures { OnOk result (shapes.new.items ≡ shapes.old.items ++ flat_map (arrow_label window) arrows.now) }
-{
-    for arrow in arrows {
-        put_arrow_label(shapes, alloc, window, arrow)?;
-    }
-    Ok(())
-}
+    ghost shapes = { repeat_label };
 
-/// Adds the lines of copies.
-pub(crate) fn put_repeats(
-    shapes: &mut Vec<Shape>,
-    window: Window,
-    repeats: &[Repeat],
-) -> Result<(), AllocError>
-    ensures { OnOk result (shapes.new.items ≡ shapes.old.items ++ flat_map (repeat_line window) repeats.now) }
-{
-    for repeat in repeats {
-        put_repeat(shapes, window, repeat)?;
+    fn put(
+        drawn: &mut Vec<Shape>,
+        alloc: Global,
+        window: Window,
+        repeat: &Repeat,
+    ) -> Result<(), AllocError> {
+        if !window.is_in(repeat.row) {
+            return Ok(());
+        }
+        let side = side_toward(repeat.to, repeat.from);
+        let at = Spot {
+            x: beside(repeat.to, side, 12),
+            y: y_of(repeat.row) - 2,
+        };
+        let mut text = Vec::new(alloc);
+        put_message(&mut text, repeat.number, repeat.kind)?;
+        text.extend_from_slice(b" again")?;
+        drawn.push(Shape::Text {
+            at,
+            kind: TextKind::Message(side),
+            text: Listing::of(text),
+        })?;
+        Ok(())
     }
-    Ok(())
-}
-
-/// Adds the labels of copies.
-pub(crate) fn put_repeat_labels(
-    shapes: &mut Vec<Shape>,
-    alloc: Global,
-    window: Window,
-    repeats: &[Repeat],
-) -> Result<(), AllocError>
-    ensures { OnOk result (shapes.new.items ≡ shapes.old.items ++ flat_map (repeat_label window) repeats.now) }
-{
-    for repeat in repeats {
-        put_repeat_label(shapes, alloc, window, repeat)?;
-    }
-    Ok(())
 }

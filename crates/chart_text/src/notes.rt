@@ -2,6 +2,7 @@
 ghost use Rattle.std.specs.Prelude.{◌≡◌, ◌++◌, flat_map, OnOk};
 ghost use Rattle.chart_text.specs.Layout.{kind_of_parting, parting_line, parting_label, note_sign, note_label};
 
+use crate::drawn::Drawn;
 use crate::messages::level;
 use crate::places::{beside, x_of, y_of};
 use crate::shape::{LineKind, Shape, Spot, TextKind};
@@ -11,45 +12,64 @@ use dtx_values::{Listing, Name};
 use run_marks::{Note, Parting, Side};
 use std::alloc::{AllocError, Global};
 
-fn put_sign(shapes: &mut Vec<Shape>, window: Window, note: &Note) -> Result<(), AllocError>
-    ensures { OnOk result (shapes.new.items ≡ shapes.old.items ++ note_sign window note.now) }
-{
-    if window.is_in(note.row) {
-        let at = Spot {
-            x: x_of(u64::from(note.node)),
-            y: y_of(note.row),
-        };
-        shapes.push(Shape::Sign {
-            at,
-            deed: note.deed,
-        })?;
+/// The sign of what a node did or met.
+pub(crate) struct Sign;
+
+impl Drawn for Sign {
+    type Mark = Note;
+
+    ghost shapes = { note_sign };
+
+    fn put(
+        drawn: &mut Vec<Shape>,
+        _alloc: Global,
+        window: Window,
+        note: &Note,
+    ) -> Result<(), AllocError> {
+        if window.is_in(note.row) {
+            let at = Spot {
+                x: x_of(u64::from(note.node)),
+                y: y_of(note.row),
+            };
+            drawn.push(Shape::Sign {
+                at,
+                deed: note.deed,
+            })?;
+        }
+        Ok(())
     }
-    Ok(())
 }
 
-fn put_note_label(
-    shapes: &mut Vec<Shape>,
-    alloc: Global,
-    window: Window,
-    note: &Note,
-) -> Result<(), AllocError>
-    ensures { OnOk result (shapes.new.items ≡ shapes.old.items ++ note_label window note.now) }
-{
-    if !window.is_in(note.row) {
-        return Ok(());
+/// The same in words.
+pub(crate) struct NoteLabel;
+
+impl Drawn for NoteLabel {
+    type Mark = Note;
+
+    ghost shapes = { note_label };
+
+    fn put(
+        drawn: &mut Vec<Shape>,
+        alloc: Global,
+        window: Window,
+        note: &Note,
+    ) -> Result<(), AllocError> {
+        if !window.is_in(note.row) {
+            return Ok(());
+        }
+        let at = Spot {
+            x: beside(note.node, note.side, 13),
+            y: y_of(note.row) + 1,
+        };
+        let mut text = Vec::new(alloc);
+        put_deed(&mut text, note.deed)?;
+        drawn.push(Shape::Text {
+            at,
+            kind: TextKind::Deed(note.side),
+            text: Listing::of(text),
+        })?;
+        Ok(())
     }
-    let at = Spot {
-        x: beside(note.node, note.side, 13),
-        y: y_of(note.row) + 1,
-    };
-    let mut text = Vec::new(alloc);
-    put_deed(&mut text, note.deed)?;
-    shapes.push(Shape::Text {
-        at,
-        kind: TextKind::Deed(note.side),
-        text: Listing::of(text),
-    })?;
-    Ok(())
 }
 
 fn kind(joined: bool) -> LineKind
@@ -62,17 +82,25 @@ fn kind(joined: bool) -> LineKind
     }
 }
 
-fn put_parting_line(
-    shapes: &mut Vec<Shape>,
-    window: Window,
-    parting: &Parting,
-) -> Result<(), AllocError>
-    ensures { OnOk result (shapes.new.items ≡ shapes.old.items ++ parting_line window parting.now) }
-{
-    if window.is_in(parting.row) {
-        shapes.push(level(parting.row, parting.a, parting.b, kind(parting.joined)))?;
+/// The line between the nodes of a pair that is cut or joined.
+pub(crate) struct PartingLine;
+
+impl Drawn for PartingLine {
+    type Mark = Parting;
+
+    ghost shapes = { parting_line };
+
+    fn put(
+        drawn: &mut Vec<Shape>,
+        _alloc: Global,
+        window: Window,
+        parting: &Parting,
+    ) -> Result<(), AllocError> {
+        if window.is_in(parting.row) {
+            drawn.push(level(parting.row, parting.a, parting.b, kind(parting.joined)))?;
+        }
+        Ok(())
     }
-    Ok(())
 }
 
 fn put_parting_label(
@@ -98,49 +126,6 @@ fn put_parting_label(
         kind: TextKind::Message(Side::Right),
         text: Listing::of(text),
     })?;
-    Ok(())
-}
-
-/// Adds the signs of what nodes did or met.
-pub(crate) fn put_signs(
-    shapes: &mut Vec<Shape>,
-    window: Window,
-    notes: &[Note],
-) -> Result<(), AllocError>
-    ensures { OnOk result (shapes.new.items ≡ shapes.old.items ++ flat_map (note_sign window) notes.now) }
-{
-    for note in notes {
-        put_sign(shapes, window, note)?;
-    }
-    Ok(())
-}
-
-/// Adds the same in words.
-pub(crate) fn put_note_labels(
-    shapes: &mut Vec<Shape>,
-    alloc: Global,
-    window: Window,
-    notes: &[Note],
-) -> Result<(), AllocError>
-    ensures { OnOk result (shapes.new.items ≡ shapes.old.items ++ flat_map (note_label window) notes.now) }
-{
-    for note in notes {
-        put_note_label(shapes, alloc, window, note)?;
-    }
-    Ok(())
-}
-
-/// Adds the pairs that are cut or joined.
-pub(crate) fn put_partings(
-    shapes: &mut Vec<Shape>,
-    window: Window,
-    partings: &[Parting],
-) -> Result<(), AllocError>
-    ensures { OnOk result (shapes.new.items ≡ shapes.old.items ++ flat_map (parting_line window) partings.now) }
-{
-    for parting in partings {
-        put_parting_line(shapes, window, parting)?;
-    }
     Ok(())
 }
 

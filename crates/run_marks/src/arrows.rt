@@ -1,12 +1,13 @@
 //! The messages of a run, each with its end.
-ghost use Rattle.std.specs.Prelude.{◌≡◌, ◌<◌, ◌^◌, [], ◌++◌, ◌∷◌, IfOk, OnOk};
+ghost use Rattle.std.specs.Prelude.{◌≡◌, ◌<◌, ◌^◌, ◌++◌, ◌∷◌, IfOk, OnOk};
 ghost use Rattle.wire_msg.specs.Names.{name_of_kind};
 ghost use Rattle.run_marks.specs.Data.ends;
-ghost use Rattle.run_marks.specs.Rows.{start, along, rows_of};
+ghost use Rattle.run_marks.specs.Rows.{rows_of};
 ghost use Rattle.run_marks.specs.Marks.{sent_arrow, with_sent, with_end, ended, with_taken, arrows_after, is_flying, flying_in, shown_from, arrows_of, rows_with_flights};
 
-use crate::cursor::{Cursor, below, count, rows};
+use crate::cursor::{below, count, rows};
 use crate::mark::{Arrow, End, Told};
+use crate::walk::{Marked, marks_of};
 use book::{Happening, Took, Turn};
 use std::alloc::{AllocError, Global};
 use wire_msg::{Kind, KindName, Msg};
@@ -89,28 +90,17 @@ fn turn(arrows: &mut Vec<Arrow>, row: u32, turn: &Turn) -> Result<(), AllocError
     send(arrows, row, turn.sent.as_slice())
 }
 
-fn add(arrows: &mut Vec<Arrow>, row: u32, happening: &Happening) -> Result<(), AllocError>
-    ensures { OnOk result (arrows.new.items ≡ arrows_after arrows.old.items row happening.now) }
-{
-    match happening {
-        Happening::Turn(taken) => turn(arrows, row, taken)?,
-        Happening::Lost { k } => end_at(arrows, *k, End::Lost(row)),
-        _ => {}
-    }
-    Ok(())
-}
+impl Marked for Arrow {
+    ghost after = { arrows_after };
 
-/// The messages that were sent, each with its end. Fails where memory runs out, or where there would be too many rows.
-fn ended_arrows(alloc: Global, tale: &[Told], trace: &[Happening]) -> Result<Vec<Arrow>, AllocError>
-    ensures { IfOk result (λ arrows. arrows.items ≡ along arrows_after tale.now [] start trace.now) }
-{
-    let mut arrows = Vec::new(alloc);
-    let mut cursor = Cursor::start();
-    for happening in trace {
-        add(&mut arrows, cursor.row_of(happening), happening)?;
-        cursor = cursor.after(tale, happening)?;
+    fn add(arrows: &mut Vec<Arrow>, row: u32, happening: &Happening) -> Result<(), AllocError> {
+        match happening {
+            Happening::Turn(taken) => turn(arrows, row, taken)?,
+            Happening::Lost { k } => end_at(arrows, *k, End::Lost(row)),
+            _ => {}
+        }
+        Ok(())
     }
-    Ok(arrows)
 }
 
 /// Whether a message is still in flight.
@@ -156,7 +146,7 @@ pub(crate) fn arrows(
 ) -> Result<Vec<Arrow>, AllocError>
     ensures { IfOk result (λ arrows. arrows.items ≡ arrows_of tale.now trace.now) }
 {
-    let ended = ended_arrows(alloc, tale, trace)?;
+    let ended = marks_of::<Arrow>(alloc, tale, trace)?;
     shown(alloc, rows(tale, trace)?, &ended)
 }
 

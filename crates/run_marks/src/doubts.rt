@@ -1,13 +1,12 @@
 //! Branches in doubt, and nodes that are down: stretches of their lanes.
-ghost use Rattle.std.specs.Prelude.{◌≡◌, [], ◌++◌, map, IfOk, OnOk};
-ghost use Rattle.run_marks.specs.Rows.{start, along};
+ghost use Rattle.std.specs.Prelude.{◌≡◌, ◌++◌, map, OnOk};
 ghost use Rattle.run_marks.specs.Marks.{settled, doubts_written, doubts_if, doubts_after, restarted, outages_after};
 
-use crate::cursor::Cursor;
-use crate::mark::{Doubt, Outage, Told};
+use crate::mark::{Doubt, Outage};
+use crate::walk::Marked;
 use book::Happening;
 use redo_record::RedoRecord;
-use std::alloc::{AllocError, Global};
+use std::alloc::AllocError;
 use tran_ids::BranchId;
 
 fn settle(doubt: &mut Doubt, me: &BranchId, row: u32)
@@ -58,30 +57,15 @@ fn write_if(doubts: &mut Vec<Doubt>, row: u32, wrote: &Option<RedoRecord>) -> Re
     }
 }
 
-fn add_doubt(doubts: &mut Vec<Doubt>, row: u32, happening: &Happening) -> Result<(), AllocError>
-    ensures { OnOk result (doubts.new.items ≡ doubts_after doubts.old.items row happening.now) }
-{
-    match happening {
-        Happening::Turn(turn) => write_if(doubts, row, &turn.wrote),
-        _ => Ok(()),
-    }
-}
+impl Marked for Doubt {
+    ghost after = { doubts_after };
 
-/// The branches in doubt. Fails where memory runs out, or where there would be too many rows.
-pub(crate) fn doubts(
-    alloc: Global,
-    tale: &[Told],
-    trace: &[Happening],
-) -> Result<Vec<Doubt>, AllocError>
-    ensures { IfOk result (λ doubts. doubts.items ≡ along doubts_after tale.now [] start trace.now) }
-{
-    let mut doubts = Vec::new(alloc);
-    let mut cursor = Cursor::start();
-    for happening in trace {
-        add_doubt(&mut doubts, cursor.row_of(happening), happening)?;
-        cursor = cursor.after(tale, happening)?;
+    fn add(doubts: &mut Vec<Doubt>, row: u32, happening: &Happening) -> Result<(), AllocError> {
+        match happening {
+            Happening::Turn(turn) => write_if(doubts, row, &turn.wrote),
+            _ => Ok(()),
+        }
     }
-    Ok(doubts)
 }
 
 fn restart(outage: &mut Outage, node: u8, row: u32)
@@ -100,34 +84,19 @@ fn restart_all(outages: &mut Vec<Outage>, node: u8, row: u32)
     }
 }
 
-fn add_outage(outages: &mut Vec<Outage>, row: u32, happening: &Happening) -> Result<(), AllocError>
-    ensures { OnOk result (outages.new.items ≡ outages_after outages.old.items row happening.now) }
-{
-    match happening {
-        Happening::Stopped { node } => outages.push(Outage {
-            node: *node,
-            from: row,
-            till: None,
-        })?,
-        Happening::Started { node, boot: _boot } => restart_all(outages, *node, row),
-        _ => {}
-    }
-    Ok(())
-}
+impl Marked for Outage {
+    ghost after = { outages_after };
 
-/// The nodes that are down. Fails where memory runs out, or where there would be too many rows.
-pub(crate) fn outages(
-    alloc: Global,
-    tale: &[Told],
-    trace: &[Happening],
-) -> Result<Vec<Outage>, AllocError>
-    ensures { IfOk result (λ outages. outages.items ≡ along outages_after tale.now [] start trace.now) }
-{
-    let mut outages = Vec::new(alloc);
-    let mut cursor = Cursor::start();
-    for happening in trace {
-        add_outage(&mut outages, cursor.row_of(happening), happening)?;
-        cursor = cursor.after(tale, happening)?;
+    fn add(outages: &mut Vec<Outage>, row: u32, happening: &Happening) -> Result<(), AllocError> {
+        match happening {
+            Happening::Stopped { node } => outages.push(Outage {
+                node: *node,
+                from: row,
+                till: None,
+            })?,
+            Happening::Started { node, boot: _boot } => restart_all(outages, *node, row),
+            _ => {}
+        }
+        Ok(())
     }
-    Ok(outages)
 }

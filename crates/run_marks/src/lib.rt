@@ -15,6 +15,7 @@ mod mark;
 mod notes;
 mod partings;
 mod repeats;
+mod walk;
 
 pub use all_marks::marks;
 pub use laws::each_message_has_its_arrow;

@@ -8,7 +8,6 @@ use tran_ids::BranchId;
 use wire_msg::KindName;
 
 /// A command as it was asked, and its answers, both as lines.
-#[derive(Drop)]
 pub struct Told {
     /// The text of the command.
     pub text: Texts,
@@ -16,11 +15,18 @@ pub struct Told {
     pub answer: Texts,
 }
 
+impl Drop for Told {
+    fn drop(self) {
+        let Told { text, answer } = self;
+        drop(text);
+        drop(answer);
+    }
+}
+
 /// What was told of each command, in order.
 pub type Tale = Listing<Told>;
 
 /// The rows of a command: from its own row to that of the next one.
-#[derive(Drop)]
 pub struct Band {
     /// The command's number, from 1.
     pub command: u32,
@@ -30,6 +36,19 @@ pub struct Band {
     pub text: Texts,
     /// The lines of its answers, which stand at the right.
     pub answer: Texts,
+}
+
+impl Drop for Band {
+    fn drop(self) {
+        let Band {
+            command: _command,
+            row: _row,
+            text,
+            answer,
+        } = self;
+        drop(text);
+        drop(answer);
+    }
 }
 
 /// What became of a message.
@@ -174,7 +193,6 @@ pub struct Parting {
 }
 
 /// All that a picture shows.
-#[derive(Drop)]
 pub struct Marks {
     /// A lane for each node, by the names of the nodes in the order of their numbers.
     pub lanes: Names,
@@ -194,4 +212,28 @@ pub struct Marks {
     pub partings: Listing<Parting>,
     /// How many rows the picture has.
     pub rows: u32,
+}
+
+impl Drop for Marks {
+    fn drop(self) {
+        let Marks {
+            lanes,
+            bands,
+            arrows,
+            repeats,
+            notes,
+            doubts,
+            outages,
+            partings,
+            rows: _rows,
+        } = self;
+        drop(lanes);
+        drop(bands);
+        drop(arrows);
+        drop(repeats);
+        drop(notes);
+        drop(doubts);
+        drop(outages);
+        drop(partings);
+    }
 }

@@ -1,13 +1,12 @@
 //! What nodes did or met, beside their lanes.
-ghost use Rattle.std.specs.Prelude.{◌≡◌, [], ◌++◌, IfOk, OnOk};
-ghost use Rattle.run_marks.specs.Rows.{start, along};
+ghost use Rattle.std.specs.Prelude.{◌≡◌, ◌++◌, OnOk};
 ghost use Rattle.run_marks.specs.Marks.{deed_of_input, deed_ended, deed_forced, deed_of as deed_of_record, deed_written, side_of, across as across_from, noted, notes_after};
 
-use crate::cursor::Cursor;
-use crate::mark::{Deed, Note, Side, Told};
+use crate::mark::{Deed, Note, Side};
+use crate::walk::Marked;
 use book::{Happening, Turn};
 use redo_record::{Decision, RedoRecord};
-use std::alloc::{AllocError, Global};
+use std::alloc::AllocError;
 use wire_msg::Input;
 
 fn deed_taken(input: &Input) -> Option<Deed>
@@ -128,32 +127,19 @@ fn turn(notes: &mut Vec<Note>, row: u32, turn: &Turn) -> Result<(), AllocError>
     )
 }
 
-fn add(notes: &mut Vec<Note>, row: u32, happening: &Happening) -> Result<(), AllocError>
-    ensures { OnOk result (notes.new.items ≡ notes_after notes.old.items row happening.now) }
-{
-    match happening {
-        Happening::Turn(taken) => turn(notes, row, taken),
-        Happening::Stopped { node } => note(notes, *node, row, Side::Right, Some(Deed::Stopped)),
-        Happening::Started { node, boot } => {
-            note(notes, *node, row, Side::Right, Some(Deed::Started(*boot)))
-        }
-        _ => Ok(()),
-    }
-}
+impl Marked for Note {
+    ghost after = { notes_after };
 
-/// What nodes did or met. Fails where memory runs out, or where there would be too many rows.
-pub(crate) fn notes(
-    alloc: Global,
-    tale: &[Told],
-    trace: &[Happening],
-) -> Result<Vec<Note>, AllocError>
-    ensures { IfOk result (λ notes. notes.items ≡ along notes_after tale.now [] start trace.now) }
-{
-    let mut notes = Vec::new(alloc);
-    let mut cursor = Cursor::start();
-    for happening in trace {
-        add(&mut notes, cursor.row_of(happening), happening)?;
-        cursor = cursor.after(tale, happening)?;
+    fn add(notes: &mut Vec<Note>, row: u32, happening: &Happening) -> Result<(), AllocError> {
+        match happening {
+            Happening::Turn(taken) => turn(notes, row, taken),
+            Happening::Stopped { node } => {
+                note(notes, *node, row, Side::Right, Some(Deed::Stopped))
+            }
+            Happening::Started { node, boot } => {
+                note(notes, *node, row, Side::Right, Some(Deed::Started(*boot)))
+            }
+            _ => Ok(()),
+        }
     }
-    Ok(notes)
 }

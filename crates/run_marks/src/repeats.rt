@@ -1,13 +1,12 @@
 //! The copies of messages that were delivered.
-ghost use Rattle.std.specs.Prelude.{◌≡◌, [], ◌++◌, IfOk, OnOk};
-ghost use Rattle.run_marks.specs.Rows.{start, along};
+ghost use Rattle.std.specs.Prelude.{◌≡◌, ◌++◌, OnOk};
 ghost use Rattle.run_marks.specs.Marks.{repeat_of, repeats_in, repeats_after};
 
 use crate::arrows::kind_name;
-use crate::cursor::Cursor;
-use crate::mark::{Repeat, Told};
+use crate::mark::Repeat;
+use crate::walk::Marked;
 use book::{Happening, Took};
-use std::alloc::{AllocError, Global};
+use std::alloc::AllocError;
 use wire_msg::{Input, Msg};
 
 fn repeat(row: u32, number: u64, msg: &Msg) -> Repeat
@@ -38,28 +37,13 @@ fn take(
     Ok(())
 }
 
-fn add(repeats: &mut Vec<Repeat>, row: u32, happening: &Happening) -> Result<(), AllocError>
-    ensures { OnOk result (repeats.new.items ≡ repeats_after repeats.old.items row happening.now) }
-{
-    if let Happening::Turn(turn) = happening {
-        take(repeats, row, &turn.took, &turn.input)?;
-    }
-    Ok(())
-}
+impl Marked for Repeat {
+    ghost after = { repeats_after };
 
-/// The copies that were delivered. Fails where memory runs out, or where there would be too many rows.
-pub(crate) fn repeats(
-    alloc: Global,
-    tale: &[Told],
-    trace: &[Happening],
-) -> Result<Vec<Repeat>, AllocError>
-    ensures { IfOk result (λ repeats. repeats.items ≡ along repeats_after tale.now [] start trace.now) }
-{
-    let mut repeats = Vec::new(alloc);
-    let mut cursor = Cursor::start();
-    for happening in trace {
-        add(&mut repeats, cursor.row_of(happening), happening)?;
-        cursor = cursor.after(tale, happening)?;
+    fn add(repeats: &mut Vec<Repeat>, row: u32, happening: &Happening) -> Result<(), AllocError> {
+        if let Happening::Turn(turn) = happening {
+            take(repeats, row, &turn.took, &turn.input)?;
+        }
+        Ok(())
     }
-    Ok(repeats)
 }

@@ -1,7 +1,0 @@
-use Rattle.std.proofs.Common.{◌≡◌, ◌++◌, take}
-use Rattle.std.specs.List.{flat_map}
-use Rattle.chart_text.specs.Layout.{arrow_label}
-use Rattle.chart_text.proofs.messages.put_arrow_labels.Given as goal
-
-abbrev pub invariant-loop-arrow : goal.invariant-loop-arrow
-invariant-loop-arrow l = l.shapes.items ≡ l.initial.shapes.items ++ flat_map (arrow_label l.window) (take l.arrow-index l.arrows)
