@@ -50,12 +50,19 @@ fn loaded(alloc: Global, bytes: &[u8]) -> Option<Records>
     }
 }
 
+/// Whether this is the record of the start with this number.
+fn is_start(record: &RedoRecord, number: u32) -> bool {
+    matches!(record, RedoRecord::Boot(boot) if *boot == number)
+}
+
 /// Whether these are the records of the first two starts.
 fn are_two_starts(records: &Records) -> bool {
-    matches!(
-        records.as_slice(),
-        [RedoRecord::Boot(1), RedoRecord::Boot(2)]
-    )
+    matches!(records.as_slice(), [first, second] if is_start(first, 1) && is_start(second, 2))
+}
+
+/// Whether this is the record of the first start alone.
+fn is_first_start(records: &Records) -> bool {
+    matches!(records.as_slice(), [first] if is_start(first, 1))
 }
 
 /// Whether two records are laid out one behind the other, and loaded.
@@ -94,7 +101,7 @@ fn has_the_first_alone(alloc: Global, gate: u8, behind: &[u8]) -> bool
     match with_end(alloc, gate, behind) {
         Ok(bytes) => matches!(
             &loaded(alloc, &bytes),
-            Some(records) if matches!(records.as_slice(), [RedoRecord::Boot(1)])
+            Some(records) if is_first_start(records)
         ),
         Err(AllocError) => false,
     }
