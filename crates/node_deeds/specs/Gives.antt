@@ -1,8 +1,7 @@
 -- That a turn of a node gives what the rules say, and a live branch as its parts stand in memory.
-use Rattle.std.specs.Prelude.{◌≡◌, Bool, true, false}
+use Rattle.std.specs.Prelude.{◌≡◌}
 use Rattle.node_rules.specs.declared.work.Work.{Work}
-use Rattle.node_rules.specs.Data.{Live, Kind}
-use Rattle.node_rules.specs.Data.kinds
+use Rattle.node_rules.specs.Data.{Live}
 use Rattle.node_rules.specs.Kept.{Kept, Branch, Deed as DeedByRules}
 use Rattle.node_deeds.specs.declared.deed.Deed.{Deed}
 
@@ -16,8 +15,3 @@ pub record Gives (d : DeedByRules) (new : Kept) (deed : Deed) : Type 0 where
 -- a live branch with its calls
 abbrev pub branch_with : Live → Work → Branch
 branch_with l w = record { live = l; work = w }
-
--- whether a message asks for a branch that is not there yet
-abbrev pub is_open : Kind → Bool
-is_open (kinds.Open edge root depth) = true
-is_open _ = false

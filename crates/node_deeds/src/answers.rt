@@ -44,7 +44,7 @@ fn knows_commit(decision: Option<Decision>) -> bool
 
 /// The code of the answer to a COMMIT that is given up at a root that is not live, by the root's row: ORA-02053 where the
 /// root knows the commit, else ORA-02054.
-pub fn given_up_code(row: Option<&Standing>) -> u16
+fn given_up_code(row: Option<&Standing>) -> u16
     ensures { result ≡ given_up_code_of (option_copied row.entry) }
 {
     match row {

@@ -11,7 +11,7 @@ use tran_ids::BranchId;
 
 /// The one branch that an id names; ORA-02058 where it names none, DTX-07 where it names several. Fails where memory runs
 /// out.
-pub fn one_named(
+fn one_named(
     alloc: Global,
     id: &[u8],
     found: IdNames,

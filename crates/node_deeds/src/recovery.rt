@@ -53,7 +53,7 @@ fn kept_told(row: &Standing, from: &BranchId) -> Told
 }
 
 /// The message by which a kept branch answers one that asks: its neighbours hear what it knows, anybody else RolledBack.
-pub fn ask_answer(row: &Standing, from: &BranchId) -> Kind
+pub(crate) fn ask_answer(row: &Standing, from: &BranchId) -> Kind
     ensures { result ≡ ask_answer_of row.now from.now }
 {
     told_kind(kept_told(row, from))

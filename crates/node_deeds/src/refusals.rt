@@ -40,7 +40,7 @@ fn of_text(alloc: Global, code: u16, text: Bytes) -> Result<Refusal, AllocError>
 }
 
 /// A refusal that names a branch by its local id.
-pub fn of_branch(alloc: Global, code: u16, branch: BranchId) -> Result<Refusal, AllocError>
+pub(crate) fn of_branch(alloc: Global, code: u16, branch: BranchId) -> Result<Refusal, AllocError>
     ensures { IfOk result (λ refusal. refusal ≡ ora code (one (local_text_of branch))) }
 {
     of_text(alloc, code, local_text(alloc, &branch)?)
@@ -54,14 +54,14 @@ pub fn needs_rollback(alloc: Global, code: u16) -> Result<Refusal, AllocError>
 }
 
 /// ORA-02058: no branch in doubt has this id.
-pub fn no_branch(alloc: Global, id: &[u8]) -> Result<Refusal, AllocError>
+pub(crate) fn no_branch(alloc: Global, id: &[u8]) -> Result<Refusal, AllocError>
     ensures { IfOk result (λ refusal. refusal ≡ ora 2058 (one id.now)) }
 {
     of_text(alloc, 2058, text_of(alloc, id)?)
 }
 
 /// DTX-07: this id is that of several branches in doubt, these first.
-pub fn several_branches(
+pub(crate) fn several_branches(
     alloc: Global,
     id: &[u8],
     first: BranchId,

@@ -3,15 +3,14 @@ ghost use Rattle.std.specs.Prelude.{◌≡◌, ◌≤◌, ◌<◌, ◌^◌, leng
 ghost use Rattle.std.specs.Option.{option_copied};
 ghost use Rattle.dtx_values.specs.Limits.{branch_limit};
 ghost use Rattle.session_tree.specs.Tree.{count as count_of};
-ghost use Rattle.node_rules.specs.Calls.{reply_fields as reply_fields_of, replies as replies_of, answer_says as answer_says_of, answer_ends as answer_ends_of, opened_says as opened_says_of, says_again as says_again_of, gone_reply as gone_reply_of, is_gone as is_gone_of, heard_answer as heard_answer_of};
+ghost use Rattle.node_rules.specs.Calls.{reply_fields as reply_fields_of, replies as replies_of, opened_says as opened_says_of, says_again as says_again_of, gone_reply as gone_reply_of, is_gone as is_gone_of, heard_answer as heard_answer_of};
 ghost use Rattle.node_deeds.specs.Gives.{branch_with};
 
-use crate::answers::ended;
 use crate::posts::post;
 use crate::refusals::{BRANCH_GONE, gone, gone_behind};
 use dtx_values::{Answer, Duplicate, Listing, Name};
 use link_session::{Opening, ReplyFields};
-use node_rules::{Ended, Work};
+use node_rules::Work;
 use reco::Posts;
 use session_tree::{Live, weight};
 use std::alloc::{AllocError, Global};
@@ -79,39 +78,6 @@ pub fn says_again(
     match work.came.kept() {
         None => Ok(Listing::new(alloc)),
         Some(fields) => replies(alloc, live, work, to, fields.copy(alloc)?),
-    }
-}
-
-/// What a branch says whose statement is answered: below the root a Reply to the parent. Fails where memory runs out.
-pub fn answer_says(
-    alloc: Global,
-    live: &Live,
-    work: &Work,
-    answer: &Answer,
-) -> Result<Posts, AllocError>
-    requires edges { length live.now.edges ≤ branch_limit }
-    requires count { count_of live.now < 2 ^ 16 }
-    ensures { IfOk result (λ posts. posts ≡ answer_says_of (branch_with live.now work.now) answer.now live.now.parent) }
-{
-    match live.parent {
-        None => Ok(Listing::new(alloc)),
-        Some(parent) => {
-            let fields = reply_fields(live, answer.copy(alloc)?);
-            replies(alloc, live, work, parent, fields)
-        }
-    }
-}
-
-/// The call that ends when a branch's statement is answered: at a root that of its session. Fails where memory runs out.
-pub fn answer_ends(alloc: Global, live: &Live, answer: Answer) -> Result<Ended, AllocError>
-    ensures { IfOk result (λ calls. calls ≡ answer_ends_of live.now answer live.now.parent) }
-{
-    match live.parent {
-        None => ended(alloc, live.me.session, answer),
-        Some(_) => {
-            drop(answer);
-            Ok(Listing::new(alloc))
-        }
     }
 }
 

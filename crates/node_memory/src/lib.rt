@@ -2,7 +2,7 @@
 //!
 //! - Questions: `live_at`, `work_at`, `branch_at`, `standing_at`, `stand_of`. They lend what stands in memory. All live
 //!   branches and all rows, in order, are `lives.as_slice()` and `kept.as_slice()`: recovery and the views go over these.
-//! - Changes without a record: `raise`, `drop_branch`, `drop_read_keys`, `put_standing`, `hear_ack`.
+//! - Changes without a record: `raise`, `drop_branch`, `hear_ack`.
 //! - Records: `take_in` for any record; `seal` and `decide` for that of a live branch, which leaves.
 //! - A start: `rebuild`.
 //!
