@@ -3,36 +3,37 @@
 use Rattle.std.proofs.Common.{◌≡◌, ℕ, ◌+◌, ◌≤◌, List, [], ◌∷◌, ◌++◌, length, Option, Some, refl, sym, ap, subst, ◌∙◌, arith}
 use Rattle.std.specs.Prelude.{slice_get, take, true, false}
 use Rattle.std.proofs.lemmas.List.{append_assoc, length-append}
-use Rattle.call_laws.specs.CallTurns.{Brings, What_is_asked, A_commit_first, Then_the_create, CameBefore, TurnsFindCallsCome}
-use Rattle.due_laws.proofs.RunLawfulLemmas.{the_run_is_lawful}
+use Rattle.answer_origin_laws.specs.CallTurns.{Brings, What_is_asked, A_commit_first, Then_the_create, CameBefore, TurnsFindCallsCome}
+use Rattle.run_ready_laws.proofs.RunLawfulLemmas.{the_run_is_lawful}
 use Rattle.node_rules.specs.Data.{Answer, BranchId, Stmt}
 use Rattle.node_rules.specs.Data.inputs
 use Rattle.node_rules.specs.Data.kinds
 use Rattle.node_rules.specs.Data.stmts
-use Rattle.run_laws.specs.Branches.{Run, Trail, root_at}
-use Rattle.run_laws.specs.Commands.{commits_first}
-use Rattle.run_laws.specs.Data.{Turn, Happening}
-use Rattle.run_laws.specs.Data.commands
-use Rattle.run_laws.specs.Data.happenings
-use Rattle.run_laws.specs.Each.{facts_upto, trail_upto}
-use Rattle.run_laws.specs.Facts.{Facts, first_facts, command_at, facts_after, facts_of, outcome_at}
-use Rattle.run_laws.specs.Headline.{IsTheRunOf, EveryAnswerHasItsPlace}
-use Rattle.run_laws.specs.Lawful.{MayHappen, IsLawful, History, IsLawfulRun}
-use Rattle.run_laws.specs.Places.{LeadsTo, PlaceOf}
-use Rattle.run_laws.specs.Runs.{is_of_rows, is_accepted}
-use Rattle.run_laws.specs.Telling.{Call}
-use Rattle.run_laws.specs.Trail.{trail_after}
+use Rattle.run_rules.specs.Branches.{Run, Trail, root_at}
+use Rattle.run_rules.specs.Commands.{commits_first}
+use Rattle.run_rules.specs.Data.{Turn, Happening}
+use Rattle.run_rules.specs.Data.commands
+use Rattle.run_rules.specs.Data.happenings
+use Rattle.run_rules.specs.Each.{facts_upto, trail_upto}
+use Rattle.run_rules.specs.Facts.{Facts, first_facts, command_at, facts_after, facts_of, outcome_at}
+use Rattle.run_claims.specs.Headline.{EveryAnswerHasItsPlace}
+use Rattle.run_rules.specs.Scripts.{IsTheRunOf}
+use Rattle.run_rules.specs.Lawful.{MayHappen, IsLawful, History, IsLawfulRun}
+use Rattle.run_claims.specs.Places.{LeadsTo, PlaceOf}
+use Rattle.run_rules.specs.Runs.{is_of_rows, is_accepted}
+use Rattle.run_rules.specs.Telling.{Call}
+use Rattle.run_rules.specs.Trail.{trail_after}
 use Rattle.tree_laws.proofs.PrefixLemmas.{f_at, facts_join}
-use Rattle.site_laws.proofs.TimeLemmas.{may_of, lawful_split}
-use Rattle.trail_laws.proofs.MomentLemmas.{tr_at, trail_one_on, at_moment}
-use Rattle.place_laws.specs.LeadLaws.{CallAnsweredBy, IsToldFor, EndsAsReplied, EndsAtOnce}
-use Rattle.place_laws.specs.ToldLaws.{EndedBy}
-use Rattle.place_laws.proofs.AtOnceLemmas.{calls_end_at_once}
-use Rattle.place_laws.proofs.PartLemmas.{split_at, longer}
-use Rattle.place_laws.proofs.ReplyRunLemmas.{taken_first, prefix, moment_at}
-use Rattle.place_laws.proofs.RootAnswerLemmas.{calls_end_as_replied}
-use Rattle.place_laws.proofs.SentLemmas.{came_sent}
-use Rattle.place_laws.proofs.ToldTurnLemmas.{lines_come_from_turns}
+use Rattle.tree_site_laws.proofs.TimeLemmas.{may_of, lawful_split}
+use Rattle.tree_trail_laws.proofs.MomentLemmas.{tr_at, trail_one_on, at_moment}
+use Rattle.answer_origin_laws.specs.LeadLaws.{CallAnsweredBy, IsToldFor, EndsAsReplied, EndsAtOnce}
+use Rattle.answer_origin_laws.specs.ToldLaws.{EndedBy}
+use Rattle.answer_origin_laws.proofs.AtOnceLemmas.{calls_end_at_once}
+use Rattle.answer_origin_laws.proofs.PartLemmas.{split_at, longer}
+use Rattle.answer_origin_laws.proofs.ReplyRunLemmas.{taken_first, prefix, moment_at}
+use Rattle.answer_origin_laws.proofs.RootAnswerLemmas.{calls_end_as_replied}
+use Rattle.answer_origin_laws.proofs.SentLemmas.{came_sent}
+use Rattle.answer_origin_laws.proofs.ToldTurnLemmas.{lines_come_from_turns}
 use Rattle.answer_laws.proofs.EndingLemmas.{Ending, By_call, By_reply, By_commit, kept_there, turn_ends, commit_last}
 use Rattle.answer_laws.specs.EndLaws.{LastCall}
 use Rattle.answer_laws.proofs.LastCallLemmas.{one_moment, one_text}

@@ -26,21 +26,21 @@ use Rattle.node_rules.specs.Words.{numbered, set_numbered}
 use Rattle.node_rules.proofs.Steps as steps
 use Rattle.node_rules.proofs.Steps.{Step}
 use Rattle.node_rules.proofs.HeardLemmas.{sessions_heard}
-use Rattle.run_laws.specs.Data.{Turn, Happening}
-use Rattle.run_laws.specs.Data.happenings
-use Rattle.run_laws.specs.Facts.{Facts, first_facts, place_at, flat, node_at, kept_after, with_boot, facts_after, facts_of}
-use Rattle.run_laws.specs.Lawful.{MayHappen, History, IsLawfulRun}
-use Rattle.run_laws.proofs.AtNodeLemmas.{turn_here, turn_elsewhere}
-use Rattle.run_laws.proofs.EventsStandLemmas.{first_node, run_stands}
-use Rattle.run_laws.proofs.LawfulLemmas.{serves}
-use Rattle.run_laws.proofs.ListLemmas.{all_append}
-use Rattle.run_laws.proofs.RootLemmas.{session_or_before}
+use Rattle.run_rules.specs.Data.{Turn, Happening}
+use Rattle.run_rules.specs.Data.happenings
+use Rattle.run_rules.specs.Facts.{Facts, first_facts, place_at, flat, node_at, kept_after, with_boot, facts_after, facts_of}
+use Rattle.run_rules.specs.Lawful.{MayHappen, History, IsLawfulRun}
+use Rattle.run_rules.proofs.AtNodeLemmas.{turn_here, turn_elsewhere}
+use Rattle.run_base_laws.proofs.EventsStandLemmas.{first_node, run_stands}
+use Rattle.run_base_laws.proofs.LawfulLemmas.{serves}
+use Rattle.run_rules.proofs.ListLemmas.{all_append}
+use Rattle.run_base_laws.proofs.RootLemmas.{session_or_before}
 use Rattle.tran_ids.proofs.NumberedLemmas.{set_or_before}
 use Rattle.tree_laws.proofs.PrefixLemmas.{so_far, f_at, one_on}
-use Rattle.site_laws.proofs.TimeLemmas.{Part, part_lawful, may_of, keep_on}
-use Rattle.trail_laws.proofs.CallLemmas.{call_free}
-use Rattle.due_laws.proofs.TurnCallLemmas.{fresh_at}
-use Rattle.place_laws.proofs.NoCallLemmas.{IsNoCall}
+use Rattle.tree_site_laws.proofs.TimeLemmas.{Part, part_lawful, may_of, keep_on}
+use Rattle.tree_trail_laws.proofs.CallLemmas.{call_free}
+use Rattle.run_ready_laws.proofs.TurnCallLemmas.{fresh_at}
+use Rattle.answer_origin_laws.proofs.NoCallLemmas.{IsNoCall}
 use Rattle.answer_laws.proofs.WhyEndsLemmas.{set_commit}
 
 -- ---- what a turn leaves pending

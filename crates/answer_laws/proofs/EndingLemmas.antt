@@ -13,24 +13,24 @@ use Rattle.node_rules.specs.Kept.{Kept, Outcome}
 use Rattle.node_rules.specs.Sessions.{session_at}
 use Rattle.node_rules.specs.Turn.{turn_of, heard, deed_of}
 use Rattle.node_rules.proofs.HeardLemmas.{sessions_heard}
-use Rattle.run_laws.specs.Births.{births_of}
-use Rattle.run_laws.specs.Data.{Turn, Happening}
-use Rattle.run_laws.specs.Data.happenings
-use Rattle.run_laws.specs.Each.{facts_upto}
-use Rattle.run_laws.specs.Facts.{node_at, place_at, served, outcome_at}
-use Rattle.run_laws.specs.Lawful.{MayHappen, History, IsLawfulRun}
-use Rattle.run_laws.specs.RunEvents.{events_of}
-use Rattle.run_laws.specs.Runs.{is_of_rows, is_accepted}
-use Rattle.run_laws.proofs.BirthRunLemmas.{run_births}
-use Rattle.run_laws.proofs.LawfulLemmas.{serves}
-use Rattle.run_laws.proofs.RestLemmas.{Before}
-use Rattle.run_laws.proofs.RestRunLemmas.{NodeRests, heard_rests, heard_before, before_so, run_roots}
+use Rattle.run_rules.specs.Births.{births_of}
+use Rattle.run_rules.specs.Data.{Turn, Happening}
+use Rattle.run_rules.specs.Data.happenings
+use Rattle.run_rules.specs.Each.{facts_upto}
+use Rattle.run_rules.specs.Facts.{node_at, place_at, served, outcome_at}
+use Rattle.run_rules.specs.Lawful.{MayHappen, History, IsLawfulRun}
+use Rattle.run_base_laws.specs.RunEvents.{events_of}
+use Rattle.run_rules.specs.Runs.{is_of_rows, is_accepted}
+use Rattle.run_base_laws.proofs.BirthRunLemmas.{run_births}
+use Rattle.run_base_laws.proofs.LawfulLemmas.{serves}
+use Rattle.run_base_laws.proofs.RestLemmas.{Before}
+use Rattle.run_base_laws.proofs.RestRunLemmas.{NodeRests, heard_rests, heard_before, before_so, run_roots}
 use Rattle.tree_laws.proofs.PrefixLemmas.{so_far, f_at}
-use Rattle.site_laws.proofs.TimeLemmas.{Part, part_lawful, may_of}
-use Rattle.trail_laws.proofs.CallLemmas.{call_free}
-use Rattle.place_laws.proofs.NoCallLemmas.{all_since, many_since, no_call_since}
-use Rattle.place_laws.proofs.PartLemmas.{split_at}
-use Rattle.place_laws.proofs.ReplyRunLemmas.{prefix, happens_at}
+use Rattle.tree_site_laws.proofs.TimeLemmas.{Part, part_lawful, may_of}
+use Rattle.tree_trail_laws.proofs.CallLemmas.{call_free}
+use Rattle.answer_origin_laws.proofs.NoCallLemmas.{all_since, many_since, no_call_since}
+use Rattle.answer_origin_laws.proofs.PartLemmas.{split_at}
+use Rattle.answer_origin_laws.proofs.ReplyRunLemmas.{prefix, happens_at}
 use Rattle.answer_laws.proofs.CommitCallLemmas.{CommitCame, commits_came}
 use Rattle.answer_laws.specs.EndLaws.{EndsFor, Is_refused, Is_own, Is_replied, Was_commit, forces_outcome, EndsFew, Ends_none, Ends_one, Ends_forced, CallsEndForCause, LastCall, PendingCommitsCame}
 use Rattle.answer_laws.proofs.WhyEndsLemmas.{few_on}

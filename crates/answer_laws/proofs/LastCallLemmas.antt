@@ -3,9 +3,9 @@ use Rattle.std.proofs.Common.{◌≡◌, ℕ, ◌<◌, Bool, true, false, Some, 
 use Rattle.std.specs.Prelude.{slice_get, nat_lt}
 use Rattle.std.proofs.lemmas.Bool.Decides.{nat_tests}
 use Rattle.node_rules.specs.Data.inputs
-use Rattle.run_laws.specs.Data.{Turn}
-use Rattle.run_laws.specs.Data.happenings
-use Rattle.run_laws.specs.Lawful.{History}
+use Rattle.run_rules.specs.Data.{Turn}
+use Rattle.run_rules.specs.Data.happenings
+use Rattle.run_rules.specs.Lawful.{History}
 use Rattle.answer_laws.specs.EndLaws.{LastCall}
 
 module _ (t : History) (node session now : ℕ) (x y : LastCall t node session now) where

@@ -14,14 +14,14 @@ use Rattle.node_rules.specs.Calls.{admit, reply_of}
 use Rattle.node_rules.specs.Turn.{turn_of, start_of, stand_of}
 use Rattle.node_rules.specs.Points.{passes, point_of}
 use Rattle.net_bag.specs.Net.{sent_on, delivered}
-use Rattle.run_laws.specs.Book.{rows_of, in_doubt}
-use Rattle.run_laws.specs.Cuts.{cut_by}
-use Rattle.run_laws.specs.Disks.{struck, after_append}
-use Rattle.run_laws.specs.Due.{due_of, runs_on, happened}
-use Rattle.run_laws.specs.Facts.{facts_after}
-use Rattle.run_laws.specs.Past.{next}
-use Rattle.run_laws.specs.Runs.{run_in, view_by}
-use Rattle.run_laws.specs.Trail.{trail_after, trail_of}
+use Rattle.run_rules.specs.Book.{rows_of, in_doubt}
+use Rattle.run_rules.specs.Cuts.{cut_by}
+use Rattle.run_rules.specs.Disks.{struck, after_append}
+use Rattle.run_rules.specs.Due.{due_of, runs_on, happened}
+use Rattle.run_rules.specs.Facts.{facts_after}
+use Rattle.run_rules.specs.Past.{next}
+use Rattle.run_rules.specs.Runs.{run_in, view_by}
+use Rattle.run_rules.specs.Trail.{trail_after, trail_of}
 use Rattle.answer_laws.specs.TriedAnswers.{TheTriedAnswers}
 
 pub the_tried_answers : TheTriedAnswers

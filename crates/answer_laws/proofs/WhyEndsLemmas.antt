@@ -25,7 +25,7 @@ use Rattle.node_rules.specs.Statement.{ran, after_run}
 use Rattle.node_rules.proofs.StandLemmas.{live_so}
 use Rattle.node_rules.proofs.Steps as steps
 use Rattle.node_rules.proofs.Steps.{Step, Asked}
-use Rattle.run_laws.proofs.RootLemmas.{SessionsFit, session_or_before, begun_so, pends_so}
+use Rattle.run_base_laws.proofs.RootLemmas.{SessionsFit, session_or_before, begun_so, pends_so}
 use Rattle.session_tree.specs.Live.{is_branch}
 use Rattle.answer_laws.specs.EndLaws.{EndsFor, Is_refused, Is_own, Is_replied, Was_commit, forces_outcome, EndsFew, Ends_none, Ends_one, Ends_forced}
 

@@ -12,13 +12,13 @@ use Rattle.node_rules.specs.Inputs.{Came}
 use Rattle.node_rules.specs.Kept.{Kept}
 use Rattle.node_rules.specs.Sessions.{session_at}
 use Rattle.node_rules.specs.Turn.{turn_of}
-use Rattle.run_laws.specs.Data.{Turn}
-use Rattle.run_laws.specs.Data.happenings
-use Rattle.run_laws.specs.Each.{facts_upto}
-use Rattle.run_laws.specs.Facts.{node_at, place_at}
-use Rattle.run_laws.specs.Lawful.{History, IsLawfulRun}
-use Rattle.run_laws.specs.Runs.{is_accepted}
-use Rattle.place_laws.specs.LeadLaws.{NoCallSince}
+use Rattle.run_rules.specs.Data.{Turn}
+use Rattle.run_rules.specs.Data.happenings
+use Rattle.run_rules.specs.Each.{facts_upto}
+use Rattle.run_rules.specs.Facts.{node_at, place_at}
+use Rattle.run_rules.specs.Lawful.{History, IsLawfulRun}
+use Rattle.run_rules.specs.Runs.{is_accepted}
+use Rattle.answer_origin_laws.specs.LeadLaws.{NoCallSince}
 
 -- Why a call ends, by what came to its node and by the sessions there.
 pub data EndsFor (input : Input) (ss : List Session) (f : Finished) : Type 0 where

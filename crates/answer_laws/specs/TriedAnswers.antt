@@ -8,16 +8,16 @@ use Rattle.node_rules.specs.Data.picks
 use Rattle.node_rules.specs.Data.stmts
 use Rattle.node_rules.specs.Data.terms
 use Rattle.node_rules.specs.Data.values
-use Rattle.run_laws.specs.Branches.{Run, Trail, no_trail, root_at}
-use Rattle.run_laws.specs.Data.{AnswerLine, Command}
-use Rattle.run_laws.specs.Data.commands
-use Rattle.run_laws.specs.Due.{runs_on, happened}
-use Rattle.run_laws.specs.Facts.{first_facts}
-use Rattle.run_laws.specs.Headline.{places_of}
-use Rattle.run_laws.specs.Lines.{told}
-use Rattle.run_laws.specs.Places.{node_line}
-use Rattle.run_laws.specs.Telling.{Past, start}
-use Rattle.run_laws.specs.Trail.{trail_of}
+use Rattle.run_rules.specs.Branches.{Run, Trail, no_trail, root_at}
+use Rattle.run_rules.specs.Data.{AnswerLine, Command}
+use Rattle.run_rules.specs.Data.commands
+use Rattle.run_rules.specs.Due.{runs_on, happened}
+use Rattle.run_rules.specs.Facts.{first_facts}
+use Rattle.run_rules.specs.Scripts.{places_of}
+use Rattle.run_rules.specs.Lines.{told}
+use Rattle.run_claims.specs.Places.{node_line}
+use Rattle.run_rules.specs.Telling.{Past, start}
+use Rattle.run_rules.specs.Trail.{trail_of}
 
 -- a bare name
 abbrev pub here : List ℕ → TableRef

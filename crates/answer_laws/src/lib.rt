@@ -2,11 +2,11 @@
 //! statement that gave the answer, and the way from the one to the other through the session tree.
 #![tactic(auto)]
 
-ghost use Rattle.run_laws.specs.Headline.{EveryAnswerHasItsPlace};
+ghost use Rattle.run_claims.specs.Headline.{EveryAnswerHasItsPlace};
 ghost use Rattle.answer_laws.specs.EndLaws.{CallsEndForCause, PendingCommitsCame};
 ghost use Rattle.answer_laws.specs.TriedAnswers.{TheTriedAnswers};
 
-use call_laws::turns_find_calls_come;
+use answer_origin_laws::turns_find_calls_come;
 
 /// A turn of a lawful run ends at most one client's call, and only with a refusal, in the call's own turn, on a Reply, or as a
 /// COMMIT that was pending. Only where a user forces the outcome of a root in doubt does that root's COMMIT end too, refused.

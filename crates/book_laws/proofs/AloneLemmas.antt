@@ -8,14 +8,14 @@ use Rattle.agreement.proofs.BookTests.{not_true}
 use Rattle.node_rules.specs.Data.{BranchId, RedoRecord, Sealed, Decided}
 use Rattle.node_rules.specs.Data.records
 use Rattle.node_rules.specs.Words.{same}
-use Rattle.run_laws.specs.Data.{Entry}
-use Rattle.run_laws.specs.Data.entries
-use Rattle.run_laws.specs.Book.{is_sealed_of, stands, Follows, EachAgainst}
-use Rattle.run_laws.specs.Entries.{entry_of}
-use Rattle.run_laws.specs.Entries.{book_of as trace_book}
-use Rattle.run_laws.specs.Facts.{records_at}
-use Rattle.run_laws.specs.Knowledge.{sealed_in, decided_in}
-use Rattle.run_laws.specs.Lawful.{History, IsLawfulRun, facts_at}
+use Rattle.run_rules.specs.Data.{Entry}
+use Rattle.run_rules.specs.Data.entries
+use Rattle.run_rules.specs.Book.{is_sealed_of, stands, Follows, EachAgainst}
+use Rattle.run_rules.specs.Entries.{entry_of}
+use Rattle.run_rules.specs.Entries.{book_of as trace_book}
+use Rattle.run_rules.specs.Facts.{records_at}
+use Rattle.run_rules.specs.BranchRecords.{sealed_in, decided_in}
+use Rattle.run_rules.specs.Lawful.{History, IsLawfulRun, facts_at}
 use Rattle.tree_laws.proofs.AgreeLemmas.{runs_agree}
 use Rattle.book_laws.specs.DiskLaws.{is_of_node}
 use Rattle.book_laws.proofs.PlaceLemmas.{any_unfiltered}

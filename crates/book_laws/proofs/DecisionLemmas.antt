@@ -10,8 +10,8 @@ use Rattle.agreement.proofs.AgreementLaws.{exit_decided, was_allowed}
 use Rattle.agreement.proofs.BookTests.{forced_same, global_is}
 use Rattle.node_rules.specs.Data.{Change, BranchId, Decision}
 use Rattle.node_rules.specs.Words.{same}
-use Rattle.run_laws.specs.Data.{Entry}
-use Rattle.run_laws.specs.Data.entries
+use Rattle.run_rules.specs.Data.{Entry}
+use Rattle.run_rules.specs.Data.entries
 use Rattle.book_laws.proofs.PlaceLemmas.{IsOne, finds, one_before, at_place}
 use Rattle.book_laws.proofs.OnDiskLemmas.{IsOf}
 

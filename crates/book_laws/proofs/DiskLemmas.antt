@@ -8,20 +8,20 @@ use Rattle.std.proofs.lemmas.Grind.{flat_map-append}
 use Rattle.node_rules.specs.Data.{RedoRecord, Place}
 use Rattle.node_rules.specs.Data.records
 use Rattle.node_rules.specs.Words.{numbered}
-use Rattle.run_laws.specs.Data.{Turn, Happening, Command, Entry}
-use Rattle.run_laws.specs.Data.entries
-use Rattle.run_laws.specs.Data.happenings
-use Rattle.run_laws.specs.Entries.{entry_of, entries_of}
-use Rattle.run_laws.specs.Facts.{Facts, first_facts, records_at, facts_after}
-use Rattle.run_laws.specs.Lawful.{IsPlace, MayHappen, facts_at}
-use Rattle.run_laws.specs.IdLaws.{IsRecordOf}
-use Rattle.run_laws.specs.RunEvents.{events_of}
+use Rattle.run_rules.specs.Data.{Turn, Happening, Command, Entry}
+use Rattle.run_rules.specs.Data.entries
+use Rattle.run_rules.specs.Data.happenings
+use Rattle.run_rules.specs.Entries.{entry_of, entries_of}
+use Rattle.run_rules.specs.Facts.{Facts, first_facts, records_at, facts_after}
+use Rattle.run_rules.specs.Lawful.{IsPlace, MayHappen, facts_at}
+use Rattle.run_base_laws.specs.IdLaws.{IsRecordOf}
+use Rattle.run_base_laws.specs.RunEvents.{events_of}
 use Rattle.agreement.specs.Events.{Event}
-use Rattle.run_laws.proofs.FactLemmas.{book_is}
-use Rattle.run_laws.proofs.LaterLemmas.{events_keep}
-use Rattle.run_laws.proofs.AtNodeLemmas.{turn_elsewhere, turn_here, start_elsewhere, start_here}
-use Rattle.run_laws.proofs.TurnEventLemmas.{cases_nat, record_own}
-use Rattle.run_laws.proofs.EventsStandLemmas.{Stand, stand_on, stand_first, node_so, owned_so, first_disk}
+use Rattle.run_rules.proofs.FactLemmas.{book_is}
+use Rattle.run_base_laws.proofs.LaterLemmas.{events_keep}
+use Rattle.run_rules.proofs.AtNodeLemmas.{turn_elsewhere, turn_here, start_elsewhere, start_here}
+use Rattle.run_base_laws.proofs.TurnEventLemmas.{cases_nat, record_own}
+use Rattle.run_base_laws.proofs.EventsStandLemmas.{Stand, stand_on, stand_first, node_so, owned_so, first_disk}
 use Rattle.book_laws.specs.DiskLaws.{node_of, is_of_node, BooksAreOfDisks}
 
 -- ---- the entry of a record is of its node

@@ -10,9 +10,9 @@ use Rattle.agreement.proofs.EventLemmas.{learned_new, learn_by, first_none}
 use Rattle.node_rules.specs.Data.{Change, BranchId, Decision}
 use Rattle.node_rules.specs.Data.decisions
 use Rattle.node_rules.specs.Words.{same}
-use Rattle.run_laws.specs.Data.{Entry}
-use Rattle.run_laws.specs.Data.entries
-use Rattle.run_laws.specs.Book.{is_sealed_of, is_forced_of, is_end_of, stands, EachAgainst, doubt_in, in_doubt}
+use Rattle.run_rules.specs.Data.{Entry}
+use Rattle.run_rules.specs.Data.entries
+use Rattle.run_rules.specs.Book.{is_sealed_of, is_forced_of, is_end_of, stands, EachAgainst, doubt_in, in_doubt}
 use Rattle.book_laws.proofs.PlaceLemmas.{IsOne, found, finds, one_of_flat}
 use Rattle.book_laws.proofs.AloneLemmas.{SealsOnce}
 use Rattle.book_laws.proofs.DecisionLemmas.{unforced_events}

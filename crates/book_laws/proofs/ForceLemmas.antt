@@ -22,24 +22,25 @@ use Rattle.node_rules.specs.Force.{is_sealed, is_named_by, one_named, branch_to_
 use Rattle.node_rules.specs.Words.{same}
 use Rattle.node_rules.specs.Kept.{Kept, Stored}
 use Rattle.node_rules.specs.Records.{nothing_stored, stored_by}
-use Rattle.run_laws.specs.Data.{Entry}
-use Rattle.run_laws.specs.Data.entries
-use Rattle.run_laws.specs.Births.{Born, born_at, births_of}
-use Rattle.run_laws.specs.BirthLaws.{Began, KeptIs, RecordNames}
-use Rattle.run_laws.specs.Book.{is_sealed_of, is_end_of, stands, in_doubt, EachAgainst}
-use Rattle.run_laws.specs.Entries.{entry_of}
-use Rattle.run_laws.specs.EventRows.{RowIs, IsKnown, IsForcedAs, IsDone}
-use Rattle.run_laws.specs.Facts.{first_facts, node_at, records_at}
-use Rattle.run_laws.specs.Knowledge.{sealed_in, is_id_of, named_in_doubt}
-use Rattle.run_laws.specs.Lawful.{History, IsLawfulRun, facts_at}
-use Rattle.run_laws.specs.NodeLaws.{unacked_row}
-use Rattle.run_laws.specs.RunEvents.{events_of}
-use Rattle.run_laws.proofs.BirthRunLemmas.{nodes_name_the_born, records_name_the_born}
-use Rattle.run_laws.proofs.EventBookLemmas.{book_of_events}
-use Rattle.run_laws.proofs.EventsStandLemmas.{nodes_are_as_events}
-use Rattle.run_laws.proofs.FactLemmas.{book_is}
-use Rattle.run_laws.proofs.KeptRowLemmas.{sealed_are_kept}
-use Rattle.run_laws.proofs.StoredLemmas.{StoresOf}
+use Rattle.run_rules.specs.Data.{Entry}
+use Rattle.run_rules.specs.Data.entries
+use Rattle.run_rules.specs.Births.{Born, born_at, births_of}
+use Rattle.run_base_laws.specs.BirthLaws.{Began, KeptIs, RecordNames}
+use Rattle.run_rules.specs.Book.{is_sealed_of, is_end_of, stands, in_doubt, EachAgainst}
+use Rattle.run_rules.specs.Entries.{entry_of}
+use Rattle.run_base_laws.specs.EventRows.{RowIs, IsKnown, IsForcedAs, IsDone}
+use Rattle.run_rules.specs.Facts.{first_facts, node_at, records_at}
+use Rattle.run_claims.specs.Knowledge.{is_id_of, named_in_doubt}
+use Rattle.run_rules.specs.BranchRecords.{sealed_in}
+use Rattle.run_rules.specs.Lawful.{History, IsLawfulRun, facts_at}
+use Rattle.run_base_laws.specs.NodeLaws.{unacked_row}
+use Rattle.run_base_laws.specs.RunEvents.{events_of}
+use Rattle.run_base_laws.proofs.BirthRunLemmas.{nodes_name_the_born, records_name_the_born}
+use Rattle.run_branch_laws.proofs.EventBookLemmas.{book_of_events}
+use Rattle.run_base_laws.proofs.EventsStandLemmas.{nodes_are_as_events}
+use Rattle.run_rules.proofs.FactLemmas.{book_is}
+use Rattle.run_branch_laws.proofs.KeptRowLemmas.{sealed_are_kept}
+use Rattle.run_base_laws.proofs.StoredLemmas.{StoresOf}
 use Rattle.tree_laws.specs.Forests.{forest_of}
 use Rattle.tree_laws.proofs.ForestRunLemmas.{runs_have_forests}
 use Rattle.book_laws.specs.DiskLaws.{is_of_node}

@@ -7,10 +7,10 @@ use Rattle.node_rules.specs.Data.{BranchId, RedoRecord, Standing}
 use Rattle.node_rules.specs.Words.{same, item_at}
 use Rattle.node_rules.specs.Kept.{Kept, Stored, standing_id}
 use Rattle.node_rules.specs.Records.{applied, nothing_stored, stored_by}
-use Rattle.run_laws.specs.NodeLaws.{count_of, unacked_row}
-use Rattle.run_laws.proofs.ListLemmas.{all_weaker}
-use Rattle.run_laws.proofs.RowSayStandLemmas.{rows_found}
-use Rattle.run_laws.proofs.StoredLemmas.{StoresOf}
+use Rattle.run_base_laws.specs.NodeLaws.{count_of, unacked_row}
+use Rattle.run_rules.proofs.ListLemmas.{all_weaker}
+use Rattle.run_branch_laws.proofs.RowSayStandLemmas.{rows_found}
+use Rattle.run_base_laws.proofs.StoredLemmas.{StoresOf}
 
 -- ---- lists
 

@@ -20,23 +20,23 @@ use Rattle.node_rules.specs.Turn.{heard, deed_of}
 use Rattle.node_rules.specs.Words.{item_at}
 use Rattle.node_rules.proofs.Steps as steps
 use Rattle.node_rules.proofs.Steps.{Step, IsOfRows, Collects, Answers, Collected, Acting, vote_kind}
-use Rattle.run_laws.specs.Births.{Born, births_of}
-use Rattle.run_laws.specs.BirthLaws.{Began, IsChild, LiveIs, GoesSo}
-use Rattle.run_laws.specs.Data.{Turn, Happening}
-use Rattle.run_laws.specs.Data.happenings
-use Rattle.run_laws.specs.Facts.{first_facts, place_at}
-use Rattle.run_laws.specs.Knowledge.{IsPrepare}
-use Rattle.run_laws.specs.Lawful.{MayHappen, MayTurn, History, IsLawfulRun}
-use Rattle.run_laws.specs.Trail.{is_vote}
-use Rattle.run_laws.proofs.BirthRunLemmas.{nodes_name_the_born, messages_are_of_neighbors}
-use Rattle.run_laws.proofs.BirthsStandLemmas.{came_so}
-use Rattle.run_laws.proofs.LawfulLemmas.{of_wrote, serves, turn_of_node}
-use Rattle.run_laws.proofs.OwnLemmas.{all_found}
-use Rattle.run_laws.proofs.QuietLemmas.{call_apart, came_apart}
+use Rattle.run_rules.specs.Births.{Born, births_of}
+use Rattle.run_base_laws.specs.BirthLaws.{Began, IsChild, LiveIs, GoesSo}
+use Rattle.run_rules.specs.Data.{Turn, Happening}
+use Rattle.run_rules.specs.Data.happenings
+use Rattle.run_rules.specs.Facts.{first_facts, place_at}
+use Rattle.run_claims.specs.Knowledge.{IsPrepare}
+use Rattle.run_rules.specs.Lawful.{MayHappen, MayTurn, History, IsLawfulRun}
+use Rattle.run_rules.specs.Trail.{is_vote}
+use Rattle.run_base_laws.proofs.BirthRunLemmas.{nodes_name_the_born, messages_are_of_neighbors}
+use Rattle.run_base_laws.proofs.BirthsStandLemmas.{came_so}
+use Rattle.run_base_laws.proofs.LawfulLemmas.{of_wrote, serves, turn_of_node}
+use Rattle.run_base_laws.proofs.OwnLemmas.{all_found}
+use Rattle.run_branch_laws.proofs.QuietLemmas.{call_apart, came_apart}
 use Rattle.tree_laws.proofs.LearnLemmas.{DisksLead, run_leads}
 use Rattle.tree_laws.proofs.PrefixLemmas.{so_far, f_at, each_prefix}
-use Rattle.run_laws.specs.InTurnLaws.{said_in}
-use Rattle.run_laws.specs.Lawful.{facts_at}
+use Rattle.run_base_laws.specs.InTurnLaws.{said_in}
+use Rattle.run_rules.specs.Lawful.{facts_at}
 use Rattle.book_laws.specs.LeaveLaws.{IsCommit, SealsOn, DecidesOn, LeavesOn, LeavesDuly, BranchesLeaveDuly}
 use Rattle.book_laws.proofs.ForceLemmas.{one_born}
 use Rattle.book_laws.proofs.WriteLemmas.{of_events, none_there}

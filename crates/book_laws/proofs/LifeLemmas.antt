@@ -8,15 +8,16 @@ use Rattle.node_rules.specs.Data.records
 use Rattle.node_rules.specs.Data.params
 use Rattle.node_rules.specs.Data.kinds
 use Rattle.node_rules.specs.Kept.{Kept}
-use Rattle.run_laws.specs.Branches.{Trail, no_trail}
-use Rattle.run_laws.specs.Data.{Happening, Command}
-use Rattle.run_laws.specs.Data.happenings
-use Rattle.run_laws.specs.Each.{EachFrom}
-use Rattle.run_laws.specs.Facts.{Facts, first_facts, place_at, records_at, facts_after}
-use Rattle.run_laws.specs.Knowledge.{MayWrite, MaySay, MayForget, decided_in, Knows}
-use Rattle.run_laws.specs.NodeLaws.{EachFactFrom, TellsRecorded, TellsRecords}
-use Rattle.run_laws.specs.Trail.{trail_after}
-use Rattle.run_laws.proofs.KnownLemmas.{commits_are_recorded}
+use Rattle.run_rules.specs.Branches.{Trail, no_trail}
+use Rattle.run_rules.specs.Data.{Happening, Command}
+use Rattle.run_rules.specs.Data.happenings
+use Rattle.run_rules.specs.Each.{EachFrom}
+use Rattle.run_rules.specs.Facts.{Facts, first_facts, place_at, records_at, facts_after}
+use Rattle.run_claims.specs.Knowledge.{MayWrite, MaySay, MayForget, Knows}
+use Rattle.run_rules.specs.BranchRecords.{decided_in}
+use Rattle.run_base_laws.specs.NodeLaws.{EachFactFrom, TellsRecorded, TellsRecords}
+use Rattle.run_rules.specs.Trail.{trail_after}
+use Rattle.run_base_laws.proofs.KnownLemmas.{commits_are_recorded}
 use Rattle.book_laws.specs.LifeLaws.{IsWrittenByLife, IsSaidByLife, TurnKnowsLives, KnowsLives, LivesAreEnough}
 use Rattle.book_laws.specs.WriteLaws.{IsToBeWritten, WritesDue}
 use Rattle.book_laws.proofs.WriteLemmas.{records_are_due}

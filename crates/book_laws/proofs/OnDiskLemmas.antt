@@ -11,13 +11,13 @@ use Rattle.node_rules.specs.Data.{Change, BranchId, RedoRecord}
 use Rattle.node_rules.specs.Data.records
 use Rattle.node_rules.specs.Words.{same, same_text}
 use Rattle.node_rules.specs.Rows.{same_value}
-use Rattle.run_laws.specs.Data.{Entry}
-use Rattle.run_laws.specs.Data.entries
-use Rattle.run_laws.specs.Book.{is_end_of, stands, At}
-use Rattle.run_laws.specs.Entries.{entry_of}
-use Rattle.run_laws.specs.RiseLaws.{are_of_one_key}
-use Rattle.run_laws.specs.OrderLaws.{ends, have_a_key_in_common}
-use Rattle.run_laws.specs.CommitOrderLaws.{IsIn, Leaves, changes_by, LeavesAfter}
+use Rattle.run_rules.specs.Data.{Entry}
+use Rattle.run_rules.specs.Data.entries
+use Rattle.run_rules.specs.Book.{is_end_of, stands, At}
+use Rattle.run_rules.specs.Entries.{entry_of}
+use Rattle.run_key_laws.specs.RiseLaws.{are_of_one_key}
+use Rattle.run_key_laws.specs.OrderLaws.{ends, have_a_key_in_common}
+use Rattle.run_key_laws.specs.CommitOrderLaws.{IsIn, Leaves, changes_by, LeavesAfter}
 use Rattle.book_laws.specs.DiskLaws.{node_of, is_of_node}
 use Rattle.book_laws.proofs.PlaceLemmas.{IsOne, found, finds, one_kept, one_of_flat, one_before, parted}
 

@@ -3,8 +3,8 @@ use Rattle.std.proofs.Common.{◌≡◌, ℕ, zero, suc, ◌<◌, ◌||◌, Bool
 use Rattle.std.specs.Prelude.{◌⊎◌}
 use Rattle.std.specs.List.{list_any}
 use Rattle.std.proofs.lemmas.Bool.{or_left, or_right}
-use Rattle.run_laws.specs.Data.{Entry}
-use Rattle.run_laws.specs.Book.{EachAgainst, At}
+use Rattle.run_rules.specs.Data.{Entry}
+use Rattle.run_rules.specs.Book.{EachAgainst, At}
 
 -- ---- one of a list
 

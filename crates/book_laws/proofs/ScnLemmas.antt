@@ -11,20 +11,20 @@ use Rattle.node_rules.specs.Data.{Change, BranchId, RedoRecord}
 use Rattle.node_rules.specs.Data.decisions
 use Rattle.node_rules.specs.Data.records
 use Rattle.node_rules.specs.Words.{same}
-use Rattle.run_laws.specs.Data.{Entry}
-use Rattle.run_laws.specs.Data.entries
-use Rattle.run_laws.specs.Book.{is_forced_of, is_end_of, stands, is_decision_on, is_decision_at, global_in, AsDecided, Follows, EachAgainst, At, unforced_at, transaction_in, transaction_at, is_key_in, InOrder}
-use Rattle.run_laws.specs.Entries.{entry_of}
-use Rattle.run_laws.specs.Facts.{records_at}
-use Rattle.run_laws.specs.Lawful.{facts_at}
-use Rattle.run_laws.specs.RunEvents.{events_of}
-use Rattle.run_laws.specs.Headline.{EveryScnIsLater}
-use Rattle.run_laws.specs.RiseLaws.{are_of_one_key}
-use Rattle.run_laws.specs.OrderLaws.{ends, have_a_key_in_common, IsDoneBefore, ComesInOrder, InOrderFrom}
-use Rattle.run_laws.specs.CommitOrderLaws.{Leaves, changes_by, LeavesAfter}
-use Rattle.run_laws.proofs.EventBookLemmas.{book_of_events}
-use Rattle.run_laws.proofs.OrderLemmas.{keys_come_in_order}
-use Rattle.run_laws.proofs.CommitOrderLemmas.{has_learned, at_split}
+use Rattle.run_rules.specs.Data.{Entry}
+use Rattle.run_rules.specs.Data.entries
+use Rattle.run_rules.specs.Book.{is_forced_of, is_end_of, stands, is_decision_on, is_decision_at, global_in, AsDecided, Follows, EachAgainst, At, unforced_at, transaction_in, transaction_at, is_key_in, InOrder}
+use Rattle.run_rules.specs.Entries.{entry_of}
+use Rattle.run_rules.specs.Facts.{records_at}
+use Rattle.run_rules.specs.Lawful.{facts_at}
+use Rattle.run_base_laws.specs.RunEvents.{events_of}
+use Rattle.run_claims.specs.Headline.{EveryScnIsLater}
+use Rattle.run_key_laws.specs.RiseLaws.{are_of_one_key}
+use Rattle.run_key_laws.specs.OrderLaws.{ends, have_a_key_in_common, IsDoneBefore, ComesInOrder, InOrderFrom}
+use Rattle.run_key_laws.specs.CommitOrderLaws.{Leaves, changes_by, LeavesAfter}
+use Rattle.run_branch_laws.proofs.EventBookLemmas.{book_of_events}
+use Rattle.run_key_laws.proofs.OrderLemmas.{keys_come_in_order}
+use Rattle.run_key_laws.proofs.CommitOrderLemmas.{has_learned, at_split}
 use Rattle.tree_laws.specs.Forests.{forest_of}
 use Rattle.tree_laws.proofs.ForestRunLemmas.{runs_have_forests}
 use Rattle.tree_laws.proofs.AgreeLemmas.{runs_agree, every_commit_comes_in_order}

@@ -7,12 +7,12 @@ use Rattle.agreement.proofs.AgreementLaws.{covered}
 use Rattle.agreement.proofs.BookTests.{not_true}
 use Rattle.agreement.proofs.BookLaws.{decision_is}
 use Rattle.node_rules.specs.Data.{Change, BranchId}
-use Rattle.run_laws.specs.Data.{Entry}
-use Rattle.run_laws.specs.RunEvents.{events_of}
-use Rattle.run_laws.proofs.EventBookLemmas.{book_of_events}
-use Rattle.run_laws.proofs.JustLemmas.{just_runs_are_lawful}
-use Rattle.run_laws.proofs.TreeJustLemmas.{runs_by_trees_are_just}
-use Rattle.run_laws.specs.Lawful.{History, IsLawfulRun}
+use Rattle.run_rules.specs.Data.{Entry}
+use Rattle.run_base_laws.specs.RunEvents.{events_of}
+use Rattle.run_branch_laws.proofs.EventBookLemmas.{book_of_events}
+use Rattle.run_branch_laws.proofs.JustLemmas.{just_runs_are_lawful}
+use Rattle.run_branch_laws.proofs.TreeJustLemmas.{runs_by_trees_are_just}
+use Rattle.run_rules.specs.Lawful.{History, IsLawfulRun}
 use Rattle.tree_laws.specs.Forests.{forest_of}
 use Rattle.tree_laws.proofs.ForestRunLemmas.{runs_have_forests}
 use Rattle.tree_laws.proofs.AgreeLemmas.{runs_go_by_forest}

@@ -14,7 +14,7 @@ use Rattle.node_rules.specs.Calls.{admit, reply_of}
 use Rattle.node_rules.specs.Commit.{beyond, next_on_decision, next_on_ack, next_on_forgotten}
 use Rattle.node_rules.specs.Turn.{turn_of, start_of, stand_of}
 use Rattle.net_bag.specs.Net.{sent_on, delivered}
-use Rattle.run_laws.specs.Facts.{facts_after}
+use Rattle.run_rules.specs.Facts.{facts_after}
 use Rattle.book_laws.specs.TriedBook.{TheTriedBook}
 
 pub the_tried_book : TheTriedBook

@@ -26,22 +26,23 @@ use Rattle.node_rules.specs.Turn.{heard}
 use Rattle.node_rules.proofs.StepLemmas.{branch_found}
 use Rattle.node_rules.proofs.Steps as steps
 use Rattle.node_rules.proofs.Steps.{Step, Doing, Makes}
-use Rattle.run_laws.specs.Data.{Happening, Turn}
-use Rattle.run_laws.specs.Data.happenings
-use Rattle.run_laws.specs.EventLaws.{EachEventFrom}
-use Rattle.run_laws.specs.Facts.{Facts, first_facts, place_at, records_at, facts_after}
-use Rattle.run_laws.specs.IdLaws.{IsRecordOf}
-use Rattle.run_laws.specs.InTurnLaws.{said_in}
-use Rattle.run_laws.specs.Knowledge.{sealed_in, decided_in, toward_in, toward_at, IsCallOf, IsPurge, named_in_doubt, HeardFromToward, ForgottenByToward}
-use Rattle.run_laws.specs.Lawful.{MayHappen, MayTurn, History, IsLawfulRun, facts_at}
-use Rattle.run_laws.specs.NodeLaws.{EachFactFrom}
-use Rattle.run_laws.specs.RunEvents.{events_after}
-use Rattle.run_laws.proofs.EventsStandLemmas.{Stand, run_stands, node_so, ids_name_their_node}
-use Rattle.run_laws.proofs.LawfulLemmas.{of_wrote, serves, turn_of_node}
-use Rattle.run_laws.proofs.OwnLemmas.{all_found, all_with}
-use Rattle.run_laws.proofs.QuietLemmas.{came_apart}
-use Rattle.run_laws.proofs.TowardLemmas.{heard_rows}
-use Rattle.run_laws.proofs.TurnEventLemmas.{all_both, number_is}
+use Rattle.run_rules.specs.Data.{Happening, Turn}
+use Rattle.run_rules.specs.Data.happenings
+use Rattle.run_base_laws.specs.EventLaws.{EachEventFrom}
+use Rattle.run_rules.specs.Facts.{Facts, first_facts, place_at, records_at, facts_after}
+use Rattle.run_base_laws.specs.IdLaws.{IsRecordOf}
+use Rattle.run_base_laws.specs.InTurnLaws.{said_in}
+use Rattle.run_claims.specs.Knowledge.{IsCallOf, IsPurge, named_in_doubt, HeardFromToward, ForgottenByToward}
+use Rattle.run_rules.specs.BranchRecords.{sealed_in, decided_in, toward_in, toward_at}
+use Rattle.run_rules.specs.Lawful.{MayHappen, MayTurn, History, IsLawfulRun, facts_at}
+use Rattle.run_base_laws.specs.NodeLaws.{EachFactFrom}
+use Rattle.run_base_laws.specs.RunEvents.{events_after}
+use Rattle.run_base_laws.proofs.EventsStandLemmas.{Stand, run_stands, node_so, ids_name_their_node}
+use Rattle.run_base_laws.proofs.LawfulLemmas.{of_wrote, serves, turn_of_node}
+use Rattle.run_base_laws.proofs.OwnLemmas.{all_found, all_with}
+use Rattle.run_branch_laws.proofs.QuietLemmas.{came_apart}
+use Rattle.run_branch_laws.proofs.TowardLemmas.{heard_rows}
+use Rattle.run_base_laws.proofs.TurnEventLemmas.{all_both, number_is}
 use Rattle.tree_laws.specs.RecordLaws.{RecordLeads}
 use Rattle.tree_laws.proofs.LearnLemmas.{DisksLead, run_leads}
 use Rattle.tree_laws.proofs.PrefixLemmas.{so_far, f_at, e_at, each_prefix}

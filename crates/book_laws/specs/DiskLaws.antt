@@ -1,11 +1,11 @@
 -- The book and the disks: of each node the book has the entries of the records on its disk, in their order. (The book is
 -- dtx's own; what its entries say is in the words of the Database Administrator's Guide, "Distributed Transactions Concepts".)
 use Rattle.std.specs.Prelude.{◌≡◌, ℕ, ◌==◌, Bool, filter, flat_map}
-use Rattle.run_laws.specs.Data.{Entry}
-use Rattle.run_laws.specs.Data.entries
-use Rattle.run_laws.specs.Entries.{entry_of, book_of}
-use Rattle.run_laws.specs.Facts.{records_at}
-use Rattle.run_laws.specs.Lawful.{History, IsLawfulRun, facts_at}
+use Rattle.run_rules.specs.Data.{Entry}
+use Rattle.run_rules.specs.Data.entries
+use Rattle.run_rules.specs.Entries.{entry_of, book_of}
+use Rattle.run_rules.specs.Facts.{records_at}
+use Rattle.run_rules.specs.Lawful.{History, IsLawfulRun, facts_at}
 
 -- the node of an entry
 abbrev pub node_of : Entry → ℕ

@@ -11,13 +11,13 @@ use Rattle.node_rules.specs.Inputs.{Came, IsCall}
 use Rattle.node_rules.specs.Kept.{Kept, live_id}
 use Rattle.node_rules.specs.Prepare.{answers_first, all_answered, voted}
 use Rattle.node_rules.specs.Words.{item_at}
-use Rattle.run_laws.specs.Data.{Happening}
-use Rattle.run_laws.specs.Data.happenings
-use Rattle.run_laws.specs.Facts.{Facts, node_at}
-use Rattle.run_laws.specs.Knowledge.{IsPrepare}
-use Rattle.run_laws.specs.Lawful.{History, IsLawfulRun}
-use Rattle.run_laws.specs.NodeLaws.{AtEachFact}
-use Rattle.run_laws.specs.Trail.{is_vote}
+use Rattle.run_rules.specs.Data.{Happening}
+use Rattle.run_rules.specs.Data.happenings
+use Rattle.run_rules.specs.Facts.{Facts, node_at}
+use Rattle.run_claims.specs.Knowledge.{IsPrepare}
+use Rattle.run_rules.specs.Lawful.{History, IsLawfulRun}
+use Rattle.run_base_laws.specs.NodeLaws.{AtEachFact}
+use Rattle.run_rules.specs.Trail.{is_vote}
 
 -- a child's first answer to Prepare, after which no child's is awaited
 abbrev pub IsLastAnswer : Live → Input → Type 0

@@ -8,14 +8,15 @@ use Rattle.node_rules.specs.Data.{BranchId, RedoRecord, Decided, Kind, Input, Pl
 use Rattle.node_rules.specs.Data.records
 use Rattle.node_rules.specs.Data.kinds
 use Rattle.node_rules.specs.Kept.{Kept}
-use Rattle.run_laws.specs.Branches.{Trail}
-use Rattle.run_laws.specs.Data.{Turn, Happening}
-use Rattle.run_laws.specs.Data.happenings
-use Rattle.run_laws.specs.Each.{AtEach}
-use Rattle.run_laws.specs.Facts.{Facts, place_at, node_at, records_at}
-use Rattle.run_laws.specs.Knowledge.{MayWrite, MaySay, MayForget, decided_in, Knowledge}
-use Rattle.run_laws.specs.Lawful.{History, IsLawfulRun}
-use Rattle.run_laws.specs.Trail.{trail_after}
+use Rattle.run_rules.specs.Branches.{Trail}
+use Rattle.run_rules.specs.Data.{Turn, Happening}
+use Rattle.run_rules.specs.Data.happenings
+use Rattle.run_rules.specs.Each.{AtEach}
+use Rattle.run_rules.specs.Facts.{Facts, place_at, node_at, records_at}
+use Rattle.run_claims.specs.Knowledge.{MayWrite, MaySay, MayForget, Knowledge}
+use Rattle.run_rules.specs.BranchRecords.{decided_in}
+use Rattle.run_rules.specs.Lawful.{History, IsLawfulRun}
+use Rattle.run_rules.specs.Trail.{trail_after}
 
 -- a seal, a decision, and the end of a site
 abbrev pub IsWrittenByLife : Place → Facts → Trail → Trail → Kept → ℕ → Input → RedoRecord → Type 0

@@ -1,11 +1,11 @@
 -- A branch is sealed before its transaction is decided, by the order of the book. (Database Administrator's Guide,
 -- "Distributed Transactions Concepts": prepare phase.)
 use Rattle.std.specs.Prelude.{◌≡◌, false, List, []}
-use Rattle.run_laws.specs.Data.{Entry}
-use Rattle.run_laws.specs.Data.entries
-use Rattle.run_laws.specs.Book.{stands, is_decision_on, EachAgainst}
-use Rattle.run_laws.specs.Entries.{book_of}
-use Rattle.run_laws.specs.Lawful.{History, IsLawfulRun}
+use Rattle.run_rules.specs.Data.{Entry}
+use Rattle.run_rules.specs.Data.entries
+use Rattle.run_rules.specs.Book.{stands, is_decision_on, EachAgainst}
+use Rattle.run_rules.specs.Entries.{book_of}
+use Rattle.run_rules.specs.Lawful.{History, IsLawfulRun}
 
 -- no decision of its transaction stands before a seal
 abbrev pub ComesFirst : List Entry → Entry → Type 0

@@ -3,11 +3,11 @@
 use Rattle.std.specs.Prelude.{◌≡◌, true, List, [], ◌∷◌, ◌++◌, codes, Some, None}
 use Rattle.node_rules.specs.Data.{BranchId}
 use Rattle.node_rules.specs.Data.stmts
-use Rattle.run_laws.specs.Data.{Entry, Turn}
-use Rattle.run_laws.specs.Book.{decided, share_a_key, transaction_at}
-use Rattle.run_laws.specs.Entries.{book_of}
-use Rattle.run_laws.specs.Facts.{Facts, first_facts}
-use Rattle.run_laws.specs.TriedRun.{places, calls, played, coming, a}
+use Rattle.run_rules.specs.Data.{Entry, Turn}
+use Rattle.run_rules.specs.Book.{decided, share_a_key, transaction_at}
+use Rattle.run_rules.specs.Entries.{book_of}
+use Rattle.run_rules.specs.Facts.{Facts, first_facts}
+use Rattle.run_branch_laws.specs.TriedRun.{places, calls, played, coming, a}
 
 -- what comes to the nodes
 abbrev pub more_coming : List (Facts → Turn)

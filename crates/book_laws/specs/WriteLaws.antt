@@ -6,13 +6,14 @@ use Rattle.std.specs.Prelude.{◌≡◌, ℕ, List, IfSome, Some, None}
 use Rattle.node_rules.specs.Data.{RedoRecord, Input, Place}
 use Rattle.node_rules.specs.Data.records
 use Rattle.node_rules.specs.Kept.{Kept}
-use Rattle.run_laws.specs.Data.{Happening}
-use Rattle.run_laws.specs.Data.happenings
-use Rattle.run_laws.specs.Branches.{Trail}
-use Rattle.run_laws.specs.Facts.{Facts, place_at, node_at, records_at}
-use Rattle.run_laws.specs.Knowledge.{MayWrite, decided_in, ForgottenByToward}
-use Rattle.run_laws.specs.Lawful.{History, IsLawfulRun}
-use Rattle.run_laws.specs.NodeLaws.{AtEachFact}
+use Rattle.run_rules.specs.Data.{Happening}
+use Rattle.run_rules.specs.Data.happenings
+use Rattle.run_rules.specs.Branches.{Trail}
+use Rattle.run_rules.specs.Facts.{Facts, place_at, node_at, records_at}
+use Rattle.run_claims.specs.Knowledge.{MayWrite, ForgottenByToward}
+use Rattle.run_rules.specs.BranchRecords.{decided_in}
+use Rattle.run_rules.specs.Lawful.{History, IsLawfulRun}
+use Rattle.run_base_laws.specs.NodeLaws.{AtEachFact}
 
 -- what a record needs of its turn, whatever came to its branch before
 abbrev pub IsToBeWritten : Place → Facts → Kept → ℕ → Input → RedoRecord → Type 0

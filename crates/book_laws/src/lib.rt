@@ -13,7 +13,7 @@ ghost use Rattle.book_laws.specs.WriteLaws.{RecordsAreDue};
 ghost use Rattle.book_laws.specs.LeaveLaws.{BranchesLeaveDuly};
 ghost use Rattle.book_laws.specs.LifeLaws.{LivesAreEnough};
 ghost use Rattle.book_laws.specs.TriedBook.{TheTriedBook};
-ghost use Rattle.run_laws.specs.Headline.{EveryScnIsLater};
+ghost use Rattle.run_claims.specs.Headline.{EveryScnIsLater};
 
 /// Of each node the book has the entries of the records on its disk, in their order.
 pub fn books_are_of_disks()

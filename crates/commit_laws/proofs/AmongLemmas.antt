@@ -5,9 +5,9 @@ use Rattle.std.proofs.lemmas.Bool.{or_right}
 use Rattle.tran_ids.proofs.BranchLemmas.{equal_from_same, same_from_equal}
 use Rattle.node_rules.specs.Data.{BranchId}
 use Rattle.node_rules.specs.Words.{same}
-use Rattle.run_laws.specs.Births.{Born, born_id, born_at}
-use Rattle.run_laws.specs.Branches.{is_among}
-use Rattle.commit_laws.specs.Undisturbed.{branches_in}
+use Rattle.run_rules.specs.Births.{Born, born_id, born_at}
+use Rattle.run_rules.specs.Branches.{is_among}
+use Rattle.run_claims.specs.Undisturbed.{branches_in}
 
 -- a branch that began in a transaction is among its branches
 pub is_in : (bs : List Born) (root m : BranchId) (b : Born) → born_at bs m ≡ Some b → b.root ≡ root → is_among m (branches_in bs root) ≡ true

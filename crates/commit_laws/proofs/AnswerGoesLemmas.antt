@@ -6,12 +6,12 @@ use Rattle.tran_ids.proofs.BranchLemmas.{equal_from_same, same_from_equal}
 use Rattle.node_rules.specs.Data.{BranchId, Kind, Msg}
 use Rattle.node_rules.specs.Data.kinds
 use Rattle.node_rules.specs.Words.{same}
-use Rattle.run_laws.specs.Births.{Born}
-use Rattle.run_laws.specs.BirthLaws.{Began, IsChild, GoesSo}
-use Rattle.run_laws.specs.Data.{Packet}
-use Rattle.run_laws.specs.InTurnLaws.{post_of, packet_post}
-use Rattle.run_laws.specs.Trail.{is_quiet, is_read_only}
-use Rattle.run_laws.specs.WalkLaws.{was_sent}
+use Rattle.run_rules.specs.Births.{Born}
+use Rattle.run_base_laws.specs.BirthLaws.{Began, IsChild, GoesSo}
+use Rattle.run_rules.specs.Data.{Packet}
+use Rattle.run_base_laws.specs.InTurnLaws.{post_of, packet_post}
+use Rattle.run_rules.specs.Trail.{is_quiet, is_read_only}
+use Rattle.run_branch_laws.specs.WalkLaws.{was_sent}
 use Rattle.commit_laws.specs.DeliveryLaws.{is_answer}
 use Rattle.commit_laws.proofs.ReasonLemmas.{is_quiet_post}
 

@@ -3,28 +3,28 @@ use Rattle.std.proofs.Common.{◌≡◌, ◌≢◌, ℕ, true, List, Some, sym, 
 use Rattle.agreement.specs.Events.{Exit, Sealed, Quiet, Dropped, exit}
 use Rattle.node_rules.specs.Data.{BranchId, Kind}
 use Rattle.node_rules.specs.Data.kinds
-use Rattle.run_laws.specs.Births.{Born, births_of, born_at}
-use Rattle.run_laws.specs.BirthLaws.{Began, IsChild, GoesSo}
-use Rattle.run_laws.specs.Data.{Packet}
-use Rattle.run_laws.specs.FreezeLaws.{was_asked}
-use Rattle.run_laws.specs.HeardLaws.{QuietIs}
-use Rattle.run_laws.specs.InTurnLaws.{said_in}
-use Rattle.run_laws.specs.Lawful.{History, IsLawfulRun, facts_at}
-use Rattle.run_laws.specs.RunEvents.{events_of}
-use Rattle.run_laws.specs.Trail.{is_prepare}
-use Rattle.run_laws.specs.WalkLaws.{is_below}
-use Rattle.run_laws.proofs.BirthRunLemmas.{messages_are_of_neighbors}
-use Rattle.run_laws.proofs.EventsStandLemmas.{run_stands}
-use Rattle.run_laws.proofs.HeardStandLemmas.{quiets_are_gone}
-use Rattle.run_laws.proofs.ListLemmas.{all_weaker}
-use Rattle.run_laws.proofs.SaidLemmas.{IsSaid}
-use Rattle.run_laws.proofs.TurnEventLemmas.{all_both}
-use Rattle.run_laws.proofs.VoteLemmas.{votes_are_of_sealed}
+use Rattle.run_rules.specs.Births.{Born, births_of, born_at}
+use Rattle.run_base_laws.specs.BirthLaws.{Began, IsChild, GoesSo}
+use Rattle.run_rules.specs.Data.{Packet}
+use Rattle.run_base_laws.specs.FreezeLaws.{was_asked}
+use Rattle.run_branch_laws.specs.HeardLaws.{QuietIs}
+use Rattle.run_base_laws.specs.InTurnLaws.{said_in}
+use Rattle.run_rules.specs.Lawful.{History, IsLawfulRun, facts_at}
+use Rattle.run_base_laws.specs.RunEvents.{events_of}
+use Rattle.run_rules.specs.Trail.{is_prepare}
+use Rattle.run_branch_laws.specs.WalkLaws.{is_below}
+use Rattle.run_base_laws.proofs.BirthRunLemmas.{messages_are_of_neighbors}
+use Rattle.run_base_laws.proofs.EventsStandLemmas.{run_stands}
+use Rattle.run_branch_laws.proofs.HeardStandLemmas.{quiets_are_gone}
+use Rattle.run_rules.proofs.ListLemmas.{all_weaker}
+use Rattle.run_base_laws.proofs.SaidLemmas.{IsSaid}
+use Rattle.run_base_laws.proofs.TurnEventLemmas.{all_both}
+use Rattle.run_branch_laws.proofs.VoteLemmas.{votes_are_of_sealed}
 use Rattle.tree_laws.specs.AnswerLaws.{ReadyIs}
 use Rattle.tree_laws.specs.AskLaws.{HeardAbove}
 use Rattle.tree_laws.proofs.AnswerRunLemmas.{answers_are_as_told}
 use Rattle.tree_laws.proofs.AskLemmas.{sent_wider, below_asks}
-use Rattle.site_laws.proofs.HeardLemmas.{left_were_asked}
+use Rattle.tree_site_laws.proofs.HeardLemmas.{left_were_asked}
 use Rattle.commit_laws.specs.DeliveryLaws.{is_answer, AnswersWereAsked}
 
 module _ (t : History) (whole : IsLawfulRun t) where

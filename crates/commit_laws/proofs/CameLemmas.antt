@@ -2,13 +2,13 @@
 use Rattle.std.proofs.Common.{◌≡◌, List, [], ◌∷◌, ◌++◌, refl, sym, ap, subst, ◌∙◌, append-nil}
 use Rattle.std.proofs.lemmas.List.{append_assoc}
 use Rattle.node_rules.specs.Data.{Msg}
-use Rattle.run_laws.specs.Data.{Happening}
-use Rattle.run_laws.specs.Data.happenings
-use Rattle.run_laws.specs.Facts.{Facts, facts_of}
-use Rattle.run_laws.specs.Lawful.{MayHappen, History, IsLawfulRun}
-use Rattle.run_laws.proofs.ListLemmas.{all_weaker}
+use Rattle.run_rules.specs.Data.{Happening}
+use Rattle.run_rules.specs.Data.happenings
+use Rattle.run_rules.specs.Facts.{Facts, facts_of}
+use Rattle.run_rules.specs.Lawful.{MayHappen, History, IsLawfulRun}
+use Rattle.run_rules.proofs.ListLemmas.{all_weaker}
 use Rattle.tree_laws.proofs.PrefixLemmas.{f_at, one_on}
-use Rattle.site_laws.proofs.TimeLemmas.{may_of, keep_on}
+use Rattle.tree_site_laws.proofs.TimeLemmas.{may_of, keep_on}
 use Rattle.commit_laws.specs.DeliveryLaws.{CameInTurn, DeliveriesCame}
 use Rattle.commit_laws.proofs.NetLemmas.{IfCame, AllCame, Takes, came_after, took_it}
 

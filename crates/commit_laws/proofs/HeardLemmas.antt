@@ -11,26 +11,26 @@ use Rattle.node_rules.specs.Data.votes
 use Rattle.node_rules.specs.Kept.{Kept, Branch, Deed, live_id, live_at, branch_at, work_at, with_work}
 use Rattle.node_rules.specs.Prepare.{is_awaited}
 use Rattle.node_rules.specs.Turn.{turn_of, heard, deed_of, kind_turn, stand_of}
-use Rattle.run_laws.specs.Births.{Born, births_of, born_id}
-use Rattle.run_laws.specs.BirthLaws.{Began, IsChild, GoesSo, StandsBelow}
-use Rattle.run_laws.specs.Data.{Turn, Happening}
-use Rattle.run_laws.specs.Data.happenings
-use Rattle.run_laws.specs.Facts.{Facts, place_at, node_at, kept_after, facts_after}
-use Rattle.run_laws.specs.FreezeLaws.{was_asked}
-use Rattle.run_laws.specs.InTurnLaws.{said_in}
-use Rattle.run_laws.specs.Lawful.{MayHappen, History, IsLawfulRun, facts_at}
-use Rattle.run_laws.specs.PhaseLaws.{PhaseFits}
-use Rattle.run_laws.specs.Trail.{is_prepare}
-use Rattle.run_laws.proofs.AtNodeLemmas.{turn_here}
-use Rattle.run_laws.proofs.BirthRunLemmas.{births_are_trees, messages_are_of_neighbors}
-use Rattle.run_laws.proofs.BirthsStandLemmas.{came_so}
-use Rattle.run_laws.proofs.EventsStandLemmas.{run_stands}
-use Rattle.run_laws.proofs.FreezeRunLemmas.{asked_stand_still}
-use Rattle.run_laws.proofs.ListLemmas.{all_weaker}
-use Rattle.run_laws.proofs.OwnLemmas.{all_found}
-use Rattle.run_laws.proofs.PhaseLemmas.{phases_fit}
+use Rattle.run_rules.specs.Births.{Born, births_of, born_id}
+use Rattle.run_base_laws.specs.BirthLaws.{Began, IsChild, GoesSo, StandsBelow}
+use Rattle.run_rules.specs.Data.{Turn, Happening}
+use Rattle.run_rules.specs.Data.happenings
+use Rattle.run_rules.specs.Facts.{Facts, place_at, node_at, kept_after, facts_after}
+use Rattle.run_base_laws.specs.FreezeLaws.{was_asked}
+use Rattle.run_base_laws.specs.InTurnLaws.{said_in}
+use Rattle.run_rules.specs.Lawful.{MayHappen, History, IsLawfulRun, facts_at}
+use Rattle.run_branch_laws.specs.PhaseLaws.{PhaseFits}
+use Rattle.run_rules.specs.Trail.{is_prepare}
+use Rattle.run_rules.proofs.AtNodeLemmas.{turn_here}
+use Rattle.run_base_laws.proofs.BirthRunLemmas.{births_are_trees, messages_are_of_neighbors}
+use Rattle.run_base_laws.proofs.BirthsStandLemmas.{came_so}
+use Rattle.run_base_laws.proofs.EventsStandLemmas.{run_stands}
+use Rattle.run_branch_laws.proofs.FreezeRunLemmas.{asked_stand_still}
+use Rattle.run_rules.proofs.ListLemmas.{all_weaker}
+use Rattle.run_base_laws.proofs.OwnLemmas.{all_found}
+use Rattle.run_branch_laws.proofs.PhaseLemmas.{phases_fit}
 use Rattle.tree_laws.proofs.PrefixLemmas.{so_far, f_at, one_on}
-use Rattle.site_laws.proofs.TimeLemmas.{part_on, part_of, part_lawful, may_of, born_end}
+use Rattle.tree_site_laws.proofs.TimeLemmas.{part_on, part_of, part_lawful, may_of, born_end}
 use Rattle.commit_laws.specs.DeliveryLaws.{CameInTurn, IsBusy, PreparesAreHeard, is_answer, HasAnswerOf, AnswersAreHeard}
 use Rattle.commit_laws.proofs.AskedLemmas.{answers_were_asked}
 use Rattle.commit_laws.proofs.CameLemmas.{deliveries_came}

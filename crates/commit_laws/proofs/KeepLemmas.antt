@@ -16,10 +16,10 @@ use Rattle.node_rules.specs.Prepare.{ready, voted, has_voted, answers_first, is_
 use Rattle.node_rules.proofs.Steps as steps
 use Rattle.node_rules.proofs.Steps.{Step, Asked, Acting, Collects, HasRoot, IsOfRows, vote_kind}
 use Rattle.node_rules.proofs.StandLemmas.{live_so}
-use Rattle.run_laws.proofs.ListLemmas.{all_weaker, all_append, all_map}
-use Rattle.run_laws.proofs.NeighborLemmas.{News, reply_is}
-use Rattle.run_laws.proofs.NeighborStepLemmas.{begun_news, pends_news, lets_news, acked_news}
-use Rattle.run_laws.proofs.OwnLemmas.{all_found, all_with, all_without, all_last}
+use Rattle.run_rules.proofs.ListLemmas.{all_weaker, all_append, all_map}
+use Rattle.run_base_laws.proofs.NeighborLemmas.{News, reply_is}
+use Rattle.run_base_laws.proofs.NeighborStepLemmas.{begun_news, pends_news, lets_news, acked_news}
+use Rattle.run_base_laws.proofs.OwnLemmas.{all_found, all_with, all_without, all_last}
 use Rattle.commit_laws.proofs.CommitCallLemmas.{OfCommit, begun_commit, pends_commit}
 use Rattle.commit_laws.proofs.NetLemmas.{numbered_all, set_all}
 

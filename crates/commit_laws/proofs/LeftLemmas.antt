@@ -11,34 +11,34 @@ use Rattle.node_rules.specs.Data.{BranchId, Live, Place, RedoRecord}
 use Rattle.node_rules.specs.Data.records
 use Rattle.node_rules.specs.Kept.{Kept, Deed, live_id, live_at}
 use Rattle.node_rules.specs.Turn.{turn_of, heard, deed_of}
-use Rattle.run_laws.specs.Births.{Born, births_of, born_at}
-use Rattle.run_laws.specs.BirthLaws.{Began, IsChild, RecordNames}
-use Rattle.run_laws.specs.Data.{Turn, Happening}
-use Rattle.run_laws.specs.Data.happenings
-use Rattle.run_laws.specs.Facts.{Facts, place_at, node_at, records_at, facts_after}
-use Rattle.run_laws.specs.InTurnLaws.{post_of, said_in}
-use Rattle.run_laws.specs.Lawful.{IsOwed, MayHappen, MayTurn, History, IsLawfulRun, facts_at}
-use Rattle.run_laws.specs.RunEvents.{with_record, with_exits, lives_at, events_after, events_from, events_of}
-use Rattle.run_laws.specs.Trail.{is_quiet}
-use Rattle.run_laws.specs.WalkLaws.{was_sent}
-use Rattle.run_laws.proofs.AtNodeLemmas.{turn_here}
-use Rattle.run_laws.proofs.BirthRunLemmas.{messages_are_of_neighbors, records_name_the_born}
-use Rattle.run_laws.proofs.EventsStandLemmas.{run_stands, ids_name_their_node}
-use Rattle.run_laws.proofs.LaterLemmas.{exit_made, turn_added}
-use Rattle.run_laws.proofs.LawfulLemmas.{serves}
-use Rattle.run_laws.proofs.NodesStandLemmas.{some_or_none}
-use Rattle.run_laws.proofs.OwnLemmas.{all_found}
-use Rattle.run_laws.proofs.SaidPostLemmas.{posts_back, posts_of, said_after}
+use Rattle.run_rules.specs.Births.{Born, births_of, born_at}
+use Rattle.run_base_laws.specs.BirthLaws.{Began, IsChild, RecordNames}
+use Rattle.run_rules.specs.Data.{Turn, Happening}
+use Rattle.run_rules.specs.Data.happenings
+use Rattle.run_rules.specs.Facts.{Facts, place_at, node_at, records_at, facts_after}
+use Rattle.run_base_laws.specs.InTurnLaws.{post_of, said_in}
+use Rattle.run_rules.specs.Lawful.{IsOwed, MayHappen, MayTurn, History, IsLawfulRun, facts_at}
+use Rattle.run_base_laws.specs.RunEvents.{with_record, with_exits, lives_at, events_after, events_from, events_of}
+use Rattle.run_rules.specs.Trail.{is_quiet}
+use Rattle.run_branch_laws.specs.WalkLaws.{was_sent}
+use Rattle.run_rules.proofs.AtNodeLemmas.{turn_here}
+use Rattle.run_base_laws.proofs.BirthRunLemmas.{messages_are_of_neighbors, records_name_the_born}
+use Rattle.run_base_laws.proofs.EventsStandLemmas.{run_stands, ids_name_their_node}
+use Rattle.run_base_laws.proofs.LaterLemmas.{exit_made, turn_added}
+use Rattle.run_base_laws.proofs.LawfulLemmas.{serves}
+use Rattle.run_base_laws.proofs.NodesStandLemmas.{some_or_none}
+use Rattle.run_base_laws.proofs.OwnLemmas.{all_found}
+use Rattle.run_base_laws.proofs.SaidPostLemmas.{posts_back, posts_of, said_after}
 use Rattle.tree_laws.proofs.AnswerRunLemmas.{lives_heard}
 use Rattle.tree_laws.proofs.AskLemmas.{sent_more, sent_new}
 use Rattle.tree_laws.proofs.PrefixLemmas.{so_far, f_at, e_at, one_on, more_on}
 use Rattle.tree_laws.proofs.SealLemmas.{IsSealOf, wrote_seal, later_unsealed}
 use Rattle.tree_laws.proofs.SiteLemmas.{IsDecisionOf, wrote_decision, later_undecided}
 use Rattle.tree_laws.proofs.WhyLemmas.{WroteWhy, why_on}
-use Rattle.site_laws.specs.LeaveLaws.{LeftSo}
-use Rattle.site_laws.proofs.FateLemmas.{drops_alone}
-use Rattle.site_laws.proofs.LeaveLemmas.{messages_exit, all_quiet, wrote_quiet, was_there}
-use Rattle.site_laws.proofs.TimeLemmas.{Part, part_on, part_of, part_lawful, may_of, exit_on, born_end, keep_on}
+use Rattle.tree_site_laws.specs.LeaveLaws.{LeftSo}
+use Rattle.tree_site_laws.proofs.FateLemmas.{drops_alone}
+use Rattle.tree_site_laws.proofs.LeaveLemmas.{messages_exit, all_quiet, wrote_quiet, was_there}
+use Rattle.tree_site_laws.proofs.TimeLemmas.{Part, part_on, part_of, part_lawful, may_of, exit_on, born_end, keep_on}
 use Rattle.commit_laws.specs.DeliveryLaws.{is_answer}
 use Rattle.commit_laws.specs.WaitLaws.{HasStopped, LeftHaveAnswered}
 use Rattle.commit_laws.proofs.ListLemmas.{all_at}

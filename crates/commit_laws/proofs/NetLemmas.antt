@@ -7,13 +7,13 @@ use Rattle.node_rules.specs.Data.inputs
 use Rattle.node_rules.specs.Words.{numbered, set_numbered}
 use Rattle.node_rules.specs.Kept.{Kept}
 use Rattle.net_bag.specs.Net.{Net, sent_one, sent_on, is_lost_at_once, first_fate, fated, with_fate, flies, packet, packet_at, delivered, lost, goes_over, lost_over, cut_over, joined, goes_to, lost_to, stopped, started}
-use Rattle.run_laws.specs.Data.{Packet, Took, Happening, Command}
-use Rattle.run_laws.specs.Data.commands
-use Rattle.run_laws.specs.Data.fates
-use Rattle.run_laws.specs.Data.happenings
-use Rattle.run_laws.specs.Facts.{Facts, taken, ordered, facts_after}
-use Rattle.run_laws.specs.Lawful.{Comes}
-use Rattle.run_laws.proofs.ListLemmas.{all_weaker, all_append, all_map}
+use Rattle.run_rules.specs.Data.{Packet, Took, Happening, Command}
+use Rattle.run_rules.specs.Data.commands
+use Rattle.run_rules.specs.Data.fates
+use Rattle.run_rules.specs.Data.happenings
+use Rattle.run_rules.specs.Facts.{Facts, taken, ordered, facts_after}
+use Rattle.run_rules.specs.Lawful.{Comes}
+use Rattle.run_rules.proofs.ListLemmas.{all_weaker, all_append, all_map}
 
 -- ---- lists by number
 

@@ -10,28 +10,28 @@ use Rattle.node_rules.specs.Kept.{Kept, Deed, live_id, live_at, branch_at, work_
 use Rattle.node_rules.specs.Prepare.{prepares, with_prepare_sent}
 use Rattle.node_rules.specs.Turn.{turn_of, heard, deed_of}
 use Rattle.node_rules.proofs.Steps.{HasRoot}
-use Rattle.run_laws.specs.Births.{Born, births_of}
-use Rattle.run_laws.specs.BirthLaws.{Began, ChildrenAre, LiveIs}
-use Rattle.run_laws.specs.CallLaws.{ComesAtRest}
-use Rattle.run_laws.specs.Data.{Turn, Happening}
-use Rattle.run_laws.specs.Data.happenings
-use Rattle.run_laws.specs.Facts.{Facts, first_facts, place_at, facts_of}
-use Rattle.run_laws.specs.FreezeLaws.{was_asked}
-use Rattle.run_laws.specs.InTurnLaws.{post_of, said_in}
-use Rattle.run_laws.specs.Lawful.{IsOwed, MayHappen, MayTurn, History, IsLawfulRun}
-use Rattle.run_laws.specs.NodeLaws.{EachFactFrom}
-use Rattle.run_laws.specs.Trail.{is_prepare}
-use Rattle.run_laws.proofs.BirthRunLemmas.{nodes_name_the_born}
-use Rattle.run_laws.proofs.FreezeLemmas.{plain_asks, prepares_ask}
-use Rattle.run_laws.proofs.FreezeRunLemmas.{asked_stand_still}
-use Rattle.run_laws.proofs.KidLemmas.{edge_of, child_edge}
-use Rattle.run_laws.proofs.LawfulLemmas.{serves}
-use Rattle.run_laws.proofs.OwnLemmas.{all_found}
-use Rattle.run_laws.proofs.RestRunLemmas.{calls_come_at_rest}
-use Rattle.run_laws.proofs.SaidPostLemmas.{posts_back, posts_of, said_after}
+use Rattle.run_rules.specs.Births.{Born, births_of}
+use Rattle.run_base_laws.specs.BirthLaws.{Began, ChildrenAre, LiveIs}
+use Rattle.run_base_laws.specs.CallLaws.{ComesAtRest}
+use Rattle.run_rules.specs.Data.{Turn, Happening}
+use Rattle.run_rules.specs.Data.happenings
+use Rattle.run_rules.specs.Facts.{Facts, first_facts, place_at, facts_of}
+use Rattle.run_base_laws.specs.FreezeLaws.{was_asked}
+use Rattle.run_base_laws.specs.InTurnLaws.{post_of, said_in}
+use Rattle.run_rules.specs.Lawful.{IsOwed, MayHappen, MayTurn, History, IsLawfulRun}
+use Rattle.run_base_laws.specs.NodeLaws.{EachFactFrom}
+use Rattle.run_rules.specs.Trail.{is_prepare}
+use Rattle.run_base_laws.proofs.BirthRunLemmas.{nodes_name_the_born}
+use Rattle.run_branch_laws.proofs.FreezeLemmas.{plain_asks, prepares_ask}
+use Rattle.run_branch_laws.proofs.FreezeRunLemmas.{asked_stand_still}
+use Rattle.run_base_laws.proofs.KidLemmas.{edge_of, child_edge}
+use Rattle.run_base_laws.proofs.LawfulLemmas.{serves}
+use Rattle.run_base_laws.proofs.OwnLemmas.{all_found}
+use Rattle.run_base_laws.proofs.RestRunLemmas.{calls_come_at_rest}
+use Rattle.run_base_laws.proofs.SaidPostLemmas.{posts_back, posts_of, said_after}
 use Rattle.tree_laws.proofs.AnswerRunLemmas.{lives_heard}
 use Rattle.tree_laws.proofs.PrefixLemmas.{so_far, f_at, one_on}
-use Rattle.site_laws.proofs.TimeLemmas.{part_of, part_lawful, may_of, fact_at, keep_on}
+use Rattle.tree_site_laws.proofs.TimeLemmas.{part_of, part_lawful, may_of, fact_at, keep_on}
 use Rattle.commit_laws.specs.OnceLaws.{count_sent, PreparesAreSentOnce}
 use Rattle.commit_laws.proofs.OnceStepLemmas.{AsksDown, FindsWork, Asks, asks_on}
 

@@ -16,10 +16,10 @@ use Rattle.node_rules.specs.Prepare.{path_of, with_prepare_sent, collecting, wit
 use Rattle.node_rules.specs.Recovery.{kept_told}
 use Rattle.node_rules.proofs.Steps as steps
 use Rattle.node_rules.proofs.Steps.{Step, Acting, Collects, Collected, Pointed, Says, HasRoot, IsOfRows}
-use Rattle.run_laws.proofs.FreezeLemmas.{IsPlain, plain_decisions, no_ask}
-use Rattle.run_laws.proofs.KindSayLemmas.{AllSay, one_says, each_says, told_says, passes_say, askings_say}
-use Rattle.run_laws.proofs.ListLemmas.{all_append}
-use Rattle.run_laws.proofs.QuietLemmas.{NoRows, acting_apart}
+use Rattle.run_branch_laws.proofs.FreezeLemmas.{IsPlain, plain_decisions, no_ask}
+use Rattle.run_base_laws.proofs.KindSayLemmas.{AllSay, one_says, each_says, told_says, passes_say, askings_say}
+use Rattle.run_rules.proofs.ListLemmas.{all_append}
+use Rattle.run_branch_laws.proofs.QuietLemmas.{NoRows, acting_apart}
 use Rattle.tree_laws.proofs.WhyLemmas.{Near}
 use Rattle.commit_laws.proofs.CommitCallLemmas.{OfCommit, begun_commit, pends_commit}
 

@@ -5,13 +5,13 @@ use Rattle.std.specs.List.{AllByRecursion}
 use Rattle.node_rules.specs.Data.{Live, Post, RedoRecord}
 use Rattle.node_rules.specs.Kept.{Kept, live_id}
 use Rattle.node_rules.specs.Turn.{start_of, deed_of}
-use Rattle.run_laws.specs.Data.{Turn, Happening}
-use Rattle.run_laws.specs.Facts.{place_at}
-use Rattle.run_laws.specs.InTurnLaws.{said_in}
-use Rattle.run_laws.specs.Lawful.{MayTurn, History, IsLawfulRun, facts_at}
-use Rattle.run_laws.proofs.LawfulLemmas.{serves}
-use Rattle.run_laws.proofs.ListLemmas.{all_weaker}
-use Rattle.run_laws.proofs.OwnLemmas.{all_found}
+use Rattle.run_rules.specs.Data.{Turn, Happening}
+use Rattle.run_rules.specs.Facts.{place_at}
+use Rattle.run_base_laws.specs.InTurnLaws.{said_in}
+use Rattle.run_rules.specs.Lawful.{MayTurn, History, IsLawfulRun, facts_at}
+use Rattle.run_base_laws.proofs.LawfulLemmas.{serves}
+use Rattle.run_rules.proofs.ListLemmas.{all_weaker}
+use Rattle.run_base_laws.proofs.OwnLemmas.{all_found}
 use Rattle.tree_laws.proofs.AnswerRunLemmas.{lives_heard}
 use Rattle.tree_laws.proofs.AskLemmas.{sent_more, sent_new}
 use Rattle.tree_laws.proofs.EachNodeLemmas.{EachNode, node_end}

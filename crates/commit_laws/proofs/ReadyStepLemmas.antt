@@ -16,8 +16,8 @@ use Rattle.node_rules.specs.Prepare.{ready, act_turn}
 use Rattle.node_rules.proofs.Steps as steps
 use Rattle.node_rules.proofs.Steps.{Step, Asked, Acting}
 use Rattle.node_rules.proofs.StandLemmas.{live_so}
-use Rattle.run_laws.specs.WalkLaws.{was_sent}
-use Rattle.run_laws.proofs.OwnLemmas.{all_found, all_with, all_without, all_last}
+use Rattle.run_branch_laws.specs.WalkLaws.{was_sent}
+use Rattle.run_base_laws.proofs.OwnLemmas.{all_found, all_with, all_without, all_last}
 use Rattle.commit_laws.specs.DeliveryLaws.{is_answer}
 
 all_three : (p q r s : Bool) → p ≡ true → q ≡ true → r ≡ true → (((p && q) && r) || s) ≡ true

@@ -21,7 +21,7 @@ use Rattle.node_rules.specs.Prepare.{ready, act_turn}
 use Rattle.node_rules.proofs.Steps as steps
 use Rattle.node_rules.proofs.Steps.{Step, Acting, HasRoot, IsOfRows}
 use Rattle.node_rules.proofs.StandLemmas.{live_so}
-use Rattle.run_laws.specs.Trail.{is_quiet, is_read_only}
+use Rattle.run_rules.specs.Trail.{is_quiet, is_read_only}
 use Rattle.commit_laws.specs.LeaveLaws.{Reason, Seals, Decides, Says_read_only, Gets_rollback, Is_rolled_back, Is_asked, Hears_abort}
 
 -- ---- ReadOnly

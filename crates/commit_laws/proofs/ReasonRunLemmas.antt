@@ -7,16 +7,16 @@ use Rattle.node_rules.specs.Kept.{Kept, Deed, live_id, live_at}
 use Rattle.node_rules.specs.Sessions.{session_at}
 use Rattle.node_rules.specs.Turn.{turn_of, heard, deed_of}
 use Rattle.node_rules.proofs.HeardLemmas.{sessions_heard}
-use Rattle.run_laws.specs.Data.{Turn, Happening}
-use Rattle.run_laws.specs.Data.happenings
-use Rattle.run_laws.specs.Facts.{Facts, place_at, node_at, facts_of}
-use Rattle.run_laws.specs.Lawful.{MayTurn, History, IsLawfulRun}
-use Rattle.run_laws.specs.NodeLaws.{EachFactFrom, AtEachFact}
-use Rattle.run_laws.proofs.LawfulLemmas.{serves, turn_of_node}
-use Rattle.run_laws.proofs.RootLemmas.{roots_are_of_sessions}
+use Rattle.run_rules.specs.Data.{Turn, Happening}
+use Rattle.run_rules.specs.Data.happenings
+use Rattle.run_rules.specs.Facts.{Facts, place_at, node_at, facts_of}
+use Rattle.run_rules.specs.Lawful.{MayTurn, History, IsLawfulRun}
+use Rattle.run_base_laws.specs.NodeLaws.{EachFactFrom, AtEachFact}
+use Rattle.run_base_laws.proofs.LawfulLemmas.{serves, turn_of_node}
+use Rattle.run_base_laws.proofs.RootLemmas.{roots_are_of_sessions}
 use Rattle.tree_laws.proofs.AnswerRunLemmas.{lives_heard}
 use Rattle.tree_laws.proofs.PrefixLemmas.{so_far, f_at, one_on}
-use Rattle.site_laws.proofs.TimeLemmas.{part_of, part_lawful, may_of}
+use Rattle.tree_site_laws.proofs.TimeLemmas.{part_of, part_lawful, may_of}
 use Rattle.commit_laws.specs.LeaveLaws.{LeavesForReason, TurnsHaveReasons, LeaversHaveReasons}
 use Rattle.commit_laws.proofs.ReasonLemmas.{stamped_quiet, leaves_on}
 

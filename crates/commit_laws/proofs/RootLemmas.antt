@@ -13,23 +13,23 @@ use Rattle.node_rules.specs.Kept.{Kept, Branch, Deed, live_id, live_at, work_at,
 use Rattle.node_rules.specs.Prepare.{collecting, with_comment, without_read_keys, first_act}
 use Rattle.node_rules.specs.Sessions.{with_call}
 use Rattle.node_rules.specs.Turn.{turn_of, deed_of}
-use Rattle.run_laws.specs.Births.{Born, births_of, born_id, born_at}
-use Rattle.run_laws.specs.BirthLaws.{Began, LiveIs, StandsBelow}
-use Rattle.run_laws.specs.Data.{Happening}
-use Rattle.run_laws.specs.Data.happenings
-use Rattle.run_laws.specs.Facts.{Facts, place_at, node_at, kept_after, facts_after}
-use Rattle.run_laws.specs.Lawful.{History, IsLawfulRun, facts_at}
-use Rattle.run_laws.specs.PhaseLaws.{PhaseFits}
-use Rattle.run_laws.proofs.AtNodeLemmas.{turn_here}
-use Rattle.run_laws.proofs.BirthRunLemmas.{births_are_trees, nodes_name_the_born}
-use Rattle.run_laws.proofs.EventsStandLemmas.{run_stands, ids_name_their_node}
-use Rattle.run_laws.proofs.OwnLemmas.{all_found}
-use Rattle.run_laws.proofs.PhaseLemmas.{phases_fit}
-use Rattle.run_laws.proofs.RootLemmas.{roots_are_of_sessions}
+use Rattle.run_rules.specs.Births.{Born, births_of, born_id, born_at}
+use Rattle.run_base_laws.specs.BirthLaws.{Began, LiveIs, StandsBelow}
+use Rattle.run_rules.specs.Data.{Happening}
+use Rattle.run_rules.specs.Data.happenings
+use Rattle.run_rules.specs.Facts.{Facts, place_at, node_at, kept_after, facts_after}
+use Rattle.run_rules.specs.Lawful.{History, IsLawfulRun, facts_at}
+use Rattle.run_branch_laws.specs.PhaseLaws.{PhaseFits}
+use Rattle.run_rules.proofs.AtNodeLemmas.{turn_here}
+use Rattle.run_base_laws.proofs.BirthRunLemmas.{births_are_trees, nodes_name_the_born}
+use Rattle.run_base_laws.proofs.EventsStandLemmas.{run_stands, ids_name_their_node}
+use Rattle.run_base_laws.proofs.OwnLemmas.{all_found}
+use Rattle.run_branch_laws.proofs.PhaseLemmas.{phases_fit}
+use Rattle.run_base_laws.proofs.RootLemmas.{roots_are_of_sessions}
 use Rattle.tree_laws.proofs.PrefixLemmas.{so_far, f_at, one_on}
-use Rattle.site_laws.proofs.TimeLemmas.{Part, part_on, part_of, part_lawful, born_end}
+use Rattle.tree_site_laws.proofs.TimeLemmas.{Part, part_on, part_of, part_lawful, born_end}
 use Rattle.commit_laws.specs.StillLaws.{DroppedNone, UndisturbedRootsLeave}
-use Rattle.commit_laws.specs.Undisturbed.{Commit, Undisturbed}
+use Rattle.run_claims.specs.Undisturbed.{Commit, Undisturbed}
 use Rattle.commit_laws.proofs.KeepLemmas.{Served}
 use Rattle.commit_laws.proofs.ServedLemmas.{ServedAt, HasBorn, served_end}
 use Rattle.commit_laws.proofs.StillLemmas.{undisturbed_collects_end}

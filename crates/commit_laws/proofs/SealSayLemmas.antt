@@ -13,7 +13,7 @@ use Rattle.node_rules.specs.Data.towards
 use Rattle.node_rules.specs.Kept.{Kept, Deed, live_at, to_one}
 use Rattle.node_rules.proofs.Steps as steps
 use Rattle.node_rules.proofs.Steps.{Step, Acting, Collected}
-use Rattle.run_laws.specs.WalkLaws.{was_sent}
+use Rattle.run_branch_laws.specs.WalkLaws.{was_sent}
 use Rattle.tree_laws.proofs.WhyLemmas.{Near, ActsIn, seal_act, WroteWhy}
 use Rattle.commit_laws.specs.DeliveryLaws.{is_answer}
 use Rattle.commit_laws.proofs.ReadyStepLemmas.{one_sent}

@@ -4,9 +4,9 @@ use Rattle.std.proofs.lemmas.Bool.{and_parts}
 use Rattle.tran_ids.proofs.BranchLemmas.{equal_from_same}
 use Rattle.node_rules.specs.Data.{BranchId, Kind}
 use Rattle.node_rules.specs.Words.{same}
-use Rattle.run_laws.specs.Data.{Packet}
-use Rattle.run_laws.specs.InTurnLaws.{packet_post}
-use Rattle.run_laws.specs.WalkLaws.{was_sent}
+use Rattle.run_rules.specs.Data.{Packet}
+use Rattle.run_base_laws.specs.InTurnLaws.{packet_post}
+use Rattle.run_branch_laws.specs.WalkLaws.{was_sent}
 
 -- A message of a kind from a branch to another.
 pub record IsSent (kind : Kind → Bool) (from to : BranchId) (xs : List Packet) : Type 0 where

@@ -8,30 +8,30 @@ use Rattle.node_rules.specs.Words.{item_at}
 use Rattle.node_rules.specs.Kept.{Kept, Branch, Deed, live_id, live_at, branch_at, work_at, with_work}
 use Rattle.node_rules.specs.Turn.{turn_of, heard, deed_of}
 use Rattle.node_rules.proofs.Steps.{HasRoot}
-use Rattle.run_laws.specs.Births.{Born, births_by, births_of, born_at}
-use Rattle.run_laws.specs.BirthLaws.{Began}
-use Rattle.run_laws.specs.CallLaws.{ComesAtRest}
-use Rattle.run_laws.specs.Data.{Turn, Happening}
-use Rattle.run_laws.specs.Data.happenings
-use Rattle.run_laws.specs.Facts.{Facts, first_facts, place_at, node_at, kept_after, facts_after}
-use Rattle.run_laws.specs.Lawful.{MayHappen, MayTurn, History, IsLawfulRun, facts_at}
-use Rattle.run_laws.specs.NodeLaws.{EachFactFrom}
-use Rattle.run_laws.proofs.AtNodeLemmas.{turn_elsewhere, turn_here}
-use Rattle.run_laws.proofs.BirthLemmas.{news_of}
-use Rattle.run_laws.proofs.BirthRunLemmas.{StandBorn, run_births}
-use Rattle.run_laws.proofs.BirthsStandLemmas.{all_unborn}
-use Rattle.run_laws.proofs.EventsStandLemmas.{node_so, owned_so}
-use Rattle.run_laws.proofs.LawfulLemmas.{serves}
-use Rattle.run_laws.proofs.ListLemmas.{all_weaker}
-use Rattle.run_laws.proofs.NeighborLemmas.{News}
-use Rattle.run_laws.proofs.OwnLemmas.{all_found}
-use Rattle.run_laws.proofs.RestRunLemmas.{calls_come_at_rest}
-use Rattle.run_laws.proofs.TurnEventLemmas.{cases_nat, number_is}
+use Rattle.run_rules.specs.Births.{Born, births_by, births_of, born_at}
+use Rattle.run_base_laws.specs.BirthLaws.{Began}
+use Rattle.run_base_laws.specs.CallLaws.{ComesAtRest}
+use Rattle.run_rules.specs.Data.{Turn, Happening}
+use Rattle.run_rules.specs.Data.happenings
+use Rattle.run_rules.specs.Facts.{Facts, first_facts, place_at, node_at, kept_after, facts_after}
+use Rattle.run_rules.specs.Lawful.{MayHappen, MayTurn, History, IsLawfulRun, facts_at}
+use Rattle.run_base_laws.specs.NodeLaws.{EachFactFrom}
+use Rattle.run_rules.proofs.AtNodeLemmas.{turn_elsewhere, turn_here}
+use Rattle.run_base_laws.proofs.BirthLemmas.{news_of}
+use Rattle.run_base_laws.proofs.BirthRunLemmas.{StandBorn, run_births}
+use Rattle.run_base_laws.proofs.BirthsStandLemmas.{all_unborn}
+use Rattle.run_base_laws.proofs.EventsStandLemmas.{node_so, owned_so}
+use Rattle.run_base_laws.proofs.LawfulLemmas.{serves}
+use Rattle.run_rules.proofs.ListLemmas.{all_weaker}
+use Rattle.run_base_laws.proofs.NeighborLemmas.{News}
+use Rattle.run_base_laws.proofs.OwnLemmas.{all_found}
+use Rattle.run_base_laws.proofs.RestRunLemmas.{calls_come_at_rest}
+use Rattle.run_base_laws.proofs.TurnEventLemmas.{cases_nat, number_is}
 use Rattle.tree_laws.proofs.AnswerRunLemmas.{lives_heard}
 use Rattle.tree_laws.proofs.FoundLemmas.{lives_found}
 use Rattle.tree_laws.proofs.PrefixLemmas.{so_far, f_at, e_at, one_on}
-use Rattle.site_laws.proofs.FateLemmas.{node_back}
-use Rattle.site_laws.proofs.TimeLemmas.{part_on, part_of, part_lawful, may_of, fact_at, born_end, keep_on}
+use Rattle.tree_site_laws.proofs.FateLemmas.{node_back}
+use Rattle.tree_site_laws.proofs.TimeLemmas.{part_on, part_of, part_lawful, may_of, fact_at, born_end, keep_on}
 use Rattle.commit_laws.proofs.KeepLemmas.{Served, IfMe, AllServed, CallsOther, served_on}
 
 module _ (t : History) (whole : IsLawfulRun t) (b : BranchId) (c : Option BranchId) where

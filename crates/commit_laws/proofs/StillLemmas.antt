@@ -5,19 +5,19 @@ use Rattle.std.specs.List.{AllByRecursion, list_any, position_or_len}
 use Rattle.node_rules.specs.Data.{BranchId}
 use Rattle.node_rules.specs.Kept.{Kept}
 use Rattle.net_bag.specs.Net.{is_flying, flies}
-use Rattle.run_laws.specs.Births.{Born, births_of}
-use Rattle.run_laws.specs.BirthLaws.{Began}
-use Rattle.run_laws.specs.Branches.{is_among}
-use Rattle.run_laws.specs.Data.{Fate, Packet}
-use Rattle.run_laws.specs.Data.fates
-use Rattle.run_laws.specs.Facts.{node_at, records_at}
-use Rattle.run_laws.specs.Lawful.{History, IsLawfulRun, facts_at, boots}
-use Rattle.run_laws.specs.RunEvents.{events_of}
-use Rattle.run_laws.proofs.EventsStandLemmas.{run_stands, node_so}
-use Rattle.run_laws.proofs.ListLemmas.{all_weaker}
-use Rattle.run_laws.proofs.TurnEventLemmas.{all_both}
+use Rattle.run_rules.specs.Births.{Born, births_of}
+use Rattle.run_base_laws.specs.BirthLaws.{Began}
+use Rattle.run_rules.specs.Branches.{is_among}
+use Rattle.run_rules.specs.Data.{Fate, Packet}
+use Rattle.run_rules.specs.Data.fates
+use Rattle.run_rules.specs.Facts.{node_at, records_at}
+use Rattle.run_rules.specs.Lawful.{History, IsLawfulRun, facts_at, boots}
+use Rattle.run_base_laws.specs.RunEvents.{events_of}
+use Rattle.run_base_laws.proofs.EventsStandLemmas.{run_stands, node_so}
+use Rattle.run_rules.proofs.ListLemmas.{all_weaker}
+use Rattle.run_base_laws.proofs.TurnEventLemmas.{all_both}
 use Rattle.commit_laws.specs.StillLaws.{UndisturbedMessagesCome, DroppedNone, UndisturbedCollectsEnd}
-use Rattle.commit_laws.specs.Undisturbed.{Commit, Undisturbed, branches_in, is_lost, HasNotStopped}
+use Rattle.run_claims.specs.Undisturbed.{Commit, Undisturbed, branches_in, is_lost, HasNotStopped}
 use Rattle.commit_laws.specs.WaitLaws.{HasStopped, AllCame}
 use Rattle.commit_laws.proofs.AmongLemmas.{among_all, is_in}
 use Rattle.commit_laws.proofs.WaitLemmas.{collects_are_over}

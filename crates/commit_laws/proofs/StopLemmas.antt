@@ -4,14 +4,14 @@ use Rattle.std.proofs.Common.{◌≡◌, ℕ, true, List, ◌∷◌, ◌++◌, [
 use Rattle.node_rules.specs.Data.{BranchId}
 use Rattle.node_rules.specs.Kept.{Kept}
 use Rattle.node_rules.specs.Turn.{turn_of}
-use Rattle.run_laws.specs.Data.{Happening, Turn}
-use Rattle.run_laws.specs.Data.happenings
-use Rattle.run_laws.specs.Facts.{Facts, place_at, node_at, kept_after, facts_after}
-use Rattle.run_laws.specs.Lawful.{MayHappen, History, IsLawfulRun, facts_at}
-use Rattle.run_laws.proofs.AtNodeLemmas.{turn_here, stop_here}
-use Rattle.run_laws.proofs.EventsStandLemmas.{run_stands}
+use Rattle.run_rules.specs.Data.{Happening, Turn}
+use Rattle.run_rules.specs.Data.happenings
+use Rattle.run_rules.specs.Facts.{Facts, place_at, node_at, kept_after, facts_after}
+use Rattle.run_rules.specs.Lawful.{MayHappen, History, IsLawfulRun, facts_at}
+use Rattle.run_rules.proofs.AtNodeLemmas.{turn_here, stop_here}
+use Rattle.run_base_laws.proofs.EventsStandLemmas.{run_stands}
 use Rattle.tree_laws.proofs.PrefixLemmas.{so_far, f_at, one_on}
-use Rattle.site_laws.proofs.TimeLemmas.{part_of, part_lawful, may_of}
+use Rattle.tree_site_laws.proofs.TimeLemmas.{part_of, part_lawful, may_of}
 use Rattle.commit_laws.specs.WaitLaws.{HasStopped}
 use Rattle.commit_laws.proofs.UnlessStoppedLemmas.{HasLeft, Here, TurnsKeep, here_on, here_end}
 

@@ -15,12 +15,12 @@ use Rattle.node_rules.specs.Commit.{beyond, next_on_decision, next_on_ack, next_
 use Rattle.node_rules.specs.Turn.{turn_of, start_of, stand_of}
 use Rattle.node_rules.specs.Data.stmts
 use Rattle.net_bag.specs.Net.{sent_on, delivered, lost}
-use Rattle.run_laws.specs.Book.{rows_of, in_doubt}
-use Rattle.run_laws.specs.Births.{births_from}
-use Rattle.run_laws.specs.Data.{Turn, Happening}
-use Rattle.run_laws.specs.Facts.{first_facts, facts_after, facts_of}
-use Rattle.run_laws.specs.TriedRun as tried
-use Rattle.commit_laws.specs.Undisturbed.{facts_by}
+use Rattle.run_rules.specs.Book.{rows_of, in_doubt}
+use Rattle.run_rules.specs.Births.{births_from}
+use Rattle.run_rules.specs.Data.{Turn, Happening}
+use Rattle.run_rules.specs.Facts.{first_facts, facts_after, facts_of}
+use Rattle.run_branch_laws.specs.TriedRun as tried
+use Rattle.run_claims.specs.Undisturbed.{facts_by}
 use Rattle.commit_laws.specs.TriedCommit.{lost_trace, TheTriedCommit}
 
 -- up to the COMMIT

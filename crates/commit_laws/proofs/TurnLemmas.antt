@@ -15,8 +15,8 @@ use Rattle.node_rules.specs.Kept.{Kept, live_id, live_at, work_at, with_work, st
 use Rattle.node_rules.specs.Prepare.{ready, voted, has_voted, answers_first, is_awaited, act_turn, collecting, with_comment, without_read_keys, first_act, prepare_in, answer_in, answer_act}
 use Rattle.prepare_phase.specs.Acts.{is_first_answer}
 use Rattle.node_rules.specs.Turn.{Stand, Is_live, kept_or_gone, live_or, stand_of, prepare_turn, answer_turn}
-use Rattle.run_laws.specs.PhaseLaws.{PhaseFits}
-use Rattle.run_laws.proofs.ListLemmas.{all_each}
+use Rattle.run_branch_laws.specs.PhaseLaws.{PhaseFits}
+use Rattle.run_rules.proofs.ListLemmas.{all_each}
 use Rattle.commit_laws.proofs.KeepLemmas.{Has, Served}
 
 -- ---- where a branch stands

@@ -7,18 +7,18 @@ use Rattle.agreement.specs.Events.{exit}
 use Rattle.node_rules.specs.Data.{BranchId, Place, RedoRecord}
 use Rattle.node_rules.specs.Kept.{Kept, Deed}
 use Rattle.node_rules.specs.Turn.{turn_of, deed_of}
-use Rattle.run_laws.specs.Data.{Happening, Turn}
-use Rattle.run_laws.specs.Data.happenings
-use Rattle.run_laws.specs.Facts.{Facts, place_at, node_at, records_at, kept_after, with_boot, facts_after}
-use Rattle.run_laws.specs.Lawful.{IsOwed, MayHappen, MayTurn, History, IsLawfulRun, facts_at, boots}
-use Rattle.run_laws.proofs.AtNodeLemmas.{turn_elsewhere, turn_here, stop_elsewhere, stop_here, start_elsewhere, start_here}
-use Rattle.run_laws.proofs.BootLemmas.{IsOfTurn, step_of_turn, boots_started, boots_with}
-use Rattle.run_laws.proofs.EventsStandLemmas.{run_stands}
-use Rattle.run_laws.proofs.LawfulLemmas.{serves, of_wrote}
-use Rattle.run_laws.proofs.NodesStandLemmas.{some_or_none}
-use Rattle.run_laws.proofs.TurnEventLemmas.{cases_nat}
+use Rattle.run_rules.specs.Data.{Happening, Turn}
+use Rattle.run_rules.specs.Data.happenings
+use Rattle.run_rules.specs.Facts.{Facts, place_at, node_at, records_at, kept_after, with_boot, facts_after}
+use Rattle.run_rules.specs.Lawful.{IsOwed, MayHappen, MayTurn, History, IsLawfulRun, facts_at, boots}
+use Rattle.run_rules.proofs.AtNodeLemmas.{turn_elsewhere, turn_here, stop_elsewhere, stop_here, start_elsewhere, start_here}
+use Rattle.run_rules.proofs.BootLemmas.{IsOfTurn, step_of_turn, boots_started, boots_with}
+use Rattle.run_base_laws.proofs.EventsStandLemmas.{run_stands}
+use Rattle.run_base_laws.proofs.LawfulLemmas.{serves, of_wrote}
+use Rattle.run_base_laws.proofs.NodesStandLemmas.{some_or_none}
+use Rattle.run_base_laws.proofs.TurnEventLemmas.{cases_nat}
 use Rattle.tree_laws.proofs.PrefixLemmas.{so_far, f_at, e_at, one_on, more_on}
-use Rattle.site_laws.proofs.TimeLemmas.{part_of, part_lawful, may_of, exit_on, keep_on}
+use Rattle.tree_site_laws.proofs.TimeLemmas.{part_of, part_lawful, may_of, exit_on, keep_on}
 
 module _ (t : History) (b : BranchId) where
   -- the branch has left

@@ -13,28 +13,28 @@ use Rattle.node_rules.specs.Data.votes
 use Rattle.node_rules.specs.Words.{numbered}
 use Rattle.node_rules.specs.Kept.{Kept, live_id, live_at, work_at, with_work}
 use Rattle.node_rules.specs.Prepare.{is_awaited}
-use Rattle.run_laws.specs.Births.{Born, births_of, born_id, born_at}
-use Rattle.run_laws.specs.BirthLaws.{Began, IsChild, StandsBelow, LiveIs}
-use Rattle.run_laws.specs.Branches.{is_among}
-use Rattle.run_laws.specs.Data.{Fate, Packet}
-use Rattle.run_laws.specs.Data.fates
-use Rattle.run_laws.specs.Facts.{Facts, node_at}
-use Rattle.run_laws.specs.FreezeLaws.{was_asked}
-use Rattle.run_laws.specs.InTurnLaws.{said_in}
-use Rattle.run_laws.specs.Lawful.{History, IsLawfulRun, facts_at}
-use Rattle.run_laws.specs.PhaseLaws.{IsUnasked, PhaseFits}
-use Rattle.run_laws.specs.RunEvents.{lives_at, events_of}
-use Rattle.run_laws.specs.Trail.{is_prepare}
-use Rattle.run_laws.specs.WalkLaws.{was_sent}
-use Rattle.run_laws.proofs.BirthRunLemmas.{births_are_trees, nodes_name_the_born, born_are_live_or_left}
-use Rattle.run_laws.proofs.EventsStandLemmas.{ids_name_their_node}
-use Rattle.run_laws.proofs.NeighborLemmas.{all_children}
-use Rattle.run_laws.proofs.NodesStandLemmas.{some_or_none}
-use Rattle.run_laws.proofs.OwnLemmas.{all_found}
-use Rattle.run_laws.proofs.PhaseLemmas.{phases_fit}
+use Rattle.run_rules.specs.Births.{Born, births_of, born_id, born_at}
+use Rattle.run_base_laws.specs.BirthLaws.{Began, IsChild, StandsBelow, LiveIs}
+use Rattle.run_rules.specs.Branches.{is_among}
+use Rattle.run_rules.specs.Data.{Fate, Packet}
+use Rattle.run_rules.specs.Data.fates
+use Rattle.run_rules.specs.Facts.{Facts, node_at}
+use Rattle.run_base_laws.specs.FreezeLaws.{was_asked}
+use Rattle.run_base_laws.specs.InTurnLaws.{said_in}
+use Rattle.run_rules.specs.Lawful.{History, IsLawfulRun, facts_at}
+use Rattle.run_branch_laws.specs.PhaseLaws.{IsUnasked, PhaseFits}
+use Rattle.run_base_laws.specs.RunEvents.{lives_at, events_of}
+use Rattle.run_rules.specs.Trail.{is_prepare}
+use Rattle.run_branch_laws.specs.WalkLaws.{was_sent}
+use Rattle.run_base_laws.proofs.BirthRunLemmas.{births_are_trees, nodes_name_the_born, born_are_live_or_left}
+use Rattle.run_base_laws.proofs.EventsStandLemmas.{ids_name_their_node}
+use Rattle.run_base_laws.proofs.NeighborLemmas.{all_children}
+use Rattle.run_base_laws.proofs.NodesStandLemmas.{some_or_none}
+use Rattle.run_base_laws.proofs.OwnLemmas.{all_found}
+use Rattle.run_branch_laws.proofs.PhaseLemmas.{phases_fit}
 use Rattle.tree_laws.proofs.AskRunLemmas.{edges_asked}
-use Rattle.site_laws.proofs.FateLemmas.{among_found}
-use Rattle.site_laws.proofs.ShallowLemmas.{parents_are_shallow}
+use Rattle.tree_site_laws.proofs.FateLemmas.{among_found}
+use Rattle.tree_site_laws.proofs.ShallowLemmas.{parents_are_shallow}
 use Rattle.commit_laws.specs.DeliveryLaws.{IsBusy, is_answer, HasAnswerOf}
 use Rattle.commit_laws.specs.WaitLaws.{HasStopped, HasNotCome, Awaits, Not_asked, Collects_too, Not_answered, Was_dropped, Has_stopped, CollectorsWait, AllCame, CollectsAreOver}
 use Rattle.commit_laws.proofs.ListLemmas.{IsIn, all_in, in_all}

@@ -9,12 +9,12 @@ use Rattle.node_rules.specs.Data.records
 use Rattle.node_rules.specs.Inputs.{Came}
 use Rattle.node_rules.specs.Kept.{Kept, Outcome, live_at}
 use Rattle.node_rules.specs.Turn.{turn_of}
-use Rattle.run_laws.specs.Data.{Happening}
-use Rattle.run_laws.specs.Data.happenings
-use Rattle.run_laws.specs.Facts.{Facts, place_at, node_at}
-use Rattle.run_laws.specs.Lawful.{History, IsLawfulRun}
-use Rattle.run_laws.specs.NodeLaws.{AtEachFact}
-use Rattle.run_laws.specs.Trail.{is_quiet}
+use Rattle.run_rules.specs.Data.{Happening}
+use Rattle.run_rules.specs.Data.happenings
+use Rattle.run_rules.specs.Facts.{Facts, place_at, node_at}
+use Rattle.run_rules.specs.Lawful.{History, IsLawfulRun}
+use Rattle.run_base_laws.specs.NodeLaws.{AtEachFact}
+use Rattle.run_rules.specs.Trail.{is_quiet}
 
 -- Why a branch with this parent leaves in a turn that writes and sends this.
 pub data Reason (input : Input) (b : BranchId) (parent : Option BranchId) (wrote : Option RedoRecord) (sent : List Msg) : Type 0 where

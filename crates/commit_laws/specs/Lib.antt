@@ -1,4 +1,3 @@
-pub mod Undisturbed
 pub mod TriedCommit
 pub mod DeliveryLaws
 pub mod WaitLaws

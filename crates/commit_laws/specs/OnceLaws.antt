@@ -3,9 +3,9 @@
 use Rattle.std.specs.Prelude.{ℕ, ◌+◌, ◌≤◌, ◌&&◌, Bool, if◌then◌else◌, List, [], ◌∷◌}
 use Rattle.node_rules.specs.Data.{BranchId, Kind, Post}
 use Rattle.node_rules.specs.Words.{same}
-use Rattle.run_laws.specs.InTurnLaws.{said_in}
-use Rattle.run_laws.specs.Lawful.{History, IsLawfulRun, facts_at}
-use Rattle.run_laws.specs.Trail.{is_prepare}
+use Rattle.run_base_laws.specs.InTurnLaws.{said_in}
+use Rattle.run_rules.specs.Lawful.{History, IsLawfulRun, facts_at}
+use Rattle.run_rules.specs.Trail.{is_prepare}
 
 -- how many messages of a kind a branch sent to another
 abbrev pub count_sent : (Kind → Bool) → List Post → BranchId → BranchId → ℕ

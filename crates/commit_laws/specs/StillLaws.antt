@@ -6,13 +6,13 @@ use Rattle.node_rules.specs.Data.{BranchId, Live}
 use Rattle.node_rules.specs.Data.kinds
 use Rattle.node_rules.specs.Data.phases
 use Rattle.node_rules.specs.Kept.{Kept, live_at}
-use Rattle.run_laws.specs.Births.{Born, births_of}
-use Rattle.run_laws.specs.BirthLaws.{Began}
-use Rattle.run_laws.specs.Data.fates
-use Rattle.run_laws.specs.Facts.{node_at}
-use Rattle.run_laws.specs.Lawful.{History, IsLawfulRun, facts_at}
-use Rattle.run_laws.specs.RunEvents.{events_of}
-use Rattle.commit_laws.specs.Undisturbed.{Commit, Undisturbed}
+use Rattle.run_rules.specs.Births.{Born, births_of}
+use Rattle.run_base_laws.specs.BirthLaws.{Began}
+use Rattle.run_rules.specs.Data.fates
+use Rattle.run_rules.specs.Facts.{node_at}
+use Rattle.run_rules.specs.Lawful.{History, IsLawfulRun, facts_at}
+use Rattle.run_base_laws.specs.RunEvents.{events_of}
+use Rattle.run_claims.specs.Undisturbed.{Commit, Undisturbed}
 
 -- In every lawful run each message of the transaction of an undisturbed COMMIT was delivered.
 abbrev pub UndisturbedMessagesCome : Type 0

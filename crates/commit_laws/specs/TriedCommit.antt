@@ -5,12 +5,12 @@ use Rattle.std.specs.List.{AllByRecursion}
 use Rattle.node_rules.specs.Sessions.{session_at}
 use Rattle.node_rules.specs.Data.{BranchId}
 use Rattle.net_bag.specs.Net.{first_flying}
-use Rattle.run_laws.specs.Book.{in_doubt}
-use Rattle.run_laws.specs.Data.{Happening}
-use Rattle.run_laws.specs.Data.happenings
-use Rattle.run_laws.specs.Facts.{first_facts}
-use Rattle.run_laws.specs.TriedRun as tried
-use Rattle.commit_laws.specs.Undisturbed.{Commit, Undisturbed, IsComplete, HasNotStopped, IsCalm, facts_by, branches_by, answers_from}
+use Rattle.run_rules.specs.Book.{in_doubt}
+use Rattle.run_rules.specs.Data.{Happening}
+use Rattle.run_rules.specs.Data.happenings
+use Rattle.run_rules.specs.Facts.{first_facts}
+use Rattle.run_branch_laws.specs.TriedRun as tried
+use Rattle.run_claims.specs.Undisturbed.{Commit, Undisturbed, IsComplete, HasNotStopped, IsCalm, facts_by, branches_by, answers_from}
 
 -- the messages up to the vote of B come, and the seventh, Committed to B, is lost
 abbrev pub lost_trace : List Happening

@@ -9,16 +9,16 @@ use Rattle.node_rules.specs.Data.phases
 use Rattle.node_rules.specs.Kept.{Kept, live_at}
 use Rattle.node_rules.specs.Prepare.{is_awaited}
 use Rattle.net_bag.specs.Net.{packet_at}
-use Rattle.run_laws.specs.Births.{Born, births_of}
-use Rattle.run_laws.specs.BirthLaws.{Began}
-use Rattle.run_laws.specs.Data.{Packet}
-use Rattle.run_laws.specs.Data.fates
-use Rattle.run_laws.specs.Facts.{Facts, node_at, records_at}
-use Rattle.run_laws.specs.InTurnLaws.{said_in}
-use Rattle.run_laws.specs.Lawful.{History, IsLawfulRun, facts_at, boots}
-use Rattle.run_laws.specs.RunEvents.{events_of}
-use Rattle.run_laws.specs.Trail.{is_prepare}
-use Rattle.run_laws.specs.WalkLaws.{was_sent}
+use Rattle.run_rules.specs.Births.{Born, births_of}
+use Rattle.run_base_laws.specs.BirthLaws.{Began}
+use Rattle.run_rules.specs.Data.{Packet}
+use Rattle.run_rules.specs.Data.fates
+use Rattle.run_rules.specs.Facts.{Facts, node_at, records_at}
+use Rattle.run_base_laws.specs.InTurnLaws.{said_in}
+use Rattle.run_rules.specs.Lawful.{History, IsLawfulRun, facts_at, boots}
+use Rattle.run_base_laws.specs.RunEvents.{events_of}
+use Rattle.run_rules.specs.Trail.{is_prepare}
+use Rattle.run_branch_laws.specs.WalkLaws.{was_sent}
 use Rattle.commit_laws.specs.DeliveryLaws.{is_answer}
 
 -- ---- who has answered

@@ -1,6 +1,6 @@
 -- A Prepare without a comment can be said.
 use Rattle.std.proofs.Common.{◌≡◌, ℕ, Bool, List, [], sym, subst, arith}
-use Rattle.fit_laws.proofs.SayLemmas.{no_comment}
+use Rattle.node_spell_laws.proofs.SayLemmas.{no_comment}
 use Rattle.lone_node.specs.Played.{IsSaid}
 use Rattle.node_rules.specs.Data.kinds
 

@@ -5,7 +5,7 @@ use Rattle.std.specs.List.{AllByRecursion, list_all}
 use Rattle.std.proofs.lemmas.Bool.{and_parts}
 use Rattle.std.proofs.lemmas.Bool.Decides.{nat_tests}
 use Rattle.block_disk.specs.MemDisk.{DiskState}
-use Rattle.fit_laws.specs.Bytes.{NamesTable, StartsKeepBytes}
+use Rattle.node_spell_laws.specs.Bytes.{NamesTable, StartsKeepBytes}
 use Rattle.node_disk.specs.OnDisk.{disk_of, kept_of, place_of, IsRunning}
 use Rattle.node_disk.specs.Starts.{CanBeStarted, last_boot, next_boot}
 use Rattle.node_disk.specs.declared.node.Node.{Node}
@@ -19,8 +19,8 @@ use Rattle.node_rules.specs.declared.session.Session.{Session}
 use Rattle.node_rules.specs.Records.{nothing_stored, applied, stored_by}
 use Rattle.node_rules.specs.Sessions.{fresh_session}
 use Rattle.node_rules.specs.Turn.{made, start_of}
-use Rattle.ready_laws.specs.Ready.{IsReady}
-use Rattle.ready_laws.proofs.ListLemmas.{all_last, all_weaker}
+use Rattle.node_ready_laws.specs.Ready.{IsReady}
+use Rattle.node_ready_laws.proofs.ListLemmas.{all_last, all_weaker}
 use Rattle.record_log.specs.Held.{HoldRecords, HoldOneList}
 use Rattle.redo_record.specs.Durable.{durable_after}
 

@@ -4,8 +4,8 @@ use Rattle.std.specs.Prelude.{IfSome}
 use Rattle.std.specs.List.{AllByRecursion, list_all}
 use Rattle.std.proofs.lemmas.Bool.{and_parts}
 use Rattle.block_disk.specs.MemDisk.{DiskState}
-use Rattle.fit_laws.specs.Bytes.{HasBytes, BringsBytes, AsksChild, KeepsBytes, TurnsKeepBytes}
-use Rattle.fit_laws.specs.Written.{RecordsHaveBytes}
+use Rattle.node_spell_laws.specs.Bytes.{HasBytes, BringsBytes, AsksChild, KeepsBytes, TurnsKeepBytes}
+use Rattle.node_spell_laws.specs.Written.{RecordsHaveBytes}
 use Rattle.msg_codec.specs.Message.{message_of}
 use Rattle.node_core.specs.Able.{IsAble, BringsScns, EndsWork, BringsCommit, MayTake, given_limit}
 use Rattle.node_disk.specs.Effects.{Tells}
@@ -29,10 +29,10 @@ use Rattle.node_rules.specs.Inputs.{IsSession}
 use Rattle.node_rules.specs.Kept.{Kept, Outcome, live_id, live_at, with_work}
 use Rattle.node_rules.specs.Sessions.{session_at}
 use Rattle.node_rules.specs.Turn.{kind_scn, turn_of}
-use Rattle.ready_laws.specs.Names.{MakesNamed}
-use Rattle.ready_laws.specs.Ready.{IsReady, IsExpected, BringsWithin, NumbersStayWithin}
-use Rattle.ready_laws.specs.Rows.{MakesWhole}
-use Rattle.ready_laws.proofs.ListLemmas.{all_found, all_weaker}
+use Rattle.node_ready_laws.specs.Names.{MakesNamed}
+use Rattle.node_ready_laws.specs.Ready.{IsReady, IsExpected, BringsWithin, NumbersStayWithin}
+use Rattle.node_ready_laws.specs.Rows.{MakesWhole}
+use Rattle.node_ready_laws.proofs.ListLemmas.{all_found, all_weaker}
 use Rattle.sql_statement.specs.Whole.{IsWhole}
 use Rattle.tran_ids.specs.Listed.{is_item_of}
 

@@ -4,7 +4,7 @@ use Rattle.std.specs.List.{AllByRecursion}
 use Rattle.block_disk.specs.Happenings.{content_of, IsImage}
 use Rattle.block_disk.specs.MemDisk.{DiskState}
 use Rattle.dtx_values.specs.Limits.{link_limit, node_limit}
-use Rattle.fit_laws.specs.Bytes.{HasBytes, KeepsBytes, NamesTable}
+use Rattle.node_spell_laws.specs.Bytes.{HasBytes, KeepsBytes, NamesTable}
 use Rattle.msg_codec.specs.Fits.{KindFits}
 use Rattle.msg_codec.specs.Message.{message_of}
 use Rattle.node_rules.specs.Data.{Stmt, Answer, Decision, RedoRecord, Phase, Live, Kind, Msg, Place}
@@ -21,8 +21,8 @@ use Rattle.node_disk.specs.OnDisk.{disk_of, kept_of, place_of, IsRunning}
 use Rattle.node_disk.specs.declared.incoming.Incoming.{Incoming}
 use Rattle.node_disk.specs.declared.incoming.Incoming.TheVariants as comings
 use Rattle.node_disk.specs.declared.node.Node.{Node}
-use Rattle.ready_laws.specs.Ready.{IsReady, IsWithin}
-use Rattle.ready_laws.specs.Shapes.{TellsFew}
+use Rattle.node_ready_laws.specs.Ready.{IsReady, IsWithin}
+use Rattle.node_ready_laws.specs.Shapes.{TellsFew}
 use Rattle.sql_print.specs.Printing.{IsPrintable}
 use Rattle.sql_statement.specs.Whole.{IsWhole}
 

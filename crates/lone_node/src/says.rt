@@ -1,6 +1,6 @@
 //! Messages as tests write them, and their bytes.
 ghost use Rattle.std.specs.Prelude.{◌≡◌, ◌≤◌, ◌<◌, ◌^◌, true, length, Some, IfSome};
-ghost use Rattle.fit_laws.specs.Bytes.{IsOfTable, StatementHasBytes};
+ghost use Rattle.node_spell_laws.specs.Bytes.{IsOfTable, StatementHasBytes};
 ghost use Rattle.msg_codec.specs.Fits.{KindFits};
 ghost use Rattle.msg_codec.specs.Message.{message_of};
 ghost use Rattle.lone_node.specs.Played.{IsChange, IsSaid, IsPlayed};

@@ -9,9 +9,9 @@ use Rattle.node_rules.specs.Words.{same_text}
 use Rattle.node_rules.specs.Kept.{Kept}
 use Rattle.node_rules.specs.Refusals.{ora}
 use Rattle.node_rules.specs.Client.{create_link, create_synonym, create_table, is_link, is_used, refuses, writes}
-use Rattle.ready_laws.specs.Rows.{HasRows}
-use Rattle.ready_laws.proofs.TableLemmas.{under}
-use Rattle.ready_laws.specs.Following.{MayFollow}
+use Rattle.node_ready_laws.specs.Rows.{HasRows}
+use Rattle.node_ready_laws.proofs.TableLemmas.{under}
+use Rattle.node_ready_laws.specs.Following.{MayFollow}
 
 pub table_follows : (k : Kept) (t : Table) → HasRows k → is_used k.stored.durable t.name ≡ false → MayFollow k.stored (records.Table t)
 table_follows k t now free = record {

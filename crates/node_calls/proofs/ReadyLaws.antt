@@ -14,11 +14,11 @@ use Rattle.node_rules.specs.declared.work.Waits.TheVariants as waiting
 use Rattle.node_rules.specs.Kept.{live_id}
 use Rattle.node_rules.specs.LiveBranches.{works_of}
 use Rattle.node_rules.specs.Sessions.{fresh_session}
-use Rattle.ready_laws.proofs.GiveLemmas.{sum_few}
-use Rattle.ready_laws.specs.Gives.{ChildrenAreFew, NextCallsAreWithin}
-use Rattle.ready_laws.specs.Ids.{NewIdsAreNew}
-use Rattle.ready_laws.specs.Names.{EmptyNameIsFree}
-use Rattle.ready_laws.specs.Shapes.{count_limit, IsShaped, HasRoom as HasRoomShape, HasRoomFor as HasRoomForShape}
+use Rattle.node_ready_laws.proofs.GiveLemmas.{sum_few}
+use Rattle.node_ready_laws.specs.Gives.{ChildrenAreFew, NextCallsAreWithin}
+use Rattle.node_ready_laws.specs.Ids.{NewIdsAreNew}
+use Rattle.node_ready_laws.specs.Names.{EmptyNameIsFree}
+use Rattle.node_ready_laws.specs.Shapes.{count_limit, IsShaped, HasRoom as HasRoomShape, HasRoomFor as HasRoomForShape}
 use Rattle.node_state.specs.Lives.{as_told, heard, told}
 use Rattle.node_memory.specs.declared.memory.Memory.{Memory}
 use Rattle.node_memory.specs.Parts.{kept_in}

@@ -17,8 +17,8 @@ use Rattle.node_rules.specs.Calls.{next_call, statement_at}
 use Rattle.node_rules.specs.Client.{begun, begun_lives, refuses, root_by, statement_by, statement_call}
 use Rattle.node_deeds.specs.declared.deed.Deed.{Deed}
 use Rattle.node_deeds.specs.Gives.{Gives}
-use Rattle.ready_laws.specs.Rows.{HasRows}
-use Rattle.ready_laws.specs.Following.{listed_in}
+use Rattle.node_ready_laws.specs.Rows.{HasRows}
+use Rattle.node_ready_laws.specs.Following.{listed_in}
 use Rattle.node_state.specs.Works.{work_of}
 use Rattle.node_memory.specs.declared.memory.Memory.{Memory}
 use Rattle.node_memory.specs.Parts.{kept_in}

@@ -17,7 +17,7 @@ use Rattle.node_rules.specs.Words.{one}
 use Rattle.node_rules.specs.Refusals.{ora}
 use Rattle.node_rules.specs.Client.{refuses}
 use Rattle.node_rules.specs.Calls.{calls_over, next_call, with_edge}
-use Rattle.ready_laws.specs.Rows.{HasRows}
+use Rattle.node_ready_laws.specs.Rows.{HasRows}
 use Rattle.node_state.specs.Lives.{heard}
 use Rattle.node_state.specs.Works.{work_of}
 use Rattle.node_ways.specs.Ways.{has_table}

@@ -9,8 +9,8 @@ use Rattle.node_rules.specs.Inputs.{IsSession}
 use Rattle.node_rules.specs.Sessions.{session_at}
 use Rattle.node_rules.specs.Calls.{next_child}
 use Rattle.node_rules.specs.Client.{new_root}
-use Rattle.ready_laws.specs.Shapes.{count_limit}
-use Rattle.ready_laws.specs.Ready.{IsReady, IsWithin}
+use Rattle.node_ready_laws.specs.Shapes.{count_limit}
+use Rattle.node_ready_laws.specs.Ready.{IsReady, IsWithin}
 use Rattle.node_memory.specs.declared.memory.Memory.{Memory}
 use Rattle.node_memory.specs.Parts.{kept_in}
 use Rattle.node_calls.specs.Handled.{HasFewWith, HasNumbers, HasRoom, TakesStatement}

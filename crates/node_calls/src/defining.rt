@@ -4,8 +4,8 @@ ghost use Rattle.dtx_values.specs.declared.answer.Answer.TheVariants.{Refused};
 ghost use Rattle.sql_check.specs.Refusals.{ora};
 ghost use Rattle.node_rules.specs.Kept.{Kept};
 ghost use Rattle.node_rules.specs.Client.{writes as writes_of, refuses as refuses_of, create_table as create_table_of, create_link as create_link_of, create_synonym as create_synonym_of, set_recovery as set_recovery_of};
-ghost use Rattle.ready_laws.specs.Rows.{HasRows};
-ghost use Rattle.ready_laws.specs.Following.{MayFollow};
+ghost use Rattle.node_ready_laws.specs.Rows.{HasRows};
+ghost use Rattle.node_ready_laws.specs.Following.{MayFollow};
 ghost use Rattle.node_deeds.specs.Gives.{Gives};
 ghost use Rattle.node_memory.specs.Parts.{kept_in, stored_in};
 

@@ -5,7 +5,7 @@ ghost use Rattle.node_rules.specs.Data.kinds;
 ghost use Rattle.node_rules.specs.Data.records;
 ghost use Rattle.node_rules.specs.Sessions.{commit_answer as commit_answer_of, commit_complete as commit_complete_of};
 ghost use Rattle.node_memory.specs.Parts.{stored_in, kept_in};
-ghost use Rattle.ready_laws.specs.Following.{MayFollow};
+ghost use Rattle.node_ready_laws.specs.Following.{MayFollow};
 ghost use Rattle.node_deeds.specs.Gives.{Gives};
 ghost use Rattle.node_commit.specs.Branches.{at_kept, learned as learned_of, with_wrote};
 

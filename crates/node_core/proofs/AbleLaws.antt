@@ -13,10 +13,10 @@ use Rattle.node_rules.specs.Sessions.{session_at}
 use Rattle.node_rules.specs.Calls.{next_child}
 use Rattle.node_rules.specs.Client.{new_root}
 use Rattle.node_rules.specs.Turn.{clock_raised_by, turn_of}
-use Rattle.ready_laws.specs.Shapes.{count_limit}
-use Rattle.ready_laws.specs.Ids.{LivesAreFree}
-use Rattle.ready_laws.specs.Ready.{IsReady, TurnsStayReady}
-use Rattle.ready_laws.specs.Sound.{IsNext}
+use Rattle.node_ready_laws.specs.Shapes.{count_limit}
+use Rattle.node_ready_laws.specs.Ids.{LivesAreFree}
+use Rattle.node_ready_laws.specs.Ready.{IsReady, TurnsStayReady}
+use Rattle.node_ready_laws.specs.Sound.{IsNext}
 use Rattle.node_memory.specs.declared.memory.Memory.{Memory}
 use Rattle.node_memory.specs.Parts.{stored_in, kept_in}
 use Rattle.node_commit.specs.Branches.{MayCommit, MayCommitWhereLive}

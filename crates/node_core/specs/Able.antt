@@ -9,7 +9,7 @@ use Rattle.node_rules.specs.Data.phases
 use Rattle.node_rules.specs.Kept.{Kept}
 use Rattle.node_rules.specs.Client.{root_at}
 use Rattle.node_rules.specs.Turn.{kind_scn}
-use Rattle.ready_laws.specs.Ready.{IsReady, IsExpected}
+use Rattle.node_ready_laws.specs.Ready.{IsReady, IsExpected}
 
 -- the greatest session, transaction and call number that a node may have given out: 2 ^ 32 - 66
 abbrev pub given_limit : ℕ

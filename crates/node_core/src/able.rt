@@ -8,7 +8,7 @@ ghost use Rattle.node_rules.specs.Inputs.{IsSession};
 ghost use Rattle.node_rules.specs.Sessions.{session_at};
 ghost use Rattle.node_rules.specs.Calls.{next_child};
 ghost use Rattle.node_rules.specs.Client.{new_root};
-ghost use Rattle.ready_laws.specs.Shapes.{count_limit};
+ghost use Rattle.node_ready_laws.specs.Shapes.{count_limit};
 ghost use Rattle.node_memory.specs.Parts.{kept_in};
 ghost use Rattle.node_commit.specs.Branches.{MayCommitWhereLive};
 ghost use Rattle.node_calls.specs.Handled.{HasFewWith, HasNumbers, HasRoom, TakesStatement};
@@ -16,7 +16,7 @@ ghost use Rattle.node_core.specs.Able.{IsAble};
 
 use node_calls::ready_nodes_take_calls;
 use node_memory::Memory;
-use ready_laws::ids_stay_apart;
+use node_ready_laws::ids_stay_apart;
 use tran_ids::BranchId;
 
 /// A branch may become sealed or decide, where it is live.

@@ -2,7 +2,7 @@
 ghost use Rattle.std.specs.Prelude.{◌≡◌, ◌≤◌, IfOk};
 ghost use Rattle.node_rules.specs.Calls.{on_open as on_open_of};
 ghost use Rattle.node_rules.specs.Turn.{stand_of, exec_turn as exec_turn_of, opened_turn as opened_turn_of, reply_turn as reply_turn_of, prepare_turn as prepare_turn_of, answer_turn as answer_turn_of, commit_point_turn as commit_point_turn_of, kind_turn as kind_turn_of};
-ghost use Rattle.ready_laws.specs.Shapes.{count_limit, TellsFew};
+ghost use Rattle.node_ready_laws.specs.Shapes.{count_limit, TellsFew};
 ghost use Rattle.node_memory.specs.Parts.{kept_in};
 ghost use Rattle.node_deeds.specs.Gives.{Gives};
 ghost use Rattle.node_core.specs.Able.{IsAble};

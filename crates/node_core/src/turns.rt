@@ -1,8 +1,8 @@
 //! One turn.
 ghost use Rattle.std.specs.Prelude.{◌≡◌, IfOk, IfSome, OnOk};
 ghost use Rattle.node_rules.specs.Turn.{kind_scn as kind_scn_of, clock_raised_by, heard, deed_at, turn_of};
-ghost use Rattle.ready_laws.specs.Ready.{IsReady};
-ghost use Rattle.ready_laws.specs.Sound.{IsNext};
+ghost use Rattle.node_ready_laws.specs.Ready.{IsReady};
+ghost use Rattle.node_ready_laws.specs.Sound.{IsNext};
 ghost use Rattle.wire_msg.specs.declared.input.Input.TheVariants as inputs;
 ghost use Rattle.node_memory.specs.Parts.{stored_in, kept_in};
 ghost use Rattle.node_deeds.specs.Gives.{Gives};
@@ -19,7 +19,7 @@ use crate::recovery::recovery;
 use crate::served::stamped;
 use node_deeds::Deed;
 use node_memory::Memory;
-use ready_laws::turns_stay_ready;
+use node_ready_laws::turns_stay_ready;
 use std::alloc::{AllocError, Global};
 use wire_msg::{Input, Kind, Msg};
 

@@ -10,9 +10,9 @@ use Rattle.node_rules.specs.Data.records
 use Rattle.node_rules.specs.Kept.{Kept}
 use Rattle.node_rules.specs.Records.{stored_by}
 use Rattle.node_rules.specs.Turn.{start_of, made}
-use Rattle.ready_laws.specs.Following.{MayAllFollow}
-use Rattle.ready_laws.specs.Sound.{AreSound}
-use Rattle.ready_laws.specs.Ready.{IsReady, StartsAreReady}
+use Rattle.node_ready_laws.specs.Following.{MayAllFollow}
+use Rattle.node_ready_laws.specs.Sound.{AreSound}
+use Rattle.node_ready_laws.specs.Ready.{IsReady, StartsAreReady}
 use Rattle.node_memory.specs.declared.memory.Memory.{Memory}
 use Rattle.node_memory.specs.Parts.{stored_in, kept_in}
 use Rattle.node_disk.specs.Starts.{MayBeHad, last_boot, next_boot, MayBeMade}

@@ -9,8 +9,8 @@ use Rattle.node_rules.specs.Kept.{Kept}
 use Rattle.node_rules.specs.Turn.{kind_scn}
 use Rattle.node_core.specs.Able.{BringsScns}
 use Rattle.node_disk.specs.Spellable.{AnswerMayBeMailed, KindMayBeMailed, MayBeMailed}
-use Rattle.fit_laws.specs.Bytes.{AnswerHasBytes, HasBytes}
-use Rattle.fit_laws.specs.Written.{HasRoomForScn}
+use Rattle.node_spell_laws.specs.Bytes.{AnswerHasBytes, HasBytes}
+use Rattle.node_spell_laws.specs.Written.{HasRoomForScn}
 
 -- ---- messages
 

@@ -13,9 +13,9 @@ use Rattle.node_rules.specs.Data.records
 use Rattle.node_rules.specs.Kept.{Stored, Kept}
 use Rattle.node_rules.specs.Records.{nothing_stored, applied, stored_by, with_record}
 use Rattle.node_rules.specs.Turn.{start_of, kept_by}
-use Rattle.ready_laws.specs.Following.{MayFollow}
-use Rattle.ready_laws.specs.Sound.{IsNext}
-use Rattle.ready_laws.specs.Ready.{IsReady, StartsAreReady}
+use Rattle.node_ready_laws.specs.Following.{MayFollow}
+use Rattle.node_ready_laws.specs.Sound.{IsNext}
+use Rattle.node_ready_laws.specs.Ready.{IsReady, StartsAreReady}
 use Rattle.node_memory.specs.declared.memory.Memory.{Memory}
 use Rattle.node_memory.specs.Parts.{stored_in, kept_in}
 use Rattle.node_disk.specs.Starts.{MayBeHad, IsStartable, CanBeStarted, IsButForAcks, StartIsLeft, last_boot, next_boot}

@@ -15,7 +15,7 @@ use Rattle.node_rules.specs.Turn.{heard, deed_of, turn_of}
 use Rattle.node_rules.proofs.Steps as steps
 use Rattle.node_rules.proofs.Steps.{Step}
 use Rattle.node_rules.proofs.TurnLemmas.{step_of}
-use Rattle.ready_laws.specs.Sound.{with_rows}
+use Rattle.node_ready_laws.specs.Sound.{with_rows}
 use Rattle.node_disk.specs.Starts.{IsButForAcks, stored_next}
 use Rattle.node_disk.specs.Laws.{TurnsStoreTheirRecords}
 

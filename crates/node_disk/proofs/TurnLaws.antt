@@ -4,7 +4,7 @@ use Rattle.std.proofs.Common.{◌≡◌, ℕ, List, [], ◌∷◌, ◌++◌, map
 use Rattle.std.specs.Prelude.{◌↔◌, IfSome, OnOk, Result, Ok, Err}
 use Rattle.std.specs.List.{AllByRecursion}
 use Rattle.block_disk.specs.Images.{AtEachMoment, IsOnly, AddsNone}
-use Rattle.fit_laws.specs.Record.{RecordHasBytes}
+use Rattle.node_spell_laws.specs.Record.{RecordHasBytes}
 use Rattle.record_log.specs.Held.{HoldRecords}
 use Rattle.record_log.specs.Log.{disk_of, IsIntact, IsUsable}
 use Rattle.record_log.specs.declared.log.RecordLog.{RecordLog}
@@ -12,8 +12,8 @@ use Rattle.node_rules.specs.Data.{RedoRecord, Place, Input, Msg}
 use Rattle.node_rules.specs.Kept.{Stored, Kept, Outcome}
 use Rattle.node_rules.specs.Records.{nothing_stored, applied, stored_by}
 use Rattle.node_rules.specs.Turn.{turn_of}
-use Rattle.ready_laws.specs.Following.{MayFollow, MayAllFollow}
-use Rattle.ready_laws.specs.Sound.{IsSound, AreSound, IsNext, with_rows, RowsDoNotMatter}
+use Rattle.node_ready_laws.specs.Following.{MayFollow, MayAllFollow}
+use Rattle.node_ready_laws.specs.Sound.{IsSound, AreSound, IsNext, with_rows, RowsDoNotMatter}
 use Rattle.node_memory.specs.declared.memory.Memory.{Memory}
 use Rattle.node_memory.specs.Parts.{stored_in, kept_in}
 use Rattle.node_core.specs.declared.served.Served.{Served}

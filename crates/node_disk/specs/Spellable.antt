@@ -6,7 +6,7 @@ use Rattle.std.specs.Str.{is_utf8}
 use Rattle.dtx_values.specs.declared.answer.Answer.{Answer}
 use Rattle.dtx_values.specs.declared.answer.Answer.TheVariants as answers
 use Rattle.field_codec.specs.Text.{comment_format}
-use Rattle.fit_laws.specs.Record.{RecordHasBytes}
+use Rattle.node_spell_laws.specs.Record.{RecordHasBytes}
 use Rattle.sql_print.specs.Printing.{IsPrintable}
 use Rattle.msg_codec.specs.Fits.{is_change}
 use Rattle.node_rules.specs.Data.{Kind, Msg}

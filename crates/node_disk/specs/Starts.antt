@@ -9,8 +9,8 @@ use Rattle.node_rules.specs.Data.{RedoRecord}
 use Rattle.node_rules.specs.Data.records
 use Rattle.node_rules.specs.Kept.{Stored}
 use Rattle.node_rules.specs.Records.{nothing_stored, applied, stored_by}
-use Rattle.ready_laws.specs.Following.{MayAllFollow}
-use Rattle.ready_laws.specs.Sound.{AreSound, with_rows}
+use Rattle.node_ready_laws.specs.Following.{MayAllFollow}
+use Rattle.node_ready_laws.specs.Sound.{AreSound, with_rows}
 
 -- Records that a node may have: each may stand next behind those before it, and is sound.
 pub record MayBeHad (rs : List RedoRecord) : Type 0 where

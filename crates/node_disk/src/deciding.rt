@@ -1,15 +1,15 @@
 //! What a turn does in memory, before its record is written.
 ghost use Rattle.std.specs.Prelude.{◌≡◌, map, option_map, IfOk, IfSome, OnOk};
 ghost use Rattle.std.specs.List.{AllByRecursion};
-ghost use Rattle.fit_laws.specs.Record.{RecordHasBytes};
+ghost use Rattle.node_spell_laws.specs.Record.{RecordHasBytes};
 ghost use Rattle.wire_msg.specs.declared.input.Input.{Input as InputBy};
 ghost use Rattle.node_rules.specs.Data.{Place};
 ghost use Rattle.node_rules.specs.Inputs.{IsFit};
 ghost use Rattle.node_rules.specs.Kept.{Kept};
 ghost use Rattle.node_rules.specs.Turn.{turn_of};
 ghost use Rattle.node_rules.specs.Points.{passes as passes_of};
-ghost use Rattle.ready_laws.specs.Ready.{IsReady};
-ghost use Rattle.ready_laws.specs.Sound.{IsNext};
+ghost use Rattle.node_ready_laws.specs.Ready.{IsReady};
+ghost use Rattle.node_ready_laws.specs.Sound.{IsNext};
 ghost use Rattle.node_points.specs.Passing.{passes_as, concerned, Foresees};
 ghost use Rattle.node_memory.specs.Parts.{stored_in, kept_in};
 ghost use Rattle.node_core.specs.Able.{MayTake};

@@ -8,7 +8,7 @@ ghost use Rattle.redo_record.specs.declared.record.RedoRecord.{RedoRecord};
 ghost use Rattle.wire_msg.specs.declared.input.Input.{Input};
 ghost use Rattle.record_log.specs.Held.{HoldRecords};
 ghost use Rattle.node_rules.specs.Sessions.{session_at};
-ghost use Rattle.ready_laws.specs.Ready.{IsReady};
+ghost use Rattle.node_ready_laws.specs.Ready.{IsReady};
 ghost use Rattle.node_core.specs.Able.{MayTake};
 ghost use Rattle.node_disk.specs.declared.err.TurnErr.TheVariants as turns;
 ghost use Rattle.node_disk.specs.Incoming.{IsReadAs};

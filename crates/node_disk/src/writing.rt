@@ -6,12 +6,12 @@ ghost use Rattle.redo_log.specs.Loads.{IsAppendCount};
 ghost use Rattle.redo_log.specs.Plans.{CallsGoByPlan, append_calls};
 ghost use Rattle.redo_log.specs.Log.{count_after};
 ghost use Rattle.redo_record.specs.declared.record.RedoRecord.{RedoRecord as RedoRecordBy};
-ghost use Rattle.fit_laws.specs.Record.{RecordHasBytes};
+ghost use Rattle.node_spell_laws.specs.Record.{RecordHasBytes};
 ghost use Rattle.record_log.specs.Held.{HoldRecords};
 ghost use Rattle.record_log.specs.Log.{disk_of, IsIntact, IsUsable};
 ghost use Rattle.record_log.specs.declared.err.AppendErr.TheVariants as appends;
 ghost use Rattle.node_rules.specs.Kept.{Stored};
-ghost use Rattle.ready_laws.specs.Sound.{IsNext};
+ghost use Rattle.node_ready_laws.specs.Sound.{IsNext};
 ghost use Rattle.node_disk.specs.declared.err.CutAt.TheVariants as cuts;
 ghost use Rattle.node_disk.specs.declared.err.TurnErr.TheVariants as turns;
 ghost use Rattle.node_disk.specs.declared.err.Unwritten.TheVariants as unwritten;
@@ -23,9 +23,9 @@ ghost use Rattle.node_disk.specs.OnDisk.{StandsOn, HoldsNext, MayStand, turn_cal
 use crate::effects::Effects;
 use crate::err::{CutAt, CutTurn, TurnErr, Unwritten};
 use block_disk::Disk;
-use fit_laws::{has_few, record_fits};
+use node_spell_laws::{has_few, record_fits};
 use node_points::{Passes, Point, Side, reaches};
-use ready_laws::records_follow;
+use node_ready_laws::records_follow;
 use record_log::{AppendErr, RecordLog};
 use redo_record::RedoRecord;
 

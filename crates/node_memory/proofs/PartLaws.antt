@@ -8,7 +8,7 @@ use Rattle.node_rules.specs.Data.records
 use Rattle.node_rules.specs.Data.params
 use Rattle.redo_record.specs.Durable.{durable_after}
 use Rattle.redo_record.specs.Kept.{kept_after}
-use Rattle.ready_laws.specs.Following.{listed_in}
+use Rattle.node_ready_laws.specs.Following.{listed_in}
 use Rattle.node_rules.specs.Kept.{Kept}
 use Rattle.node_memory.specs.After.{boot_after, strength_after, catalog_after, store_after, with_stored}
 use Rattle.node_rules.specs.Records.{held_back as held_back_of, applied, scn_after}

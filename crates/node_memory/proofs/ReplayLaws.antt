@@ -4,7 +4,7 @@ use Rattle.std.proofs.lemmas.List.{take_more}
 use Rattle.node_rules.specs.Data.{RedoRecord}
 use Rattle.node_rules.specs.Kept.{Stored}
 use Rattle.node_rules.specs.Records.{applied, stored_by}
-use Rattle.ready_laws.specs.Following.{MayFollow, MayAllFollow}
+use Rattle.node_ready_laws.specs.Following.{MayFollow, MayAllFollow}
 
 pub stored_none : (s : Stored) → stored_by s [] ≡ s
 unfolding stored_by

@@ -4,7 +4,7 @@ ghost use Rattle.catalog.specs.Catalog.{is_used, is_link_used, with_table, with_
 ghost use Rattle.node_rules.specs.Records.{raised_by, forced_scn, scn_after, take_changed, with_doubt, locks_after};
 ghost use Rattle.redo_record.specs.declared.record.RedoRecord.TheVariants as records;
 ghost use Rattle.node_memory.specs.After.{boot_after, strength_set, strength_after, catalog_set, catalog_after, store_after};
-ghost use Rattle.ready_laws.specs.Following.{MayBeListed, MayBeStored};
+ghost use Rattle.node_ready_laws.specs.Following.{MayBeListed, MayBeStored};
 
 use catalog::{CatErr, Catalog};
 use dtx_values::{Change, Duplicate, Link, Synonym, Table};

@@ -3,7 +3,7 @@ ghost use Rattle.std.specs.Prelude.{◌≡◌, OnOk};
 ghost use Rattle.node_rules.specs.Records.{applied, with_record};
 ghost use Rattle.node_memory.specs.Parts.{stored_in, kept_in};
 ghost use Rattle.node_memory.specs.After.{with_stored};
-ghost use Rattle.ready_laws.specs.Following.{MayFollow};
+ghost use Rattle.node_ready_laws.specs.Following.{MayFollow};
 
 use crate::Memory;
 use crate::parts::{

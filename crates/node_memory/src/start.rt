@@ -4,7 +4,7 @@ ghost use Rattle.node_rules.specs.Records.{nothing_stored, stored_by};
 ghost use Rattle.node_rules.specs.Turn.{kept_by, start_of};
 ghost use Rattle.node_memory.specs.Parts.{stored_in, kept_in};
 ghost use Rattle.node_memory.specs.After.{with_stored};
-ghost use Rattle.ready_laws.specs.Following.{MayAllFollow};
+ghost use Rattle.node_ready_laws.specs.Following.{MayAllFollow};
 
 use crate::Memory;
 use crate::doubts::{hold_all, in_doubt};

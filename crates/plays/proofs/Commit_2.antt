@@ -1,11 +1,11 @@
 -- Plays of the topic commit.
 use Rattle.std.proofs.Common.{◌≡◌, List, [], ◌∷◌, ◌++◌, codes, refl}
-use Rattle.run_laws.specs.Report.{report}
+use Rattle.run_rules.specs.Report.{report}
 use Rattle.book.specs.Texts.{book_lines}
 use Rattle.node_rules.specs.Data.stmts
-use Rattle.run_laws.specs.Data.{Command}
-use Rattle.run_laws.specs.Data.kind_names
-use Rattle.run_laws.specs.Data.commands
+use Rattle.run_rules.specs.Data.{Command}
+use Rattle.run_rules.specs.Data.kind_names
+use Rattle.run_rules.specs.Data.commands
 use Rattle.plays.proofs.Script.{number_key, table, link, here, over, num, text, literal, minus, set, equal, insert, rows, commit, node, at, hold, pump_all, played, told, booked}
 use Rattle.plays.proofs.Playing.{playing}
 use Rattle.plays.proofs.Commit_shared.{names_2, places_2, places_4, places_6, opening_1, opening_1_lines, opening_2, opening_2_lines}

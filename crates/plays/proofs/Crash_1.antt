@@ -1,7 +1,7 @@
 -- Plays of the topic crash.
 use Rattle.std.proofs.Common.{◌≡◌, [], ◌∷◌, ◌++◌, codes, refl}
-use Rattle.run_laws.specs.Report.{report}
-use Rattle.run_laws.specs.Data.commands
+use Rattle.run_rules.specs.Report.{report}
+use Rattle.run_rules.specs.Data.commands
 use Rattle.plays.proofs.Script.{commit, at, crash_keep, crash_leave, played, told}
 use Rattle.plays.proofs.Playing.{playing}
 use Rattle.plays.proofs.Crash_shared.{places_1, opening_1, opening_1_lines, ending_1, ending_1_lines_1, ending_1_lines_2}

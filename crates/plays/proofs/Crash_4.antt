@@ -1,7 +1,7 @@
 -- Plays of the topic crash.
 use Rattle.std.proofs.Common.{◌≡◌, [], ◌∷◌, ◌++◌, codes, refl}
-use Rattle.run_laws.specs.Report.{report}
-use Rattle.run_laws.specs.Data.commands
+use Rattle.run_rules.specs.Report.{report}
+use Rattle.run_rules.specs.Data.commands
 use Rattle.plays.proofs.Script.{number_column, number_key, table, link, here, over, num, equal, insert, rows, commit, node, at, crash_keep, crash_leave, hold, played, told}
 use Rattle.plays.proofs.Playing.{playing}
 use Rattle.plays.proofs.Crash_shared.{places_1, places_2, places_3, opening_1, opening_1_lines, ending_1, ending_1_lines_2}

@@ -2,8 +2,8 @@
 use Rattle.std.proofs.Common.{ℕ, List, [], ◌∷◌, codes}
 use Rattle.node_rules.specs.Data.{Place}
 use Rattle.node_rules.specs.Data.stmts
-use Rattle.run_laws.specs.Data.{Command}
-use Rattle.run_laws.specs.Data.commands
+use Rattle.run_rules.specs.Data.{Command}
+use Rattle.run_rules.specs.Data.commands
 use Rattle.plays.proofs.Script.{place, number_column, number_key, text_key, table, link, here, over, num, text, minus, set, equal, insert, rows, commit, node, at}
 
 abbrev pub names_1 : List (List ℕ)

@@ -1,10 +1,10 @@
 -- Plays of the topic forced.
 use Rattle.std.proofs.Common.{◌≡◌, [], ◌∷◌, ◌++◌, Some, None, codes, refl}
-use Rattle.run_laws.specs.Report.{report}
+use Rattle.run_rules.specs.Report.{report}
 use Rattle.node_rules.specs.Data.stmts
 use Rattle.node_rules.specs.Data.advices
-use Rattle.run_laws.specs.Data.kind_names
-use Rattle.run_laws.specs.Data.commands
+use Rattle.run_rules.specs.Data.kind_names
+use Rattle.run_rules.specs.Data.commands
 use Rattle.plays.proofs.Script.{link, here, over, num, text, literal, minus, set, equal, insert, rows, commit, commit_comment, at, played, told}
 use Rattle.plays.proofs.Playing.{playing}
 use Rattle.plays.proofs.Forced_shared.{places_1, places_2, opening_1, opening_1_lines, opening_2, opening_2_lines}

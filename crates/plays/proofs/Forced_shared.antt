@@ -1,9 +1,9 @@
 -- What plays of the topic forced share.
 use Rattle.std.proofs.Common.{ℕ, List, [], ◌∷◌, codes}
 use Rattle.node_rules.specs.Data.{Place}
-use Rattle.run_laws.specs.Data.{Command}
-use Rattle.run_laws.specs.Data.kind_names
-use Rattle.run_laws.specs.Data.commands
+use Rattle.run_rules.specs.Data.{Command}
+use Rattle.run_rules.specs.Data.kind_names
+use Rattle.run_rules.specs.Data.commands
 use Rattle.plays.proofs.Script.{place, number_column, number_key, text_key, table, link, synonym, here, over, num, text, insert, commit, node, at}
 
 abbrev pub names_1 : List (List ℕ)

@@ -1,11 +1,11 @@
 -- Plays of the topic in doubt.
 use Rattle.std.proofs.Common.{◌≡◌, ℕ, List, [], ◌∷◌, ◌++◌, codes, refl}
-use Rattle.run_laws.specs.Report.{report}
+use Rattle.run_rules.specs.Report.{report}
 use Rattle.node_rules.specs.Data.{Place}
 use Rattle.node_rules.specs.Data.stmts
-use Rattle.run_laws.specs.Data.{Command}
-use Rattle.run_laws.specs.Data.kind_names
-use Rattle.run_laws.specs.Data.commands
+use Rattle.run_rules.specs.Data.{Command}
+use Rattle.run_rules.specs.Data.kind_names
+use Rattle.run_rules.specs.Data.commands
 use Rattle.plays.proofs.Script.{place, place_within, number_column, number_key, text_column, text_key, table, link, here, over, num, text, literal, minus, set, equal, insert, rows, commit, node, at, hold, let_go, pump, pump_all, played, told}
 use Rattle.plays.proofs.Playing.{playing}
 

@@ -1,9 +1,9 @@
 -- Plays of the topic links.
 use Rattle.std.proofs.Common.{◌≡◌, [], ◌∷◌, ◌++◌, codes, refl}
-use Rattle.run_laws.specs.Report.{report}
+use Rattle.run_rules.specs.Report.{report}
 use Rattle.node_rules.specs.Data.stmts
-use Rattle.run_laws.specs.Data.kind_names
-use Rattle.run_laws.specs.Data.commands
+use Rattle.run_rules.specs.Data.kind_names
+use Rattle.run_rules.specs.Data.commands
 use Rattle.plays.proofs.Script.{number_column, number_key, table, link, here, over, num, text, literal, minus, set, equal, insert, rows, count, commit, node, at, hold, let_go, pump, pump_all, played, told}
 use Rattle.plays.proofs.Playing.{playing}
 use Rattle.plays.proofs.Links_shared.{places_1, places_2, places_3, opening_1, opening_1_lines, opening_2, opening_2_lines, opening_3, opening_3_lines}

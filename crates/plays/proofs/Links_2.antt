@@ -1,8 +1,8 @@
 -- Plays of the topic links.
 use Rattle.std.proofs.Common.{◌≡◌, [], ◌∷◌, codes, refl}
-use Rattle.run_laws.specs.Report.{report}
+use Rattle.run_rules.specs.Report.{report}
 use Rattle.node_rules.specs.Data.stmts
-use Rattle.run_laws.specs.Data.commands
+use Rattle.run_rules.specs.Data.commands
 use Rattle.plays.proofs.Script.{number_column, number_key, table, link, synonym, over, num, minus, set, insert, rows, commit, node, at, hold, let_go, pump, pump_all, played, told}
 use Rattle.plays.proofs.Playing.{playing}
 use Rattle.plays.proofs.Links_shared.{places_4, places_5}

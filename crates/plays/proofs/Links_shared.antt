@@ -1,7 +1,7 @@
 -- What plays of the topic links share.
 use Rattle.std.proofs.Common.{ℕ, List, [], ◌∷◌, codes}
 use Rattle.node_rules.specs.Data.{Place}
-use Rattle.run_laws.specs.Data.{Command}
+use Rattle.run_rules.specs.Data.{Command}
 use Rattle.plays.proofs.Script.{place, place_within, number_column, number_key, text_key, table, link, here, over, num, text, insert, commit, node, at, hold}
 
 abbrev pub names_1 : List (List ℕ)

@@ -1,8 +1,8 @@
 -- Plays of the topic one node.
 use Rattle.std.proofs.Common.{◌≡◌, ℕ, List, [], ◌∷◌, codes, refl}
-use Rattle.run_laws.specs.Report.{report}
+use Rattle.run_rules.specs.Report.{report}
 use Rattle.node_rules.specs.Data.{Place}
-use Rattle.run_laws.specs.Data.commands
+use Rattle.run_rules.specs.Data.commands
 use Rattle.plays.proofs.Script.{place, number_column, number_key, table, here, num, equal, insert, rows, commit, node, at, played, told}
 use Rattle.plays.proofs.Playing.{playing}
 

@@ -1,9 +1,9 @@
 -- Plays of the topic recovery.
 use Rattle.std.proofs.Common.{◌≡◌, ℕ, true, false, List, [], ◌∷◌, codes, refl}
-use Rattle.run_laws.specs.Report.{report}
+use Rattle.run_rules.specs.Report.{report}
 use Rattle.node_rules.specs.Data.{Place}
 use Rattle.node_rules.specs.Data.stmts
-use Rattle.run_laws.specs.Data.commands
+use Rattle.run_rules.specs.Data.commands
 use Rattle.plays.proofs.Script.{place, node, at, played, told}
 use Rattle.plays.proofs.Playing.{playing}
 

@@ -7,12 +7,12 @@ use Rattle.node_rules.specs.Data.signs
 use Rattle.node_rules.specs.Data.conds
 use Rattle.node_rules.specs.Data.picks
 use Rattle.node_rules.specs.Data.stmts
-use Rattle.run_laws.specs.Data.{AnswerLine, Command, Entry}
-use Rattle.run_laws.specs.Data.hows
-use Rattle.run_laws.specs.Data.commands
-use Rattle.run_laws.specs.Telling.{Past, start}
-use Rattle.run_laws.specs.Lines.{told as told_of}
-use Rattle.run_laws.specs.Due.{runs_on}
+use Rattle.run_rules.specs.Data.{AnswerLine, Command, Entry}
+use Rattle.run_rules.specs.Data.hows
+use Rattle.run_rules.specs.Data.commands
+use Rattle.run_rules.specs.Telling.{Past, start}
+use Rattle.run_rules.specs.Lines.{told as told_of}
+use Rattle.run_rules.specs.Due.{runs_on}
 
 -- a node's place, with as many links and extents of undo as a node has where its command says nothing
 abbrev pub place : List (List ℕ) → ℕ → ℕ → Place

@@ -12,11 +12,11 @@ use Rattle.node_rules.specs.Data.towards
 use Rattle.node_rules.specs.Refusals.{dtx}
 use Rattle.node_rules.specs.Kept.{Kept, Outcome}
 use Rattle.node_rules.specs.Turn.{turn_of, start_of}
-use Rattle.run_laws.specs.Data.{Command, Happening}
-use Rattle.run_laws.specs.Data.commands
-use Rattle.run_laws.specs.Data.happenings
-use Rattle.run_laws.specs.Telling.{start}
-use Rattle.run_laws.specs.Due.{happened}
+use Rattle.run_rules.specs.Data.{Command, Happening}
+use Rattle.run_rules.specs.Data.commands
+use Rattle.run_rules.specs.Data.happenings
+use Rattle.run_rules.specs.Telling.{start}
+use Rattle.run_rules.specs.Due.{happened}
 use Rattle.plays.proofs.Script.{place, number_column, number_key, link, here, over, num, rows, node, at, hold}
 use Rattle.plays.proofs.Playing.{playing}
 use Rattle.plays.proofs.Commit_shared.{places_2}

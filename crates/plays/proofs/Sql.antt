@@ -1,12 +1,12 @@
 -- Plays of the topic sql.
 use Rattle.std.proofs.Common.{◌≡◌, ℕ, true, false, List, [], ◌∷◌, Some, None, codes, refl}
-use Rattle.run_laws.specs.Report.{report}
+use Rattle.run_rules.specs.Report.{report}
 use Rattle.node_rules.specs.Data.{Place}
 use Rattle.node_rules.specs.Data.values
 use Rattle.node_rules.specs.Data.terms
 use Rattle.node_rules.specs.Data.picks
 use Rattle.node_rules.specs.Data.stmts
-use Rattle.run_laws.specs.Data.commands
+use Rattle.run_rules.specs.Data.commands
 use Rattle.plays.proofs.Script.{place, place_within, column, number_key, text_column, table, here, num, text, repeated, literal, step, sum, set, equal, insert, rows, commit, node, at, no_statement, played, told}
 use Rattle.plays.proofs.Playing.{playing}
 

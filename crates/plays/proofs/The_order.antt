@@ -6,18 +6,18 @@ use Rattle.node_rules.specs.Data.{BranchId, Keyed, Value}
 use Rattle.node_rules.specs.Data.stmts
 use Rattle.node_rules.specs.Data.decisions
 use Rattle.node_rules.specs.Meaning.{Meant, Gives, meant}
-use Rattle.run_laws.specs.Data.{Command, Happening}
-use Rattle.run_laws.specs.Data.kind_names
-use Rattle.run_laws.specs.Data.commands
-use Rattle.run_laws.specs.Data.happenings
-use Rattle.run_laws.specs.Facts.{Facts, first_facts, facts_of}
-use Rattle.run_laws.specs.Telling.{start}
-use Rattle.run_laws.specs.Due.{Delivers, happened, comes_next, due_of}
-use Rattle.run_laws.specs.Branches.{Sealed, Decided, Kept, Gone, Trail, no_trail, exit_at, life_at, own_at, plan_at}
-use Rattle.run_laws.specs.Tree.{site, tree, weight, step, walk, plan}
-use Rattle.run_laws.specs.Trail.{trail_after, trail_of, with_begun}
-use Rattle.run_laws.specs.Runs.{meaning, run_in, view_by}
-use Rattle.run_laws.specs.Book.{rows_of, rows_told, in_doubt, decided, Agreement, MixedIsMarked}
+use Rattle.run_rules.specs.Data.{Command, Happening}
+use Rattle.run_rules.specs.Data.kind_names
+use Rattle.run_rules.specs.Data.commands
+use Rattle.run_rules.specs.Data.happenings
+use Rattle.run_rules.specs.Facts.{Facts, first_facts, facts_of}
+use Rattle.run_rules.specs.Telling.{start}
+use Rattle.run_rules.specs.Due.{Delivers, happened, comes_next, due_of}
+use Rattle.run_rules.specs.Branches.{Sealed, Decided, Kept, Gone, Trail, no_trail, exit_at, life_at, own_at, plan_at}
+use Rattle.run_rules.specs.Tree.{site, tree, weight, step, walk, plan}
+use Rattle.run_rules.specs.Trail.{trail_after, trail_of, with_begun}
+use Rattle.run_rules.specs.Runs.{meaning, run_in, view_by}
+use Rattle.run_rules.specs.Book.{rows_of, rows_told, in_doubt, decided, Agreement, MixedIsMarked}
 use Rattle.plays.proofs.Script.{over, here, num, text, minus, set, equal, insert, rows, commit, at, played}
 use Rattle.plays.proofs.Playing.{playing}
 use Rattle.plays.proofs.Commit_shared.{places_2, opening_1}

@@ -1,8 +1,8 @@
 -- Plays of the topic trees.
 use Rattle.std.proofs.Common.{◌≡◌, ℕ, List, [], ◌∷◌, ◌++◌, codes, refl}
-use Rattle.run_laws.specs.Report.{report}
+use Rattle.run_rules.specs.Report.{report}
 use Rattle.node_rules.specs.Data.{Place}
-use Rattle.run_laws.specs.Data.{Command}
+use Rattle.run_rules.specs.Data.{Command}
 use Rattle.plays.proofs.Script.{place, number_key, table, link, synonym, here, num, insert, node, at, played, told}
 use Rattle.plays.proofs.Playing.{playing}
 

@@ -2,7 +2,7 @@
 use Rattle.std.proofs.Common.{◌++◌, [], ◌∷◌, length, take, refl, ap, sym, ◌∙◌, arith, length-append}
 use Rattle.std.proofs.Math.Seq.{take-append_seam, take-length}
 use Rattle.std.proofs.lemmas.List.{take-take}
-use Rattle.run_laws.specs.Data.{Happening}
+use Rattle.run_rules.specs.Data.{Happening}
 use Rattle.run_trace.specs.Recorded.{Extends, RunSoFar}
 
 pub extends_same : (r : RunSoFar) → Extends r r

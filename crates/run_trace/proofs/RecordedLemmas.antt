@@ -3,13 +3,13 @@ use Rattle.std.proofs.Common.{◌≡◌, ◌<◌, ◌≤◌, List, [], ◌∷◌
 use Rattle.std.proofs.lemmas.List.{append-nil}
 use Rattle.std.proofs.lemmas.Grind.{flat_map-append}
 use Rattle.node_rules.specs.Data.{Place}
-use Rattle.run_laws.specs.Data.{Command, Entry, Happening}
-use Rattle.run_laws.specs.Entries.{book_of, entries_in}
-use Rattle.run_laws.specs.Facts.{Facts}
-use Rattle.run_laws.specs.Telling.{Past, start}
-use Rattle.run_laws.specs.Past.{next, past}
-use Rattle.run_laws.specs.Due.{IsTheRun, comes_next}
-use Rattle.run_laws.proofs.FactLemmas.{book_next, facts_next}
+use Rattle.run_rules.specs.Data.{Command, Entry, Happening}
+use Rattle.run_rules.specs.Entries.{book_of, entries_in}
+use Rattle.run_rules.specs.Facts.{Facts}
+use Rattle.run_rules.specs.Telling.{Past, start}
+use Rattle.run_rules.specs.Past.{next, past}
+use Rattle.run_rules.specs.Due.{IsTheRun, comes_next}
+use Rattle.run_rules.proofs.FactLemmas.{book_next, facts_next}
 use Rattle.run_trace.specs.Recorded.{IsRecorded, happening_limit}
 
 module _ (places : List Place) (asked : List Command) where

@@ -1,11 +1,11 @@
 -- A run so far as its trace has it, and what every trace keeps.
 use Rattle.std.specs.Prelude.{◌≡◌, ◌≤◌, ℕ, List, length, take, Some}
 use Rattle.node_rules.specs.Data.{Place}
-use Rattle.run_laws.specs.Data.{Command, Entry, Happening}
-use Rattle.run_laws.specs.Entries.{book_of}
-use Rattle.run_laws.specs.Telling.{Past, start}
-use Rattle.run_laws.specs.Past.{past}
-use Rattle.run_laws.specs.Due.{IsTheRun, comes_next}
+use Rattle.run_rules.specs.Data.{Command, Entry, Happening}
+use Rattle.run_rules.specs.Entries.{book_of}
+use Rattle.run_rules.specs.Telling.{Past, start}
+use Rattle.run_rules.specs.Past.{past}
+use Rattle.run_rules.specs.Due.{IsTheRun, comes_next}
 
 -- The nodes of a run, its script, and what has happened of it.
 pub record RunSoFar : Type 0 where

@@ -1,7 +1,7 @@
 //! The trace of a run, which takes only what is due, and its book.
 ghost use Rattle.std.specs.Prelude.{◌≡◌, ◌<◌, ◌≤◌, ◌∷◌, ◌++◌, [], length, true, IfOk, OnOk, OnErr, vec_len, vec_capacity};
-ghost use Rattle.run_laws.specs.Entries.{entries_in, book_of};
-ghost use Rattle.run_laws.specs.Past.{next};
+ghost use Rattle.run_rules.specs.Entries.{entries_in, book_of};
+ghost use Rattle.run_rules.specs.Past.{next};
 ghost use Rattle.run_trace.specs.Recorded.{Extends, IsNext, IsRunOfScript, happening_limit, past_of};
 
 use book::{Book, Entry, Happening, entries};

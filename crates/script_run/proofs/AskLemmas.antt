@@ -21,7 +21,7 @@ use Rattle.script_read.specs.Forms.{form, lost_form, other_command, view_form}
 use Rattle.script_read.specs.Parts.{pieces_of, said}
 use Rattle.script_read.specs.Sound.{IsInRange, IsOfAScript, IsProper}
 use Rattle.script_read.specs.Spelled.{AreCommands, IsCommand, IsGood, IsScript, SpelledAt}
-use Rattle.byte_laws.specs.ByteRuns.{AsksSpelled}
+use Rattle.run_spell_laws.specs.ByteRuns.{AsksSpelled}
 use Rattle.script_run.proofs.FewLemmas.{some_is}
 
 -- ---- ranges

@@ -6,13 +6,15 @@ use Rattle.book.specs.declared.line.AnswerLine.{AnswerLine}
 use Rattle.redo_record.specs.declared.place.Place.{Place}
 use Rattle.script_read.specs.declared.command.Command.{Command}
 use Rattle.script_read.specs.Sound.{IsOfAScript}
-use Rattle.run_laws.specs.Entries.{book_of}
-use Rattle.run_laws.specs.Telling.{start}
-use Rattle.run_laws.specs.Due.{Due, Ends, IsTheRun, due_of}
-use Rattle.run_laws.specs.Past.{past}
-use Rattle.run_laws.specs.Lawful.{AreOfAScript, History}
-use Rattle.run_laws.specs.Book.{Agreement, MixedIsMarked, ScnLaw}
-use Rattle.run_laws.specs.Headline.{places_of, Ending, All_run, Out_of_memory, IsTold, IsBetween, TheRunIsLawful, EveryBookAgrees, EveryMixedIsMarked, EveryScnIsLater, EverySiteDecides, EveryDecisionCovers, EveryRunIsMeant, EveryAnswerHasItsPlace, EveryTurnKnows}
+use Rattle.run_rules.specs.Entries.{book_of}
+use Rattle.run_rules.specs.Telling.{start}
+use Rattle.run_rules.specs.Due.{Due, Ends, IsTheRun, due_of}
+use Rattle.run_rules.specs.Past.{past}
+use Rattle.run_rules.specs.Lawful.{AreOfAScript, History}
+use Rattle.run_rules.specs.Book.{Agreement, MixedIsMarked, ScnLaw}
+use Rattle.run_claims.specs.Headline.{EveryBookAgrees, EveryMixedIsMarked, EveryScnIsLater, EverySiteDecides, EveryDecisionCovers, EveryRunIsMeant, EveryAnswerHasItsPlace, EveryTurnKnows}
+use Rattle.run_rules.specs.Reported.{Ending, All_run, Out_of_memory, IsTold, IsBetween}
+use Rattle.run_rules.specs.Scripts.{places_of, TheRunIsLawful}
 use Rattle.script_run.specs.declared.outcome.Run.{Run}
 use Rattle.script_run.specs.declared.outcome.Status.{Status}
 use Rattle.script_run.specs.declared.outcome.Status.TheVariants.{Done, BadScript, Usage, NoMemory, ReadFault, WriteFault, TooLong}
@@ -20,8 +22,8 @@ use Rattle.script_run.specs.Headline.{IsRun, history_of, nothing_done}
 use Rattle.script_run.specs.Ending.{IsWhole, ending_of}
 use Rattle.script_run.proofs.ScriptLemmas.{of_a_script}
 use Rattle.world.specs.declared.ran.Ran.{Ran}
-use Rattle.done_laws.specs.ToldDone.{DoneIsTold}
-use Rattle.course_laws.specs.CommitCourse.{QuietCommitsAreComplete}
+use Rattle.run_claims.specs.ToldDone.{DoneIsTold}
+use Rattle.run_claims.specs.CommitCourse.{QuietCommitsAreComplete}
 use Rattle.world.specs.Ran.{IsRan, as_ending}
 
 -- the run that these lists tell

@@ -6,7 +6,7 @@ use Rattle.script_read.specs.declared.command.Command.{Command}
 use Rattle.script_read.specs.declared.command.Command.TheVariants as commands
 use Rattle.script_read.specs.Asked.{names_made}
 use Rattle.script_read.specs.Sound.{names_in}
-use Rattle.run_laws.specs.Headline.{names_asked, places_from}
+use Rattle.run_rules.specs.Scripts.{names_asked, places_from}
 
 -- ---- the names
 

@@ -8,9 +8,9 @@ use Rattle.script_read.specs.declared.command.Command.{Command}
 use Rattle.script_read.specs.declared.command.Command.TheVariants as commands
 use Rattle.script_read.specs.Sound.{IsInRange, IsOfAScript, names_in as names_read}
 use Rattle.script_read.specs.Sound.{IsProper as IsProperRead}
-use Rattle.run_laws.specs.Facts.{names_in}
-use Rattle.run_laws.specs.Lawful.{IsPlace, IsProper, AreOfAScript}
-use Rattle.run_laws.specs.Headline.{names_asked, places_from, places_of}
+use Rattle.run_rules.specs.Facts.{names_in}
+use Rattle.run_rules.specs.Lawful.{IsPlace, IsProper, AreOfAScript}
+use Rattle.run_rules.specs.Scripts.{names_asked, places_from, places_of}
 use Rattle.script_run.proofs.PlaceLemmas.{names_are, as_many}
 
 -- a command

@@ -8,10 +8,11 @@ use Rattle.tran_ids.specs.Numbers.{decimal}
 use Rattle.script_read.specs.Asked.{Asked, asked}
 use Rattle.script_read.specs.declared.why.Why.{Why}
 use Rattle.script_read.specs.declared.why.Why.TheVariants as whys
-use Rattle.run_laws.specs.Telling.{start}
-use Rattle.run_laws.specs.Past.{past}
-use Rattle.run_laws.specs.Due.{Ends, due_of as next_due}
-use Rattle.run_laws.specs.Headline.{places_of, Ending, All_run, Out_of_memory}
+use Rattle.run_rules.specs.Telling.{start}
+use Rattle.run_rules.specs.Past.{past}
+use Rattle.run_rules.specs.Due.{Ends, due_of as next_due}
+use Rattle.run_rules.specs.Reported.{Ending, All_run, Out_of_memory}
+use Rattle.run_rules.specs.Scripts.{places_of}
 use Rattle.script_run.specs.declared.outcome.Run.{Run}
 use Rattle.script_run.specs.declared.outcome.Status.{Status}
 use Rattle.script_run.specs.declared.outcome.Status.TheVariants.{Done, BadScript, Usage, NoMemory, ReadFault, WriteFault, TooLong}

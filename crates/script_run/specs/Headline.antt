@@ -1,15 +1,16 @@
 -- What a run claims.
 use Rattle.std.specs.Prelude.{◌≡◌, []}
-use Rattle.run_laws.specs.Entries.{book_of}
-use Rattle.run_laws.specs.Lawful.{History, AreOfAScript, IsLawfulRun}
-use Rattle.run_laws.specs.Headline.{places_of, IsTheRunOf, IsTold, Ending}
-use Rattle.run_laws.specs.Book.{Agreement, MixedIsMarked, ScnLaw}
-use Rattle.run_laws.specs.Knowledge.{Knowledge}
-use Rattle.run_laws.specs.Meanings.{RunsAreMeant}
-use Rattle.run_laws.specs.Places.{AnswersHavePlaces}
-use Rattle.run_laws.specs.Site.{SiteDecides, Coverage}
-use Rattle.done_laws.specs.ToldDone.{TellsWhatIsDone}
-use Rattle.course_laws.specs.CommitCourse.{QuietCommitsAreDone}
+use Rattle.run_rules.specs.Entries.{book_of}
+use Rattle.run_rules.specs.Lawful.{History, AreOfAScript, IsLawfulRun}
+use Rattle.run_rules.specs.Reported.{IsTold, Ending}
+use Rattle.run_rules.specs.Scripts.{places_of, IsTheRunOf}
+use Rattle.run_rules.specs.Book.{Agreement, MixedIsMarked, ScnLaw}
+use Rattle.run_claims.specs.Knowledge.{Knowledge}
+use Rattle.run_claims.specs.Meanings.{RunsAreMeant}
+use Rattle.run_claims.specs.Places.{AnswersHavePlaces}
+use Rattle.run_claims.specs.Site.{SiteDecides, Coverage}
+use Rattle.run_claims.specs.ToldDone.{TellsWhatIsDone}
+use Rattle.run_claims.specs.CommitCourse.{QuietCommitsAreDone}
 use Rattle.script_run.specs.declared.outcome.Run.{Run}
 
 -- a run over the nodes that its script makes, as the laws of runs have it

@@ -2,7 +2,7 @@
 use Rattle.std.specs.Prelude.{ℕ, Bool, List, [], ◌++◌, if◌then◌else◌}
 use Rattle.book.specs.Texts.{book_text}
 use Rattle.report.specs.Report.{report, printed}
-use Rattle.run_laws.specs.Headline.{names_asked}
+use Rattle.run_rules.specs.Scripts.{names_asked}
 use Rattle.script_run.specs.declared.outcome.Run.{Run}
 
 -- what a run prints: the report of its answers, and then the book where that is wanted

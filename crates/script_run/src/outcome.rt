@@ -1,9 +1,11 @@
 //! How a run of the program ends, and what was done.
 ghost use Rattle.std.specs.Prelude.{◌≡◌, []};
 ghost use Rattle.script_read.specs.Sound.{IsOfAScript};
-ghost use Rattle.run_laws.specs.Headline.{places_of, All_run, TheRunIsLawful, EveryTurnKnows, EveryRunIsMeant, EveryAnswerHasItsPlace, EverySiteDecides, EveryDecisionCovers, EveryBookAgrees, EveryMixedIsMarked, EveryScnIsLater};
-ghost use Rattle.done_laws.specs.ToldDone.{DoneIsTold};
-ghost use Rattle.course_laws.specs.CommitCourse.{QuietCommitsAreComplete};
+ghost use Rattle.run_claims.specs.Headline.{EveryTurnKnows, EveryRunIsMeant, EveryAnswerHasItsPlace, EverySiteDecides, EveryDecisionCovers, EveryBookAgrees, EveryMixedIsMarked, EveryScnIsLater};
+ghost use Rattle.run_rules.specs.Reported.{All_run};
+ghost use Rattle.run_rules.specs.Scripts.{places_of, TheRunIsLawful};
+ghost use Rattle.run_claims.specs.ToldDone.{DoneIsTold};
+ghost use Rattle.run_claims.specs.CommitCourse.{QuietCommitsAreComplete};
 ghost use Rattle.world.specs.Ran.{IsRan, as_ending};
 ghost use Rattle.script_run.specs.Headline.{IsRun, nothing_done};
 ghost use Rattle.script_run.specs.Ending.{status_code};
@@ -11,17 +13,17 @@ ghost use Rattle.script_run.specs.Ending.{status_code};
 use answer_laws::every_answer_has_its_place;
 use book::{AnswerLines, Book, Trace};
 use book_laws::every_scn_is_later;
-use course_laws::quiet_commits_are_complete;
-use done_laws::done_is_told;
+use commit_course_laws::quiet_commits_are_complete;
+use answer_done_laws::done_is_told;
 use dtx_values::Listing;
-use due_laws::the_run_is_lawful;
+use run_ready_laws::the_run_is_lawful;
 use run_trace::Recorded;
 use script_read::Commands;
 use std::alloc::Global;
-use toward_laws::every_decision_covers;
-use trail_laws::{every_run_is_meant, every_site_decides};
+use tree_cover_laws::every_decision_covers;
+use tree_trail_laws::{every_run_is_meant, every_site_decides};
 use tree_laws::every_book_agrees;
-use turn_laws::every_turn_knows;
+use run_cause_laws::every_turn_knows;
 use world::Ran;
 
 /// How a run of the program ends.

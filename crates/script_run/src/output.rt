@@ -1,6 +1,6 @@
 //! What a run prints: the report of its answers, and then the book.
 ghost use Rattle.std.specs.Prelude.{◌≡◌, ◌++◌, [], if◌then◌else◌, IfOk, OnOk};
-ghost use Rattle.run_laws.specs.Headline.{names_asked};
+ghost use Rattle.run_rules.specs.Scripts.{names_asked};
 ghost use Rattle.script_run.specs.Report.{output_of};
 ghost use Rattle.book.specs.Texts.{book_text as book_text_of};
 ghost use Rattle.report.specs.Report.{said_text, report as report_of, printed};

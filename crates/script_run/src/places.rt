@@ -1,7 +1,7 @@
 //! The places of the nodes that a script makes.
 ghost use Rattle.std.specs.Prelude.{◌≡◌, ◌+◌, ◌≤◌, ◌++◌, [], ◌∷◌, length, IfOk, OnOk};
 ghost use Rattle.dtx_values.specs.Limits.{node_limit};
-ghost use Rattle.run_laws.specs.Headline.{names_asked, places_from, places_of};
+ghost use Rattle.run_rules.specs.Scripts.{names_asked, places_from, places_of};
 
 use dtx_values::{Duplicate, Listing, Name, Names};
 use redo_record::{Place, Places};

@@ -2,10 +2,11 @@
 ghost use Rattle.std.specs.Prelude.{◌≡◌, ◌≤◌, ◌<◌, ◌^◌, Bool, Some, None, map, length, IfOk, OnOk};
 ghost use Rattle.std.specs.List.{AllByRecursion};
 ghost use Rattle.std.specs.String.{string_bytes};
-ghost use Rattle.byte_laws.specs.ByteRuns.{AsksSpelled};
+ghost use Rattle.run_spell_laws.specs.ByteRuns.{AsksSpelled};
 ghost use Rattle.dtx_values.specs.Limits.{script_limit};
 ghost use Rattle.script_read.specs.Sound.{IsOfAScript};
-ghost use Rattle.run_laws.specs.Headline.{places_of, All_run};
+ghost use Rattle.run_rules.specs.Reported.{All_run};
+ghost use Rattle.run_rules.specs.Scripts.{places_of};
 ghost use Rattle.world.specs.Ran.{IsRan};
 ghost use Rattle.script_run.specs.Words.{wanted as wanted_by};
 ghost use Rattle.script_run.specs.Report.{output_of};

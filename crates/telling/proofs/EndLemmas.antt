@@ -1,9 +1,9 @@
 -- The end of a pending call, decided first.
 use Rattle.std.proofs.Common.{◌≡◌, ℕ, Bool, true, false, if◌then◌else◌, Option, Some, None, refl}
 use Rattle.node_rules.specs.Data.{Stmt}
-use Rattle.run_laws.specs.Data.{Finished}
-use Rattle.run_laws.specs.Telling.{Call, Telling}
-use Rattle.run_laws.specs.Calls.{ends_or_follows, finished_call, is_complete, waits, waits_if_pending}
+use Rattle.run_rules.specs.Data.{Finished}
+use Rattle.run_rules.specs.Telling.{Call, Telling}
+use Rattle.run_rules.specs.Calls.{ends_or_follows, finished_call, is_complete, waits, waits_if_pending}
 use Rattle.telling_parts.specs.Endings.{ending_by, ending_of, is_running}
 use Rattle.telling.specs.Turned.{ended_by}
 

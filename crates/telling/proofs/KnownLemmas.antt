@@ -7,18 +7,18 @@ use Rattle.node_rules.specs.Data.stmts
 use Rattle.node_rules.specs.Sessions.{session_at}
 use Rattle.node_rules.specs.Kept.{Kept, Outcome}
 use Rattle.node_rules.specs.Points.{Passes, passes}
-use Rattle.run_laws.specs.Data.{Finished, Command, Session, Turn}
-use Rattle.run_laws.specs.Data.commands
+use Rattle.run_rules.specs.Data.{Finished, Command, Session, Turn}
+use Rattle.run_rules.specs.Data.commands
 use Rattle.net_bag.specs.Net.{first_flying}
-use Rattle.run_laws.specs.Disks.{Strike, struck}
-use Rattle.run_laws.specs.Lines.{spent}
-use Rattle.run_laws.specs.Facts.{Facts, command_at, node_at}
-use Rattle.run_laws.specs.Telling.{Call, Telling, node_name, orders_at}
-use Rattle.run_laws.specs.Commands.{calls_after, orders_after}
-use Rattle.run_laws.specs.Calls.{stopped_calls}
-use Rattle.run_laws.specs.Cuts.{cut_appends, cut_by, cut_before, cut_write, arms}
-use Rattle.run_laws.specs.Past.{acts, delivered_more, ends_calls, failed_start, started_says, without_following}
-use Rattle.run_laws.specs.Due.{Due as DueByRules, Delivers, act_of, acts_once, due_of, flows, most_of, next_command, next_delivery, next_give_up, next_pumped, tells_first}
+use Rattle.run_rules.specs.Disks.{Strike, struck}
+use Rattle.run_rules.specs.Lines.{spent}
+use Rattle.run_rules.specs.Facts.{Facts, command_at, node_at}
+use Rattle.run_rules.specs.Telling.{Call, Telling, node_name, orders_at}
+use Rattle.run_rules.specs.Commands.{calls_after, orders_after}
+use Rattle.run_rules.specs.Calls.{stopped_calls}
+use Rattle.run_rules.specs.Cuts.{cut_appends, cut_by, cut_before, cut_write, arms}
+use Rattle.run_rules.specs.Past.{acts, delivered_more, ends_calls, failed_start, started_says, without_following}
+use Rattle.run_rules.specs.Due.{Due as DueByRules, Delivers, act_of, acts_once, due_of, flows, most_of, next_command, next_delivery, next_give_up, next_pumped, tells_first}
 use Rattle.telling.specs.declared.begin.BeginFacts.{BeginFacts}
 use Rattle.telling.specs.declared.stops.StopFacts.{StopFacts}
 use Rattle.telling.specs.declared.turn.TurnFacts.{TurnFacts}

@@ -1,7 +1,7 @@
 -- Before any command no node's disk has an order.
 use Rattle.std.proofs.Common.{◌≡◌, ℕ, List, [], ◌∷◌, map, length, replicate, refl, ap, sym, ◌∙◌}
 use Rattle.node_rules.specs.Data.{Place}
-use Rattle.run_laws.specs.Disks.{no_orders}
+use Rattle.run_rules.specs.Disks.{no_orders}
 
 each_none : (places : List Place) → replicate (length places) no_orders ≡ map (λ p. no_orders) places
 each_none [] = refl

@@ -1,14 +1,14 @@
 -- What is due next, by what is known of the facts of a run.
 use Rattle.std.specs.Prelude.{ℕ, ◌+◌, ◌&&◌, not, Bool, true, false, if◌then◌else◌, List, [], ◌∷◌, nat_lt, is_some, Option, Some, None}
 use Rattle.net_bag.specs.Net.{may_deliver, may_repeat}
-use Rattle.run_laws.specs.Data.{Command}
-use Rattle.run_laws.specs.Data.commands
-use Rattle.run_laws.specs.Facts.{Facts, is_up, node_at}
-use Rattle.run_laws.specs.Telling.{Call, Telling}
-use Rattle.run_laws.specs.Calls.{call_at}
-use Rattle.run_laws.specs.Commands.{is_enabled}
-use Rattle.run_laws.specs.Lines.{spent}
-use Rattle.run_laws.specs.Due.{Due as DueByRules, Tells, Falls, Pends, Gives_up, Delivers, Recovers, Cuts, Joins, Loses, Stops, Starts, Begins, Ends, if_due, call_due, most_of, acts_first, follows_first, falls_first}
+use Rattle.run_rules.specs.Data.{Command}
+use Rattle.run_rules.specs.Data.commands
+use Rattle.run_rules.specs.Facts.{Facts, is_up, node_at}
+use Rattle.run_rules.specs.Telling.{Call, Telling}
+use Rattle.run_rules.specs.Calls.{call_at}
+use Rattle.run_rules.specs.Commands.{is_enabled}
+use Rattle.run_rules.specs.Lines.{spent}
+use Rattle.run_rules.specs.Due.{Due as DueByRules, Tells, Falls, Pends, Gives_up, Delivers, Recovers, Cuts, Joins, Loses, Stops, Starts, Begins, Ends, if_due, call_due, most_of, acts_first, follows_first, falls_first}
 use Rattle.telling.specs.declared.due.Due.{Due}
 use Rattle.telling.specs.declared.due.Due.TheVariants as dues
 use Rattle.telling.specs.declared.due.DueFacts.{DueFacts}

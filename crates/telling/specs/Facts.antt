@@ -7,16 +7,16 @@ use Rattle.node_rules.specs.Kept.{Kept, Outcome}
 use Rattle.node_rules.specs.Points.{Passes, passes}
 use Rattle.node_points.specs.Passing.{passes_as}
 use Rattle.net_bag.specs.Net.{first_flying}
-use Rattle.run_laws.specs.Data.{AnswerLine, Command, Turn}
-use Rattle.run_laws.specs.Data.commands
-use Rattle.run_laws.specs.Facts.{Facts, command_at, is_up, node_at}
-use Rattle.run_laws.specs.Disks.{struck}
-use Rattle.run_laws.specs.Telling.{Telling, node_name, orders_at}
-use Rattle.run_laws.specs.Lines.{told}
-use Rattle.run_laws.specs.Commands.{begins, has_transaction, says_at_once}
-use Rattle.run_laws.specs.Cuts.{Cut_by, cut_by}
-use Rattle.run_laws.specs.Past.{acts, telling_started, telling_stopped, telling_turned}
-use Rattle.run_laws.specs.Due.{Due as DueByRules, due_of}
+use Rattle.run_rules.specs.Data.{AnswerLine, Command, Turn}
+use Rattle.run_rules.specs.Data.commands
+use Rattle.run_rules.specs.Facts.{Facts, command_at, is_up, node_at}
+use Rattle.run_rules.specs.Disks.{struck}
+use Rattle.run_rules.specs.Telling.{Telling, node_name, orders_at}
+use Rattle.run_rules.specs.Lines.{told}
+use Rattle.run_rules.specs.Commands.{begins, has_transaction, says_at_once}
+use Rattle.run_rules.specs.Cuts.{Cut_by, cut_by}
+use Rattle.run_rules.specs.Past.{acts, telling_started, telling_stopped, telling_turned}
+use Rattle.run_rules.specs.Due.{Due as DueByRules, due_of}
 use Rattle.telling.specs.declared.begin.BeginFacts.{BeginFacts}
 use Rattle.telling.specs.declared.stops.StopFacts.{StopFacts}
 use Rattle.telling.specs.declared.turn.TurnFacts.{TurnFacts}

@@ -2,15 +2,15 @@
 use Rattle.std.specs.Prelude.{ℕ, ◌==◌, ◌&&◌, not, Bool, false, if◌then◌else◌, List, [], ◌∷◌, ◌++◌, find, unwrap_or, is_some, Option, Some, None}
 use Rattle.node_rules.specs.Words.{numbered, one, set_numbered}
 use Rattle.node_rules.specs.Refusals.{dtx}
-use Rattle.run_laws.specs.Data.{Said, AnswerLine, Command}
-use Rattle.run_laws.specs.Data.commands
-use Rattle.run_laws.specs.Disks.{DiskOrders, Strike, no_orders, opens_gate}
-use Rattle.run_laws.specs.Telling.{Call, Telling}
-use Rattle.run_laws.specs.Calls.{is_call_at, without_call}
-use Rattle.run_laws.specs.Commands.{call_of, page_of, hold_after}
-use Rattle.run_laws.specs.Cuts.{appends}
-use Rattle.run_laws.specs.Lines.{fine, refuses_with, with_own, spent, call_line}
-use Rattle.run_laws.specs.Past.{is_stop_of, falls_if}
+use Rattle.run_rules.specs.Data.{Said, AnswerLine, Command}
+use Rattle.run_rules.specs.Data.commands
+use Rattle.run_rules.specs.Disks.{DiskOrders, Strike, no_orders, opens_gate}
+use Rattle.run_rules.specs.Telling.{Call, Telling}
+use Rattle.run_rules.specs.Calls.{is_call_at, without_call}
+use Rattle.run_rules.specs.Commands.{call_of, page_of, hold_after}
+use Rattle.run_rules.specs.Cuts.{appends}
+use Rattle.run_rules.specs.Lines.{fine, refuses_with, with_own, spent, call_line}
+use Rattle.run_rules.specs.Past.{is_stop_of, falls_if}
 use Rattle.telling_parts.specs.declared.calls.CallKey.{CallKey}
 use Rattle.telling_parts.specs.Lines.{down_said, page_by, stop_said}
 use Rattle.telling_parts.specs.Endings.{keys_of}

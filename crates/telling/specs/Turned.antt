@@ -5,13 +5,13 @@ use Rattle.node_rules.specs.Data.inputs
 use Rattle.node_rules.specs.Data.stmts
 use Rattle.node_rules.specs.Points.{Passes as PassesByRules, point_of, reaches}
 use Rattle.node_points.specs.Passing.{passes_as}
-use Rattle.run_laws.specs.Data.{Session, Finished, Turn}
-use Rattle.run_laws.specs.Disks.{struck}
-use Rattle.run_laws.specs.Telling.{Telling, orders_at}
-use Rattle.run_laws.specs.Calls.{after_input, call_at, call_follows, finished, without_call}
-use Rattle.run_laws.specs.Lines.{call_line, says_node}
-use Rattle.run_laws.specs.Cuts.{Cut_by, By_nothing, By_point, By_strike, cut_append, cut_appends, arms_point}
-use Rattle.run_laws.specs.Past.{acts, delivered_more, without_following}
+use Rattle.run_rules.specs.Data.{Session, Finished, Turn}
+use Rattle.run_rules.specs.Disks.{struck}
+use Rattle.run_rules.specs.Telling.{Telling, orders_at}
+use Rattle.run_rules.specs.Calls.{after_input, call_at, call_follows, finished, without_call}
+use Rattle.run_rules.specs.Lines.{call_line, says_node}
+use Rattle.run_rules.specs.Cuts.{Cut_by, By_nothing, By_point, By_strike, cut_append, cut_appends, arms_point}
+use Rattle.run_rules.specs.Past.{acts, delivered_more, without_following}
 use Rattle.telling.specs.declared.cut.Cut.{Cut}
 use Rattle.telling.specs.declared.cut.Cut.TheVariants as cuts
 use Rattle.telling_parts.specs.declared.ending.Ending.{Ending}

@@ -1,8 +1,8 @@
 //! A command begins.
 ghost use Rattle.std.specs.Prelude.{◌≡◌, ◌&&◌, ◌∷◌, ◌++◌, [], not, find, is_some, IfOk, OnErr, OnOk};
 ghost use Rattle.std.specs.Option.{option_copied};
-ghost use Rattle.run_laws.specs.Commands.{call_of as call_of_command, commits_first as commits_first_of, hold_after, page_of};
-ghost use Rattle.run_laws.specs.Calls.{is_call_at};
+ghost use Rattle.run_rules.specs.Commands.{call_of as call_of_command, commits_first as commits_first_of, hold_after, page_of};
+ghost use Rattle.run_rules.specs.Calls.{is_call_at};
 ghost use Rattle.telling.specs.Facts.{TellsBegin};
 ghost use Rattle.telling.specs.Known.{begun, calls_by, orders_by, told_by};
 

@@ -1,7 +1,7 @@
 //! What cuts a turn.
 //! (Database Administrator's Guide, "Managing Distributed Transactions": simulating distributed transaction failure.)
 ghost use Rattle.std.specs.Prelude.{◌≡◌, ◌≤◌, map, option_map};
-ghost use Rattle.run_laws.specs.Cuts.{cut_after as cut_after_of, cut_appends, appends, appends_if, reach};
+ghost use Rattle.run_rules.specs.Cuts.{cut_after as cut_after_of, cut_appends, appends, appends_if, reach};
 ghost use Rattle.node_points.specs.Passing.{passes_as};
 ghost use Rattle.telling_parts.specs.Points.{numbers_on};
 ghost use Rattle.telling.specs.Facts.{Cuts};

@@ -1,7 +1,7 @@
 //! What is due next.
 ghost use Rattle.std.specs.Prelude.{◌≡◌, ◌&&◌, is_some, option_map, IfOk};
-ghost use Rattle.run_laws.specs.Due.{if_due as if_due_of, call_due as call_due_of, most_of as most_of_command, Delivers, Gives_up};
-ghost use Rattle.run_laws.specs.Calls.{call_at as call_at_of};
+ghost use Rattle.run_rules.specs.Due.{if_due as if_due_of, call_due as call_due_of, most_of as most_of_command, Delivers, Gives_up};
+ghost use Rattle.run_rules.specs.Calls.{call_at as call_at_of};
 ghost use Rattle.telling.specs.Facts.{IsDue};
 ghost use Rattle.telling.specs.Due.{due_as, due_by, act_by, acts_once_by, flows_by, next_command_by, next_give_up_by, next_delivery_by, next_pumped_by};
 

@@ -1,7 +1,7 @@
 //! The answers of pending calls.
 ghost use Rattle.std.specs.Prelude.{◌≡◌, ◌∷◌, [], OnOk};
-ghost use Rattle.run_laws.specs.Calls.{call_at as call_of, call_follows, finished, finished_call, without_call, waits as waits_of, waits_if_pending, after_input};
-ghost use Rattle.run_laws.specs.Lines.{call_line, call_line_of, reached_line, with_own};
+ghost use Rattle.run_rules.specs.Calls.{call_at as call_of, call_follows, finished, finished_call, without_call, waits as waits_of, waits_if_pending, after_input};
+ghost use Rattle.run_rules.specs.Lines.{call_line, call_line_of, reached_line, with_own};
 ghost use Rattle.telling.specs.Turned.{ended_by};
 
 use crate::Telling;

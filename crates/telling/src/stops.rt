@@ -1,9 +1,9 @@
 //! A node stops, and a node starts.
 ghost use Rattle.std.specs.Prelude.{◌≡◌, ◌∷◌, [], IfOk, OnOk};
-ghost use Rattle.run_laws.specs.Calls.{without_call};
-ghost use Rattle.run_laws.specs.Disks.{struck};
-ghost use Rattle.run_laws.specs.Telling.{orders_at as orders_of};
-ghost use Rattle.run_laws.specs.Past.{acts, falls_if, is_stop_of as is_stop_of_node};
+ghost use Rattle.run_rules.specs.Calls.{without_call};
+ghost use Rattle.run_rules.specs.Disks.{struck};
+ghost use Rattle.run_rules.specs.Telling.{orders_at as orders_of};
+ghost use Rattle.run_rules.specs.Past.{acts, falls_if, is_stop_of as is_stop_of_node};
 ghost use Rattle.telling.specs.Facts.{TellsStart, TellsStop};
 ghost use Rattle.telling.specs.Known.{call_falls, calls_fall, fallen, is_failed as is_failed_of, refused_start, start_said, started_by, stop_told, stopped_by, with_stop_of};
 

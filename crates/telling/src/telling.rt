@@ -1,10 +1,10 @@
 //! What is told of a run so far.
 ghost use Rattle.std.specs.Prelude.{◌≡◌, ℕ, List, is_some, length, map, replicate, unwrap_or, IfOk, OnErr, OnOk};
 ghost use Rattle.redo_record.specs.declared.place.Place.{Place};
-ghost use Rattle.run_laws.specs.Telling.{nothing_told, orders_at as orders_of};
-ghost use Rattle.run_laws.specs.Disks.{no_orders as no_orders_of};
-ghost use Rattle.run_laws.specs.Commands.{has_call as has_call_of};
-ghost use Rattle.run_laws.specs.Past.{acts};
+ghost use Rattle.run_rules.specs.Telling.{nothing_told, orders_at as orders_of};
+ghost use Rattle.run_rules.specs.Disks.{no_orders as no_orders_of};
+ghost use Rattle.run_rules.specs.Commands.{has_call as has_call_of};
+ghost use Rattle.run_rules.specs.Past.{acts};
 ghost use Rattle.telling.specs.Facts.{TellsAll};
 ghost use Rattle.telling.specs.Known.{told_by};
 
@@ -37,7 +37,7 @@ pub struct Telling {
 }
 
 impl Model for Telling {
-    ghost use Rattle.run_laws.specs.Telling.{Telling as TellingByRules};
+    ghost use Rattle.run_rules.specs.Telling.{Telling as TellingByRules};
 
     ghost Value = { TellingByRules };
 

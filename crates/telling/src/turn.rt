@@ -1,9 +1,9 @@
 //! A node takes a turn.
 ghost use Rattle.std.specs.Prelude.{◌≡◌, ◌<◌, ◌-◌, ◌^◌, ◌∷◌, ◌++◌, [], is_none, if◌then◌else◌, option_map, IfSome, OnOk};
 ghost use Rattle.crash_points.specs.Points.{point_of as point_of_comment};
-ghost use Rattle.run_laws.specs.Calls.{call_at as call_at_of};
-ghost use Rattle.run_laws.specs.Cuts.{arms_point};
-ghost use Rattle.run_laws.specs.Past.{is_call as is_call_of, delivered_more, without_following};
+ghost use Rattle.run_rules.specs.Calls.{call_at as call_at_of};
+ghost use Rattle.run_rules.specs.Cuts.{arms_point};
+ghost use Rattle.run_rules.specs.Past.{is_call as is_call_of, delivered_more, without_following};
 ghost use Rattle.telling.specs.Facts.{TellsTurn};
 ghost use Rattle.telling.specs.Turned.{appends_by, arms_by, counted_by, ends_by, turned_by};
 

@@ -1,8 +1,8 @@
 -- A line is put in front of the first line of a later command.
 use Rattle.std.proofs.Common.{◌≡◌, ℕ, ◌+◌, suc, Bool, true, false, not, if◌then◌else◌, List, [], ◌∷◌, nat_lt, refl, ap, arith}
 use Rattle.std.specs.List.{insert, position_or_len}
-use Rattle.run_laws.specs.Data.{AnswerLine}
-use Rattle.run_laws.specs.Lines.{put_line}
+use Rattle.run_rules.specs.Data.{AnswerLine}
+use Rattle.run_rules.specs.Lines.{put_line}
 
 put_step : (before : Bool) (l x : AnswerLine) (xs put : List AnswerLine) (n : ℕ) → put ≡ insert xs n l → (if before then l ∷ x ∷ xs else x ∷ put) ≡ insert (x ∷ xs) (if not before then 1 + n else 0) l
 put_step true l x xs put n e = refl

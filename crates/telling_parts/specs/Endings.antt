@@ -1,9 +1,9 @@
 -- How a pending call ends, decided before anything is told of it; the calls of a node.
 use Rattle.std.specs.Prelude.{ℕ, ◌==◌, Bool, false, if◌then◌else◌, List, [], ◌∷◌, Option, Some, None}
 use Rattle.node_rules.specs.Data.{Stmt}
-use Rattle.run_laws.specs.Data.{Finished}
-use Rattle.run_laws.specs.Telling.{Call}
-use Rattle.run_laws.specs.Calls.{is_complete, second_of}
+use Rattle.run_rules.specs.Data.{Finished}
+use Rattle.run_rules.specs.Telling.{Call}
+use Rattle.run_rules.specs.Calls.{is_complete, second_of}
 use Rattle.telling_parts.specs.declared.calls.CallKey.{CallKey}
 use Rattle.telling_parts.specs.declared.ending.Ending.{Ending}
 use Rattle.telling_parts.specs.declared.ending.Ending.TheVariants as endings

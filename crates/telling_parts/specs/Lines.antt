@@ -2,11 +2,11 @@
 use Rattle.std.specs.Prelude.{ℕ, List, ◌++◌, map, codes}
 use Rattle.node_rules.specs.Words.{one}
 use Rattle.node_rules.specs.Refusals.{dtx}
-use Rattle.run_laws.specs.Data.{Said, AnswerLine}
-use Rattle.run_laws.specs.Data.notices
-use Rattle.run_laws.specs.Data.said
-use Rattle.run_laws.specs.Telling.{Page}
-use Rattle.run_laws.specs.Lines.{refuses_with, line}
+use Rattle.run_rules.specs.Data.{Said, AnswerLine}
+use Rattle.run_rules.specs.Data.notices
+use Rattle.run_rules.specs.Data.said
+use Rattle.run_rules.specs.Telling.{Page}
+use Rattle.run_rules.specs.Lines.{refuses_with, line}
 
 -- DTX-01 for a node of this name
 abbrev pub down_said : List ℕ → Said

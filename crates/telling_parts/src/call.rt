@@ -1,7 +1,7 @@
 //! Pending calls.
 ghost use Rattle.std.specs.Prelude.{◌≡◌, None, IfOk, OnOk};
 ghost use Rattle.node_rules.specs.Data.{Stmt};
-ghost use Rattle.run_laws.specs.Calls.{is_call_at, second_of, change_call};
+ghost use Rattle.run_rules.specs.Calls.{is_call_at, second_of, change_call};
 
 use dtx_values::Duplicate;
 use sql_statement::Stmt;
@@ -25,7 +25,7 @@ pub struct Call {
 }
 
 impl Model for Call {
-    ghost use Rattle.run_laws.specs.Telling.{Call as CallByRules};
+    ghost use Rattle.run_rules.specs.Telling.{Call as CallByRules};
 
     ghost Value = { CallByRules };
 

@@ -1,7 +1,7 @@
 //! Lists of pending calls, in order of command.
 ghost use Rattle.std.specs.Prelude.{◌≡◌, not, map, filter, find, IfOk, OnOk};
 ghost use Rattle.std.specs.Option.{option_copied};
-ghost use Rattle.run_laws.specs.Calls.{is_call_at, change_call};
+ghost use Rattle.run_rules.specs.Calls.{is_call_at, change_call};
 ghost use Rattle.telling_parts.specs.Endings.{keys_of, is_running as is_running_call};
 
 use crate::Call;

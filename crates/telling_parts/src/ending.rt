@@ -1,7 +1,7 @@
 //! How pending calls end.
 ghost use Rattle.std.specs.Prelude.{◌≡◌, IfOk};
 ghost use Rattle.std.specs.Option.{option_copied};
-ghost use Rattle.run_laws.specs.Calls.{is_complete as is_complete_answer};
+ghost use Rattle.run_rules.specs.Calls.{is_complete as is_complete_answer};
 ghost use Rattle.telling_parts.specs.declared.ending.Ending.TheVariants.{Ends};
 ghost use Rattle.telling_parts.specs.Endings.{ending_by, ending_of as ending_of_call};
 

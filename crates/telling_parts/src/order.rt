@@ -1,7 +1,7 @@
 //! Orders on a node's disk: to stop the node in a write, to let a call fail.
 ghost use Rattle.std.specs.Prelude.{◌≡◌, ◌≤◌, ◌+◌, ◌<◌, ◌^◌, if◌then◌else◌, IfSome};
 ghost use Rattle.std.specs.Option.{option_copied};
-ghost use Rattle.run_laws.specs.Disks.{no_orders, is_open as is_open_gate, opens_gate as opens_gate_of, strike as strike_of, stop_in as stop_in_of, fault_in as fault_in_of, first_strike as first_strike_of, struck as struck_by, stop_left as stop_left_of, fault_left as fault_left_of, writes_by as writes_by_of, calls_made as calls_made_of, orders_left as orders_left_of, after_append as after_append_of};
+ghost use Rattle.run_rules.specs.Disks.{no_orders, is_open as is_open_gate, opens_gate as opens_gate_of, strike as strike_of, stop_in as stop_in_of, fault_in as fault_in_of, first_strike as first_strike_of, struck as struck_by, stop_left as stop_left_of, fault_left as fault_left_of, writes_by as writes_by_of, calls_made as calls_made_of, orders_left as orders_left_of, after_append as after_append_of};
 
 use script_read::How;
 use std::marker::Model;
@@ -16,7 +16,7 @@ pub struct StopOrder {
 }
 
 impl Model for StopOrder {
-    ghost use Rattle.run_laws.specs.Disks.{Stop_order};
+    ghost use Rattle.run_rules.specs.Disks.{Stop_order};
 
     ghost Value = { Stop_order };
 
@@ -35,7 +35,7 @@ pub struct DiskOrders {
 }
 
 impl Model for DiskOrders {
-    ghost use Rattle.run_laws.specs.Disks.{DiskOrders as OrdersByRules};
+    ghost use Rattle.run_rules.specs.Disks.{DiskOrders as OrdersByRules};
 
     ghost Value = { OrdersByRules };
 
@@ -56,7 +56,7 @@ pub struct Strike {
 }
 
 impl Model for Strike {
-    ghost use Rattle.run_laws.specs.Disks.{Strike as StrikeByRules};
+    ghost use Rattle.run_rules.specs.Disks.{Strike as StrikeByRules};
 
     ghost Value = { StrikeByRules };
 
@@ -77,7 +77,7 @@ impl DiskOrders {
     }
 
     /// The order that strikes an append first, where so many calls, at most 3, come before the append.
-    #[tactic(auto, unfolding(run_laws::specs::Disks::struck))]
+    #[tactic(auto, unfolding(run_rules::specs::Disks::struck))]
     pub fn struck(&self, before: u32) -> Option<Strike>
         requires { before ≤ 3 }
         ensures { result ≡ struck_by before self.now }
@@ -88,7 +88,7 @@ impl DiskOrders {
     }
 
     /// The orders that an append leaves, where so many calls, at most 3, come before it.
-    #[tactic(auto, unfolding(run_laws::specs::Disks::after_append))]
+    #[tactic(auto, unfolding(run_rules::specs::Disks::after_append))]
     pub fn after_append(&self, before: u32) -> DiskOrders
         requires { before ≤ 3 }
         ensures { result ≡ after_append_of before self.now }

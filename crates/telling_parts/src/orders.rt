@@ -1,7 +1,7 @@
 //! The orders on the disks of all nodes.
 ghost use Rattle.std.specs.Prelude.{◌≡◌, unwrap_or};
 ghost use Rattle.node_rules.specs.Words.{numbered, set_numbered};
-ghost use Rattle.run_laws.specs.Disks.{no_orders};
+ghost use Rattle.run_rules.specs.Disks.{no_orders};
 
 use crate::DiskOrders;
 

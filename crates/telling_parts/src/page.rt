@@ -2,8 +2,8 @@
 ghost use Rattle.std.specs.Prelude.{◌≡◌, ◌≤◌, ◌∷◌, ◌++◌, [], map, length, IfOk, OnErr, OnOk};
 ghost use Rattle.std.specs.List.{insert, position_or_len};
 ghost use Rattle.std.specs.Prelude.{nat_lt};
-ghost use Rattle.run_laws.specs.Lines.{line as line_of, put_line};
-ghost use Rattle.run_laws.specs.Commands.{page_of};
+ghost use Rattle.run_rules.specs.Lines.{line as line_of, put_line};
+ghost use Rattle.run_rules.specs.Commands.{page_of};
 ghost use Rattle.telling_parts.specs.Lines.{page_by};
 
 use book::{AnswerLine, Said};
@@ -22,7 +22,7 @@ pub struct Page {
 }
 
 impl Model for Page {
-    ghost use Rattle.run_laws.specs.Telling.{Page as PageByRules};
+    ghost use Rattle.run_rules.specs.Telling.{Page as PageByRules};
 
     ghost Value = { PageByRules };
 

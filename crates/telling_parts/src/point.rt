@@ -2,8 +2,8 @@
 //! (Database Administrator's Guide, "Managing Distributed Transactions": simulating distributed transaction failure.)
 ghost use Rattle.std.specs.Prelude.{◌≡◌, ◌==◌, ◌&&◌, map, find};
 ghost use Rattle.std.specs.Option.{option_copied};
-ghost use Rattle.run_laws.specs.Lines.{is_reached as is_reached_by};
-ghost use Rattle.run_laws.specs.Cuts.{reach as reach_by};
+ghost use Rattle.run_rules.specs.Lines.{is_reached as is_reached_by};
+ghost use Rattle.run_rules.specs.Cuts.{reach as reach_by};
 ghost use Rattle.telling_parts.specs.Points.{numbers_on};
 ghost use Rattle.node_points.specs.Passing.{passes_as};
 

@@ -5,7 +5,7 @@ ghost use Rattle.book.specs.declared.line.Said.TheVariants as saids;
 ghost use Rattle.tran_ids.specs.Numbers.{decimal};
 ghost use Rattle.sql_check.specs.Refusals.{ora, dtx};
 ghost use Rattle.sql_check.specs.Words.{one};
-ghost use Rattle.run_laws.specs.Lines.{refuses_with, spent};
+ghost use Rattle.run_rules.specs.Lines.{refuses_with, spent};
 ghost use Rattle.telling_parts.specs.Lines.{down_said, stop_said};
 
 use book::Said;

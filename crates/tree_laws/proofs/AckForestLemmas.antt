@@ -12,28 +12,28 @@ use Rattle.node_rules.specs.Data.records
 use Rattle.node_rules.specs.Kept.{Kept, Deed}
 use Rattle.node_rules.specs.Turn.{Is_gone, stand_of, turn_of, heard, deed_of, stamped}
 use Rattle.agreement.specs.Events.{Forest, Event, Beyond, Quiet, Dropped, Send_ack, Send_commit, Forget, learned, Cleared, Gone}
-use Rattle.run_laws.specs.Data.{Turn, Happening}
-use Rattle.run_laws.specs.Data.happenings
-use Rattle.run_laws.specs.Facts.{Facts, first_facts, place_at, node_at, records_at, facts_after}
-use Rattle.run_laws.specs.Lawful.{MayTurn, MayHappen, IsOwed, History, IsLawfulRun}
-use Rattle.run_laws.specs.RunEvents.{wrote_event, with_event, lives_at, with_record, with_exits}
-use Rattle.run_laws.specs.EventRows.{RowsAre, MayStand}
-use Rattle.run_laws.specs.EventLaws.{EachEventFrom}
-use Rattle.run_laws.specs.Births.{births_of}
-use Rattle.run_laws.specs.BirthLaws.{Began, KeptIs}
-use Rattle.run_laws.specs.TreeJust.{TreeAllows}
-use Rattle.run_laws.specs.RowSayLaws.{AckIs, SaysByRow, TellsByRow}
-use Rattle.run_laws.specs.TowardLaws.{IsRowLike, AllAcked}
-use Rattle.run_laws.proofs.ListLemmas.{all_weaker, all_map, any_found}
-use Rattle.run_laws.proofs.GoneLemmas.{kept_not_gone}
-use Rattle.run_laws.proofs.LawfulLemmas.{serves}
-use Rattle.run_laws.proofs.LaterLemmas.{Added, Any, added_on, added_wider, exit_later, learned_later, has_later, wrote_added, leavers_added}
-use Rattle.run_laws.proofs.RowEventLemmas.{learned_now}
-use Rattle.run_laws.proofs.BirthRunLemmas.{nodes_name_the_born}
-use Rattle.run_laws.proofs.EventsStandLemmas.{node_so, run_stands, tells_so, nodes_are_as_events}
-use Rattle.run_laws.proofs.RowSayStandLemmas.{turns_tell_by_rows}
-use Rattle.run_laws.proofs.TowardLemmas.{heard_rows}
-use Rattle.run_laws.proofs.TurnEventLemmas.{all_both}
+use Rattle.run_rules.specs.Data.{Turn, Happening}
+use Rattle.run_rules.specs.Data.happenings
+use Rattle.run_rules.specs.Facts.{Facts, first_facts, place_at, node_at, records_at, facts_after}
+use Rattle.run_rules.specs.Lawful.{MayTurn, MayHappen, IsOwed, History, IsLawfulRun}
+use Rattle.run_base_laws.specs.RunEvents.{wrote_event, with_event, lives_at, with_record, with_exits}
+use Rattle.run_base_laws.specs.EventRows.{RowsAre, MayStand}
+use Rattle.run_base_laws.specs.EventLaws.{EachEventFrom}
+use Rattle.run_rules.specs.Births.{births_of}
+use Rattle.run_base_laws.specs.BirthLaws.{Began, KeptIs}
+use Rattle.run_branch_laws.specs.TreeJust.{TreeAllows}
+use Rattle.run_branch_laws.specs.RowSayLaws.{AckIs, SaysByRow, TellsByRow}
+use Rattle.run_branch_laws.specs.TowardLaws.{IsRowLike, AllAcked}
+use Rattle.run_rules.proofs.ListLemmas.{all_weaker, all_map, any_found}
+use Rattle.run_branch_laws.proofs.GoneLemmas.{kept_not_gone}
+use Rattle.run_base_laws.proofs.LawfulLemmas.{serves}
+use Rattle.run_base_laws.proofs.LaterLemmas.{Added, Any, added_on, added_wider, exit_later, learned_later, has_later, wrote_added, leavers_added}
+use Rattle.run_base_laws.proofs.RowEventLemmas.{learned_now}
+use Rattle.run_base_laws.proofs.BirthRunLemmas.{nodes_name_the_born}
+use Rattle.run_base_laws.proofs.EventsStandLemmas.{node_so, run_stands, tells_so, nodes_are_as_events}
+use Rattle.run_branch_laws.proofs.RowSayStandLemmas.{turns_tell_by_rows}
+use Rattle.run_branch_laws.proofs.TowardLemmas.{heard_rows}
+use Rattle.run_base_laws.proofs.TurnEventLemmas.{all_both}
 use Rattle.tree_laws.specs.FitLaws.{WritesInForest}
 use Rattle.tree_laws.specs.Forests.{forest_of}
 use Rattle.tree_laws.specs.MessageLaws.{DecidedAtSite, AckByForest, AcksByForest, AcksGoByForest}

@@ -4,16 +4,16 @@ use Rattle.std.specs.List.{AllByRecursion}
 use Rattle.node_rules.specs.Data.{BranchId, Kind, Msg}
 use Rattle.node_rules.specs.Data.kinds
 use Rattle.agreement.specs.Events.{Forest, Event}
-use Rattle.run_laws.specs.Data.{Happening}
-use Rattle.run_laws.specs.Data.happenings
-use Rattle.run_laws.specs.Facts.{Facts, first_facts, facts_after}
-use Rattle.run_laws.specs.Lawful.{History}
-use Rattle.run_laws.specs.RunEvents.{message_event, with_exits, events_after}
-use Rattle.run_laws.specs.EventLaws.{EachEventFrom}
-use Rattle.run_laws.specs.TreeJust.{IsTreeAllowed, TreeSends, HappensByTree, GoByTree}
-use Rattle.run_laws.proofs.TreeJustLemmas.{runs_by_trees_agree}
-use Rattle.run_laws.specs.Headline.{EveryBookAgrees, EveryMixedIsMarked}
-use Rattle.run_laws.proofs.CommitOrderLemmas.{commits_come_in_order}
+use Rattle.run_rules.specs.Data.{Happening}
+use Rattle.run_rules.specs.Data.happenings
+use Rattle.run_rules.specs.Facts.{Facts, first_facts, facts_after}
+use Rattle.run_rules.specs.Lawful.{History}
+use Rattle.run_base_laws.specs.RunEvents.{message_event, with_exits, events_after}
+use Rattle.run_base_laws.specs.EventLaws.{EachEventFrom}
+use Rattle.run_branch_laws.specs.TreeJust.{IsTreeAllowed, TreeSends, HappensByTree, GoByTree}
+use Rattle.run_branch_laws.proofs.TreeJustLemmas.{runs_by_trees_agree}
+use Rattle.run_claims.specs.Headline.{EveryBookAgrees, EveryMixedIsMarked}
+use Rattle.run_key_laws.proofs.CommitOrderLemmas.{commits_come_in_order}
 use Rattle.tree_laws.specs.AgreeLaws.{LeavesByForest, RunsGoByForest, RunsAgree, EveryCommitComesInOrder}
 use Rattle.tree_laws.specs.Forests.{forest_of}
 use Rattle.tree_laws.specs.MessageLaws.{AckByForest, AcksByForest, RollByForest, RollsByForest}

@@ -10,21 +10,21 @@ use Rattle.node_rules.specs.declared.work.Going.{Going}
 use Rattle.node_rules.specs.Inputs.{Came}
 use Rattle.node_rules.specs.Kept.{Kept, Branch, Deed, live_at, branch_at}
 use Rattle.node_rules.specs.Turn.{turn_of, start_of, heard, deed_of, stamped}
-use Rattle.run_laws.specs.Data.{Turn, Happening}
-use Rattle.run_laws.specs.Data.happenings
-use Rattle.run_laws.specs.Facts.{Facts, first_facts, place_at, node_at, kept_after, facts_after, facts_of}
-use Rattle.run_laws.specs.Lawful.{MayTurn, MayHappen, IsOwed, History, IsLawfulRun, facts_at}
-use Rattle.run_laws.specs.InTurnLaws.{post_of, said_in}
-use Rattle.run_laws.specs.WalkLaws.{is_below, was_sent}
-use Rattle.run_laws.proofs.ListLemmas.{all_weaker, all_map}
-use Rattle.run_laws.proofs.LawfulLemmas.{serves}
-use Rattle.run_laws.proofs.SaidLemmas.{sent_after}
-use Rattle.run_laws.proofs.AtNodeLemmas.{turn_here}
-use Rattle.run_laws.proofs.EventsStandLemmas.{run_stands}
-use Rattle.run_laws.proofs.BirthsStandLemmas.{came_so}
-use Rattle.run_laws.proofs.SaidPostLemmas.{posts_of, said_after}
-use Rattle.run_laws.proofs.FreezeLemmas.{working_or}
-use Rattle.run_laws.proofs.FreezeRunLemmas.{asked_stand_still}
+use Rattle.run_rules.specs.Data.{Turn, Happening}
+use Rattle.run_rules.specs.Data.happenings
+use Rattle.run_rules.specs.Facts.{Facts, first_facts, place_at, node_at, kept_after, facts_after, facts_of}
+use Rattle.run_rules.specs.Lawful.{MayTurn, MayHappen, IsOwed, History, IsLawfulRun, facts_at}
+use Rattle.run_base_laws.specs.InTurnLaws.{post_of, said_in}
+use Rattle.run_branch_laws.specs.WalkLaws.{is_below, was_sent}
+use Rattle.run_rules.proofs.ListLemmas.{all_weaker, all_map}
+use Rattle.run_base_laws.proofs.LawfulLemmas.{serves}
+use Rattle.run_base_laws.proofs.SaidLemmas.{sent_after}
+use Rattle.run_rules.proofs.AtNodeLemmas.{turn_here}
+use Rattle.run_base_laws.proofs.EventsStandLemmas.{run_stands}
+use Rattle.run_base_laws.proofs.BirthsStandLemmas.{came_so}
+use Rattle.run_base_laws.proofs.SaidPostLemmas.{posts_of, said_after}
+use Rattle.run_branch_laws.proofs.FreezeLemmas.{working_or}
+use Rattle.run_branch_laws.proofs.FreezeRunLemmas.{asked_stand_still}
 use Rattle.tree_laws.specs.AskLaws.{way_of}
 use Rattle.tree_laws.specs.AnswerLaws.{AnswersTold, ReadyIs, AnswersAreAsTold}
 use Rattle.tree_laws.proofs.AskLemmas.{sent_more}

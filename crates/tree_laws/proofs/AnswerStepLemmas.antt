@@ -21,13 +21,13 @@ use Rattle.node_rules.specs.Prepare.{with_prepare_sent, ready, voted, has_voted,
 use Rattle.node_rules.proofs.Steps as steps
 use Rattle.node_rules.proofs.Steps.{Step, Asked, Answers, Acting, vote_kind}
 use Rattle.node_rules.proofs.StandLemmas.{live_so}
-use Rattle.run_laws.specs.WalkLaws.{is_below, was_sent}
-use Rattle.run_laws.proofs.ListLemmas.{all_weaker, all_append, all_map, all_each}
-use Rattle.run_laws.proofs.OwnLemmas.{all_found, all_with, all_without, all_last}
-use Rattle.run_laws.proofs.NeighborLemmas.{reply_is}
-use Rattle.run_laws.proofs.PhaseLemmas.{slice_all, slice_set_all}
-use Rattle.run_laws.proofs.QuietLemmas.{came_apart}
-use Rattle.run_laws.proofs.FreezeLemmas.{acting_phase}
+use Rattle.run_branch_laws.specs.WalkLaws.{is_below, was_sent}
+use Rattle.run_rules.proofs.ListLemmas.{all_weaker, all_append, all_map, all_each}
+use Rattle.run_base_laws.proofs.OwnLemmas.{all_found, all_with, all_without, all_last}
+use Rattle.run_base_laws.proofs.NeighborLemmas.{reply_is}
+use Rattle.run_branch_laws.proofs.PhaseLemmas.{slice_all, slice_set_all}
+use Rattle.run_branch_laws.proofs.QuietLemmas.{came_apart}
+use Rattle.run_branch_laws.proofs.FreezeLemmas.{acting_phase}
 use Rattle.tree_laws.specs.AnswerLaws.{EdgeTold, AnswersTold}
 
 module _ (said : List Post) (p : Place) (input : Input) (came_ready : (from to : BranchId) → Came input from to kinds.Ready → was_sent is_below said to from ≡ true) where

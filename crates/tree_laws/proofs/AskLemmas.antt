@@ -10,12 +10,12 @@ use Rattle.node_rules.specs.Words.{same, numbered}
 use Rattle.session_tree.specs.declared.act.Walk.{Walk}
 use Rattle.session_tree.specs.Tree.{place_of_greatest, walk_by, step}
 use Rattle.node_rules.specs.Prepare.{path_of, prepares, is_place, has_voted, answers_first, voted, ready}
-use Rattle.run_laws.specs.Trail.{is_prepare}
-use Rattle.run_laws.specs.FreezeLaws.{was_asked}
-use Rattle.run_laws.specs.WalkLaws.{is_below, was_sent}
-use Rattle.run_laws.proofs.ListLemmas.{map_after}
-use Rattle.run_laws.proofs.WalkLemmas.{unasked_below}
-use Rattle.run_laws.proofs.FreezeLemmas.{any_append, or_false, or_split, and_false, asked_more, asked_split}
+use Rattle.run_rules.specs.Trail.{is_prepare}
+use Rattle.run_base_laws.specs.FreezeLaws.{was_asked}
+use Rattle.run_branch_laws.specs.WalkLaws.{is_below, was_sent}
+use Rattle.run_rules.proofs.ListLemmas.{map_after}
+use Rattle.run_branch_laws.proofs.WalkLemmas.{unasked_below}
+use Rattle.run_branch_laws.proofs.FreezeLemmas.{any_append, or_false, or_split, and_false, asked_more, asked_split}
 use Rattle.tree_laws.specs.AskLaws.{way_of, tells, path_on, AsToldSo}
 
 module _ (kind : Kind → Bool) (said says : List Post) (p c : BranchId) where

@@ -13,33 +13,33 @@ use Rattle.node_rules.specs.Inputs.{Came}
 use Rattle.node_rules.specs.Kept.{Kept, Deed, live_id, live_at}
 use Rattle.node_rules.specs.Turn.{start_of, heard, deed_of}
 use Rattle.agreement.specs.Events.{Event}
-use Rattle.run_laws.specs.Data.{Packet, Turn, Happening, Command}
-use Rattle.run_laws.specs.Data.happenings
-use Rattle.run_laws.specs.Facts.{Facts, first_facts, place_at, node_at, facts_after, facts_of}
-use Rattle.run_laws.specs.Lawful.{IsPlace, MayTurn, MayHappen, IsLawful, History, IsLawfulRun, facts_at}
-use Rattle.run_laws.specs.RunEvents.{events_after}
-use Rattle.run_laws.specs.Births.{Born, births_after, births_from, births_of, born_at}
-use Rattle.run_laws.specs.BirthLaws.{Began, LiveIs, NamesAre}
-use Rattle.run_laws.specs.Trail.{is_prepare}
-use Rattle.run_laws.specs.InTurnLaws.{packet_post, said_in}
-use Rattle.run_laws.specs.FreezeLaws.{was_asked}
-use Rattle.run_laws.specs.WalkLaws.{is_below, was_sent}
-use Rattle.run_laws.proofs.ListLemmas.{all_weaker}
-use Rattle.run_laws.proofs.OwnLemmas.{all_found}
-use Rattle.run_laws.proofs.EventsStandLemmas.{node_so, owned_so}
-use Rattle.run_laws.proofs.BirthLemmas.{news_of, began_more}
-use Rattle.run_laws.proofs.BirthsStandLemmas.{came_so, all_unborn}
-use Rattle.run_laws.proofs.BirthRunLemmas.{StandBorn, stand_born_on, stand_born_first}
-use Rattle.run_laws.proofs.NeighborLemmas.{News}
+use Rattle.run_rules.specs.Data.{Packet, Turn, Happening, Command}
+use Rattle.run_rules.specs.Data.happenings
+use Rattle.run_rules.specs.Facts.{Facts, first_facts, place_at, node_at, facts_after, facts_of}
+use Rattle.run_rules.specs.Lawful.{IsPlace, MayTurn, MayHappen, IsLawful, History, IsLawfulRun, facts_at}
+use Rattle.run_base_laws.specs.RunEvents.{events_after}
+use Rattle.run_rules.specs.Births.{Born, births_after, births_from, births_of, born_at}
+use Rattle.run_base_laws.specs.BirthLaws.{Began, LiveIs, NamesAre}
+use Rattle.run_rules.specs.Trail.{is_prepare}
+use Rattle.run_base_laws.specs.InTurnLaws.{packet_post, said_in}
+use Rattle.run_base_laws.specs.FreezeLaws.{was_asked}
+use Rattle.run_branch_laws.specs.WalkLaws.{is_below, was_sent}
+use Rattle.run_rules.proofs.ListLemmas.{all_weaker}
+use Rattle.run_base_laws.proofs.OwnLemmas.{all_found}
+use Rattle.run_base_laws.proofs.EventsStandLemmas.{node_so, owned_so}
+use Rattle.run_base_laws.proofs.BirthLemmas.{news_of, began_more}
+use Rattle.run_base_laws.proofs.BirthsStandLemmas.{came_so, all_unborn}
+use Rattle.run_base_laws.proofs.BirthRunLemmas.{StandBorn, stand_born_on, stand_born_first}
+use Rattle.run_base_laws.proofs.NeighborLemmas.{News}
 use Rattle.node_rules.specs.LiveBranches.{EachLive}
 use Rattle.node_rules.proofs.LiveLemmas.{each_same, none_live}
-use Rattle.run_laws.proofs.RestRunLemmas.{heard_rests, RootsStand, roots_stand_on, first_rests}
-use Rattle.run_laws.proofs.SaidPostLemmas.{unborn_asks}
-use Rattle.run_laws.proofs.InTurnRunLemmas as calls
-use Rattle.run_laws.proofs.InTurnRunLemmas.{CallsStand, heard_calls, calls_stand_on, first_calls}
-use Rattle.run_laws.proofs.FreezeStepLemmas as frost
-use Rattle.run_laws.proofs.FreezeRunLemmas as frozen
-use Rattle.run_laws.proofs.FreezeRunLemmas.{FreezeStand, freeze_on, first_freeze}
+use Rattle.run_base_laws.proofs.RestRunLemmas.{heard_rests, RootsStand, roots_stand_on, first_rests}
+use Rattle.run_base_laws.proofs.SaidPostLemmas.{unborn_asks}
+use Rattle.run_base_laws.proofs.InTurnRunLemmas as calls
+use Rattle.run_base_laws.proofs.InTurnRunLemmas.{CallsStand, heard_calls, calls_stand_on, first_calls}
+use Rattle.run_branch_laws.proofs.FreezeStepLemmas as frost
+use Rattle.run_branch_laws.proofs.FreezeRunLemmas as frozen
+use Rattle.run_branch_laws.proofs.FreezeRunLemmas.{FreezeStand, freeze_on, first_freeze}
 use Rattle.tree_laws.specs.AskLaws.{HeardAbove, GoesDown, AskersWereAsked, WalkGoesOn, way_of, tells, AsTold, CollectsAsTold, EdgesAsked, PathsAreTold}
 use Rattle.tree_laws.proofs.AskLemmas.{sent_more, sent_split, sent_wider, tells_asks, below_asks, tells_own, stays_told}
 use Rattle.tree_laws.proofs.AskStepLemmas.{Asker, Leaves, told_on}

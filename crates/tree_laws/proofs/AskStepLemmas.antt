@@ -29,22 +29,22 @@ use Rattle.node_rules.specs.Commit.{beyond}
 use Rattle.node_rules.specs.Recovery.{kept_told}
 use Rattle.node_rules.proofs.Steps as steps
 use Rattle.node_rules.proofs.Steps.{Step, Asked, Acting, Collects, Collected, Pointed, Says}
-use Rattle.run_laws.specs.Trail.{is_prepare}
-use Rattle.run_laws.specs.FreezeLaws.{was_asked}
-use Rattle.run_laws.specs.WalkLaws.{is_below, was_sent}
-use Rattle.run_laws.proofs.ListLemmas.{all_append, map_after}
+use Rattle.run_rules.specs.Trail.{is_prepare}
+use Rattle.run_base_laws.specs.FreezeLaws.{was_asked}
+use Rattle.run_branch_laws.specs.WalkLaws.{is_below, was_sent}
+use Rattle.run_rules.proofs.ListLemmas.{all_append, map_after}
 use Rattle.node_rules.specs.LiveBranches.{EachLive, works_of}
 use Rattle.node_rules.proofs.LiveLemmas.{each_put, each_changed, each_left, each_begun, each_same, branch_parts, work_is}
-use Rattle.run_laws.proofs.RootLemmas.{SessionsFit, root_alone, pends_so, begun_so}
-use Rattle.run_laws.proofs.RestStepLemmas.{going_of}
-use Rattle.run_laws.proofs.NeighborLemmas.{News}
-use Rattle.run_laws.proofs.NeighborStepLemmas.{begun_news, pends_news, lets_news, acked_news}
-use Rattle.run_laws.proofs.KindSayLemmas.{AllSay, one_says, each_says, told_says, passes_say, askings_say}
-use Rattle.run_laws.proofs.InTurnLemmas as turns
-use Rattle.run_laws.proofs.InTurnStepLemmas as deeds
-use Rattle.run_laws.proofs.FreezeLemmas.{no_ask, IsPlain, plain_decisions, plain_asks, prepares_ask, asked_split}
-use Rattle.run_laws.proofs.WalkLemmas.{unasked_below}
-use Rattle.run_laws.proofs.FreezeStepLemmas as frost
+use Rattle.run_base_laws.proofs.RootLemmas.{SessionsFit, root_alone, pends_so, begun_so}
+use Rattle.run_base_laws.proofs.RestStepLemmas.{going_of}
+use Rattle.run_base_laws.proofs.NeighborLemmas.{News}
+use Rattle.run_base_laws.proofs.NeighborStepLemmas.{begun_news, pends_news, lets_news, acked_news}
+use Rattle.run_base_laws.proofs.KindSayLemmas.{AllSay, one_says, each_says, told_says, passes_say, askings_say}
+use Rattle.run_base_laws.proofs.InTurnLemmas as turns
+use Rattle.run_base_laws.proofs.InTurnStepLemmas as deeds
+use Rattle.run_branch_laws.proofs.FreezeLemmas.{no_ask, IsPlain, plain_decisions, plain_asks, prepares_ask, asked_split}
+use Rattle.run_branch_laws.proofs.WalkLemmas.{unasked_below}
+use Rattle.run_branch_laws.proofs.FreezeStepLemmas as frost
 use Rattle.tree_laws.specs.AskLaws.{way_of, tells, AsToldSo, AsTold}
 use Rattle.tree_laws.proofs.AskLemmas.{sent_more, sent_new, sent_split, voted_step, ready_path, prepares_all, below_place, place_below, below_true, working_told, stays_told}
 

@@ -12,22 +12,22 @@ use Rattle.node_rules.proofs.StandLemmas.{live_so}
 use Rattle.node_rules.specs.LiveBranches.{EachLive}
 use Rattle.node_rules.proofs.LiveLemmas.{none_live}
 use Rattle.agreement.specs.Events.{Event, exit}
-use Rattle.run_laws.specs.Data.{Turn, Happening}
-use Rattle.run_laws.specs.Data.happenings
-use Rattle.run_laws.specs.Facts.{Facts, first_facts, place_at, flat, node_at, kept_after, with_boot, facts_after}
-use Rattle.run_laws.specs.Lawful.{MayHappen, History, IsLawfulRun}
-use Rattle.run_laws.specs.Branches.{is_among}
-use Rattle.run_laws.specs.RunEvents.{lives_at, events_after, events_of}
-use Rattle.run_laws.specs.Births.{births_of, born_at}
-use Rattle.run_laws.specs.FreezeLaws.{was_asked, StandsStill, LeavesStill}
-use Rattle.run_laws.specs.InTurnLaws.{said_in}
-use Rattle.run_laws.proofs.AtNodeLemmas.{turn_elsewhere, turn_here}
-use Rattle.run_laws.proofs.BirthLemmas.{turn_left}
-use Rattle.run_laws.proofs.BirthRunLemmas.{born_are_live_or_left}
-use Rattle.run_laws.proofs.EventsStandLemmas.{run_stands, nodes_are_as_events, ids_name_their_node}
-use Rattle.run_laws.proofs.FreezeRunLemmas.{asked_stand_still}
-use Rattle.run_laws.proofs.OwnLemmas.{all_found}
-use Rattle.run_laws.proofs.TurnEventLemmas.{cases_nat}
+use Rattle.run_rules.specs.Data.{Turn, Happening}
+use Rattle.run_rules.specs.Data.happenings
+use Rattle.run_rules.specs.Facts.{Facts, first_facts, place_at, flat, node_at, kept_after, with_boot, facts_after}
+use Rattle.run_rules.specs.Lawful.{MayHappen, History, IsLawfulRun}
+use Rattle.run_rules.specs.Branches.{is_among}
+use Rattle.run_base_laws.specs.RunEvents.{lives_at, events_after, events_of}
+use Rattle.run_rules.specs.Births.{births_of, born_at}
+use Rattle.run_base_laws.specs.FreezeLaws.{was_asked, StandsStill, LeavesStill}
+use Rattle.run_base_laws.specs.InTurnLaws.{said_in}
+use Rattle.run_rules.proofs.AtNodeLemmas.{turn_elsewhere, turn_here}
+use Rattle.run_base_laws.proofs.BirthLemmas.{turn_left}
+use Rattle.run_base_laws.proofs.BirthRunLemmas.{born_are_live_or_left}
+use Rattle.run_base_laws.proofs.EventsStandLemmas.{run_stands, nodes_are_as_events, ids_name_their_node}
+use Rattle.run_branch_laws.proofs.FreezeRunLemmas.{asked_stand_still}
+use Rattle.run_base_laws.proofs.OwnLemmas.{all_found}
+use Rattle.run_base_laws.proofs.TurnEventLemmas.{cases_nat}
 use Rattle.tree_laws.proofs.AskRunLemmas.{askers_were_asked}
 use Rattle.tree_laws.proofs.PrefixLemmas.{so_far, f_at, e_at, one_on, more_on, lawful_on}
 

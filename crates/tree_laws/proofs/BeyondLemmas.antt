@@ -12,14 +12,14 @@ use Rattle.node_rules.specs.Data.votes
 use Rattle.node_rules.specs.Words.{same, numbered}
 use Rattle.node_rules.specs.Prepare.{is_awaited}
 use Rattle.agreement.specs.Events.{Forest, Event, Beyond, Quiet, Send_vote, exit, Has}
-use Rattle.run_laws.specs.Births.{Born}
-use Rattle.run_laws.specs.BirthLaws.{Began}
-use Rattle.run_laws.specs.FreezeLaws.{was_asked}
-use Rattle.run_laws.specs.HeardLaws.{VoteIs, EdgeIs}
-use Rattle.run_laws.specs.PhaseLaws.{IsNoAbort}
-use Rattle.run_laws.specs.WalkLaws.{is_below, was_sent}
-use Rattle.run_laws.proofs.ListLemmas.{all_weaker}
-use Rattle.run_laws.proofs.TurnEventLemmas.{all_both}
+use Rattle.run_rules.specs.Births.{Born}
+use Rattle.run_base_laws.specs.BirthLaws.{Began}
+use Rattle.run_base_laws.specs.FreezeLaws.{was_asked}
+use Rattle.run_branch_laws.specs.HeardLaws.{VoteIs, EdgeIs}
+use Rattle.run_branch_laws.specs.PhaseLaws.{IsNoAbort}
+use Rattle.run_branch_laws.specs.WalkLaws.{is_below, was_sent}
+use Rattle.run_rules.proofs.ListLemmas.{all_weaker}
+use Rattle.run_base_laws.proofs.TurnEventLemmas.{all_both}
 use Rattle.tree_laws.specs.AnswerLaws.{EdgeTold}
 use Rattle.tree_laws.specs.Forests.{told_below, next_on, comes_to, asked_by, toward_by, forest_by}
 use Rattle.tree_laws.proofs.ForestLemmas as trees

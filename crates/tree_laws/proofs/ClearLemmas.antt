@@ -12,10 +12,10 @@ use Rattle.node_rules.specs.Data.{BranchId, Standing}
 use Rattle.node_rules.specs.Words.{same}
 use Rattle.node_rules.specs.Kept.{standing_id}
 use Rattle.agreement.specs.Events.{Forest, IsForest, Event, Beyond, Send_ack, Has, Cleared, site_of}
-use Rattle.run_laws.specs.NodeLaws.{unacked_kid}
-use Rattle.run_laws.specs.TowardLaws.{IsRowLike, AllAcked}
-use Rattle.run_laws.proofs.ListLemmas.{map_after}
-use Rattle.run_laws.proofs.OwnLemmas.{all_found}
+use Rattle.run_base_laws.specs.NodeLaws.{unacked_kid}
+use Rattle.run_branch_laws.specs.TowardLaws.{IsRowLike, AllAcked}
+use Rattle.run_rules.proofs.ListLemmas.{map_after}
+use Rattle.run_base_laws.proofs.OwnLemmas.{all_found}
 use Rattle.tree_laws.specs.BeyondLaws.{IsNamed}
 use Rattle.tree_laws.specs.NameLaws.{RowNames}
 use Rattle.tree_laws.proofs.RowLemmas.{kid_branch}

@@ -13,24 +13,24 @@ use Rattle.node_rules.specs.Data.records
 use Rattle.node_rules.specs.Records.{applied, nothing_stored, stored_by}
 use Rattle.node_rules.specs.Words.{numbered}
 use Rattle.agreement.specs.Events.{Forest, Event, Beyond, Decided, Quiet, Forget, exit}
-use Rattle.run_laws.specs.Data.{Turn, Happening, Command}
-use Rattle.run_laws.specs.Data.happenings
-use Rattle.run_laws.specs.Facts.{Facts, first_facts, records_at, facts_after}
-use Rattle.run_laws.specs.IdLaws.{IsRecordOf}
-use Rattle.run_laws.specs.Lawful.{IsPlace, MayHappen, IsLawful, History, IsLawfulRun}
-use Rattle.run_laws.specs.RunEvents.{with_record, events_after}
-use Rattle.run_laws.specs.EventRows.{MayStand, HasRow, IsDone}
-use Rattle.run_laws.specs.EventLaws.{EachEventFrom, AtEachEvent}
-use Rattle.run_laws.proofs.AtNodeLemmas.{turn_elsewhere, turn_here, start_elsewhere, start_here}
-use Rattle.run_laws.proofs.EventsStandLemmas.{Stand, node_so, owned_so, stand_on, stand_first}
-use Rattle.run_laws.proofs.LaterLemmas.{Added, Any, added_on, added_wider, exit_made, learned_later, has_later, wrote_added, turn_added, stop_added}
-use Rattle.run_laws.proofs.NodesStandLemmas.{stored_rows}
-use Rattle.run_laws.proofs.StoredLemmas.{stored_with}
-use Rattle.run_laws.proofs.TurnEventLemmas.{cases_nat, record_may, record_own}
+use Rattle.run_rules.specs.Data.{Turn, Happening, Command}
+use Rattle.run_rules.specs.Data.happenings
+use Rattle.run_rules.specs.Facts.{Facts, first_facts, records_at, facts_after}
+use Rattle.run_base_laws.specs.IdLaws.{IsRecordOf}
+use Rattle.run_rules.specs.Lawful.{IsPlace, MayHappen, IsLawful, History, IsLawfulRun}
+use Rattle.run_base_laws.specs.RunEvents.{with_record, events_after}
+use Rattle.run_base_laws.specs.EventRows.{MayStand, HasRow, IsDone}
+use Rattle.run_base_laws.specs.EventLaws.{EachEventFrom, AtEachEvent}
+use Rattle.run_rules.proofs.AtNodeLemmas.{turn_elsewhere, turn_here, start_elsewhere, start_here}
+use Rattle.run_base_laws.proofs.EventsStandLemmas.{Stand, node_so, owned_so, stand_on, stand_first}
+use Rattle.run_base_laws.proofs.LaterLemmas.{Added, Any, added_on, added_wider, exit_made, learned_later, has_later, wrote_added, turn_added, stop_added}
+use Rattle.run_base_laws.proofs.NodesStandLemmas.{stored_rows}
+use Rattle.run_base_laws.proofs.StoredLemmas.{stored_with}
+use Rattle.run_base_laws.proofs.TurnEventLemmas.{cases_nat, record_may, record_own}
 use Rattle.tree_laws.specs.BeyondLaws.{IsNamed, RecordHeard, WritesHeard}
 use Rattle.tree_laws.specs.Forests.{forest_of}
 use Rattle.tree_laws.proofs.NameLemmas.{exit_on}
-use Rattle.run_laws.proofs.KeptRowLemmas.{put_there, wrote_stay}
+use Rattle.run_branch_laws.proofs.KeptRowLemmas.{put_there, wrote_stay}
 use Rattle.tree_laws.proofs.SettleRunLemmas.{records_heard}
 use Rattle.tree_laws.proofs.SiteLemmas.{IsDecisionOf, wrote_decision, later_undecided}
 

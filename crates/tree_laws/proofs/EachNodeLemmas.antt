@@ -6,15 +6,15 @@ use Rattle.node_rules.specs.Data.{Place, Post, RedoRecord}
 use Rattle.node_rules.specs.Words.{numbered, set_numbered}
 use Rattle.node_rules.specs.Kept.{Kept, Deed}
 use Rattle.node_rules.specs.Turn.{turn_of, start_of, deed_of}
-use Rattle.run_laws.specs.Data.{Turn, Happening, Command}
-use Rattle.run_laws.specs.Data.happenings
-use Rattle.run_laws.specs.Facts.{Facts, first_facts, place_at, flat, node_at, kept_after, with_boot, facts_after, facts_of}
-use Rattle.run_laws.specs.InTurnLaws.{post_of, said_in}
-use Rattle.run_laws.specs.Lawful.{IsOwed, MayHappen, MayTurn, History, IsLawfulRun, facts_at}
-use Rattle.run_laws.proofs.AtNodeLemmas.{turn_elsewhere, turn_here}
-use Rattle.run_laws.proofs.EventsStandLemmas.{first_node, run_stands}
-use Rattle.run_laws.proofs.SaidPostLemmas.{posts_back, posts_of, said_after}
-use Rattle.run_laws.proofs.TurnEventLemmas.{cases_nat}
+use Rattle.run_rules.specs.Data.{Turn, Happening, Command}
+use Rattle.run_rules.specs.Data.happenings
+use Rattle.run_rules.specs.Facts.{Facts, first_facts, place_at, flat, node_at, kept_after, with_boot, facts_after, facts_of}
+use Rattle.run_base_laws.specs.InTurnLaws.{post_of, said_in}
+use Rattle.run_rules.specs.Lawful.{IsOwed, MayHappen, MayTurn, History, IsLawfulRun, facts_at}
+use Rattle.run_rules.proofs.AtNodeLemmas.{turn_elsewhere, turn_here}
+use Rattle.run_base_laws.proofs.EventsStandLemmas.{first_node, run_stands}
+use Rattle.run_base_laws.proofs.SaidPostLemmas.{posts_back, posts_of, said_after}
+use Rattle.run_base_laws.proofs.TurnEventLemmas.{cases_nat}
 use Rattle.tree_laws.proofs.PrefixLemmas.{so_far, f_at, one_on, keep_prefix}
 
 -- so it is of each node that is up, and of what was said

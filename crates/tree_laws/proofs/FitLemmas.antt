@@ -15,22 +15,22 @@ use Rattle.node_rules.specs.Kept.{Kept}
 use Rattle.redo_record.specs.Rows.{sealed_as, decided_as}
 use Rattle.agreement.specs.Events as exits
 use Rattle.agreement.specs.Events.{Event, Exit, first, only_at, exit}
-use Rattle.run_laws.specs.Data.{Turn, Happening, Command}
-use Rattle.run_laws.specs.Data.happenings
-use Rattle.run_laws.specs.Facts.{Facts, first_facts, flat, node_at, records_at, facts_after, facts_of}
-use Rattle.run_laws.specs.Lawful.{IsPlace, MayTurn, MayHappen, IsLawful, facts_at}
-use Rattle.run_laws.specs.RunEvents.{wrote_event, with_event, with_record, with_happening, events_after}
-use Rattle.run_laws.specs.NodeLaws.{EachFactFrom}
-use Rattle.run_laws.specs.Births.{Born, births_after, births_from, births_of}
-use Rattle.run_laws.specs.BirthLaws.{Began, KeptIs, RecordNames}
-use Rattle.run_laws.specs.InTurnLaws.{said_in}
-use Rattle.run_laws.specs.WalkLaws.{is_below, is_above, was_sent}
-use Rattle.run_laws.proofs.BirthLemmas.{began_more, turn_left}
-use Rattle.run_laws.proofs.BirthRunLemmas.{StandBorn, stand_born_on, stand_born_first}
-use Rattle.run_laws.proofs.RestRunLemmas.{RootsStand, roots_stand_on, first_rests}
-use Rattle.run_laws.proofs.SaidPostLemmas.{posts_of, said_after}
-use Rattle.run_laws.proofs.InTurnRunLemmas.{CallsStand, calls_stand_on, first_calls}
-use Rattle.run_laws.proofs.FreezeRunLemmas.{FreezeStand, freeze_on, first_freeze}
+use Rattle.run_rules.specs.Data.{Turn, Happening, Command}
+use Rattle.run_rules.specs.Data.happenings
+use Rattle.run_rules.specs.Facts.{Facts, first_facts, flat, node_at, records_at, facts_after, facts_of}
+use Rattle.run_rules.specs.Lawful.{IsPlace, MayTurn, MayHappen, IsLawful, facts_at}
+use Rattle.run_base_laws.specs.RunEvents.{wrote_event, with_event, with_record, with_happening, events_after}
+use Rattle.run_base_laws.specs.NodeLaws.{EachFactFrom}
+use Rattle.run_rules.specs.Births.{Born, births_after, births_from, births_of}
+use Rattle.run_base_laws.specs.BirthLaws.{Began, KeptIs, RecordNames}
+use Rattle.run_base_laws.specs.InTurnLaws.{said_in}
+use Rattle.run_branch_laws.specs.WalkLaws.{is_below, is_above, was_sent}
+use Rattle.run_base_laws.proofs.BirthLemmas.{began_more, turn_left}
+use Rattle.run_base_laws.proofs.BirthRunLemmas.{StandBorn, stand_born_on, stand_born_first}
+use Rattle.run_base_laws.proofs.RestRunLemmas.{RootsStand, roots_stand_on, first_rests}
+use Rattle.run_base_laws.proofs.SaidPostLemmas.{posts_of, said_after}
+use Rattle.run_base_laws.proofs.InTurnRunLemmas.{CallsStand, calls_stand_on, first_calls}
+use Rattle.run_branch_laws.proofs.FreezeRunLemmas.{FreezeStand, freeze_on, first_freeze}
 use Rattle.tree_laws.specs.Forests.{comes_to, forest_by}
 use Rattle.tree_laws.specs.RecordLaws.{LeadsTo, RecordLeads}
 use Rattle.tree_laws.specs.FitLaws.{FitsForest, WritesInForest, RecordsFitForest}

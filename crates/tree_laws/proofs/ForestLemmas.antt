@@ -7,12 +7,12 @@ use Rattle.tran_ids.proofs.ListedLemmas.{item_is}
 use Rattle.node_rules.specs.Data.{BranchId, Post}
 use Rattle.node_rules.specs.Words.{same}
 use Rattle.agreement.specs.Events.{Forest, IsForest, site_of}
-use Rattle.run_laws.specs.Births.{Born, born_id, born_at}
-use Rattle.run_laws.specs.BirthLaws.{Began, IsChild, StandsBelow}
-use Rattle.run_laws.specs.Trail.{is_prepare}
-use Rattle.run_laws.specs.FreezeLaws.{was_asked}
-use Rattle.run_laws.specs.WalkLaws.{is_below, was_sent, OneWay}
-use Rattle.run_laws.proofs.OwnLemmas.{all_found}
+use Rattle.run_rules.specs.Births.{Born, born_id, born_at}
+use Rattle.run_base_laws.specs.BirthLaws.{Began, IsChild, StandsBelow}
+use Rattle.run_rules.specs.Trail.{is_prepare}
+use Rattle.run_base_laws.specs.FreezeLaws.{was_asked}
+use Rattle.run_branch_laws.specs.WalkLaws.{is_below, was_sent, OneWay}
+use Rattle.run_base_laws.proofs.OwnLemmas.{all_found}
 use Rattle.tree_laws.specs.AskLaws.{GoesDown}
 use Rattle.tree_laws.specs.Forests.{parent_in, root_in, depth_in, depth_at, deepest, told_below, next_on, walk_from, comes_to, asked_by, is_member, toward_by, far_by, site_from, forest_by}
 use Rattle.tree_laws.proofs.AskLemmas.{sent_wider, below_asks}

@@ -5,15 +5,15 @@ use Rattle.tran_ids.proofs.BranchLemmas.{equal_from_same}
 use Rattle.node_rules.specs.Data.{BranchId, Kind}
 use Rattle.node_rules.specs.Data.kinds
 use Rattle.node_rules.specs.Words.{same}
-use Rattle.run_laws.specs.Data.{Packet}
-use Rattle.run_laws.specs.Lawful.{History, IsLawfulRun, facts_at}
-use Rattle.run_laws.specs.Births.{Born, births_of}
-use Rattle.run_laws.specs.BirthLaws.{Began, IsChild, GoesSo}
-use Rattle.run_laws.specs.Trail.{is_prepare}
-use Rattle.run_laws.specs.InTurnLaws.{packet_post, said_in}
-use Rattle.run_laws.specs.FreezeLaws.{was_asked}
-use Rattle.run_laws.proofs.BirthRunLemmas.{births_are_trees, messages_are_of_neighbors}
-use Rattle.run_laws.proofs.FreezeRunLemmas.{walks_are_one}
+use Rattle.run_rules.specs.Data.{Packet}
+use Rattle.run_rules.specs.Lawful.{History, IsLawfulRun, facts_at}
+use Rattle.run_rules.specs.Births.{Born, births_of}
+use Rattle.run_base_laws.specs.BirthLaws.{Began, IsChild, GoesSo}
+use Rattle.run_rules.specs.Trail.{is_prepare}
+use Rattle.run_base_laws.specs.InTurnLaws.{packet_post, said_in}
+use Rattle.run_base_laws.specs.FreezeLaws.{was_asked}
+use Rattle.run_base_laws.proofs.BirthRunLemmas.{births_are_trees, messages_are_of_neighbors}
+use Rattle.run_branch_laws.proofs.FreezeRunLemmas.{walks_are_one}
 use Rattle.tree_laws.specs.Forests.{RunsHaveForests}
 use Rattle.tree_laws.proofs.AskRunLemmas.{askers_were_asked, walk_goes_on}
 use Rattle.tree_laws.proofs.ForestLemmas.{Known, is_forest}

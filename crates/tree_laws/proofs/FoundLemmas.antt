@@ -5,11 +5,11 @@ use Rattle.tran_ids.proofs.BranchLemmas.{same_from_equal}
 use Rattle.node_rules.specs.Data.{BranchId, Live}
 use Rattle.node_rules.specs.Words.{same, item_at}
 use Rattle.node_rules.specs.Kept.{Kept, live_id, standing_id}
-use Rattle.run_laws.specs.Facts.{node_at}
-use Rattle.run_laws.specs.Lawful.{History, IsLawfulRun, facts_at}
-use Rattle.run_laws.specs.NodeLaws.{count_of}
-use Rattle.run_laws.proofs.FreshLemmas.{ids_are_fresh}
-use Rattle.run_laws.proofs.ListLemmas.{all_weaker}
+use Rattle.run_rules.specs.Facts.{node_at}
+use Rattle.run_rules.specs.Lawful.{History, IsLawfulRun, facts_at}
+use Rattle.run_base_laws.specs.NodeLaws.{count_of}
+use Rattle.run_base_laws.proofs.FreshLemmas.{ids_are_fresh}
+use Rattle.run_rules.proofs.ListLemmas.{all_weaker}
 
 -- one that is found counts
 found_counts : (ls : List Live) (b : BranchId) (y : Live) → item_at live_id ls b ≡ Some y → 1 ≤ count_of live_id b ls

@@ -8,17 +8,17 @@ use Rattle.node_rules.specs.Sessions.{session_at}
 use Rattle.node_rules.specs.Turn.{turn_of, deed_of}
 use Rattle.node_rules.proofs.HeardLemmas.{sessions_heard}
 use Rattle.agreement.specs.Events.{Event}
-use Rattle.run_laws.specs.Births.{Born}
-use Rattle.run_laws.specs.Data.{Turn, Command}
-use Rattle.run_laws.specs.Facts.{Facts, place_at}
-use Rattle.run_laws.specs.InTurnLaws.{GoesOn}
-use Rattle.run_laws.specs.Lawful.{IsPlace, MayTurn}
-use Rattle.run_laws.proofs.BirthRunLemmas.{StandBorn}
-use Rattle.run_laws.proofs.CodeLemmas.{AllNeed, codes_on}
-use Rattle.run_laws.proofs.InTurnRunLemmas as calls
-use Rattle.run_laws.proofs.InTurnRunLemmas.{CallsStand}
-use Rattle.run_laws.proofs.RestLemmas.{live_root}
-use Rattle.run_laws.proofs.RestRunLemmas.{NodeRests, RootsStand, turned}
+use Rattle.run_rules.specs.Births.{Born}
+use Rattle.run_rules.specs.Data.{Turn, Command}
+use Rattle.run_rules.specs.Facts.{Facts, place_at}
+use Rattle.run_base_laws.specs.InTurnLaws.{GoesOn}
+use Rattle.run_rules.specs.Lawful.{IsPlace, MayTurn}
+use Rattle.run_base_laws.proofs.BirthRunLemmas.{StandBorn}
+use Rattle.run_base_laws.proofs.CodeLemmas.{AllNeed, codes_on}
+use Rattle.run_base_laws.proofs.InTurnRunLemmas as calls
+use Rattle.run_base_laws.proofs.InTurnRunLemmas.{CallsStand}
+use Rattle.run_base_laws.proofs.RestLemmas.{live_root}
+use Rattle.run_base_laws.proofs.RestRunLemmas.{NodeRests, RootsStand, turned}
 
 module _ (places : List Place) (asked : List Command) (each : (n : ℕ) (p : Place) → numbered places n ≡ Some p → IsPlace places n p) where
   module _ (f : Facts) (t : List Event) (bs : List Born) (stand : StandBorn places asked each f t bs) (roots : RootsStand places asked each f) (turns : CallsStand f) (u : Turn) (k : Kept) (may : MayTurn places f u k) where

@@ -14,12 +14,12 @@ use Rattle.node_rules.specs.Sessions.{fresh_session, session_at, with_call, need
 use Rattle.node_rules.specs.Calls.{called, with_edge, hears_reply}
 use Rattle.node_rules.specs.Prepare.{with_prepare_sent, has_voted, answers_first}
 use Rattle.node_rules.proofs.StandLemmas.{session_set, call_set}
-use Rattle.run_laws.specs.FreezeLaws.{was_asked}
-use Rattle.run_laws.specs.InTurnLaws.{WaitsFor, call_at}
-use Rattle.run_laws.proofs.AtNodeLemmas.{range_of}
-use Rattle.run_laws.proofs.FreezeLemmas.{asked_split}
-use Rattle.run_laws.proofs.InTurnLemmas.{numbered_split, calls_before, one_waits, opened_none, none_waits}
-use Rattle.run_laws.proofs.TurnEventLemmas.{cases_nat}
+use Rattle.run_base_laws.specs.FreezeLaws.{was_asked}
+use Rattle.run_base_laws.specs.InTurnLaws.{WaitsFor, call_at}
+use Rattle.run_rules.proofs.AtNodeLemmas.{range_of}
+use Rattle.run_branch_laws.proofs.FreezeLemmas.{asked_split}
+use Rattle.run_base_laws.proofs.InTurnLemmas.{numbered_split, calls_before, one_waits, opened_none, none_waits}
+use Rattle.run_base_laws.proofs.TurnEventLemmas.{cases_nat}
 use Rattle.tree_laws.specs.WeightLaws.{ToldWeight, HoldsWeights}
 use Rattle.tree_laws.proofs.WeightStepLemmas.{told_more}
 

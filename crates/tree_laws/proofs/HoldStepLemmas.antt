@@ -31,18 +31,18 @@ use Rattle.node_rules.proofs.StandLemmas.{live_so}
 use Rattle.node_rules.proofs.StepLemmas.{acting_so}
 use Rattle.node_rules.specs.LiveBranches.{EachLive, works_of}
 use Rattle.node_rules.proofs.LiveLemmas.{each_put, each_changed, each_left, each_begun, each_same, branch_parts, work_is}
-use Rattle.run_laws.specs.InTurnLaws.{newest_exec, newest_reply, call_at}
-use Rattle.run_laws.specs.FreezeLaws.{was_asked}
-use Rattle.run_laws.proofs.ListLemmas.{all_append}
-use Rattle.run_laws.proofs.RootLemmas.{SessionsFit, root_alone, pends_so, begun_so}
-use Rattle.run_laws.proofs.NeighborLemmas.{News, reply_is}
-use Rattle.run_laws.proofs.NeighborStepLemmas.{begun_news, pends_news, lets_news, acked_news}
-use Rattle.run_laws.proofs.KindSayLemmas.{AllSay, one_says, each_says, told_says, passes_say, askings_say}
-use Rattle.run_laws.proofs.InTurnLemmas as turns
-use Rattle.run_laws.proofs.InTurnLemmas.{length_peers, numbered_split, calls_before, reply_for, one_waits, opened_none, none_waits, numbered_map}
-use Rattle.run_laws.proofs.InTurnStepLemmas as deeds
-use Rattle.run_laws.proofs.FreezeLemmas.{no_ask, IsPlain, plain_decisions, plain_asks, prepares_ask}
-use Rattle.run_laws.proofs.FreezeStepLemmas as frost
+use Rattle.run_base_laws.specs.InTurnLaws.{newest_exec, newest_reply, call_at}
+use Rattle.run_base_laws.specs.FreezeLaws.{was_asked}
+use Rattle.run_rules.proofs.ListLemmas.{all_append}
+use Rattle.run_base_laws.proofs.RootLemmas.{SessionsFit, root_alone, pends_so, begun_so}
+use Rattle.run_base_laws.proofs.NeighborLemmas.{News, reply_is}
+use Rattle.run_base_laws.proofs.NeighborStepLemmas.{begun_news, pends_news, lets_news, acked_news}
+use Rattle.run_base_laws.proofs.KindSayLemmas.{AllSay, one_says, each_says, told_says, passes_say, askings_say}
+use Rattle.run_base_laws.proofs.InTurnLemmas as turns
+use Rattle.run_base_laws.proofs.InTurnLemmas.{length_peers, numbered_split, calls_before, reply_for, one_waits, opened_none, none_waits, numbered_map}
+use Rattle.run_base_laws.proofs.InTurnStepLemmas as deeds
+use Rattle.run_branch_laws.proofs.FreezeLemmas.{no_ask, IsPlain, plain_decisions, plain_asks, prepares_ask}
+use Rattle.run_branch_laws.proofs.FreezeStepLemmas as frost
 use Rattle.tree_laws.specs.WeightLaws.{ToldWeight, HoldsWeights}
 use Rattle.tree_laws.proofs.WeightStepLemmas.{told_more}
 use Rattle.tree_laws.proofs.HoldLemmas.{EdgeTells, none_here, some_going, given_code, holding_more, working_holding, asking_holding, collected_holding, voted_holding, called_holding, opened_told, heard_told}

@@ -2,10 +2,10 @@
 use Rattle.std.proofs.Common.{◌≡◌, ◌≢◌, ℕ, zero, suc, ◌+◌, ◌-◌, ◌≤◌, Bool, true, false, if◌then◌else◌, List, unwrap_or, Option, Some, None, inl, inr, refl, sym, ap, subst, ◌∙◌, arith}
 use Rattle.node_rules.specs.Data.{BranchId, Post}
 use Rattle.agreement.specs.Events.{Forest, site_of}
-use Rattle.run_laws.specs.Births.{Born}
-use Rattle.run_laws.specs.BirthLaws.{Began}
-use Rattle.run_laws.specs.Trail.{is_prepare}
-use Rattle.run_laws.specs.WalkLaws.{is_below, is_above, was_sent}
+use Rattle.run_rules.specs.Births.{Born}
+use Rattle.run_base_laws.specs.BirthLaws.{Began}
+use Rattle.run_rules.specs.Trail.{is_prepare}
+use Rattle.run_branch_laws.specs.WalkLaws.{is_below, is_above, was_sent}
 use Rattle.tree_laws.specs.Forests.{depth_at, deepest, told_below, next_on, walk_from, comes_to, asked_by, toward_by, forest_by}
 use Rattle.tree_laws.specs.RecordLaws.{LeadsTo}
 use Rattle.tree_laws.proofs.AskLemmas.{sent_wider, tells_asks}

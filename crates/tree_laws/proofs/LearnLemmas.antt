@@ -10,24 +10,24 @@ use Rattle.node_rules.specs.Data.records
 use Rattle.node_rules.specs.Words.{numbered, set_numbered}
 use Rattle.node_rules.specs.Kept.{Kept, standing_id}
 use Rattle.agreement.specs.Events.{Event, Forest}
-use Rattle.run_laws.specs.Data.{Happening, Command}
-use Rattle.run_laws.specs.Data.happenings
-use Rattle.run_laws.specs.Facts.{Facts, first_facts, records_at, with_boot, facts_after, facts_of}
-use Rattle.run_laws.specs.Lawful.{IsPlace, MayHappen, IsLawful, History, IsLawfulRun, facts_at}
-use Rattle.run_laws.specs.RunEvents.{events_after}
-use Rattle.run_laws.specs.EventLaws.{EachEventFrom, AtEachEvent}
-use Rattle.run_laws.specs.TowardLaws.{IsRowLike, WasTold, LearnsSo, GoesByRow, WritesByRow}
-use Rattle.run_laws.specs.Births.{Born, births_after, births_from, births_of}
-use Rattle.run_laws.specs.BirthLaws.{Began, KeptIs, NamesAre}
-use Rattle.run_laws.specs.InTurnLaws.{said_in}
-use Rattle.run_laws.proofs.ListLemmas.{all_append}
-use Rattle.run_laws.proofs.OwnLemmas.{all_found}
-use Rattle.run_laws.proofs.EventsStandLemmas.{first_disk, node_so}
-use Rattle.run_laws.proofs.BirthRunLemmas.{StandBorn, stand_born_on, stand_born_first}
-use Rattle.run_laws.proofs.RestRunLemmas.{RootsStand, roots_stand_on, first_rests}
-use Rattle.run_laws.proofs.InTurnRunLemmas.{CallsStand, calls_stand_on, first_calls}
-use Rattle.run_laws.proofs.FreezeRunLemmas.{FreezeStand, freeze_on, first_freeze}
-use Rattle.run_laws.proofs.TowardLemmas.{turns_go_by_rows}
+use Rattle.run_rules.specs.Data.{Happening, Command}
+use Rattle.run_rules.specs.Data.happenings
+use Rattle.run_rules.specs.Facts.{Facts, first_facts, records_at, with_boot, facts_after, facts_of}
+use Rattle.run_rules.specs.Lawful.{IsPlace, MayHappen, IsLawful, History, IsLawfulRun, facts_at}
+use Rattle.run_base_laws.specs.RunEvents.{events_after}
+use Rattle.run_base_laws.specs.EventLaws.{EachEventFrom, AtEachEvent}
+use Rattle.run_branch_laws.specs.TowardLaws.{IsRowLike, WasTold, LearnsSo, GoesByRow, WritesByRow}
+use Rattle.run_rules.specs.Births.{Born, births_after, births_from, births_of}
+use Rattle.run_base_laws.specs.BirthLaws.{Began, KeptIs, NamesAre}
+use Rattle.run_base_laws.specs.InTurnLaws.{said_in}
+use Rattle.run_rules.proofs.ListLemmas.{all_append}
+use Rattle.run_base_laws.proofs.OwnLemmas.{all_found}
+use Rattle.run_base_laws.proofs.EventsStandLemmas.{first_disk, node_so}
+use Rattle.run_base_laws.proofs.BirthRunLemmas.{StandBorn, stand_born_on, stand_born_first}
+use Rattle.run_base_laws.proofs.RestRunLemmas.{RootsStand, roots_stand_on, first_rests}
+use Rattle.run_base_laws.proofs.InTurnRunLemmas.{CallsStand, calls_stand_on, first_calls}
+use Rattle.run_branch_laws.proofs.FreezeRunLemmas.{FreezeStand, freeze_on, first_freeze}
+use Rattle.run_branch_laws.proofs.TowardLemmas.{turns_go_by_rows}
 use Rattle.tree_laws.specs.Forests.{forest_by}
 use Rattle.tree_laws.specs.RecordLaws.{LeadsTo, RecordLeads}
 use Rattle.tree_laws.specs.LearnLaws.{LearnsOfToward, LearnsInForest, LearnedOfToward}

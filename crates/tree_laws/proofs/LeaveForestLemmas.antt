@@ -13,23 +13,23 @@ use Rattle.node_rules.specs.Turn.{turn_of, heard, deed_of, stamped}
 use Rattle.node_rules.proofs.Steps.{Acting}
 use Rattle.node_rules.proofs.StepLemmas.{IsLive, acting_live, acting_so}
 use Rattle.agreement.specs.Events.{Forest, Event, Beyond, Quiet, first, exit_by, exit, site_of}
-use Rattle.run_laws.specs.Data.{Turn, Happening}
-use Rattle.run_laws.specs.Data.happenings
-use Rattle.run_laws.specs.Facts.{Facts, first_facts, place_at, node_at, facts_after}
-use Rattle.run_laws.specs.Lawful.{MayTurn, MayHappen, IsOwed, History, IsLawfulRun}
-use Rattle.run_laws.specs.Branches.{is_among}
-use Rattle.run_laws.specs.Trail.{is_read_only, is_quiet}
-use Rattle.run_laws.specs.RunEvents.{lives_at, leave_event, has_left, with_leaver, with_record, events_after}
-use Rattle.run_laws.specs.EventLaws.{EachEventFrom}
-use Rattle.run_laws.specs.Births.{Born, births_of}
-use Rattle.run_laws.specs.BirthLaws.{Began}
-use Rattle.run_laws.specs.TreeJust.{TreeLeaves}
-use Rattle.run_laws.specs.WalkLaws.{is_above, was_sent}
-use Rattle.run_laws.proofs.BirthLemmas.{turn_leaves}
-use Rattle.run_laws.proofs.HeardStandLemmas.{live_among, heard_lives}
-use Rattle.run_laws.proofs.LaterLemmas.{exit_later, wrote_added}
-use Rattle.run_laws.proofs.LawfulLemmas.{serves}
-use Rattle.run_laws.proofs.ListLemmas.{all_map}
+use Rattle.run_rules.specs.Data.{Turn, Happening}
+use Rattle.run_rules.specs.Data.happenings
+use Rattle.run_rules.specs.Facts.{Facts, first_facts, place_at, node_at, facts_after}
+use Rattle.run_rules.specs.Lawful.{MayTurn, MayHappen, IsOwed, History, IsLawfulRun}
+use Rattle.run_rules.specs.Branches.{is_among}
+use Rattle.run_rules.specs.Trail.{is_read_only, is_quiet}
+use Rattle.run_base_laws.specs.RunEvents.{lives_at, leave_event, has_left, with_leaver, with_record, events_after}
+use Rattle.run_base_laws.specs.EventLaws.{EachEventFrom}
+use Rattle.run_rules.specs.Births.{Born, births_of}
+use Rattle.run_base_laws.specs.BirthLaws.{Began}
+use Rattle.run_branch_laws.specs.TreeJust.{TreeLeaves}
+use Rattle.run_branch_laws.specs.WalkLaws.{is_above, was_sent}
+use Rattle.run_base_laws.proofs.BirthLemmas.{turn_leaves}
+use Rattle.run_branch_laws.proofs.HeardStandLemmas.{live_among, heard_lives}
+use Rattle.run_base_laws.proofs.LaterLemmas.{exit_later, wrote_added}
+use Rattle.run_base_laws.proofs.LawfulLemmas.{serves}
+use Rattle.run_rules.proofs.ListLemmas.{all_map}
 use Rattle.tree_laws.specs.AskLaws.{HasToldAll}
 use Rattle.tree_laws.specs.Forests.{forest_of}
 use Rattle.tree_laws.specs.AgreeLaws.{LeavesByForest, LeavesGoByForest}

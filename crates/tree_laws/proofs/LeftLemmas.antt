@@ -7,24 +7,24 @@ use Rattle.node_rules.specs.Words.{numbered}
 use Rattle.node_rules.specs.Kept.{Kept, Deed, live_id}
 use Rattle.node_rules.specs.Turn.{turn_of, deed_of}
 use Rattle.agreement.specs.Events.{Event, exit}
-use Rattle.run_laws.specs.Data.{Turn, Happening, Command}
-use Rattle.run_laws.specs.Data.happenings
-use Rattle.run_laws.specs.Facts.{Facts, first_facts, place_at, node_at, kept_after, facts_after, facts_of}
-use Rattle.run_laws.specs.Lawful.{IsPlace, MayTurn, MayHappen, IsOwed, IsLawful, facts_at}
-use Rattle.run_laws.specs.RunEvents.{events_after}
-use Rattle.run_laws.specs.EventLaws.{EachEventFrom}
-use Rattle.run_laws.specs.Births.{Born, births_after}
-use Rattle.run_laws.specs.Trail.{is_prepare}
-use Rattle.run_laws.specs.InTurnLaws.{post_of, said_in}
-use Rattle.run_laws.specs.WalkLaws.{is_below, was_sent}
-use Rattle.run_laws.proofs.OwnLemmas.{all_found}
-use Rattle.run_laws.proofs.BirthLemmas.{turn_left, stop_left}
-use Rattle.run_laws.proofs.BirthRunLemmas.{StandBorn, stand_born_on, stand_born_first}
-use Rattle.run_laws.proofs.RestRunLemmas.{RootsStand, roots_stand_on, first_rests}
-use Rattle.run_laws.proofs.SaidPostLemmas.{posts_back, posts_of, said_after}
-use Rattle.run_laws.proofs.InTurnRunLemmas as calls
-use Rattle.run_laws.proofs.InTurnRunLemmas.{CallsStand, calls_stand_on, first_calls}
-use Rattle.run_laws.proofs.FreezeRunLemmas.{FreezeStand, freeze_on, first_freeze}
+use Rattle.run_rules.specs.Data.{Turn, Happening, Command}
+use Rattle.run_rules.specs.Data.happenings
+use Rattle.run_rules.specs.Facts.{Facts, first_facts, place_at, node_at, kept_after, facts_after, facts_of}
+use Rattle.run_rules.specs.Lawful.{IsPlace, MayTurn, MayHappen, IsOwed, IsLawful, facts_at}
+use Rattle.run_base_laws.specs.RunEvents.{events_after}
+use Rattle.run_base_laws.specs.EventLaws.{EachEventFrom}
+use Rattle.run_rules.specs.Births.{Born, births_after}
+use Rattle.run_rules.specs.Trail.{is_prepare}
+use Rattle.run_base_laws.specs.InTurnLaws.{post_of, said_in}
+use Rattle.run_branch_laws.specs.WalkLaws.{is_below, was_sent}
+use Rattle.run_base_laws.proofs.OwnLemmas.{all_found}
+use Rattle.run_base_laws.proofs.BirthLemmas.{turn_left, stop_left}
+use Rattle.run_base_laws.proofs.BirthRunLemmas.{StandBorn, stand_born_on, stand_born_first}
+use Rattle.run_base_laws.proofs.RestRunLemmas.{RootsStand, roots_stand_on, first_rests}
+use Rattle.run_base_laws.proofs.SaidPostLemmas.{posts_back, posts_of, said_after}
+use Rattle.run_base_laws.proofs.InTurnRunLemmas as calls
+use Rattle.run_base_laws.proofs.InTurnRunLemmas.{CallsStand, calls_stand_on, first_calls}
+use Rattle.run_branch_laws.proofs.FreezeRunLemmas.{FreezeStand, freeze_on, first_freeze}
 use Rattle.tree_laws.specs.AskLaws.{HasToldAll, LeftHaveToldAll}
 use Rattle.tree_laws.proofs.AskLemmas.{sent_split, sent_wider, below_asks}
 use Rattle.tree_laws.proofs.AskStepLemmas.{Asker}

@@ -11,16 +11,16 @@ use Rattle.node_rules.specs.Data.records
 use Rattle.node_rules.specs.Words.{numbered, set_numbered}
 use Rattle.node_rules.specs.Kept.{Kept}
 use Rattle.node_rules.specs.Records.{nothing_stored, stored_by}
-use Rattle.run_laws.specs.NodeLaws.{unacked}
+use Rattle.run_base_laws.specs.NodeLaws.{unacked}
 use Rattle.agreement.specs.Events.{Forest, Event, Exit, Quiet, exit}
-use Rattle.run_laws.specs.Data.{Happening, Command}
-use Rattle.run_laws.specs.Data.happenings
-use Rattle.run_laws.specs.Facts.{Facts, first_facts, records_at, with_boot, facts_after}
-use Rattle.run_laws.specs.RunEvents.{events_after}
-use Rattle.run_laws.specs.EventLaws.{EachEventFrom}
-use Rattle.run_laws.proofs.ListLemmas.{all_weaker, all_append, map_after}
-use Rattle.run_laws.proofs.LaterLemmas.{exit_later, wrote_added, turn_added, stop_added}
-use Rattle.run_laws.proofs.EventsStandLemmas.{first_disk, node_so, run_stands}
+use Rattle.run_rules.specs.Data.{Happening, Command}
+use Rattle.run_rules.specs.Data.happenings
+use Rattle.run_rules.specs.Facts.{Facts, first_facts, records_at, with_boot, facts_after}
+use Rattle.run_base_laws.specs.RunEvents.{events_after}
+use Rattle.run_base_laws.specs.EventLaws.{EachEventFrom}
+use Rattle.run_rules.proofs.ListLemmas.{all_weaker, all_append, map_after}
+use Rattle.run_base_laws.proofs.LaterLemmas.{exit_later, wrote_added, turn_added, stop_added}
+use Rattle.run_base_laws.proofs.EventsStandLemmas.{first_disk, node_so, run_stands}
 use Rattle.tree_laws.specs.BeyondLaws.{BeyondHeard, RecordHeard, WritesHeard}
 use Rattle.tree_laws.specs.NameLaws.{NamesBeyond, RowNames, NodesName, RowsNameBeyond}
 use Rattle.tree_laws.specs.Forests.{forest_of}

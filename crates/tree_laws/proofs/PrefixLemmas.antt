@@ -3,13 +3,13 @@ use Rattle.std.proofs.Common.{◌≡◌, List, [], ◌∷◌, ◌++◌, refl, sy
 use Rattle.std.proofs.lemmas.List.{append_assoc}
 use Rattle.node_rules.specs.Data.{Place}
 use Rattle.agreement.specs.Events.{Event}
-use Rattle.run_laws.specs.Data.{Happening, Command}
-use Rattle.run_laws.specs.Facts.{Facts, first_facts, facts_after, facts_of}
-use Rattle.run_laws.specs.Lawful.{MayHappen, IsLawful, History, IsLawfulRun, facts_at}
-use Rattle.run_laws.specs.RunEvents.{events_after, events_from, events_of}
-use Rattle.run_laws.specs.EventLaws.{EachEventFrom, AtEachEvent}
-use Rattle.run_laws.specs.NodeLaws.{EachFactFrom}
-use Rattle.run_laws.specs.Births.{Born, births_after, births_from}
+use Rattle.run_rules.specs.Data.{Happening, Command}
+use Rattle.run_rules.specs.Facts.{Facts, first_facts, facts_after, facts_of}
+use Rattle.run_rules.specs.Lawful.{MayHappen, IsLawful, History, IsLawfulRun, facts_at}
+use Rattle.run_base_laws.specs.RunEvents.{events_after, events_from, events_of}
+use Rattle.run_base_laws.specs.EventLaws.{EachEventFrom, AtEachEvent}
+use Rattle.run_base_laws.specs.NodeLaws.{EachFactFrom}
+use Rattle.run_rules.specs.Births.{Born, births_after, births_from}
 
 module _ (places : List Place) (asked : List Command) where
   pub facts_on : (f : Facts) (hs : List Happening) (h : Happening) → facts_of places asked f (hs ++ h ∷ []) ≡ facts_after places asked (facts_of places asked f hs) h

@@ -9,20 +9,20 @@ use Rattle.node_rules.specs.Data.decisions
 use Rattle.node_rules.specs.Data.records
 use Rattle.node_rules.specs.Kept.{Kept, standing_id}
 use Rattle.agreement.specs.Events.{Forest, Event, Learn, Send_forgotten, Has, Heard, Cleared, site_of}
-use Rattle.run_laws.specs.Data.{Happening}
-use Rattle.run_laws.specs.Data.happenings
-use Rattle.run_laws.specs.Facts.{Facts, first_facts, node_at, records_at}
-use Rattle.run_laws.specs.Lawful.{MayHappen, History, IsLawfulRun}
-use Rattle.run_laws.specs.RunEvents.{wrote_event, record_event}
-use Rattle.run_laws.specs.EventLaws.{EachEventFrom}
-use Rattle.run_laws.specs.Births.{Born, births_of}
-use Rattle.run_laws.specs.BirthLaws.{Began, KeptIs}
-use Rattle.run_laws.specs.TowardLaws.{IsRowLike, WasTold, AllAcked, GoesByRow, WritesByRow}
-use Rattle.run_laws.specs.TreeJust.{TreeAllows, IsTreeAllowed}
-use Rattle.run_laws.proofs.OwnLemmas.{all_found}
-use Rattle.run_laws.proofs.BirthRunLemmas.{nodes_name_the_born}
-use Rattle.run_laws.proofs.EventsStandLemmas.{node_so, run_stands}
-use Rattle.run_laws.proofs.TowardLemmas.{turns_go_by_rows}
+use Rattle.run_rules.specs.Data.{Happening}
+use Rattle.run_rules.specs.Data.happenings
+use Rattle.run_rules.specs.Facts.{Facts, first_facts, node_at, records_at}
+use Rattle.run_rules.specs.Lawful.{MayHappen, History, IsLawfulRun}
+use Rattle.run_base_laws.specs.RunEvents.{wrote_event, record_event}
+use Rattle.run_base_laws.specs.EventLaws.{EachEventFrom}
+use Rattle.run_rules.specs.Births.{Born, births_of}
+use Rattle.run_base_laws.specs.BirthLaws.{Began, KeptIs}
+use Rattle.run_branch_laws.specs.TowardLaws.{IsRowLike, WasTold, AllAcked, GoesByRow, WritesByRow}
+use Rattle.run_branch_laws.specs.TreeJust.{TreeAllows, IsTreeAllowed}
+use Rattle.run_base_laws.proofs.OwnLemmas.{all_found}
+use Rattle.run_base_laws.proofs.BirthRunLemmas.{nodes_name_the_born}
+use Rattle.run_base_laws.proofs.EventsStandLemmas.{node_so, run_stands}
+use Rattle.run_branch_laws.proofs.TowardLemmas.{turns_go_by_rows}
 use Rattle.tree_laws.specs.BeyondLaws.{BeyondHeard, RecordHeard, WritesHeard}
 use Rattle.tree_laws.specs.FitLaws.{FitsForest, WritesInForest}
 use Rattle.tree_laws.specs.Forests.{forest_of}

@@ -6,20 +6,20 @@ use Rattle.node_rules.specs.Words.{numbered}
 use Rattle.node_rules.specs.Kept.{Kept, Deed}
 use Rattle.node_rules.specs.Turn.{turn_of, deed_of}
 use Rattle.agreement.specs.Events.{Event}
-use Rattle.run_laws.specs.Data.{Turn, Happening, Command}
-use Rattle.run_laws.specs.Data.happenings
-use Rattle.run_laws.specs.Facts.{Facts, first_facts, place_at, facts_after}
-use Rattle.run_laws.specs.Lawful.{IsPlace, MayTurn, MayHappen, IsOwed, IsLawful}
-use Rattle.run_laws.specs.RunEvents.{events_after}
-use Rattle.run_laws.specs.NodeLaws.{EachFactFrom}
-use Rattle.run_laws.specs.Births.{Born, births_after}
-use Rattle.run_laws.specs.InTurnLaws.{said_in}
-use Rattle.run_laws.proofs.BirthRunLemmas.{StandBorn, stand_born_on, stand_born_first}
-use Rattle.run_laws.proofs.RestRunLemmas.{RootsStand, roots_stand_on, first_rests, heard_rests}
-use Rattle.run_laws.proofs.InTurnRunLemmas as calls
-use Rattle.run_laws.proofs.InTurnRunLemmas.{CallsStand, heard_calls, calls_stand_on, first_calls}
-use Rattle.run_laws.proofs.FreezeRunLemmas as frozen
-use Rattle.run_laws.proofs.FreezeRunLemmas.{FreezeStand, freeze_on, first_freeze}
+use Rattle.run_rules.specs.Data.{Turn, Happening, Command}
+use Rattle.run_rules.specs.Data.happenings
+use Rattle.run_rules.specs.Facts.{Facts, first_facts, place_at, facts_after}
+use Rattle.run_rules.specs.Lawful.{IsPlace, MayTurn, MayHappen, IsOwed, IsLawful}
+use Rattle.run_base_laws.specs.RunEvents.{events_after}
+use Rattle.run_base_laws.specs.NodeLaws.{EachFactFrom}
+use Rattle.run_rules.specs.Births.{Born, births_after}
+use Rattle.run_base_laws.specs.InTurnLaws.{said_in}
+use Rattle.run_base_laws.proofs.BirthRunLemmas.{StandBorn, stand_born_on, stand_born_first}
+use Rattle.run_base_laws.proofs.RestRunLemmas.{RootsStand, roots_stand_on, first_rests, heard_rests}
+use Rattle.run_base_laws.proofs.InTurnRunLemmas as calls
+use Rattle.run_base_laws.proofs.InTurnRunLemmas.{CallsStand, heard_calls, calls_stand_on, first_calls}
+use Rattle.run_branch_laws.proofs.FreezeRunLemmas as frozen
+use Rattle.run_branch_laws.proofs.FreezeRunLemmas.{FreezeStand, freeze_on, first_freeze}
 use Rattle.tree_laws.specs.AskLaws.{AsTold}
 use Rattle.tree_laws.specs.RecordLaws.{RecordLeads, WritesAsTold, RecordsAreAsTold}
 use Rattle.tree_laws.proofs.AskRunLemmas as runs

@@ -20,15 +20,15 @@ use Rattle.node_rules.specs.Client.{new_root, fresh_root}
 use Rattle.node_rules.specs.Prepare.{path_of, is_place, is_prepared, act_turn}
 use Rattle.node_rules.proofs.Steps as steps
 use Rattle.node_rules.proofs.Steps.{Step, Acting, Collected, Pointed}
-use Rattle.run_laws.specs.WalkLaws.{is_below, was_sent}
+use Rattle.run_branch_laws.specs.WalkLaws.{is_below, was_sent}
 use Rattle.node_rules.specs.LiveBranches.{EachLive}
 use Rattle.node_rules.proofs.LiveLemmas.{each_begun}
-use Rattle.run_laws.proofs.RootLemmas.{SessionsFit, pends_so, begun_so}
-use Rattle.run_laws.proofs.NeighborLemmas.{News}
-use Rattle.run_laws.proofs.NeighborStepLemmas.{begun_news, pends_news, lets_news, acked_news}
-use Rattle.run_laws.proofs.InTurnLemmas as turns
-use Rattle.run_laws.proofs.InTurnStepLemmas as deeds
-use Rattle.run_laws.proofs.FreezeStepLemmas as frost
+use Rattle.run_base_laws.proofs.RootLemmas.{SessionsFit, pends_so, begun_so}
+use Rattle.run_base_laws.proofs.NeighborLemmas.{News}
+use Rattle.run_base_laws.proofs.NeighborStepLemmas.{begun_news, pends_news, lets_news, acked_news}
+use Rattle.run_base_laws.proofs.InTurnLemmas as turns
+use Rattle.run_base_laws.proofs.InTurnStepLemmas as deeds
+use Rattle.run_branch_laws.proofs.FreezeStepLemmas as frost
 use Rattle.tree_laws.specs.AskLaws.{way_of, path_on, AsTold}
 use Rattle.tree_laws.specs.Forests.{comes_to}
 use Rattle.tree_laws.specs.RecordLaws.{LeadsTo, RecordLeads}

@@ -17,30 +17,30 @@ use Rattle.node_rules.specs.Kept.{Kept, Deed, live_id, standing_id, live_at, wit
 use Rattle.node_rules.specs.Turn.{Is_gone, live_or, stand_of, turn_of, heard, deed_of, stamped}
 use Rattle.node_rules.proofs.StepLemmas.{IsLive, acting_live}
 use Rattle.agreement.specs.Events.{Forest, Event, Beyond, Quiet, Decided, Send_rollback, exit, learned, Gone}
-use Rattle.run_laws.specs.Data.{Turn, Happening}
-use Rattle.run_laws.specs.Data.happenings
-use Rattle.run_laws.specs.Facts.{Facts, first_facts, place_at, node_at, facts_after}
-use Rattle.run_laws.specs.Lawful.{MayTurn, MayHappen, IsOwed, History, IsLawfulRun}
-use Rattle.run_laws.specs.RunEvents.{wrote_event, with_event, lives_at, with_record, with_exits}
-use Rattle.run_laws.specs.EventRows.{MayStand, HasRow, IsDone}
-use Rattle.run_laws.specs.EventLaws.{EachEventFrom}
-use Rattle.run_laws.specs.NodeLaws.{unacked_row}
-use Rattle.run_laws.specs.RowSayLaws.{RollbackIs, SaysByRow}
-use Rattle.run_laws.specs.TreeJust.{TreeAllows}
-use Rattle.run_laws.proofs.GoneLemmas.{kept_not_gone}
-use Rattle.run_laws.proofs.HeardStandLemmas.{heard_lives}
-use Rattle.run_laws.proofs.InTurnRunLemmas.{came_here}
-use Rattle.run_laws.proofs.KeptRowLemmas.{any_map}
-use Rattle.run_laws.proofs.LaterLemmas.{Added, Any, exit_later, learned_later, exit_made, leavers_added}
-use Rattle.run_laws.proofs.LawfulLemmas.{serves}
-use Rattle.run_laws.proofs.ListLemmas.{all_weaker, all_map}
-use Rattle.run_laws.proofs.NodesStandLemmas.{stored_rows}
-use Rattle.run_laws.proofs.OwnLemmas.{all_found}
-use Rattle.run_laws.proofs.RowEventLemmas.{learned_now}
-use Rattle.run_laws.proofs.RowSayLemmas.{LearnsRollback}
-use Rattle.run_laws.proofs.EventsStandLemmas.{node_so, run_stands, nodes_are_as_events}
-use Rattle.run_laws.proofs.TowardLemmas.{heard_rows}
-use Rattle.run_laws.proofs.TurnEventLemmas.{all_both}
+use Rattle.run_rules.specs.Data.{Turn, Happening}
+use Rattle.run_rules.specs.Data.happenings
+use Rattle.run_rules.specs.Facts.{Facts, first_facts, place_at, node_at, facts_after}
+use Rattle.run_rules.specs.Lawful.{MayTurn, MayHappen, IsOwed, History, IsLawfulRun}
+use Rattle.run_base_laws.specs.RunEvents.{wrote_event, with_event, lives_at, with_record, with_exits}
+use Rattle.run_base_laws.specs.EventRows.{MayStand, HasRow, IsDone}
+use Rattle.run_base_laws.specs.EventLaws.{EachEventFrom}
+use Rattle.run_base_laws.specs.NodeLaws.{unacked_row}
+use Rattle.run_branch_laws.specs.RowSayLaws.{RollbackIs, SaysByRow}
+use Rattle.run_branch_laws.specs.TreeJust.{TreeAllows}
+use Rattle.run_branch_laws.proofs.GoneLemmas.{kept_not_gone}
+use Rattle.run_branch_laws.proofs.HeardStandLemmas.{heard_lives}
+use Rattle.run_base_laws.proofs.InTurnRunLemmas.{came_here}
+use Rattle.run_branch_laws.proofs.KeptRowLemmas.{any_map}
+use Rattle.run_base_laws.proofs.LaterLemmas.{Added, Any, exit_later, learned_later, exit_made, leavers_added}
+use Rattle.run_base_laws.proofs.LawfulLemmas.{serves}
+use Rattle.run_rules.proofs.ListLemmas.{all_weaker, all_map}
+use Rattle.run_base_laws.proofs.NodesStandLemmas.{stored_rows}
+use Rattle.run_base_laws.proofs.OwnLemmas.{all_found}
+use Rattle.run_base_laws.proofs.RowEventLemmas.{learned_now}
+use Rattle.run_branch_laws.proofs.RowSayLemmas.{LearnsRollback}
+use Rattle.run_base_laws.proofs.EventsStandLemmas.{node_so, run_stands, nodes_are_as_events}
+use Rattle.run_branch_laws.proofs.TowardLemmas.{heard_rows}
+use Rattle.run_base_laws.proofs.TurnEventLemmas.{all_both}
 use Rattle.tree_laws.specs.BeyondLaws.{IsNamed}
 use Rattle.tree_laws.specs.Forests.{forest_of}
 use Rattle.tree_laws.specs.MessageLaws.{RollByForest, RollsByForest, RollsGoByForest}

@@ -14,8 +14,8 @@ use Rattle.node_rules.specs.Data.params
 use Rattle.node_rules.specs.Data.records
 use Rattle.node_rules.specs.Kept.{Stored, Kept}
 use Rattle.node_rules.specs.Records.{nothing_stored, applied, stored_by}
-use Rattle.run_laws.specs.NodeLaws.{unacked_kid, unacked_row, unacked}
-use Rattle.run_laws.proofs.ListLemmas.{all_weaker, all_filter, all_map, all_put, map_after}
+use Rattle.run_base_laws.specs.NodeLaws.{unacked_kid, unacked_row, unacked}
+use Rattle.run_rules.proofs.ListLemmas.{all_weaker, all_filter, all_map, all_put, map_after}
 use Rattle.tree_laws.specs.RecordLaws.{LeadsTo, RecordLeads}
 
 -- the branch of a child

@@ -10,8 +10,8 @@ use Rattle.node_rules.proofs.Steps as steps
 use Rattle.node_rules.proofs.Steps.{Acting, Collected}
 use Rattle.agreement.specs.Events.{Event, Sealed, Decided, Quiet, Dropped, first, only_at, exit_by, exit}
 use Rattle.agreement.proofs.EventLemmas.{first_is, only_at_is}
-use Rattle.run_laws.specs.RunEvents.{wrote_event, with_event}
-use Rattle.run_laws.proofs.LaterLemmas.{Later, Was_said, Was_quiet, Was_dropped}
+use Rattle.run_base_laws.specs.RunEvents.{wrote_event, with_event}
+use Rattle.run_base_laws.proofs.LaterLemmas.{Later, Was_said, Was_quiet, Was_dropped}
 use Rattle.tree_laws.proofs.WeightStepLemmas.{collected_weight, voted_weight}
 use Rattle.tree_laws.proofs.WhyLemmas.{seal_act}
 

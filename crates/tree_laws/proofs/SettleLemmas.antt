@@ -22,28 +22,28 @@ use Rattle.node_rules.specs.Turn.{heard}
 use Rattle.node_rules.proofs.Steps as steps
 use Rattle.node_rules.proofs.Steps.{Acting, Answers, Collected, Collects, vote_kind}
 use Rattle.agreement.specs.Events.{Event, Quiet, Send_vote, exit, Has}
-use Rattle.run_laws.specs.Data.{Turn, Happening}
-use Rattle.run_laws.specs.Facts.{Facts, place_at}
-use Rattle.run_laws.specs.Lawful.{MayTurn, History, IsLawfulRun}
-use Rattle.run_laws.specs.Births.{Born, births_of}
-use Rattle.run_laws.specs.BirthLaws.{Began, IsChild, LiveIs, GoesSo}
-use Rattle.run_laws.specs.FreezeLaws.{was_asked}
-use Rattle.run_laws.specs.HeardLaws.{VoteIs, EdgeIs, AnswersAre, QuietIs}
-use Rattle.run_laws.specs.InTurnLaws.{said_in}
-use Rattle.run_laws.specs.PhaseLaws.{IsNoAbort, PhaseFits}
-use Rattle.run_laws.specs.Trail.{is_prepare}
-use Rattle.run_laws.specs.WalkLaws.{is_below, is_above, was_sent}
-use Rattle.run_laws.proofs.ListLemmas.{all_weaker, all_map}
-use Rattle.run_laws.proofs.OwnLemmas.{all_found}
-use Rattle.run_laws.proofs.SaidLemmas.{came_said}
-use Rattle.run_laws.proofs.BirthsStandLemmas.{came_so}
-use Rattle.run_laws.proofs.BirthRunLemmas.{nodes_name_the_born, messages_are_of_neighbors}
-use Rattle.run_laws.proofs.EventsStandLemmas.{run_stands}
-use Rattle.run_laws.proofs.HeardLemmas.{risen_answers}
-use Rattle.run_laws.proofs.HeardStandLemmas.{answers_are_true, quiets_are_gone}
-use Rattle.run_laws.proofs.PhaseLemmas.{phases_fit}
-use Rattle.run_laws.proofs.FreezeLemmas.{working_or}
-use Rattle.run_laws.proofs.FreezeRunLemmas.{asked_stand_still}
+use Rattle.run_rules.specs.Data.{Turn, Happening}
+use Rattle.run_rules.specs.Facts.{Facts, place_at}
+use Rattle.run_rules.specs.Lawful.{MayTurn, History, IsLawfulRun}
+use Rattle.run_rules.specs.Births.{Born, births_of}
+use Rattle.run_base_laws.specs.BirthLaws.{Began, IsChild, LiveIs, GoesSo}
+use Rattle.run_base_laws.specs.FreezeLaws.{was_asked}
+use Rattle.run_branch_laws.specs.HeardLaws.{VoteIs, EdgeIs, AnswersAre, QuietIs}
+use Rattle.run_base_laws.specs.InTurnLaws.{said_in}
+use Rattle.run_branch_laws.specs.PhaseLaws.{IsNoAbort, PhaseFits}
+use Rattle.run_rules.specs.Trail.{is_prepare}
+use Rattle.run_branch_laws.specs.WalkLaws.{is_below, is_above, was_sent}
+use Rattle.run_rules.proofs.ListLemmas.{all_weaker, all_map}
+use Rattle.run_base_laws.proofs.OwnLemmas.{all_found}
+use Rattle.run_base_laws.proofs.SaidLemmas.{came_said}
+use Rattle.run_base_laws.proofs.BirthsStandLemmas.{came_so}
+use Rattle.run_base_laws.proofs.BirthRunLemmas.{nodes_name_the_born, messages_are_of_neighbors}
+use Rattle.run_base_laws.proofs.EventsStandLemmas.{run_stands}
+use Rattle.run_branch_laws.proofs.HeardLemmas.{risen_answers}
+use Rattle.run_branch_laws.proofs.HeardStandLemmas.{answers_are_true, quiets_are_gone}
+use Rattle.run_branch_laws.proofs.PhaseLemmas.{phases_fit}
+use Rattle.run_branch_laws.proofs.FreezeLemmas.{working_or}
+use Rattle.run_branch_laws.proofs.FreezeRunLemmas.{asked_stand_still}
 use Rattle.tree_laws.specs.AskLaws.{way_of, tells}
 use Rattle.tree_laws.specs.AnswerLaws.{EdgeTold, AnswersTold, ReadyIs}
 use Rattle.tree_laws.proofs.AskLemmas.{sent_wider, below_asks, tells_own}

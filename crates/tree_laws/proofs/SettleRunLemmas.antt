@@ -10,22 +10,22 @@ use Rattle.node_rules.specs.Kept.{Kept, Deed}
 use Rattle.node_rules.specs.Turn.{heard, deed_of}
 use Rattle.agreement.specs.Events as exits
 use Rattle.agreement.specs.Events.{Forest, Event, exit}
-use Rattle.run_laws.specs.Data.{Turn, Happening}
-use Rattle.run_laws.specs.Data.happenings
-use Rattle.run_laws.specs.Facts.{Facts, first_facts, place_at, facts_after, facts_of}
-use Rattle.run_laws.specs.Lawful.{MayTurn, MayHappen, History, IsLawfulRun, facts_at}
-use Rattle.run_laws.specs.RunEvents.{wrote_event, with_event, with_record, with_happening, events_after}
-use Rattle.run_laws.specs.EventLaws.{EachEventFrom}
-use Rattle.run_laws.specs.Births.{Born, births_from, births_of}
-use Rattle.run_laws.specs.BirthLaws.{Began}
-use Rattle.run_laws.specs.FreezeLaws.{was_asked}
-use Rattle.run_laws.specs.InTurnLaws.{post_of, said_in}
-use Rattle.run_laws.specs.WalkLaws.{is_below, was_sent}
-use Rattle.run_laws.proofs.LawfulLemmas.{serves}
-use Rattle.run_laws.proofs.BirthLemmas.{turn_left}
-use Rattle.run_laws.proofs.KindSayLemmas.{AllSay}
-use Rattle.run_laws.proofs.SaidPostLemmas.{posts_back, said_after}
-use Rattle.run_laws.proofs.FreezeLemmas.{IsPlain, plain_asks, asked_split}
+use Rattle.run_rules.specs.Data.{Turn, Happening}
+use Rattle.run_rules.specs.Data.happenings
+use Rattle.run_rules.specs.Facts.{Facts, first_facts, place_at, facts_after, facts_of}
+use Rattle.run_rules.specs.Lawful.{MayTurn, MayHappen, History, IsLawfulRun, facts_at}
+use Rattle.run_base_laws.specs.RunEvents.{wrote_event, with_event, with_record, with_happening, events_after}
+use Rattle.run_base_laws.specs.EventLaws.{EachEventFrom}
+use Rattle.run_rules.specs.Births.{Born, births_from, births_of}
+use Rattle.run_base_laws.specs.BirthLaws.{Began}
+use Rattle.run_base_laws.specs.FreezeLaws.{was_asked}
+use Rattle.run_base_laws.specs.InTurnLaws.{post_of, said_in}
+use Rattle.run_branch_laws.specs.WalkLaws.{is_below, was_sent}
+use Rattle.run_base_laws.proofs.LawfulLemmas.{serves}
+use Rattle.run_base_laws.proofs.BirthLemmas.{turn_left}
+use Rattle.run_base_laws.proofs.KindSayLemmas.{AllSay}
+use Rattle.run_base_laws.proofs.SaidPostLemmas.{posts_back, said_after}
+use Rattle.run_branch_laws.proofs.FreezeLemmas.{IsPlain, plain_asks, asked_split}
 use Rattle.tree_laws.specs.AskLaws.{HasToldAll}
 use Rattle.tree_laws.specs.BeyondLaws.{BeyondHeard, RecordHeard, WritesHeard, RecordsHeard}
 use Rattle.tree_laws.specs.Forests.{forest_of}

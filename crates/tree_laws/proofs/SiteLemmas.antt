@@ -5,12 +5,12 @@ use Rattle.node_rules.specs.Data.{BranchId, RedoRecord, Place}
 use Rattle.node_rules.specs.Data.records
 use Rattle.agreement.specs.Events.{Forest, Event, Sealed, Decided, Quiet, Dropped, first, only_at, exit_by, exit, site_of}
 use Rattle.agreement.proofs.EventLemmas.{first_is, only_at_is}
-use Rattle.run_laws.specs.Data.{Turn, Happening, Command}
-use Rattle.run_laws.specs.Data.happenings
-use Rattle.run_laws.specs.Facts.{Facts, first_facts, facts_after}
-use Rattle.run_laws.specs.RunEvents.{wrote_event, with_event, with_record, events_after}
-use Rattle.run_laws.specs.EventLaws.{EachEventFrom}
-use Rattle.run_laws.proofs.LaterLemmas.{Later, Was_said, Was_quiet, Was_dropped, exit_made, turn_added, stop_added}
+use Rattle.run_rules.specs.Data.{Turn, Happening, Command}
+use Rattle.run_rules.specs.Data.happenings
+use Rattle.run_rules.specs.Facts.{Facts, first_facts, facts_after}
+use Rattle.run_base_laws.specs.RunEvents.{wrote_event, with_event, with_record, events_after}
+use Rattle.run_base_laws.specs.EventLaws.{EachEventFrom}
+use Rattle.run_base_laws.proofs.LaterLemmas.{Later, Was_said, Was_quiet, Was_dropped, exit_made, turn_added, stop_added}
 use Rattle.tree_laws.specs.FitLaws.{FitsForest, WritesInForest}
 use Rattle.tree_laws.specs.Forests.{forest_of}
 use Rattle.tree_laws.specs.MessageLaws.{DecidedAtSite, SitesDecide}

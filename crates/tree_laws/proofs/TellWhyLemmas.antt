@@ -34,12 +34,12 @@ use Rattle.node_rules.proofs.Steps.{Step, Says, IsKept, IsOfRows, Acting, Collec
 use Rattle.node_rules.proofs.StandLemmas.{live_so}
 use Rattle.node_rules.proofs.StepLemmas.{IsLive, acting_live}
 use Rattle.agreement.specs.Events.{Event, learned, Knows}
-use Rattle.run_laws.specs.EventRows.{RowIs, IsKnown}
-use Rattle.run_laws.proofs.ListLemmas.{all_weaker, all_append, all_each, all_put}
-use Rattle.run_laws.proofs.OwnLemmas.{all_found, all_with}
-use Rattle.run_laws.proofs.KindSayLemmas.{AllSay, prepares_say}
-use Rattle.run_laws.proofs.QuietLemmas.{NoRows, call_apart, came_apart}
-use Rattle.run_laws.proofs.RowSayLemmas.{LearnsRollback}
+use Rattle.run_base_laws.specs.EventRows.{RowIs, IsKnown}
+use Rattle.run_rules.proofs.ListLemmas.{all_weaker, all_append, all_each, all_put}
+use Rattle.run_base_laws.proofs.OwnLemmas.{all_found, all_with}
+use Rattle.run_base_laws.proofs.KindSayLemmas.{AllSay, prepares_say}
+use Rattle.run_branch_laws.proofs.QuietLemmas.{NoRows, call_apart, came_apart}
+use Rattle.run_branch_laws.proofs.RowSayLemmas.{LearnsRollback}
 
 -- the record says that a branch learned a commit
 abbrev pub LearnsCommit : Option RedoRecord → BranchId → Type 0

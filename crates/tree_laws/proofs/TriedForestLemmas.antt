@@ -14,8 +14,8 @@ use Rattle.node_rules.specs.Calls.{admit, reply_of}
 use Rattle.node_rules.specs.Commit.{beyond, next_on_decision, next_on_ack, next_on_forgotten}
 use Rattle.node_rules.specs.Turn.{turn_of, start_of, stand_of}
 use Rattle.net_bag.specs.Net.{sent_on, delivered}
-use Rattle.run_laws.specs.Facts.{facts_after, facts_of}
-use Rattle.run_laws.specs.Births.{births_from}
+use Rattle.run_rules.specs.Facts.{facts_after, facts_of}
+use Rattle.run_rules.specs.Births.{births_from}
 use Rattle.tree_laws.specs.TriedForest.{TheTriedForest}
 
 pub the_tried_forest : TheTriedForest

@@ -11,18 +11,18 @@ use Rattle.node_rules.specs.Words.{numbered}
 use Rattle.node_rules.specs.Kept.{Kept, Branch, live_at, branch_at, work_at, with_work}
 use Rattle.node_rules.specs.Turn.{heard, deed_of}
 use Rattle.agreement.specs.Events.{Event, Sealed, exit}
-use Rattle.run_laws.specs.Data.{Turn, Happening}
-use Rattle.run_laws.specs.Data.happenings
-use Rattle.run_laws.specs.Facts.{Facts, place_at, node_at}
-use Rattle.run_laws.specs.Lawful.{MayTurn, History, IsLawfulRun}
-use Rattle.run_laws.specs.Births.{Born, births_of}
-use Rattle.run_laws.specs.FreezeLaws.{was_asked}
-use Rattle.run_laws.specs.InTurnLaws.{said_in, newest_exec, call_at}
-use Rattle.run_laws.specs.Trail.{is_prepare}
-use Rattle.run_laws.specs.WalkLaws.{is_below, is_above, was_sent}
-use Rattle.run_laws.proofs.FreezeRunLemmas.{prepare_finds_rest, walks_are_one}
-use Rattle.run_laws.proofs.InTurnRunLemmas.{branches_call_in_turn}
-use Rattle.run_laws.proofs.LawfulLemmas.{serves}
+use Rattle.run_rules.specs.Data.{Turn, Happening}
+use Rattle.run_rules.specs.Data.happenings
+use Rattle.run_rules.specs.Facts.{Facts, place_at, node_at}
+use Rattle.run_rules.specs.Lawful.{MayTurn, History, IsLawfulRun}
+use Rattle.run_rules.specs.Births.{Born, births_of}
+use Rattle.run_base_laws.specs.FreezeLaws.{was_asked}
+use Rattle.run_base_laws.specs.InTurnLaws.{said_in, newest_exec, call_at}
+use Rattle.run_rules.specs.Trail.{is_prepare}
+use Rattle.run_branch_laws.specs.WalkLaws.{is_below, is_above, was_sent}
+use Rattle.run_branch_laws.proofs.FreezeRunLemmas.{prepare_finds_rest, walks_are_one}
+use Rattle.run_base_laws.proofs.InTurnRunLemmas.{branches_call_in_turn}
+use Rattle.run_base_laws.proofs.LawfulLemmas.{serves}
 use Rattle.tree_laws.specs.AskLaws.{HeardAbove, way_of}
 use Rattle.tree_laws.specs.Forests.{comes_to}
 use Rattle.tree_laws.specs.RecordLaws.{LeadsTo, RecordLeads, WritesAsTold}

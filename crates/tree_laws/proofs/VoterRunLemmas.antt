@@ -5,24 +5,24 @@ use Rattle.node_rules.specs.Data.{BranchId, Edge, Live, Post}
 use Rattle.node_rules.specs.Words.{numbered}
 use Rattle.node_rules.specs.Kept.{Kept, Branch, live_at, branch_at, work_at, with_work}
 use Rattle.agreement.specs.Events.{Event, Sealed, exit}
-use Rattle.run_laws.specs.Data.{Happening}
-use Rattle.run_laws.specs.Data.happenings
-use Rattle.run_laws.specs.Facts.{Facts, first_facts, node_at, facts_after, facts_of}
-use Rattle.run_laws.specs.Lawful.{MayHappen, IsLawful, History, IsLawfulRun}
-use Rattle.run_laws.specs.RunEvents.{events_after, events_from}
-use Rattle.run_laws.specs.EventLaws.{EachEventFrom}
-use Rattle.run_laws.specs.Births.{Born, births_from, births_of}
-use Rattle.run_laws.specs.BirthLaws.{Began}
-use Rattle.run_laws.specs.FreezeLaws.{was_asked, LeavesStill}
-use Rattle.run_laws.specs.InTurnLaws.{said_in}
-use Rattle.run_laws.specs.Trail.{is_prepare}
-use Rattle.run_laws.specs.WalkLaws.{is_below, is_above, was_sent}
-use Rattle.run_laws.proofs.FreezeRunLemmas.{walks_are_one}
-use Rattle.run_laws.proofs.ListLemmas.{all_weaker}
-use Rattle.run_laws.proofs.LaterLemmas.{exit_made, turn_added, stop_added}
-use Rattle.run_laws.proofs.SaidPostLemmas.{posts_of, said_after}
-use Rattle.run_laws.proofs.StillRunLemmas.{trees_stand_still}
-use Rattle.run_laws.proofs.VoteLemmas.{votes_are_of_sealed}
+use Rattle.run_rules.specs.Data.{Happening}
+use Rattle.run_rules.specs.Data.happenings
+use Rattle.run_rules.specs.Facts.{Facts, first_facts, node_at, facts_after, facts_of}
+use Rattle.run_rules.specs.Lawful.{MayHappen, IsLawful, History, IsLawfulRun}
+use Rattle.run_base_laws.specs.RunEvents.{events_after, events_from}
+use Rattle.run_base_laws.specs.EventLaws.{EachEventFrom}
+use Rattle.run_rules.specs.Births.{Born, births_from, births_of}
+use Rattle.run_base_laws.specs.BirthLaws.{Began}
+use Rattle.run_base_laws.specs.FreezeLaws.{was_asked, LeavesStill}
+use Rattle.run_base_laws.specs.InTurnLaws.{said_in}
+use Rattle.run_rules.specs.Trail.{is_prepare}
+use Rattle.run_branch_laws.specs.WalkLaws.{is_below, is_above, was_sent}
+use Rattle.run_branch_laws.proofs.FreezeRunLemmas.{walks_are_one}
+use Rattle.run_rules.proofs.ListLemmas.{all_weaker}
+use Rattle.run_base_laws.proofs.LaterLemmas.{exit_made, turn_added, stop_added}
+use Rattle.run_base_laws.proofs.SaidPostLemmas.{posts_of, said_after}
+use Rattle.run_branch_laws.proofs.StillRunLemmas.{trees_stand_still}
+use Rattle.run_branch_laws.proofs.VoteLemmas.{votes_are_of_sealed}
 use Rattle.tree_laws.specs.AskLaws.{HeardAbove}
 use Rattle.tree_laws.specs.RecordLaws.{WritesAsTold}
 use Rattle.tree_laws.specs.WeightLaws.{EdgeWeighs, LiveWeighs, NodesWeigh, VotersHaveWeights}

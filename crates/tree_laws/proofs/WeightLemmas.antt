@@ -6,9 +6,9 @@ use Rattle.session_tree.specs.Tree.{place_of_greatest, best_child, weight_by, we
 use Rattle.node_rules.specs.Data.{BranchId, Edge, Kind, Live, Post}
 use Rattle.node_rules.specs.Data.kinds
 use Rattle.node_rules.specs.Words.{same}
-use Rattle.run_laws.specs.Trail.{is_prepare}
-use Rattle.run_laws.specs.FreezeLaws.{was_asked}
-use Rattle.run_laws.specs.WalkLaws.{is_below, is_above, was_sent}
+use Rattle.run_rules.specs.Trail.{is_prepare}
+use Rattle.run_base_laws.specs.FreezeLaws.{was_asked}
+use Rattle.run_branch_laws.specs.WalkLaws.{is_below, is_above, was_sent}
 
 -- a best child stays one
 never : (ws : List (Option ℕ)) (i : ℕ) (b : ℕ × ℕ) → place_of_greatest i ws (Some b) ≡ None → ⊥

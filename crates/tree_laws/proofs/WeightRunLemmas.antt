@@ -11,23 +11,23 @@ use Rattle.node_rules.specs.Inputs.{Came}
 use Rattle.node_rules.specs.Kept.{Kept, Deed, live_at}
 use Rattle.node_rules.specs.Turn.{start_of, deed_of}
 use Rattle.agreement.specs.Events.{Event}
-use Rattle.run_laws.specs.Data.{Packet, Turn, Happening, Command}
-use Rattle.run_laws.specs.Facts.{Facts, first_facts, place_at, node_at, facts_after, facts_of}
-use Rattle.run_laws.specs.Lawful.{IsPlace, MayTurn, MayHappen, IsLawful, History, IsLawfulRun, facts_at}
-use Rattle.run_laws.specs.RunEvents.{events_after}
-use Rattle.run_laws.specs.Births.{Born, births_after}
-use Rattle.run_laws.specs.InTurnLaws.{packet_post, said_in, newest_reply, GoesOn}
-use Rattle.run_laws.specs.FreezeLaws.{was_asked}
-use Rattle.run_laws.proofs.ListLemmas.{all_weaker}
-use Rattle.run_laws.proofs.BirthsStandLemmas.{came_so}
-use Rattle.run_laws.proofs.BirthRunLemmas.{StandBorn, stand_born_on, stand_born_first}
+use Rattle.run_rules.specs.Data.{Packet, Turn, Happening, Command}
+use Rattle.run_rules.specs.Facts.{Facts, first_facts, place_at, node_at, facts_after, facts_of}
+use Rattle.run_rules.specs.Lawful.{IsPlace, MayTurn, MayHappen, IsLawful, History, IsLawfulRun, facts_at}
+use Rattle.run_base_laws.specs.RunEvents.{events_after}
+use Rattle.run_rules.specs.Births.{Born, births_after}
+use Rattle.run_base_laws.specs.InTurnLaws.{packet_post, said_in, newest_reply, GoesOn}
+use Rattle.run_base_laws.specs.FreezeLaws.{was_asked}
+use Rattle.run_rules.proofs.ListLemmas.{all_weaker}
+use Rattle.run_base_laws.proofs.BirthsStandLemmas.{came_so}
+use Rattle.run_base_laws.proofs.BirthRunLemmas.{StandBorn, stand_born_on, stand_born_first}
 use Rattle.node_rules.specs.LiveBranches.{EachLive}
 use Rattle.node_rules.proofs.LiveLemmas.{each_same, none_live, branch_parts}
-use Rattle.run_laws.proofs.RestRunLemmas.{NodeRests, heard_rests, RootsStand, roots_stand_on, first_rests}
-use Rattle.run_laws.proofs.InTurnRunLemmas as calls
-use Rattle.run_laws.proofs.InTurnRunLemmas.{CallsStand, heard_calls, calls_stand_on, first_calls}
-use Rattle.run_laws.proofs.FreezeRunLemmas as frozen
-use Rattle.run_laws.proofs.FreezeRunLemmas.{FreezeStand, freeze_on, first_freeze}
+use Rattle.run_base_laws.proofs.RestRunLemmas.{NodeRests, heard_rests, RootsStand, roots_stand_on, first_rests}
+use Rattle.run_base_laws.proofs.InTurnRunLemmas as calls
+use Rattle.run_base_laws.proofs.InTurnRunLemmas.{CallsStand, heard_calls, calls_stand_on, first_calls}
+use Rattle.run_branch_laws.proofs.FreezeRunLemmas as frozen
+use Rattle.run_branch_laws.proofs.FreezeRunLemmas.{FreezeStand, freeze_on, first_freeze}
 use Rattle.tree_laws.specs.WeightLaws.{ToldWeight, TellsItsWeight, RepliesTellWeights, HoldsWeights, EdgesHoldWeights}
 use Rattle.tree_laws.proofs.AskRunLemmas as runs
 use Rattle.tree_laws.proofs.AskRunLemmas.{AskStand, ask_on, first_ask}

@@ -28,15 +28,15 @@ use Rattle.node_rules.proofs.StandLemmas.{live_so}
 use Rattle.node_rules.proofs.StepLemmas.{acting_so}
 use Rattle.node_rules.specs.LiveBranches.{EachLive, works_of}
 use Rattle.node_rules.proofs.LiveLemmas.{each_put, each_changed, each_left, each_begun, each_same, branch_parts, work_is}
-use Rattle.run_laws.specs.InTurnLaws.{reply_number, newest_reply}
-use Rattle.run_laws.proofs.ListLemmas.{all_append, map_after}
-use Rattle.run_laws.proofs.RootLemmas.{SessionsFit, root_alone, pends_so, begun_so}
-use Rattle.run_laws.proofs.NeighborLemmas.{News}
-use Rattle.run_laws.proofs.NeighborStepLemmas.{begun_news, pends_news, lets_news, acked_news}
-use Rattle.run_laws.proofs.KindSayLemmas.{OfDecisions, AllSay, one_says, each_says, prepares_say, told_says, passes_say, askings_say}
-use Rattle.run_laws.proofs.InTurnLemmas as turns
-use Rattle.run_laws.proofs.InTurnEdgeLemmas.{opened_free, heard_free}
-use Rattle.run_laws.proofs.InTurnStepLemmas as deeds
+use Rattle.run_base_laws.specs.InTurnLaws.{reply_number, newest_reply}
+use Rattle.run_rules.proofs.ListLemmas.{all_append, map_after}
+use Rattle.run_base_laws.proofs.RootLemmas.{SessionsFit, root_alone, pends_so, begun_so}
+use Rattle.run_base_laws.proofs.NeighborLemmas.{News}
+use Rattle.run_base_laws.proofs.NeighborStepLemmas.{begun_news, pends_news, lets_news, acked_news}
+use Rattle.run_base_laws.proofs.KindSayLemmas.{OfDecisions, AllSay, one_says, each_says, prepares_say, told_says, passes_say, askings_say}
+use Rattle.run_base_laws.proofs.InTurnLemmas as turns
+use Rattle.run_base_laws.proofs.InTurnEdgeLemmas.{opened_free, heard_free}
+use Rattle.run_base_laws.proofs.InTurnStepLemmas as deeds
 use Rattle.tree_laws.specs.WeightLaws.{TellsWeight, ToldWeight, TellsItsWeight}
 
 -- ---- messages

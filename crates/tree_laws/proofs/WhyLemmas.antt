@@ -21,10 +21,10 @@ use Rattle.node_rules.specs.Prepare.{path_of, ready, own_changes, site_neighbors
 use Rattle.node_rules.specs.Recovery.{kept_told}
 use Rattle.node_rules.proofs.Steps as steps
 use Rattle.node_rules.proofs.Steps.{Step, Acting, Says}
-use Rattle.run_laws.proofs.ListLemmas.{all_weaker, all_append}
-use Rattle.run_laws.proofs.KindSayLemmas.{OfDecisions, AllSay, one_says, each_says, prepares_say, told_says, passes_say, askings_say}
-use Rattle.run_laws.proofs.QuietLemmas.{NoRows, acting_apart}
-use Rattle.run_laws.proofs.FreezeLemmas.{IsPlain}
+use Rattle.run_rules.proofs.ListLemmas.{all_weaker, all_append}
+use Rattle.run_base_laws.proofs.KindSayLemmas.{OfDecisions, AllSay, one_says, each_says, prepares_say, told_says, passes_say, askings_say}
+use Rattle.run_branch_laws.proofs.QuietLemmas.{NoRows, acting_apart}
+use Rattle.run_branch_laws.proofs.FreezeLemmas.{IsPlain}
 
 -- ---- messages that are neither Ready nor ReadOnly
 

@@ -2,16 +2,16 @@
 use Rattle.std.specs.Prelude.{◌≡◌, ℕ, ◌<◌, List, [], Some, None}
 use Rattle.agreement.specs.Events.{Event, Decided, exit, forced, site_of}
 use Rattle.node_rules.specs.Data.{BranchId}
-use Rattle.run_laws.specs.Data.{Happening}
-use Rattle.run_laws.specs.Data.happenings
-use Rattle.run_laws.specs.Entries.{book_of as trace_book}
-use Rattle.run_laws.specs.Book.{Agreement, MixedIsMarked, AboveSeals}
-use Rattle.run_laws.specs.Facts.{Facts, first_facts, node_at, facts_after, records_at}
-use Rattle.run_laws.specs.Lawful.{History, IsLawfulRun, facts_at}
-use Rattle.run_laws.specs.RunEvents.{events_of, lives_at, with_record}
-use Rattle.run_laws.specs.CommitOrderLaws.{LeavesAfter}
-use Rattle.run_laws.specs.EventLaws.{AtEachEvent}
-use Rattle.run_laws.specs.TreeJust.{TreeLeaves, GoByTree}
+use Rattle.run_rules.specs.Data.{Happening}
+use Rattle.run_rules.specs.Data.happenings
+use Rattle.run_rules.specs.Entries.{book_of as trace_book}
+use Rattle.run_rules.specs.Book.{Agreement, MixedIsMarked, AboveSeals}
+use Rattle.run_rules.specs.Facts.{Facts, first_facts, node_at, facts_after, records_at}
+use Rattle.run_rules.specs.Lawful.{History, IsLawfulRun, facts_at}
+use Rattle.run_base_laws.specs.RunEvents.{events_of, lives_at, with_record}
+use Rattle.run_key_laws.specs.CommitOrderLaws.{LeavesAfter}
+use Rattle.run_base_laws.specs.EventLaws.{AtEachEvent}
+use Rattle.run_branch_laws.specs.TreeJust.{TreeLeaves, GoByTree}
 use Rattle.tree_laws.specs.Forests.{forest_of}
 
 -- the forest allows those to leave that answer without changes

@@ -7,10 +7,10 @@ use Rattle.node_rules.specs.Data.kinds
 use Rattle.node_rules.specs.Data.phases
 use Rattle.node_rules.specs.Data.votes
 use Rattle.node_rules.specs.Kept.{Kept}
-use Rattle.run_laws.specs.Facts.{node_at}
-use Rattle.run_laws.specs.Lawful.{History, IsLawfulRun, facts_at}
-use Rattle.run_laws.specs.InTurnLaws.{said_in}
-use Rattle.run_laws.specs.WalkLaws.{is_below, was_sent}
+use Rattle.run_rules.specs.Facts.{node_at}
+use Rattle.run_rules.specs.Lawful.{History, IsLawfulRun, facts_at}
+use Rattle.run_base_laws.specs.InTurnLaws.{said_in}
+use Rattle.run_branch_laws.specs.WalkLaws.{is_below, was_sent}
 
 -- A child that answered Ready was told that the walk comes there. Once the collect began each child was asked.
 pub record EdgeTold (said : List Post) (me : BranchId) (phase : Phase) (e : Edge) : Type 0 where

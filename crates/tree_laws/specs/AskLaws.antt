@@ -10,16 +10,16 @@ use Rattle.node_rules.specs.Data.phases
 use Rattle.node_rules.specs.Words.{numbered}
 use Rattle.node_rules.specs.Kept.{Kept, live_at}
 use Rattle.agreement.specs.Events.{Event, exit}
-use Rattle.run_laws.specs.Trail.{is_prepare}
-use Rattle.run_laws.specs.Data.{Happening}
-use Rattle.run_laws.specs.Facts.{Facts, node_at}
-use Rattle.run_laws.specs.Lawful.{History, IsLawfulRun, facts_at}
-use Rattle.run_laws.specs.Births.{Born, births_of}
-use Rattle.run_laws.specs.BirthLaws.{Began}
-use Rattle.run_laws.specs.EventLaws.{AtEachEvent}
-use Rattle.run_laws.specs.InTurnLaws.{said_in}
-use Rattle.run_laws.specs.FreezeLaws.{was_asked}
-use Rattle.run_laws.specs.WalkLaws.{is_below, is_above, was_sent}
+use Rattle.run_rules.specs.Trail.{is_prepare}
+use Rattle.run_rules.specs.Data.{Happening}
+use Rattle.run_rules.specs.Facts.{Facts, node_at}
+use Rattle.run_rules.specs.Lawful.{History, IsLawfulRun, facts_at}
+use Rattle.run_rules.specs.Births.{Born, births_of}
+use Rattle.run_base_laws.specs.BirthLaws.{Began}
+use Rattle.run_base_laws.specs.EventLaws.{AtEachEvent}
+use Rattle.run_base_laws.specs.InTurnLaws.{said_in}
+use Rattle.run_base_laws.specs.FreezeLaws.{was_asked}
+use Rattle.run_branch_laws.specs.WalkLaws.{is_below, is_above, was_sent}
 
 -- ---- messages
 

@@ -6,11 +6,11 @@ use Rattle.node_rules.specs.Data.{BranchId, RedoRecord}
 use Rattle.node_rules.specs.Data.records
 use Rattle.node_rules.specs.Words.{same}
 use Rattle.agreement.specs.Events.{Forest, Event, Beyond, Quiet, Send_vote, exit, Has}
-use Rattle.run_laws.specs.Data.{Happening}
-use Rattle.run_laws.specs.Data.happenings
-use Rattle.run_laws.specs.Facts.{Facts}
-use Rattle.run_laws.specs.Lawful.{History, IsLawfulRun}
-use Rattle.run_laws.specs.EventLaws.{AtEachEvent}
+use Rattle.run_rules.specs.Data.{Happening}
+use Rattle.run_rules.specs.Data.happenings
+use Rattle.run_rules.specs.Facts.{Facts}
+use Rattle.run_rules.specs.Lawful.{History, IsLawfulRun}
+use Rattle.run_base_laws.specs.EventLaws.{AtEachEvent}
 use Rattle.tree_laws.specs.Forests.{forest_of}
 
 -- it is the parent, or one of these children

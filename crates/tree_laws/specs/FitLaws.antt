@@ -4,11 +4,11 @@ use Rattle.redo_record.specs.Rows.{toward_of}
 use Rattle.node_rules.specs.Data.{RedoRecord, Place}
 use Rattle.node_rules.specs.Data.records
 use Rattle.agreement.specs.Events.{Forest, site_of}
-use Rattle.run_laws.specs.Data.{Happening}
-use Rattle.run_laws.specs.Data.happenings
-use Rattle.run_laws.specs.Facts.{Facts}
-use Rattle.run_laws.specs.Lawful.{History, IsLawfulRun}
-use Rattle.run_laws.specs.NodeLaws.{AtEachFact}
+use Rattle.run_rules.specs.Data.{Happening}
+use Rattle.run_rules.specs.Data.happenings
+use Rattle.run_rules.specs.Facts.{Facts}
+use Rattle.run_rules.specs.Lawful.{History, IsLawfulRun}
+use Rattle.run_base_laws.specs.NodeLaws.{AtEachFact}
 use Rattle.tree_laws.specs.Forests.{forest_of}
 
 -- A sealed branch is in the tree of the root that its record names, is not the site, and has as toward the neighbour that its record

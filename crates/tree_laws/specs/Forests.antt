@@ -3,11 +3,11 @@ use Rattle.std.specs.Prelude.{ℕ, zero, suc, ◌+◌, ◌-◌, ◌&&◌, Bool, 
 use Rattle.node_rules.specs.Data.{BranchId, Post}
 use Rattle.node_rules.specs.Words.{same}
 use Rattle.agreement.specs.Events.{Forest, IsForest}
-use Rattle.run_laws.specs.Lawful.{History, IsLawfulRun, facts_at}
-use Rattle.run_laws.specs.Births.{Born, births_of, born_at}
-use Rattle.run_laws.specs.InTurnLaws.{said_in}
-use Rattle.run_laws.specs.FreezeLaws.{was_asked}
-use Rattle.run_laws.specs.WalkLaws.{is_below, was_sent}
+use Rattle.run_rules.specs.Lawful.{History, IsLawfulRun, facts_at}
+use Rattle.run_rules.specs.Births.{Born, births_of, born_at}
+use Rattle.run_base_laws.specs.InTurnLaws.{said_in}
+use Rattle.run_base_laws.specs.FreezeLaws.{was_asked}
+use Rattle.run_branch_laws.specs.WalkLaws.{is_below, was_sent}
 
 -- ---- of a branch as it began
 

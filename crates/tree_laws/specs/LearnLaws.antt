@@ -3,12 +3,12 @@ use Rattle.std.specs.Prelude.{IfSome, List}
 use Rattle.agreement.specs.Events.{Forest, Event}
 use Rattle.node_rules.specs.Data.{RedoRecord}
 use Rattle.node_rules.specs.Data.records
-use Rattle.run_laws.specs.Data.{Happening}
-use Rattle.run_laws.specs.Data.happenings
-use Rattle.run_laws.specs.Facts.{Facts}
-use Rattle.run_laws.specs.Lawful.{History, IsLawfulRun}
-use Rattle.run_laws.specs.EventLaws.{AtEachEvent}
-use Rattle.run_laws.specs.TowardLaws.{WasTold}
+use Rattle.run_rules.specs.Data.{Happening}
+use Rattle.run_rules.specs.Data.happenings
+use Rattle.run_rules.specs.Facts.{Facts}
+use Rattle.run_rules.specs.Lawful.{History, IsLawfulRun}
+use Rattle.run_base_laws.specs.EventLaws.{AtEachEvent}
+use Rattle.run_branch_laws.specs.TowardLaws.{WasTold}
 use Rattle.tree_laws.specs.Forests.{forest_of}
 
 -- a decision that is learned was told by toward

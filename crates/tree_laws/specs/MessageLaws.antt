@@ -5,13 +5,13 @@ use Rattle.std.specs.List.{AllByRecursion}
 use Rattle.node_rules.specs.Data.{BranchId, Kind}
 use Rattle.node_rules.specs.Data.kinds
 use Rattle.agreement.specs.Events.{Forest, Event, Decided, Send_ack, Send_rollback, exit, site_of}
-use Rattle.run_laws.specs.Data.{Happening}
-use Rattle.run_laws.specs.Data.happenings
-use Rattle.run_laws.specs.Facts.{Facts, facts_after}
-use Rattle.run_laws.specs.Lawful.{History, IsLawfulRun}
-use Rattle.run_laws.specs.RunEvents.{with_exits}
-use Rattle.run_laws.specs.EventLaws.{AtEachEvent}
-use Rattle.run_laws.specs.TreeJust.{TreeAllows}
+use Rattle.run_rules.specs.Data.{Happening}
+use Rattle.run_rules.specs.Data.happenings
+use Rattle.run_rules.specs.Facts.{Facts, facts_after}
+use Rattle.run_rules.specs.Lawful.{History, IsLawfulRun}
+use Rattle.run_base_laws.specs.RunEvents.{with_exits}
+use Rattle.run_base_laws.specs.EventLaws.{AtEachEvent}
+use Rattle.run_branch_laws.specs.TreeJust.{TreeAllows}
 use Rattle.tree_laws.specs.Forests.{forest_of}
 
 -- each branch that decided is the site of its transaction

@@ -4,13 +4,13 @@ use Rattle.std.specs.List.{AllByRecursion}
 use Rattle.node_rules.specs.Data.{BranchId, Standing}
 use Rattle.node_rules.specs.Kept.{Kept}
 use Rattle.agreement.specs.Events.{Forest, Event, Beyond, Quiet, exit}
-use Rattle.run_laws.specs.Data.{Happening}
-use Rattle.run_laws.specs.Data.happenings
-use Rattle.run_laws.specs.Facts.{Facts, node_at}
-use Rattle.run_laws.specs.Lawful.{History, IsLawfulRun}
-use Rattle.run_laws.specs.RunEvents.{wrote_event}
-use Rattle.run_laws.specs.EventLaws.{AtEachEvent}
-use Rattle.run_laws.specs.TreeJust.{IsTreeAllowed}
+use Rattle.run_rules.specs.Data.{Happening}
+use Rattle.run_rules.specs.Data.happenings
+use Rattle.run_rules.specs.Facts.{Facts, node_at}
+use Rattle.run_rules.specs.Lawful.{History, IsLawfulRun}
+use Rattle.run_base_laws.specs.RunEvents.{wrote_event}
+use Rattle.run_base_laws.specs.EventLaws.{AtEachEvent}
+use Rattle.run_branch_laws.specs.TreeJust.{IsTreeAllowed}
 use Rattle.tree_laws.specs.BeyondLaws.{IsNamed}
 use Rattle.tree_laws.specs.Forests.{forest_of}
 

@@ -3,13 +3,13 @@ use Rattle.std.specs.Prelude.{◌≡◌, ◌⊎◌, IfSome, true, false, List, O
 use Rattle.redo_record.specs.Rows.{toward_of}
 use Rattle.node_rules.specs.Data.{BranchId, Post, RedoRecord, Place}
 use Rattle.node_rules.specs.Data.records
-use Rattle.run_laws.specs.Data.{Happening}
-use Rattle.run_laws.specs.Data.happenings
-use Rattle.run_laws.specs.Facts.{Facts}
-use Rattle.run_laws.specs.Lawful.{History, IsLawfulRun}
-use Rattle.run_laws.specs.NodeLaws.{AtEachFact}
-use Rattle.run_laws.specs.InTurnLaws.{said_in}
-use Rattle.run_laws.specs.WalkLaws.{is_below, is_above, was_sent}
+use Rattle.run_rules.specs.Data.{Happening}
+use Rattle.run_rules.specs.Data.happenings
+use Rattle.run_rules.specs.Facts.{Facts}
+use Rattle.run_rules.specs.Lawful.{History, IsLawfulRun}
+use Rattle.run_base_laws.specs.NodeLaws.{AtEachFact}
+use Rattle.run_base_laws.specs.InTurnLaws.{said_in}
+use Rattle.run_branch_laws.specs.WalkLaws.{is_below, is_above, was_sent}
 use Rattle.tree_laws.specs.Forests.{comes_to}
 
 -- A neighbour is on the way to the site where it is the parent and told that the walk does not come here, or where the walk comes

@@ -3,12 +3,12 @@
 use Rattle.std.specs.Prelude.{◌≡◌, true, false, List, []}
 use Rattle.node_rules.specs.Data.{Post}
 use Rattle.agreement.specs.Events.{Forest, site_of}
-use Rattle.run_laws.specs.Facts.{first_facts, facts_of}
-use Rattle.run_laws.specs.Births.{births_from}
-use Rattle.run_laws.specs.FreezeLaws.{was_asked}
-use Rattle.run_laws.specs.InTurnLaws.{said_in}
-use Rattle.run_laws.specs.WalkLaws.{is_below, was_sent}
-use Rattle.run_laws.specs.TriedRun as tried
+use Rattle.run_rules.specs.Facts.{first_facts, facts_of}
+use Rattle.run_rules.specs.Births.{births_from}
+use Rattle.run_base_laws.specs.FreezeLaws.{was_asked}
+use Rattle.run_base_laws.specs.InTurnLaws.{said_in}
+use Rattle.run_branch_laws.specs.WalkLaws.{is_below, was_sent}
+use Rattle.run_branch_laws.specs.TriedRun as tried
 use Rattle.tree_laws.specs.Forests.{forest_by}
 
 -- all messages of that run

@@ -9,13 +9,13 @@ use Rattle.node_rules.specs.declared.work.Work.{Work}
 use Rattle.node_rules.specs.Words.{numbered}
 use Rattle.node_rules.specs.Kept.{Kept, Branch, branch_at}
 use Rattle.agreement.specs.Events.{Event, Send_vote, Has}
-use Rattle.run_laws.specs.Data.{Happening}
-use Rattle.run_laws.specs.Facts.{Facts, node_at}
-use Rattle.run_laws.specs.Lawful.{History, IsLawfulRun, facts_at}
-use Rattle.run_laws.specs.EventLaws.{AtEachEvent}
-use Rattle.run_laws.specs.FreezeLaws.{was_asked}
-use Rattle.run_laws.specs.InTurnLaws.{said_in, WaitsFor, call_at, GoesOn}
-use Rattle.run_laws.specs.WalkLaws.{is_above, was_sent}
+use Rattle.run_rules.specs.Data.{Happening}
+use Rattle.run_rules.specs.Facts.{Facts, node_at}
+use Rattle.run_rules.specs.Lawful.{History, IsLawfulRun, facts_at}
+use Rattle.run_base_laws.specs.EventLaws.{AtEachEvent}
+use Rattle.run_base_laws.specs.FreezeLaws.{was_asked}
+use Rattle.run_base_laws.specs.InTurnLaws.{said_in, WaitsFor, call_at, GoesOn}
+use Rattle.run_branch_laws.specs.WalkLaws.{is_above, was_sent}
 
 -- a child that was asked off the walk, and voted, has a weight
 abbrev pub EdgeWeighs : List Event → List Post → BranchId → Edge → Type 0

@@ -14,7 +14,7 @@ ghost use Rattle.tree_laws.specs.AnswerLaws.{AnswersAreAsTold};
 ghost use Rattle.tree_laws.specs.BeyondLaws.{RecordsHeard};
 ghost use Rattle.tree_laws.specs.MessageLaws.{SitesDecide, AcksGoByForest, RollsGoByForest};
 ghost use Rattle.tree_laws.specs.WeightLaws.{RepliesTellWeights, EdgesHoldWeights, VotersHaveWeights};
-ghost use Rattle.run_laws.specs.Headline.{EveryBookAgrees, EveryMixedIsMarked};
+ghost use Rattle.run_claims.specs.Headline.{EveryBookAgrees, EveryMixedIsMarked};
 ghost use Rattle.tree_laws.specs.AgreeLaws.{LeavesGoByForest, RunsGoByForest, RunsAgree, EveryCommitComesInOrder};
 ghost use Rattle.tree_laws.specs.TriedForest.{TheTriedForest};
 ghost use Rattle.tree_laws.specs.NameLaws.{RowsNameBeyond, RecordsGoByForest};

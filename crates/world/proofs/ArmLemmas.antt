@@ -10,20 +10,20 @@ use Rattle.block_disk.specs.declared.order.Order.TheVariants as orders
 use Rattle.block_disk.specs.declared.order.Stop.{Stop}
 use Rattle.node_rules.specs.Words.{numbered, set_numbered}
 use Rattle.block_disk.specs.declared.order.How.{How}
-use Rattle.run_laws.specs.Data.{How as HowByRules}
-use Rattle.run_laws.specs.Data.{Command}
-use Rattle.run_laws.specs.Data.commands
-use Rattle.run_laws.specs.Commands.{orders_after}
-use Rattle.run_laws.specs.Facts.{command_at}
-use Rattle.run_laws.specs.Telling.{Telling, orders_at}
-use Rattle.run_laws.proofs.AtNodeLemmas.{there_too}
+use Rattle.run_rules.specs.Data.{How as HowByRules}
+use Rattle.run_rules.specs.Data.{Command}
+use Rattle.run_rules.specs.Data.commands
+use Rattle.run_rules.specs.Commands.{orders_after}
+use Rattle.run_rules.specs.Facts.{command_at}
+use Rattle.run_rules.specs.Telling.{Telling, orders_at}
+use Rattle.run_rules.proofs.AtNodeLemmas.{there_too}
 use Rattle.run_trace.specs.Recorded.{past_of}
 use Rattle.script_read.specs.Sound.{IsInRange}
 use Rattle.std.specs.List.{AllByRecursion}
 use Rattle.world.specs.declared.world.World.{World}
 use Rattle.world.specs.Linked.{IsLinked}
 use Rattle.world_parts.proofs.CountLemmas.{orders_counted}
-use Rattle.run_laws.specs.Disks.{DiskOrders, Stop_order, no_orders, opens_gate}
+use Rattle.run_rules.specs.Disks.{DiskOrders, Stop_order, no_orders, opens_gate}
 use Rattle.world.specs.declared.site.Site.{Site}
 use Rattle.world_parts.specs.Orders.{HasOrders, IsToCome, armed, how_as, ordered_at, stop_as}
 use Rattle.world.specs.Orders.{ArmedAt, OrderedBy, OrdersAre}

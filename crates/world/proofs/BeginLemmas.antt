@@ -9,27 +9,27 @@ use Rattle.node_rules.specs.Data.{RedoRecord, Place}
 use Rattle.node_rules.specs.Data.records
 use Rattle.node_rules.specs.Words.{numbered}
 use Rattle.node_rules.specs.Turn.{made}
-use Rattle.run_laws.specs.Data.{Command}
-use Rattle.run_laws.specs.Data.happenings
-use Rattle.run_laws.specs.Commands.{begins}
-use Rattle.run_laws.specs.Due.{Begins, comes_next, due_of}
-use Rattle.run_laws.specs.Facts.{command_at, facts_after, flat, ordered}
-use Rattle.run_laws.specs.Past.{next}
-use Rattle.run_laws.specs.Lawful.{boots}
-use Rattle.run_laws.specs.Telling.{Past, start}
+use Rattle.run_rules.specs.Data.{Command}
+use Rattle.run_rules.specs.Data.happenings
+use Rattle.run_rules.specs.Commands.{begins}
+use Rattle.run_rules.specs.Due.{Begins, comes_next, due_of}
+use Rattle.run_rules.specs.Facts.{command_at, facts_after, flat, ordered}
+use Rattle.run_rules.specs.Past.{next}
+use Rattle.run_rules.specs.Lawful.{boots}
+use Rattle.run_rules.specs.Telling.{Past, start}
 use Rattle.record_log.specs.Held.{HoldRecords}
 use Rattle.record_log.specs.Records.{IsSpelled}
 use Rattle.redo_codec.specs.Record.{record_format}
 use Rattle.tran_ids.proofs.NumberedLemmas.{set_or_before}
 use Rattle.net_bag.specs.Net.{Net}
-use Rattle.run_laws.specs.Data.{Happening}
-use Rattle.run_laws.specs.Data.commands
-use Rattle.run_laws.specs.Facts.{Facts, facts_of, first_facts, place_at, records_at}
-use Rattle.run_laws.specs.Headline.{StandsFor}
-use Rattle.run_laws.specs.Lawful.{IsNode, IsProper}
-use Rattle.run_laws.specs.Shown.{shown_disk}
-use Rattle.run_laws.proofs.AtNodeLemmas.{item_there, there_too}
-use Rattle.run_laws.proofs.FactLemmas.{facts_are}
+use Rattle.run_rules.specs.Data.{Happening}
+use Rattle.run_rules.specs.Data.commands
+use Rattle.run_rules.specs.Facts.{Facts, facts_of, first_facts, place_at, records_at}
+use Rattle.run_rules.specs.Reported.{StandsFor}
+use Rattle.run_rules.specs.Lawful.{IsNode, IsProper}
+use Rattle.run_rules.specs.Shown.{shown_disk}
+use Rattle.run_rules.proofs.AtNodeLemmas.{item_there, there_too}
+use Rattle.run_rules.proofs.FactLemmas.{facts_are}
 use Rattle.run_trace.specs.Recorded.{RunSoFar, past_of}
 use Rattle.world.specs.declared.site.Site.{Site}
 use Rattle.world.specs.declared.world.World.{World}

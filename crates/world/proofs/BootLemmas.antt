@@ -10,14 +10,14 @@ use Rattle.node_rules.specs.Data.records
 use Rattle.node_rules.specs.Kept.{Kept}
 use Rattle.node_rules.specs.Turn.{start_of}
 use Rattle.node_rules.specs.Words.{numbered, set_numbered}
-use Rattle.run_laws.specs.Cuts.{appends}
-use Rattle.run_laws.specs.Data.happenings
-use Rattle.run_laws.specs.Disks.{DiskOrders, Strike, after_append, no_orders, struck}
-use Rattle.run_laws.specs.Facts.{flat, node_at, records_at, with_boot}
-use Rattle.run_laws.specs.Lawful.{boots}
-use Rattle.run_laws.specs.Past.{acts, falls_if, next, telling_started}
-use Rattle.run_laws.specs.Telling.{Past, Telling, orders_at}
-use Rattle.run_laws.proofs.AtNodeLemmas.{item_there, there_too}
+use Rattle.run_rules.specs.Cuts.{appends}
+use Rattle.run_rules.specs.Data.happenings
+use Rattle.run_rules.specs.Disks.{DiskOrders, Strike, after_append, no_orders, struck}
+use Rattle.run_rules.specs.Facts.{flat, node_at, records_at, with_boot}
+use Rattle.run_rules.specs.Lawful.{boots}
+use Rattle.run_rules.specs.Past.{acts, falls_if, next, telling_started}
+use Rattle.run_rules.specs.Telling.{Past, Telling, orders_at}
+use Rattle.run_rules.proofs.AtNodeLemmas.{item_there, there_too}
 use Rattle.run_trace.specs.Recorded.{RunSoFar, past_of}
 use Rattle.world.specs.declared.site.Site.{Site}
 use Rattle.world.specs.declared.world.World.{World}

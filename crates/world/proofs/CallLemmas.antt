@@ -6,9 +6,9 @@ use Rattle.node_rules.specs.Data.{Input}
 use Rattle.node_rules.specs.Data.inputs
 use Rattle.node_disk.specs.declared.incoming.Incoming.TheVariants as comings
 use Rattle.node_disk.specs.Incoming.{IsReadAs}
-use Rattle.run_laws.specs.Data.{Packet}
-use Rattle.run_laws.specs.Due.{Due, Delivers, Gives_up, Pends, Recovers}
-use Rattle.run_laws.specs.Telling.{Call}
+use Rattle.run_rules.specs.Data.{Packet}
+use Rattle.run_rules.specs.Due.{Due, Delivers, Gives_up, Pends, Recovers}
+use Rattle.run_rules.specs.Telling.{Call}
 use Rattle.run_trace.specs.Recorded.{past_of}
 use Rattle.world.specs.declared.world.World.{World}
 use Rattle.world.specs.Linked.{IsLinked}

@@ -14,16 +14,16 @@ use Rattle.node_rules.specs.Words.{numbered, set_numbered}
 use Rattle.node_rules.specs.Kept.{Kept, Outcome}
 use Rattle.node_rules.specs.Turn.{turn_of}
 use Rattle.node_disk.specs.declared.err.CutTurn.{CutTurn}
-use Rattle.run_laws.specs.Cuts.{Cut_by, cut_by}
-use Rattle.run_laws.specs.Data.{Happening, Turn}
-use Rattle.run_laws.specs.Data.happenings
-use Rattle.run_laws.specs.Disks.{DiskOrders}
-use Rattle.run_laws.specs.Due.{turn_by}
-use Rattle.run_laws.specs.Facts.{place_at, records_at, taken}
-use Rattle.run_laws.specs.Lawful.{boots}
-use Rattle.run_laws.specs.Past.{telling_turned}
-use Rattle.run_laws.specs.Telling.{Past, Telling, orders_at}
-use Rattle.run_laws.proofs.AtNodeLemmas.{there_too}
+use Rattle.run_rules.specs.Cuts.{Cut_by, cut_by}
+use Rattle.run_rules.specs.Data.{Happening, Turn}
+use Rattle.run_rules.specs.Data.happenings
+use Rattle.run_rules.specs.Disks.{DiskOrders}
+use Rattle.run_rules.specs.Due.{turn_by}
+use Rattle.run_rules.specs.Facts.{place_at, records_at, taken}
+use Rattle.run_rules.specs.Lawful.{boots}
+use Rattle.run_rules.specs.Past.{telling_turned}
+use Rattle.run_rules.specs.Telling.{Past, Telling, orders_at}
+use Rattle.run_rules.proofs.AtNodeLemmas.{there_too}
 use Rattle.run_trace.specs.Recorded.{IsNext, past_of}
 use Rattle.tran_ids.proofs.NumberedLemmas.{set_found, set_leaves, set_length}
 use Rattle.telling.specs.declared.turn.TurnFacts.{TurnFacts}

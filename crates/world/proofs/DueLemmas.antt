@@ -2,8 +2,8 @@
 use Rattle.std.proofs.Common.{◌≡◌, ℕ, List, length, Option, Some, None, refl, sym, ◌∙◌}
 use Rattle.node_rules.specs.Words.{numbered}
 use Rattle.node_rules.specs.Kept.{Kept}
-use Rattle.run_laws.specs.Facts.{flat, node_at}
-use Rattle.run_laws.proofs.AtNodeLemmas.{there_too}
+use Rattle.run_rules.specs.Facts.{flat, node_at}
+use Rattle.run_rules.proofs.AtNodeLemmas.{there_too}
 use Rattle.run_trace.specs.Recorded.{past_of}
 use Rattle.world.specs.declared.site.Site.{Site}
 use Rattle.world.specs.declared.world.World.{World}

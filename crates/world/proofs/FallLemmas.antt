@@ -6,21 +6,21 @@ use Rattle.node_rules.specs.Data.{Place}
 use Rattle.node_rules.specs.Kept.{Kept}
 use Rattle.node_rules.specs.Turn.{start_of}
 use Rattle.node_rules.specs.Words.{numbered, set_numbered}
-use Rattle.run_laws.specs.Data.{Command}
-use Rattle.run_laws.specs.Data.commands
-use Rattle.run_laws.specs.Data.happenings
-use Rattle.run_laws.specs.Disks.{DiskOrders, Strike, struck}
+use Rattle.run_rules.specs.Data.{Command}
+use Rattle.run_rules.specs.Data.commands
+use Rattle.run_rules.specs.Data.happenings
+use Rattle.run_rules.specs.Disks.{DiskOrders, Strike, struck}
 use Rattle.net_bag.specs.Net.{started}
-use Rattle.run_laws.specs.Due.{Falls, Starts, Stops, acts_once, due_of, falls_first, follows_first, tells_first}
-use Rattle.run_laws.specs.Facts.{Facts, command_at, flat, is_up, node_at, with_boot}
-use Rattle.run_laws.specs.Cuts.{appends}
-use Rattle.run_laws.specs.Lines.{is_down, with_own}
+use Rattle.run_rules.specs.Due.{Falls, Starts, Stops, acts_once, due_of, falls_first, follows_first, tells_first}
+use Rattle.run_rules.specs.Facts.{Facts, command_at, flat, is_up, node_at, with_boot}
+use Rattle.run_rules.specs.Cuts.{appends}
+use Rattle.run_rules.specs.Lines.{is_down, with_own}
 use Rattle.node_rules.specs.Words.{one}
-use Rattle.run_laws.specs.Disks.{no_orders}
-use Rattle.run_laws.specs.Lawful.{IsNode}
-use Rattle.run_laws.specs.Past.{acts, failed_start, falls_if, start_refused, telling_started}
-use Rattle.run_laws.specs.Telling.{Past, Telling, orders_at}
-use Rattle.run_laws.proofs.AtNodeLemmas.{item_there}
+use Rattle.run_rules.specs.Disks.{no_orders}
+use Rattle.run_rules.specs.Lawful.{IsNode}
+use Rattle.run_rules.specs.Past.{acts, failed_start, falls_if, start_refused, telling_started}
+use Rattle.run_rules.specs.Telling.{Past, Telling, orders_at}
+use Rattle.run_rules.proofs.AtNodeLemmas.{item_there}
 use Rattle.run_trace.specs.Recorded.{RunSoFar, IsNext, past_of}
 use Rattle.world.specs.declared.site.Site.{Site}
 use Rattle.world.specs.declared.world.World.{World}

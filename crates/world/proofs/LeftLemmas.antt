@@ -2,16 +2,16 @@
 use Rattle.std.proofs.Common.{◌≡◌, inl, inr, ◌==◌, ◌+◌, ◌≤◌, ℕ, Bool, true, false, if◌then◌else◌, List, [], ◌∷◌, ◌++◌, map, Option, Some, None, Result, Ok, Err, OnErr, refl, ap, sym, subst, ◌∙◌, arith}
 use Rattle.std.specs.List.{AllByRecursion}
 use Rattle.std.proofs.lemmas.Bool.{eqb-true}
-use Rattle.run_laws.specs.Data.{AnswerLine, Command, Happening}
-use Rattle.run_laws.specs.Data.happenings
-use Rattle.run_laws.specs.Commands.{begins}
-use Rattle.run_laws.specs.Due.{Begins, Due}
-use Rattle.run_laws.specs.Headline.{IsBetween}
-use Rattle.run_laws.specs.Lines.{told}
-use Rattle.run_laws.specs.Past.{next}
-use Rattle.run_laws.specs.Shown.{shown_disk}
-use Rattle.run_laws.specs.Telling.{Past, Telling}
-use Rattle.run_laws.proofs.ListLemmas.{all_weaker}
+use Rattle.run_rules.specs.Data.{AnswerLine, Command, Happening}
+use Rattle.run_rules.specs.Data.happenings
+use Rattle.run_rules.specs.Commands.{begins}
+use Rattle.run_rules.specs.Due.{Begins, Due}
+use Rattle.run_rules.specs.Reported.{IsBetween}
+use Rattle.run_rules.specs.Lines.{told}
+use Rattle.run_rules.specs.Past.{next}
+use Rattle.run_rules.specs.Shown.{shown_disk}
+use Rattle.run_rules.specs.Telling.{Past, Telling}
+use Rattle.run_rules.proofs.ListLemmas.{all_weaker}
 use Rattle.run_trace.specs.Recorded.{RunSoFar, IsRunOfScript, past_of}
 use Rattle.world.specs.declared.world.World.{World}
 use Rattle.world.specs.Needs.{due_in}

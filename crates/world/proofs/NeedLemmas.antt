@@ -8,20 +8,20 @@ use Rattle.node_rules.specs.Turn.{turn_of}
 use Rattle.node_core.specs.Able.{BringsCommit, MayTake}
 use Rattle.node_disk.specs.Spellable.{IsSpellable}
 use Rattle.node_disk.proofs.NeedLemmas.{all_mailed, room_of}
-use Rattle.byte_laws.specs.ByteRuns.{CallIsSpelled, DueCallsAreSpelled, IsSpelledRun, ScriptsCallsAreSpelled, TurnHasBytes, TurnsHaveBytes}
-use Rattle.count_laws.specs.CountLaws.{CountsAreFew}
-use Rattle.root_laws.specs.RootLaws.{CommitsFindWork}
-use Rattle.run_laws.specs.Due.{Due, Pends, Gives_up, Delivers, Recovers}
-use Rattle.run_laws.specs.Facts.{Facts, node_at, place_at}
-use Rattle.run_laws.specs.Headline.{TheRunIsLawful}
-use Rattle.run_laws.specs.Lawful.{Comes, History, facts_at}
-use Rattle.run_laws.proofs.FactLemmas.{facts_are}
-use Rattle.run_laws.specs.Telling.{Call, start}
+use Rattle.run_spell_laws.specs.ByteRuns.{CallIsSpelled, DueCallsAreSpelled, IsSpelledRun, ScriptsCallsAreSpelled, TurnHasBytes, TurnsHaveBytes}
+use Rattle.run_ready_laws.specs.CountLaws.{CountsAreFew}
+use Rattle.run_number_laws.specs.RootLaws.{CommitsFindWork}
+use Rattle.run_rules.specs.Due.{Due, Pends, Gives_up, Delivers, Recovers}
+use Rattle.run_rules.specs.Facts.{Facts, node_at, place_at}
+use Rattle.run_rules.specs.Scripts.{TheRunIsLawful}
+use Rattle.run_rules.specs.Lawful.{Comes, History, facts_at}
+use Rattle.run_rules.proofs.FactLemmas.{facts_are}
+use Rattle.run_rules.specs.Telling.{Call, start}
 use Rattle.sql_print.specs.Printing.{IsPrintable}
-use Rattle.number_laws.specs.Counts.{DeliveriesAreWithin}
-use Rattle.number_laws.specs.Numbers.{EachStartsSeldom as SeldomByRuns, StartsSeldom}
-use Rattle.number_laws.specs.There.{DueMessagesAreThere as MessagesThereByRuns, DueNodesAreThere as NodesThereByRuns}
-use Rattle.number_laws.specs.Turns.{DueTurnsFindAble, FindsAble, IsTurnDue}
+use Rattle.run_number_laws.specs.Counts.{DeliveriesAreWithin}
+use Rattle.run_number_laws.specs.Numbers.{EachStartsSeldom as SeldomByRuns, StartsSeldom}
+use Rattle.run_number_laws.specs.There.{DueMessagesAreThere as MessagesThereByRuns, DueNodesAreThere as NodesThereByRuns}
+use Rattle.run_number_laws.specs.Turns.{DueTurnsFindAble, FindsAble, IsTurnDue}
 use Rattle.run_trace.specs.Recorded.{RunSoFar, past_of}
 use Rattle.world.specs.Needs.{IsOfScript, CanTake, DueTurnsCanBeTaken, DueMessagesAreThere, DueNodesAreThere, EachStartsSeldom, DeliveriesAreFew, due_in}
 use Rattle.world_parts.specs.Shown.{history_of}

@@ -1,13 +1,13 @@
 -- The world after a happening of the network alone.
 use Rattle.std.proofs.Common.{◌≡◌, ℕ, List, [], ◌∷◌, length, drop, refl, ap, sym, ◌∙◌, Some, subst}
 use Rattle.node_rules.specs.Data.{Place}
-use Rattle.run_laws.specs.Data.{Command, Happening}
-use Rattle.run_laws.specs.Data.happenings
+use Rattle.run_rules.specs.Data.{Command, Happening}
+use Rattle.run_rules.specs.Data.happenings
 use Rattle.net_bag.specs.Net.{Net, lost, cut_over, lost_by_cut, joined}
-use Rattle.run_laws.specs.Facts.{others}
-use Rattle.run_laws.specs.Telling.{Past}
-use Rattle.run_laws.specs.Past.{next, acts}
-use Rattle.run_laws.specs.Facts.{facts_after}
+use Rattle.run_rules.specs.Facts.{others}
+use Rattle.run_rules.specs.Telling.{Past}
+use Rattle.run_rules.specs.Past.{next, acts}
+use Rattle.run_rules.specs.Facts.{facts_after}
 use Rattle.run_trace.specs.Recorded.{IsNext, past_of}
 use Rattle.world.specs.declared.site.Site.{Site}
 use Rattle.world.specs.declared.world.World.{World}
@@ -17,7 +17,7 @@ use Rattle.world.specs.Site.{SitesAre}
 use Rattle.world.specs.Steps.{StepsOn}
 use Rattle.world.proofs.SiteLemmas.{sites_stay}
 use Rattle.world.proofs.StepLemmas.{IsPushed, Leaves, shown_on, stands_of, steps_on}
-use Rattle.run_laws.specs.Due.{Due, Tells, Loses, Cuts, Joins, comes_next, due_of, tells_first}
+use Rattle.run_rules.specs.Due.{Due, Tells, Loses, Cuts, Joins, comes_next, due_of, tells_first}
 
 module _ (places : List Place) (commands : List Command) where
   pub next_lost : (p : Past) (k : ℕ) → next places commands p (happenings.Lost k)

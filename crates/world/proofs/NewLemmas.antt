@@ -5,22 +5,22 @@ use Rattle.std.specs.List.{AllByRecursion}
 use Rattle.script_read.specs.Sound.{IsInRange}
 use Rattle.node_rules.specs.Data.{Place}
 use Rattle.net_bag.specs.Net.{still}
-use Rattle.run_laws.specs.Data.{Command}
-use Rattle.run_laws.specs.Due.{IsTheRun}
-use Rattle.run_laws.specs.Lawful.{AreOfAScript}
-use Rattle.run_laws.specs.Past.{past}
-use Rattle.run_laws.specs.Telling.{Past, nothing_told, start}
+use Rattle.run_rules.specs.Data.{Command}
+use Rattle.run_rules.specs.Due.{IsTheRun}
+use Rattle.run_rules.specs.Lawful.{AreOfAScript}
+use Rattle.run_rules.specs.Past.{past}
+use Rattle.run_rules.specs.Telling.{Past, nothing_told, start}
 use Rattle.run_trace.specs.Recorded.{RunSoFar, past_of, IsRunOfScript}
 use Rattle.world.specs.declared.world.World.{World}
 use Rattle.world.specs.Linked.{IsLinked, PartsAre}
-use Rattle.byte_laws.specs.ByteRuns.{AsksSpelled}
+use Rattle.run_spell_laws.specs.ByteRuns.{AsksSpelled}
 use Rattle.world.specs.Needs.{IsOfScript}
 use Rattle.world_parts.specs.Shown.{HasBegun, ShowDisks, Shown}
 use Rattle.world.specs.Site.{SitesAre}
 use Rattle.world.specs.Sites.{AreMade}
 use Rattle.node_rules.specs.Words.{numbered}
-use Rattle.run_laws.specs.Disks.{DiskOrders, no_orders}
-use Rattle.run_laws.specs.Telling.{orders_at}
+use Rattle.run_rules.specs.Disks.{DiskOrders, no_orders}
+use Rattle.run_rules.specs.Telling.{orders_at}
 use Rattle.world.specs.declared.site.Site.{Site}
 use Rattle.world_parts.specs.Orders.{HasOrders}
 use Rattle.world.specs.Site.{site_disk}

@@ -1,12 +1,12 @@
 -- What a world that is left tells is what is to be told of its run.
 use Rattle.std.proofs.Common.{◌≡◌, inl, inr, List, map, ap, sym, subst, ◌∙◌}
 use Rattle.node_rules.specs.Data.{Place}
-use Rattle.run_laws.specs.Data.{AnswerLine, Command, Happening}
-use Rattle.run_laws.specs.Due.{Due, Ends}
-use Rattle.run_laws.specs.Entries.{book_of}
-use Rattle.run_laws.specs.Headline.{IsBetween, IsTold, LinesAre}
-use Rattle.run_laws.specs.Lawful.{AreOfAScript}
-use Rattle.run_laws.specs.Lines.{told}
+use Rattle.run_rules.specs.Data.{AnswerLine, Command, Happening}
+use Rattle.run_rules.specs.Due.{Due, Ends}
+use Rattle.run_rules.specs.Entries.{book_of}
+use Rattle.run_rules.specs.Reported.{IsBetween, IsTold, LinesAre}
+use Rattle.run_rules.specs.Lawful.{AreOfAScript}
+use Rattle.run_rules.specs.Lines.{told}
 use Rattle.run_trace.specs.Recorded.{RunSoFar, IsRunOfScript, past_of}
 use Rattle.world.specs.declared.ran.Ended.{Ended}
 use Rattle.world.specs.declared.ran.Ended.TheVariants.{AllRun, OutOfMemory}

@@ -29,9 +29,9 @@ use Rattle.redo_log.specs.Stands.{stands_by as stands_by_plan}
 use Rattle.node_disk.specs.Effects.{Tells, TellsPasses, GoesUncut, ReachesNone}
 use Rattle.node_disk.specs.Incoming.{IsReadAs}
 use Rattle.node_disk.specs.OnDisk.{disk_of, kept_of, place_of, turn_calls, IsSpellable, HoldsNext}
-use Rattle.run_laws.specs.Cuts.{Cut_by, By_nothing, By_point, By_strike, cut_append, cut_before, cut_by}
-use Rattle.run_laws.specs.Disks.{DiskOrders, Strike, struck}
-use Rattle.run_laws.specs.Telling.{Telling, orders_at}
+use Rattle.run_rules.specs.Cuts.{Cut_by, By_nothing, By_point, By_strike, cut_append, cut_before, cut_by}
+use Rattle.run_rules.specs.Disks.{DiskOrders, Strike, struck}
+use Rattle.run_rules.specs.Telling.{Telling, orders_at}
 use Rattle.world.specs.declared.site.Site.{Site}
 use Rattle.world.specs.declared.site.Site.TheVariants.{Up, Down}
 use Rattle.world_parts.specs.Orders.{HasOrders, OrdersLeft, cut_orders, orders_if}

@@ -6,8 +6,8 @@ use Rattle.tran_ids.proofs.NumberedLemmas.{set_found, set_leaves}
 use Rattle.record_log.specs.Held.{HoldRecords}
 use Rattle.node_rules.specs.Data.{Place, RedoRecord}
 use Rattle.node_rules.specs.Words.{numbered, set_numbered}
-use Rattle.run_laws.specs.Facts.{no_place, place_at, records_at}
-use Rattle.run_laws.specs.Telling.{Past}
+use Rattle.run_rules.specs.Facts.{no_place, place_at, records_at}
+use Rattle.run_rules.specs.Telling.{Past}
 use Rattle.world.specs.declared.site.Site.{Site}
 use Rattle.world.specs.declared.site.Site.TheVariants.{Up, Down}
 use Rattle.world.specs.Site.{SiteIs, SitesAre, OtherSitesAre, RunsAt, up_at, site_disk, site_kept, bytes_of}

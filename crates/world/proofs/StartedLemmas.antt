@@ -17,7 +17,7 @@ use Rattle.node_rules.specs.Kept.{Kept}
 use Rattle.node_disk.specs.Starts.{CanBeStarted, StartIsLeft, next_boot}
 use Rattle.node_disk.specs.OnDisk.{disk_of, kept_of, place_of, IsRunning}
 use Rattle.node_disk.specs.declared.node.Node.{Node}
-use Rattle.run_laws.specs.Disks.{DiskOrders, Strike, no_orders, struck}
+use Rattle.run_rules.specs.Disks.{DiskOrders, Strike, no_orders, struck}
 use Rattle.world.specs.declared.site.Site.{Site}
 use Rattle.world.specs.declared.site.Site.TheVariants.{Up}
 use Rattle.world_parts.specs.Orders.{HasOrders, OrdersLeft, orders_as, stop_as}

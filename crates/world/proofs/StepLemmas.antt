@@ -1,11 +1,11 @@
 -- The world after one happening more, part by part: it is that of the longer run.
 use Rattle.std.proofs.Common.{◌≡◌, ◌⊎◌, inl, inr, ◌<◌, ◌≤◌, ℕ, List, [], ◌∷◌, ◌++◌, length, length-append, append_assoc, Some, None, refl, ap, sym, subst, ◌∙◌, arith}
 use Rattle.node_rules.specs.Data.{Place}
-use Rattle.run_laws.specs.Data.{Command, Happening}
-use Rattle.run_laws.specs.Data.happenings
-use Rattle.run_laws.specs.Telling.{Past, start}
-use Rattle.run_laws.specs.Past.{next, past}
-use Rattle.run_laws.specs.Due.{IsTheRun, comes_next}
+use Rattle.run_rules.specs.Data.{Command, Happening}
+use Rattle.run_rules.specs.Data.happenings
+use Rattle.run_rules.specs.Telling.{Past, start}
+use Rattle.run_rules.specs.Past.{next, past}
+use Rattle.run_rules.specs.Due.{IsTheRun, comes_next}
 use Rattle.run_trace.specs.Recorded.{RunSoFar, IsNext, happening_limit, past_of}
 use Rattle.world.specs.declared.world.World.{World}
 use Rattle.world.specs.Needs.{IsOfScript}

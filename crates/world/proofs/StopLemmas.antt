@@ -2,21 +2,21 @@
 use Rattle.std.proofs.Common.{◌≡◌, ◌≢◌, ℕ, Bool, if◌then◌else◌, List, length, Option, Some, None, refl, sym, ap, subst, ◌∙◌}
 use Rattle.node_rules.specs.Data.{Place}
 use Rattle.node_rules.specs.Words.{set_numbered}
-use Rattle.run_laws.specs.Data.{Command, Happening}
-use Rattle.run_laws.specs.Data.happenings
+use Rattle.run_rules.specs.Data.{Command, Happening}
+use Rattle.run_rules.specs.Data.happenings
 use Rattle.net_bag.specs.Net.{Net, lost_by_stop, stopped}
-use Rattle.run_laws.specs.Facts.{facts_after}
-use Rattle.run_laws.specs.Telling.{Past}
-use Rattle.run_laws.specs.Past.{acts, next, telling_stopped}
+use Rattle.run_rules.specs.Facts.{facts_after}
+use Rattle.run_rules.specs.Telling.{Past}
+use Rattle.run_rules.specs.Past.{acts, next, telling_stopped}
 use Rattle.record_log.specs.Held.{HoldRecords}
 use Rattle.node_rules.specs.Words.{numbered}
 use Rattle.tran_ids.proofs.NumberedLemmas.{set_found, set_leaves, set_length}
-use Rattle.run_laws.specs.Facts.{flat, node_at, place_at, records_at}
-use Rattle.run_laws.proofs.AtNodeLemmas.{there_too}
+use Rattle.run_rules.specs.Facts.{flat, node_at, place_at, records_at}
+use Rattle.run_rules.proofs.AtNodeLemmas.{there_too}
 use Rattle.run_trace.specs.Recorded.{RunSoFar, IsNext, past_of}
 use Rattle.world.specs.declared.site.Site.{Site}
 use Rattle.world.specs.declared.world.World.{World}
-use Rattle.run_laws.specs.Lawful.{IsNode}
+use Rattle.run_rules.specs.Lawful.{IsNode}
 use Rattle.world.specs.Needs.{DueNodesAreThere, NamesNodes, IsOfScript, due_in}
 use Rattle.world.specs.Linked.{IsHeld, IsLinked, OnlyFalls}
 use Rattle.world.specs.Site.{SiteIs, SitesAre, has_to_fall, up_at}
@@ -25,7 +25,7 @@ use Rattle.world.specs.Stops.{HasStopped}
 use Rattle.world.proofs.SiteLemmas.{SameAt, down_runs, site_set}
 use Rattle.world.proofs.StepLemmas.{IsPushed, Leaves, shown_on, stands_of, steps_on}
 use Rattle.world_parts.proofs.ToStopLemmas.{stop_ends}
-use Rattle.run_laws.specs.Due.{Due, Falls, Stops, comes_next, due_of}
+use Rattle.run_rules.specs.Due.{Due, Falls, Stops, comes_next, due_of}
 
 module _ (places : List Place) (commands : List Command) where
   pub next_stopped : (p : Past) (n : ℕ) → next places commands p (happenings.Stopped n)

@@ -18,13 +18,13 @@ use Rattle.node_disk.specs.declared.incoming.Incoming.{Incoming}
 use Rattle.node_disk.specs.declared.incoming.Incoming.TheVariants as comings
 use Rattle.node_disk.specs.Incoming.{IsReadAs}
 use Rattle.node_disk.specs.OnDisk.{IsSpellable}
-use Rattle.run_laws.specs.Cuts.{Cut_by, By_nothing, cut_by}
-use Rattle.run_laws.specs.Data.{Session}
-use Rattle.run_laws.specs.Facts.{node_at, place_at, records_at}
-use Rattle.run_laws.specs.Lawful.{IsNode, boots}
-use Rattle.run_laws.specs.Telling.{Past, Telling}
-use Rattle.run_laws.proofs.AtNodeLemmas.{flat_some, range_of}
-use Rattle.run_laws.proofs.BootLemmas.{boots_with, step_of_turn}
+use Rattle.run_rules.specs.Cuts.{Cut_by, By_nothing, cut_by}
+use Rattle.run_rules.specs.Data.{Session}
+use Rattle.run_rules.specs.Facts.{node_at, place_at, records_at}
+use Rattle.run_rules.specs.Lawful.{IsNode, boots}
+use Rattle.run_rules.specs.Telling.{Past, Telling}
+use Rattle.run_rules.proofs.AtNodeLemmas.{flat_some, range_of}
+use Rattle.run_rules.proofs.BootLemmas.{boots_with, step_of_turn}
 use Rattle.run_trace.specs.Recorded.{Extends, RunSoFar, past_of}
 use Rattle.tran_ids.proofs.NumberedLemmas.{set_found, set_leaves, set_length}
 use Rattle.world.specs.declared.site.Site.{Site}

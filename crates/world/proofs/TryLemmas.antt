@@ -8,14 +8,14 @@ use Rattle.node_rules.specs.Kept.{Kept}
 use Rattle.node_rules.specs.Turn.{start_of}
 use Rattle.node_rules.specs.Words.{numbered, set_numbered}
 use Rattle.node_disk.specs.Starts.{last_boot, next_boot}
-use Rattle.run_laws.specs.Data.happenings
-use Rattle.run_laws.specs.Data.{Command}
-use Rattle.run_laws.specs.Disks.{DiskOrders, Strike, struck}
-use Rattle.run_laws.specs.Due.{Due, Starts, comes_next, due_of}
-use Rattle.run_laws.specs.Facts.{node_at, place_at, records_at, with_boot}
-use Rattle.run_laws.specs.Lawful.{IsNode, boots}
-use Rattle.run_laws.specs.Telling.{Past, Telling, orders_at}
-use Rattle.run_laws.proofs.AtNodeLemmas.{item_there}
+use Rattle.run_rules.specs.Data.happenings
+use Rattle.run_rules.specs.Data.{Command}
+use Rattle.run_rules.specs.Disks.{DiskOrders, Strike, struck}
+use Rattle.run_rules.specs.Due.{Due, Starts, comes_next, due_of}
+use Rattle.run_rules.specs.Facts.{node_at, place_at, records_at, with_boot}
+use Rattle.run_rules.specs.Lawful.{IsNode, boots}
+use Rattle.run_rules.specs.Telling.{Past, Telling, orders_at}
+use Rattle.run_rules.proofs.AtNodeLemmas.{item_there}
 use Rattle.run_trace.specs.Recorded.{IsNext, past_of}
 use Rattle.world.specs.declared.site.Site.{Site}
 use Rattle.world.specs.declared.world.World.{World}

@@ -1,11 +1,11 @@
 -- A turn leaves the lines of the commands before and what was shown, whatever becomes of it.
 use Rattle.std.proofs.Common.{◌≡◌, ◌++◌, List, [], ◌∷◌, ap, sym, subst, ◌∙◌}
 use Rattle.node_rules.specs.Data.{Place}
-use Rattle.run_laws.specs.Data.{Command, Turn}
-use Rattle.run_laws.specs.Data.happenings
-use Rattle.run_laws.specs.Facts.{node_at, outcome_at}
-use Rattle.run_laws.specs.Past.{next}
-use Rattle.run_laws.specs.Telling.{Past, Telling}
+use Rattle.run_rules.specs.Data.{Command, Turn}
+use Rattle.run_rules.specs.Data.happenings
+use Rattle.run_rules.specs.Facts.{node_at, outcome_at}
+use Rattle.run_rules.specs.Past.{next}
+use Rattle.run_rules.specs.Telling.{Past, Telling}
 use Rattle.run_trace.specs.Recorded.{RunSoFar, past_of}
 use Rattle.world.specs.declared.world.World.{World}
 use Rattle.world.specs.Left.{StillTells}

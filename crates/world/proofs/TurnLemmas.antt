@@ -13,12 +13,12 @@ use Rattle.node_rules.specs.Data.{Stmt}
 use Rattle.node_rules.specs.Data.inputs
 use Rattle.node_rules.specs.Sessions.{session_at}
 use Rattle.tran_ids.proofs.NumberedLemmas.{set_found, set_leaves, set_length}
-use Rattle.run_laws.specs.Data.{Session, Turn}
-use Rattle.run_laws.specs.Facts.{facts_turned, flat, kept_after, outcome_at, records_at, served, taken, to_stop_after}
-use Rattle.run_laws.specs.Lawful.{IsNode, boots}
-use Rattle.run_laws.specs.Past.{next, telling_turned, turned}
-use Rattle.run_laws.specs.Telling.{Telling, orders_at}
-use Rattle.run_laws.proofs.AtNodeLemmas.{flat_some, range_of, there_too}
+use Rattle.run_rules.specs.Data.{Session, Turn}
+use Rattle.run_rules.specs.Facts.{facts_turned, flat, kept_after, outcome_at, records_at, served, taken, to_stop_after}
+use Rattle.run_rules.specs.Lawful.{IsNode, boots}
+use Rattle.run_rules.specs.Past.{next, telling_turned, turned}
+use Rattle.run_rules.specs.Telling.{Telling, orders_at}
+use Rattle.run_rules.proofs.AtNodeLemmas.{flat_some, range_of, there_too}
 use Rattle.run_trace.specs.Recorded.{happening_limit, IsNext, past_of}
 use Rattle.world.specs.declared.site.Site.{Site}
 use Rattle.world.specs.declared.turning.Begun.{Begun}
@@ -35,13 +35,13 @@ use Rattle.world_parts.proofs.ToStopLemmas.{turn_orders, turn_upright}
 use Rattle.node_rules.specs.Data.{RedoRecord, Place, Input, Msg}
 use Rattle.node_rules.specs.Kept.{Kept, Outcome}
 use Rattle.node_rules.specs.Turn.{turn_of}
-use Rattle.run_laws.specs.Data.{Command, Happening, Took}
-use Rattle.run_laws.specs.Data.happenings
-use Rattle.run_laws.specs.Cuts.{Cut_by, By_nothing, By_strike, By_point, cut_appends, cut_by}
-use Rattle.run_laws.specs.Disks.{DiskOrders, no_orders}
-use Rattle.run_laws.specs.Facts.{node_at, place_at}
-use Rattle.run_laws.specs.Telling.{Past}
-use Rattle.run_laws.specs.Due.{Due, tells_first, falls_first, Tells, Falls, Pends, Gives_up, Delivers, Recovers, Cuts, Joins, Loses, Stops, Starts, Begins, Ends, comes_next, due_of, happens, turn_at, turn_by}
+use Rattle.run_rules.specs.Data.{Command, Happening, Took}
+use Rattle.run_rules.specs.Data.happenings
+use Rattle.run_rules.specs.Cuts.{Cut_by, By_nothing, By_strike, By_point, cut_appends, cut_by}
+use Rattle.run_rules.specs.Disks.{DiskOrders, no_orders}
+use Rattle.run_rules.specs.Facts.{node_at, place_at}
+use Rattle.run_rules.specs.Telling.{Past}
+use Rattle.run_rules.specs.Due.{Due, tells_first, falls_first, Tells, Falls, Pends, Gives_up, Delivers, Recovers, Cuts, Joins, Loses, Stops, Starts, Begins, Ends, comes_next, due_of, happens, turn_at, turn_by}
 use Rattle.world.specs.Needs.{IsTurnDue}
 use Rattle.world.specs.Turns.{TookIs, stands_by, stood}
 

@@ -12,13 +12,13 @@ use Rattle.node_rules.specs.Kept.{Kept, Outcome}
 use Rattle.node_rules.specs.Turn.{turn_of}
 use Rattle.node_disk.specs.declared.effects.Effects.{Effects}
 use Rattle.node_disk.specs.Effects.{call_of}
-use Rattle.run_laws.specs.Cuts.{By_nothing}
-use Rattle.run_laws.specs.Data.{Turn}
-use Rattle.run_laws.specs.Data.happenings
-use Rattle.run_laws.specs.Facts.{place_at, records_at, taken}
-use Rattle.run_laws.specs.Lawful.{boots}
-use Rattle.run_laws.specs.Past.{telling_turned}
-use Rattle.run_laws.specs.Telling.{Past, Telling, orders_at}
+use Rattle.run_rules.specs.Cuts.{By_nothing}
+use Rattle.run_rules.specs.Data.{Turn}
+use Rattle.run_rules.specs.Data.happenings
+use Rattle.run_rules.specs.Facts.{place_at, records_at, taken}
+use Rattle.run_rules.specs.Lawful.{boots}
+use Rattle.run_rules.specs.Past.{telling_turned}
+use Rattle.run_rules.specs.Telling.{Past, Telling, orders_at}
 use Rattle.run_trace.specs.Recorded.{past_of}
 use Rattle.telling.specs.declared.turn.TurnFacts.{TurnFacts}
 use Rattle.telling.specs.Facts.{KnownOfTurn}

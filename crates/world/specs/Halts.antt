@@ -1,7 +1,7 @@
 -- What a stop of a node leaves of the world: of its sites, and of the run so far.
 use Rattle.std.specs.Prelude.{◌≡◌, ℕ}
-use Rattle.run_laws.specs.Data.happenings
-use Rattle.run_laws.specs.Past.{next}
+use Rattle.run_rules.specs.Data.happenings
+use Rattle.run_rules.specs.Past.{next}
 use Rattle.run_trace.specs.Recorded.{past_of}
 use Rattle.world.specs.declared.world.World.{World}
 use Rattle.world.specs.Stops.{StopsAt}

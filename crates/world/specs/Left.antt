@@ -1,7 +1,7 @@
 -- What is left of a world where memory ran out: the lines that are told then.
 use Rattle.std.specs.Prelude.{◌≡◌, ◌⊎◌, map}
-use Rattle.run_laws.specs.Headline.{IsBetween}
-use Rattle.run_laws.specs.Lines.{told}
+use Rattle.run_rules.specs.Reported.{IsBetween}
+use Rattle.run_rules.specs.Lines.{told}
 use Rattle.run_trace.specs.Recorded.{past_of}
 use Rattle.world.specs.Needs.{due_in}
 use Rattle.world_parts.specs.Shown.{ShowDisks, Shown, disk_told}

@@ -1,8 +1,8 @@
 -- The world, part by part, held against the run so far.
 use Rattle.std.specs.Prelude.{◌≡◌, ◌≢◌, ◌⊎◌, false, ℕ, length, map, None, Some}
 use Rattle.node_rules.specs.Data.{Place}
-use Rattle.run_laws.specs.Telling.{Past}
-use Rattle.run_laws.specs.Lawful.{boots}
+use Rattle.run_rules.specs.Telling.{Past}
+use Rattle.run_rules.specs.Lawful.{boots}
 use Rattle.run_trace.specs.Recorded.{past_of}
 use Rattle.world.specs.Needs.{IsOfScript}
 use Rattle.node_rules.specs.Words.{numbered}

@@ -1,7 +1,7 @@
 -- The laws of runs that the world stands on: the turn that is due can be taken, and what it writes and says has bytes; the message
 -- that is due is there; starts and deliveries are few.
-pub use Rattle.number_laws.specs.There.{NamesNodes, may_come}
-pub use Rattle.number_laws.specs.Turns.{IsTurnDue}
+pub use Rattle.run_number_laws.specs.There.{NamesNodes, may_come}
+pub use Rattle.run_number_laws.specs.Turns.{IsTurnDue}
 use Rattle.std.specs.Prelude.{◌≡◌, ◌+◌, ◌<◌, ◌≤◌, ◌^◌, ℕ, Bool, true, List, length, Some}
 use Rattle.std.specs.List.{AllByRecursion}
 use Rattle.script_read.specs.Sound.{IsInRange}
@@ -11,10 +11,10 @@ use Rattle.node_rules.specs.Turn.{turn_of}
 use Rattle.node_core.specs.Able.{MayTake}
 use Rattle.node_disk.specs.Starts.{last_boot}
 use Rattle.node_disk.specs.OnDisk.{IsSpellable}
-use Rattle.byte_laws.specs.ByteRuns.{AsksSpelled}
-use Rattle.run_laws.specs.Facts.{Facts, node_at, place_at, records_at}
-use Rattle.run_laws.specs.Lawful.{AreOfAScript, IsNode, boots}
-use Rattle.run_laws.specs.Due.{Due, Delivers, due_of}
+use Rattle.run_spell_laws.specs.ByteRuns.{AsksSpelled}
+use Rattle.run_rules.specs.Facts.{Facts, node_at, place_at, records_at}
+use Rattle.run_rules.specs.Lawful.{AreOfAScript, IsNode, boots}
+use Rattle.run_rules.specs.Due.{Due, Delivers, due_of}
 use Rattle.run_trace.specs.Recorded.{RunSoFar, IsRunOfScript, happening_limit, past_of}
 
 -- A run of a script, which has few commands: with orders for writes and calls to come, and with statements that their printed texts

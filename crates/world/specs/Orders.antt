@@ -3,9 +3,9 @@ use Rattle.std.specs.Prelude.{◌≡◌, ◌≢◌, ◌==◌, ℕ, List, if◌th
 use Rattle.block_disk.specs.declared.order.Order.{Order}
 use Rattle.script_read.specs.Sound.{IsInRange}
 use Rattle.node_rules.specs.Words.{numbered}
-use Rattle.run_laws.specs.Data.{Command}
-use Rattle.run_laws.specs.Disks.{DiskOrders}
-use Rattle.run_laws.specs.Telling.{orders_at}
+use Rattle.run_rules.specs.Data.{Command}
+use Rattle.run_rules.specs.Disks.{DiskOrders}
+use Rattle.run_rules.specs.Telling.{orders_at}
 use Rattle.run_trace.specs.Recorded.{past_of}
 use Rattle.world_parts.specs.Orders.{HasOrders, IsToCome, armed, ordered_at}
 use Rattle.world.specs.declared.site.Site.{Site}

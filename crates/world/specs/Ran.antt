@@ -1,9 +1,9 @@
 -- A run that has ended.
 use Rattle.std.specs.Prelude.{◌≡◌}
-use Rattle.run_laws.specs.Due.{Ends}
-use Rattle.run_laws.specs.Entries.{book_of}
-use Rattle.run_laws.specs.Lawful.{AreOfAScript}
-use Rattle.run_laws.specs.Headline.{Ending, All_run, Out_of_memory, IsTold}
+use Rattle.run_rules.specs.Due.{Ends}
+use Rattle.run_rules.specs.Entries.{book_of}
+use Rattle.run_rules.specs.Lawful.{AreOfAScript}
+use Rattle.run_rules.specs.Reported.{Ending, All_run, Out_of_memory, IsTold}
 use Rattle.run_trace.specs.Recorded.{RunSoFar, IsRunOfScript}
 use Rattle.run_trace.specs.declared.trace.Recorded.{Recorded}
 use Rattle.world.specs.Needs.{due_in}

@@ -8,8 +8,8 @@ use Rattle.node_rules.specs.Words.{numbered}
 use Rattle.node_rules.specs.Kept.{Kept}
 use Rattle.node_disk.specs.Starts.{CanBeStarted}
 use Rattle.node_disk.specs.OnDisk.{disk_of, kept_of, place_of, IsRunning}
-use Rattle.run_laws.specs.Facts.{node_at, place_at, records_at}
-use Rattle.run_laws.specs.Telling.{Past}
+use Rattle.run_rules.specs.Facts.{node_at, place_at, records_at}
+use Rattle.run_rules.specs.Telling.{Past}
 use Rattle.world.specs.declared.site.Site.{Site}
 use Rattle.world.specs.declared.site.Site.TheVariants.{Up, Down}
 

@@ -7,12 +7,12 @@ use Rattle.node_rules.specs.Words.{numbered}
 use Rattle.node_rules.specs.Kept.{Kept}
 use Rattle.node_rules.specs.Turn.{made}
 use Rattle.node_disk.specs.Starts.{CanBeStarted}
-use Rattle.run_laws.specs.Data.{Command}
-use Rattle.run_laws.specs.Data.commands
-use Rattle.run_laws.specs.Shown.{shown_disk}
+use Rattle.run_rules.specs.Data.{Command}
+use Rattle.run_rules.specs.Data.commands
+use Rattle.run_rules.specs.Shown.{shown_disk}
 use Rattle.world.specs.declared.site.Site.{Site}
 use Rattle.world_parts.specs.Shown.{Shown, shown_at}
-use Rattle.run_laws.specs.Disks.{no_orders}
+use Rattle.run_rules.specs.Disks.{no_orders}
 use Rattle.world_parts.specs.Orders.{HasOrders}
 use Rattle.world.specs.Site.{site_kept, site_disk, bytes_of, images_of, RunsAt}
 

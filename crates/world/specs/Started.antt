@@ -5,7 +5,7 @@ use Rattle.node_rules.specs.Data.{RedoRecord, Place}
 use Rattle.node_rules.specs.Turn.{start_of}
 use Rattle.node_rules.specs.Words.{numbered}
 use Rattle.node_disk.specs.Starts.{CanBeStarted, last_boot, next_boot}
-use Rattle.run_laws.specs.Disks.{DiskOrders, struck, after_append}
+use Rattle.run_rules.specs.Disks.{DiskOrders, struck, after_append}
 use Rattle.world.specs.declared.site.Site.{Site}
 use Rattle.world_parts.specs.Orders.{HasOrders, stands_in}
 use Rattle.world.specs.Site.{site_kept, site_disk, bytes_of, images_of, RunsAt}

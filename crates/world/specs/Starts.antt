@@ -4,12 +4,12 @@ use Rattle.record_log.specs.Held.{HoldRecords}
 use Rattle.node_rules.specs.Words.{numbered}
 use Rattle.node_rules.specs.Turn.{start_of}
 use Rattle.node_disk.specs.Starts.{CanBeStarted}
-use Rattle.run_laws.specs.Data.happenings
-use Rattle.run_laws.specs.Disks.{after_append, struck}
-use Rattle.run_laws.specs.Facts.{place_at, records_at, with_boot}
-use Rattle.run_laws.specs.Lawful.{IsNode, boots}
-use Rattle.run_laws.specs.Past.{next}
-use Rattle.run_laws.specs.Telling.{orders_at}
+use Rattle.run_rules.specs.Data.happenings
+use Rattle.run_rules.specs.Disks.{after_append, struck}
+use Rattle.run_rules.specs.Facts.{place_at, records_at, with_boot}
+use Rattle.run_rules.specs.Lawful.{IsNode, boots}
+use Rattle.run_rules.specs.Past.{next}
+use Rattle.run_rules.specs.Telling.{orders_at}
 use Rattle.run_trace.specs.Recorded.{IsNext, past_of}
 use Rattle.world.specs.declared.site.Site.{Site}
 use Rattle.world.specs.declared.world.World.{World}

@@ -1,6 +1,6 @@
 -- What a step makes of the world.
 use Rattle.std.specs.Prelude.{◌≡◌, ◌<◌, ◌≤◌, Bool, true, false, length}
-use Rattle.run_laws.specs.Due.{Ends}
+use Rattle.run_rules.specs.Due.{Ends}
 use Rattle.run_trace.specs.Recorded.{happening_limit}
 use Rattle.world.specs.Needs.{due_in}
 use Rattle.world.specs.Linked.{IsHeld, IsLinked}

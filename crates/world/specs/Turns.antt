@@ -19,14 +19,14 @@ use Rattle.node_points.specs.Passing.{passes_as}
 use Rattle.node_rules.specs.Points.{passes}
 use Rattle.std.specs.Prelude.{option_map, option_to_list, length, map, is_some, ◌++◌, ◌∷◌, []}
 use Rattle.record_log.specs.Held.{HoldRecords}
-use Rattle.run_laws.specs.Data.{Session, Took, Turn}
-use Rattle.run_laws.specs.Data.happenings
-use Rattle.run_laws.specs.Past.{next}
-use Rattle.run_laws.specs.Facts.{node_at, place_at, records_at}
-use Rattle.run_laws.specs.Cuts.{Cut_by, By_nothing, By_point, By_strike, cut_by}
-use Rattle.run_laws.specs.Telling.{orders_at}
-use Rattle.run_laws.specs.Due.{Due, Delivers}
-use Rattle.run_laws.specs.Lawful.{boots}
+use Rattle.run_rules.specs.Data.{Session, Took, Turn}
+use Rattle.run_rules.specs.Data.happenings
+use Rattle.run_rules.specs.Past.{next}
+use Rattle.run_rules.specs.Facts.{node_at, place_at, records_at}
+use Rattle.run_rules.specs.Cuts.{Cut_by, By_nothing, By_point, By_strike, cut_by}
+use Rattle.run_rules.specs.Telling.{orders_at}
+use Rattle.run_rules.specs.Due.{Due, Delivers}
+use Rattle.run_rules.specs.Lawful.{boots}
 use Rattle.run_trace.specs.Recorded.{happening_limit, past_of}
 use Rattle.telling.specs.declared.turn.TurnFacts.{TurnFacts}
 use Rattle.telling.specs.Facts.{TellsTurn}

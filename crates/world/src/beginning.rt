@@ -1,8 +1,8 @@
 //! A command begins.
 ghost use Rattle.std.specs.Prelude.{◌≡◌, OnErr, OnOk, IfOk};
-ghost use Rattle.run_laws.specs.Due.{Begins};
-ghost use Rattle.run_laws.specs.Commands.{begins};
-ghost use Rattle.run_laws.specs.Facts.{command_at as command_at_of};
+ghost use Rattle.run_rules.specs.Due.{Begins};
+ghost use Rattle.run_rules.specs.Commands.{begins};
+ghost use Rattle.run_rules.specs.Facts.{command_at as command_at_of};
 ghost use Rattle.run_trace.specs.Recorded.{Extends, past_of};
 ghost use Rattle.telling.specs.Facts.{up_for as up_for_by, transaction_for as transaction_for_by, KnownAtBegin};
 ghost use Rattle.world.specs.Needs.{due_in};

@@ -1,6 +1,6 @@
 //! What comes to a node: a client's call, a call that is given up, a message, RECO.
 ghost use Rattle.std.specs.Prelude.{◌≡◌, OnErr, OnOk};
-ghost use Rattle.run_laws.specs.Due.{Pends, Gives_up, Delivers, Recovers};
+ghost use Rattle.run_rules.specs.Due.{Pends, Gives_up, Delivers, Recovers};
 ghost use Rattle.run_trace.specs.Recorded.{Extends};
 ghost use Rattle.world.specs.Needs.{due_in};
 ghost use Rattle.world.specs.Left.{StillTells};

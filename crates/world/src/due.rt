@@ -1,6 +1,6 @@
 //! What is due next.
 ghost use Rattle.std.specs.Prelude.{◌≡◌, IfOk};
-ghost use Rattle.run_laws.specs.Facts.{command_at as command_at_of};
+ghost use Rattle.run_rules.specs.Facts.{command_at as command_at_of};
 ghost use Rattle.run_trace.specs.Recorded.{past_of};
 ghost use Rattle.telling.specs.Due.{due_as, may_act as may_act_by};
 ghost use Rattle.telling.specs.Facts.{KnownDue};

@@ -1,6 +1,6 @@
 //! What happens to the network alone: losses, CUT, JOIN.
 ghost use Rattle.std.specs.Prelude.{◌≡◌, OnErr, OnOk};
-ghost use Rattle.run_laws.specs.Due.{Tells, Cuts, Joins, Loses};
+ghost use Rattle.run_rules.specs.Due.{Tells, Cuts, Joins, Loses};
 ghost use Rattle.run_trace.specs.Recorded.{Extends};
 ghost use Rattle.world.specs.Needs.{due_in};
 ghost use Rattle.world.specs.Left.{StillTells};

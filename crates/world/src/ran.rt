@@ -1,10 +1,10 @@
 //! A run that has ended, and what is told of it.
 ghost use Rattle.std.specs.Prelude.{◌≡◌, ◌<◌, ◌^◌, length, IfOk};
 ghost use Rattle.std.specs.List.{AllByRecursion};
-ghost use Rattle.byte_laws.specs.ByteRuns.{AsksSpelled};
+ghost use Rattle.run_spell_laws.specs.ByteRuns.{AsksSpelled};
 ghost use Rattle.script_read.specs.Sound.{IsInRange};
-ghost use Rattle.run_laws.specs.Due.{Ends};
-ghost use Rattle.run_laws.specs.Lawful.{AreOfAScript};
+ghost use Rattle.run_rules.specs.Due.{Ends};
+ghost use Rattle.run_rules.specs.Lawful.{AreOfAScript};
 ghost use Rattle.run_trace.specs.Recorded.{Extends};
 ghost use Rattle.world.specs.Linked.{IsLinked};
 ghost use Rattle.world.specs.Needs.{due_in};

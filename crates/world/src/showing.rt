@@ -1,13 +1,13 @@
 //! What a command says as it begins, and what SHOW prints.
 ghost use Rattle.std.specs.Prelude.{◌≡◌, ◌≤◌, ◌-◌, ◌∷◌, [], if◌then◌else◌, option_map, IfOk, OnOk, OnErr};
 ghost use Rattle.pending_view.specs.Views.{pending_rows};
-ghost use Rattle.run_laws.specs.Data.commands as script;
+ghost use Rattle.run_rules.specs.Data.commands as script;
 ghost use Rattle.sql_check.specs.Refusals.{dtx};
 ghost use Rattle.sql_check.specs.Words.{one as one_of};
-ghost use Rattle.run_laws.specs.Commands.{has_call as has_call_by, if_up as if_up_by, says_at_once as says_by};
-ghost use Rattle.run_laws.specs.Lines.{refuses_with};
-ghost use Rattle.run_laws.specs.Facts.{names_in};
-ghost use Rattle.run_laws.specs.Telling.{node_name as name_by};
+ghost use Rattle.run_rules.specs.Commands.{has_call as has_call_by, if_up as if_up_by, says_at_once as says_by};
+ghost use Rattle.run_rules.specs.Lines.{refuses_with};
+ghost use Rattle.run_rules.specs.Facts.{names_in};
+ghost use Rattle.run_rules.specs.Telling.{node_name as name_by};
 ghost use Rattle.run_trace.specs.Recorded.{past_of};
 ghost use Rattle.world.specs.Sites.{kept_at, disk_at, MayShow};
 ghost use Rattle.world.specs.Linked.{IsLinked};

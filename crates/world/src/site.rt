@@ -6,11 +6,11 @@ ghost use Rattle.redo_record.specs.declared.record.RedoRecord.TheVariants as rec
 ghost use Rattle.record_log.specs.Held.{HoldRecords};
 ghost use Rattle.node_rules.specs.Turn.{made as made_by};
 ghost use Rattle.node_disk.specs.Starts.{CanBeStarted};
-ghost use Rattle.run_laws.specs.Commands.{has_transaction, is_enabled as is_enabled_by};
+ghost use Rattle.run_rules.specs.Commands.{has_transaction, is_enabled as is_enabled_by};
 ghost use Rattle.std.specs.Option.{option_copied};
 ghost use Rattle.node_disk.specs.OnDisk.{kept_of};
 ghost use Rattle.world.specs.declared.site.Site.TheVariants.{Up, Down};
-ghost use Rattle.run_laws.specs.Disks.{no_orders};
+ghost use Rattle.run_rules.specs.Disks.{no_orders};
 ghost use Rattle.world_parts.specs.Orders.{HasOrders};
 ghost use Rattle.world.specs.Started.{CanStart, TriedFrom};
 ghost use Rattle.world.specs.Site.{site_kept, site_disk, bytes_of, images_of, RunsAt};

@@ -2,7 +2,7 @@
 ghost use Rattle.std.specs.Prelude.{◌≡◌, length, Some, None, is_some, option_map, IfOk};
 ghost use Rattle.std.specs.Option.{option_copied};
 ghost use Rattle.tran_ids.specs.Listed.{numbered};
-ghost use Rattle.run_laws.specs.Commands.{has_transaction as has_transaction_by, is_enabled as is_enabled_by};
+ghost use Rattle.run_rules.specs.Commands.{has_transaction as has_transaction_by, is_enabled as is_enabled_by};
 ghost use Rattle.node_disk.specs.OnDisk.{kept_of};
 ghost use Rattle.world.specs.Sites.{kept_at, AreMade};
 

@@ -1,10 +1,10 @@
 //! A node starts, where no order strikes its disk before its Boot stands.
 ghost use Rattle.std.specs.Prelude.{◌≡◌, Some, None, length, OnOk, OnErr};
 ghost use Rattle.node_rules.specs.Words.{numbered};
-ghost use Rattle.run_laws.specs.Disks.{struck};
-ghost use Rattle.run_laws.specs.Due.{Starts};
-ghost use Rattle.run_laws.specs.Lawful.{IsNode};
-ghost use Rattle.run_laws.specs.Telling.{orders_at as orders_of};
+ghost use Rattle.run_rules.specs.Disks.{struck};
+ghost use Rattle.run_rules.specs.Due.{Starts};
+ghost use Rattle.run_rules.specs.Lawful.{IsNode};
+ghost use Rattle.run_rules.specs.Telling.{orders_at as orders_of};
 ghost use Rattle.run_trace.specs.Recorded.{Extends, past_of};
 ghost use Rattle.world.specs.declared.site.Site.{Site as SiteBy};
 ghost use Rattle.world.specs.Needs.{due_in, DueNodesAreThere, EachStartsSeldom};
@@ -14,7 +14,7 @@ ghost use Rattle.world.specs.Orders.{OrdersAre};
 ghost use Rattle.world.specs.Started.{CanStart, TriesAt};
 ghost use Rattle.world.specs.Steps.{StepsOn};
 ghost use Rattle.world.specs.Starts.{HasBegun, HasBooted, IsTriedAt};
-ghost use Rattle.run_laws.specs.Past.{acts, telling_started};
+ghost use Rattle.run_rules.specs.Past.{acts, telling_started};
 
 use crate::World;
 use crate::laws::{numbers_stay_small, what_is_due_can_happen};

@@ -1,10 +1,10 @@
 //! A node stops: by STOP, since its turn was cut, or since an order struck its start.
 ghost use Rattle.std.specs.Prelude.{◌≡◌, length, OnErr, OnOk};
-ghost use Rattle.run_laws.specs.Data.happenings as occurrences;
-ghost use Rattle.run_laws.specs.Lawful.{IsNode};
-ghost use Rattle.run_laws.specs.Past.{acts, telling_stopped};
-ghost use Rattle.run_laws.specs.Due.{Falls, Stops};
-ghost use Rattle.run_laws.specs.Facts.{is_up as is_up_by};
+ghost use Rattle.run_rules.specs.Data.happenings as occurrences;
+ghost use Rattle.run_rules.specs.Lawful.{IsNode};
+ghost use Rattle.run_rules.specs.Past.{acts, telling_stopped};
+ghost use Rattle.run_rules.specs.Due.{Falls, Stops};
+ghost use Rattle.run_rules.specs.Facts.{is_up as is_up_by};
 ghost use Rattle.run_trace.specs.Recorded.{Extends, IsNext, past_of};
 ghost use Rattle.world.specs.Needs.{due_in};
 ghost use Rattle.world.specs.Left.{StillTells};

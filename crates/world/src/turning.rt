@@ -3,9 +3,9 @@ ghost use Rattle.std.specs.Prelude.{◌≡◌, ◌<◌, ◌-◌, ◌^◌, [], le
 ghost use Rattle.std.specs.List.{AllByRecursion};
 ghost use Rattle.net_bag.specs.Net.{sent_on, lost_at_once};
 ghost use Rattle.node_disk.specs.Effects.{call_of};
-ghost use Rattle.run_laws.specs.Facts.{taken};
-ghost use Rattle.run_laws.specs.Lawful.{IsNode};
-ghost use Rattle.run_laws.specs.Data.happenings as occurrences;
+ghost use Rattle.run_rules.specs.Facts.{taken};
+ghost use Rattle.run_rules.specs.Lawful.{IsNode};
+ghost use Rattle.run_rules.specs.Data.happenings as occurrences;
 ghost use Rattle.run_trace.specs.Recorded.{Extends, IsNext};
 ghost use Rattle.telling.specs.Turned.{cut_as};
 ghost use Rattle.world.specs.Needs.{DeliveriesAreFew, DueTurnsCanBeTaken, due_in};

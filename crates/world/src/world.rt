@@ -1,8 +1,8 @@
 //! The world of a run.
 ghost use Rattle.std.specs.Prelude.{◌≡◌, ◌<◌, ◌^◌, [], length, IfOk, OnErr, OnOk};
-ghost use Rattle.run_laws.specs.Due.{Ends};
-ghost use Rattle.run_laws.specs.Entries.{book_of};
-ghost use Rattle.run_laws.specs.Lawful.{AreOfAScript};
+ghost use Rattle.run_rules.specs.Due.{Ends};
+ghost use Rattle.run_rules.specs.Entries.{book_of};
+ghost use Rattle.run_rules.specs.Lawful.{AreOfAScript};
 ghost use Rattle.run_trace.specs.Recorded.{Extends};
 ghost use Rattle.world.specs.Needs.{due_in};
 ghost use Rattle.world.specs.Linked.{IsLinked};
@@ -13,7 +13,7 @@ ghost use Rattle.world.specs.Left.{IsLeft};
 ghost use Rattle.world.specs.Steps.{Steps, StepsOn};
 ghost use Rattle.std.specs.List.{AllByRecursion};
 ghost use Rattle.script_read.specs.Sound.{IsInRange};
-ghost use Rattle.byte_laws.specs.ByteRuns.{AsksSpelled};
+ghost use Rattle.run_spell_laws.specs.ByteRuns.{AsksSpelled};
 
 use crate::site::Site;
 use crate::sites::made_all;
@@ -52,7 +52,7 @@ pub struct World {
 
 impl World {
     /// The world before anything happened: every node is made on an empty disk. Fails where memory runs out.
-    #[tactic(auto, using(crate::proofs::BeginLemmas::begin_steps), unfolding(run_laws::specs::Past::past))]
+    #[tactic(auto, using(crate::proofs::BeginLemmas::begin_steps), unfolding(run_rules::specs::Past::past))]
     pub fn new(alloc: Global, places: Places, commands: Commands) -> Result<World, AllocError>
         requires script { AreOfAScript places commands }
         requires few { length commands < 2 ^ 18 }

@@ -5,20 +5,20 @@ use Rattle.std.specs.Prelude.{nat_lt}
 use Rattle.node_rules.specs.Data.{Place, Input}
 use Rattle.node_rules.specs.Kept.{Kept, Outcome}
 use Rattle.node_rules.specs.Turn.{turn_of}
-use Rattle.run_laws.specs.Data.{Command, Happening, Packet, Took}
-use Rattle.run_laws.specs.Data.happenings
-use Rattle.run_laws.specs.Data.commands
-use Rattle.run_laws.specs.Calls.{call_at}
-use Rattle.run_laws.specs.Commands.{is_enabled}
-use Rattle.run_laws.specs.Cuts.{Cut_by, By_nothing, By_strike, By_point, cut_by}
-use Rattle.run_laws.specs.Disks.{Strike, struck}
-use Rattle.run_laws.specs.Due.{Due, Tells, Falls, Pends, Gives_up, Delivers, Recovers, Cuts, Joins, Loses, Stops, Starts, Begins, Ends, IsTheRun, act_of, acts_first, acts_once, call_due, comes_next, delivery_at, due_of, falls_first, flows, follows_first, happens, if_due, most_of, next_command, next_delivery, next_give_up, next_pumped, start_by, tells_first, turn_at, turn_by}
-use Rattle.run_laws.specs.Facts.{Facts, command_at, facts_after, is_up, node_at, place_at, records_at}
-use Rattle.run_laws.specs.Lawful.{boots}
-use Rattle.run_laws.specs.Lines.{spent}
-use Rattle.run_laws.specs.Past.{next, past}
-use Rattle.run_laws.specs.Telling.{Call, Past, Telling, orders_at, start}
-use Rattle.run_laws.proofs.FactLemmas.{facts_next}
+use Rattle.run_rules.specs.Data.{Command, Happening, Packet, Took}
+use Rattle.run_rules.specs.Data.happenings
+use Rattle.run_rules.specs.Data.commands
+use Rattle.run_rules.specs.Calls.{call_at}
+use Rattle.run_rules.specs.Commands.{is_enabled}
+use Rattle.run_rules.specs.Cuts.{Cut_by, By_nothing, By_strike, By_point, cut_by}
+use Rattle.run_rules.specs.Disks.{Strike, struck}
+use Rattle.run_rules.specs.Due.{Due, Tells, Falls, Pends, Gives_up, Delivers, Recovers, Cuts, Joins, Loses, Stops, Starts, Begins, Ends, IsTheRun, act_of, acts_first, acts_once, call_due, comes_next, delivery_at, due_of, falls_first, flows, follows_first, happens, if_due, most_of, next_command, next_delivery, next_give_up, next_pumped, start_by, tells_first, turn_at, turn_by}
+use Rattle.run_rules.specs.Facts.{Facts, command_at, facts_after, is_up, node_at, place_at, records_at}
+use Rattle.run_rules.specs.Lawful.{boots}
+use Rattle.run_rules.specs.Lines.{spent}
+use Rattle.run_rules.specs.Past.{next, past}
+use Rattle.run_rules.specs.Telling.{Call, Past, Telling, orders_at, start}
+use Rattle.run_rules.proofs.FactLemmas.{facts_next}
 use Rattle.net_bag.specs.Net.{first_flying, may_deliver, may_repeat, packet_at}
 use Rattle.run_trace.specs.Recorded.{RunSoFar, IsRunOfScript, past_of}
 use Rattle.world_parts.specs.Shown.{HasBegun}

@@ -8,7 +8,7 @@ use Rattle.block_disk.specs.declared.order.How.TheVariants.{Keep, Leave}
 use Rattle.block_disk.specs.declared.order.Stop.{Stop}
 use Rattle.redo_log.specs.Plans.{plan_after, strikes_any}
 use Rattle.redo_log.specs.Stands.{is_open, opens_gate as opens_by_plan, body_calls, stands_by, stands_after}
-use Rattle.run_laws.specs.Disks.{DiskOrders, is_open as is_open_by, opens_gate, stop_left, fault_left}
+use Rattle.run_rules.specs.Disks.{DiskOrders, is_open as is_open_by, opens_gate, stop_left, fault_left}
 use Rattle.world_parts.specs.Orders.{how_as, stop_as}
 
 -- ---- each order after some calls

@@ -5,16 +5,16 @@ use Rattle.tran_ids.proofs.NumberedLemmas.{set_length}
 use Rattle.node_rules.specs.Data.{Input, Place}
 use Rattle.node_rules.specs.Kept.{Kept, Outcome}
 use Rattle.node_rules.specs.Words.{one}
-use Rattle.run_laws.specs.Commands.{orders_after}
-use Rattle.run_laws.specs.Cuts.{Cut_by, By_nothing, By_point, By_strike, appends, appends_if, cut_appends, cut_by, turn_appends}
-use Rattle.run_laws.specs.Data.{Command, Happening, Turn}
-use Rattle.run_laws.specs.Data.commands
-use Rattle.run_laws.specs.Data.happenings
-use Rattle.run_laws.specs.Disks.{DiskOrders, after_append}
-use Rattle.run_laws.specs.Facts.{Facts, command_at, node_at, outcome_at}
-use Rattle.run_laws.specs.Lines.{is_down, with_own}
-use Rattle.run_laws.specs.Past.{failed_start, next, past, start_refused, telling_after, telling_turned}
-use Rattle.run_laws.specs.Telling.{Past, Telling, orders_at, start}
+use Rattle.run_rules.specs.Commands.{orders_after}
+use Rattle.run_rules.specs.Cuts.{Cut_by, By_nothing, By_point, By_strike, appends, appends_if, cut_appends, cut_by, turn_appends}
+use Rattle.run_rules.specs.Data.{Command, Happening, Turn}
+use Rattle.run_rules.specs.Data.commands
+use Rattle.run_rules.specs.Data.happenings
+use Rattle.run_rules.specs.Disks.{DiskOrders, after_append}
+use Rattle.run_rules.specs.Facts.{Facts, command_at, node_at, outcome_at}
+use Rattle.run_rules.specs.Lines.{is_down, with_own}
+use Rattle.run_rules.specs.Past.{failed_start, next, past, start_refused, telling_after, telling_turned}
+use Rattle.run_rules.specs.Telling.{Past, Telling, orders_at, start}
 use Rattle.run_trace.specs.Recorded.{RunSoFar, past_of}
 use Rattle.world_parts.proofs.ToStopLemmas.{arms_keep, rest_keeps, stop_orders}
 

@@ -5,7 +5,7 @@ use Rattle.std.proofs.lemmas.List.FromFn.{map-range_with_len_more}
 use Rattle.std.specs.List.{range_with_len}
 use Rattle.std.proofs.Math.Nat.{div-one}
 use Rattle.tran_ids.specs.Numbers.{hex_digit, hex8}
-use Rattle.run_laws.specs.Shown.{disk_line}
+use Rattle.run_rules.specs.Shown.{disk_line}
 
 pub one_more : (bytes : List ℕ) (n : ℕ) → map (λ i. disk_line bytes (32 * i)) (range_with_len 0 (n + 1)) ≡ map (λ i. disk_line bytes (32 * i)) (range_with_len 0 n) ++ disk_line bytes (32 * n) ∷ []
 one_more bytes n = map-range_with_len_more (λ i. disk_line bytes (32 * i)) 0 n n (omega arith)

@@ -7,19 +7,19 @@ use Rattle.node_rules.specs.Data.inputs
 use Rattle.node_rules.specs.Kept.{Kept, Outcome}
 use Rattle.node_rules.specs.Points.{Point, point_of}
 use Rattle.node_rules.specs.Sessions.{session_at}
-use Rattle.run_laws.specs.Data.{AnswerLine, Command, Finished, Happening, Said, Took, Turn}
-use Rattle.run_laws.specs.Data.commands
-use Rattle.run_laws.specs.Data.happenings
-use Rattle.run_laws.specs.Calls.{after_input, call_at, call_ends, call_follows, change_call, ends_or_follows, finished, finished_call, is_call_at, is_complete, second_of, stopped_calls, waits, waits_if_pending, without_call}
+use Rattle.run_rules.specs.Data.{AnswerLine, Command, Finished, Happening, Said, Took, Turn}
+use Rattle.run_rules.specs.Data.commands
+use Rattle.run_rules.specs.Data.happenings
+use Rattle.run_rules.specs.Calls.{after_input, call_at, call_ends, call_follows, change_call, ends_or_follows, finished, finished_call, is_call_at, is_complete, second_of, stopped_calls, waits, waits_if_pending, without_call}
 use Rattle.net_bag.specs.Net.{may_deliver, may_repeat}
-use Rattle.run_laws.specs.Commands.{call_of, calls_after, commits_first, has_call, has_transaction, is_enabled, says_at_once}
-use Rattle.run_laws.specs.Cuts.{Cut_by, By_nothing, By_point, By_strike, appends, arms, arms_point, cut_appends, cut_by, turn_appends}
-use Rattle.run_laws.specs.Disks.{Strike, struck}
-use Rattle.run_laws.specs.Facts.{Facts, command_at, facts_after, is_up, node_at, outcome_at}
-use Rattle.run_laws.specs.Lines.{call_line, call_line_of, is_down, is_reached, line, over_line, page_lines, put_line, reached_line, says_node, told, with_own}
-use Rattle.run_laws.specs.Past.{delivered_more, ends_calls, is_call, is_stop_of, next, start_refused, stop_line, telling_stopped, telling_turned, without_following, failed_start, started_says}
-use Rattle.run_laws.specs.Telling.{Call, Page, Past, Telling, orders_at}
-use Rattle.run_laws.proofs.ListLemmas.{all_append, all_each, all_filter, all_map, all_weaker}
+use Rattle.run_rules.specs.Commands.{call_of, calls_after, commits_first, has_call, has_transaction, is_enabled, says_at_once}
+use Rattle.run_rules.specs.Cuts.{Cut_by, By_nothing, By_point, By_strike, appends, arms, arms_point, cut_appends, cut_by, turn_appends}
+use Rattle.run_rules.specs.Disks.{Strike, struck}
+use Rattle.run_rules.specs.Facts.{Facts, command_at, facts_after, is_up, node_at, outcome_at}
+use Rattle.run_rules.specs.Lines.{call_line, call_line_of, is_down, is_reached, line, over_line, page_lines, put_line, reached_line, says_node, told, with_own}
+use Rattle.run_rules.specs.Past.{delivered_more, ends_calls, is_call, is_stop_of, next, start_refused, stop_line, telling_stopped, telling_turned, without_following, failed_start, started_says}
+use Rattle.run_rules.specs.Telling.{Call, Page, Past, Telling, orders_at}
+use Rattle.run_rules.proofs.ListLemmas.{all_append, all_each, all_filter, all_map, all_weaker}
 use Rattle.world_parts.specs.Shown.{is_place}
 
 -- what is found is one of those of which it holds

@@ -2,9 +2,9 @@
 use Rattle.std.proofs.Common.{◌≡◌, ◌≢◌, inl, inr, ℕ, Bool, true, false, List, unwrap_or, Option, Some, None, refl, sym, ap, ◌∙◌}
 use Rattle.tran_ids.proofs.NumberedLemmas.{set_found, set_leaves, set_or_before}
 use Rattle.node_rules.specs.Words.{numbered, set_numbered}
-use Rattle.run_laws.specs.Cuts.{Cut_by, By_nothing, By_point, By_strike, appends_if, cut_appends}
-use Rattle.run_laws.specs.Disks.{DiskOrders, after_append, no_orders, struck}
-use Rattle.run_laws.specs.Telling.{Telling, orders_at}
+use Rattle.run_rules.specs.Cuts.{Cut_by, By_nothing, By_point, By_strike, appends_if, cut_appends}
+use Rattle.run_rules.specs.Disks.{DiskOrders, after_append, no_orders, struck}
+use Rattle.run_rules.specs.Telling.{Telling, orders_at}
 use Rattle.world_parts.specs.Orders.{cut_orders, orders_if}
 
 -- where there is no order an append leaves none

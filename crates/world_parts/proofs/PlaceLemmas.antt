@@ -4,16 +4,16 @@ use Rattle.std.proofs.lemmas.Bool.{eqb-true}
 use Rattle.std.specs.List.{AllByRecursion}
 use Rattle.node_rules.specs.Data.{Place}
 use Rattle.net_bag.specs.Net.{first_flying}
-use Rattle.run_laws.specs.Data.{AnswerLine, Command, Happening, Said}
-use Rattle.run_laws.specs.Data.happenings
-use Rattle.run_laws.specs.Due.{IsTheRun}
-use Rattle.run_laws.specs.Facts.{Facts, facts_after}
+use Rattle.run_rules.specs.Data.{AnswerLine, Command, Happening, Said}
+use Rattle.run_rules.specs.Data.happenings
+use Rattle.run_rules.specs.Due.{IsTheRun}
+use Rattle.run_rules.specs.Facts.{Facts, facts_after}
 use Rattle.node_rules.specs.Words.{one}
 use Rattle.node_rules.specs.Refusals.{dtx}
-use Rattle.run_laws.specs.Lines.{line, over_line, page_lines, refuses_with, spent, told}
-use Rattle.run_laws.specs.Past.{next, past}
-use Rattle.run_laws.specs.Telling.{Past, Telling, start}
-use Rattle.run_laws.proofs.ListLemmas.{all_weaker}
+use Rattle.run_rules.specs.Lines.{line, over_line, page_lines, refuses_with, spent, told}
+use Rattle.run_rules.specs.Past.{next, past}
+use Rattle.run_rules.specs.Telling.{Past, Telling, start}
+use Rattle.run_rules.proofs.ListLemmas.{all_weaker}
 use Rattle.run_trace.specs.Recorded.{RunSoFar, IsRunOfScript, past_of}
 use Rattle.world_parts.specs.Shown.{HasBegun, IsOnce, is_place, places_in}
 use Rattle.world_parts.proofs.BegunLemmas.{begun_next}

@@ -11,8 +11,8 @@ use Rattle.block_disk.specs.declared.order.How.TheVariants.{Keep, Leave}
 use Rattle.block_disk.specs.declared.order.Stop.{Stop}
 use Rattle.redo_log.specs.Plans.{CallsGoByPlan, append_calls, plan_after, strikes_any}
 use Rattle.redo_log.specs.Stands.{is_open, stands_by}
-use Rattle.run_laws.specs.Data.hows
-use Rattle.run_laws.specs.Disks.{DiskOrders, Strike, after_append, opens_gate, struck}
+use Rattle.run_rules.specs.Data.hows
+use Rattle.run_rules.specs.Disks.{DiskOrders, Strike, after_append, opens_gate, struck}
 use Rattle.world_parts.specs.Orders.{HasOrders, OrdersLeft, how_as, stop_as}
 
 -- a plan that is not stopped, and its orders as the definitions have them

@@ -3,7 +3,7 @@ use Rattle.std.proofs.Common.{◌≡◌, ◌+◌, ◌<◌, ◌==◌, ◌&&◌, �
 use Rattle.std.proofs.Math.Seq.{drop-cons, take-suc}
 use Rattle.std.proofs.lemmas.List.{take-append-drop}
 use Rattle.std.specs.List.{AllByRecursion, list_any}
-use Rattle.run_laws.specs.Data.{AnswerLine}
+use Rattle.run_rules.specs.Data.{AnswerLine}
 use Rattle.world_parts.specs.Shown.{IsOnce, Shown, disk_told, is_place, places_in, shown_at, showing}
 
 -- What is left to show once these lines have theirs: for every command that is none of theirs, what was shown.

@@ -3,15 +3,15 @@ use Rattle.std.proofs.Common.{◌≡◌, ◌+◌, ℕ, true, false, List, Some, 
 use Rattle.node_rules.specs.Data.{Place}
 use Rattle.node_rules.specs.Words.{set_numbered}
 use Rattle.node_rules.specs.Turn.{start_of}
-use Rattle.run_laws.specs.Data.{Command}
-use Rattle.run_laws.specs.Data.happenings
+use Rattle.run_rules.specs.Data.{Command}
+use Rattle.run_rules.specs.Data.happenings
 use Rattle.net_bag.specs.Net.{started}
-use Rattle.run_laws.specs.Disks.{Strike, struck}
-use Rattle.run_laws.specs.Facts.{facts_after, records_at, with_boot}
-use Rattle.run_laws.specs.Lawful.{boots}
-use Rattle.run_laws.specs.Telling.{Past, orders_at}
-use Rattle.run_laws.specs.Past.{acts, next, telling_started}
-use Rattle.run_laws.specs.Due.{Starts, comes_next, due_of}
+use Rattle.run_rules.specs.Disks.{Strike, struck}
+use Rattle.run_rules.specs.Facts.{facts_after, records_at, with_boot}
+use Rattle.run_rules.specs.Lawful.{boots}
+use Rattle.run_rules.specs.Telling.{Past, orders_at}
+use Rattle.run_rules.specs.Past.{acts, next, telling_started}
+use Rattle.run_rules.specs.Due.{Starts, comes_next, due_of}
 
 module _ (places : List Place) (commands : List Command) where
   pub next_started : (p : Past) (n boot : ℕ) → next places commands p (happenings.Started n boot)

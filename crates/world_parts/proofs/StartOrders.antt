@@ -6,7 +6,7 @@ use Rattle.block_disk.specs.Plan.{Plan, is_next, write_of, left_by_stop}
 use Rattle.block_disk.specs.declared.order.Stop.{Stop}
 use Rattle.redo_log.specs.Plans.{plan_after, strikes_any, append_calls, CallsGoByPlan}
 use Rattle.redo_log.specs.Stands.{is_open, body_calls, stands_by, stands_after}
-use Rattle.run_laws.specs.Disks.{DiskOrders, Stop_order, struck, stop_left, fault_left, writes_by, calls_made, orders_left, after_append}
+use Rattle.run_rules.specs.Disks.{DiskOrders, Stop_order, struck, stop_left, fault_left, writes_by, calls_made, orders_left, after_append}
 use Rattle.world_parts.specs.Orders.{stop_as, orders_as, OrdersLeft}
 use Rattle.block_disk.specs.Orders.{plan_of}
 use Rattle.block_disk.specs.declared.orders.Orders.{Orders}

@@ -8,14 +8,14 @@ use Rattle.node_rules.specs.Kept.{Kept, Outcome}
 use Rattle.node_rules.specs.Points.{Point, point_of}
 use Rattle.node_rules.specs.Sessions.{session_at}
 use Rattle.tran_ids.specs.declared.branch.BranchId.{BranchId}
-use Rattle.run_laws.specs.Data.{AnswerLine, Command, Finished, Said, Took, Turn}
-use Rattle.run_laws.specs.Disks.{DiskOrders}
-use Rattle.run_laws.specs.Calls.{after_input, call_at, call_ends, call_follows, ends_or_follows, finished, finished_call, second_of, stopped_calls, waits, waits_if_pending, without_call}
-use Rattle.run_laws.specs.Cuts.{Cut_by, By_nothing, By_point, By_strike, appends_if, arms, arms_point, cut_appends, cut_by, turn_appends}
-use Rattle.run_laws.specs.Facts.{Facts, command_at}
-use Rattle.run_laws.specs.Lines.{call_line, call_line_of, is_down, is_reached, reached_line, says_node}
-use Rattle.run_laws.specs.Past.{acts, delivered_more, ends_calls, is_stop_of, start_refused, stop_line, telling_stopped, telling_turned, without_following, is_call}
-use Rattle.run_laws.specs.Telling.{Call, Telling}
+use Rattle.run_rules.specs.Data.{AnswerLine, Command, Finished, Said, Took, Turn}
+use Rattle.run_rules.specs.Disks.{DiskOrders}
+use Rattle.run_rules.specs.Calls.{after_input, call_at, call_ends, call_follows, ends_or_follows, finished, finished_call, second_of, stopped_calls, waits, waits_if_pending, without_call}
+use Rattle.run_rules.specs.Cuts.{Cut_by, By_nothing, By_point, By_strike, appends_if, arms, arms_point, cut_appends, cut_by, turn_appends}
+use Rattle.run_rules.specs.Facts.{Facts, command_at}
+use Rattle.run_rules.specs.Lines.{call_line, call_line_of, is_down, is_reached, reached_line, says_node}
+use Rattle.run_rules.specs.Past.{acts, delivered_more, ends_calls, is_stop_of, start_refused, stop_line, telling_stopped, telling_turned, without_following, is_call}
+use Rattle.run_rules.specs.Telling.{Call, Telling}
 
 -- the orders and the points of a turn change neither the node to stop nor the lines before
 appended_left : (t : Telling) (n : ℕ) (writes : Bool) → ((appends_if t n writes).start_to_stop ≡ t.start_to_stop) × ((appends_if t n writes).lines ≡ t.lines)

@@ -1,14 +1,14 @@
 -- The lines of a run, where each that stands for a disk is told with what its command showed, are those that are due.
 use Rattle.std.proofs.Common.{◌≡◌, inl, inr, ℕ, Bool, true, false, if◌then◌else◌, List, [], ◌∷◌, is_some, map, Option, Some, None, refl, ap, sym, subst}
 use Rattle.std.specs.List.{AllByRecursion}
-use Rattle.run_laws.specs.Data.{AnswerLine, Command, Said}
-use Rattle.run_laws.specs.Data.commands
-use Rattle.run_laws.specs.Data.said
-use Rattle.run_laws.specs.Data.notices
-use Rattle.run_laws.specs.Facts.{command_at, facts_of, first_facts, records_at}
-use Rattle.run_laws.specs.Headline.{StandsFor, LineIs, LinesAre, disk_of, is_shown_disk}
-use Rattle.run_laws.specs.Lawful.{AreOfAScript}
-use Rattle.run_laws.specs.Lines.{told}
+use Rattle.run_rules.specs.Data.{AnswerLine, Command, Said}
+use Rattle.run_rules.specs.Data.commands
+use Rattle.run_rules.specs.Data.said
+use Rattle.run_rules.specs.Data.notices
+use Rattle.run_rules.specs.Facts.{command_at, facts_of, first_facts, records_at}
+use Rattle.run_rules.specs.Reported.{StandsFor, LineIs, LinesAre, disk_of, is_shown_disk}
+use Rattle.run_rules.specs.Lawful.{AreOfAScript}
+use Rattle.run_rules.specs.Lines.{told}
 use Rattle.run_trace.specs.Recorded.{RunSoFar, past_of}
 use Rattle.world_parts.specs.Shown.{HasBegun, ShowDisks, Shown, ShowsDiskAt, disk_told, history_of, is_place, shown_at, showing}
 use Rattle.world_parts.proofs.PlaceLemmas.{Begins, lines_begun, told_begun}

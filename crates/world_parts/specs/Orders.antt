@@ -7,11 +7,11 @@ use Rattle.block_disk.specs.declared.order.Order.{Order}
 use Rattle.block_disk.specs.declared.order.Order.TheVariants as orders
 use Rattle.block_disk.specs.declared.order.Stop.{Stop}
 use Rattle.block_disk.specs.declared.orders.Orders.{Orders}
-use Rattle.run_laws.specs.Data.{Command, How as HowByRules}
-use Rattle.run_laws.specs.Data.commands
-use Rattle.run_laws.specs.Data.hows
-use Rattle.run_laws.specs.Cuts.{Cut_by, By_nothing, By_point, By_strike}
-use Rattle.run_laws.specs.Disks.{DiskOrders, Stop_order, Strike, after_append, opens_gate}
+use Rattle.run_rules.specs.Data.{Command, How as HowByRules}
+use Rattle.run_rules.specs.Data.commands
+use Rattle.run_rules.specs.Data.hows
+use Rattle.run_rules.specs.Cuts.{Cut_by, By_nothing, By_point, By_strike}
+use Rattle.run_rules.specs.Disks.{DiskOrders, Stop_order, Strike, after_append, opens_gate}
 
 -- what a stop leaves
 abbrev pub how_as : How → HowByRules

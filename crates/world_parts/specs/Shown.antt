@@ -2,15 +2,15 @@
 use Rattle.std.specs.Prelude.{◌≡◌, ◌==◌, ℕ, Bool, true, false, if◌then◌else◌, List, [], ◌∷◌, ◌++◌, is_some, nat_eq, Option, Some, None}
 use Rattle.std.specs.List.{AllByRecursion}
 use Rattle.std.specs.Map.{lookup}
-use Rattle.run_laws.specs.Data.{Happening, AnswerLine, Said}
-use Rattle.run_laws.specs.Data.said
-use Rattle.run_laws.specs.Data.notices
-use Rattle.run_laws.specs.Data.happenings
-use Rattle.run_laws.specs.Data.commands
-use Rattle.run_laws.specs.Facts.{command_at, records_at, facts_of, first_facts}
-use Rattle.run_laws.specs.Headline.{StandsFor}
-use Rattle.run_laws.specs.Lawful.{History, AreOfAScript}
-use Rattle.run_laws.specs.Shown.{shown_disk}
+use Rattle.run_rules.specs.Data.{Happening, AnswerLine, Said}
+use Rattle.run_rules.specs.Data.said
+use Rattle.run_rules.specs.Data.notices
+use Rattle.run_rules.specs.Data.happenings
+use Rattle.run_rules.specs.Data.commands
+use Rattle.run_rules.specs.Facts.{command_at, records_at, facts_of, first_facts}
+use Rattle.run_rules.specs.Reported.{StandsFor}
+use Rattle.run_rules.specs.Lawful.{History, AreOfAScript}
+use Rattle.run_rules.specs.Shown.{shown_disk}
 use Rattle.run_trace.specs.Recorded.{RunSoFar}
 
 -- a run so far, as the laws of runs have it

@@ -1,7 +1,7 @@
 //! How often each node has started.
 ghost use Rattle.std.specs.Prelude.{◌≡◌, ◌+◌, ◌<◌, ◌^◌, ℕ, Some, length, replicate, IfOk};
 ghost use Rattle.node_rules.specs.Words.{numbered, set_numbered};
-ghost use Rattle.run_laws.specs.Lawful.{IsNode};
+ghost use Rattle.run_rules.specs.Lawful.{IsNode};
 
 use std::alloc::{AllocError, Global};
 

@@ -1,7 +1,7 @@
 //! A command of the script, and the order that it gives to the network or to a disk.
 ghost use Rattle.std.specs.Prelude.{◌≡◌, OnOk, IfOk};
-ghost use Rattle.run_laws.specs.Data.commands as script;
-ghost use Rattle.run_laws.specs.Facts.{command_at as command_at_of, ordered};
+ghost use Rattle.run_rules.specs.Data.commands as script;
+ghost use Rattle.run_rules.specs.Facts.{command_at as command_at_of, ordered};
 ghost use Rattle.world_parts.specs.Orders.{how_as};
 
 use block_disk::How as LeftBy;

@@ -1,7 +1,7 @@
 //! The bytes of a disk as SHOW DISK prints them.
 ghost use Rattle.std.specs.Prelude.{◌≡◌, ◌*◌, ◌<◌, ◌++◌, length, take, drop, flat_map, IfOk, OnOk};
 ghost use Rattle.tran_ids.specs.Numbers.{hex8 as hex8_of};
-ghost use Rattle.run_laws.specs.Shown.{hex2, disk_line as line_of, disk_lines as lines_of, shown_disk};
+ghost use Rattle.run_rules.specs.Shown.{hex2, disk_line as line_of, disk_lines as lines_of, shown_disk};
 
 use dtx_values::{Bytes, Listing, Texts};
 use std::alloc::{AllocError, Global};

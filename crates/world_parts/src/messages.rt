@@ -2,7 +2,7 @@
 ghost use Rattle.std.specs.Prelude.{◌≡◌, true, is_some, if◌then◌else◌, option_map, IfOk, IfSome};
 ghost use Rattle.msg_codec.specs.Message.{message_of};
 ghost use Rattle.net_bag.specs.Net.{may_deliver, may_repeat, packet_at};
-ghost use Rattle.run_laws.specs.Facts.{taken};
+ghost use Rattle.run_rules.specs.Facts.{taken};
 
 use book::Took;
 use dtx_values::{Bytes, Listing};

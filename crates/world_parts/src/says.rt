@@ -4,8 +4,8 @@ ghost use Rattle.sql_check.specs.Refusals.{dtx};
 ghost use Rattle.sql_check.specs.Words.{one as one_of};
 ghost use Rattle.dtx_values.specs.declared.answer.Notice.TheVariants as notices;
 ghost use Rattle.book.specs.declared.line.Said.TheVariants as saids;
-ghost use Rattle.run_laws.specs.Commands.{if_may as if_may_by};
-ghost use Rattle.run_laws.specs.Lines.{fine as fine_by, refuses_with};
+ghost use Rattle.run_rules.specs.Commands.{if_may as if_may_by};
+ghost use Rattle.run_rules.specs.Lines.{fine as fine_by, refuses_with};
 
 use book::Said;
 use dtx_values::{Bytes, Listing, Notice, Refusal, Texts};

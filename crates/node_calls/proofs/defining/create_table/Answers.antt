@@ -4,7 +4,7 @@ use Rattle.node_rules.specs.Data.{Table}
 use Rattle.node_rules.specs.Data.records
 use Rattle.node_rules.specs.Refusals.{ora}
 use Rattle.node_rules.specs.Client.{refuses}
-use Rattle.ready_laws.specs.Following.{MayFollow}
+use Rattle.node_ready_laws.specs.Following.{MayFollow}
 use Rattle.node_deeds.specs.Gives.{Gives}
 use Rattle.node_memory.specs.Parts.{kept_in, stored_in}
 use Rattle.node_calls.proofs.NameLaws.{at_node, table_follows, table_refused}

@@ -1,5 +1,5 @@
 use Rattle.std.proofs.Common.{◌≡◌, take}
-use Rattle.run_laws.specs.Headline.{names_asked}
+use Rattle.run_rules.specs.Scripts.{names_asked}
 use Rattle.script_run.proofs.places.node_names.Given as goal
 
 abbrev pub invariant-loop-command : goal.invariant-loop-command

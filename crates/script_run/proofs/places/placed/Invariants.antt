@@ -1,5 +1,5 @@
 use Rattle.std.proofs.Common.{◌≡◌, take}
-use Rattle.run_laws.specs.Headline.{places_from}
+use Rattle.run_rules.specs.Scripts.{places_from}
 use Rattle.script_run.proofs.places.placed.Given as goal
 
 abbrev pub invariant-loop-command : goal.invariant-loop-command

@@ -1,6 +1,6 @@
 -- So many nodes so far, each without an order.
 use Rattle.std.proofs.Common.{◌≡◌, replicate}
-use Rattle.run_laws.specs.Disks.{no_orders}
+use Rattle.run_rules.specs.Disks.{no_orders}
 use Rattle.telling.proofs.telling.no_orders.Given as goal
 
 abbrev pub invariant-loop : goal.invariant-loop

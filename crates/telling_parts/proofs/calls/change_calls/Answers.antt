@@ -1,7 +1,7 @@
 use Rattle.std.proofs.Common.{ap, ◌∙◌, sym}
 use Rattle.std.proofs.Math.ListN.{set}
 use Rattle.std.proofs.lemmas.List.Edits.{map_over_more}
-use Rattle.run_laws.specs.Calls.{change_call}
+use Rattle.run_rules.specs.Calls.{change_call}
 use Rattle.telling_parts.proofs.calls.change_calls.Goals as goal
 
 pub loop-call-preserved : goal.loop-call-preserved

@@ -1,6 +1,6 @@
 -- The calls so far are changed.
 use Rattle.std.proofs.Common.{◌≡◌, ◌++◌, map, take, drop}
-use Rattle.run_laws.specs.Calls.{change_call}
+use Rattle.run_rules.specs.Calls.{change_call}
 use Rattle.telling_parts.proofs.calls.change_calls.Given as goal
 
 abbrev pub invariant-loop-call : goal.invariant-loop-call

@@ -1,6 +1,6 @@
 -- The lines so far.
 use Rattle.std.proofs.Common.{◌≡◌, ◌++◌, map}
-use Rattle.run_laws.specs.Lines.{line}
+use Rattle.run_rules.specs.Lines.{line}
 use Rattle.telling_parts.proofs.page.add_own.Given as goal
 
 abbrev pub invariant-loop-said : goal.invariant-loop-said

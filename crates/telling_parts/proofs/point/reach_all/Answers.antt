@@ -1,7 +1,7 @@
 use Rattle.std.proofs.Common.{ap, ◌∙◌, sym}
 use Rattle.std.proofs.Math.ListN.{set}
 use Rattle.std.proofs.lemmas.List.Edits.{map_over_more}
-use Rattle.run_laws.specs.Cuts.{reach}
+use Rattle.run_rules.specs.Cuts.{reach}
 use Rattle.node_points.specs.Passing.{passes_as}
 use Rattle.telling_parts.specs.Points.{numbers_on}
 use Rattle.telling_parts.proofs.point.reach_all.Goals as goal

@@ -1,6 +1,6 @@
 -- The points so far are reached.
 use Rattle.std.proofs.Common.{◌≡◌, ◌++◌, map, take, drop}
-use Rattle.run_laws.specs.Cuts.{reach}
+use Rattle.run_rules.specs.Cuts.{reach}
 use Rattle.node_points.specs.Passing.{passes_as}
 use Rattle.telling_parts.specs.Points.{numbers_on}
 use Rattle.telling_parts.proofs.point.reach_all.Given as goal

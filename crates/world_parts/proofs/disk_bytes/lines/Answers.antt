@@ -1,6 +1,6 @@
 use Rattle.std.proofs.Common.{ℕ, List, [], ◌∷◌, ◌++◌, ◌*◌, map, ap, sym, ◌∙◌}
 use Rattle.std.specs.List.{range_with_len}
-use Rattle.run_laws.specs.Shown.{disk_line}
+use Rattle.run_rules.specs.Shown.{disk_line}
 use Rattle.world_parts.proofs.DiskLines.{one_more}
 use Rattle.world_parts.proofs.disk_bytes.lines.Goals as goal
 

@@ -1,6 +1,6 @@
 use Rattle.std.proofs.Common.{◌≡◌, ◌*◌, map}
 use Rattle.std.specs.List.{range_with_len}
-use Rattle.run_laws.specs.Shown.{disk_line}
+use Rattle.run_rules.specs.Shown.{disk_line}
 use Rattle.world_parts.proofs.disk_bytes.lines.Given as goal
 
 -- so many lines are there

@@ -1,7 +1,7 @@
 use Rattle.std.proofs.Common.{◌≡◌, ◌==◌, ◌&&◌, ℕ, List, false, refl, ap, sym, subst, ◌∙◌}
 use Rattle.std.proofs.Math.ListN.{set}
 use Rattle.std.proofs.lemmas.List.Edits.{map_over_more}
-use Rattle.run_laws.specs.Data.{AnswerLine}
+use Rattle.run_rules.specs.Data.{AnswerLine}
 use Rattle.world_parts.specs.Shown.{IsOnce, disk_told, is_place, places_in, shown_at}
 use Rattle.world_parts.proofs.ShownLemmas.{left_here, told_here}
 use Rattle.world_parts.proofs.lines.with_disks.Goals as goal

@@ -2,7 +2,7 @@ use Rattle.std.proofs.Common.{◌≡◌, take, drop}
 use Rattle.node_rules.specs.Records.{stored_by}
 use Rattle.node_memory.specs.Parts.{stored_in, kept_in}
 use Rattle.node_memory.specs.After.{with_stored}
-use Rattle.ready_laws.specs.Following.{MayAllFollow}
+use Rattle.node_ready_laws.specs.Following.{MayAllFollow}
 use Rattle.node_memory.proofs.memory.Memory.replay.Given as goal
 
 abbrev pub invariant-loop-item : goal.invariant-loop-item

@@ -5,7 +5,7 @@ use Rattle.node_rules.specs.Records.{nothing_stored, stored_by}
 use Rattle.node_rules.specs.Turn.{with_doubt_of, kept_by}
 use Rattle.node_memory.specs.Parts.{kept_in}
 use Rattle.node_memory.specs.After.{with_stored}
-use Rattle.ready_laws.specs.Following.{MayAllFollow}
+use Rattle.node_ready_laws.specs.Following.{MayAllFollow}
 use Rattle.node_memory.specs.Doubts.{with_keys_of}
 use Rattle.node_memory.proofs.DoubtLaws.{locks_at_start}
 use Rattle.node_memory.proofs.StartLaws.{started}

@@ -1,7 +1,7 @@
 -- The calls to come end as all do.
 use Rattle.std.proofs.Common.{◌≡◌}
 use Rattle.std.specs.Vec.Iter.{into_iter_items}
-use Rattle.run_laws.specs.Calls.{finished}
+use Rattle.run_rules.specs.Calls.{finished}
 use Rattle.telling.proofs.telling.Telling.end_calls.Given as goal
 
 abbrev pub invariant-loop-done : goal.invariant-loop-done

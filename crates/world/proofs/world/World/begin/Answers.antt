@@ -1,5 +1,5 @@
 use Rattle.std.proofs.Common.{◌-◌, List, length, get_or, ap, sym, ◌∙◌, arith}
-use Rattle.run_laws.specs.Data.{Command}
+use Rattle.run_rules.specs.Data.{Command}
 use Rattle.run_trace.specs.Recorded.{past_of}
 use Rattle.world.proofs.BeginLemmas.{command_read}
 use Rattle.world_parts.proofs.BegunLemmas.{begins_inside}

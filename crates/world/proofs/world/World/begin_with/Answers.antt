@@ -1,11 +1,11 @@
 use Rattle.std.proofs.Common.{List, length, refl, ap, sym, subst, ◌∙◌}
-use Rattle.run_laws.specs.Data.happenings
-use Rattle.run_laws.specs.Data.{Command}
-use Rattle.run_laws.specs.Facts.{ordered}
+use Rattle.run_rules.specs.Data.happenings
+use Rattle.run_rules.specs.Data.{Command}
+use Rattle.run_rules.specs.Facts.{ordered}
 use Rattle.run_trace.specs.Recorded.{RunSoFar, past_of}
-use Rattle.run_laws.specs.Commands.{begins, orders_after}
-use Rattle.run_laws.specs.Past.{next}
-use Rattle.run_laws.specs.Telling.{Past}
+use Rattle.run_rules.specs.Commands.{begins, orders_after}
+use Rattle.run_rules.specs.Past.{next}
+use Rattle.run_rules.specs.Telling.{Past}
 use Rattle.script_read.specs.Sound.{IsInRange}
 use Rattle.world.specs.declared.site.Site.{Site}
 use Rattle.world.specs.Orders.{OrderedBy}

@@ -2,7 +2,7 @@ use Rattle.std.proofs.Common.{◌≡◌, ℕ, List, length, sym, ap, subst, ◌�
 use Rattle.std.proofs.lemmas.List.{with_items_is}
 use Rattle.tran_ids.proofs.NumberedLemmas.{set_length}
 use Rattle.node_rules.specs.Words.{numbered, set_numbered}
-use Rattle.run_laws.specs.Data.happenings
+use Rattle.run_rules.specs.Data.happenings
 use Rattle.run_trace.specs.Recorded.{RunSoFar, IsNext}
 use Rattle.world.specs.declared.world.World.{World}
 use Rattle.std.specs.Vec.{with_items}

@@ -1,8 +1,8 @@
 use Rattle.std.proofs.Common.{ℕ, ◌-◌, ◌≤◌, get_or, refl, ap, sym, subst, ◌∙◌}
 use Rattle.std.specs.List.{slice_set}
 use Rattle.net_bag.specs.Net.{lost_by_stop, stopped}
-use Rattle.run_laws.specs.Data.happenings
-use Rattle.run_laws.specs.Past.{next}
+use Rattle.run_rules.specs.Data.happenings
+use Rattle.run_rules.specs.Past.{next}
 use Rattle.run_trace.specs.Recorded.{past_of}
 use Rattle.world.proofs.CutLemmas.{stops_set}
 use Rattle.world.specs.declared.world.World.{World}

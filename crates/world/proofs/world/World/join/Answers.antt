@@ -1,6 +1,6 @@
 use Rattle.std.proofs.Common.{refl, ap, ◌∙◌}
 use Rattle.world.proofs.NetworkLemmas.{join_steps}
-use Rattle.run_laws.specs.Telling.{Past}
+use Rattle.run_rules.specs.Telling.{Past}
 use Rattle.run_trace.specs.Recorded.{past_of}
 use Rattle.world.proofs.FallLemmas.{orders_stay}
 use Rattle.world.proofs.NetworkLemmas.{next_join}

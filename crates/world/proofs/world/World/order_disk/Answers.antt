@@ -1,5 +1,5 @@
 use Rattle.std.proofs.Common.{sym, subst}
-use Rattle.run_laws.specs.Data.{Command}
+use Rattle.run_rules.specs.Data.{Command}
 use Rattle.world.specs.Orders.{OrderedBy}
 use Rattle.world.proofs.ArmLemmas.{crash_ordered, fault_ordered}
 use Rattle.world.proofs.world.World.order_disk.Goals as goal

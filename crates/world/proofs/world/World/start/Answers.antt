@@ -1,8 +1,8 @@
 use Rattle.std.proofs.Common.{is_some, Option, sym, ap, ◌∙◌}
 use Rattle.node_rules.specs.Kept.{Kept}
-use Rattle.run_laws.specs.Disks.{DiskOrders, Strike, struck}
-use Rattle.run_laws.specs.Facts.{is_up}
-use Rattle.run_laws.specs.Telling.{orders_at}
+use Rattle.run_rules.specs.Disks.{DiskOrders, Strike, struck}
+use Rattle.run_rules.specs.Facts.{is_up}
+use Rattle.run_rules.specs.Telling.{orders_at}
 use Rattle.run_trace.specs.Recorded.{past_of}
 use Rattle.world.specs.declared.world.World.{World}
 use Rattle.world.specs.Halts.{HasHalted}

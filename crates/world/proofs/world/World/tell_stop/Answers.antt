@@ -1,11 +1,11 @@
 use Rattle.std.proofs.Common.{ℕ, ◌-◌, List, get_or, is_some, ap, sym, ◌∙◌}
 use Rattle.tran_ids.specs.Texts.{name_of}
 use Rattle.node_rules.specs.Data.{Place}
-use Rattle.run_laws.specs.Data.{Command}
-use Rattle.run_laws.specs.Facts.{command_at}
+use Rattle.run_rules.specs.Data.{Command}
+use Rattle.run_rules.specs.Facts.{command_at}
 use Rattle.run_trace.specs.Recorded.{past_of}
-use Rattle.run_laws.specs.Telling.{Telling}
-use Rattle.run_laws.specs.Past.{acts, telling_stopped}
+use Rattle.run_rules.specs.Telling.{Telling}
+use Rattle.run_rules.specs.Past.{acts, telling_stopped}
 use Rattle.world.proofs.SiteLemmas.{place_is}
 use Rattle.world.proofs.TryLemmas.{on_ok}
 use Rattle.world.proofs.world.World.tell_stop.Goals as goal

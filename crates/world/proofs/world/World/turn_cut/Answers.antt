@@ -1,7 +1,7 @@
 use Rattle.std.proofs.Common.{◌<◌, ◌-◌, ◌^◌, refl, ap, sym, subst, ◌∙◌}
 use Rattle.std.specs.Prelude.{IfSome}
-use Rattle.run_laws.specs.Data.{Turn}
-use Rattle.run_laws.specs.Data.happenings
+use Rattle.run_rules.specs.Data.{Turn}
+use Rattle.run_rules.specs.Data.happenings
 use Rattle.run_trace.specs.Recorded.{IsNext}
 use Rattle.telling.specs.Turned.{cut_as}
 use Rattle.world.specs.Turns.{stands_by}

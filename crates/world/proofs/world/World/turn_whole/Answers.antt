@@ -3,8 +3,8 @@ use Rattle.std.specs.List.{AllByRecursion}
 use Rattle.net_bag.specs.Net.{lost_at_once, sent_on}
 use Rattle.node_rules.specs.Data.{Msg}
 use Rattle.node_disk.specs.declared.effects.Mailed.{Mailed}
-use Rattle.run_laws.specs.Data.happenings
-use Rattle.run_laws.specs.Facts.{taken}
+use Rattle.run_rules.specs.Data.happenings
+use Rattle.run_rules.specs.Facts.{taken}
 use Rattle.run_trace.specs.Recorded.{RunSoFar, IsNext, past_of}
 use Rattle.world.specs.Mail.{IsMailed}
 use Rattle.world_parts.specs.Shown.{ShowDisks}

@@ -1,0 +1,4 @@
+pub mod DoneLaws
+pub mod StandLaws
+pub mod TriedDone
+pub mod TriedTold

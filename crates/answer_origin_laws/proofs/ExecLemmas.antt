@@ -1,0 +1,293 @@
+-- What becomes of an Exec and of a Reply at the branch that they come to.
+use Rattle.std.proofs.Common.{◌≡◌, ◌≢◌, ℕ, ◌+◌, ◌<◌, ◌≤◌, ◌==◌, ◌&&◌, ◌||◌, Bool, true, false, if◌then◌else◌, is_none, List, [], length, Option, Some, None, refl, sym, ap, subst, ◌∙◌, arith}
+use Rattle.std.specs.Prelude.{nat_lt, nat_le, is_some}
+use Rattle.std.proofs.lemmas.Bool.Decides.{nat_tests}
+use Rattle.tran_ids.proofs.BranchLemmas.{equal_from_same, same_from_equal}
+use Rattle.tran_ids.proofs.ListedLemmas.{put_found}
+use Rattle.link_session.proofs.OnceLemmas.{run_is_new}
+use Rattle.link_session.specs.Calls.{taken}
+use Rattle.dtx_values.specs.Limits.{depth_limit}
+use Rattle.session_tree.specs.Live.{next_edge, peer_of}
+use Rattle.session_tree.specs.Tree.{room}
+use Rattle.node_rules.specs.Data.{Table, Stmt, Answer, Advice, Admit, BranchId, Calls, Edge, Kind, Live, Msg, Place, Input, Post, ReplyFields}
+use Rattle.node_rules.specs.declared.work.Work.{Work}
+use Rattle.node_rules.specs.declared.session.Finished.{Finished}
+use Rattle.node_rules.specs.Data.admits
+use Rattle.node_rules.specs.Data.answers
+use Rattle.node_rules.specs.Data.inputs
+use Rattle.node_rules.specs.Data.kinds
+use Rattle.node_rules.specs.Words.{same, one, item_at, put_item}
+use Rattle.node_rules.specs.Refusals.{dtx, ora}
+use Rattle.node_rules.specs.Inputs.{Came}
+use Rattle.node_rules.specs.Kept.{Kept, Branch, live_id, work_id, live_at, with_work, standing_at, branch_at, nothing, saying, post}
+use Rattle.node_rules.specs.LiveBranches.{works_of, EachLive}
+use Rattle.node_rules.specs.Names.{Way, Runs_here, Over, Through, Nowhere_to, Named, A_table, Behind, Unknown, named_by, ref_of, passed_on, way_new, way_edge, way_target, way_named, way_of}
+use Rattle.node_rules.specs.Statement.{ran, after_run, answer_of_run}
+use Rattle.node_rules.specs.Calls.{admit, reply_fields, kept_reply, with_answer, answer_says, answer_ends, replies, exec_to, nobody_at, called, waits_for_opened, goes, takes_call, says_again, exec_by, reply_of, reply_by, hears_reply, heard_answer, gone_reply, is_gone}
+use Rattle.node_rules.specs.Turn.{Stand, Is_live, Is_kept, Is_gone, live_or, stand_of, exec_turn, reply_turn}
+use Rattle.node_rules.proofs.LiveLemmas.{each_put, each_same, branch_parts, work_is}
+use Rattle.node_rules.proofs.StandLemmas.{StandsSo, stands_so, live_so}
+use Rattle.run_rules.specs.Runs.{is_accepted}
+use Rattle.run_base_laws.proofs.KindSayLemmas.{AllSay}
+use Rattle.answer_origin_laws.proofs.PlainLemmas.{exec_mute}
+use Rattle.answer_origin_laws.proofs.TaleLemmas.{NoReply, IsMute, other_reply, Stays, Says_again, Takes, Answers, Hears, calls0, Told, AreGood, Tales, mute_good, mute_replies, came_one, each_of}
+
+-- a statement runs where its table is
+way_new_not : (p : Place) (l : Live) (given node : ℕ) (link table : List ℕ) (t : Table) → way_new p l given node link table ≡ Runs_here t → ⊥
+way_new_not p l given node link table t is = by (nat_le depth_limit l.depth || (room l given == 0)) (nat_le p.links (length l.edges)) is
+  where
+    by : (q r : Bool) → (if q then Nowhere_to (dtx 2 []) else (if r then Nowhere_to (ora 2020 []) else Through node link table)) ≡ Runs_here t → ⊥
+    by true r at = absurd cc
+    by false true at = absurd cc
+    by false false at = absurd cc
+
+way_edge_not : (p : Place) (l : Live) (given node : ℕ) (link table : List ℕ) (o : Option ℕ) (t : Table) → way_edge p l given node link table o ≡ Runs_here t → ⊥
+way_edge_not p l given node link table (Some i) t is = absurd cc
+way_edge_not p l given node link table None t is = way_new_not p l given node link table t is
+
+way_target_not : (p : Place) (l : Live) (given : ℕ) (link table : List ℕ) (o : Option ℕ) (t : Table) → way_target p l given link table o ≡ Runs_here t → ⊥
+way_target_not p l given link table None t is = absurd cc
+way_target_not p l given link table (Some node) t is = way_edge_not p l given node link table _ t is
+
+way_named_table : (p : Place) (k : Kept) (l : Live) (given : ℕ) (n : Named) (t : Table) → way_named p k.stored.durable l given n ≡ Runs_here t → n ≡ A_table t
+way_named_table p k l given Unknown t is = absurd cc
+way_named_table p k l given (A_table x) t is = let it : Runs_here x ≡ Runs_here t = is in let here : x ≡ t = cc in ap A_table here
+way_named_table p k l given (Behind link table) t is = absurd (way_target_not p l given link table _ t is)
+
+pub way_table : (p : Place) (k : Kept) (l : Live) (given : ℕ) (s : Stmt) (t : Table) → way_of p k.stored.durable l given s ≡ Runs_here t → named_by k.stored.durable (ref_of s) ≡ A_table t
+unfolding way_of
+way_table p k l given s t is = way_named_table p k l given (named_by k.stored.durable (ref_of s)) t is
+
+-- a call that is not run is not above the last
+pub low_call : (c : Calls) (call : ℕ) (a : Admit) → admit c call ≡ a → a ≢ admits.Run → call ≤ c.last_call
+unfolding admit
+low_call c call a is other = by (nat_lt c.last_call call) refl is
+  where
+    by : (q : Bool) → nat_lt c.last_call call ≡ q → (if q then admits.Run else (if (call == c.last_call) && is_some c.reply then admits.Again else admits.Ignore)) ≡ a → call ≤ c.last_call
+    by true lt at = absurd (other (sym at))
+    by false lt at = grind (arith, nat_tests, lt)
+
+pub same_call : (c : Calls) (call : ℕ) → admit c call ≡ admits.Again → c.last_call ≡ call
+unfolding admit
+same_call c call is = grind (arith, nat_tests)
+
+bool_by : (q : Bool) → (P : Type 0) → (q ≡ true → P) → (q ≡ false → P) → P
+bool_by true P at_true at_false = at_true refl
+bool_by false P at_true at_false = at_false refl
+
+-- one that is not live
+live_none : (k : Kept) (b : BranchId) (o : Option Live) → live_at k b ≡ o → (st : Stand) → stand_of k b ≡ st → ((x : Branch) → st ≢ Is_live x) → o ≡ None
+unfolding stand_of
+live_none k b None at st is not_live = refl
+live_none k b (Some l) at st is not_live = absurd (not_live _ (sym is ∙ ap (λ o. live_or (with_work k o) (standing_at k b)) at))
+
+module _ (k : Kept) (m : Msg) (there : (b : BranchId) → item_at live_id k.lives b ≡ None → item_at work_id k.works b ≡ None) where
+  abbrev input : Input
+  input = inputs.Message m
+
+  abbrev Q : Live → Work → Type 0
+  Q l w = w.came ≡ calls0 k input l.me
+
+  abbrev IsExec : BranchId → Type 0
+  IsExec b = (from : BranchId) (call given : ℕ) (advice : Option Advice) (s : Stmt) → Came input from b (kinds.Exec call given advice s) → call ≤ (calls0 k input b).last_call
+
+  now : EachLive Q k.lives k.works
+  now = each_of k there
+
+  abbrev says_by : List Post → List Finished → Live → Work → Type 0
+  says_by = Told k input
+
+  -- one that is passed by
+  stays : (says : List Post) (ended : List Finished) (y : Live) (v : Work) → NoReply y.me says → IsExec y.me → Q y v → says_by says ended y v
+  stays says ended y v silent low is = λ below. Stays is silent low
+
+  passed : (y : Live) → same m.to y.me ≡ false → IsExec y.me
+  passed y other from call given advice s came =
+      let to : m.to ≡ y.me = (came_one came).1 in
+      let both : same m.to y.me ≡ true = same_from_equal m.to y.me to in
+      absurd (cc (both, other))
+
+  -- nothing happens
+  idle : ((y : Live) → live_at k y.me ≡ Some y → m.to ≡ y.me → IsExec y.me) → Tales k input (nothing k)
+  idle low = (each_same Q (says_by [] []) k.lives k.works now (λ y v live any is. stays [] [] y v refl (bool_by (same m.to y.me) (IsExec y.me) (λ here. low y live (equal_from_same m.to y.me here)) (λ other. passed y other)) is), tt)
+
+  -- a branch is changed with its calls
+  put_so : (says : List Post) (ended : List Finished) (l : Live) (w : Work) → w.branch ≡ l.me → m.to ≡ l.me → says_by says ended l w → ((b : BranchId) → same l.me b ≡ false → NoReply b says) → EachLive (says_by says ended) (put_item live_id k.lives l) (put_item work_id k.works w)
+  put_so says ended l w mine to is silent =
+      each_put Q (says_by says ended) k.lives k.works now l w mine is (λ y v live other was. stays says ended y v (silent y.me other) (passed y (ap (λ c. same c y.me) to ∙ other)) was)
+
+  -- the message came to it
+  came_at : (b : BranchId) → m.to ≡ b → (from : BranchId) × (kind : Kind) × Came input from b kind
+  came_at b to = (m.from, m.kind, subst (λ c. Came input m.from c m.kind) to (record { scn = m.scn; is = refl }))
+
+  -- an answer of a branch
+  answer_silent : (z : Branch) (a : Answer) (o : Option BranchId) (b : BranchId) → same z.live.me b ≡ false → NoReply b (answer_says z a o)
+  answer_silent z a None b other = refl
+  answer_silent z a (Some up) b other = other_reply b z.live.me up (kinds.Reply z.work.came.last_call (reply_fields z.live a).weight (reply_fields z.live a).count a) other
+
+  answer_good : (z : Branch) (a : Answer) (o : Option BranchId) → z.live.parent ≡ o → m.to ≡ z.live.me → AreGood k input (put_item live_id k.lives z.live) (answer_says z a o)
+  answer_good z a None is to = tt
+  answer_good z a (Some up) is to = (record { came = λ reply. came_at z.live.me to; live = λ good. (z.live, put_found live_id k.lives z.live, (λ none. absurd (cc (is, none)))) }, tt)
+
+  answered_so : (z : Branch) (a : Answer) → z.work.branch ≡ z.live.me → m.to ≡ z.live.me → says_by (answer_says z a z.live.parent) (answer_ends z.live a z.live.parent) z.live (with_answer z a).work
+      → EachLive (says_by (answer_says z a z.live.parent) (answer_ends z.live a z.live.parent)) (put_item live_id k.lives z.live) (put_item work_id k.works (with_answer z a).work) × AreGood k input (put_item live_id k.lives z.live) (answer_says z a z.live.parent)
+  answered_so z a mine to is = (put_so (answer_says z a z.live.parent) (answer_ends z.live a z.live.parent) z.live (with_answer z a).work mine to is (λ b other. answer_silent z a z.live.parent b other), answer_good z a z.live.parent refl to)
+
+  -- ---- an Exec
+
+  module _ (p : Place) (call given : ℕ) (advice : Option Advice) (s : Stmt) (is : m.kind ≡ kinds.Exec call given advice s) where
+    came : Came input m.from m.to (kinds.Exec call given advice s)
+    came = record { scn = m.scn; is = ap (λ kind. inputs.Message (record { from = m.from; to = m.to; scn = m.scn; kind = kind })) is }
+
+    exec_at : (b : BranchId) → m.to ≡ b → Came input m.from b (kinds.Exec call given advice s)
+    exec_at b to = subst (λ c. Came input m.from c (kinds.Exec call given advice s)) to came
+
+    -- any Exec that came is this one
+    one_call : (b from : BranchId) (n g : ℕ) (a : Option Advice) (st : Stmt) → Came input from b (kinds.Exec n g a st) → n ≡ call
+    one_call b from n g a st other = let both : kinds.Exec call given advice s ≡ kinds.Exec n g a st = sym is ∙ (came_one other).2 in let here : n ≡ call = cc in here
+
+    low : (b : BranchId) → call ≤ (calls0 k input b).last_call → IsExec b
+    low b at from n g a st other = let here : n ≡ call = one_call b from n g a st other in let it : n ≤ (calls0 k input b).last_call = omega (arith, here, at) in it
+
+    unheard : live_at k m.to ≡ None → (y : Live) → live_at k y.me ≡ Some y → m.to ≡ y.me → ⊥
+    unheard none y live to = let gone : live_at k y.me ≡ None = subst (λ b. live_at k b ≡ None) to none in absurd (cc (gone, live))
+
+    gone_so : live_at k m.to ≡ None → Tales k input (saying k (gone_reply m.to m.from call))
+    gone_so none = (
+      each_same Q (says_by (gone_reply m.to m.from call) []) k.lives k.works now (λ y v live any was.
+          (let other : same m.to y.me ≡ false = bool_by (same m.to y.me) (same m.to y.me ≡ false) (λ here. absurd (unheard none y live (equal_from_same m.to y.me here))) (λ at. at) in
+          stays (gone_reply m.to m.from call) [] y v (other_reply y.me m.to m.from (kinds.Reply call None 1 (answers.Refused (dtx 8 []))) other) (passed y other) was)),
+      (record { came = λ reply. came_at m.to refl; live = λ good. absurd cc }, tt),
+    )
+
+    module _ (x : Branch) (me : x.live.me ≡ m.to) (found : branch_at k x.live.me ≡ Some x) (up : x.live.parent ≡ Some m.from) where
+      abbrev y : Branch
+      y = takes_call x call advice
+
+      to : m.to ≡ x.live.me
+      to = sym me
+
+      work : x.work ≡ works_of k.works x.live.me
+      work = (branch_parts k x.live.me x found).1
+
+      last : x.work.came ≡ calls0 k input x.live.me
+      last = ap (λ (w : Work). w.came) work
+
+      mine : x.work.branch ≡ x.live.me
+      mine = work_is k x.live.me x found
+
+      -- the last Reply once more
+      again_so : (o : Option ReplyFields) → x.work.came.reply ≡ o → x.work.came.last_call ≡ call → Tales k input (saying k (says_again x m.from o))
+      again_so None none at = idle (λ z live to. low z.me (subst (λ b. call ≤ (calls0 k input b).last_call) (me ∙ to) (let it : call ≤ (calls0 k input x.live.me).last_call = omega (arith, at, ap (λ (c : Calls). c.last_call) last) in it)))
+      again_so (Some t) some at = (
+        each_same Q (says_by (replies x m.from t) []) k.lives k.works now (λ z v live any was. bool_by (same x.live.me z.me) (says_by (replies x m.from t) [] z v) (λ here. own z v (equal_from_same x.live.me z.me here) was)
+            (λ other. stays (replies x m.from t) [] z v (other_reply z.me x.live.me m.from (kinds.Reply x.work.came.last_call t.weight t.count t.result) other) (passed z (ap (λ c. same c z.me) to ∙ other)) was)),
+        (record { came = λ reply. came_at x.live.me to; live = λ good. (x.live, live_so k x.live.me x found, (λ none. absurd (cc (up, none)))) }, tt),
+      )
+        where
+          own : (z : Live) (v : Work) → x.live.me ≡ z.me → Q z v → says_by (replies x m.from t) [] z v
+          own z v one was below =
+              let calls : x.work.came ≡ calls0 k input z.me = last ∙ ap (calls0 k input) one in
+              Says_again m.from call given advice s t (exec_at z.me (to ∙ one)) (ap (λ (c : Calls). c.last_call) (sym calls) ∙ at) (ap (λ (c : Calls). c.reply) (sym calls) ∙ some) was
+              (ap (λ b. post b m.from (kinds.Reply x.work.came.last_call t.weight t.count t.result)) one ∙ ap (λ (c : Calls). post z.me m.from (kinds.Reply c.last_call t.weight t.count t.result)) calls)
+
+      module _ (new : x.work.came.last_call < call) where
+        new_call : (calls0 k input x.live.me).last_call < call
+        new_call = subst (λ (c : Calls). c.last_call < call) last new
+
+        -- it is answered at once
+        answers_so : (z : Branch) (a : Answer) → z.live.me ≡ x.live.me → z.live.parent ≡ x.live.parent → z.work ≡ y.work → (is_accepted (Some a) ≡ true → (table : Table) × (named_by k.stored.durable (ref_of s) ≡ A_table table))
+            → EachLive (says_by (answer_says z a z.live.parent) (answer_ends z.live a z.live.parent)) (put_item live_id k.lives z.live) (put_item work_id k.works (with_answer z a).work) × AreGood k input (put_item live_id k.lives z.live) (answer_says z a z.live.parent)
+        answers_so z a same_me same_parent same_work runs = answered_so z a (ap (λ (w : Work). w.branch) same_work ∙ (mine ∙ sym same_me)) (to ∙ sym same_me) tale
+          where
+            above : z.live.parent ≡ Some m.from
+            above = same_parent ∙ up
+
+            calls : z.work.came ≡ taken call
+            calls = ap (λ (w : Work). w.came) same_work
+
+            after : (with_answer z a).work.came ≡ record { last_call = call; reply = Some (reply_fields z.live a) }
+            after = ap (λ (c : Calls). record c { reply = kept_reply z a z.live.parent }) calls ∙ ap (λ o. record (taken call) { reply = kept_reply z a o }) above
+
+            said : answer_says z a z.live.parent ≡ post z.live.me m.from (kinds.Reply call (reply_fields z.live a).weight (reply_fields z.live a).count a)
+            said = ap (answer_says z a) above ∙ ap (λ (c : Calls). post z.live.me m.from (kinds.Reply c.last_call (reply_fields z.live a).weight (reply_fields z.live a).count a)) calls
+
+            tale : says_by (answer_says z a z.live.parent) (answer_ends z.live a z.live.parent) z.live (with_answer z a).work
+            tale below = Answers m.from m.from call given advice s (reply_fields z.live a) (exec_at z.live.me (to ∙ sym same_me)) (subst (λ b. (calls0 k input b).last_call < call) (sym same_me) new_call) after said (ap (answer_ends z.live a) above) runs
+
+        -- or the branch waits
+        waits_so : (says : List Post) (w : Work) → w.branch ≡ x.live.me → w.came ≡ taken call → ((b : BranchId) → NoReply b says) → AreGood k input (put_item live_id k.lives y.live) says
+            → EachLive (says_by says []) (put_item live_id k.lives y.live) (put_item work_id k.works w) × AreGood k input (put_item live_id k.lives y.live) says
+        waits_so says w its calls silent good = (put_so says [] y.live w its to (λ below. Takes m.from call given advice s (exec_at x.live.me to) new_call calls (silent x.live.me)) (λ b other. silent b), good)
+
+        goes_so : (way : Way) → way_of p k.stored.durable y.live given s ≡ way → Tales k input (goes p k y s given way)
+        goes_so (Runs_here t) at =
+            answers_so (record y { live = after_run y.live (ran p k y.live.me s t) }) (answer_of_run (ran p k y.live.me s t)) refl refl refl (λ good. (t, way_table p k y.live given s t at))
+        goes_so (Nowhere_to r) at = answers_so y (answers.Refused r) refl refl refl (λ good. absurd cc)
+        goes_so (Over i table) at =
+            let says : List Post = exec_to k.sessions y i (passed_on s table) given (peer_of y.live i) in
+            let mute : AllSay IsMute says = exec_mute k.sessions y i (passed_on s table) given (peer_of y.live i) in
+            waits_so says (called y i (passed_on s table) given).work mine refl (λ b. mute_replies b says mute) (mute_good k input (put_item live_id k.lives y.live) says mute)
+        goes_so (Through node link table) at =
+            let says : List Post = post y.live.me (nobody_at node) (kinds.Open (next_edge y.live) y.live.root (y.live.depth + 1)) in
+            let mute : AllSay IsMute says = (refl, tt) in
+            waits_so says (waits_for_opened y link (passed_on s table) given).work mine refl (λ b. mute_replies b says mute) (mute_good k input (put_item live_id k.lives y.live) says mute)
+
+      exec_so : (a : Admit) → admit x.work.came call ≡ a → Tales k input (exec_by p k x m.from call given advice s a)
+      exec_so admits.Ignore at =
+          idle (λ z live to. low z.me (subst (λ b. call ≤ (calls0 k input b).last_call) (me ∙ to) (subst (λ (c : Calls). call ≤ c.last_call) last (low_call x.work.came call admits.Ignore at (λ run. absurd cc)))))
+      exec_so admits.Again at = again_so x.work.came.reply refl (same_call x.work.came call at)
+      exec_so admits.Run at = goes_so (run_is_new x.work.came call at) (way_of p k.stored.durable y.live given s) refl
+
+    pub exec_tales : ((l : Live) → live_at k m.to ≡ Some l → l.parent ≡ Some m.from) → Tales k input (exec_turn p k m.from m.to call given advice s (stand_of k m.to))
+    exec_tales above = by (stand_of k m.to) refl (stands_so k m.to)
+      where
+        by : (st : Stand) → stand_of k m.to ≡ st → StandsSo k m.to st → Tales k input (exec_turn p k m.from m.to call given advice s st)
+        by (Is_live x) at so = exec_so x so.0 so.1 (above x.live (subst (λ b. live_at k b ≡ Some x.live) so.0 (live_so k x.live.me x so.1))) (admit x.work.came call) refl
+        by (Is_kept z) at so = idle (λ y live to. absurd (unheard (live_none k m.to (live_at k m.to) refl (Is_kept z) at (λ x it. absurd cc)) y live to))
+        by Is_gone at so = gone_so (live_none k m.to (live_at k m.to) refl Is_gone at (λ x it. absurd cc))
+
+  -- ---- a Reply
+
+  module _ (call : ℕ) (weight : Option ℕ) (count : ℕ) (a : Answer) (is : m.kind ≡ kinds.Reply call weight count a) where
+    no_exec : (b : BranchId) → IsExec b
+    no_exec b from n g ad st other = let both : kinds.Reply call weight count a ≡ kinds.Exec n g ad st = sym is ∙ (came_one other).2 in absurd (cc both)
+
+    came_reply : (b : BranchId) → m.to ≡ b → Came input m.from b (kinds.Reply call weight count a)
+    came_reply b to = subst (λ c. Came input m.from c (kinds.Reply call weight count a)) to (record { scn = m.scn; is = ap (λ kind. inputs.Message (record { from = m.from; to = m.to; scn = m.scn; kind = kind })) is })
+
+    module _ (x : Branch) (me : x.live.me ≡ m.to) (found : branch_at k x.live.me ≡ Some x) where
+      last_reply : x.work.came ≡ calls0 k input x.live.me
+      last_reply = ap (λ (w : Work). w.came) (branch_parts k x.live.me x found).1
+
+      module _ (ie : ℕ × Edge) (at : reply_of x m.from call ≡ Some ie) where
+        abbrev z : Branch
+        z = hears_reply x ie.0 weight count ie.1
+
+        abbrev b : Answer
+        b = heard_answer z.live ie.1.link a
+
+        below_same : (up : BranchId) → x.live.parent ≡ Some up → b ≡ a
+        below_same up parent = ap (λ o. if is_none o && is_gone a then answers.Refused (dtx 8 (one ie.1.link)) else a) parent
+
+        heard_tale : (o : Option BranchId) → x.live.parent ≡ o → says_by (answer_says z b z.live.parent) (answer_ends z.live b z.live.parent) z.live (with_answer z b).work
+        heard_tale None none = λ below. absurd (below none)
+        heard_tale (Some up) parent = λ below.
+            Hears x up weight count a ie.0 ie.1 (reply_fields z.live b) (record { from = m.from; call = call; came = came_reply x.live.me (sym me); live = found; waits = at }) refl parent (below_same up parent)
+            (ap (λ (o : Option BranchId). record x.work.came { reply = kept_reply z b o }) parent ∙ ap (λ (c : Calls). record c { reply = Some (reply_fields z.live b) }) last_reply)
+            (ap (answer_says z b) parent ∙ ap (λ (c : Calls). post z.live.me up (kinds.Reply c.last_call (reply_fields z.live b).weight (reply_fields z.live b).count b)) last_reply)
+
+        heard_so : Tales k input (reply_by k x weight count a (Some ie))
+        heard_so = answered_so z b (work_is k x.live.me x found) (sym me) (heard_tale x.live.parent refl)
+
+      reply_so : (o : Option (ℕ × Edge)) → reply_of x m.from call ≡ o → Tales k input (reply_by k x weight count a o)
+      reply_so None at = idle (λ y live to. no_exec y.me)
+      reply_so (Some ie) at = heard_so ie at
+
+    pub reply_tales : Tales k input (reply_turn k m.from call weight count a (stand_of k m.to))
+    reply_tales = by (stand_of k m.to) (stands_so k m.to)
+      where
+        by : (st : Stand) → StandsSo k m.to st → Tales k input (reply_turn k m.from call weight count a st)
+        by (Is_live x) so = reply_so x so.0 so.1 (reply_of x m.from call) refl
+        by (Is_kept s) so = idle (λ y live to. no_exec y.me)
+        by Is_gone so = idle (λ y live to. no_exec y.me)

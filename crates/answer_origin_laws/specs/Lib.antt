@@ -1,0 +1,6 @@
+pub mod CallTurns
+pub mod TriedCalls
+pub mod ReplyLaws
+pub mod LeadLaws
+pub mod TriedPlace
+pub mod ToldLaws

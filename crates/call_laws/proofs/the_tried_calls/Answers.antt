@@ -1,5 +1,0 @@
-use Rattle.call_laws.proofs.TriedCallLemmas.{the_tried_calls}
-use Rattle.call_laws.proofs.the_tried_calls.Goals as goal
-
-pub returns : goal.returns
-returns c = the_tried_calls

@@ -1,5 +1,0 @@
-use Rattle.call_laws.proofs.CallTurnLemmas.{turns_find_calls_come}
-use Rattle.call_laws.proofs.turns_find_calls_come.Goals as goal
-
-pub returns : goal.returns
-returns c = turns_find_calls_come

@@ -1,2 +1,0 @@
-pub mod CallTurns
-pub mod TriedCalls

@@ -1,0 +1,410 @@
+-- In every lawful run no decision stands of a transaction whose COMMIT was answered ORA-02050: its root was dropped, or it
+-- learned the rollback.
+use Rattle.std.proofs.Common.{◌≡◌, ◌≢◌, ℕ, ◌≤◌, Bool, true, false, List, [], ◌∷◌, ◌++◌, zero, suc, slice_get, Option, Some, None, inl, inr, refl, sym, ap, subst, ◌∙◌, arith}
+use Rattle.std.specs.Prelude.{◌⊎◌, IfSome}
+use Rattle.std.specs.List.{AllByRecursion, list_any}
+use Rattle.tran_ids.proofs.ListedLemmas.{item_is}
+use Rattle.agreement.specs.Events as exits
+use Rattle.agreement.specs.Events.{Forest, Event, Exit, Dropped, Quiet, Learn, Knows, first, only_at, exit, learned, site_of}
+use Rattle.agreement.proofs.AgreementLaws.{undecided_from_rollback, doomed_undecided}
+use Rattle.agreement.proofs.EventLemmas.{only_at_is, only_at_same}
+use Rattle.agreement.proofs.WholeTree.{site_root}
+use Rattle.node_rules.specs.Data.{Answer, BranchId, Decision, Live, Place, RedoRecord, Standing, Decided as DecidedRecord}
+use Rattle.node_rules.specs.Data.answers
+use Rattle.node_rules.specs.Data.decisions
+use Rattle.node_rules.specs.Data.records
+use Rattle.node_rules.specs.Kept.{Kept, Outcome, live_id, live_at, standing_id, standing_at}
+use Rattle.node_rules.specs.Commit.{knows_commit}
+use Rattle.node_rules.specs.Sessions.{session_at, commit_complete, tran_refusal}
+use Rattle.node_rules.specs.Turn.{turn_of, heard}
+use Rattle.node_rules.proofs.HeardLemmas.{sessions_heard}
+use Rattle.run_rules.specs.Births.{Born, births_of, born_id, born_at}
+use Rattle.run_base_laws.specs.BirthLaws.{Began, LiveIs, KeptIs}
+use Rattle.run_rules.specs.Book.{At}
+use Rattle.run_rules.specs.Branches.{is_among}
+use Rattle.run_rules.specs.Data.{Turn, Happening}
+use Rattle.run_rules.specs.Data.entries
+use Rattle.run_rules.specs.Data.happenings
+use Rattle.run_base_laws.specs.EventLaws.{TellsAsEvents, EachEventFrom}
+use Rattle.run_base_laws.specs.EventRows.{MayStand, RowIs, IsKnown}
+use Rattle.run_rules.specs.Facts.{Facts, first_facts, place_at, node_at, kept_after, facts_after}
+use Rattle.run_base_laws.specs.InTurnLaws.{said_in}
+use Rattle.run_rules.specs.Lawful.{IsOwed, MayTurn, History, IsLawfulRun, facts_at}
+use Rattle.run_base_laws.specs.RunEvents.{wrote_event, with_event, with_record, with_exits, lives_at, events_after, events_of}
+use Rattle.run_rules.specs.Trail.{is_quiet}
+use Rattle.run_rules.proofs.AtNodeLemmas.{turn_here}
+use Rattle.run_base_laws.proofs.BirthRunLemmas.{nodes_name_the_born, born_are_live_or_left}
+use Rattle.run_base_laws.proofs.EventsStandLemmas.{run_stands, nodes_are_as_events, ids_name_their_node, turns_tell_as_events}
+use Rattle.run_base_laws.proofs.LaterLemmas.{Later, Was_said, Was_quiet, Was_dropped, exit_made, exit_later, learned_later, turn_added}
+use Rattle.run_base_laws.proofs.LawfulLemmas.{turn_of_node}
+use Rattle.run_base_laws.proofs.OwnLemmas.{all_found}
+use Rattle.run_base_laws.proofs.RowEventLemmas.{learned_now}
+use Rattle.run_base_laws.proofs.RootLemmas.{SessionsFit}
+use Rattle.tree_laws.specs.Forests.{forest_of, root_in, is_member, asked_by}
+use Rattle.tree_laws.proofs.ForestLemmas as trees
+use Rattle.tree_laws.proofs.ForestRunLemmas.{run_known}
+use Rattle.tree_laws.proofs.PrefixLemmas.{so_far, f_at, e_at, one_on, more_on}
+use Rattle.tree_site_laws.proofs.FateLemmas.{among_found}
+use Rattle.tree_site_laws.proofs.LeaveLemmas.{messages_exit, all_quiet}
+use Rattle.tree_site_laws.proofs.TimeLemmas.{Part, part_on, part_of, part_lawful, may_of, each_at, exit_end, born_end}
+use Rattle.commit_point_laws.specs.EndLaws.{EntryIs}
+use Rattle.commit_point_laws.proofs.BookEndLemmas.{entries_are_exits}
+use Rattle.commit_spread_laws.proofs.MoreLemmas.{forest, events_lawful, added_end, inv_end, inv_at}
+use Rattle.commit_answer_laws.specs.CommitEndLaws.{row_knows, Leaves, CommitEnd, Has_decided, Has_no_site, Has_forgotten, Hears_abort, Is_given_up, Ends_back, Meets_back, Is_known, Is_in_doubt, Is_forced}
+use Rattle.commit_answer_laws.specs.UndecidedLaws.{EndedWith, IsDecided, IsUndecided, RefusedAreUndecided, KnownAreDecided, CompleteAreDecided}
+use Rattle.commit_answer_laws.proofs.BookLemmas.{decided_stands}
+use Rattle.commit_answer_laws.proofs.BornLemmas.{High, born_high, session_low}
+use Rattle.commit_answer_laws.proofs.EndRunLemmas.{ends_for, fits}
+
+-- ---- answers
+
+-- the code of a refusal
+abbrev code_of : Answer → ℕ
+code_of (answers.Refused r) = r.code
+code_of _ = 0
+
+not_complete : (b : BranchId) → tran_refusal 2050 b ≡ commit_complete → ⊥
+not_complete b is = absurd cc
+
+not_known : (b : BranchId) → tran_refusal 2050 b ≡ tran_refusal 2053 b → ⊥
+not_known b is = let codes : 2050 ≡ 2053 = ap code_of is in absurd (omega (arith, codes))
+
+not_in_doubt : (b : BranchId) → tran_refusal 2050 b ≡ tran_refusal 2054 b → ⊥
+not_in_doubt b is = let codes : 2050 ≡ 2054 = ap code_of is in absurd (omega (arith, codes))
+
+not_complete_known : (b : BranchId) → tran_refusal 2053 b ≡ commit_complete → ⊥
+not_complete_known b is = absurd cc
+
+not_complete_doubt : (b : BranchId) → tran_refusal 2054 b ≡ commit_complete → ⊥
+not_complete_doubt b is = absurd cc
+
+known_not_in_doubt : (b : BranchId) → tran_refusal 2053 b ≡ tran_refusal 2054 b → ⊥
+known_not_in_doubt b is = let codes : 2053 ≡ 2054 = ap code_of is in absurd (omega (arith, codes))
+
+first_new : (x z : Option Exit) → x ≡ None → first x z ≡ z
+first_new None z is = refl
+first_new (Some y) z is = absurd cc
+
+slice_all : {A : Type 0} (P : A → Type 0) (xs : List A) (i : ℕ) (x : A) → AllByRecursion P xs → slice_get xs i ≡ Some x → P x
+slice_all P [] i x all is = absurd cc
+slice_all P (y ∷ ys) zero x all is = subst P (let it : Some y ≡ Some x = is in cc) all.0
+slice_all P (y ∷ ys) (suc i) x all is = slice_all P ys i x all.1 is
+
+module _ (t : History) (whole : IsLawfulRun t) (g : BranchId) (a : Answer) (it : EndedWith t g a) where
+  abbrev p : Forest
+  p = forest_of t
+
+  abbrev hs : List Happening
+  hs = it.before
+
+  abbrev u : Turn
+  u = it.turn
+
+  abbrev k : Kept
+  k = it.kept
+
+  abbrev s0 : History
+  s0 = so_far t hs
+
+  abbrev f : Facts
+  f = f_at t hs
+
+  abbrev e : List Event
+  e = e_at t hs
+
+  abbrev after : List Happening
+  after = hs ++ happenings.Turn u ∷ []
+
+  abbrev s1 : History
+  s1 = so_far t after
+
+  abbrev f1 : Facts
+  f1 = facts_after t.places t.commands f (happenings.Turn u)
+
+  abbrev place : Place
+  place = place_at t.places u.node
+
+  abbrev o : Outcome
+  o = turn_of place k u.input
+
+  part : Part t whole hs
+  part = part_of t whole hs (happenings.Turn u) it.later it.is
+
+  part_z : Part t whole after
+  part_z = part_on t whole hs (happenings.Turn u) it.later it.is
+
+  lawful : IsLawfulRun s0
+  lawful = part_lawful t whole hs part
+
+  lawful_z : IsLawfulRun s1
+  lawful_z = part_lawful t whole after part_z
+
+  up : node_at f u.node ≡ Some k
+  up = it.up
+
+  may : MayTurn t.places f u k
+  may = turn_of_node t.places f u k t.commands (may_of t whole hs (happenings.Turn u) it.later it.is) up
+
+  owed_by : (cut : Bool) → cut ≡ false → IsOwed place k u.input u.wrote u.sent cut → (u.wrote ≡ o.wrote) × (u.sent ≡ o.sent)
+  owed_by true is owed = absurd cc
+  owed_by false is owed = owed
+
+  owed : (u.wrote ≡ o.wrote) × (u.sent ≡ o.sent)
+  owed = owed_by u.cut it.uncut may.owed
+
+  -- the end of its COMMIT
+  end : CommitEnd k u.input o.after o.wrote o.sent g a
+  end = ends_for t whole hs u it.later it.is k up g a it.pends it.ends
+
+  -- ---- its root
+
+  low : g.session ≤ 64
+  low =
+      let fit : SessionsFit (heard k u.input) = fits t whole hs u it.later it.is k up in
+      session_low (heard k u.input).sessions fit.roots.many g.session g (ap (λ ss. (session_at ss g.session).root) (sessions_heard k u.input) ∙ it.pends.root)
+
+  top_by : (x : Born) (q : Option BranchId) → x.parent ≡ q → High x → x.me ≡ g → x.parent ≡ None
+  top_by x None is high me = is
+  top_by x (Some b) is high me = let above : 65 ≤ x.me.session = high (λ none. absurd (cc (is, none))) in absurd (omega (arith, above, low, ap (λ (c : BranchId). c.session) me))
+
+  -- as it began
+  module _ (x : Born) (there : born_at (births_of t) g ≡ Some x) where
+    me : x.me ≡ g
+    me = item_is born_id (births_of t) g x there
+
+    began : Began (births_of t) x
+    began = subst (λ i. born_at (births_of t) i ≡ Some x) (sym me) there
+
+    top : x.parent ≡ None
+    top = top_by x x.parent refl (all_found High born_id (births_of t) g x (born_high t) there) me
+
+    root_is : p.root g ≡ g
+    root_is = ap (root_in g) there ∙ ((trees.stands_so (births_of t) (said_in (facts_at t)) (run_known t whole) x None began top).0 ∙ me)
+
+    member_is : p.member g ≡ true
+    member_is = ap (is_member (said_in (facts_at t)) g) there ∙ ap (asked_by (said_in (facts_at t)) g) top
+
+  -- ---- a root that is dropped
+
+  module _ (leaves : Leaves k o.after o.wrote o.sent g) where
+    abbrev l : Live
+    l = leaves.live
+
+    l_me : l.me ≡ g
+    l_me = item_is live_id k.lives g l leaves.there
+
+    none : exit e g ≡ None
+    none = subst (λ i. exit e i ≡ None) l_me (all_found (λ (x : Live). exit e x.me ≡ None) live_id k.lives g l (nodes_are_as_events s0 lawful u.node k up).0 leaves.there)
+
+    placed : LiveIs (Began (births_of s0)) l
+    placed = all_found (LiveIs (Began (births_of s0))) live_id k.lives g l (nodes_name_the_born s0 lawful u.node k up).0 leaves.there
+
+    there_z : born_at (births_of s1) g ≡ Some placed.born
+    there_z =
+        let began : Began (births_of s1) placed.born = born_end s1 lawful_z hs (record { rest = happenings.Turn u ∷ []; is = refl }) placed.born placed.began in
+        subst (λ i. born_at (births_of s1) i ≡ Some placed.born) (placed.is_me ∙ l_me) began
+
+    there_t : born_at (births_of t) g ≡ Some placed.born
+    there_t = subst (λ i. born_at (births_of t) i ≡ Some placed.born) (placed.is_me ∙ l_me) (born_end t whole hs part placed.born placed.began)
+
+    own : g.node ≡ u.node
+    own = subst (λ (i : BranchId). i.node ≡ u.node) l_me (all_found (λ (x : Live). x.me.node ≡ u.node) live_id k.lives g l (ids_name_their_node s0 lawful u.node k up).lives leaves.there)
+
+    up_z : node_at f1 u.node ≡ Some o.after
+    up_z = (turn_here t.places t.commands f (run_stands s0 lawful).0.even u k up).0 ∙ ap (λ c. kept_after c (Some o)) it.uncut
+
+    not_live : is_among g (lives_at (node_at (f_at t after) g.node)) ≡ true → ⊥
+    not_live among =
+        let at : node_at (f_at t after) g.node ≡ Some o.after = ap (λ z. node_at z g.node) (one_on t hs (happenings.Turn u)) ∙ (ap (node_at f1) own ∙ up_z) in
+        let here = among_found o.after.lives g (subst (λ z. is_among g (lives_at z) ≡ true) at among) in
+        let found = here.1 in
+        let gone = leaves.gone in
+        absurd (cc (found, gone))
+
+    left : exit (e_at t after) g ≢ None
+    left = elim (born_are_live_or_left s1 lawful_z g (λ nobody. (let some = there_z in absurd (cc (some, nobody))))) [ inl gone ↦ gone | inr among ↦ absurd (not_live among) ]
+
+    recorded : with_record u e ≡ e
+    recorded = ap (λ w. with_event (wrote_event u.node w) e) (owed.0 ∙ leaves.unwritten)
+
+    dropped_by : (z : Option Exit) → exit (e_at t after) g ≡ z → exit (e_at t after) g ≡ Some Dropped
+    dropped_by None is = absurd (left is)
+    dropped_by (Some z) is = elim (exit_made g z (turn_added f f1 u e) now) [
+      | inl old ↦ (let older : exit e g ≡ Some z = subst (λ x. exit x g ≡ Some z) recorded old in let no_exit = none in absurd (cc (older, no_exit)))
+      | inr new ↦ by_later new.0 new.1 new.2
+    ]
+      where
+        now : exit (events_after t.places t.commands f (happenings.Turn u) e) g ≡ Some z
+        now = subst (λ x. exit x g ≡ Some z) (more_on t hs (happenings.Turn u)) is
+
+        not_quiet : z ≡ Quiet → ⊥
+        not_quiet quiet =
+            let gone : exit (with_exits f f1 u e) g ≡ Some Quiet = sym (messages_exit u.sent (with_exits f f1 u e) g) ∙ (now ∙ ap Some quiet) in
+            elim (all_quiet (lives_at (node_at f1 u.node)) u.sent (lives_at (node_at f u.node)) g (with_record u e) gone) [
+              | inl old ↦ (let older : exit e g ≡ Some Quiet = subst (λ x. exit x g ≡ Some Quiet) recorded old in let no_exit = none in absurd (cc (older, no_exit)))
+              | inr said ↦ (let silent : list_any (is_quiet g) u.sent ≡ false = ap (list_any (is_quiet g)) owed.1 ∙ leaves.silent in absurd (cc (said, silent)))
+            ]
+
+        by_later : (x : Event) → Later (lives_at (node_at f u.node)) (lives_at (node_at f1 u.node)) x → exits.exit_by x g ≡ Some z → exit (e_at t after) g ≡ Some Dropped
+        by_later x (Was_said y nobody) made = (let no_one = (nobody g).0 in absurd (cc (made, no_one)))
+        by_later x (Was_quiet c was gone) made = absurd (not_quiet (sym (only_at_is c g Quiet z made).1))
+        by_later x (Was_dropped c was gone) made = is ∙ ap Some (sym (only_at_is c g Dropped z made).1)
+
+    dropped : exit (events_of t) g ≡ Some Dropped
+    dropped = exit_end t whole after part_z g Dropped (dropped_by (exit (e_at t after) g) refl)
+
+    drop_undecided : (b : BranchId) (n : ℕ) → exit (events_of t) b ≡ Some (exits.Decided n) → p.root b ≡ g → ⊥
+    drop_undecided b n decided of = (doomed_undecided p (forest t whole) (events_of t) (events_lawful t whole) g b n (member_is placed.born there_t) dropped (of ∙ sym (root_is placed.born there_t))).0 decided
+
+  -- ---- a root that learned the rollback
+
+  module _ (r : RedoRecord) (mixed : Option Bool) (wrote : o.wrote ≡ Some r) (event : wrote_event u.node (Some r) ≡ Some (Learn g decisions.Rollback mixed)) (stands : MayStand e r → learned e g ≡ None) where
+    wrote_u : u.wrote ≡ Some r
+    wrote_u = owed.0 ∙ wrote
+
+    tells : TellsAsEvents f e (happenings.Turn u)
+    tells = each_at t.places t.commands TellsAsEvents (first_facts t.places) hs (happenings.Turn u) it.later [] (subst (λ xs. EachEventFrom TellsAsEvents t.places t.commands (first_facts t.places) [] xs) (sym it.is) (turns_tell_as_events t whole))
+
+    fresh : learned e g ≡ None
+    fresh = stands (subst (λ w. IfSome w (MayStand e)) wrote_u tells.0)
+
+    now_z : learned (with_record u e) g ≡ Some decisions.Rollback
+    now_z = subst (λ v. learned (with_event v e) g ≡ Some decisions.Rollback) (sym (ap (wrote_event u.node) wrote_u ∙ event)) (learned_now e g g decisions.Rollback mixed fresh refl)
+
+    learned_end : learned (events_of t) g ≡ Some decisions.Rollback
+    learned_end =
+        let turned : learned (events_after t.places t.commands f (happenings.Turn u) e) g ≡ Some decisions.Rollback = learned_later g decisions.Rollback (turn_added f f1 u e) now_z in
+        learned_later g decisions.Rollback (added_end t whole after part_z) (subst (λ x. learned x g ≡ Some decisions.Rollback) (sym (more_on t hs (happenings.Turn u))) turned)
+
+    born_by : (z : Option Born) → born_at (births_of t) g ≡ z → is_member (said_in (facts_at t)) g z ≡ true → (x : Born) × (born_at (births_of t) g ≡ Some x)
+    born_by None is member = absurd cc
+    born_by (Some x) is member = (x, is)
+
+    rolled_undecided : (b : BranchId) (n : ℕ) → exit (events_of t) b ≡ Some (exits.Decided n) → p.root b ≡ g → ⊥
+    rolled_undecided b n decided of =
+        let sealed = (inv_end t whole).learned_sealed g decisions.Rollback learned_end in
+        let born = born_by (born_at (births_of t) g) refl ((inv_end t whole).sealed_in g sealed.0 sealed.1).0 in
+        undecided_from_rollback p (forest t whole) (events_of t) (events_lawful t whole) g b n learned_end (of ∙ sym (root_is born.0 born.1)) decided
+
+  -- ---- each end
+
+  undecided : a ≡ tran_refusal 2050 g → CommitEnd k u.input o.after o.wrote o.sent g a → (b : BranchId) (n : ℕ) → exit (events_of t) b ≡ Some (exits.Decided n) → p.root b ≡ g → ⊥
+  undecided asked (Has_decided r l live wrote its is) = absurd (not_complete g (sym asked ∙ is))
+  undecided asked (Has_no_site leaves is) = absurd (not_complete g (sym asked ∙ is))
+  undecided asked (Has_forgotten s row wrote is) = absurd (not_complete g (sym asked ∙ is))
+  undecided asked (Hears_abort from came leaves is) = drop_undecided leaves
+  undecided asked (Is_given_up given leaves is) = drop_undecided leaves
+  undecided asked (Ends_back wrote is) = rolled_undecided (records.Ended g decisions.Rollback) None wrote refl (λ stands. stands.1)
+  undecided asked (Meets_back mixed wrote is) = rolled_undecided (records.Met g decisions.Rollback mixed) (Some mixed) wrote refl (λ stands. stands.1)
+  undecided asked (Is_known given gone knows is) = absurd (not_known g (sym asked ∙ is))
+  undecided asked (Is_in_doubt given gone doubt is) = absurd (not_in_doubt g (sym asked ∙ is))
+  undecided asked (Is_forced d given wrote is) = absurd (not_in_doubt g (sym asked ∙ is))
+
+  -- where no branch that decided is of g, none of its decisions is in the book
+  undecided_book : ((b : BranchId) (n : ℕ) → exit (events_of t) b ≡ Some (exits.Decided n) → p.root b ≡ g → ⊥) → IsUndecided t g
+  undecided_book never i b cs n at =
+      let is : EntryIs p (events_of t) (entries.Decided b g cs n) = slice_all (EntryIs p (events_of t)) (facts_at t).book i (entries.Decided b g cs n) (entries_are_exits t whole) at in
+      never b n is.0 is.1
+
+  pub none_decided : a ≡ tran_refusal 2050 g → IsUndecided t g
+  none_decided asked = undecided_book (undecided asked end)
+
+  -- ---- a decision in the book
+
+  abbrev IsBorn : Type 0
+  IsBorn = (x : Born) × (born_at (births_of t) g ≡ Some x)
+
+  live_born : (y : Live) → live_at k g ≡ Some y → IsBorn
+  live_born y there =
+      let placed : LiveIs (Began (births_of s0)) y = all_found (LiveIs (Began (births_of s0))) live_id k.lives g y (nodes_name_the_born s0 lawful u.node k up).0 there in
+      (placed.born, subst (λ i. born_at (births_of t) i ≡ Some placed.born) (placed.is_me ∙ item_is live_id k.lives g y there) (born_end t whole hs part placed.born placed.began))
+
+  row_born : (s : Standing) → standing_at k g ≡ Some s → IsBorn
+  row_born s there =
+      let kept : KeptIs (Began (births_of s0)) s = all_found (KeptIs (Began (births_of s0))) standing_id k.stored.durable.kept g s (nodes_name_the_born s0 lawful u.node k up).1 there in
+      (kept.born, subst (λ i. born_at (births_of t) i ≡ Some kept.born) (kept.is_me ∙ item_is standing_id k.stored.durable.kept g s there) (born_end t whole hs part kept.born kept.began))
+
+  in_book : (b : BranchId) (n : ℕ) → exit (events_of t) b ≡ Some (exits.Decided n) → p.root b ≡ g → IsDecided t g
+  in_book b n decided of =
+      let found = decided_stands t whole b n decided in
+      (b, found.0, n, found.1, subst (λ r. At (facts_at t).book found.1 (entries.Decided b r found.0 n)) of found.2)
+
+  site_in_book : IsBorn → (n : ℕ) → exit (events_of t) (site_of p g) ≡ Some (exits.Decided n) → IsDecided t g
+  site_in_book born n decided = in_book (site_of p g) n decided (site_root p (forest t whole) g (member_is born.0 born.1) ∙ root_is born.0 born.1)
+
+  knows_in_book : IsBorn → (n : ℕ) → Knows e g n → IsDecided t g
+  knows_in_book born n (inl decided) = in_book g n (exit_end t whole hs part g (exits.Decided n) decided) (root_is born.0 born.1)
+  knows_in_book born n (inr learnt) = site_in_book born n (exit_end t whole hs part (site_of p g) (exits.Decided n) ((inv_at t whole hs part).learned_commit g n learnt))
+
+  -- a row that knows the commit
+  row_in_book : (o : Option Standing) → standing_at k g ≡ o → row_knows o ≡ true → IsDecided t g
+  row_in_book None there knows = absurd cc
+  row_in_book (Some s) there knows =
+      let row : RowIs e s = all_found (RowIs e) standing_id k.stored.durable.kept g s (nodes_are_as_events s0 lawful u.node k up).1 there in
+      by s.decision row.known knows
+    where
+      by : (d : Option Decision) → IsKnown e s d → knows_commit d ≡ true → IsDecided t g
+      by None known so = absurd cc
+      by (Some decisions.Rollback) known so = absurd cc
+      by (Some (decisions.Commit n)) known so = knows_in_book (row_born s there) n (subst (λ i. Knows e i n) (item_is standing_id k.stored.durable.kept g s there) known)
+
+  all_tells : TellsAsEvents f e (happenings.Turn u)
+  all_tells = each_at t.places t.commands TellsAsEvents (first_facts t.places) hs (happenings.Turn u) it.later [] (subst (λ xs. EachEventFrom TellsAsEvents t.places t.commands (first_facts t.places) [] xs) (sym it.is) (turns_tell_as_events t whole))
+
+  may_stand : (r : RedoRecord) → o.wrote ≡ Some r → MayStand e r
+  may_stand r wrote = subst (λ w. IfSome w (MayStand e)) (owed.0 ∙ wrote) all_tells.0
+
+  -- a root that forgets knows the commit
+  forgot_in_book : (s : Standing) → standing_at k g ≡ Some s → o.wrote ≡ Some (records.Forgot g) → IsDecided t g
+  forgot_in_book s there wrote = (let knows = may_stand (records.Forgot g) wrote in knows_in_book (row_born s there) knows.0 knows.1)
+
+  -- a root that decides
+  decided_in_book : (r : DecidedRecord) (y : Live) → live_at k g ≡ Some y → o.wrote ≡ Some (records.Decided r) → r.me ≡ g → IsDecided t g
+  decided_in_book r y there wrote its =
+      let fresh : exit e r.me ≡ None = may_stand (records.Decided r) wrote in
+      let now : exit (with_record u e) r.me ≡ Some (exits.Decided r.scn)
+      = ap (λ w. exit (with_event (wrote_event u.node w) e) r.me) (owed.0 ∙ wrote) ∙ (first_new (exit e r.me) (only_at r.me r.me (exits.Decided r.scn)) fresh ∙ only_at_same r.me r.me (exits.Decided r.scn) refl) in
+      let turned : exit (events_after t.places t.commands f (happenings.Turn u) e) r.me ≡ Some (exits.Decided r.scn) = exit_later r.me (exits.Decided r.scn) (turn_added f f1 u e) now in
+      let there_z : exit (e_at t after) r.me ≡ Some (exits.Decided r.scn) = subst (λ x. exit x r.me ≡ Some (exits.Decided r.scn)) (sym (more_on t hs (happenings.Turn u))) turned in
+      let last : exit (events_of t) g ≡ Some (exits.Decided r.scn) = subst (λ i. exit (events_of t) i ≡ Some (exits.Decided r.scn)) its (exit_end t whole after part_z r.me (exits.Decided r.scn) there_z) in
+      let born = live_born y there in
+      in_book g r.scn last (root_is born.0 born.1)
+
+  known_ends : a ≡ tran_refusal 2053 g → CommitEnd k u.input o.after o.wrote o.sent g a → IsDecided t g
+  known_ends asked (Has_decided r y live wrote its is) = decided_in_book r y live wrote its
+  known_ends asked (Has_no_site leaves is) = absurd (not_complete_known g (sym asked ∙ is))
+  known_ends asked (Has_forgotten s row wrote is) = forgot_in_book s row wrote
+  known_ends asked (Hears_abort from came leaves is) = absurd (not_known g (sym is ∙ asked))
+  known_ends asked (Is_given_up given leaves is) = absurd (not_known g (sym is ∙ asked))
+  known_ends asked (Ends_back wrote is) = absurd (not_known g (sym is ∙ asked))
+  known_ends asked (Meets_back mixed wrote is) = absurd (not_known g (sym is ∙ asked))
+  known_ends asked (Is_known given gone knows is) = row_in_book (standing_at k g) refl knows
+  known_ends asked (Is_in_doubt given gone doubt is) = absurd (known_not_in_doubt g (sym asked ∙ is))
+  known_ends asked (Is_forced d given wrote is) = absurd (known_not_in_doubt g (sym asked ∙ is))
+
+  pub known_decided : a ≡ tran_refusal 2053 g → IsDecided t g
+  known_decided asked = known_ends asked end
+
+  complete_ends : a ≡ commit_complete → CommitEnd k u.input o.after o.wrote o.sent g a → IsDecided t g ⊎ (Leaves k o.after o.wrote o.sent g × IsUndecided t g)
+  complete_ends asked (Has_decided r y live wrote its is) = inl (decided_in_book r y live wrote its)
+  complete_ends asked (Has_no_site leaves is) = inr (leaves, undecided_book (drop_undecided leaves))
+  complete_ends asked (Has_forgotten s row wrote is) = inl (forgot_in_book s row wrote)
+  complete_ends asked (Hears_abort from came leaves is) = absurd (not_complete g (sym is ∙ asked))
+  complete_ends asked (Is_given_up given leaves is) = absurd (not_complete g (sym is ∙ asked))
+  complete_ends asked (Ends_back wrote is) = absurd (not_complete g (sym is ∙ asked))
+  complete_ends asked (Meets_back mixed wrote is) = absurd (not_complete g (sym is ∙ asked))
+  complete_ends asked (Is_known given gone knows is) = absurd (not_complete_known g (sym is ∙ asked))
+  complete_ends asked (Is_in_doubt given gone doubt is) = absurd (not_complete_doubt g (sym is ∙ asked))
+  complete_ends asked (Is_forced d given wrote is) = absurd (not_complete_doubt g (sym is ∙ asked))
+
+  pub complete_decided : a ≡ commit_complete → IsDecided t g ⊎ (Leaves k o.after o.wrote o.sent g × IsUndecided t g)
+  complete_decided asked = complete_ends asked end
+
+pub refused_are_undecided : RefusedAreUndecided
+refused_are_undecided t whole g it = none_decided t whole g (tran_refusal 2050 g) it refl
+
+pub known_are_decided : KnownAreDecided
+known_are_decided t whole g it = known_decided t whole g (tran_refusal 2053 g) it refl
+
+pub complete_are_decided : CompleteAreDecided
+complete_are_decided t whole g it = complete_decided t whole g commit_complete it refl

@@ -1,0 +1,3 @@
+pub mod CompleteLaws
+pub mod CommandCalls
+pub mod TriedCourse

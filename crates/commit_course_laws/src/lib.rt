@@ -1,0 +1,73 @@
+//! An undisturbed COMMIT is complete.
+//!
+//! The laws of the crates below put together: no branch below the root is dropped, and none says Abort (`stay_laws`); the walk
+//! of CommitPoint ends where the site decides, or nobody had changes (`point_laws`); its commit reaches each sealed branch
+//! (`told_laws`), and all acknowledge and forget (`forget_laws`); each branch of the transaction was asked and has left, and
+//! the COMMIT is answered (`stray_laws`). `commit_laws` says what an undisturbed COMMIT is, and a complete one.
+//!
+//! The course of a COMMIT in the run of a script: with HOLD off its messages are delivered one after the other until none is
+//! in flight, and it is complete in its own command where nothing disturbs it.
+#![tactic(auto)]
+
+ghost use Rattle.run_claims.specs.Undisturbed.{UndisturbedCommitsAreComplete};
+ghost use Rattle.commit_course_laws.specs.CompleteLaws.{LawfulCommitsAreComplete};
+ghost use Rattle.commit_course_laws.specs.CommandCalls.{HoldIsKept, CommandsFindNoCall, CommandsFindNothingInFlight, CommandsHoldTheirCall};
+ghost use Rattle.run_claims.specs.CommitCourse.{CommitsFlow, CommitsEnd, AnsweredCommitsAreTold, QuietCommitsAreComplete};
+ghost use Rattle.commit_course_laws.specs.TriedCourse.{TheTriedCourse};
+
+/// An undisturbed COMMIT of a lawful run is complete when nothing is in flight any more: its call has one answer, Commit
+/// complete; each sealed branch of its transaction has ended with commit; and no node knows anything of its branches.
+pub fn every_undisturbed_commit_is_complete()
+    ensures { UndisturbedCommitsAreComplete }
+{}
+
+/// So it is of a COMMIT in the middle of a lawful run, at the moment when nothing is in flight.
+pub fn lawful_commits_are_complete()
+    ensures { LawfulCommitsAreComplete }
+{}
+
+/// Only HOLD ON and HOLD OFF change HOLD.
+pub fn hold_is_kept()
+    ensures { HoldIsKept }
+{}
+
+/// With HOLD off a command begins only where no call is pending.
+pub fn commands_find_no_call()
+    ensures { CommandsFindNoCall }
+{}
+
+/// And nothing is in flight then, unless the command before has had its 4,096 deliveries.
+pub fn commands_find_nothing_in_flight()
+    ensures { CommandsFindNothingInFlight }
+{}
+
+/// While HOLD is off nothing but the call of the command that runs is pending, unless that is HOLD OFF.
+pub fn commands_hold_their_call()
+    ensures { CommandsHoldTheirCall }
+{}
+
+/// While messages are in flight in the command of a COMMIT that goes well, with HOLD off, the first of them is delivered next.
+pub fn commits_flow()
+    ensures { CommitsFlow }
+{}
+
+/// Where such a COMMIT has been answered and nothing is in flight any more, no call is pending and the next command is due.
+pub fn commits_end()
+    ensures { CommitsEnd }
+{}
+
+/// Where such a COMMIT has been answered in its command, the report has its line, Commit complete.
+pub fn answered_commits_are_told()
+    ensures { AnsweredCommitsAreTold }
+{}
+
+/// In the run of a script each quiet COMMIT is undisturbed, it is complete when its command is done, and the report says so.
+pub fn quiet_commits_are_complete()
+    ensures { QuietCommitsAreComplete }
+{}
+
+/// None of this is about nothing: in a script of two nodes a COMMIT is quiet, and the report says Commit complete; where a
+/// message of it is lost, its call is given up.
+pub fn the_tried_course()
+    ensures { TheTriedCourse }
+{}

@@ -1,0 +1,192 @@
+-- Each delivery of a COMMIT that flows lessens what is in flight and kept: all that is in flight is of its course.
+use Rattle.std.proofs.Common.{◌≡◌, ℕ, ◌+◌, ◌-◌, ◌*◌, ◌≤◌, ◌&&◌, true, false, List, [], ◌∷◌, ◌++◌, map, length, Some, refl, sym, ap, subst, ◌∙◌, arith}
+use Rattle.std.specs.List.{AllByRecursion}
+use Rattle.std.proofs.lemmas.List.{append_assoc}
+use Rattle.tran_ids.proofs.BranchLemmas.{same_from_equal}
+use Rattle.tran_ids.proofs.ListedLemmas.{item_is}
+use Rattle.session_tree.specs.Tree.{count}
+use Rattle.node_rules.specs.Data.{BranchId, Input, Live, Msg, Place, Post}
+use Rattle.node_rules.specs.Data.phases
+use Rattle.node_rules.specs.Kept.{Kept, Branch, Deed, live_id, live_at, branch_at, work_at, with_work}
+use Rattle.node_rules.specs.Turn.{clock_raised_by, deed_of, stamped, turn_of}
+use Rattle.net_bag.specs.Net.{flies, is_flying}
+use Rattle.run_rules.specs.Births.{Born, births_of, born_at}
+use Rattle.run_base_laws.specs.BirthLaws.{Began, GoesSo}
+use Rattle.run_rules.specs.Branches.{is_among}
+use Rattle.run_rules.specs.Data.{Packet, Turn, Happening}
+use Rattle.run_rules.specs.Data.happenings
+use Rattle.run_rules.specs.Facts.{Facts, place_at, node_at, facts_after}
+use Rattle.run_base_laws.specs.FreezeLaws.{was_asked}
+use Rattle.run_base_laws.specs.InTurnLaws.{said_in}
+use Rattle.run_rules.specs.Lawful.{IsOwed, MayHappen, MayTurn, History, IsLawfulRun}
+use Rattle.run_rules.specs.Trail.{is_prepare}
+use Rattle.run_base_laws.proofs.BirthRunLemmas.{messages_are_of_neighbors}
+use Rattle.run_base_laws.proofs.EventsStandLemmas.{run_stands}
+use Rattle.run_branch_laws.proofs.FreezeRunLemmas.{prepare_finds_rest}
+use Rattle.run_base_laws.proofs.SaidPostLemmas.{prepares_are_said}
+use Rattle.tree_laws.proofs.PrefixLemmas.{so_far, f_at, one_on}
+use Rattle.tree_site_laws.proofs.TimeLemmas.{part_of, part_lawful, may_of}
+use Rattle.run_claims.specs.Undisturbed.{Commit, IsCalm, IsDelivery, branches_in, branches_by, disturbs, is_disturbed}
+use Rattle.commit_laws.proofs.NetLemmas.{numbered_all}
+use Rattle.commit_length_laws.proofs.WorthLemmas.{worth, says_worth, node_worth, asked_worth}
+use Rattle.commit_length_laws.proofs.SayLemmas.{SaidSo}
+use Rattle.commit_length_laws.proofs.TurnLemmas.{Fits, Known, turn_fits}
+use Rattle.commit_length_laws.proofs.DepthLemmas.{far_low}
+use Rattle.commit_length_laws.proofs.FullLemmas.{full, full_by, live_in, ask_in, ask_two, asks_low}
+use Rattle.commit_length_laws.proofs.FlightLemmas.{all_worth, AllFly, turned_low, turned_nodes, turn_takes, turn_fly}
+use Rattle.commit_length_laws.proofs.TreeLemmas as tree
+use Rattle.commit_length_laws.proofs.TreeLemmas.{mid_all, second_false, is_in, Taken, take_it}
+
+module _ (t : History) (whole : IsLawfulRun t) (c : Commit t.places t.commands t.trace) where
+  abbrev bs : List Born
+  bs = births_of t
+
+  abbrev g : BranchId
+  g = c.root
+
+  abbrev far : BranchId → ℕ
+  far b = tree.far t whole c b
+
+  abbrev InTree : BranchId → Type 0
+  InTree b = tree.InTree t whole c b
+
+  abbrev Course : Msg → Type 0
+  Course m = tree.Course t whole c m
+
+  module _ (hs : List Happening) (h : Happening) (rest : List Happening) (is : hs ++ h ∷ rest ≡ t.trace) where
+    abbrev f : Facts
+    f = f_at t hs
+
+    abbrev s : History
+    s = so_far t hs
+
+    lawful : IsLawfulRun s
+    lawful = part_lawful t whole hs (part_of t whole hs h rest is)
+
+    -- ---- a delivery
+
+    module _ (calm : AllByRecursion (IsCalm (branches_by t.places t.commands t.trace c.root)) t.trace) (v : Turn) (turn : h ≡ happenings.Turn v) (uncut : v.cut ≡ false) (number : ℕ) (took : v.took ≡ Some (record { number = number; again = false })) (k : Kept)
+        (may : MayTurn t.places f v k) (now : AllFly Course f.net) where
+      abbrev p : Place
+      p = place_at t.places v.node
+
+      abbrev ask : BranchId → ℕ
+      ask b = ask_in f b
+
+      takes : Taken f v.node number v.input
+      takes = take_it f k v.node number v.input v.took may.comes took
+
+      abbrev m : Msg
+      m = takes.message
+
+      abbrev k0 : Kept
+      k0 = clock_raised_by k m
+
+      flew : flies takes.packet ≡ true
+      flew = ap is_flying takes.flying
+
+      course : Course m
+      course = subst Course takes.same_message (numbered_all (λ (x : Packet). flies x ≡ true → Course x.msg) f.net.packets number takes.packet now takes.sent flew)
+
+      goes : GoesSo (Began (births_of s)) m.from m.to m.kind
+      goes = subst (λ (x : Msg). GoesSo (Began (births_of s)) x.from x.to x.kind) takes.same_message
+          (numbered_all (λ (x : Packet). GoesSo (Began (births_of s)) x.msg.from x.msg.to x.msg.kind) f.net.packets number takes.packet (messages_are_of_neighbors s lawful) takes.sent)
+
+      mine : InTree m.to
+      mine = tree.to_in t whole c hs h rest is m.from m.to m.kind course.0 goes course.1
+
+      is_calm : disturbs m.kind ≡ false
+      is_calm =
+          let all : IsCalm (branches_by t.places t.commands t.trace c.root) h = mid_all (IsCalm (branches_by t.places t.commands t.trace c.root)) hs h rest (subst (AllByRecursion (IsCalm (branches_by t.places t.commands t.trace c.root))) (sym is) calm) in
+          let calm_turn : is_disturbed (branches_in bs c.root) v.input ≡ false = subst (IsCalm (branches_in bs c.root)) turn all in
+          let message : (is_among m.to (branches_in bs c.root) && disturbs m.kind) ≡ false = subst (λ i. is_disturbed (branches_in bs c.root) i ≡ false) takes.input_is calm_turn in
+          let began : born_at bs m.to ≡ Some mine.0 = subst (λ b. born_at bs b ≡ Some mine.0) mine.2 mine.1 in
+          second_false (is_among m.to (branches_in bs c.root)) (disturbs m.kind) message (is_in bs c.root m.to mine.0 began mine.3)
+
+      here : v.node ≡ m.to.node
+      here = sym takes.here
+
+      works : (l : Live) → live_at k m.to ≡ Some l → l.phase ≡ phases.Working → is_prepare m.kind ≡ true → 24 + asked_worth g ask far l.edges + 21 * length l.edges ≤ ask m.to
+      works l live working prepare =
+          let me : l.me ≡ m.to = item_is live_id k.lives m.to l live in
+          let found : live_at k l.me ≡ Some l = subst (λ b. live_at k b ≡ Some l) (sym me) live in
+          let x : Branch = record { live = l; work = work_at k l.me } in
+          let there : branch_at k l.me ≡ Some x = ap (with_work k) found in
+          let said_so : is_prepare takes.packet.msg.kind ≡ true → was_asked (said_in f) takes.packet.msg.from takes.packet.msg.to ≡ true
+          = numbered_all (λ (y : Packet). is_prepare y.msg.kind ≡ true → was_asked (said_in f) y.msg.from y.msg.to ≡ true) f.net.packets number takes.packet (prepares_are_said f) takes.sent in
+          let asked : was_asked (said_in f) m.from m.to ≡ true = subst (λ (y : Msg). is_prepare y.kind ≡ true → was_asked (said_in f) y.from y.to ≡ true) takes.same_message said_so prepare in
+          let rest_so = prepare_finds_rest s lawful m.from v.node k may.up x there (subst (λ b. was_asked (said_in f) m.from b ≡ true) (sym me) asked) in
+          let parent : l.parent ≡ Some m.from = rest_so.0 in
+          let low : (asked_worth g ask far l.edges + 21 * length l.edges) + 45 ≤ 45 * count l = asks_low s lawful v.node k may.up l found (λ none. absurd (cc (parent, none))) rest_so.1 in
+          let value : ask m.to ≡ 45 * count l - 21
+          = ap (λ n. full (live_in (node_at f n) m.to)) (sym here) ∙ (ap (λ o. full (live_in o m.to)) may.up ∙ (ap full live ∙ ap (λ q. full_by q (count l)) working)) in
+          omega (arith, low, value)
+
+      receiver : Known g ask far (far_low t whole) p k0 m.from m.to m.kind
+      receiver = record {
+        asks = ask_two f m.to;
+        mine = λ l live. same_from_equal l.root c.root (tree.live_of t whole c hs h rest is v.node k may.up m.to mine l live);
+        works = works;
+        rows = λ r found. (same_from_equal r.root c.root (tree.row_of t whole c hs h rest is v.node k may.up m.to mine r found), (λ q toward. tree.near_of t whole c hs h rest is v.node k may.up m.to r found q toward));
+      }
+
+      abbrev d : Deed
+      d = deed_of p k v.input
+
+      fits : Fits g ask far (far_low t whole) k0 m.to (worth g ask far m.to m.kind) d
+      fits = subst (λ (i : Input). Fits g ask far (far_low t whole) k0 m.to (worth g ask far m.to m.kind) (deed_of p k i)) (sym takes.input_is) (turn_fits g ask far (far_low t whole) p k0 m.from m.to m.kind receiver course.0 is_calm)
+
+      even : length f.nodes ≡ length f.records
+      even = (run_stands s lawful).0.even
+
+      owed : IsOwed p k v.input v.wrote v.sent false
+      owed = subst (IsOwed p k v.input v.wrote v.sent) uncut may.owed
+
+      abbrev after : Facts
+      after = facts_after t.places t.commands f (happenings.Turn v)
+
+      pub less : 1 + all_worth g far after ≤ all_worth g far f
+      less =
+          let one = turned_low g far t.places t.commands f even v k may.up uncut owed.1 fits.works in
+          let two = turned_nodes g far t.places t.commands f even v k may.up uncut owed.1 in
+          let three = turn_takes g far t.places t.commands f even v k may.up uncut owed.1 number takes.packet took takes.sent takes.flying in
+          let four : 1 + says_worth g ask far d.says + node_worth g (λ b. 0) far d.after ≤ worth g ask far m.to m.kind + node_worth g (λ b. 0) far k = fits.less in
+          let five : worth g ask far takes.packet.msg.to takes.packet.msg.kind ≡ worth g ask far m.to m.kind = ap (λ (y : Msg). worth g ask far y.to y.kind) takes.same_message in
+          omega (arith, one, two, three, four, five)
+
+      stamped_so : (clock : ℕ) (ms : List Post) → AllByRecursion (SaidSo m.to) ms → AllByRecursion Course (map (stamped clock) ms)
+      stamped_so clock [] all = tt
+      stamped_so clock (y ∷ ys) all = ((all.0.1, subst InTree (sym all.0.0) mine), stamped_so clock ys all.1)
+
+      pub flies_on : AllFly Course after.net
+      unfolding turn_of
+      flies_on = turn_fly Course t.places t.commands f v now (subst (AllByRecursion Course) (sym owed.1) (stamped_so d.after.clock d.says fits.said))
+
+  -- ---- all deliveries
+
+  module _ (calm : AllByRecursion (IsCalm (branches_by t.places t.commands t.trace c.root)) t.trace) where
+    one_more : (hs : List Happening) (h : Happening) (rest : List Happening) → hs ++ h ∷ rest ≡ t.trace → (y : Happening) → h ≡ y → IsDelivery y → AllFly Course (f_at t hs).net
+        → (1 + all_worth g far (f_at t (hs ++ h ∷ [])) ≤ all_worth g far (f_at t hs)) × AllFly Course (f_at t (hs ++ h ∷ [])).net
+    one_more hs h rest is (happenings.Turn v) turn it now =
+        let may = subst (MayHappen t.places t.commands (f_at t hs)) turn (may_of t whole hs h rest is) in
+        let on : f_at t (hs ++ h ∷ []) ≡ facts_after t.places t.commands (f_at t hs) (happenings.Turn v) = one_on t hs h ∙ ap (facts_after t.places t.commands (f_at t hs)) turn in
+        let number = it.1 in
+        subst (λ (x : Facts). (1 + all_worth g far x ≤ all_worth g far (f_at t hs)) × AllFly Course x.net) (sym on) (
+          less hs h rest is calm v turn it.0 number it.2 may.0 may.1 now,
+          flies_on hs h rest is calm v turn it.0 number it.2 may.0 may.1 now,
+        )
+    one_more hs h rest is (happenings.Begun n) turn it now = absurd it
+    one_more hs h rest is (happenings.Cut a b) turn it now = absurd it
+    one_more hs h rest is (happenings.Join a b) turn it now = absurd it
+    one_more hs h rest is (happenings.Lost n) turn it now = absurd it
+    one_more hs h rest is (happenings.Stopped n) turn it now = absurd it
+    one_more hs h rest is (happenings.Started n boot) turn it now = absurd it
+
+    -- so they are few
+    pub few_more : (hs mid : List Happening) → hs ++ mid ≡ t.trace → AllByRecursion IsDelivery mid → AllFly Course (f_at t hs).net → length mid ≤ all_worth g far (f_at t hs)
+    few_more hs [] is all now = omega arith
+    few_more hs (h ∷ mid) is all now =
+        let next = one_more hs h mid is h refl all.0 now in
+        let low = next.0 in
+        let rest = few_more (hs ++ h ∷ []) mid (append_assoc hs (h ∷ []) mid ∙ is) all.1 next.1 in
+        omega (arith, low, rest)

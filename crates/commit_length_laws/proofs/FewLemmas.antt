@@ -1,0 +1,198 @@
+-- A COMMIT that flows has few messages delivered: its call leaves no more than 45 for each branch of its tree.
+use Rattle.std.proofs.Common.{◌≡◌, ℕ, ◌+◌, ◌*◌, ◌≤◌, ◌<◌, true, false, List, [], ◌∷◌, ◌++◌, length, map, unwrap_or, Option, Some, None, refl, sym, ap, subst, ◌∙◌, arith}
+use Rattle.std.specs.List.{AllByRecursion}
+use Rattle.std.proofs.lemmas.List.{append_assoc}
+use Rattle.tran_ids.proofs.ListedLemmas.{item_is}
+use Rattle.session_tree.specs.Tree.{count}
+use Rattle.node_rules.specs.Data.{BranchId, Live, Place, Post, Input}
+use Rattle.node_rules.specs.Data.inputs
+use Rattle.node_rules.specs.declared.session.PendingCall.TheVariants as pending
+use Rattle.node_rules.specs.Data.stmts
+use Rattle.node_rules.specs.Kept.{Kept, Branch, Deed, live_id, live_at, branch_at, work_at, with_work}
+use Rattle.node_rules.specs.Prepare.{collecting, with_comment, without_read_keys, first_act, act_turn, collects, with_prepare_sent}
+use Rattle.node_rules.specs.Sessions.{session_at, with_call}
+use Rattle.node_rules.specs.Client.{commit_by, root_by, root_at}
+use Rattle.node_rules.specs.Turn.{deed_of, stamped, turn_of}
+use Rattle.run_rules.specs.Births.{Born, births_of}
+use Rattle.run_base_laws.specs.BirthLaws.{Began, LiveIs}
+use Rattle.run_rules.specs.Data.{Took, Turn, Happening}
+use Rattle.run_rules.specs.Data.happenings
+use Rattle.run_rules.specs.Facts.{Facts, place_at, taken, facts_after}
+use Rattle.run_base_laws.specs.InTurnLaws.{said_in, GoesOn}
+use Rattle.run_rules.specs.Lawful.{Comes, IsOwed, MayTurn, History, IsLawfulRun}
+use Rattle.run_base_laws.proofs.BirthRunLemmas.{nodes_name_the_born}
+use Rattle.run_base_laws.proofs.EventsStandLemmas.{run_stands}
+use Rattle.run_base_laws.proofs.OwnLemmas.{all_found}
+use Rattle.run_base_laws.proofs.RootLemmas.{roots_are_of_sessions}
+use Rattle.tree_laws.proofs.ForestLemmas as trees
+use Rattle.tree_laws.proofs.ForestRunLemmas.{run_known}
+use Rattle.tree_laws.proofs.PrefixLemmas.{so_far, f_at, one_on}
+use Rattle.tree_site_laws.proofs.TimeLemmas.{Part, part_of, part_lawful, may_of, born_end}
+use Rattle.run_claims.specs.Undisturbed.{Commit}
+use Rattle.commit_length_laws.specs.FewLaws.{Flows, DeliveriesAreFew, DeliveriesStayBelow}
+use Rattle.commit_length_laws.proofs.WorthLemmas.{says_worth, live_worth, node_worth, asked_worth, sent_worth, map_length}
+use Rattle.commit_length_laws.proofs.ActLemmas.{act_cost, act_low}
+use Rattle.commit_length_laws.proofs.SayLemmas.{SaidSo, WorksOn, act_said, act_works}
+use Rattle.commit_length_laws.proofs.TurnLemmas.{first_cost}
+use Rattle.commit_length_laws.proofs.DepthLemmas.{far_low}
+use Rattle.commit_length_laws.proofs.FullLemmas.{ask_in, few, asks_low}
+use Rattle.commit_length_laws.proofs.FlightLemmas.{net_worth, all_worth, AllFly, turned_low, turned_nodes, turn_fly}
+use Rattle.commit_length_laws.proofs.TreeLemmas.{far, Course}
+use Rattle.commit_length_laws.proofs.CourseLemmas.{few_more}
+use Rattle.commit_length_laws.proofs.BeforeLemmas as before
+
+module _ (t : History) (whole : IsLawfulRun t) (c : Commit t.places t.commands t.trace) (flows : Flows t.places t.commands t.trace c) where
+  abbrev hs : List Happening
+  hs = c.before
+
+  abbrev s : History
+  s = so_far t hs
+
+  abbrev f : Facts
+  f = f_at t hs
+
+  abbrev said : List Post
+  said = said_in f
+
+  abbrev bs : List Born
+  bs = births_of s
+
+  abbrev k : Kept
+  k = c.kept
+
+  abbrev v : Turn
+  v = c.call
+
+  abbrev distance : BranchId → ℕ
+  distance b = far t whole c b
+
+  part : Part t whole hs
+  part = part_of t whole hs (happenings.Turn c.call) c.during c.is
+
+  lawful : IsLawfulRun s
+  lawful = part_lawful t whole hs part
+
+  me : c.live.me ≡ c.root
+  me = item_is live_id k.lives c.root c.live c.there
+
+  found : live_at k c.live.me ≡ Some c.live
+  found = subst (λ i. live_at k i ≡ Some c.live) (sym me) c.there
+
+  abbrev x : Branch
+  x = record { live = c.live; work = work_at k c.live.me }
+
+  there : branch_at k c.live.me ≡ Some x
+  there = ap (with_work k) found
+
+  free : (work_at k c.live.me).going ≡ None
+  free = (before.rests t whole c flows).1
+
+  -- ---- the call
+
+  abbrev p : Place
+  p = place_at t.places v.node
+
+  abbrev ask : BranchId → ℕ
+  ask b = ask_in f b
+
+  -- What the call leaves.
+  record Called (d : Deed) : Type 0 where
+    pub low : says_worth c.root ask distance d.says + node_worth c.root (λ b. 0) distance d.after ≤ 2880 + node_worth c.root (λ b. 0) distance k
+    pub said_so : AllByRecursion (SaidSo c.root) d.says
+    pub works : WorksOn k d.after
+
+  goes : (session_at k.sessions c.session).code ≡ None → GoesOn k c.live
+  goes none top =
+      let its = (roots_are_of_sessions s lawful v.node k c.up c.session c.root c.of).0 in
+      let number : c.live.me.session ≡ c.session = ap (λ (i : BranchId). i.session) me ∙ its in
+      subst (λ n. (session_at k.sessions n).code ≡ None) (sym number) none
+
+  collects_low : (comment : List ℕ) → (session_at k.sessions c.session).code ≡ None → Called (collects (record k { sessions = with_call k.sessions c.session pending.Commit }) (with_comment c.live comment) true)
+  collects_low comment none =
+      let j : Kept = without_read_keys (record k { sessions = with_call k.sessions c.session pending.Commit }) c.live.me in
+      let y : Live = collecting (with_comment c.live comment) true in
+      let cost : act_cost c.root ask distance y (first_act y true) ≤ (23 + 21 * length y.edges) + asked_worth c.root ask distance y.edges = first_cost c.root ask distance (far_low t whole) y true y.edges refl in
+      let many : length (map with_prepare_sent c.live.edges) ≡ length c.live.edges = map_length with_prepare_sent c.live.edges in
+      let alike : asked_worth c.root ask distance (map with_prepare_sent c.live.edges) ≡ asked_worth c.root ask distance c.live.edges = sent_worth c.root ask distance c.live.edges in
+      let all : says_worth c.root ask distance (act_turn j y true (first_act y true)).says + node_worth c.root (λ b. 0) distance (act_turn j y true (first_act y true)).after + live_worth c.root ask distance c.live ≤ act_cost c.root ask distance y (first_act y true) + node_worth c.root (λ b. 0) distance k
+      = act_low c.root ask distance j c.live y found true (first_act y true) in
+      let room : (asked_worth c.root ask distance c.live.edges + 21 * length c.live.edges) + 45 ≤ 45 * count c.live = asks_low s lawful v.node k c.up c.live found (goes none) free in
+      let few_branches : count c.live ≤ 64 = few s lawful v.node k c.up c.live found (goes none) free in
+      record {
+        low = omega (arith, cost, many, alike, all, room, few_branches);
+        said_so = subst (λ b. AllByRecursion (SaidSo b) (act_turn j y true (first_act y true)).says) me (act_said j y true (first_act y true));
+        works = act_works j y (λ same. absurd cc) true (first_act y true);
+      }
+
+  commit_low : (comment : List ℕ) (o : Option ℕ) → (session_at k.sessions c.session).code ≡ o → Called (commit_by k c.session comment o (Some x))
+  commit_low comment None is = collects_low comment is
+  commit_low comment (Some n) is = record { low = omega arith; said_so = tt; works = λ b y at works. at }
+
+  rooted : root_at k c.session ≡ Some x
+  rooted = ap (root_by k) c.of ∙ (ap (branch_at k) (sym me) ∙ there)
+
+  call_low : Called (deed_of p k v.input)
+  call_low =
+      subst (λ (i : Input). Called (deed_of p k i)) (sym c.asks)
+      (subst (λ o. Called (commit_by k c.session (unwrap_or c.comment []) (session_at k.sessions c.session).code o)) (sym rooted) (commit_low (unwrap_or c.comment []) (session_at k.sessions c.session).code refl))
+
+  may : MayTurn t.places f v k
+  may = (let it = may_of t whole hs (happenings.Turn v) c.during c.is in
+      let both : Some it.0 ≡ Some k = sym it.1.up ∙ c.up in
+      let same_node : it.0 ≡ k = cc in
+      subst (MayTurn t.places f v) same_node it.1)
+
+  owed : IsOwed p k v.input v.wrote v.sent false
+  owed = subst (IsOwed p k v.input v.wrote v.sent) flows.whole may.owed
+
+  untaken : v.took ≡ None
+  untaken = by v.took refl (subst (λ i. Comes f k v.node i v.took) c.asks may.comes)
+    where
+      by : (o : Option Took) → v.took ≡ o → Comes f k v.node (inputs.Call c.session (Some (stmts.Commit c.comment))) v.took → v.took ≡ None
+      by None is comes = is
+      by (Some i) is comes = absurd (subst (Comes f k v.node (inputs.Call c.session (Some (stmts.Commit c.comment)))) is comes)
+
+  abbrev after : Facts
+  after = facts_after t.places t.commands f (happenings.Turn v)
+
+  called_low : all_worth c.root distance after ≤ 2880
+  called_low =
+      let even : length f.nodes ≡ length f.records = (run_stands s lawful).0.even in
+      let one = turned_low c.root distance t.places t.commands f even v k c.up flows.whole owed.1 call_low.works in
+      let two = turned_nodes c.root distance t.places t.commands f even v k c.up flows.whole owed.1 in
+      let none : net_worth c.root distance ask (taken f.net v.took) ≡ 0 = ap (λ o. net_worth c.root distance ask (taken f.net o)) untaken ∙ before.net_none t whole c flows ask in
+      let nodes = before.nodes_none t whole c flows in
+      let cost = call_low.low in
+      omega (arith, one, two, none, nodes, cost)
+
+  root_in : (x : Born) × Began (births_of t) x × (x.me ≡ c.root) × (x.root ≡ c.root)
+  root_in =
+      let it : LiveIs (Began bs) c.live = all_found (LiveIs (Began bs)) live_id k.lives c.root c.live (nodes_name_the_born s lawful v.node k c.up).0 c.there in
+      let top : c.live.parent ≡ None = (roots_are_of_sessions s lawful v.node k c.up c.session c.root c.of).1 c.live c.there in
+      let own : it.born.root ≡ it.born.me = (trees.stands_so bs said (run_known s lawful) it.born None it.began (it.is_parent ∙ top)).0 in
+      (it.born, born_end t whole hs part it.born it.began, (it.is_me ∙ me), (own ∙ (it.is_me ∙ me)))
+
+  stamped_so : (clock : ℕ) (ms : List Post) → AllByRecursion (SaidSo c.root) ms → AllByRecursion (Course t whole c) (map (stamped clock) ms)
+  stamped_so clock [] all = tt
+  stamped_so clock (y ∷ ys) all = ((all.0.1, (root_in.0, root_in.1, (root_in.2 ∙ sym all.0.0), root_in.3)), stamped_so clock ys all.1)
+
+  called_fly : AllFly (Course t whole c) after.net
+  unfolding turn_of
+  called_fly = turn_fly (Course t whole c) t.places t.commands f v (before.none_fly t whole c flows) (subst (AllByRecursion (Course t whole c)) (sym owed.1) (stamped_so (deed_of p k v.input).after.clock (deed_of p k v.input).says call_low.said_so))
+
+  -- so few are delivered
+  pub few_deliveries : length c.during ≤ 2880
+  few_deliveries =
+      let on : f_at t (hs ++ happenings.Turn v ∷ []) ≡ after = one_on t hs (happenings.Turn v) in
+      let is : (hs ++ happenings.Turn v ∷ []) ++ c.during ≡ t.trace = append_assoc hs (happenings.Turn v ∷ []) c.during ∙ c.is in
+      let more : length c.during ≤ all_worth c.root distance (f_at t (hs ++ happenings.Turn v ∷ []))
+      = few_more t whole c flows.calm (hs ++ happenings.Turn v ∷ []) c.during is flows.delivers (subst (λ (g : Facts). AllFly (Course t whole c) g.net) (sym on) called_fly) in
+      let same_worth : all_worth c.root distance (f_at t (hs ++ happenings.Turn v ∷ [])) ≡ all_worth c.root distance after = ap (λ (g : Facts). all_worth c.root distance g) on in
+      let low = called_low in
+      omega (arith, more, same_worth, low)
+
+pub deliveries_are_few : DeliveriesAreFew
+deliveries_are_few t whole c flows = few_deliveries t whole c flows
+
+pub deliveries_stay_below : DeliveriesStayBelow
+deliveries_stay_below t whole c flows = (let low : length c.during ≤ 2880 = few_deliveries t whole c flows in let is : length c.during < 4096 = omega (arith, low) in is)

@@ -1,0 +1,18 @@
+//! A decision that comes to a sealed branch from its neighbour on the way to the commit point site is obeyed in that turn.
+//!
+//! A branch that was not forced writes that it ended with the decision. A forced one writes that it met it, marked as mixed
+//! exactly where the forced outcome and the decision differ (`specs/ObeyLaws.antt`).
+#![tactic(auto)]
+
+ghost use Rattle.commit_obey_laws.specs.ObeyLaws.{DecisionsAreObeyed};
+ghost use Rattle.commit_obey_laws.specs.TriedObey.{TheTriedObey};
+
+/// In every lawful run each decision that comes from toward to a sealed branch that has learned none is written in that turn.
+pub fn decisions_are_obeyed()
+    ensures { DecisionsAreObeyed }
+{}
+
+/// The law is not about nothing: in the tried run of two nodes B ends with the commit that A tells it, and, forced before, meets it.
+pub fn the_tried_obey()
+    ensures { TheTriedObey }
+{}

@@ -1,0 +1,145 @@
+-- Each step of a node that leaves a root no longer live has a reason: an act of its prepare phase, or a rollback.
+use Rattle.std.proofs.Common.{◌≡◌, ℕ, Bool, true, false, if◌then◌else◌, List, [], ◌∷◌, ◌++◌, Option, Some, None, refl, sym, ap, subst, ◌∙◌}
+use Rattle.tran_ids.proofs.BranchLemmas.{equal_from_same}
+use Rattle.tran_ids.proofs.ListedLemmas.{put_found, put_leaves, drop_leaves}
+use Rattle.commit_forget.specs.declared.next.Next.TheVariants as nexts
+use Rattle.session_tree.specs.Live.{is_branch, new_edge}
+use Rattle.node_rules.specs.Data.{Live, Act, BranchId, Place, Sealed, Decided, Input}
+use Rattle.node_rules.specs.Data.acts
+use Rattle.node_rules.specs.Data.kinds
+use Rattle.node_rules.specs.Data.inputs
+use Rattle.node_rules.specs.Data.records
+use Rattle.node_rules.specs.Data.stmts
+use Rattle.node_rules.specs.Words.{same, item_at, put_item, drop_item}
+use Rattle.node_rules.specs.Inputs.{Came, IsCall}
+use Rattle.node_rules.specs.Kept.{Kept, Deed, live_id, live_at, to_one}
+use Rattle.node_rules.specs.Statement.{ran, after_run}
+use Rattle.node_rules.specs.Calls.{with_edge, hears_reply}
+use Rattle.node_rules.specs.Prepare.{ready, act_turn, to_children}
+use Rattle.node_rules.proofs.Steps as steps
+use Rattle.node_rules.proofs.Steps.{Step, Acting}
+use Rattle.run_branch_laws.proofs.QuietLemmas.{NoRows, acting_apart}
+use Rattle.tree_laws.proofs.WhyLemmas.{Near, ActsIn}
+
+-- ---- lists of live branches
+
+last_found : (ls : List Live) (x : Live) (b : BranchId) (l : Live) → item_at live_id ls b ≡ Some l → item_at live_id (ls ++ x ∷ []) b ≡ Some l
+last_found [] x b l found = absurd cc
+last_found (y ∷ ls) x b l found = by (same y.me b) found (last_found ls x b l)
+  where
+    by : (q : Bool) → (if q then Some y else item_at live_id ls b) ≡ Some l → (item_at live_id ls b ≡ Some l → item_at live_id (ls ++ x ∷ []) b ≡ Some l) → (if q then Some y else item_at live_id (ls ++ x ∷ []) b) ≡ Some l
+    by true here rest = here
+    by false other rest = rest other
+
+no_parent : (from : BranchId) (o : Option BranchId) → o ≡ None → is_branch from o ≡ true → ⊥
+no_parent from None none is = absurd cc
+no_parent from (Some c) none is = absurd cc
+
+-- ---- reasons
+
+-- Why a root leaves in a step.
+pub data StepReason (k0 : Kept) (input : Input) (b : BranchId) (d : Deed) : Type 0 where
+  Wrote_seal : (r : Sealed) → d.wrote ≡ Some (records.Sealed r) → r.me ≡ b → StepReason k0 input b d
+  Wrote_decision : (r : Decided) → d.wrote ≡ Some (records.Decided r) → r.me ≡ b → StepReason k0 input b d
+  Found_none : (l : Live) (below : Bool) → ActsIn k0 input l below acts.Finish → l.me ≡ b → StepReason k0 input b d
+  Said_none : (l : Live) (below : Bool) → ActsIn k0 input l below acts.SayReadOnly → l.me ≡ b → StepReason k0 input b d
+  Abandons : (l : Live) (below : Bool) → ActsIn k0 input l below acts.Abandon → l.me ≡ b → d.says ≡ to_one l.me kinds.Abort l.parent ++ to_children l kinds.Rollback → StepReason k0 input b d
+  Told_rollback : (from : BranchId) → Came input from b kinds.Rollback → StepReason k0 input b d
+  Rolls : (n : ℕ) → IsCall input n stmts.Rollback → StepReason k0 input b d
+  Gives : (n : ℕ) → input ≡ inputs.GiveUp n → StepReason k0 input b d
+
+module _ (p : Place) (k0 : Kept) (input : Input) (b : BranchId) where
+  -- the branch is live, and a root
+  abbrev pub Lives : Kept → Type 0
+  Lives k = (l : Live) × (live_at k b ≡ Some l) × (l.parent ≡ None)
+
+  -- it has a reason where it is live no more
+  abbrev pub Leaves : Deed → Type 0
+  Leaves d = live_at d.after b ≡ None → StepReason k0 input b d
+
+  module _ (k : Kept) (lives : Lives k) where
+    put_not : (x : Live) → item_at live_id (put_item live_id k.lives x) b ≡ None → ⊥
+    put_not x none = by (same x.me b) refl
+      where
+        by : (q : Bool) → same x.me b ≡ q → ⊥
+        by true is =
+            let me : x.me ≡ b = equal_from_same x.me b is in
+            let at : item_at live_id (put_item live_id k.lives x) b ≡ Some x = subst (λ i. item_at live_id (put_item live_id k.lives x) i ≡ Some x) me (put_found live_id k.lives x) in
+            absurd (cc (at, none))
+        by false is =
+            let at : item_at live_id (put_item live_id k.lives x) b ≡ Some lives.0 = put_leaves live_id k.lives x b is ∙ lives.1 in
+            absurd (cc (at, none))
+
+    last_not : (x : Live) → item_at live_id (k.lives ++ x ∷ []) b ≡ None → ⊥
+    last_not x none = (let at : item_at live_id (k.lives ++ x ∷ []) b ≡ Some lives.0 = last_found k.lives x b lives.0 lives.1 in absurd (cc (at, none)))
+
+    still_not : live_at k b ≡ None → ⊥
+    still_not none = (let at = lives.1 in absurd (cc (at, none)))
+
+    -- who is taken out is the branch
+    dropped_is : (c : BranchId) → item_at live_id (drop_item live_id k.lives c) b ≡ None → c ≡ b
+    dropped_is c none = by (same c b) refl
+      where
+        by : (q : Bool) → same c b ≡ q → c ≡ b
+        by true is = equal_from_same c b is
+        by false is = (let at : item_at live_id (drop_item live_id k.lives c) b ≡ Some lives.0 = drop_leaves live_id k.lives c b is ∙ lives.1 in absurd (cc (at, none)))
+
+    its_parent : (l : Live) → live_at k l.me ≡ Some l → l.me ≡ b → l.parent ≡ None
+    its_parent l live me =
+        let there : live_at k b ≡ Some l = subst (λ i. live_at k i ≡ Some l) me live in
+        let both : Some l ≡ Some lives.0 = sym there ∙ lives.1 in
+        let it : l ≡ lives.0 = cc in
+        ap (λ (x : Live). x.parent) it ∙ lives.2
+
+    module _ (near : Near k0 k) where
+      acts_leave : (l : Live) (below : Bool) (a : Act) → Acting k input l below a → Leaves (act_turn k l below a)
+      acts_leave l below acts.Rest why none = absurd (put_not l none)
+      acts_leave l below acts.AskDown why none = absurd (put_not l none)
+      acts_leave l below acts.SayReady why none = absurd (put_not (ready l) none)
+      acts_leave l below acts.SayReadOnly why none = Said_none l below (record { here = k; near = near; acting = why }) (dropped_is l.me none)
+      acts_leave l below acts.Seal why none = Wrote_seal _ refl (dropped_is l.me none)
+      acts_leave l below (acts.SealAndPass i) why none = Wrote_seal _ refl (dropped_is l.me none)
+      acts_leave l below acts.Decide why none = Wrote_decision _ refl (dropped_is l.me none)
+      acts_leave l below acts.Finish why none = Found_none l below (record { here = k; near = near; acting = why }) (dropped_is l.me none)
+      acts_leave l below acts.Abandon why none = Abandons l below (record { here = k; near = near; acting = why }) (dropped_is l.me none) refl
+
+    told_leave : (l : Live) → live_at k l.me ≡ Some l → steps.Drops input l → l.me ≡ b → (d : Deed) → StepReason k0 input b d
+    told_leave l live (steps.By_rollback from came) me d = Told_rollback from (subst (λ i. Came input from i kinds.Rollback) me came)
+    told_leave l live (steps.By_parent from came is) me d = absurd (no_parent from l.parent (its_parent l live me) is)
+
+  pub root_leaves : {k : Kept} {d : Deed} → Step p input k d → (NoRows input → Near k0 k) → Lives k → Leaves d
+  root_leaves (steps.Begins {k = k} n s call rows range free step) near lives none = root_leaves step (λ no. absurd (no n s call rows)) (lives.0, last_found k.lives _ b lives.0 lives.1, lives.2) none
+  root_leaves (steps.Pends {k = k} n l given call has live code step) near lives none = root_leaves step (λ no. (let is = near no in record { lives = is.lives; clock = is.clock })) lives none
+  root_leaves (steps.Lets_reads_go {k = k} l comment down live begins step) near lives none = root_leaves step (λ no. (let is = near no in record { lives = is.lives; clock = is.clock })) lives none
+  root_leaves (steps.Counts_ack {k = k} s from kept came counts step) near lives none = root_leaves step (λ no. (let is = near no in record { lives = is.lives; clock = is.clock })) lives none
+  root_leaves (steps.Runs {k = k} x s given t asked way) near lives none = absurd (put_not k lives (after_run x.live (ran p k x.live.me s t)) none)
+  root_leaves (steps.Goes_nowhere {k = k} x s given r asked way) near lives none = absurd (put_not k lives x.live none)
+  root_leaves (steps.Calls {k = k} x s given i table asked way) near lives none = absurd (put_not k lives x.live none)
+  root_leaves (steps.Opens {k = k} x s given node link table asked way) near lives none = absurd (put_not k lives x.live none)
+  root_leaves (steps.Goes_on {k = k} x from strength g link opened) near lives none = absurd (put_not k lives (with_edge x (new_edge from link strength)).live none)
+  root_leaves (steps.Hears_reply {k = k} x weight count a i e answered) near lives none = absurd (put_not k lives (hears_reply x i weight count e).live none)
+  root_leaves (steps.Opens_branch {k = k} to up edge root depth came new) near lives none = absurd (last_not k lives _ none)
+  root_leaves (steps.Acts {k = k} l down a why) near lives none = acts_leave k lives (near (acting_apart why)) l down a why none
+  root_leaves (steps.Drops_told {k = k} l live drops) near lives none = told_leave k lives l live drops (dropped_is k lives l.me none) _
+  root_leaves (steps.Drops_asked {k = k} l from live came is) near lives none = absurd (no_parent from l.parent (its_parent k lives l live (dropped_is k lives l.me none)) is)
+  root_leaves (steps.Does {k = k} s from (nexts.End d) kept why) near lives none = absurd (still_not k lives none)
+  root_leaves (steps.Does {k = k} s from (nexts.Meet d mixed) kept why) near lives none = absurd (still_not k lives none)
+  root_leaves (steps.Does {k = k} s from nexts.AckToward kept why) near lives none = absurd (still_not k lives none)
+  root_leaves (steps.Does {k = k} s from nexts.Forget kept why) near lives none = absurd (still_not k lives none)
+  root_leaves (steps.Does {k = k} s from nexts.SayForgotten kept why) near lives none = absurd (still_not k lives none)
+  root_leaves (steps.Does {k = k} s from nexts.SayAck kept why) near lives none = absurd (still_not k lives none)
+  root_leaves (steps.Does {k = k} s from nexts.Rest kept why) near lives none = absurd (still_not k lives none)
+  root_leaves (steps.Rests {k = k}) near lives none = absurd (still_not k lives none)
+  root_leaves (steps.Sends {k = k} says why) near lives none = absurd (still_not k lives none)
+  root_leaves (steps.Refuses {k = k} n s r is) near lives none = absurd (still_not k lives none)
+  root_leaves (steps.Completes_at_once {k = k} n s d call completes root) near lives none = absurd (still_not k lives none)
+  root_leaves (steps.Makes_record {k = k} n s r d call makes) near lives none = absurd (still_not k lives none)
+  root_leaves (steps.Forces_given {k = k} n id m c call named) near lives none = absurd (still_not k lives none)
+  root_leaves (steps.Forces_commit {k = k} n id c call named) near lives none = absurd (still_not k lives none)
+  root_leaves (steps.Forces_rollback {k = k} n id c call named) near lives none = absurd (still_not k lives none)
+  root_leaves (steps.Hides {k = k} n mixed id s call found) near lives none = absurd (still_not k lives none)
+  root_leaves (steps.Advises {k = k} n a call) near lives none = absurd (still_not k lives none)
+  root_leaves (steps.Gives_up {k = k} n x gives has calls live) near lives none = absurd (put_not k lives x.live none)
+  root_leaves (steps.Gives_up_commit {k = k} n c None gives has calls live) near lives none = absurd (still_not k lives none)
+  root_leaves (steps.Gives_up_commit {k = k} n c (Some l) gives has calls live) near lives none = Gives n gives
+  root_leaves (steps.Rolls_back {k = k} n x call has live) near lives none = Rolls n call

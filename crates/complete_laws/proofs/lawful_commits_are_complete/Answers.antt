@@ -1,5 +1,0 @@
-use Rattle.complete_laws.proofs.CompleteLemmas.{lawful_commits_are_complete}
-use Rattle.complete_laws.proofs.lawful_commits_are_complete.Goals as goal
-
-pub returns : goal.returns
-returns c = lawful_commits_are_complete

@@ -1,5 +1,0 @@
-use Rattle.course_laws.proofs.CommandLemmas.{commands_find_no_call}
-use Rattle.course_laws.proofs.commands_find_no_call.Goals as goal
-
-pub returns : goal.returns
-returns c = commands_find_no_call

@@ -1,5 +1,0 @@
-use Rattle.course_laws.proofs.CourseLemmas.{commits_flow}
-use Rattle.course_laws.proofs.commits_flow.Goals as goal
-
-pub returns : goal.returns
-returns c = commits_flow

@@ -1,5 +1,0 @@
-use Rattle.course_laws.proofs.CommandLemmas.{hold_is_kept}
-use Rattle.course_laws.proofs.hold_is_kept.Goals as goal
-
-pub returns : goal.returns
-returns c = hold_is_kept

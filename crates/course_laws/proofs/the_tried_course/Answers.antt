@@ -1,5 +1,0 @@
-use Rattle.course_laws.proofs.TriedCourseLemmas.{the_tried_course}
-use Rattle.course_laws.proofs.the_tried_course.Goals as goal
-
-pub returns : goal.returns
-returns c = the_tried_course

@@ -1,3 +1,0 @@
-pub mod CommandCalls
-pub mod CommitCourse
-pub mod TriedCourse

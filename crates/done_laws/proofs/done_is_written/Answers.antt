@@ -1,5 +1,0 @@
-use Rattle.done_laws.proofs.DoneLemmas.{done_is_written}
-use Rattle.done_laws.proofs.done_is_written.Goals as goal
-
-pub returns : goal.returns
-returns c = done_is_written

@@ -1,5 +1,0 @@
-use Rattle.done_laws.proofs.StandLemmas.{records_come_from_calls}
-use Rattle.done_laws.proofs.records_come_from_calls.Goals as goal
-
-pub returns : goal.returns
-returns c = records_come_from_calls

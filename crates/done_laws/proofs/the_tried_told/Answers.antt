@@ -1,5 +1,0 @@
-use Rattle.done_laws.proofs.TriedToldLemmas.{the_tried_told}
-use Rattle.done_laws.proofs.the_tried_told.Goals as goal
-
-pub returns : goal.returns
-returns c = the_tried_told

@@ -1,5 +1,0 @@
-use Rattle.forget_laws.proofs.TriedForgetLemmas.{the_tried_forget}
-use Rattle.forget_laws.proofs.the_tried_forget.Goals as goal
-
-pub returns : goal.returns
-returns c = the_tried_forget

@@ -1,4 +1,0 @@
-pub mod WellLemmas
-pub mod WellDeedLemmas
-pub mod WellStepLemmas
-pub mod WellRunLemmas

@@ -1,5 +1,0 @@
-use Rattle.gone_laws.proofs.WellRunLemmas.{calls_follow_answers}
-use Rattle.gone_laws.proofs.calls_follow_answers.Goals as goal
-
-pub returns : goal.returns
-returns c = calls_follow_answers

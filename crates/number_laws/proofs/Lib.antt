@@ -1,9 +1,0 @@
-pub mod DiskLemmas
-pub mod NumberRunLemmas
-pub mod LimitLemmas
-pub mod CountLemmas
-pub mod OpenLemmas
-pub mod TargetLemmas
-pub mod DownLemmas
-pub mod DueUpLemmas
-pub mod DueTurnLemmas

@@ -1,8 +1,0 @@
--- How many deliveries are counted.
-use Rattle.std.specs.Prelude.{◌≤◌, length}
-use Rattle.run_laws.specs.Lawful.{History}
-use Rattle.run_laws.specs.Headline.{past_of}
-
--- The deliveries of the command that runs are no more than the happenings so far.
-abbrev pub DeliveriesAreWithin : Type 0
-DeliveriesAreWithin = (t : History) → (past_of t).telling.deliveries ≤ length t.trace

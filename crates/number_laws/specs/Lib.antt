@@ -1,4 +1,0 @@
-pub mod Numbers
-pub mod Counts
-pub mod There
-pub mod Turns

@@ -1,5 +1,0 @@
-use Rattle.once_laws.proofs.TriedFlowLemmas.{the_tried_flow}
-use Rattle.once_laws.proofs.the_tried_flow.Goals as goal
-
-pub returns : goal.returns
-returns c = the_tried_flow

@@ -1,5 +1,0 @@
-use Rattle.place_laws.proofs.LeadLemmas.{kept_answers_lead_to_runs}
-use Rattle.place_laws.proofs.kept_answers_lead_to_runs.Goals as goal
-
-pub returns : goal.returns
-returns c = kept_answers_lead_to_runs

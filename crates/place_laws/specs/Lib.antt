@@ -1,4 +1,0 @@
-pub mod ReplyLaws
-pub mod LeadLaws
-pub mod TriedPlace
-pub mod ToldLaws

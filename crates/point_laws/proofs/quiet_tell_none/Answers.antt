@@ -1,5 +1,0 @@
-use Rattle.point_laws.proofs.LeaveLemmas.{quiet_tell_none}
-use Rattle.point_laws.proofs.quiet_tell_none.Goals as goal
-
-pub returns : goal.returns
-returns c = quiet_tell_none

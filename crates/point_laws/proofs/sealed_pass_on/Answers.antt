@@ -1,5 +1,0 @@
-use Rattle.point_laws.proofs.SealedLemmas.{sealed_pass_on}
-use Rattle.point_laws.proofs.sealed_pass_on.Goals as goal
-
-pub returns : goal.returns
-returns c = sealed_pass_on

@@ -1,5 +1,0 @@
-use Rattle.point_laws.proofs.WalkEndLemmas.{undisturbed_towards_leave}
-use Rattle.point_laws.proofs.undisturbed_towards_leave.Goals as goal
-
-pub returns : goal.returns
-returns c = undisturbed_towards_leave

@@ -1,8 +1,0 @@
-use Rattle.ready_laws.proofs.NameLemmas.{names_stay, empty_name_is_free}
-use Rattle.ready_laws.proofs.names_stay.Goals as goal
-
-pub returns-clause-turns : goal.returns-clause-turns
-returns-clause-turns c = names_stay
-
-pub returns-clause-empty : goal.returns-clause-empty
-returns-clause-empty c = empty_name_is_free

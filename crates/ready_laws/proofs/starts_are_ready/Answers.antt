@@ -1,5 +1,0 @@
-use Rattle.ready_laws.proofs.StartLemmas.{starts_are_ready}
-use Rattle.ready_laws.proofs.starts_are_ready.Goals as goal
-
-pub returns : goal.returns
-returns c = starts_are_ready

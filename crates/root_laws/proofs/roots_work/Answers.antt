@@ -1,5 +1,0 @@
-use Rattle.root_laws.proofs.RootWorkLemmas.{roots_work}
-use Rattle.root_laws.proofs.roots_work.Goals as goal
-
-pub returns : goal.returns
-returns c = roots_work

@@ -1,0 +1,202 @@
+-- What the call of a session tells of its root, where sessions change and where branches change.
+use Rattle.std.proofs.Common.{◌≡◌, ◌≢◌, ℕ, ◌&&◌, Bool, true, false, if◌then◌else◌, List, [], is_none, Option, Some, None, inl, inr, refl, sym, subst, ◌∙◌}
+use Rattle.std.proofs.lemmas.Bool.{cond_both, and_parts}
+use Rattle.tran_ids.proofs.BranchLemmas.{equal_from_same, same_from_equal}
+use Rattle.tran_ids.proofs.ListedLemmas.{item_is}
+use Rattle.node_rules.specs.Data.{Stmt, Answer, Advice, BranchId, Phase, Live, Act, Input}
+use Rattle.node_rules.specs.declared.work.Work.{Work}
+use Rattle.node_rules.specs.declared.work.Going.{Going}
+use Rattle.node_rules.specs.Data.acts
+use Rattle.node_rules.specs.Data.kinds
+use Rattle.node_rules.specs.declared.session.PendingCall.TheVariants as pending
+use Rattle.node_rules.specs.Data.phases
+use Rattle.node_rules.specs.Data.stmts
+use Rattle.node_rules.specs.declared.session.PendingCall.{PendingCall}
+use Rattle.node_rules.specs.declared.session.Session.{Session}
+use Rattle.node_rules.specs.Words.{same, item_at, set_numbered, put_item, drop_item}
+use Rattle.node_rules.specs.Inputs.{Came, IsCall}
+use Rattle.node_rules.specs.Refusals.{dtx}
+use Rattle.session_tree.specs.Live.{is_branch}
+use Rattle.node_rules.specs.Kept.{Kept, Branch, live_id, work_id, live_at, branch_at}
+use Rattle.node_rules.specs.Sessions.{session_at, with_call, needs_rollback, no_transaction, is_commit, commit_is_pending, commit_ended}
+use Rattle.node_rules.specs.Calls.{call_pends, answered_sessions, heard_sessions, is_gone}
+use Rattle.node_rules.proofs.Steps as steps
+use Rattle.node_rules.proofs.Steps.{Asked, Acting, Collected}
+use Rattle.node_rules.proofs.StandLemmas.{live_so, call_set}
+use Rattle.std.specs.List.{AllByRecursion}
+use Rattle.node_rules.specs.Prepare.{ready}
+use Rattle.run_base_laws.specs.CallLaws.{RootWaits, IsRootOf}
+use Rattle.node_rules.proofs.StepLemmas.{branch_found}
+use Rattle.node_rules.specs.LiveBranches.{EachLive, works_of}
+use Rattle.node_rules.proofs.LiveLemmas.{each_put, each_left, each_same, branch_parts, work_is}
+use Rattle.run_base_laws.proofs.RootLemmas.{SessionsFit, session_or_before}
+
+-- a root is its session's transaction, and waits as that says
+abbrev pub RootIs : List Session → Live → Work → Type 0
+RootIs ss l w = l.parent ≡ None → IsRootOf (session_at ss l.me.session) l.me l.phase w.going
+
+-- two that are not the same are not equal
+apart : (b c : BranchId) (s : Option BranchId) → same b c ≡ false → s ≡ Some b → s ≡ Some c → ⊥
+apart b c s other one two = let it : Some b ≡ Some c = sym one ∙ two in let here : b ≡ c = cc in let is : same b c ≡ true = same_from_equal b c here in absurd (cc (is, other))
+
+module _ (ss : List Session) (y : Live) (v : Work) where
+  -- a session that is set leaves a root so where it leaves that session's root so
+  pub set_leaves : (n : ℕ) (s : Session) → (IsRootOf (session_at ss n) y.me y.phase v.going → IsRootOf s y.me y.phase v.going) → RootIs ss y v → RootIs (set_numbered ss n s) y v
+  set_leaves n s at so none = elim (session_or_before ss n y.me.session s) [
+    | inl still ↦ subst (λ x. IsRootOf x y.me y.phase v.going) (sym still) (so none)
+    | inr new ↦ subst (λ x. IsRootOf x y.me y.phase v.going) (sym new.1) (at (subst (λ m. IsRootOf (session_at ss m) y.me y.phase v.going) (sym new.0) (so none)))
+  ]
+
+  -- a session of another transaction
+  pub taken_leaves : (n : ℕ) (b : BranchId) (s : Session) → (session_at ss n).root ≡ Some b → same b y.me ≡ false → RootIs ss y v → RootIs (set_numbered ss n s) y v
+  taken_leaves n b s has other so = set_leaves n s (λ is. absurd (apart b y.me (session_at ss n).root other has is.root)) so
+
+  -- the COMMIT of another transaction ends
+  ended_leaves : (b : BranchId) → same b y.me ≡ false → RootIs ss y v → RootIs (commit_ended ss b) y v
+  ended_leaves b other so = by (commit_is_pending ss b) refl
+    where
+      by : (q : Bool) → commit_is_pending ss b ≡ q → RootIs (if q then set_numbered ss b.session (no_transaction (session_at ss b.session)) else ss) y v
+      by false is = so
+      by true is = taken_leaves b.session b _ (branch_found b (session_at ss b.session).root (and_parts (is_branch b (session_at ss b.session).root) (is_commit (session_at ss b.session).call) is).0) other so
+
+  -- the same root and call as before
+  pub still_leaves : (n : ℕ) (s : Session) → s.root ≡ (session_at ss n).root → s.call ≡ (session_at ss n).call → RootIs ss y v → RootIs (set_numbered ss n s) y v
+  still_leaves n s root call so = set_leaves n s (λ is. record { root = root ∙ is.root; waits = subst (λ c. RootWaits c y.phase v.going) (sym call) is.waits }) so
+
+-- a root that has just begun
+pub fresh_waits : (c : PendingCall) → RootWaits c phases.Working None
+fresh_waits pending.NoCall = (refl, refl)
+fresh_waits pending.Statement = refl
+fresh_waits pending.Commit = refl
+
+-- one that waits is working
+working_by : (c : PendingCall) (phase : Phase) (o : Option Going) (g : Going) → RootWaits c phase o → o ≡ Some g → phase ≡ phases.Working
+working_by pending.NoCall phase o g is going = is.0
+working_by pending.Statement phase o g is going = is
+working_by pending.Commit phase o g is going = absurd (cc (is, going))
+
+pub free_waits : (c : PendingCall) (phase : Phase) (o : Option Going) → RootWaits c phase o → c ≡ pending.NoCall → (phase ≡ phases.Working) × (o ≡ None)
+free_waits pending.NoCall phase o is free = is
+free_waits pending.Statement phase o is free = absurd cc
+free_waits pending.Commit phase o is free = absurd cc
+
+pub statement_waits : (c : PendingCall) (phase : Phase) (o : Option Going) → RootWaits c phase o → c ≡ pending.Statement → phase ≡ phases.Working
+statement_waits pending.NoCall phase o is free = absurd cc
+statement_waits pending.Statement phase o is free = is
+statement_waits pending.Commit phase o is free = absurd cc
+
+-- ---- nodes
+
+-- What is known as a turn begins.
+pub record Before (input : Input) (k : Kept) : Type 0 where
+  pub free : (n : ℕ) (s : Stmt) → IsCall input n s → (session_at k.sessions n).call ≡ pending.NoCall
+  pub asked : (from to : BranchId) (call given : ℕ) (advice : Option Advice) (s : Stmt) → Came input from to (kinds.Exec call given advice s) → (l : Live) → live_at k to ≡ Some l → l.parent ≢ None
+  pub prepared : (from to : BranchId) (site_below : Bool) (comment : List ℕ) → Came input from to (kinds.Prepare site_below comment) → (l : Live) → live_at k to ≡ Some l → l.parent ≢ None
+  pub either : ((n : ℕ) (s : Stmt) → IsCall input n s → steps.IsOfRows s → ⊥) → AllByRecursion (λ s. live_at k s.me ≡ None) k.stored.durable.kept
+
+abbrev pub NodeRoots : Kept → Type 0
+NodeRoots k = EachLive (RootIs k.sessions) k.lives k.works
+
+-- What is known of the root of a statement that goes on.
+pub record Works (ss : List Session) (x : Branch) : Type 0 where
+  pub mine : x.work.branch ≡ x.live.me
+  pub root : x.live.parent ≡ None → (session_at ss x.live.me.session).root ≡ Some x.live.me
+  pub working : x.live.parent ≡ None → x.live.phase ≡ phases.Working
+
+module _ (k : Kept) (now : NodeRoots k) where
+  pub branch_root : (x : Branch) → branch_at k x.live.me ≡ Some x → RootIs k.sessions x.live x.work
+  branch_root x found = let parts = branch_parts k x.live.me x found in subst (RootIs k.sessions x.live) (sym parts.1) (now.each x.live.me x.live parts.0)
+
+  pub live_root : (b : BranchId) (l : Live) → live_at k b ≡ Some l → RootIs k.sessions l (works_of k.works l.me)
+  live_root b l found = subst (λ m. RootIs k.sessions l (works_of k.works m)) (sym (item_is live_id k.lives b l found)) (now.each b l found)
+
+  pub going_works : (x : Branch) (g : Going) → branch_at k x.live.me ≡ Some x → x.work.going ≡ Some g → Works k.sessions x
+  going_works x g live going = record {
+    mine = work_is k x.live.me x live;
+    root = λ none. (branch_root x live none).root;
+    working = λ none. working_by (session_at k.sessions x.live.me.session).call x.live.phase x.work.going g (branch_root x live none).waits going;
+  }
+
+  pub asked_works : (input : Input) → Before input k → SessionsFit k → {x : Branch} {s : Stmt} {given : ℕ} → Asked k input x s given → Works k.sessions x
+  asked_works input before fit (steps.By_call n x s call rows has code live) = record {
+    mine = work_is k x.live.me x live;
+    root = λ none. (branch_root x live none).root;
+    working = λ none. (free_waits (session_at k.sessions x.live.me.session).call x.live.phase x.work.going (branch_root x live none).waits
+        (subst (λ m. (session_at k.sessions m).call ≡ pending.NoCall) (sym (fit.roots.each n x.live.me has)) (before.free n s call))).0;
+  }
+  asked_works input before fit (steps.By_exec x from call given advice s came live runs) =
+      let below : x.live.parent ≢ None = before.asked from x.live.me call given advice s came x.live (live_so k x.live.me x live) in
+      record { mine = work_is k x.live.me x live; root = λ none. absurd (below none); working = λ none. absurd (below none) }
+
+  -- a statement that is answered ends a root's call
+  pub answered_so : (x : Branch) (w : Work) → w.branch ≡ x.live.me → w.going ≡ None → Works k.sessions x → (o : Option BranchId) → x.live.parent ≡ o
+      → EachLive (RootIs (answered_sessions k.sessions x.live o)) (put_item live_id k.lives x.live) (put_item work_id k.works w)
+  answered_so x w mine rests is (Some b) above = each_put (RootIs k.sessions) (RootIs k.sessions) k.lives k.works now x.live w mine (λ none. absurd (cc (above, none))) (λ y v live other so. so)
+  answered_so x w mine rests is None root =
+      let n : ℕ = x.live.me.session in
+      let set : session_at (with_call k.sessions n pending.NoCall) n ≡ record (session_at k.sessions n) { call = pending.NoCall } = call_set k.sessions n x.live.me pending.NoCall (is.root root) in
+      each_put (RootIs k.sessions) (RootIs (with_call k.sessions n pending.NoCall)) k.lives k.works now x.live w mine
+      (λ none. subst (λ s. IsRootOf s x.live.me x.live.phase w.going) (sym set) (record { root = is.root root; waits = (is.working root, rests) }))
+      (λ y v live other so. taken_leaves k.sessions y v n x.live.me (record (session_at k.sessions n) { call = pending.NoCall }) (is.root root) other so)
+
+  -- one that goes on makes it pending
+  pends_by : (x : Branch) (w : Work) → w.branch ≡ x.live.me → Works k.sessions x → (o : Option BranchId) → x.live.parent ≡ o
+      → EachLive (RootIs (if is_none o then with_call k.sessions x.live.me.session pending.Statement else k.sessions)) (put_item live_id k.lives x.live) (put_item work_id k.works w)
+  pends_by x w mine is (Some b) above = each_put (RootIs k.sessions) (RootIs k.sessions) k.lives k.works now x.live w mine (λ none. absurd (cc (above, none))) (λ y v live other so. so)
+  pends_by x w mine is None root =
+      let n : ℕ = x.live.me.session in
+      let set : session_at (with_call k.sessions n pending.Statement) n ≡ record (session_at k.sessions n) { call = pending.Statement } = call_set k.sessions n x.live.me pending.Statement (is.root root) in
+      each_put (RootIs k.sessions) (RootIs (with_call k.sessions n pending.Statement)) k.lives k.works now x.live w mine
+      (λ none. subst (λ s. IsRootOf s x.live.me x.live.phase w.going) (sym set) (record { root = is.root root; waits = is.working root }))
+      (λ y v live other so. taken_leaves k.sessions y v n x.live.me (record (session_at k.sessions n) { call = pending.Statement }) (is.root root) other so)
+
+  pub calls_so : (x : Branch) (w : Work) → w.branch ≡ x.live.me → Works k.sessions x → EachLive (RootIs (call_pends k.sessions x.live)) (put_item live_id k.lives x.live) (put_item work_id k.works w)
+  calls_so x w mine is = pends_by x w mine is x.live.parent refl
+
+  -- a refusal of a gone branch leaves all roots so
+  pub heard_so : (l : Live) (a : Answer) → EachLive (RootIs (heard_sessions k.sessions l a)) k.lives k.works
+  heard_so l a =
+      cond_both (is_none l.parent && is_gone a) (needs_rollback k.sessions l.me.session (dtx 8 []).code) k.sessions (λ ss. EachLive (RootIs ss) k.lives k.works)
+      (λ gone. each_same (RootIs k.sessions) _ k.lives k.works now (λ y v live any so. still_leaves k.sessions y v l.me.session (record (session_at k.sessions l.me.session) { code = Some (dtx 8 []).code }) refl refl so))
+      (λ other. now)
+
+  -- a branch leaves, and its COMMIT ends or not
+  pub gone : (b : BranchId) → EachLive (RootIs k.sessions) (drop_item live_id k.lives b) (drop_item work_id k.works b)
+  gone b = each_left (RootIs k.sessions) (RootIs k.sessions) k.lives k.works now b (λ y v live other so. so)
+
+  pub gone_ended : (b : BranchId) → EachLive (RootIs (commit_ended k.sessions b)) (drop_item live_id k.lives b) (drop_item work_id k.works b)
+  gone_ended b = each_left (RootIs k.sessions) (RootIs (commit_ended k.sessions b)) k.lives k.works now b (λ y v live other so. ended_leaves k.sessions y v b other so)
+
+  -- the COMMIT of a branch ends that is not live
+  pub ended_so : (b : BranchId) → live_at k b ≡ None → EachLive (RootIs (commit_ended k.sessions b)) k.lives k.works
+  ended_so b none =
+      each_same (RootIs k.sessions) (RootIs (commit_ended k.sessions b)) k.lives k.works now (λ y v live any so. ended_leaves k.sessions y v b (unlike y (same b y.me) refl live) so)
+    where
+      unlike : (y : Live) (q : Bool) → same b y.me ≡ q → item_at live_id k.lives y.me ≡ Some y → q ≡ false
+      unlike y false is live = refl
+      unlike y true is live = let at : item_at live_id k.lives b ≡ Some y = subst (λ m. item_at live_id k.lives m ≡ Some y) (sym (equal_from_same b y.me is)) live in absurd (cc (at, none))
+
+  module _ (input : Input) (before : Before input k) (quits : (n : ℕ) (c : Option (List ℕ)) → IsCall input n (stmts.Commit c) → ⊥) where
+    -- a branch that acts
+    pub acting_root : {l : Live} {site_below : Bool} {a : Act} → Acting k input l site_below a → RootIs k.sessions l (works_of k.works l.me)
+    acting_root (steps.Asks_down l comment site_below e es live (steps.By_commit n given call has free is) has_edges) = absurd (quits n given call)
+    acting_root (steps.Asks_down l comment site_below e es live (steps.By_prepare from _ came working) has_edges) = λ none. absurd (before.prepared from l.me site_below comment came l live none)
+    acting_root (steps.Has_no_children l comment site_below a live (steps.By_commit n given call has free is) none_there collected) = absurd (quits n given call)
+    acting_root (steps.Has_no_children l comment site_below a live (steps.By_prepare from _ came working) none_there collected) = λ none. absurd (before.prepared from l.me site_below comment came l live none)
+    acting_root (steps.Hears_abort l from site_below live answers) = live_root l.me l live
+    acting_root (steps.Waits_on l from v site_below live answers other some) = live_root l.me l live
+    acting_root (steps.Hears_last l from v site_below a live answers other all collected) = live_root l.me l live
+    acting_root (steps.At_point l from a live came ready pointed) = live_root l.me l live
+
+-- a root says no Ready
+below_by : (o : Option BranchId) → is_none o ≡ false → o ≢ None
+below_by None is none = absurd cc
+below_by (Some b) is none = absurd cc
+
+awaits_below : {l : Live} {site_below : Bool} → Collected l site_below acts.SayReady → l.parent ≢ None
+awaits_below {l = l} (steps.Awaits_point is) = below_by l.parent is
+
+pub ready_below : {k : Kept} {input : Input} {l : Live} {site_below : Bool} → Acting k input l site_below acts.SayReady → l.parent ≢ None
+ready_below (steps.Has_no_children l comment site_below _ live begins none_there collected) = awaits_below collected
+ready_below (steps.Hears_last l from v site_below _ live answers other all collected) = awaits_below collected
+ready_below (steps.At_point l from _ live came ready pointed) = elim pointed [ ]

@@ -1,0 +1,10 @@
+pub mod RunEvents
+pub mod Laws
+pub mod NodeLaws
+pub mod EventRows
+pub mod EventLaws
+pub mod IdLaws
+pub mod BirthLaws
+pub mod CallLaws
+pub mod InTurnLaws
+pub mod FreezeLaws

@@ -1,0 +1,22 @@
+pub mod RunLemmas
+pub mod EventBookLemmas
+pub mod JustLemmas
+pub mod KeptRowLemmas
+pub mod GoneLemmas
+pub mod PhaseLemmas
+pub mod TreeJustLemmas
+pub mod HeardLemmas
+pub mod QuietLemmas
+pub mod HeardStandLemmas
+mod TriedRunLemmas
+pub mod TowardLemmas
+pub mod RowSayLemmas
+pub mod RowSayStandLemmas
+pub mod VoteLemmas
+pub mod CallLemmas
+pub mod FreezeLemmas
+pub mod WalkLemmas
+pub mod FreezeStepLemmas
+pub mod FreezeRunLemmas
+pub mod StillLemmas
+pub mod StillRunLemmas

@@ -1,0 +1,210 @@
+-- In every lawful run the phases of live branches fit the answers of their children.
+use Rattle.std.proofs.Common.{◌≡◌, ◌≢◌, ℕ, zero, suc, ◌||◌, not, Bool, true, false, List, [], ◌∷◌, ◌++◌, map, slice_get, slice_set, is_none, Option, Some, None, refl, sym, ap, subst, ◌∙◌}
+use Rattle.std.specs.List.{AllByRecursion, list_any}
+use Rattle.std.proofs.lemmas.Bool.{cond_both, not-true}
+use Rattle.std.proofs.lemmas.List.Folds.{list_any-append}
+use Rattle.node_rules.specs.Data.{BranchId, Edge, Vote, Phase, Live, Act, RedoRecord, Place, Input}
+use Rattle.node_rules.specs.Data.votes
+use Rattle.node_rules.specs.Data.phases
+use Rattle.node_rules.specs.Data.acts
+use Rattle.node_rules.specs.Data.records
+use Rattle.commit_forget.specs.declared.next.Next.TheVariants as nexts
+use Rattle.node_rules.specs.Words.{numbered, set_numbered, put_item, drop_item}
+use Rattle.session_tree.specs.Live.{new_edge}
+use Rattle.node_rules.specs.Kept.{Kept, Branch, Deed, live_id, live_at, branch_at}
+use Rattle.node_rules.specs.Statement.{ran, after_run}
+use Rattle.node_rules.specs.Calls.{with_edge, hears_reply}
+use Rattle.node_rules.specs.Prepare.{is_awaited, collecting, with_comment, with_prepare_sent, ready, voted, has_voted, answers_first}
+use Rattle.node_rules.specs.Turn.{start_of}
+use Rattle.node_rules.proofs.Steps as steps
+use Rattle.node_rules.proofs.Steps.{Step, Asked, Collected, Pointed, Acting}
+use Rattle.node_rules.proofs.StandLemmas.{live_so}
+use Rattle.run_branch_laws.specs.PhaseLaws.{IsUnasked, IsNoAbort, PhaseFits, PhasesFit}
+use Rattle.run_rules.proofs.ListLemmas.{all_weaker, all_append, all_map}
+use Rattle.run_base_laws.proofs.OwnLemmas.{all_found, all_with, all_without, all_last}
+use Rattle.run_base_laws.proofs.NodeLemmas.{Keeps, node_keeps}
+use Rattle.run_base_laws.proofs.NeighborLemmas.{reply_is}
+
+-- ---- edges
+
+-- an edge is awaited
+abbrev awaited : Edge → Bool
+awaited e = is_awaited e.vote
+
+module _ (P : Edge → Type 0) where
+  pub slice_all : (es : List Edge) (i : ℕ) (e : Edge) → AllByRecursion P es → slice_get es i ≡ Some e → P e
+  slice_all [] i e all is = absurd cc
+  slice_all (x ∷ es) zero e all is = subst P (let it : Some x ≡ Some e = is in cc) all.0
+  slice_all (x ∷ es) (suc i) e all is = slice_all es i e all.1 is
+
+  pub slice_set_all : (es : List Edge) (i : ℕ) (e : Edge) → AllByRecursion P es → P e → AllByRecursion P (slice_set es i e)
+  slice_set_all [] i e all so = tt
+  slice_set_all (x ∷ es) zero e all so = (so, all.1)
+  slice_set_all (x ∷ es) (suc i) e all so = (all.0, slice_set_all es i e all.1 so)
+
+any_set : (es : List Edge) (i : ℕ) (e x : Edge) → slice_get es i ≡ Some e → awaited x ≡ awaited e → list_any awaited (slice_set es i x) ≡ list_any awaited es
+any_set [] i e x at same = absurd cc
+any_set (y ∷ es) zero e x at same = ap (λ q. q || list_any awaited es) (same ∙ ap awaited (let it : Some y ≡ Some e = at in let here : e ≡ y = cc in here))
+any_set (y ∷ es) (suc i) e x at same = ap (λ q. awaited y || q) (any_set es i e x at same)
+
+-- one more that was not asked
+more_fits : (parent : Option BranchId) (es : List Edge) (e : Edge) (phase : Phase) → e.vote ≡ votes.Unasked → PhaseFits parent es phase → PhaseFits parent (es ++ e ∷ []) phase
+more_fits parent es e phases.Working is fits = all_append IsUnasked es (e ∷ []) fits (is, tt)
+more_fits parent es e (phases.Collecting site_below) is fits =
+    (all_append IsNoAbort es (e ∷ []) fits.0 ((λ abort. absurd (cc (is, abort))), tt), list_any-append awaited es (e ∷ []) ∙ ap (λ q. q || list_any awaited (e ∷ [])) fits.1)
+more_fits parent es e phases.Ready is fits = (
+  all_append IsNoAbort es (e ∷ []) fits.0 ((λ abort. absurd (cc (is, abort))), tt),
+  list_any-append awaited es (e ∷ []) ∙ (ap (λ q. q || list_any awaited (e ∷ [])) fits.1 ∙ ap (λ v. is_awaited v || false) is),
+  fits.2,
+)
+
+-- one of which more is known
+known_fits : (parent : Option BranchId) (es : List Edge) (i : ℕ) (e x : Edge) (phase : Phase) → slice_get es i ≡ Some e → x.vote ≡ e.vote → PhaseFits parent es phase → PhaseFits parent (slice_set es i x) phase
+known_fits parent es i e x phases.Working at same fits = slice_set_all IsUnasked es i x fits (same ∙ slice_all IsUnasked es i e fits at)
+known_fits parent es i e x (phases.Collecting site_below) at same fits = (
+  slice_set_all IsNoAbort es i x fits.0 (λ abort. slice_all IsNoAbort es i e fits.0 at (sym same ∙ abort)),
+  any_set es i e x at (ap is_awaited same) ∙ fits.1,
+)
+known_fits parent es i e x phases.Ready at same fits = (
+  slice_set_all IsNoAbort es i x fits.0 (λ abort. slice_all IsNoAbort es i e fits.0 at (sym same ∙ abort)),
+  any_set es i e x at (ap is_awaited same) ∙ fits.1,
+  fits.2,
+)
+
+numbered_fits : (parent : Option BranchId) (es : List Edge) (i : ℕ) (e x : Edge) (phase : Phase) → numbered es i ≡ Some e → x.vote ≡ e.vote → PhaseFits parent es phase → PhaseFits parent (set_numbered es i x) phase
+numbered_fits parent es zero e x phase at same fits = fits
+numbered_fits parent es (suc i) e x phase at same fits = known_fits parent es i e x phase at same fits
+
+-- ---- acts
+
+asked_none : (es : List Edge) → AllByRecursion IsNoAbort (map with_prepare_sent es)
+asked_none [] = tt
+asked_none (e ∷ es) = ((λ abort. absurd cc), asked_none es)
+
+asked_some : (es xs : List Edge) (e : Edge) → es ≡ e ∷ xs → list_any awaited (map with_prepare_sent es) ≡ true
+asked_some es xs e is = ap (λ (ys : List Edge). list_any awaited (map with_prepare_sent ys)) is
+
+voted_none : (from : BranchId) (v : Vote) → v ≢ votes.Abort → (es : List Edge) → AllByRecursion IsNoAbort es → AllByRecursion IsNoAbort (map (has_voted from v) es)
+voted_none from v other es all =
+    all_map IsNoAbort (has_voted from v) es (all_weaker IsNoAbort _ (λ e so. cond_both (answers_first from e) (record e { vote = v }) e IsNoAbort (λ first. other) (λ again. so)) es all)
+
+-- what a branch that goes on is like after an act
+abbrev ActFits : Live → Act → Type 0
+ActFits l acts.Rest = PhaseFits l.parent l.edges l.phase
+ActFits l acts.AskDown = PhaseFits l.parent l.edges l.phase
+ActFits l acts.SayReady = PhaseFits l.parent l.edges phases.Ready
+ActFits l _ = Unit {0}
+
+parent_there : (o : Option BranchId) → is_none o ≡ false → o ≢ None
+parent_there None is none = absurd cc
+parent_there (Some b) is none = absurd cc
+
+module _ (l : Live) where
+  collected_fits : {site_below : Bool} {a : Act} → AllByRecursion IsNoAbort l.edges → list_any awaited l.edges ≡ false → Collected l site_below a → ActFits l a
+  collected_fits none all (steps.Has_nothing is) = tt
+  collected_fits none all (steps.Is_prepared is) = tt
+  collected_fits none all (steps.Awaits_point is) = (none, all, parent_there l.parent is)
+  collected_fits none all (steps.Passes i root is) = tt
+  collected_fits none all (steps.Is_site root is) = tt
+  collected_fits none all (steps.Has_no_site root is) = tt
+
+  pointed_fits : {a : Act} → PhaseFits l.parent l.edges l.phase → Pointed l a → ActFits l a
+  pointed_fits fits (steps.Points_on i is) = tt
+  pointed_fits fits (steps.Points_here is) = tt
+  pointed_fits fits (steps.Points_nowhere is) = fits
+
+abbrev Fits : Live → Type 0
+Fits l = PhaseFits l.parent l.edges l.phase
+
+module _ (k : Kept) (all : AllByRecursion Fits k.lives) where
+  live_fits : (b : BranchId) (l : Live) → live_at k b ≡ Some l → Fits l
+  live_fits b l found = all_found Fits live_id k.lives b l all found
+
+  branch_fits : (x : Branch) → branch_at k x.live.me ≡ Some x → Fits x.live
+  branch_fits x found = live_fits x.live.me x.live (live_so k x.live.me x found)
+
+  asked_fits : {input : Input} {x : Branch} {s : _} {given : ℕ} → Asked k input x s given → Fits x.live
+  asked_fits (steps.By_call n x s call rows has code live) = branch_fits x live
+  asked_fits (steps.By_exec x from call given advice s came live runs) = branch_fits x live
+
+  -- a collecting branch holds no Abort
+  collecting_none : (l : Live) (site_below : Bool) → live_at k l.me ≡ Some l → l.phase ≡ phases.Collecting site_below → AllByRecursion IsNoAbort l.edges
+  collecting_none l site_below live is = let fits : PhaseFits l.parent l.edges (phases.Collecting site_below) = subst (PhaseFits l.parent l.edges) is (live_fits l.me l live) in fits.0
+
+  acting_fits : {input : Input} {l : Live} {site_below : Bool} {a : Act} → Acting k input l site_below a → ActFits l a
+  acting_fits (steps.Asks_down l comment site_below e es live begins has) = (asked_none l.edges, asked_some l.edges es e has)
+  acting_fits (steps.Has_no_children l comment site_below a live begins none collected) =
+      collected_fits (collecting (with_comment l comment) site_below) (asked_none l.edges) (ap (λ (ys : List Edge). list_any awaited (map with_prepare_sent ys)) none) collected
+  acting_fits (steps.Hears_abort l from site_below live answers) = tt
+  acting_fits (steps.Waits_on l from v site_below live answers other some) =
+      subst (PhaseFits l.parent (voted l from v).edges) (sym answers.collecting)
+      (voted_none from v other l.edges (collecting_none l site_below live answers.collecting), awaited_so (list_any awaited (voted l from v).edges) some)
+    where
+      awaited_so : (q : Bool) → not q ≡ false → q ≡ true
+      awaited_so true is = refl
+      awaited_so false is = absurd cc
+  acting_fits (steps.Hears_last l from v site_below a live answers other all_so collected) =
+      collected_fits (voted l from v) (voted_none from v other l.edges (collecting_none l site_below live answers.collecting)) (not-true (list_any awaited (voted l from v).edges) all_so) collected
+  acting_fits (steps.At_point l from a live came is pointed) = pointed_fits l (live_fits l.me l live) pointed
+
+  changed : (l : Live) → Fits l → AllByRecursion Fits (put_item live_id k.lives l)
+  changed l is = all_with Fits live_id k.lives l all is
+
+  gone : (b : BranchId) → AllByRecursion Fits (drop_item live_id k.lives b)
+  gone b = all_without Fits live_id k.lives b all
+
+-- each step keeps it
+fits_on : (p : Place) (input : Input) {k : Kept} {d : Deed} → Step p input k d → AllByRecursion Fits k.lives → AllByRecursion Fits d.after.lives
+fits_on p input (steps.Begins {k = k} n s call rows fit none step) all = fits_on p input step (all_last Fits live_id k.lives _ all tt)
+fits_on p input (steps.Pends n l comment call has live code step) all = fits_on p input step all
+fits_on p input (steps.Lets_reads_go l comment site_below live begins step) all = fits_on p input step all
+fits_on p input (steps.Counts_ack s from kept came counts step) all = fits_on p input step all
+fits_on p input (steps.Runs {k = k} x s given t asked way) all = changed k all (after_run x.live (ran p k x.live.me s t)) (asked_fits k all asked)
+fits_on p input (steps.Goes_nowhere {k = k} x s given r asked way) all = changed k all x.live (asked_fits k all asked)
+fits_on p input (steps.Calls {k = k} x s given i table asked way) all = changed k all x.live (asked_fits k all asked)
+fits_on p input (steps.Opens {k = k} x s given node link table asked way) all = changed k all x.live (asked_fits k all asked)
+fits_on p input (steps.Goes_on {k = k} x from strength g link opened) all =
+    changed k all (with_edge x (new_edge from link strength)).live (more_fits x.live.parent x.live.edges (new_edge from link strength) x.live.phase refl (branch_fits k all x opened.live))
+fits_on p input (steps.Hears_reply {k = k} x weight count a i e answered) all =
+    changed k all (hears_reply x i weight count e).live
+    (numbered_fits x.live.parent x.live.edges i e _ x.live.phase (reply_is x answered.from answered.call i e answered.waits) refl (branch_fits k all x answered.live))
+fits_on p input (steps.Opens_branch {k = k} to parent edge root depth came new) all = all_last Fits live_id k.lives _ all tt
+fits_on p input (steps.Acts {k = k} l site_below acts.Rest why) all = changed k all l (acting_fits k all why)
+fits_on p input (steps.Acts {k = k} l site_below acts.AskDown why) all = changed k all l (acting_fits k all why)
+fits_on p input (steps.Acts {k = k} l site_below acts.SayReady why) all = changed k all (ready l) (acting_fits k all why)
+fits_on p input (steps.Acts {k = k} l site_below acts.SayReadOnly why) all = gone k all l.me
+fits_on p input (steps.Acts {k = k} l site_below acts.Seal why) all = gone k all l.me
+fits_on p input (steps.Acts {k = k} l site_below (acts.SealAndPass i) why) all = gone k all l.me
+fits_on p input (steps.Acts {k = k} l site_below acts.Decide why) all = gone k all l.me
+fits_on p input (steps.Acts {k = k} l site_below acts.Finish why) all = gone k all l.me
+fits_on p input (steps.Acts {k = k} l site_below acts.Abandon why) all = gone k all l.me
+fits_on p input (steps.Drops_told {k = k} l live drops) all = gone k all l.me
+fits_on p input (steps.Drops_asked {k = k} l from live came parent) all = gone k all l.me
+fits_on p input (steps.Does s from nexts.Rest kept why) all = all
+fits_on p input (steps.Does s from nexts.AckToward kept why) all = all
+fits_on p input (steps.Does s from nexts.SayForgotten kept why) all = all
+fits_on p input (steps.Does s from nexts.SayAck kept why) all = all
+fits_on p input (steps.Does s from (nexts.End d) kept why) all = all
+fits_on p input (steps.Does s from (nexts.Meet d mixed) kept why) all = all
+fits_on p input (steps.Does s from nexts.Forget kept why) all = all
+fits_on p input (steps.Rolls_back {k = k} n x call has live) all = gone k all x.live.me
+fits_on p input (steps.Gives_up {k = k} n x gives has calls live) all = changed k all x.live (branch_fits k all x live)
+fits_on p input (steps.Gives_up_commit {k = k} n b (Some l) gives has calls live) all = gone k all l.me
+fits_on p input (steps.Gives_up_commit n b None gives has calls live) all = all
+fits_on p input _ all = all
+
+starts_fit : (rs : List RedoRecord) → AllByRecursion Fits (start_of rs).lives
+unfolding start_of
+starts_fit rs = tt
+
+phases_kept : Keeps (λ p rs. Unit {0}) (λ p rs k. AllByRecursion Fits k.lives)
+phases_kept = record {
+  empty = λ p. tt;
+  starts = λ p rs boot disk next. starts_fit (rs ++ records.Boot boot ∷ []);
+  hears = λ p rs k scn now. now;
+  steps = λ p rs input k d step now. fits_on p input step now;
+  rests = λ p rs k now. tt;
+}
+
+pub phases_fit : PhasesFit
+phases_fit = node_keeps (λ p rs. Unit {0}) (λ p rs k. AllByRecursion Fits k.lives) phases_kept

@@ -1,0 +1,108 @@
+-- The course of a COMMIT in the run of a script: with HOLD off its messages are delivered one after the other, in order of
+-- number, until none is in flight; then the call has been answered, and the next command begins. So an administrator sees
+-- that a COMMIT that nothing disturbs is complete in its own command. (Database Administrator's Guide, "Distributed
+-- Transactions Concepts": two-phase commit mechanism.)
+use Rattle.std.specs.Prelude.{◌≡◌, ℕ, ◌∷◌, ◌++◌, false, List, [], slice_get, Some, None}
+use Rattle.std.specs.List.{AllByRecursion}
+use Rattle.node_rules.specs.Data.{Place}
+use Rattle.node_rules.specs.Data.stmts
+use Rattle.node_rules.specs.Sessions.{session_at, commit_complete}
+use Rattle.net_bag.specs.Net.{first_flying}
+use Rattle.run_rules.specs.Data.{Command, Happening}
+use Rattle.run_rules.specs.Data.commands
+use Rattle.run_rules.specs.Data.happenings
+use Rattle.run_rules.specs.Due.{next_command, due_of}
+use Rattle.run_rules.specs.Facts.{command_at}
+use Rattle.run_rules.specs.Reported.{IsBetween}
+use Rattle.run_rules.specs.Scripts.{IsTheRunOf}
+use Rattle.run_rules.specs.Lawful.{History}
+use Rattle.run_rules.specs.Lines.{spent}
+use Rattle.run_rules.specs.Past.{past}
+use Rattle.run_claims.specs.Places.{node_line, told_of}
+use Rattle.run_rules.specs.Telling.{Past, start}
+use Rattle.run_claims.specs.Undisturbed.{Commit, Undisturbed, IsComplete, LostNone, HasNotStopped, IsCalm, facts_by, branches_by, answers_from}
+
+-- what these happenings leave, with what is told of them
+abbrev pub past_by : List Place → List Command → List Happening → Past
+past_by places asked hs = past places asked (start places) hs
+
+-- a command goes on, and well: it is not the next one that begins, no turn is cut, no message is lost and no node stops
+abbrev pub GoesWell : Happening → Type 0
+GoesWell (happenings.Begun c) = ⊥
+GoesWell (happenings.Turn u) = u.cut ≡ false
+GoesWell (happenings.Lost k) = ⊥
+GoesWell (happenings.Stopped n) = ⊥
+GoesWell _ = Unit {0}
+
+-- A COMMIT at the end of the first part of a run, whose command has gone well so far: the command is COMMIT itself, HOLD is
+-- off, and the turn of the call is whole.
+pub record IsUnderWay (t : History) (front later : List Happening) (c : Commit t.places t.commands front) : Type 0 where
+  pub within : front ++ later ≡ t.trace
+  pub own : command_at t.commands (facts_by t.places t.commands c.before).command ≡ commands.At c.call.node c.session (Some (stmts.Commit c.comment))
+  pub off : (past_by t.places t.commands c.before).telling.hold ≡ false
+  pub whole : c.call.cut ≡ false
+  pub well : AllByRecursion GoesWell c.during
+
+-- ---- what comes next
+
+-- the message of this number is delivered, for the first time, in a turn that is whole
+abbrev pub Delivers : ℕ → Happening → Type 0
+Delivers k (happenings.Turn u) = (u.cut ≡ false) × (u.took ≡ Some (record { number = k; again = false }))
+Delivers k _ = ⊥
+
+-- In the run of a script, while messages are in flight in the command of a COMMIT that goes well, the first of them is
+-- delivered next, up to 4,096 in a command.
+abbrev pub CommitsFlow : Type 0
+CommitsFlow = (t : History) → IsTheRunOf t → (front later : List Happening) (h : Happening) (c : Commit t.places t.commands front) → IsUnderWay t front (h ∷ later) c → GoesWell h
+    → (k : ℕ) → first_flying (facts_by t.places t.commands front).net ≡ Some k → spent (past_by t.places t.commands front).telling.deliveries ≡ false → Delivers k h
+
+-- the answers that the call of a COMMIT has had
+abbrev pub IsAnswered : (t : History) (front : List Happening) → Commit t.places t.commands front → Type 0
+IsAnswered t front c = answers_from t.places t.commands (facts_by t.places t.commands c.before) c.call.node c.session (happenings.Turn c.call ∷ c.during) ≡ commit_complete ∷ []
+
+-- no loss is to be told, and no message is in flight
+abbrev pub IsStill : (t : History) (front : List Happening) → Type 0
+IsStill t front = ((facts_by t.places t.commands front).losses_to_tell ≡ []) × (first_flying (facts_by t.places t.commands front).net ≡ None)
+
+-- In the run of a script, where such a COMMIT has been answered and nothing is in flight any more, no call is pending, and the
+-- next command is due, or the end of the script.
+abbrev pub CommitsEnd : Type 0
+CommitsEnd = (t : History) → IsTheRunOf t → (front later : List Happening) (c : Commit t.places t.commands front) → IsUnderWay t front later c → IsAnswered t front c → IsStill t front
+    → ((past_by t.places t.commands front).telling.calls ≡ []) × (due_of t.commands (past_by t.places t.commands front) ≡ next_command t.commands (facts_by t.places t.commands front))
+
+-- the report has the line of a COMMIT's command: Commit complete
+abbrev pub IsToldComplete : (t : History) (front : List Happening) → Commit t.places t.commands front → Type 0
+IsToldComplete t front c = (i : ℕ) × (slice_get (told_of t) i ≡ Some (node_line (facts_by t.places t.commands c.before).command commit_complete))
+
+-- In the run of a script, where such a COMMIT has been answered in its command, the report says so.
+abbrev pub AnsweredCommitsAreTold : Type 0
+AnsweredCommitsAreTold = (t : History) → IsTheRunOf t → (front later : List Happening) (c : Commit t.places t.commands front) → IsUnderWay t front later c → IsAnswered t front c → IsToldComplete t front c
+
+-- ---- a quiet COMMIT
+
+-- A COMMIT of the run of a script is quiet: no statement of its transaction asked for a rollback; HOLD is off and nothing is
+-- in flight when it is called; until its command is done, so that the next one or the end of the script is due, no turn is
+-- cut, no message is lost and no node stops; of its transaction no message was lost before, no node of its branches has
+-- stopped since they began, and neither a rollback nor a question of the recoverer came to any of them.
+pub record QuietCommit (t : History) (front later : List Happening) (c : Commit t.places t.commands front) : Type 0 where
+  pub goes : IsUnderWay t front later c
+  pub done : IsBetween (due_of t.commands (past_by t.places t.commands front))
+  pub goes_on : (session_at c.kept.sessions c.session).code ≡ None
+  pub still : first_flying (facts_by t.places t.commands c.before).net ≡ None
+  pub lost : LostNone (branches_by t.places t.commands front c.root) (facts_by t.places t.commands front).net.packets
+  pub stopped : AllByRecursion (HasNotStopped (facts_by t.places t.commands front)) (branches_by t.places t.commands front c.root)
+  pub calm : AllByRecursion (IsCalm (branches_by t.places t.commands front c.root)) front
+
+-- A COMMIT is undisturbed, it is complete when its command is done, and the report says so.
+pub record IsDone (t : History) (front : List Happening) (c : Commit t.places t.commands front) : Type 0 where
+  pub undisturbed : Undisturbed t.places t.commands front c
+  pub complete : IsComplete t.places t.commands front c
+  pub told : IsToldComplete t front c
+
+-- Each quiet COMMIT of a run is.
+abbrev pub QuietCommitsAreDone : History → Type 0
+QuietCommitsAreDone t = (front later : List Happening) (c : Commit t.places t.commands front) → QuietCommit t front later c → IsDone t front c
+
+-- So it is in the run of every script.
+abbrev pub QuietCommitsAreComplete : Type 0
+QuietCommitsAreComplete = (t : History) → IsTheRunOf t → QuietCommitsAreDone t

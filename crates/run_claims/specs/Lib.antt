@@ -1,0 +1,9 @@
+pub mod Site
+pub mod Meanings
+pub mod Places
+pub mod Knowledge
+pub mod Headline
+pub mod Undisturbed
+pub mod Recorded
+pub mod ToldDone
+pub mod CommitCourse

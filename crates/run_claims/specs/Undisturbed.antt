@@ -1,0 +1,137 @@
+-- A COMMIT that nothing disturbs, and what it leaves. (Database Administrator's Guide, "Distributed Transactions Concepts":
+-- two-phase commit mechanism, prepare, commit and forget phases.)
+use Rattle.std.specs.Prelude.{◌≡◌, ℕ, ◌==◌, ◌&&◌, Bool, true, false, if◌then◌else◌, List, [], ◌∷◌, ◌++◌, map, filter, option_map, Option, Some, None}
+use Rattle.std.specs.List.{AllByRecursion}
+use Rattle.node_rules.specs.Data.{Answer, BranchId, Kind, Live, Place, Input}
+use Rattle.node_rules.specs.Data.decisions
+use Rattle.node_rules.specs.Data.inputs
+use Rattle.node_rules.specs.Data.kinds
+use Rattle.node_rules.specs.Data.stmts
+use Rattle.node_rules.specs.Inputs.{IsCall}
+use Rattle.node_rules.specs.Kept.{Kept, live_at}
+use Rattle.node_rules.specs.Sessions.{session_at, commit_complete}
+use Rattle.node_rules.specs.Turn.{Stand, Is_gone, stand_of}
+use Rattle.node_rules.specs.Words.{same}
+use Rattle.net_bag.specs.Net.{first_flying}
+use Rattle.run_rules.specs.Births.{Born, born_id, births_from}
+use Rattle.run_rules.specs.Book.{At}
+use Rattle.run_rules.specs.Branches.{is_among}
+use Rattle.run_rules.specs.Data.{Command, Entry, Fate, Packet, Turn, Happening}
+use Rattle.run_rules.specs.Data.entries
+use Rattle.run_rules.specs.Data.fates
+use Rattle.run_rules.specs.Data.happenings
+use Rattle.run_rules.specs.Facts.{Facts, first_facts, node_at, outcome_at, facts_after, facts_of}
+use Rattle.run_rules.specs.Lawful.{History, IsLawfulRun}
+use Rattle.run_rules.specs.Trail.{ended_by}
+
+-- what these happenings leave
+abbrev pub facts_by : List Place → List Command → List Happening → Facts
+facts_by places asked hs = facts_of places asked (first_facts places) hs
+
+-- A COMMIT of the transaction of a live root, and what has happened since the turn of its call.
+pub record Commit (places : List Place) (asked : List Command) (trace : List Happening) : Type 0 where
+  pub before : List Happening
+  pub call : Turn
+  pub during : List Happening
+  pub is : before ++ happenings.Turn call ∷ during ≡ trace
+  pub session : ℕ
+  pub comment : Option (List ℕ)
+  pub asks : IsCall call.input session (stmts.Commit comment)
+  pub kept : Kept
+  pub up : node_at (facts_by places asked before) call.node ≡ Some kept
+  pub root : BranchId
+  pub of : (session_at kept.sessions session).root ≡ Some root
+  pub live : Live
+  pub there : live_at kept root ≡ Some live
+
+-- ---- what may disturb it
+
+-- the branches of a transaction
+abbrev pub branches_in : List Born → BranchId → List BranchId
+branches_in bs root = map born_id (filter (λ x. same x.root root) bs)
+
+-- those that began in these happenings
+abbrev pub branches_by : List Place → List Command → List Happening → BranchId → List BranchId
+branches_by places asked trace root = branches_in (births_from places asked (first_facts places) trace []) root
+
+-- a message is delivered, for the first time, in a turn that is whole
+abbrev pub IsDelivery : Happening → Type 0
+IsDelivery (happenings.Turn u) = (u.cut ≡ false) × (number : ℕ) × (u.took ≡ Some (record { number = number; again = false }))
+IsDelivery _ = ⊥
+
+-- whether a message was lost
+abbrev pub is_lost : Fate → Bool
+is_lost fates.Lost = true
+is_lost _ = false
+
+-- none of these branches' messages was
+abbrev pub LostNone : List BranchId → List Packet → Type 0
+LostNone bs xs = AllByRecursion (λ x. (is_among x.msg.from bs && is_lost x.fate) ≡ false) xs
+
+-- a branch's node is up, and has not stopped since the branch began
+abbrev pub HasNotStopped : Facts → BranchId → Type 0
+HasNotStopped f b = option_map (λ k. k.stored.durable.boot) (node_at f b.node) ≡ Some b.boot
+
+-- whether a message asks for a rollback, or tells one
+abbrev pub disturbs : Kind → Bool
+disturbs kinds.Ask = true
+disturbs kinds.Rollback = true
+disturbs kinds.RolledBack = true
+disturbs _ = false
+
+-- whether such a message comes to one of these branches
+abbrev pub is_disturbed : List BranchId → Input → Bool
+is_disturbed bs (inputs.Message m) = is_among m.to bs && disturbs m.kind
+is_disturbed bs _ = false
+
+-- none comes in a turn
+abbrev pub IsCalm : List BranchId → Happening → Type 0
+IsCalm bs (happenings.Turn u) = is_disturbed bs u.input ≡ false
+IsCalm bs _ = Unit {0}
+
+-- A COMMIT is undisturbed: no statement of its transaction asks for a rollback; nothing is in flight when it is called;
+-- from then on there are deliveries alone, of whole turns, until nothing is in flight, as they come while HOLD is off; none
+-- of the transaction's messages was lost; no node of its branches has stopped since they began; and neither a rollback nor
+-- a question of the recoverer came to any of them.
+pub record Undisturbed (places : List Place) (asked : List Command) (trace : List Happening) (c : Commit places asked trace) : Type 0 where
+  pub goes_on : (session_at c.kept.sessions c.session).code ≡ None
+  pub still : first_flying (facts_by places asked c.before).net ≡ None
+  pub whole : c.call.cut ≡ false
+  pub delivers : AllByRecursion IsDelivery c.during
+  pub over : first_flying (facts_by places asked trace).net ≡ None
+  pub lost : LostNone (branches_by places asked trace c.root) (facts_by places asked trace).net.packets
+  pub stopped : AllByRecursion (HasNotStopped (facts_by places asked trace)) (branches_by places asked trace c.root)
+  pub calm : AllByRecursion (IsCalm (branches_by places asked trace c.root)) trace
+
+-- ---- what it leaves
+
+-- the answers of a session's calls that a turn ends
+abbrev pub answers_in : List Place → Facts → ℕ → ℕ → Happening → List Answer
+answers_in places f node session (happenings.Turn u) =
+    if u.cut then [] else (if u.node == node then map (λ x. x.answer) (filter (λ x. x.session == session) (ended_by (outcome_at places f u))) else [])
+answers_in places f node session _ = []
+
+-- all of them in these happenings, after what they found
+abbrev pub answers_from : List Place → List Command → Facts → ℕ → ℕ → List Happening → List Answer
+answers_from places asked f node session [] = []
+answers_from places asked f node session (h ∷ hs) = answers_in places f node session h ++ answers_from places asked (facts_after places asked f h) node session hs
+
+-- a seal of the transaction has its Ended commit
+abbrev pub SealIsEnded : List Entry → BranchId → Entry → Type 0
+SealIsEnded book root (entries.Sealed b g cs scn) = same g root ≡ true → (n i : ℕ) × At book i (entries.Ended b (decisions.Commit n))
+SealIsEnded book root _ = Unit {0}
+
+-- what a branch is at its node, where that is up
+abbrev pub stand_at : Facts → BranchId → Option Stand
+stand_at f b = option_map (λ k. stand_of k b) (node_at f b.node)
+
+-- A COMMIT is complete: its call has one answer, Commit complete; each sealed branch of the transaction has ended with
+-- commit; and of none of its branches a node knows anything any more, so no view shows one.
+pub record IsComplete (places : List Place) (asked : List Command) (trace : List Happening) (c : Commit places asked trace) : Type 0 where
+  pub answered : answers_from places asked (facts_by places asked c.before) c.call.node c.session (happenings.Turn c.call ∷ c.during) ≡ commit_complete ∷ []
+  pub ended : AllByRecursion (SealIsEnded (facts_by places asked trace).book c.root) (facts_by places asked trace).book
+  pub gone : AllByRecursion (λ b. stand_at (facts_by places asked trace) b ≡ Some Is_gone) (branches_by places asked trace c.root)
+
+-- An undisturbed COMMIT of a lawful run is complete.
+abbrev pub UndisturbedCommitsAreComplete : Type 0
+UndisturbedCommitsAreComplete = (t : History) → IsLawfulRun t → (c : Commit t.places t.commands t.trace) → Undisturbed t.places t.commands t.trace c → IsComplete t.places t.commands t.trace c

@@ -1,5 +1,0 @@
-use Rattle.run_laws.proofs.HeardStandLemmas.{acks_are_true}
-use Rattle.run_laws.proofs.acks_are_true.Goals as goal
-
-pub returns : goal.returns
-returns c = acks_are_true

@@ -1,5 +1,0 @@
-use Rattle.run_laws.proofs.FreezeRunLemmas.{asked_have_answered}
-use Rattle.run_laws.proofs.asked_have_answered.Goals as goal
-
-pub returns : goal.returns
-returns c = asked_have_answered

@@ -1,5 +1,0 @@
-use Rattle.run_laws.proofs.ClockLemmas.{clocks_rise}
-use Rattle.run_laws.proofs.clocks_rise.Goals as goal
-
-pub returns : goal.returns
-returns c = clocks_rise

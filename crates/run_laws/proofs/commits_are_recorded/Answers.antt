@@ -1,5 +1,0 @@
-use Rattle.run_laws.proofs.KnownLemmas.{commits_are_recorded}
-use Rattle.run_laws.proofs.commits_are_recorded.Goals as goal
-
-pub returns : goal.returns
-returns c = commits_are_recorded

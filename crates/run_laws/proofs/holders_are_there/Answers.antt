@@ -1,5 +1,0 @@
-use Rattle.run_laws.proofs.LockLemmas.{holders_are_there}
-use Rattle.run_laws.proofs.holders_are_there.Goals as goal
-
-pub returns : goal.returns
-returns c = holders_are_there

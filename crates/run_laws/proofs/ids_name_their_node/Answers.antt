@@ -1,5 +1,0 @@
-use Rattle.run_laws.proofs.EventsStandLemmas.{ids_name_their_node as law}
-use Rattle.run_laws.proofs.ids_name_their_node.Goals as goal
-
-pub returns : goal.returns
-returns c = law

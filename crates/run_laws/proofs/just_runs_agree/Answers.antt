@@ -1,5 +1,0 @@
-use Rattle.run_laws.proofs.JustLemmas.{just_runs_agree as law}
-use Rattle.run_laws.proofs.just_runs_agree.Goals as goal
-
-pub returns : goal.returns
-returns c = law

@@ -1,5 +1,0 @@
-use Rattle.run_laws.proofs.TriedRowsLemmas.{the_tried_rows}
-use Rattle.run_laws.proofs.the_tried_rows.Goals as goal
-
-pub returns : goal.returns
-returns c = the_tried_rows

@@ -1,5 +1,0 @@
-use Rattle.run_laws.proofs.TriedRunLemmas.{the_tried_run}
-use Rattle.run_laws.proofs.the_tried_run.Goals as goal
-
-pub returns : goal.returns
-returns c = the_tried_run

@@ -1,0 +1,4 @@
+pub mod FactLemmas
+pub mod ListLemmas
+pub mod BootLemmas
+pub mod AtNodeLemmas

@@ -1,0 +1,286 @@
+-- Who told Forgotten to a neighbour beyond has forgotten.
+use Rattle.std.proofs.Common.{◌≡◌, ◌≢◌, ℕ, ◌⊎◌, Bool, true, false, List, [], ◌∷◌, ◌++◌, map, Option, Some, None, inl, inr, refl, sym, ap, subst, ◌∙◌, append-nil}
+use Rattle.std.specs.List.{AllByRecursion, list_any}
+use Rattle.std.proofs.lemmas.Bool.{cond_both}
+use Rattle.agreement.specs.Events.{Forest, Event, Sealed, Decided, Quiet, Answer_read_only, Drop, Forget, Send_ack, Send_forgotten, Beyond, exit, learned, Has, Knows, Lawful}
+use Rattle.agreement.proofs.Invariant.{Inv}
+use Rattle.node_rules.specs.Data.{BranchId, Input, Kind, Msg, RedoRecord, Standing, Place, Post}
+use Rattle.node_rules.specs.Data.decisions
+use Rattle.node_rules.specs.Data.inputs
+use Rattle.node_rules.specs.Data.kinds
+use Rattle.node_rules.specs.Data.records
+use Rattle.node_rules.specs.Inputs.{Came}
+use Rattle.node_rules.specs.Kept.{Kept, Deed}
+use Rattle.node_rules.specs.Turn.{Is_gone, stand_of, stamped, turn_of, heard, deed_of, kind_turn, ack_turn}
+use Rattle.run_rules.specs.Data.{Happening, Turn, Took}
+use Rattle.run_rules.specs.Data.happenings
+use Rattle.run_base_laws.specs.EventRows.{RowsAre, HasRow, IsDone}
+use Rattle.run_rules.specs.Facts.{Facts, first_facts, place_at, node_at, facts_after}
+use Rattle.run_rules.specs.Lawful.{IsOwed, MayHappen, MayTurn, Comes, History, IsLawfulRun, facts_at}
+use Rattle.run_base_laws.specs.NodeLaws.{unacked_row}
+use Rattle.run_base_laws.specs.RunEvents.{with_event, record_event, wrote_event, message_event, with_messages, leave_event, has_left, with_leaver, with_leavers, with_record, with_exits, lives_at, events_after, events_from, events_of}
+use Rattle.run_rules.specs.Trail.{is_quiet}
+use Rattle.run_base_laws.proofs.EventsStandLemmas.{nodes_are_as_events, run_stands}
+use Rattle.run_branch_laws.proofs.GoneLemmas.{kept_not_gone, gone_are_done}
+use Rattle.run_branch_laws.proofs.KeptRowLemmas.{any_map}
+use Rattle.run_base_laws.proofs.LaterLemmas.{Added, exit_later, has_later, turn_added}
+use Rattle.run_base_laws.proofs.LawfulLemmas.{serves}
+use Rattle.run_rules.proofs.ListLemmas.{all_weaker, all_map}
+use Rattle.run_base_laws.proofs.NodesStandLemmas.{stored_rows}
+use Rattle.run_base_laws.proofs.SaidLemmas.{came_said}
+use Rattle.run_base_laws.proofs.StoredLemmas.{records_are_kept}
+use Rattle.run_branch_laws.proofs.TowardLemmas.{heard_rows}
+use Rattle.tree_laws.specs.Forests.{forest_of}
+use Rattle.tree_laws.proofs.DecidedRowLemmas.{IsAlone}
+use Rattle.tree_laws.proofs.PrefixLemmas.{so_far, f_at, e_at, one_on, more_on}
+use Rattle.tree_site_laws.proofs.TimeLemmas.{Part, part_of, part_lawful, may_of, exit_on, keep_on}
+use Rattle.commit_forget_laws.specs.RowLaws.{is_ack, IsSealed}
+use Rattle.commit_forget_laws.proofs.EventLemmas.{happening_added, part_allowed, part_inv, learn_knows}
+use Rattle.commit_forget_laws.proofs.ForgetRunLemmas.{forgets_come_from_toward}
+use Rattle.settle_laws.specs.ForgottenLaws.{TellersHaveForgotten, TowardHasForgotten}
+use Rattle.settle_laws.proofs.DecidedStayLemmas.{decided_at}
+use Rattle.settle_laws.proofs.ForgotSayLemmas.{ForgottenSo, AllSo, Forgets, StepSo, step_so, AckedSo, AckSo, ack_so}
+
+ack_is : (kind : Kind) → is_ack kind ≡ true → kind ≡ kinds.Ack
+ack_is kinds.Ack is = refl
+ack_is _ is = absurd cc
+
+heard_stand : (k : Kept) (i : Input) (b : BranchId) → stand_of (heard k i) b ≡ stand_of k b
+unfolding stand_of
+heard_stand k (inputs.Message m) b = refl
+heard_stand k (inputs.Call n s) b = refl
+heard_stand k (inputs.GiveUp n) b = refl
+heard_stand k inputs.Reco b = refl
+
+-- ---- whence a Send_forgotten is
+
+module _ (z q : BranchId) where
+  abbrev Told : List Event → Type 0
+  Told t = Has (Send_forgotten z q) t
+
+  one_back : (e : Event) (t : List Event) → (e ≡ Send_forgotten z q → ⊥) → Told (e ∷ t) → Told t
+  one_back e t other (inl here) = absurd (other here)
+  one_back e t other (inr there) = there
+
+  module _ (Q : BranchId → BranchId → Type 0) where
+    message_back : (from to : BranchId) (scn : ℕ) (kind : Kind) (t : List Event) → ForgottenSo Q from to kind → Told (with_event (message_event from to scn kind) t) → Told t ⊎ Q z q
+    message_back from to scn kinds.Forgotten t so (inl here) = (let me : from ≡ z = cc in let it : to ≡ q = cc in inr (subst (λ b. Q z b) it (subst (λ b. Q b to) me so)))
+    message_back from to scn kinds.Forgotten t so (inr there) = inl there
+    message_back from to scn kinds.Rollback t so has = inl (one_back _ t (λ no. absurd cc) has)
+    message_back from to scn kinds.RolledBack t so has = inl (one_back _ t (λ no. absurd cc) has)
+    message_back from to scn kinds.Prepared t so has = inl (one_back _ t (λ no. absurd cc) has)
+    message_back from to scn kinds.CommitPoint t so has = inl (one_back _ t (λ no. absurd cc) has)
+    message_back from to scn (kinds.Committed n) t so has = inl (one_back _ t (λ no. absurd cc) has)
+    message_back from to scn kinds.Ack t so has = inl (one_back _ t (λ no. absurd cc) has)
+    message_back from to scn _ t so has = inl has
+
+    messages_back : (ms : List Msg) (t : List Event) → AllByRecursion (λ m. ForgottenSo Q m.from m.to m.kind) ms → Told (with_messages ms t) → Told t ⊎ Q z q
+    messages_back [] t all has = inl has
+    messages_back (m ∷ ms) t all has = elim (messages_back ms (with_event (message_event m.from m.to m.scn m.kind) t) all.1 has) [
+      | inl earlier ↦ message_back m.from m.to m.scn m.kind t all.0 earlier
+      | inr later ↦ inr later
+    ]
+
+  leave_plain : (c : BranchId) (sent : List Msg) → leave_event sent c ≡ Send_forgotten z q → ⊥
+  leave_plain c sent = cond_both (list_any (is_quiet c) sent) (Answer_read_only c) (Drop c) (λ e. e ≡ Send_forgotten z q → ⊥) (λ quiet it. absurd cc) (λ other it. absurd cc)
+
+  leavers_back : (after : List BranchId) (sent : List Msg) (cs : List BranchId) (t : List Event) → Told (with_leavers after sent cs t) → Told t
+  leavers_back after sent [] t has = has
+  leavers_back after sent (c ∷ cs) t has =
+      cond_both (has_left after t c) (leave_event sent c ∷ t) t (λ xs. Told xs → Told t) (λ left. one_back (leave_event sent c) t (leave_plain c sent)) (λ stays it. it) (leavers_back after sent cs (with_leaver after sent c t) has)
+
+  record_back : (n : ℕ) (r : RedoRecord) (t : List Event) → Told (with_event (record_event n r) t) → Told t
+  record_back n (records.Table y) t has = one_back _ t (λ no. absurd cc) has
+  record_back n (records.Sealed r) t has = one_back _ t (λ no. absurd cc) has
+  record_back n (records.Decided r) t has = one_back _ t (λ no. absurd cc) has
+  record_back n (records.Ended c d) t has = one_back _ t (λ no. absurd cc) has
+  record_back n (records.Forced c d given) t has = one_back _ t (λ no. absurd cc) has
+  record_back n (records.Met c d mixed) t has = one_back _ t (λ no. absurd cc) has
+  record_back n (records.Forgot c) t has = one_back _ t (λ no. absurd cc) has
+  record_back n _ t has = has
+
+  wrote_back : (n : ℕ) (w : Option RedoRecord) (t : List Event) → Told (with_event (wrote_event n w) t) → Told t
+  wrote_back n None t has = has
+  wrote_back n (Some r) t has = record_back n r t has
+
+so_weaker : (P Q : BranchId → BranchId → Type 0) → ((a b : BranchId) → P a b → Q a b) → (a b : BranchId) (kind : Kind) → ForgottenSo P a b kind → ForgottenSo Q a b kind
+so_weaker P Q each a b kinds.Forgotten so = each a b so
+so_weaker P Q each a b _ so = tt
+
+module _ (t : History) (whole : IsLawfulRun t) where
+  abbrev p : Forest
+  p = forest_of t
+
+  -- what who told so has
+  abbrev pub Has_or_quiet : List Event → BranchId → BranchId → Type 0
+  Has_or_quiet e f y = Beyond p y f → (exit e y ≡ Some Quiet) ⊎ Has (Forget f) e
+
+  abbrev pub AllHave : List Event → Type 0
+  AllHave e = (f y : BranchId) → Has (Send_forgotten f y) e → Has_or_quiet e f y
+
+  module _ (hs : List Happening) (h : Happening) (rest : List Happening) (is : hs ++ h ∷ rest ≡ t.trace) (now : AllHave (e_at t hs)) where
+    abbrev f : Facts
+    f = f_at t hs
+
+    abbrev e : List Event
+    e = e_at t hs
+
+    abbrev s : History
+    s = so_far t hs
+
+    part : Part t whole hs
+    part = part_of t whole hs h rest is
+
+    lawful : IsLawfulRun s
+    lawful = part_lawful t whole hs part
+
+    i : Inv p e
+    i = part_inv t whole hs part
+
+    abbrev events_h : Happening → List Event
+    events_h y = events_after t.places t.commands f y e
+
+    old : (y : Happening) (a b : BranchId) → Has (Send_forgotten a b) e → Has_or_quiet (events_h y) a b
+    old y a b has edge = elim (now a b has edge) [
+      | inl quiet ↦ inl (exit_on t.places t.commands f y e b Quiet quiet)
+      | inr forgot ↦ inr (has_later (Forget a) (happening_added t.places t.commands f y e) forgot)
+    ]
+
+    -- a branch that is gone, and that one acknowledged to which it told the commit
+    gone_forgot : (k : Kept) (a b : BranchId) → node_at f a.node ≡ Some k → stand_of k a ≡ Is_gone → Has (Send_ack b a) e → Has_or_quiet e a b
+    gone_forgot k a b up gone acked edge = elim (i.acks b a acked edge) [
+      | inr quiet ↦ inl quiet
+      | inl learns ↦ elim (subst (λ c. Knows e c learns.0.0) edge.next (learn_knows p e (part_allowed t whole hs part) b learns.0.0 learns.0.1)) [
+        | inl decided ↦ by_row (decided_at t whole a hs part learns.0.0 decided) decided
+        | inr learnt ↦ (let sealed = i.learned_sealed a (decisions.Commit learns.0.0) learnt in
+            elim (gone_are_done s lawful a k up gone sealed.0 sealed.1) [ inl rolled ↦ absurd (cc (learnt, rolled)) | inr forgot ↦ inr forgot ])
+      ]
+    ]
+      where
+        by_row : HasRow a (stored_rows f a.node) ⊎ (IsDone e a ⊎ IsAlone p e a) → {n : ℕ} → exit e a ≡ Some (Decided n) → (exit e b ≡ Some Quiet) ⊎ Has (Forget a) e
+        by_row (inl row) decided =
+            absurd (kept_not_gone k a (sym (any_map a unacked_row (λ x. refl) k.stored.durable.kept) ∙ subst (λ x. HasRow a x.durable.kept) (sym (records_are_kept s lawful a.node k up)) row) gone)
+        by_row (inr (inl (inl rolled))) decided = (let sealed = (i.learned_sealed a decisions.Rollback rolled).1 in absurd (cc (sealed, decided)))
+        by_row (inr (inl (inr forgot))) decided = inr forgot
+        by_row (inr (inr alone)) decided = inl (alone b edge)
+
+    module _ (u : Turn) (k : Kept) (may : MayTurn t.places f u k) where
+      abbrev place : Place
+      place = place_at t.places u.node
+
+      abbrev d : Deed
+      d = deed_of place k u.input
+
+      abbrev g : Facts
+      g = facts_after t.places t.commands f (happenings.Turn u)
+
+      abbrev after : List Event
+      after = events_h (happenings.Turn u)
+
+      abbrev Q : BranchId → BranchId → Type 0
+      Q a b = Has_or_quiet after a b
+
+      later : (a b : BranchId) → Has_or_quiet e a b → Q a b
+      later a b have edge = elim (have edge) [
+        | inl quiet ↦ inl (exit_on t.places t.commands f (happenings.Turn u) e b Quiet quiet)
+        | inr forgot ↦ inr (has_later (Forget a) (happening_added t.places t.commands f (happenings.Turn u) e) forgot)
+      ]
+
+      recorded : u.wrote ≡ d.wrote → (a b : BranchId) → d.wrote ≡ Some (records.Forgot a) → Q a b
+      recorded wrote a b forgot edge =
+          inr (has_later (Forget a) (turn_added f g u e) (subst (λ w. Has (Forget a) (with_event (wrote_event u.node w) e)) (sym (wrote ∙ forgot)) (inl refl)))
+
+      module _ (wrote : u.wrote ≡ d.wrote) where
+        by_step : ((from to : BranchId) → Came u.input from to kinds.Ack → ⊥) → AllSo Q d.says
+        by_step never =
+            all_weaker (λ (x : Post). ForgottenSo (Forgets place u.input never d.wrote) x.from x.to x.kind) (λ (x : Post). ForgottenSo Q x.from x.to x.kind)
+            (λ x so. so_weaker (Forgets place u.input never d.wrote) Q (recorded wrote) x.from x.to x.kind so) d.says (step_so place u.input never (serves t.places f u k may).step)
+
+        module _ (m : Msg) (it : u.input ≡ inputs.Message m) (kind : m.kind ≡ kinds.Ack) where
+          abbrev k0 : Kept
+          k0 = heard k (inputs.Message m)
+
+          rows : RowsAre e k0.stored.durable.kept
+          rows = subst (RowsAre e) (sym (heard_rows k (inputs.Message m))) (nodes_are_as_events s lawful u.node k may.up).1
+
+          came : Came u.input m.from m.to kinds.Ack
+          came = record { scn = m.scn; is = it ∙ ap inputs.Message (ap (λ x. record { from = m.from; to = m.to; scn = m.scn; kind = x }) kind) }
+
+          acked : Has (Send_ack m.from m.to) e
+          acked = came_said f e (run_stands s lawful).2 k u.node u.input u.took may.comes m.from m.to kinds.Ack came
+
+          here : m.to.node ≡ u.node
+          here = by u.took (subst (λ x. Comes f k u.node x u.took) it may.comes)
+            where
+              by : (o : Option Took) → Comes f k u.node (inputs.Message m) o → m.to.node ≡ u.node
+              by None none = absurd none
+              by (Some x) comes = comes.1.here
+
+          so : (a b : BranchId) → AckedSo e k0 m.from m.to rows d.wrote a b → Q a b
+          so a b (inl forgot) = recorded wrote a b forgot
+          so a b (inr (inl forgot)) = λ edge. inr (has_later (Forget a) (happening_added t.places t.commands f (happenings.Turn u) e) forgot)
+          so a b (inr (inr gone)) =
+              subst (λ x. Q x b) (sym gone.1) (subst (λ x. Q m.to x) (sym gone.2)
+              (later m.to m.from (gone_forgot k m.to m.from (subst (λ n. node_at f n ≡ Some k) (sym here) may.up) (sym (heard_stand k (inputs.Message m) m.to) ∙ gone.0) acked)))
+
+          by_ack : AllSo Q d.says
+          by_ack =
+              let plain : AckSo e k0 m.from m.to rows (ack_turn k0 m.from m.to (stand_of k0 m.to)) = ack_so e k0 m.from m.to rows in
+              let same_turn : AckSo e k0 m.from m.to rows (kind_turn place k0 m.from m.to m.kind (stand_of k0 m.to)) = subst (λ x. AckSo e k0 m.from m.to rows (kind_turn place k0 m.from m.to x (stand_of k0 m.to))) (sym kind) plain in
+              let its : AckSo e k0 m.from m.to rows d = subst (λ x. AckSo e k0 m.from m.to rows (deed_of place k x)) (sym it) same_turn in
+              all_weaker (λ (x : Post). ForgottenSo (AckedSo e k0 m.from m.to rows d.wrote) x.from x.to x.kind) (λ (x : Post). ForgottenSo Q x.from x.to x.kind)
+              (λ x y. so_weaker (AckedSo e k0 m.from m.to rows d.wrote) Q so x.from x.to x.kind y) d.says its
+
+        by_input : (x : Input) → u.input ≡ x → AllSo Q d.says
+        by_input (inputs.Message m) it = by_kind (is_ack m.kind) refl
+          where
+            by_kind : (q : Bool) → is_ack m.kind ≡ q → AllSo Q d.says
+            by_kind true ack = by_ack m it (ack_is m.kind ack)
+            by_kind false other = by_step (λ from to came. (let both : inputs.Message m ≡ inputs.Message (record { from = from; to = to; scn = came.scn; kind = kinds.Ack }) = sym it ∙ came.is in
+                let one : m ≡ record { from = from; to = to; scn = came.scn; kind = kinds.Ack } = cc in
+                let yes : is_ack m.kind ≡ true = ap (λ (x : Msg). is_ack x.kind) one in absurd (cc (yes, other))))
+        by_input (inputs.Call n c) it = by_step (λ from to came. (let no = came.is in absurd (cc (no, it))))
+        by_input (inputs.GiveUp n) it = by_step (λ from to came. (let no = came.is in absurd (cc (no, it))))
+        by_input inputs.Reco it = by_step (λ from to came. (let no = came.is in absurd (cc (no, it))))
+
+      sent_so : (cut : Bool) → IsOwed place k u.input u.wrote u.sent cut → AllByRecursion (λ (m : Msg). ForgottenSo Q m.from m.to m.kind) u.sent
+      unfolding turn_of
+      sent_so true owed = subst (AllByRecursion (λ (m : Msg). ForgottenSo Q m.from m.to m.kind)) (sym owed.1) tt
+      sent_so false owed = subst (AllByRecursion (λ (m : Msg). ForgottenSo Q m.from m.to m.kind)) (sym owed.1) (all_map (λ (m : Msg). ForgottenSo Q m.from m.to m.kind) (stamped d.after.clock) d.says (by_input owed.0 u.input refl))
+
+      turn_have : AllHave after
+      turn_have a b has = elim (messages_back a b Q u.sent (with_exits f g u e) (sent_so u.cut may.owed) has) [
+        | inl before ↦ old (happenings.Turn u) a b (wrote_back a b u.node u.wrote e (leavers_back a b (lives_at (node_at g u.node)) u.sent (lives_at (node_at f u.node)) (with_record u e) before))
+        | inr said ↦ said
+      ]
+
+    have_by : (y : Happening) → MayHappen t.places t.commands f y → AllHave (events_h y)
+    have_by (happenings.Turn u) may = turn_have u may.0 may.1
+    have_by (happenings.Stopped m) may = λ a b has. old (happenings.Stopped m) a b (leavers_back a b [] [] (lives_at (node_at f m)) e has)
+    have_by (happenings.Started m boot) may = λ a b has. old (happenings.Started m boot) a b has
+    have_by (happenings.Begun c) may = λ a b has. old (happenings.Begun c) a b has
+    have_by (happenings.Cut x y) may = λ a b has. old (happenings.Cut x y) a b has
+    have_by (happenings.Join x y) may = λ a b has. old (happenings.Join x y) a b has
+    have_by (happenings.Lost c) may = λ a b has. old (happenings.Lost c) a b has
+
+    have_on : AllHave (e_at t (hs ++ h ∷ []))
+    have_on = subst AllHave (sym (more_on t hs h)) (have_by h (may_of t whole hs h rest is))
+
+  first_have : AllHave (e_at t [])
+  unfolding events_from
+  first_have a b none = absurd none
+
+  pub all_have : AllHave (events_of t)
+  all_have = keep_on t whole (λ hs. AllHave (e_at t hs)) have_on [] t.trace (record { rest = []; is = append-nil t.trace }) first_have
+
+pub tellers_have_forgotten : TellersHaveForgotten
+tellers_have_forgotten t whole f y has edge = all_have t whole f y has edge
+
+pub toward_has_forgotten : TowardHasForgotten
+toward_has_forgotten t whole y has sealed =
+    let i : Inv (forest_of t) (events_of t) = part_inv t whole t.trace (record { rest = []; is = append-nil t.trace }) in
+    let place = i.sealed_in y sealed.0 sealed.1 in
+    elim (all_have t whole ((forest_of t).toward y) y (forgets_come_from_toward t whole y has sealed) (record { member = place.0; not_site = place.1; next = refl })) [
+      | inl quiet ↦ (let it = sealed.1 in absurd (cc (quiet, it)))
+      | inr forgot ↦ forgot
+    ]

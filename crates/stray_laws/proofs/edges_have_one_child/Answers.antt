@@ -1,5 +1,0 @@
-use Rattle.stray_laws.proofs.EdgeLemmas.{edges_have_one_child}
-use Rattle.stray_laws.proofs.edges_have_one_child.Goals as goal
-
-pub returns : goal.returns
-returns c = edges_have_one_child

@@ -1,5 +1,0 @@
-use Rattle.stray_laws.proofs.RootAskLemmas.{undisturbed_branches_are_asked}
-use Rattle.stray_laws.proofs.undisturbed_branches_are_asked.Goals as goal
-
-pub returns : goal.returns
-returns c = undisturbed_branches_are_asked

@@ -1,5 +1,0 @@
-use Rattle.told_laws.proofs.TellLemmas.{commits_are_told}
-use Rattle.told_laws.proofs.commits_are_told.Goals as goal
-
-pub returns : goal.returns
-returns c = commits_are_told

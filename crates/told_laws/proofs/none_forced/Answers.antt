@@ -1,5 +1,0 @@
-use Rattle.told_laws.proofs.BeforeLemmas.{none_forced}
-use Rattle.told_laws.proofs.none_forced.Goals as goal
-
-pub returns : goal.returns
-returns c = none_forced

@@ -1,5 +1,0 @@
-use Rattle.toward_laws.proofs.NeighborLemmas.{seals_name_toward}
-use Rattle.toward_laws.proofs.seals_name_toward.Goals as goal
-
-pub returns : goal.returns
-returns c = seals_name_toward

@@ -1,5 +1,0 @@
-use Rattle.toward_laws.proofs.TriedDroppedLemmas.{the_tried_dropped}
-use Rattle.toward_laws.proofs.the_tried_dropped.Goals as goal
-
-pub returns : goal.returns
-returns c = the_tried_dropped

@@ -1,3 +1,0 @@
-pub mod NeighborLaws
-pub mod TriedNeighbors
-pub mod TriedDropped

@@ -1,5 +1,0 @@
-use Rattle.trail_laws.proofs.SeenRunLemmas.{decisions_cover}
-use Rattle.trail_laws.proofs.decisions_cover.Goals as goal
-
-pub returns : goal.returns
-returns c = decisions_cover

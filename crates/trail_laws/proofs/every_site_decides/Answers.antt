@@ -1,5 +1,0 @@
-use Rattle.trail_laws.proofs.SeenRunLemmas.{every_site_decides}
-use Rattle.trail_laws.proofs.every_site_decides.Goals as goal
-
-pub returns : goal.returns
-returns c = every_site_decides

@@ -1,0 +1,356 @@
+-- What a step of a node makes of the children of its live branches: those that they had, with those to which they send Execs.
+use Rattle.std.proofs.Common.{◌≡◌, ℕ, zero, suc, ◌+◌, ◌-◌, ◌==◌, ◌≤◌, ◌&&◌, ◌⊎◌, Bool, true, false, if◌then◌else◌, List, [], ◌∷◌, ◌++◌, map, length, option_map, arith, Option, Some, None, inl, inr, refl, sym, ap, subst, ◌∙◌}
+use Rattle.std.proofs.lemmas.List.{map-append, length-map}
+use Rattle.std.proofs.lemmas.Bool.{or_left, or_right}
+use Rattle.tran_ids.proofs.BranchLemmas.{equal_from_same, same_from_equal}
+use Rattle.tran_ids.proofs.ListedLemmas.{item_is, put_found}
+use Rattle.commit_forget.specs.declared.next.Next.TheVariants as nexts
+use Rattle.reco.specs.declared.post.Post.{Post}
+use Rattle.session_tree.specs.Live.{children_of, peer_of, new_edge, fresh_live}
+use Rattle.session_tree.specs.Tree.{step as step_from}
+use Rattle.node_rules.specs.Data.{Stmt, Answer, BranchId, Edge, Kind, Live, Act, Place, Input}
+use Rattle.node_rules.specs.Data.acts
+use Rattle.node_rules.specs.Data.kinds
+use Rattle.node_rules.specs.Data.phases
+use Rattle.node_rules.specs.declared.session.Session.{Session}
+use Rattle.node_rules.specs.Words.{same, numbered, item_at, put_item, drop_item, set_numbered}
+use Rattle.node_rules.specs.Inputs.{Came}
+use Rattle.node_rules.specs.Kept.{Kept, Branch, Deed, live_id, branch_at, post, to_one, to_each}
+use Rattle.node_rules.specs.Names.{passed_on}
+use Rattle.node_rules.specs.Statement.{ran, after_run}
+use Rattle.node_rules.specs.Calls.{answer_says, exec_to, next_child, strength_of, with_edge, hears_reply}
+use Rattle.node_rules.specs.Client.{new_root, fresh_root}
+use Rattle.node_rules.specs.Commit.{beyond}
+use Rattle.node_rules.specs.LiveBranches.{EachLive}
+use Rattle.node_rules.specs.Prepare.{path_of, site_neighbors, has_voted, collecting, with_comment, voted, ready, act_turn}
+use Rattle.node_rules.specs.Recovery.{kept_told}
+use Rattle.node_rules.specs.Turn.{stamped}
+use Rattle.node_rules.proofs.LiveLemmas.{each_changed, each_left, each_begun, each_same, branch_parts}
+use Rattle.node_rules.proofs.StepLemmas.{acting_so}
+use Rattle.node_rules.proofs.Steps as steps
+use Rattle.node_rules.proofs.Steps.{Step, Asked, Acting, Says}
+use Rattle.run_rules.specs.Births.{Born}
+use Rattle.run_rules.specs.Branches.{is_among, with_once}
+use Rattle.run_rules.specs.Trail.{is_exec, children_after}
+use Rattle.run_base_laws.proofs.KindSayLemmas.{OfDecisions, AllSay, one_says, each_says, prepares_say, told_says, passes_say, askings_say}
+use Rattle.run_rules.proofs.ListLemmas.{all_append}
+use Rattle.run_base_laws.proofs.NeighborLemmas.{News, reply_is}
+use Rattle.run_base_laws.proofs.NeighborStepLemmas.{begun_news, pends_news, lets_news, acked_news}
+use Rattle.tree_site_laws.proofs.RestLemmas.{collected}
+
+-- ---- receivers of Execs
+
+-- with the receivers of the Execs that a branch sends
+abbrev pub called_by : BranchId → List BranchId → List Post → List BranchId
+called_by b cs [] = cs
+called_by b cs (m ∷ ms) = called_by b (if same m.from b && is_exec m.kind then with_once cs m.to else cs) ms
+
+pub stamped_calls : (b : BranchId) (scn : ℕ) (cs : List BranchId) (ps : List Post) → children_after b cs (map (stamped scn) ps) ≡ called_by b cs ps
+stamped_calls b scn cs [] = refl
+stamped_calls b scn cs (p ∷ ps) = stamped_calls b scn (if same p.from b && is_exec p.kind then with_once cs p.to else cs) ps
+
+-- no Exec
+abbrev pub IsStill : Kind → Type 0
+IsStill kind = is_exec kind ≡ false
+
+still_decisions : OfDecisions IsStill
+still_decisions = record { committed = λ n. refl; rolled_back = refl; rollback = refl; in_doubt = refl; ack = refl; forgotten = refl; ask = refl }
+
+pub still_calls : (b : BranchId) (cs : List BranchId) (ps : List Post) → AllSay IsStill ps → called_by b cs ps ≡ cs
+still_calls b cs [] all = refl
+still_calls b cs (p ∷ ps) all = ap (λ q. called_by b (if same p.from b && q then with_once cs p.to else cs) ps) all.0 ∙ by (same p.from b) (still_calls b cs ps all.1)
+  where
+    by : (q : Bool) → called_by b cs ps ≡ cs → called_by b (if q && false then with_once cs p.to else cs) ps ≡ cs
+    by true rest = rest
+    by false rest = rest
+
+-- a child of a number is among them
+known_child : (cs : List BranchId) (i : ℕ) (c : BranchId) → numbered cs i ≡ Some c → is_among c cs ≡ true
+known_child cs zero c is = absurd cc
+known_child [] (suc i) c is = absurd cc
+known_child (d ∷ cs) (suc zero) c is = let it : Some d ≡ Some c = is in or_left (same d c) (is_among c cs) (same_from_equal d c (let here : d ≡ c = cc in here))
+known_child (d ∷ cs) (suc (suc i)) c is = or_right (same d c) (is_among c cs) (known_child cs (suc i) c is)
+
+once_known : (cs : List BranchId) (c : BranchId) → is_among c cs ≡ true → with_once cs c ≡ cs
+once_known cs c is = ap (λ q. if q then cs else cs ++ c ∷ []) is
+
+once_new : (cs : List BranchId) (c : BranchId) → is_among c cs ≡ false → with_once cs c ≡ cs ++ c ∷ []
+once_new cs c is = ap (λ q. if q then cs else cs ++ c ∷ []) is
+
+-- a child behind the others has the next number
+last_numbered : (es : List Edge) (e : Edge) → numbered (es ++ e ∷ []) (length es + 1) ≡ Some e
+last_numbered es e = subst (λ n. numbered (es ++ e ∷ []) n ≡ Some e) (let one : suc (length es) ≡ length es + 1 = omega arith in one) (by es)
+  where
+    by : (es : List Edge) → numbered (es ++ e ∷ []) (suc (length es)) ≡ Some e
+    by [] = refl
+    by (x ∷ es) = by es
+
+-- an edge that is changed keeps its child
+set_peers : (es : List Edge) (i : ℕ) (e x : Edge) → numbered es i ≡ Some e → x.peer ≡ e.peer → map (λ (y : Edge). y.peer) (set_numbered es i x) ≡ map (λ (y : Edge). y.peer) es
+set_peers es zero e x at same = refl
+set_peers [] (suc i) e x at same = refl
+set_peers (y ∷ es) (suc zero) e x at same = (let it : Some y ≡ Some e = at in let here : y ≡ e = cc in ap (λ p. p ∷ map (λ (z : Edge). z.peer) es) (same ∙ sym (ap (λ (z : Edge). z.peer) here)))
+set_peers (y ∷ es) (suc (suc i)) e x at same = ap (λ ps. y.peer ∷ ps) (set_peers es (suc i) e x at same)
+
+heard_peers : (from : BranchId) (v : _) (es : List Edge) → map (λ (y : Edge). y.peer) (map (has_voted from v) es) ≡ map (λ (y : Edge). y.peer) es
+heard_peers from v [] = refl
+heard_peers from v (e ∷ es) = grind (arith, heard_peers from v es)
+
+module _ (k0 : Kept) (p : Place) (input : Input) (Unborn : BranchId → Type 0) where
+  -- a branch that begins was not live
+  abbrev pub NotThere : Born → Type 0
+  NotThere x = (item_at live_id k0.lives x.me ≡ None) × Unborn x.me
+
+  -- The children and the parent of a live branch before the deed: a branch that begins by then is a root.
+  pub record Same (l : Live) : Type 0 where
+    pub old : (z : Live) → item_at live_id k0.lives l.me ≡ Some z → (children_of l ≡ children_of z) × (l.parent ≡ z.parent)
+    pub new : item_at live_id k0.lives l.me ≡ None → l.parent ≡ None
+
+  -- A branch that begins below another, which is told so.
+  pub record IsOpened (says : List Post) (l : Live) : Type 0 where
+    pub parent : BranchId
+    pub edge : ℕ
+    pub root : BranchId
+    pub depth : ℕ
+    pub to : BranchId
+    pub strength : ℕ
+    pub came : Came input parent to (kinds.Open edge root depth)
+    pub told : says ≡ post l.me parent (kinds.Opened edge strength)
+    pub is_parent : l.parent ≡ Some parent
+    pub is_root : l.root ≡ root
+    pub none : children_of l ≡ []
+    pub unborn : Unborn l.me
+    pub working : l.phase ≡ phases.Working
+    pub high : 65 ≤ l.me.session
+
+  -- And after it.
+  pub record Grows (says : List Post) (l : Live) : Type 0 where
+    pub old : (z : Live) → item_at live_id k0.lives l.me ≡ Some z → (children_of l ≡ called_by l.me (children_of z) says) × (l.parent ≡ z.parent)
+    pub new : item_at live_id k0.lives l.me ≡ None → (l.parent ≡ None) ⊎ IsOpened says l
+
+  abbrev pub Sames : Kept → Type 0
+  Sames k = EachLive (λ l w. Same l) k.lives []
+
+  -- live branches after these messages, and no other sends an Exec
+  abbrev pub Leaves : List Post → List Live → Type 0
+  Leaves says ls = EachLive (λ l w. Grows says l) ls [] × ((b : BranchId) (cs : List BranchId) → item_at live_id ls b ≡ None → called_by b cs says ≡ cs)
+
+  abbrev pub Grown : Deed → Type 0
+  Grown d = Leaves d.says d.after.lives
+
+  -- the branch whose Opened comes is not a child yet
+  abbrev pub NewChild : Type 0
+  NewChild = (z : Live) → item_at live_id k0.lives z.me ≡ Some z → (from : BranchId) (edge strength : ℕ) → Came input from z.me (kinds.Opened edge strength) → (edge == length z.edges + 1) ≡ true → is_among from (children_of z) ≡ false
+
+  stay : (says : List Post) → AllSay IsStill says → (y : Live) → Same y → Grows says y
+  stay says still y is = record { old = λ z found. (let was = is.old z found in (was.0 ∙ sym (still_calls y.me (children_of z) says still), was.1)); new = λ none. inl (is.new none) }
+
+  like : (x y : Live) → y.me ≡ x.me → children_of y ≡ children_of x → y.parent ≡ x.parent → Same x → Same y
+  like x y me kids parent is = record {
+    old = λ z found. (let was = is.old z (subst (λ b. item_at live_id k0.lives b ≡ Some z) me found) in (kids ∙ was.0, parent ∙ was.1));
+    new = λ none. parent ∙ is.new (subst (λ b. item_at live_id k0.lives b ≡ None) me none);
+  }
+
+  module _ (k : Kept) (now : Sames k) where
+    branch : (x : Branch) → branch_at k x.live.me ≡ Some x → Same x.live
+    branch x live = now.each x.live.me x.live (branch_parts k x.live.me x live).0
+
+    asked : {x : Branch} {s : Stmt} {given : ℕ} → Asked k input x s given → Same x.live
+    asked (steps.By_call n x s call rows has code live) = branch x live
+    asked (steps.By_exec x from call given advice s came live runs) = like x.live _ refl refl refl (branch x live)
+
+    acting : {l : Live} {b : Bool} {a : Act} → Acting k input l b a → Same l
+    acting why =
+        acting_so Same (λ l comment b is. like l (collecting (with_comment l comment) b) refl (collected (λ (e : Edge). e.peer) (λ e. refl) l.edges) refl is)
+        (λ l from v is. like l (voted l from v) refl (heard_peers from v l.edges) refl is) (λ b l found. now.each b l found) why
+
+    quiet : (says : List Post) → AllSay IsStill says → Leaves says k.lives
+    quiet says still = (each_same (λ l w. Same l) (λ l w. Grows says l) k.lives [] now (λ y v live any is. stay says still y is), (λ b cs none. still_calls b cs says still))
+
+    put : (says : List Post) → AllSay IsStill says → (l : Live) → Same l → Leaves says (put_item live_id k.lives l)
+    put says still l is = (each_changed (λ l w. Same l) (λ l w. Grows says l) k.lives [] now l (stay says still l is) (λ y v live other is. stay says still y is), (λ b cs none. still_calls b cs says still))
+
+    left : (says : List Post) → AllSay IsStill says → (b : BranchId) → Leaves says (drop_item live_id k.lives b)
+    left says still b = (each_left (λ l w. Same l) (λ l w. Grows says l) k.lives [] now b (λ y v live other is. stay says still y is), (λ b cs none. still_calls b cs says still))
+
+    answer_still : (x : Branch) (a : Answer) (o : Option BranchId) → AllSay IsStill (answer_says x a o)
+    answer_still x a None = tt
+    answer_still x a (Some parent) = (refl, tt)
+
+    -- ---- a call of a child
+
+    other_calls : (ss : List Session) (x : Branch) (i : ℕ) (s : Stmt) (given : ℕ) (o : Option BranchId) (b : BranchId) (cs : List BranchId) → same x.live.me b ≡ false → called_by b cs (exec_to ss x i s given o) ≡ cs
+    other_calls ss x i s given None b cs other = refl
+    other_calls ss x i s given (Some c) b cs other = ap (λ q. if q && true then with_once cs c else cs) other
+
+    own_calls : (ss : List Session) (x : Branch) (i : ℕ) (s : Stmt) (given : ℕ) (c : BranchId) (cs : List BranchId) → called_by x.live.me cs (exec_to ss x i s given (Some c)) ≡ with_once cs c
+    own_calls ss x i s given c cs = ap (λ q. if q && true then with_once cs c else cs) (same_from_equal x.live.me x.live.me refl)
+
+    calls : (x : Branch) (i : ℕ) (s : Stmt) (given : ℕ) (ss : List Session)
+        → ((z : Live) → item_at live_id k0.lives x.live.me ≡ Some z → (children_of x.live ≡ called_by x.live.me (children_of z) (exec_to ss x i s given (peer_of x.live i))) × (x.live.parent ≡ z.parent))
+        → (item_at live_id k0.lives x.live.me ≡ None → x.live.parent ≡ None)
+        → Leaves (exec_to ss x i s given (peer_of x.live i)) (put_item live_id k.lives x.live)
+    calls x i s given ss old new = (
+      each_changed (λ l w. Same l) (λ l w. Grows (exec_to ss x i s given (peer_of x.live i)) l) k.lives [] now x.live (record { old = old; new = λ none. inl (new none) })
+          (λ y v live other is. record {
+            old = λ z found. (let was = is.old z found in (was.0 ∙ sym (other_calls ss x i s given (peer_of x.live i) y.me (children_of z) other), was.1));
+            new = λ none. inl (is.new none);
+          }),
+      silent,
+    )
+      where
+        silent : (b : BranchId) (cs : List BranchId) → item_at live_id (put_item live_id k.lives x.live) b ≡ None → called_by b cs (exec_to ss x i s given (peer_of x.live i)) ≡ cs
+        silent b cs none = by (same x.live.me b) refl
+          where
+            by : (q : Bool) → same x.live.me b ≡ q → called_by b cs (exec_to ss x i s given (peer_of x.live i)) ≡ cs
+            by true here = (let found : item_at live_id (put_item live_id k.lives x.live) b ≡ Some x.live = subst (λ c. item_at live_id (put_item live_id k.lives x.live) c ≡ Some x.live) (equal_from_same x.live.me b here) (put_found live_id k.lives x.live) in absurd (cc (found, none)))
+            by false other = other_calls ss x i s given (peer_of x.live i) b cs other
+
+    -- over an edge that is there
+    known_calls : (ss : List Session) (x : Branch) (i : ℕ) (s : Stmt) (given : ℕ) (o : Option BranchId) (cs : List BranchId) → children_of x.live ≡ cs → peer_of x.live i ≡ o → called_by x.live.me cs (exec_to ss x i s given o) ≡ cs
+    known_calls ss x i s given None cs are is = refl
+    known_calls ss x i s given (Some c) cs are is =
+        let at : numbered (children_of x.live) i ≡ Some c = peers_at x.live.edges i c is in
+        own_calls ss x i s given c cs ∙ once_known cs c (known_child cs i c (subst (λ ds. numbered ds i ≡ Some c) are at))
+      where
+        peers_at : (es : List Edge) (i : ℕ) (c : BranchId) → option_map (λ (e : Edge). e.peer) (numbered es i) ≡ Some c → numbered (map (λ (e : Edge). e.peer) es) i ≡ Some c
+        peers_at es zero c is = absurd cc
+        peers_at [] (suc i) c is = absurd cc
+        peers_at (e ∷ es) (suc zero) c is = is
+        peers_at (e ∷ es) (suc (suc i)) c is = peers_at es (suc i) c is
+
+    calls_known : (x : Branch) (i : ℕ) (s : Stmt) (given : ℕ) (ss : List Session) → Same x.live → Leaves (exec_to ss x i s given (peer_of x.live i)) (put_item live_id k.lives x.live)
+    calls_known x i s given ss is =
+        calls x i s given ss (λ z found. (let was = is.old z found in (was.0 ∙ sym (known_calls ss x i s given (peer_of x.live i) (children_of z) was.0 refl), was.1))) is.new
+
+    -- over a new one
+    calls_new : (x : Branch) (from : BranchId) (link : List ℕ) (strength : ℕ) (s : Stmt) (given : ℕ) (ss : List Session) → Same x.live
+        → ((z : Live) → item_at live_id k0.lives x.live.me ≡ Some z → is_among from (children_of z) ≡ false)
+        → Leaves (exec_to ss (with_edge x (new_edge from link strength)) (length x.live.edges + 1) s given (peer_of (with_edge x (new_edge from link strength)).live (length x.live.edges + 1)))
+        (put_item live_id k.lives (with_edge x (new_edge from link strength)).live)
+    calls_new x from link strength s given ss is fresh =
+        let e : Edge = new_edge from link strength in
+        let y : Branch = with_edge x e in
+        let n : ℕ = length x.live.edges + 1 in
+        let peer : peer_of y.live n ≡ Some from = ap (option_map (λ (d : Edge). d.peer)) (last_numbered x.live.edges e) in
+        let kids : children_of y.live ≡ children_of x.live ++ from ∷ [] = map-append (λ (d : Edge). d.peer) x.live.edges (e ∷ []) in
+        calls y n s given ss
+        (λ z found. (let was = is.old z found in (
+          kids ∙ (ap (λ cs. cs ++ from ∷ []) was.0
+              ∙ sym (ap (λ o. called_by y.live.me (children_of z) (exec_to ss y n s given o)) peer ∙ (own_calls ss y n s given from (children_of z) ∙ once_new (children_of z) from (fresh z found)))),
+          was.1,
+        )))
+        is.new
+
+    -- ---- acts of the prepare phase
+
+    rolls_still : (l : Live) → AllSay IsStill (to_each l.me kinds.Rollback (children_of l))
+    rolls_still l = each_says IsStill l.me kinds.Rollback (children_of l) refl
+
+    acts_grow : (l : Live) (b : Bool) (a : Act) → Same l → Grown (act_turn k l b a)
+    acts_grow l b acts.Rest is = put [] tt l is
+    acts_grow l b acts.AskDown is = put _ (prepares_say IsStill (λ q comment. refl) l.me l.comment (path_of b (step_from l)) 1 l.edges) l is
+    acts_grow l b acts.SayReady is = put _ (one_says IsStill l.me kinds.Ready l.parent refl) (ready l) (like l (ready l) refl refl refl is)
+    acts_grow l b acts.SayReadOnly is = left _ (one_says IsStill l.me kinds.ReadOnly l.parent refl) l.me
+    acts_grow l b acts.Seal is = left _ (one_says IsStill l.me kinds.Prepared l.parent refl) l.me
+    acts_grow l b (acts.SealAndPass i) is = left _ (one_says IsStill l.me kinds.CommitPoint (peer_of l i) refl) l.me
+    acts_grow l b acts.Decide is = left _ (each_says IsStill l.me (kinds.Committed (k.clock + 1)) (site_neighbors l) refl) l.me
+    acts_grow l b acts.Finish is = left [] tt l.me
+    acts_grow l b acts.Abandon is = left _ (all_append (λ x. IsStill x.kind) (to_one l.me kinds.Abort l.parent) _ (one_says IsStill l.me kinds.Abort l.parent refl) (rolls_still l)) l.me
+
+    says_grow : {says : List Post} → Says k input says → Leaves says k.lives
+    says_grow (steps.Gone_replies to from call given advice s came gone) = quiet _ (refl, tt)
+    says_grow (steps.Replies_again x to call given advice s t came live last kept) = quiet _ (refl, tt)
+    says_grow (steps.Tells s from came kept) = quiet _ (told_says IsStill still_decisions (kept_told s from), tt)
+    says_grow (steps.Recovers reco) = quiet _ (askings_say IsStill still_decisions k)
+    says_grow (steps.Gone_aborts to from b comment came gone) = quiet _ (refl, tt)
+    says_grow (steps.Gone_rolls_back to from came gone) = quiet _ (refl, tt)
+    says_grow (steps.Gone_acks to from n came gone) = quiet _ (refl, tt)
+    says_grow (steps.Gone_forgets to from came gone) = quiet _ (refl, tt)
+    says_grow (steps.Opened_again to parent edge root depth o came found) = quiet _ (refl, tt)
+    says_grow (steps.Prepared_again s from b comment came kept again) = quiet _ (refl, tt)
+    says_grow (steps.Knows_commit s from n came kept knows) = quiet _ (refl, tt)
+    says_grow (steps.Knows_rollback s from came kept knows) = quiet _ (refl, tt)
+    says_grow (steps.Is_in_doubt l from came live other) = quiet _ (refl, tt)
+
+  -- ---- every step
+
+  begun_root : (k : Kept) → Sames k → (l : Live) → item_at live_id k0.lives l.me ≡ None → l.parent ≡ None → EachLive (λ l w. Same l) (k.lives ++ l ∷ []) []
+  begun_root k now l none root =
+      each_begun (λ l w. Same l) (λ l w. Same l) k.lives [] now l (record { old = λ z found. absurd (cc (found, none)); new = λ no. root }) (λ y v live any is. is)
+
+  module _ (fresh : NewChild) where
+    pub grows_on : {k : Kept} {d : Deed} → Step p input k d → News NotThere p input k → Sames k → Grown d
+    grows_on (steps.Begins {k = k} n s call rows range none step) news now =
+        grows_on step (begun_news NotThere p input k n news) (begun_root k now (fresh_root p k (new_root p k n)) (news.root n s call rows none).0 refl)
+    grows_on (steps.Pends {k = k} n l given call has live code step) news now = grows_on step (pends_news NotThere p input k n given call news) now
+    grows_on (steps.Lets_reads_go {k = k} l comment b live begins step) news now = grows_on step (lets_news NotThere p input k l.me news) now
+    grows_on (steps.Counts_ack {k = k} s from kept came counts step) news now = grows_on step (acked_news NotThere p input k _ news) now
+    grows_on (steps.Sends {k = k} posts why) news now = says_grow k now why
+    grows_on (steps.Runs {k = k} x s given t ask way) news now =
+        let y : Branch = record x { live = after_run x.live (ran p k x.live.me s t) } in
+        put k now _ (answer_still k now y _ x.live.parent) y.live (like x.live y.live refl refl refl (asked k now ask))
+    grows_on (steps.Goes_nowhere {k = k} x s given r ask way) news now = put k now _ (answer_still k now x _ x.live.parent) x.live (asked k now ask)
+    grows_on (steps.Calls {k = k} x s given i table ask way) news now = calls_known k now x i (passed_on s table) given k.sessions (asked k now ask)
+    grows_on (steps.Opens {k = k} x s given node link table ask way) news now = put k now _ (refl, tt) x.live (asked k now ask)
+    grows_on (steps.Goes_on {k = k} x from strength g link opened) news now =
+        let is : Same x.live = branch k now x opened.live in
+        calls_new k now x from link strength g.statement (g.room - 1) k.sessions is
+        (λ z found. (let me : z.me ≡ x.live.me = item_is live_id k0.lives x.live.me z found in
+        let long : length x.live.edges ≡ length z.edges = sym (length-map x.live.edges (λ (e : Edge). e.peer)) ∙ (ap length (is.old z found).0 ∙ length-map z.edges (λ (e : Edge). e.peer)) in
+        fresh z (subst (λ b. item_at live_id k0.lives b ≡ Some z) (sym me) found) from opened.edge strength (subst (λ b. Came input from b (kinds.Opened opened.edge strength)) (sym me) opened.came)
+        (subst (λ n. (opened.edge == n + 1) ≡ true) long opened.new)))
+    grows_on (steps.Hears_reply {k = k} x weight count a i e answered) news now =
+        let y : Branch = hears_reply x i weight count e in
+        put k now _ (answer_still k now y _ x.live.parent) y.live
+        (like x.live y.live refl (set_peers x.live.edges i e _ (reply_is x answered.from answered.call i e answered.waits) refl) refl (branch k now x answered.live))
+    grows_on (steps.Opens_branch {k = k} to parent edge root depth came new) news now =
+        let l : Live = fresh_live (next_child p k) root (Some parent) depth (strength_of p k) in
+        let says : List Post = post (next_child p k) parent (kinds.Opened edge (strength_of p k)) in
+        let its = news.child to parent edge root depth came new in (
+          each_begun (λ l w. Same l) (λ l w. Grows says l) k.lives [] now l
+              (record {
+                old = λ z found. (let none = its.0 in absurd (cc (found, none)));
+                new = λ none. inr (record {
+                  parent = parent;
+                  edge = edge;
+                  root = root;
+                  depth = depth;
+                  to = to;
+                  strength = strength_of p k;
+                  came = came;
+                  told = refl;
+                  is_parent = refl;
+                  is_root = refl;
+                  none = refl;
+                  unborn = its.1;
+                  working = refl;
+                  high = omega arith;
+                });
+              })
+              (λ y v live any is. stay says (refl, tt) y is),
+          (λ b cs none. still_calls b cs says (refl, tt)),
+        )
+    grows_on (steps.Acts {k = k} l b a why) news now = acts_grow k now l b a (acting k now why)
+    grows_on (steps.Drops_told {k = k} l live drops) news now = left k now _ (rolls_still k now l) l.me
+    grows_on (steps.Drops_asked {k = k} l from live came parent) news now = left k now _ (refl, rolls_still k now l) l.me
+    grows_on (steps.Does {k = k} s from (nexts.End d) kept why) news now = quiet k now _ (passes_say IsStill still_decisions s d)
+    grows_on (steps.Does {k = k} s from (nexts.Meet d mixed) kept why) news now = quiet k now _ (passes_say IsStill still_decisions s d)
+    grows_on (steps.Does {k = k} s from nexts.AckToward kept why) news now = quiet k now _ (one_says IsStill s.me kinds.Ack s.toward refl)
+    grows_on (steps.Does {k = k} s from nexts.Forget kept why) news now = quiet k now _ (each_says IsStill s.me kinds.Forgotten (map (λ b. b.branch) (beyond s)) refl)
+    grows_on (steps.Does {k = k} s from nexts.SayForgotten kept why) news now = quiet k now _ (refl, tt)
+    grows_on (steps.Does {k = k} s from nexts.SayAck kept why) news now = quiet k now _ (refl, tt)
+    grows_on (steps.Does {k = k} s from nexts.Rest kept why) news now = quiet k now [] tt
+    grows_on (steps.Rolls_back {k = k} n x call has live) news now = left k now _ (rolls_still k now x.live) x.live.me
+    grows_on (steps.Gives_up {k = k} n x gives has calls live) news now = put k now [] tt x.live (branch k now x live)
+    grows_on (steps.Gives_up_commit {k = k} n b (Some l) gives has calls live) news now = left k now _ (rolls_still k now l) l.me
+    grows_on (steps.Gives_up_commit {k = k} n b None gives has calls live) news now = quiet k now [] tt
+    grows_on (steps.Rests {k = k}) news now = quiet k now [] tt
+    grows_on (steps.Refuses {k = k} n s r is) news now = quiet k now [] tt
+    grows_on (steps.Completes_at_once {k = k} n s d call completes none) news now = quiet k now [] tt
+    grows_on (steps.Makes_record {k = k} n s r d call makes) news now = quiet k now [] tt
+    grows_on (steps.Forces_given {k = k} n id m b call named) news now = quiet k now [] tt
+    grows_on (steps.Forces_commit {k = k} n id b call named) news now = quiet k now [] tt
+    grows_on (steps.Forces_rollback {k = k} n id b call named) news now = quiet k now [] tt
+    grows_on (steps.Hides {k = k} n mixed id s call found) news now = quiet k now [] tt
+    grows_on (steps.Advises {k = k} n a call) news now = quiet k now [] tt

@@ -1,0 +1,64 @@
+-- A seal and a decision have the changes that their branch's node keeps of it.
+use Rattle.std.proofs.Common.{◌≡◌, List, Some, None, refl, subst}
+use Rattle.std.specs.Prelude.{IfSome}
+use Rattle.commit_forget.specs.declared.next.Next.TheVariants as nexts
+use Rattle.node_rules.specs.Data.{RedoRecord, Owned, Place, Input}
+use Rattle.node_rules.specs.Data.acts
+use Rattle.node_rules.specs.Data.inputs
+use Rattle.node_rules.specs.Data.records
+use Rattle.node_rules.specs.Kept.{Kept, Deed}
+use Rattle.node_rules.specs.Turn.{heard, deed_of}
+use Rattle.node_rules.proofs.Steps as steps
+use Rattle.node_rules.proofs.Steps.{Step}
+use Rattle.run_key_laws.specs.ChangedLaws.{changes_at}
+use Rattle.run_rules.specs.Data.{Turn}
+use Rattle.run_rules.specs.Facts.{Facts, place_at}
+use Rattle.run_rules.specs.Lawful.{MayTurn}
+use Rattle.run_base_laws.proofs.LawfulLemmas.{serves, of_wrote}
+
+-- a record has what is kept of its branch
+abbrev pub HasKept : List Owned → RedoRecord → Type 0
+HasKept owns (records.Sealed r) = r.changes ≡ changes_at owns r.me
+HasKept owns (records.Decided r) = r.changes ≡ changes_at owns r.me
+HasKept owns _ = Unit {0}
+
+module _ (p : Place) (input : Input) where
+  writes_own : {k : Kept} {d : Deed} → Step p input k d → IfSome d.wrote (HasKept k.owns)
+  writes_own (steps.Begins m s call rows fit none step) = writes_own step
+  writes_own (steps.Pends m l comment call has live code step) = writes_own step
+  writes_own (steps.Lets_reads_go l comment site_below live begins step) = writes_own step
+  writes_own (steps.Counts_ack s from kept came counts step) = writes_own step
+  writes_own (steps.Acts l site_below acts.Seal why) = refl
+  writes_own (steps.Acts l site_below (acts.SealAndPass i) why) = refl
+  writes_own (steps.Acts l site_below acts.Decide why) = refl
+  writes_own (steps.Acts l site_below acts.Rest why) = tt
+  writes_own (steps.Acts l site_below acts.AskDown why) = tt
+  writes_own (steps.Acts l site_below acts.SayReadOnly why) = tt
+  writes_own (steps.Acts l site_below acts.SayReady why) = tt
+  writes_own (steps.Acts l site_below acts.Finish why) = tt
+  writes_own (steps.Acts l site_below acts.Abandon why) = tt
+  writes_own (steps.Does s from (nexts.End e) kept why) = tt
+  writes_own (steps.Does s from (nexts.Meet e mixed) kept why) = tt
+  writes_own (steps.Does s from nexts.Forget kept why) = tt
+  writes_own (steps.Does s from nexts.Rest kept why) = tt
+  writes_own (steps.Does s from nexts.AckToward kept why) = tt
+  writes_own (steps.Does s from nexts.SayForgotten kept why) = tt
+  writes_own (steps.Does s from nexts.SayAck kept why) = tt
+  writes_own (steps.Makes_record n s r d call (steps.Makes_table x free)) = tt
+  writes_own (steps.Makes_record n s r d call (steps.Makes_link x free)) = tt
+  writes_own (steps.Makes_record n s r d call (steps.Makes_synonym x free)) = tt
+  writes_own (steps.Makes_record n s r d call (steps.Sets_recovery on)) = tt
+  writes_own (steps.Gives_up_commit n b (Some l) gives has calls live) = tt
+  writes_own (steps.Gives_up_commit n b None gives has calls live) = tt
+  writes_own _ = tt
+
+pub heard_owns : (k : Kept) (input : Input) → (heard k input).owns ≡ k.owns
+heard_owns k (inputs.Message m) = refl
+heard_owns k _ = refl
+
+-- so does the record of a turn
+pub turn_own : (places : List Place) (f : Facts) (u : Turn) (k : Kept) → MayTurn places f u k → IfSome u.wrote (HasKept k.owns)
+turn_own places f u k may =
+    let p : Place = place_at places u.node in
+    of_wrote p k u (serves places f u k may) (λ w. IfSome w (HasKept k.owns)) tt
+    (subst (λ (owns : List Owned). IfSome (deed_of p k u.input).wrote (HasKept owns)) (heard_owns k u.input) (writes_own p u.input (serves places f u k may).step))

@@ -1,0 +1,164 @@
+-- Whom an input concerns, as a root sees it, and which root begins with it.
+use Rattle.std.proofs.Common.{◌≡◌, ◌≢◌, ℕ, ◌⊎◌, not, Bool, true, false, if◌then◌else◌, find, List, [], ◌∷◌, ◌++◌, Option, Some, None, inl, inr, refl, sym, ap, subst, ◌∙◌}
+use Rattle.std.proofs.lemmas.Bool.{cases_eq}
+use Rattle.tran_ids.proofs.BranchLemmas.{equal_from_same}
+use Rattle.node_rules.specs.Data.{BranchId, Kind, Msg, Opening, Stmt, Input, Place}
+use Rattle.node_rules.specs.Calls.{is_opening}
+use Rattle.node_rules.specs.Data.inputs
+use Rattle.node_rules.specs.Data.kinds
+use Rattle.node_rules.specs.Data.stmts
+use Rattle.node_rules.specs.Words.{same}
+use Rattle.node_rules.specs.Kept.{Kept}
+use Rattle.node_rules.specs.Sessions.{session_at}
+use Rattle.node_rules.specs.Client.{new_root}
+use Rattle.node_rules.proofs.Steps.{IsOfRows}
+use Rattle.run_rules.specs.Births.{Born, root_born, roots_by, births_by_open, births_by_kind, births_by, born_at}
+use Rattle.run_rules.specs.Runs.{is_of_rows}
+use Rattle.tree_trail_laws.proofs.UntouchedLemmas.{Concerns_root, Of_rows, Is_commit, Is_rollback, Gives_up}
+
+bool_cases : (q : Bool) → (P : Type 0) → (q ≡ true → P) → (q ≡ false → P) → P
+bool_cases true P at_true at_false = at_true refl
+bool_cases false P at_true at_false = at_false refl
+
+-- Whom an input concerns, as a root sees it.
+pub data Who (input : Input) (b : BranchId) : Type 0 where
+  Message_to : (m : Msg) → input ≡ inputs.Message m → m.to ≡ b → Who input b
+  Rows_of : (s : Stmt) → input ≡ inputs.Call b.session (Some s) → is_of_rows s ≡ true → Who input b
+  Commits : (given : Option (List ℕ)) → input ≡ inputs.Call b.session (Some (stmts.Commit given)) → Who input b
+  Rolls_back : input ≡ inputs.Call b.session (Some stmts.Rollback) → Who input b
+  Is_given_up : input ≡ inputs.GiveUp b.session → Who input b
+  Others : ((m : Msg) → input ≡ inputs.Message m → same m.to b ≡ false) → ((n : ℕ) → Concerns_root input n → n ≢ b.session) → Who input b
+
+-- whether a statement concerns the root of its session
+abbrev is_roots : Stmt → Bool
+is_roots (stmts.Insert table columns given) = true
+is_roots (stmts.Update table sets cs) = true
+is_roots (stmts.Delete table cs) = true
+is_roots (stmts.Select list table cs for_update) = true
+is_roots (stmts.Commit given) = true
+is_roots stmts.Rollback = true
+is_roots _ = false
+
+rows_are : (s : Stmt) → IsOfRows s → is_roots s ≡ true
+rows_are (stmts.Insert table columns given) rows = refl
+rows_are (stmts.Update table sets cs) rows = refl
+rows_are (stmts.Delete table cs) rows = refl
+rows_are (stmts.Select list table cs for_update) rows = refl
+rows_are _ rows = absurd rows
+
+kind_of : (s : Stmt) → is_roots s ≡ true → (is_of_rows s ≡ true) ⊎ (((given : Option (List ℕ)) × (s ≡ stmts.Commit given)) ⊎ (s ≡ stmts.Rollback))
+kind_of (stmts.Insert table columns given) its = inl refl
+kind_of (stmts.Update table sets cs) its = inl refl
+kind_of (stmts.Delete table cs) its = inl refl
+kind_of (stmts.Select list table cs for_update) its = inl refl
+kind_of (stmts.Commit given) its = inr (inl (given, refl))
+kind_of stmts.Rollback its = inr (inr refl)
+kind_of _ its = absurd cc
+
+pub one_call : (n m : ℕ) (o p : Option Stmt) → inputs.Call n o ≡ inputs.Call m p → (n ≡ m) × (o ≡ p)
+one_call n m o p is = (cc, cc)
+
+call_roots : (n : ℕ) (s : Stmt) (m : ℕ) → Concerns_root (inputs.Call n (Some s)) m → is_roots s ≡ true
+call_roots n s m (Of_rows x call rows) = (let it : Some s ≡ Some x = (one_call n m (Some s) (Some x) call).1 in let here : s ≡ x = cc in subst (λ y. is_roots y ≡ true) (sym here) (rows_are x rows))
+call_roots n s m (Is_commit given call) = (let it : Some s ≡ Some (stmts.Commit given) = (one_call n m (Some s) (Some (stmts.Commit given)) call).1 in let here : s ≡ stmts.Commit given = cc in ap is_roots here)
+call_roots n s m (Is_rollback call) = (let it : Some s ≡ Some stmts.Rollback = (one_call n m (Some s) (Some stmts.Rollback) call).1 in let here : s ≡ stmts.Rollback = cc in ap is_roots here)
+call_roots n s m (Gives_up is) = absurd cc
+
+call_session : (n : ℕ) (o : Option Stmt) (m : ℕ) → Concerns_root (inputs.Call n o) m → n ≡ m
+call_session n o m (Of_rows x call rows) = (one_call n m o (Some x) call).0
+call_session n o m (Is_commit given call) = (one_call n m o (Some (stmts.Commit given)) call).0
+call_session n o m (Is_rollback call) = (one_call n m o (Some stmts.Rollback) call).0
+call_session n o m (Gives_up is) = absurd cc
+
+nothing_none : (n m : ℕ) → Concerns_root (inputs.Call n None) m → ⊥
+nothing_none n m (Of_rows x call rows) = absurd cc
+nothing_none n m (Is_commit given call) = absurd cc
+nothing_none n m (Is_rollback call) = absurd cc
+nothing_none n m (Gives_up is) = absurd cc
+
+message_none : (x : Msg) (m : ℕ) → Concerns_root (inputs.Message x) m → ⊥
+message_none x m (Of_rows s call rows) = absurd cc
+message_none x m (Is_commit given call) = absurd cc
+message_none x m (Is_rollback call) = absurd cc
+message_none x m (Gives_up is) = absurd cc
+
+reco_none : (m : ℕ) → Concerns_root inputs.Reco m → ⊥
+reco_none m (Of_rows s call rows) = absurd cc
+reco_none m (Is_commit given call) = absurd cc
+reco_none m (Is_rollback call) = absurd cc
+reco_none m (Gives_up is) = absurd cc
+
+given_session : (n m : ℕ) → Concerns_root (inputs.GiveUp n) m → n ≡ m
+given_session n m (Of_rows s call rows) = absurd cc
+given_session n m (Is_commit given call) = absurd cc
+given_session n m (Is_rollback call) = absurd cc
+given_session n m (Gives_up is) = cc
+
+pub who : (input : Input) (b : BranchId) → Who input b
+who (inputs.Message x) b =
+    bool_cases (same x.to b) _ (λ here. Message_to x refl (equal_from_same x.to b here))
+    (λ other. Others (λ m is. (let it : inputs.Message x ≡ inputs.Message m = is in let one : x ≡ m = cc in subst (λ (y : Msg). same y.to b ≡ false) one other)) (λ n its. absurd (message_none x n its)))
+who (inputs.Call n (Some s)) b = elim (cases_eq n b.session) [
+  | inr other ↦ Others (λ m is. absurd cc) (λ m its at. other (call_session n (Some s) m its ∙ at))
+  | inl here ↦ bool_cases (is_roots s) _ (λ its. elim (kind_of s its) [
+    | inl rows ↦ Rows_of s (ap (λ i. inputs.Call i (Some s)) here) rows
+    | inr more ↦ elim more [
+      | inl commit ↦ Commits commit.0 (ap (λ i. inputs.Call i (Some s)) here ∙ ap (λ x. inputs.Call b.session (Some x)) commit.1)
+      | inr roll ↦ Rolls_back (ap (λ i. inputs.Call i (Some s)) here ∙ ap (λ x. inputs.Call b.session (Some x)) roll)
+    ]
+  ]) (λ nobody. Others (λ m is. absurd cc) (λ m its. absurd (let yes : is_roots s ≡ true = call_roots n s m its in cc (yes, nobody))))
+]
+who (inputs.Call n None) b = Others (λ m is. absurd cc) (λ m its. absurd (nothing_none n m its))
+who (inputs.GiveUp n) b = elim (cases_eq n b.session) [
+  | inr other ↦ Others (λ m is. absurd cc) (λ m its at. other (given_session n m its ∙ at))
+  | inl here ↦ Is_given_up (ap inputs.GiveUp here)
+]
+who inputs.Reco b = Others (λ m is. absurd cc) (λ m its. absurd (reco_none m its))
+
+-- a branch that is found began before, or in this turn
+pub either : (xs ys : List Born) (b : BranchId) (x : Born) → born_at (xs ++ ys) b ≡ Some x → (born_at xs b ≡ Some x) ⊎ (born_at ys b ≡ Some x)
+either [] ys b x at = inr at
+either (y ∷ xs) ys b x at = by (same y.me b) at (either xs ys b x)
+  where
+    by : (q : Bool) → (if q then Some y else born_at (xs ++ ys) b) ≡ Some x → (born_at (xs ++ ys) b ≡ Some x → (born_at xs b ≡ Some x) ⊎ (born_at ys b ≡ Some x)) → ((if q then Some y else born_at xs b) ≡ Some x) ⊎ (born_at ys b ≡ Some x)
+    by true at rest = inl at
+    by false at rest = rest at
+
+-- a root that begins does so by a statement in a session without a transaction
+pub record ByCall (p : Place) (k : Kept) (input : Input) (b : BranchId) : Type 0 where
+  pub session : ℕ
+  pub statement : Stmt
+  pub call : input ≡ inputs.Call session (Some statement)
+  pub rows : is_of_rows statement ≡ true
+  pub none : (session_at k.sessions session).root ≡ None
+  pub is_me : new_root p k session ≡ b
+
+one_born : (y x : Born) (b : BranchId) → born_at (y ∷ []) b ≡ Some x → (y ≡ x) × (y.me ≡ b)
+one_born y x b at = by (same y.me b) refl at
+  where
+    by : (q : Bool) → same y.me b ≡ q → (if q then Some y else None) ≡ Some x → (y ≡ x) × (y.me ≡ b)
+    by true here at = (let it : Some y ≡ Some x = at in (let same_one : y ≡ x = cc in (same_one, equal_from_same y.me b here)))
+    by false other at = absurd cc
+
+opened_parent : (p : Place) (k : Kept) (from : BranchId) (kind : Kind) (b : BranchId) (x : Born) → born_at (births_by_kind p k from kind) b ≡ Some x → x.parent ≢ None
+opened_parent p k from (kinds.Open edge root depth) b x at = by (find (is_opening from edge) k.opens) at
+  where
+    by : (o : Option Opening) → born_at (births_by_open p k from edge root depth o) b ≡ Some x → x.parent ≢ None
+    by None at none = (let its = one_born _ x b at in let up : x.parent ≡ Some from = ap (λ (z : Born). z.parent) (sym its.0) in absurd (cc (up, none)))
+    by (Some o) at none = absurd cc
+opened_parent p k from _ b x at = absurd cc
+
+pub by_call : (p : Place) (k : Kept) (input : Input) (b : BranchId) (x : Born) → born_at (births_by p k input) b ≡ Some x → x.parent ≡ None → ByCall p k input b
+by_call p k (inputs.Call n (Some s)) b x at top = by (is_of_rows s) refl at
+  where
+    root : (r : Option BranchId) → (session_at k.sessions n).root ≡ r → is_of_rows s ≡ true → born_at (roots_by p k n r) b ≡ Some x → ByCall p k (inputs.Call n (Some s)) b
+    root None none rows at = record { session = n; statement = s; call = refl; rows = rows; none = none; is_me = (one_born (root_born (new_root p k n)) x b at).1 }
+    root (Some c) some rows at = absurd cc
+
+    by : (q : Bool) → is_of_rows s ≡ q → born_at (if q then roots_by p k n (session_at k.sessions n).root else []) b ≡ Some x → ByCall p k (inputs.Call n (Some s)) b
+    by true rows at = root (session_at k.sessions n).root refl rows at
+    by false not at = absurd cc
+by_call p k (inputs.Message m) b x at top = absurd (opened_parent p k m.from m.kind b x at top)
+by_call p k (inputs.Call n None) b x at top = absurd cc
+by_call p k (inputs.GiveUp n) b x at top = absurd cc
+by_call p k inputs.Reco b x at top = absurd cc

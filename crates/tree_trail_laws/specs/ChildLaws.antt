@@ -1,0 +1,22 @@
+-- What the happenings tell of a branch below a root: it began, and its parent and its children are those that its node
+-- keeps. (Database Administrator's Guide, "Distributed Transactions Concepts": session trees.)
+use Rattle.std.specs.Prelude.{◌≡◌, ◌≢◌, ℕ, Some, None}
+use Rattle.session_tree.specs.Live.{children_of}
+use Rattle.node_rules.specs.Data.{Live}
+use Rattle.node_rules.specs.Kept.{Kept, live_at}
+use Rattle.run_rules.specs.Branches.{Seen, Trail, no_trail, seen_at}
+use Rattle.run_rules.specs.Facts.{first_facts, node_at}
+use Rattle.run_rules.specs.Lawful.{History, IsLawfulRun, facts_at}
+use Rattle.run_rules.specs.Trail.{trail_of}
+
+-- what the happenings of a run tell
+abbrev pub trail_at : History → Trail
+trail_at t = trail_of t.places t.commands (first_facts t.places) no_trail t.trace
+
+-- A branch is told to have begun, with the parent and the children that its node keeps of it.
+abbrev pub IsToldOf : Trail → Live → Type 0
+IsToldOf tr l = (s : Seen) × (seen_at tr l.me ≡ Some s) × (s.parent ≡ l.parent) × (s.children ≡ children_of l)
+
+-- In every lawful run each live branch below a root is told so.
+abbrev pub ChildrenAreTold : Type 0
+ChildrenAreTold = (t : History) → IsLawfulRun t → (n : ℕ) (k : Kept) → node_at (facts_at t) n ≡ Some k → (l : Live) → live_at k l.me ≡ Some l → l.parent ≢ None → IsToldOf (trail_at t) l

@@ -1,0 +1,89 @@
+//! What the happenings of a run tell of its branches is what their nodes keep.
+//!
+//! The commit point site, and what a turn may write and say, are spoken of in run_laws by what the happenings tell: who the
+//! children of a branch are, what it has changed, who has voted. In every lawful run that is what nodes keep: of live
+//! branches below roots (`specs/ChildLaws.antt`, `specs/LowerLaws.antt`); of roots, where it is so of changes
+//! (`specs/TopLaws.antt`), and of changes, where it is so of roots; so of all (`specs/OwnLaws.antt`). Where it is so of all
+//! (`specs/SeenLaws.antt`), each decision is made by the site of its tree and covers it.
+#![tactic(auto)]
+
+ghost use Rattle.tree_trail_laws.specs.ChildLaws.{ChildrenAreTold};
+ghost use Rattle.tree_trail_laws.specs.LowerLaws.{LowerAreTold};
+ghost use Rattle.tree_trail_laws.specs.LeaveLaws.{LowerLeaveAsTold};
+ghost use Rattle.tree_trail_laws.specs.SeenLaws.{SeenIsEnough, SeenIsEnoughToLeave};
+ghost use Rattle.tree_trail_laws.specs.OwnLaws.{AllIsSeen, DecisionsCover, LeavesAreDue};
+ghost use Rattle.run_claims.specs.Headline.{EveryRunIsMeant, EverySiteDecides};
+ghost use Rattle.tree_trail_laws.specs.TriedTrail.{TheTriedTrail};
+ghost use Rattle.tree_trail_laws.specs.TriedOwns.{TheTriedOwns};
+
+/// A live branch below a root is told to have begun, with the parent and the children that its node keeps of it.
+pub fn children_are_told()
+    ensures { ChildrenAreTold }
+{}
+
+/// What is told of a live branch below a root is what its node keeps of it: that it is live, its parent and its children,
+/// whether its collect began, and which of its children answered.
+pub fn lower_are_told()
+    ensures { LowerAreTold }
+{}
+
+/// So a branch below a root seals on the last answer of its children, on Prepare where it has none, or on CommitPoint from
+/// its parent, and decides on CommitPoint, by what is told of it.
+pub fn lower_leave_as_told()
+    ensures { LowerLeaveAsTold }
+{}
+
+/// In a lawful run, where the happenings tell also of roots and of the changes of live branches what their nodes keep, each
+/// decision is made by the commit point site of its session tree, every other branch there with changes on it or below it is
+/// sealed before, and seals and decisions have the changes of their branches.
+pub fn seen_is_enough()
+    ensures { SeenIsEnough }
+{}
+
+/// In such a run each branch seals and decides on what is told to have come to it, roots too.
+pub fn seen_is_enough_to_leave()
+    ensures { SeenIsEnoughToLeave }
+{}
+
+/// In every lawful run all that the happenings tell of live branches, roots too, is what their nodes keep, before each
+/// happening: which are live, their parents and children, how far their commit is, their changes, and the transactions of
+/// sessions.
+pub fn all_is_seen()
+    ensures { AllIsSeen }
+{}
+
+/// So in every lawful run each decision is made by the commit point site of its session tree: the branch at which the walk
+/// by commit point strengths ended when the COMMIT was accepted.
+pub fn every_site_decides()
+    ensures { EverySiteDecides }
+{}
+
+/// Every other branch of that tree with changes on it or below it is sealed before, and seals and decisions have the changes
+/// of their branches.
+pub fn decisions_cover()
+    ensures { DecisionsCover }
+{}
+
+/// Each branch seals and decides on what is told to have come to it.
+pub fn leaves_are_due()
+    ensures { LeavesAreDue }
+{}
+
+/// In every lawful run each answer of a run of a statement is meant: a query's rows are what it means over the rows that the
+/// book leaves at its node, with the changes of its own branch, and it examined no key in doubt; a change counts the rows
+/// that it means.
+pub fn every_run_is_meant()
+    ensures { EveryRunIsMeant }
+{}
+
+/// No law of what is told is about nothing: in the tried run of two nodes A is told to be the commit point site, B to be its
+/// child and to be sealed.
+pub fn the_tried_trail()
+    ensures { TheTriedTrail }
+{}
+
+/// No law of changes that are told is about nothing: in the tried run both branches are told to have changed the rows that
+/// their nodes keep as changed, and an INSERT is a run that means its answer.
+pub fn the_tried_owns()
+    ensures { TheTriedOwns }
+{}

@@ -1,5 +1,0 @@
-use Rattle.turn_laws.proofs.KnowLemmas.{every_turn_knows}
-use Rattle.turn_laws.proofs.every_turn_knows.Goals as goal
-
-pub returns : goal.returns
-returns c = every_turn_knows

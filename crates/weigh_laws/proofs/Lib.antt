@@ -1,2 +1,0 @@
-pub mod LeftTrailLemmas
-pub mod HeldLemmas
