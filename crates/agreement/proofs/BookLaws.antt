@@ -7,7 +7,7 @@ use Rattle.agreement.specs.Outcomes.{is_end_of, stands, is_decision_on, global_i
 use Rattle.agreement.specs.Events.{Forest, IsForest, Sealed, Decided, Event, Make, Seal, Decide, Force, Learn, mark, exit, learned, forced, Has, Allowed, Lawful, site_of}
 use Rattle.agreement.specs.BookOf.{entry_by, with_entry, book_of}
 use Rattle.agreement.specs.Laws.{BooksAgree, BooksAreMarked, DecisionsExceedSeals}
-use Rattle.agreement.proofs.SameBranch.{same_tells}
+use Rattle.agreement.proofs.SameBranch.{same_reports}
 use Rattle.agreement.proofs.EventLemmas.{exit_stays, learned_stays}
 use Rattle.agreement.proofs.Invariant.{Inv, Doomed, doomed_stays}
 use Rattle.agreement.proofs.WholeTree.{not_doomed}
@@ -33,7 +33,7 @@ each_with P es (Some e) w h = each_more P [] es e w h
 
 decision_now : (p : Forest) (s : Event) (t : List Event) (g : BranchId) → Lawful p (s ∷ t) → shows (is_decision_on g) (entry_by s) ≡ true → (n : ℕ) × (exit (s ∷ t) (p.site g) ≡ Some (Decided n))
 decision_now p (Decide b h n cs) t g l e =
-    let one : p.root b ≡ g = l.0.3 ∙ (same_tells h g).0 e in
+    let one : p.root b ≡ g = l.0.3 ∙ (same_reports h g).0 e in
     let at_site : b ≡ p.site g = l.0.1 ∙ ap p.site one in
     (n, subst (λ z. exit (Decide b h n cs ∷ t) z ≡ Some (Decided n)) at_site (exit_decided p (Decide b h n cs ∷ t) b h n cs l (inl refl)))
 decision_now p (Learn c d None) t g l e = absurd cc
@@ -51,7 +51,7 @@ undecided : (p : Forest) (t : List Event) (g : BranchId) → Lawful p t → ((n 
 undecided p t g l h = not_true (stands (is_decision_on g) (book_of t)) (λ e. let r = decision_is p t g l e in h r.0 r.1)
 
 learned_now : (p : Forest) (t : List Event) (b : BranchId) (m : Option Bool) → Lawful p (Learn b decisions.Rollback m ∷ t) → learned (Learn b decisions.Rollback m ∷ t) b ≡ Some decisions.Rollback
-learned_now p t b m l = let none : learned t b ≡ None = l.0.1 in grind (arith, same_tells)
+learned_now p t b m l = let none : learned t b ≡ None = l.0.1 in grind (arith, same_reports)
 
 abbrev RolledBack : Forest → List Event → BranchId → List Entry → Type 0
 RolledBack p t g book = (b : BranchId) × (learned t b ≡ Some decisions.Rollback) × (is_of (global_in b book) g ≡ true)
@@ -72,7 +72,7 @@ rollback_is p (s ∷ t) g book l h = elim (some_is (is_rollback_of book g) s t h
 
 is_of_same : (o : Option BranchId) (h g : BranchId) → o ≡ Some h → is_of o g ≡ true → h ≡ g
 is_of_same None h g e i = absurd cc
-is_of_same (Some x) h g e i = let q : x ≡ g = (same_tells x g).0 i in cc (e, q)
+is_of_same (Some x) h g e i = let q : x ≡ g = (same_reports x g).0 i in cc (e, q)
 
 -- ---- each entry agrees
 

@@ -9,7 +9,7 @@ use Rattle.tran_ids.specs.Branch.{same}
 use Rattle.agreement.specs.Outcomes.{is_sealed_of, is_decided_of, is_forced_of, is_end_of, is_met_of, stands, is_decision_at, global_in, forced_in}
 use Rattle.agreement.specs.Events.{Forest, Sealed, Decided, Event, only_at, Seal, Decide, Force, Learn, first, exit_by, exit, learned_by, learned, forced_by, forced, Has, Allowed, Lawful}
 use Rattle.agreement.specs.BookOf.{entry_by, with_entry, book_of}
-use Rattle.agreement.proofs.SameBranch.{same_tells}
+use Rattle.agreement.proofs.SameBranch.{same_reports}
 use Rattle.agreement.proofs.EventLemmas.{exit_new, first_none, first_is, sealed_by, only_at_same}
 
 -- ---- one entry more
@@ -54,7 +54,7 @@ not_true false h = refl
 -- ---- no entry of a branch
 
 only_none : {A : Type 0} (c b : BranchId) (a : A) → only_at c b a ≡ None → same c b ≡ false
-only_none c b a h = grind (arith, same_tells)
+only_none c b a h = grind (arith, same_reports)
 
 no_seal_by : (s : Event) (b : BranchId) → exit_by s b ≡ None → shows (is_sealed_of b) (entry_by s) ≡ false
 no_seal_by (Seal c g n cs) b e = only_none c b (Sealed n) e
@@ -105,7 +105,7 @@ no_met (s ∷ t) b l = let q = first_none (learned t b) (learned_by s b) l in no
 -- ---- an entry that stands
 
 same_self : (b : BranchId) → same b b ≡ true
-same_self b = (same_tells b b).1 refl
+same_self b = (same_reports b b).1 refl
 
 pub has_sealed : (t : List Event) (b : BranchId) (n : ℕ) → exit t b ≡ Some (Sealed n) → stands (is_sealed_of b) (book_of t) ≡ true
 has_sealed [] b n e = absurd cc
@@ -122,7 +122,7 @@ has_forced (s ∷ t) b o e = elim (first_is (forced t b) (forced_by s b) o e) [
 ]
   where
     by : (r : Event) → forced_by r b ≡ Some o → shows (is_forced_of b) (entry_by r) ≡ true
-    by (Force c k) h = grind (arith, same_tells)
+    by (Force c k) h = grind (arith, same_reports)
     by r h = absurd cc
 
 pub has_decision : (t : List Event) (b g : BranchId) (n : ℕ) (cs : List Change) → Has (Decide b g n cs) t → stands (is_decision_at g n) (book_of t) ≡ true
@@ -130,7 +130,7 @@ has_decision [] b g n cs h = absurd h
 has_decision (s ∷ t) b g n cs (inl e) = some_now (is_decision_at g n) s t (subst (λ r. shows (is_decision_at g n) (entry_by r) ≡ true) (sym e) (by g n))
   where
     by : (g : BranchId) (n : ℕ) → (same g g && (n == n)) ≡ true
-    by g n = grind (arith, same_tells, nat_tests)
+    by g n = grind (arith, same_reports, nat_tests)
 has_decision (s ∷ t) b g n cs (inr h) = some_before (is_decision_at g n) s t (has_decision t b g n cs h)
 
 -- ---- forced outcomes, and the transactions of branches
@@ -184,7 +184,7 @@ global_with b es None = first_none_right (global_in b es)
 global_with b es (Some e) = global_assoc b es e
 
 global_of_by : (s : Event) (b g : BranchId) → global_of b (entry_by s) ≡ Some g → (n : ℕ) × (cs : List Change) × (s ≡ Seal b g n cs)
-global_of_by (Seal c h n cs) b g e = (n, cs, grind (arith, same_tells))
+global_of_by (Seal c h n cs) b g e = (n, cs, grind (arith, same_reports))
 global_of_by (Learn c d None) b g e = absurd cc
 global_of_by (Learn c d (Some m)) b g e = absurd cc
 global_of_by s b g e = absurd cc

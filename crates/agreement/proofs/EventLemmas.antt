@@ -1,6 +1,6 @@
 -- What stands once stands for ever, and what is new is by the event.
 use Rattle.std.proofs.Common.{Bool, ◌≡◌, ℕ, ◌⊎◌, List, ◌∷◌, Option, Some, None, refl, inl, inr, arith}
-use Rattle.agreement.proofs.SameBranch.{same_tells}
+use Rattle.agreement.proofs.SameBranch.{same_reports}
 use Rattle.agreement.specs.Data.{BranchId, Change, Decision}
 use Rattle.agreement.specs.Events.{Exit, Sealed, Decided, Quiet, Dropped, Event, Seal, Decide, Answer_read_only, Drop, Force, Learn, first, only_at, exit_by, exit, learned_by, learned, forced_by, forced}
 
@@ -24,7 +24,7 @@ pub forced_new : (s : Event) (t : List Event) (b : BranchId) (e : Decision) → 
 forced_new s t b e h = first_is (forced t b) (forced_by s b) e h
 
 pub only_at_is : {A : Type 0} (c b : BranchId) (a x : A) → only_at c b a ≡ Some x → (c ≡ b) × (a ≡ x)
-only_at_is c b a x h = grind (arith, same_tells)
+only_at_is c b a x h = grind (arith, same_reports)
 
 pub sealed_by : (s : Event) (b : BranchId) (n : ℕ) → exit_by s b ≡ Some (Sealed n) → (g : BranchId) × (cs : List Change) × (s ≡ Seal b g n cs)
 sealed_by (Seal c g m cs) b n h = let e = only_at_is c b (Sealed m) (Sealed n) h in (g, cs, cc (e.0, e.1))
@@ -60,4 +60,4 @@ first_none (Some b) p h = absurd cc
 first_none None p h = (refl, h)
 
 pub only_at_same : {A : Type 0} (c b : BranchId) (a : A) → c ≡ b → only_at c b a ≡ Some a
-only_at_same c b a e = grind (arith, same_tells)
+only_at_same c b a e = grind (arith, same_reports)

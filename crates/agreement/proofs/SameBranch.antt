@@ -5,8 +5,8 @@ use Rattle.tran_ids.proofs.BranchLemmas.{equal_from_same, same_from_equal}
 use Rattle.agreement.specs.Data.{BranchId}
 use Rattle.tran_ids.specs.Branch.{same}
 
-pub same_tells : (a b : BranchId) → Decides (same a b) (a ≡ b)
-same_tells a b = (equal_from_same a b, same_from_equal a b)
+pub same_reports : (a b : BranchId) → Decides (same a b) (a ≡ b)
+same_reports a b = (equal_from_same a b, same_from_equal a b)
 
 pub cases_same : (a b : BranchId) → (a ≡ b) ⊎ (a ≢ b)
 cases_same a b = go (same a b) refl

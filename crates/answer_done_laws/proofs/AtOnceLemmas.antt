@@ -8,7 +8,7 @@ use Rattle.node_rules.specs.Data.answers
 use Rattle.node_rules.specs.Data.inputs
 use Rattle.node_rules.specs.declared.session.Finished.{Finished}
 use Rattle.node_rules.specs.Inputs.{IsCall}
-use Rattle.node_rules.specs.Kept.{Kept, Outcome}
+use Rattle.node_rules.specs.NodeState.{NodeState, Outcome}
 use Rattle.run_rules.specs.Calls.{is_call_at, call_at}
 use Rattle.run_rules.specs.Data.{Command, Happening, Turn}
 use Rattle.run_rules.specs.Data.commands
@@ -21,9 +21,9 @@ use Rattle.run_base_laws.specs.NodeLaws.{EachFactFrom, AtEachFact}
 use Rattle.run_rules.specs.Data.said
 use Rattle.run_rules.specs.Lines.{is_down, line}
 use Rattle.run_rules.specs.Past.{ends_calls, next}
-use Rattle.run_claims.specs.Places.{past_upto, node_line, told_of}
+use Rattle.run_claims.specs.Places.{past_upto, node_line, reported_of}
 use Rattle.run_rules.specs.Runs.{is_accepted}
-use Rattle.run_rules.specs.Telling.{Call, Past, Telling}
+use Rattle.run_rules.specs.RunReport.{Call, Past, RunReport}
 use Rattle.net_bag.specs.Net.{lost_at_once}
 use Rattle.run_rules.proofs.AtNodeLemmas.{stop_here}
 use Rattle.run_ready_laws.proofs.PendingLemmas.{called_at, there_called}
@@ -73,7 +73,7 @@ pub one_done : (fs : List Finished) (n : ℕ) (d : Done) → answers_to n fs ≡
 one_done fs n d is = ap (list_any (λ a. is_accepted (Some a))) is
 
 -- a statement with a record of its own
-pub recorded : {p : Place} {k : Kept} {s : Stmt} {r : RedoRecord} {d : Done} → Records p k s r d → is_recorded s ≡ true
+pub recorded : {p : Place} {k : NodeState} {s : Stmt} {r : RedoRecord} {d : Done} → Records p k s r d → is_recorded s ≡ true
 recorded (A_table t) = refl
 recorded (A_link l) = refl
 recorded (A_synonym y) = refl
@@ -103,7 +103,7 @@ module _ (t : History) (run : IsTheRunOf t) where
   -- ---- a turn
 
   module _ (i : ℕ) (u : Turn) (there : slice_get t.trace i ≡ Some (happenings.Turn u)) where
-    pub up_there : (k : Kept) × (node_at (facts_upto t i) u.node ≡ Some k)
+    pub up_there : (k : NodeState) × (node_at (facts_upto t i) u.node ≡ Some k)
     up_there = let may = may_at t run i (happenings.Turn u) there in (may.0, subst (λ (f : Facts). node_at f u.node ≡ Some may.0) (facts_there t i) may.1.up)
 
     -- what a whole turn ends
@@ -115,12 +115,12 @@ module _ (t : History) (run : IsTheRunOf t) where
 
     -- ---- a turn that is cut
 
-    cut_facts : u.cut ≡ true → ((past_upto t (i + 1)).facts.node_to_stop ≡ Some u.node) × ((past_upto t (i + 1)).facts.losses_to_tell ≡ [])
+    cut_facts : u.cut ≡ true → ((past_upto t (i + 1)).facts.node_to_stop ≡ Some u.node) × ((past_upto t (i + 1)).facts.losses_to_report ≡ [])
     unfolding next
     cut_facts cut =
         let may = may_at t run i (happenings.Turn u) there in
         let owed : IsOwed (place_at t.places u.node) may.0 u.input u.wrote u.sent true = subst (IsOwed (place_at t.places u.node) may.0 u.input u.wrote u.sent) cut may.1.owed in
-        subst (λ (q : Past). (q.facts.node_to_stop ≡ Some u.node) × (q.facts.losses_to_tell ≡ [])) (sym (one_more t i (happenings.Turn u) there))
+        subst (λ (q : Past). (q.facts.node_to_stop ≡ Some u.node) × (q.facts.losses_to_report ≡ [])) (sym (one_more t i (happenings.Turn u) there))
         (ap (λ q. if q then Some u.node else None) cut, ap (lost_at_once (taken (past_upto t i).facts.net u.took)) owed.1)
 
     stops_next : u.cut ≡ true → (h : Happening) → MayHappen t.places t.commands (past_upto t (i + 1)).facts h → h ≡ happenings.Stopped u.node
@@ -138,7 +138,7 @@ module _ (t : History) (run : IsTheRunOf t) where
     stops_next cut (happenings.Started n boot) may = let none = may.settled.upright in let stop = (cut_facts cut).0 in absurd (cc (none, stop))
 
     -- no call of the node is pending once it has stopped
-    stopped_none : slice_get t.trace (i + 1) ≡ Some (happenings.Stopped u.node) → (s : ℕ) → called_at (past_upto t (i + 1 + 1)).telling.calls u.node s ≡ false
+    stopped_none : slice_get t.trace (i + 1) ≡ Some (happenings.Stopped u.node) → (s : ℕ) → called_at (past_upto t (i + 1 + 1)).run_report.calls u.node s ≡ false
     unfolding next facts_after
     stopped_none after s =
         let may = may_at t run (i + 1) (happenings.Stopped u.node) after in
@@ -152,7 +152,7 @@ module _ (t : History) (run : IsTheRunOf t) where
         none_stops stop = absurd cc
 
     -- so none is found later
-    pub none_after : u.cut ≡ true → (j : ℕ) (v : Turn) → slice_get t.trace j ≡ Some (happenings.Turn v) → i < j → (s : ℕ) (c : Call) → ((k : ℕ) → i ≤ k → k < j + 1 → call_at (past_upto t k).telling u.node s ≡ Some c) → ⊥
+    pub none_after : u.cut ≡ true → (j : ℕ) (v : Turn) → slice_get t.trace j ≡ Some (happenings.Turn v) → i < j → (s : ℕ) (c : Call) → ((k : ℕ) → i ≤ k → k < j + 1 → call_at (past_upto t k).run_report u.node s ≡ Some c) → ⊥
     none_after cut j v later low s c pends = by (below_or (i + 1) j (omega (arith, low)))
       where
         after : (h : Happening) × (slice_get t.trace (i + 1) ≡ Some h)
@@ -167,9 +167,9 @@ module _ (t : History) (run : IsTheRunOf t) where
             let turn : after.0 ≡ happenings.Turn v = cc in
             absurd (cc (turn, stops))
         by (inl more) =
-            let none : called_at (past_upto t (i + 1 + 1)).telling.calls u.node s ≡ false = stopped_none (after.1 ∙ ap Some stops) s in
-            let some : called_at (past_upto t (i + 1 + 1)).telling.calls u.node s ≡ true
-            = there_called u.node s (past_upto t (i + 1 + 1)).telling.calls c (pends (i + 1 + 1) (omega arith) (omega (arith, more))) in
+            let none : called_at (past_upto t (i + 1 + 1)).run_report.calls u.node s ≡ false = stopped_none (after.1 ∙ ap Some stops) s in
+            let some : called_at (past_upto t (i + 1 + 1)).run_report.calls u.node s ≡ true
+            = there_called u.node s (past_upto t (i + 1 + 1)).run_report.calls c (pends (i + 1 + 1) (omega arith) (omega (arith, more))) in
             absurd (cc (none, some))
 
     -- ---- a whole turn answers at once
@@ -179,9 +179,9 @@ module _ (t : History) (run : IsTheRunOf t) where
     answers_so uncut s st call one = fact_at t AnswersAtOnce (each_is_answered t lawful) i (happenings.Turn u) there up_there.0 up_there.1 s st call one uncut
 
     -- the call of a command that is answered so is pending no more, and its line is told at the end
-    pub gone_and_told : u.cut ≡ false → (s command : ℕ) (text : Option Stmt) → command_at t.commands command ≡ commands.At u.node s text → (c : Call) → call_at (past_upto t i).telling u.node s ≡ Some c → c.command ≡ command
+    pub gone_and_told : u.cut ≡ false → (s command : ℕ) (text : Option Stmt) → command_at t.commands command ≡ commands.At u.node s text → (c : Call) → call_at (past_upto t i).run_report u.node s ≡ Some c → c.command ≡ command
         → c.follows ≡ None → (a : Answer) → answers_to s (ended_in t.places (facts_upto t i) u) ≡ a ∷ []
-        → ((j : ℕ) × (slice_get (told_of t) j ≡ Some (node_line command a))) × (call_at (past_upto t (i + 1)).telling u.node s ≡ None)
+        → ((j : ℕ) × (slice_get (reported_of t) j ≡ Some (node_line command a))) × (call_at (past_upto t (i + 1)).run_report u.node s ≡ None)
     gone_and_told uncut s command text named c at its alone a is =
         let o = outcome_there in
         let ended : answers_to s o.0.ended ≡ a ∷ [] = ap (answers_to s) (sym (ended_is o.0 uncut o.1)) ∙ is in
@@ -189,26 +189,26 @@ module _ (t : History) (run : IsTheRunOf t) where
         (told_at_last t run command u.node s text named (said.Node a) (i + 1) told.0, told.1)
 
     -- a call whose turn is cut is told that the node is down
-    cut_keeps : u.cut ≡ true → (s : ℕ) → call_at (past_upto t (i + 1)).telling u.node s ≡ call_at (past_upto t i).telling u.node s
+    cut_keeps : u.cut ≡ true → (s : ℕ) → call_at (past_upto t (i + 1)).run_report u.node s ≡ call_at (past_upto t i).run_report u.node s
     unfolding next
     cut_keeps cut s =
         let p : Past = past_upto t i in
         let o : Option Outcome = outcome_at t.places p.facts u in
-        let v : Telling = before_end t run i (all_so t run i) u there o in
-        ap (λ (q : Past). call_at q.telling u.node s) (one_more t i (happenings.Turn u) there)
+        let v : RunReport = before_end t run i (all_so t run i) u there o in
+        ap (λ (q : Past). call_at q.run_report u.node s) (one_more t i (happenings.Turn u) there)
         ∙ (ap (λ q. call_at (ends_calls p.facts.command v u q o) u.node s) cut ∙ ap (find (is_call_at u.node s)) (before_so t run i (all_so t run i) u there o).calls)
 
     pub cut_told : u.cut ≡ true → (h : Happening) → slice_get t.trace (i + 1) ≡ Some h → (s command : ℕ) (text : Option Stmt) → command_at t.commands command ≡ commands.At u.node s text → (c : Call)
-        → call_at (past_upto t i).telling u.node s ≡ Some c → c.command ≡ command → (j : ℕ) × (slice_get (told_of t) j ≡ Some (line command (is_down t.places u.node)))
+        → call_at (past_upto t i).run_report u.node s ≡ Some c → c.command ≡ command → (j : ℕ) × (slice_get (reported_of t) j ≡ Some (line command (is_down t.places u.node)))
     cut_told cut h after s command text named c at its =
         let stops : slice_get t.trace (i + 1) ≡ Some (happenings.Stopped u.node) = after ∙ ap Some (stops_next cut h (may_at t run (i + 1) h after)) in
-        let none : call_at (past_upto t (i + 1 + 1)).telling u.node s ≡ None = none_by (call_at (past_upto t (i + 1 + 1)).telling u.node s) refl (stopped_none stops s) in
+        let none : call_at (past_upto t (i + 1 + 1)).run_report u.node s ≡ None = none_by (call_at (past_upto t (i + 1 + 1)).run_report u.node s) refl (stopped_none stops s) in
         told_at_last t run command u.node s text named (is_down t.places u.node) (i + 1 + 1)
         (stop_told t run command u.node s text named (is_down t.places u.node) (i + 1) u.node stops refl refl c (cut_keeps cut s ∙ at) its none)
       where
-        none_by : (o : Option Call) → call_at (past_upto t (i + 1 + 1)).telling u.node s ≡ o → called_at (past_upto t (i + 1 + 1)).telling.calls u.node s ≡ false → o ≡ None
+        none_by : (o : Option Call) → call_at (past_upto t (i + 1 + 1)).run_report u.node s ≡ o → called_at (past_upto t (i + 1 + 1)).run_report.calls u.node s ≡ false → o ≡ None
         none_by None is none = refl
-        none_by (Some d) is none = let some : called_at (past_upto t (i + 1 + 1)).telling.calls u.node s ≡ true = there_called u.node s (past_upto t (i + 1 + 1)).telling.calls d is in absurd (cc (none, some))
+        none_by (Some d) is none = let some : called_at (past_upto t (i + 1 + 1)).run_report.calls u.node s ≡ true = there_called u.node s (past_upto t (i + 1 + 1)).run_report.calls d is in absurd (cc (none, some))
 
   -- ---- the turn of a recorded statement is the one that ends its call
 
@@ -220,8 +220,8 @@ module _ (t : History) (run : IsTheRunOf t) where
     pub brought : IsCall u.input s st
     brought = came.turn.came ∙ ap (inputs.Call s) is
 
-    pends : (k : ℕ) → came.moment ≤ k → k < j + 1 → call_at (past_upto t k).telling u.node s ≡ Some c
-    pends k low high = subst (λ m. call_at (past_upto t k).telling m s ≡ Some c) (sym came.turn.here) (came.stays k low high)
+    pends : (k : ℕ) → came.moment ≤ k → k < j + 1 → call_at (past_upto t k).run_report u.node s ≡ Some c
+    pends k low high = subst (λ m. call_at (past_upto t k).run_report m s ≡ Some c) (sym came.turn.here) (came.stays k low high)
 
     not_later : came.moment < j → (cut : Bool) → u.cut ≡ cut → ⊥
     not_later low true cut = none_after came.moment u came.turn.there cut j v later low s c pends

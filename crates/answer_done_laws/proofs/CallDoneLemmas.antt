@@ -8,7 +8,7 @@ use Rattle.run_rules.specs.Calls.{is_call_at, call_at, without_call, change_call
 use Rattle.run_rules.specs.Data.{Command}
 use Rattle.run_rules.specs.Data.said
 use Rattle.run_rules.specs.Lines.{says_node}
-use Rattle.run_rules.specs.Telling.{Call, Telling}
+use Rattle.run_rules.specs.RunReport.{Call, RunReport}
 use Rattle.run_ready_laws.proofs.PendingLemmas.{line_same, at_parts}
 use Rattle.answer_origin_laws.proofs.CallAtLemmas.{HasShape, AreShaped, found_at, find_kept, find_left, gone_fewer, one_command, changed_shapes, follows_at}
 use Rattle.answer_done_laws.specs.DoneLaws.{answers_to}
@@ -22,7 +22,7 @@ after_answer c a (Some st) = if is_complete a then Some (second_of c st) else No
 module _ (asked : List Command) (running node : ℕ) where
   -- ---- one call that ends
 
-  module _ (t : Telling) (shapes : AreShaped asked t.calls) (f : Finished) where
+  module _ (t : RunReport) (shapes : AreShaped asked t.calls) (f : Finished) where
     gone_shapes : (c : Call) → AreShaped asked (call_ends running t c f).calls
     gone_shapes c = (gone_fewer asked running t c.node c.session c.command (says_node f) shapes).shapes
 
@@ -34,13 +34,13 @@ module _ (asked : List Command) (running node : ℕ) where
         by : (o : Option Stmt) → c.follows ≡ o → AreShaped asked (ends_or_follows running t c f o).calls
         by None is = gone_shapes c
         by (Some st) is =
-            cond_both (is_complete f.answer) (call_follows t (second_of c st)) (call_ends running t c f) (λ (u : Telling). AreShaped asked u.calls)
+            cond_both (is_complete f.answer) (call_follows t (second_of c st)) (call_ends running t c f) (λ (u : RunReport). AreShaped asked u.calls)
             (λ complete. changed_shapes asked t shapes c (found_at asked t node f.session c shapes at).0 st is t.calls shapes) (λ other. gone_shapes c)
 
     -- a call that ends is of its own session
     gone_elsewhere : (c : Call) (s : ℕ) → c.session ≡ f.session → (f.session == s) ≡ false → call_at (call_ends running t c f) node s ≡ call_at t node s
     gone_elsewhere c s own other =
-        let u : Telling = without_call t c.node c.session in
+        let u : RunReport = without_call t c.node c.session in
         ap (find (is_call_at node s)) (line_same running u c.command (says_node f)).calls
         ∙ find_kept (is_call_at node s) (λ x. not (is_call_at c.node c.session x)) (λ x is. by (c.session == s) refl x is) t.calls
       where
@@ -84,7 +84,7 @@ module _ (asked : List Command) (running node : ℕ) where
     one_none None at s none = none
     one_none (Some c) at s none = by c.follows refl
       where
-        still : (u : Telling) → ((e : Call) → call_at u node s ≡ Some e → ⊥) → call_at u node s ≡ None
+        still : (u : RunReport) → ((e : Call) → call_at u node s ≡ Some e → ⊥) → call_at u node s ≡ None
         still u never = at_most (call_at u node s) refl
           where
             at_most : (o : Option Call) → call_at u node s ≡ o → o ≡ None
@@ -104,7 +104,7 @@ module _ (asked : List Command) (running node : ℕ) where
     own_gone : (c : Call) → call_at t node f.session ≡ Some c → call_at (call_ends running t c f) node f.session ≡ None
     own_gone c at =
         let its = found_at asked t node f.session c shapes at in
-        let u : Telling = without_call t c.node c.session in
+        let u : RunReport = without_call t c.node c.session in
         ap (find (is_call_at node f.session)) (line_same running u c.command (says_node f)).calls
         ∙ find_left (is_call_at node f.session) (λ x. not (is_call_at c.node c.session x))
         (λ x is. (let mine = at_parts node f.session x is in
@@ -113,17 +113,17 @@ module _ (asked : List Command) (running node : ℕ) where
 
   -- ---- the calls of a turn
 
-  pub all_shapes : (t : Telling) (fs : List Finished) → AreShaped asked t.calls → AreShaped asked (finished running t node fs).calls
+  pub all_shapes : (t : RunReport) (fs : List Finished) → AreShaped asked t.calls → AreShaped asked (finished running t node fs).calls
   all_shapes t [] shapes = shapes
   all_shapes t (f ∷ fs) shapes = all_shapes (finished_call running t f (call_at t node f.session)) fs (one_shapes t shapes f (call_at t node f.session) refl)
 
-  pub none_stays : (t : Telling) (fs : List Finished) → AreShaped asked t.calls → (s : ℕ) → call_at t node s ≡ None → call_at (finished running t node fs) node s ≡ None
+  pub none_stays : (t : RunReport) (fs : List Finished) → AreShaped asked t.calls → (s : ℕ) → call_at t node s ≡ None → call_at (finished running t node fs) node s ≡ None
   none_stays t [] shapes s none = none
   none_stays t (f ∷ fs) shapes s none =
       none_stays (finished_call running t f (call_at t node f.session)) fs (one_shapes t shapes f (call_at t node f.session) refl) s (one_none t shapes f (call_at t node f.session) refl s none)
 
   -- the answer of a session's call
-  pub answered_put : (t : Telling) (fs : List Finished) → AreShaped asked t.calls → (s : ℕ) (c : Call) → call_at t node s ≡ Some c → c.follows ≡ None → (a : Answer) → answers_to s fs ≡ a ∷ []
+  pub answered_put : (t : RunReport) (fs : List Finished) → AreShaped asked t.calls → (s : ℕ) (c : Call) → call_at t node s ≡ Some c → c.follows ≡ None → (a : Answer) → answers_to s fs ≡ a ∷ []
       → IsPut running (finished running t node fs) c.command (said.Node a) × (call_at (finished running t node fs) node s ≡ None)
   answered_put t [] shapes s c at alone a is = absurd cc
   answered_put t (f ∷ fs) shapes s c at alone a is =
@@ -141,7 +141,7 @@ module _ (asked : List Command) (running node : ℕ) where
           let mine : call_at t node f.session ≡ Some c = subst (λ i. call_at t node i ≡ Some c) (sym same) at in
           let first : f.answer ∷ answers_to s fs ≡ a ∷ [] = sym (ap (λ q. map (λ x. x.answer) (if q then f ∷ filter (λ x. x.session == s) fs else filter (λ x. x.session == s) fs)) here) ∙ is in
           let answer : f.answer ≡ a = cc in
-          let v : Telling = call_ends running t c f in
+          let v : RunReport = call_ends running t c f in
           let now : finished_call running t f (call_at t node f.session) ≡ v = ap (finished_call running t f) mine ∙ ap (ends_or_follows running t c f) alone in
           let put : IsPut running v c.command (said.Node a) = subst (λ (x : Answer). IsPut running v c.command (said.Node x)) answer (line_put running (without_call t c.node c.session) c.command (says_node f)) in
           let gone : call_at v node s ≡ None = subst (λ i. call_at v node i ≡ None) same (own_gone t shapes f c mine) in
@@ -151,7 +151,7 @@ module _ (asked : List Command) (running node : ℕ) where
   -- ---- what is pending after an answer
 
   -- a call of another session is
-  others_stay : (t : Telling) (fs : List Finished) → AreShaped asked t.calls → (s : ℕ) → answers_to s fs ≡ [] → (d : Call) → call_at t node s ≡ Some d → call_at (finished running t node fs) node s ≡ Some d
+  others_stay : (t : RunReport) (fs : List Finished) → AreShaped asked t.calls → (s : ℕ) → answers_to s fs ≡ [] → (d : Call) → call_at t node s ≡ Some d → call_at (finished running t node fs) node s ≡ Some d
   others_stay t [] shapes s none d at = at
   others_stay t (f ∷ fs) shapes s none d at =
       by (f.session == s) refl (λ left there. others_stay (finished_call running t f (call_at t node f.session)) fs (one_shapes t shapes f (call_at t node f.session) refl) s left d there)
@@ -163,7 +163,7 @@ module _ (asked : List Command) (running node : ℕ) where
       by false other later =
           later (sym (ap (λ q. map (λ x. x.answer) (if q then f ∷ filter (λ x. x.session == s) fs else filter (λ x. x.session == s) fs)) other) ∙ none) (one_elsewhere t shapes f (call_at t node f.session) refl s other d at)
 
-  pub answered_call : (t : Telling) (fs : List Finished) → AreShaped asked t.calls → (s : ℕ) (c : Call) → call_at t node s ≡ Some c → (a : Answer) → answers_to s fs ≡ a ∷ []
+  pub answered_call : (t : RunReport) (fs : List Finished) → AreShaped asked t.calls → (s : ℕ) (c : Call) → call_at t node s ≡ Some c → (a : Answer) → answers_to s fs ≡ a ∷ []
       → call_at (finished running t node fs) node s ≡ after_answer c a c.follows
   answered_call t [] shapes s c at a is = absurd cc
   answered_call t (f ∷ fs) shapes s c at a is =

@@ -6,7 +6,7 @@ use Rattle.node_rules.specs.Data.inputs
 use Rattle.node_rules.specs.Data.stmts
 use Rattle.node_rules.specs.declared.session.PendingCall.{PendingCall}
 use Rattle.node_rules.specs.declared.session.PendingCall.TheVariants as pending
-use Rattle.node_rules.specs.Kept.{Kept, Outcome}
+use Rattle.node_rules.specs.NodeState.{NodeState, Outcome}
 use Rattle.node_rules.specs.Sessions.{session_at}
 use Rattle.node_rules.specs.Turn.{turn_of, heard}
 use Rattle.run_base_laws.specs.CallLaws.{RootWaits}
@@ -16,10 +16,10 @@ use Rattle.run_rules.specs.Data.happenings
 use Rattle.run_rules.specs.Facts.{Facts, node_at, outcome_at, place_at, kept_after, served, facts_after}
 use Rattle.run_rules.specs.Scripts.{IsTheRunOf}
 use Rattle.run_rules.specs.Lawful.{History, MayTurn}
-use Rattle.run_rules.specs.Past.{ends_calls, telling_turned, next}
+use Rattle.run_rules.specs.Past.{ends_calls, report_turned, next}
 use Rattle.run_claims.specs.Places.{past_upto}
 use Rattle.run_rules.specs.Runs.{is_accepted}
-use Rattle.run_rules.specs.Telling.{Call, Past, Telling}
+use Rattle.run_rules.specs.RunReport.{Call, Past, RunReport}
 use Rattle.run_rules.proofs.AtNodeLemmas.{turn_elsewhere, stop_elsewhere, start_elsewhere, turn_here, stop_here}
 use Rattle.run_rules.proofs.FactLemmas.{facts_next}
 use Rattle.run_base_laws.proofs.LawfulLemmas.{serves}
@@ -47,7 +47,7 @@ waits_none pending.NoCall phase going waits is = absurd cc
 waits_none pending.Statement phase going waits is = absurd cc
 waits_none pending.Commit phase going waits is = waits
 
-commits_of : (m : ℕ) (input : Input) (k : Kept) → NodeRests k → Before input k → (session_at k.sessions m).call ≡ pending.Commit → Commits m input k
+commits_of : (m : ℕ) (input : Input) (k : NodeState) → NodeRests k → Before input k → (session_at k.sessions m).call ≡ pending.Commit → Commits m input k
 commits_of m input k rests before commits = record {
   commits = commits;
   roots = rests.0.roots.each;
@@ -55,7 +55,7 @@ commits_of m input k rests before commits = record {
   rests = λ no_call x found root same. waits_none (session_at k.sessions x.live.me.session).call x.live.phase x.work.going (branch_root k rests.1 x found root).waits (ap (λ i. (session_at k.sessions i).call) same ∙ commits);
 }
 
-heard_commits : (m : ℕ) (k : Kept) (input what : Input) → Commits m what k → Commits m what (heard k input)
+heard_commits : (m : ℕ) (k : NodeState) (input what : Input) → Commits m what k → Commits m what (heard k input)
 heard_commits m k (inputs.Message msg) what now = record { commits = now.commits; roots = now.roots; below = now.below; rests = now.rests }
 heard_commits m k (inputs.Call n s) what now = now
 heard_commits m k (inputs.GiveUp n) what now = now
@@ -67,7 +67,7 @@ module _ (t : History) (run : IsTheRunOf t) where
     stands = stand_at t run i
 
     -- a turn of a node where the COMMIT of a session is pending
-    turn_so : (k : Kept) → MayTurn t.places (past_upto t i).facts u k → (m : ℕ) → ((s : Option Stmt) → u.input ≡ inputs.Call m s → ⊥) → (session_at k.sessions m).call ≡ pending.Commit
+    turn_so : (k : NodeState) → MayTurn t.places (past_upto t i).facts u k → (m : ℕ) → ((s : Option Stmt) → u.input ≡ inputs.Call m s → ⊥) → (session_at k.sessions m).call ≡ pending.Commit
         → CommitSo m (turn_of (place_at t.places u.node) k u.input).after.sessions (turn_of (place_at t.places u.node) k u.input).ended
     unfolding turn_of
     turn_so k may m other commits =
@@ -76,7 +76,7 @@ module _ (t : History) (run : IsTheRunOf t) where
         commit_on m (place_at t.places u.node) u.input other (serves t.places (past_upto t i).facts u k may).step (heard_commits m k u.input u.input (commits_of m u.input k rests before commits))
 
     -- the turn that it comes in
-    comes_so : (k : Kept) (m : ℕ) (given : Option (List ℕ)) → u.input ≡ inputs.Call m (Some (stmts.Commit given))
+    comes_so : (k : NodeState) (m : ℕ) (given : Option (List ℕ)) → u.input ≡ inputs.Call m (Some (stmts.Commit given))
         → CommitSo m (turn_of (place_at t.places u.node) k u.input).after.sessions (turn_of (place_at t.places u.node) k u.input).ended
     unfolding turn_of
     comes_so k m given call =
@@ -84,19 +84,19 @@ module _ (t : History) (run : IsTheRunOf t) where
 
     -- ---- what is pending after a whole turn that answers a call
 
-    answered_after : u.cut ≡ false → (o : Outcome) → outcome_at t.places (past_upto t i).facts u ≡ Some o → (s : ℕ) (c : Call) → call_at (past_upto t i).telling u.node s ≡ Some c → (a : Answer) → answers_to s o.ended ≡ a ∷ []
-        → call_at (past_upto t (i + 1)).telling u.node s ≡ after_answer c a c.follows
+    answered_after : u.cut ≡ false → (o : Outcome) → outcome_at t.places (past_upto t i).facts u ≡ Some o → (s : ℕ) (c : Call) → call_at (past_upto t i).run_report u.node s ≡ Some c → (a : Answer) → answers_to s o.ended ≡ a ∷ []
+        → call_at (past_upto t (i + 1)).run_report u.node s ≡ after_answer c a c.follows
     unfolding next
     answered_after uncut o comes s c at a is =
         let p : Past = past_upto t i in
         let now : CallsSo t i p = all_so t run i in
-        let v : Telling = before_end t run i now u there (Some o) in
-        let same : ToldBefore p.telling v = page_before t run i now u there (Some o) in
-        let w : Telling = finished p.facts.command v u.node o.ended in
+        let v : RunReport = before_end t run i now u there (Some o) in
+        let same : ToldBefore p.run_report v = page_before t run i now u there (Some o) in
+        let w : RunReport = finished p.facts.command v u.node o.ended in
         let shapes : AreShaped t.commands v.calls = subst (AreShaped t.commands) (sym same.calls) now.shapes in
         let after : call_at w u.node s ≡ after_answer c a c.follows = answered_call t.commands p.facts.command u.node v o.ended shapes s c (ap (find (is_call_at u.node s)) same.calls ∙ at) a is in
-        ap (λ (q : Past). call_at q.telling u.node s) (one_more t i (happenings.Turn u) there)
-        ∙ (ap (λ x. call_at (telling_turned p.facts.command (node_at p.facts u.node) p.telling u x) u.node s) comes
+        ap (λ (q : Past). call_at q.run_report u.node s) (one_more t i (happenings.Turn u) there)
+        ∙ (ap (λ x. call_at (report_turned p.facts.command (node_at p.facts u.node) p.run_report u x) u.node s) comes
         ∙ (ap (λ q. call_at (ends_calls p.facts.command v u q (Some o)) u.node s) uncut ∙ (ap (find (is_call_at u.node s)) (input_same w p.facts.command u.node u.input).0 ∙ after)))
 
   -- ---- a COMMIT from its turn on
@@ -114,10 +114,10 @@ module _ (t : History) (run : IsTheRunOf t) where
 
   module _ (bound n s : ℕ) (c : Call) (came : CameBefore t bound n s c) (given : Option (List ℕ)) (own : c.statement ≡ Some (stmts.Commit given)) where
     abbrev Pends : ℕ → Type 0
-    Pends j = (k : Kept) → node_at (past_upto t j).facts n ≡ Some k → (session_at k.sessions s).call ≡ pending.Commit
+    Pends j = (k : NodeState) → node_at (past_upto t j).facts n ≡ Some k → (session_at k.sessions s).call ≡ pending.Commit
 
     -- what a turn does about it
-    turn_does : (j : ℕ) → came.moment ≤ j → j < bound → (u : Turn) → slice_get t.trace j ≡ Some (happenings.Turn u) → u.node ≡ n → (k : Kept) → MayTurn t.places (past_upto t j).facts u k → (came.moment < j → Pends j)
+    turn_does : (j : ℕ) → came.moment ≤ j → j < bound → (u : Turn) → slice_get t.trace j ≡ Some (happenings.Turn u) → u.node ≡ n → (k : NodeState) → MayTurn t.places (past_upto t j).facts u k → (came.moment < j → Pends j)
         → CommitSo s (turn_of (place_at t.places u.node) k u.input).after.sessions (turn_of (place_at t.places u.node) k u.input).ended
     turn_does j from below u there here k may pends = elim (below_or came.moment j (omega (arith, from))) [
       | inl later ↦ turn_so j u there k may s (λ st call. came.last j later below u there here st call) (pends later k (ap (node_at (past_upto t j).facts) (sym here) ∙ may.up))
@@ -133,10 +133,10 @@ module _ (t : History) (run : IsTheRunOf t) where
       even : length p.facts.nodes ≡ length p.facts.records
       even = (stand_at t run j).born.0.0.even
 
-      pending_here : call_at p.telling n s ≡ Some c
+      pending_here : call_at p.run_report n s ≡ Some c
       pending_here = came.stays j from (omega (arith, below))
 
-      pending_next : call_at (past_upto t (j + 1)).telling n s ≡ Some c
+      pending_next : call_at (past_upto t (j + 1)).run_report n s ≡ Some c
       pending_next = came.stays (j + 1) (omega (arith, from)) below
 
       -- only its own turn is that of the moment
@@ -146,14 +146,14 @@ module _ (t : History) (run : IsTheRunOf t) where
         | inr now ↦ absurd (none came.turn.turn (let it : Some h ≡ Some (happenings.Turn came.turn.turn) = sym there ∙ (ap (slice_get t.trace) (sym now) ∙ came.turn.there) in let same : h ≡ happenings.Turn came.turn.turn = cc in same) came.turn.here)
       ]
 
-      turn_pends : (u : Turn) → slice_get t.trace j ≡ Some (happenings.Turn u) → (k : Kept) → node_at (facts_after t.places t.commands p.facts (happenings.Turn u)) n ≡ Some k → (session_at k.sessions s).call ≡ pending.Commit
+      turn_pends : (u : Turn) → slice_get t.trace j ≡ Some (happenings.Turn u) → (k : NodeState) → node_at (facts_after t.places t.commands p.facts (happenings.Turn u)) n ≡ Some k → (session_at k.sessions s).call ≡ pending.Commit
       turn_pends u there k up = elim (cases_nat u.node n) [
         | inr other ↦ (let same = (turn_elsewhere t.places t.commands p.facts even u n other).0 in
             pends (later_than (happenings.Turn u) there (λ v is here. (let it : u ≡ v = cc in absurd (other (ap (λ (x : Turn). x.node) it ∙ here))))) k (sym same ∙ up))
         | inl here ↦ by_cut here u.cut refl
       ]
         where
-          may : (k : Kept) × MayTurn t.places p.facts u k
+          may : (k : NodeState) × MayTurn t.places p.facts u k
           may = may_at t run j (happenings.Turn u) there
 
           after : (here : u.node ≡ n) → kept_after u.cut (Some (turn_of (place_at t.places u.node) may.0 u.input)) ≡ Some k
@@ -166,16 +166,16 @@ module _ (t : History) (run : IsTheRunOf t) where
               let it : Some o.after ≡ Some k = sym (ap (λ q. kept_after q (Some o)) uncut) ∙ after here in
               let kept : o.after ≡ k = cc in
               elim (turn_does j from (omega (arith, below)) u there here may.0 may.1 pends) [
-                | inl still ↦ ap (λ (x : Kept). (session_at x.sessions s).call) (sym kept) ∙ still.1
+                | inl still ↦ ap (λ (x : NodeState). (session_at x.sessions s).call) (sym kept) ∙ still.1
                 | inr answered ↦ (let comes : outcome_at t.places p.facts u ≡ Some o = ap (served (place_at t.places u.node) u.input) may.1.up in
-                    let left = answered_after j u there uncut o comes s c (ap (λ m. call_at p.telling m s) here ∙ pending_here) answered.0 answered.1 in
-                    absurd (changed c answered.0 c.follows refl (sym left ∙ (ap (λ m. call_at (past_upto t (j + 1)).telling m s) here ∙ pending_next))))
+                    let left = answered_after j u there uncut o comes s c (ap (λ m. call_at p.run_report m s) here ∙ pending_here) answered.0 answered.1 in
+                    absurd (changed c answered.0 c.follows refl (sym left ∙ (ap (λ m. call_at (past_upto t (j + 1)).run_report m s) here ∙ pending_next))))
               ]
 
-      other_pends : (h : Happening) → slice_get t.trace j ≡ Some h → ((u : Turn) → h ≡ happenings.Turn u → ⊥) → (k : Kept) → node_at p.facts n ≡ Some k → (session_at k.sessions s).call ≡ pending.Commit
+      other_pends : (h : Happening) → slice_get t.trace j ≡ Some h → ((u : Turn) → h ≡ happenings.Turn u → ⊥) → (k : NodeState) → node_at p.facts n ≡ Some k → (session_at k.sessions s).call ≡ pending.Commit
       other_pends h there none k up = pends (later_than h there (λ u is here. none u is)) k up
 
-      happens : (h : Happening) → slice_get t.trace j ≡ Some h → (k : Kept) → node_at (facts_after t.places t.commands p.facts h) n ≡ Some k → (session_at k.sessions s).call ≡ pending.Commit
+      happens : (h : Happening) → slice_get t.trace j ≡ Some h → (k : NodeState) → node_at (facts_after t.places t.commands p.facts h) n ≡ Some k → (session_at k.sessions s).call ≡ pending.Commit
       unfolding facts_after
       happens (happenings.Turn u) there k up = turn_pends u there k up
       happens (happenings.Stopped m) there k up = elim (cases_nat m n) [
@@ -190,8 +190,8 @@ module _ (t : History) (run : IsTheRunOf t) where
         | inr other ↦ other_pends (happenings.Started m boot) there (λ u is. absurd cc) k (sym (start_elsewhere t.places t.commands p.facts even m boot n other).0 ∙ up)
         | inl here ↦ (let may = may_at t run j (happenings.Started m boot) there in
             let down : node_at p.facts n ≡ None = subst (λ i. node_at p.facts i ≡ None) here may.down in
-            let none : called_at p.telling.calls n s ≡ false = (stand_at t run j).so.calls.down n down (λ stop. (let upright = may.settled.upright in absurd (cc (stop, upright)))) s in
-            let some : called_at p.telling.calls n s ≡ true = there_called n s p.telling.calls c pending_here in
+            let none : called_at p.run_report.calls n s ≡ false = (stand_at t run j).so.calls.down n down (λ stop. (let upright = may.settled.upright in absurd (cc (stop, upright)))) s in
+            let some : called_at p.run_report.calls n s ≡ true = there_called n s p.run_report.calls c pending_here in
             absurd (cc (none, some)))
       ]
       happens (happenings.Begun m) there k up = other_pends (happenings.Begun m) there (λ u is. absurd cc) k up
@@ -232,7 +232,7 @@ module _ (t : History) (run : IsTheRunOf t) where
             by (subst EndsCommit same answered.2) answered.0 (ap (after_answer e.call answered.0) (sym follows) ∙ (sym left ∙ e.over)) same)
       ]
     where
-      may : (k : Kept) × MayTurn t.places (past_upto t e.ended).facts e.turn k
+      may : (k : NodeState) × MayTurn t.places (past_upto t e.ended).facts e.turn k
       may = may_at t run e.ended (happenings.Turn e.turn) e.there
 
       comes : outcome_at t.places (past_upto t e.ended).facts e.turn ≡ Some (turn_of (place_at t.places e.turn.node) may.0 e.turn.input)

@@ -18,7 +18,7 @@ use Rattle.node_rules.specs.declared.work.Going.{Going}
 use Rattle.node_rules.specs.Client.{commit_by, commit_call, new_root, root_at}
 use Rattle.node_rules.specs.Commit.{decided_sessions, decision_answers}
 use Rattle.node_rules.specs.Inputs.{Came}
-use Rattle.node_rules.specs.Kept.{Branch, Deed, Kept, branch_at, live_at}
+use Rattle.node_rules.specs.NodeState.{Branch, Deed, NodeState, branch_at, live_at}
 use Rattle.node_rules.specs.Prepare.{abandoned_sessions, abandon_ends, act_turn, collecting, first_act, is_alone, with_comment, without_read_keys}
 use Rattle.node_rules.specs.Refusals.{dtx}
 use Rattle.node_rules.specs.Sessions.{session_at, with_call, needs_rollback, no_transaction, commit_is_pending, commit_ended, commit_answer}
@@ -134,7 +134,7 @@ module _ (m : ℕ) (ss : List Session) (commits : (session_at ss m).call ≡ pen
           own false is = inl (other_answer m b.session a ((record { session = n; answer = x }) ∷ []) is ∙ last, other_call b.session (no_transaction (session_at ss b.session)) is)
 
 -- an act of the prepare phase
-act_so : (m : ℕ) (k : Kept) (l : Live) (site_below : Bool) (a : Act) → (session_at k.sessions m).call ≡ pending.Commit → CommitSo m (act_turn k l site_below a).after.sessions (act_turn k l site_below a).ended
+act_so : (m : ℕ) (k : NodeState) (l : Live) (site_below : Bool) (a : Act) → (session_at k.sessions m).call ≡ pending.Commit → CommitSo m (act_turn k l site_below a).after.sessions (act_turn k l site_below a).ended
 act_so m k l site_below acts.Rest commits = same_so m k.sessions commits
 act_so m k l site_below acts.AskDown commits = same_so m k.sessions commits
 act_so m k l site_below acts.SayReadOnly commits = same_so m k.sessions commits
@@ -148,7 +148,7 @@ act_so m k l site_below acts.Abandon commits = abandoned_so m k.sessions commits
 -- ---- steps
 
 -- What is known of a node where the COMMIT of a session is pending.
-pub record Commits (m : ℕ) (input : Input) (k : Kept) : Type 0 where
+pub record Commits (m : ℕ) (input : Input) (k : NodeState) : Type 0 where
   pub commits : (session_at k.sessions m).call ≡ pending.Commit
   pub roots : (n : ℕ) (b : BranchId) → (session_at k.sessions n).root ≡ Some b → b.session ≡ n
   pub below : (from to : BranchId) (call given : ℕ) (advice : Option Advice) (s : Stmt) → Came input from to (kinds.Exec call given advice s) → (l : Live) → live_at k to ≡ Some l → l.parent ≢ None
@@ -162,17 +162,17 @@ module _ (m : ℕ) (p : Place) (input : Input) (other : (s : Option Stmt) → in
   came_no_call from to kind came n s call = let is = came.is in absurd (cc (call, is))
 
   -- a statement that came is that of another root
-  asked_other : {k : Kept} {x : Branch} {s : Stmt} {given : ℕ} → Commits m input k → Asked k input x s given → x.live.parent ≡ None → (x.live.me.session == m) ≡ false
+  asked_other : {k : NodeState} {x : Branch} {s : Stmt} {given : ℕ} → Commits m input k → Asked k input x s given → x.live.parent ≡ None → (x.live.me.session == m) ≡ false
   asked_other now (steps.By_call n x s call rows has code live) root = ap (λ i. i == m) (now.roots n x.live.me has) ∙ not_mine n (Some s) call
   asked_other {k = k} now (steps.By_exec x from call given advice s came live runs) root = absurd (now.below from x.live.me call given advice s came x.live (live_so k x.live.me x live) root)
 
   -- nor is one that waited
-  waits_other : {k : Kept} (x : Branch) (g : Going) → Commits m input k → ((n : ℕ) (s : Option Stmt) → input ≡ inputs.Call n s → ⊥) → branch_at k x.live.me ≡ Some x → x.work.going ≡ Some g → x.live.parent ≡ None
+  waits_other : {k : NodeState} (x : Branch) (g : Going) → Commits m input k → ((n : ℕ) (s : Option Stmt) → input ≡ inputs.Call n s → ⊥) → branch_at k x.live.me ≡ Some x → x.work.going ≡ Some g → x.live.parent ≡ None
       → (x.live.me.session == m) ≡ false
   waits_other x g now no_call live going root = apart x.live.me.session m (λ same. (let none = now.rests no_call x live root same in absurd (cc (none, going))))
 
   -- each step of an input that is no call of the session
-  pub commit_on : {k : Kept} {d : Deed} → Step p input k d → Commits m input k → CommitSo m d.after.sessions d.ended
+  pub commit_on : {k : NodeState} {d : Deed} → Step p input k d → Commits m input k → CommitSo m d.after.sessions d.ended
   commit_on (steps.Begins {k = k} n s call rows range none step) now =
       let mine : (n == m) ≡ false = not_mine n (Some s) call in
       let root : BranchId = new_root p k n in
@@ -248,7 +248,7 @@ module _ (m : ℕ) (p : Place) (input : Input) (other : (s : Option Stmt) → in
 
 -- ---- COMMIT comes
 
-pub commit_comes : (k : Kept) (n : ℕ) (given : Option (List ℕ)) → CommitSo n (commit_call k n given).after.sessions (commit_call k n given).ended
+pub commit_comes : (k : NodeState) (n : ℕ) (given : Option (List ℕ)) → CommitSo n (commit_call k n given).after.sessions (commit_call k n given).ended
 commit_comes k n given = by (session_at k.sessions n).code (root_at k n) (root_so k n)
   where
     here : (n == n) ≡ true

@@ -17,7 +17,7 @@ use Rattle.node_rules.specs.Data.nexts
 use Rattle.node_rules.specs.Client.{call_turn, refuses, writes, is_used, is_link}
 use Rattle.node_rules.specs.Force.{branch_to_force, force_commit, force_rollback, forces, hides, purge, may_purge}
 use Rattle.node_rules.specs.Inputs.{IsCall}
-use Rattle.node_rules.specs.Kept.{Kept, Deed}
+use Rattle.node_rules.specs.NodeState.{NodeState, Deed}
 use Rattle.node_rules.specs.Sessions.{session_at, is_commit, commit_is_pending}
 use Rattle.node_rules.specs.Turn.{turn_of, deed_of}
 use Rattle.node_rules.proofs.Steps as steps
@@ -62,7 +62,7 @@ module _ (n : ℕ) (ss : List Session) (rests : (session_at ss n).call ≡ pendi
 
 -- ---- a call of such a statement
 
-module _ (p : Place) (k : Kept) (n : ℕ) (rests : (session_at k.sessions n).call ≡ pending.NoCall) where
+module _ (p : Place) (k : NodeState) (n : ℕ) (rests : (session_at k.sessions n).call ≡ pending.NoCall) where
   -- it is refused and writes nothing, or it is done
   abbrev Comes_to : Stmt → Deed → Type 0
   Comes_to s d = ((d.wrote ≡ None) × (r : Refusal) × (answers_to n d.ended ≡ answers.Refused r ∷ [])) ⊎ Stands p k n s d.wrote d.ended
@@ -119,7 +119,7 @@ module _ (p : Place) (input : Input) where
   abbrev Called : RedoRecord → Type 0
   Called r = is_of_statement r ≡ true → Calls
 
-  made_called : {k : Kept} {s : Stmt} {r : RedoRecord} {d : Done} (n : ℕ) → IsCall input n s → Makes k s r d → Called r
+  made_called : {k : NodeState} {s : Stmt} {r : RedoRecord} {d : Done} (n : ℕ) → IsCall input n s → Makes k s r d → Called r
   made_called n call (steps.Makes_table t free) one = (n, stmts.CreateTable t, call, refl)
   made_called n call (steps.Makes_link l free) one = (n, stmts.CreateLink l, call, refl)
   made_called n call (steps.Makes_synonym y free) one = (n, stmts.CreateSynonym y, call, refl)
@@ -129,7 +129,7 @@ module _ (p : Place) (input : Input) where
   purge_called n true id call = (n, stmts.PurgeMixed id, call, refl)
   purge_called n false id call = (n, stmts.PurgeLost id, call, refl)
 
-  called : {k : Kept} {d : Deed} → Step p input k d → IfSome d.wrote Called
+  called : {k : NodeState} {d : Deed} → Step p input k d → IfSome d.wrote Called
   called (steps.Begins n s call rows fit none step) = called step
   called (steps.Pends n l given call has live code step) = called step
   called (steps.Lets_reads_go l comment site_below live begins step) = called step
@@ -162,11 +162,11 @@ module _ (p : Place) (input : Input) where
 -- ---- turns of a run
 
 -- a session whose call comes has none pending
-call_rests : (f : Facts) (k : Kept) (node n : ℕ) (s : Stmt) (took : Option Took) → Comes f k node (inputs.Call n (Some s)) took → (session_at k.sessions n).call ≡ pending.NoCall
+call_rests : (f : Facts) (k : NodeState) (node n : ℕ) (s : Stmt) (took : Option Took) → Comes f k node (inputs.Call n (Some s)) took → (session_at k.sessions n).call ≡ pending.NoCall
 call_rests f k node n s None comes = comes.1
 call_rests f k node n s (Some t) comes = absurd comes
 
-module _ (places : List Place) (f : Facts) (u : Turn) (k : Kept) (may : MayTurn places f u k) where
+module _ (places : List Place) (f : Facts) (u : Turn) (k : NodeState) (may : MayTurn places f u k) where
   abbrev here : Place
   here = place_at places u.node
 

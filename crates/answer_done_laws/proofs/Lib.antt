@@ -6,6 +6,6 @@ pub mod LineRunLemmas
 pub mod AtOnceLemmas
 pub mod CommitStepLemmas
 pub mod CommitEndLemmas
-pub mod ToldDoneLemmas
+pub mod ReportedDoneLemmas
 mod TriedDoneLemmas
 mod TriedToldLemmas

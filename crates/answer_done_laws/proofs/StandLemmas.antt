@@ -6,7 +6,7 @@ use Rattle.std.specs.List.{AllByRecursion}
 use Rattle.tran_ids.proofs.NumberedLemmas.{set_or_before, set_found}
 use Rattle.node_rules.specs.Data.{RedoRecord, Place}
 use Rattle.node_rules.specs.Data.records
-use Rattle.node_rules.specs.Kept.{Kept}
+use Rattle.node_rules.specs.NodeState.{NodeState}
 use Rattle.node_rules.specs.Words.{numbered, set_numbered}
 use Rattle.run_rules.specs.Data.{Turn, Happening, Command}
 use Rattle.run_rules.specs.Data.happenings
@@ -62,7 +62,7 @@ every = keeps_alone (record { starts = λ s. tt; hears = λ k scn now. tt; steps
 abbrev Disks : List Place → Facts → Type 0
 Disks places f = AllStand (λ p rs. Unit {0}) (λ p rs k. Unit {0}) every places f
 
-up_node : (o : Option (Option Kept)) (k : Kept) → flat o ≡ Some k → o ≡ Some (Some k)
+up_node : (o : Option (Option NodeState)) (k : NodeState) → flat o ≡ Some k → o ≡ Some (Some k)
 up_node None k is = absurd cc
 up_node (Some x) k is = ap Some is
 
@@ -84,7 +84,7 @@ module _ (places : List Place) (asked_of : List Command) where
   stays f (h ∷ hs) n r there = stays (facts_after places asked_of f h) hs n r (stays_after f h n r there)
 
   -- what a turn writes is there after it
-  writes_there : (f : Facts) (u : Turn) (k : Kept) (r : RedoRecord) → Disks places f → node_at f u.node ≡ Some k → u.wrote ≡ Some r → IsOneOf (records_at (facts_after places asked_of f (happenings.Turn u)) u.node) r
+  writes_there : (f : Facts) (u : Turn) (k : NodeState) (r : RedoRecord) → Disks places f → node_at f u.node ≡ Some k → u.wrote ≡ Some r → IsOneOf (records_at (facts_after places asked_of f (happenings.Turn u)) u.node) r
   unfolding facts_after
   writes_there f u k r disks up wrote =
       let disk = number_too f.nodes f.records u.node (Some k) disks.even (up_node (numbered f.nodes u.node) k up) in

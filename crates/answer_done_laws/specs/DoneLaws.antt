@@ -13,7 +13,7 @@ use Rattle.node_rules.specs.Data.records
 use Rattle.node_rules.specs.Data.stmts
 use Rattle.node_rules.specs.Force.{branch_to_force, may_purge}
 use Rattle.node_rules.specs.Inputs.{IsCall}
-use Rattle.node_rules.specs.Kept.{Kept, Outcome}
+use Rattle.node_rules.specs.NodeState.{NodeState, Outcome}
 use Rattle.run_rules.specs.Data.{Finished, Turn, Happening}
 use Rattle.run_rules.specs.Data.happenings
 use Rattle.run_rules.specs.Facts.{Facts, place_at, node_at, outcome_at}
@@ -44,7 +44,7 @@ is_done n ended = list_any (λ a. is_accepted (Some a)) (answers_to n ended)
 -- ---- each way
 
 -- The call of a statement is done: its record is written, and that is answered.
-pub record Stands (p : Place) (k : Kept) (n : ℕ) (s : Stmt) (wrote : Option RedoRecord) (ended : List Finished) : Type 0 where
+pub record Stands (p : Place) (k : NodeState) (n : ℕ) (s : Stmt) (wrote : Option RedoRecord) (ended : List Finished) : Type 0 where
   pub written : RedoRecord
   pub done : Done
   pub of : Records p k s written done
@@ -54,7 +54,7 @@ pub record Stands (p : Place) (k : Kept) (n : ℕ) (s : Stmt) (wrote : Option Re
 -- a call of such a statement that a turn answers as done has its record written there
 abbrev pub WritesWhatIsDone : List Place → Facts → Happening → Type 0
 WritesWhatIsDone places f (happenings.Turn u) =
-    (k : Kept) → node_at f u.node ≡ Some k → (n : ℕ) (s : Stmt) → IsCall u.input n s → is_recorded s ≡ true → is_done n (ended_in places f u) ≡ true
+    (k : NodeState) → node_at f u.node ≡ Some k → (n : ℕ) (s : Stmt) → IsCall u.input n s → is_recorded s ≡ true → is_done n (ended_in places f u) ≡ true
     → Stands (place_at places u.node) k n s u.wrote (ended_in places f u)
 WritesWhatIsDone places f _ = Unit {0}
 
@@ -63,7 +63,7 @@ abbrev pub DoneIsWritten : Type 0
 DoneIsWritten = (t : History) → IsLawfulRun t → AtEachFact WritesWhatIsDone t
 
 -- A record is written for the call of its statement, and that is answered unless the turn is cut.
-pub record IsAsked (places : List Place) (f : Facts) (u : Turn) (k : Kept) (r : RedoRecord) : Type 0 where
+pub record IsAsked (places : List Place) (f : Facts) (u : Turn) (k : NodeState) (r : RedoRecord) : Type 0 where
   pub session : ℕ
   pub statement : Stmt
   pub done : Done
@@ -73,7 +73,7 @@ pub record IsAsked (places : List Place) (f : Facts) (u : Turn) (k : Kept) (r : 
 
 -- the record of such a statement is written in a turn that its call came to, and that answers it as done
 abbrev pub DoesWhatIsWritten : List Place → Facts → Happening → Type 0
-DoesWhatIsWritten places f (happenings.Turn u) = (k : Kept) → node_at f u.node ≡ Some k → IfSome u.wrote (λ r. is_of_statement r ≡ true → IsAsked places f u k r)
+DoesWhatIsWritten places f (happenings.Turn u) = (k : NodeState) → node_at f u.node ≡ Some k → IfSome u.wrote (λ r. is_of_statement r ≡ true → IsAsked places f u k r)
 DoesWhatIsWritten places f _ = Unit {0}
 
 -- in every lawful run each is so
@@ -85,7 +85,7 @@ WrittenIsDone = (t : History) → IsLawfulRun t → AtEachFact DoesWhatIsWritten
 -- a call of such a statement is refused and nothing is written, or it is done, unless its turn is cut
 abbrev pub AnswersAtOnce : List Place → Facts → Happening → Type 0
 AnswersAtOnce places f (happenings.Turn u) =
-    (k : Kept) → node_at f u.node ≡ Some k → (n : ℕ) (s : Stmt) → IsCall u.input n s → is_recorded s ≡ true → u.cut ≡ false
+    (k : NodeState) → node_at f u.node ≡ Some k → (n : ℕ) (s : Stmt) → IsCall u.input n s → is_recorded s ≡ true → u.cut ≡ false
     → ((u.wrote ≡ None) × (r : Refusal) × (answers_to n (ended_in places f u) ≡ answers.Refused r ∷ [])) ⊎ Stands (place_at places u.node) k n s u.wrote (ended_in places f u)
 AnswersAtOnce places f _ = Unit {0}
 

@@ -5,7 +5,7 @@ use Rattle.std.specs.Prelude.{◌≡◌, ℕ, ◌⊎◌, true, List, [], ◌∷�
 use Rattle.std.specs.List.{AllByRecursion}
 use Rattle.node_rules.specs.Data.{Stmt, RedoRecord, Place}
 use Rattle.node_rules.specs.Inputs.{IsCall}
-use Rattle.node_rules.specs.Kept.{Kept}
+use Rattle.node_rules.specs.NodeState.{NodeState}
 use Rattle.run_rules.specs.Data.{Happening, Command}
 use Rattle.run_rules.specs.Data.happenings
 use Rattle.run_rules.specs.Facts.{Facts, first_facts, facts_after, node_at, records_at}
@@ -20,7 +20,7 @@ use Rattle.run_claims.specs.Recorded.{IsOneOf}
 -- what a turn writes for such a call that it answers as done is among these records
 abbrev pub StaysIn : (ℕ → List RedoRecord) → List Place → Facts → Happening → Type 0
 StaysIn disk places f (happenings.Turn u) =
-    (k : Kept) → node_at f u.node ≡ Some k → (n : ℕ) (s : Stmt) → IsCall u.input n s → is_recorded s ≡ true → is_done n (ended_in places f u) ≡ true
+    (k : NodeState) → node_at f u.node ≡ Some k → (n : ℕ) (s : Stmt) → IsCall u.input n s → is_recorded s ≡ true → is_done n (ended_in places f u) ≡ true
     → (r : RedoRecord) × (u.wrote ≡ Some r) × IsOneOf (disk u.node) r
 StaysIn disk places f _ = Unit {0}
 
@@ -37,7 +37,7 @@ SomeFactFrom So places asked f (h ∷ hs) = So f h ⊎ SomeFactFrom So places as
 
 -- a turn of this node writes the record, and its call came to it
 abbrev pub IsWrittenBy : List Place → ℕ → RedoRecord → Facts → Happening → Type 0
-IsWrittenBy places n r f (happenings.Turn u) = (u.node ≡ n) × (u.wrote ≡ Some r) × (k : Kept) × (node_at f u.node ≡ Some k) × IsAsked places f u k r
+IsWrittenBy places n r f (happenings.Turn u) = (u.node ≡ n) × (u.wrote ≡ Some r) × (k : NodeState) × (node_at f u.node ≡ Some k) × IsAsked places f u k r
 IsWrittenBy places n r f _ = ⊥
 
 -- the record of a statement comes from such a turn

@@ -5,12 +5,12 @@
 //! every lawful run such a call is answered as done only in a turn that writes its record, and such a record is written for
 //! no other call. It stays on the disk, and what there is on a disk comes from such calls (`specs/StandLaws.antt`). In the
 //! run of a script the report tells all this: a line that says that one is done comes from the turn of its call, and each
-//! such record has its line (`specs/ToldDone.antt`).
+//! such record has its line (`specs/ReportedDone.antt`).
 #![tactic(auto)]
 
 ghost use Rattle.answer_done_laws.specs.DoneLaws.{DoneIsWritten, EachIsAnswered, WrittenIsDone};
 ghost use Rattle.answer_done_laws.specs.StandLaws.{DoneStays, RecordsComeFromCalls};
-ghost use Rattle.run_claims.specs.ToldDone.{DoneIsTold};
+ghost use Rattle.run_claims.specs.ReportedDone.{DoneIsReported};
 ghost use Rattle.answer_done_laws.specs.TriedDone.{TheTriedDone};
 ghost use Rattle.answer_done_laws.specs.TriedTold.{TheTriedTold};
 
@@ -46,8 +46,8 @@ pub fn records_come_from_calls()
 /// came to, which wrote its record, and the record stays to the end of the run; each line that refuses one comes from a turn
 /// that wrote nothing, or from the COMMIT before a CREATE; and each such record has its line: that the statement is done, or
 /// that the node is down, where the turn was cut and the node has stopped.
-pub fn done_is_told()
-    ensures { DoneIsTold }
+pub fn done_is_reported()
+    ensures { DoneIsReported }
 {}
 
 /// None of this is about nothing: in the tried run of two nodes CREATE TABLE is done and then refused, and the branch in

@@ -21,7 +21,7 @@ use Rattle.run_rules.specs.Scripts.{IsTheRunOf}
 use Rattle.run_rules.specs.Lawful.{MayHappen, IsLawful, History, IsLawfulRun}
 use Rattle.run_claims.specs.Places.{LeadsTo, PlaceOf}
 use Rattle.run_rules.specs.Runs.{is_of_rows, is_accepted}
-use Rattle.run_rules.specs.Telling.{Call}
+use Rattle.run_rules.specs.RunReport.{Call}
 use Rattle.run_rules.specs.Trail.{trail_after}
 use Rattle.tree_laws.proofs.PrefixLemmas.{f_at, facts_join}
 use Rattle.tree_site_laws.proofs.TimeLemmas.{may_of, lawful_split}

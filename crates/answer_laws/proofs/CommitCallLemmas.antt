@@ -16,7 +16,7 @@ use Rattle.session_tree.specs.Live.{new_edge}
 use Rattle.node_rules.specs.Calls.{call_pends, answered_sessions, hears_reply, heard_sessions, is_gone, with_edge}
 use Rattle.node_rules.specs.Client.{new_root}
 use Rattle.node_rules.specs.Commit.{decided_sessions}
-use Rattle.node_rules.specs.Kept.{Kept, Deed}
+use Rattle.node_rules.specs.NodeState.{NodeState, Deed}
 use Rattle.node_rules.specs.Prepare.{abandoned_sessions, is_alone, act_turn}
 use Rattle.node_rules.specs.Refusals.{dtx}
 use Rattle.node_rules.specs.Sessions.{session_at, with_call, needs_rollback, no_transaction, commit_is_pending, commit_ended}
@@ -85,7 +85,7 @@ module _ (ss : List Session) (m : ℕ) where
       cond_both (is_none l.parent && is_gone a) (needs_rollback ss l.me.session (dtx 8 []).code) ss (λ zs. Pends zs → Pends ss)
       (λ gone. call_same l.me.session (record (session_at ss l.me.session) { code = Some (dtx 8 []).code }) refl) (λ other was. was) is
 
-act_so : (k : Kept) (m : ℕ) (l : Live) (site_below : Bool) (a : Act) → Pends k.sessions m (act_turn k l site_below a).after.sessions → Pends k.sessions m k.sessions
+act_so : (k : NodeState) (m : ℕ) (l : Live) (site_below : Bool) (a : Act) → Pends k.sessions m (act_turn k l site_below a).after.sessions → Pends k.sessions m k.sessions
 act_so k m l site_below acts.Decide is = alone k.sessions m (is_alone l) l.me is
 act_so k m l site_below acts.Finish is = ended k.sessions m l.me is
 act_so k m l site_below acts.Abandon is = abandoned k.sessions m l l.parent is
@@ -101,7 +101,7 @@ module _ (p : Place) (input : Input) (m : ℕ) where
   abbrev Came_now : Type 0
   Came_now = (comment : Option (List ℕ)) × (input ≡ inputs.Call m (Some (stmts.Commit comment)))
 
-  pub commits_on : {k : Kept} {d : Deed} → Step p input k d → (session_at d.after.sessions m).call ≡ pending.Commit → ((session_at k.sessions m).call ≡ pending.Commit) ⊎ Came_now
+  pub commits_on : {k : NodeState} {d : Deed} → Step p input k d → (session_at d.after.sessions m).call ≡ pending.Commit → ((session_at k.sessions m).call ≡ pending.Commit) ⊎ Came_now
   commits_on (steps.Begins {k = k} n s call rows range none step) is = elim (commits_on step is) [
     | inl was ↦ inl (call_same k.sessions m n (record (session_at k.sessions n) { seq = (new_root p k n).seq; root = Some (new_root p k n) }) refl was)
     | inr now ↦ inr now
@@ -157,7 +157,7 @@ module _ (t : History) (whole : IsLawfulRun t) where
     pub quiet : AllByRecursion (IsNoCall node session) later
 
   abbrev pub CommitsCame : List Happening → Facts → Type 0
-  CommitsCame hs f = (n : ℕ) (k : Kept) → node_at f n ≡ Some k → (m : ℕ) → (session_at k.sessions m).call ≡ pending.Commit → CommitCame hs n m
+  CommitsCame hs f = (n : ℕ) (k : NodeState) → node_at f n ≡ Some k → (m : ℕ) → (session_at k.sessions m).call ≡ pending.Commit → CommitCame hs n m
 
   came_on : (hs : List Happening) (h : Happening) (n m : ℕ) → IsNoCall n m h → CommitCame hs n m → CommitCame (hs ++ h ∷ []) n m
   came_on hs h n m other is = record {
@@ -175,7 +175,7 @@ module _ (t : History) (whole : IsLawfulRun t) where
     abbrev may : MayHappen t.places t.commands (f_at t hs) (happenings.Turn u)
     may = may_of t whole hs (happenings.Turn u) rest is
 
-    abbrev k : Kept
+    abbrev k : NodeState
     k = may.0
 
     abbrev f1 : Facts
@@ -195,7 +195,7 @@ module _ (t : History) (whole : IsLawfulRun t) where
       | inr came ↦ record { before = hs; turn = u; later = []; since = refl; here = refl; comment = came.0; came = came.1; quiet = tt }
     ]
 
-    own_kept : (cut : Bool) → u.cut ≡ cut → (j : Kept) → node_at f1 u.node ≡ Some j → (m : ℕ) → (session_at j.sessions m).call ≡ pending.Commit → CommitCame (hs ++ happenings.Turn u ∷ []) u.node m
+    own_kept : (cut : Bool) → u.cut ≡ cut → (j : NodeState) → node_at f1 u.node ≡ Some j → (m : ℕ) → (session_at j.sessions m).call ≡ pending.Commit → CommitCame (hs ++ happenings.Turn u ∷ []) u.node m
     unfolding turn_of
     own_kept true cut j up m commits =
         let none : node_at f1 u.node ≡ None = (turn_here t.places t.commands (f_at t hs) even u k may.1.up).0 ∙ ap (λ c. kept_after c (Some (turn_of (place_at t.places u.node) k u.input))) cut in absurd (cc (none, up))
@@ -203,7 +203,7 @@ module _ (t : History) (whole : IsLawfulRun t) where
         let after : node_at f1 u.node ≡ Some (deed_of (place_at t.places u.node) k u.input).after = (turn_here t.places t.commands (f_at t hs) even u k may.1.up).0 ∙ ap (λ c. kept_after c (Some (turn_of (place_at t.places u.node) k u.input))) cut in
         let both : Some (deed_of (place_at t.places u.node) k u.input).after ≡ Some j = sym after ∙ up in
         let one : j ≡ (deed_of (place_at t.places u.node) k u.input).after = cc in
-        own m (subst (λ (x : Kept). (session_at x.sessions m).call ≡ pending.Commit) one commits)
+        own m (subst (λ (x : NodeState). (session_at x.sessions m).call ≡ pending.Commit) one commits)
 
     turn_came : CommitsCame (hs ++ happenings.Turn u ∷ []) f1
     turn_came n j up m commits = elim (cases_eq u.node n) [
@@ -213,13 +213,13 @@ module _ (t : History) (whole : IsLawfulRun t) where
 
   -- no other happening makes a COMMIT pending
   still_came : (hs : List Happening) (h : Happening) → ((n m : ℕ) → IsNoCall n m h) → CommitsCame hs (f_at t hs) → (g : Facts)
-      → ((n : ℕ) (j : Kept) → node_at g n ≡ Some j → (node_at (f_at t hs) n ≡ Some j) ⊎ ((m : ℕ) → (session_at j.sessions m).call ≡ pending.NoCall)) → CommitsCame (hs ++ h ∷ []) g
+      → ((n : ℕ) (j : NodeState) → node_at g n ≡ Some j → (node_at (f_at t hs) n ≡ Some j) ⊎ ((m : ℕ) → (session_at j.sessions m).call ≡ pending.NoCall)) → CommitsCame (hs ++ h ∷ []) g
   still_came hs h other now g still n j up m commits = elim (still n j up) [
     | inl was ↦ came_on hs h n m (other n m) (now n j was m commits)
     | inr free ↦ (let none = free m in absurd (cc (commits, none)))
   ]
 
-  set_still : (f : Facts) (m n : ℕ) (o : Option Kept) (j : Kept) → flat (numbered (set_numbered f.nodes m o) n) ≡ Some j → (node_at f n ≡ Some j) ⊎ (o ≡ Some j)
+  set_still : (f : Facts) (m n : ℕ) (o : Option NodeState) (j : NodeState) → flat (numbered (set_numbered f.nodes m o) n) ≡ Some j → (node_at f n ≡ Some j) ⊎ (o ≡ Some j)
   set_still f m n o j up = elim (set_or_before f.nodes m n o) [
     | inl before ↦ inl (sym (ap flat before) ∙ up)
     | inr new ↦ inr (sym (ap flat new.1) ∙ up)
@@ -237,7 +237,7 @@ module _ (t : History) (whole : IsLawfulRun t) where
       still_came hs (happenings.Started m boot) (λ n q. tt) now (facts_after t.places t.commands (f_at t hs) (happenings.Started m boot))
       (λ n j up. elim (set_still (f_at t hs) m n (Some (start_of (with_boot (f_at t hs) m boot))) j up) [
         | inl was ↦ inl was
-        | inr new ↦ inr (λ q. (let one : start_of (with_boot (f_at t hs) m boot) ≡ j = (let both : Some (start_of (with_boot (f_at t hs) m boot)) ≡ Some j = new in cc) in subst (λ (x : Kept). (session_at x.sessions q).call ≡ pending.NoCall) one (started_free (with_boot (f_at t hs) m boot) q)))
+        | inr new ↦ inr (λ q. (let one : start_of (with_boot (f_at t hs) m boot) ≡ j = (let both : Some (start_of (with_boot (f_at t hs) m boot)) ≡ Some j = new in cc) in subst (λ (x : NodeState). (session_at x.sessions q).call ≡ pending.NoCall) one (started_free (with_boot (f_at t hs) m boot) q)))
       ])
   came_after hs (happenings.Begun c) rest is now = still_came hs (happenings.Begun c) (λ n q. tt) now (facts_after t.places t.commands (f_at t hs) (happenings.Begun c)) (λ n j up. inl up)
   came_after hs (happenings.Cut a b) rest is now = still_came hs (happenings.Cut a b) (λ n q. tt) now (facts_after t.places t.commands (f_at t hs) (happenings.Cut a b)) (λ n j up. inl up)
@@ -247,7 +247,7 @@ module _ (t : History) (whole : IsLawfulRun t) where
   first_came : CommitsCame [] (first_facts t.places)
   first_came n k up m commits =
       let free : (session_at k.sessions m).call ≡ pending.NoCall
-      = subst (λ o. IfSome o (λ (x : Kept). (session_at x.sessions m).call ≡ pending.NoCall)) up (first_node (λ o. IfSome o (λ (x : Kept). (session_at x.sessions m).call ≡ pending.NoCall)) tt (started_free (records.Boot 1 ∷ []) m) t.places n) in
+      = subst (λ o. IfSome o (λ (x : NodeState). (session_at x.sessions m).call ≡ pending.NoCall)) up (first_node (λ o. IfSome o (λ (x : NodeState). (session_at x.sessions m).call ≡ pending.NoCall)) tt (started_free (records.Boot 1 ∷ []) m) t.places n) in
       absurd (cc (commits, free))
 
   pub commits_came : (hs : List Happening) → Part t whole hs → CommitsCame hs (f_at t hs)

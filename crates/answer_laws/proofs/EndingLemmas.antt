@@ -9,7 +9,7 @@ use Rattle.node_rules.specs.declared.session.Finished.{Finished}
 use Rattle.node_rules.specs.declared.session.PendingCall.TheVariants as pending
 use Rattle.node_rules.specs.declared.session.Session.{Session}
 use Rattle.node_rules.specs.Inputs.{Came}
-use Rattle.node_rules.specs.Kept.{Kept, Outcome}
+use Rattle.node_rules.specs.NodeState.{NodeState, Outcome}
 use Rattle.node_rules.specs.Sessions.{session_at}
 use Rattle.node_rules.specs.Turn.{turn_of, heard, deed_of}
 use Rattle.node_rules.proofs.HeardLemmas.{sessions_heard}
@@ -87,10 +87,10 @@ module _ (t : History) (whole : IsLawfulRun t) (hs : List Happening) (u : Turn) 
   may = may_of t whole hs (happenings.Turn u) rest is
 
   -- what its node keeps as it comes
-  abbrev pub kept_there : Kept
+  abbrev pub kept_there : NodeState
   kept_there = may.0
 
-  abbrev k : Kept
+  abbrev k : NodeState
   k = kept_there
 
   rests : NodeRests (heard k u.input)
@@ -138,7 +138,7 @@ module _ (t : History) (whole : IsLawfulRun t) (hs : List Happening) (u : Turn) 
 
 -- ---- the laws
 
-module _ (t : History) (whole : IsLawfulRun t) (i : ℕ) (u : Turn) (there : slice_get t.trace i ≡ Some (happenings.Turn u)) (j : Kept) (up : node_at (facts_upto t i) u.node ≡ Some j) where
+module _ (t : History) (whole : IsLawfulRun t) (i : ℕ) (u : Turn) (there : slice_get t.trace i ≡ Some (happenings.Turn u)) (j : NodeState) (up : node_at (facts_upto t i) u.node ≡ Some j) where
   at : (hs : List Happening) × (rest : List Happening) × (hs ++ happenings.Turn u ∷ rest ≡ t.trace) × (length hs ≡ i)
   at = split_at t.trace i (happenings.Turn u) there
 
@@ -151,12 +151,12 @@ module _ (t : History) (whole : IsLawfulRun t) (i : ℕ) (u : Turn) (there : sli
 
   for_cause : EndsFew u.input j.sessions (turn_of (place_at t.places u.node) j u.input).ended
   unfolding turn_of
-  for_cause = subst (λ (x : Kept). EndsFew u.input x.sessions (deed_of (place_at t.places u.node) x u.input).ended) its_kept (turn_few t whole at.0 u at.1 at.2)
+  for_cause = subst (λ (x : NodeState). EndsFew u.input x.sessions (deed_of (place_at t.places u.node) x u.input).ended) its_kept (turn_few t whole at.0 u at.1 at.2)
 
   commit_came : (session : ℕ) → (session_at j.sessions session).call ≡ pending.Commit → (x : LastCall t u.node session i) × (comment : Option (List ℕ)) × (x.text ≡ Some (stmts.Commit comment))
   commit_came session commits =
       subst (λ m. (x : LastCall t u.node session m) × (comment : Option (List ℕ)) × (x.text ≡ Some (stmts.Commit comment))) at.3
-      (commit_last t whole at.0 u at.1 at.2 session (subst (λ (x : Kept). (session_at x.sessions session).call ≡ pending.Commit) (sym its_kept) commits))
+      (commit_last t whole at.0 u at.1 at.2 session (subst (λ (x : NodeState). (session_at x.sessions session).call ≡ pending.Commit) (sym its_kept) commits))
 
 pub calls_end_for_cause : CallsEndForCause
 calls_end_for_cause t whole i u there k up = for_cause t whole i u there k up

@@ -18,7 +18,7 @@ use Rattle.node_rules.specs.Calls.{answer_ends, hears_reply}
 use Rattle.node_rules.specs.Client.{new_root, begun_by}
 use Rattle.node_rules.specs.Commit.{decision_answers}
 use Rattle.node_rules.specs.Inputs.{Came}
-use Rattle.node_rules.specs.Kept.{Kept, Branch, Deed, live_at}
+use Rattle.node_rules.specs.NodeState.{NodeState, Branch, Deed, live_at}
 use Rattle.node_rules.specs.Prepare.{abandon_ends, is_alone, act_turn}
 use Rattle.node_rules.specs.Sessions.{session_at, with_call, is_commit, commit_is_pending, commit_answer}
 use Rattle.node_rules.specs.Statement.{ran, after_run}
@@ -69,7 +69,7 @@ module _ (input : Input) (ss : List Session) where
   answer_few l a None why = Ends_one (record { session = l.me.session; answer = a }) (why refl)
   answer_few l a (Some parent) why = Ends_none
 
-act_few : (input : Input) (k : Kept) (l : Live) (site_below : Bool) (a : Act) → EndsFew input k.sessions (act_turn k l site_below a).ended
+act_few : (input : Input) (k : NodeState) (l : Live) (site_below : Bool) (a : Act) → EndsFew input k.sessions (act_turn k l site_below a).ended
 act_few input k l site_below acts.Decide = alone_few input k.sessions (is_alone l) l.me _
 act_few input k l site_below acts.Finish = commit_few input k.sessions l.me _
 act_few input k l site_below acts.Abandon = abandon_few input k.sessions l l.parent
@@ -110,20 +110,20 @@ set_commit ss n m s so is = elim (session_or_before ss n m s) [
 -- ---- each step
 
 -- an Exec comes to no root
-abbrev pub ExecsBelow : Input → Kept → Type 0
+abbrev pub ExecsBelow : Input → NodeState → Type 0
 ExecsBelow input k = (from to : BranchId) (call given : ℕ) (advice : Option Advice) (s : Stmt) → Came input from to (kinds.Exec call given advice s) → (l : Live) → live_at k to ≡ Some l → l.parent ≢ None
 
 -- a statement that came to a root is its client's
-asked_own : {input : Input} {k : Kept} {x : Branch} {s : Stmt} {given : ℕ} → SessionsFit k → ExecsBelow input k → Asked k input x s given → (l : Live) → l.me ≡ x.live.me → l.parent ≡ x.live.parent → (a : Answer)
+asked_own : {input : Input} {k : NodeState} {x : Branch} {s : Stmt} {given : ℕ} → SessionsFit k → ExecsBelow input k → Asked k input x s given → (l : Live) → l.me ≡ x.live.me → l.parent ≡ x.live.parent → (a : Answer)
     → l.parent ≡ None → EndsFor input k.sessions (record { session = l.me.session; answer = a })
 asked_own fit below (steps.By_call n x s call rows has code live) l me parent a none =
     Is_own (Some s) (call ∙ ap (λ m. inputs.Call m (Some s)) (sym (ap (λ (b : BranchId). b.session) me ∙ fit.roots.each n x.live.me has)))
 asked_own {k = k} fit below (steps.By_exec x from call given advice s came live runs) l me parent a none = absurd (below from x.live.me call given advice s came x.live (live_so k x.live.me x live) (sym parent ∙ none))
 
-no_exec : {input : Input} {n : ℕ} {s : Option Stmt} (k : Kept) → input ≡ inputs.Call n s → ExecsBelow input k
+no_exec : {input : Input} {n : ℕ} {s : Option Stmt} (k : NodeState) → input ≡ inputs.Call n s → ExecsBelow input k
 no_exec {n = n} {s = q} k call from to number given advice s came l live none = let both : inputs.Call n q ≡ inputs.Message _ = sym call ∙ came.is in absurd cc
 
-pub few_on : (p : Place) (input : Input) {k : Kept} {d : Deed} → Step p input k d → SessionsFit k → ExecsBelow input k → EndsFew input k.sessions d.ended
+pub few_on : (p : Place) (input : Input) {k : NodeState} {d : Deed} → Step p input k d → SessionsFit k → ExecsBelow input k → EndsFew input k.sessions d.ended
 few_on p input (steps.Begins {k = k} {d = d} n s call rows range none step) fit below =
     few_before input k.sessions (begun_by p k n None).sessions
     (λ m is. inl (set_commit k.sessions n m (record (session_at k.sessions n) { seq = (new_root p k n).seq; root = Some (new_root p k n) }) (λ was. was) is))

@@ -9,7 +9,7 @@ use Rattle.node_rules.specs.declared.session.Finished.{Finished}
 use Rattle.node_rules.specs.declared.session.PendingCall.TheVariants as pending
 use Rattle.node_rules.specs.declared.session.Session.{Session}
 use Rattle.node_rules.specs.Inputs.{Came}
-use Rattle.node_rules.specs.Kept.{Kept}
+use Rattle.node_rules.specs.NodeState.{NodeState}
 use Rattle.node_rules.specs.Sessions.{session_at}
 use Rattle.node_rules.specs.Turn.{turn_of}
 use Rattle.run_rules.specs.Data.{Turn}
@@ -43,7 +43,7 @@ pub data EndsFew (input : Input) (ss : List Session) : List Finished → Type 0 
 
 -- In every lawful run a turn ends calls so.
 abbrev pub CallsEndForCause : Type 0
-CallsEndForCause = (t : History) → IsLawfulRun t → (i : ℕ) (u : Turn) → slice_get t.trace i ≡ Some (happenings.Turn u) → (k : Kept) → node_at (facts_upto t i) u.node ≡ Some k
+CallsEndForCause = (t : History) → IsLawfulRun t → (i : ℕ) (u : Turn) → slice_get t.trace i ≡ Some (happenings.Turn u) → (k : NodeState) → node_at (facts_upto t i) u.node ≡ Some k
     → EndsFew u.input k.sessions (turn_of (place_at t.places u.node) k u.input).ended
 
 -- The last call of a session at a node, up to a moment.
@@ -59,5 +59,5 @@ pub record LastCall (t : History) (node session now : ℕ) : Type 0 where
 
 -- In every lawful run a COMMIT that is pending as a turn comes to its node is the last call of its session.
 abbrev pub PendingCommitsCame : Type 0
-PendingCommitsCame = (t : History) → IsLawfulRun t → (i : ℕ) (u : Turn) → slice_get t.trace i ≡ Some (happenings.Turn u) → (k : Kept) → node_at (facts_upto t i) u.node ≡ Some k
+PendingCommitsCame = (t : History) → IsLawfulRun t → (i : ℕ) (u : Turn) → slice_get t.trace i ≡ Some (happenings.Turn u) → (k : NodeState) → node_at (facts_upto t i) u.node ≡ Some k
     → (session : ℕ) → (session_at k.sessions session).call ≡ pending.Commit → (x : LastCall t u.node session i) × (comment : Option (List ℕ)) × (x.text ≡ Some (stmts.Commit comment))

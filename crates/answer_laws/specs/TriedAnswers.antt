@@ -16,7 +16,7 @@ use Rattle.run_rules.specs.Facts.{first_facts}
 use Rattle.run_rules.specs.Scripts.{places_of}
 use Rattle.run_rules.specs.Lines.{told}
 use Rattle.run_claims.specs.Places.{node_line}
-use Rattle.run_rules.specs.Telling.{Past, start}
+use Rattle.run_rules.specs.RunReport.{Past, start}
 use Rattle.run_rules.specs.Trail.{trail_of}
 
 -- a bare name
@@ -71,7 +71,7 @@ past = runs_on places asked enough (start places)
 
 -- what is told of it
 abbrev pub lines : List AnswerLine
-lines = told past.facts past.telling
+lines = told past.facts past.run_report
 
 -- and of its branches
 abbrev pub trail : Trail

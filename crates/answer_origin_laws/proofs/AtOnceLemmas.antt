@@ -13,7 +13,7 @@ use Rattle.node_rules.specs.declared.session.Finished.{Finished}
 use Rattle.node_rules.specs.declared.session.PendingCall.TheVariants as pending
 use Rattle.node_rules.specs.declared.session.Session.{Session}
 use Rattle.node_rules.specs.Inputs.{IsSession}
-use Rattle.node_rules.specs.Kept.{Kept, Branch, Deed, Outcome}
+use Rattle.node_rules.specs.NodeState.{NodeState, Branch, Deed, Outcome}
 use Rattle.node_rules.specs.Names.{Way, Runs_here, Over, Through, Nowhere_to, A_table, named_by, table_of, ref_of, way_of}
 use Rattle.node_rules.specs.Sessions.{session_at, with_call}
 use Rattle.node_rules.specs.Statement.{ran, after_run}
@@ -48,7 +48,7 @@ use Rattle.answer_origin_laws.proofs.ReplyRunLemmas.{happens_at, prefix, moment_
 
 -- ---- what the node does
 
-module _ (p : Place) (k : Kept) (n : ℕ) (m : ℕ) (a : Answer) (good : is_accepted (Some a) ≡ true) (more : List Finished) where
+module _ (p : Place) (k : NodeState) (n : ℕ) (m : ℕ) (a : Answer) (good : is_accepted (Some a) ≡ true) (more : List Finished) where
   abbrev Ends : Deed → Type 0
   Ends d = d.ended ≡ (record { session = m; answer = a }) ∷ more
 
@@ -71,7 +71,7 @@ module _ (p : Place) (k : Kept) (n : ℕ) (m : ℕ) (a : Answer) (good : is_acce
   nowhere_not x r None ended = refused_not r x.live.me.session ended
   nowhere_not x r (Some up) ended = absurd cc
 
-  module _ (j : Kept) (s : Stmt) where
+  module _ (j : NodeState) (s : Stmt) where
     by_way : (x : Branch) (way : Way) → way_of p j.stored.durable x.live 0 s ≡ way → Ends (goes p j x s 0 way) → (table : Table) × (named_by j.stored.durable (ref_of s) ≡ A_table table)
     by_way x (Runs_here t) at ended = (t, way_table p j x.live 0 s t at)
     by_way x (Nowhere_to r) at ended = absurd (nowhere_not x r x.live.parent ended)
@@ -118,7 +118,7 @@ module _ (p : Place) (k : Kept) (n : ℕ) (m : ℕ) (a : Answer) (good : is_acce
 
   pub its_table : (s : Stmt) → is_of_rows s ≡ true → Ends (call_turn p k n s) → (table : Table) × (named_by k.stored.durable (ref_of s) ≡ A_table table)
   its_table s rows ended =
-      let j : Kept = begun p k n in
+      let j : NodeState = begun p k n in
       by_root j s (session_at j.sessions n).code (root_at j n) (subst Ends (rows_turn s rows) ended)
 
 -- ---- what is told
@@ -146,7 +146,7 @@ module _ (f : Facts) (tr : Trail) (u : Turn) (uncut : u.cut ≡ false) (session 
   one_root b at = let it : Some b ≡ Some its_root.0 = sym at ∙ its_root.1 in let same : b ≡ its_root.0 = cc in ap (λ (y : Seen). y.me) same
 
   -- it is the one that the session has at its node, once one has begun
-  module _ (p : Place) (k : Kept) (range : IsSession session) (fits : SessionsFit k) (sees : IsSeenRoot tr k (told_root tr u.node session) (session_at k.sessions session).root)
+  module _ (p : Place) (k : NodeState) (range : IsSession session) (fits : SessionsFit k) (sees : IsSeenRoot tr k (told_root tr u.node session) (session_at k.sessions session).root)
       (next : (session_at k.sessions session).root ≡ None → next_root f tr u.node session ≡ new_root p k session) where
     abbrev Has : Option BranchId → Type 0
     Has r = (session_at (begun_by p k session r).sessions session).root ≡ Some its_root.0.me
@@ -200,7 +200,7 @@ module _ (t : History) (whole : IsLawfulRun t) (hs : List Happening) (u : Turn) 
   abbrev may : MayHappen t.places t.commands (f_at t hs) (happenings.Turn u)
   may = may_of t whole hs (happenings.Turn u) rest is
 
-  abbrev k : Kept
+  abbrev k : NodeState
   k = may.0
 
   abbrev p : Place

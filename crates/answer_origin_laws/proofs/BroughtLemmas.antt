@@ -14,7 +14,7 @@ use Rattle.node_rules.specs.Words.{same}
 use Rattle.node_rules.specs.Inputs.{Came}
 use Rattle.node_rules.specs.Names.{A_table, named_by, table_of, ref_of}
 use Rattle.node_rules.specs.Turn.{stamped}
-use Rattle.node_rules.specs.Kept.{post}
+use Rattle.node_rules.specs.NodeState.{post}
 use Rattle.run_rules.specs.Branches.{Run, Seen, Trail, Origin, is_live, is_live_at, is_root_of, seen_at, origin_at, origin_of}
 use Rattle.run_rules.specs.Data.{Took, Turn}
 use Rattle.run_rules.specs.Facts.{Facts, records_at}

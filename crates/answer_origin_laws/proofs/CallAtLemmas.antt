@@ -13,7 +13,7 @@ use Rattle.run_rules.specs.Data.{Command, Said}
 use Rattle.run_rules.specs.Data.commands
 use Rattle.run_rules.specs.Facts.{command_at}
 use Rattle.run_rules.specs.Lines.{is_down, says_node, call_line}
-use Rattle.run_rules.specs.Telling.{Call, Telling}
+use Rattle.run_rules.specs.RunReport.{Call, RunReport}
 use Rattle.run_rules.proofs.ListLemmas.{all_filter}
 use Rattle.run_ready_laws.proofs.CallEndLemmas.{same_number}
 use Rattle.run_ready_laws.proofs.PendingLemmas.{found_so, at_parts, SameCalls, line_same, EndsFew}
@@ -79,7 +79,7 @@ pub record IsSecond (asked : List Command) (c : Call) : Type 0 where
   pub last : c.follows ≡ None
 
 -- the call that comes next is such, and is pending
-abbrev pub NextIs : List Command → Telling → Type 0
+abbrev pub NextIs : List Command → RunReport → Type 0
 NextIs asked t = (c : Call) → t.next_call ≡ Some c → IsSecond asked c × (call_at t c.node c.session ≡ Some c)
 
 abbrev pub AreShaped : List Command → List Call → Type 0
@@ -100,13 +100,13 @@ made_shape asked c node session (Some s) has is = by (commits_first s) has refl
     by false w creates = Plain (Some s) is refl refl
 
 -- a call that is found is of its session
-pub found_at : (asked : List Command) (t : Telling) (n s : ℕ) (c : Call) → AreShaped asked t.calls → call_at t n s ≡ Some c → HasShape asked c × (c.node ≡ n) × (c.session ≡ s)
+pub found_at : (asked : List Command) (t : RunReport) (n s : ℕ) (c : Call) → AreShaped asked t.calls → call_at t n s ≡ Some c → HasShape asked c × (c.node ≡ n) × (c.session ≡ s)
 found_at asked t n s c shapes at = let it = found_so (HasShape asked) (is_call_at n s) t.calls c shapes at in let parts = at_parts n s c it.1 in (it.0, parts.0, parts.1)
 
 -- ---- a call that is pending no more
 
 module _ (asked : List Command) where
-  pub without_at : (t : Telling) (m q n s : ℕ) (c : Call) → call_at (without_call t m q) n s ≡ Some c → call_at t n s ≡ Some c
+  pub without_at : (t : RunReport) (m q n s : ℕ) (c : Call) → call_at (without_call t m q) n s ≡ Some c → call_at t n s ≡ Some c
   without_at t m q n s c at = by ((n == m) && (s == q)) refl
     where
       so : (x : Call) → is_call_at n s x ≡ true → not (is_call_at m q x) ≡ not ((n == m) && (s == q))
@@ -117,20 +117,20 @@ module _ (asked : List Command) where
       by false other = sym (find_kept (is_call_at n s) (λ x. not (is_call_at m q x)) (λ x is. so x is ∙ ap not other) t.calls) ∙ at
 
   -- What is pending was pending.
-  pub record Fewer (t u : Telling) : Type 0 where
+  pub record Fewer (t u : RunReport) : Type 0 where
     pub was : (n s : ℕ) (c : Call) → call_at u n s ≡ Some c → call_at t n s ≡ Some c
     pub shapes : AreShaped asked u.calls
     pub next : u.next_call ≡ t.next_call
 
-  pub same_fewer : (t u : Telling) → AreShaped asked t.calls → u.calls ≡ t.calls → u.next_call ≡ t.next_call → Fewer t u
+  pub same_fewer : (t u : RunReport) → AreShaped asked t.calls → u.calls ≡ t.calls → u.next_call ≡ t.next_call → Fewer t u
   same_fewer t u shapes calls next = record { was = λ n s c at. ap (find (is_call_at n s)) (sym calls) ∙ at; shapes = subst (AreShaped asked) (sym calls) shapes; next = next }
 
-  pub fewer_then : (t u v : Telling) → Fewer t u → Fewer u v → Fewer t v
+  pub fewer_then : (t u v : RunReport) → Fewer t u → Fewer u v → Fewer t v
   fewer_then t u v one two = record { was = λ n s c at. one.was n s c (two.was n s c at); shapes = two.shapes; next = two.next ∙ one.next }
 
-  pub gone_fewer : (running : ℕ) (t : Telling) (m q command : ℕ) (x : Said) → AreShaped asked t.calls → Fewer t (call_line running (without_call t m q) command x)
+  pub gone_fewer : (running : ℕ) (t : RunReport) (m q command : ℕ) (x : Said) → AreShaped asked t.calls → Fewer t (call_line running (without_call t m q) command x)
   gone_fewer running t m q command x shapes =
-      let w : Telling = without_call t m q in
+      let w : RunReport = without_call t m q in
       let same : SameCalls w (call_line running w command x) = line_same running w command x in
       fewer_then t w (call_line running w command x) (record { was = without_at t m q; shapes = all_filter (HasShape asked) (HasShape asked) (λ d. not (is_call_at m q d)) (λ d passes is. is) t.calls shapes; next = refl })
       (same_fewer w (call_line running w command x) (all_filter (HasShape asked) (HasShape asked) (λ d. not (is_call_at m q d)) (λ d passes is. is) t.calls shapes) same.calls same.next_call)
@@ -138,18 +138,18 @@ module _ (asked : List Command) where
   -- ---- the second call of a CREATE
 
   -- What is pending was pending, or comes next.
-  pub record Leads (t u : Telling) : Type 0 where
+  pub record Leads (t u : RunReport) : Type 0 where
     pub was : (n s : ℕ) (c : Call) → call_at u n s ≡ Some c → (call_at t n s ≡ Some c) ⊎ ((u.next_call ≡ Some c) × (d : Call) × (call_at t n s ≡ Some d))
     pub shapes : AreShaped asked u.calls
     pub next : NextIs asked u
 
-  none_next : (t : Telling) → t.next_call ≡ None → NextIs asked t
+  none_next : (t : RunReport) → t.next_call ≡ None → NextIs asked t
   none_next t alone c is = absurd (cc (alone, is))
 
-  fewer_leads : (t u : Telling) → t.next_call ≡ None → Fewer t u → Leads t u
+  fewer_leads : (t u : RunReport) → t.next_call ≡ None → Fewer t u → Leads t u
   fewer_leads t u alone fewer = record { was = λ n s c at. inl (fewer.was n s c at); shapes = fewer.shapes; next = none_next u (fewer.next ∙ alone) }
 
-  module _ (t : Telling) (shapes : AreShaped asked t.calls) (c : Call) (its : HasShape asked c) (st : Stmt) (follows : c.follows ≡ Some st) where
+  module _ (t : RunReport) (shapes : AreShaped asked t.calls) (c : Call) (its : HasShape asked c) (st : Stmt) (follows : c.follows ≡ Some st) where
     abbrev new : Call
     new = second_of c st
 
@@ -206,7 +206,7 @@ module _ (asked : List Command) where
   -- ---- calls that end
 
   module _ (running node : ℕ) where
-    one_leads : (t : Telling) (f : Finished) → AreShaped asked t.calls → t.next_call ≡ None → (o : Option Call) → call_at t node f.session ≡ o → Leads t (finished_call running t f o)
+    one_leads : (t : RunReport) (f : Finished) → AreShaped asked t.calls → t.next_call ≡ None → (o : Option Call) → call_at t node f.session ≡ o → Leads t (finished_call running t f o)
     one_leads t f shapes alone None at = fewer_leads t t alone (same_fewer t t shapes refl refl)
     one_leads t f shapes alone (Some c) at = by c.follows refl
       where
@@ -218,7 +218,7 @@ module _ (asked : List Command) where
         by (Some st) is =
             cond_both (is_complete f.answer) (call_follows t (second_of c st)) (call_ends running t c f) (Leads t) (λ complete. follows_leads t shapes c (found_at asked t node f.session c shapes at).0 st is node f.session at) (λ other. gone)
 
-    refused_fewer : (t : Telling) (f : Finished) → AreShaped asked t.calls → is_complete f.answer ≡ false → (o : Option Call) → Fewer t (finished_call running t f o)
+    refused_fewer : (t : RunReport) (f : Finished) → AreShaped asked t.calls → is_complete f.answer ≡ false → (o : Option Call) → Fewer t (finished_call running t f o)
     refused_fewer t f shapes refused None = same_fewer t t shapes refl refl
     refused_fewer t f shapes refused (Some c) = by c.follows
       where
@@ -228,11 +228,11 @@ module _ (asked : List Command) where
             cond_both (is_complete f.answer) (call_follows t (second_of c st)) (call_ends running t c f) (Fewer t) (λ complete. absurd (cc (complete, refused))) (λ other. gone_fewer running t c.node c.session c.command (says_node f) shapes)
 
     -- a turn's
-    pub ends_lead : (t : Telling) (fs : List Finished) → AreShaped asked t.calls → t.next_call ≡ None → EndsFew fs → Leads t (finished running t node fs)
+    pub ends_lead : (t : RunReport) (fs : List Finished) → AreShaped asked t.calls → t.next_call ≡ None → EndsFew fs → Leads t (finished running t node fs)
     ends_lead t [] shapes alone few = fewer_leads t t alone (same_fewer t t shapes refl refl)
     ends_lead t (f ∷ []) shapes alone few = one_leads t f shapes alone (call_at t node f.session) refl
     ends_lead t (f ∷ g ∷ []) shapes alone few =
-        let u : Telling = finished_call running t f (call_at t node f.session) in
+        let u : RunReport = finished_call running t f (call_at t node f.session) in
         let fewer : Fewer t u = refused_fewer t f shapes few (call_at t node f.session) in
         let rest : Leads u (finished_call running u g (call_at u node g.session)) = one_leads u g fewer.shapes (fewer.next ∙ alone) (call_at u node g.session) refl in record {
           was = λ n s c at. elim (rest.was n s c at) [ inl here ↦ inl (fewer.was n s c here) | inr next ↦ inr (next.0, next.1, fewer.was n s next.1 next.2) ];
@@ -242,10 +242,10 @@ module _ (asked : List Command) where
     ends_lead t (f ∷ g ∷ h ∷ fs) shapes alone few = absurd few
 
   -- those of a node that stops
-  pub stopped_fewer : (places : List Place) (running n : ℕ) (t : Telling) (cs : List Call) → AreShaped asked t.calls → Fewer t (stopped_calls places running t n cs)
+  pub stopped_fewer : (places : List Place) (running n : ℕ) (t : RunReport) (cs : List Call) → AreShaped asked t.calls → Fewer t (stopped_calls places running t n cs)
   stopped_fewer places running n t [] shapes = same_fewer t t shapes refl refl
   stopped_fewer places running n t (c ∷ cs) shapes =
-      let u : Telling = call_line running (without_call t c.node c.session) c.command (is_down places n) in
+      let u : RunReport = call_line running (without_call t c.node c.session) c.command (is_down places n) in
       cond_both (c.node == n) (stopped_calls places running u n cs) (stopped_calls places running t n cs) (Fewer t)
       (λ here. (let one : Fewer t u = gone_fewer running t c.node c.session c.command (is_down places n) shapes in fewer_then t u (stopped_calls places running u n cs) one (stopped_fewer places running n u cs one.shapes)))
       (λ other. stopped_fewer places running n t cs shapes)

@@ -11,9 +11,9 @@ use Rattle.run_rules.specs.Data.happenings
 use Rattle.run_rules.specs.Facts.{Facts, command_at, is_up, node_at, facts_after}
 use Rattle.run_rules.specs.Scripts.{IsTheRunOf}
 use Rattle.run_rules.specs.Lawful.{History}
-use Rattle.run_rules.specs.Past.{is_call, acts, failed_start, start_refused, is_stop_of, stop_line, telling_stopped, next, past}
+use Rattle.run_rules.specs.Past.{is_call, acts, failed_start, start_refused, is_stop_of, stop_line, report_stopped, next, past}
 use Rattle.run_claims.specs.Places.{past_upto}
-use Rattle.run_rules.specs.Telling.{Call, Past, Telling, start}
+use Rattle.run_rules.specs.RunReport.{Call, Past, RunReport, start}
 use Rattle.run_rules.proofs.ListLemmas.{all_append}
 use Rattle.run_ready_laws.proofs.CallEndLemmas.{same_number}
 use Rattle.run_ready_laws.proofs.PendingLemmas.{follows_at, at_parts}
@@ -32,8 +32,8 @@ module _ (t : History) (run : IsTheRunOf t) (i : ℕ) (now : CallsSo t i (past_u
   abbrev f : Facts
   f = p.facts
 
-  abbrev told : Telling
-  told = p.telling
+  abbrev told : RunReport
+  told = p.run_report
 
   -- ---- what comes beside turns
 
@@ -44,12 +44,12 @@ module _ (t : History) (run : IsTheRunOf t) (i : ℕ) (now : CallsSo t i (past_u
         further t i n s c (now.came n s c at old) at (λ u is here st came. no_turn u (let it : Some h ≡ Some (happenings.Turn u) = sym there ∙ is in let same : h ≡ happenings.Turn u = cc in same))
 
     -- nothing is due but what follows
-    other_so : (q : Past) → IsQuiet f told → Fewer t.commands told q.telling → NextIs t.commands q.telling → q.telling.acted ≡ true → CallsSo t (i + 1) q
+    other_so : (q : Past) → IsQuiet f told → Fewer t.commands told q.run_report → NextIs t.commands q.run_report → q.run_report.acted ≡ true → CallsSo t (i + 1) q
     other_so q quiet fewer next acted = record {
       shapes = fewer.shapes;
       next = next;
-      came = λ n s c at old. (let was : follows_at told.next_call n s ≡ false = by (follows_at told.next_call n s) (not q.telling.acted) (is_own q.facts.command (find (is_call_at n s) q.telling.calls))
-          (sym (ap (λ o. follows_at o n s || (not q.telling.acted && is_own q.facts.command (find (is_call_at n s) q.telling.calls))) fewer.next) ∙ old) in
+      came = λ n s c at old. (let was : follows_at told.next_call n s ≡ false = by (follows_at told.next_call n s) (not q.run_report.acted) (is_own q.facts.command (find (is_call_at n s) q.run_report.calls))
+          (sym (ap (λ o. follows_at o n s || (not q.run_report.acted && is_own q.facts.command (find (is_call_at n s) q.run_report.calls))) fewer.next) ∙ old) in
           stays_come n s c (fewer.was n s c at) (quiet n s ∙ was));
     }
       where
@@ -57,7 +57,7 @@ module _ (t : History) (run : IsTheRunOf t) (i : ℕ) (now : CallsSo t i (past_u
         by true b c is = absurd cc
         by false b c is = refl
 
-    alone_next : (v : Telling) → v.next_call ≡ None → NextIs t.commands v
+    alone_next : (v : RunReport) → v.next_call ≡ None → NextIs t.commands v
     alone_next v alone c is = absurd (cc (alone, is))
 
   -- a command begins
@@ -104,16 +104,16 @@ module _ (t : History) (run : IsTheRunOf t) (i : ℕ) (now : CallsSo t i (past_u
         }
 
   -- a node stops
-  pub stop_fewer : (n : ℕ) → Fewer t.commands told (acts (telling_stopped t.places t.commands f told n))
+  pub stop_fewer : (n : ℕ) → Fewer t.commands told (acts (report_stopped t.places t.commands f told n))
   stop_fewer n =
       let command : Command = command_at t.commands f.command in
-      let refused : Telling = start_refused t.places f told command n in
+      let refused : RunReport = start_refused t.places f told command n in
       let one : Fewer t.commands told refused = cond_both (failed_start f command n) _ told (Fewer t.commands told) (λ failed. same_fewer t.commands told _ now.shapes refl refl) (λ other. same_fewer t.commands told told now.shapes refl refl) in
-      let falls : Telling = record refused { start_to_stop = None } in
+      let falls : RunReport = record refused { start_to_stop = None } in
       let two : Fewer t.commands refused falls = same_fewer t.commands refused falls one.shapes refl refl in
-      let left : Telling = stopped_calls t.places f.command falls n told.calls in
+      let left : RunReport = stopped_calls t.places f.command falls n told.calls in
       let three : Fewer t.commands falls left = stopped_fewer t.commands t.places f.command n falls told.calls two.shapes in
-      let stop : Telling = stop_line t.places left command n in
+      let stop : RunReport = stop_line t.places left command n in
       let four : Fewer t.commands left stop = cond_both (is_stop_of command n) left _ (Fewer t.commands left) (λ own. same_fewer t.commands left left three.shapes refl refl) (λ other. same_fewer t.commands left _ three.shapes refl refl) in
       let five : Fewer t.commands stop (acts stop) = same_fewer t.commands stop (acts stop) four.shapes refl refl in
       fewer_then t.commands told refused (acts stop) one (fewer_then t.commands refused falls (acts stop) two (fewer_then t.commands falls left (acts stop) three (fewer_then t.commands left stop (acts stop) four five)))
@@ -122,7 +122,7 @@ module _ (t : History) (run : IsTheRunOf t) (i : ℕ) (now : CallsSo t i (past_u
   unfolding next facts_after
   stopped_so n there =
       let due = due_there t run i now (happenings.Stopped n) there in
-      let stop : Telling = acts (telling_stopped t.places t.commands f told n) in
+      let stop : RunReport = acts (report_stopped t.places t.commands f told n) in
       let fewer : Fewer t.commands told stop = stop_fewer n in
       other_so (happenings.Stopped n) there (λ u is. absurd cc) (next t.places t.commands p (happenings.Stopped n)) due.0 fewer (alone_next (happenings.Stopped n) there (λ u is. absurd cc) stop (fewer.next ∙ due.1)) refl
 
@@ -134,7 +134,7 @@ module _ (t : History) (run : IsTheRunOf t) (i : ℕ) (now : CallsSo t i (past_u
   happens_so (happenings.Started n boot) there =
       let due = due_there t run i now (happenings.Started n boot) there in
       let q : Past = next t.places t.commands p (happenings.Started n boot) in
-      other_so (happenings.Started n boot) there (λ u is. absurd cc) q due.0 (same_fewer t.commands told q.telling now.shapes refl refl) (alone_next (happenings.Started n boot) there (λ u is. absurd cc) q.telling due.1) refl
+      other_so (happenings.Started n boot) there (λ u is. absurd cc) q due.0 (same_fewer t.commands told q.run_report now.shapes refl refl) (alone_next (happenings.Started n boot) there (λ u is. absurd cc) q.run_report due.1) refl
   happens_so (happenings.Cut a b) there =
       other_so (happenings.Cut a b) there (λ u is. absurd cc) (next t.places t.commands p (happenings.Cut a b)) (due_there t run i now (happenings.Cut a b) there).0 (same_fewer t.commands told (acts told) now.shapes refl refl) now.next refl
   happens_so (happenings.Join a b) there =
@@ -166,34 +166,34 @@ module _ (t : History) where
     all_so zero = first_so
     all_so (suc i) = let one : i + 1 ≡ suc i = omega arith in subst (λ j. CallsSo t j (past_upto t j)) one (one_so i (all_so i) (slice_get t.trace i) refl)
 
-    module _ (i n s : ℕ) (c : Call) (at : call_at (past_upto t i).telling n s ≡ Some c) where
+    module _ (i n s : ℕ) (c : Call) (at : call_at (past_upto t i).run_report n s ≡ Some c) where
       abbrev so_far : Past
       so_far = past_upto t i
 
-      yet_to_come : is_fresh so_far.facts.command so_far.telling n s ≡ true → IsYetToCome so_far c
-      yet_to_come fresh = by so_far.telling.next_call refl
+      yet_to_come : is_fresh so_far.facts.command so_far.run_report n s ≡ true → IsYetToCome so_far c
+      yet_to_come fresh = by so_far.run_report.next_call refl
         where
-          own : (q : Bool) → so_far.telling.acted ≡ q → (not q && is_own so_far.facts.command (find (is_call_at n s) so_far.telling.calls)) ≡ true → IsYetToCome so_far c
+          own : (q : Bool) → so_far.run_report.acted ≡ q → (not q && is_own so_far.facts.command (find (is_call_at n s) so_far.run_report.calls)) ≡ true → IsYetToCome so_far c
           own true acted is = absurd cc
           own false acted is = inl (acted, sym (same_number c.command so_far.facts.command (sym (ap (is_own so_far.facts.command) at) ∙ is)))
 
-          by : (o : Option Call) → so_far.telling.next_call ≡ o → IsYetToCome so_far c
-          by None none = own so_far.telling.acted refl (sym (ap (λ o. follows_at o n s || (not so_far.telling.acted && is_own so_far.facts.command (find (is_call_at n s) so_far.telling.calls))) none) ∙ fresh)
+          by : (o : Option Call) → so_far.run_report.next_call ≡ o → IsYetToCome so_far c
+          by None none = own so_far.run_report.acted refl (sym (ap (λ o. follows_at o n s || (not so_far.run_report.acted && is_own so_far.facts.command (find (is_call_at n s) so_far.run_report.calls))) none) ∙ fresh)
           by (Some d) follows = here (is_call_at n s d) refl
             where
               here : (q : Bool) → is_call_at n s d ≡ q → IsYetToCome so_far c
               here true its =
                   let parts = at_parts n s d its in
-                  let there : call_at so_far.telling d.node d.session ≡ Some d = ((all_so i).next d follows).1 in
-                  let same : call_at so_far.telling n s ≡ Some d = subst (λ j. call_at so_far.telling j s ≡ Some d) parts.0 (subst (λ j. call_at so_far.telling d.node j ≡ Some d) parts.1 there) in
+                  let there : call_at so_far.run_report d.node d.session ≡ Some d = ((all_so i).next d follows).1 in
+                  let same : call_at so_far.run_report n s ≡ Some d = subst (λ j. call_at so_far.run_report j s ≡ Some d) parts.0 (subst (λ j. call_at so_far.run_report d.node j ≡ Some d) parts.1 there) in
                   inr (follows ∙ (sym same ∙ at))
-              here false other = own so_far.telling.acted refl (sym (ap (λ o. follows_at o n s || (not so_far.telling.acted && is_own so_far.facts.command (find (is_call_at n s) so_far.telling.calls))) follows
-                  ∙ ap (λ q. q || (not so_far.telling.acted && is_own so_far.facts.command (find (is_call_at n s) so_far.telling.calls))) other) ∙ fresh)
+              here false other = own so_far.run_report.acted refl (sym (ap (λ o. follows_at o n s || (not so_far.run_report.acted && is_own so_far.facts.command (find (is_call_at n s) so_far.run_report.calls))) follows
+                  ∙ ap (λ q. q || (not so_far.run_report.acted && is_own so_far.facts.command (find (is_call_at n s) so_far.run_report.calls))) other) ∙ fresh)
 
       came_or_comes : IsYetToCome so_far c ⊎ CameBefore t i n s c
-      came_or_comes = by (is_fresh so_far.facts.command so_far.telling n s) refl
+      came_or_comes = by (is_fresh so_far.facts.command so_far.run_report n s) refl
         where
-          by : (q : Bool) → is_fresh so_far.facts.command so_far.telling n s ≡ q → IsYetToCome so_far c ⊎ CameBefore t i n s c
+          by : (q : Bool) → is_fresh so_far.facts.command so_far.run_report n s ≡ q → IsYetToCome so_far c ⊎ CameBefore t i n s c
           by true fresh = inl (yet_to_come fresh)
           by false old = inr ((all_so i).came n s c at old)
 

@@ -9,7 +9,7 @@ use Rattle.node_rules.specs.Data.acts
 use Rattle.node_rules.specs.Data.records
 use Rattle.node_rules.specs.Data.params
 use Rattle.node_rules.specs.Commit.{acked_by}
-use Rattle.node_rules.specs.Kept.{Kept, Deed, standing_id}
+use Rattle.node_rules.specs.NodeState.{NodeState, Deed, standing_id}
 use Rattle.node_rules.specs.Names.{Behind, synonym_named, table_named, table_of, ref_named, named_by, node_named, target_of}
 use Rattle.node_rules.specs.Client.{is_used, is_link}
 use Rattle.node_rules.specs.Words.{same_text, put_item}
@@ -21,7 +21,7 @@ use Rattle.std.specs.Cmp.Lexicographic.{bytes_decides}
 use Rattle.tran_ids.proofs.NumberedLemmas.{set_or_before}
 use Rattle.redo_record.specs.Durable.{no_durable}
 use Rattle.node_rules.specs.Data.inputs
-use Rattle.node_rules.specs.Kept.{Stored}
+use Rattle.node_rules.specs.NodeState.{Stored}
 use Rattle.node_rules.specs.Turn.{heard, deed_of}
 use Rattle.node_rules.specs.Words.{numbered, set_numbered}
 use Rattle.run_rules.specs.Data.{Happening}
@@ -56,7 +56,7 @@ has_kept d ks (Some _) is = tt
 
 module _ (p : Place) (input : Input) where
   -- each step writes records with new names
-  pub new_names : {k : Kept} {d : Deed} → Step p input k d → HasNewName k.stored.durable d.wrote
+  pub new_names : {k : NodeState} {d : Deed} → Step p input k d → HasNewName k.stored.durable d.wrote
   new_names (steps.Begins n s call rows fit none step) = new_names step
   new_names (steps.Pends n l given call has live code step) = new_names step
   new_names (steps.Lets_reads_go l comment site_below live begins step) = new_names step
@@ -233,7 +233,7 @@ module _ (t : History) (whole : IsLawfulRun t) where
       let s0 : History = so_far t hs in
       let lawful0 : IsLawfulRun s0 = part_lawful t whole hs (record { rest = happenings.Turn u ∷ rest; is = is }) in
       let may = may_of t whole hs (happenings.Turn u) rest is in
-      let k : Kept = may.0 in
+      let k : NodeState = may.0 in
       let p : Place = place_at t.places u.node in
       let serving = serves t.places (f_at t hs) u k may.1 in
       let one : OneCatalog k.stored.durable (catalog hs u.node) = catalog_kept k (records_at (f_at t hs) u.node) (records_are_kept s0 lawful0 u.node k may.1.up) in
@@ -241,7 +241,7 @@ module _ (t : History) (whole : IsLawfulRun t) where
       let wrote : HasNewName (catalog hs u.node) u.wrote = of_wrote p k u serving (HasNewName (catalog hs u.node)) tt (has_by one (deed_of p k u.input).wrote new) in
       with_records (f_at t hs) u.node n (records_at (f_at t hs) u.node ++ option_to_list u.wrote) (option_to_list u.wrote) refl (one_more (records_at (f_at t hs) u.node) u.wrote wrote)
     where
-      heard_stored : (k : Kept) (input : Input) → (heard k input).stored ≡ k.stored
+      heard_stored : (k : NodeState) (input : Input) → (heard k input).stored ≡ k.stored
       heard_stored k (inputs.Message m) = refl
       heard_stored k (inputs.Call n s) = refl
       heard_stored k (inputs.GiveUp n) = refl

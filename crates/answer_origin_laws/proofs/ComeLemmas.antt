@@ -4,7 +4,7 @@ use Rattle.std.proofs.lemmas.Bool.Decides.{nat_tests}
 use Rattle.std.proofs.lemmas.Bool.{cond_both, and_parts, and_from, eq-eqb}
 use Rattle.node_rules.specs.Data.{Input, Stmt}
 use Rattle.node_rules.specs.Data.inputs
-use Rattle.node_rules.specs.Kept.{Outcome}
+use Rattle.node_rules.specs.NodeState.{Outcome}
 use Rattle.node_rules.specs.Turn.{turn_of}
 use Rattle.run_rules.specs.Calls.{is_call_at, call_at, waits, waits_if_pending, after_input, finished}
 use Rattle.run_rules.specs.Data.{Happening, Turn}
@@ -13,10 +13,10 @@ use Rattle.run_rules.specs.Each.{facts_upto}
 use Rattle.run_rules.specs.Facts.{Facts, node_at, outcome_at, place_at, served}
 use Rattle.run_rules.specs.Scripts.{IsTheRunOf}
 use Rattle.run_rules.specs.Lawful.{History}
-use Rattle.run_rules.specs.Past.{is_call, delivered_more, without_following, ends_calls, acts, telling_turned, next}
+use Rattle.run_rules.specs.Past.{is_call, delivered_more, without_following, ends_calls, acts, report_turned, next}
 use Rattle.run_claims.specs.Places.{past_upto}
 use Rattle.run_rules.specs.Cuts.{turn_appends}
-use Rattle.run_rules.specs.Telling.{Call, Past, Telling}
+use Rattle.run_rules.specs.RunReport.{Call, Past, RunReport}
 use Rattle.run_ready_laws.proofs.CallEndLemmas.{same_number}
 use Rattle.run_ready_laws.proofs.PendingLemmas.{IsOf, EndsFew, follows_at}
 use Rattle.run_ready_laws.proofs.StandCallLemmas.{is_own, is_fresh}
@@ -38,13 +38,13 @@ below_or k i is = by (k == i) refl
 
 -- ---- what is said after a turn leaves its calls
 
-module _ (t : Telling) where
+module _ (t : RunReport) where
   waits_same : ((waits t).calls ≡ t.calls) × ((waits t).next_call ≡ t.next_call)
-  waits_same = cond_both (t.hold && is_none t.next_call) _ t (λ (u : Telling). (u.calls ≡ t.calls) × (u.next_call ≡ t.next_call)) (λ on. (refl, refl)) (λ off. (refl, refl))
+  waits_same = cond_both (t.hold && is_none t.next_call) _ t (λ (u : RunReport). (u.calls ≡ t.calls) × (u.next_call ≡ t.next_call)) (λ on. (refl, refl)) (λ off. (refl, refl))
 
   pending_same : (running : ℕ) (o : Option Call) → ((waits_if_pending running t o).calls ≡ t.calls) × ((waits_if_pending running t o).next_call ≡ t.next_call)
   pending_same running None = (refl, refl)
-  pending_same running (Some c) = cond_both (c.command == running) (waits t) t (λ (u : Telling). (u.calls ≡ t.calls) × (u.next_call ≡ t.next_call)) (λ own. waits_same) (λ other. (refl, refl))
+  pending_same running (Some c) = cond_both (c.command == running) (waits t) t (λ (u : RunReport). (u.calls ≡ t.calls) × (u.next_call ≡ t.next_call)) (λ own. waits_same) (λ other. (refl, refl))
 
   pub input_same : (running node : ℕ) (input : Input) → ((after_input running t node input).calls ≡ t.calls) × ((after_input running t node input).next_call ≡ t.next_call)
   input_same running node (inputs.Call session s) = pending_same running (call_at t node session)
@@ -55,20 +55,20 @@ module _ (t : Telling) where
 module _ (t : History) where
   -- What stands of the pending calls after so many happenings.
   pub record CallsSo (i : ℕ) (p : Past) : Type 0 where
-    pub shapes : AreShaped t.commands p.telling.calls
-    pub next : NextIs t.commands p.telling
-    pub came : (n s : ℕ) (c : Call) → call_at p.telling n s ≡ Some c → is_fresh p.facts.command p.telling n s ≡ false → CameBefore t i n s c
+    pub shapes : AreShaped t.commands p.run_report.calls
+    pub next : NextIs t.commands p.run_report
+    pub came : (n s : ℕ) (c : Call) → call_at p.run_report n s ≡ Some c → is_fresh p.facts.command p.run_report n s ≡ false → CameBefore t i n s c
 
   -- ---- one happening more
 
   module _ (i n s : ℕ) (c : Call) where
-    pub further : CameBefore t i n s c → call_at (past_upto t i).telling n s ≡ Some c → ((u : Turn) → slice_get t.trace i ≡ Some (happenings.Turn u) → u.node ≡ n → (st : Option Stmt) → u.input ≡ inputs.Call s st → ⊥)
+    pub further : CameBefore t i n s c → call_at (past_upto t i).run_report n s ≡ Some c → ((u : Turn) → slice_get t.trace i ≡ Some (happenings.Turn u) → u.node ≡ n → (st : Option Stmt) → u.input ≡ inputs.Call s st → ⊥)
         → CameBefore t (i + 1) n s c
     further is at other = record {
       moment = is.moment;
       before = omega (arith, is.before);
       turn = is.turn;
-      stays = λ k from below. elim (below_or k i below) [ inl earlier ↦ is.stays k from earlier | inr same ↦ subst (λ j. call_at (past_upto t j).telling n s ≡ Some c) (sym same) at ];
+      stays = λ k from below. elim (below_or k i below) [ inl earlier ↦ is.stays k from earlier | inr same ↦ subst (λ j. call_at (past_upto t j).run_report n s ≡ Some c) (sym same) at ];
       last = λ k from below u there here st came. elim (below_or k i below) [
         | inl earlier ↦ is.last k from earlier u there here st came
         | inr same ↦ other u (subst (λ j. slice_get t.trace j ≡ Some (happenings.Turn u)) same there) here st came
@@ -80,7 +80,7 @@ module _ (t : History) where
       moment = i;
       before = omega arith;
       turn = is;
-      stays = λ k from below. (let same : k ≡ i = omega (arith, from, below) in subst (λ j. call_at (past_upto t j).telling n s ≡ Some c) (sym same) is.pending);
+      stays = λ k from below. (let same : k ≡ i = omega (arith, from, below) in subst (λ j. call_at (past_upto t j).run_report n s ≡ Some c) (sym same) is.pending);
       last = λ k from below u there here st came. absurd (omega (arith, from, below));
     }
 
@@ -91,8 +91,8 @@ module _ (t : History) where
     abbrev pub f : Facts
     f = p.facts
 
-    abbrev pub told : Telling
-    told = p.telling
+    abbrev pub told : RunReport
+    told = p.run_report
 
     stands : StandsAt t.places t.commands t.of_a_script p
     stands = stand_at t run i
@@ -192,7 +192,7 @@ module _ (t : History) where
       quiet_or_call (inl is) other = let call : is_call u.input ≡ true = ap is_call is.came in absurd (cc (call, other))
       quiet_or_call (inr none) other = none.1
 
-      abbrev pub before_end : Option Outcome → Telling
+      abbrev pub before_end : Option Outcome → RunReport
       before_end o = without_following (delivered_more (turn_appends told u.node u.input (node_at f u.node) o) u.took) u.input
 
       pub before_so : (o : Option Outcome) → ToldBefore told (before_end o)
@@ -206,7 +206,7 @@ module _ (t : History) where
           subst (λ (x : Outcome). EndsFew x.ended) same (turn_leaves_so t.places t.commands t.of_a_script.each f stands.events stands.births stands.born stands.roots stands.so.live u may.0 may.1).few
 
       -- the calls are those before
-      still_leads : (o : Option Outcome) (v : Telling) → v.calls ≡ (before_end o).calls → v.next_call ≡ (before_end o).next_call → Leads t.commands told v
+      still_leads : (o : Option Outcome) (v : RunReport) → v.calls ≡ (before_end o).calls → v.next_call ≡ (before_end o).next_call → Leads t.commands told v
       still_leads o v calls next =
           let same : v.calls ≡ told.calls = calls ∙ (before_so o).calls in record {
             was = λ n s c at. inl (ap (find (is_call_at n s)) (sym same) ∙ at);
@@ -217,9 +217,9 @@ module _ (t : History) where
       ended_leads : (o : Outcome) → outcome_at t.places f u ≡ Some o → (cut : Bool) → Leads t.commands told (acts (ends_calls f.command (before_end (Some o)) u cut (Some o)))
       ended_leads o comes true = still_leads (Some o) (acts (before_end (Some o))) refl refl
       ended_leads o comes false =
-          let v : Telling = before_end (Some o) in
+          let v : RunReport = before_end (Some o) in
           let same : v.calls ≡ told.calls = (before_so (Some o)).calls in
-          let w : Telling = finished f.command v u.node o.ended in
+          let w : RunReport = finished f.command v u.node o.ended in
           let leads : Leads t.commands v w = ends_lead t.commands f.command u.node v o.ended (subst (AreShaped t.commands) (sym same) now.shapes) (before_so (Some o)).alone (few_end o comes) in
           let after = input_same w f.command u.node u.input in record {
             was = λ n s c at. elim (leads.was n s c (ap (find (is_call_at n s)) (sym after.0) ∙ at)) [
@@ -230,7 +230,7 @@ module _ (t : History) where
             next = λ c is. (let it = leads.next c (sym after.1 ∙ is) in (it.0, ap (find (is_call_at c.node c.session)) after.0 ∙ it.1));
           }
 
-      pub turn_leads : (o : Option Outcome) → outcome_at t.places f u ≡ o → Leads t.commands told (telling_turned f.command (node_at f u.node) told u o)
+      pub turn_leads : (o : Option Outcome) → outcome_at t.places f u ≡ o → Leads t.commands told (report_turned f.command (node_at f u.node) told u o)
       turn_leads None comes = by u.cut
         where
           by : (cut : Bool) → Leads t.commands told (acts (ends_calls f.command (before_end None) u cut None))
@@ -238,7 +238,7 @@ module _ (t : History) where
           by false = still_leads None (acts (before_end None)) refl refl
       turn_leads (Some o) comes = ended_leads o comes u.cut
 
-      fresh_next : (v : Telling) (n s : ℕ) (c : Call) → AreShaped t.commands v.calls → call_at v n s ≡ Some c → v.next_call ≡ Some c → is_fresh f.command v n s ≡ true
+      fresh_next : (v : RunReport) (n s : ℕ) (c : Call) → AreShaped t.commands v.calls → call_at v n s ≡ Some c → v.next_call ≡ Some c → is_fresh f.command v n s ≡ true
       fresh_next v n s c shapes at follows =
           let its = found_at t.commands v n s c shapes at in
           let it : follows_at v.next_call n s ≡ true = ap (λ o. follows_at o n s) follows ∙ and_from (c.node == n) (c.session == s) (eq-eqb c.node n its.1) (eq-eqb c.session s its.2) in
@@ -248,7 +248,7 @@ module _ (t : History) where
       unfolding next
       turn_so =
           let o : Option Outcome = outcome_at t.places f u in
-          let v : Telling = telling_turned f.command (node_at f u.node) told u o in
+          let v : RunReport = report_turned f.command (node_at f u.node) told u o in
           let leads : Leads t.commands told v = turn_leads o refl in record {
             shapes = leads.shapes;
             next = leads.next;

@@ -3,7 +3,7 @@ use Rattle.std.proofs.Common.{◌≡◌, ℕ, ◌+◌, ◌==◌, ◌&&◌, ◌�
 use Rattle.std.proofs.lemmas.Bool.{cond_both}
 use Rattle.node_rules.specs.Data.{Place, Input}
 use Rattle.node_rules.specs.Data.inputs
-use Rattle.node_rules.specs.Kept.{Kept, Outcome}
+use Rattle.node_rules.specs.NodeState.{NodeState, Outcome}
 use Rattle.node_rules.specs.Turn.{turn_of}
 use Rattle.net_bag.specs.Net.{packet_at}
 use Rattle.run_rules.specs.Calls.{is_call_at, call_at}
@@ -15,7 +15,7 @@ use Rattle.run_rules.specs.Disks.{Strike, struck}
 use Rattle.run_rules.specs.Due.{Due, Pends, turn_by, turn_comes, turn_at, start_by, delivery_at, happens, comes_next}
 use Rattle.run_rules.specs.Facts.{Facts, command_at, node_at, place_at}
 use Rattle.run_rules.specs.Past.{is_call}
-use Rattle.run_rules.specs.Telling.{Call, Past, Telling, orders_at}
+use Rattle.run_rules.specs.RunReport.{Call, Past, RunReport, orders_at}
 use Rattle.run_ready_laws.proofs.CallEndLemmas.{same_number}
 use Rattle.run_ready_laws.proofs.DueLemmas.{ComesBeside, IsDue, due_so}
 use Rattle.run_ready_laws.proofs.DueLemmas as due
@@ -29,26 +29,26 @@ pub record ComesNow (p : Past) (u : Turn) : Type 0 where
   pub call : Call
   pub here : u.node ≡ call.node
   pub came : u.input ≡ inputs.Call call.session call.statement
-  pub fresh : (n s : ℕ) → is_fresh p.facts.command p.telling n s ≡ ((call.node == n) && (call.session == s))
-  pub there : ((call_at p.telling call.node call.session ≡ Some call) × (p.facts.command ≡ call.command)) ⊎ (p.telling.next_call ≡ Some call)
+  pub fresh : (n s : ℕ) → is_fresh p.facts.command p.run_report n s ≡ ((call.node == n) && (call.session == s))
+  pub there : ((call_at p.run_report call.node call.session ≡ Some call) × (p.facts.command ≡ call.command)) ⊎ (p.run_report.next_call ≡ Some call)
 
 -- no call is yet to come, and none comes
 abbrev pub NoneComes : Past → Turn → Type 0
-NoneComes p u = IsQuiet p.facts p.telling × (p.telling.next_call ≡ None) × (is_call u.input ≡ false)
+NoneComes p u = IsQuiet p.facts p.run_report × (p.run_report.next_call ≡ None) × (is_call u.input ≡ false)
 
 -- what is due next
 abbrev pub DueIs : List Command → Past → Happening → Type 0
 DueIs asked p (happenings.Turn u) = ComesNow p u ⊎ NoneComes p u
-DueIs asked p (happenings.Lost k) = IsQuiet p.facts p.telling
-DueIs asked p (happenings.Started n boot) = IsQuiet p.facts p.telling × (p.telling.next_call ≡ None) × (command_at asked p.facts.command ≡ commands.Start n)
-DueIs asked p (happenings.Begun c) = IsQuiet p.facts p.telling × (p.telling.next_call ≡ None) × (c ≡ p.facts.command + 1)
-DueIs asked p _ = IsQuiet p.facts p.telling × (p.telling.next_call ≡ None)
+DueIs asked p (happenings.Lost k) = IsQuiet p.facts p.run_report
+DueIs asked p (happenings.Started n boot) = IsQuiet p.facts p.run_report × (p.run_report.next_call ≡ None) × (command_at asked p.facts.command ≡ commands.Start n)
+DueIs asked p (happenings.Begun c) = IsQuiet p.facts p.run_report × (p.run_report.next_call ≡ None) × (c ≡ p.facts.command + 1)
+DueIs asked p _ = IsQuiet p.facts p.run_report × (p.run_report.next_call ≡ None)
 
 -- ---- happenings
 
 module _ (P : Happening → Type 0) where
   -- a turn that is due
-  turn_is : (places : List Place) (t : Telling) (node : ℕ) (input : Input) (took : Option Took) (o : Option Kept) (h : Happening) → ((u : Turn) → u.node ≡ node → u.input ≡ input → P (happenings.Turn u))
+  turn_is : (places : List Place) (t : RunReport) (node : ℕ) (input : Input) (took : Option Took) (o : Option NodeState) (h : Happening) → ((u : Turn) → u.node ≡ node → u.input ≡ input → P (happenings.Turn u))
       → turn_at places t node input took o ≡ Some h → P h
   turn_is places t node input took None h each is = absurd cc
   turn_is places t node input took (Some k) h each is =
@@ -65,7 +65,7 @@ module _ (P : Happening → Type 0) where
   delivery_is : (places : List Place) (p : Past) (k : ℕ) (again : Bool) (o : Option Packet) (h : Happening) → ((u : Turn) → is_call u.input ≡ false → P (happenings.Turn u)) → delivery_at places p k again o ≡ Some h → P h
   delivery_is places p k again None h each is = absurd cc
   delivery_is places p k again (Some x) h each is =
-      turn_is places p.telling x.msg.to.node (inputs.Message x.msg) (Some (record { number = k; again = again })) (node_at p.facts x.msg.to.node) h (λ u node input. each u (ap is_call input)) is
+      turn_is places p.run_report x.msg.to.node (inputs.Message x.msg) (Some (record { number = k; again = again })) (node_at p.facts x.msg.to.node) h (λ u node input. each u (ap is_call input)) is
 
   start_is : (f : Facts) (n : ℕ) (o : Option Strike) → ((boot : ℕ) → P (happenings.Started n boot)) → P (happenings.Stopped n) → P (start_by f n o)
   start_is f n None starts stops = starts _
@@ -76,12 +76,12 @@ module _ (P : Happening → Type 0) where
 
 -- ---- what is due
 
-module _ (places : List Place) (asked : List Command) (count : ℕ) (p : Past) (stand : CallsStand asked count p.facts p.telling) where
+module _ (places : List Place) (asked : List Command) (count : ℕ) (p : Past) (stand : CallsStand asked count p.facts p.run_report) where
   abbrev f : Facts
   f = p.facts
 
-  abbrev t : Telling
-  t = p.telling
+  abbrev t : RunReport
+  t = p.run_report
 
   -- a call comes
   pends_is : (c : Call) → ((n s : ℕ) → is_fresh f.command t n s ≡ ((c.node == n) && (c.session == s))) → ((call_at t c.node c.session ≡ Some c) × (f.command ≡ c.command)) ⊎ (t.next_call ≡ Some c)

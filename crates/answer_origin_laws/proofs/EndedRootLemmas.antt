@@ -5,7 +5,7 @@ use Rattle.node_rules.specs.Data.{Answer, BranchId, Live, Place}
 use Rattle.node_rules.specs.declared.session.PendingCall.TheVariants as pending
 use Rattle.node_rules.specs.declared.session.Session.{Session}
 use Rattle.node_rules.specs.Inputs.{IsSession}
-use Rattle.node_rules.specs.Kept.{Kept}
+use Rattle.node_rules.specs.NodeState.{NodeState}
 use Rattle.node_rules.specs.Words.{numbered}
 use Rattle.node_rules.specs.Refusals.{dtx}
 use Rattle.node_rules.specs.Sessions.{fresh_session, session_at, with_call, needs_rollback}
@@ -90,7 +90,7 @@ module _ (t : History) (whole : IsLawfulRun t) where
     abbrev may : MayHappen t.places t.commands (f_at t hs) (happenings.Turn u)
     may = may_of t whole hs (happenings.Turn u) rest is
 
-    abbrev k : Kept
+    abbrev k : NodeState
     k = may.0
 
     abbrev p : Place
@@ -112,6 +112,6 @@ module _ (t : History) (whole : IsLawfulRun t) where
     pub root_after : (session : ℕ) → IsSession session → (me : BranchId) → Freed (deed_of p k u.input).after.sessions session me → (s : Seen) × (root_at tr1 u.node session ≡ Some s) × (s.me ≡ me)
     unfolding turn_of
     root_after session range me freed =
-        let j : Kept = (deed_of p k u.input).after in
+        let j : NodeState = (deed_of p k u.input).after in
         let found = seen_root tr1 j (root_at tr1 u.node session) (session_at j.sessions session).root me freed.root (roots_after u.node j here_after session range freed.free) in
         (found.0, found.1, found.2)

@@ -19,7 +19,7 @@ use Rattle.node_rules.specs.Data.kinds
 use Rattle.node_rules.specs.Words.{same, one, item_at, put_item}
 use Rattle.node_rules.specs.Refusals.{dtx, ora}
 use Rattle.node_rules.specs.Inputs.{Came}
-use Rattle.node_rules.specs.Kept.{Kept, Branch, live_id, work_id, live_at, with_work, standing_at, branch_at, nothing, saying, post}
+use Rattle.node_rules.specs.NodeState.{NodeState, Branch, live_id, work_id, live_at, with_work, standing_at, branch_at, nothing, saying, post}
 use Rattle.node_rules.specs.LiveBranches.{works_of, EachLive}
 use Rattle.node_rules.specs.Names.{Way, Runs_here, Over, Through, Nowhere_to, Named, A_table, Behind, Unknown, named_by, ref_of, passed_on, way_new, way_edge, way_target, way_named, way_of}
 use Rattle.node_rules.specs.Statement.{ran, after_run, answer_of_run}
@@ -49,12 +49,12 @@ way_target_not : (p : Place) (l : Live) (given : ℕ) (link table : List ℕ) (o
 way_target_not p l given link table None t is = absurd cc
 way_target_not p l given link table (Some node) t is = way_edge_not p l given node link table _ t is
 
-way_named_table : (p : Place) (k : Kept) (l : Live) (given : ℕ) (n : Named) (t : Table) → way_named p k.stored.durable l given n ≡ Runs_here t → n ≡ A_table t
+way_named_table : (p : Place) (k : NodeState) (l : Live) (given : ℕ) (n : Named) (t : Table) → way_named p k.stored.durable l given n ≡ Runs_here t → n ≡ A_table t
 way_named_table p k l given Unknown t is = absurd cc
 way_named_table p k l given (A_table x) t is = let it : Runs_here x ≡ Runs_here t = is in let here : x ≡ t = cc in ap A_table here
 way_named_table p k l given (Behind link table) t is = absurd (way_target_not p l given link table _ t is)
 
-pub way_table : (p : Place) (k : Kept) (l : Live) (given : ℕ) (s : Stmt) (t : Table) → way_of p k.stored.durable l given s ≡ Runs_here t → named_by k.stored.durable (ref_of s) ≡ A_table t
+pub way_table : (p : Place) (k : NodeState) (l : Live) (given : ℕ) (s : Stmt) (t : Table) → way_of p k.stored.durable l given s ≡ Runs_here t → named_by k.stored.durable (ref_of s) ≡ A_table t
 unfolding way_of
 way_table p k l given s t is = way_named_table p k l given (named_by k.stored.durable (ref_of s)) t is
 
@@ -76,12 +76,12 @@ bool_by true P at_true at_false = at_true refl
 bool_by false P at_true at_false = at_false refl
 
 -- one that is not live
-live_none : (k : Kept) (b : BranchId) (o : Option Live) → live_at k b ≡ o → (st : Stand) → stand_of k b ≡ st → ((x : Branch) → st ≢ Is_live x) → o ≡ None
+live_none : (k : NodeState) (b : BranchId) (o : Option Live) → live_at k b ≡ o → (st : Stand) → stand_of k b ≡ st → ((x : Branch) → st ≢ Is_live x) → o ≡ None
 unfolding stand_of
 live_none k b None at st is not_live = refl
 live_none k b (Some l) at st is not_live = absurd (not_live _ (sym is ∙ ap (λ o. live_or (with_work k o) (standing_at k b)) at))
 
-module _ (k : Kept) (m : Msg) (there : (b : BranchId) → item_at live_id k.lives b ≡ None → item_at work_id k.works b ≡ None) where
+module _ (k : NodeState) (m : Msg) (there : (b : BranchId) → item_at live_id k.lives b ≡ None → item_at work_id k.works b ≡ None) where
   abbrev input : Input
   input = inputs.Message m
 

@@ -14,7 +14,7 @@ use Rattle.node_rules.specs.declared.work.Going.{Going}
 use Rattle.node_rules.specs.declared.work.Work.{Work}
 use Rattle.node_rules.specs.Words.{numbered, item_at}
 use Rattle.node_rules.specs.Inputs.{Came, IsCall, IsSession}
-use Rattle.node_rules.specs.Kept.{Kept, Branch, live_id}
+use Rattle.node_rules.specs.NodeState.{NodeState, Branch, live_id}
 use Rattle.node_rules.specs.LiveBranches.{works_of}
 use Rattle.node_rules.specs.Names.{A_table, named_by, ref_of, passed_on, target_of}
 use Rattle.node_rules.specs.Turn.{heard}
@@ -104,7 +104,7 @@ module _ (t : History) (whole : IsLawfulRun t) where
 
   -- ---- a Reply that is heard
 
-  module _ (hs : List Happening) (u : Turn) (rest : List Happening) (is : hs ++ happenings.Turn u ∷ rest ≡ t.trace) (k : Kept) (up : node_at (f_at t hs) u.node ≡ Some k)
+  module _ (hs : List Happening) (u : Turn) (rest : List Happening) (is : hs ++ happenings.Turn u ∷ rest ≡ t.trace) (k : NodeState) (up : node_at (f_at t hs) u.node ≡ Some k)
       (x : Branch) (weight : Option ℕ) (count : ℕ) (a : Answer) (i : ℕ) (e : Edge) (h : Is_answered (heard k u.input) u.input x weight count a i e) (r : Run)
       (n : ℕ) (told : origin_at (tr_at t hs) n ≡ Some r) (ans : AnsweredBy t h.from h.call a r) where
     part0 : Part t whole hs

@@ -8,7 +8,7 @@ use Rattle.node_rules.specs.Data.kinds
 use Rattle.node_rules.specs.declared.work.Work.{Work}
 use Rattle.node_rules.specs.Words.{same, numbered, put_item, drop_item}
 use Rattle.node_rules.specs.Inputs.{Came, IsCall}
-use Rattle.node_rules.specs.Kept.{Kept, Branch, Deed, live_id, work_id, branch_at}
+use Rattle.node_rules.specs.NodeState.{NodeState, Branch, Deed, live_id, work_id, branch_at}
 use Rattle.node_rules.specs.LiveBranches.{works_of, EachLive}
 use Rattle.node_rules.specs.Names.{Behind, named_by, ref_of, passed_on, target_of}
 use Rattle.node_rules.specs.Sessions.{session_at}
@@ -32,13 +32,13 @@ module _ (E : BranchId → Option ℕ) (A : BranchId → Option BranchId) (G Her
   abbrev pub Begun : Live → Work → Type 0
   Begun = turns.Begun E A G Here input said
 
-  abbrev pub Nodes : Kept → Type 0
+  abbrev pub Nodes : NodeState → Type 0
   Nodes k = EachLive Begun k.lives k.works
 
   abbrev pub LineOf : List Post → Live → Work → Type 0
   LineOf xs l w = Line p D Given Called xs (turns.Goes E A G Here input said l) l.me l.edges w
 
-  abbrev pub Lines : List Post → Kept → Type 0
+  abbrev pub Lines : List Post → NodeState → Type 0
   Lines xs k = EachLive (LineOf xs) k.lives k.works
 
   -- a branch of which nothing is known begins
@@ -47,7 +47,7 @@ module _ (E : BranchId → Option ℕ) (A : BranchId → Option BranchId) (G Her
 
   -- What is known as the turn begins.
   pub record Known : Type 0 where
-    pub given : {k : Kept} {x : Branch} {s : Stmt} {given : ℕ} → SessionsFit k → Here x.live.me → Asked k input x s given → Given x.live.me x.work.came.last_call s
+    pub given : {k : NodeState} {x : Branch} {s : Stmt} {given : ℕ} → SessionsFit k → Here x.live.me → Asked k input x s given → Given x.live.me x.work.came.last_call s
     pub calls : (me c : BranchId) (number last : ℕ) (s : Stmt) (link table : List ℕ) → Here me → Given me last s → named_by D (ref_of s) ≡ Behind link table → target_of p D link ≡ Some c.node → newest_exec said me c < number → Called me c number last s (passed_on s table)
     pub opened : (from to : BranchId) (edge strength : ℕ) → Came input from to (kinds.Opened edge strength) → (n : ℕ) × (x : Post) × (numbered said n ≡ Some x) × (x.from ≡ to) × (root : BranchId) × (depth : ℕ) × (x.kind ≡ kinds.Open edge root depth) × (x.to.node ≡ from.node)
 
@@ -73,7 +73,7 @@ module _ (E : BranchId → Option ℕ) (A : BranchId → Option BranchId) (G Her
   }
 
   module _ (known : Known) where
-    module _ (k : Kept) (now : Nodes k) (lines : Lines said k) where
+    module _ (k : NodeState) (now : Nodes k) (lines : Lines said k) where
       pub branch_line : (x : Branch) → branch_at k x.live.me ≡ Some x → LineOf said x.live x.work
       branch_line x live = let parts = branch_parts k x.live.me x live in subst (LineOf said x.live) (sym parts.1) (lines.each x.live.me x.live parts.0)
 

@@ -11,7 +11,7 @@ use Rattle.node_rules.specs.declared.work.Waits.TheVariants as waiting
 use Rattle.node_rules.specs.declared.work.Going.{Going}
 use Rattle.node_rules.specs.declared.work.Work.{Work}
 use Rattle.node_rules.specs.Words.{same_text, numbered, put_item}
-use Rattle.node_rules.specs.Kept.{Kept, Branch, live_id, work_id, post}
+use Rattle.node_rules.specs.NodeState.{NodeState, Branch, live_id, work_id, post}
 use Rattle.node_rules.specs.Names.{Behind, named_by, ref_of, passed_on, node_named, target_of}
 use Rattle.node_rules.specs.Calls.{answer_says, exec_to, nobody_at, with_edge, with_answer, called, waits_for_opened, hears_reply, heard_answer}
 use Rattle.node_rules.proofs.LiveLemmas.{work_is}
@@ -37,7 +37,7 @@ module _ (E : BranchId → Option ℕ) (A : BranchId → Option BranchId) (G Her
   LeavesSo = base.LeavesSo E A G Here input said received p D Given Called
 
   module _ (known : base.Known E A G Here input said received p D Given Called) where
-    module _ (k : Kept) (now : base.Nodes E A G Here input said received p D Given Called k) (lines : base.Lines E A G Here input said received p D Given Called said k) where
+    module _ (k : NodeState) (now : base.Nodes E A G Here input said received p D Given Called k) (lines : base.Lines E A G Here input said received p D Given Called said k) where
       -- ---- a call over an edge
 
       exec_here : (ss : List Session) (y : Branch) (i : ℕ) (s : Stmt) (given : ℕ) (o : Option BranchId) → Here y.live.me → base.FromHere E A G Here input said received p D Given Called (exec_to ss y i s given o)

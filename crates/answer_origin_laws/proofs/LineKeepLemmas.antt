@@ -15,7 +15,7 @@ use Rattle.node_rules.specs.declared.work.Waits.TheVariants as waiting
 use Rattle.node_rules.specs.declared.work.Going.{Going}
 use Rattle.node_rules.specs.declared.work.Work.{Work}
 use Rattle.node_rules.specs.Words.{same, numbered, set_numbered}
-use Rattle.node_rules.specs.Kept.{Branch}
+use Rattle.node_rules.specs.NodeState.{Branch}
 use Rattle.node_rules.specs.Names.{target_of}
 use Rattle.node_rules.specs.Sessions.{fresh_session, session_at, with_call, needs_rollback}
 use Rattle.node_rules.specs.Calls.{advice_of, exec_to, next_call, call_pends, called}

@@ -18,7 +18,7 @@ use Rattle.node_rules.specs.declared.work.Going.{Going}
 use Rattle.node_rules.specs.declared.work.Work.{Work}
 use Rattle.node_rules.specs.Words.{same, numbered}
 use Rattle.node_rules.specs.Refusals.{ora, dtx}
-use Rattle.node_rules.specs.Kept.{post}
+use Rattle.node_rules.specs.NodeState.{post}
 use Rattle.node_rules.specs.Names.{Over, Through, Nowhere_to, Named, A_table, Behind, Unknown, named_by, ref_of, passed_on, target_of, way_new, way_edge, way_target, way_named, way_of}
 use Rattle.run_base_laws.specs.InTurnLaws.{exec_number, newest_exec, call_at}
 use Rattle.run_base_laws.proofs.KindSayLemmas.{AllSay}

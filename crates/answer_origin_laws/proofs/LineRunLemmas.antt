@@ -8,7 +8,7 @@ use Rattle.std.proofs.lemmas.Bool.{cases_eq}
 use Rattle.tran_ids.proofs.NumberedLemmas.{set_or_before}
 use Rattle.node_rules.specs.Data.{BranchId, Durable, Live, Place, Post, RedoRecord}
 use Rattle.node_rules.specs.Words.{numbered, set_numbered}
-use Rattle.node_rules.specs.Kept.{Kept, Deed, live_id, live_at}
+use Rattle.node_rules.specs.NodeState.{NodeState, Deed, live_id, live_at}
 use Rattle.node_rules.specs.LiveBranches.{EachLive}
 use Rattle.node_rules.specs.Turn.{turn_of, start_of, made, deed_of}
 use Rattle.node_rules.proofs.LiveLemmas.{each_same, none_live}
@@ -33,7 +33,7 @@ use Rattle.answer_origin_laws.proofs.NoCallLemmas.{IsNoCall}
 use Rattle.answer_origin_laws.proofs.TurnTaleLemmas as tales
 
 module _ (t : History) (whole : IsLawfulRun t) where
-  abbrev pub LinesOf : List Happening → ℕ → Durable → List Post → Kept → Type 0
+  abbrev pub LinesOf : List Happening → ℕ → Durable → List Post → NodeState → Type 0
   LinesOf = turn.LinesOf t whole
 
   abbrev pub LinesAt : List Happening → Facts → Type 0
@@ -63,7 +63,7 @@ module _ (t : History) (whole : IsLawfulRun t) where
     abbrev may : MayHappen t.places t.commands f0 (happenings.Turn u)
     may = may_of t whole hs (happenings.Turn u) rest is
 
-    abbrev k : Kept
+    abbrev k : NodeState
     k = may.0
 
     abbrev p : Place
@@ -88,7 +88,7 @@ module _ (t : History) (whole : IsLawfulRun t) where
     unfolding turn_of
     sent_says uncut = ap (map post_of) (subst (λ c. IsOwed p k u.input u.wrote u.sent c) uncut may.1.owed).1 ∙ posts_back d.after.clock d.says
 
-    own : u.cut ≡ false → (j : Kept) → node_at f1 u.node ≡ Some j → LinesOf hs1 u.node (catalog t whole hs1 u.node) (said_in f1) j
+    own : u.cut ≡ false → (j : NodeState) → node_at f1 u.node ≡ Some j → LinesOf hs1 u.node (catalog t whole hs1 u.node) (said_in f1) j
     unfolding turn_of
     own uncut j up =
         let says : said_in f1 ≡ said ++ d.says = says1 ∙ ap (λ xs. said ++ xs) (sent_says uncut) in
@@ -98,7 +98,7 @@ module _ (t : History) (whole : IsLawfulRun t) where
         subst (LinesOf hs1 u.node (catalog t whole hs1 u.node) (said_in f1)) one
         (subst (λ xs. LinesOf hs1 u.node (catalog t whole hs1 u.node) xs d.after) (sym says) (turn.lines_after t whole hs u rest is now))
 
-    other : (n : ℕ) (j : Kept) → u.node ≢ n → node_at f1 n ≡ Some j → LinesOf hs1 n (catalog t whole hs1 n) (said_in f1) j
+    other : (n : ℕ) (j : NodeState) → u.node ≢ n → node_at f1 n ≡ Some j → LinesOf hs1 n (catalog t whole hs1 n) (said_in f1) j
     other n j apart up =
         let before : node_at f0 n ≡ Some j = sym (turn_elsewhere t.places t.commands f0 even u n apart).0 ∙ up in
         subst (λ xs. LinesOf hs1 n (catalog t whole hs1 n) xs j) (sym says1)
@@ -107,7 +107,7 @@ module _ (t : History) (whole : IsLawfulRun t) where
         (line_grows (place_at t.places n) (catalog t whole hs n) (catalog t whole hs1 n) (catalog_is n) (GivenLast t whole hs) (GivenLast t whole hs1) (CalledLast t whole hs) (CalledLast t whole hs1) said (GoesOn j y) (GoesOn j y) (λ goes. goes) y.me y.edges v
         (λ g going. still_known t whole hs (happenings.Turn u) y.me (λ here s call. apart (here ∙ own_node n j before y live))) was)))
       where
-        own_node : (n : ℕ) (j : Kept) → node_at f0 n ≡ Some j → (y : Live) → live_at j y.me ≡ Some y → y.me.node ≡ n
+        own_node : (n : ℕ) (j : NodeState) → node_at f0 n ≡ Some j → (y : Live) → live_at j y.me ≡ Some y → y.me.node ≡ n
         own_node n j before y live = all_found (λ l. l.me.node ≡ n) live_id j.lives y.me y (ids_name_their_node s0 lawful0 n j before).lives live
 
         -- a branch of another node says nothing in the turn
@@ -144,7 +144,7 @@ module _ (t : History) (whole : IsLawfulRun t) where
 
   module _ (hs : List Happening) (h : Happening) (rest : List Happening) (is : hs ++ h ∷ rest ≡ t.trace) (now : Stand hs) where
     -- nothing is sent, and the nodes that are up were so or have just started
-    same_stands : ((node session : ℕ) → IsNoCall node session h) → (g : Facts) → facts_after t.places t.commands (f_at t hs) h ≡ g → said_in g ≡ said_in (f_at t hs) ++ [] → ((n : ℕ) (j : Kept) → node_at g n ≡ Some j → (node_at (f_at t hs) n ≡ Some j) ⊎ ((D : Durable) (xs : List Post) → LinesOf (hs ++ h ∷ []) n D xs j)) → Stand (hs ++ h ∷ [])
+    same_stands : ((node session : ℕ) → IsNoCall node session h) → (g : Facts) → facts_after t.places t.commands (f_at t hs) h ≡ g → said_in g ≡ said_in (f_at t hs) ++ [] → ((n : ℕ) (j : NodeState) → node_at g n ≡ Some j → (node_at (f_at t hs) n ≡ Some j) ⊎ ((D : Durable) (xs : List Post) → LinesOf (hs ++ h ∷ []) n D xs j)) → Stand (hs ++ h ∷ [])
     same_stands no_call g facts says still n j up =
         let fact : f_at t (hs ++ h ∷ []) ≡ g = one_on t hs h ∙ facts in
         let said : said_in (f_at t (hs ++ h ∷ [])) ≡ said_in (f_at t hs) = ap said_in fact ∙ (says ∙ append-nil (said_in (f_at t hs))) in
@@ -157,7 +157,7 @@ module _ (t : History) (whole : IsLawfulRun t) where
           | inr new ↦ new (catalog t whole (hs ++ h ∷ []) n) (said_in (f_at t (hs ++ h ∷ [])))
         ]
 
-  set_still : (f : Facts) (m n : ℕ) (o : Option Kept) (j : Kept) → flat (numbered (set_numbered f.nodes m o) n) ≡ Some j → (node_at f n ≡ Some j) ⊎ (o ≡ Some j)
+  set_still : (f : Facts) (m n : ℕ) (o : Option NodeState) (j : NodeState) → flat (numbered (set_numbered f.nodes m o) n) ≡ Some j → (node_at f n ≡ Some j) ⊎ (o ≡ Some j)
   set_still f m n o j up = elim (set_or_before f.nodes m n o) [
     | inl before ↦ inl (sym (ap flat before) ∙ up)
     | inr new ↦ inr (sym (ap flat new.1) ∙ up)
@@ -194,7 +194,7 @@ module _ (t : History) (whole : IsLawfulRun t) where
   stand_last hs part = keep_on t whole Stand stand_on [] hs part first_stand
 
   -- the same without what comes last
-  pub stand_at : (hs : List Happening) → Part t whole hs → (n : ℕ) (k : Kept) → node_at (f_at t hs) n ≡ Some k
+  pub stand_at : (hs : List Happening) → Part t whole hs → (n : ℕ) (k : NodeState) → node_at (f_at t hs) n ≡ Some k
       → EachLive (λ l w. Line (place_at t.places n) (catalog t whole hs n) (GivenBy t whole hs) (CalledAt t whole) (said_in (f_at t hs)) (GoesOn k l) l.me l.edges w) k.lives k.works
   stand_at hs part n k up =
       each_same (λ l w. Line (place_at t.places n) (catalog t whole hs n) (GivenLast t whole hs) (CalledLast t whole hs) (said_in (f_at t hs)) (GoesOn k l) l.me l.edges w) _ k.lives k.works (stand_last hs part n k up)

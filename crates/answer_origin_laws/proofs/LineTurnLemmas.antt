@@ -12,7 +12,7 @@ use Rattle.node_rules.specs.declared.work.Going.{Going}
 use Rattle.node_rules.specs.declared.work.Work.{Work}
 use Rattle.node_rules.specs.Inputs.{IsCall, IsSession}
 use Rattle.session_tree.specs.Live.{children_of}
-use Rattle.node_rules.specs.Kept.{Kept, Branch, Deed, live_id, live_at}
+use Rattle.node_rules.specs.NodeState.{NodeState, Branch, Deed, live_id, live_at}
 use Rattle.node_rules.specs.LiveBranches.{EachLive}
 use Rattle.node_rules.specs.Names.{Behind, named_by, ref_of, passed_on, target_of}
 use Rattle.node_rules.specs.Sessions.{session_at}
@@ -65,11 +65,11 @@ use Rattle.answer_origin_laws.proofs.TurnTaleLemmas as tales
 
 module _ (t : History) (whole : IsLawfulRun t) where
   -- the live branches of a node
-  abbrev pub LinesOf : List Happening → ℕ → Durable → List Post → Kept → Type 0
+  abbrev pub LinesOf : List Happening → ℕ → Durable → List Post → NodeState → Type 0
   LinesOf hs n D said k = EachLive (λ l w. Line (place_at t.places n) D (GivenLast t whole hs) (CalledLast t whole hs) said (GoesOn k l) l.me l.edges w) k.lives k.works
 
   abbrev pub LinesAt : List Happening → Facts → Type 0
-  LinesAt hs f = (n : ℕ) (k : Kept) → node_at f n ≡ Some k → LinesOf hs n (catalog t whole hs n) (said_in f) k
+  LinesAt hs f = (n : ℕ) (k : NodeState) → node_at f n ≡ Some k → LinesOf hs n (catalog t whole hs n) (said_in f) k
 
   abbrev pub Stand : List Happening → Type 0
   Stand hs = LinesAt hs (f_at t hs)
@@ -101,7 +101,7 @@ module _ (t : History) (whole : IsLawfulRun t) where
     abbrev may : MayHappen t.places t.commands f0 (happenings.Turn u)
     may = may_of t whole hs (happenings.Turn u) rest is
 
-    abbrev k : Kept
+    abbrev k : NodeState
     k = may.0
 
     abbrev p : Place
@@ -215,7 +215,7 @@ module _ (t : History) (whole : IsLawfulRun t) where
         (all_unborn t.places t.commands t.of_a_script.each f0 (events_of s0) bs0 u k stand.0.1 stand.0.0.even (node_so t.places t.commands t.of_a_script.each f0 (events_of s0) stand.0)
         (owned_so t.places t.commands t.of_a_script.each f0 (events_of s0) stand.0) may.1 number stand.1))
 
-    given_so : {j : Kept} {x : Branch} {s : Stmt} {given : ℕ} → SessionsFit j → Here x.live.me → Asked j u.input x s given → GivenLast t whole hs1 x.live.me x.work.came.last_call s
+    given_so : {j : NodeState} {x : Branch} {s : Stmt} {given : ℕ} → SessionsFit j → Here x.live.me → Asked j u.input x s given → GivenLast t whole hs1 x.live.me x.work.came.last_call s
     given_so ss here (steps.By_call n x s call rows has code live) = (
       record { before = hs; turn = u; rest = rest; is = is; how = inr (subst (λ m. IsCall u.input m s) (sym (ss.roots.each n x.live.me has)) call, rows, sym (here ∙ number)) },
       record { later = []; since = refl; quiet = tt },

@@ -3,7 +3,7 @@ use Rattle.std.proofs.Common.{◌≡◌, ℕ, List, [], ◌∷◌, find, Option,
 use Rattle.std.specs.Prelude.{fold}
 use Rattle.redo_record.specs.Durable.{durable, durable_after}
 use Rattle.node_rules.specs.Data.{Table, TableRef, Synonym, RedoRecord, Durable}
-use Rattle.node_rules.specs.Kept.{Kept, Stored}
+use Rattle.node_rules.specs.NodeState.{NodeState, Stored}
 use Rattle.node_rules.specs.Names.{A_table, synonym_named, table_named, table_of, ref_named, named_by}
 use Rattle.node_rules.specs.Records.{applied, nothing_stored, stored_by}
 use Rattle.node_rules.specs.Words.{same_text}
@@ -20,7 +20,7 @@ pub record OneCatalog (d e : Durable) : Type 0 where
   pub links : d.links ≡ e.links
   pub synonyms : d.synonyms ≡ e.synonyms
 
-pub catalog_kept : (k : Kept) (rs : List RedoRecord) → StoresOf rs k → OneCatalog k.stored.durable (durable rs)
+pub catalog_kept : (k : NodeState) (rs : List RedoRecord) → StoresOf rs k → OneCatalog k.stored.durable (durable rs)
 catalog_kept k rs is =
     let both : fold durable_after nothing_stored.durable rs ≡ (stored_by nothing_stored rs).durable = sym (durable_stored nothing_stored rs) in
     record {

@@ -7,7 +7,7 @@ use Rattle.node_rules.specs.Data.inputs
 use Rattle.node_rules.specs.Data.kinds
 use Rattle.node_rules.specs.Words.{numbered}
 use Rattle.node_rules.specs.Inputs.{Came}
-use Rattle.node_rules.specs.Kept.{Kept}
+use Rattle.node_rules.specs.NodeState.{NodeState}
 use Rattle.node_rules.specs.Calls.{is_opening}
 use Rattle.node_rules.specs.Client.{new_root}
 use Rattle.node_rules.specs.Sessions.{session_at}
@@ -57,7 +57,7 @@ opened_more said more x was parent above =
     let is : IsOpenTo said parent x.edge x.me.node = was parent above in
     record { number = is.number; sent = is.sent; at = numbered_more said more is.number is.sent is.at; from = is.from; root = is.root; depth = is.depth; kind = is.kind; to = is.to }
 
-module _ (f : Facts) (k : Kept) (p : Place) (node : ℕ) (number : p.number ≡ node) (input : Input) (took : Option Took) (comes : Comes f k node input took) where
+module _ (f : Facts) (k : NodeState) (p : Place) (node : ℕ) (number : p.number ≡ node) (input : Input) (took : Option Took) (comes : Comes f k node input took) where
   abbrev P : Born → Type 0
   P = WasOpened (said_in f)
 

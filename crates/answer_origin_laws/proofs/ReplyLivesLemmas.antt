@@ -8,7 +8,7 @@ use Rattle.node_rules.specs.Data.{Answer, BranchId, Calls, Kind, Live, Msg, Plac
 use Rattle.node_rules.specs.Data.kinds
 use Rattle.node_rules.specs.Words.{same, numbered, item_at, is_item_of}
 use Rattle.node_rules.specs.Inputs.{Came}
-use Rattle.node_rules.specs.Kept.{Kept, Deed, live_id, work_or, live_at, post}
+use Rattle.node_rules.specs.NodeState.{NodeState, Deed, live_id, work_or, live_at, post}
 use Rattle.node_rules.specs.LiveBranches.{works_of}
 use Rattle.node_rules.specs.Turn.{turn_of, heard, deed_of, stamped}
 use Rattle.link_session.specs.Calls.{no_calls}
@@ -82,10 +82,10 @@ module _ (t : History) (whole : IsLawfulRun t) (Ans : BranchId → ℕ → Answe
     abbrev may : MayHappen t.places t.commands f0 (happenings.Turn u)
     may = may_of t whole hs (happenings.Turn u) rest is
 
-    abbrev k : Kept
+    abbrev k : NodeState
     k = may.0
 
-    abbrev kk : Kept
+    abbrev kk : NodeState
     kk = heard k u.input
 
     abbrev p : Place
@@ -111,7 +111,7 @@ module _ (t : History) (whole : IsLawfulRun t) (Ans : BranchId → ℕ → Answe
     old_begun : (b : BranchId) (s : Seen) → seen_at tr0 b ≡ Some s → seen_at tr_begun b ≡ Some s
     old_begun b s at = find_more (is_item_of seen_id b) tr0.seen _ s at
 
-    seen_before : (n : ℕ) (j : Kept) → node_at f0 n ≡ Some j → (l : Live) → live_at j l.me ≡ Some l → l.parent ≢ None → (s : Seen) × (seen_at tr0 l.me ≡ Some s) × IsToldLive l s
+    seen_before : (n : ℕ) (j : NodeState) → node_at f0 n ≡ Some j → (l : Live) → live_at j l.me ≡ Some l → l.parent ≢ None → (s : Seen) × (seen_at tr0 l.me ≡ Some s) × IsToldLive l s
     seen_before n j up l live below = lower_at t whole hs part0 n j up l live below
 
     module _ (uncut : u.cut ≡ false) (l : Live) (live : live_at d.after l.me ≡ Some l) (below : l.parent ≢ None) where
@@ -194,7 +194,7 @@ module _ (t : History) (whole : IsLawfulRun t) (Ans : BranchId → ℕ → Answe
         by false uncut = ap (list_any (λ (m : Msg). same m.from b && is_reply m.kind)) (told.sent_is t whole Ans runs_so passes_so hs u rest is now uncut) ∙ (said_on b d.after.clock d.says
             ∙ unspoken (λ c. (from : BranchId) × (kind : Kind) × Came u.input from c kind) b (λ c. none_came b other c.0 c.1 c.2) d.says (good d.says (tales.turn_tales t whole hs u rest is).1))
 
-    elsewhere : (n : ℕ) (j : Kept) → u.node ≢ n → node_at f1 n ≡ Some j → (l : Live) → live_at j l.me ≡ Some l → l.parent ≢ None → (s : Seen) → seen_at tr1 l.me ≡ Some s → AreTold (works_of j.works l.me).came l.me s
+    elsewhere : (n : ℕ) (j : NodeState) → u.node ≢ n → node_at f1 n ≡ Some j → (l : Live) → live_at j l.me ≡ Some l → l.parent ≢ None → (s : Seen) → seen_at tr1 l.me ≡ Some s → AreTold (works_of j.works l.me).came l.me s
     elsewhere n j other up l live below s at =
         let before : node_at f0 n ≡ Some j = sym (turn_elsewhere t.places t.commands f0 (run_stands s0 lawful0).0.even u n other).0 ∙ up in
         let own : l.me.node ≡ n = all_found (λ l. l.me.node ≡ n) live_id j.lives l.me l (ids_name_their_node s0 lawful0 n j before).lives live in

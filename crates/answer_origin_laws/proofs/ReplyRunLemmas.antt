@@ -7,7 +7,7 @@ use Rattle.tran_ids.proofs.ListedLemmas.{item_is}
 use Rattle.tran_ids.proofs.NumberedLemmas.{set_or_before, set_found}
 use Rattle.node_rules.specs.Data.{Answer, BranchId, Live, Post}
 use Rattle.node_rules.specs.Words.{numbered, set_numbered}
-use Rattle.node_rules.specs.Kept.{Kept, live_id, live_at}
+use Rattle.node_rules.specs.NodeState.{NodeState, live_id, live_at}
 use Rattle.node_rules.specs.Turn.{start_of}
 use Rattle.run_rules.specs.Branches.{Dropped, Run, Seen, Trail, Origin, no_trail, seen_id, seen_at, is_live, is_live_at, origin_of, origin_at}
 use Rattle.run_rules.specs.Data.{Turn, Happening}
@@ -43,8 +43,8 @@ module _ (t : History) (whole : IsLawfulRun t) (Ans : BranchId → ℕ → Answe
   module _ (hs : List Happening) (h : Happening) (now : H hs) where
     -- nothing is sent, the nodes that are up were so, and what is told of their branches is so
     pub same_holds : (g : Facts) (tr : Trail) → facts_after t.places t.commands (f_at t hs) h ≡ g → trail_after t.places (f_at t hs) (tr_at t hs) h ≡ tr → said_in g ≡ said_in (f_at t hs) → tr.origins ≡ (tr_at t hs).origins
-        → ((n : ℕ) (j : Kept) → node_at g n ≡ Some j → (l : Live) → live_at j l.me ≡ Some l → node_at (f_at t hs) n ≡ Some j)
-        → ((n : ℕ) (j : Kept) → node_at g n ≡ Some j → (l : Live) → live_at j l.me ≡ Some l → l.parent ≢ None → (s : Seen) → seen_at tr l.me ≡ Some s → seen_at (tr_at t hs) l.me ≡ Some s)
+        → ((n : ℕ) (j : NodeState) → node_at g n ≡ Some j → (l : Live) → live_at j l.me ≡ Some l → node_at (f_at t hs) n ≡ Some j)
+        → ((n : ℕ) (j : NodeState) → node_at g n ≡ Some j → (l : Live) → live_at j l.me ≡ Some l → l.parent ≢ None → (s : Seen) → seen_at tr l.me ≡ Some s → seen_at (tr_at t hs) l.me ≡ Some s)
         → H (hs ++ h ∷ [])
     same_holds g tr facts trail said origins still told =
         let fact : f_at t (hs ++ h ∷ []) ≡ g = one_on t hs h ∙ facts in
@@ -73,7 +73,7 @@ module _ (t : History) (whole : IsLawfulRun t) (Ans : BranchId → ℕ → Answe
       by true = refl
       by false = refl
 
-  not_stopped : (nodes : List (Option Kept)) (n : ℕ) (j : Kept) → flat (numbered (set_numbered nodes n None) n) ≡ Some j → ⊥
+  not_stopped : (nodes : List (Option NodeState)) (n : ℕ) (j : NodeState) → flat (numbered (set_numbered nodes n None) n) ≡ Some j → ⊥
   not_stopped nodes n j up = elim (set_or_before nodes n n None) [
     | inl before ↦ (let there : numbered nodes n ≡ Some (Some j) = flat_some (numbered nodes n) j (sym (ap flat before) ∙ up) in
         let none : flat (numbered (set_numbered nodes n None) n) ≡ None = ap flat (set_found nodes n (Some j) None there) in
@@ -81,7 +81,7 @@ module _ (t : History) (whole : IsLawfulRun t) (Ans : BranchId → ℕ → Answe
     | inr gone ↦ (let none : flat (numbered (set_numbered nodes n None) n) ≡ None = ap flat gone.1 in absurd (cc (none, up)))
   ]
 
-  stop_still : (f : Facts) (n m : ℕ) (j : Kept) → flat (numbered (set_numbered f.nodes n None) m) ≡ Some j → node_at f m ≡ Some j
+  stop_still : (f : Facts) (n m : ℕ) (j : NodeState) → flat (numbered (set_numbered f.nodes n None) m) ≡ Some j → node_at f m ≡ Some j
   stop_still f n m j up = elim (set_or_before f.nodes n m None) [
     | inl before ↦ sym (ap flat before) ∙ up
     | inr gone ↦ (let none : flat (numbered (set_numbered f.nodes n None) m) ≡ None = ap flat gone.1 in absurd (cc (none, up)))
@@ -191,7 +191,7 @@ module _ (t : History) (whole : IsLawfulRun t) where
   pub run_holds : Holds t whole Ran t.trace
   run_holds = holds_at t whole Ran runs_so passes_so t.trace (record { rest = []; is = append-nil t.trace })
 
-  pub lower_now : (n : ℕ) (k : Kept) → node_at (facts_at t) n ≡ Some k → (l : Live) → live_at k l.me ≡ Some l → l.parent ≢ None → (s : Seen) × (seen_at (trail_at t) l.me ≡ Some s)
+  pub lower_now : (n : ℕ) (k : NodeState) → node_at (facts_at t) n ≡ Some k → (l : Live) → live_at k l.me ≡ Some l → l.parent ≢ None → (s : Seen) × (seen_at (trail_at t) l.me ≡ Some s)
   lower_now n k up l live below = let was = lower_at t whole t.trace (record { rest = []; is = append-nil t.trace }) n k up l live below in (was.0, was.1)
 
 pub replies_come_from_runs : RepliesComeFromRuns

@@ -8,7 +8,7 @@ use Rattle.node_rules.specs.declared.session.Finished.{Finished}
 use Rattle.node_rules.specs.Data.kinds
 use Rattle.node_rules.specs.Words.{same, numbered}
 use Rattle.node_rules.specs.Inputs.{Came}
-use Rattle.node_rules.specs.Kept.{Kept, Branch, Deed, live_at, post}
+use Rattle.node_rules.specs.NodeState.{NodeState, Branch, Deed, live_at, post}
 use Rattle.node_rules.specs.LiveBranches.{works_of}
 use Rattle.node_rules.specs.Names.{A_table, named_by, ref_of}
 use Rattle.node_rules.specs.Turn.{turn_of, heard, deed_of, stamped}
@@ -42,7 +42,7 @@ module _ (t : History) (whole : IsLawfulRun t) (Ans : BranchId → ℕ → Answe
 
   -- a Reply that is heard is the answer here too
   abbrev pub PassesSo : Type 0
-  PassesSo = (hs : List Happening) (u : Turn) (rest : List Happening) → hs ++ happenings.Turn u ∷ rest ≡ t.trace → (k : Kept) → node_at (f_at t hs) u.node ≡ Some k → (x : Branch) (weight : Option ℕ) (count : ℕ) (a : Answer) (i : ℕ) (e : Edge)
+  PassesSo = (hs : List Happening) (u : Turn) (rest : List Happening) → hs ++ happenings.Turn u ∷ rest ≡ t.trace → (k : NodeState) → node_at (f_at t hs) u.node ≡ Some k → (x : Branch) (weight : Option ℕ) (count : ℕ) (a : Answer) (i : ℕ) (e : Edge)
       → (h : Is_answered (heard k u.input) u.input x weight count a i e) → x.live.parent ≢ None → (r : Run) (n : ℕ) → origin_at (tr_at t hs) n ≡ Some r → Ans h.from h.call a r → Ans x.live.me x.work.came.last_call a r
 
   -- What is told of the calls of a branch is what its node keeps.
@@ -52,7 +52,7 @@ module _ (t : History) (whole : IsLawfulRun t) (Ans : BranchId → ℕ → Answe
 
   -- so it is of live branches below roots
   abbrev pub CallsOf : Facts → Trail → Type 0
-  CallsOf f tr = (n : ℕ) (k : Kept) → node_at f n ≡ Some k → (l : Live) → live_at k l.me ≡ Some l → l.parent ≢ None → (s : Seen) → seen_at tr l.me ≡ Some s → AreTold (works_of k.works l.me).came l.me s
+  CallsOf f tr = (n : ℕ) (k : NodeState) → node_at f n ≡ Some k → (l : Live) → live_at k l.me ≡ Some l → l.parent ≢ None → (s : Seen) → seen_at tr l.me ≡ Some s → AreTold (works_of k.works l.me).came l.me s
 
   -- each Reply comes from its run
   abbrev pub RepliesOf : List Post → Trail → Type 0
@@ -93,10 +93,10 @@ module _ (t : History) (whole : IsLawfulRun t) (Ans : BranchId → ℕ → Answe
     abbrev may : MayHappen t.places t.commands f0 (happenings.Turn u)
     may = may_of t whole hs (happenings.Turn u) rest is
 
-    abbrev k : Kept
+    abbrev k : NodeState
     k = may.0
 
-    abbrev kk : Kept
+    abbrev kk : NodeState
     kk = heard k u.input
 
     abbrev p : Place

@@ -9,7 +9,7 @@ use Rattle.node_rules.specs.declared.session.Finished.{Finished}
 use Rattle.node_rules.specs.declared.session.PendingCall.TheVariants as pending
 use Rattle.node_rules.specs.declared.session.Session.{Session}
 use Rattle.node_rules.specs.Inputs.{Came, IsSession}
-use Rattle.node_rules.specs.Kept.{Kept, Branch, Outcome, live_id, branch_at}
+use Rattle.node_rules.specs.NodeState.{NodeState, Branch, Outcome, live_id, branch_at}
 use Rattle.node_rules.specs.Calls.{answered_sessions, answer_ends, reply_of, reply_by, hears_reply, heard_answer, heard_sessions, is_gone}
 use Rattle.node_rules.specs.Sessions.{session_at, with_call}
 use Rattle.node_rules.specs.Refusals.{dtx}
@@ -59,13 +59,13 @@ module _ (t : History) (whole : IsLawfulRun t) (hs : List Happening) (u : Turn) 
   abbrev may : MayHappen t.places t.commands (f_at t hs) (happenings.Turn u)
   may = may_of t whole hs (happenings.Turn u) rest is
 
-  abbrev k : Kept
+  abbrev k : NodeState
   k = may.0
 
   abbrev m : Msg
   m = record { from = from; to = to; scn = came.scn; kind = kinds.Reply call weight count said }
 
-  abbrev kk : Kept
+  abbrev kk : NodeState
   kk = heard k (inputs.Message m)
 
   -- the run, and the root, which after the turn is the session's transaction and waits for no answer

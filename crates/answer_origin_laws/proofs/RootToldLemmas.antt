@@ -4,7 +4,7 @@ use Rattle.std.specs.List.{list_any}
 use Rattle.std.proofs.lemmas.Bool.{and_parts, and_from, or_right}
 use Rattle.node_rules.specs.Data.{Answer, Msg, Place}
 use Rattle.node_rules.specs.declared.session.Finished.{Finished}
-use Rattle.node_rules.specs.Kept.{Outcome}
+use Rattle.node_rules.specs.NodeState.{Outcome}
 use Rattle.node_rules.specs.Words.{same}
 use Rattle.run_rules.specs.Branches.{Exit, Seen, Trail, is_live, is_live_at, is_root_of, root_at}
 use Rattle.run_rules.specs.Data.{Turn}

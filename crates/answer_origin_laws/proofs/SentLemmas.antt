@@ -5,7 +5,7 @@ use Rattle.node_rules.specs.Data.{BranchId, Kind, Msg, Input, Post}
 use Rattle.node_rules.specs.Data.inputs
 use Rattle.node_rules.specs.Words.{same, numbered}
 use Rattle.node_rules.specs.Inputs.{Came}
-use Rattle.node_rules.specs.Kept.{Kept}
+use Rattle.node_rules.specs.NodeState.{NodeState}
 use Rattle.run_rules.specs.Branches.{Run, Origin, origin_of}
 use Rattle.run_rules.specs.Data.{Took}
 use Rattle.run_rules.specs.Facts.{Facts}
@@ -29,7 +29,7 @@ none_at zero is = absurd cc
 none_at (suc j) is = absurd cc
 
 -- a message that came was sent
-pub came_sent : (f : Facts) (k : Kept) (node : ℕ) (input : Input) (took : Option Took) → Comes f k node input took → (from to : BranchId) (kind : Kind) → Came input from to kind
+pub came_sent : (f : Facts) (k : NodeState) (node : ℕ) (input : Input) (took : Option Took) → Comes f k node input took → (from to : BranchId) (kind : Kind) → Came input from to kind
     → (tk : Took) × (took ≡ Some tk) × (x : Post) × (numbered (said_in f) tk.number ≡ Some x) × (x.from ≡ from) × (x.kind ≡ kind) × (x.to ≡ to)
 came_sent f k node (inputs.Message m) (Some tk) comes from to kind came =
     let one = came_one came in

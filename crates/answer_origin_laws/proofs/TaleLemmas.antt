@@ -11,7 +11,7 @@ use Rattle.node_rules.specs.Data.kinds
 use Rattle.node_rules.specs.Words.{same, item_at}
 use Rattle.node_rules.specs.Inputs.{Came}
 use Rattle.link_session.specs.Calls.{taken}
-use Rattle.node_rules.specs.Kept.{Kept, Branch, Deed, live_id, work_id, post}
+use Rattle.node_rules.specs.NodeState.{NodeState, Branch, Deed, live_id, work_id, post}
 use Rattle.node_rules.specs.LiveBranches.{works_of, EachLive}
 use Rattle.node_rules.specs.Names.{A_table, named_by, ref_of}
 use Rattle.node_rules.proofs.Steps.{Is_answered}
@@ -45,7 +45,7 @@ pub other_reply : (b c to : BranchId) (kind : Kind) → same c b ≡ false → N
 other_reply b c to kind other = ap (λ q. (q && is_reply kind) || false) other
 
 -- what a branch does about its calls, by what came
-pub data Tale (k : Kept) (input : Input) (says : List Post) (ended : List Finished) (b : BranchId) (c d : Calls) : Type 0 where
+pub data Tale (k : NodeState) (input : Input) (says : List Post) (ended : List Finished) (b : BranchId) (c d : Calls) : Type 0 where
   Stays : d ≡ c → NoReply b says → ((from : BranchId) (call given : ℕ) (advice : Option Advice) (s : Stmt) → Came input from b (kinds.Exec call given advice s) → call ≤ c.last_call) → Tale k input says ended b c d
   Says_again : (from : BranchId) (call given : ℕ) (advice : Option Advice) (s : Stmt) (t : ReplyFields) → Came input from b (kinds.Exec call given advice s) → c.last_call ≡ call → c.reply ≡ Some t → d ≡ c
       → says ≡ post b from (kinds.Reply c.last_call t.weight t.count t.result) → Tale k input says ended b c d
@@ -56,7 +56,7 @@ pub data Tale (k : Kept) (input : Input) (says : List Post) (ended : List Finish
   Hears : (x : Branch) (parent : BranchId) (weight : Option ℕ) (count : ℕ) (a : Answer) (i : ℕ) (e : Edge) (t : ReplyFields) → Is_answered k input x weight count a i e → x.live.me ≡ b → x.live.parent ≡ Some parent → t.result ≡ a
       → d ≡ record { last_call = c.last_call; reply = Some t } → says ≡ post b parent (kinds.Reply c.last_call t.weight t.count t.result) → Tale k input says ended b c d
 
-module _ (k : Kept) (input : Input) where
+module _ (k : NodeState) (input : Input) where
   -- the calls of a branch before
   abbrev pub calls0 : BranchId → Calls
   calls0 b = (works_of k.works b).came
@@ -78,7 +78,7 @@ module _ (k : Kept) (input : Input) where
   Tales d = EachLive (Told d.says d.ended) d.after.lives d.after.works × AreGood d.after.lives d.says
 
 -- messages without Replies
-pub mute_good : (k : Kept) (input : Input) (ls : List Live) (says : List Post) → AllSay IsMute says → AreGood k input ls says
+pub mute_good : (k : NodeState) (input : Input) (ls : List Live) (says : List Post) → AllSay IsMute says → AreGood k input ls says
 mute_good k input ls [] all = tt
 mute_good k input ls (x ∷ xs) all = (record { came = λ is. (let none : is_reply x.kind ≡ false = all.0 in absurd (cc (is, none))); live = λ good. absurd (by x.kind all.0 good) }, mute_good k input ls xs all.1)
   where
@@ -94,5 +94,5 @@ came_one {m = m} {from = from} {to = to} {kind = kind} came =
     (ap (λ (y : Msg). y.from) one, ap (λ (y : Msg). y.to) one, ap (λ (y : Msg). y.kind) one)
 
 -- each live branch has its calls
-pub each_of : (k : Kept) → ((b : BranchId) → item_at live_id k.lives b ≡ None → item_at work_id k.works b ≡ None) → EachLive (λ l w. w.came ≡ (works_of k.works l.me).came) k.lives k.works
+pub each_of : (k : NodeState) → ((b : BranchId) → item_at live_id k.lives b ≡ None → item_at work_id k.works b ≡ None) → EachLive (λ l w. w.came ≡ (works_of k.works l.me).came) k.lives k.works
 each_of k there = record { there = there; each = λ b l found. ap (λ c. (works_of k.works c).came) (sym (item_is live_id k.lives b l found)) }

@@ -8,7 +8,7 @@ use Rattle.node_rules.specs.Points.{Point}
 use Rattle.run_rules.specs.Data.{Command, Said}
 use Rattle.run_rules.specs.Data.commands
 use Rattle.run_rules.specs.Facts.{command_at}
-use Rattle.run_rules.specs.Telling.{Telling, Call}
+use Rattle.run_rules.specs.RunReport.{RunReport, Call}
 use Rattle.run_rules.specs.Lines.{is_reached, says_node, is_down, call_line_of, reached_line, call_line}
 use Rattle.run_rules.specs.Calls.{is_call_at, call_at, without_call, change_call, is_complete, second_of, call_follows, call_ends, ends_or_follows, finished_call, finished, stopped_calls}
 use Rattle.run_rules.proofs.ListLemmas.{all_filter}
@@ -47,34 +47,34 @@ module _ (asked : List Command) where
   abbrev pub IsNamed : Call → Type 0
   IsNamed c = (text : Option Stmt) × (command_at asked c.command ≡ commands.At c.node c.session text)
 
-  abbrev pub AreNamed : Telling → Type 0
+  abbrev pub AreNamed : RunReport → Type 0
   AreNamed t = AllByRecursion IsNamed t.calls
 
-  pub call_named : (t : Telling) (n s : ℕ) (c : Call) → AreNamed t → call_at t n s ≡ Some c → IsNamed c × (c.node ≡ n) × (c.session ≡ s)
+  pub call_named : (t : RunReport) (n s : ℕ) (c : Call) → AreNamed t → call_at t n s ≡ Some c → IsNamed c × (c.node ≡ n) × (c.session ≡ s)
   call_named t n s c named at = let it = found_holds IsNamed (is_call_at n s) t.calls c named at in let parts = parts_of n s c it.1 in (it.0, parts.0, parts.1)
 
   -- what is told has the same calls
-  line_of_calls : (running : ℕ) (t : Telling) (command : ℕ) (s : Said) → (call_line_of running t command s).calls ≡ t.calls
-  line_of_calls running t command s = cond_both (running == command) _ _ (λ (u : Telling). u.calls ≡ t.calls) (λ own. refl) (λ other. refl)
+  line_of_calls : (running : ℕ) (t : RunReport) (command : ℕ) (s : Said) → (call_line_of running t command s).calls ≡ t.calls
+  line_of_calls running t command s = cond_both (running == command) _ _ (λ (u : RunReport). u.calls ≡ t.calls) (λ own. refl) (λ other. refl)
 
-  reached_calls : (running : ℕ) (t : Telling) (command : ℕ) (o : Option Point) → (reached_line running t command o).calls ≡ t.calls
+  reached_calls : (running : ℕ) (t : RunReport) (command : ℕ) (o : Option Point) → (reached_line running t command o).calls ≡ t.calls
   reached_calls running t command None = refl
   reached_calls running t command (Some x) = line_of_calls running t command _
 
-  pub line_calls : (running : ℕ) (t : Telling) (command : ℕ) (s : Said) → (call_line running t command s).calls ≡ t.calls
+  pub line_calls : (running : ℕ) (t : RunReport) (command : ℕ) (s : Said) → (call_line running t command s).calls ≡ t.calls
   line_calls running t command s = reached_calls running (call_line_of running t command s) command (find (is_reached command) t.points) ∙ line_of_calls running t command s
 
   -- Each call of a session of the node was there before, of the same command.
-  abbrev pub Were : ℕ → Telling → Telling → Type 0
+  abbrev pub Were : ℕ → RunReport → RunReport → Type 0
   Were node t u = (s : ℕ) (c : Call) → call_at u node s ≡ Some c → (d : Call) × (call_at t node s ≡ Some d) × (d.command ≡ c.command)
 
-  pub were_same : (node : ℕ) (t u : Telling) → u.calls ≡ t.calls → Were node t u
+  pub were_same : (node : ℕ) (t u : RunReport) → u.calls ≡ t.calls → Were node t u
   were_same node t u same s c at = (c, ap (find (is_call_at node s)) (sym same) ∙ at, refl)
 
-  pub were_then : (node : ℕ) (t u v : Telling) → Were node t u → Were node u v → Were node t v
+  pub were_then : (node : ℕ) (t u v : RunReport) → Were node t u → Were node u v → Were node t v
   were_then node t u v one two s c at = let d = two s c at in let e = one s d.0 d.1 in (e.0, e.1, e.2 ∙ d.2)
 
-  pub were_none : (node : ℕ) (t u : Telling) → Were node t u → (s : ℕ) → call_at t node s ≡ None → call_at u node s ≡ None
+  pub were_none : (node : ℕ) (t u : RunReport) → Were node t u → (s : ℕ) → call_at t node s ≡ None → call_at u node s ≡ None
   were_none node t u were s none = by (call_at u node s) refl
     where
       by : (o : Option Call) → call_at u node s ≡ o → call_at u node s ≡ None
@@ -82,7 +82,7 @@ module _ (asked : List Command) where
       by (Some c) at = let d = were s c at in absurd (let some : call_at t node s ≡ Some d.0 = d.1 in cc (none, some))
 
   -- without the call of a session
-  without_were : (node : ℕ) (t : Telling) (m q : ℕ) → Were node t (without_call t m q)
+  without_were : (node : ℕ) (t : RunReport) (m q : ℕ) → Were node t (without_call t m q)
   without_were node t m q s c at = by ((node == m) && (s == q)) refl
     where
       so : (x : Call) → is_call_at node s x ≡ true → not (is_call_at m q x) ≡ not ((node == m) && (s == q))
@@ -92,12 +92,12 @@ module _ (asked : List Command) where
       by true here = absurd (let none : find (is_call_at node s) (filter (λ x. not (is_call_at m q x)) t.calls) ≡ None = find_left (is_call_at node s) (λ x. not (is_call_at m q x)) (λ x is. so x is ∙ ap not here) t.calls in cc (none, at))
       by false other = (c, sym (find_kept (is_call_at node s) (λ x. not (is_call_at m q x)) (λ x is. so x is ∙ ap not other) t.calls) ∙ at, refl)
 
-  without_none : (t : Telling) (n s m q : ℕ) → n ≡ m → s ≡ q → call_at (without_call t m q) n s ≡ None
+  without_none : (t : RunReport) (n s m q : ℕ) → n ≡ m → s ≡ q → call_at (without_call t m q) n s ≡ None
   without_none t n s m q node session =
       find_left (is_call_at n s) (λ x. not (is_call_at m q x))
       (λ x is. (let parts = parts_of n s x is in let here : is_call_at m q x ≡ true = and_from (x.node == m) (x.session == q) (eq-eqb x.node m (parts.0 ∙ node)) (eq-eqb x.session q (parts.1 ∙ session)) in ap not here)) t.calls
 
-  without_named : (t : Telling) (m q : ℕ) → AreNamed t → AreNamed (without_call t m q)
+  without_named : (t : RunReport) (m q : ℕ) → AreNamed t → AreNamed (without_call t m q)
   without_named t m q named = all_filter IsNamed IsNamed (λ x. not (is_call_at m q x)) (λ x passes is. is) t.calls named
 
   -- the second statement of a call comes
@@ -125,7 +125,7 @@ module _ (asked : List Command) where
     same_command : (d : Call) → (change_call new d).command ≡ d.command
     same_command d = cond_both (d.command == c.command) new d (λ (x : Call). x.command ≡ d.command) (λ same. sym (eqb-true d.command c.command same)) (λ other. refl)
 
-    follows_were : (node : ℕ) (t : Telling) → AreNamed t → Were node t (call_follows t new)
+    follows_were : (node : ℕ) (t : RunReport) → AreNamed t → Were node t (call_follows t new)
     follows_were node t named s e at =
         let it = map_find (is_call_at node s) (change_call new) t.calls e (changed_at node s t.calls named) at in
         (it.0, it.1, sym (same_command it.0) ∙ ap (λ (x : Call). x.command) it.2)
@@ -133,29 +133,29 @@ module _ (asked : List Command) where
   -- ---- calls that end
 
   -- What one end of a call leaves.
-  pub record Left (node : ℕ) (t u : Telling) : Type 0 where
+  pub record Left (node : ℕ) (t u : RunReport) : Type 0 where
     pub were : Were node t u
     pub named : AreNamed u
 
-  left_same : (node : ℕ) (t : Telling) → AreNamed t → Left node t t
+  left_same : (node : ℕ) (t : RunReport) → AreNamed t → Left node t t
   left_same node t named = record { were = were_same node t t refl; named = named }
 
-  left_then : (node : ℕ) (t u v : Telling) → Left node t u → Left node u v → Left node t v
+  left_then : (node : ℕ) (t u v : RunReport) → Left node t u → Left node u v → Left node t v
   left_then node t u v one two = record { were = were_then node t u v one.were two.were; named = two.named }
 
   -- a call is pending no more
-  pub gone_left : (node running : ℕ) (t : Telling) (m q command : ℕ) (s : Said) → AreNamed t → Left node t (call_line running (without_call t m q) command s)
+  pub gone_left : (node running : ℕ) (t : RunReport) (m q command : ℕ) (s : Said) → AreNamed t → Left node t (call_line running (without_call t m q) command s)
   gone_left node running t m q command s named =
-      let w : Telling = without_call t m q in
-      let u : Telling = call_line running w command s in
+      let w : RunReport = without_call t m q in
+      let u : RunReport = call_line running w command s in
       let same : u.calls ≡ w.calls = line_calls running w command s in
       record { were = were_then node t w u (without_were node t m q) (were_same node w u same); named = subst (AllByRecursion IsNamed) (sym same) (without_named t m q named) }
 
-  pub gone_none : (running : ℕ) (t : Telling) (n s command : ℕ) (c : Call) (x : Said) → (c.node ≡ n) × (c.session ≡ s) → call_at (call_line running (without_call t c.node c.session) command x) n s ≡ None
+  pub gone_none : (running : ℕ) (t : RunReport) (n s command : ℕ) (c : Call) (x : Said) → (c.node ≡ n) × (c.session ≡ s) → call_at (call_line running (without_call t c.node c.session) command x) n s ≡ None
   gone_none running t n s command c x its = ap (find (is_call_at n s)) (line_calls running (without_call t c.node c.session) command x) ∙ without_none t n s c.node c.session (sym its.0) (sym its.1)
 
   module _ (node running : ℕ) where
-    one_left : (t : Telling) (f : Finished) → AreNamed t → (o : Option Call) → call_at t node f.session ≡ o → Left node t (finished_call running t f o)
+    one_left : (t : RunReport) (f : Finished) → AreNamed t → (o : Option Call) → call_at t node f.session ≡ o → Left node t (finished_call running t f o)
     one_left t f named None at = left_same node t named
     one_left t f named (Some c) at = by c.follows
       where
@@ -166,18 +166,18 @@ module _ (asked : List Command) where
             cond_both (is_complete f.answer) (call_follows t (second_of c st)) (call_ends running t c f) (Left node t)
             (λ complete. record { were = follows_were c its st node t named; named = changed_named c its st t.calls named }) (λ other. gone_left node running t c.node c.session c.command (says_node f) named)
 
-    pub all_left : (t : Telling) (fs : List Finished) → AreNamed t → Left node t (finished running t node fs)
+    pub all_left : (t : RunReport) (fs : List Finished) → AreNamed t → Left node t (finished running t node fs)
     all_left t [] named = left_same node t named
     all_left t (f ∷ fs) named =
-        let u : Telling = finished_call running t f (call_at t node f.session) in
+        let u : RunReport = finished_call running t f (call_at t node f.session) in
         let one : Left node t u = one_left t f named (call_at t node f.session) refl in
         left_then node t u (finished running u node fs) one (all_left u fs one.named)
 
-    pub first_left : (t : Telling) (f : Finished) → AreNamed t → Left node t (finished_call running t f (call_at t node f.session))
+    pub first_left : (t : RunReport) (f : Finished) → AreNamed t → Left node t (finished_call running t f (call_at t node f.session))
     first_left t f named = one_left t f named (call_at t node f.session) refl
 
   -- a node stops
-  pub stopped_named : (places : List Place) (running n : ℕ) (t : Telling) (cs : List Call) → AreNamed t → AreNamed (stopped_calls places running t n cs)
+  pub stopped_named : (places : List Place) (running n : ℕ) (t : RunReport) (cs : List Call) → AreNamed t → AreNamed (stopped_calls places running t n cs)
   stopped_named places running n t [] named = named
   stopped_named places running n t (c ∷ cs) named =
       cond_both (c.node == n) (stopped_calls places running (call_line running (without_call t c.node c.session) c.command (is_down places n)) n cs) (stopped_calls places running t n cs) AreNamed

@@ -17,7 +17,7 @@ use Rattle.run_rules.specs.Disks.{Strike}
 use Rattle.run_rules.specs.Facts.{Facts, is_up, node_at}
 use Rattle.run_rules.specs.Lines.{is_reached, says_node, is_down, put_line, call_line_of, reached_line, call_line, line, spent, over_line, page_lines, told}
 use Rattle.run_rules.specs.Past.{started_says}
-use Rattle.run_rules.specs.Telling.{Call, Telling}
+use Rattle.run_rules.specs.RunReport.{Call, RunReport}
 use Rattle.run_rules.proofs.ListLemmas.{all_append}
 use Rattle.answer_origin_laws.proofs.ToldCallLemmas.{AreNamed, Were, call_named, were_then, were_none, Left, gone_none, all_left, first_left}
 
@@ -30,7 +30,7 @@ IsWorld (said.Node a) = ⊥
 abbrev pub AllWorld : List Said → Type 0
 AllWorld xs = AllByRecursion IsWorld xs
 
-module _ (places : List Place) (f : Facts) (t : Telling) where
+module _ (places : List Place) (f : Facts) (t : RunReport) where
   up_world : (n : ℕ) (xs : List Said) → AllWorld xs → AllWorld (if_up places f n xs)
   up_world n xs all = cond_both (is_up f n) xs _ AllWorld (λ up. all) (λ down. (tt, tt))
 
@@ -73,7 +73,7 @@ module _ (P : ℕ → Answer → Type 0) where
   LineFrom l = From l.command l.said
 
   -- of the lines so far
-  pub record LinesFrom (running : ℕ) (t : Telling) : Type 0 where
+  pub record LinesFrom (running : ℕ) (t : RunReport) : Type 0 where
     pub lines : AllByRecursion LineFrom t.lines
     pub own : AllByRecursion (From running) t.page.own
     pub others : AllByRecursion LineFrom t.page.others
@@ -88,14 +88,14 @@ module _ (P : ℕ → Answer → Type 0) where
   mapped_from c [] all = tt
   mapped_from c (x ∷ xs) all = (all.0, mapped_from c xs all.1)
 
-  pub told_from : (f : Facts) (t : Telling) → LinesFrom f.command t → AllByRecursion LineFrom (told f t)
+  pub told_from : (f : Facts) (t : RunReport) → LinesFrom f.command t → AllByRecursion LineFrom (told f t)
   told_from f t now =
       all_append LineFrom t.lines (page_lines f t) now.lines
       (all_append LineFrom (map (line f.command) t.page.own ++ t.page.others) (map (line f.command) (t.page.stops ++ over_line f t))
       (all_append LineFrom (map (line f.command) t.page.own) t.page.others (mapped_from f.command t.page.own now.own) now.others)
       (mapped_from f.command (t.page.stops ++ over_line f t) (all_append (From f.command) t.page.stops (over_line f t) now.stops (world_from f.command (over_line f t) (over_world [] f t)))))
 
-  pub same_from : (running : ℕ) (t u : Telling) → u.page ≡ t.page → u.lines ≡ t.lines → LinesFrom running t → LinesFrom running u
+  pub same_from : (running : ℕ) (t u : RunReport) → u.page ≡ t.page → u.lines ≡ t.lines → LinesFrom running t → LinesFrom running u
   same_from running t u page lines now = record {
     lines = subst (AllByRecursion LineFrom) (sym lines) now.lines;
     own = subst (λ g. AllByRecursion (From running) g.own) (sym page) now.own;
@@ -108,7 +108,7 @@ module _ (P : ℕ → Answer → Type 0) where
   put_from (x ∷ xs) l is all = cond_both (nat_lt l.command x.command) (l ∷ x ∷ xs) (x ∷ put_line xs l) (AllByRecursion LineFrom) (λ first. (is, all)) (λ later. (all.0, put_from xs l is all.1))
 
   module _ (running : ℕ) where
-    line_of_from : (t : Telling) (command : ℕ) (s : Said) → From command s → LinesFrom running t → LinesFrom running (call_line_of running t command s)
+    line_of_from : (t : RunReport) (command : ℕ) (s : Said) → From command s → LinesFrom running t → LinesFrom running (call_line_of running t command s)
     line_of_from t command s is now =
         cond_both (running == command) _ _ (LinesFrom running)
         (λ own. record {
@@ -119,27 +119,27 @@ module _ (P : ℕ → Answer → Type 0) where
         })
         (λ other. record { lines = now.lines; own = now.own; others = put_from t.page.others (line command s) is now.others; stops = now.stops })
 
-    reached_from : (t : Telling) (command : ℕ) (o : Option Point) → LinesFrom running t → LinesFrom running (reached_line running t command o)
+    reached_from : (t : RunReport) (command : ℕ) (o : Option Point) → LinesFrom running t → LinesFrom running (reached_line running t command o)
     reached_from t command None now = now
     reached_from t command (Some x) now = line_of_from t command _ tt now
 
-    pub line_from : (t : Telling) (command : ℕ) (s : Said) → From command s → LinesFrom running t → LinesFrom running (call_line running t command s)
+    pub line_from : (t : RunReport) (command : ℕ) (s : Said) → From command s → LinesFrom running t → LinesFrom running (call_line running t command s)
     line_from t command s is now = reached_from (call_line_of running t command s) command (find (is_reached command) t.points) (line_of_from t command s is now)
 
-    pub own_from : (t : Telling) (xs : List Said) → AllWorld xs → LinesFrom running t → LinesFrom running (record t { page = record t.page { own = xs } })
+    pub own_from : (t : RunReport) (xs : List Said) → AllWorld xs → LinesFrom running t → LinesFrom running (record t { page = record t.page { own = xs } })
     own_from t xs all now = record { lines = now.lines; own = world_from running xs all; others = now.others; stops = now.stops }
 
     -- ---- a turn's calls
 
-    module _ (asked : List Command) (node : ℕ) (t0 : Telling) where
+    module _ (asked : List Command) (node : ℕ) (t0 : RunReport) where
       -- each call that the turn ends with an answer
-      abbrev pub Ending : Telling → Telling → List Finished → Type 0
+      abbrev pub Ending : RunReport → RunReport → List Finished → Type 0
       Ending u last fs = (number : ℕ) (f : Finished) → slice_get fs number ≡ Some f → (d : Call) → call_at t0 node f.session ≡ Some d → call_at last node f.session ≡ None → P d.command f.answer
 
-      pub finished_from : (u : Telling) (fs : List Finished) → AreNamed asked u → Were asked node t0 u → LinesFrom running u → Ending u (finished running u node fs) fs → LinesFrom running (finished running u node fs)
+      pub finished_from : (u : RunReport) (fs : List Finished) → AreNamed asked u → Were asked node t0 u → LinesFrom running u → Ending u (finished running u node fs) fs → LinesFrom running (finished running u node fs)
       finished_from u [] named were now ends = now
       finished_from u (f ∷ fs) named were now ends =
-          let v : Telling = finished_call running u f (call_at u node f.session) in
+          let v : RunReport = finished_call running u f (call_at u node f.session) in
           let one : Left asked node u v = first_left asked node running u f named in
           let rest : Left asked node v (finished running v node fs) = all_left asked node running v fs one.named in
           finished_from v fs one.named (were_then asked node t0 u v were one.were) (by_call (call_at u node f.session) refl (λ none. were_none asked node v (finished running v node fs) rest.were f.session none)) (λ number. ends (suc number))
@@ -167,7 +167,7 @@ module _ (P : ℕ → Answer → Type 0) where
 
     -- ---- a stop
 
-    pub stopped_from : (places : List Place) (n : ℕ) (t : Telling) (cs : List Call) → LinesFrom running t → LinesFrom running (stopped_calls places running t n cs)
+    pub stopped_from : (places : List Place) (n : ℕ) (t : RunReport) (cs : List Call) → LinesFrom running t → LinesFrom running (stopped_calls places running t n cs)
     stopped_from places n t [] now = now
     stopped_from places n t (c ∷ cs) now =
         cond_both (c.node == n) (stopped_calls places running (call_line running (without_call t c.node c.session) c.command (is_down places n)) n cs) (stopped_calls places running t n cs) (LinesFrom running)

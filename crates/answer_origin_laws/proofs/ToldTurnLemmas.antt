@@ -6,7 +6,7 @@ use Rattle.std.proofs.lemmas.Bool.{cond_both}
 use Rattle.std.proofs.lemmas.List.{append_assoc}
 use Rattle.node_rules.specs.Data.{Answer, Input, Place, Stmt}
 use Rattle.node_rules.specs.Data.inputs
-use Rattle.node_rules.specs.Kept.{Kept, Outcome}
+use Rattle.node_rules.specs.NodeState.{NodeState, Outcome}
 use Rattle.run_rules.specs.Calls.{is_call_at, call_at, waits, waits_if_pending, after_input, finished, stopped_calls}
 use Rattle.run_rules.specs.Commands.{commits_first, has_transaction, call_of, has_call, calls_after, says_at_once}
 use Rattle.run_rules.specs.Cuts.{appends, turn_appends}
@@ -18,9 +18,9 @@ use Rattle.run_rules.specs.Disks.{Strike, struck}
 use Rattle.run_rules.specs.Facts.{Facts, command_at, is_up, node_at, outcome_at, first_facts, facts_after, facts_of}
 use Rattle.run_rules.specs.Lines.{is_down, with_own, with_stop}
 use Rattle.run_rules.proofs.ListLemmas.{all_append}
-use Rattle.run_rules.specs.Past.{delivered_more, is_call, without_following, ends_calls, acts, telling_turned, failed_start, start_refused, is_stop_of, stop_line, started_says, telling_started, next, past}
+use Rattle.run_rules.specs.Past.{delivered_more, is_call, without_following, ends_calls, acts, report_turned, failed_start, start_refused, is_stop_of, stop_line, started_says, report_started, next, past}
 use Rattle.run_claims.specs.Places.{node_line}
-use Rattle.run_rules.specs.Telling.{Call, Past, Telling, orders_at, start}
+use Rattle.run_rules.specs.RunReport.{Call, Past, RunReport, orders_at, start}
 use Rattle.answer_origin_laws.proofs.SameToldLemmas.{SameTold, then_told, turn_told, took_told}
 use Rattle.answer_origin_laws.specs.ToldLaws.{LinesComeFromTurns}
 use Rattle.answer_origin_laws.proofs.ToldCallLemmas.{AreNamed, IsNamed, call_named, were_same, Left, all_left, stopped_named}
@@ -31,23 +31,23 @@ use Rattle.answer_origin_laws.proofs.ReplyRunLemmas.{happens_at, prefix}
 -- ---- what leaves calls and lines
 
 -- The same calls are pending and the same is told.
-record StaysTold (t u : Telling) : Type 0 where
+record StaysTold (t u : RunReport) : Type 0 where
   calls : u.calls ≡ t.calls
   page : u.page ≡ t.page
   lines : u.lines ≡ t.lines
 
 -- so it is before a turn's calls end
-before_told : (t : Telling) (n : ℕ) (input : Input) (k : Option Kept) (o : Option Outcome) (took : Option Took) → StaysTold t (without_following (delivered_more (turn_appends t n input k o) took) input)
+before_told : (t : RunReport) (n : ℕ) (input : Input) (k : Option NodeState) (o : Option Outcome) (took : Option Took) → StaysTold t (without_following (delivered_more (turn_appends t n input k o) took) input)
 before_told t n input k o took =
-    let u : Telling = turn_appends t n input k o in
-    let v : Telling = delivered_more u took in
+    let u : RunReport = turn_appends t n input k o in
+    let v : RunReport = delivered_more u took in
     let same : SameTold t v = then_told t u v (turn_told t n input k o) (took_told u took) in
     let stays : StaysTold t v = record { calls = same.calls; page = same.page; lines = same.lines } in
     cond_both (is_call input) (record v { next_call = None }) v (StaysTold t) (λ call. record { calls = same.calls; page = same.page; lines = same.lines }) (λ other. stays)
 
 -- what is said after a turn
-module _ (P : ℕ → Answer → Type 0) (running : ℕ) (t : Telling) where
-  abbrev Waiting : Telling → Type 0
+module _ (P : ℕ → Answer → Type 0) (running : ℕ) (t : RunReport) where
+  abbrev Waiting : RunReport → Type 0
   Waiting u = (u.calls ≡ t.calls) × (LinesFrom P running t → LinesFrom P running u)
 
   waits_so : Waiting (waits t)
@@ -82,16 +82,16 @@ module _ (places : List Place) (asked : List Command) where
     number : ℕ
     answers : slice_get outcome.ended number ≡ Some (record { session = session; answer = a })
     call : Call
-    pending : call_at (p_at before).telling turn.node session ≡ Some call
+    pending : call_at (p_at before).run_report turn.node session ≡ Some call
     its : call.command ≡ command
     text : Option Stmt
     at : command_at asked command ≡ commands.At turn.node session text
-    over : call_at (next places asked (p_at before) (happenings.Turn turn)).telling turn.node session ≡ None
+    over : call_at (next places asked (p_at before) (happenings.Turn turn)).run_report turn.node session ≡ None
 
   -- What stands of the calls and the lines so far.
   record ToldSo (hs : List Happening) (p : Past) : Type 0 where
-    named : AreNamed asked p.telling
-    lines : LinesFrom (EndedIn hs) p.facts.command p.telling
+    named : AreNamed asked p.run_report
+    lines : LinesFrom (EndedIn hs) p.facts.command p.run_report
 
   module _ (hs : List Happening) (h : Happening) where
     widen : (command : ℕ) (a : Answer) → EndedIn hs command a → EndedIn (hs ++ h ∷ []) command a
@@ -129,7 +129,7 @@ module _ (places : List Place) (asked : List Command) where
     lines_more [] all = tt
     lines_more (x ∷ xs) all = (from_more x.command x.said all.0, lines_more xs all.1)
 
-    told_more : (c : ℕ) (t : Telling) → LinesFrom (EndedIn hs) c t → LinesFrom More c t
+    told_more : (c : ℕ) (t : RunReport) → LinesFrom (EndedIn hs) c t → LinesFrom More c t
     told_more c t now = record { lines = lines_more t.lines now.lines; own = own_more c t.page.own now.own; others = lines_more t.page.others now.others; stops = own_more c t.page.stops now.stops }
 
   -- ---- a turn
@@ -141,8 +141,8 @@ module _ (places : List Place) (asked : List Command) where
     abbrev f : Facts
     f = (p_at hs).facts
 
-    abbrev t : Telling
-    t = (p_at hs).telling
+    abbrev t : RunReport
+    t = (p_at hs).run_report
 
     abbrev P : ℕ → Answer → Type 0
     P = EndedIn (hs ++ h ∷ [])
@@ -151,7 +151,7 @@ module _ (places : List Place) (asked : List Command) where
     wide = told_more hs h f.command t now.lines
 
     module _ (o : Option Outcome) (comes : outcome_at places f u ≡ o) where
-      abbrev t1 : Telling
+      abbrev t1 : RunReport
       t1 = without_following (delivered_more (turn_appends t u.node u.input (node_at f u.node) o) u.took) u.input
 
       same : StaysTold t t1
@@ -163,20 +163,20 @@ module _ (places : List Place) (asked : List Command) where
       from1 : LinesFrom P f.command t1
       from1 = same_from P f.command t t1 same.page same.lines wide
 
-      abbrev After : Telling → Type 0
+      abbrev After : RunReport → Type 0
       After v = AreNamed asked v × LinesFrom P f.command v
 
-    abbrev whole_told : Option Outcome → Telling
-    whole_told o = telling_turned f.command (node_at f u.node) t u o
+    abbrev whole_told : Option Outcome → RunReport
+    whole_told o = report_turned f.command (node_at f u.node) t u o
 
-    none_too : (x y : Telling) → x.calls ≡ y.calls → (n s : ℕ) → call_at y n s ≡ None → call_at x n s ≡ None
+    none_too : (x y : RunReport) → x.calls ≡ y.calls → (n s : ℕ) → call_at y n s ≡ None → call_at x n s ≡ None
     none_too x y same n s none = ap (find (is_call_at n s)) same ∙ none
 
     ends_so : (uncut : u.cut ≡ false) (o : Outcome) (comes : outcome_at places f u ≡ Some o) → After (Some o) comes (ends_calls f.command (t1 (Some o) comes) u false (Some o))
     unfolding next
     ends_so uncut o comes =
-        let v : Telling = t1 (Some o) comes in
-        let w : Telling = finished f.command v u.node o.ended in
+        let v : RunReport = t1 (Some o) comes in
+        let w : RunReport = finished f.command v u.node o.ended in
         let left : Left asked u.node v w = all_left asked u.node f.command v o.ended (named1 (Some o) comes) in
         let after = input_so P f.command w u.node u.input in (
           subst (AllByRecursion (IsNamed asked)) (sym after.0) left.named,
@@ -210,7 +210,7 @@ module _ (places : List Place) (asked : List Command) where
     unfolding next
     turn_so =
         let o : Option Outcome = outcome_at places f u in
-        let x : Telling = ends_calls f.command (t1 o refl) u u.cut o in
+        let x : RunReport = ends_calls f.command (t1 o refl) u u.cut o in
         let it = by_cut u.cut refl o refl in
         record { named = it.0; lines = same_from P f.command x (acts x) refl refl it.1 }
 
@@ -220,10 +220,10 @@ module _ (places : List Place) (asked : List Command) where
     abbrev f0 : Facts
     f0 = (p_at hs).facts
 
-    abbrev t0 : Telling
-    t0 = (p_at hs).telling
+    abbrev t0 : RunReport
+    t0 = (p_at hs).run_report
 
-    same_so : (P : ℕ → Answer → Type 0) (c : ℕ) (u : Telling) → LinesFrom P c u → LinesFrom P c (acts u)
+    same_so : (P : ℕ → Answer → Type 0) (c : ℕ) (u : RunReport) → LinesFrom P c u → LinesFrom P c (acts u)
     same_so P c u lines = same_from P c u (acts u) refl refl lines
 
     -- a command begins
@@ -258,15 +258,15 @@ module _ (places : List Place) (asked : List Command) where
         let P : ℕ → Answer → Type 0 = EndedIn (hs ++ happenings.Stopped n ∷ []) in
         let wide : LinesFrom P f0.command t0 = told_more hs (happenings.Stopped n) f0.command t0 now.lines in
         let command : Command = command_at asked f0.command in
-        let refused : Telling = start_refused places f0 t0 command n in
+        let refused : RunReport = start_refused places f0 t0 command n in
         let refused_so : AreNamed asked refused × LinesFrom P f0.command refused
         = cond_both (failed_start f0 command n) (record (appends t0 n 3) { page = record t0.page { own = (is_down places n) ∷ [] } }) t0 (λ u. AreNamed asked u × LinesFrom P f0.command u)
         (λ failed. (now.named, own_from P f0.command (appends t0 n 3) ((is_down places n) ∷ []) (tt, tt) (same_from P f0.command t0 (appends t0 n 3) refl refl wide))) (λ other. (now.named, wide)) in
-        let falls : Telling = record refused { start_to_stop = None } in
-        let left : Telling = stopped_calls places f0.command falls n t0.calls in
+        let falls : RunReport = record refused { start_to_stop = None } in
+        let left : RunReport = stopped_calls places f0.command falls n t0.calls in
         let left_named : AreNamed asked left = stopped_named asked places f0.command n falls t0.calls refused_so.0 in
         let left_from : LinesFrom P f0.command left = stopped_from P f0.command places n falls t0.calls (same_from P f0.command refused falls refl refl refused_so.1) in
-        let stop : Telling = stop_line places left command n in
+        let stop : RunReport = stop_line places left command n in
         let stop_so : AreNamed asked stop × LinesFrom P f0.command stop
         = cond_both (is_stop_of command n) left (with_stop places left n) (λ u. AreNamed asked u × LinesFrom P f0.command u) (λ own. (left_named, left_from))
         (λ other. (left_named, record { lines = left_from.lines; own = left_from.own; others = left_from.others; stops = all_append (From P f0.command) left.page.stops _ left_from.stops (tt, tt) })) in
@@ -279,9 +279,9 @@ module _ (places : List Place) (asked : List Command) where
         let P : ℕ → Answer → Type 0 = EndedIn (hs ++ happenings.Started n boot ∷ []) in
         let wide : LinesFrom P f0.command t0 = told_more hs (happenings.Started n boot) f0.command t0 now.lines in
         let strike : Option Strike = struck 3 (orders_at t0 n) in
-        let said : Telling = with_own (appends t0 n 3) (started_says places n strike) in
+        let said : RunReport = with_own (appends t0 n 3) (started_says places n strike) in
         let said_from : LinesFrom P f0.command said = own_from P f0.command (appends t0 n 3) (started_says places n strike) (started_world places n strike) (same_from P f0.command t0 (appends t0 n 3) refl refl wide) in
-        let it : Telling = telling_started places t0 n strike in
+        let it : RunReport = report_started places t0 n strike in
         record { named = now.named; lines = same_so P f0.command it (same_from P f0.command said it refl refl said_from) }
 
     -- one happening more
@@ -333,7 +333,7 @@ lines_come_from_turns t i command a at =
     let all : ToldSo t.places t.commands t.trace (p_at t.places t.commands t.trace) = told_all t.places t.commands t.trace in
     let P : ℕ → Answer → Type 0 = EndedIn t.places t.commands t.trace in
     let e : EndedIn t.places t.commands t.trace command a
-    = all_slice (LineFrom P) _ i (node_line command a) (told_from P (p_at t.places t.commands t.trace).facts (p_at t.places t.commands t.trace).telling all.lines) at in
+    = all_slice (LineFrom P) _ i (node_line command a) (told_from P (p_at t.places t.commands t.trace).facts (p_at t.places t.commands t.trace).run_report all.lines) at in
     let h : Happening = happenings.Turn e.turn in
     let upto : take (length e.before) t.trace ≡ e.before = prefix t e.before h e.rest e.is in
     let more : take (length e.before + 1) t.trace ≡ e.before ++ h ∷ [] = ap (take (length e.before + 1)) (sym e.is) ∙ take_more e.before h e.rest in record {
@@ -348,10 +348,10 @@ lines_come_from_turns t i command a at =
       number = e.number;
       answers = e.answers;
       call = e.call;
-      pending = ap (λ xs. call_at (p_at t.places t.commands xs).telling e.turn.node e.session) upto ∙ e.pending;
+      pending = ap (λ xs. call_at (p_at t.places t.commands xs).run_report e.turn.node e.session) upto ∙ e.pending;
       its = e.its;
       text = e.text;
       asked = e.at;
-      over = ap (λ xs. call_at (p_at t.places t.commands xs).telling e.turn.node e.session) more
-          ∙ (ap (λ (q : Past). call_at q.telling e.turn.node e.session) (past_on t.places t.commands (start t.places) e.before h) ∙ e.over);
+      over = ap (λ xs. call_at (p_at t.places t.commands xs).run_report e.turn.node e.session) more
+          ∙ (ap (λ (q : Past). call_at q.run_report e.turn.node e.session) (past_on t.places t.commands (start t.places) e.before h) ∙ e.over);
     }

@@ -7,7 +7,7 @@ use Rattle.node_rules.specs.Data.inputs
 use Rattle.node_rules.specs.Data.kinds
 use Rattle.node_rules.specs.Words.{item_at}
 use Rattle.node_rules.specs.Inputs.{Came}
-use Rattle.node_rules.specs.Kept.{Kept, Deed, live_id, work_id, live_at}
+use Rattle.node_rules.specs.NodeState.{NodeState, Deed, live_id, work_id, live_at}
 use Rattle.node_rules.specs.LiveBranches.{works_of, EachLive}
 use Rattle.node_rules.specs.Turn.{heard, deed_of, kind_turn, stand_of}
 use Rattle.node_rules.proofs.LiveLemmas.{each_same}
@@ -51,10 +51,10 @@ module _ (t : History) (whole : IsLawfulRun t) (hs : List Happening) (u : Turn) 
   abbrev may : MayHappen t.places t.commands f0 (happenings.Turn u)
   may = may_of t whole hs (happenings.Turn u) rest is
 
-  abbrev k : Kept
+  abbrev k : NodeState
   k = may.0
 
-  abbrev kk : Kept
+  abbrev kk : NodeState
   kk = heard k u.input
 
   abbrev p : Place

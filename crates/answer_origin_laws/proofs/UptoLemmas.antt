@@ -11,10 +11,10 @@ use Rattle.run_rules.specs.Each.{facts_upto}
 use Rattle.run_rules.specs.Facts.{facts_after}
 use Rattle.run_rules.specs.Scripts.{IsTheRunOf}
 use Rattle.run_rules.specs.Lawful.{AreOfAScript, MayHappen, History}
-use Rattle.run_rules.specs.Past.{telling_after, next, past}
+use Rattle.run_rules.specs.Past.{report_after, next, past}
 use Rattle.run_claims.specs.Places.{past_upto}
 use Rattle.run_base_laws.specs.RunEvents.{events_after}
-use Rattle.run_rules.specs.Telling.{Past, start}
+use Rattle.run_rules.specs.RunReport.{Past, start}
 use Rattle.run_base_laws.proofs.BirthRunLemmas.{StandBorn, stand_born_on, stand_born_first}
 use Rattle.run_rules.proofs.FactLemmas.{facts_are}
 use Rattle.run_base_laws.proofs.RestRunLemmas.{RootsStand, roots_stand_on, first_rests}
@@ -23,7 +23,7 @@ use Rattle.run_ready_laws.proofs.RunLawfulLemmas.{Standing_so, goes_on, first_st
 -- ---- one happening further
 
 module _ (places : List Place) (asked : List Command) where
-  pub next_is : (p : Past) (h : Happening) → next places asked p h ≡ record { facts = facts_after places asked p.facts h; telling = telling_after places asked p.facts p.telling h }
+  pub next_is : (p : Past) (h : Happening) → next places asked p h ≡ record { facts = facts_after places asked p.facts h; run_report = report_after places asked p.facts p.run_report h }
   unfolding next facts_after
   next_is p (happenings.Turn u) = refl
   next_is p (happenings.Begun c) = refl

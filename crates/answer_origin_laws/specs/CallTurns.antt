@@ -16,7 +16,7 @@ use Rattle.run_rules.specs.Facts.{command_at}
 use Rattle.run_rules.specs.Scripts.{IsTheRunOf}
 use Rattle.run_rules.specs.Lawful.{History}
 use Rattle.run_claims.specs.Places.{past_upto}
-use Rattle.run_rules.specs.Telling.{Call, Past}
+use Rattle.run_rules.specs.RunReport.{Call, Past}
 
 -- What a call brings of the text of its command, while this command runs. The COMMIT before a CREATE may be complete only
 -- after its command, where HOLD is on, and the CREATE comes then.
@@ -34,29 +34,29 @@ pub record TurnOf (t : History) (moment node session : ℕ) (c : Call) : Type 0 
   pub text : Option Stmt
   pub asked : command_at t.commands c.command ≡ commands.At node session text
   pub brings : Brings c (facts_upto t moment).command text
-  pub pending : call_at (past_upto t moment).telling node session ≡ Some c
+  pub pending : call_at (past_upto t moment).run_report node session ≡ Some c
 
 -- A call came in a turn before this many happenings, it has been pending since, and no other call came to its session.
 pub record CameBefore (t : History) (bound node session : ℕ) (c : Call) : Type 0 where
   pub moment : ℕ
   pub before : moment < bound
   pub turn : TurnOf t moment node session c
-  pub stays : (k : ℕ) → moment ≤ k → k < bound → call_at (past_upto t k).telling node session ≡ Some c
+  pub stays : (k : ℕ) → moment ≤ k → k < bound → call_at (past_upto t k).run_report node session ≡ Some c
   pub last : (k : ℕ) → moment < k → k < bound → (u : Turn) → slice_get t.trace k ≡ Some (happenings.Turn u) → u.node ≡ node → (s : Option Stmt) → u.input ≢ inputs.Call session s
 
 -- a call that comes next: its command has just begun, or the COMMIT before it is complete
 abbrev pub IsYetToCome : Past → Call → Type 0
-IsYetToCome p c = ((p.telling.acted ≡ false) × (p.facts.command ≡ c.command)) ⊎ (p.telling.next_call ≡ Some c)
+IsYetToCome p c = ((p.run_report.acted ≡ false) × (p.facts.command ≡ c.command)) ⊎ (p.run_report.next_call ≡ Some c)
 
 -- In the run of a script each pending call has come, unless it comes next.
 abbrev pub PendingCallsCame : Type 0
-PendingCallsCame = (t : History) → IsTheRunOf t → (i node session : ℕ) (c : Call) → call_at (past_upto t i).telling node session ≡ Some c
+PendingCallsCame = (t : History) → IsTheRunOf t → (i node session : ℕ) (c : Call) → call_at (past_upto t i).run_report node session ≡ Some c
     → IsYetToCome (past_upto t i) c ⊎ CameBefore t i node session c
 
 -- So in each turn each pending call comes, or has come before.
 abbrev pub TurnsFindCallsCome : Type 0
 TurnsFindCallsCome = (t : History) → IsTheRunOf t → (i : ℕ) (u : Turn) → slice_get t.trace i ≡ Some (happenings.Turn u) → (node session : ℕ) (c : Call)
-    → call_at (past_upto t i).telling node session ≡ Some c → CameBefore t (i + 1) node session c
+    → call_at (past_upto t i).run_report node session ≡ Some c → CameBefore t (i + 1) node session c
 
 -- And what comes as a client's call is a pending call.
 abbrev pub WhatComesIsPending : Type 0

@@ -6,7 +6,7 @@ use Rattle.node_rules.specs.Data.{Advice, Answer, BranchId, Live, Place, ReplyFi
 use Rattle.node_rules.specs.Data.inputs
 use Rattle.node_rules.specs.Data.kinds
 use Rattle.node_rules.specs.Inputs.{Came}
-use Rattle.node_rules.specs.Kept.{Kept, Outcome, live_at, work_at}
+use Rattle.node_rules.specs.NodeState.{NodeState, Outcome, live_at, work_at}
 use Rattle.net_bag.specs.Net.{packet_at}
 use Rattle.run_rules.specs.Branches.{Run, Seen, Trail, root_at, seen_at, origin_at}
 use Rattle.run_rules.specs.Data.{Finished, Packet, Took, Turn, Happening}
@@ -41,7 +41,7 @@ RepliesLeadToRuns = (t : History) → IsLawfulRun t → (number : ℕ) (x : Pack
 
 -- So is the run that is told of the answer which a live branch below a root keeps for a call that comes again.
 abbrev pub KeptAnswersLeadToRuns : Type 0
-KeptAnswersLeadToRuns = (t : History) → IsLawfulRun t → (n : ℕ) (k : Kept) → node_at (facts_at t) n ≡ Some k → (l : Live) → live_at k l.me ≡ Some l → l.parent ≢ None → (s : Seen) → seen_at (trail_at t) l.me ≡ Some s
+KeptAnswersLeadToRuns = (t : History) → IsLawfulRun t → (n : ℕ) (k : NodeState) → node_at (facts_at t) n ≡ Some k → (l : Live) → live_at k l.me ≡ Some l → l.parent ≢ None → (s : Seen) → seen_at (trail_at t) l.me ≡ Some s
     → (rf : ReplyFields) → (work_at k l.me).came.reply ≡ Some rf → is_accepted (Some rf.result) ≡ true → (r : Run) × (s.answer ≡ Some r) × AnsweredBy t l.me (work_at k l.me).came.last_call rf.result r
 
 -- no call of this session comes to this node after one moment, up to another

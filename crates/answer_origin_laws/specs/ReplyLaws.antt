@@ -5,7 +5,7 @@ use Rattle.node_rules.specs.Data.{Answer, Live}
 use Rattle.node_rules.specs.Data.kinds
 use Rattle.node_rules.specs.declared.work.Work.{Work}
 use Rattle.node_rules.specs.Data.{ReplyFields}
-use Rattle.node_rules.specs.Kept.{Kept, live_at, work_at}
+use Rattle.node_rules.specs.NodeState.{NodeState, live_at, work_at}
 use Rattle.net_bag.specs.Net.{packet_at}
 use Rattle.run_rules.specs.Branches.{Run, Seen, seen_at, origin_at}
 use Rattle.run_rules.specs.Data.{Packet}
@@ -28,5 +28,5 @@ pub record CallsAreTold (t : History) (w : Work) (s : Seen) : Type 0 where
 
 -- In every lawful run it is so of each live branch below a root.
 abbrev pub LowerCallsAreTold : Type 0
-LowerCallsAreTold = (t : History) → IsLawfulRun t → (n : ℕ) (k : Kept) → node_at (facts_at t) n ≡ Some k → (l : Live) → live_at k l.me ≡ Some l → l.parent ≢ None
+LowerCallsAreTold = (t : History) → IsLawfulRun t → (n : ℕ) (k : NodeState) → node_at (facts_at t) n ≡ Some k → (l : Live) → live_at k l.me ≡ Some l → l.parent ≢ None
     → (s : Seen) × (seen_at (trail_at t) l.me ≡ Some s) × CallsAreTold t (work_at k l.me) s

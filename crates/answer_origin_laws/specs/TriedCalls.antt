@@ -7,7 +7,7 @@ use Rattle.run_rules.specs.Calls.{call_at}
 use Rattle.run_rules.specs.Data.{Command}
 use Rattle.run_rules.specs.Data.commands
 use Rattle.run_rules.specs.Due.{runs_on}
-use Rattle.run_rules.specs.Telling.{Call, Past, start}
+use Rattle.run_rules.specs.RunReport.{Call, Past, start}
 use Rattle.run_branch_laws.specs.TriedRun as tried
 
 -- what session 1 of a node asks
@@ -37,7 +37,7 @@ after n = runs_on tried.places script (replicate n 0) (start tried.places)
 
 -- the call of session 1 at A
 abbrev pub pending : ℕ → Option Call
-pending n = call_at (after n).telling 1 1
+pending n = call_at (after n).run_report 1 1
 
 -- a call of session 1 at A
 abbrev pub call : ℕ → Stmt → Option Stmt → Call
@@ -49,5 +49,5 @@ pub record TheTriedCalls : Type 0 where
   pub waits : pending 9 ≡ Some (call 3 insert None)
   pub answered : pending 10 ≡ None
   pub commits : pending 12 ≡ Some (call 4 (stmts.Commit None) (Some create))
-  pub next : (after 18).telling.next_call ≡ Some (call 4 create None)
+  pub next : (after 18).run_report.next_call ≡ Some (call 4 create None)
   pub last : pending 19 ≡ None

@@ -20,7 +20,7 @@ use Rattle.node_rules.specs.Data.records
 use Rattle.node_rules.specs.Data.states
 use Rattle.node_rules.specs.Force.{is_sealed, is_named_by, one_named, branch_to_force}
 use Rattle.node_rules.specs.Words.{same}
-use Rattle.node_rules.specs.Kept.{Kept, Stored}
+use Rattle.node_rules.specs.NodeState.{NodeState, Stored}
 use Rattle.node_rules.specs.Records.{nothing_stored, stored_by}
 use Rattle.run_rules.specs.Data.{Entry}
 use Rattle.run_rules.specs.Data.entries
@@ -127,7 +127,7 @@ row_before c (s ∷ ks) there = by (same s.me c) there (row_before c ks)
 
 -- ---- the branches that an id names
 
-module _ (t : History) (lawful : IsLawfulRun t) (n : ℕ) (k : Kept) (up : node_at (facts_at t) n ≡ Some k) (stored : StoresOf (records_at (facts_at t) n) k) (own : AllByRecursion (λ s. s.me.node ≡ n) k.stored.durable.kept) (names : List (List ℕ)) (id : List ℕ) where
+module _ (t : History) (lawful : IsLawfulRun t) (n : ℕ) (k : NodeState) (up : node_at (facts_at t) n ≡ Some k) (stored : StoresOf (records_at (facts_at t) n) k) (own : AllByRecursion (λ s. s.me.node ≡ n) k.stored.durable.kept) (names : List (List ℕ)) (id : List ℕ) where
   abbrev e : List Event
   e = events_of t
 

@@ -5,7 +5,7 @@ use Rattle.std.specs.List.{AllByRecursion}
 use Rattle.redo_record.specs.Durable.{durable_after, durable}
 use Rattle.node_rules.specs.Data.{BranchId, RedoRecord, Standing}
 use Rattle.node_rules.specs.Words.{same, item_at}
-use Rattle.node_rules.specs.Kept.{Kept, Stored, standing_id}
+use Rattle.node_rules.specs.NodeState.{NodeState, Stored, standing_id}
 use Rattle.node_rules.specs.Records.{applied, nothing_stored, stored_by}
 use Rattle.run_base_laws.specs.NodeLaws.{count_of, unacked_row}
 use Rattle.run_rules.proofs.ListLemmas.{all_weaker}
@@ -43,7 +43,7 @@ row_unacked (x ∷ ks) b s found = by (same x.me b) found (row_unacked ks b s)
 abbrev pub IsKnownRow : List Standing → Standing → Type 0
 IsKnownRow ks s = (row : Standing) × (item_at standing_id ks s.me ≡ Some row) × (row.hidden ≡ s.hidden) × (row.mixed ≡ s.mixed) × (row.state ≡ s.state)
 
-pub rows_known : (k : Kept) (rs : List RedoRecord) → StoresOf rs k → ((b : BranchId) → count_of standing_id b k.stored.durable.kept ≤ 1) → AllByRecursion (IsKnownRow (durable rs).kept) k.stored.durable.kept
+pub rows_known : (k : NodeState) (rs : List RedoRecord) → StoresOf rs k → ((b : BranchId) → count_of standing_id b k.stored.durable.kept ≤ 1) → AllByRecursion (IsKnownRow (durable rs).kept) k.stored.durable.kept
 rows_known k rs stored one =
     let rows : map unacked_row k.stored.durable.kept ≡ (durable rs).kept = ap (λ (s : Stored). s.durable.kept) stored ∙ ap (λ d. d.kept) (durable_stored nothing_stored rs) in
     all_weaker (λ s. item_at standing_id k.stored.durable.kept s.me ≡ Some s) (IsKnownRow (durable rs).kept)

@@ -13,7 +13,7 @@ use Rattle.node_rules.specs.Data.nexts
 use Rattle.node_rules.specs.Data.stmts
 use Rattle.node_rules.specs.Data.inputs
 use Rattle.node_rules.specs.Inputs.{Came, IsCall}
-use Rattle.node_rules.specs.Kept.{Kept, Deed, live_id}
+use Rattle.node_rules.specs.NodeState.{NodeState, Deed, live_id}
 use Rattle.node_rules.specs.Client.{begun_by}
 use Rattle.node_rules.specs.Prepare.{collecting, with_comment, with_prepare_sent}
 use Rattle.node_rules.specs.Turn.{heard, deed_of}
@@ -82,7 +82,7 @@ pass_on (steps.Passes i none is) = is
 site_on : {l : Live} {b : Bool} → Collected l b acts.Decide → is_none l.parent ≡ true
 site_on (steps.Is_site none is) = none
 
-module _ {k : Kept} {input : Input} (above : FromAbove k.lives input) where
+module _ {k : NodeState} {input : Input} (above : FromAbove k.lives input) where
   prepared_on : {l : Live} {comment : List ℕ} {b : Bool} → Collects k input l comment b → b ≡ false → IsPrepare l.me input
   prepared_on (steps.By_commit n given call has code is) off = absurd (cc off)
   prepared_on {comment = comment} (steps.By_prepare from site_below came working) off = (from, site_below, comment, came)
@@ -129,7 +129,7 @@ module _ (input : Input) (m : ℕ) (s : Stmt) (call : IsCall input m s) (rows : 
   none_leave before lives (Some _) on = tt
 
 module _ (p : Place) (input : Input) where
-  leaves_on : {k : Kept} {d : Deed} → Step p input k d → FromAbove k.lives input → IfSome d.wrote (LeavesOn k.lives input)
+  leaves_on : {k : NodeState} {d : Deed} → Step p input k d → FromAbove k.lives input → IfSome d.wrote (LeavesOn k.lives input)
   leaves_on (steps.Begins {k = k} {d = d} m s call rows fit none step) above =
       none_leave input m s call rows k.lives (begun_by p k m None).lives d.wrote (leaves_on step (λ l live from kind down came. absurd (came_apart m s came call)))
   leaves_on (steps.Pends m l comment call has live code step) above = leaves_on step above
@@ -161,13 +161,13 @@ module _ (p : Place) (input : Input) where
 
 -- ---- every run
 
-heard_lives : (k : Kept) (input : Input) → (heard k input).lives ≡ k.lives
+heard_lives : (k : NodeState) (input : Input) → (heard k input).lives ≡ k.lives
 heard_lives k (inputs.Message m) = refl
 heard_lives k (inputs.Call n s) = refl
 heard_lives k (inputs.GiveUp n) = refl
 heard_lives k inputs.Reco = refl
 
-module _ (t : History) (lawful : IsLawfulRun t) (u : Turn) (k : Kept) (may : MayTurn t.places (facts_at t) u k) where
+module _ (t : History) (lawful : IsLawfulRun t) (u : Turn) (k : NodeState) (may : MayTurn t.places (facts_at t) u k) where
   -- the one that is born so has this parent
   child_of : (l : Live) (from : BranchId) → item_at live_id k.lives l.me ≡ Some l → IsChild (Began (births_of t)) l.me from → l.parent ≡ Some from
   child_of l from live child =

@@ -7,7 +7,7 @@ use Rattle.node_rules.specs.Data.{BranchId, RedoRecord, Decided, Kind, Msg, Inpu
 use Rattle.node_rules.specs.Data.records
 use Rattle.node_rules.specs.Data.params
 use Rattle.node_rules.specs.Data.kinds
-use Rattle.node_rules.specs.Kept.{Kept}
+use Rattle.node_rules.specs.NodeState.{NodeState}
 use Rattle.run_rules.specs.Branches.{Trail, no_trail}
 use Rattle.run_rules.specs.Data.{Happening, Command}
 use Rattle.run_rules.specs.Data.happenings
@@ -22,7 +22,7 @@ use Rattle.book_laws.specs.LifeLaws.{IsWrittenByLife, IsSaidByLife, TurnKnowsLiv
 use Rattle.book_laws.specs.WriteLaws.{IsToBeWritten, WritesDue}
 use Rattle.book_laws.proofs.WriteLemmas.{records_are_due}
 
-module _ (p : Place) (f : Facts) (tr after : Trail) (k : Kept) (n : ℕ) (input : Input) where
+module _ (p : Place) (f : Facts) (tr after : Trail) (k : NodeState) (n : ℕ) (input : Input) where
   forgets : (b : BranchId) (o : Option Decided) → decided_in (records_at f b.node) b ≡ o → IsToBeWritten p f k n input (records.Forgot b) → IsWrittenByLife p f tr after k n input (records.Forgot b) → MayForget f after b input o
   forgets b None is due life = due is
   forgets b (Some r) is due life = life r is

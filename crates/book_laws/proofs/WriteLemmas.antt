@@ -19,7 +19,7 @@ use Rattle.node_rules.specs.Words.{item_at}
 use Rattle.node_rules.specs.Ids.{local_text}
 use Rattle.node_rules.specs.Force.{is_sealed, may_purge, branch_to_force}
 use Rattle.redo_record.specs.Durable.{durable}
-use Rattle.node_rules.specs.Kept.{Kept, Deed, standing_id}
+use Rattle.node_rules.specs.NodeState.{NodeState, Deed, standing_id}
 use Rattle.node_rules.specs.Commit.{acked_by}
 use Rattle.node_rules.specs.Inputs.{IsCall}
 use Rattle.node_rules.specs.Turn.{heard}
@@ -89,7 +89,7 @@ module _ (f : Facts) where
 
 -- ---- steps
 
-module _ (p : Place) (f : Facts) (held : Kept) (n : ℕ) (input : Input) where
+module _ (p : Place) (f : Facts) (held : NodeState) (n : ℕ) (input : Input) where
   toward_said : (s : Standing) (from : BranchId) → RowSo f s → is_branch from s.toward ≡ true → toward_at f s.me ≡ Some from
   toward_said s from so on = subst (TowardSo f s.me) (branch_found from s.toward on) so
 
@@ -123,10 +123,10 @@ module _ (p : Place) (f : Facts) (held : Kept) (n : ℕ) (input : Input) where
         hides_by (item_at standing_id (durable (records_at f n)).kept s.me) known.1 (not_false s.hidden one.0) (inr ((m, subst (λ x. IsCall input m (stmts.PurgeLost x)) text call), not_false (is_sealed s.state) two.1))
 
   -- an outcome that is forced, where a call came
-  abbrev pub ForcedSo : Kept → Type 0
+  abbrev pub ForcedSo : NodeState → Type 0
   ForcedSo k = (m : ℕ) (x : Stmt) → IsCall input m x → (k.clock ≡ held.clock) × ((id : List ℕ) (b : BranchId) → branch_to_force p.names k.stored.durable.kept id ≡ Ok b → named_in_doubt p.names f p.number id ≡ b ∷ [])
 
-  made_so : {k : Kept} {s : Stmt} {r : RedoRecord} {d : Done} (m : ℕ) → IsCall input m s → Makes k s r d → IsToBeWritten p f held n input r
+  made_so : {k : NodeState} {s : Stmt} {r : RedoRecord} {d : Done} (m : ℕ) → IsCall input m s → Makes k s r d → IsToBeWritten p f held n input r
   made_so m call (steps.Makes_table t free) = λ before after. (m, call)
   made_so m call (steps.Makes_link l free) = λ before after. (m, call)
   made_so m call (steps.Makes_synonym y free) = λ before after. (m, call)
@@ -136,10 +136,10 @@ module _ (p : Place) (f : Facts) (held : Kept) (n : ℕ) (input : Input) where
   abbrev pub RowDue : Standing → Type 0
   RowDue s = RowSo f s × IsKnownRow (durable (records_at f n)).kept s
 
-  row_found : (k : Kept) (s : Standing) → AllByRecursion RowDue k.stored.durable.kept → steps.IsKept k s → RowDue s
+  row_found : (k : NodeState) (s : Standing) → AllByRecursion RowDue k.stored.durable.kept → steps.IsKept k s → RowDue s
   row_found k s now kept = all_found RowDue standing_id k.stored.durable.kept s.me s now kept
 
-  step_due : {k : Kept} {d : Deed} → Step p input k d → AllByRecursion RowDue k.stored.durable.kept → ForcedSo k → IfSome d.wrote (IsToBeWritten p f held n input)
+  step_due : {k : NodeState} {d : Deed} → Step p input k d → AllByRecursion RowDue k.stored.durable.kept → ForcedSo k → IfSome d.wrote (IsToBeWritten p f held n input)
   step_due (steps.Begins m s call rows fit none step) now forced = step_due step now forced
   step_due (steps.Pends m l comment call has live code step) now forced = step_due step now forced
   step_due (steps.Lets_reads_go l comment site_below live begins step) now forced = step_due step now forced
@@ -171,7 +171,7 @@ module _ (p : Place) (f : Facts) (held : Kept) (n : ℕ) (input : Input) where
   step_due _ now forced = tt
 
 -- a node hears nothing in a client's call
-heard_call : (k : Kept) (input : Input) (m : ℕ) (x : Stmt) → IsCall input m x → heard k input ≡ k
+heard_call : (k : NodeState) (input : Input) (m : ℕ) (x : Stmt) → IsCall input m x → heard k input ≡ k
 heard_call k (inputs.Call n s) m x call = refl
 heard_call k (inputs.Message y) m x call = absurd cc
 heard_call k (inputs.GiveUp n) m x call = absurd cc
@@ -186,7 +186,7 @@ module _ (t : History) (before : List Happening) (lawful : IsLawfulRun (so_far t
   stands : Stand t.places t.commands t.of_a_script.each (f_at t before) (e_at t before)
   stands = run_stands (so_far t before) lawful
 
-  turn_due : (said : List Post) → DisksLead said (f_at t before) → (u : Turn) (k : Kept) → MayTurn t.places (f_at t before) u k → IfSome u.wrote (IsToBeWritten (place_at t.places u.node) (f_at t before) k u.node u.input)
+  turn_due : (said : List Post) → DisksLead said (f_at t before) → (u : Turn) (k : NodeState) → MayTurn t.places (f_at t before) u k → IfSome u.wrote (IsToBeWritten (place_at t.places u.node) (f_at t before) k u.node u.input)
   turn_due said leads u k may =
       let rs : List RedoRecord = records_at (f_at t before) u.node in
       let named : AllByRecursion (RecordSo (f_at t before)) rs = records_so (f_at t before) said u.node rs (records_are_alone (so_far t before) lawful u.node) (leads u.node) (stands.1.own u.node) in

@@ -8,7 +8,7 @@ use Rattle.node_rules.specs.Data.records
 use Rattle.node_rules.specs.Data.kinds
 use Rattle.node_rules.specs.Data.stmts
 use Rattle.node_rules.specs.Inputs.{Came, IsCall}
-use Rattle.node_rules.specs.Kept.{Kept, live_id}
+use Rattle.node_rules.specs.NodeState.{NodeState, live_id}
 use Rattle.node_rules.specs.Prepare.{answers_first, all_answered, voted}
 use Rattle.node_rules.specs.Words.{item_at}
 use Rattle.run_rules.specs.Data.{Happening}
@@ -47,7 +47,7 @@ LeavesOn lives input _ = Unit {0}
 
 -- so does the record of a turn
 abbrev pub LeavesDuly : Facts → Happening → Type 0
-LeavesDuly f (happenings.Turn u) = (k : Kept) → node_at f u.node ≡ Some k → IfSome u.wrote (LeavesOn k.lives u.input)
+LeavesDuly f (happenings.Turn u) = (k : NodeState) → node_at f u.node ≡ Some k → IfSome u.wrote (LeavesOn k.lives u.input)
 LeavesDuly f _ = Unit {0}
 
 -- In every lawful run branches seal and decide so.

@@ -7,7 +7,7 @@ use Rattle.std.specs.List.{AllByRecursion}
 use Rattle.node_rules.specs.Data.{BranchId, RedoRecord, Decided, Kind, Input, Place}
 use Rattle.node_rules.specs.Data.records
 use Rattle.node_rules.specs.Data.kinds
-use Rattle.node_rules.specs.Kept.{Kept}
+use Rattle.node_rules.specs.NodeState.{NodeState}
 use Rattle.run_rules.specs.Branches.{Trail}
 use Rattle.run_rules.specs.Data.{Turn, Happening}
 use Rattle.run_rules.specs.Data.happenings
@@ -19,7 +19,7 @@ use Rattle.run_rules.specs.Lawful.{History, IsLawfulRun}
 use Rattle.run_rules.specs.Trail.{trail_after}
 
 -- a seal, a decision, and the end of a site
-abbrev pub IsWrittenByLife : Place → Facts → Trail → Trail → Kept → ℕ → Input → RedoRecord → Type 0
+abbrev pub IsWrittenByLife : Place → Facts → Trail → Trail → NodeState → ℕ → Input → RedoRecord → Type 0
 IsWrittenByLife p f tr after k n input (records.Sealed r) = MayWrite p f tr after k n input (records.Sealed r)
 IsWrittenByLife p f tr after k n input (records.Decided r) = MayWrite p f tr after k n input (records.Decided r)
 IsWrittenByLife p f tr after k n input (records.Forgot b) = (r : Decided) → decided_in (records_at f b.node) b ≡ Some r → MayForget f after b input (Some r)
@@ -33,13 +33,13 @@ IsSaidByLife p f tr after rs input b to kinds.ReadOnly = MaySay p f tr after rs 
 IsSaidByLife p f tr after rs input b to _ = Unit {0}
 
 -- these of a turn were to be written and said
-pub record TurnKnowsLives (places : List Place) (f : Facts) (tr : Trail) (u : Turn) (k : Kept) : Type 0 where
+pub record TurnKnowsLives (places : List Place) (f : Facts) (tr : Trail) (u : Turn) (k : NodeState) : Type 0 where
   pub writes : IfSome u.wrote (IsWrittenByLife (place_at places u.node) f tr (trail_after places f tr (happenings.Turn u)) k u.node u.input)
   pub says : AllByRecursion (λ m. IsSaidByLife (place_at places u.node) f tr (trail_after places f tr (happenings.Turn u)) (records_at f u.node ++ option_to_list u.wrote) u.input m.from m.to m.kind) u.sent
 
 -- of each turn of a node that is up
 abbrev pub KnowsLives : List Place → Facts → Trail → Happening → Type 0
-KnowsLives places f tr (happenings.Turn u) = (k : Kept) → node_at f u.node ≡ Some k → TurnKnowsLives places f tr u k
+KnowsLives places f tr (happenings.Turn u) = (k : NodeState) → node_at f u.node ≡ Some k → TurnKnowsLives places f tr u k
 KnowsLives places f tr _ = Unit {0}
 
 -- A lawful run in which they were, writes and says all that it may: the rest needs no more than the records and what came.

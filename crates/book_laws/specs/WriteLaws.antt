@@ -5,7 +5,7 @@
 use Rattle.std.specs.Prelude.{◌≡◌, ℕ, List, IfSome, Some, None}
 use Rattle.node_rules.specs.Data.{RedoRecord, Input, Place}
 use Rattle.node_rules.specs.Data.records
-use Rattle.node_rules.specs.Kept.{Kept}
+use Rattle.node_rules.specs.NodeState.{NodeState}
 use Rattle.run_rules.specs.Data.{Happening}
 use Rattle.run_rules.specs.Data.happenings
 use Rattle.run_rules.specs.Branches.{Trail}
@@ -16,7 +16,7 @@ use Rattle.run_rules.specs.Lawful.{History, IsLawfulRun}
 use Rattle.run_base_laws.specs.NodeLaws.{AtEachFact}
 
 -- what a record needs of its turn, whatever came to its branch before
-abbrev pub IsToBeWritten : Place → Facts → Kept → ℕ → Input → RedoRecord → Type 0
+abbrev pub IsToBeWritten : Place → Facts → NodeState → ℕ → Input → RedoRecord → Type 0
 IsToBeWritten p f k n input (records.Sealed r) = Unit {0}
 IsToBeWritten p f k n input (records.Decided r) = Unit {0}
 IsToBeWritten p f k n input (records.Forgot b) = decided_in (records_at f b.node) b ≡ None → ForgottenByToward f b input
@@ -24,7 +24,7 @@ IsToBeWritten p f k n input r = (before after : Trail) → MayWrite p f before a
 
 -- the record of a turn is so
 abbrev pub WritesDue : List Place → Facts → Happening → Type 0
-WritesDue places f (happenings.Turn u) = (k : Kept) → node_at f u.node ≡ Some k → IfSome u.wrote (IsToBeWritten (place_at places u.node) f k u.node u.input)
+WritesDue places f (happenings.Turn u) = (k : NodeState) → node_at f u.node ≡ Some k → IfSome u.wrote (IsToBeWritten (place_at places u.node) f k u.node u.input)
 WritesDue places f _ = Unit {0}
 
 -- in every lawful run each turn writes such records

@@ -7,7 +7,7 @@ use Rattle.tran_ids.proofs.BranchLemmas.{equal_from_same, same_from_equal}
 use Rattle.agreement.proofs.BookTests.{not_true}
 use Rattle.node_rules.specs.Data.{Change, BranchId, RedoRecord, Doubt}
 use Rattle.node_rules.specs.Data.records
-use Rattle.node_rules.specs.Kept.{Stored, doubt_id}
+use Rattle.node_rules.specs.NodeState.{Stored, doubt_id}
 use Rattle.node_rules.specs.Records.{applied, nothing_stored, stored_by, doubt_over}
 use Rattle.node_rules.specs.Words.{same, same_text, drop_item}
 use Rattle.run_rules.specs.Data.{Entry}

@@ -13,7 +13,7 @@ use Rattle.node_rules.specs.Data.decisions
 use Rattle.node_rules.specs.Data.params
 use Rattle.node_rules.specs.Data.records
 use Rattle.commit_forget.specs.declared.next.Next.TheVariants as nexts
-use Rattle.node_rules.specs.Kept.{Kept, Deed, Stored}
+use Rattle.node_rules.specs.NodeState.{NodeState, Deed, Stored}
 use Rattle.node_rules.specs.Records.{applied, nothing_stored, stored_by}
 use Rattle.node_rules.specs.Rows.{apply}
 use Rattle.node_rules.specs.Words.{same}
@@ -67,7 +67,7 @@ stay s (records.Forgot b) cs all = all
 stay s (records.Hidden b) cs all = all
 
 -- the record of a step has changes of tables of its node
-step_changes : (p : Place) (input : Input) {k : Kept} {d : Deed} → Step p input k d → LiveChangesFit k.stored.durable.tables k.owns → IfSome d.wrote (HasChangesIn k.stored.durable.tables)
+step_changes : (p : Place) (input : Input) {k : NodeState} {d : Deed} → Step p input k d → LiveChangesFit k.stored.durable.tables k.owns → IfSome d.wrote (HasChangesIn k.stored.durable.tables)
 step_changes p input (steps.Begins n s call rows fit none step) own = step_changes p input step own
 step_changes p input (steps.Pends n l given call has live code step) own = step_changes p input step own
 step_changes p input (steps.Lets_reads_go l comment site_below live begins step) own = step_changes p input step own
@@ -105,10 +105,10 @@ fit_with rs (Some r) now new whole =
 abbrev pub J : Place → List RedoRecord → Type 0
 J p rs = DiskFits rs × ChangesFit rs
 
-abbrev pub I : Place → List RedoRecord → Kept → Type 0
+abbrev pub I : Place → List RedoRecord → NodeState → Type 0
 I p rs k = NodeFits rs k × ChangesFit rs
 
-steps_fit : (p : Place) (rs : List RedoRecord) (input : Input) (k : Kept) (d : Deed) → Step p input k d → I p rs k → I p (rs ++ option_to_list d.wrote) d.after
+steps_fit : (p : Place) (rs : List RedoRecord) (input : Input) (k : NodeState) (d : Deed) → Step p input k d → I p rs k → I p (rs ++ option_to_list d.wrote) d.after
 steps_fit p rs input k d step now = (
   tables_keep.steps p rs input k d step now.0,
   fit_with rs d.wrote now.1 (λ whole. subst (λ (x : Stored). IfSome d.wrote (HasChangesIn x.durable.tables)) now.0.0 (step_changes p input step (now.0.1 whole).1)),

@@ -5,7 +5,7 @@ use Rattle.std.specs.Prelude.{◌≡◌, ℕ, false, List, filter, flat_map, map
 use Rattle.std.specs.List.{list_any}
 use Rattle.sql_eval.specs.Laws.{AreRowsOf}
 use Rattle.node_rules.specs.Data.{Value, Table, Doubt}
-use Rattle.node_rules.specs.Kept.{Kept}
+use Rattle.node_rules.specs.NodeState.{NodeState}
 use Rattle.node_rules.specs.Rows.{same_value, get, rows_of_table}
 use Rattle.node_rules.specs.Words.{same_text}
 use Rattle.run_rules.specs.Book.{rows_of, rows_told}
@@ -21,7 +21,7 @@ doubtful_keys ds table = flat_map (λ d. map (λ c. c.key) (filter (λ c. same_t
 
 -- the keys in doubt by the book are those of the branches in doubt of the node, in their order
 abbrev pub DoubtsAgree : Type 0
-DoubtsAgree = (t : History) → IsLawfulRun t → (n : ℕ) (k : Kept) → node_at (facts_at t) n ≡ Some k → (table : List ℕ)
+DoubtsAgree = (t : History) → IsLawfulRun t → (n : ℕ) (k : NodeState) → node_at (facts_at t) n ≡ Some k → (table : List ℕ)
     → keys_in_doubt (facts_at t).book n table ≡ doubtful_keys k.stored.doubts table
 
 -- at each key that is not in doubt the commits of a node leave the same row in their own order, one entry of the book after
@@ -32,11 +32,11 @@ OrdersAgree = (t : History) → IsLawfulRun t → (n : ℕ) (table : List ℕ) (
 
 -- so at each key that is not in doubt the node has the row of the book, or both have none
 abbrev pub RowsAgree : Type 0
-RowsAgree = (t : History) → IsLawfulRun t → (n : ℕ) (k : Kept) → node_at (facts_at t) n ≡ Some k → (table : List ℕ) (key : Value)
+RowsAgree = (t : History) → IsLawfulRun t → (n : ℕ) (k : NodeState) → node_at (facts_at t) n ≡ Some k → (table : List ℕ) (key : Value)
     → list_any (same_value key) (keys_in_doubt (facts_at t).book n table) ≡ false
     → get (rows_of_table k.stored.rows table) key ≡ get (rows_of (facts_at t).book n table) key
 
 -- the rows of the book are rows of their table
 abbrev pub BookRowsFit : Type 0
-BookRowsFit = (t : History) → IsLawfulRun t → (n : ℕ) (k : Kept) → node_at (facts_at t) n ≡ Some k → (name : List ℕ) (x : Table)
+BookRowsFit = (t : History) → IsLawfulRun t → (n : ℕ) (k : NodeState) → node_at (facts_at t) n ≡ Some k → (name : List ℕ) (x : Table)
     → table_in k.stored.durable.tables name ≡ Some x → AreRowsOf x (rows_of (facts_at t).book n name)

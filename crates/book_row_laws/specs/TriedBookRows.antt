@@ -1,7 +1,7 @@
 -- The tried run once more, as to the rows that its book leaves at B: from the decision at A on the book has the row, while B
 -- has none, holding it in doubt; at the end both have it, and nothing is in doubt.
 use Rattle.std.specs.Prelude.{◌≡◌, ℕ, [], ◌∷◌, codes}
-use Rattle.node_rules.specs.Kept.{Stored}
+use Rattle.node_rules.specs.NodeState.{Stored}
 use Rattle.node_rules.specs.Records.{nothing_stored, stored_by}
 use Rattle.node_rules.specs.Rows.{rows_of_table}
 use Rattle.run_rules.specs.Book.{rows_of}

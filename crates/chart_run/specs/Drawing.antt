@@ -2,9 +2,9 @@
 use Rattle.std.specs.Prelude.{ℕ, if◌then◌else◌, List}
 use Rattle.script_read.specs.Sound.{names_in}
 use Rattle.script_run.specs.declared.outcome.Run.{Run}
-use Rattle.run_marks.specs.declared.mark.Marks.{Marks}
-use Rattle.run_marks.specs.Marks.{marks_of}
-use Rattle.run_tale.specs.Tale.{tale_from}
+use Rattle.chart_marks.specs.declared.mark.Marks.{Marks}
+use Rattle.chart_marks.specs.Marks.{marks_of}
+use Rattle.chart_captions.specs.Tale.{tale_from}
 use Rattle.chart_text.specs.Window.{window_of}
 use Rattle.chart_text.specs.Plain.{text_of}
 use Rattle.chart_text.specs.Svg.{svg_of}

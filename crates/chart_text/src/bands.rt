@@ -6,7 +6,7 @@ use crate::places::{answers_x, edge, width};
 use crate::shape::{LineKind, Shape, Spot, TextKind};
 use crate::window::Window;
 use dtx_values::{Duplicate, Listing, Texts};
-use run_marks::Band;
+use chart_marks::Band;
 use std::alloc::{AllocError, Global};
 use tran_ids::put_decimal;
 

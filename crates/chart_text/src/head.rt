@@ -7,7 +7,7 @@ use crate::shape::{BarKind, LineKind, Shape, Spot, TextKind};
 use crate::window::Window;
 use crate::words::put_window;
 use dtx_values::{Listing, Name};
-use run_marks::{Deed, Marks};
+use chart_marks::{Deed, Marks};
 use std::alloc::{AllocError, Global};
 
 fn put_meaning(

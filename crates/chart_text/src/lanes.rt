@@ -7,7 +7,7 @@ use crate::places::{edge, x_of, y_of};
 use crate::shape::{BarKind, LineKind, Shape, Spot};
 use crate::window::Window;
 use dtx_values::Name;
-use run_marks::{Doubt, Outage};
+use chart_marks::{Doubt, Outage};
 use std::alloc::{AllocError, Global};
 
 fn lane(window: Window, node: u64) -> Shape

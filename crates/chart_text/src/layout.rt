@@ -9,7 +9,7 @@ use crate::messages::{ArrowLabel, ArrowLine, RepeatLabel, RepeatLine};
 use crate::notes::{NoteLabel, PartingLine, Sign, put_parting_labels};
 use crate::shape::Shape;
 use crate::window::Window;
-use run_marks::Marks;
+use chart_marks::Marks;
 use std::alloc::{AllocError, Global};
 
 fn put_lines(

@@ -3,7 +3,7 @@ ghost use Rattle.std.specs.Prelude.{◌≡◌};
 ghost use Rattle.chart_text.specs.Looks.{line_look as look_of_line, bar_look as look_of_bar, sign_look as look_of_sign, anchor as anchor_of, bold_anchor as bold_anchor_of, text_look as look_of_text, is_crossed as is_text_crossed};
 
 use crate::shape::{BarKind, LineKind, TextKind};
-use run_marks::{Deed, Side};
+use chart_marks::{Deed, Side};
 
 /// How a line looks.
 pub(crate) fn line_look(kind: LineKind) -> &'static [u8]

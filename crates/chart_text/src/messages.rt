@@ -8,7 +8,7 @@ use crate::shape::{LineKind, Shape, Spot, TextKind};
 use crate::window::{Window, end_row};
 use crate::words::put_message;
 use dtx_values::Listing;
-use run_marks::{Arrow, End, Repeat};
+use chart_marks::{Arrow, End, Repeat};
 use std::alloc::{AllocError, Global};
 
 /// A line in a row, from lane to lane.

@@ -9,7 +9,7 @@ use crate::shape::{LineKind, Shape, Spot, TextKind};
 use crate::window::Window;
 use crate::words::{put_deed, put_parting};
 use dtx_values::{Listing, Name};
-use run_marks::{Note, Parting, Side};
+use chart_marks::{Note, Parting, Side};
 use std::alloc::{AllocError, Global};
 
 /// The sign of what a node did or met.

@@ -3,7 +3,7 @@ ghost use Rattle.std.specs.Prelude.{◌≡◌, ◌<◌, ◌≤◌, ◌^◌};
 ghost use Rattle.chart_text.specs.Places.{x_of as x_of_node, edge_of, y_of as y_of_row, answers_x as answers_x_of, width_of, height_of, side_toward as side_of_lane, beside as beside_lane, gap_of};
 
 use crate::window::Window;
-use run_marks::{End, Side};
+use chart_marks::{End, Side};
 
 /// Where a node's lane stands.
 pub(crate) fn x_of(node: u64) -> u64

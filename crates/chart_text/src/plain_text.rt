@@ -6,7 +6,7 @@ ghost use Rattle.chart_text.specs.Plain.{legend as legend_line, names_from, end_
 use crate::window::{Window, end_row};
 use crate::words::{put_deed, put_message, put_parting, put_window};
 use dtx_values::{Bytes, Listing, Name};
-use run_marks::{Arrow, Band, Doubt, End, Marks, Note, Outage, Parting, Repeat};
+use chart_marks::{Arrow, Band, Doubt, End, Marks, Note, Outage, Parting, Repeat};
 use std::alloc::{AllocError, Global};
 use tran_ids::{node_name, put_decimal};
 

@@ -1,7 +1,7 @@
 //! What a picture is made of.
 
 use dtx_values::{Bytes, Texts};
-use run_marks::{Deed, Side};
+use chart_marks::{Deed, Side};
 
 /// A point of a picture.
 #[derive(Clone, Copy, Debug)]

@@ -9,7 +9,7 @@ use crate::places::{edge, height, width};
 use crate::shape::{Shape, Spot, TextKind};
 use crate::window::Window;
 use dtx_values::Bytes;
-use run_marks::Marks;
+use chart_marks::Marks;
 use std::alloc::{AllocError, Global};
 use tran_ids::put_decimal;
 

@@ -4,7 +4,7 @@ ghost use Rattle.std.specs.Option.{option_copied};
 ghost use Rattle.tran_ids.specs.Listed.{numbered};
 ghost use Rattle.chart_text.specs.Window.{row_at as row_of_command, begins_above as begins_above_row, commands_above as commands_above_row, last_of, between as window_between, window_of, is_in as is_in_window, reaches as reaches_window, till_of, end_row as end_row_of, shows_arrow as is_arrow_shown};
 
-use run_marks::{Arrow, Band, End, Marks};
+use chart_marks::{Arrow, Band, End, Marks};
 
 /// The commands that are drawn, and their rows.
 #[derive(Clone, Copy, Debug)]

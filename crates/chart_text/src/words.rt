@@ -4,7 +4,7 @@ ghost use Rattle.chart_text.specs.Words.{title_words as title_start, window_text
 
 use crate::window::Window;
 use dtx_values::Name;
-use run_marks::{Deed, Parting};
+use chart_marks::{Deed, Parting};
 use std::alloc::AllocError;
 use tran_ids::{node_name, put_decimal};
 use wire_msg::KindName;

@@ -7,7 +7,7 @@ use Rattle.node_rules.specs.Data.kinds
 use Rattle.node_rules.specs.declared.session.Session.{Session}
 use Rattle.node_rules.specs.Words.{numbered}
 use Rattle.node_rules.specs.Calls.{next_child, is_opening}
-use Rattle.node_rules.specs.Kept.{Kept}
+use Rattle.node_rules.specs.NodeState.{NodeState}
 use Rattle.node_rules.specs.Sessions.{session_at, fresh_session}
 use Rattle.run_rules.specs.Births.{Born, births_by_open, births_by_kind, births_by, births_at, births_after, births_from, births_of, roots_by}
 use Rattle.run_rules.specs.Data.{Happening, Command}
@@ -24,7 +24,7 @@ High x = x.parent ≢ None → 65 ≤ x.me.session
 abbrev AllHigh : List Born → Type 0
 AllHigh bs = AllByRecursion High bs
 
-roots_high : (p : Place) (k : Kept) (n : ℕ) (o : Option BranchId) → AllHigh (roots_by p k n o)
+roots_high : (p : Place) (k : NodeState) (n : ℕ) (o : Option BranchId) → AllHigh (roots_by p k n o)
 roots_high p k n None = (λ some. absurd (some refl), tt)
 roots_high p k n (Some b) = tt
 
@@ -32,22 +32,22 @@ either_high : (q : Bool) (xs : List Born) → AllHigh xs → AllHigh (if q then 
 either_high true xs all = all
 either_high false xs all = tt
 
-open_high : (p : Place) (k : Kept) (parent : BranchId) (edge : ℕ) (root : BranchId) (depth : ℕ) (o : Option Opening) → AllHigh (births_by_open p k parent edge root depth o)
+open_high : (p : Place) (k : NodeState) (parent : BranchId) (edge : ℕ) (root : BranchId) (depth : ℕ) (o : Option Opening) → AllHigh (births_by_open p k parent edge root depth o)
 open_high p k parent edge root depth None = (λ some. (let at : (next_child p k).session ≡ 65 + length k.opens = refl in omega (arith, at)), tt)
 open_high p k parent edge root depth (Some o) = tt
 
-kind_high : (p : Place) (k : Kept) (from : BranchId) (kind : Kind) → AllHigh (births_by_kind p k from kind)
+kind_high : (p : Place) (k : NodeState) (from : BranchId) (kind : Kind) → AllHigh (births_by_kind p k from kind)
 kind_high p k from (kinds.Open edge root depth) = open_high p k from edge root depth (find (is_opening from edge) k.opens)
 kind_high p k from _ = tt
 
-by_high : (p : Place) (k : Kept) (input : Input) → AllHigh (births_by p k input)
+by_high : (p : Place) (k : NodeState) (input : Input) → AllHigh (births_by p k input)
 by_high p k (inputs.Call n (Some s)) = either_high (is_of_rows s) _ (roots_high p k n (session_at k.sessions n).root)
 by_high p k (inputs.Call n None) = tt
 by_high p k (inputs.Message m) = kind_high p k m.from m.kind
 by_high p k (inputs.GiveUp n) = tt
 by_high p k inputs.Reco = tt
 
-at_high : (p : Place) (input : Input) (o : Option Kept) → AllHigh (births_at p input o)
+at_high : (p : Place) (input : Input) (o : Option NodeState) → AllHigh (births_at p input o)
 at_high p input None = tt
 at_high p input (Some k) = by_high p k input
 

@@ -4,7 +4,7 @@ use Rattle.std.proofs.lemmas.List.{append_assoc}
 use Rattle.node_rules.specs.Data.{Answer, BranchId, Input, Stmt}
 use Rattle.node_rules.specs.Data.inputs
 use Rattle.node_rules.specs.declared.session.PendingCall.TheVariants as pending
-use Rattle.node_rules.specs.Kept.{Kept, branch_at, standing_id}
+use Rattle.node_rules.specs.NodeState.{NodeState, branch_at, standing_id}
 use Rattle.node_rules.specs.Words.{item_at}
 use Rattle.run_branch_laws.proofs.TowardLemmas.{heard_rows}
 use Rattle.node_rules.specs.Sessions.{session_at}
@@ -30,13 +30,13 @@ use Rattle.tree_trail_laws.proofs.CallLemmas.{call_free}
 use Rattle.commit_answer_laws.specs.CommitEndLaws.{CommitEnd, CommitPends, Ends, TurnsEndCommits, CommitsEndSo}
 use Rattle.commit_answer_laws.proofs.EndStepLemmas.{Known, NoReply, ends_on}
 
-branch_heard : (k : Kept) (input : Input) (b : BranchId) → branch_at (heard k input) b ≡ branch_at k b
+branch_heard : (k : NodeState) (input : Input) (b : BranchId) → branch_at (heard k input) b ≡ branch_at k b
 branch_heard k (inputs.Message m) b = refl
 branch_heard k (inputs.Call n s) b = refl
 branch_heard k (inputs.GiveUp n) b = refl
 branch_heard k inputs.Reco b = refl
 
-given_heard : (k : Kept) (input : Input) (n : ℕ) → input ≡ inputs.GiveUp n → heard k input ≡ k
+given_heard : (k : NodeState) (input : Input) (n : ℕ) → input ≡ inputs.GiveUp n → heard k input ≡ k
 given_heard k input n is = ap (heard k) is
 
 module _ (t : History) (whole : IsLawfulRun t) (hs : List Happening) (u : Turn) (rest : List Happening) (is : hs ++ happenings.Turn u ∷ rest ≡ t.trace) where
@@ -52,11 +52,11 @@ module _ (t : History) (whole : IsLawfulRun t) (hs : List Happening) (u : Turn) 
   may : MayHappen t.places t.commands f (happenings.Turn u)
   may = may_of t whole hs (happenings.Turn u) rest is
 
-  module _ (k : Kept) (up : node_at f u.node ≡ Some k) where
+  module _ (k : NodeState) (up : node_at f u.node ≡ Some k) where
     turn : MayTurn t.places f u k
     turn = turn_of_node t.places f u k t.commands may up
 
-    abbrev k0 : Kept
+    abbrev k0 : NodeState
     k0 = heard k u.input
 
     rests : NodeRests k0

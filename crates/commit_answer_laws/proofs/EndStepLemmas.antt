@@ -23,7 +23,7 @@ use Rattle.node_rules.specs.Calls.{answer_ends, hears_reply, reply_going, reply_
 use Rattle.node_rules.specs.Client.{new_root, begun_by, given_up_code, commit_given_up}
 use Rattle.node_rules.specs.Commit.{decision_answers, acked_by}
 use Rattle.node_rules.specs.Inputs.{Came}
-use Rattle.node_rules.specs.Kept.{Kept, Branch, Deed, live_id, live_at, branch_at, standing_id, standing_at, with_standing}
+use Rattle.node_rules.specs.NodeState.{NodeState, Branch, Deed, live_id, live_at, branch_at, standing_id, standing_at, with_standing}
 use Rattle.node_rules.specs.Prepare.{abandon_ends, is_alone, act_turn}
 use Rattle.node_rules.specs.Sessions.{session_at, is_commit, commit_is_pending, commit_answer, commit_complete, tran_refusal}
 use Rattle.node_rules.specs.Statement.{ran, after_run}
@@ -41,7 +41,7 @@ neither true false r none rest = rest
 neither true true r none rest = absurd cc
 neither false q r none rest = rest
 
-module _ (k0 : Kept) (input : Input) (g : BranchId) (a : Answer) where
+module _ (k0 : NodeState) (input : Input) (g : BranchId) (a : Answer) where
   abbrev its : Finished
   its = record { session = g.session; answer = a }
 
@@ -93,16 +93,16 @@ module _ (k0 : Kept) (input : Input) (g : BranchId) (a : Answer) where
   -- ---- what is known where a step begins
 
   -- a Reply comes to no root of that session that waits
-  abbrev pub NoReply : Kept → Type 0
+  abbrev pub NoReply : NodeState → Type 0
   NoReply k = (x : Branch) (from : BranchId) (call : ℕ) (weight : Option ℕ) (count : ℕ) (said : Answer) → Came input from x.live.me (kinds.Reply call weight count said) → branch_at k x.live.me ≡ Some x → x.live.parent ≡ None
       → x.live.me.session ≡ g.session → x.work.going ≡ None
 
   -- the same branches are live as before the turn
-  abbrev pub Near : Kept → Type 0
+  abbrev pub Near : NodeState → Type 0
   Near k = k.lives ≡ k0.lives
 
   -- What is known.
-  pub record Known (k : Kept) : Type 0 where
+  pub record Known (k : NodeState) : Type 0 where
     pub root : RootIs k.sessions
     pub fit : SessionsFit k
     pub below : ExecsBelow input k
@@ -114,15 +114,15 @@ module _ (k0 : Kept) (input : Input) (g : BranchId) (a : Answer) where
 
   -- a client's call is of another session
   module _ (other : (n : ℕ) (s : Option Stmt) → input ≡ inputs.Call n s → n ≢ g.session) where
-    asked_not : {k : Kept} {x : Branch} {s : Stmt} {given : ℕ} → Known k → Asked k input x s given → x.live.parent ≡ None → x.live.me.session ≡ g.session → ⊥
+    asked_not : {k : NodeState} {x : Branch} {s : Stmt} {given : ℕ} → Known k → Asked k input x s given → x.live.parent ≡ None → x.live.me.session ≡ g.session → ⊥
     asked_not now (steps.By_call n x s call rows has code live) top at = other n (Some s) call (sym (now.fit.roots.each n x.live.me has) ∙ at)
     asked_not {k = k} now (steps.By_exec x from call given advice s came live runs) top at = now.below from x.live.me call given advice s came x.live (live_so k x.live.me x live) top
 
     -- a live root that is near is live before
-    live_near : (k : Kept) → Near k → (b : BranchId) (l : Live) → live_at k b ≡ Some l → live_at k0 b ≡ Some l
+    live_near : (k : NodeState) → Near k → (b : BranchId) (l : Live) → live_at k b ≡ Some l → live_at k0 b ≡ Some l
     live_near k near b l live = subst (λ (ls : List Live). item_at live_id ls b ≡ Some l) near live
 
-    leaves_by : (k : Kept) → Near k → (l : Live) → l.me ≡ g → IsLive k l.me → (after : Kept) → after.lives ≡ drop_item live_id k.lives l.me → (sent : List Msg) → list_any (is_quiet g) sent ≡ false → Leaves k0 after None sent g
+    leaves_by : (k : NodeState) → Near k → (l : Live) → l.me ≡ g → IsLive k l.me → (after : NodeState) → after.lives ≡ drop_item live_id k.lives l.me → (sent : List Msg) → list_any (is_quiet g) sent ≡ false → Leaves k0 after None sent g
     leaves_by k near l me live after is sent silent = record {
       live = live.0;
       there = live_near k near g live.0 (subst (λ i. live_at k i ≡ Some live.0) me live.1);
@@ -142,7 +142,7 @@ module _ (k0 : Kept) (input : Input) (g : BranchId) (a : Answer) where
         neither (same l.me g) false (list_any (is_quiet g) (map (stamped c) (to_each l.me kinds.Rollback (children_of l)))) refl (each_silent c l.me kinds.Rollback (children_of l) refl)
 
     -- a child's Abort
-    aborts : {k : Kept} {l : Live} {b : Bool} → Acting k input l b acts.Abandon → (from : BranchId) × Came input from l.me kinds.Abort
+    aborts : {k : NodeState} {l : Live} {b : Bool} → Acting k input l b acts.Abandon → (from : BranchId) × Came input from l.me kinds.Abort
     aborts (steps.Hears_abort l from b live answers) =
         let it : Some kinds.Abort ≡ Some answers.kind = answers.is_vote in
         let kind : answers.kind ≡ kinds.Abort = cc in
@@ -151,7 +151,7 @@ module _ (k0 : Kept) (input : Input) (g : BranchId) (a : Answer) where
     aborts (steps.Hears_last l from v b _ live answers more all_so collected) = elim collected [ ]
     aborts (steps.At_point l from _ live came is pointed) = elim pointed [ ]
 
-    module _ (k : Kept) (now : Known k) where
+    module _ (k : NodeState) (now : Known k) where
       alone_ends : (here : Bool) (l : Live) → Ends its (if here then commit_answer k.sessions l.me commit_complete else []) → (l.me ≡ g) × (a ≡ commit_complete)
       alone_ends true l is = commit_its k.sessions now.root l.me commit_complete is
       alone_ends false l none = absurd none
@@ -189,7 +189,7 @@ module _ (k0 : Kept) (input : Input) (g : BranchId) (a : Answer) where
       ]
 
     -- a row in which an Ack is noted was there
-    acked_row : (k : Kept) → Known k → (s : Standing) (from : BranchId) → standing_at k s.me ≡ Some s → (x : Standing) → standing_at (with_standing k (acked_by s from)) g ≡ Some x → (s0 : Standing) × (standing_at k0 g ≡ Some s0)
+    acked_row : (k : NodeState) → Known k → (s : Standing) (from : BranchId) → standing_at k s.me ≡ Some s → (x : Standing) → standing_at (with_standing k (acked_by s from)) g ≡ Some x → (s0 : Standing) × (standing_at k0 g ≡ Some s0)
     acked_row k now s from kept x at = by (same s.me g) refl
       where
         by : (q : Bool) → same s.me g ≡ q → (s0 : Standing) × (standing_at k0 g ≡ Some s0)
@@ -209,14 +209,14 @@ module _ (k0 : Kept) (input : Input) (g : BranchId) (a : Answer) where
     came_not_given : {m : ℕ} {from to : BranchId} {kind : _} → Came input from to kind → input ≡ inputs.GiveUp m → ⊥
     came_not_given came gives = (let is = came.is in absurd cc)
 
-    collects_not_given : {k : Kept} {l : Live} {comment : List ℕ} {below : Bool} {m : ℕ} → Collects k input l comment below → input ≡ inputs.GiveUp m → ⊥
+    collects_not_given : {k : NodeState} {l : Live} {comment : List ℕ} {below : Bool} {m : ℕ} → Collects k input l comment below → input ≡ inputs.GiveUp m → ⊥
     collects_not_given (steps.By_commit n given call has code is) gives = call_not_given call gives
     collects_not_given (steps.By_prepare from below came working) gives = came_not_given came gives
 
-    call_no_reply : {n : ℕ} {s : Option Stmt} (k : Kept) → input ≡ inputs.Call n s → NoReply k
+    call_no_reply : {n : ℕ} {s : Option Stmt} (k : NodeState) → input ≡ inputs.Call n s → NoReply k
     call_no_reply k call x from number weight count said came live top at = (let is = came.is in absurd cc)
 
-    call_below : {n : ℕ} {s : Option Stmt} (k : Kept) → input ≡ inputs.Call n s → ExecsBelow input k
+    call_below : {n : ℕ} {s : Option Stmt} (k : NodeState) → input ≡ inputs.Call n s → ExecsBelow input k
     call_below k call from to number given advice s came l live none = (let is = came.is in absurd cc)
 
     no_edge : {A : Type 0} (x : A) (o : Option A) → o ≡ None → o ≡ Some x → ⊥
@@ -227,17 +227,17 @@ module _ (k0 : Kept) (input : Input) (g : BranchId) (a : Answer) where
     unfolding reply_of
     not_replied x from call i e none is = no_edge (i, e) (reply_going x from call x.work.going) (ap (reply_going x from call) none) is
 
-    given_kept : (k : Kept) → k ≡ k0 → (n : ℕ) → input ≡ inputs.GiveUp n → n ≡ g.session → live_at k g ≡ None → (d : Deed) → (o : Option Standing) → standing_at k g ≡ o → a ≡ tran_refusal (given_up_code o) g → End d
+    given_kept : (k : NodeState) → k ≡ k0 → (n : ℕ) → input ≡ inputs.GiveUp n → n ≡ g.session → live_at k g ≡ None → (d : Deed) → (o : Option Standing) → standing_at k g ≡ o → a ≡ tran_refusal (given_up_code o) g → End d
     given_kept k same n gives at none d o row is = by (row_knows o) refl
       where
         input_is : input ≡ inputs.GiveUp g.session
         input_is = gives ∙ ap inputs.GiveUp at
 
         none0 : live_at k0 g ≡ None
-        none0 = subst (λ (z : Kept). live_at z g ≡ None) same none
+        none0 = subst (λ (z : NodeState). live_at z g ≡ None) same none
 
         row0 : standing_at k0 g ≡ o
-        row0 = subst (λ (z : Kept). standing_at z g ≡ o) same row
+        row0 = subst (λ (z : NodeState). standing_at z g ≡ o) same row
 
         code : (r : Option Standing) (q : Bool) → row_knows r ≡ q → given_up_code r ≡ (if q then 2053 else 2054)
         code None false is = refl
@@ -249,18 +249,18 @@ module _ (k0 : Kept) (input : Input) (g : BranchId) (a : Answer) where
         by false knows = Is_in_doubt input_is none0 (ap row_knows row0 ∙ knows) (is ∙ ap (λ c. tran_refusal c g) (code o false knows))
 
     -- a statement is given up where a COMMIT was pending: no
-    given_statement : (k : Kept) → Known k → (n : ℕ) (x : Branch) → input ≡ inputs.GiveUp n → steps.HasRoot k n x.live.me → (session_at k.sessions n).call ≡ pending.Statement → (b : Answer)
+    given_statement : (k : NodeState) → Known k → (n : ℕ) (x : Branch) → input ≡ inputs.GiveUp n → steps.HasRoot k n x.live.me → (session_at k.sessions n).call ≡ pending.Statement → (b : Answer)
         → Ends its ((record { session = n; answer = b }) ∷ []) → ⊥
     given_statement k now n x gives has calls b (inl is) =
         let at : n ≡ g.session = ap (λ (f : Finished). f.session) is in
         let one : (session_at k.sessions g.session).call ≡ pending.Statement = subst (λ i. (session_at k.sessions i).call ≡ pending.Statement) at calls in
-        let two : (session_at k0.sessions g.session).call ≡ pending.Statement = subst (λ (z : Kept). (session_at z.sessions g.session).call ≡ pending.Statement) (now.given n gives) one in
+        let two : (session_at k0.sessions g.session).call ≡ pending.Statement = subst (λ (z : NodeState). (session_at z.sessions g.session).call ≡ pending.Statement) (now.given n gives) one in
         let commit = now.commits in
         absurd (cc (two, commit))
     given_statement k now n x gives has calls b (inr none) = none
 
     module _ (p : Place) where
-      pub ends_on : {k : Kept} {d : Deed} → Step p input k d → Known k → Ends its d.ended → End d
+      pub ends_on : {k : NodeState} {d : Deed} → Step p input k d → Known k → Ends its d.ended → End d
       ends_on (steps.Begins {k = k} n s call rows range none step) now is =
           ends_on step
           (record {
@@ -339,7 +339,7 @@ module _ (k0 : Kept) (input : Input) (g : BranchId) (a : Answer) where
       ends_on (steps.Gives_up_commit {k = k} n b (Some l) gives has calls live) now is =
           (let one = commit_its k.sessions now.root l.me _ is in
           let at : n ≡ g.session = sym (now.fit.roots.each n b has) ∙ ap (λ (z : BranchId). z.session) (sym (item_is live_id k.lives b l live) ∙ one.0) in
-          let near : Near k = ap (λ (z : Kept). z.lives) (now.given n gives) in
+          let near : Near k = ap (λ (z : NodeState). z.lives) (now.given n gives) in
           Is_given_up (gives ∙ ap inputs.GiveUp at) (leaves_by k near l one.0 (l, subst (λ i. live_at k i ≡ Some l) (sym (item_is live_id k.lives b l live)) live) _ refl _ (each_silent (commit_given_up k b (Some l)).after.clock l.me kinds.Rollback (children_of l) refl))
           (one.1 ∙ ap (tran_refusal 2050) (sym (item_is live_id k.lives b l live) ∙ one.0)))
       ends_on (steps.Gives_up_commit {k = k} n b None gives has calls live) now is =

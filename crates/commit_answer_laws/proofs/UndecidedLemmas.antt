@@ -13,7 +13,7 @@ use Rattle.node_rules.specs.Data.{Answer, BranchId, Decision, Live, Place, RedoR
 use Rattle.node_rules.specs.Data.answers
 use Rattle.node_rules.specs.Data.decisions
 use Rattle.node_rules.specs.Data.records
-use Rattle.node_rules.specs.Kept.{Kept, Outcome, live_id, live_at, standing_id, standing_at}
+use Rattle.node_rules.specs.NodeState.{NodeState, Outcome, live_id, live_at, standing_id, standing_at}
 use Rattle.node_rules.specs.Commit.{knows_commit}
 use Rattle.node_rules.specs.Sessions.{session_at, commit_complete, tran_refusal}
 use Rattle.node_rules.specs.Turn.{turn_of, heard}
@@ -100,7 +100,7 @@ module _ (t : History) (whole : IsLawfulRun t) (g : BranchId) (a : Answer) (it :
   abbrev u : Turn
   u = it.turn
 
-  abbrev k : Kept
+  abbrev k : NodeState
   k = it.kept
 
   abbrev s0 : History

@@ -13,7 +13,7 @@ use Rattle.node_rules.specs.declared.session.Finished.{Finished}
 use Rattle.node_rules.specs.declared.session.PendingCall.TheVariants as pending
 use Rattle.node_rules.specs.Commit.{knows_commit}
 use Rattle.node_rules.specs.Inputs.{Came}
-use Rattle.node_rules.specs.Kept.{Kept, Outcome, live_at, standing_at}
+use Rattle.node_rules.specs.NodeState.{NodeState, Outcome, live_at, standing_at}
 use Rattle.node_rules.specs.Sessions.{session_at, commit_complete, tran_refusal}
 use Rattle.node_rules.specs.Turn.{turn_of}
 use Rattle.run_rules.specs.Data.{Happening}
@@ -28,7 +28,7 @@ row_knows None = false
 row_knows (Some s) = knows_commit s.decision
 
 -- A live root rolls back, or leaves for it had no changes to commit: no record is written, and it does not say ReadOnly.
-pub record Leaves (k after : Kept) (wrote : Option RedoRecord) (sent : List Msg) (g : BranchId) : Type 0 where
+pub record Leaves (k after : NodeState) (wrote : Option RedoRecord) (sent : List Msg) (g : BranchId) : Type 0 where
   pub live : Live
   pub there : live_at k g ≡ Some live
   pub gone : live_at after g ≡ None
@@ -36,7 +36,7 @@ pub record Leaves (k after : Kept) (wrote : Option RedoRecord) (sent : List Msg)
   pub silent : list_any (is_quiet g) sent ≡ false
 
 -- Why the COMMIT of the root g ends, with this answer.
-pub data CommitEnd (k : Kept) (input : Input) (after : Kept) (wrote : Option RedoRecord) (sent : List Msg) (g : BranchId) (a : Answer) : Type 0 where
+pub data CommitEnd (k : NodeState) (input : Input) (after : NodeState) (wrote : Option RedoRecord) (sent : List Msg) (g : BranchId) (a : Answer) : Type 0 where
   Has_decided : (r : Decided) (l : Live) → live_at k g ≡ Some l → wrote ≡ Some (records.Decided r) → r.me ≡ g → a ≡ commit_complete → CommitEnd k input after wrote sent g a  -- the root is the site, and alone
   Has_no_site : Leaves k after wrote sent g → a ≡ commit_complete → CommitEnd k input after wrote sent g a
   Has_forgotten : (s : Standing) → standing_at k g ≡ Some s → wrote ≡ Some (records.Forgot g) → a ≡ commit_complete → CommitEnd k input after wrote sent g a
@@ -54,16 +54,16 @@ Ends f [] = ⊥
 Ends f (x ∷ xs) = (x ≡ f) ⊎ Ends f xs
 
 -- The COMMIT of g is pending at its node.
-pub record CommitPends (k : Kept) (g : BranchId) : Type 0 where
+pub record CommitPends (k : NodeState) (g : BranchId) : Type 0 where
   pub root : (session_at k.sessions g.session).root ≡ Some g
   pub call : (session_at k.sessions g.session).call ≡ pending.Commit
 
 -- a COMMIT that was pending and ends in a turn does so for a reason
-abbrev pub EndsForReason : Kept → Input → Outcome → Type 0
+abbrev pub EndsForReason : NodeState → Input → Outcome → Type 0
 EndsForReason k input o = (g : BranchId) (a : Answer) → CommitPends k g → Ends (record { session = g.session; answer = a }) o.ended → CommitEnd k input o.after o.wrote o.sent g a
 
 abbrev pub TurnsEndCommits : List Place → Facts → Happening → Type 0
-TurnsEndCommits places f (happenings.Turn u) = (k : Kept) → node_at f u.node ≡ Some k → EndsForReason k u.input (turn_of (place_at places u.node) k u.input)
+TurnsEndCommits places f (happenings.Turn u) = (k : NodeState) → node_at f u.node ≡ Some k → EndsForReason k u.input (turn_of (place_at places u.node) k u.input)
 TurnsEndCommits places f _ = Unit {0}
 
 -- In every lawful run.

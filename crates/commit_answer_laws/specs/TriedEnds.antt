@@ -6,7 +6,7 @@ use Rattle.node_rules.specs.Data.inputs
 use Rattle.node_rules.specs.declared.session.Finished.{Finished}
 use Rattle.node_rules.specs.declared.session.PendingCall.{PendingCall}
 use Rattle.node_rules.specs.declared.session.PendingCall.TheVariants as pending
-use Rattle.node_rules.specs.Kept.{Kept, Outcome}
+use Rattle.node_rules.specs.NodeState.{NodeState, Outcome}
 use Rattle.node_rules.specs.Sessions.{session_at, commit_complete, tran_refusal}
 use Rattle.run_rules.specs.Facts.{Facts, first_facts, facts_of, node_at, outcome_at}
 use Rattle.run_branch_laws.specs.TriedRun.{places, takes, played, coming, turn_by, a}
@@ -16,7 +16,7 @@ abbrev pub facts_when : ℕ → Facts
 facts_when i = facts_of places [] (first_facts places) (played (first_facts places) (take i coming))
 
 -- the pending call of session 1 at A
-abbrev pub call_in : Option Kept → PendingCall
+abbrev pub call_in : Option NodeState → PendingCall
 call_in None = pending.NoCall
 call_in (Some k) = (session_at k.sessions 1).call
 

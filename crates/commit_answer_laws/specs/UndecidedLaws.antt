@@ -2,7 +2,7 @@
 -- (Error Messages: ORA-02050; Database Administrator's Guide, "Distributed Transactions Concepts".)
 use Rattle.std.specs.Prelude.{◌≡◌, ◌⊎◌, ℕ, false, List, ◌∷◌, ◌++◌, Some}
 use Rattle.node_rules.specs.Data.{Answer, BranchId, Change}
-use Rattle.node_rules.specs.Kept.{Kept}
+use Rattle.node_rules.specs.NodeState.{NodeState}
 use Rattle.node_rules.specs.Sessions.{commit_complete, tran_refusal}
 use Rattle.node_rules.specs.Turn.{turn_of}
 use Rattle.run_rules.specs.Book.{At}
@@ -20,13 +20,13 @@ pub record EndedWith (t : History) (g : BranchId) (a : Answer) : Type 0 where
   pub later : List Happening
   pub is : before ++ happenings.Turn turn ∷ later ≡ t.trace
   pub uncut : turn.cut ≡ false
-  pub kept : Kept
+  pub kept : NodeState
   pub up : node_at (facts_of t.places t.commands (first_facts t.places) before) turn.node ≡ Some kept
   pub pends : CommitPends kept g
   pub ends : Ends (record { session = g.session; answer = a }) (turn_of (place_at t.places turn.node) kept turn.input).ended
 
 -- its root left in that turn, and nothing was written
-abbrev pub LeftAlone : History → BranchId → Kept → Turn → Type 0
+abbrev pub LeftAlone : History → BranchId → NodeState → Turn → Type 0
 LeftAlone t g k u =
     Leaves k (turn_of (place_at t.places u.node) k u.input).after (turn_of (place_at t.places u.node) k u.input).wrote (turn_of (place_at t.places u.node) k u.input).sent g
 

@@ -4,15 +4,15 @@ use Rattle.std.specs.List.{AllByRecursion}
 use Rattle.std.proofs.lemmas.Bool.{eqb-true}
 use Rattle.node_rules.specs.Data.{Answer, Place, Stmt}
 use Rattle.node_rules.specs.declared.session.Finished.{Finished}
-use Rattle.node_rules.specs.Kept.{Outcome}
+use Rattle.node_rules.specs.NodeState.{Outcome}
 use Rattle.run_rules.specs.Calls.{is_call_at, call_at, without_call, ends_or_follows, finished_call, finished}
 use Rattle.run_rules.specs.Cuts.{turn_appends}
 use Rattle.run_rules.specs.Data.{Command, Happening, Turn}
 use Rattle.run_rules.specs.Data.happenings
 use Rattle.run_rules.specs.Facts.{Facts, node_at, outcome_at, facts_after}
 use Rattle.run_rules.specs.Lines.{says_node}
-use Rattle.run_rules.specs.Past.{delivered_more, without_following, ends_calls, telling_turned, next, past}
-use Rattle.run_rules.specs.Telling.{Call, Past, Telling}
+use Rattle.run_rules.specs.Past.{delivered_more, without_following, ends_calls, report_turned, next, past}
+use Rattle.run_rules.specs.RunReport.{Call, Past, RunReport}
 use Rattle.run_rules.specs.Trail.{ended_by}
 use Rattle.run_rules.proofs.FactLemmas.{facts_next}
 use Rattle.run_ready_laws.proofs.PendingLemmas.{found_so, at_parts, line_same}
@@ -26,7 +26,7 @@ abbrev pub IsNoCall : Call → Type 0
 IsNoCall c = ⊥
 
 -- none is pending
-abbrev pub HasNone : Telling → Type 0
+abbrev pub HasNone : RunReport → Type 0
 HasNone t = AllByRecursion IsNoCall t.calls
 
 pub none_pending : (cs : List Call) → AllByRecursion IsNoCall cs → cs ≡ []
@@ -50,22 +50,22 @@ module _ (node session : ℕ) where
       absurd (cc (first, is))
 
   module _ (running : ℕ) where
-    gone_none : (t : Telling) (c : Call) (f : Finished) (o : Option Stmt) → o ≡ None → c.node ≡ node → c.session ≡ session → HasOne node session t → HasNone (ends_or_follows running t c f o)
+    gone_none : (t : RunReport) (c : Call) (f : Finished) (o : Option Stmt) → o ≡ None → c.node ≡ node → c.session ≡ session → HasOne node session t → HasNone (ends_or_follows running t c f o)
     gone_none t c f None last here its one = subst (AllByRecursion IsNoCall) (sym (line_same running (without_call t c.node c.session) c.command (says_node f)).calls) (all_left c.node c.session here its t.calls one.calls)
     gone_none t c f (Some s) last here its one = absurd cc
 
-    answered_call : (t : Telling) (f : Finished) → HasOne node session t → f.session ≡ session → (o : Option Call) → call_at t node f.session ≡ o → HasNone (finished_call running t f o)
+    answered_call : (t : RunReport) (f : Finished) → HasOne node session t → f.session ≡ session → (o : Option Call) → call_at t node f.session ≡ o → HasNone (finished_call running t f o)
     answered_call t f one its None at = none_found f.session its t.calls one.calls at
     answered_call t f one its (Some c) at =
         let found = found_so (IsItsCall node session) (is_call_at node f.session) t.calls c one.calls at in
         let parts = at_parts node f.session c found.1 in
         gone_none t c f c.follows found.0.1 parts.0 (parts.1 ∙ its) one
 
-    answered_calls : (t : Telling) (fs : List Finished) → HasOne node session t → (filter (λ (x : Finished). x.session == session) fs ≡ [] → ⊥) → HasNone (finished running t node fs)
+    answered_calls : (t : RunReport) (fs : List Finished) → HasOne node session t → (filter (λ (x : Finished). x.session == session) fs ≡ [] → ⊥) → HasNone (finished running t node fs)
     answered_calls t [] one some = absurd (some refl)
     answered_calls t (f ∷ fs) one some = by (f.session == session) refl (λ more. answered_calls onward fs (one_ends node session running node t f one) more)
       where
-        onward : Telling
+        onward : RunReport
         onward = finished_call running t f (call_at t node f.session)
 
         by : (q : Bool) → (f.session == session) ≡ q → ((filter (λ (x : Finished). x.session == session) fs ≡ [] → ⊥) → HasNone (finished running onward node fs)) → HasNone (finished running onward node fs)
@@ -74,14 +74,14 @@ module _ (node session : ℕ) where
 
     -- ---- in a turn
 
-    answered_end : (t : Telling) (u : Turn) (o : Outcome) → HasOne node session t → u.node ≡ node → (filter (λ (x : Finished). x.session == session) o.ended ≡ [] → ⊥) → HasNone (ends_calls running t u false (Some o))
+    answered_end : (t : RunReport) (u : Turn) (o : Outcome) → HasOne node session t → u.node ≡ node → (filter (λ (x : Finished). x.session == session) o.ended ≡ [] → ⊥) → HasNone (ends_calls running t u false (Some o))
     answered_end t u o one here some =
-        let v : Telling = finished running t u.node o.ended in
+        let v : RunReport = finished running t u.node o.ended in
         let none : HasNone v = subst (λ n. HasNone (finished running t n o.ended)) (sym here) (answered_calls t o.ended one some) in
         subst (AllByRecursion IsNoCall) (sym (input_same v running u.node u.input).0) none
 
   module _ (places : List Place) (asked : List Command) where
-    answered_turn : (f : Facts) (t : Telling) (u : Turn) → HasOne node session t → (answers_in places f node session (happenings.Turn u) ≡ [] → ⊥) → HasNone (telling_turned f.command (node_at f u.node) t u (outcome_at places f u))
+    answered_turn : (f : Facts) (t : RunReport) (u : Turn) → HasOne node session t → (answers_in places f node session (happenings.Turn u) ≡ [] → ⊥) → HasNone (report_turned f.command (node_at f u.node) t u (outcome_at places f u))
     answered_turn f t u one some = by u.cut (u.node == node) (outcome_at places f u) refl refl refl
       where
         answers : Option Outcome → List Answer
@@ -90,10 +90,10 @@ module _ (node session : ℕ) where
         said : Bool → Bool → Option Outcome → List Answer
         said cut here o = if cut then [] else (if here then answers o else [])
 
-        v : Option Outcome → Telling
+        v : Option Outcome → RunReport
         v o = without_following (delivered_more (turn_appends t u.node u.input (node_at f u.node) o) u.took) u.input
 
-        by : (cut here : Bool) (o : Option Outcome) → u.cut ≡ cut → (u.node == node) ≡ here → outcome_at places f u ≡ o → HasNone (telling_turned f.command (node_at f u.node) t u (outcome_at places f u))
+        by : (cut here : Bool) (o : Option Outcome) → u.cut ≡ cut → (u.node == node) ≡ here → outcome_at places f u ≡ o → HasNone (report_turned f.command (node_at f u.node) t u (outcome_at places f u))
         by true here o cut_is here_is o_is = absurd (some (ap (λ q. said q (u.node == node) (outcome_at places f u)) cut_is))
         by false false o cut_is here_is o_is = absurd (some (ap (λ q. said q (u.node == node) (outcome_at places f u)) cut_is ∙ ap (λ q. said false q (outcome_at places f u)) here_is))
         by false true None cut_is here_is o_is =
@@ -102,23 +102,23 @@ module _ (node session : ℕ) where
             let ends : HasNone (ends_calls f.command (v (Some o)) u false (Some o))
             = answered_end f.command (v (Some o)) u o (one_before node session f.command (node_at f u.node) t u (Some o) one) (eqb-true u.node node here_is)
             (λ none. some (ap (λ q. said q (u.node == node) (outcome_at places f u)) cut_is ∙ (ap (λ q. said false q (outcome_at places f u)) here_is ∙ (ap answers o_is ∙ ap (map (λ (x : Finished). x.answer)) none)))) in
-            subst (λ x. HasNone (telling_turned f.command (node_at f u.node) t u x)) (sym o_is) (subst (λ q. HasNone (ends_calls f.command (v (Some o)) u q (Some o))) (sym cut_is) ends)
+            subst (λ x. HasNone (report_turned f.command (node_at f u.node) t u x)) (sym o_is) (subst (λ q. HasNone (ends_calls f.command (v (Some o)) u q (Some o))) (sym cut_is) ends)
 
     -- ---- in a command
 
-    none_stay : (p : Past) (hs : List Happening) → AllByRecursion IsWholeTurn hs → HasNone p.telling → HasNone (past places asked p hs).telling
+    none_stay : (p : Past) (hs : List Happening) → AllByRecursion IsWholeTurn hs → HasNone p.run_report → HasNone (past places asked p hs).run_report
     unfolding past next
     none_stay p [] whole none = none
     none_stay p (happenings.Turn u ∷ hs) whole none =
-        none_stay (next places asked p (happenings.Turn u)) hs whole.1 (turn_so IsNoCall (λ c s so. so) p.facts.command (node_at p.facts u.node) p.telling u (outcome_at places p.facts u) none)
+        none_stay (next places asked p (happenings.Turn u)) hs whole.1 (turn_so IsNoCall (λ c s so. so) p.facts.command (node_at p.facts u.node) p.run_report u (outcome_at places p.facts u) none)
     none_stay p (h ∷ hs) whole none = absurd whole.0
 
-    pub answered_none : (p : Past) (hs : List Happening) → HasOne node session p.telling → AllByRecursion IsWholeTurn hs → (answers_from places asked p.facts node session hs ≡ [] → ⊥) → HasNone (past places asked p hs).telling
+    pub answered_none : (p : Past) (hs : List Happening) → HasOne node session p.run_report → AllByRecursion IsWholeTurn hs → (answers_from places asked p.facts node session hs ≡ [] → ⊥) → HasNone (past places asked p hs).run_report
     unfolding past next
     answered_none p [] one whole some = absurd (some refl)
     answered_none p (happenings.Turn u ∷ hs) one whole some =
         by (answers_in places p.facts node session (happenings.Turn u)) refl
-        (λ more. answered_none onward hs (one_turn node session p.facts.command (node_at p.facts u.node) p.telling u (outcome_at places p.facts u) one) whole.1 more)
+        (λ more. answered_none onward hs (one_turn node session p.facts.command (node_at p.facts u.node) p.run_report u (outcome_at places p.facts u) one) whole.1 more)
       where
         onward : Past
         onward = next places asked p (happenings.Turn u)
@@ -126,7 +126,7 @@ module _ (node session : ℕ) where
         rest : Facts → List Answer
         rest g = answers_from places asked g node session hs
 
-        by : (xs : List Answer) → answers_in places p.facts node session (happenings.Turn u) ≡ xs → ((rest onward.facts ≡ [] → ⊥) → HasNone (past places asked onward hs).telling) → HasNone (past places asked onward hs).telling
+        by : (xs : List Answer) → answers_in places p.facts node session (happenings.Turn u) ≡ xs → ((rest onward.facts ≡ [] → ⊥) → HasNone (past places asked onward hs).run_report) → HasNone (past places asked onward hs).run_report
         by [] is more = more (λ none. some (ap (λ xs. xs ++ rest (facts_after places asked p.facts (happenings.Turn u))) is ∙ (ap rest (sym (facts_next places asked p (happenings.Turn u))) ∙ none)))
-        by (a ∷ others) is more = none_stay onward hs whole.1 (answered_turn p.facts p.telling u one (λ none. absurd cc))
+        by (a ∷ others) is more = none_stay onward hs whole.1 (answered_turn p.facts p.run_report u one (λ none. absurd cc))
     answered_none p (h ∷ hs) one whole some = absurd whole.0

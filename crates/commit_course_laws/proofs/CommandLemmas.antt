@@ -13,9 +13,9 @@ use Rattle.run_rules.specs.Due.{comes_next}
 use Rattle.run_rules.specs.Facts.{Facts, command_at, facts_after, is_up, node_at, outcome_at}
 use Rattle.run_rules.specs.Lawful.{History}
 use Rattle.run_rules.specs.Lines.{with_stop}
-use Rattle.run_rules.specs.Past.{past, telling_after, telling_stopped, is_stop_of, start_refused, failed_start}
+use Rattle.run_rules.specs.Past.{past, report_after, report_stopped, is_stop_of, start_refused, failed_start}
 use Rattle.run_claims.specs.Places.{past_upto}
-use Rattle.run_rules.specs.Telling.{Call, Past, Telling}
+use Rattle.run_rules.specs.RunReport.{Call, Past, RunReport}
 use Rattle.answer_origin_laws.proofs.UptoLemmas.{one_more, none_more, next_is, due_at}
 use Rattle.commit_course_laws.specs.CommandCalls.{is_hold, hold_by, HoldIsKept, CommandsFindNoCall, CommandsFindNothingInFlight, HasItsCallAlone, CommandsHoldTheirCall}
 use Rattle.commit_course_laws.proofs.WayLemmas.{stopped_way, turn_way, stopped_so, turn_so}
@@ -25,8 +25,8 @@ module _ (t : History) (p : Past) where
   abbrev f : Facts
   f = p.facts
 
-  abbrev told : Telling
-  told = p.telling
+  abbrev told : RunReport
+  told = p.run_report
 
   abbrev command : Command
   command = command_at t.commands f.command
@@ -34,31 +34,31 @@ module _ (t : History) (p : Past) where
   -- ---- a stop
 
   module _ (n : ℕ) where
-    abbrev refused : Telling
+    abbrev refused : RunReport
     refused = start_refused t.places f told command n
 
-    abbrev ready : Telling
+    abbrev ready : RunReport
     ready = record refused { start_to_stop = None }
 
-    abbrev after : Telling
+    abbrev after : RunReport
     after = stopped_calls t.places f.command ready n told.calls
 
     -- what a stop line leaves
-    line_kept : (P : Telling → Type 0) → P after → P (with_stop t.places after n) → P (telling_stopped t.places t.commands f told n)
+    line_kept : (P : RunReport → Type 0) → P after → P (with_stop t.places after n) → P (report_stopped t.places t.commands f told n)
     line_kept P own other = cond_both (is_stop_of command n) after (with_stop t.places after n) P (λ is. own) (λ is. other)
 
     refused_so : (ready.hold ≡ told.hold) × (ready.calls ≡ told.calls)
-    refused_so = cond_both (failed_start f command n) _ told (λ (v : Telling). (v.hold ≡ told.hold) × (v.calls ≡ told.calls)) (λ fails. (refl, refl)) (λ stands. (refl, refl))
+    refused_so = cond_both (failed_start f command n) _ told (λ (v : RunReport). (v.hold ≡ told.hold) × (v.calls ≡ told.calls)) (λ fails. (refl, refl)) (λ stands. (refl, refl))
 
     after_hold : after.hold ≡ told.hold
     after_hold = (stopped_way f.command t.places n ready told.calls).hold ∙ refused_so.0
 
-    stop_hold : (telling_stopped t.places t.commands f told n).hold ≡ told.hold
-    stop_hold = line_kept (λ (v : Telling). v.hold ≡ told.hold) after_hold after_hold
+    stop_hold : (report_stopped t.places t.commands f told n).hold ≡ told.hold
+    stop_hold = line_kept (λ (v : RunReport). v.hold ≡ told.hold) after_hold after_hold
 
   -- ---- HOLD
 
-  hold_next : (h : Happening) → (telling_after t.places t.commands f told h).hold ≡ hold_by t.commands told.hold h
+  hold_next : (h : Happening) → (report_after t.places t.commands f told h).hold ≡ hold_by t.commands told.hold h
   hold_next (happenings.Begun c) = refl
   hold_next (happenings.Turn u) = (turn_way f.command (node_at f u.node) told u (outcome_at t.places f u)).hold
   hold_next (happenings.Cut a b) = refl
@@ -71,7 +71,7 @@ module _ (t : History) (p : Past) where
 
   -- nothing but the running command's call is pending, unless HOLD is on or that is HOLD OFF
   abbrev pub IsAlone : Past → Type 0
-  IsAlone q = q.telling.hold ≡ false → is_hold (command_at t.commands q.facts.command) ≡ false → HasItsCallAlone q
+  IsAlone q = q.run_report.hold ≡ false → is_hold (command_at t.commands q.facts.command) ≡ false → HasItsCallAlone q
 
   -- a command of this number
   abbrev Of : ℕ → Call → Type 0
@@ -92,7 +92,7 @@ module _ (t : History) (p : Past) where
   hold_same hold (commands.Hold on) is = absurd cc
   hold_same hold _ is = refl
 
-  calls_next : (h : Happening) → comes_next t.places t.commands p ≡ Some h → IsAlone p → IsAlone (record { facts = facts_after t.places t.commands f h; telling = telling_after t.places t.commands f told h })
+  calls_next : (h : Happening) → comes_next t.places t.commands p ≡ Some h → IsAlone p → IsAlone (record { facts = facts_after t.places t.commands f h; run_report = report_after t.places t.commands f told h })
   unfolding facts_after
   calls_next (happenings.Begun c) is now off other = begun_calls c (command_at t.commands c) (begun_over t.places t.commands p (sym (hold_same told.hold (command_at t.commands c) other) ∙ off) c is).0
   calls_next (happenings.Turn u) is now off other =
@@ -103,16 +103,16 @@ module _ (t : History) (p : Past) where
   calls_next (happenings.Stopped n) is now off other =
       let mine : AllByRecursion (Of f.command) told.calls = now (sym (stop_hold n) ∙ off) other in
       let all : AllByRecursion (Of f.command) (after n).calls = stopped_so (Of f.command) (λ c s so. so) f.command t.places n (ready n) told.calls (subst (AllByRecursion (Of f.command)) (sym (refused_so n).1) mine) in
-      line_kept n (λ (v : Telling). AllByRecursion (Of f.command) v.calls) all all
+      line_kept n (λ (v : RunReport). AllByRecursion (Of f.command) v.calls) all all
   calls_next (happenings.Started n boot) is now off other = now off other
 
   -- ---- deliveries
 
   -- none was made before something else happened
   abbrev pub IsFresh : Past → Type 0
-  IsFresh q = q.telling.acted ≡ false → q.telling.deliveries ≡ 0
+  IsFresh q = q.run_report.acted ≡ false → q.run_report.deliveries ≡ 0
 
-  fresh_next : (h : Happening) → IsFresh (record { facts = facts_after t.places t.commands f h; telling = telling_after t.places t.commands f told h })
+  fresh_next : (h : Happening) → IsFresh (record { facts = facts_after t.places t.commands f h; run_report = report_after t.places t.commands f told h })
   fresh_next (happenings.Begun c) = λ fresh. refl
   fresh_next (happenings.Turn u) = λ fresh. absurd cc
   fresh_next (happenings.Cut a b) = λ fresh. absurd cc
@@ -121,7 +121,7 @@ module _ (t : History) (p : Past) where
   fresh_next (happenings.Stopped n) = λ fresh. absurd cc
   fresh_next (happenings.Started n boot) = λ fresh. absurd cc
 
-pub fresh_deliveries : (t : History) (i : ℕ) → (past_upto t i).telling.acted ≡ false → (past_upto t i).telling.deliveries ≡ 0
+pub fresh_deliveries : (t : History) (i : ℕ) → (past_upto t i).run_report.acted ≡ false → (past_upto t i).run_report.deliveries ≡ 0
 unfolding past
 fresh_deliveries t zero = λ fresh. absurd cc
 fresh_deliveries t (suc i) = by (slice_get t.trace i) refl (fresh_deliveries t i)
@@ -136,7 +136,7 @@ fresh_deliveries t (suc i) = by (slice_get t.trace i) refl (fresh_deliveries t i
         (subst (IsFresh t (past_upto t i)) (sym (one_more t i h is ∙ next_is t.places t.commands (past_upto t i) h)) (fresh_next t (past_upto t i) h))
 
 pub hold_is_kept : HoldIsKept
-hold_is_kept t i h is = ap (λ (q : Past). q.telling.hold) (one_more t i h is ∙ next_is t.places t.commands (past_upto t i) h) ∙ hold_next t (past_upto t i) h
+hold_is_kept t i h is = ap (λ (q : Past). q.run_report.hold) (one_more t i h is ∙ next_is t.places t.commands (past_upto t i) h) ∙ hold_next t (past_upto t i) h
 
 pub commands_find_no_call : CommandsFindNoCall
 commands_find_no_call t run i c is off = (begun_over t.places t.commands (past_upto t i) off c (due_at t run i (happenings.Begun c) is)).0

@@ -4,7 +4,7 @@ use Rattle.std.specs.List.{AllByRecursion, list_any}
 use Rattle.tran_ids.proofs.BranchLemmas.{equal_from_same, same_from_equal}
 use Rattle.tran_ids.proofs.ListedLemmas.{item_is}
 use Rattle.node_rules.specs.Data.{BranchId, Live, Standing}
-use Rattle.node_rules.specs.Kept.{Kept, live_id, live_at, branch_at, standing_at}
+use Rattle.node_rules.specs.NodeState.{NodeState, live_id, live_at, branch_at, standing_at}
 use Rattle.node_rules.specs.Turn.{Is_gone, stand_of, live_or}
 use Rattle.node_rules.specs.Words.{same}
 use Rattle.run_rules.specs.Births.{Born, births_of, born_id, born_at}
@@ -96,7 +96,7 @@ each_began (x ∷ bs) once = (
         by false low = low
 
 -- a gone branch has no row
-gone_row : (k : Kept) (b : BranchId) → stand_of k b ≡ Is_gone → standing_at k b ≡ None
+gone_row : (k : NodeState) (b : BranchId) → stand_of k b ≡ Is_gone → standing_at k b ≡ None
 unfolding stand_of
 gone_row k b is = by (branch_at k b) (standing_at k b) is
   where
@@ -133,7 +133,7 @@ module _ (t : History) (whole : IsLawfulRun t) (c : Commit t.places t.commands t
   rows = undisturbed_rows_go t whole c u dropped ended
 
   -- no branch of the transaction is live
-  none_live : (b : Born) → Began bs b → b.root ≡ c.root → (k : Kept) → node_at (facts_at t) b.me.node ≡ Some k → live_at k b.me ≡ None
+  none_live : (b : Born) → Began bs b → b.root ≡ c.root → (k : NodeState) → node_at (facts_at t) b.me.node ≡ Some k → live_at k b.me ≡ None
   none_live b began of k up = by (live_at k b.me) refl
     where
       by : (o : Option Live) → live_at k b.me ≡ o → live_at k b.me ≡ None
@@ -148,16 +148,16 @@ module _ (t : History) (whole : IsLawfulRun t) (c : Commit t.places t.commands t
           let root : l.root ≡ c.root = sym its.is_root ∙ (ap (λ (x : Born). x.root) same_born ∙ of) in
           absurd (undisturbed_branches_leave t whole c u dropped (undisturbed_leave_ready t whole c u dropped) b.me.node k up l mine root)
 
-  stand_gone : (b : Born) → Began bs b → b.root ≡ c.root → (k : Kept) → node_at (facts_at t) b.me.node ≡ Some k → stand_of k b.me ≡ Is_gone
+  stand_gone : (b : Born) → Began bs b → b.root ≡ c.root → (k : NodeState) → node_at (facts_at t) b.me.node ≡ Some k → stand_of k b.me ≡ Is_gone
   stand_gone b began of k up = rows.gone b began of k up (none_live b began of k up)
 
   -- and its node is up
   gone : (b : Born) → Began bs b → b.root ≡ c.root → stand_at (facts_at t) b.me ≡ Some Is_gone
   gone b began of = by (node_at (facts_at t) b.me.node) refl (stays_up t whole c u b began of)
     where
-      by : (o : Option Kept) → node_at (facts_at t) b.me.node ≡ o → option_map (λ (k : Kept). k.stored.durable.boot) o ≡ Some b.me.boot → option_map (λ (k : Kept). stand_of k b.me) (node_at (facts_at t) b.me.node) ≡ Some Is_gone
+      by : (o : Option NodeState) → node_at (facts_at t) b.me.node ≡ o → option_map (λ (k : NodeState). k.stored.durable.boot) o ≡ Some b.me.boot → option_map (λ (k : NodeState). stand_of k b.me) (node_at (facts_at t) b.me.node) ≡ Some Is_gone
       by None up is = absurd cc
-      by (Some k) up is = ap (option_map (λ (k : Kept). stand_of k b.me)) up ∙ ap Some (stand_gone b began of k up)
+      by (Some k) up is = ap (option_map (λ (k : NodeState). stand_of k b.me)) up ∙ ap Some (stand_gone b began of k up)
 
   pub complete : IsComplete t.places t.commands t.trace c
   complete = record {
@@ -166,7 +166,7 @@ module _ (t : History) (whole : IsLawfulRun t) (c : Commit t.places t.commands t
     gone = each_branch (λ b. stand_at (facts_at t) b ≡ Some Is_gone) c.root bs (all_weaker (λ x. born_at bs x.me ≡ Some x) _ (λ x began of. gone x began of) bs (each_began bs (no_id_begins_twice t whole)));
   }
     where
-      root_row : (k : Kept) → node_at (facts_at t) c.root.node ≡ Some k → standing_at k c.root ≡ None
+      root_row : (k : NodeState) → node_at (facts_at t) c.root.node ≡ Some k → standing_at k c.root ≡ None
       root_row k up =
           let top : Born = (call.placed t whole c).born in
           let me : top.me ≡ c.root = call.top_me t whole c in

@@ -7,7 +7,7 @@ use Rattle.std.proofs.lemmas.List.{append_assoc}
 use Rattle.node_rules.specs.Data.{Input, Place, Stmt}
 use Rattle.node_rules.specs.Data.inputs
 use Rattle.node_rules.specs.Data.stmts
-use Rattle.node_rules.specs.Kept.{Kept}
+use Rattle.node_rules.specs.NodeState.{NodeState}
 use Rattle.node_rules.specs.Sessions.{commit_complete}
 use Rattle.net_bag.specs.Net.{first_flying}
 use Rattle.run_rules.specs.Calls.{is_call_at}
@@ -23,7 +23,7 @@ use Rattle.run_rules.specs.Lawful.{Comes as Comes_lawful}
 use Rattle.run_rules.specs.Lines.{spent}
 use Rattle.run_rules.specs.Past.{delivered_more, is_call, next, past}
 use Rattle.run_claims.specs.Places.{past_upto}
-use Rattle.run_rules.specs.Telling.{Call, Past, start}
+use Rattle.run_rules.specs.RunReport.{Call, Past, start}
 use Rattle.run_rules.proofs.FactLemmas.{facts_are}
 use Rattle.run_base_laws.proofs.PastLemmas.{past_on}
 use Rattle.answer_origin_laws.proofs.CallAtLemmas.{HasShape, Plain, Commits, IsSecond}
@@ -108,28 +108,28 @@ module _ (t : History) (run : IsTheRunOf t) (front later : List Happening) (c : 
   pub own : command_at t.commands p.facts.command ≡ commands.At c.call.node c.session (Some (stmts.Commit c.comment))
   own = ap (λ (f : Facts). command_at t.commands f.command) facts_before ∙ goes.own
 
-  pub its : AllByRecursion (λ (x : Call). x.command ≡ p.facts.command) p.telling.calls
-  its = subst (λ (q : Past). q.telling.hold ≡ false → is_hold (command_at t.commands q.facts.command) ≡ false → AllByRecursion (λ (x : Call). x.command ≡ q.facts.command) q.telling.calls) upto (commands_hold_their_call t run i) goes.off (ap is_hold own)
+  pub its : AllByRecursion (λ (x : Call). x.command ≡ p.facts.command) p.run_report.calls
+  its = subst (λ (q : Past). q.run_report.hold ≡ false → is_hold (command_at t.commands q.facts.command) ≡ false → AllByRecursion (λ (x : Call). x.command ≡ q.facts.command) q.run_report.calls) upto (commands_hold_their_call t run i) goes.off (ap is_hold own)
 
-  shapes : AllByRecursion (HasShape t.commands) p.telling.calls
-  shapes = subst (λ (q : Past). AllByRecursion (HasShape t.commands) q.telling.calls) upto (all_so t run i).shapes
+  shapes : AllByRecursion (HasShape t.commands) p.run_report.calls
+  shapes = subst (λ (q : Past). AllByRecursion (HasShape t.commands) q.run_report.calls) upto (all_so t run i).shapes
 
-  may : (k : Kept) × MayTurn t.places p.facts c.call k
-  may = subst (λ (q : Past). (k : Kept) × MayTurn t.places q.facts c.call k) upto (may_at t run i (happenings.Turn c.call) there)
+  may : (k : NodeState) × MayTurn t.places p.facts c.call k
+  may = subst (λ (q : Past). (k : NodeState) × MayTurn t.places q.facts c.call k) upto (may_at t run i (happenings.Turn c.call) there)
 
   settled : IsSettled p.facts
   settled = may.1.settled
 
-  stands : p.telling.start_to_stop ≡ None
+  stands : p.run_report.start_to_stop ≡ None
   stands = stands_here t.places t.commands p settled.told settled.upright c.call due
 
-  alone : p.telling.next_call ≡ None
-  alone = by p.telling.next_call refl
+  alone : p.run_report.next_call ≡ None
+  alone = by p.run_report.next_call refl
     where
-      by : (o : Option Call) → p.telling.next_call ≡ o → o ≡ None
+      by : (o : Option Call) → p.run_report.next_call ≡ o → o ≡ None
       by None at = refl
       by (Some x) at =
-          let second : IsSecond t.commands x = ((subst (λ (q : Past). (y : Call) → q.telling.next_call ≡ Some y → IsSecond t.commands y) upto (λ y is. ((all_so t run i).next y is).0)) x at) in
+          let second : IsSecond t.commands x = ((subst (λ (q : Past). (y : Call) → q.run_report.next_call ≡ Some y → IsSecond t.commands y) upto (λ y is. ((all_so t run i).next y is).0)) x at) in
           let one : c.call.input ≡ inputs.Call x.session x.statement = follows_here t.places t.commands p settled.told settled.upright stands x at c.call due in
           let two : c.call.input ≡ inputs.Call c.session (Some (stmts.Commit c.comment)) = c.asks in
           let both : inputs.Call x.session x.statement ≡ inputs.Call c.session (Some (stmts.Commit c.comment)) = sym one ∙ two in
@@ -140,14 +140,14 @@ module _ (t : History) (run : IsTheRunOf t) (front later : List Happening) (c : 
           absurd cc
 
   -- its call alone is pending
-  pub one_call : HasOne c.call.node c.session p.telling
-  one_call = record { calls = all_its t.commands p.facts.command c.call.node c.session c.comment own p.telling.calls its shapes; alone = alone }
+  pub one_call : HasOne c.call.node c.session p.run_report
+  one_call = record { calls = all_its t.commands p.facts.command c.call.node c.session c.comment own p.run_report.calls its shapes; alone = alone }
 
   -- it is the first thing to happen in its command
-  fresh : p.telling.acted ≡ false
-  fresh = by p.telling.acted refl
+  fresh : p.run_report.acted ≡ false
+  fresh = by p.run_report.acted refl
     where
-      flows : p.telling.acted ≡ true → Flows c.call.node c.session p
+      flows : p.run_report.acted ≡ true → Flows c.call.node c.session p
       flows acted = record { acted = acted; off = goes.off; stands = stands; upright = settled.upright; one = one_call }
 
       call : is_call c.call.input ≡ true
@@ -157,13 +157,13 @@ module _ (t : History) (run : IsTheRunOf t) (front later : List Happening) (c : 
       other_input _ (Delivery k u at few other whole took) same = (let it : u ≡ c.call = cc in let input : is_call c.call.input ≡ false = subst (λ (v : Turn). is_call v.input ≡ false) it other in cc (input, call))
       other_input _ (Give_up u x xs at why other whole) same = (let it : u ≡ c.call = cc in let input : is_call c.call.input ≡ false = subst (λ (v : Turn). is_call v.input ≡ false) it other in cc (input, call))
 
-      by : (q : Bool) → p.telling.acted ≡ q → q ≡ false
+      by : (q : Bool) → p.run_report.acted ≡ q → q ≡ false
       by true acted = absurd (other_input (happenings.Turn c.call) (comes_so c.call.node c.session t.places t.commands p (flows acted) (happenings.Turn c.call) goes.whole due).1 refl)
       by false none = refl
 
   -- no message was delivered before
-  none_before : p.telling.deliveries ≡ 0
-  none_before = (subst (λ (q : Past). q.telling.acted ≡ false → q.telling.deliveries ≡ 0) upto (fresh_deliveries t i)) fresh
+  none_before : p.run_report.deliveries ≡ 0
+  none_before = (subst (λ (q : Past). q.run_report.acted ≡ false → q.run_report.deliveries ≡ 0) upto (fresh_deliveries t i)) fresh
 
   -- ---- after it
 
@@ -183,9 +183,9 @@ module _ (t : History) (run : IsTheRunOf t) (front later : List Happening) (c : 
       by None at comes = refl
       by (Some k) at comes = absurd (subst (Comes_so (inputs.Call c.session (Some (stmts.Commit c.comment)))) at comes)
 
-  pub first_none : first.telling.deliveries ≡ 0
+  pub first_none : first.run_report.deliveries ≡ 0
   unfolding next
-  first_none = (turn_way p.facts.command (node_at p.facts c.call.node) p.telling c.call (outcome_at t.places p.facts c.call)).deliveries ∙ (ap (λ o. (delivered_more p.telling o).deliveries) none_taken ∙ none_before)
+  first_none = (turn_way p.facts.command (node_at p.facts c.call.node) p.run_report c.call (outcome_at t.places p.facts c.call)).deliveries ∙ (ap (λ o. (delivered_more p.run_report o).deliveries) none_taken ∙ none_before)
 
   pub first_run : IsTheRun t.places t.commands first (c.during ++ later)
   unfolding IsTheRun
@@ -207,10 +207,10 @@ module _ (t : History) (run : IsTheRunOf t) (front later : List Happening) (c : 
 
   -- where it has been answered no call is pending
   pub answered_so : (hs : List Happening) → AllByRecursion IsWholeTurn hs
-      → answers_from t.places t.commands (facts_by t.places t.commands c.before) c.call.node c.session (happenings.Turn c.call ∷ hs) ≡ commit_complete ∷ [] → (past t.places t.commands first hs).telling.calls ≡ []
+      → answers_from t.places t.commands (facts_by t.places t.commands c.before) c.call.node c.session (happenings.Turn c.call ∷ hs) ≡ commit_complete ∷ [] → (past t.places t.commands first hs).run_report.calls ≡ []
   unfolding past
   answered_so hs whole answers =
-      none_pending (past t.places t.commands first hs).telling.calls
+      none_pending (past t.places t.commands first hs).run_report.calls
       (answered_none c.call.node c.session t.places t.commands p (happenings.Turn c.call ∷ hs) one_call (goes.whole, whole)
       (λ none. (let it : answers_from t.places t.commands p.facts c.call.node c.session (happenings.Turn c.call ∷ hs) ≡ commit_complete ∷ []
       = ap (λ f. answers_from t.places t.commands f c.call.node c.session (happenings.Turn c.call ∷ hs)) facts_before ∙ answers in
@@ -225,9 +225,9 @@ commits_flow t run front later h c goes well k flying few =
     let flows = (its_course t run front (h ∷ later) c goes).flow in
     let run_end = run_on t.places t.commands (first t run front (h ∷ later) c goes) c.during (h ∷ later) (first_run t run front (h ∷ later) c goes) in
     by h (comes_so c.call.node c.session t.places t.commands end flows h well run_end.0).1
-    (ap (λ (f : Facts). first_flying f.net) (sym (facts_end t run front (h ∷ later) c goes)) ∙ flying) (ap (λ (q : Past). spent q.telling.deliveries) (sym (end_is t run front (h ∷ later) c goes)) ∙ few)
+    (ap (λ (f : Facts). first_flying f.net) (sym (facts_end t run front (h ∷ later) c goes)) ∙ flying) (ap (λ (q : Past). spent q.run_report.deliveries) (sym (end_is t run front (h ∷ later) c goes)) ∙ few)
   where
-    by : {q : Past} (g : Happening) → Comes c.call.node c.session q g → first_flying q.facts.net ≡ Some k → spent q.telling.deliveries ≡ false → Delivers k g
+    by : {q : Past} (g : Happening) → Comes c.call.node c.session q g → first_flying q.facts.net ≡ Some k → spent q.run_report.deliveries ≡ false → Delivers k g
     by _ (Delivery n u at more other whole took) flies yet =
         let both : Some n ≡ Some k = sym at ∙ flies in
         let same : n ≡ k = cc in
@@ -239,10 +239,10 @@ pub commits_end : CommitsEnd
 commits_end t run front later c goes answered still =
     let way = its_course t run front later c goes in
     let end : Past = past t.places t.commands (first t run front later c goes) c.during in
-    let calls : end.telling.calls ≡ [] = answered_so t run front later c goes c.during way.whole answered in
-    let told : end.facts.losses_to_tell ≡ [] = ap (λ (f : Facts). f.losses_to_tell) (sym (facts_end t run front later c goes)) ∙ still.0 in
+    let calls : end.run_report.calls ≡ [] = answered_so t run front later c goes c.during way.whole answered in
+    let told : end.facts.losses_to_report ≡ [] = ap (λ (f : Facts). f.losses_to_report) (sym (facts_end t run front later c goes)) ∙ still.0 in
     let none : first_flying end.facts.net ≡ None = ap (λ (f : Facts). first_flying f.net) (sym (facts_end t run front later c goes)) ∙ still.1 in
     let next_due = end_due c.call.node c.session t.places t.commands end way.flow told none calls in (
-      ap (λ (q : Past). q.telling.calls) (end_is t run front later c goes) ∙ calls,
+      ap (λ (q : Past). q.run_report.calls) (end_is t run front later c goes) ∙ calls,
       ap (due_of t.commands) (end_is t run front later c goes) ∙ (next_due ∙ ap (next_command t.commands) (sym (facts_end t run front later c goes))),
     )

@@ -4,7 +4,7 @@ use Rattle.std.proofs.Common.{◌≡◌, ℕ, ◌==◌, ◌&&◌, not, Bool, tru
 use Rattle.std.proofs.lemmas.Bool.{cond_both}
 use Rattle.node_rules.specs.Data.{Input, Place}
 use Rattle.node_rules.specs.Data.inputs
-use Rattle.node_rules.specs.Kept.{Kept, Outcome}
+use Rattle.node_rules.specs.NodeState.{NodeState, Outcome}
 use Rattle.node_rules.specs.Turn.{turn_of}
 use Rattle.net_bag.specs.Net.{may_deliver, may_repeat, packet_at, first_flying}
 use Rattle.run_rules.specs.Calls.{call_at}
@@ -14,23 +14,23 @@ use Rattle.run_rules.specs.Data.{Command, Happening, Packet, Took, Turn}
 use Rattle.run_rules.specs.Data.commands
 use Rattle.run_rules.specs.Data.happenings
 use Rattle.run_rules.specs.Disks.{Strike, struck}
-use Rattle.run_rules.specs.Due.{Due, Tells, Falls, Pends, Gives_up, Delivers, Recovers, Cuts, Joins, Loses, Stops, Starts, Begins, Ends, if_due, call_due, act_of, next_give_up, next_delivery, most_of, next_pumped, flows, acts_first, acts_once, follows_first, falls_first, tells_first, due_of, turn_by, turn_comes, turn_at, start_by, delivery_at, happens, comes_next}
+use Rattle.run_rules.specs.Due.{Due, Tells, Falls, Pends, Gives_up, Delivers, Recovers, Cuts, Joins, Loses, Stops, Starts, Begins, Ends, if_due, call_due, act_of, next_give_up, next_delivery, most_of, next_pumped, flows, acts_first, acts_once, follows_first, falls_first, first_losses, due_of, turn_by, turn_comes, turn_at, start_by, delivery_at, happens, comes_next}
 use Rattle.run_rules.specs.Facts.{Facts, command_at, is_up, node_at, place_at}
 use Rattle.run_rules.specs.Lines.{spent}
 use Rattle.run_rules.specs.Past.{is_call}
-use Rattle.run_rules.specs.Telling.{Call, Past, Telling, orders_at}
+use Rattle.run_rules.specs.RunReport.{Call, Past, RunReport, orders_at}
 
 -- ---- a turn that is due
 
 module _ (P : Happening → Type 0) (places : List Place) (p : Past) where
-  pub turn_is : (node : ℕ) (input : Input) (took : Option Took) (o : Option Kept) (h : Happening) → ((u : Turn) → u.input ≡ input → u.took ≡ took → P (happenings.Turn u))
-      → turn_at places p.telling node input took o ≡ Some h → P h
+  pub turn_is : (node : ℕ) (input : Input) (took : Option Took) (o : Option NodeState) (h : Happening) → ((u : Turn) → u.input ≡ input → u.took ≡ took → P (happenings.Turn u))
+      → turn_at places p.run_report node input took o ≡ Some h → P h
   turn_is node input took None h each is = absurd cc
   turn_is node input took (Some k) h each is =
       let o : Outcome = turn_of (place_at places node) k input in
-      let it : Some (turn_comes p.telling node input took k o) ≡ Some h = is in
-      let same : turn_comes p.telling node input took k o ≡ h = cc in
-      subst P same (by o (cut_by p.telling node k input o))
+      let it : Some (turn_comes p.run_report node input took k o) ≡ Some h = is in
+      let same : turn_comes p.run_report node input took k o ≡ h = cc in
+      subst P same (by o (cut_by p.run_report node k input o))
     where
       by : (o : Outcome) (c : Cut_by) → P (turn_by node input took o c)
       by o By_nothing = each _ refl refl
@@ -53,8 +53,8 @@ module _ (places : List Place) (asked : List Command) (p : Past) where
   abbrev f : Facts
   f = p.facts
 
-  abbrev t : Telling
-  t = p.telling
+  abbrev t : RunReport
+  t = p.run_report
 
   start_is : (n : ℕ) (o : Option Strike) → IsNoBegin (start_by f n o)
   start_is n None = tt
@@ -157,13 +157,13 @@ module _ (places : List Place) (asked : List Command) (p : Past) where
     stop_begins None is = start_begins t.start_to_stop is
     stop_begins (Some n) is = absurd cc
 
-    tell_begins : (ks : List ℕ) → tells_first (falls_first (falls_first (follows_first (acts_once asked f t) t.next_call) t.start_to_stop) f.node_to_stop) ks ≡ Begins c → IsOver
+    tell_begins : (ks : List ℕ) → first_losses (falls_first (falls_first (follows_first (acts_once asked f t) t.next_call) t.start_to_stop) f.node_to_stop) ks ≡ Begins c → IsOver
     tell_begins [] is = stop_begins f.node_to_stop is
     tell_begins (k ∷ ks) is = absurd cc
 
     due_begins : due_of asked p ≡ Begins c → IsOver
     unfolding due_of
-    due_begins is = tell_begins f.losses_to_tell is
+    due_begins is = tell_begins f.losses_to_report is
 
     -- a command begins
     pub begun_over : comes_next places asked p ≡ Some (happenings.Begun c) → IsOver
@@ -172,14 +172,14 @@ module _ (places : List Place) (asked : List Command) (p : Past) where
   -- ---- in the course of a command
 
   -- a loss comes first
-  pub told_first : (k : ℕ) (ks : List ℕ) → f.losses_to_tell ≡ k ∷ ks → due_of asked p ≡ Tells k
+  pub told_first : (k : ℕ) (ks : List ℕ) → f.losses_to_report ≡ k ∷ ks → due_of asked p ≡ Tells k
   unfolding due_of
-  told_first k ks at = ap (tells_first (falls_first (falls_first (follows_first (acts_once asked f t) t.next_call) t.start_to_stop) f.node_to_stop)) at
+  told_first k ks at = ap (first_losses (falls_first (falls_first (follows_first (acts_once asked f t) t.next_call) t.start_to_stop) f.node_to_stop)) at
 
-  module _ (told : f.losses_to_tell ≡ []) (upright : f.node_to_stop ≡ None) where
+  module _ (told : f.losses_to_report ≡ []) (upright : f.node_to_stop ≡ None) where
     settled_due : due_of asked p ≡ falls_first (follows_first (acts_once asked f t) t.next_call) t.start_to_stop
     unfolding due_of
-    settled_due = ap (tells_first (falls_first (falls_first (follows_first (acts_once asked f t) t.next_call) t.start_to_stop) f.node_to_stop)) told
+    settled_due = ap (first_losses (falls_first (falls_first (follows_first (acts_once asked f t) t.next_call) t.start_to_stop) f.node_to_stop)) told
         ∙ ap (falls_first (falls_first (follows_first (acts_once asked f t) t.next_call) t.start_to_stop)) upright
 
     -- no start was struck where a turn comes

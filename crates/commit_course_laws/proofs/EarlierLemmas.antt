@@ -6,7 +6,7 @@ use Rattle.std.specs.Option.{option_to_list}
 use Rattle.std.proofs.lemmas.List.{append_assoc}
 use Rattle.node_rules.specs.Data.{BranchId, Input, Msg, Place}
 use Rattle.node_rules.specs.Data.inputs
-use Rattle.node_rules.specs.Kept.{Kept}
+use Rattle.node_rules.specs.NodeState.{NodeState}
 use Rattle.node_rules.specs.Turn.{turn_of}
 use Rattle.node_rules.specs.Words.{same, numbered}
 use Rattle.net_bag.specs.Net.{Net, is_flying, sent_one, sent_on, fated, with_fate, packet, packet_at, delivered}
@@ -175,7 +175,7 @@ module _ (few many : List BranchId) (within : (x : BranchId) → is_among x few 
 -- ---- nodes
 
 module _ (t : History) (lawful : IsLawfulRun t) where
-  boot_is : (hs : List Happening) → Part t lawful hs → (n : ℕ) (k : Kept) → node_at (f_at t hs) n ≡ Some k → k.stored.durable.boot ≡ boots (records_at (f_at t hs) n)
+  boot_is : (hs : List Happening) → Part t lawful hs → (n : ℕ) (k : NodeState) → node_at (f_at t hs) n ≡ Some k → k.stored.durable.boot ≡ boots (records_at (f_at t hs) n)
   boot_is hs part n k up =
       let s : History = so_far t hs in
       let node = node_so s.places s.commands s.of_a_script.each (facts_at s) (events_of s) (run_stands s (part_lawful t lawful hs part)) n k up in
@@ -201,10 +201,10 @@ module _ (t : History) (lawful : IsLawfulRun t) where
       even : length f.nodes ≡ length f.records
       even = (run_stands (so_far t hs) (part_lawful t lawful hs part)).0.even
 
-      may : (k : Kept) × MayTurn t.places f u k
+      may : (k : NodeState) × MayTurn t.places f u k
       may = may_of t lawful hs (happenings.Turn u) rest is
 
-      boot_same : (k x : Kept) → node_at f u.node ≡ Some k → MayTurn t.places f u k → node_at g u.node ≡ Some x → x.stored.durable.boot ≡ k.stored.durable.boot
+      boot_same : (k x : NodeState) → node_at f u.node ≡ Some k → MayTurn t.places f u k → node_at g u.node ≡ Some x → x.stored.durable.boot ≡ k.stored.durable.boot
       boot_same k x up comes left =
           let p = place_at t.places u.node in
           let of_turn : IfSome u.wrote IsOfTurn = of_wrote p k u (serves t.places f u k comes) (λ w. IfSome w IsOfTurn) tt (step_of_turn p u.input (serves t.places f u k comes).step) in
@@ -212,16 +212,16 @@ module _ (t : History) (lawful : IsLawfulRun t) where
           let there : node_at (f_at t after) u.node ≡ Some x = ap (λ (y : Facts). node_at y u.node) (one_on t hs (happenings.Turn u)) ∙ left in
           boot_is after part_after u.node x there ∙ (ap (λ (y : Facts). boots (records_at y u.node)) (one_on t hs (happenings.Turn u)) ∙ (ap boots disk ∙ (boots_with (records_at f u.node) u.wrote of_turn ∙ sym (boot_is hs part u.node k up))))
 
-      boot_here : (k : Kept) → node_at f u.node ≡ Some k → MayTurn t.places f u k → option_map (λ (y : Kept). y.stored.durable.boot) (node_at g u.node) ≡ option_map (λ (y : Kept). y.stored.durable.boot) (node_at f u.node)
+      boot_here : (k : NodeState) → node_at f u.node ≡ Some k → MayTurn t.places f u k → option_map (λ (y : NodeState). y.stored.durable.boot) (node_at g u.node) ≡ option_map (λ (y : NodeState). y.stored.durable.boot) (node_at f u.node)
       boot_here k up comes =
-          let x : Kept = (turn_of (place_at t.places u.node) k u.input).after in
+          let x : NodeState = (turn_of (place_at t.places u.node) k u.input).after in
           let left : node_at g u.node ≡ Some x = (turn_here t.places t.commands f even u k up).0 ∙ ap (λ q. kept_after q (Some (turn_of (place_at t.places u.node) k u.input))) whole in
-          ap (option_map (λ (y : Kept). y.stored.durable.boot)) left ∙ (ap Some (boot_same k x up comes left) ∙ sym (ap (option_map (λ (y : Kept). y.stored.durable.boot)) up))
+          ap (option_map (λ (y : NodeState). y.stored.durable.boot)) left ∙ (ap Some (boot_same k x up comes left) ∙ sym (ap (option_map (λ (y : NodeState). y.stored.durable.boot)) up))
 
       stopped_turn : HasNotStopped (f_at t after) b → HasNotStopped f b
       stopped_turn stays = elim (cases_nat u.node b.node) [
-        | inl here ↦ (let same_boot = subst (λ i. option_map (λ (y : Kept). y.stored.durable.boot) (node_at g i) ≡ option_map (λ (y : Kept). y.stored.durable.boot) (node_at f i)) here (boot_here may.0 may.1.up may.1) in sym same_boot ∙ now)
-        | inr other ↦ sym (ap (option_map (λ (y : Kept). y.stored.durable.boot)) (turn_elsewhere t.places t.commands f even u b.node other).0) ∙ now
+        | inl here ↦ (let same_boot = subst (λ i. option_map (λ (y : NodeState). y.stored.durable.boot) (node_at g i) ≡ option_map (λ (y : NodeState). y.stored.durable.boot) (node_at f i)) here (boot_here may.0 may.1.up may.1) in sym same_boot ∙ now)
+        | inr other ↦ sym (ap (option_map (λ (y : NodeState). y.stored.durable.boot)) (turn_elsewhere t.places t.commands f even u b.node other).0) ∙ now
       ]
         where
           now : HasNotStopped g b

@@ -6,7 +6,7 @@ use Rattle.std.specs.List.{AllByRecursion}
 use Rattle.node_rules.specs.Data.{Place, Stmt}
 use Rattle.node_rules.specs.Data.inputs
 use Rattle.node_rules.specs.declared.session.Finished.{Finished}
-use Rattle.node_rules.specs.Kept.{Kept, Outcome}
+use Rattle.node_rules.specs.NodeState.{NodeState, Outcome}
 use Rattle.net_bag.specs.Net.{first_flying, packet_at}
 use Rattle.run_rules.specs.Calls.{is_call_at, call_at, without_call, ends_or_follows, finished_call, finished}
 use Rattle.run_rules.specs.Cuts.{turn_appends}
@@ -16,8 +16,8 @@ use Rattle.run_rules.specs.Due.{Tells, Delivers, Begins, Ends, next_command, nex
 use Rattle.run_rules.specs.Facts.{Facts, node_at, outcome_at}
 use Rattle.run_rules.specs.Reported.{IsBetween}
 use Rattle.run_rules.specs.Lines.{says_node, spent}
-use Rattle.run_rules.specs.Past.{delivered_more, is_call, without_following, ends_calls, telling_turned, next, past}
-use Rattle.run_rules.specs.Telling.{Call, Past, Telling}
+use Rattle.run_rules.specs.Past.{delivered_more, is_call, without_following, ends_calls, report_turned, next, past}
+use Rattle.run_rules.specs.RunReport.{Call, Past, RunReport}
 use Rattle.run_ready_laws.proofs.PendingLemmas.{found_so, line_same}
 use Rattle.answer_origin_laws.proofs.ComeLemmas.{input_same}
 use Rattle.run_claims.specs.CommitCourse.{GoesWell}
@@ -37,42 +37,42 @@ module _ (node session : ℕ) where
   IsItsCall c = (is_call_at node session c ≡ true) × (c.follows ≡ None)
 
   -- No other call is pending, and none follows.
-  pub record HasOne (t : Telling) : Type 0 where
+  pub record HasOne (t : RunReport) : Type 0 where
     pub calls : AllByRecursion IsItsCall t.calls
     pub alone : t.next_call ≡ None
 
   module _ (running : ℕ) where
-    ends_alone : (t : Telling) (c : Call) (f : Finished) (o : Option Stmt) → o ≡ None → t.next_call ≡ None → (ends_or_follows running t c f o).next_call ≡ None
+    ends_alone : (t : RunReport) (c : Call) (f : Finished) (o : Option Stmt) → o ≡ None → t.next_call ≡ None → (ends_or_follows running t c f o).next_call ≡ None
     ends_alone t c f None is alone = (line_same running (without_call t c.node c.session) c.command (says_node f)).next_call ∙ alone
     ends_alone t c f (Some s) is alone = absurd cc
 
-    call_alone : (t : Telling) (f : Finished) (o : Option Call) → ((c : Call) → o ≡ Some c → c.follows ≡ None) → t.next_call ≡ None → (finished_call running t f o).next_call ≡ None
+    call_alone : (t : RunReport) (f : Finished) (o : Option Call) → ((c : Call) → o ≡ Some c → c.follows ≡ None) → t.next_call ≡ None → (finished_call running t f o).next_call ≡ None
     call_alone t f None last alone = alone
     call_alone t f (Some c) last alone = ends_alone t c f c.follows (last c refl) alone
 
-    pub one_ends : (m : ℕ) (t : Telling) (f : Finished) → HasOne t → HasOne (finished_call running t f (call_at t m f.session))
+    pub one_ends : (m : ℕ) (t : RunReport) (f : Finished) → HasOne t → HasOne (finished_call running t f (call_at t m f.session))
     one_ends m t f one = record {
       calls = finished_so IsItsCall (λ c s so. (so.0, refl)) running m t (f ∷ []) one.calls;
       alone = call_alone t f (call_at t m f.session) (λ c at. (found_so IsItsCall (is_call_at m f.session) t.calls c one.calls at).0.1) one.alone;
     }
 
-    pub one_finished : (m : ℕ) (t : Telling) (fs : List Finished) → HasOne t → HasOne (finished running t m fs)
+    pub one_finished : (m : ℕ) (t : RunReport) (fs : List Finished) → HasOne t → HasOne (finished running t m fs)
     one_finished m t [] one = one
     one_finished m t (f ∷ fs) one = one_finished m (finished_call running t f (call_at t m f.session)) fs (one_ends m t f one)
 
-    one_after : (t : Telling) (u : Turn) (cut : Bool) (o : Option Outcome) → HasOne t → HasOne (ends_calls running t u cut o)
+    one_after : (t : RunReport) (u : Turn) (cut : Bool) (o : Option Outcome) → HasOne t → HasOne (ends_calls running t u cut o)
     one_after t u true o one = one
     one_after t u false None one = one
     one_after t u false (Some o) one =
-        let v : Telling = finished running t u.node o.ended in
+        let v : RunReport = finished running t u.node o.ended in
         let ended : HasOne v = one_finished u.node t o.ended one in
         let same = input_same v running u.node u.input in
         record { calls = subst (AllByRecursion IsItsCall) (sym same.0) ended.calls; alone = same.1 ∙ ended.alone }
 
-    pub one_before : (k : Option Kept) (t : Telling) (u : Turn) (o : Option Outcome) → HasOne t → HasOne (without_following (delivered_more (turn_appends t u.node u.input k o) u.took) u.input)
+    pub one_before : (k : Option NodeState) (t : RunReport) (u : Turn) (o : Option Outcome) → HasOne t → HasOne (without_following (delivered_more (turn_appends t u.node u.input k o) u.took) u.input)
     one_before k t u o one = let before = turn_before t u.node u.input k o u.took in record { calls = subst (AllByRecursion IsItsCall) (sym before.calls) one.calls; alone = before.next_call one.alone }
 
-    pub one_turn : (k : Option Kept) (t : Telling) (u : Turn) (o : Option Outcome) → HasOne t → HasOne (telling_turned running k t u o)
+    pub one_turn : (k : Option NodeState) (t : RunReport) (u : Turn) (o : Option Outcome) → HasOne t → HasOne (report_turned running k t u o)
     one_turn k t u o one =
         let after = one_after (without_following (delivered_more (turn_appends t u.node u.input k o) u.took) u.input) u u.cut o (one_before k t u o one) in record { calls = after.calls; alone = after.alone }
 
@@ -80,36 +80,36 @@ module _ (node session : ℕ) where
 
   -- With HOLD off the deliveries of a command go on.
   pub record Flows (p : Past) : Type 0 where
-    pub acted : p.telling.acted ≡ true
-    pub off : p.telling.hold ≡ false
-    pub stands : p.telling.start_to_stop ≡ None
+    pub acted : p.run_report.acted ≡ true
+    pub off : p.run_report.hold ≡ false
+    pub stands : p.run_report.start_to_stop ≡ None
     pub upright : p.facts.node_to_stop ≡ None
-    pub one : HasOne p.telling
+    pub one : HasOne p.run_report
 
   -- What comes next: a delivery, or a give-up where there is none to make.
   pub data Comes (p : Past) : Happening → Type 0 where
-    Delivery : (k : ℕ) (u : Turn) → first_flying p.facts.net ≡ Some k → spent p.telling.deliveries ≡ false → is_call u.input ≡ false → u.cut ≡ false → u.took ≡ Some (record { number = k; again = false }) → Comes p (happenings.Turn u)
-    Give_up : (u : Turn) (c : Call) (cs : List Call) → p.telling.calls ≡ c ∷ cs → (first_flying p.facts.net ≡ None) ⊎ (spent p.telling.deliveries ≡ true) → is_call u.input ≡ false → u.cut ≡ false → Comes p (happenings.Turn u)
+    Delivery : (k : ℕ) (u : Turn) → first_flying p.facts.net ≡ Some k → spent p.run_report.deliveries ≡ false → is_call u.input ≡ false → u.cut ≡ false → u.took ≡ Some (record { number = k; again = false }) → Comes p (happenings.Turn u)
+    Give_up : (u : Turn) (c : Call) (cs : List Call) → p.run_report.calls ≡ c ∷ cs → (first_flying p.facts.net ≡ None) ⊎ (spent p.run_report.deliveries ≡ true) → is_call u.input ≡ false → u.cut ≡ false → Comes p (happenings.Turn u)
 
   module _ (places : List Place) (asked : List Command) where
-    pub flows_turn : (p : Past) (u : Turn) → p.telling.hold ≡ false → p.telling.start_to_stop ≡ None → HasOne p.telling → u.cut ≡ false → Flows (next places asked p (happenings.Turn u))
+    pub flows_turn : (p : Past) (u : Turn) → p.run_report.hold ≡ false → p.run_report.start_to_stop ≡ None → HasOne p.run_report → u.cut ≡ false → Flows (next places asked p (happenings.Turn u))
     unfolding next
     flows_turn p u off stands one whole =
         let o : Option Outcome = outcome_at places p.facts u in
-        let way = turn_way p.facts.command (node_at p.facts u.node) p.telling u o in record {
+        let way = turn_way p.facts.command (node_at p.facts u.node) p.run_report u o in record {
           acted = way.acted;
           off = way.hold ∙ off;
           stands = way.start ∙ stands;
           upright = ap (λ q. if q then Some u.node else None) whole;
-          one = one_turn p.facts.command (node_at p.facts u.node) p.telling u o one;
+          one = one_turn p.facts.command (node_at p.facts u.node) p.run_report u o one;
         }
 
     module _ (p : Past) where
       abbrev f : Facts
       f = p.facts
 
-      abbrev t : Telling
-      t = p.telling
+      abbrev t : RunReport
+      t = p.run_report
 
       -- where nothing is to be delivered
       module _ (why : (first_flying f.net ≡ None) ⊎ (spent t.deliveries ≡ true)) where
@@ -145,16 +145,16 @@ module _ (node session : ℕ) where
           by false more due = absurd due
 
       module _ (flow : Flows p) where
-        due_now : f.losses_to_tell ≡ [] → due_of asked p ≡ next_delivery asked f t (first_flying f.net)
+        due_now : f.losses_to_report ≡ [] → due_of asked p ≡ next_delivery asked f t (first_flying f.net)
         due_now told = flow_due places asked p told flow.upright flow.stands flow.one.alone flow.acted flow.off
 
-        tells_now : (k : ℕ) (ks : List ℕ) → f.losses_to_tell ≡ k ∷ ks → due_of asked p ≡ Tells k
+        tells_now : (k : ℕ) (ks : List ℕ) → f.losses_to_report ≡ k ∷ ks → due_of asked p ≡ Tells k
         tells_now k ks at = told_first places asked p k ks at
 
-        pub comes_so : (h : Happening) → GoesWell h → comes_next places asked p ≡ Some h → (f.losses_to_tell ≡ []) × Comes p h
-        comes_so h well is = by f.losses_to_tell refl
+        pub comes_so : (h : Happening) → GoesWell h → comes_next places asked p ≡ Some h → (f.losses_to_report ≡ []) × Comes p h
+        comes_so h well is = by f.losses_to_report refl
           where
-            by : (ks : List ℕ) → f.losses_to_tell ≡ ks → (ks ≡ []) × Comes p h
+            by : (ks : List ℕ) → f.losses_to_report ≡ ks → (ks ≡ []) × Comes p h
             by [] told = (refl, delivery_comes (first_flying f.net) refl h well (ap (happens places p) (sym (due_now told)) ∙ is))
             by (k ∷ ks) told =
                 let it : Some (happenings.Lost k) ≡ Some h = ap (happens places p) (sym (tells_now k ks told)) ∙ is in
@@ -163,14 +163,14 @@ module _ (node session : ℕ) where
 
         -- a command that is done
         pub between_so : IsBetween (due_of asked p) → ((first_flying f.net ≡ None) ⊎ (spent t.deliveries ≡ true)) × (t.calls ≡ [])
-        between_so is = by f.losses_to_tell refl
+        between_so is = by f.losses_to_report refl
           where
-            by : (ks : List ℕ) → f.losses_to_tell ≡ ks → ((first_flying f.net ≡ None) ⊎ (spent t.deliveries ≡ true)) × (t.calls ≡ [])
+            by : (ks : List ℕ) → f.losses_to_report ≡ ks → ((first_flying f.net ≡ None) ⊎ (spent t.deliveries ≡ true)) × (t.calls ≡ [])
             by [] told = delivery_between (first_flying f.net) refl (subst IsBetween (due_now told) is)
             by (k ∷ ks) told = absurd (subst IsBetween (tells_now k ks told) is)
 
         -- where nothing is in flight and no call is pending, the next command is due
-        pub end_due : f.losses_to_tell ≡ [] → first_flying f.net ≡ None → t.calls ≡ [] → due_of asked p ≡ next_command asked f
+        pub end_due : f.losses_to_report ≡ [] → first_flying f.net ≡ None → t.calls ≡ [] → due_of asked p ≡ next_command asked f
         end_due told none calls = due_now told ∙ (ap (next_delivery asked f t) none ∙ ap (next_give_up asked f) calls)
 
     -- ---- all of it

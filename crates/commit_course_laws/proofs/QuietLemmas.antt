@@ -17,7 +17,7 @@ use Rattle.run_rules.specs.Scripts.{IsTheRunOf}
 use Rattle.run_rules.specs.Lawful.{History, IsLawfulRun}
 use Rattle.run_rules.specs.Lines.{spent}
 use Rattle.run_rules.specs.Past.{delivered_more, next, past}
-use Rattle.run_rules.specs.Telling.{Past, start}
+use Rattle.run_rules.specs.RunReport.{Past, start}
 use Rattle.run_rules.proofs.FactLemmas.{facts_are}
 use Rattle.run_rules.proofs.ListLemmas.{all_weaker}
 use Rattle.run_ready_laws.proofs.RunLawfulLemmas.{the_run_is_lawful}
@@ -29,7 +29,7 @@ use Rattle.run_claims.specs.CommitCourse.{GoesWell, QuietCommit, IsDone, QuietCo
 use Rattle.commit_course_laws.proofs.WayLemmas.{turn_way}
 use Rattle.commit_course_laws.proofs.FlowLemmas.{IsWholeTurn, Flows, Comes, Delivery, Give_up, comes_so, between_so, Further, further, Course}
 use Rattle.commit_course_laws.proofs.CourseLemmas.{first, first_none, first_flows, first_run, past_is, end_is, facts_end, its_course, answered_so}
-use Rattle.commit_course_laws.proofs.ToldLemmas.{answered_commits_are_told}
+use Rattle.commit_course_laws.proofs.ToldLemmas.{answered_commits_are_reported}
 use Rattle.commit_course_laws.proofs.EarlierLemmas.{all_front, all_back, lost_back, births_more, among_more, all_fewer, lost_fewer, calm_fewer, stopped_back}
 
 -- ---- deliveries alone
@@ -37,7 +37,7 @@ use Rattle.commit_course_laws.proofs.EarlierLemmas.{all_front, all_back, lost_ba
 module _ (node session : ℕ) (places : List Place) (asked : List Command) where
   -- no call is pending at a moment at which nothing is in flight
   abbrev pub EndsInTime : Past → List Happening → Type 0
-  EndsInTime p hs = (done rest : List Happening) → done ++ rest ≡ hs → AllByRecursion IsDelivery done → first_flying (past places asked p done).facts.net ≡ None → (past places asked p done).telling.calls ≡ []
+  EndsInTime p hs = (done rest : List Happening) → done ++ rest ≡ hs → AllByRecursion IsDelivery done → first_flying (past places asked p done).facts.net ≡ None → (past places asked p done).run_report.calls ≡ []
 
   -- the messages are delivered until none is in flight
   abbrev pub DeliversAll : Past → List Happening → Type 0
@@ -45,12 +45,12 @@ module _ (node session : ℕ) (places : List Place) (asked : List Command) where
 
   -- fewer than 4,096 deliveries have been made
   abbrev pub StayFew : Past → List Happening → Type 0
-  StayFew p hs = (done rest : List Happening) → done ++ rest ≡ hs → AllByRecursion IsDelivery done → spent (past places asked p done).telling.deliveries ≡ false
+  StayFew p hs = (done rest : List Happening) → done ++ rest ≡ hs → AllByRecursion IsDelivery done → spent (past places asked p done).run_report.deliveries ≡ false
 
   -- what comes is a delivery, where a call that is pending has messages in flight
-  one_delivery : (p : Past) (h : Happening) → Comes node session p h → (first_flying p.facts.net ≡ None → p.telling.calls ≡ []) → spent p.telling.deliveries ≡ false → IsDelivery h
+  one_delivery : (p : Past) (h : Happening) → Comes node session p h → (first_flying p.facts.net ≡ None → p.run_report.calls ≡ []) → spent p.run_report.deliveries ≡ false → IsDelivery h
   one_delivery p _ (Delivery k u at few other whole took) ends yet = (whole, k, took)
-  one_delivery p _ (Give_up u c cs calls (inl still) other whole) ends yet = (let none : p.telling.calls ≡ [] = ends still in absurd cc)
+  one_delivery p _ (Give_up u c cs calls (inl still) other whole) ends yet = (let none : p.run_report.calls ≡ [] = ends still in absurd cc)
   one_delivery p _ (Give_up u c cs calls (inr all) other whole) ends yet = absurd cc
 
   pub delivers_all : (p : Past) (hs later : List Happening) → Flows node session p → IsTheRun places asked p (hs ++ later) → AllByRecursion GoesWell hs → StayFew p hs → IsBetween (due_of asked (past places asked p hs)) → EndsInTime p hs → DeliversAll p hs
@@ -59,7 +59,7 @@ module _ (node session : ℕ) (places : List Place) (asked : List Command) where
     tt,
     elim (between_so node session places asked p flow done).0 [
       | inl still ↦ still
-      | inr all ↦ (let yet : spent p.telling.deliveries ≡ false = few [] [] refl tt in absurd cc)
+      | inr all ↦ (let yet : spent p.run_report.deliveries ≡ false = few [] [] refl tt in absurd cc)
     ],
   )
   delivers_all p (h ∷ hs) later flow run well few done ends =
@@ -73,13 +73,13 @@ module _ (node session : ℕ) (places : List Place) (asked : List Command) where
   -- ---- how many there are
 
   -- each delivery is counted
-  pub counted : (p : Past) (hs : List Happening) → AllByRecursion IsDelivery hs → (past places asked p hs).telling.deliveries ≡ p.telling.deliveries + length hs
+  pub counted : (p : Past) (hs : List Happening) → AllByRecursion IsDelivery hs → (past places asked p hs).run_report.deliveries ≡ p.run_report.deliveries + length hs
   unfolding past next
   counted p [] all = omega arith
   counted p (happenings.Turn u ∷ hs) all =
-      let one : (next places asked p (happenings.Turn u)).telling.deliveries ≡ p.telling.deliveries + 1
-      = (turn_way p.facts.command (node_at p.facts u.node) p.telling u (outcome_at places p.facts u)).deliveries ∙ ap (λ o. (delivered_more p.telling o).deliveries) all.0.2 in
-      let rest : (past places asked (next places asked p (happenings.Turn u)) hs).telling.deliveries ≡ (next places asked p (happenings.Turn u)).telling.deliveries + length hs = counted (next places asked p (happenings.Turn u)) hs all.1 in
+      let one : (next places asked p (happenings.Turn u)).run_report.deliveries ≡ p.run_report.deliveries + 1
+      = (turn_way p.facts.command (node_at p.facts u.node) p.run_report u (outcome_at places p.facts u)).deliveries ∙ ap (λ o. (delivered_more p.run_report o).deliveries) all.0.2 in
+      let rest : (past places asked (next places asked p (happenings.Turn u)) hs).run_report.deliveries ≡ (next places asked p (happenings.Turn u)).run_report.deliveries + length hs = counted (next places asked p (happenings.Turn u)) hs all.1 in
       omega (arith, one, rest)
   counted p (h ∷ hs) all = absurd all.0
 
@@ -178,17 +178,17 @@ module _ (complete : UndisturbedCommitsAreComplete) (t : History) (run : IsTheRu
     }
 
     -- so it has been answered where nothing is in flight
-    pub ends : AllByRecursion IsDelivery done → first_flying (past t.places t.commands p done).facts.net ≡ None → (past t.places t.commands p done).telling.calls ≡ []
+    pub ends : AllByRecursion IsDelivery done → first_flying (past t.places t.commands p done).facts.net ≡ None → (past t.places t.commands p done).run_report.calls ≡ []
     ends delivers still =
         answered_so t run front later c quiet.goes done whole_done
         (complete (so_far t sooner) (part_lawful t lawful sooner (record { rest = rest ++ later; is = trace_is })) c' (so_far_quiet delivers still)).answered
 
     -- and few have been delivered, where few are of every such COMMIT
-    pub few_so : DeliveriesStayBelow → AllByRecursion IsDelivery done → spent (past t.places t.commands p done).telling.deliveries ≡ false
+    pub few_so : DeliveriesStayBelow → AllByRecursion IsDelivery done → spent (past t.places t.commands p done).run_report.deliveries ≡ false
     few_so law delivers =
         let below : length done < 4096 = law (so_far t sooner) (part_lawful t lawful sooner (record { rest = rest ++ later; is = trace_is })) c' (record { still = quiet.still; whole = quiet.goes.whole; delivers = delivers; calm = calm_sooner }) in
-        let none : p.telling.deliveries ≡ 0 = first_none t run front later c quiet.goes in
-        let count : (past t.places t.commands p done).telling.deliveries ≡ p.telling.deliveries + length done = counted c.call.node c.session t.places t.commands p done delivers in
+        let none : p.run_report.deliveries ≡ 0 = first_none t run front later c quiet.goes in
+        let count : (past t.places t.commands p done).run_report.deliveries ≡ p.run_report.deliveries + length done = counted c.call.node c.session t.places t.commands p done delivers in
         grind (arith, nat_tests, below, none, count)
 
   -- ---- the end of the command
@@ -214,7 +214,7 @@ module _ (complete : UndisturbedCommitsAreComplete) (t : History) (run : IsTheRu
     pub its_end : IsDone t front c
     its_end =
         let end : IsComplete t.places t.commands front c = complete (so_far t front) (part_lawful t lawful front (record { rest = later; is = quiet.goes.within })) c undisturbed in
-        record { undisturbed = undisturbed; complete = end; told = answered_commits_are_told t run front later c quiet.goes end.answered }
+        record { undisturbed = undisturbed; complete = end; told = answered_commits_are_reported t run front later c quiet.goes end.answered }
 
 pub quiet_commits_follow : UndisturbedCommitsAreComplete → DeliveriesStayBelow → QuietCommitsAreComplete
 quiet_commits_follow complete law t run front later c quiet = its_end complete t run front later c quiet (λ done rest is delivers. few_so complete t run front later c quiet done rest is law delivers)

@@ -8,7 +8,7 @@ use Rattle.node_rules.specs.Data.{Answer, Stmt}
 use Rattle.node_rules.specs.Data.stmts
 use Rattle.node_rules.specs.Sessions.{commit_complete}
 use Rattle.node_rules.specs.declared.session.Finished.{Finished}
-use Rattle.node_rules.specs.Kept.{Outcome}
+use Rattle.node_rules.specs.NodeState.{Outcome}
 use Rattle.run_rules.specs.Calls.{is_call_at, call_at, finished_call, finished}
 use Rattle.run_rules.specs.Cuts.{turn_appends}
 use Rattle.run_rules.specs.Data.{Happening, Turn}
@@ -20,8 +20,8 @@ use Rattle.run_rules.specs.Scripts.{IsTheRunOf}
 use Rattle.run_rules.specs.Lawful.{History}
 use Rattle.run_rules.specs.Lines.{line}
 use Rattle.run_rules.specs.Past.{delivered_more, without_following, ends_calls, next, past}
-use Rattle.run_claims.specs.Places.{past_upto, told_of}
-use Rattle.run_rules.specs.Telling.{Call, Past, Telling, start}
+use Rattle.run_claims.specs.Places.{past_upto, reported_of}
+use Rattle.run_rules.specs.RunReport.{Call, Past, RunReport, start}
 use Rattle.run_rules.specs.Trail.{ended_by}
 use Rattle.run_rules.proofs.FactLemmas.{facts_next}
 use Rattle.run_base_laws.proofs.PastLemmas.{past_on}
@@ -30,7 +30,7 @@ use Rattle.answer_origin_laws.proofs.CallTurnLemmas.{what_comes_is_pending}
 use Rattle.answer_origin_laws.proofs.ComeLemmas.{input_same}
 use Rattle.answer_done_laws.proofs.LineRunLemmas.{answer_told, told_at_last}
 use Rattle.run_claims.specs.Undisturbed.{answers_from}
-use Rattle.run_claims.specs.CommitCourse.{past_by, AnsweredCommitsAreTold}
+use Rattle.run_claims.specs.CommitCourse.{past_by, AnsweredCommitsAreReported}
 use Rattle.commit_course_laws.proofs.WayLemmas.{turn_before}
 use Rattle.commit_course_laws.proofs.FlowLemmas.{IsWholeTurn, IsItsCall, HasOne, one_ends, one_before, one_turn}
 use Rattle.commit_course_laws.proofs.CourseLemmas.{slice_mid, take_first, p, parts, upto, there, own, its, facts_before, one_call, its_course}
@@ -56,14 +56,14 @@ module _ (node session : ℕ) where
       by false here rest = rest
 
   module _ (running m : ℕ) where
-    left_call : (t : Telling) (f : Finished) → HasOne node session t → ((m == node) && (f.session == session)) ≡ false → (finished_call running t f (call_at t m f.session)).calls ≡ t.calls
+    left_call : (t : RunReport) (f : Finished) → HasOne node session t → ((m == node) && (f.session == session)) ≡ false → (finished_call running t f (call_at t m f.session)).calls ≡ t.calls
     left_call t f one other = ap (λ o. (finished_call running t f o).calls) (none_elsewhere m f.session other t.calls one.calls)
 
     -- none of these is the call's end
     abbrev IsOfOthers : List Finished → Type 0
     IsOfOthers fs = AllByRecursion (λ (f : Finished). ((m == node) && (f.session == session)) ≡ false) fs
 
-    left_calls : (t : Telling) (fs : List Finished) → HasOne node session t → IsOfOthers fs → (finished running t m fs).calls ≡ t.calls
+    left_calls : (t : RunReport) (fs : List Finished) → HasOne node session t → IsOfOthers fs → (finished running t m fs).calls ≡ t.calls
     left_calls t [] one others = refl
     left_calls t (f ∷ fs) one others =
         left_calls (finished_call running t f (call_at t m f.session)) fs (one_ends node session running m t f one) others.1 ∙ left_call t f one others.0
@@ -90,10 +90,10 @@ module _ (node session : ℕ) where
 
   -- The call is not answered, or it is, by what the turn comes to.
   data Says (f : Facts) (u : Turn) (o : Option Outcome) (answers : List Answer) : Type 0 where
-    Nothing_said : answers ≡ [] → ((running : ℕ) (t : Telling) → HasOne node session t → (ends_calls running t u false o).calls ≡ t.calls) → Says f u o answers
+    Nothing_said : answers ≡ [] → ((running : ℕ) (t : RunReport) → HasOne node session t → (ends_calls running t u false o).calls ≡ t.calls) → Says f u o answers
     Answers_it : (x : Outcome) (a : Answer) (others : List Answer) → o ≡ Some x → u.node ≡ node → map (λ (y : Finished). y.answer) (filter (λ (y : Finished). y.session == session) x.ended) ≡ a ∷ others → answers ≡ a ∷ others → Says f u o answers
 
-  ends_left : (running : ℕ) (t : Telling) (u : Turn) (o : Outcome) → HasOne node session t → IsOfOthers running u.node o.ended → (ends_calls running t u false (Some o)).calls ≡ t.calls
+  ends_left : (running : ℕ) (t : RunReport) (u : Turn) (o : Outcome) → HasOne node session t → IsOfOthers running u.node o.ended → (ends_calls running t u false (Some o)).calls ≡ t.calls
   ends_left running t u o one others = (input_same (finished running t u.node o.ended) running u.node u.input).0 ∙ left_calls running u.node t o.ended one others
 
   -- what it is answered
@@ -117,13 +117,13 @@ module _ (node session : ℕ) where
 
 module _ (t : History) (run : IsTheRunOf t) (command node session : ℕ) (text : Option Stmt) (named : command_at t.commands command ≡ commands.At node session text) (later : List Happening) where
   -- the line of the command is told
-  abbrev pub IsTold : Type 0
-  IsTold = (j : ℕ) × (slice_get (told_of t) j ≡ Some (line command (said.Node commit_complete)))
+  abbrev pub IsReported : Type 0
+  IsReported = (j : ℕ) × (slice_get (reported_of t) j ≡ Some (line command (said.Node commit_complete)))
 
   -- the call is pending, alone
   record Waits (q : Past) (x : Call) : Type 0 where
-    one : HasOne node session q.telling
-    at : call_at q.telling node session ≡ Some x
+    one : HasOne node session q.run_report
+    at : call_at q.run_report node session ≡ Some x
     mine : x.command ≡ command
 
   module _ (pre : List Happening) (u : Turn) (hs : List Happening) (is : pre ++ happenings.Turn u ∷ (hs ++ later) ≡ t.trace) (uncut : u.cut ≡ false) (x : Call) (now : Waits (past_by t.places t.commands pre) x) where
@@ -146,27 +146,27 @@ module _ (t : History) (run : IsTheRunOf t) (command node session : ℕ) (text :
     here = ap (λ ys. slice_get ys i) (sym is) ∙ slice_mid pre (happenings.Turn u) (hs ++ later)
 
     last : x.follows ≡ None
-    last = (found_so (IsItsCall node session) (is_call_at node session) q.telling.calls x now.one.calls now.at).0.1
+    last = (found_so (IsItsCall node session) (is_call_at node session) q.run_report.calls x now.one.calls now.at).0.1
 
-    tells_now : (y : Outcome) → o ≡ Some y → u.node ≡ node → (map (λ (z : Finished). z.answer) (filter (λ (z : Finished). z.session == session) y.ended) ≡ commit_complete ∷ []) → IsTold
+    tells_now : (y : Outcome) → o ≡ Some y → u.node ≡ node → (map (λ (z : Finished). z.answer) (filter (λ (z : Finished). z.session == session) y.ended) ≡ commit_complete ∷ []) → IsReported
     tells_now y comes at_node says =
         let moment : outcome_at t.places (past_upto t i).facts u ≡ Some y = ap (λ (r : Past). outcome_at t.places r.facts u) q_is ∙ comes in
-        let pending : call_at (past_upto t i).telling u.node session ≡ Some x = subst (λ n. call_at (past_upto t i).telling n session ≡ Some x) (sym at_node) (ap (λ (r : Past). call_at r.telling node session) q_is ∙ now.at) in
+        let pending : call_at (past_upto t i).run_report u.node session ≡ Some x = subst (λ n. call_at (past_upto t i).run_report n session ≡ Some x) (sym at_node) (ap (λ (r : Past). call_at r.run_report node session) q_is ∙ now.at) in
         told_at_last t run command node session text named (said.Node commit_complete) (i + 1)
         (answer_told t run command node session text named (said.Node commit_complete) i u here uncut y moment at_node x pending now.mine last commit_complete refl says).0
 
-    abbrev before_end : Telling
-    before_end = without_following (delivered_more (turn_appends q.telling u.node u.input (node_at q.facts u.node) o) u.took) u.input
+    abbrev before_end : RunReport
+    before_end = without_following (delivered_more (turn_appends q.run_report u.node u.input (node_at q.facts u.node) o) u.took) u.input
 
-    calls_before : before_end.calls ≡ q.telling.calls
-    calls_before = (turn_before q.telling u.node u.input (node_at q.facts u.node) o u.took).calls
+    calls_before : before_end.calls ≡ q.run_report.calls
+    calls_before = (turn_before q.run_report u.node u.input (node_at q.facts u.node) o u.took).calls
 
-    waits_on : ((running : ℕ) (v : Telling) → HasOne node session v → (ends_calls running v u false o).calls ≡ v.calls) → Waits onward x
+    waits_on : ((running : ℕ) (v : RunReport) → HasOne node session v → (ends_calls running v u false o).calls ≡ v.calls) → Waits onward x
     unfolding next
     waits_on left =
-        let one : HasOne node session before_end = one_before node session q.facts.command (node_at q.facts u.node) q.telling u o now.one in
-        let same : (ends_calls q.facts.command before_end u u.cut o).calls ≡ q.telling.calls = ap (λ c. (ends_calls q.facts.command before_end u c o).calls) uncut ∙ (left q.facts.command before_end one ∙ calls_before) in record {
-          one = one_turn node session q.facts.command (node_at q.facts u.node) q.telling u o now.one;
+        let one : HasOne node session before_end = one_before node session q.facts.command (node_at q.facts u.node) q.run_report u o now.one in
+        let same : (ends_calls q.facts.command before_end u u.cut o).calls ≡ q.run_report.calls = ap (λ c. (ends_calls q.facts.command before_end u c o).calls) uncut ∙ (left q.facts.command before_end one ∙ calls_before) in record {
+          one = one_turn node session q.facts.command (node_at q.facts u.node) q.run_report u o now.one;
           at = ap (find (is_call_at node session)) same ∙ now.at;
           mine = now.mine;
         }
@@ -179,7 +179,7 @@ module _ (t : History) (run : IsTheRunOf t) (command node session : ℕ) (text :
     rest g = answers_from t.places t.commands g node session hs
 
     one_step : answers_from t.places t.commands q.facts node session (happenings.Turn u ∷ hs) ≡ commit_complete ∷ []
-        → ((Waits (past_by t.places t.commands (pre ++ happenings.Turn u ∷ [])) x) → rest (past_by t.places t.commands (pre ++ happenings.Turn u ∷ [])).facts ≡ commit_complete ∷ [] → IsTold) → IsTold
+        → ((Waits (past_by t.places t.commands (pre ++ happenings.Turn u ∷ [])) x) → rest (past_by t.places t.commands (pre ++ happenings.Turn u ∷ [])).facts ≡ commit_complete ∷ [] → IsReported) → IsReported
     one_step answers more = by (if u.node == node then answers_of node session o else []) refl (says_so node session q.facts u o)
       where
         its_answers : (if u.node == node then answers_of node session o else []) ++ rest (facts_after t.places t.commands q.facts (happenings.Turn u)) ≡ commit_complete ∷ []
@@ -188,7 +188,7 @@ module _ (t : History) (run : IsTheRunOf t) (command node session : ℕ) (text :
         next_facts : rest (past_by t.places t.commands (pre ++ happenings.Turn u ∷ [])).facts ≡ rest (facts_after t.places t.commands q.facts (happenings.Turn u))
         next_facts = ap (λ (r : Past). rest r.facts) onward_is ∙ ap rest (facts_next t.places t.commands q (happenings.Turn u))
 
-        by : (xs : List Answer) → (if u.node == node then answers_of node session o else []) ≡ xs → Says node session q.facts u o xs → IsTold
+        by : (xs : List Answer) → (if u.node == node then answers_of node session o else []) ≡ xs → Says node session q.facts u o xs → IsReported
         by xs at (Nothing_said none left) =
             more (subst (λ r. Waits r x) (sym onward_is) (waits_on left)) (next_facts ∙ (ap (λ ys. ys ++ rest (facts_after t.places t.commands q.facts (happenings.Turn u))) (sym (at ∙ none)) ∙ its_answers))
         by xs at (Answers_it y a others comes at_node says is_them) =
@@ -199,7 +199,7 @@ module _ (t : History) (run : IsTheRunOf t) (command node session : ℕ) (text :
             tells_now y comes at_node (says ∙ (ap (λ b. b ∷ others) head ∙ ap (λ ys. commit_complete ∷ ys) (none_first others (rest (facts_after t.places t.commands q.facts (happenings.Turn u))) tail)))
 
   tells : (pre hs : List Happening) → pre ++ (hs ++ later) ≡ t.trace → AllByRecursion IsWholeTurn hs → (x : Call) → Waits (past_by t.places t.commands pre) x
-      → answers_from t.places t.commands (past_by t.places t.commands pre).facts node session hs ≡ commit_complete ∷ [] → IsTold
+      → answers_from t.places t.commands (past_by t.places t.commands pre).facts node session hs ≡ commit_complete ∷ [] → IsReported
   tells pre [] is whole x now answers = absurd cc
   tells pre (happenings.Turn u ∷ hs) is whole x now answers =
       one_step pre u hs is whole.0 x now answers (λ waits more. tells (pre ++ happenings.Turn u ∷ []) hs (append_assoc pre (happenings.Turn u ∷ []) (hs ++ later) ∙ is) whole.1 x waits more)
@@ -207,14 +207,14 @@ module _ (t : History) (run : IsTheRunOf t) (command node session : ℕ) (text :
 
 -- ---- the law
 
-pub answered_commits_are_told : AnsweredCommitsAreTold
-answered_commits_are_told t run front later c goes answered =
+pub answered_commits_are_reported : AnsweredCommitsAreReported
+answered_commits_are_reported t run front later c goes answered =
     let before : Past = p t run front later c goes in
     let i : ℕ = length c.before in
     let pending = what_comes_is_pending t run i c.call (there t run front later c goes) c.session (Some (stmts.Commit c.comment)) c.asks in
-    let at : call_at before.telling c.call.node c.session ≡ Some pending.0 = ap (λ (r : Past). call_at r.telling c.call.node c.session) (sym (upto t run front later c goes)) ∙ pending.1.pending in
-    let mine : pending.0.command ≡ before.facts.command = (found_so (λ (x : Call). x.command ≡ before.facts.command) (is_call_at c.call.node c.session) before.telling.calls pending.0 (its t run front later c goes) at).0 in
+    let at : call_at before.run_report c.call.node c.session ≡ Some pending.0 = ap (λ (r : Past). call_at r.run_report c.call.node c.session) (sym (upto t run front later c goes)) ∙ pending.1.pending in
+    let mine : pending.0.command ≡ before.facts.command = (found_so (λ (x : Call). x.command ≡ before.facts.command) (is_call_at c.call.node c.session) before.run_report.calls pending.0 (its t run front later c goes) at).0 in
     let told = tells t run before.facts.command c.call.node c.session (Some (stmts.Commit c.comment)) (own t run front later c goes) later c.before (happenings.Turn c.call ∷ c.during) (parts t run front later c goes)
     (goes.whole, (its_course t run front later c goes).whole) pending.0 (record { one = one_call t run front later c goes; at = at; mine = mine })
     (ap (λ f. answers_from t.places t.commands f c.call.node c.session (happenings.Turn c.call ∷ c.during)) (facts_before t run front later c goes) ∙ answered) in
-    subst (λ (f : Facts). (j : ℕ) × (slice_get (told_of t) j ≡ Some (line f.command (said.Node commit_complete)))) (facts_before t run front later c goes) told
+    subst (λ (f : Facts). (j : ℕ) × (slice_get (reported_of t) j ≡ Some (line f.command (said.Node commit_complete)))) (facts_before t run front later c goes) told

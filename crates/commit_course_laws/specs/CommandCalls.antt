@@ -13,7 +13,7 @@ use Rattle.run_rules.specs.Scripts.{IsTheRunOf}
 use Rattle.run_rules.specs.Lawful.{History}
 use Rattle.run_rules.specs.Lines.{spent}
 use Rattle.run_claims.specs.Places.{past_upto}
-use Rattle.run_rules.specs.Telling.{Past}
+use Rattle.run_rules.specs.RunReport.{Past}
 
 -- whether a command is HOLD ON or HOLD OFF
 abbrev pub is_hold : Command → Bool
@@ -27,21 +27,21 @@ hold_by asked hold _ = hold
 
 -- In every run HOLD is what each happening leaves it.
 abbrev pub HoldIsKept : Type 0
-HoldIsKept = (t : History) → (i : ℕ) (h : Happening) → slice_get t.trace i ≡ Some h → (past_upto t (i + 1)).telling.hold ≡ hold_by t.commands (past_upto t i).telling.hold h
+HoldIsKept = (t : History) → (i : ℕ) (h : Happening) → slice_get t.trace i ≡ Some h → (past_upto t (i + 1)).run_report.hold ≡ hold_by t.commands (past_upto t i).run_report.hold h
 
 -- In the run of a script no call is pending as a command begins, where HOLD is off.
 abbrev pub CommandsFindNoCall : Type 0
-CommandsFindNoCall = (t : History) → IsTheRunOf t → (i c : ℕ) → slice_get t.trace i ≡ Some (happenings.Begun c) → (past_upto t i).telling.hold ≡ false → (past_upto t i).telling.calls ≡ []
+CommandsFindNoCall = (t : History) → IsTheRunOf t → (i c : ℕ) → slice_get t.trace i ≡ Some (happenings.Begun c) → (past_upto t i).run_report.hold ≡ false → (past_upto t i).run_report.calls ≡ []
 
 -- And nothing is in flight then, unless the command before has had its 4,096 deliveries.
 abbrev pub CommandsFindNothingInFlight : Type 0
-CommandsFindNothingInFlight = (t : History) → IsTheRunOf t → (i c : ℕ) → slice_get t.trace i ≡ Some (happenings.Begun c) → (past_upto t i).telling.hold ≡ false
-    → (first_flying (past_upto t i).facts.net ≡ None) ⊎ (spent (past_upto t i).telling.deliveries ≡ true)
+CommandsFindNothingInFlight = (t : History) → IsTheRunOf t → (i c : ℕ) → slice_get t.trace i ≡ Some (happenings.Begun c) → (past_upto t i).run_report.hold ≡ false
+    → (first_flying (past_upto t i).facts.net ≡ None) ⊎ (spent (past_upto t i).run_report.deliveries ≡ true)
 
 -- each pending call is that of the command that runs
 abbrev pub HasItsCallAlone : Past → Type 0
-HasItsCallAlone p = AllByRecursion (λ c. c.command ≡ p.facts.command) p.telling.calls
+HasItsCallAlone p = AllByRecursion (λ c. c.command ≡ p.facts.command) p.run_report.calls
 
 -- So while HOLD is off nothing is pending but the call of the command that runs. HOLD OFF itself may find calls that were held.
 abbrev pub CommandsHoldTheirCall : Type 0
-CommandsHoldTheirCall = (t : History) → IsTheRunOf t → (i : ℕ) → (past_upto t i).telling.hold ≡ false → is_hold (command_at t.commands (past_upto t i).facts.command) ≡ false → HasItsCallAlone (past_upto t i)
+CommandsHoldTheirCall = (t : History) → IsTheRunOf t → (i : ℕ) → (past_upto t i).run_report.hold ≡ false → is_hold (command_at t.commands (past_upto t i).facts.command) ≡ false → HasItsCallAlone (past_upto t i)

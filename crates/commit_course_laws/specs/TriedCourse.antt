@@ -12,7 +12,7 @@ use Rattle.run_rules.specs.Data.kind_names
 use Rattle.run_rules.specs.Due.{Due, Delivers, Ends, Gives_up, Tells, due_of, runs_on}
 use Rattle.run_rules.specs.Lines.{spent, told}
 use Rattle.run_claims.specs.Places.{node_line}
-use Rattle.run_rules.specs.Telling.{Past, start}
+use Rattle.run_rules.specs.RunReport.{Past, start}
 use Rattle.run_branch_laws.specs.TriedRun as tried
 
 -- what session 1 of a node asks
@@ -52,7 +52,7 @@ lossy_due n = due_of lossy (runs_on tried.places lossy (replicate n 0) (start tr
 -- When the COMMIT is called HOLD is off and nothing is in flight. Its messages are delivered, and the report says Commit
 -- complete. In the second script a loss is told, and then the call is given up.
 pub record TheTriedCourse : Type 0 where
-  pub off : (after 15).telling.hold ≡ false
+  pub off : (after 15).run_report.hold ≡ false
   pub still : first_flying (after 15).facts.net ≡ None
   pub prepare : due_after 16 ≡ Delivers 5 false
   pub prepared : due_after 17 ≡ Delivers 6 false
@@ -60,8 +60,8 @@ pub record TheTriedCourse : Type 0 where
   pub ack : due_after 19 ≡ Delivers 8 false
   pub forgotten : due_after 20 ≡ Delivers 9 false
   pub done : due_after 21 ≡ Ends
-  pub few : spent (after 21).telling.deliveries ≡ false
-  pub calls : (after 21).telling.calls ≡ []
-  pub complete : slice_get (told (after 21).facts (after 21).telling) 5 ≡ Some (node_line 6 commit_complete)
+  pub few : spent (after 21).run_report.deliveries ≡ false
+  pub calls : (after 21).run_report.calls ≡ []
+  pub complete : slice_get (told (after 21).facts (after 21).run_report) 5 ≡ Some (node_line 6 commit_complete)
   pub lossy_tells : lossy_due 19 ≡ Tells 7
   pub lossy_gives_up : lossy_due 20 ≡ Gives_up 1 1

@@ -12,7 +12,7 @@
 ghost use Rattle.run_claims.specs.Undisturbed.{UndisturbedCommitsAreComplete};
 ghost use Rattle.commit_course_laws.specs.CompleteLaws.{LawfulCommitsAreComplete};
 ghost use Rattle.commit_course_laws.specs.CommandCalls.{HoldIsKept, CommandsFindNoCall, CommandsFindNothingInFlight, CommandsHoldTheirCall};
-ghost use Rattle.run_claims.specs.CommitCourse.{CommitsFlow, CommitsEnd, AnsweredCommitsAreTold, QuietCommitsAreComplete};
+ghost use Rattle.run_claims.specs.CommitCourse.{CommitsFlow, CommitsEnd, AnsweredCommitsAreReported, QuietCommitsAreComplete};
 ghost use Rattle.commit_course_laws.specs.TriedCourse.{TheTriedCourse};
 
 /// An undisturbed COMMIT of a lawful run is complete when nothing is in flight any more: its call has one answer, Commit
@@ -57,8 +57,8 @@ pub fn commits_end()
 {}
 
 /// Where such a COMMIT has been answered in its command, the report has its line, Commit complete.
-pub fn answered_commits_are_told()
-    ensures { AnsweredCommitsAreTold }
+pub fn answered_commits_are_reported()
+    ensures { AnsweredCommitsAreReported }
 {}
 
 /// In the run of a script each quiet COMMIT is undisturbed, it is complete when its command is done, and the report says so.

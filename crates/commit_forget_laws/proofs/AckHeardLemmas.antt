@@ -15,7 +15,7 @@ use Rattle.node_rules.specs.Data.inputs
 use Rattle.node_rules.specs.Data.kinds
 use Rattle.node_rules.specs.Data.records
 use Rattle.node_rules.specs.Words.{item_at, put_item}
-use Rattle.node_rules.specs.Kept.{Kept, Branch, Deed, standing_id, live_id, branch_at, standing_at, with_standing, nothing}
+use Rattle.node_rules.specs.NodeState.{NodeState, Branch, Deed, standing_id, live_id, branch_at, standing_at, with_standing, nothing}
 use Rattle.node_rules.specs.Commit.{next_turn, counts_ack, on_ack}
 use Rattle.node_rules.specs.Turn.{live_or, stand_of, turn_of, heard, deed_of, kind_turn, ack_turn}
 use Rattle.run_rules.specs.Data.{Happening, Turn}
@@ -74,13 +74,13 @@ module _ (t : History) (whole : IsLawfulRun t) (m : Msg) (came : CameInTurn t.tr
   abbrev p : Forest
   p = forest_of t
 
-  abbrev k : Kept
+  abbrev k : NodeState
   k = (here.may t whole m came).0
 
   abbrev place : Place
   place = place_at t.places u.node
 
-  abbrev k0 : Kept
+  abbrev k0 : NodeState
   k0 = heard k (inputs.Message m)
 
   abbrev d : Deed
@@ -124,7 +124,7 @@ module _ (t : History) (whole : IsLawfulRun t) (m : Msg) (came : CameInTurn t.tr
     some : exit e b ≢ None
     some = here.left_before t whole m came learnt.0 knows
 
-    abbrev Q : Kept → Type 0
+    abbrev Q : NodeState → Type 0
     Q j = Held x b j.stored.durable.kept
 
     found : Found k.stored.durable.kept
@@ -201,7 +201,7 @@ module _ (t : History) (whole : IsLawfulRun t) (m : Msg) (came : CameInTurn t.tr
         let stands : IfSome v.wrote (MayStand (e_at t xs)) = (tells_so t.places t.commands t.of_a_script.each (f_at t xs) (e_at t xs) (happenings.Turn v) (run_stands (so_far t xs) law) (j, may_v)).0 in
         held_on x b (place_at t.places v.node) v.input (serves t.places (f_at t xs) v j may_v).step (subst (λ w. IfSome w (NotNew x b)) wrote (not_new (e_at t xs) v.wrote gone stands)) (subst (Held x b) (sym (heard_same j v.input)) so)
       where
-        heard_same : (j : Kept) (y : Input) → (heard j y).stored.durable.kept ≡ j.stored.durable.kept
+        heard_same : (j : NodeState) (y : Input) → (heard j y).stored.durable.kept ≡ j.stored.durable.kept
         heard_same j (inputs.Message z) = refl
         heard_same j (inputs.Call n c) = refl
         heard_same j (inputs.GiveUp n) = refl

@@ -13,7 +13,7 @@ use Rattle.agreement.specs.Events.{Event, Forget, exit, Has}
 use Rattle.node_rules.specs.Data.{BranchId, Decision, Kid, Post, Standing}
 use Rattle.node_rules.specs.Data.kinds
 use Rattle.node_rules.specs.Words.{same, put_item}
-use Rattle.node_rules.specs.Kept.{Kept, Branch, Deed, standing_id, branch_at, standing_at, with_standing, nothing, post, to_one}
+use Rattle.node_rules.specs.NodeState.{NodeState, Branch, Deed, standing_id, branch_at, standing_at, with_standing, nothing, post, to_one}
 use Rattle.node_rules.specs.Commit.{next_turn, counts_ack, on_ack, to_beyond}
 use Rattle.node_rules.specs.Turn.{live_or, stand_of, ack_turn}
 use Rattle.run_rules.proofs.ListLemmas.{all_append}
@@ -88,7 +88,7 @@ acked_plain t s from knows is = record {
   forgets = is.forgets;
 }
 
-module _ (said : List Post) (t : List Event) (bound node : ℕ) (known : (b : BranchId) → Has (Forget b) t → exit t b ≢ None) (k : Kept) (from to : BranchId) (all : AllTell said t bound node known k.stored.durable.kept) where
+module _ (said : List Post) (t : List Event) (bound node : ℕ) (known : (b : BranchId) → Has (Forget b) t → exit t b ≢ None) (k : NodeState) (from to : BranchId) (all : AllTell said t bound node known k.stored.durable.kept) where
   abbrev ks : List Standing
   ks = k.stored.durable.kept
 

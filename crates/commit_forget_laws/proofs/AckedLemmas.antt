@@ -14,7 +14,7 @@ use Rattle.node_rules.specs.Data.{BranchId, Decision, Kind, Live, Msg, Post, Sta
 use Rattle.node_rules.specs.Data.decisions
 use Rattle.node_rules.specs.Data.states
 use Rattle.node_rules.specs.Words.{same}
-use Rattle.node_rules.specs.Kept.{Kept, standing_id, live_id, live_at, standing_at}
+use Rattle.node_rules.specs.NodeState.{NodeState, standing_id, live_id, live_at, standing_at}
 use Rattle.run_rules.specs.Births.{Born, births_of, born_at}
 use Rattle.run_base_laws.specs.BirthLaws.{Began, IsChild, KeptIs}
 use Rattle.run_rules.specs.Data.{Packet}
@@ -79,10 +79,10 @@ module _ (t : History) (whole : IsLawfulRun t) (root : BranchId) (ended : AllEnd
   pub up_still : (x : BranchId) → Of x → HasStopped f x → ⊥
   up_still x of stopped = ended.up of.0 of.1 of.3 (subst (HasStopped f) (sym of.2) stopped)
 
-  pub up_at : (x : BranchId) → Of x → (k : Kept) × (node_at f x.node ≡ Some k)
+  pub up_at : (x : BranchId) → Of x → (k : NodeState) × (node_at f x.node ≡ Some k)
   up_at x of = by (node_at f x.node) refl
     where
-      by : (o : Option Kept) → node_at f x.node ≡ o → (k : Kept) × (node_at f x.node ≡ Some k)
+      by : (o : Option NodeState) → node_at f x.node ≡ o → (k : NodeState) × (node_at f x.node ≡ Some k)
       by (Some k) is = (k, is)
       by None is = absurd (up_still x of (λ k up. absurd (cc (is, up))))
 
@@ -116,7 +116,7 @@ module _ (t : History) (whole : IsLawfulRun t) (root : BranchId) (ended : AllEnd
 
   -- ---- a row of the transaction
 
-  module _ (n : ℕ) (k : Kept) (up : node_at f n ≡ Some k) (s : Standing) (at : standing_at k s.me ≡ Some s) (of_root : s.root ≡ root) where
+  module _ (n : ℕ) (k : NodeState) (up : node_at f n ≡ Some k) (s : Standing) (at : standing_at k s.me ≡ Some s) (of_root : s.root ≡ root) where
     abbrev x : BranchId
     x = s.me
 
@@ -238,7 +238,7 @@ module _ (t : History) (whole : IsLawfulRun t) (root : BranchId) (ended : AllEnd
 
       -- ---- what it sent, where it has no row
 
-      abbrev kc : Kept
+      abbrev kc : NodeState
       kc = (up_at c of_c).0
 
       up_c : node_at f c.node ≡ Some kc
@@ -270,7 +270,7 @@ module _ (t : History) (whole : IsLawfulRun t) (root : BranchId) (ended : AllEnd
       ]
 
   -- its row, by its node
-  pub row_of : (n : ℕ) (k : Kept) → node_at f n ≡ Some k → (x : BranchId) → Of x → (r : Standing) → standing_at k x ≡ Some r → (standing_at k r.me ≡ Some r) × (r.root ≡ root) × (r.me ≡ x)
+  pub row_of : (n : ℕ) (k : NodeState) → node_at f n ≡ Some k → (x : BranchId) → Of x → (r : Standing) → standing_at k x ≡ Some r → (standing_at k r.me ≡ Some r) × (r.root ≡ root) × (r.me ≡ x)
   row_of n k up x of r at =
       let me : r.me ≡ x = item_is standing_id k.stored.durable.kept x r at in
       let named : KeptIs (Began bs) r = all_found (KeptIs (Began bs)) standing_id k.stored.durable.kept x r (nodes_name_the_born t whole n k up).1 at in
@@ -278,7 +278,7 @@ module _ (t : History) (whole : IsLawfulRun t) (root : BranchId) (ended : AllEnd
       (subst (λ z. standing_at k z ≡ Some r) (sym me) at, sym named.is_root ∙ (ap (λ (z : Born). z.root) it ∙ of.3), me)
 
   -- a row that has heard all those beyond said Ack toward the site
-  pub said_ack : (n : ℕ) (k : Kept) (up : node_at f n ≡ Some k) (s : Standing) (at : standing_at k s.me ≡ Some s) (of_root : s.root ≡ root) → all_acked s ≡ true → (s.me ≢ site_of p s.me) × (was_sent is_ack said s.me (p.toward s.me) ≡ true)
+  pub said_ack : (n : ℕ) (k : NodeState) (up : node_at f n ≡ Some k) (s : Standing) (at : standing_at k s.me ≡ Some s) (of_root : s.root ≡ root) → all_acked s ≡ true → (s.me ≢ site_of p s.me) × (was_sent is_ack said s.me (p.toward s.me) ≡ true)
   said_ack n k up s at of_root all =
       let told : SaidAck said s = (tells n k up s at of_root).acks (knows n k up s at of_root) (fresh n k up s at of_root) all in
       elim (way n k up s at of_root) [
@@ -296,9 +296,9 @@ module _ (t : History) (whole : IsLawfulRun t) (root : BranchId) (ended : AllEnd
 
   -- rows farther away than this have heard all
   abbrev FartherHave : ℕ → Type 0
-  FartherHave far = (n : ℕ) (k : Kept) (up : node_at f n ≡ Some k) (s : Standing) → standing_at k s.me ≡ Some s → s.root ≡ root → far < p.far s.me → all_acked s ≡ true
+  FartherHave far = (n : ℕ) (k : NodeState) (up : node_at f n ≡ Some k) (s : Standing) → standing_at k s.me ≡ Some s → s.root ≡ root → far < p.far s.me → all_acked s ≡ true
 
-  one_acked : (n : ℕ) (k : Kept) (up : node_at f n ≡ Some k) (s : Standing) (at : standing_at k s.me ≡ Some s) (of_root : s.root ≡ root) → FartherHave (p.far s.me) → all_acked s ≡ true
+  one_acked : (n : ℕ) (k : NodeState) (up : node_at f n ≡ Some k) (s : Standing) (at : standing_at k s.me ≡ Some s) (of_root : s.root ≡ root) → FartherHave (p.far s.me) → all_acked s ≡ true
   one_acked n k up s at of_root farther = all_true (beyond s) (all_in (λ (y : Neighbor). y.acked ≡ true) (beyond s) (λ y among. held n k up s at of_root y among (sent y among)))
     where
       sent : (y : Neighbor) → IsIn y (beyond s) → was_sent is_ack said y.branch s.me ≡ true
@@ -307,7 +307,7 @@ module _ (t : History) (whole : IsLawfulRun t) (root : BranchId) (ended : AllEnd
           by : (o : Option Standing) → standing_at (kc n k up s at of_root y among) y.branch ≡ o → was_sent is_ack said y.branch s.me ≡ true
           by None none = none_sent n k up s at of_root y among none
           by (Some r) found =
-              let kept : Kept = kc n k up s at of_root y among in
+              let kept : NodeState = kc n k up s at of_root y among in
               let there : node_at f y.branch.node ≡ Some kept = up_c n k up s at of_root y among in
               let row = row_of y.branch.node kept there y.branch (of_c n k up s at of_root y among) r found in
               let edge_y : Beyond p y.branch s.me = edge n k up s at of_root y among in
@@ -315,9 +315,9 @@ module _ (t : History) (whole : IsLawfulRun t) (root : BranchId) (ended : AllEnd
               let told = (said_ack y.branch.node kept there r row.0 row.1 (farther y.branch.node kept there r row.0 row.1 far)).1 in
               subst (λ q. was_sent is_ack said y.branch q ≡ true) edge_y.next (subst (λ z. was_sent is_ack said z (p.toward z) ≡ true) row.2 told)
 
-  acked_by_far : (fuel : ℕ) (n : ℕ) (k : Kept) (up : node_at f n ≡ Some k) (s : Standing) → standing_at k s.me ≡ Some s → s.root ≡ root → most ≤ p.far s.me + fuel → all_acked s ≡ true
+  acked_by_far : (fuel : ℕ) (n : ℕ) (k : NodeState) (up : node_at f n ≡ Some k) (s : Standing) → standing_at k s.me ≡ Some s → s.root ≡ root → most ≤ p.far s.me + fuel → all_acked s ≡ true
   acked_by_far zero n k up s at of_root low = one_acked n k up s at of_root (λ m j there r found its_root far. (let high = far_most r.me in absurd (omega (arith, low, far, high))))
   acked_by_far (suc fuel) n k up s at of_root low = one_acked n k up s at of_root (λ m j there r found its_root far. acked_by_far fuel m j there r found its_root (omega (arith, low, far)))
 
-  pub all_have : (n : ℕ) (k : Kept) (up : node_at f n ≡ Some k) (s : Standing) → standing_at k s.me ≡ Some s → s.root ≡ root → all_acked s ≡ true
+  pub all_have : (n : ℕ) (k : NodeState) (up : node_at f n ≡ Some k) (s : Standing) → standing_at k s.me ≡ Some s → s.root ≡ root → all_acked s ≡ true
   all_have n k up s at of_root = acked_by_far most n k up s at of_root (omega arith)

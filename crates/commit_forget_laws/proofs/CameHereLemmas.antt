@@ -9,7 +9,7 @@ use Rattle.node_rules.specs.Data.decisions
 use Rattle.node_rules.specs.Data.inputs
 use Rattle.node_rules.specs.Inputs.{Came}
 use Rattle.node_rules.specs.Words.{item_at}
-use Rattle.node_rules.specs.Kept.{Kept, Branch, Deed, standing_id, live_id, branch_at, standing_at}
+use Rattle.node_rules.specs.NodeState.{NodeState, Branch, Deed, standing_id, live_id, branch_at, standing_at}
 use Rattle.node_rules.specs.Turn.{turn_of, heard, deed_of}
 use Rattle.node_rules.proofs.StandLemmas.{live_so}
 use Rattle.run_rules.specs.Data.{Happening, Turn}
@@ -74,7 +74,7 @@ module _ (t : History) (whole : IsLawfulRun t) (m : Msg) (came : CameInTurn t.tr
   pub may : MayHappen t.places t.commands f h
   may = may_of t whole hs h came.later came.is
 
-  abbrev pub k : Kept
+  abbrev pub k : NodeState
   k = may.0
 
   abbrev pub place : Place
@@ -83,7 +83,7 @@ module _ (t : History) (whole : IsLawfulRun t) (m : Msg) (came : CameInTurn t.tr
   pub up : node_at f b.node ≡ Some k
   up = subst (λ n. node_at f n ≡ Some k) came.here may.1.up
 
-  abbrev pub k0 : Kept
+  abbrev pub k0 : NodeState
   k0 = heard k (inputs.Message m)
 
   abbrev pub d : Deed

@@ -9,7 +9,7 @@ use Rattle.agreement.specs.Events.{Forest, Event, Quiet, Forget, Send_forgotten,
 use Rattle.node_rules.specs.Data.{BranchId, Place, Post, Standing}
 use Rattle.node_rules.specs.Data.kinds
 use Rattle.node_rules.specs.Data.records
-use Rattle.node_rules.specs.Kept.{Kept, Deed, standing_id}
+use Rattle.node_rules.specs.NodeState.{NodeState, Deed, standing_id}
 use Rattle.node_rules.specs.Commit.{to_beyond}
 use Rattle.node_rules.specs.Turn.{turn_of, deed_of}
 use Rattle.run_rules.specs.Data.{Happening, Turn}
@@ -105,7 +105,7 @@ module _ (t : History) (whole : IsLawfulRun t) (b : BranchId) where
 
     -- ---- the turn in which it forgets
 
-    module _ (u : Turn) (k : Kept) (may : MayTurn t.places f u k) (turn : h ≡ happenings.Turn u) (wrote : u.wrote ≡ Some (records.Forgot b)) where
+    module _ (u : Turn) (k : NodeState) (may : MayTurn t.places f u k) (turn : h ≡ happenings.Turn u) (wrote : u.wrote ≡ Some (records.Forgot b)) where
       abbrev place : Place
       place = place_at t.places u.node
 

@@ -14,7 +14,7 @@ use Rattle.node_rules.specs.Data.acts
 use Rattle.node_rules.specs.Data.kinds
 use Rattle.node_rules.specs.Data.records
 use Rattle.node_rules.specs.Words.{same, item_at, put_item}
-use Rattle.node_rules.specs.Kept.{Kept, Deed, standing_id, to_each}
+use Rattle.node_rules.specs.NodeState.{NodeState, Deed, standing_id, to_each}
 use Rattle.node_rules.specs.Commit.{acked_by, to_beyond}
 use Rattle.node_rules.proofs.Steps as steps
 use Rattle.node_rules.proofs.Steps.{Step}
@@ -38,7 +38,7 @@ acked_says ks s from says stands (Some (records.Forgot b)) is = (is.0, like_acke
 acked_says ks s from says stands (Some _) is = tt
 
 module _ (p : Place) (input : Input) where
-  pub forgot_says : {k : Kept} {d : Deed} → Step p input k d → IfSome d.wrote (SaysForgot k.stored.durable.kept d.says)
+  pub forgot_says : {k : NodeState} {d : Deed} → Step p input k d → IfSome d.wrote (SaysForgot k.stored.durable.kept d.says)
   forgot_says (steps.Begins n s call rows range none step) = forgot_says step
   forgot_says (steps.Pends n l given call has live code step) = forgot_says step
   forgot_says (steps.Lets_reads_go l comment below live begins step) = forgot_says step

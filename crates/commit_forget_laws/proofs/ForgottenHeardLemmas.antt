@@ -12,7 +12,7 @@ use Rattle.node_rules.specs.Data.decisions
 use Rattle.node_rules.specs.Data.inputs
 use Rattle.node_rules.specs.Data.kinds
 use Rattle.node_rules.specs.Data.records
-use Rattle.node_rules.specs.Kept.{Kept, Branch, Deed, standing_id, branch_at, standing_at}
+use Rattle.node_rules.specs.NodeState.{NodeState, Branch, Deed, standing_id, branch_at, standing_at}
 use Rattle.node_rules.specs.Commit.{next_turn, on_forgotten}
 use Rattle.node_rules.specs.Turn.{Is_gone, live_or, stand_of, turn_of, heard, deed_of, kind_turn, forgotten_turn}
 use Rattle.run_rules.specs.Data.{Happening, Turn}
@@ -69,13 +69,13 @@ module _ (t : History) (whole : IsLawfulRun t) (m : Msg) (came : CameInTurn t.tr
   abbrev p : Forest
   p = forest_of t
 
-  abbrev k : Kept
+  abbrev k : NodeState
   k = (here.may t whole m came).0
 
   abbrev place : Place
   place = place_at t.places u.node
 
-  abbrev k0 : Kept
+  abbrev k0 : NodeState
   k0 = heard k (inputs.Message m)
 
   abbrev d : Deed

@@ -5,7 +5,7 @@ use Rattle.std.specs.List.{AllByRecursion}
 use Rattle.tran_ids.proofs.BranchLemmas.{same_from_equal}
 use Rattle.node_rules.specs.Data.{BranchId}
 use Rattle.node_rules.specs.Words.{same, item_at}
-use Rattle.node_rules.specs.Kept.{Kept, standing_id, live_id}
+use Rattle.node_rules.specs.NodeState.{NodeState, standing_id, live_id}
 use Rattle.run_rules.specs.Births.{births_of, born_id}
 use Rattle.run_base_laws.specs.BirthLaws.{Began}
 use Rattle.run_rules.specs.Facts.{node_at}
@@ -49,7 +49,7 @@ module _ {A : Type 0} (id : A → BranchId) where
     all_weaker (λ y. item_at id xs (id y) ≡ Some y) (λ y. item_at id (x ∷ xs) (id y) ≡ Some y) (λ y found. later_found x xs (id y) y (one (id y)) found) xs (each_found xs (λ b. fewer x xs b (one b))),
   )
 
-pub rows_found : (t : History) → IsLawfulRun t → (n : ℕ) (k : Kept) → node_at (facts_at t) n ≡ Some k → Found k.stored.durable.kept
+pub rows_found : (t : History) → IsLawfulRun t → (n : ℕ) (k : NodeState) → node_at (facts_at t) n ≡ Some k → Found k.stored.durable.kept
 rows_found t lawful n k up =
     each_found standing_id k.stored.durable.kept (λ b. (let one : count_of standing_id b k.stored.durable.kept + count_of live_id b k.lives ≤ 1 = ids_are_fresh t lawful n k up b in omega (arith, one)))
 

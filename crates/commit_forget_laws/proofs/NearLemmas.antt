@@ -7,7 +7,7 @@ use Rattle.commit_forget.specs.Beyond.{beyond, parent_beyond as parent_neighbor,
 use Rattle.session_tree.specs.Live.{is_branch}
 use Rattle.node_rules.specs.Data.{BranchId, Kid, Standing}
 use Rattle.node_rules.specs.Words.{same}
-use Rattle.node_rules.specs.Kept.{Kept, Branch, live_at, branch_at, standing_at, with_work}
+use Rattle.node_rules.specs.NodeState.{NodeState, Branch, live_at, branch_at, standing_at, with_work}
 use Rattle.node_rules.specs.Turn.{Is_gone, live_or, stand_of}
 use Rattle.run_rules.specs.Births.{Born, born_at}
 use Rattle.run_base_laws.specs.BirthLaws.{IsChild, KeptIs}
@@ -49,7 +49,7 @@ module _ (B : Born → Type 0) (s : Standing) (is : KeptIs B s) where
       (all_filter (λ (c : Kid). IsChild B c.branch s.me) (λ (c : Kid). IsOff c.branch) (λ c. not (is_branch c.branch s.toward)) (λ c off child. (not-true (is_branch c.branch s.toward) off, inr child)) s.children is.kids))
 
 -- nothing of a branch is known that is neither live nor kept
-pub gone_so : (k : Kept) (b : BranchId) → branch_at k b ≡ None → standing_at k b ≡ None → stand_of k b ≡ Is_gone
+pub gone_so : (k : NodeState) (b : BranchId) → branch_at k b ≡ None → standing_at k b ≡ None → stand_of k b ≡ Is_gone
 unfolding stand_of
 gone_so k b live row = by (branch_at k b) (standing_at k b) live row
   where
@@ -58,5 +58,5 @@ gone_so k b live row = by (branch_at k b) (standing_at k b) live row
     by (Some z) q is it = absurd cc
     by None (Some z) is it = absurd cc
 
-pub none_live : (k : Kept) (b : BranchId) → live_at k b ≡ None → branch_at k b ≡ None
+pub none_live : (k : NodeState) (b : BranchId) → live_at k b ≡ None → branch_at k b ≡ None
 none_live k b none = ap (with_work k) none

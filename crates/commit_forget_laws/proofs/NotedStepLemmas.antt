@@ -18,7 +18,7 @@ use Rattle.node_rules.specs.Data.decisions
 use Rattle.node_rules.specs.Data.params
 use Rattle.node_rules.specs.Data.records
 use Rattle.node_rules.specs.Words.{same, change_where, drop_where, put_item}
-use Rattle.node_rules.specs.Kept.{Kept, Stored, Deed, standing_id}
+use Rattle.node_rules.specs.NodeState.{NodeState, Stored, Deed, standing_id}
 use Rattle.node_rules.specs.Records.{applied}
 use Rattle.node_rules.specs.Prepare.{sealed_record, decided_record}
 use Rattle.node_rules.proofs.Steps as steps
@@ -80,7 +80,7 @@ module _ (x b : BranchId) where
   held_acked s from so me = acked_so (λ c a. c ≡ x → a ≡ true) (λ c a was is. refl) from s (so me)
 
   module _ (p : Place) (input : Input) where
-    pub held_on : {k : Kept} {d : Deed} → Step p input k d → IfSome d.wrote NotNew → Held k.stored.durable.kept → Held d.after.stored.durable.kept
+    pub held_on : {k : NodeState} {d : Deed} → Step p input k d → IfSome d.wrote NotNew → Held k.stored.durable.kept → Held d.after.stored.durable.kept
     held_on (steps.Begins n s call rows range none step) new all = held_on step new all
     held_on (steps.Pends n l given call has live code step) new all = held_on step new all
     held_on (steps.Lets_reads_go l comment below live begins step) new all = held_on step new all

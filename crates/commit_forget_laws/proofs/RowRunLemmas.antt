@@ -11,7 +11,7 @@ use Rattle.node_rules.specs.Data.inputs
 use Rattle.node_rules.specs.Data.kinds
 use Rattle.node_rules.specs.Data.records
 use Rattle.node_rules.specs.Inputs.{Came}
-use Rattle.node_rules.specs.Kept.{Kept, Deed}
+use Rattle.node_rules.specs.NodeState.{NodeState, Deed}
 use Rattle.node_rules.specs.Records.{applied, nothing_stored, stored_by}
 use Rattle.node_rules.specs.Turn.{turn_of, start_of, heard, deed_of, kind_turn, ack_turn, stand_of}
 use Rattle.run_rules.specs.Data.{Happening, Turn}
@@ -60,7 +60,7 @@ tells_later said t r bound s stays (inr old) = inr old
 module _ (t : History) (whole : IsLawfulRun t) where
   -- the rows of each node tell so
   abbrev pub NodesTell : Facts → List Event → Type 0
-  NodesTell f e = (n : ℕ) (k : Kept) → node_at f n ≡ Some k → AllByRecursion (Tells (said_in f) e (boots (records_at f n))) k.stored.durable.kept
+  NodesTell f e = (n : ℕ) (k : NodeState) → node_at f n ≡ Some k → AllByRecursion (Tells (said_in f) e (boots (records_at f n))) k.stored.durable.kept
 
   module _ (hs : List Happening) (h : Happening) (rest : List Happening) (is : hs ++ h ∷ rest ≡ t.trace) (now : NodesTell (f_at t hs) (e_at t hs)) where
     abbrev f : Facts
@@ -84,7 +84,7 @@ module _ (t : History) (whole : IsLawfulRun t) where
     known : (b : BranchId) → Has (Forget b) e → exit e b ≢ None
     known b has = forgot_left _ e (part_inv s lawful hs (record { rest = []; is = append-nil hs })) b has
 
-    rows_here : (n : ℕ) (k : Kept) → node_at f n ≡ Some k → AllByRecursion (λ x. Tells (said_in f) e (boots (records_at f n)) x × (x.me.node ≡ n)) k.stored.durable.kept
+    rows_here : (n : ℕ) (k : NodeState) → node_at f n ≡ Some k → AllByRecursion (λ x. Tells (said_in f) e (boots (records_at f n)) x × (x.me.node ≡ n)) k.stored.durable.kept
     rows_here n k up = all_both _ _ k.stored.durable.kept (now n k up) (ids_name_their_node s lawful n k up).rows
 
     -- at a node that nothing happens to
@@ -92,7 +92,7 @@ module _ (t : History) (whole : IsLawfulRun t) where
       stays_so : (b : BranchId) → (Has (Forget b) (events_h y) → Has (Forget b) e) → Stays e (events_h y) b
       stays_so b back = record { seals = λ c so. (so.0, exit_on t.places t.commands f y e c _ so.1); forgets = back }
 
-      untouched : (n : ℕ) (k : Kept) → node_at f n ≡ Some k → records_at (after_h y) n ≡ records_at f n → ((b : BranchId) → b.node ≡ n → Has (Forget b) (events_h y) → Has (Forget b) e)
+      untouched : (n : ℕ) (k : NodeState) → node_at f n ≡ Some k → records_at (after_h y) n ≡ records_at f n → ((b : BranchId) → b.node ≡ n → Has (Forget b) (events_h y) → Has (Forget b) e)
           → AllByRecursion (Tells (said_in (after_h y)) (events_h y) (boots (records_at (after_h y) n))) k.stored.durable.kept
       untouched n k up same_disk back =
           subst (λ (rs : List RedoRecord). AllByRecursion (Tells (said_in (after_h y)) (events_h y) (boots rs)) k.stored.durable.kept) (sym same_disk)
@@ -101,7 +101,7 @@ module _ (t : History) (whole : IsLawfulRun t) where
 
     -- ---- a turn
 
-    module _ (u : Turn) (k : Kept) (may : MayTurn t.places f u k) (turn : h ≡ happenings.Turn u) where
+    module _ (u : Turn) (k : NodeState) (may : MayTurn t.places f u k) (turn : h ≡ happenings.Turn u) where
       abbrev p : Place
       p = place_at t.places u.node
 
@@ -139,7 +139,7 @@ module _ (t : History) (whole : IsLawfulRun t) where
 
         by_ack : (m : Msg) → u.input ≡ inputs.Message m → m.kind ≡ kinds.Ack → Left d
         by_ack m it kind =
-            let k0 : Kept = heard k (inputs.Message m) in
+            let k0 : NodeState = heard k (inputs.Message m) in
             let left : Left (ack_turn k0 m.from m.to (stand_of k0 m.to)) = ack_rows (said_in f) e bound u.node known k0 m.from m.to (rows0 (inputs.Message m)) in
             let same_turn : Left (kind_turn p k0 m.from m.to m.kind (stand_of k0 m.to)) = subst (λ x. Left (kind_turn p k0 m.from m.to x (stand_of k0 m.to))) (sym kind) left in
             subst (λ i. Left (deed_of p k i)) (sym it) same_turn
@@ -179,20 +179,20 @@ module _ (t : History) (whole : IsLawfulRun t) where
           (subst (λ b. AllByRecursion (Tells (said_in f ++ d.says) (events_h (happenings.Turn u)) b) d.after.stored.durable.kept) (sym bound_is)
           (all_weaker _ _ (λ x so. tells_later (said_in f ++ d.says) (with_record u e) (events_h (happenings.Turn u)) bound x (rest_stays x.me) so) d.after.stored.durable.kept told))
 
-      at_node : (cut : Bool) → u.cut ≡ cut → IsOwed p k u.input u.wrote u.sent cut → (j : Kept) → node_at g u.node ≡ Some j → AllByRecursion (Tells (said_in g) (events_h (happenings.Turn u)) (boots (records_at g u.node))) j.stored.durable.kept
+      at_node : (cut : Bool) → u.cut ≡ cut → IsOwed p k u.input u.wrote u.sent cut → (j : NodeState) → node_at g u.node ≡ Some j → AllByRecursion (Tells (said_in g) (events_h (happenings.Turn u)) (boots (records_at g u.node))) j.stored.durable.kept
       unfolding turn_of
       at_node true cut owed j up = (let down : node_at g u.node ≡ None = here.0 ∙ ap (λ c. kept_after c (Some (turn_of p k u.input))) cut in absurd (cc (down, up)))
       at_node false cut owed j up =
           let there : node_at g u.node ≡ Some d.after = here.0 ∙ ap (λ c. kept_after c (Some (turn_of p k u.input))) cut in
           let both : Some d.after ≡ Some j = sym there ∙ up in
           let it : d.after ≡ j = cc in
-          subst (λ (x : Kept). AllByRecursion (Tells (said_in g) (events_h (happenings.Turn u)) (boots (records_at g u.node))) x.stored.durable.kept) it (uncut owed)
+          subst (λ (x : NodeState). AllByRecursion (Tells (said_in g) (events_h (happenings.Turn u)) (boots (records_at g u.node))) x.stored.durable.kept) it (uncut owed)
 
       own_record : IfSome u.wrote (IsRecordOf (λ b. b.node ≡ u.node))
       own_record = record_own t.places t.commands t.of_a_script.each f e u k (run_stands s lawful).1 (run_stands s lawful).0.even (node_so t.places t.commands t.of_a_script.each f e (run_stands s lawful))
           (owned_so t.places t.commands t.of_a_script.each f e (run_stands s lawful)) may
 
-      elsewhere : (n : ℕ) → u.node ≢ n → (j : Kept) → node_at g n ≡ Some j → AllByRecursion (Tells (said_in g) (events_h (happenings.Turn u)) (boots (records_at g n))) j.stored.durable.kept
+      elsewhere : (n : ℕ) → u.node ≢ n → (j : NodeState) → node_at g n ≡ Some j → AllByRecursion (Tells (said_in g) (events_h (happenings.Turn u)) (boots (records_at g n))) j.stored.durable.kept
       elsewhere n other j up =
           let same_there = turn_elsewhere t.places t.commands f (run_stands s lawful).0.even u n other in
           untouched (happenings.Turn u) n j (sym same_there.0 ∙ up) same_there.1
@@ -255,7 +255,7 @@ module _ (t : History) (whole : IsLawfulRun t) where
             let disk : records_at (after_h (happenings.Started m boot)) n ≡ zs = subst (λ i. records_at (after_h (happenings.Started m boot)) i ≡ zs) at begun.1 in
             let both : Some (start_of zs) ≡ Some j = sym there ∙ up in
             let it : start_of zs ≡ j = cc in
-            subst₂ (λ (x : Kept) (rs : List RedoRecord). AllByRecursion (Tells (said_in (after_h (happenings.Started m boot))) e (boots rs)) x.stored.durable.kept) it (sym disk) (started (said_in (after_h (happenings.Started m boot))) e))
+            subst₂ (λ (x : NodeState) (rs : List RedoRecord). AllByRecursion (Tells (said_in (after_h (happenings.Started m boot))) e (boots rs)) x.stored.durable.kept) it (sym disk) (started (said_in (after_h (happenings.Started m boot))) e))
         | inr other ↦ (let same_there = start_elsewhere t.places t.commands f even m boot n other in untouched (happenings.Started m boot) n j (sym same_there.0 ∙ up) same_there.1 (λ b node has. has))
       ]
 
@@ -276,12 +276,12 @@ module _ (t : History) (whole : IsLawfulRun t) where
   unfolding start_of stored_by applied durable_after
   made_so said b = tt
 
-  first_so : (n : ℕ) → IfSome (node_at (first_facts t.places) n) (λ (x : Kept). AllByRecursion (Tells (said_in (first_facts t.places)) [] (boots (records_at (first_facts t.places) n))) x.stored.durable.kept)
-  first_so n = first_node (λ o. IfSome o (λ (x : Kept). AllByRecursion (Tells (said_in (first_facts t.places)) [] (boots (records_at (first_facts t.places) n))) x.stored.durable.kept)) tt (made_so (said_in (first_facts t.places)) (boots (records_at (first_facts t.places) n))) t.places n
+  first_so : (n : ℕ) → IfSome (node_at (first_facts t.places) n) (λ (x : NodeState). AllByRecursion (Tells (said_in (first_facts t.places)) [] (boots (records_at (first_facts t.places) n))) x.stored.durable.kept)
+  first_so n = first_node (λ o. IfSome o (λ (x : NodeState). AllByRecursion (Tells (said_in (first_facts t.places)) [] (boots (records_at (first_facts t.places) n))) x.stored.durable.kept)) tt (made_so (said_in (first_facts t.places)) (boots (records_at (first_facts t.places) n))) t.places n
 
   first_tells : NodesTell (f_at t []) (e_at t [])
   unfolding facts_of events_from
-  first_tells n k up = subst (λ o. IfSome o (λ (x : Kept). AllByRecursion (Tells (said_in (first_facts t.places)) [] (boots (records_at (first_facts t.places) n))) x.stored.durable.kept)) up (first_so n)
+  first_tells n k up = subst (λ o. IfSome o (λ (x : NodeState). AllByRecursion (Tells (said_in (first_facts t.places)) [] (boots (records_at (first_facts t.places) n))) x.stored.durable.kept)) up (first_so n)
 
   pub run_tells : NodesTell (facts_at t) (events_of t)
   run_tells = keep_on t whole (λ hs. NodesTell (f_at t hs) (e_at t hs)) tells_on [] t.trace (record { rest = []; is = append-nil t.trace }) first_tells

@@ -18,7 +18,7 @@ use Rattle.node_rules.specs.Data.records
 use Rattle.node_rules.specs.Data.states
 use Rattle.node_rules.specs.Inputs.{Came}
 use Rattle.node_rules.specs.Words.{item_at, change_where, drop_where}
-use Rattle.node_rules.specs.Kept.{Kept, Stored, Deed, standing_id}
+use Rattle.node_rules.specs.NodeState.{NodeState, Stored, Deed, standing_id}
 use Rattle.node_rules.specs.Records.{applied}
 use Rattle.node_rules.specs.Prepare.{sealed_of, decided_of, own_changes}
 use Rattle.node_rules.specs.Commit.{passes, to_beyond}
@@ -175,7 +175,7 @@ module _ (said : List Post) (t : List Event) (bound node : ℕ) (known : (b : Br
   -- ---- steps
 
   module _ (p : Place) (input : Input) (no : (from to : BranchId) → Came input from to kinds.Ack → ⊥) where
-    pub rows_on : {k : Kept} {d : Deed} → Step p input k d → IfSome d.wrote (MayStand t) → IfSome d.wrote (RecordVoted t) → Found k.stored.durable.kept → AllTell k.stored.durable.kept → After d
+    pub rows_on : {k : NodeState} {d : Deed} → Step p input k d → IfSome d.wrote (MayStand t) → IfSome d.wrote (RecordVoted t) → Found k.stored.durable.kept → AllTell k.stored.durable.kept → After d
     rows_on (steps.Begins n s call rows range none step) may voted found all = rows_on step may voted found all
     rows_on (steps.Pends n l given call has live code step) may voted found all = rows_on step may voted found all
     rows_on (steps.Lets_reads_go l comment below live begins step) may voted found all = rows_on step may voted found all

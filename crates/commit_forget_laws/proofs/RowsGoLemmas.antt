@@ -6,7 +6,7 @@ use Rattle.agreement.specs.Events.{Forest, Event, Sealed, Decided, Forget, Beyon
 use Rattle.agreement.proofs.Invariant.{Inv}
 use Rattle.node_rules.specs.Data.{BranchId, Live, Post, Standing}
 use Rattle.node_rules.specs.Data.decisions
-use Rattle.node_rules.specs.Kept.{Kept, live_id, live_at, standing_at}
+use Rattle.node_rules.specs.NodeState.{NodeState, live_id, live_at, standing_at}
 use Rattle.node_rules.specs.Turn.{Is_gone, stand_of}
 use Rattle.run_rules.specs.Births.{Born, births_of, born_id}
 use Rattle.run_base_laws.specs.BirthLaws.{Began}
@@ -70,7 +70,7 @@ module _ (t : History) (whole : IsLawfulRun t) (root : BranchId) (ended : AllEnd
   known : trees.Known bs said
   known = acked.known t whole root ended
 
-  up_at : (x : BranchId) → Of x → (k : Kept) × (node_at f x.node ≡ Some k)
+  up_at : (x : BranchId) → Of x → (k : NodeState) × (node_at f x.node ≡ Some k)
   up_at x of = acked.up_at t whole root ended x of
 
   -- ---- all forgot, the nearest first
@@ -78,7 +78,7 @@ module _ (t : History) (whole : IsLawfulRun t) (root : BranchId) (ended : AllEnd
   -- a row by the records is one that the node keeps
   kept_row : (y : BranchId) (of : Of y) → HasRow y (stored_rows f y.node) → HasRow y (up_at y of).0.stored.durable.kept
   kept_row y of row =
-      let k : Kept = (up_at y of).0 in
+      let k : NodeState = (up_at y of).0 in
       sym (any_map y unacked_row (λ z. refl) k.stored.durable.kept) ∙ subst (λ z. HasRow y z.durable.kept) (sym (records_are_kept t whole y.node k (up_at y of).1)) row
 
   -- the site has
@@ -152,13 +152,13 @@ module _ (t : History) (whole : IsLawfulRun t) (root : BranchId) (ended : AllEnd
 
   -- ---- so no row is left
 
-  none_left : (n : ℕ) (k : Kept) (up : node_at f n ≡ Some k) (s : Standing) → standing_at k s.me ≡ Some s → s.root ≡ root → ⊥
+  none_left : (n : ℕ) (k : NodeState) (up : node_at f n ≡ Some k) (s : Standing) → standing_at k s.me ≡ Some s → s.root ≡ root → ⊥
   none_left n k up s at of_root = elim (acked.left t whole root ended n k up s at of_root) [
     | inl sealed ↦ acked.never_forgot t whole root ended n k up s at of_root (forgot_by_far (p.far s.me) s.me (acked.of_row t whole root ended n k up s at of_root) sealed.0 sealed.1 (omega arith))
     | inr decided ↦ (acked.said_ack t whole root ended n k up s at of_root (acked.all_have t whole root ended n k up s at of_root)).0 (i.decided_at s.me decided.0 decided.1)
   ]
 
-  gone_now : (b : Born) → Began bs b → b.root ≡ root → (k : Kept) → node_at f b.me.node ≡ Some k → live_at k b.me ≡ None → stand_of k b.me ≡ Is_gone
+  gone_now : (b : Born) → Began bs b → b.root ≡ root → (k : NodeState) → node_at f b.me.node ≡ Some k → live_at k b.me ≡ None → stand_of k b.me ≡ Is_gone
   gone_now b began of k up none = by (standing_at k b.me) refl
     where
       by : (o : Option Standing) → standing_at k b.me ≡ o → stand_of k b.me ≡ Is_gone
@@ -172,11 +172,11 @@ module _ (t : History) (whole : IsLawfulRun t) (root : BranchId) (ended : AllEnd
   }
 
   -- none of its branches is known, where none is live
-  module _ (left_all : (b : Born) → Began bs b → b.root ≡ root → (k : Kept) → node_at f b.me.node ≡ Some k → live_at k b.me ≡ None) where
+  module _ (left_all : (b : Born) → Began bs b → b.root ≡ root → (k : NodeState) → node_at f b.me.node ≡ Some k → live_at k b.me ≡ None) where
     is_gone_at : (b : Born) → Began bs b → b.root ≡ root → stand_at f b.me ≡ Some Is_gone
     is_gone_at b began of =
         let at = up_at b.me (b, began, refl, of) in
-        ap (λ o. option_map (λ (k : Kept). stand_of k b.me) o) at.1 ∙ ap Some (gone_now b began of at.0 at.1 (left_all b began of at.0 at.1))
+        ap (λ o. option_map (λ (k : NodeState). stand_of k b.me) o) at.1 ∙ ap Some (gone_now b began of at.0 at.1 (left_all b began of at.0 at.1))
 
     pub branches_gone : AllByRecursion (λ b. stand_at f b ≡ Some Is_gone) (branches_in bs root)
     branches_gone =

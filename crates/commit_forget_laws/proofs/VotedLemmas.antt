@@ -18,7 +18,7 @@ use Rattle.node_rules.specs.Data.records
 use Rattle.node_rules.specs.Data.votes
 use Rattle.node_rules.specs.Data.walks
 use Rattle.node_rules.specs.Words.{numbered}
-use Rattle.node_rules.specs.Kept.{Kept, Deed, live_at}
+use Rattle.node_rules.specs.NodeState.{NodeState, Deed, live_at}
 use Rattle.node_rules.specs.Prepare.{voted, with_prepare_sent}
 use Rattle.node_rules.specs.Turn.{heard, deed_of}
 use Rattle.node_rules.proofs.Steps as steps
@@ -50,7 +50,7 @@ use Rattle.commit_forget_laws.specs.RowLaws.{IsSealed}
 use Rattle.commit_forget_laws.proofs.RowStepLemmas.{RecordVoted}
 use Rattle.commit_forget_laws.proofs.NamedLemmas.{named_so, kids_so, parent_so}
 
-module _ (t : History) (before : List Happening) (lawful : IsLawfulRun (so_far t before)) (u : Turn) (k : Kept) (may : MayTurn t.places (f_at t before) u k) where
+module _ (t : History) (before : List Happening) (lawful : IsLawfulRun (so_far t before)) (u : Turn) (k : NodeState) (may : MayTurn t.places (f_at t before) u k) where
   abbrev s : History
   s = so_far t before
 
@@ -66,7 +66,7 @@ module _ (t : History) (before : List Happening) (lawful : IsLawfulRun (so_far t
   abbrev said : List Post
   said = said_in f
 
-  abbrev k0 : Kept
+  abbrev k0 : NodeState
   k0 = heard k u.input
 
   abbrev d : Deed
@@ -114,7 +114,7 @@ module _ (t : History) (before : List Happening) (lawful : IsLawfulRun (so_far t
   down_of (steps.Passes i none is) = (refl, is)
 
   -- of a branch that passes the walk on
-  passing : (i : ℕ) (at : Kept) → Near k0 at → {l : Live} {b : Bool} → Acting at u.input l b (acts.SealAndPass i) → NamedSo l.me (named_children (Some i) 1 l.edges)
+  passing : (i : ℕ) (at : NodeState) → Near k0 at → {l : Live} {b : Bool} → Acting at u.input l b (acts.SealAndPass i) → NamedSo l.me (named_children (Some i) 1 l.edges)
   passing i at near (steps.Has_no_children l comment b _ live begins none collected) =
       named_so (IsSealed e) (On l.me) (Some i) 1 (map with_prepare_sent l.edges)
       (prepared_edges (map with_prepare_sent l.edges) (all_each (EdgeIs e k0.clock) with_prepare_sent l.edges (λ y. tt)))
@@ -133,7 +133,7 @@ module _ (t : History) (before : List Happening) (lawful : IsLawfulRun (so_far t
       named_so (IsSealed e) (On l.me) (Some i) 1 l.edges (prepared_edges l.edges (settle.answers_now t before lawful u k may l here)) (λ j c there at_place. paths l here busy (suc j) c (way ∙ (at_place ∙ ap Some (omega arith))) there)
 
   -- of one that does not
-  staying : (at : Kept) → Near k0 at → {l : Live} {b : Bool} {a : Act} → Acting at u.input l b a → NamedSo l.me (named_children None 1 l.edges)
+  staying : (at : NodeState) → Near k0 at → {l : Live} {b : Bool} {a : Act} → Acting at u.input l b a → NamedSo l.me (named_children None 1 l.edges)
   staying at near {l = l} why = named_so (IsSealed e) (On l.me) None 1 l.edges (prepared_edges l.edges (edges_of why)) (λ j c there is. absurd cc)
     where
       edges_of : {y : Live} {b : Bool} {a : Act} → Acting at u.input y b a → AllByRecursion (EdgeIs e k0.clock) y.edges
@@ -169,7 +169,7 @@ module _ (t : History) (before : List Happening) (lawful : IsLawfulRun (so_far t
       absurd (cc (on, off))
   comes_from me parent (Some q) (inr down) x above off = sym (ap (comes_to said me) above) ∙ down.0
 
-  live_of : (at : Kept) → Near k0 at → {l : Live} {b : Bool} {a : Act} → Acting at u.input l b a → BornSo l.me l.parent
+  live_of : (at : NodeState) → Near k0 at → {l : Live} {b : Bool} {a : Act} → Acting at u.input l b a → BornSo l.me l.parent
   live_of at near (steps.Asks_down l comment b x es live begins some) = placed l (settle.live_in t before lawful u k may at near l live)
   live_of at near (steps.Has_no_children l comment b a live begins none collected) = placed l (settle.live_in t before lawful u k may at near l live)
   live_of at near (steps.Hears_abort l from b live answers) = placed l (settle.live_in t before lawful u k may at near l live)

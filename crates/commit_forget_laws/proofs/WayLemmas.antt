@@ -10,7 +10,7 @@ use Rattle.session_tree.specs.Live.{is_branch}
 use Rattle.agreement.specs.Events.{Forest, Exit, Dropped, Beyond, exit, site_of}
 use Rattle.node_rules.specs.Data.{BranchId, Post, RedoRecord}
 use Rattle.node_rules.specs.Data.records
-use Rattle.node_rules.specs.Kept.{Kept}
+use Rattle.node_rules.specs.NodeState.{NodeState}
 use Rattle.node_rules.specs.Words.{numbered, set_numbered}
 use Rattle.run_rules.specs.Births.{Born, births_of}
 use Rattle.run_base_laws.specs.BirthLaws.{Began, IsChild}
@@ -84,7 +84,7 @@ module _ (t : History) (whole : IsLawfulRun t) where
 
   -- ---- rows
 
-  pub rows_way : (hs : List Happening) → Part t whole hs → (n : ℕ) (k : Kept) → node_at (f_at t hs) n ≡ Some k → AllByRecursion (λ s. WayIs p s.me s.toward) k.stored.durable.kept
+  pub rows_way : (hs : List Happening) → Part t whole hs → (n : ℕ) (k : NodeState) → node_at (f_at t hs) n ≡ Some k → AllByRecursion (λ s. WayIs p s.me s.toward) k.stored.durable.kept
   rows_way hs part n k up =
       rows_so (λ me parent kids toward. WayIs p me toward) (FitsForest p) (λ r fits. inl (fits.3, fits.0, fits.1)) (λ r fits. inr (refl, fits.0)) k (records_at (f_at t hs) n)
       (node_so t.places t.commands t.of_a_script.each (f_at t hs) (e_at t hs) (run_stands (so_far t hs) (part_lawful t whole hs part)) n k up).stored (disks_fit hs part n)

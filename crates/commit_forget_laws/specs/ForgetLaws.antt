@@ -7,7 +7,7 @@ use Rattle.commit_forget.specs.Beyond.{beyond}
 use Rattle.agreement.specs.Events.{Quiet, Forget, Send_forgotten, Beyond, exit, Has}
 use Rattle.node_rules.specs.Data.{BranchId, Kind, Standing}
 use Rattle.node_rules.specs.Data.kinds
-use Rattle.node_rules.specs.Kept.{Kept}
+use Rattle.node_rules.specs.NodeState.{NodeState}
 use Rattle.run_rules.specs.Data.fates
 use Rattle.run_rules.specs.Facts.{Facts, node_at, records_at}
 use Rattle.run_base_laws.specs.InTurnLaws.{said_in}
@@ -29,7 +29,7 @@ HoldsAck x s = AllByRecursion (λ y. y.branch ≡ x → y.acked ≡ true) (beyon
 
 -- the row of a branch holds it, where there is one, or the node has stopped since the branch began
 abbrev pub IsNoted : Facts → BranchId → BranchId → Type 0
-IsNoted f x b = (k : Kept) → node_at f b.node ≡ Some k → (b.boot < boots (records_at f b.node)) ⊎ AllByRecursion (λ s. s.me ≡ b → HoldsAck x s) k.stored.durable.kept
+IsNoted f x b = (k : NodeState) → node_at f b.node ≡ Some k → (b.boot < boots (records_at f b.node)) ⊎ AllByRecursion (λ s. s.me ≡ b → HoldsAck x s) k.stored.durable.kept
 
 -- In every lawful run an Ack that was delivered, of a sealed neighbour beyond, is held.
 abbrev pub AcksAreNoted : Type 0

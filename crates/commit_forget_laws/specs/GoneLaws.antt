@@ -5,7 +5,7 @@
 use Rattle.std.specs.Prelude.{◌≡◌, ◌≢◌, ℕ, Some, None}
 use Rattle.std.specs.List.{AllByRecursion}
 use Rattle.node_rules.specs.Data.{BranchId}
-use Rattle.node_rules.specs.Kept.{Kept, live_at}
+use Rattle.node_rules.specs.NodeState.{NodeState, live_at}
 use Rattle.node_rules.specs.Turn.{Is_gone, stand_of}
 use Rattle.run_rules.specs.Births.{Born, births_of}
 use Rattle.run_base_laws.specs.BirthLaws.{Began}
@@ -25,8 +25,8 @@ pub record AllEnded (t : History) (root : BranchId) : Type 0 where
 
 -- No node keeps a row of a transaction, and each of its branches that is not live is gone.
 pub record RowsAreGone (t : History) (root : BranchId) : Type 0 where
-  pub rows : (n : ℕ) (k : Kept) → node_at (facts_at t) n ≡ Some k → AllByRecursion (λ s. s.root ≢ root) k.stored.durable.kept
-  pub gone : (b : Born) → Began (births_of t) b → b.root ≡ root → (k : Kept) → node_at (facts_at t) b.me.node ≡ Some k → live_at k b.me ≡ None → stand_of k b.me ≡ Is_gone
+  pub rows : (n : ℕ) (k : NodeState) → node_at (facts_at t) n ≡ Some k → AllByRecursion (λ s. s.root ≢ root) k.stored.durable.kept
+  pub gone : (b : Born) → Began (births_of t) b → b.root ≡ root → (k : NodeState) → node_at (facts_at t) b.me.node ≡ Some k → live_at k b.me ≡ None → stand_of k b.me ≡ Is_gone
 
 -- In every lawful run it is so of such a transaction.
 abbrev pub EndedRowsGo : Type 0
@@ -35,7 +35,7 @@ EndedRowsGo = (t : History) → IsLawfulRun t → (root : BranchId) → AllEnded
 -- So where none of its branches is live any more the nodes know nothing of them.
 abbrev pub EndedBranchesGo : Type 0
 EndedBranchesGo = (t : History) → IsLawfulRun t → (root : BranchId) → AllEnded t root
-    → ((b : Born) → Began (births_of t) b → b.root ≡ root → (k : Kept) → node_at (facts_at t) b.me.node ≡ Some k → live_at k b.me ≡ None)
+    → ((b : Born) → Began (births_of t) b → b.root ≡ root → (k : NodeState) → node_at (facts_at t) b.me.node ≡ Some k → live_at k b.me ≡ None)
     → AllByRecursion (λ b. stand_at (facts_at t) b ≡ Some Is_gone) (branches_in (births_of t) root)
 
 -- So it is of an undisturbed COMMIT, where none of its branches below the root was dropped, and each seal has ended with commit.

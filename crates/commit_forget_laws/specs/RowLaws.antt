@@ -10,7 +10,7 @@ use Rattle.agreement.specs.Events.{Event, Sealed, Forget, exit, Has}
 use Rattle.node_rules.specs.Data.{BranchId, Kind, Post, Standing, State}
 use Rattle.node_rules.specs.Data.kinds
 use Rattle.node_rules.specs.Data.states
-use Rattle.node_rules.specs.Kept.{Kept}
+use Rattle.node_rules.specs.NodeState.{NodeState}
 use Rattle.run_rules.specs.Facts.{node_at}
 use Rattle.run_base_laws.specs.InTurnLaws.{said_in}
 use Rattle.run_rules.specs.Lawful.{History, IsLawfulRun, facts_at}
@@ -47,5 +47,5 @@ pub record RowTells (said : List Post) (t : List Event) (s : Standing) : Type 0 
 
 -- In every lawful run it is so of each row, unless the node has stopped since its branch began.
 abbrev pub RowsTell : Type 0
-RowsTell = (t : History) → IsLawfulRun t → (n : ℕ) (k : Kept) → node_at (facts_at t) n ≡ Some k
+RowsTell = (t : History) → IsLawfulRun t → (n : ℕ) (k : NodeState) → node_at (facts_at t) n ≡ Some k
     → AllByRecursion (λ s. RowTells (said_in (facts_at t)) (events_of t) s ⊎ HasStopped (facts_at t) s.me) k.stored.durable.kept

@@ -3,7 +3,7 @@
 use Rattle.std.specs.Prelude.{◌≡◌, ℕ, true, false, List, [], ◌∷◌, map, flat_map, take, Option, Some, None}
 use Rattle.commit_forget.specs.Beyond.{beyond}
 use Rattle.node_rules.specs.Data.{Standing}
-use Rattle.node_rules.specs.Kept.{Kept}
+use Rattle.node_rules.specs.NodeState.{NodeState}
 use Rattle.run_rules.specs.Facts.{Facts, first_facts, node_at, facts_of}
 use Rattle.run_base_laws.specs.InTurnLaws.{said_in}
 use Rattle.run_branch_laws.specs.TriedRun as tried
@@ -16,7 +16,7 @@ abbrev pub facts_by : ℕ → Facts
 facts_by count = facts_of tried.places [] (first_facts tried.places) (take count tried.trace)
 
 -- the rows of a node that is up
-abbrev pub rows_in : Option Kept → List Standing
+abbrev pub rows_in : Option NodeState → List Standing
 rows_in None = []
 rows_in (Some k) = k.stored.durable.kept
 

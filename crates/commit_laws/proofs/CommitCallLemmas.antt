@@ -5,7 +5,7 @@ use Rattle.node_rules.specs.Data.inputs
 use Rattle.node_rules.specs.Data.stmts
 use Rattle.node_rules.specs.declared.session.PendingCall.TheVariants as pending
 use Rattle.node_rules.specs.Inputs.{IsCall}
-use Rattle.node_rules.specs.Kept.{Kept, live_at}
+use Rattle.node_rules.specs.NodeState.{NodeState, live_at}
 use Rattle.node_rules.specs.Sessions.{session_at, with_call}
 use Rattle.node_rules.specs.Client.{begun_by}
 use Rattle.node_rules.proofs.Steps.{HasRoot, IsOfRows}
@@ -13,18 +13,18 @@ use Rattle.node_rules.proofs.StandLemmas.{call_set}
 
 module _ (Q : Live → Type 0) (p : Place) (input : Input) where
   -- it is so of the live root of the session to which a COMMIT comes
-  abbrev pub OfCommit : Kept → Type 0
+  abbrev pub OfCommit : NodeState → Type 0
   OfCommit k = (n : ℕ) (given : Option (List ℕ)) (l : Live) → IsCall input n (stmts.Commit given) → HasRoot k n l.me → live_at k l.me ≡ Some l → Q l
 
   one_call : (n m : ℕ) (s t : Stmt) → IsCall input n s → IsCall input m t → (n ≡ m) × (s ≡ t)
   one_call n m s t first second = let it : inputs.Call n (Some s) ≡ inputs.Call m (Some t) = sym first ∙ second in (cc, cc)
 
   -- a transaction begins: then no COMMIT comes
-  pub begun_commit : (k : Kept) (n : ℕ) (s : Stmt) → IsCall input n s → IsOfRows s → OfCommit (begun_by p k n None)
+  pub begun_commit : (k : NodeState) (n : ℕ) (s : Stmt) → IsCall input n s → IsOfRows s → OfCommit (begun_by p k n None)
   begun_commit k n s call rows m given l commit has live = let it : s ≡ stmts.Commit given = (one_call n m s (stmts.Commit given) call commit).1 in absurd (subst IsOfRows it rows)
 
   -- the COMMIT is pending
-  pub pends_commit : (k : Kept) (n : ℕ) (l : Live) (given : Option (List ℕ)) → IsCall input n (stmts.Commit given) → HasRoot k n l.me → OfCommit k → OfCommit (record k { sessions = with_call k.sessions n pending.Commit })
+  pub pends_commit : (k : NodeState) (n : ℕ) (l : Live) (given : Option (List ℕ)) → IsCall input n (stmts.Commit given) → HasRoot k n l.me → OfCommit k → OfCommit (record k { sessions = with_call k.sessions n pending.Commit })
   pends_commit k n l given call root so m more x commit has live =
       let it : n ≡ m = (one_call n m (stmts.Commit given) (stmts.Commit more) call commit).0 in
       let same_root : (session_at (with_call k.sessions n pending.Commit) n).root ≡ (session_at k.sessions n).root = ap (λ s. s.root) (call_set k.sessions n l.me pending.Commit root) in

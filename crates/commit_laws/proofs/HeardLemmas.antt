@@ -8,7 +8,7 @@ use Rattle.node_rules.specs.Data.inputs
 use Rattle.node_rules.specs.Data.kinds
 use Rattle.node_rules.specs.Data.phases
 use Rattle.node_rules.specs.Data.votes
-use Rattle.node_rules.specs.Kept.{Kept, Branch, Deed, live_id, live_at, branch_at, work_at, with_work}
+use Rattle.node_rules.specs.NodeState.{NodeState, Branch, Deed, live_id, live_at, branch_at, work_at, with_work}
 use Rattle.node_rules.specs.Prepare.{is_awaited}
 use Rattle.node_rules.specs.Turn.{turn_of, heard, deed_of, kind_turn, stand_of}
 use Rattle.run_rules.specs.Births.{Born, births_of, born_id}
@@ -76,7 +76,7 @@ module _ (t : History) (whole : IsLawfulRun t) (m : Msg) (came : CameInTurn t.tr
   pub may : MayHappen t.places t.commands f h
   may = may_of t whole hs h came.later came.is
 
-  abbrev k : Kept
+  abbrev k : NodeState
   k = may.0
 
   abbrev p : Place
@@ -85,7 +85,7 @@ module _ (t : History) (whole : IsLawfulRun t) (m : Msg) (came : CameInTurn t.tr
   up : node_at f b.node ≡ Some k
   up = subst (λ i. node_at f i ≡ Some k) came.here may.1.up
 
-  abbrev k0 : Kept
+  abbrev k0 : NodeState
   k0 = heard k (inputs.Message m)
 
   abbrev d : Deed
@@ -117,10 +117,10 @@ module _ (t : History) (whole : IsLawfulRun t) (m : Msg) (came : CameInTurn t.tr
       subst (λ x. node_at x b.node ≡ kept_after u.cut (Some (turn_of p k (inputs.Message m)))) (sym (one_on t hs h)) (there ∙ ap (λ (i : Input). kept_after u.cut (Some (turn_of p k i))) came.input)
 
   module _ (c : Option BranchId) (so : (y : Live) → live_at d.after b ≡ Some y → Served c y) where
-    by_cut : (cut : Bool) → (j : Kept) (y : Live) → kept_after cut (Some (turn_of p k (inputs.Message m))) ≡ Some j → live_at j b ≡ Some y → Served c y
+    by_cut : (cut : Bool) → (j : NodeState) (y : Live) → kept_after cut (Some (turn_of p k (inputs.Message m))) ≡ Some j → live_at j b ≡ Some y → Served c y
     unfolding turn_of
     by_cut true j y is live = absurd cc
-    by_cut false j y is live = (let it : d.after ≡ j = cc in so y (subst (λ (i : Kept). live_at i b ≡ Some y) (sym it) live))
+    by_cut false j y is live = (let it : d.after ≡ j = cc in so y (subst (λ (i : NodeState). live_at i b ≡ Some y) (sym it) live))
 
     served_then : ServedAt t whole b c (f_at t after)
     served_then j y there live = by_cut u.cut j y (sym left ∙ there) live

@@ -9,7 +9,7 @@ use Rattle.tran_ids.proofs.ListedLemmas.{item_is}
 use Rattle.agreement.specs.Events.{Event, Exit, Sealed, Decided, Quiet, Dropped, exit}
 use Rattle.node_rules.specs.Data.{BranchId, Live, Place, RedoRecord}
 use Rattle.node_rules.specs.Data.records
-use Rattle.node_rules.specs.Kept.{Kept, Deed, live_id, live_at}
+use Rattle.node_rules.specs.NodeState.{NodeState, Deed, live_id, live_at}
 use Rattle.node_rules.specs.Turn.{turn_of, heard, deed_of}
 use Rattle.run_rules.specs.Births.{Born, births_of, born_at}
 use Rattle.run_base_laws.specs.BirthLaws.{Began, IsChild, RecordNames}
@@ -121,7 +121,7 @@ module _ (t : History) (whole : IsLawfulRun t) (x : Born) (began : Began (births
 
     -- ---- a turn in which it leaves
 
-    module _ (u : Turn) (turn : h ≡ happenings.Turn u) (k : Kept) (may_u : MayTurn t.places f u k) (none : exit e c ≡ None) (node : u.node ≡ c.node) where
+    module _ (u : Turn) (turn : h ≡ happenings.Turn u) (k : NodeState) (may_u : MayTurn t.places f u k) (none : exit e c ≡ None) (node : u.node ≡ c.node) where
       abbrev p : Place
       p = place_at t.places u.node
 
@@ -217,7 +217,7 @@ module _ (t : History) (whole : IsLawfulRun t) (x : Born) (began : Began (births
       left_by true cut owed z now is_now = left_cut cut z now
       left_by false cut owed z now is_now = left_whole cut owed z now is_now
 
-    left_turn : (u : Turn) → h ≡ happenings.Turn u → (k : Kept) → MayTurn t.places f u k → exit e c ≡ None → (z : Exit) → z ≢ Dropped → exit (e_at t after) c ≡ Some z → IsSettled after
+    left_turn : (u : Turn) → h ≡ happenings.Turn u → (k : NodeState) → MayTurn t.places f u k → exit e c ≡ None → (z : Exit) → z ≢ Dropped → exit (e_at t after) c ≡ Some z → IsSettled after
     left_turn u turn k may_u none z other now =
         let is_now : exit (events_after t.places t.commands f (happenings.Turn u) e) c ≡ Some z
         = subst (λ (y : Happening). exit (events_after t.places t.commands f y e) c ≡ Some z) turn (subst (λ y. exit y c ≡ Some z) (more_on t hs h) now) in

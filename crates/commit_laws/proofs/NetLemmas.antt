@@ -5,7 +5,7 @@ use Rattle.std.proofs.lemmas.Bool.{cond_both}
 use Rattle.node_rules.specs.Data.{Msg, Place, Input}
 use Rattle.node_rules.specs.Data.inputs
 use Rattle.node_rules.specs.Words.{numbered, set_numbered}
-use Rattle.node_rules.specs.Kept.{Kept}
+use Rattle.node_rules.specs.NodeState.{NodeState}
 use Rattle.net_bag.specs.Net.{Net, sent_one, sent_on, is_lost_at_once, first_fate, fated, with_fate, flies, packet, packet_at, delivered, lost, goes_over, lost_over, cut_over, joined, goes_to, lost_to, stopped, started}
 use Rattle.run_rules.specs.Data.{Packet, Took, Happening, Command}
 use Rattle.run_rules.specs.Data.commands
@@ -114,7 +114,7 @@ module _ (Q : Msg → Type 0) where
 -- ---- what comes
 
 -- the input of a turn is the message that it took, at the receiver's node
-pub took_it : (f : Facts) (k : Kept) (node : ℕ) (input : Input) (took : Option Took) → Comes f k node input took → (j : Took) (x : Packet) → took ≡ Some j → packet_at f.net j.number ≡ Some x → (input ≡ inputs.Message x.msg) × (node ≡ x.msg.to.node)
+pub took_it : (f : Facts) (k : NodeState) (node : ℕ) (input : Input) (took : Option Took) → Comes f k node input took → (j : Took) (x : Packet) → took ≡ Some j → packet_at f.net j.number ≡ Some x → (input ≡ inputs.Message x.msg) × (node ≡ x.msg.to.node)
 took_it f k node (inputs.Message m) (Some i) comes j x is at =
     let both : Some i ≡ Some j = is in
     let here : i ≡ j = cc in

@@ -6,7 +6,7 @@ use Rattle.tran_ids.proofs.BranchLemmas.{equal_from_same}
 use Rattle.node_rules.specs.Data.{BranchId, Edge, Kind, Live, Place, Post}
 use Rattle.node_rules.specs.Data.stmts
 use Rattle.node_rules.specs.Words.{same, item_at}
-use Rattle.node_rules.specs.Kept.{Kept, Deed, live_id, live_at, branch_at, work_at, with_work}
+use Rattle.node_rules.specs.NodeState.{NodeState, Deed, live_id, live_at, branch_at, work_at, with_work}
 use Rattle.node_rules.specs.Prepare.{prepares, with_prepare_sent}
 use Rattle.node_rules.specs.Turn.{turn_of, heard, deed_of}
 use Rattle.node_rules.proofs.Steps.{HasRoot}
@@ -116,7 +116,7 @@ module _ (t : History) (whole : IsLawfulRun t) where
         let old : count_sent is_prepare (said_in f) p c ≤ 1 = now p c in
         elim (adds p c) [ inl none ↦ omega (arith, count, old, none) | inr first ↦ (let none = first.0 in let one = first.1 in omega (arith, count, none, one)) ]
 
-    module _ (u : Turn) (turn : h ≡ happenings.Turn u) (k : Kept) (may : MayTurn t.places f u k) where
+    module _ (u : Turn) (turn : h ≡ happenings.Turn u) (k : NodeState) (may : MayTurn t.places f u k) where
       abbrev p0 : Place
       p0 = place_at t.places u.node
 
@@ -134,8 +134,8 @@ module _ (t : History) (whole : IsLawfulRun t) where
       work : FindsWork (heard k u.input) p0 u.input (heard k u.input)
       work n given l call has live =
           let same : heard k u.input ≡ k = ap (heard k) call in
-          let root : HasRoot k n l.me = subst (λ (j : Kept). HasRoot j n l.me) same has in
-          let there : live_at k l.me ≡ Some l = subst (λ (j : Kept). live_at j l.me ≡ Some l) same live in
+          let root : HasRoot k n l.me = subst (λ (j : NodeState). HasRoot j n l.me) same has in
+          let there : live_at k l.me ≡ Some l = subst (λ (j : NodeState). live_at j l.me ≡ Some l) same live in
           (rest_at k may.up n (Some (stmts.Commit given)) call (record { live = l; work = work_at k l.me }) root (branch_of l there)).0
 
       asks : Asks (heard k u.input) p0 u.input d.says

@@ -9,7 +9,7 @@ use Rattle.node_rules.specs.Data.acts
 use Rattle.node_rules.specs.Data.kinds
 use Rattle.node_rules.specs.Data.phases
 use Rattle.node_rules.specs.declared.session.Session.{Session}
-use Rattle.node_rules.specs.Kept.{Kept, Branch, Deed, live_at, to_one, to_each}
+use Rattle.node_rules.specs.NodeState.{NodeState, Branch, Deed, live_at, to_one, to_each}
 use Rattle.node_rules.specs.Calls.{answer_says, exec_to, with_edge, hears_reply}
 use Rattle.node_rules.specs.Statement.{ran, after_run}
 use Rattle.node_rules.specs.Prepare.{path_of, with_prepare_sent, collecting, with_comment, prepares, site_neighbors, act_turn}
@@ -33,7 +33,7 @@ exec_plain : (ss : List Session) (x : Branch) (i : ℕ) (s : Stmt) (given : ℕ)
 exec_plain ss x i s given None = tt
 exec_plain ss x i s given (Some c) = (refl, tt)
 
-says_plain : {k : Kept} {input : Input} {says : List Post} → Says k input says → AllSay IsPlain says
+says_plain : {k : NodeState} {input : Input} {says : List Post} → Says k input says → AllSay IsPlain says
 says_plain (steps.Tells s from came kept) = (told_says IsPlain plain_decisions (kept_told s from), tt)
 says_plain {k = k} (steps.Recovers reco) = askings_say IsPlain plain_decisions k
 says_plain _ = (refl, tt)
@@ -47,7 +47,7 @@ never_points : {l : Live} → Pointed l acts.AskDown → ⊥
 never_points pointed = elim pointed [ ]
 
 -- A live branch that was working asks its children.
-pub record AsksDown (k0 : Kept) (says : List Post) : Type 0 where
+pub record AsksDown (k0 : NodeState) (says : List Post) : Type 0 where
   pub live : Live
   pub found : live_at k0 live.me ≡ Some live
   pub working : live.phase ≡ phases.Working
@@ -55,15 +55,15 @@ pub record AsksDown (k0 : Kept) (says : List Post) : Type 0 where
   pub path : Option ℕ
   pub is : says ≡ prepares live.me comment path 1 (map with_prepare_sent live.edges)
 
-module _ (k0 : Kept) (p : Place) (input : Input) where
+module _ (k0 : NodeState) (p : Place) (input : Input) where
   -- COMMIT finds its root working
-  abbrev pub FindsWork : Kept → Type 0
+  abbrev pub FindsWork : NodeState → Type 0
   FindsWork k = OfCommit (λ l. l.phase ≡ phases.Working) p input k
 
   abbrev pub Asks : List Post → Type 0
   Asks says = AllSay IsPlain says ⊎ AsksDown k0 says
 
-  module _ (k : Kept) (near : Near k0 k) (work : FindsWork k) where
+  module _ (k : NodeState) (near : Near k0 k) (work : FindsWork k) where
     near_live : (l : Live) → live_at k l.me ≡ Some l → live_at k0 l.me ≡ Some l
     near_live l live = subst (λ ls. live_at (record k0 { lives = ls }) l.me ≡ Some l) near.lives live
 
@@ -91,7 +91,7 @@ module _ (k0 : Kept) (p : Place) (input : Input) where
     acts_ask acts.Finish why = inl tt
     acts_ask {l = l} acts.Abandon why = inl (all_append (λ x. IsPlain x.kind) (to_one l.me kinds.Abort l.parent) _ (one_says IsPlain l.me kinds.Abort l.parent refl) (rolled_plain l))
 
-  pub asks_on : {k : Kept} {d : Deed} → Step p input k d → (NoRows input → Near k0 k) → FindsWork k → Asks d.says
+  pub asks_on : {k : NodeState} {d : Deed} → Step p input k d → (NoRows input → Near k0 k) → FindsWork k → Asks d.says
   asks_on (steps.Begins {k = k} n s call rows range none step) near work = asks_on step (λ apart. absurd (apart n s call rows)) (begun_commit (λ l. l.phase ≡ phases.Working) p input k n s call rows)
   asks_on (steps.Pends {k = k} n l given call has live code step) near work = asks_on step (λ apart. (let is = near apart in record { lives = is.lives; clock = is.clock })) (pends_commit (λ l. l.phase ≡ phases.Working) p input k n l given call has work)
   asks_on (steps.Lets_reads_go {k = k} l comment b live begins step) near work = asks_on step (λ apart. (let is = near apart in record { lives = is.lives; clock = is.clock })) work

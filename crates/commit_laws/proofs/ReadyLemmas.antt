@@ -3,7 +3,7 @@ use Rattle.std.proofs.Common.{List, ◌++◌, sym, subst}
 use Rattle.std.specs.Prelude.{IfSome}
 use Rattle.std.specs.List.{AllByRecursion}
 use Rattle.node_rules.specs.Data.{Live, Post, RedoRecord}
-use Rattle.node_rules.specs.Kept.{Kept, live_id}
+use Rattle.node_rules.specs.NodeState.{NodeState, live_id}
 use Rattle.node_rules.specs.Turn.{start_of, deed_of}
 use Rattle.run_rules.specs.Data.{Turn, Happening}
 use Rattle.run_rules.specs.Facts.{place_at}
@@ -30,7 +30,7 @@ unfolding start_of
 started_so said rs = tt
 
 -- a turn leaves it so at its node
-turn_answered : (t : History) (before : List Happening) → IsLawfulRun (so_far t before) → EachNode AllAnswered (f_at t before) → (u : Turn) (k : Kept) → MayTurn t.places (f_at t before) u k
+turn_answered : (t : History) (before : List Happening) → IsLawfulRun (so_far t before) → EachNode AllAnswered (f_at t before) → (u : Turn) (k : NodeState) → MayTurn t.places (f_at t before) u k
     → AllAnswered (said_in (f_at t before) ++ (deed_of (place_at t.places u.node) k u.input).says) (deed_of (place_at t.places u.node) k u.input).after
 turn_answered t before lawful now u k may =
     let said : List Post = said_in (f_at t before) in

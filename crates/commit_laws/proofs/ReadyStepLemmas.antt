@@ -9,7 +9,7 @@ use Rattle.node_rules.specs.Data.acts
 use Rattle.node_rules.specs.Data.kinds
 use Rattle.node_rules.specs.Data.phases
 use Rattle.node_rules.specs.Words.{same}
-use Rattle.node_rules.specs.Kept.{Kept, Branch, Deed, live_id, branch_at, to_one}
+use Rattle.node_rules.specs.NodeState.{NodeState, Branch, Deed, live_id, branch_at, to_one}
 use Rattle.node_rules.specs.Statement.{ran, after_run}
 use Rattle.node_rules.specs.Calls.{with_edge, hears_reply}
 use Rattle.node_rules.specs.Prepare.{ready, act_turn}
@@ -38,7 +38,7 @@ module _ (all : List Post) where
   abbrev pub Answered : Live → Type 0
   Answered l = l.phase ≡ phases.Ready → (q : BranchId) → l.parent ≡ Some q → was_sent is_answer all l.me q ≡ true
 
-  abbrev pub AllAnswered : Kept → Type 0
+  abbrev pub AllAnswered : NodeState → Type 0
   AllAnswered k = AllByRecursion Answered k.lives
 
   -- what is said is among all messages
@@ -46,7 +46,7 @@ module _ (all : List Post) where
   Adds says = (b q : BranchId) → was_sent is_answer says b q ≡ true → was_sent is_answer all b q ≡ true
 
   module _ (p : Place) (input : Input) where
-    module _ (k : Kept) (now : AllAnswered k) where
+    module _ (k : NodeState) (now : AllAnswered k) where
       found : (x : Branch) → branch_at k x.live.me ≡ Some x → Answered x.live
       found x at = all_found Answered live_id k.lives x.live.me x.live now (live_so k x.live.me x at)
 
@@ -73,7 +73,7 @@ module _ (all : List Post) where
       acts_so l below acts.Finish adds so = all_without Answered live_id k.lives l.me now
       acts_so l below acts.Abandon adds so = all_without Answered live_id k.lives l.me now
 
-    pub answered_on : {k : Kept} {d : Deed} → Step p input k d → Adds d.says → AllAnswered k → AllAnswered d.after
+    pub answered_on : {k : NodeState} {d : Deed} → Step p input k d → Adds d.says → AllAnswered k → AllAnswered d.after
     answered_on (steps.Begins {k = k} n s call rows range free step) adds now = answered_on step adds (all_last Answered live_id k.lives _ now (λ is. absurd cc))
     answered_on (steps.Pends n l given call has live code step) adds now = answered_on step adds now
     answered_on (steps.Lets_reads_go l comment below live begins step) adds now = answered_on step adds now

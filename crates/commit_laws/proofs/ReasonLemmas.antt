@@ -13,7 +13,7 @@ use Rattle.node_rules.specs.Data.inputs
 use Rattle.node_rules.specs.Data.stmts
 use Rattle.node_rules.specs.Words.{same, item_at, put_item, drop_item}
 use Rattle.node_rules.specs.Inputs.{Came, IsCall}
-use Rattle.node_rules.specs.Kept.{Kept, Deed, live_id, live_at, to_one}
+use Rattle.node_rules.specs.NodeState.{NodeState, Deed, live_id, live_at, to_one}
 use Rattle.node_rules.specs.Turn.{stamped}
 use Rattle.node_rules.specs.Statement.{ran, after_run}
 use Rattle.node_rules.specs.Calls.{with_edge, hears_reply}
@@ -67,14 +67,14 @@ never_finishes pointed = elim pointed [ ]
 
 module _ (p : Place) (input : Input) (b : BranchId) (parent : Option BranchId) (below : parent ≢ None) where
   -- the branch is live, with this parent
-  abbrev Lives : Kept → Type 0
+  abbrev Lives : NodeState → Type 0
   Lives k = (l : Live) × (live_at k b ≡ Some l) × (l.parent ≡ parent)
 
   -- it has a reason where it is live no more
   abbrev Leaves : Deed → Type 0
   Leaves d = live_at d.after b ≡ None → (sent : List Msg) → list_any (is_quiet b) sent ≡ list_any (is_quiet_post b) d.says → Reason input b parent d.wrote sent
 
-  module _ (k : Kept) (lives : Lives k) where
+  module _ (k : NodeState) (lives : Lives k) where
     -- where it is found after all it has not left
     found_not : (ls : List Live) (l : Live) → item_at live_id ls b ≡ Some l → item_at live_id ls b ≡ None → ⊥
     found_not ls l some none = absurd (cc (some, none))
@@ -157,7 +157,7 @@ module _ (p : Place) (input : Input) (b : BranchId) (parent : Option BranchId) (
   abbrev OfRoot : ℕ → Type 0
   OfRoot n = IsCall input n stmts.Rollback ⊎ (input ≡ inputs.GiveUp n)
 
-  abbrev Roots : Kept → Type 0
+  abbrev Roots : NodeState → Type 0
   Roots k = (n : ℕ) → OfRoot n → (l : Live) → HasRoot k n b → live_at k b ≡ Some l → l.parent ≡ None
 
   no_root : (n m : ℕ) (s : Stmt) → IsCall input n s → s ≢ stmts.Rollback → OfRoot m → ⊥
@@ -167,7 +167,7 @@ module _ (p : Place) (input : Input) (b : BranchId) (parent : Option BranchId) (
   rows_other : (s : Stmt) → IsOfRows s → s ≢ stmts.Rollback
   rows_other s rows is = subst IsOfRows is rows
 
-  pub leaves_on : {k : Kept} {d : Deed} → Step p input k d → Lives k → Roots k → Leaves d
+  pub leaves_on : {k : NodeState} {d : Deed} → Step p input k d → Lives k → Roots k → Leaves d
   leaves_on (steps.Begins {k = k} n s call rows range free step) lives roots none sent quiet = leaves_on step (lives.0, last_found k.lives _ b lives.0 lives.1, lives.2) (λ m of l has live. absurd (no_root n m s call (rows_other s rows) of)) none sent quiet
   leaves_on (steps.Pends n l given call has live code step) lives roots none sent quiet = leaves_on step lives (λ m of x root at. absurd (no_root n m (stmts.Commit given) call (λ is. absurd cc) of)) none sent quiet
   leaves_on (steps.Lets_reads_go l comment down live begins step) lives roots none sent quiet = leaves_on step lives roots none sent quiet

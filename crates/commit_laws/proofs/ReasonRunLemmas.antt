@@ -3,7 +3,7 @@ use Rattle.std.proofs.Common.{◌≡◌, List, [], ◌∷◌, ◌++◌, Some, re
 use Rattle.std.proofs.lemmas.List.{append_assoc}
 use Rattle.node_rules.specs.Data.{Live, Place}
 use Rattle.node_rules.specs.Words.{item_at}
-use Rattle.node_rules.specs.Kept.{Kept, Deed, live_id, live_at}
+use Rattle.node_rules.specs.NodeState.{NodeState, Deed, live_id, live_at}
 use Rattle.node_rules.specs.Sessions.{session_at}
 use Rattle.node_rules.specs.Turn.{turn_of, heard, deed_of}
 use Rattle.node_rules.proofs.HeardLemmas.{sessions_heard}
@@ -31,7 +31,7 @@ module _ (t : History) (So : List Place → Facts → Happening → Type 0) (so 
   by_fact = each_from [] t.trace refl
 
 module _ (t : History) (whole : IsLawfulRun t) (hs : List Happening) (rest : List Happening) where
-  turn_leaves : (u : Turn) → hs ++ happenings.Turn u ∷ rest ≡ t.trace → (k : Kept) → node_at (f_at t hs) u.node ≡ Some k → LeavesForReason u.input k (turn_of (place_at t.places u.node) k u.input)
+  turn_leaves : (u : Turn) → hs ++ happenings.Turn u ∷ rest ≡ t.trace → (k : NodeState) → node_at (f_at t hs) u.node ≡ Some k → LeavesForReason u.input k (turn_of (place_at t.places u.node) k u.input)
   unfolding turn_of
   turn_leaves u is k up b l live some none =
       let p : Place = place_at t.places u.node in

@@ -9,7 +9,7 @@ use Rattle.node_rules.specs.Data.phases
 use Rattle.node_rules.specs.Data.stmts
 use Rattle.node_rules.specs.declared.session.PendingCall.TheVariants as pending
 use Rattle.node_rules.specs.Client.{root_by, root_at, commit_by}
-use Rattle.node_rules.specs.Kept.{Kept, Branch, Deed, live_id, live_at, work_at, with_work}
+use Rattle.node_rules.specs.NodeState.{NodeState, Branch, Deed, live_id, live_at, work_at, with_work}
 use Rattle.node_rules.specs.Prepare.{collecting, with_comment, without_read_keys, first_act}
 use Rattle.node_rules.specs.Sessions.{with_call}
 use Rattle.node_rules.specs.Turn.{turn_of, deed_of}
@@ -37,7 +37,7 @@ use Rattle.commit_laws.proofs.TurnLemmas.{acted, none_named}
 
 -- ---- the turn of the COMMIT
 
-module _ (k : Kept) (n : ℕ) (comment : List ℕ) (l : Live) (y : Live) where
+module _ (k : NodeState) (n : ℕ) (comment : List ℕ) (l : Live) (y : Live) where
   abbrev x : Branch
   x = record { live = l; work = work_at k l.me }
 
@@ -67,7 +67,7 @@ module _ (t : History) (whole : IsLawfulRun t) (c : Commit t.places t.commands t
   abbrev b : BranchId
   b = c.root
 
-  abbrev k : Kept
+  abbrev k : NodeState
   k = c.kept
 
   part : Part t whole hs
@@ -128,7 +128,7 @@ module _ (t : History) (whole : IsLawfulRun t) (c : Commit t.places t.commands t
   served_after j y there live =
       let both : Some d.after ≡ Some j = sym left ∙ there in
       let it : d.after ≡ j = cc in
-      served_turn y (subst (λ (i : Kept). live_at i b ≡ Some y) (sym it) live)
+      served_turn y (subst (λ (i : NodeState). live_at i b ≡ Some y) (sym it) live)
 
   served : ServedAt t whole b None (facts_at t)
   served = served_end t whole b None after c.during (append_assoc hs (h ∷ []) c.during ∙ c.is) (born_after, served_after)
@@ -138,7 +138,7 @@ module _ (t : History) (whole : IsLawfulRun t) (c : Commit t.places t.commands t
   began : Began (births_of t) placed.born
   began = born_end t whole hs part placed.born placed.began
 
-  module _ (below : DroppedNone t c.root) (j : Kept) (up : node_at (facts_at t) b.node ≡ Some j) (l : Live) (live : live_at j b ≡ Some l) where
+  module _ (below : DroppedNone t c.root) (j : NodeState) (up : node_at (facts_at t) b.node ≡ Some j) (l : Live) (live : live_at j b ≡ Some l) where
     is_me : l.me ≡ b
     is_me = item_is live_id j.lives b l live
 
@@ -174,7 +174,7 @@ module _ (t : History) (whole : IsLawfulRun t) (c : Commit t.places t.commands t
         let fits : PhaseFits l.parent l.edges l.phase = all_found (λ (z : Live). PhaseFits z.parent z.edges z.phase) live_id j.lives l.me l (phases_fit t whole b.node j up) mine in
         (subst (PhaseFits l.parent l.edges) is fits).2 l_parent
 
-  none_live : DroppedNone t c.root → (j : Kept) → node_at (facts_at t) b.node ≡ Some j → (o : Option Live) → live_at j b ≡ o → live_at j b ≡ None
+  none_live : DroppedNone t c.root → (j : NodeState) → node_at (facts_at t) b.node ≡ Some j → (o : Option Live) → live_at j b ≡ o → live_at j b ≡ None
   none_live below j up None is = is
   none_live below j up (Some l) is = absurd (by_phase below j up l is l.phase refl)
 

@@ -10,7 +10,7 @@ use Rattle.node_rules.specs.Data.kinds
 use Rattle.node_rules.specs.Data.phases
 use Rattle.node_rules.specs.Data.records
 use Rattle.node_rules.specs.Data.towards
-use Rattle.node_rules.specs.Kept.{Kept, Deed, live_at, to_one}
+use Rattle.node_rules.specs.NodeState.{NodeState, Deed, live_at, to_one}
 use Rattle.node_rules.proofs.Steps as steps
 use Rattle.node_rules.proofs.Steps.{Step, Acting, Collected}
 use Rattle.run_branch_laws.specs.WalkLaws.{was_sent}
@@ -24,7 +24,7 @@ SaysSeal says (records.Sealed r) = r.toward ≡ towards.Parent → says ≡ to_o
 SaysSeal says _ = Unit {0}
 
 module _ (p : Place) (input : Input) where
-  pub seal_says : {k : Kept} {d : Deed} → Step p input k d → IfSome d.wrote (SaysSeal d.says)
+  pub seal_says : {k : NodeState} {d : Deed} → Step p input k d → IfSome d.wrote (SaysSeal d.says)
   seal_says (steps.Begins n s call rows range free step) = seal_says step
   seal_says (steps.Pends n l given call has live code step) = seal_says step
   seal_says (steps.Lets_reads_go l comment below live begins step) = seal_says step
@@ -56,7 +56,7 @@ module _ (p : Place) (input : Input) where
 -- ---- branches that were Ready
 
 -- a branch was Ready
-abbrev pub WasReady : Kept → BranchId → Option BranchId → Type 0
+abbrev pub WasReady : NodeState → BranchId → Option BranchId → Type 0
 WasReady k me parent = (l : Live) × (live_at k me ≡ Some l) × (l.phase ≡ phases.Ready) × (l.parent ≡ parent)
 
 no_root : {A : Type 0} (o : Option A) (a : A) → is_none o ≡ true → o ≡ Some a → ⊥
@@ -77,11 +77,11 @@ collected_root (steps.Has_nothing is) way q above = elim way [ ]
 collected_root (steps.Is_prepared is) way q above = elim way [ ]
 collected_root (steps.Awaits_point is) way q above = elim way [ ]
 
-module _ (k0 : Kept) (input : Input) where
-  near_live : (k : Kept) → Near k0 k → (l : Live) → live_at k l.me ≡ Some l → live_at k0 l.me ≡ Some l
+module _ (k0 : NodeState) (input : Input) where
+  near_live : (k : NodeState) → Near k0 k → (l : Live) → live_at k l.me ≡ Some l → live_at k0 l.me ≡ Some l
   near_live k near l live = subst (λ ls. live_at (record k0 { lives = ls }) l.me ≡ Some l) near.lives live
 
-  was_ready : (k : Kept) → Near k0 k → {l : Live} {below : Bool} {a : Act} → Acting k input l below a → OnPoint a → (q : BranchId) → l.parent ≡ Some q → WasReady k0 l.me (Some q)
+  was_ready : (k : NodeState) → Near k0 k → {l : Live} {below : Bool} {a : Act} → Acting k input l below a → OnPoint a → (q : BranchId) → l.parent ≡ Some q → WasReady k0 l.me (Some q)
   was_ready k near (steps.At_point l from a live came is pointed) way q above = (l, near_live k near l live, is, above)
   was_ready k near (steps.Has_no_children l comment below a live begins none collected) way q above = absurd (collected_root collected way q above)
   was_ready k near (steps.Hears_last l from v below a live answers other all collected) way q above = absurd (collected_root collected way q above)

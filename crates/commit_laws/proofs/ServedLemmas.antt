@@ -5,7 +5,7 @@ use Rattle.tran_ids.proofs.ListedLemmas.{item_is}
 use Rattle.node_rules.specs.Data.{BranchId, Live, Place}
 use Rattle.node_rules.specs.Data.stmts
 use Rattle.node_rules.specs.Words.{item_at}
-use Rattle.node_rules.specs.Kept.{Kept, Branch, Deed, live_id, live_at, branch_at, work_at, with_work}
+use Rattle.node_rules.specs.NodeState.{NodeState, Branch, Deed, live_id, live_at, branch_at, work_at, with_work}
 use Rattle.node_rules.specs.Turn.{turn_of, heard, deed_of}
 use Rattle.node_rules.proofs.Steps.{HasRoot}
 use Rattle.run_rules.specs.Births.{Born, births_by, births_of, born_at}
@@ -37,7 +37,7 @@ use Rattle.commit_laws.proofs.KeepLemmas.{Served, IfMe, AllServed, CallsOther, s
 module _ (t : History) (whole : IsLawfulRun t) (b : BranchId) (c : Option BranchId) where
   -- it is so at its node
   abbrev pub ServedAt : Facts → Type 0
-  ServedAt f = (k : Kept) (l : Live) → node_at f b.node ≡ Some k → live_at k b ≡ Some l → Served c l
+  ServedAt f = (k : NodeState) (l : Live) → node_at f b.node ≡ Some k → live_at k b ≡ Some l → Served c l
 
   abbrev pub HasBorn : List Happening → Type 0
   HasBorn hs = (x : Born) × Began (births_of (so_far t hs)) x × (x.me ≡ b)
@@ -64,7 +64,7 @@ module _ (t : History) (whole : IsLawfulRun t) (b : BranchId) (c : Option Branch
     born_next : HasBorn after
     born_next = (now.0.0, born_end (so_far t after) lawful_z hs (record { rest = h ∷ []; is = refl }) now.0.0 now.0.1, now.0.2)
 
-    module _ (u : Turn) (turn : h ≡ happenings.Turn u) (k : Kept) (may : MayTurn t.places f u k) (node : u.node ≡ b.node) where
+    module _ (u : Turn) (turn : h ≡ happenings.Turn u) (k : NodeState) (may : MayTurn t.places f u k) (node : u.node ≡ b.node) where
       abbrev p : Place
       p = place_at t.places u.node
 
@@ -98,8 +98,8 @@ module _ (t : History) (whole : IsLawfulRun t) (b : BranchId) (c : Option Branch
       other : CallsOther b c p u.input (heard k u.input)
       other n given l call has live me =
           let same : heard k u.input ≡ k = ap (heard k) call in
-          let root : HasRoot k n l.me = subst (λ (j : Kept). HasRoot j n l.me) same has in
-          let there : live_at k l.me ≡ Some l = subst (λ (j : Kept). live_at j l.me ≡ Some l) same live in
+          let root : HasRoot k n l.me = subst (λ (j : NodeState). HasRoot j n l.me) same has in
+          let there : live_at k l.me ≡ Some l = subst (λ (j : NodeState). live_at j l.me ≡ Some l) same live in
           let x : Branch = record { live = l; work = work_at k l.me } in
           let found : branch_at k l.me ≡ Some x = ap (with_work k) there in
           (now.1 k l up (subst (λ i. live_at k i ≡ Some l) me there)).busy (rest_at k may.up n (Some (stmts.Commit given)) call x root found).0
@@ -122,12 +122,12 @@ module _ (t : History) (whole : IsLawfulRun t) (b : BranchId) (c : Option Branch
           = subst (λ (y : Happening). node_at (facts_after t.places t.commands f y) b.node ≡ kept_after u.cut (Some (turn_of p k u.input))) (sym turn) there in
           subst (λ x. node_at x b.node ≡ kept_after u.cut (Some (turn_of p k u.input))) (sym (one_on t hs h)) its
 
-      by_cut : (cut : Bool) → (j : Kept) (l : Live) → kept_after cut (Some (turn_of p k u.input)) ≡ Some j → live_at j b ≡ Some l → Served c l
+      by_cut : (cut : Bool) → (j : NodeState) (l : Live) → kept_after cut (Some (turn_of p k u.input)) ≡ Some j → live_at j b ≡ Some l → Served c l
       unfolding turn_of
       by_cut true j l is live = absurd cc
       by_cut false j l is live =
           let it : d.after ≡ j = cc in
-          let there : live_at d.after b ≡ Some l = subst (λ (i : Kept). live_at i b ≡ Some l) (sym it) live in
+          let there : live_at d.after b ≡ Some l = subst (λ (i : NodeState). live_at i b ≡ Some l) (sym it) live in
           all_found (IfMe b c p u.input) live_id d.after.lives b l served_after there (item_is live_id d.after.lives b l there)
 
       turn_served : ServedAt (f_at t after)
@@ -141,13 +141,13 @@ module _ (t : History) (whole : IsLawfulRun t) (b : BranchId) (c : Option Branch
         let found : branch_at j l.me ≡ Some w = ap (with_work j) (subst (λ i. live_at j i ≡ Some l) (sym me) live) in
         now.1 j l (node_back t hs h not b.node j (subst (λ x. node_at x b.node ≡ Some j) (one_on t hs h) there) w found) live
 
-    turn_elsewhere_served : (u : Turn) → h ≡ happenings.Turn u → (k : Kept) → MayTurn t.places f u k → u.node ≢ b.node → ServedAt (f_at t after)
+    turn_elsewhere_served : (u : Turn) → h ≡ happenings.Turn u → (k : NodeState) → MayTurn t.places f u k → u.node ≢ b.node → ServedAt (f_at t after)
     turn_elsewhere_served u turn k may other j l there live =
         let its : node_at (facts_after t.places t.commands f (happenings.Turn u)) b.node ≡ Some j
         = subst (λ (y : Happening). node_at (facts_after t.places t.commands f y) b.node ≡ Some j) turn (subst (λ x. node_at x b.node ≡ Some j) (one_on t hs h) there) in
         now.1 j l (sym (turn_elsewhere t.places t.commands f (run_births s lawful).0.0.even u b.node other).0 ∙ its) live
 
-    turn_any : (u : Turn) → h ≡ happenings.Turn u → (k : Kept) → MayTurn t.places f u k → ServedAt (f_at t after)
+    turn_any : (u : Turn) → h ≡ happenings.Turn u → (k : NodeState) → MayTurn t.places f u k → ServedAt (f_at t after)
     turn_any u turn k may = elim (cases_nat u.node b.node) [
       | inl node ↦ turn_served u turn k may node
       | inr other ↦ turn_elsewhere_served u turn k may other

@@ -3,7 +3,7 @@
 use Rattle.std.proofs.Common.{◌≡◌, ◌≢◌, ℕ, ◌+◌, ◌<◌, ◌&&◌, ◌||◌, Bool, true, false, List, [], ◌∷◌, length, position, option_map, Option, Some, None, refl, ap, subst, ◌∙◌, arith}
 use Rattle.std.specs.List.{AllByRecursion, list_any, position_or_len}
 use Rattle.node_rules.specs.Data.{BranchId}
-use Rattle.node_rules.specs.Kept.{Kept}
+use Rattle.node_rules.specs.NodeState.{NodeState}
 use Rattle.net_bag.specs.Net.{is_flying, flies}
 use Rattle.run_rules.specs.Births.{Born, births_of}
 use Rattle.run_base_laws.specs.BirthLaws.{Began}
@@ -82,7 +82,7 @@ module _ (t : History) (whole : IsLawfulRun t) (c : Commit t.places t.commands t
       (none_all flies (facts_at t).net.packets (none_placed flies (facts_at t).net.packets u.over)))
 
   -- a node that is up is in its last start
-  boot_is : (n : ℕ) (k : Kept) → node_at (facts_at t) n ≡ Some k → k.stored.durable.boot ≡ boots (records_at (facts_at t) n)
+  boot_is : (n : ℕ) (k : NodeState) → node_at (facts_at t) n ≡ Some k → k.stored.durable.boot ≡ boots (records_at (facts_at t) n)
   boot_is n k up =
       let node = node_so t.places t.commands t.of_a_script.each (facts_at t) (events_of t) (run_stands t whole) n k up in
       ap (λ s. s.durable.boot) node.stored ∙ node.boot
@@ -90,7 +90,7 @@ module _ (t : History) (whole : IsLawfulRun t) (c : Commit t.places t.commands t
   not_stopped : (b : BranchId) → HasNotStopped (facts_at t) b → HasStopped (facts_at t) b → ⊥
   not_stopped b stays stops = by (node_at (facts_at t) b.node) refl stays
     where
-      by : (o : Option Kept) → node_at (facts_at t) b.node ≡ o → option_map (λ (k : Kept). k.stored.durable.boot) o ≡ Some b.boot → ⊥
+      by : (o : Option NodeState) → node_at (facts_at t) b.node ≡ o → option_map (λ (k : NodeState). k.stored.durable.boot) o ≡ Some b.boot → ⊥
       by None up is = absurd cc
       by (Some k) up is =
           let both : Some k.stored.durable.boot ≡ Some b.boot = is in

@@ -2,7 +2,7 @@
 -- that is cut stops its node, and so does a stop.
 use Rattle.std.proofs.Common.{◌≡◌, ℕ, true, List, ◌∷◌, ◌++◌, [], length, Some, None, inl, inr, sym, ap, subst, ◌∙◌, arith}
 use Rattle.node_rules.specs.Data.{BranchId}
-use Rattle.node_rules.specs.Kept.{Kept}
+use Rattle.node_rules.specs.NodeState.{NodeState}
 use Rattle.node_rules.specs.Turn.{turn_of}
 use Rattle.run_rules.specs.Data.{Happening, Turn}
 use Rattle.run_rules.specs.Data.happenings
@@ -16,7 +16,7 @@ use Rattle.commit_laws.specs.WaitLaws.{HasStopped}
 use Rattle.commit_laws.proofs.UnlessStoppedLemmas.{HasLeft, Here, TurnsKeep, here_on, here_end}
 
 module _ (t : History) (whole : IsLawfulRun t) (b : BranchId) where
-  abbrev never : Kept → Type 0
+  abbrev never : NodeState → Type 0
   never k = ⊥
 
   nothing_kept : TurnsKeep t whole b never
@@ -60,7 +60,7 @@ module _ (t : History) (whole : IsLawfulRun t) (b : BranchId) where
         absurd (cc (none, up))
 
     -- a turn that is cut stops its node
-    pub cut_stops : (u : Turn) → h ≡ happenings.Turn u → (k : Kept) → node_at f u.node ≡ Some k → u.node ≡ b.node → u.cut ≡ true → HasStopped (f_at t after) b
+    pub cut_stops : (u : Turn) → h ≡ happenings.Turn u → (k : NodeState) → node_at f u.node ≡ Some k → u.node ≡ b.node → u.cut ≡ true → HasStopped (f_at t after) b
     cut_stops u turn k up node cut =
         down_stops (happenings.Turn u) turn u.node node ((turn_here t.places t.commands f even u k up).0 ∙ ap (λ c. kept_after c (Some (turn_of (place_at t.places u.node) k u.input))) cut)
 

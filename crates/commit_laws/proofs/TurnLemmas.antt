@@ -11,7 +11,7 @@ use Rattle.node_rules.specs.Data.kinds
 use Rattle.node_rules.specs.Data.phases
 use Rattle.node_rules.specs.Words.{same}
 use Rattle.node_rules.specs.Commit.{is_asked_again}
-use Rattle.node_rules.specs.Kept.{Kept, live_id, live_at, work_at, with_work, standing_at, without_branch, nothing, saying, post}
+use Rattle.node_rules.specs.NodeState.{NodeState, live_id, live_at, work_at, with_work, standing_at, without_branch, nothing, saying, post}
 use Rattle.node_rules.specs.Prepare.{ready, voted, has_voted, answers_first, is_awaited, act_turn, collecting, with_comment, without_read_keys, first_act, prepare_in, answer_in, answer_act}
 use Rattle.prepare_phase.specs.Acts.{is_first_answer}
 use Rattle.node_rules.specs.Turn.{Stand, Is_live, kept_or_gone, live_or, stand_of, prepare_turn, answer_turn}
@@ -21,17 +21,17 @@ use Rattle.commit_laws.proofs.KeepLemmas.{Has, Served}
 
 -- ---- where a branch stands
 
-stand_live : (k : Kept) (b : BranchId) (l : Live) → live_at k b ≡ Some l → stand_of k b ≡ Is_live (record { live = l; work = work_at k l.me })
+stand_live : (k : NodeState) (b : BranchId) (l : Live) → live_at k b ≡ Some l → stand_of k b ≡ Is_live (record { live = l; work = work_at k l.me })
 unfolding stand_of
 stand_live k b l is = ap (λ o. live_or (with_work k o) (standing_at k b)) is
 
-stand_other : (k : Kept) (b : BranchId) → live_at k b ≡ None → stand_of k b ≡ kept_or_gone (standing_at k b)
+stand_other : (k : NodeState) (b : BranchId) → live_at k b ≡ None → stand_of k b ≡ kept_or_gone (standing_at k b)
 unfolding stand_of
 stand_other k b is = ap (λ o. live_or (with_work k o) (standing_at k b)) is
 
 -- ---- acts
 
-module _ (c : Option BranchId) (k : Kept) (l : Live) (below : Bool) (so : Served c l) where
+module _ (c : Option BranchId) (k : NodeState) (l : Live) (below : Bool) (so : Served c l) where
   left : (y : Live) → live_at (without_branch k l.me) l.me ≡ Some y → Served c y
   left y live = let none : live_at (without_branch k l.me) l.me ≡ None = drop_gone live_id k.lives l.me in absurd (cc (none, live))
 
@@ -60,7 +60,7 @@ pub none_named : (es : List Edge) → AllByRecursion (Has None) es
 none_named [] = tt
 none_named (e ∷ es) = (tt, none_named es)
 
-module _ (k : Kept) (from to : BranchId) (below : Bool) (comment : List ℕ) (y : Live) where
+module _ (k : NodeState) (from to : BranchId) (below : Bool) (comment : List ℕ) (y : Live) where
   -- one that is not live
   unmoved : (o : Option Standing) → (prepare_turn k from to below comment (kept_or_gone o)).after ≡ k
   unmoved None = refl
@@ -80,7 +80,7 @@ module _ (k : Kept) (from to : BranchId) (below : Bool) (comment : List ℕ) (y 
   by_live : (o : Option Live) → live_at k to ≡ o → live_at (prepare_turn k from to below comment (stand_of k to)).after to ≡ Some y → Served None y
   by_live None is live =
       let at : live_at (prepare_turn k from to below comment (kept_or_gone (standing_at k to))).after to ≡ Some y = subst (λ (s : Stand). live_at (prepare_turn k from to below comment s).after to ≡ Some y) (stand_other k to is) live in
-      let still : live_at k to ≡ Some y = subst (λ (j : Kept). live_at j to ≡ Some y) (unmoved (standing_at k to)) at in
+      let still : live_at k to ≡ Some y = subst (λ (j : NodeState). live_at j to ≡ Some y) (unmoved (standing_at k to)) at in
       absurd (cc (is, still))
   by_live (Some l) is live =
       by_phase l is (item_is live_id k.lives to l is) l.phase refl (subst (λ (s : Stand). live_at (prepare_turn k from to below comment s).after to ≡ Some y) (stand_live k to l is) live)
@@ -112,7 +112,7 @@ module _ {A : Type 0} (test : A → Bool) (P : A → Type 0) (so : (x : A) → t
       by true is never rest = absurd cc
       by false is none_left rest = (so x is, rest none_left)
 
-module _ (k : Kept) (from to : BranchId) (v : Vote) (done : is_awaited v ≡ false) (busy : (l : Live) → live_at k to ≡ Some l → l.phase ≢ phases.Working) (fits : (l : Live) → live_at k to ≡ Some l → PhaseFits l.parent l.edges l.phase) (y : Live) where
+module _ (k : NodeState) (from to : BranchId) (v : Vote) (done : is_awaited v ≡ false) (busy : (l : Live) → live_at k to ≡ Some l → l.phase ≢ phases.Working) (fits : (l : Live) → live_at k to ≡ Some l → PhaseFits l.parent l.edges l.phase) (y : Live) where
   still : (l : Live) → Served (Some from) l → live_at k to ≡ Some l → live_at k to ≡ Some y → Served (Some from) y
   still l so found live = let both : Some l ≡ Some y = sym found ∙ live in let it : l ≡ y = cc in subst (Served (Some from)) it so
 
@@ -139,7 +139,7 @@ module _ (k : Kept) (from to : BranchId) (v : Vote) (done : is_awaited v ≡ fal
   where_live : (o : Option Live) → live_at k to ≡ o → live_at (answer_turn k from v (stand_of k to)).after to ≡ Some y → Served (Some from) y
   where_live None is live =
       let at : live_at (answer_turn k from v (kept_or_gone (standing_at k to))).after to ≡ Some y = subst (λ (s : Stand). live_at (answer_turn k from v s).after to ≡ Some y) (stand_other k to is) live in
-      let there : live_at k to ≡ Some y = subst (λ (j : Kept). live_at j to ≡ Some y) (not_moved (standing_at k to)) at in
+      let there : live_at k to ≡ Some y = subst (λ (j : NodeState). live_at j to ≡ Some y) (not_moved (standing_at k to)) at in
       absurd (cc (is, there))
   where_live (Some l) is live = in_phase l is (item_is live_id k.lives to l is) l.phase refl (subst (λ (s : Stand). live_at (answer_turn k from v s).after to ≡ Some y) (stand_live k to l is) live)
 

@@ -5,7 +5,7 @@ use Rattle.std.specs.Prelude.{IfSome}
 use Rattle.std.specs.Option.{option_to_list}
 use Rattle.agreement.specs.Events.{exit}
 use Rattle.node_rules.specs.Data.{BranchId, Place, RedoRecord}
-use Rattle.node_rules.specs.Kept.{Kept, Deed}
+use Rattle.node_rules.specs.NodeState.{NodeState, Deed}
 use Rattle.node_rules.specs.Turn.{turn_of, deed_of}
 use Rattle.run_rules.specs.Data.{Happening, Turn}
 use Rattle.run_rules.specs.Data.happenings
@@ -32,14 +32,14 @@ module _ (t : History) (b : BranchId) where
     | inr gone ↦ absurd (left gone)
   ]
 
-module _ (t : History) (whole : IsLawfulRun t) (b : BranchId) (Q : Kept → Type 0) where
+module _ (t : History) (whole : IsLawfulRun t) (b : BranchId) (Q : NodeState → Type 0) where
   -- it is so at the branch's node, or the node has stopped
   abbrev pub Here : Facts → Type 0
-  Here f = (k : Kept) → node_at f b.node ≡ Some k → (b.boot < boots (records_at f b.node)) ⊎ Q k
+  Here f = (k : NodeState) → node_at f b.node ≡ Some k → (b.boot < boots (records_at f b.node)) ⊎ Q k
 
   -- each whole turn of its node keeps it
   abbrev pub TurnsKeep : Type 0
-  TurnsKeep = (hs : List Happening) (rest : List Happening) (u : Turn) → hs ++ happenings.Turn u ∷ rest ≡ t.trace → HasLeft t b hs → (k : Kept) (may : MayTurn t.places (f_at t hs) u k) → u.node ≡ b.node
+  TurnsKeep = (hs : List Happening) (rest : List Happening) (u : Turn) → hs ++ happenings.Turn u ∷ rest ≡ t.trace → HasLeft t b hs → (k : NodeState) (may : MayTurn t.places (f_at t hs) u k) → u.node ≡ b.node
       → u.wrote ≡ (deed_of (place_at t.places u.node) k u.input).wrote → Q k → Q (deed_of (place_at t.places u.node) k u.input).after
 
   module _ (keeps : TurnsKeep) (hs : List Happening) (h : Happening) (rest : List Happening) (is : hs ++ h ∷ rest ≡ t.trace) (left : HasLeft t b hs) (now : Here (f_at t hs)) where
@@ -64,7 +64,7 @@ module _ (t : History) (whole : IsLawfulRun t) (b : BranchId) (Q : Kept → Type
     still : (y : Happening) → (node_at (then y) b.node ≡ node_at f b.node) × (records_at (then y) b.node ≡ records_at f b.node) → Here (then y)
     still y same k up = subst (λ (rs : List RedoRecord). (b.boot < boots rs) ⊎ Q k) (sym same.1) (now k (sym same.0 ∙ up))
 
-    module _ (u : Turn) (k : Kept) (may : MayTurn t.places f u k) (node : u.node ≡ b.node) (turn : h ≡ happenings.Turn u) where
+    module _ (u : Turn) (k : NodeState) (may : MayTurn t.places f u k) (node : u.node ≡ b.node) (turn : h ≡ happenings.Turn u) where
       abbrev p : Place
       p = place_at t.places u.node
 
@@ -83,7 +83,7 @@ module _ (t : History) (whole : IsLawfulRun t) (b : BranchId) (Q : Kept → Type
       old : (b.boot < boots (records_at f u.node)) ⊎ Q k
       old = subst (λ i. (b.boot < boots (records_at f i)) ⊎ Q k) (sym node) (now k (subst (λ i. node_at f i ≡ Some k) node may.up))
 
-      at_node : (cut : Bool) → u.cut ≡ cut → IsOwed p k u.input u.wrote u.sent cut → (j : Kept) → node_at g u.node ≡ Some j → (b.boot < boots (records_at g u.node)) ⊎ Q j
+      at_node : (cut : Bool) → u.cut ≡ cut → IsOwed p k u.input u.wrote u.sent cut → (j : NodeState) → node_at g u.node ≡ Some j → (b.boot < boots (records_at g u.node)) ⊎ Q j
       unfolding turn_of
       at_node true cut owed j up = (let down : node_at g u.node ≡ None = here.0 ∙ ap (λ c. kept_after c (Some (turn_of p k u.input))) cut in absurd (cc (down, up)))
       at_node false cut owed j up =

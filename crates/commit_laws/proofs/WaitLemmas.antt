@@ -11,7 +11,7 @@ use Rattle.node_rules.specs.Data.{BranchId, Edge, Kind, Live, Phase}
 use Rattle.node_rules.specs.Data.phases
 use Rattle.node_rules.specs.Data.votes
 use Rattle.node_rules.specs.Words.{numbered}
-use Rattle.node_rules.specs.Kept.{Kept, live_id, live_at, work_at, with_work}
+use Rattle.node_rules.specs.NodeState.{NodeState, live_id, live_at, work_at, with_work}
 use Rattle.node_rules.specs.Prepare.{is_awaited}
 use Rattle.run_rules.specs.Births.{Born, births_of, born_id, born_at}
 use Rattle.run_base_laws.specs.BirthLaws.{Began, IsChild, StandsBelow, LiveIs}
@@ -100,7 +100,7 @@ module _ (t : History) (whole : IsLawfulRun t) where
       let both : Some a ≡ Some b = sym at ∙ two in
       cc
 
-  module _ (n : ℕ) (k : Kept) (up : node_at f n ≡ Some k) (l : Live) (live : live_at k l.me ≡ Some l) where
+  module _ (n : ℕ) (k : NodeState) (up : node_at f n ≡ Some k) (l : Live) (live : live_at k l.me ≡ Some l) where
     placed : LiveIs (Began bs) l
     placed = all_found (LiveIs (Began bs)) live_id k.lives l.me l (nodes_name_the_born t whole n k up).0 live
 
@@ -152,7 +152,7 @@ module _ (t : History) (whole : IsLawfulRun t) where
       exit_awaits (Decided m) left = left_awaits (Decided m) left (λ no. absurd cc)
       exit_awaits Quiet left = left_awaits Quiet left (λ no. absurd cc)
 
-      live_awaits : IsBusy f c → (j : Kept) → node_at f c.node ≡ Some j → (y : Live) → live_at j c ≡ Some y → (phase : Phase) → y.phase ≡ phase → Awaits t l.me c
+      live_awaits : IsBusy f c → (j : NodeState) → node_at f c.node ≡ Some j → (y : Live) → live_at j c ≡ Some y → (phase : Phase) → y.phase ≡ phase → Awaits t l.me c
       live_awaits busy_c j there_j y at phases.Working is = absurd (busy_c j y there_j at is)
       live_awaits busy_c j there_j y at (phases.Collecting below) is = Collects_too j y below there_j at is
       live_awaits busy_c j there_j y at phases.Ready is =
@@ -172,7 +172,7 @@ module _ (t : History) (whole : IsLawfulRun t) where
           begun : born_at bs c ≢ None
           begun none = (let is : born_at bs c ≡ Some child.0 = subst (λ b. born_at bs b ≡ Some child.0) child.2 child.1 in absurd (cc (is, none)))
 
-          at_node : (o : Option Kept) → node_at f c.node ≡ o → is_among c (lives_at o) ≡ true → Awaits t l.me c
+          at_node : (o : Option NodeState) → node_at f c.node ≡ o → is_among c (lives_at o) ≡ true → Awaits t l.me c
           at_node None there_j among = absurd cc
           at_node (Some j) there_j among = (let y = among_found j.lives c among in live_awaits busy_c j there_j y.0 y.1 y.0.phase refl)
 
@@ -186,7 +186,7 @@ module _ (t : History) (whole : IsLawfulRun t) where
                 asked_awaits (subst (IsBusy f) x.0.is_to heard))
           ]
 
-  pub awaits_all : (n : ℕ) (k : Kept) → node_at f n ≡ Some k → (l : Live) → live_at k l.me ≡ Some l → AllByRecursion (λ e. is_awaited e.vote ≡ true → Awaits t l.me e.peer) l.edges
+  pub awaits_all : (n : ℕ) (k : NodeState) → node_at f n ≡ Some k → (l : Live) → live_at k l.me ≡ Some l → AllByRecursion (λ e. is_awaited e.vote ≡ true → Awaits t l.me e.peer) l.edges
   awaits_all n k up l live = all_in (λ (e : Edge). is_awaited e.vote ≡ true → Awaits t l.me e.peer) l.edges (λ e there waits. awaits n k up l live e there waits)
 
   -- ---- where all came
@@ -198,9 +198,9 @@ module _ (t : History) (whole : IsLawfulRun t) where
 
     -- a collecting branch one deeper
     abbrev Deeper : Live → Type 0
-    Deeper l = l.depth + 1 ≤ depth_limit → (n : ℕ) (k : Kept) → node_at f n ≡ Some k → (y : Live) → live_at k y.me ≡ Some y → y.root ≡ root → (below : Bool) → y.phase ≡ phases.Collecting below → l.depth + 1 ≡ y.depth → ⊥
+    Deeper l = l.depth + 1 ≤ depth_limit → (n : ℕ) (k : NodeState) → node_at f n ≡ Some k → (y : Live) → live_at k y.me ≡ Some y → y.root ≡ root → (below : Bool) → y.phase ≡ phases.Collecting below → l.depth + 1 ≡ y.depth → ⊥
 
-    module _ (n : ℕ) (k : Kept) (up : node_at f n ≡ Some k) (l : Live) (live : live_at k l.me ≡ Some l) (of : l.root ≡ root) (next : Deeper l) where
+    module _ (n : ℕ) (k : NodeState) (up : node_at f n ≡ Some k) (l : Live) (live : live_at k l.me ≡ Some l) (of : l.root ≡ root) (next : Deeper l) where
       its : LiveIs (Began bs) l
       its = placed n k up l live
 
@@ -247,7 +247,7 @@ module _ (t : History) (whole : IsLawfulRun t) where
           let waiting = any_in (λ (e : Edge). is_awaited e.vote) l.edges some in
           none_waits waiting.0 waiting.1 (in_all (λ (y : Edge). is_awaited y.vote ≡ true → Awaits t l.me y.peer) l.edges waiting.0 (awaits_all n k up l live) waiting.1 waiting.2)
 
-    over : (m : ℕ) (n : ℕ) (k : Kept) → node_at f n ≡ Some k → (l : Live) → live_at k l.me ≡ Some l → l.root ≡ root → (below : Bool) → l.phase ≡ phases.Collecting below → depth_limit ≤ l.depth + m → ⊥
+    over : (m : ℕ) (n : ℕ) (k : NodeState) → node_at f n ≡ Some k → (l : Live) → live_at k l.me ≡ Some l → l.root ≡ root → (below : Bool) → l.phase ≡ phases.Collecting below → depth_limit ≤ l.depth + m → ⊥
     over zero n k up l live of below is deep = none_collects n k up l live of (λ shallow n2 k2 up2 y at root_is below2 collects depth. absurd (omega (arith, deep, shallow))) below is
     over (suc m) n k up l live of below is deep =
         none_collects n k up l live of (λ shallow n2 k2 up2 y at root_is below2 collects depth. over m n2 k2 up2 y at root_is below2 collects (omega (arith, deep, depth))) below is

@@ -7,7 +7,7 @@ use Rattle.node_rules.specs.Data.{BranchId, Kind, Live, Msg}
 use Rattle.node_rules.specs.Data.inputs
 use Rattle.node_rules.specs.Data.kinds
 use Rattle.node_rules.specs.Data.phases
-use Rattle.node_rules.specs.Kept.{Kept, live_at}
+use Rattle.node_rules.specs.NodeState.{NodeState, live_at}
 use Rattle.node_rules.specs.Prepare.{is_awaited}
 use Rattle.run_rules.specs.Data.{Turn, Happening}
 use Rattle.run_rules.specs.Data.fates
@@ -33,7 +33,7 @@ DeliveriesCame = (t : History) → IsLawfulRun t → AllByRecursion (λ x. x.fat
 
 -- a branch is not working, where it is live
 abbrev pub IsBusy : Facts → BranchId → Type 0
-IsBusy f b = (k : Kept) (l : Live) → node_at f b.node ≡ Some k → live_at k b ≡ Some l → l.phase ≢ phases.Working
+IsBusy f b = (k : NodeState) (l : Live) → node_at f b.node ≡ Some k → live_at k b ≡ Some l → l.phase ≢ phases.Working
 
 -- In every lawful run a branch to which Prepare was delivered is not working.
 abbrev pub PreparesAreHeard : Type 0
@@ -52,7 +52,7 @@ AnswersWereAsked = (t : History) → IsLawfulRun t → AllByRecursion (λ x. is_
 
 -- a branch waits for no answer of this child, where it is live
 abbrev pub HasAnswerOf : Facts → BranchId → BranchId → Type 0
-HasAnswerOf f p c = (k : Kept) (l : Live) → node_at f p.node ≡ Some k → live_at k p ≡ Some l → AllByRecursion (λ e. e.peer ≡ c → is_awaited e.vote ≡ false) l.edges
+HasAnswerOf f p c = (k : NodeState) (l : Live) → node_at f p.node ≡ Some k → live_at k p ≡ Some l → AllByRecursion (λ e. e.peer ≡ c → is_awaited e.vote ≡ false) l.edges
 
 -- In every lawful run a branch to which an answer was delivered waits for that child no more.
 abbrev pub AnswersAreHeard : Type 0

@@ -5,7 +5,7 @@ use Rattle.agreement.specs.Events.{Dropped, exit}
 use Rattle.node_rules.specs.Data.{BranchId, Live}
 use Rattle.node_rules.specs.Data.kinds
 use Rattle.node_rules.specs.Data.phases
-use Rattle.node_rules.specs.Kept.{Kept, live_at}
+use Rattle.node_rules.specs.NodeState.{NodeState, live_at}
 use Rattle.run_rules.specs.Births.{Born, births_of}
 use Rattle.run_base_laws.specs.BirthLaws.{Began}
 use Rattle.run_rules.specs.Data.fates
@@ -30,9 +30,9 @@ AbortsNone t root = AllByRecursion (λ x. (b : Born) → Began (births_of t) b �
 -- So none of its branches collects any more, where none below the root was dropped.
 abbrev pub UndisturbedCollectsEnd : Type 0
 UndisturbedCollectsEnd = (t : History) → IsLawfulRun t → (c : Commit t.places t.commands t.trace) → Undisturbed t.places t.commands t.trace c → DroppedNone t c.root
-    → (n : ℕ) (k : Kept) → node_at (facts_at t) n ≡ Some k → (l : Live) → live_at k l.me ≡ Some l → l.root ≡ c.root → (below : Bool) → l.phase ≢ phases.Collecting below
+    → (n : ℕ) (k : NodeState) → node_at (facts_at t) n ≡ Some k → (l : Live) → live_at k l.me ≡ Some l → l.root ≡ c.root → (below : Bool) → l.phase ≢ phases.Collecting below
 
 -- And its root is live no more, where none below it was dropped.
 abbrev pub UndisturbedRootsLeave : Type 0
 UndisturbedRootsLeave = (t : History) → IsLawfulRun t → (c : Commit t.places t.commands t.trace) → Undisturbed t.places t.commands t.trace c → DroppedNone t c.root
-    → (k : Kept) → node_at (facts_at t) c.root.node ≡ Some k → live_at k c.root ≡ None
+    → (k : NodeState) → node_at (facts_at t) c.root.node ≡ Some k → live_at k c.root ≡ None

@@ -6,7 +6,7 @@ use Rattle.std.specs.List.{AllByRecursion}
 use Rattle.agreement.specs.Events.{Exit, Dropped, exit}
 use Rattle.node_rules.specs.Data.{BranchId, Kind, Live}
 use Rattle.node_rules.specs.Data.phases
-use Rattle.node_rules.specs.Kept.{Kept, live_at}
+use Rattle.node_rules.specs.NodeState.{NodeState, live_at}
 use Rattle.node_rules.specs.Prepare.{is_awaited}
 use Rattle.net_bag.specs.Net.{packet_at}
 use Rattle.run_rules.specs.Births.{Born, births_of}
@@ -25,12 +25,12 @@ use Rattle.commit_laws.specs.DeliveryLaws.{is_answer}
 
 -- In every lawful run a live branch that is Ready has said so to its parent.
 abbrev pub ReadyHaveAnswered : Type 0
-ReadyHaveAnswered = (t : History) → IsLawfulRun t → (n : ℕ) (k : Kept) → node_at (facts_at t) n ≡ Some k → (l : Live) → live_at k l.me ≡ Some l → l.phase ≡ phases.Ready
+ReadyHaveAnswered = (t : History) → IsLawfulRun t → (n : ℕ) (k : NodeState) → node_at (facts_at t) n ≡ Some k → (l : Live) → live_at k l.me ≡ Some l → l.phase ≡ phases.Ready
     → (q : BranchId) → l.parent ≡ Some q → was_sent is_answer (said_in (facts_at t)) l.me q ≡ true
 
 -- a branch's node is down, or has been started again since the branch began
 abbrev pub HasStopped : Facts → BranchId → Type 0
-HasStopped f b = (k : Kept) → node_at f b.node ≡ Some k → b.boot < boots (records_at f b.node)
+HasStopped f b = (k : NodeState) → node_at f b.node ≡ Some k → b.boot < boots (records_at f b.node)
 
 -- In every lawful run a branch below another that has left, and was not dropped, has answered it, or its node has stopped since.
 abbrev pub LeftHaveAnswered : Type 0
@@ -53,14 +53,14 @@ pub record HasNotCome (t : History) (kind : Kind → Bool) (from to : BranchId) 
 -- dropped, or its node has stopped.
 pub data Awaits (t : History) (p c : BranchId) : Type 0 where
   Not_asked : HasNotCome t is_prepare p c → Awaits t p c
-  Collects_too : (k : Kept) (l : Live) (below : Bool) → node_at (facts_at t) c.node ≡ Some k → live_at k c ≡ Some l → l.phase ≡ phases.Collecting below → Awaits t p c
+  Collects_too : (k : NodeState) (l : Live) (below : Bool) → node_at (facts_at t) c.node ≡ Some k → live_at k c ≡ Some l → l.phase ≡ phases.Collecting below → Awaits t p c
   Not_answered : HasNotCome t is_answer c p → Awaits t p c
   Was_dropped : exit (events_of t) c ≡ Some Dropped → Awaits t p c
   Has_stopped : HasStopped (facts_at t) c → Awaits t p c
 
 -- In every lawful run it is so of each child whose answer a live branch awaits.
 abbrev pub CollectorsWait : Type 0
-CollectorsWait = (t : History) → IsLawfulRun t → (n : ℕ) (k : Kept) → node_at (facts_at t) n ≡ Some k → (l : Live) → live_at k l.me ≡ Some l
+CollectorsWait = (t : History) → IsLawfulRun t → (n : ℕ) (k : NodeState) → node_at (facts_at t) n ≡ Some k → (l : Live) → live_at k l.me ≡ Some l
     → AllByRecursion (λ e. is_awaited e.vote ≡ true → Awaits t l.me e.peer) l.edges
 
 -- ---- when nobody does
@@ -73,5 +73,5 @@ pub record AllCame (t : History) (root : BranchId) : Type 0 where
 
 -- In every lawful run no branch of such a transaction collects any more.
 abbrev pub CollectsAreOver : Type 0
-CollectsAreOver = (t : History) → IsLawfulRun t → (root : BranchId) → AllCame t root → (n : ℕ) (k : Kept) → node_at (facts_at t) n ≡ Some k → (l : Live) → live_at k l.me ≡ Some l → l.root ≡ root
+CollectsAreOver = (t : History) → IsLawfulRun t → (root : BranchId) → AllCame t root → (n : ℕ) (k : NodeState) → node_at (facts_at t) n ≡ Some k → (l : Live) → live_at k l.me ≡ Some l → l.root ≡ root
     → (below : Bool) → l.phase ≢ phases.Collecting below

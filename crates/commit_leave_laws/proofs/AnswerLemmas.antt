@@ -4,7 +4,7 @@ use Rattle.std.specs.List.{AllByRecursion, list_any}
 use Rattle.std.proofs.lemmas.Bool.{eqb-true, eq-eqb}
 use Rattle.std.proofs.lemmas.List.{append_assoc}
 use Rattle.node_rules.specs.Data.{Answer, BranchId, Place, Standing}
-use Rattle.node_rules.specs.Kept.{Kept, Deed, live_id, standing_id}
+use Rattle.node_rules.specs.NodeState.{NodeState, Deed, live_id, standing_id}
 use Rattle.node_rules.specs.Sessions.{commit_complete}
 use Rattle.node_rules.specs.Turn.{turn_of, deed_of}
 use Rattle.node_rules.specs.Words.{same, is_item_of}
@@ -79,7 +79,7 @@ module _ (t : History) (whole : IsLawfulRun t) (c : Commit t.places t.commands t
   answered mid = answers_from t.places t.commands f0 c.call.node m (first ∷ mid)
 
   record Status (mid : List Happening) : Type 0 where
-    pub kept : Kept
+    pub kept : NodeState
     pub up : node_at (f_at t (after ++ mid)) r.node ≡ Some kept
     pub state : State t whole c u quiet kept (answered mid)
 
@@ -102,7 +102,7 @@ module _ (t : History) (whole : IsLawfulRun t) (c : Commit t.places t.commands t
     may_turn : MayHappen t.places t.commands g (happenings.Turn h)
     may_turn = may_of t whole before (happenings.Turn h) rest all_is
 
-    abbrev j : Kept
+    abbrev j : NodeState
     j = may_turn.0
 
     part_before : Part t whole before

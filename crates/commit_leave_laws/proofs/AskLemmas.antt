@@ -8,7 +8,7 @@ use Rattle.tran_ids.proofs.ListedLemmas.{item_is}
 use Rattle.agreement.specs.Events.{Dropped, Exit, exit, Sealed, Decided, Quiet}
 use Rattle.node_rules.specs.Data.{BranchId, Live}
 use Rattle.node_rules.specs.Data.phases
-use Rattle.node_rules.specs.Kept.{Kept, Branch, live_id, live_at, work_at, with_work}
+use Rattle.node_rules.specs.NodeState.{NodeState, Branch, live_id, live_at, work_at, with_work}
 use Rattle.node_rules.specs.Words.{same, numbered}
 use Rattle.session_tree.specs.Live.{children_of}
 use Rattle.run_rules.specs.Births.{Born, births_of, born_at}
@@ -68,7 +68,7 @@ module _ (t : History) (whole : IsLawfulRun t) (c : Commit t.places t.commands t
 
   module _ (x : Born) (began : Began bs x) (of : x.root ≡ r) (p : BranchId) (above : x.parent ≡ Some p) (y : Born) (began_y : Began bs y) (me_y : y.me ≡ p) (of_y : y.root ≡ r) (q : BranchId) (above_y : y.parent ≡ Some q) (asked : was_asked (said_in (facts_at t)) q p ≡ true) where
     -- a live branch is as it began
-    parent_is : (hs : List Happening) (part : Part t whole hs) (n : ℕ) (k : Kept) → node_at (f_at t hs) n ≡ Some k → (l : Live) → live_at k l.me ≡ Some l → l.me ≡ p → l.parent ≡ Some q
+    parent_is : (hs : List Happening) (part : Part t whole hs) (n : ℕ) (k : NodeState) → node_at (f_at t hs) n ≡ Some k → (l : Live) → live_at k l.me ≡ Some l → l.me ≡ p → l.parent ≡ Some q
     parent_is hs part n k up l live me =
         let s0 : History = so_far t hs in
         let its : LiveIs (Began (births_of s0)) l = all_found (LiveIs (Began (births_of s0))) live_id k.lives l.me l (nodes_name_the_born s0 (part_lawful t whole hs part) n k up).0 live in
@@ -76,7 +76,7 @@ module _ (t : History) (whole : IsLawfulRun t) (c : Commit t.places t.commands t
         sym its.is_parent ∙ (ap (λ (z : Born). z.parent) one ∙ above_y)
 
     -- its edges go as far as its Opens, while it waits for nothing
-    wide : (hs : List Happening) (part : Part t whole hs) (n : ℕ) (k : Kept) → node_at (f_at t hs) n ≡ Some k → (l : Live) → live_at k l.me ≡ Some l → l.me ≡ p → was_asked (said_in (f_at t hs)) q p ≡ true → 1 ≤ count_opens (said_in (f_at t hs)) p x.edge → x.edge ≤ length l.edges
+    wide : (hs : List Happening) (part : Part t whole hs) (n : ℕ) (k : NodeState) → node_at (f_at t hs) n ≡ Some k → (l : Live) → live_at k l.me ≡ Some l → l.me ≡ p → was_asked (said_in (f_at t hs)) q p ≡ true → 1 ≤ count_opens (said_in (f_at t hs)) p x.edge → x.edge ≤ length l.edges
     wide hs part n k up l live me asked_p some =
         let s0 : History = so_far t hs in
         let z : Branch = record { live = l; work = work_at k l.me } in
@@ -102,7 +102,7 @@ module _ (t : History) (whole : IsLawfulRun t) (c : Commit t.places t.commands t
         came (z ∷ xs) all = ((λ b. all.0 b.0 b.1 b.2 b.3), came xs all.1)
 
     -- where it is live at the end
-    live_asks : (n : ℕ) (k : Kept) → node_at (facts_at t) n ≡ Some k → (l : Live) → live_at k l.me ≡ Some l → l.me ≡ p → p.node ≡ n → was_asked (said_in (facts_at t)) p x.me ≡ true
+    live_asks : (n : ℕ) (k : NodeState) → node_at (facts_at t) n ≡ Some k → (l : Live) → live_at k l.me ≡ Some l → l.me ≡ p → p.node ≡ n → was_asked (said_in (facts_at t)) p x.me ≡ true
     live_asks n k up l live me node =
         let there : node_at (facts_at t) p.node ≡ Some k = subst (λ i. node_at (facts_at t) i ≡ Some k) (sym node) up in
         let other : l.phase ≢ phases.Working = busy k l there (subst (λ b. live_at k b ≡ Some l) me live) in
@@ -152,7 +152,7 @@ module _ (t : History) (whole : IsLawfulRun t) (c : Commit t.places t.commands t
             | inr new ↦ absurd (left new.3)
           ]
 
-      left_turn : (w : Turn) → h ≡ happenings.Turn w → (k : Kept) → MayTurn t.places (f_at t hs) w k → exit (e_at t hs) p ≡ None → (z : Exit) → z ≢ Dropped → exit (e_at t after) p ≡ Some z → Known after
+      left_turn : (w : Turn) → h ≡ happenings.Turn w → (k : NodeState) → MayTurn t.places (f_at t hs) w k → exit (e_at t hs) p ≡ None → (z : Exit) → z ≢ Dropped → exit (e_at t after) p ≡ Some z → Known after
       left_turn w turn k may none z other now =
           let is_now : exit (events_after t.places t.commands (f_at t hs) (happenings.Turn w) (e_at t hs)) p ≡ Some z
           = subst (λ (g : Happening). exit (events_after t.places t.commands (f_at t hs) g (e_at t hs)) p ≡ Some z) turn (subst (λ e. exit e p ≡ Some z) (more_on t hs h) now) in
@@ -220,7 +220,7 @@ module _ (t : History) (whole : IsLawfulRun t) (c : Commit t.places t.commands t
         gone None none some = absurd (some none)
         gone (Some z) left some = left_asks z left
 
-        by : (o : Option Kept) → node_at (facts_at t) p.node ≡ o → is_among p (lives_at o) ≡ true → was_asked (said_in (facts_at t)) p x.me ≡ true
+        by : (o : Option NodeState) → node_at (facts_at t) p.node ≡ o → is_among p (lives_at o) ≡ true → was_asked (said_in (facts_at t)) p x.me ≡ true
         by None up found = absurd cc
         by (Some k) up found =
             let l = among_found k.lives p found in

@@ -9,7 +9,7 @@ use Rattle.node_rules.specs.Data.stmts
 use Rattle.node_rules.specs.declared.session.PendingCall.TheVariants as pending
 use Rattle.node_rules.specs.declared.session.Session.{Session}
 use Rattle.node_rules.specs.Client.{root_by, root_at, commit_by}
-use Rattle.node_rules.specs.Kept.{Kept, Deed, live_id, live_at, work_at, with_work}
+use Rattle.node_rules.specs.NodeState.{NodeState, Deed, live_id, live_at, work_at, with_work}
 use Rattle.node_rules.specs.Prepare.{act_turn, collecting, first_act, with_comment, without_read_keys}
 use Rattle.node_rules.specs.Sessions.{session_at, with_call}
 use Rattle.node_rules.specs.Turn.{turn_of, deed_of}
@@ -115,7 +115,7 @@ module _ (t : History) (whole : IsLawfulRun t) (c : Commit t.places t.commands t
 
   -- ---- the turn of the call
 
-  abbrev pub k : Kept
+  abbrev pub k : NodeState
   k = c.kept
 
   abbrev pub input : Input
@@ -127,7 +127,7 @@ module _ (t : History) (whole : IsLawfulRun t) (c : Commit t.places t.commands t
   abbrev pub pends : List Session
   pends = with_call k.sessions m pending.Commit
 
-  abbrev pub kp : Kept
+  abbrev pub kp : NodeState
   kp = without_read_keys (record k { sessions = pends }) c.live.me
 
   abbrev pub l : Live

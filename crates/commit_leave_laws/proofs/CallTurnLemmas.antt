@@ -8,7 +8,7 @@ use Rattle.node_rules.specs.Data.phases
 use Rattle.node_rules.specs.Data.stmts
 use Rattle.node_rules.specs.declared.session.PendingCall.TheVariants as pending
 use Rattle.node_rules.specs.declared.session.Session.{Session}
-use Rattle.node_rules.specs.Kept.{Kept, Branch, Deed, live_id, live_at, branch_at, work_at, with_work}
+use Rattle.node_rules.specs.NodeState.{NodeState, Branch, Deed, live_id, live_at, branch_at, work_at, with_work}
 use Rattle.node_rules.specs.Prepare.{act_turn, first_act_by, root_act}
 use Rattle.node_rules.specs.Sessions.{session_at, with_call}
 use Rattle.node_rules.specs.Words.{is_item_of}
@@ -67,7 +67,7 @@ module _ (t : History) (whole : IsLawfulRun t) (c : Commit t.places t.commands t
   abbrev own : r.session ≡ m
   own = call.own t whole c
 
-  abbrev k : Kept
+  abbrev k : NodeState
   k = c.kept
 
   abbrev input : Input
@@ -76,7 +76,7 @@ module _ (t : History) (whole : IsLawfulRun t) (c : Commit t.places t.commands t
   abbrev pends : List Session
   pends = call.pends t whole c
 
-  abbrev kp : Kept
+  abbrev kp : NodeState
   kp = call.kp t whole c
 
   abbrev l : Live

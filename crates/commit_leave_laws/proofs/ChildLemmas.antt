@@ -1,7 +1,7 @@
 -- The child over the edge that a branch of an undisturbed COMMIT's transaction began over is that branch.
 use Rattle.std.proofs.Common.{◌≡◌, ℕ, zero, suc, ◌+◌, ◌<◌, ◌≤◌, ◌⊎◌, List, [], ◌∷◌, map, length, option_map, Some, inl, inr, refl, sym, ap, subst, ◌∙◌, arith, append-nil}
 use Rattle.node_rules.specs.Data.{BranchId, Edge, Live}
-use Rattle.node_rules.specs.Kept.{Kept, live_id, live_at}
+use Rattle.node_rules.specs.NodeState.{NodeState, live_id, live_at}
 use Rattle.node_rules.specs.Words.{numbered}
 use Rattle.session_tree.specs.Live.{children_of}
 use Rattle.run_rules.specs.Births.{Born, births_of, born_id, born_at}
@@ -78,7 +78,7 @@ module _ (t : History) (whole : IsLawfulRun t) (c : Commit t.places t.commands t
   ]
 
   -- the child over the edge of a branch's birth is that branch
-  module _ (x : Born) (began : Began bs x) (of : x.root ≡ r) (p : BranchId) (above : x.parent ≡ Some p) (hs : List Happening) (part : Part t whole hs) (k : Kept) (n : ℕ) (up : node_at (f_at t hs) n ≡ Some k) (l : Live) (live : live_at k l.me ≡ Some l) (me : l.me ≡ p)
+  module _ (x : Born) (began : Began bs x) (of : x.root ≡ r) (p : BranchId) (above : x.parent ≡ Some p) (hs : List Happening) (part : Part t whole hs) (k : NodeState) (n : ℕ) (up : node_at (f_at t hs) n ≡ Some k) (l : Live) (live : live_at k l.me ≡ Some l) (me : l.me ≡ p)
       (wide : x.edge ≤ length l.edges) where
     abbrev s : History
     s = so_far t hs

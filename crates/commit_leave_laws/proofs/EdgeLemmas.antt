@@ -3,7 +3,7 @@
 use Rattle.std.proofs.Common.{◌≡◌, [], option_map, Option, Some, None, refl, sym, ap, ◌∙◌, append-nil}
 use Rattle.node_rules.specs.Data.{BranchId, Opening, Post}
 use Rattle.node_rules.specs.Data.kinds
-use Rattle.node_rules.specs.Kept.{Kept}
+use Rattle.node_rules.specs.NodeState.{NodeState}
 use Rattle.link_session.specs.Opens.{opening_of}
 use Rattle.run_rules.specs.Births.{Born, births_of, born_id}
 use Rattle.run_base_laws.specs.BirthLaws.{Began}
@@ -22,10 +22,10 @@ use Rattle.commit_leave_laws.proofs.OpeningLemmas.{answered_end}
 
 module _ (t : History) (whole : IsLawfulRun t) where
   -- a node that has not stopped since a branch began is in the start that the branch began in
-  boot_now : (x : Born) → HasNotStopped (facts_at t) x.me → (k : Kept) × (node_at (facts_at t) x.me.node ≡ Some k) × (x.me.boot ≡ boots (records_at (facts_at t) x.me.node))
+  boot_now : (x : Born) → HasNotStopped (facts_at t) x.me → (k : NodeState) × (node_at (facts_at t) x.me.node ≡ Some k) × (x.me.boot ≡ boots (records_at (facts_at t) x.me.node))
   boot_now x stays = by (node_at (facts_at t) x.me.node) refl stays
     where
-      by : (o : Option Kept) → node_at (facts_at t) x.me.node ≡ o → option_map (λ (k : Kept). k.stored.durable.boot) o ≡ Some x.me.boot → (k : Kept) × (node_at (facts_at t) x.me.node ≡ Some k) × (x.me.boot ≡ boots (records_at (facts_at t) x.me.node))
+      by : (o : Option NodeState) → node_at (facts_at t) x.me.node ≡ o → option_map (λ (k : NodeState). k.stored.durable.boot) o ≡ Some x.me.boot → (k : NodeState) × (node_at (facts_at t) x.me.node ≡ Some k) × (x.me.boot ≡ boots (records_at (facts_at t) x.me.node))
       by None up is = absurd cc
       by (Some k) up is =
           let node = node_so t.places t.commands t.of_a_script.each (facts_at t) (events_of t) (run_stands t whole) x.me.node k up in

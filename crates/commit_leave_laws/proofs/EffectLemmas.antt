@@ -10,7 +10,7 @@ use Rattle.node_rules.specs.Data.records
 use Rattle.node_rules.specs.declared.session.Session.{Session}
 use Rattle.node_rules.specs.Calls.{open_by, heard_answer, heard_sessions, hears_reply, with_edge}
 use Rattle.node_rules.specs.Inputs.{Came, Brings, Rollback_came, Rolled_back_came}
-use Rattle.node_rules.specs.Kept.{Kept, Branch, Deed, nothing, saying, post, live_id, with_standing}
+use Rattle.node_rules.specs.NodeState.{NodeState, Branch, Deed, nothing, saying, post, live_id, with_standing}
 use Rattle.node_rules.specs.Commit.{acked_by, next_turn}
 use Rattle.node_rules.specs.Prepare.{drops}
 use Rattle.node_rules.specs.Sessions.{session_at, commit_complete, commit_ended, commit_answer}
@@ -26,10 +26,10 @@ use Rattle.commit_leave_laws.proofs.LastLemmas.{Lasts, acked_row}
 use Rattle.commit_leave_laws.proofs.SessionLemmas.{commit_keeps, decision_keeps, answered_keeps, going_keeps, heard_same}
 
 module _ (m : ℕ) (r : BranchId) (own : r.session ≡ m) (input : Input) where
-  abbrev K : Kept → Type 0
+  abbrev K : NodeState → Type 0
   K k = Known m r own input k
 
-  module _ (k : Kept) (now : K k) where
+  module _ (k : NodeState) (now : K k) where
     -- ---- rows
 
     undone : (b : BranchId) (from : BranchId) → Brings input from b decisions.Rollback → b ≢ r
@@ -74,11 +74,11 @@ module _ (m : ℕ) (r : BranchId) (own : r.session ≡ m) (input : Input) where
   -- ---- steps
 
   -- an Ack that counts leaves what is known
-  acked_lasts : (k : Kept) (s : Standing) (from : BranchId) → IsKept k s → Lasts r k → Lasts r (with_standing k (acked_by s from))
+  acked_lasts : (k : NodeState) (s : Standing) (from : BranchId) → IsKept k s → Lasts r k → Lasts r (with_standing k (acked_by s from))
   acked_lasts k s from kept (inl living) = inl living
   acked_lasts k s from kept (inr row) = inr (acked_row r k (acked_by s from) s kept refl refl row)
 
-  pub effect_on : (p : Place) → IsNoCall input → {k : Kept} {d : Deed} → Step p input k d → K k → Effect m r own input k d
+  pub effect_on : (p : Place) → IsNoCall input → {k : NodeState} {d : Deed} → Step p input k d → K k → Effect m r own input k d
   effect_on p quiet (steps.Begins n s call rows range none step) now = absurd (quiet.calls n (Some s) call)
   effect_on p quiet (steps.Pends n l given call has live code step) now = absurd (quiet.calls n _ call)
   effect_on p quiet (steps.Lets_reads_go {k = k} l comment site_below live begins step) now =

@@ -7,7 +7,7 @@ use Rattle.node_rules.specs.Data.{BranchId, Decided, Live, RedoRecord, Sealed, S
 use Rattle.node_rules.specs.Data.decisions
 use Rattle.node_rules.specs.Data.params
 use Rattle.node_rules.specs.Data.records
-use Rattle.node_rules.specs.Kept.{Kept, Stored, live_id, standing_id, stands_at}
+use Rattle.node_rules.specs.NodeState.{NodeState, Stored, live_id, standing_id, stands_at}
 use Rattle.node_rules.specs.Records.{applied}
 use Rattle.node_rules.specs.Words.{same, is_item_of, item_at, put_item, drop_item, put_by_branch, change_where, drop_where, branch_below}
 use Rattle.redo_record.specs.Durable.{durable_after}
@@ -28,7 +28,7 @@ abbrev pub is_living : BranchId → List Live → Bool
 is_living r ls = list_any (is_item_of live_id r) ls
 
 -- a branch is live, or has such a row
-abbrev pub Lasts : BranchId → Kept → Type 0
+abbrev pub Lasts : BranchId → NodeState → Type 0
 Lasts r k = (is_living r k.lives ≡ true) ⊎ (has_row r k.stored.durable.kept ≡ true)
 
 -- ---- lists
@@ -153,7 +153,7 @@ module _ (r : BranchId) where
 
   -- ---- live branches and rows
 
-  module _ (k : Kept) where
+  module _ (k : NodeState) where
     pub lives_put : (ls : List Live) (l y : Live) → item_at live_id ls l.me ≡ Some y → is_living r ls ≡ true → is_living r (put_item live_id ls l) ≡ true
     lives_put ls l y found is = any_put live_id r ls l y found ∙ is
 

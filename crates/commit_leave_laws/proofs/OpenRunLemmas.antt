@@ -10,7 +10,7 @@ use Rattle.node_rules.specs.Data.kinds
 use Rattle.node_rules.specs.Calls.{admit}
 use Rattle.node_rules.specs.Client.{new_root}
 use Rattle.node_rules.specs.Inputs.{Came, IsCall}
-use Rattle.node_rules.specs.Kept.{Kept, Branch, Deed, live_id, live_at, branch_at, work_at, with_work}
+use Rattle.node_rules.specs.NodeState.{NodeState, Branch, Deed, live_id, live_at, branch_at, work_at, with_work}
 use Rattle.node_rules.specs.declared.work.Work.{Work}
 use Rattle.node_rules.specs.Sessions.{session_at}
 use Rattle.node_rules.specs.Turn.{turn_of, deed_of, heard}
@@ -70,7 +70,7 @@ module _ (t : History) (whole : IsLawfulRun t) where
     lawful = part_lawful t whole hs part
 
     -- a live branch that waits for nothing, and may go on, opened no edge above its last
-    pub opened_low : (n : ℕ) (k : Kept) → node_at f n ≡ Some k → (l : Live) → live_at k l.me ≡ Some l → GoesOn k l → (work_at k l.me).going ≡ None → (i : ℕ) → length l.edges < i → count_opens (said_in f) l.me i ≡ 0
+    pub opened_low : (n : ℕ) (k : NodeState) → node_at f n ≡ Some k → (l : Live) → live_at k l.me ≡ Some l → GoesOn k l → (work_at k l.me).going ≡ None → (i : ℕ) → length l.edges < i → count_opens (said_in f) l.me i ≡ 0
     opened_low n k up l live goes rests i above =
         let line = (stand_at t whole hs part n k up).each l.me l live in
         let none : more (place_at t.places n) (catalog t whole hs n) (GivenBy t whole hs) (CalledAt t whole) (work_at k l.me).going ≡ 0 = ap (more (place_at t.places n) (catalog t whole hs n) (GivenBy t whole hs) (CalledAt t whole)) rests in
@@ -78,7 +78,7 @@ module _ (t : History) (whole : IsLawfulRun t) where
 
   -- ---- a turn
 
-  module _ (hs : List Happening) (u : Turn) (rest : List Happening) (is : hs ++ happenings.Turn u ∷ rest ≡ t.trace) (k : Kept) (may : MayTurn t.places (f_at t hs) u k) where
+  module _ (hs : List Happening) (u : Turn) (rest : List Happening) (is : hs ++ happenings.Turn u ∷ rest ≡ t.trace) (k : NodeState) (may : MayTurn t.places (f_at t hs) u k) where
     abbrev f0 : Facts
     f0 = f_at t hs
 
@@ -143,9 +143,9 @@ module _ (t : History) (whole : IsLawfulRun t) where
     finds : FindsNext Q p u.input (heard k u.input)
     finds x st given (steps.By_call n y sy call rows has code live) =
         let same : heard k u.input ≡ k = ap (heard k) call in
-        let root : HasRoot k n y.live.me = subst (λ (j : Kept). HasRoot j n y.live.me) same has in
-        let found : branch_at k y.live.me ≡ Some y = subst (λ (j : Kept). branch_at j y.live.me ≡ Some y) same live in
-        let none : (session_at k.sessions n).code ≡ None = subst (λ (j : Kept). (session_at j.sessions n).code ≡ None) same code in
+        let root : HasRoot k n y.live.me = subst (λ (j : NodeState). HasRoot j n y.live.me) same has in
+        let found : branch_at k y.live.me ≡ Some y = subst (λ (j : NodeState). branch_at j y.live.me ≡ Some y) same live in
+        let none : (session_at k.sessions n).code ≡ None = subst (λ (j : NodeState). (session_at j.sessions n).code ≡ None) same code in
         let own : y.live.me.session ≡ n = (roots_are_of_sessions s0 lawful0 u.node k may.up n y.live.me root).0 in
         next_of y found (λ top. ap (λ i. (session_at k.sessions i).code) own ∙ none) (rest_at k may.up n (Some sy) call y root found).1 (inl (n, sy, call, rows))
     finds x st given (steps.By_exec y from call room advice sy came live runs) =

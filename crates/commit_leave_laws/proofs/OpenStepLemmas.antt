@@ -16,7 +16,7 @@ use Rattle.node_rules.specs.Calls.{answer_says, exec_to, nobody_at, with_edge, h
 use Rattle.node_rules.specs.Client.{begun_by, new_root}
 use Rattle.node_rules.specs.Commit.{acked_by, beyond}
 use Rattle.node_rules.specs.Inputs.{IsCall}
-use Rattle.node_rules.specs.Kept.{Kept, Branch, Deed, live_id, live_at, post, to_one, to_each, with_standing}
+use Rattle.node_rules.specs.NodeState.{NodeState, Branch, Deed, live_id, live_at, post, to_one, to_each, with_standing}
 use Rattle.node_rules.specs.Prepare.{path_of, site_neighbors, without_read_keys}
 use Rattle.node_rules.specs.Recovery.{kept_told}
 use Rattle.node_rules.specs.Sessions.{session_at, with_call}
@@ -42,7 +42,7 @@ exec_opens ss x i s given (Some c) = (tt, tt)
 rolled : (l : Live) → AllSay IsNoOpen (to_each l.me kinds.Rollback (children_of l))
 rolled l = each_says IsNoOpen l.me kinds.Rollback (children_of l) tt
 
-says_open : {k : Kept} {input : Input} {says : List Post} → Says k input says → AllSay IsNoOpen says
+says_open : {k : NodeState} {input : Input} {says : List Post} → Says k input says → AllSay IsNoOpen says
 says_open (steps.Tells s from came kept) = (told_says IsNoOpen decisions_open_none (kept_told s from), tt)
 says_open {k = k} (steps.Recovers reco) = askings_say IsNoOpen decisions_open_none k
 says_open (steps.Gone_replies to from call given advice s came gone) = (tt, tt)
@@ -59,11 +59,11 @@ says_open (steps.Is_in_doubt l from came live other) = (tt, tt)
 
 module _ (Q : BranchId → ℕ → Type 0) (p : Place) (input : Input) where
   -- a statement that comes to a branch finds its next edge so
-  abbrev pub FindsNext : Kept → Type 0
+  abbrev pub FindsNext : NodeState → Type 0
   FindsNext k = (x : Branch) (s : Stmt) (given : ℕ) → Asked k input x s given → Q x.live.me (length x.live.edges + 1)
 
   -- and so is each edge of a root that begins
-  abbrev pub BeginsNext : Kept → Type 0
+  abbrev pub BeginsNext : NodeState → Type 0
   BeginsNext k = (n : ℕ) (s : Stmt) → IsCall input n s → IsOfRows s → (session_at k.sessions n).root ≡ None → (i : ℕ) → Q (new_root p k n) (i + 1)
 
   -- One Open is said, of such an edge, and its sender is live.
@@ -84,7 +84,7 @@ module _ (Q : BranchId → ℕ → Type 0) (p : Place) (input : Input) where
   one_call : (n m : ℕ) (s t : Stmt) → IsCall input n s → IsCall input m t → (n ≡ m) × (s ≡ t)
   one_call n m s t first second = let it : inputs.Call n (Some s) ≡ inputs.Call m (Some t) = sym first ∙ second in (cc, cc)
 
-  module _ (k : Kept) (n : ℕ) (s : Stmt) (call : IsCall input n s) (rows : IsOfRows s) (none : (session_at k.sessions n).root ≡ None) (begins : BeginsNext k) where
+  module _ (k : NodeState) (n : ℕ) (s : Stmt) (call : IsCall input n s) (rows : IsOfRows s) (none : (session_at k.sessions n).root ≡ None) (begins : BeginsNext k) where
     begun_finds : FindsNext (begun_by p k n None)
     begun_finds x st given (steps.By_call m y sy called of_rows has code live) =
         let it : n ≡ m = (one_call n m s st call called).0 in
@@ -107,26 +107,26 @@ module _ (Q : BranchId → ℕ → Type 0) (p : Place) (input : Input) where
           | inr new ↦ absurd (let clash : Some (new_root p k n) ≡ None = sym (ap (λ (z : Session). z.root) new.1) ∙ free_n in cc)
         ]
 
-  reads_back : (k : Kept) (b : BranchId) (x : Branch) (s : Stmt) (given : ℕ) → Asked (without_read_keys k b) input x s given → Asked k input x s given
+  reads_back : (k : NodeState) (b : BranchId) (x : Branch) (s : Stmt) (given : ℕ) → Asked (without_read_keys k b) input x s given → Asked k input x s given
   reads_back k b x s given (steps.By_call n y st call rows has code live) = steps.By_call n y st call rows has code live
   reads_back k b x s given (steps.By_exec y from number room advice st came live runs) = steps.By_exec y from number room advice st came live runs
 
-  acked_back : (k : Kept) (r : _) (x : Branch) (s : Stmt) (given : ℕ) → Asked (with_standing k r) input x s given → Asked k input x s given
+  acked_back : (k : NodeState) (r : _) (x : Branch) (s : Stmt) (given : ℕ) → Asked (with_standing k r) input x s given → Asked k input x s given
   acked_back k r x s given (steps.By_call n y st call rows has code live) = steps.By_call n y st call rows has code live
   acked_back k r x s given (steps.By_exec y from number room advice st came live runs) = steps.By_exec y from number room advice st came live runs
 
   -- no statement with a table comes where COMMIT does
-  commit_finds : (k : Kept) (n : ℕ) (given : Option (List ℕ)) → IsCall input n (stmts.Commit given) → FindsNext k
+  commit_finds : (k : NodeState) (n : ℕ) (given : Option (List ℕ)) → IsCall input n (stmts.Commit given) → FindsNext k
   commit_finds k n given call x s room (steps.By_call m y st called rows has code live) = absurd (let it : s ≡ stmts.Commit given = (one_call m n s (stmts.Commit given) called call).1 in subst IsOfRows it rows)
   commit_finds k n given call x s room (steps.By_exec y from number given_room advice st came live runs) = absurd (let it : inputs.Call n (Some (stmts.Commit given)) ≡ inputs.Message _ = sym call ∙ came.is in cc)
 
-  commit_begins : (k : Kept) (n : ℕ) (given : Option (List ℕ)) → IsCall input n (stmts.Commit given) → BeginsNext k
+  commit_begins : (k : NodeState) (n : ℕ) (given : Option (List ℕ)) → IsCall input n (stmts.Commit given) → BeginsNext k
   commit_begins k n given call m s called rows none i = absurd (let it : s ≡ stmts.Commit given = (one_call m n s (stmts.Commit given) called call).1 in subst IsOfRows it rows)
 
-  pub opens_on : {k : Kept} {d : Deed} → Step p input k d → FindsNext k → BeginsNext k → OpensNext d
+  pub opens_on : {k : NodeState} {d : Deed} → Step p input k d → FindsNext k → BeginsNext k → OpensNext d
   opens_on (steps.Begins {k = k} n s call rows range none step) finds begins = opens_on step (begun_finds k n s call rows none begins) (begun_begins k n s call rows none begins)
   opens_on (steps.Pends {k = k} n l given call has live code step) finds begins =
-      let j : Kept = record k { sessions = with_call k.sessions n pending.Commit } in opens_on step (commit_finds j n given call) (commit_begins j n given call)
+      let j : NodeState = record k { sessions = with_call k.sessions n pending.Commit } in opens_on step (commit_finds j n given call) (commit_begins j n given call)
   opens_on (steps.Lets_reads_go {k = k} l comment b live collects step) finds begins = opens_on step (λ x s given asked. finds x s given (reads_back k l.me x s given asked)) begins
   opens_on (steps.Counts_ack {k = k} s from kept came counts step) finds begins = opens_on step (λ x st given asked. finds x st given (acked_back k (acked_by s from) x st given asked)) begins
   opens_on (steps.Sends says why) finds begins = inl (says_open why)

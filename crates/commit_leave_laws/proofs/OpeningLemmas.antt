@@ -12,7 +12,7 @@ use Rattle.node_rules.specs.Data.inputs
 use Rattle.node_rules.specs.Data.kinds
 use Rattle.node_rules.specs.Calls.{is_opening, next_child, new_opening, open_by}
 use Rattle.node_rules.specs.Inputs.{Came}
-use Rattle.node_rules.specs.Kept.{Kept, Deed}
+use Rattle.node_rules.specs.NodeState.{NodeState, Deed}
 use Rattle.node_rules.specs.Turn.{turn_of, deed_of, heard}
 use Rattle.node_rules.specs.Words.{is_item_of, item_at}
 use Rattle.link_session.specs.Opens.{opening_of}
@@ -41,10 +41,10 @@ use Rattle.commit_leave_laws.proofs.FindLemmas.{find_kept, find_either, find_las
 -- ---- a step
 
 -- what a node opened stays
-abbrev Grows : Kept → Deed → Type 0
+abbrev Grows : NodeState → Deed → Type 0
 Grows k d = (b : BranchId) (i : ℕ) (o : Opening) → opening_of k.opens b i ≡ Some o → opening_of d.after.opens b i ≡ Some o
 
-opens_grow : (p : Place) (input : Input) {k : Kept} {d : Deed} → Step p input k d → Grows k d
+opens_grow : (p : Place) (input : Input) {k : NodeState} {d : Deed} → Step p input k d → Grows k d
 opens_grow p input (steps.Begins n s call rows range none step) = opens_grow p input step
 opens_grow p input (steps.Pends n l given call has live code step) = opens_grow p input step
 opens_grow p input (steps.Lets_reads_go l comment site_below live begins step) = opens_grow p input step
@@ -70,7 +70,7 @@ opens_grow p input (steps.Gives_up_commit n b (Some l) gives has calls live) = �
 opens_grow p input (steps.Gives_up_commit n b None gives has calls live) = λ c i o is. is
 opens_grow p input _ = λ c i o is. is
 
-heard_opens : (k : Kept) (input : Input) → (heard k input).opens ≡ k.opens
+heard_opens : (k : NodeState) (input : Input) → (heard k input).opens ≡ k.opens
 heard_opens k (inputs.Message m) = refl
 heard_opens k (inputs.Call n s) = refl
 heard_opens k (inputs.GiveUp n) = refl
@@ -79,12 +79,12 @@ heard_opens k inputs.Reco = refl
 -- ---- every run
 
 -- a branch that began below another at a node in its last start is the answer to the Open of its edge
-abbrev pub IsAnswerTo : ℕ → ℕ → Kept → Born → Type 0
+abbrev pub IsAnswerTo : ℕ → ℕ → NodeState → Born → Type 0
 IsAnswerTo n boot k x = (b : BranchId) → x.parent ≡ Some b → x.me.node ≡ n → x.me.boot ≡ boot → (o : Opening) × (opening_of k.opens b x.edge ≡ Some o) × (o.child ≡ x.me)
 
 module _ (t : History) (whole : IsLawfulRun t) where
   abbrev pub Answered : List Happening → Type 0
-  Answered hs = (n : ℕ) (k : Kept) → node_at (f_at t hs) n ≡ Some k → (x : Born) → Began (births_of (so_far t hs)) x → IsAnswerTo n (boots (records_at (f_at t hs) n)) k x
+  Answered hs = (n : ℕ) (k : NodeState) → node_at (f_at t hs) n ≡ Some k → (x : Born) → Began (births_of (so_far t hs)) x → IsAnswerTo n (boots (records_at (f_at t hs) n)) k x
 
   births_on : (hs : List Happening) (h : Happening) → births_of (so_far t (hs ++ h ∷ [])) ≡ births_after t.places (f_at t hs) h (births_of (so_far t hs))
   unfolding births_from
@@ -113,13 +113,13 @@ module _ (t : History) (whole : IsLawfulRun t) where
     many = (run_stands s lawful).1.many
 
     -- by what the next facts are
-    from_facts : births_after t.places f h bs ≡ bs → ((n : ℕ) (k : Kept) → node_at g n ≡ Some k → (x : Born) → Began bs x → IsAnswerTo n (boots (records_at g n)) k x) → Answered (hs ++ h ∷ [])
+    from_facts : births_after t.places f h bs ≡ bs → ((n : ℕ) (k : NodeState) → node_at g n ≡ Some k → (x : Born) → Began bs x → IsAnswerTo n (boots (records_at g n)) k x) → Answered (hs ++ h ∷ [])
     from_facts same_births all n k up x began =
         subst (λ (y : Facts). IsAnswerTo n (boots (records_at y n)) k x) (sym (one_on t hs h))
         (all n k (subst (λ (y : Facts). node_at y n ≡ Some k) (one_on t hs h) up) x (subst (λ xs. Began xs x) (births_on hs h ∙ same_births) began))
 
     -- a node that is as it was
-    as_before : (n : ℕ) (k : Kept) → node_at g n ≡ node_at f n → records_at g n ≡ records_at f n → node_at g n ≡ Some k → (x : Born) → Began bs x → IsAnswerTo n (boots (records_at g n)) k x
+    as_before : (n : ℕ) (k : NodeState) → node_at g n ≡ node_at f n → records_at g n ≡ records_at f n → node_at g n ≡ Some k → (x : Born) → Began bs x → IsAnswerTo n (boots (records_at g n)) k x
     as_before n k same_node same_records up x began = subst (λ rs. IsAnswerTo n (boots rs) k x) (sym same_records) (now n k (sym same_node ∙ up) x began)
 
     -- a branch of a node that is down has an id of an earlier start
@@ -151,7 +151,7 @@ module _ (t : History) (whole : IsLawfulRun t) where
     may : MayHappen t.places t.commands f1 (happenings.Turn u)
     may = may_of t whole hs (happenings.Turn u) rest is
 
-    abbrev k : Kept
+    abbrev k : NodeState
     k = may.0
 
     abbrev p : Place
@@ -183,7 +183,7 @@ module _ (t : History) (whole : IsLawfulRun t) where
         → (o : Opening) × (opening_of d.after.opens parent edge ≡ Some o) × (o.child ≡ next_child p k)
     child_so to parent edge root depth came none = subst (λ i. (o : Opening) × (opening_of (deed_of p k i).after.opens parent edge ≡ Some o) × (o.child ≡ next_child p k)) (sym came.is) (made, opened, refl)
       where
-        j : Kept
+        j : NodeState
         j = heard k (inputs.Message (record { from = parent; to = to; scn = came.scn; kind = kinds.Open edge root depth }))
 
         made : Opening
@@ -218,7 +218,7 @@ module _ (t : History) (whole : IsLawfulRun t) where
     either : (x : Born) → Began (bs1 ++ births_by p k u.input) x → (Began bs1 x) ⊎ (item_at born_id (births_by p k u.input) x.me ≡ Some x)
     either x began = find_either (is_item_of born_id x.me) bs1 (births_by p k u.input) x began
 
-    at_turn : (cut : Bool) → u.cut ≡ cut → (n : ℕ) (j : Kept) → node_at g1 n ≡ Some j → (x : Born) → Began (if cut then bs1 else bs1 ++ births_by p k u.input) x → IsAnswerTo n (boots (records_at g1 n)) j x
+    at_turn : (cut : Bool) → u.cut ≡ cut → (n : ℕ) (j : NodeState) → node_at g1 n ≡ Some j → (x : Born) → Began (if cut then bs1 else bs1 ++ births_by p k u.input) x → IsAnswerTo n (boots (records_at g1 n)) j x
     unfolding turn_of
     at_turn cut is_cut n j up x began = elim (cases_nat u.node n) [
       | inl mine ↦ subst (λ m. IsAnswerTo m (boots (records_at g1 m)) j x) mine (own cut (sym here.0 ∙ subst (λ m. node_at g1 m ≡ Some j) (sym mine) up) is_cut began)
@@ -231,7 +231,7 @@ module _ (t : History) (whole : IsLawfulRun t) where
         own false left at begun =
             let it : Some d.after ≡ Some j = sym (ap (λ w. kept_after w (Some (turn_of p k u.input))) at) ∙ left in
             let one : d.after ≡ j = cc in
-            subst (λ (z : Kept). IsAnswerTo u.node (boots (records_at g1 u.node)) z x) one (elim (either x begun) [
+            subst (λ (z : NodeState). IsAnswerTo u.node (boots (records_at g1 u.node)) z x) one (elim (either x begun) [
               | inl old ↦ old_stay x (now u.node k may.1.up x old)
               | inr new ↦ all_found (IsAnswerTo u.node (boots (records_at g1 u.node)) d.after) born_id (births_by p k u.input) x.me x (new_stay (begins_so p k u.input)) new
             ])

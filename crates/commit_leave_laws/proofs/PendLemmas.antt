@@ -12,7 +12,7 @@ use Rattle.node_rules.specs.Data.kinds
 use Rattle.node_rules.specs.declared.session.PendingCall.TheVariants as pending
 use Rattle.node_rules.specs.declared.session.Session.{Session}
 use Rattle.node_rules.specs.Inputs.{Came}
-use Rattle.node_rules.specs.Kept.{Kept, Branch, Deed, live_id, live_at, branch_at, work_at, with_work}
+use Rattle.node_rules.specs.NodeState.{NodeState, Branch, Deed, live_id, live_at, branch_at, work_at, with_work}
 use Rattle.node_rules.specs.Sessions.{session_at, commit_complete}
 use Rattle.node_rules.specs.Turn.{deed_of, heard}
 use Rattle.node_rules.specs.Words.{same}
@@ -69,7 +69,7 @@ none_sent P (x ∷ xs) all from to so is = by ((same x.msg.from from && same x.m
     by false here found rest = rest found
 
 -- a delivery brings a message
-pub delivered : (f : Facts) (k : Kept) (node : ℕ) (input : Input) (took : Took) → Comes f k node input (Some took) → (x : Msg) × (input ≡ inputs.Message x)
+pub delivered : (f : Facts) (k : NodeState) (node : ℕ) (input : Input) (took : Took) → Comes f k node input (Some took) → (x : Msg) × (input ≡ inputs.Message x)
 delivered f k node (inputs.Message x) took comes = (x, refl)
 delivered f k node (inputs.Call n s) took comes = absurd comes
 delivered f k node (inputs.GiveUp n) took comes = absurd comes
@@ -97,12 +97,12 @@ module _ (t : History) (whole : IsLawfulRun t) (c : Commit t.places t.commands t
   -- ---- the session from the turn of the call on
 
   -- The COMMIT is pending, with no answer yet, or it has its answer.
-  pub data State (k : Kept) (told : List Answer) : Type 0 where
+  pub data State (k : NodeState) (told : List Answer) : Type 0 where
     Waits : (session_at k.sessions m).root ≡ Some r → (session_at k.sessions m).call ≡ pending.Commit → Lasts r k → told ≡ [] → State k told
     Done : (session_at k.sessions m).root ≡ None → told ≡ commit_complete ∷ [] → State k told
 
   -- what is known of the root's node as a message comes
-  module _ (k : Kept) (input : Input) (zs : List Happening) (h : Turn) (rest : List Happening) (is : zs ++ happenings.Turn h ∷ rest ≡ t.trace) (mid : List Happening) (at : after ++ mid ≡ zs) (may : MayTurn t.places (f_at t zs) h k) (here : h.node ≡ r.node)
+  module _ (k : NodeState) (input : Input) (zs : List Happening) (h : Turn) (rest : List Happening) (is : zs ++ happenings.Turn h ∷ rest ≡ t.trace) (mid : List Happening) (at : after ++ mid ≡ zs) (may : MayTurn t.places (f_at t zs) h k) (here : h.node ≡ r.node)
       (told : List Answer) (state : State k told) where
     abbrev z : History
     z = so_far t zs
@@ -215,7 +215,7 @@ module _ (t : History) (whole : IsLawfulRun t) (c : Commit t.places t.commands t
     abbrev d : Deed
     d = deed_of (place_at t.places h.node) k h.input
 
-    abbrev k1 : Kept
+    abbrev k1 : NodeState
     k1 = heard k h.input
 
     next_lasts : (x : Msg) → h.input ≡ inputs.Message x → Lasts r k → Lasts r k1

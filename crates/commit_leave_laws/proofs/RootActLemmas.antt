@@ -11,7 +11,7 @@ use Rattle.node_rules.specs.Data.records
 use Rattle.node_rules.specs.declared.session.PendingCall.TheVariants as pending
 use Rattle.node_rules.specs.declared.work.Going.{Going}
 use Rattle.node_rules.specs.Inputs.{Came}
-use Rattle.node_rules.specs.Kept.{Kept, Branch, Deed, live_id, live_at, branch_at}
+use Rattle.node_rules.specs.NodeState.{NodeState, Branch, Deed, live_id, live_at, branch_at}
 use Rattle.node_rules.specs.Records.{applied}
 use Rattle.node_rules.specs.Prepare.{act_turn, is_alone, sealed_of, decided_of, own_changes, ready}
 use Rattle.node_rules.specs.Sessions.{session_at, commit_complete, commit_ended, commit_answer}
@@ -70,7 +70,7 @@ pub record IsNoCall (input : Input) : Type 0 where
 module _ (m : ℕ) (r : BranchId) (own : r.session ≡ m) (input : Input) where
   -- What is known of the node as a message comes: the session of the root has that transaction or none, roots are their
   -- sessions' transactions, that root waits for nothing, and nothing comes to it that upsets its COMMIT.
-  pub record Known (k : Kept) : Type 0 where
+  pub record Known (k : NodeState) : Type 0 where
     pub only : (b : BranchId) → (session_at k.sessions m).root ≡ Some b → b ≡ r
     pub commits : (session_at k.sessions m).root ≡ Some r → (session_at k.sessions m).call ≡ pending.Commit
     pub roots : (l : Live) → live_at k l.me ≡ Some l → l.parent ≡ None → (session_at k.sessions l.me.session).root ≡ Some l.me
@@ -80,11 +80,11 @@ module _ (m : ℕ) (r : BranchId) (own : r.session ≡ m) (input : Input) where
     pub calm : (from : BranchId) (kind : Kind) → Came input from r kind → upsets kind ≡ false
 
   -- what a step leaves of the session
-  abbrev pub Effect : Kept → Deed → Type 0
+  abbrev pub Effect : NodeState → Deed → Type 0
   Effect k d = (Keeps m k.sessions d.after.sessions d.ended × ((session_at k.sessions m).root ≡ Some r → Lasts r k → Lasts r d.after))
       ⊎ (((session_at k.sessions m).root ≡ Some r) × (answers_of m d.ended ≡ commit_complete ∷ []) × ((session_at d.after.sessions m).root ≡ None))
 
-  module _ (k : Kept) (now : Known k) where
+  module _ (k : NodeState) (now : Known k) where
     -- nothing of the sessions changes
     pub still : (d : Deed) → d.after.sessions ≡ k.sessions → d.ended ≡ [] → (Lasts r k → Lasts r d.after) → Effect k d
     still d sessions ended lasts = inl (subst (λ ss. Keeps m k.sessions ss d.ended) (sym sessions) (subst (Keeps m k.sessions k.sessions) (sym ended) (same_keeps m k.sessions)), (λ root. lasts))

@@ -9,7 +9,7 @@ use Rattle.node_rules.specs.Data.acts
 use Rattle.node_rules.specs.Data.inputs
 use Rattle.node_rules.specs.Data.phases
 use Rattle.node_rules.specs.Data.stmts
-use Rattle.node_rules.specs.Kept.{Kept, Deed, live_id, live_at}
+use Rattle.node_rules.specs.NodeState.{NodeState, Deed, live_id, live_at}
 use Rattle.node_rules.specs.Prepare.{act_turn, first_act_by, with_prepare_sent}
 use Rattle.node_rules.specs.Sessions.{session_at}
 use Rattle.node_rules.specs.Words.{numbered}
@@ -186,7 +186,7 @@ module _ (t : History) (whole : IsLawfulRun t) (c : Commit t.places t.commands t
 
   -- ---- so none is live
 
-  module _ (free : (n : ℕ) (k : Kept) → node_at (facts_at t) n ≡ Some k → (l : Live) → live_at k l.me ≡ Some l → l.root ≡ r → l.phase ≢ phases.Ready) (n : ℕ) (k : Kept) (up : node_at (facts_at t) n ≡ Some k) (l : Live) (live : live_at k l.me ≡ Some l) (of : l.root ≡ r) where
+  module _ (free : (n : ℕ) (k : NodeState) → node_at (facts_at t) n ≡ Some k → (l : Live) → live_at k l.me ≡ Some l → l.root ≡ r → l.phase ≢ phases.Ready) (n : ℕ) (k : NodeState) (up : node_at (facts_at t) n ≡ Some k) (l : Live) (live : live_at k l.me ≡ Some l) (of : l.root ≡ r) where
     its : LiveIs (Began (births_of t)) l
     its = all_found (LiveIs (Began (births_of t))) live_id k.lives l.me l (nodes_name_the_born t whole n k up).0 live
 

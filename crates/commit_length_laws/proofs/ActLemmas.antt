@@ -15,7 +15,7 @@ use Rattle.node_rules.specs.Data.phases
 use Rattle.node_rules.specs.Data.records
 use Rattle.node_rules.specs.Data.walks
 use Rattle.node_rules.specs.Records.{applied, with_record}
-use Rattle.node_rules.specs.Kept.{Kept, live_id, live_at, standing_id, to_each, to_one, with_live, without_branch}
+use Rattle.node_rules.specs.NodeState.{NodeState, live_id, live_at, standing_id, to_each, to_one, with_live, without_branch}
 use Rattle.node_rules.specs.Prepare.{act_turn, path_of, named_children, is_prepared, ready, site_neighbors, sealed_of, decided_of, own_changes, collected_act, root_act, commit_point_act}
 use Rattle.commit_length_laws.proofs.TotalLemmas.{total, total_append, drop_total, put_total, insert_total}
 use Rattle.commit_length_laws.proofs.WorthLemmas.{one_of, phase_worth, post_worth, says_worth, live_worth, row_worth, node_worth, live_low, row_low, each_worth, one_worth, asked_worth, asks_worth, map_length, append_length, filter_low}
@@ -48,7 +48,7 @@ module _ (g : BranchId) (ask far : BranchId → ℕ) where
   abbrev says : List Post → ℕ
   says ms = says_worth g ask far ms
 
-  abbrev held : Kept → ℕ
+  abbrev held : NodeState → ℕ
   held k = node_worth g ask far k
 
   -- what an act may cost
@@ -63,7 +63,7 @@ module _ (g : BranchId) (ask far : BranchId → ℕ) where
   act_cost l acts.Finish = 0
   act_cost l acts.Abandon = 1
 
-  module _ (k : Kept) (x l : Live) (found : live_at k l.me ≡ Some x) where
+  module _ (k : NodeState) (x l : Live) (found : live_at k l.me ≡ Some x) where
     left : held (without_branch k l.me) + live_worth g ask far x ≤ held k
     left = (let low = drop_total (live_worth g ask far) live_id l.me k.lives x found in omega (arith, low))
 

@@ -10,7 +10,7 @@ use Rattle.node_rules.specs.Data.decisions
 use Rattle.node_rules.specs.Data.phases
 use Rattle.node_rules.specs.Data.stmts
 use Rattle.node_rules.specs.Words.{same, numbered, item_at}
-use Rattle.node_rules.specs.Kept.{Kept, Branch, live_id, live_at, branch_at, work_at, with_work}
+use Rattle.node_rules.specs.NodeState.{NodeState, Branch, live_id, live_at, branch_at, work_at, with_work}
 use Rattle.net_bag.specs.Net.{flies}
 use Rattle.run_rules.specs.Births.{Born, births_of}
 use Rattle.run_base_laws.specs.BirthLaws.{Began, LiveIs, KeptIs}
@@ -100,7 +100,7 @@ module _ (t : History) (whole : IsLawfulRun t) (c : Commit t.places t.commands t
   abbrev bs : List Born
   bs = births_of s
 
-  abbrev k : Kept
+  abbrev k : NodeState
   k = c.kept
 
   abbrev v : Turn
@@ -168,7 +168,7 @@ module _ (t : History) (whole : IsLawfulRun t) (c : Commit t.places t.commands t
       by None top = (let none : exit (e_at t hs) z.me ≡ None = subst (λ i. exit (e_at t hs) i ≡ None) (sym (root_me z began of top)) root_is_live in absurd (cc (none, left)))
       by (Some q) up = unasked z began of q up (above.3 q (ap (λ (a : Born). a.parent) it ∙ up))
 
-  module _ (n : ℕ) (j : Kept) (upj : node_at f n ≡ Some j) where
+  module _ (n : ℕ) (j : NodeState) (upj : node_at f n ≡ Some j) where
     live_none : (l : Live) → live_at j l.me ≡ Some l → LiveIs (Began bs) l → live_worth c.root (λ b. 0) distance l ≡ 0
     live_none l live placed = if_none (same l.root c.root) (phase_worth l.phase (length l.edges)) (λ of. by_phase (equal_from_same l.root c.root of) l.phase refl)
       where
@@ -233,7 +233,7 @@ module _ (t : History) (whole : IsLawfulRun t) (c : Commit t.places t.commands t
   pub nodes_none : total (kept_worth c.root distance) f.nodes ≡ 0
   nodes_none = total_each (kept_worth c.root distance) f.nodes each
     where
-      each : (n : ℕ) (o : Option Kept) → numbered f.nodes n ≡ Some o → kept_worth c.root distance o ≡ 0
+      each : (n : ℕ) (o : Option NodeState) → numbered f.nodes n ≡ Some o → kept_worth c.root distance o ≡ 0
       each n None at = refl
       each n (Some j) at = node_none n j (ap flat at)
 

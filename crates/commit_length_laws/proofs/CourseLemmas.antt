@@ -7,7 +7,7 @@ use Rattle.tran_ids.proofs.ListedLemmas.{item_is}
 use Rattle.session_tree.specs.Tree.{count}
 use Rattle.node_rules.specs.Data.{BranchId, Input, Live, Msg, Place, Post}
 use Rattle.node_rules.specs.Data.phases
-use Rattle.node_rules.specs.Kept.{Kept, Branch, Deed, live_id, live_at, branch_at, work_at, with_work}
+use Rattle.node_rules.specs.NodeState.{NodeState, Branch, Deed, live_id, live_at, branch_at, work_at, with_work}
 use Rattle.node_rules.specs.Turn.{clock_raised_by, deed_of, stamped, turn_of}
 use Rattle.net_bag.specs.Net.{flies, is_flying}
 use Rattle.run_rules.specs.Births.{Born, births_of, born_at}
@@ -65,7 +65,7 @@ module _ (t : History) (whole : IsLawfulRun t) (c : Commit t.places t.commands t
 
     -- ---- a delivery
 
-    module _ (calm : AllByRecursion (IsCalm (branches_by t.places t.commands t.trace c.root)) t.trace) (v : Turn) (turn : h ≡ happenings.Turn v) (uncut : v.cut ≡ false) (number : ℕ) (took : v.took ≡ Some (record { number = number; again = false })) (k : Kept)
+    module _ (calm : AllByRecursion (IsCalm (branches_by t.places t.commands t.trace c.root)) t.trace) (v : Turn) (turn : h ≡ happenings.Turn v) (uncut : v.cut ≡ false) (number : ℕ) (took : v.took ≡ Some (record { number = number; again = false })) (k : NodeState)
         (may : MayTurn t.places f v k) (now : AllFly Course f.net) where
       abbrev p : Place
       p = place_at t.places v.node
@@ -79,7 +79,7 @@ module _ (t : History) (whole : IsLawfulRun t) (c : Commit t.places t.commands t
       abbrev m : Msg
       m = takes.message
 
-      abbrev k0 : Kept
+      abbrev k0 : NodeState
       k0 = clock_raised_by k m
 
       flew : flies takes.packet ≡ true

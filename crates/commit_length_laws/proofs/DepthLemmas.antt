@@ -16,7 +16,7 @@ use Rattle.node_rules.specs.declared.session.Session.{Session}
 use Rattle.node_rules.specs.Refusals.{ora, dtx}
 use Rattle.node_rules.specs.Calls.{answer_says, exec_to, with_edge, hears_reply}
 use Rattle.node_rules.specs.Statement.{ran, after_run}
-use Rattle.node_rules.specs.Kept.{Kept, Branch, Deed, to_one, to_each}
+use Rattle.node_rules.specs.NodeState.{NodeState, Branch, Deed, to_one, to_each}
 use Rattle.node_rules.specs.Names.{Named, Unknown, A_table, Behind, Nowhere_to, Through, named_by, ref_of, target_of, way_edge, way_target, way_named, way_of}
 use Rattle.node_rules.specs.Prepare.{act_turn, site_neighbors}
 use Rattle.node_rules.specs.Recovery.{kept_told}
@@ -85,7 +85,7 @@ exec_low : (ss : List Session) (x : Branch) (i : ℕ) (s : Stmt) (given : ℕ) (
 exec_low ss x i s given None = tt
 exec_low ss x i s given (Some c) = (tt, tt)
 
-says_low : {k : Kept} {input : Input} {says : List Post} → Says k input says → AllSay IsLow says
+says_low : {k : NodeState} {input : Input} {says : List Post} → Says k input says → AllSay IsLow says
 says_low (steps.Tells s from came kept) = (told_says IsLow decisions_low (kept_told s from), tt)
 says_low {k = k} (steps.Recovers reco) = askings_say IsLow decisions_low k
 says_low _ = (tt, tt)
@@ -94,7 +94,7 @@ rolled_low : (l : Live) → AllSay IsLow (to_each l.me kinds.Rollback (children_
 rolled_low l = each_says IsLow l.me kinds.Rollback (children_of l) tt
 
 module _ (p : Place) (input : Input) where
-  acts_low : (k : Kept) (l : Live) (b : Bool) (a : Act) → AllSay IsLow (act_turn k l b a).says
+  acts_low : (k : NodeState) (l : Live) (b : Bool) (a : Act) → AllSay IsLow (act_turn k l b a).says
   acts_low k l b acts.Rest = tt
   acts_low k l b acts.AskDown = prepares_say IsLow (λ c d. tt) l.me l.comment _ 1 l.edges
   acts_low k l b acts.SayReadOnly = one_says IsLow l.me kinds.ReadOnly l.parent tt
@@ -105,7 +105,7 @@ module _ (p : Place) (input : Input) where
   acts_low k l b acts.Finish = tt
   acts_low k l b acts.Abandon = all_append (λ x. IsLow x.kind) (to_one l.me kinds.Abort l.parent) _ (one_says IsLow l.me kinds.Abort l.parent tt) (rolled_low l)
 
-  lows_on : {k : Kept} {d : Deed} → Step p input k d → AllSay IsLow d.says
+  lows_on : {k : NodeState} {d : Deed} → Step p input k d → AllSay IsLow d.says
   lows_on (steps.Begins n s call rows range none step) = lows_on step
   lows_on (steps.Pends n l given call has live code step) = lows_on step
   lows_on (steps.Lets_reads_go l comment b live begins step) = lows_on step
@@ -148,7 +148,7 @@ module _ (t : History) (whole : IsLawfulRun t) where
     abbrev f : Facts
     f = f_at t hs
 
-    module _ (u : Turn) (k : Kept) (may : MayTurn t.places f u k) where
+    module _ (u : Turn) (k : NodeState) (may : MayTurn t.places f u k) where
       roots_low : (p : Place) (n : ℕ) (o : Option BranchId) → AllByRecursion (λ (x : Born). x.depth ≤ 8) (roots_by p k n o)
       roots_low p n None = (omega arith, tt)
       roots_low p n (Some root) = tt

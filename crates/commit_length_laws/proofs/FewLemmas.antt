@@ -8,7 +8,7 @@ use Rattle.node_rules.specs.Data.{BranchId, Live, Place, Post, Input}
 use Rattle.node_rules.specs.Data.inputs
 use Rattle.node_rules.specs.declared.session.PendingCall.TheVariants as pending
 use Rattle.node_rules.specs.Data.stmts
-use Rattle.node_rules.specs.Kept.{Kept, Branch, Deed, live_id, live_at, branch_at, work_at, with_work}
+use Rattle.node_rules.specs.NodeState.{NodeState, Branch, Deed, live_id, live_at, branch_at, work_at, with_work}
 use Rattle.node_rules.specs.Prepare.{collecting, with_comment, without_read_keys, first_act, act_turn, collects, with_prepare_sent}
 use Rattle.node_rules.specs.Sessions.{session_at, with_call}
 use Rattle.node_rules.specs.Client.{commit_by, root_by, root_at}
@@ -57,7 +57,7 @@ module _ (t : History) (whole : IsLawfulRun t) (c : Commit t.places t.commands t
   abbrev bs : List Born
   bs = births_of s
 
-  abbrev k : Kept
+  abbrev k : NodeState
   k = c.kept
 
   abbrev v : Turn
@@ -109,7 +109,7 @@ module _ (t : History) (whole : IsLawfulRun t) (c : Commit t.places t.commands t
 
   collects_low : (comment : List ℕ) → (session_at k.sessions c.session).code ≡ None → Called (collects (record k { sessions = with_call k.sessions c.session pending.Commit }) (with_comment c.live comment) true)
   collects_low comment none =
-      let j : Kept = without_read_keys (record k { sessions = with_call k.sessions c.session pending.Commit }) c.live.me in
+      let j : NodeState = without_read_keys (record k { sessions = with_call k.sessions c.session pending.Commit }) c.live.me in
       let y : Live = collecting (with_comment c.live comment) true in
       let cost : act_cost c.root ask distance y (first_act y true) ≤ (23 + 21 * length y.edges) + asked_worth c.root ask distance y.edges = first_cost c.root ask distance (far_low t whole) y true y.edges refl in
       let many : length (map with_prepare_sent c.live.edges) ≡ length c.live.edges = map_length with_prepare_sent c.live.edges in

@@ -5,7 +5,7 @@ use Rattle.node_rules.specs.Data.{BranchId, Kind, Live, Msg, Phase, Place, Post}
 use Rattle.node_rules.specs.Data.kinds
 use Rattle.node_rules.specs.Data.phases
 use Rattle.node_rules.specs.Words.{numbered}
-use Rattle.node_rules.specs.Kept.{Kept, Deed, live_at}
+use Rattle.node_rules.specs.NodeState.{NodeState, Deed, live_at}
 use Rattle.node_rules.specs.Turn.{stamped, turn_of, deed_of}
 use Rattle.session_tree.specs.Tree.{count}
 use Rattle.net_bag.specs.Net.{Net, packet, packet_at, flies, is_flying, fated, with_fate, first_fate, delivered, sent_on, sent_one}
@@ -41,7 +41,7 @@ module _ (g : BranchId) (far : BranchId → ℕ) where
   net_worth ask net = total (flight ask) net.packets
 
   -- what a node keeps, where it is up
-  abbrev pub kept_worth : Option Kept → ℕ
+  abbrev pub kept_worth : Option NodeState → ℕ
   kept_worth None = 0
   kept_worth (Some k) = node_worth g (λ b. 0) far k
 
@@ -105,7 +105,7 @@ module _ (g : BranchId) (far : BranchId → ℕ) where
 
   -- ---- a whole turn
 
-  module _ (places : List Place) (asked : List Command) (f : Facts) (even : length f.nodes ≡ length f.records) (u : Turn) (k : Kept) (up : node_at f u.node ≡ Some k) (uncut : u.cut ≡ false)
+  module _ (places : List Place) (asked : List Command) (f : Facts) (even : length f.nodes ≡ length f.records) (u : Turn) (k : NodeState) (up : node_at f u.node ≡ Some k) (uncut : u.cut ≡ false)
       (sent : u.sent ≡ (turn_of (place_at places u.node) k u.input).sent) where
     abbrev d : Deed
     d = deed_of (place_at places u.node) k u.input
@@ -136,7 +136,7 @@ module _ (g : BranchId) (far : BranchId → ℕ) where
     unfolding facts_after
     here_now = ap flat_it (set_found f.nodes u.node (Some k) (kept_after u.cut (outcome_at places f u)) (flat_some (numbered f.nodes u.node) k up)) ∙ kept_now
       where
-        flat_it : Option (Option Kept) → Option Kept
+        flat_it : Option (Option NodeState) → Option NodeState
         flat_it o = flat o
 
     -- who may be asked is worth no more

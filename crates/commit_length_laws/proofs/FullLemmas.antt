@@ -9,7 +9,7 @@ use Rattle.node_rules.specs.Data.{BranchId, Edge, Live, Phase, Post}
 use Rattle.node_rules.specs.declared.work.Work.{Work}
 use Rattle.node_rules.specs.Data.phases
 use Rattle.node_rules.specs.Words.{numbered}
-use Rattle.node_rules.specs.Kept.{Kept, Branch, live_id, live_at, branch_at, work_at, with_work}
+use Rattle.node_rules.specs.NodeState.{NodeState, Branch, live_id, live_at, branch_at, work_at, with_work}
 use Rattle.agreement.specs.Events.{Event}
 use Rattle.node_rules.specs.Data.{Place}
 use Rattle.run_rules.specs.Births.{Born, births_of, births_after}
@@ -44,7 +44,7 @@ full None = 2
 full (Some l) = full_by l.phase (count l)
 
 -- what is live at a node
-abbrev pub live_in : Option Kept → BranchId → Option Live
+abbrev pub live_in : Option NodeState → BranchId → Option Live
 live_in None b = None
 live_in (Some k) b = live_at k b
 
@@ -89,10 +89,10 @@ module _ (t : History) (whole : IsLawfulRun t) where
       counts_end t.places t.commands t.of_a_script.each (first_facts t.places) t.trace [] [] (stand_born_first t.places t.commands t.of_a_script.each) (first_rests t.places t.commands t.of_a_script.each)
       (first_calls t.places t.commands t.of_a_script.each) (first_counts t.places t.commands t.of_a_script.each) whole
 
-  fits_at : (n : ℕ) (k : Kept) → node_at f n ≡ Some k → (b : BranchId) (l : Live) → live_at k b ≡ Some l → LiveFits said k l (work_at k b)
+  fits_at : (n : ℕ) (k : NodeState) → node_at f n ≡ Some k → (b : BranchId) (l : Live) → live_at k b ≡ Some l → LiveFits said k l (work_at k b)
   fits_at n k up b l live = (let all : NodeFits said k = subst (λ o. IfSome o (NodeFits said)) up (stand.nodes n) in all.each b l live)
 
-  module _ (n : ℕ) (k : Kept) (up : node_at f n ≡ Some k) (l : Live) (live : live_at k l.me ≡ Some l) (goes : GoesOn k l) (free : (work_at k l.me).going ≡ None) where
+  module _ (n : ℕ) (k : NodeState) (up : node_at f n ≡ Some k) (l : Live) (live : live_at k l.me ≡ Some l) (goes : GoesOn k l) (free : (work_at k l.me).going ≡ None) where
     abbrev w : Work
     w = work_at k l.me
 
@@ -135,7 +135,7 @@ module _ (t : History) (whole : IsLawfulRun t) where
 
     module _ (i : ℕ) (e : Edge) (at : numbered l.edges i ≡ Some e) where
       -- a child that works has what it told of
-      child_count : (j : Kept) → node_at f e.peer.node ≡ Some j → (y : Live) → live_at j e.peer ≡ Some y → y.phase ≡ phases.Working → count y ≡ e.count
+      child_count : (j : NodeState) → node_at f e.peer.node ≡ Some j → (y : Live) → live_at j e.peer ≡ Some y → y.phase ≡ phases.Working → count y ≡ e.count
       child_count j upj y livey working =
           let me : y.me ≡ e.peer = item_is live_id j.lives e.peer y livey in
           let found : live_at j y.me ≡ Some y = subst (λ b. live_at j b ≡ Some y) (sym me) livey in
@@ -167,11 +167,11 @@ module _ (t : History) (whole : IsLawfulRun t) where
           phase_low (phases.Collecting b) m is = omega (arith, some)
           phase_low phases.Ready m is = omega (arith, some)
 
-          by_live : (j : Kept) → node_at f e.peer.node ≡ Some j → (o : Option Live) → live_at j e.peer ≡ o → full o + 21 ≤ 45 * e.count
+          by_live : (j : NodeState) → node_at f e.peer.node ≡ Some j → (o : Option Live) → live_at j e.peer ≡ o → full o + 21 ≤ 45 * e.count
           by_live j upj None none = omega (arith, some)
           by_live j upj (Some y) found = phase_low y.phase (count y) (child_count j upj y found)
 
-          by : (o : Option Kept) → node_at f e.peer.node ≡ o → full (live_in o e.peer) + 21 ≤ 45 * e.count
+          by : (o : Option NodeState) → node_at f e.peer.node ≡ o → full (live_in o e.peer) + 21 ≤ 45 * e.count
           by None down = omega (arith, some)
           by (Some j) upj = by_live j upj (live_at j e.peer) refl
 

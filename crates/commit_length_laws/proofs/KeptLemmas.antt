@@ -16,7 +16,7 @@ use Rattle.node_rules.specs.Data.states
 use Rattle.node_rules.specs.Words.{same}
 use Rattle.node_rules.specs.Records.{applied, with_record}
 use Rattle.node_rules.specs.Commit.{acked_by, acks_kid, all_acked, knows_commit, first_decision, known_decision, decision_at, next_on_decision, next_on_ack, next_on_forgotten, next_turn, passes_commit}
-use Rattle.node_rules.specs.Kept.{Kept, standing_id, standing_at, with_standing, to_one}
+use Rattle.node_rules.specs.NodeState.{NodeState, standing_id, standing_at, with_standing, to_one}
 use Rattle.commit_length_laws.proofs.TotalLemmas.{total, total_map, put_total, change_total}
 use Rattle.commit_length_laws.proofs.WorthLemmas.{one_of, known_worth, neighbors, says_worth, row_worth, node_worth, row_low, row_is, each_worth, one_worth, beyond_low, map_length}
 
@@ -72,7 +72,7 @@ module _ (s : Standing) (from : BranchId) (n : ℕ) (P : Next → Type 0) (rest 
   commit_next = cond_both (is_branch from s.toward) (decision_at s (decisions.Commit n) s.decision) nexts.Rest P (λ toward. at_so s.decision refl) (λ other. rest)
 
 module _ (g : BranchId) (ask far : BranchId → ℕ) (low : (b : BranchId) → far b ≤ 17) where
-  abbrev held : Kept → ℕ
+  abbrev held : NodeState → ℕ
   held k = node_worth g ask far k
 
   ended_low : (n : ℕ) (x : Standing) → row_worth g ask far (ended_commit n x) ≤ row_worth g ask far x
@@ -88,7 +88,7 @@ module _ (g : BranchId) (ask far : BranchId → ℕ) (low : (b : BranchId) → f
   half true d n = omega arith
   half false d n = omega arith
 
-  module _ (k : Kept) (s : Standing) (from : BranchId) (found : standing_at k s.me ≡ Some s) (of : same s.root g ≡ true) where
+  module _ (k : NodeState) (s : Standing) (from : BranchId) (found : standing_at k s.me ≡ Some s) (of : same s.root g ≡ true) where
     -- a decision that is learned
     ends_low : (n : ℕ) → s.decision ≡ None → held (with_record k (records.Ended s.me (decisions.Commit n))) + 20 * neighbors s ≤ held k
     unfolding applied durable_after kept_after
@@ -185,7 +185,7 @@ module _ (g : BranchId) (ask far : BranchId → ℕ) (low : (b : BranchId) → f
         (λ below. (let sent = toward_worth near s.toward refl in omega (arith, sent)))) (λ some. omega arith))
 
   -- an Ack that is noted leaves it as it is
-  module _ (k : Kept) (s : Standing) (from : BranchId) (found : standing_at k s.me ≡ Some s) where
+  module _ (k : NodeState) (s : Standing) (from : BranchId) (found : standing_at k s.me ≡ Some s) where
     pub noted_same : held (with_standing k (acked_by s from)) ≡ held k
     noted_same =
         let is = put_total (row_worth g ask far) standing_id k.stored.durable.kept (acked_by s from) s found in

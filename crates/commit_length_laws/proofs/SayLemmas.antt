@@ -15,7 +15,7 @@ use Rattle.node_rules.specs.Data.nexts
 use Rattle.node_rules.specs.Data.phases
 use Rattle.node_rules.specs.Words.{same, item_at, drop_item}
 use Rattle.node_rules.specs.Commit.{next_turn, passes, passes_commit, rollback_to}
-use Rattle.node_rules.specs.Kept.{Kept, live_id, live_at, to_each, to_one}
+use Rattle.node_rules.specs.NodeState.{NodeState, live_id, live_at, to_each, to_one}
 use Rattle.node_rules.specs.Prepare.{act_turn, path_of, prepares, ready, site_neighbors}
 use Rattle.run_rules.proofs.ListLemmas.{all_append}
 
@@ -64,7 +64,7 @@ module _ (me : BranchId) where
 
 -- ---- acts
 
-pub act_said : (k : Kept) (l : Live) (b : Bool) (a : Act) → AllByRecursion (SaidSo l.me) (act_turn k l b a).says
+pub act_said : (k : NodeState) (l : Live) (b : Bool) (a : Act) → AllByRecursion (SaidSo l.me) (act_turn k l b a).says
 act_said k l b acts.Rest = tt
 act_said k l b acts.AskDown = asks_said l.me l.comment (path_of b (step l)) 1 l.edges
 act_said k l b acts.SayReadOnly = one_said l.me kinds.ReadOnly l.parent refl
@@ -76,10 +76,10 @@ act_said k l b acts.Finish = tt
 act_said k l b acts.Abandon = all_append (SaidSo l.me) (to_one l.me kinds.Abort l.parent) (to_each l.me kinds.Rollback (children_of l)) (one_said l.me kinds.Abort l.parent refl) (each_said l.me kinds.Rollback (children_of l) refl)
 
 -- who works was working
-abbrev pub WorksOn : Kept → Kept → Type 0
+abbrev pub WorksOn : NodeState → NodeState → Type 0
 WorksOn k j = (c : BranchId) (y : Live) → live_at j c ≡ Some y → y.phase ≡ phases.Working → live_at k c ≡ Some y
 
-module _ (k : Kept) (l : Live) (busy : l.phase ≢ phases.Working) where
+module _ (k : NodeState) (l : Live) (busy : l.phase ≢ phases.Working) where
   put_works : (x : Live) → x.phase ≢ phases.Working → (c : BranchId) (y : Live) (item : Option Live) → item ≡ Some y → y.phase ≡ phases.Working
       → ((item ≡ live_at k c) ⊎ ((x.me ≡ c) × (item ≡ Some x))) → live_at k c ≡ Some y
   put_works x other c y item at works (inl old) = sym old ∙ at
@@ -118,7 +118,7 @@ passes_said : (s : Standing) (d : Decision) → AllByRecursion (SaidSo s.me) (pa
 passes_said s (decisions.Commit n) = commit_said s n (beyond s)
 passes_said s decisions.Rollback = back_said s.me (beyond s)
 
-pub next_said : (k : Kept) (s : Standing) (from : BranchId) (next : Next) → AllByRecursion (SaidSo s.me) (next_turn k s from next).says
+pub next_said : (k : NodeState) (s : Standing) (from : BranchId) (next : Next) → AllByRecursion (SaidSo s.me) (next_turn k s from next).says
 next_said k s from nexts.Rest = tt
 next_said k s from (nexts.End d) = passes_said s d
 next_said k s from (nexts.Meet d mixed) = passes_said s d
@@ -127,7 +127,7 @@ next_said k s from nexts.Forget = each_said s.me kinds.Forgotten (map (λ b. b.b
 next_said k s from nexts.SayForgotten = ((refl, refl), tt)
 next_said k s from nexts.SayAck = ((refl, refl), tt)
 
-pub next_works : (k : Kept) (s : Standing) (from : BranchId) (next : Next) → WorksOn k (next_turn k s from next).after
+pub next_works : (k : NodeState) (s : Standing) (from : BranchId) (next : Next) → WorksOn k (next_turn k s from next).after
 next_works k s from nexts.Rest c y at works = at
 next_works k s from (nexts.End d) c y at works = at
 next_works k s from (nexts.Meet d mixed) c y at works = at

@@ -8,7 +8,7 @@ use Rattle.node_rules.specs.Data.{BranchId, Input, Kind, Live, Msg, Standing}
 use Rattle.node_rules.specs.Data.inputs
 use Rattle.node_rules.specs.Data.kinds
 use Rattle.node_rules.specs.Words.{same}
-use Rattle.node_rules.specs.Kept.{Kept, live_id, live_at, standing_id, standing_at}
+use Rattle.node_rules.specs.NodeState.{NodeState, live_id, live_at, standing_id, standing_at}
 use Rattle.net_bag.specs.Net.{packet_at}
 use Rattle.run_rules.specs.Births.{Born, births_of, born_id, born_at}
 use Rattle.run_base_laws.specs.BirthLaws.{Began, GoesSo, IsChild, AreNeighbors, LiveIs, KeptIs}
@@ -67,7 +67,7 @@ pub record Taken (f : Facts) (node number : ℕ) (input : Input) : Type 0 where
   pub here : message.to.node ≡ node
   pub flying : packet.fate ≡ fates.InFlight
 
-pub take_it : (f : Facts) (k : Kept) (node number : ℕ) (input : Input) (took : Option Took) → Comes f k node input took → took ≡ Some (record { number = number; again = false }) → Taken f node number input
+pub take_it : (f : Facts) (k : NodeState) (node number : ℕ) (input : Input) (took : Option Took) → Comes f k node input took → took ≡ Some (record { number = number; again = false }) → Taken f node number input
 take_it f k node number (inputs.Message m) (Some i) comes is =
     let both : Some i ≡ Some (record { number = number; again = false }) = is in
     let it : i ≡ record { number = number; again = false } = cc in
@@ -163,21 +163,21 @@ module _ (t : History) (whole : IsLawfulRun t) (c : Commit t.places t.commands t
 
     -- ---- what nodes keep of it
 
-    pub live_of : (n : ℕ) (k : Kept) → node_at f n ≡ Some k → (b : BranchId) → InTree b → (l : Live) → live_at k b ≡ Some l → l.root ≡ c.root
+    pub live_of : (n : ℕ) (k : NodeState) → node_at f n ≡ Some k → (b : BranchId) → InTree b → (l : Live) → live_at k b ≡ Some l → l.root ≡ c.root
     live_of n k up b mine l live =
         let me : l.me ≡ b = item_is live_id k.lives b l live in
         let it : LiveIs (Began (births_of s)) l = all_found (LiveIs (Began (births_of s))) live_id k.lives b l (nodes_name_the_born s lawful n k up).0 live in
         let one : it.born ≡ mine.0 = trees.same_born bs (said_in (facts_at t)) known it.born mine.0 (born_end t whole hs part it.born it.began) mine.1 (it.is_me ∙ (me ∙ sym mine.2)) in
         sym it.is_root ∙ (ap (λ (z : Born). z.root) one ∙ mine.3)
 
-    pub row_of : (n : ℕ) (k : Kept) → node_at f n ≡ Some k → (b : BranchId) → InTree b → (r : Standing) → standing_at k b ≡ Some r → r.root ≡ c.root
+    pub row_of : (n : ℕ) (k : NodeState) → node_at f n ≡ Some k → (b : BranchId) → InTree b → (r : Standing) → standing_at k b ≡ Some r → r.root ≡ c.root
     row_of n k up b mine r found =
         let me : r.me ≡ b = item_is standing_id k.stored.durable.kept b r found in
         let it : KeptIs (Began (births_of s)) r = all_found (KeptIs (Began (births_of s))) standing_id k.stored.durable.kept b r (nodes_name_the_born s lawful n k up).1 found in
         let one : it.born ≡ mine.0 = trees.same_born bs (said_in (facts_at t)) known it.born mine.0 (born_end t whole hs part it.born it.began) mine.1 (it.is_me ∙ (me ∙ sym mine.2)) in
         sym it.is_root ∙ (ap (λ (z : Born). z.root) one ∙ mine.3)
 
-    pub near_of : (n : ℕ) (k : Kept) → node_at f n ≡ Some k → (b : BranchId) (r : Standing) → standing_at k b ≡ Some r → (q : BranchId) → r.toward ≡ Some q → far q < far r.me
+    pub near_of : (n : ℕ) (k : NodeState) → node_at f n ≡ Some k → (b : BranchId) (r : Standing) → standing_at k b ≡ Some r → (q : BranchId) → r.toward ≡ Some q → far q < far r.me
     near_of n k up b r found q toward =
         elim (all_found (λ (y : Standing). RowFits (forest_of t) y.me y.toward) standing_id k.stored.durable.kept b r (rows_fit t whole hs part n k up) found) [
           | inl fits ↦ (let both : Some q ≡ Some ((forest_of t).toward r.me) = sym toward ∙ fits.0 in

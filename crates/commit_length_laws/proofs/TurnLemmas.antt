@@ -13,7 +13,7 @@ use Rattle.node_rules.specs.Data.phases
 use Rattle.node_rules.specs.Data.votes
 use Rattle.node_rules.specs.Words.{same}
 use Rattle.node_rules.specs.Commit.{acked_by, ack_counts, is_beyond, is_asked_again, knows_commit, next_on_decision, next_on_ack, next_on_forgotten, counts_ack, commit_point_known}
-use Rattle.node_rules.specs.Kept.{Kept, Deed, live_id, live_at, work_at, with_work, standing_id, standing_at, with_standing, nothing, saying, post}
+use Rattle.node_rules.specs.NodeState.{NodeState, Deed, live_id, live_at, work_at, with_work, standing_id, standing_at, with_standing, nothing, saying, post}
 use Rattle.node_rules.specs.Prepare.{act_turn, collecting, with_comment, without_read_keys, first_act, first_act_by, prepare_in, answer_in, answer_act, next_act, all_answered, collected_act, voted, has_voted, with_prepare_sent, commit_point_in, commit_point_act}
 use Rattle.node_rules.specs.Turn.{Stand, Is_live, Is_kept, Is_gone, kept_or_gone, live_or, stand_of, kind_turn}
 use Rattle.run_rules.specs.Trail.{is_prepare}
@@ -23,20 +23,20 @@ use Rattle.commit_length_laws.proofs.ActLemmas.{act_cost, act_low, collected_cos
 use Rattle.commit_length_laws.proofs.KeptLemmas.{committed_costs, forgotten_costs, noted_costs, noted_same, noted_found}
 use Rattle.commit_length_laws.proofs.SayLemmas.{in_course, SaidSo, WorksOn, act_said, act_works, next_said, next_works}
 
-stand_live : (k : Kept) (b : BranchId) (l : Live) → live_at k b ≡ Some l → stand_of k b ≡ Is_live (record { live = l; work = work_at k l.me })
+stand_live : (k : NodeState) (b : BranchId) (l : Live) → live_at k b ≡ Some l → stand_of k b ≡ Is_live (record { live = l; work = work_at k l.me })
 unfolding stand_of
 stand_live k b l is = ap (λ o. live_or (with_work k o) (standing_at k b)) is
 
-stand_kept : (k : Kept) (b : BranchId) (o : Option Standing) → live_at k b ≡ None → standing_at k b ≡ o → stand_of k b ≡ kept_or_gone o
+stand_kept : (k : NodeState) (b : BranchId) (o : Option Standing) → live_at k b ≡ None → standing_at k b ≡ o → stand_of k b ≡ kept_or_gone o
 unfolding stand_of
 stand_kept k b o is row = ap (λ x. live_or (with_work k x) (standing_at k b)) is ∙ ap kept_or_gone row
 
 module _ (g : BranchId) (ask far : BranchId → ℕ) (low : (b : BranchId) → far b ≤ 17) where
-  abbrev held : Kept → ℕ
+  abbrev held : NodeState → ℕ
   held k = node_worth g ask far k
 
   -- A turn of a branch costs at most so much, says what belongs to the course, and makes nobody work.
-  pub record Fits (k : Kept) (to : BranchId) (w : ℕ) (d : Deed) : Type 0 where
+  pub record Fits (k : NodeState) (to : BranchId) (w : ℕ) (d : Deed) : Type 0 where
     pub less : 1 + says_worth g ask far d.says + held d.after ≤ w + held k
     pub said : AllByRecursion (SaidSo to) d.says
     pub works : WorksOn k d.after
@@ -64,7 +64,7 @@ module _ (g : BranchId) (ask far : BranchId → ℕ) (low : (b : BranchId) → f
   answer_cost l b votes.ReadOnly is = next_cost l b is
   answer_cost l b votes.Ready is = next_cost l b is
 
-  module _ (p : Place) (k : Kept) (from to : BranchId) where
+  module _ (p : Place) (k : NodeState) (from to : BranchId) where
     idle : (w : ℕ) → 1 ≤ w → Fits k to w (nothing k)
     idle w some = record { less = omega (arith, some); said = tt; works = λ c y at works. at }
 

@@ -7,7 +7,7 @@ use Rattle.node_rules.specs.Data.{BranchId, Decision, Edge, Kind, Kid, Live, Pha
 use Rattle.node_rules.specs.Data.kinds
 use Rattle.node_rules.specs.Data.phases
 use Rattle.node_rules.specs.Words.{same}
-use Rattle.node_rules.specs.Kept.{Kept, to_each, to_one}
+use Rattle.node_rules.specs.NodeState.{NodeState, to_each, to_one}
 use Rattle.node_rules.specs.Prepare.{prepares, with_prepare_sent}
 use Rattle.commit_length_laws.proofs.TotalLemmas.{total}
 
@@ -60,7 +60,7 @@ module _ (g : BranchId) (ask far : BranchId → ℕ) where
   row_worth s = if same s.root g then known_worth s.forgot s.decision (neighbors s) else 0
 
   -- all of them at a node
-  abbrev pub node_worth : Kept → ℕ
+  abbrev pub node_worth : NodeState → ℕ
   node_worth k = total live_worth k.lives + total row_worth k.stored.durable.kept
 
   pub live_low : (l : Live) → live_worth l ≤ phase_worth l.phase (length l.edges)

@@ -14,7 +14,7 @@ use Rattle.node_rules.specs.Data.kinds
 use Rattle.node_rules.specs.Data.states
 use Rattle.node_rules.specs.Data.records
 use Rattle.node_rules.specs.Inputs.{Brings, Commit_came, Rollback_came, Rolled_back_came}
-use Rattle.node_rules.specs.Kept.{Kept, Deed, live_id, standing_id, live_at, standing_at}
+use Rattle.node_rules.specs.NodeState.{NodeState, Deed, live_id, standing_id, live_at, standing_at}
 use Rattle.node_rules.specs.Commit.{next_on_decision, decision_at, first_decision, next_turn, on_decision, is_mixed}
 use Rattle.node_rules.specs.Turn.{Stand, Is_live, Is_kept, Is_gone, turn_of, heard, deed_of, kind_turn, stand_of}
 use Rattle.node_rules.proofs.StandLemmas.{StandsSo, stands_so, live_so}
@@ -46,7 +46,7 @@ record BroughtBy (input : Input) (from to : BranchId) (d : Decision) : Type 0 wh
   scn : ℕ
   kind : Kind
   is : input ≡ inputs.Message (record { from = from; to = to; scn = scn; kind = kind })
-  deed : (p : Place) (k : Kept) (s : Standing) → kind_turn p k from to kind (Is_kept s) ≡ on_decision k s from d
+  deed : (p : Place) (k : NodeState) (s : Standing) → kind_turn p k from to kind (Is_kept s) ≡ on_decision k s from d
 
 brought_by : {input : Input} {from to : BranchId} {d : Decision} → Brings input from to d → BroughtBy input from to d
 brought_by (Commit_came n came) = record { scn = came.scn; kind = kinds.Committed n; is = came.is; deed = λ p k s. refl }
@@ -54,7 +54,7 @@ brought_by (Rollback_came came) = record { scn = came.scn; kind = kinds.Rollback
 brought_by (Rolled_back_came came) = record { scn = came.scn; kind = kinds.RolledBack; is = came.is; deed = λ p k s. refl }
 
 -- it came to its receiver's node
-came_here : (f : Facts) (k : Kept) (node : ℕ) (m : Msg) (took : Option Took) → Comes f k node (inputs.Message m) took → m.to.node ≡ node
+came_here : (f : Facts) (k : NodeState) (node : ℕ) (m : Msg) (took : Option Took) → Comes f k node (inputs.Message m) took → m.to.node ≡ node
 came_here f k node m (Some t) comes = comes.1.here
 came_here f k node m None comes = absurd comes
 
@@ -76,7 +76,7 @@ rollback_marked : (d : Decision) → is_mixed states.ForcedRollback d ≡ differ
 rollback_marked (decisions.Commit m) = refl
 rollback_marked decisions.Rollback = refl
 
-first_wrote : (e : List Event) (k : Kept) (s : Standing) (y : BranchId) (d : Decision) (state : State) → IsForcedAs e s.me state None
+first_wrote : (e : List Event) (k : NodeState) (s : Standing) (y : BranchId) (d : Decision) (state : State) → IsForcedAs e s.me state None
     → (next_turn k s y (first_decision state d)).wrote ≡ Some (taken_as (forced e s.me) s.me d)
 first_wrote e k s y d states.Sealed force = ap (λ o. Some (taken_as o s.me d)) (sym force.0)
 first_wrote e k s y d states.Committed force = absurd (force refl)
@@ -107,7 +107,7 @@ module _ (t : History) (whole : IsLawfulRun t) (hs : List Happening) (u : Turn) 
   may : MayHappen t.places t.commands f (happenings.Turn u)
   may = may_of t whole hs (happenings.Turn u) rest is
 
-  abbrev k : Kept
+  abbrev k : NodeState
   k = may.0
 
   abbrev place : Place
@@ -124,7 +124,7 @@ module _ (t : History) (whole : IsLawfulRun t) (hs : List Happening) (u : Turn) 
     abbrev input : Input
     input = inputs.Message m
 
-    abbrev k0 : Kept
+    abbrev k0 : NodeState
     k0 = heard k input
 
     abbrev d0 : Deed

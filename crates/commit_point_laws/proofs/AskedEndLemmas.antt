@@ -3,7 +3,7 @@
 use Rattle.std.proofs.Common.{◌≡◌, true, Option, Some, None, inl, inr, refl, sym, subst, ◌∙◌}
 use Rattle.agreement.specs.Events.{exit}
 use Rattle.node_rules.specs.Data.{BranchId}
-use Rattle.node_rules.specs.Kept.{live_at}
+use Rattle.node_rules.specs.NodeState.{live_at}
 use Rattle.run_rules.specs.Births.{Born, births_of}
 use Rattle.run_base_laws.specs.BirthLaws.{Began}
 use Rattle.run_rules.specs.Facts.{node_at}

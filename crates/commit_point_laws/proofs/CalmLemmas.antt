@@ -11,7 +11,7 @@ use Rattle.node_rules.specs.Data.inputs
 use Rattle.node_rules.specs.Data.kinds
 use Rattle.node_rules.specs.Data.stmts
 use Rattle.node_rules.specs.Inputs.{Came, IsCall}
-use Rattle.node_rules.specs.Kept.{Kept}
+use Rattle.node_rules.specs.NodeState.{NodeState}
 use Rattle.node_rules.specs.Words.{same}
 use Rattle.run_rules.specs.Births.{Born, births_of}
 use Rattle.run_base_laws.specs.BirthLaws.{Began}
@@ -71,7 +71,7 @@ rollback_disturbs _ is = absurd cc
 -- ---- turns
 
 -- a turn that takes a message has it as its input
-pub took_message : (f : Facts) (k : Kept) (n : ℕ) (input : Input) (took : Option Took) (x : Took) → took ≡ Some x → Comes f k n input took → (m : _) × (input ≡ inputs.Message m)
+pub took_message : (f : Facts) (k : NodeState) (n : ℕ) (input : Input) (took : Option Took) (x : Took) → took ≡ Some x → Comes f k n input took → (m : _) × (input ≡ inputs.Message m)
 took_message f k n (inputs.Message m) took x is comes = (m, refl)
 took_message f k n (inputs.Call session s) (Some y) x is comes = absurd comes
 took_message f k n (inputs.Call session s) None x is comes = absurd cc

@@ -11,7 +11,7 @@ use Rattle.node_rules.specs.Data.kinds
 use Rattle.node_rules.specs.Data.records
 use Rattle.node_rules.specs.Data.stmts
 use Rattle.node_rules.specs.Inputs.{Came, IsCall}
-use Rattle.node_rules.specs.Kept.{Kept, live_id, live_at}
+use Rattle.node_rules.specs.NodeState.{NodeState, live_id, live_at}
 use Rattle.node_rules.specs.Turn.{turn_of}
 use Rattle.node_rules.specs.Words.{same, item_at}
 use Rattle.run_rules.specs.Births.{Born, births_of}
@@ -156,7 +156,7 @@ module _ (t : History) (whole : IsLawfulRun t) (c : Commit t.places t.commands t
     may : MayHappen t.places t.commands f h
     may = may_of t whole hs h it.later is
 
-    abbrev k : Kept
+    abbrev k : NodeState
     k = may.0
 
     abbrev p : Place

@@ -12,7 +12,7 @@ use Rattle.node_rules.specs.Data.inputs
 use Rattle.node_rules.specs.Data.kinds
 use Rattle.node_rules.specs.Data.phases
 use Rattle.node_rules.specs.Commit.{commit_point_known}
-use Rattle.node_rules.specs.Kept.{Kept, Deed, live_id, live_at, work_at, with_work, standing_at}
+use Rattle.node_rules.specs.NodeState.{NodeState, Deed, live_id, live_at, work_at, with_work, standing_at}
 use Rattle.node_rules.specs.Points.{is_ready}
 use Rattle.node_rules.specs.Prepare.{act_turn, commit_point_act, commit_point_in}
 use Rattle.node_rules.specs.Turn.{Stand, Is_live, turn_of, heard, deed_of, stand_of, kept_or_gone, live_or, kind_turn, commit_point_turn}
@@ -60,7 +60,7 @@ left_not_live t whole b z left k up = by (live_at k b) refl
 
 -- ---- the turn
 
-module _ (k : Kept) (from to : BranchId) where
+module _ (k : NodeState) (from to : BranchId) where
   -- one that is not live
   known_same : (s : Standing) (o : Option Decision) → (commit_point_known k s from o).after ≡ k
   known_same s None = refl
@@ -89,7 +89,7 @@ module _ (k : Kept) (from to : BranchId) where
   leaves so = by (live_at k to) refl
     where
       by : (o : Option Live) → live_at k to ≡ o → live_at (commit_point_turn k from to (stand_of k to)).after to ≡ None
-      by None is = subst (λ (s : Stand). live_at (commit_point_turn k from to s).after to ≡ None) (sym (stand_other is)) (subst (λ (j : Kept). live_at j to ≡ None) (sym (other_same (standing_at k to))) is)
+      by None is = subst (λ (s : Stand). live_at (commit_point_turn k from to s).after to ≡ None) (sym (stand_other is)) (subst (λ (j : NodeState). live_at j to ≡ None) (sym (other_same (standing_at k to))) is)
       by (Some l) is =
           let me : l.me ≡ to = item_is live_id k.lives to l is in
           let it = so l is in
@@ -131,13 +131,13 @@ module _ (t : History) (whole : IsLawfulRun t) (m : Msg) (came : CameInTurn t.tr
   may : MayHappen t.places t.commands f h
   may = may_of t whole hs h came.later came.is
 
-  abbrev k : Kept
+  abbrev k : NodeState
   k = may.0
 
   abbrev p : Place
   p = place_at t.places u.node
 
-  abbrev k0 : Kept
+  abbrev k0 : NodeState
   k0 = heard k (inputs.Message m)
 
   abbrev d : Deed
@@ -193,10 +193,10 @@ module _ (t : History) (whole : IsLawfulRun t) (m : Msg) (came : CameInTurn t.tr
       = subst (λ i. node_at (facts_after t.places t.commands f h) i ≡ kept_after u.cut (Some (turn_of p k u.input))) came.here here in
       subst (λ x. node_at x b.node ≡ kept_after u.cut (Some (turn_of p k (inputs.Message m)))) (sym (one_on t hs h)) (there ∙ ap (λ i. kept_after u.cut (Some (turn_of p k i))) came.input)
 
-  by_cut : (cut : Bool) (j : Kept) → kept_after cut (Some (turn_of p k (inputs.Message m))) ≡ Some j → live_at j b ≡ None
+  by_cut : (cut : Bool) (j : NodeState) → kept_after cut (Some (turn_of p k (inputs.Message m))) ≡ Some j → live_at j b ≡ None
   unfolding turn_of
   by_cut true j is = absurd cc
-  by_cut false j is = (let it : d.after ≡ j = cc in subst (λ (i : Kept). live_at i b ≡ None) it gone_then)
+  by_cut false j is = (let it : d.after ≡ j = cc in subst (λ (i : NodeState). live_at i b ≡ None) it gone_then)
 
   -- it began
   goes_so : (kind : Kind) → m.kind ≡ kind → is_point kind ≡ true → GoesSo (Began (births_of s)) m.from m.to kind → IsChild (Began (births_of s)) m.to m.from

@@ -8,7 +8,7 @@ use Rattle.tran_ids.proofs.BranchLemmas.{equal_from_same}
 use Rattle.agreement.specs.Events.{Exit, exit}
 use Rattle.node_rules.specs.Data.{BranchId, Kind, Place, Post}
 use Rattle.node_rules.specs.Words.{same}
-use Rattle.node_rules.specs.Kept.{Kept}
+use Rattle.node_rules.specs.NodeState.{NodeState}
 use Rattle.node_rules.specs.Turn.{turn_of, deed_of}
 use Rattle.run_rules.specs.Data.{Turn, Happening}
 use Rattle.run_rules.specs.Data.happenings
@@ -40,7 +40,7 @@ module _ (kind : Kind → Bool) (P : BranchId → BranchId → Kind → Type 0) 
       by false here found rest = rest found
 
 -- what a turn that is whole sends is what its deed says, and a cut one sends nothing
-owed_says : (kind : Kind → Bool) (place : Place) (k : Kept) (u : Turn) (cut : Bool) → IsOwed place k u.input u.wrote u.sent cut → (p c : BranchId) → was_sent kind (map post_of u.sent) p c ≡ true
+owed_says : (kind : Kind → Bool) (place : Place) (k : NodeState) (u : Turn) (cut : Bool) → IsOwed place k u.input u.wrote u.sent cut → (p c : BranchId) → was_sent kind (map post_of u.sent) p c ≡ true
     → (cut ≡ false) × (was_sent kind (deed_of place k u.input).says p c ≡ true)
 unfolding turn_of
 owed_says kind place k u true owed p c is = let none : was_sent kind (map post_of u.sent) p c ≡ false = ap (λ ms. was_sent kind (map post_of ms) p c) owed.1 in absurd (cc (is, none))
@@ -49,7 +49,7 @@ owed_says kind place k u false owed p c is =
     (refl, subst (λ xs. was_sent kind xs p c ≡ true) says is)
 
 module _ (t : History) where
-  pub turn_says : (hs : List Happening) (u : Turn) (k : Kept) → MayTurn t.places (f_at t hs) u k → (kind : Kind → Bool) (p c : BranchId) → was_sent kind (map post_of u.sent) p c ≡ true
+  pub turn_says : (hs : List Happening) (u : Turn) (k : NodeState) → MayTurn t.places (f_at t hs) u k → (kind : Kind → Bool) (p c : BranchId) → was_sent kind (map post_of u.sent) p c ≡ true
       → (u.cut ≡ false) × (was_sent kind (deed_of (place_at t.places u.node) k u.input).says p c ≡ true)
   turn_says hs u k may kind p c is = owed_says kind (place_at t.places u.node) k u u.cut may.owed p c is
 

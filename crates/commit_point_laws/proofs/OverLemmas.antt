@@ -11,7 +11,7 @@ use Rattle.node_rules.specs.Data.kinds
 use Rattle.node_rules.specs.Data.phases
 use Rattle.node_rules.specs.Data.votes
 use Rattle.node_rules.specs.Inputs.{Came}
-use Rattle.node_rules.specs.Kept.{Kept, live_id, live_at}
+use Rattle.node_rules.specs.NodeState.{NodeState, live_id, live_at}
 use Rattle.node_rules.specs.Points.{is_ready}
 use Rattle.node_rules.specs.Prepare.{with_prepare_sent, is_awaited, answers_first, has_voted, voted}
 use Rattle.node_rules.specs.Turn.{heard}
@@ -82,7 +82,7 @@ module _ (e : List Event) (said : List Post) (me : BranchId) where
   all_over clock phase other [] all done = tt
   all_over clock phase other (x ∷ xs) all done = (over_old clock phase other x all.0 done.0, all_over clock phase other xs all.1 done.1)
 
-module _ (t : History) (before : List Happening) (lawful : IsLawfulRun (so_far t before)) (u : Turn) (k : Kept) (may : MayTurn t.places (f_at t before) u k) where
+module _ (t : History) (before : List Happening) (lawful : IsLawfulRun (so_far t before)) (u : Turn) (k : NodeState) (may : MayTurn t.places (f_at t before) u k) where
   abbrev s : History
   s = so_far t before
 
@@ -95,7 +95,7 @@ module _ (t : History) (before : List Happening) (lawful : IsLawfulRun (so_far t
   abbrev said : List Post
   said = said_in f
 
-  abbrev k0 : Kept
+  abbrev k0 : NodeState
   k0 = heard k u.input
 
   fits : (l : Live) → live_at k l.me ≡ Some l → PhaseFits l.parent l.edges l.phase
@@ -124,7 +124,7 @@ module _ (t : History) (before : List Happening) (lawful : IsLawfulRun (so_far t
   vote_over from me votes.Unasked kind is other came x peer = absurd cc
   vote_over from me votes.Asked kind is other came x peer = absurd cc
 
-  pub edges_over : (at : Kept) → Near k0 at → {l : Live} {b : Bool} {a : Act} → Acting at u.input l b a → Over a → AllByRecursion (EdgeOver e said l.me) l.edges
+  pub edges_over : (at : NodeState) → Near k0 at → {l : Live} {b : Bool} {a : Act} → Acting at u.input l b a → Over a → AllByRecursion (EdgeOver e said l.me) l.edges
   edges_over at near (steps.Asks_down l comment b y ys live begins has) over = elim over [ ]
   edges_over at near (steps.Has_no_children l comment b a live begins none collected) over = subst (λ (xs : List Edge). AllByRecursion (EdgeOver e said l.me) (map with_prepare_sent xs)) (sym none) tt
   edges_over at near (steps.Hears_abort l from b live answers) over = elim over [ ]

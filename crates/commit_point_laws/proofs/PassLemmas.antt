@@ -13,7 +13,7 @@ use Rattle.node_rules.specs.Data.kinds
 use Rattle.node_rules.specs.Data.phases
 use Rattle.node_rules.specs.Data.records
 use Rattle.node_rules.specs.Words.{numbered}
-use Rattle.node_rules.specs.Kept.{Kept, Branch, Deed, live_at, branch_at, work_at, with_work, to_one}
+use Rattle.node_rules.specs.NodeState.{NodeState, Branch, Deed, live_at, branch_at, work_at, with_work, to_one}
 use Rattle.node_rules.specs.Points.{is_ready}
 use Rattle.node_rules.specs.Prepare.{voted}
 use Rattle.node_rules.specs.Turn.{heard, deed_of}
@@ -67,14 +67,14 @@ pass_on (steps.Passes i none is) = (refl, is)
 point_on : {l : Live} {i : ℕ} → Pointed l (acts.SealAndPass i) → step l ≡ walks.Down i
 point_on (steps.Points_on i is) = is
 
-module _ (t : History) (before : List Happening) (lawful : IsLawfulRun (so_far t before)) (u : Turn) (k : Kept) (may : MayTurn t.places (f_at t before) u k) where
+module _ (t : History) (before : List Happening) (lawful : IsLawfulRun (so_far t before)) (u : Turn) (k : NodeState) (may : MayTurn t.places (f_at t before) u k) where
   abbrev s : History
   s = so_far t before
 
   abbrev said : List Post
   said = said_in (f_at t before)
 
-  abbrev k0 : Kept
+  abbrev k0 : NodeState
   k0 = heard k u.input
 
   -- whom it told so it asked
@@ -101,7 +101,7 @@ module _ (t : History) (before : List Happening) (lawful : IsLawfulRun (so_far t
       subst (λ j. numbered (children_of l) j ≡ Some c) same kid.1.2
 
   -- a branch that becomes sealed passes CommitPoint on to the child that it told so
-  pub passes_to : (at : Kept) → Near k0 at → {l : Live} {b : Bool} (path : Option ℕ) → Acting at u.input l b (seal_act path) → (c : BranchId) → was_sent is_below said l.me c ≡ true → (i : ℕ) × (path ≡ Some i) × (peer_of l i ≡ Some c)
+  pub passes_to : (at : NodeState) → Near k0 at → {l : Live} {b : Bool} (path : Option ℕ) → Acting at u.input l b (seal_act path) → (c : BranchId) → was_sent is_below said l.me c ≡ true → (i : ℕ) × (path ≡ Some i) × (peer_of l i ≡ Some c)
   passes_to at near None (steps.Has_no_children l comment b _ live begins none collected) c told = absurd (no_kids l (live_in t before lawful u k may at near l live) none c told)
   passes_to at near None (steps.Hears_last l from v b _ live answers other all collected) c told =
       let phase : l.phase ≡ phases.Collecting b = answers.collecting in
@@ -150,7 +150,7 @@ module _ (t : History) (whole : IsLawfulRun t) (p c : BranchId) (it : SentIn t w
   may : MayHappen t.places t.commands (f_at t hs) h
   may = may_of t whole hs h it.later it.is
 
-  abbrev k : Kept
+  abbrev k : NodeState
   k = may.0
 
   abbrev place : Place

@@ -8,7 +8,7 @@ use Rattle.node_rules.specs.Data.acts
 use Rattle.node_rules.specs.Data.kinds
 use Rattle.node_rules.specs.Data.records
 use Rattle.node_rules.specs.declared.session.Session.{Session}
-use Rattle.node_rules.specs.Kept.{Kept, Branch, Deed, to_one, to_each}
+use Rattle.node_rules.specs.NodeState.{NodeState, Branch, Deed, to_one, to_each}
 use Rattle.node_rules.specs.Statement.{ran, after_run}
 use Rattle.node_rules.specs.Calls.{answer_says, exec_to, with_edge, hears_reply}
 use Rattle.node_rules.specs.Prepare.{path_of, site_neighbors, act_turn}
@@ -37,7 +37,7 @@ exec_other : (ss : List Session) (x : Branch) (i : ℕ) (s : Stmt) (given : ℕ)
 exec_other ss x i s given None = tt
 exec_other ss x i s given (Some c) = (refl, tt)
 
-says_other : {k : Kept} {input : Input} {says : List Post} → Says k input says → AllSay IsOther says
+says_other : {k : NodeState} {input : Input} {says : List Post} → Says k input says → AllSay IsOther says
 says_other (steps.Tells s from came kept) = (told_says IsOther other_decisions (kept_told s from), tt)
 says_other {k = k} (steps.Recovers reco) = askings_say IsOther other_decisions k
 says_other _ = (refl, tt)
@@ -49,7 +49,7 @@ abbrev pub seal_says : Live → Option ℕ → List Post
 seal_says l None = to_one l.me kinds.Prepared l.parent
 seal_says l (Some i) = to_one l.me kinds.CommitPoint (peer_of l i)
 
-module _ (k0 : Kept) (input : Input) where
+module _ (k0 : NodeState) (input : Input) where
   -- A seal is an act of a live branch that says so.
   pub record SealsSo (says : List Post) (me : BranchId) : Type 0 where
     pub live : Live
@@ -67,7 +67,7 @@ module _ (k0 : Kept) (input : Input) where
   rolled : (l : Live) → AllSay IsOther (to_each l.me kinds.Rollback (children_of l))
   rolled l = each_says IsOther l.me kinds.Rollback (children_of l) refl
 
-  module _ (k : Kept) (near : Near k0 k) where
+  module _ (k : NodeState) (near : Near k0 k) where
     acts_why : {l : Live} {site_below : Bool} (a : Act) → Acting k input l site_below a → PointWhy (act_turn k l site_below a).says (act_turn k l site_below a).wrote
     acts_why acts.Rest why = tt
     acts_why {l = l} {site_below = b} acts.AskDown why = prepares_say IsOther (λ q c. refl) l.me l.comment (path_of b (step_from l)) 1 l.edges
@@ -81,7 +81,7 @@ module _ (k0 : Kept) (input : Input) where
 
   module _ (p : Place) where
     -- the node is as it was, unless a statement with a table came
-    pub point_why : {k : Kept} {d : Deed} → Step p input k d → (NoRows input → Near k0 k) → PointWhy d.says d.wrote
+    pub point_why : {k : NodeState} {d : Deed} → Step p input k d → (NoRows input → Near k0 k) → PointWhy d.says d.wrote
     point_why (steps.Begins n s call rows range none step) near = point_why step (λ no. absurd (no n s call rows))
     point_why (steps.Pends {k = k} n l given call has live code step) near = point_why step (λ no. (let is = near no in record { lives = is.lives; clock = is.clock }))
     point_why (steps.Lets_reads_go {k = k} l comment b live begins step) near = point_why step (λ no. (let is = near no in record { lives = is.lives; clock = is.clock }))

@@ -7,7 +7,7 @@ use Rattle.agreement.proofs.Invariant.{Inv}
 use Rattle.agreement.proofs.InvariantKept.{inv}
 use Rattle.node_rules.specs.Data.{BranchId, Live, Phase, Post}
 use Rattle.node_rules.specs.Data.phases
-use Rattle.node_rules.specs.Kept.{Kept, Branch, live_id, live_at}
+use Rattle.node_rules.specs.NodeState.{NodeState, Branch, live_id, live_at}
 use Rattle.node_rules.proofs.StandLemmas.{live_so}
 use Rattle.run_rules.specs.Births.{Born, births_of, born_at}
 use Rattle.run_base_laws.specs.BirthLaws.{Began, LiveIs}
@@ -118,7 +118,7 @@ module _ (t : History) (whole : IsLawfulRun t) where
 
     -- A branch of the tree that has not left, as it is live: it works, or it is Ready. One that asked is Ready.
     pub record TreeLives (x : Born) : Type 0 where
-      pub kept : Kept
+      pub kept : NodeState
       pub up : node_at f x.me.node ≡ Some kept
       pub live : Live
       pub found : live_at kept live.me ≡ Some live
@@ -170,9 +170,9 @@ module _ (t : History) (whole : IsLawfulRun t) where
 
     -- no branch of at most this depth is
     abbrev NoneReady : ℕ → Type 0
-    NoneReady m = (n : ℕ) (k : Kept) → node_at f n ≡ Some k → (l : Live) → live_at k l.me ≡ Some l → l.root ≡ r → l.phase ≡ phases.Ready → l.depth ≤ m → ⊥
+    NoneReady m = (n : ℕ) (k : NodeState) → node_at f n ≡ Some k → (l : Live) → live_at k l.me ≡ Some l → l.root ≡ r → l.phase ≡ phases.Ready → l.depth ≤ m → ⊥
 
-    module _ (x : Born) (began : Began bs x) (of : x.root ≡ r) (l : Live) (k : Kept) (up : node_at f l.me.node ≡ Some k) (live : live_at k l.me ≡ Some l) (told : was_sent is_below said x.me l.me ≡ true) where
+    module _ (x : Born) (began : Began bs x) (of : x.root ≡ r) (l : Live) (k : NodeState) (up : node_at f l.me.node ≡ Some k) (live : live_at k l.me ≡ Some l) (told : was_sent is_below said x.me l.me ≡ true) where
       -- one that told a live branch that the walk comes there has not left
       teller_stays : (z : Exit) → exit e x.me ≡ Some z → ⊥
       teller_stays Dropped left =
@@ -225,7 +225,7 @@ module _ (t : History) (whole : IsLawfulRun t) where
         absurd (omega (arith, high, its_depth, low))
     none_ready (suc m) n k up l live of ready low = ready_step m (none_ready m) n k up l live of ready low
 
-    pub leave_ready : (n : ℕ) (k : Kept) → node_at f n ≡ Some k → (l : Live) → live_at k l.me ≡ Some l → l.root ≡ r → l.phase ≢ phases.Ready
+    pub leave_ready : (n : ℕ) (k : NodeState) → node_at f n ≡ Some k → (l : Live) → live_at k l.me ≡ Some l → l.root ≡ r → l.phase ≢ phases.Ready
     leave_ready n k up l live of ready = none_ready l.depth n k up l live of ready (omega arith)
 
 pub undisturbed_leave_ready : UndisturbedLeaveReady

@@ -14,7 +14,7 @@ use Rattle.node_rules.specs.Data.phases
 use Rattle.node_rules.specs.Data.votes
 use Rattle.node_rules.specs.Words.{same, item_at, numbered}
 use Rattle.node_rules.specs.Inputs.{Came}
-use Rattle.node_rules.specs.Kept.{Kept, Branch, Deed, live_id, live_at, branch_at, work_at, with_work, to_each}
+use Rattle.node_rules.specs.NodeState.{NodeState, Branch, Deed, live_id, live_at, branch_at, work_at, with_work, to_each}
 use Rattle.node_rules.specs.Prepare.{answers_first, is_awaited, voted}
 use Rattle.node_rules.specs.Turn.{turn_of, heard, deed_of}
 use Rattle.node_rules.proofs.Steps as steps
@@ -100,7 +100,7 @@ first_there from (e ∷ es) is = by (same e.peer from) (is_awaited e.vote) is (f
     by true q found rest = refl
     by false q found rest = rest found
 
-module _ (t : History) (before : List Happening) (lawful : IsLawfulRun (so_far t before)) (u : Turn) (k : Kept) (may : MayTurn t.places (f_at t before) u k) where
+module _ (t : History) (before : List Happening) (lawful : IsLawfulRun (so_far t before)) (u : Turn) (k : NodeState) (may : MayTurn t.places (f_at t before) u k) where
   abbrev s : History
   s = so_far t before
 
@@ -113,7 +113,7 @@ module _ (t : History) (before : List Happening) (lawful : IsLawfulRun (so_far t
   abbrev said : List Post
   said = said_in f
 
-  abbrev k0 : Kept
+  abbrev k0 : NodeState
   k0 = heard k u.input
 
   asked_none : (l : Live) → live_at k l.me ≡ Some l → l.edges ≡ [] → (c : BranchId) → was_asked said l.me c ≡ true → ⊥
@@ -134,7 +134,7 @@ module _ (t : History) (before : List Happening) (lawful : IsLawfulRun (so_far t
 
   -- a root that finishes
   module _ (weigh : AllByRecursion (LiveWeighs e said) k.lives) where
-    finds_nothing : (at : Kept) → Near k0 at → {l : Live} {b : Bool} → Acting at u.input l b acts.Finish → FoundNothing said e l.me
+    finds_nothing : (at : NodeState) → Near k0 at → {l : Live} {b : Bool} → Acting at u.input l b acts.Finish → FoundNothing said e l.me
     finds_nothing at near (steps.Has_no_children l comment b _ live begins none collected) =
         let here : live_at k l.me ≡ Some l = live_in t before lawful u k may at near l live in
         record {
@@ -171,7 +171,7 @@ module _ (t : History) (before : List Happening) (lawful : IsLawfulRun (so_far t
     finds_nothing at near (steps.At_point l from _ live came is pointed) = elim pointed [ ]
 
   -- a root does not say ReadOnly
-  begins_on : (at : Kept) {comment : List ℕ} {b : Bool} (l : Live) → live_at k l.me ≡ Some l → l.parent ≡ None → Collects at u.input l comment b → b ≡ false → ⊥
+  begins_on : (at : NodeState) {comment : List ℕ} {b : Bool} (l : Live) → live_at k l.me ≡ Some l → l.parent ≡ None → Collects at u.input l comment b → b ≡ false → ⊥
   begins_on at l live top (steps.By_commit n given call has code is) off = absurd cc
   begins_on at {comment = comment} l live top (steps.By_prepare from b came working) off =
       let child : IsChild (Began (births_of s)) l.me from = came_so (GoesSo (Began (births_of s))) f (messages_are_of_neighbors s lawful) k u.node u.input u.took may.comes from l.me (kinds.Prepare b comment) came in
@@ -179,14 +179,14 @@ module _ (t : History) (before : List Happening) (lawful : IsLawfulRun (so_far t
       absurd (cc (top, parent))
 
   -- the parent of the branch of an act
-  not_quiet : (at : Kept) → Near k0 at → {l : Live} {b : Bool} → Acting at u.input l b acts.SayReadOnly → l.parent ≡ None → ⊥
+  not_quiet : (at : NodeState) → Near k0 at → {l : Live} {b : Bool} → Acting at u.input l b acts.SayReadOnly → l.parent ≡ None → ⊥
   not_quiet at near (steps.Has_no_children l comment b _ live begins none collected) top = begins_on at l (live_in t before lawful u k may at near l live) top begins (none_off collected)
   not_quiet at near (steps.Hears_last l from v b _ live answers other all_so collected) top =
       (live_told s lawful u.node k may.up l (live_in t before lawful u k may at near l live)).root top (ap way_of (answers.collecting ∙ ap phases.Collecting (none_off collected)))
   not_quiet at near (steps.At_point l from _ live came is pointed) top = elim pointed [ ]
 
   -- a child's Abort
-  aborts : (at : Kept) → {l : Live} {b : Bool} → Acting at u.input l b acts.Abandon → (from : BranchId) × Came u.input from l.me kinds.Abort × (list_any (λ c. same c from) (children_of l) ≡ true)
+  aborts : (at : NodeState) → {l : Live} {b : Bool} → Acting at u.input l b acts.Abandon → (from : BranchId) × Came u.input from l.me kinds.Abort × (list_any (λ c. same c from) (children_of l) ≡ true)
   aborts at (steps.Hears_abort l from b live answers) =
       let it : Some kinds.Abort ≡ Some answers.kind = answers.is_vote in
       let kind : answers.kind ≡ kinds.Abort = cc in (
@@ -205,7 +205,7 @@ module _ (t : History) (before : List Happening) (lawful : IsLawfulRun (so_far t
 
   module _ (weigh : AllByRecursion (LiveWeighs e said) k.lives) (b : BranchId) (l : Live) (live : live_at k b ≡ Some l) (top : l.parent ≡ None) where
     -- the branch of an act is the root
-    acting_top : (at : Kept) → Near k0 at → {x : Live} {below : Bool} {a : _} → Acting at u.input x below a → x.me ≡ b → x.parent ≡ None
+    acting_top : (at : NodeState) → Near k0 at → {x : Live} {below : Bool} {a : _} → Acting at u.input x below a → x.me ≡ b → x.parent ≡ None
     acting_top at near why me = by why me
       where
         same_one : (y : Live) → live_at at y.me ≡ Some y → y.me ≡ b → y.parent ≡ None

@@ -11,7 +11,7 @@ use Rattle.node_rules.specs.declared.work.Going.{Going}
 use Rattle.node_rules.specs.Inputs.{Came}
 use Rattle.node_rules.specs.Points.{is_ready}
 use Rattle.node_rules.specs.Words.{same}
-use Rattle.node_rules.specs.Kept.{Kept, Branch, Deed, live_id, branch_at}
+use Rattle.node_rules.specs.NodeState.{NodeState, Branch, Deed, live_id, branch_at}
 use Rattle.node_rules.specs.Turn.{start_of, heard, deed_of}
 use Rattle.run_rules.specs.Data.{Turn, Happening}
 use Rattle.run_rules.specs.Facts.{Facts, place_at}
@@ -68,7 +68,7 @@ said_more said says l all =
 lives_more : (said says : List Post) (ls : List Live) → AllByRecursion (Said said) ls → AllByRecursion (Said (said ++ says)) ls
 lives_more said says ls all = all_weaker (Said said) (Said (said ++ says)) (λ l is. said_more said says l is) ls all
 
-abbrev NodeSaid : List Post → Kept → Type 0
+abbrev NodeSaid : List Post → NodeState → Type 0
 NodeSaid said k = AllByRecursion (Said said) k.lives
 
 started_so : (said : List Post) (rs : List RedoRecord) → NodeSaid said (start_of rs)
@@ -84,7 +84,7 @@ module _ (t : History) (before : List Happening) (lawful : IsLawfulRun (so_far t
   abbrev said : List Post
   said = said_in f
 
-  module _ (u : Turn) (k : Kept) (may : MayTurn t.places f u k) where
+  module _ (u : Turn) (k : NodeState) (may : MayTurn t.places f u k) where
     abbrev d : Deed
     d = deed_of (place_at t.places u.node) k u.input
 

@@ -6,7 +6,7 @@ use Rattle.agreement.specs.Events.{Event, Exit, Sealed, Dropped, exit}
 use Rattle.node_rules.specs.Data.{BranchId, Live, Place, RedoRecord}
 use Rattle.node_rules.specs.Data.kinds
 use Rattle.node_rules.specs.Data.records
-use Rattle.node_rules.specs.Kept.{Kept, Deed, to_one}
+use Rattle.node_rules.specs.NodeState.{NodeState, Deed, to_one}
 use Rattle.node_rules.specs.Turn.{turn_of, heard, deed_of}
 use Rattle.session_tree.specs.Live.{peer_of}
 use Rattle.run_rules.specs.Data.{Turn, Happening}
@@ -24,7 +24,7 @@ use Rattle.run_base_laws.proofs.SaidPostLemmas.{posts_back, posts_of, said_after
 use Rattle.tree_laws.proofs.AskLemmas.{sent_new}
 use Rattle.tree_laws.proofs.PrefixLemmas.{so_far, f_at, e_at, one_on, more_on}
 use Rattle.tree_laws.proofs.SealLemmas.{IsSealOf, wrote_seal, later_unsealed}
-use Rattle.node_rules.specs.Kept.{live_id}
+use Rattle.node_rules.specs.NodeState.{live_id}
 use Rattle.tree_site_laws.specs.LeaveLaws.{LeftSo}
 use Rattle.tree_site_laws.proofs.FateLemmas.{drops_alone}
 use Rattle.tree_site_laws.proofs.LeaveLemmas.{was_there}
@@ -72,7 +72,7 @@ module _ (t : History) (whole : IsLawfulRun t) (b : BranchId) (c : BranchId) (to
     may : MayHappen t.places t.commands f h
     may = may_of t whole hs h rest is
 
-    abbrev k : Kept
+    abbrev k : NodeState
     k = may.0
 
     abbrev p : Place

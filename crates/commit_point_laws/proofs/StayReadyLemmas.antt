@@ -6,7 +6,7 @@ use Rattle.std.proofs.lemmas.List.{append_assoc}
 use Rattle.node_rules.specs.Data.{BranchId, Edge, Kind, Live, Phase, Place}
 use Rattle.node_rules.specs.Data.kinds
 use Rattle.node_rules.specs.Data.phases
-use Rattle.node_rules.specs.Kept.{Kept, Deed, live_id, live_at}
+use Rattle.node_rules.specs.NodeState.{NodeState, Deed, live_id, live_at}
 use Rattle.node_rules.specs.Points.{is_ready}
 use Rattle.node_rules.specs.Prepare.{is_awaited}
 use Rattle.node_rules.specs.Turn.{turn_of, heard, deed_of}
@@ -67,7 +67,7 @@ module _ (t : History) (whole : IsLawfulRun t) (b q : BranchId) (it : SentIn t w
   may : MayHappen t.places t.commands (f_at t hs) h
   may = may_of t whole hs h it.later it.is
 
-  abbrev k : Kept
+  abbrev k : NodeState
   k = may.0
 
   abbrev p : Place
@@ -132,7 +132,7 @@ module _ (t : History) (whole : IsLawfulRun t) (b q : BranchId) (it : SentIn t w
         let up : node_at (f_at t after) b.node ≡ Some d.after = subst (λ n. node_at (f_at t after) n ≡ Some d.after) node left in
         let one : Some d.after ≡ Some j = sym up ∙ there in
         let it_is : d.after ≡ j = cc in
-        let at : live_at d.after b ≡ Some l = subst (λ (i : Kept). live_at i b ≡ Some l) (sym it_is) live in
+        let at : live_at d.after b ≡ Some l = subst (λ (i : NodeState). live_at i b ≡ Some l) (sym it_is) live in
         let two : Some y ≡ Some l = sym is_so.1 ∙ at in
         let same : y ≡ l = cc in
         subst (Served (Some c)) same served_y
@@ -141,7 +141,7 @@ module _ (t : History) (whole : IsLawfulRun t) (b q : BranchId) (it : SentIn t w
     served = served_end t whole b (Some c) after it.later (append_assoc hs (h ∷ []) it.later ∙ it.is) (born, served_then)
 
   -- so it is at the end
-  module _ (n : ℕ) (j : Kept) (up : node_at (facts_at t) n ≡ Some j) (l : Live) (live : live_at j l.me ≡ Some l) (me : l.me ≡ b) where
+  module _ (n : ℕ) (j : NodeState) (up : node_at (facts_at t) n ≡ Some j) (l : Live) (live : live_at j l.me ≡ Some l) (me : l.me ≡ b) where
     own : n ≡ b.node
     own = sym (all_found (λ (x : Live). x.me.node ≡ n) live_id j.lives l.me l (ids_name_their_node t whole n j up).lives live) ∙ ap (λ (i : BranchId). i.node) me
 

@@ -7,7 +7,7 @@ use Rattle.agreement.specs.Events.{Forest, IsForest, Event, Beyond, Exit, Sealed
 use Rattle.agreement.proofs.Invariant.{Inv}
 use Rattle.node_rules.specs.Data.{BranchId, Post}
 use Rattle.node_rules.specs.Words.{same}
-use Rattle.node_rules.specs.Kept.{live_at}
+use Rattle.node_rules.specs.NodeState.{live_at}
 use Rattle.run_rules.specs.Births.{Born, births_of}
 use Rattle.run_rules.specs.Facts.{Facts, node_at}
 use Rattle.run_base_laws.specs.FreezeLaws.{was_asked}

@@ -6,7 +6,7 @@ use Rattle.session_tree.specs.Tree.{place_of_greatest, weight_by, weight, step}
 use Rattle.agreement.specs.Events.{exit}
 use Rattle.node_rules.specs.Data.{BranchId, Edge, Live}
 use Rattle.node_rules.specs.Data.phases
-use Rattle.node_rules.specs.Kept.{Kept, Branch, live_id, live_at, branch_at, work_at, with_work}
+use Rattle.node_rules.specs.NodeState.{NodeState, Branch, live_id, live_at, branch_at, work_at, with_work}
 use Rattle.node_rules.proofs.StandLemmas.{live_so}
 use Rattle.run_rules.specs.Births.{Born, births_of, born_at}
 use Rattle.run_base_laws.specs.BirthLaws.{Began, IsChild}
@@ -58,7 +58,7 @@ same_weight x y changed strong weights =
 module _ (t : History) (whole : IsLawfulRun t) where
   -- A branch that began, and has not left, is live at its node.
   pub record Lives (b : BranchId) : Type 0 where
-    pub kept : Kept
+    pub kept : NodeState
     pub up : node_at (facts_at t) b.node ≡ Some kept
     pub branch : Branch
     pub found : branch_at kept branch.live.me ≡ Some branch
@@ -70,7 +70,7 @@ module _ (t : History) (whole : IsLawfulRun t) where
     | inr among ↦ by (node_at (facts_at t) b.node) refl among
   ]
     where
-      by : (o : Option Kept) → node_at (facts_at t) b.node ≡ o → is_among b (lives_at o) ≡ true → Lives b
+      by : (o : Option NodeState) → node_at (facts_at t) b.node ≡ o → is_among b (lives_at o) ≡ true → Lives b
       by None up is = absurd cc
       by (Some k) up is =
           let l = among_found k.lives b is in
@@ -78,8 +78,8 @@ module _ (t : History) (whole : IsLawfulRun t) where
           record { kept = k; up = up; branch = record { live = l.0; work = work_at k l.0.me }; found = ap (with_work k) (subst (λ i. live_at k i ≡ Some l.0) (sym me) l.1); is_me = me }
 
   -- a branch that was told so weighs what its parent holds of it
-  pub told_weighs : (n : ℕ) (k : Kept) → node_at (facts_at t) n ≡ Some k → (x : Branch) → branch_at k x.live.me ≡ Some x
-      → (m : ℕ) (j : Kept) → node_at (facts_at t) m ≡ Some j → (y : Branch) → branch_at j y.live.me ≡ Some y → was_sent is_below (said_in (facts_at t)) x.live.me y.live.me ≡ true → weight y.live ≢ None
+  pub told_weighs : (n : ℕ) (k : NodeState) → node_at (facts_at t) n ≡ Some k → (x : Branch) → branch_at k x.live.me ≡ Some x
+      → (m : ℕ) (j : NodeState) → node_at (facts_at t) m ≡ Some j → (y : Branch) → branch_at j y.live.me ≡ Some y → was_sent is_below (said_in (facts_at t)) x.live.me y.live.me ≡ true → weight y.live ≢ None
   told_weighs n k up x found m j there y live sent none =
       let said = said_in (facts_at t) in
       let asked : was_asked said x.live.me y.live.me ≡ true = sent_wider is_below is_prepare below_asks said x.live.me y.live.me sent in
@@ -114,7 +114,7 @@ module _ (t : History) (whole : IsLawfulRun t) (q c : BranchId) (it : SentIn t w
   -- it was told so, and has a weight where it is live
   abbrev WeighsAt : List Happening → Type 0
   WeighsAt hs = (was_sent is_below (said_in (f_at t hs)) q c ≡ true)
-      × ((j : Kept) (y : Branch) → node_at (f_at t hs) c.node ≡ Some j → branch_at j y.live.me ≡ Some y → y.live.me ≡ c → weight y.live ≢ None)
+      × ((j : NodeState) (y : Branch) → node_at (f_at t hs) c.node ≡ Some j → branch_at j y.live.me ≡ Some y → y.live.me ≡ c → weight y.live ≢ None)
 
   -- its birth
   born_told : (hs : List Happening) → IsLawfulRun (so_far t hs) → was_sent is_below (said_in (f_at t hs)) q c ≡ true → born_at (births_of (so_far t hs)) c ≢ None
@@ -136,7 +136,7 @@ module _ (t : History) (whole : IsLawfulRun t) (q c : BranchId) (it : SentIn t w
     sent_then : was_sent is_below (said_in (f_at t after)) q c ≡ true
     sent_then = sent_end (so_far t after) lawful_z hs (record { rest = h ∷ []; is = refl }) is_below q c now.0
 
-    module _ (j : Kept) (y : Branch) (up : node_at (f_at t after) c.node ≡ Some j) (found : branch_at j y.live.me ≡ Some y) (me : y.live.me ≡ c) where
+    module _ (j : NodeState) (y : Branch) (up : node_at (f_at t after) c.node ≡ Some j) (found : branch_at j y.live.me ≡ Some y) (me : y.live.me ≡ c) where
       none_after : exit (e_at t after) c ≡ None
       none_after =
           subst (λ b. exit (e_at t after) b ≡ None) me
@@ -178,7 +178,7 @@ module _ (t : History) (whole : IsLawfulRun t) (q c : BranchId) (it : SentIn t w
           let one : Some i ≡ Some j = sym own ∙ up in
           let kept : i ≡ j = cc in
           let mine : w.live.me ≡ y.live.me = me_w ∙ (was.is_me ∙ sym me) in
-          let at : branch_at j y.live.me ≡ Some w = subst₂ (λ (k : Kept) b. branch_at k b ≡ Some w) kept mine found_w in
+          let at : branch_at j y.live.me ≡ Some w = subst₂ (λ (k : NodeState) b. branch_at k b ≡ Some w) kept mine found_w in
           let two : Some w ≡ Some y = sym at ∙ found in
           let it_is : w ≡ y = cc in
           let still : SameTree x y = subst (SameTree x) it_is same in

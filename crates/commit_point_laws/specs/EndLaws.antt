@@ -7,7 +7,7 @@ use Rattle.std.specs.List.{AllByRecursion}
 use Rattle.agreement.specs.Events.{Forest, Event, Sealed, Decided, Quiet, Dropped, exit}
 use Rattle.node_rules.specs.Data.{BranchId, Change, Live}
 use Rattle.node_rules.specs.Data.phases
-use Rattle.node_rules.specs.Kept.{Kept, live_at}
+use Rattle.node_rules.specs.NodeState.{NodeState, live_at}
 use Rattle.run_rules.specs.Book.{At}
 use Rattle.run_rules.specs.Data.{Entry}
 use Rattle.run_rules.specs.Data.entries
@@ -21,7 +21,7 @@ use Rattle.run_claims.specs.Undisturbed.{Commit, Undisturbed}
 -- In every lawful run no branch of an undisturbed COMMIT is Ready, where none below its root was dropped.
 abbrev pub UndisturbedLeaveReady : Type 0
 UndisturbedLeaveReady = (t : History) → IsLawfulRun t → (c : Commit t.places t.commands t.trace) → Undisturbed t.places t.commands t.trace c → DroppedNone t c.root
-    → (n : ℕ) (k : Kept) → node_at (facts_at t) n ≡ Some k → (l : Live) → live_at k l.me ≡ Some l → l.root ≡ c.root → l.phase ≢ phases.Ready
+    → (n : ℕ) (k : NodeState) → node_at (facts_at t) n ≡ Some k → (l : Live) → live_at k l.me ≡ Some l → l.root ≡ c.root → l.phase ≢ phases.Ready
 
 -- So each neighbour on the way to the site of a sealed branch is sealed or has decided.
 abbrev pub UndisturbedTowardsLeave : Type 0

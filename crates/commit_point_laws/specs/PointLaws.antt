@@ -9,7 +9,7 @@ use Rattle.node_rules.specs.Data.{BranchId, Kind, Live}
 use Rattle.node_rules.specs.Data.kinds
 use Rattle.node_rules.specs.Data.phases
 use Rattle.node_rules.specs.Data.votes
-use Rattle.node_rules.specs.Kept.{Kept, live_at}
+use Rattle.node_rules.specs.NodeState.{NodeState, live_at}
 use Rattle.node_rules.specs.Points.{is_ready}
 use Rattle.run_rules.specs.Data.fates
 use Rattle.run_rules.specs.Facts.{Facts, node_at}
@@ -26,17 +26,17 @@ is_point _ = false
 
 -- In every lawful run each child whose answer Ready a live branch holds has said Ready to it.
 abbrev pub ReadyWereSaid : Type 0
-ReadyWereSaid = (t : History) → IsLawfulRun t → (n : ℕ) (k : Kept) → node_at (facts_at t) n ≡ Some k → (l : Live) → live_at k l.me ≡ Some l
+ReadyWereSaid = (t : History) → IsLawfulRun t → (n : ℕ) (k : NodeState) → node_at (facts_at t) n ≡ Some k → (l : Live) → live_at k l.me ≡ Some l
     → AllByRecursion (λ e. e.vote ≡ votes.Ready → was_sent is_ready (said_in (facts_at t)) e.peer l.me ≡ true) l.edges
 
 -- In every lawful run a live branch that said Ready still is.
 abbrev pub ReadyStay : Type 0
-ReadyStay = (t : History) → IsLawfulRun t → (n : ℕ) (k : Kept) → node_at (facts_at t) n ≡ Some k → (l : Live) → live_at k l.me ≡ Some l
+ReadyStay = (t : History) → IsLawfulRun t → (n : ℕ) (k : NodeState) → node_at (facts_at t) n ≡ Some k → (l : Live) → live_at k l.me ≡ Some l
     → (q : BranchId) → was_sent is_ready (said_in (facts_at t)) l.me q ≡ true → l.phase ≡ phases.Ready
 
 -- In every lawful run a live branch that was told that the walk comes there has a weight.
 abbrev pub WalksFindWeights : Type 0
-WalksFindWeights = (t : History) → IsLawfulRun t → (n : ℕ) (k : Kept) → node_at (facts_at t) n ≡ Some k → (l : Live) → live_at k l.me ≡ Some l
+WalksFindWeights = (t : History) → IsLawfulRun t → (n : ℕ) (k : NodeState) → node_at (facts_at t) n ≡ Some k → (l : Live) → live_at k l.me ≡ Some l
     → (q : BranchId) → was_sent is_below (said_in (facts_at t)) q l.me ≡ true → weight l ≢ None
 
 -- In every lawful run a branch to which another sent CommitPoint has said Ready to that one, or it has left.
@@ -46,7 +46,7 @@ PointsFindReady = (t : History) → IsLawfulRun t → (p c : BranchId) → was_s
 
 -- a branch is not live
 abbrev pub IsNotLive : Facts → BranchId → Type 0
-IsNotLive f b = (k : Kept) → node_at f b.node ≡ Some k → live_at k b ≡ None
+IsNotLive f b = (k : NodeState) → node_at f b.node ≡ Some k → live_at k b ≡ None
 
 -- In every lawful run a branch to which CommitPoint was delivered is live no more.
 abbrev pub PointsAreHeard : Type 0

@@ -5,7 +5,7 @@ use Rattle.agreement.specs.Events.{Forest, Event, Sealed, Decided, exit, site_of
 use Rattle.node_rules.specs.Data.{BranchId, Place, Post, Stmt}
 use Rattle.node_rules.specs.Data.stmts
 use Rattle.node_rules.specs.Data.inputs
-use Rattle.node_rules.specs.Kept.{live_at}
+use Rattle.node_rules.specs.NodeState.{live_at}
 use Rattle.node_rules.specs.Points.{is_ready}
 use Rattle.net_bag.specs.Net.{packet_at}
 use Rattle.run_rules.specs.Births.{births_from}

@@ -12,7 +12,7 @@ use Rattle.node_rules.specs.Data.inputs
 use Rattle.node_rules.specs.Data.records
 use Rattle.node_rules.specs.Data.stmts
 use Rattle.node_rules.specs.Inputs.{IsCall}
-use Rattle.node_rules.specs.Kept.{Kept, Deed, live_id}
+use Rattle.node_rules.specs.NodeState.{NodeState, Deed, live_id}
 use Rattle.node_rules.proofs.Steps as steps
 use Rattle.node_rules.proofs.Steps.{Step}
 use Rattle.run_rules.specs.Births.{Born, births_of}
@@ -56,7 +56,7 @@ module _ (t : History) (whole : IsLawfulRun t) (c : Commit t.places t.commands t
   abbrev bs : List Born
   bs = births_of s
 
-  abbrev k : Kept
+  abbrev k : NodeState
   k = c.kept
 
   part : Part t whole hs
@@ -125,7 +125,7 @@ IsUnforced (records.Forced b d given) = ⊥
 IsUnforced _ = Unit {0}
 
 module _ (p : Place) (input : Input) (calm : ForcesNone input) where
-  unforced_on : {k : Kept} {d : Deed} → Step p input k d → IfSome d.wrote IsUnforced
+  unforced_on : {k : NodeState} {d : Deed} → Step p input k d → IfSome d.wrote IsUnforced
   unforced_on (steps.Begins n s call rows range free step) = unforced_on step
   unforced_on (steps.Pends n l given call has live code step) = unforced_on step
   unforced_on (steps.Lets_reads_go l comment below live begins step) = unforced_on step
@@ -162,7 +162,7 @@ wrote_force n e b (Some (records.Forced c d given)) is = absurd is
 wrote_force n e b (Some _) is = refl
 
 -- what is delivered is no call
-delivery_calm : (f : Facts) (k : Kept) (node : ℕ) (input : Input) (took : Option Took) → Comes f k node input took → (i : Took) → took ≡ Some i → ForcesNone input
+delivery_calm : (f : Facts) (k : NodeState) (node : ℕ) (input : Input) (took : Option Took) → Comes f k node input took → (i : Took) → took ≡ Some i → ForcesNone input
 delivery_calm f k node (inputs.Message m) took comes i some n s call forces = absurd (cc (call))
 delivery_calm f k node (inputs.Call session statement) (Some j) comes i some n s call forces = absurd comes
 delivery_calm f k node (inputs.Call session statement) None comes i some n s call forces = absurd (cc (some))

@@ -9,7 +9,7 @@ use Rattle.agreement.specs.Events.{Forest, site_of}
 use Rattle.node_rules.specs.Data.{BranchId, RedoRecord, Place}
 use Rattle.node_rules.specs.Data.records
 use Rattle.node_rules.specs.Words.{numbered, set_numbered}
-use Rattle.node_rules.specs.Kept.{Kept}
+use Rattle.node_rules.specs.NodeState.{NodeState}
 use Rattle.run_rules.specs.Data.{Happening, Command}
 use Rattle.run_rules.specs.Data.happenings
 use Rattle.run_rules.specs.Facts.{Facts, first_facts, node_at, records_at, with_boot, facts_after, facts_of}
@@ -72,7 +72,7 @@ module _ (t : History) (whole : IsLawfulRun t) where
   first_fit n = first_disk (AllByRecursion (FitsForest p)) tt (tt, tt) t.places n
 
   -- the rows of a node that is up, after some part of the run
-  pub rows_fit : (hs : List Happening) → Part t whole hs → (n : ℕ) (k : Kept) → node_at (f_at t hs) n ≡ Some k → AllByRecursion (λ s. RowFits p s.me s.toward) k.stored.durable.kept
+  pub rows_fit : (hs : List Happening) → Part t whole hs → (n : ℕ) (k : NodeState) → node_at (f_at t hs) n ≡ Some k → AllByRecursion (λ s. RowFits p s.me s.toward) k.stored.durable.kept
   rows_fit hs part n k up =
       let node = node_so t.places t.commands t.of_a_script.each (f_at t hs) (e_at t hs) (run_stands (so_far t hs) (part_lawful t whole hs part)) n k up in
       rows_so (λ me parent kids toward. RowFits p me toward) (FitsForest p) (λ r fits. inl (fits.3, fits.0, fits.1)) (λ r fits. inr (refl, fits.0)) k (records_at (f_at t hs) n) node.stored (keep_on t whole Fit fit_on [] hs part first_fit n)

@@ -16,7 +16,7 @@ use Rattle.node_rules.specs.Data.inputs
 use Rattle.node_rules.specs.Data.kinds
 use Rattle.node_rules.specs.Data.states
 use Rattle.node_rules.specs.Inputs.{Came}
-use Rattle.node_rules.specs.Kept.{Kept, Deed, live_id, standing_id, live_at, standing_at}
+use Rattle.node_rules.specs.NodeState.{NodeState, Deed, live_id, standing_id, live_at, standing_at}
 use Rattle.node_rules.specs.Commit.{next_on_decision, decision_at, first_decision, next_turn}
 use Rattle.node_rules.specs.Turn.{Stand, Is_live, Is_kept, Is_gone, turn_of, heard, deed_of, committed_turn, kind_turn, stand_of}
 use Rattle.node_rules.proofs.StandLemmas.{StandsSo, stands_so, live_so}
@@ -59,7 +59,7 @@ abbrev WritesLearn : ℕ → Deed → BranchId → ℕ → Type 0
 WritesLearn node d b n = (mixed : Option Bool) × (wrote_event node d.wrote ≡ Some (Learn b (decisions.Commit n) mixed))
 
 -- a row that knows no decision writes it
-first_writes : (e : List Event) (k : Kept) (s : Standing) (y : BranchId) (n node : ℕ) (state : State) → IsForcedAs e s.me state None → WritesLearn node (next_turn k s y (first_decision state (decisions.Commit n))) s.me n
+first_writes : (e : List Event) (k : NodeState) (s : Standing) (y : BranchId) (n node : ℕ) (state : State) → IsForcedAs e s.me state None → WritesLearn node (next_turn k s y (first_decision state (decisions.Commit n))) s.me n
 first_writes e k s y n node states.Sealed force = (None, refl)
 first_writes e k s y n node states.Committed force = absurd (force refl)
 first_writes e k s y n node (states.ForcedCommit m) force = (Some false, refl)
@@ -116,7 +116,7 @@ module _ (t : History) (whole : IsLawfulRun t) (m : Msg) (came : CameInTurn t.tr
   pub may : MayHappen t.places t.commands f h
   may = may_of t whole hs h came.later came.is
 
-  abbrev k : Kept
+  abbrev k : NodeState
   k = may.0
 
   abbrev place : Place
@@ -125,7 +125,7 @@ module _ (t : History) (whole : IsLawfulRun t) (m : Msg) (came : CameInTurn t.tr
   abbrev input : Input
   input = inputs.Message m
 
-  abbrev k0 : Kept
+  abbrev k0 : NodeState
   k0 = heard k input
 
   abbrev d : Deed
@@ -282,7 +282,7 @@ row_heard t whole from to (kinds.Committed n) heard_so =
     next_of s me toward (inl way) = (let both : Some ((forest_of t).toward s.me) ≡ Some from = sym way.0 ∙ toward in let one : (forest_of t).toward s.me ≡ from = cc in ap (forest_of t).toward (sym me) ∙ one)
     next_of s me toward (inr none) = (let no = none.0 in absurd (cc (no, toward)))
 
-    by : (k : Kept) (s : Standing) → s.me ≡ to → s.toward ≡ Some from → RowFits (forest_of t) s.me s.toward → (o : Option Decision) → s.decision ≡ o → IsKnown (events_of t) s o → (s.decision ≢ None) ⊎ HasStopped (facts_at t) to
+    by : (k : NodeState) (s : Standing) → s.me ≡ to → s.toward ≡ Some from → RowFits (forest_of t) s.me s.toward → (o : Option Decision) → s.decision ≡ o → IsKnown (events_of t) s o → (s.decision ≢ None) ⊎ HasStopped (facts_at t) to
     by k s me toward fits (Some o) some known = inl (λ none. absurd (cc (some, none)))
     by k s me toward fits None none known = elim (heard_so (next_of s me toward fits) s.scn (subst (λ i. exit (events_of t) i ≡ Some (Sealed s.scn)) me known.0)) [
       | inl learnt ↦ (let unlearnt : learned (events_of t) to ≡ None = subst (λ i. learned (events_of t) i ≡ None) me known.1 in absurd (cc (learnt, unlearnt)))

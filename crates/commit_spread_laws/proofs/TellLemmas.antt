@@ -11,7 +11,7 @@ use Rattle.node_rules.specs.Data.{BranchId, Place, RedoRecord, Standing}
 use Rattle.node_rules.specs.Data.decisions
 use Rattle.node_rules.specs.Data.records
 use Rattle.node_rules.specs.Words.{item_at}
-use Rattle.node_rules.specs.Kept.{Kept, Deed, standing_id}
+use Rattle.node_rules.specs.NodeState.{NodeState, Deed, standing_id}
 use Rattle.node_rules.specs.Turn.{turn_of, heard, deed_of}
 use Rattle.run_rules.specs.Data.{Turn, Happening}
 use Rattle.run_rules.specs.Data.happenings
@@ -128,8 +128,8 @@ module _ (t : History) (whole : IsLawfulRun t) (b x : BranchId) (edge : Beyond (
   abbrev Told : ℕ → List Happening → Type 0
   Told n hs = (was_sent (is_commit_at n) (said_in (f_at t hs)) b x ≡ true) ⊎ HasStopped (f_at t hs) b
 
-  abbrev TellsAll : List Happening → Type 0
-  TellsAll hs = (n : ℕ) → Knows (e_at t hs) b n → Told n hs
+  abbrev ReportsAll : List Happening → Type 0
+  ReportsAll hs = (n : ℕ) → Knows (e_at t hs) b n → Told n hs
 
   module _ (hs : List Happening) (h : Happening) (rest : List Happening) (is : hs ++ h ∷ rest ≡ t.trace) where
     abbrev f : Facts
@@ -163,14 +163,14 @@ module _ (t : History) (whole : IsLawfulRun t) (b x : BranchId) (edge : Beyond (
 
     -- ---- a turn in which it learns of it
 
-    module _ (u : Turn) (turn : h ≡ happenings.Turn u) (k : Kept) (may : MayTurn t.places f u k) (n : ℕ) (teaches : Teaches b n u.wrote) where
+    module _ (u : Turn) (turn : h ≡ happenings.Turn u) (k : NodeState) (may : MayTurn t.places f u k) (n : ℕ) (teaches : Teaches b n u.wrote) where
       abbrev place : Place
       place = place_at t.places u.node
 
       abbrev d : Deed
       d = deed_of place k u.input
 
-      abbrev k0 : Kept
+      abbrev k0 : NodeState
       k0 = heard k u.input
 
       node : u.node ≡ b.node
@@ -259,19 +259,19 @@ module _ (t : History) (whole : IsLawfulRun t) (b x : BranchId) (edge : Beyond (
     new_or_old (happenings.Join a c) it may n knows = inl knows
     new_or_old (happenings.Lost m) it may n knows = inl knows
 
-    tells_next : TellsAll hs → TellsAll after
+    tells_next : ReportsAll hs → ReportsAll after
     tells_next now n knows = elim (new_or_old h refl (may_of t whole hs h rest is) n (subst (λ y. Knows y b n) (more_on t hs h) knows)) [
       | inl old ↦ told_stays n old (now n old)
       | inr new ↦ new
     ]
 
-  first_tells : TellsAll []
+  first_tells : ReportsAll []
   unfolding events_from
   first_tells n (inl none) = absurd cc
   first_tells n (inr none) = absurd cc
 
-  pub told_all : TellsAll t.trace
-  told_all = keep_on t whole TellsAll tells_next [] t.trace (record { rest = []; is = append-nil t.trace }) first_tells
+  pub told_all : ReportsAll t.trace
+  told_all = keep_on t whole ReportsAll tells_next [] t.trace (record { rest = []; is = append-nil t.trace }) first_tells
 
 pub commits_are_told : CommitsAreTold
 commits_are_told t whole b x n knows edge loud = told_all t whole b x edge loud n knows

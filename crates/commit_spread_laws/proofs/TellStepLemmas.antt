@@ -22,7 +22,7 @@ use Rattle.node_rules.specs.Data.kinds
 use Rattle.node_rules.specs.Data.records
 use Rattle.node_rules.specs.Words.{same, item_at}
 use Rattle.node_rules.specs.Inputs.{Came, Brings, Commit_came, Rollback_came, Rolled_back_came}
-use Rattle.node_rules.specs.Kept.{Kept, Stored, Deed, standing_id, standing_at, to_each}
+use Rattle.node_rules.specs.NodeState.{NodeState, Stored, Deed, standing_id, standing_at, to_each}
 use Rattle.node_rules.specs.Commit.{beyond, parent_beyond, kid_beyond, is_beyond, passes_commit}
 use Rattle.node_rules.specs.Prepare.{site_neighbors}
 use Rattle.node_rules.proofs.Steps as steps
@@ -142,7 +142,7 @@ brings_no_ack (Commit_came n came) a b ack = (let it : kinds.Committed n ≡ kin
 brings_no_ack (Rollback_came came) a b ack = (let it : kinds.Rollback ≡ kinds.Ack = kinds_apart came ack in absurd cc)
 brings_no_ack (Rolled_back_came came) a b ack = (let it : kinds.RolledBack ≡ kinds.Ack = kinds_apart came ack in absurd cc)
 
-module _ (k0 : Kept) (input : Input) where
+module _ (k0 : NodeState) (input : Input) where
   -- the branch has a row, and each neighbour beyond by it is told
   abbrev pub TellsByRow : List Post → BranchId → ℕ → Type 0
   TellsByRow says b n = (s : Standing) × (standing_at k0 b ≡ Some s) × ((x : BranchId) → is_beyond s x ≡ true → was_sent (is_commit_at n) says b x ≡ true)
@@ -155,14 +155,14 @@ module _ (k0 : Kept) (input : Input) where
   TellsCommit says _ = Unit {0}
 
   -- the rows of the node are as they were, unless an Ack came
-  abbrev Near : Kept → Type 0
+  abbrev Near : NodeState → Type 0
   Near k = NoAck input → k.stored ≡ k0.stored
 
-  row_there : (k : Kept) → Near k → (s : Standing) {from : BranchId} {d : Decision} → Brings input from s.me d → standing_at k s.me ≡ Some s → standing_at k0 s.me ≡ Some s
+  row_there : (k : NodeState) → Near k → (s : Standing) {from : BranchId} {d : Decision} → Brings input from s.me d → standing_at k s.me ≡ Some s → standing_at k0 s.me ≡ Some s
   row_there k near s brings kept = subst (λ (x : Stored). item_at standing_id x.durable.kept s.me ≡ Some s) (near (brings_no_ack brings)) kept
 
   module _ (p : Place) where
-    pub tells_on : {k : Kept} {d : Deed} → Step p input k d → Near k → IfSome d.wrote (TellsCommit d.says)
+    pub tells_on : {k : NodeState} {d : Deed} → Step p input k d → Near k → IfSome d.wrote (TellsCommit d.says)
     tells_on (steps.Begins n s call rows range free step) near = tells_on step near
     tells_on (steps.Pends n l given call has live code step) near = tells_on step near
     tells_on (steps.Lets_reads_go l comment below live begins step) near = tells_on step near

@@ -10,7 +10,7 @@ use Rattle.node_rules.specs.Data.inputs
 use Rattle.node_rules.specs.Data.stmts
 use Rattle.node_rules.specs.Inputs.{Came}
 use Rattle.node_rules.specs.Words.{same, numbered}
-use Rattle.node_rules.specs.Kept.{Kept}
+use Rattle.node_rules.specs.NodeState.{NodeState}
 use Rattle.net_bag.specs.Net.{packet, packet_at}
 use Rattle.run_rules.specs.Data.{Packet, Turn, Happening}
 use Rattle.run_rules.specs.Data.fates
@@ -119,7 +119,7 @@ pub record IsSentSo (f : Facts) (q b : BranchId) : Type 0 where
   pub asks : is_prepare sent.msg.kind ≡ true
 
 module _ (t : History) (whole : IsLawfulRun t) (c : Commit t.places t.commands t.trace) (u : Undisturbed t.places t.commands t.trace c) where
-  module _ (hs : List Happening) (h : Happening) (rest : List Happening) (is : hs ++ h ∷ rest ≡ t.trace) (v : Turn) (turn : h ≡ happenings.Turn v) (k : Kept) (may : MayTurn t.places (f_at t hs) v k)
+  module _ (hs : List Happening) (h : Happening) (rest : List Happening) (is : hs ++ h ∷ rest ≡ t.trace) (v : Turn) (turn : h ≡ happenings.Turn v) (k : NodeState) (may : MayTurn t.places (f_at t hs) v k)
       (q b : BranchId) (kind : Kind) (came : Came v.input q b kind) (prepare : is_prepare kind ≡ true) (tree : InTree t c q) where
     abbrev f : Facts
     f = f_at t hs
@@ -214,7 +214,7 @@ module _ (t : History) (whole : IsLawfulRun t) (c : Commit t.places t.commands t
     )
 
   -- so it does not come a second time
-  pub comes_once : (hs : List Happening) (h : Happening) (rest : List Happening) → hs ++ h ∷ rest ≡ t.trace → (v : Turn) → h ≡ happenings.Turn v → (k : Kept) → MayTurn t.places (f_at t hs) v k
+  pub comes_once : (hs : List Happening) (h : Happening) (rest : List Happening) → hs ++ h ∷ rest ≡ t.trace → (v : Turn) → h ≡ happenings.Turn v → (k : NodeState) → MayTurn t.places (f_at t hs) v k
       → (q b : BranchId) (kind : Kind) → Came v.input q b kind → is_prepare kind ≡ true → InTree t c q → GotPrepare hs q b → ⊥
   comes_once hs h rest is v turn k may q b kind came prepare tree got =
       let part : Part t whole hs = part_of t whole hs h rest is in

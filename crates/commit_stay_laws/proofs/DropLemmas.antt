@@ -7,7 +7,7 @@ use Rattle.agreement.proofs.EventLemmas.{first_is, only_at_is, only_at_same}
 use Rattle.node_rules.specs.Data.{BranchId, Live, Msg, RedoRecord, Sealed as SealedRecord, Decided as DecidedRecord}
 use Rattle.node_rules.specs.Data.records
 use Rattle.node_rules.specs.Words.{same, item_at}
-use Rattle.node_rules.specs.Kept.{live_id}
+use Rattle.node_rules.specs.NodeState.{live_id}
 use Rattle.run_rules.specs.Branches.{is_among}
 use Rattle.run_base_laws.specs.RunEvents.{with_event, wrote_event, leave_event, has_left, with_leaver, with_leavers}
 use Rattle.run_rules.specs.Trail.{is_quiet}

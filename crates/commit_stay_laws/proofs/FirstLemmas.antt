@@ -4,7 +4,7 @@ use Rattle.tran_ids.proofs.ListedLemmas.{item_is}
 use Rattle.node_rules.specs.Data.{BranchId, Post}
 use Rattle.node_rules.specs.Data.phases
 use Rattle.node_rules.specs.Data.stmts
-use Rattle.node_rules.specs.Kept.{Branch, live_id, live_at, branch_at, work_at, with_work}
+use Rattle.node_rules.specs.NodeState.{Branch, live_id, live_at, branch_at, work_at, with_work}
 use Rattle.node_rules.specs.Sessions.{session_at}
 use Rattle.run_rules.specs.Births.{Born, births_of, born_id, born_at}
 use Rattle.run_base_laws.specs.BirthLaws.{Began, StandsBelow}

@@ -10,7 +10,7 @@ use Rattle.node_rules.specs.Data.kinds
 use Rattle.node_rules.specs.Data.phases
 use Rattle.node_rules.specs.Data.records
 use Rattle.node_rules.specs.Words.{same}
-use Rattle.node_rules.specs.Kept.{Kept, Deed, live_at}
+use Rattle.node_rules.specs.NodeState.{NodeState, Deed, live_at}
 use Rattle.node_rules.specs.Prepare.{collecting, with_comment}
 use Rattle.node_rules.specs.Turn.{turn_of, heard, deed_of, stamped}
 use Rattle.node_rules.proofs.Steps as steps
@@ -43,14 +43,14 @@ root_ends (steps.Is_site none is) ends = none
 root_ends (steps.Awaits_point is) ends = elim ends [ ]
 root_ends (steps.Has_no_site none is) ends = elim ends [ ]
 
-module _ (t : History) (before : List Happening) (lawful : IsLawfulRun (so_far t before)) (u : Turn) (k : Kept) (may : MayTurn t.places (f_at t before) u k) where
+module _ (t : History) (before : List Happening) (lawful : IsLawfulRun (so_far t before)) (u : Turn) (k : NodeState) (may : MayTurn t.places (f_at t before) u k) where
   abbrev f : Facts
   f = f_at t before
 
   abbrev g : Facts
   g = facts_after t.places t.commands f (happenings.Turn u)
 
-  abbrev k0 : Kept
+  abbrev k0 : NodeState
   k0 = heard k u.input
 
   abbrev d : Deed
@@ -63,11 +63,11 @@ module _ (t : History) (before : List Happening) (lawful : IsLawfulRun (so_far t
     pub is_me : live.me ≡ b
     pub begins : live.phase ≡ phases.Working → (live.parent ≡ None) ⊎ PrepareCame u.input live.me
 
-  begun : {at : Kept} {comment : List ℕ} {b : Bool} {a : Act} {x : Exit} (l : Live) → Collects at u.input l comment b → Collected (collecting (with_comment l comment) b) b a → Ends a x → (l.parent ≡ None) ⊎ PrepareCame u.input l.me
+  begun : {at : NodeState} {comment : List ℕ} {b : Bool} {a : Act} {x : Exit} (l : Live) → Collects at u.input l comment b → Collected (collecting (with_comment l comment) b) b a → Ends a x → (l.parent ≡ None) ⊎ PrepareCame u.input l.me
   begun l (steps.By_commit n given call has code is) collected ends = inl (none_is l.parent (root_ends collected ends))
   begun {comment = comment} {b = b} l (steps.By_prepare from _ came working) collected ends = inr (from, b, comment, came)
 
-  acting_was : (at : Kept) → Near k0 at → {l : Live} {b : Bool} {a : Act} → Acting at u.input l b a → (x : Exit) → Ends a x → WasThere l.me
+  acting_was : (at : NodeState) → Near k0 at → {l : Live} {b : Bool} {a : Act} → Acting at u.input l b a → (x : Exit) → Ends a x → WasThere l.me
   acting_was at near (steps.Has_no_children l comment b a live begins none collected) x ends =
       record { live = l; found = live_in t before lawful u k may at near l live; is_me = refl; begins = λ working. begun l begins collected ends }
   acting_was at near (steps.Hears_last l from v b a live answers other all collected) x ends =

@@ -11,7 +11,7 @@ use Rattle.node_rules.specs.Data.kinds
 use Rattle.node_rules.specs.Data.phases
 use Rattle.node_rules.specs.Inputs.{Came}
 use Rattle.node_rules.specs.Words.{item_at}
-use Rattle.node_rules.specs.Kept.{Kept, Branch, Deed, live_id, live_at, branch_at, work_at, with_work}
+use Rattle.node_rules.specs.NodeState.{NodeState, Branch, Deed, live_id, live_at, branch_at, work_at, with_work}
 use Rattle.node_rules.specs.Turn.{turn_of, heard, deed_of}
 use Rattle.node_rules.proofs.Steps.{HasRoot}
 use Rattle.run_rules.specs.Births.{Born, births_from, births_of, born_at}
@@ -41,7 +41,7 @@ use Rattle.commit_stay_laws.proofs.GotLeaveLemmas.{WasThere, left_was}
 use Rattle.commit_stay_laws.proofs.GotStepLemmas.{PrepareCame, Got, AllGot, OfRoots, first_got, got_on}
 
 -- a message that comes to a branch comes to its node
-pub came_here : (f : Facts) (k : Kept) (node : ℕ) (input : Input) (took : Option Took) → Comes f k node input took → (from to : BranchId) (kind : Kind) → Came input from to kind → node ≡ to.node
+pub came_here : (f : Facts) (k : NodeState) (node : ℕ) (input : Input) (took : Option Took) → Comes f k node input took → (from to : BranchId) (kind : Kind) → Came input from to kind → node ≡ to.node
 came_here f k node input took comes from to kind came = by took (subst (λ i. Comes f k node i took) came.is comes)
   where
     by : (o : Option Took) → Comes f k node (inputs.Message (record { from = from; to = to; scn = came.scn; kind = kind })) o → node ≡ to.node
@@ -71,7 +71,7 @@ module _ (t : History) (whole : IsLawfulRun t) where
 
   -- live branches that are not working
   abbrev GotAt : List Happening → Type 0
-  GotAt hs = (n : ℕ) (k : Kept) → node_at (f_at t hs) n ≡ Some k → (l : Live) → live_at k l.me ≡ Some l → l.phase ≢ phases.Working → (q : BranchId) → l.parent ≡ Some q → GotPrepare hs q l.me
+  GotAt hs = (n : ℕ) (k : NodeState) → node_at (f_at t hs) n ≡ Some k → (l : Live) → live_at k l.me ≡ Some l → l.phase ≢ phases.Working → (q : BranchId) → l.parent ≡ Some q → GotPrepare hs q l.me
 
   -- branches that have left
   abbrev LeftGot : List Happening → Type 0
@@ -110,18 +110,18 @@ module _ (t : History) (whole : IsLawfulRun t) where
     even = (run_stands s lawful).0.even
 
     -- a live branch as it began
-    born_live : (xs : List Happening) (there : Part t whole xs) (n : ℕ) (k : Kept) → node_at (f_at t xs) n ≡ Some k → (l : Live) → live_at k l.me ≡ Some l → (x : Born) × Began bs x × (x.me ≡ l.me) × (x.parent ≡ l.parent)
+    born_live : (xs : List Happening) (there : Part t whole xs) (n : ℕ) (k : NodeState) → node_at (f_at t xs) n ≡ Some k → (l : Live) → live_at k l.me ≡ Some l → (x : Born) × Began bs x × (x.me ≡ l.me) × (x.parent ≡ l.parent)
     born_live xs there n k up l live =
         let placed : LiveIs (Began (births_of (so_far t xs))) l = all_found (LiveIs (Began (births_of (so_far t xs)))) live_id k.lives l.me l (nodes_name_the_born (so_far t xs) (part_lawful t whole xs there) n k up).0 live in
         (placed.born, born_end t whole xs there placed.born placed.began, placed.is_me, placed.is_parent)
 
     -- ---- a turn
 
-    module _ (u : Turn) (turn : h ≡ happenings.Turn u) (k : Kept) (may : MayTurn t.places f u k) where
+    module _ (u : Turn) (turn : h ≡ happenings.Turn u) (k : NodeState) (may : MayTurn t.places f u k) where
       abbrev p : Place
       p = place_at t.places u.node
 
-      abbrev k0 : Kept
+      abbrev k0 : NodeState
       k0 = heard k u.input
 
       abbrev d : Deed
@@ -156,8 +156,8 @@ module _ (t : History) (whole : IsLawfulRun t) where
       roots : OfRoots k0 p u.input k0
       roots n given l call has live =
           let same : k0 ≡ k = ap (heard k) call in
-          let root : HasRoot k n l.me = subst (λ (j : Kept). HasRoot j n l.me) same has in
-          let there : live_at k l.me ≡ Some l = subst (λ (j : Kept). live_at j l.me ≡ Some l) same live in
+          let root : HasRoot k n l.me = subst (λ (j : NodeState). HasRoot j n l.me) same has in
+          let there : live_at k l.me ≡ Some l = subst (λ (j : NodeState). live_at j l.me ≡ Some l) same live in
           (roots_are_of_sessions s lawful u.node k may.up n l.me root).1 l there
 
       got_after : AllGot k0 p u.input d.after
@@ -195,10 +195,10 @@ module _ (t : History) (whole : IsLawfulRun t) where
           ]
 
       -- its node after it
-      by_cut : (cut : Bool) (j : Kept) (l : Live) → kept_after cut (Some (turn_of p k u.input)) ≡ Some j → live_at j l.me ≡ Some l → live_at d.after l.me ≡ Some l
+      by_cut : (cut : Bool) (j : NodeState) (l : Live) → kept_after cut (Some (turn_of p k u.input)) ≡ Some j → live_at j l.me ≡ Some l → live_at d.after l.me ≡ Some l
       unfolding turn_of
       by_cut true j l is live = absurd cc
-      by_cut false j l is live = (let it : d.after ≡ j = cc in subst (λ (i : Kept). live_at i l.me ≡ Some l) (sym it) live)
+      by_cut false j l is live = (let it : d.after ≡ j = cc in subst (λ (i : NodeState). live_at i l.me ≡ Some l) (sym it) live)
 
       turn_at : GotAt after
       turn_at n j up l live busy q above =
@@ -226,7 +226,7 @@ module _ (t : History) (whole : IsLawfulRun t) where
     apart_left : ((u : Turn) → h ≢ happenings.Turn u) → NewGot
     apart_left not x began q above z other none left = absurd (other (drops_alone t hs h not x.me z none left))
 
-    turn_left : (u : Turn) → h ≡ happenings.Turn u → (k : Kept) → MayTurn t.places f u k → NewGot
+    turn_left : (u : Turn) → h ≡ happenings.Turn u → (k : NodeState) → MayTurn t.places f u k → NewGot
     turn_left u turn k may x began q above z other none left = got_left u turn k may x began q above z other none (subst (λ (y : Happening). exit (events_after t.places t.commands f y (e_at t hs)) x.me ≡ Some z) turn left)
 
     next : (y : Happening) → h ≡ y → GotAt after × NewGot
@@ -255,7 +255,7 @@ module _ (t : History) (whole : IsLawfulRun t) where
     got_next = (let it = next h refl in (it.0, left_next it.1))
 
   -- nobody is live at first
-  no_live : (n : ℕ) (k : Kept) → node_at (f_at t []) n ≡ Some k → (l : Live) → live_at k l.me ≡ Some l → ⊥
+  no_live : (n : ℕ) (k : NodeState) → node_at (f_at t []) n ≡ Some k → (l : Live) → live_at k l.me ≡ Some l → ⊥
   unfolding births_from
   no_live n k up l live =
       let part : Part t whole [] = record { rest = t.trace; is = refl } in

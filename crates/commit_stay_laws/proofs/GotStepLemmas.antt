@@ -10,7 +10,7 @@ use Rattle.node_rules.specs.Data.kinds
 use Rattle.node_rules.specs.Data.phases
 use Rattle.node_rules.specs.Inputs.{Came}
 use Rattle.node_rules.specs.Words.{item_at}
-use Rattle.node_rules.specs.Kept.{Kept, Branch, Deed, live_id, live_at, branch_at}
+use Rattle.node_rules.specs.NodeState.{NodeState, Branch, Deed, live_id, live_at, branch_at}
 use Rattle.node_rules.specs.Statement.{ran, after_run}
 use Rattle.node_rules.specs.Calls.{with_edge, hears_reply}
 use Rattle.node_rules.specs.Prepare.{ready, act_turn}
@@ -26,7 +26,7 @@ use Rattle.commit_laws.proofs.CommitCallLemmas.{OfCommit, begun_commit, pends_co
 abbrev pub PrepareCame : Input → BranchId → Type 0
 PrepareCame input b = (from : BranchId) × (site_below : Bool) × (comment : List ℕ) × Came input from b (kinds.Prepare site_below comment)
 
-module _ (k0 : Kept) (p : Place) (input : Input) where
+module _ (k0 : NodeState) (p : Place) (input : Input) where
   -- a branch was live as the turn began, and not working
   abbrev pub WasBusy : BranchId → Type 0
   WasBusy b = (z : Live) × (item_at live_id k0.lives b ≡ Some z) × (z.phase ≢ phases.Working)
@@ -35,21 +35,21 @@ module _ (k0 : Kept) (p : Place) (input : Input) where
   abbrev pub Got : Live → Type 0
   Got l = l.phase ≢ phases.Working → (l.parent ≡ None) ⊎ (WasBusy l.me ⊎ PrepareCame input l.me)
 
-  abbrev pub AllGot : Kept → Type 0
+  abbrev pub AllGot : NodeState → Type 0
   AllGot k = AllByRecursion Got k.lives
 
   -- COMMIT comes to a root
-  abbrev pub OfRoots : Kept → Type 0
+  abbrev pub OfRoots : NodeState → Type 0
   OfRoots k = OfCommit (λ (l : Live). l.parent ≡ None) p input k
 
   pub first_got : AllByRecursion (λ l. item_at live_id k0.lives l.me ≡ Some l) k0.lives → AllGot k0
   first_got found = all_weaker (λ l. item_at live_id k0.lives l.me ≡ Some l) Got (λ l here busy. inr (inl (l, here, busy))) k0.lives found
 
-  begins_got : {k : Kept} {comment : List ℕ} {below : Bool} (l : Live) → OfRoots k → live_at k l.me ≡ Some l → Collects k input l comment below → (l.parent ≡ None) ⊎ (WasBusy l.me ⊎ PrepareCame input l.me)
+  begins_got : {k : NodeState} {comment : List ℕ} {below : Bool} (l : Live) → OfRoots k → live_at k l.me ≡ Some l → Collects k input l comment below → (l.parent ≡ None) ⊎ (WasBusy l.me ⊎ PrepareCame input l.me)
   begins_got l roots live (steps.By_commit n given call has code is) = inl (roots n given l call has live)
   begins_got {comment = comment} {below = below} l roots live (steps.By_prepare from _ came working) = inr (inr (from, below, comment, came))
 
-  module _ (k : Kept) (roots : OfRoots k) (now : AllGot k) where
+  module _ (k : NodeState) (roots : OfRoots k) (now : AllGot k) where
     found_got : (x : Branch) → branch_at k x.live.me ≡ Some x → Got x.live
     found_got x found = all_found Got live_id k.lives x.live.me x.live now (live_so k x.live.me x found)
 
@@ -79,7 +79,7 @@ module _ (k0 : Kept) (p : Place) (input : Input) where
     begun_got : (l : Live) → l.phase ≡ phases.Working → AllByRecursion Got (k.lives ++ l ∷ [])
     begun_got l fresh = all_last Got live_id k.lives l now (λ busy. absurd (busy fresh))
 
-  pub got_on : {k : Kept} {d : Deed} → Step p input k d → OfRoots k → AllGot k → AllGot d.after
+  pub got_on : {k : NodeState} {d : Deed} → Step p input k d → OfRoots k → AllGot k → AllGot d.after
   got_on (steps.Begins {k = k} n s call rows range free step) roots now = got_on step (begun_commit (λ (l : Live). l.parent ≡ None) p input k n s call rows) (begun_got k roots now _ refl)
   got_on (steps.Pends {k = k} n l given call has live code step) roots now = got_on step (pends_commit (λ (l : Live). l.parent ≡ None) p input k n l given call has roots) now
   got_on (steps.Lets_reads_go l comment b live begins step) roots now = got_on step roots now

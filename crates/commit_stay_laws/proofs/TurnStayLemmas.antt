@@ -7,7 +7,7 @@ use Rattle.agreement.specs.Events.{Event, Exit, Sealed, Decided, Dropped, exit}
 use Rattle.node_rules.specs.Data.{BranchId, Kind, Live, Msg, Place, Post}
 use Rattle.node_rules.specs.Data.kinds
 use Rattle.node_rules.specs.Inputs.{Came}
-use Rattle.node_rules.specs.Kept.{Kept, Deed, Outcome, live_id, live_at, branch_at, standing_at, with_work, work_at}
+use Rattle.node_rules.specs.NodeState.{NodeState, Deed, Outcome, live_id, live_at, branch_at, standing_at, with_work, work_at}
 use Rattle.node_rules.specs.Turn.{Is_gone, Is_live, live_or, stand_of, turn_of, heard, deed_of, stamped}
 use Rattle.run_rules.specs.Births.{Born, births_of, born_at}
 use Rattle.run_base_laws.specs.BirthLaws.{Began, IsChild, GoesSo, LiveIs}
@@ -47,7 +47,7 @@ use Rattle.commit_stay_laws.proofs.GotLemmas.{came_here, same_born, leavers_got_
 use Rattle.commit_stay_laws.proofs.TreeLemmas.{NoneAborts, Stays, parent_in, child_in}
 
 -- a live branch is not gone
-gone_not_live : (k : Kept) (b : BranchId) (l : Live) → live_at k b ≡ Some l → stand_of k b ≡ Is_gone → ⊥
+gone_not_live : (k : NodeState) (b : BranchId) (l : Live) → live_at k b ≡ Some l → stand_of k b ≡ Is_gone → ⊥
 unfolding stand_of
 gone_not_live k b l live gone =
     let is : live_or (branch_at k b) (standing_at k b) ≡ Is_live (record { live = l; work = work_at k l.me }) = ap (λ o. live_or (with_work k o) (standing_at k b)) live in
@@ -81,22 +81,22 @@ module _ (t : History) (whole : IsLawfulRun t) (c : Commit t.places t.commands t
     even = (run_stands s lawful).0.even
 
     -- a live branch is of its node
-    live_node : (n : ℕ) (k : Kept) → node_at f n ≡ Some k → (b : BranchId) (l : Live) → live_at k b ≡ Some l → b.node ≡ n
+    live_node : (n : ℕ) (k : NodeState) → node_at f n ≡ Some k → (b : BranchId) (l : Live) → live_at k b ≡ Some l → b.node ≡ n
     live_node n k up b l live =
         let me : l.me ≡ b = item_is live_id k.lives b l live in
         ap (λ (i : BranchId). i.node) (sym me) ∙ all_found (λ (y : Live). y.me.node ≡ n) live_id k.lives b l (ids_name_their_node s lawful n k up).lives live
 
-    pub among_node : (n : ℕ) (b : BranchId) (o : Option Kept) → node_at f n ≡ o → is_among b (lives_at o) ≡ true → b.node ≡ n
+    pub among_node : (n : ℕ) (b : BranchId) (o : Option NodeState) → node_at f n ≡ o → is_among b (lives_at o) ≡ true → b.node ≡ n
     among_node n b None up found = absurd cc
     among_node n b (Some k) up found = (let l = among_found k.lives b found in live_node n k up b l.0 l.1)
 
     -- ---- a turn
 
-    module _ (v : Turn) (turn : h ≡ happenings.Turn v) (k : Kept) (may : MayTurn t.places f v k) where
+    module _ (v : Turn) (turn : h ≡ happenings.Turn v) (k : NodeState) (may : MayTurn t.places f v k) where
       abbrev p : Place
       p = place_at t.places v.node
 
-      abbrev k0 : Kept
+      abbrev k0 : NodeState
       k0 = heard k v.input
 
       abbrev d : Deed

@@ -5,7 +5,7 @@ use Rattle.std.specs.Prelude.{◌≡◌, ◌≢◌, ℕ, true, false, List, Some
 use Rattle.agreement.specs.Events.{Exit, Dropped, exit}
 use Rattle.node_rules.specs.Data.{BranchId, Live, Msg}
 use Rattle.node_rules.specs.Data.phases
-use Rattle.node_rules.specs.Kept.{Kept, live_at}
+use Rattle.node_rules.specs.NodeState.{NodeState, live_at}
 use Rattle.run_rules.specs.Births.{Born, births_of}
 use Rattle.run_base_laws.specs.BirthLaws.{Began}
 use Rattle.run_rules.specs.Data.{Happening}
@@ -28,7 +28,7 @@ pub record GotPrepare (trace : List Happening) (from to : BranchId) : Type 0 whe
 
 -- In every lawful run a live branch below a root that is not working got Prepare of its parent.
 abbrev pub CollectorsGotPrepare : Type 0
-CollectorsGotPrepare = (t : History) → IsLawfulRun t → (n : ℕ) (k : Kept) → node_at (facts_at t) n ≡ Some k → (l : Live) → live_at k l.me ≡ Some l → l.phase ≢ phases.Working
+CollectorsGotPrepare = (t : History) → IsLawfulRun t → (n : ℕ) (k : NodeState) → node_at (facts_at t) n ≡ Some k → (l : Live) → live_at k l.me ≡ Some l → l.phase ≢ phases.Working
     → (q : BranchId) → l.parent ≡ Some q → GotPrepare t.trace q l.me
 
 -- And so did a branch below a root that has left, and was not dropped.

@@ -4,7 +4,7 @@
 use Rattle.std.specs.Prelude.{◌≡◌, ◌≢◌, ℕ, Bool, Some, None}
 use Rattle.node_rules.specs.Data.{Live}
 use Rattle.node_rules.specs.Data.phases
-use Rattle.node_rules.specs.Kept.{Kept, live_at}
+use Rattle.node_rules.specs.NodeState.{NodeState, live_at}
 use Rattle.run_rules.specs.Facts.{node_at}
 use Rattle.run_rules.specs.Lawful.{History, IsLawfulRun, facts_at}
 use Rattle.commit_laws.specs.StillLaws.{DroppedNone, AbortsNone}
@@ -21,9 +21,9 @@ UndisturbedAbortsNone = (t : History) → IsLawfulRun t → (c : Commit t.places
 -- So none of its branches collects any more.
 abbrev pub UndisturbedCollectsAreOver : Type 0
 UndisturbedCollectsAreOver = (t : History) → IsLawfulRun t → (c : Commit t.places t.commands t.trace) → Undisturbed t.places t.commands t.trace c
-    → (n : ℕ) (k : Kept) → node_at (facts_at t) n ≡ Some k → (l : Live) → live_at k l.me ≡ Some l → l.root ≡ c.root → (below : Bool) → l.phase ≢ phases.Collecting below
+    → (n : ℕ) (k : NodeState) → node_at (facts_at t) n ≡ Some k → (l : Live) → live_at k l.me ≡ Some l → l.root ≡ c.root → (below : Bool) → l.phase ≢ phases.Collecting below
 
 -- And its root is live no more.
 abbrev pub UndisturbedRootsAreGone : Type 0
 UndisturbedRootsAreGone = (t : History) → IsLawfulRun t → (c : Commit t.places t.commands t.trace) → Undisturbed t.places t.commands t.trace c
-    → (k : Kept) → node_at (facts_at t) c.root.node ≡ Some k → live_at k c.root ≡ None
+    → (k : NodeState) → node_at (facts_at t) c.root.node ≡ Some k → live_at k c.root ≡ None

@@ -7,7 +7,7 @@ use Rattle.node_disk.specs.Starts.{CanBeStarted}
 use Rattle.node_disk.specs.declared.node.Node.{Node}
 use Rattle.lone_node.specs.Played.{bytes_of, images_of, IsKeptWithin, IsAlone, IsInPlay}
 use Rattle.node_rules.specs.Data.{Place}
-use Rattle.node_rules.specs.Kept.{Kept}
+use Rattle.node_rules.specs.NodeState.{NodeState}
 
 pub up_at : (up : Bool) (bound : ℕ) (node : Node DiskState) → IsAlone bound node → IsInPlay up bound node
 up_at up bound node alone = record { alone = λ is. alone; starts = alone.starts }
@@ -23,7 +23,7 @@ alone_armed : (bound : ℕ) (before after : Node DiskState) → IsAlone bound be
     → (CanBeStarted bytes_of images_of (disk_of before) → CanBeStarted bytes_of images_of (disk_of after)) → IsAlone bound after
 alone_armed bound before after alone kept place running starts = record {
   running = running alone.running;
-  kept = subst (λ (p : Place). IsKeptWithin bound p (kept_of after)) (sym place) (subst (λ (k : Kept). IsKeptWithin bound (place_of before) k) (sym kept) alone.kept);
+  kept = subst (λ (p : Place). IsKeptWithin bound p (kept_of after)) (sym place) (subst (λ (k : NodeState). IsKeptWithin bound (place_of before) k) (sym kept) alone.kept);
   starts = starts alone.starts;
 }
 

@@ -14,7 +14,7 @@ use Rattle.node_rules.specs.Data.{RedoRecord, Place}
 use Rattle.node_rules.specs.Data.decisions
 use Rattle.node_rules.specs.Data.params
 use Rattle.node_rules.specs.Data.records
-use Rattle.node_rules.specs.Kept.{Kept, Stored}
+use Rattle.node_rules.specs.NodeState.{NodeState, Stored}
 use Rattle.node_rules.specs.declared.session.Session.{Session}
 use Rattle.node_rules.specs.Records.{nothing_stored, applied, stored_by}
 use Rattle.node_rules.specs.Sessions.{fresh_session}
@@ -107,11 +107,11 @@ start_kept law p rs names scns small ready = record {
   links = small.links;
 }
 
-kept_at : (p : Place) (k : Kept) (node : Node DiskState) → kept_of node ≡ k → place_of node ≡ p → IsKeptWithin low_limit p k → IsKeptWithin low_limit (place_of node) (kept_of node)
-kept_at p k node is there kept = subst (λ (q : Place). IsKeptWithin low_limit q (kept_of node)) (sym there) (subst (λ (x : Kept). IsKeptWithin low_limit p x) (sym is) kept)
+kept_at : (p : Place) (k : NodeState) (node : Node DiskState) → kept_of node ≡ k → place_of node ≡ p → IsKeptWithin low_limit p k → IsKeptWithin low_limit (place_of node) (kept_of node)
+kept_at p k node is there kept = subst (λ (q : Place). IsKeptWithin low_limit q (kept_of node)) (sym there) (subst (λ (x : NodeState). IsKeptWithin low_limit p x) (sym is) kept)
 
-ready_at : (p : Place) (k : Kept) (node : Node DiskState) → kept_of node ≡ k → place_of node ≡ p → IsReady (place_of node) (kept_of node) → IsReady p k
-ready_at p k node is there ready = subst (λ (q : Place). IsReady q k) there (subst (λ (x : Kept). IsReady (place_of node) x) is ready)
+ready_at : (p : Place) (k : NodeState) (node : Node DiskState) → kept_of node ≡ k → place_of node ≡ p → IsReady (place_of node) (kept_of node) → IsReady p k
+ready_at p k node is there ready = subst (λ (q : Place). IsReady q k) there (subst (λ (x : NodeState). IsReady (place_of node) x) is ready)
 
 alone_by : StartsKeepBytes → (p : Place) (rs : List RedoRecord) (node : Node DiskState) → AllByRecursion NamesTable rs → AllByRecursion IsScnLow rs → IsSmallPlace p → kept_of node ≡ start_of rs → place_of node ≡ p
     → IsRunning bytes_of images_of node → IsReady (place_of node) (kept_of node) → CanBeStarted bytes_of images_of (disk_of node) → IsAlone low_limit node

@@ -26,7 +26,7 @@ use Rattle.node_rules.specs.declared.session.Session.{Session}
 use Rattle.node_rules.specs.declared.work.Work.{Work}
 use Rattle.node_rules.specs.Client.{root_by}
 use Rattle.node_rules.specs.Inputs.{IsSession}
-use Rattle.node_rules.specs.Kept.{Kept, Outcome, live_id, live_at, with_work}
+use Rattle.node_rules.specs.NodeState.{NodeState, Outcome, live_id, live_at, with_work}
 use Rattle.node_rules.specs.Sessions.{session_at}
 use Rattle.node_rules.specs.Turn.{kind_scn, turn_of}
 use Rattle.node_ready_laws.specs.Names.{MakesNamed}
@@ -100,19 +100,19 @@ reads asks comings.Reco coming = (inputs.Reco, refl)
 
 -- ---- what it meets
 
-live_works : (k : Kept) (o : Option Live) → ((l : Live) → o ≡ Some l → IsWorking l) → IfSome (with_work k o) (λ x. IsWorking x.live)
+live_works : (k : NodeState) (o : Option Live) → ((l : Live) → o ≡ Some l → IsWorking l) → IfSome (with_work k o) (λ x. IsWorking x.live)
 live_works k None each = tt
 live_works k (Some l) each = each l refl
 
-root_works : (k : Kept) (o : Option BranchId) → AllByRecursion IsWorking k.lives → IfSome (root_by k o) (λ x. IsWorking x.live)
+root_works : (k : NodeState) (o : Option BranchId) → AllByRecursion IsWorking k.lives → IfSome (root_by k o) (λ x. IsWorking x.live)
 root_works k None all = tt
 root_works k (Some b) all = live_works k (live_at k b) (λ l found. all_found IsWorking (is_item_of live_id b) k.lives l all found)
 
-ends_work : (k : Kept) (n : ℕ) (s : Stmt) → (is_commit s ≡ true → AllByRecursion IsWorking k.lives) → EndsWork k n s
+ends_work : (k : NodeState) (n : ℕ) (s : Stmt) → (is_commit s ≡ true → AllByRecursion IsWorking k.lives) → EndsWork k n s
 ends_work k n (stmts.Commit comment) all = root_works k (session_at k.sessions n).root (all refl)
 ends_work k n _ all = tt
 
-brings_commit : (k : Kept) (incoming : Incoming) (input : Input) → (commits incoming ≡ true → AllByRecursion IsWorking k.lives) → IsReadAs incoming input → BringsCommit k input
+brings_commit : (k : NodeState) (incoming : Incoming) (input : Input) → (commits incoming ≡ true → AllByRecursion IsWorking k.lives) → IsReadAs incoming input → BringsCommit k input
 brings_commit k (comings.Call n None) input all read = subst (λ (i : Input). BringsCommit k i) (same_input _ input read) tt
 brings_commit k (comings.Call n (Some s)) input all read = subst (λ (i : Input). BringsCommit k i) (same_input _ input read) (ends_work k n s all)
 brings_commit k (comings.GiveUp n) input all read = subst (λ (i : Input). BringsCommit k i) (same_input _ input read) tt
@@ -123,7 +123,7 @@ brings_commit k (comings.Message bytes) input all read = by (message_of bytes) r
     by (Some m) is = subst (λ (i : Input). BringsCommit k i) (same_input _ input is) tt
 brings_commit k comings.Reco input all read = subst (λ (i : Input). BringsCommit k i) (same_input _ input read) tt
 
-asks_child : (k : Kept) (asks : Bool) (input : Input) → (asks ≡ true → AllByRecursion HasParent k.lives) → IsAskedBy asks input → AsksChild k input
+asks_child : (k : NodeState) (asks : Bool) (input : Input) → (asks ≡ true → AllByRecursion HasParent k.lives) → IsAskedBy asks input → AsksChild k input
 asks_child k asks input all asked from to site_below comment l came found =
     all_found HasParent (is_item_of live_id to) k.lives l (all (subst (λ (i : Input). IsAskedBy asks i) came.is asked)) found
 
@@ -146,7 +146,7 @@ within_given n bound few within = omega (arith, few, within)
 
 -- ---- turns
 
-module _ (bound : ℕ) (p : Place) (k : Kept) (asks : Bool) (incoming : Incoming) (input : Input) (kept : IsKeptWithin bound p k) (few : bound < 1000000) (coming : IsComing asks incoming)
+module _ (bound : ℕ) (p : Place) (k : NodeState) (asks : Bool) (incoming : Incoming) (input : Input) (kept : IsKeptWithin bound p k) (few : bound < 1000000) (coming : IsComing asks incoming)
     (meets : Meets asks incoming k.lives) (read : IsReadAs incoming input) where
   is : IsPlayedInput asks input
   is = input_of asks incoming input coming read
@@ -220,10 +220,10 @@ still_alone bytes_law numbers_law bound asks before after incoming e alone few c
     let p : Place = place_of before in
     let o : Outcome = turn_of p (kept_of before) e.input in
     let here : IsReady p (kept_of after) = subst (λ (q : Place). IsReady q (kept_of after)) place ready in
-    let kept : IsKeptWithin (bound + 1) p o.after = kept_after bound p (kept_of before) asks incoming e.input alone.kept few coming meets read bytes_law numbers_law (subst (λ (k : Kept). IsReady p k) tells.after here) in
+    let kept : IsKeptWithin (bound + 1) p o.after = kept_after bound p (kept_of before) asks incoming e.input alone.kept few coming meets read bytes_law numbers_law (subst (λ (k : NodeState). IsReady p k) tells.after here) in
     record {
       running = running;
-      kept = subst (λ (q : Place). IsKeptWithin (bound + 1) q (kept_of after)) (sym place) (subst (λ (k : Kept). IsKeptWithin (bound + 1) p k) (sym tells.after) kept);
+      kept = subst (λ (q : Place). IsKeptWithin (bound + 1) q (kept_of after)) (sym place) (subst (λ (k : NodeState). IsKeptWithin (bound + 1) p k) (sym tells.after) kept);
       starts = starts;
     }
 

@@ -14,7 +14,7 @@ use Rattle.node_rules.specs.Data.phases
 use Rattle.node_rules.specs.Data.records
 use Rattle.node_rules.specs.Data.stmts
 use Rattle.node_rules.specs.Inputs.{IsSession}
-use Rattle.node_rules.specs.Kept.{Kept}
+use Rattle.node_rules.specs.NodeState.{NodeState}
 use Rattle.node_rules.specs.Turn.{kind_scn}
 use Rattle.node_disk.specs.Starts.{CanBeStarted}
 use Rattle.node_disk.specs.OnDisk.{disk_of, kept_of, place_of, IsRunning}
@@ -114,7 +114,7 @@ abbrev pub images_of : DiskState → List ℕ → Type 0
 images_of disk = IsImage disk.happenings
 
 -- What a node keeps in a test, whose numbers are within this bound.
-pub record IsKeptWithin (bound : ℕ) (p : Place) (k : Kept) : Type 0 where
+pub record IsKeptWithin (bound : ℕ) (p : Place) (k : NodeState) : Type 0 where
   pub ready : IsReady p k
   pub bytes : KeepsBytes k
   pub within : IsWithin bound k

@@ -8,7 +8,7 @@ use Rattle.tran_ids.proofs.ListedLemmas.{item_is, put_found}
 use Rattle.session_tree.specs.Tree.{count}
 use Rattle.node_rules.specs.Data.{Live}
 use Rattle.node_rules.specs.declared.work.Work.{Work}
-use Rattle.node_rules.specs.Kept.{Kept, Branch, Deed as DeedByRules, live_id, work_id, work_or, with_work, branch_at, with_branch, nothing}
+use Rattle.node_rules.specs.NodeState.{NodeState, Branch, Deed as DeedByRules, live_id, work_id, work_or, with_work, branch_at, with_branch, nothing}
 use Rattle.node_state.specs.Changed.{change_item, with_item}
 use Rattle.node_state.specs.Works.{work_of, change_work}
 use Rattle.node_deeds.specs.declared.deed.Deed.{Deed}
@@ -46,18 +46,18 @@ module _ {A : Type 0} (id : A → BranchId) where
   put_twice (z ∷ zs) x y is = twice_step x y z zs is (same (id z) (id x)) refl (put_twice zs x y is)
 
 -- what a branch does that is not live
-nobody : (k : Kept) (b : BranchId) (f : Branch → DeedByRules) → item_at live_id k.lives b ≡ None → at_live k f (branch_at k b) ≡ nothing k
+nobody : (k : NodeState) (b : BranchId) (f : Branch → DeedByRules) → item_at live_id k.lives b ≡ None → at_live k f (branch_at k b) ≡ nothing k
 nobody k b f none = ap (λ o. at_live k f (with_work k o)) none
 
-pub nothing_so : (k : Kept) (b : BranchId) (f : Branch → DeedByRules) (deed : Deed) → item_at live_id k.lives b ≡ None → Gives (nothing k) k deed → Gives (at_live k f (branch_at k b)) k deed
+pub nothing_so : (k : NodeState) (b : BranchId) (f : Branch → DeedByRules) (deed : Deed) → item_at live_id k.lives b ≡ None → Gives (nothing k) k deed → Gives (at_live k f (branch_at k b)) k deed
 nothing_so k b f deed none does = subst (λ d. Gives d k deed) (sym (nobody k b f none)) does
 
 -- the live branch of an id, with its calls
-abbrev pub branch_here : Kept → BranchId → Live → Branch
+abbrev pub branch_here : NodeState → BranchId → Live → Branch
 branch_here k b l = record { live = l; work = work_of k.works b }
 
 -- what it does
-pub somebody : (k : Kept) (b : BranchId) (l : Live) (f : Branch → DeedByRules) → item_at live_id k.lives b ≡ Some l → at_live k f (branch_at k b) ≡ f (branch_here k b l)
+pub somebody : (k : NodeState) (b : BranchId) (l : Live) (f : Branch → DeedByRules) → item_at live_id k.lives b ≡ Some l → at_live k f (branch_at k b) ≡ f (branch_here k b l)
 somebody k b l f is = ap (λ o. at_live k f (with_work k o)) is ∙ ap (λ c. f (record { live = l; work = work_of k.works c })) (item_is live_id k.lives b l is)
 
 of_found : (b : BranchId) (o : Option Work) → ((w : Work) → o ≡ Some w → w.branch ≡ b) → (work_or b o).branch ≡ b
@@ -71,14 +71,14 @@ work_branch ws b = of_found b (item_at work_id ws b) (item_is work_id ws b)
 -- ---- a branch that was changed where it stands
 
 -- it is found
-pub found_changed : (k : Kept) (b : BranchId) (x : Branch) → x.live.me ≡ b → x.work.branch ≡ x.live.me → branch_at (with_branch k x) b ≡ Some x
+pub found_changed : (k : NodeState) (b : BranchId) (x : Branch) → x.live.me ≡ b → x.work.branch ≡ x.live.me → branch_at (with_branch k x) b ≡ Some x
 found_changed k b x me mine =
     ap (λ o. with_work (with_branch k x) o) (subst (λ c. item_at live_id (put_item live_id k.lives x.live) c ≡ Some x.live) me (put_found live_id k.lives x.live))
     ∙ ap (λ w. Some (record { live = x.live; work = work_or x.live.me w }))
     (subst (λ c. item_at work_id (put_item work_id k.works x.work) c ≡ Some x.work) mine (put_found work_id k.works x.work))
 
 -- and changed once more
-pub changed_twice : (k : Kept) (x y : Branch) → x.live.me ≡ y.live.me → x.work.branch ≡ y.work.branch → with_branch (with_branch k x) y ≡ with_branch k y
+pub changed_twice : (k : NodeState) (x y : Branch) → x.live.me ≡ y.live.me → x.work.branch ≡ y.work.branch → with_branch (with_branch k x) y ≡ with_branch k y
 changed_twice k x y me mine =
     ap (λ ls. record k { lives = ls; works = put_item work_id (put_item work_id k.works x.work) y.work }) (put_twice live_id k.lives x.live y.live me)
     ∙ ap (λ ws. record k { lives = put_item live_id k.lives y.live; works = ws }) (put_twice work_id k.works x.work y.work mine)

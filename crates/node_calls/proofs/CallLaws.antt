@@ -10,7 +10,7 @@ use Rattle.node_rules.specs.Data.admits
 use Rattle.node_rules.specs.Data.answers
 use Rattle.node_rules.specs.Data.kinds
 use Rattle.node_rules.specs.Names.{Way, Runs_here, Over, Through, Nowhere_to, passed_on, way_of}
-use Rattle.node_rules.specs.Kept.{Kept, Branch, nothing, saying, post, live_id, branch_at, with_branch}
+use Rattle.node_rules.specs.NodeState.{NodeState, Branch, nothing, saying, post, live_id, branch_at, with_branch}
 use Rattle.node_rules.specs.Calls.{admit, answered, answered_sessions, answer_ends, answer_says, call_pends, exec_by, goes, next_call, nobody_at, on_exec, opens_through, says_again, statement_at, takes_call, waits_for_opened, with_answer}
 use Rattle.node_rules.specs.Statement.{after_run, answer_of_run, node_after_run, ran}
 use Rattle.node_state.specs.Changed.{change_item, with_item}
@@ -23,19 +23,19 @@ use Rattle.node_calls.proofs.BranchLaws.{branch_here, calls_changed, changed_twi
 use Rattle.node_calls.proofs.OpenedLaws.{calls_again}
 
 -- a statement is answered the same where its branch was put in its place before
-answered_twice : (k : Kept) (x y : Branch) (a : Answer) → x.live.me ≡ y.live.me → x.work.branch ≡ y.work.branch → answered (with_branch k x) y a ≡ answered k y a
+answered_twice : (k : NodeState) (x y : Branch) (a : Answer) → x.live.me ≡ y.live.me → x.work.branch ≡ y.work.branch → answered (with_branch k x) y a ≡ answered k y a
 answered_twice k x y a me mine =
     ap (λ q. record { after = record q { sessions = answered_sessions k.sessions y.live y.live.parent }; wrote = None; says = answer_says y a y.live.parent; ended = answer_ends y.live a y.live.parent })
     (changed_twice k x (with_answer y a) me mine)
 
 -- and so it waits the same for a link
-opens_again : (k : Kept) (x : Branch) (node : ℕ) (link : List ℕ) (s : Stmt) (given : ℕ) → opens_through (with_branch k x) x node link s given ≡ opens_through k x node link s given
+opens_again : (k : NodeState) (x : Branch) (node : ℕ) (link : List ℕ) (s : Stmt) (given : ℕ) → opens_through (with_branch k x) x node link s given ≡ opens_through k x node link s given
 opens_again k x node link s given =
     ap (λ q. record { after = record q { sessions = call_pends k.sessions x.live }; wrote = None; says = post x.live.me (nobody_at node) (kinds.Open (next_edge x.live) x.live.root (x.live.depth + 1)); ended = [] })
     (changed_twice k x (waits_for_opened x link s given) refl refl)
 
 -- and goes the same way
-goes_again : (p : Place) (k : Kept) (x : Branch) (s : Stmt) (given : ℕ) (way : Way) → goes p (with_branch k x) x s given way ≡ goes p k x s given way
+goes_again : (p : Place) (k : NodeState) (x : Branch) (s : Stmt) (given : ℕ) (way : Way) → goes p (with_branch k x) x s given way ≡ goes p k x s given way
 unfolding ran
 goes_again p k x s given (Runs_here t) =
     answered_twice (node_after_run k x.live.me t (ran p k x.live.me s t)) x (record x { live = after_run x.live (ran p k x.live.me s t) }) (answer_of_run (ran p k x.live.me s t)) refl refl
@@ -47,7 +47,7 @@ goes_again p k x s given (Through node link table) = opens_again k x node link (
 pub numbers_taken : (call : ℕ) (ws : List Work) (b : BranchId) → ((i : ℕ) → next_call (work_of ws b) i < 2 ^ 32) → (i : ℕ) → next_call (work_of (change_work (with_call_taken call) ws b) b) i < 2 ^ 32
 numbers_taken call ws b low i = subst (λ (w : Work). next_call w i < 2 ^ 32) (sym (calls_changed (with_call_taken call) (λ w. refl) ws b)) (low i)
 
-module _ (p : Place) (k : Kept) (b : BranchId) (l : Live) (is : item_at live_id k.lives b ≡ Some l) (from : BranchId) (call given : ℕ) (advice : Option Advice) (s : Stmt) where
+module _ (p : Place) (k : NodeState) (b : BranchId) (l : Live) (is : item_at live_id k.lives b ≡ Some l) (from : BranchId) (call given : ℕ) (advice : Option Advice) (s : Stmt) where
   by_number : (a : Admit) → admit (work_of k.works b).came call ≡ a → at_live k (λ x. on_exec p k x from call given advice s) (branch_at k b) ≡ exec_by p k (branch_here k b l) from call given advice s a
   by_number a at = somebody k b l (λ x. on_exec p k x from call given advice s) is ∙ ap (exec_by p k (branch_here k b l) from call given advice s) at
 
@@ -61,12 +61,12 @@ module _ (p : Place) (k : Kept) (b : BranchId) (l : Live) (is : item_at live_id 
   again_so deed at does = subst (λ d. Gives d k deed) (sym (by_number admits.Again at)) does
 
   -- a first one
-  pub run_so : (lives : List Live) (works : List Work) (after : Kept) (deed : Deed) → admit (work_of k.works b).came call ≡ admits.Run
+  pub run_so : (lives : List Live) (works : List Work) (after : NodeState) (deed : Deed) → admit (work_of k.works b).came call ≡ admits.Run
       → lives ≡ change_item live_id (advised advice) k.lives b → works ≡ change_work (with_call_taken call) k.works b
       → Gives (at_live (record k { lives = lives; works = works }) (λ x. statement_at p (record k { lives = lives; works = works }) x s given) (branch_at (record k { lives = lives; works = works }) b)) after deed
       → Gives (at_live k (λ x. on_exec p k x from call given advice s) (branch_at k b)) after deed
   run_so lives works after deed at is_lives is_works does =
-      let m : Kept = record k { lives = lives; works = works } in
+      let m : NodeState = record k { lives = lives; works = works } in
       let x : Branch = takes_call (branch_here k b l) call advice in
       let put : m ≡ with_branch k x =
       ap (λ ls. record k { lives = ls; works = works }) (is_lives ∙ ap (with_item live_id (advised advice) k.lives) is)

@@ -13,7 +13,7 @@ use Rattle.node_rules.specs.Data.answers
 use Rattle.node_rules.specs.Data.dones
 use Rattle.node_rules.specs.Data.kinds
 use Rattle.node_rules.specs.declared.session.PendingCall.TheVariants as pending
-use Rattle.node_rules.specs.Kept.{Kept, Deed as DeedByRules, live_id, work_id, with_work, branch_at, without_branch, nothing, ending, post}
+use Rattle.node_rules.specs.NodeState.{NodeState, Deed as DeedByRules, live_id, work_id, with_work, branch_at, without_branch, nothing, ending, post}
 use Rattle.sql_check.specs.Words.{one}
 use Rattle.sql_check.specs.Refusals.{dtx}
 use Rattle.node_rules.specs.Sessions.{with_call, needs_rollback}
@@ -28,7 +28,7 @@ use Rattle.node_calls.specs.Handled.{at_live}
 use Rattle.node_calls.proofs.BranchLaws.{put_back, branch_here, somebody}
 
 -- a deed of the rules, from its parts
-gives_so : (d e : DeedByRules) (after : Kept) (deed : Deed) → d ≡ e → after ≡ e.after → deed ≡ record { wrote = e.wrote; says = e.says; ended = e.ended } → Gives d after deed
+gives_so : (d e : DeedByRules) (after : NodeState) (deed : Deed) → d ≡ e → after ≡ e.after → deed ≡ record { wrote = e.wrote; says = e.says; ended = e.ended } → Gives d after deed
 gives_so d e after deed is new done = subst (λ x. Gives x after deed) (sym is) (record { after = new; wrote = ap (λ x. x.wrote) done; says = ap (λ x. x.says) done; ended = ap (λ x. x.ended) done })
 
 -- a deed that only sends messages, and one that only ends a call
@@ -39,10 +39,10 @@ abbrev ends : ℕ → Answer → Deed
 ends n a = record { wrote = None; says = []; ended = (record { session = n; answer = a }) ∷ [] }
 
 -- what a node keeps with other calls and sessions
-abbrev with_calls : Kept → List Work → List Session → Kept
+abbrev with_calls : NodeState → List Work → List Session → NodeState
 with_calls k works sessions = record k { works = works; sessions = sessions }
 
-module _ (k : Kept) (b : BranchId) (l : Live) (is : item_at live_id k.lives b ≡ Some l) where
+module _ (k : NodeState) (b : BranchId) (l : Live) (is : item_at live_id k.lives b ≡ Some l) where
   calls_so : (works ws : List Work) (sessions ss : List Session) → works ≡ ws → sessions ≡ ss → with_calls k works sessions ≡ with_calls k ws ss
   calls_so works ws sessions ss same alike = ap (λ x. with_calls k x sessions) same ∙ ap (with_calls k ws) alike
 
@@ -66,13 +66,13 @@ module _ (k : Kept) (b : BranchId) (l : Live) (is : item_at live_id k.lives b �
         somebody k b l (λ x. answered k x a) is ∙ ap (λ ls. answered_by ls l.parent) (put_back live_id k.lives b l is) ∙ ap (λ p. answered_by k.lives p) at
 
     -- at a root
-    pub client_answered : (after : Kept) (deed : Deed) → l.parent ≡ None
+    pub client_answered : (after : NodeState) (deed : Deed) → l.parent ≡ None
         → after ≡ record k { works = change_work (answered_with None) k.works b; sessions = with_call k.sessions l.me.session pending.NoCall }
         → deed ≡ record { wrote = None; says = []; ended = (record { session = l.me.session; answer = a }) ∷ [] } → Gives (at_live k (λ x. answered k x a) (branch_at k b)) after deed
     client_answered after deed root new done = gives_so (at_live k (λ x. answered k x a) (branch_at k b)) (answered_by k.lives None) after deed (answered_so None root) new done
 
     -- below the root
-    pub parent_answered : (parent : BranchId) (fields : ReplyFields) (says : List Post) (after : Kept) (deed : Deed) → l.parent ≡ Some parent → fields ≡ reply_fields l a
+    pub parent_answered : (parent : BranchId) (fields : ReplyFields) (says : List Post) (after : NodeState) (deed : Deed) → l.parent ≡ Some parent → fields ≡ reply_fields l a
         → says ≡ replies (branch_here k b l) parent fields → after ≡ record k { works = change_work (answered_with (Some fields)) k.works b } → deed ≡ sends says
         → Gives (at_live k (λ x. answered k x a) (branch_at k b)) after deed
     parent_answered parent fields says after deed at same said new done =
@@ -149,7 +149,7 @@ module _ (k : Kept) (b : BranchId) (l : Live) (is : item_at live_id k.lives b �
       ended = (record { session = n; answer = answers.Did dones.RolledBack 0 }) ∷ [];
     }
 
-    pub rolled_back_so : (after : Kept) (deed : Deed) → after ≡ record (without_branch k l.me) { sessions = transaction_ended k.sessions n }
+    pub rolled_back_so : (after : NodeState) (deed : Deed) → after ≡ record (without_branch k l.me) { sessions = transaction_ended k.sessions n }
         → deed ≡ record { wrote = None; says = to_children l kinds.Rollback; ended = (record { session = n; answer = answers.Did dones.RolledBack 0 }) ∷ [] }
         → Gives (rollback_by k n (branch_at k b)) after deed
     rolled_back_so after deed new done =
@@ -157,7 +157,7 @@ module _ (k : Kept) (b : BranchId) (l : Live) (is : item_at live_id k.lives b �
 
 -- ---- branches that are not live
 
-module _ (k : Kept) (b : BranchId) (none : item_at live_id k.lives b ≡ None) (n : ℕ) where
+module _ (k : NodeState) (b : BranchId) (none : item_at live_id k.lives b ≡ None) (n : ℕ) where
   -- no statement is given up
   pub none_given_up : (deed : Deed) → Gives (nothing k) k deed → Gives (statement_given_up k n (branch_at k b)) k deed
   none_given_up deed does = subst (λ d. Gives d k deed) (sym (ap (λ o. statement_given_up k n (with_work k o)) none)) does

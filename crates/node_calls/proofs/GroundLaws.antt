@@ -8,7 +8,7 @@ use Rattle.row_store.specs.declared.pending.Owned.{Owned}
 use Rattle.stmt_run.specs.Run.{locks_after, ran_over}
 use Rattle.stmt_run.specs.Stored.{ground_in, owns_after as owns_after_store, store_after_run}
 use Rattle.node_rules.specs.Data.{Live, Table, Stmt, Keyed, Answer}
-use Rattle.node_rules.specs.Kept.{Kept, live_id, branch_at}
+use Rattle.node_rules.specs.NodeState.{NodeState, live_id, branch_at}
 use Rattle.node_rules.specs.Names.{Runs_here, way_of}
 use Rattle.node_rules.specs.Calls.{answered, statement_at}
 use Rattle.node_rules.specs.Statement.{Ran, Refuses, Reads, Writes, answer_of_run, ground_of, makes_changes, owns_after, ran, view}
@@ -34,7 +34,7 @@ changes_is (Reads found keys) = refl
 changes_is (Writes d cs keys undo) = refl
 
 -- what a node keeps whose store, locks and live branches are these
-abbrev pub with_parts : Memory → Contents → List Lock → List Live → Kept
+abbrev pub with_parts : Memory → Contents → List Lock → List Live → NodeState
 with_parts m store locks lives = record (kept_in m) {
   stored = record (stored_in m) { rows = store.rows; doubts = store.doubts };
   owns = store.owns;
@@ -63,7 +63,7 @@ module _ (m : Memory) (own : HasOwnUndo m) (b : BranchId) (s : Stmt) (t : Table)
   store_is : store_after_run m.store b t at_store ≡ store_by
   store_is = ap (store_after_run m.store b t) ran_is ∙ ap (λ os. record m.store { owns = os }) (owns_is m.store.owns b (view (kept_in m) b t.name) by_rules)
 
-  abbrev kept_by : Kept
+  abbrev kept_by : NodeState
   kept_by = record (kept_in m) {
     owns = owns_after m.store.owns b (view (kept_in m) b t.name) by_rules;
     locks = locks_after m.locks b t by_rules;
@@ -79,7 +79,7 @@ module _ (m : Memory) (own : HasOwnUndo m) (b : BranchId) (s : Stmt) (t : Table)
       ∙ ap (λ x. with_parts m store_by (locks_after m.locks b t by_rules) x) (v_is ∙ ap (λ r. change_item live_id (changed_by (makes_changes r)) m.lives b) ran_is)
 
   -- and so the branch answers it by the rules
-  pub ran_here : {E : Type 0} (l : Live) (given : ℕ) (told : Answer) (store : Contents) (locks : List Lock) (lives : List Live) (after : Kept) (result : Result Deed E)
+  pub ran_here : {E : Type 0} (l : Live) (given : ℕ) (told : Answer) (store : Contents) (locks : List Lock) (lives : List Live) (after : NodeState) (result : Result Deed E)
       → item_at live_id m.lives b ≡ Some l → way_of m.place (stored_in m).durable l given s ≡ Runs_here t → told ≡ answer_of_run at_store
       → store ≡ store_after_run m.store b t at_store → locks ≡ locks_after m.locks b t at_store → lives ≡ change_item live_id (changed_by (makes_changes at_store)) m.lives b
       → IfOk result (λ deed. Gives (at_live (with_parts m store locks lives) (λ x. answered (with_parts m store locks lives) x told) (branch_at (with_parts m store locks lives) b)) after deed)

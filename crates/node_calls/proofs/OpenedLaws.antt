@@ -11,7 +11,7 @@ use Rattle.node_rules.specs.declared.work.Going.{Going}
 use Rattle.node_rules.specs.declared.work.Waits.{Waits}
 use Rattle.node_rules.specs.declared.work.Work.{Work}
 use Rattle.node_rules.specs.declared.work.Waits.TheVariants as waiting
-use Rattle.node_rules.specs.Kept.{Kept, Branch, Deed as DeedByRules, nothing, live_id, branch_at, with_branch}
+use Rattle.node_rules.specs.NodeState.{NodeState, Branch, Deed as DeedByRules, nothing, live_id, branch_at, with_branch}
 use Rattle.node_rules.specs.Calls.{call_pends, called, calls_over, exec_to, next_call, on_opened, opened_going, opened_waits, with_edge}
 use Rattle.session_tree.specs.Live.{peer_of}
 use Rattle.node_state.specs.Changed.{change_item, with_item}
@@ -23,20 +23,20 @@ use Rattle.node_calls.specs.Handled.{at_live, goes_on, waited_for, waits_for, Ha
 use Rattle.node_calls.proofs.BranchLaws.{work_branch, branch_here, somebody, found_changed, changed_twice, calls_changed}
 
 -- what a branch does with what waited for its child, and nothing where nothing did
-abbrev goes_if : Kept → Branch → BranchId → ℕ → Option Waited → DeedByRules
+abbrev goes_if : NodeState → Branch → BranchId → ℕ → Option Waited → DeedByRules
 goes_if k x from strength None = nothing k
 goes_if k x from strength (Some w) = goes_on k x from strength w
 
-waits_is : (k : Kept) (x : Branch) (from : BranchId) (strength : ℕ) (g : Going) (waits : Waits) → opened_waits k x from strength g waits ≡ goes_if k x from strength (waits_for g waits)
+waits_is : (k : NodeState) (x : Branch) (from : BranchId) (strength : ℕ) (g : Going) (waits : Waits) → opened_waits k x from strength g waits ≡ goes_if k x from strength (waits_for g waits)
 waits_is k x from strength g (waiting.ForReply i) = refl
 waits_is k x from strength g (waiting.ForOpened link) = refl
 
-opened_if : (k : Kept) (x : Branch) (from : BranchId) (strength : ℕ) (g : Going) (here : Bool)
+opened_if : (k : NodeState) (x : Branch) (from : BranchId) (strength : ℕ) (g : Going) (here : Bool)
     → (if here then opened_waits k x from strength g g.waits else nothing k) ≡ goes_if k x from strength (if here then waits_for g g.waits else None)
 opened_if k x from strength g true = waits_is k x from strength g g.waits
 opened_if k x from strength g false = refl
 
-opened_is : (k : Kept) (x : Branch) (from : BranchId) (edge strength : ℕ) (g : Option Going) → opened_going k x from edge strength g ≡ goes_if k x from strength (waited_for edge (next_edge x.live) g)
+opened_is : (k : NodeState) (x : Branch) (from : BranchId) (edge strength : ℕ) (g : Option Going) → opened_going k x from edge strength g ≡ goes_if k x from strength (waited_for edge (next_edge x.live) g)
 opened_is k x from edge strength None = refl
 opened_is k x from edge strength (Some g) = opened_if k x from strength g (edge == next_edge x.live)
 
@@ -87,12 +87,12 @@ room_there ls b l edge g w is found room =
     subst (λ o. IfSome o (λ x. length x.edges < branch_limit)) (sym is) (room_while (length l.edges) edge (next_edge l) g w found there)
 
 -- a statement goes on the same where its branch was put in its place before
-pub calls_again : (k : Kept) (x : Branch) (i : ℕ) (s : Stmt) (given : ℕ) → calls_over (with_branch k x) x i s given ≡ calls_over k x i s given
+pub calls_again : (k : NodeState) (x : Branch) (i : ℕ) (s : Stmt) (given : ℕ) → calls_over (with_branch k x) x i s given ≡ calls_over k x i s given
 calls_again k x i s given =
     ap (λ m. record { after = record m { sessions = call_pends k.sessions x.live }; wrote = None; says = exec_to k.sessions x i s given (peer_of x.live i); ended = [] })
     (changed_twice k x (called x i s given) refl refl)
 
-module _ (k : Kept) (b : BranchId) (l : Live) (is : item_at live_id k.lives b ≡ Some l) (from : BranchId) (edge strength : ℕ) where
+module _ (k : NodeState) (b : BranchId) (l : Live) (is : item_at live_id k.lives b ≡ Some l) (from : BranchId) (edge strength : ℕ) where
   abbrev it : Branch
   it = branch_here k b l
 
@@ -105,12 +105,12 @@ module _ (k : Kept) (b : BranchId) (l : Live) (is : item_at live_id k.lives b �
   opened_ignored deed none does = subst (λ d. Gives d k deed) (sym (at_once ∙ ap (goes_if k it from strength) none)) does
 
   -- the branch with its new child, called
-  pub opened_so : (w : Waited) (e : Edge) (given : ℕ) (lives : List Live) (works : List Work) (after : Kept) (deed : Deed) → waited_for edge (next_edge l) (work_of k.works b).going ≡ Some w
+  pub opened_so : (w : Waited) (e : Edge) (given : ℕ) (lives : List Live) (works : List Work) (after : NodeState) (deed : Deed) → waited_for edge (next_edge l) (work_of k.works b).going ≡ Some w
       → e ≡ new_edge from w.link strength → given ≡ w.room - 1 → lives ≡ change_item live_id (λ y. add_edge y e) k.lives b → works ≡ change_work with_child k.works b
       → Gives (at_live (record k { lives = lives; works = works }) (λ x. calls_over (record k { lives = lives; works = works }) x edge w.statement given) (branch_at (record k { lives = lives; works = works }) b)) after deed
       → Gives (at_live k (λ x. on_opened k x from edge strength) (branch_at k b)) after deed
   opened_so w e given lives works after deed waits is_e is_given is_lives is_works does =
-      let m : Kept = record k { lives = lives; works = works } in
+      let m : NodeState = record k { lives = lives; works = works } in
       let x = with_edge it (new_edge from w.link strength) in
       let put : m ≡ with_branch k x =
       ap (λ ls. record k { lives = ls; works = works }) (is_lives ∙ ap (λ d. change_item live_id (λ y. add_edge y d) k.lives b) is_e ∙ ap (with_item live_id (λ y. add_edge y (new_edge from w.link strength)) k.lives) is)

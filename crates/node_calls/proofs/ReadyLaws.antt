@@ -11,7 +11,7 @@ use Rattle.node_rules.specs.declared.session.Session.{Session}
 use Rattle.node_rules.specs.declared.work.Going.{Going}
 use Rattle.node_rules.specs.declared.work.Waits.{Waits}
 use Rattle.node_rules.specs.declared.work.Waits.TheVariants as waiting
-use Rattle.node_rules.specs.Kept.{live_id}
+use Rattle.node_rules.specs.NodeState.{live_id}
 use Rattle.node_rules.specs.LiveBranches.{works_of}
 use Rattle.node_rules.specs.Sessions.{fresh_session}
 use Rattle.node_ready_laws.proofs.GiveLemmas.{sum_few}

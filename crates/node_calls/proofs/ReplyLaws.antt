@@ -10,7 +10,7 @@ use Rattle.node_rules.specs.declared.work.Going.{Going}
 use Rattle.node_rules.specs.declared.work.Waits.{Waits}
 use Rattle.node_rules.specs.declared.work.Waits.TheVariants as waiting
 use Rattle.node_rules.specs.declared.work.Work.{Work}
-use Rattle.node_rules.specs.Kept.{Kept, Branch, nothing, live_id, work_id, branch_at}
+use Rattle.node_rules.specs.NodeState.{NodeState, Branch, nothing, live_id, work_id, branch_at}
 use Rattle.node_rules.specs.Calls.{answered, answered_sessions, answer_ends, answer_says, heard_answer, heard_sessions, on_reply, reply_by, reply_edge, reply_going, reply_of, reply_waits, with_answer}
 use Rattle.node_state.specs.Changed.{change_item, with_item}
 use Rattle.node_state.specs.Lives.{heard, told}
@@ -48,12 +48,12 @@ unfolding reply_of
 reply_found x from call i e found = found_going x from call i e x.work.going found
 
 -- a statement is answered the same where its branch was put in its place before
-pub answered_again : (k : Kept) (l : Live) (w : Work) (a : Answer) → answered (record k { lives = put_item live_id k.lives l }) (record { live = l; work = w }) a ≡ answered k (record { live = l; work = w }) a
+pub answered_again : (k : NodeState) (l : Live) (w : Work) (a : Answer) → answered (record k { lives = put_item live_id k.lives l }) (record { live = l; work = w }) a ≡ answered k (record { live = l; work = w }) a
 answered_again k l w a =
     ap (λ ls. record { after = record k { lives = ls; works = put_item work_id k.works (with_answer (record { live = l; work = w }) a).work; sessions = answered_sessions k.sessions l l.parent }; wrote = None; says = answer_says (record { live = l; work = w }) a l.parent; ended = answer_ends l a l.parent })
     (put_twice live_id k.lives l l refl)
 
-module _ (k : Kept) (b : BranchId) (l : Live) (is : item_at live_id k.lives b ≡ Some l) (from : BranchId) (call : ℕ) (weight : Option ℕ) (count : ℕ) (a : Answer) where
+module _ (k : NodeState) (b : BranchId) (l : Live) (is : item_at live_id k.lives b ≡ Some l) (from : BranchId) (call : ℕ) (weight : Option ℕ) (count : ℕ) (a : Answer) where
   at_once : at_live k (λ x. on_reply k x from call weight count a) (branch_at k b) ≡ reply_by k (branch_here k b l) weight count a (reply_of (branch_here k b l) from call)
   at_once = somebody k b l (λ x. on_reply k x from call weight count a) is
 
@@ -62,13 +62,13 @@ module _ (k : Kept) (b : BranchId) (l : Live) (is : item_at live_id k.lives b �
   reply_ignored deed none does = subst (λ d. Gives d k deed) (sym (at_once ∙ ap (reply_by k (branch_here k b l) weight count a) none)) does
 
   -- one that is
-  pub reply_so : (i : ℕ) (e : Edge) (result : Answer) (lives : List Live) (sessions : List Session) (after : Kept) (deed : Deed) → reply_of (branch_here k b l) from call ≡ Some (at_number i e)
+  pub reply_so : (i : ℕ) (e : Edge) (result : Answer) (lives : List Live) (sessions : List Session) (after : NodeState) (deed : Deed) → reply_of (branch_here k b l) from call ≡ Some (at_number i e)
       → result ≡ heard_answer l e.link a → lives ≡ change_item live_id (heard i weight count) k.lives b → sessions ≡ heard_sessions k.sessions l a
       → Gives (at_live (record k { lives = lives; sessions = sessions }) (λ x. answered (record k { lives = lives; sessions = sessions }) x result) (branch_at (record k { lives = lives; sessions = sessions }) b)) after deed
       → Gives (at_live k (λ x. on_reply k x from call weight count a) (branch_at k b)) after deed
   reply_so i e result lives sessions after deed waits is_result is_lives is_sessions does =
-      let n : Kept = record k { sessions = heard_sessions k.sessions l a } in
-      let m : Kept = record k { lives = lives; sessions = sessions } in
+      let n : NodeState = record k { sessions = heard_sessions k.sessions l a } in
+      let m : NodeState = record k { lives = lives; sessions = sessions } in
       let y : Live = heard i weight count l in
       let put : m ≡ record n { lives = put_item live_id k.lives y } =
       ap (λ ls. record k { lives = ls; sessions = sessions }) (is_lives ∙ ap (with_item live_id (heard i weight count) k.lives) is)

@@ -11,7 +11,7 @@ use Rattle.node_rules.specs.declared.work.Work.{Work}
 use Rattle.node_rules.specs.Ids.{decimal}
 use Rattle.node_rules.specs.Words.{one}
 use Rattle.node_rules.specs.Refusals.{ora}
-use Rattle.node_rules.specs.Kept.{Kept, Branch, live_id, with_work, branch_at, nothing}
+use Rattle.node_rules.specs.NodeState.{NodeState, Branch, live_id, with_work, branch_at, nothing}
 use Rattle.node_rules.specs.Sessions.{session_at}
 use Rattle.node_rules.specs.Calls.{next_call, statement_at}
 use Rattle.node_rules.specs.Client.{begun, begun_lives, refuses, root_by, statement_by, statement_call}
@@ -27,43 +27,43 @@ use Rattle.node_calls.specs.Handled.{at_live, refuses_again, TakesStatement}
 -- ---- at the root of a session
 
 -- a session without a root
-rootless : (p : Place) (k : Kept) (n : ℕ) (s : Stmt) (after : Kept) (deed : Deed) → (session_at k.sessions n).root ≡ None → Gives (nothing k) after deed → Gives (statement_call p k n s) after deed
+rootless : (p : Place) (k : NodeState) (n : ℕ) (s : Stmt) (after : NodeState) (deed : Deed) → (session_at k.sessions n).root ≡ None → Gives (nothing k) after deed → Gives (statement_call p k n s) after deed
 rootless p k n s after deed none does = subst (λ d. Gives d after deed) (sym (ap (λ root. statement_by p k n s (session_at k.sessions n).code (root_by k root)) none)) does
 
 -- and one with a root
-rooted : (p : Place) (k : Kept) (n : ℕ) (s : Stmt) (root : BranchId) (after : Kept) (deed : Deed) → (session_at k.sessions n).root ≡ Some root
+rooted : (p : Place) (k : NodeState) (n : ℕ) (s : Stmt) (root : BranchId) (after : NodeState) (deed : Deed) → (session_at k.sessions n).root ≡ Some root
     → Gives (statement_by p k n s (session_at k.sessions n).code (branch_at k root)) after deed → Gives (statement_call p k n s) after deed
 rooted p k n s root after deed is does = subst (λ d. Gives d after deed) (sym (ap (λ o. statement_by p k n s (session_at k.sessions n).code (root_by k o)) is)) does
 
 -- which may be what a node keeps once a transaction has begun
-pub rootless_in : (p : Place) (k m : Kept) (n : ℕ) (s : Stmt) (deed : Deed) → m ≡ k → (session_at m.sessions n).root ≡ None → Gives (nothing m) m deed → Gives (statement_call p k n s) m deed
+pub rootless_in : (p : Place) (k m : NodeState) (n : ℕ) (s : Stmt) (deed : Deed) → m ≡ k → (session_at m.sessions n).root ≡ None → Gives (nothing m) m deed → Gives (statement_call p k n s) m deed
 rootless_in p k m n s deed is none does = subst (λ j. Gives (statement_call p j n s) m deed) is (rootless p m n s m deed none does)
 
-pub rooted_in : (p q : Place) (k m : Kept) (n : ℕ) (s : Stmt) (root : BranchId) (after : Kept) (deed : Deed) → m ≡ k → q ≡ p → (session_at m.sessions n).root ≡ Some root
+pub rooted_in : (p q : Place) (k m : NodeState) (n : ℕ) (s : Stmt) (root : BranchId) (after : NodeState) (deed : Deed) → m ≡ k → q ≡ p → (session_at m.sessions n).root ≡ Some root
     → Gives (statement_by q m n s (session_at m.sessions n).code (branch_at m root)) after deed → Gives (statement_call p k n s) after deed
 rooted_in p q k m n s root after deed is here at does = subst (λ r. Gives (statement_call r k n s) after deed) here (subst (λ j. Gives (statement_call q j n s) after deed) is (rooted q m n s root after deed at does))
 
-statement_is : (p : Place) (k : Kept) (n : ℕ) (s : Stmt) (o : Option Branch) → statement_by p k n s None o ≡ at_live k (λ x. statement_at p k x s 0) o
+statement_is : (p : Place) (k : NodeState) (n : ℕ) (s : Stmt) (o : Option Branch) → statement_by p k n s None o ≡ at_live k (λ x. statement_at p k x s 0) o
 statement_is p k n s None = refl
 statement_is p k n s (Some x) = refl
 
-refused_is : (p : Place) (k : Kept) (n code : ℕ) (s : Stmt) (o : Option Branch) → statement_by p k n s (Some code) o ≡ refuses_again k n code o
+refused_is : (p : Place) (k : NodeState) (n code : ℕ) (s : Stmt) (o : Option Branch) → statement_by p k n s (Some code) o ≡ refuses_again k n code o
 refused_is p k n code s None = refl
 refused_is p k n code s (Some x) = refl
 
 -- a statement of a transaction that may go on
-pub statement_so : (p : Place) (k : Kept) (n : ℕ) (s : Stmt) (code : Option ℕ) (root : BranchId) (after : Kept) (deed : Deed) → code ≡ None
+pub statement_so : (p : Place) (k : NodeState) (n : ℕ) (s : Stmt) (code : Option ℕ) (root : BranchId) (after : NodeState) (deed : Deed) → code ≡ None
     → Gives (at_live k (λ x. statement_at p k x s 0) (branch_at k root)) after deed → Gives (statement_by p k n s code (branch_at k root)) after deed
 statement_so p k n s code root after deed none does =
     subst (λ d. Gives d after deed) (sym (ap (λ o. statement_by p k n s o (branch_at k root)) none ∙ statement_is p k n s (branch_at k root))) does
 
 -- and of one that can only be rolled back
-pub refused_so : (p : Place) (k : Kept) (n : ℕ) (s : Stmt) (code : Option ℕ) (answered : ℕ) (root : BranchId) (after : Kept) (deed : Deed) → code ≡ Some answered
+pub refused_so : (p : Place) (k : NodeState) (n : ℕ) (s : Stmt) (code : Option ℕ) (answered : ℕ) (root : BranchId) (after : NodeState) (deed : Deed) → code ≡ Some answered
     → Gives (refuses_again k n answered (branch_at k root)) after deed → Gives (statement_by p k n s code (branch_at k root)) after deed
 refused_so p k n s code answered root after deed is does =
     subst (λ d. Gives d after deed) (sym (ap (λ o. statement_by p k n s o (branch_at k root)) is ∙ refused_is p k n answered s (branch_at k root))) does
 
-module _ (k : Kept) (n code : ℕ) (root : BranchId) (deed : Deed) where
+module _ (k : NodeState) (n code : ℕ) (root : BranchId) (deed : Deed) where
   pub nobody_refused : item_at live_id k.lives root ≡ None → Gives (nothing k) k deed → Gives (refuses_again k n code (branch_at k root)) k deed
   nobody_refused none does = subst (λ d. Gives d k deed) (sym (ap (λ o. refuses_again k n code (with_work k o)) none)) does
 
@@ -85,22 +85,22 @@ holds_begun : (P : Live → Type 0) (x : Live) (b : BranchId) → P x → (ls : 
 holds_begun P x b new [] holds = holds_last P x (same x.me b) new
 holds_begun P x b new (y ∷ ys) holds = holds_here P y b (item_at live_id ys b) (item_at live_id (ys ++ x ∷ []) b) (same y.me b) (holds_begun P x b new ys) holds
 
-few_by : (p : Place) (k : Kept) (n : ℕ) (root : Option BranchId) (b : BranchId) → IfSome (item_at live_id k.lives b) (λ l. count l < 2 ^ 16) → IfSome (item_at live_id (begun_lives p k n root) b) (λ l. count l < 2 ^ 16)
+few_by : (p : Place) (k : NodeState) (n : ℕ) (root : Option BranchId) (b : BranchId) → IfSome (item_at live_id k.lives b) (λ l. count l < 2 ^ 16) → IfSome (item_at live_id (begun_lives p k n root) b) (λ l. count l < 2 ^ 16)
 few_by p k n (Some root) b few = few
 few_by p k n None b few = holds_begun (λ l. count l < 2 ^ 16) _ b (omega arith) k.lives few
 
 -- a root that begins has told of no other branch
-few_begun : (p : Place) (k : Kept) (n : ℕ) (b : BranchId) → IfSome (item_at live_id k.lives b) (λ l. count l < 2 ^ 16)
+few_begun : (p : Place) (k : NodeState) (n : ℕ) (b : BranchId) → IfSome (item_at live_id k.lives b) (λ l. count l < 2 ^ 16)
     → IfSome (item_at live_id (begun_lives p k n (session_at k.sessions n).root) b) (λ l. count l < 2 ^ 16)
 few_begun p k n b few = few_by p k n (session_at k.sessions n).root b few
 
 -- and so a statement may come to a branch where a transaction begins
 pub takes_begun : (m q : Memory) (n : ℕ) (b : BranchId) (s : Stmt) → kept_in q ≡ begun m.place (kept_in m) n → q.place ≡ m.place → TakesStatement m b s → TakesStatement q b s
 takes_begun m q n b s kept here takes =
-    let listed : q.catalog ≡ m.catalog = ap (λ (j : Kept). listed_in j.stored.durable) kept in
+    let listed : q.catalog ≡ m.catalog = ap (λ (j : NodeState). listed_in j.stored.durable) kept in
     record {
-      few = subst (λ (ls : List Live). IfSome (item_at live_id ls b) (λ l. count l < 2 ^ 16)) (sym (ap (λ (j : Kept). j.lives) kept)) (few_begun m.place (kept_in m) n b takes.few);
-      numbers = subst (λ (ws : List Work). (i : ℕ) → next_call (work_of ws b) i < 2 ^ 32) (sym (ap (λ (j : Kept). j.works) kept)) takes.numbers;
+      few = subst (λ (ls : List Live). IfSome (item_at live_id ls b) (λ l. count l < 2 ^ 16)) (sym (ap (λ (j : NodeState). j.lives) kept)) (few_begun m.place (kept_in m) n b takes.few);
+      numbers = subst (λ (ws : List Work). (i : ℕ) → next_call (work_of ws b) i < 2 ^ 32) (sym (ap (λ (j : NodeState). j.works) kept)) takes.numbers;
       nodes = subst (λ (p : Place). length p.names ≤ node_limit) (sym here) takes.nodes;
       nameless = λ none. ap (λ c. is_used c []) listed ∙ takes.nameless none;
       rows = subst HasRows (sym kept) takes.rows;

@@ -7,7 +7,7 @@ use Rattle.row_store.specs.Store.{has_table}
 use Rattle.node_rules.specs.Data.{Place, Live, Stmt}
 use Rattle.node_rules.specs.Words.{same_text}
 use Rattle.node_rules.specs.Names.{Runs_here, way_of}
-use Rattle.node_rules.specs.Kept.{Kept}
+use Rattle.node_rules.specs.NodeState.{NodeState}
 use Rattle.node_rules.specs.Statement.{view}
 use Rattle.node_ready_laws.specs.Rows.{HasRows}
 use Rattle.node_ready_laws.proofs.ListLemmas.{all_found}
@@ -15,7 +15,7 @@ use Rattle.node_ready_laws.proofs.TableLemmas.{rows_there}
 use Rattle.node_ready_laws.proofs.RanLemmas.{one_key, seen}
 use Rattle.node_ready_laws.proofs.RowStepLemmas.{way_there}
 
-module _ (p : Place) (k : Kept) (l : Live) (given : ℕ) (s : Stmt) (t : Table) (now : HasRows k) (way : way_of p k.stored.durable l given s ≡ Runs_here t) where
+module _ (p : Place) (k : NodeState) (l : Live) (given : ℕ) (s : Stmt) (t : Table) (now : HasRows k) (way : way_of p k.stored.durable l given s ≡ Runs_here t) where
   pub has_key : (b : BranchId) → has_one_key t ≡ true
   has_key b = one_key k now b t (way_there p k.stored.durable l given t s way)
 

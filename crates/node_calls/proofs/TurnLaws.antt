@@ -2,7 +2,7 @@
 use Rattle.std.proofs.Common.{◌≡◌, ℕ, Option, None, Some, refl, sym, ap, subst, ◌∙◌}
 use Rattle.tran_ids.specs.declared.branch.BranchId.{BranchId}
 use Rattle.node_rules.specs.Data.{Place, Standing, Stmt, Advice, Answer}
-use Rattle.node_rules.specs.Kept.{Kept, Branch, Deed as DeedByRules, branch_at, standing_at, nothing, saying}
+use Rattle.node_rules.specs.NodeState.{NodeState, Branch, Deed as DeedByRules, branch_at, standing_at, nothing, saying}
 use Rattle.node_rules.specs.Calls.{gone_reply, on_exec, on_opened, on_reply}
 use Rattle.node_rules.specs.Turn.{Stand, Is_live, Is_kept, Is_gone, exec_turn, kept_or_gone, live_or, opened_turn, reply_turn, stand_of}
 use Rattle.node_deeds.specs.declared.deed.Deed.{Deed}
@@ -10,7 +10,7 @@ use Rattle.node_deeds.specs.Gives.{Gives}
 use Rattle.node_calls.specs.Handled.{at_live}
 
 -- what a live branch does alone
-module _ (k : Kept) (f : Branch → DeedByRules) (turn : Stand → DeedByRules) (live : (x : Branch) → turn (Is_live x) ≡ f x) where
+module _ (k : NodeState) (f : Branch → DeedByRules) (turn : Stand → DeedByRules) (live : (x : Branch) → turn (Is_live x) ≡ f x) where
   other_so : (kept : (s : Standing) → turn (Is_kept s) ≡ nothing k) (gone : turn Is_gone ≡ nothing k) (s : Option Standing) → turn (kept_or_gone s) ≡ nothing k
   other_so kept gone None = gone
   other_so kept gone (Some s) = kept s
@@ -23,7 +23,7 @@ module _ (k : Kept) (f : Branch → DeedByRules) (turn : Stand → DeedByRules) 
   unfolding stand_of
   turn_so kept gone b = stand_so kept gone (branch_at k b) (standing_at k b)
 
-module _ (k : Kept) (from b : BranchId) (after : Kept) (deed : Deed) where
+module _ (k : NodeState) (from b : BranchId) (after : NodeState) (deed : Deed) where
   pub opened_alike : (edge strength : ℕ) → Gives (at_live k (λ x. on_opened k x from edge strength) (branch_at k b)) after deed → Gives (opened_turn k from edge strength (stand_of k b)) after deed
   opened_alike edge strength does =
       subst (λ d. Gives d after deed) (sym (turn_so k (λ x. on_opened k x from edge strength) (opened_turn k from edge strength) (λ x. refl) (λ s. refl) refl b)) does
@@ -33,16 +33,16 @@ module _ (k : Kept) (from b : BranchId) (after : Kept) (deed : Deed) where
   reply_alike call weight count a does =
       subst (λ d. Gives d after deed) (sym (turn_so k (λ x. on_reply k x from call weight count a) (reply_turn k from call weight count a) (λ x. refl) (λ s. refl) refl b)) does
 
-live_by : (k : Kept) (b : BranchId) (x : Branch) (o : Option Branch) (s : Option Standing) → branch_at k b ≡ o → Is_live x ≡ live_or o s → branch_at k b ≡ Some x
+live_by : (k : NodeState) (b : BranchId) (x : Branch) (o : Option Branch) (s : Option Standing) → branch_at k b ≡ o → Is_live x ≡ live_or o s → branch_at k b ≡ Some x
 live_by k b x (Some y) s is stands = let it : Is_live x ≡ Is_live y = stands in let same : x ≡ y = cc in is ∙ ap Some (sym same)
 live_by k b x None None is stands = absurd cc
 live_by k b x None (Some s) is stands = absurd cc
 
-live_here : (k : Kept) (b : BranchId) (x : Branch) → Is_live x ≡ stand_of k b → branch_at k b ≡ Some x
+live_here : (k : NodeState) (b : BranchId) (x : Branch) → Is_live x ≡ stand_of k b → branch_at k b ≡ Some x
 unfolding stand_of
 live_here k b x stands = live_by k b x (branch_at k b) (standing_at k b) refl stands
 
-module _ (p : Place) (k : Kept) (from b : BranchId) (call given : ℕ) (advice : Option Advice) (s : Stmt) (after : Kept) (deed : Deed) where
+module _ (p : Place) (k : NodeState) (from b : BranchId) (call given : ℕ) (advice : Option Advice) (s : Stmt) (after : NodeState) (deed : Deed) where
   -- a live branch takes the call
   pub lives_so : (x : Branch) → Is_live x ≡ stand_of k b → Gives (at_live k (λ y. on_exec p k y from call given advice s) (branch_at k b)) after deed
       → Gives (exec_turn p k from b call given advice s (stand_of k b)) after deed

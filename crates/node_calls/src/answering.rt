@@ -2,7 +2,7 @@
 //! call.
 ghost use Rattle.std.specs.Prelude.{◌≡◌, None, Some, [], ◌∷◌, IfOk, OnOk};
 ghost use Rattle.node_rules.specs.declared.session.PendingCall.TheVariants as pending;
-ghost use Rattle.node_rules.specs.Kept.{branch_at, no_work as no_work_of};
+ghost use Rattle.node_rules.specs.NodeState.{branch_at, no_work as no_work_of};
 ghost use Rattle.node_rules.specs.Calls.{answered, replies as replies_of};
 ghost use Rattle.node_rules.specs.Sessions.{with_call};
 ghost use Rattle.node_state.specs.Works.{answered_with, change_work, work_of};

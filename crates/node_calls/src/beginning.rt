@@ -3,7 +3,7 @@ ghost use Rattle.std.specs.Prelude.{◌≡◌, ◌+◌, ◌<◌, ◌^◌, None, 
 ghost use Rattle.tran_ids.specs.declared.branch.BranchId.{BranchId};
 ghost use Rattle.tran_ids.specs.Listed.{item_at};
 ghost use Rattle.session_tree.specs.Live.{fresh_live};
-ghost use Rattle.node_rules.specs.Kept.{branch_at, live_id};
+ghost use Rattle.node_rules.specs.NodeState.{branch_at, live_id};
 ghost use Rattle.node_rules.specs.Sessions.{session_at};
 ghost use Rattle.node_rules.specs.Client.{begun, begun_by, new_root as new_root_of, fresh_root as fresh_root_of, statement_by, statement_call as statement_call_of};
 ghost use Rattle.node_deeds.specs.Gives.{Gives};

@@ -3,7 +3,7 @@ ghost use Rattle.std.specs.Prelude.{◌≡◌, ◌<◌, ◌≤◌, ◌^◌, ◌+
 ghost use Rattle.dtx_values.specs.Limits.{branch_limit, depth_limit};
 ghost use Rattle.tran_ids.specs.Listed.{item_at};
 ghost use Rattle.session_tree.specs.Live.{peer_of as peer_of_number};
-ghost use Rattle.node_rules.specs.Kept.{branch_at, live_id, post as post_of};
+ghost use Rattle.node_rules.specs.NodeState.{branch_at, live_id, post as post_of};
 ghost use Rattle.node_rules.specs.Data.kinds;
 ghost use Rattle.session_tree.specs.Live.{next_edge};
 ghost use Rattle.node_rules.specs.Calls.{advice_of as advice_of_branch, call_pends, calls_over, exec_to, next_call, nobody_at as nobody_at_node, opens_through};

@@ -2,7 +2,7 @@
 ghost use Rattle.std.specs.Prelude.{◌≡◌, [], IfOk};
 ghost use Rattle.dtx_values.specs.declared.answer.Answer.TheVariants.{Refused};
 ghost use Rattle.sql_check.specs.Refusals.{ora};
-ghost use Rattle.node_rules.specs.Kept.{Kept};
+ghost use Rattle.node_rules.specs.NodeState.{NodeState};
 ghost use Rattle.node_rules.specs.Client.{writes as writes_of, refuses as refuses_of, create_table as create_table_of, create_link as create_link_of, create_synonym as create_synonym_of, set_recovery as set_recovery_of};
 ghost use Rattle.node_ready_laws.specs.Rows.{HasRows};
 ghost use Rattle.node_ready_laws.specs.Following.{MayFollow};
@@ -18,14 +18,14 @@ use std::alloc::{AllocError, Global};
 
 /// A text that no statement has: ORA-00900.
 pub fn refuse_text(alloc: Global, session: u32) -> Result<Deed, AllocError>
-    ensures gives { IfOk result (λ deed. (k : Kept) → Gives (refuses_of k session (ora 900 [])) k deed) }
+    ensures gives { IfOk result (λ deed. (k : NodeState) → Gives (refuses_of k session (ora 900 [])) k deed) }
 {
     refuse(alloc, session, INVALID_SQL)
 }
 
 // The call of a session ends with a refusal that names nothing.
 fn refuse(alloc: Global, session: u32, code: u16) -> Result<Deed, AllocError>
-    ensures { IfOk result (λ deed. (k : Kept) → Gives (refuses_of k session (ora code [])) k deed) }
+    ensures { IfOk result (λ deed. (k : NodeState) → Gives (refuses_of k session (ora code [])) k deed) }
 {
     Deed::ending(alloc, session, Answer::Refused(plain(alloc, code)))
 }

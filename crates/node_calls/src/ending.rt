@@ -1,7 +1,7 @@
 //! ROLLBACK.
 ghost use Rattle.std.specs.Prelude.{◌≡◌, IfOk};
 ghost use Rattle.node_rules.specs.Client.{rollback_by as rollback_by_of, root_at};
-ghost use Rattle.node_rules.specs.Kept.{branch_at};
+ghost use Rattle.node_rules.specs.NodeState.{branch_at};
 ghost use Rattle.node_deeds.specs.Gives.{Gives};
 ghost use Rattle.node_memory.specs.Parts.{kept_in};
 

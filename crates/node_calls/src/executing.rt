@@ -1,6 +1,6 @@
 //! A call comes over the link from the parent.
 ghost use Rattle.std.specs.Prelude.{◌≡◌, IfOk};
-ghost use Rattle.node_rules.specs.Kept.{branch_at};
+ghost use Rattle.node_rules.specs.NodeState.{branch_at};
 ghost use Rattle.node_rules.specs.Calls.{on_exec as on_exec_of, says_again as says_again_of};
 ghost use Rattle.node_state.specs.Works.{work_of};
 ghost use Rattle.node_deeds.specs.Gives.{Gives, branch_with};

@@ -3,7 +3,7 @@ ghost use Rattle.std.specs.Prelude.{◌≡◌, IfOk};
 ghost use Rattle.dtx_values.specs.declared.answer.Answer.TheVariants.{Refused};
 ghost use Rattle.sql_check.specs.Refusals.{dtx};
 ghost use Rattle.sql_check.specs.Words.{one};
-ghost use Rattle.node_rules.specs.Kept.{branch_at};
+ghost use Rattle.node_rules.specs.NodeState.{branch_at};
 ghost use Rattle.node_rules.specs.Client.{statement_given_up as statement_given_up_of, waited_link as waited_link_of};
 ghost use Rattle.node_state.specs.Works.{work_of};
 ghost use Rattle.node_deeds.specs.Gives.{Gives};

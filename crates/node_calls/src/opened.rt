@@ -2,7 +2,7 @@
 ghost use Rattle.std.specs.Prelude.{◌≡◌, ◌-◌, ◌≤◌, length, IfOk};
 ghost use Rattle.dtx_values.specs.Limits.{branch_limit};
 ghost use Rattle.session_tree.specs.Live.{new_edge as new_edge_of, next_edge as next_edge_of};
-ghost use Rattle.node_rules.specs.Kept.{branch_at};
+ghost use Rattle.node_rules.specs.NodeState.{branch_at};
 ghost use Rattle.node_rules.specs.Calls.{on_opened as on_opened_of};
 ghost use Rattle.node_state.specs.Works.{work_of};
 ghost use Rattle.node_deeds.specs.Gives.{Gives};

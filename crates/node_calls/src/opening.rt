@@ -2,7 +2,7 @@
 ghost use Rattle.std.specs.Prelude.{◌≡◌, ◌+◌, ◌<◌, ◌^◌, None, Some, length, IfOk};
 ghost use Rattle.tran_ids.specs.Listed.{item_at};
 ghost use Rattle.session_tree.specs.Live.{fresh_live};
-ghost use Rattle.node_rules.specs.Kept.{live_id};
+ghost use Rattle.node_rules.specs.NodeState.{live_id};
 ghost use Rattle.node_rules.specs.Calls.{new_opening as new_opening_of, next_child as next_child_of, on_open as on_open_of, strength_of as strength_of_node};
 ghost use Rattle.node_deeds.specs.Gives.{Gives};
 ghost use Rattle.node_memory.specs.Parts.{kept_in};

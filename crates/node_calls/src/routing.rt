@@ -4,7 +4,7 @@ ghost use Rattle.sql_eval.specs.Laws.{has_one_key, AreRowsOf};
 ghost use Rattle.row_store.specs.Store.{has_table, seen_by};
 ghost use Rattle.stmt_run.specs.Run.{answer_of_run, locks_after, ran_over};
 ghost use Rattle.stmt_run.specs.Stored.{ground_in, store_after_run};
-ghost use Rattle.node_rules.specs.Kept.{branch_at, live_id};
+ghost use Rattle.node_rules.specs.NodeState.{branch_at, live_id};
 ghost use Rattle.node_rules.specs.Calls.{statement_at as statement_at_of};
 ghost use Rattle.node_rules.specs.Statement.{makes_changes};
 ghost use Rattle.node_state.specs.Changed.{change_item};

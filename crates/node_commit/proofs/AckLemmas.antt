@@ -8,16 +8,16 @@ use Rattle.redo_record.specs.declared.durable.Standing.{Standing}
 use Rattle.commit_forget.specs.declared.next.Next.{Next}
 use Rattle.commit_forget.specs.declared.next.Next.TheVariants as nexts
 use Rattle.commit_forget.specs.Next.{acked_next, next_on_ack, ack_counts, acked_by}
-use Rattle.node_rules.specs.Kept.{Kept, Deed, nothing, standing_id, standing_at, with_standing}
+use Rattle.node_rules.specs.NodeState.{NodeState, Deed, nothing, standing_id, standing_at, with_standing}
 use Rattle.node_rules.specs.Commit.{next_turn, on_ack}
 use Rattle.node_memory.specs.Acks.{with_ack}
 use Rattle.node_commit.specs.Branches.{where_kept, at_kept}
 
 -- what is done by the row that stands then
-abbrev done_at : Kept → BranchId → BranchId → Next → Deed
+abbrev done_at : NodeState → BranchId → BranchId → Next → Deed
 done_at k b from next = at_kept k b (λ s. next_turn k s from next)
 
-acked_if : (k : Kept) (b from : BranchId) (s acked : Standing) (next : Next) → Some s ≡ standing_at k b → acked.me ≡ b → (counts : Bool)
+acked_if : (k : NodeState) (b from : BranchId) (s acked : Standing) (next : Next) → Some s ≡ standing_at k b → acked.me ≡ b → (counts : Bool)
     → done_at (if counts then with_standing k acked else k) b from (if counts then next else nexts.Rest) ≡ (if counts then next_turn (with_standing k acked) acked from next else nothing k)
 acked_if k b from s acked next found me true =
     let ks = k.stored.durable.kept in
@@ -27,7 +27,7 @@ acked_if k b from s acked next found me true =
 acked_if k b from s acked next found me false = ap (where_kept k (λ (x : Standing). next_turn k x from nexts.Rest)) (sym found)
 
 -- what a kept branch does about an Ack
-ack_at : (k : Kept) (b from : BranchId) (next : Next) (o : Option Standing) → o ≡ standing_at k b → Some next ≡ option_map (λ (s : Standing). acked_next s from) o
+ack_at : (k : NodeState) (b from : BranchId) (next : Next) (o : Option Standing) → o ≡ standing_at k b → Some next ≡ option_map (λ (s : Standing). acked_next s from) o
     → done_at (with_ack k from o) b from next ≡ where_kept k (λ (s : Standing). on_ack k s from) o
 ack_at k b from next None found is = absurd cc
 ack_at k b from next (Some s) found is =
@@ -36,11 +36,11 @@ ack_at k b from next (Some s) found is =
     ap (done_at (with_ack k from (Some s)) b from) it
     ∙ acked_if k b from s (acked_by s from) (next_on_ack (acked_by s from)) found (item_is standing_id k.stored.durable.kept b s (sym found)) (ack_counts s from)
 
-pub ack_by : (k after : Kept) (b from : BranchId) (next : Next) → after ≡ with_ack k from (standing_at k b) → Some next ≡ option_map (λ (s : Standing). acked_next s from) (standing_at k b)
+pub ack_by : (k after : NodeState) (b from : BranchId) (next : Next) → after ≡ with_ack k from (standing_at k b) → Some next ≡ option_map (λ (s : Standing). acked_next s from) (standing_at k b)
     → at_kept after b (λ s. next_turn after s from next) ≡ at_kept k b (λ s. on_ack k s from)
-ack_by k after b from next is acts = ap (λ (j : Kept). done_at j b from next) is ∙ ack_at k b from next (standing_at k b) refl acts
+ack_by k after b from next is acts = ap (λ (j : NodeState). done_at j b from next) is ∙ ack_at k b from next (standing_at k b) refl acts
 
 -- nothing comes of an Ack where no row is
-pub unheard : (k : Kept) (from : BranchId) (o : Option Standing) → None ≡ option_map (λ (s : Standing). acked_next s from) o → o ≡ None
+pub unheard : (k : NodeState) (from : BranchId) (o : Option Standing) → None ≡ option_map (λ (s : Standing). acked_next s from) o → o ≡ None
 unheard k from None is = refl
 unheard k from (Some s) is = absurd cc

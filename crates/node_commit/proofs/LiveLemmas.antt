@@ -9,7 +9,7 @@ use Rattle.session_tree.specs.declared.live.Live.{Live}
 use Rattle.session_tree.specs.declared.act.Act.{Act}
 use Rattle.session_tree.specs.declared.act.Act.TheVariants as acts
 use Rattle.prepare_phase.specs.Acts.{after_act}
-use Rattle.node_rules.specs.Kept.{Kept, Deed, live_id, with_live}
+use Rattle.node_rules.specs.NodeState.{NodeState, Deed, live_id, with_live}
 use Rattle.node_rules.specs.Prepare.{ready, act_turn}
 
 module _ {A : Type 0} (id : A → BranchId) where
@@ -56,11 +56,11 @@ abbrev with_lives : Deed → List Live → Deed
 with_lives d ls = record d { after = record d.after { lives = ls } }
 
 -- a branch that leaves
-leaves_as : (k : Kept) (l : Live) (d : Deed) → with_lives d (drop_item live_id (put_item live_id k.lives l) l.me) ≡ with_lives d (drop_item live_id k.lives l.me)
+leaves_as : (k : NodeState) (l : Live) (d : Deed) → with_lives d (drop_item live_id (put_item live_id k.lives l) l.me) ≡ with_lives d (drop_item live_id k.lives l.me)
 leaves_as k l d = ap (with_lives d) (drop_put live_id k.lives l)
 
 -- What a branch does next is the same where it stands among the live branches already as it is from then on.
-pub act_again : (k : Kept) (l : Live) (site_below : Bool) (act : Act) → act_turn (with_live k (after_act l act)) (after_act l act) site_below act ≡ act_turn k l site_below act
+pub act_again : (k : NodeState) (l : Live) (site_below : Bool) (act : Act) → act_turn (with_live k (after_act l act)) (after_act l act) site_below act ≡ act_turn k l site_below act
 act_again k l site_below acts.Rest = ap (with_lives (act_turn k l site_below acts.Rest)) (put_twice live_id k.lives l l refl)
 act_again k l site_below acts.AskDown = ap (with_lives (act_turn k l site_below acts.AskDown)) (put_twice live_id k.lives l l refl)
 act_again k l site_below acts.SayReadOnly = leaves_as k l (act_turn k l site_below acts.SayReadOnly)

@@ -13,7 +13,7 @@ use Rattle.session_tree.specs.declared.live.Phase.TheVariants as phases
 use Rattle.prepare_phase.specs.Acts.{after_act, collecting, first_act, prepare_act_in, prepare_act, after_prepare_in, after_prepare, is_first_answer, voted, answer_act, heard_act_in, heard_act, after_answer_in, after_answer}
 use Rattle.node_state.specs.Changed.{with_item}
 use Rattle.node_state.specs.Lives.{prepared_in, prepared}
-use Rattle.node_rules.specs.Kept.{Kept, Deed, nothing, saying, live_id, live_at, with_live}
+use Rattle.node_rules.specs.NodeState.{NodeState, Deed, nothing, saying, live_id, live_at, with_live}
 use Rattle.node_rules.specs.Prepare.{act_turn, collects, with_comment, without_read_keys, answer_in, on_answer}
 use Rattle.node_commit.specs.Branches.{where_live, at_live, phase_of, begun, answered}
 use Rattle.node_commit.proofs.LiveLemmas.{act_again, stays}
@@ -31,14 +31,14 @@ act_me l acts.Finish = refl
 act_me l acts.Abandon = refl
 
 -- what a branch does next, where it is live
-abbrev turned : Kept → BranchId → Bool → Act → Deed
+abbrev turned : NodeState → BranchId → Bool → Act → Deed
 turned k b site_below act = at_live k b (λ l. act_turn k l site_below act)
 
 -- where this branch was put in its place
-abbrev acted : Kept → BranchId → Bool → Live → Act → Deed
+abbrev acted : NodeState → BranchId → Bool → Live → Act → Deed
 acted k b site_below x act = turned (with_live k x) b site_below act
 
-acted_is : (k : Kept) (b : BranchId) (site_below : Bool) (l : Live) (act : Act) → l.me ≡ b → acted k b site_below (after_act l act) act ≡ act_turn k l site_below act
+acted_is : (k : NodeState) (b : BranchId) (site_below : Bool) (l : Live) (act : Act) → l.me ≡ b → acted k b site_below (after_act l act) act ≡ act_turn k l site_below act
 acted_is k b site_below l act me =
     let x = after_act l act in
     let there : item_at live_id (put_item live_id k.lives x) b ≡ Some x =
@@ -46,11 +46,11 @@ acted_is k b site_below l act me =
     ap (where_live (with_live k x) (λ (y : Live). act_turn (with_live k x) y site_below act)) there ∙ act_again k l site_below act
 
 -- a branch that waits stays as it is
-rest_at : (k : Kept) (b : BranchId) (site_below : Bool) (o : Option Live) → o ≡ live_at k b → where_live k (λ (l : Live). act_turn k l site_below acts.Rest) o ≡ nothing k
+rest_at : (k : NodeState) (b : BranchId) (site_below : Bool) (o : Option Live) → o ≡ live_at k b → where_live k (λ (l : Live). act_turn k l site_below acts.Rest) o ≡ nothing k
 rest_at k b site_below None found = refl
 rest_at k b site_below (Some l) found = ap (λ (ls : List Live). saying (record k { lives = ls }) []) (stays k.lives b l found)
 
-pub rest_is : (k : Kept) (b : BranchId) (site_below : Bool) → at_live k b (λ l. act_turn k l site_below acts.Rest) ≡ nothing k
+pub rest_is : (k : NodeState) (b : BranchId) (site_below : Bool) → at_live k b (λ l. act_turn k l site_below acts.Rest) ≡ nothing k
 rest_is k b site_below = rest_at k b site_below (live_at k b) refl
 
 -- ---- COMMIT or Prepare
@@ -65,7 +65,7 @@ unfolding after_prepare
 begins_as l site_below comment is = ap (prepared_in l site_below comment) is ∙ ap (after_prepare_in (with_comment l comment) site_below) is
 
 -- what a working branch does
-collects_at : (k : Kept) (b : BranchId) (site_below : Bool) (comment : List ℕ) (act : Act) (o : Option Live) → o ≡ live_at k b → option_map (λ (l : Live). l.phase) o ≡ Some phases.Working
+collects_at : (k : NodeState) (b : BranchId) (site_below : Bool) (comment : List ℕ) (act : Act) (o : Option Live) → o ≡ live_at k b → option_map (λ (l : Live). l.phase) o ≡ Some phases.Working
     → Some act ≡ option_map (λ (l : Live). prepare_act (with_comment l comment) site_below) o
     → turned (record (without_read_keys k b) { lives = with_item live_id (prepared site_below comment) k.lives o }) b site_below act
     ≡ where_live k (λ (l : Live). collects k (with_comment l comment) site_below) o
@@ -84,15 +84,15 @@ collects_at k b site_below comment act (Some l) found working is =
     ∙ acted_is calm b site_below begun first me
     ∙ ap (λ (c : BranchId). act_turn (without_read_keys k c) begun site_below first) (sym me)
 
-pub collects_by : (k after : Kept) (b : BranchId) (site_below : Bool) (comment : List ℕ) (act : Act) → after ≡ begun k b site_below comment → phase_of k b ≡ Some phases.Working
+pub collects_by : (k after : NodeState) (b : BranchId) (site_below : Bool) (comment : List ℕ) (act : Act) → after ≡ begun k b site_below comment → phase_of k b ≡ Some phases.Working
     → Some act ≡ option_map (λ (l : Live). prepare_act (with_comment l comment) site_below) (live_at k b)
     → at_live after b (λ l. act_turn after l site_below act) ≡ at_live k b (λ l. collects k (with_comment l comment) site_below)
 collects_by k after b site_below comment act is working acts =
-    ap (λ (j : Kept). turned j b site_below act) is ∙ collects_at k b site_below comment act (live_at k b) refl working acts
+    ap (λ (j : NodeState). turned j b site_below act) is ∙ collects_at k b site_below comment act (live_at k b) refl working acts
 
 -- ---- an answer
 
-heard_if : (k : Kept) (b : BranchId) (site_below : Bool) (l heard : Live) (act : Act) → Some l ≡ live_at k b → heard.me ≡ b → (first : Bool)
+heard_if : (k : NodeState) (b : BranchId) (site_below : Bool) (l heard : Live) (act : Act) → Some l ≡ live_at k b → heard.me ≡ b → (first : Bool)
     → acted k b site_below (if first then after_act heard act else l) (if first then act else acts.Rest) ≡ (if first then act_turn k heard site_below act else nothing k)
 heard_if k b site_below l heard act found me true = acted_is k b site_below heard act me
 heard_if k b site_below l heard act found me false =
@@ -109,7 +109,7 @@ unfolding heard_act
 heard_does l site_below from vote is = ap (heard_act_in l from vote) is
 
 -- what a collecting branch does
-answer_at : (k : Kept) (b : BranchId) (site_below : Bool) (from : BranchId) (vote : Vote) (act : Act) (o : Option Live) → o ≡ live_at k b → option_map (λ (l : Live). l.phase) o ≡ Some (phases.Collecting site_below)
+answer_at : (k : NodeState) (b : BranchId) (site_below : Bool) (from : BranchId) (vote : Vote) (act : Act) (o : Option Live) → o ≡ live_at k b → option_map (λ (l : Live). l.phase) o ≡ Some (phases.Collecting site_below)
     → Some act ≡ option_map (λ (l : Live). heard_act l from vote) o
     → turned (record k { lives = with_item live_id (λ (l : Live). after_answer l from vote) k.lives o }) b site_below act
     ≡ where_live k (λ (l : Live). on_answer k l from vote) o
@@ -127,11 +127,11 @@ answer_at k b site_below from vote act (Some l) found collects is =
     ∙ heard_if k b site_below l heard does found (item_is live_id k.lives b l (sym found)) first
     ∙ ap (answer_in k l from vote) (sym waits)
 
-pub answer_by : (k after : Kept) (b : BranchId) (site_below : Bool) (from : BranchId) (vote : Vote) (act : Act) → after ≡ answered k b from vote → phase_of k b ≡ Some (phases.Collecting site_below)
+pub answer_by : (k after : NodeState) (b : BranchId) (site_below : Bool) (from : BranchId) (vote : Vote) (act : Act) → after ≡ answered k b from vote → phase_of k b ≡ Some (phases.Collecting site_below)
     → Some act ≡ option_map (λ (l : Live). heard_act l from vote) (live_at k b)
     → at_live after b (λ l. act_turn after l site_below act) ≡ at_live k b (λ l. on_answer k l from vote)
 answer_by k after b site_below from vote act is collects acts =
-    ap (λ (j : Kept). turned j b site_below act) is ∙ answer_at k b site_below from vote act (live_at k b) refl collects acts
+    ap (λ (j : NodeState). turned j b site_below act) is ∙ answer_at k b site_below from vote act (live_at k b) refl collects acts
 
 -- a live branch is there
 pub is_there : {A B C : Type 0} (f : A → B) (g : A → C) (o : Option A) (x : B) → option_map f o ≡ Some x → None ≡ option_map g o → ⊥

@@ -2,10 +2,10 @@
 use Rattle.std.proofs.Common.{◌≡◌, ℕ, List, Option, None, Some, refl}
 use Rattle.std.specs.Option.{option_map}
 use Rattle.node_rules.specs.Data.{Standing}
-use Rattle.node_rules.specs.Kept.{Kept}
+use Rattle.node_rules.specs.NodeState.{NodeState}
 use Rattle.node_rules.specs.Force.{hides}
 use Rattle.node_commit.specs.Branches.{hides_named}
 
-pub hides_as : (k : Kept) (session : ℕ) (id : List ℕ) (row : Option Standing) → hides_named k session id (option_map (λ (s : Standing). s.me) row) ≡ hides k session id row
+pub hides_as : (k : NodeState) (session : ℕ) (id : List ℕ) (row : Option Standing) → hides_named k session id (option_map (λ (s : Standing). s.me) row) ≡ hides k session id row
 hides_as k session id None = refl
 hides_as k session id (Some s) = refl

@@ -15,39 +15,39 @@ use Rattle.node_rules.specs.Words.{one}
 use Rattle.node_rules.specs.Refusals.{dtx}
 use Rattle.node_rules.specs.Records.{with_record}
 use Rattle.node_rules.specs.Sessions.{commit_ended}
-use Rattle.node_rules.specs.Kept.{Kept, Deed, nothing, ending, live_id, live_at, standing_at, without_branch}
+use Rattle.node_rules.specs.NodeState.{NodeState, Deed, nothing, ending, live_id, live_at, standing_at, without_branch}
 use Rattle.node_rules.specs.Prepare.{without_read_keys}
 use Rattle.node_memory.specs.declared.memory.Memory.{Memory}
 use Rattle.node_memory.specs.Parts.{kept_in}
 
 -- nothing where the branch is not live
-abbrev pub where_live : Kept → (Live → Deed) → Option Live → Deed
+abbrev pub where_live : NodeState → (Live → Deed) → Option Live → Deed
 where_live k f None = nothing k
 where_live k f (Some l) = f l
 
 -- what is done at a branch where it is live
-abbrev pub at_live : Kept → BranchId → (Live → Deed) → Deed
+abbrev pub at_live : NodeState → BranchId → (Live → Deed) → Deed
 at_live k b f = where_live k f (live_at k b)
 
 -- how far a live branch is in its transaction
-abbrev pub phase_of : Kept → BranchId → Option Phase
+abbrev pub phase_of : NodeState → BranchId → Option Phase
 phase_of k b = option_map (λ l. l.phase) (live_at k b)
 
 -- a branch after COMMIT or Prepare, with the comment of the COMMIT: keys that it only read are given back
-abbrev pub begun : Kept → BranchId → Bool → List ℕ → Kept
+abbrev pub begun : NodeState → BranchId → Bool → List ℕ → NodeState
 begun k b site_below comment = record (without_read_keys k b) { lives = change_item live_id (prepared site_below comment) k.lives b }
 
 -- a branch after a child's answer
-abbrev pub answered : Kept → BranchId → BranchId → Vote → Kept
+abbrev pub answered : NodeState → BranchId → BranchId → Vote → NodeState
 answered k b from vote = record k { lives = change_item live_id (λ l. after_answer l from vote) k.lives b }
 
 -- nothing where the node keeps no row of the branch
-abbrev pub where_kept : Kept → (Standing → Deed) → Option Standing → Deed
+abbrev pub where_kept : NodeState → (Standing → Deed) → Option Standing → Deed
 where_kept k f None = nothing k
 where_kept k f (Some s) = f s
 
 -- what is done at a branch where the node keeps a row of it
-abbrev pub at_kept : Kept → BranchId → (Standing → Deed) → Deed
+abbrev pub at_kept : NodeState → BranchId → (Standing → Deed) → Deed
 at_kept k b f = where_kept k f (standing_at k b)
 
 -- the record of a decision that a kept branch learns: Met where it was forced, with whether the two differ
@@ -56,12 +56,12 @@ learned b d None = records.Ended b d
 learned b d (Some mixed) = records.Met b d mixed
 
 -- what a node keeps after a turn that wrote this
-abbrev pub with_wrote : Kept → Option RedoRecord → Kept
+abbrev pub with_wrote : NodeState → Option RedoRecord → NodeState
 with_wrote k None = k
 with_wrote k (Some r) = with_record k r
 
 -- what a node keeps after a live branch left with this record
-abbrev pub left_by : Kept → BranchId → Option RedoRecord → Kept
+abbrev pub left_by : NodeState → BranchId → Option RedoRecord → NodeState
 left_by k b None = k
 left_by k b (Some r) = with_record (without_branch k b) r
 
@@ -84,7 +84,7 @@ abbrev pub ended_if : Bool → List Session → BranchId → List Session
 ended_if alone ss b = if alone then commit_ended ss b else ss
 
 -- the row of this branch is hidden, or there is none that may be purged: DTX-06
-abbrev pub hides_named : Kept → ℕ → List ℕ → Option BranchId → Deed
+abbrev pub hides_named : NodeState → ℕ → List ℕ → Option BranchId → Deed
 hides_named k session id None = ending k session (answers.Refused (dtx 6 (one id)))
 hides_named k session id (Some b) = record {
   after = with_record k (records.Hidden b);

@@ -3,7 +3,7 @@ ghost use Rattle.std.specs.Prelude.{◌≡◌, ◌+◌, ◌-◌, ◌^◌, ◌<�
 ghost use Rattle.dtx_values.specs.Limits.{branch_limit};
 ghost use Rattle.redo_record.specs.declared.record.RedoRecord.TheVariants as records;
 ghost use Rattle.node_rules.specs.Data.kinds as kinds;
-ghost use Rattle.node_rules.specs.Kept.{to_each as to_each_of};
+ghost use Rattle.node_rules.specs.NodeState.{to_each as to_each_of};
 ghost use Rattle.node_rules.specs.Prepare.{own_changes, decided_of, decides as decides_of, site_neighbors as site_neighbors_of, is_alone as is_alone_of};
 ghost use Rattle.node_rules.specs.Sessions.{commit_answer, commit_complete as commit_complete_of};
 ghost use Rattle.node_memory.specs.Parts.{kept_in};

@@ -1,6 +1,6 @@
 //! A COMMIT that is given up.
 ghost use Rattle.std.specs.Prelude.{◌≡◌, None, IfOk};
-ghost use Rattle.node_rules.specs.Kept.{live_at as live_at_of};
+ghost use Rattle.node_rules.specs.NodeState.{live_at as live_at_of};
 ghost use Rattle.node_rules.specs.Client.{commit_given_up as commit_given_up_of};
 ghost use Rattle.node_memory.specs.Parts.{kept_in};
 ghost use Rattle.node_deeds.specs.Gives.{Gives};

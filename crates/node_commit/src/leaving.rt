@@ -1,7 +1,7 @@
 //! A live branch that rolls back, or leaves without a record.
 ghost use Rattle.std.specs.Prelude.{◌≡◌, None, IfOk};
 ghost use Rattle.node_rules.specs.Data.kinds as kinds;
-ghost use Rattle.node_rules.specs.Kept.{saying, to_one as to_one_of, without_branch};
+ghost use Rattle.node_rules.specs.NodeState.{saying, to_one as to_one_of, without_branch};
 ghost use Rattle.node_rules.specs.Prepare.{drops as drops_of, root_drops as root_drops_of, to_children as to_children_of, abandons as abandons_of, finishes as finishes_of};
 ghost use Rattle.node_rules.specs.Sessions.{commit_answer as commit_answer_of};
 ghost use Rattle.node_memory.specs.Parts.{kept_in};

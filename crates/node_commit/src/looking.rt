@@ -2,7 +2,7 @@
 ghost use Rattle.std.specs.Prelude.{◌≡◌, IfSome};
 ghost use Rattle.std.specs.Option.{option_copied};
 ghost use Rattle.tran_ids.specs.Listed.{put_item};
-ghost use Rattle.node_rules.specs.Kept.{live_id, live_at as live_at_of};
+ghost use Rattle.node_rules.specs.NodeState.{live_id, live_at as live_at_of};
 ghost use Rattle.node_state.specs.Lives.{HasRoom};
 ghost use Rattle.node_memory.specs.Parts.{kept_in};
 

@@ -5,7 +5,7 @@ ghost use Rattle.std.specs.Option.{option_map};
 ghost use Rattle.tran_ids.specs.declared.branch.BranchId.{BranchId as BranchIdBy};
 ghost use Rattle.prepare_phase.specs.Acts.{prepare_act, heard_act};
 ghost use Rattle.node_rules.specs.Data.acts as acts;
-ghost use Rattle.node_rules.specs.Kept.{Kept, live_at as live_at_of};
+ghost use Rattle.node_rules.specs.NodeState.{NodeState, live_at as live_at_of};
 ghost use Rattle.node_rules.specs.Prepare.{act_turn as act_turn_of, collects as collects_of, with_comment, on_prepare as on_prepare_of, on_answer as on_answer_of, on_commit_point as on_commit_point_of};
 ghost use Rattle.node_memory.specs.Parts.{kept_in};
 ghost use Rattle.node_deeds.specs.Gives.{Gives};
@@ -26,7 +26,7 @@ use wire_msg::Kind;
 
 // A branch that waits stays as it is.
 fn rests(alloc: Global) -> Deed
-    ensures { (k : Kept) (b : BranchIdBy) (site_below : Bool) → Gives (at_live k b (λ l. act_turn_of k l site_below acts.Rest)) k result }
+    ensures { (k : NodeState) (b : BranchIdBy) (site_below : Bool) → Gives (at_live k b (λ l. act_turn_of k l site_below acts.Rest)) k result }
 {
     Deed::nothing(alloc)
 }

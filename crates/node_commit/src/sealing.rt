@@ -4,7 +4,7 @@ ghost use Rattle.dtx_values.specs.Limits.{branch_limit};
 ghost use Rattle.row_store.specs.Store.{is_in_doubt};
 ghost use Rattle.session_tree.specs.Live.{peer_of as peer_of_number};
 ghost use Rattle.node_rules.specs.Data.kinds as kinds;
-ghost use Rattle.node_rules.specs.Kept.{to_one as to_one_of};
+ghost use Rattle.node_rules.specs.NodeState.{to_one as to_one_of};
 ghost use Rattle.node_rules.specs.Prepare.{seals as seals_of, sealed_record as sealed_record_of};
 ghost use Rattle.node_memory.specs.Parts.{kept_in};
 ghost use Rattle.node_memory.specs.Leaving.{IsOwnSeal};

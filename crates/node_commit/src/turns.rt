@@ -1,6 +1,6 @@
 //! Messages of the prepare, commit and forget phases and of recovery, by what their branch is at the node: live, kept or gone.
 ghost use Rattle.std.specs.Prelude.{◌≡◌, IfOk};
-ghost use Rattle.node_rules.specs.Kept.{saying, post as post_of};
+ghost use Rattle.node_rules.specs.NodeState.{saying, post as post_of};
 ghost use Rattle.node_rules.specs.Turn.{stand_of, prepare_turn as prepare_turn_of, answer_turn as answer_turn_of, commit_point_turn as commit_point_turn_of, committed_turn as committed_turn_of, rollback_turn as rollback_turn_of, rolled_back_turn as rolled_back_turn_of, ack_turn as ack_turn_of, forgotten_turn as forgotten_turn_of, ask_turn as ask_turn_of};
 ghost use Rattle.node_memory.specs.Parts.{kept_in};
 ghost use Rattle.node_deeds.specs.Gives.{Gives};

@@ -7,7 +7,7 @@ use Rattle.row_store.specs.Store.{is_in_doubt}
 use Rattle.node_rules.specs.Data.{Stmt, RedoRecord, Live, Msg, Place, Input}
 use Rattle.node_rules.specs.declared.session.Finished.{Finished}
 use Rattle.node_rules.specs.Data.inputs
-use Rattle.node_rules.specs.Kept.{Kept, live_id, live_at}
+use Rattle.node_rules.specs.NodeState.{NodeState, live_id, live_at}
 use Rattle.node_rules.specs.Inputs.{IsSession}
 use Rattle.node_rules.specs.Sessions.{session_at}
 use Rattle.node_rules.specs.Calls.{next_child}
@@ -78,7 +78,7 @@ may_commit law m able b = may_commit_by law m able b (live_at (kept_in m) b) ref
 -- ---- turns
 
 -- a node that has heard a message
-raised_able : (p : Place) (k : Kept) (m : Msg) → MayTake p k (inputs.Message m) → IsAble p (clock_raised_by k m)
+raised_able : (p : Place) (k : NodeState) (m : Msg) → MayTake p k (inputs.Message m) → IsAble p (clock_raised_by k m)
 raised_able p k m may =
     let scns = may.scns in
     let clock = may.able.clock in
@@ -94,13 +94,13 @@ raised_able p k m may =
 
 pub able_heard : (m n : Memory) (msg : Msg) → MayTake m.place (kept_in m) (inputs.Message msg) → kept_in n ≡ clock_raised_by (kept_in m) msg → n.place ≡ m.place → IsAble n.place (kept_in n)
 able_heard m n msg may kept place =
-    subst (λ (p : Place). IsAble p (kept_in n)) (sym place) (subst (λ (k : Kept). IsAble m.place k) (sym kept) (raised_able m.place (kept_in m) msg may))
+    subst (λ (p : Place). IsAble p (kept_in n)) (sym place) (subst (λ (k : NodeState). IsAble m.place k) (sym kept) (raised_able m.place (kept_in m) msg may))
 
 pub ready_again : TurnsStayReady → (m n : Memory) (input : Input) (served : Served) → MayTake m.place (kept_in m) input → Serves (turn_of m.place (kept_in m) input) (kept_in n) served → n.place ≡ m.place
     → IsReady n.place (kept_in n)
 ready_again law m n input served may serves place =
     subst (λ (p : Place). IsReady p (kept_in n)) (sym place)
-    (subst (λ (k : Kept). IsReady m.place k) (sym serves.after) (law m.place (kept_in m) input may.expected may.able.ready).0)
+    (subst (λ (k : NodeState). IsReady m.place k) (sym serves.after) (law m.place (kept_in m) input may.expected may.able.ready).0)
 
 pub may_follow : TurnsStayReady → (m n : Memory) (input : Input) (served : Served) → MayTake m.place (kept_in m) input → Serves (turn_of m.place (kept_in m) input) (kept_in n) served
     → IfSome served.wrote (IsNext (stored_in m))
@@ -108,5 +108,5 @@ may_follow law m n input served may serves =
     subst (λ (wrote : Option RedoRecord). IfSome wrote (IsNext (stored_in m))) (sym serves.wrote) (law m.place (kept_in m) input may.expected may.able.ready).1
 
 -- a call that is refused
-pub refused_so : RefusedCallsLeaveAll → (p : Place) (k new : Kept) (input : Input) (served : Served) → Serves (turn_of p k input) new served → IsRefused input served.ended → LeavesAll k (turn_of p k input)
+pub refused_so : RefusedCallsLeaveAll → (p : Place) (k new : NodeState) (input : Input) (served : Served) → Serves (turn_of p k input) new served → IsRefused input served.ended → LeavesAll k (turn_of p k input)
 refused_so law p k new input served serves refused = law p k input (subst (λ (ended : List Finished). IsRefused input ended) serves.ended refused)

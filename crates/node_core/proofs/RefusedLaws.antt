@@ -14,7 +14,7 @@ use Rattle.session_tree.specs.Tree.{step}
 use Rattle.prepare_phase.specs.Acts.{root_act, first_act_by}
 use Rattle.node_rules.specs.Names.{Way, Runs_here, Over, Through, Nowhere_to, way_of}
 use Rattle.node_rules.specs.Statement.{Ran, Refuses, Reads, Writes, node_after_run, after_run, answer_of_run, ran}
-use Rattle.node_rules.specs.Kept.{Kept, Deed, Branch}
+use Rattle.node_rules.specs.NodeState.{NodeState, Deed, Branch}
 use Rattle.node_rules.specs.Sessions.{commit_is_pending, commit_complete, session_at, tran_refusal, with_call}
 use Rattle.node_rules.specs.Calls.{answer_ends, answered, goes}
 use Rattle.node_rules.specs.Prepare.{act_turn, is_alone, collecting, with_comment, without_read_keys}
@@ -27,7 +27,7 @@ use Rattle.node_core.specs.Refused.{LeavesAll, IsRefused, RefusedCallsLeaveAll}
 abbrev Says : ℕ → List Finished → Type 0
 Says n ended = (refusal : Refusal) × (ended ≡ (record { session = n; answer = answers.Refused refusal }) ∷ [])
 
-record Leaves (k : Kept) (d : Deed) : Type 0 where
+record Leaves (k : NodeState) (d : Deed) : Type 0 where
   stored : d.after.stored ≡ k.stored
   owns : d.after.owns ≡ k.owns
   locks : d.after.locks ≡ k.locks
@@ -74,25 +74,25 @@ none_ends n says = let is : None ≡ Some (answers.Refused says.0) = told n [] s
 
 -- ---- statements of a table
 
-run_leaves : (k : Kept) (x : Branch) (t : Table) (r : Ran) (n : ℕ) → Says n (answered (node_after_run k x.live.me t r) (record x { live = after_run x.live r }) (answer_of_run r)).ended
+run_leaves : (k : NodeState) (x : Branch) (t : Table) (r : Ran) (n : ℕ) → Says n (answered (node_after_run k x.live.me t r) (record x { live = after_run x.live r }) (answer_of_run r)).ended
     → Leaves k (answered (node_after_run k x.live.me t r) (record x { live = after_run x.live r }) (answer_of_run r))
 run_leaves k x t (Refuses refusal) n says = record { stored = refl; owns = refl; locks = refl; wrote = refl }
 run_leaves k x t (Reads rows keys) n says = let is : answers.Found rows ≡ answers.Refused says.0 = ends_so (after_run x.live (Reads rows keys)) (answers.Found rows) x.live.parent n says in absurd cc
 run_leaves k x t (Writes d cs keys undo) n says = let is : answers.Did d (length cs) ≡ answers.Refused says.0 = ends_so (after_run x.live (Writes d cs keys undo)) (answers.Did d (length cs)) x.live.parent n says in absurd cc
 
-goes_leaves : (p : Place) (k : Kept) (x : Branch) (s : Stmt) (given : ℕ) (way : Way) (n : ℕ) → Says n (goes p k x s given way).ended → Leaves k (goes p k x s given way)
+goes_leaves : (p : Place) (k : NodeState) (x : Branch) (s : Stmt) (given : ℕ) (way : Way) (n : ℕ) → Says n (goes p k x s given way).ended → Leaves k (goes p k x s given way)
 goes_leaves p k x s given (Runs_here t) n says = run_leaves k x t (ran p k x.live.me s t) n says
 goes_leaves p k x s given (Nowhere_to refusal) n says = record { stored = refl; owns = refl; locks = refl; wrote = refl }
 goes_leaves p k x s given (Over i table) n says = record { stored = refl; owns = refl; locks = refl; wrote = refl }
 goes_leaves p k x s given (Through node link table) n says = record { stored = refl; owns = refl; locks = refl; wrote = refl }
 
-statement_leaves : (p : Place) (k : Kept) (n : ℕ) (s : Stmt) (code : Option ℕ) (root : Option Branch) → Says n (statement_by p k n s code root).ended → Leaves k (statement_by p k n s code root)
+statement_leaves : (p : Place) (k : NodeState) (n : ℕ) (s : Stmt) (code : Option ℕ) (root : Option Branch) → Says n (statement_by p k n s code root).ended → Leaves k (statement_by p k n s code root)
 statement_leaves p k n s code None says = record { stored = refl; owns = refl; locks = refl; wrote = refl }
 statement_leaves p k n s (Some c) (Some x) says = record { stored = refl; owns = refl; locks = refl; wrote = refl }
 statement_leaves p k n s None (Some x) says = goes_leaves p k x s 0 (way_of p k.stored.durable x.live 0 s) n says
 
 -- a session without a transaction begins one first, which changes no row
-call_leaves : (p : Place) (k : Kept) (n : ℕ) (s : Stmt) → Says n (statement_call p (begun p k n) n s).ended → Leaves k (statement_call p (begun p k n) n s)
+call_leaves : (p : Place) (k : NodeState) (n : ℕ) (s : Stmt) → Says n (statement_call p (begun p k n) n s).ended → Leaves k (statement_call p (begun p k n) n s)
 call_leaves p k n s says =
     let own = statement_leaves p (begun p k n) n s (session_at (begun p k n).sessions n).code (root_at (begun p k n) n) says in
     record { stored = own.stored; owns = own.owns; locks = own.locks; wrote = own.wrote }
@@ -121,7 +121,7 @@ act_first : (l : Live) (es : List Edge) → IsFirst (first_act_by l true es)
 act_first l [] = collected_first (step l) (is_none l.parent)
 act_first l (e ∷ es) = tt
 
-acts_refuse_none : (k : Kept) (l : Live) (a : Act) (n : ℕ) → IsFirst a → Says n (act_turn k l true a).ended → ⊥
+acts_refuse_none : (k : NodeState) (l : Live) (a : Act) (n : ℕ) → IsFirst a → Says n (act_turn k l true a).ended → ⊥
 acts_refuse_none k l acts.AskDown n first says = none_ends n says
 acts_refuse_none k l acts.SayReady n first says = none_ends n says
 acts_refuse_none k l (acts.SealAndPass i) n first says = none_ends n says
@@ -132,7 +132,7 @@ acts_refuse_none k l acts.SayReadOnly n first says = absurd first
 acts_refuse_none k l acts.Seal n first says = absurd first
 acts_refuse_none k l acts.Abandon n first says = absurd first
 
-commit_leaves : (k : Kept) (n : ℕ) (comment : List ℕ) (code : Option ℕ) (root : Option Branch) → Says n (commit_by k n comment code root).ended → Leaves k (commit_by k n comment code root)
+commit_leaves : (k : NodeState) (n : ℕ) (comment : List ℕ) (code : Option ℕ) (root : Option Branch) → Says n (commit_by k n comment code root).ended → Leaves k (commit_by k n comment code root)
 commit_leaves k n comment code None says = absurd (did_not n n dones.Committed 0 says)
 commit_leaves k n comment (Some c) (Some x) says = record { stored = refl; owns = refl; locks = refl; wrote = refl }
 commit_leaves k n comment None (Some x) says =
@@ -142,32 +142,32 @@ commit_leaves k n comment None (Some x) says =
 
 -- ---- other statements
 
-made_leaves : (k : Kept) (n : ℕ) (used : Bool) (refusal : Refusal) (r : RedoRecord) (d : Done) → Says n (if used then refuses k n refusal else writes k n r d).ended → Leaves k (if used then refuses k n refusal else writes k n r d)
+made_leaves : (k : NodeState) (n : ℕ) (used : Bool) (refusal : Refusal) (r : RedoRecord) (d : Done) → Says n (if used then refuses k n refusal else writes k n r d).ended → Leaves k (if used then refuses k n refusal else writes k n r d)
 made_leaves k n true refusal r d says = record { stored = refl; owns = refl; locks = refl; wrote = refl }
 made_leaves k n false refusal r d says = absurd (did_not n n d 0 says)
 
-forces_commit : (k : Kept) (n : ℕ) (scn : Option ℕ) (found : Result BranchId Refusal) → Says n (force_commit k n scn found).ended → Leaves k (force_commit k n scn found)
+forces_commit : (k : NodeState) (n : ℕ) (scn : Option ℕ) (found : Result BranchId Refusal) → Says n (force_commit k n scn found).ended → Leaves k (force_commit k n scn found)
 forces_commit k n scn (Err refusal) says = record { stored = refl; owns = refl; locks = refl; wrote = refl }
 forces_commit k n (Some m) (Ok b) says = absurd (forced_not b.session n (tran_refusal 2054 b) dones.Committed (commit_is_pending k.sessions b) says)
 forces_commit k n None (Ok b) says = absurd (forced_not b.session n (tran_refusal 2054 b) dones.Committed (commit_is_pending k.sessions b) says)
 
-forces_rollback : (k : Kept) (n : ℕ) (found : Result BranchId Refusal) → Says n (force_rollback k n found).ended → Leaves k (force_rollback k n found)
+forces_rollback : (k : NodeState) (n : ℕ) (found : Result BranchId Refusal) → Says n (force_rollback k n found).ended → Leaves k (force_rollback k n found)
 forces_rollback k n (Err refusal) says = record { stored = refl; owns = refl; locks = refl; wrote = refl }
 forces_rollback k n (Ok b) says = absurd (forced_not b.session n (tran_refusal 2054 b) dones.RolledBack (commit_is_pending k.sessions b) says)
 
-hides_leaves : (k : Kept) (n : ℕ) (id : List ℕ) (found : Option Standing) → Says n (hides k n id found).ended → Leaves k (hides k n id found)
+hides_leaves : (k : NodeState) (n : ℕ) (id : List ℕ) (found : Option Standing) → Says n (hides k n id found).ended → Leaves k (hides k n id found)
 hides_leaves k n id None says = record { stored = refl; owns = refl; locks = refl; wrote = refl }
 hides_leaves k n id (Some s) says = absurd (did_not n n dones.Purged 0 says)
 
-purge_leaves : (k : Kept) (n : ℕ) (mixed : Bool) (id : List ℕ) → Says n (purge k n mixed id).ended → Leaves k (purge k n mixed id)
+purge_leaves : (k : NodeState) (n : ℕ) (mixed : Bool) (id : List ℕ) → Says n (purge k n mixed id).ended → Leaves k (purge k n mixed id)
 unfolding purge
 purge_leaves k n mixed id says = hides_leaves k n id (find (may_purge mixed id) k.stored.durable.kept) says
 
-rolls_back : (k : Kept) (n : ℕ) (root : Option Branch) → Says n (rollback_by k n root).ended → Leaves k (rollback_by k n root)
+rolls_back : (k : NodeState) (n : ℕ) (root : Option Branch) → Says n (rollback_by k n root).ended → Leaves k (rollback_by k n root)
 rolls_back k n None says = absurd (did_not n n dones.RolledBack 0 says)
 rolls_back k n (Some x) says = absurd (did_not n n dones.RolledBack 0 says)
 
-turn_leaves : (p : Place) (k : Kept) (n : ℕ) (s : Stmt) → Says n (call_turn p k n s).ended → Leaves k (call_turn p k n s)
+turn_leaves : (p : Place) (k : NodeState) (n : ℕ) (s : Stmt) → Says n (call_turn p k n s).ended → Leaves k (call_turn p k n s)
 turn_leaves p k n (stmts.CreateTable t) says = made_leaves k n (is_used k.stored.durable t.name) _ _ _ says
 turn_leaves p k n (stmts.CreateLink l) says = made_leaves k n (is_link k.stored.durable l.name) _ _ _ says
 turn_leaves p k n (stmts.CreateSynonym y) says = made_leaves k n (is_used k.stored.durable y.name) _ _ _ says
@@ -184,7 +184,7 @@ turn_leaves p k n (stmts.Recovery on) says = absurd (did_not n n dones.SystemAlt
 turn_leaves p k n (stmts.PurgeMixed id) says = purge_leaves k n true id says
 turn_leaves p k n (stmts.PurgeLost id) says = purge_leaves k n false id says
 
-read_leaves : (p : Place) (k : Kept) (n : ℕ) (s : Option Stmt) → Says n (read_turn p k n s).ended → Leaves k (read_turn p k n s)
+read_leaves : (p : Place) (k : NodeState) (n : ℕ) (s : Option Stmt) → Says n (read_turn p k n s).ended → Leaves k (read_turn p k n s)
 read_leaves p k n None says = record { stored = refl; owns = refl; locks = refl; wrote = refl }
 read_leaves p k n (Some s) says = turn_leaves p k n s says
 

@@ -6,7 +6,7 @@ use Rattle.node_rules.specs.Data.{Stmt, Place, Input}
 use Rattle.node_rules.specs.Data.stmts
 use Rattle.node_rules.specs.Data.inputs
 use Rattle.node_rules.specs.Data.phases
-use Rattle.node_rules.specs.Kept.{Kept}
+use Rattle.node_rules.specs.NodeState.{NodeState}
 use Rattle.node_rules.specs.Client.{root_at}
 use Rattle.node_rules.specs.Turn.{kind_scn}
 use Rattle.node_ready_laws.specs.Ready.{IsReady, IsExpected}
@@ -17,7 +17,7 @@ given_limit = 4294967230
 
 -- A node that can take a turn: it is ready, it is one of few nodes and has few links, and the numbers that it has given out and
 -- its clock are below their limits.
-pub record IsAble (p : Place) (k : Kept) : Type 0 where
+pub record IsAble (p : Place) (k : NodeState) : Type 0 where
   pub ready : IsReady p k
   pub nodes : length p.names ≤ node_limit
   pub links : p.links ≤ link_limit
@@ -32,17 +32,17 @@ BringsScns (inputs.Message m) = max m.scn (kind_scn m.kind) < 2 ^ 48 - 1
 BringsScns _ = Unit {0}
 
 -- a COMMIT comes to a live root while that works: none is pending, and nobody has sent it Prepare
-abbrev pub EndsWork : Kept → ℕ → Stmt → Type 0
+abbrev pub EndsWork : NodeState → ℕ → Stmt → Type 0
 EndsWork k n (stmts.Commit comment) = IfSome (root_at k n) (λ x. x.live.phase ≡ phases.Working)
 EndsWork k n _ = Unit {0}
 
 -- so it is with a call that is one
-abbrev pub BringsCommit : Kept → Input → Type 0
+abbrev pub BringsCommit : NodeState → Input → Type 0
 BringsCommit k (inputs.Call n s) = IfSome s (EndsWork k n)
 BringsCommit k _ = Unit {0}
 
 -- A node that can take this in its next turn.
-pub record MayTake (p : Place) (k : Kept) (input : Input) : Type 0 where
+pub record MayTake (p : Place) (k : NodeState) (input : Input) : Type 0 where
   pub able : IsAble p k
   pub expected : IsExpected input
   pub scns : BringsScns input

@@ -4,11 +4,11 @@ use Rattle.node_rules.specs.Data.{Refusal, RedoRecord, Place, Input}
 use Rattle.node_rules.specs.declared.session.Finished.{Finished}
 use Rattle.node_rules.specs.Data.answers
 use Rattle.node_rules.specs.Data.inputs
-use Rattle.node_rules.specs.Kept.{Kept, Outcome}
+use Rattle.node_rules.specs.NodeState.{NodeState, Outcome}
 use Rattle.node_rules.specs.Turn.{turn_of}
 
 -- A turn that changes no row and no lock, neither what is committed nor what a branch has changed, and writes no record.
-pub record LeavesAll (k : Kept) (o : Outcome) : Type 0 where
+pub record LeavesAll (k : NodeState) (o : Outcome) : Type 0 where
   pub stored : o.after.stored ≡ k.stored
   pub owns : o.after.owns ≡ k.owns
   pub locks : o.after.locks ≡ k.locks
@@ -21,4 +21,4 @@ IsRefused _ ended = ⊥
 
 -- a call that is refused in the turn in which it came leaves all as it is
 abbrev pub RefusedCallsLeaveAll : Type 0
-RefusedCallsLeaveAll = (p : Place) (k : Kept) (input : Input) → IsRefused input (turn_of p k input).ended → LeavesAll k (turn_of p k input)
+RefusedCallsLeaveAll = (p : Place) (k : NodeState) (input : Input) → IsRefused input (turn_of p k input).ended → LeavesAll k (turn_of p k input)

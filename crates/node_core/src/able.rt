@@ -3,7 +3,7 @@ ghost use Rattle.std.specs.Prelude.{◌≡◌, ◌+◌, ◌<◌, ◌≤◌, ◌^
 ghost use Rattle.tran_ids.specs.Listed.{item_at};
 ghost use Rattle.sql_statement.specs.declared.statement.Stmt.{Stmt as StmtBy};
 ghost use Rattle.tran_ids.specs.declared.branch.BranchId.{BranchId as BranchIdBy};
-ghost use Rattle.node_rules.specs.Kept.{live_id};
+ghost use Rattle.node_rules.specs.NodeState.{live_id};
 ghost use Rattle.node_rules.specs.Inputs.{IsSession};
 ghost use Rattle.node_rules.specs.Sessions.{session_at};
 ghost use Rattle.node_rules.specs.Calls.{next_child};

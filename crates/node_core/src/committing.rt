@@ -1,6 +1,6 @@
 //! COMMIT in a session.
 ghost use Rattle.std.specs.Prelude.{◌≡◌, unwrap_or, [], None, Some, IfOk, IfSome};
-ghost use Rattle.node_rules.specs.Kept.{branch_at};
+ghost use Rattle.node_rules.specs.NodeState.{branch_at};
 ghost use Rattle.node_rules.specs.Sessions.{session_at};
 ghost use Rattle.node_rules.specs.Client.{commit_by, commit_call as commit_call_of};
 ghost use Rattle.node_memory.specs.Parts.{kept_in};

@@ -1,6 +1,6 @@
 //! What a turn does beside changing what the node keeps.
 ghost use Rattle.std.specs.Prelude.{◌≡◌, IfOk};
-ghost use Rattle.node_rules.specs.Kept.{Deed as DeedByRules};
+ghost use Rattle.node_rules.specs.NodeState.{Deed as DeedByRules};
 ghost use Rattle.node_rules.specs.Turn.{outcome_of};
 ghost use Rattle.node_memory.specs.Parts.{kept_in};
 ghost use Rattle.node_deeds.specs.Gives.{Gives};

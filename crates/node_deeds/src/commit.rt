@@ -1,6 +1,6 @@
 //! What a kept branch says to those beyond, and to the neighbour toward the commit point site.
 ghost use Rattle.std.specs.Prelude.{◌≡◌, map, IfOk};
-ghost use Rattle.node_rules.specs.Kept.{to_each};
+ghost use Rattle.node_rules.specs.NodeState.{to_each};
 ghost use Rattle.node_rules.specs.Commit.{to_beyond as to_beyond_of, passes_commit as passes_commit_of, rollback_to as rollback_to_of, passes as passes_of};
 
 use crate::posts::{post_one, to_one};

@@ -1,6 +1,6 @@
 //! What a turn does beside changing what the node keeps.
 ghost use Rattle.std.specs.Prelude.{◌≡◌, None, Some, [], ◌∷◌, IfOk};
-ghost use Rattle.node_rules.specs.Kept.{Kept, nothing as nothing_of, saying as saying_of, ending as ending_of};
+ghost use Rattle.node_rules.specs.NodeState.{NodeState, nothing as nothing_of, saying as saying_of, ending as ending_of};
 ghost use Rattle.node_deeds.specs.Gives.{Gives};
 
 use crate::answers::ended;
@@ -25,7 +25,7 @@ impl Deed {
     /// Nothing is done.
     pub fn nothing(alloc: Global) -> Deed
         ensures is { result ≡ record { wrote = None; says = []; ended = [] } }
-        ensures gives { (k : Kept) → Gives (nothing_of k) k result }
+        ensures gives { (k : NodeState) → Gives (nothing_of k) k result }
     {
         Deed::saying(alloc, Listing::new(alloc))
     }
@@ -33,7 +33,7 @@ impl Deed {
     /// Only messages are sent.
     pub fn saying(alloc: Global, says: Posts) -> Deed
         ensures is { result ≡ record { wrote = None; says = says; ended = [] } }
-        ensures gives { (k : Kept) → Gives (saying_of k says) k result }
+        ensures gives { (k : NodeState) → Gives (saying_of k says) k result }
     {
         Deed {
             wrote: None,
@@ -45,7 +45,7 @@ impl Deed {
     /// Only a session's call ends. Fails where memory runs out.
     pub fn ending(alloc: Global, session: u32, answer: Answer) -> Result<Deed, AllocError>
         ensures is { IfOk result (λ deed. deed ≡ record { wrote = None; says = []; ended = (record { session = session; answer = answer }) ∷ [] }) }
-        ensures gives { IfOk result (λ deed. (k : Kept) → Gives (ending_of k session answer) k deed) }
+        ensures gives { IfOk result (λ deed. (k : NodeState) → Gives (ending_of k session answer) k deed) }
     {
         let ended = ended(alloc, session, answer)?;
         Ok(Deed {

@@ -1,6 +1,6 @@
 //! What a kept branch answers without a change: an Ask, a CommitPoint, a Prepare that comes again.
 ghost use Rattle.std.specs.Prelude.{◌≡◌, IfOk};
-ghost use Rattle.node_rules.specs.Kept.{Kept};
+ghost use Rattle.node_rules.specs.NodeState.{NodeState};
 ghost use Rattle.node_rules.specs.Commit.{commit_point_known as commit_point_known_of, on_commit_point_kept as on_commit_point_kept_of, on_prepare_kept as on_prepare_kept_of};
 ghost use Rattle.node_rules.specs.Recovery.{on_ask_kept as on_ask_kept_of};
 ghost use Rattle.node_deeds.specs.Gives.{Gives};
@@ -20,7 +20,7 @@ pub fn on_commit_point_kept(
     row: &Standing,
     from: BranchId,
 ) -> Result<Deed, AllocError>
-    ensures { IfOk result (λ deed. (k : Kept) → Gives (on_commit_point_kept_of k row.now from) k deed) }
+    ensures { IfOk result (λ deed. (k : NodeState) → Gives (on_commit_point_kept_of k row.now from) k deed) }
 {
     match row.decision {
         None => Ok(Deed::nothing(alloc)),
@@ -38,7 +38,7 @@ pub fn on_commit_point_kept(
 /// Prepare at a kept branch: it is Prepared still, where its parent asks again and it knows no decision. Fails where memory
 /// runs out.
 pub fn on_prepare_kept(alloc: Global, row: &Standing, from: BranchId) -> Result<Deed, AllocError>
-    ensures { IfOk result (λ deed. (k : Kept) → Gives (on_prepare_kept_of k row.now from) k deed) }
+    ensures { IfOk result (λ deed. (k : NodeState) → Gives (on_prepare_kept_of k row.now from) k deed) }
 {
     if is_asked_again(row, &from) {
         let says = post(alloc, row.me, from, Kind::Prepared)?;
@@ -50,7 +50,7 @@ pub fn on_prepare_kept(alloc: Global, row: &Standing, from: BranchId) -> Result<
 
 /// Ask at a kept branch: it tells its neighbours what it knows. Fails where memory runs out.
 pub fn on_ask_kept(alloc: Global, row: &Standing, from: BranchId) -> Result<Deed, AllocError>
-    ensures { IfOk result (λ deed. (k : Kept) → Gives (on_ask_kept_of k row.now from) k deed) }
+    ensures { IfOk result (λ deed. (k : NodeState) → Gives (on_ask_kept_of k row.now from) k deed) }
 {
     let says = post(alloc, row.me, from, kept_told(row, &from).kind())?;
     Ok(Deed::saying(alloc, says))

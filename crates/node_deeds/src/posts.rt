@@ -1,7 +1,7 @@
 //! Messages of a turn.
 ghost use Rattle.std.specs.Prelude.{◌≡◌, map, take, IfOk};
 ghost use Rattle.reco.specs.Asks.{post_one as post_one_of, to_each as to_each_of, to_one as to_one_of};
-ghost use Rattle.node_rules.specs.Kept.{post as post_of};
+ghost use Rattle.node_rules.specs.NodeState.{post as post_of};
 
 use dtx_values::{Duplicate, Listing};
 use reco::{Post, Posts};

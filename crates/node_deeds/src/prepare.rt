@@ -3,7 +3,7 @@ ghost use Rattle.std.specs.Prelude.{◌≡◌, ◌++◌, ◌≤◌, map, length,
 ghost use Rattle.dtx_values.specs.Limits.{branch_limit};
 ghost use Rattle.session_tree.specs.Tree.{step};
 ghost use Rattle.node_rules.specs.Data.kinds as kinds;
-ghost use Rattle.node_rules.specs.Kept.{to_each, to_one as to_one_of};
+ghost use Rattle.node_rules.specs.NodeState.{to_each, to_one as to_one_of};
 ghost use Rattle.node_rules.specs.Prepare.{path_of, prepare_to as prepare_to_of, prepares as prepares_of, to_children as to_children_of};
 
 use crate::posts::{post_one, to_one};

@@ -2,7 +2,7 @@
 ghost use Rattle.std.specs.Prelude.{◌≡◌, ◌≤◌, length, IfOk};
 ghost use Rattle.dtx_values.specs.Limits.{branch_limit};
 ghost use Rattle.redo_record.specs.declared.record.RedoRecord.TheVariants as records;
-ghost use Rattle.node_rules.specs.Kept.{Kept};
+ghost use Rattle.node_rules.specs.NodeState.{NodeState};
 ghost use Rattle.node_rules.specs.Prepare.{own_changes, sealed_of as sealed_of_branch, decided_of as decided_of_branch};
 
 use dtx_values::Changes;

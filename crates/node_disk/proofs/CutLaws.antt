@@ -3,7 +3,7 @@ use Rattle.std.proofs.Common.{◌≡◌, ◌≤◌, ℕ, false, List, Option, So
 use Rattle.std.specs.Prelude.{option_map, Result, Ok, Err, IfErr}
 use Rattle.block_disk.specs.Images.{AtEachMoment, IsOnly, AddsNone}
 use Rattle.node_rules.specs.Data.{Place}
-use Rattle.node_rules.specs.Kept.{Kept}
+use Rattle.node_rules.specs.NodeState.{NodeState}
 use Rattle.node_rules.specs.Points.{Point, passes}
 use Rattle.node_rules.specs.Turn.{turn_of}
 use Rattle.node_points.specs.declared.places.Passes.{Passes}
@@ -26,7 +26,7 @@ goes_uncut points None before after = tt
 goes_uncut points (Some p) before after = record { before = before; after = after }
 
 -- what a cut turn gives is what the rules say of it
-is_cut : (k new : Kept) (place : Place) (incoming : Incoming) (e : Effects) (err : TurnErr) → IsReadAs incoming e.input → Tells (turn_of place k e.input) new e → TellsPasses k (turn_of place k e.input) e → CutsShort e err
+is_cut : (k new : NodeState) (place : Place) (incoming : Incoming) (e : Effects) (err : TurnErr) → IsReadAs incoming e.input → Tells (turn_of place k e.input) new e → TellsPasses k (turn_of place k e.input) e → CutsShort e err
     → IsCut k place incoming err
 is_cut k new place incoming e (errs.Cut c) reads tells passed short =
     let tried : c.tried ≡ (turn_of place k e.input).wrote = short.1 ∙ tells.wrote in
@@ -38,7 +38,7 @@ is_cut k new place incoming e (errs.Cut c) reads tells passed short =
 is_cut k new place incoming e errs.NoMemory reads tells passed short = tt
 
 -- so it is with what a turn answers
-pub cut_if : {T : Type 0} (r : Result T TurnErr) (k new : Kept) (place : Place) (incoming : Incoming) (e : Effects) → IsReadAs incoming e.input → Tells (turn_of place k e.input) new e → TellsPasses k (turn_of place k e.input) e
+pub cut_if : {T : Type 0} (r : Result T TurnErr) (k new : NodeState) (place : Place) (incoming : Incoming) (e : Effects) → IsReadAs incoming e.input → Tells (turn_of place k e.input) new e → TellsPasses k (turn_of place k e.input) e
     → IfErr r (CutsShort e) → IfErr r (IsCut k place incoming)
 cut_if (Ok v) k new place incoming e reads tells passed short = tt
 cut_if (Err err) k new place incoming e reads tells passed short = is_cut k new place incoming e err reads tells passed short

@@ -7,7 +7,7 @@ use Rattle.redo_log.proofs.Moments.{followed_by}
 use Rattle.record_log.specs.Held.{HoldRecords, HoldWithOrWithout}
 use Rattle.node_rules.specs.Data.{Place}
 use Rattle.node_rules.specs.Data.records
-use Rattle.node_rules.specs.Kept.{Kept}
+use Rattle.node_rules.specs.NodeState.{NodeState}
 use Rattle.node_rules.specs.Records.{stored_by}
 use Rattle.node_rules.specs.Turn.{start_of, made}
 use Rattle.node_ready_laws.specs.Following.{MayAllFollow}
@@ -36,7 +36,7 @@ made_so = refl
 pub holds_first : (n : ℕ) (bytes : List ℕ) → n ≡ 1 → HoldRecords (records.Boot n ∷ []) bytes → HoldRecords (records.Boot 1 ∷ []) bytes
 holds_first n bytes is hold = subst (λ (m : ℕ). HoldRecords (records.Boot m ∷ []) bytes) is hold
 
-pub ready_made : StartsAreReady → (p : Place) (k : Kept) → k ≡ made → IsReady p k
+pub ready_made : StartsAreReady → (p : Place) (k : NodeState) → k ≡ made → IsReady p k
 unfolding stored_by
 ready_made law p k kept = ready_started law p [] k none_had kept
 

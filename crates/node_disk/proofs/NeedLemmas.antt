@@ -5,7 +5,7 @@ use Rattle.node_rules.specs.Data.{Answer, Kind, Msg, Input}
 use Rattle.node_rules.specs.Data.answers
 use Rattle.node_rules.specs.Data.kinds
 use Rattle.node_rules.specs.Data.inputs
-use Rattle.node_rules.specs.Kept.{Kept}
+use Rattle.node_rules.specs.NodeState.{NodeState}
 use Rattle.node_rules.specs.Turn.{kind_scn}
 use Rattle.node_core.specs.Able.{BringsScns}
 use Rattle.node_disk.specs.Spellable.{AnswerMayBeMailed, KindMayBeMailed, MayBeMailed}
@@ -36,7 +36,7 @@ pub less_max : (a b n : ℕ) → a < n → b < n → max a b < n
 less_max a b n first second = omega (arith, first, second)
 
 -- the clock leaves room for an SCN more
-pub room_of : (k : Kept) (input : Input) → k.clock < 2 ^ 48 - 1 → BringsScns input → HasRoomForScn k input
+pub room_of : (k : NodeState) (input : Input) → k.clock < 2 ^ 48 - 1 → BringsScns input → HasRoomForScn k input
 room_of k (inputs.Message m) clock scns = less_max k.clock (max m.scn (kind_scn m.kind)) (2 ^ 48 - 1) clock scns
 room_of k (inputs.Call session statement) clock scns = clock
 room_of k (inputs.GiveUp session) clock scns = clock

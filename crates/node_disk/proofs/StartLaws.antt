@@ -10,7 +10,7 @@ use Rattle.redo_codec.specs.Record.{record_format}
 use Rattle.record_log.specs.Held.{HoldRecords, HoldWithOrWithout, GrowsByPlan, with_record_if}
 use Rattle.node_rules.specs.Data.{RedoRecord, Place}
 use Rattle.node_rules.specs.Data.records
-use Rattle.node_rules.specs.Kept.{Stored, Kept}
+use Rattle.node_rules.specs.NodeState.{Stored, NodeState}
 use Rattle.node_rules.specs.Records.{nothing_stored, applied, stored_by, with_record}
 use Rattle.node_rules.specs.Turn.{start_of, kept_by}
 use Rattle.node_ready_laws.specs.Following.{MayFollow}
@@ -49,13 +49,13 @@ kept_started s n = refl
 pub started_so : (rs : List RedoRecord) (m : Memory) → kept_in m ≡ start_of rs → with_record (kept_in m) (records.Boot (m.boot + 1)) ≡ start_of (rs ++ next_boot rs ∷ [])
 unfolding start_of
 started_so rs m kept =
-    ap (λ (k : Kept). with_record k (records.Boot (k.stored.durable.boot + 1))) kept
+    ap (λ (k : NodeState). with_record k (records.Boot (k.stored.durable.boot + 1))) kept
     ∙ (kept_started (stored_by nothing_stored rs) (last_boot rs + 1) ∙ ap kept_by (sym (stored_last nothing_stored rs (next_boot rs))))
 
 -- the number of the last start
 pub boot_so : (rs : List RedoRecord) (m : Memory) → kept_in m ≡ start_of rs → m.boot ≡ last_boot rs
 unfolding start_of
-boot_so rs m kept = ap (λ (k : Kept). k.stored.durable.boot) kept
+boot_so rs m kept = ap (λ (k : NodeState). k.stored.durable.boot) kept
 
 -- that of this start is one more
 pub boot_started : (rs : List RedoRecord) (m : Memory) → kept_in m ≡ start_of (rs ++ next_boot rs ∷ []) → m.boot ≡ last_boot rs + 1
@@ -63,14 +63,14 @@ unfolding applied durable_after
 boot_started rs m kept = boot_so (rs ++ next_boot rs ∷ []) m kept ∙ ap (λ (s : Stored). s.durable.boot) (stored_last nothing_stored rs (next_boot rs))
 
 -- it is ready for its next turn
-pub ready_started : StartsAreReady → (p : Place) (rs : List RedoRecord) (k : Kept) → MayBeHad rs → k ≡ start_of (rs ++ next_boot rs ∷ []) → IsReady p k
-ready_started law p rs k had kept = subst (λ (x : Kept). IsReady p x) (sym kept) (law p rs (last_boot rs + 1) had.follow had.sound (omega arith))
+pub ready_started : StartsAreReady → (p : Place) (rs : List RedoRecord) (k : NodeState) → MayBeHad rs → k ≡ start_of (rs ++ next_boot rs ∷ []) → IsReady p k
+ready_started law p rs k had kept = subst (λ (x : NodeState). IsReady p x) (sym kept) (law p rs (last_boot rs + 1) had.follow had.sound (omega arith))
 
 -- its records say what it stores
 stands_by : (rs : List RedoRecord) (m : Memory) (bytes : List ℕ) → HoldRecords rs bytes → MayBeHad rs → kept_in m ≡ start_of rs → StandsOn bytes (stored_in m)
 unfolding start_of
 stands_by rs m bytes hold had kept =
-    (rs, hold, had, subst (λ (s : Stored). IsButForAcks (stored_by nothing_stored rs) s) (sym (ap (λ (k : Kept). k.stored) kept)) refl)
+    (rs, hold, had, subst (λ (s : Stored). IsButForAcks (stored_by nothing_stored rs) s) (sym (ap (λ (k : NodeState). k.stored) kept)) refl)
 
 pub stands_started : (rs : List RedoRecord) (m : Memory) (bytes : List ℕ) → HoldRecords (rs ++ next_boot rs ∷ []) bytes → MayBeHad rs → kept_in m ≡ start_of (rs ++ next_boot rs ∷ []) → StandsOn bytes (stored_in m)
 stands_started rs m bytes hold had kept = stands_by (rs ++ next_boot rs ∷ []) m bytes hold (had_started rs had) kept

@@ -8,7 +8,7 @@ use Rattle.node_rules.specs.Data.inputs
 use Rattle.commit_forget.specs.declared.next.Next.TheVariants as nexts
 use Rattle.redo_record.specs.Durable.{durable_after}
 use Rattle.node_rules.specs.Words.{put_item}
-use Rattle.node_rules.specs.Kept.{Stored, Kept, Deed, standing_id}
+use Rattle.node_rules.specs.NodeState.{Stored, NodeState, Deed, standing_id}
 use Rattle.node_rules.specs.Commit.{acked_by}
 use Rattle.node_rules.specs.Records.{applied}
 use Rattle.node_rules.specs.Turn.{heard, deed_of, turn_of}
@@ -51,10 +51,10 @@ next_but_for s t w is = subst (λ (x : Stored). IsButForAcks (stored_next s w) (
 
 -- ---- steps
 
-Stores : Kept → Deed → Type 0
+Stores : NodeState → Deed → Type 0
 Stores k d = IsButForAcks (stored_next k.stored d.wrote) d.after.stored
 
-stores_on : (p : Place) (input : Input) {k : Kept} {d : Deed} → Step p input k d → Stores k d
+stores_on : (p : Place) (input : Input) {k : NodeState} {d : Deed} → Step p input k d → Stores k d
 unfolding Stores
 stores_on p input (steps.Begins n s call rows fit none step) = stores_on p input step
 stores_on p input (steps.Pends n l given call has live code step) = stores_on p input step
@@ -83,7 +83,7 @@ stores_on p input (steps.Gives_up_commit n b None gives has calls live) = refl
 stores_on p input _ = refl
 
 -- what a node hears changes nothing that it stores
-stored_heard : (k : Kept) (input : Input) → (heard k input).stored ≡ k.stored
+stored_heard : (k : NodeState) (input : Input) → (heard k input).stored ≡ k.stored
 stored_heard k (inputs.Message m) = refl
 stored_heard k (inputs.Call n s) = refl
 stored_heard k (inputs.GiveUp n) = refl

@@ -9,7 +9,7 @@ use Rattle.record_log.specs.Held.{HoldRecords}
 use Rattle.record_log.specs.Log.{disk_of, IsIntact, IsUsable}
 use Rattle.record_log.specs.declared.log.RecordLog.{RecordLog}
 use Rattle.node_rules.specs.Data.{RedoRecord, Place, Input, Msg}
-use Rattle.node_rules.specs.Kept.{Stored, Kept, Outcome}
+use Rattle.node_rules.specs.NodeState.{Stored, NodeState, Outcome}
 use Rattle.node_rules.specs.Records.{nothing_stored, applied, stored_by}
 use Rattle.node_rules.specs.Turn.{turn_of}
 use Rattle.node_ready_laws.specs.Following.{MayFollow, MayAllFollow}
@@ -36,12 +36,12 @@ pub stores_so : TurnsStoreTheirRecords → (m n : Memory) (input : Input) (serve
     → IsButForAcks (stored_next (stored_in m) served.wrote) (stored_in n)
 stores_so law m n input served may serves =
     subst (λ (w : Option RedoRecord). IsButForAcks (stored_next (stored_in m) w) (stored_in n)) (sym serves.wrote)
-    (subst (λ (k : Kept). IsButForAcks (stored_next (stored_in m) (turn_of m.place (kept_in m) input).wrote) k.stored) (sym serves.after) (law m.place (kept_in m) input may.expected.fit))
+    (subst (λ (k : NodeState). IsButForAcks (stored_next (stored_in m) (turn_of m.place (kept_in m) input).wrote) k.stored) (sym serves.after) (law m.place (kept_in m) input may.expected.fit))
 
-pub sent_spelled : (o : Outcome) (k : Kept) (served : Served) → Serves o k served → AllByRecursion MayBeMailed o.sent → AllByRecursion MayBeMailed served.sent
+pub sent_spelled : (o : Outcome) (k : NodeState) (served : Served) → Serves o k served → AllByRecursion MayBeMailed o.sent → AllByRecursion MayBeMailed served.sent
 sent_spelled o k served serves all = subst (λ (msgs : List Msg). AllByRecursion MayBeMailed msgs) (sym serves.sent) all
 
-pub tells_so : (o : Outcome) (k : Kept) (served : Served) (e : Effects) → Serves o k served → e.wrote ≡ served.wrote → e.sent ≡ map mailed served.sent → map call_of e.ended ≡ served.ended → Tells o k e
+pub tells_so : (o : Outcome) (k : NodeState) (served : Served) (e : Effects) → Serves o k served → e.wrote ≡ served.wrote → e.sent ≡ map mailed served.sent → map call_of e.ended ≡ served.ended → Tells o k e
 tells_so o k served e serves wrote sent ended = record {
   after = serves.after;
   wrote = wrote ∙ serves.wrote;
@@ -49,7 +49,7 @@ tells_so o k served e serves wrote sent ended = record {
   ended = ended ∙ serves.ended;
 }
 
-pub wrote_so : (o : Outcome) (k : Kept) (served : Served) (e : Effects) → Serves o k served → e.wrote ≡ served.wrote → IsSpellable o → IfSome e.wrote RecordHasBytes
+pub wrote_so : (o : Outcome) (k : NodeState) (served : Served) (e : Effects) → Serves o k served → e.wrote ≡ served.wrote → IsSpellable o → IfSome e.wrote RecordHasBytes
 wrote_so o k served e serves wrote spellable = subst (λ (w : Option RedoRecord). IfSome w RecordHasBytes) (sym (wrote ∙ serves.wrote)) spellable.wrote
 
 pub follows_so : (s : Stored) (served : Served) (e : Effects) → e.wrote ≡ served.wrote → IfSome served.wrote (IsNext s) → IfSome e.wrote (IsNext s)
@@ -59,10 +59,10 @@ pub stored_so : (s t : Stored) (served : Served) (e : Effects) → e.wrote ≡ s
 stored_so s t served e wrote stores = subst (λ (w : Option RedoRecord). IsButForAcks (stored_next s w) t) (sym wrote) stores
 
 -- what was read is what the turn is over
-pub tells_as : (p : Place) (k new : Kept) (i : Input) (e : Effects) → e.input ≡ i → Tells (turn_of p k i) new e → Tells (turn_of p k e.input) new e
+pub tells_as : (p : Place) (k new : NodeState) (i : Input) (e : Effects) → e.input ≡ i → Tells (turn_of p k i) new e → Tells (turn_of p k e.input) new e
 tells_as p k new i e is tells = subst (λ (j : Input). Tells (turn_of p k j) new e) (sym is) tells
 
-pub wrote_as : (p : Place) (k new : Kept) (incoming : Incoming) (i : Input) (e : Effects) → IsReadAs incoming i → Tells (turn_of p k i) new e → e.wrote ≡ record_of p k (read_as incoming)
+pub wrote_as : (p : Place) (k new : NodeState) (incoming : Incoming) (i : Input) (e : Effects) → IsReadAs incoming i → Tells (turn_of p k i) new e → e.wrote ≡ record_of p k (read_as incoming)
 wrote_as p k new incoming i e read tells = tells.wrote ∙ ap (record_of p k) (sym read)
 
 -- ---- records

@@ -4,7 +4,7 @@ use Rattle.std.specs.Prelude.{◌≡◌, false, List, map, option_map, Option, S
 use Rattle.msg_codec.specs.Message.{msg_format, message_of}
 use Rattle.node_rules.specs.Data.{Msg, Place}
 use Rattle.node_rules.specs.declared.session.Finished.{Finished as FinishedByRules}
-use Rattle.node_rules.specs.Kept.{Kept, Outcome}
+use Rattle.node_rules.specs.NodeState.{NodeState, Outcome}
 use Rattle.node_rules.specs.Turn.{turn_of}
 use Rattle.node_rules.specs.Points.{Point, Passes as PassesByRules, passes, reaches}
 use Rattle.node_points.specs.declared.places.Passes.{Passes}
@@ -32,14 +32,14 @@ call_of f = f.call
 
 -- A turn tells what the rules say: its record, its messages with their bytes, and the calls that end; and the node keeps what
 -- they say.
-pub record Tells (o : Outcome) (new : Kept) (e : Effects) : Type 0 where
+pub record Tells (o : Outcome) (new : NodeState) (e : Effects) : Type 0 where
   pub after : new ≡ o.after
   pub wrote : e.wrote ≡ o.wrote
   pub sent : e.sent ≡ map mailed o.sent
   pub ended : map call_of e.ended ≡ o.ended
 
 -- and the places that it passed
-abbrev pub TellsPasses : Kept → Outcome → Effects → Type 0
+abbrev pub TellsPasses : NodeState → Outcome → Effects → Type 0
 TellsPasses k o e = option_map passes_as e.passes ≡ passes k e.input o
 
 -- no point was reached at these places
@@ -52,12 +52,12 @@ abbrev pub GoesUncut : List Point → Option Passes → Type 0
 GoesUncut points p = IfSome (option_map passes_as p) (ReachesNone points)
 
 -- A turn that was cut tried the record that the rules say, and passes the places that they say.
-pub record IsCutTurn (k : Kept) (place : Place) (incoming : Incoming) (c : CutTurn) : Type 0 where
+pub record IsCutTurn (k : NodeState) (place : Place) (incoming : Incoming) (c : CutTurn) : Type 0 where
   pub input : IsReadAs incoming c.input
   pub tried : c.tried ≡ (turn_of place k c.input).wrote
   pub passed : option_map passes_as c.passes ≡ passes k c.input (turn_of place k c.input)
 
 -- why a turn came to no end
-abbrev pub IsCut : Kept → Place → Incoming → TurnErr → Type 0
+abbrev pub IsCut : NodeState → Place → Incoming → TurnErr → Type 0
 IsCut k place incoming (errs.Cut c) = IsCutTurn k place incoming c
 IsCut k place incoming errs.NoMemory = Unit {0}

@@ -3,7 +3,7 @@ use Rattle.std.specs.Prelude.{◌≡◌, option_map, Option, Some, None}
 use Rattle.msg_codec.specs.Message.{message_of}
 use Rattle.node_rules.specs.Data.{RedoRecord, Place, Input}
 use Rattle.node_rules.specs.Data.inputs
-use Rattle.node_rules.specs.Kept.{Kept}
+use Rattle.node_rules.specs.NodeState.{NodeState}
 use Rattle.node_rules.specs.Turn.{turn_of}
 use Rattle.node_disk.specs.declared.incoming.Incoming.{Incoming}
 use Rattle.node_disk.specs.declared.incoming.Incoming.TheVariants as comings
@@ -20,6 +20,6 @@ abbrev pub IsReadAs : Incoming → Input → Type 0
 IsReadAs incoming input = read_as incoming ≡ Some input
 
 -- the record that a turn over this writes, where it writes one
-abbrev pub record_of : Place → Kept → Option Input → Option RedoRecord
+abbrev pub record_of : Place → NodeState → Option Input → Option RedoRecord
 record_of p k None = None
 record_of p k (Some input) = (turn_of p k input).wrote

@@ -7,7 +7,7 @@ use Rattle.record_log.specs.Held.{HoldRecords, GrowsByRecord, HoldWithOrWithout}
 use Rattle.record_log.specs.Log.{disk_of as disk_of_log, IsIntact, IsUsable}
 use Rattle.record_log.specs.declared.log.RecordLog.{RecordLog}
 use Rattle.node_rules.specs.Data.{RedoRecord, Place, Input}
-use Rattle.node_rules.specs.Kept.{Stored, Kept, Outcome}
+use Rattle.node_rules.specs.NodeState.{Stored, NodeState, Outcome}
 use Rattle.node_rules.specs.Records.{nothing_stored, stored_by}
 use Rattle.node_rules.specs.Turn.{turn_of}
 use Rattle.node_memory.specs.Parts.{stored_in, kept_in}
@@ -21,7 +21,7 @@ abbrev pub place_of : {D : Type 0} → Node D → Place
 place_of node = node.memory.place
 
 -- what it keeps
-abbrev pub kept_of : {D : Type 0} → Node D → Kept
+abbrev pub kept_of : {D : Type 0} → Node D → NodeState
 kept_of node = kept_in node.memory
 
 -- its disk

@@ -11,7 +11,7 @@ use Rattle.sql_print.specs.Printing.{IsPrintable}
 use Rattle.msg_codec.specs.Fits.{is_change}
 use Rattle.node_rules.specs.Data.{Kind, Msg}
 use Rattle.node_rules.specs.Data.kinds
-use Rattle.node_rules.specs.Kept.{Outcome}
+use Rattle.node_rules.specs.NodeState.{Outcome}
 
 -- bytes that are UTF-8
 abbrev pub IsUtf8 : List ℕ → Type 0

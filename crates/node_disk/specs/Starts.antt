@@ -7,7 +7,7 @@ use Rattle.redo_log.specs.Stands.{stands_after}
 use Rattle.record_log.specs.Held.{HoldRecords, HoldWithOrWithout, with_record_if}
 use Rattle.node_rules.specs.Data.{RedoRecord}
 use Rattle.node_rules.specs.Data.records
-use Rattle.node_rules.specs.Kept.{Stored}
+use Rattle.node_rules.specs.NodeState.{Stored}
 use Rattle.node_rules.specs.Records.{nothing_stored, applied, stored_by}
 use Rattle.node_ready_laws.specs.Following.{MayAllFollow}
 use Rattle.node_ready_laws.specs.Sound.{AreSound, with_rows}

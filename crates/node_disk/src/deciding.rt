@@ -5,7 +5,7 @@ ghost use Rattle.node_spell_laws.specs.Record.{RecordHasBytes};
 ghost use Rattle.wire_msg.specs.declared.input.Input.{Input as InputBy};
 ghost use Rattle.node_rules.specs.Data.{Place};
 ghost use Rattle.node_rules.specs.Inputs.{IsFit};
-ghost use Rattle.node_rules.specs.Kept.{Kept};
+ghost use Rattle.node_rules.specs.NodeState.{NodeState};
 ghost use Rattle.node_rules.specs.Turn.{turn_of};
 ghost use Rattle.node_rules.specs.Points.{passes as passes_of};
 ghost use Rattle.node_ready_laws.specs.Ready.{IsReady};
@@ -56,7 +56,7 @@ fn look(memory: &Memory, input: &Input) -> Ahead
 
 // The places that a turn passed, by what was ahead before it.
 fn passed_by(input: &Input, served: &Served, ahead: &Ahead) -> Option<Passes>
-    ensures { (p : Place) (k new : Kept) → IsFit input.now → Foresees k (concerned k input.now) ahead.now → Serves (turn_of p k input.now) new served.now
+    ensures { (p : Place) (k new : NodeState) → IsFit input.now → Foresees k (concerned k input.now) ahead.now → Serves (turn_of p k input.now) new served.now
         → option_map passes_as result ≡ passes_of k input.now (turn_of p k input.now) }
 {
     turns_are_of_their_branch();

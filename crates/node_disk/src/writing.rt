@@ -10,7 +10,7 @@ ghost use Rattle.node_spell_laws.specs.Record.{RecordHasBytes};
 ghost use Rattle.record_log.specs.Held.{HoldRecords};
 ghost use Rattle.record_log.specs.Log.{disk_of, IsIntact, IsUsable};
 ghost use Rattle.record_log.specs.declared.err.AppendErr.TheVariants as appends;
-ghost use Rattle.node_rules.specs.Kept.{Stored};
+ghost use Rattle.node_rules.specs.NodeState.{Stored};
 ghost use Rattle.node_ready_laws.specs.Sound.{IsNext};
 ghost use Rattle.node_disk.specs.declared.err.CutAt.TheVariants as cuts;
 ghost use Rattle.node_disk.specs.declared.err.TurnErr.TheVariants as turns;

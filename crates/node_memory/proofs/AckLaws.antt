@@ -7,7 +7,7 @@ use Rattle.tran_ids.specs.Branch.{same}
 use Rattle.tran_ids.specs.Listed.{item_at, put_item}
 use Rattle.redo_record.specs.declared.durable.Standing.{Standing}
 use Rattle.redo_record.specs.Kept.{stands_at}
-use Rattle.node_rules.specs.Kept.{Kept, standing_id, with_standing}
+use Rattle.node_rules.specs.NodeState.{NodeState, standing_id, with_standing}
 use Rattle.node_rules.specs.Commit.{ack_counts, acked_by}
 use Rattle.commit_forget.specs.Next.{after_ack}
 use Rattle.node_memory.specs.Acks.{with_ack}
@@ -36,16 +36,16 @@ pub stays_kept : (old lent : List Standing) (b : BranchId) (s row : Standing) �
 stays_kept old lent b s row found kept me = ap (λ m. is_some (find (stands_at m) lent)) (me ∙ item_is standing_id old b s found) ∙ kept ∙ ap is_some found
 
 -- with these rows of kept branches
-abbrev pub with_rows : Kept → List Standing → Kept
+abbrev pub with_rows : NodeState → List Standing → NodeState
 with_rows k ks = record k { stored = record k.stored { durable = record k.stored.durable { kept = ks } } }
 
-acked_if : (k : Kept) (s : Standing) (from : BranchId) (counts : Bool) → item_at standing_id k.stored.durable.kept s.me ≡ Some s
+acked_if : (k : NodeState) (s : Standing) (from : BranchId) (counts : Bool) → item_at standing_id k.stored.durable.kept s.me ≡ Some s
     → with_rows k (put_item standing_id k.stored.durable.kept (if counts then acked_by s from else s)) ≡ (if counts then with_standing k (acked_by s from) else k)
 acked_if k s from true there = refl
 acked_if k s from false there = ap (with_rows k) (put_same k.stored.durable.kept s there)
 
 -- the row that was lent is put back, with the Ack where it counts
-pub acked_is : (k : Kept) (b from : BranchId) (s row : Standing) (lent ks : List Standing) → item_at standing_id k.stored.durable.kept b ≡ Some s → row ≡ after_ack s from
+pub acked_is : (k : NodeState) (b from : BranchId) (s row : Standing) (lent ks : List Standing) → item_at standing_id k.stored.durable.kept b ≡ Some s → row ≡ after_ack s from
     → ((x : Standing) → x.me ≡ b → put_item standing_id lent x ≡ put_item standing_id k.stored.durable.kept x) → ks ≡ put_item standing_id lent row → with_rows k ks ≡ with_ack k from (Some s)
 acked_is k b from s row lent ks found is place now =
     let me : s.me ≡ b = item_is standing_id k.stored.durable.kept b s found in

@@ -9,7 +9,7 @@ use Rattle.row_locks.specs.Locks.{Lock}
 use Rattle.row_store.specs.Store.{doubt_id}
 use Rattle.node_rules.specs.Data.{RedoRecord, Sealed, Doubt, Change}
 use Rattle.node_rules.specs.Data.records
-use Rattle.node_rules.specs.Kept.{Stored}
+use Rattle.node_rules.specs.NodeState.{Stored}
 use Rattle.node_rules.specs.Records.{nothing_stored, applied, stored_by, with_doubt, doubt_over}
 use Rattle.node_rules.specs.Turn.{with_doubt_of}
 use Rattle.node_memory.specs.Doubts.{sealed_id, in_doubt_after, in_doubt_by, with_keys_of}

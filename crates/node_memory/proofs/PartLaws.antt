@@ -9,7 +9,7 @@ use Rattle.node_rules.specs.Data.params
 use Rattle.redo_record.specs.Durable.{durable_after}
 use Rattle.redo_record.specs.Kept.{kept_after}
 use Rattle.node_ready_laws.specs.Following.{listed_in}
-use Rattle.node_rules.specs.Kept.{Kept}
+use Rattle.node_rules.specs.NodeState.{NodeState}
 use Rattle.node_memory.specs.After.{boot_after, strength_after, catalog_after, store_after, with_stored}
 use Rattle.node_rules.specs.Records.{held_back as held_back_of, applied, scn_after}
 
@@ -39,15 +39,15 @@ durable_by_parts d (records.Forgot b) = refl
 durable_by_parts d (records.Hidden b) = refl
 
 -- the rows of a node, with so many undo extents
-abbrev pub contents_in : Kept → ℕ → Contents
+abbrev pub contents_in : NodeState → ℕ → Contents
 contents_in k extents = record { rows = k.stored.rows; owns = k.owns; doubts = k.stored.doubts; extents = extents }
 
 -- what a node keeps, with these parts
-abbrev pub with_all : Kept → ℕ → Option ℕ → Listed → Contents → ℕ → List Standing → Kept
+abbrev pub with_all : NodeState → ℕ → Option ℕ → Listed → Contents → ℕ → List Standing → NodeState
 with_all k boot strength c t scn ks = record k { stored = record { durable = durable_of boot strength c ks; rows = t.rows; doubts = t.doubts; scn = scn }; owns = t.owns }
 
 -- when each part has the record, so has what is stored
-pub applied_taken : (k : Kept) (r : RedoRecord) (extents boot : ℕ) (strength : Option ℕ) (c : Listed) (t : Contents) (scn : ℕ) (ks : List Standing)
+pub applied_taken : (k : NodeState) (r : RedoRecord) (extents boot : ℕ) (strength : Option ℕ) (c : Listed) (t : Contents) (scn : ℕ) (ks : List Standing)
     → boot ≡ boot_after k.stored.durable.boot r → strength ≡ strength_after k.stored.durable.strength r → c ≡ catalog_after (listed_in k.stored.durable) r
     → t ≡ store_after (contents_in k extents) r → scn ≡ scn_after k.stored.scn r → ks ≡ kept_after k.stored.durable.kept r
     → with_all k boot strength c t scn ks ≡ with_stored k (applied k.stored r)

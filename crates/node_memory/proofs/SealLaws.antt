@@ -11,7 +11,7 @@ use Rattle.redo_record.specs.Durable.{durable_after, with_kept}
 use Rattle.redo_record.specs.Kept.{kept_after}
 use Rattle.node_rules.specs.Data.{Sealed, Decided, Standing, Owned}
 use Rattle.node_rules.specs.Data.records
-use Rattle.node_rules.specs.Kept.{Kept, without_branch}
+use Rattle.node_rules.specs.NodeState.{NodeState, without_branch}
 use Rattle.node_rules.specs.Prepare.{own_changes}
 use Rattle.node_rules.specs.Records.{applied, with_doubt, with_record}
 use Rattle.node_memory.proofs.PartLaws.{contents_in}
@@ -35,18 +35,18 @@ pub owns_dropped_twice : (os : List Owned) (b : BranchId) → drop_item own_id (
 owns_dropped_twice os b = filter_twice (λ o. not (same (own_id o) b)) os
 
 -- the parts of memory before the branch is dropped
-abbrev pub with_parts : Kept → Contents → List Standing → ℕ → Kept
+abbrev pub with_parts : NodeState → Contents → List Standing → ℕ → NodeState
 with_parts k s ks scn = record k { stored = record k.stored { durable = with_kept k.stored.durable ks; rows = s.rows; doubts = s.doubts; scn = scn }; owns = s.owns }
 
 -- when a branch has become sealed, by the steps of the code
-abbrev pub after_seal : Kept → BranchId → Sealed → Contents → List Standing → ℕ → Kept
+abbrev pub after_seal : NodeState → BranchId → Sealed → Contents → List Standing → ℕ → NodeState
 after_seal k b r s ks scn = record (without_branch (with_parts k s ks scn) b) { locks = with_doubt (without k.locks b) b r.changes }
 
 -- with these changes left of others
-abbrev with_owns : Kept → List Owned → Kept
+abbrev with_owns : NodeState → List Owned → NodeState
 with_owns k os = record k { owns = os }
 
-seal_is : (k : Kept) (b : BranchId) (r : Sealed) (extents : ℕ) → r.me ≡ b → r.changes ≡ own_changes k b
+seal_is : (k : NodeState) (b : BranchId) (r : Sealed) (extents : ℕ) → r.me ≡ b → r.changes ≡ own_changes k b
     → after_seal k b r (sealed (contents_in k extents) b) (kept_after k.stored.durable.kept (records.Sealed r)) (max k.stored.scn r.scn) ≡ with_record (without_branch k b) (records.Sealed r)
 unfolding applied durable_after
 seal_is k b r extents is own =
@@ -58,18 +58,18 @@ seal_is k b r extents is own =
     ∙ ap (λ ls. record done { stored = record done.stored { doubts = k.stored.doubts ++ doubt_from k.stored.rows b (own_changes k b) ∷ [] }; locks = ls }) keys)
 
 -- a branch that becomes sealed
-pub sealed_taken : (k m : Kept) (b : BranchId) (r : Sealed) (s : Contents) (extents : ℕ) (ks : List Standing) (scn : ℕ) (locks : List Lock) → r.me ≡ b → r.changes ≡ own_changes k b
+pub sealed_taken : (k m : NodeState) (b : BranchId) (r : Sealed) (s : Contents) (extents : ℕ) (ks : List Standing) (scn : ℕ) (locks : List Lock) → r.me ≡ b → r.changes ≡ own_changes k b
     → ks ≡ kept_after k.stored.durable.kept (records.Sealed r) → s ≡ sealed (contents_in k extents) b → scn ≡ max k.stored.scn r.scn
     → m ≡ without_branch (with_parts k s ks scn) b → locks ≡ with_doubt m.locks b r.changes → (record m { locks = locks }) ≡ with_record (without_branch k b) (records.Sealed r)
 sealed_taken k m b r s extents ks scn locks me own kept store number is now =
     ap (λ ls. record m { locks = ls }) now
-    ∙ ap (λ (j : Kept). record j { locks = with_doubt j.locks b r.changes }) is
+    ∙ ap (λ (j : NodeState). record j { locks = with_doubt j.locks b r.changes }) is
     ∙ ap (λ t. after_seal k b r t ks scn) store
     ∙ ap (λ x. after_seal k b r (sealed (contents_in k extents) b) x scn) kept
     ∙ ap (after_seal k b r (sealed (contents_in k extents) b) (kept_after k.stored.durable.kept (records.Sealed r))) number
     ∙ seal_is k b r extents me own
 
-decision_is : (k : Kept) (b : BranchId) (r : Decided) (extents : ℕ) → r.changes ≡ own_changes k b
+decision_is : (k : NodeState) (b : BranchId) (r : Decided) (extents : ℕ) → r.changes ≡ own_changes k b
     → without_branch (with_parts k (committed (contents_in k extents) b) (kept_after k.stored.durable.kept (records.Decided r)) (max k.stored.scn r.scn)) b ≡ with_record (without_branch k b) (records.Decided r)
 unfolding applied durable_after
 decision_is k b r extents own =
@@ -78,7 +78,7 @@ decision_is k b r extents own =
     ∙ sym (ap (λ cs. record done { stored = record done.stored { rows = apply_all k.stored.rows cs } }) own)
 
 -- a branch that decides
-pub decision_taken : (k m : Kept) (b : BranchId) (r : Decided) (s : Contents) (extents : ℕ) (ks : List Standing) (scn : ℕ) → r.changes ≡ own_changes k b
+pub decision_taken : (k m : NodeState) (b : BranchId) (r : Decided) (s : Contents) (extents : ℕ) (ks : List Standing) (scn : ℕ) → r.changes ≡ own_changes k b
     → ks ≡ kept_after k.stored.durable.kept (records.Decided r) → s ≡ committed (contents_in k extents) b → scn ≡ max k.stored.scn r.scn
     → m ≡ without_branch (with_parts k s ks scn) b → m ≡ with_record (without_branch k b) (records.Decided r)
 decision_taken k m b r s extents ks scn own kept store number is =

@@ -6,7 +6,7 @@ use Rattle.node_rules.specs.Data.{RedoRecord}
 use Rattle.node_rules.specs.Data.records
 use Rattle.redo_record.specs.declared.record.Param.{Param}
 use Rattle.redo_record.specs.declared.record.Param.TheVariants as params
-use Rattle.node_rules.specs.Kept.{Stored, Kept}
+use Rattle.node_rules.specs.NodeState.{Stored, NodeState}
 use Rattle.node_rules.specs.Records.{rows_after, doubts_after}
 
 -- the number of the start
@@ -42,5 +42,5 @@ abbrev pub store_after : Contents → RedoRecord → Contents
 store_after s r = record s { rows = rows_after s.rows s.doubts r; doubts = doubts_after s.rows s.doubts r }
 
 -- what a node keeps with something else stored
-abbrev pub with_stored : Kept → Stored → Kept
+abbrev pub with_stored : NodeState → Stored → NodeState
 with_stored k s = record k { stored = s }

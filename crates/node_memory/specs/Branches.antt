@@ -1,6 +1,6 @@
 -- What a node knows of a branch, where it stands in memory.
 use Rattle.std.specs.Option.{option_copied}
-use Rattle.node_rules.specs.Kept.{Branch, work_or}
+use Rattle.node_rules.specs.NodeState.{Branch, work_or}
 use Rattle.node_rules.specs.Turn.{Stand as StandByRules, Is_live, Is_kept, Is_gone}
 use Rattle.node_memory.specs.declared.branches.LiveBranch.{LiveBranch}
 use Rattle.node_memory.specs.declared.branches.Stand.{Stand}

@@ -3,15 +3,15 @@ use Rattle.std.specs.Prelude.{◌≡◌}
 use Rattle.tran_ids.specs.declared.branch.BranchId.{BranchId}
 use Rattle.node_rules.specs.Data.{RedoRecord}
 use Rattle.node_rules.specs.Data.records
-use Rattle.node_rules.specs.Kept.{Kept}
+use Rattle.node_rules.specs.NodeState.{NodeState}
 use Rattle.node_rules.specs.Prepare.{own_changes}
 
 -- the branch becomes sealed
-abbrev pub IsOwnSeal : Kept → BranchId → RedoRecord → Type 0
+abbrev pub IsOwnSeal : NodeState → BranchId → RedoRecord → Type 0
 IsOwnSeal k b (records.Sealed r) = (r.me ≡ b) × (r.changes ≡ own_changes k b)
 IsOwnSeal k b _ = ⊥
 
 -- the branch decides
-abbrev pub IsOwnDecision : Kept → BranchId → RedoRecord → Type 0
+abbrev pub IsOwnDecision : NodeState → BranchId → RedoRecord → Type 0
 IsOwnDecision k b (records.Decided r) = (r.me ≡ b) × (r.changes ≡ own_changes k b)
 IsOwnDecision k b _ = ⊥

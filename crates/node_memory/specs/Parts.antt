@@ -1,6 +1,6 @@
 -- What a node keeps, by the parts of its memory.
 use Rattle.std.specs.Prelude.{◌≡◌}
-use Rattle.node_rules.specs.Kept.{Stored, Kept}
+use Rattle.node_rules.specs.NodeState.{Stored, NodeState}
 use Rattle.node_memory.specs.declared.memory.Memory.{Memory}
 
 -- what its records give
@@ -21,7 +21,7 @@ stored_in m = record {
 }
 
 -- and what a stop loses
-abbrev pub kept_in : Memory → Kept
+abbrev pub kept_in : Memory → NodeState
 kept_in m = record {
   stored = stored_in m;
   owns = m.store.owns;

@@ -2,7 +2,7 @@
 ghost use Rattle.std.specs.Prelude.{◌≡◌};
 ghost use Rattle.std.specs.Option.{option_map};
 ghost use Rattle.commit_forget.specs.Next.{acked_next};
-ghost use Rattle.node_rules.specs.Kept.{standing_at};
+ghost use Rattle.node_rules.specs.NodeState.{standing_at};
 ghost use Rattle.node_memory.specs.Parts.{kept_in};
 ghost use Rattle.node_memory.specs.Acks.{with_ack};
 

@@ -1,7 +1,7 @@
 //! What a node knows of a branch.
 ghost use Rattle.std.specs.Prelude.{◌≡◌, IfSome};
 ghost use Rattle.std.specs.Option.{option_copied, option_map};
-ghost use Rattle.node_rules.specs.Kept.{live_at, work_or, work_at, branch_at, standing_at};
+ghost use Rattle.node_rules.specs.NodeState.{live_at, work_or, work_at, branch_at, standing_at};
 ghost use Rattle.node_rules.specs.Turn.{stand_of, kept_or_gone as kept_or_gone_of};
 ghost use Rattle.node_state.specs.Lives.{HasRoom};
 ghost use Rattle.node_memory.specs.Parts.{kept_in};

@@ -1,6 +1,6 @@
 //! A live branch decides.
 ghost use Rattle.std.specs.Prelude.{◌≡◌, OnOk, OnErr};
-ghost use Rattle.node_rules.specs.Kept.{without_branch};
+ghost use Rattle.node_rules.specs.NodeState.{without_branch};
 ghost use Rattle.node_rules.specs.Records.{with_record};
 ghost use Rattle.node_memory.specs.Parts.{kept_in};
 ghost use Rattle.node_memory.specs.Leaving.{IsOwnDecision};

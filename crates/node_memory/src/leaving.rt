@@ -1,6 +1,6 @@
 //! What a branch that leaves takes with it, and what a node learns without a record.
 ghost use Rattle.std.specs.Prelude.{◌≡◌};
-ghost use Rattle.node_rules.specs.Kept.{without_branch, raised};
+ghost use Rattle.node_rules.specs.NodeState.{without_branch, raised};
 ghost use Rattle.node_memory.specs.Parts.{kept_in};
 
 use crate::Memory;

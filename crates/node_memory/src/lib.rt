@@ -6,7 +6,7 @@
 //! - Records: `take_in` for any record; `seal` and `decide` for that of a live branch, which leaves.
 //! - A start: `rebuild`.
 //!
-//! Each is exact by the rules' definition of its name, over the rules' `Kept` as `kept_in` sees it. A node's place and its undo
+//! Each is exact by the rules' definition of its name, over the rules' `NodeState` as `kept_in` sees it. A node's place and its undo
 //! extents never change. A call fails where memory runs out, and for no other reason; a node whose call has failed is used no
 //! more, except where the call says that nothing has changed.
 #![tactic(auto)]

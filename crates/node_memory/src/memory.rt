@@ -9,7 +9,7 @@ use row_locks::Locks;
 use row_store::Store;
 use tran_ids::Clock;
 
-/// All that a node keeps from turn to turn. Contracts see it as the rules' `Kept` by `kept_in`.
+/// All that a node keeps from turn to turn. Contracts see it as the rules' `NodeState` by `kept_in`.
 pub struct Memory {
     /// The node's number, name and settings, and the names of all nodes.
     pub place: Place,

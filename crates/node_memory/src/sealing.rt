@@ -1,7 +1,7 @@
 //! A live branch becomes sealed.
 ghost use Rattle.std.specs.Prelude.{◌≡◌, OnOk, false};
 ghost use Rattle.row_store.specs.Store.{is_in_doubt};
-ghost use Rattle.node_rules.specs.Kept.{without_branch};
+ghost use Rattle.node_rules.specs.NodeState.{without_branch};
 ghost use Rattle.node_rules.specs.Records.{with_record};
 ghost use Rattle.node_memory.specs.Parts.{kept_in};
 ghost use Rattle.node_memory.specs.Leaving.{IsOwnSeal};

@@ -26,7 +26,7 @@ use Rattle.node_rules.specs.Data.acts
 use Rattle.node_rules.specs.declared.session.PendingCall.TheVariants as pending
 use Rattle.node_rules.specs.declared.session.Session.{Session}
 use Rattle.node_rules.specs.Inputs.{Came, IsCall, Brings, Commit_came, Rollback_came, Rolled_back_came}
-use Rattle.node_rules.specs.Kept.{Kept, Deed, Branch, to_each, to_one}
+use Rattle.node_rules.specs.NodeState.{NodeState, Deed, Branch, to_each, to_one}
 use Rattle.node_rules.specs.Points.{is_ready}
 use Rattle.node_rules.specs.Sessions.{session_at, with_call}
 use Rattle.node_rules.specs.Names.{passed_on}
@@ -133,7 +133,7 @@ module _ (o : Option BranchId) where
   all_said [] all = tt
   all_said (x ∷ xs) all = both x.says (flat_map (λ a. a.says) xs) all.0 (all_said xs all.1)
 
-  recovery_so : (k : Kept) → AllSaidFor o (flat_map (λ a. a.says) (askings k))
+  recovery_so : (k : NodeState) → AllSaidFor o (flat_map (λ a. a.says) (askings k))
   recovery_so k =
       all_said (askings k) (put_all [] (map asks_live k.lives ++ map asks_kept k.stored.durable.kept) tt
       (each_with (map asks_live k.lives) (map asks_kept k.stored.durable.kept) (lives_ask k.lives) (kept_ask k.stored.durable.kept)))
@@ -150,7 +150,7 @@ module _ (o : Option BranchId) where
 
   -- ---- messages of a turn that changes nothing
 
-  says_so : (k : Kept) (input : Input) (says : List Post) → Says k input says → AllSaidFor o says
+  says_so : (k : NodeState) (input : Input) (says : List Post) → Says k input says → AllSaidFor o says
   says_so k input says (steps.Gone_replies to from call given advice s came gone) = (tt, tt)
   says_so k input says (steps.Gone_aborts to from site_below comment came gone) = (tt, tt)
   says_so k input says (steps.Gone_rolls_back to from came gone) = (tt, tt)
@@ -172,15 +172,15 @@ module _ (o : Option BranchId) where
   ToIt input = (from to : BranchId) (kind : Kind) → Came input from to kind → o ≡ Some to
 
   -- a COMMIT is of this root
-  abbrev CommitOfIt : Kept → Input → Type 0
+  abbrev CommitOfIt : NodeState → Input → Type 0
   CommitOfIt k input = (n : ℕ) (given : Option (List ℕ)) (b : BranchId) → IsCall input n (stmts.Commit given) → HasRoot k n b → o ≡ Some b
 
   module _ (input : Input) (to_it : ToIt input) where
-    collects_of : {k : Kept} {l : Live} {comment : List ℕ} {site_below : Bool} → CommitOfIt k input → Collects k input l comment site_below → o ≡ Some l.me
+    collects_of : {k : NodeState} {l : Live} {comment : List ℕ} {site_below : Bool} → CommitOfIt k input → Collects k input l comment site_below → o ≡ Some l.me
     collects_of {l = l} commit (steps.By_commit n given call has code is) = commit n given l.me call has
     collects_of commit (steps.By_prepare from site_below came working) = to_it _ _ _ came
 
-    acting_of : {k : Kept} {l : Live} {site_below : Bool} {a : Act} → CommitOfIt k input → Acting k input l site_below a → o ≡ Some l.me
+    acting_of : {k : NodeState} {l : Live} {site_below : Bool} {a : Act} → CommitOfIt k input → Acting k input l site_below a → o ≡ Some l.me
     acting_of commit (steps.Asks_down l comment site_below e es live begun has) = collects_of commit begun
     acting_of commit (steps.Has_no_children l comment site_below a live begun none collected) = collects_of commit begun
     acting_of commit (steps.Hears_abort l from site_below live answers) = to_it _ _ _ answers.came
@@ -204,7 +204,7 @@ module _ (o : Option BranchId) where
     forgets_of (steps.Forgets_first came knows still all root) = to_it _ _ _ came
     forgets_of (steps.Forgets_after came knows toward still) = to_it _ _ _ came
 
-    made_of : {k : Kept} {s : Stmt} {r : RedoRecord} {d : Done} → Makes k s r d → WroteFor o (Some r)
+    made_of : {k : NodeState} {s : Stmt} {r : RedoRecord} {d : Done} → Makes k s r d → WroteFor o (Some r)
     made_of (steps.Makes_table t free) = tt
     made_of (steps.Makes_link l free) = tt
     made_of (steps.Makes_synonym y free) = tt
@@ -215,7 +215,7 @@ module _ (o : Option BranchId) where
     no_commit s given rows is = subst IsOfRows is rows
 
     -- a session that has this root has it while its COMMIT is pending
-    still_root : (k : Kept) (n m : ℕ) (b c : BranchId) → HasRoot k n b → n ≡ m → (session_at (with_call k.sessions n pending.Commit) m).root ≡ Some c → b ≡ c
+    still_root : (k : NodeState) (n m : ℕ) (b c : BranchId) → HasRoot k n b → n ≡ m → (session_at (with_call k.sessions n pending.Commit) m).root ≡ Some c → b ≡ c
     still_root k n m b c has is root =
         let same : session_at (with_call k.sessions n pending.Commit) n ≡ record (session_at k.sessions n) { call = pending.Commit } = call_set k.sessions n b pending.Commit has in
         let here : (session_at (with_call k.sessions n pending.Commit) n).root ≡ Some c = subst (λ j. (session_at (with_call k.sessions n pending.Commit) j).root ≡ Some c) (sym is) root in
@@ -224,7 +224,7 @@ module _ (o : Option BranchId) where
 
     -- ---- steps
 
-    done_on : (p : Place) {k : Kept} {d : Deed} → CommitOfIt k input → Step p input k d → DoneFor o d
+    done_on : (p : Place) {k : NodeState} {d : Deed} → CommitOfIt k input → Step p input k d → DoneFor o d
     done_on p commit (steps.Begins n s call rows fit none step) =
         done_on p (λ m given b other has. absurd (no_commit s given rows (let it : inputs.Call n (Some s) ≡ inputs.Call m (Some (stmts.Commit given)) = sym call ∙ other in cc))) step
     done_on p commit (steps.Pends {k = k} n l given call has live code step) =
@@ -298,7 +298,7 @@ turned_for : (o : Option BranchId) (scn : ℕ) (says : List Post) (w : Option Re
 turned_for o scn says None b wrote all is = sent_for o scn says b all is
 turned_for o scn says (Some r) b wrote all is = if_some o (branch_of r) b wrote is
 
-message_of_it : (k : Kept) (input : Input) → ToIt (concerned k input) input
+message_of_it : (k : NodeState) (input : Input) → ToIt (concerned k input) input
 message_of_it k (inputs.Message m) from to kind came =
     let it : inputs.Message m ≡ inputs.Message (record { from = from; to = to; scn = came.scn; kind = kind }) = came.is in
     let same : m ≡ record { from = from; to = to; scn = came.scn; kind = kind } = cc in
@@ -313,7 +313,7 @@ message_of_it k inputs.Reco from to kind came =
     let it : inputs.Reco ≡ inputs.Message (record { from = from; to = to; scn = came.scn; kind = kind }) = came.is in
     absurd cc
 
-commit_of_it : (k : Kept) (input : Input) → CommitOfIt (concerned k input) (heard k input) input
+commit_of_it : (k : NodeState) (input : Input) → CommitOfIt (concerned k input) (heard k input) input
 commit_of_it k (inputs.Message m) n given b call has = absurd cc
 commit_of_it k (inputs.Call m s) n given b call has =
     let it : inputs.Call m s ≡ inputs.Call n (Some (stmts.Commit given)) = call in

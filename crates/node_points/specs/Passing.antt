@@ -9,7 +9,7 @@ use Rattle.node_rules.specs.Data.decisions
 use Rattle.node_rules.specs.Words.{one}
 use Rattle.node_rules.specs.Inputs.{IsFit}
 use Rattle.node_rules.specs.Sessions.{session_at}
-use Rattle.node_rules.specs.Kept.{Kept, live_at, standing_at}
+use Rattle.node_rules.specs.NodeState.{NodeState, live_at, standing_at}
 use Rattle.node_rules.specs.Points.{Passes as PassesByRules, has_edges, is_ready, ready_points, ended_points, forgot_points}
 use Rattle.node_rules.specs.Turn.{turn_of}
 use Rattle.node_points.specs.declared.places.Passes.{Passes}
@@ -48,15 +48,15 @@ pub record IsAhead (live : Option Live) (row : Option Standing) (a : Ahead) : Ty
   pub forgot : option_map passes_as a.forgot ≡ forgot_points row
 
 -- this is ahead of the branch that a turn is of
-abbrev pub Foresees : Kept → Option BranchId → Ahead → Type 0
+abbrev pub Foresees : NodeState → Option BranchId → Ahead → Type 0
 Foresees k b a = (c : BranchId) → b ≡ Some c → IsAhead (live_at k c) (standing_at k c) a
 
 -- the branch that an input is about: the one that a message is for, or the root of the session that calls
-abbrev pub concerned : Kept → Input → Option BranchId
+abbrev pub concerned : NodeState → Input → Option BranchId
 concerned k (inputs.Message m) = Some m.to
 concerned k (inputs.Call n s) = (session_at k.sessions n).root
 concerned k _ = None
 
 -- a turn passes places of no other branch
 abbrev pub TurnsAreOfTheirBranch : Type 0
-TurnsAreOfTheirBranch = (p : Place) (k : Kept) (input : Input) → IsFit input → (b : BranchId) → turns (turn_of p k input).sent (turn_of p k input).wrote ≡ Some b → concerned k input ≡ Some b
+TurnsAreOfTheirBranch = (p : Place) (k : NodeState) (input : Input) → IsFit input → (b : BranchId) → turns (turn_of p k input).sent (turn_of p k input).wrote ≡ Some b → concerned k input ≡ Some b

@@ -1,7 +1,7 @@
 //! Which places a turn passes.
 ghost use Rattle.std.specs.Prelude.{◌≡◌, map, option_map, is_some, slice_get, ◌||◌, Option, Some};
 ghost use Rattle.redo_record.specs.declared.record.RedoRecord.TheVariants as records;
-ghost use Rattle.node_rules.specs.Kept.{Kept};
+ghost use Rattle.node_rules.specs.NodeState.{NodeState};
 ghost use Rattle.node_rules.specs.Points.{is_commit_point as is_commit_point_of, decided_points as decided_points_of, record_points, is_ready as is_ready_kind, sent_points, points_of};
 ghost use Rattle.node_points.specs.Passing.{passes_as, turns, Foresees, branch_of, ready_sender};
 
@@ -38,7 +38,7 @@ fn decided_points(input: &Input, root: BranchId, has_neighbors: bool) -> Option<
 }
 
 fn sealed_points(input: &Input, sealed: &Sealed) -> Passes
-    ensures { (k : Kept) → Some (passes_as result) ≡ record_points k input.now (records.Sealed sealed.now) }
+    ensures { (k : NodeState) → Some (passes_as result) ≡ record_points k input.now (records.Sealed sealed.now) }
 {
     Passes {
         root: sealed.root,
@@ -50,7 +50,7 @@ fn sealed_points(input: &Input, sealed: &Sealed) -> Passes
 }
 
 fn with_record(input: &Input, redo: &RedoRecord, ahead: &Ahead) -> Option<Passes>
-    ensures { (k : Kept) → Foresees k (branch_of redo.now) ahead.now → option_map passes_as result ≡ record_points k input.now redo.now }
+    ensures { (k : NodeState) → Foresees k (branch_of redo.now) ahead.now → option_map passes_as result ≡ record_points k input.now redo.now }
 {
     match redo {
         RedoRecord::Sealed(sealed) => Some(sealed_points(input, sealed)),
@@ -71,7 +71,7 @@ fn with_record(input: &Input, redo: &RedoRecord, ahead: &Ahead) -> Option<Passes
 }
 
 fn without_record(sent: &[Msg], ahead: &Ahead) -> Option<Passes>
-    ensures { (k : Kept) → Foresees k (ready_sender sent.now) ahead.now → option_map passes_as result ≡ sent_points k sent.now }
+    ensures { (k : NodeState) → Foresees k (ready_sender sent.now) ahead.now → option_map passes_as result ≡ sent_points k sent.now }
 {
     match sent {
         [] => None,
@@ -93,7 +93,7 @@ pub fn passed(
     wrote: &Option<RedoRecord>,
     ahead: &Ahead,
 ) -> Option<Passes>
-    ensures { (k : Kept) → Foresees k (turns sent.now wrote.now) ahead.now → option_map passes_as result ≡ points_of k input.now sent.now wrote.now }
+    ensures { (k : NodeState) → Foresees k (turns sent.now wrote.now) ahead.now → option_map passes_as result ≡ points_of k input.now sent.now wrote.now }
 {
     match wrote {
         None => without_record(sent, ahead),

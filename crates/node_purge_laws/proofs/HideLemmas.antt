@@ -7,7 +7,7 @@ use Rattle.node_rules.specs.Data.{BranchId, Msg, Place, Standing}
 use Rattle.node_rules.specs.Data.inputs
 use Rattle.node_rules.specs.Data.records
 use Rattle.node_rules.specs.Force.{may_purge, hides, purge}
-use Rattle.node_rules.specs.Kept.{Kept, Outcome}
+use Rattle.node_rules.specs.NodeState.{NodeState, Outcome}
 use Rattle.node_rules.specs.Records.{applied, with_record}
 use Rattle.node_rules.specs.Turn.{turn_of}
 use Rattle.node_purge_laws.specs.PurgeLaws.{RowsLike, rows_of, IsLike, ActsLike, PurgesHideAlone, Shows, shown, PurgesChangeNothingShown}
@@ -26,15 +26,15 @@ rows_hidden : (b : BranchId) (xs : List Standing) → RowsLike xs (change_where 
 rows_hidden b [] = tt
 rows_hidden b (x ∷ xs) = (hides_one (stands_at b x) x, rows_hidden b xs)
 
-hidden_like : (k : Kept) (b : BranchId) → IsLike k (with_record k (records.Hidden b))
+hidden_like : (k : NodeState) (b : BranchId) → IsLike k (with_record k (records.Hidden b))
 unfolding applied durable_after kept_after
 hidden_like k b = record { same = refl; rows = rows_hidden b (rows_of k) }
 
-hides_like : (k : Kept) (n : ℕ) (id : List ℕ) (o : Option Standing) → IsLike k (hides k n id o).after
+hides_like : (k : NodeState) (n : ℕ) (id : List ℕ) (o : Option Standing) → IsLike k (hides k n id o).after
 hides_like k n id None = record { same = refl; rows = rows_same (rows_of k) }
 hides_like k n id (Some s) = hidden_like k s.me
 
-purge_like : (k : Kept) (n : ℕ) (mixed : Bool) (id : List ℕ) → IsLike k (purge k n mixed id).after
+purge_like : (k : NodeState) (n : ℕ) (mixed : Bool) (id : List ℕ) → IsLike k (purge k n mixed id).after
 unfolding purge
 purge_like k n mixed id = hides_like k n id (find (may_purge mixed id) (rows_of k))
 
@@ -46,7 +46,7 @@ one_shown : (o other : Outcome) (rest more : List Shows) → ActsLike o other �
     → (record { wrote = other.wrote; sent = other.sent; ended = other.ended }) ∷ more ≡ (record { wrote = o.wrote; sent = o.sent; ended = o.ended }) ∷ rest
 one_shown o other rest more acts same = (let wrote = acts.wrote in let sent = acts.sent in let ended = acts.ended in cc)
 
-shown_like : (p : Place) (k other : Kept) → IsLike k other → (ms : List Msg) → shown p other ms ≡ shown p k ms
+shown_like : (p : Place) (k other : NodeState) → IsLike k other → (ms : List Msg) → shown p other ms ≡ shown p k ms
 shown_like p k other like [] = refl
 shown_like p k other like (m ∷ ms) =
     let acts : ActsLike (turn_of p k (inputs.Message m)) (turn_of p other (inputs.Message m)) = purges_change_no_message p k other like m in

@@ -28,7 +28,7 @@ use Rattle.node_rules.specs.Data.votes
 use Rattle.node_rules.specs.Data.phases
 use Rattle.node_rules.specs.Data.acts
 use Rattle.node_rules.specs.Data.admits
-use Rattle.node_rules.specs.Kept.{Kept, Deed, Branch, nothing, saying, post, branch_at, standing_at, standing_id, with_standing, without_branch}
+use Rattle.node_rules.specs.NodeState.{NodeState, Deed, Branch, nothing, saying, post, branch_at, standing_at, standing_id, with_standing, without_branch}
 use Rattle.node_rules.specs.Records.{applied, with_record}
 use Rattle.node_rules.specs.Names.{Named, A_table, Behind, Unknown, Way, Runs_here, Over, Through, Nowhere_to, way_of, way_named, named_by, ref_named, table_named, table_of, ref_of}
 use Rattle.node_rules.specs.Statement.{ran}
@@ -118,10 +118,10 @@ record DeedsLike (d other : Deed) : Type 0 where
   ended : d.ended ≡ other.ended
   after : IsLike d.after other.after
 
-sessions_like : {k other : Kept} (ss : List Session) → IsLike k other → IsLike (record k { sessions = ss }) (record other { sessions = ss })
-sessions_like ss like = record { same = ap (λ (z : Kept). record z { sessions = ss }) like.same; rows = like.rows }
+sessions_like : {k other : NodeState} (ss : List Session) → IsLike k other → IsLike (record k { sessions = ss }) (record other { sessions = ss })
+sessions_like ss like = record { same = ap (λ (z : NodeState). record z { sessions = ss }) like.same; rows = like.rows }
 
-module _ (k : Kept) (ks : List Standing) (like : RowsLike (rows_of k) ks) where
+module _ (k : NodeState) (ks : List Standing) (like : RowsLike (rows_of k) ks) where
   recorded : (r : RedoRecord) → IsLike (with_record k r) (with_record (with_rows k ks) r)
   unfolding applied durable_after
   recorded (records.Boot n) = record { same = refl; rows = like }
@@ -138,11 +138,11 @@ module _ (k : Kept) (ks : List Standing) (like : RowsLike (rows_of k) ks) where
   recorded (records.Forgot b) = record { same = refl; rows = kept_like (rows_of k) ks (records.Forgot b) like }
   recorded (records.Hidden b) = record { same = refl; rows = kept_like (rows_of k) ks (records.Hidden b) like }
 
-module _ (k : Kept) (ks : List Standing) (like : RowsLike (rows_of k) ks) where
-  abbrev other : Kept
+module _ (k : NodeState) (ks : List Standing) (like : RowsLike (rows_of k) ks) where
+  abbrev other : NodeState
   other = with_rows k ks
 
-  abbrev So : (Kept → Deed) → Type 0
+  abbrev So : (NodeState → Deed) → Type 0
   So f = DeedsLike (f k) (f other)
 
   rests : So nothing
@@ -154,7 +154,7 @@ module _ (k : Kept) (ks : List Standing) (like : RowsLike (rows_of k) ks) where
   said : (ps : List Post) → So (λ z. saying z ps)
   said ps = record { wrote = refl; says = refl; ended = refl; after = record { same = refl; rows = like } }
 
-  either : (q : Bool) (f g : Kept → Deed) → So f → So g → So (λ z. if q then f z else g z)
+  either : (q : Bool) (f g : NodeState → Deed) → So f → So g → So (λ z. if q then f z else g z)
   either true f g one two = one
   either false f g one two = two
 
@@ -218,13 +218,13 @@ module _ (k : Kept) (ks : List Standing) (like : RowsLike (rows_of k) ks) where
   exec_like p x from call given advice s admits.Run = statement_like p (takes_call x call advice) s given
 
 -- it begins its collect where it works
-prepare_like : (k : Kept) (ks : List Standing) → RowsLike (rows_of k) ks → (l : Live) (below : Bool) (comment : List ℕ) (phase : Phase) → DeedsLike (prepare_in k l below comment phase) (prepare_in (with_rows k ks) l below comment phase)
+prepare_like : (k : NodeState) (ks : List Standing) → RowsLike (rows_of k) ks → (l : Live) (below : Bool) (comment : List ℕ) (phase : Phase) → DeedsLike (prepare_in k l below comment phase) (prepare_in (with_rows k ks) l below comment phase)
 prepare_like k ks like l below comment phases.Working = act_like (without_read_keys k l.me) ks like (collecting (with_comment l comment) below) below (first_act (collecting (with_comment l comment) below) below)
 prepare_like k ks like l below comment _ = rests k ks like
 
 -- ---- kept branches
 
-next_like : (k : Kept) (ks : List Standing) → RowsLike (rows_of k) ks → (s : Standing) (h : Bool) (from : BranchId) (n : Next) → DeedsLike (next_turn k s from n) (next_turn (with_rows k ks) (row_as s h) from n)
+next_like : (k : NodeState) (ks : List Standing) → RowsLike (rows_of k) ks → (s : Standing) (h : Bool) (from : BranchId) (n : Next) → DeedsLike (next_turn k s from n) (next_turn (with_rows k ks) (row_as s h) from n)
 next_like k ks like s h from nexts.Rest = rests k ks like
 next_like k ks like s h from (nexts.End d) = record { wrote = refl; says = sym (passes_same s h d); ended = refl; after = sessions_like (next_turn k s from (nexts.End d)).after.sessions (recorded k ks like (records.Ended s.me d)) }
 next_like k ks like s h from (nexts.Meet d mixed) = record { wrote = refl; says = sym (passes_same s h d); ended = refl; after = sessions_like (next_turn k s from (nexts.Meet d mixed)).after.sessions (recorded k ks like (records.Met s.me d mixed)) }
@@ -238,21 +238,21 @@ next_like k ks like s h from nexts.Forget = record {
 next_like k ks like s h from nexts.SayForgotten = said k ks like (post s.me from kinds.Forgotten)
 next_like k ks like s h from nexts.SayAck = said k ks like (post s.me from kinds.Ack)
 
-decides_like : (k : Kept) (ks : List Standing) → RowsLike (rows_of k) ks → (s : Standing) (h : Bool) (from : BranchId) (d : Decision) → DeedsLike (on_decision k s from d) (on_decision (with_rows k ks) (row_as s h) from d)
+decides_like : (k : NodeState) (ks : List Standing) → RowsLike (rows_of k) ks → (s : Standing) (h : Bool) (from : BranchId) (d : Decision) → DeedsLike (on_decision k s from d) (on_decision (with_rows k ks) (row_as s h) from d)
 decides_like k ks like s h from d =
     subst (λ n. DeedsLike (on_decision k s from d) (next_turn (with_rows k ks) (row_as s h) from n)) (sym (next_same s h from d)) (next_like k ks like s h from (next_on_decision s from d))
 
-forgets_like : (k : Kept) (ks : List Standing) → RowsLike (rows_of k) ks → (s : Standing) (h : Bool) (from : BranchId) → DeedsLike (on_forgotten k s from) (on_forgotten (with_rows k ks) (row_as s h) from)
+forgets_like : (k : NodeState) (ks : List Standing) → RowsLike (rows_of k) ks → (s : Standing) (h : Bool) (from : BranchId) → DeedsLike (on_forgotten k s from) (on_forgotten (with_rows k ks) (row_as s h) from)
 forgets_like k ks like s h from =
     subst (λ n. DeedsLike (on_forgotten k s from) (next_turn (with_rows k ks) (row_as s h) from n)) (sym (forgotten_same s h from)) (next_like k ks like s h from (next_on_forgotten s from))
 
 -- an Ack that counts is noted in the row
-counts_like : (k : Kept) (ks : List Standing) → RowsLike (rows_of k) ks → (s : Standing) (h : Bool) (from : BranchId) → DeedsLike (counts_ack k s from) (counts_ack (with_rows k ks) (row_as s h) from)
+counts_like : (k : NodeState) (ks : List Standing) → RowsLike (rows_of k) ks → (s : Standing) (h : Bool) (from : BranchId) → DeedsLike (counts_ack k s from) (counts_ack (with_rows k ks) (row_as s h) from)
 counts_like k ks like s h from =
     subst (λ n. DeedsLike (counts_ack k s from) (next_turn (with_standing (with_rows k ks) (row_as s h)) (row_as s h) from n)) (sym (ack_same s h))
     (next_like (with_standing k s) (put_item standing_id ks (row_as s h)) (put_like (rows_of k) ks s (row_as s h) refl like) s h from (next_on_ack s))
 
-ack_like : (k : Kept) (ks : List Standing) → RowsLike (rows_of k) ks → (s : Standing) (h : Bool) (from : BranchId) → DeedsLike (on_ack k s from) (on_ack (with_rows k ks) (row_as s h) from)
+ack_like : (k : NodeState) (ks : List Standing) → RowsLike (rows_of k) ks → (s : Standing) (h : Bool) (from : BranchId) → DeedsLike (on_ack k s from) (on_ack (with_rows k ks) (row_as s h) from)
 ack_like k ks like s h from =
     subst (λ q. DeedsLike (on_ack k s from) (if q then counts_ack (with_rows k ks) (acked_by (row_as s h) from) from else nothing (with_rows k ks))) (sym (counts_same s h from)) (by (ack_counts s from))
   where
@@ -260,7 +260,7 @@ ack_like k ks like s h from =
     by true = counts_like k ks like (acked_by s from) h from
     by false = rests k ks like
 
-known_like : (k : Kept) (ks : List Standing) → RowsLike (rows_of k) ks → (s : Standing) (h : Bool) (from : BranchId) (o : Option Decision) → DeedsLike (commit_point_known k s from o) (commit_point_known (with_rows k ks) (row_as s h) from o)
+known_like : (k : NodeState) (ks : List Standing) → RowsLike (rows_of k) ks → (s : Standing) (h : Bool) (from : BranchId) (o : Option Decision) → DeedsLike (commit_point_known k s from o) (commit_point_known (with_rows k ks) (row_as s h) from o)
 known_like k ks like s h from None = rests k ks like
 known_like k ks like s h from (Some (decisions.Commit n)) = said k ks like (post s.me from (kinds.Committed n))
 known_like k ks like s h from (Some decisions.Rollback) = said k ks like (post s.me from kinds.RolledBack)
@@ -273,7 +273,7 @@ data StandsLike : Stand → Stand → Type 0 where
   Both_kept : (s : Standing) (h : Bool) → StandsLike (Is_kept s) (Is_kept (row_as s h))
   Both_gone : StandsLike Is_gone Is_gone
 
-module _ (p : Place) (k : Kept) (ks : List Standing) (like : RowsLike (rows_of k) ks) (from to : BranchId) where
+module _ (p : Place) (k : NodeState) (ks : List Standing) (like : RowsLike (rows_of k) ks) (from to : BranchId) where
   abbrev KindLike : Kind → Stand → Stand → Type 0
   KindLike kind a b = DeedsLike (kind_turn p k from to kind a) (kind_turn p (with_rows k ks) from to kind b)
 
@@ -338,14 +338,14 @@ live_stand : (b : Option Branch) (o r : Option Standing) → FoundLike o r → S
 live_stand (Some x) o r found = Both_live x
 live_stand None o r found = rows_stand o r found
 
-stand_like : (k : Kept) (ks : List Standing) → RowsLike (rows_of k) ks → (b : BranchId) → StandsLike (stand_of k b) (stand_of (with_rows k ks) b)
+stand_like : (k : NodeState) (ks : List Standing) → RowsLike (rows_of k) ks → (b : BranchId) → StandsLike (stand_of k b) (stand_of (with_rows k ks) b)
 unfolding stand_of
 stand_like k ks like b = live_stand (branch_at k b) (standing_at k b) (item_at standing_id ks b) (found_like (rows_of k) ks b like)
 
 -- ---- turns
 
-clock_same : {k other : Kept} → IsLike k other → k.clock ≡ other.clock
-clock_same like = sym (ap (λ (z : Kept). z.clock) like.same)
+clock_same : {k other : NodeState} → IsLike k other → k.clock ≡ other.clock
+clock_same like = sym (ap (λ (z : NodeState). z.clock) like.same)
 
 acts_like : (d e : Deed) → DeedsLike d e → ActsLike (outcome_of d) (outcome_of e)
 acts_like d e like = record {
@@ -355,7 +355,7 @@ acts_like d e like = record {
   after = like.after;
 }
 
-turn_like : (p : Place) (k : Kept) (ks : List Standing) → RowsLike (rows_of k) ks → (m : Msg) → ActsLike (turn_of p k (inputs.Message m)) (turn_of p (with_rows k ks) (inputs.Message m))
+turn_like : (p : Place) (k : NodeState) (ks : List Standing) → RowsLike (rows_of k) ks → (m : Msg) → ActsLike (turn_of p k (inputs.Message m)) (turn_of p (with_rows k ks) (inputs.Message m))
 unfolding turn_of
 turn_like p k ks like m =
     acts_like (deed_of p k (inputs.Message m)) (deed_of p (with_rows k ks) (inputs.Message m)) (kind_like p (clock_raised_by k m) ks like m.from m.to m.kind (stand_like (clock_raised_by k m) ks like m.to))

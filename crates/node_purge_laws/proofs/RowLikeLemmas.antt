@@ -8,7 +8,7 @@ use Rattle.redo_record.specs.Rows.{sealed_as, decided_as, has_neighbors}
 use Rattle.node_rules.specs.Data.{BranchId, RedoRecord, Standing}
 use Rattle.node_rules.specs.Data.decisions
 use Rattle.node_rules.specs.Data.records
-use Rattle.node_rules.specs.Kept.{standing_id}
+use Rattle.node_rules.specs.NodeState.{standing_id}
 use Rattle.node_purge_laws.specs.PurgeLaws.{row_as, RowsLike}
 
 -- ---- two rows

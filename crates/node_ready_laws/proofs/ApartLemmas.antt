@@ -8,7 +8,7 @@ use Rattle.redo_record.specs.Kept.{add_kept, keep_decided}
 use Rattle.redo_record.specs.Rows.{has_neighbors}
 use Rattle.node_rules.specs.Data.{BranchId, Standing, Live, Doubt}
 use Rattle.node_rules.specs.Words.{same, is_item_of, item_at, put_item, drop_item}
-use Rattle.node_rules.specs.Kept.{live_id, standing_id, doubt_id}
+use Rattle.node_rules.specs.NodeState.{live_id, standing_id, doubt_id}
 use Rattle.node_ready_laws.specs.Ids.{last_seq, IsGiven, IsFree, AreApart}
 use Rattle.node_ready_laws.proofs.ListLemmas.{all_last, all_weaker, all_found, all_put, all_dropped, all_left, all_placed, none_of, not_found, new_id}
 use Rattle.node_ready_laws.proofs.GivenLemmas.{given_still}

@@ -7,7 +7,7 @@ use Rattle.node_rules.specs.Data.inputs
 use Rattle.node_rules.specs.Data.acts
 use Rattle.commit_forget.specs.declared.next.Next.TheVariants as nexts
 use Rattle.node_rules.specs.Words.{numbered, set_numbered, put_item, drop_item, item_at}
-use Rattle.node_rules.specs.Kept.{Kept, Deed, Branch, work_id, work_at, work_or, with_work, live_at, branch_at}
+use Rattle.node_rules.specs.NodeState.{NodeState, Deed, Branch, work_id, work_at, work_or, with_work, live_at, branch_at}
 use Rattle.node_rules.specs.Calls.{next_call}
 use Rattle.node_rules.specs.Turn.{heard, turn_of}
 use Rattle.node_rules.proofs.Steps as steps
@@ -51,7 +51,7 @@ set_below n cs (suc i) x all low = put_below n cs i x all low
 pub called_below : (n : ℕ) (w : Work) (i : ℕ) → Below n w.calls → Below (n + 1) (set_numbered w.calls i (next_call w i))
 called_below n w i all = set_below (n + 1) w.calls i (next_call w i) (higher n w.calls all) (let low = numbered_below n w.calls i all in omega (arith, low))
 
-module _ (n : ℕ) (k : Kept) (all : WorksBelow n k.works) where
+module _ (n : ℕ) (k : NodeState) (all : WorksBelow n k.works) where
   pub work_by : (b : BranchId) (o : Option Work) → item_at work_id k.works b ≡ o → Below n (work_or b o).calls
   work_by b None is = tt
   work_by b (Some w) is = all_found (λ x. Below n x.calls) _ k.works w all is
@@ -83,7 +83,7 @@ module _ (n : ℕ) (k : Kept) (all : WorksBelow n k.works) where
   left : (b : BranchId) → WorksBelow (n + 1) (drop_item work_id k.works b)
   left b = all_dropped (λ x. Below (n + 1) x.calls) work_id k.works b more
 
-calls_on : (p : Place) (input : Input) (n : ℕ) {k : Kept} {d : Deed} → Step p input k d → WorksBelow n k.works → WorksBelow (n + 1) d.after.works
+calls_on : (p : Place) (input : Input) (n : ℕ) {k : NodeState} {d : Deed} → Step p input k d → WorksBelow n k.works → WorksBelow (n + 1) d.after.works
 calls_on p input n (steps.Begins m s call rows fit none step) all = calls_on p input n step all
 calls_on p input n (steps.Pends m l given call has live code step) all = calls_on p input n step all
 calls_on p input n (steps.Lets_reads_go l comment site_below live begins step) all = calls_on p input n step all
@@ -119,7 +119,7 @@ calls_on p input n (steps.Gives_up_commit {k = k} m b (Some l) gives has calls l
 calls_on p input n (steps.Gives_up_commit {k = k} m b None gives has calls live) all = more n k all
 calls_on p input n {k = k} _ all = more n k all
 
-heard_below : (n : ℕ) (k : Kept) (input : Input) → WorksBelow n k.works → WorksBelow n (heard k input).works
+heard_below : (n : ℕ) (k : NodeState) (input : Input) → WorksBelow n k.works → WorksBelow n (heard k input).works
 heard_below n k (inputs.Message m) all = all
 heard_below n k _ all = all
 

@@ -10,7 +10,7 @@ use Rattle.node_rules.specs.declared.session.PendingCall.TheVariants as pending
 use Rattle.commit_forget.specs.declared.next.Next.TheVariants as nexts
 use Rattle.row_store.specs.Store.{AreOfTables, has_table}
 use Rattle.node_rules.specs.Words.{same_text, put_item}
-use Rattle.node_rules.specs.Kept.{Kept, Stored, Deed, standing_id}
+use Rattle.node_rules.specs.NodeState.{NodeState, Stored, Deed, standing_id}
 use Rattle.node_rules.specs.Commit.{acked_by}
 use Rattle.node_rules.specs.Prepare.{own_changes, sealed_record, decided_record}
 use Rattle.node_rules.specs.Sessions.{with_call}
@@ -45,7 +45,7 @@ found_there p (x ∷ xs) y found = by (p x) found (found_there p xs y)
     by true is later = refl
     by false is later = later is
 
-module _ (k : Kept) (now : HasRows k) where
+module _ (k : NodeState) (now : HasRows k) where
   -- rows stand under the names of the tables
   changes_there : (cs : List Change) → AreChangesAt k.stored.durable.tables cs → AreOfTables k.stored.rows cs
   changes_there cs at =
@@ -97,7 +97,7 @@ unnoted s kept (Some r) is = rows_do_not_matter (with_rows s kept) s.durable.kep
 
 -- ---- steps
 
-next_on : (p : Place) (input : Input) → BringsWhole input → BringsNamed input → {k : Kept} {d : Deed} → Step p input k d → HasRows k → HasOwnIds k → IfSome d.wrote (IsNext k.stored)
+next_on : (p : Place) (input : Input) → BringsWhole input → BringsNamed input → {k : NodeState} {d : Deed} → Step p input k d → HasRows k → HasOwnIds k → IfSome d.wrote (IsNext k.stored)
 next_on p input whole named (steps.Begins {k = k} n s call rows fit none step) now ids = next_on p input whole named step now (begun_ids k ids p n fit)
 next_on p input whole named (steps.Pends {k = k} n l given call has live code step) now ids = next_on p input whole named step now (still k ids (with_call k.sessions n pending.Commit) (call_seqs k.sessions n pending.Commit))
 next_on p input whole named (steps.Lets_reads_go l comment site_below live begins step) now ids = next_on p input whole named step now ids
@@ -128,7 +128,7 @@ next_on p input whole named (steps.Gives_up_commit n b None gives has calls live
 next_on p input whole named _ now ids = tt
 
 -- what a node hears changes none of this
-heard_next : (k : Kept) (input : Input) (w : Option RedoRecord) → HasRows k → (HasRows (heard k input) → IfSome w (IsNext (heard k input).stored)) → IfSome w (IsNext k.stored)
+heard_next : (k : NodeState) (input : Input) (w : Option RedoRecord) → HasRows k → (HasRows (heard k input) → IfSome w (IsNext (heard k input).stored)) → IfSome w (IsNext k.stored)
 heard_next k (inputs.Message m) w now next = next now
 heard_next k (inputs.Call n s) w now next = next now
 heard_next k (inputs.GiveUp n) w now next = next now

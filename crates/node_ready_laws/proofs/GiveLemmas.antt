@@ -6,7 +6,7 @@ use Rattle.std.proofs.lemmas.List.Sums.{sum_by-cons}
 use Rattle.node_rules.specs.Data.{Edge}
 use Rattle.node_rules.specs.Words.{item_at}
 use Rattle.node_rules.specs.LiveBranches.{works_of}
-use Rattle.node_rules.specs.Kept.{work_id}
+use Rattle.node_rules.specs.NodeState.{work_id}
 use Rattle.node_ready_laws.specs.Shapes.{count_limit, IsShaped}
 use Rattle.node_ready_laws.specs.Gives.{ChildrenAreFew, NextCallsAreWithin}
 use Rattle.node_ready_laws.proofs.ShapeLemmas.{within}

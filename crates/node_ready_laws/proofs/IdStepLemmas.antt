@@ -16,7 +16,7 @@ use Rattle.commit_forget.specs.declared.next.Next.TheVariants as nexts
 use Rattle.session_tree.specs.Live.{new_edge}
 use Rattle.node_rules.specs.Words.{is_item_of, put_item, drop_item, set_numbered}
 use Rattle.node_rules.specs.Refusals.{dtx}
-use Rattle.node_rules.specs.Kept.{Kept, Deed, live_id, standing_id, live_at}
+use Rattle.node_rules.specs.NodeState.{NodeState, Deed, live_id, standing_id, live_at}
 use Rattle.node_rules.specs.Records.{applied, doubt_over, stored_by}
 use Rattle.node_rules.specs.Sessions.{session_at, with_call, with_root, no_transaction}
 use Rattle.node_rules.specs.Statement.{ran, after_run}
@@ -38,7 +38,7 @@ use Rattle.node_ready_laws.proofs.GivenLemmas.{seqs_rise, seq_set}
 use Rattle.node_ready_laws.proofs.ApartLemmas.{live_given, live_free, unused, changed, left, grown, fewer, decided, sealed}
 use Rattle.node_ready_laws.proofs.RecordIdLemmas.{AddsNone, apart_after}
 
-module _ (k : Kept) (now : HasOwnIds k) where
+module _ (k : NodeState) (now : HasOwnIds k) where
   -- with sessions whose numbers are the same
   pub still : (ss : List Session) → seqs ss ≡ seqs k.sessions → AreApart k.stored.durable.boot (seqs ss) (length k.opens) k.lives k.stored.durable.kept k.stored.doubts
   still ss numbers = subst (λ ms. AreApart k.stored.durable.boot ms (length k.opens) k.lives k.stored.durable.kept k.stored.doubts) (sym numbers) now
@@ -122,7 +122,7 @@ module _ (k : Kept) (now : HasOwnIds k) where
       (free (next_child p k) (child_is_new p), λ n fit. free (new_root p k n) (root_is_new p n fit.1))
 
 -- each step leaves them so
-pub ids_on : (p : Place) (input : Input) {k : Kept} {d : Deed} → Step p input k d → HasOwnIds k → HasOwnIds d.after
+pub ids_on : (p : Place) (input : Input) {k : NodeState} {d : Deed} → Step p input k d → HasOwnIds k → HasOwnIds d.after
 ids_on p input (steps.Begins {k = k} n s call rows fit none step) now = ids_on p input step (begun_ids k now p n fit)
 ids_on p input (steps.Pends {k = k} n l given call has live code step) now = ids_on p input step (still k now (with_call k.sessions n pending.Commit) (call_seqs k.sessions n pending.Commit))
 ids_on p input (steps.Lets_reads_go l comment site_below live begins step) now = ids_on p input step now
@@ -172,7 +172,7 @@ ids_on p input (steps.Gives_up_commit {k = k} n b (Some l) gives has calls live)
 ids_on p input (steps.Gives_up_commit {k = k} n b None gives has calls gone) now = still k now _ (ended_seqs k.sessions b)
 ids_on p input _ now = now
 
-pub ids_heard : (k : Kept) (input : Input) → HasOwnIds k → HasOwnIds (heard k input)
+pub ids_heard : (k : NodeState) (input : Input) → HasOwnIds k → HasOwnIds (heard k input)
 ids_heard k (inputs.Message m) now = now
 ids_heard k _ now = now
 

@@ -11,7 +11,7 @@ use Rattle.node_rules.specs.Data.params
 use Rattle.node_rules.specs.Data.inputs
 use Rattle.node_rules.specs.Data.acts
 use Rattle.commit_forget.specs.declared.next.Next.TheVariants as nexts
-use Rattle.node_rules.specs.Kept.{Kept, Deed}
+use Rattle.node_rules.specs.NodeState.{NodeState, Deed}
 use Rattle.node_rules.specs.Records.{applied}
 use Rattle.node_rules.specs.Inputs.{IsCall}
 use Rattle.node_rules.specs.Turn.{heard, turn_of}
@@ -70,7 +70,7 @@ names_after d (records.Forgot b) is now = now
 names_after d (records.Hidden b) is now = now
 
 -- a record that a client's statement makes
-pub makes_names : {input : Input} {k : Kept} {n : ℕ} {s : Stmt} {r : RedoRecord} {d : Done} → BringsNamed input → IsCall input n s → Makes k s r d → KeepsNames r
+pub makes_names : {input : Input} {k : NodeState} {n : ℕ} {s : Stmt} {r : RedoRecord} {d : Done} → BringsNamed input → IsCall input n s → Makes k s r d → KeepsNames r
 makes_names named call (steps.Makes_table t free) = tt
 makes_names named call (steps.Makes_link l free) = subst BringsNamed call named
 makes_names named call (steps.Makes_synonym y free) = subst BringsNamed call named
@@ -78,7 +78,7 @@ makes_names named call (steps.Sets_recovery on) = tt
 
 -- ---- steps
 
-names_on : (p : Place) (input : Input) → BringsNamed input → {k : Kept} {d : Deed} → Step p input k d → HasNames k → HasNames d.after
+names_on : (p : Place) (input : Input) → BringsNamed input → {k : NodeState} {d : Deed} → Step p input k d → HasNames k → HasNames d.after
 unfolding applied durable_after
 names_on p input named (steps.Begins n s call rows fit none step) now = names_on p input named step now
 names_on p input named (steps.Pends n l given call has live code step) now = names_on p input named step now
@@ -105,7 +105,7 @@ names_on p input named (steps.Gives_up_commit n b (Some l) gives has calls live)
 names_on p input named (steps.Gives_up_commit n b None gives has calls live) now = now
 names_on p input named _ now = now
 
-names_heard : (k : Kept) (input : Input) → HasNames k → HasNames (heard k input)
+names_heard : (k : NodeState) (input : Input) → HasNames k → HasNames (heard k input)
 names_heard k (inputs.Message m) now = now
 names_heard k _ now = now
 

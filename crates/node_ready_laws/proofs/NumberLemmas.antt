@@ -5,7 +5,7 @@ use Rattle.node_rules.specs.Data.{Place, Input}
 use Rattle.node_rules.specs.Data.inputs
 use Rattle.node_rules.specs.Data.acts
 use Rattle.commit_forget.specs.declared.next.Next.TheVariants as nexts
-use Rattle.node_rules.specs.Kept.{Kept, Deed}
+use Rattle.node_rules.specs.NodeState.{NodeState, Deed}
 use Rattle.node_rules.specs.Calls.{new_opening}
 use Rattle.node_rules.specs.Turn.{heard, deed_of, turn_of}
 use Rattle.node_rules.proofs.Steps as steps
@@ -14,10 +14,10 @@ use Rattle.node_rules.proofs.TurnLemmas.{step_of}
 use Rattle.node_ready_laws.specs.Numbers.{ClocksRiseByOne, OneOpenATurn}
 
 -- the clock rises by one at most, and one Open more is answered at most
-abbrev Rises : Kept → Kept → Type 0
+abbrev Rises : NodeState → NodeState → Type 0
 Rises k x = (x.clock ≤ k.clock + 1) × (length x.opens ≤ length k.opens + 1)
 
-rises_on : (p : Place) (input : Input) {k : Kept} {d : Deed} → Step p input k d → Rises k d.after
+rises_on : (p : Place) (input : Input) {k : NodeState} {d : Deed} → Step p input k d → Rises k d.after
 rises_on p input (steps.Begins n s call rows fit none step) = rises_on p input step
 rises_on p input (steps.Pends n l given call has live code step) = rises_on p input step
 rises_on p input (steps.Lets_reads_go l comment site_below live begins step) = rises_on p input step
@@ -43,7 +43,7 @@ rises_on p input (steps.Gives_up_commit n b None gives has calls live) = (omega 
 rises_on p input (steps.Opens_branch {k = k} to parent edge root depth came new) = (omega arith, omega (arith, length-append k.opens (new_opening p k parent edge ∷ [])))
 rises_on p input _ = (omega arith, omega arith)
 
-opens_heard : (k : Kept) (input : Input) → (heard k input).opens ≡ k.opens
+opens_heard : (k : NodeState) (input : Input) → (heard k input).opens ≡ k.opens
 opens_heard k (inputs.Message m) = refl
 opens_heard k (inputs.Call n s) = refl
 opens_heard k (inputs.GiveUp n) = refl

@@ -5,7 +5,7 @@ use Rattle.std.proofs.lemmas.List.Elements.{recursion_from_All}
 use Rattle.node_rules.specs.Data.{Value, Change, Table, Refusal, Done, BranchId, Stmt, ChangeSet, Owned, Place}
 use Rattle.node_rules.specs.Words.{item_at}
 use Rattle.node_rules.specs.Rows.{rows_of_table, changes_of, set_over}
-use Rattle.node_rules.specs.Kept.{Kept, own_id, sets_of, sets_at}
+use Rattle.node_rules.specs.NodeState.{NodeState, own_id, sets_of, sets_at}
 use Rattle.node_rules.specs.Statement.{Ran, Refuses, Reads, Writes, view, ground_of, ran, owns_after}
 use Rattle.sql_check.specs.Checks.{checked}
 use Rattle.sql_check.specs.Refusals.{else_refuse}
@@ -53,7 +53,7 @@ set_last : (sets : List ChangeSet) (x : ChangeSet) → changes_of (sets ++ x ∷
 set_last [] x = append-nil x.changes
 set_last (y ∷ sets) x = ap (λ cs. y.changes ++ cs) (set_last sets x) ∙ sym (append_assoc y.changes (changes_of sets) x.changes)
 
-module _ (k : Kept) (now : HasRows k) (b : BranchId) where
+module _ (k : NodeState) (now : HasRows k) (b : BranchId) where
   -- what the branch has changed is of tables that are there
   own_by : (o : Option Owned) → item_at own_id k.owns b ≡ o → AreChangesAt k.stored.durable.tables (changes_of (sets_of o))
   own_by None is = tt
@@ -62,7 +62,7 @@ module _ (k : Kept) (now : HasRows k) (b : BranchId) where
   pub own_there : AreChangesAt k.stored.durable.tables (changes_of (sets_at k.owns b))
   own_there = own_by (item_at own_id k.owns b) refl
 
-module _ (k : Kept) (now : HasRows k) (b : BranchId) (t : Table) (there : table_named k.stored.durable.tables t.name ≡ Some t) where
+module _ (k : NodeState) (now : HasRows k) (b : BranchId) (t : Table) (there : table_named k.stored.durable.tables t.name ≡ Some t) where
   own : AreChangesAt k.stored.durable.tables (changes_of (sets_at k.owns b))
   own = own_there k now b
 

@@ -2,7 +2,7 @@
 use Rattle.std.proofs.Common.{ℕ, ◌≤◌, arith}
 use Rattle.node_rules.specs.Data.{Input}
 use Rattle.node_rules.specs.Data.inputs
-use Rattle.node_rules.specs.Kept.{Kept}
+use Rattle.node_rules.specs.NodeState.{NodeState}
 use Rattle.node_rules.specs.Turn.{heard}
 use Rattle.node_ready_laws.specs.Ready.{TurnsStayReady, BringsWithin, NumbersStayWithin}
 use Rattle.node_ready_laws.proofs.RowStepLemmas.{rows_stay_of_tables}
@@ -25,7 +25,7 @@ turns_stay_ready p k input expected ready = (
   records_follow p k input expected.fit expected.whole expected.named ready.rows ready.ids,
 )
 
-heard_within : (k : Kept) (input : Input) (n : ℕ) → BringsWithin n input → k.clock ≤ n → (heard k input).clock ≤ n
+heard_within : (k : NodeState) (input : Input) (n : ℕ) → BringsWithin n input → k.clock ≤ n → (heard k input).clock ≤ n
 heard_within k (inputs.Message m) n low clock = omega (arith, low, clock)
 heard_within k (inputs.Call session s) n low clock = clock
 heard_within k (inputs.GiveUp session) n low clock = clock

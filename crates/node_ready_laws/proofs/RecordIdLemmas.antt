@@ -8,7 +8,7 @@ use Rattle.node_rules.specs.Data.decisions
 use Rattle.node_rules.specs.Data.records
 use Rattle.node_rules.specs.Data.params
 use Rattle.node_rules.specs.Rows.{TableRows}
-use Rattle.node_rules.specs.Kept.{Stored, standing_id, doubt_id}
+use Rattle.node_rules.specs.NodeState.{Stored, standing_id, doubt_id}
 use Rattle.node_rules.specs.Records.{doubts_after, applied}
 use Rattle.node_ready_laws.specs.Ids.{AreApart}
 use Rattle.node_ready_laws.proofs.ListLemmas.{all_dropped, all_filtered, all_changed}

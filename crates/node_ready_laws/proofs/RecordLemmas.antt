@@ -8,7 +8,7 @@ use Rattle.node_rules.specs.Data.params
 use Rattle.redo_record.specs.Durable.{durable_after}
 use Rattle.node_rules.specs.Words.{same_text, item_at, drop_item}
 use Rattle.node_rules.specs.Rows.{TableRows, rows_of_table, apply_all, with_table, changes_of}
-use Rattle.node_rules.specs.Kept.{Stored, doubt_id}
+use Rattle.node_rules.specs.NodeState.{Stored, doubt_id}
 use Rattle.node_rules.specs.Records.{held_back, settled, applied}
 use Rattle.node_rules.specs.Client.{is_used}
 use Rattle.sql_statement.specs.Whole.{IsWholeTable}

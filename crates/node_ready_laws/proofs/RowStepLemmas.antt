@@ -8,7 +8,7 @@ use Rattle.commit_forget.specs.declared.next.Next.TheVariants as nexts
 use Rattle.node_rules.specs.Words.{same_text, drop_item}
 use Rattle.node_rules.specs.Rows.{changes_of}
 use Rattle.node_rules.specs.Names.{Runs_here, Through, Nowhere_to, synonym_named, table_named as named_as, table_of, ref_named, ref_of, target_of, way_edge, way_target, way_named, way_of}
-use Rattle.node_rules.specs.Kept.{Kept, Deed, own_id}
+use Rattle.node_rules.specs.NodeState.{NodeState, Deed, own_id}
 use Rattle.node_rules.specs.Prepare.{sealed_record, decided_record}
 use Rattle.node_rules.specs.Statement.{view, ran, owns_after}
 use Rattle.node_rules.specs.Records.{applied, stored_by}
@@ -69,13 +69,13 @@ module _ (p : Place) (d : Durable) (l : Live) (given : ℕ) (t : Table) where
 -- ---- steps
 
 -- a record that a client's statement makes keeps rows
-makes_keeps : {input : Input} {k : Kept} {n : ℕ} {s : Stmt} {r : RedoRecord} {d : Done} → BringsWhole input → IsCall input n s → Makes k s r d → KeepsRows k.stored r
+makes_keeps : {input : Input} {k : NodeState} {n : ℕ} {s : Stmt} {r : RedoRecord} {d : Done} → BringsWhole input → IsCall input n s → Makes k s r d → KeepsRows k.stored r
 makes_keeps whole call (steps.Makes_table t free) = (subst BringsWhole call whole, free)
 makes_keeps whole call (steps.Makes_link l free) = tt
 makes_keeps whole call (steps.Makes_synonym y free) = tt
 makes_keeps whole call (steps.Sets_recovery on) = tt
 
-module _ (k : Kept) (now : HasRows k) where
+module _ (k : NodeState) (now : HasRows k) where
   -- a branch leaves
   dropped : (b : BranchId) → AreRows k.stored.durable.tables k.stored.rows (drop_item own_id k.owns b) k.stored.doubts
   dropped b = record {
@@ -100,7 +100,7 @@ module _ (k : Kept) (now : HasRows k) where
       → AreRows k.stored.durable.tables k.stored.rows (owns_after k.owns b (view k b t.name) (ran p k b s t)) k.stored.doubts
   run p b s t there = record { whole = now.whole; own_names = now.own_names; fit = now.fit; names = now.names; own = own_ran k now b t there p s; held_back = now.held_back }
 
-rows_on : (p : Place) (input : Input) → BringsWhole input → {k : Kept} {d : Deed} → Step p input k d → HasRows k → HasRows d.after
+rows_on : (p : Place) (input : Input) → BringsWhole input → {k : NodeState} {d : Deed} → Step p input k d → HasRows k → HasRows d.after
 rows_on p input whole (steps.Begins n s call rows fit none step) now = rows_on p input whole step now
 rows_on p input whole (steps.Pends n l given call has live code step) now = rows_on p input whole step now
 rows_on p input whole (steps.Lets_reads_go l comment site_below live begins step) now = rows_on p input whole step now
@@ -134,7 +134,7 @@ rows_on p input whole (steps.Gives_up_commit {k = k} n b (Some l) gives has call
 rows_on p input whole (steps.Gives_up_commit n b None gives has calls live) now = now
 rows_on p input whole _ now = now
 
-rows_heard : (k : Kept) (input : Input) → HasRows k → HasRows (heard k input)
+rows_heard : (k : NodeState) (input : Input) → HasRows k → HasRows (heard k input)
 rows_heard k (inputs.Message m) now = now
 rows_heard k _ now = now
 

@@ -10,7 +10,7 @@ use Rattle.commit_forget.specs.declared.next.Next.TheVariants as nexts
 use Rattle.node_rules.specs.Words.{numbered, set_numbered}
 use Rattle.node_rules.specs.Refusals.{dtx}
 use Rattle.node_rules.specs.Sessions.{session_at, with_call, no_transaction}
-use Rattle.node_rules.specs.Kept.{Kept, Deed, Branch}
+use Rattle.node_rules.specs.NodeState.{NodeState, Deed, Branch}
 use Rattle.node_rules.specs.Calls.{with_edge, hears_reply, heard_sessions}
 use Rattle.session_tree.specs.Live.{new_edge}
 use Rattle.node_rules.specs.Prepare.{is_alone}
@@ -62,14 +62,14 @@ set_still xs zero y none = refl
 set_still xs (suc i) y none = slice_still xs i y none
 
 -- each session of a call has a transaction
-abbrev Has_begun : Input → Kept → Type 0
+abbrev Has_begun : Input → NodeState → Type 0
 Has_begun input k = (n : ℕ) (s : Stmt) → IsCall input n s → (b : BranchId) × HasRoot k n b
 
 -- the numbers before a transaction begins in the turn, and after
-abbrev Lows : Input → ℕ → Kept → Type 0
+abbrev Lows : Input → ℕ → NodeState → Type 0
 Lows input n k = Low n (seqs k.sessions) ⊎ (Low (n + 1) (seqs k.sessions) × Has_begun input k)
 
-after : (input : Input) (n : ℕ) (k : Kept) → Lows input n k → Low (n + 1) (seqs k.sessions)
+after : (input : Input) (n : ℕ) (k : NodeState) → Lows input n k → Low (n + 1) (seqs k.sessions)
 after input n k (inl low) = higher n (seqs k.sessions) low
 after input n k (inr low) = low.0
 
@@ -78,7 +78,7 @@ same_session : {input : Input} {n m : ℕ} {s t : Stmt} → IsCall input n s →
 same_session {n = n} {m = m} {s = s} {t = t} one other = let is : inputs.Call n (Some s) ≡ inputs.Call m (Some t) = sym one ∙ other in cc
 
 -- a transaction begins
-begins : (p : Place) (input : Input) (n m : ℕ) (s : Stmt) (k : Kept) (o : Option Session) → IsCall input m s → numbered k.sessions m ≡ o → Low n (seqs k.sessions) → Lows input n (begun_by p k m None)
+begins : (p : Place) (input : Input) (n m : ℕ) (s : Stmt) (k : NodeState) (o : Option Session) → IsCall input m s → numbered k.sessions m ≡ o → Low n (seqs k.sessions) → Lows input n (begun_by p k m None)
 begins p input n m s k (Some there) call is low = inr (
   subst (Low (n + 1)) (sym (set_seqs k.sessions m _))
       (set_low (n + 1) (seqs k.sessions) m _ (higher n (seqs k.sessions) low) (let was = session_seq k.sessions m in let old = seq_low n (seqs k.sessions) m low in omega (arith, was, old))),
@@ -89,7 +89,7 @@ begins p input n m s k (Some there) call is low = inr (
 begins p input n m s k None call is low = inl (subst (λ ss. Low n (seqs ss)) (sym (set_still k.sessions m _ is)) low)
 
 -- a COMMIT is pending from now on
-pends : (input : Input) (n m : ℕ) (l : Live) (s : Stmt) (k : Kept) → IsCall input m s → HasRoot k m l.me → Lows input n k → Lows input n (record k { sessions = with_call k.sessions m pending.Commit })
+pends : (input : Input) (n m : ℕ) (l : Live) (s : Stmt) (k : NodeState) → IsCall input m s → HasRoot k m l.me → Lows input n k → Lows input n (record k { sessions = with_call k.sessions m pending.Commit })
 pends input n m l s k call has (inl low) = inl (subst (Low n) (sym (call_seqs k.sessions m pending.Commit)) low)
 pends input n m l s k call has (inr low) = inr (
   subst (Low (n + 1)) (sym (call_seqs k.sessions m pending.Commit)) low.0,
@@ -98,7 +98,7 @@ pends input n m l s k call has (inr low) = inr (
       (l.me, subst (λ j. HasRoot (record k { sessions = with_call k.sessions m pending.Commit }) j l.me) here (ap (λ (x : Session). x.root) (call_set k.sessions m l.me pending.Commit has) ∙ has))),
 )
 
-seqs_on : (p : Place) (input : Input) (n : ℕ) {k : Kept} {d : Deed} → Step p input k d → Lows input n k → Low (n + 1) (seqs d.after.sessions)
+seqs_on : (p : Place) (input : Input) (n : ℕ) {k : NodeState} {d : Deed} → Step p input k d → Lows input n k → Low (n + 1) (seqs d.after.sessions)
 seqs_on p input n (steps.Begins {k = k} m s call rows fit none step) (inl low) = seqs_on p input n step (begins p input n m s k (numbered k.sessions m) call refl low)
 seqs_on p input n (steps.Begins {k = k} m s call rows fit none step) (inr low) = let has = low.1 m s call in let clash : None ≡ Some has.0 = sym none ∙ has.1 in absurd cc
 seqs_on p input n (steps.Pends {k = k} m l given call has live code step) now = seqs_on p input n step (pends input n m l _ k call has now)

@@ -7,7 +7,7 @@ use Rattle.redo_record.specs.Kept.{kept_after, add_kept}
 use Rattle.redo_record.specs.Rows.{sealed_as, decided_as, has_neighbors}
 use Rattle.node_rules.specs.Data.{RedoRecord, Standing, Doubt, Place}
 use Rattle.node_rules.specs.Data.records
-use Rattle.node_rules.specs.Kept.{Stored, standing_id}
+use Rattle.node_rules.specs.NodeState.{Stored, standing_id}
 use Rattle.node_rules.specs.Records.{nothing_stored, doubts_after, applied, stored_by}
 use Rattle.node_rules.specs.Turn.{start_of, kept_by}
 use Rattle.node_rules.proofs.LiveLemmas.{none_live}

@@ -6,7 +6,7 @@ use Rattle.row_store.specs.Store.{AreOfTables, has_table, is_in_doubt}
 use Rattle.node_rules.specs.Data.{RedoRecord, Durable}
 use Rattle.node_rules.specs.Data.records
 use Rattle.node_rules.specs.Rows.{TableRows}
-use Rattle.node_rules.specs.Kept.{Stored}
+use Rattle.node_rules.specs.NodeState.{Stored}
 use Rattle.node_rules.specs.Records.{applied}
 use Rattle.row_store.specs.declared.pending.Doubt.{Doubt}
 

@@ -3,7 +3,7 @@ use Rattle.std.specs.Prelude.{◌≡◌, ℕ, ◌+◌, ◌<◌, ◌≤◌, List,
 use Rattle.std.specs.List.{AllByRecursion}
 use Rattle.node_rules.specs.Data.{BranchId, Standing, Live, Doubt, Place, Input}
 use Rattle.node_rules.specs.Words.{item_at, numbered}
-use Rattle.node_rules.specs.Kept.{Kept, standing_id, doubt_id, live_at}
+use Rattle.node_rules.specs.NodeState.{NodeState, standing_id, doubt_id, live_at}
 use Rattle.node_rules.specs.Calls.{next_child}
 use Rattle.node_rules.specs.Client.{new_root}
 use Rattle.node_rules.specs.Inputs.{IsSession, IsFit}
@@ -32,12 +32,12 @@ pub record AreApart (boot : ℕ) (seqs : List ℕ) (opened : ℕ) (lives : List 
   pub free : AllByRecursion (λ l. IsFree kept doubts l.me) lives
 
 -- a node whose branches are so
-abbrev pub HasOwnIds : Kept → Type 0
+abbrev pub HasOwnIds : NodeState → Type 0
 HasOwnIds k = AreApart k.stored.durable.boot (map (λ s. s.seq) k.sessions) (length k.opens) k.lives k.stored.durable.kept k.stored.doubts
 
 -- each turn leaves them so
 abbrev pub IdsStay : Type 0
-IdsStay = (p : Place) (k : Kept) (input : Input) → IsFit input → HasOwnIds k → HasOwnIds (turn_of p k input).after
+IdsStay = (p : Place) (k : NodeState) (input : Input) → IsFit input → HasOwnIds k → HasOwnIds (turn_of p k input).after
 
 -- no branch of a node that has just been made
 abbrev pub NoIdsAtFirst : Type 0
@@ -45,10 +45,10 @@ NoIdsAtFirst = HasOwnIds made
 
 -- a branch that is live is neither kept nor in doubt
 abbrev pub LivesAreFree : Type 0
-LivesAreFree = (k : Kept) (b : BranchId) (l : Live) → HasOwnIds k → live_at k b ≡ Some l → IsFree k.stored.durable.kept k.stored.doubts b
+LivesAreFree = (k : NodeState) (b : BranchId) (l : Live) → HasOwnIds k → live_at k b ≡ Some l → IsFree k.stored.durable.kept k.stored.doubts b
 
 -- an id that is given out next is of no branch
 abbrev pub NewIdsAreNew : Type 0
-NewIdsAreNew = (p : Place) (k : Kept) → HasOwnIds k
+NewIdsAreNew = (p : Place) (k : NodeState) → HasOwnIds k
     → ((live_at k (next_child p k) ≡ None) × IsFree k.stored.durable.kept k.stored.doubts (next_child p k))
     × ((n : ℕ) → IsSession n → (live_at k (new_root p k n) ≡ None) × IsFree k.stored.durable.kept k.stored.doubts (new_root p k n))

@@ -6,7 +6,7 @@ use Rattle.sql_statement.specs.Whole.{IsName}
 use Rattle.node_rules.specs.Data.{Link, Synonym, Stmt, Place, Input}
 use Rattle.node_rules.specs.Data.stmts
 use Rattle.node_rules.specs.Data.inputs
-use Rattle.node_rules.specs.Kept.{Kept}
+use Rattle.node_rules.specs.NodeState.{NodeState}
 use Rattle.node_rules.specs.Inputs.{IsFit}
 use Rattle.node_rules.specs.Turn.{turn_of}
 use Rattle.node_ready_laws.specs.Rows.{HasRows}
@@ -26,7 +26,7 @@ pub record AreNamed (ls : List Link) (ys : List Synonym) : Type 0 where
   pub synonyms : AllByRecursion IsNamedSynonym ys
 
 -- a node whose links and synonyms are so
-abbrev pub HasNames : Kept → Type 0
+abbrev pub HasNames : NodeState → Type 0
 HasNames k = AreNamed k.stored.durable.links k.stored.durable.synonyms
 
 -- a statement that makes a link or a synonym makes one that is so
@@ -42,8 +42,8 @@ BringsNamed _ = Unit {0}
 
 -- each turn leaves them so
 abbrev pub NamesStay : Type 0
-NamesStay = (p : Place) (k : Kept) (input : Input) → IsFit input → BringsNamed input → HasNames k → HasNames (turn_of p k input).after
+NamesStay = (p : Place) (k : NodeState) (input : Input) → IsFit input → BringsNamed input → HasNames k → HasNames (turn_of p k input).after
 
 -- no table or synonym has the empty name, by which statements without a table go
 abbrev pub EmptyNameIsFree : Type 0
-EmptyNameIsFree = (k : Kept) → HasRows k → HasNames k → is_used (listed_in k.stored.durable) [] ≡ false
+EmptyNameIsFree = (k : NodeState) → HasRows k → HasNames k → is_used (listed_in k.stored.durable) [] ≡ false

@@ -4,7 +4,7 @@ use Rattle.std.specs.List.{AllByRecursion}
 use Rattle.node_rules.specs.Data.{RedoRecord, Place, Input}
 use Rattle.node_rules.specs.Data.records
 use Rattle.node_rules.specs.Data.inputs
-use Rattle.node_rules.specs.Kept.{Kept}
+use Rattle.node_rules.specs.NodeState.{NodeState}
 use Rattle.node_rules.specs.Records.{nothing_stored, stored_by}
 use Rattle.node_rules.specs.Inputs.{IsFit}
 use Rattle.node_rules.specs.Turn.{turn_of, start_of, kind_scn}
@@ -17,7 +17,7 @@ use Rattle.node_ready_laws.specs.Sound.{IsSound, AreSound, IsNext}
 
 -- A node that is ready for its next turn: its rows are of its tables, its links and synonyms have names, its live branches have
 -- their shape, and their ids are their own.
-pub record IsReady (p : Place) (k : Kept) : Type 0 where
+pub record IsReady (p : Place) (k : NodeState) : Type 0 where
   pub rows : HasRows k
   pub names : HasNames k
   pub shape : HasShape p k
@@ -33,7 +33,7 @@ pub record IsExpected (input : Input) : Type 0 where
 
 -- each turn leaves the node ready, and its record may stand next
 abbrev pub TurnsStayReady : Type 0
-TurnsStayReady = (p : Place) (k : Kept) (input : Input) → IsExpected input → IsReady p k
+TurnsStayReady = (p : Place) (k : NodeState) (input : Input) → IsExpected input → IsReady p k
     → IsReady p (turn_of p k input).after × IfSome (turn_of p k input).wrote (IsNext k.stored)
 
 -- a node starts ready from records of which each may stand next, with one more for this start
@@ -42,7 +42,7 @@ StartsAreReady = (p : Place) (rs : List RedoRecord) (boot : ℕ) → MayAllFollo
     → IsReady p (start_of (rs ++ records.Boot boot ∷ []))
 
 -- The numbers that a node gives out, no greater than this one.
-pub record IsWithin (n : ℕ) (k : Kept) : Type 0 where
+pub record IsWithin (n : ℕ) (k : NodeState) : Type 0 where
   pub clock : k.clock ≤ n
   pub opens : length k.opens ≤ n
   pub seqs : AllByRecursion (λ s. s.seq ≤ n) k.sessions
@@ -55,4 +55,4 @@ BringsWithin n _ = Unit {0}
 
 -- one turn raises them by one at most
 abbrev pub NumbersStayWithin : Type 0
-NumbersStayWithin = (p : Place) (k : Kept) (input : Input) (n : ℕ) → IsFit input → BringsWithin n input → IsWithin n k → IsWithin (n + 1) (turn_of p k input).after
+NumbersStayWithin = (p : Place) (k : NodeState) (input : Input) (n : ℕ) → IsFit input → BringsWithin n input → IsWithin n k → IsWithin (n + 1) (turn_of p k input).after

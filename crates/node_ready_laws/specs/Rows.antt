@@ -7,7 +7,7 @@ use Rattle.node_rules.specs.Data.stmts
 use Rattle.node_rules.specs.Data.inputs
 use Rattle.node_rules.specs.Words.{same_text}
 use Rattle.node_rules.specs.Rows.{TableRows, rows_of_table, changes_of}
-use Rattle.node_rules.specs.Kept.{Kept}
+use Rattle.node_rules.specs.NodeState.{NodeState}
 use Rattle.node_rules.specs.Turn.{turn_of, made}
 use Rattle.node_rules.specs.Inputs.{IsFit}
 use Rattle.sql_statement.specs.Whole.{IsWholeTable}
@@ -35,7 +35,7 @@ pub record AreRows (tables : List Table) (rows : List TableRows) (owns : List Ow
   pub held_back : AllByRecursion (λ d. AreChangesAt tables d.changes) doubts
 
 -- a node whose rows are so
-abbrev pub HasRows : Kept → Type 0
+abbrev pub HasRows : NodeState → Type 0
 HasRows k = AreRows k.stored.durable.tables k.stored.rows k.owns k.stored.doubts
 
 -- a statement that makes a table makes a whole one
@@ -50,7 +50,7 @@ BringsWhole _ = Unit {0}
 
 -- each turn leaves rows that are so
 abbrev pub RowsStayOfTables : Type 0
-RowsStayOfTables = (p : Place) (k : Kept) (input : Input) → IsFit input → BringsWhole input → HasRows k → HasRows (turn_of p k input).after
+RowsStayOfTables = (p : Place) (k : NodeState) (input : Input) → IsFit input → BringsWhole input → HasRows k → HasRows (turn_of p k input).after
 
 -- a node that has just been made has none
 abbrev pub NoRowsAtFirst : Type 0

@@ -9,7 +9,7 @@ use Rattle.node_rules.specs.declared.work.Waits.{Waits}
 use Rattle.node_rules.specs.declared.work.Waits.TheVariants as waiting
 use Rattle.node_rules.specs.declared.work.Going.{Going}
 use Rattle.node_rules.specs.declared.work.Work.{Work}
-use Rattle.node_rules.specs.Kept.{Kept}
+use Rattle.node_rules.specs.NodeState.{NodeState}
 use Rattle.node_rules.specs.LiveBranches.{EachLive}
 use Rattle.node_rules.specs.Inputs.{IsFit}
 use Rattle.node_rules.specs.Turn.{turn_of}
@@ -35,7 +35,7 @@ pub record IsShaped (links : ℕ) (l : Live) (w : Work) : Type 0 where
   pub numbers : length w.calls ≡ length l.edges
 
 -- a node whose live branches are so
-abbrev pub HasShape : Place → Kept → Type 0
+abbrev pub HasShape : Place → NodeState → Type 0
 HasShape p k = EachLive (IsShaped p.links) k.lives k.works
 
 -- a Reply tells of no more branches
@@ -50,4 +50,4 @@ BringsFew _ = Unit {0}
 
 -- each turn leaves it so
 abbrev pub ShapesStay : Type 0
-ShapesStay = (p : Place) (k : Kept) (input : Input) → IsFit input → BringsFew input → HasShape p k → HasShape p (turn_of p k input).after
+ShapesStay = (p : Place) (k : NodeState) (input : Input) → IsFit input → BringsFew input → HasShape p k → HasShape p (turn_of p k input).after

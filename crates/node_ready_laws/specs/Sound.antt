@@ -2,7 +2,7 @@
 use Rattle.std.specs.Prelude.{◌<◌, ◌≤◌, List, [], ◌∷◌, IfSome}
 use Rattle.node_rules.specs.Data.{RedoRecord, Standing, Place, Input}
 use Rattle.node_rules.specs.Data.records
-use Rattle.node_rules.specs.Kept.{Stored, Kept}
+use Rattle.node_rules.specs.NodeState.{Stored, NodeState}
 use Rattle.node_rules.specs.Records.{applied}
 use Rattle.node_rules.specs.Inputs.{IsFit}
 use Rattle.node_rules.specs.Turn.{turn_of}
@@ -34,7 +34,7 @@ IsNext s r = MayFollow s r × IsSound s r
 
 -- the record of each turn may
 abbrev pub RecordsFollow : Type 0
-RecordsFollow = (p : Place) (k : Kept) (input : Input) → IsFit input → BringsWhole input → BringsNamed input → HasRows k → HasOwnIds k → IfSome (turn_of p k input).wrote (IsNext k.stored)
+RecordsFollow = (p : Place) (k : NodeState) (input : Input) → IsFit input → BringsWhole input → BringsNamed input → HasRows k → HasOwnIds k → IfSome (turn_of p k input).wrote (IsNext k.stored)
 
 -- with other rows of kept branches
 abbrev pub with_rows : Stored → List Standing → Stored

@@ -8,7 +8,7 @@ use Rattle.node_rules.specs.Data.walks
 use Rattle.node_rules.specs.Data.phases
 use Rattle.node_rules.specs.Data.kinds
 use Rattle.session_tree.specs.Tree.{weight, step}
-use Rattle.node_rules.specs.Kept.{Kept, live_at}
+use Rattle.node_rules.specs.NodeState.{NodeState, live_at}
 use Rattle.node_rules.specs.Prepare.{root_act, collected_act, first_act_by, first_act, commit_point_act, all_answered, answer_act, with_prepare_sent, collecting, with_comment, voted}
 use Rattle.node_rules.specs.Inputs.{Came}
 use Rattle.node_rules.proofs.Steps.{Collects, Answers, Collected, Has_nothing, Is_prepared, Awaits_point, Passes, Is_site, Has_no_site, Pointed, Points_on, Points_here, Points_nowhere, Acting, Asks_down, Has_no_children, Hears_abort, Waits_on, Hears_last, At_point}
@@ -29,7 +29,7 @@ module _ (l : Live) where
   commit_point_act_so (walks.Down i) is = Points_on i is
   commit_point_act_so walks.Nowhere is = Points_nowhere is
 
-module _ (k : Kept) (input : Input) (l : Live) (live : live_at k l.me ≡ Some l) where
+module _ (k : NodeState) (input : Input) (l : Live) (live : live_at k l.me ≡ Some l) where
   first_act_by_so : (comment : List ℕ) (site_below : Bool) (es : List Edge) → Collects k input l comment site_below → l.edges ≡ es
       → Acting k input (collecting (with_comment l comment) site_below) site_below (first_act_by (collecting (with_comment l comment) site_below) site_below (map with_prepare_sent es))
   first_act_by_so comment site_below [] begins is = Has_no_children l comment site_below _ live begins is (collected_act_so (collecting (with_comment l comment) site_below) site_below)

@@ -5,7 +5,7 @@ use Rattle.tran_ids.proofs.BranchLemmas.{equal_from_same}
 use Rattle.node_rules.specs.Data.{BranchId, Live}
 use Rattle.node_rules.specs.declared.work.Work.{Work}
 use Rattle.node_rules.specs.Words.{same, item_at, put_item, drop_item}
-use Rattle.node_rules.specs.Kept.{Kept, Branch, live_id, work_id, no_work, work_or, work_at, with_work, branch_at}
+use Rattle.node_rules.specs.NodeState.{NodeState, Branch, live_id, work_id, no_work, work_or, work_at, with_work, branch_at}
 use Rattle.node_rules.specs.LiveBranches.{works_of, EachLive}
 
 -- an item behind the others is found where no other of its branch is
@@ -136,7 +136,7 @@ module _ (Q P : Live → Work → Type 0) (ls : List Live) (ws : List Work) (now
   each_same others = record { there = now.there; each = λ b x found. other_so Any_live others b x (works_of ws b) found tt (now.each b x found) }
 
 -- the calls of a branch that is found
-work_by : (k : Kept) (b : BranchId) (x : Branch) (o : Option Live) → (o ≡ Some x.live → x.live.me ≡ b) → with_work k o ≡ Some x → (o ≡ Some x.live) × (x.work ≡ work_at k b)
+work_by : (k : NodeState) (b : BranchId) (x : Branch) (o : Option Live) → (o ≡ Some x.live → x.live.me ≡ b) → with_work k o ≡ Some x → (o ≡ Some x.live) × (x.work ≡ work_at k b)
 work_by k b x None me found = absurd cc
 work_by k b x (Some l) me found =
     let it : Some (record { live = l; work = work_at k l.me }) ≡ Some x = found in
@@ -144,7 +144,7 @@ work_by k b x (Some l) me found =
     let work : work_at k l.me ≡ x.work = ap (λ (y : Branch). y.work) (let here : record { live = l; work = work_at k l.me } ≡ x = cc in here) in
     (ap Some live, sym work ∙ ap (λ m. work_at k m) (ap (λ y. y.me) live ∙ me (ap Some live)))
 
-pub branch_parts : (k : Kept) (b : BranchId) (x : Branch) → branch_at k b ≡ Some x → (item_at live_id k.lives b ≡ Some x.live) × (x.work ≡ works_of k.works b)
+pub branch_parts : (k : NodeState) (b : BranchId) (x : Branch) → branch_at k b ≡ Some x → (item_at live_id k.lives b ≡ Some x.live) × (x.work ≡ works_of k.works b)
 branch_parts k b x found = work_by k b x (item_at live_id k.lives b) (λ is. item_is live_id k.lives b x.live is) found
 
 -- the calls are of the branch
@@ -152,7 +152,7 @@ works_are : (ws : List Work) (b : BranchId) (o : Option Work) → item_at work_i
 works_are ws b None is = refl
 works_are ws b (Some w) is = item_is work_id ws b w is
 
-pub work_is : (k : Kept) (b : BranchId) (x : Branch) → branch_at k b ≡ Some x → x.work.branch ≡ x.live.me
+pub work_is : (k : NodeState) (b : BranchId) (x : Branch) → branch_at k b ≡ Some x → x.work.branch ≡ x.live.me
 work_is k b x found =
     let parts = branch_parts k b x found in
     ap (λ w. w.branch) parts.1 ∙ (works_are k.works b (item_at work_id k.works b) refl ∙ sym (item_is live_id k.lives b x.live parts.0))

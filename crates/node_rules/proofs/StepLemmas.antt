@@ -5,7 +5,7 @@ use Rattle.node_rules.specs.Data.params
 use Rattle.node_rules.specs.Data.records
 use Rattle.tran_ids.proofs.BranchLemmas.{equal_from_same}
 use Rattle.session_tree.specs.Live.{is_branch}
-use Rattle.node_rules.specs.Kept.{Kept, Branch, live_at}
+use Rattle.node_rules.specs.NodeState.{NodeState, Branch, live_at}
 use Rattle.node_rules.specs.Prepare.{collecting, with_comment, voted}
 use Rattle.node_rules.proofs.StandLemmas.{live_so}
 use Rattle.node_rules.proofs.Steps.{Asked, By_call, By_exec, Acting, Asks_down, Has_no_children, Hears_abort, Waits_on, Hears_last, At_point, Makes, Makes_table, Makes_link, Makes_synonym, Sets_recovery}
@@ -16,10 +16,10 @@ branch_found b None is = absurd cc
 branch_found b (Some c) is = ap Some (equal_from_same c b is)
 
 -- a branch of this id is live
-abbrev pub IsLive : Kept → BranchId → Type 0
+abbrev pub IsLive : NodeState → BranchId → Type 0
 IsLive k b = (l : Live) × (live_at k b ≡ Some l)
 
-module _ {k : Kept} {input : Input} where
+module _ {k : NodeState} {input : Input} where
   -- the branch of a statement
   pub asked_live : {x : Branch} {s : Stmt} {given : ℕ} → Asked k input x s given → IsLive k x.live.me
   asked_live (By_call n x s call rows has code live) = (x.live, live_so k x.live.me x live)
@@ -48,7 +48,7 @@ module _ {k : Kept} {input : Input} where
 -- what is so of the records of the catalog and of that setting is so of a record that a statement makes
 pub made_so : (P : RedoRecord → Type 0) → ((t : Table) → P (records.Table t)) → ((l : Link) → P (records.Link l)) → ((y : Synonym) → P (records.Synonym y))
     → ((on : Bool) → P (records.Param (params.Recovery on)))
-    → {k : Kept} {s : Stmt} {r : RedoRecord} {d : Done} → Makes k s r d → P r
+    → {k : NodeState} {s : Stmt} {r : RedoRecord} {d : Done} → Makes k s r d → P r
 made_so P table link synonym recovery (Makes_table t free) = table t
 made_so P table link synonym recovery (Makes_link l free) = link l
 made_so P table link synonym recovery (Makes_synonym y free) = synonym y

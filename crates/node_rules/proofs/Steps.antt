@@ -25,7 +25,7 @@ use Rattle.node_rules.specs.Inputs.{IsSession, Came, IsCall, Brings}
 use Rattle.session_tree.specs.Tree.{weight, step}
 use Rattle.node_rules.specs.Names.{Runs_here, Over, Through, Nowhere_to, way_of, passed_on}
 use Rattle.node_rules.specs.Sessions.{session_at, with_call}
-use Rattle.node_rules.specs.Kept.{Kept, Deed, Branch, branch_at, live_at, standing_at, with_standing, nothing, saying, ending, post}
+use Rattle.node_rules.specs.NodeState.{NodeState, Deed, Branch, branch_at, live_at, standing_at, with_standing, nothing, saying, ending, post}
 use Rattle.node_rules.specs.Calls.{answered, calls_over, opens_through, runs_here, takes_call, admit, with_edge, reply_of, hears_reply, reply_heard, replies, gone_reply, is_opening, opened_says, open_by}
 use Rattle.node_rules.specs.Prepare.{act_turn, drops, collecting, with_comment, voted, answers_first, all_answered, without_read_keys}
 use Rattle.node_rules.specs.Commit.{next_turn, acked_by, ack_counts, all_acked, is_mixed, knows_commit, is_asked_again}
@@ -35,7 +35,7 @@ use Rattle.node_rules.specs.Client.{begun_by, root_at, did, writes, is_used, is_
 use Rattle.node_rules.specs.Turn.{Is_gone, stand_of}
 
 -- the session's transaction has this root
-abbrev pub HasRoot : Kept → ℕ → BranchId → Type 0
+abbrev pub HasRoot : NodeState → ℕ → BranchId → Type 0
 HasRoot k n b = (session_at k.sessions n).root ≡ Some b
 
 -- ---- statements
@@ -50,14 +50,14 @@ IsOfRows _ = ⊥
 
 -- A statement came to a live branch, with the room in the tree: by a call of the session at its root, or by an Exec whose
 -- number comes for the first time.
-pub data Asked (k : Kept) (input : Input) : Branch → Stmt → ℕ → Type 0 where
+pub data Asked (k : NodeState) (input : Input) : Branch → Stmt → ℕ → Type 0 where
   By_call : (n : ℕ) (x : Branch) (s : Stmt) → IsCall input n s → IsOfRows s → HasRoot k n x.live.me → (session_at k.sessions n).code ≡ None → branch_at k x.live.me ≡ Some x
       → Asked k input x s 0
   By_exec : (x : Branch) (from : BranchId) (call given : ℕ) (advice : Option Advice) (s : Stmt) → Came input from x.live.me (kinds.Exec call given advice s)
       → branch_at k x.live.me ≡ Some x → admit x.work.came call ≡ admits.Run → Asked k input (takes_call x call advice) s given
 
 -- The child that a statement waits for is opened.
-pub record Is_opened (k : Kept) (input : Input) (x : Branch) (from : BranchId) (strength : ℕ) (g : Going) (link : List ℕ) : Type 0 where
+pub record Is_opened (k : NodeState) (input : Input) (x : Branch) (from : BranchId) (strength : ℕ) (g : Going) (link : List ℕ) : Type 0 where
   pub edge : ℕ
   pub came : Came input from x.live.me (kinds.Opened edge strength)
   pub live : branch_at k x.live.me ≡ Some x
@@ -66,7 +66,7 @@ pub record Is_opened (k : Kept) (input : Input) (x : Branch) (from : BranchId) (
   pub new : (edge == length x.live.edges + 1) ≡ true
 
 -- The Reply that a statement waits for comes from the child at place i.
-pub record Is_answered (k : Kept) (input : Input) (x : Branch) (weight : Option ℕ) (count : ℕ) (a : Answer) (i : ℕ) (e : Edge) : Type 0 where
+pub record Is_answered (k : NodeState) (input : Input) (x : Branch) (weight : Option ℕ) (count : ℕ) (a : Answer) (i : ℕ) (e : Edge) : Type 0 where
   pub from : BranchId
   pub call : ℕ
   pub came : Came input from x.live.me (kinds.Reply call weight count a)
@@ -76,7 +76,7 @@ pub record Is_answered (k : Kept) (input : Input) (x : Branch) (weight : Option 
 -- ---- the prepare phase
 
 -- COMMIT at a root, or Prepare at another branch, begins the collect of a live branch.
-pub data Collects (k : Kept) (input : Input) (l : Live) (comment : List ℕ) : Bool → Type 0 where
+pub data Collects (k : NodeState) (input : Input) (l : Live) (comment : List ℕ) : Bool → Type 0 where
   By_commit : (n : ℕ) (given : Option (List ℕ)) → IsCall input n (stmts.Commit given) → HasRoot k n l.me → (session_at k.sessions n).code ≡ None → comment ≡ unwrap_or given [] → Collects k input l comment true
   By_prepare : (from : BranchId) (site_below : Bool) → Came input from l.me (kinds.Prepare site_below comment) → l.phase ≡ phases.Working → Collects k input l comment site_below
 
@@ -112,7 +112,7 @@ pub data Pointed (l : Live) : Act → Type 0 where
   Points_nowhere : step l ≡ walks.Nowhere → Pointed l acts.Rest
 
 -- Why a live branch, as it is now, acts so in its prepare phase.
-pub data Acting (k : Kept) (input : Input) : Live → Bool → Act → Type 0 where
+pub data Acting (k : NodeState) (input : Input) : Live → Bool → Act → Type 0 where
   Asks_down : (l : Live) (comment : List ℕ) (site_below : Bool) (e : Edge) (es : List Edge) → live_at k l.me ≡ Some l → Collects k input l comment site_below → l.edges ≡ e ∷ es
       → Acting k input (collecting (with_comment l comment) site_below) site_below acts.AskDown
   Has_no_children : (l : Live) (comment : List ℕ) (site_below : Bool) (a : Act) → live_at k l.me ≡ Some l → Collects k input l comment site_below → l.edges ≡ []
@@ -134,7 +134,7 @@ pub data Drops (input : Input) (l : Live) : Type 0 where
 -- ---- kept branches
 
 -- a row of it is kept
-abbrev pub IsKept : Kept → Standing → Type 0
+abbrev pub IsKept : NodeState → Standing → Type 0
 IsKept k s = standing_at k s.me ≡ Some s
 
 -- the clock has met a commit's SCN
@@ -158,7 +158,7 @@ pub data Doing (clock : ℕ) (input : Input) (s : Standing) (from : BranchId) : 
 -- ---- messages alone
 
 -- Messages of a turn that changes nothing.
-pub data Says (k : Kept) (input : Input) : List Post → Type 0 where
+pub data Says (k : NodeState) (input : Input) : List Post → Type 0 where
   Gone_replies : (to from : BranchId) (call given : ℕ) (advice : Option Advice) (s : Stmt) → Came input from to (kinds.Exec call given advice s) → stand_of k to ≡ Is_gone → Says k input (gone_reply to from call)
   Gone_aborts : (to from : BranchId) (site_below : Bool) (comment : List ℕ) → Came input from to (kinds.Prepare site_below comment) → stand_of k to ≡ Is_gone → Says k input (post to from kinds.Abort)
   Gone_rolls_back : (to from : BranchId) → Came input from to kinds.CommitPoint ⊎ Came input from to kinds.Ask → stand_of k to ≡ Is_gone → Says k input (post to from kinds.RolledBack)
@@ -179,7 +179,7 @@ pub data Says (k : Kept) (input : Input) : List Post → Type 0 where
 -- ---- client calls
 
 -- a record of the catalog or of a setting, by the statement that it is written for
-pub data Makes (k : Kept) : Stmt → RedoRecord → Done → Type 0 where
+pub data Makes (k : NodeState) : Stmt → RedoRecord → Done → Type 0 where
   Makes_table : (t : Table) → is_used k.stored.durable t.name ≡ false → Makes k (stmts.CreateTable t) (records.Table t) dones.TableMade
   Makes_link : (l : Link) → is_link k.stored.durable l.name ≡ false → Makes k (stmts.CreateLink l) (records.Link l) dones.LinkMade
   Makes_synonym : (y : Synonym) → is_used k.stored.durable y.name ≡ false → Makes k (stmts.CreateSynonym y) (records.Synonym y) dones.SynonymMade
@@ -196,54 +196,54 @@ pub data Completes : Stmt → Done → Type 0 where
   Rolls_nothing_back : Completes stmts.Rollback dones.RolledBack
 
 -- One turn, at a node that has received what came.
-pub data Step (p : Place) (input : Input) : Kept → Deed → Type 0 where
+pub data Step (p : Place) (input : Input) : NodeState → Deed → Type 0 where
   -- changes before a deed
-  Begins : {k : Kept} {d : Deed} (n : ℕ) (s : Stmt) → IsCall input n s → IsOfRows s → IsSession n → (session_at k.sessions n).root ≡ None → Step p input (begun_by p k n None) d → Step p input k d
-  Pends : {k : Kept} {d : Deed} (n : ℕ) (l : Live) (given : Option (List ℕ)) → IsCall input n (stmts.Commit given) → HasRoot k n l.me → live_at k l.me ≡ Some l → (session_at k.sessions n).code ≡ None
+  Begins : {k : NodeState} {d : Deed} (n : ℕ) (s : Stmt) → IsCall input n s → IsOfRows s → IsSession n → (session_at k.sessions n).root ≡ None → Step p input (begun_by p k n None) d → Step p input k d
+  Pends : {k : NodeState} {d : Deed} (n : ℕ) (l : Live) (given : Option (List ℕ)) → IsCall input n (stmts.Commit given) → HasRoot k n l.me → live_at k l.me ≡ Some l → (session_at k.sessions n).code ≡ None
       → Step p input (record k { sessions = with_call k.sessions n pending.Commit }) d → Step p input k d
-  Lets_reads_go : {k : Kept} {d : Deed} (l : Live) (comment : List ℕ) (site_below : Bool) → live_at k l.me ≡ Some l → Collects k input l comment site_below
+  Lets_reads_go : {k : NodeState} {d : Deed} (l : Live) (comment : List ℕ) (site_below : Bool) → live_at k l.me ≡ Some l → Collects k input l comment site_below
       → Step p input (without_read_keys k l.me) d → Step p input k d
-  Counts_ack : {k : Kept} {d : Deed} (s : Standing) (from : BranchId) → IsKept k s → Came input from s.me kinds.Ack → ack_counts s from ≡ true
+  Counts_ack : {k : NodeState} {d : Deed} (s : Standing) (from : BranchId) → IsKept k s → Came input from s.me kinds.Ack → ack_counts s from ≡ true
       → Step p input (with_standing k (acked_by s from)) d → Step p input k d
   -- nothing, or messages alone
-  Rests : {k : Kept} → Step p input k (nothing k)
-  Sends : {k : Kept} (says : List Post) → Says k input says → Step p input k (saying k says)
+  Rests : {k : NodeState} → Step p input k (nothing k)
+  Sends : {k : NodeState} (says : List Post) → Says k input says → Step p input k (saying k says)
   -- statements
-  Runs : {k : Kept} (x : Branch) (s : Stmt) (given : ℕ) (t : Table) → Asked k input x s given → way_of p k.stored.durable x.live given s ≡ Runs_here t → Step p input k (runs_here p k x s t)
-  Goes_nowhere : {k : Kept} (x : Branch) (s : Stmt) (given : ℕ) (r : Refusal) → Asked k input x s given → way_of p k.stored.durable x.live given s ≡ Nowhere_to r → Step p input k (answered k x (answers.Refused r))
-  Calls : {k : Kept} (x : Branch) (s : Stmt) (given i : ℕ) (table : List ℕ) → Asked k input x s given → way_of p k.stored.durable x.live given s ≡ Over i table
+  Runs : {k : NodeState} (x : Branch) (s : Stmt) (given : ℕ) (t : Table) → Asked k input x s given → way_of p k.stored.durable x.live given s ≡ Runs_here t → Step p input k (runs_here p k x s t)
+  Goes_nowhere : {k : NodeState} (x : Branch) (s : Stmt) (given : ℕ) (r : Refusal) → Asked k input x s given → way_of p k.stored.durable x.live given s ≡ Nowhere_to r → Step p input k (answered k x (answers.Refused r))
+  Calls : {k : NodeState} (x : Branch) (s : Stmt) (given i : ℕ) (table : List ℕ) → Asked k input x s given → way_of p k.stored.durable x.live given s ≡ Over i table
       → Step p input k (calls_over k x i (passed_on s table) given)
-  Opens : {k : Kept} (x : Branch) (s : Stmt) (given node : ℕ) (link table : List ℕ) → Asked k input x s given → way_of p k.stored.durable x.live given s ≡ Through node link table
+  Opens : {k : NodeState} (x : Branch) (s : Stmt) (given node : ℕ) (link table : List ℕ) → Asked k input x s given → way_of p k.stored.durable x.live given s ≡ Through node link table
       → Step p input k (opens_through k x node link (passed_on s table) given)
-  Goes_on : {k : Kept} (x : Branch) (from : BranchId) (strength : ℕ) (g : Going) (link : List ℕ) → Is_opened k input x from strength g link
+  Goes_on : {k : NodeState} (x : Branch) (from : BranchId) (strength : ℕ) (g : Going) (link : List ℕ) → Is_opened k input x from strength g link
       → Step p input k (calls_over k (with_edge x (new_edge from link strength)) (length x.live.edges + 1) g.statement (g.room - 1))
-  Hears_reply : {k : Kept} (x : Branch) (weight : Option ℕ) (count : ℕ) (a : Answer) (i : ℕ) (e : Edge) → Is_answered k input x weight count a i e
+  Hears_reply : {k : NodeState} (x : Branch) (weight : Option ℕ) (count : ℕ) (a : Answer) (i : ℕ) (e : Edge) → Is_answered k input x weight count a i e
       → Step p input k (reply_heard k (hears_reply x i weight count e) e.link a)
-  Opens_branch : {k : Kept} (to parent : BranchId) (edge : ℕ) (root : BranchId) (depth : ℕ) → Came input parent to (kinds.Open edge root depth) → find (is_opening parent edge) k.opens ≡ None
+  Opens_branch : {k : NodeState} (to parent : BranchId) (edge : ℕ) (root : BranchId) (depth : ℕ) → Came input parent to (kinds.Open edge root depth) → find (is_opening parent edge) k.opens ≡ None
       → Step p input k (open_by p k parent edge root depth None)
   -- the prepare phase
-  Acts : {k : Kept} (l : Live) (site_below : Bool) (a : Act) → Acting k input l site_below a → Step p input k (act_turn k l site_below a)
-  Drops_told : {k : Kept} (l : Live) → live_at k l.me ≡ Some l → Drops input l → Step p input k (drops k l [])
-  Drops_asked : {k : Kept} (l : Live) (from : BranchId) → live_at k l.me ≡ Some l → Came input from l.me kinds.Ask → is_branch from l.parent ≡ true
+  Acts : {k : NodeState} (l : Live) (site_below : Bool) (a : Act) → Acting k input l site_below a → Step p input k (act_turn k l site_below a)
+  Drops_told : {k : NodeState} (l : Live) → live_at k l.me ≡ Some l → Drops input l → Step p input k (drops k l [])
+  Drops_asked : {k : NodeState} (l : Live) (from : BranchId) → live_at k l.me ≡ Some l → Came input from l.me kinds.Ask → is_branch from l.parent ≡ true
       → Step p input k (drops k l (post l.me from kinds.RolledBack))
   -- kept branches
-  Does : {k : Kept} (s : Standing) (from : BranchId) (n : Next) → IsKept k s → Doing k.clock input s from n → Step p input k (next_turn k s from n)
+  Does : {k : NodeState} (s : Standing) (from : BranchId) (n : Next) → IsKept k s → Doing k.clock input s from n → Step p input k (next_turn k s from n)
   -- client calls
-  Refuses : {k : Kept} (n : ℕ) (s : Option Stmt) (r : Refusal) → input ≡ inputs.Call n s → Step p input k (ending k n (answers.Refused r))
-  Completes_at_once : {k : Kept} (n : ℕ) (s : Stmt) (d : Done) → IsCall input n s → Completes s d → root_at k n ≡ None → Step p input k (did k n d)
-  Makes_record : {k : Kept} (n : ℕ) (s : Stmt) (r : RedoRecord) (d : Done) → IsCall input n s → Makes k s r d → Step p input k (writes k n r d)
-  Forces_given : {k : Kept} (n : ℕ) (id : List ℕ) (m : ℕ) (b : BranchId) → IsCall input n (stmts.CommitForce id (Some m)) → branch_to_force p.names k.stored.durable.kept id ≡ Ok b
+  Refuses : {k : NodeState} (n : ℕ) (s : Option Stmt) (r : Refusal) → input ≡ inputs.Call n s → Step p input k (ending k n (answers.Refused r))
+  Completes_at_once : {k : NodeState} (n : ℕ) (s : Stmt) (d : Done) → IsCall input n s → Completes s d → root_at k n ≡ None → Step p input k (did k n d)
+  Makes_record : {k : NodeState} (n : ℕ) (s : Stmt) (r : RedoRecord) (d : Done) → IsCall input n s → Makes k s r d → Step p input k (writes k n r d)
+  Forces_given : {k : NodeState} (n : ℕ) (id : List ℕ) (m : ℕ) (b : BranchId) → IsCall input n (stmts.CommitForce id (Some m)) → branch_to_force p.names k.stored.durable.kept id ≡ Ok b
       → Step p input k (forces k n b (decisions.Commit m) true (answers.Did dones.Committed 0))
-  Forces_commit : {k : Kept} (n : ℕ) (id : List ℕ) (b : BranchId) → IsCall input n (stmts.CommitForce id None) → branch_to_force p.names k.stored.durable.kept id ≡ Ok b
+  Forces_commit : {k : NodeState} (n : ℕ) (id : List ℕ) (b : BranchId) → IsCall input n (stmts.CommitForce id None) → branch_to_force p.names k.stored.durable.kept id ≡ Ok b
       → Step p input k (forces (record k { clock = k.clock + 1 }) n b (decisions.Commit (k.clock + 1)) false (answers.Did dones.Committed 0))
-  Forces_rollback : {k : Kept} (n : ℕ) (id : List ℕ) (b : BranchId) → IsCall input n (stmts.RollbackForce id) → branch_to_force p.names k.stored.durable.kept id ≡ Ok b
+  Forces_rollback : {k : NodeState} (n : ℕ) (id : List ℕ) (b : BranchId) → IsCall input n (stmts.RollbackForce id) → branch_to_force p.names k.stored.durable.kept id ≡ Ok b
       → Step p input k (forces k n b decisions.Rollback false (answers.Did dones.RolledBack 0))
-  Hides : {k : Kept} (n : ℕ) (mixed : Bool) (id : List ℕ) (s : Standing) → IsCall input n (purge_of mixed id) → find (may_purge mixed id) k.stored.durable.kept ≡ Some s
+  Hides : {k : NodeState} (n : ℕ) (mixed : Bool) (id : List ℕ) (s : Standing) → IsCall input n (purge_of mixed id) → find (may_purge mixed id) k.stored.durable.kept ≡ Some s
       → Step p input k (hides k n id (Some s))
-  Advises : {k : Kept} (n : ℕ) (a : Option Advice) → IsCall input n (stmts.Advise a) → Step p input k (advise k n a)
-  Rolls_back : {k : Kept} (n : ℕ) (x : Branch) → IsCall input n stmts.Rollback → HasRoot k n x.live.me → branch_at k x.live.me ≡ Some x → Step p input k (rollback_by k n (Some x))
+  Advises : {k : NodeState} (n : ℕ) (a : Option Advice) → IsCall input n (stmts.Advise a) → Step p input k (advise k n a)
+  Rolls_back : {k : NodeState} (n : ℕ) (x : Branch) → IsCall input n stmts.Rollback → HasRoot k n x.live.me → branch_at k x.live.me ≡ Some x → Step p input k (rollback_by k n (Some x))
   -- calls that are given up
-  Gives_up : {k : Kept} (n : ℕ) (x : Branch) → input ≡ inputs.GiveUp n → HasRoot k n x.live.me → (session_at k.sessions n).call ≡ pending.Statement → branch_at k x.live.me ≡ Some x
+  Gives_up : {k : NodeState} (n : ℕ) (x : Branch) → input ≡ inputs.GiveUp n → HasRoot k n x.live.me → (session_at k.sessions n).call ≡ pending.Statement → branch_at k x.live.me ≡ Some x
       → Step p input k (statement_given_up k n (Some x))
-  Gives_up_commit : {k : Kept} (n : ℕ) (b : BranchId) (o : Option Live) → input ≡ inputs.GiveUp n → HasRoot k n b → (session_at k.sessions n).call ≡ pending.Commit → live_at k b ≡ o
+  Gives_up_commit : {k : NodeState} (n : ℕ) (b : BranchId) (o : Option Live) → input ≡ inputs.GiveUp n → HasRoot k n b → (session_at k.sessions n).call ≡ pending.Commit → live_at k b ≡ o
       → Step p input k (commit_given_up k b o)

@@ -17,7 +17,7 @@ use Rattle.node_rules.specs.Data.waiting
 use Rattle.node_rules.specs.Data.admits
 use Rattle.node_rules.specs.Data.pending
 use Rattle.session_tree.specs.Live.{is_branch}
-use Rattle.node_rules.specs.Kept.{Kept, Branch, nothing, saying, standing_id, live_at, branch_at}
+use Rattle.node_rules.specs.NodeState.{NodeState, Branch, nothing, saying, standing_id, live_at, branch_at}
 use Rattle.node_rules.specs.Names.{Way, way_of, Runs_here, Over, Through, Nowhere_to}
 use Rattle.node_rules.specs.Sessions.{session_at, with_call}
 use Rattle.node_rules.specs.Calls.{goes, statement_at, is_opening, open_by, opened_waits, opened_going, admit, takes_call, says_again, exec_by, reply_of, reply_by}
@@ -46,23 +46,23 @@ module _ (p : Place) (input : Input) where
 
   -- ---- statements
 
-  goes_so : (k : Kept) (x : Branch) (s : Stmt) (given : ℕ) (way : Way) → Asked k input x s given → way_of p k.stored.durable x.live given s ≡ way → Step p input k (goes p k x s given way)
+  goes_so : (k : NodeState) (x : Branch) (s : Stmt) (given : ℕ) (way : Way) → Asked k input x s given → way_of p k.stored.durable x.live given s ≡ way → Step p input k (goes p k x s given way)
   goes_so k x s given (Runs_here t) asked is = Runs x s given t asked is
   goes_so k x s given (Nowhere_to r) asked is = Goes_nowhere x s given r asked is
   goes_so k x s given (Over i table) asked is = Calls x s given i table asked is
   goes_so k x s given (Through node link table) asked is = Opens x s given node link table asked is
 
-  statement_so : (k : Kept) (x : Branch) (s : Stmt) (given : ℕ) → Asked k input x s given → Step p input k (statement_at p k x s given)
+  statement_so : (k : NodeState) (x : Branch) (s : Stmt) (given : ℕ) → Asked k input x s given → Step p input k (statement_at p k x s given)
   statement_so k x s given asked = goes_so k x s given (way_of p k.stored.durable x.live given s) asked refl
 
-  open_so : (k : Kept) (from to : BranchId) (edge : ℕ) (root : BranchId) (depth : ℕ) (o : Option Opening) → Came input from to (kinds.Open edge root depth) → find (is_opening from edge) k.opens ≡ o
+  open_so : (k : NodeState) (from to : BranchId) (edge : ℕ) (root : BranchId) (depth : ℕ) (o : Option Opening) → Came input from to (kinds.Open edge root depth) → find (is_opening from edge) k.opens ≡ o
       → Step p input k (open_by p k from edge root depth o)
   open_so k from to edge root depth (Some o) came is = Sends _ (Opened_again to from edge root depth o came is)
   open_so k from to edge root depth None came is = Opens_branch to from edge root depth came is
 
   -- ---- messages of statements, at a live branch
 
-  module _ (k : Kept) (from : BranchId) (x : Branch) (live : branch_at k x.live.me ≡ Some x) where
+  module _ (k : NodeState) (from : BranchId) (x : Branch) (live : branch_at k x.live.me ≡ Some x) where
     waits_so : (edge strength : ℕ) (g : Going) (w : Waits) → Came input from x.live.me (kinds.Opened edge strength) → x.work.going ≡ Some g → (edge == length x.live.edges + 1) ≡ true → g.waits ≡ w
         → Step p input k (opened_waits k x from strength g w)
     waits_so edge strength g (waiting.ForReply i) came going new is = Rests
@@ -92,15 +92,15 @@ module _ (p : Place) (input : Input) where
   -- ---- the prepare phase
 
   -- what begins a collect does not look at locks
-  begins_still : (k : Kept) (b : BranchId) (l : Live) (comment : List ℕ) (site_below : Bool) → Collects k input l comment site_below → Collects (without_read_keys k b) input l comment site_below
+  begins_still : (k : NodeState) (b : BranchId) (l : Live) (comment : List ℕ) (site_below : Bool) → Collects k input l comment site_below → Collects (without_read_keys k b) input l comment site_below
   begins_still k b l comment site_below (By_commit n given call has code said) = By_commit n given call has code said
   begins_still k b l comment site_below (By_prepare from _ came working) = By_prepare from _ came working
 
-  collects_so : (k : Kept) (l : Live) (comment : List ℕ) (site_below : Bool) → live_at k l.me ≡ Some l → Collects k input l comment site_below → Step p input k (collects k (with_comment l comment) site_below)
+  collects_so : (k : NodeState) (l : Live) (comment : List ℕ) (site_below : Bool) → live_at k l.me ≡ Some l → Collects k input l comment site_below → Step p input k (collects k (with_comment l comment) site_below)
   collects_so k l comment site_below live begins =
       Lets_reads_go l comment site_below live begins (Acts _ site_below _ (first_act_so (without_read_keys k l.me) input l live comment site_below (begins_still k l.me l comment site_below begins)))
 
-  module _ (k : Kept) (from : BranchId) (l : Live) (live : live_at k l.me ≡ Some l) where
+  module _ (k : NodeState) (from : BranchId) (l : Live) (live : live_at k l.me ≡ Some l) where
     prepare_so : (site_below : Bool) (comment : List ℕ) (phase : Phase) → Came input from l.me (kinds.Prepare site_below comment) → l.phase ≡ phase → Step p input k (prepare_in k l site_below comment phase)
     prepare_so site_below comment phases.Working came is = collects_so k l comment site_below live (By_prepare from site_below came is)
     prepare_so site_below comment _ came is = Rests
@@ -123,7 +123,7 @@ module _ (p : Place) (input : Input) where
 
   -- ---- kept branches
 
-  module _ (k : Kept) (from : BranchId) (s : Standing) (kept : IsKept k s) where
+  module _ (k : NodeState) (from : BranchId) (s : Standing) (kept : IsKept k s) where
     on_decision_so : (d : Decision) → Brings input from s.me d → IsMet k.clock d → Step p input k (on_decision k s from d)
     on_decision_so d brings met = Does s from _ kept (decision_so k.clock input s from d brings met)
 
@@ -148,7 +148,7 @@ module _ (p : Place) (input : Input) where
 
   -- ---- each kind of message
 
-  module _ (k : Kept) (from to : BranchId) where
+  module _ (k : NodeState) (from to : BranchId) where
     opened_turn_so : (edge strength : ℕ) (stand : Stand) → Came input from to (kinds.Opened edge strength) → StandsSo k to stand → Step p input k (opened_turn k from edge strength stand)
     opened_turn_so edge strength (Is_live x) came so = opened_so k from x so.1 edge strength x.work.going (here so.0 came) refl
     opened_turn_so edge strength _ came so = Rests
@@ -229,19 +229,19 @@ module _ (p : Place) (input : Input) where
   -- ---- client calls
 
   module _ (n : ℕ) (s : Stmt) (call : IsCall input n s) where
-    root_statement_so : (k : Kept) (code : Option ℕ) (o : Option Branch) → IsOfRows s → (session_at k.sessions n).code ≡ code → RootSo k n o → Step p input k (statement_by p k n s code o)
+    root_statement_so : (k : NodeState) (code : Option ℕ) (o : Option Branch) → IsOfRows s → (session_at k.sessions n).code ≡ code → RootSo k n o → Step p input k (statement_by p k n s code o)
     root_statement_so k code None rows is so = Rests
     root_statement_so k (Some c) (Some x) rows is so = Refuses n (Some s) _ call
     root_statement_so k None (Some x) rows is so = statement_so k x s 0 (By_call n x s call rows so.0 is so.1)
 
-    call_so : (k : Kept) → IsOfRows s → Step p input k (statement_call p k n s)
+    call_so : (k : NodeState) → IsOfRows s → Step p input k (statement_call p k n s)
     call_so k rows = root_statement_so k (session_at k.sessions n).code (root_at k n) rows refl (root_so k n)
 
-    begun_so : (k : Kept) (root : Option BranchId) → IsOfRows s → IsSession n → (session_at k.sessions n).root ≡ root → Step p input k (statement_call p (begun_by p k n root) n s)
+    begun_so : (k : NodeState) (root : Option BranchId) → IsOfRows s → IsSession n → (session_at k.sessions n).root ≡ root → Step p input k (statement_call p (begun_by p k n root) n s)
     begun_so k (Some b) rows fit is = call_so k rows
     begun_so k None rows fit is = Begins n s call rows fit is (call_so (begun_by p k n None) rows)
 
-  commit_so : (k : Kept) (n : ℕ) (given : Option (List ℕ)) (code : Option ℕ) (o : Option Branch) → IsCall input n (stmts.Commit given) → (session_at k.sessions n).code ≡ code → root_at k n ≡ o → RootSo k n o
+  commit_so : (k : NodeState) (n : ℕ) (given : Option (List ℕ)) (code : Option ℕ) (o : Option Branch) → IsCall input n (stmts.Commit given) → (session_at k.sessions n).code ≡ code → root_at k n ≡ o → RootSo k n o
       → Step p input k (commit_by k n (unwrap_or given []) code o)
   commit_so k n given code None call is none so = Completes_at_once n (stmts.Commit given) dones.Committed call (Commits_nothing given) none
   commit_so k n given (Some c) (Some x) call is root so = Refuses n (Some (stmts.Commit given)) _ call
@@ -250,33 +250,33 @@ module _ (p : Place) (input : Input) where
       Pends n x.live given call so.0 (live_so k x.live.me x so.1) is (collects_so (record k { sessions = with_call k.sessions n pending.Commit }) x.live (unwrap_or given []) true (live_so k x.live.me x so.1)
       (By_commit n given call (ap (λ t. t.root) after ∙ so.0) (ap (λ t. t.code) after ∙ is) refl))
 
-  rollback_so : (k : Kept) (n : ℕ) (o : Option Branch) → IsCall input n stmts.Rollback → root_at k n ≡ o → RootSo k n o → Step p input k (rollback_by k n o)
+  rollback_so : (k : NodeState) (n : ℕ) (o : Option Branch) → IsCall input n stmts.Rollback → root_at k n ≡ o → RootSo k n o → Step p input k (rollback_by k n o)
   rollback_so k n None call none so = Completes_at_once n stmts.Rollback dones.RolledBack call Rolls_nothing_back none
   rollback_so k n (Some x) call root so = Rolls_back n x call so.0 so.1
 
-  force_commit_so : (k : Kept) (n : ℕ) (id : List ℕ) (scn : Option ℕ) (o : Result BranchId Refusal) → IsCall input n (stmts.CommitForce id scn) → branch_to_force p.names k.stored.durable.kept id ≡ o
+  force_commit_so : (k : NodeState) (n : ℕ) (id : List ℕ) (scn : Option ℕ) (o : Result BranchId Refusal) → IsCall input n (stmts.CommitForce id scn) → branch_to_force p.names k.stored.durable.kept id ≡ o
       → Step p input k (force_commit k n scn o)
   force_commit_so k n id scn (Err r) call is = Refuses n (Some (stmts.CommitForce id scn)) r call
   force_commit_so k n id (Some m) (Ok b) call is = Forces_given n id m b call is
   force_commit_so k n id None (Ok b) call is = Forces_commit n id b call is
 
-  force_rollback_so : (k : Kept) (n : ℕ) (id : List ℕ) (o : Result BranchId Refusal) → IsCall input n (stmts.RollbackForce id) → branch_to_force p.names k.stored.durable.kept id ≡ o → Step p input k (force_rollback k n o)
+  force_rollback_so : (k : NodeState) (n : ℕ) (id : List ℕ) (o : Result BranchId Refusal) → IsCall input n (stmts.RollbackForce id) → branch_to_force p.names k.stored.durable.kept id ≡ o → Step p input k (force_rollback k n o)
   force_rollback_so k n id (Err r) call is = Refuses n (Some (stmts.RollbackForce id)) r call
   force_rollback_so k n id (Ok b) call is = Forces_rollback n id b call is
 
-  hides_so : (k : Kept) (n : ℕ) (mixed : Bool) (id : List ℕ) (o : Option Standing) → IsCall input n (purge_of mixed id) → find (may_purge mixed id) k.stored.durable.kept ≡ o → Step p input k (hides k n id o)
+  hides_so : (k : NodeState) (n : ℕ) (mixed : Bool) (id : List ℕ) (o : Option Standing) → IsCall input n (purge_of mixed id) → find (may_purge mixed id) k.stored.durable.kept ≡ o → Step p input k (hides k n id o)
   hides_so k n mixed id None call is = Refuses n (Some (purge_of mixed id)) _ call
   hides_so k n mixed id (Some s) call is = Hides n mixed id s call is
 
-  purge_so : (k : Kept) (n : ℕ) (mixed : Bool) (id : List ℕ) → IsCall input n (purge_of mixed id) → Step p input k (purge k n mixed id)
+  purge_so : (k : NodeState) (n : ℕ) (mixed : Bool) (id : List ℕ) → IsCall input n (purge_of mixed id) → Step p input k (purge k n mixed id)
   unfolding purge
   purge_so k n mixed id call = hides_so k n mixed id (find (may_purge mixed id) k.stored.durable.kept) call refl
 
   -- a record where its name is free
-  makes_so : (k : Kept) (n : ℕ) (s : Stmt) (r : RedoRecord) (d : Done) (e : Refusal) (used : Bool) → IsCall input n s → (used ≡ false → Makes k s r d) → Step p input k (if used then refuses k n e else writes k n r d)
+  makes_so : (k : NodeState) (n : ℕ) (s : Stmt) (r : RedoRecord) (d : Done) (e : Refusal) (used : Bool) → IsCall input n s → (used ≡ false → Makes k s r d) → Step p input k (if used then refuses k n e else writes k n r d)
   makes_so k n s r d e used call makes = cond_both used _ _ (Step p input k) (λ is. Refuses n (Some s) e call) (λ free. Makes_record n s r d call (makes free))
 
-  call_turn_so : (k : Kept) (n : ℕ) (s : Stmt) → IsCall input n s → IsSession n → Step p input k (call_turn p k n s)
+  call_turn_so : (k : NodeState) (n : ℕ) (s : Stmt) → IsCall input n s → IsSession n → Step p input k (call_turn p k n s)
   call_turn_so k n (stmts.CreateTable t) call fit = makes_so k n (stmts.CreateTable t) _ _ _ (is_used k.stored.durable t.name) call (Makes_table t)
   call_turn_so k n (stmts.CreateLink l) call fit = makes_so k n (stmts.CreateLink l) _ _ _ (is_link k.stored.durable l.name) call (Makes_link l)
   call_turn_so k n (stmts.CreateSynonym y) call fit = makes_so k n (stmts.CreateSynonym y) _ _ _ (is_used k.stored.durable y.name) call (Makes_synonym y)
@@ -293,28 +293,28 @@ module _ (p : Place) (input : Input) where
   call_turn_so k n (stmts.PurgeMixed id) call fit = purge_so k n true id call
   call_turn_so k n (stmts.PurgeLost id) call fit = purge_so k n false id call
 
-  read_turn_so : (k : Kept) (n : ℕ) (s : Option Stmt) → input ≡ inputs.Call n s → IsSession n → Step p input k (read_turn p k n s)
+  read_turn_so : (k : NodeState) (n : ℕ) (s : Option Stmt) → input ≡ inputs.Call n s → IsSession n → Step p input k (read_turn p k n s)
   read_turn_so k n None call fit = Refuses n None _ call
   read_turn_so k n (Some s) call fit = call_turn_so k n s call fit
 
   -- ---- calls that are given up
 
-  statement_given_up_so : (k : Kept) (n : ℕ) (o : Option Branch) → input ≡ inputs.GiveUp n → (session_at k.sessions n).call ≡ pending.Statement → RootSo k n o → Step p input k (statement_given_up k n o)
+  statement_given_up_so : (k : NodeState) (n : ℕ) (o : Option Branch) → input ≡ inputs.GiveUp n → (session_at k.sessions n).call ≡ pending.Statement → RootSo k n o → Step p input k (statement_given_up k n o)
   statement_given_up_so k n None gives is so = Rests
   statement_given_up_so k n (Some x) gives is so = Gives_up n x gives so.0 is so.1
 
-  give_up_so : (k : Kept) (n : ℕ) (root : Option BranchId) (c : PendingCall) → input ≡ inputs.GiveUp n → (session_at k.sessions n).root ≡ root → (session_at k.sessions n).call ≡ c → Step p input k (give_up_by k n root c)
+  give_up_so : (k : NodeState) (n : ℕ) (root : Option BranchId) (c : PendingCall) → input ≡ inputs.GiveUp n → (session_at k.sessions n).root ≡ root → (session_at k.sessions n).call ≡ c → Step p input k (give_up_by k n root c)
   give_up_so k n None c gives has is = Rests
   give_up_so k n (Some b) pending.NoCall gives has is = Rests
   give_up_so k n (Some b) pending.Statement gives has is = statement_given_up_so k n (branch_at k b) gives is (branch_so k n b (branch_at k b) has refl)
   give_up_so k n (Some b) pending.Commit gives has is = Gives_up_commit n b (live_at k b) gives has is refl
 
-  recovery_so : (k : Kept) → input ≡ inputs.Reco → Step p input k (recovery k)
+  recovery_so : (k : NodeState) → input ≡ inputs.Reco → Step p input k (recovery k)
   unfolding recovery
   recovery_so k reco = Sends _ (Recovers reco)
 
 -- each turn is one of the steps
-pub step_of : (p : Place) (k : Kept) (input : Input) → IsFit input → Step p input (heard k input) (deed_of p k input)
+pub step_of : (p : Place) (k : NodeState) (input : Input) → IsFit input → Step p input (heard k input) (deed_of p k input)
 step_of p k (inputs.Call n s) fit = read_turn_so p (inputs.Call n s) k n s refl fit
 step_of p k (inputs.GiveUp n) fit = give_up_so p (inputs.GiveUp n) k n (session_at k.sessions n).root (session_at k.sessions n).call refl refl refl
 step_of p k (inputs.Message m) fit =

@@ -2,7 +2,7 @@
 use Rattle.std.specs.Prelude.{◌≡◌, List, Some, None}
 use Rattle.node_rules.specs.Data.{BranchId, Live, Work}
 use Rattle.node_rules.specs.Words.{item_at}
-use Rattle.node_rules.specs.Kept.{live_id, work_id, work_or}
+use Rattle.node_rules.specs.NodeState.{live_id, work_id, work_or}
 
 -- the calls of a branch
 abbrev pub works_of : List Work → BranchId → Work

@@ -15,7 +15,7 @@ use Rattle.node_rules.specs.Data.records
 use Rattle.node_rules.specs.Data.stmts
 use Rattle.node_rules.specs.declared.work.Work.{Work}
 use Rattle.commit_forget.specs.declared.next.Next.TheVariants as nexts
-use Rattle.node_rules.specs.Kept.{Kept, Stored, Deed}
+use Rattle.node_rules.specs.NodeState.{NodeState, Stored, Deed}
 use Rattle.node_rules.specs.Turn.{turn_of}
 use Rattle.node_rules.proofs.Steps as steps
 use Rattle.node_rules.proofs.Steps.{Step, Doing, IsMet}
@@ -44,7 +44,7 @@ met_fits : (clock : ℕ) (d : Decision) → clock < 2 ^ 48 - 1 → IsMet clock d
 met_fits clock (decisions.Commit n) room met = omega (arith, room, met)
 met_fits clock decisions.Rollback room met = tt
 
-numbers_on : (p : Place) (input : Input) → BringsBytes input → {k : Kept} {d : Deed} → Step p input k d → k.clock < 2 ^ 48 - 1 → IfSome d.wrote HasNumbers
+numbers_on : (p : Place) (input : Input) → BringsBytes input → {k : NodeState} {d : Deed} → Step p input k d → k.clock < 2 ^ 48 - 1 → IfSome d.wrote HasNumbers
 numbers_on p input brings (steps.Begins n s call rows fit none step) room = numbers_on p input brings step room
 numbers_on p input brings (steps.Pends n l given call has live code step) room = numbers_on p input brings step room
 numbers_on p input brings (steps.Lets_reads_go l comment site_below live begun step) room = numbers_on p input brings step room

@@ -27,7 +27,7 @@ use Rattle.session_tree.specs.Tree.{step}
 use Rattle.node_rules.specs.Words.{one}
 use Rattle.node_rules.specs.Refusals.{dtx}
 use Rattle.node_rules.specs.Names.{way_of, passed_on}
-use Rattle.node_rules.specs.Kept.{Kept, Deed, Branch, live_at, branch_at, with_branch, with_live, without_branch, to_each, to_one}
+use Rattle.node_rules.specs.NodeState.{NodeState, Deed, Branch, live_at, branch_at, with_branch, with_live, without_branch, to_each, to_one}
 use Rattle.node_rules.specs.LiveBranches.{works_of, EachLive}
 use Rattle.node_rules.specs.Records.{applied}
 use Rattle.node_rules.specs.Statement.{ran, answer_of_run, after_run}
@@ -112,7 +112,7 @@ all_said : (xs : List Asking) → AllHaveBytes xs → HaveBytes (flat_map (λ a.
 all_said [] all = tt
 all_said (x ∷ xs) all = both x.says (flat_map (λ a. a.says) xs) all.0 (all_said xs all.1)
 
-recovery_so : (k : Kept) → HaveBytes (flat_map (λ a. a.says) (askings k))
+recovery_so : (k : NodeState) → HaveBytes (flat_map (λ a. a.says) (askings k))
 recovery_so k =
     all_said (askings k) (put_all [] (map asks_live k.lives ++ map asks_kept k.stored.durable.kept) tt
     (all_append (λ a. HaveBytes a.says) (map asks_live k.lives) (map asks_kept k.stored.durable.kept) (lives_ask k.lives) (kept_ask k.stored.durable.kept)))
@@ -147,7 +147,7 @@ exec_so ss x i s given (Some peer) is = (is, tt)
 
 -- ---- messages of a turn that changes nothing
 
-says_so : (k : Kept) (input : Input) (says : List Post) → BringsBytes input → KeepsBytes k → Says k input says → HaveBytes says
+says_so : (k : NodeState) (input : Input) (says : List Post) → BringsBytes input → KeepsBytes k → Says k input says → HaveBytes says
 says_so k input says brings now (steps.Gone_replies to from call given advice s came gone) = (tt, tt)
 says_so k input says brings now (steps.Gone_aborts to from site_below comment came gone) = (tt, tt)
 says_so k input says brings now (steps.Gone_rolls_back to from came gone) = (tt, tt)
@@ -174,7 +174,7 @@ record Before (x : Branch) : Type 0 where
   asker : HasAsker x.live.parent x.live.phase
   mine : x.work.branch ≡ x.live.me
 
-module _ (k : Kept) (now : KeepsBytes k) where
+module _ (k : NodeState) (now : KeepsBytes k) where
   said_at : (x : Branch) → branch_at k x.live.me ≡ Some x → LiveHasBytes x.live x.work
   said_at x found = let parts = branch_parts k x.live.me x found in subst (LiveHasBytes x.live) (sym parts.1) (now.lives.each x.live.me x.live parts.0)
 
@@ -228,7 +228,7 @@ module _ (k : Kept) (now : KeepsBytes k) where
 
 -- ---- records
 
-made_so : {k : Kept} {input : Input} {n : ℕ} {s : Stmt} {r : RedoRecord} {d : Done} → BringsBytes input → steps.Makes k s r d → input ≡ inputs.Call n (Some s) → KeepsBytes k
+made_so : {k : NodeState} {input : Input} {n : ℕ} {s : Stmt} {r : RedoRecord} {d : Done} → BringsBytes input → steps.Makes k s r d → input ≡ inputs.Call n (Some s) → KeepsBytes k
     → AllByRecursion (λ y. IsTableName y.table) (applied k.stored r).durable.synonyms
 unfolding applied durable_after
 made_so brings (steps.Makes_table t free) call now = now.synonyms
@@ -243,10 +243,10 @@ abbrev Bytes : Deed → Type 0
 Bytes d = KeepsBytes d.after × HaveBytes d.says
 
 -- no call is a Prepare
-pub none_asked : (k : Kept) {input : Input} {n : ℕ} {s : Stmt} → input ≡ inputs.Call n (Some s) → AsksChild k input
+pub none_asked : (k : NodeState) {input : Input} {n : ℕ} {s : Stmt} → input ≡ inputs.Call n (Some s) → AsksChild k input
 none_asked k call from to site_below comment l came live = let is = came.is in absurd (cc (call, is))
 
-says_on : (p : Place) (input : Input) → BringsBytes input → {k : Kept} {d : Deed} → Step p input k d → AsksChild k input → HasRows k → KeepsBytes k → Bytes d
+says_on : (p : Place) (input : Input) → BringsBytes input → {k : NodeState} {d : Deed} → Step p input k d → AsksChild k input → HasRows k → KeepsBytes k → Bytes d
 unfolding applied durable_after
 says_on p input brings (steps.Begins {k = k} n s call rows fit none step) of_child whole now =
     says_on p input brings step (none_asked (begun_by p k n None) call) whole (record { lives = begins k now _ no_comment tt; synonyms = now.synonyms })
@@ -330,19 +330,19 @@ stamped_so : (scn : ℕ) (says : List Post) → HaveBytes says → AllByRecursio
 stamped_so scn [] all = tt
 stamped_so scn (x ∷ xs) all = (all.0, stamped_so scn xs all.1)
 
-pub heard_texts : (k : Kept) (input : Input) → KeepsBytes k → KeepsBytes (heard k input)
+pub heard_texts : (k : NodeState) (input : Input) → KeepsBytes k → KeepsBytes (heard k input)
 heard_texts k (inputs.Message m) now = record { lives = now.lives; synonyms = now.synonyms }
 heard_texts k (inputs.Call n s) now = now
 heard_texts k (inputs.GiveUp n) now = now
 heard_texts k inputs.Reco now = now
 
-pub heard_asks : (k : Kept) (input : Input) → AsksChild k input → AsksChild (heard k input) input
+pub heard_asks : (k : NodeState) (input : Input) → AsksChild k input → AsksChild (heard k input) input
 heard_asks k (inputs.Message m) asks = asks
 heard_asks k (inputs.Call n s) asks = asks
 heard_asks k (inputs.GiveUp n) asks = asks
 heard_asks k inputs.Reco asks = asks
 
-heard_rows : (k : Kept) (input : Input) → HasRows k → HasRows (heard k input)
+heard_rows : (k : NodeState) (input : Input) → HasRows k → HasRows (heard k input)
 heard_rows k (inputs.Message m) rows = rows
 heard_rows k (inputs.Call n s) rows = rows
 heard_rows k (inputs.GiveUp n) rows = rows

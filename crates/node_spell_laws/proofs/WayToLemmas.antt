@@ -14,7 +14,7 @@ use Rattle.node_rules.specs.declared.work.Work.{Work}
 use Rattle.node_rules.specs.Data.walks
 use Rattle.node_rules.specs.Data.acts
 use Rattle.commit_forget.specs.declared.next.Next.TheVariants as nexts
-use Rattle.node_rules.specs.Kept.{Kept, Deed}
+use Rattle.node_rules.specs.NodeState.{NodeState, Deed}
 use Rattle.node_rules.specs.LiveBranches.{EachLive}
 use Rattle.node_rules.specs.Client.{begun_by}
 use Rattle.node_rules.specs.Turn.{heard, turn_of}
@@ -115,25 +115,25 @@ down_fits l i down few = let low = down_named l i down in let named = named_few 
 
 -- ---- turns
 
-passes_down : {k : Kept} {input : Input} {l : Live} {site_below : Bool} {i : ℕ} → Acting k input l site_below (acts.SealAndPass i) → step l ≡ walks.Down i
+passes_down : {k : NodeState} {input : Input} {l : Live} {site_below : Bool} {i : ℕ} → Acting k input l site_below (acts.SealAndPass i) → step l ≡ walks.Down i
 passes_down (steps.Has_no_children l comment site_below a live begun none (steps.Passes i root down)) = down
 passes_down (steps.Hears_last l from v site_below a live answers other all (steps.Passes i root down)) = down
 passes_down (steps.At_point l from a live came ready (steps.Points_on i down)) = down
 
 -- who seals toward its parent has one
-seals_up : {k : Kept} {input : Input} {l : Live} {w : Work} {site_below : Bool} → LiveHasBytes l w → Acting k input l site_below acts.Seal → IsTrue (is_some l.parent)
+seals_up : {k : NodeState} {input : Input} {l : Live} {w : Work} {site_below : Bool} → LiveHasBytes l w → Acting k input l site_below acts.Seal → IsTrue (is_some l.parent)
 seals_up is (steps.Has_no_children l comment site_below a live begun none (steps.Is_prepared some)) = is.asker
 seals_up is (steps.Hears_last l from v site_below a live answers other all (steps.Is_prepared some)) = subst (HasAsker l.parent) answers.collecting is.asker
 seals_up is (steps.At_point l from a live came ready pointed) = elim pointed [ ]
 
-few_acting : {k : Kept} {input : Input} {l : Live} {site_below : Bool} {a : Act} → EachLive HasFewChildren k.lives k.works → Acting k input l site_below a → length l.edges ≤ link_limit
+few_acting : {k : NodeState} {input : Input} {l : Live} {site_below : Bool} {a : Act} → EachLive HasFewChildren k.lives k.works → Acting k input l site_below a → length l.edges ≤ link_limit
 few_acting few why =
     acting_so (λ l. length l.edges ≤ link_limit)
     (λ l comment site_below is. subst (λ n. n ≤ link_limit) (sym (length-map l.edges with_prepare_sent)) is)
     (λ l from v is. subst (λ n. n ≤ link_limit) (sym (length-map l.edges (has_voted from v))) is)
     (λ b l found. few.each b l found) why
 
-ways_on : (p : Place) (input : Input) → BringsBytes input → {k : Kept} {d : Deed} → Step p input k d → AsksChild k input → EachLive HasFewChildren k.lives k.works → KeepsBytes k → IfSome d.wrote HasWay
+ways_on : (p : Place) (input : Input) → BringsBytes input → {k : NodeState} {d : Deed} → Step p input k d → AsksChild k input → EachLive HasFewChildren k.lives k.works → KeepsBytes k → IfSome d.wrote HasWay
 ways_on p input brings (steps.Begins {k = k} n s call rows fit none step) asks few now =
     ways_on p input brings step (none_asked (begun_by p k n None) call) (each_begun HasFewChildren HasFewChildren k.lives k.works few _ (omega arith) (λ y v live any so. so)) (record { lives = begins k now _ no_comment tt; synonyms = now.synonyms })
 ways_on p input brings (steps.Pends n l given call has live code step) asks few now = ways_on p input brings step asks few (record { lives = now.lives; synonyms = now.synonyms })
@@ -160,7 +160,7 @@ ways_on p input brings (steps.Gives_up_commit n b (Some l) gives has waits live)
 ways_on p input brings (steps.Gives_up_commit n b None gives has waits none) asks few now = tt
 ways_on p input brings _ asks few now = tt
 
-heard_few : (k : Kept) (input : Input) → EachLive HasFewChildren k.lives k.works → EachLive HasFewChildren (heard k input).lives (heard k input).works
+heard_few : (k : NodeState) (input : Input) → EachLive HasFewChildren k.lives k.works → EachLive HasFewChildren (heard k input).lives (heard k input).works
 heard_few k (inputs.Message m) few = few
 heard_few k (inputs.Call n s) few = few
 heard_few k (inputs.GiveUp n) few = few

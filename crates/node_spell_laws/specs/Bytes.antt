@@ -16,7 +16,7 @@ use Rattle.node_rules.specs.Data.phases
 use Rattle.node_rules.specs.Data.records
 use Rattle.node_rules.specs.declared.work.Work.{Work}
 use Rattle.node_rules.specs.Names.{passed_on}
-use Rattle.node_rules.specs.Kept.{Kept, live_at}
+use Rattle.node_rules.specs.NodeState.{NodeState, live_at}
 use Rattle.node_rules.specs.LiveBranches.{EachLive}
 use Rattle.node_rules.specs.Statement.{ran, answer_of_run}
 use Rattle.node_rules.specs.Inputs.{IsFit, Came}
@@ -80,7 +80,7 @@ BringsBytes (inputs.Call session (Some s)) = IsPrintable s
 BringsBytes _ = Unit {0}
 
 -- Prepare comes to a branch that has a parent, where it is live
-abbrev pub AsksChild : Kept → Input → Type 0
+abbrev pub AsksChild : NodeState → Input → Type 0
 AsksChild k input = (from to : BranchId) (site_below : Bool) (comment : List ℕ) (l : Live) → Came input from to (kinds.Prepare site_below comment) → live_at k to ≡ Some l → IsTrue (is_some l.parent)
 
 -- ---- what is kept
@@ -103,7 +103,7 @@ pub record LiveHasBytes (l : Live) (w : Work) : Type 0 where
   pub asker : HasAsker l.parent l.phase
 
 -- Live branches that are so, and synonyms whose tables a statement may name.
-pub record KeepsBytes (k : Kept) : Type 0 where
+pub record KeepsBytes (k : NodeState) : Type 0 where
   pub lives : EachLive LiveHasBytes k.lives k.works
   pub synonyms : AllByRecursion (λ y. IsTableName y.table) k.stored.durable.synonyms
 
@@ -120,19 +120,19 @@ StatementsAreRenamed = (s : Stmt) (name : List ℕ) → IsPrintable s → IsTabl
 
 -- a node whose rows are of its tables answers such a statement so that the answer can be sent
 abbrev pub AnswersHaveBytes : Type 0
-AnswersHaveBytes = (p : Place) (k : Kept) (b : BranchId) (s : Stmt) (t : Table) → HasRows k → IsPrintable s → table_named k.stored.durable.tables t.name ≡ Some t
+AnswersHaveBytes = (p : Place) (k : NodeState) (b : BranchId) (s : Stmt) (t : Table) → HasRows k → IsPrintable s → table_named k.stored.durable.tables t.name ≡ Some t
     → AnswerHasBytes (answer_of_run (ran p k b s t))
 
 -- ---- turns
 
 -- each turn of such a node keeps and says what has bytes, where what comes has
 abbrev pub TurnsKeepBytes : Type 0
-TurnsKeepBytes = (p : Place) (k : Kept) (input : Input) → IsFit input → BringsBytes input → AsksChild k input → HasRows k → KeepsBytes k
+TurnsKeepBytes = (p : Place) (k : NodeState) (input : Input) → IsFit input → BringsBytes input → AsksChild k input → HasRows k → KeepsBytes k
     → KeepsBytes (turn_of p k input).after × AllByRecursion (λ m. HasBytes m.kind) (turn_of p k input).sent
 
 -- the record of each turn names such a table, where it names one
 abbrev pub TurnsNameTables : Type 0
-TurnsNameTables = (p : Place) (k : Kept) (input : Input) → IsFit input → BringsBytes input → IfSome (turn_of p k input).wrote NamesTable
+TurnsNameTables = (p : Place) (k : NodeState) (input : Input) → IsFit input → BringsBytes input → IfSome (turn_of p k input).wrote NamesTable
 
 -- a node that starts from such records keeps what has bytes
 abbrev pub StartsKeepBytes : Type 0

@@ -7,7 +7,7 @@ use Rattle.field_codec.specs.Text.{comment_format}
 use Rattle.node_rules.specs.Data.{Change, RedoRecord, Live, Place, Input}
 use Rattle.node_rules.specs.Data.records
 use Rattle.node_rules.specs.declared.work.Work.{Work}
-use Rattle.node_rules.specs.Kept.{Stored, Kept}
+use Rattle.node_rules.specs.NodeState.{Stored, NodeState}
 use Rattle.node_rules.specs.LiveBranches.{EachLive}
 use Rattle.node_rules.specs.Inputs.{IsFit}
 use Rattle.node_rules.specs.Turn.{heard, turn_of}
@@ -34,7 +34,7 @@ ChangesFit = (s : Stored) (r : RedoRecord) → AllByRecursion IsWholeTable s.dur
 
 -- the comment of each turn's record is one
 abbrev pub CommentsFit : Type 0
-CommentsFit = (p : Place) (k : Kept) (input : Input) → IsFit input → BringsBytes input → AsksChild k input → KeepsBytes k → IfSome (turn_of p k input).wrote (λ r. comment_format.Fits (comment_in r))
+CommentsFit = (p : Place) (k : NodeState) (input : Input) → IsFit input → BringsBytes input → AsksChild k input → KeepsBytes k → IfSome (turn_of p k input).wrote (λ r. comment_format.Fits (comment_in r))
 
 -- the way of a prepared branch leads to a parent, or to a child that its record names
 abbrev pub HasWay : RedoRecord → Type 0
@@ -47,7 +47,7 @@ HasFewChildren l w = length l.edges ≤ link_limit
 
 -- so does that of each turn's record
 abbrev pub WaysLead : Type 0
-WaysLead = (p : Place) (k : Kept) (input : Input) → IsFit input → BringsBytes input → AsksChild k input → EachLive HasFewChildren k.lives k.works → KeepsBytes k
+WaysLead = (p : Place) (k : NodeState) (input : Input) → IsFit input → BringsBytes input → AsksChild k input → EachLive HasFewChildren k.lives k.works → KeepsBytes k
     → IfSome (turn_of p k input).wrote HasWay
 
 -- the SCN of a record is one that six bytes tell, and a setting is no strength
@@ -61,14 +61,14 @@ HasNumbers (records.Met me decision mixed) = DecisionFits decision
 HasNumbers _ = Unit {0}
 
 -- the clock of a node that has received what came leaves room for one more SCN
-abbrev pub HasRoomForScn : Kept → Input → Type 0
+abbrev pub HasRoomForScn : NodeState → Input → Type 0
 HasRoomForScn k input = (heard k input).clock < 2 ^ 48 - 1
 
 -- so is that of each turn's record, where the clock leaves room for it
 abbrev pub NumbersFit : Type 0
-NumbersFit = (p : Place) (k : Kept) (input : Input) → IsFit input → BringsBytes input → HasRoomForScn k input → IfSome (turn_of p k input).wrote HasNumbers
+NumbersFit = (p : Place) (k : NodeState) (input : Input) → IsFit input → BringsBytes input → HasRoomForScn k input → IfSome (turn_of p k input).wrote HasNumbers
 
 -- the record that a ready node writes in a turn has bytes, as far as no size is asked of it
 abbrev pub RecordsHaveBytes : Type 0
-RecordsHaveBytes = (p : Place) (k : Kept) (input : Input) → IsReady p k → IsExpected input → p.links ≤ link_limit → HasRoomForScn k input → BringsBytes input → AsksChild k input → KeepsBytes k
+RecordsHaveBytes = (p : Place) (k : NodeState) (input : Input) → IsReady p k → IsExpected input → p.links ≤ link_limit → HasRoomForScn k input → BringsBytes input → AsksChild k input → KeepsBytes k
     → IfSome (turn_of p k input).wrote RecordHasBytes

@@ -5,7 +5,7 @@ use Rattle.tran_ids.specs.declared.branch.BranchId.{BranchId}
 use Rattle.tran_ids.specs.Listed.{item_at}
 use Rattle.tran_ids.proofs.ListedLemmas.{item_is}
 use Rattle.node_rules.specs.declared.work.Work.{Work}
-use Rattle.node_rules.specs.Kept.{work_id, work_or}
+use Rattle.node_rules.specs.NodeState.{work_id, work_or}
 use Rattle.node_state.specs.Works.{work_of}
 
 pub on_err : {T E P : Type 0} (r : Result T E) → P → OnErr r P

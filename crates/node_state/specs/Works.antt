@@ -9,7 +9,7 @@ use Rattle.node_rules.specs.declared.work.Going.{Going}
 use Rattle.node_rules.specs.declared.work.Waits.{Waits}
 use Rattle.node_rules.specs.declared.work.Waits.TheVariants as waiting
 use Rattle.node_rules.specs.declared.work.Work.{Work}
-use Rattle.node_rules.specs.Kept.{work_id, work_or}
+use Rattle.node_rules.specs.NodeState.{work_id, work_or}
 use Rattle.node_rules.specs.Calls.{next_call}
 
 -- the calls of any branch are kept

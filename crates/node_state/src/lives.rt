@@ -6,7 +6,7 @@ ghost use Rattle.tran_ids.specs.Listed.{item_at, drop_item};
 ghost use Rattle.session_tree.specs.declared.live.Live.{Live};
 ghost use Rattle.session_tree.specs.Live.{add_edge as add_edge_of};
 ghost use Rattle.prepare_phase.specs.Acts.{prepare_act, heard_act, after_answer};
-ghost use Rattle.node_rules.specs.Kept.{live_id};
+ghost use Rattle.node_rules.specs.NodeState.{live_id};
 ghost use Rattle.node_rules.specs.Prepare.{with_comment, ready};
 ghost use Rattle.node_state.specs.Changed.{change_item};
 ghost use Rattle.node_state.specs.Lives.{HasRoom, prepared, changed_by, advised, heard};
@@ -36,7 +36,7 @@ impl Model for Lives {
     ghost use Rattle.std.specs.Prelude.{List};
     ghost use Rattle.std.specs.Map.{values_of};
     ghost use Rattle.session_tree.specs.declared.live.Live.{Live};
-    ghost use Rattle.node_rules.specs.Kept.{live_id};
+    ghost use Rattle.node_rules.specs.NodeState.{live_id};
     ghost use Rattle.node_state.specs.ByBranch.{AreKeyed};
     ghost use Rattle.node_state.specs.Lives.{HasRoom};
 

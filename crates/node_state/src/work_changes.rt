@@ -2,7 +2,7 @@
 ghost use Rattle.std.specs.Prelude.{◌≡◌, ◌<◌, ◌^◌, IfOk, OnOk, OnErr};
 ghost use Rattle.link_session.specs.Calls.{admit as admit_of};
 ghost use Rattle.tran_ids.specs.Listed.{set_numbered};
-ghost use Rattle.node_rules.specs.Kept.{no_work as no_work_of};
+ghost use Rattle.node_rules.specs.NodeState.{no_work as no_work_of};
 ghost use Rattle.node_rules.specs.Calls.{next_call as next_call_of};
 ghost use Rattle.node_state.specs.Works.{with_call_taken, called_over, waits_for_child, with_child, answered_with, given_up};
 

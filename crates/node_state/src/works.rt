@@ -4,7 +4,7 @@ ghost use Rattle.std.specs.Option.{option_copied};
 ghost use Rattle.tran_ids.specs.Listed.{item_at, put_item, drop_item};
 ghost use Rattle.link_session.specs.Calls.{admit as admit_of};
 ghost use Rattle.node_rules.specs.declared.work.Work.{Work};
-ghost use Rattle.node_rules.specs.Kept.{work_id, no_work};
+ghost use Rattle.node_rules.specs.NodeState.{work_id, no_work};
 ghost use Rattle.node_rules.specs.Calls.{next_call};
 ghost use Rattle.node_state.specs.Works.{work_of, change_work, with_call_taken, called_over, waits_for_child, with_child, answered_with, given_up};
 
@@ -36,7 +36,7 @@ impl Model for Works {
     ghost use Rattle.std.specs.Prelude.{List};
     ghost use Rattle.std.specs.Map.{values_of};
     ghost use Rattle.node_rules.specs.declared.work.Work.{Work};
-    ghost use Rattle.node_rules.specs.Kept.{work_id};
+    ghost use Rattle.node_rules.specs.NodeState.{work_id};
     ghost use Rattle.node_state.specs.ByBranch.{AreKeyed};
     ghost use Rattle.node_state.specs.Works.{AnyWork};
 

@@ -10,8 +10,8 @@ use Rattle.node_rules.specs.Data.stmts
 use Rattle.run_rules.specs.Data.{AnswerLine, Command, Entry}
 use Rattle.run_rules.specs.Data.hows
 use Rattle.run_rules.specs.Data.commands
-use Rattle.run_rules.specs.Telling.{Past, start}
-use Rattle.run_rules.specs.Lines.{told as told_of}
+use Rattle.run_rules.specs.RunReport.{Past, start}
+use Rattle.run_rules.specs.Lines.{told as reported_of}
 use Rattle.run_rules.specs.Due.{runs_on}
 
 -- a node's place, with as many links and extents of undo as a node has where its command says nothing
@@ -136,7 +136,7 @@ played happenings places script = runs_on places script (replicate happenings 0)
 
 -- what was told of it
 abbrev pub told : Past → List AnswerLine
-told p = told_of p.facts p.telling
+told p = reported_of p.facts p.run_report
 
 -- its book
 abbrev pub booked : Past → List Entry

@@ -10,12 +10,12 @@ use Rattle.node_rules.specs.Data.kinds
 use Rattle.node_rules.specs.Data.records
 use Rattle.node_rules.specs.Data.towards
 use Rattle.node_rules.specs.Refusals.{dtx}
-use Rattle.node_rules.specs.Kept.{Kept, Outcome}
+use Rattle.node_rules.specs.NodeState.{NodeState, Outcome}
 use Rattle.node_rules.specs.Turn.{turn_of, start_of}
 use Rattle.run_rules.specs.Data.{Command, Happening}
 use Rattle.run_rules.specs.Data.commands
 use Rattle.run_rules.specs.Data.happenings
-use Rattle.run_rules.specs.Telling.{start}
+use Rattle.run_rules.specs.RunReport.{start}
 use Rattle.run_rules.specs.Due.{happened}
 use Rattle.plays.proofs.Script.{place, number_column, number_key, link, here, over, num, rows, node, at, hold}
 use Rattle.plays.proofs.Playing.{playing}
@@ -39,11 +39,11 @@ abbrev stranger : BranchId
 stranger = record { node = 3; boot = 1; session = 66; seq = 1 }
 
 -- a message comes to the branch at HQ
-abbrev hears : Kept → BranchId → Kind → Outcome
+abbrev hears : NodeState → BranchId → Kind → Outcome
 hears k from kind = turn_of hq_place k (inputs.Message (record { from = from; to = hq; scn = 1; kind = kind }))
 
 -- what HQ writes and says then
-abbrev does : Kept → BranchId → Kind → Option RedoRecord × List Msg
+abbrev does : NodeState → BranchId → Kind → Option RedoRecord × List Msg
 does k from kind = ((hears k from kind).wrote, (hears k from kind).sent)
 
 -- nothing
@@ -78,10 +78,10 @@ with_doubt toward =
     })
     ∷ []
 
-abbrev toward_sales : Kept
+abbrev toward_sales : NodeState
 toward_sales = start_of (with_doubt towards.Parent)
 
-abbrev toward_depot : Kept
+abbrev toward_depot : NodeState
 toward_depot = start_of (with_doubt (towards.Child 0))
 
 -- a decision from the side where the site is not is not heard
@@ -152,7 +152,7 @@ stranger_that_asks_hears_rollback = refl
 -- ---- the forced branch
 
 -- a forced branch knows no decision
-abbrev forced_to : Decision → Kept
+abbrev forced_to : Decision → NodeState
 forced_to d = start_of (with_doubt towards.Parent ++ records.Forced hq d true ∷ [])
 
 forced_commit_is_not_told_to_the_child : does (forced_to (decisions.Commit 7)) depot kinds.Ask ≡ only_says depot 1 kinds.InDoubt
@@ -178,7 +178,7 @@ forced_branch_hears_toward_alone = refl
 
 -- ---- the committed branch
 
-abbrev committed : Kept
+abbrev committed : NodeState
 committed = start_of (with_doubt towards.Parent ++ records.Ended hq (decisions.Commit 2) ∷ [])
 
 -- the child alone is waited for, and toward alone has it forget
@@ -217,7 +217,7 @@ a_link = records.Link (record { name = codes "DEPOT"; target = codes "DEPOT" })
 abbrev node_alone : ℕ → BranchId
 node_alone number = record { node = number; boot = 0; session = 0; seq = 0 }
 
-abbrev live : Kept
+abbrev live : NodeState
 live = (turn_of hq_place (start_of (records.Boot 1 ∷ a_link ∷ [])) (inputs.Message (record { from = sales; to = node_alone 2; scn = 1; kind = kinds.Open 1 sales 2 }))).after
 
 -- nothing is decided over it, and its parent alone may end it
@@ -263,7 +263,7 @@ last_room_is_used_up = refl
 -- ---- the branch that is gone
 
 -- HQ has started again, or never knew it
-abbrev gone : Kept
+abbrev gone : NodeState
 gone = start_of (records.Boot 1 ∷ records.Boot 2 ∷ [])
 
 exec_to_a_gone_branch : does gone sales (kinds.Exec 1 63 None query) ≡ only_says sales 1 (kinds.Reply 1 None 1 (answers.Refused (dtx 8 [])))

@@ -11,7 +11,7 @@ use Rattle.run_rules.specs.Data.kind_names
 use Rattle.run_rules.specs.Data.commands
 use Rattle.run_rules.specs.Data.happenings
 use Rattle.run_rules.specs.Facts.{Facts, first_facts, facts_of}
-use Rattle.run_rules.specs.Telling.{start}
+use Rattle.run_rules.specs.RunReport.{start}
 use Rattle.run_rules.specs.Due.{Delivers, happened, comes_next, due_of}
 use Rattle.run_rules.specs.Branches.{Sealed, Decided, Kept, Gone, Trail, no_trail, exit_at, life_at, own_at, plan_at}
 use Rattle.run_rules.specs.Tree.{site, tree, weight, step, walk, plan}

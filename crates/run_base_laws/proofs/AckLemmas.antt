@@ -9,7 +9,7 @@ use Rattle.node_rules.specs.Data.decisions
 use Rattle.node_rules.specs.Data.records
 use Rattle.node_rules.specs.Data.params
 use Rattle.node_rules.specs.Words.{same, put_item, change_where, drop_where}
-use Rattle.node_rules.specs.Kept.{Kept, Stored, standing_id}
+use Rattle.node_rules.specs.NodeState.{NodeState, Stored, standing_id}
 use Rattle.node_rules.specs.Records.{applied, stored_by}
 use Rattle.node_rules.specs.Commit.{acks_kid, acked_by}
 use Rattle.node_rules.proofs.Steps.{IsKept}
@@ -92,5 +92,5 @@ pub row_acked : (s : Standing) (from : BranchId) → unacked_row (acked_by s fro
 row_acked s from = ap (λ cs. record s { parent_acked = false; children = cs }) (map_after unacked_kid (acks_kid from) unacked_kid (kid_acked from) s.children)
 
 -- a row whose Acks are counted is put in the place of the one that was found
-pub rows_acked : (k : Kept) (s : Standing) (from : BranchId) → IsKept k s → unacked_rows (put_item standing_id k.stored.durable.kept (acked_by s from)) ≡ unacked_rows k.stored.durable.kept
+pub rows_acked : (k : NodeState) (s : Standing) (from : BranchId) → IsKept k s → unacked_rows (put_item standing_id k.stored.durable.kept (acked_by s from)) ≡ unacked_rows k.stored.durable.kept
 rows_acked k s from kept = map_put standing_id unacked_row k.stored.durable.kept (acked_by s from) s kept (row_acked s from)

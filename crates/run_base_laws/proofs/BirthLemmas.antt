@@ -13,7 +13,7 @@ use Rattle.node_rules.specs.Data.inputs
 use Rattle.node_rules.specs.Words.{same, put_item}
 use Rattle.node_rules.specs.Inputs.{Came, IsCall}
 use Rattle.node_rules.specs.Names.{Way, Runs_here, Over, Through, Nowhere_to, way_of}
-use Rattle.node_rules.specs.Kept.{Kept, Branch, Deed, live_id}
+use Rattle.node_rules.specs.NodeState.{NodeState, Branch, Deed, live_id}
 use Rattle.node_rules.specs.Sessions.{session_at}
 use Rattle.node_rules.specs.Calls.{is_opening, next_child, goes, open_by}
 use Rattle.node_rules.specs.Client.{new_root, fresh_root, begun_by, begun, root_at, statement_by, statement_call, call_turn}
@@ -35,7 +35,7 @@ use Rattle.run_base_laws.proofs.NeighborLemmas.{News}
 -- ---- what begins a branch
 
 -- How branches begin with an input: none does, or a root, or a child.
-pub data Begins (p : Place) (k : Kept) (input : Input) : List Born → Type 0 where
+pub data Begins (p : Place) (k : NodeState) (input : Input) : List Born → Type 0 where
   None_begins : Begins p k input []
   Root_begins : (n : ℕ) (s : Stmt) → IsCall input n s → IsOfRows s → (session_at k.sessions n).root ≡ None → Begins p k input (root_born (new_root p k n) ∷ [])
   Child_begins : (to parent : BranchId) (edge : ℕ) (root : BranchId) (depth : ℕ) → Came input parent to (kinds.Open edge root depth) → find (is_opening parent edge) k.opens ≡ None
@@ -55,7 +55,7 @@ rows_are (stmts.Delete table cs) is = refl
 rows_are (stmts.Select list table cs for_update) is = refl
 rows_are _ is = absurd is
 
-module _ (p : Place) (k : Kept) where
+module _ (p : Place) (k : NodeState) where
   roots_begin : (n : ℕ) (s : Stmt) (o : Option BranchId) → IsOfRows s → (session_at k.sessions n).root ≡ o → Begins p k (inputs.Call n (Some s)) (roots_by p k n o)
   roots_begin n s None rows is = Root_begins n s refl rows is
   roots_begin n s (Some b) rows is = None_begins
@@ -81,7 +81,7 @@ module _ (p : Place) (k : Kept) where
   begins_so inputs.Reco = None_begins
 
 -- what is known of the branches that begin is news to the turn's step
-module _ (B : Born → Type 0) (p : Place) (k : Kept) where
+module _ (B : Born → Type 0) (p : Place) (k : NodeState) where
   root_news : (input : Input) (n : ℕ) (s : Stmt) → AllByRecursion B (births_by p k input) → IsCall input n s → IsOfRows s → (session_at (heard k input).sessions n).root ≡ None → B (root_born (new_root p (heard k input) n))
   root_news input n s all call rows none = subst (λ i. AllByRecursion B (births_by p k i) → (session_at (heard k i).sessions n).root ≡ None → B (root_born (new_root p (heard k i) n))) (sym call) here all none
     where
@@ -134,37 +134,37 @@ pub record Bears (d : Deed) (b : BranchId) : Type 0 where
   pub living : is_among b (map live_id d.after.lives) ≡ true
 
 module _ (p : Place) (n : ℕ) (s : Stmt) (b : BranchId) where
-  way_bears : (k : Kept) (x : Branch) (w : Way) → is_among b (map live_id k.lives) ≡ true → Bears (goes p k x s 0 w) b
+  way_bears : (k : NodeState) (x : Branch) (w : Way) → is_among b (map live_id k.lives) ≡ true → Bears (goes p k x s 0 w) b
   way_bears k x (Runs_here t) is = record { unwritten = refl; living = put_among b k.lives _ is }
   way_bears k x (Nowhere_to r) is = record { unwritten = refl; living = put_among b k.lives x.live is }
   way_bears k x (Over i table) is = record { unwritten = refl; living = put_among b k.lives x.live is }
   way_bears k x (Through node link table) is = record { unwritten = refl; living = put_among b k.lives x.live is }
 
-  statement_bears : (k : Kept) (code : Option ℕ) (o : Option Branch) → is_among b (map live_id k.lives) ≡ true → Bears (statement_by p k n s code o) b
+  statement_bears : (k : NodeState) (code : Option ℕ) (o : Option Branch) → is_among b (map live_id k.lives) ≡ true → Bears (statement_by p k n s code o) b
   statement_bears k code None is = record { unwritten = refl; living = is }
   statement_bears k (Some c) (Some x) is = record { unwritten = refl; living = is }
   statement_bears k None (Some x) is = way_bears k x (way_of p k.stored.durable x.live 0 s) is
 
 -- a statement that has a table
-rows_turn : (p : Place) (k : Kept) (n : ℕ) (s : Stmt) → IsOfRows s → statement_call p (begun p k n) n s ≡ call_turn p k n s
+rows_turn : (p : Place) (k : NodeState) (n : ℕ) (s : Stmt) → IsOfRows s → statement_call p (begun p k n) n s ≡ call_turn p k n s
 rows_turn p k n (stmts.Insert table columns given) is = refl
 rows_turn p k n (stmts.Update table sets cs) is = refl
 rows_turn p k n (stmts.Delete table cs) is = refl
 rows_turn p k n (stmts.Select list table cs for_update) is = refl
 rows_turn p k n _ is = absurd is
 
-root_bears : (p : Place) (k : Kept) (n : ℕ) (s : Stmt) → IsOfRows s → (session_at k.sessions n).root ≡ None → Bears (call_turn p k n s) (new_root p k n)
+root_bears : (p : Place) (k : NodeState) (n : ℕ) (s : Stmt) → IsOfRows s → (session_at k.sessions n).root ≡ None → Bears (call_turn p k n s) (new_root p k n)
 root_bears p k n s rows none =
     let there : is_among (new_root p k n) (map live_id (begun_by p k n None).lives) ≡ true = among_last k.lives (fresh_root p k (new_root p k n)) in
     let new : Bears (statement_call p (begun_by p k n None) n s) (new_root p k n) = statement_bears p n s (new_root p k n) (begun_by p k n None) _ (root_at (begun_by p k n None) n) there in
     subst (λ d. Bears d (new_root p k n)) (rows_turn p k n s rows) (subst (λ o. Bears (statement_call p (begun_by p k n o) n s) (new_root p k n)) (sym none) new)
 
-child_bears : (p : Place) (k : Kept) (parent : BranchId) (edge : ℕ) (root : BranchId) (depth : ℕ) → find (is_opening parent edge) k.opens ≡ None
+child_bears : (p : Place) (k : NodeState) (parent : BranchId) (edge : ℕ) (root : BranchId) (depth : ℕ) → find (is_opening parent edge) k.opens ≡ None
     → Bears (open_by p k parent edge root depth (find (is_opening parent edge) k.opens)) (next_child p k)
 child_bears p k parent edge root depth none = subst (λ o. Bears (open_by p k parent edge root depth o) (next_child p k)) (sym none) (record { unwritten = refl; living = among_last k.lives _ })
 
 -- each branch that begins is live after the turn, which writes nothing
-pub birth_bears : (p : Place) (k : Kept) (input : Input) {xs : List Born} → Begins p k input xs → AllByRecursion (λ x. Bears (deed_of p k input) x.me) xs
+pub birth_bears : (p : Place) (k : NodeState) (input : Input) {xs : List Born} → Begins p k input xs → AllByRecursion (λ x. Bears (deed_of p k input) x.me) xs
 birth_bears p k input None_begins = tt
 birth_bears p k input (Root_begins n s call rows none) = (subst (λ i. Bears (deed_of p k i) (new_root p k n)) (sym call) (root_bears p k n s rows none), tt)
 birth_bears p k input (Child_begins to parent edge root depth came none) =

@@ -7,7 +7,7 @@ use Rattle.agreement.specs.Events.{Event, exit}
 use Rattle.node_rules.specs.Data.{BranchId, Msg, RedoRecord, Place}
 use Rattle.node_rules.specs.Data.records
 use Rattle.node_rules.specs.Words.{numbered}
-use Rattle.node_rules.specs.Kept.{Kept}
+use Rattle.node_rules.specs.NodeState.{NodeState}
 use Rattle.node_rules.specs.Records.{nothing_stored}
 use Rattle.node_rules.specs.Turn.{made, start_of}
 use Rattle.run_rules.specs.Data.{Happening, Command}
@@ -83,7 +83,7 @@ module _ (places : List Place) (asked : List Command) (each : (n : ℕ) (p : Pla
       unfolding start_of
       start_names zs all = (tt, rows_stored (Began bs) nothing_stored zs all tt, tt)
 
-      start_each : (P : Option Kept → List RedoRecord → Type 0) → P (Some (start_of (with_boot f m boot))) (with_boot f m boot) → ((n : ℕ) → P (node_at f n) (records_at f n)) → (n : ℕ) → P (node_at begun n) (records_at begun n)
+      start_each : (P : Option NodeState → List RedoRecord → Type 0) → P (Some (start_of (with_boot f m boot))) (with_boot f m boot) → ((n : ℕ) → P (node_at f n) (records_at f n)) → (n : ℕ) → P (node_at begun n) (records_at begun n)
       start_each P new old n = elim (cases_nat n m) [
         | inl at ↦ subst (λ i. P (node_at begun i) (records_at begun i)) (sym at) (subst₂ P (sym up.0) (sym up.1) new)
         | inr other ↦ (let same_there = start_elsewhere places asked f even m boot n (λ e. other (sym e)) in subst₂ P (sym same_there.0) (sym same_there.1) (old n))
@@ -127,7 +127,7 @@ module _ (places : List Place) (asked : List Command) (each : (n : ℕ) (p : Pla
     SentSo y = GoesSo (Began bs) y.from y.to y.kind
 
     same_nodes : (h : Happening) → (facts_after places asked f h).nodes ≡ f.nodes → (n : ℕ) → node_at (facts_after places asked f h) n ≡ node_at f n
-    same_nodes h is n = ap (λ (xs : List (Option Kept)). flat (numbered xs n)) is
+    same_nodes h is n = ap (λ (xs : List (Option NodeState)). flat (numbered xs n)) is
 
     pub births_on : (h : Happening) → MayHappen places asked f h → BirthsStand (facts_after places asked f h) (events_after places asked f h t) (births_after places f h bs)
     unfolding facts_after

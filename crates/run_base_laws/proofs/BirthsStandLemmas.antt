@@ -9,7 +9,7 @@ use Rattle.node_rules.specs.Data.kinds
 use Rattle.node_rules.specs.Data.inputs
 use Rattle.node_rules.specs.Words.{numbered}
 use Rattle.node_rules.specs.Inputs.{Came, IsFit}
-use Rattle.node_rules.specs.Kept.{Kept, Deed}
+use Rattle.node_rules.specs.NodeState.{NodeState, Deed}
 use Rattle.node_rules.specs.Calls.{next_child}
 use Rattle.node_rules.specs.Client.{new_root}
 use Rattle.node_rules.specs.Turn.{turn_of, heard, deed_of, stamped}
@@ -56,7 +56,7 @@ module _ (P : BranchId → BranchId → Kind → Type 0) (f : Facts) (said : All
       let here : m ≡ record { from = from; to = to; scn = scn; kind = kind } = cc in
       subst (λ (x : Msg). P x.from x.to x.kind) here is
 
-  pub came_so : (k : Kept) (node : ℕ) (input : Input) (took : Option Took) → Comes f k node input took → (from to : BranchId) (kind : Kind) → Came input from to kind → P from to kind
+  pub came_so : (k : NodeState) (node : ℕ) (input : Input) (took : Option Took) → Comes f k node input took → (from to : BranchId) (kind : Kind) → Came input from to kind → P from to kind
   came_so k node (inputs.Message m) (Some x) comes from to kind came =
       message_so m from to came.scn kind
       (subst (λ (y : Msg). P y.from y.to y.kind) comes.1.same (numbered_so (λ y. P y.from y.to y.kind) f.net.packets x.number comes.0 said comes.1.sent)) came.is
@@ -66,15 +66,15 @@ module _ (P : BranchId → BranchId → Kind → Type 0) (f : Facts) (said : All
   came_so k node inputs.Reco took comes from to kind came = absurd (cc (came.is))
 
 -- a node that hears names the same
-heard_names : (B : Born → Type 0) (k : Kept) (input : Input) → NamesAre B k → NamesAre B (heard k input)
+heard_names : (B : Born → Type 0) (k : NodeState) (input : Input) → NamesAre B k → NamesAre B (heard k input)
 heard_names B k (inputs.Message m) names = names
 heard_names B k _ names = names
 
 -- ---- a turn
 
 module _ (places : List Place) (asked : List Command) (each : (n : ℕ) (p : Place) → numbered places n ≡ Some p → IsPlace places n p) where
-  module _ (f : Facts) (t : List Event) (bs : List Born) (u : Turn) (k : Kept) (now : NodesStand places f t) (even : length f.nodes ≡ length f.records)
-      (node : (m : ℕ) (x : Kept) → node_at f m ≡ Some x → Node (records_at f m) x) (owns : (m : ℕ) (x : Kept) → node_at f m ≡ Some x → OwnAt (place_at places m) (records_at f m) x)
+  module _ (f : Facts) (t : List Event) (bs : List Born) (u : Turn) (k : NodeState) (now : NodesStand places f t) (even : length f.nodes ≡ length f.records)
+      (node : (m : ℕ) (x : NodeState) → node_at f m ≡ Some x → Node (records_at f m) x) (owns : (m : ℕ) (x : NodeState) → node_at f m ≡ Some x → OwnAt (place_at places m) (records_at f m) x)
       (may : MayTurn places f u k) (number : (place_at places u.node).number ≡ u.node) (born : BirthsStand f t bs) where
     abbrev n : ℕ
     n = u.node
@@ -186,7 +186,7 @@ module _ (places : List Place) (asked : List Command) (each : (n : ℕ) (p : Pla
     here = turn_here places asked f even u k may.up
 
     -- each node and its disk, by the node of the turn and the others
-    at_each : (P : Option Kept → List RedoRecord → Type 0) → P (node_at g n) (records_at g n) → ((m : ℕ) → P (node_at f m) (records_at f m)) → (m : ℕ) → P (node_at g m) (records_at g m)
+    at_each : (P : Option NodeState → List RedoRecord → Type 0) → P (node_at g n) (records_at g n) → ((m : ℕ) → P (node_at f m) (records_at f m)) → (m : ℕ) → P (node_at g m) (records_at g m)
     at_each P new old m = elim (cases_nat m n) [
       | inl at ↦ subst (λ i. P (node_at g i) (records_at g i)) (sym at) new
       | inr other ↦ (let same_there = turn_elsewhere places asked f even u m (λ e. other (sym e)) in subst₂ P (sym same_there.0) (sym same_there.1) (old m))

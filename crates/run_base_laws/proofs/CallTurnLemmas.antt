@@ -7,7 +7,7 @@ use Rattle.node_rules.specs.declared.work.Waits.TheVariants as waiting
 use Rattle.node_rules.specs.declared.work.Going.{Going}
 use Rattle.node_rules.specs.declared.work.Work.{Work}
 use Rattle.node_rules.specs.Words.{same, numbered, set_numbered}
-use Rattle.node_rules.specs.Kept.{post}
+use Rattle.node_rules.specs.NodeState.{post}
 use Rattle.run_base_laws.specs.InTurnLaws.{exec_number, reply_number, newest, newest_exec, newest_reply, WaitsFor, call_at, TakesInTurn, MakesInTurn}
 use Rattle.run_rules.proofs.AtNodeLemmas.{there_too}
 use Rattle.run_base_laws.proofs.TurnEventLemmas.{cases_nat}

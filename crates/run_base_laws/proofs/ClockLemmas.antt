@@ -6,7 +6,7 @@ use Rattle.node_rules.specs.Data.decisions
 use Rattle.node_rules.specs.Data.inputs
 use Rattle.node_rules.specs.Data.acts
 use Rattle.commit_forget.specs.declared.next.Next.TheVariants as nexts
-use Rattle.node_rules.specs.Kept.{Kept, Deed}
+use Rattle.node_rules.specs.NodeState.{NodeState, Deed}
 use Rattle.node_rules.specs.Records.{applied, raised_by}
 use Rattle.node_rules.specs.Turn.{turn_of, heard, deed_of}
 use Rattle.node_rules.proofs.Steps as steps
@@ -28,7 +28,7 @@ module _ (p : Place) (input : Input) (clock : ℕ) where
   Since d = (clock ≤ d.after.clock) × IfSome d.wrote (IsLater clock)
 
   -- each step leaves it so
-  since : {k : Kept} {d : Deed} → Step p input k d → clock ≤ k.clock → Since d
+  since : {k : NodeState} {d : Deed} → Step p input k d → clock ≤ k.clock → Since d
   since (steps.Begins n s call rows fit none step) now = since step now
   since (steps.Pends n l given call has live code step) now = since step now
   since (steps.Lets_reads_go l comment site_below live begins step) now = since step now
@@ -42,12 +42,12 @@ module _ (p : Place) (input : Input) (clock : ℕ) where
   since (steps.Gives_up_commit n b None gives has pending is) now = (now, tt)
   since _ now = (now, tt)
 
-heard_rises : (k : Kept) (input : Input) → k.clock ≤ (heard k input).clock
+heard_rises : (k : NodeState) (input : Input) → k.clock ≤ (heard k input).clock
 heard_rises k (inputs.Message m) = omega arith
 heard_rises k _ = omega arith
 
 -- so it is with turns
-serves_later : (p : Place) (k : Kept) (u : Turn) → Serves p k u → (k.clock ≤ (turn_of p k u.input).after.clock) × IfSome u.wrote (IsLater k.clock)
+serves_later : (p : Place) (k : NodeState) (u : Turn) → Serves p k u → (k.clock ≤ (turn_of p k u.input).after.clock) × IfSome u.wrote (IsLater k.clock)
 unfolding turn_of
 serves_later p k u serving =
     let now : Since p u.input k.clock (deed_of p k u.input) = since p u.input k.clock serving.step (heard_rises k u.input) in
@@ -62,7 +62,7 @@ clocks_rise = each_that_may ClockRises clock_rises
 
 -- ---- it covers
 
-abbrev pub Covers : Kept → Type 0
+abbrev pub Covers : NodeState → Type 0
 Covers k = k.stored.scn ≤ k.clock
 
 -- a decision is met before it is noted
@@ -70,7 +70,7 @@ met_covers : (scn clock : ℕ) (d : Decision) → IsMet clock d → scn ≤ cloc
 met_covers scn clock (decisions.Commit n) met now = omega (arith, met, now)
 met_covers scn clock decisions.Rollback met now = now
 
-covers_on : (p : Place) (input : Input) {k : Kept} {d : Deed} → Step p input k d → Covers k → Covers d.after
+covers_on : (p : Place) (input : Input) {k : NodeState} {d : Deed} → Step p input k d → Covers k → Covers d.after
 unfolding applied
 covers_on p input (steps.Begins n s call rows fit none step) now = covers_on p input step now
 covers_on p input (steps.Pends n l given call has live code step) now = covers_on p input step now

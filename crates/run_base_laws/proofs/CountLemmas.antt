@@ -9,7 +9,7 @@ use Rattle.node_rules.specs.Data.decisions
 use Rattle.node_rules.specs.Data.params
 use Rattle.node_rules.specs.Data.records
 use Rattle.node_rules.specs.Words.{same, change_where, drop_where}
-use Rattle.node_rules.specs.Kept.{Stored, standing_id}
+use Rattle.node_rules.specs.NodeState.{Stored, standing_id}
 use Rattle.node_rules.specs.Records.{applied}
 use Rattle.run_base_laws.specs.NodeLaws.{count_of, unacked_row}
 use Rattle.run_base_laws.proofs.AckLemmas.{unacked_rows}

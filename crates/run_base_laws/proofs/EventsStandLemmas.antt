@@ -7,7 +7,7 @@ use Rattle.agreement.specs.Events.{Event, exit, learned, forced}
 use Rattle.node_rules.specs.Data.{BranchId, RedoRecord, Place}
 use Rattle.node_rules.specs.Data.records
 use Rattle.node_rules.specs.Words.{numbered}
-use Rattle.node_rules.specs.Kept.{Kept, live_id}
+use Rattle.node_rules.specs.NodeState.{NodeState, live_id}
 use Rattle.node_rules.specs.Records.{nothing_stored, stored_by}
 use Rattle.node_rules.specs.Turn.{start_of, made}
 use Rattle.run_rules.specs.Data.{Happening, Command}
@@ -40,7 +40,7 @@ use Rattle.run_base_laws.proofs.SaidLemmas.{NetIsSaid, said_on, acks_came}
 -- ---- a stop
 
 module _ (places : List Place) (asked : List Command) (f : Facts) (t : List Event) (now : NodesStand places f t) (even : length f.nodes ≡ length f.records) where
-  module _ (m : ℕ) (own : (n : ℕ) (x : Kept) → node_at f n ≡ Some x → Own n x) (node : (n : ℕ) (x : Kept) → node_at f n ≡ Some x → Node (records_at f n) x) (there : IsNode (length places) m) where
+  module _ (m : ℕ) (own : (n : ℕ) (x : NodeState) → node_at f n ≡ Some x → Own n x) (node : (n : ℕ) (x : NodeState) → node_at f n ≡ Some x → Node (records_at f n) x) (there : IsNode (length places) m) where
     abbrev g : Facts
     g = facts_after places asked f (happenings.Stopped m)
 
@@ -58,7 +58,7 @@ module _ (places : List Place) (asked : List Command) (f : Facts) (t : List Even
     unfolding facts_after
     disk_same n = refl
 
-    was_live : (b : BranchId) (o : Option Kept) → node_at f m ≡ o → is_among b (lives_at o) ≡ true → (b.node ≡ m) × (exit t b ≡ None) × WasGiven f b
+    was_live : (b : BranchId) (o : Option NodeState) → node_at f m ≡ o → is_among b (lives_at o) ≡ true → (b.node ≡ m) × (exit t b ≡ None) × WasGiven f b
     was_live b None at among = absurd cc
     was_live b (Some x) at among =
         let lives : AllByRecursion (λ l. exit t l.me ≡ None) x.lives = subst (λ o. IfSome o (λ k. AllByRecursion (λ l. exit t l.me ≡ None) k.lives)) at (now.lives m) in
@@ -99,7 +99,7 @@ module _ (places : List Place) (asked : List Command) (f : Facts) (t : List Even
       ]
     ]
 
-    lives_elsewhere : (n : ℕ) → n ≢ m → (o : Option Kept) → node_at f n ≡ o → IfSome o (λ x. AllByRecursion (λ l. exit t l.me ≡ None) x.lives) → IfSome o (λ x. AllByRecursion (λ l. exit r l.me ≡ None) x.lives)
+    lives_elsewhere : (n : ℕ) → n ≢ m → (o : Option NodeState) → node_at f n ≡ o → IfSome o (λ x. AllByRecursion (λ l. exit t l.me ≡ None) x.lives) → IfSome o (λ x. AllByRecursion (λ l. exit r l.me ≡ None) x.lives)
     lives_elsewhere n other None at all = tt
     lives_elsewhere n other (Some x) at all =
         all_weaker _ _ (λ l so. none_after l.me so.1 (λ e. other (sym so.0 ∙ e))) x.lives (all_both _ _ x.lives (own n x at).0 all)
@@ -165,7 +165,7 @@ module _ (places : List Place) (asked : List Command) (f : Facts) (t : List Even
     ]
 
     -- a law of what each node keeps and of its disk
-    at_each : (P : ℕ → Option Kept → List RedoRecord → Type 0) → P m (Some (start_of (with_boot f m boot))) (with_boot f m boot) → ((n : ℕ) → P n (node_at f n) (records_at f n)) → (n : ℕ) → P n (node_at h n) (records_at h n)
+    at_each : (P : ℕ → Option NodeState → List RedoRecord → Type 0) → P m (Some (start_of (with_boot f m boot))) (with_boot f m boot) → ((n : ℕ) → P n (node_at f n) (records_at f n)) → (n : ℕ) → P n (node_at h n) (records_at h n)
     at_each P new old n = elim (cases_nat n m) [
       | inl at ↦ subst (λ i. P i (node_at h i) (records_at h i)) (sym at) (subst₂ (P m) (sym begun.0) (sym begun.1) new)
       | inr other ↦ (let same_there = start_elsewhere places asked f even m boot n (λ e. other (sym e)) in subst₂ (P n) (sym same_there.0) (sym same_there.1) (old n))
@@ -193,7 +193,7 @@ first_disk P none one [] (suc i) = none
 first_disk P none one (p ∷ ps) (suc zero) = one
 first_disk P none one (p ∷ ps) (suc (suc i)) = first_disk P none one ps (suc i)
 
-pub first_node : (P : Option Kept → Type 0) → P None → P (Some made) → (ps : List Place) (n : ℕ) → P (flat (numbered (map (λ p. Some made) ps) n))
+pub first_node : (P : Option NodeState → Type 0) → P None → P (Some made) → (ps : List Place) (n : ℕ) → P (flat (numbered (map (λ p. Some made) ps) n))
 first_node P none one ps zero = none
 first_node P none one [] (suc i) = none
 first_node P none one (p ∷ ps) (suc zero) = one
@@ -218,7 +218,7 @@ first_stands places = record {
 abbrev pub J : Place → List RedoRecord → Type 0
 J p rs = (Disk rs × OwnRecords p.number rs) × Unit {0}
 
-abbrev pub I : Place → List RedoRecord → Kept → Type 0
+abbrev pub I : Place → List RedoRecord → NodeState → Type 0
 I p rs k = (Node rs k × OwnAt p rs k) × Covers k
 
 pub both : Keeps J I
@@ -229,16 +229,16 @@ module _ (places : List Place) (asked : List Command) (each : (n : ℕ) (p : Pla
   Stand f t = AllStand J I both places f × NodesStand places f t × NetIsSaid f t
 
   module _ (f : Facts) (t : List Event) (now : Stand f t) where
-    pub node_so : (n : ℕ) (x : Kept) → node_at f n ≡ Some x → Node (records_at f n) x
+    pub node_so : (n : ℕ) (x : NodeState) → node_at f n ≡ Some x → Node (records_at f n) x
     node_so n x up = (at_node J I both places f n (now.0.nodes n) x up).0.0
 
-    pub owned_so : (n : ℕ) (x : Kept) → node_at f n ≡ Some x → OwnAt (place_at places n) (records_at f n) x
+    pub owned_so : (n : ℕ) (x : NodeState) → node_at f n ≡ Some x → OwnAt (place_at places n) (records_at f n) x
     owned_so n x up = (at_node J I both places f n (now.0.nodes n) x up).0.1
 
-    covers_so : (n : ℕ) (x : Kept) → node_at f n ≡ Some x → Covers x
+    covers_so : (n : ℕ) (x : NodeState) → node_at f n ≡ Some x → Covers x
     covers_so n x up = (at_node J I both places f n (now.0.nodes n) x up).1
 
-    own_so : (n : ℕ) (x : Kept) → node_at f n ≡ Some x → Own n x
+    own_so : (n : ℕ) (x : NodeState) → node_at f n ≡ Some x → Own n x
     own_so n x up = subst (λ i. Own i x) (number_is places asked each f n x now.1.many up) (owned_so n x up).1
 
     nodes_on : (h : Happening) → MayHappen places asked f h → NodesStand places (facts_after places asked f h) (events_after places asked f h t)
@@ -251,8 +251,8 @@ module _ (places : List Place) (asked : List Command) (each : (n : ℕ) (p : Pla
   -- each turn writes and says what it may
   pub tells_so : (f : Facts) (t : List Event) (h : Happening) → Stand f t → MayHappen places asked f h → TellsAsEvents f t h
   tells_so f t (happenings.Turn u) now may =
-      let node : (n : ℕ) (x : Kept) → node_at f n ≡ Some x → Node (records_at f n) x = node_so f t now in
-      let owned : (n : ℕ) (x : Kept) → node_at f n ≡ Some x → OwnAt (place_at places n) (records_at f n) x = owned_so f t now in (
+      let node : (n : ℕ) (x : NodeState) → node_at f n ≡ Some x → Node (records_at f n) x = node_so f t now in
+      let owned : (n : ℕ) (x : NodeState) → node_at f n ≡ Some x → OwnAt (place_at places n) (records_at f n) x = owned_so f t now in (
         record_may places asked each f t u may.0 now.1 now.0.even node owned may.1,
         sent_may places asked each f t u may.0 now.1 now.0.even node owned may.1
             (kept_below (records_at f u.node) may.0 (node u.node may.0 may.1.up).stored (covers_so f t now u.node may.0 may.1.up))

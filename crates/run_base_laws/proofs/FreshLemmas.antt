@@ -13,7 +13,7 @@ use Rattle.commit_forget.specs.declared.next.Next.TheVariants as nexts
 use Rattle.node_rules.specs.declared.session.PendingCall.TheVariants as pending
 use Rattle.node_rules.specs.declared.session.Session.{Session}
 use Rattle.node_rules.specs.Words.{same, put_item, drop_item, set_numbered}
-use Rattle.node_rules.specs.Kept.{Kept, Deed, live_id, standing_id}
+use Rattle.node_rules.specs.NodeState.{NodeState, Deed, live_id, standing_id}
 use Rattle.node_rules.specs.Sessions.{session_at, with_root, no_transaction, with_call}
 use Rattle.node_rules.specs.Records.{applied, nothing_stored, stored_by}
 use Rattle.node_rules.specs.Inputs.{IsSession}
@@ -41,10 +41,10 @@ use Rattle.run_base_laws.proofs.NodeLemmas.{Keeps, node_keeps}
 
 module _ (boot : ℕ) where
   -- the ids at a node
-  abbrev pub IdsAt : Kept → Type 0
+  abbrev pub IdsAt : NodeState → Type 0
   IdsAt k = Ids boot (seqs k.sessions) (length k.opens) k.stored.durable.kept k.lives
 
-  module _ (k : Kept) (ids : IdsAt k) where
+  module _ (k : NodeState) (ids : IdsAt k) where
     -- with sessions whose numbers are the same
     still : (ss : List Session) → seqs ss ≡ seqs k.sessions → Ids boot (seqs ss) (length k.opens) k.stored.durable.kept k.lives
     still ss numbers = subst (λ ms. Ids boot ms (length k.opens) k.stored.durable.kept k.lives) (sym numbers) ids
@@ -70,7 +70,7 @@ module _ (boot : ℕ) where
   -- ---- new ids
 
   -- the root of a session, of the next number
-  begun_ids : (p : Place) (k : Kept) (n : ℕ) → k.stored.durable.boot ≡ boot → IsSession n → IdsAt k → IdsAt (begun_by p k n None)
+  begun_ids : (p : Place) (k : NodeState) (n : ℕ) → k.stored.durable.boot ≡ boot → IsSession n → IdsAt k → IdsAt (begun_by p k n None)
   begun_ids p k n is fit ids =
       let root : BranchId = new_root p k n in
       let set : seqs (with_root k.sessions n root) ≡ set_numbered (seqs k.sessions) n root.seq = set_seqs k.sessions n _ in
@@ -86,7 +86,7 @@ module _ (boot : ℕ) where
       unused (Over_link now high given) = omega (arith, high, fit.1)
 
   -- a branch that is opened over a link, of the next session above 64
-  opened_ids : (p : Place) (k : Kept) (parent : BranchId) (edge : ℕ) (root : BranchId) (depth : ℕ) → k.stored.durable.boot ≡ boot → IdsAt k → IdsAt (opens_branch p k parent edge root depth)
+  opened_ids : (p : Place) (k : NodeState) (parent : BranchId) (edge : ℕ) (root : BranchId) (depth : ℕ) → k.stored.durable.boot ≡ boot → IdsAt k → IdsAt (opens_branch p k parent edge root depth)
   opened_ids p k parent edge root depth is ids =
       let more : length (opens_branch p k parent edge root depth).opens ≡ length k.opens + 1 = length-append k.opens _ in
       grown boot (seqs k.sessions) (length k.opens) k.stored.durable.kept k.lives ids (seqs k.sessions) (length (opens_branch p k parent edge root depth).opens) _
@@ -101,7 +101,7 @@ module _ (boot : ℕ) where
 
   module _ (p : Place) (input : Input) where
     -- each step leaves ids in use once
-    ids_on : {k : Kept} {d : Deed} → Step p input k d → k.stored.durable.boot ≡ boot → IdsAt k → IdsAt d.after
+    ids_on : {k : NodeState} {d : Deed} → Step p input k d → k.stored.durable.boot ≡ boot → IdsAt k → IdsAt d.after
     ids_on (steps.Begins {k = k} n s call rows fit none step) is ids = ids_on step is (begun_ids p k n is fit ids)
     ids_on (steps.Pends {k = k} n l given call has live code step) is ids = ids_on step is (still k ids (with_call k.sessions n pending.Commit) (call_seqs k.sessions n pending.Commit))
     ids_on (steps.Lets_reads_go l comment site_below live begins step) is ids = ids_on step is ids
@@ -160,13 +160,13 @@ pub record Disk (rs : List RedoRecord) : Type 0 where
   pub old : (b : BranchId) → 1 ≤ rows_of b (stored_by nothing_stored rs).durable.kept → b.boot ≤ boots rs
 
 -- The ids at a node that is up.
-pub record Node (rs : List RedoRecord) (k : Kept) : Type 0 where
+pub record Node (rs : List RedoRecord) (k : NodeState) : Type 0 where
   pub boot : BootIs rs
   pub stored : StoresOf rs k
   pub ids : IdsAt (boots rs) k
 
 -- what a node leaves where it stops
-disk_of : (rs : List RedoRecord) (k : Kept) → Node rs k → Disk rs
+disk_of : (rs : List RedoRecord) (k : NodeState) → Node rs k → Disk rs
 disk_of rs k node =
     let rows : (b : BranchId) → rows_of b (stored_by nothing_stored rs).durable.kept ≡ rows_of b k.stored.durable.kept
     = λ b. sym (ap (λ s. rows_of b s.durable.kept) node.stored) ∙ rows_unacked b k.stored.durable.kept in
@@ -191,7 +191,7 @@ start_of_disk rs boot disk next =
       ids = record { many = refl; one = λ b. omega (arith, rows b, disk.one b); told = λ b some. Before (omega (arith, disk.old b (omega (arith, some, rows b)), starts)) };
     }
 
-step_of_node : (p : Place) (rs : List RedoRecord) (input : Input) (k : Kept) (d : Deed) → Step p input k d → Node rs k → Node (rs ++ option_to_list d.wrote) d.after
+step_of_node : (p : Place) (rs : List RedoRecord) (input : Input) (k : NodeState) (d : Deed) → Step p input k d → Node rs k → Node (rs ++ option_to_list d.wrote) d.after
 step_of_node p rs input k d step node =
     let is : IfSome d.wrote IsOfTurn = step_of_turn p input step in
     let boot : k.stored.durable.boot ≡ boots rs = ap (λ s. s.durable.boot) node.stored ∙ node.boot in

@@ -7,7 +7,7 @@ use Rattle.commit_forget.specs.declared.next.Next.TheVariants as nexts
 use Rattle.node_rules.specs.declared.session.PendingCall.TheVariants as pending
 use Rattle.node_rules.specs.declared.session.Session.{Session}
 use Rattle.node_rules.specs.Words.{set_numbered}
-use Rattle.node_rules.specs.Kept.{Kept, Deed}
+use Rattle.node_rules.specs.NodeState.{NodeState, Deed}
 use Rattle.node_rules.specs.Sessions.{session_at, no_transaction, with_call}
 use Rattle.node_rules.specs.Statement.{ran, after_run}
 use Rattle.session_tree.specs.Live.{new_edge}
@@ -21,22 +21,22 @@ use Rattle.run_base_laws.proofs.IdLemmas.{seqs_rise, Given, given_still}
 
 module _ (boot : ℕ) (b : BranchId) where
   -- it was given out
-  abbrev pub GivenAt : Kept → Type 0
+  abbrev pub GivenAt : NodeState → Type 0
   GivenAt k = Given boot (seqs k.sessions) (length k.opens) b
 
   -- with sessions of the same numbers
-  still : (k : Kept) (ss : List Session) → seqs ss ≡ seqs k.sessions → GivenAt k → Given boot (seqs ss) (length k.opens) b
+  still : (k : NodeState) (ss : List Session) → seqs ss ≡ seqs k.sessions → GivenAt k → Given boot (seqs ss) (length k.opens) b
   still k ss same given = subst (λ ms. Given boot ms (length k.opens) b) (sym same) given
 
   -- a transaction begins
-  pub begun_given : (p : Place) (k : Kept) (m : ℕ) → GivenAt k → GivenAt (begun_by p k m None)
+  pub begun_given : (p : Place) (k : NodeState) (m : ℕ) → GivenAt k → GivenAt (begun_by p k m None)
   begun_given p k m given =
       let q : ℕ = (new_root p k m).seq in
       let was : (session_at k.sessions m).seq ≡ seq_at (seqs k.sessions) m = session_seq k.sessions m in
       subst (λ ms. Given boot ms (length k.opens) b) (sym (set_seqs k.sessions m _))
       (given_still (set_numbered (seqs k.sessions) m q) (length k.opens) (seqs_rise (seqs k.sessions) m q (omega (arith, was))) (omega arith) given)
 
-  pub given_on : (p : Place) (input : Input) {k : Kept} {d : Deed} → Step p input k d → GivenAt k → GivenAt d.after
+  pub given_on : (p : Place) (input : Input) {k : NodeState} {d : Deed} → Step p input k d → GivenAt k → GivenAt d.after
   given_on p input (steps.Begins {k = k} m s call rows fit none step) given = given_on p input step (begun_given p k m given)
   given_on p input (steps.Pends {k = k} m l wanted call has live code step) given = given_on p input step (still k (with_call k.sessions m pending.Commit) (call_seqs k.sessions m pending.Commit) given)
   given_on p input (steps.Lets_reads_go l comment site_below live begins step) given = given_on p input step given

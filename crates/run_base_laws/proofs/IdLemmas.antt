@@ -7,7 +7,7 @@ use Rattle.tran_ids.proofs.BranchLemmas.{equal_from_same}
 use Rattle.tran_ids.proofs.NumberedLemmas.{set_found, set_or_before}
 use Rattle.node_rules.specs.Data.{BranchId, Standing, Live}
 use Rattle.node_rules.specs.Words.{same, numbered, set_numbered}
-use Rattle.node_rules.specs.Kept.{live_id, standing_id}
+use Rattle.node_rules.specs.NodeState.{live_id, standing_id}
 use Rattle.node_rules.specs.Inputs.{IsSession}
 use Rattle.run_base_laws.specs.NodeLaws.{count_of}
 use Rattle.run_base_laws.proofs.CountingLemmas.{count_last}

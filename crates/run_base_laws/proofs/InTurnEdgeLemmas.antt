@@ -7,7 +7,7 @@ use Rattle.node_rules.specs.Data.{Answer, BranchId, Edge, Live, Post, Input}
 use Rattle.node_rules.specs.declared.work.Work.{Work}
 use Rattle.node_rules.specs.declared.work.Going.{Going}
 use Rattle.node_rules.specs.Words.{numbered}
-use Rattle.node_rules.specs.Kept.{Kept, Branch}
+use Rattle.node_rules.specs.NodeState.{NodeState, Branch}
 use Rattle.node_rules.specs.Calls.{with_edge, hears_reply}
 use Rattle.node_rules.proofs.Steps as steps
 use Rattle.node_rules.proofs.Steps.{Step, Asked, Acting, Says}
@@ -35,7 +35,7 @@ module _ (E : BranchId → Option ℕ) (A : BranchId → Option BranchId) (G Her
   abbrev FreeOf : Branch → Type 0
   FreeOf = turns.FreeOf E A G Here input said
 
-  abbrev Nodes : Kept → Type 0
+  abbrev Nodes : NodeState → Type 0
   Nodes k = EachLive Begun k.lives k.works
 
   -- a branch of which nothing is known begins
@@ -44,7 +44,7 @@ module _ (E : BranchId → Option ℕ) (A : BranchId → Option BranchId) (G Her
 
   -- ---- a child that was opened
 
-  module _ (k : Kept) (now : Nodes k) (x : Branch) (from : BranchId) (strength : ℕ) (g : Going) (link : List ℕ) (opened : steps.Is_opened k input x from strength g link) where
+  module _ (k : NodeState) (now : Nodes k) (x : Branch) (from : BranchId) (strength : ℕ) (g : Going) (link : List ℕ) (opened : steps.Is_opened k input x from strength g link) where
     abbrev y : Branch
     y = with_edge x (new_edge from link strength)
 
@@ -107,7 +107,7 @@ module _ (E : BranchId → Option ℕ) (A : BranchId → Option BranchId) (G Her
 
   -- ---- a Reply that was waited for
 
-  module _ (k : Kept) (now : Nodes k) (x : Branch) (weight : Option ℕ) (count : ℕ) (a : Answer) (i : ℕ) (e : Edge) (answered : steps.Is_answered k input x weight count a i e) where
+  module _ (k : NodeState) (now : Nodes k) (x : Branch) (weight : Option ℕ) (count : ℕ) (a : Answer) (i : ℕ) (e : Edge) (answered : steps.Is_answered k input x weight count a i e) where
     pub heard_free : FreeOf (hears_reply x i weight count e)
     heard_free =
         let was : Begun x.live x.work = turns.branch_begun E A G Here input said received k now x answered.live in

@@ -15,7 +15,7 @@ use Rattle.node_rules.specs.declared.work.Going.{Going}
 use Rattle.node_rules.specs.declared.work.Waits.{Waits}
 use Rattle.node_rules.specs.Words.{same, numbered, set_numbered, put_item, drop_item}
 use Rattle.node_rules.specs.Inputs.{Came, IsCall}
-use Rattle.node_rules.specs.Kept.{Kept, Branch, Deed, live_id, work_id, live_at, branch_at}
+use Rattle.node_rules.specs.NodeState.{NodeState, Branch, Deed, live_id, work_id, live_at, branch_at}
 use Rattle.session_tree.specs.Tree.{room}
 use Rattle.node_rules.specs.Calls.{reply_fields, kept_reply, with_answer, answer_says, advice_of, next_call, called, exec_to, reply_edge, reply_waits, reply_going, reply_of}
 use Rattle.node_rules.proofs.Steps as steps
@@ -255,10 +255,10 @@ module _ (E : BranchId → Option ℕ) (A : BranchId → Option BranchId) (G Her
             let none : x.work.going ≡ None = was.turn.takes.rests below last in
             absurd (cc (none, going))
 
-    pub branch_begun : (k : Kept) → EachLive Begun k.lives k.works → (x : Branch) → branch_at k x.live.me ≡ Some x → Begun x.live x.work
+    pub branch_begun : (k : NodeState) → EachLive Begun k.lives k.works → (x : Branch) → branch_at k x.live.me ≡ Some x → Begun x.live x.work
     branch_begun k now x found = let parts = branch_parts k x.live.me x found in subst (Begun x.live) (sym parts.1) (now.each x.live.me x.live parts.0)
 
-    pub asked_free : (k : Kept) → SessionsFit k → EachLive Begun k.lives k.works → {x : Branch} {s : Stmt} {given : ℕ} → Asked k input x s given → FreeOf x
+    pub asked_free : (k : NodeState) → SessionsFit k → EachLive Begun k.lives k.works → {x : Branch} {s : Stmt} {given : ℕ} → Asked k input x s given → FreeOf x
     asked_free k ss now (steps.By_call n x s call rows has code live) =
         let was : Begun x.live x.work = branch_begun k now x live in
         let none : x.live.parent ≡ None = root_alone k ss n x.live.me has x.live (live_so k x.live.me x live) in
@@ -288,7 +288,7 @@ module _ (E : BranchId → Option ℕ) (A : BranchId → Option BranchId) (G Her
     -- ---- what becomes of the others
 
     -- messages of a branch leave all others in turn
-    module _ (k : Kept) (now : EachLive Begun k.lives k.works) where
+    module _ (k : NodeState) (now : EachLive Begun k.lives k.works) where
       pub others_stay : (says : List Post) (y : Live) (v : Work) → Silent y.me says → Begun y v → Done says y v
       others_stay says y v silent was = stays_in_turn (Goes y) said says y.me y.parent (children_of y) v silent was.turn
 

@@ -11,7 +11,7 @@ use Rattle.node_rules.specs.Data.kinds
 use Rattle.node_rules.specs.declared.work.Work.{Work}
 use Rattle.node_rules.specs.Words.{numbered, set_numbered, item_at}
 use Rattle.node_rules.specs.Inputs.{Came}
-use Rattle.node_rules.specs.Kept.{Kept, Branch, Deed, live_id, live_at, branch_at}
+use Rattle.node_rules.specs.NodeState.{NodeState, Branch, Deed, live_id, live_at, branch_at}
 use Rattle.node_rules.specs.Sessions.{session_at}
 use Rattle.node_rules.specs.Turn.{turn_of, start_of, made, heard, deed_of}
 use Rattle.node_rules.proofs.Steps.{Step}
@@ -51,10 +51,10 @@ use Rattle.run_base_laws.proofs.SaidPostLemmas.{posts_back, posts_of, said_after
 -- ---- what stands
 
 -- the calls of a node's live branches are in turn
-abbrev pub CallsOf : List Post → Kept → Live → Work → Type 0
+abbrev pub CallsOf : List Post → NodeState → Live → Work → Type 0
 CallsOf said k l w = InTurn (GoesOn k l) said l.me l.parent (children_of l) w
 
-abbrev pub NodeCalls : List Post → Kept → Type 0
+abbrev pub NodeCalls : List Post → NodeState → Type 0
 NodeCalls said k = EachLive (CallsOf said k) k.lives k.works
 
 -- Calls are in turn everywhere.
@@ -64,7 +64,7 @@ pub record CallsStand (f : Facts) : Type 0 where
 
 -- ---- a node that hears
 
-pub heard_calls : (P : Live → Work → Type 0) (k : Kept) (input : Input) → EachLive P k.lives k.works → EachLive P (heard k input).lives (heard k input).works
+pub heard_calls : (P : Live → Work → Type 0) (k : NodeState) (input : Input) → EachLive P k.lives k.works → EachLive P (heard k input).lives (heard k input).works
 heard_calls P k (inputs.Message m) now = now
 heard_calls P k (inputs.Call n s) now = now
 heard_calls P k (inputs.GiveUp n) now = now
@@ -77,7 +77,7 @@ message_here node m from to scn kind here is =
     let one : m ≡ record { from = from; to = to; scn = scn; kind = kind } = cc in
     subst (λ (x : Msg). x.to.node ≡ node) one here
 
-pub came_here : (f : Facts) (k : Kept) (node : ℕ) (input : Input) (took : Option Took) → Comes f k node input took → (from to : BranchId) (kind : Kind) → Came input from to kind → to.node ≡ node
+pub came_here : (f : Facts) (k : NodeState) (node : ℕ) (input : Input) (took : Option Took) → Comes f k node input took → (from to : BranchId) (kind : Kind) → Came input from to kind → to.node ≡ node
 came_here f k node (inputs.Message m) (Some x) comes from to kind came = message_here node m from to came.scn kind comes.1.here came.is
 came_here f k node (inputs.Message m) None comes from to kind came = absurd comes
 came_here f k node (inputs.Call session statement) took comes from to kind came = absurd (cc (came.is))
@@ -88,7 +88,7 @@ pub each_both : (P Q : Live → Work → Type 0) (ls : List Live) (ws : List Wor
 each_both P Q ls ws one other = record { there = one.there; each = λ b l found. (one.each b l found, other.each b l found) }
 
 -- messages of others leave a node's branches in turn
-calls_stay : (said says : List Post) (k : Kept) → ((b : BranchId) (l : Live) → live_at k b ≡ Some l → Silent l.me says) → NodeCalls said k → NodeCalls (said ++ says) k
+calls_stay : (said says : List Post) (k : NodeState) → ((b : BranchId) (l : Live) → live_at k b ≡ Some l → Silent l.me says) → NodeCalls said k → NodeCalls (said ++ says) k
 calls_stay said says k silent now =
     each_same (CallsOf said k) (CallsOf (said ++ says) k) k.lives k.works now (λ y v live any is. stays_in_turn (GoesOn k y) said says y.me y.parent (children_of y) v (silent y.me y live) is)
 
@@ -96,7 +96,7 @@ module _ (places : List Place) (asked : List Command) (each : (n : ℕ) (p : Pla
   module _ (f : Facts) (t : List Event) (bs : List Born) (stand : StandBorn places asked each f t bs) (roots : RootsStand places asked each f) (now : CallsStand f) where
     -- ---- a turn
 
-    module _ (u : Turn) (k : Kept) (may : MayTurn places f u k) where
+    module _ (u : Turn) (k : NodeState) (may : MayTurn places f u k) where
       abbrev n : ℕ
       n = u.node
 
@@ -198,7 +198,7 @@ module _ (places : List Place) (asked : List Command) (each : (n : ℕ) (p : Pla
       here_after = (turn_here places asked f stand.0.0.even u k may.up).0
 
       -- a branch of another node is not here
-      pub elsewhere_is : (m : ℕ) (j : Kept) → node_at f m ≡ Some j → (b : BranchId) (l : Live) → live_at j b ≡ Some l → Here l.me → m ≡ n
+      pub elsewhere_is : (m : ℕ) (j : NodeState) → node_at f m ≡ Some j → (b : BranchId) (l : Live) → live_at j b ≡ Some l → Here l.me → m ≡ n
       elsewhere_is m j up b l live here =
           let there : l.me.node ≡ (place_at places m).number = all_found (λ x. x.me.node ≡ (place_at places m).number) live_id j.lives b l (owned_so places asked each f t stand.0 m j up).1.0 live in
           let its : (place_at places m).number ≡ m = number_is places asked each f m j stand.0.1.many up in
@@ -207,7 +207,7 @@ module _ (places : List Place) (asked : List Command) (each : (n : ℕ) (p : Pla
       other_node : (m : ℕ) → m ≢ n → IfSome (node_at g m) (NodeCalls (said ++ d.says))
       other_node m other = subst (λ o. IfSome o (NodeCalls (said ++ d.says))) (sym (turn_elsewhere places asked f stand.0.0.even u m (λ e. other (sym e))).0) (by (node_at f m) refl (now.nodes m))
         where
-          by : (o : Option Kept) → node_at f m ≡ o → IfSome o (NodeCalls said) → IfSome o (NodeCalls (said ++ d.says))
+          by : (o : Option NodeState) → node_at f m ≡ o → IfSome o (NodeCalls said) → IfSome o (NodeCalls (said ++ d.says))
           by None up old = tt
           by (Some j) up old = calls_stay said d.says j (λ b l live. left.1.1 l.me (λ here. other (elsewhere_is m j up b l live here))) old
 
@@ -244,7 +244,7 @@ module _ (places : List Place) (asked : List Command) (each : (n : ℕ) (p : Pla
     start_calls ms zs = none_live _
 
     -- a node that is set
-    set_node : (m i : ℕ) (o : Option Kept) → IfSome o (NodeCalls (said_in f)) → IfSome (flat (numbered (set_numbered f.nodes m o) i)) (NodeCalls (said_in f))
+    set_node : (m i : ℕ) (o : Option NodeState) → IfSome o (NodeCalls (said_in f)) → IfSome (flat (numbered (set_numbered f.nodes m o) i)) (NodeCalls (said_in f))
     set_node m i o new = elim (set_or_before f.nodes m i o) [
       | inl still ↦ subst (λ x. IfSome (flat x) (NodeCalls (said_in f))) (sym still) (now.nodes i)
       | inr set ↦ subst (λ x. IfSome (flat x) (NodeCalls (said_in f))) (sym set.1) new
@@ -265,7 +265,7 @@ module _ (places : List Place) (asked : List Command) (each : (n : ℕ) (p : Pla
     start_nodes m boot i = set_node m i (Some (start_of (with_boot f m boot))) (start_calls _ _)
 
     still_nodes : (h : Happening) → (facts_after places asked f h).nodes ≡ f.nodes → (i : ℕ) → IfSome (node_at (facts_after places asked f h) i) (NodeCalls (said_in f))
-    still_nodes h is i = subst (λ (xs : List (Option Kept)). IfSome (flat (numbered xs i)) (NodeCalls (said_in f))) (sym is) (now.nodes i)
+    still_nodes h is i = subst (λ (xs : List (Option NodeState)). IfSome (flat (numbered xs i)) (NodeCalls (said_in f))) (sym is) (now.nodes i)
 
     pub same_begun : (c : ℕ) → (facts_after places asked f (happenings.Begun c)).nodes ≡ f.nodes
     unfolding facts_after
@@ -318,7 +318,7 @@ pub calls_are_answered : CallsAreAnswered
 calls_are_answered t lawful = (run_calls t lawful).all
 
 -- the calls of a branch that is found
-pub branch_calls : (t : History) → IsLawfulRun t → (n : ℕ) (k : Kept) → node_at (facts_at t) n ≡ Some k → (x : Branch) → branch_at k x.live.me ≡ Some x → CallsOf (said_in (facts_at t)) k x.live x.work
+pub branch_calls : (t : History) → IsLawfulRun t → (n : ℕ) (k : NodeState) → node_at (facts_at t) n ≡ Some k → (x : Branch) → branch_at k x.live.me ≡ Some x → CallsOf (said_in (facts_at t)) k x.live x.work
 branch_calls t lawful n k up x found =
     let now : NodeCalls (said_in (facts_at t)) k = subst (λ o. IfSome o (NodeCalls (said_in (facts_at t)))) up ((run_calls t lawful).nodes n) in
     let parts = branch_parts k x.live.me x found in

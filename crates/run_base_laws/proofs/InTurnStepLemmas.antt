@@ -17,7 +17,7 @@ use Rattle.node_rules.specs.declared.work.Work.{Work}
 use Rattle.node_rules.specs.declared.work.Going.{Going}
 use Rattle.node_rules.specs.Words.{same, numbered, item_at, put_item, drop_item}
 use Rattle.node_rules.specs.Refusals.{dtx}
-use Rattle.node_rules.specs.Kept.{Kept, Branch, Deed, live_id, work_id, live_at, branch_at, post, to_one, with_work, no_work, standing_at}
+use Rattle.node_rules.specs.NodeState.{NodeState, Branch, Deed, live_id, work_id, live_at, branch_at, post, to_one, with_work, no_work, standing_at}
 use Rattle.node_rules.specs.Sessions.{fresh_session, session_at, with_call, needs_rollback}
 use Rattle.node_rules.specs.Names.{passed_on}
 use Rattle.node_rules.specs.Statement.{ran, after_run}
@@ -46,11 +46,11 @@ use Rattle.run_base_laws.proofs.InTurnEdgeLemmas.{opened_free, opened_first, hea
 use Rattle.run_base_laws.proofs.InTurnLemmas.{IsDumb, dumb_decisions, dumb_silent, peer, numbered_map, map_set, map_last, length_peers, numbered_before, numbered_last, numbered_split, calls_before, reply_for, one_waits, opened_none}
 
 -- a gone branch is not live
-gone_by : (k : Kept) (b : BranchId) (o : Option Live) → live_at k b ≡ o → live_or (with_work k o) (standing_at k b) ≡ Is_gone → o ≡ None
+gone_by : (k : NodeState) (b : BranchId) (o : Option Live) → live_at k b ≡ o → live_or (with_work k o) (standing_at k b) ≡ Is_gone → o ≡ None
 gone_by k b None is gone = refl
 gone_by k b (Some l) is gone = absurd cc
 
-gone_none : (k : Kept) (b : BranchId) → stand_of k b ≡ Is_gone → live_at k b ≡ None
+gone_none : (k : NodeState) (b : BranchId) → stand_of k b ≡ Is_gone → live_at k b ≡ None
 unfolding stand_of
 gone_none k b gone = gone_by k b (live_at k b) refl gone
 
@@ -98,7 +98,7 @@ module _ (E : BranchId → Option ℕ) (A : BranchId → Option BranchId) (G Her
   abbrev FreeOf : Branch → Type 0
   FreeOf = turns.FreeOf E A G Here input said
 
-  abbrev Nodes : Kept → Type 0
+  abbrev Nodes : NodeState → Type 0
   Nodes k = EachLive Begun k.lives k.works
 
   -- a branch of which nothing is known begins
@@ -107,7 +107,7 @@ module _ (E : BranchId → Option ℕ) (A : BranchId → Option BranchId) (G Her
 
   -- ---- messages alone
 
-  module _ (k : Kept) (now : Nodes k) where
+  module _ (k : NodeState) (now : Nodes k) where
     still : (says : List Post) → ((b : BranchId) (y : Live) → live_at k b ≡ Some y → Silent y.me says) → EachLive (Done says) k.lives k.works
     still says silent = turns.still E A G Here input said received k now says silent
 
@@ -221,25 +221,25 @@ module _ (E : BranchId → Option ℕ) (A : BranchId → Option BranchId) (G Her
     pub sees : (b : BranchId) → G b → (session_at d.after.sessions b.session).code ≡ None
 
   -- one that was asked goes on
-  asked_goes : (k : Kept) → SessionsFit k → Nodes k → {x : Branch} {s : Stmt} {given : ℕ} → Asked k input x s given → (x.live.parent ≡ None → (session_at k.sessions x.live.me.session).code ≡ None → G x.live.me) → turns.Goes E A G Here input said x.live
+  asked_goes : (k : NodeState) → SessionsFit k → Nodes k → {x : Branch} {s : Stmt} {given : ℕ} → Asked k input x s given → (x.live.parent ≡ None → (session_at k.sessions x.live.me.session).code ≡ None → G x.live.me) → turns.Goes E A G Here input said x.live
   asked_goes k ss now (steps.By_call n x s call rows has code live) may none = may none (subst (λ m. (session_at k.sessions m).code ≡ None) (sym (ss.roots.each n x.live.me has)) code)
   asked_goes k ss now (steps.By_exec x from call given advice s came live runs) may none =
       let was : Begun x.live x.work = turns.branch_begun E A G Here input said received k now x live in
       let parent : x.live.parent ≡ Some from = was.above from (received.exec from x.live.me call given advice s came).0 in
       absurd (cc (parent, none))
 
-  pub asked_mine : (k : Kept) {x : Branch} {s : Stmt} {given : ℕ} → Asked k input x s given → x.work.branch ≡ x.live.me
+  pub asked_mine : (k : NodeState) {x : Branch} {s : Stmt} {given : ℕ} → Asked k input x s given → x.work.branch ≡ x.live.me
   asked_mine k (steps.By_call n x s call rows has code live) = work_is k x.live.me x live
   asked_mine k (steps.By_exec x from call given advice s came live runs) = work_is k x.live.me x live
 
-  branch_here : (k : Kept) → Nodes k → (x : Branch) → branch_at k x.live.me ≡ Some x → Here x.live.me
+  branch_here : (k : NodeState) → Nodes k → (x : Branch) → branch_at k x.live.me ≡ Some x → Here x.live.me
   branch_here k now x live = (turns.branch_begun E A G Here input said received k now x live).here
 
-  asked_here : (k : Kept) → Nodes k → {x : Branch} {s : Stmt} {given : ℕ} → Asked k input x s given → Here x.live.me
+  asked_here : (k : NodeState) → Nodes k → {x : Branch} {s : Stmt} {given : ℕ} → Asked k input x s given → Here x.live.me
   asked_here k now (steps.By_call n x s call rows has code live) = branch_here k now x live
   asked_here k now (steps.By_exec x from call given advice s came live runs) = branch_here k now x live
 
-  pub begins_so : (k : Kept) → Nodes k → (l : Live) → l.edges ≡ [] → Here l.me → turns.IsNew E A G Here input said l.me → EachLive Begun (k.lives ++ l ∷ []) k.works
+  pub begins_so : (k : NodeState) → Nodes k → (l : Live) → l.edges ≡ [] → Here l.me → turns.IsNew E A G Here input said l.me → EachLive Begun (k.lives ++ l ∷ []) k.works
   begins_so k now l edges here new =
       each_begun Begun Begun k.lives k.works now l (record {
         turn = turns.begun_fresh E A G Here input said l (no_work l.me) edges refl refl refl refl new.0;
@@ -250,7 +250,7 @@ module _ (E : BranchId → Option ℕ) (A : BranchId → Option BranchId) (G Her
       }) (λ y v live any so. so)
 
   module _ (p : Place) (place : (b : BranchId) → b.node ≡ p.number → Here b) where
-    pub turns_on : {k : Kept} {d : Deed} → Step p input k d → Granted d → SessionsFit k → News NewBorn p input k → Nodes k → turns.Leaves E A G Here input said d
+    pub turns_on : {k : NodeState} {d : Deed} → Step p input k d → Granted d → SessionsFit k → News NewBorn p input k → Nodes k → turns.Leaves E A G Here input said d
     turns_on (steps.Begins {k = k} n s call rows range none step) granted ss news now =
         turns_on step granted (begun_so k ss p n) (begun_news NewBorn p input k n news) (begins_so k now (fresh_root p k (new_root p k n)) refl (place (new_root p k n) refl) (news.root n s call rows none))
     turns_on (steps.Pends {k = k} n l given call has live code step) granted ss news now = turns_on step granted (pends_so k ss n pending.Commit) (pends_news NewBorn p input k n given call news) now

@@ -11,7 +11,7 @@ use Rattle.node_rules.specs.Data.{BranchId, Decision, Edge, Kind, Standing}
 use Rattle.node_rules.specs.Data.decisions
 use Rattle.node_rules.specs.Data.kinds
 use Rattle.node_rules.specs.Words.{put_by_branch}
-use Rattle.node_rules.specs.Kept.{Kept, post_one, to_each, to_one}
+use Rattle.node_rules.specs.NodeState.{NodeState, post_one, to_each, to_one}
 use Rattle.node_rules.specs.Prepare.{prepares}
 use Rattle.node_rules.specs.Commit.{beyond, all_acked, passes_commit, rollback_to, passes}
 use Rattle.node_rules.specs.Recovery.{told_kind, Asking, asking_id, asks_live, asks_kept, acks_again, recovers, askings}
@@ -77,7 +77,7 @@ module _ (P : Kind → Type 0) where
     flat_say [] all = tt
     flat_say (a ∷ asked) all = all_append (λ x. P x.kind) a.says _ all.0 (flat_say asked all.1)
 
-    pub askings_say : (k : Kept) → AllSay (flat_map (λ a. a.says) (askings k))
+    pub askings_say : (k : NodeState) → AllSay (flat_map (λ a. a.says) (askings k))
     askings_say k =
         flat_say (askings k) (sorted_say (map asks_live k.lives ++ map asks_kept k.stored.durable.kept) [] tt
         (all_append AsksSo (map asks_live k.lives) (map asks_kept k.stored.durable.kept) (all_each AsksSo asks_live k.lives (λ l. one_says l.me kinds.Ask l.parent is.ask))

@@ -14,7 +14,7 @@ use Rattle.node_rules.specs.Data.kinds
 use Rattle.node_rules.specs.Data.params
 use Rattle.node_rules.specs.Data.records
 use Rattle.node_rules.specs.Words.{change_where, drop_where}
-use Rattle.node_rules.specs.Kept.{Kept, Stored}
+use Rattle.node_rules.specs.NodeState.{NodeState, Stored}
 use Rattle.node_rules.specs.Records.{applied, nothing_stored, stored_by}
 use Rattle.node_rules.specs.Turn.{deed_of}
 use Rattle.run_rules.specs.Data.{Turn, Happening, Command}
@@ -122,7 +122,7 @@ module _ (b : BranchId) (n : ℕ) where
   known_by s (r ∷ rs) knows = known_by_if s r rs (known_by (applied s r) rs knows)
 
   -- what a node that is up knows, its records say
-  pub known_recorded : (rs : List RedoRecord) (k : Kept) → StoresOf rs k → KnowsAt k.stored.durable.kept b n → IsRecorded rs b n
+  pub known_recorded : (rs : List RedoRecord) (k : NodeState) → StoresOf rs k → KnowsAt k.stored.durable.kept b n → IsRecorded rs b n
   known_recorded rs k stored knows =
       elim (known_by nothing_stored rs (subst (λ s. KnowsAt s.durable.kept b n) stored (known_unacked k.stored.durable.kept b n knows))) [ inl none ↦ absurd none | inr there ↦ there ]
 
@@ -140,13 +140,13 @@ module _ (b : BranchId) (n : ℕ) where
 
 -- ---- turns
 
-may_recorded : (rs : List RedoRecord) (k : Kept) (w : Option RedoRecord) (b : BranchId) (kind : Kind) → StoresOf rs k → MayTell k.stored.durable.kept w b kind
+may_recorded : (rs : List RedoRecord) (k : NodeState) (w : Option RedoRecord) (b : BranchId) (kind : Kind) → StoresOf rs k → MayTell k.stored.durable.kept w b kind
     → TellsRecorded (rs ++ option_to_list w) b kind
 may_recorded rs k w b (kinds.Committed n) stored (inl now) = recorded_last b n rs w now
 may_recorded rs k w b (kinds.Committed n) stored (inr knows) = recorded_before b n rs (option_to_list w) (known_recorded b n rs k stored knows)
 may_recorded rs k w b _ stored may = tt
 
-turn_recorded : (rs : List RedoRecord) (k : Kept) (u : Turn) (p : Place) → StoresOf rs k → Serves p k u
+turn_recorded : (rs : List RedoRecord) (k : NodeState) (u : Turn) (p : Place) → StoresOf rs k → Serves p k u
     → AllByRecursion (λ m. TellsRecorded (rs ++ option_to_list u.wrote) m.from m.kind) u.sent
 turn_recorded rs k u p stored serving =
     of_sent p k u serving (λ w ms. AllByRecursion (λ m. TellsRecorded (rs ++ option_to_list w) m.from m.kind) ms) tt

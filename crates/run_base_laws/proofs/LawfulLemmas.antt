@@ -3,7 +3,7 @@ use Rattle.std.proofs.Common.{◌≡◌, ℕ, Bool, true, false, List, [], ◌�
 use Rattle.std.specs.Prelude.{◌⊎◌}
 use Rattle.node_rules.specs.Data.{RedoRecord, Msg, Place, Input}
 use Rattle.node_rules.specs.Data.inputs
-use Rattle.node_rules.specs.Kept.{Kept}
+use Rattle.node_rules.specs.NodeState.{NodeState}
 use Rattle.node_rules.specs.Inputs.{IsFit}
 use Rattle.node_rules.specs.Turn.{turn_of, heard, deed_of, stamped}
 use Rattle.node_rules.proofs.Steps.{Step}
@@ -42,24 +42,24 @@ module _ (places : List Place) (asked : List Command) where
 -- ---- a turn
 
 -- an input that may come to a node is fit for it
-pub comes_fit : (f : Facts) (k : Kept) (node : ℕ) (input : Input) (took : Option Took) → Comes f k node input took → IsFit input
+pub comes_fit : (f : Facts) (k : NodeState) (node : ℕ) (input : Input) (took : Option Took) → Comes f k node input took → IsFit input
 comes_fit f k node (inputs.Call n s) None comes = comes.0
 comes_fit f k node (inputs.Call n s) (Some t) comes = absurd comes
 comes_fit f k node _ took comes = tt
 
 -- What a turn of a node is: a step, and what stands and is sent is the step's. Of a cut turn the record stands or not, and
 -- nothing is sent.
-pub record Serves (p : Place) (k : Kept) (u : Turn) : Type 0 where
+pub record Serves (p : Place) (k : NodeState) (u : Turn) : Type 0 where
   pub step : Step p u.input (heard k u.input) (deed_of p k u.input)
   pub wrote : (u.wrote ≡ None) ⊎ (u.wrote ≡ (deed_of p k u.input).wrote)
   pub sent : (u.sent ≡ []) ⊎ ((u.wrote ≡ (deed_of p k u.input).wrote) × (u.sent ≡ map (stamped (deed_of p k u.input).after.clock) (deed_of p k u.input).says))
 
-serves_by : (p : Place) (k : Kept) (u : Turn) (cut : Bool) → IsFit u.input → IsOwed p k u.input u.wrote u.sent cut → Serves p k u
+serves_by : (p : Place) (k : NodeState) (u : Turn) (cut : Bool) → IsFit u.input → IsOwed p k u.input u.wrote u.sent cut → Serves p k u
 unfolding turn_of
 serves_by p k u true fit is = record { step = step_of p k u.input fit; wrote = is.0; sent = inl is.1 }
 serves_by p k u false fit is = record { step = step_of p k u.input fit; wrote = inr is.0; sent = inr is }
 
-module _ (p : Place) (k : Kept) (u : Turn) (serving : Serves p k u) where
+module _ (p : Place) (k : NodeState) (u : Turn) (serving : Serves p k u) where
   -- what is so of no record and of the step's is so of the one that stands
   pub of_wrote : (P : Option RedoRecord → Type 0) → P None → P (deed_of p k u.input).wrote → P u.wrote
   of_wrote P none new = by serving.wrote
@@ -77,7 +77,7 @@ module _ (p : Place) (k : Kept) (u : Turn) (serving : Serves p k u) where
       by (inl is) = subst (P u.wrote) (sym is) none
       by (inr is) = subst₂ P (sym is.0) (sym is.1) new
 
-module _ (places : List Place) (f : Facts) (u : Turn) (k : Kept) where
+module _ (places : List Place) (f : Facts) (u : Turn) (k : NodeState) where
   -- a turn that may come is such a turn
   pub serves : MayTurn places f u k → Serves (place_at places u.node) k u
   serves may = serves_by (place_at places u.node) k u u.cut (comes_fit f k u.node u.input u.took may.comes) may.owed

@@ -15,7 +15,7 @@ use Rattle.node_rules.specs.Data.acts
 use Rattle.commit_forget.specs.declared.next.Next.{Next}
 use Rattle.commit_forget.specs.declared.next.Next.TheVariants as nexts
 use Rattle.node_rules.specs.Words.{same, put_item, drop_item, set_numbered}
-use Rattle.node_rules.specs.Kept.{Kept, Deed, live_id, standing_id, with_standing}
+use Rattle.node_rules.specs.NodeState.{NodeState, Deed, live_id, standing_id, with_standing}
 use Rattle.node_rules.specs.Sessions.{session_at, with_call}
 use Rattle.node_rules.specs.Statement.{ran, after_run}
 use Rattle.session_tree.specs.Live.{new_edge}
@@ -115,7 +115,7 @@ module _ (t : List Event) (rows : List Standing) (all : RowsAre t rows) where
 -- ---- what a node keeps
 
 -- What a node keeps fits the events.
-pub record Fits (t : List Event) (n boot : ℕ) (k : Kept) : Type 0 where
+pub record Fits (t : List Event) (n boot : ℕ) (k : NodeState) : Type 0 where
   pub started : k.stored.durable.boot ≡ boot
   pub lives : AllByRecursion (λ l. exit t l.me ≡ None) k.lives
   pub rows : RowsAre t k.stored.durable.kept
@@ -125,24 +125,24 @@ pub record Fits (t : List Event) (n boot : ℕ) (k : Kept) : Type 0 where
 
 module _ (t : List Event) (n boot : ℕ) (untaught : IsUntaught t) where
   -- a new id has no exit
-  new_exit : (k : Kept) (b : BranchId) → Fits t n boot k → b.node ≡ n → (Given boot (seqs k.sessions) (length k.opens) b → ⊥) → exit t b ≡ None
+  new_exit : (k : NodeState) (b : BranchId) → Fits t n boot k → b.node ≡ n → (Given boot (seqs k.sessions) (length k.opens) b → ⊥) → exit t b ≡ None
   new_exit k b fits here new = by (exit t b) refl
     where
       by : (o : Option Exit) → exit t b ≡ o → o ≡ None
       by None is = refl
       by (Some e) is = absurd (new (fits.given b (λ none. absurd (cc (is, none))) here))
 
-  pub unused_root : (p : Place) (k : Kept) (m : ℕ) → k.stored.durable.boot ≡ boot → m ≤ 64 → Given boot (seqs k.sessions) (length k.opens) (new_root p k m) → ⊥
+  pub unused_root : (p : Place) (k : NodeState) (m : ℕ) → k.stored.durable.boot ≡ boot → m ≤ 64 → Given boot (seqs k.sessions) (length k.opens) (new_root p k m) → ⊥
   unused_root p k m is fit (Before old) = omega (arith, old, is)
   unused_root p k m is fit (In_session now under given) = let was : (session_at k.sessions m).seq ≡ seq_at (seqs k.sessions) m = session_seq k.sessions m in omega (arith, given, was)
   unused_root p k m is fit (Over_link now high given) = omega (arith, high, fit)
 
-  pub unused_child : (p : Place) (k : Kept) → k.stored.durable.boot ≡ boot → Given boot (seqs k.sessions) (length k.opens) (next_child p k) → ⊥
+  pub unused_child : (p : Place) (k : NodeState) → k.stored.durable.boot ≡ boot → Given boot (seqs k.sessions) (length k.opens) (next_child p k) → ⊥
   unused_child p k is (Before old) = omega (arith, old, is)
   unused_child p k is (In_session now under given) = omega (arith, under)
   unused_child p k is (Over_link now high given) = omega (arith, given)
 
-  module _ (k : Kept) (fits : Fits t n boot k) where
+  module _ (k : NodeState) (fits : Fits t n boot k) where
     -- a live branch has no exit
     pub live_exit : (b : BranchId) → IsLive k b → exit t b ≡ None
     live_exit b live = subst (λ m. exit t m ≡ None) (item_is live_id k.lives b live.0 live.1) (all_found (λ l. exit t l.me ≡ None) live_id k.lives b live.0 fits.lives live.1)
@@ -160,11 +160,11 @@ module _ (t : List Event) (n boot : ℕ) (untaught : IsUntaught t) where
         all_with (RowIs t) standing_id k.stored.durable.kept (acked_by s from) fits.rows (record { left = row.left; known = row.known; force = row.force; forgot = row.forgot })
 
   -- the node with a new transaction in a session
-  begun_fits : (p : Place) (k : Kept) (m : ℕ) → p.number ≡ n → m ≤ 64 → Fits t n boot k → AllByRecursion (λ l. exit t l.me ≡ None) (begun_by p k m None).lives
+  begun_fits : (p : Place) (k : NodeState) (m : ℕ) → p.number ≡ n → m ≤ 64 → Fits t n boot k → AllByRecursion (λ l. exit t l.me ≡ None) (begun_by p k m None).lives
   begun_fits p k m is fit fits =
       all_last (λ l. exit t l.me ≡ None) live_id k.lives _ fits.lives (new_exit k (new_root p k m) fits is (unused_root p k m fits.started fit))
 
-  pub begun_all : (p : Place) (k : Kept) (m : ℕ) → p.number ≡ n → IsSession m → Fits t n boot k → Fits t n boot (begun_by p k m None)
+  pub begun_all : (p : Place) (k : NodeState) (m : ℕ) → p.number ≡ n → IsSession m → Fits t n boot k → Fits t n boot (begun_by p k m None)
   begun_all p k m is fit fits =
       let root : BranchId = new_root p k m in
       let set : seqs (begun_by p k m None).sessions ≡ set_numbered (seqs k.sessions) m root.seq = set_seqs k.sessions m _ in
@@ -181,7 +181,7 @@ module _ (t : List Event) (n boot : ℕ) (untaught : IsUntaught t) where
       }
 
   -- a COMMIT is pending
-  pub pends_all : (k : Kept) (m : ℕ) → Fits t n boot k → Fits t n boot (record k { sessions = with_call k.sessions m pending.Commit })
+  pub pends_all : (k : NodeState) (m : ℕ) → Fits t n boot k → Fits t n boot (record k { sessions = with_call k.sessions m pending.Commit })
   pends_all k m fits =
       let same_seqs : seqs k.sessions ≡ seqs (with_call k.sessions m pending.Commit) = sym (call_seqs k.sessions m pending.Commit) in
       record {
@@ -194,16 +194,16 @@ module _ (t : List Event) (n boot : ℕ) (untaught : IsUntaught t) where
       }
 
   -- keys are let go
-  pub lets_all : (k : Kept) (b : BranchId) → Fits t n boot k → Fits t n boot (without_read_keys k b)
+  pub lets_all : (k : NodeState) (b : BranchId) → Fits t n boot k → Fits t n boot (without_read_keys k b)
   lets_all k b fits = record { started = fits.started; lives = fits.lives; rows = fits.rows; many = fits.many; told = fits.told; given = fits.given }
 
   -- an Ack is counted
-  pub acked_all : (k : Kept) (s : Standing) (from : BranchId) → IsKept k s → Fits t n boot k → Fits t n boot (with_standing k (acked_by s from))
+  pub acked_all : (k : NodeState) (s : Standing) (from : BranchId) → IsKept k s → Fits t n boot k → Fits t n boot (with_standing k (acked_by s from))
   acked_all k s from kept fits = record { started = fits.started; lives = fits.lives; rows = acked_fits k fits s from kept; many = fits.many; told = fits.told; given = fits.given }
 
   module _ (p : Place) (input : Input) (is : p.number ≡ n) where
     -- the record of each step may stand
-    pub may_on : {k : Kept} {d : Deed} → Step p input k d → Fits t n boot k → IfSome d.wrote (MayStand t)
+    pub may_on : {k : NodeState} {d : Deed} → Step p input k d → Fits t n boot k → IfSome d.wrote (MayStand t)
     may_on (steps.Begins {k = k} m s call rows fit none step) fits = may_on step (begun_all p k m is fit fits)
     may_on (steps.Pends {k = k} m l given call has live code step) fits = may_on step (pends_all k m fits)
     may_on (steps.Lets_reads_go {k = k} l comment site_below live begins step) fits = may_on step (lets_all k l.me fits)
@@ -238,7 +238,7 @@ module _ (t : List Event) (n boot : ℕ) (untaught : IsUntaught t) where
     abbrev Unended : Option RedoRecord → List Live → Type 0
     Unended w ls = AllByRecursion (λ l. exit (with_event (wrote_event n w) t) l.me ≡ None) ls
 
-    module _ (k : Kept) (fits : Fits t n boot k) where
+    module _ (k : NodeState) (fits : Fits t n boot k) where
       changed_lives : (l : Live) → IsLive k l.me → Unended None (put_item live_id k.lives l)
       changed_lives l live = all_with (λ x. exit t x.me ≡ None) live_id k.lives l fits.lives (live_exit k fits l.me live)
 
@@ -255,7 +255,7 @@ module _ (t : List Event) (n boot : ℕ) (untaught : IsUntaught t) where
           all_filter (λ l. exit t l.me ≡ None) (λ l. exit (e ∷ t) l.me ≡ None) (λ l. not (same l.me m))
           (λ l passes is. ap (λ o. first o (exit_by e l.me)) is ∙ none l.me (not-true (same l.me m) passes)) k.lives fits.lives
 
-    pub lives_on : {k : Kept} {d : Deed} → Step p input k d → Fits t n boot k → Unended d.wrote d.after.lives
+    pub lives_on : {k : NodeState} {d : Deed} → Step p input k d → Fits t n boot k → Unended d.wrote d.after.lives
     lives_on (steps.Begins {k = k} m s call rows fit none step) fits = lives_on step (begun_all p k m is fit fits)
     lives_on (steps.Pends {k = k} m l given call has live code step) fits = lives_on step (pends_all k m fits)
     lives_on (steps.Lets_reads_go {k = k} l comment site_below live begins step) fits = lives_on step (lets_all k l.me fits)
@@ -301,13 +301,13 @@ module _ (t : List Event) (n boot : ℕ) (untaught : IsUntaught t) where
     abbrev GivenAfter : Deed → BranchId → Type 0
     GivenAfter d b = Given boot (seqs d.after.sessions) (length d.after.opens) b
 
-    live_told : (k : Kept) (b : BranchId) → Fits t n boot k → IsLive k b → Given boot (seqs k.sessions) (length k.opens) b
+    live_told : (k : NodeState) (b : BranchId) → Fits t n boot k → IsLive k b → Given boot (seqs k.sessions) (length k.opens) b
     live_told k b fits live =
         subst (λ m. Given boot (seqs k.sessions) (length k.opens) m) (item_is live_id k.lives b live.0 live.1)
         (all_found (λ l. Given boot (seqs k.sessions) (length k.opens) l.me) live_id k.lives b live.0 fits.told live.1)
 
     -- was given out
-    pub ended_given : {k : Kept} {d : Deed} → Step p input k d → Fits t n boot k → IfSome d.wrote (EndsSo (GivenAfter d))
+    pub ended_given : {k : NodeState} {d : Deed} → Step p input k d → Fits t n boot k → IfSome d.wrote (EndsSo (GivenAfter d))
     ended_given (steps.Begins {k = k} m s call rows fit none step) fits = ended_given step (begun_all p k m is fit fits)
     ended_given (steps.Pends {k = k} m l given call has live code step) fits = ended_given step (pends_all k m fits)
     ended_given (steps.Lets_reads_go {k = k} l comment site_below live begins step) fits = ended_given step (lets_all k l.me fits)

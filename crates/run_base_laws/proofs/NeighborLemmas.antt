@@ -19,7 +19,7 @@ use Rattle.node_rules.specs.declared.work.Waits.TheVariants as waiting
 use Rattle.node_rules.specs.Words.{same, numbered, set_numbered}
 use Rattle.node_rules.specs.Inputs.{Came, IsCall}
 use Rattle.session_tree.specs.Live.{children_of, peer_of, edge_at}
-use Rattle.node_rules.specs.Kept.{Kept, Branch, Stored}
+use Rattle.node_rules.specs.NodeState.{NodeState, Branch, Stored}
 use Rattle.node_rules.specs.Records.{applied, stored_by}
 use Rattle.node_rules.specs.Sessions.{session_at}
 use Rattle.node_rules.specs.Calls.{is_opening, next_child, reply_edge, reply_waits, reply_going, reply_of}
@@ -66,7 +66,7 @@ unfolding reply_of
 reply_is x from call j e is = reply_going_is x from call x.work.going j e is
 
 -- What is known of the branches that a turn begins.
-pub record News (B : Born → Type 0) (p : Place) (input : Input) (k : Kept) : Type 0 where
+pub record News (B : Born → Type 0) (p : Place) (input : Input) (k : NodeState) : Type 0 where
   pub root : (n : ℕ) (s : Stmt) → IsCall input n s → IsOfRows s → (session_at k.sessions n).root ≡ None → B (root_born (new_root p k n))
   pub child : (to parent : BranchId) (edge : ℕ) (root : BranchId) (depth : ℕ) → Came input parent to (kinds.Open edge root depth) → find (is_opening parent edge) k.opens ≡ None
       → B (child_born (next_child p k) parent edge root depth)

@@ -14,7 +14,7 @@ use Rattle.node_rules.specs.Data.kinds
 use Rattle.node_rules.specs.declared.session.Session.{Session}
 use Rattle.node_rules.specs.Words.{put_by_branch}
 use Rattle.session_tree.specs.Live.{is_branch}
-use Rattle.node_rules.specs.Kept.{Kept, Branch, post_one, to_each, to_one}
+use Rattle.node_rules.specs.NodeState.{NodeState, Branch, post_one, to_each, to_one}
 use Rattle.node_rules.specs.Calls.{answer_says, exec_to}
 use Rattle.node_rules.specs.Prepare.{prepares}
 use Rattle.node_rules.specs.Commit.{beyond, all_acked, passes_commit, rollback_to, passes}
@@ -124,7 +124,7 @@ module _ (B : Born → Type 0) where
   flat_go [] all = tt
   flat_go (a ∷ asked) all = all_append Goes a.says _ all.0 (flat_go asked all.1)
 
-  pub askings_go : (k : Kept) → NamesAre B k → GoAll (flat_map (λ a. a.says) (askings k))
+  pub askings_go : (k : NodeState) → NamesAre B k → GoAll (flat_map (λ a. a.says) (askings k))
   askings_go k names =
       flat_go (askings k) (sorted_go (map asks_live k.lives ++ map asks_kept k.stored.durable.kept) [] tt
       (all_append AsksSo (map asks_live k.lives) (map asks_kept k.stored.durable.kept)

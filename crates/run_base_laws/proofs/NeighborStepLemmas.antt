@@ -22,7 +22,7 @@ use Rattle.node_rules.specs.Words.{numbered, put_item, drop_item}
 use Rattle.node_rules.specs.Inputs.{Came, IsCall}
 use Rattle.session_tree.specs.Live.{children_of, peer_of, edge_at, new_edge}
 use Rattle.session_tree.specs.Tree.{step as step_from}
-use Rattle.node_rules.specs.Kept.{Kept, Branch, Deed, live_id, standing_id, live_at, branch_at, with_standing, to_one}
+use Rattle.node_rules.specs.NodeState.{NodeState, Branch, Deed, live_id, standing_id, live_at, branch_at, with_standing, to_one}
 use Rattle.node_rules.specs.Records.{applied}
 use Rattle.node_rules.specs.Sessions.{fresh_session, session_at, with_root, with_call}
 use Rattle.node_rules.specs.Statement.{ran, after_run}
@@ -45,7 +45,7 @@ use Rattle.run_base_laws.proofs.NeighborSayLemmas.{Goes, GoAll, one_goes, each_g
 module _ (B : Born → Type 0) where
   -- ---- steps
 
-  module _ (k : Kept) (names : NamesAre B k) where
+  module _ (k : NodeState) (names : NamesAre B k) where
     live_is : (b : BranchId) (l : Live) → live_at k b ≡ Some l → LiveIs B l
     live_is b l found = all_found (LiveIs B) live_id k.lives b l names.0 found
 
@@ -102,7 +102,7 @@ module _ (B : Born → Type 0) where
   -- ---- news as a turn goes on
 
   module _ (p : Place) (input : Input) where
-    begun_root : (k : Kept) (n : ℕ) → News B p input k → (m : ℕ) (s : Stmt) → IsCall input m s → IsOfRows s → (session_at (begun_by p k n None).sessions m).root ≡ None → B (root_born (new_root p (begun_by p k n None) m))
+    begun_root : (k : NodeState) (n : ℕ) → News B p input k → (m : ℕ) (s : Stmt) → IsCall input m s → IsOfRows s → (session_at (begun_by p k n None).sessions m).root ≡ None → B (root_born (new_root p (begun_by p k n None) m))
     begun_root k n news m s call rows none = at (set_or_before k.sessions n m _)
       where
         at : (numbered (with_root k.sessions n (new_root p k n)) m ≡ numbered k.sessions m) ⊎ ((n ≡ m) × (numbered (with_root k.sessions n (new_root p k n)) m ≡ Some (record (session_at k.sessions n) { seq = (new_root p k n).seq; root = Some (new_root p k n) })))
@@ -114,19 +114,19 @@ module _ (B : Born → Type 0) where
             let it : (session_at (begun_by p k n None).sessions m).root ≡ Some (new_root p k n) = ap (λ o. (unwrap_or o fresh_session).root) set.1 in
             absurd (cc (it, none))
 
-    pub begun_news : (k : Kept) (n : ℕ) → News B p input k → News B p input (begun_by p k n None)
+    pub begun_news : (k : NodeState) (n : ℕ) → News B p input k → News B p input (begun_by p k n None)
     begun_news k n news = record { root = begun_root k n news; child = news.child }
 
     one_call : (n m : ℕ) (s t : Stmt) → IsCall input n s → IsCall input m t → s ≡ t
     one_call n m s t first second = let it : inputs.Call n (Some s) ≡ inputs.Call m (Some t) = sym first ∙ second in cc
 
-    pub pends_news : (k : Kept) (n : ℕ) (comment : Option (List ℕ)) → IsCall input n (stmts.Commit comment) → News B p input k → News B p input (record k { sessions = with_call k.sessions n pending.Commit })
+    pub pends_news : (k : NodeState) (n : ℕ) (comment : Option (List ℕ)) → IsCall input n (stmts.Commit comment) → News B p input k → News B p input (record k { sessions = with_call k.sessions n pending.Commit })
     pends_news k n comment call news = record { root = λ m s other rows none. (let it : s ≡ stmts.Commit comment = one_call m n s (stmts.Commit comment) other call in absurd (subst IsOfRows it rows)); child = news.child }
 
-    pub lets_news : (k : Kept) (b : BranchId) → News B p input k → News B p input (without_read_keys k b)
+    pub lets_news : (k : NodeState) (b : BranchId) → News B p input k → News B p input (without_read_keys k b)
     lets_news k b news = record { root = news.root; child = news.child }
 
-    pub acked_news : (k : Kept) (s : Standing) → News B p input k → News B p input (with_standing k s)
+    pub acked_news : (k : NodeState) (s : Standing) → News B p input k → News B p input (with_standing k s)
     acked_news k s news = record { root = news.root; child = news.child }
 
   -- what a step keeps, writes and says
@@ -135,7 +135,7 @@ module _ (B : Born → Type 0) where
 
   module _ (p : Place) (input : Input) (heard : (from to : BranchId) (kind : Kind) → Came input from to kind → GoesSo B from to kind) where
     -- messages alone
-    says_go : {k : Kept} {says : List Post} → NamesAre B k → Says k input says → GoAll B says
+    says_go : {k : NodeState} {says : List Post} → NamesAre B k → Says k input says → GoAll B says
     says_go names (steps.Gone_replies to from call given advice s came gone) = (heard from to (kinds.Exec call given advice s) came, tt)
     says_go names (steps.Gone_aborts to from site_below comment came gone) = (heard from to (kinds.Prepare site_below comment) came, tt)
     says_go names (steps.Gone_rolls_back to from came gone) = (elim came [ inl asked ↦ inl (heard from to kinds.CommitPoint asked) | inr asked ↦ turned B from to (heard from to kinds.Ask asked) ], tt)
@@ -152,7 +152,7 @@ module _ (B : Born → Type 0) where
 
     -- ---- news
 
-    root_live : (k : Kept) (n : ℕ) → B (root_born (new_root p k n)) → LiveIs B (fresh_root p k (new_root p k n))
+    root_live : (k : NodeState) (n : ℕ) → B (root_born (new_root p k n)) → LiveIs B (fresh_root p k (new_root p k n))
     root_live k n began = record { born = root_born (new_root p k n); began = began; is_me = refl; is_root = refl; is_parent = refl; is_depth = refl; children = tt }
 
     -- the new child stands behind the others
@@ -182,7 +182,7 @@ module _ (B : Born → Type 0) where
       children = children_numbered B x.live.me x.live.edges i e _ at refl is.children;
     }
 
-    pub names_on : {k : Kept} {d : Deed} → Step p input k d → NamesAre B k → News B p input k → NamesSo d
+    pub names_on : {k : NodeState} {d : Deed} → Step p input k d → NamesAre B k → News B p input k → NamesSo d
     names_on (steps.Begins {k = k} n s call rows fit none step) names news =
         names_on step (all_last (LiveIs B) live_id k.lives _ names.0 (root_live k n (news.root n s call rows none)), names.1, names.2) (begun_news p input k n news)
     names_on (steps.Pends {k = k} n l comment call has live code step) names news = names_on step names (pends_news p input k n comment call news)

@@ -9,7 +9,7 @@ use Rattle.node_rules.specs.Data.{RedoRecord, Place, Input}
 use Rattle.node_rules.specs.Data.inputs
 use Rattle.node_rules.specs.Data.records
 use Rattle.node_rules.specs.Words.{numbered, set_numbered}
-use Rattle.node_rules.specs.Kept.{Kept, Stored, Deed, raised}
+use Rattle.node_rules.specs.NodeState.{NodeState, Stored, Deed, raised}
 use Rattle.node_rules.specs.Turn.{turn_of, start_of, made, kept_by, heard, kind_scn, deed_of}
 use Rattle.node_rules.proofs.Steps.{Step}
 use Rattle.run_rules.specs.Data.{Turn, Happening, Command}
@@ -26,17 +26,17 @@ use Rattle.run_base_laws.proofs.LawfulLemmas.{lawful_keeps, lawful_each, of_fact
 -- ---- what a happening does to one node
 
 -- What becomes of what a node keeps and of the records on its disk.
-pub data Goes (places : List Place) (f : Facts) (n : ℕ) : Option Kept → List RedoRecord → Type 0 where
+pub data Goes (places : List Place) (f : Facts) (n : ℕ) : Option NodeState → List RedoRecord → Type 0 where
   Stays : Goes places f n (node_at f n) (records_at f n)
-  Turns : (u : Turn) (k : Kept) → MayTurn places f u k → u.node ≡ n
+  Turns : (u : Turn) (k : NodeState) → MayTurn places f u k → u.node ≡ n
       → Goes places f n (Some (turn_of (place_at places n) k u.input).after) (records_at f n ++ option_to_list (turn_of (place_at places n) k u.input).wrote)
-  Is_cut : (u : Turn) (k : Kept) → MayTurn places f u k → u.node ≡ n → Goes places f n None (records_at f n ++ option_to_list u.wrote)
+  Is_cut : (u : Turn) (k : NodeState) → MayTurn places f u k → u.node ≡ n → Goes places f n None (records_at f n ++ option_to_list u.wrote)
   Stops : Goes places f n None (records_at f n)
   Starts : (boot : ℕ) → node_at f n ≡ None → boot ≡ boots (records_at f n) + 1 → Goes places f n (Some (start_of (with_boot f n boot))) (with_boot f n boot)
 
 module _ (places : List Place) (f : Facts) where
   -- a node and its disk that are both set
-  set_goes : (m : ℕ) (o : Option Kept) (rs : List RedoRecord) (n : ℕ) → length f.nodes ≡ length f.records → Goes places f m o rs
+  set_goes : (m : ℕ) (o : Option NodeState) (rs : List RedoRecord) (n : ℕ) → length f.nodes ≡ length f.records → Goes places f m o rs
       → Goes places f n (flat (numbered (set_numbered f.nodes m o) n)) (unwrap_or (numbered (set_numbered f.records m rs) n) [])
   set_goes m o rs n even goes = at (set_both f.nodes f.records m n o rs even)
     where
@@ -47,7 +47,7 @@ module _ (places : List Place) (f : Facts) where
       at (inr new) = subst₂ (λ x y. Goes places f n (flat x) (unwrap_or y [])) (sym new.1) (sym new.2) (subst (λ j. Goes places f j o rs) new.0 goes)
 
   -- a turn of a node sets both
-  turn_goes : (u : Turn) (k : Kept) (cut : Bool) → MayTurn places f u k → IsOwed (place_at places u.node) k u.input u.wrote u.sent cut
+  turn_goes : (u : Turn) (k : NodeState) (cut : Bool) → MayTurn places f u k → IsOwed (place_at places u.node) k u.input u.wrote u.sent cut
       → Goes places f u.node (kept_after cut (Some (turn_of (place_at places u.node) k u.input))) (records_at f u.node ++ option_to_list u.wrote)
   turn_goes u k true may owed = Is_cut u k may refl
   turn_goes u k false may owed = subst (λ w. Goes places f u.node (Some (turn_of (place_at places u.node) k u.input).after) (records_at f u.node ++ option_to_list w)) (sym owed.0) (Turns u k may refl)
@@ -83,15 +83,15 @@ module _ (places : List Place) (f : Facts) where
 -- ---- the induction
 
 -- What a law of nodes has to show: J of the records on a disk, and I of these and what their node keeps while it is up.
-pub record Keeps (J : Place → List RedoRecord → Type 0) (I : Place → List RedoRecord → Kept → Type 0) : Type 0 where
+pub record Keeps (J : Place → List RedoRecord → Type 0) (I : Place → List RedoRecord → NodeState → Type 0) : Type 0 where
   pub empty : (p : Place) → J p []
   pub starts : (p : Place) (rs : List RedoRecord) (boot : ℕ) → J p rs → boot ≡ boots rs + 1 → I p (rs ++ records.Boot boot ∷ []) (start_of (rs ++ records.Boot boot ∷ []))
-  pub hears : (p : Place) (rs : List RedoRecord) (k : Kept) (scn : ℕ) → I p rs k → I p rs (raised k scn)
-  pub steps : (p : Place) (rs : List RedoRecord) (input : Input) (k : Kept) (d : Deed) → Step p input k d → I p rs k → I p (rs ++ option_to_list d.wrote) d.after
-  pub rests : (p : Place) (rs : List RedoRecord) (k : Kept) → I p rs k → J p rs  -- the node stops, with the record of a cut turn or without
+  pub hears : (p : Place) (rs : List RedoRecord) (k : NodeState) (scn : ℕ) → I p rs k → I p rs (raised k scn)
+  pub steps : (p : Place) (rs : List RedoRecord) (input : Input) (k : NodeState) (d : Deed) → Step p input k d → I p rs k → I p (rs ++ option_to_list d.wrote) d.after
+  pub rests : (p : Place) (rs : List RedoRecord) (k : NodeState) → I p rs k → J p rs  -- the node stops, with the record of a cut turn or without
 
 -- two laws at once
-pub keeps_both : {J J' : Place → List RedoRecord → Type 0} {I I' : Place → List RedoRecord → Kept → Type 0} → Keeps J I → Keeps J' I'
+pub keeps_both : {J J' : Place → List RedoRecord → Type 0} {I I' : Place → List RedoRecord → NodeState → Type 0} → Keeps J I → Keeps J' I'
     → Keeps (λ p rs. J p rs × J' p rs) (λ p rs k. I p rs k × I' p rs k)
 keeps_both one other = record {
   empty = λ p. (one.empty p, other.empty p);
@@ -102,23 +102,23 @@ keeps_both one other = record {
 }
 
 -- I holds of each node that is up
-abbrev pub NodesAre : (Place → List RedoRecord → Kept → Type 0) → List Place → Facts → Type 0
-NodesAre I places f = (n : ℕ) (k : Kept) → node_at f n ≡ Some k → I (place_at places n) (records_at f n) k
+abbrev pub NodesAre : (Place → List RedoRecord → NodeState → Type 0) → List Place → Facts → Type 0
+NodesAre I places f = (n : ℕ) (k : NodeState) → node_at f n ≡ Some k → I (place_at places n) (records_at f n) k
 
-module _ (J : Place → List RedoRecord → Type 0) (I : Place → List RedoRecord → Kept → Type 0) (each : Keeps J I) where
+module _ (J : Place → List RedoRecord → Type 0) (I : Place → List RedoRecord → NodeState → Type 0) (each : Keeps J I) where
   -- a disk, and what its node keeps
-  abbrev pub Stands : Place → Option Kept → List RedoRecord → Type 0
+  abbrev pub Stands : Place → Option NodeState → List RedoRecord → Type 0
   Stands p o rs = J p rs × IfSome o (I p rs)
 
   -- of a node that is up
-  is_up : (p : Place) (rs : List RedoRecord) (k : Kept) → I p rs k → Stands p (Some k) rs
+  is_up : (p : Place) (rs : List RedoRecord) (k : NodeState) → I p rs k → Stands p (Some k) rs
   is_up p rs k now = (each.rests p rs k now, now)
 
-  heard_so : (p : Place) (rs : List RedoRecord) (k : Kept) (input : Input) → I p rs k → I p rs (heard k input)
+  heard_so : (p : Place) (rs : List RedoRecord) (k : NodeState) (input : Input) → I p rs k → I p rs (heard k input)
   heard_so p rs k (inputs.Message m) now = each.hears p rs k (max m.scn (kind_scn m.kind)) now
   heard_so p rs k _ now = now
 
-  module _ (p : Place) (rs : List RedoRecord) (k : Kept) (u : Turn) (serving : Serves p k u) (now : I p rs k) where
+  module _ (p : Place) (rs : List RedoRecord) (k : NodeState) (u : Turn) (serving : Serves p k u) (now : I p rs k) where
     -- the turn is kept to its end
     turned : I p (rs ++ option_to_list (turn_of p k u.input).wrote) (turn_of p k u.input).after
     unfolding turn_of
@@ -131,18 +131,18 @@ module _ (J : Place → List RedoRecord → Type 0) (I : Place → List RedoReco
 
   module _ (places : List Place) (f : Facts) (n : ℕ) (now : Stands (place_at places n) (node_at f n) (records_at f n)) where
     -- what holds of the node, where it is up
-    pub at_node : (k : Kept) → node_at f n ≡ Some k → I (place_at places n) (records_at f n) k
+    pub at_node : (k : NodeState) → node_at f n ≡ Some k → I (place_at places n) (records_at f n) k
     at_node k is = subst (λ o. IfSome o (I (place_at places n) (records_at f n))) is now.1
 
     -- what stood before the turn, and what the turn is
-    before : (u : Turn) (k : Kept) → MayTurn places f u k → u.node ≡ n → I (place_at places n) (records_at f n) k
+    before : (u : Turn) (k : NodeState) → MayTurn places f u k → u.node ≡ n → I (place_at places n) (records_at f n) k
     before u k may here = at_node k (subst (λ m. node_at f m ≡ Some k) here may.up)
 
-    serving : (u : Turn) (k : Kept) → MayTurn places f u k → u.node ≡ n → Serves (place_at places n) k u
+    serving : (u : Turn) (k : NodeState) → MayTurn places f u k → u.node ≡ n → Serves (place_at places n) k u
     serving u k may here = subst (λ m. Serves (place_at places m) k u) here (serves places f u k may)
 
     -- whatever happens to the node
-    stands_on : {o : Option Kept} {rs : List RedoRecord} → Goes places f n o rs → Stands (place_at places n) o rs
+    stands_on : {o : Option NodeState} {rs : List RedoRecord} → Goes places f n o rs → Stands (place_at places n) o rs
     stands_on Stays = now
     stands_on (Turns u k may here) = is_up _ _ _ (turned (place_at places n) (records_at f n) k u (serving u k may here) (before u k may here))
     stands_on (Is_cut u k may here) = (cut_off (place_at places n) (records_at f n) k u (serving u k may here) (before u k may here), tt)
@@ -217,13 +217,13 @@ each_that_may So so t lawful =
     (lawful_each t.places t.commands (λ f tr. Unit {0}) (λ f tr h now may. tt) (λ f tr h. So t.places f h) (λ f tr h now may. so t.places t.commands f h may) (first_facts t.places) no_trail t.trace tt lawful)
 
 -- What a law has to show that speaks of what a node keeps and of nothing else.
-pub record KeepsAlone (I : Kept → Type 0) : Type 0 where
+pub record KeepsAlone (I : NodeState → Type 0) : Type 0 where
   pub starts : (s : Stored) → I (kept_by s)
-  pub hears : (k : Kept) (scn : ℕ) → I k → I (raised k scn)
-  pub steps : (p : Place) (input : Input) (k : Kept) (d : Deed) → Step p input k d → I k → I d.after
+  pub hears : (k : NodeState) (scn : ℕ) → I k → I (raised k scn)
+  pub steps : (p : Place) (input : Input) (k : NodeState) (d : Deed) → Step p input k d → I k → I d.after
 
 -- such a law is a law of nodes
-pub keeps_alone : {I : Kept → Type 0} → KeepsAlone I → Keeps (λ p rs. Unit {0}) (λ p rs k. I k)
+pub keeps_alone : {I : NodeState → Type 0} → KeepsAlone I → Keeps (λ p rs. Unit {0}) (λ p rs k. I k)
 unfolding start_of
 keeps_alone each = record {
   empty = λ p. tt;
@@ -233,5 +233,5 @@ keeps_alone each = record {
   rests = λ p rs k now. tt;
 }
 
-pub kept_alone : (I : Kept → Type 0) → KeepsAlone I → OfEachNode (λ p rs k. I k)
+pub kept_alone : (I : NodeState → Type 0) → KeepsAlone I → OfEachNode (λ p rs k. I k)
 kept_alone I each = node_keeps (λ p rs. Unit {0}) (λ p rs k. I k) (keeps_alone each)

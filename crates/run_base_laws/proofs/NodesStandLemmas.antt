@@ -11,7 +11,7 @@ use Rattle.agreement.proofs.EventLemmas.{first_is, only_at_is}
 use Rattle.node_rules.specs.Data.{BranchId, Standing, Live, RedoRecord, Place}
 use Rattle.node_rules.specs.Data.records
 use Rattle.node_rules.specs.Words.{same}
-use Rattle.node_rules.specs.Kept.{live_id}
+use Rattle.node_rules.specs.NodeState.{live_id}
 use Rattle.node_rules.specs.Records.{nothing_stored, stored_by}
 use Rattle.run_rules.specs.Branches.{is_among}
 use Rattle.run_rules.specs.Facts.{Facts, node_at, records_at}

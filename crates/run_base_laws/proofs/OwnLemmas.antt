@@ -14,7 +14,7 @@ use Rattle.node_rules.specs.Data.records
 use Rattle.node_rules.specs.Data.acts
 use Rattle.commit_forget.specs.declared.next.Next.TheVariants as nexts
 use Rattle.node_rules.specs.Words.{same, item_at, put_item, drop_item, change_where, drop_where}
-use Rattle.node_rules.specs.Kept.{Kept, Deed, Stored, live_id, standing_id}
+use Rattle.node_rules.specs.NodeState.{NodeState, Deed, Stored, live_id, standing_id}
 use Rattle.node_rules.specs.Records.{applied, nothing_stored, stored_by}
 use Rattle.node_rules.specs.Turn.{start_of}
 use Rattle.node_rules.specs.Prepare.{sealed_record, decided_record, ready}
@@ -122,27 +122,27 @@ module _ (n : ℕ) where
   Here b = b.node ≡ n
 
   -- what a node keeps is of its own branches
-  abbrev pub Own : Kept → Type 0
+  abbrev pub Own : NodeState → Type 0
   Own k = AllByRecursion (λ l. Here l.me) k.lives × AllByRecursion (λ s. Here s.me) k.stored.durable.kept × AllByRecursion (λ o. Here o.child) k.opens
 
   abbrev pub Writes : Option RedoRecord → Type 0
   Writes w = IfSome w (IsRecordOf Here)
 
   -- a live branch is of this node
-  live_here : (k : Kept) (b : BranchId) → Own k → IsLive k b → Here b
+  live_here : (k : NodeState) (b : BranchId) → Own k → IsLive k b → Here b
   live_here k b own live = subst Here (item_is live_id k.lives b live.0 live.1) (all_found (λ l. Here l.me) live_id k.lives b live.0 own.0 live.1)
 
   -- and so is a kept one
-  kept_here : (k : Kept) (s : Standing) → Own k → IsKept k s → Here s.me
+  kept_here : (k : NodeState) (s : Standing) → Own k → IsKept k s → Here s.me
   kept_here k s own kept = all_found (λ x. Here x.me) standing_id k.stored.durable.kept s.me s own.1 kept
 
-  forced_here : (p : Place) (k : Kept) (id : List ℕ) (b : BranchId) → Own k → branch_to_force p.names k.stored.durable.kept id ≡ Ok b → Here b
+  forced_here : (p : Place) (k : NodeState) (id : List ℕ) (b : BranchId) → Own k → branch_to_force p.names k.stored.durable.kept id ≡ Ok b → Here b
   unfolding branch_to_force
   forced_here p k id b own is =
       forced_one Here id (filter (is_named_by p.names id) k.stored.durable.kept) b
       (all_filter (λ s. Here s.me) (λ s. Here s.me) (is_named_by p.names id) (λ s passes so. so) k.stored.durable.kept own.1) is
 
-  module _ (k : Kept) (own : Own k) where
+  module _ (k : NodeState) (own : Own k) where
     changed : (l : Live) → IsLive k l.me → AllByRecursion (λ x. Here x.me) (put_item live_id k.lives l)
     changed l live = all_with (λ x. Here x.me) live_id k.lives l own.0 (live_here k l.me own live)
 
@@ -154,7 +154,7 @@ module _ (n : ℕ) where
 
   module _ (p : Place) (input : Input) (is : p.number ≡ n) where
     -- each step is of the node's own branches
-    pub own_on : {k : Kept} {d : Deed} → Step p input k d → Own k → Own d.after × Writes d.wrote
+    pub own_on : {k : NodeState} {d : Deed} → Step p input k d → Own k → Own d.after × Writes d.wrote
     own_on (steps.Begins {k = k} m s call rows fit none step) own = own_on step (all_last (λ l. Here l.me) live_id k.lives _ own.0 is, own.1, own.2)
     own_on (steps.Pends m l given call has live code step) own = own_on step own
     own_on (steps.Lets_reads_go l comment site_below live begins step) own = own_on step own
@@ -214,7 +214,7 @@ pub recorded_too : (P : BranchId → Type 0) (rs : List RedoRecord) (w : Option 
 recorded_too P rs None all is = all_append (IsRecordOf P) rs [] all tt
 recorded_too P rs (Some r) all is = all_append (IsRecordOf P) rs (r ∷ []) all (is, tt)
 
-abbrev pub OwnAt : Place → List RedoRecord → Kept → Type 0
+abbrev pub OwnAt : Place → List RedoRecord → NodeState → Type 0
 OwnAt p rs k = OwnRecords p.number rs × Own p.number k
 
 starts_own : (p : Place) (rs : List RedoRecord) (boot : ℕ) → OwnRecords p.number rs → OwnAt p (rs ++ records.Boot boot ∷ []) (start_of (rs ++ records.Boot boot ∷ []))

@@ -3,7 +3,7 @@ use Rattle.std.proofs.Common.{◌≡◌, List, [], ◌∷◌, ◌++◌, refl}
 use Rattle.node_rules.specs.Data.{Place}
 use Rattle.run_rules.specs.Data.{Happening, Command}
 use Rattle.run_rules.specs.Facts.{Facts, facts_after, facts_of}
-use Rattle.run_rules.specs.Telling.{Past}
+use Rattle.run_rules.specs.RunReport.{Past}
 use Rattle.run_rules.specs.Past.{past, next}
 use Rattle.run_rules.specs.Lawful.{IsLawful, MayHappen}
 

@@ -17,7 +17,7 @@ use Rattle.node_rules.specs.Words.{same, item_at, set_numbered, put_item, drop_i
 use Rattle.node_rules.specs.Inputs.{Came, IsCall}
 use Rattle.node_rules.specs.Refusals.{dtx}
 use Rattle.session_tree.specs.Live.{is_branch}
-use Rattle.node_rules.specs.Kept.{Kept, Branch, live_id, work_id, live_at, branch_at}
+use Rattle.node_rules.specs.NodeState.{NodeState, Branch, live_id, work_id, live_at, branch_at}
 use Rattle.node_rules.specs.Sessions.{session_at, with_call, needs_rollback, no_transaction, is_commit, commit_is_pending, commit_ended}
 use Rattle.node_rules.specs.Calls.{call_pends, answered_sessions, heard_sessions, is_gone}
 use Rattle.node_rules.proofs.Steps as steps
@@ -88,13 +88,13 @@ statement_waits pending.Commit phase o is free = absurd cc
 -- ---- nodes
 
 -- What is known as a turn begins.
-pub record Before (input : Input) (k : Kept) : Type 0 where
+pub record Before (input : Input) (k : NodeState) : Type 0 where
   pub free : (n : ℕ) (s : Stmt) → IsCall input n s → (session_at k.sessions n).call ≡ pending.NoCall
   pub asked : (from to : BranchId) (call given : ℕ) (advice : Option Advice) (s : Stmt) → Came input from to (kinds.Exec call given advice s) → (l : Live) → live_at k to ≡ Some l → l.parent ≢ None
   pub prepared : (from to : BranchId) (site_below : Bool) (comment : List ℕ) → Came input from to (kinds.Prepare site_below comment) → (l : Live) → live_at k to ≡ Some l → l.parent ≢ None
   pub either : ((n : ℕ) (s : Stmt) → IsCall input n s → steps.IsOfRows s → ⊥) → AllByRecursion (λ s. live_at k s.me ≡ None) k.stored.durable.kept
 
-abbrev pub NodeRoots : Kept → Type 0
+abbrev pub NodeRoots : NodeState → Type 0
 NodeRoots k = EachLive (RootIs k.sessions) k.lives k.works
 
 -- What is known of the root of a statement that goes on.
@@ -103,7 +103,7 @@ pub record Works (ss : List Session) (x : Branch) : Type 0 where
   pub root : x.live.parent ≡ None → (session_at ss x.live.me.session).root ≡ Some x.live.me
   pub working : x.live.parent ≡ None → x.live.phase ≡ phases.Working
 
-module _ (k : Kept) (now : NodeRoots k) where
+module _ (k : NodeState) (now : NodeRoots k) where
   pub branch_root : (x : Branch) → branch_at k x.live.me ≡ Some x → RootIs k.sessions x.live x.work
   branch_root x found = let parts = branch_parts k x.live.me x found in subst (RootIs k.sessions x.live) (sym parts.1) (now.each x.live.me x.live parts.0)
 
@@ -196,7 +196,7 @@ below_by (Some b) is none = absurd cc
 awaits_below : {l : Live} {site_below : Bool} → Collected l site_below acts.SayReady → l.parent ≢ None
 awaits_below {l = l} (steps.Awaits_point is) = below_by l.parent is
 
-pub ready_below : {k : Kept} {input : Input} {l : Live} {site_below : Bool} → Acting k input l site_below acts.SayReady → l.parent ≢ None
+pub ready_below : {k : NodeState} {input : Input} {l : Live} {site_below : Bool} → Acting k input l site_below acts.SayReady → l.parent ≢ None
 ready_below (steps.Has_no_children l comment site_below _ live begins none_there collected) = awaits_below collected
 ready_below (steps.Hears_last l from v site_below _ live answers other all collected) = awaits_below collected
 ready_below (steps.At_point l from _ live came ready pointed) = elim pointed [ ]

@@ -12,7 +12,7 @@ use Rattle.node_rules.specs.Data.kinds
 use Rattle.node_rules.specs.declared.session.PendingCall.TheVariants as pending
 use Rattle.node_rules.specs.Data.stmts
 use Rattle.node_rules.specs.Words.{same, numbered}
-use Rattle.node_rules.specs.Kept.{Kept, live_id, standing_id, live_at, Branch, branch_at}
+use Rattle.node_rules.specs.NodeState.{NodeState, live_id, standing_id, live_at, Branch, branch_at}
 use Rattle.node_rules.specs.Sessions.{session_at}
 use Rattle.node_rules.proofs.Steps.{Step}
 use Rattle.std.specs.List.{AllByRecursion}
@@ -46,22 +46,22 @@ use Rattle.run_base_laws.proofs.RestStepLemmas.{roots_on, commit_call_so, commit
 -- ---- turns
 
 -- sessions and live branches fit, and roots are their sessions'
-abbrev pub NodeRests : Kept → Type 0
+abbrev pub NodeRests : NodeState → Type 0
 NodeRests k = SessionsFit k × NodeRoots k
 
-pub heard_rests : (k : Kept) (input : Input) → NodeRests k → NodeRests (heard k input)
+pub heard_rests : (k : NodeState) (input : Input) → NodeRests k → NodeRests (heard k input)
 heard_rests k (inputs.Message m) now = (record { roots = now.0.roots; above = now.0.above }, now.1)
 heard_rests k (inputs.Call n s) now = now
 heard_rests k (inputs.GiveUp n) now = now
 heard_rests k inputs.Reco now = now
 
-pub heard_before : (k : Kept) (input what : Input) → Before what k → Before what (heard k input)
+pub heard_before : (k : NodeState) (input what : Input) → Before what k → Before what (heard k input)
 heard_before k (inputs.Message m) what before = record { free = before.free; asked = before.asked; prepared = before.prepared; either = before.either }
 heard_before k (inputs.Call n s) what before = before
 heard_before k (inputs.GiveUp n) what before = before
 heard_before k inputs.Reco what before = before
 
-turn_rests : (p : Place) (k : Kept) (input : Input) → Before input k → NodeRests k → Step p input (heard k input) (deed_of p k input) → NodeRests (deed_of p k input).after
+turn_rests : (p : Place) (k : NodeState) (input : Input) → Before input k → NodeRests k → Step p input (heard k input) (deed_of p k input) → NodeRests (deed_of p k input).after
 turn_rests p k input before now step =
     let next : NodeRests (heard k input) = heard_rests k input now in (
       sessions_on p input step next.0,
@@ -73,12 +73,12 @@ turn_rests p k input before now step =
 
 -- ---- what is known before a turn
 
-pub free_by : (f : Facts) (k : Kept) (node n : ℕ) (s : Option Stmt) (took : Option Took) → Comes f k node (inputs.Call n s) took → (session_at k.sessions n).call ≡ pending.NoCall
+pub free_by : (f : Facts) (k : NodeState) (node n : ℕ) (s : Option Stmt) (took : Option Took) → Comes f k node (inputs.Call n s) took → (session_at k.sessions n).call ≡ pending.NoCall
 free_by f k node n s None comes = comes.1
 free_by f k node n s (Some t) comes = absurd comes
 
 -- a branch that was asked as a child has a parent
-pub asked_parent : (bs : List Born) (k : Kept) → NamesAre (Began bs) k → (from to : BranchId) → IsChild (Began bs) to from → (l : Live) → live_at k to ≡ Some l → l.parent ≢ None
+pub asked_parent : (bs : List Born) (k : NodeState) → NamesAre (Began bs) k → (from to : BranchId) → IsChild (Began bs) to from → (l : Live) → live_at k to ≡ Some l → l.parent ≢ None
 asked_parent bs k names from to child l found none =
     let is : LiveIs (Began bs) l = all_found (LiveIs (Began bs)) live_id k.lives to l names.0 found in
     let me : is.born.me ≡ to = is.is_me ∙ item_is live_id k.lives to l found in
@@ -98,7 +98,7 @@ rows_count (s ∷ ks) = (
       (λ x some. cond_both (same s.me x.me) _ _ (λ c. 1 ≤ c) (λ here. omega arith) (λ other. some)) ks (rows_count ks),
 )
 
-not_both : (rs : List RedoRecord) (k : Kept) → Node rs k → AllByRecursion (λ s. live_at k s.me ≡ None) k.stored.durable.kept
+not_both : (rs : List RedoRecord) (k : NodeState) → Node rs k → AllByRecursion (λ s. live_at k s.me ≡ None) k.stored.durable.kept
 not_both rs k node =
     all_weaker (λ s. 1 ≤ count_of standing_id s.me k.stored.durable.kept) (λ s. live_at k s.me ≡ None) (λ s some. none s.me some (live_at k s.me) refl) k.stored.durable.kept (rows_count k.stored.durable.kept)
   where
@@ -110,7 +110,7 @@ not_both rs k node =
         absurd (omega (arith, some, there, node.ids.one b))
 
 -- a session without a pending call has its root at rest
-rest_so : (k : Kept) → NodeRests k → (n : ℕ) (x : Branch) → (session_at k.sessions n).root ≡ Some x.live.me → branch_at k x.live.me ≡ Some x → (session_at k.sessions n).call ≡ pending.NoCall
+rest_so : (k : NodeState) → NodeRests k → (n : ℕ) (x : Branch) → (session_at k.sessions n).root ≡ Some x.live.me → branch_at k x.live.me ≡ Some x → (session_at k.sessions n).call ≡ pending.NoCall
     → (x.live.phase ≡ phases.Working) × (x.work.going ≡ None)
 rest_so k now n x has live free =
     let none : x.live.parent ≡ None = root_alone k now.0 n x.live.me has x.live (live_so k x.live.me x live) in
@@ -123,7 +123,7 @@ module _ (places : List Place) (asked : List Command) (each : (n : ℕ) (p : Pla
   RootsStand f = (n : ℕ) → IfSome (node_at f n) NodeRests
 
   module _ (f : Facts) (t : List Event) (bs : List Born) (stand : StandBorn places asked each f t bs) (now : RootsStand f) where
-    pub before_so : (u : Turn) (k : Kept) → MayTurn places f u k → Before u.input k
+    pub before_so : (u : Turn) (k : NodeState) → MayTurn places f u k → Before u.input k
     before_so u k may =
         let names : NamesAre (Began bs) k = subst (λ o. IfSome o (NamesAre (Began bs))) may.up (stand.1.lives u.node) in
         record {
@@ -135,7 +135,7 @@ module _ (places : List Place) (asked : List Command) (each : (n : ℕ) (p : Pla
           either = λ not. not_both (records_at f u.node) k (node_so places asked each f t stand.0 u.node k may.up);
         }
 
-    pub turned : (u : Turn) (k : Kept) → MayTurn places f u k → NodeRests (turn_of (place_at places u.node) k u.input).after
+    pub turned : (u : Turn) (k : NodeState) → MayTurn places f u k → NodeRests (turn_of (place_at places u.node) k u.input).after
     unfolding turn_of
     turned u k may = turn_rests (place_at places u.node) k u.input (before_so u k may) (subst (λ o. IfSome o NodeRests) may.up (now u.node)) (serves places f u k may).step
 
@@ -143,7 +143,7 @@ module _ (places : List Place) (asked : List Command) (each : (n : ℕ) (p : Pla
     unfolding start_of
     started zs = (started_fits _, none_live _)
 
-    goes_rests : (n : ℕ) {o : Option Kept} {rs : List RedoRecord} → Goes places f n o rs → IfSome o NodeRests
+    goes_rests : (n : ℕ) {o : Option NodeState} {rs : List RedoRecord} → Goes places f n o rs → IfSome o NodeRests
     goes_rests n Stays = now n
     goes_rests n (Turns u k may here) = subst (λ m. NodeRests (turn_of (place_at places m) k u.input).after) here (turned u k may)
     goes_rests n (Is_cut u k may here) = tt

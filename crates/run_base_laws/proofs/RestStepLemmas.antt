@@ -18,7 +18,7 @@ use Rattle.node_rules.specs.Words.{set_numbered, put_item, drop_item}
 use Rattle.node_rules.specs.Inputs.{Came, IsCall, IsSession, Brings, Commit_came, Rollback_came, Rolled_back_came}
 use Rattle.node_rules.specs.Refusals.{dtx}
 use Rattle.session_tree.specs.Live.{new_edge}
-use Rattle.node_rules.specs.Kept.{Kept, Branch, Deed, live_id, work_id, standing_id, live_at, branch_at, with_standing}
+use Rattle.node_rules.specs.NodeState.{NodeState, Branch, Deed, live_id, work_id, standing_id, live_at, branch_at, with_standing}
 use Rattle.node_rules.specs.Sessions.{session_at, with_call, needs_rollback, no_transaction, commit_ended}
 use Rattle.node_rules.specs.Calls.{heard_sessions, is_gone, called, waits_for_opened, with_edge, with_answer, hears_reply, heard_answer, reply_going, reply_of}
 use Rattle.node_rules.specs.Client.{new_root, fresh_root, begun_by, commit_by, commit_call, gives_up, statement_given_up, root_at}
@@ -41,7 +41,7 @@ use Rattle.run_base_laws.proofs.RootLemmas.{RootsFit, SessionsFit, session_or_be
 use Rattle.run_base_laws.proofs.RestLemmas.{RootIs, set_leaves, taken_leaves, still_leaves, fresh_waits, free_waits, statement_waits, Before, NodeRoots, Works, branch_root, live_root, going_works, asked_works, answered_so, calls_so, heard_so, gone, gone_ended, ended_so, acting_root, ready_below}
 
 -- the deeds of a branch that acts
-module _ (k : Kept) (now : NodeRoots k) (l : Live) (is : RootIs k.sessions l (works_of k.works l.me)) where
+module _ (k : NodeState) (now : NodeRoots k) (l : Live) (is : RootIs k.sessions l (works_of k.works l.me)) where
   stays_so : (y : Live) → y.me ≡ l.me → RootIs k.sessions y (works_of k.works y.me) → EachLive (RootIs k.sessions) (put_item live_id k.lives y) k.works
   stays_so y me so = each_changed (RootIs k.sessions) (RootIs k.sessions) k.lives k.works now y so (λ z v live other so. so)
 
@@ -91,12 +91,12 @@ brings_none (Rollback_came came) n s call = no_call came n s call
 brings_none (Rolled_back_came came) n s call = no_call came n s call
 
 -- the sessions after a decision that a branch learned
-learned_so : (k : Kept) → NodeRoots k → (b : BranchId) (d : Decision) → live_at k b ≡ None → EachLive (RootIs (decided_sessions k.sessions b d)) k.lives k.works
+learned_so : (k : NodeState) → NodeRoots k → (b : BranchId) (d : Decision) → live_at k b ≡ None → EachLive (RootIs (decided_sessions k.sessions b d)) k.lives k.works
 learned_so k now b (decisions.Commit n) none = now
 learned_so k now b decisions.Rollback none = ended_so k now b none
 
 -- a call of rows begins a transaction
-begun_before : (input : Input) (k : Kept) (p : Place) (n : ℕ) (s : Stmt) → IsCall input n s → steps.IsOfRows s → Before input k → Before input (begun_by p k n None)
+begun_before : (input : Input) (k : NodeState) (p : Place) (n : ℕ) (s : Stmt) → IsCall input n s → steps.IsOfRows s → Before input k → Before input (begun_by p k n None)
 begun_before input k p n s call rows before = record {
   free = λ m x is. elim (session_or_before k.sessions n m (record (session_at k.sessions n) { seq = (new_root p k n).seq; root = Some (new_root p k n) })) [
     | inl still ↦ ap (λ y. y.call) still ∙ before.free m x is
@@ -107,7 +107,7 @@ begun_before input k p n s call rows before = record {
   either = λ not. absurd (not n s call rows);
 }
 
-acked_before : (input : Input) (k : Kept) (s : Standing) (from : BranchId) → steps.IsKept k s → Came input from s.me kinds.Ack → Before input k → Before input (with_standing k (acked_by s from))
+acked_before : (input : Input) (k : NodeState) (s : Standing) (from : BranchId) → steps.IsKept k s → Came input from s.me kinds.Ack → Before input k → Before input (with_standing k (acked_by s from))
 acked_before input k s from kept came before = record {
   free = before.free;
   asked = before.asked;
@@ -116,7 +116,7 @@ acked_before input k s from kept came before = record {
       (all_found (λ x. live_at k x.me ≡ None) standing_id k.stored.durable.kept s.me s (before.either not) kept);
 }
 
-begun_roots : (k : Kept) (p : Place) (n : ℕ) → SessionsFit k → IsSession n → (session_at k.sessions n).root ≡ None → NodeRoots k → NodeRoots (begun_by p k n None)
+begun_roots : (k : NodeState) (p : Place) (n : ℕ) → SessionsFit k → IsSession n → (session_at k.sessions n).root ≡ None → NodeRoots k → NodeRoots (begun_by p k n None)
 begun_roots k p n fit range none now =
     let s : Session = record (session_at k.sessions n) { seq = (new_root p k n).seq; root = Some (new_root p k n) } in
     let set : session_at (set_numbered k.sessions n s) n ≡ s = session_put k.sessions n s fit.roots range in
@@ -125,11 +125,11 @@ begun_roots k p n fit range none now =
     (λ y v live any so. set_leaves k.sessions y v n s (λ is. (let had : (session_at k.sessions n).root ≡ Some y.me = is.root in absurd (cc (had, none)))) so)
 
 -- a kept branch is not live
-kept_gone : (k : Kept) (s : Standing) → steps.IsKept k s → AllByRecursion (λ x. live_at k x.me ≡ None) k.stored.durable.kept → live_at k s.me ≡ None
+kept_gone : (k : NodeState) (s : Standing) → steps.IsKept k s → AllByRecursion (λ x. live_at k x.me ≡ None) k.stored.durable.kept → live_at k s.me ≡ None
 kept_gone k s kept all = all_found (λ x. live_at k x.me ≡ None) standing_id k.stored.durable.kept s.me s all kept
 
 -- nor is one whose outcome is forced
-forced_gone : (p : Place) (k : Kept) (id : List ℕ) (b : BranchId) → AllByRecursion (λ x. live_at k x.me ≡ None) k.stored.durable.kept → branch_to_force p.names k.stored.durable.kept id ≡ Ok b → live_at k b ≡ None
+forced_gone : (p : Place) (k : NodeState) (id : List ℕ) (b : BranchId) → AllByRecursion (λ x. live_at k x.me ≡ None) k.stored.durable.kept → branch_to_force p.names k.stored.durable.kept id ≡ Ok b → live_at k b ≡ None
 unfolding branch_to_force
 forced_gone p k id b all named =
     forced_one (λ c. live_at k c ≡ None) id (filter (is_named_by p.names id) k.stored.durable.kept) b
@@ -159,7 +159,7 @@ heard_works ss y a is = record {
     ]
 
 -- a statement that is given up
-module _ (k : Kept) (fit : SessionsFit k) (now : NodeRoots k) (n : ℕ) (x : Branch) (has : (session_at k.sessions n).root ≡ Some x.live.me) (calls : (session_at k.sessions n).call ≡ pending.Statement)
+module _ (k : NodeState) (fit : SessionsFit k) (now : NodeRoots k) (n : ℕ) (x : Branch) (has : (session_at k.sessions n).root ≡ Some x.live.me) (calls : (session_at k.sessions n).call ≡ pending.Statement)
     (live : branch_at k x.live.me ≡ Some x) where
   abbrev freed : List Session
   freed = with_call k.sessions n pending.NoCall
@@ -185,12 +185,12 @@ module _ (k : Kept) (fit : SessionsFit k) (now : NodeRoots k) (n : ℕ) (x : Bra
       (λ y v living other so. noted_so y v (taken_leaves k.sessions y v n x.live.me (record (session_at k.sessions n) { call = pending.NoCall }) has other so))
 
 -- so an act of a root is no Ready
-never_ready : {k : Kept} {input : Input} {l : Live} {site_below : Bool} (a : Act) → a ≡ acts.SayReady → Acting k input l site_below a → RootIs k.sessions (ready l) (works_of k.works l.me)
+never_ready : {k : NodeState} {input : Input} {l : Live} {site_below : Bool} (a : Act) → a ≡ acts.SayReady → Acting k input l site_below a → RootIs k.sessions (ready l) (works_of k.works l.me)
 never_ready {k = k} {input = input} {l = l} {site_below = site_below} a is why = λ none. absurd (ready_below (subst (λ b. Acting k input l site_below b) is why) none)
 
 module _ (p : Place) (input : Input) (quits : (n : ℕ) (c : Option (List ℕ)) → IsCall input n (stmts.Commit c) → ⊥) where
   -- each step of another input than COMMIT keeps it
-  pub roots_on : {k : Kept} {d : Deed} → Step p input k d → Before input k → SessionsFit k → NodeRoots k → NodeRoots d.after
+  pub roots_on : {k : NodeState} {d : Deed} → Step p input k d → Before input k → SessionsFit k → NodeRoots k → NodeRoots d.after
   roots_on (steps.Begins {k = k} n s call rows range none step) before fit now = roots_on step (begun_before input k p n s call rows before) (begun_so k fit p n) (begun_roots k p n fit range none now)
   roots_on (steps.Pends n l given call has live code step) before fit now = absurd (quits n given call)
   roots_on (steps.Lets_reads_go l comment site_below live begins step) before fit now =
@@ -246,7 +246,7 @@ commit_waits pending.NoCall before after o is commits = absurd cc
 commit_waits pending.Statement before after o is commits = absurd cc
 commit_waits pending.Commit before after o is commits = is
 
-module _ (k : Kept) (fit : SessionsFit k) (now : NodeRoots k) (n : ℕ) (free : (session_at k.sessions n).call ≡ pending.NoCall) where
+module _ (k : NodeState) (fit : SessionsFit k) (now : NodeRoots k) (n : ℕ) (free : (session_at k.sessions n).call ≡ pending.NoCall) where
   -- the session's COMMIT is pending
   abbrev commits : List Session
   commits = with_call k.sessions n pending.Commit

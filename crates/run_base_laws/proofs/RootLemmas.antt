@@ -14,7 +14,7 @@ use Rattle.node_rules.specs.declared.session.Session.{Session}
 use Rattle.node_rules.specs.Words.{numbered, set_numbered, put_item, drop_item}
 use Rattle.node_rules.specs.Refusals.{dtx}
 use Rattle.session_tree.specs.Live.{new_edge}
-use Rattle.node_rules.specs.Kept.{Kept, Branch, Deed, Stored, live_id, live_at, branch_at}
+use Rattle.node_rules.specs.NodeState.{NodeState, Branch, Deed, Stored, live_id, live_at, branch_at}
 use Rattle.node_rules.specs.Statement.{ran, after_run}
 use Rattle.node_rules.specs.Sessions.{fresh_session, session_at, with_call, needs_rollback, no_transaction, commit_is_pending, commit_ended}
 use Rattle.node_rules.specs.Calls.{call_pends, answered_sessions, heard_sessions, is_gone, with_edge, hears_reply}
@@ -99,7 +99,7 @@ abbrev IsAbove : Live → Type 0
 IsAbove l = l.parent ≢ None → 65 ≤ l.me.session
 
 -- Sessions and live branches fit.
-pub record SessionsFit (k : Kept) : Type 0 where
+pub record SessionsFit (k : NodeState) : Type 0 where
   pub roots : RootsFit k.sessions
   pub above : AllByRecursion IsAbove k.lives
 
@@ -108,14 +108,14 @@ no_parent : (l : Live) (o : Option BranchId) → l.parent ≡ o → IsAbove l �
 no_parent l None is above low = refl
 no_parent l (Some b) is above low = let high : 65 ≤ l.me.session = above (λ none. absurd (cc (is, none))) in absurd (omega (arith, high, low))
 
-pub root_alone : (k : Kept) → SessionsFit k → (n : ℕ) (b : BranchId) → (session_at k.sessions n).root ≡ Some b → (l : Live) → live_at k b ≡ Some l → l.parent ≡ None
+pub root_alone : (k : NodeState) → SessionsFit k → (n : ℕ) (b : BranchId) → (session_at k.sessions n).root ≡ Some b → (l : Live) → live_at k b ≡ Some l → l.parent ≡ None
 root_alone k now n b has l found =
     let me : l.me ≡ b = item_is live_id k.lives b l found in
     let at : b.session ≡ n = now.roots.each n b has in
     let low : n ≤ 64 = session_low k.sessions now.roots n b (numbered k.sessions n) refl has in
     no_parent l l.parent refl (all_found IsAbove live_id k.lives b l now.above found) (omega (arith, low, at, ap (λ c. c.session) me))
 
-module _ (k : Kept) (now : SessionsFit k) where
+module _ (k : NodeState) (now : SessionsFit k) where
   live_above : (b : BranchId) (l : Live) → live_at k b ≡ Some l → IsAbove l
   live_above b l found = all_found IsAbove live_id k.lives b l now.above found
 
@@ -148,7 +148,7 @@ module _ (k : Kept) (now : SessionsFit k) where
   }
 
 -- each step keeps it
-pub sessions_on : (p : Place) (input : Input) {k : Kept} {d : Deed} → Step p input k d → SessionsFit k → SessionsFit d.after
+pub sessions_on : (p : Place) (input : Input) {k : NodeState} {d : Deed} → Step p input k d → SessionsFit k → SessionsFit d.after
 sessions_on p input (steps.Begins {k = k} n s call rows fit none step) now = sessions_on p input step (begun_so k now p n)
 sessions_on p input (steps.Pends {k = k} n l given call has live code step) now = sessions_on p input step (pends_so k now n pending.Commit)
 sessions_on p input (steps.Lets_reads_go l comment site_below live begins step) now = sessions_on p input step (record { roots = now.roots; above = now.above })

@@ -14,7 +14,7 @@ use Rattle.node_rules.specs.Data.states
 use Rattle.node_rules.specs.Data.records
 use Rattle.node_rules.specs.Data.params
 use Rattle.node_rules.specs.Words.{same, change_where, drop_where}
-use Rattle.node_rules.specs.Kept.{Stored}
+use Rattle.node_rules.specs.NodeState.{Stored}
 use Rattle.node_rules.specs.Records.{applied}
 use Rattle.run_base_laws.specs.RunEvents.{with_event, record_event}
 use Rattle.run_base_laws.specs.EventRows.{IsKnown, IsForcedAs, RowIs, RowsAre, MayStand}

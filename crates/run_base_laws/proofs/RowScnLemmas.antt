@@ -10,7 +10,7 @@ use Rattle.node_rules.specs.Data.decisions
 use Rattle.node_rules.specs.Data.params
 use Rattle.node_rules.specs.Data.records
 use Rattle.node_rules.specs.Words.{change_where, drop_where}
-use Rattle.node_rules.specs.Kept.{Kept, Stored}
+use Rattle.node_rules.specs.NodeState.{NodeState, Stored}
 use Rattle.node_rules.specs.Records.{raised_by, forced_scn, scn_after, applied, nothing_stored, stored_by}
 use Rattle.run_rules.proofs.ListLemmas.{all_weaker, all_filter, all_map, all_put}
 use Rattle.run_base_laws.proofs.AckLemmas.{unacked_rows}
@@ -83,7 +83,7 @@ acked_below scn [] all = tt
 acked_below scn (s ∷ ks) all = (all.0, acked_below scn ks all.1)
 
 -- so it is at a node that is up
-pub kept_below : (rs : List RedoRecord) (k : Kept) → StoresOf rs k → k.stored.scn ≤ k.clock → Below k.clock k.stored.durable.kept
+pub kept_below : (rs : List RedoRecord) (k : NodeState) → StoresOf rs k → k.stored.scn ≤ k.clock → Below k.clock k.stored.durable.kept
 kept_below rs k stored covers =
     acked_below k.clock k.stored.durable.kept
     (below_further k.stored.scn k.clock covers _

@@ -7,7 +7,7 @@ use Rattle.node_rules.specs.Data.{BranchId, Kind, Msg, Place, Input}
 use Rattle.node_rules.specs.Data.kinds
 use Rattle.node_rules.specs.Data.inputs
 use Rattle.node_rules.specs.Words.{numbered, set_numbered}
-use Rattle.node_rules.specs.Kept.{Kept}
+use Rattle.node_rules.specs.NodeState.{NodeState}
 use Rattle.node_rules.specs.Inputs.{Came}
 use Rattle.net_bag.specs.Net.{Net, sent_one, sent_on, fated, with_fate, flies, packet, packet_at, delivered, lost, goes_over, lost_over, cut_over, joined, goes_to, lost_to, stopped, started}
 use Rattle.run_rules.specs.Data.{Fate, Packet, Took, Happening, Command}
@@ -164,7 +164,7 @@ module _ (f : Facts) (t : List Event) (said : NetIsSaid f t) where
   message_said : (m : Msg) (from to : BranchId) (scn : ℕ) (kind : Kind) → IsSaid t m → inputs.Message m ≡ inputs.Message (record { from = from; to = to; scn = scn; kind = kind }) → Stands t (message_event from to scn kind)
   message_said m from to scn kind is same_input = subst (IsSaid t) (let it : inputs.Message m ≡ inputs.Message (record { from = from; to = to; scn = scn; kind = kind }) = same_input in cc) is
 
-  pub came_said : (k : Kept) (node : ℕ) (input : Input) (took : Option Took) → Comes f k node input took → (from to : BranchId) (kind : Kind) (came : Came input from to kind) → Stands t (message_event from to came.scn kind)
+  pub came_said : (k : NodeState) (node : ℕ) (input : Input) (took : Option Took) → Comes f k node input took → (from to : BranchId) (kind : Kind) (came : Came input from to kind) → Stands t (message_event from to came.scn kind)
   came_said k node (inputs.Message m) (Some x) comes from to kind came =
       message_said m from to came.scn kind (subst (IsSaid t) comes.1.same (numbered_so (IsSaid t) f.net.packets x.number comes.0 said comes.1.sent)) came.is
   came_said k node (inputs.Message m) None comes from to kind came = absurd comes
@@ -172,5 +172,5 @@ module _ (f : Facts) (t : List Event) (said : NetIsSaid f t) where
   came_said k node (inputs.GiveUp session) took comes from to kind came = absurd (cc (came.is))
   came_said k node inputs.Reco took comes from to kind came = absurd (cc (came.is))
 
-  pub acks_came : (k : Kept) (node : ℕ) (input : Input) (took : Option Took) → Comes f k node input took → AcksWereSent t input
+  pub acks_came : (k : NodeState) (node : ℕ) (input : Input) (took : Option Took) → Comes f k node input took → AcksWereSent t input
   acks_came k node input took comes from to came = came_said k node input took comes from to kinds.Ack came

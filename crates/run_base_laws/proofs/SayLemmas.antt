@@ -16,7 +16,7 @@ use Rattle.node_rules.specs.declared.session.Session.{Session}
 use Rattle.commit_forget.specs.declared.next.Beyond.{Beyond}
 use Rattle.commit_forget.specs.declared.next.Next.TheVariants as nexts
 use Rattle.node_rules.specs.Words.{put_by_branch}
-use Rattle.node_rules.specs.Kept.{Kept, Branch, Deed, post_one, to_each, to_one, standing_id}
+use Rattle.node_rules.specs.NodeState.{NodeState, Branch, Deed, post_one, to_each, to_one, standing_id}
 use Rattle.session_tree.specs.Tree.{step as step_from}
 use Rattle.node_rules.specs.Calls.{answer_says, exec_to, with_edge, hears_reply}
 use Rattle.node_rules.specs.Statement.{ran, after_run}
@@ -106,7 +106,7 @@ module _ (r : List Event) (scn : ℕ) where
   flat_told (a ∷ asked) all = all_append May a.says _ all.0 (flat_told asked all.1)
 
   -- all that RECO asks and tells
-  askings_told : (k : Kept) → RowsAre r k.stored.durable.kept → Told (flat_map (λ a. a.says) (askings k))
+  askings_told : (k : NodeState) → RowsAre r k.stored.durable.kept → Told (flat_map (λ a. a.says) (askings k))
   askings_told k rows =
       flat_told (askings k) (sorted_told (map asks_live k.lives ++ map asks_kept k.stored.durable.kept) [] tt
       (all_append AsksSo (map asks_live k.lives) (map asks_kept k.stored.durable.kept) (all_each AsksSo asks_live k.lives (λ l. one_told l.me kinds.Ask l.parent (λ b. tt)))
@@ -119,10 +119,10 @@ abbrev pub AcksWereSent : List Event → Input → Type 0
 AcksWereSent t input = (from to : BranchId) → Came input from to kinds.Ack → Has (Send_ack from to) t
 
 module _ (t : List Event) (n boot : ℕ) (untaught : IsUntaught t) (p : Place) (input : Input) (is : p.number ≡ n) (sent : AcksWereSent t input) where
-  seal_told : (k : Kept) (l : Live) (kind : Kind) → Fits t n boot k → IsLive k l.me → exit (Seal l.me l.root k.clock (own_changes k l.me) ∷ t) l.me ≡ Some (Sealed k.clock)
+  seal_told : (k : NodeState) (l : Live) (kind : Kind) → Fits t n boot k → IsLive k l.me → exit (Seal l.me l.root k.clock (own_changes k l.me) ∷ t) l.me ≡ Some (Sealed k.clock)
   seal_told k l kind fits live = first_new (exit t l.me) (only_at l.me l.me (Sealed k.clock)) (Sealed k.clock) (live_exit t n boot untaught k fits l.me live) (only_at_same l.me l.me (Sealed k.clock) refl)
 
-  decide_told : (k : Kept) (l : Live) → Fits t n boot k → IsLive k l.me → Knows (Decide l.me l.root (k.clock + 1) (own_changes k l.me) ∷ t) l.me (k.clock + 1)
+  decide_told : (k : NodeState) (l : Live) → Fits t n boot k → IsLive k l.me → Knows (Decide l.me l.root (k.clock + 1) (own_changes k l.me) ∷ t) l.me (k.clock + 1)
   decide_told k l fits live =
       inl (first_new (exit t l.me) (only_at l.me l.me (Decided (k.clock + 1))) (Decided (k.clock + 1)) (live_exit t n boot untaught k fits l.me live) (only_at_same l.me l.me (Decided (k.clock + 1)) refl))
 
@@ -130,7 +130,7 @@ module _ (t : List Event) (n boot : ℕ) (untaught : IsUntaught t) (p : Place) (
   learn_told s d mixed none m is_commit = inr (learned_now t s.me s.me d mixed none refl ∙ ap Some is_commit)
 
   -- messages alone
-  says_told : (k : Kept) {says : List Post} → Says k input says → RowsAre t k.stored.durable.kept → Below k.clock k.stored.durable.kept → Told t k.clock says
+  says_told : (k : NodeState) {says : List Post} → Says k input says → RowsAre t k.stored.durable.kept → Below k.clock k.stored.durable.kept → Told t k.clock says
   says_told k (steps.Prepared_again s from site_below comment came kept again) rows below =
       let row : RowIs t s = all_found (RowIs t) standing_id k.stored.durable.kept s.me s rows kept in
       let scn : s.scn ≤ k.clock = all_found (λ x. x.scn ≤ k.clock) standing_id k.stored.durable.kept s.me s below kept in
@@ -147,7 +147,7 @@ module _ (t : List Event) (n boot : ℕ) (untaught : IsUntaught t) (p : Place) (
   says_told k _ rows below = (tt, tt)
 
   -- each step
-  pub step_told : {k : Kept} {d : Deed} → Step p input k d → Fits t n boot k → Below k.clock k.stored.durable.kept → Told (with_event (wrote_event n d.wrote) t) d.after.clock d.says
+  pub step_told : {k : NodeState} {d : Deed} → Step p input k d → Fits t n boot k → Below k.clock k.stored.durable.kept → Told (with_event (wrote_event n d.wrote) t) d.after.clock d.says
   step_told (steps.Begins {k = k} m s call rows fit none step) fits below = step_told step (begun_all t n boot untaught p k m is fit fits) below
   step_told (steps.Pends {k = k} m l given call has live code step) fits below = step_told step (pends_all t n boot untaught k m fits) below
   step_told (steps.Lets_reads_go {k = k} l comment site_below live begins step) fits below = step_told step (lets_all t n boot untaught k l.me fits) below

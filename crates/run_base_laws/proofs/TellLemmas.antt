@@ -15,7 +15,7 @@ use Rattle.node_rules.specs.declared.session.Session.{Session}
 use Rattle.commit_forget.specs.declared.next.Beyond.{Beyond}
 use Rattle.commit_forget.specs.declared.next.Next.TheVariants as nexts
 use Rattle.node_rules.specs.Words.{same, item_at, put_item, put_by_branch}
-use Rattle.node_rules.specs.Kept.{Kept, Branch, Deed, post_one, to_each, to_one, standing_id}
+use Rattle.node_rules.specs.NodeState.{NodeState, Branch, Deed, post_one, to_each, to_one, standing_id}
 use Rattle.session_tree.specs.Tree.{step as step_from}
 use Rattle.node_rules.specs.Calls.{answer_says, exec_to, with_edge, hears_reply}
 use Rattle.node_rules.specs.Statement.{ran, after_run}
@@ -136,7 +136,7 @@ module _ (rows : List Standing) (w : Option RedoRecord) where
   flat_told (a ∷ asked) all = all_append May a.says _ all.0 (flat_told asked all.1)
 
 -- all that RECO asks and tells
-askings_told : (k : Kept) (w : Option RedoRecord) → Told k.stored.durable.kept w (flat_map (λ a. a.says) (askings k))
+askings_told : (k : NodeState) (w : Option RedoRecord) → Told k.stored.durable.kept w (flat_map (λ a. a.says) (askings k))
 askings_told k w =
     let rows : List Standing = k.stored.durable.kept in
     flat_told rows w (askings k) (sorted_told rows w (map asks_live k.lives ++ map asks_kept rows) [] tt
@@ -144,11 +144,11 @@ askings_told k w =
     (all_map (AsksSo rows w) asks_kept rows (all_weaker _ _ (λ s knows. recovers_told rows w s s.decision refl knows) rows (all_know rows)))))
 
 -- the rows of a node
-abbrev rows_at : Kept → List Standing
+abbrev rows_at : NodeState → List Standing
 rows_at k = k.stored.durable.kept
 
 -- messages alone
-said : (k : Kept) (input : Input) {says : List Post} → Says k input says → Told (rows_at k) None says
+said : (k : NodeState) (input : Input) {says : List Post} → Says k input says → Told (rows_at k) None says
 said k input (steps.Knows_commit s from n came kept is) = (inr (found_knows s.me (rows_at k) s n kept is), tt)
 said k input (steps.Tells s from came kept) = (asked_told (rows_at k) None s from (λ n is. found_knows s.me (rows_at k) s n kept is), tt)
 said k input (steps.Recovers reco) = askings_told k None
@@ -157,14 +157,14 @@ said k input _ = (tt, tt)
 -- ---- steps
 
 -- an Ack teaches nothing
-untaught : (k : Kept) (s : Standing) (from : BranchId) (w : Option RedoRecord) → IsKept k s → (b : BranchId) (kind : Kind)
+untaught : (k : NodeState) (s : Standing) (from : BranchId) (w : Option RedoRecord) → IsKept k s → (b : BranchId) (kind : Kind)
     → MayTell (put_item standing_id k.stored.durable.kept (acked_by s from)) w b kind → MayTell k.stored.durable.kept w b kind
 untaught k s from w kept b (kinds.Committed n) (inl now) = inl now
 untaught k s from w kept b (kinds.Committed n) (inr knows) = inr (known_acked k.stored.durable.kept b n (subst (λ ks. KnowsAt ks b n) (rows_acked k s from kept) (known_unacked _ b n knows)))
 untaught k s from w kept b _ may = tt
 
 module _ (p : Place) (input : Input) where
-  pub step_tells : {k : Kept} {d : Deed} → Step p input k d → Told (rows_at k) d.wrote d.says
+  pub step_tells : {k : NodeState} {d : Deed} → Step p input k d → Told (rows_at k) d.wrote d.says
   step_tells (steps.Begins n s call rows fit none step) = step_tells step
   step_tells (steps.Pends n l given call has live code step) = step_tells step
   step_tells (steps.Lets_reads_go l comment site_below live begins step) = step_tells step
@@ -200,19 +200,19 @@ module _ (p : Place) (input : Input) where
 
 -- ---- turns
 
-heard_rows : (k : Kept) (input : Input) → (heard k input).stored ≡ k.stored
+heard_rows : (k : NodeState) (input : Input) → (heard k input).stored ≡ k.stored
 heard_rows k (inputs.Message m) = refl
 heard_rows k _ = refl
 
 -- what a turn sends, by its record
-pub turn_tells : (p : Place) (k : Kept) (u : Turn) → Serves p k u
+pub turn_tells : (p : Place) (k : NodeState) (u : Turn) → Serves p k u
     → AllByRecursion (λ m. MayTell k.stored.durable.kept (deed_of p k u.input).wrote m.from m.kind) (map (stamped (deed_of p k u.input).after.clock) (deed_of p k u.input).says)
 turn_tells p k u serving =
     let d : Deed = deed_of p k u.input in
     all_map (λ (m : Msg). MayTell k.stored.durable.kept d.wrote m.from m.kind) (stamped d.after.clock) d.says
     (subst (λ s. Told s.durable.kept d.wrote d.says) (heard_rows k u.input) (step_tells p u.input serving.step))
 
-sent_so : (p : Place) (k : Kept) (u : Turn) → Serves p k u → AllByRecursion (λ m. MayTell k.stored.durable.kept (turn_of p k u.input).wrote m.from m.kind) u.sent
+sent_so : (p : Place) (k : NodeState) (u : Turn) → Serves p k u → AllByRecursion (λ m. MayTell k.stored.durable.kept (turn_of p k u.input).wrote m.from m.kind) u.sent
 unfolding turn_of
 sent_so p k u serving = of_sent p k u serving (λ w ms. AllByRecursion (λ m. MayTell k.stored.durable.kept (deed_of p k u.input).wrote m.from m.kind) ms) tt (turn_tells p k u serving)
 

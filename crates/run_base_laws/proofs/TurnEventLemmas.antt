@@ -10,7 +10,7 @@ use Rattle.node_rules.specs.Data.{BranchId, Standing, RedoRecord, Place, Input}
 use Rattle.node_rules.specs.Data.inputs
 use Rattle.node_rules.specs.Data.records
 use Rattle.node_rules.specs.Words.{numbered}
-use Rattle.node_rules.specs.Kept.{Kept, Deed, live_id}
+use Rattle.node_rules.specs.NodeState.{NodeState, Deed, live_id}
 use Rattle.node_rules.specs.Records.{nothing_stored, stored_by}
 use Rattle.node_rules.specs.Turn.{turn_of, heard, deed_of, stamped}
 use Rattle.run_rules.specs.Data.{Turn, Command}
@@ -51,15 +51,15 @@ all_both P Q [] first second = tt
 all_both P Q (x ∷ xs) first second = ((first.0, second.0), all_both P Q xs first.1 second.1)
 
 -- a node that hears is as before, but for its clock
-heard_fits : (t : List Event) (n boot : ℕ) (k : Kept) (input : Input) → Fits t n boot k → Fits t n boot (heard k input)
+heard_fits : (t : List Event) (n boot : ℕ) (k : NodeState) (input : Input) → Fits t n boot k → Fits t n boot (heard k input)
 heard_fits t n boot k (inputs.Message m) fits = record { started = fits.started; lives = fits.lives; rows = fits.rows; many = fits.many; told = fits.told; given = fits.given }
 heard_fits t n boot k _ fits = fits
 
-heard_own : (n : ℕ) (k : Kept) (input : Input) → Own n k → Own n (heard k input)
+heard_own : (n : ℕ) (k : NodeState) (input : Input) → Own n k → Own n (heard k input)
 heard_own n k (inputs.Message m) own = own
 heard_own n k _ own = own
 
-heard_given : (boot : ℕ) (b : BranchId) (k : Kept) (input : Input) → Given boot (seqs k.sessions) (length k.opens) b → Given boot (seqs (heard k input).sessions) (length (heard k input).opens) b
+heard_given : (boot : ℕ) (b : BranchId) (k : NodeState) (input : Input) → Given boot (seqs k.sessions) (length k.opens) b → Given boot (seqs (heard k input).sessions) (length (heard k input).opens) b
 heard_given boot b k (inputs.Message m) given = given
 heard_given boot b k _ given = given
 
@@ -75,14 +75,14 @@ wrote_both P Q (Some r) of ends = ends_both P Q r of ends
 
 module _ (places : List Place) (asked : List Command) (each : (n : ℕ) (p : Place) → numbered places n ≡ Some p → IsPlace places n p) where
   -- the place of a node that is up has its number
-  pub number_is : (f : Facts) (n : ℕ) (k : Kept) → length f.nodes ≡ length places → node_at f n ≡ Some k → (place_at places n).number ≡ n
+  pub number_is : (f : Facts) (n : ℕ) (k : NodeState) → length f.nodes ≡ length places → node_at f n ≡ Some k → (place_at places n).number ≡ n
   number_is f n k many up =
       let p = there_too f.nodes places n (Some k) many (flat_some (numbered f.nodes n) k up) in
       let it : place_at places n ≡ p.0 = ap (λ o. unwrap_or o no_place) p.1 in
       ap (λ q. q.number) it ∙ (each n p.0 p.1).number
 
-  module _ (f : Facts) (t : List Event) (u : Turn) (k : Kept) (now : NodesStand places f t) (even : length f.nodes ≡ length f.records)
-      (node : (m : ℕ) (x : Kept) → node_at f m ≡ Some x → Node (records_at f m) x) (owns : (m : ℕ) (x : Kept) → node_at f m ≡ Some x → OwnAt (place_at places m) (records_at f m) x)
+  module _ (f : Facts) (t : List Event) (u : Turn) (k : NodeState) (now : NodesStand places f t) (even : length f.nodes ≡ length f.records)
+      (node : (m : ℕ) (x : NodeState) → node_at f m ≡ Some x → Node (records_at f m) x) (owns : (m : ℕ) (x : NodeState) → node_at f m ≡ Some x → OwnAt (place_at places m) (records_at f m) x)
       (may : MayTurn places f u k) where
     abbrev n : ℕ
     n = u.node
@@ -109,7 +109,7 @@ module _ (places : List Place) (asked : List Command) (each : (n : ℕ) (p : Pla
     is : p.number ≡ n
     is = number_is f n k now.many may.up
 
-    own : (m : ℕ) (x : Kept) → node_at f m ≡ Some x → Own m x
+    own : (m : ℕ) (x : NodeState) → node_at f m ≡ Some x → Own m x
     own m x up = subst (λ i. Own i x) (number_is f m x now.many up) (owns m x up).1
 
     told_all : AllByRecursion (λ l. Given (boots rs) (seqs k.sessions) (length k.opens) l.me) k.lives
@@ -215,7 +215,7 @@ module _ (places : List Place) (asked : List Command) (each : (n : ℕ) (p : Pla
       ]
     ]
 
-    lives_elsewhere : (m : ℕ) → m ≢ n → (o : Option Kept) → node_at f m ≡ o → IfSome o (λ x. AllByRecursion (λ l. exit t l.me ≡ None) x.lives) → IfSome o (λ x. AllByRecursion (λ l. exit r l.me ≡ None) x.lives)
+    lives_elsewhere : (m : ℕ) → m ≢ n → (o : Option NodeState) → node_at f m ≡ o → IfSome o (λ x. AllByRecursion (λ l. exit t l.me ≡ None) x.lives) → IfSome o (λ x. AllByRecursion (λ l. exit r l.me ≡ None) x.lives)
     lives_elsewhere m other None at all = tt
     lives_elsewhere m other (Some x) at all =
         all_weaker _ _ (λ l so. none_after l.me

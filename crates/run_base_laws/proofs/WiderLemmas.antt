@@ -5,7 +5,7 @@ use Rattle.node_rules.specs.Data.{BranchId, Kind, Edge, Standing, Live, RedoReco
 use Rattle.node_rules.specs.Data.kinds
 use Rattle.node_rules.specs.Data.records
 use Rattle.redo_record.specs.Rows.{sealed_as, decided_as}
-use Rattle.node_rules.specs.Kept.{Kept}
+use Rattle.node_rules.specs.NodeState.{NodeState}
 use Rattle.run_rules.specs.Births.{Born}
 use Rattle.run_base_laws.specs.BirthLaws.{IsChild, IsChildAt, AreNeighbors, StandsBelow, ChildrenAre, LiveIs, TowardIs, KeptIs, OpeningIs, NamesAre, RecordNames, GoesSo}
 use Rattle.run_rules.proofs.ListLemmas.{all_weaker}
@@ -60,14 +60,14 @@ module _ (B C : Born → Type 0) (each : (x : Born) → B x → C x) where
   record_wider (records.Decided r) is = row_wider (decided_as r) is
   record_wider _ is = tt
 
-  pub names_wider : (k : Kept) → NamesAre B k → NamesAre C k
+  pub names_wider : (k : NodeState) → NamesAre B k → NamesAre C k
   names_wider k is = (
     all_weaker (LiveIs B) (LiveIs C) live_wider k.lives is.0,
     all_weaker (KeptIs B) (KeptIs C) row_wider k.stored.durable.kept is.1,
     all_weaker (OpeningIs B) (OpeningIs C) (λ o at. child_at_wider o.child o.parent o.edge at) k.opens is.2,
   )
 
-  pub node_wider : (o : Option Kept) → IfSome o (NamesAre B) → IfSome o (NamesAre C)
+  pub node_wider : (o : Option NodeState) → IfSome o (NamesAre B) → IfSome o (NamesAre C)
   node_wider None is = tt
   node_wider (Some k) is = names_wider k is
 

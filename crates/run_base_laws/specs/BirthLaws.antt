@@ -6,7 +6,7 @@ use Rattle.node_rules.specs.Data.{BranchId, Kind, Edge, Live, Kid, Standing, Ope
 use Rattle.node_rules.specs.Data.kinds
 use Rattle.node_rules.specs.Data.records
 use Rattle.redo_record.specs.Rows.{sealed_as, decided_as}
-use Rattle.node_rules.specs.Kept.{Kept}
+use Rattle.node_rules.specs.NodeState.{NodeState}
 use Rattle.agreement.specs.Events.{exit}
 use Rattle.run_rules.specs.Branches.{is_among}
 use Rattle.run_rules.specs.Facts.{node_at, records_at}
@@ -87,7 +87,7 @@ abbrev pub OpeningIs : (Born → Type 0) → Opening → Type 0
 OpeningIs B o = IsChildAt B o.child o.parent o.edge
 
 -- what a node keeps
-abbrev pub NamesAre : (Born → Type 0) → Kept → Type 0
+abbrev pub NamesAre : (Born → Type 0) → NodeState → Type 0
 NamesAre B k = AllByRecursion (LiveIs B) k.lives × AllByRecursion (KeptIs B) k.stored.durable.kept × AllByRecursion (OpeningIs B) k.opens
 
 -- the branches that a record names
@@ -132,7 +132,7 @@ BirthsAreTrees = (t : History) → IsLawfulRun t → AllByRecursion (λ x. Stand
 -- The live branches of a node, its rows and the branches that were opened there are as they began, with the parent, the root
 -- and the children that they say.
 abbrev pub NodesNameTheBorn : Type 0
-NodesNameTheBorn = (t : History) → IsLawfulRun t → (n : ℕ) (k : Kept) → node_at (facts_at t) n ≡ Some k → NamesAre (Began (births_of t)) k
+NodesNameTheBorn = (t : History) → IsLawfulRun t → (n : ℕ) (k : NodeState) → node_at (facts_at t) n ≡ Some k → NamesAre (Began (births_of t)) k
 
 -- So are the rows that its records make.
 abbrev pub RecordsNameTheBorn : Type 0

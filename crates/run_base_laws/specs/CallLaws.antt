@@ -9,7 +9,7 @@ use Rattle.node_rules.specs.declared.session.PendingCall.TheVariants as pending
 use Rattle.node_rules.specs.declared.session.Session.{Session}
 use Rattle.node_rules.specs.declared.work.Going.{Going}
 use Rattle.node_rules.specs.declared.work.Work.{Work}
-use Rattle.node_rules.specs.Kept.{Kept, Branch, live_at, branch_at}
+use Rattle.node_rules.specs.NodeState.{NodeState, Branch, live_at, branch_at}
 use Rattle.node_rules.specs.Sessions.{session_at}
 use Rattle.run_rules.specs.Data.{Happening}
 use Rattle.run_rules.specs.Data.happenings
@@ -49,7 +49,7 @@ RootsWait = OfEachNode (λ p rs k. (x : Branch) → branch_at k x.live.me ≡ So
 
 -- what a client's call finds: the live root of its session is working, and waits for nothing
 abbrev pub ComesAtRest : List Place → Facts → Happening → Type 0
-ComesAtRest places f (happenings.Turn u) = (k : Kept) → node_at f u.node ≡ Some k → (n : ℕ) (s : Option Stmt) → u.input ≡ inputs.Call n s
+ComesAtRest places f (happenings.Turn u) = (k : NodeState) → node_at f u.node ≡ Some k → (n : ℕ) (s : Option Stmt) → u.input ≡ inputs.Call n s
     → (x : Branch) → (session_at k.sessions n).root ≡ Some x.live.me → branch_at k x.live.me ≡ Some x → (x.live.phase ≡ phases.Working) × (x.work.going ≡ None)
 ComesAtRest places f _ = Unit {0}
 

@@ -2,7 +2,7 @@
 use Rattle.std.specs.Prelude.{◌≡◌, ℕ, ◌⊎◌, List, [], ◌∷◌, Some, None, IfSome}
 use Rattle.std.specs.List.{AllByRecursion}
 use Rattle.node_rules.specs.Data.{BranchId, Place}
-use Rattle.node_rules.specs.Kept.{Kept}
+use Rattle.node_rules.specs.NodeState.{NodeState}
 use Rattle.node_rules.specs.Turn.{Is_gone, stand_of}
 use Rattle.node_rules.specs.Records.{nothing_stored, stored_by}
 use Rattle.run_rules.specs.Data.{Happening, Command}
@@ -34,7 +34,7 @@ JustRunsAgree = (r : History) → IsJustRun r → Agreement (trace_book r.trace)
 
 -- In every lawful run the live branches of a node have no exit, and its rows stand as the events say.
 abbrev pub NodesAreAsEvents : Type 0
-NodesAreAsEvents = (t : History) → IsLawfulRun t → (n : ℕ) (k : Kept) → node_at (facts_at t) n ≡ Some k
+NodesAreAsEvents = (t : History) → IsLawfulRun t → (n : ℕ) (k : NodeState) → node_at (facts_at t) n ≡ Some k
     → AllByRecursion (λ l. exit (events_of t) l.me ≡ None) k.lives × RowsAre (events_of t) k.stored.durable.kept
 
 -- each of these happenings is so, by the facts and the events before it
@@ -62,5 +62,5 @@ SealedAreKept = (t : History) → IsLawfulRun t → (b : BranchId) (n : ℕ) →
 
 -- In every lawful run a sealed branch of which its node knows nothing learned a rollback or forgot.
 abbrev pub GoneAreDone : Type 0
-GoneAreDone = (t : History) → IsLawfulRun t → (b : BranchId) (k : Kept) → node_at (facts_at t) b.node ≡ Some k → stand_of k b ≡ Is_gone
+GoneAreDone = (t : History) → IsLawfulRun t → (b : BranchId) (k : NodeState) → node_at (facts_at t) b.node ≡ Some k → stand_of k b ≡ Is_gone
     → (n : ℕ) → exit (events_of t) b ≡ Some (Sealed n) → IsDone (events_of t) b

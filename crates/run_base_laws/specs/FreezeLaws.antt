@@ -4,7 +4,7 @@ use Rattle.std.specs.List.{list_any}
 use Rattle.node_rules.specs.Data.{BranchId, Post}
 use Rattle.node_rules.specs.Data.phases
 use Rattle.node_rules.specs.Words.{same}
-use Rattle.node_rules.specs.Kept.{Kept, Branch, branch_at}
+use Rattle.node_rules.specs.NodeState.{NodeState, Branch, branch_at}
 use Rattle.run_rules.specs.Trail.{is_prepare}
 use Rattle.session_tree.specs.Live.{children_of}
 use Rattle.node_rules.specs.Data.{Place}
@@ -27,13 +27,13 @@ AskedHaveAnswered = (t : History) → IsLawfulRun t → (p c : BranchId) → was
 -- In every lawful run a live branch that is working has asked no child. One that is not waits for nothing; below a root its parent
 -- asked it, and it took the last of its parent's calls.
 abbrev pub AskedStandStill : Type 0
-AskedStandStill = (t : History) → IsLawfulRun t → (n : ℕ) (k : Kept) → node_at (facts_at t) n ≡ Some k → (x : Branch) → branch_at k x.live.me ≡ Some x
+AskedStandStill = (t : History) → IsLawfulRun t → (n : ℕ) (k : NodeState) → node_at (facts_at t) n ≡ Some k → (x : Branch) → branch_at k x.live.me ≡ Some x
     → (x.live.phase ≡ phases.Working → (c : BranchId) → was_asked (said_in (facts_at t)) x.live.me c ≡ false)
     × (x.live.phase ≢ phases.Working → (x.work.going ≡ None) × ((p : BranchId) → x.live.parent ≡ Some p → (was_asked (said_in (facts_at t)) p x.live.me ≡ true) × (newest_exec (said_in (facts_at t)) p x.live.me ≡ x.work.came.last_call)))
 
 -- In every lawful run the live receiver of a Prepare waits for nothing, and took the last of its parent's calls.
 abbrev pub PrepareFindsRest : Type 0
-PrepareFindsRest = (t : History) → IsLawfulRun t → (p : BranchId) (n : ℕ) (k : Kept) → node_at (facts_at t) n ≡ Some k → (x : Branch) → branch_at k x.live.me ≡ Some x
+PrepareFindsRest = (t : History) → IsLawfulRun t → (p : BranchId) (n : ℕ) (k : NodeState) → node_at (facts_at t) n ≡ Some k → (x : Branch) → branch_at k x.live.me ≡ Some x
     → was_asked (said_in (facts_at t)) p x.live.me ≡ true → (x.live.parent ≡ Some p) × (x.work.going ≡ None) × (newest_exec (said_in (facts_at t)) p x.live.me ≡ x.work.came.last_call)
 
 -- ---- what a turn leaves of such a branch
@@ -50,7 +50,7 @@ pub record StandsStill (x y : Branch) : Type 0 where
 
 -- a turn leaves a live branch so that is not working, where it stays live
 abbrev pub LeavesStill : List Place → Facts → Happening → Type 0
-LeavesStill places f (happenings.Turn u) = (k : Kept) → node_at f u.node ≡ Some k → (x y : Branch) → branch_at k x.live.me ≡ Some x → x.live.phase ≢ phases.Working
+LeavesStill places f (happenings.Turn u) = (k : NodeState) → node_at f u.node ≡ Some k → (x y : Branch) → branch_at k x.live.me ≡ Some x → x.live.phase ≢ phases.Working
     → y.live.me ≡ x.live.me → branch_at (turn_of (place_at places u.node) k u.input).after y.live.me ≡ Some y → StandsStill x y
 LeavesStill places f _ = Unit {0}
 

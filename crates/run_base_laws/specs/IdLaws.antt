@@ -4,7 +4,7 @@ use Rattle.std.specs.Prelude.{◌≡◌, ℕ, List, Some}
 use Rattle.std.specs.List.{AllByRecursion}
 use Rattle.node_rules.specs.Data.{BranchId, RedoRecord}
 use Rattle.node_rules.specs.Data.records
-use Rattle.node_rules.specs.Kept.{Kept}
+use Rattle.node_rules.specs.NodeState.{NodeState}
 use Rattle.run_rules.specs.Facts.{node_at, records_at}
 use Rattle.run_rules.specs.Lawful.{History, IsLawfulRun, facts_at}
 
@@ -20,7 +20,7 @@ IsRecordOf P (records.Hidden b) = P b
 IsRecordOf P _ = Unit {0}
 
 -- What a node keeps is of its own branches.
-pub record AreOwn (n : ℕ) (rs : List RedoRecord) (k : Kept) : Type 0 where
+pub record AreOwn (n : ℕ) (rs : List RedoRecord) (k : NodeState) : Type 0 where
   pub lives : AllByRecursion (λ l. l.me.node ≡ n) k.lives
   pub rows : AllByRecursion (λ s. s.me.node ≡ n) k.stored.durable.kept
   pub opens : AllByRecursion (λ o. o.child.node ≡ n) k.opens
@@ -28,4 +28,4 @@ pub record AreOwn (n : ℕ) (rs : List RedoRecord) (k : Kept) : Type 0 where
 
 -- In every lawful run the branches of a node name it.
 abbrev pub IdsNameTheirNode : Type 0
-IdsNameTheirNode = (t : History) → IsLawfulRun t → (n : ℕ) (k : Kept) → node_at (facts_at t) n ≡ Some k → AreOwn n (records_at (facts_at t) n) k
+IdsNameTheirNode = (t : History) → IsLawfulRun t → (n : ℕ) (k : NodeState) → node_at (facts_at t) n ≡ Some k → AreOwn n (records_at (facts_at t) n) k

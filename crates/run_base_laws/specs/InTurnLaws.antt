@@ -8,7 +8,7 @@ use Rattle.node_rules.specs.declared.work.Going.{Going}
 use Rattle.node_rules.specs.declared.work.Work.{Work}
 use Rattle.node_rules.specs.Words.{same, numbered}
 use Rattle.session_tree.specs.Live.{children_of}
-use Rattle.node_rules.specs.Kept.{Kept, Branch, branch_at}
+use Rattle.node_rules.specs.NodeState.{NodeState, Branch, branch_at}
 use Rattle.node_rules.specs.Sessions.{session_at}
 use Rattle.run_rules.specs.Data.{Packet}
 use Rattle.run_rules.specs.Facts.{Facts, node_at}
@@ -77,7 +77,7 @@ pub record MakesInTurn (said : List Post) (goes_on : Type 0) (me : BranchId) (pe
   pub heard : goes_on → (i : ℕ) (c : BranchId) → numbered peers i ≡ Some c → WaitsFor i w.going ⊎ (call_at w i ≤ newest_reply said c)
 
 -- a root's transaction needs no rollback
-abbrev pub GoesOn : Kept → Live → Type 0
+abbrev pub GoesOn : NodeState → Live → Type 0
 GoesOn k l = l.parent ≡ None → (session_at k.sessions l.me.session).code ≡ None
 
 -- ---- laws of every lawful run
@@ -88,7 +88,7 @@ CallsAreAnswered = (t : History) → IsLawfulRun t → (a b : BranchId) → newe
 
 -- Each live branch takes and answers its parent's calls, and makes its own, in turn.
 abbrev pub BranchesCallInTurn : Type 0
-BranchesCallInTurn = (t : History) → IsLawfulRun t → (n : ℕ) (k : Kept) → node_at (facts_at t) n ≡ Some k → (x : Branch) → branch_at k x.live.me ≡ Some x
+BranchesCallInTurn = (t : History) → IsLawfulRun t → (n : ℕ) (k : NodeState) → node_at (facts_at t) n ≡ Some k → (x : Branch) → branch_at k x.live.me ≡ Some x
     → TakesInTurn (said_in (facts_at t)) x.live.me x.live.parent x.work × MakesInTurn (said_in (facts_at t)) (GoesOn k x.live) x.live.me (children_of x.live) x.work
 
 -- Between a live branch and its live child: the child took the last call, or is about to and waits for nothing. Where the
@@ -99,6 +99,6 @@ pub record EdgeFits (goes_on : Type 0) (x : Work) (i : ℕ) (y : Work) : Type 0 
 
 -- In every lawful run this is so of each live branch and each live child.
 abbrev pub EdgesFit : Type 0
-EdgesFit = (t : History) → IsLawfulRun t → (n : ℕ) (k : Kept) → node_at (facts_at t) n ≡ Some k → (x : Branch) → branch_at k x.live.me ≡ Some x
-    → (i : ℕ) (c : BranchId) → numbered (children_of x.live) i ≡ Some c → (m : ℕ) (j : Kept) → node_at (facts_at t) m ≡ Some j → (y : Branch) → branch_at j y.live.me ≡ Some y → y.live.me ≡ c
+EdgesFit = (t : History) → IsLawfulRun t → (n : ℕ) (k : NodeState) → node_at (facts_at t) n ≡ Some k → (x : Branch) → branch_at k x.live.me ≡ Some x
+    → (i : ℕ) (c : BranchId) → numbered (children_of x.live) i ≡ Some c → (m : ℕ) (j : NodeState) → node_at (facts_at t) m ≡ Some j → (y : Branch) → branch_at j y.live.me ≡ Some y → y.live.me ≡ c
     → EdgeFits (GoesOn k x.live) x.work i y.work

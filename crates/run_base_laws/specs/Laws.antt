@@ -4,7 +4,7 @@ use Rattle.node_rules.specs.Data.{Place}
 use Rattle.run_rules.specs.Data.{Happening, Command}
 use Rattle.run_rules.specs.Entries.{book_of}
 use Rattle.run_rules.specs.Facts.{Facts, facts_of}
-use Rattle.run_rules.specs.Telling.{Past}
+use Rattle.run_rules.specs.RunReport.{Past}
 use Rattle.run_rules.specs.Past.{past}
 use Rattle.run_rules.specs.Lawful.{IsLawful, MayHappen}
 use Rattle.run_rules.specs.Due.{IsTheRun, happened, runs_on}

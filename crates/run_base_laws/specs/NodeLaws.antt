@@ -7,7 +7,7 @@ use Rattle.node_rules.specs.Data.decisions
 use Rattle.node_rules.specs.Data.kinds
 use Rattle.node_rules.specs.Data.records
 use Rattle.node_rules.specs.Words.{is_item_of}
-use Rattle.node_rules.specs.Kept.{Kept, Stored, live_id, doubt_id, standing_id}
+use Rattle.node_rules.specs.NodeState.{NodeState, Stored, live_id, doubt_id, standing_id}
 use Rattle.node_rules.specs.Records.{nothing_stored, stored_by}
 use Rattle.node_rules.specs.Turn.{turn_of}
 use Rattle.run_rules.specs.Data.{Command, Happening}
@@ -26,8 +26,8 @@ abbrev pub AtEachFact : (List Place → Facts → Happening → Type 0) → Hist
 AtEachFact So t = EachFactFrom (So t.places) t.places t.commands (first_facts t.places) t.trace
 
 -- of each node of a lawful run that is up
-abbrev pub OfEachNode : (Place → List RedoRecord → Kept → Type 0) → Type 0
-OfEachNode So = (t : History) → IsLawfulRun t → (n : ℕ) (k : Kept) → node_at (facts_at t) n ≡ Some k → So (place_at t.places n) (records_at (facts_at t) n) k
+abbrev pub OfEachNode : (Place → List RedoRecord → NodeState → Type 0) → Type 0
+OfEachNode So = (t : History) → IsLawfulRun t → (n : ℕ) (k : NodeState) → node_at (facts_at t) n ≡ Some k → So (place_at t.places n) (records_at (facts_at t) n) k
 
 -- ---- the clock
 
@@ -39,7 +39,7 @@ IsLater clock _ = Unit {0}
 
 -- a turn of a node never sets its clock back, and its record comes later
 abbrev pub ClockRises : List Place → Facts → Happening → Type 0
-ClockRises places f (happenings.Turn u) = (k : Kept) → node_at f u.node ≡ Some k → (k.clock ≤ (turn_of (place_at places u.node) k u.input).after.clock) × IfSome u.wrote (IsLater k.clock)
+ClockRises places f (happenings.Turn u) = (k : NodeState) → node_at f u.node ≡ Some k → (k.clock ≤ (turn_of (place_at places u.node) k u.input).after.clock) × IfSome u.wrote (IsLater k.clock)
 ClockRises places f _ = Unit {0}
 
 -- in every lawful run clocks rise
@@ -53,7 +53,7 @@ ClocksCover = OfEachNode (λ p rs k. k.stored.scn ≤ k.clock)
 -- ---- the locks
 
 -- whether a branch is live at a node, or in doubt
-abbrev pub may_hold : Kept → BranchId → Bool
+abbrev pub may_hold : NodeState → BranchId → Bool
 may_hold k b = list_any (is_item_of live_id b) k.lives || list_any (is_item_of doubt_id b) k.stored.doubts
 
 -- each lock is held by such a branch
@@ -106,7 +106,7 @@ MayTell rows w b _ = Unit {0}
 
 -- each message of a turn may be told
 abbrev pub TellsItsOwn : List Place → Facts → Happening → Type 0
-TellsItsOwn places f (happenings.Turn u) = (k : Kept) → node_at f u.node ≡ Some k → AllByRecursion (λ m. MayTell k.stored.durable.kept (turn_of (place_at places u.node) k u.input).wrote m.from m.kind) u.sent
+TellsItsOwn places f (happenings.Turn u) = (k : NodeState) → node_at f u.node ≡ Some k → AllByRecursion (λ m. MayTell k.stored.durable.kept (turn_of (place_at places u.node) k u.input).wrote m.from m.kind) u.sent
 TellsItsOwn places f _ = Unit {0}
 
 -- in every lawful run Committed is told by branches that know the commit

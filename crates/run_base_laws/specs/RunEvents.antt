@@ -7,7 +7,7 @@ use Rattle.node_rules.specs.Data.records
 use Rattle.node_rules.specs.Data.kinds
 use Rattle.run_rules.specs.Data.{Turn, Happening, Command}
 use Rattle.run_rules.specs.Data.happenings
-use Rattle.node_rules.specs.Kept.{Kept, live_id}
+use Rattle.node_rules.specs.NodeState.{NodeState, live_id}
 use Rattle.run_rules.specs.Facts.{Facts, first_facts, node_at, facts_after}
 use Rattle.run_rules.specs.Branches.{is_among}
 use Rattle.run_rules.specs.Trail.{is_quiet}
@@ -52,7 +52,7 @@ with_messages [] t = t
 with_messages (m ∷ ms) t = with_messages ms (with_event (message_event m.from m.to m.scn m.kind) t)
 
 -- the live branches of a node
-abbrev pub lives_at : Option Kept → List BranchId
+abbrev pub lives_at : Option NodeState → List BranchId
 lives_at None = []
 lives_at (Some k) = map live_id k.lives
 

@@ -10,7 +10,7 @@ use Rattle.node_rules.specs.declared.work.Going.{Going}
 use Rattle.node_rules.specs.Data.acts
 use Rattle.node_rules.specs.declared.session.PendingCall.TheVariants as pending
 use Rattle.session_tree.specs.Live.{new_edge}
-use Rattle.node_rules.specs.Kept.{Kept, Branch, Deed, live_id, branch_at, with_branch, with_live, without_branch}
+use Rattle.node_rules.specs.NodeState.{NodeState, Branch, Deed, live_id, branch_at, with_branch, with_live, without_branch}
 use Rattle.node_rules.specs.Statement.{ran, after_run}
 use Rattle.node_rules.specs.Calls.{kept_reply, with_answer, called, with_edge, hears_reply, reply_going, reply_of}
 use Rattle.node_rules.specs.Prepare.{with_prepare_sent, ready, has_voted}
@@ -52,7 +52,7 @@ none_while o r g is waiting = waiting (λ none. absurd (cc (is, none)))
 
 -- ---- nodes
 
-abbrev Nodes : Kept → Type 0
+abbrev Nodes : NodeState → Type 0
 Nodes k = EachLive Fits k.lives k.works
 
 -- What is known before a statement goes on.
@@ -61,7 +61,7 @@ pub record Ready (x : Branch) : Type 0 where
   pub none : x.work.came.reply ≡ None
   pub mine : x.work.branch ≡ x.live.me
 
-module _ (k : Kept) (sessions : SessionsFit k) (now : Nodes k) where
+module _ (k : NodeState) (sessions : SessionsFit k) (now : Nodes k) where
   branch_fits : (b : BranchId) (x : Branch) → branch_at k b ≡ Some x → Fits x.live x.work
   branch_fits b x found = let parts = branch_parts k b x found in subst (CallsFit x.live.parent x.live.edges) (sym parts.1) (now.each b x.live parts.0)
 
@@ -109,7 +109,7 @@ as_many_set : (x : Branch) (i : ℕ) (weight : Option ℕ) (count : ℕ) (e : Ed
 as_many_set x i weight count e = set_length x.live.edges i _
 
 -- each step keeps it
-calls_on : (p : Place) (input : Input) {k : Kept} {d : Deed} → Step p input k d → SessionsFit k → Nodes k → Nodes d.after
+calls_on : (p : Place) (input : Input) {k : NodeState} {d : Deed} → Step p input k d → SessionsFit k → Nodes k → Nodes d.after
 calls_on p input (steps.Begins {k = k} n s call rows fit none step) ss now =
     calls_on p input step (begun_so k ss p n) (each_begun Fits Fits k.lives k.works now _ (unanswered _ _ _ refl refl) (λ y v live any so. so))
 calls_on p input (steps.Pends {k = k} n l given call has live code step) ss now = calls_on p input step (pends_so k ss n pending.Commit) now
@@ -159,7 +159,7 @@ calls_on p input (steps.Gives_up_commit {k = k} n b (Some l) gives has calls liv
 calls_on p input (steps.Gives_up_commit n b None gives has calls live) ss now = now
 calls_on p input _ ss now = now
 
-abbrev pub CallsSo : Kept → Type 0
+abbrev pub CallsSo : NodeState → Type 0
 CallsSo k = SessionsFit k × Nodes k
 
 pub calls_keep : KeepsAlone CallsSo

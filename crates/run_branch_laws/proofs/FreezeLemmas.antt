@@ -8,7 +8,7 @@ use Rattle.node_rules.specs.Data.phases
 use Rattle.node_rules.specs.Data.acts
 use Rattle.node_rules.specs.Words.{same, numbered}
 use Rattle.node_rules.specs.Prepare.{prepares}
-use Rattle.node_rules.specs.Kept.{Kept}
+use Rattle.node_rules.specs.NodeState.{NodeState}
 use Rattle.node_rules.proofs.Steps as steps
 use Rattle.node_rules.proofs.Steps.{Acting, Collected}
 use Rattle.run_rules.specs.Trail.{is_prepare}
@@ -117,7 +117,7 @@ working_or phases.Ready = inr (λ is. absurd cc)
 -- ---- phases
 
 -- a branch that acts is not working any more
-pub acting_phase : {k : Kept} {input : Input} {l : Live} {site_below : Bool} {a : Act} → Acting k input l site_below a → l.phase ≢ phases.Working
+pub acting_phase : {k : NodeState} {input : Input} {l : Live} {site_below : Bool} {a : Act} → Acting k input l site_below a → l.phase ≢ phases.Working
 acting_phase (steps.Asks_down l comment site_below e es live begins has) is = absurd cc
 acting_phase (steps.Has_no_children l comment site_below a live begins none collected) is = absurd cc
 acting_phase (steps.Hears_abort l from site_below live answers) is = (let at : l.phase ≡ phases.Collecting site_below = answers.collecting in absurd (cc (at, is)))

@@ -9,7 +9,7 @@ use Rattle.node_rules.specs.declared.session.PendingCall.{PendingCall}
 use Rattle.node_rules.specs.declared.session.PendingCall.TheVariants as pending
 use Rattle.node_rules.specs.declared.work.Going.{Going}
 use Rattle.node_rules.specs.Words.{numbered, set_numbered}
-use Rattle.node_rules.specs.Kept.{Kept, Branch, Deed, live_id, live_at, branch_at}
+use Rattle.node_rules.specs.NodeState.{NodeState, Branch, Deed, live_id, live_at, branch_at}
 use Rattle.node_rules.specs.Sessions.{session_at}
 use Rattle.node_rules.specs.Turn.{turn_of, start_of, made, heard, deed_of}
 use Rattle.node_rules.proofs.StandLemmas.{live_so}
@@ -48,7 +48,7 @@ use Rattle.run_branch_laws.proofs.FreezeLemmas.{AskedAnswered, Frozen, stays_fro
 use Rattle.run_branch_laws.proofs.FreezeStepLemmas.{Ice, Prepared, Unasking, Freezes, freezes_on}
 
 -- what is known of a node's live branches
-abbrev pub NodeFrozen : List Post → Kept → Type 0
+abbrev pub NodeFrozen : List Post → NodeState → Type 0
 NodeFrozen said k = EachLive (λ l w. Frozen said l) k.lives k.works
 
 -- Branches that were asked stand still everywhere.
@@ -64,13 +64,13 @@ goes_working pending.Statement phase o is waits = is
 goes_working pending.Commit phase o is waits = absurd (waits is)
 
 -- the messages of other nodes leave it so
-frozen_stay : (said says : List Post) (k : Kept) → ((b : BranchId) (l : Live) → live_at k b ≡ Some l → (c : BranchId) → was_asked says l.me c ≡ false) → NodeFrozen said k → NodeFrozen (said ++ says) k
+frozen_stay : (said says : List Post) (k : NodeState) → ((b : BranchId) (l : Live) → live_at k b ≡ Some l → (c : BranchId) → was_asked says l.me c ≡ false) → NodeFrozen said k → NodeFrozen (said ++ says) k
 frozen_stay said says k none now =
     each_same (λ l w. Frozen said l) (λ l w. Frozen (said ++ says) l) k.lives k.works now (λ y v live any is. stays_frozen said says y.me y.parent y.phase (λ c. none y.me y live c) is)
 
 module _ (places : List Place) (asked : List Command) (each : (n : ℕ) (p : Place) → numbered places n ≡ Some p → IsPlace places n p) where
   module _ (f : Facts) (t : List Event) (bs : List Born) (stand : StandBorn places asked each f t bs) (roots : RootsStand places asked each f) (turned : CallsStand f) (now : FreezeStand f) where
-    module _ (u : Turn) (k : Kept) (may : MayTurn places f u k) where
+    module _ (u : Turn) (k : NodeState) (may : MayTurn places f u k) where
       abbrev n : ℕ
       n = u.node
 
@@ -138,7 +138,7 @@ module _ (places : List Place) (asked : List Command) (each : (n : ℕ) (p : Pla
       other_node : (m : ℕ) → m ≢ n → IfSome (node_at g m) (NodeFrozen (said ++ d.says))
       other_node m other = subst (λ o. IfSome o (NodeFrozen (said ++ d.says))) (sym (turn_elsewhere places asked f stand.0.0.even u m (λ e. other (sym e))).0) (by (node_at f m) refl (now.nodes m))
         where
-          by : (o : Option Kept) → node_at f m ≡ o → IfSome o (NodeFrozen said) → IfSome o (NodeFrozen (said ++ d.says))
+          by : (o : Option NodeState) → node_at f m ≡ o → IfSome o (NodeFrozen said) → IfSome o (NodeFrozen (said ++ d.says))
           by None up old = tt
           by (Some j) up old = frozen_stay said d.says j (λ b l live c. freezes.1.1 l.me c (λ here. other (calls.elsewhere_is places asked each f t bs stand roots turned u k may m j up b l live here))) old
 
@@ -177,7 +177,7 @@ module _ (places : List Place) (asked : List Command) (each : (n : ℕ) (p : Pla
     start_frozen ms zs = none_live _
 
     -- a node that is set
-    set_node : (m i : ℕ) (o : Option Kept) → IfSome o (NodeFrozen (said_in f)) → IfSome (flat (numbered (set_numbered f.nodes m o) i)) (NodeFrozen (said_in f))
+    set_node : (m i : ℕ) (o : Option NodeState) → IfSome o (NodeFrozen (said_in f)) → IfSome (flat (numbered (set_numbered f.nodes m o) i)) (NodeFrozen (said_in f))
     set_node m i o new = elim (set_or_before f.nodes m i o) [
       | inl still ↦ subst (λ x. IfSome (flat x) (NodeFrozen (said_in f))) (sym still) (now.nodes i)
       | inr set ↦ subst (λ x. IfSome (flat x) (NodeFrozen (said_in f))) (sym set.1) new
@@ -198,7 +198,7 @@ module _ (places : List Place) (asked : List Command) (each : (n : ℕ) (p : Pla
     start_nodes m boot i = set_node m i (Some (start_of (with_boot f m boot))) (start_frozen _ _)
 
     still_nodes : (h : Happening) → (facts_after places asked f h).nodes ≡ f.nodes → (i : ℕ) → IfSome (node_at (facts_after places asked f h) i) (NodeFrozen (said_in f))
-    still_nodes h is i = subst (λ (xs : List (Option Kept)). IfSome (flat (numbered xs i)) (NodeFrozen (said_in f))) (sym is) (now.nodes i)
+    still_nodes h is i = subst (λ (xs : List (Option NodeState)). IfSome (flat (numbered xs i)) (NodeFrozen (said_in f))) (sym is) (now.nodes i)
 
     pub freeze_on : (h : Happening) → MayHappen places asked f h → FreezeStand (facts_after places asked f h)
     freeze_on (happenings.Turn u) may = turn_freezes u may.0 may.1 u.cut refl may.1.owed
@@ -235,7 +235,7 @@ pub asked_have_answered : AskedHaveAnswered
 asked_have_answered t lawful = (run_freezes t lawful).all
 
 -- a live branch that its parent asked
-rests_so : (t : History) → IsLawfulRun t → (n : ℕ) (k : Kept) → node_at (facts_at t) n ≡ Some k → (x : Branch) → branch_at k x.live.me ≡ Some x → (p : BranchId) → x.live.parent ≡ Some p → was_asked (said_in (facts_at t)) p x.live.me ≡ true
+rests_so : (t : History) → IsLawfulRun t → (n : ℕ) (k : NodeState) → node_at (facts_at t) n ≡ Some k → (x : Branch) → branch_at k x.live.me ≡ Some x → (p : BranchId) → x.live.parent ≡ Some p → was_asked (said_in (facts_at t)) p x.live.me ≡ true
     → (x.work.going ≡ None) × (newest_exec (said_in (facts_at t)) p x.live.me ≡ x.work.came.last_call)
 rests_so t lawful n k up x found p above asked =
     let said : List Post = said_in (facts_at t) in

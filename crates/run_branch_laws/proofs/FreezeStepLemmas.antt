@@ -17,7 +17,7 @@ use Rattle.node_rules.specs.declared.work.Work.{Work}
 use Rattle.node_rules.specs.declared.work.Going.{Going}
 use Rattle.node_rules.specs.Words.{same, numbered, item_at, put_item, drop_item}
 use Rattle.node_rules.specs.Inputs.{Came, IsCall}
-use Rattle.node_rules.specs.Kept.{Kept, Branch, Deed, live_id, work_id, live_at, branch_at, post, to_one, to_each, no_work}
+use Rattle.node_rules.specs.NodeState.{NodeState, Branch, Deed, live_id, work_id, live_at, branch_at, post, to_one, to_each, no_work}
 use Rattle.node_rules.specs.Sessions.{session_at}
 use Rattle.node_rules.specs.Names.{passed_on}
 use Rattle.node_rules.specs.Statement.{ran, after_run}
@@ -52,7 +52,7 @@ module _ (E : BranchId → Option ℕ) (A : BranchId → Option BranchId) (G Her
   abbrev Begun : Live → Work → Type 0
   Begun = turns.Begun E A G Here input said
 
-  abbrev Nodes : Kept → Type 0
+  abbrev Nodes : NodeState → Type 0
   Nodes k = EachLive Begun k.lives k.works
 
   -- What is known of a live branch as a turn begins.
@@ -61,7 +61,7 @@ module _ (E : BranchId → Option ℕ) (A : BranchId → Option BranchId) (G Her
     pub calls : l.parent ≡ None → (s : Stmt) → IsCall input l.me.session s → l.phase ≡ phases.Working
     pub goes : l.parent ≡ None → w.going ≢ None → l.phase ≡ phases.Working
 
-  abbrev pub Ices : Kept → Type 0
+  abbrev pub Ices : NodeState → Type 0
   Ices k = EachLive Ice k.lives k.works
 
   abbrev pub Then : List Post → Live → Work → Type 0
@@ -93,7 +93,7 @@ module _ (E : BranchId → Option ℕ) (A : BranchId → Option BranchId) (G Her
         let last : newest_reply said l.me ≡ w.came.last_call = omega (arith, low, was.turn.takes.taken q above, was.turn.takes.told) in
         was.turn.takes.rests (λ none. absurd (cc (above, none))) last
 
-    module _ (k : Kept) (ss : SessionsFit k) (now : Nodes k) (ice : Ices k) where
+    module _ (k : NodeState) (ss : SessionsFit k) (now : Nodes k) (ice : Ices k) where
       found_begun : (x : Branch) → branch_at k x.live.me ≡ Some x → Begun x.live x.work
       found_begun x live = turns.branch_begun E A G Here input said received k now x live
 
@@ -292,7 +292,7 @@ module _ (E : BranchId → Option ℕ) (A : BranchId → Option BranchId) (G Her
 
     -- ---- every step
 
-    says_freeze : (k : Kept) (ss : SessionsFit k) (now : Nodes k) (ice : Ices k) {says : List Post} → Says k input says → EachLive (Then says) k.lives k.works × Asks says
+    says_freeze : (k : NodeState) (ss : SessionsFit k) (now : Nodes k) (ice : Ices k) {says : List Post} → Says k input says → EachLive (Then says) k.lives k.works × Asks says
     says_freeze k ss now ice (steps.Gone_replies to from call given advice s came gone) = replies_freeze k ss now ice _ (refl, tt) (λ p c. one_exec to from p c (deeds.refused_kind call) ∙ if_zero (same to p && same from c) 0 refl)
     says_freeze k ss now ice (steps.Replies_again x to call given advice s t came live last kept) =
         replies_freeze k ss now ice _ (refl, tt) (λ p c. one_exec x.live.me to p c (deeds.again_kind x t) ∙ if_zero (same x.live.me p && same to c) 0 refl)
@@ -308,7 +308,7 @@ module _ (E : BranchId → Option ℕ) (A : BranchId → Option BranchId) (G Her
     says_freeze k ss now ice (steps.Knows_rollback s from came kept knows) = quiet k ss now ice _ (refl, tt) ((refl, refl), tt)
     says_freeze k ss now ice (steps.Is_in_doubt l from came live other) = quiet k ss now ice _ (refl, tt) ((refl, refl), tt)
 
-    acts_freeze : (k : Kept) (ss : SessionsFit k) (now : Nodes k) (ice : Ices k) {l : Live} {site_below : Bool} (a : Act) → Acting k input l site_below a → deeds.Granted E A G Here input said received (act_turn k l site_below a) → Freezes (act_turn k l site_below a)
+    acts_freeze : (k : NodeState) (ss : SessionsFit k) (now : Nodes k) (ice : Ices k) {l : Live} {site_below : Bool} (a : Act) → Acting k input l site_below a → deeds.Granted E A G Here input said received (act_turn k l site_below a) → Freezes (act_turn k l site_below a)
     acts_freeze k ss now ice {l = l} acts.Rest why granted = stays_put k ss now ice l [] tt tt (asked_frozen said [] l.me l.parent l.phase (acting_phase why) (acting_asked k ss now ice why))
     acts_freeze k ss now ice {l = l} acts.AskDown why granted = asks_down k ss now ice why (λ found none code. granted.grants l.me l found none code) (acting_here k ss now ice why)
     acts_freeze k ss now ice {l = l} acts.SayReady why granted =
@@ -333,14 +333,14 @@ module _ (E : BranchId → Option ℕ) (A : BranchId → Option BranchId) (G Her
     }
 
     -- with the others
-    pub begins_ice : (k : Kept) → Ices k → (l : Live) → l.phase ≡ phases.Working → ((c : BranchId) → was_asked said l.me c ≡ false) → EachLive Ice (k.lives ++ l ∷ []) k.works
+    pub begins_ice : (k : NodeState) → Ices k → (l : Live) → l.phase ≡ phases.Working → ((c : BranchId) → was_asked said l.me c ≡ false) → EachLive Ice (k.lives ++ l ∷ []) k.works
     begins_ice k ice l working unasked = each_begun Ice Ice k.lives k.works ice l (begun_ice l (no_work l.me) working refl unasked) (λ y v live any is. is)
 
     rolled : (l : Live) → AllSay IsPlain (to_each l.me kinds.Rollback (children_of l)) × AllSay IsDumb (to_each l.me kinds.Rollback (children_of l))
     rolled l = (each_says IsPlain l.me kinds.Rollback (children_of l) refl, each_says IsDumb l.me kinds.Rollback (children_of l) (refl, refl))
 
     module _ (p : Place) (place : (b : BranchId) → b.node ≡ p.number → Here b) where
-      pub freezes_on : {k : Kept} {d : Deed} → Step p input k d → deeds.Granted E A G Here input said received d → SessionsFit k → News Unasking p input k → Nodes k → Ices k → Freezes d
+      pub freezes_on : {k : NodeState} {d : Deed} → Step p input k d → deeds.Granted E A G Here input said received d → SessionsFit k → News Unasking p input k → Nodes k → Ices k → Freezes d
       freezes_on (steps.Begins {k = k} n s call rows range none step) granted ss news now ice =
           let root = news.root n s call rows none in
           freezes_on step granted (begun_so k ss p n) (begun_news Unasking p input k n news)

@@ -4,7 +4,7 @@ use Rattle.std.specs.List.{list_any}
 use Rattle.redo_record.specs.Kept.{stands_at}
 use Rattle.node_rules.specs.Data.{BranchId, Standing}
 use Rattle.node_rules.specs.Words.{same, item_at}
-use Rattle.node_rules.specs.Kept.{Kept, Branch, standing_id, branch_at, standing_at}
+use Rattle.node_rules.specs.NodeState.{NodeState, Branch, standing_id, branch_at, standing_at}
 use Rattle.node_rules.specs.Turn.{Is_kept, Is_gone, kept_or_gone, live_or, stand_of}
 use Rattle.run_base_laws.specs.NodeLaws.{unacked_row}
 use Rattle.run_base_laws.specs.EventRows.{HasRow}
@@ -28,7 +28,7 @@ never_gone : (o : Option Branch) (row : Option Standing) (s : Standing) → row 
 never_gone (Some x) row s is gone = absurd (cc (gone))
 never_gone None row s is gone = let kept : Is_kept s ≡ Is_gone = sym (ap kept_or_gone is) ∙ gone in absurd cc
 
-pub kept_not_gone : (k : Kept) (b : BranchId) → HasRow b k.stored.durable.kept → stand_of k b ≡ Is_gone → ⊥
+pub kept_not_gone : (k : NodeState) (b : BranchId) → HasRow b k.stored.durable.kept → stand_of k b ≡ Is_gone → ⊥
 unfolding stand_of
 kept_not_gone k b has gone = let row = found b k.stored.durable.kept has in never_gone (branch_at k b) (standing_at k b) row.0 row.1 gone
 

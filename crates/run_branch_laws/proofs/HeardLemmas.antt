@@ -20,7 +20,7 @@ use Rattle.node_rules.specs.Data.params
 use Rattle.node_rules.specs.Data.records
 use Rattle.node_rules.specs.Words.{same, numbered, set_numbered, put_item, drop_item}
 use Rattle.node_rules.specs.Inputs.{Came}
-use Rattle.node_rules.specs.Kept.{Kept, Branch, Deed, Stored, live_id, standing_id, live_at, branch_at}
+use Rattle.node_rules.specs.NodeState.{NodeState, Branch, Deed, Stored, live_id, standing_id, live_at, branch_at}
 use Rattle.node_rules.specs.Records.{applied, stored_by}
 use Rattle.node_rules.specs.Statement.{ran, after_run}
 use Rattle.node_rules.specs.Calls.{with_edge, hears_reply}
@@ -152,7 +152,7 @@ module _ (t : List Event) (c : ℕ) (p : Place) (input : Input) (heard : (from t
   known_edges clock es (suc i) e x at peer vote all =
       slice_set_all (EdgeIs t clock) es i x all (subst (λ b. VoteIs t clock b x.vote) (sym peer) (subst (VoteIs t clock e.peer) (sym vote) (slice_all (EdgeIs t clock) es i e all at)))
 
-  module _ (k : Kept) (met : c ≤ k.clock) (all : AllByRecursion (AnswersAre t k.clock) k.lives) where
+  module _ (k : NodeState) (met : c ≤ k.clock) (all : AllByRecursion (AnswersAre t k.clock) k.lives) where
     live_answers : (b : BranchId) (l : Live) → live_at k b ≡ Some l → AnswersAre t k.clock l
     live_answers b l found = all_found (AnswersAre t k.clock) live_id k.lives b l all found
 
@@ -186,7 +186,7 @@ module _ (t : List Event) (c : ℕ) (p : Place) (input : Input) (heard : (from t
     gone : (b : BranchId) → AllByRecursion (AnswersAre t k.clock) (drop_item live_id k.lives b)
     gone b = all_without (AnswersAre t k.clock) live_id k.lives b all
 
-  pub answers_on : {k : Kept} {d : Deed} → Step p input k d → c ≤ k.clock → AllByRecursion (AnswersAre t k.clock) k.lives → AllByRecursion (AnswersAre t d.after.clock) d.after.lives
+  pub answers_on : {k : NodeState} {d : Deed} → Step p input k d → c ≤ k.clock → AllByRecursion (AnswersAre t k.clock) k.lives → AllByRecursion (AnswersAre t d.after.clock) d.after.lives
   answers_on (steps.Begins {k = k} n s call rows fit none step) met all = answers_on step met (all_last (AnswersAre t k.clock) live_id k.lives _ all tt)
   answers_on (steps.Pends n l comment call has live code step) met all = answers_on step met all
   answers_on (steps.Lets_reads_go l comment site_below live begins step) met all = answers_on step met all
@@ -227,13 +227,13 @@ module _ (t : List Event) (c : ℕ) (p : Place) (input : Input) (heard : (from t
   answers_on _ met all = all
 
   -- the rows of the node
-  abbrev RowsSo : Kept → Type 0
+  abbrev RowsSo : NodeState → Type 0
   RowsSo k = AllByRecursion (AcksAre t) k.stored.durable.kept
 
-  recorded : (k : Kept) (r : RedoRecord) → RowsSo k → AllByRecursion (AcksAre t) (applied k.stored r).durable.kept
+  recorded : (k : NodeState) (r : RedoRecord) → RowsSo k → AllByRecursion (AcksAre t) (applied k.stored r).durable.kept
   recorded k r all = rows_applied t k.stored r all
 
-  pub acks_on : {k : Kept} {d : Deed} → Step p input k d → RowsSo k → RowsSo d.after
+  pub acks_on : {k : NodeState} {d : Deed} → Step p input k d → RowsSo k → RowsSo d.after
   acks_on (steps.Begins n s call rows fit none step) all = acks_on step all
   acks_on (steps.Pends n l comment call has live code step) all = acks_on step all
   acks_on (steps.Lets_reads_go l comment site_below live begins step) all = acks_on step all

@@ -10,7 +10,7 @@ use Rattle.node_rules.specs.Data.records
 use Rattle.node_rules.specs.Data.inputs
 use Rattle.node_rules.specs.Words.{numbered}
 use Rattle.node_rules.specs.Inputs.{Came}
-use Rattle.node_rules.specs.Kept.{Kept, Deed, live_id}
+use Rattle.node_rules.specs.NodeState.{NodeState, Deed, live_id}
 use Rattle.node_rules.specs.Records.{nothing_stored}
 use Rattle.node_rules.specs.Turn.{made, turn_of, start_of, heard, deed_of, stamped}
 use Rattle.run_rules.specs.Data.{Turn, Happening, Command}
@@ -36,7 +36,7 @@ use Rattle.run_branch_laws.proofs.HeardLemmas.{acks_stored, later_answers, later
 use Rattle.run_branch_laws.proofs.QuietLemmas.{Quits, QuitsSo, quits_on, quiet_there, quiet_leaves}
 
 -- what a node holds of its neighbours is true
-abbrev pub NodeHeard : List Event → Kept → Type 0
+abbrev pub NodeHeard : List Event → NodeState → Type 0
 NodeHeard t k = AllByRecursion (AnswersAre t k.clock) k.lives × AllByRecursion (AcksAre t) k.stored.durable.kept
 
 -- What nodes hold of neighbours, and the answers without changes that are under way, are true.
@@ -44,7 +44,7 @@ pub record HeardStand (f : Facts) (t : List Event) : Type 0 where
   pub nodes : (n : ℕ) → IfSome (node_at f n) (NodeHeard t)
   pub quiets : AllByRecursion (λ x. QuietIs t x.msg.from x.msg.kind) f.net.packets
 
-node_later : {Q : Event → Type 0} {t r : List Event} → Added Q t r → (o : Option Kept) → IfSome o (NodeHeard t) → IfSome o (NodeHeard r)
+node_later : {Q : Event → Type 0} {t r : List Event} → Added Q t r → (o : Option NodeState) → IfSome o (NodeHeard t) → IfSome o (NodeHeard r)
 node_later more None is = tt
 node_later more (Some k) is = (later_answers more k.clock k.lives is.0, later_acks more k.stored.durable.kept is.1)
 
@@ -53,10 +53,10 @@ quiet_later more from kinds.ReadOnly is = exit_later from Quiet more is
 quiet_later more from _ is = tt
 
 -- a node's clock has met the sender's
-scn_met : (k : Kept) (input : Input) (from to : BranchId) (kind : Kind) (came : Came input from to kind) → came.scn ≤ (heard k input).clock
+scn_met : (k : NodeState) (input : Input) (from to : BranchId) (kind : Kind) (came : Came input from to kind) → came.scn ≤ (heard k input).clock
 scn_met k input from to kind came = subst (λ i. came.scn ≤ (heard k i).clock) (sym came.is) (omega arith)
 
-heard_node : (t : List Event) (k : Kept) (input : Input) → NodeHeard t k → NodeHeard t (heard k input)
+heard_node : (t : List Event) (k : NodeState) (input : Input) → NodeHeard t k → NodeHeard t (heard k input)
 heard_node t k (inputs.Message m) now = (risen_answers t k.clock (heard k (inputs.Message m)).clock (omega arith) k.lives now.0, now.1)
 heard_node t k _ now = now
 
@@ -66,11 +66,11 @@ quiet_by t from kinds.ReadOnly is = is refl
 quiet_by t from _ is = tt
 
 -- a live branch is among the live branches
-pub live_among : (k : Kept) (b : BranchId) → IsLive k b → is_among b (map live_id k.lives) ≡ true
+pub live_among : (k : NodeState) (b : BranchId) → IsLive k b → is_among b (map live_id k.lives) ≡ true
 live_among k b live =
     subst (λ m. is_among m (map live_id k.lives) ≡ true) (item_is live_id k.lives b live.0 live.1) (all_found (λ l. is_among l.me (map live_id k.lives) ≡ true) live_id k.lives b live.0 (lives_among k.lives) live.1)
 
-pub heard_lives : (k : Kept) (input : Input) (b : BranchId) → IsLive (heard k input) b → IsLive k b
+pub heard_lives : (k : NodeState) (input : Input) (b : BranchId) → IsLive (heard k input) b → IsLive k b
 heard_lives k (inputs.Message m) b live = live
 heard_lives k (inputs.Call n s) b live = live
 heard_lives k (inputs.GiveUp n) b live = live
@@ -80,7 +80,7 @@ module _ (places : List Place) (asked : List Command) (each : (n : ℕ) (p : Pla
   module _ (f : Facts) (t : List Event) (stand : Stand places asked each f t) (now : HeardStand f t) where
     -- ---- a turn
 
-    module _ (u : Turn) (k : Kept) (may : MayTurn places f u k) where
+    module _ (u : Turn) (k : NodeState) (may : MayTurn places f u k) where
       abbrev n : ℕ
       n = u.node
 

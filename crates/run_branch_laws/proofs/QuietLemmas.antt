@@ -17,7 +17,7 @@ use Rattle.node_rules.specs.Data.inputs
 use Rattle.node_rules.specs.declared.session.Session.{Session}
 use Rattle.node_rules.specs.Words.{same, drop_item}
 use Rattle.node_rules.specs.Inputs.{Came, IsCall}
-use Rattle.node_rules.specs.Kept.{Kept, Branch, Deed, live_id, to_each, to_one}
+use Rattle.node_rules.specs.NodeState.{NodeState, Branch, Deed, live_id, to_each, to_one}
 use Rattle.node_rules.specs.Calls.{answer_says, exec_to, with_edge, hears_reply}
 use Rattle.node_rules.specs.Statement.{ran, after_run}
 use Rattle.node_rules.specs.Prepare.{path_of, prepares, site_neighbors}
@@ -68,7 +68,7 @@ prepares_plain me comment path i es = prepares_say PlainKind (λ site_below c. r
 passes_plain : (s : Standing) (d : Decision) → PlainAll (passes s d)
 passes_plain s d = passes_say PlainKind plain_decisions s d
 
-says_plain : {k : Kept} {input : Input} {says : List Post} → Says k input says → PlainAll says
+says_plain : {k : NodeState} {input : Input} {says : List Post} → Says k input says → PlainAll says
 says_plain (steps.Tells s from came kept) = (told_says PlainKind plain_decisions (kept_told s from), tt)
 says_plain {k = k} (steps.Recovers reco) = askings_say PlainKind plain_decisions k
 says_plain _ = (refl, tt)
@@ -80,13 +80,13 @@ abbrev pub NoRows : Input → Type 0
 NoRows input = (n : ℕ) (s : Stmt) → IsCall input n s → IsOfRows s → ⊥
 
 -- Its sender was live, and is gone without a record.
-pub record Quits (input : Input) (k : Kept) (d : Deed) (b : BranchId) : Type 0 where
+pub record Quits (input : Input) (k : NodeState) (d : Deed) (b : BranchId) : Type 0 where
   pub was : IsLive k b
   pub unwritten : d.wrote ≡ None
   pub left : is_among b (map live_id d.after.lives) ≡ false
   pub no_rows : NoRows input
 
-abbrev pub QuitsSo : Input → Kept → Deed → Post → Type 0
+abbrev pub QuitsSo : Input → NodeState → Deed → Post → Type 0
 QuitsSo input k d x = is_read_only x.kind ≡ true → Quits input k d x.from
 
 pub dropped_gone : (b : BranchId) (xs : List Live) → is_among b (map live_id (drop_item live_id xs b)) ≡ false
@@ -103,11 +103,11 @@ call_apart n m s t first second = let it : inputs.Call n (Some s) ≡ inputs.Cal
 pub came_apart : {input : Input} {from to : BranchId} {kind : Kind} (n : ℕ) (s : Stmt) → Came input from to kind → IsCall input n s → ⊥
 came_apart n s came call = let it : inputs.Call n (Some s) ≡ inputs.Message (record { from = _; to = _; scn = came.scn; kind = _ }) = sym call ∙ came.is in absurd cc
 
-collects_apart : {k : Kept} {input : Input} {l : Live} {comment : List ℕ} {site_below : Bool} → Collects k input l comment site_below → NoRows input
+collects_apart : {k : NodeState} {input : Input} {l : Live} {comment : List ℕ} {site_below : Bool} → Collects k input l comment site_below → NoRows input
 collects_apart (steps.By_commit n given call has code is) m s other rows = subst IsOfRows (call_apart m n s (stmts.Commit given) other call) rows
 collects_apart (steps.By_prepare from site_below came working) m s other rows = came_apart m s came other
 
-pub acting_apart : {k : Kept} {input : Input} {l : Live} {site_below : Bool} {a : Act} → Acting k input l site_below a → NoRows input
+pub acting_apart : {k : NodeState} {input : Input} {l : Live} {site_below : Bool} {a : Act} → Acting k input l site_below a → NoRows input
 acting_apart (steps.Asks_down l comment site_below e es live begins has) m s other rows = collects_apart begins m s other rows
 acting_apart (steps.Has_no_children l comment site_below a live begins none collected) m s other rows = collects_apart begins m s other rows
 acting_apart (steps.Hears_abort l from site_below live answers) m s other rows = came_apart m s answers.came other
@@ -117,10 +117,10 @@ acting_apart (steps.At_point l from a live came is pointed) m s other rows = cam
 
 module _ (p : Place) (input : Input) where
   -- none of these is ReadOnly
-  plainly : (k : Kept) (d : Deed) (posts : List Post) → PlainAll posts → AllByRecursion (QuitsSo input k d) posts
+  plainly : (k : NodeState) (d : Deed) (posts : List Post) → PlainAll posts → AllByRecursion (QuitsSo input k d) posts
   plainly k d posts all = all_weaker Plain (QuitsSo input k d) (λ x no yes. absurd (true≢false (sym yes ∙ no))) posts all
 
-  pub quits_on : {k : Kept} {d : Deed} → Step p input k d → AllByRecursion (QuitsSo input k d) d.says
+  pub quits_on : {k : NodeState} {d : Deed} → Step p input k d → AllByRecursion (QuitsSo input k d) d.says
   quits_on (steps.Begins {k = k} {d = d} n s call rows fit none step) =
       all_weaker (QuitsSo input _ d) (QuitsSo input k d) (λ x so yes. absurd ((so yes).no_rows n s call rows)) d.says (quits_on step)
   quits_on (steps.Pends {k = k} {d = d} n l comment call has live code step) =

@@ -22,7 +22,7 @@ use Rattle.node_rules.specs.Data.stmts
 use Rattle.node_rules.specs.declared.session.Session.{Session}
 use Rattle.node_rules.specs.Words.{put_by_branch}
 use Rattle.node_rules.specs.Inputs.{Came, IsCall}
-use Rattle.node_rules.specs.Kept.{Kept, Branch, Deed, live_id, standing_id, live_at, post_one, to_each, to_one}
+use Rattle.node_rules.specs.NodeState.{NodeState, Branch, Deed, live_id, standing_id, live_at, post_one, to_each, to_one}
 use Rattle.node_rules.specs.Calls.{answer_says, exec_to, with_edge, hears_reply}
 use Rattle.node_rules.specs.Statement.{ran, after_run}
 use Rattle.node_rules.specs.Prepare.{path_of, prepares, site_neighbors}
@@ -56,7 +56,7 @@ IsAsked input from to = Came input from to kinds.CommitPoint ⊎ Came input from
 
 -- Its sender was live and is gone without a record; or the record says that it learned a rollback; or it answers one that asks:
 -- it is gone, its row knows the rollback, or names the asker neither as parent nor as child.
-pub data Rolls (k : Kept) (input : Input) (d : Deed) (e to : BranchId) : Type 0 where
+pub data Rolls (k : NodeState) (input : Input) (d : Deed) (e to : BranchId) : Type 0 where
   Has_left : IsLive k e → d.wrote ≡ None → is_among e (map live_id d.after.lives) ≡ false → NoRows input → Rolls k input d e to
   Has_learned : LearnsRollback d.wrote e → Rolls k input d e to
   Is_not_there : stand_of k e ≡ Is_gone → IsAsked input to e → Rolls k input d e to
@@ -82,18 +82,18 @@ module _ (t : List Event) where
   -- ---- why an Ack is sent
 
   -- by its row all beyond acknowledged; or it is gone, and a commit came
-  pub data Acks (k : Kept) (input : Input) (b to : BranchId) : Type 0 where
+  pub data Acks (k : NodeState) (input : Input) (b to : BranchId) : Type 0 where
     All_have : (s : Standing) → IsRowLike k.stored.durable.kept b s → AllAcked t s → Acks k input b to
     Is_done : (n : ℕ) → stand_of k b ≡ Is_gone → Came input to b (kinds.Committed n) → Acks k input b to
 
-  abbrev pub SaysSo : Kept → Input → Deed → BranchId → BranchId → Kind → Type 0
+  abbrev pub SaysSo : NodeState → Input → Deed → BranchId → BranchId → Kind → Type 0
   SaysSo k input d from to kinds.Ack = Acks k input from to
   SaysSo k input d from to kinds.Rollback = Rolls k input d from to
   SaysSo k input d from to kinds.RolledBack = Rolls k input d from to
   SaysSo k input d from to _ = Unit {0}
 
   -- before a change that no question leads to, and that leaves lives and rows
-  module _ (k j : Kept) (input : Input) (d : Deed) (lives : (b : BranchId) → IsLive j b → NoRows input → IsLive k b) (rows : (b : BranchId) (s : Standing) → IsRowLike j.stored.durable.kept b s → IsRowLike k.stored.durable.kept b s)
+  module _ (k j : NodeState) (input : Input) (d : Deed) (lives : (b : BranchId) → IsLive j b → NoRows input → IsLive k b) (rows : (b : BranchId) (s : Standing) → IsRowLike j.stored.durable.kept b s → IsRowLike k.stored.durable.kept b s)
       (unasked : (from to : BranchId) → IsAsked input from to → ⊥) (uncommitted : (from to : BranchId) (n : ℕ) → Came input from to (kinds.Committed n) → ⊥) where
     rolls_before : (e to : BranchId) → Rolls j input d e to → Rolls k input d e to
     rolls_before e to (Has_left live unwritten left no_rows) = Has_left (lives e live no_rows) unwritten left no_rows
@@ -116,7 +116,7 @@ module _ (t : List Event) where
     all_before posts all = all_weaker _ _ (λ x so. so_before x.from x.to x.kind so) posts all
 
   module _ (p : Place) (input : Input) (told : (from to : BranchId) (kind : Kind) → Came input from to kind → ToldSo t from to kind) where
-    module _ (k : Kept) (d : Deed) where
+    module _ (k : NodeState) (d : Deed) where
       abbrev So : Post → Type 0
       So x = SaysSo k input d x.from x.to x.kind
 
@@ -169,20 +169,20 @@ module _ (t : List Event) where
       recovers_so s like acks (Some decisions.Rollback) = tt
 
     -- what a row knows, to one that asks
-    known_so : (k : Kept) (d : Deed) (s : Standing) (from : BranchId) (e : Option Decision) → IsKept k s → s.decision ≡ e → IsAsked input from s.me → SaysSo k input d s.me from (told_kind (told_by e))
+    known_so : (k : NodeState) (d : Deed) (s : Standing) (from : BranchId) (e : Option Decision) → IsKept k s → s.decision ≡ e → IsAsked input from s.me → SaysSo k input d s.me from (told_kind (told_by e))
     known_so k d s from None kept is asked = tt
     known_so k d s from (Some (decisions.Commit n)) kept is asked = tt
     known_so k d s from (Some decisions.Rollback) kept is asked = Knows_so s kept refl is asked
 
-    asked_so : (k : Kept) (d : Deed) (s : Standing) (from : BranchId) → IsKept k s → IsAsked input from s.me → SaysSo k input d s.me from (told_kind (kept_told s from))
+    asked_so : (k : NodeState) (d : Deed) (s : Standing) (from : BranchId) → IsKept k s → IsAsked input from s.me → SaysSo k input d s.me from (told_kind (kept_told s from))
     asked_so k d s from kept asked =
         cond_both (is_neighbor s from) (told_by s.decision) tolds.RolledBack (λ x. SaysSo k input d s.me from (told_kind x)) (λ near. known_so k d s from s.decision kept refl asked) (λ other. Names_not s kept refl other asked)
 
     -- each row is the one of its branch, where RECO came
-    abbrev pub RowsFound : Kept → Type 0
+    abbrev pub RowsFound : NodeState → Type 0
     RowsFound k = input ≡ inputs.Reco → AllByRecursion (λ s. IsKept k s) k.stored.durable.kept
 
-    module _ (k : Kept) (d : Deed) where
+    module _ (k : NodeState) (d : Deed) where
       abbrev AskingSo : Asking → Type 0
       AskingSo a = AllSo k d a.says
 
@@ -220,11 +220,11 @@ module _ (t : List Event) where
     call_uncommitted : (n : ℕ) (s : Stmt) → IsCall input n s → (from to : BranchId) (m : ℕ) → Came input from to (kinds.Committed m) → ⊥
     call_uncommitted n s call from to m came = came_apart n s came call
 
-    collects_unasked : {k : Kept} {l : Live} {comment : List ℕ} {site_below : Bool} → Collects k input l comment site_below → (from to : BranchId) → IsAsked input from to → ⊥
+    collects_unasked : {k : NodeState} {l : Live} {comment : List ℕ} {site_below : Bool} → Collects k input l comment site_below → (from to : BranchId) → IsAsked input from to → ⊥
     collects_unasked (steps.By_commit n given call has code is) from to asked = asked_call n (stmts.Commit given) asked call
     collects_unasked (steps.By_prepare x site_below came working) from to asked = asked_other (kinds.Prepare site_below _) asked came (λ e. absurd cc) (λ e. absurd cc)
 
-    collects_uncommitted : {k : Kept} {l : Live} {comment : List ℕ} {site_below : Bool} → Collects k input l comment site_below → (from to : BranchId) (m : ℕ) → Came input from to (kinds.Committed m) → ⊥
+    collects_uncommitted : {k : NodeState} {l : Live} {comment : List ℕ} {site_below : Bool} → Collects k input l comment site_below → (from to : BranchId) (m : ℕ) → Came input from to (kinds.Committed m) → ⊥
     collects_uncommitted (steps.By_commit n given call has code is) from to m came = came_apart n (stmts.Commit given) came call
     collects_uncommitted (steps.By_prepare x site_below other working) from to m came = (let it = kinds_apart came other in absurd cc)
 
@@ -239,10 +239,10 @@ module _ (t : List Event) where
 
     -- ---- steps
 
-    abbrev pub StepSo : Kept → Deed → Type 0
+    abbrev pub StepSo : NodeState → Deed → Type 0
     StepSo k d = AllByRecursion (λ x. SaysSo k input d x.from x.to x.kind) d.says
 
-    pub says_on : {k : Kept} {d : Deed} → Step p input k d → RowsFound k → AllByRecursion (AcksAre t) k.stored.durable.kept → StepSo k d
+    pub says_on : {k : NodeState} {d : Deed} → Step p input k d → RowsFound k → AllByRecursion (AcksAre t) k.stored.durable.kept → StepSo k d
     says_on (steps.Begins {k = k} {d = d} n s call rows fit none step) found acks =
         all_before k _ input d (λ b live no_rows. absurd (no_rows n s call rows)) (λ b x like. like) (call_unasked n s call) (call_uncommitted n s call) d.says (says_on step found acks)
     says_on (steps.Pends {k = k} {d = d} n l comment call has live code step) found acks =
@@ -293,7 +293,7 @@ module _ (t : List Event) where
     says_on (steps.Gives_up_commit {k = k} n b (Some l) gives has calls live) found acks =
         leaves_so k _ l (gone_live k b l live) refl (dropped_gone l.me k.lives) (λ m s other rows. (let it : inputs.GiveUp n ≡ inputs.Call m (Some s) = sym gives ∙ other in absurd cc))
       where
-        gone_live : (k : Kept) (b : BranchId) (l : Live) → live_at k b ≡ Some l → IsLive k l.me
+        gone_live : (k : NodeState) (b : BranchId) (l : Live) → live_at k b ≡ Some l → IsLive k l.me
         gone_live k b l is = (l, subst (λ c. live_at k c ≡ Some l) (sym (item_is live_id k.lives b l is)) is)
     says_on (steps.Gives_up_commit n b None gives has calls live) found acks = tt
     says_on _ found acks = tt

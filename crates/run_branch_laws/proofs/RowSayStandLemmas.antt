@@ -14,7 +14,7 @@ use Rattle.node_rules.specs.Data.kinds
 use Rattle.node_rules.specs.Data.records
 use Rattle.node_rules.specs.Words.{same, numbered, item_at}
 use Rattle.node_rules.specs.Inputs.{Came}
-use Rattle.node_rules.specs.Kept.{Kept, Deed, live_id, standing_id, with_work, standing_at}
+use Rattle.node_rules.specs.NodeState.{NodeState, Deed, live_id, standing_id, with_work, standing_at}
 use Rattle.node_rules.specs.Turn.{Is_gone, live_or, stand_of, turn_of, heard, deed_of, stamped}
 use Rattle.run_rules.specs.Data.{Took, Turn, Happening, Command}
 use Rattle.run_rules.specs.Data.happenings
@@ -101,13 +101,13 @@ live_there b (x ∷ ls) is = by (same x.me b) refl (live_there b ls)
         let rest : (l : Live) × (item_at live_id ls b ≡ Some l) = later (sym (ap (λ q. q || is_among b (map live_id ls)) at) ∙ is) in
         (rest.0, ap (λ q. if q then Some x else item_at live_id ls b) at ∙ rest.1)
 
-live_not_gone : (k : Kept) (b : BranchId) → is_among b (map live_id k.lives) ≡ true → stand_of k b ≡ Is_gone → ⊥
+live_not_gone : (k : NodeState) (b : BranchId) → is_among b (map live_id k.lives) ≡ true → stand_of k b ≡ Is_gone → ⊥
 unfolding stand_of
 live_not_gone k b among gone =
     let live = live_there b k.lives among in
     let at : live_or (with_work k (Some live.0)) (standing_at k b) ≡ Is_gone = subst (λ o. live_or (with_work k o) (standing_at k b) ≡ Is_gone) live.1 gone in absurd cc
 
-heard_gone : (k : Kept) (input : Input) (b : BranchId) → stand_of (heard k input) b ≡ Is_gone → stand_of k b ≡ Is_gone
+heard_gone : (k : NodeState) (input : Input) (b : BranchId) → stand_of (heard k input) b ≡ Is_gone → stand_of k b ≡ Is_gone
 unfolding stand_of
 heard_gone k (inputs.Message m) b gone = gone
 heard_gone k (inputs.Call n s) b gone = gone
@@ -140,7 +140,7 @@ rows_found (x ∷ ks) one = (
     by s false is found some most = ap (λ q. if q then Some x else item_at standing_id ks s.me) is ∙ found
 
 -- a message comes to a branch of the node
-module _ (f : Facts) (k : Kept) (node : ℕ) where
+module _ (f : Facts) (k : NodeState) (node : ℕ) where
   came_to : (input : Input) (took : Option Took) → Comes f k node input took → (from to : BranchId) (kind : Kind) → Came input from to kind → to.node ≡ node
   came_to (inputs.Message m) (Some x) comes from to kind came =
       let it : inputs.Message m ≡ inputs.Message (record { from = from; to = to; scn = came.scn; kind = kind }) = came.is in
@@ -181,7 +181,7 @@ module _ (places : List Place) (asked : List Command) (each : (n : ℕ) (q : Pla
   known_first : Known (first_facts places) []
   known_first = record { stand = stand_first places asked each; heard = (stand_heard_first places asked each).1; kept = λ c n is. absurd cc; births = []; born = (stand_born_first places asked each).1 }
 
-  module _ (f : Facts) (t : List Event) (now : Known f t) (u : Turn) (k : Kept) (may : MayTurn places f u k) where
+  module _ (f : Facts) (t : List Event) (now : Known f t) (u : Turn) (k : NodeState) (may : MayTurn places f u k) where
     abbrev n : ℕ
     n = u.node
 

@@ -3,7 +3,7 @@ use Rattle.std.proofs.Common.{◌≡◌, ℕ, List, [], ◌∷◌, ◌++◌, Opt
 use Rattle.std.specs.Option.{option_to_list}
 use Rattle.node_rules.specs.Data.{Place}
 use Rattle.run_rules.specs.Data.{Happening, Command}
-use Rattle.run_rules.specs.Telling.{Past}
+use Rattle.run_rules.specs.RunReport.{Past}
 use Rattle.run_rules.specs.Past.{past}
 use Rattle.run_rules.specs.Due.{comes_next, one_on, step_on, runs_on, happened, IsTheRun}
 

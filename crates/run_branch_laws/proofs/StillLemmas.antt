@@ -10,7 +10,7 @@ use Rattle.node_rules.specs.Data.phases
 use Rattle.node_rules.specs.declared.session.PendingCall.TheVariants as pending
 use Rattle.node_rules.specs.declared.work.Work.{Work}
 use Rattle.node_rules.specs.Words.{item_at, put_item, drop_item}
-use Rattle.node_rules.specs.Kept.{Kept, Branch, Deed, live_id, work_id}
+use Rattle.node_rules.specs.NodeState.{NodeState, Branch, Deed, live_id, work_id}
 use Rattle.node_rules.specs.Names.{passed_on}
 use Rattle.node_rules.specs.Statement.{ran, after_run, answer_of_run}
 use Rattle.node_rules.specs.Calls.{with_answer, called, next_child, strength_of, with_edge, waits_for_opened, hears_reply}
@@ -39,7 +39,7 @@ collected f each es = map_after f with_prepare_sent f each es
 heard_vote : {X : Type 0} (f : Edge → X) (from : BranchId) (v : Vote) → ((e : Edge) → f (record e { vote = v }) ≡ f e) → (es : List Edge) → map f (map (has_voted from v) es) ≡ map f es
 heard_vote f from v each es = map_after f (has_voted from v) f (λ e. cond_both (answers_first from e) (record e { vote = v }) e (λ y. f y ≡ f e) (λ here. each e) (λ other. refl)) es
 
-module _ (k0 : Kept) where
+module _ (k0 : NodeState) where
   -- a branch with its calls
   abbrev pub pair : Live → Work → Branch
   pair l w = record { live = l; work = w }
@@ -48,7 +48,7 @@ module _ (k0 : Kept) where
   abbrev pub Still : Live → Work → Type 0
   Still l w = (z : Live) → item_at live_id k0.lives l.me ≡ Some z → z.phase ≢ phases.Working → StandsStill (pair z (works_of k0.works l.me)) (pair l w)
 
-  abbrev pub Stills : Kept → Type 0
+  abbrev pub Stills : NodeState → Type 0
   Stills k = EachLive Still k.lives k.works
 
   -- a branch that begins was not live
@@ -86,7 +86,7 @@ module _ (k0 : Kept) where
       let was : StandsStill (pair z (works_of k0.works l.me)) (pair l w) = is z found other in
       record { peers = was.peers; weights = was.weights; counts = was.counts; changed = was.changed; calls = was.calls; last = was.last; phase = λ working. absurd cc }
 
-  module _ (k : Kept) (now : Stills k) where
+  module _ (k : NodeState) (now : Stills k) where
     -- a branch that is working was so as the turn began
     works_still : (l : Live) (v : Work) (y : Live) (w : Work) → item_at live_id k.lives l.me ≡ Some l → l.phase ≡ phases.Working → y.me ≡ l.me → Still y w
     works_still l v y w live working me z found other =
@@ -128,16 +128,16 @@ module _ (k0 : Kept) where
     NewThere x = frost.Unasking E A G Here input said received x × NotThere x
 
     -- the branch of a statement was there
-    asked_found : (k : Kept) {x : Branch} {s : _} {given : ℕ} → Asked k input x s given → (z : Live) × (item_at live_id k.lives z.me ≡ Some z) × (z.phase ≡ x.live.phase) × (x.live.me ≡ z.me)
+    asked_found : (k : NodeState) {x : Branch} {s : _} {given : ℕ} → Asked k input x s given → (z : Live) × (item_at live_id k.lives z.me ≡ Some z) × (z.phase ≡ x.live.phase) × (x.live.me ≡ z.me)
     asked_found k (steps.By_call n x s call rows has code live) = (x.live, (branch_parts k x.live.me x live).0, refl, refl)
     asked_found k (steps.By_exec x from call given advice s came live runs) = (x.live, (branch_parts k x.live.me x live).0, refl, refl)
 
-    asked_put : (k : Kept) (ss : SessionsFit k) (nodes : EachLive (turns.Begun E A G Here input said) k.lives k.works) (ice : frost.Ices E A G Here input said received k) → Stills k → {x : Branch} {s : _} {given : ℕ} → Asked k input x s given
+    asked_put : (k : NodeState) (ss : SessionsFit k) (nodes : EachLive (turns.Begun E A G Here input said) k.lives k.works) (ice : frost.Ices E A G Here input said received k) → Stills k → {x : Branch} {s : _} {given : ℕ} → Asked k input x s given
         → (y : Live) (w : Work) → w.branch ≡ y.me → y.me ≡ x.live.me → EachLive Still (put_item live_id k.lives y) (put_item work_id k.works w)
     asked_put k ss nodes ice now asked y w mine me =
         let there = asked_found k asked in put k now there.0 y w mine there.1 (there.2 ∙ frost.asked_works E A G Here input said received prepared k ss nodes ice asked) (me ∙ there.3)
 
-    pub stills_on : {k : Kept} {d : Deed} → Step p input k d → SessionsFit k → News NewThere p input k → EachLive (turns.Begun E A G Here input said) k.lives k.works → frost.Ices E A G Here input said received k → Stills k → Stills d.after
+    pub stills_on : {k : NodeState} {d : Deed} → Step p input k d → SessionsFit k → News NewThere p input k → EachLive (turns.Begun E A G Here input said) k.lives k.works → frost.Ices E A G Here input said received k → Stills k → Stills d.after
     stills_on (steps.Begins {k = k} n s call rows range none step) ss news nodes ice now =
         let root = news.root n s call rows none in
         stills_on step (begun_so k ss p n) (begun_news NewThere p input k n news) (deeds.begins_so E A G Here input said received k nodes (fresh_root p k (new_root p k n)) refl (place (new_root p k n) refl) root.0.0)

@@ -5,7 +5,7 @@ use Rattle.node_rules.specs.Data.{BranchId, Live, Place}
 use Rattle.node_rules.specs.Data.phases
 use Rattle.node_rules.specs.declared.work.Work.{Work}
 use Rattle.node_rules.specs.Words.{numbered, item_at}
-use Rattle.node_rules.specs.Kept.{Kept, Branch, Deed, live_id, branch_at}
+use Rattle.node_rules.specs.NodeState.{NodeState, Branch, Deed, live_id, branch_at}
 use Rattle.node_rules.specs.Turn.{turn_of, heard, deed_of}
 use Rattle.agreement.specs.Events.{Event}
 use Rattle.run_rules.specs.Data.{Turn, Happening, Command}
@@ -38,7 +38,7 @@ use Rattle.run_branch_laws.proofs.FreezeRunLemmas.{FreezeStand, freeze_on, first
 use Rattle.run_branch_laws.proofs.StillLemmas.{pair, Still, Stills, NewThere, stills_on}
 
 -- as a turn begins each live branch is as it was
-first_stills : (k : Kept) → ((b : BranchId) → item_at live_id k.lives b ≡ None → item_at (λ (w : Work). w.branch) k.works b ≡ None) → Stills k k
+first_stills : (k : NodeState) → ((b : BranchId) → item_at live_id k.lives b ≡ None → item_at (λ (w : Work). w.branch) k.works b ≡ None) → Stills k k
 first_stills k there = record { there = there; each = each }
   where
     each : (b : BranchId) (l : Live) → item_at live_id k.lives b ≡ Some l → Still k l (works_of k.works b)
@@ -52,7 +52,7 @@ first_stills k there = record { there = there; each = each }
 
 module _ (places : List Place) (asked : List Command) (each : (n : ℕ) (p : Place) → numbered places n ≡ Some p → IsPlace places n p) where
   module _ (f : Facts) (t : List Event) (bs : List Born) (stand : StandBorn places asked each f t bs) (roots : RootsStand places asked each f) (turned : CallsStand f) (now : FreezeStand f) where
-    module _ (u : Turn) (k : Kept) (may : MayTurn places f u k) where
+    module _ (u : Turn) (k : NodeState) (may : MayTurn places f u k) where
       abbrev p : Place
       p = place_at places u.node
 

@@ -16,7 +16,7 @@ use Rattle.node_rules.specs.Data.kinds
 use Rattle.node_rules.specs.Data.records
 use Rattle.node_rules.specs.Words.{numbered, item_at, put_item}
 use Rattle.node_rules.specs.Inputs.{Came, Brings, Commit_came, Rollback_came, Rolled_back_came}
-use Rattle.node_rules.specs.Kept.{Kept, Deed, standing_id}
+use Rattle.node_rules.specs.NodeState.{NodeState, Deed, standing_id}
 use Rattle.node_rules.specs.Commit.{acked_by}
 use Rattle.node_rules.specs.Turn.{heard, deed_of}
 use Rattle.node_rules.proofs.Steps as steps
@@ -117,7 +117,7 @@ module _ (t : List Event) (p : Place) (input : Input) (told : (from to : BranchI
     forgets_so acks (steps.Forgets_first came knows new all site) = (s, itself ks s stands, inl (none_found s.toward site, acked_all t s acks all))
     forgets_so {from = from} acks (steps.Forgets_after came knows toward new) = (s, itself ks s stands, inr (from, branch_found from s.toward toward, told from s.me kinds.Forgotten came))
 
-  pub goes_on : {k : Kept} {d : Deed} → Step p input k d → AllByRecursion (AcksAre t) k.stored.durable.kept → IfSome d.wrote (GoesByRow t k.stored.durable.kept)
+  pub goes_on : {k : NodeState} {d : Deed} → Step p input k d → AllByRecursion (AcksAre t) k.stored.durable.kept → IfSome d.wrote (GoesByRow t k.stored.durable.kept)
   goes_on (steps.Begins n s call rows fit none step) acks = goes_on step acks
   goes_on (steps.Pends n l comment call has live code step) acks = goes_on step acks
   goes_on (steps.Lets_reads_go l comment site_below live begins step) acks = goes_on step acks
@@ -151,14 +151,14 @@ module _ (t : List Event) (p : Place) (input : Input) (told : (from to : BranchI
 -- ---- every run
 
 -- a node that hears has the same rows
-pub heard_rows : (k : Kept) (input : Input) → (heard k input).stored.durable.kept ≡ k.stored.durable.kept
+pub heard_rows : (k : NodeState) (input : Input) → (heard k input).stored.durable.kept ≡ k.stored.durable.kept
 heard_rows k (inputs.Message m) = refl
 heard_rows k (inputs.Call n s) = refl
 heard_rows k (inputs.GiveUp n) = refl
 heard_rows k inputs.Reco = refl
 
 module _ (places : List Place) (asked : List Command) (each : (n : ℕ) (q : Place) → numbered places n ≡ Some q → IsPlace places n q) where
-  module _ (f : Facts) (t : List Event) (now : StandHeard places asked each f t) (u : Turn) (k : Kept) (may : MayTurn places f u k) where
+  module _ (f : Facts) (t : List Event) (now : StandHeard places asked each f t) (u : Turn) (k : NodeState) (may : MayTurn places f u k) where
     told_so : (from to : BranchId) (kind : Kind) → Came u.input from to kind → ToldSo t from to kind
     told_so from to (kinds.Committed n) came = came_said f t now.0.2 k u.node u.input u.took may.comes from to (kinds.Committed n) came
     told_so from to kinds.Rollback came = came_said f t now.0.2 k u.node u.input u.took may.comes from to kinds.Rollback came

@@ -5,7 +5,7 @@ use Rattle.std.specs.List.{AllByRecursion}
 use Rattle.node_rules.specs.Data.{BranchId, Kind, Edge, Vote, Live, Kid, Standing}
 use Rattle.node_rules.specs.Data.votes
 use Rattle.node_rules.specs.Data.kinds
-use Rattle.node_rules.specs.Kept.{Kept}
+use Rattle.node_rules.specs.NodeState.{NodeState}
 use Rattle.agreement.specs.Events.{Quiet, Event, Send_vote, Send_ack, exit, Has}
 use Rattle.run_rules.specs.Facts.{node_at}
 use Rattle.run_rules.specs.Lawful.{History, IsLawfulRun, facts_at}
@@ -41,11 +41,11 @@ QuietIs t from _ = Unit {0}
 
 -- In every lawful run what live branches hold of their children's answers is true.
 abbrev pub AnswersAreTrue : Type 0
-AnswersAreTrue = (t : History) → IsLawfulRun t → (n : ℕ) (k : Kept) → node_at (facts_at t) n ≡ Some k → AllByRecursion (AnswersAre (events_of t) k.clock) k.lives
+AnswersAreTrue = (t : History) → IsLawfulRun t → (n : ℕ) (k : NodeState) → node_at (facts_at t) n ≡ Some k → AllByRecursion (AnswersAre (events_of t) k.clock) k.lives
 
 -- In every lawful run the Acks that rows hold were sent.
 abbrev pub AcksAreTrue : Type 0
-AcksAreTrue = (t : History) → IsLawfulRun t → (n : ℕ) (k : Kept) → node_at (facts_at t) n ≡ Some k → AllByRecursion (AcksAre (events_of t)) k.stored.durable.kept
+AcksAreTrue = (t : History) → IsLawfulRun t → (n : ℕ) (k : NodeState) → node_at (facts_at t) n ≡ Some k → AllByRecursion (AcksAre (events_of t)) k.stored.durable.kept
 
 -- In every lawful run a branch that says ReadOnly is gone without changes.
 abbrev pub QuietsAreGone : Type 0

@@ -6,7 +6,7 @@ use Rattle.agreement.specs.Events.{Decided, Event, Send_commit, exit, Has, Gone}
 use Rattle.node_rules.specs.Data.{BranchId, Kind, Standing, Place}
 use Rattle.node_rules.specs.Data.kinds
 use Rattle.node_rules.specs.Words.{item_at}
-use Rattle.node_rules.specs.Kept.{Kept, standing_id}
+use Rattle.node_rules.specs.NodeState.{NodeState, standing_id}
 use Rattle.run_rules.specs.Data.{Happening, Command}
 use Rattle.run_rules.specs.Data.happenings
 use Rattle.run_rules.specs.Facts.{Facts, node_at, facts_after}
@@ -37,7 +37,7 @@ SaysByRow t r ks from to _ = Unit {0}
 -- each message of a turn is so
 abbrev pub TellsByRow : List Place → List Command → Facts → List Event → Happening → Type 0
 TellsByRow places asked f t (happenings.Turn u) =
-    (k : Kept) → node_at f u.node ≡ Some k → AllByRecursion (λ m. SaysByRow t (with_exits f (facts_after places asked f (happenings.Turn u)) u t) k.stored.durable.kept m.from m.to m.kind) u.sent
+    (k : NodeState) → node_at f u.node ≡ Some k → AllByRecursion (λ m. SaysByRow t (with_exits f (facts_after places asked f (happenings.Turn u)) u t) k.stored.durable.kept m.from m.to m.kind) u.sent
 TellsByRow places asked f t _ = Unit {0}
 
 -- In every lawful run commits are acknowledged, and rollbacks told, so.

@@ -8,7 +8,7 @@ use Rattle.node_rules.specs.Data.{BranchId, Decision, Standing, RedoRecord}
 use Rattle.node_rules.specs.Data.decisions
 use Rattle.node_rules.specs.Data.records
 use Rattle.node_rules.specs.Words.{item_at}
-use Rattle.node_rules.specs.Kept.{Kept, standing_id}
+use Rattle.node_rules.specs.NodeState.{NodeState, standing_id}
 use Rattle.run_rules.specs.Data.{Happening}
 use Rattle.run_rules.specs.Data.happenings
 use Rattle.run_rules.specs.Facts.{Facts, node_at}
@@ -48,7 +48,7 @@ GoesByRow t ks _ = Unit {0}
 
 -- the record of a turn does, by the rows before it
 abbrev pub WritesByRow : Facts → List Event → Happening → Type 0
-WritesByRow f t (happenings.Turn u) = (k : Kept) → node_at f u.node ≡ Some k → IfSome u.wrote (GoesByRow t k.stored.durable.kept)
+WritesByRow f t (happenings.Turn u) = (k : NodeState) → node_at f u.node ≡ Some k → IfSome u.wrote (GoesByRow t k.stored.durable.kept)
 WritesByRow f t _ = Unit {0}
 
 -- In every lawful run decisions are learned of toward, and a branch forgets once all beyond acknowledged, or after toward.

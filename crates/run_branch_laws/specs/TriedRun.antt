@@ -7,7 +7,7 @@ use Rattle.node_rules.specs.Data.terms
 use Rattle.node_rules.specs.Data.stmts
 use Rattle.node_rules.specs.Data.decisions
 use Rattle.node_rules.specs.Data.inputs
-use Rattle.node_rules.specs.Kept.{Outcome}
+use Rattle.node_rules.specs.NodeState.{Outcome}
 use Rattle.net_bag.specs.Net.{packet_at}
 use Rattle.agreement.specs.Events.{Event, Make, Seal, Decide, Learn, Forget, Send_vote, Send_commit, Send_ack, Send_forgotten}
 use Rattle.run_rules.specs.Data.{Packet, Took, Turn, Happening}

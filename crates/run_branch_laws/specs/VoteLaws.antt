@@ -3,7 +3,7 @@ use Rattle.std.specs.Prelude.{◌≡◌, ℕ, ◌≤◌, Some}
 use Rattle.std.specs.List.{AllByRecursion}
 use Rattle.agreement.specs.Events.{Sealed, Send_vote, exit, Has}
 use Rattle.node_rules.specs.Data.{BranchId}
-use Rattle.node_rules.specs.Kept.{Kept}
+use Rattle.node_rules.specs.NodeState.{NodeState}
 use Rattle.run_rules.specs.Facts.{node_at}
 use Rattle.run_rules.specs.Lawful.{History, IsLawfulRun, facts_at}
 use Rattle.run_base_laws.specs.RunEvents.{events_of}
@@ -14,4 +14,4 @@ VotesAreOfSealed = (t : History) → IsLawfulRun t → (b : BranchId) (j : ℕ) 
 
 -- So no live branch has voted.
 abbrev pub LiveHaveNotVoted : Type 0
-LiveHaveNotVoted = (t : History) → IsLawfulRun t → (n : ℕ) (k : Kept) → node_at (facts_at t) n ≡ Some k → AllByRecursion (λ l. (j : ℕ) → Has (Send_vote l.me j) (events_of t) → ⊥) k.lives
+LiveHaveNotVoted = (t : History) → IsLawfulRun t → (n : ℕ) (k : NodeState) → node_at (facts_at t) n ≡ Some k → AllByRecursion (λ l. (j : ℕ) → Has (Send_vote l.me j) (events_of t) → ⊥) k.lives

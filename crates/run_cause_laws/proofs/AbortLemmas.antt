@@ -13,7 +13,7 @@ use Rattle.node_rules.specs.Data.kinds
 use Rattle.node_rules.specs.Data.votes
 use Rattle.node_rules.specs.Inputs.{Came}
 use Rattle.node_rules.specs.Words.{same, item_at}
-use Rattle.node_rules.specs.Kept.{Kept, Stored, Deed, Branch, live_at, standing_id, standing_at, branch_at, with_work}
+use Rattle.node_rules.specs.NodeState.{NodeState, Stored, Deed, Branch, live_at, standing_id, standing_at, branch_at, with_work}
 use Rattle.node_rules.specs.Records.{applied, nothing_stored, stored_by}
 use Rattle.node_rules.specs.Turn.{Is_gone, kept_or_gone, live_or, stand_of, heard, deed_of, stamped}
 use Rattle.node_rules.proofs.Steps.{Answers}
@@ -61,7 +61,7 @@ row_none (x ∷ ks) b none = by (same x.me b) none (row_none ks b)
     by false none rest = rest none
 
 -- its records make no row of it either
-no_row : (k : Kept) (rs : List RedoRecord) (b : BranchId) → StoresOf rs k → standing_at k b ≡ None → item_at standing_id (durable rs).kept b ≡ None
+no_row : (k : NodeState) (rs : List RedoRecord) (b : BranchId) → StoresOf rs k → standing_at k b ≡ None → item_at standing_id (durable rs).kept b ≡ None
 no_row k rs b stored none =
     let rows : map unacked_row k.stored.durable.kept ≡ (durable rs).kept = ap (λ (s : Stored). s.durable.kept) stored ∙ ap (λ d. d.kept) (durable_stored nothing_stored rs) in
     subst (λ (ks : List Standing). item_at standing_id ks b ≡ None) rows (row_none k.stored.durable.kept b none)
@@ -74,18 +74,18 @@ gone_parts : (l : Option Branch) (o : Option Standing) → live_or l o ≡ Is_go
 gone_parts None o is = (refl, kept_none o is)
 gone_parts (Some x) o is = absurd (cc is)
 
-gone_so : (k : Kept) (b : BranchId) → stand_of k b ≡ Is_gone → (branch_at k b ≡ None) × (standing_at k b ≡ None)
+gone_so : (k : NodeState) (b : BranchId) → stand_of k b ≡ Is_gone → (branch_at k b ≡ None) × (standing_at k b ≡ None)
 unfolding stand_of
 gone_so k b is = gone_parts (branch_at k b) (standing_at k b) is
 
-heard_gone : (k : Kept) (input : Input) (b : BranchId) → stand_of (heard k input) b ≡ Is_gone → stand_of k b ≡ Is_gone
+heard_gone : (k : NodeState) (input : Input) (b : BranchId) → stand_of (heard k input) b ≡ Is_gone → stand_of k b ≡ Is_gone
 unfolding stand_of
 heard_gone k (inputs.Message m) b is = is
 heard_gone k (inputs.Call n s) b is = is
 heard_gone k (inputs.GiveUp n) b is = is
 heard_gone k inputs.Reco b is = is
 
-heard_live : (k : Kept) (input : Input) (b : BranchId) → live_at (heard k input) b ≡ live_at k b
+heard_live : (k : NodeState) (input : Input) (b : BranchId) → live_at (heard k input) b ≡ live_at k b
 heard_live k (inputs.Message y) b = refl
 heard_live k (inputs.Call n o) b = refl
 heard_live k (inputs.GiveUp n) b = refl
@@ -119,7 +119,7 @@ module _ (t : History) (whole : IsLawfulRun t) (sees : SeesAll t) (hs : List Hap
   abbrev may : MayHappen t.places t.commands f0 (happenings.Turn u)
   may = may_of t whole hs (happenings.Turn u) rest is
 
-  abbrev k : Kept
+  abbrev k : NodeState
   k = may.0
 
   abbrev p : Place

@@ -14,7 +14,7 @@ use Rattle.node_rules.specs.Data.kinds
 use Rattle.node_rules.specs.Data.votes
 use Rattle.node_rules.specs.declared.session.Session.{Session}
 use Rattle.node_rules.specs.Inputs.{Came, IsCall}
-use Rattle.node_rules.specs.Kept.{Kept, Deed, Branch, live_at, to_one}
+use Rattle.node_rules.specs.NodeState.{NodeState, Deed, Branch, live_at, to_one}
 use Rattle.node_rules.specs.Calls.{answer_says, exec_to, with_edge, hears_reply}
 use Rattle.node_rules.specs.Statement.{ran, after_run}
 use Rattle.node_rules.specs.Prepare.{path_of, site_neighbors, without_read_keys}
@@ -29,16 +29,16 @@ use Rattle.run_rules.proofs.ListLemmas.{all_weaker, all_append}
 use Rattle.run_branch_laws.proofs.QuietLemmas.{came_apart}
 
 -- Why a branch says Abort.
-pub data Aborts (k : Kept) (input : Input) (b : BranchId) : Type 0 where
+pub data Aborts (k : NodeState) (input : Input) (b : BranchId) : Type 0 where
   Was_gone : (from : BranchId) (site_below : Bool) (comment : List ℕ) → Came input from b (kinds.Prepare site_below comment) → stand_of k b ≡ Is_gone → Aborts k input b
   Hears_one : (z : Live) (from : BranchId) (site_below : Bool) → live_at k z.me ≡ Some z → z.me ≡ b → Answers input z from votes.Abort site_below → Aborts k input b
 
 -- a message is Abort for such a reason, or another
-abbrev pub AbortSo : Kept → Input → BranchId → Kind → Type 0
+abbrev pub AbortSo : NodeState → Input → BranchId → Kind → Type 0
 AbortSo k input b kinds.Abort = Aborts k input b
 AbortSo k input b _ = Unit {0}
 
-abbrev SaidSo : Kept → Input → List Post → Type 0
+abbrev SaidSo : NodeState → Input → List Post → Type 0
 SaidSo k input posts = AllByRecursion (λ x. AbortSo k input x.from x.kind) posts
 
 -- ---- messages of other kinds
@@ -49,11 +49,11 @@ Other kind = is_abort kind ≡ false
 others : OfDecisions Other
 others = record { committed = λ n. refl; rolled_back = refl; rollback = refl; in_doubt = refl; ack = refl; forgotten = refl; ask = refl }
 
-other_so : (k : Kept) (input : Input) (b : BranchId) (kind : Kind) → Other kind → AbortSo k input b kind
+other_so : (k : NodeState) (input : Input) (b : BranchId) (kind : Kind) → Other kind → AbortSo k input b kind
 other_so k input b kinds.Abort is = absurd cc
 other_so k input b _ is = tt
 
-none_so : (k : Kept) (input : Input) (posts : List Post) → AllByRecursion (λ x. Other x.kind) posts → SaidSo k input posts
+none_so : (k : NodeState) (input : Input) (posts : List Post) → AllByRecursion (λ x. Other x.kind) posts → SaidSo k input posts
 none_so k input posts all = all_weaker (λ x. Other x.kind) (λ x. AbortSo k input x.from x.kind) (λ x is. other_so k input x.from x.kind is) posts all
 
 answer_none : (x : Branch) (a : Answer) (parent : Option BranchId) → AllByRecursion (λ x. Other x.kind) (answer_says x a parent)
@@ -64,7 +64,7 @@ exec_none : (ss : List Session) (x : Branch) (i : ℕ) (s : Stmt) (given : ℕ) 
 exec_none ss x i s given None = tt
 exec_none ss x i s given (Some to) = (refl, tt)
 
-says_so : {k : Kept} {input : Input} {says : List Post} → Says k input says → SaidSo k input says
+says_so : {k : NodeState} {input : Input} {says : List Post} → Says k input says → SaidSo k input says
 says_so (steps.Gone_aborts to from site_below comment came gone) = (Was_gone from site_below comment came gone, tt)
 says_so {k = k} {input = input} (steps.Tells s from came kept) =
     (other_so k input s.me _ (cond_both (is_neighbor s from) (told_by s.decision) tolds.RolledBack (λ t. Other (told_kind t)) (λ near. told_says Other others (told_by s.decision)) (λ far. refl)), tt)
@@ -73,12 +73,12 @@ says_so _ = (tt, tt)
 
 -- ---- what a change before the deed leaves so
 
-called : (n : ℕ) (s : Stmt) (input : Input) → IsCall input n s → (j k : Kept) (b : BranchId) (kind : Kind) → AbortSo j input b kind → AbortSo k input b kind
+called : (n : ℕ) (s : Stmt) (input : Input) → IsCall input n s → (j k : NodeState) (b : BranchId) (kind : Kind) → AbortSo j input b kind → AbortSo k input b kind
 called n s input call j k b kinds.Abort (Was_gone from site_below comment came gone) = absurd (came_apart n s came call)
 called n s input call j k b kinds.Abort (Hears_one z from site_below found me answers) = absurd (came_apart n s answers.came call)
 called n s input call j k b _ so = tt
 
-keys_gone : (k : Kept) (c : BranchId) (input : Input) (b : BranchId) (kind : Kind) → AbortSo (without_read_keys k c) input b kind → AbortSo k input b kind
+keys_gone : (k : NodeState) (c : BranchId) (input : Input) (b : BranchId) (kind : Kind) → AbortSo (without_read_keys k c) input b kind → AbortSo k input b kind
 unfolding stand_of
 keys_gone k c input b kinds.Abort (Was_gone from site_below comment came gone) = Was_gone from site_below comment came gone
 keys_gone k c input b kinds.Abort (Hears_one z from site_below found me answers) = Hears_one z from site_below found me answers
@@ -89,7 +89,7 @@ abbrev came_kind : Input → Option Kind
 came_kind (inputs.Message m) = Some m.kind
 came_kind _ = None
 
-acked : (from to : BranchId) (input : Input) → Came input from to kinds.Ack → (j k : Kept) (b : BranchId) (kind : Kind) → AbortSo j input b kind → AbortSo k input b kind
+acked : (from to : BranchId) (input : Input) → Came input from to kinds.Ack → (j k : NodeState) (b : BranchId) (kind : Kind) → AbortSo j input b kind → AbortSo k input b kind
 acked from to input ack j k b kinds.Abort (Was_gone c site_below comment came gone) =
     let both : Some kinds.Ack ≡ Some (kinds.Prepare site_below comment) = sym (ap came_kind ack.is) ∙ ap came_kind came.is in absurd (cc both)
 acked from to input ack j k b kinds.Abort (Hears_one z c site_below found me answers) =
@@ -103,20 +103,20 @@ acked from to input ack j k b _ so = tt
 never_abandons : {l : Live} {sb : Bool} → Collected l sb acts.Abandon → ⊥
 never_abandons collected = elim collected [ ]
 
-abandons_so : {k : Kept} {input : Input} {l : Live} {sb : Bool} → Acting k input l sb acts.Abandon → Aborts k input l.me
+abandons_so : {k : NodeState} {input : Input} {l : Live} {sb : Bool} → Acting k input l sb acts.Abandon → Aborts k input l.me
 abandons_so (steps.Has_no_children l comment sb _ found begins none collected) = absurd (never_abandons collected)
 abandons_so (steps.Hears_abort l from sb found answers) = Hears_one l from sb found refl answers
 abandons_so (steps.Hears_last l from v sb _ found answers other all collected) = absurd (never_abandons collected)
 abandons_so (steps.At_point l from _ found came ready pointed) = elim pointed [ ]
 
-one_so : (k : Kept) (input : Input) (me : BranchId) (to : Option BranchId) → Aborts k input me → SaidSo k input (to_one me kinds.Abort to)
+one_so : (k : NodeState) (input : Input) (me : BranchId) (to : Option BranchId) → Aborts k input me → SaidSo k input (to_one me kinds.Abort to)
 one_so k input me None why = tt
 one_so k input me (Some q) why = (why, tt)
 
 -- ---- every step
 
 module _ (p : Place) (input : Input) where
-  pub aborts_on : {k : Kept} {d : Deed} → Step p input k d → SaidSo k input d.says
+  pub aborts_on : {k : NodeState} {d : Deed} → Step p input k d → SaidSo k input d.says
   aborts_on (steps.Begins {k = k} {d = d} n s call rows fit none step) = all_weaker _ _ (λ x so. called n s input call _ k x.from x.kind so) d.says (aborts_on step)
   aborts_on (steps.Pends {k = k} {d = d} n l given call has live code step) = all_weaker _ _ (λ x so. called n _ input call _ k x.from x.kind so) d.says (aborts_on step)
   aborts_on (steps.Lets_reads_go {k = k} {d = d} l comment site_below live begins step) = all_weaker _ _ (λ x so. keys_gone k l.me input x.from x.kind so) d.says (aborts_on step)

@@ -14,7 +14,7 @@ use Rattle.node_rules.specs.Data.inputs
 use Rattle.node_rules.specs.Data.kinds
 use Rattle.node_rules.specs.Data.records
 use Rattle.node_rules.specs.Words.{same, item_at, numbered, set_numbered}
-use Rattle.node_rules.specs.Kept.{Kept, Deed, standing_id}
+use Rattle.node_rules.specs.NodeState.{NodeState, Deed, standing_id}
 use Rattle.node_rules.specs.Records.{nothing_stored}
 use Rattle.node_rules.specs.Turn.{turn_of, heard, deed_of, start_of}
 use Rattle.node_rules.proofs.Steps.{IsKept}
@@ -108,7 +108,7 @@ decided_row r x is = (refl, ap (λ (y : Decided). y.parent) is, peers_are r.chil
 module _ (t : History) (whole : IsLawfulRun t) (sees : SeesAll t) where
   -- the Acks that the rows of a node hold are told
   abbrev pub AckedAt : Facts → Trail → Type 0
-  AckedAt f tr = (n : ℕ) (k : Kept) → node_at f n ≡ Some k → AllByRecursion (RowHasAcks (IsAcked tr)) k.stored.durable.kept
+  AckedAt f tr = (n : ℕ) (k : NodeState) → node_at f n ≡ Some k → AllByRecursion (RowHasAcks (IsAcked tr)) k.stored.durable.kept
 
   abbrev pub AcksAreTold : List Happening → Type 0
   AcksAreTold hs = AckedAt (f_at t hs) (tr_at t hs)
@@ -138,7 +138,7 @@ module _ (t : History) (whole : IsLawfulRun t) (sees : SeesAll t) where
     abbrev may : MayHappen t.places t.commands f0 (happenings.Turn u)
     may = may_of t whole hs (happenings.Turn u) rest is
 
-    abbrev k : Kept
+    abbrev k : NodeState
     k = may.0
 
     abbrev p : Place
@@ -166,7 +166,7 @@ module _ (t : History) (whole : IsLawfulRun t) (sees : SeesAll t) where
         by s None at some = absurd (some at)
         by s (Some x) at some = left_are_told t whole sees hs part0 s.me x at
 
-    heard_so : (j : Kept) → j.stored.durable.kept ≡ k.stored.durable.kept → Heard Q p u.input j
+    heard_so : (j : NodeState) → j.stored.durable.kept ≡ k.stored.durable.kept → Heard Q p u.input j
     heard_so j rows s from kept came =
         let it : IsToldLeft (births_of s0) f0 tr0 s.me = row_told s (subst (λ (ks : List Standing). item_at standing_id ks s.me ≡ Some s) rows kept) in
         let b : Seen = it.seen in
@@ -189,12 +189,12 @@ module _ (t : History) (whole : IsLawfulRun t) (sees : SeesAll t) where
     after_cut : u.cut ≡ true → node_at f1 u.node ≡ None
     after_cut cut = (turn_here t.places t.commands f0 stands.0.even u k may.1.up).0 ∙ ap (λ c. kept_after c (Some (turn_of p k u.input))) cut
 
-    own_acks : (cut : Bool) → u.cut ≡ cut → (j : Kept) → node_at f1 u.node ≡ Some j → AllByRecursion (RowHasAcks Q) j.stored.durable.kept
+    own_acks : (cut : Bool) → u.cut ≡ cut → (j : NodeState) → node_at f1 u.node ≡ Some j → AllByRecursion (RowHasAcks Q) j.stored.durable.kept
     own_acks true cut j there = (let none = after_cut cut in absurd (cc (none, there)))
     own_acks false cut j there =
         let both : Some d.after ≡ Some j = sym (after_is cut) ∙ there in
         let it : d.after ≡ j = cc in
-        subst (λ (i : Kept). AllByRecursion (RowHasAcks Q) i.stored.durable.kept) it rows_after
+        subst (λ (i : NodeState). AllByRecursion (RowHasAcks Q) i.stored.durable.kept) it rows_after
 
     turn_acks : AckedAt f1 tr1
     turn_acks n j up = elim (cases_nat u.node n) [
@@ -247,16 +247,16 @@ module _ (t : History) (whole : IsLawfulRun t) (sees : SeesAll t) where
     | inl before ↦ now m j (sym (ap flat before) ∙ up)
     | inr new ↦ (let both : Some (start_of (with_boot (f_at t hs) n boot)) ≡ Some j = sym (ap flat new.1) ∙ up in
         let it : start_of (with_boot (f_at t hs) n boot) ≡ j = cc in
-        subst (λ (i : Kept). AllByRecursion (RowHasAcks (IsAcked (tr_at t hs))) i.stored.durable.kept) it (start_rows (tr_at t hs) (with_boot (f_at t hs) n boot)))
+        subst (λ (i : NodeState). AllByRecursion (RowHasAcks (IsAcked (tr_at t hs))) i.stored.durable.kept) it (start_rows (tr_at t hs) (with_boot (f_at t hs) n boot)))
   ]
   acks_after_one hs (happenings.Begun c) rest is now m j up = now m j up
   acks_after_one hs (happenings.Cut x y) rest is now m j up = now m j up
   acks_after_one hs (happenings.Join x y) rest is now m j up = now m j up
   acks_after_one hs (happenings.Lost x) rest is now m j up = now m j up
 
-  acks_first_node : (o : Option Kept) → IfSome o (λ k. AllByRecursion (RowHasAcks (IsAcked (tr_at t []))) k.stored.durable.kept) → (k : Kept) → o ≡ Some k → AllByRecursion (RowHasAcks (IsAcked (tr_at t []))) k.stored.durable.kept
+  acks_first_node : (o : Option NodeState) → IfSome o (λ k. AllByRecursion (RowHasAcks (IsAcked (tr_at t []))) k.stored.durable.kept) → (k : NodeState) → o ≡ Some k → AllByRecursion (RowHasAcks (IsAcked (tr_at t []))) k.stored.durable.kept
   acks_first_node None is k at = absurd cc
-  acks_first_node (Some j) is k at = let it : j ≡ k = cc at in subst (λ (i : Kept). AllByRecursion (RowHasAcks (IsAcked (tr_at t []))) i.stored.durable.kept) it is
+  acks_first_node (Some j) is k at = let it : j ≡ k = cc at in subst (λ (i : NodeState). AllByRecursion (RowHasAcks (IsAcked (tr_at t []))) i.stored.durable.kept) it is
 
   acks_first : AcksAreTold []
   unfolding facts_of

@@ -22,7 +22,7 @@ use Rattle.node_rules.specs.Data.params
 use Rattle.node_rules.specs.Data.records
 use Rattle.node_rules.specs.Words.{same, put_item}
 use Rattle.node_rules.specs.Inputs.{Came}
-use Rattle.node_rules.specs.Kept.{Kept, Stored, Deed, standing_id, with_standing}
+use Rattle.node_rules.specs.NodeState.{NodeState, Stored, Deed, standing_id, with_standing}
 use Rattle.node_rules.specs.Prepare.{sealed_record, decided_record}
 use Rattle.node_rules.specs.Records.{applied, stored_by}
 use Rattle.node_rules.specs.Commit.{acks_kid, acked_by}
@@ -105,14 +105,14 @@ module _ (Q : BranchId → BranchId → Type 0) where
   }
 
   module _ (p : Place) (input : Input) where
-    abbrev pub RowsSo : Kept → Type 0
+    abbrev pub RowsSo : NodeState → Type 0
     RowsSo k = AllByRecursion RowHasAcks k.stored.durable.kept
 
     -- an Ack to a branch of these rows tells it
-    abbrev pub Heard : Kept → Type 0
+    abbrev pub Heard : NodeState → Type 0
     Heard k = (s : Standing) (from : BranchId) → IsKept k s → Came input from s.me kinds.Ack → Q from s.me
 
-    recorded : (k : Kept) (r : RedoRecord) → RowsSo k → AllByRecursion RowHasAcks (applied k.stored r).durable.kept
+    recorded : (k : NodeState) (r : RedoRecord) → RowsSo k → AllByRecursion RowHasAcks (applied k.stored r).durable.kept
     recorded k r all = rows_applied k.stored r all
 
     abbrev acker : Input → Option BranchId
@@ -133,13 +133,13 @@ module _ (Q : BranchId → BranchId → Type 0) where
         subst₂ Q from_is to_is is
 
     -- with one Ack more
-    pub counted : (k : Kept) (s : Standing) (from : BranchId) → IsKept k s → Came input from s.me kinds.Ack → Heard k → RowsSo k → AllByRecursion RowHasAcks (put_item standing_id k.stored.durable.kept (acked_by s from))
+    pub counted : (k : NodeState) (s : Standing) (from : BranchId) → IsKept k s → Came input from s.me kinds.Ack → Heard k → RowsSo k → AllByRecursion RowHasAcks (put_item standing_id k.stored.durable.kept (acked_by s from))
     counted k s from kept came heard all = all_with RowHasAcks standing_id k.stored.durable.kept (acked_by s from) all (acked_so s from (heard s from kept came) (all_found RowHasAcks standing_id k.stored.durable.kept s.me s all kept))
 
-    pub heard_on : (k : Kept) (s : Standing) (from : BranchId) → IsKept k s → Came input from s.me kinds.Ack → Heard k → Heard (with_standing k (acked_by s from))
+    pub heard_on : (k : NodeState) (s : Standing) (from : BranchId) → IsKept k s → Came input from s.me kinds.Ack → Heard k → Heard (with_standing k (acked_by s from))
     heard_on k s from kept came heard x c at ack = told_again from s.me c x.me came ack (heard s from kept came)
 
-    pub acks_on : {k : Kept} {d : Deed} → Step p input k d → Heard k → RowsSo k → RowsSo d.after
+    pub acks_on : {k : NodeState} {d : Deed} → Step p input k d → Heard k → RowsSo k → RowsSo d.after
     acks_on (steps.Begins n s call rows fit none step) heard all = acks_on step heard all
     acks_on (steps.Pends n l comment call has live code step) heard all = acks_on step heard all
     acks_on (steps.Lets_reads_go l comment site_below live begins step) heard all = acks_on step heard all
@@ -181,7 +181,7 @@ module _ (Q : BranchId → BranchId → Type 0) where
       abbrev pub RowDecided : Standing → Type 0
       RowDecided s = IsOfDecision s.me s.parent (map (λ (c : Kid). c.branch) s.children) s.toward
 
-      abbrev pub RowsDecided : Kept → Type 0
+      abbrev pub RowsDecided : NodeState → Type 0
       RowsDecided k = AllByRecursion RowDecided k.stored.durable.kept
 
       -- a site that forgets has all Acks
@@ -217,7 +217,7 @@ module _ (Q : BranchId → BranchId → Type 0) where
             let some : s.toward ≡ Some from = branch_found from s.toward toward in
             absurd (let none = so.0 in cc (none, some))
 
-      pub forgets_on : {k : Kept} {d : Deed} → Step p input k d → Heard k → RowsSo k → RowsDecided k → IfSome d.wrote ForgetsSo
+      pub forgets_on : {k : NodeState} {d : Deed} → Step p input k d → Heard k → RowsSo k → RowsDecided k → IfSome d.wrote ForgetsSo
       forgets_on (steps.Begins n s call rows fit none step) heard all decided = forgets_on step heard all decided
       forgets_on (steps.Pends n l comment call has live code step) heard all decided = forgets_on step heard all decided
       forgets_on (steps.Lets_reads_go l comment site_below live begins step) heard all decided = forgets_on step heard all decided

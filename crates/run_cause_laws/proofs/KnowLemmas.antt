@@ -6,7 +6,7 @@ use Rattle.std.specs.List.{AllByRecursion}
 use Rattle.node_rules.specs.Data.{BranchId, RedoRecord, Kind, Msg, Input, Place}
 use Rattle.node_rules.specs.Data.kinds
 use Rattle.node_rules.specs.Data.records
-use Rattle.node_rules.specs.Kept.{Kept}
+use Rattle.node_rules.specs.NodeState.{NodeState}
 use Rattle.run_rules.specs.Branches.{Trail}
 use Rattle.run_rules.specs.Data.{Happening}
 use Rattle.run_rules.specs.Data.happenings
@@ -30,7 +30,7 @@ use Rattle.run_cause_laws.proofs.AckLemmas.{sites_forget_duly}
 use Rattle.run_cause_laws.proofs.PassRunLemmas.{execs_pass_on}
 use Rattle.run_cause_laws.proofs.QuietLemmas.{read_only_is_due}
 
-module _ (p : Place) (f : Facts) (tr after : Trail) (k : Kept) (n : ℕ) (input : Input) where
+module _ (p : Place) (f : Facts) (tr after : Trail) (k : NodeState) (n : ℕ) (input : Input) where
   writes : (w : Option RedoRecord) → IfSome w (LeavesOnWhatCame p f tr after k n input) → IfSome w (SiteMayForget f after input) → IfSome w (IsWrittenByLife p f tr after k n input)
   writes None leaves forgets = tt
   writes (Some (records.Sealed r)) leaves forgets = leaves

@@ -10,7 +10,7 @@ use Rattle.node_rules.specs.Data.kinds
 use Rattle.node_rules.specs.Data.phases
 use Rattle.node_rules.specs.Data.votes
 use Rattle.node_rules.specs.Words.{same, item_at}
-use Rattle.node_rules.specs.Kept.{live_id}
+use Rattle.node_rules.specs.NodeState.{live_id}
 use Rattle.node_rules.proofs.Steps.{Answers}
 use Rattle.run_rules.specs.Branches.{Seen, is_live, is_live_at, is_among}
 use Rattle.run_rules.specs.Trail.{is_first_vote, is_quiet, input_drops, kind_drops, stopped_by}

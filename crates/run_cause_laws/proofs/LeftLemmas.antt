@@ -13,7 +13,7 @@ use Rattle.node_rules.specs.Data.inputs
 use Rattle.node_rules.specs.Data.kinds
 use Rattle.node_rules.specs.Inputs.{Came}
 use Rattle.node_rules.specs.Words.{item_at}
-use Rattle.node_rules.specs.Kept.{Kept, Deed, live_id, live_at}
+use Rattle.node_rules.specs.NodeState.{NodeState, Deed, live_id, live_at}
 use Rattle.node_rules.specs.Turn.{turn_of, heard, deed_of, stamped}
 use Rattle.run_rules.specs.Births.{Born, births_of}
 use Rattle.run_base_laws.specs.BirthLaws.{Began, LiveIs}
@@ -74,7 +74,7 @@ module _ (t : History) (whole : IsLawfulRun t) (sees : SeesAll t) where
     born_on x began = born_end (so_far t (hs ++ h ∷ [])) (part_lawful t whole (hs ++ h ∷ []) (part_on t whole hs h rest is)) hs (record { rest = h ∷ []; is = refl }) x began
 
     -- a live branch of a node, as it is told
-    pub record LiveTold (n : ℕ) (k : Kept) (b : BranchId) (z : Live) : Type 0 where
+    pub record LiveTold (n : ℕ) (k : NodeState) (b : BranchId) (z : Live) : Type 0 where
       pub born : Born
       pub began : Began (births_of (so_far t hs)) born
       pub is_me : born.me ≡ b
@@ -86,7 +86,7 @@ module _ (t : History) (whole : IsLawfulRun t) (sees : SeesAll t) where
       pub me : seen.me ≡ b
       pub own : b.node ≡ n
 
-    live_told : (n : ℕ) (k : Kept) → node_at (f_at t hs) n ≡ Some k → (b : BranchId) (z : Live) → live_at k b ≡ Some z → LiveTold n k b z
+    live_told : (n : ℕ) (k : NodeState) → node_at (f_at t hs) n ≡ Some k → (b : BranchId) (z : Live) → live_at k b ≡ Some z → LiveTold n k b z
     live_told n k up b z found =
         let me : z.me ≡ b = item_is live_id k.lives b z found in
         let it = saw.lives n k up z (subst (λ c. live_at k c ≡ Some z) (sym me) found) in
@@ -133,7 +133,7 @@ module _ (t : History) (whole : IsLawfulRun t) (sees : SeesAll t) where
     abbrev may : MayHappen t.places t.commands f0 (happenings.Turn u)
     may = may_of t whole hs (happenings.Turn u) rest is
 
-    abbrev k : Kept
+    abbrev k : NodeState
     k = may.0
 
     abbrev p : Place
@@ -335,7 +335,7 @@ module _ (t : History) (whole : IsLawfulRun t) (sees : SeesAll t) where
       | inr made ↦ by (node_at (f_at t hs) n) refl (later_exit b made.0 x made.1 made.2).0
     ]
       where
-        by : (o : Option Kept) → node_at (f_at t hs) n ≡ o → is_among b (lives_at (node_at (f_at t hs) n)) ≡ true → IsToldLeft (births_of (so_far t (hs ++ happenings.Stopped n ∷ []))) g1 r1 b
+        by : (o : Option NodeState) → node_at (f_at t hs) n ≡ o → is_among b (lives_at (node_at (f_at t hs) n)) ≡ true → IsToldLeft (births_of (so_far t (hs ++ happenings.Stopped n ∷ []))) g1 r1 b
         by None down among = (let none : is_among b (lives_at (node_at (f_at t hs) n)) ≡ false = ap (λ o. is_among b (lives_at o)) down in absurd (cc (none, among)))
         by (Some k) up among =
             let l = among_found k.lives b (subst (λ o. is_among b (lives_at o) ≡ true) up among) in

@@ -6,7 +6,7 @@ use Rattle.agreement.specs.Events.{Event, Exit, Sealed, Decided, first, exit}
 use Rattle.node_rules.specs.Data.{BranchId, Live, RedoRecord, Input}
 use Rattle.node_rules.specs.Data.records
 use Rattle.node_rules.specs.Words.{same, item_at}
-use Rattle.node_rules.specs.Kept.{live_id}
+use Rattle.node_rules.specs.NodeState.{live_id}
 use Rattle.run_base_laws.specs.RunEvents.{with_event, wrote_event}
 use Rattle.run_rules.specs.Trail.{recorded_exit}
 use Rattle.book_laws.specs.LeaveLaws.{LeavesOn}

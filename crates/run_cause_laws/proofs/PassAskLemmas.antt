@@ -11,7 +11,7 @@ use Rattle.node_rules.specs.Data.kinds
 use Rattle.node_rules.specs.declared.work.Going.{Going}
 use Rattle.node_rules.specs.Inputs.{Came, IsCall, IsSession}
 use Rattle.node_rules.specs.Words.{same, is_item_of}
-use Rattle.node_rules.specs.Kept.{Kept, live_id, live_at}
+use Rattle.node_rules.specs.NodeState.{NodeState, live_id, live_at}
 use Rattle.node_rules.specs.LiveBranches.{works_of}
 use Rattle.node_rules.specs.Sessions.{session_at}
 use Rattle.run_rules.specs.Births.{Born, births_of}
@@ -66,7 +66,7 @@ module _ (t : History) (whole : IsLawfulRun t) (hs : List Happening) (u : Turn) 
   abbrev may : MayHappen t.places t.commands f0 (happenings.Turn u)
   may = may_of t whole hs (happenings.Turn u) rest is
 
-  abbrev k : Kept
+  abbrev k : NodeState
   k = may.0
 
   abbrev said : List Post

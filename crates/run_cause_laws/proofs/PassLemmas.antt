@@ -13,7 +13,7 @@ use Rattle.node_rules.specs.declared.work.Waits.TheVariants as waiting
 use Rattle.node_rules.specs.declared.work.Going.{Going}
 use Rattle.node_rules.specs.declared.work.Work.{Work}
 use Rattle.node_rules.specs.Words.{numbered, item_at}
-use Rattle.node_rules.specs.Kept.{Kept, Stored, Branch, Deed, live_id, work_id, work_or, live_at}
+use Rattle.node_rules.specs.NodeState.{NodeState, Stored, Branch, Deed, live_id, work_id, work_or, live_at}
 use Rattle.node_rules.specs.LiveBranches.{works_of}
 use Rattle.node_rules.specs.Calls.{called, exec_to, waits_for_opened, with_edge}
 use Rattle.node_rules.specs.Client.{new_root, fresh_root}
@@ -64,7 +64,7 @@ pub record WaitsFor (D : Durable) (link : List ℕ) (o : Option Seen) (g : Going
 
 -- of each live branch that does
 abbrev pub EachWaits : Facts → Trail → Type 0
-EachWaits f tr = (n : ℕ) (k : Kept) → node_at f n ≡ Some k → (l : Live) → live_at k l.me ≡ Some l → (g : Going) (link : List ℕ) → (works_of k.works l.me).going ≡ Some g → g.waits ≡ waiting.ForOpened link
+EachWaits f tr = (n : ℕ) (k : NodeState) → node_at f n ≡ Some k → (l : Live) → live_at k l.me ≡ Some l → (g : Going) (link : List ℕ) → (works_of k.works l.me).going ≡ Some g → g.waits ≡ waiting.ForOpened link
     → WaitsFor (durable (records_at f n)) link (seen_at tr l.me) g
 
 waits_apart : (g : Going) (i : ℕ) (link : List ℕ) → g.waits ≡ waiting.ForReply i → g.waits ≡ waiting.ForOpened link → ⊥
@@ -96,10 +96,10 @@ module _ (t : History) (whole : IsLawfulRun t) (hs : List Happening) (u : Turn) 
   abbrev may : MayHappen t.places t.commands f0 (happenings.Turn u)
   may = may_of t whole hs (happenings.Turn u) rest is
 
-  abbrev k : Kept
+  abbrev k : NodeState
   k = may.0
 
-  abbrev k1 : Kept
+  abbrev k1 : NodeState
   k1 = heard k u.input
 
   abbrev p : Place
@@ -147,20 +147,20 @@ module _ (t : History) (whole : IsLawfulRun t) (hs : List Happening) (u : Turn) 
 
   -- ---- the node of a statement
 
-  from_works : {i j : Kept} → From p u.input i j → j.works ≡ i.works
+  from_works : {i j : NodeState} → From p u.input i j → j.works ≡ i.works
   from_works (Itself i) = refl
   from_works (Begun n s call rows new from) = from_works from
 
   cat : OneCatalog k1.stored.durable D0
   cat = subst (λ (s : Stored). OneCatalog s.durable D0) (sym (tales.heard_stored t whole hs u rest is u.input)) (catalog_kept k (records_at f0 u.node) (records_are_kept s0 lawful0 u.node k may.1.up))
 
-  from_cat : {j : Kept} → From p u.input k1 j → OneCatalog j.stored.durable D0
+  from_cat : {j : NodeState} → From p u.input k1 j → OneCatalog j.stored.durable D0
   from_cat from = subst (λ (s : Stored). OneCatalog s.durable D0) (from_stored p u.input from) cat
 
   abbrev Leads : List Edge → Type 0
   Leads es = AllByRecursion (λ (e : Edge). target_of p D0 e.link ≡ Some e.peer.node) es
 
-  abbrev LeadsAll : Kept → Type 0
+  abbrev LeadsAll : NodeState → Type 0
   LeadsAll j = (b : BranchId) (l : Live) → live_at j b ≡ Some l → Leads l.edges
 
   line : (b : BranchId) (l : Live) → live_at k b ≡ Some l → Line p D0 (GivenBy t whole hs) (CalledAt t whole) said (GoesOn k l) l.me l.edges (works_of k.works b)
@@ -172,18 +172,18 @@ module _ (t : History) (whole : IsLawfulRun t) (hs : List Happening) (u : Turn) 
   heard_leads : LeadsAll k1
   heard_leads b l live = (line b l (lives_are b l live)).leads
 
-  from_leads : {i j : Kept} → From p u.input i j → LeadsAll i → LeadsAll j
+  from_leads : {i j : NodeState} → From p u.input i j → LeadsAll i → LeadsAll j
   from_leads (Itself i) leads = leads
   from_leads (Begun {k = i} n s call rows new from) leads = from_leads from (λ b l live. elim (found_last live_id i.lives (fresh_root p i (new_root p i n)) b l live) [
     | inl before ↦ leads b l before
     | inr last ↦ subst (λ (y : Live). Leads y.edges) last.1 tt
   ])
 
-  asked_leads : {j : Kept} → LeadsAll j → {x : Branch} {s : Stmt} {given : ℕ} → Asked j u.input x s given → Leads x.live.edges
+  asked_leads : {j : NodeState} → LeadsAll j → {x : Branch} {s : Stmt} {given : ℕ} → Asked j u.input x s given → Leads x.live.edges
   asked_leads {j = j} leads (steps.By_call n x s call rows has code found) = leads x.live.me x.live (live_so j x.live.me x found)
   asked_leads {j = j} leads (steps.By_exec x from call given advice s came found runs) = leads x.live.me x.live (live_so j x.live.me x found)
 
-  asked_mine : {j : Kept} {x : Branch} {s : Stmt} {given : ℕ} → Asked j u.input x s given → x.work.branch ≡ x.live.me
+  asked_mine : {j : NodeState} {x : Branch} {s : Stmt} {given : ℕ} → Asked j u.input x s given → x.work.branch ≡ x.live.me
   asked_mine {j = j} (steps.By_call n x s call rows has code found) = work_is j x.live.me x found
   asked_mine {j = j} (steps.By_exec x from call given advice s came found runs) = work_is j x.live.me x found
 
@@ -200,7 +200,7 @@ module _ (t : History) (whole : IsLawfulRun t) (hs : List Happening) (u : Turn) 
   }
 
   module _ (uncut : u.cut ≡ false) (rs : List RedoRecord) where
-    asked_now : {j : Kept} → From p u.input k1 j → {x : Branch} {s : Stmt} {given : ℕ} → Asked j u.input x s given → Knows k1 trb x.live.me → asked_of (seen_at tr1 x.live.me) ≡ Some s
+    asked_now : {j : NodeState} → From p u.input k1 j → {x : Branch} {s : Stmt} {given : ℕ} → Asked j u.input x s given → Knows k1 trb x.live.me → asked_of (seen_at tr1 x.live.me) ≡ Some s
     asked_now {j = j} from {x = x} {s = s} asked told =
         let known : Knows j trb x.live.me = from_knows p u.input from trb x.live.me told in
         let it = asked_so trb u.node u.input j asked (own.roots_are t whole hs u rest is roots owns uncut j from) (known.seen, known.at, item_is seen_id trb.seen x.live.me known.seen known.at, known.live, known.taken) in

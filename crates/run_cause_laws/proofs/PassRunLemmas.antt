@@ -11,7 +11,7 @@ use Rattle.node_rules.specs.declared.work.Waits.TheVariants as waiting
 use Rattle.node_rules.specs.declared.work.Going.{Going}
 use Rattle.node_rules.specs.Words.{same, item_at}
 use Rattle.node_rules.specs.Names.{ref_of}
-use Rattle.node_rules.specs.Kept.{Kept, Deed, live_id, live_at}
+use Rattle.node_rules.specs.NodeState.{NodeState, Deed, live_id, live_at}
 use Rattle.node_rules.specs.LiveBranches.{works_of}
 use Rattle.node_rules.specs.Turn.{turn_of, start_of, heard, deed_of, stamped}
 use Rattle.run_rules.specs.Branches.{Dropped, Seen, Trail, seen_id, seen_at, is_live_at}
@@ -132,7 +132,7 @@ module _ (t : History) (whole : IsLawfulRun t) where
     abbrev may : MayHappen t.places t.commands f0 (happenings.Turn u)
     may = may_of t whole hs (happenings.Turn u) more is
 
-    abbrev k : Kept
+    abbrev k : NodeState
     k = may.0
 
     abbrev p : Place
@@ -151,7 +151,7 @@ module _ (t : History) (whole : IsLawfulRun t) where
     grows n = catalog_on t whole n hs (happenings.Turn u ∷ []) (part_on t whole hs (happenings.Turn u) more is)
 
     -- as the records are after the turn
-    abbrev After : ℕ → Kept → Type 0
+    abbrev After : ℕ → NodeState → Type 0
     After n j = (l : Live) → live_at j l.me ≡ Some l → (g : Going) (link : List ℕ) → (works_of j.works l.me).going ≡ Some g → g.waits ≡ waiting.ForOpened link → WaitsFor (catalog t whole hs1 n) link (seen_at tr1 l.me) g
 
     here_after : u.cut ≡ false → After u.node d.after
@@ -159,7 +159,7 @@ module _ (t : History) (whole : IsLawfulRun t) where
         waits_grow (catalog t whole hs u.node) (catalog t whole hs1 u.node) (grows u.node) link (seen_at tr1 l.me) g
         (waits_after t whole hs u more is roots0 now.owns now.waits uncut [] passing (told uncut) l live g link going waits)
 
-    elsewhere : (n : ℕ) (j : Kept) → u.node ≢ n → node_at f1 n ≡ Some j → After n j
+    elsewhere : (n : ℕ) (j : NodeState) → u.node ≢ n → node_at f1 n ≡ Some j → After n j
     elsewhere n j other up l live g link going waits =
         let s0 : History = so_far t hs in
         let lawful0 : IsLawfulRun s0 = part_lawful t whole hs part0 in
@@ -174,7 +174,7 @@ module _ (t : History) (whole : IsLawfulRun t) where
         waits_grow (catalog t whole hs n) (catalog t whole hs1 n) (grows n) link (seen_at tr1 l.me) g
         (waits_same (catalog t whole hs n) link (seen_at tr0 l.me) (seen_at tr1 l.me) g asked (now.waits n j before l live g link going waits))
 
-    all_after : (n : ℕ) (j : Kept) → node_at f1 n ≡ Some j → After n j
+    all_after : (n : ℕ) (j : NodeState) → node_at f1 n ≡ Some j → After n j
     all_after n j up = elim (cases_eq u.node n) [
       | inl here ↦ subst (λ m. After m j) here (by u.cut refl (subst (λ m. node_at f1 m ≡ Some j) (sym here) up))
       | inr other ↦ elsewhere n j other up
@@ -218,7 +218,7 @@ module _ (t : History) (whole : IsLawfulRun t) where
 
   module _ (hs : List Happening) (h : Happening) (more : List Happening) (is : hs ++ h ∷ more ≡ t.trace) (now : Known hs) where
     same_known : (g : Facts) (tr : Trail) → facts_after t.places t.commands (f_at t hs) h ≡ g → trail_after t.places (f_at t hs) (tr_at t hs) h ≡ tr
-        → ((n : ℕ) (j : Kept) → node_at g n ≡ Some j → (l : Live) → live_at j l.me ≡ Some l → node_at (f_at t hs) n ≡ Some j)
+        → ((n : ℕ) (j : NodeState) → node_at g n ≡ Some j → (l : Live) → live_at j l.me ≡ Some l → node_at (f_at t hs) n ≡ Some j)
         → ((b : BranchId) → (asked_of (seen_at tr b) ≡ asked_of (seen_at (tr_at t hs) b)) × (taken_of (seen_at tr b) ≡ taken_of (seen_at (tr_at t hs) b)))
         → Known (hs ++ h ∷ [])
     same_known g tr facts trail still kept =

@@ -10,7 +10,7 @@ use Rattle.node_rules.specs.Data.{BranchId, Change, Kind, Live, Msg, Stmt, Place
 use Rattle.node_rules.specs.Data.inputs
 use Rattle.node_rules.specs.Data.kinds
 use Rattle.node_rules.specs.Words.{is_item_of, item_at}
-use Rattle.node_rules.specs.Kept.{Kept, Deed, live_id, live_at}
+use Rattle.node_rules.specs.NodeState.{NodeState, Deed, live_id, live_at}
 use Rattle.node_rules.specs.Prepare.{own_changes}
 use Rattle.node_rules.specs.Turn.{turn_of, deed_of}
 use Rattle.run_rules.specs.Births.{Born, births_of, born_id}
@@ -128,7 +128,7 @@ module _ (t : History) (whole : IsLawfulRun t) where
     abbrev may : MayHappen t.places t.commands f0 (happenings.Turn u)
     may = may_of t whole hs (happenings.Turn u) rest is
 
-    abbrev k : Kept
+    abbrev k : NodeState
     k = may.0
 
     abbrev p : Place

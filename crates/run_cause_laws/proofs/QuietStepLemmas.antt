@@ -12,7 +12,7 @@ use Rattle.node_rules.specs.Data.kinds
 use Rattle.node_rules.specs.Data.phases
 use Rattle.node_rules.specs.Data.votes
 use Rattle.node_rules.specs.Words.{same, numbered}
-use Rattle.node_rules.specs.Kept.{Kept, Deed, live_at}
+use Rattle.node_rules.specs.NodeState.{NodeState, Deed, live_at}
 use Rattle.node_rules.specs.Prepare.{collecting, with_comment, voted}
 use Rattle.node_rules.specs.Turn.{turn_of, heard, deed_of, stamped}
 use Rattle.node_rules.proofs.Steps as steps
@@ -72,13 +72,13 @@ module _ (tr : Trail) (n : ℕ) where
   answers_unasked : {input : Input} {l : Live} {from : BranchId} {v : Vote} {b : Bool} → Answers input l from v b → asks tr n input ≡ None
   answers_unasked {l = l} {v = v} answers = ap (asks tr n) answers.came.is ∙ vote_unasked l.me v answers.kind answers.is_vote
 
-  begins_unasked : {at : Kept} {input : Input} {l : Live} {comment : List ℕ} {b : Bool} → Collects at input l comment b → b ≡ false → asks tr n input ≡ None
+  begins_unasked : {at : NodeState} {input : Input} {l : Live} {comment : List ℕ} {b : Bool} → Collects at input l comment b → b ≡ false → asks tr n input ≡ None
   begins_unasked (steps.By_commit m given call has code is) off = absurd cc
   begins_unasked (steps.By_prepare from b came working) off = ap (asks tr n) came.is
 
 -- ---- a turn
 
-module _ (t : History) (before : List Happening) (lawful : IsLawfulRun (so_far t before)) (u : Turn) (k : Kept) (may : MayTurn t.places (f_at t before) u k) (weigh : NodesWeigh (f_at t before) (e_at t before) (happenings.Turn u)) where
+module _ (t : History) (before : List Happening) (lawful : IsLawfulRun (so_far t before)) (u : Turn) (k : NodeState) (may : MayTurn t.places (f_at t before) u k) (weigh : NodesWeigh (f_at t before) (e_at t before) (happenings.Turn u)) where
   abbrev f : Facts
   f = f_at t before
 
@@ -88,7 +88,7 @@ module _ (t : History) (before : List Happening) (lawful : IsLawfulRun (so_far t
   abbrev g : Facts
   g = facts_after t.places t.commands f (happenings.Turn u)
 
-  abbrev k0 : Kept
+  abbrev k0 : NodeState
   k0 = heard k u.input
 
   abbrev d : Deed
@@ -118,7 +118,7 @@ module _ (t : History) (before : List Happening) (lawful : IsLawfulRun (so_far t
           nowhere x is i at = (let none : path_on (phases.Collecting false) (step l) ≡ Some i = subst (λ y. path_on y (step l) ≡ Some i) is at in absurd cc)
       by false off = refl
 
-  acting_quits : (at : Kept) → Near k0 at → {l : Live} {b : Bool} → Acting at u.input l b acts.SayReadOnly → l.parent ≢ None → Quits l.me
+  acting_quits : (at : NodeState) → Near k0 at → {l : Live} {b : Bool} → Acting at u.input l b acts.SayReadOnly → l.parent ≢ None → Quits l.me
   acting_quits at near (steps.Has_no_children l comment b _ live begins none collected) below = record {
     live = l;
     found = live_in t before lawful u k may at near l live;

@@ -18,8 +18,8 @@ use Rattle.run_rules.specs.Scripts.{IsTheRunOf}
 use Rattle.run_rules.specs.Lawful.{History}
 use Rattle.run_rules.specs.Lines.{spent}
 use Rattle.run_rules.specs.Past.{past}
-use Rattle.run_claims.specs.Places.{node_line, told_of}
-use Rattle.run_rules.specs.Telling.{Past, start}
+use Rattle.run_claims.specs.Places.{node_line, reported_of}
+use Rattle.run_rules.specs.RunReport.{Past, start}
 use Rattle.run_claims.specs.Undisturbed.{Commit, Undisturbed, IsComplete, LostNone, HasNotStopped, IsCalm, facts_by, branches_by, answers_from}
 
 -- what these happenings leave, with what is told of them
@@ -39,7 +39,7 @@ GoesWell _ = Unit {0}
 pub record IsUnderWay (t : History) (front later : List Happening) (c : Commit t.places t.commands front) : Type 0 where
   pub within : front ++ later ≡ t.trace
   pub own : command_at t.commands (facts_by t.places t.commands c.before).command ≡ commands.At c.call.node c.session (Some (stmts.Commit c.comment))
-  pub off : (past_by t.places t.commands c.before).telling.hold ≡ false
+  pub off : (past_by t.places t.commands c.before).run_report.hold ≡ false
   pub whole : c.call.cut ≡ false
   pub well : AllByRecursion GoesWell c.during
 
@@ -54,7 +54,7 @@ Delivers k _ = ⊥
 -- delivered next, up to 4,096 in a command.
 abbrev pub CommitsFlow : Type 0
 CommitsFlow = (t : History) → IsTheRunOf t → (front later : List Happening) (h : Happening) (c : Commit t.places t.commands front) → IsUnderWay t front (h ∷ later) c → GoesWell h
-    → (k : ℕ) → first_flying (facts_by t.places t.commands front).net ≡ Some k → spent (past_by t.places t.commands front).telling.deliveries ≡ false → Delivers k h
+    → (k : ℕ) → first_flying (facts_by t.places t.commands front).net ≡ Some k → spent (past_by t.places t.commands front).run_report.deliveries ≡ false → Delivers k h
 
 -- the answers that the call of a COMMIT has had
 abbrev pub IsAnswered : (t : History) (front : List Happening) → Commit t.places t.commands front → Type 0
@@ -62,21 +62,21 @@ IsAnswered t front c = answers_from t.places t.commands (facts_by t.places t.com
 
 -- no loss is to be told, and no message is in flight
 abbrev pub IsStill : (t : History) (front : List Happening) → Type 0
-IsStill t front = ((facts_by t.places t.commands front).losses_to_tell ≡ []) × (first_flying (facts_by t.places t.commands front).net ≡ None)
+IsStill t front = ((facts_by t.places t.commands front).losses_to_report ≡ []) × (first_flying (facts_by t.places t.commands front).net ≡ None)
 
 -- In the run of a script, where such a COMMIT has been answered and nothing is in flight any more, no call is pending, and the
 -- next command is due, or the end of the script.
 abbrev pub CommitsEnd : Type 0
 CommitsEnd = (t : History) → IsTheRunOf t → (front later : List Happening) (c : Commit t.places t.commands front) → IsUnderWay t front later c → IsAnswered t front c → IsStill t front
-    → ((past_by t.places t.commands front).telling.calls ≡ []) × (due_of t.commands (past_by t.places t.commands front) ≡ next_command t.commands (facts_by t.places t.commands front))
+    → ((past_by t.places t.commands front).run_report.calls ≡ []) × (due_of t.commands (past_by t.places t.commands front) ≡ next_command t.commands (facts_by t.places t.commands front))
 
 -- the report has the line of a COMMIT's command: Commit complete
-abbrev pub IsToldComplete : (t : History) (front : List Happening) → Commit t.places t.commands front → Type 0
-IsToldComplete t front c = (i : ℕ) × (slice_get (told_of t) i ≡ Some (node_line (facts_by t.places t.commands c.before).command commit_complete))
+abbrev pub IsReportedComplete : (t : History) (front : List Happening) → Commit t.places t.commands front → Type 0
+IsReportedComplete t front c = (i : ℕ) × (slice_get (reported_of t) i ≡ Some (node_line (facts_by t.places t.commands c.before).command commit_complete))
 
 -- In the run of a script, where such a COMMIT has been answered in its command, the report says so.
-abbrev pub AnsweredCommitsAreTold : Type 0
-AnsweredCommitsAreTold = (t : History) → IsTheRunOf t → (front later : List Happening) (c : Commit t.places t.commands front) → IsUnderWay t front later c → IsAnswered t front c → IsToldComplete t front c
+abbrev pub AnsweredCommitsAreReported : Type 0
+AnsweredCommitsAreReported = (t : History) → IsTheRunOf t → (front later : List Happening) (c : Commit t.places t.commands front) → IsUnderWay t front later c → IsAnswered t front c → IsReportedComplete t front c
 
 -- ---- a quiet COMMIT
 
@@ -97,7 +97,7 @@ pub record QuietCommit (t : History) (front later : List Happening) (c : Commit 
 pub record IsDone (t : History) (front : List Happening) (c : Commit t.places t.commands front) : Type 0 where
   pub undisturbed : Undisturbed t.places t.commands front c
   pub complete : IsComplete t.places t.commands front c
-  pub told : IsToldComplete t front c
+  pub told : IsReportedComplete t front c
 
 -- Each quiet COMMIT of a run is.
 abbrev pub QuietCommitsAreDone : History → Type 0

@@ -13,7 +13,7 @@ use Rattle.node_rules.specs.Data.inputs
 use Rattle.node_rules.specs.Words.{same, same_text, item_at}
 use Rattle.node_rules.specs.Ids.{local_text, global_text}
 use Rattle.node_rules.specs.Names.{Behind, named_by, ref_of, passed_on, target_of}
-use Rattle.node_rules.specs.Kept.{Kept, standing_id}
+use Rattle.node_rules.specs.NodeState.{NodeState, standing_id}
 use Rattle.node_rules.specs.Force.{is_sealed}
 use Rattle.run_rules.specs.Book.{in_doubt}
 use Rattle.node_rules.specs.Inputs.{Came, IsCall, Brings}
@@ -107,7 +107,7 @@ ForcesSo clock id (decisions.Commit n) false input = IsCallOf (stmts.CommitForce
 ForcesSo clock id decisions.Rollback given input = IsCallOf (stmts.RollbackForce id) input × (given ≡ false)
 
 -- a forced outcome is that of a statement whose id names the branch
-abbrev pub IsForce : Place → Facts → Kept → BranchId → Decision → Bool → Input → Type 0
+abbrev pub IsForce : Place → Facts → NodeState → BranchId → Decision → Bool → Input → Type 0
 IsForce p f k b d given input = (id : List ℕ) × (named_in_doubt p.names f p.number id ≡ b ∷ []) × ForcesSo k.clock id d given input
 
 -- a purge of the row with this local id
@@ -119,7 +119,7 @@ IsPurge (Some row) b input = (row.hidden ≡ false)
 -- ---- records and messages
 
 -- what a record needs of its turn
-abbrev pub MayWrite : Place → Facts → Trail → Trail → Kept → ℕ → Input → RedoRecord → Type 0
+abbrev pub MayWrite : Place → Facts → Trail → Trail → NodeState → ℕ → Input → RedoRecord → Type 0
 MayWrite p f tr after k n input (records.Boot m) = ⊥
 MayWrite p f tr after k n input (records.Table t) = IsCallOf (stmts.CreateTable t) input
 MayWrite p f tr after k n input (records.Link l) = IsCallOf (stmts.CreateLink l) input
@@ -161,13 +161,13 @@ MaySay p f tr after rs input b to (kinds.Committed n) = IsRecorded rs b n
 MaySay p f tr after rs input b to _ = Unit {0}
 
 -- each record and each message of a turn was to be written or said
-pub record TurnKnows (places : List Place) (f : Facts) (tr : Trail) (u : Turn) (k : Kept) : Type 0 where
+pub record TurnKnows (places : List Place) (f : Facts) (tr : Trail) (u : Turn) (k : NodeState) : Type 0 where
   pub writes : IfSome u.wrote (MayWrite (place_at places u.node) f tr (trail_after places f tr (happenings.Turn u)) k u.node u.input)
   pub says : AllByRecursion (λ m. MaySay (place_at places u.node) f tr (trail_after places f tr (happenings.Turn u)) (records_at f u.node ++ option_to_list u.wrote) u.input m.from m.to m.kind) u.sent
 
 -- each turn of a node that is up writes and says what it may
 abbrev pub Knows : List Place → Facts → Trail → Happening → Type 0
-Knows places f tr (happenings.Turn u) = (k : Kept) → node_at f u.node ≡ Some k → TurnKnows places f tr u k
+Knows places f tr (happenings.Turn u) = (k : NodeState) → node_at f u.node ≡ Some k → TurnKnows places f tr u k
 Knows places f tr _ = Unit {0}
 
 -- each turn of a run writes and says what it may

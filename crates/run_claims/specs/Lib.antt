@@ -5,5 +5,5 @@ pub mod Knowledge
 pub mod Headline
 pub mod Undisturbed
 pub mod Recorded
-pub mod ToldDone
+pub mod ReportedDone
 pub mod CommitCourse

@@ -12,7 +12,7 @@ use Rattle.run_rules.specs.Data.said
 use Rattle.run_rules.specs.Data.happenings
 use Rattle.run_rules.specs.Data.commands
 use Rattle.run_rules.specs.Facts.{command_at, place_at, records_at, outcome_at}
-use Rattle.run_rules.specs.Telling.{Past, Call, start}
+use Rattle.run_rules.specs.RunReport.{Past, Call, start}
 use Rattle.run_rules.specs.Past.{past}
 use Rattle.run_rules.specs.Lines.{told}
 use Rattle.run_rules.specs.Calls.{call_at}
@@ -54,9 +54,9 @@ pub record PlaceOf (t : History) (command : ℕ) (a : Answer) : Type 0 where
   pub asked : command_at t.commands command ≡ commands.At node session (Some statement)
   pub ended : ℕ
   pub call : Call
-  pub pending : call_at (past_upto t ended).telling node session ≡ Some call
+  pub pending : call_at (past_upto t ended).run_report node session ≡ Some call
   pub its : call.command ≡ command
-  pub over : call_at (past_upto t (ended + 1)).telling node session ≡ None
+  pub over : call_at (past_upto t (ended + 1)).run_report node session ≡ None
   pub root : Seen
   pub transaction : root_at (trail_upto t (ended + 1)) node session ≡ Some root
   pub run : Run
@@ -70,10 +70,10 @@ abbrev pub node_line : ℕ → Answer → AnswerLine
 node_line command a = record { command = command; said = said.Node a }
 
 -- all that is told of a run
-abbrev pub told_of : History → List AnswerLine
-told_of t = told (past t.places t.commands (start t.places) t.trace).facts (past t.places t.commands (start t.places) t.trace).telling
+abbrev pub reported_of : History → List AnswerLine
+reported_of t = told (past t.places t.commands (start t.places) t.trace).facts (past t.places t.commands (start t.places) t.trace).run_report
 
 -- each answer of a query, and of a change of rows, has a place
 abbrev pub AnswersHavePlaces : History → Type 0
 AnswersHavePlaces t = (i command node session : ℕ) (s : Stmt) (a : Answer) → command_at t.commands command ≡ commands.At node session (Some s) → is_of_rows s ≡ true → is_accepted (Some a) ≡ true
-    → slice_get (told_of t) i ≡ Some (node_line command a) → PlaceOf t command a
+    → slice_get (reported_of t) i ≡ Some (node_line command a) → PlaceOf t command a

@@ -10,7 +10,7 @@ use Rattle.node_rules.specs.Data.params
 use Rattle.node_rules.specs.Data.records
 use Rattle.node_rules.specs.Data.stmts
 use Rattle.node_rules.specs.Force.{branch_to_force, may_purge}
-use Rattle.node_rules.specs.Kept.{Kept}
+use Rattle.node_rules.specs.NodeState.{NodeState}
 
 -- whether a statement is done once a record of its own is written
 abbrev pub is_recorded : Stmt → Bool
@@ -35,7 +35,7 @@ is_of_statement (records.Hidden b) = true
 is_of_statement _ = false
 
 -- The record of a statement at a node, and what its call is answered.
-pub data Records (p : Place) (k : Kept) : Stmt → RedoRecord → Done → Type 0 where
+pub data Records (p : Place) (k : NodeState) : Stmt → RedoRecord → Done → Type 0 where
   A_table : (t : Table) → Records p k (stmts.CreateTable t) (records.Table t) dones.TableMade
   A_link : (l : Link) → Records p k (stmts.CreateLink l) (records.Link l) dones.LinkMade
   A_synonym : (y : Synonym) → Records p k (stmts.CreateSynonym y) (records.Synonym y) dones.SynonymMade

@@ -8,7 +8,7 @@ use Rattle.node_rules.specs.Data.inputs
 use Rattle.node_rules.specs.Data.kinds
 use Rattle.node_rules.specs.Data.stmts
 use Rattle.node_rules.specs.Inputs.{IsCall}
-use Rattle.node_rules.specs.Kept.{Kept, live_at}
+use Rattle.node_rules.specs.NodeState.{NodeState, live_at}
 use Rattle.node_rules.specs.Sessions.{session_at, commit_complete}
 use Rattle.node_rules.specs.Turn.{Stand, Is_gone, stand_of}
 use Rattle.node_rules.specs.Words.{same}
@@ -37,7 +37,7 @@ pub record Commit (places : List Place) (asked : List Command) (trace : List Hap
   pub session : ℕ
   pub comment : Option (List ℕ)
   pub asks : IsCall call.input session (stmts.Commit comment)
-  pub kept : Kept
+  pub kept : NodeState
   pub up : node_at (facts_by places asked before) call.node ≡ Some kept
   pub root : BranchId
   pub of : (session_at kept.sessions session).root ≡ Some root

@@ -15,7 +15,7 @@ use Rattle.node_rules.specs.Data.records
 use Rattle.node_rules.specs.Data.params
 use Rattle.node_rules.specs.Words.{same, item_at, drop_item}
 use Rattle.node_rules.specs.Rows.{TableRows, rows_of_table, apply_all}
-use Rattle.node_rules.specs.Kept.{Stored, doubt_id}
+use Rattle.node_rules.specs.NodeState.{Stored, doubt_id}
 use Rattle.node_rules.specs.Records.{applied, held_back, settled, doubt_over}
 use Rattle.redo_record.specs.Durable.{durable_after}
 use Rattle.book.specs.Entries.{entry_of}

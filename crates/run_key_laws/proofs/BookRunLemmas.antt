@@ -20,7 +20,7 @@ use Rattle.node_rules.proofs.Steps.{Step, Makes, Makes_table, Makes_link, Makes_
 use Rattle.run_base_laws.specs.NodeLaws.{unacked}
 use Rattle.node_rules.specs.Words.{same, numbered, item_at}
 use Rattle.node_rules.specs.Rows.{rows_of_table}
-use Rattle.node_rules.specs.Kept.{Kept, Deed, Stored, doubt_id}
+use Rattle.node_rules.specs.NodeState.{NodeState, Deed, Stored, doubt_id}
 use Rattle.node_rules.specs.Records.{applied, nothing_stored, stored_by}
 use Rattle.book.specs.Entries.{entry_of, entries_of}
 use Rattle.redo_record.specs.Durable.{durable_after}
@@ -161,14 +161,14 @@ module _ {bs cs : List BranchId} {t s : List Event} (more : Added (Later bs cs) 
 
 -- ---- what a record needs of the tables that there are
 
-record_made : (ts : List Table) {k : Kept} {x : Stmt} {r : RedoRecord} {d : Done} → MakesWhole r → Makes k x r d → RecordFits ts r
+record_made : (ts : List Table) {k : NodeState} {x : Stmt} {r : RedoRecord} {d : Done} → MakesWhole r → Makes k x r d → RecordFits ts r
 record_made ts whole (Makes_table t free) = whole
 record_made ts whole (Makes_link l free) = tt
 record_made ts whole (Makes_synonym y free) = tt
 record_made ts whole (Sets_recovery on) = tt
 
 -- the record of a step changes tables of its node
-record_fits : (p : Place) (input : Input) {k : Kept} {d : Deed} → Step p input k d → IfSome d.wrote MakesWhole → LiveChangesFit k.stored.durable.tables k.owns → IfSome d.wrote (RecordFits k.stored.durable.tables)
+record_fits : (p : Place) (input : Input) {k : NodeState} {d : Deed} → Step p input k d → IfSome d.wrote MakesWhole → LiveChangesFit k.stored.durable.tables k.owns → IfSome d.wrote (RecordFits k.stored.durable.tables)
 record_fits p input (steps.Begins n s call rows fit none step) whole own = record_fits p input step whole own
 record_fits p input (steps.Pends n l given call has live code step) whole own = record_fits p input step whole own
 record_fits p input (steps.Lets_reads_go l comment site_below live begins step) whole own = record_fits p input step whole own
@@ -193,13 +193,13 @@ abbrev pub BookTells : Facts → List Event → Type 0
 BookTells f t = IsUnseen t f.book × ((n : ℕ) → StoredStands t f.book n (stored_at f n))
 
 -- a message changes neither what is stored nor what live branches changed
-heard_stores : (rs : List RedoRecord) (k : Kept) (input : Input) → StoresOf rs k → unacked (heard k input).stored ≡ stored_by nothing_stored rs
+heard_stores : (rs : List RedoRecord) (k : NodeState) (input : Input) → StoresOf rs k → unacked (heard k input).stored ≡ stored_by nothing_stored rs
 heard_stores rs k (inputs.Message m) stored = stored
 heard_stores rs k (inputs.Call n s) stored = stored
 heard_stores rs k (inputs.GiveUp n) stored = stored
 heard_stores rs k inputs.Reco stored = stored
 
-heard_live : (k : Kept) (input : Input) → LiveChangesFit k.stored.durable.tables k.owns → LiveChangesFit (heard k input).stored.durable.tables (heard k input).owns
+heard_live : (k : NodeState) (input : Input) → LiveChangesFit k.stored.durable.tables k.owns → LiveChangesFit (heard k input).stored.durable.tables (heard k input).owns
 heard_live k (inputs.Message m) own = own
 heard_live k (inputs.Call n s) own = own
 heard_live k (inputs.GiveUp n) own = own
@@ -296,14 +296,14 @@ booted_first : (n : ℕ) → StoredStands [] [] n (stored_by nothing_stored (rec
 unfolding stored_by rows_told applied durable_after
 booted_first n = record { tables = λ name x found. absurd cc; told = λ name. refl; held = λ b d found. absurd cc; there = λ b m here sealed. absurd cc }
 
-tells_first : (places : List Place) → BookTells (first_facts places) []
-tells_first places = (λ b none. refl, λ n. first_disk (λ (xs : List RedoRecord). StoredStands [] [] n (stored_by nothing_stored xs)) (first_stands n) (booted_first n) places n)
+first_losses : (places : List Place) → BookTells (first_facts places) []
+first_losses places = (λ b none. refl, λ n. first_disk (λ (xs : List RedoRecord). StoredStands [] [] n (stored_by nothing_stored xs)) (first_stands n) (booted_first n) places n)
 
 pub rows_are_told : RowsAreTold
 rows_are_told t lawful n k up table =
     let last : AllStands t.places t.commands t.of_a_script.each (facts_at t) (events_of t) × BookTells (facts_at t) (events_of t) =
     events_keep t.places t.commands (λ f s. AllStands t.places t.commands t.of_a_script.each f s × BookTells f s)
     (λ f s h now may. (all_on t.places t.commands t.of_a_script.each f s h now.0 may, tells_on t.places t.commands t.of_a_script.each f s now.0 now.1 h may))
-    (first_facts t.places) t.trace [] (all_first t.places t.commands t.of_a_script.each, tells_first t.places) lawful in
+    (first_facts t.places) t.trace [] (all_first t.places t.commands t.of_a_script.each, first_losses t.places) lawful in
     let stored : StoresOf (records_at (facts_at t) n) k = (node_so t.places t.commands t.of_a_script.each (facts_at t) (events_of t) last.0.stand n k up).stored in
     ap (λ s. rows_of_table s.rows table) stored ∙ ((last.1.1 n).told table ∙ ap (λ bk. rows_told bk n table) (book_is t.places t.commands (first_facts t.places) t.trace))

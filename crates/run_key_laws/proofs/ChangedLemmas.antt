@@ -12,7 +12,7 @@ use Rattle.node_rules.specs.Data.acts
 use Rattle.commit_forget.specs.declared.next.Next.TheVariants as nexts
 use Rattle.node_rules.specs.Words.{same, item_at, put_item, drop_item}
 use Rattle.node_rules.specs.Rows.{changes_of, set_over}
-use Rattle.node_rules.specs.Kept.{Kept, Deed, Stored, Branch, live_id, own_id, sets_of, sets_at, live_at}
+use Rattle.node_rules.specs.NodeState.{NodeState, Deed, Stored, Branch, live_id, own_id, sets_of, sets_at, live_at}
 use Rattle.session_tree.specs.Live.{new_edge}
 use Rattle.node_rules.specs.Calls.{with_edge, hears_reply}
 use Rattle.node_rules.specs.Prepare.{ready}
@@ -155,23 +155,23 @@ module _ (ls : List Live) (os : List Owned) (now : ChangesFit ls os) where
 -- ---- steps
 
 -- what a node keeps of changes fits its live branches
-abbrev pub Fits : Kept → Type 0
+abbrev pub Fits : NodeState → Type 0
 Fits k = ChangesFit k.lives k.owns
 
 -- the live branches are marked
-marks : (k : Kept) → Fits k → (b : BranchId) (l : Live) → live_at k b ≡ Some l → IsMarked k.owns l
+marks : (k : NodeState) → Fits k → (b : BranchId) (l : Live) → live_at k b ≡ Some l → IsMarked k.owns l
 marks k now b l found = now.marked b l found
 
-asked_marked : (k : Kept) (input : Input) (x : Branch) (s : Stmt) (given : ℕ) → Fits k → Asked k input x s given → IsMarked k.owns x.live
+asked_marked : (k : NodeState) (input : Input) (x : Branch) (s : Stmt) (given : ℕ) → Fits k → Asked k input x s given → IsMarked k.owns x.live
 asked_marked k input x s given now (By_call n y t call rows has code live) = now.marked x.live.me x.live (live_so k x.live.me x live)
 asked_marked k input x s given now (By_exec y from call room advice t came live runs) = now.marked y.live.me y.live (live_so k y.live.me y live)
 
-acting_marked : (k : Kept) (input : Input) {l : Live} {site_below : Bool} {a : _} → Fits k → Acting k input l site_below a → IsMarked k.owns l
+acting_marked : (k : NodeState) (input : Input) {l : Live} {site_below : Bool} {a : _} → Fits k → Acting k input l site_below a → IsMarked k.owns l
 acting_marked k input now why = acting_so (IsMarked k.owns) (λ l comment site_below so. so) (λ l from v so. so) (marks k now) why
 
 module _ (p : Place) (input : Input) where
   -- each step leaves them so
-  changes_on : {k : Kept} {d : Deed} → Step p input k d → Fits k → Fits d.after
+  changes_on : {k : NodeState} {d : Deed} → Step p input k d → Fits k → Fits d.after
   changes_on (steps.Begins {k = k} n s call rows fit none step) now = changes_on step (begun_fits k.lives k.owns now _ refl)
   changes_on (steps.Pends n l given call has live code step) now = changes_on step now
   changes_on (steps.Lets_reads_go l comment site_below live begins step) now = changes_on step now

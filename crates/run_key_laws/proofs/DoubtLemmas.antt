@@ -9,7 +9,7 @@ use Rattle.agreement.specs.Events.{Sealed, Event, Seal, first, only_at, exit_by,
 use Rattle.node_rules.specs.Data.{BranchId, Decision, RedoRecord, Doubt, Place}
 use Rattle.node_rules.specs.Data.records
 use Rattle.node_rules.specs.Words.{same, numbered, drop_item}
-use Rattle.node_rules.specs.Kept.{Stored, doubt_id}
+use Rattle.node_rules.specs.NodeState.{Stored, doubt_id}
 use Rattle.node_rules.specs.Records.{applied, nothing_stored, stored_by, doubt_over}
 use Rattle.run_rules.specs.Data.{Turn, Happening, Command}
 use Rattle.run_rules.specs.Data.happenings

@@ -12,7 +12,7 @@ use Rattle.node_rules.specs.Data.records
 use Rattle.node_rules.specs.Data.inputs
 use Rattle.commit_forget.specs.declared.next.Next.TheVariants as nexts
 use Rattle.node_rules.specs.Words.{same, numbered}
-use Rattle.node_rules.specs.Kept.{Kept, Deed, standing_id, live_at}
+use Rattle.node_rules.specs.NodeState.{NodeState, Deed, standing_id, live_at}
 use Rattle.node_rules.specs.Commit.{acked_by}
 use Rattle.node_rules.specs.Inputs.{IsCall}
 use Rattle.node_rules.specs.Records.{nothing_stored, stored_by}
@@ -54,7 +54,7 @@ changes_free locks b cs own (d ∷ ds) held others = (
 
 module _ (p : Place) (input : Input) where
   -- a statement of rows writes nothing, whatever it meets
-  rows_free : (n : ℕ) (s : Stmt) → IsCall input n s → IsOfRows s → (ds : List Doubt) → {k : Kept} {d : Deed} → Step p input k d → IfSome d.wrote (ChangesFreeKeys ds)
+  rows_free : (n : ℕ) (s : Stmt) → IsCall input n s → IsOfRows s → (ds : List Doubt) → {k : NodeState} {d : Deed} → Step p input k d → IfSome d.wrote (ChangesFreeKeys ds)
   rows_free n s is rows ds (steps.Begins m u call others fit none step) = rows_free n s is rows ds step
   rows_free n s is rows ds (steps.Pends m l given call has live code step) = absurd (not_other is rows (λ no. no) call)
   rows_free n s is rows ds (steps.Lets_reads_go l comment site_below live begins step) = absurd (not_collects is rows begins)
@@ -65,7 +65,7 @@ module _ (p : Place) (input : Input) where
   rows_free n s is rows ds (steps.Gives_up_commit m b None gives has pending gone) = tt
   rows_free n s is rows ds _ = tt
 
-  step_free : {k : Kept} {d : Deed} → Step p input k d → Apart k → Keys k → IfSome d.wrote (ChangesFreeKeys k.stored.doubts)
+  step_free : {k : NodeState} {d : Deed} → Step p input k d → Apart k → Keys k → IfSome d.wrote (ChangesFreeKeys k.stored.doubts)
   step_free (steps.Begins {k = k} n s call rows fit none step) apart now = rows_free n s call rows k.stored.doubts step
   step_free (steps.Pends n l given call has live code step) apart now = step_free step (record { rows = apart.rows; doubts = apart.doubts }) now
   step_free (steps.Lets_reads_go {k = k} l comment site_below live begins step) apart now =
@@ -94,7 +94,7 @@ abbrev pub FreeStand : Facts → Type 0
 FreeStand f = (n : ℕ) → AreFreeFrom (records_at f n)
 
 module _ (places : List Place) (asked : List Command) (each : (n : ℕ) (p : Place) → numbered places n ≡ Some p → IsPlace places n p) (f : Facts) (t : List Event) (all : AllStands places asked each f t) (now : FreeStand f) where
-  module _ (n : ℕ) (k : Kept) (up : node_at f n ≡ Some k) (u : Turn) (may : MayTurn places f u k) (here : u.node ≡ n) where
+  module _ (n : ℕ) (k : NodeState) (up : node_at f n ≡ Some k) (u : Turn) (may : MayTurn places f u k) (here : u.node ≡ n) where
     abbrev deed : Deed
     deed = deed_of (place_at places n) k u.input
 
@@ -123,10 +123,10 @@ module _ (places : List Place) (asked : List Command) (each : (n : ℕ) (p : Pla
         records_with (λ s r. ChangesFreeKeys s.doubts r) (records_at f n) u.wrote (now n)
         (of_wrote (place_at places n) k u serving (λ w. IfSome w (ChangesFreeKeys (stored_by nothing_stored (records_at f n)).doubts)) tt free_now)
 
-  was_up : (n : ℕ) (u : Turn) (k : Kept) → MayTurn places f u k → u.node ≡ n → node_at f n ≡ Some k
+  was_up : (n : ℕ) (u : Turn) (k : NodeState) → MayTurn places f u k → u.node ≡ n → node_at f n ≡ Some k
   was_up n u k may here = subst (λ m. node_at f m ≡ Some k) here may.up
 
-  goes_free : (n : ℕ) {o : Option Kept} {rs : List RedoRecord} → Goes places f n o rs → AreFreeFrom rs
+  goes_free : (n : ℕ) {o : Option NodeState} {rs : List RedoRecord} → Goes places f n o rs → AreFreeFrom rs
   goes_free n Stays = now n
   goes_free n (Turns u k may here) = turned n k (was_up n u k may here) u may here
   goes_free n (Is_cut u k may here) = cut_off n k (was_up n u k may here) u may here

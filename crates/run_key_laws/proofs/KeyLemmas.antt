@@ -18,7 +18,7 @@ use Rattle.tran_ids.proofs.ListedLemmas.{put_or_before, drop_gone, drop_leaves}
 use Rattle.node_rules.specs.Data.{Value, Change, RowSet, Table, Stmt, Done, BranchId, Keyed, Sealed, Owned, Doubt}
 use Rattle.node_rules.specs.Words.{same, item_at, put_item, drop_item}
 use Rattle.node_rules.specs.Rows.{TableRows, changes_of, set_over}
-use Rattle.node_rules.specs.Kept.{own_id, doubt_id, sets_of, sets_at}
+use Rattle.node_rules.specs.NodeState.{own_id, doubt_id, sets_of, sets_at}
 use Rattle.node_rules.specs.Records.{doubt_over, with_doubt}
 use Rattle.node_rules.specs.Statement.{Reads, Writes, owns_after}
 use Rattle.run_key_laws.specs.ChangedLaws.{changes_at}

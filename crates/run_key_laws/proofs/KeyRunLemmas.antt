@@ -15,7 +15,7 @@ use Rattle.node_rules.specs.Data.{Change, BranchId, RedoRecord, Live, Place, Inp
 use Rattle.node_rules.specs.Data.records
 use Rattle.node_rules.specs.Data.inputs
 use Rattle.node_rules.specs.Words.{numbered}
-use Rattle.node_rules.specs.Kept.{Kept, Deed, live_id, live_at}
+use Rattle.node_rules.specs.NodeState.{NodeState, Deed, live_id, live_at}
 use Rattle.node_rules.specs.Records.{applied, nothing_stored, stored_by}
 use Rattle.node_rules.specs.Turn.{turn_of, kept_by, start_of, made, heard, deed_of}
 use Rattle.run_rules.specs.Data.{Turn, Happening, Command}
@@ -85,22 +85,22 @@ start_keys rs boot apart =
 -- ---- happenings
 
 -- of a node that is up, and of the disk of one that is not
-abbrev pub NodeKeys : Option Kept → List RedoRecord → Type 0
+abbrev pub NodeKeys : Option NodeState → List RedoRecord → Type 0
 NodeKeys o rs = IfSome o Keys × DoubtsApart (stored_by nothing_stored rs).doubts
 
 abbrev pub KeysStand : Facts → Type 0
 KeysStand f = (n : ℕ) → NodeKeys (node_at f n) (records_at f n)
 
 -- what is stored of branches in doubt is what the records say
-pub doubts_same : (rs : List RedoRecord) (k : Kept) → StoresOf rs k → k.stored.doubts ≡ (stored_by nothing_stored rs).doubts
+pub doubts_same : (rs : List RedoRecord) (k : NodeState) → StoresOf rs k → k.stored.doubts ≡ (stored_by nothing_stored rs).doubts
 doubts_same rs k stored = ap (λ s. s.doubts) stored
 
-up_keys : (rs : List RedoRecord) (k : Kept) → StoresOf rs k → Keys k → NodeKeys (Some k) rs
+up_keys : (rs : List RedoRecord) (k : NodeState) → StoresOf rs k → Keys k → NodeKeys (Some k) rs
 up_keys rs k stored keys = (keys, subst DoubtsApart (doubts_same rs k stored) (doubts_apart k.locks k.stored.doubts keys.doubts))
 
 module _ (places : List Place) (asked : List Command) (each : (n : ℕ) (p : Place) → numbered places n ≡ Some p → IsPlace places n p) (f : Facts) (t : List Event) (stand : Stand places asked each f t)
     (doubts : DoubtsStand f t) (tables : TablesStand places f) (now : KeysStand f) where
-  module _ (n : ℕ) (k : Kept) (up : node_at f n ≡ Some k) where
+  module _ (n : ℕ) (k : NodeState) (up : node_at f n ≡ Some k) where
     pub stored_so : StoresOf (records_at f n) k
     stored_so = (node_so places asked each f t stand n k up).stored
 
@@ -180,14 +180,14 @@ module _ (places : List Place) (asked : List Command) (each : (n : ℕ) (p : Pla
           of_wrote (place_at places n) k u (subst (λ m. Serves (place_at places m) k u) here (serves places f u k may)) (λ w. DoubtsApart (stored_by nothing_stored (records_at f n ++ option_to_list w)).doubts)
           (subst (λ s. DoubtsApart s.doubts) (sym (stored_with (records_at f n) None)) (now n).1) turn_keys.1
 
-  before_up : (n : ℕ) (u : Turn) (k : Kept) → MayTurn places f u k → u.node ≡ n → node_at f n ≡ Some k
+  before_up : (n : ℕ) (u : Turn) (k : NodeState) → MayTurn places f u k → u.node ≡ n → node_at f n ≡ Some k
   before_up n u k may here = subst (λ m. node_at f m ≡ Some k) here may.up
 
   start_disk : (rs : List RedoRecord) (boot : ℕ) → DoubtsApart (stored_by nothing_stored rs).doubts → DoubtsApart (stored_by nothing_stored (rs ++ records.Boot boot ∷ [])).doubts
   unfolding applied
   start_disk rs boot apart = subst (λ s. DoubtsApart s.doubts) (sym (stored_with rs (Some (records.Boot boot)))) apart
 
-  goes_keys : (n : ℕ) {o : Option Kept} {rs : List RedoRecord} → Goes places f n o rs → NodeKeys o rs
+  goes_keys : (n : ℕ) {o : Option NodeState} {rs : List RedoRecord} → Goes places f n o rs → NodeKeys o rs
   goes_keys n Stays = now n
   goes_keys n (Turns u k may here) = turned n k (before_up n u k may here) u may here
   goes_keys n (Is_cut u k may here) = (tt, cut_off n k (before_up n u k may here) u may here)

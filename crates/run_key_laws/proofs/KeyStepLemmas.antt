@@ -11,7 +11,7 @@ use Rattle.node_rules.specs.Data.acts
 use Rattle.node_rules.specs.Data.inputs
 use Rattle.commit_forget.specs.declared.next.Next.TheVariants as nexts
 use Rattle.node_rules.specs.Words.{same}
-use Rattle.node_rules.specs.Kept.{Kept, Deed, live_id, standing_id, live_at}
+use Rattle.node_rules.specs.NodeState.{NodeState, Deed, live_id, standing_id, live_at}
 use Rattle.node_rules.specs.Inputs.{Came, IsCall, Brings, Commit_came, Rollback_came, Rolled_back_came}
 use Rattle.node_rules.specs.Names.{table_of, ref_of}
 use Rattle.node_rules.specs.Force.{is_named_by, branch_to_force}
@@ -32,12 +32,12 @@ use Rattle.run_key_laws.proofs.TableStepLemmas.{Fits, one_key, sees_rows}
 use Rattle.run_key_laws.proofs.KeyLemmas.{reads_gone, dropped, settled, sealed, read, wrote}
 
 -- the keys of a node are held
-abbrev pub Keys : Kept → Type 0
+abbrev pub Keys : NodeState → Type 0
 Keys k = KeysHeld k.locks k.owns k.stored.doubts
 
 -- ---- a run
 
-module _ (p : Place) (k : Kept) (b : BranchId) (s : Stmt) (t : Table) (name : List ℕ) (found : table_of k.stored.durable name ≡ Some t) (fits : Fits k) (now : Keys k) where
+module _ (p : Place) (k : NodeState) (b : BranchId) (s : Stmt) (t : Table) (name : List ℕ) (found : table_of k.stored.durable name ≡ Some t) (fits : Fits k) (now : Keys k) where
   run_keys : KeysHeld (locks_after k.locks b t (ran p k b s t)) (owns_after k.owns b (view k b t.name) (ran p k b s t)) k.stored.doubts
   unfolding ran
   run_keys =
@@ -54,11 +54,11 @@ module _ {input : Input} {n : ℕ} {s : Stmt} (is : IsCall input n s) (rows : Is
   pub not_other : {m : ℕ} {u : Stmt} → (IsOfRows u → ⊥) → IsCall input m u → ⊥
   not_other {m} {u} other call = let both : inputs.Call n (Some s) ≡ inputs.Call m (Some u) = sym is ∙ call in let it : s ≡ u = cc in other (subst IsOfRows it rows)
 
-  pub not_collects : {k : Kept} {l : Live} {comment : List ℕ} {site_below : Bool} → Collects k input l comment site_below → ⊥
+  pub not_collects : {k : NodeState} {l : Live} {comment : List ℕ} {site_below : Bool} → Collects k input l comment site_below → ⊥
   not_collects (By_commit m given call has code alike) = not_other (λ no. no) call
   not_collects (By_prepare from site_below came working) = not_came came
 
-  pub not_acting : {k : Kept} {l : Live} {site_below : Bool} {a : Act} → Acting k input l site_below a → ⊥
+  pub not_acting : {k : NodeState} {l : Live} {site_below : Bool} {a : Act} → Acting k input l site_below a → ⊥
   not_acting (Asks_down l comment site_below e es live begins has) = not_collects begins
   not_acting (Has_no_children l comment site_below a live begins none collected) = not_collects begins
   not_acting (Hears_abort l from site_below live answers) = not_came answers.came
@@ -79,7 +79,7 @@ module _ {input : Input} {n : ℕ} {s : Stmt} (is : IsCall input n s) (rows : Is
   not_ends (Ends_so d brings toward none state met) = not_brings brings
 
   module _ (p : Place) where
-    rows_on : {k : Kept} {d : Deed} → Step p input k d → Fits k → Keys k → Keys d.after
+    rows_on : {k : NodeState} {d : Deed} → Step p input k d → Fits k → Keys k → Keys d.after
     unfolding applied
     rows_on (steps.Begins m u call others fit none step) fits now = rows_on step fits now
     rows_on (steps.Pends m l given call has live code step) fits now = absurd (not_other (λ no. no) call)
@@ -102,12 +102,12 @@ module _ {input : Input} {n : ℕ} {s : Stmt} (is : IsCall input n s) (rows : Is
 -- ---- any step
 
 -- No kept branch, and none in doubt, is live.
-pub record Apart (k : Kept) : Type 0 where
+pub record Apart (k : NodeState) : Type 0 where
   pub rows : AllByRecursion (λ s. live_at k s.me ≡ None) k.stored.durable.kept
   pub doubts : AllByRecursion (λ d. live_at k d.branch ≡ None) k.stored.doubts
 
 -- a live branch is not in doubt
-pub not_doubted : (k : Kept) (b : BranchId) → IsLive k b → Apart k → AllByRecursion (λ d. same d.branch b ≡ false) k.stored.doubts
+pub not_doubted : (k : NodeState) (b : BranchId) → IsLive k b → Apart k → AllByRecursion (λ d. same d.branch b ≡ false) k.stored.doubts
 not_doubted k b live apart = all_weaker _ _ (λ d none. by d none (same d.branch b) refl) k.stored.doubts apart.doubts
   where
     by : (d : Doubt) → live_at k d.branch ≡ None → (here : Bool) → same d.branch b ≡ here → here ≡ false
@@ -120,7 +120,7 @@ forced_so names P ks id b all is = forced_one P id (filter (is_named_by names id
 
 module _ (p : Place) (input : Input) where
   -- each step leaves them held
-  pub keys_on : {k : Kept} {d : Deed} → Step p input k d → Fits k → ChangesFit k.lives k.owns → Apart k → Keys k → Keys d.after
+  pub keys_on : {k : NodeState} {d : Deed} → Step p input k d → Fits k → ChangesFit k.lives k.owns → Apart k → Keys k → Keys d.after
   unfolding applied
   keys_on (steps.Begins n s call rows fit none step) fits own apart now = rows_on call rows p step fits now
   keys_on (steps.Pends n l given call has live code step) fits own apart now = keys_on step fits own (record { rows = apart.rows; doubts = apart.doubts }) now

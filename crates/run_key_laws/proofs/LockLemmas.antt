@@ -9,7 +9,7 @@ use Rattle.node_rules.specs.Data.records
 use Rattle.node_rules.specs.Data.acts
 use Rattle.commit_forget.specs.declared.next.Next.TheVariants as nexts
 use Rattle.node_rules.specs.Words.{same, is_item_of, put_item, drop_item}
-use Rattle.node_rules.specs.Kept.{Kept, Deed, live_id, doubt_id, without_branch}
+use Rattle.node_rules.specs.NodeState.{NodeState, Deed, live_id, doubt_id, without_branch}
 use Rattle.node_rules.specs.Records.{applied, with_record, with_doubt, take_changed, doubt_over}
 use Rattle.node_rules.specs.Prepare.{sealed_of, own_changes, ready}
 use Rattle.node_rules.specs.Statement.{Ran, Refuses, Reads, Writes, ran}
@@ -101,10 +101,10 @@ apart lives fewer doubts less ls b live doubt now =
     so l false is passes held = or_so _ _ (is_live fewer l.branch) (is_doubted less l.branch) (live l.branch is) (doubt l.branch is) held
 
 -- the holders at a node are there
-abbrev pub HeldAt : Kept → Type 0
+abbrev pub HeldAt : NodeState → Type 0
 HeldAt k = Held k.lives k.stored.doubts k.locks
 
-module _ (k : Kept) where
+module _ (k : NodeState) where
   -- one more live branch
   begun : (x : Live) → HeldAt k → Held (k.lives ++ x ∷ []) k.stored.doubts k.locks
   begun x = wider k.lives (k.lives ++ x ∷ []) k.stored.doubts k.stored.doubts k.locks (λ c is. any_more live_id k.lives c x is) (λ c is. is)
@@ -140,7 +140,7 @@ module _ (k : Kept) where
 
 module _ (p : Place) (input : Input) where
   -- each step leaves them there
-  held_on : {k : Kept} {d : Deed} → Step p input k d → HeldAt k → HeldAt d.after
+  held_on : {k : NodeState} {d : Deed} → Step p input k d → HeldAt k → HeldAt d.after
   unfolding applied
   held_on (steps.Begins {k = k} n s call rows fit none step) now = held_on step (begun k _ now)
   held_on (steps.Pends n l given call has live code step) now = held_on step now

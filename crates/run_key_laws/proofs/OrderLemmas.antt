@@ -7,7 +7,7 @@ use Rattle.node_rules.specs.Data.{Change, BranchId, RedoRecord, Sealed, Doubt}
 use Rattle.node_rules.specs.Data.decisions
 use Rattle.node_rules.specs.Data.records
 use Rattle.node_rules.specs.Words.{same, drop_item}
-use Rattle.node_rules.specs.Kept.{Stored, doubt_id}
+use Rattle.node_rules.specs.NodeState.{Stored, doubt_id}
 use Rattle.node_rules.specs.Records.{applied, nothing_stored, stored_by, doubt_over}
 use Rattle.run_rules.specs.Facts.{records_at}
 use Rattle.run_rules.specs.Lawful.{facts_at}

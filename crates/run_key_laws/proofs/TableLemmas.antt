@@ -15,7 +15,7 @@ use Rattle.node_rules.specs.Data.records
 use Rattle.node_rules.specs.Data.params
 use Rattle.node_rules.specs.Words.{same_text, item_at, drop_item}
 use Rattle.node_rules.specs.Rows.{TableRows, rows_of_table, apply_all, with_table}
-use Rattle.node_rules.specs.Kept.{Stored, doubt_id}
+use Rattle.node_rules.specs.NodeState.{Stored, doubt_id}
 use Rattle.node_rules.specs.Records.{applied, settled, doubt_over}
 use Rattle.redo_record.specs.Durable.{durable_after}
 use Rattle.run_key_laws.specs.TableLaws.{table_in, IsChangeIn, AreChangesIn, TablesFit, StoredFits}

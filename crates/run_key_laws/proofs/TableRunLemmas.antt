@@ -9,7 +9,7 @@ use Rattle.node_rules.specs.Data.acts
 use Rattle.node_rules.specs.Data.records
 use Rattle.node_rules.specs.Data.inputs
 use Rattle.commit_forget.specs.declared.next.Next.TheVariants as nexts
-use Rattle.node_rules.specs.Kept.{Kept, Deed}
+use Rattle.node_rules.specs.NodeState.{NodeState, Deed}
 use Rattle.node_rules.specs.Inputs.{IsCall}
 use Rattle.node_rules.specs.Turn.{turn_of, deed_of}
 use Rattle.node_rules.proofs.Steps as steps
@@ -33,21 +33,21 @@ abbrev pub IsSpelled : Input → Type 0
 IsSpelled (inputs.Call n s) = IfSome s IsWhole
 IsSpelled _ = Unit {0}
 
-pub comes_spelled : (f : Facts) (k : Kept) (node : ℕ) (input : Input) (took : Option Took) → Comes f k node input took → IsSpelled input
+pub comes_spelled : (f : Facts) (k : NodeState) (node : ℕ) (input : Input) (took : Option Took) → Comes f k node input took → IsSpelled input
 comes_spelled f k node (inputs.Call n s) None comes = comes.2
 comes_spelled f k node (inputs.Call n s) (Some t) comes = absurd comes
 comes_spelled f k node (inputs.GiveUp n) took comes = tt
 comes_spelled f k node (inputs.Message m) took comes = tt
 comes_spelled f k node inputs.Reco took comes = tt
 
-made_whole : {input : Input} {k : Kept} {n : ℕ} {s : Stmt} {r : RedoRecord} {d : Done} → IsSpelled input → IsCall input n s → Makes k s r d → MakesWhole r
+made_whole : {input : Input} {k : NodeState} {n : ℕ} {s : Stmt} {r : RedoRecord} {d : Done} → IsSpelled input → IsCall input n s → Makes k s r d → MakesWhole r
 made_whole spelled call (Makes_table t free) = whole_tables_have_one_key t (subst IsSpelled call spelled)
 made_whole spelled call (Makes_link l free) = tt
 made_whole spelled call (Makes_synonym y free) = tt
 made_whole spelled call (Sets_recovery on) = tt
 
 -- a table is made by a statement that a text spells
-pub step_whole : (p : Place) (input : Input) {k : Kept} {d : Deed} → IsSpelled input → Step p input k d → IfSome d.wrote MakesWhole
+pub step_whole : (p : Place) (input : Input) {k : NodeState} {d : Deed} → IsSpelled input → Step p input k d → IfSome d.wrote MakesWhole
 step_whole p input spelled (steps.Begins n s call rows fit none step) = step_whole p input spelled step
 step_whole p input spelled (steps.Pends n l given call has live code step) = step_whole p input spelled step
 step_whole p input spelled (steps.Lets_reads_go l comment site_below live begins step) = step_whole p input spelled step
@@ -64,7 +64,7 @@ step_whole p input spelled _ = tt
 abbrev pub J : Place → List RedoRecord → Type 0
 J p rs = DiskFits rs × Unit {0}
 
-abbrev pub I : Place → List RedoRecord → Kept → Type 0
+abbrev pub I : Place → List RedoRecord → NodeState → Type 0
 I p rs k = NodeFits rs k × Marked k
 
 pub both : Keeps J I
@@ -79,13 +79,13 @@ abbrev pub TablesStand : List Place → Facts → Type 0
 TablesStand places f = AllStand J I both places f × Whole f
 
 module _ (places : List Place) (asked : List Command) (f : Facts) where
-  turn_whole : (n : ℕ) (u : Turn) (k : Kept) → MayTurn places f u k → u.node ≡ n → IfSome (turn_of (place_at places n) k u.input).wrote MakesWhole
+  turn_whole : (n : ℕ) (u : Turn) (k : NodeState) → MayTurn places f u k → u.node ≡ n → IfSome (turn_of (place_at places n) k u.input).wrote MakesWhole
   unfolding turn_of
   turn_whole n u k may here =
       subst (λ m. IfSome (deed_of (place_at places m) k u.input).wrote MakesWhole) here
       (step_whole (place_at places u.node) u.input (comes_spelled f k u.node u.input u.took may.comes) (serves places f u k may).step)
 
-  wrote_whole : (u : Turn) (k : Kept) → MayTurn places f u k → IfSome u.wrote MakesWhole
+  wrote_whole : (u : Turn) (k : NodeState) → MayTurn places f u k → IfSome u.wrote MakesWhole
   wrote_whole u k may =
       of_wrote (place_at places u.node) k u (serves places f u k may) (λ w. IfSome w MakesWhole) tt
       (step_whole (place_at places u.node) u.input (comes_spelled f k u.node u.input u.took may.comes) (serves places f u k may).step)
@@ -94,7 +94,7 @@ module _ (places : List Place) (asked : List Command) (f : Facts) where
   with_whole rs None all is = all_append MakesWhole rs [] all tt
   with_whole rs (Some r) all is = all_append MakesWhole rs (r ∷ []) all (is, tt)
 
-  goes_whole : (n : ℕ) {o : Option Kept} {rs : List RedoRecord} → Whole f → Goes places f n o rs → AreWhole rs
+  goes_whole : (n : ℕ) {o : Option NodeState} {rs : List RedoRecord} → Whole f → Goes places f n o rs → AreWhole rs
   goes_whole n now Stays = now n
   goes_whole n now (Turns u k may here) = with_whole (records_at f n) _ (now n) (turn_whole n u k may here)
   goes_whole n now (Is_cut u k may here) = with_whole (records_at f n) u.wrote (now n) (wrote_whole u k may)
@@ -105,7 +105,7 @@ module _ (places : List Place) (asked : List Command) (f : Facts) where
   tables_on h now may = (all_stand_on J I both places asked f h now.0 may, λ n. goes_whole n now.1 (goes_so places f asked now.0.even h n may))
 
   -- of a node that is up
-  pub fits_at : (n : ℕ) (k : Kept) → TablesStand places f → node_at f n ≡ Some k → Fits k × Marked k
+  pub fits_at : (n : ℕ) (k : NodeState) → TablesStand places f → node_at f n ≡ Some k → Fits k × Marked k
   fits_at n k now up = let node : NodeFits (records_at f n) k × Marked k = at_node J I both places f n (now.0.nodes n) k up in (node.0.1 (now.1 n), node.1)
 
 pub tables_first : (places : List Place) → TablesStand places (first_facts places)

@@ -13,7 +13,7 @@ use Rattle.node_rules.specs.Data.decisions
 use Rattle.commit_forget.specs.declared.next.Next.TheVariants as nexts
 use Rattle.node_rules.specs.Words.{item_at, put_item, drop_item}
 use Rattle.node_rules.specs.Rows.{rows_of_table, set_over, changes_of}
-use Rattle.node_rules.specs.Kept.{Kept, Deed, own_id, sets_of, sets_at}
+use Rattle.node_rules.specs.NodeState.{NodeState, Deed, own_id, sets_of, sets_at}
 use Rattle.node_rules.specs.Records.{applied, nothing_stored, stored_by}
 use Rattle.node_rules.specs.Names.{table_of, ref_of}
 use Rattle.node_rules.specs.Prepare.{sealed_record, decided_record}
@@ -64,10 +64,10 @@ module _ (ts : List Table) (owns : List Owned) (own : LiveChangesFit ts owns) wh
       by false is = subst (λ o. AreChangesIn ts (changes_of (sets_of o))) (sym (drop_leaves own_id owns b c is)) (own c)
 
 -- what is stored, and what live branches changed
-abbrev pub Fits : Kept → Type 0
+abbrev pub Fits : NodeState → Type 0
 Fits k = StoredFits k.stored × LiveChangesFit k.stored.durable.tables k.owns
 
-module _ (p : Place) (k : Kept) (b : BranchId) (s : Stmt) (t : Table) (name : List ℕ) (found : table_of k.stored.durable name ≡ Some t) (now : Fits k) where
+module _ (p : Place) (k : NodeState) (b : BranchId) (s : Stmt) (t : Table) (name : List ℕ) (found : table_of k.stored.durable name ≡ Some t) (now : Fits k) where
   by_name : table_in k.stored.durable.tables t.name ≡ Some t
   by_name = subst (λ m. table_in k.stored.durable.tables m ≡ Some t) (sym (table_is k.stored.durable.tables name t found)) found
 
@@ -97,14 +97,14 @@ abbrev pub AreWhole : List RedoRecord → Type 0
 AreWhole rs = AllByRecursion MakesWhole rs
 
 -- a record that is no table's
-made_whole : (ts : List Table) {k : Kept} {s : Stmt} {r : RedoRecord} {d : Done} → MakesWhole r → Makes k s r d → RecordFits ts r
+made_whole : (ts : List Table) {k : NodeState} {s : Stmt} {r : RedoRecord} {d : Done} → MakesWhole r → Makes k s r d → RecordFits ts r
 made_whole ts whole (Makes_table t free) = whole
 made_whole ts whole (Makes_link l free) = tt
 made_whole ts whole (Makes_synonym y free) = tt
 made_whole ts whole (Sets_recovery on) = tt
 
 -- live changes stay of tables with a record
-made_leaves : (k : Kept) {s : Stmt} {r : RedoRecord} {d : Done} → LiveChangesFit k.stored.durable.tables k.owns → Makes k s r d → LiveChangesFit (applied k.stored r).durable.tables k.owns
+made_leaves : (k : NodeState) {s : Stmt} {r : RedoRecord} {d : Done} → LiveChangesFit k.stored.durable.tables k.owns → Makes k s r d → LiveChangesFit (applied k.stored r).durable.tables k.owns
 unfolding applied durable_after
 made_leaves k own (Makes_table t free) = λ b. changes_stay k.stored.durable.tables t (changes_at k.owns b) (own b)
 made_leaves k own (Makes_link l free) = own
@@ -115,7 +115,7 @@ made_leaves k own (Sets_recovery on) = own
 
 module _ (p : Place) (input : Input) where
   -- each step with a whole table leaves all so
-  fits_on : {k : Kept} {d : Deed} → Step p input k d → IfSome d.wrote MakesWhole → Fits k → Fits d.after
+  fits_on : {k : NodeState} {d : Deed} → Step p input k d → IfSome d.wrote MakesWhole → Fits k → Fits d.after
   unfolding applied durable_after
   fits_on (steps.Begins n s call rows fit none step) whole now = fits_on step whole now
   fits_on (steps.Pends n l given call has live code step) whole now = fits_on step whole now
@@ -160,7 +160,7 @@ abbrev pub DiskFits : List RedoRecord → Type 0
 DiskFits rs = AreWhole rs → StoredFits (stored_by nothing_stored rs)
 
 -- and of a node that is up
-abbrev pub NodeFits : List RedoRecord → Kept → Type 0
+abbrev pub NodeFits : List RedoRecord → NodeState → Type 0
 NodeFits rs k = StoresOf rs k × (AreWhole rs → Fits k)
 
 before : (rs : List RedoRecord) (w : Option RedoRecord) → AreWhole (rs ++ option_to_list w) → AreWhole rs × IfSome w MakesWhole

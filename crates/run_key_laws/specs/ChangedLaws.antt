@@ -3,7 +3,7 @@ use Rattle.std.specs.Prelude.{◌≡◌, Bool, List, length, nat_lt, Some, None}
 use Rattle.node_rules.specs.Data.{BranchId, Change, Live, Owned}
 use Rattle.node_rules.specs.Words.{item_at}
 use Rattle.node_rules.specs.Rows.{changes_of}
-use Rattle.node_rules.specs.Kept.{live_id, own_id, sets_at}
+use Rattle.node_rules.specs.NodeState.{live_id, own_id, sets_at}
 use Rattle.run_base_laws.specs.NodeLaws.{OfEachNode}
 
 -- the changes of a branch

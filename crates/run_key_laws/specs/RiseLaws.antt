@@ -6,7 +6,7 @@ use Rattle.node_rules.specs.Data.{Change, RedoRecord, Doubt}
 use Rattle.node_rules.specs.Data.records
 use Rattle.node_rules.specs.Words.{same_text}
 use Rattle.node_rules.specs.Rows.{same_value}
-use Rattle.node_rules.specs.Kept.{Stored}
+use Rattle.node_rules.specs.NodeState.{Stored}
 use Rattle.node_rules.specs.Records.{nothing_stored, stored_by}
 use Rattle.run_rules.specs.Facts.{records_at}
 use Rattle.run_rules.specs.Lawful.{History, IsLawfulRun, facts_at}

@@ -7,7 +7,7 @@ use Rattle.row_store.specs.Store.{has_table}
 use Rattle.node_rules.specs.Data.{Change, Table, BranchId, Owned, Doubt}
 use Rattle.node_rules.specs.Words.{same_text}
 use Rattle.node_rules.specs.Rows.{TableRows, rows_of_table}
-use Rattle.node_rules.specs.Kept.{Stored}
+use Rattle.node_rules.specs.NodeState.{Stored}
 use Rattle.run_key_laws.specs.ChangedLaws.{changes_at}
 use Rattle.run_base_laws.specs.NodeLaws.{OfEachNode}
 

@@ -4,7 +4,7 @@ use Rattle.std.specs.Prelude.{◌≡◌, ℕ, Bool, true, false, List, [], ◌�
 use Rattle.node_rules.specs.Data.{Keyed, RedoRecord}
 use Rattle.row_locks.specs.Locks.{Lock}
 use Rattle.node_rules.specs.Rows.{rows_of_table}
-use Rattle.node_rules.specs.Kept.{Kept}
+use Rattle.node_rules.specs.NodeState.{NodeState}
 use Rattle.node_rules.specs.Records.{nothing_stored, stored_by}
 use Rattle.run_rules.specs.Data.{Happening}
 use Rattle.run_rules.specs.Entries.{book_of}
@@ -22,7 +22,7 @@ abbrev pub stored_rows : ℕ → List Keyed
 stored_rows n = rows_of_table (stored_by nothing_stored (records_at (facts_of places [] (first_facts places) trace) n)).rows (codes "T")
 
 -- the locks of a node that is up
-abbrev pub locks_in : Option Kept → List Lock
+abbrev pub locks_in : Option NodeState → List Lock
 locks_in None = []
 locks_in (Some k) = k.locks
 

@@ -3,7 +3,7 @@ use Rattle.std.proofs.Common.{◌≡◌, ℕ, ◌+◌, ◌≤◌, true, false, L
 use Rattle.node_rules.specs.Data.{BranchId, RedoRecord, Place}
 use Rattle.node_rules.specs.Data.decisions
 use Rattle.node_rules.specs.Data.records
-use Rattle.node_rules.specs.Kept.{Kept, Stored}
+use Rattle.node_rules.specs.NodeState.{NodeState, Stored}
 use Rattle.node_rules.specs.Records.{nothing_stored, raised_by, applied, stored_by}
 use Rattle.run_rules.specs.BranchRecords.{Commits, IsRecorded}
 use Rattle.run_rules.specs.Lawful.{boots}
@@ -81,7 +81,7 @@ abbrev pub J : Place → List RedoRecord → Type 0
 J p rs = (Unit {0} × BootIs rs) × Unit {0}
 
 -- a node stores what its records make, apart from the Acks that it heard, and its clock covers their SCNs
-abbrev pub I : Place → List RedoRecord → Kept → Type 0
+abbrev pub I : Place → List RedoRecord → NodeState → Type 0
 I p rs k = (StoresOf rs k × BootIs rs) × (k.stored.scn ≤ k.clock)
 
 pub both : Keeps J I

@@ -5,7 +5,7 @@ use Rattle.std.proofs.lemmas.Bool.{cond_both, or_right}
 use Rattle.std.proofs.lemmas.Map.Views.{any-filter_same}
 use Rattle.std.specs.List.{list_any}
 use Rattle.node_rules.specs.Data.{Msg, Place}
-use Rattle.node_rules.specs.Kept.{Kept, Outcome}
+use Rattle.node_rules.specs.NodeState.{NodeState, Outcome}
 use Rattle.node_rules.specs.Turn.{turn_of}
 use Rattle.net_bag.specs.Net.{Net, is_down, sent_one, sent_on, delivered, lost, cut_over, joined, with_node, stopped, started}
 use Rattle.run_rules.specs.Data.{Took, Turn, Happening, Command}
@@ -61,7 +61,7 @@ none_stops f settled n is = let none = settled.upright in absurd (cc (is, none))
 
 module _ (places : List Place) (asked : List Command) (f : Facts) (even : length f.nodes ≡ length f.records) (many : length f.nodes ≡ length places) (now : DownsAreKnown (length places) f) where
   -- a turn
-  module _ (u : Turn) (k : Kept) (may : MayTurn places f u k) where
+  module _ (u : Turn) (k : NodeState) (may : MayTurn places f u k) where
     abbrev g : Facts
     g = facts_after places asked f (happenings.Turn u)
 

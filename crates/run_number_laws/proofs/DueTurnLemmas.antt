@@ -7,7 +7,7 @@ use Rattle.tran_ids.specs.Listed.{numbered}
 use Rattle.node_rules.specs.Data.{Stmt, Msg, Place, Input}
 use Rattle.node_rules.specs.Data.inputs
 use Rattle.node_rules.specs.Data.stmts
-use Rattle.node_rules.specs.Kept.{Kept, Outcome}
+use Rattle.node_rules.specs.NodeState.{NodeState, Outcome}
 use Rattle.node_rules.specs.Turn.{turn_of, kind_scn}
 use Rattle.node_core.specs.Able.{IsAble, BringsScns}
 use Rattle.net_bag.specs.Net.{packet_at}
@@ -19,7 +19,7 @@ use Rattle.run_ready_laws.specs.ReadyRuns.{RepliesTellFew, NodesAreReady}
 use Rattle.run_rules.specs.Data.{Packet, Took, Happening, Command}
 use Rattle.run_rules.specs.Data.happenings
 use Rattle.run_rules.specs.Facts.{Facts, first_facts, no_place, place_at, node_at, facts_after, facts_of}
-use Rattle.run_rules.specs.Telling.{Past, start}
+use Rattle.run_rules.specs.RunReport.{Past, start}
 use Rattle.run_rules.specs.Past.{next, past}
 use Rattle.run_rules.specs.Cuts.{Cut_by, By_nothing, By_strike, By_point, cut_by}
 use Rattle.run_rules.specs.Lawful.{AreOfAScript, Comes, MayHappen, IsLawful, History, facts_at}
@@ -59,7 +59,7 @@ what_is_due_may_happen lawful t run h due =
 module _ (places : List Place) (asked : List Command) (p : Past) where
   -- A node that is up, and what may come there.
   pub record MayTurnOver (n : ℕ) (input : Input) : Type 0 where
-    pub kept : Kept
+    pub kept : NodeState
     pub up : node_at p.facts n ≡ Some kept
     pub took : Option Took
     pub comes : Comes p.facts kept n input took
@@ -69,10 +69,10 @@ module _ (places : List Place) (asked : List Command) (p : Past) where
   turn_may n input took o (By_strike stands) may = record { kept = may.0; up = may.1.up; took = took; comes = may.1.comes }
   turn_may n input took o (By_point root numbers stands) may = record { kept = may.0; up = may.1.up; took = took; comes = may.1.comes }
 
-  at_node : (n : ℕ) (input : Input) (took : Option Took) → IsUp p.facts n → ((h : Happening) → turn_at places p.telling n input took (node_at p.facts n) ≡ Some h → MayHappen places asked p.facts h) → MayTurnOver n input
+  at_node : (n : ℕ) (input : Input) (took : Option Took) → IsUp p.facts n → ((h : Happening) → turn_at places p.run_report n input took (node_at p.facts n) ≡ Some h → MayHappen places asked p.facts h) → MayTurnOver n input
   at_node n input took up may =
       let o : Outcome = turn_of (place_at places n) up.0 input in
-      turn_may n input took o (cut_by p.telling n up.0 input o) (may (turn_comes p.telling n input took up.0 o) (ap (turn_at places p.telling n input took) up.1))
+      turn_may n input took o (cut_by p.run_report n up.0 input o) (may (turn_comes p.run_report n input took up.0 o) (ap (turn_at places p.run_report n input took) up.1))
 
   -- a message that is due
   message_may : (k : ℕ) (again : Bool) (x : Packet) → packet_at p.facts.net k ≡ Some x → IsUp p.facts x.msg.to.node → ((h : Happening) → delivery_at places p k again (packet_at p.facts.net k) ≡ Some h → MayHappen places asked p.facts h)
@@ -127,7 +127,7 @@ few_keep places asked f (h ∷ hs) now tells = few_keep places asked (facts_afte
     on (happenings.Started n boot) told = sent_after (λ m. TellsFew m.kind) places asked f (happenings.Started n boot) tt now
 
 module _ (f : Facts) (few : AllSent (λ m. TellsFew m.kind) f.net.packets) (below : AllByRecursion (λ x. max x.msg.scn (kind_scn x.msg.kind) < 2 ^ 48 - 1) f.net.packets) where
-  comes_expected : (k : Kept) (node : ℕ) (input : Input) (took : Option Took) → Comes f k node input took → IsExpected input
+  comes_expected : (k : NodeState) (node : ℕ) (input : Input) (took : Option Took) → Comes f k node input took → IsExpected input
   comes_expected k node (inputs.Call n (Some s)) None comes = record { fit = comes.0; whole = whole_table s comes.2; named = whole_names s comes.2; few = tt }
   comes_expected k node (inputs.Call n None) None comes = record { fit = comes.0; whole = tt; named = tt; few = tt }
   comes_expected k node (inputs.Call n s) (Some t) comes = absurd comes
@@ -137,7 +137,7 @@ module _ (f : Facts) (few : AllSent (λ m. TellsFew m.kind) f.net.packets) (belo
   comes_expected k node (inputs.Message m) None comes = absurd comes
   comes_expected k node inputs.Reco took comes = record { fit = tt; whole = tt; named = tt; few = tt }
 
-  comes_below : (k : Kept) (node : ℕ) (input : Input) (took : Option Took) → Comes f k node input took → BringsScns input
+  comes_below : (k : NodeState) (node : ℕ) (input : Input) (took : Option Took) → Comes f k node input took → BringsScns input
   comes_below k node (inputs.Message m) (Some x) comes =
       subst (λ (y : Msg). max y.scn (kind_scn y.kind) < 2 ^ 48 - 1) comes.1.same (numbered_so (λ y. max y.scn (kind_scn y.kind) < 2 ^ 48 - 1) f.net.packets x.number comes.0 below comes.1.sent)
   comes_below k node (inputs.Message m) None comes = absurd comes
@@ -147,7 +147,7 @@ module _ (f : Facts) (few : AllSent (λ m. TellsFew m.kind) f.net.packets) (belo
 
 -- ---- able nodes
 
-few_links : (places : List Place) (asked : List Command) → AreOfAScript places asked → (f : Facts) (n : ℕ) (k : Kept) → length f.nodes ≡ length places → node_at f n ≡ Some k → (place_at places n).links ≤ link_limit
+few_links : (places : List Place) (asked : List Command) → AreOfAScript places asked → (f : Facts) (n : ℕ) (k : NodeState) → length f.nodes ≡ length places → node_at f n ≡ Some k → (place_at places n).links ≤ link_limit
 few_links places asked script f n k many up =
     let p = there_too f.nodes places n (Some k) many (flat_some (numbered f.nodes n) k up) in
     let it : place_at places n ≡ p.0 = ap (λ o. unwrap_or o no_place) p.1 in
@@ -155,7 +155,7 @@ few_links places asked script f n k many up =
 
 module _ (lawful : TheRunIsLawful) (ups : DueNodesAreUp) (ready : NodesAreReady) (numbers : NumbersAreBelowLimits) (messages : MessagesAreBelowLimits) where
   module _ (t : History) (few : HasFewHappenings t) (run : IsTheRunOf t) (tells : AtEachFact RepliesTellFew t) where
-    able_at : (n : ℕ) (k : Kept) → node_at (past_of t).facts n ≡ Some k → IsAble (place_at t.places n) k
+    able_at : (n : ℕ) (k : NodeState) → node_at (past_of t).facts n ≡ Some k → IsAble (place_at t.places n) k
     able_at n k up =
         let here : node_at (facts_at t) n ≡ Some k = subst (λ f. node_at f n ≡ Some k) (same_facts t) up in
         let below = numbers t few run n k up in
@@ -172,7 +172,7 @@ module _ (lawful : TheRunIsLawful) (ups : DueNodesAreUp) (ready : NodesAreReady)
           clock = below.clock;
         }
 
-    finds : (n : ℕ) (input : Input) → MayTurnOver t.places t.commands (past_of t) n input → (k : Kept) × FindsAble t n input k
+    finds : (n : ℕ) (input : Input) → MayTurnOver t.places t.commands (past_of t) n input → (k : NodeState) × FindsAble t n input k
     finds n input may =
         let told : AllSent (λ m. TellsFew m.kind) (past_of t).facts.net.packets =
         subst (λ f. AllSent (λ m. TellsFew m.kind) f.net.packets) (sym (same_facts t)) (few_keep t.places t.commands (first_facts t.places) t.trace tt tells) in (

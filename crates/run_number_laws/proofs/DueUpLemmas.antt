@@ -5,20 +5,20 @@ use Rattle.std.specs.List.{AllByRecursion}
 use Rattle.std.proofs.lemmas.Bool.{cond_both}
 use Rattle.agreement.specs.Events.{Event}
 use Rattle.node_rules.specs.Data.{Place}
-use Rattle.node_rules.specs.Kept.{Kept}
+use Rattle.node_rules.specs.NodeState.{NodeState}
 use Rattle.net_bag.specs.Net.{flies, is_cut, is_down, is_blocked, packet_at, is_flying_at, may_pass, first_flying}
 use Rattle.run_rules.specs.Data.{Packet, Happening, Command}
 use Rattle.run_rules.specs.Data.commands
 use Rattle.run_rules.specs.Births.{Born, births_after}
 use Rattle.run_base_laws.specs.RunEvents.{events_after}
 use Rattle.run_rules.specs.Facts.{Facts, first_facts, node_at, is_up, command_at, facts_after}
-use Rattle.run_rules.specs.Telling.{Past, Telling, Call, start}
-use Rattle.run_rules.specs.Past.{telling_after, past}
+use Rattle.run_rules.specs.RunReport.{Past, RunReport, Call, start}
+use Rattle.run_rules.specs.Past.{report_after, past}
 use Rattle.run_rules.specs.Lines.{spent}
 use Rattle.run_rules.specs.Commands.{is_enabled}
 use Rattle.run_rules.specs.Calls.{is_call_at, call_at}
 use Rattle.run_rules.specs.Lawful.{IsNode, IsProper, IsSettled, AreOfAScript, History}
-use Rattle.run_rules.specs.Due.{Due, Pends, Gives_up, Delivers, Recovers, Loses, Stops, Starts, Begins, Ends, if_due, call_due, act_of, next_command, next_give_up, next_delivery, most_of, next_pumped, flows, acts_first, acts_once, follows_first, falls_first, tells_first, due_of, IsTheRun}
+use Rattle.run_rules.specs.Due.{Due, Pends, Gives_up, Delivers, Recovers, Loses, Stops, Starts, Begins, Ends, if_due, call_due, act_of, next_command, next_give_up, next_delivery, most_of, next_pumped, flows, acts_first, acts_once, follows_first, falls_first, first_losses, due_of, IsTheRun}
 use Rattle.run_rules.specs.Reported.{past_of}
 use Rattle.run_rules.specs.Scripts.{IsTheRunOf, TheRunIsLawful}
 use Rattle.run_rules.proofs.FactLemmas.{facts_are}
@@ -42,7 +42,7 @@ abbrev MayCome : Facts → Due → Type 0
 MayCome f (Delivers k again) = may_come f k again ≡ true
 MayCome f _ = Unit {0}
 
-module _ (asked : List Command) (f : Facts) (t : Telling) where
+module _ (asked : List Command) (f : Facts) (t : RunReport) where
   beside_comes : {d : Due} → ComesBeside asked f t d → MayCome f d
   beside_comes (due.Gives n s c at) = tt
   beside_comes (due.Takes k may) = may
@@ -65,7 +65,7 @@ module _ (asked : List Command) (f : Facts) (t : Telling) where
   due_comes (due.Beside settled no_start alone none comes) = beside_comes comes
 
 pub due_messages_are_there : DueMessagesAreThere
-due_messages_are_there t k again is = subst (MayCome (past_of t).facts) is (due_comes t.commands (past_of t).facts (past_of t).telling (due_so t.commands (past_of t)))
+due_messages_are_there t k again is = subst (MayCome (past_of t).facts) is (due_comes t.commands (past_of t).facts (past_of t).run_report (due_so t.commands (past_of t)))
 
 -- ---- RECO
 
@@ -74,7 +74,7 @@ abbrev Enabled : Facts → Due → Type 0
 Enabled f (Recovers n) = is_enabled (node_at f n) ≡ true
 Enabled f _ = Unit {0}
 
-module _ (asked : List Command) (f : Facts) (t : Telling) where
+module _ (asked : List Command) (f : Facts) (t : RunReport) where
   command_enabled : Enabled f (next_command asked f)
   command_enabled = cond_both (nat_lt f.command (length asked)) (Begins (f.command + 1)) Ends (Enabled f) (λ more. tt) (λ all. tt)
 
@@ -128,7 +128,7 @@ module _ (asked : List Command) (f : Facts) (t : Telling) where
   falls_enabled d None is = is
   falls_enabled d (Some n) is = tt
 
-  tells_enabled : (d : Due) (ks : List ℕ) → Enabled f d → Enabled f (tells_first d ks)
+  tells_enabled : (d : Due) (ks : List ℕ) → Enabled f d → Enabled f (first_losses d ks)
   tells_enabled d [] is = is
   tells_enabled d (k ∷ ks) is = tt
 
@@ -136,15 +136,15 @@ due_enabled : (asked : List Command) (p : Past) → Enabled p.facts (due_of aske
 unfolding due_of
 due_enabled asked p =
     let f : Facts = p.facts in
-    let t : Telling = p.telling in
-    tells_enabled asked f t _ f.losses_to_tell (falls_enabled asked f t _ f.node_to_stop (falls_enabled asked f t _ t.start_to_stop (follows_enabled asked f t _ t.next_call (once_enabled asked f t))))
+    let t : RunReport = p.run_report in
+    tells_enabled asked f t _ f.losses_to_report (falls_enabled asked f t _ f.node_to_stop (falls_enabled asked f t _ t.start_to_stop (follows_enabled asked f t _ t.next_call (once_enabled asked f t))))
 
 -- ---- nodes
 
 enabled_up : (f : Facts) (n : ℕ) → is_enabled (node_at f n) ≡ true → IsUp f n
 enabled_up f n is = by (node_at f n) refl is
   where
-    by : (o : Option Kept) → node_at f n ≡ o → is_enabled o ≡ true → IsUp f n
+    by : (o : Option NodeState) → node_at f n ≡ o → is_enabled o ≡ true → IsUp f n
     by None at is = absurd cc
     by (Some k) at is = (k, at)
 
@@ -157,14 +157,14 @@ module _ (places : List Place) (asked : List Command) (script : AreOfAScript pla
   abbrev f : Facts
   f = p.facts
 
-  abbrev t : Telling
-  t = p.telling
+  abbrev t : RunReport
+  t = p.run_report
 
   -- a pending call is at a node that is up
   called_up : (n s : ℕ) → IsSettled f → called_at t.calls n s ≡ true → IsUp f n
   called_up n s settled called = by (node_at f n) refl
     where
-      by : (o : Option Kept) → node_at f n ≡ o → IsUp f n
+      by : (o : Option NodeState) → node_at f n ≡ o → IsUp f n
       by None at = let none : called_at t.calls n s ≡ false = now.calls.down n at (λ is. (let upright = settled.upright in absurd (cc (is, upright)))) s in absurd (cc (called, none))
       by (Some k) at = (k, at)
 
@@ -172,7 +172,7 @@ module _ (places : List Place) (asked : List Command) (script : AreOfAScript pla
   target_up : (k : ℕ) (x : Packet) → IsSettled f → packet_at f.net k ≡ Some x → is_blocked f.net x.msg ≡ false → (y : Packet) × (packet_at f.net k ≡ Some y) × IsUp f y.msg.to.node
   target_up k x settled at free = (x, at, by (node_at f x.msg.to.node) refl)
     where
-      by : (o : Option Kept) → node_at f x.msg.to.node ≡ o → IsUp f x.msg.to.node
+      by : (o : Option NodeState) → node_at f x.msg.to.node ≡ o → IsUp f x.msg.to.node
       by None none =
           let there : IsNode (length places) x.msg.to.node = all_at (λ y. IsNode (length places) y.msg.to.node) f.net.packets k x targets at in
           let down : is_down f.net x.msg.to.node ≡ true = downs x.msg.to.node there none (λ is. (let upright = settled.upright in absurd (cc (is, upright)))) in
@@ -270,7 +270,7 @@ module _ (places : List Place) (asked : List Command) (script : AreOfAScript pla
   run_stands p [] es bs born roots now run = now
   run_stands p (h ∷ hs) es bs born roots now run =
       let goes = goes_on places asked script p es bs born roots now.so h run.0 in
-      let q : Past = record { facts = facts_after places asked p.facts h; telling = telling_after places asked p.facts p.telling h } in
+      let q : Past = record { facts = facts_after places asked p.facts h; run_report = report_after places asked p.facts p.run_report h } in
       subst (λ r. RunStands (past places asked r hs)) (sym (next_is places asked p h))
       (run_stands q hs (events_after places asked p.facts h es) (births_after places p.facts h bs) (stand_born_on places asked script.each p.facts es bs h born goes.0)
       (roots_stand_on places asked script.each p.facts es bs born roots h goes.0) (record { so = goes.1; downs = downs_on places asked p.facts born.0.0.even now.so.many now.downs h goes.0 })

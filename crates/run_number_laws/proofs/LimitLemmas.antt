@@ -1,12 +1,12 @@
 -- In the run of a script, as far as it has few happenings, numbers are below the limits of a turn, and each node starts seldom.
 use Rattle.std.proofs.Common.{◌≡◌, ℕ, ◌+◌, ◌-◌, ◌^◌, ◌<◌, ◌≤◌, length, max, Some, sym, subst, arith}
 use Rattle.std.specs.List.{AllByRecursion}
-use Rattle.node_rules.specs.Kept.{Kept}
+use Rattle.node_rules.specs.NodeState.{NodeState}
 use Rattle.node_rules.specs.Turn.{kind_scn}
 use Rattle.node_core.specs.Able.{given_limit}
 use Rattle.node_ready_laws.specs.Ready.{IsWithin}
 use Rattle.run_rules.specs.Facts.{node_at, records_at}
-use Rattle.run_rules.specs.Telling.{start}
+use Rattle.run_rules.specs.RunReport.{start}
 use Rattle.run_rules.specs.Lawful.{boots, History, facts_at}
 use Rattle.run_rules.specs.Reported.{past_of}
 use Rattle.run_rules.specs.Scripts.{TheRunIsLawful}
@@ -16,7 +16,7 @@ use Rattle.run_trace.specs.Recorded.{happening_limit}
 use Rattle.run_number_laws.specs.Numbers.{IsToldWithin, NumbersAreWithin, MessagesAreWithin, DisksAreWithin, StartsAreCounted, IsBelowLimits, NumbersAreBelowLimits, MessagesAreBelowLimits, StartsSeldom, EachStartsSeldom}
 
 -- numbers within few are below the limits
-below : (n : ℕ) (k : Kept) → n ≤ happening_limit → IsWithin n k → IsBelowLimits k
+below : (n : ℕ) (k : NodeState) → n ≤ happening_limit → IsWithin n k → IsBelowLimits k
 below n k few is = record {
   opens = omega (arith, few, is.opens);
   seqs = all_weaker (λ s. s.seq ≤ n) (λ s. s.seq ≤ given_limit) (λ s le. omega (arith, few, le)) k.sessions is.seqs;

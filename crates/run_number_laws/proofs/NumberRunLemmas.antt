@@ -7,7 +7,7 @@ use Rattle.node_rules.specs.Data.inputs
 use Rattle.node_rules.specs.Data.kinds
 use Rattle.node_rules.specs.Data.records
 use Rattle.node_rules.specs.declared.session.Session.{Session}
-use Rattle.node_rules.specs.Kept.{Kept}
+use Rattle.node_rules.specs.NodeState.{NodeState}
 use Rattle.node_rules.specs.Records.{nothing_stored, stored_by}
 use Rattle.node_rules.specs.Sessions.{fresh_session}
 use Rattle.node_rules.specs.Turn.{turn_of, start_of, made, kind_scn, stamped, heard, deed_of}
@@ -27,7 +27,7 @@ use Rattle.run_number_laws.proofs.DiskLemmas.{recorded_below, boot_scn, J, I, bo
 
 -- ---- more
 
-within_more : (n : ℕ) (k : Kept) → IsWithin n k → IsWithin (n + 1) k
+within_more : (n : ℕ) (k : NodeState) → IsWithin n k → IsWithin (n + 1) k
 within_more n k is = record {
   clock = omega (arith, is.clock);
   opens = omega (arith, is.opens);
@@ -57,10 +57,10 @@ boot_written n rs boot is =
 -- ---- nodes, disks and messages
 
 -- a disk, and its node where that is up
-abbrev NodeWithin : ℕ → Option Kept → List RedoRecord → Type 0
+abbrev NodeWithin : ℕ → Option NodeState → List RedoRecord → Type 0
 NodeWithin n o rs = IsWrittenWithin n rs × IfSome o (IsWithin n)
 
-node_more : (n : ℕ) (o : Option Kept) (rs : List RedoRecord) → NodeWithin n o rs → NodeWithin (n + 1) o rs
+node_more : (n : ℕ) (o : Option NodeState) (rs : List RedoRecord) → NodeWithin n o rs → NodeWithin (n + 1) o rs
 node_more n None rs now = (written_more n rs now.0, tt)
 node_more n (Some k) rs now = (written_more n rs now.0, within_more n k now.1)
 
@@ -68,13 +68,13 @@ node_more n (Some k) rs now = (written_more n rs now.0, within_more n k now.1)
 abbrev pub AllWithin : ℕ → Facts → Type 0
 AllWithin n f = ((m : ℕ) → NodeWithin n (node_at f m) (records_at f m)) × AllSent (IsToldWithin n) f.net.packets
 
-heard_so : (p : Place) (rs : List RedoRecord) (k : Kept) (input : Input) → I p rs k → I p rs (heard k input)
+heard_so : (p : Place) (rs : List RedoRecord) (k : NodeState) (input : Input) → I p rs k → I p rs (heard k input)
 heard_so p rs k (inputs.Message m) now = both.hears p rs k (max m.scn (kind_scn m.kind)) now
 heard_so p rs k _ now = now
 
 module _ (numbers : NumbersStayWithin) (places : List Place) (asked : List Command) where
   module _ (f : Facts) (stand : AllStand J I both places f) (n : ℕ) (now : AllWithin n f) where
-    comes_within : (k : Kept) (node : ℕ) (input : Input) (took : Option Took) → Comes f k node input took → BringsWithin n input
+    comes_within : (k : NodeState) (node : ℕ) (input : Input) (took : Option Took) → Comes f k node input took → BringsWithin n input
     comes_within k node (inputs.Message m) (Some x) comes = subst (λ (y : Msg). max y.scn (kind_scn y.kind) ≤ n) comes.1.same (numbered_so (IsToldWithin n) f.net.packets x.number comes.0 now.1 comes.1.sent)
     comes_within k node (inputs.Message m) None comes = absurd comes
     comes_within k node (inputs.Call c s) took comes = tt
@@ -82,7 +82,7 @@ module _ (numbers : NumbersStayWithin) (places : List Place) (asked : List Comma
     comes_within k node inputs.Reco took comes = tt
 
     -- a turn
-    module _ (u : Turn) (k : Kept) (may : MayTurn places f u k) where
+    module _ (u : Turn) (k : NodeState) (may : MayTurn places f u k) where
       abbrev p : Place
       p = place_at places u.node
 
@@ -134,7 +134,7 @@ module _ (numbers : NumbersStayWithin) (places : List Place) (asked : List Comma
       sent_clocks = of_sent p k u serving (λ w ms. AllByRecursion (λ m. m.scn ≤ n + 1) ms) tt (clocks_of (deed_of p k u.input).after.clock after_within.clock (deed_of p k u.input).says)
 
     -- what becomes of each node
-    goes_within : (m : ℕ) {o : Option Kept} {rs : List RedoRecord} → Goes places f m o rs → NodeWithin (n + 1) o rs
+    goes_within : (m : ℕ) {o : Option NodeState} {rs : List RedoRecord} → Goes places f m o rs → NodeWithin (n + 1) o rs
     goes_within m Stays = node_more n (node_at f m) (records_at f m) (now.0 m)
     goes_within m Stops = (written_more n (records_at f m) (now.0 m).0, tt)
     goes_within m (Starts boot down next) =

@@ -13,7 +13,7 @@ use Rattle.node_rules.specs.Data.acts
 use Rattle.node_rules.specs.Data.kinds
 use Rattle.node_rules.specs.declared.session.Session.{Session}
 use Rattle.node_rules.specs.Words.{same_text}
-use Rattle.node_rules.specs.Kept.{Kept, Branch, Deed, to_one, to_each}
+use Rattle.node_rules.specs.NodeState.{NodeState, Branch, Deed, to_one, to_each}
 use Rattle.node_rules.specs.Names.{Named, A_table, Behind, Unknown, Through, node_named, target_of, way_new, way_edge, way_target, way_named, way_of, named_by, ref_of}
 use Rattle.node_rules.specs.Calls.{answer_says, exec_to, with_edge, hears_reply}
 use Rattle.node_rules.specs.Statement.{ran, after_run}
@@ -89,7 +89,7 @@ exec_opens ss x i s given (Some c) = (tt, tt)
 rolled : (l : Live) → AllSay IsNoOpen (to_each l.me kinds.Rollback (children_of l))
 rolled l = each_says IsNoOpen l.me kinds.Rollback (children_of l) tt
 
-says_open : (k : Kept) (input : Input) {says : List Post} → Says k input says → AllSay IsNoOpen says
+says_open : (k : NodeState) (input : Input) {says : List Post} → Says k input says → AllSay IsNoOpen says
 says_open k input (steps.Gone_replies to from call given advice s came gone) = (tt, tt)
 says_open k input (steps.Replies_again x to call given advice s t came live last kept) = (tt, tt)
 says_open k input (steps.Tells s from came kept) = (told_says IsNoOpen decisions_open_none (kept_told s from), tt)
@@ -116,7 +116,7 @@ module _ (p : Place) (input : Input) where
   none_open says none = all_weaker (λ x. IsNoOpen x.kind) (λ x. OpensThere (length p.names) x.to x.kind) (λ x free. there_so x.to x.kind free) says none
 
   -- each Open of a step goes to a node that there is
-  pub step_opens : {k : Kept} {d : Deed} → Step p input k d → There d
+  pub step_opens : {k : NodeState} {d : Deed} → Step p input k d → There d
   step_opens (steps.Begins n s call rows range none step) = step_opens step
   step_opens (steps.Pends n l given call has live code step) = step_opens step
   step_opens (steps.Lets_reads_go l comment b live begins step) = step_opens step

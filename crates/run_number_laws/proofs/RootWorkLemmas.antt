@@ -5,7 +5,7 @@ use Rattle.node_rules.specs.Data.inputs
 use Rattle.node_rules.specs.Data.phases
 use Rattle.node_rules.specs.Data.stmts
 use Rattle.node_rules.specs.declared.session.PendingCall.TheVariants as pending
-use Rattle.node_rules.specs.Kept.{Kept, Branch, branch_at}
+use Rattle.node_rules.specs.NodeState.{NodeState, Branch, branch_at}
 use Rattle.node_rules.specs.Sessions.{session_at}
 use Rattle.node_rules.specs.Client.{root_at}
 use Rattle.node_rules.proofs.StandLemmas.{RootSo, root_so, live_so}
@@ -24,17 +24,17 @@ use Rattle.run_number_laws.specs.RootLaws.{RestingWork, RootsWork, CommitsFindWo
 -- ---- nodes
 
 -- the root of a session, where it is live
-root_works : (k : Kept) → NodeRests k → (n : ℕ) → (session_at k.sessions n).call ≡ pending.NoCall → (o : Option Branch) → RootSo k n o → IfSome o (λ x. x.live.phase ≡ phases.Working)
+root_works : (k : NodeState) → NodeRests k → (n : ℕ) → (session_at k.sessions n).call ≡ pending.NoCall → (o : Option Branch) → RootSo k n o → IfSome o (λ x. x.live.phase ≡ phases.Working)
 root_works k now n free None so = tt
 root_works k now n free (Some x) so =
     let none : x.live.parent ≡ None = root_alone k now.0 n x.live.me so.0 x.live (live_so k x.live.me x so.1) in
     (free_waits (session_at k.sessions x.live.me.session).call x.live.phase x.work.going (branch_root k now.1 x so.1 none).waits
     (subst (λ m. (session_at k.sessions m).call ≡ pending.NoCall) (sym (now.0.roots.each n x.live.me so.0)) free)).0
 
-resting_work : (k : Kept) → NodeRests k → RestingWork k
+resting_work : (k : NodeState) → NodeRests k → RestingWork k
 resting_work k now n free = root_works k now n free (root_at k n) (root_so k n)
 
-node_rests : (t : History) → IsLawfulRun t → (n : ℕ) (k : Kept) → node_at (facts_at t) n ≡ Some k → NodeRests k
+node_rests : (t : History) → IsLawfulRun t → (n : ℕ) (k : NodeState) → node_at (facts_at t) n ≡ Some k → NodeRests k
 node_rests t lawful n k up = subst (λ o. IfSome o NodeRests) up (run_roots t lawful n)
 
 pub roots_work : RootsWork
@@ -42,11 +42,11 @@ roots_work t lawful n k up = resting_work k (node_rests t lawful n k up)
 
 -- ---- COMMIT
 
-ends_work : (k : Kept) (n : ℕ) (s : Stmt) → IfSome (root_at k n) (λ x. x.live.phase ≡ phases.Working) → EndsWork k n s
+ends_work : (k : NodeState) (n : ℕ) (s : Stmt) → IfSome (root_at k n) (λ x. x.live.phase ≡ phases.Working) → EndsWork k n s
 ends_work k n (stmts.Commit comment) works = works
 ends_work k n _ works = tt
 
-brings_commit : (k : Kept) (input : Input) → ((n : ℕ) (s : Option Stmt) → input ≡ inputs.Call n s → IfSome (root_at k n) (λ x. x.live.phase ≡ phases.Working)) → BringsCommit k input
+brings_commit : (k : NodeState) (input : Input) → ((n : ℕ) (s : Option Stmt) → input ≡ inputs.Call n s → IfSome (root_at k n) (λ x. x.live.phase ≡ phases.Working)) → BringsCommit k input
 brings_commit k (inputs.Call n (Some s)) works = ends_work k n s (works n (Some s) refl)
 brings_commit k (inputs.Call n None) works = tt
 brings_commit k _ works = tt
@@ -57,7 +57,7 @@ commits_find_work t lawful n k up input took comes =
 
 -- ---- turns
 
-finds : (k : Kept) (n : ℕ) (o : Option Branch) → RootSo k n o
+finds : (k : NodeState) (n : ℕ) (o : Option Branch) → RootSo k n o
     → ((x : Branch) → (session_at k.sessions n).root ≡ Some x.live.me → branch_at k x.live.me ≡ Some x → x.live.phase ≡ phases.Working) → IfSome o (λ x. x.live.phase ≡ phases.Working)
 finds k n None so works = tt
 finds k n (Some x) so works = works x so.0 so.1

@@ -7,7 +7,7 @@ use Rattle.tran_ids.specs.Listed.{numbered}
 use Rattle.node_rules.specs.Data.{BranchId, Kind, Msg, Opening, Place, Input}
 use Rattle.node_rules.specs.Data.kinds
 use Rattle.node_rules.specs.Data.inputs
-use Rattle.node_rules.specs.Kept.{Kept}
+use Rattle.node_rules.specs.NodeState.{NodeState}
 use Rattle.node_rules.specs.Sessions.{session_at}
 use Rattle.node_rules.specs.Calls.{is_opening}
 use Rattle.node_rules.specs.Turn.{turn_of, stamped, deed_of}
@@ -31,7 +31,7 @@ use Rattle.run_number_laws.proofs.OpenLemmas.{OpensThere, step_opens}
 
 -- ---- which node a branch begins at
 
-module _ (p : Place) (k : Kept) where
+module _ (p : Place) (k : NodeState) where
   abbrev Here : List Born → Type 0
   Here bs = AllByRecursion (λ x. x.me.node ≡ p.number) bs
 
@@ -56,11 +56,11 @@ module _ (p : Place) (k : Kept) where
 
 module _ (places : List Place) (asked : List Command) (script : AreOfAScript places asked) where
   -- a node that is up is one that there is
-  pub up_there : (f : Facts) (n : ℕ) (k : Kept) → length f.nodes ≡ length places → node_at f n ≡ Some k → IsNode (length places) n
+  pub up_there : (f : Facts) (n : ℕ) (k : NodeState) → length f.nodes ≡ length places → node_at f n ≡ Some k → IsNode (length places) n
   up_there f n k many up = let range = range_of f.nodes n (Some k) (flat_some (numbered f.nodes n) k up) in (range.0, omega (arith, range.1, many))
 
   -- and knows the names of all
-  pub names_are : (f : Facts) (n : ℕ) (k : Kept) → length f.nodes ≡ length places → node_at f n ≡ Some k → length (place_at places n).names ≡ length places
+  pub names_are : (f : Facts) (n : ℕ) (k : NodeState) → length f.nodes ≡ length places → node_at f n ≡ Some k → length (place_at places n).names ≡ length places
   names_are f n k many up =
       let p = there_too f.nodes places n (Some k) many (flat_some (numbered f.nodes n) k up) in
       let it : place_at places n ≡ p.0 = ap (λ o. unwrap_or o no_place) p.1 in
@@ -71,7 +71,7 @@ module _ (places : List Place) (asked : List Command) (script : AreOfAScript pla
   TargetsStand f bs = AllByRecursion (λ x. IsNode (length places) x.me.node) bs × AllByRecursion (λ x. OpensThere (length places) x.msg.to x.msg.kind) f.net.packets
 
   module _ (f : Facts) (t : List Event) (bs : List Born) (stand : StandBorn places asked script.each f t bs) (now : TargetsStand f bs) where
-    module _ (u : Turn) (k : Kept) (may : MayTurn places f u k) where
+    module _ (u : Turn) (k : NodeState) (may : MayTurn places f u k) where
       there : IsNode (length places) u.node
       there = up_there f u.node k stand.0.1.many may.up
 

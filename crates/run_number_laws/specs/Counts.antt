@@ -5,4 +5,4 @@ use Rattle.run_rules.specs.Reported.{past_of}
 
 -- The deliveries of the command that runs are no more than the happenings so far.
 abbrev pub DeliveriesAreWithin : Type 0
-DeliveriesAreWithin = (t : History) → (past_of t).telling.deliveries ≤ length t.trace
+DeliveriesAreWithin = (t : History) → (past_of t).run_report.deliveries ≤ length t.trace

@@ -3,7 +3,7 @@
 use Rattle.std.specs.Prelude.{◌≡◌, ℕ, ◌+◌, ◌-◌, ◌^◌, ◌<◌, ◌≤◌, List, length, max, Some}
 use Rattle.std.specs.List.{AllByRecursion}
 use Rattle.node_rules.specs.Data.{RedoRecord, Msg}
-use Rattle.node_rules.specs.Kept.{Kept}
+use Rattle.node_rules.specs.NodeState.{NodeState}
 use Rattle.node_rules.specs.Records.{nothing_stored, stored_by}
 use Rattle.node_rules.specs.Turn.{kind_scn}
 use Rattle.node_core.specs.Able.{given_limit}
@@ -27,7 +27,7 @@ pub record IsWrittenWithin (n : ℕ) (rs : List RedoRecord) : Type 0 where
 
 -- In every lawful run the numbers of each node that is up are no more than the happenings so far.
 abbrev pub NumbersAreWithin : Type 0
-NumbersAreWithin = (t : History) → IsLawfulRun t → (n : ℕ) (k : Kept) → node_at (facts_at t) n ≡ Some k → IsWithin (length t.trace) k
+NumbersAreWithin = (t : History) → IsLawfulRun t → (n : ℕ) (k : NodeState) → node_at (facts_at t) n ≡ Some k → IsWithin (length t.trace) k
 
 -- So are the SCNs of each message that was sent.
 abbrev pub MessagesAreWithin : Type 0
@@ -48,7 +48,7 @@ abbrev pub HasFewHappenings : History → Type 0
 HasFewHappenings t = length t.trace ≤ happening_limit
 
 -- What a node has given out, and its clock, below the limits of its next turn.
-pub record IsBelowLimits (k : Kept) : Type 0 where
+pub record IsBelowLimits (k : NodeState) : Type 0 where
   pub opens : length k.opens ≤ given_limit
   pub seqs : AllByRecursion (λ s. s.seq ≤ given_limit) k.sessions
   pub calls : AllByRecursion (λ w. AllByRecursion (λ c. c ≤ given_limit) w.calls) k.works
@@ -56,7 +56,7 @@ pub record IsBelowLimits (k : Kept) : Type 0 where
 
 -- In the run of a script, as far as it has few happenings, the numbers of each node that is up are below the limits of a turn.
 abbrev pub NumbersAreBelowLimits : Type 0
-NumbersAreBelowLimits = (t : History) → HasFewHappenings t → IsTheRunOf t → (n : ℕ) (k : Kept) → node_at (past_of t).facts n ≡ Some k → IsBelowLimits k
+NumbersAreBelowLimits = (t : History) → HasFewHappenings t → IsTheRunOf t → (n : ℕ) (k : NodeState) → node_at (past_of t).facts n ≡ Some k → IsBelowLimits k
 
 -- So are the SCNs that messages bring.
 abbrev pub MessagesAreBelowLimits : Type 0

@@ -2,7 +2,7 @@
 -- take a turn is up.
 use Rattle.std.specs.Prelude.{◌≡◌, ℕ, Bool, true, if◌then◌else◌, length, Some}
 use Rattle.std.specs.List.{AllByRecursion}
-use Rattle.node_rules.specs.Kept.{Kept}
+use Rattle.node_rules.specs.NodeState.{NodeState}
 use Rattle.net_bag.specs.Net.{may_deliver, may_repeat, packet_at}
 use Rattle.run_rules.specs.Data.{Packet}
 use Rattle.run_rules.specs.Facts.{Facts, node_at}
@@ -45,7 +45,7 @@ DueNodesAreThere = (t : History) → IsTheRunOf t → NamesNodes (length t.place
 
 -- a node is up
 abbrev pub IsUp : Facts → ℕ → Type 0
-IsUp f n = (k : Kept) × (node_at f n ≡ Some k)
+IsUp f n = (k : NodeState) × (node_at f n ≡ Some k)
 
 -- the node of a turn that is due is up
 abbrev pub FindsUp : Facts → Due → Type 0

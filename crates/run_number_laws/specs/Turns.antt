@@ -3,7 +3,7 @@
 use Rattle.std.specs.Prelude.{◌≡◌, ℕ, Option, Some}
 use Rattle.node_rules.specs.Data.{Input}
 use Rattle.node_rules.specs.Data.inputs
-use Rattle.node_rules.specs.Kept.{Kept}
+use Rattle.node_rules.specs.NodeState.{NodeState}
 use Rattle.node_core.specs.Able.{IsAble, BringsScns}
 use Rattle.net_bag.specs.Net.{packet_at}
 use Rattle.node_ready_laws.specs.Ready.{IsExpected}
@@ -31,7 +31,7 @@ IsTurnDue f (Recovers m) n input = (n ≡ m) × (input ≡ inputs.Reco)
 IsTurnDue f _ n input = ⊥
 
 -- What such a turn finds, in a run with few happenings: its node is up, its input may come, and both are as a turn needs them.
-pub record FindsAble (t : History) (n : ℕ) (input : Input) (k : Kept) : Type 0 where
+pub record FindsAble (t : History) (n : ℕ) (input : Input) (k : NodeState) : Type 0 where
   pub up : node_at (past_of t).facts n ≡ Some k
   pub took : Option Took
   pub comes : Comes (past_of t).facts k n input took
@@ -42,4 +42,4 @@ pub record FindsAble (t : History) (n : ℕ) (input : Input) (k : Kept) : Type 0
 -- In the run of a script whose Replies tell of few branches each turn that is due finds an able node.
 abbrev pub DueTurnsFindAble : Type 0
 DueTurnsFindAble = (t : History) → HasFewHappenings t → IsTheRunOf t → AtEachFact RepliesTellFew t → (n : ℕ) (input : Input) → IsTurnDue (past_of t).facts (due_in t) n input
-    → (k : Kept) × FindsAble t n input k
+    → (k : NodeState) × FindsAble t n input k

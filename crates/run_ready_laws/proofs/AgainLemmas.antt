@@ -8,7 +8,7 @@ use Rattle.node_rules.specs.Data.kinds
 use Rattle.node_rules.specs.declared.work.Work.{Work}
 use Rattle.node_rules.specs.Words.{same}
 use Rattle.node_rules.specs.Inputs.{Came}
-use Rattle.node_rules.specs.Kept.{Kept, Branch, live_id, live_at, branch_at}
+use Rattle.node_rules.specs.NodeState.{NodeState, Branch, live_id, live_at, branch_at}
 use Rattle.node_rules.specs.Calls.{replies, gone_reply}
 use Rattle.node_rules.specs.Recovery.{kept_told}
 use Rattle.node_rules.proofs.Steps as steps
@@ -33,7 +33,7 @@ module _ (E : BranchId → Option ℕ) (A : BranchId → Option BranchId) (G Her
   abbrev Begun : Live → Work → Type 0
   Begun = turns.Begun E A G Here input said
 
-  abbrev Nodes : Kept → Type 0
+  abbrev Nodes : NodeState → Type 0
   Nodes k = EachLive Begun k.lives k.works
 
   abbrev Goes : Live → Type 0
@@ -42,13 +42,13 @@ module _ (E : BranchId → Option ℕ) (A : BranchId → Option BranchId) (G Her
   abbrev Old : Live → Work → Type 0
   Old = fits.Old E A G Here input said received all came_fits
 
-  abbrev pub Olds : Kept → Type 0
+  abbrev pub Olds : NodeState → Type 0
   Olds k = EachLive Old k.lives k.works
 
   abbrev Then : List Post → Live → Work → Type 0
   Then = fits.Then E A G Here input said received all came_fits
 
-  module _ (k : Kept) (now : Olds k) where
+  module _ (k : NodeState) (now : Olds k) where
     found_old : (x : Branch) → branch_at k x.live.me ≡ Some x → Old x.live x.work
     found_old x found = fits.found_old E A G Here input said received all came_fits k now x found
 

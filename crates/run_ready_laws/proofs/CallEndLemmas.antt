@@ -18,7 +18,7 @@ use Rattle.node_rules.specs.declared.work.Going.{Going}
 use Rattle.node_rules.specs.Words.{numbered, set_numbered}
 use Rattle.node_rules.specs.Refusals.{dtx}
 use Rattle.session_tree.specs.Live.{is_branch, new_edge}
-use Rattle.node_rules.specs.Kept.{Kept, Branch, Deed, standing_id, live_at, with_standing}
+use Rattle.node_rules.specs.NodeState.{NodeState, Branch, Deed, standing_id, live_at, with_standing}
 use Rattle.node_rules.specs.Statement.{ran, after_run}
 use Rattle.node_rules.specs.Sessions.{fresh_session, session_at, with_call, needs_rollback, no_transaction, is_commit, commit_is_pending, commit_ended, commit_answer}
 use Rattle.node_rules.specs.Calls.{call_pends, answered_sessions, answer_ends, heard_sessions, heard_answer, is_gone, with_edge, hears_reply}
@@ -174,7 +174,7 @@ heard_root ss l a has =
     (λ gone. ap (λ s. s.root) (set_here ss l.me.session l.me (record (session_at ss l.me.session) { code = Some (dtx 8 []).code }) has) ∙ has) (λ other. has)
 
 -- an act of the prepare phase
-pub act_ends : (k : Kept) (l : Live) (site_below : Bool) (a : Act) → EndsSo (pends_at k.sessions) (act_turn k l site_below a).after.sessions (act_turn k l site_below a).ended
+pub act_ends : (k : NodeState) (l : Live) (site_below : Bool) (a : Act) → EndsSo (pends_at k.sessions) (act_turn k l site_below a).after.sessions (act_turn k l site_below a).ended
 act_ends k l site_below acts.Rest = ends_same k.sessions
 act_ends k l site_below acts.AskDown = ends_same k.sessions
 act_ends k l site_below acts.SayReadOnly = ends_same k.sessions
@@ -187,7 +187,7 @@ act_ends k l site_below acts.Abandon = abandoned_ends k.sessions l l.parent
 
 -- ---- steps
 
-pub acked_before : (input : Input) (k : Kept) (s : Standing) (from : BranchId) → steps.IsKept k s → Came input from s.me kinds.Ack → Before input k → Before input (with_standing k (acked_by s from))
+pub acked_before : (input : Input) (k : NodeState) (s : Standing) (from : BranchId) → steps.IsKept k s → Came input from s.me kinds.Ack → Before input k → Before input (with_standing k (acked_by s from))
 acked_before input k s from kept came before = record {
   free = before.free;
   asked = before.asked;
@@ -203,14 +203,14 @@ going_pends pending.Statement phase o g is going = refl
 going_pends pending.Commit phase o g is going = refl
 
 -- an Exec comes to no root
-module _ {k : Kept} {input : Input} (before : Before input k) (no_call : (n : ℕ) (s : Option Stmt) → input ≡ inputs.Call n s → ⊥) where
+module _ {k : NodeState} {input : Input} (before : Before input k) (no_call : (n : ℕ) (s : Option Stmt) → input ≡ inputs.Call n s → ⊥) where
   asked_below : {x : Branch} {s : Stmt} {given : ℕ} → Asked k input x s given → x.live.parent ≢ None
   asked_below (steps.By_call n x s call rows has code live) = absurd (no_call n (Some s) call)
   asked_below (steps.By_exec x from call given advice s came live runs) = before.asked from x.live.me call given advice s came x.live (live_so k x.live.me x live)
 
 module _ (p : Place) (input : Input) (no_call : (n : ℕ) (s : Option Stmt) → input ≡ inputs.Call n s → ⊥) where
   -- each step of an input that is no call
-  pub ends_on : {k : Kept} {d : Deed} → Step p input k d → Before input k → NodeRoots k → EndsSo (pends_at k.sessions) d.after.sessions d.ended
+  pub ends_on : {k : NodeState} {d : Deed} → Step p input k d → Before input k → NodeRoots k → EndsSo (pends_at k.sessions) d.after.sessions d.ended
   ends_on (steps.Begins n s call rows range none step) before now = absurd (no_call n (Some s) call)
   ends_on (steps.Pends n l given call has live code step) before now = absurd (no_call n _ call)
   ends_on (steps.Lets_reads_go l comment site_below live begins step) before now = ends_on step (record { free = before.free; asked = before.asked; prepared = before.prepared; either = before.either }) now

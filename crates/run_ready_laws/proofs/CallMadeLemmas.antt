@@ -14,7 +14,7 @@ use Rattle.node_rules.specs.declared.session.PendingCall.TheVariants as pending
 use Rattle.node_rules.specs.declared.session.Session.{Session}
 use Rattle.node_rules.specs.declared.session.Finished.{Finished}
 use Rattle.node_rules.specs.Words.{set_numbered, put_item}
-use Rattle.node_rules.specs.Kept.{Kept, Branch, Deed, live_id, live_at, with_work, branch_at}
+use Rattle.node_rules.specs.NodeState.{NodeState, Branch, Deed, live_id, live_at, with_work, branch_at}
 use Rattle.node_rules.specs.Names.{Way, Runs_here, Over, Through, Nowhere_to, way_of}
 use Rattle.node_rules.specs.Statement.{ran, after_run, answer_of_run}
 use Rattle.node_rules.specs.Sessions.{session_at, with_call, no_transaction, commit_ended, commit_answer}
@@ -88,7 +88,7 @@ none_is : {A : Type 0} (o : Option A) → o ≡ None → is_none o ≡ true
 none_is None is = refl
 none_is (Some a) is = absurd cc
 
-module _ (p : Place) (k : Kept) (n : ℕ) (fit : SessionsFit k) (now : RootsLive k.lives k.sessions) (free : (session_at k.sessions n).call ≡ pending.NoCall) where
+module _ (p : Place) (k : NodeState) (n : ℕ) (fit : SessionsFit k) (now : RootsLive k.lives k.sessions) (free : (session_at k.sessions n).call ≡ pending.NoCall) where
   abbrev after_made : ℕ → Bool
   after_made m = pends_at k.sessions m || (n == m)
 
@@ -162,7 +162,7 @@ module _ (p : Place) (k : Kept) (n : ℕ) (fit : SessionsFit k) (now : RootsLive
     abbrev zs : List Session
     zs = with_call k.sessions n pending.Commit
 
-    abbrev waiting : Kept
+    abbrev waiting : NodeState
     waiting = without_read_keys (record k { sessions = zs }) x.live.me
 
     same_root : (m : ℕ) → (session_at zs m).root ≡ (session_at k.sessions m).root
@@ -236,10 +236,10 @@ module _ (p : Place) (k : Kept) (n : ℕ) (fit : SessionsFit k) (now : RootsLive
 
 -- ---- each form
 
-module _ (p : Place) (k : Kept) (n : ℕ) (fit : SessionsFit k) (range : IsSession n) (now : RootsLive k.lives k.sessions) (free : (session_at k.sessions n).call ≡ pending.NoCall) where
+module _ (p : Place) (k : NodeState) (n : ℕ) (fit : SessionsFit k) (range : IsSession n) (now : RootsLive k.lives k.sessions) (free : (session_at k.sessions n).call ≡ pending.NoCall) where
   begins_so : (s : Stmt) → (session_at k.sessions n).root ≡ None → CallLeaves (after_made p k n fit now free) (statement_call p (begun_by p k n None) n s)
   begins_so s none =
-      let k2 : Kept = begun_by p k n None in
+      let k2 : NodeState = begun_by p k n None in
       let new : Session = record (session_at k.sessions n) { seq = (new_root p k n).seq; root = Some (new_root p k n) } in
       let there = item_there k.sessions n range.0 (omega (arith, range.1, fit.roots.many)) in
       let set : session_at k2.sessions n ≡ new = session_set k.sessions n there.0 new there.1 in

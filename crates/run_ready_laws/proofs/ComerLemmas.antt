@@ -6,7 +6,7 @@ use Rattle.node_rules.specs.Data.inputs
 use Rattle.node_rules.specs.Data.kinds
 use Rattle.node_rules.specs.Data.stmts
 use Rattle.node_rules.specs.Words.{numbered}
-use Rattle.node_rules.specs.Kept.{Kept}
+use Rattle.node_rules.specs.NodeState.{NodeState}
 use Rattle.agreement.specs.Events.{Event}
 use Rattle.run_rules.specs.Data.{Took, Happening, Command}
 use Rattle.run_rules.specs.Facts.{Facts, first_facts, facts_after, facts_of}
@@ -44,7 +44,7 @@ fits_few : (said : List Post) (from to : BranchId) (kind : Kind) → FitsSo said
 fits_few said from to (kinds.Reply call weight count a) fits = few_kind (kinds.Reply call weight count a) fits.1
 fits_few said from to _ fits = tt
 
-few_come : (f : Facts) (k : Kept) (node : ℕ) (input : Input) (took : Option Took) → CountStand f → Comes f k node input took → BringsFew input
+few_come : (f : Facts) (k : NodeState) (node : ℕ) (input : Input) (took : Option Took) → CountStand f → Comes f k node input took → BringsFew input
 few_come f k node (inputs.Message m) (Some x) now comes =
     subst (λ (y : Msg). TellsFew y.kind) comes.1.same
     (numbered_so (λ y. TellsFew y.kind) f.net.packets x.number comes.0 (all_weaker _ _ (λ y fits. fits_few (said_in f) y.msg.from y.msg.to y.msg.kind fits) f.net.packets (packets_fit (said_in f) f.net.packets now.all)) comes.1.sent)
@@ -53,7 +53,7 @@ few_come f k node (inputs.Call n s) took now comes = tt
 few_come f k node (inputs.GiveUp n) took now comes = tt
 few_come f k node inputs.Reco took now comes = tt
 
-comes_expected : (f : Facts) (k : Kept) (node : ℕ) (input : Input) (took : Option Took) → Comes f k node input took → BringsFew input → IsExpected input
+comes_expected : (f : Facts) (k : NodeState) (node : ℕ) (input : Input) (took : Option Took) → Comes f k node input took → BringsFew input → IsExpected input
 comes_expected f k node (inputs.Call n (Some s)) None comes few = record { fit = comes.0; whole = whole_table s comes.2; named = whole_names s comes.2; few = few }
 comes_expected f k node (inputs.Call n None) None comes few = record { fit = comes.0; whole = tt; named = tt; few = few }
 comes_expected f k node (inputs.Call n s) (Some t) comes few = absurd comes

@@ -9,7 +9,7 @@ use Rattle.node_rules.specs.Data.{BranchId, Edge, Kind, Live, Msg, Post, Place, 
 use Rattle.node_rules.specs.Data.kinds
 use Rattle.node_rules.specs.declared.work.Work.{Work}
 use Rattle.node_rules.specs.Words.{numbered, set_numbered}
-use Rattle.node_rules.specs.Kept.{Kept, Deed, live_id, live_at}
+use Rattle.node_rules.specs.NodeState.{NodeState, Deed, live_id, live_at}
 use Rattle.node_rules.specs.Sessions.{session_at}
 use Rattle.node_rules.specs.Turn.{stamped, turn_of, start_of, made, deed_of}
 use Rattle.agreement.specs.Events.{Event}
@@ -97,11 +97,11 @@ few_each places asked f (h ∷ hs) low = (few_happen places f h low.0, few_each 
 
 -- ---- what stands
 
-abbrev pub LiveFits : List Post → Kept → Live → Work → Type 0
+abbrev pub LiveFits : List Post → NodeState → Live → Work → Type 0
 LiveFits said k l w = ChildFits said l.me l.parent (count l) (spare l.parent (count l) w.going) w.came w.going × ParentFits said (GoesOn k l) l.me (count l) (spare l.parent (count l) w.going) l.edges w
 
 -- of a node's live branches
-abbrev pub NodeFits : List Post → Kept → Type 0
+abbrev pub NodeFits : List Post → NodeState → Type 0
 NodeFits said k = EachLive (LiveFits said k) k.lives k.works
 
 -- So it is everywhere.
@@ -114,7 +114,7 @@ parent_goes : (said : List Post) (G H : Type 0) (me : BranchId) (n sp : ℕ) (es
 parent_goes said G H me n sp es w goes is = record { held = λ h. is.held (goes h); waits = is.waits; called = is.called; few = is.few; opens = is.opens }
 
 -- messages of others
-node_stays : (said says : List Post) (k : Kept) → AllNew said says → ((b : BranchId) (l : Live) → live_at k b ≡ Some l → Silent l.me says) → NodeFits said k → NodeFits (said ++ says) k
+node_stays : (said says : List Post) (k : NodeState) → AllNew said says → ((b : BranchId) (l : Live) → live_at k b ≡ Some l → Silent l.me says) → NodeFits said k → NodeFits (said ++ says) k
 node_stays said says k new silent now = each_same (LiveFits said k) (LiveFits (said ++ says) k) k.lives k.works now (λ y v live any is. (
   child_more said says y.me y.parent (count y) (spare y.parent (count y) v.going) v.came v.going (silent y.me y live).replies is.0,
   parent_more said says (GoesOn k y) y.me (count y) (spare y.parent (count y) v.going) y.edges v new (silent y.me y live) is.1,
@@ -122,7 +122,7 @@ node_stays said says k new silent now = each_same (LiveFits said k) (LiveFits (s
 
 module _ (places : List Place) (asked : List Command) (each : (n : ℕ) (p : Place) → numbered places n ≡ Some p → IsPlace places n p) where
   module _ (f : Facts) (t : List Event) (bs : List Born) (stand : StandBorn places asked each f t bs) (roots : RootsStand places asked each f) (turns : CallsStand f) (now : CountStand f) where
-    module _ (u : Turn) (k : Kept) (may : MayTurn places f u k) where
+    module _ (u : Turn) (k : NodeState) (may : MayTurn places f u k) where
       abbrev n : ℕ
       n = u.node
 
@@ -199,7 +199,7 @@ module _ (places : List Place) (asked : List Command) (each : (n : ℕ) (p : Pla
       other_node : (m : ℕ) → m ≢ n → IfSome (node_at g m) (NodeFits more)
       other_node m other = subst (λ o. IfSome o (NodeFits more)) (sym (turn_elsewhere places asked f stand.0.0.even u m (λ e. other (sym e))).0) (by (node_at f m) refl (now.nodes m))
         where
-          by : (o : Option Kept) → node_at f m ≡ o → IfSome o (NodeFits said) → IfSome o (NodeFits more)
+          by : (o : Option NodeState) → node_at f m ≡ o → IfSome o (NodeFits said) → IfSome o (NodeFits more)
           by None up old = tt
           by (Some j) up old =
               node_stays said d.says j fits_done.1
@@ -242,7 +242,7 @@ module _ (places : List Place) (asked : List Command) (each : (n : ℕ) (p : Pla
     start_fits ms zs = none_live _
 
     -- a node that is set
-    set_node : (m i : ℕ) (o : Option Kept) → IfSome o (NodeFits (said_in f)) → IfSome (flat (numbered (set_numbered f.nodes m o) i)) (NodeFits (said_in f))
+    set_node : (m i : ℕ) (o : Option NodeState) → IfSome o (NodeFits (said_in f)) → IfSome (flat (numbered (set_numbered f.nodes m o) i)) (NodeFits (said_in f))
     set_node m i o new = elim (set_or_before f.nodes m i o) [
       | inl still ↦ subst (λ x. IfSome (flat x) (NodeFits (said_in f))) (sym still) (now.nodes i)
       | inr set ↦ subst (λ x. IfSome (flat x) (NodeFits (said_in f))) (sym set.1) new
@@ -263,7 +263,7 @@ module _ (places : List Place) (asked : List Command) (each : (n : ℕ) (p : Pla
     start_nodes m boot i = set_node m i (Some (start_of (with_boot f m boot))) (start_fits _ _)
 
     still_nodes : (h : Happening) → (facts_after places asked f h).nodes ≡ f.nodes → (i : ℕ) → IfSome (node_at (facts_after places asked f h) i) (NodeFits (said_in f))
-    still_nodes h is i = subst (λ (xs : List (Option Kept)). IfSome (flat (numbered xs i)) (NodeFits (said_in f))) (sym is) (now.nodes i)
+    still_nodes h is i = subst (λ (xs : List (Option NodeState)). IfSome (flat (numbered xs i)) (NodeFits (said_in f))) (sym is) (now.nodes i)
 
     pub counts_on : (h : Happening) → MayHappen places asked f h → CountStand (facts_after places asked f h) × RepliesTellOfTree places f h
     counts_on (happenings.Turn u) may = turn_fits u may.0 may.1 u.cut refl may.1.owed

@@ -17,7 +17,7 @@ use Rattle.node_rules.specs.declared.work.Going.{Going}
 use Rattle.node_rules.specs.declared.work.Work.{Work}
 use Rattle.node_rules.specs.Words.{same, numbered, put_item, drop_item}
 use Rattle.node_rules.specs.Inputs.{Came}
-use Rattle.node_rules.specs.Kept.{Kept, Branch, Deed, live_id, work_id, live_at, branch_at, to_one, to_each, no_work, with_work, standing_at}
+use Rattle.node_rules.specs.NodeState.{NodeState, Branch, Deed, live_id, work_id, live_at, branch_at, to_one, to_each, no_work, with_work, standing_at}
 use Rattle.node_rules.specs.Sessions.{fresh_session, session_at, with_call, needs_rollback}
 use Rattle.node_rules.specs.Calls.{call_pends, advice_of, next_call, kept_reply, with_answer, answer_says, called, exec_to, reply_fields}
 use Rattle.node_rules.specs.Prepare.{path_of, site_neighbors, with_prepare_sent, has_voted, answers_first, ready, act_turn}
@@ -80,11 +80,11 @@ new_of said (m ∷ ms) all = (all.0.1 said m.from m.to, new_of said ms all.1)
 -- ---- words
 
 -- a gone branch is not live
-gone_by : (k : Kept) (b : BranchId) (o : Option Live) → live_at k b ≡ o → live_or (with_work k o) (standing_at k b) ≡ Is_gone → o ≡ None
+gone_by : (k : NodeState) (b : BranchId) (o : Option Live) → live_at k b ≡ o → live_or (with_work k o) (standing_at k b) ≡ Is_gone → o ≡ None
 gone_by k b None is gone = refl
 gone_by k b (Some l) is gone = absurd cc
 
-pub gone_live : (k : Kept) (b : BranchId) → stand_of k b ≡ Is_gone → live_at k b ≡ None
+pub gone_live : (k : NodeState) (b : BranchId) → stand_of k b ≡ Is_gone → live_at k b ≡ None
 unfolding stand_of
 gone_live k b gone = gone_by k b (live_at k b) refl gone
 
@@ -129,7 +129,7 @@ module _ (E : BranchId → Option ℕ) (A : BranchId → Option BranchId) (G Her
   abbrev pub Begun : Live → Work → Type 0
   Begun = turns.Begun E A G Here input said
 
-  abbrev pub Nodes : Kept → Type 0
+  abbrev pub Nodes : NodeState → Type 0
   Nodes k = EachLive Begun k.lives k.works
 
   abbrev pub Goes : Live → Type 0
@@ -142,7 +142,7 @@ module _ (E : BranchId → Option ℕ) (A : BranchId → Option BranchId) (G Her
   abbrev pub Old : Live → Work → Type 0
   Old l w = FitsBy said l w
 
-  abbrev pub Olds : Kept → Type 0
+  abbrev pub Olds : NodeState → Type 0
   Olds k = EachLive Old k.lives k.works
 
   abbrev pub Then : List Post → Live → Work → Type 0
@@ -172,7 +172,7 @@ module _ (E : BranchId → Option ℕ) (A : BranchId → Option BranchId) (G Her
 
   -- ---- what becomes of the branches
 
-  module _ (k : Kept) (now : Olds k) where
+  module _ (k : NodeState) (now : Olds k) where
     pub stay : (says : List Post) → AllNew said says → (y : Live) (v : Work) → Silent y.me says → Old y v → Then says y v
     stay says new y v silent is = (
       child_more said says y.me y.parent (count y) (spare y.parent (count y) v.going) v.came v.going silent.replies is.0,

@@ -15,7 +15,7 @@ use Rattle.node_rules.specs.declared.work.Work.{Work}
 use Rattle.node_rules.specs.Words.{numbered, set_numbered, put_item}
 use Rattle.node_rules.specs.Refusals.{dtx}
 use Rattle.node_rules.specs.Inputs.{IsCall}
-use Rattle.node_rules.specs.Kept.{Kept, Branch, Deed, live_id, work_id, branch_at, post}
+use Rattle.node_rules.specs.NodeState.{NodeState, Branch, Deed, live_id, work_id, branch_at, post}
 use Rattle.node_rules.specs.Sessions.{session_at, with_call, needs_rollback}
 use Rattle.node_rules.specs.Names.{passed_on}
 use Rattle.node_rules.specs.Statement.{ran, after_run}
@@ -64,7 +64,7 @@ module _ (E : BranchId → Option ℕ) (A : BranchId → Option BranchId) (G Her
   abbrev Begun : Live → Work → Type 0
   Begun = turns.Begun E A G Here input said
 
-  abbrev Nodes : Kept → Type 0
+  abbrev Nodes : NodeState → Type 0
   Nodes k = EachLive Begun k.lives k.works
 
   abbrev Goes : Live → Type 0
@@ -73,7 +73,7 @@ module _ (E : BranchId → Option ℕ) (A : BranchId → Option BranchId) (G Her
   abbrev Old : Live → Work → Type 0
   Old = fits.Old E A G Here input said received all came_fits
 
-  abbrev pub Olds : Kept → Type 0
+  abbrev pub Olds : NodeState → Type 0
   Olds k = EachLive Old k.lives k.works
 
   abbrev Then : List Post → Live → Work → Type 0
@@ -82,7 +82,7 @@ module _ (E : BranchId → Option ℕ) (A : BranchId → Option BranchId) (G Her
   abbrev pub Leaves : Deed → Type 0
   Leaves d = EachLive (Then d.says) d.after.lives d.after.works × AllNew said d.says
 
-  module _ (k : Kept) (now : Olds k) where
+  module _ (k : NodeState) (now : Olds k) where
     found_old : (x : Branch) → branch_at k x.live.me ≡ Some x → Old x.live x.work
     found_old x found = fits.found_old E A G Here input said received all came_fits k now x found
 
@@ -241,12 +241,12 @@ module _ (E : BranchId → Option ℕ) (A : BranchId → Option BranchId) (G Her
             fits.calls E A G Here input said received all came_fits k now k.sessions opened_branch opened_at g.statement (g.room - 1) (work_is k x.live.me x opened.live) opened_under (calls_even opened_branch free) (calls_made opened_branch free opened_at) first_base opened_knows opened_called
 
       -- a Reply that was waited for
-      module _ (x : Branch) (weight : Option ℕ) (told_of : ℕ) (a : Answer) (i : ℕ) (e : Edge) (answered : steps.Is_answered k input x weight told_of a i e) where
+      module _ (x : Branch) (weight : Option ℕ) (reported_of : ℕ) (a : Answer) (i : ℕ) (e : Edge) (answered : steps.Is_answered k input x weight reported_of a i e) where
         abbrev heard_branch : Branch
-        heard_branch = hears_reply x i weight told_of e
+        heard_branch = hears_reply x i weight reported_of e
 
         abbrev heard_edge : Edge
-        heard_edge = record e { weight = weight; count = told_of }
+        heard_edge = record e { weight = weight; count = reported_of }
 
         heard_fit : Old x.live x.work
         heard_fit = found_old x answered.live
@@ -260,17 +260,17 @@ module _ (E : BranchId → Option ℕ) (A : BranchId → Option BranchId) (G Her
         heard_at : numbered x.live.edges i ≡ Some e
         heard_at = reply_is x answered.from answered.call i e answered.waits
 
-        heard_told : Told said e.peer x.live.me (call_at x.work i) told_of
-        heard_told = subst (λ c. Told said c x.live.me (call_at x.work i) told_of) (sym heard_over.1)
-            (subst (λ n. Told said answered.from x.live.me n told_of) (sym heard_over.2) (came_fits.reply answered.from x.live.me answered.call weight told_of a answered.came))
+        heard_told : Told said e.peer x.live.me (call_at x.work i) reported_of
+        heard_told = subst (λ c. Told said c x.live.me (call_at x.work i) reported_of) (sym heard_over.1)
+            (subst (λ n. Told said answered.from x.live.me n reported_of) (sym heard_over.2) (came_fits.reply answered.from x.live.me answered.call weight reported_of a answered.came))
 
-        heard_low : told_of ≤ e.count + spare x.live.parent (count x.live) x.work.going
-        heard_low = (heard_fit.1.waits i e heard_at heard_over.0).replies told_of heard_told
+        heard_low : reported_of ≤ e.count + spare x.live.parent (count x.live) x.work.going
+        heard_low = (heard_fit.1.waits i e heard_at heard_over.0).replies reported_of heard_told
 
         heard_fewer : (b : ℕ) → count x.live + spare x.live.parent (count x.live) x.work.going ≤ b → count heard_branch.live + 0 ≤ b
         heard_fewer b few =
-            let set : counts (set_numbered x.live.edges i heard_edge) + e.count ≡ counts x.live.edges + told_of = set_counts x.live.edges i e heard_edge heard_at in
-            hears (counts x.live.edges) (counts (set_numbered x.live.edges i heard_edge)) e.count told_of (spare x.live.parent (count x.live) x.work.going) b set heard_low few
+            let set : counts (set_numbered x.live.edges i heard_edge) + e.count ≡ counts x.live.edges + reported_of = set_counts x.live.edges i e heard_edge heard_at in
+            hears (counts x.live.edges) (counts (set_numbered x.live.edges i heard_edge)) e.count reported_of (spare x.live.parent (count x.live) x.work.going) b set heard_low few
 
         heard_under : Under said x.live.me x.live.parent (count heard_branch.live) 0 x.work.came
         heard_under =
@@ -329,7 +329,7 @@ module _ (E : BranchId → Option ℕ) (A : BranchId → Option BranchId) (G Her
   -- ---- every step
 
   module _ (p : Place) (place : (b : BranchId) → b.node ≡ p.number → Here b) where
-    pub fits_on : {k : Kept} {d : Deed} → Step p input k d → deeds.Granted E A G Here input said received d → SessionsFit k → News (deeds.NewBorn E A G Here input said received) p input k → Nodes k → Olds k → Leaves d
+    pub fits_on : {k : NodeState} {d : Deed} → Step p input k d → deeds.Granted E A G Here input said received d → SessionsFit k → News (deeds.NewBorn E A G Here input said received) p input k → Nodes k → Olds k → Leaves d
     fits_on (steps.Begins {k = k} n s call rows range none step) granted ss news nodes now =
         let root = news.root n s call rows none in
         fits_on step granted (begun_so k ss p n) (begun_news (deeds.NewBorn E A G Here input said received) p input k n news)
@@ -362,7 +362,7 @@ module _ (E : BranchId → Option ℕ) (A : BranchId → Option BranchId) (G Her
           (tt, tt),
         )
     fits_on (steps.Goes_on {k = k} x from strength g link opened) granted ss news nodes now = goes_on_fits k now ss nodes x from strength g link opened
-    fits_on (steps.Hears_reply {k = k} x weight told_of a i e answered) granted ss news nodes now = hears_fits k now ss nodes x weight told_of a i e answered _
+    fits_on (steps.Hears_reply {k = k} x weight reported_of a i e answered) granted ss news nodes now = hears_fits k now ss nodes x weight reported_of a i e answered _
     fits_on (steps.Opens_branch {k = k} to parent edge root depth came new) granted ss news nodes now =
         fits.begun E A G Here input said received all came_fits k now (post (next_child p k) parent (kinds.Opened edge (strength_of p k))) (((refl, refl), (λ ms x y. tt)), tt) (next_child p k) root (Some parent) depth (strength_of p k)
     fits_on (steps.Acts {k = k} l b a why) granted ss news nodes now = fits.acts_fit E A G Here input said received all came_fits k now a why

@@ -13,20 +13,20 @@ use Rattle.tran_ids.specs.Listed.{numbered}
 use Rattle.run_rules.specs.Data.{Command}
 use Rattle.run_rules.specs.Data.commands
 use Rattle.run_rules.specs.Facts.{Facts, node_at, is_up, command_at}
-use Rattle.run_rules.specs.Telling.{Past, Telling, Call}
+use Rattle.run_rules.specs.RunReport.{Past, RunReport, Call}
 use Rattle.run_rules.specs.Lines.{spent}
 use Rattle.run_rules.specs.Commands.{is_enabled}
 use Rattle.run_rules.specs.Calls.{call_at, is_call_at}
 use Rattle.run_rules.specs.Lawful.{IsSettled}
-use Rattle.run_rules.specs.Due.{Due, Tells, Falls, Pends, Gives_up, Delivers, Recovers, Cuts, Joins, Loses, Stops, Starts, Begins, Ends, if_due, call_due, act_of, next_command, next_give_up, next_delivery, most_of, next_pumped, flows, acts_first, acts_once, follows_first, falls_first, tells_first, due_of}
+use Rattle.run_rules.specs.Due.{Due, Tells, Falls, Pends, Gives_up, Delivers, Recovers, Cuts, Joins, Loses, Stops, Starts, Begins, Ends, if_due, call_due, act_of, next_command, next_give_up, next_delivery, most_of, next_pumped, flows, acts_first, acts_once, follows_first, falls_first, first_losses, due_of}
 
 -- a command makes no call of its own
-abbrev pub MakesNoCall : Facts → Telling → Command → Type 0
+abbrev pub MakesNoCall : Facts → RunReport → Command → Type 0
 MakesNoCall f t (commands.At n session s) = (c : Call) → call_at t n session ≡ Some c → (c.command == f.command) ≡ false
 MakesNoCall f t _ = Unit {0}
 
 -- What is due beside losses, stops and calls that were not made yet.
-pub data ComesBeside (asked : List Command) (f : Facts) (t : Telling) : Due → Type 0 where
+pub data ComesBeside (asked : List Command) (f : Facts) (t : RunReport) : Due → Type 0 where
   Gives : (n session : ℕ) (c : Call) → call_at t n session ≡ Some c → ComesBeside asked f t (Gives_up n session)
   Takes : (k : ℕ) → may_deliver f.net k ≡ true → ComesBeside asked f t (Delivers k false)
   Repeats : (k : ℕ) → may_repeat f.net k ≡ true → ComesBeside asked f t (Delivers k true)
@@ -40,16 +40,16 @@ pub data ComesBeside (asked : List Command) (f : Facts) (t : Telling) : Due → 
   None_left : ComesBeside asked f t Ends
 
 -- What is due.
-pub data IsDue (asked : List Command) (f : Facts) (t : Telling) : Due → Type 0 where
-  Told : (k : ℕ) (ks : List ℕ) → f.losses_to_tell ≡ k ∷ ks → IsDue asked f t (Tells k)
-  Node_falls : (n : ℕ) → f.losses_to_tell ≡ [] → f.node_to_stop ≡ Some n → IsDue asked f t (Falls n)
-  Start_falls : (n : ℕ) → f.losses_to_tell ≡ [] → f.node_to_stop ≡ None → t.start_to_stop ≡ Some n → IsDue asked f t (Falls n)
+pub data IsDue (asked : List Command) (f : Facts) (t : RunReport) : Due → Type 0 where
+  Told : (k : ℕ) (ks : List ℕ) → f.losses_to_report ≡ k ∷ ks → IsDue asked f t (Tells k)
+  Node_falls : (n : ℕ) → f.losses_to_report ≡ [] → f.node_to_stop ≡ Some n → IsDue asked f t (Falls n)
+  Start_falls : (n : ℕ) → f.losses_to_report ≡ [] → f.node_to_stop ≡ None → t.start_to_stop ≡ Some n → IsDue asked f t (Falls n)
   Follows : (c : Call) → IsSettled f → t.start_to_stop ≡ None → t.next_call ≡ Some c → IsDue asked f t (Pends c)
   Own_call : (c : Call) (n session : ℕ) (s : Option Stmt) → IsSettled f → t.start_to_stop ≡ None → t.next_call ≡ None → t.acted ≡ false → command_at asked f.command ≡ commands.At n session s
       → call_at t n session ≡ Some c → (c.command == f.command) ≡ true → IsDue asked f t (Pends c)
   Beside : {d : Due} → IsSettled f → t.start_to_stop ≡ None → t.next_call ≡ None → (t.acted ≡ false → MakesNoCall f t (command_at asked f.command)) → ComesBeside asked f t d → IsDue asked f t d
 
-module _ (asked : List Command) (f : Facts) (t : Telling) where
+module _ (asked : List Command) (f : Facts) (t : RunReport) where
   -- ---- what comes by itself
 
   found_at : (xs : List Packet) (i : ℕ) → position flies xs ≡ Some i → is_flying_at (numbered xs (i + 1)) ≡ true
@@ -158,15 +158,15 @@ module _ (asked : List Command) (f : Facts) (t : Telling) where
   starts_so settled None is = follows_so settled is t.next_call refl
   starts_so settled (Some n) is = Start_falls n settled.told settled.upright is
 
-  falls_so : f.losses_to_tell ≡ [] → (o : Option ℕ) → f.node_to_stop ≡ o → IsDue asked f t (falls_first (falls_first (follows_first (acts_once asked f t) t.next_call) t.start_to_stop) o)
+  falls_so : f.losses_to_report ≡ [] → (o : Option ℕ) → f.node_to_stop ≡ o → IsDue asked f t (falls_first (falls_first (follows_first (acts_once asked f t) t.next_call) t.start_to_stop) o)
   falls_so told None is = starts_so (record { told = told; upright = is }) t.start_to_stop refl
   falls_so told (Some n) is = Node_falls n told is
 
-  tells_so : (ks : List ℕ) → f.losses_to_tell ≡ ks → IsDue asked f t (tells_first (falls_first (falls_first (follows_first (acts_once asked f t) t.next_call) t.start_to_stop) f.node_to_stop) ks)
+  tells_so : (ks : List ℕ) → f.losses_to_report ≡ ks → IsDue asked f t (first_losses (falls_first (falls_first (follows_first (acts_once asked f t) t.next_call) t.start_to_stop) f.node_to_stop) ks)
   tells_so [] is = falls_so is f.node_to_stop refl
   tells_so (k ∷ ks) is = Told k ks is
 
 -- what is due is one of these
-pub due_so : (asked : List Command) (p : Past) → IsDue asked p.facts p.telling (due_of asked p)
+pub due_so : (asked : List Command) (p : Past) → IsDue asked p.facts p.run_report (due_of asked p)
 unfolding due_of
-due_so asked p = tells_so asked p.facts p.telling p.facts.losses_to_tell refl
+due_so asked p = tells_so asked p.facts p.run_report p.facts.losses_to_report refl

@@ -4,7 +4,7 @@ use Rattle.node_rules.specs.Data.{Stmt}
 use Rattle.run_rules.specs.Data.{Command}
 use Rattle.run_rules.specs.Data.commands
 use Rattle.run_rules.specs.Facts.{Facts, command_at}
-use Rattle.run_rules.specs.Telling.{Telling, Call}
+use Rattle.run_rules.specs.RunReport.{RunReport, Call}
 use Rattle.run_rules.specs.Calls.{is_call_at, call_at}
 use Rattle.run_rules.specs.Lawful.{IsSettled}
 use Rattle.run_ready_laws.proofs.CallEndLemmas.{same_number}
@@ -13,7 +13,7 @@ use Rattle.run_ready_laws.proofs.PendingLemmas.{IsOf, follows_at, found_so, at_p
 use Rattle.run_ready_laws.proofs.StandCallLemmas.{is_own, is_fresh, CallsStand}
 use Rattle.run_ready_laws.proofs.OtherStandLemmas.{IsQuiet}
 
-module _ (asked : List Command) (count : ℕ) (f : Facts) (t : Telling) (stand : CallsStand asked count f t) where
+module _ (asked : List Command) (count : ℕ) (f : Facts) (t : RunReport) (stand : CallsStand asked count f t) where
   own_false : (n s : ℕ) (o : Option Call) → find (is_call_at n s) t.calls ≡ o → MakesNoCall f t (command_at asked f.command) → is_own f.command o ≡ false
   own_false n s None is none = refl
   own_false n s (Some d) is none = by (d.command == f.command) refl

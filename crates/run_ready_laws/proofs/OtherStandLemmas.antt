@@ -8,17 +8,17 @@ use Rattle.std.specs.List.{AllByRecursion, list_any}
 use Rattle.sql_statement.specs.Whole.{IsWhole}
 use Rattle.node_rules.specs.Data.{Stmt, RedoRecord, Place}
 use Rattle.node_rules.specs.Data.stmts
-use Rattle.node_rules.specs.Kept.{Kept}
+use Rattle.node_rules.specs.NodeState.{NodeState}
 use Rattle.node_rules.specs.Turn.{start_of}
 use Rattle.run_rules.specs.Data.{Command}
 use Rattle.run_rules.specs.Data.commands
 use Rattle.run_rules.specs.Data.happenings
 use Rattle.run_rules.specs.Disks.{Strike}
 use Rattle.run_rules.specs.Facts.{Facts, node_at, is_up, command_at, with_boot, facts_after}
-use Rattle.run_rules.specs.Telling.{Telling, Call}
+use Rattle.run_rules.specs.RunReport.{RunReport, Call}
 use Rattle.run_rules.specs.Calls.{is_call_at, stopped_calls}
 use Rattle.run_rules.specs.Commands.{has_call, has_transaction, commits_first, call_of, calls_after, begins}
-use Rattle.run_rules.specs.Past.{acts, failed_start, start_refused, is_stop_of, stop_line, telling_stopped, falls_if, telling_started}
+use Rattle.run_rules.specs.Past.{acts, failed_start, start_refused, is_stop_of, stop_line, report_stopped, falls_if, report_started}
 use Rattle.run_rules.specs.Lawful.{IsSettled, IsNode, IsProper}
 use Rattle.run_rules.proofs.AtNodeLemmas.{stop_here, stop_elsewhere, start_here, start_elsewhere}
 use Rattle.run_ready_laws.proofs.CallEndLemmas.{is_pending, pends_at, and_true, same_number}
@@ -28,14 +28,14 @@ use Rattle.run_ready_laws.proofs.StandCallLemmas.{is_own, is_fresh, CallsStand}
 use Rattle.run_rules.proofs.ListLemmas.{all_weaker, all_append}
 
 -- no call is yet to be made but the one that comes next
-abbrev pub IsQuiet : Facts → Telling → Type 0
+abbrev pub IsQuiet : Facts → RunReport → Type 0
 IsQuiet f t = (n s : ℕ) → is_fresh f.command t n s ≡ follows_at t.next_call n s
 
 or_no : (b : Bool) → b ≡ (b || false)
 or_no true = refl
 or_no false = refl
 
-module _ (asked : List Command) (count : ℕ) (f : Facts) (t : Telling) (stand : CallsStand asked count f t) (quiet : IsQuiet f t) where
+module _ (asked : List Command) (count : ℕ) (f : Facts) (t : RunReport) (stand : CallsStand asked count f t) (quiet : IsQuiet f t) where
   -- nodes stay as they are
   pub same_stands : (g : Facts) → ((n : ℕ) → node_at g n ≡ node_at f n) → g.command ≡ f.command → g.node_to_stop ≡ f.node_to_stop → CallsStand asked count g (acts t)
   same_stands g nodes command stop = record {
@@ -53,21 +53,21 @@ module _ (asked : List Command) (count : ℕ) (f : Facts) (t : Telling) (stand :
 
 -- ---- a node stops
 
-refused_same : (places : List Place) (f : Facts) (t : Telling) (c : Command) (n : ℕ) → SameCalls t (start_refused places f t c n)
+refused_same : (places : List Place) (f : Facts) (t : RunReport) (c : Command) (n : ℕ) → SameCalls t (start_refused places f t c n)
 refused_same places f t c n = cond_both (failed_start f c n) _ t (SameCalls t) (λ failed. record { calls = refl; next_call = refl; start = refl }) (λ other. same_calls t)
 
-line_same : (places : List Place) (t : Telling) (c : Command) (n : ℕ) → SameCalls t (stop_line places t c n)
+line_same : (places : List Place) (t : RunReport) (c : Command) (n : ℕ) → SameCalls t (stop_line places t c n)
 line_same places t c n = cond_both (is_stop_of c n) t _ (SameCalls t) (λ stop. same_calls t) (λ other. record { calls = refl; next_call = refl; start = refl })
 
-module _ (places : List Place) (asked : List Command) (f : Facts) (t : Telling) (even : length f.nodes ≡ length f.records) (many : length f.nodes ≡ length places) (stand : CallsStand asked (length places) f t)
-    (n : ℕ) (node : IsNode (length places) n) (told : f.losses_to_tell ≡ []) (alone : t.next_call ≡ None) (only : (m : ℕ) → f.node_to_stop ≡ Some m → m ≡ n) (quiet : IsQuiet f t) where
+module _ (places : List Place) (asked : List Command) (f : Facts) (t : RunReport) (even : length f.nodes ≡ length f.records) (many : length f.nodes ≡ length places) (stand : CallsStand asked (length places) f t)
+    (n : ℕ) (node : IsNode (length places) n) (told : f.losses_to_report ≡ []) (alone : t.next_call ≡ None) (only : (m : ℕ) → f.node_to_stop ≡ Some m → m ≡ n) (quiet : IsQuiet f t) where
   abbrev c : Command
   c = command_at asked f.command
 
-  abbrev t1 : Telling
+  abbrev t1 : RunReport
   t1 = record (start_refused places f t c n) { start_to_stop = None }
 
-  abbrev t2 : Telling
+  abbrev t2 : RunReport
   t2 = stopped_calls places f.command t1 n t.calls
 
   calls1 : t1.calls ≡ t.calls
@@ -82,7 +82,7 @@ module _ (places : List Place) (asked : List Command) (f : Facts) (t : Telling) 
   line : SameCalls t2 (stop_line places t2 c n)
   line = line_same places t2 c n
 
-  abbrev t3 : Telling
+  abbrev t3 : RunReport
   t3 = stop_line places t2 c n
 
   next3 : t3.next_call ≡ None
@@ -104,7 +104,7 @@ module _ (places : List Place) (asked : List Command) (f : Facts) (t : Telling) 
   elsewhere : (m : ℕ) → (n == m) ≡ false → node_at (facts_after places asked f (happenings.Stopped n)) m ≡ node_at f m
   elsewhere m other = (stop_elsewhere places asked f even n m (λ is. (let it : n ≡ m = is in absurd (grind (arith, nat_tests))))).0
 
-  pub stop_stands : CallsStand asked (length places) (facts_after places asked f (happenings.Stopped n)) (acts (telling_stopped places asked f t n))
+  pub stop_stands : CallsStand asked (length places) (facts_after places asked f (happenings.Stopped n)) (acts (report_stopped places asked f t n))
   unfolding facts_after
   stop_stands = record {
     of = subst (AllByRecursion (IsOf asked f.command)) (sym line.calls) leaves.of;
@@ -119,7 +119,7 @@ module _ (places : List Place) (asked : List Command) (f : Facts) (t : Telling) 
     fresh = λ fresh. absurd cc;
   }
     where
-      heard : (m : ℕ) (k : Kept) → node_at (facts_after places asked f (happenings.Stopped n)) m ≡ Some k → (s : ℕ) (q : Bool) → (n == m) ≡ q
+      heard : (m : ℕ) (k : NodeState) → node_at (facts_after places asked f (happenings.Stopped n)) m ≡ Some k → (s : ℕ) (q : Bool) → (n == m) ≡ q
           → pends_at k.sessions s ≡ (called_at t3.calls m s && not (is_fresh f.command (acts t3) m s))
       heard m k up s true is =
           let gone : node_at (facts_after places asked f (happenings.Stopped n)) m ≡ None = subst (λ i. node_at (facts_after places asked f (happenings.Stopped n)) i ≡ None) (same_number n m is) here in absurd (cc (gone, up))
@@ -137,7 +137,7 @@ pub fresh_pends : (rs : List RedoRecord) (s : ℕ) → pends_at (start_of rs).se
 unfolding start_of
 fresh_pends rs s = ap (λ x. is_pending x.call) (fresh_at s)
 
-module _ (places : List Place) (asked : List Command) (f : Facts) (t : Telling) (even : length f.nodes ≡ length f.records) (many : length f.nodes ≡ length places) (stand : CallsStand asked (length places) f t)
+module _ (places : List Place) (asked : List Command) (f : Facts) (t : RunReport) (even : length f.nodes ≡ length f.records) (many : length f.nodes ≡ length places) (stand : CallsStand asked (length places) f t)
     (n boot : ℕ) (node : IsNode (length places) n) (settled : IsSettled f) (alone : t.next_call ≡ None) (off : node_at f n ≡ None) (quiet : IsQuiet f t) where
   new : node_at (facts_after places asked f (happenings.Started n boot)) n ≡ Some (start_of (with_boot f n boot))
   new = (start_here places asked f even n boot node.0 (omega (arith, node.1, many))).0
@@ -148,7 +148,7 @@ module _ (places : List Place) (asked : List Command) (f : Facts) (t : Telling) 
   not_stopping : (m : ℕ) → f.node_to_stop ≢ Some m
   not_stopping m is = let none = settled.upright in absurd (cc (is, none))
 
-  pub start_stands : (strike : Option Strike) → CallsStand asked (length places) (facts_after places asked f (happenings.Started n boot)) (acts (telling_started places t n strike))
+  pub start_stands : (strike : Option Strike) → CallsStand asked (length places) (facts_after places asked f (happenings.Started n boot)) (acts (report_started places t n strike))
   unfolding facts_after
   start_stands strike = record {
     of = stand.of;
@@ -167,14 +167,14 @@ module _ (places : List Place) (asked : List Command) (f : Facts) (t : Telling) 
       falls None = tt
       falls (Some s) = node
 
-      heard : (m : ℕ) (k : Kept) → node_at (facts_after places asked f (happenings.Started n boot)) m ≡ Some k → (s : ℕ) (q : Bool) → (n == m) ≡ q
+      heard : (m : ℕ) (k : NodeState) → node_at (facts_after places asked f (happenings.Started n boot)) m ≡ Some k → (s : ℕ) (q : Bool) → (n == m) ≡ q
           → pends_at k.sessions s ≡ (called_at t.calls m s && not (follows_at t.next_call m s || false))
       heard m k up s true is =
           let same : n ≡ m = same_number n m is in
           let it : Some (start_of (with_boot f n boot)) ≡ Some k = sym new ∙ (ap (node_at (facts_after places asked f (happenings.Started n boot))) same ∙ up) in
           let k_is : start_of (with_boot f n boot) ≡ k = cc in
           let none : called_at t.calls m s ≡ false = subst (λ i. called_at t.calls i s ≡ false) same (stand.down n off (not_stopping n) s) in
-          ap (λ (x : Kept). pends_at x.sessions s) (sym k_is) ∙ (fresh_pends (with_boot f n boot) s ∙ ap (λ q. q && not (follows_at t.next_call m s || false)) (sym none))
+          ap (λ (x : NodeState). pends_at x.sessions s) (sym k_is) ∙ (fresh_pends (with_boot f n boot) s ∙ ap (λ q. q && not (follows_at t.next_call m s || false)) (sym none))
       heard m k up s false is = stand.heard m k (sym (others m is) ∙ up) s ∙ ap (λ q. called_at t.calls m s && not q) (quiet m s ∙ or_no (follows_at t.next_call m s))
 
       down : (m : ℕ) → node_at (facts_after places asked f (happenings.Started n boot)) m ≡ None → (s : ℕ) (q : Bool) → (n == m) ≡ q → called_at t.calls m s ≡ false
@@ -190,7 +190,7 @@ proper_at count [] (suc i) all = tt
 proper_at count (d ∷ ds) (suc zero) all = all.0
 proper_at count (d ∷ ds) (suc (suc i)) all = proper_at count ds (suc i) all.1
 
-module _ (places : List Place) (asked : List Command) (proper : AllByRecursion (IsProper (length places)) asked) (f : Facts) (t : Telling) (stand : CallsStand asked (length places) f t)
+module _ (places : List Place) (asked : List Command) (proper : AllByRecursion (IsProper (length places)) asked) (f : Facts) (t : RunReport) (stand : CallsStand asked (length places) f t)
     (settled : IsSettled f) (no_start : t.start_to_stop ≡ None) (alone : t.next_call ≡ None) (quiet : IsQuiet f t) (c : ℕ) (next : c ≡ f.command + 1) where
   later : (d : Call) → IsOf asked f.command d → IsOf asked c d
   later d is = record { text = is.text; command = is.command; whole = is.whole; then_whole = is.then_whole; past = omega (arith, is.past, next) }

@@ -13,7 +13,7 @@ use Rattle.node_rules.specs.Points.{Point}
 use Rattle.run_rules.specs.Data.{Command, Said}
 use Rattle.run_rules.specs.Data.commands
 use Rattle.run_rules.specs.Facts.{command_at}
-use Rattle.run_rules.specs.Telling.{Telling, Call}
+use Rattle.run_rules.specs.RunReport.{RunReport, Call}
 use Rattle.run_rules.specs.Lines.{is_down, is_reached, says_node, call_line_of, reached_line, call_line}
 use Rattle.run_rules.specs.Calls.{is_call_at, call_at, without_call, change_call, is_complete, second_of, call_follows, call_ends, ends_or_follows, finished_call, finished, stopped_calls}
 use Rattle.run_rules.proofs.ListLemmas.{all_filter}
@@ -88,39 +88,39 @@ without_called n s m q cs = by ((n == m) && (s == q)) refl
 -- ---- what is told of a call that ends leaves the calls
 
 -- The same calls are pending.
-pub record SameCalls (t u : Telling) : Type 0 where
+pub record SameCalls (t u : RunReport) : Type 0 where
   pub calls : u.calls ≡ t.calls
   pub next_call : u.next_call ≡ t.next_call
   pub start : u.start_to_stop ≡ t.start_to_stop
 
-pub same_calls : (t : Telling) → SameCalls t t
+pub same_calls : (t : RunReport) → SameCalls t t
 same_calls t = record { calls = refl; next_call = refl; start = refl }
 
-pub same_again : (t u v : Telling) → SameCalls t u → SameCalls u v → SameCalls t v
+pub same_again : (t u v : RunReport) → SameCalls t u → SameCalls u v → SameCalls t v
 same_again t u v one two = record { calls = two.calls ∙ one.calls; next_call = two.next_call ∙ one.next_call; start = two.start ∙ one.start }
 
-line_of_same : (running : ℕ) (t : Telling) (command : ℕ) (s : Said) → SameCalls t (call_line_of running t command s)
+line_of_same : (running : ℕ) (t : RunReport) (command : ℕ) (s : Said) → SameCalls t (call_line_of running t command s)
 line_of_same running t command s = cond_both (running == command) _ _ (SameCalls t) (λ own. record { calls = refl; next_call = refl; start = refl }) (λ other. record { calls = refl; next_call = refl; start = refl })
 
-reached_same : (running : ℕ) (t : Telling) (command : ℕ) (o : Option Point) → SameCalls t (reached_line running t command o)
+reached_same : (running : ℕ) (t : RunReport) (command : ℕ) (o : Option Point) → SameCalls t (reached_line running t command o)
 reached_same running t command None = same_calls t
 reached_same running t command (Some x) = line_of_same running t command _
 
-pub line_same : (running : ℕ) (t : Telling) (command : ℕ) (s : Said) → SameCalls t (call_line running t command s)
+pub line_same : (running : ℕ) (t : RunReport) (command : ℕ) (s : Said) → SameCalls t (call_line running t command s)
 line_same running t command s =
-    let u : Telling = call_line_of running t command s in same_again t u _ (line_of_same running t command s) (reached_same running u command (find (is_reached command) t.points))
+    let u : RunReport = call_line_of running t command s in same_again t u _ (line_of_same running t command s) (reached_same running u command (find (is_reached command) t.points))
 
 -- ---- one call that ends
 
 -- The calls of a session are pending no more.
-pub record Gone (asked : List Command) (running node session : ℕ) (t u : Telling) : Type 0 where
+pub record Gone (asked : List Command) (running node session : ℕ) (t u : RunReport) : Type 0 where
   pub start : u.start_to_stop ≡ t.start_to_stop
   pub of : AllByRecursion (IsOf asked running) u.calls
   pub next_call : u.next_call ≡ t.next_call
   pub calls : (n s : ℕ) → called_at u.calls n s ≡ (called_at t.calls n s && not ((node == n) && (session == s)))
 
 -- Or the second statement of its call comes next.
-pub record Follows_so (asked : List Command) (running node session : ℕ) (t u : Telling) : Type 0 where
+pub record Follows_so (asked : List Command) (running node session : ℕ) (t u : RunReport) : Type 0 where
   pub start : u.start_to_stop ≡ t.start_to_stop
   pub of : AllByRecursion (IsOf asked running) u.calls
   pub second : Call
@@ -131,7 +131,7 @@ pub record Follows_so (asked : List Command) (running node session : ℕ) (t u :
   pub calls : (n s : ℕ) → called_at u.calls n s ≡ called_at t.calls n s
   pub is_of : IsOf asked running second
 
-module _ (asked : List Command) (running : ℕ) (t : Telling) (of : AllByRecursion (IsOf asked running) t.calls) (node session : ℕ) where
+module _ (asked : List Command) (running : ℕ) (t : RunReport) (of : AllByRecursion (IsOf asked running) t.calls) (node session : ℕ) where
   -- the session has none
   none_gone : call_at t node session ≡ None → Gone asked running node session t t
   none_gone is = record { start = refl; of = of; next_call = refl; calls = λ n s. none n s ((node == n) && (session == s)) refl }
@@ -153,7 +153,7 @@ module _ (asked : List Command) (running : ℕ) (t : Telling) (of : AllByRecursi
     -- it is answered
     call_gone : (f : Finished) → Gone asked running node session t (call_ends running t c f)
     call_gone f =
-        let u : Telling = without_call t c.node c.session in
+        let u : RunReport = without_call t c.node c.session in
         let line : SameCalls u (call_ends running t c f) = line_same running u c.command (says_node f) in record {
           start = line.start;
           of = subst (AllByRecursion (IsOf asked running)) (sym line.calls) (all_filter (IsOf asked running) (IsOf asked running) (λ d. not (is_call_at c.node c.session d)) (λ d passes is. is) t.calls of);
@@ -235,7 +235,7 @@ EndsFew (f ∷ g ∷ []) = is_complete f.answer ≡ false
 EndsFew (f ∷ g ∷ h ∷ fs) = ⊥
 
 -- What a turn leaves of the calls of a node.
-pub record Leaves (asked : List Command) (running node : ℕ) (fs : List Finished) (t u : Telling) : Type 0 where
+pub record Leaves (asked : List Command) (running node : ℕ) (fs : List Finished) (t u : RunReport) : Type 0 where
   pub start : u.start_to_stop ≡ t.start_to_stop
   pub of : AllByRecursion (IsOf asked running) u.calls
   pub next_of : IfSome u.next_call (IsOf asked running)
@@ -261,7 +261,7 @@ two_by x u c n s r one two = grind (arith, one, two)
 fewer_by : (u c n : Bool) → u ≡ (c && not n) → c ≡ false → u ≡ false
 fewer_by u c n is none = grind (arith, is, none)
 
-module _ (asked : List Command) (running : ℕ) (t : Telling) (of : AllByRecursion (IsOf asked running) t.calls) (alone : t.next_call ≡ None) (node : ℕ) where
+module _ (asked : List Command) (running : ℕ) (t : RunReport) (of : AllByRecursion (IsOf asked running) t.calls) (alone : t.next_call ≡ None) (node : ℕ) where
   none_leaves : Leaves asked running node [] t t
   none_leaves = record {
     start = refl;
@@ -273,7 +273,7 @@ module _ (asked : List Command) (running : ℕ) (t : Telling) (of : AllByRecursi
     elsewhere = λ n s other. ap (λ o. follows_at o n s) alone;
   }
 
-  gone_leaves : (f : Finished) (u : Telling) → Gone asked running node f.session t u → Leaves asked running node (f ∷ []) t u
+  gone_leaves : (f : Finished) (u : RunReport) → Gone asked running node f.session t u → Leaves asked running node (f ∷ []) t u
   gone_leaves f u is =
       let none : u.next_call ≡ None = is.next_call ∙ alone in record {
         start = is.start;
@@ -285,7 +285,7 @@ module _ (asked : List Command) (running : ℕ) (t : Telling) (of : AllByRecursi
         elsewhere = λ n s other. ap (λ o. follows_at o n s) none;
       }
 
-  follows_leaves : (f : Finished) (u : Telling) → Follows_so asked running node f.session t u → Leaves asked running node (f ∷ []) t u
+  follows_leaves : (f : Finished) (u : RunReport) → Follows_so asked running node f.session t u → Leaves asked running node (f ∷ []) t u
   follows_leaves f u is = record {
     start = is.start;
     of = is.of;
@@ -301,12 +301,12 @@ module _ (asked : List Command) (running : ℕ) (t : Telling) (of : AllByRecursi
   one_leaves : (f : Finished) → Leaves asked running node (f ∷ []) t (finished_call running t f (call_at t node f.session))
   one_leaves f = elim (finished_so asked running t of node f.session f (call_at t node f.session) refl) [ inl gone ↦ gone_leaves f _ gone | inr follows ↦ follows_leaves f _ follows ]
 
-pub few_leave : (asked : List Command) (running : ℕ) (t : Telling) → AllByRecursion (IsOf asked running) t.calls → t.next_call ≡ None → (node : ℕ) (fs : List Finished) → EndsFew fs
+pub few_leave : (asked : List Command) (running : ℕ) (t : RunReport) → AllByRecursion (IsOf asked running) t.calls → t.next_call ≡ None → (node : ℕ) (fs : List Finished) → EndsFew fs
     → Leaves asked running node fs t (finished running t node fs)
 few_leave asked running t of alone node [] few = none_leaves asked running t of alone node
 few_leave asked running t of alone node (f ∷ []) few = one_leaves asked running t of alone node f
 few_leave asked running t of alone node (f ∷ g ∷ []) refused =
-    let u : Telling = finished_call running t f (call_at t node f.session) in
+    let u : RunReport = finished_call running t f (call_at t node f.session) in
     let gone : Gone asked running node f.session t u = refused_so asked running t of node f.session f (call_at t node f.session) refl refused in
     let rest : Leaves asked running node (g ∷ []) u (finished running u node (g ∷ [])) = one_leaves asked running u gone.of (gone.next_call ∙ alone) node g in record {
       start = rest.start ∙ gone.start;
@@ -322,7 +322,7 @@ few_leave asked running t of alone node (f ∷ g ∷ h ∷ fs) few = absurd few
 -- ---- the calls of a node that stops
 
 -- What a stop leaves of the calls.
-pub record StopLeaves (asked : List Command) (running n : ℕ) (cs : List Call) (t u : Telling) : Type 0 where
+pub record StopLeaves (asked : List Command) (running n : ℕ) (cs : List Call) (t u : RunReport) : Type 0 where
   pub next_call : u.next_call ≡ t.next_call
   pub start : u.start_to_stop ≡ t.start_to_stop
   pub of : AllByRecursion (IsOf asked running) u.calls
@@ -337,15 +337,15 @@ first_by q true cs ct cu here either at = inr (grind (arith, here, at))
 first_by q false cs ct cu here either at = elim either [ inl called ↦ inl (let it : cs ≡ true = grind (arith, here, called) in it) | inr none ↦ inr (let it : cu ≡ false = grind (arith, at, none) in it) ]
 
 module _ (asked : List Command) (places : List Place) (running n : ℕ) where
-  pub stop_leaves : (cs : List Call) (t : Telling) → AllByRecursion (IsOf asked running) t.calls → StopLeaves asked running n cs t (stopped_calls places running t n cs)
+  pub stop_leaves : (cs : List Call) (t : RunReport) → AllByRecursion (IsOf asked running) t.calls → StopLeaves asked running n cs t (stopped_calls places running t n cs)
   stop_leaves [] t of = record { next_call = refl; start = refl; of = of; elsewhere = λ m s other. refl; here = λ s either. elim either [ inl is ↦ absurd cc | inr none ↦ none ] }
   stop_leaves (c ∷ cs) t of = by (c.node == n) refl (stop_leaves cs)
     where
-      by : (q : Bool) → (c.node == n) ≡ q → ((u : Telling) → AllByRecursion (IsOf asked running) u.calls → StopLeaves asked running n cs u (stopped_calls places running u n cs))
+      by : (q : Bool) → (c.node == n) ≡ q → ((u : RunReport) → AllByRecursion (IsOf asked running) u.calls → StopLeaves asked running n cs u (stopped_calls places running u n cs))
           → StopLeaves asked running n (c ∷ cs) t (if q then stopped_calls places running (call_line running (without_call t c.node c.session) c.command (is_down places n)) n cs else stopped_calls places running t n cs)
       by true is more =
-          let v : Telling = without_call t c.node c.session in
-          let u : Telling = call_line running v c.command (is_down places n) in
+          let v : RunReport = without_call t c.node c.session in
+          let u : RunReport = call_line running v c.command (is_down places n) in
           let line : SameCalls v u = line_same running v c.command (is_down places n) in
           let of_u : AllByRecursion (IsOf asked running) u.calls = subst (AllByRecursion (IsOf asked running)) (sym line.calls) (all_filter (IsOf asked running) (IsOf asked running) (λ d. not (is_call_at c.node c.session d)) (λ d passes so. so) t.calls of) in
           let rest = more u of_u in

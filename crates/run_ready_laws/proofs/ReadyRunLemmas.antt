@@ -7,7 +7,7 @@ use Rattle.node_rules.specs.Data.{RedoRecord, Stmt, Msg, Place, Input}
 use Rattle.node_rules.specs.Data.inputs
 use Rattle.node_rules.specs.Data.records
 use Rattle.node_rules.specs.Data.stmts
-use Rattle.node_rules.specs.Kept.{Kept, Stored}
+use Rattle.node_rules.specs.NodeState.{NodeState, Stored}
 use Rattle.node_rules.specs.Records.{nothing_stored, applied, stored_by}
 use Rattle.node_rules.specs.Turn.{turn_of, made}
 use Rattle.agreement.specs.Events.{Event}
@@ -45,7 +45,7 @@ whole_names (stmts.CreateSynonym y) whole = whole
 whole_names _ whole = tt
 
 -- what may come to a node is what it is ready for
-comes_expected : (f : Facts) (k : Kept) (node : ℕ) (input : Input) (took : Option Took) → Comes f k node input took → BringsFew input → IsExpected input
+comes_expected : (f : Facts) (k : NodeState) (node : ℕ) (input : Input) (took : Option Took) → Comes f k node input took → BringsFew input → IsExpected input
 comes_expected f k node (inputs.Call n (Some s)) None comes few = record { fit = comes.0; whole = whole_table s comes.2; named = whole_names s comes.2; few = few }
 comes_expected f k node (inputs.Call n None) None comes few = record { fit = comes.0; whole = tt; named = tt; few = few }
 comes_expected f k node (inputs.Call n s) (Some t) comes few = absurd comes
@@ -54,7 +54,7 @@ comes_expected f k node (inputs.Message m) took comes few = record { fit = tt; w
 comes_expected f k node inputs.Reco took comes few = record { fit = tt; whole = tt; named = tt; few = few }
 
 -- no Reply that comes tells of many, where none was sent that does
-few_come : (f : Facts) (k : Kept) (node : ℕ) (input : Input) (took : Option Took) → AllSent (λ m. TellsFew m.kind) f.net.packets → Comes f k node input took → BringsFew input
+few_come : (f : Facts) (k : NodeState) (node : ℕ) (input : Input) (took : Option Took) → AllSent (λ m. TellsFew m.kind) f.net.packets → Comes f k node input took → BringsFew input
 few_come f k node (inputs.Message m) (Some x) sent comes = subst (λ (y : Msg). TellsFew y.kind) comes.1.same (numbered_so (λ y. TellsFew y.kind) f.net.packets x.number comes.0 sent comes.1.sent)
 few_come f k node (inputs.Message m) None sent comes = absurd comes
 few_come f k node (inputs.Call n s) took sent comes = tt
@@ -79,7 +79,7 @@ pub record DiskStands (rs : List RedoRecord) : Type 0 where
   pub sound : AreSound nothing_stored rs
 
 -- with a record that may stand next
-disk_with : RowsDoNotMatter → (rs : List RedoRecord) (k : Kept) → unacked k.stored ≡ stored_by nothing_stored rs → DiskStands rs → (w : Option RedoRecord) → IfSome w (IsNext k.stored) → DiskStands (rs ++ option_to_list w)
+disk_with : RowsDoNotMatter → (rs : List RedoRecord) (k : NodeState) → unacked k.stored ≡ stored_by nothing_stored rs → DiskStands rs → (w : Option RedoRecord) → IfSome w (IsNext k.stored) → DiskStands (rs ++ option_to_list w)
 disk_with no_matter rs k stored now None next = subst DiskStands (sym (append-nil rs)) now
 disk_with no_matter rs k stored now (Some r) next =
     let here : IsNext (stored_by nothing_stored rs) r = subst (λ s. IsNext s r) stored (no_matter k.stored (unacked k.stored).durable.kept r next) in
@@ -123,7 +123,7 @@ module _ (turns : TurnsStayReady) (starts : StartsAreReady) (no_matter : RowsDoN
     now = ready.0
 
     -- a turn of a node
-    module _ (u : Turn) (k : Kept) (may : MayTurn places f u k) where
+    module _ (u : Turn) (k : NodeState) (may : MayTurn places f u k) where
       few : BringsFew u.input
       few = few_come f k u.node u.input u.took ready.1 may.comes
 
@@ -147,7 +147,7 @@ module _ (turns : TurnsStayReady) (starts : StartsAreReady) (no_matter : RowsDoN
       cut_disk = disk_with no_matter (records_at f u.node) k stored (now u.node).0 u.wrote next_of
 
     -- what becomes of a node
-    goes_ready : (n : ℕ) {o : Option Kept} {rs : List RedoRecord} → Goes places f n o rs → DiskStands rs × IfSome o (IsReady (place_at places n))
+    goes_ready : (n : ℕ) {o : Option NodeState} {rs : List RedoRecord} → Goes places f n o rs → DiskStands rs × IfSome o (IsReady (place_at places n))
     goes_ready n Stays = now n
     goes_ready n (Turns u k may here) =
         subst (λ m. DiskStands (records_at f m ++ option_to_list (turn_of (place_at places m) k u.input).wrote) × IsReady (place_at places m) (turn_of (place_at places m) k u.input).after) here

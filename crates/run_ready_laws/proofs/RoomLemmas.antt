@@ -12,7 +12,7 @@ use Rattle.node_rules.specs.declared.work.Going.{Going}
 use Rattle.node_rules.specs.declared.work.Work.{Work}
 use Rattle.node_rules.specs.Refusals.{ora, dtx}
 use Rattle.node_rules.specs.Words.{numbered}
-use Rattle.node_rules.specs.Kept.{post}
+use Rattle.node_rules.specs.NodeState.{post}
 use Rattle.node_rules.specs.Names.{Named, Unknown, A_table, Behind, Nowhere_to, Through, named_by, ref_of, target_of, way_edge, way_target, way_named, way_of}
 use Rattle.run_base_laws.specs.InTurnLaws.{newest_exec, WaitsFor, call_at}
 use Rattle.run_base_laws.proofs.TurnEventLemmas.{cases_nat}

@@ -18,7 +18,7 @@ use Rattle.node_rules.specs.Words.{same, item_at, set_numbered, put_item, drop_i
 use Rattle.node_rules.specs.Inputs.{Came}
 use Rattle.node_rules.specs.Refusals.{dtx}
 use Rattle.session_tree.specs.Live.{is_branch, new_edge}
-use Rattle.node_rules.specs.Kept.{Kept, Branch, Deed, live_id, live_at}
+use Rattle.node_rules.specs.NodeState.{NodeState, Branch, Deed, live_id, live_at}
 use Rattle.node_rules.specs.Statement.{ran, after_run}
 use Rattle.node_rules.specs.Sessions.{session_at, with_call, needs_rollback, no_transaction, commit_is_pending, commit_ended}
 use Rattle.node_rules.specs.Calls.{call_pends, answered_sessions, heard_sessions, is_gone, with_edge, hears_reply}
@@ -142,7 +142,7 @@ module _ (ls : List Live) (ss : List Session) (l : Live) (now : RootsLive ls ss)
       (λ root. call_lives ls ss now l.me.session pending.Statement (root_live ls ss l.me.session l.me x found (has (none_of l.parent root)))) (λ below. now)
 
 -- a transaction begins
-pub begun_lives : (p : Place) (k : Kept) (n : ℕ) → RootsLive k.lives k.sessions → RootsLive (begun_by p k n None).lives (begun_by p k n None).sessions
+pub begun_lives : (p : Place) (k : NodeState) (n : ℕ) → RootsLive k.lives k.sessions → RootsLive (begun_by p k n None).lives (begun_by p k n None).sessions
 begun_lives p k n now =
     let y : Live = fresh_root p k (new_root p k n) in
     set_lives (k.lives ++ y ∷ []) k.sessions (also k.lives (k.lives ++ y ∷ []) k.sessions (last_lives k.lives y) now) n _
@@ -151,10 +151,10 @@ begun_lives p k n now =
 -- ---- the prepare phase
 
 -- no session's transaction is this branch, unless its COMMIT is pending
-abbrev pub IsUnneeded : Kept → BranchId → Type 0
+abbrev pub IsUnneeded : NodeState → BranchId → Type 0
 IsUnneeded k b = (n : ℕ) → (session_at k.sessions n).root ≡ Some b → (session_at k.sessions n).call ≢ pending.Commit → ⊥
 
-module _ (k : Kept) (l : Live) (now : RootsLive k.lives k.sessions) (unneeded : IsUnneeded k l.me) where
+module _ (k : NodeState) (l : Live) (now : RootsLive k.lives k.sessions) (unneeded : IsUnneeded k l.me) where
   gone : RootsLive (drop_item live_id k.lives l.me) k.sessions
   gone = dropped k.lives k.sessions l.me now unneeded
 
@@ -173,7 +173,7 @@ module _ (k : Kept) (l : Live) (now : RootsLive k.lives k.sessions) (unneeded : 
   act_lives site_below acts.Abandon = abandoned_lives (drop_item live_id k.lives l.me) k.sessions gone l l.parent
 
 -- a branch that acts works no more
-acting_phase : {k : Kept} {input : Input} {l : Live} {site_below : Bool} {a : Act} → Acting k input l site_below a → l.phase ≢ phases.Working
+acting_phase : {k : NodeState} {input : Input} {l : Live} {site_below : Bool} {a : Act} → Acting k input l site_below a → l.phase ≢ phases.Working
 acting_phase (steps.Asks_down l comment site_below e es live begins has) = λ is. absurd cc
 acting_phase (steps.Has_no_children l comment site_below a live begins none collected) = λ is. absurd cc
 acting_phase (steps.Hears_abort l from site_below live answers) = let phase = answers.collecting in λ is. absurd (cc (phase, is))
@@ -186,7 +186,7 @@ waits_no_more pending.NoCall phase o is other free = other is.0
 waits_no_more pending.Statement phase o is other free = other is
 waits_no_more pending.Commit phase o is other free = free refl
 
-module _ (k : Kept) (fit : SessionsFit k) where
+module _ (k : NodeState) (fit : SessionsFit k) where
   -- a branch below a root is no session's transaction
   below_unneeded : (l : Live) → live_at k l.me ≡ Some l → l.parent ≢ None → IsUnneeded k l.me
   below_unneeded l live below n has waits = below (root_alone k fit n l.me has l live)
@@ -203,14 +203,14 @@ module _ (k : Kept) (fit : SessionsFit k) where
 -- ---- steps
 
 -- Rollback comes to no root
-abbrev pub RollsBelow : Input → Kept → Type 0
+abbrev pub RollsBelow : Input → NodeState → Type 0
 RollsBelow input k = (from to : BranchId) → Came input from to kinds.Rollback → (l : Live) → live_at k to ≡ Some l → l.parent ≢ None
 
 parent_some : (b : BranchId) (o : Option BranchId) → is_branch b o ≡ true → o ≢ None
 parent_some b o is none = let it = branch_found b o is in absurd (cc (it, none))
 
 module _ (p : Place) (input : Input) (no_call : (n : ℕ) (s : Option Stmt) → input ≡ inputs.Call n s → ⊥) where
-  pub lives_on : {k : Kept} {d : Deed} → Step p input k d → Before input k → RollsBelow input k → SessionsFit k → NodeRoots k → RootsLive k.lives k.sessions → RootsLive d.after.lives d.after.sessions
+  pub lives_on : {k : NodeState} {d : Deed} → Step p input k d → Before input k → RollsBelow input k → SessionsFit k → NodeRoots k → RootsLive k.lives k.sessions → RootsLive d.after.lives d.after.sessions
   lives_on (steps.Begins n s call rows range none step) before rolls fit roots now = absurd (no_call n (Some s) call)
   lives_on (steps.Pends n l given call has live code step) before rolls fit roots now = absurd (no_call n _ call)
   lives_on (steps.Lets_reads_go l comment site_below live begins step) before rolls fit roots now =

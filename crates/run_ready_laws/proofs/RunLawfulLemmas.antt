@@ -8,7 +8,7 @@ use Rattle.node_rules.specs.Data.inputs
 use Rattle.node_rules.specs.declared.session.PendingCall.{PendingCall}
 use Rattle.node_rules.specs.declared.session.PendingCall.TheVariants as pending
 use Rattle.node_rules.specs.Inputs.{IsSession}
-use Rattle.node_rules.specs.Kept.{Kept, Outcome}
+use Rattle.node_rules.specs.NodeState.{NodeState, Outcome}
 use Rattle.node_rules.specs.Sessions.{session_at}
 use Rattle.node_rules.specs.Turn.{turn_of, made}
 use Rattle.node_rules.specs.Data.records
@@ -23,8 +23,8 @@ use Rattle.run_rules.specs.Data.happenings
 use Rattle.run_rules.specs.Births.{Born, births_after}
 use Rattle.run_base_laws.specs.RunEvents.{events_after}
 use Rattle.run_rules.specs.Facts.{Facts, first_facts, place_at, node_at, command_at, records_at, facts_after}
-use Rattle.run_rules.specs.Telling.{Past, Telling, Call, start, orders_at}
-use Rattle.run_rules.specs.Past.{is_call, acts, telling_after, next}
+use Rattle.run_rules.specs.RunReport.{Past, RunReport, Call, start, orders_at}
+use Rattle.run_rules.specs.Past.{is_call, acts, report_after, next}
 use Rattle.run_rules.specs.Calls.{is_call_at, call_at}
 use Rattle.run_rules.specs.Cuts.{Cut_by, By_nothing, By_point, By_strike, cut_by}
 use Rattle.run_rules.specs.Disks.{Strike, struck}
@@ -66,26 +66,26 @@ pub record Standing_so (places : List Place) (asked : List Command) (p : Past) :
   pub many : length p.facts.nodes ≡ length places
   pub free : FlyFree p.facts.net
   pub live : AllLive p.facts
-  pub calls : CallsStand asked (length places) p.facts p.telling
+  pub calls : CallsStand asked (length places) p.facts p.run_report
 
 module _ (places : List Place) (asked : List Command) (script : AreOfAScript places asked) (p : Past) (es : List Event) (bs : List Born) (born : StandBorn places asked script.each p.facts es bs)
     (roots : RootsStand places asked script.each p.facts) (now : Standing_so places asked p) where
   abbrev f : Facts
   f = p.facts
 
-  abbrev t : Telling
-  t = p.telling
+  abbrev t : RunReport
+  t = p.run_report
 
   -- a happening may come, and calls stand after it
   abbrev pub GoesOn : Happening → Type 0
-  GoesOn h = MayHappen places asked f h × CallsStand asked (length places) (facts_after places asked f h) (telling_after places asked f t h)
+  GoesOn h = MayHappen places asked f h × CallsStand asked (length places) (facts_after places asked f h) (report_after places asked f t h)
 
   even : length f.nodes ≡ length f.records
   even = born.0.0.even
 
   -- ---- turns
 
-  module _ (node : ℕ) (input : Input) (took : Option Took) (k : Kept) (up : node_at f node ≡ Some k) (settled : IsSettled f) (no_start : t.start_to_stop ≡ None) (comes : Comes f k node input took)
+  module _ (node : ℕ) (input : Input) (took : Option Took) (k : NodeState) (up : node_at f node ≡ Some k) (settled : IsSettled f) (no_start : t.start_to_stop ≡ None) (comes : Comes f k node input took)
       (fresh_is : (n s : ℕ) → is_fresh f.command t n s ≡ ((node == n) && made_by input s)) (there : (s : ℕ) → made_by input s ≡ true → called_at t.calls node s ≡ true) (quiet : is_call input ≡ false → t.next_call ≡ None) where
     abbrev o : Outcome
     o = turn_of (place_at places node) k input
@@ -108,8 +108,8 @@ module _ (places : List Place) (asked : List Command) (script : AreOfAScript pla
     turn_goes (By_point root numbers false) = goes_by _ refl refl (record { settled = settled; up = up; comes = comes; owed = (inl refl, refl) })
 
   -- a turn that is due at a node that is up
-  turn_due : (node : ℕ) (input : Input) (took : Option Took) (h : Happening) (x : Option Kept) → node_at f node ≡ x → turn_at places t node input took x ≡ Some h
-      → ((k : Kept) → node_at f node ≡ Some k → (c : Cut_by) → GoesOn (turn_by node input took (turn_of (place_at places node) k input) c)) → GoesOn h
+  turn_due : (node : ℕ) (input : Input) (took : Option Took) (h : Happening) (x : Option NodeState) → node_at f node ≡ x → turn_at places t node input took x ≡ Some h
+      → ((k : NodeState) → node_at f node ≡ Some k → (c : Cut_by) → GoesOn (turn_by node input took (turn_of (place_at places node) k input) c)) → GoesOn h
   turn_due node input took h None up is goes = absurd cc
   turn_due node input took h (Some k) up is goes =
       let it : Some (turn_comes t node input took k (turn_of (place_at places node) k input)) ≡ Some h = is in
@@ -130,7 +130,7 @@ module _ (places : List Place) (asked : List Command) (script : AreOfAScript pla
       turn_due c.node (inputs.Call c.session c.statement) None h (node_at f c.node) refl is
       (λ k up. turn_goes c.node (inputs.Call c.session c.statement) None k up settled no_start (its_session c of, free k up, of.whole) fresh (λ s makes. ap (called_at t.calls c.node) (sym (same_number c.session s makes)) ∙ there) (λ other. absurd cc))
     where
-      free : (k : Kept) → node_at f c.node ≡ Some k → (session_at k.sessions c.session).call ≡ pending.NoCall
+      free : (k : NodeState) → node_at f c.node ≡ Some k → (session_at k.sessions c.session).call ≡ pending.NoCall
       free k up =
           free_call (session_at k.sessions c.session).call
           (now.calls.heard c.node k up c.session ∙ (ap (λ q. called_at t.calls c.node c.session && not q) (fresh c.node c.session ∙ same_both c.node c.session) ∙ and_false (called_at t.calls c.node c.session)))
@@ -142,7 +142,7 @@ module _ (places : List Place) (asked : List Command) (script : AreOfAScript pla
     none_fresh n s = quiet n s ∙ ap (λ o. follows_at o n s) alone
 
     other_turn : (node : ℕ) (input : Input) (took : Option Took) → ((s : ℕ) → made_by input s ≡ false) → (h : Happening) → turn_at places t node input took (node_at f node) ≡ Some h
-        → ((k : Kept) → node_at f node ≡ Some k → Comes f k node input took) → GoesOn h
+        → ((k : NodeState) → node_at f node ≡ Some k → Comes f k node input took) → GoesOn h
     other_turn node input took none h is comes =
         turn_due node input took h (node_at f node) refl is
         (λ k up. turn_goes node input took k up settled no_start (comes k up) (λ n s. none_fresh n s ∙ (sym (and_false (node == n)) ∙ ap (λ q. (node == n) && q) (sym (none s)))) (λ s makes. (let no = none s in absurd (cc (no, makes)))) (λ other. alone))
@@ -175,7 +175,7 @@ module _ (places : List Place) (asked : List Command) (script : AreOfAScript pla
     may_stop : (n : ℕ) → MayStop f n f.node_to_stop
     may_stop n = subst (MayStop f n) (sym settled.upright) settled.told
 
-    down_of : (n : ℕ) (o : Option Kept) → is_some o ≡ false → o ≡ None
+    down_of : (n : ℕ) (o : Option NodeState) → is_some o ≡ false → o ≡ None
     down_of n None is = refl
     down_of n (Some k) is = absurd cc
 
@@ -196,7 +196,7 @@ module _ (places : List Place) (asked : List Command) (script : AreOfAScript pla
     below n m is = grind (arith, nat_tests, is)
 
     same_goes : (h : Happening) → MayHappen places asked f h → ((n : ℕ) → node_at (facts_after places asked f h) n ≡ node_at f n) → (facts_after places asked f h).command ≡ f.command → (facts_after places asked f h).node_to_stop ≡ f.node_to_stop
-        → telling_after places asked f t h ≡ acts t → GoesOn h
+        → report_after places asked f t h ≡ acts t → GoesOn h
     same_goes h may nodes command stop told = (may, subst (CallsStand asked (length places) (facts_after places asked f h)) (sym told) (same_stands asked (length places) f t now.calls quiet (facts_after places asked f h) nodes command stop))
 
     beside_goes : {d : Due} → ComesBeside asked f t d → (h : Happening) → happens places p d ≡ Some h → GoesOn h
@@ -258,7 +258,7 @@ module _ (places : List Place) (asked : List Command) (script : AreOfAScript pla
 
 -- ---- the induction
 
-next_is : (places : List Place) (asked : List Command) (p : Past) (h : Happening) → next places asked p h ≡ record { facts = facts_after places asked p.facts h; telling = telling_after places asked p.facts p.telling h }
+next_is : (places : List Place) (asked : List Command) (p : Past) (h : Happening) → next places asked p h ≡ record { facts = facts_after places asked p.facts h; run_report = report_after places asked p.facts p.run_report h }
 unfolding next facts_after
 next_is places asked p (happenings.Turn u) = refl
 next_is places asked p (happenings.Begun c) = refl
@@ -277,7 +277,7 @@ many_after places asked f _ = refl
 
 module _ (places : List Place) (asked : List Command) (script : AreOfAScript places asked) where
   pub goes_on : (p : Past) (es : List Event) (bs : List Born) → StandBorn places asked script.each p.facts es bs → RootsStand places asked script.each p.facts → Standing_so places asked p → (h : Happening) → comes_next places asked p ≡ Some h
-      → MayHappen places asked p.facts h × Standing_so places asked (record { facts = facts_after places asked p.facts h; telling = telling_after places asked p.facts p.telling h })
+      → MayHappen places asked p.facts h × Standing_so places asked (record { facts = facts_after places asked p.facts h; run_report = report_after places asked p.facts p.run_report h })
   goes_on p es bs born roots now h is =
       let goes = due_goes places asked script p es bs born roots now (due_so asked p) h is in (
         goes.0,
@@ -296,14 +296,14 @@ module _ (places : List Place) (asked : List Command) (script : AreOfAScript pla
   run_lawful p (h ∷ hs) es bs born roots now run =
       let goes = goes_on p es bs born roots now h run.0 in (
         goes.0,
-        run_lawful (record { facts = facts_after places asked p.facts h; telling = telling_after places asked p.facts p.telling h }) hs (events_after places asked p.facts h es) (births_after places p.facts h bs)
+        run_lawful (record { facts = facts_after places asked p.facts h; run_report = report_after places asked p.facts p.run_report h }) hs (events_after places asked p.facts h es) (births_after places p.facts h bs)
             (stand_born_on places asked script.each p.facts es bs h born goes.0) (roots_stand_on places asked script.each p.facts es bs born roots h goes.0) goes.1 (subst (λ q. IsTheRun places asked q hs) (next_is places asked p h) run.1),
       )
 
   made_free : (s : ℕ) → pends_at made.sessions s ≡ false
   made_free s = fresh_pends (records.Boot 1 ∷ []) s
 
-  first_calls : CallsStand asked (length places) (first_facts places) (start places).telling
+  first_calls : CallsStand asked (length places) (first_facts places) (start places).run_report
   first_calls = record {
     of = tt;
     next_of = tt;

@@ -7,7 +7,7 @@ use Rattle.std.specs.List.{AllByRecursion}
 use Rattle.node_rules.specs.Data.{BranchId, Place, Input}
 use Rattle.node_rules.specs.Data.inputs
 use Rattle.node_rules.specs.Data.stmts
-use Rattle.node_rules.specs.Kept.{Kept, Outcome}
+use Rattle.node_rules.specs.NodeState.{NodeState, Outcome}
 use Rattle.node_rules.specs.Sessions.{session_at}
 use Rattle.run_rules.specs.Data.{Took, Turn, Command}
 use Rattle.run_rules.specs.Data.happenings
@@ -15,10 +15,10 @@ use Rattle.tran_ids.specs.Listed.{numbered}
 use Rattle.node_rules.specs.Turn.{turn_of}
 use Rattle.run_rules.proofs.AtNodeLemmas.{flat_some, range_of, turn_elsewhere, turn_here}
 use Rattle.run_rules.specs.Facts.{Facts, place_at, node_at, kept_after, served, outcome_at, facts_after}
-use Rattle.run_rules.specs.Telling.{Telling, Call}
+use Rattle.run_rules.specs.RunReport.{RunReport, Call}
 use Rattle.run_rules.specs.Calls.{is_call_at, call_at, waits, waits_if_pending, after_input, finished}
 use Rattle.run_rules.specs.Cuts.{Cut_by, By_nothing, By_point, By_strike, appends_if, cut_appends, cut_by, arms_point, arms, turn_appends}
-use Rattle.run_rules.specs.Past.{delivered_more, is_call, without_following, ends_calls, acts, telling_turned}
+use Rattle.run_rules.specs.Past.{delivered_more, is_call, without_following, ends_calls, acts, report_turned}
 use Rattle.run_rules.specs.Lawful.{IsSettled, IsNode}
 use Rattle.run_ready_laws.proofs.CallEndLemmas.{pends_at, is_ended, same_number}
 use Rattle.run_ready_laws.proofs.PendingLemmas.{IsOf, called_at, follows_at, SameCalls, same_calls, same_again, Leaves, few_leave}
@@ -32,15 +32,15 @@ is_own running None = false
 is_own running (Some c) = c.command == running
 
 -- whether the call of a session is yet to be made
-abbrev pub is_fresh : ℕ → Telling → ℕ → ℕ → Bool
+abbrev pub is_fresh : ℕ → RunReport → ℕ → ℕ → Bool
 is_fresh running t n s = follows_at t.next_call n s || (not t.acted && is_own running (find (is_call_at n s) t.calls))
 
 -- What is told of pending calls, and what nodes keep of them.
-pub record CallsStand (asked : List Command) (count : ℕ) (f : Facts) (t : Telling) : Type 0 where
+pub record CallsStand (asked : List Command) (count : ℕ) (f : Facts) (t : RunReport) : Type 0 where
   pub of : AllByRecursion (IsOf asked f.command) t.calls
   pub next_of : IfSome t.next_call (IsOf asked f.command)
   pub next_there : (c : Call) → t.next_call ≡ Some c → called_at t.calls c.node c.session ≡ true
-  pub heard : (n : ℕ) (k : Kept) → node_at f n ≡ Some k → (s : ℕ) → pends_at k.sessions s ≡ (called_at t.calls n s && not (is_fresh f.command t n s))
+  pub heard : (n : ℕ) (k : NodeState) → node_at f n ≡ Some k → (s : ℕ) → pends_at k.sessions s ≡ (called_at t.calls n s && not (is_fresh f.command t n s))
   pub down : (n : ℕ) → node_at f n ≡ None → f.node_to_stop ≢ Some n → (s : ℕ) → called_at t.calls n s ≡ false
   pub stops : IfSome f.node_to_stop (IsNode count)
   pub starts : IfSome t.start_to_stop (IsNode count)
@@ -50,7 +50,7 @@ pub record CallsStand (asked : List Command) (count : ℕ) (f : Facts) (t : Tell
 
 -- ---- a turn
 
-module _ (t : Telling) where
+module _ (t : RunReport) where
   appends_same : (n : ℕ) (writes : Bool) → SameCalls t (appends_if t n writes)
   appends_same n true = record { calls = refl; next_call = refl; start = refl }
   appends_same n false = same_calls t
@@ -66,7 +66,7 @@ module _ (t : Telling) where
   point_same (Some root) None number = same_calls t
   point_same (Some root) (Some c) None = same_calls t
 
-  arms_same : (n : ℕ) (k : Kept) (input : Input) → SameCalls t (arms t n k input)
+  arms_same : (n : ℕ) (k : NodeState) (input : Input) → SameCalls t (arms t n k input)
   arms_same n k (inputs.Call session (Some (stmts.Commit (Some comment)))) = cond_both (is_none (session_at k.sessions session).code) _ t (SameCalls t) (λ none. point_same _ _ _) (λ some. same_calls t)
   arms_same n k _ = same_calls t
 
@@ -87,14 +87,14 @@ module _ (t : Telling) where
   input_same running node (inputs.Message m) = same_calls t
   input_same running node inputs.Reco = same_calls t
 
-turn_same : (t : Telling) (n : ℕ) (input : Input) (k : Kept) (o : Outcome) (took : Option Took) → SameCalls t (delivered_more (turn_appends t n input (Some k) (Some o)) took)
+turn_same : (t : RunReport) (n : ℕ) (input : Input) (k : NodeState) (o : Outcome) (took : Option Took) → SameCalls t (delivered_more (turn_appends t n input (Some k) (Some o)) took)
 turn_same t n input k o took =
-    let u : Telling = cut_appends t n (is_some o.wrote) (cut_by t n k input o) in
-    let v : Telling = arms u n k input in
+    let u : RunReport = cut_appends t n (is_some o.wrote) (cut_by t n k input o) in
+    let v : RunReport = arms u n k input in
     same_again t v (delivered_more v took) (same_again t u v (cut_same t n (is_some o.wrote) (cut_by t n k input o)) (arms_same u n k input)) (took_same v took)
 
 -- the calls after a turn that is cut, or before its calls end
-following_same : (t u : Telling) (input : Input) → SameCalls t u → (is_call input ≡ false → t.next_call ≡ None)
+following_same : (t u : RunReport) (input : Input) → SameCalls t u → (is_call input ≡ false → t.next_call ≡ None)
     → ((without_following u input).calls ≡ t.calls) × ((without_following u input).next_call ≡ None) × ((without_following u input).start_to_stop ≡ t.start_to_stop)
 following_same t u input same none =
     cond_both (is_call input) (record u { next_call = None }) u (λ v. (v.calls ≡ t.calls) × (v.next_call ≡ None) × (v.start_to_stop ≡ t.start_to_stop))
@@ -111,14 +111,14 @@ plain : (c q : Bool) → (c && not q) ≡ (c && not (q || false))
 plain c true = refl
 plain c false = refl
 
-module _ (places : List Place) (asked : List Command) (f : Facts) (t : Telling) (even : length f.nodes ≡ length f.records) (many : length f.nodes ≡ length places) (stand : CallsStand asked (length places) f t) where
-  module _ (u : Turn) (k : Kept) (up : node_at f u.node ≡ Some k) (settled : IsSettled f) (no_start : t.start_to_stop ≡ None)
+module _ (places : List Place) (asked : List Command) (f : Facts) (t : RunReport) (even : length f.nodes ≡ length f.records) (many : length f.nodes ≡ length places) (stand : CallsStand asked (length places) f t) where
+  module _ (u : Turn) (k : NodeState) (up : node_at f u.node ≡ Some k) (settled : IsSettled f) (no_start : t.start_to_stop ≡ None)
       (fresh_is : (n s : ℕ) → is_fresh f.command t n s ≡ ((u.node == n) && made_by u.input s)) (there : (s : ℕ) → made_by u.input s ≡ true → called_at t.calls u.node s ≡ true)
       (quiet : is_call u.input ≡ false → t.next_call ≡ None) where
     abbrev o : Outcome
     o = turn_of (place_at places u.node) k u.input
 
-    abbrev t3 : Telling
+    abbrev t3 : RunReport
     t3 = without_following (delivered_more (turn_appends t u.node u.input (Some k) (Some o)) u.took) u.input
 
     same3 : (t3.calls ≡ t.calls) × (t3.next_call ≡ None) × (t3.start_to_stop ≡ t.start_to_stop)
@@ -134,7 +134,7 @@ module _ (places : List Place) (asked : List Command) (f : Facts) (t : Telling) 
     of3 = subst (AllByRecursion (IsOf asked f.command)) (sym same3.0) stand.of
 
     -- what was pending elsewhere is
-    was_elsewhere : (n : ℕ) (x : Kept) → (u.node == n) ≡ false → node_at (facts_after places asked f (happenings.Turn u)) n ≡ Some x → (s : ℕ) → pends_at x.sessions s ≡ (called_at t.calls n s && not (false && made_by u.input s))
+    was_elsewhere : (n : ℕ) (x : NodeState) → (u.node == n) ≡ false → node_at (facts_after places asked f (happenings.Turn u)) n ≡ Some x → (s : ℕ) → pends_at x.sessions s ≡ (called_at t.calls n s && not (false && made_by u.input s))
     was_elsewhere n x other at s =
         stand.heard n x (sym (elsewhere n other) ∙ at) s ∙ ap (λ q. called_at t.calls n s && not q) (fresh_is n s ∙ ap (λ q. q && made_by u.input s) other)
 
@@ -163,7 +163,7 @@ module _ (places : List Place) (asked : List Command) (f : Facts) (t : Telling) 
       fresh = λ fresh. absurd cc;
     }
       where
-        heard : (n : ℕ) (x : Kept) → node_at (facts_after places asked f (happenings.Turn u)) n ≡ Some x → (s : ℕ) (q : Bool) → (u.node == n) ≡ q
+        heard : (n : ℕ) (x : NodeState) → node_at (facts_after places asked f (happenings.Turn u)) n ≡ Some x → (s : ℕ) (q : Bool) → (u.node == n) ≡ q
             → pends_at x.sessions s ≡ (called_at t3.calls n s && not (is_fresh f.command (acts t3) n s))
         heard n x at s true is =
             let gone : node_at (facts_after places asked f (happenings.Turn u)) n ≡ None = subst (λ i. node_at (facts_after places asked f (happenings.Turn u)) i ≡ None) (same_number u.node n is) (here ∙ ap (λ q. kept_after q (Some o)) cut) in
@@ -177,13 +177,13 @@ module _ (places : List Place) (asked : List Command) (f : Facts) (t : Telling) 
 
     -- or it is kept to its end
     module _ (leaves : TurnLeaves k u.input o.after o.ended) where
-      abbrev t4 : Telling
+      abbrev t4 : RunReport
       t4 = finished f.command t3 u.node o.ended
 
       ended : Leaves asked f.command u.node o.ended t3 t4
       ended = few_leave asked f.command t3 of3 same3.1 u.node o.ended leaves.few
 
-      abbrev t5 : Telling
+      abbrev t5 : RunReport
       t5 = after_input f.command t4 u.node u.input
 
       same5 : SameCalls t4 t5
@@ -210,7 +210,7 @@ module _ (places : List Place) (asked : List Command) (f : Facts) (t : Telling) 
         fresh = λ fresh. absurd cc;
       }
         where
-          heard : (n : ℕ) (x : Kept) → node_at (facts_after places asked f (happenings.Turn u)) n ≡ Some x → (s : ℕ) (q : Bool) → (u.node == n) ≡ q
+          heard : (n : ℕ) (x : NodeState) → node_at (facts_after places asked f (happenings.Turn u)) n ≡ Some x → (s : ℕ) (q : Bool) → (u.node == n) ≡ q
               → pends_at x.sessions s ≡ (called_at t5.calls n s && not (is_fresh f.command (acts t5) n s))
           heard n x at s true is =
               let same : u.node ≡ n = same_number u.node n is in
@@ -218,7 +218,7 @@ module _ (places : List Place) (asked : List Command) (f : Facts) (t : Telling) 
               let after : o.after ≡ x = cc in
               let was : pends_at k.sessions s ≡ (called_at t.calls n s && not (true && made_by u.input s))
               = stand.heard n k (sym (ap (node_at f) same) ∙ up) s ∙ ap (λ q. called_at t.calls n s && not q) (fresh_is n s ∙ ap (λ q. q && made_by u.input s) is) in
-              ap (λ (y : Kept). pends_at y.sessions s) (sym after) ∙ (leaves.ends s
+              ap (λ (y : NodeState). pends_at y.sessions s) (sym after) ∙ (leaves.ends s
               ∙ (here_by (pends_at k.sessions s) (called_at t.calls n s) (made_by u.input s) (is_ended s o.ended) was (λ makes. ap (λ i. called_at t.calls i s) (sym same) ∙ there s makes)
               ∙ (ap (λ q. called_at t.calls n s && not (q && is_ended s o.ended)) (sym is) ∙ target n s)))
           heard n x at s false is = was_elsewhere n x is at s ∙ (ap (λ q. called_at t.calls n s && not (q && is_ended s o.ended)) (sym is) ∙ target n s)
@@ -229,9 +229,9 @@ module _ (places : List Place) (asked : List Command) (f : Facts) (t : Telling) 
               absurd (cc (there, none))
           down n none s false is = ap (λ cs. called_at cs n s) same5.calls ∙ ended.fewer n s (ap (λ cs. called_at cs n s) same3.0 ∙ stand.down n (sym (elsewhere n is) ∙ none) (to_stop_none n) s)
 
-      pub turn_stands : CallsStand asked (length places) (facts_after places asked f (happenings.Turn u)) (telling_turned f.command (node_at f u.node) t u (outcome_at places f u))
+      pub turn_stands : CallsStand asked (length places) (facts_after places asked f (happenings.Turn u)) (report_turned f.command (node_at f u.node) t u (outcome_at places f u))
       turn_stands =
-          subst (λ x. CallsStand asked (length places) (facts_after places asked f (happenings.Turn u)) (telling_turned f.command x t u (served (place_at places u.node) u.input x))) (sym up) (by u.cut refl)
+          subst (λ x. CallsStand asked (length places) (facts_after places asked f (happenings.Turn u)) (report_turned f.command x t u (served (place_at places u.node) u.input x))) (sym up) (by u.cut refl)
         where
           by : (q : Bool) → u.cut ≡ q → CallsStand asked (length places) (facts_after places asked f (happenings.Turn u)) (acts (ends_calls f.command t3 u q (Some o)))
           by true is = cut_stands is

@@ -13,7 +13,7 @@ use Rattle.node_rules.specs.declared.session.PendingCall.TheVariants as pending
 use Rattle.node_rules.specs.declared.session.Session.{Session}
 use Rattle.node_rules.specs.declared.session.Finished.{Finished}
 use Rattle.node_rules.specs.Inputs.{IsFit}
-use Rattle.node_rules.specs.Kept.{Kept, Deed}
+use Rattle.node_rules.specs.NodeState.{NodeState, Deed}
 use Rattle.node_rules.specs.Sessions.{fresh_session, session_at, commit_is_pending, commit_answer}
 use Rattle.node_rules.specs.Calls.{answer_ends, hears_reply}
 use Rattle.node_rules.specs.Statement.{ran, after_run}
@@ -67,7 +67,7 @@ alone_few : (ss : List Session) (here : Bool) (b : BranchId) (a : Answer) → En
 alone_few ss true b a = commit_few ss b a
 alone_few ss false b a = tt
 
-act_few : (k : Kept) (l : Live) (site_below : Bool) (a : Act) → EndsFew (act_turn k l site_below a).ended
+act_few : (k : NodeState) (l : Live) (site_below : Bool) (a : Act) → EndsFew (act_turn k l site_below a).ended
 act_few k l site_below acts.Decide = alone_few k.sessions (is_alone l) l.me _
 act_few k l site_below acts.Finish = commit_few k.sessions l.me _
 act_few k l site_below acts.Abandon = abandon_few k.sessions l l.parent
@@ -82,7 +82,7 @@ act_few k l site_below (acts.SealAndPass i) = tt
 forced_few : (ss : List Session) (b : BranchId) (r : _) (g : Finished) → EndsFew (commit_answer ss b (answers.Refused r) ++ g ∷ [])
 forced_few ss b r g = cond_both (commit_is_pending ss b) _ [] (λ fs. EndsFew (fs ++ g ∷ [])) (λ is. refl) (λ other. tt)
 
-pub few_on : (p : Place) (input : Input) {k : Kept} {d : Deed} → Step p input k d → EndsFew d.ended
+pub few_on : (p : Place) (input : Input) {k : NodeState} {d : Deed} → Step p input k d → EndsFew d.ended
 few_on p input (steps.Begins n s call rows range none step) = few_on p input step
 few_on p input (steps.Pends n l given call has live code step) = few_on p input step
 few_on p input (steps.Lets_reads_go l comment site_below live begins step) = few_on p input step
@@ -108,7 +108,7 @@ few_on p input _ = tt
 -- ---- a turn
 
 -- What a turn leaves of the calls and the transactions of sessions.
-pub record TurnLeaves (k : Kept) (input : Input) (after : Kept) (ended : List Finished) : Type 0 where
+pub record TurnLeaves (k : NodeState) (input : Input) (after : NodeState) (ended : List Finished) : Type 0 where
   pub ends : EndsSo (λ m. pends_at k.sessions m || made_by input m) after.sessions ended
   pub few : EndsFew ended
   pub lives : RootsLive after.lives after.sessions
@@ -117,7 +117,7 @@ or_false : (b : Bool) → b ≡ (b || false)
 or_false true = refl
 or_false false = refl
 
-module _ (p : Place) (k : Kept) (now : NodeRests k) (live : RootsLive k.lives k.sessions) where
+module _ (p : Place) (k : NodeState) (now : NodeRests k) (live : RootsLive k.lives k.sessions) where
   -- an input that is no call
   other_leaves : (input : Input) → ((n : ℕ) (s : Option Stmt) → input ≡ inputs.Call n s → ⊥) → ((m : ℕ) → made_by input m ≡ false) → (heard k input).sessions ≡ k.sessions → (heard k input).lives ≡ k.lives
       → Before input k → RollsBelow input (heard k input) → Step p input (heard k input) (deed_of p k input)
@@ -165,23 +165,23 @@ started_live rs n b has waits = let none : (session_at (replicate 64 fresh_sessi
 
 module _ (places : List Place) (asked : List Command) (each : (n : ℕ) (p : Place) → numbered places n ≡ Some p → IsPlace places n p) where
   module _ (f : Facts) (t : List Event) (bs : List Born) (stand : StandBorn places asked each f t bs) (roots : RootsStand places asked each f) (now : AllLive f) where
-    rolls_so : (u : Turn) (k : Kept) → MayTurn places f u k → RollsBelow u.input k
+    rolls_so : (u : Turn) (k : NodeState) → MayTurn places f u k → RollsBelow u.input k
     rolls_so u k may =
         let names : NamesAre (Began bs) k = subst (λ o. IfSome o (NamesAre (Began bs))) may.up (stand.1.lives u.node) in
         λ from to came. asked_parent bs k names from to (came_so (GoesSo (Began bs)) f stand.1.said k u.node u.input u.took may.comes from to kinds.Rollback came)
 
-    pub turn_leaves_so : (u : Turn) (k : Kept) → MayTurn places f u k → TurnLeaves k u.input (turn_of (place_at places u.node) k u.input).after (turn_of (place_at places u.node) k u.input).ended
+    pub turn_leaves_so : (u : Turn) (k : NodeState) → MayTurn places f u k → TurnLeaves k u.input (turn_of (place_at places u.node) k u.input).after (turn_of (place_at places u.node) k u.input).ended
     unfolding turn_of
     turn_leaves_so u k may =
         turn_leaves (place_at places u.node) k (subst (λ o. IfSome o NodeRests) may.up (roots u.node)) (subst (λ o. IfSome o (λ x. RootsLive x.lives x.sessions)) may.up (now u.node)) u.input
         (comes_fit f k u.node u.input u.took may.comes) (λ n s is. free_by f k u.node n s u.took (subst (λ i. Comes f k u.node i u.took) is may.comes))
         (before_so places asked each f t bs stand roots u k may) (rolls_so u k may) (serves places f u k may).step
 
-    goes_live : (n : ℕ) {o : Option Kept} {rs : List RedoRecord} → Goes places f n o rs → IfSome o (λ k. RootsLive k.lives k.sessions)
+    goes_live : (n : ℕ) {o : Option NodeState} {rs : List RedoRecord} → Goes places f n o rs → IfSome o (λ k. RootsLive k.lives k.sessions)
     goes_live n Stays = now n
     goes_live n (Turns u k may here) = subst (λ m. RootsLive (turn_of (place_at places m) k u.input).after.lives (turn_of (place_at places m) k u.input).after.sessions) here (lives_of u k may)
       where
-        lives_of : (u : Turn) (k : Kept) → MayTurn places f u k → RootsLive (turn_of (place_at places u.node) k u.input).after.lives (turn_of (place_at places u.node) k u.input).after.sessions
+        lives_of : (u : Turn) (k : NodeState) → MayTurn places f u k → RootsLive (turn_of (place_at places u.node) k u.input).after.lives (turn_of (place_at places u.node) k u.input).after.sessions
         lives_of u k may = (turn_leaves_so u k may).lives
     goes_live n (Is_cut u k may here) = tt
     goes_live n Stops = tt

@@ -5,7 +5,7 @@ use Rattle.std.specs.List.{AllByRecursion}
 use Rattle.dtx_values.specs.Limits.{branch_limit}
 use Rattle.node_rules.specs.Data.{Kind, Place, Input}
 use Rattle.node_rules.specs.Data.kinds
-use Rattle.node_rules.specs.Kept.{Kept}
+use Rattle.node_rules.specs.NodeState.{NodeState}
 use Rattle.run_rules.specs.Data.{Took, Happening}
 use Rattle.run_rules.specs.Data.happenings
 use Rattle.run_rules.specs.Facts.{Facts, place_at, node_at}
@@ -34,7 +34,7 @@ CountsAreFew = (t : History) → IsLawfulRun t → AtEachFact RepliesTellFew t
 
 -- So in every lawful run each node that is up is ready for its next turn.
 abbrev pub NodesAreAlwaysReady : Type 0
-NodesAreAlwaysReady = (t : History) → IsLawfulRun t → (n : ℕ) (k : Kept) → node_at (facts_at t) n ≡ Some k → IsReady (place_at t.places n) k
+NodesAreAlwaysReady = (t : History) → IsLawfulRun t → (n : ℕ) (k : NodeState) → node_at (facts_at t) n ≡ Some k → IsReady (place_at t.places n) k
 
 -- And what comes to its nodes is what they are ready for.
 abbrev pub InputsAreAlwaysExpected : Type 0
@@ -42,4 +42,4 @@ InputsAreAlwaysExpected = (t : History) → IsLawfulRun t → AtEachFact IsExpec
 
 -- So is whatever may come next.
 abbrev pub ComersAreExpected : Type 0
-ComersAreExpected = (t : History) → IsLawfulRun t → (n : ℕ) (k : Kept) → node_at (facts_at t) n ≡ Some k → (input : Input) (took : Option Took) → Comes (facts_at t) k n input took → IsExpected input
+ComersAreExpected = (t : History) → IsLawfulRun t → (n : ℕ) (k : NodeState) → node_at (facts_at t) n ≡ Some k → (input : Input) (took : Option Took) → Comes (facts_at t) k n input took → IsExpected input

@@ -1,7 +1,7 @@
 -- The nodes of a run are ready for what comes to them, where no Reply tells of more branches than a Reply may.
 use Rattle.std.specs.Prelude.{◌≡◌, ℕ, List, Some}
 use Rattle.node_rules.specs.Data.{Place}
-use Rattle.node_rules.specs.Kept.{Kept}
+use Rattle.node_rules.specs.NodeState.{NodeState}
 use Rattle.run_rules.specs.Data.{Happening}
 use Rattle.run_rules.specs.Data.happenings
 use Rattle.run_rules.specs.Facts.{Facts, place_at, node_at}
@@ -23,7 +23,7 @@ IsExpectedThere places f _ = Unit {0}
 
 -- In every lawful run whose Replies tell of few branches each node that is up is ready for its next turn.
 abbrev pub NodesAreReady : Type 0
-NodesAreReady = (t : History) → IsLawfulRun t → AtEachFact RepliesTellFew t → (n : ℕ) (k : Kept) → node_at (facts_at t) n ≡ Some k → IsReady (place_at t.places n) k
+NodesAreReady = (t : History) → IsLawfulRun t → AtEachFact RepliesTellFew t → (n : ℕ) (k : NodeState) → node_at (facts_at t) n ≡ Some k → IsReady (place_at t.places n) k
 
 -- And what comes to its nodes is what they are ready for.
 abbrev pub InputsAreExpected : Type 0

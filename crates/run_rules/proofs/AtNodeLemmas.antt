@@ -4,7 +4,7 @@ use Rattle.std.specs.Option.{option_to_list}
 use Rattle.tran_ids.proofs.NumberedLemmas.{set_found, set_leaves}
 use Rattle.node_rules.specs.Data.{RedoRecord, Place}
 use Rattle.node_rules.specs.Words.{numbered, set_numbered}
-use Rattle.node_rules.specs.Kept.{Kept}
+use Rattle.node_rules.specs.NodeState.{NodeState}
 use Rattle.node_rules.specs.Turn.{turn_of, start_of}
 use Rattle.run_rules.specs.Data.{Turn, Command}
 use Rattle.run_rules.specs.Data.happenings
@@ -34,7 +34,7 @@ there_too xs ys n x even is = let range = range_of xs n x is in item_there ys n 
 module _ (places : List Place) (asked : List Command) (f : Facts) (even : length f.nodes ≡ length f.records) where
   -- another node
   module _ (m n : ℕ) (other : m ≢ n) where
-    node_left : (o : Option Kept) → flat (numbered (set_numbered f.nodes m o) n) ≡ node_at f n
+    node_left : (o : Option NodeState) → flat (numbered (set_numbered f.nodes m o) n) ≡ node_at f n
     node_left o = ap flat (set_leaves f.nodes m n o other)
 
     records_left : (rs : List RedoRecord) → unwrap_or (numbered (set_numbered f.records m rs) n) [] ≡ records_at f n
@@ -53,7 +53,7 @@ module _ (places : List Place) (asked : List Command) (f : Facts) (even : length
   start_elsewhere m boot n other = (node_left m n other _, records_left m n other _)
 
   -- its own node, where it is up
-  pub turn_here : (u : Turn) (k : Kept) → node_at f u.node ≡ Some k
+  pub turn_here : (u : Turn) (k : NodeState) → node_at f u.node ≡ Some k
       → (node_at (facts_after places asked f (happenings.Turn u)) u.node ≡ kept_after u.cut (Some (turn_of (place_at places u.node) k u.input)))
       × (records_at (facts_after places asked f (happenings.Turn u)) u.node ≡ records_at f u.node ++ option_to_list u.wrote)
   unfolding facts_after

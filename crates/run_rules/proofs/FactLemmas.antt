@@ -5,7 +5,7 @@ use Rattle.run_rules.specs.Data.{Entry, Happening, Command}
 use Rattle.run_rules.specs.Data.happenings
 use Rattle.run_rules.specs.Entries.{book_of, entries_in}
 use Rattle.run_rules.specs.Facts.{Facts, facts_after, facts_of}
-use Rattle.run_rules.specs.Telling.{Past}
+use Rattle.run_rules.specs.RunReport.{Past}
 use Rattle.run_rules.specs.Past.{next, past}
 
 module _ (places : List Place) (asked : List Command) where

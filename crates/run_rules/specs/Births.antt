@@ -6,7 +6,7 @@ use Rattle.node_rules.specs.Data.{Stmt, BranchId, Kind, Place, Input, Opening}
 use Rattle.node_rules.specs.Data.kinds
 use Rattle.node_rules.specs.Data.inputs
 use Rattle.node_rules.specs.Words.{item_at}
-use Rattle.node_rules.specs.Kept.{Kept}
+use Rattle.node_rules.specs.NodeState.{NodeState}
 use Rattle.node_rules.specs.Sessions.{session_at}
 use Rattle.node_rules.specs.Calls.{is_opening, next_child}
 use Rattle.node_rules.specs.Client.{new_root}
@@ -33,32 +33,32 @@ abbrev pub child_born : BranchId → BranchId → ℕ → BranchId → ℕ → B
 child_born me parent edge root depth = record { me = me; root = root; parent = Some parent; edge = edge; depth = depth }
 
 -- a session that has no transaction begins one
-abbrev pub roots_by : Place → Kept → ℕ → Option BranchId → List Born
+abbrev pub roots_by : Place → NodeState → ℕ → Option BranchId → List Born
 roots_by p k n None = root_born (new_root p k n) ∷ []
 roots_by p k n (Some root) = []
 
 -- with a statement that has a table
-abbrev pub births_by_call : Place → Kept → ℕ → Stmt → List Born
+abbrev pub births_by_call : Place → NodeState → ℕ → Stmt → List Born
 births_by_call p k n s = if is_of_rows s then roots_by p k n (session_at k.sessions n).root else []
 
 -- the first Open of an edge begins a branch
-abbrev pub births_by_open : Place → Kept → BranchId → ℕ → BranchId → ℕ → Option Opening → List Born
+abbrev pub births_by_open : Place → NodeState → BranchId → ℕ → BranchId → ℕ → Option Opening → List Born
 births_by_open p k parent edge root depth None = child_born (next_child p k) parent edge root depth ∷ []
 births_by_open p k parent edge root depth (Some o) = []
 
 -- no other message does
-abbrev pub births_by_kind : Place → Kept → BranchId → Kind → List Born
+abbrev pub births_by_kind : Place → NodeState → BranchId → Kind → List Born
 births_by_kind p k from (kinds.Open edge root depth) = births_by_open p k from edge root depth (find (is_opening from edge) k.opens)
 births_by_kind p k from _ = []
 
 -- the branches that begin with an input
-abbrev pub births_by : Place → Kept → Input → List Born
+abbrev pub births_by : Place → NodeState → Input → List Born
 births_by p k (inputs.Call n (Some s)) = births_by_call p k n s
 births_by p k (inputs.Message m) = births_by_kind p k m.from m.kind
 births_by p k _ = []
 
 -- at a node that is up
-abbrev pub births_at : Place → Input → Option Kept → List Born
+abbrev pub births_at : Place → Input → Option NodeState → List Born
 births_at p input None = []
 births_at p input (Some k) = births_by p k input
 

@@ -11,7 +11,7 @@ use Rattle.node_rules.specs.Data.{Value, Change, Table, Stmt, BranchId, Standing
 use Rattle.node_rules.specs.Words.{same, item_at}
 use Rattle.row_locks.specs.Locks.{Lock, keys_held}
 use Rattle.redo_record.specs.Durable.{durable}
-use Rattle.node_rules.specs.Kept.{standing_id}
+use Rattle.node_rules.specs.NodeState.{standing_id}
 use Rattle.run_rules.specs.Facts.{Facts, records_at}
 
 -- A run of a statement at its table.

@@ -6,7 +6,7 @@ use Rattle.node_rules.specs.Words.{one, set_numbered}
 use Rattle.node_rules.specs.Ids.{decimal}
 use Rattle.node_rules.specs.Refusals.{dtx}
 use Rattle.node_rules.specs.Sessions.{session_at}
-use Rattle.node_rules.specs.Kept.{Kept}
+use Rattle.node_rules.specs.NodeState.{NodeState}
 use Rattle.run_rules.specs.Data.{Said, Command}
 use Rattle.run_rules.specs.Data.notices
 use Rattle.run_rules.specs.Data.said
@@ -17,7 +17,7 @@ use Rattle.run_rules.specs.Disks.{DiskOrders, opens_gate}
 use Rattle.run_rules.specs.Calls.{call_at}
 use Rattle.run_rules.specs.Lines.{fine, is_down, refuses_with, told}
 use Rattle.run_rules.specs.Facts.{Facts, is_up, node_at}
-use Rattle.run_rules.specs.Telling.{Call, Telling, Page, node_name, no_page, orders_at}
+use Rattle.run_rules.specs.RunReport.{Call, RunReport, CommandOutput, node_name, no_page, orders_at}
 
 -- this, or DTX-01 where the node is down
 abbrev pub if_up : List Place → Facts → ℕ → List Said → List Said
@@ -28,7 +28,7 @@ abbrev pub if_may : Bool → ℕ → List Said
 if_may may k = if may then fine else one (refuses_with (dtx 11 (one (decimal k))))
 
 -- whether distributed recovery is enabled at a node that is up
-abbrev pub is_enabled : Option Kept → Bool
+abbrev pub is_enabled : Option NodeState → Bool
 is_enabled None = false
 is_enabled (Some k) = k.stored.durable.recovery
 
@@ -37,11 +37,11 @@ abbrev pub shows : List Place → Facts → Command → List Said
 shows places f c = one (said.World (notices.Shown (shown places f c)))
 
 -- whether a session has a pending call
-abbrev pub has_call : Telling → ℕ → ℕ → Bool
+abbrev pub has_call : RunReport → ℕ → ℕ → Bool
 has_call t node session = is_some (call_at t node session)
 
 -- what a command says when it begins
-abbrev pub says_at_once : List Place → Facts → Telling → Command → List Said
+abbrev pub says_at_once : List Place → Facts → RunReport → Command → List Said
 says_at_once places f t (commands.At node session statement) = if_up places f node (if has_call t node session then one (refuses_with (dtx 4 [])) else [])
 says_at_once places f t (commands.Lose k) = if_may (may_deliver f.net k) k
 says_at_once places f t (commands.Stop n) = if_up places f n fine
@@ -65,7 +65,7 @@ commits_first (stmts.CreateSynonym y) = true
 commits_first _ = false
 
 -- whether a session has a transaction
-abbrev pub has_transaction : Option Kept → ℕ → Bool
+abbrev pub has_transaction : Option NodeState → ℕ → Bool
 has_transaction None n = false
 has_transaction (Some k) n = is_some (session_at k.sessions n).root
 
@@ -77,7 +77,7 @@ call_of c node session (Some s) has =
     else record { command = c; node = node; session = session; statement = Some s; follows = None }
 
 -- a call at a node that is up pends, where the session has none pending
-abbrev pub calls_after : Facts → Telling → ℕ → Command → List Call
+abbrev pub calls_after : Facts → RunReport → ℕ → Command → List Call
 calls_after f t c (commands.At node session statement) =
     if is_up f node && not (has_call t node session) then t.calls ++ call_of c node session statement (has_transaction (node_at f node) session) ∷ [] else t.calls
 calls_after f t c _ = t.calls
@@ -88,17 +88,17 @@ hold_after hold (commands.Hold on) = on
 hold_after hold _ = hold
 
 -- CRASH and FAULT are orders on a node's disk; a later one of the same kind takes the place of an earlier one
-abbrev pub orders_after : Telling → Command → List DiskOrders
+abbrev pub orders_after : RunReport → Command → List DiskOrders
 orders_after t (commands.Crash n write how) = set_numbered t.orders n (record (orders_at t n) { stop = Some (record { write = write; opens = opens_gate how }) })
 orders_after t (commands.Fault n call) = set_numbered t.orders n (record (orders_at t n) { fault = Some call })
 orders_after t _ = t.orders
 
 -- a new page
-abbrev pub page_of : List Said → Page
+abbrev pub page_of : List Said → CommandOutput
 page_of own = record no_page { own = own }
 
 -- a command of this number begins: the lines of the one before it are told
-abbrev pub begins : List Place → Facts → Telling → ℕ → Command → Telling
+abbrev pub begins : List Place → Facts → RunReport → ℕ → Command → RunReport
 begins places f t c command = record t {
   acted = false;
   deliveries = 0;

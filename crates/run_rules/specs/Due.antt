@@ -3,14 +3,14 @@
 use Rattle.std.specs.Prelude.{◌≡◌, ℕ, ◌+◌, ◌==◌, ◌&&◌, not, Bool, true, false, if◌then◌else◌, List, [], ◌∷◌, ◌++◌, length, min, nat_lt, is_some, option_to_list, Option, Some, None}
 use Rattle.node_rules.specs.Data.{Place, Input}
 use Rattle.node_rules.specs.Data.inputs
-use Rattle.node_rules.specs.Kept.{Kept, Outcome}
+use Rattle.node_rules.specs.NodeState.{NodeState, Outcome}
 use Rattle.node_rules.specs.Turn.{turn_of}
 use Rattle.run_rules.specs.Data.{Packet, Took, Happening, Command}
 use Rattle.run_rules.specs.Data.happenings
 use Rattle.run_rules.specs.Data.commands
 use Rattle.net_bag.specs.Net.{first_flying, may_deliver, may_repeat, packet_at}
 use Rattle.run_rules.specs.Facts.{Facts, node_at, place_at, is_up, command_at, records_at}
-use Rattle.run_rules.specs.Telling.{Past, Telling, Call, orders_at}
+use Rattle.run_rules.specs.RunReport.{Past, RunReport, Call, orders_at}
 use Rattle.run_rules.specs.Past.{next}
 use Rattle.run_rules.specs.Commands.{is_enabled}
 use Rattle.run_rules.specs.Calls.{call_at}
@@ -46,7 +46,7 @@ call_due running None = None
 call_due running (Some c) = if_due (c.command == running) (Pends c)
 
 -- the happening that a command makes by itself
-abbrev pub act_of : Facts → Telling → Command → Option Due
+abbrev pub act_of : Facts → RunReport → Command → Option Due
 act_of f t (commands.At node session statement) = call_due f.command (call_at t node session)
 act_of f t (commands.Cut a b) = Some (Cuts a b)
 act_of f t (commands.Join a b) = Some (Joins a b)
@@ -69,7 +69,7 @@ next_give_up asked f [] = next_command asked f
 next_give_up asked f (c ∷ cs) = Gives_up c.node c.session
 
 -- the next message in flight, or else a call is given up
-abbrev pub next_delivery : List Command → Facts → Telling → Option ℕ → Due
+abbrev pub next_delivery : List Command → Facts → RunReport → Option ℕ → Due
 next_delivery asked f t None = next_give_up asked f t.calls
 next_delivery asked f t (Some k) = if spent t.deliveries then next_give_up asked f t.calls else Delivers k false
 
@@ -80,12 +80,12 @@ most_of (commands.Pump (Some n)) = min n 4096
 most_of _ = 0
 
 -- the next message in flight, while PUMP delivers
-abbrev pub next_pumped : List Command → Facts → Telling → ℕ → Option ℕ → Due
+abbrev pub next_pumped : List Command → Facts → RunReport → ℕ → Option ℕ → Due
 next_pumped asked f t most None = next_command asked f
 next_pumped asked f t most (Some k) = if nat_lt t.deliveries most then Delivers k false else next_command asked f
 
 -- what comes by itself
-abbrev pub flows : List Command → Facts → Telling → Due
+abbrev pub flows : List Command → Facts → RunReport → Due
 flows asked f t =
     if t.hold then next_pumped asked f t (most_of (command_at asked f.command)) (first_flying f.net) else next_delivery asked f t (first_flying f.net)
 
@@ -95,7 +95,7 @@ acts_first later None = later
 acts_first later (Some d) = d
 
 -- and comes once
-abbrev pub acts_once : List Command → Facts → Telling → Due
+abbrev pub acts_once : List Command → Facts → RunReport → Due
 acts_once asked f t = if t.acted then flows asked f t else acts_first (flows asked f t) (act_of f t (command_at asked f.command))
 
 -- the statement of a CREATE comes right after its COMMIT
@@ -109,14 +109,14 @@ falls_first later None = later
 falls_first later (Some n) = Falls n
 
 -- and the losses that are to be told come first of all
-abbrev pub tells_first : Due → List ℕ → Due
-tells_first later [] = later
-tells_first later (k ∷ ks) = Tells k
+abbrev pub first_losses : Due → List ℕ → Due
+first_losses later [] = later
+first_losses later (k ∷ ks) = Tells k
 
 -- what is due next
 unfoldable pub due_of : List Command → Past → Due
 due_of asked p =
-    tells_first (falls_first (falls_first (follows_first (acts_once asked p.facts p.telling) p.telling.next_call) p.telling.start_to_stop) p.facts.node_to_stop) p.facts.losses_to_tell
+    first_losses (falls_first (falls_first (follows_first (acts_once asked p.facts p.run_report) p.run_report.next_call) p.run_report.start_to_stop) p.facts.node_to_stop) p.facts.losses_to_report
 
 -- a whole turn
 abbrev pub whole_turn : ℕ → Input → Option Took → Outcome → Happening
@@ -133,11 +133,11 @@ turn_by node input took o (By_strike stands) = cut_turn node input took o stands
 turn_by node input took o (By_point root numbers stands) = cut_turn node input took o stands
 
 -- a turn that came to this
-abbrev pub turn_comes : Telling → ℕ → Input → Option Took → Kept → Outcome → Happening
+abbrev pub turn_comes : RunReport → ℕ → Input → Option Took → NodeState → Outcome → Happening
 turn_comes t node input took k o = turn_by node input took o (cut_by t node k input o)
 
 -- a turn of a node that is up
-abbrev pub turn_at : List Place → Telling → ℕ → Input → Option Took → Option Kept → Option Happening
+abbrev pub turn_at : List Place → RunReport → ℕ → Input → Option Took → Option NodeState → Option Happening
 turn_at places t node input took None = None
 turn_at places t node input took (Some k) = Some (turn_comes t node input took k (turn_of (place_at places node) k input))
 
@@ -149,21 +149,21 @@ start_by f n (Some s) = if s.stands then happenings.Started n (boots (records_at
 -- the turn that a message comes to
 abbrev pub delivery_at : List Place → Past → ℕ → Bool → Option Packet → Option Happening
 delivery_at places p k again None = None
-delivery_at places p k again (Some x) = turn_at places p.telling x.msg.to.node (inputs.Message x.msg) (Some (record { number = k; again = again })) (node_at p.facts x.msg.to.node)
+delivery_at places p k again (Some x) = turn_at places p.run_report x.msg.to.node (inputs.Message x.msg) (Some (record { number = k; again = again })) (node_at p.facts x.msg.to.node)
 
 -- what is due, as a happening
 abbrev pub happens : List Place → Past → Due → Option Happening
 happens places p (Tells k) = Some (happenings.Lost k)
 happens places p (Falls n) = Some (happenings.Stopped n)
-happens places p (Pends c) = turn_at places p.telling c.node (inputs.Call c.session c.statement) None (node_at p.facts c.node)
-happens places p (Gives_up n session) = turn_at places p.telling n (inputs.GiveUp session) None (node_at p.facts n)
+happens places p (Pends c) = turn_at places p.run_report c.node (inputs.Call c.session c.statement) None (node_at p.facts c.node)
+happens places p (Gives_up n session) = turn_at places p.run_report n (inputs.GiveUp session) None (node_at p.facts n)
 happens places p (Delivers k again) = delivery_at places p k again (packet_at p.facts.net k)
-happens places p (Recovers n) = turn_at places p.telling n inputs.Reco None (node_at p.facts n)
+happens places p (Recovers n) = turn_at places p.run_report n inputs.Reco None (node_at p.facts n)
 happens places p (Cuts a b) = Some (happenings.Cut a b)
 happens places p (Joins a b) = Some (happenings.Join a b)
 happens places p (Loses k) = Some (happenings.Lost k)
 happens places p (Stops n) = Some (happenings.Stopped n)
-happens places p (Starts n) = Some (start_by p.facts n (struck 3 (orders_at p.telling n)))
+happens places p (Starts n) = Some (start_by p.facts n (struck 3 (orders_at p.run_report n)))
 happens places p (Begins c) = Some (happenings.Begun c)
 happens places p Ends = None
 

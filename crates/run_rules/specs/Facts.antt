@@ -4,7 +4,7 @@ use Rattle.std.specs.Prelude.{ℕ, Bool, true, false, if◌then◌else◌, List,
 use Rattle.node_rules.specs.Data.{RedoRecord, Place, Input}
 use Rattle.node_rules.specs.Data.records
 use Rattle.node_rules.specs.Words.{numbered, set_numbered}
-use Rattle.node_rules.specs.Kept.{Kept, Outcome}
+use Rattle.node_rules.specs.NodeState.{NodeState, Outcome}
 use Rattle.node_rules.specs.Turn.{turn_of, start_of, made}
 use Rattle.run_rules.specs.Data.{Took, Turn, Happening, Entry, Command}
 use Rattle.run_rules.specs.Data.happenings
@@ -15,10 +15,10 @@ use Rattle.net_bag.specs.Net.{Net, still, sent_on, lost_at_once, delivered, lost
 -- What the happenings so far leave.
 pub record Facts : Type 0 where
   pub command : ℕ  -- the number of the command that runs, 0 before the first
-  pub nodes : List (Option Kept)  -- from number 1; a stopped node keeps nothing
+  pub nodes : List (Option NodeState)  -- from number 1; a stopped node keeps nothing
   pub records : List (List RedoRecord)  -- what each node's disk stands for
   pub net : Net
-  pub losses_to_tell : List ℕ  -- the numbers of messages whose losses come next
+  pub losses_to_report : List ℕ  -- the numbers of messages whose losses come next
   pub node_to_stop : Option ℕ  -- the node of a cut turn, whose stop comes next
   pub book : List Entry
 
@@ -29,7 +29,7 @@ first_facts places = record {
   nodes = map (λ p. Some made) places;
   records = map (λ p. records.Boot 1 ∷ []) places;
   net = still;
-  losses_to_tell = [];
+  losses_to_report = [];
   node_to_stop = None;
   book = [];
 }
@@ -53,7 +53,7 @@ flat None = None
 flat (Some o) = o
 
 -- what a node keeps, where it is up
-abbrev pub node_at : Facts → ℕ → Option Kept
+abbrev pub node_at : Facts → ℕ → Option NodeState
 node_at f n = flat (numbered f.nodes n)
 
 -- whether a node is up
@@ -69,7 +69,7 @@ abbrev pub command_at : List Command → ℕ → Command
 command_at asked c = unwrap_or (numbered asked c) commands.ShowBook
 
 -- what a node that is up does about an input
-abbrev pub served : Place → Input → Option Kept → Option Outcome
+abbrev pub served : Place → Input → Option NodeState → Option Outcome
 served p input None = None
 served p input (Some k) = Some (turn_of p k input)
 
@@ -78,7 +78,7 @@ abbrev pub outcome_at : List Place → Facts → Turn → Option Outcome
 outcome_at places f t = served (place_at places t.node) t.input (node_at f t.node)
 
 -- what a node keeps after a turn, unless it was cut
-abbrev pub kept_after : Bool → Option Outcome → Option Kept
+abbrev pub kept_after : Bool → Option Outcome → Option NodeState
 kept_after true o = None
 kept_after false None = None
 kept_after false (Some o) = Some o.after
@@ -98,7 +98,7 @@ facts_turned f t o = record f {
   nodes = set_numbered f.nodes t.node (kept_after t.cut o);
   records = set_numbered f.records t.node (records_at f t.node ++ option_to_list t.wrote);
   net = sent_on (taken f.net t.took) t.sent;
-  losses_to_tell = lost_at_once (taken f.net t.took) t.sent;
+  losses_to_report = lost_at_once (taken f.net t.took) t.sent;
   node_to_stop = to_stop_after t;
   book = f.book ++ entries_of t.node t.wrote;
 }
@@ -121,10 +121,10 @@ with_boot f n boot = records_at f n ++ records.Boot boot ∷ []
 unfoldable pub facts_after : List Place → List Command → Facts → Happening → Facts
 facts_after places asked f (happenings.Begun c) = record f { command = c; net = ordered f.net (command_at asked c) }
 facts_after places asked f (happenings.Turn t) = facts_turned f t (outcome_at places f t)
-facts_after places asked f (happenings.Cut a b) = record f { net = cut_over f.net a b; losses_to_tell = lost_by_cut f.net a b }
+facts_after places asked f (happenings.Cut a b) = record f { net = cut_over f.net a b; losses_to_report = lost_by_cut f.net a b }
 facts_after places asked f (happenings.Join a b) = record f { net = joined f.net a b }
-facts_after places asked f (happenings.Lost k) = record f { net = lost f.net k; losses_to_tell = others f.losses_to_tell }
-facts_after places asked f (happenings.Stopped n) = record f { nodes = set_numbered f.nodes n None; net = stopped f.net n; losses_to_tell = lost_by_stop f.net n; node_to_stop = None }
+facts_after places asked f (happenings.Lost k) = record f { net = lost f.net k; losses_to_report = others f.losses_to_report }
+facts_after places asked f (happenings.Stopped n) = record f { nodes = set_numbered f.nodes n None; net = stopped f.net n; losses_to_report = lost_by_stop f.net n; node_to_stop = None }
 facts_after places asked f (happenings.Started n boot) =
     record f { nodes = set_numbered f.nodes n (Some (start_of (with_boot f n boot))); records = set_numbered f.records n (with_boot f n boot); net = started f.net n }
 

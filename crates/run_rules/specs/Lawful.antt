@@ -6,7 +6,7 @@ use Rattle.node_rules.specs.Data.{RedoRecord, Msg, Place, Input}
 use Rattle.node_rules.specs.Data.records
 use Rattle.node_rules.specs.Data.inputs
 use Rattle.node_rules.specs.Words.{numbered}
-use Rattle.node_rules.specs.Kept.{Kept}
+use Rattle.node_rules.specs.NodeState.{NodeState}
 use Rattle.node_rules.specs.Sessions.{session_at}
 use Rattle.node_rules.specs.Inputs.{IsSession}
 use Rattle.node_rules.specs.Turn.{turn_of}
@@ -67,7 +67,7 @@ pub record History : Type 0 where
 
 -- nothing must come before: no loss to tell, no node to stop
 pub record IsSettled (f : Facts) : Type 0 where
-  pub told : f.losses_to_tell ≡ []
+  pub told : f.losses_to_report ≡ []
   pub upright : f.node_to_stop ≡ None
 
 -- message t.number was sent to this node, word for word; its pair is joined and its target is up; it is in flight, unless it comes again
@@ -84,7 +84,7 @@ IsPending pending.NoCall = ⊥
 IsPending _ = Unit {0}
 
 -- an input may come to a node: a call where the session has none pending, of a statement that a text spells
-abbrev pub Comes : Facts → Kept → ℕ → Input → Option Took → Type 0
+abbrev pub Comes : Facts → NodeState → ℕ → Input → Option Took → Type 0
 Comes f k node (inputs.Message m) (Some t) = (x : Packet) × MayCome f node m t x
 Comes f k node (inputs.Call session statement) None = IsSession session × ((session_at k.sessions session).call ≡ pending.NoCall) × IfSome statement IsWhole
 Comes f k node (inputs.GiveUp session) None = IsSession session × IsPending (session_at k.sessions session).call
@@ -92,12 +92,12 @@ Comes f k node inputs.Reco None = Unit {0}
 Comes f k node _ _ = ⊥
 
 -- an uncut turn writes and sends what the rules say; a cut one sends nothing, and its record stands or not
-abbrev pub IsOwed : Place → Kept → Input → Option RedoRecord → List Msg → Bool → Type 0
+abbrev pub IsOwed : Place → NodeState → Input → Option RedoRecord → List Msg → Bool → Type 0
 IsOwed place k input wrote sent false = (wrote ≡ (turn_of place k input).wrote) × (sent ≡ (turn_of place k input).sent)
 IsOwed place k input wrote sent true = ((wrote ≡ None) ⊎ (wrote ≡ (turn_of place k input).wrote)) × (sent ≡ [])
 
 -- a node that is up serves an input that may come, and writes and sends what it owes
-pub record MayTurn (places : List Place) (f : Facts) (t : Turn) (k : Kept) : Type 0 where
+pub record MayTurn (places : List Place) (f : Facts) (t : Turn) (k : NodeState) : Type 0 where
   pub settled : IsSettled f
   pub up : node_at f t.node ≡ Some k
   pub comes : Comes f k t.node t.input t.took
@@ -115,8 +115,8 @@ MayBeLost f k (j ∷ js) = j ≡ k
 
 -- the node of a cut turn stops right after it; any other node may stop at any time
 abbrev pub MayStop : Facts → ℕ → Option ℕ → Type 0
-MayStop f n (Some m) = (f.losses_to_tell ≡ []) × (m ≡ n)
-MayStop f n None = f.losses_to_tell ≡ []
+MayStop f n (Some m) = (f.losses_to_report ≡ []) × (m ≡ n)
+MayStop f n None = f.losses_to_report ≡ []
 
 -- how many starts of a node its records tell
 abbrev pub boots : List RedoRecord → ℕ
@@ -134,10 +134,10 @@ pub record MayStart (count : ℕ) (f : Facts) (n boot : ℕ) : Type 0 where
 -- this happening may come next
 abbrev pub MayHappen : List Place → List Command → Facts → Happening → Type 0
 MayHappen places asked f (happenings.Begun c) = IsSettled f × (c ≡ f.command + 1) × (c ≤ length asked)
-MayHappen places asked f (happenings.Turn t) = (k : Kept) × MayTurn places f t k
+MayHappen places asked f (happenings.Turn t) = (k : NodeState) × MayTurn places f t k
 MayHappen places asked f (happenings.Cut a b) = IsSettled f × IsNode (length places) a × IsNode (length places) b
 MayHappen places asked f (happenings.Join a b) = IsSettled f × IsNode (length places) a × IsNode (length places) b
-MayHappen places asked f (happenings.Lost k) = MayBeLost f k f.losses_to_tell
+MayHappen places asked f (happenings.Lost k) = MayBeLost f k f.losses_to_report
 MayHappen places asked f (happenings.Stopped n) = IsNode (length places) n × MayStop f n f.node_to_stop
 MayHappen places asked f (happenings.Started n boot) = MayStart (length places) f n boot
 

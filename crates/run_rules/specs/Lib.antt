@@ -3,7 +3,7 @@ pub mod Entries
 pub mod Disks
 pub mod Facts
 pub mod Lawful
-pub mod Telling
+pub mod RunReport
 pub mod Lines
 pub mod Shown
 pub mod Calls

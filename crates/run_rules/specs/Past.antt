@@ -3,7 +3,7 @@ use Rattle.std.specs.Prelude.{ℕ, ◌+◌, ◌==◌, ◌&&◌, Bool, true, fals
 use Rattle.node_rules.specs.Data.{Input, Place}
 use Rattle.node_rules.specs.Data.inputs
 use Rattle.node_rules.specs.Words.{one}
-use Rattle.node_rules.specs.Kept.{Kept, Outcome}
+use Rattle.node_rules.specs.NodeState.{NodeState, Outcome}
 use Rattle.run_rules.specs.Data.{Took, Turn, Happening, Said, Command}
 use Rattle.run_rules.specs.Data.happenings
 use Rattle.run_rules.specs.Data.commands
@@ -13,12 +13,12 @@ use Rattle.run_rules.specs.Commands.{begins}
 use Rattle.run_rules.specs.Cuts.{appends, turn_appends}
 use Rattle.run_rules.specs.Lines.{fine, is_down, with_own, with_stop}
 use Rattle.run_rules.specs.Facts.{Facts, command_at, node_at, outcome_at, facts_turned, facts_after}
-use Rattle.run_rules.specs.Telling.{Past, Telling, orders_at}
+use Rattle.run_rules.specs.RunReport.{Past, RunReport, orders_at}
 
 -- ---- a turn
 
 -- a delivery is counted
-abbrev pub delivered_more : Telling → Option Took → Telling
+abbrev pub delivered_more : RunReport → Option Took → RunReport
 delivered_more t None = t
 delivered_more t (Some took) = record t { deliveries = t.deliveries + 1 }
 
@@ -28,26 +28,26 @@ is_call (inputs.Call session statement) = true
 is_call _ = false
 
 -- the second call of a CREATE has come
-abbrev pub without_following : Telling → Input → Telling
+abbrev pub without_following : RunReport → Input → RunReport
 without_following t input = if is_call input then record t { next_call = None } else t
 
 -- the calls that a turn ended, unless it was cut
-abbrev pub ends_calls : ℕ → Telling → Turn → Bool → Option Outcome → Telling
+abbrev pub ends_calls : ℕ → RunReport → Turn → Bool → Option Outcome → RunReport
 ends_calls running t u true o = t
 ends_calls running t u false None = t
 ends_calls running t u false (Some o) = after_input running (finished running t u.node o.ended) u.node u.input
 
 -- something has happened since the command began
-abbrev pub acts : Telling → Telling
+abbrev pub acts : RunReport → RunReport
 acts t = record t { acted = true }
 
 -- a turn at a node that kept this, and that came to this
-abbrev pub telling_turned : ℕ → Option Kept → Telling → Turn → Option Outcome → Telling
-telling_turned running k t u o = acts (ends_calls running (without_following (delivered_more (turn_appends t u.node u.input k o) u.took) u.input) u u.cut o)
+abbrev pub report_turned : ℕ → Option NodeState → RunReport → Turn → Option Outcome → RunReport
+report_turned running k t u o = acts (ends_calls running (without_following (delivered_more (turn_appends t u.node u.input k o) u.took) u.input) u u.cut o)
 
 -- what a turn comes to is worked out once
 abbrev pub turned : Past → Turn → Option Outcome → Past
-turned p u o = record { facts = facts_turned p.facts u o; telling = telling_turned p.facts.command (node_at p.facts u.node) p.telling u o }
+turned p u o = record { facts = facts_turned p.facts u o; run_report = report_turned p.facts.command (node_at p.facts u.node) p.run_report u o }
 
 -- ---- stops and starts
 
@@ -57,7 +57,7 @@ failed_start f (commands.Start m) n = (m == n) && (is_none (node_at f n) && is_n
 failed_start f _ n = false
 
 -- such a START is refused, and the calls of its append are counted
-abbrev pub start_refused : List Place → Facts → Telling → Command → ℕ → Telling
+abbrev pub start_refused : List Place → Facts → RunReport → Command → ℕ → RunReport
 start_refused places f t command n = if failed_start f command n then with_own (appends t n 3) (one (is_down places n)) else t
 
 -- whether this is a STOP of the node
@@ -66,12 +66,12 @@ is_stop_of (commands.Stop m) n = m == n
 is_stop_of _ n = false
 
 -- `node X stopped` stands for every stop but a STOP's own
-abbrev pub stop_line : List Place → Telling → Command → ℕ → Telling
+abbrev pub stop_line : List Place → RunReport → Command → ℕ → RunReport
 stop_line places t command n = if is_stop_of command n then t else with_stop places t n
 
 -- a node stops: its calls end
-abbrev pub telling_stopped : List Place → List Command → Facts → Telling → ℕ → Telling
-telling_stopped places asked f t n =
+abbrev pub report_stopped : List Place → List Command → Facts → RunReport → ℕ → RunReport
+report_stopped places asked f t n =
     stop_line places (stopped_calls places f.command (record (start_refused places f t (command_at asked f.command) n) { start_to_stop = None }) n t.calls) (command_at asked f.command) n
 
 -- a START answers ok, or DTX-01 where an order strikes it after its Boot stands
@@ -85,23 +85,23 @@ falls_if n None = None
 falls_if n (Some s) = Some n
 
 -- a node starts, with the calls of its Boot's append counted
-abbrev pub telling_started : List Place → Telling → ℕ → Option Strike → Telling
-telling_started places t n strike = record (with_own (appends t n 3) (started_says places n strike)) { start_to_stop = falls_if n strike }
+abbrev pub report_started : List Place → RunReport → ℕ → Option Strike → RunReport
+report_started places t n strike = record (with_own (appends t n 3) (started_says places n strike)) { start_to_stop = falls_if n strike }
 
 -- ---- each happening
 
 -- what is told after one happening more; a turn is worked out with its facts
-abbrev pub telling_after : List Place → List Command → Facts → Telling → Happening → Telling
-telling_after places asked f t (happenings.Begun c) = begins places f t c (command_at asked c)
-telling_after places asked f t (happenings.Turn u) = telling_turned f.command (node_at f u.node) t u (outcome_at places f u)
-telling_after places asked f t (happenings.Stopped n) = acts (telling_stopped places asked f t n)
-telling_after places asked f t (happenings.Started n boot) = acts (telling_started places t n (struck 3 (orders_at t n)))
-telling_after places asked f t _ = acts t
+abbrev pub report_after : List Place → List Command → Facts → RunReport → Happening → RunReport
+report_after places asked f t (happenings.Begun c) = begins places f t c (command_at asked c)
+report_after places asked f t (happenings.Turn u) = report_turned f.command (node_at f u.node) t u (outcome_at places f u)
+report_after places asked f t (happenings.Stopped n) = acts (report_stopped places asked f t n)
+report_after places asked f t (happenings.Started n boot) = acts (report_started places t n (struck 3 (orders_at t n)))
+report_after places asked f t _ = acts t
 
 -- one happening more
 unfoldable pub next : List Place → List Command → Past → Happening → Past
 next places asked p (happenings.Turn u) = turned p u (outcome_at places p.facts u)
-next places asked p h = record { facts = facts_after places asked p.facts h; telling = telling_after places asked p.facts p.telling h }
+next places asked p h = record { facts = facts_after places asked p.facts h; run_report = report_after places asked p.facts p.run_report h }
 
 -- what these happenings leave
 unfoldable pub past : List Place → List Command → Past → List Happening → Past

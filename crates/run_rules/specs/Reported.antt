@@ -12,7 +12,7 @@ use Rattle.run_rules.specs.Data.notices
 use Rattle.run_rules.specs.Data.happenings
 use Rattle.run_rules.specs.Shown.{shown_disk}
 use Rattle.run_rules.specs.Facts.{command_at, records_at, facts_of, first_facts}
-use Rattle.run_rules.specs.Telling.{Past, start}
+use Rattle.run_rules.specs.RunReport.{Past, start}
 use Rattle.run_rules.specs.Past.{past}
 use Rattle.run_rules.specs.Lines.{told}
 use Rattle.run_rules.specs.Due.{Due, Begins, Ends, due_of}
@@ -65,10 +65,10 @@ IsBetween _ = ⊥
 
 -- what is told of a run that leaves this: all lines, where its script was run; where memory ran out, those of the commands
 -- before the one that ran, and that one's too if it was done
-abbrev pub IsToldOf : History → Past → List AnswerLine → Ending → Type 0
-IsToldOf t p answers All_run = (due_of t.commands p ≡ Ends) × LinesAre t (told p.facts p.telling) answers
-IsToldOf t p answers Out_of_memory = LinesAre t p.telling.lines answers ⊎ (IsBetween (due_of t.commands p) × LinesAre t (told p.facts p.telling) answers)
+abbrev pub IsReportedOf : History → Past → List AnswerLine → Ending → Type 0
+IsReportedOf t p answers All_run = (due_of t.commands p ≡ Ends) × LinesAre t (told p.facts p.run_report) answers
+IsReportedOf t p answers Out_of_memory = LinesAre t p.run_report.lines answers ⊎ (IsBetween (due_of t.commands p) × LinesAre t (told p.facts p.run_report) answers)
 
 -- what is told of a run
-abbrev pub IsTold : History → List AnswerLine → Ending → Type 0
-IsTold t answers ending = IsToldOf t (past_of t) answers ending
+abbrev pub IsReported : History → List AnswerLine → Ending → Type 0
+IsReported t answers ending = IsReportedOf t (past_of t) answers ending

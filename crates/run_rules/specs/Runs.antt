@@ -10,7 +10,7 @@ use Rattle.node_rules.specs.Words.{same_text}
 use Rattle.node_rules.specs.Rows.{apply}
 use Rattle.node_rules.specs.Meaning.{Meant, Changes, meant, written}
 use Rattle.node_rules.specs.Names.{table_of, ref_of}
-use Rattle.node_rules.specs.Kept.{Outcome}
+use Rattle.node_rules.specs.NodeState.{Outcome}
 use Rattle.redo_record.specs.Durable.{durable}
 use Rattle.row_locks.specs.Locks.{Lock}
 use Rattle.stmt_run.specs.Run.{take_keys}

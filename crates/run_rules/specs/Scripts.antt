@@ -3,7 +3,7 @@ use Rattle.std.specs.Prelude.{ℕ, ◌+◌, List, [], ◌∷◌}
 use Rattle.node_rules.specs.Data.{Place}
 use Rattle.run_rules.specs.Data.{Command}
 use Rattle.run_rules.specs.Data.commands
-use Rattle.run_rules.specs.Telling.{start}
+use Rattle.run_rules.specs.RunReport.{start}
 use Rattle.run_rules.specs.Due.{IsTheRun}
 use Rattle.run_rules.specs.Lawful.{History, IsLawfulRun}
 

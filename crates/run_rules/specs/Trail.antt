@@ -9,7 +9,7 @@ use Rattle.node_rules.specs.Data.stmts
 use Rattle.node_rules.specs.Data.inputs
 use Rattle.session_tree.specs.Live.{is_branch}
 use Rattle.node_rules.specs.Words.{same}
-use Rattle.node_rules.specs.Kept.{Outcome}
+use Rattle.node_rules.specs.NodeState.{Outcome}
 use Rattle.row_locks.specs.Locks.{Lock, without_reads}
 use Rattle.run_rules.specs.Data.{Command, Entry, Finished, Took, Turn, Happening}
 use Rattle.run_rules.specs.Data.happenings

@@ -9,7 +9,7 @@ use Rattle.node_rules.specs.Data.{RedoRecord, Msg, Place, Input}
 use Rattle.node_rules.specs.Data.inputs
 use Rattle.node_rules.specs.Data.kinds
 use Rattle.node_rules.specs.Data.records
-use Rattle.node_rules.specs.Kept.{Kept, live_id}
+use Rattle.node_rules.specs.NodeState.{NodeState, live_id}
 use Rattle.node_rules.specs.Inputs.{IsFit}
 use Rattle.node_rules.specs.Turn.{turn_of}
 use Rattle.node_spell_laws.specs.Bytes.{HasBytes, BringsBytes, AsksChild, KeepsBytes, NamesTable, TurnsKeepBytes, TurnsNameTables, StartsKeepBytes}
@@ -36,14 +36,14 @@ use Rattle.run_spell_laws.specs.ByteRuns.{CallIsSpelled, CallsAreSpelled, IsSpel
 -- ---- what comes
 
 -- a message that may come was sent
-message_so : (P : Msg → Type 0) (f : Facts) (k : Kept) (node : ℕ) (m : Msg) (took : Option Took) → AllSent P f.net.packets → Comes f k node (inputs.Message m) took → P m
+message_so : (P : Msg → Type 0) (f : Facts) (k : NodeState) (node : ℕ) (m : Msg) (took : Option Took) → AllSent P f.net.packets → Comes f k node (inputs.Message m) took → P m
 message_so P f k node m (Some x) sent comes = subst P comes.1.same (numbered_so P f.net.packets x.number comes.0 sent comes.1.sent)
 message_so P f k node m None sent comes = absurd comes
 
 abbrev AllHaveBytes : Facts → Type 0
 AllHaveBytes f = AllSent (λ m. HasBytes m.kind) f.net.packets
 
-brings_so : (f : Facts) (k : Kept) (node : ℕ) (input : Input) (took : Option Took) → AllHaveBytes f → CallIsSpelled input → Comes f k node input took → BringsBytes input
+brings_so : (f : Facts) (k : NodeState) (node : ℕ) (input : Input) (took : Option Took) → AllHaveBytes f → CallIsSpelled input → Comes f k node input took → BringsBytes input
 brings_so f k node (inputs.Message m) took sent spelled comes = message_so (λ m. HasBytes m.kind) f k node m took sent comes
 brings_so f k node (inputs.Call n (Some s)) took sent spelled comes = spelled
 brings_so f k node (inputs.Call n None) took sent spelled comes = tt
@@ -55,7 +55,7 @@ born_once : (bs : List Born) (x y : Born) → Began bs x → Began bs y → x.me
 born_once bs x y first second same = let one : Some x ≡ Some y = sym first ∙ (ap (born_at bs) same ∙ second) in cc
 
 -- Prepare comes from the parent
-asks_so : (t : History) → IsLawfulRun t → (n : ℕ) (k : Kept) (input : Input) (took : Option Took) → node_at (facts_at t) n ≡ Some k → Comes (facts_at t) k n input took → AsksChild k input
+asks_so : (t : History) → IsLawfulRun t → (n : ℕ) (k : NodeState) (input : Input) (took : Option Took) → node_at (facts_at t) n ≡ Some k → Comes (facts_at t) k n input took → AsksChild k input
 asks_so t lawful n k input took up comes from to site_below comment l came live =
     let m : Msg = record { from = from; to = to; scn = came.scn; kind = kinds.Prepare site_below comment } in
     let child : IsChild (Began (births_of t)) to from =
@@ -69,14 +69,14 @@ asks_so t lawful n k input took up comes from to site_below comment l came live 
 -- ---- nodes and disks
 
 -- what a node and its disk have
-abbrev Stands : Option Kept → List RedoRecord → Type 0
+abbrev Stands : Option NodeState → List RedoRecord → Type 0
 Stands o rs = AllByRecursion NamesTable rs × IfSome o KeepsBytes
 
 -- and all of them, and the messages
 abbrev AllStand : Facts → Type 0
 AllStand f = ((n : ℕ) → Stands (node_at f n) (records_at f n)) × AllHaveBytes f
 
-moved : {o p : Option Kept} {rs qs : List RedoRecord} → (o ≡ p) × (rs ≡ qs) → Stands p qs → Stands o rs
+moved : {o p : Option NodeState} {rs qs : List RedoRecord} → (o ≡ p) × (rs ≡ qs) → Stands p qs → Stands o rs
 moved is now = (subst (AllByRecursion NamesTable) (sym is.1) now.0, subst (λ x. IfSome x KeepsBytes) (sym is.0) now.1)
 
 with_record : (rs : List RedoRecord) (w : Option RedoRecord) → AllByRecursion NamesTable rs → IfSome w NamesTable → AllByRecursion NamesTable (rs ++ option_to_list w)
@@ -100,7 +100,7 @@ module _ (ready : NodesAreReady) (turns : TurnsKeepBytes) (names : TurnsNameTabl
     many = (run_births t lawful).0.1.many
 
     -- a turn of a node
-    module _ (u : Turn) (k : Kept) (may : MayTurn t.places (facts_at t) u k) (spelled : CallIsSpelled u.input) where
+    module _ (u : Turn) (k : NodeState) (may : MayTurn t.places (facts_at t) u k) (spelled : CallIsSpelled u.input) where
       brings : BringsBytes u.input
       brings = brings_so (facts_at t) k u.node u.input u.took now.1 spelled may.comes
 

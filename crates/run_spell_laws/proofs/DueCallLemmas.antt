@@ -7,7 +7,7 @@ use Rattle.std.proofs.lemmas.Bool.{cond_both}
 use Rattle.sql_print.specs.Printing.{IsPrintable}
 use Rattle.node_rules.specs.Data.{Stmt, Place, Input}
 use Rattle.node_rules.specs.Data.inputs
-use Rattle.node_rules.specs.Kept.{Kept, Outcome}
+use Rattle.node_rules.specs.NodeState.{NodeState, Outcome}
 use Rattle.node_rules.specs.Turn.{turn_of}
 use Rattle.tran_ids.specs.Listed.{numbered}
 use Rattle.net_bag.specs.Net.{first_flying, may_deliver, may_repeat, packet_at}
@@ -18,14 +18,14 @@ use Rattle.run_rules.specs.Calls.{is_call_at, call_at}
 use Rattle.run_rules.specs.Commands.{is_enabled}
 use Rattle.run_rules.specs.Cuts.{Cut_by, By_nothing, By_strike, By_point, cut_by}
 use Rattle.run_rules.specs.Disks.{Strike, struck}
-use Rattle.run_rules.specs.Due.{Due, Tells, Falls, Pends, Gives_up, Delivers, Recovers, Cuts, Joins, Loses, Stops, Starts, Begins, Ends, if_due, call_due, act_of, next_command, next_give_up, next_delivery, most_of, next_pumped, flows, acts_first, acts_once, follows_first, falls_first, tells_first, due_of, turn_by, turn_at, start_by, delivery_at, happens, comes_next, IsTheRun}
+use Rattle.run_rules.specs.Due.{Due, Tells, Falls, Pends, Gives_up, Delivers, Recovers, Cuts, Joins, Loses, Stops, Starts, Begins, Ends, if_due, call_due, act_of, next_command, next_give_up, next_delivery, most_of, next_pumped, flows, acts_first, acts_once, follows_first, falls_first, first_losses, due_of, turn_by, turn_at, start_by, delivery_at, happens, comes_next, IsTheRun}
 use Rattle.run_rules.specs.Facts.{Facts, first_facts, place_at, node_at, is_up, command_at, facts_after, facts_of}
 use Rattle.run_rules.specs.Scripts.{TheRunIsLawful}
 use Rattle.run_rules.specs.Lawful.{MayHappen, Comes, IsLawful, facts_at}
 use Rattle.run_rules.specs.Lines.{spent}
 use Rattle.run_base_laws.specs.NodeLaws.{EachFactFrom}
-use Rattle.run_rules.specs.Past.{telling_after, next, past}
-use Rattle.run_rules.specs.Telling.{Call, Telling, Past, orders_at, start}
+use Rattle.run_rules.specs.Past.{report_after, next, past}
+use Rattle.run_rules.specs.RunReport.{Call, RunReport, Past, orders_at, start}
 use Rattle.run_ready_laws.proofs.FlightLemmas.{all_at}
 use Rattle.run_ready_laws.proofs.PendingLemmas.{found_so}
 use Rattle.run_spell_laws.specs.ByteRuns.{CallIsSpelled, CallsAreSpelled, TurnsHaveBytes, AsksSpelled, ScriptsCallsAreSpelled, DueCallsAreSpelled, DueTurnsHaveBytes}
@@ -42,7 +42,7 @@ if_is : (b : Bool) (d : Due) → DueIs d → IfSome (if_due b d) DueIs
 if_is true d is = is
 if_is false d is = tt
 
-tells_is : (d : Due) (ks : List ℕ) → DueIs d → DueIs (tells_first d ks)
+tells_is : (d : Due) (ks : List ℕ) → DueIs d → DueIs (first_losses d ks)
 tells_is d [] is = is
 tells_is d (k ∷ ks) is = tt
 
@@ -58,7 +58,7 @@ acts_first_is : (later : Due) (o : Option Due) → DueIs later → IfSome o DueI
 acts_first_is later None is act = is
 acts_first_is later (Some d) is act = act
 
-module _ (asked : List Command) (f : Facts) (t : Telling) (now : CallsAre t) where
+module _ (asked : List Command) (f : Facts) (t : RunReport) (now : CallsAre t) where
   call_is : (node session : ℕ) (o : Option Call) → find (is_call_at node session) t.calls ≡ o → IfSome (call_due f.command o) DueIs
   call_is node session None is = tt
   call_is node session (Some c) is = if_is (c.command == f.command) (Pends c) (found_so CallIs (is_call_at node session) t.calls c now.calls is).0
@@ -97,11 +97,11 @@ module _ (asked : List Command) (f : Facts) (t : Telling) (now : CallsAre t) whe
   once_is : DueIs (acts_once asked f t)
   once_is = cond_both t.acted _ _ DueIs (λ acted. flows_is) (λ fresh. acts_first_is (flows asked f t) (act_of f t (command_at asked f.command)) flows_is (act_is (command_at asked f.command)))
 
-due_is : (asked : List Command) (p : Past) → CallsAre p.telling → DueIs (due_of asked p)
+due_is : (asked : List Command) (p : Past) → CallsAre p.run_report → DueIs (due_of asked p)
 unfolding due_of
 due_is asked p now =
-    tells_is _ p.facts.losses_to_tell (falls_is _ p.facts.node_to_stop (falls_is _ p.telling.start_to_stop
-    (follows_is (acts_once asked p.facts p.telling) p.telling.next_call (once_is asked p.facts p.telling now) now.next_call)))
+    tells_is _ p.facts.losses_to_report (falls_is _ p.facts.node_to_stop (falls_is _ p.run_report.start_to_stop
+    (follows_is (acts_once asked p.facts p.run_report) p.run_report.next_call (once_is asked p.facts p.run_report now) now.next_call)))
 
 -- ---- what happens
 
@@ -115,7 +115,7 @@ module _ (places : List Place) (f : Facts) where
   cut_is node input took o (By_strike stands) spelled = spelled
   cut_is node input took o (By_point root numbers stands) spelled = spelled
 
-  turn_is : (t : Telling) (node : ℕ) (input : Input) (took : Option Took) (o : Option Kept) (h : Happening) → CallIsSpelled input → turn_at places t node input took o ≡ Some h → CallsAreSpelled places f h
+  turn_is : (t : RunReport) (node : ℕ) (input : Input) (took : Option Took) (o : Option NodeState) (h : Happening) → CallIsSpelled input → turn_at places t node input took o ≡ Some h → CallsAreSpelled places f h
   turn_is t node input took None h spelled is = absurd cc
   turn_is t node input took (Some k) h spelled is =
       let o : Outcome = turn_of (place_at places node) k input in
@@ -127,7 +127,7 @@ module _ (places : List Place) (f : Facts) where
 
   packet_is : (p : Past) (k : ℕ) (again : Bool) (o : Option Packet) (h : Happening) → delivery_at places p k again o ≡ Some h → CallsAreSpelled places f h
   packet_is p k again None h is = absurd cc
-  packet_is p k again (Some x) h is = turn_is p.telling x.msg.to.node (inputs.Message x.msg) (Some (record { number = k; again = again })) (node_at p.facts x.msg.to.node) h tt is
+  packet_is p k again (Some x) h is = turn_is p.run_report x.msg.to.node (inputs.Message x.msg) (Some (record { number = k; again = again })) (node_at p.facts x.msg.to.node) h tt is
 
   asked_is : (session : ℕ) (o : Option Stmt) → IfSome o IsPrintable → CallIsSpelled (inputs.Call session o)
   asked_is session None is = tt
@@ -136,21 +136,21 @@ module _ (places : List Place) (f : Facts) where
   happens_is : (p : Past) (d : Due) (h : Happening) → DueIs d → happens places p d ≡ Some h → CallsAreSpelled places f h
   happens_is p (Tells k) h due is = is_this (happenings.Lost k) h tt is
   happens_is p (Falls n) h due is = is_this (happenings.Stopped n) h tt is
-  happens_is p (Pends c) h due is = turn_is p.telling c.node (inputs.Call c.session c.statement) None (node_at p.facts c.node) h (asked_is c.session c.statement due.0) is
-  happens_is p (Gives_up n session) h due is = turn_is p.telling n (inputs.GiveUp session) None (node_at p.facts n) h tt is
+  happens_is p (Pends c) h due is = turn_is p.run_report c.node (inputs.Call c.session c.statement) None (node_at p.facts c.node) h (asked_is c.session c.statement due.0) is
+  happens_is p (Gives_up n session) h due is = turn_is p.run_report n (inputs.GiveUp session) None (node_at p.facts n) h tt is
   happens_is p (Delivers k again) h due is = packet_is p k again (packet_at p.facts.net k) h is
-  happens_is p (Recovers n) h due is = turn_is p.telling n inputs.Reco None (node_at p.facts n) h tt is
+  happens_is p (Recovers n) h due is = turn_is p.run_report n inputs.Reco None (node_at p.facts n) h tt is
   happens_is p (Cuts a b) h due is = is_this (happenings.Cut a b) h tt is
   happens_is p (Joins a b) h due is = is_this (happenings.Join a b) h tt is
   happens_is p (Loses k) h due is = is_this (happenings.Lost k) h tt is
   happens_is p (Stops n) h due is = is_this (happenings.Stopped n) h tt is
-  happens_is p (Starts n) h due is = is_this (start_by p.facts n (struck 3 (orders_at p.telling n))) h (start_is p.facts n (struck 3 (orders_at p.telling n))) is
+  happens_is p (Starts n) h due is = is_this (start_by p.facts n (struck 3 (orders_at p.run_report n))) h (start_is p.facts n (struck 3 (orders_at p.run_report n))) is
   happens_is p (Begins c) h due is = is_this (happenings.Begun c) h tt is
   happens_is p Ends h due is = absurd cc
 
 -- ---- runs
 
-next_is : (places : List Place) (asked : List Command) (p : Past) (h : Happening) → next places asked p h ≡ record { facts = facts_after places asked p.facts h; telling = telling_after places asked p.facts p.telling h }
+next_is : (places : List Place) (asked : List Command) (p : Past) (h : Happening) → next places asked p h ≡ record { facts = facts_after places asked p.facts h; run_report = report_after places asked p.facts p.run_report h }
 unfolding next facts_after
 next_is places asked p (happenings.Turn u) = refl
 next_is places asked p (happenings.Begun c) = refl
@@ -168,19 +168,19 @@ module _ (places : List Place) (asked : List Command) (asks : AllByRecursion Ask
   each_asks : (c : ℕ) → AsksSpelled (command_at asked c)
   each_asks c = command_at_is asked c (numbered asked c) refl asks
 
-  spelled_each : (p : Past) (hs : List Happening) → CallsAre p.telling → IsTheRun places asked p hs → EachFactFrom (CallsAreSpelled places) places asked p.facts hs
+  spelled_each : (p : Past) (hs : List Happening) → CallsAre p.run_report → IsTheRun places asked p hs → EachFactFrom (CallsAreSpelled places) places asked p.facts hs
   unfolding IsTheRun
   spelled_each p [] now run = tt
   spelled_each p (h ∷ hs) now run = (
     happens_is places p.facts p (due_of asked p) h (due_is asked p now) run.0,
-    spelled_each (record { facts = facts_after places asked p.facts h; telling = telling_after places asked p.facts p.telling h }) hs (told_are places asked p.facts p.telling h each_asks now)
+    spelled_each (record { facts = facts_after places asked p.facts h; run_report = report_after places asked p.facts p.run_report h }) hs (told_are places asked p.facts p.run_report h each_asks now)
         (subst (λ q. IsTheRun places asked q hs) (next_is places asked p h) run.1),
   )
 
-  past_are : (p : Past) (hs : List Happening) → CallsAre p.telling → CallsAre (past places asked p hs).telling
+  past_are : (p : Past) (hs : List Happening) → CallsAre p.run_report → CallsAre (past places asked p hs).run_report
   unfolding past
   past_are p [] now = now
-  past_are p (h ∷ hs) now = past_are (next places asked p h) hs (subst (λ q. CallsAre q.telling) (sym (next_is places asked p h)) (told_are places asked p.facts p.telling h each_asks now))
+  past_are p (h ∷ hs) now = past_are (next places asked p h) hs (subst (λ q. CallsAre q.run_report) (sym (next_is places asked p h)) (told_are places asked p.facts p.run_report h each_asks now))
 
 pub scripts_calls_are_spelled : ScriptsCallsAreSpelled
 scripts_calls_are_spelled t asks run = spelled_each t.places t.commands asks (start t.places) t.trace (record { calls = tt; next_call = tt }) run
@@ -203,7 +203,7 @@ module _ (places : List Place) (asked : List Command) where
   last_may f [] h lawful = lawful.0
   last_may f (g ∷ hs) h lawful = last_may (facts_after places asked f g) hs h lawful.1
 
-  due_spelled : (p : Past) (u : Turn) → CallsAre p.telling → comes_next places asked p ≡ Some (happenings.Turn u) → CallIsSpelled u.input
+  due_spelled : (p : Past) (u : Turn) → CallsAre p.run_report → comes_next places asked p ≡ Some (happenings.Turn u) → CallIsSpelled u.input
   due_spelled p u now is = happens_is places p.facts p (due_of asked p) (happenings.Turn u) (due_is asked p now) is
 
 pub due_turns_have_bytes : TheRunIsLawful → TurnsHaveBytes → DueTurnsHaveBytes

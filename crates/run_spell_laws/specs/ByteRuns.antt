@@ -5,7 +5,7 @@ use Rattle.dtx_values.specs.Limits.{link_limit}
 use Rattle.sql_print.specs.Printing.{IsPrintable}
 use Rattle.node_rules.specs.Data.{Place, Input}
 use Rattle.node_rules.specs.Data.inputs
-use Rattle.node_rules.specs.Kept.{Kept, Outcome}
+use Rattle.node_rules.specs.NodeState.{NodeState, Outcome}
 use Rattle.node_rules.specs.Turn.{turn_of}
 use Rattle.node_ready_laws.specs.Ready.{IsExpected}
 use Rattle.node_spell_laws.specs.Bytes.{HasBytes, KeepsBytes}
@@ -17,7 +17,7 @@ use Rattle.run_rules.specs.Data.happenings
 use Rattle.run_rules.specs.Facts.{Facts, place_at, node_at}
 use Rattle.run_rules.specs.Lawful.{History, IsLawfulRun, Comes, facts_at}
 use Rattle.run_base_laws.specs.NodeLaws.{AtEachFact}
-use Rattle.run_rules.specs.Telling.{Call, start}
+use Rattle.run_rules.specs.RunReport.{Call, start}
 use Rattle.run_rules.specs.Past.{past}
 use Rattle.run_rules.specs.Due.{Pends, due_of, comes_next}
 use Rattle.run_rules.specs.Scripts.{IsTheRunOf}
@@ -41,7 +41,7 @@ pub record IsSpelledRun (t : History) : Type 0 where
 
 -- In every such run each node that is up keeps what has bytes.
 abbrev pub NodesKeepBytes : Type 0
-NodesKeepBytes = (t : History) → IsSpelledRun t → (n : ℕ) (k : Kept) → node_at (facts_at t) n ≡ Some k → KeepsBytes k
+NodesKeepBytes = (t : History) → IsSpelledRun t → (n : ℕ) (k : NodeState) → node_at (facts_at t) n ≡ Some k → KeepsBytes k
 
 -- Each message that was sent has bytes.
 abbrev pub MessagesHaveBytes : Type 0
@@ -54,7 +54,7 @@ pub record TurnHasBytes (o : Outcome) : Type 0 where
 
 -- Each turn that may come next has bytes, where the node expects what comes, has few links, and its clock leaves room for an SCN.
 abbrev pub TurnsHaveBytes : Type 0
-TurnsHaveBytes = (t : History) → IsSpelledRun t → (n : ℕ) (k : Kept) (input : Input) (took : Option Took) → node_at (facts_at t) n ≡ Some k → Comes (facts_at t) k n input took
+TurnsHaveBytes = (t : History) → IsSpelledRun t → (n : ℕ) (k : NodeState) (input : Input) (took : Option Took) → node_at (facts_at t) n ≡ Some k → Comes (facts_at t) k n input took
     → CallIsSpelled input → IsExpected input → (place_at t.places n).links ≤ link_limit → HasRoomForScn k input → TurnHasBytes (turn_of (place_at t.places n) k input)
 
 -- ---- the run of a script
@@ -75,6 +75,6 @@ DueCallsAreSpelled = (t : History) (c : Call) → AllByRecursion AsksSpelled t.c
 -- In the run of such a script, whose Replies tell of few branches, the turn that is due has bytes, where the node expects what
 -- comes, has few links, and its clock leaves room for an SCN.
 abbrev pub DueTurnsHaveBytes : Type 0
-DueTurnsHaveBytes = (t : History) (u : Turn) (k : Kept) → AllByRecursion AsksSpelled t.commands → IsTheRunOf t → AtEachFact RepliesTellFew t
+DueTurnsHaveBytes = (t : History) (u : Turn) (k : NodeState) → AllByRecursion AsksSpelled t.commands → IsTheRunOf t → AtEachFact RepliesTellFew t
     → comes_next t.places t.commands (past t.places t.commands (start t.places) t.trace) ≡ Some (happenings.Turn u) → node_at (facts_at t) u.node ≡ Some k
     → IsExpected u.input → (place_at t.places u.node).links ≤ link_limit → HasRoomForScn k u.input → TurnHasBytes (turn_of (place_at t.places u.node) k u.input)

@@ -6,7 +6,7 @@ use Rattle.node_rules.specs.Data.{Place}
 use Rattle.run_rules.specs.Data.{Command, Entry, Happening}
 use Rattle.run_rules.specs.Entries.{book_of, entries_in}
 use Rattle.run_rules.specs.Facts.{Facts}
-use Rattle.run_rules.specs.Telling.{Past, start}
+use Rattle.run_rules.specs.RunReport.{Past, start}
 use Rattle.run_rules.specs.Past.{next, past}
 use Rattle.run_rules.specs.Due.{IsTheRun, comes_next}
 use Rattle.run_rules.proofs.FactLemmas.{book_next, facts_next}

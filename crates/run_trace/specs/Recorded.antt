@@ -3,7 +3,7 @@ use Rattle.std.specs.Prelude.{◌≡◌, ◌≤◌, ℕ, List, length, take, Som
 use Rattle.node_rules.specs.Data.{Place}
 use Rattle.run_rules.specs.Data.{Command, Entry, Happening}
 use Rattle.run_rules.specs.Entries.{book_of}
-use Rattle.run_rules.specs.Telling.{Past, start}
+use Rattle.run_rules.specs.RunReport.{Past, start}
 use Rattle.run_rules.specs.Past.{past}
 use Rattle.run_rules.specs.Due.{IsTheRun, comes_next}
 

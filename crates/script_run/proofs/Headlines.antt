@@ -7,13 +7,13 @@ use Rattle.redo_record.specs.declared.place.Place.{Place}
 use Rattle.script_read.specs.declared.command.Command.{Command}
 use Rattle.script_read.specs.Sound.{IsOfAScript}
 use Rattle.run_rules.specs.Entries.{book_of}
-use Rattle.run_rules.specs.Telling.{start}
+use Rattle.run_rules.specs.RunReport.{start}
 use Rattle.run_rules.specs.Due.{Due, Ends, IsTheRun, due_of}
 use Rattle.run_rules.specs.Past.{past}
 use Rattle.run_rules.specs.Lawful.{AreOfAScript, History}
 use Rattle.run_rules.specs.Book.{Agreement, MixedIsMarked, ScnLaw}
 use Rattle.run_claims.specs.Headline.{EveryBookAgrees, EveryMixedIsMarked, EveryScnIsLater, EverySiteDecides, EveryDecisionCovers, EveryRunIsMeant, EveryAnswerHasItsPlace, EveryTurnKnows}
-use Rattle.run_rules.specs.Reported.{Ending, All_run, Out_of_memory, IsTold, IsBetween}
+use Rattle.run_rules.specs.Reported.{Ending, All_run, Out_of_memory, IsReported, IsBetween}
 use Rattle.run_rules.specs.Scripts.{places_of, TheRunIsLawful}
 use Rattle.script_run.specs.declared.outcome.Run.{Run}
 use Rattle.script_run.specs.declared.outcome.Status.{Status}
@@ -22,7 +22,7 @@ use Rattle.script_run.specs.Headline.{IsRun, history_of, nothing_done}
 use Rattle.script_run.specs.Ending.{IsWhole, ending_of}
 use Rattle.script_run.proofs.ScriptLemmas.{of_a_script}
 use Rattle.world.specs.declared.ran.Ran.{Ran}
-use Rattle.run_claims.specs.ToldDone.{DoneIsTold}
+use Rattle.run_claims.specs.ReportedDone.{DoneIsReported}
 use Rattle.run_claims.specs.CommitCourse.{QuietCommitsAreComplete}
 use Rattle.world.specs.Ran.{IsRan, as_ending}
 
@@ -39,15 +39,15 @@ nothing_due : IsTheRun (places_of []) [] (start (places_of [])) []
 unfolding IsTheRun
 nothing_due = tt
 
-nothing_told : IsTold (history_of nothing_done no_script) [] All_run
+empty_report : IsReported (history_of nothing_done no_script) [] All_run
 unfolding past due_of
-nothing_told = (refl, tt)
+empty_report = (refl, tt)
 
-module _ (lawful : TheRunIsLawful) (knows : EveryTurnKnows) (meant : EveryRunIsMeant) (comes : EveryAnswerHasItsPlace) (tells : DoneIsTold) (completes : QuietCommitsAreComplete) (sites : EverySiteDecides) (covers : EveryDecisionCovers) (agrees : EveryBookAgrees) (marked : EveryMixedIsMarked) (later : EveryScnIsLater) where
+module _ (lawful : TheRunIsLawful) (knows : EveryTurnKnows) (meant : EveryRunIsMeant) (comes : EveryAnswerHasItsPlace) (tells : DoneIsReported) (completes : QuietCommitsAreComplete) (sites : EverySiteDecides) (covers : EveryDecisionCovers) (agrees : EveryBookAgrees) (marked : EveryMixedIsMarked) (later : EveryScnIsLater) where
   -- by the laws, of what is due and told
   by_laws : (run : Run) (ending : Ending) (script : AreOfAScript (places_of run.commands) run.commands)
       → IsTheRun (places_of run.commands) run.commands (start (places_of run.commands)) run.trace → run.book ≡ book_of run.trace
-      → IsTold (history_of run script) run.answers ending → IsRun run ending
+      → IsReported (history_of run script) run.answers ending → IsRun run ending
   by_laws run ending script due booked told =
       let t : History = history_of run script in
       let may = lawful t due in
@@ -73,11 +73,11 @@ module _ (lawful : TheRunIsLawful) (knows : EveryTurnKnows) (meant : EveryRunIsM
   is_run ran sound placed is =
       let script = of_a_script ran.recorded.asked sound in
       let due = subst (λ (ps : List Place). IsTheRun ps ran.recorded.asked (start ps) ran.recorded.happenings) placed is.due in
-      let told = subst (λ (ps : List Place). (s : AreOfAScript ps ran.recorded.asked) → IsTold (record { places = ps; commands = ran.recorded.asked; of_a_script = s; trace = ran.recorded.happenings }) ran.answers (as_ending ran.ended)) placed is.told in
+      let told = subst (λ (ps : List Place). (s : AreOfAScript ps ran.recorded.asked) → IsReported (record { places = ps; commands = ran.recorded.asked; of_a_script = s; trace = ran.recorded.happenings }) ran.answers (as_ending ran.ended)) placed is.told in
       by_laws (run_by ran) (as_ending ran.ended) script due is.booked (told script)
 
   pub nothing_is_run : (run : Run) → run ≡ nothing_done → IsRun run All_run
-  nothing_is_run run is = subst (λ (r : Run). IsRun r All_run) (sym is) (by_laws nothing_done All_run no_script nothing_due refl nothing_told)
+  nothing_is_run run is = subst (λ (r : Run). IsRun r All_run) (sym is) (by_laws nothing_done All_run no_script nothing_due refl empty_report)
 
 -- ---- a whole run
 

@@ -8,7 +8,7 @@ use Rattle.tran_ids.specs.Numbers.{decimal}
 use Rattle.script_read.specs.Asked.{Asked, asked}
 use Rattle.script_read.specs.declared.why.Why.{Why}
 use Rattle.script_read.specs.declared.why.Why.TheVariants as whys
-use Rattle.run_rules.specs.Telling.{start}
+use Rattle.run_rules.specs.RunReport.{start}
 use Rattle.run_rules.specs.Past.{past}
 use Rattle.run_rules.specs.Due.{Ends, due_of as next_due}
 use Rattle.run_rules.specs.Reported.{Ending, All_run, Out_of_memory}

@@ -2,14 +2,14 @@
 use Rattle.std.specs.Prelude.{◌≡◌, []}
 use Rattle.run_rules.specs.Entries.{book_of}
 use Rattle.run_rules.specs.Lawful.{History, AreOfAScript, IsLawfulRun}
-use Rattle.run_rules.specs.Reported.{IsTold, Ending}
+use Rattle.run_rules.specs.Reported.{IsReported, Ending}
 use Rattle.run_rules.specs.Scripts.{places_of, IsTheRunOf}
 use Rattle.run_rules.specs.Book.{Agreement, MixedIsMarked, ScnLaw}
 use Rattle.run_claims.specs.Knowledge.{Knowledge}
 use Rattle.run_claims.specs.Meanings.{RunsAreMeant}
 use Rattle.run_claims.specs.Places.{AnswersHavePlaces}
 use Rattle.run_claims.specs.Site.{SiteDecides, Coverage}
-use Rattle.run_claims.specs.ToldDone.{TellsWhatIsDone}
+use Rattle.run_claims.specs.ReportedDone.{ReportsWhatIsDone}
 use Rattle.run_claims.specs.CommitCourse.{QuietCommitsAreDone}
 use Rattle.script_run.specs.declared.outcome.Run.{Run}
 
@@ -35,11 +35,11 @@ pub record IsRun (run : Run) (ending : Ending) : Type 0 where
   pub due : IsTheRunOf (history_of run script)
   pub lawful : IsLawfulRun (history_of run script)
   pub booked : run.book ≡ book_of run.trace
-  pub answered : IsTold (history_of run script) run.answers ending
+  pub answered : IsReported (history_of run script) run.answers ending
   pub knows : Knowledge (history_of run script)
   pub meant : RunsAreMeant (history_of run script)
   pub come : AnswersHavePlaces (history_of run script)
-  pub done : TellsWhatIsDone (history_of run script)
+  pub done : ReportsWhatIsDone (history_of run script)
   pub completes : QuietCommitsAreDone (history_of run script)
   pub site : SiteDecides (history_of run script)
   pub covers : Coverage (history_of run script)

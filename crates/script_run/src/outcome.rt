@@ -4,7 +4,7 @@ ghost use Rattle.script_read.specs.Sound.{IsOfAScript};
 ghost use Rattle.run_claims.specs.Headline.{EveryTurnKnows, EveryRunIsMeant, EveryAnswerHasItsPlace, EverySiteDecides, EveryDecisionCovers, EveryBookAgrees, EveryMixedIsMarked, EveryScnIsLater};
 ghost use Rattle.run_rules.specs.Reported.{All_run};
 ghost use Rattle.run_rules.specs.Scripts.{places_of, TheRunIsLawful};
-ghost use Rattle.run_claims.specs.ToldDone.{DoneIsTold};
+ghost use Rattle.run_claims.specs.ReportedDone.{DoneIsReported};
 ghost use Rattle.run_claims.specs.CommitCourse.{QuietCommitsAreComplete};
 ghost use Rattle.world.specs.Ran.{IsRan, as_ending};
 ghost use Rattle.script_run.specs.Headline.{IsRun, nothing_done};
@@ -14,7 +14,7 @@ use answer_laws::every_answer_has_its_place;
 use book::{AnswerLines, Book, Trace};
 use book_laws::every_scn_is_later;
 use commit_course_laws::quiet_commits_are_complete;
-use answer_done_laws::done_is_told;
+use answer_done_laws::done_is_reported;
 use dtx_values::Listing;
 use run_ready_laws::the_run_is_lawful;
 use run_trace::Recorded;
@@ -81,7 +81,7 @@ fn laws_of_runs()
     ensures knows { EveryTurnKnows }
     ensures meant { EveryRunIsMeant }
     ensures comes { EveryAnswerHasItsPlace }
-    ensures tells { DoneIsTold }
+    ensures tells { DoneIsReported }
     ensures completes { QuietCommitsAreComplete }
     ensures sites { EverySiteDecides }
     ensures covers { EveryDecisionCovers }
@@ -93,7 +93,7 @@ fn laws_of_runs()
     every_turn_knows();
     every_run_is_meant();
     every_answer_has_its_place();
-    done_is_told();
+    done_is_reported();
     quiet_commits_are_complete();
     every_site_decides();
     every_decision_covers();

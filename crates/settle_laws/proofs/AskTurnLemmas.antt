@@ -15,7 +15,7 @@ use Rattle.node_rules.specs.Data.inputs
 use Rattle.node_rules.specs.Data.kinds
 use Rattle.node_rules.specs.Data.phases
 use Rattle.node_rules.specs.Words.{same, item_at, drop_item, numbered}
-use Rattle.node_rules.specs.Kept.{Kept, Branch, Deed, saying, post, post_one, to_each, live_at, live_id, standing_at, standing_id, branch_at, work_at}
+use Rattle.node_rules.specs.NodeState.{NodeState, Branch, Deed, saying, post, post_one, to_each, live_at, live_id, standing_at, standing_id, branch_at, work_at}
 use Rattle.node_rules.specs.Prepare.{drops, to_children}
 use Rattle.node_rules.specs.Recovery.{told_by, told_kind, tells, ask_answer, on_ask, on_ask_told, on_ask_kept}
 use Rattle.node_rules.specs.Turn.{stamped, turn_of, deed_of, heard, kind_turn, ask_turn, stand_of, live_or}
@@ -61,7 +61,7 @@ in_number : {A : Type 0} (xs : List A) (j : ℕ) (a : A) → numbered xs j ≡ S
 in_number xs zero a is = absurd cc
 in_number xs (suc j) a is = in_slice xs j a is
 
-pub asked_child : (t : History) → IsLawfulRun t → (n : ℕ) (k : Kept) → node_at (f_at t t.trace) n ≡ Some k → (l : Live) → live_at k l.me ≡ Some l → (c : BranchId) → was_asked (said_in (f_at t t.trace)) l.me c ≡ true
+pub asked_child : (t : History) → IsLawfulRun t → (n : ℕ) (k : NodeState) → node_at (f_at t t.trace) n ≡ Some k → (l : Live) → live_at k l.me ≡ Some l → (c : BranchId) → was_asked (said_in (f_at t t.trace)) l.me c ≡ true
     → IsIn c (children_of l)
 asked_child t whole n k up l live c asked = by l.phase refl
   where
@@ -82,7 +82,7 @@ asked_child t whole n k up l live c asked = by l.phase refl
     by (phases.Collecting b) is = asks (λ no. (let it = no in absurd (cc (is, it))))
     by phases.Ready is = asks (λ no. (let it = no in absurd (cc (is, it))))
 
-module _ (t : History) (s_lawful : IsLawfulRun t) (u : Turn) (k : Kept) where
+module _ (t : History) (s_lawful : IsLawfulRun t) (u : Turn) (k : NodeState) where
   abbrev pub f : Facts
   f = f_at t t.trace
 
@@ -94,7 +94,7 @@ module _ (t : History) (s_lawful : IsLawfulRun t) (u : Turn) (k : Kept) where
     abbrev p : Place
     p = place_at t.places u.node
 
-    abbrev k0 : Kept
+    abbrev k0 : NodeState
     k0 = heard k (inputs.Message m)
 
     abbrev d : Deed
@@ -202,10 +202,10 @@ module _ (t : History) (s_lawful : IsLawfulRun t) (u : Turn) (k : Kept) where
         subst (λ (z : Deed). AllByRecursion (λ (a : Post). is_prepare a.kind ≡ false) z.says) (sym is) (refl, all_each (λ (a : Post). is_prepare a.kind ≡ false) (post_one l.me kinds.Rollback) (children_of l) (λ b. refl))
 
     -- what a node keeps after, of what it kept
-    row_nodes : (n : ℕ) (i : Kept) → node_at f n ≡ Some i → (j : Kept) × (node_at g n ≡ Some j) × (j.stored.durable.kept ≡ i.stored.durable.kept)
+    row_nodes : (n : ℕ) (i : NodeState) → node_at f n ≡ Some i → (j : NodeState) × (node_at g n ≡ Some j) × (j.stored.durable.kept ≡ i.stored.durable.kept)
     row_nodes n i up = elim (cases_nat u.node n) [
       | inl at ↦ (let both : Some k ≡ Some i = sym may.up ∙ subst (λ x. node_at f x ≡ Some i) (sym at) up in let same_node : k ≡ i = cc in
-          (d.after, subst (λ x. node_at g x ≡ Some d.after) at here, rows_of d result ∙ ap (λ (x : Kept). x.stored.durable.kept) same_node))
+          (d.after, subst (λ x. node_at g x ≡ Some d.after) at here, rows_of d result ∙ ap (λ (x : NodeState). x.stored.durable.kept) same_node))
       | inr other ↦ (i, (turn_elsewhere t.places t.commands f even u n other).0 ∙ up, refl)
     ]
 
@@ -219,7 +219,7 @@ module _ (t : History) (s_lawful : IsLawfulRun t) (u : Turn) (k : Kept) where
     lives_on b x = elim (cases_nat u.node b.node) [
       | inr other ↦ inl (record { node = x.node; up = (turn_elsewhere t.places t.commands f even u b.node other).0 ∙ x.up; live = x.live; found = x.found })
       | inl at ↦ (let both : Some k ≡ Some x.node = sym may.up ∙ subst (λ n. node_at f n ≡ Some x.node) (sym at) x.up in let same_node : k ≡ x.node = cc in
-          at_node (subst (λ n. node_at g n ≡ Some d.after) at here) (subst (λ (z : Kept). live_at z b ≡ Some x.live) (sym same_node) x.found) result)
+          at_node (subst (λ n. node_at g n ≡ Some d.after) at here) (subst (λ (z : NodeState). live_at z b ≡ Some x.live) (sym same_node) x.found) result)
     ]
       where
         still : node_at g b.node ≡ Some d.after → live_at k b ≡ Some x.live → (says : List Post) → d ≡ saying k0 says → LivesAt g b
@@ -367,7 +367,7 @@ module _ (t : History) (s_lawful : IsLawfulRun t) (u : Turn) (k : Kept) where
     row_on : (s : Standing) → (RowIs (events_of t) s × KeptIs B s) × RowSo f s → RowSo g s
     row_on s so undecided e toward = sought_on s so.0.1 s.scn (subst (IsKnown (events_of t) s) undecided so.0.0.known).0 e toward (so.1 undecided e toward)
 
-    rows_on : (n : ℕ) (i : Kept) → node_at f n ≡ Some i → AllByRecursion (RowSo f) i.stored.durable.kept → AllByRecursion (RowSo g) i.stored.durable.kept
+    rows_on : (n : ℕ) (i : NodeState) → node_at f n ≡ Some i → AllByRecursion (RowSo f) i.stored.durable.kept → AllByRecursion (RowSo g) i.stored.durable.kept
     rows_on n i up all =
         all_weaker (λ s. (RowIs (events_of t) s × KeptIs B s) × RowSo f s) (RowSo g) row_on i.stored.durable.kept
         (all_both _ _ i.stored.durable.kept (all_both _ _ i.stored.durable.kept (nodes_are_as_events t s_lawful n i up).1 (nodes_name_the_born t s_lawful n i up).1) all)
@@ -379,19 +379,19 @@ module _ (t : History) (s_lawful : IsLawfulRun t) (u : Turn) (k : Kept) where
     lives_left P x (Dropped l at is) all = subst (λ (z : Deed). AllByRecursion P z.after.lives) (sym is) (all_without P live_id k.lives l.me all)
 
     module _ (R : ℕ → Type 0) (now : Obliged R f) where
-      rows_here : (n : ℕ) → R n → (j : Kept) → node_at g n ≡ Some j → AllByRecursion (RowSo g) j.stored.durable.kept
+      rows_here : (n : ℕ) → R n → (j : NodeState) → node_at g n ≡ Some j → AllByRecursion (RowSo g) j.stored.durable.kept
       rows_here n r j up = elim (cases_nat u.node n) [
         | inl at ↦ (let both : Some d.after ≡ Some j = sym here ∙ subst (λ x. node_at g x ≡ Some j) (sym at) up in let its : d.after ≡ j = cc in
             let upf : node_at f n ≡ Some k = subst (λ x. node_at f x ≡ Some k) at may.up in
-            subst (λ (x : Kept). AllByRecursion (RowSo g) x.stored.durable.kept) its (subst (λ (xs : List Standing). AllByRecursion (RowSo g) xs) (sym (rows_of d result)) (rows_on n k upf (now.rows n r k upf))))
+            subst (λ (x : NodeState). AllByRecursion (RowSo g) x.stored.durable.kept) its (subst (λ (xs : List Standing). AllByRecursion (RowSo g) xs) (sym (rows_of d result)) (rows_on n k upf (now.rows n r k upf))))
         | inr other ↦ (let upf : node_at f n ≡ Some j = sym (turn_elsewhere t.places t.commands f even u n other).0 ∙ up in rows_on n j upf (now.rows n r j upf))
       ]
 
-      lives_here : (n : ℕ) → R n → (j : Kept) → node_at g n ≡ Some j → AllByRecursion (LiveSo g) j.lives
+      lives_here : (n : ℕ) → R n → (j : NodeState) → node_at g n ≡ Some j → AllByRecursion (LiveSo g) j.lives
       lives_here n r j up = elim (cases_nat u.node n) [
         | inl at ↦ (let both : Some d.after ≡ Some j = sym here ∙ subst (λ x. node_at g x ≡ Some j) (sym at) up in let its : d.after ≡ j = cc in
             let upf : node_at f n ≡ Some k = subst (λ x. node_at f x ≡ Some k) at may.up in
-            subst (λ (x : Kept). AllByRecursion (LiveSo g) x.lives) its (lives_left (LiveSo g) d result (all_weaker (LiveSo f) (LiveSo g) (λ l so q parent. watched_on l.me q (so q parent)) k.lives (now.lives n r k upf))))
+            subst (λ (x : NodeState). AllByRecursion (LiveSo g) x.lives) its (lives_left (LiveSo g) d result (all_weaker (LiveSo f) (LiveSo g) (λ l so q parent. watched_on l.me q (so q parent)) k.lives (now.lives n r k upf))))
         | inr other ↦ (let upf : node_at f n ≡ Some j = sym (turn_elsewhere t.places t.commands f even u n other).0 ∙ up in
             all_weaker (LiveSo f) (LiveSo g) (λ l so q parent. watched_on l.me q (so q parent)) j.lives (now.lives n r j upf))
       ]

@@ -9,7 +9,7 @@ use Rattle.agreement.specs.Events.{Forest, Event, Exit, Sealed, Decided, Dropped
 use Rattle.agreement.proofs.Invariant.{Inv}
 use Rattle.node_rules.specs.Data.{BranchId, Decision, Standing}
 use Rattle.node_rules.specs.Data.decisions
-use Rattle.node_rules.specs.Kept.{Kept}
+use Rattle.node_rules.specs.NodeState.{NodeState}
 use Rattle.run_rules.specs.Births.{Born, births_of}
 use Rattle.run_base_laws.specs.BirthLaws.{Began, IsChild, KeptIs}
 use Rattle.run_base_laws.specs.EventRows.{RowIs, IsKnown}
@@ -67,7 +67,7 @@ module _ (t : History) (whole : IsLawfulRun t) where
       all_weaker (λ (y : Neighbor). IsOff (Began bs) s born y.branch × IsSealed e y.branch) (λ (y : Neighbor). Beyond p y.branch s.me) (λ y so. off_beyond s born row way y.branch so.0 so.1) (beyond s)
       (all_both (λ (y : Neighbor). IsOff (Began bs) s born y.branch) (λ (y : Neighbor). IsSealed e y.branch) (beyond s) (beyond_off (Began bs) s born) holds.sealed)
 
-  pub rows_beyond : (n : ℕ) (k : Kept) → node_at (facts_at t) n ≡ Some k → AllByRecursion (λ s. AllByRecursion (λ (y : Neighbor). Beyond p y.branch s.me) (beyond s)) k.stored.durable.kept
+  pub rows_beyond : (n : ℕ) (k : NodeState) → node_at (facts_at t) n ≡ Some k → AllByRecursion (λ s. AllByRecursion (λ (y : Neighbor). Beyond p y.branch s.me) (beyond s)) k.stored.durable.kept
   rows_beyond n k up =
       all_weaker (λ s. (KeptIs (Began bs) s × RowIs e s) × (WayIs p s.me s.toward × RowHolds e s)) _ (λ s so. row_beyond s so.0.0 so.0.1 so.1.0 so.1.1) k.stored.durable.kept
       (all_both _ _ k.stored.durable.kept (all_both _ _ k.stored.durable.kept (nodes_name_the_born t whole n k up).1 (nodes_are_as_events t whole n k up).1)

@@ -15,7 +15,7 @@ use Rattle.node_rules.specs.Data.inputs
 use Rattle.node_rules.specs.Data.kinds
 use Rattle.node_rules.specs.Data.phases
 use Rattle.node_rules.specs.Words.{same, item_at, drop_item, numbered}
-use Rattle.node_rules.specs.Kept.{Kept, Branch, Deed, saying, post, post_one, to_each, live_at, live_id, standing_at, standing_id, branch_at, work_at, with_work}
+use Rattle.node_rules.specs.NodeState.{NodeState, Branch, Deed, saying, post, post_one, to_each, live_at, live_id, standing_at, standing_id, branch_at, work_at, with_work}
 use Rattle.node_rules.specs.Prepare.{drops, to_children}
 use Rattle.node_rules.specs.Recovery.{told_by, told_kind, tells, ask_answer, on_ask, on_ask_told, on_ask_kept}
 use Rattle.node_rules.specs.Turn.{stamped, turn_of, deed_of, heard, kind_turn, ask_turn, stand_of, live_or}
@@ -73,7 +73,7 @@ use Rattle.node_rules.specs.Data.records
 use Rattle.node_rules.specs.Data.states
 use Rattle.node_rules.specs.Words.{change_where, drop_where}
 use Rattle.node_rules.specs.Records.{applied}
-use Rattle.node_rules.specs.Kept.{nothing}
+use Rattle.node_rules.specs.NodeState.{nothing}
 use Rattle.node_rules.specs.Commit.{learns, next_turn, on_decision, passes, rollback_to}
 use Rattle.node_rules.specs.Turn.{Is_live, Is_kept, Is_gone, Stand, rollback_turn, rolled_back_turn}
 use Rattle.agreement.specs.Events.{Forest, site_of}
@@ -108,7 +108,7 @@ committed_in : (s : Standing) (n : ℕ) (bs : List Neighbor) (y : Neighbor) → 
 committed_in s n [] y at = absurd at
 committed_in s n (b ∷ bs) y at = in_map (post_one s.me (kinds.Committed n)) y.branch (map (λ (x : Neighbor). x.branch) (b ∷ bs)) (in_map (λ (x : Neighbor). x.branch) y (b ∷ bs) at)
 
-module _ (t : History) (s_lawful : IsLawfulRun t) (u : Turn) (k : Kept) where
+module _ (t : History) (s_lawful : IsLawfulRun t) (u : Turn) (k : NodeState) where
   abbrev pub f : Facts
   f = f_at t t.trace
 
@@ -120,7 +120,7 @@ module _ (t : History) (s_lawful : IsLawfulRun t) (u : Turn) (k : Kept) where
     abbrev p : Place
     p = place_at t.places u.node
 
-    abbrev k0 : Kept
+    abbrev k0 : NodeState
     k0 = heard k (inputs.Message m)
 
     abbrev d : Deed
@@ -275,7 +275,7 @@ module _ (t : History) (s_lawful : IsLawfulRun t) (u : Turn) (k : Kept) where
     names_after b z r = elim (cases_nat u.node b.node) [
       | inr other ↦ Still_names (record { node = r.node; up = (turn_elsewhere t.places t.commands f even u b.node other).0 ∙ r.up; row = r.row; found = r.found; names = r.names }) refl
       | inl at ↦ (let both : Some k ≡ Some r.node = sym may.up ∙ subst (λ n. node_at f n ≡ Some r.node) (sym at) r.up in let same_node : k ≡ r.node = cc in
-          at_node (subst (λ n. node_at g n ≡ Some d.after) at here) (subst (λ (x : Kept). standing_at x b ≡ Some r.row) (sym same_node) r.found) result)
+          at_node (subst (λ n. node_at g n ≡ Some d.after) at here) (subst (λ (x : NodeState). standing_at x b ≡ Some r.row) (sym same_node) r.found) result)
     ]
       where
         at_node : node_at g b.node ≡ Some d.after → standing_at k b ≡ Some r.row → Result d → NamesAfter b z r
@@ -302,7 +302,7 @@ module _ (t : History) (s_lawful : IsLawfulRun t) (u : Turn) (k : Kept) where
       | inr other ↦ record { node = x.node; up = (turn_elsewhere t.places t.commands f even u b.node other).0 ∙ x.up; live = x.live; found = x.found }
       | inl at ↦ (let both : Some k ≡ Some x.node = sym may.up ∙ subst (λ n. node_at f n ≡ Some x.node) (sym at) x.up in let same_node : k ≡ x.node = cc in
           record { node = d.after; up = subst (λ n. node_at g n ≡ Some d.after) at here; live = x.live;
-            found = ap (λ (ls : List Live). item_at live_id ls b) (lives_same d result) ∙ subst (λ (z : Kept). live_at z b ≡ Some x.live) (sym same_node) x.found })
+            found = ap (λ (ls : List Live). item_at live_id ls b) (lives_same d result) ∙ subst (λ (z : NodeState). live_at z b ≡ Some x.live) (sym same_node) x.found })
     ]
 
     -- ---- messages
@@ -395,7 +395,7 @@ module _ (t : History) (s_lawful : IsLawfulRun t) (u : Turn) (k : Kept) where
     row_on s so not_told undecided e toward =
         sought_on s so.0 e toward (λ at from. not_told e undecided toward at from) (so.1 undecided e toward)
 
-    rows_now : (n : ℕ) (i : Kept) → node_at f n ≡ Some i → AllByRecursion (RowSo f) i.stored.durable.kept → AllByRecursion RowHere i.stored.durable.kept
+    rows_now : (n : ℕ) (i : NodeState) → node_at f n ≡ Some i → AllByRecursion (RowSo f) i.stored.durable.kept → AllByRecursion RowHere i.stored.durable.kept
     rows_now n i up all = all_both _ _ i.stored.durable.kept (rows_way t s_lawful t.trace part n i up) all
 
     -- a branch of another node is not told
@@ -403,10 +403,10 @@ module _ (t : History) (s_lawful : IsLawfulRun t) (u : Turn) (k : Kept) where
     elsewhere n other b node at = other (sym at_to ∙ (ap (λ (x : BranchId). x.node) at ∙ node))
 
     module _ (R : ℕ → Type 0) (now : Obliged R f) where
-      rows_here : (n : ℕ) → R n → (j : Kept) → node_at g n ≡ Some j → AllByRecursion (RowSo g) j.stored.durable.kept
+      rows_here : (n : ℕ) → R n → (j : NodeState) → node_at g n ≡ Some j → AllByRecursion (RowSo g) j.stored.durable.kept
       rows_here n r j up = elim (cases_nat u.node n) [
         | inl at ↦ (let both : Some d.after ≡ Some j = sym here ∙ subst (λ x. node_at g x ≡ Some j) (sym at) up in let its : d.after ≡ j = cc in
-            subst (λ (x : Kept). AllByRecursion (RowSo g) x.stored.durable.kept) its
+            subst (λ (x : NodeState). AllByRecursion (RowSo g) x.stored.durable.kept) its
             (rows_after_all RowHere (RowSo g) row_on (λ x undecided is. absurd (undecided is)) d result
             (all_both _ _ ks (rows_found t s_lawful u.node k may.up) (rows_now u.node k may.up (now.rows u.node (subst R (sym at) r) k may.up)))))
         | inr other ↦ (let upf : node_at f n ≡ Some j = sym (turn_elsewhere t.places t.commands f even u n other).0 ∙ up in
@@ -414,10 +414,10 @@ module _ (t : History) (s_lawful : IsLawfulRun t) (u : Turn) (k : Kept) where
             (all_both _ _ j.stored.durable.kept (rows_now n j upf (now.rows n r j upf)) (ids_name_their_node t s_lawful n j upf).rows))
       ]
 
-      lives_here : (n : ℕ) → R n → (j : Kept) → node_at g n ≡ Some j → AllByRecursion (LiveSo g) j.lives
+      lives_here : (n : ℕ) → R n → (j : NodeState) → node_at g n ≡ Some j → AllByRecursion (LiveSo g) j.lives
       lives_here n r j up = elim (cases_nat u.node n) [
         | inl at ↦ (let both : Some d.after ≡ Some j = sym here ∙ subst (λ x. node_at g x ≡ Some j) (sym at) up in let its : d.after ≡ j = cc in
-            subst (λ (x : Kept). AllByRecursion (LiveSo g) x.lives) its (subst (λ (ls : List Live). AllByRecursion (LiveSo g) ls) (sym (lives_same d result))
+            subst (λ (x : NodeState). AllByRecursion (LiveSo g) x.lives) its (subst (λ (ls : List Live). AllByRecursion (LiveSo g) ls) (sym (lives_same d result))
             (all_weaker (LiveSo f) (LiveSo g) (λ l so q parent. watched_on l.me q (so q parent)) k.lives (now.lives u.node (subst R (sym at) r) k may.up))))
         | inr other ↦ (let upf : node_at f n ≡ Some j = sym (turn_elsewhere t.places t.commands f even u n other).0 ∙ up in
             all_weaker (LiveSo f) (LiveSo g) (λ l so q parent. watched_on l.me q (so q parent)) j.lives (now.lives n r j upf))

@@ -9,7 +9,7 @@ use Rattle.agreement.proofs.Invariant.{Inv, allowed_at}
 use Rattle.node_rules.specs.Data.{BranchId, Decision, Kind, Live, Phase, Standing}
 use Rattle.node_rules.specs.Data.decisions
 use Rattle.node_rules.specs.Data.phases
-use Rattle.node_rules.specs.Kept.{Kept, Branch, branch_at, live_at, live_id, standing_at, standing_id, with_work, work_at}
+use Rattle.node_rules.specs.NodeState.{NodeState, Branch, branch_at, live_at, live_id, standing_at, standing_id, with_work, work_at}
 use Rattle.run_rules.specs.Births.{Born, born_at, births_of}
 use Rattle.run_base_laws.specs.BirthLaws.{Began, KeptIs, LiveIs, StandsBelow}
 use Rattle.run_rules.specs.Data.fates
@@ -81,7 +81,7 @@ module _ (t : History) (whole : IsLawfulRun t) (now : Obliged (λ n. Unit {0}) (
 
   -- ---- a live branch
 
-  module _ (n : ℕ) (k : Kept) (up : node_at f n ≡ Some k) (l : Live) (found : live_at k l.me ≡ Some l) where
+  module _ (n : ℕ) (k : NodeState) (up : node_at f n ≡ Some k) (l : Live) (found : live_at k l.me ≡ Some l) where
     unleft : exit e l.me ≡ None
     unleft = all_found (λ (x : Live). exit e x.me ≡ None) live_id k.lives l.me l (nodes_are_as_events t whole n k up).0 found
 
@@ -107,7 +107,7 @@ module _ (t : History) (whole : IsLawfulRun t) (now : Obliged (λ n. Unit {0}) (
         by (Some q) parent = (q, parent, rules.1 not_working q parent)
 
   -- a row that names a live branch as toward does not know its decision
-  undecided_row : (n : ℕ) (k : Kept) (up : node_at f n ≡ Some k) (s : Standing) → standing_at k s.me ≡ Some s → (z : BranchId) → s.toward ≡ Some z → exit e z ≡ None → s.decision ≡ None
+  undecided_row : (n : ℕ) (k : NodeState) (up : node_at f n ≡ Some k) (s : Standing) → standing_at k s.me ≡ Some s → (z : BranchId) → s.toward ≡ Some z → exit e z ≡ None → s.decision ≡ None
   undecided_row n k up s row z toward live = by s.decision refl (all_found (RowIs e) standing_id k.stored.durable.kept s.me s (nodes_are_as_events t whole n k up).1 row).known
     where
       way : WayIs p s.me s.toward
@@ -132,7 +132,7 @@ module _ (t : History) (whole : IsLawfulRun t) (now : Obliged (λ n. Unit {0}) (
           let left : exit e z ≡ Some teller.0 = subst (λ b. exit e b ≡ Some teller.0) its.0 teller.1 in absurd (cc (live, left))
 
   -- no live branch was asked, where none was that is less deep
-  one_unasked : (n : ℕ) (k : Kept) → node_at f n ≡ Some k → (l : Live) → live_at k l.me ≡ Some l → (q : BranchId) → l.parent ≡ Some q → was_asked (said_in f) q l.me ≡ true
+  one_unasked : (n : ℕ) (k : NodeState) → node_at f n ≡ Some k → (l : Live) → live_at k l.me ≡ Some l → (q : BranchId) → l.parent ≡ Some q → was_asked (said_in f) q l.me ≡ true
       → ((v : LivesAt f q) → v.live.depth + 1 ≡ l.depth → live_at v.node v.live.me ≡ Some v.live → (c : BranchId) → v.live.parent ≡ Some c → was_asked (said_in f) c v.live.me ≡ true → ⊥) → ⊥
   one_unasked n k up l found q parent asked again = by (all_found (λ (x : Live). (c : BranchId) → x.parent ≡ Some c → Watched f x.me c) live_id k.lives l.me l (now.lives n tt k up) found q parent)
     where
@@ -191,7 +191,7 @@ module _ (t : History) (whole : IsLawfulRun t) (now : Obliged (λ n. Unit {0}) (
           let above = asker q.node v.node v.up v.live its l.me (subst (λ b. was_asked (said_in f) b l.me ≡ true) (sym me) asked) in
           again v (shallow v) its above.0 above.1 above.2
 
-  unasked : (fuel : ℕ) (n : ℕ) (k : Kept) → node_at f n ≡ Some k → (l : Live) → live_at k l.me ≡ Some l → l.depth ≤ fuel → (q : BranchId) → l.parent ≡ Some q → was_asked (said_in f) q l.me ≡ true → ⊥
+  unasked : (fuel : ℕ) (n : ℕ) (k : NodeState) → node_at f n ≡ Some k → (l : Live) → live_at k l.me ≡ Some l → l.depth ≤ fuel → (q : BranchId) → l.parent ≡ Some q → was_asked (said_in f) q l.me ≡ true → ⊥
   unasked zero n k up l found low q parent asked = one_unasked n k up l found q parent asked (λ v at its c above told. absurd (omega (arith, at, low)))
   unasked (suc w) n k up l found low q parent asked = one_unasked n k up l found q parent asked (λ v at its c above told. unasked w q.node v.node v.up v.live its (omega (arith, at, low)) c above told)
 
@@ -204,7 +204,7 @@ module _ (t : History) (whole : IsLawfulRun t) (now : Obliged (λ n. Unit {0}) (
       heard.3 q (ap (λ (x : Born). x.parent) at ∙ (its.is_parent ∙ parent))
 
   -- no row is undecided, where none is that is nearer to the site
-  one_decided : (n : ℕ) (k : Kept) → node_at f n ≡ Some k → (s : Standing) → standing_at k s.me ≡ Some s → s.decision ≡ None
+  one_decided : (n : ℕ) (k : NodeState) → node_at f n ≡ Some k → (s : Standing) → standing_at k s.me ≡ Some s → s.decision ≡ None
       → ((c : BranchId) (r : RowNames f c s.me) → r.row.decision ≡ None → p.far c < p.far s.me → ⊥) → ⊥
   one_decided n k up s row undecided again = by s.toward refl way
     where
@@ -238,7 +238,7 @@ module _ (t : History) (whole : IsLawfulRun t) (now : Obliged (λ n. Unit {0}) (
           sought c (subst (λ b. p.far b < p.far s.me) it ((runs_have_forests t whole).nearer s.me on.1 on.2))
           (all_found (λ (y : Standing). y.decision ≡ None → (b : BranchId) → y.toward ≡ Some b → Sought f y b) standing_id k.stored.durable.kept s.me s (now.rows n tt k up) row undecided c toward)
 
-  decided : (fuel : ℕ) (n : ℕ) (k : Kept) → node_at f n ≡ Some k → (s : Standing) → standing_at k s.me ≡ Some s → s.decision ≡ None → p.far s.me ≤ fuel → ⊥
+  decided : (fuel : ℕ) (n : ℕ) (k : NodeState) → node_at f n ≡ Some k → (s : Standing) → standing_at k s.me ≡ Some s → s.decision ≡ None → p.far s.me ≤ fuel → ⊥
   decided zero n k up s row undecided low = one_decided n k up s row undecided (λ c r none_known near. absurd (omega (arith, near, low)))
   decided (suc w) n k up s row undecided low = one_decided n k up s row undecided (λ c r none_known near.
       (let me : r.row.me ≡ c = item_is standing_id r.node.stored.durable.kept c r.row r.found in

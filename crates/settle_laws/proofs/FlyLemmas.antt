@@ -8,7 +8,7 @@ use Rattle.tran_ids.proofs.NumberedLemmas.{set_or_before}
 use Rattle.net_bag.specs.Net.{Net, sent_one, sent_on, is_lost_at_once, lost_at_once, first_fate, fated, with_fate, flies, packet, packet_at, delivered}
 use Rattle.node_rules.specs.Data.{BranchId, Input, Kind, Msg, Place, Post}
 use Rattle.node_rules.specs.Data.inputs
-use Rattle.node_rules.specs.Kept.{Kept}
+use Rattle.node_rules.specs.NodeState.{NodeState}
 use Rattle.node_rules.specs.Turn.{stamped}
 use Rattle.node_rules.specs.Words.{numbered, set_numbered}
 use Rattle.run_rules.specs.Data.{Packet, Took, Turn, Command}
@@ -128,7 +128,7 @@ module _ (places : List Place) (asked : List Command) (f : Facts) (u : Turn) (no
   flies_untaken untaken test from to fly = flies_other test from to fly (λ y is. absurd (cc (untaken, is)))
 
   -- else it flies on or is what was taken
-  pub flies_or_taken : (k : Kept) (m : Msg) (y : Took) → u.took ≡ Some y → Comes f k u.node (inputs.Message m) (Some y) → (test : Kind → Bool) (from to : BranchId) → Flies test f from to
+  pub flies_or_taken : (k : NodeState) (m : Msg) (y : Took) → u.took ≡ Some y → Comes f k u.node (inputs.Message m) (Some y) → (test : Kind → Bool) (from to : BranchId) → Flies test f from to
       → Flies test g from to ⊎ ((m.from ≡ from) × (m.to ≡ to) × (test m.kind ≡ true))
   flies_or_taken k m y took comes test from to fly = by (nat_cases y.number fly.0)
     where

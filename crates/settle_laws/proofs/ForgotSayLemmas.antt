@@ -16,7 +16,7 @@ use Rattle.commit_forget.specs.declared.next.Beyond.{Beyond}
 use Rattle.commit_forget.specs.declared.next.Next.TheVariants as nexts
 use Rattle.commit_forget.specs.Next.{ack_counts, acked_by, next_on_ack}
 use Rattle.node_rules.specs.Words.{put_by_branch}
-use Rattle.node_rules.specs.Kept.{Kept, Branch, Deed, post_one, to_each, to_one, standing_id, standing_at, branch_at, with_standing, nothing, post}
+use Rattle.node_rules.specs.NodeState.{NodeState, Branch, Deed, post_one, to_each, to_one, standing_id, standing_at, branch_at, with_standing, nothing, post}
 use Rattle.session_tree.specs.Tree.{step as step_from}
 use Rattle.node_rules.specs.Calls.{answer_says, exec_to, with_edge, hears_reply}
 use Rattle.node_rules.specs.Statement.{ran, after_run}
@@ -102,7 +102,7 @@ module _ (Q : BranchId → BranchId → Type 0) where
   flat_told [] all = tt
   flat_told (a ∷ asked) all = all_append May a.says _ all.0 (flat_told asked all.1)
 
-  askings_told : (k : Kept) → AllSo (flat_map (λ a. a.says) (askings k))
+  askings_told : (k : NodeState) → AllSo (flat_map (λ a. a.says) (askings k))
   askings_told k =
       flat_told (askings k) (sorted_told (map asks_live k.lives ++ map asks_kept k.stored.durable.kept) [] tt
       (all_append AsksSo (map asks_live k.lives) (map asks_kept k.stored.durable.kept) (all_each AsksSo asks_live k.lives (λ l. one_told l.me kinds.Ask l.parent (λ b. tt)))
@@ -118,13 +118,13 @@ module _ (p : Place) (input : Input) (no : (from to : BranchId) → Came input f
   abbrev pub StepSo : Deed → Type 0
   StepSo d = AllSo (Forgets d.wrote) d.says
 
-  says_so : (k : Kept) {says : List Post} → Says k input says → AllSo (Forgets None) says
+  says_so : (k : NodeState) {says : List Post} → Says k input says → AllSo (Forgets None) says
   says_so k (steps.Tells s from came kept) = (told_told (Forgets None) s.me from _, tt)
   says_so k (steps.Recovers reco) = askings_told (Forgets None) k
   says_so k (steps.Gone_forgets to from came gone) = absurd (no from to came)
   says_so k _ = (tt, tt)
 
-  pub step_so : {k : Kept} {d : Deed} → Step p input k d → StepSo d
+  pub step_so : {k : NodeState} {d : Deed} → Step p input k d → StepSo d
   step_so (steps.Begins m s call rows fit none step) = step_so step
   step_so (steps.Pends m l given call has live code step) = step_so step
   step_so (steps.Lets_reads_go l comment site_below live begins step) = step_so step
@@ -163,7 +163,7 @@ module _ (p : Place) (input : Input) (no : (from to : BranchId) → Came input f
 
 -- ---- a turn in which an Ack comes
 
-module _ (t : List Event) (k : Kept) (from to : BranchId) (rows : RowsAre t k.stored.durable.kept) where
+module _ (t : List Event) (k : NodeState) (from to : BranchId) (rows : RowsAre t k.stored.durable.kept) where
   -- the record is Forgot of who says it, or it had forgotten, or it is gone
   abbrev pub AckedSo : Option RedoRecord → BranchId → BranchId → Type 0
   AckedSo w a b = (w ≡ Some (records.Forgot a)) ⊎ (Has (Forget a) t ⊎ ((stand_of k to ≡ Is_gone) × (a ≡ to) × (b ≡ from)))

@@ -10,7 +10,7 @@ use Rattle.node_rules.specs.Data.inputs
 use Rattle.node_rules.specs.Data.kinds
 use Rattle.node_rules.specs.Data.records
 use Rattle.node_rules.specs.Inputs.{Came}
-use Rattle.node_rules.specs.Kept.{Kept, Deed}
+use Rattle.node_rules.specs.NodeState.{NodeState, Deed}
 use Rattle.node_rules.specs.Turn.{Is_gone, stand_of, stamped, turn_of, heard, deed_of, kind_turn, ack_turn}
 use Rattle.run_rules.specs.Data.{Happening, Turn, Took}
 use Rattle.run_rules.specs.Data.happenings
@@ -45,7 +45,7 @@ ack_is : (kind : Kind) → is_ack kind ≡ true → kind ≡ kinds.Ack
 ack_is kinds.Ack is = refl
 ack_is _ is = absurd cc
 
-heard_stand : (k : Kept) (i : Input) (b : BranchId) → stand_of (heard k i) b ≡ stand_of k b
+heard_stand : (k : NodeState) (i : Input) (b : BranchId) → stand_of (heard k i) b ≡ stand_of k b
 unfolding stand_of
 heard_stand k (inputs.Message m) b = refl
 heard_stand k (inputs.Call n s) b = refl
@@ -147,7 +147,7 @@ module _ (t : History) (whole : IsLawfulRun t) where
     ]
 
     -- a branch that is gone, and that one acknowledged to which it told the commit
-    gone_forgot : (k : Kept) (a b : BranchId) → node_at f a.node ≡ Some k → stand_of k a ≡ Is_gone → Has (Send_ack b a) e → Has_or_quiet e a b
+    gone_forgot : (k : NodeState) (a b : BranchId) → node_at f a.node ≡ Some k → stand_of k a ≡ Is_gone → Has (Send_ack b a) e → Has_or_quiet e a b
     gone_forgot k a b up gone acked edge = elim (i.acks b a acked edge) [
       | inr quiet ↦ inl quiet
       | inl learns ↦ elim (subst (λ c. Knows e c learns.0.0) edge.next (learn_knows p e (part_allowed t whole hs part) b learns.0.0 learns.0.1)) [
@@ -164,7 +164,7 @@ module _ (t : History) (whole : IsLawfulRun t) where
         by_row (inr (inl (inr forgot))) decided = inr forgot
         by_row (inr (inr alone)) decided = inl (alone b edge)
 
-    module _ (u : Turn) (k : Kept) (may : MayTurn t.places f u k) where
+    module _ (u : Turn) (k : NodeState) (may : MayTurn t.places f u k) where
       abbrev place : Place
       place = place_at t.places u.node
 
@@ -197,7 +197,7 @@ module _ (t : History) (whole : IsLawfulRun t) where
             (λ x so. so_weaker (Forgets place u.input never d.wrote) Q (recorded wrote) x.from x.to x.kind so) d.says (step_so place u.input never (serves t.places f u k may).step)
 
         module _ (m : Msg) (it : u.input ≡ inputs.Message m) (kind : m.kind ≡ kinds.Ack) where
-          abbrev k0 : Kept
+          abbrev k0 : NodeState
           k0 = heard k (inputs.Message m)
 
           rows : RowsAre e k0.stored.durable.kept

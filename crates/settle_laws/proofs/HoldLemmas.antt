@@ -8,7 +8,7 @@ use Rattle.session_tree.specs.Live.{is_branch}
 use Rattle.agreement.specs.Events.{Event}
 use Rattle.node_rules.specs.Data.{BranchId, Kid, Post, Standing}
 use Rattle.node_rules.specs.Data.kinds
-use Rattle.node_rules.specs.Kept.{to_one}
+use Rattle.node_rules.specs.NodeState.{to_one}
 use Rattle.run_base_laws.specs.NodeLaws.{unacked_kid, unacked_row}
 use Rattle.run_rules.proofs.ListLemmas.{all_weaker, all_map, all_each, map_after, filter_same}
 use Rattle.tree_laws.proofs.AskLemmas.{sent_new}

@@ -10,7 +10,7 @@ use Rattle.node_rules.specs.Data.inputs
 use Rattle.node_rules.specs.Data.kinds
 use Rattle.node_rules.specs.Data.records
 use Rattle.node_rules.specs.Inputs.{Came}
-use Rattle.node_rules.specs.Kept.{Kept, Stored, Deed}
+use Rattle.node_rules.specs.NodeState.{NodeState, Stored, Deed}
 use Rattle.node_rules.specs.Records.{applied, nothing_stored, stored_by}
 use Rattle.node_rules.specs.Turn.{turn_of, start_of, heard, deed_of, kind_turn, ack_turn, stand_of}
 use Rattle.run_rules.specs.Data.{Happening, Turn}
@@ -49,7 +49,7 @@ ack_is : (kind : Kind) → is_ack kind ≡ true → kind ≡ kinds.Ack
 ack_is kinds.Ack is = refl
 ack_is _ is = absurd cc
 
-heard_stored : (k : Kept) (input : Input) → (heard k input).stored ≡ k.stored
+heard_stored : (k : NodeState) (input : Input) → (heard k input).stored ≡ k.stored
 heard_stored k (inputs.Message m) = refl
 heard_stored k (inputs.Call n s) = refl
 heard_stored k (inputs.GiveUp n) = refl
@@ -57,7 +57,7 @@ heard_stored k inputs.Reco = refl
 
 module _ (t : History) (whole : IsLawfulRun t) where
   abbrev pub NodesHold : Facts → List Event → Type 0
-  NodesHold f e = (n : ℕ) (k : Kept) → node_at f n ≡ Some k → AllByRecursion (Holds e) k.stored.durable.kept
+  NodesHold f e = (n : ℕ) (k : NodeState) → node_at f n ≡ Some k → AllByRecursion (Holds e) k.stored.durable.kept
 
   -- the rows that the records of a node make, whether it is up or not
   abbrev pub DisksHold : Facts → List Event → Type 0
@@ -88,7 +88,7 @@ module _ (t : History) (whole : IsLawfulRun t) where
     known : (b : BranchId) → Has (Forget b) e → exit e b ≢ None
     known b has = forgot_left _ e (part_inv s lawful hs (record { rest = []; is = append-nil hs })) b has
 
-    rows_here : (n : ℕ) (k : Kept) → node_at f n ≡ Some k → AllByRecursion (λ x. Holds e x × (x.me.node ≡ n)) k.stored.durable.kept
+    rows_here : (n : ℕ) (k : NodeState) → node_at f n ≡ Some k → AllByRecursion (λ x. Holds e x × (x.me.node ≡ n)) k.stored.durable.kept
     rows_here n k up = all_both _ _ k.stored.durable.kept (now.0 n k up) (ids_name_their_node s lawful n k up).rows
 
     disk_here : (n : ℕ) → AllByRecursion (λ x. Holds e x × (x.me.node ≡ n)) (stored_rows f n)
@@ -108,7 +108,7 @@ module _ (t : History) (whole : IsLawfulRun t) where
 
     -- ---- a turn
 
-    module _ (u : Turn) (k : Kept) (may : MayTurn t.places f u k) (turn : h ≡ happenings.Turn u) where
+    module _ (u : Turn) (k : NodeState) (may : MayTurn t.places f u k) (turn : h ≡ happenings.Turn u) where
       abbrev p : Place
       p = place_at t.places u.node
 
@@ -153,7 +153,7 @@ module _ (t : History) (whole : IsLawfulRun t) where
 
         by_ack : (m : Msg) → u.input ≡ inputs.Message m → m.kind ≡ kinds.Ack → Left d
         by_ack m it kind =
-            let k0 : Kept = heard k (inputs.Message m) in
+            let k0 : NodeState = heard k (inputs.Message m) in
             let left : Left (ack_turn k0 m.from m.to (stand_of k0 m.to)) = ack_rows told e 0 u.node known k0 m.from m.to (rows0 (inputs.Message m)) in
             let same_turn : Left (kind_turn p k0 m.from m.to m.kind (stand_of k0 m.to)) = subst (λ x. Left (kind_turn p k0 m.from m.to x (stand_of k0 m.to))) (sym kind) left in
             subst (λ i. Left (deed_of p k i)) (sym it) same_turn
@@ -209,14 +209,14 @@ module _ (t : History) (whole : IsLawfulRun t) where
       disk_at false owed = disk_wrote owed.0
       disk_at true owed = elim owed.0 [ inl none ↦ disk_none none | inr wrote ↦ disk_wrote wrote ]
 
-      at_node : (cut : Bool) → u.cut ≡ cut → IsOwed p k u.input u.wrote u.sent cut → (j : Kept) → node_at g u.node ≡ Some j → AllByRecursion (Holds (events_h (happenings.Turn u))) j.stored.durable.kept
+      at_node : (cut : Bool) → u.cut ≡ cut → IsOwed p k u.input u.wrote u.sent cut → (j : NodeState) → node_at g u.node ≡ Some j → AllByRecursion (Holds (events_h (happenings.Turn u))) j.stored.durable.kept
       unfolding turn_of
       at_node true cut owed j up = (let down : node_at g u.node ≡ None = here.0 ∙ ap (λ c. kept_after c (Some (turn_of p k u.input))) cut in absurd (cc (down, up)))
       at_node false cut owed j up =
           let there : node_at g u.node ≡ Some d.after = here.0 ∙ ap (λ c. kept_after c (Some (turn_of p k u.input))) cut in
           let both : Some d.after ≡ Some j = sym there ∙ up in
           let it : d.after ≡ j = cc in
-          subst (λ (x : Kept). AllByRecursion (Holds (events_h (happenings.Turn u))) x.stored.durable.kept) it (rows_later d.after.stored.durable.kept (left owed.0))
+          subst (λ (x : NodeState). AllByRecursion (Holds (events_h (happenings.Turn u))) x.stored.durable.kept) it (rows_later d.after.stored.durable.kept (left owed.0))
 
       own_record : IfSome u.wrote (IsRecordOf (λ b. b.node ≡ u.node))
       own_record = record_own t.places t.commands t.of_a_script.each f e u k (run_stands s lawful).1 (run_stands s lawful).0.even (node_so t.places t.commands t.of_a_script.each f e (run_stands s lawful))
@@ -286,7 +286,7 @@ module _ (t : History) (whole : IsLawfulRun t) where
           | inl at ↦ (let there : node_at (after_h (happenings.Started m boot)) n ≡ Some (start_of zs) = subst (λ i. node_at (after_h (happenings.Started m boot)) i ≡ Some (start_of zs)) at begun.0 in
               let both : Some (start_of zs) ≡ Some j = sym there ∙ up in
               let it : start_of zs ≡ j = cc in
-              subst (λ (x : Kept). AllByRecursion (Holds e) x.stored.durable.kept) it started)
+              subst (λ (x : NodeState). AllByRecursion (Holds e) x.stored.durable.kept) it started)
           | inr other ↦ rows_stay (happenings.Started m boot) n j.stored.durable.kept (rows_here n j (sym (start_elsewhere t.places t.commands f even m boot n other).0 ∙ up)) (λ b node has. has)
         ],
         λ n. elim (cases_nat m n) [
@@ -296,7 +296,7 @@ module _ (t : History) (whole : IsLawfulRun t) where
         ],
       )
 
-    same_nodes : (y : Happening) → ((n : ℕ) (k : Kept) → node_at (after_h y) n ≡ Some k → node_at f n ≡ Some k) → ((n : ℕ) → records_at (after_h y) n ≡ records_at f n) → events_h y ≡ e → BothHold (after_h y) (events_h y)
+    same_nodes : (y : Happening) → ((n : ℕ) (k : NodeState) → node_at (after_h y) n ≡ Some k → node_at f n ≡ Some k) → ((n : ℕ) → records_at (after_h y) n ≡ records_at f n) → events_h y ≡ e → BothHold (after_h y) (events_h y)
     same_nodes y nodes disks events =
         let back : (b : BranchId) → Has (Forget b) (events_h y) → Has (Forget b) e = λ b has. subst (Has (Forget b)) events has in
         (λ n j up. rows_stay y n j.stored.durable.kept (rows_here n j (nodes n j up)) (λ b node has. back b has), λ n. disk_stays y n (disks n) (λ b node has. back b has))
@@ -318,12 +318,12 @@ module _ (t : History) (whole : IsLawfulRun t) where
   unfolding start_of stored_by applied durable_after
   made_so = tt
 
-  first_so : (n : ℕ) → IfSome (node_at (first_facts t.places) n) (λ (x : Kept). AllByRecursion (Holds []) x.stored.durable.kept)
-  first_so n = first_node (λ o. IfSome o (λ (x : Kept). AllByRecursion (Holds []) x.stored.durable.kept)) tt made_so t.places n
+  first_so : (n : ℕ) → IfSome (node_at (first_facts t.places) n) (λ (x : NodeState). AllByRecursion (Holds []) x.stored.durable.kept)
+  first_so n = first_node (λ o. IfSome o (λ (x : NodeState). AllByRecursion (Holds []) x.stored.durable.kept)) tt made_so t.places n
 
   first_holds : BothHold (f_at t []) (e_at t [])
   unfolding facts_of events_from
-  first_holds = (λ n k up. subst (λ o. IfSome o (λ (x : Kept). AllByRecursion (Holds []) x.stored.durable.kept)) up (first_so n), λ n. all_weaker (RowIs []) (Holds []) (λ x so. absurd (so.left refl)) (stored_rows (first_facts t.places) n) ((stand_first t.places t.commands t.of_a_script.each).1.rows n))
+  first_holds = (λ n k up. subst (λ o. IfSome o (λ (x : NodeState). AllByRecursion (Holds []) x.stored.durable.kept)) up (first_so n), λ n. all_weaker (RowIs []) (Holds []) (λ x so. absurd (so.left refl)) (stored_rows (first_facts t.places) n) ((stand_first t.places t.commands t.of_a_script.each).1.rows n))
 
   pub run_holds : BothHold (facts_at t) (events_of t)
   run_holds = keep_on t whole (λ hs. BothHold (f_at t hs) (e_at t hs)) holds_on [] t.trace (record { rest = []; is = append-nil t.trace }) first_holds

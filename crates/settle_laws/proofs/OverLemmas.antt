@@ -9,7 +9,7 @@ use Rattle.node_rules.specs.Data.{BranchId, Kind, Msg, RedoRecord, Standing, Pla
 use Rattle.node_rules.specs.Data.decisions
 use Rattle.node_rules.specs.Data.kinds
 use Rattle.node_rules.specs.Data.records
-use Rattle.node_rules.specs.Kept.{Kept, standing_id}
+use Rattle.node_rules.specs.NodeState.{NodeState, standing_id}
 use Rattle.run_rules.specs.Data.{Happening, Turn, Packet}
 use Rattle.run_rules.specs.Data.happenings
 use Rattle.run_base_laws.specs.EventLaws.{EachEventFrom}
@@ -123,7 +123,7 @@ module _ (t : History) (whole : IsLawfulRun t) where
     old : (y : Happening) (z q : BranchId) → Has (Send_rollback z q) e → HasLeft (events_h y) z
     old y z q has = (let left = now z q has in (left.0, exit_on t.places t.commands f y e z left.0 left.1))
 
-    module _ (u : Turn) (k : Kept) (up : node_at f u.node ≡ Some k) (turn : h ≡ happenings.Turn u) where
+    module _ (u : Turn) (k : NodeState) (up : node_at f u.node ≡ Some k) (turn : h ≡ happenings.Turn u) where
       abbrev g : Facts
       g = facts_after t.places t.commands f (happenings.Turn u)
 

@@ -6,7 +6,7 @@ use Rattle.net_bag.specs.Net.{lost_at_once}
 use Rattle.node_rules.specs.Data.{BranchId, Decision, Input, Kind, Live, Msg, Place, Post, Standing}
 use Rattle.node_rules.specs.Data.inputs
 use Rattle.node_rules.specs.Data.kinds
-use Rattle.node_rules.specs.Kept.{Kept, post_one, to_one}
+use Rattle.node_rules.specs.NodeState.{NodeState, post_one, to_one}
 use Rattle.node_rules.specs.Recovery.{Asking, asking_id, asks_live, asks_kept, recovers, askings, recovery}
 use Rattle.node_rules.specs.Turn.{stamped, turn_of, deed_of}
 use Rattle.node_rules.specs.Words.{same}
@@ -52,7 +52,7 @@ unasked_on said says q z all unasked = by (was_asked (said ++ says) q z) refl
 pub no_prepares : OfDecisions (λ kind. is_prepare kind ≡ false)
 no_prepares = record { committed = λ n. refl; rolled_back = refl; rollback = refl; in_doubt = refl; ack = refl; forgotten = refl; ask = refl }
 
-module _ (places : List Place) (asked : List Command) (f : Facts) (even : length f.nodes ≡ length f.records) (u : Turn) (k : Kept) (may : MayTurn places f u k)
+module _ (places : List Place) (asked : List Command) (f : Facts) (even : length f.nodes ≡ length f.records) (u : Turn) (k : NodeState) (may : MayTurn places f u k)
     (uncut : u.cut ≡ false) (none : lost_at_once (taken f.net u.took) u.sent ≡ []) (reco : u.input ≡ inputs.Reco) where
   abbrev pub g : Facts
   g = facts_after places asked f (happenings.Turn u)
@@ -153,17 +153,17 @@ module _ (places : List Place) (asked : List Command) (f : Facts) (even : length
     reco_obliged = record {
       rows = λ n r j up. elim r [
         | inl old ↦ all_weaker _ _ (λ y so undecided e toward. sought_same y e (so undecided e toward)) j.stored.durable.kept (now.rows n old j (sym (nodes_same n) ∙ up))
-        | inr at ↦ subst (λ (x : Kept). AllByRecursion (λ y. y.decision ≡ None → (e : BranchId) → y.toward ≡ Some e → Sought g y e) x.stored.durable.kept) (its n at j up)
+        | inr at ↦ subst (λ (x : NodeState). AllByRecursion (λ y. y.decision ≡ None → (e : BranchId) → y.toward ≡ Some e → Sought g y e) x.stored.durable.kept) (its n at j up)
             (all_in (λ (y : Standing). y.decision ≡ None → (e : BranchId) → y.toward ≡ Some e → Sought g y e) k.stored.durable.kept row_asks)
       ];
       lives = λ n r j up. elim r [
         | inl old ↦ all_weaker _ _ (λ l so q parent. watched_same l.me q (so q parent)) j.lives (now.lives n old j (sym (nodes_same n) ∙ up))
-        | inr at ↦ subst (λ (x : Kept). AllByRecursion (λ l. (q : BranchId) → l.parent ≡ Some q → Watched g l.me q) x.lives) (its n at j up)
+        | inr at ↦ subst (λ (x : NodeState). AllByRecursion (λ l. (q : BranchId) → l.parent ≡ Some q → Watched g l.me q) x.lives) (its n at j up)
             (all_in (λ (l : Live). (q : BranchId) → l.parent ≡ Some q → Watched g l.me q) k.lives live_asks)
       ];
     }
       where
-        its : (n : ℕ) → u.node ≡ n → (j : Kept) → node_at g n ≡ Some j → k ≡ j
+        its : (n : ℕ) → u.node ≡ n → (j : NodeState) → node_at g n ≡ Some j → k ≡ j
         its n at j up = (let both : Some k ≡ Some j = sym here ∙ subst (λ i. node_at g i ≡ Some j) (sym at) up in cc)
 
 -- before any node of the stretch recovered there is nothing to show

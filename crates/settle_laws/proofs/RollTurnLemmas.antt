@@ -15,7 +15,7 @@ use Rattle.node_rules.specs.Data.inputs
 use Rattle.node_rules.specs.Data.kinds
 use Rattle.node_rules.specs.Data.phases
 use Rattle.node_rules.specs.Words.{same, item_at, drop_item, numbered}
-use Rattle.node_rules.specs.Kept.{Kept, Branch, Deed, saying, post, post_one, to_each, live_at, live_id, standing_at, standing_id, branch_at, work_at, with_work}
+use Rattle.node_rules.specs.NodeState.{NodeState, Branch, Deed, saying, post, post_one, to_each, live_at, live_id, standing_at, standing_id, branch_at, work_at, with_work}
 use Rattle.node_rules.specs.Prepare.{drops, to_children}
 use Rattle.node_rules.specs.Recovery.{told_by, told_kind, tells, ask_answer, on_ask, on_ask_told, on_ask_kept}
 use Rattle.node_rules.specs.Turn.{stamped, turn_of, deed_of, heard, kind_turn, ask_turn, stand_of, live_or}
@@ -67,7 +67,7 @@ use Rattle.node_rules.specs.Data.records
 use Rattle.node_rules.specs.Data.states
 use Rattle.node_rules.specs.Words.{change_where, drop_where}
 use Rattle.node_rules.specs.Records.{applied}
-use Rattle.node_rules.specs.Kept.{nothing}
+use Rattle.node_rules.specs.NodeState.{nothing}
 use Rattle.node_rules.specs.Commit.{learns, next_turn, on_decision, passes, rollback_to}
 use Rattle.node_rules.specs.Turn.{Is_live, Is_kept, Is_gone, Stand, rollback_turn, rolled_back_turn}
 use Rattle.agreement.specs.Events.{Forest, site_of}
@@ -87,7 +87,7 @@ abbrev pub TellsRollback : Kind → Type 0
 TellsRollback kind = (kind ≡ kinds.Rollback) ⊎ (kind ≡ kinds.RolledBack)
 
 -- what it does
-abbrev pub roll_turn : {kind : Kind} → TellsRollback kind → Kept → BranchId → Stand → Deed
+abbrev pub roll_turn : {kind : Kind} → TellsRollback kind → NodeState → BranchId → Stand → Deed
 roll_turn (inl rollback) k from stand = rollback_turn k from stand
 roll_turn (inr rolled_back) k from stand = rolled_back_turn k from stand
 
@@ -108,7 +108,7 @@ change_leaves b h me (x ∷ xs) c other = by (same x.me b) refl (change_leaves b
         ap (λ (w : Bool). item_at standing_id ((if w then h x else x) ∷ change_where (stands_at b) h xs) c) there
         ∙ ap (λ (z : Option Standing). if same x.me c then Some x else z) rest
 
-module _ (t : History) (s_lawful : IsLawfulRun t) (u : Turn) (k : Kept) where
+module _ (t : History) (s_lawful : IsLawfulRun t) (u : Turn) (k : NodeState) where
   abbrev pub f : Facts
   f = f_at t t.trace
 
@@ -120,7 +120,7 @@ module _ (t : History) (s_lawful : IsLawfulRun t) (u : Turn) (k : Kept) where
     abbrev p : Place
     p = place_at t.places u.node
 
-    abbrev k0 : Kept
+    abbrev k0 : NodeState
     k0 = heard k (inputs.Message m)
 
     abbrev d : Deed
@@ -299,7 +299,7 @@ module _ (t : History) (s_lawful : IsLawfulRun t) (u : Turn) (k : Kept) where
     names_after b z r = elim (cases_nat u.node b.node) [
       | inr other ↦ Still_names (record { node = r.node; up = (turn_elsewhere t.places t.commands f even u b.node other).0 ∙ r.up; row = r.row; found = r.found; names = r.names }) refl
       | inl at ↦ (let both : Some k ≡ Some r.node = sym may.up ∙ subst (λ n. node_at f n ≡ Some r.node) (sym at) r.up in let same_node : k ≡ r.node = cc in
-          at_node (subst (λ n. node_at g n ≡ Some d.after) at here) (subst (λ (z : Kept). standing_at z b ≡ Some r.row) (sym same_node) r.found) result)
+          at_node (subst (λ n. node_at g n ≡ Some d.after) at here) (subst (λ (z : NodeState). standing_at z b ≡ Some r.row) (sym same_node) r.found) result)
     ]
       where
         still : node_at g b.node ≡ Some d.after → standing_at d.after b ≡ Some r.row → NamesAfter b z r
@@ -324,7 +324,7 @@ module _ (t : History) (s_lawful : IsLawfulRun t) (u : Turn) (k : Kept) where
     lives_on b x = elim (cases_nat u.node b.node) [
       | inr other ↦ inl (record { node = x.node; up = (turn_elsewhere t.places t.commands f even u b.node other).0 ∙ x.up; live = x.live; found = x.found })
       | inl at ↦ (let both : Some k ≡ Some x.node = sym may.up ∙ subst (λ n. node_at f n ≡ Some x.node) (sym at) x.up in let same_node : k ≡ x.node = cc in
-          at_node (subst (λ n. node_at g n ≡ Some d.after) at here) (subst (λ (z : Kept). live_at z b ≡ Some x.live) (sym same_node) x.found) result)
+          at_node (subst (λ n. node_at g n ≡ Some d.after) at here) (subst (λ (z : NodeState). live_at z b ≡ Some x.live) (sym same_node) x.found) result)
     ]
       where
         at_node : node_at g b.node ≡ Some d.after → live_at k b ≡ Some x.live → Result d → LivesAt g b ⊎ ((l : Live) × (live_at k m.to ≡ Some l) × (b ≡ m.to) × (d ≡ drops k0 l []))
@@ -498,7 +498,7 @@ module _ (t : History) (s_lawful : IsLawfulRun t) (u : Turn) (k : Kept) where
     row_on s so not_told undecided e toward =
         sought_on s so.0.0.1 so.0.1 s.scn (subst (IsKnown (events_of t) s) undecided so.0.0.0.known).0 e toward (λ at from. not_told e undecided toward at from) (so.1 undecided e toward)
 
-    rows_now : (n : ℕ) (i : Kept) → node_at f n ≡ Some i → AllByRecursion (RowSo f) i.stored.durable.kept → AllByRecursion RowHere i.stored.durable.kept
+    rows_now : (n : ℕ) (i : NodeState) → node_at f n ≡ Some i → AllByRecursion (RowSo f) i.stored.durable.kept → AllByRecursion RowHere i.stored.durable.kept
     rows_now n i up all =
         all_both _ _ i.stored.durable.kept
         (all_both _ _ i.stored.durable.kept (all_both _ _ i.stored.durable.kept (nodes_are_as_events t s_lawful n i up).1 (nodes_name_the_born t s_lawful n i up).1) (rows_way t s_lawful t.trace part n i up)) all
@@ -528,10 +528,10 @@ module _ (t : History) (s_lawful : IsLawfulRun t) (u : Turn) (k : Kept) where
     elsewhere n other b node at = other (sym at_to ∙ (ap (λ (x : BranchId). x.node) at ∙ node))
 
     module _ (R : ℕ → Type 0) (now : Obliged R f) where
-      rows_here : (n : ℕ) → R n → (j : Kept) → node_at g n ≡ Some j → AllByRecursion (RowSo g) j.stored.durable.kept
+      rows_here : (n : ℕ) → R n → (j : NodeState) → node_at g n ≡ Some j → AllByRecursion (RowSo g) j.stored.durable.kept
       rows_here n r j up = elim (cases_nat u.node n) [
         | inl at ↦ (let both : Some d.after ≡ Some j = sym here ∙ subst (λ x. node_at g x ≡ Some j) (sym at) up in let its : d.after ≡ j = cc in
-            subst (λ (x : Kept). AllByRecursion (RowSo g) x.stored.durable.kept) its
+            subst (λ (x : NodeState). AllByRecursion (RowSo g) x.stored.durable.kept) its
             (rows_after_all RowHere (RowSo g) row_on (λ x undecided is. absurd (undecided is)) d result
             (all_both _ _ ks (rows_found t s_lawful u.node k may.up) (rows_now u.node k may.up (now.rows u.node (subst R (sym at) r) k may.up)))))
         | inr other ↦ (let upf : node_at f n ≡ Some j = sym (turn_elsewhere t.places t.commands f even u n other).0 ∙ up in
@@ -539,10 +539,10 @@ module _ (t : History) (s_lawful : IsLawfulRun t) (u : Turn) (k : Kept) where
             (all_both _ _ j.stored.durable.kept (rows_now n j upf (now.rows n r j upf)) (ids_name_their_node t s_lawful n j upf).rows))
       ]
 
-      lives_here : (n : ℕ) → R n → (j : Kept) → node_at g n ≡ Some j → AllByRecursion (LiveSo g) j.lives
+      lives_here : (n : ℕ) → R n → (j : NodeState) → node_at g n ≡ Some j → AllByRecursion (LiveSo g) j.lives
       lives_here n r j up = elim (cases_nat u.node n) [
         | inl at ↦ (let both : Some d.after ≡ Some j = sym here ∙ subst (λ x. node_at g x ≡ Some j) (sym at) up in let its : d.after ≡ j = cc in
-            subst (λ (x : Kept). AllByRecursion (LiveSo g) x.lives) its
+            subst (λ (x : NodeState). AllByRecursion (LiveSo g) x.lives) its
             (lives_after d result (all_both _ _ k.lives (all_both _ _ k.lives (nodes_are_as_events t s_lawful u.node k may.up).0 (lives_found t s_lawful u.node k may.up)) (now.lives u.node (subst R (sym at) r) k may.up))))
         | inr other ↦ (let upf : node_at f n ≡ Some j = sym (turn_elsewhere t.places t.commands f even u n other).0 ∙ up in
             all_weaker (λ l. ((exit (events_of t) l.me ≡ None) × (l.me.node ≡ n)) × LiveSo f l) (LiveSo g) (λ l so q parent. watched_on l.me q so.0.0 (λ at from. elsewhere n other l.me so.0.1 at) (so.1 q parent)) j.lives

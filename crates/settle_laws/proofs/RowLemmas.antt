@@ -9,7 +9,7 @@ use Rattle.session_tree.specs.Live.{is_branch}
 use Rattle.agreement.specs.Events.{Event, exit}
 use Rattle.node_rules.specs.Data.{BranchId, Kid, Live, Standing}
 use Rattle.node_rules.specs.Words.{same}
-use Rattle.node_rules.specs.Kept.{Kept, live_at, live_id}
+use Rattle.node_rules.specs.NodeState.{NodeState, live_at, live_id}
 use Rattle.node_rules.proofs.StepLemmas.{branch_found}
 use Rattle.tran_ids.proofs.ListedLemmas.{item_is}
 use Rattle.run_base_laws.specs.EventRows.{RowIs}
@@ -97,7 +97,7 @@ pub named_off_are_sealed : NamedOffAreSealed
 named_off_are_sealed t whole n k up = all_weaker _ (NamesSo (events_of t)) (λ x so. names_so (events_of t) x so.sealed) k.stored.durable.kept (rows_hold t whole n k up)
 
 -- a live branch has not left
-pub live_unleft : (t : History) → IsLawfulRun t → (m : ℕ) (j : Kept) → node_at (facts_at t) m ≡ Some j → (z : BranchId) (l : Live) → live_at j z ≡ Some l → exit (events_of t) z ≡ None
+pub live_unleft : (t : History) → IsLawfulRun t → (m : ℕ) (j : NodeState) → node_at (facts_at t) m ≡ Some j → (z : BranchId) (l : Live) → live_at j z ≡ Some l → exit (events_of t) z ≡ None
 live_unleft t whole m j up z l is =
     subst (λ b. exit (events_of t) b ≡ None) (item_is live_id j.lives z l is) (all_found (λ (x : Live). exit (events_of t) x.me ≡ None) live_id j.lives z l (nodes_are_as_events t whole m j up).0 is)
 

@@ -3,7 +3,7 @@ use Rattle.std.proofs.Common.{◌≡◌, ℕ, ◌⊎◌, List, [], ◌∷◌, �
 use Rattle.std.proofs.lemmas.List.{append_assoc}
 use Rattle.node_rules.specs.Data.{Msg}
 use Rattle.node_rules.specs.Data.inputs
-use Rattle.node_rules.specs.Kept.{Kept}
+use Rattle.node_rules.specs.NodeState.{NodeState}
 use Rattle.run_rules.specs.Data.{Happening, Turn}
 use Rattle.run_rules.specs.Data.happenings
 use Rattle.run_rules.specs.Facts.{Facts, facts_after}
@@ -21,7 +21,7 @@ obliged_less R Q f each now = record { rows = λ n q. now.rows n (each n q); liv
 
 -- what is left to be shown of each delivery in a calm turn
 abbrev pub DeliveriesKeep : Type 1
-DeliveriesKeep = (s : History) → IsLawfulRun s → (u : Turn) (k : Kept) → MayTurn s.places (facts_at s) u k → IsCalm (facts_at s) u → (m : Msg) → u.input ≡ inputs.Message m → (R : ℕ → Type 0) → Obliged R (facts_at s)
+DeliveriesKeep = (s : History) → IsLawfulRun s → (u : Turn) (k : NodeState) → MayTurn s.places (facts_at s) u k → IsCalm (facts_at s) u → (m : Msg) → u.input ≡ inputs.Message m → (R : ℕ → Type 0) → Obliged R (facts_at s)
     → Obliged R (facts_after s.places s.commands (facts_at s) (happenings.Turn u))
 
 module _ (keep : DeliveriesKeep) (t : History) (whole : IsLawfulRun t) where

@@ -3,7 +3,7 @@ use Rattle.std.specs.Prelude.{◌≡◌, ◌≢◌, ℕ, false, List, Some, None
 use Rattle.std.specs.List.{AllByRecursion}
 use Rattle.node_rules.specs.Data.{BranchId}
 use Rattle.node_rules.specs.Data.phases
-use Rattle.node_rules.specs.Kept.{Kept}
+use Rattle.node_rules.specs.NodeState.{NodeState}
 use Rattle.run_rules.specs.Data.fates
 use Rattle.run_rules.specs.Facts.{Facts, node_at}
 use Rattle.run_base_laws.specs.FreezeLaws.{was_asked}
@@ -17,11 +17,11 @@ NothingFlies f = AllByRecursion (λ x. x.fate ≢ fates.InFlight) f.net.packets
 
 -- each live root works
 abbrev pub RootsWork : Facts → Type 0
-RootsWork f = (n : ℕ) (k : Kept) → node_at f n ≡ Some k → AllByRecursion (λ l. l.parent ≡ None → l.phase ≡ phases.Working) k.lives
+RootsWork f = (n : ℕ) (k : NodeState) → node_at f n ≡ Some k → AllByRecursion (λ l. l.parent ≡ None → l.phase ≡ phases.Working) k.lives
 
 -- no live branch was asked to prepare, and each row knows its decision
 abbrev pub NothingInDoubt : Facts → Type 0
-NothingInDoubt f = (n : ℕ) (k : Kept) → node_at f n ≡ Some k
+NothingInDoubt f = (n : ℕ) (k : NodeState) → node_at f n ≡ Some k
     → AllByRecursion (λ l. (q : BranchId) → l.parent ≡ Some q → was_asked (said_in f) q l.me ≡ false) k.lives × AllByRecursion (λ s. s.decision ≢ None) k.stored.durable.kept
 
 -- After a lawful run at whose end it is so.

@@ -8,7 +8,7 @@ use Rattle.net_bag.specs.Net.{lost_at_once}
 use Rattle.node_rules.specs.Data.{BranchId, Kind, Live, Msg, Place, Standing}
 use Rattle.node_rules.specs.Data.inputs
 use Rattle.node_rules.specs.Data.kinds
-use Rattle.node_rules.specs.Kept.{Kept, live_at, standing_at}
+use Rattle.node_rules.specs.NodeState.{NodeState, live_at, standing_at}
 use Rattle.run_rules.specs.Data.{Command, Happening, Packet, Took, Turn}
 use Rattle.run_rules.specs.Data.happenings
 use Rattle.run_rules.specs.Facts.{Facts, first_facts, facts_of, node_at, taken}
@@ -67,14 +67,14 @@ is_decision _ = false
 
 -- A branch is live at its node.
 pub record LivesAt (f : Facts) (b : BranchId) : Type 0 where
-  pub node : Kept
+  pub node : NodeState
   pub up : node_at f b.node ≡ Some node
   pub live : Live
   pub found : live_at node b ≡ Some live
 
 -- Its node keeps a row of it that names another.
 pub record RowNames (f : Facts) (b z : BranchId) : Type 0 where
-  pub node : Kept
+  pub node : NodeState
   pub up : node_at f b.node ≡ Some node
   pub row : Standing
   pub found : standing_at node b ≡ Some row
@@ -100,5 +100,5 @@ pub data Watched (f : Facts) (z q : BranchId) : Type 0 where
 
 -- So it is of all undecided rows and of all live branches of these nodes.
 pub record Obliged (R : ℕ → Type 0) (f : Facts) : Type 0 where
-  pub rows : (n : ℕ) → R n → (k : Kept) → node_at f n ≡ Some k → AllByRecursion (λ y. y.decision ≡ None → (e : BranchId) → y.toward ≡ Some e → Sought f y e) k.stored.durable.kept
-  pub lives : (n : ℕ) → R n → (k : Kept) → node_at f n ≡ Some k → AllByRecursion (λ l. (q : BranchId) → l.parent ≡ Some q → Watched f l.me q) k.lives
+  pub rows : (n : ℕ) → R n → (k : NodeState) → node_at f n ≡ Some k → AllByRecursion (λ y. y.decision ≡ None → (e : BranchId) → y.toward ≡ Some e → Sought f y e) k.stored.durable.kept
+  pub lives : (n : ℕ) → R n → (k : NodeState) → node_at f n ≡ Some k → AllByRecursion (λ l. (q : BranchId) → l.parent ≡ Some q → Watched f l.me q) k.lives

@@ -3,7 +3,7 @@ use Rattle.std.specs.Prelude.{◌≡◌, ℕ, ◌⊎◌, Bool, true}
 use Rattle.node_rules.specs.Data.{Msg}
 use Rattle.node_rules.specs.Data.inputs
 use Rattle.node_rules.specs.Data.kinds
-use Rattle.node_rules.specs.Kept.{Kept}
+use Rattle.node_rules.specs.NodeState.{NodeState}
 use Rattle.run_rules.specs.Data.{Turn}
 use Rattle.run_rules.specs.Data.happenings
 use Rattle.run_rules.specs.Facts.{Facts, facts_after}
@@ -20,20 +20,20 @@ NoneIsObliged = (t : History) → IsLawfulRun t → Obliged (λ n. ⊥) (facts_a
 
 -- After a calm turn of RECO it is so of the same nodes, and of that node.
 abbrev pub RecoObliges : Type 0
-RecoObliges = (t : History) → IsLawfulRun t → (u : Turn) (k : Kept) → MayTurn t.places (facts_at t) u k → IsCalm (facts_at t) u → u.input ≡ inputs.Reco → (R : ℕ → Bool) → Obliged (λ n. R n ≡ true) (facts_at t)
+RecoObliges = (t : History) → IsLawfulRun t → (u : Turn) (k : NodeState) → MayTurn t.places (facts_at t) u k → IsCalm (facts_at t) u → u.input ≡ inputs.Reco → (R : ℕ → Bool) → Obliged (λ n. R n ≡ true) (facts_at t)
     → Obliged (λ n. (R n ≡ true) ⊎ (u.node ≡ n)) (after_turn t u)
 
 -- After a calm turn in which a question comes it is so of the same nodes.
 abbrev pub QuestionsKeep : Type 0
-QuestionsKeep = (t : History) → IsLawfulRun t → (u : Turn) (k : Kept) → MayTurn t.places (facts_at t) u k → IsCalm (facts_at t) u → (m : Msg) → u.input ≡ inputs.Message m → m.kind ≡ kinds.Ask → (R : ℕ → Bool) → Obliged (λ n. R n ≡ true) (facts_at t)
+QuestionsKeep = (t : History) → IsLawfulRun t → (u : Turn) (k : NodeState) → MayTurn t.places (facts_at t) u k → IsCalm (facts_at t) u → (m : Msg) → u.input ≡ inputs.Message m → m.kind ≡ kinds.Ask → (R : ℕ → Bool) → Obliged (λ n. R n ≡ true) (facts_at t)
     → Obliged (λ n. R n ≡ true) (after_turn t u)
 
 -- After a calm turn in which a rollback comes it is so of the same nodes.
 abbrev pub RollbacksKeep : Type 0
-RollbacksKeep = (t : History) → IsLawfulRun t → (u : Turn) (k : Kept) → MayTurn t.places (facts_at t) u k → IsCalm (facts_at t) u → (m : Msg) → u.input ≡ inputs.Message m → (m.kind ≡ kinds.Rollback) ⊎ (m.kind ≡ kinds.RolledBack)
+RollbacksKeep = (t : History) → IsLawfulRun t → (u : Turn) (k : NodeState) → MayTurn t.places (facts_at t) u k → IsCalm (facts_at t) u → (m : Msg) → u.input ≡ inputs.Message m → (m.kind ≡ kinds.Rollback) ⊎ (m.kind ≡ kinds.RolledBack)
     → (R : ℕ → Bool) → Obliged (λ n. R n ≡ true) (facts_at t) → Obliged (λ n. R n ≡ true) (after_turn t u)
 
 -- After a calm turn in which a commit comes it is so of the same nodes.
 abbrev pub CommitsKeep : Type 0
-CommitsKeep = (t : History) → IsLawfulRun t → (u : Turn) (k : Kept) → MayTurn t.places (facts_at t) u k → IsCalm (facts_at t) u → (m : Msg) → u.input ≡ inputs.Message m → (n : ℕ) → m.kind ≡ kinds.Committed n
+CommitsKeep = (t : History) → IsLawfulRun t → (u : Turn) (k : NodeState) → MayTurn t.places (facts_at t) u k → IsCalm (facts_at t) u → (m : Msg) → u.input ≡ inputs.Message m → (n : ℕ) → m.kind ≡ kinds.Committed n
     → (R : ℕ → Bool) → Obliged (λ i. R i ≡ true) (facts_at t) → Obliged (λ i. R i ≡ true) (after_turn t u)

@@ -7,7 +7,7 @@ use Rattle.session_tree.specs.Live.{is_branch}
 use Rattle.agreement.specs.Events.{Beyond, exit}
 use Rattle.node_rules.specs.Data.{BranchId, Kind}
 use Rattle.node_rules.specs.Data.kinds
-use Rattle.node_rules.specs.Kept.{Kept}
+use Rattle.node_rules.specs.NodeState.{NodeState}
 use Rattle.run_rules.specs.Facts.{node_at}
 use Rattle.run_rules.specs.Lawful.{History, IsLawfulRun, facts_at}
 use Rattle.run_base_laws.specs.RunEvents.{events_of}
@@ -25,5 +25,5 @@ RollersHaveLeft = (t : History) → IsLawfulRun t → AllByRecursion (λ x. is_r
 
 -- In every lawful run each neighbour that a row names off toward is beyond, by the forest of the run.
 abbrev pub NamedOffAreBeyond : Type 0
-NamedOffAreBeyond = (t : History) → IsLawfulRun t → (n : ℕ) (k : Kept) → node_at (facts_at t) n ≡ Some k
+NamedOffAreBeyond = (t : History) → IsLawfulRun t → (n : ℕ) (k : NodeState) → node_at (facts_at t) n ≡ Some k
     → AllByRecursion (λ s. (z : BranchId) → is_neighbor s z ≡ true → is_branch z s.toward ≡ false → Beyond (forest_of t) z s.me) k.stored.durable.kept

@@ -7,7 +7,7 @@ use Rattle.commit_forget.specs.Next.{knows_commit}
 use Rattle.agreement.specs.Events.{Event, Forget, Has}
 use Rattle.node_rules.specs.Data.{BranchId, Live, Standing}
 use Rattle.node_rules.specs.Data.states
-use Rattle.node_rules.specs.Kept.{Kept, live_at}
+use Rattle.node_rules.specs.NodeState.{NodeState, live_at}
 use Rattle.run_rules.specs.Facts.{node_at}
 use Rattle.run_rules.specs.Lawful.{History, IsLawfulRun, facts_at}
 use Rattle.run_base_laws.specs.RunEvents.{events_of}
@@ -27,7 +27,7 @@ pub record RowHolds (t : List Event) (s : Standing) : Type 0 where
 
 -- In every lawful run each row of a node that is up holds so.
 abbrev pub RowsHold : Type 0
-RowsHold = (t : History) → IsLawfulRun t → (n : ℕ) (k : Kept) → node_at (facts_at t) n ≡ Some k → AllByRecursion (RowHolds (events_of t)) k.stored.durable.kept
+RowsHold = (t : History) → IsLawfulRun t → (n : ℕ) (k : NodeState) → node_at (facts_at t) n ≡ Some k → AllByRecursion (RowHolds (events_of t)) k.stored.durable.kept
 
 -- a neighbour of a row is sealed, or is toward
 abbrev pub NamesSo : List Event → Standing → Type 0
@@ -35,9 +35,9 @@ NamesSo t s = (z : BranchId) → is_neighbor s z ≡ true → IsSealed t z ⊎ (
 
 -- In every lawful run each neighbour that a row names is sealed, or is toward.
 abbrev pub NamedOffAreSealed : Type 0
-NamedOffAreSealed = (t : History) → IsLawfulRun t → (n : ℕ) (k : Kept) → node_at (facts_at t) n ≡ Some k → AllByRecursion (NamesSo (events_of t)) k.stored.durable.kept
+NamedOffAreSealed = (t : History) → IsLawfulRun t → (n : ℕ) (k : NodeState) → node_at (facts_at t) n ≡ Some k → AllByRecursion (NamesSo (events_of t)) k.stored.durable.kept
 
 -- In every lawful run a row that names a live branch, of any node, has it as toward.
 abbrev pub NamedLiveAreToward : Type 0
-NamedLiveAreToward = (t : History) → IsLawfulRun t → (n : ℕ) (k : Kept) → node_at (facts_at t) n ≡ Some k → (m : ℕ) (j : Kept) → node_at (facts_at t) m ≡ Some j
+NamedLiveAreToward = (t : History) → IsLawfulRun t → (n : ℕ) (k : NodeState) → node_at (facts_at t) n ≡ Some k → (m : ℕ) (j : NodeState) → node_at (facts_at t) m ≡ Some j
     → (z : BranchId) (l : Live) → live_at j z ≡ Some l → AllByRecursion (λ s. is_neighbor s z ≡ true → s.toward ≡ Some z) k.stored.durable.kept

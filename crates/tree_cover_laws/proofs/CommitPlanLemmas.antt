@@ -4,7 +4,7 @@ use Rattle.node_rules.specs.Data.{BranchId, Live}
 use Rattle.node_rules.specs.declared.session.PendingCall.TheVariants as pending
 use Rattle.node_rules.specs.Data.stmts
 use Rattle.node_rules.specs.Inputs.{IsSession}
-use Rattle.node_rules.specs.Kept.{Kept, live_at}
+use Rattle.node_rules.specs.NodeState.{NodeState, live_at}
 use Rattle.node_rules.specs.Sessions.{session_at}
 use Rattle.node_rules.proofs.StandLemmas.{live_so}
 use Rattle.run_rules.specs.Data.{Turn, Happening}
@@ -40,7 +40,7 @@ module _ (t : History) (whole : IsLawfulRun t) (sees : SeesAll t) (r : BranchId)
   abbrev at : CommitAt t whole r hs0 v
   at = found.commit
 
-  abbrev k : Kept
+  abbrev k : NodeState
   k = at.kept
 
   saw : Sees f0 tr0

@@ -4,7 +4,7 @@ use Rattle.std.proofs.lemmas.List.{append_assoc}
 use Rattle.tran_ids.proofs.ListedLemmas.{item_is}
 use Rattle.node_rules.specs.Data.{BranchId, Live}
 use Rattle.node_rules.specs.Data.phases
-use Rattle.node_rules.specs.Kept.{Kept, Branch, live_id, live_at, branch_at, work_at, with_work}
+use Rattle.node_rules.specs.NodeState.{NodeState, Branch, live_id, live_at, branch_at, work_at, with_work}
 use Rattle.run_rules.specs.Births.{Born, births_of, born_at}
 use Rattle.run_base_laws.specs.BirthLaws.{Began}
 use Rattle.run_rules.specs.Branches.{is_among}
@@ -51,7 +51,7 @@ module _ (t : History) (whole : IsLawfulRun t) (r : BranchId) (top : IsTop t who
   one : born_then.0 ≡ top.0
   one = trees.same_born (births_of t) (said_in (facts_at t)) (known t whole) born_then.0 top.0 (born_end t whole it.moment it.part born_then.0 born_then.1) top.1 (born_then.2 ∙ sym top.2)
 
-  by_live : (k : Kept) (l : Live) → node_at (f_at t it.moment) r.node ≡ Some k → live_at k r ≡ Some l → WasFound z lawful r it.moment
+  by_live : (k : NodeState) (l : Live) → node_at (f_at t it.moment) r.node ≡ Some k → live_at k r ≡ Some l → WasFound z lawful r it.moment
   by_live k l up live =
       commit_came z lawful r (born_then.0, born_then.1, born_then.2, ap (λ (x : Born). x.parent) one ∙ top.3) (λ w gone dropped. (let still = it.live in absurd (cc (gone, still)))) k l up live busy
     where
@@ -70,7 +70,7 @@ module _ (t : History) (whole : IsLawfulRun t) (r : BranchId) (top : IsTop t who
     | inr among ↦ by (node_at (f_at t it.moment) r.node) refl among
   ]
     where
-      by : (o : Option Kept) → node_at (f_at t it.moment) r.node ≡ o → is_among r (lives_at o) ≡ true → WasFound z lawful r it.moment
+      by : (o : Option NodeState) → node_at (f_at t it.moment) r.node ≡ o → is_among r (lives_at o) ≡ true → WasFound z lawful r it.moment
       by None is among = absurd cc
       by (Some j) is among = (let l = among_found j.lives r among in by_live j l.0 is l.1)
 

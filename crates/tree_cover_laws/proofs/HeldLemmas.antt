@@ -10,7 +10,7 @@ use Rattle.node_rules.specs.Data.{Advice, BranchId, Edge, Kind, Live, Stmt}
 use Rattle.node_rules.specs.Data.kinds
 use Rattle.node_rules.specs.Inputs.{Came}
 use Rattle.node_rules.specs.Words.{numbered}
-use Rattle.node_rules.specs.Kept.{Kept, Branch, live_id, live_at, branch_at, work_at, with_work}
+use Rattle.node_rules.specs.NodeState.{NodeState, Branch, live_id, live_at, branch_at, work_at, with_work}
 use Rattle.node_rules.proofs.LiveLemmas.{branch_parts}
 use Rattle.run_rules.specs.Births.{Born, births_from, births_of, born_at}
 use Rattle.run_base_laws.specs.BirthLaws.{Began, IsChild, GoesSo, LiveIs}
@@ -100,7 +100,7 @@ module _ (t : History) (whole : IsLawfulRun t) where
 
   -- ---- a live branch that rests
 
-  module _ (hs : List Happening) (part : Part t whole hs) (x : Branch) (k : Kept) (up : node_at (f_at t hs) x.live.me.node ≡ Some k) (found : branch_at k x.live.me ≡ Some x) (goes : GoesOn k x.live) (waits : x.work.going ≡ None)
+  module _ (hs : List Happening) (part : Part t whole hs) (x : Branch) (k : NodeState) (up : node_at (f_at t hs) x.live.me.node ≡ Some k) (found : branch_at k x.live.me ≡ Some x) (goes : GoesOn k x.live) (waits : x.work.going ≡ None)
       (fine : HasGone x.work → ⊥) where
     abbrev s : History
     s = so_far t hs
@@ -127,7 +127,7 @@ module _ (t : History) (whole : IsLawfulRun t) where
   module _ (sees : SeesAll t) where
     -- ---- a live branch
 
-    module _ (hs : List Happening) (h : Happening) (rest : List Happening) (is : hs ++ h ∷ rest ≡ t.trace) (x : Branch) (k : Kept) (up : node_at (f_at t hs) x.live.me.node ≡ Some k) (found : branch_at k x.live.me ≡ Some x) (p : BranchId)
+    module _ (hs : List Happening) (h : Happening) (rest : List Happening) (is : hs ++ h ∷ rest ≡ t.trace) (x : Branch) (k : NodeState) (up : node_at (f_at t hs) x.live.me.node ≡ Some k) (found : branch_at k x.live.me ≡ Some x) (p : BranchId)
         (below : BornBelow (births_of (so_far t hs)) x.live.me p) (v : Option ℕ) (it : ToldLast (said_in (f_at t hs)) p x.live.me v) where
       abbrev s1 : History
       s1 = so_far t hs
@@ -168,8 +168,8 @@ module _ (t : History) (whole : IsLawfulRun t) where
       parts : (live_at k me ≡ Some x.live) × (x.work ≡ work_at k me)
       parts = branch_parts k me x found
 
-      told_of : (z : Seen) × (seen_at (tr_at t hs) me ≡ Some z) × CallsAreTold s1 (work_at k me) z
-      told_of = lower_calls_are_told s1 lawful1 me.node k up x.live parts.0 not_root
+      reported_of : (z : Seen) × (seen_at (tr_at t hs) me ≡ Some z) × CallsAreTold s1 (work_at k me) z
+      reported_of = lower_calls_are_told s1 lawful1 me.node k up x.live parts.0 not_root
 
       its_tree : SeesTree (f_at t hs) (tr_at t hs) me
       its_tree = sees_tree t whole sees hs h rest is me
@@ -179,9 +179,9 @@ module _ (t : History) (whole : IsLawfulRun t) where
 
       pub live_was : WasSo hs me it.number v
       live_was = record {
-        seen = told_of.0;
-        at = told_of.1;
-        taken = omega (arith, last_is, ap (λ w. w.came.last_call) parts.1, told_of.2.taken);
+        seen = reported_of.0;
+        at = reported_of.1;
+        taken = omega (arith, last_is, ap (λ w. w.came.last_call) parts.1, reported_of.2.taken);
         last = x.live;
         weighs = (replies_tell_weights s1 lawful1 me.node k up x found).told not_root (omega (arith, last_is, it.some)) rests1 v (well_weight (said_in (f_at t hs)) me x.work.came.last_call v told1);
         strong = sym (lives_have_strength s1 lawful1 me.node k up x found);
@@ -299,7 +299,7 @@ module _ (t : History) (whole : IsLawfulRun t) where
         lawful2 : IsLawfulRun (so_far t (hs ++ h ∷ []))
         lawful2 = part_lawful t whole (hs ++ h ∷ []) (part_on t whole hs h rest is)
 
-        live : (o : Option Kept) → node_at (f_at t (hs ++ h ∷ [])) c.node ≡ o → is_among c (lives_at o) ≡ true → WasSo (hs ++ h ∷ []) c it.number v
+        live : (o : Option NodeState) → node_at (f_at t (hs ++ h ∷ [])) c.node ≡ o → is_among c (lives_at o) ≡ true → WasSo (hs ++ h ∷ []) c it.number v
         live None up among = absurd cc
         live (Some k) up among =
             let l = among_found k.lives c among in

@@ -10,7 +10,7 @@ use Rattle.node_rules.specs.Data.{Advice, Answer, BranchId, Kind, Live, Msg, Stm
 use Rattle.node_rules.specs.Data.inputs
 use Rattle.node_rules.specs.Data.kinds
 use Rattle.node_rules.specs.Inputs.{Came}
-use Rattle.node_rules.specs.Kept.{Deed, live_id}
+use Rattle.node_rules.specs.NodeState.{Deed, live_id}
 use Rattle.node_rules.specs.Turn.{turn_of, deed_of, stamped}
 use Rattle.node_rules.specs.Words.{same, is_item_of, item_at}
 use Rattle.run_rules.specs.Branches.{Dropped, Run, Seen, Trail, seen_id, seen_at, root_at, is_root_of, is_live, is_live_at, is_among, with_once}

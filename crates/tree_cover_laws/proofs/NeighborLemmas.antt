@@ -11,7 +11,7 @@ use Rattle.agreement.specs.Events.{Dropped, exit}
 use Rattle.node_rules.specs.Data.{BranchId, Live, RedoRecord, Sealed as SealedRecord}
 use Rattle.node_rules.specs.Data.phases
 use Rattle.node_rules.specs.Data.records
-use Rattle.node_rules.specs.Kept.{Kept, Branch, live_id, live_at, work_at, with_work}
+use Rattle.node_rules.specs.NodeState.{NodeState, Branch, live_id, live_at, work_at, with_work}
 use Rattle.node_rules.proofs.StandLemmas.{live_so}
 use Rattle.run_rules.specs.Births.{Born, births_of}
 use Rattle.run_base_laws.specs.BirthLaws.{Began, KeptIs, LiveIs, RecordNames}
@@ -210,7 +210,7 @@ module _ (t : History) (whole : IsLawfulRun t) (sees : SeesAll t) (hs : List Hap
     sees0 = sees_tree t whole sees hs0 v (found.later ++ h ∷ rest) commit_is r.root
 
     -- the root is not working any more
-    busy : (m mid : List Happening) → Part s lawful m → hs0 ++ v ∷ mid ≡ m → (k : Kept) (l : Live) → node_at (f_at t m) r.root.node ≡ Some k → live_at k r.root ≡ Some l → l.phase ≢ phases.Working
+    busy : (m mid : List Happening) → Part s lawful m → hs0 ++ v ∷ mid ≡ m → (k : NodeState) (l : Live) → node_at (f_at t m) r.root.node ≡ Some k → live_at k r.root ≡ Some l → l.phase ≢ phases.Working
     busy m mid part_m from k l up live working = by part_m.rest part_m.is
       where
         me : l.me ≡ r.root

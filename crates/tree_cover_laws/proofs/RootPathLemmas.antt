@@ -8,7 +8,7 @@ use Rattle.agreement.specs.Events.{exit}
 use Rattle.node_rules.specs.Data.{BranchId, Live}
 use Rattle.node_rules.specs.Data.phases
 use Rattle.node_rules.specs.Words.{numbered}
-use Rattle.node_rules.specs.Kept.{Kept, Branch, live_at, branch_at}
+use Rattle.node_rules.specs.NodeState.{NodeState, Branch, live_at, branch_at}
 use Rattle.node_rules.specs.LiveBranches.{EachLive}
 use Rattle.node_rules.proofs.LiveLemmas.{branch_parts}
 use Rattle.node_rules.proofs.StandLemmas.{live_so}
@@ -62,7 +62,7 @@ same_commit t z whole its r hs u same at = record {
 }
 
 module _ (t : History) (whole : IsLawfulRun t) (r : BranchId) (found : WasFound t whole r t.trace) (top : IsTop t whole r)
-    (busy : (m mid : List Happening) → Part t whole m → found.before ++ happenings.Turn found.turn ∷ mid ≡ m → (k : Kept) (l : Live) → node_at (f_at t m) r.node ≡ Some k → live_at k r ≡ Some l → l.phase ≢ phases.Working) where
+    (busy : (m mid : List Happening) → Part t whole m → found.before ++ happenings.Turn found.turn ∷ mid ≡ m → (k : NodeState) (l : Live) → node_at (f_at t m) r.node ≡ Some k → live_at k r ≡ Some l → l.phase ≢ phases.Working) where
   abbrev hs0 : List Happening
   hs0 = found.before
 
@@ -86,7 +86,7 @@ module _ (t : History) (whole : IsLawfulRun t) (r : BranchId) (found : WasFound 
   alone : x.live.parent ≡ None → x.work.came.reply ≡ None
   alone no_parent =
       let parts = branch_parts found.commit.kept x.live.me x found.commit.found in
-      let calls = subst (λ (o : Option Kept). IfSome o (λ k. EachLive (λ l w. InTurn (GoesOn k l) (said_in (f_at t hs0)) l.me l.parent (children_of l) w) k.lives k.works)) up ((run_calls (so_far t hs0) (part_lawful t whole hs0 part0)).nodes x.live.me.node) in
+      let calls = subst (λ (o : Option NodeState). IfSome o (λ k. EachLive (λ l w. InTurn (GoesOn k l) (said_in (f_at t hs0)) l.me l.parent (children_of l) w) k.lives k.works)) up ((run_calls (so_far t hs0) (part_lawful t whole hs0 part0)).nodes x.live.me.node) in
       ap (λ w. w.came.reply) parts.1 ∙ (calls.each x.live.me x.live parts.0).alone no_parent
 
   pub top_stands : Stands t whole hs0 part0 r x
@@ -132,7 +132,7 @@ module _ (t : History) (whole : IsLawfulRun t) (r : BranchId) (found : WasFound 
     )
 
     -- it is not working any more
-    out : (k : Kept) (y : Branch) → node_at (f_at t m) x.live.me.node ≡ Some k → branch_at k y.live.me ≡ Some y → y.live.me ≡ x.live.me → y.live.phase ≢ phases.Working
+    out : (k : NodeState) (y : Branch) → node_at (f_at t m) x.live.me.node ≡ Some k → branch_at k y.live.me ≡ Some y → y.live.me ≡ x.live.me → y.live.phase ≢ phases.Working
     out k y up_y found_y me =
         busy m mid part is k y.live (subst (λ b. node_at (f_at t m) b.node ≡ Some k) found.commit.is_me up_y) (subst (λ b. live_at k b ≡ Some y.live) (me ∙ found.commit.is_me) (live_so k y.live.me y found_y))
 

@@ -9,7 +9,7 @@ use Rattle.agreement.specs.Events.{Exit, Dropped, exit}
 use Rattle.node_rules.specs.Data.{BranchId, Edge}
 use Rattle.node_rules.specs.Data.phases
 use Rattle.node_rules.specs.Words.{numbered}
-use Rattle.node_rules.specs.Kept.{Kept, Branch, live_id, live_at, branch_at, work_at, with_work}
+use Rattle.node_rules.specs.NodeState.{NodeState, Branch, live_id, live_at, branch_at, work_at, with_work}
 use Rattle.node_rules.proofs.StandLemmas.{live_so}
 use Rattle.run_rules.specs.Births.{Born, births_of, born_at}
 use Rattle.run_base_laws.specs.BirthLaws.{Began, LiveIs}
@@ -111,7 +111,7 @@ module _ (t : History) (whole : IsLawfulRun t) (hs0 : List Happening) (part0 : P
       pub parent : branch.live.parent ≡ Some x.live.me
       pub deeper : branch.live.depth ≡ x.live.depth + 1
 
-    module _ (j : Kept) (y : Branch) (up : node_at f0 c.node ≡ Some j) (found : branch_at j y.live.me ≡ Some y) (me : y.live.me ≡ c) where
+    module _ (j : NodeState) (y : Branch) (up : node_at f0 c.node ≡ Some j) (found : branch_at j y.live.me ≡ Some y) (me : y.live.me ≡ c) where
       parent_so : y.live.parent ≡ Some x.live.me
       parent_so = child_parent s0 lawful0 x.live.me.node it.here.kept it.here.up x it.here.found i c at c.node j up y found me
 
@@ -185,7 +185,7 @@ module _ (t : History) (whole : IsLawfulRun t) (hs0 : List Happening) (part0 : P
       | inr among ↦ by (node_at f0 c.node) refl among
     ]
       where
-        by : (o : Option Kept) → node_at f0 c.node ≡ o → is_among c (lives_at o) ≡ true → Kid
+        by : (o : Option NodeState) → node_at f0 c.node ≡ o → is_among c (lives_at o) ≡ true → Kid
         by None is among = absurd cc
         by (Some j) is among =
             let l = among_found j.lives c among in

@@ -9,7 +9,7 @@ use Rattle.agreement.specs.Events.{Dropped, exit}
 use Rattle.node_rules.specs.Data.{BranchId, Kind, Phase, Post}
 use Rattle.node_rules.specs.Data.phases
 use Rattle.node_rules.specs.Words.{numbered}
-use Rattle.node_rules.specs.Kept.{Kept, Branch, branch_at}
+use Rattle.node_rules.specs.NodeState.{NodeState, Branch, branch_at}
 use Rattle.node_rules.proofs.StandLemmas.{live_so}
 use Rattle.run_rules.specs.Births.{Born, births_of}
 use Rattle.run_base_laws.specs.BirthLaws.{Began}
@@ -49,7 +49,7 @@ module _ (t : History) (whole : IsLawfulRun t) (hs0 : List Happening) (part0 : P
 
   -- A branch is live at a later moment, with the tree below it as it was.
   pub record StillThere (x : Branch) (m : List Happening) : Type 0 where
-    pub kept : Kept
+    pub kept : NodeState
     pub now : Branch
     pub up : node_at (f_at t m) x.live.me.node ≡ Some kept
     pub found : branch_at kept now.live.me ≡ Some now
@@ -209,7 +209,7 @@ module _ (t : History) (whole : IsLawfulRun t) (hs0 : List Happening) (part0 : P
       k = kid_of t whole hs0 part0 r x up.stands place c (asked_kid c asked).1 kept_in
 
       -- it rests at a later moment
-      module _ (m : List Happening) (part : Part t whole m) (since : After m) (j : Kept) (y : Branch) (there : node_at (f_at t m) y.live.me.node ≡ Some j) (found : branch_at j y.live.me ≡ Some y) (me : y.live.me ≡ c) where
+      module _ (m : List Happening) (part : Part t whole m) (since : After m) (j : NodeState) (y : Branch) (there : node_at (f_at t m) y.live.me.node ≡ Some j) (found : branch_at j y.live.me ≡ Some y) (me : y.live.me ≡ c) where
         abbrev s_m : History
         s_m = so_far t m
 

@@ -9,7 +9,7 @@ use Rattle.session_tree.specs.declared.act.Walk.TheVariants as walks
 use Rattle.session_tree.proofs.Greatest.{greatest_is}
 use Rattle.node_rules.specs.Data.{BranchId, Edge, Live, Post}
 use Rattle.node_rules.specs.Words.{numbered}
-use Rattle.node_rules.specs.Kept.{Branch}
+use Rattle.node_rules.specs.NodeState.{Branch}
 use Rattle.run_rules.specs.Branches.{Trail, children_at}
 use Rattle.run_rules.specs.Data.{Happening}
 use Rattle.run_rules.specs.Births.{Born, births_of}

@@ -14,7 +14,7 @@ use Rattle.node_rules.specs.declared.session.Session.{Session}
 use Rattle.node_rules.specs.declared.work.Work.{Work}
 use Rattle.node_rules.specs.Words.{same, numbered, item_at, put_item, drop_item}
 use Rattle.node_rules.specs.Refusals.{dtx}
-use Rattle.node_rules.specs.Kept.{Kept, Branch, Deed, live_id, work_id, live_at, branch_at, post, no_work}
+use Rattle.node_rules.specs.NodeState.{NodeState, Branch, Deed, live_id, work_id, live_at, branch_at, post, no_work}
 use Rattle.node_rules.specs.Calls.{advice_of, reply_fields, kept_reply, with_answer, answer_says, called, exec_to, next_call, replies, is_gone}
 use Rattle.node_rules.specs.Recovery.{kept_told}
 use Rattle.node_rules.proofs.Steps as steps
@@ -41,7 +41,7 @@ module _ (E : BranchId → Option ℕ) (A : BranchId → Option BranchId) (G Her
   abbrev pub Begun : Live → Work → Type 0
   Begun = turns.Begun E A G Here input said
 
-  abbrev pub Nodes : Kept → Type 0
+  abbrev pub Nodes : NodeState → Type 0
   Nodes k = EachLive Begun k.lives k.works
 
   abbrev pub FreeOf : Branch → Type 0
@@ -53,7 +53,7 @@ module _ (E : BranchId → Option ℕ) (A : BranchId → Option BranchId) (G Her
   abbrev pub Old : Live → Work → Type 0
   Old l w = HoldsWell said (Goes l) l.me l.edges w
 
-  abbrev pub Olds : Kept → Type 0
+  abbrev pub Olds : NodeState → Type 0
   Olds k = EachLive Old k.lives k.works
 
   abbrev pub Then : List Post → Live → Work → Type 0
@@ -92,7 +92,7 @@ module _ (E : BranchId → Option ℕ) (A : BranchId → Option BranchId) (G Her
 
   -- ---- what becomes of the branches
 
-  module _ (k : Kept) (calls : CallsWell said) (now : Olds k) where
+  module _ (k : NodeState) (calls : CallsWell said) (now : Olds k) where
     pub stay : (says : List Post) (y : Live) (v : Work) → QuietOf says y.me → Old y v → Then says y v
     stay says y v quiet is = stays_well said says (Goes y) y.me y.edges v quiet is
 

@@ -8,7 +8,7 @@ use Rattle.node_rules.specs.declared.work.Waits.TheVariants as waiting
 use Rattle.node_rules.specs.declared.work.Going.{Going}
 use Rattle.node_rules.specs.declared.work.Work.{Work}
 use Rattle.node_rules.specs.Words.{same, numbered, set_numbered}
-use Rattle.node_rules.specs.Kept.{Branch, post}
+use Rattle.node_rules.specs.NodeState.{Branch, post}
 use Rattle.node_rules.specs.Calls.{called, with_edge, hears_reply}
 use Rattle.run_base_laws.specs.InTurnLaws.{exec_number, newest_exec, newest_reply, WaitsFor, call_at}
 use Rattle.run_rules.proofs.AtNodeLemmas.{range_of}

@@ -9,7 +9,7 @@ use Rattle.node_rules.specs.Data.kinds
 use Rattle.node_rules.specs.declared.work.Work.{Work}
 use Rattle.node_rules.specs.Words.{numbered, item_at}
 use Rattle.node_rules.specs.Inputs.{Came}
-use Rattle.node_rules.specs.Kept.{Kept, Deed, live_id, live_at}
+use Rattle.node_rules.specs.NodeState.{NodeState, Deed, live_id, live_at}
 use Rattle.node_rules.specs.Calls.{is_gone}
 use Rattle.node_rules.specs.Sessions.{session_at}
 use Rattle.node_rules.specs.Turn.{turn_of, start_of, heard, deed_of}
@@ -61,11 +61,11 @@ replies_told (x ∷ xs) = (told_first (map packet_post xs) x.msg.from x.msg.to x
 
 -- ---- what stands
 
-abbrev pub WellOf : List Post → Kept → Live → Work → Type 0
+abbrev pub WellOf : List Post → NodeState → Live → Work → Type 0
 WellOf said k l w = HoldsWell said (GoesOn k l) l.me l.edges w
 
 -- of a node's live branches
-abbrev pub NodeWell : List Post → Kept → Type 0
+abbrev pub NodeWell : List Post → NodeState → Type 0
 NodeWell said k = EachLive (WellOf said k) k.lives k.works
 
 -- So it is everywhere.
@@ -88,7 +88,7 @@ silent_well said says G l w none is = record {
   first = is.first;
 }
 
-heard_lives : (k : Kept) (input : Input) → (heard k input).lives ≡ k.lives
+heard_lives : (k : NodeState) (input : Input) → (heard k input).lives ≡ k.lives
 heard_lives k (inputs.Message m) = refl
 heard_lives k (inputs.Call n s) = refl
 heard_lives k (inputs.GiveUp n) = refl
@@ -100,7 +100,7 @@ start_well ms zs = none_live _
 
 module _ (places : List Place) (asked : List Command) (each : (n : ℕ) (p : Place) → numbered places n ≡ Some p → IsPlace places n p) where
   module _ (f : Facts) (t : List Event) (bs : List Born) (stand : StandBorn places asked each f t bs) (roots : RootsStand places asked each f) (turns : CallsStand f) (now : WellStand f) where
-    module _ (u : Turn) (k : Kept) (may : MayTurn places f u k) where
+    module _ (u : Turn) (k : NodeState) (may : MayTurn places f u k) where
       abbrev n : ℕ
       n = u.node
 
@@ -146,7 +146,7 @@ module _ (places : List Place) (asked : List Command) (each : (n : ℕ) (p : Pla
       after : NodeWell more d.after
       after = each_same _ (WellOf more d.after) d.after.lives d.after.works done.0 (λ y v live any is. record { held = λ goes. is.held (λ none. (y, live, none, goes none)); kept = is.kept; first = is.first })
 
-      others : (m : ℕ) → m ≢ n → (j : Kept) → node_at f m ≡ Some j → NodeWell said j → NodeWell more j
+      others : (m : ℕ) → m ≢ n → (j : NodeState) → node_at f m ≡ Some j → NodeWell said j → NodeWell more j
       others m other j up old =
           each_same (WellOf said j) (WellOf more j) j.lives j.works old
           (λ y v live any is. silent_well said d.says (GoesOn j y) y v ((calls.left places asked each f t bs stand roots turns u k may).1.1 y.me (λ here. other (calls.elsewhere_is places asked each f t bs stand roots turns u k may m j up y.me y live here))).replies is)

@@ -17,7 +17,7 @@ use Rattle.node_rules.specs.declared.work.Work.{Work}
 use Rattle.node_rules.specs.Words.{one, numbered, put_item}
 use Rattle.node_rules.specs.Refusals.{dtx}
 use Rattle.node_rules.specs.Inputs.{Came, IsCall}
-use Rattle.node_rules.specs.Kept.{Kept, Branch, Deed, live_id, work_id, live_at, branch_at, post, to_one, to_each, no_work}
+use Rattle.node_rules.specs.NodeState.{NodeState, Branch, Deed, live_id, work_id, live_at, branch_at, post, to_one, to_each, no_work}
 use Rattle.node_rules.specs.Sessions.{fresh_session, session_at, with_call, needs_rollback}
 use Rattle.node_rules.specs.Names.{passed_on}
 use Rattle.node_rules.specs.Statement.{ran, after_run}
@@ -87,7 +87,7 @@ module _ (E : BranchId → Option ℕ) (A : BranchId → Option BranchId) (G Her
   abbrev Begun : Live → Work → Type 0
   Begun = deed.Begun E A G Here input said received
 
-  abbrev Nodes : Kept → Type 0
+  abbrev Nodes : NodeState → Type 0
   Nodes = deed.Nodes E A G Here input said received
 
   abbrev FreeOf : Branch → Type 0
@@ -99,7 +99,7 @@ module _ (E : BranchId → Option ℕ) (A : BranchId → Option BranchId) (G Her
   abbrev Old : Live → Work → Type 0
   Old = deed.Old E A G Here input said received
 
-  abbrev Olds : Kept → Type 0
+  abbrev Olds : NodeState → Type 0
   Olds = deed.Olds E A G Here input said received
 
   abbrev Then : List Post → Live → Work → Type 0
@@ -111,7 +111,7 @@ module _ (E : BranchId → Option ℕ) (A : BranchId → Option BranchId) (G Her
   abbrev pub Leaves : Deed → Type 0
   Leaves = deed.Leaves E A G Here input said received
 
-  module _ (k : Kept) (calls : CallsWell said) (now : Olds k) where
+  module _ (k : NodeState) (calls : CallsWell said) (now : Olds k) where
     -- ---- what is known of a branch
 
     module _ (ss : SessionsFit k) (nodes : Nodes k) where
@@ -210,14 +210,14 @@ module _ (E : BranchId → Option ℕ) (A : BranchId → Option BranchId) (G Her
   Welled = (from to : BranchId) (call : ℕ) (weight : Option ℕ) (count : ℕ) (a : Answer) → Came input from to (kinds.Reply call weight count a) → is_gone a ≡ false → ToldWell said from call weight
 
   -- where a message came, live roots are the transactions of their sessions
-  abbrev pub Rooted : Kept → Type 0
+  abbrev pub Rooted : NodeState → Type 0
   Rooted k = (from to : BranchId) (kind : Kind) → Came input from to kind → (l : Live) → live_at k l.me ≡ Some l → l.parent ≡ None → (session_at k.sessions l.me.session).root ≡ Some l.me
 
-  no_call_came : (k : Kept) (n : ℕ) (s : Stmt) → IsCall input n s → Rooted k
+  no_call_came : (k : NodeState) (n : ℕ) (s : Stmt) → IsCall input n s → Rooted k
   no_call_came k n s call from to kind came l live top = absurd (cc (call, came.is))
 
   -- a Reply is heard
-  module _ (welled : Welled) (k : Kept) (calls : CallsWell said) (now : Olds k) (ss : SessionsFit k) (nodes : Nodes k) (rooted : Rooted k) (x : Branch) (weight : Option ℕ) (count : ℕ) (a : Answer) (i : ℕ) (e : Edge)
+  module _ (welled : Welled) (k : NodeState) (calls : CallsWell said) (now : Olds k) (ss : SessionsFit k) (nodes : Nodes k) (rooted : Rooted k) (x : Branch) (weight : Option ℕ) (count : ℕ) (a : Answer) (i : ℕ) (e : Edge)
       (answered : steps.Is_answered k input x weight count a i e) (seen : x.live.parent ≡ None → G x.live.me → (session_at (answered_sessions (heard_sessions k.sessions x.live a) x.live x.live.parent) x.live.me.session).code ≡ None) where
     abbrev y : Branch
     y = hears_reply x i weight count e
@@ -252,7 +252,7 @@ module _ (E : BranchId → Option ℕ) (A : BranchId → Option BranchId) (G Her
         by true gone = deed.answers_by E A G Here input said received k calls now y told_answer (work_is k x.live.me x answered.live) free (λ goes j z at. inr (passed gone goes))
 
   module _ (welled : Welled) (p : Place) (place : (b : BranchId) → b.node ≡ p.number → Here b) where
-    pub wells_on : {k : Kept} {d : Deed} → Step p input k d → deeds.Granted E A G Here input said received d → SessionsFit k → News (deeds.NewBorn E A G Here input said received) p input k → Rooted k → Nodes k → CallsWell said → Olds k → Leaves d
+    pub wells_on : {k : NodeState} {d : Deed} → Step p input k d → deeds.Granted E A G Here input said received d → SessionsFit k → News (deeds.NewBorn E A G Here input said received) p input k → Rooted k → Nodes k → CallsWell said → Olds k → Leaves d
     wells_on (steps.Begins {k = k} n s call rows range none step) granted ss news rooted nodes calls now =
         let root = news.root n s call rows none in
         wells_on step granted (begun_so k ss p n) (begun_news (deeds.NewBorn E A G Here input said received) p input k n news) (no_call_came (begun_by p k n None) n s call)

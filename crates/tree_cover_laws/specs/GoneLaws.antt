@@ -7,7 +7,7 @@ use Rattle.node_rules.specs.Data.{BranchId, Edge, Kind, Post, ReplyFields}
 use Rattle.node_rules.specs.Data.kinds
 use Rattle.node_rules.specs.declared.work.Work.{Work}
 use Rattle.node_rules.specs.Words.{numbered}
-use Rattle.node_rules.specs.Kept.{Kept, Branch, branch_at}
+use Rattle.node_rules.specs.NodeState.{NodeState, Branch, branch_at}
 use Rattle.node_rules.specs.Calls.{is_gone}
 use Rattle.run_rules.specs.Facts.{node_at}
 use Rattle.run_rules.specs.Lawful.{History, IsLawfulRun, facts_at}
@@ -36,7 +36,7 @@ pub record HoldsWell (said : List Post) (goes_on : Type 0) (me : BranchId) (edge
 
 -- In every lawful run this is so of each live branch below a root, and of each root whose transaction needs no rollback.
 abbrev pub BranchesHoldWell : Type 0
-BranchesHoldWell = (t : History) → IsLawfulRun t → (n : ℕ) (k : Kept) → node_at (facts_at t) n ≡ Some k → (x : Branch) → branch_at k x.live.me ≡ Some x
+BranchesHoldWell = (t : History) → IsLawfulRun t → (n : ℕ) (k : NodeState) → node_at (facts_at t) n ≡ Some k → (x : Branch) → branch_at k x.live.me ≡ Some x
     → HoldsWell (said_in (facts_at t)) (GoesOn k x.live) x.live.me x.live.edges x.work
 
 -- each call but the first was made after an answer to the call before that is no such refusal

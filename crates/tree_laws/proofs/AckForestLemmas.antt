@@ -9,7 +9,7 @@ use Rattle.node_rules.specs.Data.decisions
 use Rattle.node_rules.specs.Data.inputs
 use Rattle.node_rules.specs.Data.kinds
 use Rattle.node_rules.specs.Data.records
-use Rattle.node_rules.specs.Kept.{Kept, Deed}
+use Rattle.node_rules.specs.NodeState.{NodeState, Deed}
 use Rattle.node_rules.specs.Turn.{Is_gone, stand_of, turn_of, heard, deed_of, stamped}
 use Rattle.agreement.specs.Events.{Forest, Event, Beyond, Quiet, Dropped, Send_ack, Send_commit, Forget, learned, Cleared, Gone}
 use Rattle.run_rules.specs.Data.{Turn, Happening}
@@ -53,7 +53,7 @@ use Rattle.tree_laws.proofs.TellWhyLemmas.{LearnsCommit, AcksSo, Learns_it, Know
 
 -- ---- a node that hears
 
-pub gone_before : (k : Kept) (input : Input) (b : BranchId) → stand_of (heard k input) b ≡ Is_gone → stand_of k b ≡ Is_gone
+pub gone_before : (k : NodeState) (input : Input) (b : BranchId) → stand_of (heard k input) b ≡ Is_gone → stand_of k b ≡ Is_gone
 unfolding stand_of
 gone_before k (inputs.Message m) b gone = gone
 gone_before k (inputs.Call n s) b gone = gone
@@ -90,7 +90,7 @@ module _ (t : History) (whole : IsLawfulRun t) where
   abbrev pub Told : Facts → List Event → Happening → Type 0
   Told f e h = ((WritesInForest p t.places f h × DecidedAtSite p e) × TellsByRow t.places t.commands f e h) × (NodesName p f e h × DisksLead (all t whole) f)
 
-  module _ (before : List Happening) (u : Turn) (rest : List Happening) (is : before ++ happenings.Turn u ∷ rest ≡ t.trace) (lawful : IsLawfulRun (so_far t before)) (k : Kept) (may : MayTurn t.places (f_at t before) u k)
+  module _ (before : List Happening) (u : Turn) (rest : List Happening) (is : before ++ happenings.Turn u ∷ rest ≡ t.trace) (lawful : IsLawfulRun (so_far t before)) (k : NodeState) (may : MayTurn t.places (f_at t before) u k)
       (law : Told (f_at t before) (e_at t before) (happenings.Turn u)) where
     abbrev f : Facts
     f = f_at t before

@@ -8,7 +8,7 @@ use Rattle.node_rules.specs.Data.kinds
 use Rattle.node_rules.specs.Data.phases
 use Rattle.node_rules.specs.declared.work.Going.{Going}
 use Rattle.node_rules.specs.Inputs.{Came}
-use Rattle.node_rules.specs.Kept.{Kept, Branch, Deed, live_at, branch_at}
+use Rattle.node_rules.specs.NodeState.{NodeState, Branch, Deed, live_at, branch_at}
 use Rattle.node_rules.specs.Turn.{turn_of, start_of, heard, deed_of, stamped}
 use Rattle.run_rules.specs.Data.{Turn, Happening}
 use Rattle.run_rules.specs.Data.happenings
@@ -36,13 +36,13 @@ use Rattle.tree_laws.proofs.AnswerStepLemmas.{answers_on}
 
 -- ---- a node that hears
 
-pub heard_branch : (k : Kept) (input : Input) (b : BranchId) (x : Branch) → branch_at (heard k input) b ≡ Some x → branch_at k b ≡ Some x
+pub heard_branch : (k : NodeState) (input : Input) (b : BranchId) (x : Branch) → branch_at (heard k input) b ≡ Some x → branch_at k b ≡ Some x
 heard_branch k (inputs.Message m) b x is = is
 heard_branch k (inputs.Call n s) b x is = is
 heard_branch k (inputs.GiveUp n) b x is = is
 heard_branch k inputs.Reco b x is = is
 
-pub lives_heard : (k : Kept) (input : Input) → (heard k input).lives ≡ k.lives
+pub lives_heard : (k : NodeState) (input : Input) → (heard k input).lives ≡ k.lives
 lives_heard k (inputs.Message m) = refl
 lives_heard k (inputs.Call n s) = refl
 lives_heard k (inputs.GiveUp n) = refl
@@ -62,7 +62,7 @@ ready_more said says from to _ is = tt
 
 -- ---- what stands
 
-abbrev NodeAnswers : List Post → Kept → Type 0
+abbrev NodeAnswers : List Post → NodeState → Type 0
 NodeAnswers said k = AllByRecursion (AnswersTold said) k.lives
 
 -- The answers of all live branches, and each Ready that was sent.
@@ -83,7 +83,7 @@ module _ (t : History) (before : List Happening) (lawful : IsLawfulRun (so_far t
 
   -- ---- a turn
 
-  module _ (u : Turn) (k : Kept) (may : MayTurn t.places f u k) where
+  module _ (u : Turn) (k : NodeState) (may : MayTurn t.places f u k) where
     abbrev d : Deed
     d = deed_of (place_at t.places u.node) k u.input
 

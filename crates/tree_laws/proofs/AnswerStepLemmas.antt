@@ -14,7 +14,7 @@ use Rattle.node_rules.specs.Data.votes
 use Rattle.node_rules.specs.declared.work.Going.{Going}
 use Rattle.node_rules.specs.Words.{same, numbered, set_numbered, put_item, drop_item}
 use Rattle.node_rules.specs.Inputs.{Came}
-use Rattle.node_rules.specs.Kept.{Kept, Branch, Deed, live_id, live_at, branch_at}
+use Rattle.node_rules.specs.NodeState.{NodeState, Branch, Deed, live_id, live_at, branch_at}
 use Rattle.node_rules.specs.Statement.{ran, after_run}
 use Rattle.node_rules.specs.Calls.{with_edge, hears_reply}
 use Rattle.node_rules.specs.Prepare.{with_prepare_sent, ready, voted, has_voted, is_awaited, answers_first}
@@ -35,7 +35,7 @@ module _ (said : List Post) (p : Place) (input : Input) (came_ready : (from to :
   Told l = AnswersTold said l
 
   -- a branch whose child is opened is working
-  abbrev pub OpensAtWork : Kept → Type 0
+  abbrev pub OpensAtWork : NodeState → Type 0
   OpensAtWork k = (from to : BranchId) (edge strength : ℕ) → Came input from to (kinds.Opened edge strength) → (x : Branch) (g : Going) → branch_at k x.live.me ≡ Some x → x.work.going ≡ Some g → x.live.phase ≡ phases.Working
 
   -- an edge of which more is known
@@ -70,7 +70,7 @@ module _ (said : List Post) (p : Place) (input : Input) (came_ready : (from to :
         asked = λ other. vote_asked answers;
       }) (λ other. is)) l.edges old)
 
-  module _ (k : Kept) (all : AllByRecursion Told k.lives) where
+  module _ (k : NodeState) (all : AllByRecursion Told k.lives) where
     live_told : (b : BranchId) (l : Live) → live_at k b ≡ Some l → Told l
     live_told b l found = all_found Told live_id k.lives b l all found
 
@@ -95,7 +95,7 @@ module _ (said : List Post) (p : Place) (input : Input) (came_ready : (from to :
     gone : (b : BranchId) → AllByRecursion Told (drop_item live_id k.lives b)
     gone b = all_without Told live_id k.lives b all
 
-  pub answers_on : {k : Kept} {d : Deed} → Step p input k d → OpensAtWork k → AllByRecursion Told k.lives → AllByRecursion Told d.after.lives
+  pub answers_on : {k : NodeState} {d : Deed} → Step p input k d → OpensAtWork k → AllByRecursion Told k.lives → AllByRecursion Told d.after.lives
   answers_on (steps.Begins {k = k} n s call rows fit none step) works all = answers_on step (λ from to edge strength came. absurd (came_apart n s came call)) (all_last Told live_id k.lives _ all tt)
   answers_on (steps.Pends n l comment call has live code step) works all = answers_on step works all
   answers_on (steps.Lets_reads_go l comment b live begins step) works all = answers_on step works all

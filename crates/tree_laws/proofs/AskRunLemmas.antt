@@ -10,7 +10,7 @@ use Rattle.node_rules.specs.Data.{BranchId, Kind, Live, Post, Place, RedoRecord}
 use Rattle.node_rules.specs.Data.kinds
 use Rattle.node_rules.specs.Words.{same, numbered}
 use Rattle.node_rules.specs.Inputs.{Came}
-use Rattle.node_rules.specs.Kept.{Kept, Deed, live_id, live_at}
+use Rattle.node_rules.specs.NodeState.{NodeState, Deed, live_id, live_at}
 use Rattle.node_rules.specs.Turn.{start_of, heard, deed_of}
 use Rattle.agreement.specs.Events.{Event}
 use Rattle.run_rules.specs.Data.{Packet, Turn, Happening, Command}
@@ -64,7 +64,7 @@ sent_from kind (x ∷ xs) = (
 -- ---- what stands
 
 -- live branches collect as they were told
-abbrev pub NodeTold : List Post → Kept → Type 0
+abbrev pub NodeTold : List Post → NodeState → Type 0
 NodeTold said k = EachLive (λ l w. AsTold said l) k.lives k.works
 
 -- Prepares go down, and live branches collect as they were told, everywhere.
@@ -77,7 +77,7 @@ pub record AskStand (f : Facts) (bs : List Born) : Type 0 where
 pub down_more : (kind : Kind → Bool) (bs cs : List Born) (said says : List Post) (p : BranchId) → ((x : Born) → Began bs x → Began cs x) → HeardAbove kind bs said p → HeardAbove kind cs (said ++ says) p
 down_more kind bs cs said says p more is = (is.0, more is.0 is.1, is.2, (λ q above. sent_more kind said says q p (is.3 q above)))
 
-told_stay : (said says : List Post) (k : Kept) → ((b : BranchId) (l : Live) → live_at k b ≡ Some l → (c : BranchId) → was_asked says l.me c ≡ false) → NodeTold said k → NodeTold (said ++ says) k
+told_stay : (said says : List Post) (k : NodeState) → ((b : BranchId) (l : Live) → live_at k b ≡ Some l → (c : BranchId) → was_asked says l.me c ≡ false) → NodeTold said k → NodeTold (said ++ says) k
 told_stay said says k none now =
     each_same (λ l w. AsTold said l) (λ l w. AsTold (said ++ says) l) k.lives k.works now (λ y v live any is. stays_told said says y.me y.parent y.phase (children_of y) (step y) (λ c. none y.me y live c) is)
 
@@ -87,7 +87,7 @@ start_told ms zs = none_live _
 
 module _ (places : List Place) (asked : List Command) (each : (n : ℕ) (p : Place) → numbered places n ≡ Some p → IsPlace places n p) where
   module _ (f : Facts) (t : List Event) (bs : List Born) (stand : StandBorn places asked each f t bs) (roots : RootsStand places asked each f) (turned : CallsStand f) (ice : FreezeStand f) (now : AskStand f bs) where
-    module _ (u : Turn) (k : Kept) (may : MayTurn places f u k) where
+    module _ (u : Turn) (k : NodeState) (may : MayTurn places f u k) where
       abbrev n : ℕ
       n = u.node
 
@@ -175,7 +175,7 @@ module _ (places : List Place) (asked : List Command) (each : (n : ℕ) (p : Pla
             (told.0, told.1, told.2, (λ r above. subst (λ b. was_sent (tells b) more r q ≡ true) (a.below is) (told.3 r above)))
 
       -- a branch of another node asks nobody now
-      pub others_silent : (m : ℕ) → m ≢ n → (j : Kept) → node_at f m ≡ Some j → (b : BranchId) (l : Live) → live_at j b ≡ Some l → (c : BranchId) → was_asked d.says l.me c ≡ false
+      pub others_silent : (m : ℕ) → m ≢ n → (j : NodeState) → node_at f m ≡ Some j → (b : BranchId) (l : Live) → live_at j b ≡ Some l → (c : BranchId) → was_asked d.says l.me c ≡ false
       others_silent m other j there b l live c = by (was_asked d.says l.me c) refl
         where
           by : (q : Bool) → was_asked d.says l.me c ≡ q → q ≡ false
@@ -192,7 +192,7 @@ module _ (places : List Place) (asked : List Command) (each : (n : ℕ) (p : Pla
     -- ---- every happening
 
     goes_down : (kind : Kind → Bool) → GoesDown kind bs (said_in f)
-        → ((u : Turn) (k : Kept) (may : MayTurn places f u k) → node_at (facts_after places asked f (happenings.Turn u)) u.node ≡ Some (d u k may).after → (q c : BranchId) → was_sent kind (d u k may).says q c ≡ true → HeardAbove kind (bs2 u k may) (more u k may) q)
+        → ((u : Turn) (k : NodeState) (may : MayTurn places f u k) → node_at (facts_after places asked f (happenings.Turn u)) u.node ≡ Some (d u k may).after → (q c : BranchId) → was_sent kind (d u k may).says q c ≡ true → HeardAbove kind (bs2 u k may) (more u k may) q)
         → (h : Happening) → MayHappen places asked f h → GoesDown kind (births_after places f h bs) (said_in (facts_after places asked f h))
     goes_down kind old new (happenings.Turn u) may =
         turn_says places asked f stand.0.0.even u may.0 may.1 (GoesDown kind (bs2 u may.0 may.1)) (λ down. down_same u may.0 may.1 kind old) (λ up. down_all u may.0 may.1 kind old (new u may.0 may.1 up))
@@ -237,7 +237,7 @@ pub walk_goes_on : WalkGoesOn
 walk_goes_on t lawful = (run_asks t lawful).walk
 
 -- a live branch collects as it was told
-pub live_told : (t : History) → IsLawfulRun t → (n : ℕ) (k : Kept) → node_at (facts_at t) n ≡ Some k → (l : Live) → live_at k l.me ≡ Some l → AsTold (said_in (facts_at t)) l
+pub live_told : (t : History) → IsLawfulRun t → (n : ℕ) (k : NodeState) → node_at (facts_at t) n ≡ Some k → (l : Live) → live_at k l.me ≡ Some l → AsTold (said_in (facts_at t)) l
 live_told t lawful n k up l live = (subst (λ o. IfSome o (NodeTold (said_in (facts_at t)))) up ((run_asks t lawful).nodes n)).each l.me l live
 
 pub collects_as_told : CollectsAsTold

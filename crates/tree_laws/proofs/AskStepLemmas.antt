@@ -19,7 +19,7 @@ use Rattle.node_rules.specs.declared.session.PendingCall.TheVariants as pending
 use Rattle.node_rules.specs.declared.work.Work.{Work}
 use Rattle.node_rules.specs.Words.{same, numbered, item_at, put_item, drop_item}
 use Rattle.node_rules.specs.Inputs.{Came, IsCall}
-use Rattle.node_rules.specs.Kept.{Kept, Branch, Deed, live_id, work_id, live_at, post, to_one, to_each}
+use Rattle.node_rules.specs.NodeState.{NodeState, Branch, Deed, live_id, work_id, live_at, post, to_one, to_each}
 use Rattle.node_rules.specs.Names.{passed_on}
 use Rattle.node_rules.specs.Statement.{ran, after_run}
 use Rattle.node_rules.specs.Calls.{with_answer, answer_says, called, exec_to, next_child, strength_of, with_edge, waits_for_opened, hears_reply, nobody_at}
@@ -52,7 +52,7 @@ abbrev pub peer : Edge → BranchId
 peer e = e.peer
 
 -- A branch that asks a child is live and collecting afterwards. Where it tells a child that the walk comes there, it comes to it.
-pub record Asker (Here : BranchId → Type 0) (says : List Post) (after : Kept) (p c : BranchId) : Type 0 where
+pub record Asker (Here : BranchId → Type 0) (says : List Post) (after : NodeState) (p c : BranchId) : Type 0 where
   pub here : Here p
   pub live : Live
   pub way : Bool
@@ -62,11 +62,11 @@ pub record Asker (Here : BranchId → Type 0) (says : List Post) (after : Kept) 
   pub below : was_sent is_below says p c ≡ true → way ≡ true
 
 -- each branch that asks does so
-abbrev pub Askers : (BranchId → Type 0) → List Post → Kept → Type 0
+abbrev pub Askers : (BranchId → Type 0) → List Post → NodeState → Type 0
 Askers Here says after = (p c : BranchId) → was_asked says p c ≡ true → Asker Here says after p c
 
 -- messages without a Prepare
-plain_askers : (Here : BranchId → Type 0) (says : List Post) (after : Kept) → AllSay IsPlain says → Askers Here says after
+plain_askers : (Here : BranchId → Type 0) (says : List Post) (after : NodeState) → AllSay IsPlain says → Askers Here says after
 plain_askers Here says after plain p c is = let none : was_asked says p c ≡ false = plain_asks p c says plain in absurd (cc (is, none))
 
 answer_plain : (x : Branch) (a : Answer) (o : Option BranchId) → AllSay IsPlain (answer_says x a o)
@@ -85,7 +85,7 @@ rolled l = each_says IsPlain l.me kinds.Rollback (children_of l) refl
 ready_true : {l : Live} {b : Bool} → Collected l b acts.SayReady → b ≡ true
 ready_true (steps.Awaits_point child) = refl
 
-ready_way : {k : Kept} {input : Input} {l : Live} {b : Bool} → Acting k input l b acts.SayReady → l.phase ≡ phases.Collecting true
+ready_way : {k : NodeState} {input : Input} {l : Live} {b : Bool} → Acting k input l b acts.SayReady → l.phase ≡ phases.Collecting true
 ready_way (steps.Has_no_children l comment b _ live begins none collected) = ap phases.Collecting (ready_true collected)
 ready_way (steps.Hears_last l from v b _ live answers other all collected) = let at : l.phase ≡ phases.Collecting b = answers.collecting in at ∙ ap phases.Collecting (ready_true collected)
 ready_way (steps.At_point l from _ live came is pointed) = elim pointed [ ]
@@ -101,16 +101,16 @@ one_more j = omega arith
 
 module _ (E : BranchId → Option ℕ) (A : BranchId → Option BranchId) (G Here : BranchId → Type 0) (input : Input) (said : List Post) (received : turns.Received E A G Here input said) (prepared : frost.Prepared E A G Here input said received) where
   -- the branches and what is known of them as a turn begins
-  abbrev Nodes : Kept → Type 0
+  abbrev Nodes : NodeState → Type 0
   Nodes k = EachLive (turns.Begun E A G Here input said) k.lives k.works
 
-  abbrev Ices : Kept → Type 0
+  abbrev Ices : NodeState → Type 0
   Ices k = frost.Ices E A G Here input said received k
 
   abbrev Old : Live → Work → Type 0
   Old l w = AsTold said l
 
-  abbrev pub Olds : Kept → Type 0
+  abbrev pub Olds : NodeState → Type 0
   Olds k = EachLive Old k.lives k.works
 
   abbrev pub Then : List Post → Live → Work → Type 0
@@ -130,37 +130,37 @@ module _ (E : BranchId → Option ℕ) (A : BranchId → Option BranchId) (G Her
     stay : (says : List Post) → AllSay IsPlain says → (y : Live) (v : Work) → Old y v → Then says y v
     stay says plain y v is = stays_told said says y.me y.parent y.phase (children_of y) (step_from y) (λ c. plain_asks y.me c says plain) is
 
-    quiet : (k : Kept) → Olds k → (says : List Post) → AllSay IsPlain says → EachLive (Then says) k.lives k.works
+    quiet : (k : NodeState) → Olds k → (says : List Post) → AllSay IsPlain says → EachLive (Then says) k.lives k.works
     quiet k now says plain = each_same Old (Then says) k.lives k.works now (λ y v live any is. stay says plain y v is)
 
-    left : (k : Kept) → Olds k → (b : BranchId) (says : List Post) → AllSay IsPlain says → EachLive (Then says) (drop_item live_id k.lives b) (drop_item work_id k.works b)
+    left : (k : NodeState) → Olds k → (b : BranchId) (says : List Post) → AllSay IsPlain says → EachLive (Then says) (drop_item live_id k.lives b) (drop_item work_id k.works b)
     left k now b says plain = each_left Old (Then says) k.lives k.works now b (λ y v live other is. stay says plain y v is)
 
-    put : (k : Kept) → Olds k → (says : List Post) (l : Live) (w : Work) → w.branch ≡ l.me → AllSay IsPlain says → AsTold said l → EachLive (Then says) (put_item live_id k.lives l) (put_item work_id k.works w)
+    put : (k : NodeState) → Olds k → (says : List Post) (l : Live) (w : Work) → w.branch ≡ l.me → AllSay IsPlain says → AsTold said l → EachLive (Then says) (put_item live_id k.lives l) (put_item work_id k.works w)
     put k now says l w mine plain is = each_put Old (Then says) k.lives k.works now l w mine (stay says plain l w is) (λ y v live other so. stay says plain y v so)
 
     -- a working branch
-    works : (k : Kept) → Olds k → (says : List Post) (l : Live) (w : Work) → w.branch ≡ l.me → AllSay IsPlain says → l.phase ≡ phases.Working → EachLive (Then says) (put_item live_id k.lives l) (put_item work_id k.works w)
+    works : (k : NodeState) → Olds k → (says : List Post) (l : Live) (w : Work) → w.branch ≡ l.me → AllSay IsPlain says → l.phase ≡ phases.Working → EachLive (Then says) (put_item live_id k.lives l) (put_item work_id k.works w)
     works k now says l w mine plain working = put k now says l w mine plain (working_told said l.me l.parent l.phase (children_of l) (step_from l) working)
 
-    answers : (k : Kept) → Olds k → (x : Branch) (a : Answer) (after : Kept) → x.work.branch ≡ x.live.me → x.live.phase ≡ phases.Working
+    answers : (k : NodeState) → Olds k → (x : Branch) (a : Answer) (after : NodeState) → x.work.branch ≡ x.live.me → x.live.phase ≡ phases.Working
         → EachLive (Then (answer_says x a x.live.parent)) (put_item live_id k.lives x.live) (put_item work_id k.works (with_answer x a).work) × Askers Here (answer_says x a x.live.parent) after
     answers k now x a after mine working =
         let plain = answer_plain x a x.live.parent in (works k now (answer_says x a x.live.parent) x.live (with_answer x a).work mine plain working, plain_askers Here (answer_says x a x.live.parent) after plain)
 
-    calls : (k : Kept) → Olds k → (x : Branch) (i : ℕ) (s : Stmt) (given : ℕ) (ss : List Session) (after : Kept) → x.work.branch ≡ x.live.me → x.live.phase ≡ phases.Working
+    calls : (k : NodeState) → Olds k → (x : Branch) (i : ℕ) (s : Stmt) (given : ℕ) (ss : List Session) (after : NodeState) → x.work.branch ≡ x.live.me → x.live.phase ≡ phases.Working
         → EachLive (Then (exec_to ss x i s given (peer_of x.live i))) (put_item live_id k.lives x.live) (put_item work_id k.works (called x i s given).work) × Askers Here (exec_to ss x i s given (peer_of x.live i)) after
     calls k now x i s given ss after mine working =
         let says : List Post = exec_to ss x i s given (peer_of x.live i) in
         let plain = exec_plain ss x i s given (peer_of x.live i) in (works k now says x.live (called x i s given).work mine plain working, plain_askers Here says after plain)
 
-    begun : (k : Kept) → Olds k → (says : List Post) → AllSay IsPlain says → (l : Live) → l.phase ≡ phases.Working → EachLive (Then says) (k.lives ++ l ∷ []) k.works
+    begun : (k : NodeState) → Olds k → (says : List Post) → AllSay IsPlain says → (l : Live) → l.phase ≡ phases.Working → EachLive (Then says) (k.lives ++ l ∷ []) k.works
     begun k now says plain l working =
         each_begun Old (Then says) k.lives k.works now l (working_told (said ++ says) l.me l.parent l.phase (children_of l) (step_from l) working) (λ y v live any is. stay says plain y v is)
 
     -- ---- the prepare phase
 
-    module _ (k : Kept) (ss : SessionsFit k) (nodes : Nodes k) (ice : Ices k) (now : Olds k) where
+    module _ (k : NodeState) (ss : SessionsFit k) (nodes : Nodes k) (ice : Ices k) (now : Olds k) where
       -- a branch begins its collect as its parent told it, and was working
       collects_told : {comment : List ℕ} {b : Bool} (l : Live) → live_at k l.me ≡ Some l → Collects k input l comment b → (q : BranchId) → l.parent ≡ Some q → was_sent (tells b) said q l.me ≡ true
       collects_told l live (steps.By_commit n given call has free is) q above = let none : l.parent ≡ None = root_alone k ss n l.me has l live in absurd (cc (none, above))
@@ -285,10 +285,10 @@ module _ (E : BranchId → Option ℕ) (A : BranchId → Option BranchId) (G Her
 
       -- ---- acts
 
-      changed : (l : Live) (says : List Post) (after : Kept) → AllSay IsPlain says → AsTold said l → EachLive (Then says) (put_item live_id k.lives l) k.works × Askers Here says after
+      changed : (l : Live) (says : List Post) (after : NodeState) → AllSay IsPlain says → AsTold said l → EachLive (Then says) (put_item live_id k.lives l) k.works × Askers Here says after
       changed l says after plain is = (each_changed Old (Then says) k.lives k.works now l (stay says plain l (works_of k.works l.me) is) (λ y v live other so. stay says plain y v so), plain_askers Here says after plain)
 
-      leaves : (b : BranchId) (says : List Post) (after : Kept) → AllSay IsPlain says → EachLive (Then says) (drop_item live_id k.lives b) (drop_item work_id k.works b) × Askers Here says after
+      leaves : (b : BranchId) (says : List Post) (after : NodeState) → AllSay IsPlain says → EachLive (Then says) (drop_item live_id k.lives b) (drop_item work_id k.works b) × Askers Here says after
       leaves b says after plain = (left k now b says plain, plain_askers Here says after plain)
 
       acts_told : {l : Live} {b : Bool} (a : Act) → Acting k input l b a → Leaves (act_turn k l b a)
@@ -304,7 +304,7 @@ module _ (E : BranchId → Option ℕ) (A : BranchId → Option BranchId) (G Her
 
     -- ---- every step
 
-    says_told : (k : Kept) → Olds k → {says : List Post} → Says k input says → AllSay IsPlain says
+    says_told : (k : NodeState) → Olds k → {says : List Post} → Says k input says → AllSay IsPlain says
     says_told k now (steps.Gone_replies to from call given advice s came gone) = (refl, tt)
     says_told k now (steps.Replies_again x to call given advice s t came live last kept) = (refl, tt)
     says_told k now (steps.Tells s from came kept) = (told_says IsPlain plain_decisions (kept_told s from), tt)
@@ -320,14 +320,14 @@ module _ (E : BranchId → Option ℕ) (A : BranchId → Option BranchId) (G Her
     says_told k now (steps.Is_in_doubt l from came live other) = (refl, tt)
 
     -- no live branch changes
-    same_lives : (k : Kept) → Olds k → (says : List Post) (after : Kept) → AllSay IsPlain says → EachLive (Then says) k.lives k.works × Askers Here says after
+    same_lives : (k : NodeState) → Olds k → (says : List Post) (after : NodeState) → AllSay IsPlain says → EachLive (Then says) k.lives k.works × Askers Here says after
     same_lives k now says after plain = (quiet k now says plain, plain_askers Here says after plain)
 
     module _ (p : Place) (place : (b : BranchId) → b.node ≡ p.number → Here b) where
-      works_on : {k : Kept} (ss : SessionsFit k) (nodes : Nodes k) (ice : Ices k) (x : Branch) {s : Stmt} {given : ℕ} → Asked k input x s given → x.live.phase ≡ phases.Working
+      works_on : {k : NodeState} (ss : SessionsFit k) (nodes : Nodes k) (ice : Ices k) (x : Branch) {s : Stmt} {given : ℕ} → Asked k input x s given → x.live.phase ≡ phases.Working
       works_on {k = k} ss nodes ice x asked = frost.asked_works E A G Here input said received prepared k ss nodes ice asked
 
-      pub told_on : {k : Kept} {d : Deed} → Step p input k d → SessionsFit k → News (frost.Unasking E A G Here input said received) p input k → Nodes k → Ices k → Olds k → Leaves d
+      pub told_on : {k : NodeState} {d : Deed} → Step p input k d → SessionsFit k → News (frost.Unasking E A G Here input said received) p input k → Nodes k → Ices k → Olds k → Leaves d
       told_on (steps.Begins {k = k} n s call rows range none step) ss news nodes ice now =
           let root = news.root n s call rows none in
           told_on step (begun_so k ss p n) (begun_news (frost.Unasking E A G Here input said received) p input k n news)

@@ -6,7 +6,7 @@ use Rattle.session_tree.specs.Live.{children_of}
 use Rattle.node_rules.specs.Data.{BranchId, Edge, Live, Post, RedoRecord}
 use Rattle.node_rules.specs.Data.phases
 use Rattle.node_rules.specs.Words.{same, numbered, set_numbered, item_at}
-use Rattle.node_rules.specs.Kept.{Kept, Branch, live_id, live_at, branch_at, work_at, with_work}
+use Rattle.node_rules.specs.NodeState.{NodeState, Branch, live_id, live_at, branch_at, work_at, with_work}
 use Rattle.node_rules.specs.Turn.{turn_of, start_of}
 use Rattle.node_rules.proofs.StandLemmas.{live_so}
 use Rattle.node_rules.specs.LiveBranches.{EachLive}
@@ -67,7 +67,7 @@ module _ (t : History) (before : List Happening) (h : Happening) (lawful : IsLaw
 
   -- The branch as it was before.
   pub record Back (n : ℕ) (y : Branch) : Type 0 where
-    pub kept : Kept
+    pub kept : NodeState
     pub up : node_at f n ≡ Some kept
     pub branch : Branch
     pub found : branch_at kept branch.live.me ≡ Some branch
@@ -76,14 +76,14 @@ module _ (t : History) (before : List Happening) (h : Happening) (lawful : IsLaw
     pub weights : map (λ (c : Edge). c.weight) y.live.edges ≡ map (λ (c : Edge). c.weight) branch.live.edges
 
   -- it asked, so it is not working
-  busy : (n : ℕ) (k : Kept) → node_at f n ≡ Some k → (x : Branch) → branch_at k x.live.me ≡ Some x → (c : BranchId) → was_asked said x.live.me c ≡ true → x.live.phase ≢ phases.Working
+  busy : (n : ℕ) (k : NodeState) → node_at f n ≡ Some k → (x : Branch) → branch_at k x.live.me ≡ Some x → (c : BranchId) → was_asked said x.live.me c ≡ true → x.live.phase ≢ phases.Working
   busy n k up x found c asked working = let no : was_asked said x.live.me c ≡ false = (asked_stand_still s lawful n k up x found).0 working c in absurd (cc (asked, no))
 
-  same_back : (n : ℕ) (k : Kept) → node_at f n ≡ Some k → (y : Branch) → branch_at k y.live.me ≡ Some y → Back n y
+  same_back : (n : ℕ) (k : NodeState) → node_at f n ≡ Some k → (y : Branch) → branch_at k y.live.me ≡ Some y → Back n y
   same_back n k up y found = record { kept = k; up = up; branch = y; found = found; is_me = refl; peers = refl; weights = refl }
 
   -- a live branch of a node after the happening has no exit, and names the node
-  stays_live : (n : ℕ) (j : Kept) → node_at g n ≡ Some j → (y : Branch) → branch_at j y.live.me ≡ Some y → (exit after y.live.me ≡ None) × (y.live.me.node ≡ n)
+  stays_live : (n : ℕ) (j : NodeState) → node_at g n ≡ Some j → (y : Branch) → branch_at j y.live.me ≡ Some y → (exit after y.live.me ≡ None) × (y.live.me.node ≡ n)
   stays_live n j up y found =
       let at : node_at (f_at t (before ++ h ∷ [])) n ≡ Some j = subst (λ x. node_at x n ≡ Some j) (sym (one_on t before h)) up in
       let live : item_at live_id j.lives y.live.me ≡ Some y.live = live_so j y.live.me y found in (
@@ -102,7 +102,7 @@ module _ (t : History) (before : List Happening) (u : Turn) (lawful : IsLawfulRu
   turn_back : LeavesStill t.places f0 (happenings.Turn u) → (y : Branch) → branch_at (turn_of (place_at t.places u.node) may.0 u.input).after y.live.me ≡ Some y → node_at (facts_after t.places t.commands f0 (happenings.Turn u)) u.node ≡ Some (turn_of (place_at t.places u.node) may.0 u.input).after
       → (c : BranchId) → was_asked (said_in f0) y.live.me c ≡ true → BackAt u.node y
   turn_back still y found there c asked =
-      let k : Kept = may.0 in
+      let k : NodeState = may.0 in
       let stays = stays_live t before (happenings.Turn u) lawful may u.node (turn_of (place_at t.places u.node) may.0 u.input).after there y found in
       let asker = askers_were_asked (so_far t before) lawful y.live.me c asked in
       let began : born_at (births_of (so_far t before)) y.live.me ≡ Some asker.0 = subst (λ b. born_at (births_of (so_far t before)) b ≡ Some asker.0) asker.2 asker.1 in
@@ -127,7 +127,7 @@ module _ (t : History) (before : List Happening) (u : Turn) (lawful : IsLawfulRu
   even : length f0.nodes ≡ length f0.records
   even = (run_stands (so_far t before) lawful).0.even
 
-  pub turn_back_at : LeavesStill t.places f0 (happenings.Turn u) → (n : ℕ) (j : Kept) → node_at g0 n ≡ Some j → (y : Branch) → branch_at j y.live.me ≡ Some y → (c : BranchId) → was_asked (said_in f0) y.live.me c ≡ true → BackAt n y
+  pub turn_back_at : LeavesStill t.places f0 (happenings.Turn u) → (n : ℕ) (j : NodeState) → node_at g0 n ≡ Some j → (y : Branch) → branch_at j y.live.me ≡ Some y → (c : BranchId) → was_asked (said_in f0) y.live.me c ≡ true → BackAt n y
   turn_back_at still n j up y found c asked = elim (cases_nat n u.node) [
     | inl at ↦ subst (λ i. BackAt i y) (sym at) (here (subst (λ i. node_at g0 i ≡ Some j) at up) u.cut refl)
     | inr other ↦ same_back t before (happenings.Turn u) lawful may n j (sym (turn_elsewhere t.places t.commands f0 even u n (λ is. other (sym is))).0 ∙ up) y found
@@ -157,38 +157,38 @@ module _ (t : History) (before : List Happening) where
   start_empty : (zs : List RedoRecord) (y : Branch) → branch_at (start_of zs) y.live.me ≡ Some y → ⊥
   start_empty zs y found = (start_none zs).each y.live.me y.live (live_so (start_of zs) y.live.me y found)
 
-  set_back : (m n : ℕ) (o : Option Kept) (j : Kept) → flat (numbered (set_numbered f1.nodes m o) n) ≡ Some j → (node_at f1 n ≡ Some j) ⊎ (o ≡ Some j)
+  set_back : (m n : ℕ) (o : Option NodeState) (j : NodeState) → flat (numbered (set_numbered f1.nodes m o) n) ≡ Some j → (node_at f1 n ≡ Some j) ⊎ (o ≡ Some j)
   set_back m n o j up = elim (set_or_before f1.nodes m n o) [ inl still ↦ inl (ap flat (sym still) ∙ up) | inr set ↦ inr (ap flat (sym set.1) ∙ up) ]
 
-  stop_back : (m n : ℕ) (j : Kept) → node_at (facts_after t.places t.commands f1 (happenings.Stopped m)) n ≡ Some j → node_at f1 n ≡ Some j
+  stop_back : (m n : ℕ) (j : NodeState) → node_at (facts_after t.places t.commands f1 (happenings.Stopped m)) n ≡ Some j → node_at f1 n ≡ Some j
   unfolding facts_after
   stop_back m n j up = elim (set_back m n None j up) [ inl old ↦ old | inr none ↦ absurd cc ]
 
-  start_back : (m boot n : ℕ) (j : Kept) → node_at (facts_after t.places t.commands f1 (happenings.Started m boot)) n ≡ Some j → (y : Branch) → branch_at j y.live.me ≡ Some y → node_at f1 n ≡ Some j
+  start_back : (m boot n : ℕ) (j : NodeState) → node_at (facts_after t.places t.commands f1 (happenings.Started m boot)) n ≡ Some j → (y : Branch) → branch_at j y.live.me ≡ Some y → node_at f1 n ≡ Some j
   unfolding facts_after
   start_back m boot n j up y found = elim (set_back m n (Some (start_of (with_boot f1 m boot))) j up) [
     | inl old ↦ old
     | inr new ↦ absurd (start_empty (with_boot f1 m boot) y (let it : start_of (with_boot f1 m boot) ≡ j = cc in subst (λ k. branch_at k y.live.me ≡ Some y) (sym it) found))
   ]
 
-  begun_back : (c n : ℕ) (j : Kept) → node_at (facts_after t.places t.commands f1 (happenings.Begun c)) n ≡ Some j → node_at f1 n ≡ Some j
+  begun_back : (c n : ℕ) (j : NodeState) → node_at (facts_after t.places t.commands f1 (happenings.Begun c)) n ≡ Some j → node_at f1 n ≡ Some j
   unfolding facts_after
   begun_back c n j up = up
 
-  cut_back : (a b n : ℕ) (j : Kept) → node_at (facts_after t.places t.commands f1 (happenings.Cut a b)) n ≡ Some j → node_at f1 n ≡ Some j
+  cut_back : (a b n : ℕ) (j : NodeState) → node_at (facts_after t.places t.commands f1 (happenings.Cut a b)) n ≡ Some j → node_at f1 n ≡ Some j
   unfolding facts_after
   cut_back a b n j up = up
 
-  join_back : (a b n : ℕ) (j : Kept) → node_at (facts_after t.places t.commands f1 (happenings.Join a b)) n ≡ Some j → node_at f1 n ≡ Some j
+  join_back : (a b n : ℕ) (j : NodeState) → node_at (facts_after t.places t.commands f1 (happenings.Join a b)) n ≡ Some j → node_at f1 n ≡ Some j
   unfolding facts_after
   join_back a b n j up = up
 
-  lost_back : (k n : ℕ) (j : Kept) → node_at (facts_after t.places t.commands f1 (happenings.Lost k)) n ≡ Some j → node_at f1 n ≡ Some j
+  lost_back : (k n : ℕ) (j : NodeState) → node_at (facts_after t.places t.commands f1 (happenings.Lost k)) n ≡ Some j → node_at f1 n ≡ Some j
   unfolding facts_after
   lost_back k n j up = up
 
   -- each happening
-  pub back : (h : Happening) (lawful : IsLawfulRun (so_far t before)) (may : MayHappen t.places t.commands f1 h) → LeavesStill t.places f1 h → (n : ℕ) (j : Kept) → node_at (facts_after t.places t.commands f1 h) n ≡ Some j
+  pub back : (h : Happening) (lawful : IsLawfulRun (so_far t before)) (may : MayHappen t.places t.commands f1 h) → LeavesStill t.places f1 h → (n : ℕ) (j : NodeState) → node_at (facts_after t.places t.commands f1 h) n ≡ Some j
       → (y : Branch) → branch_at j y.live.me ≡ Some y → (c : BranchId) → was_asked (said_in f1) y.live.me c ≡ true → Back t before h lawful may n y
   back (happenings.Turn u) lawful may still n j up y found c asked = turn_back_at t before u lawful may still n j up y found c asked
   back (happenings.Stopped m) lawful may still n j up y found c asked = same_back t before (happenings.Stopped m) lawful may n j (stop_back m n j up) y found

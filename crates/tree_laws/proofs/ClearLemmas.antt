@@ -10,7 +10,7 @@ use Rattle.redo_record.specs.declared.durable.Kid.{Kid}
 use Rattle.session_tree.specs.Live.{is_branch}
 use Rattle.node_rules.specs.Data.{BranchId, Standing}
 use Rattle.node_rules.specs.Words.{same}
-use Rattle.node_rules.specs.Kept.{standing_id}
+use Rattle.node_rules.specs.NodeState.{standing_id}
 use Rattle.agreement.specs.Events.{Forest, IsForest, Event, Beyond, Send_ack, Has, Cleared, site_of}
 use Rattle.run_base_laws.specs.NodeLaws.{unacked_kid}
 use Rattle.run_branch_laws.specs.TowardLaws.{IsRowLike, AllAcked}

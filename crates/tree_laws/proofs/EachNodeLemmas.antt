@@ -4,7 +4,7 @@ use Rattle.std.specs.Prelude.{IfSome}
 use Rattle.tran_ids.proofs.NumberedLemmas.{set_or_before}
 use Rattle.node_rules.specs.Data.{Place, Post, RedoRecord}
 use Rattle.node_rules.specs.Words.{numbered, set_numbered}
-use Rattle.node_rules.specs.Kept.{Kept, Deed}
+use Rattle.node_rules.specs.NodeState.{NodeState, Deed}
 use Rattle.node_rules.specs.Turn.{turn_of, start_of, deed_of}
 use Rattle.run_rules.specs.Data.{Turn, Happening, Command}
 use Rattle.run_rules.specs.Data.happenings
@@ -18,7 +18,7 @@ use Rattle.run_base_laws.proofs.TurnEventLemmas.{cases_nat}
 use Rattle.tree_laws.proofs.PrefixLemmas.{so_far, f_at, one_on, keep_prefix}
 
 -- so it is of each node that is up, and of what was said
-abbrev pub EachNode : (List Post → Kept → Type 0) → Facts → Type 0
+abbrev pub EachNode : (List Post → NodeState → Type 0) → Facts → Type 0
 EachNode N f = (n : ℕ) → IfSome (node_at f n) (N (said_in f))
 
 module _ (places : List Place) (asked : List Command) (f : Facts) where
@@ -27,7 +27,7 @@ module _ (places : List Place) (asked : List Command) (f : Facts) where
 
   -- ---- a turn
 
-  module _ (even : length f.nodes ≡ length f.records) (u : Turn) (k : Kept) (may : MayTurn places f u k) where
+  module _ (even : length f.nodes ≡ length f.records) (u : Turn) (k : NodeState) (may : MayTurn places f u k) where
     abbrev p : Place
     p = place_at places u.node
 
@@ -51,19 +51,19 @@ module _ (places : List Place) (asked : List Command) (f : Facts) where
     pub turn_says : (M : List Post → Type 0) → (node_at g u.node ≡ None → M said) → (node_at g u.node ≡ Some d.after → M (said ++ d.says)) → M (said_in g)
     turn_says M none all = says_by M none all u.cut refl may.owed
 
-    module _ (N : List Post → Kept → Type 0) (now : EachNode N f) where
-      elsewhere : (xs : List Post) → ((m : ℕ) → m ≢ u.node → (j : Kept) → node_at f m ≡ Some j → N said j → N xs j) → (m : ℕ) → m ≢ u.node → IfSome (node_at g m) (N xs)
+    module _ (N : List Post → NodeState → Type 0) (now : EachNode N f) where
+      elsewhere : (xs : List Post) → ((m : ℕ) → m ≢ u.node → (j : NodeState) → node_at f m ≡ Some j → N said j → N xs j) → (m : ℕ) → m ≢ u.node → IfSome (node_at g m) (N xs)
       elsewhere xs stays m other = subst (λ o. IfSome o (N xs)) (sym (turn_elsewhere places asked f even u m (λ e. other (sym e))).0) (by (node_at f m) refl (now m))
         where
-          by : (o : Option Kept) → node_at f m ≡ o → IfSome o (N said) → IfSome o (N xs)
+          by : (o : Option NodeState) → node_at f m ≡ o → IfSome o (N said) → IfSome o (N xs)
           by None up old = tt
           by (Some j) up old = stays m other j up old
 
-      everywhere : (xs : List Post) → IfSome (node_at g u.node) (N xs) → ((m : ℕ) → m ≢ u.node → (j : Kept) → node_at f m ≡ Some j → N said j → N xs j) → (m : ℕ) → IfSome (node_at g m) (N xs)
+      everywhere : (xs : List Post) → IfSome (node_at g u.node) (N xs) → ((m : ℕ) → m ≢ u.node → (j : NodeState) → node_at f m ≡ Some j → N said j → N xs j) → (m : ℕ) → IfSome (node_at g m) (N xs)
       everywhere xs own stays m = elim (cases_nat m u.node) [ inl at ↦ subst (λ i. IfSome (node_at g i) (N xs)) (sym at) own | inr other ↦ elsewhere xs stays m other ]
 
       -- a turn keeps it where it leaves it so at its node, and its messages leave it so at the others
-      pub turn_nodes : N (said ++ d.says) d.after → ((m : ℕ) → m ≢ u.node → (j : Kept) → node_at f m ≡ Some j → N said j → N (said ++ d.says) j) → EachNode N g
+      pub turn_nodes : N (said ++ d.says) d.after → ((m : ℕ) → m ≢ u.node → (j : NodeState) → node_at f m ≡ Some j → N said j → N (said ++ d.says) j) → EachNode N g
       turn_nodes own stays =
           turn_says (λ xs. (m : ℕ) → IfSome (node_at g m) (N xs))
           (λ down. everywhere said (subst (λ o. IfSome o (N said)) (sym down) tt) (λ m other j up old. old))
@@ -75,7 +75,7 @@ module _ (places : List Place) (asked : List Command) (f : Facts) where
   pub quiet_says : (M : List Post → Type 0) (h : Happening) → posts_of h ≡ [] → M said → M (said_in (facts_after places asked f h))
   quiet_says M h none now = subst M (sym (said_after places asked f h ∙ (ap (λ xs. said ++ xs) none ∙ append-nil said))) now
 
-  pub says_on : (M : List Post → Type 0) → M said → ((u : Turn) (k : Kept) → MayTurn places f u k → M (said_in (facts_after places asked f (happenings.Turn u)))) → (h : Happening) → MayHappen places asked f h → M (said_in (facts_after places asked f h))
+  pub says_on : (M : List Post → Type 0) → M said → ((u : Turn) (k : NodeState) → MayTurn places f u k → M (said_in (facts_after places asked f (happenings.Turn u)))) → (h : Happening) → MayHappen places asked f h → M (said_in (facts_after places asked f h))
   says_on M now turn (happenings.Turn u) may = turn u may.0 may.1
   says_on M now turn (happenings.Stopped m) may = quiet_says M (happenings.Stopped m) refl now
   says_on M now turn (happenings.Started m boot) may = quiet_says M (happenings.Started m boot) refl now
@@ -84,9 +84,9 @@ module _ (places : List Place) (asked : List Command) (f : Facts) where
   says_on M now turn (happenings.Join a b) may = quiet_says M (happenings.Join a b) refl now
   says_on M now turn (happenings.Lost i) may = quiet_says M (happenings.Lost i) refl now
 
-  module _ (N : List Post → Kept → Type 0) (begun : (ms : List Post) (rs : List RedoRecord) → N ms (start_of rs)) (now : EachNode N f) where
+  module _ (N : List Post → NodeState → Type 0) (begun : (ms : List Post) (rs : List RedoRecord) → N ms (start_of rs)) (now : EachNode N f) where
     -- a node that is set
-    set_node : (m i : ℕ) (o : Option Kept) → IfSome o (N said) → IfSome (flat (numbered (set_numbered f.nodes m o) i)) (N said)
+    set_node : (m i : ℕ) (o : Option NodeState) → IfSome o (N said) → IfSome (flat (numbered (set_numbered f.nodes m o) i)) (N said)
     set_node m i o new = elim (set_or_before f.nodes m i o) [
       | inl still ↦ subst (λ x. IfSome (flat x) (N said)) (sym still) (now i)
       | inr set ↦ subst (λ x. IfSome (flat x) (N said)) (sym set.1) new
@@ -96,7 +96,7 @@ module _ (places : List Place) (asked : List Command) (f : Facts) where
     still h none nodes i = quiet_says (λ xs. IfSome (node_at (facts_after places asked f h) i) (N xs)) h none (nodes i)
 
     -- each happening keeps it where each turn does
-    pub nodes_on : ((u : Turn) (k : Kept) → MayTurn places f u k → EachNode N (facts_after places asked f (happenings.Turn u))) → (h : Happening) → MayHappen places asked f h → EachNode N (facts_after places asked f h)
+    pub nodes_on : ((u : Turn) (k : NodeState) → MayTurn places f u k → EachNode N (facts_after places asked f (happenings.Turn u))) → (h : Happening) → MayHappen places asked f h → EachNode N (facts_after places asked f h)
     unfolding facts_after
     nodes_on turn (happenings.Turn u) may = turn u may.0 may.1
     nodes_on turn (happenings.Stopped m) may = still (happenings.Stopped m) refl (λ i. set_node m i None tt)
@@ -108,12 +108,12 @@ module _ (places : List Place) (asked : List Command) (f : Facts) where
 
 -- ---- every run
 
-module _ (N : List Post → Kept → Type 0) (begun : (ms : List Post) (rs : List RedoRecord) → N ms (start_of rs)) where
+module _ (N : List Post → NodeState → Type 0) (begun : (ms : List Post) (rs : List RedoRecord) → N ms (start_of rs)) where
   pub nodes_first : (places : List Place) → EachNode N (first_facts places)
   nodes_first places n = first_node (λ o. IfSome o (N [])) tt (begun [] _) places n
 
-  module _ (t : History) (more : (said says : List Post) (k : Kept) → N said k → N (said ++ says) k)
-      (turn : (before : List Happening) → IsLawfulRun (so_far t before) → EachNode N (f_at t before) → (u : Turn) (k : Kept) → MayTurn t.places (f_at t before) u k
+  module _ (t : History) (more : (said says : List Post) (k : NodeState) → N said k → N (said ++ says) k)
+      (turn : (before : List Happening) → IsLawfulRun (so_far t before) → EachNode N (f_at t before) → (u : Turn) (k : NodeState) → MayTurn t.places (f_at t before) u k
       → N (said_in (f_at t before) ++ (deed_of (place_at t.places u.node) k u.input).says) (deed_of (place_at t.places u.node) k u.input).after) where
     goes_on : (before : List Happening) (h : Happening) → IsLawfulRun (so_far t before) → MayHappen t.places t.commands (f_at t before) h → EachNode N (f_at t before) → EachNode N (f_at t (before ++ h ∷ []))
     goes_on before h lawful may now =
@@ -129,5 +129,5 @@ module _ (N : List Post → Kept → Type 0) (begun : (ms : List Post) (rs : Lis
     pub nodes_end : IsLawfulRun t → EachNode N (facts_at t)
     nodes_end lawful = keep_prefix t (λ hs. EachNode N (f_at t hs)) goes_on lawful first
 
-    pub node_end : IsLawfulRun t → (n : ℕ) (k : Kept) → node_at (facts_at t) n ≡ Some k → N (said_in (facts_at t)) k
+    pub node_end : IsLawfulRun t → (n : ℕ) (k : NodeState) → node_at (facts_at t) n ≡ Some k → N (said_in (facts_at t)) k
     node_end lawful n k up = subst (λ o. IfSome o (N (said_in (facts_at t)))) up (nodes_end lawful n)

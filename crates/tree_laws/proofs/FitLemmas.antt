@@ -11,7 +11,7 @@ use Rattle.node_rules.specs.Data.{BranchId, Place, Post, RedoRecord}
 use Rattle.node_rules.specs.Data.{Sealed, Decided}
 use Rattle.node_rules.specs.Data.records
 use Rattle.node_rules.specs.Words.{numbered}
-use Rattle.node_rules.specs.Kept.{Kept}
+use Rattle.node_rules.specs.NodeState.{NodeState}
 use Rattle.redo_record.specs.Rows.{sealed_as, decided_as}
 use Rattle.agreement.specs.Events as exits
 use Rattle.agreement.specs.Events.{Event, Exit, first, only_at, exit}
@@ -60,7 +60,7 @@ last_so : (P : RedoRecord → Type 0) (rs : List RedoRecord) (r : RedoRecord) �
 last_so P [] r all = all.0
 last_so P (x ∷ rs) r all = last_so P rs r all.1
 
-module _ (places : List Place) (asked : List Command) (f : Facts) (even : length f.nodes ≡ length f.records) (u : Turn) (k : Kept) (up : node_at f u.node ≡ Some k) where
+module _ (places : List Place) (asked : List Command) (f : Facts) (even : length f.nodes ≡ length f.records) (u : Turn) (k : NodeState) (up : node_at f u.node ≡ Some k) where
   record_here : records_at (facts_after places asked f (happenings.Turn u)) u.node ≡ records_at f u.node ++ option_to_list u.wrote
   unfolding facts_after
   record_here = let disk = there_too f.nodes f.records u.node (Some k) even (flat_some (numbered f.nodes u.node) k up) in ap (λ o. unwrap_or o []) (set_found f.records u.node disk.0 _ disk.1)
@@ -112,7 +112,7 @@ module _ (places : List Place) (asked : List Command) where
 
 module _ (places : List Place) (asked : List Command) (each : (n : ℕ) (p : Place) → numbered places n ≡ Some p → IsPlace places n p) where
   module _ (f : Facts) (t : List Event) (bs : List Born) (stand : StandBorn places asked each f t bs) (roots : RootsStand places asked each f) (turned : CallsStand f) (ice : FreezeStand f) (now : AskStand f bs) where
-    module _ (u : Turn) (k : Kept) (may : MayTurn places f u k) (hs : List Happening) (lawful : IsLawful places asked (facts_after places asked f (happenings.Turn u)) hs) where
+    module _ (u : Turn) (k : NodeState) (may : MayTurn places f u k) (hs : List Happening) (lawful : IsLawful places asked (facts_after places asked f (happenings.Turn u)) hs) where
       abbrev g : Facts
       g = facts_after places asked f (happenings.Turn u)
 

@@ -9,7 +9,7 @@ use Rattle.node_rules.specs.declared.session.Session.{Session}
 use Rattle.node_rules.specs.declared.work.Work.{Work}
 use Rattle.node_rules.specs.declared.work.Going.{Going}
 use Rattle.node_rules.specs.Words.{numbered, set_numbered}
-use Rattle.node_rules.specs.Kept.{Branch}
+use Rattle.node_rules.specs.NodeState.{Branch}
 use Rattle.node_rules.specs.Sessions.{fresh_session, session_at, with_call, needs_rollback}
 use Rattle.node_rules.specs.Calls.{called, with_edge, hears_reply}
 use Rattle.node_rules.specs.Prepare.{with_prepare_sent, has_voted, answers_first}

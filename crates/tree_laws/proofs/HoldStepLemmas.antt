@@ -16,7 +16,7 @@ use Rattle.node_rules.specs.declared.work.Work.{Work}
 use Rattle.node_rules.specs.Words.{same, numbered, put_item, drop_item}
 use Rattle.node_rules.specs.Refusals.{dtx}
 use Rattle.node_rules.specs.Inputs.{Came, IsCall}
-use Rattle.node_rules.specs.Kept.{Kept, Branch, Deed, live_id, work_id, live_at, branch_at, post, to_one, to_each, no_work}
+use Rattle.node_rules.specs.NodeState.{NodeState, Branch, Deed, live_id, work_id, live_at, branch_at, post, to_one, to_each, no_work}
 use Rattle.node_rules.specs.Sessions.{session_at, with_call, needs_rollback}
 use Rattle.node_rules.specs.Names.{passed_on}
 use Rattle.node_rules.specs.Statement.{ran, after_run}
@@ -63,10 +63,10 @@ module _ (E : BranchId → Option ℕ) (A : BranchId → Option BranchId) (G Her
   abbrev Begun : Live → Work → Type 0
   Begun = turns.Begun E A G Here input said
 
-  abbrev Nodes : Kept → Type 0
+  abbrev Nodes : NodeState → Type 0
   Nodes k = EachLive Begun k.lives k.works
 
-  abbrev Ices : Kept → Type 0
+  abbrev Ices : NodeState → Type 0
   Ices k = frost.Ices E A G Here input said received k
 
   abbrev Goes : Live → Type 0
@@ -75,7 +75,7 @@ module _ (E : BranchId → Option ℕ) (A : BranchId → Option BranchId) (G Her
   abbrev pub Old : Live → Work → Type 0
   Old l w = HoldsWeights said (Goes l) l.me l.edges w
 
-  abbrev pub Olds : Kept → Type 0
+  abbrev pub Olds : NodeState → Type 0
   Olds k = EachLive Old k.lives k.works
 
   abbrev pub Then : List Post → Live → Work → Type 0
@@ -104,7 +104,7 @@ module _ (E : BranchId → Option ℕ) (A : BranchId → Option BranchId) (G Her
 
   -- ---- what becomes of the branches
 
-  module _ (k : Kept) (now : Olds k) where
+  module _ (k : NodeState) (now : Olds k) where
     stay : (says : List Post) → AllSay IsPlain says → (y : Live) (v : Work) → Old y v → Then says y v
     stay says plain y v is = holding_more said says (Goes y) y.me y.edges v (λ c. plain_asks y.me c says plain) is
 
@@ -228,7 +228,7 @@ module _ (E : BranchId → Option ℕ) (A : BranchId → Option BranchId) (G Her
 
   -- ---- every step
 
-  says_plain : {k : Kept} {says : List Post} → Says k input says → AllSay IsPlain says
+  says_plain : {k : NodeState} {says : List Post} → Says k input says → AllSay IsPlain says
   says_plain (steps.Gone_replies to from call given advice s came gone) = (refl, tt)
   says_plain (steps.Replies_again x to call given advice s t came live last kept) = (refl, tt)
   says_plain (steps.Tells s from came kept) = (told_says IsPlain plain_decisions (kept_told s from), tt)
@@ -248,7 +248,7 @@ module _ (E : BranchId → Option ℕ) (A : BranchId → Option BranchId) (G Her
   Weighed = (from to : BranchId) (call : ℕ) (weight : Option ℕ) (count : ℕ) (a : Answer) → Came input from to (kinds.Reply call weight count a) → ToldWeight said from call weight
 
   module _ (weighed : Weighed) (p : Place) (place : (b : BranchId) → b.node ≡ p.number → Here b) where
-    pub holds_on : {k : Kept} {d : Deed} → Step p input k d → deeds.Granted E A G Here input said received d → SessionsFit k → News (frost.Unasking E A G Here input said received) p input k → Nodes k → Ices k → Olds k → Leaves d
+    pub holds_on : {k : NodeState} {d : Deed} → Step p input k d → deeds.Granted E A G Here input said received d → SessionsFit k → News (frost.Unasking E A G Here input said received) p input k → Nodes k → Ices k → Olds k → Leaves d
     holds_on (steps.Begins {k = k} n s call rows range none step) granted ss news nodes ice now =
         let root = news.root n s call rows none in
         holds_on step granted (begun_so k ss p n) (begun_news (frost.Unasking E A G Here input said received) p input k n news)

@@ -8,7 +8,7 @@ use Rattle.tran_ids.proofs.NumberedLemmas.{set_or_before}
 use Rattle.node_rules.specs.Data.{BranchId, Decision, Place, Post, RedoRecord, Standing}
 use Rattle.node_rules.specs.Data.records
 use Rattle.node_rules.specs.Words.{numbered, set_numbered}
-use Rattle.node_rules.specs.Kept.{Kept, standing_id}
+use Rattle.node_rules.specs.NodeState.{NodeState, standing_id}
 use Rattle.agreement.specs.Events.{Event, Forest}
 use Rattle.run_rules.specs.Data.{Happening, Command}
 use Rattle.run_rules.specs.Data.happenings
@@ -107,7 +107,7 @@ module _ (places : List Place) (asked : List Command) (each : (n : ℕ) (p : Pla
   learns_on : (ends bs : List Born) (all : List Post) → Known ends all → ((x : Born) → Began bs x → Began ends x) → (f : Facts) (t : List Event) → StandBorn places asked each f t bs → DisksLead all f → (h : Happening) → MayHappen places asked f h
       → WritesByRow f t h → LearnsInForest (forest_by ends all) f t h
   learns_on ends bs all known wider f t stand disks (happenings.Turn u) may rows =
-      let k : Kept = may.0 in
+      let k : NodeState = may.0 in
       let names : NamesAre (Began bs) k = subst (λ o. IfSome o (NamesAre (Began bs))) may.1.up (stand.1.lives u.node) in
       wrote_learns ends bs all known wider t k.stored.durable.kept (rows_lead all k (records_at f u.node) (node_so places asked each f t stand.0 u.node k may.1.up).stored (disks u.node)) names.1 u.wrote (rows k may.1.up)
   learns_on ends bs all known wider f t stand disks _ may rows = tt

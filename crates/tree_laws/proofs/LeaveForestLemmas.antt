@@ -8,7 +8,7 @@ use Rattle.node_rules.specs.Data.{BranchId, Kind, Live, Act, Msg}
 use Rattle.node_rules.specs.Data.acts
 use Rattle.node_rules.specs.Data.kinds
 use Rattle.node_rules.specs.Words.{same, item_at}
-use Rattle.node_rules.specs.Kept.{Kept, Deed, live_id, live_at}
+use Rattle.node_rules.specs.NodeState.{NodeState, Deed, live_id, live_at}
 use Rattle.node_rules.specs.Turn.{turn_of, heard, deed_of, stamped}
 use Rattle.node_rules.proofs.Steps.{Acting}
 use Rattle.node_rules.proofs.StepLemmas.{IsLive, acting_live, acting_so}
@@ -55,7 +55,7 @@ module _ (t : History) (whole : IsLawfulRun t) where
   told_all f e [] laws = tt
   told_all f e (h ∷ hs) laws = (laws.0.0, told_all (facts_after t.places t.commands f h) (events_after t.places t.commands f h e) hs laws.1)
 
-  module _ (before : List Happening) (u : Turn) (rest : List Happening) (is : before ++ happenings.Turn u ∷ rest ≡ t.trace) (lawful : IsLawfulRun (so_far t before)) (k : Kept) (may : MayTurn t.places (f_at t before) u k)
+  module _ (before : List Happening) (u : Turn) (rest : List Happening) (is : before ++ happenings.Turn u ∷ rest ≡ t.trace) (lawful : IsLawfulRun (so_far t before)) (k : NodeState) (may : MayTurn t.places (f_at t before) u k)
       (laws : EachEventFrom Law t.places t.commands (f_at t before) (e_at t before) (happenings.Turn u ∷ rest)) where
     abbrev f : Facts
     f = f_at t before
@@ -108,14 +108,14 @@ module _ (t : History) (whole : IsLawfulRun t) where
     abbrev BornAs : Live → Type 0
     BornAs l = (x : Born) × Began (births_of (so_far t before)) x × (x.me ≡ l.me) × (x.parent ≡ l.parent)
 
-    born_acting : (at : Kept) → Near (heard k u.input) at → {l : Live} {b : Bool} {a : Act} → Acting at u.input l b a → BornAs l
+    born_acting : (at : NodeState) → Near (heard k u.input) at → {l : Live} {b : Bool} {a : Act} → Acting at u.input l b a → BornAs l
     born_acting at near why =
         acting_so BornAs (λ l comment b so. so) (λ l from v so. so)
         (λ b l live. (let here : live_at k l.me ≡ Some l = live_in t before lawful u k may at near l (subst (λ c. live_at at c ≡ Some l) (sym (item_is live_id at.lives b l live)) live) in
         let placed = born_of t before lawful u k may l here in
         (placed.born, placed.began, placed.is_me, placed.is_parent))) why
 
-    not_site : (at : Kept) → Near (heard k u.input) at → {l : Live} {b : Bool} → Acting at u.input l b acts.SayReadOnly → (q : BranchId) → l.parent ≡ Some q → l.me ≢ site_of p l.me
+    not_site : (at : NodeState) → Near (heard k u.input) at → {l : Live} {b : Bool} → Acting at u.input l b acts.SayReadOnly → (q : BranchId) → l.parent ≡ Some q → l.me ≢ site_of p l.me
     not_site at near {l = l} why q above =
         let x : BornAs l = born_acting at near why in
         let told : was_sent is_above (all t whole) q l.me ≡ true = more_sent t whole before u rest is is_above q l.me (none_above t before lawful u k may (ends t whole) (all t whole) (known t whole) (wider t whole before u rest is) (more_sent t whole before u rest is) at near why q above) in

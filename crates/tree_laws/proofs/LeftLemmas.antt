@@ -4,7 +4,7 @@ use Rattle.std.specs.Prelude.{IfSome}
 use Rattle.std.specs.List.{AllByRecursion}
 use Rattle.node_rules.specs.Data.{BranchId, Kind, Post, Place}
 use Rattle.node_rules.specs.Words.{numbered}
-use Rattle.node_rules.specs.Kept.{Kept, Deed, live_id}
+use Rattle.node_rules.specs.NodeState.{NodeState, Deed, live_id}
 use Rattle.node_rules.specs.Turn.{turn_of, deed_of}
 use Rattle.agreement.specs.Events.{Event, exit}
 use Rattle.run_rules.specs.Data.{Turn, Happening, Command}
@@ -44,7 +44,7 @@ module _ (places : List Place) (asked : List Command) (each : (n : ℕ) (p : Pla
   module _ (kind : Kind → Bool) (asks : (x : Kind) → kind x ≡ true → is_prepare x ≡ true) where
     module _ (f : Facts) (t : List Event) (bs : List Born) (stand : StandBorn places asked each f t bs) (roots : RootsStand places asked each f) (turned : CallsStand f) (ice : FreezeStand f) (now : AskStand f bs) where
       -- who asks in a turn is live after it
-      turn_asks_live : (u : Turn) (k : Kept) (may : MayTurn places f u k) (cut : Bool) → u.cut ≡ cut → IsOwed (place_at places u.node) k u.input u.wrote u.sent cut → (b c : BranchId)
+      turn_asks_live : (u : Turn) (k : NodeState) (may : MayTurn places f u k) (cut : Bool) → u.cut ≡ cut → IsOwed (place_at places u.node) k u.input u.wrote u.sent cut → (b c : BranchId)
           → was_sent kind (map post_of u.sent) b c ≡ true → exit (events_after places asked f (happenings.Turn u) t) b ≡ None
       unfolding turn_of
       turn_asks_live u k may false cut owed b c is =

@@ -9,7 +9,7 @@ use Rattle.redo_record.specs.Rows.{kid_of}
 use Rattle.node_rules.specs.Data.{BranchId, RedoRecord, Place}
 use Rattle.node_rules.specs.Data.records
 use Rattle.node_rules.specs.Words.{numbered, set_numbered}
-use Rattle.node_rules.specs.Kept.{Kept}
+use Rattle.node_rules.specs.NodeState.{NodeState}
 use Rattle.node_rules.specs.Records.{nothing_stored, stored_by}
 use Rattle.run_base_laws.specs.NodeLaws.{unacked}
 use Rattle.agreement.specs.Events.{Forest, Event, Exit, Quiet, exit}
@@ -49,7 +49,7 @@ module _ (p : Forest) where
   kids_of : (ps : List Peer) → map kid_branch (map kid_of ps) ≡ map (λ (c : Peer). c.branch) ps
   kids_of ps = map_after kid_branch kid_of (λ (c : Peer). c.branch) (λ c. refl) ps
 
-  pub rows_name : (t : List Event) (k : Kept) (rs : List RedoRecord) → unacked k.stored ≡ stored_by nothing_stored rs → AllByRecursion (RecordNames t) rs → AllByRecursion (RowNames p t) k.stored.durable.kept
+  pub rows_name : (t : List Event) (k : NodeState) (rs : List RedoRecord) → unacked k.stored ≡ stored_by nothing_stored rs → AllByRecursion (RecordNames t) rs → AllByRecursion (RowNames p t) k.stored.durable.kept
   rows_name t k rs is all =
       rows_so (λ me parent kids toward. NamesBeyond p t me parent kids) (RecordNames t) (λ r so. subst (λ cs. NamesBeyond p t r.me r.parent cs) (sym (kids_of r.children)) so)
       (λ r so. subst (λ cs. NamesBeyond p t r.me r.parent cs) (sym (kids_of r.children)) so) k rs is all

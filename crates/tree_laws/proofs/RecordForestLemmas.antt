@@ -7,7 +7,7 @@ use Rattle.session_tree.specs.Live.{is_branch}
 use Rattle.node_rules.specs.Data.{BranchId, Decision, RedoRecord, Standing}
 use Rattle.node_rules.specs.Data.decisions
 use Rattle.node_rules.specs.Data.records
-use Rattle.node_rules.specs.Kept.{Kept, standing_id}
+use Rattle.node_rules.specs.NodeState.{NodeState, standing_id}
 use Rattle.agreement.specs.Events.{Forest, Event, Learn, Send_forgotten, Has, Heard, Cleared, site_of}
 use Rattle.run_rules.specs.Data.{Happening}
 use Rattle.run_rules.specs.Data.happenings
@@ -110,7 +110,7 @@ module _ (t : History) (whole : IsLawfulRun t) where
   allowed_so : (before : List Happening) (h : Happening) (rest : List Happening) → before ++ h ∷ rest ≡ t.trace → IsLawfulRun (so_far t before) → MayHappen t.places t.commands (f_at t before) h
       → EachEventFrom Known t.places t.commands (f_at t before) (e_at t before) (h ∷ rest) → WritesByForest p (f_at t before) (e_at t before) h
   allowed_so before (happenings.Turn u) rest is lawful may laws =
-      let k : Kept = may.0 in
+      let k : NodeState = may.0 in
       let up : node_at (f_at t before) u.node ≡ Some k = may.1.up in
       let it = laws.0 in
       let leads : AllByRecursion (RowLeads (all t whole)) k.stored.durable.kept

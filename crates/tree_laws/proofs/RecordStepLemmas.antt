@@ -15,7 +15,7 @@ use Rattle.node_rules.specs.Data.acts
 use Rattle.node_rules.specs.Data.phases
 use Rattle.node_rules.specs.declared.session.PendingCall.TheVariants as pending
 use Rattle.node_rules.specs.Words.{numbered}
-use Rattle.node_rules.specs.Kept.{Kept, Deed}
+use Rattle.node_rules.specs.NodeState.{NodeState, Deed}
 use Rattle.node_rules.specs.Client.{new_root, fresh_root}
 use Rattle.node_rules.specs.Prepare.{path_of, is_place, is_prepared, act_turn}
 use Rattle.node_rules.proofs.Steps as steps
@@ -138,7 +138,7 @@ site_on (steps.Is_site none is) = (refl, is)
 point_here : {l : Live} → Pointed l acts.Decide → step l ≡ walks.Here
 point_here (steps.Points_here is) = is
 
-module _ {k : Kept} {input : Input} where
+module _ {k : NodeState} {input : Input} where
   -- off the walk
   seals_off : {l : Live} {b : Bool} → Acting k input l b acts.Seal → l.phase ≡ phases.Collecting false
   seals_off (steps.Has_no_children l comment b _ live begins none collected) = ap phases.Collecting (seal_off collected)
@@ -195,10 +195,10 @@ module _ (said : List Post) (l : Live) (told : AsTold said l) where
 -- ---- every step
 
 module _ (E : BranchId → Option ℕ) (A : BranchId → Option BranchId) (G Here : BranchId → Type 0) (input : Input) (said : List Post) (received : turns.Received E A G Here input said) (prepared : frost.Prepared E A G Here input said received) (sent : asks.Sent E A G Here input said received prepared) where
-  abbrev Nodes : Kept → Type 0
+  abbrev Nodes : NodeState → Type 0
   Nodes k = EachLive (turns.Begun E A G Here input said) k.lives k.works
 
-  acts_lead : (k : Kept) (ss : SessionsFit k) (nodes : Nodes k) (ice : frost.Ices E A G Here input said received k) (now : asks.Olds E A G Here input said received prepared k) {l : Live} {b : Bool} (a : Act) → Acting k input l b a
+  acts_lead : (k : NodeState) (ss : SessionsFit k) (nodes : Nodes k) (ice : frost.Ices E A G Here input said received k) (now : asks.Olds E A G Here input said received prepared k) {l : Live} {b : Bool} (a : Act) → Acting k input l b a
       → IfSome (act_turn k l b a).wrote (RecordLeads said)
   acts_lead k ss nodes ice now acts.Rest why = tt
   acts_lead k ss nodes ice now acts.AskDown why = tt
@@ -212,7 +212,7 @@ module _ (E : BranchId → Option ℕ) (A : BranchId → Option BranchId) (G Her
   acts_lead k ss nodes ice now acts.Abandon why = tt
 
   module _ (p : Place) (place : (b : BranchId) → b.node ≡ p.number → Here b) where
-    pub leads_on : {k : Kept} {d : Deed} → Step p input k d → SessionsFit k → News (frost.Unasking E A G Here input said received) p input k → Nodes k → frost.Ices E A G Here input said received k → asks.Olds E A G Here input said received prepared k
+    pub leads_on : {k : NodeState} {d : Deed} → Step p input k d → SessionsFit k → News (frost.Unasking E A G Here input said received) p input k → Nodes k → frost.Ices E A G Here input said received k → asks.Olds E A G Here input said received prepared k
         → IfSome d.wrote (RecordLeads said)
     leads_on (steps.Begins {k = k} n s call rows range none step) ss news nodes ice now =
         let root = news.root n s call rows none in

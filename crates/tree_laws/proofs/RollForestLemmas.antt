@@ -13,7 +13,7 @@ use Rattle.node_rules.specs.Data.decisions
 use Rattle.node_rules.specs.Data.kinds
 use Rattle.node_rules.specs.Data.records
 use Rattle.node_rules.specs.Words.{same, item_at}
-use Rattle.node_rules.specs.Kept.{Kept, Deed, live_id, standing_id, live_at, with_work, standing_at}
+use Rattle.node_rules.specs.NodeState.{NodeState, Deed, live_id, standing_id, live_at, with_work, standing_at}
 use Rattle.node_rules.specs.Turn.{Is_gone, live_or, stand_of, turn_of, heard, deed_of, stamped}
 use Rattle.node_rules.proofs.StepLemmas.{IsLive, acting_live}
 use Rattle.agreement.specs.Events.{Forest, Event, Beyond, Quiet, Decided, Send_rollback, exit, learned, Gone}
@@ -72,7 +72,7 @@ named_neighbor s x (inl up) = or_left (is_branch x s.parent) (list_any (λ c. sa
 named_neighbor s x (inr down) = or_right (is_branch x s.parent) (list_any (λ c. same c.branch x) s.children) (any_kid x s.children down)
 
 -- a live branch is not gone
-live_not_gone : (k : Kept) (b : BranchId) (l : Live) → live_at k b ≡ Some l → stand_of k b ≡ Is_gone → ⊥
+live_not_gone : (k : NodeState) (b : BranchId) (l : Live) → live_at k b ≡ Some l → stand_of k b ≡ Is_gone → ⊥
 unfolding stand_of
 live_not_gone k b l live gone = (let at : live_or (with_work k (Some l)) (standing_at k b) ≡ Is_gone = subst (λ o. live_or (with_work k o) (standing_at k b) ≡ Is_gone) live gone in absurd cc)
 
@@ -87,7 +87,7 @@ module _ (t : History) (whole : IsLawfulRun t) where
   abbrev Rolled : Facts → List Event → Happening → Type 0
   Rolled f e h = acks.Told t whole f e h × DecidedStays p f e
 
-  module _ (before : List Happening) (u : Turn) (rest : List Happening) (is : before ++ happenings.Turn u ∷ rest ≡ t.trace) (lawful : IsLawfulRun (so_far t before)) (k : Kept) (may : MayTurn t.places (f_at t before) u k)
+  module _ (before : List Happening) (u : Turn) (rest : List Happening) (is : before ++ happenings.Turn u ∷ rest ≡ t.trace) (lawful : IsLawfulRun (so_far t before)) (k : NodeState) (may : MayTurn t.places (f_at t before) u k)
       (law : Rolled (f_at t before) (e_at t before) (happenings.Turn u)) where
     abbrev f : Facts
     f = f_at t before

@@ -12,7 +12,7 @@ use Rattle.node_rules.specs.Data.{BranchId, Post, RedoRecord, Standing}
 use Rattle.node_rules.specs.Data.decisions
 use Rattle.node_rules.specs.Data.params
 use Rattle.node_rules.specs.Data.records
-use Rattle.node_rules.specs.Kept.{Stored, Kept}
+use Rattle.node_rules.specs.NodeState.{Stored, NodeState}
 use Rattle.node_rules.specs.Records.{nothing_stored, applied, stored_by}
 use Rattle.run_base_laws.specs.NodeLaws.{unacked_kid, unacked_row, unacked}
 use Rattle.run_rules.proofs.ListLemmas.{all_weaker, all_filter, all_map, all_put, map_after}
@@ -73,7 +73,7 @@ module _ (Q : BranchId → Option BranchId → List BranchId → Option BranchId
     unmapped (s ∷ ks) all = (subst (λ cs. Q s.me s.parent cs s.toward) (map_after kid_branch unacked_kid kid_branch (λ c. refl) s.children) all.0, unmapped ks all.1)
 
     -- so the rows of a node whose disk has such records are so
-    pub rows_so : (k : Kept) (rs : List RedoRecord) → unacked k.stored ≡ stored_by nothing_stored rs → AllByRecursion R rs → RowsSo k.stored.durable.kept
+    pub rows_so : (k : NodeState) (rs : List RedoRecord) → unacked k.stored ≡ stored_by nothing_stored rs → AllByRecursion R rs → RowsSo k.stored.durable.kept
     rows_so k rs is all = unmapped k.stored.durable.kept (subst (λ (s : Stored). RowsSo s.durable.kept) (sym is) (rows_stored nothing_stored rs all tt))
 
 module _ (said : List Post) where
@@ -81,6 +81,6 @@ module _ (said : List Post) where
   abbrev pub RowLeads : Standing → Type 0
   RowLeads s = LeadsTo said s.me s.parent s.toward
 
-  pub rows_lead : (k : Kept) (rs : List RedoRecord) → unacked k.stored ≡ stored_by nothing_stored rs → AllByRecursion (RecordLeads said) rs → AllByRecursion RowLeads k.stored.durable.kept
+  pub rows_lead : (k : NodeState) (rs : List RedoRecord) → unacked k.stored ≡ stored_by nothing_stored rs → AllByRecursion (RecordLeads said) rs → AllByRecursion RowLeads k.stored.durable.kept
   rows_lead k rs is all =
       rows_so (λ me parent kids toward. LeadsTo said me parent toward) (RecordLeads said) (λ r lead. subst (LeadsTo said r.me r.parent) (sym lead.1) lead.2) (λ r lead. lead) k rs is all

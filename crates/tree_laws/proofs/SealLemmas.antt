@@ -5,7 +5,7 @@ use Rattle.node_rules.specs.Data.{BranchId, Live, RedoRecord, Input}
 use Rattle.node_rules.specs.Data.acts
 use Rattle.node_rules.specs.Data.phases
 use Rattle.node_rules.specs.Data.records
-use Rattle.node_rules.specs.Kept.{Kept, live_at}
+use Rattle.node_rules.specs.NodeState.{NodeState, live_at}
 use Rattle.node_rules.proofs.Steps as steps
 use Rattle.node_rules.proofs.Steps.{Acting, Collected}
 use Rattle.agreement.specs.Events.{Event, Sealed, Decided, Quiet, Dropped, first, only_at, exit_by, exit}
@@ -24,14 +24,14 @@ passed_root : {l : Live} {b : Bool} {i : ℕ} → Collected l b (acts.SealAndPas
 passed_root (steps.Passes i none is) = none
 
 -- A live branch becomes sealed so.
-pub record SealsSo (k : Kept) (me : BranchId) (parent : Option BranchId) : Type 0 where
+pub record SealsSo (k : NodeState) (me : BranchId) (parent : Option BranchId) : Type 0 where
   pub live : Live
   pub found : live_at k live.me ≡ Some live
   pub is_me : live.me ≡ me
   pub is_parent : live.parent ≡ parent
   pub weighs : (is_none (weight live) ≡ false) ⊎ ((is_none parent ≡ true) ⊎ (live.phase ≡ phases.Ready))
 
-pub seals_so : {k : Kept} {input : Input} {l : Live} {b : Bool} (path : Option ℕ) → Acting k input l b (seal_act path) → SealsSo k l.me l.parent
+pub seals_so : {k : NodeState} {input : Input} {l : Live} {b : Bool} (path : Option ℕ) → Acting k input l b (seal_act path) → SealsSo k l.me l.parent
 seals_so None (steps.Has_no_children l comment b _ live begins none collected) =
     record { live = l; found = live; is_me = refl; is_parent = refl; weighs = inl (ap is_none (sym (collected_weight l comment b)) ∙ prepared_weighs collected) }
 seals_so None (steps.Hears_last l from v b _ live answers other all collected) =

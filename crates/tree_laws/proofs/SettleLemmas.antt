@@ -16,7 +16,7 @@ use Rattle.node_rules.specs.Data.phases
 use Rattle.node_rules.specs.Data.votes
 use Rattle.node_rules.specs.Words.{same, numbered, item_at}
 use Rattle.node_rules.specs.Inputs.{Came}
-use Rattle.node_rules.specs.Kept.{Kept, Branch, live_id, live_at, branch_at, work_at, with_work}
+use Rattle.node_rules.specs.NodeState.{NodeState, Branch, live_id, live_at, branch_at, work_at, with_work}
 use Rattle.node_rules.specs.Prepare.{is_awaited, answers_first, has_voted, voted}
 use Rattle.node_rules.specs.Turn.{heard}
 use Rattle.node_rules.proofs.Steps as steps
@@ -91,20 +91,20 @@ no_parent : (o : Option BranchId) (x : BranchId) → is_none o ≡ true → o �
 no_parent None x none is = absurd cc
 no_parent (Some q) x none is = absurd cc
 
-clock_up : (k : Kept) (input : Input) → k.clock ≤ (heard k input).clock
+clock_up : (k : NodeState) (input : Input) → k.clock ≤ (heard k input).clock
 clock_up k (inputs.Message m) = omega arith
 clock_up k (inputs.Call n s) = omega arith
 clock_up k (inputs.GiveUp n) = omega arith
 clock_up k inputs.Reco = omega arith
 
-scn_met : (k : Kept) (input : Input) (from to : BranchId) (kind : Kind) (came : Came input from to kind) → came.scn ≤ (heard k input).clock
+scn_met : (k : NodeState) (input : Input) (from to : BranchId) (kind : Kind) (came : Came input from to kind) → came.scn ≤ (heard k input).clock
 scn_met k input from to kind came = subst (λ i. came.scn ≤ (heard k i).clock) (sym came.is) (omega arith)
 
 voted_none : (from : BranchId) (v : Vote) → v ≢ votes.Abort → (es : List Edge) → AllByRecursion IsNoAbort es → AllByRecursion IsNoAbort (map (has_voted from v) es)
 voted_none from v other es all =
     all_map IsNoAbort (has_voted from v) es (all_weaker IsNoAbort _ (λ e so. cond_both (answers_first from e) (record e { vote = v }) e IsNoAbort (λ first. other) (λ again. so)) es all)
 
-module _ (t : History) (before : List Happening) (lawful : IsLawfulRun (so_far t before)) (u : Turn) (k : Kept) (may : MayTurn t.places (f_at t before) u k) where
+module _ (t : History) (before : List Happening) (lawful : IsLawfulRun (so_far t before)) (u : Turn) (k : NodeState) (may : MayTurn t.places (f_at t before) u k) where
   abbrev s : History
   s = so_far t before
 
@@ -120,12 +120,12 @@ module _ (t : History) (before : List Happening) (lawful : IsLawfulRun (so_far t
   abbrev said : List Post
   said = said_in f
 
-  abbrev k0 : Kept
+  abbrev k0 : NodeState
   k0 = heard k u.input
 
   -- ---- a branch that was live
 
-  pub live_in : (at : Kept) → Near k0 at → (l : Live) → live_at at l.me ≡ Some l → live_at k l.me ≡ Some l
+  pub live_in : (at : NodeState) → Near k0 at → (l : Live) → live_at at l.me ≡ Some l → live_at k l.me ≡ Some l
   live_in at near l live = subst (λ (ls : List Live). item_at live_id ls l.me ≡ Some l) (near.lives ∙ lives_heard k u.input) live
 
   pub born_of : (l : Live) → live_at k l.me ≡ Some l → LiveIs (Began bs) l
@@ -156,7 +156,7 @@ module _ (t : History) (before : List Happening) (lawful : IsLawfulRun (so_far t
       (all_weaker (EdgeIs e k0.clock) _ (λ y is. cond_both (answers_first from y) (record y { vote = v }) y (EdgeIs e k0.clock)
       (λ first. subst (λ c. VoteIs e k0.clock c v) (sym (equal_from_same y.peer from (and_parts (same y.peer from) (is_awaited y.vote) first).0)) (vote_is from l.me v answers.kind answers.is_vote answers.came)) (λ other. is)) l.edges (answers_now l live))
 
-  told_edges : (at : Kept) → Near k0 at → {l : Live} {b : Bool} {a : Act} → Acting at u.input l b a → AllByRecursion (EdgeTold said l.me l.phase) l.edges
+  told_edges : (at : NodeState) → Near k0 at → {l : Live} {b : Bool} {a : Act} → Acting at u.input l b a → AllByRecursion (EdgeTold said l.me l.phase) l.edges
   told_edges at near why =
       acting_edges said (place_at t.places u.node) u.input came_ready at
       (subst (λ (ls : List Live). AllByRecursion (AnswersTold said) ls) (sym (near.lives ∙ lives_heard k u.input)) ((answers_are_as_told s lawful).0 u.node k may.up)) why
@@ -179,7 +179,7 @@ module _ (t : History) (before : List Happening) (lawful : IsLawfulRun (so_far t
         let none : was_asked said l.me x ≡ false = (asked_stand_still s lawful u.node k may.up y found).0 working x in
         absurd (cc (asked, none))
 
-    pub kid_heard : (at : Kept) → Near k0 at → {l : Live} {b : Bool} {a : Act} → Acting at u.input l b a → Settling a → was_asked said l.me x ≡ true → was_sent is_below said l.me x ≡ false → Heard_of l.me l.edges
+    pub kid_heard : (at : NodeState) → Near k0 at → {l : Live} {b : Bool} {a : Act} → Acting at u.input l b a → Settling a → was_asked said l.me x ≡ true → was_sent is_below said l.me x ≡ false → Heard_of l.me l.edges
     kid_heard at near (steps.Asks_down l comment b y ys live begins has) settles asked off = elim settles [ ]
     kid_heard at near (steps.Has_no_children l comment b a live begins none collected) settles asked off = elim (working_or l.phase) [
       | inl working ↦ absurd (asked_not l (live_in at near l live) working asked)
@@ -231,7 +231,7 @@ module _ (t : History) (before : List Happening) (lawful : IsLawfulRun (so_far t
         absurd (cc (yes, no))
 
     -- off the walk it is not told so
-    begins_off : (at : Kept) → Near k0 at → {comment : List ℕ} {b : Bool} (l : Live) → live_at k l.me ≡ Some l → Collects at u.input l comment b → b ≡ false → (x : BranchId) → was_sent is_below all x l.me ≡ true → ⊥
+    begins_off : (at : NodeState) → Near k0 at → {comment : List ℕ} {b : Bool} (l : Live) → live_at k l.me ≡ Some l → Collects at u.input l comment b → b ≡ false → (x : BranchId) → was_sent is_below all x l.me ≡ true → ⊥
     begins_off at near l live (steps.By_commit n given call has code is) off x told = absurd cc
     begins_off at near {comment = comment} l live (steps.By_prepare from b came working) off x told =
         let child : IsChild (Began bs) l.me from = comes from l.me (kinds.Prepare b comment) came in
@@ -250,7 +250,7 @@ module _ (t : History) (before : List Happening) (lawful : IsLawfulRun (so_far t
     abbrev Above : BranchId → Option BranchId → Type 0
     Above x parent = (parent ≡ Some x) × ((j : ℕ) × Has (Send_vote x j) e × (j ≤ k0.clock))
 
-    pub above_heard : (at : Kept) → Near k0 at → {l : Live} {b : Bool} {a : Act} → Acting at u.input l b a → Settling a → (x : BranchId) → was_sent is_below all x l.me ≡ true → Above x l.parent
+    pub above_heard : (at : NodeState) → Near k0 at → {l : Live} {b : Bool} {a : Act} → Acting at u.input l b a → Settling a → (x : BranchId) → was_sent is_below all x l.me ≡ true → Above x l.parent
     above_heard at near (steps.Asks_down l comment b y ys live begins has) settles x told = elim settles [ ]
     above_heard at near (steps.Has_no_children l comment b a live begins none collected) settles x told = elim (off_or_root collected settles) [
       | inl off ↦ absurd (begins_off at near l (live_in at near l live) begins off x told)
@@ -275,13 +275,13 @@ module _ (t : History) (before : List Happening) (lawful : IsLawfulRun (so_far t
     -- ---- a branch that has no changes on it or beyond
 
     -- the walk does not come to it
-    pub none_below : (at : Kept) → Near k0 at → {l : Live} {b : Bool} → Acting at u.input l b acts.SayReadOnly → (x : BranchId) → was_sent is_below all x l.me ≡ true → ⊥
+    pub none_below : (at : NodeState) → Near k0 at → {l : Live} {b : Bool} → Acting at u.input l b acts.SayReadOnly → (x : BranchId) → was_sent is_below all x l.me ≡ true → ⊥
     none_below at near (steps.Has_no_children l comment b _ live begins none collected) x told = begins_off at near l (live_in at near l live) begins (none_off collected) x told
     none_below at near (steps.Hears_last l from v b _ live answers other all_so collected) x told = collects_off l (live_in at near l live) b answers.collecting (none_off collected) x told
     none_below at near (steps.At_point l from _ live came is pointed) x told = elim pointed [ ]
 
     -- and its parent told it so
-    begins_above : (at : Kept) → Near k0 at → {comment : List ℕ} {b : Bool} (l : Live) → live_at k l.me ≡ Some l → Collects at u.input l comment b → b ≡ false → (q : BranchId) → l.parent ≡ Some q → was_sent is_above said q l.me ≡ true
+    begins_above : (at : NodeState) → Near k0 at → {comment : List ℕ} {b : Bool} (l : Live) → live_at k l.me ≡ Some l → Collects at u.input l comment b → b ≡ false → (q : BranchId) → l.parent ≡ Some q → was_sent is_above said q l.me ≡ true
     begins_above at near l live (steps.By_commit n given call has code is) off q above = absurd cc
     begins_above at near {comment = comment} l live (steps.By_prepare from b came working) off q above =
         let child : IsChild (Began bs) l.me from = comes from l.me (kinds.Prepare b comment) came in
@@ -289,7 +289,7 @@ module _ (t : History) (before : List Happening) (lawful : IsLawfulRun (so_far t
         let here : from ≡ q = cc in
         subst (λ c. was_sent is_above said c l.me ≡ true) here (subst (λ w. was_sent (tells w) said from l.me ≡ true) off (came_way from l.me b comment came))
 
-    pub none_above : (at : Kept) → Near k0 at → {l : Live} {b : Bool} → Acting at u.input l b acts.SayReadOnly → (q : BranchId) → l.parent ≡ Some q → was_sent is_above said q l.me ≡ true
+    pub none_above : (at : NodeState) → Near k0 at → {l : Live} {b : Bool} → Acting at u.input l b acts.SayReadOnly → (q : BranchId) → l.parent ≡ Some q → was_sent is_above said q l.me ≡ true
     none_above at near (steps.Has_no_children l comment b _ live begins none collected) q above = begins_above at near l (live_in at near l live) begins (none_off collected) q above
     none_above at near (steps.Hears_last l from v b _ live answers other all_so collected) q above =
         collects_as_told s lawful u.node k may.up l (live_in at near l live) false (ap way_of (answers.collecting ∙ ap phases.Collecting (none_off collected))) q above
@@ -322,7 +322,7 @@ module _ (t : History) (before : List Happening) (lawful : IsLawfulRun (so_far t
     voted_weighs me from v es all =
         all_map (EdgeWeighs e said me) (has_voted from v) es (all_weaker (EdgeWeighs e said me) _ (λ y is. cond_both (answers_first from y) (record y { vote = v }) y (EdgeWeighs e said me) (λ first. is) (λ again. is)) es all)
 
-    pub kid_quiet : (at : Kept) → Near k0 at → {l : Live} {b : Bool} → Acting at u.input l b acts.SayReadOnly → was_asked said l.me x ≡ true → was_sent is_below said l.me x ≡ false → exit e x ≡ Some Quiet
+    pub kid_quiet : (at : NodeState) → Near k0 at → {l : Live} {b : Bool} → Acting at u.input l b acts.SayReadOnly → was_asked said l.me x ≡ true → was_sent is_below said l.me x ≡ false → exit e x ≡ Some Quiet
     kid_quiet at near (steps.Has_no_children l comment b _ live begins none collected) asked off = elim (working_or l.phase) [
       | inl working ↦ absurd (asked_not None x l (live_in at near l live) working asked)
       | inr other ↦ (let there = asked_at None x l (live_in at near l live) other asked in absurd (none_at there.0 x l.edges none there.1))

@@ -6,7 +6,7 @@ use Rattle.redo_record.specs.declared.record.Peer.{Peer}
 use Rattle.node_rules.specs.Data.{Sealed, Decided}
 use Rattle.node_rules.specs.Data.{BranchId, Kind, Live, Act, Post, RedoRecord}
 use Rattle.node_rules.specs.Data.records
-use Rattle.node_rules.specs.Kept.{Kept, Deed}
+use Rattle.node_rules.specs.NodeState.{NodeState, Deed}
 use Rattle.node_rules.specs.Turn.{heard, deed_of}
 use Rattle.agreement.specs.Events as exits
 use Rattle.agreement.specs.Events.{Forest, Event, exit}
@@ -100,11 +100,11 @@ module _ (t : History) (whole : IsLawfulRun t) where
     pub wider : (x : Born) → Began (births_of (so_far t before)) x → Began ends x
     wider x began = subst (λ xs. Began xs x) (sym births_on) (began_all t.places t.commands f (happenings.Turn u ∷ rest) (births_of (so_far t before)) x began)
 
-    module _ (lawful : IsLawfulRun (so_far t before)) (k : Kept) (may : MayTurn t.places f u k) (later : EachEventFrom (HasToldAll all) t.places t.commands f e (happenings.Turn u ∷ rest)) where
+    module _ (lawful : IsLawfulRun (so_far t before)) (k : NodeState) (may : MayTurn t.places f u k) (later : EachEventFrom (HasToldAll all) t.places t.commands f e (happenings.Turn u ∷ rest)) where
       abbrev pub d : Deed
       d = deed_of (place_at t.places u.node) k u.input
 
-      abbrev pub k0 : Kept
+      abbrev pub k0 : NodeState
       k0 = heard k u.input
 
       -- ---- whom a branch that leaves now has asked

@@ -22,7 +22,7 @@ use Rattle.node_rules.specs.Data.stmts
 use Rattle.node_rules.specs.declared.session.Session.{Session}
 use Rattle.node_rules.specs.Words.{put_by_branch}
 use Rattle.node_rules.specs.Inputs.{Came, IsCall}
-use Rattle.node_rules.specs.Kept.{Kept, Branch, Deed, live_id, standing_id, live_at, to_one, to_each}
+use Rattle.node_rules.specs.NodeState.{NodeState, Branch, Deed, live_id, standing_id, live_at, to_one, to_each}
 use Rattle.node_rules.specs.Calls.{answer_says, exec_to, with_edge, hears_reply}
 use Rattle.node_rules.specs.Statement.{ran, after_run}
 use Rattle.node_rules.specs.Prepare.{path_of, site_neighbors, act_turn}
@@ -85,11 +85,11 @@ direct_give_up n gives = record {
   ack = λ from to came. (let it : inputs.GiveUp n ≡ inputs.Message _ = sym gives ∙ came.is in absurd cc);
 }
 
-collects_indirect : {k : Kept} {input : Input} {l : Live} {comment : List ℕ} {b : Bool} → Collects k input l comment b → Direct input → ⊥
+collects_indirect : {k : NodeState} {input : Input} {l : Live} {comment : List ℕ} {b : Bool} → Collects k input l comment b → Direct input → ⊥
 collects_indirect (steps.By_commit n given call has code is) direct = direct.commit n given call
 collects_indirect {l = l} {comment = comment} (steps.By_prepare from b came working) direct = direct.prepare from l.me b comment came
 
-abandons_direct : {k : Kept} {input : Input} {l : Live} {b : Bool} → Acting k input l b acts.Abandon → Direct input
+abandons_direct : {k : NodeState} {input : Input} {l : Live} {b : Bool} → Acting k input l b acts.Abandon → Direct input
 abandons_direct (steps.Has_no_children l comment b _ live begins none collected) = elim collected [ ]
 abandons_direct (steps.Hears_abort l from b live answers) = direct_came answers.came (λ is. no_ack answers.kind answers.is_vote is) (λ w comment is. no_prepare answers.kind answers.is_vote w comment is)
   where
@@ -103,20 +103,20 @@ abandons_direct (steps.At_point l from _ live came is pointed) = elim pointed [ 
 
 module _ (t : List Event) where
   -- it learns the commit now, knows it, or is gone
-  pub data AcksSo (k : Kept) (d : Deed) (b : BranchId) : Type 0 where
+  pub data AcksSo (k : NodeState) (d : Deed) (b : BranchId) : Type 0 where
     Learns_it : LearnsCommit d.wrote b → AcksSo k d b
     Knows_it : (n : ℕ) → Knows t b n → AcksSo k d b
     Has_gone : stand_of k b ≡ Is_gone → AcksSo k d b
 
   -- it was live, learns a rollback now, knows it, is gone, or does not know the receiver
-  pub data RollsSo (k : Kept) (input : Input) (d : Deed) (e to : BranchId) : Type 0 where
+  pub data RollsSo (k : NodeState) (input : Input) (d : Deed) (e to : BranchId) : Type 0 where
     Was_live : IsLive k e → d.wrote ≡ None → RollsSo k input d e to
     Learns_so : LearnsRollback d.wrote e → RollsSo k input d e to
     Knows_so : learned t e ≡ Some decisions.Rollback → RollsSo k input d e to
     Is_nothing : stand_of k e ≡ Is_gone → (from : BranchId) (kind : Kind) → Came input from e kind → RollsSo k input d e to
     Names_not : (s : Standing) → IsKept k s → s.me ≡ e → is_neighbor s to ≡ false → RollsSo k input d e to
 
-  abbrev pub TellsSo : Kept → Input → Deed → BranchId → BranchId → Kind → Type 0
+  abbrev pub TellsSo : NodeState → Input → Deed → BranchId → BranchId → Kind → Type 0
   TellsSo k input d from to kinds.Ack = AcksSo k d from
   TellsSo k input d from to kinds.Rollback = RollsSo k input d from to
   TellsSo k input d from to kinds.RolledBack = RollsSo k input d from to
@@ -131,7 +131,7 @@ module _ (t : List Event) where
   knows_known s (Some decisions.Rollback) is known = absurd cc
   knows_known s (Some (decisions.Commit n)) is known = (n, known)
 
-  module _ (k0 : Kept) (input : Input) (d : Deed) where
+  module _ (k0 : NodeState) (input : Input) (d : Deed) where
     abbrev So : Post → Type 0
     So x = TellsSo k0 input d x.from x.to x.kind
 
@@ -195,7 +195,7 @@ module _ (t : List Event) where
     rows_so [] rows = tt
     rows_so (s ∷ ks) rows = (recovers_so s s.decision rows.0.known, rows_so ks rows.1)
 
-    askings_so : (k : Kept) → AllByRecursion (RowIs t) k.stored.durable.kept → AllSo (flat_map (λ a. a.says) (askings k))
+    askings_so : (k : NodeState) → AllByRecursion (RowIs t) k.stored.durable.kept → AllSo (flat_map (λ a. a.says) (askings k))
     askings_so k rows =
         flat_so (askings k) (sorted_so (map asks_live k.lives ++ map asks_kept k.stored.durable.kept) [] tt
         (all_append AskingSo (map asks_live k.lives) (map asks_kept k.stored.durable.kept) (all_each AskingSo asks_live k.lives (λ l. one_so l.me kinds.Ask l.parent (λ b. tt))) (rows_so k.stored.durable.kept rows)))
@@ -212,7 +212,7 @@ module _ (t : List Event) where
     asked_so s from kept is =
         cond_both (is_neighbor s from) (told_by s.decision) tolds.RolledBack (λ x. TellsSo k0 input d s.me from (told_kind x)) (λ near. known_so s from s.decision is.known) (λ other. Names_not s kept refl other)
 
-    says_so : (k : Kept) {says : List Post} → (Direct input → k ≡ k0) → AllByRecursion (RowIs t) k.stored.durable.kept → Says k input says → AllSo says
+    says_so : (k : NodeState) {says : List Post} → (Direct input → k ≡ k0) → AllByRecursion (RowIs t) k.stored.durable.kept → Says k input says → AllSo says
     says_so k near rows (steps.Gone_rolls_back to from (inl came) gone) =
         (Is_nothing (subst (λ x. stand_of x to ≡ Is_gone) (near (direct_came came (λ is. absurd cc) (λ w comment is. absurd cc))) gone) from kinds.CommitPoint came, tt)
     says_so k near rows (steps.Gone_rolls_back to from (inr came) gone) =
@@ -234,14 +234,14 @@ module _ (t : List Event) where
   exec_other ss x i s given None = tt
   exec_other ss x i s given (Some c) = (((λ is. absurd cc), (λ is. absurd cc), (λ is. absurd cc)), tt)
 
-  module _ (k0 : Kept) (p : Place) (input : Input) where
+  module _ (k0 : NodeState) (p : Place) (input : Input) where
     abbrev DeedSo : Deed → Type 0
     DeedSo d = AllSo k0 input d d.says
 
-    live_there : (k : Kept) → (Direct input → k ≡ k0) → Direct input → (b : BranchId) → IsLive k b → IsLive k0 b
+    live_there : (k : NodeState) → (Direct input → k ≡ k0) → Direct input → (b : BranchId) → IsLive k b → IsLive k0 b
     live_there k near direct b live = subst (λ x. IsLive x b) (near direct) live
 
-    acts_tell : (k : Kept) → (Direct input → k ≡ k0) → {l : Live} {b : Bool} (a : Act) → Acting k input l b a → DeedSo (act_turn k l b a)
+    acts_tell : (k : NodeState) → (Direct input → k ≡ k0) → {l : Live} {b : Bool} (a : Act) → Acting k input l b a → DeedSo (act_turn k l b a)
     acts_tell k near acts.Rest why = tt
     acts_tell k near {l = l} {b = b} acts.AskDown why =
         others_so k0 input _ _ (prepares_say IsOther (λ w c. ((λ is. absurd cc), (λ is. absurd cc), (λ is. absurd cc))) l.me l.comment (path_of b (step_from l)) 1 l.edges)
@@ -254,7 +254,7 @@ module _ (t : List Event) where
     acts_tell k near {l = l} acts.Abandon why =
         all_append (So k0 input _) (to_one l.me kinds.Abort l.parent) _ (one_so k0 input _ l.me kinds.Abort l.parent (λ b. tt)) (rolls_all k0 input _ l (live_there k near (abandons_direct why) l.me (acting_live why)) refl)
 
-    pub tells_on : {k : Kept} {d : Deed} → Step p input k d → (Direct input → k ≡ k0) → AllByRecursion (RowIs t) k.stored.durable.kept → DeedSo d
+    pub tells_on : {k : NodeState} {d : Deed} → Step p input k d → (Direct input → k ≡ k0) → AllByRecursion (RowIs t) k.stored.durable.kept → DeedSo d
     tells_on (steps.Begins n s call rows fit none step) near all = tells_on step (λ direct. absurd (direct.rows n s call rows)) all
     tells_on (steps.Pends n l given call has live code step) near all = tells_on step (λ direct. absurd (direct.commit n given call)) all
     tells_on (steps.Lets_reads_go l comment b live begins step) near all = tells_on step (λ direct. absurd (collects_indirect begins direct)) all

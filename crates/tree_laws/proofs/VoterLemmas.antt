@@ -8,7 +8,7 @@ use Rattle.node_rules.specs.Data.{BranchId, Edge, Live, Post, RedoRecord}
 use Rattle.node_rules.specs.Data.phases
 use Rattle.node_rules.specs.Data.records
 use Rattle.node_rules.specs.Words.{numbered}
-use Rattle.node_rules.specs.Kept.{Kept, Branch, live_at, branch_at, work_at, with_work}
+use Rattle.node_rules.specs.NodeState.{NodeState, Branch, live_at, branch_at, work_at, with_work}
 use Rattle.node_rules.specs.Turn.{heard, deed_of}
 use Rattle.agreement.specs.Events.{Event, Sealed, exit}
 use Rattle.run_rules.specs.Data.{Turn, Happening}
@@ -71,7 +71,7 @@ SealedHeard e bs said = (c : BranchId) (m : ℕ) → exit e c ≡ Some (Sealed m
 
 -- the edge of a sealed child that was asked off the walk has a weight
 abbrev pub SealedWeigh : Facts → List Event → Type 0
-SealedWeigh f e = (n : ℕ) (k : Kept) → node_at f n ≡ Some k → (x : Branch) → branch_at k x.live.me ≡ Some x → (i : ℕ) (y : Edge) → numbered x.live.edges i ≡ Some y
+SealedWeigh f e = (n : ℕ) (k : NodeState) → node_at f n ≡ Some k → (x : Branch) → branch_at k x.live.me ≡ Some x → (i : ℕ) (y : Edge) → numbered x.live.edges i ≡ Some y
     → (m : ℕ) → exit e y.peer ≡ Some (Sealed m) → was_sent is_above (said_in f) x.live.me y.peer ≡ true → y.weight ≢ None
 
 no_weight : (o : Option ℕ) → is_none o ≡ false → o ≡ None → ⊥
@@ -84,7 +84,7 @@ no_parent (Some q) p none is = absurd cc
 
 -- ---- a branch that becomes sealed
 
-module _ (t : History) (before : List Happening) (lawful : IsLawfulRun (so_far t before)) (u : Turn) (k : Kept) (may : MayTurn t.places (f_at t before) u k) where
+module _ (t : History) (before : List Happening) (lawful : IsLawfulRun (so_far t before)) (u : Turn) (k : NodeState) (may : MayTurn t.places (f_at t before) u k) where
   abbrev s : History
   s = so_far t before
 
@@ -144,7 +144,7 @@ module _ (t : History) (before : List Happening) (lawful : IsLawfulRun (so_far t
     calls weighs below rests v tells some (suc m) is none = no_weight (weight seals.live) some (sym (weighs.told below (omega (arith, is)) rests v tells) ∙ none)
 
     -- its parent's edge has its weight
-    pub sealing_weighs : (n : ℕ) (j : Kept) → node_at (f_at t before) n ≡ Some j → (x : Branch) → branch_at j x.live.me ≡ Some x → (i : ℕ) (y : Edge) → numbered x.live.edges i ≡ Some y → y.peer ≡ c
+    pub sealing_weighs : (n : ℕ) (j : NodeState) → node_at (f_at t before) n ≡ Some j → (x : Branch) → branch_at j x.live.me ≡ Some x → (i : ℕ) (y : Edge) → numbered x.live.edges i ≡ Some y → y.peer ≡ c
         → was_sent is_above said x.live.me c ≡ true → y.weight ≢ None
     sealing_weighs n j up x found i y at peer above none =
         let l : Live = seals.live in

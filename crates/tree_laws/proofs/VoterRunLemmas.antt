@@ -3,7 +3,7 @@
 use Rattle.std.proofs.Common.{◌≡◌, ◌≢◌, ℕ, ◌⊎◌, Bool, true, false, List, [], ◌∷◌, ◌++◌, Some, None, inl, inr, refl, sym, ap, subst, subst₂, ◌∙◌}
 use Rattle.node_rules.specs.Data.{BranchId, Edge, Live, Post}
 use Rattle.node_rules.specs.Words.{numbered}
-use Rattle.node_rules.specs.Kept.{Kept, Branch, live_at, branch_at, work_at, with_work}
+use Rattle.node_rules.specs.NodeState.{NodeState, Branch, live_at, branch_at, work_at, with_work}
 use Rattle.agreement.specs.Events.{Event, Sealed, exit}
 use Rattle.run_rules.specs.Data.{Happening}
 use Rattle.run_rules.specs.Data.happenings
@@ -61,7 +61,7 @@ module _ (t : History) (before : List Happening) (lawful : IsLawfulRun (so_far t
   new_heard (happenings.Turn u) may c new = sealing_heard t before lawful u may.0 may.1 c new
   new_heard _ may c new = absurd new
 
-  new_weighs : (h : Happening) (may : MayHappen t.places t.commands f h) (c : BranchId) → NewSeal h may c → (n : ℕ) (j : Kept) → node_at f n ≡ Some j → (x : Branch) → branch_at j x.live.me ≡ Some x → (i : ℕ) (y : Edge) → numbered x.live.edges i ≡ Some y
+  new_weighs : (h : Happening) (may : MayHappen t.places t.commands f h) (c : BranchId) → NewSeal h may c → (n : ℕ) (j : NodeState) → node_at f n ≡ Some j → (x : Branch) → branch_at j x.live.me ≡ Some x → (i : ℕ) (y : Edge) → numbered x.live.edges i ≡ Some y
       → y.peer ≡ c → was_sent is_above said x.live.me c ≡ true → y.weight ≢ None
   new_weighs (happenings.Turn u) may c new = sealing_weighs t before lawful u may.0 may.1 c new
   new_weighs _ may c new = absurd new

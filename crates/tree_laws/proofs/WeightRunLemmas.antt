@@ -8,7 +8,7 @@ use Rattle.node_rules.specs.Data.kinds
 use Rattle.node_rules.specs.declared.work.Work.{Work}
 use Rattle.node_rules.specs.Words.{numbered}
 use Rattle.node_rules.specs.Inputs.{Came}
-use Rattle.node_rules.specs.Kept.{Kept, Deed, live_at}
+use Rattle.node_rules.specs.NodeState.{NodeState, Deed, live_at}
 use Rattle.node_rules.specs.Turn.{start_of, deed_of}
 use Rattle.agreement.specs.Events.{Event}
 use Rattle.run_rules.specs.Data.{Packet, Turn, Happening, Command}
@@ -62,11 +62,11 @@ replies_told (x ∷ xs) = (told_first (map packet_post xs) x.msg.from x.msg.to x
 abbrev pub WeighsSo : List Post → Live → Work → Type 0
 WeighsSo said l w = TellsItsWeight said l.me l.parent (weight l) w
 
-abbrev pub HoldsOf : List Post → Kept → Live → Work → Type 0
+abbrev pub HoldsOf : List Post → NodeState → Live → Work → Type 0
 HoldsOf said k l w = HoldsWeights said (GoesOn k l) l.me l.edges w
 
 -- of a node's live branches
-abbrev pub NodeWeighs : List Post → Kept → Type 0
+abbrev pub NodeWeighs : List Post → NodeState → Type 0
 NodeWeighs said k = EachLive (WeighsSo said) k.lives k.works × EachLive (HoldsOf said k) k.lives k.works
 
 -- So it is everywhere.
@@ -84,7 +84,7 @@ quiet_weighs said says l w none is = record {
   zero_calls = is.zero_calls;
 }
 
-weights_stay : (said says : List Post) (k : Kept) → ((b : BranchId) (l : Live) → live_at k b ≡ Some l → newest_reply says l.me ≡ 0) → ((b : BranchId) (l : Live) → live_at k b ≡ Some l → (c : BranchId) → was_asked says l.me c ≡ false)
+weights_stay : (said says : List Post) (k : NodeState) → ((b : BranchId) (l : Live) → live_at k b ≡ Some l → newest_reply says l.me ≡ 0) → ((b : BranchId) (l : Live) → live_at k b ≡ Some l → (c : BranchId) → was_asked says l.me c ≡ false)
     → NodeWeighs said k → NodeWeighs (said ++ says) k
 weights_stay said says k silent none now = (
   each_same (WeighsSo said) (WeighsSo (said ++ says)) k.lives k.works now.0 (λ y v live any is. quiet_weighs said says y v (silent y.me y live) is),
@@ -97,7 +97,7 @@ start_weighs ms zs = (none_live _, none_live _)
 
 module _ (places : List Place) (asked : List Command) (each : (n : ℕ) (p : Place) → numbered places n ≡ Some p → IsPlace places n p) where
   module _ (f : Facts) (t : List Event) (bs : List Born) (stand : StandBorn places asked each f t bs) (roots : RootsStand places asked each f) (turns : CallsStand f) (ice : FreezeStand f) (asks : AskStand f bs) (now : WeightStand f) where
-    module _ (u : Turn) (k : Kept) (may : MayTurn places f u k) where
+    module _ (u : Turn) (k : NodeState) (may : MayTurn places f u k) where
       abbrev n : ℕ
       n = u.node
 
@@ -145,7 +145,7 @@ module _ (places : List Place) (asked : List Command) (each : (n : ℕ) (p : Pla
       after : NodeWeighs more d.after
       after = (told_after, each_same _ (HoldsOf more d.after) d.after.lives d.after.works holds_done (λ y v live any is. record { held = λ goes. is.held (λ none. (y, live, none, goes none)); asked = is.asked }))
 
-      others : (m : ℕ) → m ≢ n → (j : Kept) → node_at f m ≡ Some j → NodeWeighs said j → NodeWeighs more j
+      others : (m : ℕ) → m ≢ n → (j : NodeState) → node_at f m ≡ Some j → NodeWeighs said j → NodeWeighs more j
       others m other j up old =
           weights_stay said d.says j
           (λ b l live. ((calls.left places asked each f t bs stand roots turns u k may).1.1 l.me (λ here. other (calls.elsewhere_is places asked each f t bs stand roots turns u k may m j up b l live here))).replies)
@@ -175,7 +175,7 @@ run_weights t lawful =
     (first_rests t.places t.commands t.of_a_script.each) (first_calls t.places t.commands t.of_a_script.each) (first_freeze t.places t.commands t.of_a_script.each) (first_ask t.places t.commands t.of_a_script.each)
     (first_weights t.places t.commands t.of_a_script.each) lawful
 
-node_weighs : (t : History) → IsLawfulRun t → (n : ℕ) (k : Kept) → node_at (facts_at t) n ≡ Some k → NodeWeighs (said_in (facts_at t)) k
+node_weighs : (t : History) → IsLawfulRun t → (n : ℕ) (k : NodeState) → node_at (facts_at t) n ≡ Some k → NodeWeighs (said_in (facts_at t)) k
 node_weighs t lawful n k up = subst (λ o. IfSome o (NodeWeighs (said_in (facts_at t)))) up (run_weights t lawful n)
 
 pub replies_tell_weights : RepliesTellWeights

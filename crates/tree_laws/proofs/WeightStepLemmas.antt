@@ -13,7 +13,7 @@ use Rattle.node_rules.specs.declared.session.Session.{Session}
 use Rattle.node_rules.specs.declared.session.PendingCall.TheVariants as pending
 use Rattle.node_rules.specs.declared.work.Work.{Work}
 use Rattle.node_rules.specs.Words.{same, put_item, drop_item}
-use Rattle.node_rules.specs.Kept.{Kept, Branch, Deed, live_id, work_id, live_at, branch_at, post, to_one, to_each, no_work, with_work, standing_at}
+use Rattle.node_rules.specs.NodeState.{NodeState, Branch, Deed, live_id, work_id, live_at, branch_at, post, to_one, to_each, no_work, with_work, standing_at}
 use Rattle.node_rules.specs.Names.{passed_on}
 use Rattle.node_rules.specs.Statement.{ran, after_run}
 use Rattle.node_rules.specs.Calls.{reply_fields, kept_reply, with_answer, answer_says, called, exec_to, next_child, strength_of, with_edge, waits_for_opened, hears_reply, replies, nobody_at}
@@ -90,11 +90,11 @@ other_silent a to b kind other n v (inl here) = (let yes : same a b ≡ true = s
 other_silent a to b kind other n v (inr none) = none
 
 -- a gone branch is not live
-gone_by : (k : Kept) (b : BranchId) (o : Option Live) → live_at k b ≡ o → live_or (with_work k o) (standing_at k b) ≡ Is_gone → o ≡ None
+gone_by : (k : NodeState) (b : BranchId) (o : Option Live) → live_at k b ≡ o → live_or (with_work k o) (standing_at k b) ≡ Is_gone → o ≡ None
 gone_by k b None is gone = refl
 gone_by k b (Some l) is gone = absurd cc
 
-gone_live : (k : Kept) (b : BranchId) → stand_of k b ≡ Is_gone → live_at k b ≡ None
+gone_live : (k : NodeState) (b : BranchId) → stand_of k b ≡ Is_gone → live_at k b ≡ None
 unfolding stand_of
 gone_live k b gone = gone_by k b (live_at k b) refl gone
 
@@ -162,10 +162,10 @@ answers_weighing said x a unanswered owes = record {
     kept_so (Some q) t is = let it : Some (reply_fields x.live a) ≡ Some t = is in let here : reply_fields x.live a ≡ t = cc in sym (ap (λ (y : ReplyFields). y.weight) here)
 
 module _ (E : BranchId → Option ℕ) (A : BranchId → Option BranchId) (G Here : BranchId → Type 0) (input : Input) (said : List Post) (received : turns.Received E A G Here input said) where
-  abbrev Nodes : Kept → Type 0
+  abbrev Nodes : NodeState → Type 0
   Nodes k = EachLive (turns.Begun E A G Here input said) k.lives k.works
 
-  abbrev pub Tolds : Kept → Type 0
+  abbrev pub Tolds : NodeState → Type 0
   Tolds k = EachLive (Weighs said) k.lives k.works
 
   abbrev pub Then : List Post → Live → Work → Type 0
@@ -175,7 +175,7 @@ module _ (E : BranchId → Option ℕ) (A : BranchId → Option BranchId) (G Her
   abbrev pub Leaves : Deed → Type 0
   Leaves d = EachLive (Then d.says) d.after.lives d.after.works
 
-  module _ (k : Kept) (now : Tolds k) where
+  module _ (k : NodeState) (now : Tolds k) where
     still : (says : List Post) → ((b : BranchId) (y : Live) → live_at k b ≡ Some y → Silent says y.me) → EachLive (Then says) k.lives k.works
     still says silent = each_same (Weighs said) (Then says) k.lives k.works now (λ y v live any is. stays_weighing said says y v (silent y.me y live) is)
 
@@ -310,7 +310,7 @@ module _ (E : BranchId → Option ℕ) (A : BranchId → Option BranchId) (G Her
   }
 
   module _ (p : Place) (place : (b : BranchId) → b.node ≡ p.number → Here b) where
-    pub tolds_on : {k : Kept} {d : Deed} → Step p input k d → SessionsFit k → News (deeds.NewBorn E A G Here input said received) p input k → Nodes k → Tolds k → Leaves d
+    pub tolds_on : {k : NodeState} {d : Deed} → Step p input k d → SessionsFit k → News (deeds.NewBorn E A G Here input said received) p input k → Nodes k → Tolds k → Leaves d
     tolds_on (steps.Begins {k = k} n s call rows range none step) ss news nodes now =
         let root = news.root n s call rows none in
         tolds_on step (begun_so k ss p n) (begun_news (deeds.NewBorn E A G Here input said received) p input k n news)

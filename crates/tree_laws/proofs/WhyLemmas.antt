@@ -14,7 +14,7 @@ use Rattle.node_rules.specs.Data.phases
 use Rattle.node_rules.specs.Data.records
 use Rattle.node_rules.specs.declared.session.Session.{Session}
 use Rattle.node_rules.specs.Words.{item_at, drop_item}
-use Rattle.node_rules.specs.Kept.{Kept, Branch, Deed, live_id, post, to_one, to_each}
+use Rattle.node_rules.specs.NodeState.{NodeState, Branch, Deed, live_id, post, to_one, to_each}
 use Rattle.node_rules.specs.Calls.{answer_says, exec_to, with_edge, hears_reply}
 use Rattle.node_rules.specs.Statement.{ran, after_run}
 use Rattle.node_rules.specs.Prepare.{path_of, ready, own_changes, site_neighbors, act_turn}
@@ -50,7 +50,7 @@ exec_mute : (ss : List Session) (x : Branch) (i : ℕ) (s : Stmt) (given : ℕ) 
 exec_mute ss x i s given None = tt
 exec_mute ss x i s given (Some c) = (((λ e. absurd cc), (λ e. absurd cc)), tt)
 
-says_mute : {k : Kept} {input : Input} {says : List Post} → Says k input says → AllSay IsMute says
+says_mute : {k : NodeState} {input : Input} {says : List Post} → Says k input says → AllSay IsMute says
 says_mute (steps.Tells s from came kept) = (told_says IsMute mute_decisions (kept_told s from), tt)
 says_mute {k = k} (steps.Recovers reco) = askings_say IsMute mute_decisions k
 says_mute _ = (((λ e. absurd cc), (λ e. absurd cc)), tt)
@@ -58,13 +58,13 @@ says_mute _ = (((λ e. absurd cc), (λ e. absurd cc)), tt)
 -- ---- the act
 
 -- the same live branches, and the same clock
-pub record Near (k0 k : Kept) : Type 0 where
+pub record Near (k0 k : NodeState) : Type 0 where
   pub lives : k.lives ≡ k0.lives
   pub clock : k.clock ≡ k0.clock
 
 -- A live branch acts so, at a node that is as it was but for its calls, its locks and its Acks.
-pub record ActsIn (k0 : Kept) (input : Input) (l : Live) (site_below : Bool) (a : Act) : Type 0 where
-  pub here : Kept
+pub record ActsIn (k0 : NodeState) (input : Input) (l : Live) (site_below : Bool) (a : Act) : Type 0 where
+  pub here : NodeState
   pub near : Near k0 here
   pub acting : Acting here input l site_below a
 
@@ -73,7 +73,7 @@ abbrev pub seal_act : Option ℕ → Act
 seal_act None = acts.Seal
 seal_act (Some i) = acts.SealAndPass i
 
-module _ (k0 : Kept) (input : Input) where
+module _ (k0 : NodeState) (input : Input) where
   -- Its record is that of an act, and its messages ask nobody.
   abbrev pub WroteWhy : List Post → RedoRecord → Type 0
   WroteWhy says (records.Sealed r) = AllSay IsPlain says × (l : Live) × (site_below : Bool) × (path : Option ℕ) × ActsIn k0 input l site_below (seal_act path) × (cs : List Change) × (r ≡ sealed_of k0.clock l cs path)
@@ -114,7 +114,7 @@ module _ (k0 : Kept) (input : Input) where
   mute_each : (says : List Post) (after : List Live) (from : BranchId) (kind : Kind) (bs : List BranchId) → IsMute kind → SaidSo says after (to_each from kind bs)
   mute_each says after from kind bs is = mutely says after (to_each from kind bs) (each_says IsMute from kind bs is)
 
-  module _ (k : Kept) (near : Near k0 k) where
+  module _ (k : NodeState) (near : Near k0 k) where
     acts_in : {l : Live} {site_below : Bool} {a : Act} → Acting k input l site_below a → ActsIn k0 input l site_below a
     acts_in why = record { here = k; near = near; acting = why }
 
@@ -148,7 +148,7 @@ module _ (k0 : Kept) (input : Input) where
 
   module _ (p : Place) where
     -- the node is as it was, unless a statement with a table came
-    pub why_on : {k : Kept} {d : Deed} → Step p input k d → (NoRows input → Near k0 k) → WhyOf d
+    pub why_on : {k : NodeState} {d : Deed} → Step p input k d → (NoRows input → Near k0 k) → WhyOf d
     why_on (steps.Begins n s call rows range none step) near = why_on step (λ no. absurd (no n s call rows))
     why_on (steps.Pends {k = k} n l given call has live code step) near = why_on step (λ no. (let is = near no in record { lives = is.lives; clock = is.clock }))
     why_on (steps.Lets_reads_go {k = k} l comment b live begins step) near = why_on step (λ no. (let is = near no in record { lives = is.lives; clock = is.clock }))

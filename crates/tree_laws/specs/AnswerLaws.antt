@@ -6,7 +6,7 @@ use Rattle.node_rules.specs.Data.{BranchId, Edge, Kind, Live, Phase, Post}
 use Rattle.node_rules.specs.Data.kinds
 use Rattle.node_rules.specs.Data.phases
 use Rattle.node_rules.specs.Data.votes
-use Rattle.node_rules.specs.Kept.{Kept}
+use Rattle.node_rules.specs.NodeState.{NodeState}
 use Rattle.run_rules.specs.Facts.{node_at}
 use Rattle.run_rules.specs.Lawful.{History, IsLawfulRun, facts_at}
 use Rattle.run_base_laws.specs.InTurnLaws.{said_in}
@@ -29,5 +29,5 @@ ReadyIs said from to _ = Unit {0}
 -- In every lawful run the answers that live branches hold, and each Ready that was sent, are so.
 abbrev pub AnswersAreAsTold : Type 0
 AnswersAreAsTold = (t : History) → IsLawfulRun t
-    → ((n : ℕ) (k : Kept) → node_at (facts_at t) n ≡ Some k → AllByRecursion (AnswersTold (said_in (facts_at t))) k.lives)
+    → ((n : ℕ) (k : NodeState) → node_at (facts_at t) n ≡ Some k → AllByRecursion (AnswersTold (said_in (facts_at t))) k.lives)
     × AllByRecursion (λ x. ReadyIs (said_in (facts_at t)) x.msg.from x.msg.to x.msg.kind) (facts_at t).net.packets

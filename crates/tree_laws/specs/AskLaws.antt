@@ -8,7 +8,7 @@ use Rattle.prepare_phase.specs.Records.{path_of}
 use Rattle.node_rules.specs.Data.{BranchId, Kind, Live, Phase, Post}
 use Rattle.node_rules.specs.Data.phases
 use Rattle.node_rules.specs.Words.{numbered}
-use Rattle.node_rules.specs.Kept.{Kept, live_at}
+use Rattle.node_rules.specs.NodeState.{NodeState, live_at}
 use Rattle.agreement.specs.Events.{Event, exit}
 use Rattle.run_rules.specs.Trail.{is_prepare}
 use Rattle.run_rules.specs.Data.{Happening}
@@ -74,18 +74,18 @@ AsTold said l = AsToldSo said l.me l.parent l.phase (children_of l) (step l)
 
 -- In every lawful run a live branch that collects, or is Ready, was told by its parent whether the walk comes to it.
 abbrev pub CollectsAsTold : Type 0
-CollectsAsTold = (t : History) → IsLawfulRun t → (n : ℕ) (k : Kept) → node_at (facts_at t) n ≡ Some k → (l : Live) → live_at k l.me ≡ Some l
+CollectsAsTold = (t : History) → IsLawfulRun t → (n : ℕ) (k : NodeState) → node_at (facts_at t) n ≡ Some k → (l : Live) → live_at k l.me ≡ Some l
     → (b : Bool) → way_of l.phase ≡ Some b → (q : BranchId) → l.parent ≡ Some q → was_sent (tells b) (said_in (facts_at t)) q l.me ≡ true
 
 -- In every lawful run a live branch whose collect began has asked each of its children, and nobody else.
 abbrev pub EdgesAsked : Type 0
-EdgesAsked = (t : History) → IsLawfulRun t → (n : ℕ) (k : Kept) → node_at (facts_at t) n ≡ Some k → (l : Live) → live_at k l.me ≡ Some l → l.phase ≢ phases.Working
+EdgesAsked = (t : History) → IsLawfulRun t → (n : ℕ) (k : NodeState) → node_at (facts_at t) n ≡ Some k → (l : Live) → live_at k l.me ≡ Some l → l.phase ≢ phases.Working
     → ((i : ℕ) (c : BranchId) → numbered (children_of l) i ≡ Some c → was_asked (said_in (facts_at t)) l.me c ≡ true)
     × ((c : BranchId) → was_asked (said_in (facts_at t)) l.me c ≡ true → (i : ℕ) × (numbered (children_of l) i ≡ Some c))
 
 -- In every lawful run a live branch whose collect began told the child to which the walk goes on, and no other, that it comes there.
 abbrev pub PathsAreTold : Type 0
-PathsAreTold = (t : History) → IsLawfulRun t → (n : ℕ) (k : Kept) → node_at (facts_at t) n ≡ Some k → (l : Live) → live_at k l.me ≡ Some l → l.phase ≢ phases.Working
+PathsAreTold = (t : History) → IsLawfulRun t → (n : ℕ) (k : NodeState) → node_at (facts_at t) n ≡ Some k → (l : Live) → live_at k l.me ≡ Some l → l.phase ≢ phases.Working
     → ((c : BranchId) → was_sent is_below (said_in (facts_at t)) l.me c ≡ true → (i : ℕ) × (path_on l.phase (step l) ≡ Some i) × (numbered (children_of l) i ≡ Some c))
     × ((i : ℕ) (c : BranchId) → path_on l.phase (step l) ≡ Some i → numbered (children_of l) i ≡ Some c → was_sent is_below (said_in (facts_at t)) l.me c ≡ true)
 

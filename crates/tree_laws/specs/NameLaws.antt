@@ -2,7 +2,7 @@
 use Rattle.std.specs.Prelude.{◌≡◌, ℕ, ◌⊎◌, List, map, Option, Some}
 use Rattle.std.specs.List.{AllByRecursion}
 use Rattle.node_rules.specs.Data.{BranchId, Standing}
-use Rattle.node_rules.specs.Kept.{Kept}
+use Rattle.node_rules.specs.NodeState.{NodeState}
 use Rattle.agreement.specs.Events.{Forest, Event, Beyond, Quiet, exit}
 use Rattle.run_rules.specs.Data.{Happening}
 use Rattle.run_rules.specs.Data.happenings
@@ -24,7 +24,7 @@ RowNames p t s = NamesBeyond p t s.me s.parent (map (λ c. c.branch) s.children)
 
 -- each row of each node that is up does so, whatever happens next
 abbrev pub NodesName : Forest → Facts → List Event → Happening → Type 0
-NodesName p f t h = (n : ℕ) (k : Kept) → node_at f n ≡ Some k → AllByRecursion (RowNames p t) k.stored.durable.kept
+NodesName p f t h = (n : ℕ) (k : NodeState) → node_at f n ≡ Some k → AllByRecursion (RowNames p t) k.stored.durable.kept
 
 -- In every lawful run the row of each branch names each neighbour beyond that is not gone without changes.
 abbrev pub RowsNameBeyond : Type 0

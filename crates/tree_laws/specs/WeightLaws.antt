@@ -7,7 +7,7 @@ use Rattle.node_rules.specs.Data.{BranchId, Edge, Kind, Live, Post, ReplyFields}
 use Rattle.node_rules.specs.Data.kinds
 use Rattle.node_rules.specs.declared.work.Work.{Work}
 use Rattle.node_rules.specs.Words.{numbered}
-use Rattle.node_rules.specs.Kept.{Kept, Branch, branch_at}
+use Rattle.node_rules.specs.NodeState.{NodeState, Branch, branch_at}
 use Rattle.agreement.specs.Events.{Event, Send_vote, Has}
 use Rattle.run_rules.specs.Data.{Happening}
 use Rattle.run_rules.specs.Facts.{Facts, node_at}
@@ -27,7 +27,7 @@ LiveWeighs t said l = AllByRecursion (EdgeWeighs t said l.me) l.edges
 
 -- at each node, whatever happens next
 abbrev pub NodesWeigh : Facts → List Event → Happening → Type 0
-NodesWeigh f t h = (n : ℕ) (k : Kept) → node_at f n ≡ Some k → AllByRecursion (LiveWeighs t (said_in f)) k.lives
+NodesWeigh f t h = (n : ℕ) (k : NodeState) → node_at f n ≡ Some k → AllByRecursion (LiveWeighs t (said_in f)) k.lives
 
 -- in a run, before each happening
 abbrev pub VotersWeigh : History → Type 0
@@ -54,7 +54,7 @@ pub record TellsItsWeight (said : List Post) (me : BranchId) (parent : Option Br
 
 -- In every lawful run each live branch did.
 abbrev pub RepliesTellWeights : Type 0
-RepliesTellWeights = (t : History) → IsLawfulRun t → (n : ℕ) (k : Kept) → node_at (facts_at t) n ≡ Some k → (x : Branch) → branch_at k x.live.me ≡ Some x
+RepliesTellWeights = (t : History) → IsLawfulRun t → (n : ℕ) (k : NodeState) → node_at (facts_at t) n ≡ Some k → (x : Branch) → branch_at k x.live.me ≡ Some x
     → TellsItsWeight (said_in (facts_at t)) x.live.me x.live.parent (weight x.live) x.work
 
 -- ---- what edges hold
@@ -67,7 +67,7 @@ pub record HoldsWeights (said : List Post) (goes_on : Type 0) (me : BranchId) (e
 
 -- In every lawful run each live branch does.
 abbrev pub EdgesHoldWeights : Type 0
-EdgesHoldWeights = (t : History) → IsLawfulRun t → (n : ℕ) (k : Kept) → node_at (facts_at t) n ≡ Some k → (x : Branch) → branch_at k x.live.me ≡ Some x
+EdgesHoldWeights = (t : History) → IsLawfulRun t → (n : ℕ) (k : NodeState) → node_at (facts_at t) n ≡ Some k → (x : Branch) → branch_at k x.live.me ≡ Some x
     → HoldsWeights (said_in (facts_at t)) (GoesOn k x.live) x.live.me x.live.edges x.work
 
 -- So in every lawful run each child that voted off the walk has a weight at its parent.

@@ -9,7 +9,7 @@ use Rattle.node_rules.specs.Data.acts
 use Rattle.session_tree.specs.Live.{new_edge}
 use Rattle.node_rules.specs.Words.{numbered, set_numbered}
 use Rattle.node_rules.specs.Words.{item_at}
-use Rattle.node_rules.specs.Kept.{Kept, Branch, Deed, live_id, work_or, branch_at, with_branch, with_live, without_branch}
+use Rattle.node_rules.specs.NodeState.{NodeState, Branch, Deed, live_id, work_or, branch_at, with_branch, with_live, without_branch}
 use Rattle.node_rules.specs.declared.session.PendingCall.TheVariants as pending
 use Rattle.node_rules.specs.Statement.{ran, after_run, answer_of_run}
 use Rattle.node_rules.specs.Calls.{next_call, called, with_answer, with_edge, hears_reply}
@@ -58,18 +58,18 @@ called_at ns (suc i) n all at = subst (λ o. 1 ≤ unwrap_or o 0) (sym at) (numb
 abbrev Called : Live → Work → Type 0
 Called l w = AreCalls w.calls
 
-abbrev Nodes : Kept → Type 0
+abbrev Nodes : NodeState → Type 0
 Nodes k = EachLive Called k.lives k.works
 
 -- as many calls as edges
-branch_even : (k : Kept) → CallsSo k → (x : Branch) → branch_at k x.live.me ≡ Some x → length x.work.calls ≡ length x.live.edges
+branch_even : (k : NodeState) → CallsSo k → (x : Branch) → branch_at k x.live.me ≡ Some x → length x.work.calls ≡ length x.live.edges
 branch_even k ss x live = let parts = branch_parts k x.live.me x live in ap (λ (w : Work). length w.calls) parts.1 ∙ (ss.1.each x.live.me x.live parts.0).numbers
 
-begins_fit : (p : Place) (k : Kept) (n : ℕ) → CallsSo k → CallsSo (begun_by p k n None)
+begins_fit : (p : Place) (k : NodeState) (n : ℕ) → CallsSo k → CallsSo (begun_by p k n None)
 begins_fit p k n ss =
     (begun_so k ss.0 p n, each_begun _ _ k.lives k.works ss.1 _ (record { numbers = refl; waiting = λ waits. refl; root = λ none. refl }) (λ y v live any so. so))
 
-module _ (k : Kept) (now : Nodes k) where
+module _ (k : NodeState) (now : Nodes k) where
   found_called : (x : Branch) → branch_at k x.live.me ≡ Some x → AreCalls x.work.calls
   found_called x live = let parts = branch_parts k x.live.me x live in subst (λ (w : Work). AreCalls w.calls) (sym parts.1) (now.each x.live.me x.live parts.0)
 
@@ -105,7 +105,7 @@ module _ (k : Kept) (now : Nodes k) where
       subst (λ m. AreCalls (set_numbered (x.work.calls ++ 0 ∷ []) m n)) place (last_at x.work.calls n (omega arith) (found_called x live))
 
 -- each step keeps it
-calls_on : (p : Place) (input : Input) {k : Kept} {d : Deed} → Step p input k d → CallsSo k → Nodes k → Nodes d.after
+calls_on : (p : Place) (input : Input) {k : NodeState} {d : Deed} → Step p input k d → CallsSo k → Nodes k → Nodes d.after
 calls_on p input (steps.Begins {k = k} n s call rows fit none step) ss now = calls_on p input step (begins_fit p k n ss) (begins k now _)
 calls_on p input (steps.Pends {k = k} n l given call has live code step) ss now = calls_on p input step (pends_so k ss.0 n pending.Commit, ss.1) now
 calls_on p input (steps.Lets_reads_go l comment site_below live collects step) ss now = calls_on p input step (record { roots = ss.0.roots; above = ss.0.above }, ss.1) now
@@ -146,7 +146,7 @@ calls_on p input (steps.Gives_up_commit {k = k} n b (Some l) gives has calls liv
 calls_on p input (steps.Gives_up_commit n b None gives has calls live) ss now = now
 calls_on p input _ ss now = now
 
-abbrev AllCalled : Kept → Type 0
+abbrev AllCalled : NodeState → Type 0
 AllCalled k = CallsSo k × Nodes k
 
 called_keep : KeepsAlone AllCalled

@@ -11,7 +11,7 @@ use Rattle.node_rules.specs.Data.phases
 use Rattle.node_rules.specs.Data.stmts
 use Rattle.node_rules.specs.declared.session.PendingCall.TheVariants as pending
 use Rattle.node_rules.specs.Words.{same, item_at, put_item}
-use Rattle.node_rules.specs.Kept.{Kept, Branch, Deed, live_id, live_at, branch_at}
+use Rattle.node_rules.specs.NodeState.{NodeState, Branch, Deed, live_id, live_at, branch_at}
 use Rattle.node_rules.specs.Sessions.{session_at, with_call}
 use Rattle.node_rules.specs.Client.{root_by, root_at, commit_by}
 use Rattle.node_rules.specs.Prepare.{act_turn, ready, collecting, with_comment, first_act, without_read_keys}
@@ -23,7 +23,7 @@ use Rattle.tree_laws.proofs.SiteLemmas.{IsDecisionOf}
 use Rattle.tree_site_laws.proofs.RestLemmas.{collected}
 
 -- an act concerns its branch alone
-act_other : (k : Kept) (l : Live) (b : Bool) (a : Act) (c : BranchId) → same l.me c ≡ false → live_at (act_turn k l b a).after c ≡ live_at k c
+act_other : (k : NodeState) (l : Live) (b : Bool) (a : Act) (c : BranchId) → same l.me c ≡ false → live_at (act_turn k l b a).after c ≡ live_at k c
 act_other k l b acts.Rest c other = put_leaves live_id k.lives l c other
 act_other k l b acts.AskDown c other = put_leaves live_id k.lives l c other
 act_other k l b acts.SayReady c other = put_leaves live_id k.lives (ready l) c other
@@ -38,7 +38,7 @@ act_other k l b acts.Abandon c other = drop_leaves live_id k.lives l.me c other
 abbrev pub Ends_record : BranchId → Option RedoRecord → Type 0
 Ends_record c w = IsSealOf c w ⊎ IsDecisionOf c w
 
-act_record : (k : Kept) (l : Live) (b : Bool) (a : Act) (c : BranchId) → Ends_record c (act_turn k l b a).wrote → l.me ≡ c
+act_record : (k : NodeState) (l : Live) (b : Bool) (a : Act) (c : BranchId) → Ends_record c (act_turn k l b a).wrote → l.me ≡ c
 act_record k l b acts.Seal c (inl is) = is
 act_record k l b (acts.SealAndPass i) c (inl is) = is
 act_record k l b acts.Decide c (inr is) = is
@@ -52,13 +52,13 @@ act_record k l b acts.SayReadOnly c is = elim is [ inl never ↦ absurd never | 
 act_record k l b acts.Finish c is = elim is [ inl never ↦ absurd never | inr never ↦ absurd never ]
 act_record k l b acts.Abandon c is = elim is [ inl never ↦ absurd never | inr never ↦ absurd never ]
 
-module _ (k : Kept) (n : ℕ) (comment : List ℕ) where
+module _ (k : NodeState) (n : ℕ) (comment : List ℕ) where
   -- it is the root of the session, and its transaction needs no rollback
   abbrev pub Commits_root : BranchId → Type 0
   Commits_root c = (x : Branch) × (branch_at k x.live.me ≡ Some x) × (x.live.me ≡ c) × HasRoot k n x.live.me × ((session_at k.sessions n).code ≡ None)
 
   -- the act of the root
-  abbrev pub with_pending : Kept
+  abbrev pub with_pending : NodeState
   with_pending = record k { sessions = with_call k.sessions n pending.Commit }
 
   changes_by : (code : Option ℕ) (o : Option Branch) → (session_at k.sessions n).code ≡ code → RootSo k n o → (c : BranchId) → (live_at (commit_by k n comment code o).after c ≡ live_at k c) ⊎ Commits_root c
@@ -78,7 +78,7 @@ module _ (k : Kept) (n : ℕ) (comment : List ℕ) where
       let me : x.live.me ≡ c = act_record (without_read_keys with_pending x.live.me) (collecting (with_comment x.live comment) true) true (first_act (collecting (with_comment x.live comment) true) true) c wrote in
       (x, root.1, me, root.0, is)
 
-module _ (p : Place) (k : Kept) (n : ℕ) (given : Option (List ℕ)) where
+module _ (p : Place) (k : NodeState) (n : ℕ) (given : Option (List ℕ)) where
   abbrev pub d : Deed
   d = deed_of p k (inputs.Call n (Some (stmts.Commit given)))
 
@@ -94,10 +94,10 @@ module _ (p : Place) (k : Kept) (n : ℕ) (given : Option (List ℕ)) where
 abbrev pub AsAsked : Live → Live → Type 0
 AsAsked l w = (children_of w ≡ children_of l) × (map (λ e. e.weight) w.edges ≡ map (λ e. e.weight) l.edges) × (w.changed ≡ l.changed) × (w.phase ≢ phases.Working)
 
-kept_as : (k : Kept) (l w : Live) → l.phase ≢ phases.Working → item_at live_id (put_item live_id k.lives l) l.me ≡ Some w → AsAsked l w
+kept_as : (k : NodeState) (l w : Live) → l.phase ≢ phases.Working → item_at live_id (put_item live_id k.lives l) l.me ≡ Some w → AsAsked l w
 kept_as k l w other is = let it : Some l ≡ Some w = sym (put_found live_id k.lives l) ∙ is in let here : l ≡ w = cc in subst (AsAsked l) here (refl, refl, refl, other)
 
-act_leaves : (k : Kept) (l : Live) (b : Bool) (a : Act) (w : Live) → l.phase ≢ phases.Working → live_at (act_turn k l b a).after l.me ≡ Some w → AsAsked l w
+act_leaves : (k : NodeState) (l : Live) (b : Bool) (a : Act) (w : Live) → l.phase ≢ phases.Working → live_at (act_turn k l b a).after l.me ≡ Some w → AsAsked l w
 act_leaves k l b acts.Rest w other is = kept_as k l w other is
 act_leaves k l b acts.AskDown w other is = kept_as k l w other is
 act_leaves k l b acts.SayReady w other is = kept_as k (ready l) w (λ no_more. absurd cc) is
@@ -108,7 +108,7 @@ act_leaves k l b acts.Decide w other is = (let none : live_at (act_turn k l b ac
 act_leaves k l b acts.Finish w other is = (let none : live_at (act_turn k l b acts.Finish).after l.me ≡ None = drop_gone live_id k.lives l.me in absurd (cc (none, is)))
 act_leaves k l b acts.Abandon w other is = (let none : live_at (act_turn k l b acts.Abandon).after l.me ≡ None = drop_gone live_id k.lives l.me in absurd (cc (none, is)))
 
-pub commit_leaves : (p : Place) (k : Kept) (n : ℕ) (given : Option (List ℕ)) (x : Branch) → HasRoot k n x.live.me → branch_at k x.live.me ≡ Some x → (session_at k.sessions n).code ≡ None
+pub commit_leaves : (p : Place) (k : NodeState) (n : ℕ) (given : Option (List ℕ)) (x : Branch) → HasRoot k n x.live.me → branch_at k x.live.me ≡ Some x → (session_at k.sessions n).code ≡ None
     → (w : Live) → live_at (deed_of p k (inputs.Call n (Some (stmts.Commit given)))).after x.live.me ≡ Some w → AsAsked x.live w
 commit_leaves p k n given x has found code w is =
     let root : root_at k n ≡ Some x = ap (root_by k) has ∙ found in

@@ -6,7 +6,7 @@ use Rattle.session_tree.specs.declared.act.Walk.TheVariants as walks
 use Rattle.agreement.specs.Events.{Exit, Sealed, Decided, Quiet, Dropped, exit}
 use Rattle.node_rules.specs.Data.{BranchId, Live}
 use Rattle.node_rules.specs.Words.{numbered}
-use Rattle.node_rules.specs.Kept.{Kept, Branch, live_id, branch_at}
+use Rattle.node_rules.specs.NodeState.{NodeState, Branch, live_id, branch_at}
 use Rattle.node_rules.proofs.StandLemmas.{live_so}
 use Rattle.run_rules.specs.Data.{Happening}
 use Rattle.run_rules.specs.Facts.{Facts, node_at}
@@ -48,7 +48,7 @@ module _ (t : History) (whole : IsLawfulRun t) (hs0 : List Happening) (part0 : P
   LeavesWell c = (z : Exit) × (exit (events_of t) c ≡ Some z) × (z ≢ Dropped)
 
   module _ (x : Branch) (member : Member t whole hs0 part0 r x) (left_well : LeavesWell x.live.me) where
-    not_here : (k : Kept) (y : Branch) → node_at (facts_at t) x.live.me.node ≡ Some k → branch_at k y.live.me ≡ Some y → y.live.me ≡ x.live.me → ⊥
+    not_here : (k : NodeState) (y : Branch) → node_at (facts_at t) x.live.me.node ≡ Some k → branch_at k y.live.me ≡ Some y → y.live.me ≡ x.live.me → ⊥
     not_here k y up found me =
         let none : exit (events_of t) y.live.me ≡ None = all_found (λ (l : Live). exit (events_of t) l.me ≡ None) live_id k.lives y.live.me y.live (nodes_are_as_events t whole x.live.me.node k up).0 (live_so k y.live.me y found) in
         let some : exit (events_of t) y.live.me ≡ Some left_well.0 = subst (λ b. exit (events_of t) b ≡ Some left_well.0) (sym me) left_well.1 in

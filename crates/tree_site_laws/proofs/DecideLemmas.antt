@@ -7,7 +7,7 @@ use Rattle.session_tree.specs.Live.{children_of}
 use Rattle.node_rules.specs.Data.{BranchId, Edge, Live, Phase, Input}
 use Rattle.node_rules.specs.Data.phases
 use Rattle.node_rules.specs.Words.{numbered}
-use Rattle.node_rules.specs.Kept.{Kept, Branch, live_id, live_at, branch_at}
+use Rattle.node_rules.specs.NodeState.{NodeState, Branch, live_id, live_at, branch_at}
 use Rattle.node_rules.specs.Turn.{turn_of, deed_of}
 use Rattle.node_rules.proofs.Steps.{HasRoot}
 use Rattle.node_rules.proofs.StandLemmas.{live_so}
@@ -96,7 +96,7 @@ module _ (t : History) (whole : IsLawfulRun t) (r : BranchId) (found : WasFound 
   abbrev x : Branch
   x = at.branch
 
-  abbrev k : Kept
+  abbrev k : NodeState
   k = at.kept
 
   up : node_at (f_at t hs0) x.live.me.node ≡ Some k
@@ -129,7 +129,7 @@ module _ (t : History) (whole : IsLawfulRun t) (r : BranchId) (found : WasFound 
       (fate_by t hs0 lawful0 h may k x up at.found (turn_lives t hs0 u lawful0 may k x up at.found still (λ working w is me node. (asked_so w is me).0)) (turn_left t hs0 u lawful0 may k x up at.found))
 
   -- where it is live then it has asked a child
-  busy1 : (j : Kept) (w : Branch) → node_at (f_at t hs1) x.live.me.node ≡ Some j → branch_at j w.live.me ≡ Some w → w.live.me ≡ x.live.me → w.live.phase ≢ phases.Working
+  busy1 : (j : NodeState) (w : Branch) → node_at (f_at t hs1) x.live.me.node ≡ Some j → branch_at j w.live.me ≡ Some w → w.live.me ≡ x.live.me → w.live.phase ≢ phases.Working
   busy1 j w there is me =
       let own : node_at (facts_after t.places t.commands (f_at t hs0) h) u.node ≡ Some j
       = subst (λ i. node_at (facts_after t.places t.commands (f_at t hs0) h) i ≡ Some j) (ap (λ (b : BranchId). b.node) at.is_me ∙ sym at.node) (subst (λ y. node_at y x.live.me.node ≡ Some j) (one_on t hs0 h) there) in
@@ -143,15 +143,15 @@ module _ (t : History) (whole : IsLawfulRun t) (r : BranchId) (found : WasFound 
       by true none mine = absurd cc
       by false some mine =
           let it : (turn_of (place_at t.places u.node) may.0 u.input).after ≡ j = cc in
-          (asked_so w (subst (λ (i : Kept). branch_at (turn_of (place_at t.places u.node) i u.input).after w.live.me ≡ Some w) mine (subst (λ i. branch_at i w.live.me ≡ Some w) (sym it) is)) me).1
+          (asked_so w (subst (λ (i : NodeState). branch_at (turn_of (place_at t.places u.node) i u.input).after w.live.me ≡ Some w) mine (subst (λ i. branch_at i w.live.me ≡ Some w) (sym it) is)) me).1
 
-  no_parent : (j : Kept) (w : Branch) → node_at (f_at t hs1) x.live.me.node ≡ Some j → branch_at j w.live.me ≡ Some w → w.live.me ≡ x.live.me → w.live.parent ≡ None
+  no_parent : (j : NodeState) (w : Branch) → node_at (f_at t hs1) x.live.me.node ≡ Some j → branch_at j w.live.me ≡ Some w → w.live.me ≡ x.live.me → w.live.parent ≡ None
   no_parent j w there is me =
       let its : LiveIs (Began (births_of (so_far t hs1))) w.live = placed_of (so_far t hs1) (part_lawful t whole hs1 part1) x.live.me.node j there w is in
       let one : its.born ≡ top.0 = trees.same_born (births_of t) (said_in (facts_at t)) (known t whole) its.born top.0 (born_end t whole hs1 part1 its.born its.began) top.1 (its.is_me ∙ (me ∙ (at.is_me ∙ sym top.2))) in
       sym its.is_parent ∙ (ap (λ (y : Born). y.parent) one ∙ top.3)
 
-  asked1 : (j : Kept) (w : Branch) → node_at (f_at t hs1) x.live.me.node ≡ Some j → branch_at j w.live.me ≡ Some w → w.live.me ≡ x.live.me → (c : BranchId) × (was_asked (said_in (f_at t hs1)) x.live.me c ≡ true)
+  asked1 : (j : NodeState) (w : Branch) → node_at (f_at t hs1) x.live.me.node ≡ Some j → branch_at j w.live.me ≡ Some w → w.live.me ≡ x.live.me → (c : BranchId) × (was_asked (said_in (f_at t hs1)) x.live.me c ≡ true)
   asked1 j w there is me =
       let s : History = so_far t hs1 in
       let lawful : IsLawfulRun s = part_lawful t whole hs1 part1 in
@@ -185,7 +185,7 @@ module _ (t : History) (whole : IsLawfulRun t) (r : BranchId) (found : WasFound 
   abbrev Busy : List Happening → Type 0
   Busy hs = ((z : Exit) × (exit (e_at t hs) x.live.me ≡ Some z)) ⊎ ((c : BranchId) × (was_asked (said_in (f_at t hs)) x.live.me c ≡ true))
 
-  not_working : (hs : List Happening) → Part t whole hs → Busy hs → (j : Kept) (y : Branch) → node_at (f_at t hs) x.live.me.node ≡ Some j → branch_at j y.live.me ≡ Some y → y.live.me ≡ x.live.me → y.live.phase ≡ phases.Working → ⊥
+  not_working : (hs : List Happening) → Part t whole hs → Busy hs → (j : NodeState) (y : Branch) → node_at (f_at t hs) x.live.me.node ≡ Some j → branch_at j y.live.me ≡ Some y → y.live.me ≡ x.live.me → y.live.phase ≡ phases.Working → ⊥
   not_working hs part (inl left) j y there is me working =
       let none : exit (e_at t hs) y.live.me ≡ None = all_found (λ (l : Live). exit (e_at t hs) l.me ≡ None) live_id j.lives y.live.me y.live (nodes_are_as_events (so_far t hs) (part_lawful t whole hs part) x.live.me.node j there).0 (live_so j y.live.me y is) in
       let some : exit (e_at t hs) y.live.me ≡ Some left.0 = subst (λ b. exit (e_at t hs) b ≡ Some left.0) (sym me) left.1 in
@@ -222,7 +222,7 @@ module _ (t : History) (whole : IsLawfulRun t) (r : BranchId) (found : WasFound 
   -- what is known of it at a moment
   abbrev Moment : List Happening → Type 0
   Moment hs = State t whole x hs
-      × ((j : Kept) (y : Branch) → node_at (f_at t hs) x.live.me.node ≡ Some j → branch_at j y.live.me ≡ Some y → y.live.me ≡ x.live.me → y.live.phase ≡ phases.Working → GoesOn j y.live × (y.work.going ≡ None))
+      × ((j : NodeState) (y : Branch) → node_at (f_at t hs) x.live.me.node ≡ Some j → branch_at j y.live.me ≡ Some y → y.live.me ≡ x.live.me → y.live.phase ≡ phases.Working → GoesOn j y.live × (y.work.going ≡ None))
 
   first_moment : Moment hs0
   first_moment = (
@@ -231,7 +231,7 @@ module _ (t : History) (whole : IsLawfulRun t) (r : BranchId) (found : WasFound 
         let it : j ≡ k = cc in
         let two : Some y ≡ Some x = sym (subst₂ (λ i c. branch_at i c ≡ Some y) it me is) ∙ at.found in
         let same : y ≡ x = cc in
-        subst₂ (λ (i : Kept) (z : Branch). GoesOn i z.live × (z.work.going ≡ None)) (sym it) (sym same) (at.goes, at.waits))),
+        subst₂ (λ (i : NodeState) (z : Branch). GoesOn i z.live × (z.work.going ≡ None)) (sym it) (sym same) (at.goes, at.waits))),
   )
 
   later_moment : (mid : List Happening) → Part t whole (hs1 ++ mid) → Moment (hs1 ++ mid)

@@ -6,7 +6,7 @@ use Rattle.agreement.specs.Events.{Event, Exit, Sealed, Decided, Quiet, Dropped,
 use Rattle.node_rules.specs.Data.{BranchId, Live, RedoRecord}
 use Rattle.node_rules.specs.Data.phases
 use Rattle.node_rules.specs.Words.{same, numbered, set_numbered, item_at}
-use Rattle.node_rules.specs.Kept.{Kept, Branch, live_id, live_at, branch_at, work_at, with_work}
+use Rattle.node_rules.specs.NodeState.{NodeState, Branch, live_id, live_at, branch_at, work_at, with_work}
 use Rattle.node_rules.specs.Turn.{turn_of, start_of}
 use Rattle.node_rules.proofs.StandLemmas.{live_so}
 use Rattle.node_rules.specs.LiveBranches.{EachLive}
@@ -59,10 +59,10 @@ stop_drops f g n t b Dropped none is = refl
 module _ (t : History) where
   -- A branch that was live stays so, or leaves.
   pub data Fate (hs : List Happening) (h : Happening) (y : Branch) : Type 0 where
-    Stays : (k : Kept) (z : Branch) → node_at (f_at t (hs ++ h ∷ [])) y.live.me.node ≡ Some k → branch_at k z.live.me ≡ Some z → z.live.me ≡ y.live.me → SameTree y z → Fate hs h y
+    Stays : (k : NodeState) (z : Branch) → node_at (f_at t (hs ++ h ∷ [])) y.live.me.node ≡ Some k → branch_at k z.live.me ≡ Some z → z.live.me ≡ y.live.me → SameTree y z → Fate hs h y
     Leaves : (x : Exit) → exit (e_at t (hs ++ h ∷ [])) y.live.me ≡ Some x → (x ≢ Dropped → LeavesSo (said_in (f_at t hs)) y.live x) → Fate hs h y
 
-  module _ (hs : List Happening) (h : Happening) (lawful : IsLawfulRun (so_far t hs)) (may : MayHappen t.places t.commands (f_at t hs) h) (k : Kept) (y : Branch) (up : node_at (f_at t hs) y.live.me.node ≡ Some k) (found : branch_at k y.live.me ≡ Some y) where
+  module _ (hs : List Happening) (h : Happening) (lawful : IsLawfulRun (so_far t hs)) (may : MayHappen t.places t.commands (f_at t hs) h) (k : NodeState) (y : Branch) (up : node_at (f_at t hs) y.live.me.node ≡ Some k) (found : branch_at k y.live.me ≡ Some y) where
     abbrev s : History
     s = so_far t hs
 
@@ -101,7 +101,7 @@ module _ (t : History) where
     same_so = record { peers = refl; weights = refl; changed = refl }
 
     -- it is found at its node
-    found_after : (j : Kept) → node_at (f_at t (hs ++ h ∷ [])) b.node ≡ Some j → (l : Live) → live_at j b ≡ Some l → ((w : Branch) → branch_at j w.live.me ≡ Some w → w.live.me ≡ b → SameTree y w) → Fate hs h y
+    found_after : (j : NodeState) → node_at (f_at t (hs ++ h ∷ [])) b.node ≡ Some j → (l : Live) → live_at j b ≡ Some l → ((w : Branch) → branch_at j w.live.me ≡ Some w → w.live.me ≡ b → SameTree y w) → Fate hs h y
     found_after j there l at still =
         let me : l.me ≡ b = item_is live_id j.lives b l at in
         let w : Branch = record { live = l; work = work_at j l.me } in
@@ -109,7 +109,7 @@ module _ (t : History) where
         Stays j w there is me (still w is me)
 
     -- one of a node that is as it was
-    as_before : (j : Kept) → node_at f b.node ≡ Some j → (w : Branch) → branch_at j w.live.me ≡ Some w → w.live.me ≡ b → SameTree y w
+    as_before : (j : NodeState) → node_at f b.node ≡ Some j → (w : Branch) → branch_at j w.live.me ≡ Some w → w.live.me ≡ b → SameTree y w
     as_before j there w is me =
         let one : Some j ≡ Some k = sym there ∙ up in
         let it : j ≡ k = cc in
@@ -118,7 +118,7 @@ module _ (t : History) where
         let here : w ≡ y = cc in
         subst (SameTree y) (sym here) same_so
 
-  module _ (hs : List Happening) (u : Turn) (lawful : IsLawfulRun (so_far t hs)) (may : MayHappen t.places t.commands (f_at t hs) (happenings.Turn u)) (k : Kept) (y : Branch) (up : node_at (f_at t hs) y.live.me.node ≡ Some k) (found : branch_at k y.live.me ≡ Some y) where
+  module _ (hs : List Happening) (u : Turn) (lawful : IsLawfulRun (so_far t hs)) (may : MayHappen t.places t.commands (f_at t hs) (happenings.Turn u)) (k : NodeState) (y : Branch) (up : node_at (f_at t hs) y.live.me.node ≡ Some k) (found : branch_at k y.live.me ≡ Some y) where
     abbrev f0 : Facts
     f0 = f_at t hs
 
@@ -145,13 +145,13 @@ module _ (t : History) where
         let at : node_at f0 u.node ≡ Some k = subst (λ i. node_at f0 i ≡ Some k) (sym here) up in
         let it : Some may.0 ≡ Some k = sym may.1.up ∙ at in
         let mine : may.0 ≡ k = cc in
-        let there : branch_at (turn_of (place_at t.places u.node) k u.input).after w.live.me ≡ Some w = subst (λ (i : Kept). branch_at (turn_of (place_at t.places u.node) i u.input).after w.live.me ≡ Some w) mine is in
+        let there : branch_at (turn_of (place_at t.places u.node) k u.input).after w.live.me ≡ Some w = subst (λ (i : NodeState). branch_at (turn_of (place_at t.places u.node) i u.input).after w.live.me ≡ Some w) mine is in
         elim (working_or y.live.phase) [
           | inl working ↦ calm working w there me here
           | inr other ↦ (let so : StandsStill y w = still k at y w found other me there in record { peers = so.peers; weights = so.weights; changed = so.changed })
         ]
 
-    pub turn_lives : LeavesStill t.places f0 (happenings.Turn u) → Calmly → (j : Kept) → node_at g0 c.node ≡ Some j → (w : Branch) → branch_at j w.live.me ≡ Some w → w.live.me ≡ c → SameTree y w
+    pub turn_lives : LeavesStill t.places f0 (happenings.Turn u) → Calmly → (j : NodeState) → node_at g0 c.node ≡ Some j → (w : Branch) → branch_at j w.live.me ≡ Some w → w.live.me ≡ c → SameTree y w
     turn_lives still calm j there w is me = elim (cases_nat u.node c.node) [
       | inr other ↦ as_before hs (happenings.Turn u) lawful may k y up found j (sym (turn_elsewhere t.places t.commands f0 even u c.node other).0 ∙ there) w is me
       | inl here ↦ by here u.cut refl
@@ -179,7 +179,7 @@ module _ (t : History) where
         let at : node_at f0 u.node ≡ Some k = subst (λ i. node_at f0 i ≡ Some k) (sym node) up in
         let it : Some may.0 ≡ Some k = sym may.1.up ∙ at in
         let mine : may.0 ≡ k = cc in
-        let there : live_at k c ≡ Some left.live = subst₂ (λ (i : Kept) d. live_at i d ≡ Some left.live) mine left.is_me left.found in
+        let there : live_at k c ≡ Some left.live = subst₂ (λ (i : NodeState) d. live_at i d ≡ Some left.live) mine left.is_me left.found in
         let two : Some left.live ≡ Some y.live = sym there ∙ live_so k c y found in
         let same_live : left.live ≡ y.live = cc in
         subst (λ l. LeavesSo (said_in f0) l x) same_live left.leaves
@@ -196,11 +196,11 @@ module _ (t : History) where
     start_empty : (zs : List RedoRecord) (w : Branch) → branch_at (start_of zs) w.live.me ≡ Some w → ⊥
     start_empty zs w is = (start_none zs).each w.live.me w.live (live_so (start_of zs) w.live.me w is)
 
-    set_back : (m n : ℕ) (o : Option Kept) (j : Kept) → flat (numbered (set_numbered f1.nodes m o) n) ≡ Some j → (node_at f1 n ≡ Some j) ⊎ (o ≡ Some j)
+    set_back : (m n : ℕ) (o : Option NodeState) (j : NodeState) → flat (numbered (set_numbered f1.nodes m o) n) ≡ Some j → (node_at f1 n ≡ Some j) ⊎ (o ≡ Some j)
     set_back m n o j up = elim (set_or_before f1.nodes m n o) [ inl still ↦ inl (ap flat (sym still) ∙ up) | inr set ↦ inr (ap flat (sym set.1) ∙ up) ]
 
     -- a live branch after a happening that is no turn was at its node before
-    pub node_back : (h : Happening) → ((u : Turn) → h ≢ happenings.Turn u) → (n : ℕ) (j : Kept) → node_at (facts_after t.places t.commands f1 h) n ≡ Some j → (w : Branch) → branch_at j w.live.me ≡ Some w → node_at f1 n ≡ Some j
+    pub node_back : (h : Happening) → ((u : Turn) → h ≢ happenings.Turn u) → (n : ℕ) (j : NodeState) → node_at (facts_after t.places t.commands f1 h) n ≡ Some j → (w : Branch) → branch_at j w.live.me ≡ Some w → node_at f1 n ≡ Some j
     unfolding facts_after
     node_back (happenings.Turn u) not n j up w is = absurd (not u refl)
     node_back (happenings.Stopped m) not n j up w is = elim (set_back m n None j up) [ inl old ↦ old | inr none ↦ absurd cc ]
@@ -225,8 +225,8 @@ module _ (t : History) where
 
   module _ (hs : List Happening) (lawful : IsLawfulRun (so_far t hs)) where
     -- what is so of it where it is live afterwards, and where it has left
-    pub fate_by : (h : Happening) (may : MayHappen t.places t.commands (f_at t hs) h) (k : Kept) (y : Branch) (up : node_at (f_at t hs) y.live.me.node ≡ Some k) (found : branch_at k y.live.me ≡ Some y)
-        → ((j : Kept) → node_at (facts_after t.places t.commands (f_at t hs) h) y.live.me.node ≡ Some j → (w : Branch) → branch_at j w.live.me ≡ Some w → w.live.me ≡ y.live.me → SameTree y w)
+    pub fate_by : (h : Happening) (may : MayHappen t.places t.commands (f_at t hs) h) (k : NodeState) (y : Branch) (up : node_at (f_at t hs) y.live.me.node ≡ Some k) (found : branch_at k y.live.me ≡ Some y)
+        → ((j : NodeState) → node_at (facts_after t.places t.commands (f_at t hs) h) y.live.me.node ≡ Some j → (w : Branch) → branch_at j w.live.me ≡ Some w → w.live.me ≡ y.live.me → SameTree y w)
         → ((x : Exit) → exit (events_after t.places t.commands (f_at t hs) h (e_at t hs)) y.live.me ≡ Some x → x ≢ Dropped → LeavesSo (said_in (f_at t hs)) y.live x) → Fate hs h y
     fate_by h may k y up found lives leaves =
         elim (born_are_live_or_left (so_far t (hs ++ h ∷ [])) (lawful_z hs h lawful may k y up found) y.live.me (born hs h lawful may k y up found)) [
@@ -237,21 +237,21 @@ module _ (t : History) where
           | inr among ↦ at (node_at (f_at t (hs ++ h ∷ [])) y.live.me.node) refl among
         ]
       where
-        at : (o : Option Kept) → node_at (f_at t (hs ++ h ∷ [])) y.live.me.node ≡ o → is_among y.live.me (lives_at o) ≡ true → Fate hs h y
+        at : (o : Option NodeState) → node_at (f_at t (hs ++ h ∷ [])) y.live.me.node ≡ o → is_among y.live.me (lives_at o) ≡ true → Fate hs h y
         at None is among = absurd cc
         at (Some j) is among =
             let l = among_found j.lives y.live.me among in
             found_after hs h lawful may k y up found j is l.0 l.1 (λ w it me. lives j (subst (λ x. node_at x y.live.me.node ≡ Some j) (one_on t hs h) is) w it me)
 
     -- a happening that is no turn
-    fate_apart : (h : Happening) → ((u : Turn) → h ≢ happenings.Turn u) → MayHappen t.places t.commands (f_at t hs) h → (k : Kept) (y : Branch) → node_at (f_at t hs) y.live.me.node ≡ Some k → branch_at k y.live.me ≡ Some y
+    fate_apart : (h : Happening) → ((u : Turn) → h ≢ happenings.Turn u) → MayHappen t.places t.commands (f_at t hs) h → (k : NodeState) (y : Branch) → node_at (f_at t hs) y.live.me.node ≡ Some k → branch_at k y.live.me ≡ Some y
         → (y.live.phase ≡ phases.Working → Rests (said_in (f_at t hs)) y.live.me y.live.parent y.work) → Fate hs h y
     fate_apart h not may k y up found rests =
         fate_by h may k y up found (λ j there w is me. as_before hs h lawful may k y up found j (node_back hs h not y.live.me.node j there w is) w is me)
         (λ x is other. absurd (other (drops_alone hs h not y.live.me x (none hs h lawful may k y up found) is)))
 
     -- each happening
-    pub fate : (h : Happening) → ((u : Turn) → h ≡ happenings.Turn u → LeavesStill t.places (f_at t hs) h × LeavesAtRest t.places (f_at t hs) h) → MayHappen t.places t.commands (f_at t hs) h → (k : Kept) (y : Branch)
+    pub fate : (h : Happening) → ((u : Turn) → h ≡ happenings.Turn u → LeavesStill t.places (f_at t hs) h × LeavesAtRest t.places (f_at t hs) h) → MayHappen t.places t.commands (f_at t hs) h → (k : NodeState) (y : Branch)
         → node_at (f_at t hs) y.live.me.node ≡ Some k → branch_at k y.live.me ≡ Some y → (y.live.phase ≡ phases.Working → Rests (said_in (f_at t hs)) y.live.me y.live.parent y.work) → Fate hs h y
     fate (happenings.Turn u) still may k y up found rests =
         let so = still u refl in
@@ -264,7 +264,7 @@ module _ (t : History) where
     fate (happenings.Lost n) still may k y up found rests = fate_apart (happenings.Lost n) (λ u is. absurd cc) may k y up found rests
 
 -- of each happening of a lawful run
-pub fate_of : (t : History) (whole : IsLawfulRun t) (hs : List Happening) (h : Happening) (rest : List Happening) → hs ++ h ∷ rest ≡ t.trace → (k : Kept) (y : Branch) → node_at (f_at t hs) y.live.me.node ≡ Some k → branch_at k y.live.me ≡ Some y
+pub fate_of : (t : History) (whole : IsLawfulRun t) (hs : List Happening) (h : Happening) (rest : List Happening) → hs ++ h ∷ rest ≡ t.trace → (k : NodeState) (y : Branch) → node_at (f_at t hs) y.live.me.node ≡ Some k → branch_at k y.live.me ≡ Some y
     → (y.live.phase ≡ phases.Working → Rests (said_in (f_at t hs)) y.live.me y.live.parent y.work) → Fate t hs h y
 fate_of t whole hs h rest is k y up found rests =
     let part : Part t whole hs = part_of t whole hs h rest is in

@@ -8,7 +8,7 @@ use Rattle.node_rules.specs.Data.{BranchId, Live, Input, RedoRecord, Msg}
 use Rattle.node_rules.specs.Data.kinds
 use Rattle.node_rules.specs.Data.phases
 use Rattle.node_rules.specs.Data.stmts
-use Rattle.node_rules.specs.Kept.{Kept, Branch, Deed, live_id, live_at, branch_at, work_at, with_work}
+use Rattle.node_rules.specs.NodeState.{NodeState, Branch, Deed, live_id, live_at, branch_at, work_at, with_work}
 use Rattle.node_rules.specs.Sessions.{session_at}
 use Rattle.node_rules.specs.Turn.{turn_of, deed_of, start_of}
 use Rattle.node_rules.specs.Data.records
@@ -54,7 +54,7 @@ use Rattle.tree_site_laws.proofs.WorkLemmas.{Works, first_works, works_on}
 module _ (t : History) (whole : IsLawfulRun t) (r : BranchId) where
   -- The COMMIT of the root comes to it at rest, and is accepted.
   pub record CommitAt (hs : List Happening) (u : Turn) : Type 0 where
-    pub kept : Kept
+    pub kept : NodeState
     pub up : node_at (f_at t hs) r.node ≡ Some kept
     pub branch : Branch
     pub found : branch_at kept branch.live.me ≡ Some branch
@@ -79,11 +79,11 @@ module _ (t : History) (whole : IsLawfulRun t) (r : BranchId) where
 
   -- the root has not left, and is working where it is live
   abbrev Before : List Happening → Type 0
-  Before hs = (exit (e_at t hs) r ≡ None) × ((k : Kept) (l : Live) → node_at (f_at t hs) r.node ≡ Some k → live_at k r ≡ Some l → l.phase ≡ phases.Working)
+  Before hs = (exit (e_at t hs) r ≡ None) × ((k : NodeState) (l : Live) → node_at (f_at t hs) r.node ≡ Some k → live_at k r ≡ Some l → l.phase ≡ phases.Working)
 
   module _ (top : (x : Born) × Began (births_of t) x × (x.me ≡ r) × (x.parent ≡ None)) (good : (z : Exit) → exit (events_of t) r ≡ Some z → z ≢ Dropped)
       (hs : List Happening) (h : Happening) (rest : List Happening) (is : hs ++ h ∷ rest ≡ t.trace) (none : exit (e_at t hs) r ≡ None)
-      (works : (k : Kept) (l : Live) → node_at (f_at t hs) r.node ≡ Some k → live_at k r ≡ Some l → l.phase ≡ phases.Working) where
+      (works : (k : NodeState) (l : Live) → node_at (f_at t hs) r.node ≡ Some k → live_at k r ≡ Some l → l.phase ≡ phases.Working) where
     abbrev f : Facts
     f = f_at t hs
 
@@ -111,7 +111,7 @@ module _ (t : History) (whole : IsLawfulRun t) (r : BranchId) where
     lawful_z : IsLawfulRun (so_far t after)
     lawful_z = part_lawful t whole after later
 
-    module _ (u : Turn) (turn : h ≡ happenings.Turn u) (k : Kept) (may : MayTurn t.places f u k) (node : u.node ≡ r.node) where
+    module _ (u : Turn) (turn : h ≡ happenings.Turn u) (k : NodeState) (may : MayTurn t.places f u k) (node : u.node ≡ r.node) where
       abbrev d : Deed
       d = deed_of (place_at t.places u.node) k u.input
 
@@ -245,12 +245,12 @@ module _ (t : History) (whole : IsLawfulRun t) (r : BranchId) where
 
     -- what it leaves where it is live
     abbrev Next : Type 0
-    Next = ((k : Kept) (l : Live) → node_at (f_at t after) r.node ≡ Some k → live_at k r ≡ Some l → l.phase ≡ phases.Working) ⊎ ((u : Turn) × (h ≡ happenings.Turn u) × CommitAt hs u)
+    Next = ((k : NodeState) (l : Live) → node_at (f_at t after) r.node ≡ Some k → live_at k r ≡ Some l → l.phase ≡ phases.Working) ⊎ ((u : Turn) × (h ≡ happenings.Turn u) × CommitAt hs u)
 
-    same_works : (j : Kept) → node_at f r.node ≡ Some j → (l : Live) → live_at j r ≡ Some l → l.phase ≡ phases.Working
+    same_works : (j : NodeState) → node_at f r.node ≡ Some j → (l : Live) → live_at j r ≡ Some l → l.phase ≡ phases.Working
     same_works j there l live = works j l there live
 
-    turn_next : (u : Turn) → h ≡ happenings.Turn u → (k : Kept) → MayTurn t.places f u k → (j : Kept) (l : Live) → node_at (f_at t after) r.node ≡ Some j → live_at j r ≡ Some l → l.phase ≢ phases.Working → CommitAt hs u
+    turn_next : (u : Turn) → h ≡ happenings.Turn u → (k : NodeState) → MayTurn t.places f u k → (j : NodeState) (l : Live) → node_at (f_at t after) r.node ≡ Some j → live_at j r ≡ Some l → l.phase ≢ phases.Working → CommitAt hs u
     turn_next u turn k may j l there live other = elim (cases_nat u.node r.node) [
       | inr apart ↦ (let its : node_at (facts_after t.places t.commands f (happenings.Turn u)) r.node ≡ Some j = subst (λ (y : Happening). node_at (facts_after t.places t.commands f y) r.node ≡ Some j) turn (subst (λ x. node_at x r.node ≡ Some j) (one_on t hs h) there) in
           absurd (other (same_works j (sym (turn_elsewhere t.places t.commands f (run_stands s lawful).0.even u r.node apart).0 ∙ its) l live)))
@@ -264,7 +264,7 @@ module _ (t : History) (whole : IsLawfulRun t) (r : BranchId) where
             let mine : (deed_of (place_at t.places u.node) k u.input).after ≡ j = cc in
             busy_commits u turn k may node l (subst (λ i. live_at i r ≡ Some l) (sym mine) live) other
 
-    next_live : (j : Kept) (l : Live) → node_at (f_at t after) r.node ≡ Some j → live_at j r ≡ Some l → l.phase ≢ phases.Working → (u : Turn) × (h ≡ happenings.Turn u) × CommitAt hs u
+    next_live : (j : NodeState) (l : Live) → node_at (f_at t after) r.node ≡ Some j → live_at j r ≡ Some l → l.phase ≢ phases.Working → (u : Turn) × (h ≡ happenings.Turn u) × CommitAt hs u
     next_live j l there live other = by h refl
       where
         apart : ((u : Turn) → h ≢ happenings.Turn u) → (u : Turn) × (h ≡ happenings.Turn u) × CommitAt hs u
@@ -294,7 +294,7 @@ module _ (t : History) (whole : IsLawfulRun t) (r : BranchId) where
         apart : ((u : Turn) → h ≢ happenings.Turn u) → (u : Turn) × (h ≡ happenings.Turn u) × CommitAt hs u
         apart not = absurd (other (drops_alone t hs h not r x none now))
 
-        turned : (u : Turn) → h ≡ happenings.Turn u → (k : Kept) → MayTurn t.places f u k → CommitAt hs u
+        turned : (u : Turn) → h ≡ happenings.Turn u → (k : NodeState) → MayTurn t.places f u k → CommitAt hs u
         turned u turn k may =
             let here : exit (events_after t.places t.commands f (happenings.Turn u) e) r ≡ Some x = subst (λ y. exit (events_after t.places t.commands f y e) r ≡ Some x) turn now in
             let so : LeftSo k u.input (said_in f) r x = was_there t hs lawful u k may r none x other here in
@@ -319,7 +319,7 @@ module _ (t : History) (whole : IsLawfulRun t) (r : BranchId) where
       | inr clean ↦ by clean (node_at (f_at t after) r.node) refl
     ]
       where
-        in_node : exit (e_at t after) r ≡ None → (j : Kept) → node_at (f_at t after) r.node ≡ Some j → (o : Option Live) → live_at j r ≡ o → Before after ⊎ WasFound after
+        in_node : exit (e_at t after) r ≡ None → (j : NodeState) → node_at (f_at t after) r.node ≡ Some j → (o : Option Live) → live_at j r ≡ o → Before after ⊎ WasFound after
         in_node clean j there None at = inl (clean, (λ k l up live. absurd (let both : Some j ≡ Some k = sym there ∙ up in let it : j ≡ k = cc in let no : live_at k r ≡ None = subst (λ i. live_at i r ≡ None) it at in cc (no, live))))
         in_node clean j there (Some l) at = elim (working_or l.phase) [
           | inl working ↦ inl (
@@ -331,7 +331,7 @@ module _ (t : History) (whole : IsLawfulRun t) (r : BranchId) where
           | inr other ↦ inr (commit_now (next_live j l there at other))
         ]
 
-        by : exit (e_at t after) r ≡ None → (o : Option Kept) → node_at (f_at t after) r.node ≡ o → Before after ⊎ WasFound after
+        by : exit (e_at t after) r ≡ None → (o : Option NodeState) → node_at (f_at t after) r.node ≡ o → Before after ⊎ WasFound after
         by clean None there = inl (clean, (λ k l up live. absurd (cc (there, up))))
         by clean (Some j) there = in_node clean j there (live_at j r) refl
 
@@ -352,10 +352,10 @@ module _ (t : History) (whole : IsLawfulRun t) (r : BranchId) where
     unfolding start_of
     start_dead zs l is = absurd cc
 
-    none_live_first : (n : ℕ) (k : Kept) (l : Live) → node_at (f_at t []) n ≡ Some k → live_at k r ≡ Some l → ⊥
+    none_live_first : (n : ℕ) (k : NodeState) (l : Live) → node_at (f_at t []) n ≡ Some k → live_at k r ≡ Some l → ⊥
     unfolding facts_of
     none_live_first n =
-        first_node (λ o. (k : Kept) (l : Live) → o ≡ Some k → live_at k r ≡ Some l → ⊥) (λ k l up live. absurd cc)
+        first_node (λ o. (k : NodeState) (l : Live) → o ≡ Some k → live_at k r ≡ Some l → ⊥) (λ k l up live. absurd cc)
         (λ k l up live. start_dead (records.Boot 1 ∷ []) l (let it : start_of (records.Boot 1 ∷ []) ≡ k = cc in subst (λ i. live_at i r ≡ Some l) (sym it) live)) t.places n
 
     none_left_first : exit (e_at t []) r ≡ None
@@ -371,7 +371,7 @@ module _ (t : History) (whole : IsLawfulRun t) (r : BranchId) where
         ]
 
     -- so it was where it is live and not working
-    pub commit_came : (k : Kept) (l : Live) → node_at (facts_at t) r.node ≡ Some k → live_at k r ≡ Some l → l.phase ≢ phases.Working → WasFound t.trace
+    pub commit_came : (k : NodeState) (l : Live) → node_at (facts_at t) r.node ≡ Some k → live_at k r ≡ Some l → l.phase ≢ phases.Working → WasFound t.trace
     commit_came k l up live other =
         elim (keep_on t whole Known_so known_on [] t.trace (record { rest = []; is = append-nil t.trace }) (inl (none_left_first, (λ j y there at. absurd (none_live_first r.node j y there at))))) [
           | inl before ↦ absurd (other (before.1 k l up live))

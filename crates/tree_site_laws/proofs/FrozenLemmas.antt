@@ -9,7 +9,7 @@ use Rattle.node_rules.specs.Data.phases
 use Rattle.session_tree.specs.declared.act.Walk.{Walk}
 use Rattle.session_tree.specs.declared.act.Walk.TheVariants as walks
 use Rattle.node_rules.specs.Words.{numbered}
-use Rattle.node_rules.specs.Kept.{Kept, Branch, branch_at}
+use Rattle.node_rules.specs.NodeState.{NodeState, Branch, branch_at}
 use Rattle.node_rules.proofs.StandLemmas.{live_so}
 use Rattle.run_rules.specs.Data.{Happening}
 use Rattle.run_rules.specs.Facts.{place_at, node_at}
@@ -89,13 +89,13 @@ PointsTo l c = (i : ℕ) × (step l ≡ walks.Down i) × (numbered (children_of 
 module _ (t : History) (whole : IsLawfulRun t) where
   -- A branch that was live once is live with the same tree, or it has left and asked its children.
   pub data State (x : Branch) (hs : List Happening) : Type 0 where
-    Here : (k : Kept) (y : Branch) → node_at (f_at t hs) x.live.me.node ≡ Some k → branch_at k y.live.me ≡ Some y → y.live.me ≡ x.live.me → SameTree x y → State x hs
+    Here : (k : NodeState) (y : Branch) → node_at (f_at t hs) x.live.me.node ≡ Some k → branch_at k y.live.me ≡ Some y → y.live.me ≡ x.live.me → SameTree x y → State x hs
     Left : (z : Exit) → exit (e_at t hs) x.live.me ≡ Some z → ((i : ℕ) (c : BranchId) → numbered (children_of x.live) i ≡ Some c → was_asked (said_in (f_at t hs)) x.live.me c ≡ true) → EndsAs x.live z
         → ((c : BranchId) → was_sent is_below (said_in (f_at t hs)) x.live.me c ≡ true → PointsTo x.live c) → State x hs
 
   -- what is known of a branch found at its node
   pub record Found (hs : List Happening) (x : Branch) : Type 0 where
-    pub kept : Kept
+    pub kept : NodeState
     pub up : node_at (f_at t hs) x.live.me.node ≡ Some kept
     pub found : branch_at kept x.live.me ≡ Some x
 
@@ -138,7 +138,7 @@ module _ (t : History) (whole : IsLawfulRun t) where
           ]
 
       -- a live one told the child to which its step leads
-      told_down : (k : Kept) (y : Branch) → node_at (f_at t hs) y.live.me.node ≡ Some k → branch_at k y.live.me ≡ Some y → (c : BranchId) → was_sent is_below (said_in (f_at t hs)) y.live.me c ≡ true → PointsTo y.live c
+      told_down : (k : NodeState) (y : Branch) → node_at (f_at t hs) y.live.me.node ≡ Some k → branch_at k y.live.me ≡ Some y → (c : BranchId) → was_sent is_below (said_in (f_at t hs)) y.live.me c ≡ true → PointsTo y.live c
       told_down k y up found c sent =
           let s : History = so_far t hs in
           let lawful : IsLawfulRun s = part_lawful t whole hs part in
@@ -168,7 +168,7 @@ module _ (t : History) (whole : IsLawfulRun t) where
           let later_left : exit (e_at t after) x.live.me ≡ Some w = exit_end z lawful_z hs first_part x.live.me w left in
           Left w later_left (λ i c at. asked_on x.live.me c (kids i c at)) ends (λ c sent. told c (silent_on (λ none. absurd (cc (later_left, none))) c sent))
 
-      pub state_on : ((k : Kept) (y : Branch) → node_at (f_at t hs) x.live.me.node ≡ Some k → branch_at k y.live.me ≡ Some y → y.live.me ≡ x.live.me → y.live.phase ≡ phases.Working → Rests (said_in (f_at t hs)) y.live.me y.live.parent y.work)
+      pub state_on : ((k : NodeState) (y : Branch) → node_at (f_at t hs) x.live.me.node ≡ Some k → branch_at k y.live.me ≡ Some y → y.live.me ≡ x.live.me → y.live.phase ≡ phases.Working → Rests (said_in (f_at t hs)) y.live.me y.live.parent y.work)
           → State x hs → State x after
       state_on rests (Left w left kids ends told) = state_left w left kids ends told
       state_on rests (Here k y up found me same) =
@@ -191,12 +191,12 @@ module _ (t : History) (whole : IsLawfulRun t) where
       pub root : x.live.root ≡ r
       pub asks : (i : ℕ) (c : BranchId) → numbered (children_of x.live) i ≡ Some c → was_asked (said_in (facts_at t)) x.live.me c ≡ true
       pub state : (hs : List Happening) → Since hs → Part t whole hs → State x hs
-      pub calm : (hs : List Happening) → Since hs → Part t whole hs → (k : Kept) (y : Branch) → node_at (f_at t hs) x.live.me.node ≡ Some k → branch_at k y.live.me ≡ Some y → y.live.me ≡ x.live.me → y.live.phase ≡ phases.Working
+      pub calm : (hs : List Happening) → Since hs → Part t whole hs → (k : NodeState) (y : Branch) → node_at (f_at t hs) x.live.me.node ≡ Some k → branch_at k y.live.me ≡ Some y → y.live.me ≡ x.live.me → y.live.phase ≡ phases.Working
           → GoesOn k y.live × (y.work.going ≡ None)
 
     module _ (r : BranchId) (x : Branch) (member : Member r x) (i : ℕ) (c : BranchId) (at : numbered (children_of x.live) i ≡ Some c) where
       -- a live child rests while it is working
-      module _ (hs : List Happening) (since : Since hs) (part : Part t whole hs) (k : Kept) (y : Branch) (up : node_at (f_at t hs) c.node ≡ Some k) (found : branch_at k y.live.me ≡ Some y) (me : y.live.me ≡ c) where
+      module _ (hs : List Happening) (since : Since hs) (part : Part t whole hs) (k : NodeState) (y : Branch) (up : node_at (f_at t hs) c.node ≡ Some k) (found : branch_at k y.live.me ≡ Some y) (me : y.live.me ≡ c) where
         abbrev s : History
         s = so_far t hs
 

@@ -13,7 +13,7 @@ use Rattle.node_rules.specs.Data.kinds
 use Rattle.node_rules.specs.Data.phases
 use Rattle.node_rules.specs.Data.records
 use Rattle.node_rules.specs.Words.{same, numbered}
-use Rattle.node_rules.specs.Kept.{Kept, Branch, Deed, live_at, branch_at, work_at, with_work}
+use Rattle.node_rules.specs.NodeState.{NodeState, Branch, Deed, live_at, branch_at, work_at, with_work}
 use Rattle.node_rules.specs.Turn.{turn_of, heard, deed_of, stamped}
 use Rattle.session_tree.specs.Tree.{place_of_greatest, walk_by}
 use Rattle.node_rules.specs.Data.{Edge}
@@ -150,13 +150,13 @@ unfolding step
 collected_step l comment b = ap (λ ws. walk_by l.changed l.strength (place_of_greatest 1 ws None)) (map_after (λ (e : Edge). e.weight) with_prepare_sent (λ (e : Edge). e.weight) (λ e. refl) l.edges)
 
 -- the collect of a branch begins
-pub begins_so : {k : Kept} {input : Input} {comment : List ℕ} {b : Bool} (l : Live) → Collects k input l comment b → Begins_by input l.me
+pub begins_so : {k : NodeState} {input : Input} {comment : List ℕ} {b : Bool} (l : Live) → Collects k input l comment b → Begins_by input l.me
 begins_so l (steps.By_commit n given call has code is) = inl (n, given, call)
 begins_so {comment = comment} {b = b} l (steps.By_prepare from _ came working) = inr (from, b, comment, came)
 
 -- ---- a turn
 
-module _ (t : History) (before : List Happening) (lawful : IsLawfulRun (so_far t before)) (u : Turn) (k : Kept) (may : MayTurn t.places (f_at t before) u k) where
+module _ (t : History) (before : List Happening) (lawful : IsLawfulRun (so_far t before)) (u : Turn) (k : NodeState) (may : MayTurn t.places (f_at t before) u k) where
   abbrev s : History
   s = so_far t before
 
@@ -172,7 +172,7 @@ module _ (t : History) (before : List Happening) (lawful : IsLawfulRun (so_far t
   abbrev said : List Post
   said = said_in f
 
-  abbrev k0 : Kept
+  abbrev k0 : NodeState
   k0 = heard k u.input
 
   abbrev d : Deed
@@ -190,7 +190,7 @@ module _ (t : History) (before : List Happening) (lawful : IsLawfulRun (so_far t
   root_ends (steps.Has_no_site none is) ends = elim ends [ ]
 
   -- who begins its collect below a root was asked
-  begun_asked : {at : Kept} {comment : List ℕ} {b : Bool} {a : Act} {x : Exit} (l : Live) → live_at k l.me ≡ Some l → Collects at u.input l comment b → Collected (collecting (with_comment l comment) b) b a → Ends a x
+  begun_asked : {at : NodeState} {comment : List ℕ} {b : Bool} {a : Act} {x : Exit} (l : Live) → live_at k l.me ≡ Some l → Collects at u.input l comment b → Collected (collecting (with_comment l comment) b) b a → Ends a x
       → (q : BranchId) → l.parent ≡ Some q → was_asked said q l.me ≡ true
   begun_asked l live (steps.By_commit n given call has code is) collected ends q above = let none : l.parent ≡ None = none_is l.parent (root_ends collected ends) in absurd (cc (none, above))
   begun_asked {comment = comment} {b = b} l live (steps.By_prepare from _ came working) collected ends q above =
@@ -212,7 +212,7 @@ module _ (t : History) (before : List Happening) (lawful : IsLawfulRun (so_far t
         ends = ends;
       }
 
-  acting_was : (at : Kept) → Near k0 at → {l : Live} {b : Bool} {a : Act} → Acting at u.input l b a → (x : Exit) → Ends a x → Was l.me x
+  acting_was : (at : NodeState) → Near k0 at → {l : Live} {b : Bool} {a : Act} → Acting at u.input l b a → (x : Exit) → Ends a x → Was l.me x
   acting_was at near (steps.Has_no_children l comment b a live begins none collected) x ends =
       let found : live_at k l.me ≡ Some l = live_in t before lawful u k may at near l live in
       record {

@@ -7,7 +7,7 @@ use Rattle.agreement.specs.Events.{Exit, Dropped, exit}
 use Rattle.node_rules.specs.Data.{BranchId, Live}
 use Rattle.node_rules.specs.Data.phases
 use Rattle.node_rules.specs.Words.{numbered}
-use Rattle.node_rules.specs.Kept.{Kept, Branch, live_id, live_at, branch_at, work_at, with_work}
+use Rattle.node_rules.specs.NodeState.{NodeState, Branch, live_id, live_at, branch_at, work_at, with_work}
 use Rattle.node_rules.proofs.StandLemmas.{live_so}
 use Rattle.run_rules.specs.Data.{Happening}
 use Rattle.run_rules.specs.Facts.{node_at}
@@ -99,7 +99,7 @@ module _ (t : History) (whole : IsLawfulRun t) (hs0 : List Happening) (part0 : P
         let yes : was_asked (said_in (f_at t hs0)) x.live.me c ≡ true = heard.3 x.live.me (ap (λ (b : Born). b.parent) born ∙ below.is_parent) in
         absurd (cc (yes, unasked))
 
-    module _ (j : Kept) (y : Branch) (up : node_at (f_at t hs0) c.node ≡ Some j) (found : branch_at j y.live.me ≡ Some y) (me : y.live.me ≡ c) where
+    module _ (j : NodeState) (y : Branch) (up : node_at (f_at t hs0) c.node ≡ Some j) (found : branch_at j y.live.me ≡ Some y) (me : y.live.me ≡ c) where
       parent : y.live.parent ≡ Some x.live.me
       parent = child_parent s0 lawful0 x.live.me.node member.here.kept member.here.up x member.here.found i c at c.node j up y found me
 
@@ -115,7 +115,7 @@ module _ (t : History) (whole : IsLawfulRun t) (hs0 : List Happening) (part0 : P
       ]
 
       -- later on
-      rests : (hs : List Happening) → Since t whole hs0 part0 hs → Part t whole hs → (k : Kept) (w : Branch) → node_at (f_at t hs) y.live.me.node ≡ Some k → branch_at k w.live.me ≡ Some w → w.live.me ≡ y.live.me
+      rests : (hs : List Happening) → Since t whole hs0 part0 hs → Part t whole hs → (k : NodeState) (w : Branch) → node_at (f_at t hs) y.live.me.node ≡ Some k → branch_at k w.live.me ≡ Some w → w.live.me ≡ y.live.me
           → Rests (said_in (f_at t hs)) w.live.me w.live.parent w.work
       rests hs since part k w there is same = kid_rests t whole hs0 part0 r x member i c at hs since part k w (subst (λ b. node_at (f_at t hs) b.node ≡ Some k) me there) is (same ∙ me)
 
@@ -178,7 +178,7 @@ module _ (t : History) (whole : IsLawfulRun t) (hs0 : List Happening) (part0 : P
       pub is_member : Member t whole hs0 part0 r branch
       pub leaves : (z : Exit) × (exit (events_of t) c ≡ Some z) × (z ≢ Dropped)
 
-    found_kid : (j : Kept) → node_at (f_at t hs0) c.node ≡ Some j → (l : Live) → live_at j c ≡ Some l → Kid
+    found_kid : (j : NodeState) → node_at (f_at t hs0) c.node ≡ Some j → (l : Live) → live_at j c ≡ Some l → Kid
     found_kid j up l live =
         let me : l.me ≡ c = item_is live_id j.lives c l live in
         let y : Branch = record { live = l; work = work_at j l.me } in
@@ -192,6 +192,6 @@ module _ (t : History) (whole : IsLawfulRun t) (hs0 : List Happening) (part0 : P
       | inr among ↦ by (node_at (f_at t hs0) c.node) refl among
     ]
       where
-        by : (o : Option Kept) → node_at (f_at t hs0) c.node ≡ o → is_among c (lives_at o) ≡ true → Kid
+        by : (o : Option NodeState) → node_at (f_at t hs0) c.node ≡ o → is_among c (lives_at o) ≡ true → Kid
         by None is among = absurd cc
         by (Some j) is among = let l = among_found j.lives c among in found_kid j is l.0 l.1

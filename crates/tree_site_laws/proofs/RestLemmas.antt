@@ -10,7 +10,7 @@ use Rattle.node_rules.specs.declared.session.PendingCall.TheVariants as pending
 use Rattle.node_rules.specs.declared.work.Work.{Work}
 use Rattle.node_rules.specs.declared.work.Going.{Going}
 use Rattle.node_rules.specs.Words.{item_at, put_item, drop_item}
-use Rattle.node_rules.specs.Kept.{Kept, Branch, Deed, live_id, work_id, branch_at}
+use Rattle.node_rules.specs.NodeState.{NodeState, Branch, Deed, live_id, work_id, branch_at}
 use Rattle.node_rules.specs.Names.{passed_on}
 use Rattle.node_rules.specs.Statement.{ran, after_run, answer_of_run}
 use Rattle.node_rules.specs.Calls.{with_answer, called, next_child, strength_of, with_edge, waits_for_opened, hears_reply}
@@ -50,12 +50,12 @@ pub record Kept_still (z : Live) (v : Work) (l : Live) (w : Work) : Type 0 where
   pub waits : w.going ≡ None
   pub last : w.came.last_call ≡ v.came.last_call
 
-module _ (k0 : Kept) (said : List Post) where
+module _ (k0 : NodeState) (said : List Post) where
   -- A live branch stands still where it rested as the turn began.
   abbrev pub Calm : Live → Work → Type 0
   Calm l w = (z : Live) → item_at live_id k0.lives l.me ≡ Some z → Rests said z.me z.parent (works_of k0.works l.me) → Kept_still z (works_of k0.works l.me) l w
 
-  abbrev pub Calms : Kept → Type 0
+  abbrev pub Calms : NodeState → Type 0
   Calms k = EachLive Calm k.lives k.works
 
   -- a branch that begins was not live
@@ -91,7 +91,7 @@ module _ (k0 : Kept) (said : List Post) where
       let was : Kept_still z (works_of k0.works l.me) l w = is z found rests in
       record { peers = was.peers; weights = was.weights; changed = was.changed; parent = was.parent; waits = was.waits; last = was.last }
 
-  module _ (k : Kept) (now : Calms k) where
+  module _ (k : NodeState) (now : Calms k) where
     -- a branch that cannot rest may change
     put : (l y : Live) (w : Work) → w.branch ≡ y.me → item_at live_id k.lives l.me ≡ Some l → y.me ≡ l.me
         → ((z : Live) → Rests said z.me z.parent (works_of k0.works l.me) → z.me ≡ l.me → Kept_still z (works_of k0.works l.me) l (works_of k.works l.me) → ⊥)
@@ -128,7 +128,7 @@ module _ (k0 : Kept) (said : List Post) where
     acts_leave l site_below acts.Abandon is = left l.me
 
   module _ (E : BranchId → Option ℕ) (A : BranchId → Option BranchId) (G Here : BranchId → Type 0) (input : Input) (received : turns.Received E A G Here input said) (p : Place) (place : (b : BranchId) → b.node ≡ p.number → Here b) where
-    abbrev Nodes : Kept → Type 0
+    abbrev Nodes : NodeState → Type 0
     Nodes k = EachLive (turns.Begun E A G Here input said) k.lives k.works
 
     -- branches that begin are new
@@ -136,7 +136,7 @@ module _ (k0 : Kept) (said : List Post) where
     NewThere x = deeds.NewBorn E A G Here input said received x × NotThere x
 
     -- one that a statement comes to does not rest
-    module _ (k : Kept) (ss : SessionsFit k) (nodes : Nodes k) where
+    module _ (k : NodeState) (ss : SessionsFit k) (nodes : Nodes k) where
       asked_busy : {x : Branch} {s : _} {given : ℕ} → Asked k input x s given
           → (l : Live) × (item_at live_id k.lives l.me ≡ Some l) × (x.live.me ≡ l.me) × (x.work.branch ≡ x.live.me)
           × ((z : Live) → Rests said z.me z.parent (works_of k0.works l.me) → z.me ≡ l.me → Kept_still z (works_of k0.works l.me) l (works_of k.works l.me) → ⊥)
@@ -167,15 +167,15 @@ module _ (k0 : Kept) (said : List Post) where
       )
 
     -- nor does one that waits
-    waits_busy : (k : Kept) (x : Branch) (g : Going) → branch_at k x.live.me ≡ Some x → x.work.going ≡ Some g → (z : Live) → Rests said z.me z.parent (works_of k0.works x.live.me) → z.me ≡ x.live.me
+    waits_busy : (k : NodeState) (x : Branch) (g : Going) → branch_at k x.live.me ≡ Some x → x.work.going ≡ Some g → (z : Live) → Rests said z.me z.parent (works_of k0.works x.live.me) → z.me ≡ x.live.me
         → Kept_still z (works_of k0.works x.live.me) x.live (works_of k.works x.live.me) → ⊥
     waits_busy k x g live going z rests me is = let none : x.work.going ≡ None = ap (λ (w : Work). w.going) (branch_parts k x.live.me x live).1 ∙ is.waits in absurd (cc (none, going))
 
-    asked_put : (k : Kept) (ss : SessionsFit k) (nodes : Nodes k) → Calms k → {x : Branch} {s : _} {given : ℕ} → Asked k input x s given → (y : Live) (w : Work) → (x.work.branch ≡ x.live.me → w.branch ≡ y.me) → y.me ≡ x.live.me
+    asked_put : (k : NodeState) (ss : SessionsFit k) (nodes : Nodes k) → Calms k → {x : Branch} {s : _} {given : ℕ} → Asked k input x s given → (y : Live) (w : Work) → (x.work.branch ≡ x.live.me → w.branch ≡ y.me) → y.me ≡ x.live.me
         → EachLive Calm (put_item live_id k.lives y) (put_item work_id k.works w)
     asked_put k ss nodes now asked y w mine me = let there = asked_busy k ss nodes asked in put k now there.0 y w (mine there.3) there.1 (me ∙ there.2) there.4
 
-    pub calms_on : {k : Kept} {d : Deed} → Step p input k d → SessionsFit k → News NewThere p input k → Nodes k → Calms k → Calms d.after
+    pub calms_on : {k : NodeState} {d : Deed} → Step p input k d → SessionsFit k → News NewThere p input k → Nodes k → Calms k → Calms d.after
     calms_on (steps.Begins {k = k} n s call rows range none step) ss news nodes now =
         let root = news.root n s call rows none in
         calms_on step (begun_so k ss p n) (begun_news NewThere p input k n news) (deeds.begins_so E A G Here input said received k nodes (fresh_root p k (new_root p k n)) refl (place (new_root p k n) refl) root.0)

@@ -4,7 +4,7 @@ use Rattle.tran_ids.proofs.ListedLemmas.{item_is}
 use Rattle.node_rules.specs.Data.{BranchId, Live, Place}
 use Rattle.node_rules.specs.declared.work.Work.{Work}
 use Rattle.node_rules.specs.Words.{numbered, item_at}
-use Rattle.node_rules.specs.Kept.{Kept, Branch, Deed, live_id, branch_at}
+use Rattle.node_rules.specs.NodeState.{NodeState, Branch, Deed, live_id, branch_at}
 use Rattle.node_rules.specs.Turn.{turn_of, heard, deed_of}
 use Rattle.agreement.specs.Events.{Event}
 use Rattle.run_rules.specs.Data.{Turn, Happening, Command}
@@ -35,7 +35,7 @@ use Rattle.tree_site_laws.specs.RestLaws.{Rests, SameTree, LeavesAtRest, Resting
 use Rattle.tree_site_laws.proofs.RestLemmas.{Kept_still, Calm, Calms, NewThere, calms_on}
 
 -- as a turn begins each live branch is as it was
-first_calms : (k : Kept) (said : List _) → ((b : BranchId) → item_at live_id k.lives b ≡ None → item_at (λ (w : Work). w.branch) k.works b ≡ None) → Calms k said k
+first_calms : (k : NodeState) (said : List _) → ((b : BranchId) → item_at live_id k.lives b ≡ None → item_at (λ (w : Work). w.branch) k.works b ≡ None) → Calms k said k
 first_calms k said there = record { there = there; each = each }
   where
     each : (b : BranchId) (l : Live) → item_at live_id k.lives b ≡ Some l → Calm k said l (works_of k.works b)
@@ -49,7 +49,7 @@ first_calms k said there = record { there = there; each = each }
 
 module _ (places : List Place) (asked : List Command) (each : (n : ℕ) (p : Place) → numbered places n ≡ Some p → IsPlace places n p) where
   module _ (f : Facts) (t : List Event) (bs : List Born) (stand : StandBorn places asked each f t bs) (roots : RootsStand places asked each f) (turned : CallsStand f) where
-    module _ (u : Turn) (k : Kept) (may : MayTurn places f u k) where
+    module _ (u : Turn) (k : NodeState) (may : MayTurn places f u k) where
       abbrev p : Place
       p = place_at places u.node
 

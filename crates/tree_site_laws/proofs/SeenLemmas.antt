@@ -9,7 +9,7 @@ use Rattle.session_tree.specs.declared.act.Walk.TheVariants as walks
 use Rattle.agreement.specs.Events.{Exit, Sealed, Dropped, exit}
 use Rattle.node_rules.specs.Data.{BranchId, Edge, Live}
 use Rattle.node_rules.specs.Words.{numbered}
-use Rattle.node_rules.specs.Kept.{Branch}
+use Rattle.node_rules.specs.NodeState.{Branch}
 use Rattle.node_rules.proofs.StandLemmas.{live_so}
 use Rattle.run_rules.specs.Data.{Happening}
 use Rattle.run_rules.specs.Facts.{Facts}

@@ -15,7 +15,7 @@ use Rattle.node_rules.specs.declared.work.Going.{Going}
 use Rattle.node_rules.specs.declared.work.Waits.TheVariants as waiting
 use Rattle.session_tree.specs.Live.{new_edge, edge_by_link}
 use Rattle.session_tree.specs.Tree.{room}
-use Rattle.node_rules.specs.Kept.{Kept, Branch, Deed, live_id, branch_at, with_branch, with_live, without_branch}
+use Rattle.node_rules.specs.NodeState.{NodeState, Branch, Deed, live_id, branch_at, with_branch, with_live, without_branch}
 use Rattle.node_rules.specs.Names.{Named, Unknown, A_table, Behind, Nowhere_to, Through, named_by, ref_of, target_of, way_edge, way_target, way_named, way_of, passed_on}
 use Rattle.node_rules.specs.Statement.{ran, after_run, answer_of_run}
 use Rattle.node_rules.specs.Calls.{called, with_answer, waits_for_opened, with_edge, hears_reply}
@@ -65,7 +65,7 @@ pub record IsHigh (depth : ℕ) (edges : List Edge) (w : Work) : Type 0 where
 abbrev High : Live → Work → Type 0
 High l w = IsHigh l.depth l.edges w
 
-abbrev Nodes : Kept → Type 0
+abbrev Nodes : NodeState → Type 0
 Nodes k = EachLive High k.lives k.works
 
 as_many : (depth : ℕ) (es xs : List Edge) (w : Work) → length xs ≡ length es → IsHigh depth es w → IsHigh depth xs w
@@ -75,7 +75,7 @@ as_many depth es xs w same is = record { child = λ some. is.child (subst (λ n.
 waits_not : (depth : ℕ) (es : List Edge) (w : Work) → ((g : Going) (link : List ℕ) → w.going ≡ Some g → g.waits ≡ waiting.ForOpened link → ⊥) → (1 ≤ length es → depth + 1 ≤ depth_limit) → IsHigh depth es w
 waits_not depth es w never child = record { child = child; opens = λ g link going waits. absurd (never g link going waits) }
 
-module _ (k : Kept) (now : Nodes k) where
+module _ (k : NodeState) (now : Nodes k) where
   found_high : (x : Branch) → branch_at k x.live.me ≡ Some x → High x.live x.work
   found_high x live = let parts = branch_parts k x.live.me x live in subst (IsHigh x.live.depth x.live.edges) (sym parts.1) (now.each x.live.me x.live parts.0)
 
@@ -110,7 +110,7 @@ module _ (k : Kept) (now : Nodes k) where
       (waits_not x.live.depth x.live.edges (called x i s given).work (λ g link going waits. (let it : Some (record { statement = s; room = given; waits = waiting.ForReply i }) ≡ Some g = going in let here : record { statement = s; room = given; waits = waiting.ForReply i } ≡ g = cc in
       let other : waiting.ForReply i ≡ waiting.ForOpened link = subst (λ (y : Going). y.waits ≡ waiting.ForOpened link) (sym here) waits in absurd cc)) child)
 
-high_on : (p : Place) (input : Input) {k : Kept} {d : Deed} → Step p input k d → Nodes k → Nodes d.after
+high_on : (p : Place) (input : Input) {k : NodeState} {d : Deed} → Step p input k d → Nodes k → Nodes d.after
 high_on p input (steps.Begins {k = k} n s call rows fit none step) now = high_on p input step (begins k now _ refl)
 high_on p input (steps.Pends n l given call has live code step) now = high_on p input step now
 high_on p input (steps.Lets_reads_go l comment b live collects step) now = high_on p input step now

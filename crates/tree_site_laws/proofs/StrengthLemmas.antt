@@ -8,7 +8,7 @@ use Rattle.redo_record.specs.declared.record.Param.TheVariants as params
 use Rattle.node_rules.specs.Data.{Live, Act, Place, Input, RedoRecord, Stmt}
 use Rattle.node_rules.specs.Data.acts
 use Rattle.node_rules.specs.Data.records
-use Rattle.node_rules.specs.Kept.{Kept, Deed, Stored, Branch, live_id, branch_at}
+use Rattle.node_rules.specs.NodeState.{NodeState, Deed, Stored, Branch, live_id, branch_at}
 use Rattle.node_rules.specs.Records.{nothing_stored, applied, stored_by}
 use Rattle.redo_record.specs.Durable.{durable_after}
 use Rattle.node_rules.specs.Turn.{start_of}
@@ -53,7 +53,7 @@ wrote_strength s None none = refl
 wrote_strength s (Some r) none = applied_strength s r none
 
 module _ (p : Place) (input : Input) where
-  acts_none : (k : Kept) (l : Live) (b : _) (a : Act) → IfSome (act_turn k l b a).wrote SetsNone
+  acts_none : (k : NodeState) (l : Live) (b : _) (a : Act) → IfSome (act_turn k l b a).wrote SetsNone
   acts_none k l b acts.Rest = tt
   acts_none k l b acts.AskDown = tt
   acts_none k l b acts.SayReady = tt
@@ -65,7 +65,7 @@ module _ (p : Place) (input : Input) where
   acts_none k l b acts.Abandon = tt
 
   -- no step writes a strength
-  writes_none : {k : Kept} {d : Deed} → Step p input k d → IfSome d.wrote SetsNone
+  writes_none : {k : NodeState} {d : Deed} → Step p input k d → IfSome d.wrote SetsNone
   writes_none (steps.Begins n s call rows range none step) = writes_none step
   writes_none (steps.Pends n l given call has live code step) = writes_none step
   writes_none (steps.Lets_reads_go l comment b live begins step) = writes_none step
@@ -91,10 +91,10 @@ module _ (p : Place) (input : Input) where
   abbrev Has : Live → Type 0
   Has l = l.strength ≡ p.strength
 
-  abbrev All : Kept → Type 0
+  abbrev All : NodeState → Type 0
   All k = AllByRecursion Has k.lives
 
-  module _ (k : Kept) (now : All k) where
+  module _ (k : NodeState) (now : All k) where
     found_has : (x : Branch) → branch_at k x.live.me ≡ Some x → Has x.live
     found_has x found = all_found Has live_id k.lives x.live.me x.live now (live_so k x.live.me x found)
 
@@ -120,7 +120,7 @@ module _ (p : Place) (input : Input) where
     begun_has : (l : Live) → k.stored.durable.strength ≡ None → l.strength ≡ unwrap_or k.stored.durable.strength p.strength → AllByRecursion Has (k.lives ++ l ∷ [])
     begun_has l none is = all_last Has live_id k.lives l now (is ∙ ap (λ o. unwrap_or o p.strength) none)
 
-  lives_have : {k : Kept} {d : Deed} → Step p input k d → k.stored.durable.strength ≡ None → All k → All d.after
+  lives_have : {k : NodeState} {d : Deed} → Step p input k d → k.stored.durable.strength ≡ None → All k → All d.after
   lives_have (steps.Begins {k = k} n s call rows range free step) none now = lives_have step none (begun_has k now _ none refl)
   lives_have (steps.Pends n l given call has live code step) none now = lives_have step none now
   lives_have (steps.Lets_reads_go l comment b live begins step) none now = lives_have step none now
@@ -154,7 +154,7 @@ module _ (p : Place) (input : Input) where
 abbrev Unset : Place → List RedoRecord → Type 0
 Unset p rs = (stored_by nothing_stored rs).durable.strength ≡ None
 
-abbrev Strong : Place → List RedoRecord → Kept → Type 0
+abbrev Strong : Place → List RedoRecord → NodeState → Type 0
 Strong p rs k = Unset p rs × (k.stored.durable.strength ≡ None) × AllByRecursion (λ l. l.strength ≡ p.strength) k.lives
 
 no_records : (p : Place) → Unset p []
@@ -168,7 +168,7 @@ started p rs none = (none, none, tt)
 booted : (p : Place) (rs : List RedoRecord) (boot : ℕ) → Unset p rs → Unset p (rs ++ records.Boot boot ∷ [])
 booted p rs boot none = ap (λ (s : Stored). s.durable.strength) (stored_with rs (Some (records.Boot boot))) ∙ (applied_strength (stored_by nothing_stored rs) (records.Boot boot) tt ∙ none)
 
-stepped : (p : Place) (rs : List RedoRecord) (input : Input) (k : Kept) (d : Deed) → Step p input k d → Strong p rs k → Strong p (rs ++ option_to_list d.wrote) d.after
+stepped : (p : Place) (rs : List RedoRecord) (input : Input) (k : NodeState) (d : Deed) → Step p input k d → Strong p rs k → Strong p (rs ++ option_to_list d.wrote) d.after
 stepped p rs input k d step now =
     let plain : IfSome d.wrote SetsNone = writes_none p input step in (
       ap (λ (s : Stored). s.durable.strength) (stored_with rs d.wrote) ∙ (wrote_strength (stored_by nothing_stored rs) d.wrote plain ∙ now.0),

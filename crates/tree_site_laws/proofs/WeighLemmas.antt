@@ -3,7 +3,7 @@ use Rattle.std.proofs.Common.{◌≡◌, ◌≢◌, ℕ, ◌≤◌, List, Some, 
 use Rattle.session_tree.specs.Live.{children_of}
 use Rattle.node_rules.specs.Data.{BranchId, Edge, Post}
 use Rattle.node_rules.specs.Words.{numbered}
-use Rattle.node_rules.specs.Kept.{Kept, Branch, live_id, branch_at}
+use Rattle.node_rules.specs.NodeState.{NodeState, Branch, live_id, branch_at}
 use Rattle.node_rules.proofs.StandLemmas.{live_so}
 use Rattle.run_rules.specs.Births.{births_of}
 use Rattle.run_base_laws.specs.BirthLaws.{Began, LiveIs}
@@ -23,17 +23,17 @@ use Rattle.tree_site_laws.proofs.CalledLemmas.{edges_were_called}
 
 module _ (t : History) (lawful : IsLawfulRun t) where
   -- what a live branch says of its place is as it began
-  pub placed_of : (n : ℕ) (k : Kept) → node_at (facts_at t) n ≡ Some k → (x : Branch) → branch_at k x.live.me ≡ Some x → LiveIs (Began (births_of t)) x.live
+  pub placed_of : (n : ℕ) (k : NodeState) → node_at (facts_at t) n ≡ Some k → (x : Branch) → branch_at k x.live.me ≡ Some x → LiveIs (Began (births_of t)) x.live
   placed_of n k up x found = all_found (LiveIs (Began (births_of t))) live_id k.lives x.live.me x.live (nodes_name_the_born t lawful n k up).0 (live_so k x.live.me x found)
 
   -- a child of a live branch has it as its parent
-  pub child_parent : (n : ℕ) (k : Kept) → node_at (facts_at t) n ≡ Some k → (x : Branch) → branch_at k x.live.me ≡ Some x → (i : ℕ) (c : BranchId) → numbered (children_of x.live) i ≡ Some c
-      → (m : ℕ) (j : Kept) → node_at (facts_at t) m ≡ Some j → (y : Branch) → branch_at j y.live.me ≡ Some y → y.live.me ≡ c → y.live.parent ≡ Some x.live.me
+  pub child_parent : (n : ℕ) (k : NodeState) → node_at (facts_at t) n ≡ Some k → (x : Branch) → branch_at k x.live.me ≡ Some x → (i : ℕ) (c : BranchId) → numbered (children_of x.live) i ≡ Some c
+      → (m : ℕ) (j : NodeState) → node_at (facts_at t) m ≡ Some j → (y : Branch) → branch_at j y.live.me ≡ Some y → y.live.me ≡ c → y.live.parent ≡ Some x.live.me
   child_parent n k up x found i c at m j there y live me =
       above_of (births_of t) y.live (placed_of m j there y live) x.live.me (ap (parent_of (births_of t)) me ∙ child_of (births_of t) x.live (placed_of n k up x found) i c at)
 
-  module _ (n : ℕ) (k : Kept) (up : node_at (facts_at t) n ≡ Some k) (x : Branch) (found : branch_at k x.live.me ≡ Some x) (goes : GoesOn k x.live) (rests : x.work.going ≡ None) (i : ℕ) (e : Edge) (at : numbered x.live.edges i ≡ Some e)
-      (m : ℕ) (j : Kept) (there : node_at (facts_at t) m ≡ Some j) (y : Branch) (live : branch_at j y.live.me ≡ Some y) (me : y.live.me ≡ e.peer) where
+  module _ (n : ℕ) (k : NodeState) (up : node_at (facts_at t) n ≡ Some k) (x : Branch) (found : branch_at k x.live.me ≡ Some x) (goes : GoesOn k x.live) (rests : x.work.going ≡ None) (i : ℕ) (e : Edge) (at : numbered x.live.edges i ≡ Some e)
+      (m : ℕ) (j : NodeState) (there : node_at (facts_at t) m ≡ Some j) (y : Branch) (live : branch_at j y.live.me ≡ Some y) (me : y.live.me ≡ e.peer) where
     abbrev said : List Post
     said = said_in (facts_at t)
 

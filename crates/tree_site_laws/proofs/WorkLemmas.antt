@@ -7,7 +7,7 @@ use Rattle.node_rules.specs.Data.{Live, Act, Place, Input, Stmt}
 use Rattle.node_rules.specs.Data.acts
 use Rattle.node_rules.specs.Data.phases
 use Rattle.node_rules.specs.Words.{item_at}
-use Rattle.node_rules.specs.Kept.{Kept, Branch, Deed, live_id, branch_at}
+use Rattle.node_rules.specs.NodeState.{NodeState, Branch, Deed, live_id, branch_at}
 use Rattle.node_rules.specs.Statement.{ran, after_run}
 use Rattle.node_rules.specs.Calls.{with_edge, hears_reply}
 use Rattle.node_rules.specs.Prepare.{ready, act_turn}
@@ -20,12 +20,12 @@ use Rattle.run_base_laws.proofs.OwnLemmas.{all_found, all_with, all_without, all
 use Rattle.tree_site_laws.specs.LeaveLaws.{Begins_by}
 use Rattle.tree_site_laws.proofs.LeaveLemmas.{begins_so}
 
-module _ (k0 : Kept) (input : Input) where
+module _ (k0 : NodeState) (input : Input) where
   -- A live branch that was working as the turn began, or was not live, is so, or its collect begins.
   abbrev pub Works : Live → Type 0
   Works l = ((z : Live) → item_at live_id k0.lives l.me ≡ Some z → z.phase ≡ phases.Working) → (l.phase ≡ phases.Working) ⊎ Begins_by input l.me
 
-  abbrev pub All : Kept → Type 0
+  abbrev pub All : NodeState → Type 0
   All k = AllByRecursion Works k.lives
 
   pub first_works : AllByRecursion (λ l. item_at live_id k0.lives l.me ≡ Some l) k0.lives → All k0
@@ -33,7 +33,7 @@ module _ (k0 : Kept) (input : Input) where
       all_weaker (λ l. item_at live_id k0.lives l.me ≡ Some l) Works
       (λ l here working. inl (working l here)) k0.lives found
 
-  module _ (k : Kept) (now : All k) where
+  module _ (k : NodeState) (now : All k) where
     found_works : (x : Branch) → branch_at k x.live.me ≡ Some x → Works x.live
     found_works x found = all_found Works live_id k.lives x.live.me x.live now (live_so k x.live.me x found)
 
@@ -65,7 +65,7 @@ module _ (k0 : Kept) (input : Input) where
     begun_works l fresh = all_last Works live_id k.lives l now (λ working. inl fresh)
 
   module _ (p : Place) where
-    pub works_on : {k : Kept} {d : Deed} → Step p input k d → All k → All d.after
+    pub works_on : {k : NodeState} {d : Deed} → Step p input k d → All k → All d.after
     works_on (steps.Begins {k = k} n s call rows range free step) now = works_on step (begun_works k now _ refl)
     works_on (steps.Pends n l given call has live code step) now = works_on step now
     works_on (steps.Lets_reads_go l comment b live begins step) now = works_on step now

@@ -10,7 +10,7 @@ use Rattle.node_rules.specs.Data.{BranchId, Live}
 use Rattle.node_rules.specs.Data.stmts
 use Rattle.node_rules.specs.Inputs.{IsCall}
 use Rattle.node_rules.specs.Words.{numbered}
-use Rattle.node_rules.specs.Kept.{Kept, live_at}
+use Rattle.node_rules.specs.NodeState.{NodeState, live_at}
 use Rattle.node_rules.specs.Sessions.{session_at}
 use Rattle.run_rules.specs.Data.{Turn, Happening}
 use Rattle.run_rules.specs.Data.happenings
@@ -21,7 +21,7 @@ use Rattle.run_rules.specs.Branches.{Trail, Planned, children_at}
 use Rattle.run_rules.specs.Tree.{has_changes, plan}
 
 -- a live branch of a node, where it is up
-abbrev pub live_of : Option Kept → BranchId → Option Live
+abbrev pub live_of : Option NodeState → BranchId → Option Live
 live_of None b = None
 live_of (Some k) b = live_at k b
 
@@ -60,7 +60,7 @@ pub record DecidedSo (t : History) (b : BranchId) : Type 0 where
   pub session : ℕ
   pub given : Option (List ℕ)
   pub call : IsCall turn.input session (stmts.Commit given)
-  pub kept : Kept
+  pub kept : NodeState
   pub up : node_at (facts_of t.places t.commands (first_facts t.places) before) turn.node ≡ Some kept
   pub has : (session_at kept.sessions session).root ≡ Some root
   pub accepted : (session_at kept.sessions session).code ≡ None

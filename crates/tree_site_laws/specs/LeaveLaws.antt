@@ -10,7 +10,7 @@ use Rattle.node_rules.specs.Data.phases
 use Rattle.node_rules.specs.Data.stmts
 use Rattle.node_rules.specs.Inputs.{Came, IsCall}
 use Rattle.node_rules.specs.Words.{numbered}
-use Rattle.node_rules.specs.Kept.{Kept, live_at}
+use Rattle.node_rules.specs.NodeState.{NodeState, live_at}
 use Rattle.run_rules.specs.Data.{Happening}
 use Rattle.run_rules.specs.Data.happenings
 use Rattle.run_rules.specs.Facts.{Facts, node_at}
@@ -40,7 +40,7 @@ abbrev pub Begins_by : Input → BranchId → Type 0
 Begins_by input b = ((n : ℕ) × (given : Option (List ℕ)) × IsCall input n (stmts.Commit given)) ⊎ ((from : BranchId) × (site_below : Bool) × (comment : List ℕ) × Came input from b (kinds.Prepare site_below comment))
 
 -- A branch that was live as the turn began leaves so.
-pub record LeftSo (k : Kept) (input : Input) (said : List Post) (b : BranchId) (x : Exit) : Type 0 where
+pub record LeftSo (k : NodeState) (input : Input) (said : List Post) (b : BranchId) (x : Exit) : Type 0 where
   pub live : Live
   pub found : live_at k live.me ≡ Some live
   pub is_me : live.me ≡ b
@@ -49,7 +49,7 @@ pub record LeftSo (k : Kept) (input : Input) (said : List Post) (b : BranchId) (
 
 -- each branch that leaves in a turn, and is not dropped, does so
 abbrev pub LeaveComplete : History → Facts → List Event → Happening → Type 0
-LeaveComplete t f e (happenings.Turn u) = (k : Kept) → node_at f u.node ≡ Some k → (b : BranchId) (x : Exit) → exit e b ≡ None → x ≢ Dropped
+LeaveComplete t f e (happenings.Turn u) = (k : NodeState) → node_at f u.node ≡ Some k → (b : BranchId) (x : Exit) → exit e b ≡ None → x ≢ Dropped
     → exit (events_after t.places t.commands f (happenings.Turn u) e) b ≡ Some x → LeftSo k u.input (said_in f) b x
 LeaveComplete t f e _ = Unit {0}
 

@@ -3,7 +3,7 @@ use Rattle.std.specs.Prelude.{◌≡◌, List, map, Option, Some, None}
 use Rattle.session_tree.specs.Live.{children_of}
 use Rattle.node_rules.specs.Data.{BranchId, Post, Place}
 use Rattle.node_rules.specs.declared.work.Work.{Work}
-use Rattle.node_rules.specs.Kept.{Kept, Branch, branch_at}
+use Rattle.node_rules.specs.NodeState.{NodeState, Branch, branch_at}
 use Rattle.node_rules.specs.Turn.{turn_of}
 use Rattle.run_rules.specs.Data.{Happening}
 use Rattle.run_rules.specs.Data.happenings
@@ -27,7 +27,7 @@ pub record SameTree (x y : Branch) : Type 0 where
 
 -- a turn leaves a live branch that rests so, where it stays live
 abbrev pub LeavesAtRest : List Place → Facts → Happening → Type 0
-LeavesAtRest places f (happenings.Turn u) = (k : Kept) → node_at f u.node ≡ Some k → (x y : Branch) → branch_at k x.live.me ≡ Some x → Rests (said_in f) x.live.me x.live.parent x.work
+LeavesAtRest places f (happenings.Turn u) = (k : NodeState) → node_at f u.node ≡ Some k → (x y : Branch) → branch_at k x.live.me ≡ Some x → Rests (said_in f) x.live.me x.live.parent x.work
     → y.live.me ≡ x.live.me → branch_at (turn_of (place_at places u.node) k u.input).after y.live.me ≡ Some y → SameTree x y
 LeavesAtRest places f _ = Unit {0}
 

@@ -5,14 +5,14 @@ use Rattle.dtx_values.specs.Limits.{depth_limit}
 use Rattle.session_tree.specs.Tree.{weight}
 use Rattle.node_rules.specs.Data.{Edge}
 use Rattle.node_rules.specs.Words.{numbered}
-use Rattle.node_rules.specs.Kept.{Kept, Branch, branch_at}
+use Rattle.node_rules.specs.NodeState.{NodeState, Branch, branch_at}
 use Rattle.run_rules.specs.Facts.{place_at, node_at}
 use Rattle.run_rules.specs.Lawful.{History, IsLawfulRun, facts_at}
 use Rattle.run_base_laws.specs.InTurnLaws.{said_in, newest_exec, call_at, GoesOn}
 
 -- In every lawful run a live branch has called each of its children.
 abbrev pub EdgesWereCalled : Type 0
-EdgesWereCalled = (t : History) → IsLawfulRun t → (n : ℕ) (k : Kept) → node_at (facts_at t) n ≡ Some k → (x : Branch) → branch_at k x.live.me ≡ Some x
+EdgesWereCalled = (t : History) → IsLawfulRun t → (n : ℕ) (k : NodeState) → node_at (facts_at t) n ≡ Some k → (x : Branch) → branch_at k x.live.me ≡ Some x
     → (i : ℕ) (e : Edge) → numbered x.live.edges i ≡ Some e → 1 ≤ call_at x.work i
 
 -- A live child weighs what its parent holds of it, waits for nothing, and took the last call.
@@ -23,14 +23,14 @@ pub record ChildRests (t : History) (x : Branch) (e : Edge) (y : Branch) : Type 
 
 -- In every lawful run each live child does so of a live branch that waits for nothing, unless that is a root that can only roll back.
 abbrev pub ChildrenWeigh : Type 0
-ChildrenWeigh = (t : History) → IsLawfulRun t → (n : ℕ) (k : Kept) → node_at (facts_at t) n ≡ Some k → (x : Branch) → branch_at k x.live.me ≡ Some x → GoesOn k x.live → x.work.going ≡ None
-    → (i : ℕ) (e : Edge) → numbered x.live.edges i ≡ Some e → (m : ℕ) (j : Kept) → node_at (facts_at t) m ≡ Some j → (y : Branch) → branch_at j y.live.me ≡ Some y → y.live.me ≡ e.peer
+ChildrenWeigh = (t : History) → IsLawfulRun t → (n : ℕ) (k : NodeState) → node_at (facts_at t) n ≡ Some k → (x : Branch) → branch_at k x.live.me ≡ Some x → GoesOn k x.live → x.work.going ≡ None
+    → (i : ℕ) (e : Edge) → numbered x.live.edges i ≡ Some e → (m : ℕ) (j : NodeState) → node_at (facts_at t) m ≡ Some j → (y : Branch) → branch_at j y.live.me ≡ Some y → y.live.me ≡ e.peer
     → ChildRests t x e y
 
 -- In every lawful run a live branch with a child stands above the greatest depth of a tree.
 abbrev pub ParentsAreShallow : Type 0
-ParentsAreShallow = (t : History) → IsLawfulRun t → (n : ℕ) (k : Kept) → node_at (facts_at t) n ≡ Some k → (x : Branch) → branch_at k x.live.me ≡ Some x → 1 ≤ length x.live.edges → x.live.depth + 1 ≤ depth_limit
+ParentsAreShallow = (t : History) → IsLawfulRun t → (n : ℕ) (k : NodeState) → node_at (facts_at t) n ≡ Some k → (x : Branch) → branch_at k x.live.me ≡ Some x → 1 ≤ length x.live.edges → x.live.depth + 1 ≤ depth_limit
 
 -- In every lawful run a live branch has the commit point strength of its node's place.
 abbrev pub LivesHaveStrength : Type 0
-LivesHaveStrength = (t : History) → IsLawfulRun t → (n : ℕ) (k : Kept) → node_at (facts_at t) n ≡ Some k → (x : Branch) → branch_at k x.live.me ≡ Some x → x.live.strength ≡ (place_at t.places n).strength
+LivesHaveStrength = (t : History) → IsLawfulRun t → (n : ℕ) (k : NodeState) → node_at (facts_at t) n ≡ Some k → (x : Branch) → branch_at k x.live.me ≡ Some x → x.live.strength ≡ (place_at t.places n).strength

@@ -5,7 +5,7 @@ use Rattle.node_rules.specs.Data.{BranchId, Live, Stmt, Input}
 use Rattle.node_rules.specs.Data.inputs
 use Rattle.node_rules.specs.declared.session.PendingCall.TheVariants as pending
 use Rattle.node_rules.specs.Inputs.{IsSession}
-use Rattle.node_rules.specs.Kept.{Kept, live_at}
+use Rattle.node_rules.specs.NodeState.{NodeState, live_at}
 use Rattle.node_rules.specs.Sessions.{session_at}
 use Rattle.run_rules.specs.Branches.{Seen, Trail, seen_id, seen_at}
 use Rattle.run_rules.specs.Data.{Took}
@@ -13,7 +13,7 @@ use Rattle.run_rules.specs.Facts.{Facts}
 use Rattle.run_rules.specs.Lawful.{Comes}
 use Rattle.tree_trail_laws.specs.SeenLaws.{IsSeenRoot}
 
-pub call_free : (f : Facts) (k : Kept) (node : ℕ) (input : Input) (took : Option Took) (n : ℕ) (s : Option Stmt) → input ≡ inputs.Call n s → Comes f k node input took → IsSession n × ((session_at k.sessions n).call ≡ pending.NoCall)
+pub call_free : (f : Facts) (k : NodeState) (node : ℕ) (input : Input) (took : Option Took) (n : ℕ) (s : Option Stmt) → input ≡ inputs.Call n s → Comes f k node input took → IsSession n × ((session_at k.sessions n).call ≡ pending.NoCall)
 call_free f k node input took n s is comes = by took (subst (λ i. Comes f k node i took) is comes)
   where
     by : (took : Option Took) → Comes f k node (inputs.Call n s) took → IsSession n × ((session_at k.sessions n).call ≡ pending.NoCall)
@@ -21,7 +21,7 @@ call_free f k node input took n s is comes = by took (subst (λ i. Comes f k nod
     by (Some t) comes = absurd comes
 
 -- the transaction of a session, as it is told
-pub seen_root : (tr : Trail) (k : Kept) (o : Option Seen) (p : Option BranchId) (b : BranchId) → p ≡ Some b → IsSeenRoot tr k o p
+pub seen_root : (tr : Trail) (k : NodeState) (o : Option Seen) (p : Option BranchId) (b : BranchId) → p ≡ Some b → IsSeenRoot tr k o p
     → (s : Seen) × (o ≡ Some s) × (s.me ≡ b) × ((l : Live) × (live_at k b ≡ Some l)) × (seen_at tr b ≡ Some s)
 seen_root tr k None None b is seen = absurd cc
 seen_root tr k (Some s) None b is seen = absurd seen

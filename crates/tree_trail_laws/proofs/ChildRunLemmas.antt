@@ -4,7 +4,7 @@ use Rattle.std.specs.List.{AllByRecursion}
 use Rattle.node_rules.specs.Data.{BranchId, Live}
 use Rattle.node_rules.specs.Words.{numbered, set_numbered}
 use Rattle.tran_ids.proofs.NumberedLemmas.{set_or_before}
-use Rattle.node_rules.specs.Kept.{Kept, live_at}
+use Rattle.node_rules.specs.NodeState.{NodeState, live_at}
 use Rattle.node_rules.specs.Turn.{start_of}
 use Rattle.run_rules.specs.Births.{Born, births_of}
 use Rattle.run_base_laws.specs.BirthLaws.{Began}
@@ -33,9 +33,9 @@ module _ (t : History) (whole : IsLawfulRun t) where
         inr (born.0, born_end (so_far t (hs ++ h ∷ [])) (part_lawful t whole (hs ++ h ∷ []) (part_on t whole hs h rest is)) hs (record { rest = h ∷ []; is = refl }) born.0 born.1, born.2)
 
     -- the branches that are told stay so, and those that are live were
-    pub same_tells : (g : Facts) (tr : Trail) → facts_after t.places t.commands (f_at t hs) h ≡ g → trail_after t.places (f_at t hs) (tr_at t hs) h ≡ tr → ((l : Live) → IsToldOf (tr_at t hs) l → IsToldOf tr l)
-        → ((n : ℕ) (j : Kept) → node_at g n ≡ Some j → (l : Live) → live_at j l.me ≡ Some l → node_at (f_at t hs) n ≡ Some j) → AllByRecursion (IsKnown t whole (hs ++ h ∷ [])) tr.seen → Tells t whole (hs ++ h ∷ [])
-    same_tells g tr facts trail told still known = record {
+    pub same_reports : (g : Facts) (tr : Trail) → facts_after t.places t.commands (f_at t hs) h ≡ g → trail_after t.places (f_at t hs) (tr_at t hs) h ≡ tr → ((l : Live) → IsToldOf (tr_at t hs) l → IsToldOf tr l)
+        → ((n : ℕ) (j : NodeState) → node_at g n ≡ Some j → (l : Live) → live_at j l.me ≡ Some l → node_at (f_at t hs) n ≡ Some j) → AllByRecursion (IsKnown t whole (hs ++ h ∷ [])) tr.seen → Tells t whole (hs ++ h ∷ [])
+    same_reports g tr facts trail told still known = record {
       lower = subst (λ f. TellsLower t whole f (tr_at t (hs ++ h ∷ []))) (sym (one_on t hs h ∙ facts))
           (subst (TellsLower t whole g) (sym (trail_one_on t hs h ∙ trail)) (λ n j up l live below. told l (now.lower n j (still n j up l live) l live below)));
       known = subst (λ x. AllByRecursion (IsKnown t whole (hs ++ h ∷ [])) x.seen) (sym (trail_one_on t hs h ∙ trail)) known;
@@ -52,7 +52,7 @@ module _ (t : History) (whole : IsLawfulRun t) where
   unfolding facts_after trail_after start_of
   tells_on hs (happenings.Turn u) rest is now = turn_tells t whole hs u rest is now
   tells_on hs (happenings.Stopped n) rest is now =
-      same_tells hs (happenings.Stopped n) rest is now _ _ refl refl
+      same_reports hs (happenings.Stopped n) rest is now _ _ refl refl
       (λ l told. (stopped_by n told.0, item_mapped seen_id (stopped_by n) (λ s. (stopped_same n s).0) (tr_at t hs).seen l.me told.0 told.1, (stopped_same n told.0).1 ∙ told.2, (stopped_same n told.0).2 ∙ told.3))
       (λ m j up l live. elim (set_or_before (f_at t hs).nodes n m None) [
         | inl before ↦ sym (ap flat before) ∙ up
@@ -62,20 +62,20 @@ module _ (t : History) (whole : IsLawfulRun t) where
       (all_weaker (IsKnown t whole hs) _ (λ s known. subst (λ (b : BranchId). (b.session ≤ 64) ⊎ ((x : Born) × Began (births_of (so_far t (hs ++ happenings.Stopped n ∷ []))) x × (x.me ≡ b))) (sym (stopped_same n s).0)
       (more_known hs (happenings.Stopped n) rest is now s known)) (tr_at t hs).seen now.known))
   tells_on hs (happenings.Started n boot) rest is now =
-      same_tells hs (happenings.Started n boot) rest is now _ _ refl refl (λ l told. told)
+      same_reports hs (happenings.Started n boot) rest is now _ _ refl refl (λ l told. told)
       (λ m j up l live. elim (set_or_before (f_at t hs).nodes n m (Some (start_of (with_boot (f_at t hs) n boot)))) [
         | inl before ↦ sym (ap flat before) ∙ up
         | inr new ↦ absurd (started_none (f_at t hs) n boot m j l new.1 up live)
       ])
       (all_weaker (IsKnown t whole hs) _ (more_known hs (happenings.Started n boot) rest is now) (tr_at t hs).seen now.known)
   tells_on hs (happenings.Begun c) rest is now =
-      same_tells hs (happenings.Begun c) rest is now _ _ refl refl (λ l told. told) (λ m j up l live. up) (all_weaker (IsKnown t whole hs) _ (more_known hs (happenings.Begun c) rest is now) (tr_at t hs).seen now.known)
+      same_reports hs (happenings.Begun c) rest is now _ _ refl refl (λ l told. told) (λ m j up l live. up) (all_weaker (IsKnown t whole hs) _ (more_known hs (happenings.Begun c) rest is now) (tr_at t hs).seen now.known)
   tells_on hs (happenings.Cut x y) rest is now =
-      same_tells hs (happenings.Cut x y) rest is now _ _ refl refl (λ l told. told) (λ m j up l live. up) (all_weaker (IsKnown t whole hs) _ (more_known hs (happenings.Cut x y) rest is now) (tr_at t hs).seen now.known)
+      same_reports hs (happenings.Cut x y) rest is now _ _ refl refl (λ l told. told) (λ m j up l live. up) (all_weaker (IsKnown t whole hs) _ (more_known hs (happenings.Cut x y) rest is now) (tr_at t hs).seen now.known)
   tells_on hs (happenings.Join x y) rest is now =
-      same_tells hs (happenings.Join x y) rest is now _ _ refl refl (λ l told. told) (λ m j up l live. up) (all_weaker (IsKnown t whole hs) _ (more_known hs (happenings.Join x y) rest is now) (tr_at t hs).seen now.known)
+      same_reports hs (happenings.Join x y) rest is now _ _ refl refl (λ l told. told) (λ m j up l live. up) (all_weaker (IsKnown t whole hs) _ (more_known hs (happenings.Join x y) rest is now) (tr_at t hs).seen now.known)
   tells_on hs (happenings.Lost x) rest is now =
-      same_tells hs (happenings.Lost x) rest is now _ _ refl refl (λ l told. told) (λ m j up l live. up) (all_weaker (IsKnown t whole hs) _ (more_known hs (happenings.Lost x) rest is now) (tr_at t hs).seen now.known)
+      same_reports hs (happenings.Lost x) rest is now _ _ refl refl (λ l told. told) (λ m j up l live. up) (all_weaker (IsKnown t whole hs) _ (more_known hs (happenings.Lost x) rest is now) (tr_at t hs).seen now.known)
 
   -- a node that was made keeps no live branch
   first_tells : Tells t whole []

@@ -15,7 +15,7 @@ use Rattle.node_rules.specs.Data.phases
 use Rattle.node_rules.specs.declared.session.Session.{Session}
 use Rattle.node_rules.specs.Words.{same, numbered, item_at, put_item, drop_item, set_numbered}
 use Rattle.node_rules.specs.Inputs.{Came}
-use Rattle.node_rules.specs.Kept.{Kept, Branch, Deed, live_id, branch_at, post, to_one, to_each}
+use Rattle.node_rules.specs.NodeState.{NodeState, Branch, Deed, live_id, branch_at, post, to_one, to_each}
 use Rattle.node_rules.specs.Names.{passed_on}
 use Rattle.node_rules.specs.Statement.{ran, after_run}
 use Rattle.node_rules.specs.Calls.{answer_says, exec_to, next_child, strength_of, with_edge, hears_reply}
@@ -96,7 +96,7 @@ heard_peers : (from : BranchId) (v : _) (es : List Edge) → map (λ (y : Edge).
 heard_peers from v [] = refl
 heard_peers from v (e ∷ es) = grind (arith, heard_peers from v es)
 
-module _ (k0 : Kept) (p : Place) (input : Input) (Unborn : BranchId → Type 0) where
+module _ (k0 : NodeState) (p : Place) (input : Input) (Unborn : BranchId → Type 0) where
   -- a branch that begins was not live
   abbrev pub NotThere : Born → Type 0
   NotThere x = (item_at live_id k0.lives x.me ≡ None) × Unborn x.me
@@ -128,7 +128,7 @@ module _ (k0 : Kept) (p : Place) (input : Input) (Unborn : BranchId → Type 0) 
     pub old : (z : Live) → item_at live_id k0.lives l.me ≡ Some z → (children_of l ≡ called_by l.me (children_of z) says) × (l.parent ≡ z.parent)
     pub new : item_at live_id k0.lives l.me ≡ None → (l.parent ≡ None) ⊎ IsOpened says l
 
-  abbrev pub Sames : Kept → Type 0
+  abbrev pub Sames : NodeState → Type 0
   Sames k = EachLive (λ l w. Same l) k.lives []
 
   -- live branches after these messages, and no other sends an Exec
@@ -151,7 +151,7 @@ module _ (k0 : Kept) (p : Place) (input : Input) (Unborn : BranchId → Type 0) 
     new = λ none. parent ∙ is.new (subst (λ b. item_at live_id k0.lives b ≡ None) me none);
   }
 
-  module _ (k : Kept) (now : Sames k) where
+  module _ (k : NodeState) (now : Sames k) where
     branch : (x : Branch) → branch_at k x.live.me ≡ Some x → Same x.live
     branch x live = now.each x.live.me x.live (branch_parts k x.live.me x live).0
 
@@ -275,12 +275,12 @@ module _ (k0 : Kept) (p : Place) (input : Input) (Unborn : BranchId → Type 0) 
 
   -- ---- every step
 
-  begun_root : (k : Kept) → Sames k → (l : Live) → item_at live_id k0.lives l.me ≡ None → l.parent ≡ None → EachLive (λ l w. Same l) (k.lives ++ l ∷ []) []
+  begun_root : (k : NodeState) → Sames k → (l : Live) → item_at live_id k0.lives l.me ≡ None → l.parent ≡ None → EachLive (λ l w. Same l) (k.lives ++ l ∷ []) []
   begun_root k now l none root =
       each_begun (λ l w. Same l) (λ l w. Same l) k.lives [] now l (record { old = λ z found. absurd (cc (found, none)); new = λ no. root }) (λ y v live any is. is)
 
   module _ (fresh : NewChild) where
-    pub grows_on : {k : Kept} {d : Deed} → Step p input k d → News NotThere p input k → Sames k → Grown d
+    pub grows_on : {k : NodeState} {d : Deed} → Step p input k d → News NotThere p input k → Sames k → Grown d
     grows_on (steps.Begins {k = k} n s call rows range none step) news now =
         grows_on step (begun_news NotThere p input k n news) (begun_root k now (fresh_root p k (new_root p k n)) (news.root n s call rows none).0 refl)
     grows_on (steps.Pends {k = k} n l given call has live code step) news now = grows_on step (pends_news NotThere p input k n given call news) now

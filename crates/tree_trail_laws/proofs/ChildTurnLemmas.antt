@@ -11,7 +11,7 @@ use Rattle.node_rules.specs.Data.{BranchId, Edge, Kind, Live, Msg, Stmt, Place, 
 use Rattle.node_rules.specs.Data.inputs
 use Rattle.node_rules.specs.Data.kinds
 use Rattle.node_rules.specs.Words.{same, numbered, is_item_of, item_at}
-use Rattle.node_rules.specs.Kept.{Kept, Deed, live_id, live_at, post}
+use Rattle.node_rules.specs.NodeState.{NodeState, Deed, live_id, live_at, post}
 use Rattle.node_rules.specs.LiveBranches.{EachLive}
 use Rattle.node_rules.specs.Turn.{turn_of, heard, deed_of, stamped}
 use Rattle.run_rules.specs.Births.{Born, births_of, born_at}
@@ -78,7 +78,7 @@ module _ (t : History) (whole : IsLawfulRun t) where
 
   -- the live branches below roots are told
   abbrev pub TellsLower : Facts → Trail → Type 0
-  TellsLower f tr = (n : ℕ) (k : Kept) → node_at f n ≡ Some k → (l : Live) → live_at k l.me ≡ Some l → l.parent ≢ None → IsToldOf tr l
+  TellsLower f tr = (n : ℕ) (k : NodeState) → node_at f n ≡ Some k → (l : Live) → live_at k l.me ≡ Some l → l.parent ≢ None → IsToldOf tr l
 
   -- what each happening keeps
   pub record Tells (hs : List Happening) : Type 0 where
@@ -122,7 +122,7 @@ module _ (t : History) (whole : IsLawfulRun t) where
     abbrev pub may : MayHappen t.places t.commands f0 (happenings.Turn u)
     may = may_of t whole hs (happenings.Turn u) rest is
 
-    abbrev k : Kept
+    abbrev k : NodeState
     k = may.0
 
     abbrev p : Place
@@ -243,7 +243,7 @@ module _ (t : History) (whole : IsLawfulRun t) where
         by true is = ap (children_after b cs) (sent_by is)
         by false is = ap (children_after b cs) (unfolding_sent is) ∙ (stamped_calls b d.after.clock cs d.says ∙ grown.1 b cs (own_after is b other (item_at live_id d.after.lives b) refl))
 
-    told_elsewhere : (n : ℕ) (j : Kept) → u.node ≢ n → node_at f1 n ≡ Some j → (l : Live) → live_at j l.me ≡ Some l → l.parent ≢ None → IsToldOf tr1 l
+    told_elsewhere : (n : ℕ) (j : NodeState) → u.node ≢ n → node_at f1 n ≡ Some j → (l : Live) → live_at j l.me ≡ Some l → l.parent ≢ None → IsToldOf tr1 l
     told_elsewhere n j other up l live below =
         let before : node_at f0 n ≡ Some j = sym (turn_elsewhere t.places t.commands f0 stand.0.0.even u n other).0 ∙ up in
         let own : l.me.node ≡ n = all_found (λ l. l.me.node ≡ n) live_id j.lives l.me l (ids_name_their_node s0 lawful0 n j before).lives live in
@@ -297,7 +297,7 @@ module _ (t : History) (whole : IsLawfulRun t) where
               ∙ (ap (λ cs. children_after l.me cs u.sent) told.3
               ∙ (ap (children_after l.me (children_of z)) (unfolding_sent whole_turn) ∙ (stamped_calls l.me d.after.clock (children_of z) d.says ∙ sym was.0))))
 
-    pub told_at : (n : ℕ) (j : Kept) → node_at f1 n ≡ Some j → (l : Live) → live_at j l.me ≡ Some l → l.parent ≢ None → IsToldOf tr1 l
+    pub told_at : (n : ℕ) (j : NodeState) → node_at f1 n ≡ Some j → (l : Live) → live_at j l.me ≡ Some l → l.parent ≢ None → IsToldOf tr1 l
     told_at n j up l live below = elim (cases_eq u.node n) [
       | inl here ↦ own u.cut refl (subst (λ m. node_at f1 m ≡ Some j) (sym here) up)
       | inr other ↦ told_elsewhere n j other up l live below

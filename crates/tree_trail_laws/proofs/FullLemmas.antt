@@ -2,7 +2,7 @@
 use Rattle.std.proofs.Common.{◌≡◌, ℕ, List, ◌∷◌, ◌++◌, Option, Some, None, refl, sym, ap, ◌∙◌}
 use Rattle.node_rules.specs.Data.{BranchId, Live}
 use Rattle.node_rules.specs.Data.phases
-use Rattle.node_rules.specs.Kept.{Kept, live_at}
+use Rattle.node_rules.specs.NodeState.{NodeState, live_at}
 use Rattle.node_rules.specs.Prepare.{own_changes}
 use Rattle.run_rules.specs.Branches.{Seen, Trail, seen_at, own_of, plan_at}
 use Rattle.run_rules.specs.Data.{Happening}
@@ -17,13 +17,13 @@ use Rattle.tree_trail_laws.proofs.LowerRunLemmas.{lower_at}
 use Rattle.tree_trail_laws.proofs.MomentLemmas.{tr_at, at_moment, by_moment}
 
 -- What is told of a live branch, with its changes; no COMMIT was accepted of a root that is working.
-pub record IsSeenSo (tr : Trail) (k : Kept) (l : Live) (s : Seen) : Type 0 where
+pub record IsSeenSo (tr : Trail) (k : NodeState) (l : Live) (s : Seen) : Type 0 where
   pub told : IsToldLive l s
   pub own : s.own ≡ own_changes k l.me
   pub unplanned : l.parent ≡ None → l.phase ≡ phases.Working → plan_at tr l.me ≡ None
 
 abbrev pub SeesLives : Facts → Trail → Type 0
-SeesLives f tr = (n : ℕ) (k : Kept) → node_at f n ≡ Some k → (l : Live) → live_at k l.me ≡ Some l → (s : Seen) × (seen_at tr l.me ≡ Some s) × IsSeenSo tr k l s
+SeesLives f tr = (n : ℕ) (k : NodeState) → node_at f n ≡ Some k → (l : Live) → live_at k l.me ≡ Some l → (s : Seen) × (seen_at tr l.me ≡ Some s) × IsSeenSo tr k l s
 
 pub record Sees (f : Facts) (tr : Trail) : Type 0 where
   pub lives : SeesLives f tr

@@ -16,7 +16,7 @@ use Rattle.node_rules.specs.declared.work.Going.{Going}
 use Rattle.node_rules.specs.declared.work.Waits.{Waits}
 use Rattle.node_rules.specs.declared.work.Waits.TheVariants as waiting
 use Rattle.node_rules.specs.Words.{same, item_at, put_item}
-use Rattle.node_rules.specs.Kept.{Kept, Branch, Deed, live_id, live_at, branch_at, nothing, post}
+use Rattle.node_rules.specs.NodeState.{NodeState, Branch, Deed, live_id, live_at, branch_at, nothing, post}
 use Rattle.node_rules.specs.Names.{Way, Runs_here, Over, Through, Nowhere_to, way_of}
 use Rattle.node_rules.specs.Calls.{goes, exec_by, on_exec, on_opened, opened_going, opened_waits, on_reply, reply_by, reply_of, admit, takes_call}
 use Rattle.node_rules.specs.Prepare.{is_awaited, answers_first, has_voted, with_prepare_sent, collecting, with_comment, voted, ready, act_turn, answer_act, first_act, collects, prepare_in, answer_in, on_prepare, on_answer, on_commit_point, commit_point_in, commit_point_act, drops, without_read_keys}
@@ -88,7 +88,7 @@ first_among votes from (e ∷ es) all some = elim (or_cases (answers_first from 
 pub put_is : (ls : List Live) (y l : Live) (b : BranchId) → y.me ≡ b → item_at live_id (put_item live_id ls y) b ≡ Some l → l ≡ y
 put_is ls y l b me is = let both : Some y ≡ Some l = sym (put_found live_id ls y) ∙ (ap (λ c. item_at live_id (put_item live_id ls y) c) me ∙ is) in let it : l ≡ y = cc in it
 
-pub act_live : (k : Kept) (l : Live) (b : Bool) (a : Act) (w : Live) → live_at (act_turn k l b a).after l.me ≡ Some w → (w ≡ l) ⊎ (w ≡ ready l)
+pub act_live : (k : NodeState) (l : Live) (b : Bool) (a : Act) (w : Live) → live_at (act_turn k l b a).after l.me ≡ Some w → (w ≡ l) ⊎ (w ≡ ready l)
 act_live k l b acts.Rest w is = inl (put_is k.lives l w l.me refl is)
 act_live k l b acts.AskDown w is = inl (put_is k.lives l w l.me refl is)
 act_live k l b acts.SayReady w is = inr (put_is k.lives (ready l) w l.me refl is)
@@ -103,7 +103,7 @@ act_live k l b acts.Abandon w is = (let none : live_at (act_turn k l b acts.Aban
 abbrev pub IsBusy : List BranchId → Live → Type 0
 IsBusy vs l = (l.phase ≢ phases.Working) × AreVoted vs l.edges
 
-module _ (p : Place) (k : Kept) (x : Branch) (found : branch_at k x.live.me ≡ Some x) where
+module _ (p : Place) (k : NodeState) (x : Branch) (found : branch_at k x.live.me ≡ Some x) where
   -- what stays live after these deeds
   abbrev pub After : Deed → (Live → Type 0) → Type 0
   After d P = (l : Live) → live_at d.after x.live.me ≡ Some l → P l

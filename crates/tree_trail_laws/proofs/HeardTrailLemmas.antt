@@ -11,7 +11,7 @@ use Rattle.node_rules.specs.Data.kinds
 use Rattle.node_rules.specs.Data.phases
 use Rattle.node_rules.specs.Data.votes
 use Rattle.node_rules.specs.Words.{same, is_item_of}
-use Rattle.node_rules.specs.Kept.{Kept, Branch, live_id, live_at, branch_at, standing_at, nothing}
+use Rattle.node_rules.specs.NodeState.{NodeState, Branch, live_id, live_at, branch_at, standing_at, nothing}
 use Rattle.node_rules.specs.Calls.{open_by}
 use Rattle.node_rules.specs.Prepare.{is_awaited, answers_first, on_answer, drops}
 use Rattle.node_rules.specs.Turn.{Is_live, live_or, stand_of, kind_turn}
@@ -72,7 +72,7 @@ module _ (s : Seen) (m : Msg) (z l : Live) (told : IsToldLive z s) (no_vote : is
     ));
   }
 
-module _ (p : Place) (k : Kept) (x : Branch) (found : branch_at k x.live.me ≡ Some x) (rests : x.live.phase ≢ phases.Working → x.work.going ≡ None) (fits : PhaseFits x.live.parent x.live.edges x.live.phase)
+module _ (p : Place) (k : NodeState) (x : Branch) (found : branch_at k x.live.me ≡ Some x) (rests : x.live.phase ≢ phases.Working → x.work.going ≡ None) (fits : PhaseFits x.live.parent x.live.edges x.live.phase)
     (s : Seen) (me : s.me ≡ x.live.me) (told : IsToldLive x.live s) (l : Live) where
   abbrev z : Live
   z = x.live

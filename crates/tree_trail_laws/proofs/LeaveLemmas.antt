@@ -12,7 +12,7 @@ use Rattle.node_rules.specs.Data.phases
 use Rattle.node_rules.specs.Data.records
 use Rattle.node_rules.specs.Data.stmts
 use Rattle.node_rules.specs.Words.{same, item_at}
-use Rattle.node_rules.specs.Kept.{Kept, live_id, live_at}
+use Rattle.node_rules.specs.NodeState.{NodeState, live_id, live_at}
 use Rattle.node_rules.specs.Prepare.{is_awaited, answers_first, has_voted, voted}
 use Rattle.node_rules.specs.Sessions.{session_at}
 use Rattle.node_rules.specs.Turn.{deed_of}
@@ -128,7 +128,7 @@ module _ (tr : Trail) (l : Live) (s : Seen) (seen : seen_at tr l.me ≡ Some s) 
 -- ---- every run
 
 module _ (t : History) (whole : IsLawfulRun t) (sees : SeesAll t) where
-  module _ (hs : List Happening) (u : Turn) (rest : List Happening) (is : hs ++ happenings.Turn u ∷ rest ≡ t.trace) (k : Kept) (up : node_at (f_at t hs) u.node ≡ Some k) where
+  module _ (hs : List Happening) (u : Turn) (rest : List Happening) (is : hs ++ happenings.Turn u ∷ rest ≡ t.trace) (k : NodeState) (up : node_at (f_at t hs) u.node ≡ Some k) where
     abbrev f0 : Facts
     f0 = f_at t hs
 

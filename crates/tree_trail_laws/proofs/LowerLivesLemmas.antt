@@ -12,7 +12,7 @@ use Rattle.node_rules.specs.Data.kinds
 use Rattle.node_rules.specs.Data.phases
 use Rattle.node_rules.specs.Words.{same, item_at}
 use Rattle.node_rules.specs.Inputs.{Came}
-use Rattle.node_rules.specs.Kept.{Kept, Branch, Deed, live_id, live_at, branch_at, work_at, with_work}
+use Rattle.node_rules.specs.NodeState.{NodeState, Branch, Deed, live_id, live_at, branch_at, work_at, with_work}
 use Rattle.node_rules.specs.Turn.{turn_of, heard, deed_of, kind_turn, stand_of}
 use Rattle.run_rules.specs.Births.{births_of, born_at}
 use Rattle.run_rules.specs.Branches.{Seen, Trail, is_among, seen_id, seen_at, newly_seen}
@@ -67,7 +67,7 @@ to_it b inputs.Reco = inr (λ m is. absurd cc)
 module _ (t : History) (whole : IsLawfulRun t) where
   -- the live branches below roots are told
   abbrev pub TellsLives : Facts → Trail → Type 0
-  TellsLives f tr = (n : ℕ) (k : Kept) → node_at f n ≡ Some k → (l : Live) → live_at k l.me ≡ Some l → l.parent ≢ None → (s : Seen) × (seen_at tr l.me ≡ Some s) × IsToldLive l s
+  TellsLives f tr = (n : ℕ) (k : NodeState) → node_at f n ≡ Some k → (l : Live) → live_at k l.me ≡ Some l → l.parent ≢ None → (s : Seen) × (seen_at tr l.me ≡ Some s) × IsToldLive l s
 
   abbrev pub Lower : List Happening → Type 0
   Lower hs = TellsLives (f_at t hs) (tr_at t hs)
@@ -109,7 +109,7 @@ module _ (t : History) (whole : IsLawfulRun t) where
     abbrev pub may : MayHappen t.places t.commands f0 (happenings.Turn u)
     may = may_of t whole hs (happenings.Turn u) rest is
 
-    abbrev k : Kept
+    abbrev k : NodeState
     k = may.0
 
     abbrev p : Place
@@ -120,7 +120,7 @@ module _ (t : History) (whole : IsLawfulRun t) where
 
     -- ---- one that is live after the turn
 
-    module _ (n : ℕ) (j : Kept) (up : node_at f1 n ≡ Some j) (l : Live) (live : live_at j l.me ≡ Some l) (below : l.parent ≢ None) where
+    module _ (n : ℕ) (j : NodeState) (up : node_at f1 n ≡ Some j) (l : Live) (live : live_at j l.me ≡ Some l) (below : l.parent ≢ None) where
       no_exit : exit (events_of s1) l.me ≡ None
       no_exit = all_found (λ (y : Live). exit (events_of s1) y.me ≡ None) live_id j.lives l.me l (nodes_are_as_events s1 lawful1 n j (ap (λ f. node_at f n) (one_on t hs (happenings.Turn u)) ∙ up)).0 live
 
@@ -196,7 +196,7 @@ module _ (t : History) (whole : IsLawfulRun t) where
 
     -- ---- another node
 
-    elsewhere : (n : ℕ) (j : Kept) → u.node ≢ n → node_at f1 n ≡ Some j → (l : Live) → live_at j l.me ≡ Some l → l.parent ≢ None → (s : Seen) × (seen_at tr1 l.me ≡ Some s) × IsToldLive l s
+    elsewhere : (n : ℕ) (j : NodeState) → u.node ≢ n → node_at f1 n ≡ Some j → (l : Live) → live_at j l.me ≡ Some l → l.parent ≢ None → (s : Seen) × (seen_at tr1 l.me ≡ Some s) × IsToldLive l s
     elsewhere n j other up l live below =
         let before : node_at f0 n ≡ Some j = sym (turn_elsewhere t.places t.commands f0 (run_stands s0 lawful0).0.even u n other).0 ∙ up in
         let own : l.me.node ≡ n = all_found (λ l. l.me.node ≡ n) live_id j.lives l.me l (ids_name_their_node s0 lawful0 n j before).lives live in
@@ -293,7 +293,7 @@ module _ (t : History) (whole : IsLawfulRun t) where
             -- a message comes to it
             hears : (z : Live) → live_at k z.me ≡ Some z → z.me ≡ l.me → (s : Seen) → s.me ≡ l.me → IsToldLive z s → (m : Msg) → u.input ≡ inputs.Message m → m.to ≡ l.me → Heard s m l
             hears z z_live me s me_s was m came to =
-                let k1 : Kept = heard k (inputs.Message m) in
+                let k1 : NodeState = heard k (inputs.Message m) in
                 let x : Branch = record { live = z; work = work_at k1 z.me } in
                 let found : branch_at k1 z.me ≡ Some x = ap (with_work k1) z_live in
                 let found0 : branch_at k z.me ≡ Some (record { live = z; work = work_at k z.me }) = ap (with_work k) z_live in

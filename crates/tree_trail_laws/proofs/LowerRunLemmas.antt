@@ -5,7 +5,7 @@ use Rattle.tran_ids.proofs.ListedLemmas.{item_is}
 use Rattle.tran_ids.proofs.NumberedLemmas.{set_or_before, set_found}
 use Rattle.node_rules.specs.Data.{BranchId, Live}
 use Rattle.node_rules.specs.Words.{numbered, set_numbered}
-use Rattle.node_rules.specs.Kept.{Kept, live_id, live_at}
+use Rattle.node_rules.specs.NodeState.{NodeState, live_id, live_at}
 use Rattle.node_rules.specs.Turn.{start_of}
 use Rattle.run_rules.specs.Branches.{Dropped, Seen, Trail, seen_id, seen_at, is_live, is_live_at}
 use Rattle.run_rules.specs.Data.{Happening}
@@ -30,8 +30,8 @@ module _ (t : History) (whole : IsLawfulRun t) where
   module _ (hs : List Happening) (h : Happening) (now : Lower t whole hs) where
     -- the nodes that are up were so, and what is told of their branches is so
     pub same_lower : (g : Facts) (tr : Trail) → facts_after t.places t.commands (f_at t hs) h ≡ g → trail_after t.places (f_at t hs) (tr_at t hs) h ≡ tr
-        → ((n : ℕ) (j : Kept) → node_at g n ≡ Some j → (l : Live) → live_at j l.me ≡ Some l → node_at (f_at t hs) n ≡ Some j)
-        → ((n : ℕ) (j : Kept) → node_at g n ≡ Some j → (l : Live) → live_at j l.me ≡ Some l → (s : Seen) → seen_at (tr_at t hs) l.me ≡ Some s → IsToldLive l s → (s : Seen) × (seen_at tr l.me ≡ Some s) × IsToldLive l s)
+        → ((n : ℕ) (j : NodeState) → node_at g n ≡ Some j → (l : Live) → live_at j l.me ≡ Some l → node_at (f_at t hs) n ≡ Some j)
+        → ((n : ℕ) (j : NodeState) → node_at g n ≡ Some j → (l : Live) → live_at j l.me ≡ Some l → (s : Seen) → seen_at (tr_at t hs) l.me ≡ Some s → IsToldLive l s → (s : Seen) × (seen_at tr l.me ≡ Some s) × IsToldLive l s)
         → Lower t whole (hs ++ h ∷ [])
     same_lower g tr facts trail still told =
         subst (λ f. TellsLives t whole f (tr_at t (hs ++ h ∷ []))) (sym (one_on t hs h ∙ facts))
@@ -48,7 +48,7 @@ module _ (t : History) (whole : IsLawfulRun t) where
       by true = refl
       by false = refl
 
-  pub not_stopped : (nodes : List (Option Kept)) (n : ℕ) (j : Kept) → flat (numbered (set_numbered nodes n None) n) ≡ Some j → ⊥
+  pub not_stopped : (nodes : List (Option NodeState)) (n : ℕ) (j : NodeState) → flat (numbered (set_numbered nodes n None) n) ≡ Some j → ⊥
   not_stopped nodes n j up = elim (set_or_before nodes n n None) [
     | inl before ↦ (let there : numbered nodes n ≡ Some (Some j) = flat_some (numbered nodes n) j (sym (ap flat before) ∙ up) in
         let none : flat (numbered (set_numbered nodes n None) n) ≡ None = ap flat (set_found nodes n (Some j) None there) in
@@ -56,7 +56,7 @@ module _ (t : History) (whole : IsLawfulRun t) where
     | inr gone ↦ (let none : flat (numbered (set_numbered nodes n None) n) ≡ None = ap flat gone.1 in absurd (cc (none, up)))
   ]
 
-  pub stop_still : (f : Facts) (n m : ℕ) (j : Kept) → flat (numbered (set_numbered f.nodes n None) m) ≡ Some j → node_at f m ≡ Some j
+  pub stop_still : (f : Facts) (n m : ℕ) (j : NodeState) → flat (numbered (set_numbered f.nodes n None) m) ≡ Some j → node_at f m ≡ Some j
   stop_still f n m j up = elim (set_or_before f.nodes n m None) [
     | inl before ↦ sym (ap flat before) ∙ up
     | inr gone ↦ (let none : flat (numbered (set_numbered f.nodes n None) m) ≡ None = ap flat gone.1 in absurd (cc (none, up)))

@@ -9,7 +9,7 @@ use Rattle.node_rules.specs.Rows.{same_value}
 use Rattle.node_rules.specs.Meaning.{examined}
 use Rattle.node_rules.specs.Names.{ref_of}
 use Rattle.node_rules.specs.Records.{nothing_stored, stored_by}
-use Rattle.node_rules.specs.Kept.{Kept, Branch, Deed, live_id, live_at}
+use Rattle.node_rules.specs.NodeState.{NodeState, Branch, Deed, live_id, live_at}
 use Rattle.node_rules.specs.Prepare.{own_changes}
 use Rattle.node_rules.specs.Statement.{Ran, Refuses, Reads, Writes, ran, after_run, answer_of_run, owns_after, view}
 use Rattle.node_rules.specs.Turn.{turn_of, heard, deed_of, outcome_of}
@@ -77,13 +77,13 @@ module _ (t : History) (whole : IsLawfulRun t) where
     abbrev may : MayHappen t.places t.commands f0 (happenings.Turn u)
     may = turns.may t whole hs u more is roots now
 
-    abbrev k : Kept
+    abbrev k : NodeState
     k = (turns.may t whole hs u more is roots now).0
 
     abbrev p : Place
     p = place_at t.places u.node
 
-    abbrev k1 : Kept
+    abbrev k1 : NodeState
     k1 = heard k u.input
 
     abbrev d : Deed
@@ -105,7 +105,7 @@ module _ (t : History) (whole : IsLawfulRun t) where
     -- ---- a run
 
     module _ (has : HasRun p u.input k1 d) where
-      abbrev j : Kept
+      abbrev j : NodeState
       j = has.at
 
       abbrev x : Branch

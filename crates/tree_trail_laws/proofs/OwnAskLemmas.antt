@@ -13,7 +13,7 @@ use Rattle.node_rules.specs.Data.inputs
 use Rattle.node_rules.specs.Data.kinds
 use Rattle.node_rules.specs.Words.{same_text}
 use Rattle.node_rules.specs.Inputs.{IsCall}
-use Rattle.node_rules.specs.Kept.{Kept, Stored, Branch}
+use Rattle.node_rules.specs.NodeState.{NodeState, Stored, Branch}
 use Rattle.node_rules.specs.Names.{ref_named, ref_of, target_of, Runs_here, Through, Nowhere_to, way_edge, way_target, way_named, way_of}
 use Rattle.node_rules.specs.Calls.{admit, runs_here, answer_says, answer_ends}
 use Rattle.node_rules.specs.Records.{applied, nothing_stored, stored_by}
@@ -69,7 +69,7 @@ module _ (tr : Trail) (n : ℕ) where
   not_lower a = grind (arith, nat_tests)
 
   -- nor where a call comes once more
-  pub again_asked : (k : Kept) (input : Input) (again : Repeats k input) (b : Seen) → seen_at tr again.0.live.me ≡ Some b → b.taken ≡ last_of k again.0.live.me → asks tr n input ≡ None
+  pub again_asked : (k : NodeState) (input : Input) (again : Repeats k input) (b : Seen) → seen_at tr again.0.live.me ≡ Some b → b.taken ≡ last_of k again.0.live.me → asks tr n input ≡ None
   again_asked k input again b at taken =
       let last : b.taken ≡ again.2 = taken ∙ (sym (found_calls k again.0 again.7) ∙ again.8) in
       ap (asks tr n) again.6.is ∙ branch_asks again.2 again.5 (seen_at tr again.0.live.me) b at (subst (λ c. nat_lt b.taken c ≡ false) last (not_lower b.taken))
@@ -78,11 +78,11 @@ module _ (tr : Trail) (n : ℕ) where
 
 module _ (tr : Trail) (n : ℕ) (input : Input) where
   -- the root of the session that calls
-  abbrev pub RootsAre : Kept → Type 0
+  abbrev pub RootsAre : NodeState → Type 0
   RootsAre k = (m : ℕ) (s : Stmt) (b : BranchId) → IsCall input m s → IsOfRows s → HasRoot k m b → (r : Seen) × (root_at tr n m ≡ Some r) × (r.me ≡ b)
 
   -- a statement that came to a branch is asked of it
-  pub asked_so : (k : Kept) {x : Branch} {s : Stmt} {given : ℕ} → Asked k input x s given → RootsAre k
+  pub asked_so : (k : NodeState) {x : Branch} {s : Stmt} {given : ℕ} → Asked k input x s given → RootsAre k
       → ((b : Seen) × (seen_at tr x.live.me ≡ Some b) × (b.me ≡ x.live.me) × (b.exit ≡ None) × (b.taken ≡ last_of k x.live.me))
       → (b : Seen) × (asks tr n input ≡ Some (asking b s)) × (b.me ≡ x.live.me)
   unfolding admit
@@ -136,7 +136,7 @@ durable_stored s [] = refl
 durable_stored s (r ∷ rs) = durable_stored (applied s r) rs
 
 -- the table is that of the records
-pub table_so : (f : Facts) (n : ℕ) (k : Kept) (p : Place) (l : Live) (given : ℕ) (s : Stmt) (t : Table) → StoresOf (records_at f n) k → way_of p k.stored.durable l given s ≡ Runs_here t
+pub table_so : (f : Facts) (n : ℕ) (k : NodeState) (p : Place) (l : Live) (given : ℕ) (s : Stmt) (t : Table) → StoresOf (records_at f n) k → way_of p k.stored.durable l given s ≡ Runs_here t
     → table_by f n (bare_name (ref_of s)) ≡ Some t
 table_so f n k p l given s t stored way =
     let tables : k.stored.durable.tables ≡ (durable (records_at f n)).tables = ap (λ (x : Stored). x.durable.tables) stored ∙ ap (λ d. d.tables) (durable_stored nothing_stored (records_at f n)) in
@@ -162,7 +162,7 @@ module _ (f : Facts) (tr : Trail) (u : Turn) where
       ∙ (ap (run_by f tr u.node) asked ∙ ap (run_at_table tr.moment (asking b s)) found)
 
 -- what is answered to it
-pub run_answered : (p : Place) (k : Kept) (x : Branch) (s : Stmt) (t : Table) → answered_by (Some (outcome_of (runs_here p k x s t))) ≡ Some (answer_of_run (ran p k x.live.me s t))
+pub run_answered : (p : Place) (k : NodeState) (x : Branch) (s : Stmt) (t : Table) → answered_by (Some (outcome_of (runs_here p k x s t))) ≡ Some (answer_of_run (ran p k x.live.me s t))
 run_answered p k x s t = by x.live.parent
   where
     by : (o : Option BranchId)

@@ -13,7 +13,7 @@ use Rattle.node_rules.specs.Data.kinds
 use Rattle.node_rules.specs.Words.{same, item_at, put_item, drop_item}
 use Rattle.node_rules.specs.Inputs.{Came}
 use Rattle.node_rules.specs.Names.{Way, Runs_here, Over, Through, Nowhere_to, way_of}
-use Rattle.node_rules.specs.Kept.{Kept, Branch, Deed, live_id, work_id, work_or, live_at, work_at, with_work, branch_at}
+use Rattle.node_rules.specs.NodeState.{NodeState, Branch, Deed, live_id, work_id, work_or, live_at, work_at, with_work, branch_at}
 use Rattle.node_rules.specs.Prepare.{act_turn}
 use Rattle.node_rules.specs.Calls.{admit, takes_call, goes, exec_by, on_exec}
 use Rattle.node_rules.proofs.LiveLemmas.{work_is}
@@ -24,7 +24,7 @@ use Rattle.node_rules.proofs.Steps.{Asked, Step}
 abbrev pub last_in : List Work → BranchId → ℕ
 last_in ws b = (work_or b (item_at work_id ws b)).came.last_call
 
-abbrev pub last_of : Kept → BranchId → ℕ
+abbrev pub last_of : NodeState → BranchId → ℕ
 last_of k b = last_in k.works b
 
 -- ---- the calls of a branch
@@ -49,7 +49,7 @@ left_calls ls ws c b l live = by (same c b) refl
     by false other = ap (λ o. (work_or b o).came.last_call) (drop_leaves work_id ws c b other)
 
 -- the calls of a branch that is found are its own
-pub found_calls : (k : Kept) (x : Branch) → branch_at k x.live.me ≡ Some x → x.work.came.last_call ≡ last_of k x.live.me
+pub found_calls : (k : NodeState) (x : Branch) → branch_at k x.live.me ≡ Some x → x.work.came.last_call ≡ last_of k x.live.me
 found_calls k x found = by (live_at k x.live.me) refl found
   where
     by : (o : Option Live) → live_at k x.live.me ≡ o → with_work k o ≡ Some x → x.work.came.last_call ≡ last_of k x.live.me
@@ -62,16 +62,16 @@ found_calls k x found = by (live_at k x.live.me) refl found
 
 module _ (p : Place) (input : Input) (b : BranchId) (not_to : (from : BranchId) (call given : ℕ) (advice : Option Advice) (s : Stmt) → Came input from b (kinds.Exec call given advice s) → ⊥) where
   -- the number that its branch took stays where the branch was asked by a call
-  asked_calls : (k : Kept) {x : Branch} {s : Stmt} {given : ℕ} → Asked k input x s given → x.work.branch ≡ b → x.work.came.last_call ≡ last_of k b
+  asked_calls : (k : NodeState) {x : Branch} {s : Stmt} {given : ℕ} → Asked k input x s given → x.work.branch ≡ b → x.work.came.last_call ≡ last_of k b
   asked_calls k (steps.By_call n x s call rows has code found) me = found_calls k x found ∙ ap (last_of k) (sym (work_is k x.live.me x found) ∙ me)
   asked_calls k (steps.By_exec x from call given advice s came found runs) me =
       let mine : x.live.me ≡ b = sym (work_is k x.live.me x found) ∙ me in
       absurd (not_to from call given advice s (subst (λ c. Came input from c (kinds.Exec call given advice s)) mine came))
 
-  found_same : (k : Kept) (x : Branch) → branch_at k x.live.me ≡ Some x → x.work.branch ≡ b → x.work.came.last_call ≡ last_of k b
+  found_same : (k : NodeState) (x : Branch) → branch_at k x.live.me ≡ Some x → x.work.branch ≡ b → x.work.came.last_call ≡ last_of k b
   found_same k x found me = found_calls k x found ∙ ap (last_of k) (sym (work_is k x.live.me x found) ∙ me)
 
-  act_calls : (k : Kept) (l : Live) (q : Bool) (a : Act) (y : Live) → live_at (act_turn k l q a).after b ≡ Some y → last_of (act_turn k l q a).after b ≡ last_of k b
+  act_calls : (k : NodeState) (l : Live) (q : Bool) (a : Act) (y : Live) → live_at (act_turn k l q a).after b ≡ Some y → last_of (act_turn k l q a).after b ≡ last_of k b
   act_calls k l q acts.Rest y live = refl
   act_calls k l q acts.AskDown y live = refl
   act_calls k l q acts.SayReady y live = refl
@@ -82,7 +82,7 @@ module _ (p : Place) (input : Input) (b : BranchId) (not_to : (from : BranchId) 
   act_calls k l q acts.Finish y live = left_calls k.lives k.works l.me b y live
   act_calls k l q acts.Abandon y live = left_calls k.lives k.works l.me b y live
 
-  pub calls_on : {k : Kept} {d : Deed} → Step p input k d → (y : Live) → live_at d.after b ≡ Some y → last_of d.after b ≡ last_of k b
+  pub calls_on : {k : NodeState} {d : Deed} → Step p input k d → (y : Live) → live_at d.after b ≡ Some y → last_of d.after b ≡ last_of k b
   calls_on (steps.Begins n s call rows range none step) y live = calls_on step y live
   calls_on (steps.Pends n l given call has found code step) y live = calls_on step y live
   calls_on (steps.Lets_reads_go l comment q found begins step) y live = calls_on step y live
@@ -117,7 +117,7 @@ not_above a c is = grind (arith, nat_tests, is)
 above : (a c : ℕ) → nat_lt a c ≡ true → max a c ≡ c
 above a c is = grind (arith, nat_tests, is)
 
-module _ (p : Place) (k : Kept) (x : Branch) (found : branch_at k x.live.me ≡ Some x) (from : BranchId) (call given : ℕ) (advice : Option Advice) (s : Stmt) where
+module _ (p : Place) (k : NodeState) (x : Branch) (found : branch_at k x.live.me ≡ Some x) (from : BranchId) (call given : ℕ) (advice : Option Advice) (s : Stmt) where
   took : (w : Work) → w.branch ≡ x.live.me → last_in (put_item work_id k.works w) x.live.me ≡ w.came.last_call
   took w me = ap (λ o. (work_or x.live.me o).came.last_call) (subst (λ c. item_at work_id (put_item work_id k.works w) c ≡ Some w) me (put_found work_id k.works w))
 

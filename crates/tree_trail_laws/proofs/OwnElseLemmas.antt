@@ -8,7 +8,7 @@ use Rattle.node_rules.specs.Data.{Table, Stmt, BranchId, Kind, Input, Answer}
 use Rattle.node_rules.specs.Data.inputs
 use Rattle.node_rules.specs.Data.kinds
 use Rattle.node_rules.specs.Words.{same}
-use Rattle.node_rules.specs.Kept.{Kept}
+use Rattle.node_rules.specs.NodeState.{NodeState}
 use Rattle.node_rules.specs.Names.{ref_of}
 use Rattle.run_rules.specs.Branches.{Run, Seen, Trail, seen_id, seen_at, is_live, is_live_at, is_root_of, root_at}
 use Rattle.run_rules.specs.Data.{Took, Turn, Entry}
@@ -25,7 +25,7 @@ abbrev pub IsHere : ℕ → Input → Type 0
 IsHere n (inputs.Message m) = m.to.node ≡ n
 IsHere n _ = Unit {0}
 
-pub comes_here : (f : Facts) (k : Kept) (n : ℕ) (input : Input) (took : Option Took) → Comes f k n input took → IsHere n input
+pub comes_here : (f : Facts) (k : NodeState) (n : ℕ) (input : Input) (took : Option Took) → Comes f k n input took → IsHere n input
 comes_here f k n (inputs.Message m) (Some t) comes = comes.1.here
 comes_here f k n (inputs.Message m) None comes = absurd comes
 comes_here f k n (inputs.Call m s) took comes = tt

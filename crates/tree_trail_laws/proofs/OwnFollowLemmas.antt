@@ -5,7 +5,7 @@ use Rattle.tran_ids.proofs.ListedLemmas.{item_is}
 use Rattle.tran_ids.proofs.NumberedLemmas.{set_or_before}
 use Rattle.node_rules.specs.Data.{Answer, BranchId, Live}
 use Rattle.node_rules.specs.Words.{same, item_at}
-use Rattle.node_rules.specs.Kept.{Kept, Deed, live_id, live_at}
+use Rattle.node_rules.specs.NodeState.{NodeState, Deed, live_id, live_at}
 use Rattle.node_rules.specs.Prepare.{own_changes}
 use Rattle.node_rules.specs.Turn.{turn_of, start_of, deed_of}
 use Rattle.run_rules.specs.Branches.{Dropped, Run, Seen, Trail, seen_id, seen_at, own_at, own_of, is_live_at}
@@ -37,13 +37,13 @@ use Rattle.tree_trail_laws.proofs.SeenLemmas.{begun, turned, seen_begun, seen_tu
 use Rattle.tree_trail_laws.proofs.StartLemmas.{started_none, none_made}
 
 -- What is told of one live branch.
-pub record IsSo (tr : Trail) (k : Kept) (b : BranchId) : Type 0 where
+pub record IsSo (tr : Trail) (k : NodeState) (b : BranchId) : Type 0 where
   pub own : own_at tr b ≡ own_changes k b
   pub calls : taken_of (seen_at tr b) ≡ last_of k b
 
 -- of all live branches
 abbrev pub AreSo : Facts → Trail → Type 0
-AreSo f tr = (n : ℕ) (k : Kept) → node_at f n ≡ Some k → (l : Live) → live_at k l.me ≡ Some l → IsSo tr k l.me
+AreSo f tr = (n : ℕ) (k : NodeState) → node_at f n ≡ Some k → (l : Live) → live_at k l.me ≡ Some l → IsSo tr k l.me
 
 both : (f : Facts) (tr : Trail) → AreSo f tr → Owns f tr
 both f tr all = record { owns = λ n k up l live. (all n k up l live).own; calls = λ n k up l live. (all n k up l live).calls }
@@ -109,7 +109,7 @@ module _ (t : History) (whole : IsLawfulRun t) (roots : AtEach (λ places f tr h
     here = comes_here f0 may.0 u.node u.input u.took may.1.comes
 
     -- another node
-    elsewhere : (n : ℕ) (j : Kept) → u.node ≢ n → node_at f1 n ≡ Some j → (l : Live) → live_at j l.me ≡ Some l → IsSo tr1 j l.me
+    elsewhere : (n : ℕ) (j : NodeState) → u.node ≢ n → node_at f1 n ≡ Some j → (l : Live) → live_at j l.me ≡ Some l → IsSo tr1 j l.me
     elsewhere n j other up l live =
         let s0 : History = so_far t hs in
         let lawful0 : IsLawfulRun s0 = turns.lawful0 t whole hs u more is r0 now in
@@ -166,7 +166,7 @@ module _ (t : History) (whole : IsLawfulRun t) (roots : AtEach (λ places f tr h
 
   module _ (hs : List Happening) (h : Happening) (now : Owns (f_at t hs) (tr_at t hs)) where
     same_owns : (g : Facts) (tr : Trail) → facts_after t.places t.commands (f_at t hs) h ≡ g → trail_after t.places (f_at t hs) (tr_at t hs) h ≡ tr
-        → ((n : ℕ) (j : Kept) → node_at g n ≡ Some j → (l : Live) → live_at j l.me ≡ Some l → node_at (f_at t hs) n ≡ Some j)
+        → ((n : ℕ) (j : NodeState) → node_at g n ≡ Some j → (l : Live) → live_at j l.me ≡ Some l → node_at (f_at t hs) n ≡ Some j)
         → ((b : BranchId) → (own_at tr b ≡ own_at (tr_at t hs) b) × (taken_of (seen_at tr b) ≡ taken_of (seen_at (tr_at t hs) b)))
         → Owns (f_at t (hs ++ h ∷ [])) (tr_at t (hs ++ h ∷ []))
     same_owns g tr facts trail still told =

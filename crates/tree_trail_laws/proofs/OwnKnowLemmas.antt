@@ -7,7 +7,7 @@ use Rattle.node_rules.specs.Data.{Answer, Change, Table, Stmt, BranchId, Keyed, 
 use Rattle.node_rules.specs.Data.inputs
 use Rattle.node_rules.specs.Words.{same}
 use Rattle.node_rules.specs.Rows.{changes_of, set_over}
-use Rattle.node_rules.specs.Kept.{Kept, own_id, sets_of, sets_at}
+use Rattle.node_rules.specs.NodeState.{NodeState, own_id, sets_of, sets_at}
 use Rattle.node_rules.specs.Prepare.{own_changes}
 use Rattle.node_rules.specs.Statement.{Ran, Refuses, Reads, Writes, answer_of_run, owns_after, view}
 use Rattle.node_rules.specs.Turn.{heard}
@@ -22,7 +22,7 @@ use Rattle.tree_trail_laws.proofs.OwnRunLemmas.{IsOfBook, IsMeantBy}
 use Rattle.tree_trail_laws.proofs.OwnStepLemmas.{From, Itself, Begun}
 
 -- A branch is told to be live, with the changes that a node keeps of it and the greatest call number that it took.
-pub record Knows (k : Kept) (tr : Trail) (b : BranchId) : Type 0 where
+pub record Knows (k : NodeState) (tr : Trail) (b : BranchId) : Type 0 where
   pub seen : Seen
   pub at : seen_at tr b ≡ Some seen
   pub live : seen.exit ≡ None
@@ -30,25 +30,25 @@ pub record Knows (k : Kept) (tr : Trail) (b : BranchId) : Type 0 where
   pub taken : seen.taken ≡ last_of k b
 
 -- a transaction that begins changes nothing of that
-pub from_knows : (p : Place) (input : Input) {k j : Kept} → From p input k j → (tr : Trail) (b : BranchId) → Knows k tr b → Knows j tr b
+pub from_knows : (p : Place) (input : Input) {k j : NodeState} → From p input k j → (tr : Trail) (b : BranchId) → Knows k tr b → Knows j tr b
 from_knows p input (Itself k) tr b it = it
 from_knows p input (Begun n s call rows new from) tr b it = from_knows p input from tr b (record { seen = it.seen; at = it.at; live = it.live; own = it.own; taken = it.taken })
 
-pub from_book : (p : Place) (input : Input) {k j : Kept} → From p input k j → (book : List Entry) (n : ℕ) → IsOfBook book n k → IsOfBook book n j
+pub from_book : (p : Place) (input : Input) {k j : NodeState} → From p input k j → (book : List Entry) (n : ℕ) → IsOfBook book n k → IsOfBook book n j
 from_book p input (Itself k) book n it = it
 from_book p input (Begun m s call rows new from) book n it =
     from_book p input from book n (record { doubts = it.doubts; rows = it.rows; book_fits = it.book_fits; order = it.order; fits = (it.fits.0, it.fits.1); keys = it.keys })
 
-pub from_stored : (p : Place) (input : Input) {k j : Kept} → From p input k j → k.stored ≡ j.stored
+pub from_stored : (p : Place) (input : Input) {k j : NodeState} → From p input k j → k.stored ≡ j.stored
 from_stored p input (Itself k) = refl
 from_stored p input (Begun n s call rows new from) = from_stored p input from
 
-pub from_owns : (p : Place) (input : Input) {k j : Kept} → From p input k j → (b : BranchId) → own_changes k b ≡ own_changes j b
+pub from_owns : (p : Place) (input : Input) {k j : NodeState} → From p input k j → (b : BranchId) → own_changes k b ≡ own_changes j b
 from_owns p input (Itself k) b = refl
 from_owns p input (Begun n s call rows new from) b = from_owns p input from b
 
 -- nor does a clock that rises
-module _ (k : Kept) where
+module _ (k : NodeState) where
   pub heard_knows : (input : Input) (tr : Trail) (b : BranchId) → Knows k tr b → Knows (heard k input) tr b
   heard_knows (inputs.Message m) tr b it = record { seen = it.seen; at = it.at; live = it.live; own = it.own; taken = it.taken }
   heard_knows (inputs.Call n s) tr b it = it
@@ -86,7 +86,7 @@ module _ (book : List Entry) (s : Seen) where
   own_other r a other = ap (λ q. own_with (q && is_accepted a) book s.own (Some r)) other
 
 -- with its own, an accepted one adds its changes, as at the node
-module _ (book : List Entry) (n : ℕ) (j : Kept) (b : BranchId) (s : Stmt) (t : Table) (r : Run) (branch : r.branch ≡ b) (statement : r.statement ≡ s) (table : r.table ≡ t) where
+module _ (book : List Entry) (n : ℕ) (j : NodeState) (b : BranchId) (s : Stmt) (t : Table) (r : Run) (branch : r.branch ≡ b) (statement : r.statement ≡ s) (table : r.table ≡ t) where
   abbrev rows : List Keyed
   rows = view j b t.name
 

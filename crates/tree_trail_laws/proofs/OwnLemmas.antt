@@ -8,7 +8,7 @@ use Rattle.node_rules.specs.Data.records
 use Rattle.node_rules.specs.Data.stmts
 use Rattle.node_rules.specs.Inputs.{Came}
 use Rattle.node_rules.specs.Words.{item_at}
-use Rattle.node_rules.specs.Kept.{live_id, live_at}
+use Rattle.node_rules.specs.NodeState.{live_id, live_at}
 use Rattle.run_key_laws.specs.ChangedLaws.{changes_at}
 use Rattle.run_rules.specs.Data.{Turn, Happening}
 use Rattle.run_rules.specs.Data.happenings

@@ -12,7 +12,7 @@ use Rattle.node_rules.specs.Data.stmts
 use Rattle.node_rules.specs.declared.session.Session.{Session}
 use Rattle.node_rules.specs.Words.{same, item_at, put_item, drop_item}
 use Rattle.node_rules.specs.Inputs.{IsSession, IsCall}
-use Rattle.node_rules.specs.Kept.{Kept, Branch, Deed, live_id, live_at}
+use Rattle.node_rules.specs.NodeState.{NodeState, Branch, Deed, live_id, live_at}
 use Rattle.node_rules.specs.Calls.{next_child, strength_of, with_edge, hears_reply}
 use Rattle.node_rules.specs.Client.{new_root, fresh_root, begun_by}
 use Rattle.node_rules.specs.Prepare.{ready, act_turn}
@@ -31,8 +31,8 @@ use Rattle.tree_trail_laws.proofs.OwnStepLemmas.{From, Itself, Begun, BringsNone
 -- ---- lives
 
 -- A root that begins with a statement that a session without a transaction calls for.
-pub record NewRoot (p : Place) (input : Input) (k : Kept) (b : BranchId) : Type 0 where
-  pub at : Kept
+pub record NewRoot (p : Place) (input : Input) (k : NodeState) (b : BranchId) : Type 0 where
+  pub at : NodeState
   pub from : From p input k at
   pub session : ℕ
   pub statement : Stmt
@@ -42,16 +42,16 @@ pub record NewRoot (p : Place) (input : Input) (k : Kept) (b : BranchId) : Type 
   pub is : b ≡ new_root p at session
 
 module _ (p : Place) (input : Input) (b : BranchId) where
-  abbrev pub IsOfThese : Kept → Live → Type 0
+  abbrev pub IsOfThese : NodeState → Live → Type 0
   IsOfThese k l = ((z : Live) × (live_at k b ≡ Some z)) ⊎ (NewRoot p input k b ⊎ (l.parent ≢ None))
 
-  put_lives : (k : Kept) (y l : Live) → ((z : Live) × (live_at k y.me ≡ Some z)) → item_at live_id (put_item live_id k.lives y) b ≡ Some l → (z : Live) × (live_at k b ≡ Some z)
+  put_lives : (k : NodeState) (y l : Live) → ((z : Live) × (live_at k y.me ≡ Some z)) → item_at live_id (put_item live_id k.lives y) b ≡ Some l → (z : Live) × (live_at k b ≡ Some z)
   put_lives k y l there live = elim (put_or_before live_id k.lives y b) [
     | inl before ↦ (l, sym before ∙ live)
     | inr new ↦ (there.0, subst (λ c. live_at k c ≡ Some there.0) new.0 there.1)
   ]
 
-  left_lives : (k : Kept) (c : BranchId) (l : Live) → item_at live_id (drop_item live_id k.lives c) b ≡ Some l → (z : Live) × (live_at k b ≡ Some z)
+  left_lives : (k : NodeState) (c : BranchId) (l : Live) → item_at live_id (drop_item live_id k.lives c) b ≡ Some l → (z : Live) × (live_at k b ≡ Some z)
   left_lives k c l live = by (same c b) refl
     where
       by : (q : Bool) → same c b ≡ q → (z : Live) × (live_at k b ≡ Some z)
@@ -61,11 +61,11 @@ module _ (p : Place) (input : Input) (b : BranchId) where
           absurd (cc (gone, live))
       by false other = (l, sym (drop_leaves live_id k.lives c b other) ∙ live)
 
-  asked_lives : (k : Kept) {x : Branch} {s : Stmt} {given : ℕ} → Asked k input x s given → (z : Live) × (live_at k x.live.me ≡ Some z)
+  asked_lives : (k : NodeState) {x : Branch} {s : Stmt} {given : ℕ} → Asked k input x s given → (z : Live) × (live_at k x.live.me ≡ Some z)
   asked_lives k (steps.By_call n x s call rows has code found) = (x.live, live_so k x.live.me x found)
   asked_lives k (steps.By_exec x from call given advice s came found runs) = (x.live, live_so k x.live.me x found)
 
-  act_lives : (k : Kept) (l : Live) (q : Bool) (a : Act) (y : Live) → ((z : Live) × (live_at k l.me ≡ Some z)) → live_at (act_turn k l q a).after b ≡ Some y → (z : Live) × (live_at k b ≡ Some z)
+  act_lives : (k : NodeState) (l : Live) (q : Bool) (a : Act) (y : Live) → ((z : Live) × (live_at k l.me ≡ Some z)) → live_at (act_turn k l q a).after b ≡ Some y → (z : Live) × (live_at k b ≡ Some z)
   act_lives k l q acts.Rest y there live = put_lives k l y there live
   act_lives k l q acts.AskDown y there live = put_lives k l y there live
   act_lives k l q acts.SayReady y there live = put_lives k (ready l) y there live
@@ -76,7 +76,7 @@ module _ (p : Place) (input : Input) (b : BranchId) where
   act_lives k l q acts.Finish y there live = left_lives k l.me y live
   act_lives k l q acts.Abandon y there live = left_lives k l.me y live
 
-  begun_lives : (k : Kept) (n : ℕ) (s : Stmt) → IsCall input n s → IsOfRows s → (session_at k.sessions n).root ≡ None → (l : Live) → IsOfThese (begun_by p k n None) l → IsOfThese k l
+  begun_lives : (k : NodeState) (n : ℕ) (s : Stmt) → IsCall input n s → IsOfRows s → (session_at k.sessions n).root ≡ None → (l : Live) → IsOfThese (begun_by p k n None) l → IsOfThese k l
   begun_lives k n s call rows new l (inl there) = elim (found_last live_id k.lives (fresh_root p k (new_root p k n)) b there.0 there.1) [
     | inl before ↦ inl (there.0, before)
     | inr last ↦ inr (inl (record {
@@ -103,19 +103,19 @@ module _ (p : Place) (input : Input) (b : BranchId) where
   begun_lives k n s call rows new l (inr (inr below)) = inr (inr below)
 
   -- no root begins where no statement came
-  not_new : (j : Kept) → BringsNone input → NewRoot p input j b → ⊥
+  not_new : (j : NodeState) → BringsNone input → NewRoot p input j b → ⊥
   not_new j none root =
       let some : not (is_of_rows root.statement) ≡ true = subst BringsNone root.call none in
       let row : is_of_rows root.statement ≡ true = of_rows root.statement root.rows in
       absurd (cc (some, row))
 
   -- changes before a deed that leave the live branches
-  past : (k j : Kept) (l : Live) → BringsNone input → (((z : Live) × (live_at j b ≡ Some z)) → (z : Live) × (live_at k b ≡ Some z)) → IsOfThese j l → IsOfThese k l
+  past : (k j : NodeState) (l : Live) → BringsNone input → (((z : Live) × (live_at j b ≡ Some z)) → (z : Live) × (live_at k b ≡ Some z)) → IsOfThese j l → IsOfThese k l
   past k j l none same (inl there) = inl (same there)
   past k j l none same (inr (inl root)) = absurd (not_new j none root)
   past k j l none same (inr (inr below)) = inr (inr below)
 
-  pub lives_on : {k : Kept} {d : Deed} → Step p input k d → (l : Live) → live_at d.after b ≡ Some l → IsOfThese k l
+  pub lives_on : {k : NodeState} {d : Deed} → Step p input k d → (l : Live) → live_at d.after b ≡ Some l → IsOfThese k l
   lives_on (steps.Begins {k = k} n s call rows range new step) l live = begun_lives k n s call rows new l (lives_on step l live)
   lives_on (steps.Pends {k = k} n x given call has found code step) l live = past k _ l (called_none input n (stmts.Commit given) call refl) (λ there. there) (lives_on step l live)
   lives_on (steps.Lets_reads_go {k = k} x comment q found begins step) l live = past k _ l (collects_none input begins) (λ there. there) (lives_on step l live)
@@ -153,9 +153,9 @@ root_there ss n b fits range =
     let there = item_there ss n range.0 (omega (arith, range.1, fits.many)) in
     ap (λ o. (unwrap_or o fresh_session).root) (set_found ss n there.0 (record (session_at ss n) { seq = b.seq; root = Some b }) there.1)
 
-module _ (p : Place) (input : Input) (k : Kept) (fits : SessionsFit k) (range : (n : ℕ) (s : Stmt) → IsCall input n s → IsSession n) where
+module _ (p : Place) (input : Input) (k : NodeState) (fits : SessionsFit k) (range : (n : ℕ) (s : Stmt) → IsCall input n s → IsSession n) where
   -- the node as it was, or with the root that the statement's session began
-  abbrev pub IsOneOf : Kept → Type 0
+  abbrev pub IsOneOf : NodeState → Type 0
   IsOneOf j = (j ≡ k) ⊎ ((n : ℕ) × (s : Stmt) × IsCall input n s × IsOfRows s × ((session_at k.sessions n).root ≡ None) × (j ≡ begun_by p k n None))
 
   begun_root : (n m : ℕ) (s u : Stmt) → IsCall input n s → IsCall input m u → (session_at (begun_by p k n None).sessions m).root ≡ None → ⊥
@@ -166,12 +166,12 @@ module _ (p : Place) (input : Input) (k : Kept) (fits : SessionsFit k) (range : 
       let gone : (session_at (begun_by p k n None).sessions n).root ≡ None = subst (λ i. (session_at (begun_by p k n None).sessions i).root ≡ None) (sym same) none in
       absurd (cc (some, gone))
 
-  begun_once : (n : ℕ) (s : Stmt) → IsCall input n s → {i j : Kept} → i ≡ begun_by p k n None → From p input i j → j ≡ i
+  begun_once : (n : ℕ) (s : Stmt) → IsCall input n s → {i j : NodeState} → i ≡ begun_by p k n None → From p input i j → j ≡ i
   begun_once n s call is (Itself i) = refl
   begun_once n s call is (Begun {k = i} m u other rows new from) =
       absurd (begun_root n m s u call other (subst (λ y. (session_at y.sessions m).root ≡ None) is new))
 
-  pub from_one : {j : Kept} → From p input k j → IsOneOf j
+  pub from_one : {j : NodeState} → From p input k j → IsOneOf j
   from_one (Itself i) = inl refl
   from_one (Begun n s call rows new from) = inr (n, s, call, rows, new, begun_once n s call refl from)
 

@@ -6,7 +6,7 @@ use Rattle.node_rules.specs.Data.{RedoRecord, Owned, Place, Input}
 use Rattle.node_rules.specs.Data.acts
 use Rattle.node_rules.specs.Data.inputs
 use Rattle.node_rules.specs.Data.records
-use Rattle.node_rules.specs.Kept.{Kept, Deed}
+use Rattle.node_rules.specs.NodeState.{NodeState, Deed}
 use Rattle.node_rules.specs.Turn.{heard, deed_of}
 use Rattle.node_rules.proofs.Steps as steps
 use Rattle.node_rules.proofs.Steps.{Step}
@@ -23,7 +23,7 @@ HasKept owns (records.Decided r) = r.changes ≡ changes_at owns r.me
 HasKept owns _ = Unit {0}
 
 module _ (p : Place) (input : Input) where
-  writes_own : {k : Kept} {d : Deed} → Step p input k d → IfSome d.wrote (HasKept k.owns)
+  writes_own : {k : NodeState} {d : Deed} → Step p input k d → IfSome d.wrote (HasKept k.owns)
   writes_own (steps.Begins m s call rows fit none step) = writes_own step
   writes_own (steps.Pends m l comment call has live code step) = writes_own step
   writes_own (steps.Lets_reads_go l comment site_below live begins step) = writes_own step
@@ -52,12 +52,12 @@ module _ (p : Place) (input : Input) where
   writes_own (steps.Gives_up_commit n b None gives has calls live) = tt
   writes_own _ = tt
 
-pub heard_owns : (k : Kept) (input : Input) → (heard k input).owns ≡ k.owns
+pub heard_owns : (k : NodeState) (input : Input) → (heard k input).owns ≡ k.owns
 heard_owns k (inputs.Message m) = refl
 heard_owns k _ = refl
 
 -- so does the record of a turn
-pub turn_own : (places : List Place) (f : Facts) (u : Turn) (k : Kept) → MayTurn places f u k → IfSome u.wrote (HasKept k.owns)
+pub turn_own : (places : List Place) (f : Facts) (u : Turn) (k : NodeState) → MayTurn places f u k → IfSome u.wrote (HasKept k.owns)
 turn_own places f u k may =
     let p : Place = place_at places u.node in
     of_wrote p k u (serves places f u k may) (λ w. IfSome w (HasKept k.owns)) tt

@@ -22,7 +22,7 @@ use Rattle.node_rules.specs.Words.{same, same_text}
 use Rattle.node_rules.specs.Rows.{same_value, get, rows_of_table}
 use Rattle.node_rules.specs.Meaning.{examined, written, meant_over}
 use Rattle.node_rules.specs.Names.{table_of}
-use Rattle.node_rules.specs.Kept.{Kept}
+use Rattle.node_rules.specs.NodeState.{NodeState}
 use Rattle.node_rules.specs.Prepare.{own_changes}
 use Rattle.node_rules.specs.Statement.{Ran, Refuses, Reads, Writes, ground_of, ran}
 use Rattle.run_rules.specs.Book.{commits_at, rows_of, committed_at, rows_told}
@@ -136,7 +136,7 @@ no_first None b none = refl
 -- ---- a node and the book
 
 -- The rows of a node are those of the book at the keys that are not in doubt, and what it keeps fits.
-pub record IsOfBook (book : List Entry) (n : ℕ) (k : Kept) : Type 0 where
+pub record IsOfBook (book : List Entry) (n : ℕ) (k : NodeState) : Type 0 where
   pub doubts : (table : List ℕ) → keys_in_doubt book n table ≡ doubtful_keys k.stored.doubts table
   pub rows : (table : List ℕ) (key : Value) → list_any (same_value key) (keys_in_doubt book n table) ≡ false → get (rows_of_table k.stored.rows table) key ≡ get (rows_of book n table) key
   pub book_fits : (name : List ℕ) (x : Table) → table_in k.stored.durable.tables name ≡ Some x → AreRowsOf x (rows_of book n name)
@@ -152,7 +152,7 @@ book_in_order : (book : List Entry) (n : ℕ) (table : List ℕ) → AreInKeyOrd
 unfolding rows_of IsStrictlySortedBy
 book_in_order book n table = changes_keep_order table (flat_map (commits_at book n) book) [] tt
 
-pub of_book : (t : History) → IsLawfulRun t → (n : ℕ) (k : Kept) → node_at (facts_at t) n ≡ Some k → IsOfBook (facts_at t).book n k
+pub of_book : (t : History) → IsLawfulRun t → (n : ℕ) (k : NodeState) → node_at (facts_at t) n ≡ Some k → IsOfBook (facts_at t).book n k
 of_book t lawful n k up = record {
   doubts = doubts_agree t lawful n k up;
   rows = rows_agree t lawful n k up;
@@ -174,7 +174,7 @@ IsMeantBy book n s t seen (Refuses r) = Unit {0}
 IsMeantBy book n s t seen (Reads rows keys) = (meant s t seen ≡ meants.Gives rows) × ((others : List Value) → AreCertain book n t.name (examined s t seen others))
 IsMeantBy book n s t seen (Writes d cs keys undo) = meant s t seen ≡ meants.Changes d (length cs) cs
 
-module _ (book : List Entry) (n : ℕ) (k : Kept) (of_it : IsOfBook book n k) (p : Place) (b : BranchId) (here : b.node ≡ n) (s : Stmt) (t : Table) (name : List ℕ)
+module _ (book : List Entry) (n : ℕ) (k : NodeState) (of_it : IsOfBook book n k) (p : Place) (b : BranchId) (here : b.node ≡ n) (s : Stmt) (t : Table) (name : List ℕ)
     (found : table_of k.stored.durable name ≡ Some t) where
   abbrev g : Ground
   g = ground_of p k b t

@@ -16,7 +16,7 @@ use Rattle.node_rules.specs.Words.{same, item_at, drop_item}
 use Rattle.node_rules.specs.Inputs.{Came, IsCall, Brings, Commit_came, Rollback_came, Rolled_back_came}
 use Rattle.node_rules.specs.Names.{Runs_here, way_of, passed_on}
 use Rattle.node_rules.specs.Rows.{changes_of}
-use Rattle.node_rules.specs.Kept.{Kept, Branch, Deed, live_id, own_id, sets_of, live_at, branch_at, nothing, saying, ending}
+use Rattle.node_rules.specs.NodeState.{NodeState, Branch, Deed, live_id, own_id, sets_of, live_at, branch_at, nothing, saying, ending}
 use Rattle.node_rules.specs.Prepare.{own_changes, act_turn}
 use Rattle.node_rules.specs.Calls.{runs_here, answered, answer_says, answer_ends, exec_to, calls_over, opens_through}
 use Rattle.node_rules.specs.Commit.{next_turn}
@@ -41,7 +41,7 @@ abbrev pub BringsNone : Input → Type 0
 BringsNone input = brings_none input ≡ true
 
 -- a call that was answered comes again to its live branch
-abbrev pub Repeats : Kept → Input → Type 0
+abbrev pub Repeats : NodeState → Input → Type 0
 Repeats k input = (x : Branch) × (from : BranchId) × (call given : ℕ) × (advice : Option Advice) × (s : Stmt) × Came input from x.live.me (kinds.Exec call given advice s)
     × (branch_at k x.live.me ≡ Some x) × (x.work.came.last_call ≡ call)
 
@@ -59,14 +59,14 @@ module _ (input : Input) where
   pub came_none : {from to : BranchId} {kind : Kind} → Came input from to kind → is_exec kind ≡ false → BringsNone input
   came_none came none = subst BringsNone (sym came.is) (ap not none)
 
-  asked_some : {k : Kept} {x : Branch} {s : Stmt} {given : ℕ} → Asked k input x s given → BringsNone input → ⊥
+  asked_some : {k : NodeState} {x : Branch} {s : Stmt} {given : ℕ} → Asked k input x s given → BringsNone input → ⊥
   asked_some (steps.By_call n x s call rows has code found) none =
       let some : not (is_of_rows s) ≡ true = subst BringsNone call none in
       let row : is_of_rows s ≡ true = of_rows s rows in
       absurd (cc (some, row))
   asked_some (steps.By_exec x from call given advice s came found runs) none = let some : false ≡ true = subst BringsNone came.is none in absurd cc
 
-  pub collects_none : {k : Kept} {l : Live} {comment : List ℕ} {q : Bool} → Collects k input l comment q → BringsNone input
+  pub collects_none : {k : NodeState} {l : Live} {comment : List ℕ} {q : Bool} → Collects k input l comment q → BringsNone input
   collects_none (steps.By_commit n given call has code is) = called_none n (stmts.Commit given) call refl
   collects_none (steps.By_prepare from q came working) = came_none came refl
 
@@ -77,7 +77,7 @@ module _ (input : Input) where
   vote_none votes.Abort is came = came_none came (let it : Some kinds.Abort ≡ Some _ = is in cc)
   vote_none _ is came = absurd cc
 
-  acting_none : {k : Kept} {l : Live} {q : Bool} {a : Act} → Acting k input l q a → BringsNone input
+  acting_none : {k : NodeState} {l : Live} {q : Bool} {a : Act} → Acting k input l q a → BringsNone input
   acting_none (steps.Asks_down l comment q e es found begins has) = collects_none begins
   acting_none (steps.Has_no_children l comment q a found begins none collected) = collects_none begins
   acting_none (steps.Hears_abort l from q found answers) = vote_none votes.Abort answers.is_vote answers.came
@@ -98,7 +98,7 @@ module _ (input : Input) where
   completes_none n _ _ call (steps.Commits_nothing comment) = called_none n (stmts.Commit comment) call refl
   completes_none n _ _ call steps.Rolls_nothing_back = called_none n stmts.Rollback call refl
 
-  makes_none : {k : Kept} {n : ℕ} {s : Stmt} {r : _} {d : Done} → IsCall input n s → Makes k s r d → BringsNone input
+  makes_none : {k : NodeState} {n : ℕ} {s : Stmt} {r : _} {d : Done} → IsCall input n s → Makes k s r d → BringsNone input
   makes_none call (steps.Makes_table t free) = called_none _ (stmts.CreateTable t) call refl
   makes_none call (steps.Makes_link l free) = called_none _ (stmts.CreateLink l) call refl
   makes_none call (steps.Makes_synonym y free) = called_none _ (stmts.CreateSynonym y) call refl
@@ -111,13 +111,13 @@ module _ (input : Input) where
 -- ---- the node of a run
 
 -- A node, as a statement runs there: a transaction may have begun for it.
-pub data From (p : Place) (input : Input) : Kept → Kept → Type 0 where
-  Itself : (k : Kept) → From p input k k
-  Begun : {k j : Kept} (n : ℕ) (s : Stmt) → IsCall input n s → IsOfRows s → (session_at k.sessions n).root ≡ None → From p input (begun_by p k n None) j → From p input k j
+pub data From (p : Place) (input : Input) : NodeState → NodeState → Type 0 where
+  Itself : (k : NodeState) → From p input k k
+  Begun : {k j : NodeState} (n : ℕ) (s : Stmt) → IsCall input n s → IsOfRows s → (session_at k.sessions n).root ≡ None → From p input (begun_by p k n None) j → From p input k j
 
 -- A statement ran in a turn.
-pub record HasRun (p : Place) (input : Input) (k : Kept) (d : Deed) : Type 0 where
-  pub at : Kept
+pub record HasRun (p : Place) (input : Input) (k : NodeState) (d : Deed) : Type 0 where
+  pub at : NodeState
   pub from : From p input k at
   pub branch : Branch
   pub statement : Stmt
@@ -128,20 +128,20 @@ pub record HasRun (p : Place) (input : Input) (k : Kept) (d : Deed) : Type 0 whe
   pub is : d ≡ runs_here p at branch statement table
 
 -- the changes of each branch that is live after it are as before
-abbrev pub SameOwn : Kept → Deed → Type 0
+abbrev pub SameOwn : NodeState → Deed → Type 0
 SameOwn k d = (b : BranchId) (l : Live) → live_at d.after b ≡ Some l → own_changes d.after b ≡ own_changes k b
 
 -- no statement is accepted: none came, or it was not answered or refused, or it is one that was answered before
-abbrev pub AcceptsNone : Kept → Input → Deed → Type 0
+abbrev pub AcceptsNone : NodeState → Input → Deed → Type 0
 AcceptsNone k input d = BringsNone input ⊎ ((is_accepted (answered_by (Some (outcome_of d))) ≡ false) ⊎ Repeats k input)
 
 -- What a turn without a run does.
-pub record Rests (k : Kept) (input : Input) (d : Deed) : Type 0 where
+pub record Rests (k : NodeState) (input : Input) (d : Deed) : Type 0 where
   pub own : SameOwn k d
   pub accepts : AcceptsNone k input d
 
 -- a branch that leaves takes its changes along, and no other's
-left_own : (k : Kept) (b c : BranchId) (l : Live) → item_at live_id (drop_item live_id k.lives b) c ≡ Some l → changes_at (drop_item own_id k.owns b) c ≡ changes_at k.owns c
+left_own : (k : NodeState) (b c : BranchId) (l : Live) → item_at live_id (drop_item live_id k.lives b) c ≡ Some l → changes_at (drop_item own_id k.owns b) c ≡ changes_at k.owns c
 left_own k b c l live = by (same b c) refl
   where
     by : (q : Bool) → same b c ≡ q → changes_at (drop_item own_id k.owns b) c ≡ changes_at k.owns c
@@ -151,7 +151,7 @@ left_own k b c l live = by (same b c) refl
         absurd (cc (gone, live))
     by false other = ap (λ o. changes_of (sets_of o)) (drop_leaves own_id k.owns b c other)
 
-act_own : (k : Kept) (l : Live) (q : Bool) (a : Act) → SameOwn k (act_turn k l q a)
+act_own : (k : NodeState) (l : Live) (q : Bool) (a : Act) → SameOwn k (act_turn k l q a)
 act_own k l q acts.Rest b y live = refl
 act_own k l q acts.AskDown b y live = refl
 act_own k l q acts.SayReady b y live = refl
@@ -164,14 +164,14 @@ act_own k l q acts.Abandon b y live = left_own k l.me b y live
 
 -- ---- a step
 
-refused_not : (k : Kept) (x : Branch) (r : _) → is_accepted (answered_by (Some (outcome_of (answered k x (answers.Refused r))))) ≡ false
+refused_not : (k : NodeState) (x : Branch) (r : _) → is_accepted (answered_by (Some (outcome_of (answered k x (answers.Refused r))))) ≡ false
 refused_not k x r = by x.live.parent
   where
     by : (o : Option BranchId) → is_accepted (answered_by (Some (outcome_of (record (answered k x (answers.Refused r)) { says = answer_says x (answers.Refused r) o; ended = answer_ends x.live (answers.Refused r) o })))) ≡ false
     by None = refl
     by (Some parent) = refl
 
-calls_not : (k : Kept) (x : Branch) (i : ℕ) (s : Stmt) (given : ℕ) → is_accepted (answered_by (Some (outcome_of (calls_over k x i s given)))) ≡ false
+calls_not : (k : NodeState) (x : Branch) (i : ℕ) (s : Stmt) (given : ℕ) → is_accepted (answered_by (Some (outcome_of (calls_over k x i s given)))) ≡ false
 calls_not k x i s given = by (peer_of x.live i)
   where
     by : (o : Option BranchId) → is_accepted (answered_by (Some (outcome_of (record (calls_over k x i s given) { says = exec_to k.sessions x i s given o })))) ≡ false
@@ -180,16 +180,16 @@ calls_not k x i s given = by (peer_of x.live i)
 
 module _ (p : Place) (input : Input) where
   -- a run happened, or none
-  abbrev pub Turns : Kept → Deed → Type 0
+  abbrev pub Turns : NodeState → Deed → Type 0
   Turns k d = HasRun p input k d ⊎ Rests k input d
 
-  none : (k : Kept) (d : Deed) → SameOwn k d → BringsNone input → Turns k d
+  none : (k : NodeState) (d : Deed) → SameOwn k d → BringsNone input → Turns k d
   none k d own is = inr (record { own = own; accepts = inl is })
 
-  not_yet : (k : Kept) (d : Deed) → SameOwn k d → is_accepted (answered_by (Some (outcome_of d))) ≡ false → Turns k d
+  not_yet : (k : NodeState) (d : Deed) → SameOwn k d → is_accepted (answered_by (Some (outcome_of d))) ≡ false → Turns k d
   not_yet k d own is = inr (record { own = own; accepts = inr (inl is) })
 
-  said : (k : Kept) (ps : List Post) → Says k input ps → AcceptsNone k input (saying k ps)
+  said : (k : NodeState) (ps : List Post) → Says k input ps → AcceptsNone k input (saying k ps)
   said k _ (steps.Gone_replies to from call given advice s came gone) = inr (inl refl)
   said k _ (steps.Gone_aborts to from q comment came gone) = inl (came_none input came refl)
   said k _ (steps.Gone_rolls_back to from (inl came) gone) = inl (came_none input came refl)
@@ -206,11 +206,11 @@ module _ (p : Place) (input : Input) where
   said k _ (steps.Recovers is) = inl (subst BringsNone (sym is) refl)
 
   -- a run can't have happened where no statement came
-  unless_run : {j : Kept} {d : Deed} → BringsNone input → Turns j d → SameOwn j d
+  unless_run : {j : NodeState} {d : Deed} → BringsNone input → Turns j d → SameOwn j d
   unless_run is (inl ran) = absurd (asked_some input ran.asked is)
   unless_run is (inr rests) = rests.own
 
-  doing : (k : Kept) (s : _) (from : BranchId) (n : Next) → Doing k.clock input s from n → Turns k (next_turn k s from n)
+  doing : (k : NodeState) (s : _) (from : BranchId) (n : Next) → Doing k.clock input s from n → Turns k (next_turn k s from n)
   doing k s from nexts.Rest why = not_yet k (nothing k) (λ b l live. refl) refl
   doing k s from nexts.AckToward (steps.Acks_on came knows forgot acked toward) = none k _ (λ b l live. refl) (came_none input came refl)
   doing k s from nexts.SayForgotten (steps.Has_forgotten came knows forgot) = none k _ (λ b l live. refl) (came_none input came refl)
@@ -220,12 +220,12 @@ module _ (p : Place) (input : Input) where
   doing k s from (nexts.End e) (steps.Ends_so d brings toward new sealed met) = none k _ (λ b l live. refl) (brought_none input brings)
   doing k s from (nexts.Meet e mixed) (steps.Meets_so d brings toward new sealed committed met) = none k _ (λ b l live. refl) (brought_none input brings)
 
-  repeats_not : (j : Kept) (d : Deed) (n : ℕ) (s : Stmt) → IsCall input n s → AcceptsNone j input d → BringsNone input ⊎ (is_accepted (answered_by (Some (outcome_of d))) ≡ false)
+  repeats_not : (j : NodeState) (d : Deed) (n : ℕ) (s : Stmt) → IsCall input n s → AcceptsNone j input d → BringsNone input ⊎ (is_accepted (answered_by (Some (outcome_of d))) ≡ false)
   repeats_not j d n s call (inl is) = inl is
   repeats_not j d n s call (inr (inl not_so)) = inr not_so
   repeats_not j d n s call (inr (inr again)) = (let came = again.6.is in absurd (cc (came, call)))
 
-  begins_on : {k : Kept} {d : Deed} (n : ℕ) (s : Stmt) → IsCall input n s → IsOfRows s → (session_at k.sessions n).root ≡ None → Turns (begun_by p k n None) d → Turns k d
+  begins_on : {k : NodeState} {d : Deed} (n : ℕ) (s : Stmt) → IsCall input n s → IsOfRows s → (session_at k.sessions n).root ≡ None → Turns (begun_by p k n None) d → Turns k d
   begins_on n s call rows new (inl ran) = inl (record {
     at = ran.at;
     from = Begun n s call rows new ran.from;
@@ -239,7 +239,7 @@ module _ (p : Place) (input : Input) where
   })
   begins_on {k = k} {d = d} n s call rows new (inr rests) = inr (record { own = rests.own; accepts = elim (repeats_not (begun_by p k n None) d n s call rests.accepts) [ inl is ↦ inl is | inr not_so ↦ inr (inl not_so) ] })
 
-  pub turns_on : {k : Kept} {d : Deed} → Step p input k d → Turns k d
+  pub turns_on : {k : NodeState} {d : Deed} → Step p input k d → Turns k d
   turns_on (steps.Begins n s call rows range new step) = begins_on n s call rows new (turns_on step)
   turns_on (steps.Pends {k = k} {d = d} n l given call has found code step) = none k d (unless_run (called_none input n (stmts.Commit given) call refl) (turns_on step)) (called_none input n (stmts.Commit given) call refl)
   turns_on (steps.Lets_reads_go {k = k} {d = d} l comment q found begins step) = none k d (unless_run (collects_none input begins) (turns_on step)) (collects_none input begins)

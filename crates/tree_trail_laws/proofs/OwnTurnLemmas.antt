@@ -8,7 +8,7 @@ use Rattle.node_rules.specs.Data.inputs
 use Rattle.node_rules.specs.Data.kinds
 use Rattle.node_rules.specs.Words.{same, is_item_of, item_at}
 use Rattle.node_rules.specs.Inputs.{IsSession, Came, IsCall}
-use Rattle.node_rules.specs.Kept.{Kept, Branch, Deed, live_id, work_or, sets_of, live_at, branch_at, work_at, with_work, standing_at}
+use Rattle.node_rules.specs.NodeState.{NodeState, Branch, Deed, live_id, work_or, sets_of, live_at, branch_at, work_at, with_work, standing_at}
 use Rattle.node_rules.specs.Rows.{changes_of}
 use Rattle.node_rules.specs.Prepare.{own_changes}
 use Rattle.node_rules.specs.Client.{new_root, begun_by}
@@ -57,7 +57,7 @@ taken_of (Some s) = s.taken
 
 -- the calls that are told of each live branch are those that its node keeps
 abbrev pub TellsCalls : Facts → Trail → Type 0
-TellsCalls f tr = (n : ℕ) (k : Kept) → node_at f n ≡ Some k → (l : Live) → live_at k l.me ≡ Some l → taken_of (seen_at tr l.me) ≡ last_of k l.me
+TellsCalls f tr = (n : ℕ) (k : NodeState) → node_at f n ≡ Some k → (l : Live) → live_at k l.me ≡ Some l → taken_of (seen_at tr l.me) ≡ last_of k l.me
 
 bool_cases : (q : Bool) → (P : Type 0) → (q ≡ true → P) → (q ≡ false → P) → P
 bool_cases true P at_true at_false = at_true refl
@@ -103,7 +103,7 @@ taken_same s (inputs.Message m) not_to = by (same m.to s.me) (is_live s) refl m.
     by true true here _ is = refl
 taken_same s _ not_to = refl
 
-stands_live : (k : Kept) (x : Branch) → branch_at k x.live.me ≡ Some x → stand_of k x.live.me ≡ Is_live x
+stands_live : (k : NodeState) (x : Branch) → branch_at k x.live.me ≡ Some x → stand_of k x.live.me ≡ Is_live x
 unfolding stand_of
 stands_live k x found = ap (λ o. live_or o (standing_at k x.live.me)) found
 
@@ -144,13 +144,13 @@ module _ (t : History) (whole : IsLawfulRun t) where
     abbrev pub may : MayHappen t.places t.commands f0 (happenings.Turn u)
     may = may_of t whole hs (happenings.Turn u) more is
 
-    abbrev k : Kept
+    abbrev k : NodeState
     k = may.0
 
     abbrev p : Place
     p = place_at t.places u.node
 
-    abbrev k1 : Kept
+    abbrev k1 : NodeState
     k1 = heard k u.input
 
     abbrev d : Deed
@@ -164,7 +164,7 @@ module _ (t : History) (whole : IsLawfulRun t) where
 
     -- ---- live branches before the turn
 
-    pub known : (n : ℕ) (j : Kept) → node_at f0 n ≡ Some j → (l : Live) → live_at j l.me ≡ Some l → Knows j tr0 l.me
+    pub known : (n : ℕ) (j : NodeState) → node_at f0 n ≡ Some j → (l : Live) → live_at j l.me ≡ Some l → Knows j tr0 l.me
     known n j up l live = by l.parent refl
       where
         its : (s : Seen) → seen_at tr0 l.me ≡ Some s → s.exit ≡ None → Knows j tr0 l.me
@@ -253,7 +253,7 @@ module _ (t : History) (whole : IsLawfulRun t) where
           )
 
       -- so the transaction of the session that calls is told
-      pub roots_are : (j : Kept) → From p u.input k1 j → RootsAre trb u.node u.input j
+      pub roots_are : (j : NodeState) → From p u.input k1 j → RootsAre trb u.node u.input j
       roots_are j from m s b call rows has = elim (from_one p u.input k1 (heard_fits u.input) range from) [
         | inl is ↦ (
             let same : j ≡ k = is ∙ ap (heard k) call in
@@ -348,7 +348,7 @@ module _ (t : History) (whole : IsLawfulRun t) where
 
               took : ((z : Live) × (live_at k l.me ≡ Some z)) → last_of (deed_of p k (inputs.Message (record { from = from; to = l.me; scn = scn; kind = kinds.Exec call given advice st }))).after l.me ≡ max (last_of (heard k (inputs.Message (record { from = from; to = l.me; scn = scn; kind = kinds.Exec call given advice st }))) l.me) call
               took there =
-                  let k2 : Kept = heard k (inputs.Message (record { from = from; to = l.me; scn = scn; kind = kinds.Exec call given advice st })) in
+                  let k2 : NodeState = heard k (inputs.Message (record { from = from; to = l.me; scn = scn; kind = kinds.Exec call given advice st })) in
                   let z : Live = there.0 in
                   let z_me : z.me ≡ l.me = item_is live_id k.lives l.me z there.1 in
                   let z_live : live_at k2 z.me ≡ Some z = subst (λ c. live_at k c ≡ Some z) (sym z_me) there.1 in

@@ -14,7 +14,7 @@ use Rattle.node_rules.specs.Data.kinds
 use Rattle.node_rules.specs.declared.session.PendingCall.TheVariants as pending
 use Rattle.node_rules.specs.Data.stmts
 use Rattle.node_rules.specs.Inputs.{IsCall}
-use Rattle.node_rules.specs.Kept.{Kept, Branch, Deed, to_one, to_each}
+use Rattle.node_rules.specs.NodeState.{NodeState, Branch, Deed, to_one, to_each}
 use Rattle.node_rules.specs.Sessions.{session_at, with_call, commit_is_pending, commit_complete}
 use Rattle.node_rules.specs.Prepare.{act_turn, collecting, with_comment, first_act_by, root_act, without_read_keys, prepare_to, path_of, site_neighbors, is_alone}
 use Rattle.node_rules.specs.Client.{root_at as kept_root, commit_by}
@@ -94,25 +94,25 @@ pass_granted : (scn : ℕ) (me : BranchId) (o : Option BranchId) → is_refused 
 pass_granted scn me None = refl
 pass_granted scn me (Some b) = refl
 
-root_granted : (k : Kept) (l : Live) (b : Bool) (w : Walk) → IsGranted (act_turn k l b (root_act w))
+root_granted : (k : NodeState) (l : Live) (b : Bool) (w : Walk) → IsGranted (act_turn k l b (root_act w))
 root_granted k l b walks.Here = ends_alone (is_alone l) (commit_is_pending k.sessions l.me) l.me.session _ (silent_each _ (k.clock + 1) l.me (site_neighbors l))
 root_granted k l b (walks.Down i) = pass_granted _ l.me (peer_of l i)
 root_granted k l b walks.Nowhere = ended_so (commit_is_pending k.sessions l.me) l.me.session None refl
 
-collected_granted : (k : Kept) (l : Live) (top : Bool) → IsGranted (act_turn k l true (if top then root_act (step l) else acts.SayReady))
+collected_granted : (k : NodeState) (l : Live) (top : Bool) → IsGranted (act_turn k l true (if top then root_act (step l) else acts.SayReady))
 collected_granted k l true = root_granted k l true (step l)
 collected_granted k l false = ready_granted _ l.me l.parent
 
-first_granted : (k : Kept) (l : Live) (es : List Edge) → IsGranted (act_turn k l true (first_act_by l true es))
+first_granted : (k : NodeState) (l : Live) (es : List Edge) → IsGranted (act_turn k l true (first_act_by l true es))
 first_granted k l [] = collected_granted k l (is_none l.parent)
 first_granted k l (e ∷ es) = ap is_refused (silent_asks k.clock l.me l.comment (asked_from (path_of true (step l)) 1 l.edges))
 
-commit_granted : (k : Kept) (n : ℕ) (c : List ℕ) (o : Option Branch) → IsGranted (commit_by k n c None o)
+commit_granted : (k : NodeState) (n : ℕ) (c : List ℕ) (o : Option Branch) → IsGranted (commit_by k n c None o)
 commit_granted k n c None = refl
 commit_granted k n c (Some x) =
     let l : Live = collecting (with_comment x.live c) true in first_granted (without_read_keys (record k { sessions = with_call k.sessions n pending.Commit }) l.me) l l.edges
 
-module _ (places : List Place) (f : Facts) (tr : Trail) (u : Turn) (k : Kept) (up : node_at f u.node ≡ Some k) (session : ℕ) (given : Option (List ℕ)) (call : IsCall u.input session (stmts.Commit given))
+module _ (places : List Place) (f : Facts) (tr : Trail) (u : Turn) (k : NodeState) (up : node_at f u.node ≡ Some k) (session : ℕ) (given : Option (List ℕ)) (call : IsCall u.input session (stmts.Commit given))
     (code : (session_at k.sessions session).code ≡ None) where
   abbrev commit : Input
   commit = inputs.Call session (Some (stmts.Commit given))

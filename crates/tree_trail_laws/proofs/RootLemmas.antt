@@ -6,7 +6,7 @@ use Rattle.session_tree.specs.Live.{children_of}
 use Rattle.node_rules.specs.Data.{BranchId, Live, Decided, RedoRecord}
 use Rattle.node_rules.specs.Data.records
 use Rattle.node_rules.specs.Words.{numbered}
-use Rattle.node_rules.specs.Kept.{Kept, live_id, live_at}
+use Rattle.node_rules.specs.NodeState.{NodeState, live_id, live_at}
 use Rattle.node_rules.specs.Sessions.{session_at}
 use Rattle.run_rules.specs.Facts.{Facts, node_at, records_at}
 use Rattle.run_rules.specs.Lawful.{History, IsLawfulRun, facts_at}
@@ -24,14 +24,14 @@ use Rattle.tree_site_laws.proofs.MemberLemmas.{IsIn, born_below}
 
 -- a live branch, and the node that keeps it
 pub record IsLiveIn (f : Facts) (b : BranchId) (l : Live) : Type 0 where
-  pub kept : Kept
+  pub kept : NodeState
   pub up : node_at f b.node ≡ Some kept
   pub found : live_at kept b ≡ Some l
 
 pub live_there : (f : Facts) (b : BranchId) (l : Live) → live_in f b ≡ Some l → IsLiveIn f b l
 live_there f b l is = by (node_at f b.node) refl is
   where
-    by : (o : Option Kept) → node_at f b.node ≡ o → live_of o b ≡ Some l → IsLiveIn f b l
+    by : (o : Option NodeState) → node_at f b.node ≡ o → live_of o b ≡ Some l → IsLiveIn f b l
     by None none some = absurd cc
     by (Some k) up found = record { kept = k; up = up; found = found }
 
@@ -59,7 +59,7 @@ module _ (t : History) (whole : IsLawfulRun t) where
   walk_in g _ _ (Goes_down l i b c d live down at rest) inside = walk_in g c d rest (kid_in g b c l i (live_there (facts_at t) b l live) at inside)
 
   -- the transaction of a session is in its own tree
-  pub root_in : (n session : ℕ) (k : Kept) (b : BranchId) (l : Live) → node_at (facts_at t) n ≡ Some k → (session_at k.sessions session).root ≡ Some b → live_at k b ≡ Some l → IsIn (births_of t) b b
+  pub root_in : (n session : ℕ) (k : NodeState) (b : BranchId) (l : Live) → node_at (facts_at t) n ≡ Some k → (session_at k.sessions session).root ≡ Some b → live_at k b ≡ Some l → IsIn (births_of t) b b
   root_in n session k b l up has found =
       let none : l.parent ≡ None = (roots_are_of_sessions t whole n k up session b has).1 l found in
       let its : LiveIs (Began (births_of t)) l = all_found (LiveIs (Began (births_of t))) live_id k.lives b l (nodes_name_the_born t whole n k up).0 found in

@@ -6,7 +6,7 @@ use Rattle.agreement.specs.Events.{Event, Sealed, exit}
 use Rattle.agreement.proofs.EventLemmas.{first_is, only_at_is}
 use Rattle.node_rules.specs.Data.{BranchId, RedoRecord, Sealed as SealedRecord}
 use Rattle.node_rules.specs.Data.records
-use Rattle.node_rules.specs.Kept.{live_id, live_at}
+use Rattle.node_rules.specs.NodeState.{live_id, live_at}
 use Rattle.run_rules.specs.Data.{Turn, Happening}
 use Rattle.run_rules.specs.Data.happenings
 use Rattle.run_rules.specs.Facts.{first_facts, facts_after}

@@ -16,7 +16,7 @@ use Rattle.node_rules.specs.Data.records
 use Rattle.node_rules.specs.Data.stmts
 use Rattle.node_rules.specs.Inputs.{IsSession}
 use Rattle.node_rules.specs.Words.{same}
-use Rattle.node_rules.specs.Kept.{Kept, Branch, live_id, live_at, work_at, with_work}
+use Rattle.node_rules.specs.NodeState.{NodeState, Branch, live_id, live_at, work_at, with_work}
 use Rattle.node_rules.specs.Sessions.{session_at}
 use Rattle.run_key_laws.specs.ChangedLaws.{changes_at, has_changes as are_some}
 use Rattle.run_base_laws.specs.CallLaws.{ComesAtRest}
@@ -215,7 +215,7 @@ module _ (t : History) (whole : IsLawfulRun t) (sees : SeesAll t) where
 
     -- ---- its root
 
-    abbrev k1 : Kept
+    abbrev k1 : NodeState
     k1 = (may_of t whole hs (happenings.Turn u) rest is).0
 
     disk : records_at (facts_at s1) u.node ≡ records_at (f_at t hs) u.node ++ records.Decided r ∷ []

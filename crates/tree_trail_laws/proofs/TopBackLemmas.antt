@@ -12,7 +12,7 @@ use Rattle.node_rules.specs.Data.kinds
 use Rattle.node_rules.specs.Data.phases
 use Rattle.node_rules.specs.Data.votes
 use Rattle.node_rules.specs.Words.{same}
-use Rattle.node_rules.specs.Kept.{Kept, Deed, live_id, live_at}
+use Rattle.node_rules.specs.NodeState.{NodeState, Deed, live_id, live_at}
 use Rattle.node_rules.specs.Client.{new_root}
 use Rattle.node_rules.specs.Prepare.{is_awaited, voted}
 use Rattle.node_rules.specs.Turn.{turn_of, heard, deed_of, stamped}
@@ -61,7 +61,7 @@ use Rattle.tree_trail_laws.proofs.TopStepLemmas.{Finishes, At_once, On_answer, W
 
 -- a branch is live at its node, or the node has just been cut off
 abbrev pub IsBack : Facts → BranchId → Type 0
-IsBack f b = ((k : Kept) × (l : Live) × (node_at f b.node ≡ Some k) × (live_at k b ≡ Some l)) ⊎ ((f.node_to_stop ≡ Some b.node) × (node_at f b.node ≡ None))
+IsBack f b = ((k : NodeState) × (l : Live) × (node_at f b.node ≡ Some k) × (live_at k b ≡ Some l)) ⊎ ((f.node_to_stop ≡ Some b.node) × (node_at f b.node ≡ None))
 
 -- so is each root that is told to be live
 abbrev pub Back : Facts → Seen → Type 0
@@ -88,7 +88,7 @@ abort_is kind is = (let it : Some kinds.Abort ≡ Some kind = is in let here : k
 
 module _ (t : History) (whole : IsLawfulRun t) (hs : List Happening) (u : Turn) (rest : List Happening) (is : hs ++ happenings.Turn u ∷ rest ≡ t.trace)
     (tops : TellsTops (f_at t hs) (tr_at t hs)) (sees : SeesRoots (f_at t hs) (tr_at t hs)) (counts : Counts t whole (f_at t hs) (tr_at t hs)) (born : AllByRecursion (λ s. IsBorn t whole hs s.me) (tr_at t hs).seen)
-    (alone : Alone (tr_at t hs).seen) (goes : (n : ℕ) (k : Kept) → node_at (f_at t hs) n ≡ Some k → RootGoes k.sessions k.lives) where
+    (alone : Alone (tr_at t hs).seen) (goes : (n : ℕ) (k : NodeState) → node_at (f_at t hs) n ≡ Some k → RootGoes k.sessions k.lives) where
   part0 : Part t whole hs
   part0 = record { rest = happenings.Turn u ∷ rest; is = is }
 
@@ -113,7 +113,7 @@ module _ (t : History) (whole : IsLawfulRun t) (hs : List Happening) (u : Turn) 
   abbrev pub may : MayHappen t.places t.commands f0 (happenings.Turn u)
   may = may_of t whole hs (happenings.Turn u) rest is
 
-  abbrev k : Kept
+  abbrev k : NodeState
   k = may.0
 
   abbrev p : Place
@@ -311,7 +311,7 @@ module _ (t : History) (whole : IsLawfulRun t) (hs : List Happening) (u : Turn) 
     old_back : (s : Seen) → Back f0 s × (seen_at tr0 s.me ≡ Some s) → Back f1 (turned t.places f0 tr0 u s)
     old_back s had none top = by s.exit refl
       where
-        at_node : (k' : Kept) (l : Live) → node_at f0 s.me.node ≡ Some k' → live_at k' s.me ≡ Some l → s.exit ≡ None → IsBack f1 s.me
+        at_node : (k' : NodeState) (l : Live) → node_at f0 s.me.node ≡ Some k' → live_at k' s.me ≡ Some l → s.exit ≡ None → IsBack f1 s.me
         at_node k' l up live alive = elim (cases_eq u.node s.me.node) [
           | inr other ↦ inl (k', l, (turn_elsewhere t.places t.commands f0 (run_stands s0 lawful0).0.even u s.me.node other).0 ∙ up, live)
           | inl own ↦ here own u.cut refl

@@ -10,7 +10,7 @@ use Rattle.node_rules.specs.Data.inputs
 use Rattle.node_rules.specs.Data.kinds
 use Rattle.node_rules.specs.Words.{is_item_of}
 use Rattle.node_rules.specs.Inputs.{IsCall, IsSession}
-use Rattle.node_rules.specs.Kept.{Kept, Deed, live_id, live_at}
+use Rattle.node_rules.specs.NodeState.{NodeState, Deed, live_id, live_at}
 use Rattle.node_rules.specs.Sessions.{session_at}
 use Rattle.node_rules.specs.Client.{new_root}
 use Rattle.node_rules.specs.Turn.{deed_of}
@@ -53,7 +53,7 @@ module _ (t : History) (whole : IsLawfulRun t) where
 
   -- each session has begun as many roots as its last number says
   abbrev pub Counts : Facts → Trail → Type 0
-  Counts f tr = (n : ℕ) (k : Kept) → node_at f n ≡ Some k → (session : ℕ) → IsSession session → begun_in tr n (boots (records_at f n)) session ≡ (session_at k.sessions session).seq
+  Counts f tr = (n : ℕ) (k : NodeState) → node_at f n ≡ Some k → (session : ℕ) → IsSession session → begun_in tr n (boots (records_at f n)) session ≡ (session_at k.sessions session).seq
 
   -- a root began in a start so far
   abbrev pub Booted : Facts → Seen → Type 0
@@ -102,7 +102,7 @@ module _ (t : History) (whole : IsLawfulRun t) where
     abbrev pub may : MayHappen t.places t.commands f0 (happenings.Turn u)
     may = may_of t whole hs (happenings.Turn u) rest is
 
-    abbrev k : Kept
+    abbrev k : NodeState
     k = may.0
 
     abbrev p : Place

@@ -7,7 +7,7 @@ use Rattle.node_rules.specs.Data.inputs
 use Rattle.node_rules.specs.Data.stmts
 use Rattle.node_rules.specs.declared.session.PendingCall.{PendingCall}
 use Rattle.node_rules.specs.declared.session.PendingCall.TheVariants as pending
-use Rattle.node_rules.specs.Kept.{Kept, Branch, Deed, live_id, live_at, branch_at}
+use Rattle.node_rules.specs.NodeState.{NodeState, Branch, Deed, live_id, live_at, branch_at}
 use Rattle.node_rules.specs.Names.{way_of}
 use Rattle.node_rules.specs.Sessions.{session_at, with_call}
 use Rattle.node_rules.specs.Prepare.{collecting, with_comment, first_act, without_read_keys}
@@ -34,7 +34,7 @@ rows_drop n m s (stmts.Delete table cs) rows = refl
 rows_drop n m s (stmts.Select list table cs for_update) rows = refl
 rows_drop n m s _ rows = absurd cc
 
-module _ (p : Place) (k : Kept) (n : ℕ) (x : Branch) (found : branch_at k x.live.me ≡ Some x) (has : (session_at k.sessions n).root ≡ Some x.live.me) where
+module _ (p : Place) (k : NodeState) (n : ℕ) (x : Branch) (found : branch_at k x.live.me ≡ Some x) (has : (session_at k.sessions n).root ≡ Some x.live.me) where
   abbrev After : Deed → (Live → Type 0) → Type 0
   After d P = (l : Live) → live_at d.after x.live.me ≡ Some l → P l
 

@@ -10,7 +10,7 @@ use Rattle.node_rules.specs.Data.stmts
 use Rattle.node_rules.specs.declared.session.Session.{Session}
 use Rattle.node_rules.specs.Words.{same, set_numbered}
 use Rattle.node_rules.specs.Inputs.{IsCall, IsSession}
-use Rattle.node_rules.specs.Kept.{Kept, Deed}
+use Rattle.node_rules.specs.NodeState.{NodeState, Deed}
 use Rattle.node_rules.specs.Sessions.{session_at}
 use Rattle.node_rules.specs.Client.{new_root}
 use Rattle.node_rules.specs.Turn.{turn_of, heard, deed_of}
@@ -73,7 +73,7 @@ module _ (t : History) (whole : IsLawfulRun t) where
     abbrev tr1 : Trail
     tr1 = trail_after t.places f0 tr0 (happenings.Turn u)
 
-    abbrev k : Kept
+    abbrev k : NodeState
     k = (births.may t whole hs u rest is sees counts born).0
 
     abbrev p : Place
@@ -244,4 +244,4 @@ module _ (t : History) (whole : IsLawfulRun t) where
         own false cut there =
             let both : Some d.after ≡ Some j = sym (after_is cut) ∙ there in
             let it : d.after ≡ j = cc in
-            here_count session range cut (begun_in_turn f0 tr0 u) (births.view t whole hs u rest is sees counts born cut) refl ∙ ap (λ (i : Kept). (session_at i.sessions session).seq) it
+            here_count session range cut (begun_in_turn f0 tr0 u) (births.view t whole hs u rest is sees counts born cut) refl ∙ ap (λ (i : NodeState). (session_at i.sessions session).seq) it

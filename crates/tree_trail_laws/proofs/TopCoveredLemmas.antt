@@ -13,7 +13,7 @@ use Rattle.node_rules.specs.Data.phases
 use Rattle.node_rules.specs.Data.votes
 use Rattle.node_rules.specs.Words.{same, numbered}
 use Rattle.node_rules.specs.Inputs.{Came}
-use Rattle.node_rules.specs.Kept.{Kept, live_id, live_at}
+use Rattle.node_rules.specs.NodeState.{NodeState, live_id, live_at}
 use Rattle.node_rules.specs.Prepare.{is_awaited, answers_first, has_voted, voted, all_answered}
 use Rattle.node_rules.proofs.Steps.{Answers, vote_kind}
 use Rattle.reco.specs.declared.post.Post.{Post}
@@ -53,7 +53,7 @@ use Rattle.tree_laws.proofs.SettleRunLemmas.{known}
 use Rattle.tree_site_laws.proofs.FrozenLemmas.{path_down}
 use Rattle.tree_site_laws.proofs.MemberLemmas.{IsIn}
 
-module _ (t : History) (whole : IsLawfulRun t) (u : Turn) (k : Kept) (may : MayTurn t.places (facts_at t) u k) (z : Live) (z_live : live_at k z.me ≡ Some z) (from : BranchId) (v : Vote) (sb : Bool)
+module _ (t : History) (whole : IsLawfulRun t) (u : Turn) (k : NodeState) (may : MayTurn t.places (facts_at t) u k) (z : Live) (z_live : live_at k z.me ≡ Some z) (from : BranchId) (v : Vote) (sb : Bool)
     (answers : Answers u.input z from v sb) (no_abort : v ≢ votes.Abort) (all : all_answered (voted z from v) ≡ true) (at_end : step (voted z from v) ≡ walks.Nowhere)
     (top : (x : Born) × Began (births_of t) x × (x.me ≡ z.me) × (x.parent ≡ None) × (x.root ≡ z.me)) where
   abbrev e : List Event

@@ -16,7 +16,7 @@ use Rattle.node_rules.specs.Data.stmts
 use Rattle.node_rules.specs.declared.session.PendingCall.TheVariants as pending
 use Rattle.node_rules.specs.Inputs.{IsCall, IsSession}
 use Rattle.node_rules.specs.Words.{numbered}
-use Rattle.node_rules.specs.Kept.{Kept, Branch, live_id, live_at, branch_at, work_at, with_work}
+use Rattle.node_rules.specs.NodeState.{NodeState, Branch, live_id, live_at, branch_at, work_at, with_work}
 use Rattle.node_rules.specs.Sessions.{session_at}
 use Rattle.node_rules.specs.Prepare.{with_prepare_sent, collecting, with_comment, voted, all_answered}
 use Rattle.node_rules.proofs.StandLemmas.{live_so}
@@ -101,7 +101,7 @@ module _ (t : History) (whole : IsLawfulRun t) (owns : AtEach (λ places f tr h.
     lawful = part_lawful t whole hs part
 
     -- each live branch is told with its children
-    told_children : (n : ℕ) (k : Kept) → node_at (f_at t hs) n ≡ Some k → (l : Live) → live_at k l.me ≡ Some l → children_at (tr_at t hs) l.me ≡ kept_children l
+    told_children : (n : ℕ) (k : NodeState) → node_at (f_at t hs) n ≡ Some k → (l : Live) → live_at k l.me ≡ Some l → children_at (tr_at t hs) l.me ≡ kept_children l
     told_children n k up l live = by l.parent refl
       where
         by : (o : Option BranchId) → l.parent ≡ o → children_at (tr_at t hs) l.me ≡ kept_children l
@@ -109,7 +109,7 @@ module _ (t : History) (whole : IsLawfulRun t) (owns : AtEach (λ places f tr h.
         by (Some q) above = (let it = lower_at t whole hs part n k up l live (λ none. absurd (cc (above, none))) in ap children_of it.1 ∙ it.2.children)
 
     -- and whether it has changes
-    told_changes : (n : ℕ) (k : Kept) → node_at (f_at t hs) n ≡ Some k → (l : Live) → live_at k l.me ≡ Some l → has_changes (tr_at t hs) l.me ≡ l.changed
+    told_changes : (n : ℕ) (k : NodeState) → node_at (f_at t hs) n ≡ Some k → (l : Live) → live_at k l.me ≡ Some l → has_changes (tr_at t hs) l.me ≡ l.changed
     told_changes n k up l live =
         let own : own_at (tr_at t hs) l.me ≡ changes_at k.owns l.me = at_moment t (λ places f tr h. TellsOwns f tr) owns hs h rest is n k up l live in
         let marked : l.changed ≡ are_some (changes_at k.owns l.me) = (changes_are_of_live (so_far t hs) lawful n k up).marked l.me l live in
@@ -132,7 +132,7 @@ module _ (t : History) (whole : IsLawfulRun t) (owns : AtEach (λ places f tr h.
 
     -- ---- its COMMIT comes
 
-    module _ (u : Turn) (turn : h ≡ happenings.Turn u) (sees : SeesRoots (f_at t hs) (tr_at t hs)) (k : Kept) (up : node_at (f_at t hs) u.node ≡ Some k) (n : ℕ) (given : Option (List ℕ)) (call : IsCall u.input n (stmts.Commit given))
+    module _ (u : Turn) (turn : h ≡ happenings.Turn u) (sees : SeesRoots (f_at t hs) (tr_at t hs)) (k : NodeState) (up : node_at (f_at t hs) u.node ≡ Some k) (n : ℕ) (given : Option (List ℕ)) (call : IsCall u.input n (stmts.Commit given))
         (code : (session_at k.sessions n).code ≡ None) (r : BranchId) (has : (session_at k.sessions n).root ≡ Some r) where
       may : MayHappen t.places t.commands (f_at t hs) (happenings.Turn u)
       may = subst (MayHappen t.places t.commands (f_at t hs)) turn (may_of t whole hs h rest is)
@@ -176,7 +176,7 @@ module _ (t : History) (whole : IsLawfulRun t) (owns : AtEach (λ places f tr h.
     abbrev may0 : MayHappen t.places t.commands (f_at t hs) (happenings.Turn u)
     may0 = may_of t whole hs (happenings.Turn u) rest is
 
-    abbrev k : Kept
+    abbrev k : NodeState
     k = may0.0
 
     abbrev pl : Trail

@@ -12,7 +12,7 @@ use Rattle.node_rules.specs.Data.stmts
 use Rattle.node_rules.specs.declared.session.Session.{Session}
 use Rattle.node_rules.specs.Words.{is_item_of, set_numbered}
 use Rattle.node_rules.specs.Inputs.{IsSession}
-use Rattle.node_rules.specs.Kept.{Kept, Branch, Deed, live_id, live_at, post}
+use Rattle.node_rules.specs.NodeState.{NodeState, Branch, Deed, live_id, live_at, post}
 use Rattle.node_rules.specs.Names.{Way, Runs_here, Over, Through, Nowhere_to, way_of, passed_on}
 use Rattle.node_rules.specs.Sessions.{session_at}
 use Rattle.node_rules.specs.Statement.{ran, after_run}
@@ -27,7 +27,7 @@ use Rattle.tree_trail_laws.proofs.ChildStepLemmas.{called_by, still_calls}
 use Rattle.tree_trail_laws.proofs.PlanLemmas.{find_last}
 
 -- What such a turn leaves of the root.
-pub record Fresh (p : Place) (k : Kept) (n : ℕ) (d : Deed) : Type 0 where
+pub record Fresh (p : Place) (k : NodeState) (n : ℕ) (d : Deed) : Type 0 where
   pub live : Live
   pub found : live_at d.after (new_root p k n) ≡ Some live
   pub working : live.phase ≡ phases.Working
@@ -35,14 +35,14 @@ pub record Fresh (p : Place) (k : Kept) (n : ℕ) (d : Deed) : Type 0 where
   pub kids : called_by (new_root p k n) [] d.says ≡ children_of live
   pub next : seqs d.after.sessions ≡ set_numbered (seqs k.sessions) n ((session_at k.sessions n).seq + 1)
 
-module _ (p : Place) (k : Kept) (n : ℕ) (unused : live_at k (new_root p k n) ≡ None) (fit : SessionsFit k) (range : IsSession n) where
+module _ (p : Place) (k : NodeState) (n : ℕ) (unused : live_at k (new_root p k n) ≡ None) (fit : SessionsFit k) (range : IsSession n) where
   abbrev b : BranchId
   b = new_root p k n
 
   abbrev l : Live
   l = fresh_root p k b
 
-  abbrev k1 : Kept
+  abbrev k1 : NodeState
   k1 = begun_by p k n None
 
   found1 : live_at k1 b ≡ Some l
@@ -55,11 +55,11 @@ module _ (p : Place) (k : Kept) (n : ℕ) (unused : live_at k (new_root p k n) �
   stays : (d : Deed) → d.after ≡ k1 → d.says ≡ [] → Fresh p k n d
   stays d after says = record {
     live = l;
-    found = ap (λ (j : Kept). live_at j b) after ∙ found1;
+    found = ap (λ (j : NodeState). live_at j b) after ∙ found1;
     working = refl;
     top = refl;
     kids = ap (called_by b []) says;
-    next = ap (λ (j : Kept). seqs j.sessions) after ∙ next1;
+    next = ap (λ (j : NodeState). seqs j.sessions) after ∙ next1;
   }
 
   no_peer : (i : ℕ) → peer_of l i ≡ None

@@ -14,7 +14,7 @@ use Rattle.node_rules.specs.declared.session.PendingCall.{PendingCall}
 use Rattle.node_rules.specs.declared.session.PendingCall.TheVariants as pending
 use Rattle.node_rules.specs.Words.{same, is_item_of, item_at}
 use Rattle.node_rules.specs.Inputs.{IsCall}
-use Rattle.node_rules.specs.Kept.{Kept, Branch, Deed, live_id, live_at, branch_at, work_at, with_work}
+use Rattle.node_rules.specs.NodeState.{NodeState, Branch, Deed, live_id, live_at, branch_at, work_at, with_work}
 use Rattle.node_rules.specs.Sessions.{session_at}
 use Rattle.node_rules.specs.Client.{new_root}
 use Rattle.node_rules.specs.Turn.{turn_of, heard, deed_of, kind_turn, stand_of}
@@ -97,7 +97,7 @@ module _ (t : History) (whole : IsLawfulRun t) (hs : List Happening) (u : Turn) 
   abbrev may : MayHappen t.places t.commands f0 (happenings.Turn u)
   may = turns.may t whole hs u rest is tops sees counts born plans
 
-  abbrev k : Kept
+  abbrev k : NodeState
   k = may.0
 
   abbrev p : Place
@@ -261,7 +261,7 @@ module _ (t : History) (whole : IsLawfulRun t) (hs : List Happening) (u : Turn) 
 
           hears : Heard s y l
           hears =
-              let k1 : Kept = heard k (inputs.Message y) in
+              let k1 : NodeState = heard k (inputs.Message y) in
               let x1 : Branch = record { live = z; work = work_at k1 z.me } in
               let found1 : branch_at k1 z.me ≡ Some x1 = ap (with_work k1) z_live in
               let rests : z.phase ≢ phases.Working → x1.work.going ≡ None = (λ busy. ((asked_stand_still s0 lawful0 u.node k may.1.up x found).1 busy).0) in

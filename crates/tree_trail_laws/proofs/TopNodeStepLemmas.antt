@@ -16,7 +16,7 @@ use Rattle.node_rules.specs.Words.{put_item, drop_item, numbered, set_numbered}
 use Rattle.node_rules.specs.Inputs.{Came, IsCall}
 use Rattle.node_rules.specs.Refusals.{dtx}
 use Rattle.session_tree.specs.Live.{new_edge, fresh_live}
-use Rattle.node_rules.specs.Kept.{Kept, Branch, Deed, live_id, live_at, branch_at}
+use Rattle.node_rules.specs.NodeState.{NodeState, Branch, Deed, live_id, live_at, branch_at}
 use Rattle.node_rules.specs.Statement.{ran, after_run}
 use Rattle.node_rules.specs.Sessions.{fresh_session, session_at, with_call, needs_rollback, no_transaction, commit_ended}
 use Rattle.node_rules.specs.Calls.{answered_sessions, heard_sessions, next_child, strength_of, with_edge, hears_reply}
@@ -41,14 +41,14 @@ pub no_call : {input : Input} {from to : BranchId} {kind : Kind} → Came input 
 no_call came n s call = let is = came.is in absurd (cc (is, call))
 
 -- What is known of what comes: a call comes where none is pending, and a call, Prepare and Rollback go to branches below others.
-pub record Brings (input : Input) (k : Kept) : Type 0 where
+pub record Brings (input : Input) (k : NodeState) : Type 0 where
   pub free : (n : ℕ) (s : Stmt) → IsCall input n s → (session_at k.sessions n).call ≡ pending.NoCall
   pub asked : (from to : BranchId) (call given : ℕ) (advice : Option Advice) (s : Stmt) → Came input from to (kinds.Exec call given advice s) → (l : Live) → live_at k to ≡ Some l → l.parent ≢ None
   pub prepared : (from to : BranchId) (site_below : Bool) (comment : List ℕ) → Came input from to (kinds.Prepare site_below comment) → (l : Live) → live_at k to ≡ Some l → l.parent ≢ None
   pub rolled : (from to : BranchId) → Came input from to kinds.Rollback → (l : Live) → live_at k to ≡ Some l → l.parent ≢ None
 
 -- one that acts is not working
-acting_busy : {k : Kept} {input : Input} {l : Live} {q : Bool} {a : Act} → Acting k input l q a → l.phase ≢ phases.Working
+acting_busy : {k : NodeState} {input : Input} {l : Live} {q : Bool} {a : Act} → Acting k input l q a → l.phase ≢ phases.Working
 acting_busy (steps.Asks_down l comment q e es found begins has) = λ working. absurd cc
 acting_busy (steps.Has_no_children l comment q a found begins none collected) = λ working. absurd cc
 acting_busy (steps.Hears_abort l from q found answers) = λ working. (let busy = answers.collecting in absurd (cc (working, busy)))
@@ -57,7 +57,7 @@ acting_busy (steps.Hears_last l from v q a found answers other all collected) = 
 acting_busy (steps.At_point l from a found came is pointed) = λ working. absurd (cc (working, is))
 
 -- an act of a branch that is not working, and is the transaction of no session at rest
-module _ (ss : List Session) (k : Kept) (l : Live) (other : l.phase ≢ phases.Working) (now : RootGoes ss k.lives) (but : ButOf l.me ss k.sessions)
+module _ (ss : List Session) (k : NodeState) (l : Live) (other : l.phase ≢ phases.Working) (now : RootGoes ss k.lives) (but : ButOf l.me ss k.sessions)
     (held : (m : ℕ) → (session_at k.sessions m).root ≡ Some l.me → (session_at k.sessions m).call ≡ pending.NoCall → ⊥) where
   -- its COMMIT ends
   ended_goes : RootGoes (commit_ended k.sessions l.me) (drop_item live_id k.lives l.me)
@@ -123,7 +123,7 @@ module _ (ss : List Session) (ls : List Live) (now : RootGoes ss ls) (y : Live) 
 
 -- ---- steps
 
-module _ (k : Kept) (fit : SessionsFit k) (now : RootGoes k.sessions k.lives) where
+module _ (k : NodeState) (fit : SessionsFit k) (now : RootGoes k.sessions k.lives) where
   -- the sessions of a branch are one
   one_session : (m n : ℕ) (b : BranchId) → HasRoot k m b → HasRoot k n b → m ≡ n
   one_session m n b one two = sym (fit.roots.each m b one) ∙ fit.roots.each n b two
@@ -228,7 +228,7 @@ module _ (k : Kept) (fit : SessionsFit k) (now : RootGoes k.sessions k.lives) wh
               absurd (cc (commits, is_free)))
         ])
 
-begun_goes : (k : Kept) (p : Place) (n : ℕ) (fit : SessionsFit k) → RootGoes k.sessions k.lives → (session_at k.sessions n).root ≡ None → (session_at k.sessions n).call ≡ pending.NoCall
+begun_goes : (k : NodeState) (p : Place) (n : ℕ) (fit : SessionsFit k) → RootGoes k.sessions k.lives → (session_at k.sessions n).root ≡ None → (session_at k.sessions n).call ≡ pending.NoCall
     → RootGoes (begun_by p k n None).sessions (begun_by p k n None).lives
 begun_goes k p n fit now none free =
     let b : BranchId = new_root p k n in
@@ -242,7 +242,7 @@ begun_goes k p n fit now none free =
       | inr new ↦ (let no : (session_at (set_numbered k.sessions n s) m).call ≡ pending.NoCall = ap (λ (x : Session). x.call) new.1 ∙ free in absurd (cc (no, commits)))
     ])
 
-begun_brings : (input : Input) (k : Kept) (p : Place) (n : ℕ) (s : Stmt) → IsCall input n s → Brings input k → Brings input (begun_by p k n None)
+begun_brings : (input : Input) (k : NodeState) (p : Place) (n : ℕ) (s : Stmt) → IsCall input n s → Brings input k → Brings input (begun_by p k n None)
 begun_brings input k p n s call brings = record {
   free = λ m x is. elim (session_or_before k.sessions n m (record (session_at k.sessions n) { seq = (new_root p k n).seq; root = Some (new_root p k n) })) [
     | inl still ↦ ap (λ (y : Session). y.call) still ∙ brings.free m x is
@@ -254,7 +254,7 @@ begun_brings input k p n s call brings = record {
 }
 
 module _ (p : Place) (input : Input) (quits : (n : ℕ) (c : Option (List ℕ)) → IsCall input n (stmts.Commit c) → ⊥) where
-  pub goes_on : {k : Kept} {d : Deed} → Step p input k d → SessionsFit k → Brings input k → (((n : ℕ) (s : Stmt) → IsCall input n s → ⊥) → NodeRoots k) → RootGoes k.sessions k.lives → RootGoes d.after.sessions d.after.lives
+  pub goes_on : {k : NodeState} {d : Deed} → Step p input k d → SessionsFit k → Brings input k → (((n : ℕ) (s : Stmt) → IsCall input n s → ⊥) → NodeRoots k) → RootGoes k.sessions k.lives → RootGoes d.after.sessions d.after.lives
   goes_on (steps.Begins {k = k} n s call rows range none step) fit brings roots now =
       goes_on step (begun_so k fit p n) (begun_brings input k p n s call brings) (λ no. absurd (no n s call)) (begun_goes k p n fit now none (brings.free n s call))
   goes_on (steps.Pends {k = k} n l given call has found code step) fit brings roots now = absurd (quits n given call)
@@ -311,7 +311,7 @@ module _ (p : Place) (input : Input) (quits : (n : ℕ) (c : Option (List ℕ)) 
 
 -- ---- COMMIT
 
-module _ (k : Kept) (fit : SessionsFit k) (now : RootGoes k.sessions k.lives) (n : ℕ) where
+module _ (k : NodeState) (fit : SessionsFit k) (now : RootGoes k.sessions k.lives) (n : ℕ) where
   commit_by_goes : (comment : List ℕ) (code : Option ℕ) (o : Option Branch) → RootSo k n o → RootGoes (commit_by k n comment code o).after.sessions (commit_by k n comment code o).after.lives
   commit_by_goes comment None None so = now
   commit_by_goes comment (Some c) None so = now
@@ -333,19 +333,19 @@ module _ (k : Kept) (fit : SessionsFit k) (now : RootGoes k.sessions k.lives) (n
 
 -- ---- a turn
 
-heard_brings : (k : Kept) (input what : Input) → Brings what k → Brings what (heard k input)
+heard_brings : (k : NodeState) (input what : Input) → Brings what k → Brings what (heard k input)
 heard_brings k (inputs.Message m) what brings = record { free = brings.free; asked = brings.asked; prepared = brings.prepared; rolled = brings.rolled }
 heard_brings k (inputs.Call n s) what brings = brings
 heard_brings k (inputs.GiveUp n) what brings = brings
 heard_brings k inputs.Reco what brings = brings
 
-heard_goes : (k : Kept) (input : Input) → RootGoes k.sessions k.lives → RootGoes (heard k input).sessions (heard k input).lives
+heard_goes : (k : NodeState) (input : Input) → RootGoes k.sessions k.lives → RootGoes (heard k input).sessions (heard k input).lives
 heard_goes k (inputs.Message m) now = now
 heard_goes k (inputs.Call n s) now = now
 heard_goes k (inputs.GiveUp n) now = now
 heard_goes k inputs.Reco now = now
 
-pub turn_goes : (p : Place) (k : Kept) (input : Input) → Step p input (heard k input) (deed_of p k input) → Brings input k → NodeRests k → RootGoes k.sessions k.lives → RootGoes (deed_of p k input).after.sessions (deed_of p k input).after.lives
+pub turn_goes : (p : Place) (k : NodeState) (input : Input) → Step p input (heard k input) (deed_of p k input) → Brings input k → NodeRests k → RootGoes k.sessions k.lives → RootGoes (deed_of p k input).after.sessions (deed_of p k input).after.lives
 turn_goes p k input step brings rests now = elim (commit_or_not input) [
   | inl is ↦ subst (λ (i : Input). RootGoes (deed_of p k i).after.sessions (deed_of p k i).after.lives) (sym is.2) (commit_goes k rests.0 now is.0 is.1)
   | inr not ↦ (let next : NodeRests (heard k input) = heard_rests k input rests in goes_on p input not step next.0 (heard_brings k input input brings) (λ no. next.1) (heard_goes k input now))

@@ -4,7 +4,7 @@ use Rattle.std.specs.List.{AllByRecursion}
 use Rattle.node_rules.specs.Data.{BranchId, RedoRecord}
 use Rattle.node_rules.specs.Data.records
 use Rattle.node_rules.specs.Words.{numbered}
-use Rattle.node_rules.specs.Kept.{Kept}
+use Rattle.node_rules.specs.NodeState.{NodeState}
 use Rattle.node_rules.specs.Sessions.{session_at}
 use Rattle.node_rules.specs.Turn.{start_of, made}
 use Rattle.run_rules.specs.Branches.{Plan, plan_at, Seen, Trail, seen_at}
@@ -38,7 +38,7 @@ module _ (t : History) (whole : IsLawfulRun t) where
     still_tops : (f : Facts) (tr : Trail) → f ≡ f_at t (hs ++ h ∷ []) → tr ≡ tr_at t (hs ++ h ∷ []) → f.nodes ≡ (f_at t hs).nodes → f.records ≡ (f_at t hs).records → f.node_to_stop ≡ (f_at t hs).node_to_stop
         → tr.seen ≡ (tr_at t hs).seen → tr.plans ≡ (tr_at t hs).plans → Tops t whole (hs ++ h ∷ [])
     still_tops f tr facts trail nodes disks stops seen plans =
-        let up : (n : ℕ) → node_at f n ≡ node_at (f_at t hs) n = (λ n. ap (λ (xs : List (Option Kept)). flat (numbered xs n)) nodes) in
+        let up : (n : ℕ) → node_at f n ≡ node_at (f_at t hs) n = (λ n. ap (λ (xs : List (Option NodeState)). flat (numbered xs n)) nodes) in
         let disk : (n : ℕ) → records_at f n ≡ records_at (f_at t hs) n = (λ n. ap (λ (xs : List (List RedoRecord)). unwrap_or (numbered xs n) []) disks) in
         tops_so t whole (hs ++ h ∷ []) f tr facts trail (record {
           tops = λ n k at l live top. (let it = now.tops n k (sym (up n) ∙ at) l live top in
@@ -97,12 +97,12 @@ module _ (t : History) (whole : IsLawfulRun t) where
     plans = tt;
   }
     where
-      first_goes : (n : ℕ) (k : Kept) → node_at (first_facts t.places) n ≡ Some k → RootGoes k.sessions k.lives
+      first_goes : (n : ℕ) (k : NodeState) → node_at (first_facts t.places) n ≡ Some k → RootGoes k.sessions k.lives
       first_goes n =
-          first_node (λ o. (k : Kept) → o ≡ Some k → RootGoes k.sessions k.lives) (λ k none. absurd cc)
-          (λ k is. (let it : made ≡ k = cc in subst (λ (i : Kept). RootGoes i.sessions i.lives) it (started_goes (records.Boot 1 ∷ [])))) t.places n
+          first_node (λ o. (k : NodeState) → o ≡ Some k → RootGoes k.sessions k.lives) (λ k none. absurd cc)
+          (λ k is. (let it : made ≡ k = cc in subst (λ (i : NodeState). RootGoes i.sessions i.lives) it (started_goes (records.Boot 1 ∷ [])))) t.places n
 
-      first_count : (n : ℕ) (k : Kept) → node_at (first_facts t.places) n ≡ Some k → (session : ℕ) → 0 ≡ (session_at k.sessions session).seq
+      first_count : (n : ℕ) (k : NodeState) → node_at (first_facts t.places) n ≡ Some k → (session : ℕ) → 0 ≡ (session_at k.sessions session).seq
       first_count n =
-          first_node (λ o. (k : Kept) → o ≡ Some k → (session : ℕ) → 0 ≡ (session_at k.sessions session).seq) (λ k none. absurd cc)
-          (λ k is session. (let it : made ≡ k = cc in subst (λ (i : Kept). 0 ≡ (session_at i.sessions session).seq) it (sym (ap (λ s. s.seq) (started_session (records.Boot 1 ∷ []) session))))) t.places n
+          first_node (λ o. (k : NodeState) → o ≡ Some k → (session : ℕ) → 0 ≡ (session_at k.sessions session).seq) (λ k none. absurd cc)
+          (λ k is session. (let it : made ≡ k = cc in subst (λ (i : NodeState). 0 ≡ (session_at i.sessions session).seq) it (sym (ap (λ s. s.seq) (started_session (records.Boot 1 ∷ []) session))))) t.places n

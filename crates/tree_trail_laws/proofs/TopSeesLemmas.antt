@@ -6,7 +6,7 @@ use Rattle.tran_ids.proofs.ListedLemmas.{item_is}
 use Rattle.node_rules.specs.Data.{BranchId, Live}
 use Rattle.node_rules.specs.declared.session.PendingCall.TheVariants as pending
 use Rattle.node_rules.specs.Words.{same, item_at}
-use Rattle.node_rules.specs.Kept.{Kept, live_id, live_at, work_at, with_work}
+use Rattle.node_rules.specs.NodeState.{NodeState, live_id, live_at, work_at, with_work}
 use Rattle.node_rules.specs.Sessions.{session_at}
 use Rattle.node_rules.specs.Client.{new_root}
 use Rattle.run_rules.specs.Branches.{Seen, Trail, is_live, is_live_at, is_root_of, seen_id, seen_at, root_at}
@@ -58,8 +58,8 @@ module _ (t : History) (whole : IsLawfulRun t) (hs : List Happening) (part : Par
   abbrev tr : Trail
   tr = tr_at t hs
 
-  module _ (tops : TellsTops f tr) (alone : Alone tr.seen) (back : AllByRecursion (Back f) tr.seen) (goes : (n : ℕ) (k : Kept) → node_at f n ≡ Some k → RootGoes k.sessions k.lives)
-      (n : ℕ) (k : Kept) (up : node_at f n ≡ Some k) (session : ℕ) where
+  module _ (tops : TellsTops f tr) (alone : Alone tr.seen) (back : AllByRecursion (Back f) tr.seen) (goes : (n : ℕ) (k : NodeState) → node_at f n ≡ Some k → RootGoes k.sessions k.lives)
+      (n : ℕ) (k : NodeState) (up : node_at f n ≡ Some k) (session : ℕ) where
     -- a root that is told to be live is its session's transaction
     told_live : (s : Seen) → root_at tr n session ≡ Some s → ((session_at k.sessions session).root ≡ Some s.me) × (seen_at tr s.me ≡ Some s) × ((l : Live) × (live_at k s.me ≡ Some l))
     told_live s root =
@@ -130,7 +130,7 @@ module _ (t : History) (whole : IsLawfulRun t) (hs : List Happening) (part : Par
         let me : s.me ≡ b = cc in
         (subst (λ c. seen_at tr c ≡ Some s) me its.1, (its.2.0, subst (λ c. live_at k c ≡ Some its.2.0) me its.2.1))
 
-  pub sees_roots : TellsTops f tr → Alone tr.seen → AllByRecursion (Back f) tr.seen → ((n : ℕ) (k : Kept) → node_at f n ≡ Some k → RootGoes k.sessions k.lives) → SeesRoots f tr
+  pub sees_roots : TellsTops f tr → Alone tr.seen → AllByRecursion (Back f) tr.seen → ((n : ℕ) (k : NodeState) → node_at f n ≡ Some k → RootGoes k.sessions k.lives) → SeesRoots f tr
   sees_roots tops alone back goes n k up session range free = sees_one tops alone back goes n k up session free (root_at tr n session) (session_at k.sessions session).root refl refl
 
   -- ---- the next root

@@ -13,7 +13,7 @@ use Rattle.node_rules.specs.declared.session.Session.{Session}
 use Rattle.node_rules.specs.Words.{set_numbered}
 use Rattle.node_rules.specs.Inputs.{IsCall, IsSession}
 use Rattle.session_tree.specs.Live.{new_edge}
-use Rattle.node_rules.specs.Kept.{Kept, Deed}
+use Rattle.node_rules.specs.NodeState.{NodeState, Deed}
 use Rattle.node_rules.specs.Sessions.{session_at, with_call, no_transaction}
 use Rattle.node_rules.specs.Statement.{ran, after_run}
 use Rattle.node_rules.specs.Calls.{with_edge, hears_reply, heard_sessions}
@@ -44,7 +44,7 @@ pub record BeginsAt (input : Input) (ss ts : List Session) : Type 0 where
 
 module _ (p : Place) (input : Input) where
   -- a session that has begun one begins no other
-  begun_once : (k : Kept) → SessionsFit k → (n : ℕ) (s : Stmt) → IsCall input n s → IsSession n → (ts : List Session) → BeginsAt input (set_numbered k.sessions n (record (session_at k.sessions n) { seq = (new_root p k n).seq; root = Some (new_root p k n) })) ts → ⊥
+  begun_once : (k : NodeState) → SessionsFit k → (n : ℕ) (s : Stmt) → IsCall input n s → IsSession n → (ts : List Session) → BeginsAt input (set_numbered k.sessions n (record (session_at k.sessions n) { seq = (new_root p k n).seq; root = Some (new_root p k n) })) ts → ⊥
   begun_once k fit n s call range ts more =
       let x : Session = record (session_at k.sessions n) { seq = (new_root p k n).seq; root = Some (new_root p k n) } in
       let here = item_there k.sessions n range.0 (omega (arith, range.1, fit.roots.many)) in
@@ -62,7 +62,7 @@ module _ (p : Place) (input : Input) where
       let here : s ≡ stmts.Commit given = cc in
       absurd (subst IsOfRows here rows)
 
-  pub seqs_on : {k : Kept} {d : Deed} → Step p input k d → SessionsFit k → (seqs d.after.sessions ≡ seqs k.sessions) ⊎ BeginsAt input k.sessions d.after.sessions
+  pub seqs_on : {k : NodeState} {d : Deed} → Step p input k d → SessionsFit k → (seqs d.after.sessions ≡ seqs k.sessions) ⊎ BeginsAt input k.sessions d.after.sessions
   seqs_on {d = d} (steps.Begins {k = k} n s call rows range none step) fit = elim (seqs_on step (begun_so k fit p n)) [
     | inl same ↦ inr (record {
       session = n;
@@ -119,31 +119,31 @@ module _ (p : Place) (input : Input) where
 abbrev pub IsHigh : Born → Type 0
 IsHigh x = x.parent ≢ None → 65 ≤ x.me.session
 
-roots_high : (p : Place) (k : Kept) (n : ℕ) (o : Option BranchId) → AllByRecursion IsHigh (roots_by p k n o)
+roots_high : (p : Place) (k : NodeState) (n : ℕ) (o : Option BranchId) → AllByRecursion IsHigh (roots_by p k n o)
 roots_high p k n None = ((λ some. absurd (some refl)), tt)
 roots_high p k n (Some b) = tt
 
-opens_high : (p : Place) (k : Kept) (parent : BranchId) (edge : ℕ) (root : BranchId) (depth : ℕ) (o : Option Opening) → AllByRecursion IsHigh (births_by_open p k parent edge root depth o)
+opens_high : (p : Place) (k : NodeState) (parent : BranchId) (edge : ℕ) (root : BranchId) (depth : ℕ) (o : Option Opening) → AllByRecursion IsHigh (births_by_open p k parent edge root depth o)
 opens_high p k parent edge root depth None = ((λ some. omega arith), tt)
 opens_high p k parent edge root depth (Some o) = tt
 
-kind_high : (p : Place) (k : Kept) (from : BranchId) (kind : Kind) → AllByRecursion IsHigh (births_by_kind p k from kind)
+kind_high : (p : Place) (k : NodeState) (from : BranchId) (kind : Kind) → AllByRecursion IsHigh (births_by_kind p k from kind)
 kind_high p k from (kinds.Open edge root depth) = opens_high p k from edge root depth _
 kind_high p k from _ = tt
 
-call_high : (p : Place) (k : Kept) (n : ℕ) (s : Stmt) → AllByRecursion IsHigh (births_by_call p k n s)
+call_high : (p : Place) (k : NodeState) (n : ℕ) (s : Stmt) → AllByRecursion IsHigh (births_by_call p k n s)
 call_high p k n s = by (is_of_rows s)
   where
     by : (q : Bool) → AllByRecursion IsHigh (if q then roots_by p k n (session_at k.sessions n).root else [])
     by true = roots_high p k n (session_at k.sessions n).root
     by false = tt
 
-by_high : (p : Place) (k : Kept) (input : Input) → AllByRecursion IsHigh (births_by p k input)
+by_high : (p : Place) (k : NodeState) (input : Input) → AllByRecursion IsHigh (births_by p k input)
 by_high p k (inputs.Call n (Some s)) = call_high p k n s
 by_high p k (inputs.Message m) = kind_high p k m.from m.kind
 by_high p k _ = tt
 
-at_high : (p : Place) (input : Input) (o : Option Kept) → AllByRecursion IsHigh (births_at p input o)
+at_high : (p : Place) (input : Input) (o : Option NodeState) → AllByRecursion IsHigh (births_at p input o)
 at_high p input None = tt
 at_high p input (Some k) = by_high p k input
 

@@ -3,7 +3,7 @@ use Rattle.std.proofs.Common.{◌≡◌, ◌≢◌, ℕ, zero, suc, ◌+◌, ◌
 use Rattle.std.specs.List.{AllByRecursion}
 use Rattle.std.proofs.lemmas.Bool.{and_left, and_right, ne_eqb, cases_eq}
 use Rattle.node_rules.specs.Data.{Live, RedoRecord}
-use Rattle.node_rules.specs.Kept.{Kept, live_at}
+use Rattle.node_rules.specs.NodeState.{NodeState, live_at}
 use Rattle.node_rules.specs.Sessions.{fresh_session, session_at}
 use Rattle.node_rules.specs.Turn.{start_of}
 use Rattle.run_rules.specs.Branches.{Seen, Trail}
@@ -75,7 +75,7 @@ module _ (t : History) (whole : IsLawfulRun t) where
     elsewhere m other = start_elsewhere t.places t.commands f0 (run_stands (so_far t hs) lawful0).0.even n boot m other
 
     -- a node that is up after it was so, or it is this one
-    either_up : (m : ℕ) (j : Kept) → node_at f1 m ≡ Some j → ((n ≢ m) × (node_at f0 m ≡ Some j)) ⊎ ((n ≡ m) × (j ≡ start_of (with_boot f0 n boot)))
+    either_up : (m : ℕ) (j : NodeState) → node_at f1 m ≡ Some j → ((n ≢ m) × (node_at f0 m ≡ Some j)) ⊎ ((n ≡ m) × (j ≡ start_of (with_boot f0 n boot)))
     either_up m j up = elim (cases_eq n m) [
       | inr other ↦ inl (other, sym (elsewhere m other).0 ∙ up)
       | inl same_one ↦ (let both : Some (start_of (with_boot f0 n boot)) ≡ Some j = sym here.0 ∙ subst (λ i. node_at f1 i ≡ Some j) (sym same_one) up in let it : start_of (with_boot f0 n boot) ≡ j = cc in inr (same_one, sym it))
@@ -117,7 +117,7 @@ module _ (t : History) (whole : IsLawfulRun t) where
     start_counts m j up session range = ap (λ xs. length (filter (is_of m (boots (records_at f1 m)) session) xs)) same_seen ∙ elim (either_up m j up) [
       | inl was ↦ ap (λ rs. begun_in tr0 m (boots rs) session) (elsewhere m was.0).1 ∙ now.counts m j was.1 session range
       | inr new ↦ subst (λ i. begun_in tr0 i (boots (records_at f1 i)) session ≡ (session_at j.sessions session).seq) new.0
-          (count_none (is_of n (boots (records_at f1 n)) session) tr0.seen (none_yet session range.1) ∙ sym (ap (λ (i : Kept). (session_at i.sessions session).seq) new.1 ∙ ap (λ s. s.seq) (started_session (with_boot f0 n boot) session)))
+          (count_none (is_of n (boots (records_at f1 n)) session) tr0.seen (none_yet session range.1) ∙ sym (ap (λ (i : NodeState). (session_at i.sessions session).seq) new.1 ∙ ap (λ s. s.seq) (started_session (with_boot f0 n boot) session)))
     ]
 
     start_told : TellsTops f1 tr1
@@ -141,7 +141,7 @@ module _ (t : History) (whole : IsLawfulRun t) where
     start_tops =
         tops_so t whole (hs ++ happenings.Started n boot ∷ []) f1 tr1 (sym (one_on t hs (happenings.Started n boot))) (sym (trail_one_on t hs (happenings.Started n boot))) (record {
           tops = start_told;
-          goes = λ m j up. elim (either_up m j up) [ inl was ↦ now.goes m j was.1 | inr new ↦ subst (λ (i : Kept). RootGoes i.sessions i.lives) (sym new.1) (started_goes (with_boot f0 n boot)) ];
+          goes = λ m j up. elim (either_up m j up) [ inl was ↦ now.goes m j was.1 | inr new ↦ subst (λ (i : NodeState). RootGoes i.sessions i.lives) (sym new.1) (started_goes (with_boot f0 n boot)) ];
           counts = start_counts;
           booted = subst (AllByRecursion (Booted t whole f1)) (sym same_seen) (all_weaker (Booted t whole f0) (Booted t whole f1) (λ s so low. omega (arith, so low, boots_up s.me.node)) tr0.seen now.booted);
           ordered = subst (AllByRecursion (Ordered tr1)) (sym same_seen)

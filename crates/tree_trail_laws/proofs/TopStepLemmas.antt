@@ -19,7 +19,7 @@ use Rattle.node_rules.specs.declared.session.PendingCall.TheVariants as pending
 use Rattle.node_rules.specs.declared.session.Session.{Session}
 use Rattle.node_rules.specs.Words.{same, is_item_of, item_at, put_item, drop_item}
 use Rattle.node_rules.specs.Inputs.{Came, IsCall}
-use Rattle.node_rules.specs.Kept.{Kept, Deed, live_id, live_at, post, to_one}
+use Rattle.node_rules.specs.NodeState.{NodeState, Deed, live_id, live_at, post, to_one}
 use Rattle.node_rules.specs.Sessions.{session_at, with_call}
 use Rattle.node_rules.specs.Client.{new_root, fresh_root}
 use Rattle.node_rules.specs.Calls.{next_child, strength_of}
@@ -101,7 +101,7 @@ module _ (input : Input) (b : BranchId) (z : Live) where
   never_abandons collected = elim collected [ ]
 
   module _ (p : Place) (asked_below : (from : BranchId) (sb : Bool) (comment : List ℕ) → Came input from b (kinds.Prepare sb comment) → z.parent ≢ None) (way : z.parent ≡ None → z.phase ≢ phases.Collecting false) where
-    module _ (k : Kept) (fit : SessionsFit k) (live : live_at k b ≡ Some z) where
+    module _ (k : NodeState) (fit : SessionsFit k) (live : live_at k b ≡ Some z) where
       abbrev After : List Live → Type 0
       After ls = item_at live_id ls b ≡ None
 
@@ -189,7 +189,7 @@ module _ (input : Input) (b : BranchId) (z : Live) where
 
     -- ---- every step
 
-    pub why_on : {k : Kept} {d : Deed} → Step p input k d → SessionsFit k → live_at k b ≡ Some z → live_at d.after b ≡ None → Why k.sessions d.wrote d.says
+    pub why_on : {k : NodeState} {d : Deed} → Step p input k d → SessionsFit k → live_at k b ≡ Some z → live_at d.after b ≡ None → Why k.sessions d.wrote d.says
     why_on {d = d} (steps.Begins {k = k} n s call rows range none step) fit live gone =
         begun_why n s call rows k.sessions _ d.wrote d.says (why_on step (begun_so k fit p n) (find_more (is_item_of live_id b) k.lives (fresh_root p k (new_root p k n) ∷ []) z live) gone)
     why_on {d = d} (steps.Pends {k = k} n l given call has found code step) fit live gone = pends_why n given call k.sessions d.wrote d.says (why_on step (pends_so k fit n pending.Commit) live gone)

@@ -4,7 +4,7 @@ use Rattle.std.specs.List.{AllByRecursion}
 use Rattle.std.proofs.lemmas.Bool.{and_from, eq-eqb}
 use Rattle.tran_ids.proofs.ListedLemmas.{item_is}
 use Rattle.node_rules.specs.Data.{BranchId, Live}
-use Rattle.node_rules.specs.Kept.{Kept, live_id}
+use Rattle.node_rules.specs.NodeState.{NodeState, live_id}
 use Rattle.run_rules.specs.Branches.{Exit, Dropped, Seen, Trail, seen_id, is_live, is_live_at}
 use Rattle.run_rules.specs.Data.{Happening}
 use Rattle.run_rules.specs.Data.happenings
@@ -57,11 +57,11 @@ module _ (t : History) (whole : IsLawfulRun t) where
     may : MayHappen t.places t.commands f0 (happenings.Stopped n)
     may = may_of t whole hs (happenings.Stopped n) rest is
 
-    up_before : (m : ℕ) (j : Kept) → node_at f1 m ≡ Some j → node_at f0 m ≡ Some j
+    up_before : (m : ℕ) (j : NodeState) → node_at f1 m ≡ Some j → node_at f0 m ≡ Some j
     unfolding facts_after
     up_before m j up = stop_still t whole f0 n m j up
 
-    not_up : (j : Kept) → node_at f1 n ≡ Some j → ⊥
+    not_up : (j : NodeState) → node_at f1 n ≡ Some j → ⊥
     unfolding facts_after
     not_up j up = not_stopped t whole f0.nodes n j up
 

@@ -13,7 +13,7 @@ use Rattle.node_rules.specs.Data.phases
 use Rattle.node_rules.specs.Data.stmts
 use Rattle.node_rules.specs.Words.{same, is_item_of}
 use Rattle.node_rules.specs.Inputs.{IsCall}
-use Rattle.node_rules.specs.Kept.{Kept, Deed, live_id, live_at}
+use Rattle.node_rules.specs.NodeState.{NodeState, Deed, live_id, live_at}
 use Rattle.node_rules.specs.Turn.{turn_of, outcome_of, deed_of, stamped}
 use Rattle.run_rules.specs.Branches.{Seen, Trail, is_live_at, is_root_of, seen_id, seen_at, plan_at}
 use Rattle.run_rules.specs.Data.{Took, Turn, Happening}
@@ -92,7 +92,7 @@ module _ (t : History) (whole : IsLawfulRun t) (hs : List Happening) (u : Turn) 
   abbrev pub may : MayHappen t.places t.commands f0 (happenings.Turn u)
   may = may_of t whole hs (happenings.Turn u) rest is
 
-  abbrev k : Kept
+  abbrev k : NodeState
   k = may.0
 
   abbrev p : Place
@@ -115,7 +115,7 @@ module _ (t : History) (whole : IsLawfulRun t) (hs : List Happening) (u : Turn) 
 
   -- ---- one that is live after the turn
 
-  module _ (n : ℕ) (j : Kept) (up : node_at f1 n ≡ Some j) (l : Live) (live : live_at j l.me ≡ Some l) where
+  module _ (n : ℕ) (j : NodeState) (up : node_at f1 n ≡ Some j) (l : Live) (live : live_at j l.me ≡ Some l) where
     pub up1 : node_at (facts_at s1) n ≡ Some j
     up1 = ap (λ f. node_at f n) (one_on t hs (happenings.Turn u)) ∙ up
 
@@ -181,7 +181,7 @@ module _ (t : History) (whole : IsLawfulRun t) (hs : List Happening) (u : Turn) 
   came_here m None comes = absurd comes
   came_here m (Some x) comes = comes.1.here
 
-  pub elsewhere : (n : ℕ) (j : Kept) → u.node ≢ n → (up : node_at f1 n ≡ Some j) (l : Live) (live : live_at j l.me ≡ Some l) (top : l.parent ≡ None) → Told n j up l live top
+  pub elsewhere : (n : ℕ) (j : NodeState) → u.node ≢ n → (up : node_at f1 n ≡ Some j) (l : Live) (live : live_at j l.me ≡ Some l) (top : l.parent ≡ None) → Told n j up l live top
   elsewhere n j other up l live top =
       let before : node_at f0 n ≡ Some j = sym (turn_elsewhere t.places t.commands f0 (run_stands s0 lawful0).0.even u n other).0 ∙ up in
       let own : l.me.node ≡ n = all_found (λ l. l.me.node ≡ n) live_id j.lives l.me l (ids_name_their_node s0 lawful0 n j before).lives live in

@@ -2,7 +2,7 @@
 use Rattle.std.proofs.Common.{◌≡◌, ℕ, Bool, true, false, List, [], ◌∷◌, ◌++◌, Some, inl, inr, sym, subst, ◌∙◌}
 use Rattle.std.specs.List.{AllByRecursion}
 use Rattle.std.proofs.lemmas.Bool.{cases_eq}
-use Rattle.node_rules.specs.Kept.{Kept}
+use Rattle.node_rules.specs.NodeState.{NodeState}
 use Rattle.node_rules.specs.Turn.{deed_of}
 use Rattle.run_rules.specs.Branches.{Trail}
 use Rattle.run_rules.specs.Data.{Turn, Happening}
@@ -41,7 +41,7 @@ module _ (t : History) (whole : IsLawfulRun t) where
   -- what each happening keeps
   pub record Tops (hs : List Happening) : Type 0 where
     pub tops : TellsTops (f_at t hs) (tr_at t hs)
-    pub goes : (n : ℕ) (k : Kept) → node_at (f_at t hs) n ≡ Some k → RootGoes k.sessions k.lives
+    pub goes : (n : ℕ) (k : NodeState) → node_at (f_at t hs) n ≡ Some k → RootGoes k.sessions k.lives
     pub counts : Counts t whole (f_at t hs) (tr_at t hs)
     pub booted : AllByRecursion (Booted t whole (f_at t hs)) (tr_at t hs).seen
     pub ordered : AllByRecursion (Ordered (tr_at t hs)) (tr_at t hs).seen
@@ -53,7 +53,7 @@ module _ (t : History) (whole : IsLawfulRun t) where
   -- the same of facts and a trail
   pub record TopsSo (hs : List Happening) (f : Facts) (tr : Trail) : Type 0 where
     pub tops : TellsTops f tr
-    pub goes : (n : ℕ) (k : Kept) → node_at f n ≡ Some k → RootGoes k.sessions k.lives
+    pub goes : (n : ℕ) (k : NodeState) → node_at f n ≡ Some k → RootGoes k.sessions k.lives
     pub counts : Counts t whole f tr
     pub booted : AllByRecursion (Booted t whole f) tr.seen
     pub ordered : AllByRecursion (Ordered tr) tr.seen
@@ -94,7 +94,7 @@ module _ (t : History) (whole : IsLawfulRun t) where
     may : MayHappen t.places t.commands f0 (happenings.Turn u)
     may = may_of t whole hs (happenings.Turn u) rest is
 
-    abbrev k : Kept
+    abbrev k : NodeState
     k = may.0
 
     before : Before u.input k
@@ -118,7 +118,7 @@ module _ (t : History) (whole : IsLawfulRun t) where
     here_after : node_at f1 u.node ≡ kept_after u.cut (Some (turn_of (place_at t.places u.node) k u.input))
     here_after = (turn_here t.places t.commands f0 (run_stands s0 lawful0).0.even u k may.1.up).0
 
-    goes_on : (n : ℕ) (j : Kept) → node_at f1 n ≡ Some j → RootGoes j.sessions j.lives
+    goes_on : (n : ℕ) (j : NodeState) → node_at f1 n ≡ Some j → RootGoes j.sessions j.lives
     unfolding turn_of
     goes_on n j up = elim (cases_eq u.node n) [
       | inr other ↦ now.goes n j (sym (turn_elsewhere t.places t.commands f0 (run_stands s0 lawful0).0.even u n other).0 ∙ up)
@@ -127,7 +127,7 @@ module _ (t : History) (whole : IsLawfulRun t) where
       where
         by : (cut : Bool) → kept_after cut (Some (turn_of (place_at t.places u.node) k u.input)) ≡ Some j → RootGoes j.sessions j.lives
         by true there = absurd cc
-        by false there = (let it : (deed_of (place_at t.places u.node) k u.input).after ≡ j = cc in subst (λ (i : Kept). RootGoes i.sessions i.lives) it goes_after)
+        by false there = (let it : (deed_of (place_at t.places u.node) k u.input).after ≡ j = cc in subst (λ (i : NodeState). RootGoes i.sessions i.lives) it goes_after)
 
     pub turn_tops : Siteless t whole hs u rest is now.tops sees now.counts now.born now.alone now.goes → Tops (hs ++ happenings.Turn u ∷ [])
     turn_tops siteless =

@@ -8,7 +8,7 @@ use Rattle.node_rules.specs.Data.inputs
 use Rattle.node_rules.specs.Data.kinds
 use Rattle.node_rules.specs.Data.stmts
 use Rattle.node_rules.specs.Words.{same}
-use Rattle.node_rules.specs.Kept.{Kept}
+use Rattle.node_rules.specs.NodeState.{NodeState}
 use Rattle.node_rules.specs.Sessions.{session_at}
 use Rattle.node_rules.specs.Client.{new_root}
 use Rattle.node_rules.proofs.Steps.{IsOfRows}
@@ -125,7 +125,7 @@ either (y ∷ xs) ys b x at = by (same y.me b) at (either xs ys b x)
     by false at rest = rest at
 
 -- a root that begins does so by a statement in a session without a transaction
-pub record ByCall (p : Place) (k : Kept) (input : Input) (b : BranchId) : Type 0 where
+pub record ByCall (p : Place) (k : NodeState) (input : Input) (b : BranchId) : Type 0 where
   pub session : ℕ
   pub statement : Stmt
   pub call : input ≡ inputs.Call session (Some statement)
@@ -140,7 +140,7 @@ one_born y x b at = by (same y.me b) refl at
     by true here at = (let it : Some y ≡ Some x = at in (let same_one : y ≡ x = cc in (same_one, equal_from_same y.me b here)))
     by false other at = absurd cc
 
-opened_parent : (p : Place) (k : Kept) (from : BranchId) (kind : Kind) (b : BranchId) (x : Born) → born_at (births_by_kind p k from kind) b ≡ Some x → x.parent ≢ None
+opened_parent : (p : Place) (k : NodeState) (from : BranchId) (kind : Kind) (b : BranchId) (x : Born) → born_at (births_by_kind p k from kind) b ≡ Some x → x.parent ≢ None
 opened_parent p k from (kinds.Open edge root depth) b x at = by (find (is_opening from edge) k.opens) at
   where
     by : (o : Option Opening) → born_at (births_by_open p k from edge root depth o) b ≡ Some x → x.parent ≢ None
@@ -148,7 +148,7 @@ opened_parent p k from (kinds.Open edge root depth) b x at = by (find (is_openin
     by (Some o) at none = absurd cc
 opened_parent p k from _ b x at = absurd cc
 
-pub by_call : (p : Place) (k : Kept) (input : Input) (b : BranchId) (x : Born) → born_at (births_by p k input) b ≡ Some x → x.parent ≡ None → ByCall p k input b
+pub by_call : (p : Place) (k : NodeState) (input : Input) (b : BranchId) (x : Born) → born_at (births_by p k input) b ≡ Some x → x.parent ≡ None → ByCall p k input b
 by_call p k (inputs.Call n (Some s)) b x at top = by (is_of_rows s) refl at
   where
     root : (r : Option BranchId) → (session_at k.sessions n).root ≡ r → is_of_rows s ≡ true → born_at (roots_by p k n r) b ≡ Some x → ByCall p k (inputs.Call n (Some s)) b

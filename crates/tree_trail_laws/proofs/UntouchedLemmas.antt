@@ -12,7 +12,7 @@ use Rattle.node_rules.specs.Words.{same, is_item_of, item_at, put_item, drop_ite
 use Rattle.node_rules.specs.Data.inputs
 use Rattle.node_rules.specs.Data.stmts
 use Rattle.node_rules.specs.Inputs.{Came, IsCall}
-use Rattle.node_rules.specs.Kept.{Kept, Branch, Deed, live_id, live_at}
+use Rattle.node_rules.specs.NodeState.{NodeState, Branch, Deed, live_id, live_at}
 use Rattle.node_rules.specs.Statement.{ran, after_run}
 use Rattle.node_rules.specs.Calls.{next_child, strength_of, with_edge, hears_reply}
 use Rattle.node_rules.specs.Client.{new_root, fresh_root}
@@ -30,12 +30,12 @@ pub data Concerns_root (input : Input) (n : ℕ) : Type 0 where
   Gives_up : input ≡ inputs.GiveUp n → Concerns_root input n
 
 module _ (p : Place) (input : Input) (b : BranchId) (not_to : (from : BranchId) (kind : Kind) → Came input from b kind → ⊥) (z : Live)
-    (not_root : (k : Kept) → SessionsFit k → live_at k b ≡ Some z → (n : ℕ) → Concerns_root input n → HasRoot k n b → ⊥) where
+    (not_root : (k : NodeState) → SessionsFit k → live_at k b ≡ Some z → (n : ℕ) → Concerns_root input n → HasRoot k n b → ⊥) where
   -- no message came to it
   came_not : (c : BranchId) → c ≡ b → (from : BranchId) (kind : Kind) → Came input from c kind → ⊥
   came_not c me from kind came = not_to from kind (subst (λ x. Came input from x kind) me came)
 
-  module _ (k : Kept) (ss : SessionsFit k) (live : live_at k b ≡ Some z) where
+  module _ (k : NodeState) (ss : SessionsFit k) (live : live_at k b ≡ Some z) where
     -- nor is it the transaction of a session whose call came
     root_not : (n : ℕ) (c : BranchId) → Concerns_root input n → HasRoot k n c → c ≡ b → ⊥
     root_not n c concerns has me = not_root k ss live n concerns (subst (HasRoot k n) me has)
@@ -88,7 +88,7 @@ module _ (p : Place) (input : Input) (b : BranchId) (not_to : (from : BranchId) 
     act_leaves l q acts.Finish other = left l.me other
     act_leaves l q acts.Abandon other = left l.me other
 
-  pub stays_on : {k : Kept} {d : Deed} → Step p input k d → SessionsFit k → live_at k b ≡ Some z → live_at d.after b ≡ Some z
+  pub stays_on : {k : NodeState} {d : Deed} → Step p input k d → SessionsFit k → live_at k b ≡ Some z → live_at d.after b ≡ Some z
   stays_on (steps.Begins {k = k} n s call rows range none step) ss live = stays_on step (begun_so k ss p n) (more k ss live (fresh_root p k (new_root p k n)))
   stays_on (steps.Pends {k = k} n l given call has found code step) ss live = stays_on step (pends_so k ss n pending.Commit) live
   stays_on (steps.Lets_reads_go l comment q found begins step) ss live = stays_on step (record { roots = ss.roots; above = ss.above }) live

@@ -3,7 +3,7 @@
 use Rattle.std.specs.Prelude.{◌≡◌, ◌≢◌, ℕ, Some, None}
 use Rattle.session_tree.specs.Live.{children_of}
 use Rattle.node_rules.specs.Data.{Live}
-use Rattle.node_rules.specs.Kept.{Kept, live_at}
+use Rattle.node_rules.specs.NodeState.{NodeState, live_at}
 use Rattle.run_rules.specs.Branches.{Seen, Trail, no_trail, seen_at}
 use Rattle.run_rules.specs.Facts.{first_facts, node_at}
 use Rattle.run_rules.specs.Lawful.{History, IsLawfulRun, facts_at}
@@ -19,4 +19,4 @@ IsToldOf tr l = (s : Seen) × (seen_at tr l.me ≡ Some s) × (s.parent ≡ l.pa
 
 -- In every lawful run each live branch below a root is told so.
 abbrev pub ChildrenAreTold : Type 0
-ChildrenAreTold = (t : History) → IsLawfulRun t → (n : ℕ) (k : Kept) → node_at (facts_at t) n ≡ Some k → (l : Live) → live_at k l.me ≡ Some l → l.parent ≢ None → IsToldOf (trail_at t) l
+ChildrenAreTold = (t : History) → IsLawfulRun t → (n : ℕ) (k : NodeState) → node_at (facts_at t) n ≡ Some k → (l : Live) → live_at k l.me ≡ Some l → l.parent ≢ None → IsToldOf (trail_at t) l

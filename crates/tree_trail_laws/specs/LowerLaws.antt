@@ -7,7 +7,7 @@ use Rattle.prepare_phase.specs.Acts.{is_awaited}
 use Rattle.session_tree.specs.Live.{children_of}
 use Rattle.node_rules.specs.Data.{BranchId, Edge, Live}
 use Rattle.node_rules.specs.Data.phases
-use Rattle.node_rules.specs.Kept.{Kept, live_at}
+use Rattle.node_rules.specs.NodeState.{NodeState, live_at}
 use Rattle.run_rules.specs.Branches.{Seen, is_among, seen_at}
 use Rattle.run_rules.specs.Facts.{node_at}
 use Rattle.run_rules.specs.Lawful.{History, IsLawfulRun, facts_at}
@@ -27,5 +27,5 @@ pub record IsToldLive (l : Live) (s : Seen) : Type 0 where
 
 -- In every lawful run each live branch below a root is told so.
 abbrev pub LowerAreTold : Type 0
-LowerAreTold = (t : History) → IsLawfulRun t → (n : ℕ) (k : Kept) → node_at (facts_at t) n ≡ Some k → (l : Live) → live_at k l.me ≡ Some l → l.parent ≢ None
+LowerAreTold = (t : History) → IsLawfulRun t → (n : ℕ) (k : NodeState) → node_at (facts_at t) n ≡ Some k → (l : Live) → live_at k l.me ≡ Some l → l.parent ≢ None
     → (s : Seen) × (seen_at (trail_at t) l.me ≡ Some s) × IsToldLive l s

@@ -7,7 +7,7 @@ use Rattle.node_rules.specs.declared.session.PendingCall.TheVariants as pending
 use Rattle.node_rules.specs.Data.phases
 use Rattle.node_rules.specs.Data.records
 use Rattle.node_rules.specs.Inputs.{IsSession}
-use Rattle.node_rules.specs.Kept.{Kept, live_at}
+use Rattle.node_rules.specs.NodeState.{NodeState, live_at}
 use Rattle.node_rules.specs.Prepare.{own_changes}
 use Rattle.node_rules.specs.Sessions.{session_at}
 use Rattle.run_rules.specs.Branches.{Seen, Trail, seen_at, own_at, root_at, plan_at}
@@ -23,22 +23,22 @@ use Rattle.tree_trail_laws.specs.LowerLaws.{IsToldLive}
 
 -- each live root is told as its node keeps it, and no COMMIT was accepted of one that is working
 abbrev pub TellsTops : Facts → Trail → Type 0
-TellsTops f tr = (n : ℕ) (k : Kept) → node_at f n ≡ Some k → (l : Live) → live_at k l.me ≡ Some l → l.parent ≡ None
+TellsTops f tr = (n : ℕ) (k : NodeState) → node_at f n ≡ Some k → (l : Live) → live_at k l.me ≡ Some l → l.parent ≡ None
     → (s : Seen) × (seen_at tr l.me ≡ Some s) × IsToldLive l s × (l.phase ≡ phases.Working → plan_at tr l.me ≡ None)
 
 -- the changes that are told of each live branch are those that its node keeps
 abbrev pub TellsOwns : Facts → Trail → Type 0
-TellsOwns f tr = (n : ℕ) (k : Kept) → node_at f n ≡ Some k → (l : Live) → live_at k l.me ≡ Some l → own_at tr l.me ≡ own_changes k l.me
+TellsOwns f tr = (n : ℕ) (k : NodeState) → node_at f n ≡ Some k → (l : Live) → live_at k l.me ≡ Some l → own_at tr l.me ≡ own_changes k l.me
 
 -- the transaction of a session is told to be the one that its node keeps, and is live
-abbrev pub IsSeenRoot : Trail → Kept → Option Seen → Option BranchId → Type 0
+abbrev pub IsSeenRoot : Trail → NodeState → Option Seen → Option BranchId → Type 0
 IsSeenRoot tr k None None = Unit {0}
 IsSeenRoot tr k (Some s) (Some b) = (seen_at tr b ≡ Some s) × ((l : Live) × (live_at k b ≡ Some l))
 IsSeenRoot tr k _ _ = ⊥
 
 -- it is so of each session that no call is pending of
 abbrev pub SeesRoots : Facts → Trail → Type 0
-SeesRoots f tr = (n : ℕ) (k : Kept) → node_at f n ≡ Some k → (session : ℕ) → IsSession session → (session_at k.sessions session).call ≡ pending.NoCall
+SeesRoots f tr = (n : ℕ) (k : NodeState) → node_at f n ≡ Some k → (session : ℕ) → IsSession session → (session_at k.sessions session).call ≡ pending.NoCall
     → IsSeenRoot tr k (root_at tr n session) (session_at k.sessions session).root
 
 -- What the happenings tell of roots, and of the changes of live branches, is what their nodes keep. Of branches below roots
@@ -53,7 +53,7 @@ abbrev pub SeesAll : History → Type 0
 SeesAll t = AtEach (λ places f tr h. Sees f tr) t
 
 -- a seal and a decision are written on what came to their branch
-abbrev pub LeavesOnWhatCame : Place → Facts → Trail → Trail → Kept → ℕ → Input → RedoRecord → Type 0
+abbrev pub LeavesOnWhatCame : Place → Facts → Trail → Trail → NodeState → ℕ → Input → RedoRecord → Type 0
 LeavesOnWhatCame p f tr after k n input (records.Sealed r) = MayWrite p f tr after k n input (records.Sealed r)
 LeavesOnWhatCame p f tr after k n input (records.Decided r) = MayWrite p f tr after k n input (records.Decided r)
 LeavesOnWhatCame p f tr after k n input _ = Unit {0}
@@ -61,7 +61,7 @@ LeavesOnWhatCame p f tr after k n input _ = Unit {0}
 -- so does the record of a turn
 abbrev pub LeavesKnowing : List Place → Facts → Trail → Happening → Type 0
 LeavesKnowing places f tr (happenings.Turn u) =
-    (k : Kept) → node_at f u.node ≡ Some k → IfSome u.wrote (LeavesOnWhatCame (place_at places u.node) f tr (trail_after places f tr (happenings.Turn u)) k u.node u.input)
+    (k : NodeState) → node_at f u.node ≡ Some k → IfSome u.wrote (LeavesOnWhatCame (place_at places u.node) f tr (trail_after places f tr (happenings.Turn u)) k u.node u.input)
 LeavesKnowing places f tr _ = Unit {0}
 
 -- In a lawful run of which that is so seals and decisions are written on what came: on the last answer of the children, on

@@ -4,7 +4,7 @@
 use Rattle.std.specs.Prelude.{◌≡◌, ℕ, List, Some, None}
 use Rattle.node_rules.specs.Data.{Place}
 use Rattle.node_rules.specs.Inputs.{IsSession}
-use Rattle.node_rules.specs.Kept.{Kept}
+use Rattle.node_rules.specs.NodeState.{NodeState}
 use Rattle.node_rules.specs.Sessions.{session_at}
 use Rattle.node_rules.specs.Client.{new_root}
 use Rattle.run_rules.specs.Branches.{Trail, seen_at}
@@ -17,7 +17,7 @@ use Rattle.tree_trail_laws.specs.SeenLaws.{TellsTops, TellsOwns, SeesRoots}
 
 -- the next root of a session without a transaction is the one that its node begins next, and nothing is told of it yet
 abbrev pub NamesNext : List Place → Facts → Trail → Type 0
-NamesNext places f tr = (n : ℕ) (k : Kept) → node_at f n ≡ Some k → (session : ℕ) → IsSession session → (session_at k.sessions session).root ≡ None
+NamesNext places f tr = (n : ℕ) (k : NodeState) → node_at f n ≡ Some k → (session : ℕ) → IsSession session → (session_at k.sessions session).root ≡ None
     → (next_root f tr n session ≡ new_root (place_at places n) k session) × (seen_at tr (new_root (place_at places n) k session) ≡ None)
 
 -- In a lawful run in which the changes that are told of live branches are those that their nodes keep, before each

@@ -4,7 +4,7 @@ use Rattle.std.specs.Prelude.{◌≡◌, ℕ, List, [], take, slice_get, option_
 use Rattle.node_rules.specs.Data.{Change, Answer, BranchId}
 use Rattle.node_rules.specs.Data.answers
 use Rattle.node_rules.specs.Data.dones
-use Rattle.node_rules.specs.Kept.{Kept}
+use Rattle.node_rules.specs.NodeState.{NodeState}
 use Rattle.node_rules.specs.Meaning.{Changes}
 use Rattle.node_rules.specs.Prepare.{own_changes}
 use Rattle.run_rules.specs.Branches.{Run, Trail, no_trail, own_at}
@@ -24,7 +24,7 @@ abbrev pub trail_after_so_many : ℕ → Trail
 trail_after_so_many i = trail_of tried.places [] (first_facts tried.places) no_trail (take i tried.trace)
 
 -- the changes that a node keeps of a branch
-abbrev pub kept_in : Option Kept → BranchId → List Change
+abbrev pub kept_in : Option NodeState → BranchId → List Change
 kept_in None b = []
 kept_in (Some k) b = own_changes k b
 

@@ -16,7 +16,7 @@ use Rattle.run_rules.specs.Due.{Begins, comes_next, due_of}
 use Rattle.run_rules.specs.Facts.{command_at, facts_after, flat, ordered}
 use Rattle.run_rules.specs.Past.{next}
 use Rattle.run_rules.specs.Lawful.{boots}
-use Rattle.run_rules.specs.Telling.{Past, start}
+use Rattle.run_rules.specs.RunReport.{Past, start}
 use Rattle.record_log.specs.Held.{HoldRecords}
 use Rattle.record_log.specs.Records.{IsSpelled}
 use Rattle.redo_codec.specs.Record.{record_format}
@@ -31,30 +31,30 @@ use Rattle.run_rules.specs.Shown.{shown_disk}
 use Rattle.run_rules.proofs.AtNodeLemmas.{item_there, there_too}
 use Rattle.run_rules.proofs.FactLemmas.{facts_are}
 use Rattle.run_trace.specs.Recorded.{RunSoFar, past_of}
-use Rattle.world.specs.declared.site.Site.{Site}
+use Rattle.world.specs.declared.slot.NodeSlot.{NodeSlot}
 use Rattle.world.specs.declared.world.World.{World}
 use Rattle.world.specs.Needs.{due_in}
 use Rattle.world.specs.Linked.{IsLinked, IsOrdered, OrdersStand}
 use Rattle.world_parts.specs.Shown.{HasBegun, ShowDisks, Shown, ShowsDiskAt, shown_at}
-use Rattle.world.specs.Site.{SiteIs, SitesAre, site_disk, bytes_of}
-use Rattle.world.specs.Sites.{AreMade, IsMade, MayShow, ShowsAfter, bytes_in_site, disk_at, shows_of}
+use Rattle.world.specs.NodeSlot.{SiteIs, SitesAre, site_disk, bytes_of}
+use Rattle.world.specs.Slots.{AreMade, IsMade, MayShow, ShowsAfter, bytes_in_site, disk_at, shows_of}
 use Rattle.world.specs.Steps.{StepsOn}
-use Rattle.world.proofs.SiteLemmas.{read_at}
+use Rattle.world.proofs.SlotLemmas.{read_at}
 use Rattle.world_parts.proofs.BegunLemmas.{begins_fresh}
 use Rattle.world.proofs.StepLemmas.{IsPushed, Leaves, begun_before, shows_on, split_end, stands_of, steps_on}
 
 -- the place of a site that was made
-pub made_at : (places : List Place) (sites : List Site) (i : ℕ) (site : Site) → AreMade places sites → slice_get sites i ≡ Some site → (p : Place) × (slice_get places i ≡ Some p) × IsMade p site
-made_at [] [] i site are is = absurd cc
-made_at [] (s ∷ ss) i site are is = absurd are
-made_at (p ∷ ps) [] i site are is = absurd are
-made_at (p ∷ ps) (s ∷ ss) zero site are is = (p, refl, subst (λ (x : Site). IsMade p x) (cc) are.0)
-made_at (p ∷ ps) (s ∷ ss) (suc i) site are is = made_at ps ss i site are.1 is
+pub made_at : (places : List Place) (slots : List NodeSlot) (i : ℕ) (slot : NodeSlot) → AreMade places slots → slice_get slots i ≡ Some slot → (p : Place) × (slice_get places i ≡ Some p) × IsMade p slot
+made_at [] [] i slot are is = absurd cc
+made_at [] (s ∷ ss) i slot are is = absurd are
+made_at (p ∷ ps) [] i slot are is = absurd are
+made_at (p ∷ ps) (s ∷ ss) zero slot are is = (p, refl, subst (λ (x : NodeSlot). IsMade p x) (cc) are.0)
+made_at (p ∷ ps) (s ∷ ss) (suc i) slot are is = made_at ps ss i slot are.1 is
 
-pub made_sites : (places : List Place) (sites : List Site) → AreMade places sites → SitesAre places (start places) sites
-made_sites places sites are zero site is = absurd cc
-made_sites places sites are (suc i) site is =
-    let found = made_at places sites i site are is in
+pub made_sites : (places : List Place) (slots : List NodeSlot) → AreMade places slots → SitesAre places (start places) slots
+made_sites places slots are zero slot is = absurd cc
+made_sites places slots are (suc i) slot is =
+    let found = made_at places slots i slot are is in
     let nodes = slice_get-map (λ (p : Place). Some made) places i ∙ ap (option_map (λ (p : Place). Some made)) found.1 in
     let disks = slice_get-map (λ (p : Place). records.Boot 1 ∷ []) places i ∙ ap (option_map (λ (p : Place). records.Boot 1 ∷ [])) found.1 in
     record {
@@ -65,11 +65,11 @@ made_sites places sites are (suc i) site is =
     }
 
 -- one more is made
-pub made_more : (places : List Place) (sites : List Site) (place : Place) (site : Site) → AreMade places sites → IsMade place site → AreMade (places ++ place ∷ []) (sites ++ site ∷ [])
-made_more [] [] place site all one = (one, tt)
-made_more [] (s ∷ ss) place site all one = absurd all
-made_more (p ∷ ps) [] place site all one = absurd all
-made_more (p ∷ ps) (s ∷ ss) place site all one = (all.0, made_more ps ss place site all.1 one)
+pub made_more : (places : List Place) (slots : List NodeSlot) (place : Place) (slot : NodeSlot) → AreMade places slots → IsMade place slot → AreMade (places ++ place ∷ []) (slots ++ slot ∷ [])
+made_more [] [] place slot all one = (one, tt)
+made_more [] (s ∷ ss) place slot all one = absurd all
+made_more (p ∷ ps) [] place slot all one = absurd all
+made_more (p ∷ ps) (s ∷ ss) place slot all one = (all.0, made_more ps ss place slot all.1 one)
 
 -- each node has started once
 pub booted_once : (places : List Place) → replicate (length places) 1 ≡ map boots (map (λ (p : Place). records.Boot 1 ∷ []) places)
@@ -84,7 +84,7 @@ module _ (places : List Place) (commands : List Command) where
   pub next_begun : (p : Past) (c : ℕ) → next places commands p (happenings.Begun c)
       ≡ record {
         facts = record p.facts { command = c; net = ordered p.facts.net (command_at commands c) };
-        telling = begins places p.facts p.telling c (command_at commands c);
+        run_report = begins places p.facts p.run_report c (command_at commands c);
       }
   unfolding next facts_after
   next_begun p c = refl
@@ -152,9 +152,9 @@ pub record BeginsAs (n : ℕ) (command : Command) (w v : World) : Type 0 where
   pub boots : v.boots.items ≡ w.boots.items
   pub net : v.net ≡ ordered w.net command
   pub losses : v.losses.items ≡ w.losses.items
-  pub telling : v.telling ≡ begins w.trace.places (past_of w.trace).facts (past_of w.trace).telling n command
-  pub sites : OrdersStand w v
-  pub shown : MayShow (λ m. disk_at w.sites.items m) n command w.shown v.shown
+  pub run_report : v.run_report ≡ begins w.trace.places (past_of w.trace).facts (past_of w.trace).run_report n command
+  pub slots : OrdersStand w v
+  pub shown : MayShow (λ m. disk_at w.slots.items m) n command w.shown v.shown
 
 module _ (w v : World) (n : ℕ) (linked : IsLinked w) (due : due_in w.trace ≡ Begins n) (pushed : IsPushed w.trace v.trace (happenings.Begun n))
     (begun : BeginsAs n (command_at w.trace.asked n) w v) where
@@ -167,7 +167,7 @@ module _ (w v : World) (n : ℕ) (linked : IsLinked w) (due : due_in w.trace ≡
   abbrev q : Past
   q = record {
     facts = record p.facts { command = n; net = ordered p.facts.net command };
-    telling = begins w.trace.places p.facts p.telling n command;
+    run_report = begins w.trace.places p.facts p.run_report n command;
   }
 
   abbrev r : RunSoFar
@@ -177,40 +177,40 @@ module _ (w v : World) (n : ℕ) (linked : IsLinked w) (due : due_in w.trace ≡
   fresh = begins_fresh w.trace n linked.held.script.run due
 
   -- the sites
-  site_now : (m : ℕ) (site now : Site) → SiteIs w.trace.places p m site → (now ≡ site) ⊎ IsOrdered site now → SiteIs w.trace.places q m now
-  site_now m site now is (inl same) = subst (λ (s : Site). SiteIs w.trace.places q m s) (sym same) (record { kept = is.kept; runs = is.runs; holds = is.holds; starts = is.starts })
-  site_now m site now is (inr order) = record {
+  site_now : (m : ℕ) (slot now : NodeSlot) → SiteIs w.trace.places p m slot → (now ≡ slot) ⊎ IsOrdered slot now → SiteIs w.trace.places q m now
+  site_now m slot now is (inl same) = subst (λ (s : NodeSlot). SiteIs w.trace.places q m s) (sym same) (record { kept = is.kept; runs = is.runs; holds = is.holds; starts = is.starts })
+  site_now m slot now is (inr order) = record {
     kept = order.kept ∙ is.kept;
     runs = order.runs (place_at w.trace.places m) is.runs;
     holds = subst (λ (bytes : List ℕ). HoldRecords (records_at p.facts m) bytes) (sym order.bytes) is.holds;
     starts = order.starts is.starts;
   }
 
-  sites_now : SitesAre w.trace.places q v.sites.items
+  sites_now : SitesAre w.trace.places q v.slots.items
   sites_now m now there =
-      let before = there_too v.sites.items w.sites.items m now begun.sites.count there in
-      site_now m before.0 now (linked.held.sites m before.0 before.1) (begun.sites.each m before.0 now before.1 there)
+      let before = there_too v.slots.items w.slots.items m now begun.slots.count there in
+      site_now m before.0 now (linked.held.slots m before.0 before.1) (begun.slots.each m before.0 now before.1 there)
 
   -- what is shown
   shown_still : (c : ℕ) (lines : List (List ℕ)) → shown_at w.shown c ≡ Some lines → ShowsDiskAt r c lines
   shown_still c lines at = shows_on w.trace (happenings.Begun n) (λ c same begun_c. fresh (subst (λ (k : ℕ). HasBegun w.trace k) (cc) begun_c)) c lines (linked.held.shown.each c lines at)
 
-  held_at : (m : ℕ) → command ≡ commands.ShowDisk m → StandsFor (disk_at w.sites.items m) (records_at p.facts m)
+  held_at : (m : ℕ) → command ≡ commands.ShowDisk m → StandsFor (disk_at w.slots.items m) (records_at p.facts m)
   held_at m is =
       let there : IsNode (length w.trace.places) m = shown_there (length w.trace.places) w.trace.asked n m linked.held.script.of_a_script.proper is in
-      let site = item_there w.sites.items m there.0 (subst (λ (k : ℕ). m ≤ k) (sym linked.held.counted.sites) there.1) in
-      subst (λ (o : Option Site). StandsFor (bytes_in_site o) (records_at p.facts m)) (sym site.1) (stands_for (bytes_of (site_disk site.0)) (records_at p.facts m) (linked.held.sites m site.0 site.1).holds)
+      let slot = item_there w.slots.items m there.0 (subst (λ (k : ℕ). m ≤ k) (sym linked.held.counted.slots) there.1) in
+      subst (λ (o : Option NodeSlot). StandsFor (bytes_in_site o) (records_at p.facts m)) (sym slot.1) (stands_for (bytes_of (site_disk slot.0)) (records_at p.facts m) (linked.held.slots m slot.0 slot.1).holds)
 
-  shown_new : (m : ℕ) → command ≡ commands.ShowDisk m → ShowsDiskAt r n (shown_disk (disk_at w.sites.items m))
+  shown_new : (m : ℕ) → command ≡ commands.ShowDisk m → ShowsDiskAt r n (shown_disk (disk_at w.slots.items m))
   shown_new m is = record {
     begun = (w.trace.happenings, [], refl);
     node = m;
     is = is;
-    bytes = disk_at w.sites.items m;
+    bytes = disk_at w.slots.items m;
     lines_are = refl;
     stands = λ before later split. elim (split_end w.trace.happenings before later (happenings.Begun n) (happenings.Begun n) split) [
-      | inl same ↦ subst (λ (hs : List Happening). StandsFor (disk_at w.sites.items m) (records_at (facts_of w.trace.places w.trace.asked (first_facts w.trace.places) hs) m)) same.1
-          (subst (λ (f : Facts). StandsFor (disk_at w.sites.items m) (records_at f m)) (facts_are w.trace.places w.trace.asked (start w.trace.places) w.trace.happenings) (held_at m is))
+      | inl same ↦ subst (λ (hs : List Happening). StandsFor (disk_at w.slots.items m) (records_at (facts_of w.trace.places w.trace.asked (first_facts w.trace.places) hs) m)) same.1
+          (subst (λ (f : Facts). StandsFor (disk_at w.slots.items m) (records_at f m)) (facts_are w.trace.places w.trace.asked (start w.trace.places) w.trace.happenings) (held_at m is))
       | inr more ↦ absurd (fresh (before, more.0, more.1))
     ];
   }
@@ -224,17 +224,17 @@ module _ (w v : World) (n : ℕ) (linked : IsLinked w) (due : due_in w.trace ≡
 
   -- what is shown after a SHOW DISK
   disk_each : (m c : ℕ) (lines : List (List ℕ)) (here : Bool) → n == c ≡ here → command ≡ commands.ShowDisk m
-      → (if here then Some (shown_disk (disk_at w.sites.items m)) else shown_at w.shown c) ≡ Some lines → ShowsDiskAt r c lines
+      → (if here then Some (shown_disk (disk_at w.slots.items m)) else shown_at w.shown c) ≡ Some lines → ShowsDiskAt r c lines
   disk_each m c lines true same is at = subst (λ (d : ℕ). ShowsDiskAt r d lines) (equal_numbers n c same) (subst (λ (ls : List (List ℕ)). ShowsDiskAt r n ls) (cc) (shown_new m is))
   disk_each m c lines false other is at = shown_still c lines at
 
   disk_all : (m c : ℕ) (here : Bool) → n == c ≡ here → ((n ≡ c) × (command ≡ commands.ShowDisk m)) ⊎ (is_some (shown_at w.shown c) ≡ true)
-      → is_some (if here then Some (shown_disk (disk_at w.sites.items m)) else shown_at w.shown c) ≡ true
+      → is_some (if here then Some (shown_disk (disk_at w.slots.items m)) else shown_at w.shown c) ≡ true
   disk_all m c true same either = refl
   disk_all m c false other (inl now) = absurd (cc (eq-eqb n c now.0, other))
   disk_all m c false other (inr before) = before
 
-  shown_by : (o : Option ℕ) → shows_of command ≡ o → ShowsAfter (λ m. disk_at w.sites.items m) n o w.shown v.shown → ShowDisks r v.shown
+  shown_by : (o : Option ℕ) → shows_of command ≡ o → ShowsAfter (λ m. disk_at w.slots.items m) n o w.shown v.shown → ShowDisks r v.shown
   shown_by None is same = subst (λ (shown : Shown). ShowDisks r shown) (sym same) (record {
     each = shown_still;
     all = λ c m begun_c disk. elim (begun_by c m begun_c disk) [ inl now ↦ absurd (no_disk command m now.1 is) | inr before ↦ before ];
@@ -257,43 +257,43 @@ module _ (w v : World) (n : ℕ) (linked : IsLinked w) (due : due_in w.trace ≡
       losses = begun.losses ∙ linked.held.parts.losses;
       to_stop = begun.to_stop ∙ linked.held.parts.to_stop;
       boots = begun.boots ∙ linked.held.parts.boots;
-      telling = begun.telling;
+      run_report = begun.run_report;
     };
-    count = begun.sites.count;
+    count = begun.slots.count;
     nodes = refl;
     records = refl;
-    sites = sites_now;
+    slots = sites_now;
   }
 
   pub begin_moves : StepsOn w v
   begin_moves =
       let is = next_begun w.trace.places w.trace.asked p n in
       steps_on w v (happenings.Begun n) (stands_of w linked.held) (begins_next w.trace.places w.trace.asked p n due) pushed shown_now (subst (λ (x : Past). Leaves w v x) (sym is) leaves)
-      (ap (λ (x : Past). x.telling.start_to_stop) is ∙ linked.upright)
+      (ap (λ (x : Past). x.run_report.start_to_stop) is ∙ linked.upright)
 
 -- the command that is read at its number
 pub command_read : (asked : List Command) (n : ℕ) (x : Command) → 1 ≤ n → n ≤ length asked → x ≡ get_or asked (n - 1) x → command_at asked n ≡ x
 command_read asked n x low high is = ap (λ (o : Option Command). unwrap_or o commands.ShowBook) (read_at asked n x low high is)
 
 -- the same orders to the same sites
-pub orders_from : (u v w x : World) → u.sites.items ≡ w.sites.items → v.sites.items ≡ x.sites.items → OrdersStand u v → OrdersStand w x
+pub orders_from : (u v w x : World) → u.slots.items ≡ w.slots.items → v.slots.items ≡ x.slots.items → OrdersStand u v → OrdersStand w x
 orders_from u v w x from to stand = record {
-  count = sym (ap (λ (sites : List Site). length sites) to) ∙ (stand.count ∙ ap (λ (sites : List Site). length sites) from);
-  each = λ n site now before after. stand.each n site now (ap (λ (sites : List Site). numbered sites n) from ∙ before) (ap (λ (sites : List Site). numbered sites n) to ∙ after);
+  count = sym (ap (λ (slots : List NodeSlot). length slots) to) ∙ (stand.count ∙ ap (λ (slots : List NodeSlot). length slots) from);
+  each = λ n slot now before after. stand.each n slot now (ap (λ (slots : List NodeSlot). numbered slots n) from ∙ before) (ap (λ (slots : List NodeSlot). numbered slots n) to ∙ after);
 }
 
 -- ---- orders to a disk
 
 -- one order
-pub order_stands : (sites : List Site) (i : ℕ) (old new : Site) → slice_get sites i ≡ Some old → IsOrdered old new → (n : ℕ) (site now : Site) → numbered sites n ≡ Some site → numbered (slice_set sites i new) n ≡ Some now
-    → (now ≡ site) ⊎ IsOrdered site now
-order_stands sites i old new there order n site now before after =
-    elim (set_or_before sites (suc i) n new) [
-      | inl same ↦ inl (same_site now site (sym after ∙ (same ∙ before)))
-      | inr set ↦ inr (subst (λ (s : Site). IsOrdered s now) (same_site old site (sym there ∙ (ap (numbered sites) set.0 ∙ before))) (subst (λ (s : Site). IsOrdered old s) (same_site new now (sym set.1 ∙ after)) order))
+pub order_stands : (slots : List NodeSlot) (i : ℕ) (old new : NodeSlot) → slice_get slots i ≡ Some old → IsOrdered old new → (n : ℕ) (slot now : NodeSlot) → numbered slots n ≡ Some slot → numbered (slice_set slots i new) n ≡ Some now
+    → (now ≡ slot) ⊎ IsOrdered slot now
+order_stands slots i old new there order n slot now before after =
+    elim (set_or_before slots (suc i) n new) [
+      | inl same ↦ inl (same_site now slot (sym after ∙ (same ∙ before)))
+      | inr set ↦ inr (subst (λ (s : NodeSlot). IsOrdered s now) (same_site old slot (sym there ∙ (ap (numbered slots) set.0 ∙ before))) (subst (λ (s : NodeSlot). IsOrdered old s) (same_site new now (sym set.1 ∙ after)) order))
     ]
   where
-    same_site : (a b : Site) → Some a ≡ Some b → a ≡ b
+    same_site : (a b : NodeSlot) → Some a ≡ Some b → a ≡ b
     same_site a b is = cc
 
 pub ruleset begin_steps = (made_sites, booted_once, begins_next, next_begun)

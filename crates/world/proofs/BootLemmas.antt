@@ -7,7 +7,7 @@ use Rattle.record_log.specs.Held.{HoldRecords}
 use Rattle.net_bag.specs.Net.{Net, started}
 use Rattle.node_rules.specs.Data.{RedoRecord}
 use Rattle.node_rules.specs.Data.records
-use Rattle.node_rules.specs.Kept.{Kept}
+use Rattle.node_rules.specs.NodeState.{NodeState}
 use Rattle.node_rules.specs.Turn.{start_of}
 use Rattle.node_rules.specs.Words.{numbered, set_numbered}
 use Rattle.run_rules.specs.Cuts.{appends}
@@ -15,17 +15,17 @@ use Rattle.run_rules.specs.Data.happenings
 use Rattle.run_rules.specs.Disks.{DiskOrders, Strike, after_append, no_orders, struck}
 use Rattle.run_rules.specs.Facts.{flat, node_at, records_at, with_boot}
 use Rattle.run_rules.specs.Lawful.{boots}
-use Rattle.run_rules.specs.Past.{acts, falls_if, next, telling_started}
-use Rattle.run_rules.specs.Telling.{Past, Telling, orders_at}
+use Rattle.run_rules.specs.Past.{acts, falls_if, next, report_started}
+use Rattle.run_rules.specs.RunReport.{Past, RunReport, orders_at}
 use Rattle.run_rules.proofs.AtNodeLemmas.{item_there, there_too}
 use Rattle.run_trace.specs.Recorded.{RunSoFar, past_of}
-use Rattle.world.specs.declared.site.Site.{Site}
+use Rattle.world.specs.declared.slot.NodeSlot.{NodeSlot}
 use Rattle.world.specs.declared.world.World.{World}
 use Rattle.world_parts.specs.Orders.{HasOrders}
 use Rattle.world.specs.Orders.{OrdersAre}
-use Rattle.world.specs.Site.{SiteIs, SitesAre, has_to_fall, site_disk, bytes_of}
+use Rattle.world.specs.NodeSlot.{SiteIs, SitesAre, has_to_fall, site_disk, bytes_of}
 use Rattle.world.specs.Starts.{HasBegun, HasBoot, HasBooted, boot_at}
-use Rattle.world.proofs.SiteLemmas.{SameAt, others_stay, own_and_others, same_or}
+use Rattle.world.proofs.SlotLemmas.{SameAt, others_stay, own_and_others, same_or}
 use Rattle.world_parts.proofs.StartLemmas.{next_started}
 use Rattle.world.proofs.StepLemmas.{IsPushed, Leaves, Stands, shown_on, steps_to}
 
@@ -50,10 +50,10 @@ set_here xs n = by (numbered xs n) refl
     ]
 
 -- the orders of a node whose append comes behind three calls
-pub counted_here : (t : Telling) (n : ℕ) → orders_at (appends t n 3) n ≡ after_append 3 (orders_at t n)
+pub counted_here : (t : RunReport) (n : ℕ) → orders_at (appends t n 3) n ≡ after_append 3 (orders_at t n)
 counted_here t n = set_here t.orders n
 
-pub counted_elsewhere : (t : Telling) (n m : ℕ) → n ≢ m → orders_at (appends t n 3) m ≡ orders_at t m
+pub counted_elsewhere : (t : RunReport) (n m : ℕ) → n ≢ m → orders_at (appends t n 3) m ≡ orders_at t m
 counted_elsewhere t n m other = ap (λ (o : Option DiskOrders). unwrap_or o no_orders) (set_leaves t.orders n m (after_append 3 (orders_at t n)) other)
 
 -- ---- starts are counted
@@ -83,7 +83,7 @@ pub length_boots : (xs : List (List RedoRecord)) → length (map boots xs) ≡ l
 length_boots xs = length-map xs boots
 
 -- whether a node has to fall
-own_falls : (o : Option Strike) (n : ℕ) (k : Option Kept) → (if has_to_fall (falls_if n o) n then None else k) ≡ (if is_none o then k else None)
+own_falls : (o : Option Strike) (n : ℕ) (k : Option NodeState) → (if has_to_fall (falls_if n o) n then None else k) ≡ (if is_none o then k else None)
 own_falls None n k = refl
 own_falls (Some s) n k = ap (λ (b : Bool). if b then None else k) (eq-eqb n n refl)
 
@@ -100,18 +100,18 @@ pub record Boots (n : ℕ) (w v : World) : Type 0 where
   pub running : v.running ≡ w.running
   pub losses : v.losses.items ≡ w.losses.items
   pub to_stop : v.to_stop ≡ w.to_stop
-  pub sites : v.sites.items ≡ w.sites.items
+  pub slots : v.slots.items ≡ w.slots.items
   pub shown : v.shown ≡ w.shown
   pub net : v.net ≡ started w.net n
   pub boots : v.boots.items ≡ set_numbered w.boots.items n (boot_at w n)
-  pub telling : v.telling ≡ acts (telling_started w.trace.places w.telling n (struck 3 (orders_at w.telling n)))
+  pub run_report : v.run_report ≡ acts (report_started w.trace.places w.run_report n (struck 3 (orders_at w.run_report n)))
 
 module _ (w v : World) (n : ℕ) (begun : HasBegun n w) (pushed : IsPushed w.trace v.trace (happenings.Started n (boot_at w n))) (leaves : Boots n w v) where
   abbrev p : Past
   p = past_of w.trace
 
   abbrev strike : Option Strike
-  strike = struck 3 (orders_at p.telling n)
+  strike = struck 3 (orders_at p.run_report n)
 
   abbrev now : List RedoRecord
   now = with_boot p.facts n (boot_at w n)
@@ -119,7 +119,7 @@ module _ (w v : World) (n : ℕ) (begun : HasBegun n w) (pushed : IsPushed w.tra
   abbrev q : Past
   q = record {
     facts = record p.facts { nodes = set_numbered p.facts.nodes n (Some (start_of now)); records = set_numbered p.facts.records n now; net = started p.facts.net n };
-    telling = acts (telling_started w.trace.places p.telling n strike);
+    run_report = acts (report_started w.trace.places p.run_report n strike);
   }
 
   is_next : next w.trace.places w.trace.asked p (happenings.Started n (boot_at w n)) ≡ q
@@ -136,22 +136,22 @@ module _ (w v : World) (n : ℕ) (begun : HasBegun n w) (pushed : IsPushed w.tra
     records = ap (λ (o : Option (List RedoRecord)). unwrap_or o []) (set_leaves p.facts.records n m now other);
   }
 
-  own : (site : Site) → numbered w.sites.items n ≡ Some site → SiteIs w.trace.places q n site
-  own site at =
-      let boot : HasBoot w n site = begun.site site at in
-      let node = there_too w.sites.items p.facts.nodes n site (begun.counted.sites ∙ sym begun.counted.nodes) at in
-      let recorded = there_too w.sites.items p.facts.records n site (begun.counted.sites ∙ sym begun.counted.records) at in
+  own : (slot : NodeSlot) → numbered w.slots.items n ≡ Some slot → SiteIs w.trace.places q n slot
+  own slot at =
+      let boot : HasBoot w n slot = begun.slot slot at in
+      let node = there_too w.slots.items p.facts.nodes n slot (begun.counted.slots ∙ sym begun.counted.nodes) at in
+      let recorded = there_too w.slots.items p.facts.records n slot (begun.counted.slots ∙ sym begun.counted.records) at in
       let up : node_at q.facts n ≡ Some (start_of now) = ap flat (set_found p.facts.nodes n node.0 (Some (start_of now)) node.1) in
       record {
-        kept = boot.kept ∙ (sym (own_falls strike n (Some (start_of now))) ∙ ap (λ (o : Option Kept). if has_to_fall (falls_if n strike) n then None else o) (sym up));
+        kept = boot.kept ∙ (sym (own_falls strike n (Some (start_of now))) ∙ ap (λ (o : Option NodeState). if has_to_fall (falls_if n strike) n then None else o) (sym up));
         runs = boot.runs;
-        holds = subst (λ (rs : List RedoRecord). HoldRecords rs (bytes_of (site_disk site))) (sym (ap (λ (o : Option (List RedoRecord)). unwrap_or o []) (set_found p.facts.records n recorded.0 now recorded.1))) boot.holds;
+        holds = subst (λ (rs : List RedoRecord). HoldRecords rs (bytes_of (site_disk slot))) (sym (ap (λ (o : Option (List RedoRecord)). unwrap_or o []) (set_found p.facts.records n recorded.0 now recorded.1))) boot.holds;
         starts = boot.starts;
       }
 
-  sites_are : SitesAre w.trace.places q v.sites.items
-  sites_are = subst (λ (sites : List Site). SitesAre w.trace.places q sites) (sym leaves.sites)
-      (own_and_others w.trace.places q n w.sites.items own (others_stay w.trace.places p q n elsewhere w.sites.items begun.others))
+  sites_are : SitesAre w.trace.places q v.slots.items
+  sites_are = subst (λ (slots : List NodeSlot). SitesAre w.trace.places q slots) (sym leaves.slots)
+      (own_and_others w.trace.places q n w.slots.items own (others_stay w.trace.places p q n elsewhere w.slots.items begun.others))
 
   parts_are : Leaves w v q
   parts_are = record {
@@ -162,12 +162,12 @@ module _ (w v : World) (n : ℕ) (begun : HasBegun n w) (pushed : IsPushed w.tra
       to_stop = leaves.to_stop ∙ begun.parts.to_stop;
       boots = leaves.boots ∙ (ap (λ (bs : List ℕ). set_numbered bs n (boot_at w n)) begun.parts.boots
           ∙ sym (map_set p.facts.records n now ∙ ap (λ (k : ℕ). set_numbered (map boots p.facts.records) n k) (boots_more (records_at p.facts n) (boot_at w n))));
-      telling = leaves.telling ∙ ap (λ (t : Telling). acts (telling_started w.trace.places t n (struck 3 (orders_at t n)))) begun.parts.telling;
+      run_report = leaves.run_report ∙ ap (λ (t : RunReport). acts (report_started w.trace.places t n (struck 3 (orders_at t n)))) begun.parts.run_report;
     };
-    count = ap (λ (sites : List Site). length sites) leaves.sites;
+    count = ap (λ (slots : List NodeSlot). length slots) leaves.slots;
     nodes = set_length p.facts.nodes n (Some (start_of now));
     records = set_length p.facts.records n now;
-    sites = sites_are;
+    slots = sites_are;
   }
 
   past_is : past_of v.trace ≡ q
@@ -175,21 +175,21 @@ module _ (w v : World) (n : ℕ) (begun : HasBegun n w) (pushed : IsPushed w.tra
 
   -- the orders that the start left are those of its disk
   orders_are : OrdersAre v
-  orders_are m site at = by (same_or n m)
+  orders_are m slot at = by (same_or n m)
     where
-      there : numbered w.sites.items m ≡ Some site
-      there = subst (λ (sites : List Site). numbered sites m ≡ Some site) leaves.sites at
+      there : numbered w.slots.items m ≡ Some slot
+      there = subst (λ (slots : List NodeSlot). numbered slots m ≡ Some slot) leaves.slots at
 
-      told : orders_at (past_of v.trace).telling m ≡ orders_at (appends p.telling n 3) m
-      told = ap (λ (x : Past). orders_at x.telling m) past_is
+      told : orders_at (past_of v.trace).run_report m ≡ orders_at (appends p.run_report n 3) m
+      told = ap (λ (x : Past). orders_at x.run_report m) past_is
 
-      by : (n ≡ m) ⊎ (n ≢ m) → HasOrders (orders_at (past_of v.trace).telling m) (site_disk site)
+      by : (n ≡ m) ⊎ (n ≢ m) → HasOrders (orders_at (past_of v.trace).run_report m) (site_disk slot)
       by (inl same) =
-          let here : numbered w.sites.items n ≡ Some site = subst (λ (k : ℕ). numbered w.sites.items k ≡ Some site) (sym same) there in
-          let counted : orders_at (past_of v.trace).telling n ≡ after_append 3 (orders_at p.telling n) = ap (λ (x : Past). orders_at x.telling n) past_is ∙ counted_here p.telling n in
-          subst (λ (k : ℕ). HasOrders (orders_at (past_of v.trace).telling k) (site_disk site)) same
-          (subst (λ (d : DiskOrders). HasOrders d (site_disk site)) (sym counted) (begun.site site here).orders)
-      by (inr other) = subst (λ (d : DiskOrders). HasOrders d (site_disk site)) (sym (told ∙ counted_elsewhere p.telling n m other)) (begun.other_orders m site other there)
+          let here : numbered w.slots.items n ≡ Some slot = subst (λ (k : ℕ). numbered w.slots.items k ≡ Some slot) (sym same) there in
+          let counted : orders_at (past_of v.trace).run_report n ≡ after_append 3 (orders_at p.run_report n) = ap (λ (x : Past). orders_at x.run_report n) past_is ∙ counted_here p.run_report n in
+          subst (λ (k : ℕ). HasOrders (orders_at (past_of v.trace).run_report k) (site_disk slot)) same
+          (subst (λ (d : DiskOrders). HasOrders d (site_disk slot)) (sym counted) (begun.slot slot here).orders)
+      by (inr other) = subst (λ (d : DiskOrders). HasOrders d (site_disk slot)) (sym (told ∙ counted_elsewhere p.run_report n m other)) (begun.other_orders m slot other there)
 
   pub boots_so : HasBooted n w v
   boots_so = record {

@@ -8,13 +8,13 @@ use Rattle.node_disk.specs.declared.incoming.Incoming.TheVariants as comings
 use Rattle.node_disk.specs.Incoming.{IsReadAs}
 use Rattle.run_rules.specs.Data.{Packet}
 use Rattle.run_rules.specs.Due.{Due, Delivers, Gives_up, Pends, Recovers}
-use Rattle.run_rules.specs.Telling.{Call}
+use Rattle.run_rules.specs.RunReport.{Call}
 use Rattle.run_trace.specs.Recorded.{past_of}
 use Rattle.world.specs.declared.world.World.{World}
 use Rattle.world.specs.Linked.{IsLinked}
 use Rattle.world.specs.Needs.{DueMessagesAreThere, IsTurnDue, due_in}
 use Rattle.world.specs.Turns.{IsComingDue, TookIs}
-use Rattle.world.proofs.SiteLemmas.{same_of}
+use Rattle.world.proofs.SlotLemmas.{same_of}
 
 module _ (w : World) where
   -- what is read as one input, of which a turn is due

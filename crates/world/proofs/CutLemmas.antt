@@ -11,7 +11,7 @@ use Rattle.node_points.specs.Passing.{passes_as}
 use Rattle.node_points.specs.declared.places.Passes.{Passes}
 use Rattle.node_rules.specs.Data.{RedoRecord}
 use Rattle.node_rules.specs.Words.{numbered, set_numbered}
-use Rattle.node_rules.specs.Kept.{Kept, Outcome}
+use Rattle.node_rules.specs.NodeState.{NodeState, Outcome}
 use Rattle.node_rules.specs.Turn.{turn_of}
 use Rattle.node_disk.specs.declared.err.CutTurn.{CutTurn}
 use Rattle.run_rules.specs.Cuts.{Cut_by, cut_by}
@@ -21,24 +21,24 @@ use Rattle.run_rules.specs.Disks.{DiskOrders}
 use Rattle.run_rules.specs.Due.{turn_by}
 use Rattle.run_rules.specs.Facts.{place_at, records_at, taken}
 use Rattle.run_rules.specs.Lawful.{boots}
-use Rattle.run_rules.specs.Past.{telling_turned}
-use Rattle.run_rules.specs.Telling.{Past, Telling, orders_at}
+use Rattle.run_rules.specs.Past.{report_turned}
+use Rattle.run_rules.specs.RunReport.{Past, RunReport, orders_at}
 use Rattle.run_rules.proofs.AtNodeLemmas.{there_too}
 use Rattle.run_trace.specs.Recorded.{IsNext, past_of}
 use Rattle.tran_ids.proofs.NumberedLemmas.{set_found, set_leaves, set_length}
-use Rattle.telling.specs.declared.turn.TurnFacts.{TurnFacts}
-use Rattle.telling.specs.Facts.{Cuts, KnownOfTurn}
-use Rattle.world.specs.declared.site.Site.{Site}
+use Rattle.run_report.specs.declared.turn.TurnFacts.{TurnFacts}
+use Rattle.run_report.specs.Facts.{Cuts, KnownOfTurn}
+use Rattle.world.specs.declared.slot.NodeSlot.{NodeSlot}
 use Rattle.world.specs.declared.turning.Begun.{Begun}
 use Rattle.world.specs.declared.world.World.{World}
 use Rattle.world_parts.specs.Orders.{HasOrders, OrdersLeft, cut_orders}
 use Rattle.world.specs.Orders.{OrdersAre}
-use Rattle.world.specs.Site.{bytes_of, site_disk}
+use Rattle.world.specs.NodeSlot.{bytes_of, site_disk}
 use Rattle.world.specs.Steps.{StepsOn}
 use Rattle.world.specs.Stops.{HasStopped, IsPowered, StopsAt}
-use Rattle.world.specs.Turns.{IsCutDuringAt, IsTold, stands_by, stood}
+use Rattle.world.specs.Turns.{IsCutDuringAt, IsReported, stands_by, stood}
 use Rattle.world_parts.proofs.MailLemmas.{sent_none}
-use Rattle.world.proofs.SiteLemmas.{down_runs, same_of}
+use Rattle.world.proofs.SlotLemmas.{down_runs, same_of}
 use Rattle.world.proofs.StepLemmas.{IsPushed}
 use Rattle.world.proofs.StopLemmas.{pushed_in}
 use Rattle.world.proofs.TurnLemmas.{HasTurned, Turns, caller_of, cut_is, none_to_tell, turn_comes_next, turn_moves, turn_orders_are}
@@ -51,28 +51,28 @@ powered_has d before after is left = record {
 }
 
 -- one site has stopped
-pub stops_set : (n : ℕ) (sites : List Site) (old new : Site) → numbered sites n ≡ Some old → HasStopped old new → IsPowered old new → (after : List Site) → after ≡ set_numbered sites n new → StopsAt n sites after
-stops_set n sites old new found stopped powered after set = record {
-  count = ap (λ (xs : List Site). length xs) set ∙ set_length sites n new;
-  others = λ m other. ap (λ (xs : List Site). numbered xs m) set ∙ set_leaves sites n m new other;
-  own = λ site now before then.
-      let was : old ≡ site = same_of old site (sym found ∙ before) in
-      let is : new ≡ now = same_of new now (sym (ap (λ (xs : List Site). numbered xs n) set ∙ set_found sites n old new found) ∙ then) in
-      (subst (λ (x : Site). HasStopped x now) was (subst (λ (y : Site). HasStopped old y) is stopped), subst (λ (x : Site). IsPowered x now) was (subst (λ (y : Site). IsPowered old y) is powered));
+pub stops_set : (n : ℕ) (slots : List NodeSlot) (old new : NodeSlot) → numbered slots n ≡ Some old → HasStopped old new → IsPowered old new → (after : List NodeSlot) → after ≡ set_numbered slots n new → StopsAt n slots after
+stops_set n slots old new found stopped powered after set = record {
+  count = ap (λ (xs : List NodeSlot). length xs) set ∙ set_length slots n new;
+  others = λ m other. ap (λ (xs : List NodeSlot). numbered xs m) set ∙ set_leaves slots n m new other;
+  own = λ slot now before then.
+      let was : old ≡ slot = same_of old slot (sym found ∙ before) in
+      let is : new ≡ now = same_of new now (sym (ap (λ (xs : List NodeSlot). numbered xs n) set ∙ set_found slots n old new found) ∙ then) in
+      (subst (λ (x : NodeSlot). HasStopped x now) was (subst (λ (y : NodeSlot). HasStopped old y) is stopped), subst (λ (x : NodeSlot). IsPowered x now) was (subst (λ (y : NodeSlot). IsPowered old y) is powered));
 }
 
 -- What a cut turn leaves of the world.
-pub record CutLeaves (begun : Begun) (k : Kept) (u : Turn) (o : Outcome) (w v : World) : Type 0 where
+pub record CutLeaves (begun : Begun) (k : NodeState) (u : Turn) (o : Outcome) (w v : World) : Type 0 where
   pub running : v.running ≡ w.running
   pub to_stop : v.to_stop ≡ Some begun.node
   pub boots : v.boots.items ≡ w.boots.items
   pub shown : v.shown ≡ w.shown
   pub net : v.net ≡ taken w.net begun.took
   pub losses : v.losses.items ≡ w.losses.items
-  pub telling : v.telling ≡ telling_turned w.running (Some k) w.telling u (Some o)
-  pub stops : StopsAt begun.node w.sites.items v.sites.items
+  pub run_report : v.run_report ≡ report_turned w.running (Some k) w.run_report u (Some o)
+  pub stops : StopsAt begun.node w.slots.items v.slots.items
 
-module _ (w : World) (begun : Begun) (c : CutTurn) (k : Kept) (by : Cut_by) (during : IsCutDuringAt begun c w k by) where
+module _ (w : World) (begun : Begun) (c : CutTurn) (k : NodeState) (by : Cut_by) (during : IsCutDuringAt begun c w k by) where
   abbrev p : Past
   p = past_of w.trace
 
@@ -80,10 +80,10 @@ module _ (w : World) (begun : Begun) (c : CutTurn) (k : Kept) (by : Cut_by) (dur
   o = turn_of (place_at w.trace.places begun.node) k c.input
 
   -- what cuts it is what the definitions of a run say
-  pub cut_agrees : (writes : Bool) (passed : Option Passes) (b : Cut_by) → writes ≡ is_some c.tried → passed ≡ c.passes → Cuts w.telling begun.node writes (option_map passes_as passed) b → b ≡ by
+  pub cut_agrees : (writes : Bool) (passed : Option Passes) (b : Cut_by) → writes ≡ is_some c.tried → passed ≡ c.passes → Cuts w.run_report begun.node writes (option_map passes_as passed) b → b ≡ by
   cut_agrees writes passed b is are cuts =
       cuts k c.input o (is ∙ ap is_some during.tried) (ap (option_map passes_as) are ∙ during.passed)
-      ∙ (ap (λ (t : Telling). cut_by t begun.node k c.input o) during.under_way.parts.telling ∙ during.under_way.cut)
+      ∙ (ap (λ (t : RunReport). cut_by t begun.node k c.input o) during.under_way.parts.run_report ∙ during.under_way.cut)
 
   module _ (s : Bool) (stands : s ≡ stands_by by) where
     abbrev u : Turn
@@ -128,34 +128,34 @@ module _ (w : World) (begun : Begun) (c : CutTurn) (k : Kept) (by : Cut_by) (dur
         shown = left.shown;
         net = left.net ∙ sent_none (taken w.net begun.took);
         losses = left.losses ∙ none_to_tell w begun c.input k by during.under_way;
-        telling = left.telling;
-        sites = left.stops.count;
+        run_report = left.run_report;
+        slots = left.stops.count;
         others = left.stops.others;
       }
 
-      before : (site : Site) → numbered v.sites.items begun.node ≡ Some site → (x : Site) × (numbered w.sites.items begun.node ≡ Some x)
-      before site there = there_too v.sites.items w.sites.items begun.node site left.stops.count there
+      before : (slot : NodeSlot) → numbered v.slots.items begun.node ≡ Some slot → (x : NodeSlot) × (numbered w.slots.items begun.node ≡ Some x)
+      before slot there = there_too v.slots.items w.slots.items begun.node slot left.stops.count there
 
-      own : (site : Site) → numbered v.sites.items begun.node ≡ Some site
-          → HasTurned (place_at w.trace.places begun.node) None (records_at p.facts begun.node ++ option_to_list (stood s c.tried)) site
-      own site there =
-          let was = before site there in
-          let off = during.site was.0 was.1 in
-          let has = (left.stops.own was.0 site was.1 there).0 in
+      own : (slot : NodeSlot) → numbered v.slots.items begun.node ≡ Some slot
+          → HasTurned (place_at w.trace.places begun.node) None (records_at p.facts begun.node ++ option_to_list (stood s c.tried)) slot
+      own slot there =
+          let was = before slot there in
+          let off = during.slot was.0 was.1 in
+          let has = (left.stops.own was.0 slot was.1 there).0 in
           record {
             kept = has.kept;
-            runs = down_runs (place_at w.trace.places begun.node) site has.kept;
+            runs = down_runs (place_at w.trace.places begun.node) slot has.kept;
             holds = subst (λ (bytes : List ℕ). HoldRecords (records_at p.facts begun.node ++ option_to_list (stood s c.tried)) bytes) (sym has.bytes)
                 (subst (λ (r : Option RedoRecord). HoldRecords (records_at p.facts begun.node ++ option_to_list r) (bytes_of (site_disk was.0))) (sym wrote_is) off.holds);
             starts = has.starts off.starts;
           }
 
-      own_orders : (site : Site) → numbered v.sites.items begun.node ≡ Some site → HasOrders (cut_orders (is_some o.wrote) by (orders_at p.telling begun.node)) (site_disk site)
-      own_orders site there =
-          let was = before site there in
-          let power = (left.stops.own was.0 site was.1 there).1 in
-          let left = (during.site was.0 was.1).orders in
-          powered_has (cut_orders (is_some o.wrote) by (orders_at p.telling begun.node)) (site_disk was.0) (site_disk site) power.orders left
+      own_orders : (slot : NodeSlot) → numbered v.slots.items begun.node ≡ Some slot → HasOrders (cut_orders (is_some o.wrote) by (orders_at p.run_report begun.node)) (site_disk slot)
+      own_orders slot there =
+          let was = before slot there in
+          let power = (left.stops.own was.0 slot was.1 there).1 in
+          let left = (during.slot was.0 was.1).orders in
+          powered_has (cut_orders (is_some o.wrote) by (orders_at p.run_report begun.node)) (site_disk was.0) (site_disk slot) power.orders left
 
       cut_moves : StepsOn w v
       cut_moves = turn_moves w v begun c.input k by during.under_way u turn_is pushed refl refl boots_same turns own
@@ -170,15 +170,15 @@ module _ (w : World) (begun : Begun) (c : CutTurn) (k : Kept) (by : Cut_by) (dur
       pub losses : before.losses.items ≡ w.losses.items
       pub boots_are : before.boots.items ≡ w.boots.items
       pub shown : before.shown ≡ w.shown
-      pub telling : before.telling ≡ w.telling
+      pub run_report : before.run_report ≡ w.run_report
       pub net : before.net ≡ taken w.net begun.took
       pub to_stop : before.to_stop ≡ Some begun.node
-      pub stops : StopsAt begun.node w.sites.items before.sites.items
+      pub stops : StopsAt begun.node w.slots.items before.slots.items
 
-    module _ (x : Turn) (is : x ≡ u) (facts : TurnFacts) (known : KnownOfTurn k u o facts) (before v : World) (ready : IsCutReady before) (same : v ≡ record before { trace = v.trace; telling = v.telling }) where
-      told_so : IsTold x facts before v → StepsOn w v × OrdersAre v
+    module _ (x : Turn) (is : x ≡ u) (facts : TurnFacts) (known : KnownOfTurn k u o facts) (before v : World) (ready : IsCutReady before) (same : v ≡ record before { trace = v.trace; run_report = v.run_report }) where
+      told_so : IsReported x facts before v → StepsOn w v × OrdersAre v
       told_so told =
-          let t : IsTold u facts before v = subst (λ (y : Turn). IsTold y facts before v) is told in
+          let t : IsReported u facts before v = subst (λ (y : Turn). IsReported y facts before v) is told in
           let pushed = pushed_in w.trace before.trace v.trace (happenings.Turn u) ready.trace (record { is = t.trace; past = t.past; few = t.few }) in
           let left : CutLeaves begun k u o w v = record {
             running = ap (λ (y : World). y.running) same ∙ ready.running;
@@ -187,16 +187,16 @@ module _ (w : World) (begun : Begun) (c : CutTurn) (k : Kept) (by : Cut_by) (dur
             shown = ap (λ (y : World). y.shown) same ∙ ready.shown;
             net = ap (λ (y : World). y.net) same ∙ ready.net;
             losses = ap (λ (y : World). y.losses.items) same ∙ ready.losses;
-            telling = t.tells k o known
-                ∙ (ap (λ (r : ℕ). telling_turned r (Some k) before.telling u (Some o)) ready.running ∙ ap (λ (tl : Telling). telling_turned w.running (Some k) tl u (Some o)) ready.telling);
-            stops = subst (λ (xs : List Site). StopsAt begun.node w.sites.items xs) (sym (ap (λ (y : World). y.sites.items) same)) ready.stops;
+            run_report = t.tells k o known
+                ∙ (ap (λ (r : ℕ). report_turned r (Some k) before.run_report u (Some o)) ready.running ∙ ap (λ (tl : RunReport). report_turned w.running (Some k) tl u (Some o)) ready.run_report);
+            stops = subst (λ (xs : List NodeSlot). StopsAt begun.node w.slots.items xs) (sym (ap (λ (y : World). y.slots.items) same)) ready.stops;
           } in
           (cut_moves v pushed left, cut_orders_are v pushed left)
 
       -- the world is that of the longer run
-      pub cut_steps : {T E : Type 0} (r : Result T E) → OnOk r (IsTold x facts before v) → OnOk r (StepsOn w v)
-      cut_steps r told = on_ok_weaker r (λ (t : IsTold x facts before v). (told_so t).0) told
+      pub cut_steps : {T E : Type 0} (r : Result T E) → OnOk r (IsReported x facts before v) → OnOk r (StepsOn w v)
+      cut_steps r told = on_ok_weaker r (λ (t : IsReported x facts before v). (told_so t).0) told
 
       -- and so are the orders on the disks
-      pub cut_keeps_orders : {T E : Type 0} (r : Result T E) → OnOk r (IsTold x facts before v) → OnOk r (OrdersAre v)
-      cut_keeps_orders r told = on_ok_weaker r (λ (t : IsTold x facts before v). (told_so t).1) told
+      pub cut_keeps_orders : {T E : Type 0} (r : Result T E) → OnOk r (IsReported x facts before v) → OnOk r (OrdersAre v)
+      cut_keeps_orders r told = on_ok_weaker r (λ (t : IsReported x facts before v). (told_so t).1) told

@@ -1,4 +1,4 @@
-mod SiteLemmas
+mod SlotLemmas
 mod StepLemmas
 mod NetworkLemmas
 mod DueLemmas

@@ -3,7 +3,7 @@
 use Rattle.std.proofs.Common.{◌≡◌, ◌-◌, ℕ, Option, Some, None, IfSome, refl, sym, subst, arith}
 use Rattle.node_rules.specs.Data.{Input, Stmt}
 use Rattle.node_rules.specs.Data.inputs
-use Rattle.node_rules.specs.Kept.{Kept, Outcome}
+use Rattle.node_rules.specs.NodeState.{NodeState, Outcome}
 use Rattle.node_rules.specs.Turn.{turn_of}
 use Rattle.node_core.specs.Able.{BringsCommit, MayTake}
 use Rattle.node_disk.specs.Spellable.{IsSpellable}
@@ -16,7 +16,7 @@ use Rattle.run_rules.specs.Facts.{Facts, node_at, place_at}
 use Rattle.run_rules.specs.Scripts.{TheRunIsLawful}
 use Rattle.run_rules.specs.Lawful.{Comes, History, facts_at}
 use Rattle.run_rules.proofs.FactLemmas.{facts_are}
-use Rattle.run_rules.specs.Telling.{Call, start}
+use Rattle.run_rules.specs.RunReport.{Call, start}
 use Rattle.sql_print.specs.Printing.{IsPrintable}
 use Rattle.run_number_laws.specs.Counts.{DeliveriesAreWithin}
 use Rattle.run_number_laws.specs.Numbers.{EachStartsSeldom as SeldomByRuns, StartsSeldom}
@@ -51,10 +51,10 @@ module _ (lawful_of : TheRunIsLawful) (few_of : CountsAreFew) (find_of : DueTurn
     abbrev t : History
     t = run_of r script
 
-    abbrev found : (k : Kept) × FindsAble t n input k
+    abbrev found : (k : NodeState) × FindsAble t n input k
     found = find_of t script.bounded script.run (few_of t (lawful_of t script.run)) n input due
 
-    abbrev k : Kept
+    abbrev k : NodeState
     k = found.0
 
     same : (past_of r).facts ≡ facts_at t
@@ -79,7 +79,7 @@ module _ (lawful_of : TheRunIsLawful) (few_of : CountsAreFew) (find_of : DueTurn
     has_bytes = bytes_of t spelled_run n k input found.1.took up comes (call_spelled (past_of r).facts (due_in r) n input due (λ c is. due_calls t c script.spelled is))
         found.1.expected found.1.able.links (room_of k input found.1.able.clock found.1.scns)
 
-    can_take : (k : Kept) × CanTake r.places (past_of r).facts n input k
+    can_take : (k : NodeState) × CanTake r.places (past_of r).facts n input k
     can_take = (k, record { up = found.1.up; takes = takes; spellable = turn_spellable (turn_of (place_at r.places n) k input) has_bytes })
 
   pub turns_taken : DueTurnsCanBeTaken

@@ -4,7 +4,7 @@ use Rattle.node_rules.specs.Data.{Place}
 use Rattle.run_rules.specs.Data.{AnswerLine, Command, Happening}
 use Rattle.run_rules.specs.Due.{Due, Ends}
 use Rattle.run_rules.specs.Entries.{book_of}
-use Rattle.run_rules.specs.Reported.{IsBetween, IsTold, LinesAre}
+use Rattle.run_rules.specs.Reported.{IsBetween, IsReported, LinesAre}
 use Rattle.run_rules.specs.Lawful.{AreOfAScript}
 use Rattle.run_rules.specs.Lines.{told}
 use Rattle.run_trace.specs.Recorded.{RunSoFar, IsRunOfScript, past_of}
@@ -12,23 +12,23 @@ use Rattle.world.specs.declared.ran.Ended.{Ended}
 use Rattle.world.specs.declared.ran.Ended.TheVariants.{AllRun, OutOfMemory}
 use Rattle.world.specs.declared.ran.Ran.{Ran}
 use Rattle.world.specs.declared.world.World.{World}
-use Rattle.world.specs.Left.{StillTells, TellsBetween}
+use Rattle.world.specs.Left.{StillReports, ReportsBetween}
 use Rattle.world.specs.Linked.{IsLinked}
 use Rattle.world.specs.Needs.{due_in}
 use Rattle.world.specs.Ran.{IsLeftBy, IsRan, as_ending, run_of}
-use Rattle.world_parts.specs.Shown.{IsOnce, ShowDisks, Shown, disk_told, history_of, places_in}
+use Rattle.world_parts.specs.Shown.{IsOnce, ShowDisks, Shown, disk_reported, history_of, places_in}
 use Rattle.world_parts.proofs.PlaceLemmas.{numbered_told, run_numbered}
 use Rattle.world_parts.proofs.ToldLemmas.{before_are, told_are}
 
 -- ---- each command has one line at most that stands for a disk
 
-still_once : (w : World) → IsRunOfScript w.trace → StillTells w → IsOnce (places_in w.telling.lines)
+still_once : (w : World) → IsRunOfScript w.trace → StillReports w → IsOnce (places_in w.run_report.lines)
 still_once w run still = subst (λ (ls : List AnswerLine). IsOnce (places_in ls)) (sym still.lines) (run_numbered w.trace run).once
 
-between_once : (w : World) → IsRunOfScript w.trace → TellsBetween w → IsOnce (places_in w.telling.lines)
+between_once : (w : World) → IsRunOfScript w.trace → ReportsBetween w → IsOnce (places_in w.run_report.lines)
 between_once w run between = subst (λ (ls : List AnswerLine). IsOnce (places_in ls)) (sym between.lines) (numbered_told (past_of w.trace) (run_numbered w.trace run))
 
-pub once_of : (ended : Ended) (w : World) → IsRunOfScript w.trace → IsLeftBy ended w → IsOnce (places_in w.telling.lines)
+pub once_of : (ended : Ended) (w : World) → IsRunOfScript w.trace → IsLeftBy ended w → IsOnce (places_in w.run_report.lines)
 once_of AllRun w run left = between_once w run left.1
 once_of OutOfMemory w run (inl still) = still_once w run still
 once_of OutOfMemory w run (inr between) = between_once w run between
@@ -36,18 +36,18 @@ once_of OutOfMemory w run (inr between) = between_once w run between
 -- ---- what is told
 
 module _ (w : World) (script : AreOfAScript w.trace.places w.trace.asked) where
-  still_told : StillTells w → LinesAre (history_of w.trace script) (past_of w.trace).telling.lines (map (disk_told w.shown) w.telling.lines)
+  still_told : StillReports w → LinesAre (history_of w.trace script) (past_of w.trace).run_report.lines (map (disk_reported w.shown) w.run_report.lines)
   still_told still =
-      subst (λ (ls : List AnswerLine). LinesAre (history_of w.trace script) (past_of w.trace).telling.lines (map (disk_told w.shown) ls)) (sym still.lines)
+      subst (λ (ls : List AnswerLine). LinesAre (history_of w.trace script) (past_of w.trace).run_report.lines (map (disk_reported w.shown) ls)) (sym still.lines)
       (before_are w.trace script w.shown still.shown)
 
-  between_told : TellsBetween w → LinesAre (history_of w.trace script) (told (past_of w.trace).facts (past_of w.trace).telling) (map (disk_told w.shown) w.telling.lines)
+  between_told : ReportsBetween w → LinesAre (history_of w.trace script) (told (past_of w.trace).facts (past_of w.trace).run_report) (map (disk_reported w.shown) w.run_report.lines)
   between_told between =
-      subst (λ (ls : List AnswerLine). LinesAre (history_of w.trace script) (told (past_of w.trace).facts (past_of w.trace).telling) ls) (sym between.alike)
-      (subst (λ (ls : List AnswerLine). LinesAre (history_of w.trace script) (told (past_of w.trace).facts (past_of w.trace).telling) (map (disk_told between.before) ls)) (sym between.lines)
+      subst (λ (ls : List AnswerLine). LinesAre (history_of w.trace script) (told (past_of w.trace).facts (past_of w.trace).run_report) ls) (sym between.alike)
+      (subst (λ (ls : List AnswerLine). LinesAre (history_of w.trace script) (told (past_of w.trace).facts (past_of w.trace).run_report) (map (disk_reported between.before) ls)) (sym between.lines)
       (told_are w.trace script between.before between.shown))
 
-  left_told : (ended : Ended) → IsLeftBy ended w → IsTold (history_of w.trace script) (map (disk_told w.shown) w.telling.lines) (as_ending ended)
+  left_told : (ended : Ended) → IsLeftBy ended w → IsReported (history_of w.trace script) (map (disk_reported w.shown) w.run_report.lines) (as_ending ended)
   left_told AllRun left = (left.0, between_told left.1)
   left_told OutOfMemory (inl still) = inl (still_told still)
   left_told OutOfMemory (inr between) = inr (between.between, between_told between)
@@ -61,27 +61,27 @@ same_run r places asked hs p a h =
     ∙ ap (λ (gs : List Happening). record { places = places; asked = asked; happenings = gs }) (sym h))
 
 pub is_ran : (w : World) (ran : Ran) → ran.recorded.places ≡ w.trace.places → ran.recorded.asked ≡ w.trace.asked → ran.recorded.happenings ≡ w.trace.happenings → ran.recorded.book ≡ book_of w.trace.happenings
-    → IsRunOfScript w.trace → ran.answers ≡ map (disk_told w.shown) w.telling.lines → IsLeftBy ran.ended w → IsRan ran
+    → IsRunOfScript w.trace → ran.answers ≡ map (disk_reported w.shown) w.run_report.lines → IsLeftBy ran.ended w → IsRan ran
 is_ran w ran places asked happenings book run answers left =
     let same : w.trace ≡ run_of ran.recorded = same_run w.trace ran.recorded.places ran.recorded.asked ran.recorded.happenings places asked happenings in
     record {
       due = subst (λ (r : RunSoFar). IsRunOfScript r) same run;
       booked = book ∙ ap book_of (sym happenings);
-      told = subst (λ (r : RunSoFar). (script : AreOfAScript r.places r.asked) → IsTold (history_of r script) ran.answers (as_ending ran.ended)) same
-          (λ script. subst (λ (ls : List AnswerLine). IsTold (history_of w.trace script) ls (as_ending ran.ended)) (sym answers) (left_told w script ran.ended left));
+      told = subst (λ (r : RunSoFar). (script : AreOfAScript r.places r.asked) → IsReported (history_of r script) ran.answers (as_ending ran.ended)) same
+          (λ script. subst (λ (ls : List AnswerLine). IsReported (history_of w.trace script) ls (as_ending ran.ended)) (sym answers) (left_told w script ran.ended left));
     }
 
 -- ---- the end of a script
 
-pub ends_between : (w v : World) → IsLinked w → due_in w.trace ≡ Ends → v.trace ≡ w.trace → v.shown ≡ w.shown → v.telling.lines ≡ told (past_of w.trace).facts w.telling → IsLeftBy AllRun v
+pub ends_between : (w v : World) → IsLinked w → due_in w.trace ≡ Ends → v.trace ≡ w.trace → v.shown ≡ w.shown → v.run_report.lines ≡ told (past_of w.trace).facts w.run_report → IsLeftBy AllRun v
 ends_between w v linked ends trace shown lines = (
   ap due_in trace ∙ ends,
   record {
     between = subst (λ (d : Due). IsBetween d) (sym (ap due_in trace ∙ ends)) tt;
-    lines = lines ∙ (ap (λ t. told (past_of w.trace).facts t) linked.held.parts.telling ∙ ap (λ (r : RunSoFar). told (past_of r).facts (past_of r).telling) (sym trace));
+    lines = lines ∙ (ap (λ t. told (past_of w.trace).facts t) linked.held.parts.run_report ∙ ap (λ (r : RunSoFar). told (past_of r).facts (past_of r).run_report) (sym trace));
     before = w.shown;
     shown = subst (λ (r : RunSoFar). ShowDisks r w.shown) (sym trace) linked.held.shown;
-    alike = ap (λ (s : Shown). map (disk_told s) v.telling.lines) shown;
+    alike = ap (λ (s : Shown). map (disk_reported s) v.run_report.lines) shown;
   },
 )
 

@@ -11,7 +11,7 @@ use Rattle.node_points.specs.Passing.{passes_as}
 use Rattle.node_points.specs.declared.places.Passes.{Passes as PassesByNode}
 use Rattle.node_rules.specs.Data.{BranchId, Input, Live, Msg, RedoRecord, Place}
 use Rattle.node_rules.specs.Words.{same}
-use Rattle.node_rules.specs.Kept.{Kept, Outcome, live_at}
+use Rattle.node_rules.specs.NodeState.{NodeState, Outcome, live_at}
 use Rattle.node_rules.specs.Points.{Passes, Point, is_ready, passes, points_of, reaches, ready_points, sent_points}
 use Rattle.node_points.specs.declared.point.Side.TheVariants as sides
 use Rattle.node_rules.specs.Turn.{turn_of}
@@ -31,20 +31,20 @@ use Rattle.node_disk.specs.Incoming.{IsReadAs}
 use Rattle.node_disk.specs.OnDisk.{disk_of, kept_of, place_of, turn_calls, IsSpellable, HoldsNext}
 use Rattle.run_rules.specs.Cuts.{Cut_by, By_nothing, By_point, By_strike, cut_append, cut_before, cut_by}
 use Rattle.run_rules.specs.Disks.{DiskOrders, Strike, struck}
-use Rattle.run_rules.specs.Telling.{Telling, orders_at}
-use Rattle.world.specs.declared.site.Site.{Site}
-use Rattle.world.specs.declared.site.Site.TheVariants.{Up, Down}
+use Rattle.run_rules.specs.RunReport.{RunReport, orders_at}
+use Rattle.world.specs.declared.slot.NodeSlot.{NodeSlot}
+use Rattle.world.specs.declared.slot.NodeSlot.TheVariants.{Up, Down}
 use Rattle.world_parts.specs.Orders.{HasOrders, OrdersLeft, cut_orders, orders_if}
 use Rattle.world.specs.Mail.{IsMailed}
 use Rattle.world.specs.Served.{CanServe, HasFailed, HasServed, NodeFailed, NodeServed}
-use Rattle.world.specs.Site.{RunsAt, bytes_of, images_of, site_disk, site_kept}
-use Rattle.world.specs.Turns.{TellsAll, stands_by, stood}
-use Rattle.world.proofs.SiteLemmas.{same_of}
+use Rattle.world.specs.NodeSlot.{RunsAt, bytes_of, images_of, site_disk, site_kept}
+use Rattle.world.specs.Turns.{ReportsAll, stands_by, stood}
+use Rattle.world.proofs.SlotLemmas.{same_of}
 use Rattle.world_parts.proofs.PlanLemmas.{no_strike, one_strike, same_plan, spared}
 
 -- ---- what cuts a turn
 
-module _ (t : Telling) (n : ℕ) where
+module _ (t : RunReport) (n : ℕ) where
   -- nothing, where no point is reached and no order strikes its append
   pub nothing_cuts : (wrote : Option RedoRecord) (x : Option Passes) → IfSome x (ReachesNone t.points) → IfSome wrote (λ r. struck 0 (orders_at t n) ≡ None) → cut_before t n wrote x ≡ By_nothing
   nothing_cuts None None reach spare = refl
@@ -74,24 +74,24 @@ module _ (t : Telling) (n : ℕ) where
 
 -- ---- a node that can take what comes
 
-module _ (place : Place) (k : Kept) (incoming : Incoming) where
+module _ (place : Place) (k : NodeState) (incoming : Incoming) where
   -- it can, where one that keeps this can
-  pub can_serve : (site : Site) → RunsAt place site → site_kept site ≡ Some k → (input : Input) × IsReadAs incoming input
-      → ((input : Input) → IsReadAs incoming input → MayTake place k input × IsSpellable (turn_of place k input)) → CanServe site incoming
+  pub can_serve : (slot : NodeSlot) → RunsAt place slot → site_kept slot ≡ Some k → (input : Input) × IsReadAs incoming input
+      → ((input : Input) → IsReadAs incoming input → MayTake place k input × IsSpellable (turn_of place k input)) → CanServe slot incoming
   can_serve (Up node) runs kept reads takes =
       let same : kept_of node ≡ k = same_of (kept_of node) k kept in
       record {
         running = runs.0;
         reads = reads;
-        takes = λ input read. subst (λ (x : Place). MayTake x (kept_of node) input) (sym runs.1) (subst (λ (x : Kept). MayTake place x input) (sym same) (takes input read).0);
-        spellable = λ input read. subst (λ (x : Place). IsSpellable (turn_of x (kept_of node) input)) (sym runs.1) (subst (λ (x : Kept). IsSpellable (turn_of place x input)) (sym same) (takes input read).1);
+        takes = λ input read. subst (λ (x : Place). MayTake x (kept_of node) input) (sym runs.1) (subst (λ (x : NodeState). MayTake place x input) (sym same) (takes input read).0);
+        spellable = λ input read. subst (λ (x : Place). IsSpellable (turn_of x (kept_of node) input)) (sym runs.1) (subst (λ (x : NodeState). IsSpellable (turn_of place x input)) (sym same) (takes input read).1);
       }
   can_serve (Down disk) runs kept reads takes = absurd cc
 
 -- ---- what a turn leaves
 
 -- the cut of a turn that passes these places
-cut_by_places : (t : Telling) (n : ℕ) (k : Kept) (input : Input) (o : Outcome) (wrote : Option RedoRecord) (x : Option Passes) (by : Cut_by) → o.wrote ≡ wrote → passes k input o ≡ x → cut_before t n wrote x ≡ by → cut_by t n k input o ≡ by
+cut_by_places : (t : RunReport) (n : ℕ) (k : NodeState) (input : Input) (o : Outcome) (wrote : Option RedoRecord) (x : Option Passes) (by : Cut_by) → o.wrote ≡ wrote → passes k input o ≡ x → cut_before t n wrote x ≡ by → cut_by t n k input o ≡ by
 unfolding cut_by
 cut_by_places t n k input o wrote x by is are cut = ap (λ (r : Option RedoRecord). cut_before t n r (passes k input o)) is ∙ (ap (λ (y : Option Passes). cut_before t n wrote y) are ∙ cut)
 
@@ -142,7 +142,7 @@ none_ready points (Some l) x is reached =
     after_of None = []
     after_of (Some y) = y.after
 
-none_sent : (points : List Point) (k : Kept) (sent : List Msg) (x : Passes) → sent_points k sent ≡ Some x → reaches points x.root x.after ≡ true → ⊥
+none_sent : (points : List Point) (k : NodeState) (sent : List Msg) (x : Passes) → sent_points k sent ≡ Some x → reaches points x.root x.after ≡ true → ⊥
 none_sent points k [] x is reached = absurd cc
 none_sent points k (m ∷ ms) x is reached = by (is_ready m.kind) is
   where
@@ -150,41 +150,41 @@ none_sent points k (m ∷ ms) x is reached = by (is_ready m.kind) is
     by true is_so = none_ready points (live_at k m.from) x is_so reached
     by false is_so = absurd cc
 
-none_after : (points : List Point) (k : Kept) (input : Input) (o : Outcome) (x : Passes) → o.wrote ≡ None → passes k input o ≡ Some x → reaches points x.root x.after ≡ true → ⊥
+none_after : (points : List Point) (k : NodeState) (input : Input) (o : Outcome) (x : Passes) → o.wrote ≡ None → passes k input o ≡ Some x → reaches points x.root x.after ≡ true → ⊥
 unfolding passes
 none_after points k input o x none is reached = none_sent points k o.sent x (sym (ap (λ (w : Option RedoRecord). points_of k input o.sent w) none) ∙ is) reached
 
 -- What a whole turn was, of a node that kept this.
-pub record WasWhole (t : Telling) (n : ℕ) (place : Place) (k : Kept) (incoming : Incoming) (rs : List RedoRecord) (e : Effects) (site : Site) : Type 0 where
+pub record WasWhole (t : RunReport) (n : ℕ) (place : Place) (k : NodeState) (incoming : Incoming) (rs : List RedoRecord) (e : Effects) (slot : NodeSlot) : Type 0 where
   pub input : IsReadAs incoming e.input
-  pub tells : TellsAll (turn_of place k e.input) e
+  pub tells : ReportsAll (turn_of place k e.input) e
   pub passed : TellsPasses k (turn_of place k e.input) e
   pub mailed : AllByRecursion IsMailed e.sent
   pub cut : cut_by t n k e.input (turn_of place k e.input) ≡ By_nothing
-  pub kept : site_kept site ≡ Some (turn_of place k e.input).after
-  pub runs : RunsAt place site
-  pub holds : HoldRecords (rs ++ option_to_list (turn_of place k e.input).wrote) (bytes_of (site_disk site))
-  pub starts : CanBeStarted bytes_of images_of (site_disk site)
-  pub orders : HasOrders (orders_if (is_some (turn_of place k e.input).wrote) (orders_at t n)) (site_disk site)
+  pub kept : site_kept slot ≡ Some (turn_of place k e.input).after
+  pub runs : RunsAt place slot
+  pub holds : HoldRecords (rs ++ option_to_list (turn_of place k e.input).wrote) (bytes_of (site_disk slot))
+  pub starts : CanBeStarted bytes_of images_of (site_disk slot)
+  pub orders : HasOrders (orders_if (is_some (turn_of place k e.input).wrote) (orders_at t n)) (site_disk slot)
 
 -- What a cut turn was.
-pub record WasCut (t : Telling) (n : ℕ) (place : Place) (k : Kept) (incoming : Incoming) (rs : List RedoRecord) (c : CutTurn) (site : Site) (by : Cut_by) : Type 0 where
+pub record WasCut (t : RunReport) (n : ℕ) (place : Place) (k : NodeState) (incoming : Incoming) (rs : List RedoRecord) (c : CutTurn) (slot : NodeSlot) (by : Cut_by) : Type 0 where
   pub input : IsReadAs incoming c.input
   pub tried : c.tried ≡ (turn_of place k c.input).wrote
   pub passed : option_map passes_as c.passes ≡ passes k c.input (turn_of place k c.input)
   pub cut : cut_by t n k c.input (turn_of place k c.input) ≡ by
   pub is_cut : by ≡ By_nothing → ⊥
-  pub holds : HoldRecords (rs ++ option_to_list (stood (stands_by by) (turn_of place k c.input).wrote)) (bytes_of (site_disk site))
-  pub starts : CanBeStarted bytes_of images_of (site_disk site)
-  pub orders : OrdersLeft (cut_orders (is_some (turn_of place k c.input).wrote) by (orders_at t n)) (site_disk site).orders
+  pub holds : HoldRecords (rs ++ option_to_list (stood (stands_by by) (turn_of place k c.input).wrote)) (bytes_of (site_disk slot))
+  pub starts : CanBeStarted bytes_of images_of (site_disk slot)
+  pub orders : OrdersLeft (cut_orders (is_some (turn_of place k c.input).wrote) by (orders_at t n)) (site_disk slot).orders
 
-module _ (t : Telling) (n : ℕ) (place : Place) (k : Kept) (incoming : Incoming) (rs : List RedoRecord) (points : List Point) (are : points ≡ t.points) where
+module _ (t : RunReport) (n : ℕ) (place : Place) (k : NodeState) (incoming : Incoming) (rs : List RedoRecord) (points : List Point) (are : points ≡ t.points) where
   module _ (before after : Node DiskState) (at : place_of before ≡ place) (same : kept_of before ≡ k) (holds : HoldRecords rs (bytes_of (disk_of before))) (orders : HasOrders (orders_at t n) (disk_of before)) where
     outcome_is : (input : Input) → turn_of (place_of before) (kept_of before) input ≡ turn_of place k input
-    outcome_is input = ap (λ (x : Place). turn_of x (kept_of before) input) at ∙ ap (λ (x : Kept). turn_of place x input) same
+    outcome_is input = ap (λ (x : Place). turn_of x (kept_of before) input) at ∙ ap (λ (x : NodeState). turn_of place x input) same
 
     passes_are : (input : Input) → passes (kept_of before) input (turn_of (place_of before) (kept_of before) input) ≡ passes k input (turn_of place k input)
-    passes_are input = ap (λ (x : Kept). passes x input (turn_of (place_of before) (kept_of before) input)) same ∙ ap (λ (x : Outcome). passes k input x) (outcome_is input)
+    passes_are input = ap (λ (x : NodeState). passes x input (turn_of (place_of before) (kept_of before) input)) same ∙ ap (λ (x : Outcome). passes k input x) (outcome_is input)
 
     node_whole : (e : Effects) → NodeServed before after incoming points e → WasWhole t n place k incoming rs e (Up after)
     node_whole e s =
@@ -198,7 +198,7 @@ module _ (t : Telling) (n : ℕ) (place : Place) (k : Kept) (incoming : Incoming
           mailed = s.mailed;
           cut = cut_by_places t n k e.input o e.wrote (option_map passes_as e.passes) By_nothing (sym tells.wrote) (sym passed)
               (nothing_cuts t n e.wrote (option_map passes_as e.passes) (subst (λ (xs : List Point). GoesUncut xs e.passes) are s.uncut) (spares (orders_at t n) (disk_of before) (disk_of after) orders e.wrote s.goes));
-          kept = ap (λ (x : Kept). Some x) tells.after;
+          kept = ap (λ (x : NodeState). Some x) tells.after;
           runs = (s.running, s.place ∙ at);
           holds = subst (λ (r : Option RedoRecord). HoldRecords (rs ++ option_to_list r) (bytes_of (disk_of after))) tells.wrote (holds_next rs e.wrote (bytes_of (disk_of before)) (bytes_of (disk_of after)) s.stored holds);
           starts = s.starts;
@@ -288,14 +288,14 @@ module _ (t : Telling) (n : ℕ) (place : Place) (k : Kept) (incoming : Incoming
         (subst (λ (xs : List Point). Stops xs c.at c.passes) are f.stops) f.tried f.stored f.goes f.stands
 
   -- a whole turn of a site's node
-  pub site_whole : (old new : Site) (e : Effects) → RunsAt place old → site_kept old ≡ Some k → HoldRecords rs (bytes_of (site_disk old)) → HasOrders (orders_at t n) (site_disk old) → HasServed old new incoming points e
+  pub site_whole : (old new : NodeSlot) (e : Effects) → RunsAt place old → site_kept old ≡ Some k → HoldRecords rs (bytes_of (site_disk old)) → HasOrders (orders_at t n) (site_disk old) → HasServed old new incoming points e
       → WasWhole t n place k incoming rs e new
   site_whole (Up before) (Up after) e runs kept holds orders served = node_whole before after runs.1 (same_of (kept_of before) k kept) holds orders e served
   site_whole (Up before) (Down disk) e runs kept holds orders served = absurd served
   site_whole (Down disk) new e runs kept holds orders served = absurd cc
 
   -- and a cut one
-  pub site_cut : (old new : Site) (c : CutTurn) → RunsAt place old → site_kept old ≡ Some k → HoldRecords rs (bytes_of (site_disk old)) → HasOrders (orders_at t n) (site_disk old) → HasFailed old new incoming points (errs.Cut c)
+  pub site_cut : (old new : NodeSlot) (c : CutTurn) → RunsAt place old → site_kept old ≡ Some k → HoldRecords rs (bytes_of (site_disk old)) → HasOrders (orders_at t n) (site_disk old) → HasFailed old new incoming points (errs.Cut c)
       → (by : Cut_by) × WasCut t n place k incoming rs c new by
   site_cut (Up before) (Up after) c runs kept holds orders failed = node_cut before after runs.1 (same_of (kept_of before) k kept) holds orders c failed
   site_cut (Up before) (Down disk) c runs kept holds orders failed = absurd failed

@@ -13,20 +13,20 @@ use Rattle.record_log.specs.Held.{HoldRecords, with_record_if}
 use Rattle.record_log.specs.Records.{bodies_of}
 use Rattle.node_rules.specs.Data.{RedoRecord, Place}
 use Rattle.node_rules.specs.Turn.{start_of}
-use Rattle.node_rules.specs.Kept.{Kept}
+use Rattle.node_rules.specs.NodeState.{NodeState}
 use Rattle.node_disk.specs.Starts.{CanBeStarted, StartIsLeft, next_boot}
 use Rattle.node_disk.specs.OnDisk.{disk_of, kept_of, place_of, IsRunning}
 use Rattle.node_disk.specs.declared.node.Node.{Node}
 use Rattle.run_rules.specs.Disks.{DiskOrders, Strike, no_orders, struck}
-use Rattle.world.specs.declared.site.Site.{Site}
-use Rattle.world.specs.declared.site.Site.TheVariants.{Up}
+use Rattle.world.specs.declared.slot.NodeSlot.{NodeSlot}
+use Rattle.world.specs.declared.slot.NodeSlot.TheVariants.{Up}
 use Rattle.world_parts.specs.Orders.{HasOrders, OrdersLeft, orders_as, stop_as}
-use Rattle.world.specs.Site.{site_kept, site_disk, bytes_of, images_of}
+use Rattle.world.specs.NodeSlot.{site_kept, site_disk, bytes_of, images_of}
 use Rattle.world_parts.specs.Orders.{stands_in}
 use Rattle.world.specs.Started.{IsTried}
 use Rattle.world_parts.proofs.CallRuns.{looks}
 use Rattle.world_parts.proofs.StartOrders.{GoAs, some_plan, start_goes, start_stands}
-use Rattle.world.proofs.SiteLemmas.{down_runs}
+use Rattle.world.proofs.SlotLemmas.{down_runs}
 
 -- bytes that hold records are some
 no_bytes : (rs : List RedoRecord) → HoldRecords rs [] → ⊥
@@ -41,7 +41,7 @@ struck_none : (o : Option Strike) → is_some o ≡ false → o ≡ None
 struck_none None is = refl
 struck_none (Some s) is = absurd cc
 
-down_by : (o : Option Strike) (k : Option Kept) → is_some o ≡ true → None ≡ (if is_none o then k else None)
+down_by : (o : Option Strike) (k : Option NodeState) → is_some o ≡ true → None ≡ (if is_none o then k else None)
 down_by None k is = absurd cc
 down_by (Some s) k is = refl
 
@@ -70,7 +70,7 @@ module _ (place : Place) (disk : DiskState) (d : DiskOrders) (rs : List RedoReco
       let go = goes_by (disk_of node).orders false goes in
       let none : struck 3 d ≡ None = struck_none (struck 3 d) go.struck in
       record {
-        kept = ap (λ (k : Kept). Some k) kept ∙ sym (ap (λ (o : Option Strike). if is_none o then Some (start_of (rs ++ next_boot rs ∷ [])) else None) none);
+        kept = ap (λ (k : NodeState). Some k) kept ∙ sym (ap (λ (o : Option Strike). if is_none o then Some (start_of (rs ++ next_boot rs ∷ [])) else None) none);
         runs = (running, at);
         holds = subst (λ (o : Option Strike). HoldRecords (with_record_if (stands_in o) rs (next_boot rs)) (bytes_of (disk_of node))) (sym none) stored;
         starts = starts;
@@ -78,7 +78,7 @@ module _ (place : Place) (disk : DiskState) (d : DiskOrders) (rs : List RedoReco
       }
 
   -- an order struck, and the disk is left, with the power on again
-  pub tried_down : (left : DiskState) (now : Site) → site_kept now ≡ None → bytes_of (site_disk now) ≡ bytes_of left → CanBeStarted bytes_of images_of (site_disk now) → (site_disk now).orders ≡ powered left.orders
+  pub tried_down : (left : DiskState) (now : NodeSlot) → site_kept now ≡ None → bytes_of (site_disk now) ≡ bytes_of left → CanBeStarted bytes_of images_of (site_disk now) → (site_disk now).orders ≡ powered left.orders
       → CallsGoByPlan (load_calls (bytes_of disk) ++ append_calls) (Some (plan_of disk.orders)) (Some (plan_of left.orders)) true → StartIsLeft (Some (plan_of disk.orders)) (bytes_of disk) (bytes_of left) → IsTried place d rs now
   tried_down left now down same starts power goes stands =
       let go = goes_by left.orders true goes in

@@ -3,7 +3,7 @@ use Rattle.std.proofs.Common.{◌≡◌, ◌⊎◌, inl, inr, ◌<◌, ◌≤◌
 use Rattle.node_rules.specs.Data.{Place}
 use Rattle.run_rules.specs.Data.{Command, Happening}
 use Rattle.run_rules.specs.Data.happenings
-use Rattle.run_rules.specs.Telling.{Past, start}
+use Rattle.run_rules.specs.RunReport.{Past, start}
 use Rattle.run_rules.specs.Past.{next, past}
 use Rattle.run_rules.specs.Due.{IsTheRun, comes_next}
 use Rattle.run_trace.specs.Recorded.{RunSoFar, IsNext, happening_limit, past_of}
@@ -11,7 +11,7 @@ use Rattle.world.specs.declared.world.World.{World}
 use Rattle.world.specs.Needs.{IsOfScript}
 use Rattle.world.specs.Linked.{AreCounted, IsHeld, PartsAre}
 use Rattle.world_parts.specs.Shown.{HasBegun, ShowDisks, Shown, ShowsDiskAt}
-use Rattle.world.specs.Site.{SitesAre}
+use Rattle.world.specs.NodeSlot.{SitesAre}
 use Rattle.world.specs.Steps.{StepsOn, StepsTo}
 
 -- One happening more in a trace.
@@ -23,10 +23,10 @@ pub record IsPushed (before after : RunSoFar) (h : Happening) : Type 0 where
 -- What the world is then: its parts but the sites are those of the longer run, and so are its sites.
 pub record Leaves (w v : World) (q : Past) : Type 0 where
   pub parts : PartsAre q v
-  pub count : length v.sites.items ≡ length w.sites.items
+  pub count : length v.slots.items ≡ length w.slots.items
   pub nodes : length q.facts.nodes ≡ length (past_of w.trace).facts.nodes
   pub records : length q.facts.records ≡ length (past_of w.trace).facts.records
-  pub sites : SitesAre w.trace.places q v.sites.items
+  pub slots : SitesAre w.trace.places q v.slots.items
 
 -- a happening at the end is the last one, or stands before it
 pub split_end : (xs before later : List Happening) (h g : Happening) → xs ++ h ∷ [] ≡ before ++ g ∷ later → ((h ≡ g) × (xs ≡ before)) ⊎ ((rest : List Happening) × (xs ≡ before ++ g ∷ rest))
@@ -107,20 +107,20 @@ module _ (w v : World) (h : Happening) (held : Stands w) (due : IsNext w.trace h
     script = script_on;
     parts = subst (λ (q : Past). PartsAre q v) (sym pushed.past) leaves.parts;
     counted = record {
-      sites = leaves.count ∙ (held.counted.sites ∙ sym (ap (λ (ps : List Place). length ps) places_stay));
+      slots = leaves.count ∙ (held.counted.slots ∙ sym (ap (λ (ps : List Place). length ps) places_stay));
       nodes = ap (λ (q : Past). length q.facts.nodes) pushed.past ∙ (leaves.nodes ∙ (held.counted.nodes ∙ sym (ap (λ (ps : List Place). length ps) places_stay)));
       records = ap (λ (q : Past). length q.facts.records) pushed.past ∙ (leaves.records ∙ (held.counted.records ∙ sym (ap (λ (ps : List Place). length ps) places_stay)));
     };
-    sites = subst (λ (q : Past). SitesAre v.trace.places q v.sites.items) (sym pushed.past)
-        (subst (λ (ps : List Place). SitesAre ps (next w.trace.places w.trace.asked (past_of w.trace) h) v.sites.items) (sym places_stay) leaves.sites);
+    slots = subst (λ (q : Past). SitesAre v.trace.places q v.slots.items) (sym pushed.past)
+        (subst (λ (ps : List Place). SitesAre ps (next w.trace.places w.trace.asked (past_of w.trace) h) v.slots.items) (sym places_stay) leaves.slots);
     shown = shown;
   }
 
   -- one happening on, with no stop to come
   pub steps_on : ShowDisks v.trace v.shown → Leaves w v (next w.trace.places w.trace.asked (past_of w.trace) h)
-      → (next w.trace.places w.trace.asked (past_of w.trace) h).telling.start_to_stop ≡ None → StepsOn w v
+      → (next w.trace.places w.trace.asked (past_of w.trace) h).run_report.start_to_stop ≡ None → StepsOn w v
   steps_on shown leaves upright = record {
-    linked = record { held = held_on shown leaves; upright = ap (λ (q : Past). q.telling.start_to_stop) pushed.past ∙ upright };
+    linked = record { held = held_on shown leaves; upright = ap (λ (q : Past). q.run_report.start_to_stop) pushed.past ∙ upright };
     longer = longer_on;
     few = pushed.few;
   }

@@ -6,23 +6,23 @@ use Rattle.run_rules.specs.Data.{Command, Happening}
 use Rattle.run_rules.specs.Data.happenings
 use Rattle.net_bag.specs.Net.{Net, lost_by_stop, stopped}
 use Rattle.run_rules.specs.Facts.{facts_after}
-use Rattle.run_rules.specs.Telling.{Past}
-use Rattle.run_rules.specs.Past.{acts, next, telling_stopped}
+use Rattle.run_rules.specs.RunReport.{Past}
+use Rattle.run_rules.specs.Past.{acts, next, report_stopped}
 use Rattle.record_log.specs.Held.{HoldRecords}
 use Rattle.node_rules.specs.Words.{numbered}
 use Rattle.tran_ids.proofs.NumberedLemmas.{set_found, set_leaves, set_length}
 use Rattle.run_rules.specs.Facts.{flat, node_at, place_at, records_at}
 use Rattle.run_rules.proofs.AtNodeLemmas.{there_too}
 use Rattle.run_trace.specs.Recorded.{RunSoFar, IsNext, past_of}
-use Rattle.world.specs.declared.site.Site.{Site}
+use Rattle.world.specs.declared.slot.NodeSlot.{NodeSlot}
 use Rattle.world.specs.declared.world.World.{World}
 use Rattle.run_rules.specs.Lawful.{IsNode}
 use Rattle.world.specs.Needs.{DueNodesAreThere, NamesNodes, IsOfScript, due_in}
 use Rattle.world.specs.Linked.{IsHeld, IsLinked, OnlyFalls}
-use Rattle.world.specs.Site.{SiteIs, SitesAre, has_to_fall, up_at}
+use Rattle.world.specs.NodeSlot.{SiteIs, SitesAre, has_to_fall, up_at}
 use Rattle.world.specs.Steps.{StepsOn}
 use Rattle.world.specs.Stops.{HasStopped}
-use Rattle.world.proofs.SiteLemmas.{SameAt, down_runs, site_set}
+use Rattle.world.proofs.SlotLemmas.{SameAt, down_runs, site_set}
 use Rattle.world.proofs.StepLemmas.{IsPushed, Leaves, shown_on, stands_of, steps_on}
 use Rattle.world_parts.proofs.ToStopLemmas.{stop_ends}
 use Rattle.run_rules.specs.Due.{Due, Falls, Stops, comes_next, due_of}
@@ -30,8 +30,8 @@ use Rattle.run_rules.specs.Due.{Due, Falls, Stops, comes_next, due_of}
 module _ (places : List Place) (commands : List Command) where
   pub next_stopped : (p : Past) (n : ℕ) → next places commands p (happenings.Stopped n)
       ≡ record {
-        facts = record p.facts { nodes = set_numbered p.facts.nodes n None; net = stopped p.facts.net n; losses_to_tell = lost_by_stop p.facts.net n; node_to_stop = None };
-        telling = acts (telling_stopped places commands p.facts p.telling n);
+        facts = record p.facts { nodes = set_numbered p.facts.nodes n None; net = stopped p.facts.net n; losses_to_report = lost_by_stop p.facts.net n; node_to_stop = None };
+        run_report = acts (report_stopped places commands p.facts p.run_report n);
       }
   unfolding next facts_after
   next_stopped p n = refl
@@ -51,28 +51,28 @@ pub record Halts (n : ℕ) (w v : World) : Type 0 where
   pub shown : v.shown ≡ w.shown
   pub net : v.net ≡ stopped w.net n
   pub losses : v.losses.items ≡ lost_by_stop w.net n
-  pub telling : v.telling ≡ acts (telling_stopped w.trace.places w.trace.asked (past_of w.trace).facts (past_of w.trace).telling n)
+  pub run_report : v.run_report ≡ acts (report_stopped w.trace.places w.trace.asked (past_of w.trace).facts (past_of w.trace).run_report n)
 
 module _ (w v : World) (n : ℕ) (held : IsHeld w) (due : IsNext w.trace (happenings.Stopped n)) (pushed : IsPushed w.trace v.trace (happenings.Stopped n)) (only : OnlyFalls (past_of w.trace) n)
-    (halts : Halts n w v) (old new : Site) (there : numbered w.sites.items n ≡ Some old) (has : HasStopped old new) (set : v.sites.items ≡ set_numbered w.sites.items n new) where
+    (halts : Halts n w v) (old new : NodeSlot) (there : numbered w.slots.items n ≡ Some old) (has : HasStopped old new) (set : v.slots.items ≡ set_numbered w.slots.items n new) where
   abbrev p : Past
   p = past_of w.trace
 
   abbrev q : Past
   q = record {
-    facts = record p.facts { nodes = set_numbered p.facts.nodes n None; net = stopped p.facts.net n; losses_to_tell = lost_by_stop p.facts.net n; node_to_stop = None };
-    telling = acts (telling_stopped w.trace.places w.trace.asked p.facts p.telling n);
+    facts = record p.facts { nodes = set_numbered p.facts.nodes n None; net = stopped p.facts.net n; losses_to_report = lost_by_stop p.facts.net n; node_to_stop = None };
+    run_report = acts (report_stopped w.trace.places w.trace.asked p.facts p.run_report n);
   }
 
-  none_left : q.telling.start_to_stop ≡ None
-  none_left = stop_ends w.trace.places w.trace.asked p.facts p.telling n
+  none_left : q.run_report.start_to_stop ≡ None
+  none_left = stop_ends w.trace.places w.trace.asked p.facts p.run_report n
 
   up_is : (m : ℕ) → up_at q m ≡ node_at q.facts m
   up_is m = ap (λ (o : Option ℕ). if has_to_fall o m then None else node_at q.facts m) none_left
 
   here : up_at q n ≡ None
   here =
-      let node = there_too w.sites.items p.facts.nodes n old (held.counted.sites ∙ sym held.counted.nodes) there in
+      let node = there_too w.slots.items p.facts.nodes n old (held.counted.slots ∙ sym held.counted.nodes) there in
       up_is n ∙ ap flat (set_found p.facts.nodes n node.0 None node.1)
 
   elsewhere : (m : ℕ) → n ≢ m → SameAt p q m
@@ -83,7 +83,7 @@ module _ (w v : World) (n : ℕ) (held : IsHeld w) (due : IsNext w.trace (happen
 
   stopped_site : SiteIs w.trace.places q n new
   stopped_site =
-      let is : SiteIs w.trace.places p n old = held.sites n old there in
+      let is : SiteIs w.trace.places p n old = held.slots n old there in
       record {
         kept = has.kept ∙ sym here;
         runs = down_runs (place_at w.trace.places n) new has.kept;
@@ -99,20 +99,20 @@ module _ (w v : World) (n : ℕ) (held : IsHeld w) (due : IsNext w.trace (happen
       losses = halts.losses ∙ ap (λ (net : Net). lost_by_stop net n) held.parts.net;
       to_stop = halts.to_stop;
       boots = halts.boots ∙ held.parts.boots;
-      telling = halts.telling;
+      run_report = halts.run_report;
     };
-    count = ap (λ (sites : List Site). length sites) set ∙ set_length w.sites.items n new;
+    count = ap (λ (slots : List NodeSlot). length slots) set ∙ set_length w.slots.items n new;
     nodes = set_length p.facts.nodes n None;
     records = refl;
-    sites = subst (λ (sites : List Site). SitesAre w.trace.places q sites) (sym set)
-        (site_set w.trace.places p q n elsewhere w.sites.items old new there stopped_site (λ m site other at. held.sites m site at));
+    slots = subst (λ (slots : List NodeSlot). SitesAre w.trace.places q slots) (sym set)
+        (site_set w.trace.places p q n elsewhere w.slots.items old new there stopped_site (λ m slot other at. held.slots m slot at));
   }
 
   pub halt_steps : StepsOn w v
   halt_steps =
       let is = next_stopped w.trace.places w.trace.asked p n in
       steps_on w v (happenings.Stopped n) (stands_of w held) due pushed (shown_on w v (happenings.Stopped n) (stands_of w held) due pushed (λ c same. absurd cc) halts.shown) (subst (λ (x : Past). Leaves w v x) (sym is) leaves)
-      (ap (λ (x : Past). x.telling.start_to_stop) is ∙ none_left)
+      (ap (λ (x : Past). x.run_report.start_to_stop) is ∙ none_left)
 
 -- the same happening in the same trace
 pub pushed_in : (before same after : RunSoFar) (h : Happening) → same ≡ before → IsPushed same after h → IsPushed before after h

@@ -6,7 +6,7 @@ use Rattle.node_rules.specs.Data.{Input, Msg, Place, RedoRecord, Stmt}
 use Rattle.node_rules.specs.Data.inputs
 use Rattle.node_rules.specs.Inputs.{IsFit}
 use Rattle.node_rules.specs.Words.{numbered, set_numbered}
-use Rattle.node_rules.specs.Kept.{Kept}
+use Rattle.node_rules.specs.NodeState.{NodeState}
 use Rattle.node_rules.specs.Turn.{deed_of, turn_of}
 use Rattle.node_rules.proofs.TurnLemmas.{step_of}
 use Rattle.node_core.specs.Able.{MayTake}
@@ -22,28 +22,28 @@ use Rattle.run_rules.specs.Cuts.{Cut_by, By_nothing, cut_by}
 use Rattle.run_rules.specs.Data.{Session}
 use Rattle.run_rules.specs.Facts.{node_at, place_at, records_at}
 use Rattle.run_rules.specs.Lawful.{IsNode, boots}
-use Rattle.run_rules.specs.Telling.{Past, Telling}
+use Rattle.run_rules.specs.RunReport.{Past, RunReport}
 use Rattle.run_rules.proofs.AtNodeLemmas.{flat_some, range_of}
 use Rattle.run_rules.proofs.BootLemmas.{boots_with, step_of_turn}
 use Rattle.run_trace.specs.Recorded.{Extends, RunSoFar, past_of}
 use Rattle.tran_ids.proofs.NumberedLemmas.{set_found, set_leaves, set_length}
-use Rattle.world.specs.declared.site.Site.{Site}
+use Rattle.world.specs.declared.slot.NodeSlot.{NodeSlot}
 use Rattle.world.specs.declared.turning.Begun.{Begun}
 use Rattle.world.specs.declared.world.World.{World}
-use Rattle.world.specs.Left.{StillTells}
+use Rattle.world.specs.Left.{StillReports}
 use Rattle.world.specs.Linked.{IsLinked}
 use Rattle.world.specs.Needs.{CanTake, DueTurnsCanBeTaken}
 use Rattle.world.specs.Served.{CanServe, HasFailed, HasServed}
-use Rattle.world.specs.Site.{SiteIs, site_kept}
+use Rattle.world.specs.NodeSlot.{SiteIs, site_kept}
 use Rattle.world.specs.Steps.{StepsOn}
 use Rattle.world.specs.Turns.{CallerAt, CallerIs, CallerOf, IsComingDue, IsCutDuring, IsCutDuringAt, IsCutOff, IsCutShort, IsDuring, IsDuringAt, IsReadied, IsTurned, IsUnderWay}
 use Rattle.world.proofs.DueLemmas.{kept_is, kept_there}
 use Rattle.world.proofs.ServeLemmas.{can_serve, site_cut, site_whole}
-use Rattle.world.proofs.SiteLemmas.{same_of}
+use Rattle.world.proofs.SlotLemmas.{same_of}
 use Rattle.world.proofs.TurnLeftLemmas.{same_still, tells_linked}
 
 -- a turn's record is no Boot
-boots_of_turn : (place : Place) (k : Kept) (input : Input) (rs : List RedoRecord) → IsFit input → boots (rs ++ option_to_list (turn_of place k input).wrote) ≡ boots rs
+boots_of_turn : (place : Place) (k : NodeState) (input : Input) (rs : List RedoRecord) → IsFit input → boots (rs ++ option_to_list (turn_of place k input).wrote) ≡ boots rs
 unfolding turn_of
 boots_of_turn place k input rs fit = boots_with rs (deed_of place k input).wrote (step_of_turn place input (step_of place k input fit))
 
@@ -53,7 +53,7 @@ no_message None session statement is = absurd cc
 no_message (Some m) session statement is = absurd cc
 
 -- the caller of what comes is that of what is read
-caller_read : (k : Kept) (incoming : Incoming) (input : Input) (s : Session) → IsReadAs incoming input → CallerIs incoming (Some k) s → CallerOf k input s
+caller_read : (k : NodeState) (incoming : Incoming) (input : Input) (s : Session) → IsReadAs incoming input → CallerIs incoming (Some k) s → CallerOf k input s
 caller_read k incoming (inputs.Call session statement) s read caller = by incoming read caller
   where
     by : (x : Incoming) → IsReadAs x (inputs.Call session statement) → CallerIs x (Some k) s → CallerOf k (inputs.Call session statement) s
@@ -72,10 +72,10 @@ module _ (w : World) (n : ℕ) (incoming : Incoming) (linked : IsLinked w) (laws
   abbrev place : Place
   place = place_at w.trace.places n
 
-  taken_by : (k : Kept) × CanTake w.trace.places p.facts n coming.reads.0 k
+  taken_by : (k : NodeState) × CanTake w.trace.places p.facts n coming.reads.0 k
   taken_by = laws w.trace n coming.reads.0 linked.held.script (coming.due coming.reads.0 coming.reads.1)
 
-  abbrev k : Kept
+  abbrev k : NodeState
   k = taken_by.0
 
   up : node_at p.facts n ≡ Some k
@@ -92,24 +92,24 @@ module _ (w : World) (n : ℕ) (incoming : Incoming) (linked : IsLinked w) (laws
   )
 
   -- its node is there
-  pub coming_there : IsNode (length w.sites.items) n
+  pub coming_there : IsNode (length w.slots.items) n
   coming_there =
       let range = range_of p.facts.nodes n (Some k) (flat_some (numbered p.facts.nodes n) k up) in
-      (range.0, subst (λ (count : ℕ). n ≤ count) (linked.held.counted.nodes ∙ sym linked.held.counted.sites) range.1)
+      (range.0, subst (λ (count : ℕ). n ≤ count) (linked.held.counted.nodes ∙ sym linked.held.counted.slots) range.1)
 
-  kept_here : (site : Site) → numbered w.sites.items n ≡ Some site → site_kept site ≡ Some k
-  kept_here site there = kept_there w linked n site there ∙ up
+  kept_here : (slot : NodeSlot) → numbered w.slots.items n ≡ Some slot → site_kept slot ≡ Some k
+  kept_here slot there = kept_there w linked n slot there ∙ up
 
   -- and can take it
-  pub coming_served : (site : Site) → numbered w.sites.items n ≡ Some site → CanServe site incoming
-  coming_served site there = can_serve place k incoming site (linked.held.sites n site there).runs (kept_here site there) coming.reads takes
+  pub coming_served : (slot : NodeSlot) → numbered w.slots.items n ≡ Some slot → CanServe slot incoming
+  coming_served slot there = can_serve place k incoming slot (linked.held.slots n slot there).runs (kept_here slot there) coming.reads takes
 
-  caller_here : (s : Session) → CallerAt w.sites.items n incoming s → CallerIs incoming (Some k) s
-  caller_here s caller = subst (λ (o : Option Kept). CallerIs incoming o s) (kept_is w linked n ∙ up) caller
+  caller_here : (s : Session) → CallerAt w.slots.items n incoming s → CallerIs incoming (Some k) s
+  caller_here s caller = subst (λ (o : Option NodeState). CallerIs incoming o s) (kept_is w linked n ∙ up) caller
 
-module _ (w v : World) (begun : Begun) (incoming : Incoming) (ready : IsReadied begun incoming w) (old new : Site) (found : numbered w.sites.items begun.node ≡ Some old)
-    (same : v ≡ record w { sites = v.sites }) (set : v.sites.items ≡ set_numbered w.sites.items begun.node new) where
-  abbrev keeps : Kept
+module _ (w v : World) (begun : Begun) (incoming : Incoming) (ready : IsReadied begun incoming w) (old new : NodeSlot) (found : numbered w.slots.items begun.node ≡ Some old)
+    (same : v ≡ record w { slots = v.slots }) (set : v.slots.items ≡ set_numbered w.slots.items begun.node new) where
+  abbrev keeps : NodeState
   keeps = k w begun.node incoming ready.linked ready.turns ready.coming
 
   abbrev at : Place
@@ -118,11 +118,11 @@ module _ (w v : World) (begun : Begun) (incoming : Incoming) (ready : IsReadied 
   abbrev past_now : Past
   past_now = past_of w.trace
 
-  left : (m : ℕ) → begun.node ≢ m → numbered v.sites.items m ≡ numbered w.sites.items m
-  left m other = ap (λ (sites : List Site). numbered sites m) set ∙ set_leaves w.sites.items begun.node m new other
+  left : (m : ℕ) → begun.node ≢ m → numbered v.slots.items m ≡ numbered w.slots.items m
+  left m other = ap (λ (slots : List NodeSlot). numbered slots m) set ∙ set_leaves w.slots.items begun.node m new other
 
   -- the node has taken its turn, which this cuts
-  taken_so : (input : Input) → IsReadAs incoming input → (by : Cut_by) → cut_by past_now.telling begun.node keeps input (turn_of at keeps input) ≡ by → IsUnderWay begun input keeps v by
+  taken_so : (input : Input) → IsReadAs incoming input → (by : Cut_by) → cut_by past_now.run_report begun.node keeps input (turn_of at keeps input) ≡ by → IsUnderWay begun input keeps v by
   taken_so input read by cut = subst (λ (x : World). IsUnderWay begun input keeps x by) (sym same) (record {
     script = ready.linked.held.script;
     parts = record {
@@ -131,16 +131,16 @@ module _ (w v : World) (begun : Begun) (incoming : Incoming) (ready : IsReadied 
       losses = ready.linked.held.parts.losses;
       to_stop = ready.linked.held.parts.to_stop;
       boots = ready.linked.held.parts.boots;
-      telling = ready.linked.held.parts.telling;
+      run_report = ready.linked.held.parts.run_report;
     };
     upright = ready.linked.upright;
     counted = record {
-      sites = ap (λ (sites : List Site). length sites) set ∙ (set_length w.sites.items begun.node new ∙ ready.linked.held.counted.sites);
+      slots = ap (λ (slots : List NodeSlot). length slots) set ∙ (set_length w.slots.items begun.node new ∙ ready.linked.held.counted.slots);
       nodes = ready.linked.held.counted.nodes;
       records = ready.linked.held.counted.records;
     };
-    others = λ m site other there. ready.linked.held.sites m site (sym (left m other) ∙ there);
-    orders = λ m site other there. ready.orders m site (sym (left m other) ∙ there);
+    others = λ m slot other there. ready.linked.held.slots m slot (sym (left m other) ∙ there);
+    orders = λ m slot other there. ready.orders m slot (sym (left m other) ∙ there);
     shown = ready.linked.held.shown;
     due = ready.coming.due input read;
     took = ready.took;
@@ -151,34 +151,34 @@ module _ (w v : World) (begun : Begun) (incoming : Incoming) (ready : IsReadied 
     cut = cut;
   })
 
-  new_is : (site : Site) → numbered v.sites.items begun.node ≡ Some site → new ≡ site
-  new_is site there = same_of new site (sym (ap (λ (sites : List Site). numbered sites begun.node) set ∙ set_found w.sites.items begun.node old new found) ∙ there)
+  new_is : (slot : NodeSlot) → numbered v.slots.items begun.node ≡ Some slot → new ≡ slot
+  new_is slot there = same_of new slot (sym (ap (λ (slots : List NodeSlot). numbered slots begun.node) set ∙ set_found w.slots.items begun.node old new found) ∙ there)
 
   is_old : SiteIs w.trace.places past_now begun.node old
-  is_old = ready.linked.held.sites begun.node old found
+  is_old = ready.linked.held.slots begun.node old found
 
   kept_old : site_kept old ≡ Some keeps
   kept_old = kept_here w begun.node incoming ready.linked ready.turns ready.coming old found
 
   -- a whole turn is under way
-  pub whole_during : (e : Effects) → HasServed old new incoming w.telling.points e → IsDuring begun e v
+  pub whole_during : (e : Effects) → HasServed old new incoming w.run_report.points e → IsDuring begun e v
   whole_during e served =
-      let was = site_whole past_now.telling begun.node at keeps incoming (records_at past_now.facts begun.node) w.telling.points (ap (λ t. t.points) ready.linked.held.parts.telling)
+      let was = site_whole past_now.run_report begun.node at keeps incoming (records_at past_now.facts begun.node) w.run_report.points (ap (λ t. t.points) ready.linked.held.parts.run_report)
       old new e is_old.runs kept_old is_old.holds (ready.orders begun.node old found) served in
       let during : IsDuringAt begun e v keeps = subst (λ (x : World). IsDuringAt begun e x keeps) (sym same) (record {
         under_way = subst (λ (x : World). IsUnderWay begun e.input keeps x By_nothing) same (taken_so e.input was.input By_nothing was.cut);
         tells = was.tells;
         passed = was.passed;
         mailed = was.mailed;
-        site = λ site there. subst (λ (x : Site). IsTurned (record w { sites = v.sites }) begun.node (turn_of at keeps e.input) x) (new_is site there)
+        slot = λ slot there. subst (λ (x : NodeSlot). IsTurned (record w { slots = v.slots }) begun.node (turn_of at keeps e.input) x) (new_is slot there)
             (record { kept = was.kept; runs = was.runs; holds = was.holds; starts = was.starts; orders = was.orders });
       }) in
       (keeps, during)
 
   -- and so is one that was cut
-  pub cut_during : (c : CutTurn) → HasFailed old new incoming w.telling.points (errs.Cut c) → IsCutDuring begun c v
+  pub cut_during : (c : CutTurn) → HasFailed old new incoming w.run_report.points (errs.Cut c) → IsCutDuring begun c v
   cut_during c failed =
-      let found_by = site_cut past_now.telling begun.node at keeps incoming (records_at past_now.facts begun.node) w.telling.points (ap (λ t. t.points) ready.linked.held.parts.telling)
+      let found_by = site_cut past_now.run_report begun.node at keeps incoming (records_at past_now.facts begun.node) w.run_report.points (ap (λ t. t.points) ready.linked.held.parts.run_report)
       old new c is_old.runs kept_old is_old.holds (ready.orders begun.node old found) failed in
       let by : Cut_by = found_by.0 in
       let was = found_by.1 in
@@ -187,22 +187,22 @@ module _ (w v : World) (begun : Begun) (incoming : Incoming) (ready : IsReadied 
         is_cut = was.is_cut;
         tried = was.tried;
         passed = was.passed;
-        site = λ site there. subst (λ (x : Site). IsCutOff (record w { sites = v.sites }) begun.node (turn_of at keeps c.input) by x) (new_is site there)
+        slot = λ slot there. subst (λ (x : NodeSlot). IsCutOff (record w { slots = v.slots }) begun.node (turn_of at keeps c.input) by x) (new_is slot there)
             (record { holds = was.holds; starts = was.starts; orders = was.orders });
       }) in
       (keeps, by, during)
 
   -- why ever the turn came to no end
-  pub failed_during : (err : TurnErr) → HasFailed old new incoming w.telling.points err → IsCutShort begun err v
+  pub failed_during : (err : TurnErr) → HasFailed old new incoming w.run_report.points err → IsCutShort begun err v
   failed_during (errs.Cut c) failed = cut_during c failed
   failed_during errs.NoMemory failed = tt
 
 -- ---- the lines of the commands before, whatever becomes of a turn
 
-pub served_still : (w u : World) → IsLinked w → u.trace ≡ w.trace → u.telling ≡ w.telling → u.shown ≡ w.shown → StillTells u
-served_still w u linked trace telling shown = same_still w u (ap (λ (t : Telling). t.lines) telling) shown (tells_linked w linked) trace
+pub served_still : (w u : World) → IsLinked w → u.trace ≡ w.trace → u.run_report ≡ w.run_report → u.shown ≡ w.shown → StillReports u
+served_still w u linked trace run_report shown = same_still w u (ap (λ (t : RunReport). t.lines) run_report) shown (tells_linked w linked) trace
 
-pub still_through : {T E : Type 0} (r : Result T E) (u v : World) → StillTells u → (StillTells u → StillTells v) → OnErr r (StillTells v)
+pub still_through : {T E : Type 0} (r : Result T E) (u v : World) → StillReports u → (StillReports u → StillReports v) → OnErr r (StillReports v)
 still_through (Ok x) u v still on = tt
 still_through (Err e) u v still on = on still
 

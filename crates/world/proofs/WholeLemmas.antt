@@ -8,7 +8,7 @@ use Rattle.net_bag.specs.Net.{lost_at_once, sent_on}
 use Rattle.node_points.specs.Passing.{passes_as}
 use Rattle.node_rules.specs.Data.{Msg, RedoRecord}
 use Rattle.node_rules.specs.Words.{numbered}
-use Rattle.node_rules.specs.Kept.{Kept, Outcome}
+use Rattle.node_rules.specs.NodeState.{NodeState, Outcome}
 use Rattle.node_rules.specs.Turn.{turn_of}
 use Rattle.node_disk.specs.declared.effects.Effects.{Effects}
 use Rattle.node_disk.specs.Effects.{call_of}
@@ -17,23 +17,23 @@ use Rattle.run_rules.specs.Data.{Turn}
 use Rattle.run_rules.specs.Data.happenings
 use Rattle.run_rules.specs.Facts.{place_at, records_at, taken}
 use Rattle.run_rules.specs.Lawful.{boots}
-use Rattle.run_rules.specs.Past.{telling_turned}
-use Rattle.run_rules.specs.Telling.{Past, Telling, orders_at}
+use Rattle.run_rules.specs.Past.{report_turned}
+use Rattle.run_rules.specs.RunReport.{Past, RunReport, orders_at}
 use Rattle.run_trace.specs.Recorded.{past_of}
-use Rattle.telling.specs.declared.turn.TurnFacts.{TurnFacts}
-use Rattle.telling.specs.Facts.{KnownOfTurn}
-use Rattle.world.specs.declared.site.Site.{Site}
+use Rattle.run_report.specs.declared.turn.TurnFacts.{TurnFacts}
+use Rattle.run_report.specs.Facts.{KnownOfTurn}
+use Rattle.world.specs.declared.slot.NodeSlot.{NodeSlot}
 use Rattle.world.specs.declared.turning.Begun.{Begun}
 use Rattle.world.specs.declared.world.World.{World}
 use Rattle.world_parts.specs.Orders.{HasOrders, orders_if}
 use Rattle.world.specs.Orders.{OrdersAre}
-use Rattle.world.specs.Site.{bytes_of, site_disk}
+use Rattle.world.specs.NodeSlot.{bytes_of, site_disk}
 use Rattle.world.specs.Steps.{StepsOn}
-use Rattle.world.specs.Turns.{IsDuringAt, IsTold}
+use Rattle.world.specs.Turns.{IsDuringAt, IsReported}
 use Rattle.world.proofs.StopLemmas.{pushed_in}
 use Rattle.world.proofs.TurnLemmas.{HasTurned, Turns, caller_of, none_to_stop, turn_moves, turn_orders_are, whole_is}
 
-module _ (w : World) (begun : Begun) (e : Effects) (k : Kept) (during : IsDuringAt begun e w k) (sent : List Msg) where
+module _ (w : World) (begun : Begun) (e : Effects) (k : NodeState) (during : IsDuringAt begun e w k) (sent : List Msg) where
   abbrev p : Past
   p = past_of w.trace
 
@@ -59,32 +59,32 @@ module _ (w : World) (begun : Begun) (e : Effects) (k : Kept) (during : IsDuring
     pub to_stop : before.to_stop ≡ w.to_stop
     pub boots_are : before.boots.items ≡ w.boots.items
     pub shown : before.shown ≡ w.shown
-    pub telling : before.telling ≡ w.telling
-    pub sites : before.sites.items ≡ w.sites.items
+    pub run_report : before.run_report ≡ w.run_report
+    pub slots : before.slots.items ≡ w.slots.items
     pub net : before.net ≡ sent_on (taken w.net begun.took) sent
     pub losses : before.losses.items ≡ lost_at_once (taken w.net begun.took) sent
 
-  module _ (are : sent ≡ o.sent) (facts : TurnFacts) (known : KnownOfTurn k u o facts) (before v : World) (ready : IsWholeReady before) (same : v ≡ record before { trace = v.trace; telling = v.telling }) where
-    sites_same : v.sites.items ≡ w.sites.items
-    sites_same = ap (λ (y : World). y.sites.items) same ∙ ready.sites
+  module _ (are : sent ≡ o.sent) (facts : TurnFacts) (known : KnownOfTurn k u o facts) (before v : World) (ready : IsWholeReady before) (same : v ≡ record before { trace = v.trace; run_report = v.run_report }) where
+    sites_same : v.slots.items ≡ w.slots.items
+    sites_same = ap (λ (y : World). y.slots.items) same ∙ ready.slots
 
-    there_before : (site : Site) → numbered v.sites.items begun.node ≡ Some site → numbered w.sites.items begun.node ≡ Some site
-    there_before site there = sym (ap (λ (xs : List Site). numbered xs begun.node) sites_same) ∙ there
+    there_before : (slot : NodeSlot) → numbered v.slots.items begun.node ≡ Some slot → numbered w.slots.items begun.node ≡ Some slot
+    there_before slot there = sym (ap (λ (xs : List NodeSlot). numbered xs begun.node) sites_same) ∙ there
 
-    own : (site : Site) → numbered v.sites.items begun.node ≡ Some site → HasTurned (place_at w.trace.places begun.node) (Some o.after) (records_at p.facts begun.node ++ option_to_list e.wrote) site
-    own site there =
-        let turned = during.site site (there_before site there) in
+    own : (slot : NodeSlot) → numbered v.slots.items begun.node ≡ Some slot → HasTurned (place_at w.trace.places begun.node) (Some o.after) (records_at p.facts begun.node ++ option_to_list e.wrote) slot
+    own slot there =
+        let turned = during.slot slot (there_before slot there) in
         record {
           kept = turned.kept;
           runs = turned.runs;
-          holds = subst (λ (r : Option RedoRecord). HoldRecords (records_at p.facts begun.node ++ option_to_list r) (bytes_of (site_disk site))) (sym during.tells.wrote) turned.holds;
+          holds = subst (λ (r : Option RedoRecord). HoldRecords (records_at p.facts begun.node ++ option_to_list r) (bytes_of (site_disk slot))) (sym during.tells.wrote) turned.holds;
           starts = turned.starts;
         }
 
-    own_orders : (site : Site) → numbered v.sites.items begun.node ≡ Some site → HasOrders (orders_if (is_some o.wrote) (orders_at p.telling begun.node)) (site_disk site)
-    own_orders site there = (during.site site (there_before site there)).orders
+    own_orders : (slot : NodeSlot) → numbered v.slots.items begun.node ≡ Some slot → HasOrders (orders_if (is_some o.wrote) (orders_at p.run_report begun.node)) (site_disk slot)
+    own_orders slot there = (during.slot slot (there_before slot there)).orders
 
-    told_so : IsTold u facts before v → StepsOn w v × OrdersAre v
+    told_so : IsReported u facts before v → StepsOn w v × OrdersAre v
     told_so t =
         let pushed = pushed_in w.trace before.trace v.trace (happenings.Turn u) ready.trace (record { is = t.trace; past = t.past; few = t.few }) in
         let turn_is = whole_is begun.node e.input begun.took o e.wrote sent during.tells.wrote are in
@@ -96,19 +96,19 @@ module _ (w : World) (begun : Begun) (e : Effects) (k : Kept) (during : IsDuring
           shown = ap (λ (y : World). y.shown) same ∙ ready.shown;
           net = ap (λ (y : World). y.net) same ∙ ready.net;
           losses = ap (λ (y : World). y.losses.items) same ∙ ready.losses;
-          telling = t.tells k o known
-              ∙ (ap (λ (r : ℕ). telling_turned r (Some k) before.telling u (Some o)) ready.running ∙ ap (λ (tl : Telling). telling_turned w.running (Some k) tl u (Some o)) ready.telling);
-          sites = ap (λ (xs : List Site). length xs) sites_same;
-          others = λ m other. ap (λ (xs : List Site). numbered xs m) sites_same;
+          run_report = t.tells k o known
+              ∙ (ap (λ (r : ℕ). report_turned r (Some k) before.run_report u (Some o)) ready.running ∙ ap (λ (tl : RunReport). report_turned w.running (Some k) tl u (Some o)) ready.run_report);
+          slots = ap (λ (xs : List NodeSlot). length xs) sites_same;
+          others = λ m other. ap (λ (xs : List NodeSlot). numbered xs m) sites_same;
         } in (
           turn_moves w v begun e.input k By_nothing during.under_way u turn_is pushed refl refl boots_same turns own,
           turn_orders_are w v begun e.input k By_nothing during.under_way u turn_is pushed refl refl boots_same turns own own_orders,
         )
 
     -- the world is that of the longer run
-    pub whole_steps : {T E : Type 0} (r : Result T E) → OnOk r (IsTold u facts before v) → OnOk r (StepsOn w v)
-    whole_steps r told = on_ok_weaker r (λ (t : IsTold u facts before v). (told_so t).0) told
+    pub whole_steps : {T E : Type 0} (r : Result T E) → OnOk r (IsReported u facts before v) → OnOk r (StepsOn w v)
+    whole_steps r told = on_ok_weaker r (λ (t : IsReported u facts before v). (told_so t).0) told
 
     -- and so are the orders on the disks
-    pub whole_keeps_orders : {T E : Type 0} (r : Result T E) → OnOk r (IsTold u facts before v) → OnOk r (OrdersAre v)
-    whole_keeps_orders r told = on_ok_weaker r (λ (t : IsTold u facts before v). (told_so t).1) told
+    pub whole_keeps_orders : {T E : Type 0} (r : Result T E) → OnOk r (IsReported u facts before v) → OnOk r (OrdersAre v)
+    whole_keeps_orders r told = on_ok_weaker r (λ (t : IsReported u facts before v). (told_so t).1) told

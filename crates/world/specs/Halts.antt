@@ -8,5 +8,5 @@ use Rattle.world.specs.Stops.{StopsAt}
 
 -- A node has stopped.
 pub record HasHalted (n : ℕ) (before after : World) : Type 0 where
-  pub sites : StopsAt n before.sites.items after.sites.items
+  pub slots : StopsAt n before.slots.items after.slots.items
   pub past : past_of after.trace ≡ next before.trace.places before.trace.asked (past_of before.trace) (happenings.Stopped n)

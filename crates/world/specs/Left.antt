@@ -4,28 +4,28 @@ use Rattle.run_rules.specs.Reported.{IsBetween}
 use Rattle.run_rules.specs.Lines.{told}
 use Rattle.run_trace.specs.Recorded.{past_of}
 use Rattle.world.specs.Needs.{due_in}
-use Rattle.world_parts.specs.Shown.{ShowDisks, Shown, disk_told}
+use Rattle.world_parts.specs.Shown.{ShowDisks, Shown, disk_reported}
 use Rattle.world.specs.declared.world.World.{World}
 
 -- It has the lines of the commands before the one that runs, and what SHOW DISK has shown.
-pub record StillTells (w : World) : Type 0 where
-  pub lines : w.telling.lines ≡ (past_of w.trace).telling.lines
+pub record StillReports (w : World) : Type 0 where
+  pub lines : w.run_report.lines ≡ (past_of w.trace).run_report.lines
   pub shown : ShowDisks w.trace w.shown
 
 -- No command is under way, and it has all lines. SHOW DISK has shown this before, and what it has now tells these lines alike.
-pub record TellsBetween (w : World) : Type 0 where
+pub record ReportsBetween (w : World) : Type 0 where
   pub between : IsBetween (due_in w.trace)
-  pub lines : w.telling.lines ≡ told (past_of w.trace).facts (past_of w.trace).telling
+  pub lines : w.run_report.lines ≡ told (past_of w.trace).facts (past_of w.trace).run_report
   pub before : Shown
   pub shown : ShowDisks w.trace before
-  pub alike : map (disk_told w.shown) w.telling.lines ≡ map (disk_told before) w.telling.lines
+  pub alike : map (disk_reported w.shown) w.run_report.lines ≡ map (disk_reported before) w.run_report.lines
 
 -- what is left can be told
 abbrev pub IsLeft : World → Type 0
-IsLeft w = StillTells w ⊎ TellsBetween w
+IsLeft w = StillReports w ⊎ ReportsBetween w
 
 -- the lines stay, and nothing has happened
 pub record LinesStay (before after : World) : Type 0 where
   pub trace : after.trace ≡ before.trace
-  pub lines : after.telling.lines ≡ before.telling.lines
+  pub lines : after.run_report.lines ≡ before.run_report.lines
   pub shown : after.shown ≡ before.shown

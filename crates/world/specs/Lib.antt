@@ -1,6 +1,6 @@
 pub mod Orders
-pub mod Site
-pub mod Sites
+pub mod NodeSlot
+pub mod Slots
 pub mod Mail
 pub mod Needs
 pub mod Linked

@@ -6,7 +6,7 @@ use Rattle.std.specs.Prelude.{◌≡◌, ◌+◌, ◌<◌, ◌≤◌, ◌^◌, �
 use Rattle.std.specs.List.{AllByRecursion}
 use Rattle.script_read.specs.Sound.{IsInRange}
 use Rattle.node_rules.specs.Data.{Place, Input}
-use Rattle.node_rules.specs.Kept.{Kept}
+use Rattle.node_rules.specs.NodeState.{NodeState}
 use Rattle.node_rules.specs.Turn.{turn_of}
 use Rattle.node_core.specs.Able.{MayTake}
 use Rattle.node_disk.specs.Starts.{last_boot}
@@ -32,7 +32,7 @@ abbrev pub due_in : RunSoFar → Due
 due_in r = due_of r.asked (past_of r)
 
 -- A node is up and can take this, and what it then writes and says has bytes.
-pub record CanTake (places : List Place) (f : Facts) (n : ℕ) (input : Input) (k : Kept) : Type 0 where
+pub record CanTake (places : List Place) (f : Facts) (n : ℕ) (input : Input) (k : NodeState) : Type 0 where
   pub up : node_at f n ≡ Some k
   pub takes : MayTake (place_at places n) k input
   pub spellable : IsSpellable (turn_of (place_at places n) k input)
@@ -40,7 +40,7 @@ pub record CanTake (places : List Place) (f : Facts) (n : ℕ) (input : Input) (
 -- the turn that is due can be taken
 abbrev pub DueTurnsCanBeTaken : Type 0
 DueTurnsCanBeTaken = (r : RunSoFar) (n : ℕ) (input : Input) → IsOfScript r → IsTurnDue (past_of r).facts (due_in r) n input
-    → (k : Kept) × CanTake r.places (past_of r).facts n input k
+    → (k : NodeState) × CanTake r.places (past_of r).facts n input k
 
 -- the message that is due is there
 abbrev pub DueMessagesAreThere : Type 0
@@ -61,4 +61,4 @@ EachStartsSeldom = (r : RunSoFar) (n : ℕ) → IsOfScript r → IsNode (length 
 
 -- the deliveries that are counted for the command that runs are no more than the happenings of a trace
 abbrev pub DeliveriesAreFew : Type 0
-DeliveriesAreFew = (r : RunSoFar) → IsOfScript r → (past_of r).telling.deliveries ≤ happening_limit
+DeliveriesAreFew = (r : RunSoFar) → IsOfScript r → (past_of r).run_report.deliveries ≤ happening_limit

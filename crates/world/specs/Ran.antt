@@ -3,11 +3,11 @@ use Rattle.std.specs.Prelude.{◌≡◌}
 use Rattle.run_rules.specs.Due.{Ends}
 use Rattle.run_rules.specs.Entries.{book_of}
 use Rattle.run_rules.specs.Lawful.{AreOfAScript}
-use Rattle.run_rules.specs.Reported.{Ending, All_run, Out_of_memory, IsTold}
+use Rattle.run_rules.specs.Reported.{Ending, All_run, Out_of_memory, IsReported}
 use Rattle.run_trace.specs.Recorded.{RunSoFar, IsRunOfScript}
 use Rattle.run_trace.specs.declared.trace.Recorded.{Recorded}
 use Rattle.world.specs.Needs.{due_in}
-use Rattle.world.specs.Left.{IsLeft, TellsBetween}
+use Rattle.world.specs.Left.{IsLeft, ReportsBetween}
 use Rattle.world_parts.specs.Shown.{history_of}
 use Rattle.world.specs.declared.ran.Ended.{Ended}
 use Rattle.world.specs.declared.ran.Ended.TheVariants.{AllRun, OutOfMemory}
@@ -27,9 +27,9 @@ run_of r = record { places = r.places; asked = r.asked; happenings = r.happening
 pub record IsRan (ran : Ran) : Type 0 where
   pub due : IsRunOfScript (run_of ran.recorded)
   pub booked : ran.recorded.book ≡ book_of ran.recorded.happenings
-  pub told : (script : AreOfAScript ran.recorded.places ran.recorded.asked) → IsTold (history_of (run_of ran.recorded) script) ran.answers (as_ending ran.ended)
+  pub told : (script : AreOfAScript ran.recorded.places ran.recorded.asked) → IsReported (history_of (run_of ran.recorded) script) ran.answers (as_ending ran.ended)
 
 -- what a world is left with whose run ended so
 abbrev pub IsLeftBy : Ended → World → Type 0
-IsLeftBy AllRun w = (due_in w.trace ≡ Ends) × TellsBetween w
+IsLeftBy AllRun w = (due_in w.trace ≡ Ends) × ReportsBetween w
 IsLeftBy OutOfMemory w = IsLeft w

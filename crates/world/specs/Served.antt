@@ -16,10 +16,10 @@ use Rattle.node_disk.specs.Effects.{GoesUncut, IsCut, Tells, TellsPasses}
 use Rattle.node_disk.specs.Incoming.{IsReadAs}
 use Rattle.node_disk.specs.OnDisk.{disk_of, kept_of, place_of, turn_at, turn_calls, IsRunning, IsSpellable, HoldsNext}
 use Rattle.node_disk.specs.Starts.{CanBeStarted}
-use Rattle.world.specs.declared.site.Site.{Site}
-use Rattle.world.specs.declared.site.Site.TheVariants.{Up, Down}
+use Rattle.world.specs.declared.slot.NodeSlot.{NodeSlot}
+use Rattle.world.specs.declared.slot.NodeSlot.TheVariants.{Up, Down}
 use Rattle.world.specs.Mail.{IsMailed}
-use Rattle.world.specs.Site.{bytes_of, images_of}
+use Rattle.world.specs.NodeSlot.{bytes_of, images_of}
 
 -- A node that can take what comes.
 pub record NodeCanServe (node : Node DiskState) (incoming : Incoming) : Type 0 where
@@ -29,7 +29,7 @@ pub record NodeCanServe (node : Node DiskState) (incoming : Incoming) : Type 0 w
   pub spellable : (input : Input) → IsReadAs incoming input → IsSpellable (turn_at node input)
 
 -- the node of a site is up and can take it
-abbrev pub CanServe : Site → Incoming → Type 0
+abbrev pub CanServe : NodeSlot → Incoming → Type 0
 CanServe (Up node) incoming = NodeCanServe node incoming
 CanServe (Down disk) incoming = ⊥
 
@@ -47,7 +47,7 @@ pub record NodeServed (before after : Node DiskState) (incoming : Incoming) (poi
   pub starts : CanBeStarted bytes_of images_of (disk_of after)
 
 -- the node of a site has
-abbrev pub HasServed : Site → Site → Incoming → List Point → Effects → Type 0
+abbrev pub HasServed : NodeSlot → NodeSlot → Incoming → List Point → Effects → Type 0
 HasServed (Up before) (Up after) incoming points e = NodeServed before after incoming points e
 HasServed _ _ incoming points e = ⊥
 
@@ -62,6 +62,6 @@ pub record NodeFailed (before after : Node DiskState) (incoming : Incoming) (poi
   pub starts : CanBeStarted bytes_of images_of (disk_of after)
 
 -- the node of a site came to no end
-abbrev pub HasFailed : Site → Site → Incoming → List Point → TurnErr → Type 0
+abbrev pub HasFailed : NodeSlot → NodeSlot → Incoming → List Point → TurnErr → Type 0
 HasFailed (Up before) (Up after) incoming points err = NodeFailed before after incoming points err
 HasFailed _ _ incoming points err = ⊥

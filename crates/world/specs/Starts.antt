@@ -9,9 +9,9 @@ use Rattle.run_rules.specs.Disks.{after_append, struck}
 use Rattle.run_rules.specs.Facts.{place_at, records_at, with_boot}
 use Rattle.run_rules.specs.Lawful.{IsNode, boots}
 use Rattle.run_rules.specs.Past.{next}
-use Rattle.run_rules.specs.Telling.{orders_at}
+use Rattle.run_rules.specs.RunReport.{orders_at}
 use Rattle.run_trace.specs.Recorded.{IsNext, past_of}
-use Rattle.world.specs.declared.site.Site.{Site}
+use Rattle.world.specs.declared.slot.NodeSlot.{NodeSlot}
 use Rattle.world.specs.declared.world.World.{World}
 use Rattle.world.specs.Needs.{IsOfScript}
 use Rattle.world.specs.Linked.{AreCounted, PartsAre}
@@ -19,7 +19,7 @@ use Rattle.world_parts.specs.Orders.{HasOrders}
 use Rattle.world.specs.Orders.{OrdersAre, OtherOrdersAre}
 use Rattle.world.specs.Steps.{StepsTo}
 use Rattle.world_parts.specs.Shown.{ShowDisks}
-use Rattle.world.specs.Site.{site_kept, site_disk, bytes_of, images_of, RunsAt, OtherSitesAre}
+use Rattle.world.specs.NodeSlot.{site_kept, site_disk, bytes_of, images_of, RunsAt, OtherSitesAre}
 use Rattle.world.specs.Started.{TriesAt}
 
 -- the number of the start
@@ -28,30 +28,30 @@ boot_at w n = boots (records_at (past_of w.trace).facts n) + 1
 
 -- The start of a node was tried from this world: all of it is as before but the node's site.
 pub record IsTriedAt (n : ℕ) (before after : World) : Type 0 where
-  pub sites : TriesAt (place_at before.trace.places n) n before.sites.items after.sites.items
-  pub same : after ≡ record before { sites = after.sites }
+  pub slots : TriesAt (place_at before.trace.places n) n before.slots.items after.slots.items
+  pub same : after ≡ record before { slots = after.slots }
 
 -- The site of a node whose start has its record: the node is up, unless an order struck the start behind the record.
-pub record HasBoot (w : World) (n : ℕ) (site : Site) : Type 0 where
-  pub kept : site_kept site ≡ (if is_none (struck 3 (orders_at (past_of w.trace).telling n)) then Some (start_of (with_boot (past_of w.trace).facts n (boot_at w n))) else None)
-  pub runs : RunsAt (place_at w.trace.places n) site
-  pub holds : HoldRecords (with_boot (past_of w.trace).facts n (boot_at w n)) (bytes_of (site_disk site))
-  pub starts : CanBeStarted bytes_of images_of (site_disk site)
-  pub orders : HasOrders (after_append 3 (orders_at (past_of w.trace).telling n)) (site_disk site)
+pub record HasBoot (w : World) (n : ℕ) (slot : NodeSlot) : Type 0 where
+  pub kept : site_kept slot ≡ (if is_none (struck 3 (orders_at (past_of w.trace).run_report n)) then Some (start_of (with_boot (past_of w.trace).facts n (boot_at w n))) else None)
+  pub runs : RunsAt (place_at w.trace.places n) slot
+  pub holds : HoldRecords (with_boot (past_of w.trace).facts n (boot_at w n)) (bytes_of (site_disk slot))
+  pub starts : CanBeStarted bytes_of images_of (site_disk slot)
+  pub orders : HasOrders (after_append 3 (orders_at (past_of w.trace).run_report n)) (site_disk slot)
 
 -- The start of a node is due, and its record stands; all other parts of the world are as before.
 pub record HasBegun (n : ℕ) (w : World) : Type 0 where
   pub script : IsOfScript w.trace
   pub parts : PartsAre (past_of w.trace) w
-  pub upright : (past_of w.trace).telling.start_to_stop ≡ None
+  pub upright : (past_of w.trace).run_report.start_to_stop ≡ None
   pub counted : AreCounted w
-  pub others : OtherSitesAre n w.trace.places (past_of w.trace) w.sites.items
+  pub others : OtherSitesAre n w.trace.places (past_of w.trace) w.slots.items
   pub other_orders : OtherOrdersAre n w
   pub shown : ShowDisks w.trace w.shown
   pub there : IsNode (length w.trace.places) n
   pub few : boot_at w n < 2 ^ 32
   pub next : IsNext w.trace (happenings.Started n (boot_at w n))
-  pub site : (site : Site) → numbered w.sites.items n ≡ Some site → HasBoot w n site
+  pub slot : (slot : NodeSlot) → numbered w.slots.items n ≡ Some slot → HasBoot w n slot
 
 -- A node has started: its record is in the trace, and a stop follows where an order struck behind it.
 pub record HasBooted (n : ℕ) (before after : World) : Type 0 where

@@ -4,7 +4,7 @@ ghost use Rattle.run_rules.specs.Due.{Begins};
 ghost use Rattle.run_rules.specs.Commands.{begins};
 ghost use Rattle.run_rules.specs.Facts.{command_at as command_at_of};
 ghost use Rattle.run_trace.specs.Recorded.{Extends, past_of};
-ghost use Rattle.telling.specs.Facts.{up_for as up_for_by, transaction_for as transaction_for_by, KnownAtBegin};
+ghost use Rattle.run_report.specs.Facts.{up_for as up_for_by, transaction_for as transaction_for_by, KnownAtBegin};
 ghost use Rattle.world.specs.Needs.{due_in};
 ghost use Rattle.world.specs.Left.{IsLeft};
 ghost use Rattle.world.specs.Linked.{IsLinked, OrdersStand};
@@ -12,13 +12,13 @@ ghost use Rattle.world.specs.Orders.{ArmedAt, OrderedBy, OrdersAre};
 ghost use Rattle.world.specs.Steps.{StepsOn};
 
 use crate::World;
-use crate::sites::{has_transaction, is_up};
+use crate::slots::{has_transaction, is_up};
 use block_disk::{Order, Stop};
 use book::Happening;
 use dtx_values::Duplicate;
 use script_read::Command;
 use std::alloc::{AllocError, Global};
-use telling::BeginFacts;
+use run_report::BeginFacts;
 use world_parts::{left_by, order_net};
 
 impl World {
@@ -56,7 +56,7 @@ impl World {
         ensures extends { Extends self.old.trace self.new.trace }
         ensures left { OnErr result (IsLeft self.new) }
     {
-        self.tell_begin(alloc, number, command)?;
+        self.report_begin(alloc, number, command)?;
         self.show_disk(alloc, number, command)?;
         order_net(&mut self.net, command)?;
         self.order_disk(alloc, command)?;
@@ -67,26 +67,26 @@ impl World {
     }
 
     // What is told as a command begins. Fails where memory runs out.
-    fn tell_begin(
+    fn report_begin(
         &mut self,
         alloc: Global,
         number: u32,
         command: &Command,
     ) -> Result<(), AllocError>
         requires { IsLinked self.old }
-        ensures tells { OnOk result (self.new.telling ≡ begins self.old.trace.places (past_of self.old.trace).facts (past_of self.old.trace).telling number command.now) }
-        ensures same { self.new ≡ record self.old { telling = self.new.telling } }
-        ensures lines { OnErr result (self.new.telling.lines ≡ self.old.telling.lines) }
+        ensures tells { OnOk result (self.new.run_report ≡ begins self.old.trace.places (past_of self.old.trace).facts (past_of self.old.trace).run_report number command.now) }
+        ensures same { self.new ≡ record self.old { run_report = self.new.run_report } }
+        ensures lines { OnErr result (self.new.run_report.lines ≡ self.old.run_report.lines) }
     {
         let facts = self.begin_facts(alloc, command)?;
-        self.telling.begin(alloc, number, command, facts)?;
+        self.run_report.begin(alloc, number, command, facts)?;
         Ok(())
     }
 
     // What is known as a command begins. Fails where memory runs out.
     fn begin_facts(&self, alloc: Global, command: &Command) -> Result<BeginFacts, AllocError>
         requires { IsLinked self.now }
-        ensures { IfOk result (KnownAtBegin self.now.trace.places (past_of self.now.trace).facts (past_of self.now.trace).telling command.now) }
+        ensures { IfOk result (KnownAtBegin self.now.trace.places (past_of self.now.trace).facts (past_of self.now.trace).run_report command.now) }
     {
         let says = self.says_at_once(alloc, command)?;
         Ok(BeginFacts {
@@ -109,7 +109,7 @@ impl World {
                 node,
                 session: _session,
                 statement: _statement,
-            } => is_up(&self.sites, *node),
+            } => is_up(&self.slots, *node),
             _ => false,
         }
     }
@@ -125,7 +125,7 @@ impl World {
                 node,
                 session,
                 statement: _statement,
-            } => has_transaction(&self.sites, *node, *session),
+            } => has_transaction(&self.slots, *node, *session),
             _ => false,
         }
     }
@@ -133,8 +133,8 @@ impl World {
     // The order of CRASH or FAULT is given to a disk: its bytes stay. Fails where memory runs out.
     fn order_disk(&mut self, alloc: Global, command: &Command) -> Result<(), AllocError>
         ensures stands { OnOk result (OrdersStand self.old self.new) }
-        ensures orders { OnOk result (OrderedBy command.now self.old.sites.items self.new.sites.items) }
-        ensures same { self.new ≡ record self.old { sites = self.new.sites } }
+        ensures orders { OnOk result (OrderedBy command.now self.old.slots.items self.new.slots.items) }
+        ensures same { self.new ≡ record self.old { slots = self.new.slots } }
     {
         match command {
             Command::Crash { node, write, how } => {
@@ -153,15 +153,15 @@ impl World {
 
     fn arm(&mut self, node: u8, order: Order)
         ensures stands { OrdersStand self.old self.new }
-        ensures armed { ArmedAt node order self.old.sites.items self.new.sites.items }
-        ensures same { self.new ≡ record self.old { sites = self.new.sites } }
+        ensures armed { ArmedAt node order self.old.slots.items self.new.slots.items }
+        ensures same { self.new ≡ record self.old { slots = self.new.slots } }
     {
         let Some(at) = node.checked_sub(1) else {
             return;
         };
         let at = usize::from(at);
-        if at < self.sites.len() {
-            self.sites[at].arm(order);
+        if at < self.slots.len() {
+            self.slots[at].arm(order);
         }
     }
 }

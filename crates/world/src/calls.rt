@@ -3,7 +3,7 @@ ghost use Rattle.std.specs.Prelude.{◌≡◌, OnErr, OnOk};
 ghost use Rattle.run_rules.specs.Due.{Pends, Gives_up, Delivers, Recovers};
 ghost use Rattle.run_trace.specs.Recorded.{Extends};
 ghost use Rattle.world.specs.Needs.{due_in};
-ghost use Rattle.world.specs.Left.{StillTells};
+ghost use Rattle.world.specs.Left.{StillReports};
 ghost use Rattle.world.specs.Linked.{IsLinked};
 ghost use Rattle.world.specs.Orders.{OrdersAre};
 ghost use Rattle.world.specs.Steps.{StepsOn};
@@ -13,7 +13,7 @@ use crate::laws::what_is_due_can_happen;
 use book::Took;
 use node_disk::Incoming;
 use std::alloc::{AllocError, Global};
-use telling_parts::Call;
+use run_report_parts::Call;
 use world_parts::bytes_of;
 
 impl World {
@@ -26,7 +26,7 @@ impl World {
         ensures steps { OnOk result (StepsOn self.old self.new) }
         ensures orders { OnOk result (OrdersAre self.new) }
         ensures extends { Extends self.old.trace self.new.trace }
-        ensures left { OnErr result (StillTells self.new) }
+        ensures left { OnErr result (StillReports self.new) }
     {
         let Call {
             node,
@@ -51,7 +51,7 @@ impl World {
         ensures steps { OnOk result (StepsOn self.old self.new) }
         ensures orders { OnOk result (OrdersAre self.new) }
         ensures extends { Extends self.old.trace self.new.trace }
-        ensures left { OnErr result (StillTells self.new) }
+        ensures left { OnErr result (StillReports self.new) }
     {
         self.turn(alloc, node, Incoming::GiveUp { session }, None)
     }
@@ -65,7 +65,7 @@ impl World {
         ensures steps { OnOk result (StepsOn self.old self.new) }
         ensures orders { OnOk result (OrdersAre self.new) }
         ensures extends { Extends self.old.trace self.new.trace }
-        ensures left { OnErr result (StillTells self.new) }
+        ensures left { OnErr result (StillReports self.new) }
     {
         self.turn(alloc, node, Incoming::Reco, None)
     }
@@ -79,7 +79,7 @@ impl World {
         ensures steps { OnOk result (StepsOn self.old self.new) }
         ensures orders { OnOk result (OrdersAre self.new) }
         ensures extends { Extends self.old.trace self.new.trace }
-        ensures left { OnErr result (StillTells self.new) }
+        ensures left { OnErr result (StillReports self.new) }
     {
         what_is_due_can_happen();
         let bytes = bytes_of(alloc, &self.net, k, again)?;

@@ -2,16 +2,16 @@
 ghost use Rattle.std.specs.Prelude.{◌≡◌, IfOk};
 ghost use Rattle.run_rules.specs.Facts.{command_at as command_at_of};
 ghost use Rattle.run_trace.specs.Recorded.{past_of};
-ghost use Rattle.telling.specs.Due.{due_as, may_act as may_act_by};
-ghost use Rattle.telling.specs.Facts.{KnownDue};
+ghost use Rattle.run_report.specs.Due.{due_as, may_act as may_act_by};
+ghost use Rattle.run_report.specs.Facts.{KnownDue};
 ghost use Rattle.world.specs.Needs.{due_in};
 ghost use Rattle.world.specs.Linked.{IsLinked};
 
 use crate::World;
-use crate::sites::{is_enabled, is_up};
+use crate::slots::{is_enabled, is_up};
 use script_read::Command;
 use std::alloc::{AllocError, Global};
-use telling::{Due, DueFacts};
+use run_report::{Due, DueFacts};
 use world_parts::command_at;
 
 impl World {
@@ -24,7 +24,7 @@ impl World {
         let none = Command::ShowBook;
         let command = command_at(self.trace.asked(), self.running, &none);
         let facts = self.due_facts(command);
-        let due = self.telling.due(alloc, command, &facts);
+        let due = self.run_report.due(alloc, command, &facts);
         drop(none);
         due
     }
@@ -55,15 +55,15 @@ impl World {
     {
         match command {
             Command::Lose { k } => self.net.in_flight(u64::from(*k)),
-            Command::Stop { node } => is_up(&self.sites, *node),
-            Command::Start { node } => is_up(&self.sites, *node),
+            Command::Stop { node } => is_up(&self.slots, *node),
+            Command::Start { node } => is_up(&self.slots, *node),
             Command::Deliver { k } => self.net.in_flight(u64::from(*k)),
             Command::Again { k } => self.net.again(u64::from(*k)).is_some(),
             Command::GiveUp {
                 node,
                 session: _session,
-            } => is_up(&self.sites, *node),
-            Command::Reco { node } => is_enabled(&self.sites, *node),
+            } => is_up(&self.slots, *node),
+            Command::Reco { node } => is_enabled(&self.slots, *node),
             _ => true,
         }
     }

@@ -42,14 +42,14 @@ pub struct Ran {
 impl World {
     // The lines of the last command are told, where there is memory for them.
     #[tactic(auto, using(crate::proofs::RanLemmas::ran_steps, crate::proofs::LeftLemmas::left_steps))]
-    fn tell_end(&mut self, alloc: Global) -> Ended
+    fn report_end(&mut self, alloc: Global) -> Ended
         requires linked { IsLinked self.old }
         requires ends { due_in self.old.trace ≡ Ends }
         ensures left { IsLeftBy result self.new }
         ensures trace { self.new.trace ≡ self.old.trace }
     {
         let flying = self.net.first().is_some();
-        match self.telling.finish(alloc, self.running, flying) {
+        match self.run_report.finish(alloc, self.running, flying) {
             Ok(()) => Ended::AllRun,
             Err(_) => Ended::OutOfMemory,
         }
@@ -57,14 +57,14 @@ impl World {
 
     // Runs the script to its end, or as far as memory goes.
     #[tactic(auto, using(run_trace::proofs::ExtendsLemmas::extends_steps))]
-    fn run_and_tell(&mut self, alloc: Global) -> Ended
+    fn run_and_report(&mut self, alloc: Global) -> Ended
         requires linked { IsLinked self.old }
         requires orders { OrdersAre self.old }
         ensures left { IsLeftBy result self.new }
         ensures extends { Extends self.old.trace self.new.trace }
     {
         match self.run(alloc) {
-            Ok(()) => self.tell_end(alloc),
+            Ok(()) => self.report_end(alloc),
             Err(_) => Ended::OutOfMemory,
         }
     }
@@ -79,7 +79,7 @@ impl World {
     {
         self.trace.is_run();
         let mut shown = self.shown;
-        let answers = with_disks(&mut shown, self.telling.into_lines());
+        let answers = with_disks(&mut shown, self.run_report.into_lines());
         Ran {
             recorded: self.trace.into_recorded(),
             answers,
@@ -99,6 +99,6 @@ pub fn run(alloc: Global, places: Places, commands: Commands) -> Result<Ran, All
     ensures ran { IfOk result IsRan }
 {
     let mut world = World::new(alloc, places, commands)?;
-    let ended = world.run_and_tell(alloc);
+    let ended = world.run_and_report(alloc);
     Ok(world.into_ran(ended))
 }

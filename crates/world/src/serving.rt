@@ -2,39 +2,39 @@
 ghost use Rattle.std.specs.Prelude.{◌≡◌, IfErr, IfOk, IfSome};
 ghost use Rattle.node_rules.specs.Sessions.{session_at};
 ghost use Rattle.world.specs.Served.{CanServe, HasServed, HasFailed};
-ghost use Rattle.world.specs.Site.{site_kept};
+ghost use Rattle.world.specs.NodeSlot.{site_kept};
 ghost use Rattle.world.specs.Turns.{CallerIs};
 
-use crate::site::Site;
+use crate::slot::NodeSlot;
 use node_disk::{Effects, Incoming, TurnErr};
 use node_rules::{PendingCall, Session};
-use telling_parts::Point;
+use run_report_parts::Point;
 
 /// The turn of a node that is up and can take what comes.
 pub(crate) fn serve(
-    site: &mut Site,
+    slot: &mut NodeSlot,
     incoming: Incoming,
     points: &[Point],
 ) -> Result<Effects, TurnErr>
-    requires { CanServe site.old incoming }
-    ensures served { IfOk result (HasServed site.old site.new incoming points.now) }
-    ensures failed { IfErr result (HasFailed site.old site.new incoming points.now) }
+    requires { CanServe slot.old incoming }
+    ensures served { IfOk result (HasServed slot.old slot.new incoming points.now) }
+    ensures failed { IfErr result (HasFailed slot.old slot.new incoming points.now) }
 {
-    match site {
-        Site::Up(node) => node.turn(incoming, points),
-        Site::Down(_disk) => unreachable!(),
+    match slot {
+        NodeSlot::Up(node) => node.turn(incoming, points),
+        NodeSlot::Down(_disk) => unreachable!(),
     }
 }
 
 /// The session that calls, where the input is a client's call.
-pub(crate) fn caller(site: &Site, incoming: &Incoming) -> Session
-    ensures { CallerIs incoming.now (site_kept site.now) result }
+pub(crate) fn caller(slot: &NodeSlot, incoming: &Incoming) -> Session
+    ensures { CallerIs incoming.now (site_kept slot.now) result }
 {
     match incoming {
         Incoming::Call {
             session,
             statement: _statement,
-        } => session_of(site, *session),
+        } => session_of(slot, *session),
         Incoming::GiveUp { session: _session } => no_session(),
         Incoming::Message(_bytes) => no_session(),
         Incoming::Reco => no_session(),
@@ -42,12 +42,12 @@ pub(crate) fn caller(site: &Site, incoming: &Incoming) -> Session
 }
 
 // A session of the node, where it is up.
-fn session_of(site: &Site, session: u32) -> Session
-    ensures { IfSome (site_kept site.now) (λ k. result ≡ session_at k.sessions session) }
+fn session_of(slot: &NodeSlot, session: u32) -> Session
+    ensures { IfSome (site_kept slot.now) (λ k. result ≡ session_at k.sessions session) }
 {
-    match site {
-        Site::Up(node) => node.session(session),
-        Site::Down(_disk) => no_session(),
+    match slot {
+        NodeSlot::Up(node) => node.session(session),
+        NodeSlot::Down(_disk) => no_session(),
     }
 }
 

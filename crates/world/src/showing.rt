@@ -7,13 +7,13 @@ ghost use Rattle.sql_check.specs.Words.{one as one_of};
 ghost use Rattle.run_rules.specs.Commands.{has_call as has_call_by, if_up as if_up_by, says_at_once as says_by};
 ghost use Rattle.run_rules.specs.Lines.{refuses_with};
 ghost use Rattle.run_rules.specs.Facts.{names_in};
-ghost use Rattle.run_rules.specs.Telling.{node_name as name_by};
+ghost use Rattle.run_rules.specs.RunReport.{node_name as name_by};
 ghost use Rattle.run_trace.specs.Recorded.{past_of};
-ghost use Rattle.world.specs.Sites.{kept_at, disk_at, MayShow};
+ghost use Rattle.world.specs.Slots.{kept_at, disk_at, MayShow};
 ghost use Rattle.world.specs.Linked.{IsLinked};
 
 use crate::World;
-use crate::sites::{is_enabled, is_up, node_at, site_at};
+use crate::slots::{is_enabled, is_up, node_at, site_at};
 use book::book_lines;
 use dtx_values::{Listing, Name};
 use pending_view::{PendingRows, neighbors_view, pending, pending_view};
@@ -37,7 +37,7 @@ impl World {
     /// What a command says as it begins. Fails where memory runs out.
     pub(crate) fn says_at_once(&self, alloc: Global, command: &Command) -> Result<Says, AllocError>
         requires { IsLinked self.now }
-        ensures { IfOk result (λ says. says ≡ says_by self.now.trace.places (past_of self.now.trace).facts (past_of self.now.trace).telling command.now) }
+        ensures { IfOk result (λ says. says ≡ says_by self.now.trace.places (past_of self.now.trace).facts (past_of self.now.trace).run_report command.now) }
     {
         match command {
             Command::At {
@@ -69,7 +69,7 @@ impl World {
         number: u32,
         command: &Command,
     ) -> Result<(), AllocError>
-        ensures shows { OnOk result (MayShow (λ n. disk_at self.old.sites.items n) number command.now self.old.shown self.new.shown) }
+        ensures shows { OnOk result (MayShow (λ n. disk_at self.old.slots.items n) number command.now self.old.shown self.new.shown) }
         ensures same { self.new ≡ record self.old { shown = self.new.shown } }
         ensures err { OnErr result (self.new.shown ≡ self.old.shown) }
     {
@@ -84,19 +84,19 @@ impl World {
 
     /// The bytes of a node's disk, none for a number past the nodes.
     pub fn disk(&self, node: u8) -> &[u8]
-        ensures { result.now ≡ disk_at self.now.sites.items node }
+        ensures { result.now ≡ disk_at self.now.slots.items node }
     {
-        match site_at(&self.sites, node) {
+        match site_at(&self.slots, node) {
             None => &[],
-            Some(site) => site.disk().bytes(),
+            Some(slot) => slot.disk().bytes(),
         }
     }
 
     /// The rows of DBA_2PC_PENDING at a node, and nothing where it is down. Fails where memory runs out.
     pub fn pending(&self, alloc: Global, node: u8) -> Result<Option<PendingRows>, AllocError>
-        ensures { IfOk result (λ rows. rows ≡ option_map (λ k. pending_rows k.stored.durable.kept k.lives) (kept_at self.now.sites.items node)) }
+        ensures { IfOk result (λ rows. rows ≡ option_map (λ k. pending_rows k.stored.durable.kept k.lives) (kept_at self.now.slots.items node)) }
     {
-        match node_at(&self.sites, node) {
+        match node_at(&self.slots, node) {
             Some(up) => Ok(Some(pending(alloc, up.kept(), up.lives())?)),
             None => Ok(None),
         }
@@ -140,7 +140,7 @@ impl World {
         requires { IsLinked self.now }
         ensures { IfOk result (λ all. all ≡ if_up_by self.now.trace.places (past_of self.now.trace).facts node says) }
     {
-        if is_up(&self.sites, node) {
+        if is_up(&self.slots, node) {
             Ok(says)
         } else {
             self.refused_node(alloc, STOPPED, node)
@@ -150,9 +150,9 @@ impl World {
     #[tactic(auto, using(crate::proofs::DueLemmas::due_steps))]
     fn says_call(&self, alloc: Global, node: u8, session: u32) -> Result<Says, AllocError>
         requires { IsLinked self.now }
-        ensures { IfOk result (λ says. says ≡ if_up_by self.now.trace.places (past_of self.now.trace).facts node (if has_call_by (past_of self.now.trace).telling node session then refuses_with (dtx 4 []) ∷ [] else [])) }
+        ensures { IfOk result (λ says. says ≡ if_up_by self.now.trace.places (past_of self.now.trace).facts node (if has_call_by (past_of self.now.trace).run_report node session then refuses_with (dtx 4 []) ∷ [] else [])) }
     {
-        let says = if self.telling.has_call(node, session) {
+        let says = if self.run_report.has_call(node, session) {
             refused(alloc, PENDING)?
         } else {
             Listing::new(alloc)
@@ -163,9 +163,9 @@ impl World {
     #[tactic(auto, using(crate::proofs::DueLemmas::due_steps))]
     fn says_start(&self, alloc: Global, node: u8) -> Result<Says, AllocError>
         requires { IsLinked self.now }
-        ensures { IfOk result (λ says. says ≡ says_by self.now.trace.places (past_of self.now.trace).facts (past_of self.now.trace).telling (script.Start node)) }
+        ensures { IfOk result (λ says. says ≡ says_by self.now.trace.places (past_of self.now.trace).facts (past_of self.now.trace).run_report (script.Start node)) }
     {
-        if is_up(&self.sites, node) {
+        if is_up(&self.slots, node) {
             self.refused_node(alloc, RUNNING, node)
         } else {
             Ok(Listing::new(alloc))
@@ -175,9 +175,9 @@ impl World {
     #[tactic(auto, using(crate::proofs::DueLemmas::due_steps))]
     fn says_give_up(&self, alloc: Global, node: u8, session: u32) -> Result<Says, AllocError>
         requires { IsLinked self.now }
-        ensures { IfOk result (λ says. says ≡ says_by self.now.trace.places (past_of self.now.trace).facts (past_of self.now.trace).telling (script.GiveUp node session)) }
+        ensures { IfOk result (λ says. says ≡ says_by self.now.trace.places (past_of self.now.trace).facts (past_of self.now.trace).run_report (script.GiveUp node session)) }
     {
-        let says = if self.telling.has_call(node, session) {
+        let says = if self.run_report.has_call(node, session) {
             fine(alloc)?
         } else {
             refused(alloc, NO_CALL)?
@@ -188,9 +188,9 @@ impl World {
     #[tactic(auto, using(crate::proofs::DueLemmas::due_steps))]
     fn says_reco(&self, alloc: Global, node: u8) -> Result<Says, AllocError>
         requires { IsLinked self.now }
-        ensures { IfOk result (λ says. says ≡ says_by self.now.trace.places (past_of self.now.trace).facts (past_of self.now.trace).telling (script.Reco node)) }
+        ensures { IfOk result (λ says. says ≡ says_by self.now.trace.places (past_of self.now.trace).facts (past_of self.now.trace).run_report (script.Reco node)) }
     {
-        let says = if is_enabled(&self.sites, node) {
+        let says = if is_enabled(&self.slots, node) {
             fine(alloc)?
         } else {
             refused(alloc, DISABLED)?
@@ -201,9 +201,9 @@ impl World {
     #[tactic(auto, using(crate::proofs::DueLemmas::due_steps))]
     fn says_pending(&self, alloc: Global, node: u8) -> Result<Says, AllocError>
         requires { IsLinked self.now }
-        ensures { IfOk result (λ says. says ≡ says_by self.now.trace.places (past_of self.now.trace).facts (past_of self.now.trace).telling (script.ShowPending node)) }
+        ensures { IfOk result (λ says. says ≡ says_by self.now.trace.places (past_of self.now.trace).facts (past_of self.now.trace).run_report (script.ShowPending node)) }
     {
-        match node_at(&self.sites, node) {
+        match node_at(&self.slots, node) {
             Some(up) => {
                 let lines = pending_view(alloc, self.names(), up.kept(), up.lives())?;
                 shows(alloc, lines)
@@ -215,9 +215,9 @@ impl World {
     #[tactic(auto, using(crate::proofs::DueLemmas::due_steps))]
     fn says_neighbors(&self, alloc: Global, node: u8) -> Result<Says, AllocError>
         requires { IsLinked self.now }
-        ensures { IfOk result (λ says. says ≡ says_by self.now.trace.places (past_of self.now.trace).facts (past_of self.now.trace).telling (script.ShowNeighbors node)) }
+        ensures { IfOk result (λ says. says ≡ says_by self.now.trace.places (past_of self.now.trace).facts (past_of self.now.trace).run_report (script.ShowNeighbors node)) }
     {
-        match node_at(&self.sites, node) {
+        match node_at(&self.slots, node) {
             Some(up) => {
                 let lines = neighbors_view(alloc, self.names(), up.kept())?;
                 shows(alloc, lines)

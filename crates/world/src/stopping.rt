@@ -2,12 +2,12 @@
 ghost use Rattle.std.specs.Prelude.{◌≡◌, length, OnErr, OnOk};
 ghost use Rattle.run_rules.specs.Data.happenings as occurrences;
 ghost use Rattle.run_rules.specs.Lawful.{IsNode};
-ghost use Rattle.run_rules.specs.Past.{acts, telling_stopped};
+ghost use Rattle.run_rules.specs.Past.{acts, report_stopped};
 ghost use Rattle.run_rules.specs.Due.{Falls, Stops};
 ghost use Rattle.run_rules.specs.Facts.{is_up as is_up_by};
 ghost use Rattle.run_trace.specs.Recorded.{Extends, IsNext, past_of};
 ghost use Rattle.world.specs.Needs.{due_in};
-ghost use Rattle.world.specs.Left.{StillTells};
+ghost use Rattle.world.specs.Left.{StillReports};
 ghost use Rattle.world.specs.Linked.{IsHeld, IsLinked, OnlyFalls};
 ghost use Rattle.world.specs.Halts.{HasHalted};
 ghost use Rattle.world.specs.Orders.{OrdersAre};
@@ -15,11 +15,11 @@ ghost use Rattle.world.specs.Steps.{StepsOn};
 
 use crate::World;
 use crate::laws::what_is_due_can_happen;
-use crate::sites::is_up;
+use crate::slots::is_up;
 use book::Happening;
 use script_read::Command;
 use std::alloc::{AllocError, Global};
-use telling::StopFacts;
+use run_report::StopFacts;
 use tran_ids::node_name;
 use world_parts::{command_at, losses_of};
 
@@ -33,10 +33,10 @@ impl World {
         ensures steps { OnOk result (StepsOn self.old self.new) }
         ensures orders { OnOk result (OrdersAre self.new) }
         ensures extends { Extends self.old.trace self.new.trace }
-        ensures left { OnErr result (StillTells self.new) }
+        ensures left { OnErr result (StillReports self.new) }
     {
         what_is_due_can_happen();
-        let was_up = is_up(&self.sites, node);
+        let was_up = is_up(&self.slots, node);
         self.halt(alloc, node, was_up)
     }
 
@@ -49,10 +49,10 @@ impl World {
         ensures steps { OnOk result (StepsOn self.old self.new) }
         ensures orders { OnOk result (OrdersAre self.new) }
         ensures extends { Extends self.old.trace self.new.trace }
-        ensures left { OnErr result (StillTells self.new) }
+        ensures left { OnErr result (StillReports self.new) }
     {
         what_is_due_can_happen();
-        let was_up = is_up(&self.sites, node);
+        let was_up = is_up(&self.slots, node);
         self.halt(alloc, node, was_up)
     }
 
@@ -67,25 +67,25 @@ impl World {
         ensures steps { OnOk result (StepsOn self.old self.new) }
         ensures halted { OnOk result (HasHalted node self.old self.new) }
         ensures extends { Extends self.old.trace self.new.trace }
-        ensures left { OnErr result (StillTells self.new) }
+        ensures left { OnErr result (StillReports self.new) }
     {
-        self.tell_stop(alloc, node, was_up)?;
+        self.report_stop(alloc, node, was_up)?;
         let lost = self.net.stop(alloc, node)?;
         self.losses = losses_of(alloc, lost.into_vec())?;
         self.trace.push(alloc, Happening::Stopped { node })?;
         self.to_stop = None;
-        self.sites[usize::from(node) - 1].stop(alloc);
+        self.slots[usize::from(node) - 1].stop(alloc);
         Ok(())
     }
 
     // What is told of a stop.
-    fn tell_stop(&mut self, alloc: Global, node: u8, was_up: bool) -> Result<(), AllocError>
+    fn report_stop(&mut self, alloc: Global, node: u8, was_up: bool) -> Result<(), AllocError>
         requires held { IsHeld self.old }
         requires up { was_up ≡ is_up_by (past_of self.old.trace).facts node }
         requires there { IsNode (length self.old.trace.places) node }
-        ensures tells { OnOk result (self.new.telling ≡ acts (telling_stopped self.old.trace.places self.old.trace.asked (past_of self.old.trace).facts (past_of self.old.trace).telling node)) }
-        ensures same { self.new ≡ record self.old { telling = self.new.telling } }
-        ensures lines { self.new.telling.lines ≡ self.old.telling.lines }
+        ensures tells { OnOk result (self.new.run_report ≡ acts (report_stopped self.old.trace.places self.old.trace.asked (past_of self.old.trace).facts (past_of self.old.trace).run_report node)) }
+        ensures same { self.new ≡ record self.old { run_report = self.new.run_report } }
+        ensures lines { self.new.run_report.lines ≡ self.old.run_report.lines }
     {
         let none = Command::ShowBook;
         let command = command_at(self.trace.asked(), self.running, &none);
@@ -96,7 +96,7 @@ impl World {
         };
         let place = &self.trace.places()[usize::from(node) - 1];
         let name = node_name(place.names.as_slice(), node);
-        let told = self.telling.stop(alloc, node, name, command, &facts);
+        let told = self.run_report.stop(alloc, node, name, command, &facts);
         drop(none);
         told
     }

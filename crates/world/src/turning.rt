@@ -7,28 +7,28 @@ ghost use Rattle.run_rules.specs.Facts.{taken};
 ghost use Rattle.run_rules.specs.Lawful.{IsNode};
 ghost use Rattle.run_rules.specs.Data.happenings as occurrences;
 ghost use Rattle.run_trace.specs.Recorded.{Extends, IsNext};
-ghost use Rattle.telling.specs.Turned.{cut_as};
+ghost use Rattle.run_report.specs.Turned.{cut_as};
 ghost use Rattle.world.specs.Needs.{DeliveriesAreFew, DueTurnsCanBeTaken, due_in};
 ghost use Rattle.world.specs.Mail.{IsMailed};
-ghost use Rattle.world.specs.Left.{StillTells};
+ghost use Rattle.world.specs.Left.{StillReports};
 ghost use Rattle.world.specs.Linked.{IsLinked};
 ghost use Rattle.world.specs.Orders.{OrdersAre};
 ghost use Rattle.world.specs.Steps.{StepsOn};
 ghost use Rattle.world.specs.Stops.{StopsAt};
-ghost use Rattle.world.specs.Turns.{TookIs, IsComingDue, IsDuring, IsCutDuring, IsCutShort, IsReadied, IsTold, stands_by, stood};
+ghost use Rattle.world.specs.Turns.{TookIs, IsComingDue, IsDuring, IsCutDuring, IsCutShort, IsReadied, IsReported, stands_by, stood};
 
 use crate::World;
 use crate::laws::{numbers_stay_small, what_is_due_can_happen};
 use crate::mail::{ended_calls, send_all};
 use crate::serving::{caller, serve};
-use crate::site::Site;
+use crate::slot::NodeSlot;
 use book::{Happening, Took, Turn};
 use dtx_values::Listing;
 use node_disk::{CutTurn, Effects, Finished, Incoming, Mailed, TurnErr};
 use node_rules::{Ended, Session};
 use std::alloc::{AllocError, Global};
 use std::collections::VecDeque;
-use telling::{Cut, TurnFacts};
+use run_report::{Cut, TurnFacts};
 use wire_msg::Msgs;
 use world_parts::take_message;
 
@@ -85,11 +85,11 @@ fn cut_short(alloc: Global, begun: Begun, cut: CutTurn, stands: bool) -> Turn
 }
 
 // A node stops.
-fn stop_at(alloc: Global, sites: &mut Vec<Site>, node: u8)
-    requires { IsNode (length sites.old.items) node }
-    ensures { StopsAt node sites.old.items sites.new.items }
+fn stop_at(alloc: Global, slots: &mut Vec<NodeSlot>, node: u8)
+    requires { IsNode (length slots.old.items) node }
+    ensures { StopsAt node slots.old.items slots.new.items }
 {
-    sites[usize::from(node) - 1].stop(alloc);
+    slots[usize::from(node) - 1].stop(alloc);
 }
 
 // The turn that is due can be taken, and a command makes few deliveries.
@@ -118,7 +118,7 @@ impl World {
         ensures steps { OnOk result (StepsOn self.old self.new) }
         ensures orders { OnOk result (OrdersAre self.new) }
         ensures extends { Extends self.old.trace self.new.trace }
-        ensures left { OnErr result (StillTells self.new) }
+        ensures left { OnErr result (StillReports self.new) }
     {
         turns_can_be_taken();
         let begun = self.begin_turn(node, &incoming, took);
@@ -137,30 +137,30 @@ impl World {
         requires deliveries { DeliveriesAreFew }
         requires due { IsComingDue incoming.now node self.now }
         requires took { TookIs (due_in self.now.trace) took }
-        requires there { IsNode (length self.now.sites.items) node }
+        requires there { IsNode (length self.now.slots.items) node }
         ensures { IsReadied result incoming.now self.now }
     {
-        let site = &self.sites[usize::from(node) - 1];
+        let slot = &self.slots[usize::from(node) - 1];
         Begun {
             node,
             took,
-            caller: caller(site, incoming),
+            caller: caller(slot, incoming),
         }
     }
 
     // The node takes its turn: it is whole, or cut, or there was no memory for it.
     fn take_turn(&mut self, begun: Begun, incoming: Incoming) -> Result<Effects, TurnErr>
         requires readied { IsReadied begun incoming self.old }
-        requires there { IsNode (length self.old.sites.items) begun.node }
+        requires there { IsNode (length self.old.slots.items) begun.node }
         ensures whole { IfOk result (λ effects. IsDuring begun effects self.new) }
         ensures cut { IfErr result (λ err. IsCutShort begun err self.new) }
         ensures trace { self.new.trace ≡ self.old.trace }
-        ensures telling { self.new.telling ≡ self.old.telling }
+        ensures run_report { self.new.run_report ≡ self.old.run_report }
         ensures shown { self.new.shown ≡ self.old.shown }
     {
-        let points = self.telling.points();
-        let site = &mut self.sites[usize::from(begun.node) - 1];
-        serve(site, incoming, points)
+        let points = self.run_report.points();
+        let slot = &mut self.slots[usize::from(begun.node) - 1];
+        serve(slot, incoming, points)
     }
 
     // The turn was whole: its record stands, its messages are sent, and its calls end.
@@ -174,7 +174,7 @@ impl World {
         ensures steps { OnOk result (StepsOn self.old self.new) }
         ensures orders { OnOk result (OrdersAre self.new) }
         ensures extends { Extends self.old.trace self.new.trace }
-        ensures left { StillTells self.old → StillTells self.new }
+        ensures left { StillReports self.old → StillReports self.new }
     {
         let Effects {
             input,
@@ -199,7 +199,7 @@ impl World {
                     sent,
                     cut: false,
                 };
-                self.tell_turn(alloc, turn, facts)
+                self.report_turn(alloc, turn, facts)
             }
             Err(err) => {
                 drop(input);
@@ -253,28 +253,28 @@ impl World {
         ensures steps { OnOk result (StepsOn self.old self.new) }
         ensures orders { OnOk result (OrdersAre self.new) }
         ensures extends { Extends self.old.trace self.new.trace }
-        ensures left { StillTells self.old → StillTells self.new }
+        ensures left { StillReports self.old → StillReports self.new }
     {
         let facts = cut_facts(alloc, begun, &cut);
-        let by = self.telling.cut(begun.node, facts.writes, facts.passes);
+        let by = self.run_report.cut(begun.node, facts.writes, facts.passes);
         let turn = cut_short(alloc, begun, cut, stands(by));
         take_message(&mut self.net, begun.took);
-        stop_at(alloc, &mut self.sites, begun.node);
+        stop_at(alloc, &mut self.slots, begun.node);
         self.to_stop = Some(begun.node);
-        self.tell_turn(alloc, turn, facts)
+        self.report_turn(alloc, turn, facts)
     }
 
     // A turn is told, and the trace takes it, also where there was no memory to tell it: it has happened.
     #[tactic(auto, using(run_trace::proofs::ExtendsLemmas::extends_steps))]
-    fn tell_turn(&mut self, alloc: Global, turn: Turn, facts: TurnFacts) -> Result<(), AllocError>
+    fn report_turn(&mut self, alloc: Global, turn: Turn, facts: TurnFacts) -> Result<(), AllocError>
         requires next { IsNext self.old.trace (occurrences.Turn turn) }
-        requires few { IfSome turn.took (λ took. self.old.telling.deliveries < 2 ^ 32 - 1) }
-        ensures told { OnOk result (IsTold turn facts self.old self.new) }
-        ensures left { StillTells self.old → StillTells self.new }
-        ensures same { self.new ≡ record self.old { trace = self.new.trace; telling = self.new.telling } }
+        requires few { IfSome turn.took (λ took. self.old.run_report.deliveries < 2 ^ 32 - 1) }
+        ensures told { OnOk result (IsReported turn facts self.old self.new) }
+        ensures left { StillReports self.old → StillReports self.new }
+        ensures same { self.new ≡ record self.old { trace = self.new.trace; run_report = self.new.run_report } }
         ensures extends { Extends self.old.trace self.new.trace }
     {
-        let told = self.telling.turn(alloc, self.running, &turn, facts);
+        let told = self.run_report.turn(alloc, self.running, &turn, facts);
         self.trace.push(alloc, Happening::Turn(turn))?;
         told
     }

@@ -7,16 +7,16 @@ ghost use Rattle.run_trace.specs.Recorded.{Extends};
 ghost use Rattle.world.specs.Needs.{due_in};
 ghost use Rattle.world.specs.Linked.{IsLinked};
 ghost use Rattle.world.specs.Orders.{OrdersAre};
-ghost use Rattle.telling.specs.Due.{due_as};
-ghost use Rattle.telling.specs.declared.due.Due.TheVariants as dues;
+ghost use Rattle.run_report.specs.Due.{due_as};
+ghost use Rattle.run_report.specs.declared.due.Due.TheVariants as dues;
 ghost use Rattle.world.specs.Left.{IsLeft};
 ghost use Rattle.world.specs.Steps.{Steps, StepsOn};
 ghost use Rattle.std.specs.List.{AllByRecursion};
 ghost use Rattle.script_read.specs.Sound.{IsInRange};
 ghost use Rattle.run_spell_laws.specs.ByteRuns.{AsksSpelled};
 
-use crate::site::Site;
-use crate::sites::made_all;
+use crate::slot::NodeSlot;
+use crate::slots::made_all;
 use book::Entry;
 use net_bag::Bag;
 use redo_record::Places;
@@ -24,7 +24,7 @@ use run_trace::Trace;
 use script_read::Commands;
 use std::alloc::{AllocError, Global};
 use std::collections::VecDeque;
-use telling::{Due, Telling};
+use run_report::{Due, RunReport};
 use world_parts::{DisksShown, once_each};
 
 /// The world of a run so far.
@@ -33,7 +33,7 @@ pub struct World {
     /// What happened, and the book.
     pub(crate) trace: Trace,
     /// The nodes, from number 1.
-    pub(crate) sites: Vec<Site>,
+    pub(crate) slots: Vec<NodeSlot>,
     /// How often each node has started.
     pub(crate) boots: Vec<u32>,
     /// The messages.
@@ -45,7 +45,7 @@ pub struct World {
     /// The node of a cut turn, whose stop comes next.
     pub(crate) to_stop: Option<u8>,
     /// What is told, and what comes next beside the facts.
-    pub(crate) telling: Telling,
+    pub(crate) run_report: RunReport,
     /// What SHOW DISK has shown.
     pub(crate) shown: DisksShown,
 }
@@ -62,18 +62,18 @@ impl World {
         ensures orders { IfOk result OrdersAre }
         ensures fresh { IfOk result (λ world. world.trace ≡ record { places = places; asked = commands; happenings = [] }) }
     {
-        let sites = made_all(alloc, places.as_slice())?;
-        let boots = once_each(alloc, sites.len())?;
-        let telling = Telling::new(alloc, sites.len())?;
+        let slots = made_all(alloc, places.as_slice())?;
+        let boots = once_each(alloc, slots.len())?;
+        let run_report = RunReport::new(alloc, slots.len())?;
         Ok(World {
             trace: Trace::new(alloc, places, commands),
-            sites,
+            slots,
             boots,
             net: Bag::new(alloc),
             running: 0,
             losses: VecDeque::new(alloc),
             to_stop: None,
-            telling,
+            run_report,
             shown: DisksShown::new(alloc),
         })
     }
@@ -111,7 +111,7 @@ impl World {
         ensures left { OnErr result (IsLeft self.new) }
     {
         match due {
-            Due::Tells { k } => self.tell_loss(alloc, k),
+            Due::Tells { k } => self.report_loss(alloc, k),
             Due::Falls { node } => self.fall(alloc, node),
             Due::Pends(call) => self.call(alloc, call),
             Due::GivesUp { node, session } => self.give_up(alloc, node, session),

@@ -3,7 +3,7 @@ use Rattle.std.proofs.Common.{◌≡◌, ◌⊎◌, inl, inr, ◌+◌, ◌<◌, 
 use Rattle.std.proofs.lemmas.Bool.{ltb-true}
 use Rattle.std.specs.Prelude.{nat_lt}
 use Rattle.node_rules.specs.Data.{Place, Input}
-use Rattle.node_rules.specs.Kept.{Kept, Outcome}
+use Rattle.node_rules.specs.NodeState.{NodeState, Outcome}
 use Rattle.node_rules.specs.Turn.{turn_of}
 use Rattle.run_rules.specs.Data.{Command, Happening, Packet, Took}
 use Rattle.run_rules.specs.Data.happenings
@@ -12,18 +12,18 @@ use Rattle.run_rules.specs.Calls.{call_at}
 use Rattle.run_rules.specs.Commands.{is_enabled}
 use Rattle.run_rules.specs.Cuts.{Cut_by, By_nothing, By_strike, By_point, cut_by}
 use Rattle.run_rules.specs.Disks.{Strike, struck}
-use Rattle.run_rules.specs.Due.{Due, Tells, Falls, Pends, Gives_up, Delivers, Recovers, Cuts, Joins, Loses, Stops, Starts, Begins, Ends, IsTheRun, act_of, acts_first, acts_once, call_due, comes_next, delivery_at, due_of, falls_first, flows, follows_first, happens, if_due, most_of, next_command, next_delivery, next_give_up, next_pumped, start_by, tells_first, turn_at, turn_by}
+use Rattle.run_rules.specs.Due.{Due, Tells, Falls, Pends, Gives_up, Delivers, Recovers, Cuts, Joins, Loses, Stops, Starts, Begins, Ends, IsTheRun, act_of, acts_first, acts_once, call_due, comes_next, delivery_at, due_of, falls_first, flows, follows_first, happens, if_due, most_of, next_command, next_delivery, next_give_up, next_pumped, start_by, first_losses, turn_at, turn_by}
 use Rattle.run_rules.specs.Facts.{Facts, command_at, facts_after, is_up, node_at, place_at, records_at}
 use Rattle.run_rules.specs.Lawful.{boots}
 use Rattle.run_rules.specs.Lines.{spent}
 use Rattle.run_rules.specs.Past.{next, past}
-use Rattle.run_rules.specs.Telling.{Call, Past, Telling, orders_at, start}
+use Rattle.run_rules.specs.RunReport.{Call, Past, RunReport, orders_at, start}
 use Rattle.run_rules.proofs.FactLemmas.{facts_next}
 use Rattle.net_bag.specs.Net.{first_flying, may_deliver, may_repeat, packet_at}
 use Rattle.run_trace.specs.Recorded.{RunSoFar, IsRunOfScript, past_of}
 use Rattle.world_parts.specs.Shown.{HasBegun}
 
-module _ (asked : List Command) (f : Facts) (t : Telling) where
+module _ (asked : List Command) (f : Facts) (t : RunReport) where
   -- a command that is due is the next one, and a start that is due is the act of the command that runs, at a node that is down
   abbrev Comes : Due → Type 0
   Comes (Begins c) = (c ≡ f.command + 1) × (f.command < length asked)
@@ -116,50 +116,50 @@ module _ (asked : List Command) (f : Facts) (t : Telling) where
   fall_comes later None falls comes = comes
   fall_comes later (Some n) falls comes = falls n refl
 
-  tell_comes : (later : Due) (ks : List ℕ) → Comes later → Comes (tells_first later ks)
+  tell_comes : (later : Due) (ks : List ℕ) → Comes later → Comes (first_losses later ks)
   tell_comes later [] comes = comes
   tell_comes later (k ∷ ks) comes = tt
 
-  due_comes : Comes (due_of asked (record { facts = f; telling = t }))
+  due_comes : Comes (due_of asked (record { facts = f; run_report = t }))
   unfolding due_of
   due_comes =
-      tell_comes (falls_first (falls_first (follows_first (acts_once asked f t) t.next_call) t.start_to_stop) f.node_to_stop) f.losses_to_tell
+      tell_comes (falls_first (falls_first (follows_first (acts_once asked f t) t.next_call) t.start_to_stop) f.node_to_stop) f.losses_to_report
       (fall_comes (falls_first (follows_first (acts_once asked f t) t.next_call) t.start_to_stop) f.node_to_stop (λ n is. inr is)
       (fall_comes (follows_first (acts_once asked f t) t.next_call) t.start_to_stop (λ n is. inl is) (follow_comes (acts_once asked f t) t.next_call once_comes)))
 
 -- a command that is due is there
 pub begins_inside : (asked : List Command) (p : Past) (c : ℕ) → due_of asked p ≡ Begins c → (1 ≤ c) × (c ≤ length asked)
 begins_inside asked p c due =
-    let comes : (c ≡ p.facts.command + 1) × (p.facts.command < length asked) = subst (λ (d : Due). Comes asked p.facts p.telling d) due (due_comes asked p.facts p.telling) in
+    let comes : (c ≡ p.facts.command + 1) × (p.facts.command < length asked) = subst (λ (d : Due). Comes asked p.facts p.run_report d) due (due_comes asked p.facts p.run_report) in
     (omega (arith, comes.0), omega (arith, comes.0, comes.1))
 
 -- the command that is due is the next one
 pub begins_next_command : (asked : List Command) (p : Past) (c : ℕ) → due_of asked p ≡ Begins c → c ≡ p.facts.command + 1
 begins_next_command asked p c due =
-    let comes : (c ≡ p.facts.command + 1) × (p.facts.command < length asked) = subst (λ (d : Due). Comes asked p.facts p.telling d) due (due_comes asked p.facts p.telling) in
+    let comes : (c ≡ p.facts.command + 1) × (p.facts.command < length asked) = subst (λ (d : Due). Comes asked p.facts p.run_report d) due (due_comes asked p.facts p.run_report) in
     comes.0
 
 -- a start that is due is that of the command that runs, and its node is down
 pub starts_down : (asked : List Command) (p : Past) (n : ℕ) → due_of asked p ≡ Starts n → (command_at asked p.facts.command ≡ commands.Start n) × (is_up p.facts n ≡ false)
-starts_down asked p n due = subst (λ (d : Due). Comes asked p.facts p.telling d) due (due_comes asked p.facts p.telling)
+starts_down asked p n due = subst (λ (d : Due). Comes asked p.facts p.run_report d) due (due_comes asked p.facts p.run_report)
 
 -- a node that has to stop since its turn was cut, where no order has struck a start
-pub falls_owed : (asked : List Command) (p : Past) (n : ℕ) → due_of asked p ≡ Falls n → p.telling.start_to_stop ≡ None → p.facts.node_to_stop ≡ Some n
-falls_owed asked p n due upright = elim (subst (λ (d : Due). Comes asked p.facts p.telling d) due (due_comes asked p.facts p.telling)) [
+pub falls_owed : (asked : List Command) (p : Past) (n : ℕ) → due_of asked p ≡ Falls n → p.run_report.start_to_stop ≡ None → p.facts.node_to_stop ≡ Some n
+falls_owed asked p n due upright = elim (subst (λ (d : Due). Comes asked p.facts p.run_report d) due (due_comes asked p.facts p.run_report)) [
   | inl struck ↦ let clash : None ≡ Some n = sym upright ∙ struck in absurd cc
   | inr owed ↦ owed
 ]
 
 -- a stop that is due is that of the command that runs
 pub stops_command : (asked : List Command) (p : Past) (n : ℕ) → due_of asked p ≡ Stops n → command_at asked p.facts.command ≡ commands.Stop n
-stops_command asked p n due = subst (λ (d : Due). Comes asked p.facts p.telling d) due (due_comes asked p.facts p.telling)
+stops_command asked p n due = subst (λ (d : Due). Comes asked p.facts p.run_report d) due (due_comes asked p.facts p.run_report)
 
 -- and nothing comes before it
-pub starts_settled : (asked : List Command) (p : Past) (n : ℕ) → due_of asked p ≡ Starts n → (p.facts.losses_to_tell ≡ []) × (p.facts.node_to_stop ≡ None)
+pub starts_settled : (asked : List Command) (p : Past) (n : ℕ) → due_of asked p ≡ Starts n → (p.facts.losses_to_report ≡ []) × (p.facts.node_to_stop ≡ None)
 unfolding due_of
-starts_settled asked p n due = by_parts _ p.facts.losses_to_tell p.facts.node_to_stop due
+starts_settled asked p n due = by_parts _ p.facts.losses_to_report p.facts.node_to_stop due
   where
-    by_parts : (d : Due) (ks : List ℕ) (o : Option ℕ) → tells_first (falls_first d o) ks ≡ Starts n → (ks ≡ []) × (o ≡ None)
+    by_parts : (d : Due) (ks : List ℕ) (o : Option ℕ) → first_losses (falls_first d o) ks ≡ Starts n → (ks ≡ []) × (o ≡ None)
     by_parts d (k ∷ ks) o due = absurd cc
     by_parts d [] None due = (refl, refl)
     by_parts d [] (Some m) due = absurd cc
@@ -177,13 +177,13 @@ module _ (places : List Place) (asked : List Command) where
   some_same : (g h : Happening) → Some g ≡ Some h → g ≡ h
   some_same g h is = cc
 
-  no_turn : (t : Telling) (n : ℕ) (input : Input) (took : Option Took) (k : Option Kept) (c : ℕ) → IsBegun c (turn_at places t n input took k) → ⊥
+  no_turn : (t : RunReport) (n : ℕ) (input : Input) (took : Option Took) (k : Option NodeState) (c : ℕ) → IsBegun c (turn_at places t n input took k) → ⊥
   no_turn t n input took None c is = absurd cc
   no_turn t n input took (Some k) c is = by_no_turn n input took (turn_of (place_at places n) k input) (cut_by t n k input (turn_of (place_at places n) k input)) c (some_same _ (happenings.Begun c) is)
 
   no_delivery : (p : Past) (k : ℕ) (again : Bool) (o : Option Packet) (c : ℕ) → IsBegun c (delivery_at places p k again o) → ⊥
   no_delivery p k again None c is = absurd cc
-  no_delivery p k again (Some x) c is = no_turn p.telling _ _ _ (node_at p.facts x.msg.to.node) c is
+  no_delivery p k again (Some x) c is = no_turn p.run_report _ _ _ (node_at p.facts x.msg.to.node) c is
 
   no_start : (f : Facts) (n : ℕ) (s : Option Strike) (c : ℕ) → start_by f n s ≡ happenings.Begun c → ⊥
   no_start f n None c is = absurd cc
@@ -196,15 +196,15 @@ module _ (places : List Place) (asked : List Command) where
   begun_due : (p : Past) (d : Due) (c : ℕ) → IsBegun c (happens places p d) → d ≡ Begins c
   begun_due p (Tells k) c is = absurd cc
   begun_due p (Falls n) c is = absurd cc
-  begun_due p (Pends x) c is = absurd (no_turn p.telling _ _ _ (node_at p.facts x.node) c is)
-  begun_due p (Gives_up n session) c is = absurd (no_turn p.telling _ _ _ (node_at p.facts n) c is)
+  begun_due p (Pends x) c is = absurd (no_turn p.run_report _ _ _ (node_at p.facts x.node) c is)
+  begun_due p (Gives_up n session) c is = absurd (no_turn p.run_report _ _ _ (node_at p.facts n) c is)
   begun_due p (Delivers k again) c is = absurd (no_delivery p k again (packet_at p.facts.net k) c is)
-  begun_due p (Recovers n) c is = absurd (no_turn p.telling _ _ _ (node_at p.facts n) c is)
+  begun_due p (Recovers n) c is = absurd (no_turn p.run_report _ _ _ (node_at p.facts n) c is)
   begun_due p (Cuts a b) c is = absurd cc
   begun_due p (Joins a b) c is = absurd cc
   begun_due p (Loses k) c is = absurd cc
   begun_due p (Stops n) c is = absurd cc
-  begun_due p (Starts n) c is = absurd (no_start p.facts n (struck 3 (orders_at p.telling n)) c (some_same _ (happenings.Begun c) is))
+  begun_due p (Starts n) c is = absurd (no_start p.facts n (struck 3 (orders_at p.run_report n)) c (some_same _ (happenings.Begun c) is))
   begun_due p (Begins x) c is = cc
   begun_due p Ends c is = absurd cc
 

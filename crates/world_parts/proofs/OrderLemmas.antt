@@ -4,7 +4,7 @@ use Rattle.tran_ids.proofs.NumberedLemmas.{set_found, set_leaves, set_or_before}
 use Rattle.node_rules.specs.Words.{numbered, set_numbered}
 use Rattle.run_rules.specs.Cuts.{Cut_by, By_nothing, By_point, By_strike, appends_if, cut_appends}
 use Rattle.run_rules.specs.Disks.{DiskOrders, after_append, no_orders, struck}
-use Rattle.run_rules.specs.Telling.{Telling, orders_at}
+use Rattle.run_rules.specs.RunReport.{RunReport, orders_at}
 use Rattle.world_parts.specs.Orders.{cut_orders, orders_if}
 
 -- where there is no order an append leaves none
@@ -26,22 +26,22 @@ set_here xs n = by (numbered xs n) refl
       | inr new ↦ ap (λ (o : Option DiskOrders). unwrap_or o no_orders) new.1
     ]
 
-appended_here : (t : Telling) (n : ℕ) (writes : Bool) → orders_at (appends_if t n writes) n ≡ orders_if writes (orders_at t n)
+appended_here : (t : RunReport) (n : ℕ) (writes : Bool) → orders_at (appends_if t n writes) n ≡ orders_if writes (orders_at t n)
 appended_here t n true = set_here t.orders n
 appended_here t n false = refl
 
-appended_elsewhere : (t : Telling) (n m : ℕ) (writes : Bool) → n ≢ m → orders_at (appends_if t n writes) m ≡ orders_at t m
+appended_elsewhere : (t : RunReport) (n m : ℕ) (writes : Bool) → n ≢ m → orders_at (appends_if t n writes) m ≡ orders_at t m
 appended_elsewhere t n m true other = ap (λ (o : Option DiskOrders). unwrap_or o no_orders) (set_leaves t.orders n m (after_append 0 (orders_at t n)) other)
 appended_elsewhere t n m false other = refl
 
 -- the orders of a turn's node
-pub cut_here : (t : Telling) (n : ℕ) (writes : Bool) (by : Cut_by) → orders_at (cut_appends t n writes by) n ≡ cut_orders writes by (orders_at t n)
+pub cut_here : (t : RunReport) (n : ℕ) (writes : Bool) (by : Cut_by) → orders_at (cut_appends t n writes by) n ≡ cut_orders writes by (orders_at t n)
 cut_here t n writes By_nothing = appended_here t n writes
 cut_here t n writes (By_strike stands) = appended_here t n writes
 cut_here t n writes (By_point root numbers stands) = appended_here t n stands
 
 -- and of the others
-pub cut_elsewhere : (t : Telling) (n m : ℕ) (writes : Bool) (by : Cut_by) → n ≢ m → orders_at (cut_appends t n writes by) m ≡ orders_at t m
+pub cut_elsewhere : (t : RunReport) (n m : ℕ) (writes : Bool) (by : Cut_by) → n ≢ m → orders_at (cut_appends t n writes by) m ≡ orders_at t m
 cut_elsewhere t n m writes By_nothing other = appended_elsewhere t n m writes other
 cut_elsewhere t n m writes (By_strike stands) other = appended_elsewhere t n m writes other
 cut_elsewhere t n m writes (By_point root numbers stands) other = appended_elsewhere t n m stands other

@@ -12,13 +12,13 @@ use Rattle.node_rules.specs.Words.{one}
 use Rattle.node_rules.specs.Refusals.{dtx}
 use Rattle.run_rules.specs.Lines.{line, over_line, page_lines, refuses_with, spent, told}
 use Rattle.run_rules.specs.Past.{next, past}
-use Rattle.run_rules.specs.Telling.{Past, Telling, start}
+use Rattle.run_rules.specs.RunReport.{Past, RunReport, start}
 use Rattle.run_rules.proofs.ListLemmas.{all_weaker}
 use Rattle.run_trace.specs.Recorded.{RunSoFar, IsRunOfScript, past_of}
 use Rattle.world_parts.specs.Shown.{HasBegun, IsOnce, is_place, places_in}
 use Rattle.world_parts.proofs.BegunLemmas.{begun_next}
 use Rattle.world_parts.proofs.ShownLemmas.{places_append}
-use Rattle.world_parts.proofs.LineLemmas.{HasOnePlace, IsCallLine, IsOf, Plain, begun_of, other_of, same_command, same_tells, told_of}
+use Rattle.world_parts.proofs.LineLemmas.{HasOnePlace, IsCallLine, IsOf, Plain, begun_of, other_of, same_command, same_reports, reported_of}
 
 -- a command begins, or none does
 begins_or : (h : Happening) → ((c : ℕ) × (h ≡ happenings.Begun c)) ⊎ ((c : ℕ) → h ≡ happenings.Begun c → ⊥)
@@ -50,11 +50,11 @@ begins_of r =
     all_of r.places r.asked (Begins r) (start r.places) r.happenings (record { running = inl refl; lines = tt; tells = record { lines = refl; own = tt; others = tt; stops = tt; calls = tt } })
     (λ c before later split. inr (before, later, split))
 
-pub lines_begun : (r : RunSoFar) → AllByRecursion (λ (l : AnswerLine). Begins r l.command) (past_of r).telling.lines
+pub lines_begun : (r : RunSoFar) → AllByRecursion (λ (l : AnswerLine). Begins r l.command) (past_of r).run_report.lines
 lines_begun r = (begins_of r).lines
 
-pub told_begun : (r : RunSoFar) → AllByRecursion (λ (l : AnswerLine). Begins r l.command) (told (past_of r).facts (past_of r).telling)
-told_begun r = told_of (Begins r) (past_of r) (begins_of r)
+pub told_begun : (r : RunSoFar) → AllByRecursion (λ (l : AnswerLine). Begins r l.command) (told (past_of r).facts (past_of r).run_report)
+told_begun r = reported_of (Begins r) (past_of r) (begins_of r)
 
 -- ---- each command has one such line at most
 
@@ -76,7 +76,7 @@ own_places n (s ∷ ss) (inl plain) = by (is_place s) refl
     by false is = inl (rw (is, plain_places n ss plain) refl)
 own_places n (s ∷ ss) (inr rest) = elim (own_places n ss rest.1) [ inl none ↦ inl (rw (rest.0, none) refl) | inr one ↦ inr (rw (rest.0, one) refl) ]
 
-over_plain : (f : Facts) (t : Telling) → Plain (over_line f t)
+over_plain : (f : Facts) (t : RunReport) → Plain (over_line f t)
 over_plain f t = by (spent t.deliveries && is_some (first_flying f.net))
   where
     by : (b : Bool) → Plain (if b then one (refuses_with (dtx 5 [])) else [])
@@ -115,14 +115,14 @@ places_below n (l ∷ ls) all = by (is_place l.said) (places_below n ls all.1)
 -- of each that stands for a disk.
 pub record IsNumbered (p : Past) : Type 0 where
   pub is : IsOf (λ c. c ≤ p.facts.command) p
-  pub once : IsOnce (places_in p.telling.lines)
-  pub below : AllByRecursion (λ (l : AnswerLine). l.command < p.facts.command) p.telling.lines
+  pub once : IsOnce (places_in p.run_report.lines)
+  pub below : AllByRecursion (λ (l : AnswerLine). l.command < p.facts.command) p.run_report.lines
 
 -- all lines have one place of a command at most
-pub numbered_told : (p : Past) → IsNumbered p → IsOnce (places_in (told p.facts p.telling))
+pub numbered_told : (p : Past) → IsNumbered p → IsOnce (places_in (told p.facts p.run_report))
 numbered_told p numbered =
     let f = p.facts in
-    let t = p.telling in
+    let t = p.run_report in
     let n = f.command in
     let stops : List Said = t.page.stops ++ over_line f t in
     let own : List AnswerLine = map (line n) t.page.own in
@@ -141,13 +141,13 @@ numbered_told p numbered =
 wider : (Q R : ℕ → Type 0) (p : Past) → ((c : ℕ) → Q c → R c) → IsOf Q p → IsOf R p
 wider Q R p f is = record {
   running = f p.facts.command is.running;
-  lines = all_weaker (λ l. Q l.command) (λ l. R l.command) (λ l of. f l.command of) p.telling.lines is.lines;
+  lines = all_weaker (λ l. Q l.command) (λ l. R l.command) (λ l of. f l.command of) p.run_report.lines is.lines;
   tells = record {
     lines = is.tells.lines;
     own = is.tells.own;
-    others = all_weaker (IsCallLine Q) (IsCallLine R) (λ l of. record { of = f l.command of.of; plain = of.plain }) p.telling.page.others is.tells.others;
+    others = all_weaker (IsCallLine Q) (IsCallLine R) (λ l of. record { of = f l.command of.of; plain = of.plain }) p.run_report.page.others is.tells.others;
     stops = is.tells.stops;
-    calls = all_weaker (λ c. Q c.command) (λ c. R c.command) (λ c of. f c.command of) p.telling.calls is.tells.calls;
+    calls = all_weaker (λ c. Q c.command) (λ c. R c.command) (λ c of. f c.command of) p.run_report.calls is.tells.calls;
   };
 }
 
@@ -157,17 +157,17 @@ module _ (places : List Place) (asked : List Command) where
   begun_numbered p c numbered next_is = record {
     is = begun_of (λ d. d ≤ c) places asked p c (wider (λ d. d ≤ p.facts.command) (λ d. d ≤ c) p (λ d less. omega (arith, less, next_is)) numbered.is) (omega arith);
     once = numbered_told p numbered;
-    below = all_weaker (λ l. l.command ≤ p.facts.command) (λ l. l.command < c) (λ l less. omega (arith, less, next_is)) (told p.facts p.telling) (told_of (λ d. d ≤ p.facts.command) p numbered.is);
+    below = all_weaker (λ l. l.command ≤ p.facts.command) (λ l. l.command < c) (λ l less. omega (arith, less, next_is)) (told p.facts p.run_report) (reported_of (λ d. d ≤ p.facts.command) p numbered.is);
   }
 
   other_numbered : (p : Past) (h : Happening) → IsNumbered p → ((c : ℕ) → h ≡ happenings.Begun c → ⊥) → IsNumbered (next places asked p h)
   other_numbered p h numbered none =
-      let lines : (next places asked p h).telling.lines ≡ p.telling.lines = (same_tells (λ c. c ≤ p.facts.command) places asked p h numbered.is none).lines in
+      let lines : (next places asked p h).run_report.lines ≡ p.run_report.lines = (same_reports (λ c. c ≤ p.facts.command) places asked p h numbered.is none).lines in
       let command : (next places asked p h).facts.command ≡ p.facts.command = same_command (λ c. c ≤ p.facts.command) places asked p h none in
       record {
         is = subst (λ (n : ℕ). IsOf (λ c. c ≤ n) (next places asked p h)) (sym command) (other_of (λ c. c ≤ p.facts.command) places asked p h numbered.is none);
         once = subst (λ (ls : List AnswerLine). IsOnce (places_in ls)) (sym lines) numbered.once;
-        below = subst (λ (n : ℕ). AllByRecursion (λ (l : AnswerLine). l.command < n) (next places asked p h).telling.lines) (sym command)
+        below = subst (λ (n : ℕ). AllByRecursion (λ (l : AnswerLine). l.command < n) (next places asked p h).run_report.lines) (sym command)
             (subst (λ (ls : List AnswerLine). AllByRecursion (λ (l : AnswerLine). l.command < p.facts.command) ls) (sym lines) numbered.below);
       }
 

@@ -4,7 +4,7 @@ use Rattle.std.proofs.Math.Seq.{drop-cons, take-suc}
 use Rattle.std.proofs.lemmas.List.{take-append-drop}
 use Rattle.std.specs.List.{AllByRecursion, list_any}
 use Rattle.run_rules.specs.Data.{AnswerLine}
-use Rattle.world_parts.specs.Shown.{IsOnce, Shown, disk_told, is_place, places_in, shown_at, showing}
+use Rattle.world_parts.specs.Shown.{IsOnce, Shown, disk_reported, is_place, places_in, shown_at, showing}
 
 -- What is left to show once these lines have theirs: for every command that is none of theirs, what was shown.
 pub record IsLeftOf (lines : List AnswerLine) (before left : Shown) : Type 0 where
@@ -28,7 +28,7 @@ places_append (x ∷ xs) ys = by (is_place x.said) (places_append xs ys)
     by false later = later
 
 -- a line is told as if nothing had been taken for the lines before it
-pub told_next : (xs : List AnswerLine) (x : AnswerLine) (rest : List AnswerLine) (before left : Shown) → IsOnce (places_in (xs ++ x ∷ rest)) → IsLeftOf xs before left → disk_told left x ≡ disk_told before x
+pub told_next : (xs : List AnswerLine) (x : AnswerLine) (rest : List AnswerLine) (before left : Shown) → IsOnce (places_in (xs ++ x ∷ rest)) → IsLeftOf xs before left → disk_reported left x ≡ disk_reported before x
 told_next xs x rest before left once others = by (is_place x.said) refl
   where
     by : (b : Bool) → is_place x.said ≡ b → (if b then showing x (shown_at left x.command) else x) ≡ (if b then showing x (shown_at before x.command) else x)
@@ -70,10 +70,10 @@ not_yet f [] i x less = absurd (omega (arith, less))
 not_yet f (l ∷ ls) zero x less = refl
 not_yet f (l ∷ ls) (suc i) x less = not_yet f ls i x (omega (arith, less))
 
-module _ (before left : Shown) (lines items : List AnswerLine) (i : ℕ) (x : AnswerLine) (less : i < length lines) (so_far : items ≡ map (disk_told before) (take i lines) ++ drop i lines) (is : x ≡ get_or items i x)
+module _ (before left : Shown) (lines items : List AnswerLine) (i : ℕ) (x : AnswerLine) (less : i < length lines) (so_far : items ≡ map (disk_reported before) (take i lines) ++ drop i lines) (is : x ≡ get_or items i x)
     (others : IsLeftOf (take i lines) before left) where
   here : get_or lines i x ≡ x
-  here = sym (is ∙ (ap (λ (ls : List AnswerLine). get_or ls i x) so_far ∙ not_yet (disk_told before) lines i x less))
+  here = sym (is ∙ (ap (λ (ls : List AnswerLine). get_or ls i x) so_far ∙ not_yet (disk_reported before) lines i x less))
 
   up_to : take (i + 1) lines ≡ take i lines ++ x ∷ []
   up_to =
@@ -83,7 +83,7 @@ module _ (before left : Shown) (lines items : List AnswerLine) (i : ℕ) (x : An
   whole : lines ≡ take i lines ++ x ∷ drop (suc i) lines
   whole = sym (take-append-drop i lines) ∙ ap (λ (ls : List AnswerLine). take i lines ++ ls) (drop-cons lines i x less ∙ ap (λ (y : AnswerLine). y ∷ drop (suc i) lines) here)
 
-  pub told_here : IsOnce (places_in lines) → disk_told left x ≡ disk_told before x
+  pub told_here : IsOnce (places_in lines) → disk_reported left x ≡ disk_reported before x
   told_here once = told_next (take i lines) x (drop (suc i) lines) before left (subst (λ (ls : List AnswerLine). IsOnce (places_in ls)) whole once) others
 
   pub left_here : (now : Shown) → ((c : ℕ) → (is_place x.said && (x.command == c)) ≡ false → shown_at now c ≡ shown_at left c) → IsLeftOf (take (i + 1) lines) before now

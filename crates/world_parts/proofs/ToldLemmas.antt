@@ -10,7 +10,7 @@ use Rattle.run_rules.specs.Reported.{StandsFor, LineIs, LinesAre, disk_of, is_sh
 use Rattle.run_rules.specs.Lawful.{AreOfAScript}
 use Rattle.run_rules.specs.Lines.{told}
 use Rattle.run_trace.specs.Recorded.{RunSoFar, past_of}
-use Rattle.world_parts.specs.Shown.{HasBegun, ShowDisks, Shown, ShowsDiskAt, disk_told, history_of, is_place, shown_at, showing}
+use Rattle.world_parts.specs.Shown.{HasBegun, ShowDisks, Shown, ShowsDiskAt, disk_reported, history_of, is_place, shown_at, showing}
 use Rattle.world_parts.proofs.PlaceLemmas.{Begins, lines_begun, told_begun}
 
 -- a shown disk is of SHOW DISK, and stands for one
@@ -61,14 +61,14 @@ module _ (r : RunSoFar) (script : AreOfAScript r.places r.asked) (shown : Shown)
   line_is due false true place is begins = absurd (cc (place, (shows_place (command_at r.asked due.command) due.said is).1))
   line_is due false false place is begins = refl
 
-  pub lines_are : (dues : List AnswerLine) → AllByRecursion (λ (l : AnswerLine). Begins r l.command) dues → LinesAre (history_of r script) dues (map (disk_told shown) dues)
+  pub lines_are : (dues : List AnswerLine) → AllByRecursion (λ (l : AnswerLine). Begins r l.command) dues → LinesAre (history_of r script) dues (map (disk_reported shown) dues)
   lines_are [] begins = tt
   lines_are (due ∷ dues) begins = (line_is due (is_place due.said) (is_disk due) refl refl begins.0, lines_are dues begins.1)
 
   -- all lines, with the disks that were shown
-  pub told_are : LinesAre (history_of r script) (told (past_of r).facts (past_of r).telling) (map (disk_told shown) (told (past_of r).facts (past_of r).telling))
-  told_are = lines_are (told (past_of r).facts (past_of r).telling) (told_begun r)
+  pub told_are : LinesAre (history_of r script) (told (past_of r).facts (past_of r).run_report) (map (disk_reported shown) (told (past_of r).facts (past_of r).run_report))
+  told_are = lines_are (told (past_of r).facts (past_of r).run_report) (told_begun r)
 
   -- those of the commands before the one that runs
-  pub before_are : LinesAre (history_of r script) (past_of r).telling.lines (map (disk_told shown) (past_of r).telling.lines)
-  before_are = lines_are (past_of r).telling.lines (lines_begun r)
+  pub before_are : LinesAre (history_of r script) (past_of r).run_report.lines (map (disk_reported shown) (past_of r).run_report.lines)
+  before_are = lines_are (past_of r).run_report.lines (lines_begun r)

@@ -64,5 +64,5 @@ showing line None = line
 showing line (Some lines) = record line { said = said.World (notices.Shown lines) }
 
 -- a line as it is told: where it stands for the bytes of a disk, with what its command showed
-abbrev pub disk_told : Shown → AnswerLine → AnswerLine
-disk_told shown line = if is_place line.said then showing line (shown_at shown line.command) else line
+abbrev pub disk_reported : Shown → AnswerLine → AnswerLine
+disk_reported shown line = if is_place line.said then showing line (shown_at shown line.command) else line

@@ -4,7 +4,7 @@ use Rattle.tran_ids.specs.Listed.{item_at}
 use Rattle.session_tree.specs.Tree.{count}
 use Rattle.node_rules.specs.Data.{Live}
 use Rattle.node_rules.specs.declared.work.Work.{Work}
-use Rattle.node_rules.specs.Kept.{live_id, saying}
+use Rattle.node_rules.specs.NodeState.{live_id, saying}
 use Rattle.node_rules.specs.Calls.{next_call}
 use Rattle.node_state.specs.Lives.{advised}
 use Rattle.node_state.specs.Works.{work_of}

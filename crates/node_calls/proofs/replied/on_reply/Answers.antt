@@ -4,7 +4,7 @@ use Rattle.std.specs.Option.{option_map}
 use Rattle.tran_ids.specs.Listed.{item_at}
 use Rattle.session_tree.specs.Tree.{count}
 use Rattle.node_rules.specs.Data.{Live}
-use Rattle.node_rules.specs.Kept.{live_id}
+use Rattle.node_rules.specs.NodeState.{live_id}
 use Rattle.node_state.specs.Lives.{heard}
 use Rattle.node_memory.specs.Parts.{kept_in}
 use Rattle.node_calls.specs.Handled.{replier_as}

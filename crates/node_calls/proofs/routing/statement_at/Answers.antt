@@ -3,7 +3,7 @@ use Rattle.std.proofs.Common.{◌<◌, ◌^◌, List, IfSome, refl, sym, subst}
 use Rattle.tran_ids.specs.Listed.{item_at}
 use Rattle.session_tree.specs.Tree.{count}
 use Rattle.node_rules.specs.Data.{Live}
-use Rattle.node_rules.specs.Kept.{live_id}
+use Rattle.node_rules.specs.NodeState.{live_id}
 use Rattle.node_rules.specs.Statement.{makes_changes}
 use Rattle.node_state.specs.Lives.{changed_by}
 use Rattle.node_memory.specs.Parts.{kept_in, stored_in}

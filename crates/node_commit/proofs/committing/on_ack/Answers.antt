@@ -2,7 +2,7 @@ use Rattle.std.proofs.Common.{sym, ap, subst, ◌∙◌}
 use Rattle.std.specs.Prelude.{IfOk}
 use Rattle.node_memory.specs.Parts.{kept_in}
 use Rattle.node_rules.specs.Data.{Standing}
-use Rattle.node_rules.specs.Kept.{nothing, standing_at}
+use Rattle.node_rules.specs.NodeState.{nothing, standing_at}
 use Rattle.node_rules.specs.Commit.{on_ack}
 use Rattle.node_deeds.specs.Gives.{Gives}
 use Rattle.node_memory.specs.Acks.{with_ack}

@@ -1,7 +1,7 @@
 use Rattle.std.proofs.Common.{sym, subst, ◌∙◌}
 use Rattle.std.specs.Prelude.{IfOk}
 use Rattle.node_memory.specs.Parts.{kept_in}
-use Rattle.node_rules.specs.Kept.{live_at}
+use Rattle.node_rules.specs.NodeState.{live_at}
 use Rattle.node_deeds.specs.Gives.{Gives}
 use Rattle.node_commit.proofs.PrepareLemmas.{collects_by, is_there}
 use Rattle.node_commit.proofs.preparing.collects.Goals as goal

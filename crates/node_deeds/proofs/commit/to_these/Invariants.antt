@@ -1,6 +1,6 @@
 -- The messages to the neighbours so far.
 use Rattle.std.proofs.Common.{◌≡◌, map, take}
-use Rattle.node_rules.specs.Kept.{to_each}
+use Rattle.node_rules.specs.NodeState.{to_each}
 use Rattle.node_deeds.proofs.commit.to_these.Given as goal
 
 abbrev pub invariant-loop-neighbor : goal.invariant-loop-neighbor

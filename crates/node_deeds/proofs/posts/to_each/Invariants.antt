@@ -1,6 +1,6 @@
 -- The messages to those so far.
 use Rattle.std.proofs.Common.{◌≡◌, take}
-use Rattle.node_rules.specs.Kept.{to_each}
+use Rattle.node_rules.specs.NodeState.{to_each}
 use Rattle.node_deeds.proofs.posts.to_each.Given as goal
 
 abbrev pub invariant-loop-to : goal.invariant-loop-to

@@ -1,6 +1,6 @@
 -- The messages from before, then those to the children so far.
 use Rattle.std.proofs.Common.{◌≡◌, ◌++◌, map, take}
-use Rattle.node_rules.specs.Kept.{to_each}
+use Rattle.node_rules.specs.NodeState.{to_each}
 use Rattle.node_deeds.proofs.prepare.add_to_children.Given as goal
 
 abbrev pub invariant-loop-edge : goal.invariant-loop-edge

@@ -2,7 +2,7 @@ use Rattle.std.proofs.Common.{◌≡◌, ◌==◌, ◌&&◌, ℕ, List, false, r
 use Rattle.std.proofs.Math.ListN.{set}
 use Rattle.std.proofs.lemmas.List.Edits.{map_over_more}
 use Rattle.run_rules.specs.Data.{AnswerLine}
-use Rattle.world_parts.specs.Shown.{IsOnce, disk_told, is_place, places_in, shown_at}
+use Rattle.world_parts.specs.Shown.{IsOnce, disk_reported, is_place, places_in, shown_at}
 use Rattle.world_parts.proofs.ShownLemmas.{left_here, told_here}
 use Rattle.world_parts.proofs.lines.with_disks.Goals as goal
 
@@ -19,8 +19,8 @@ loop-line-preserved c =
     let inv = c.loop-line.invariant in
     let once = subst (λ (ls : List AnswerLine). IsOnce (places_in ls)) (sym (c.deref_mut-line-items.ensures.value ∙ c.into_vec-lines.ensures)) c.requires in (
       ap (set c.loop-line.line-items i)
-          (c.put_disk.ensures.told ∙ (ap (disk_told left) (sym c.line-item.is) ∙ told_here before left lines c.loop-line.line-items i x c.loop-line-test.true inv.0 c.line-item.is inv.1 once))
-          ∙ map_over_more (disk_told before) lines c.loop-line.line-items i x c.loop-line-test.true inv.0 c.line-item.is,
+          (c.put_disk.ensures.told ∙ (ap (disk_reported left) (sym c.line-item.is) ∙ told_here before left lines c.loop-line.line-items i x c.loop-line-test.true inv.0 c.line-item.is inv.1 once))
+          ∙ map_over_more (disk_reported before) lines c.loop-line.line-items i x c.loop-line-test.true inv.0 c.line-item.is,
       left_here before left lines c.loop-line.line-items i x c.loop-line-test.true inv.0 c.line-item.is inv.1 c.put_disk.new.shown
           (subst (λ (y : AnswerLine). (d : ℕ) → (is_place y.said && (y.command == d)) ≡ false → shown_at c.put_disk.new.shown d ≡ shown_at left d) (sym c.line-item.is) c.put_disk.ensures.others),
     )

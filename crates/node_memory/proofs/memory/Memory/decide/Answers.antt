@@ -1,6 +1,6 @@
 use Rattle.std.proofs.Common.{◌≡◌, sym, subst}
 use Rattle.redo_record.specs.Kept.{kept_after}
-use Rattle.node_rules.specs.Kept.{without_branch}
+use Rattle.node_rules.specs.NodeState.{without_branch}
 use Rattle.node_rules.specs.Records.{with_record}
 use Rattle.node_memory.specs.Parts.{kept_in}
 use Rattle.node_memory.specs.Leaving.{IsOwnDecision}

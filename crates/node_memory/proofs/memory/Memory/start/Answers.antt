@@ -1,6 +1,6 @@
 use Rattle.std.proofs.Common.{◌≡◌, max, sym, ap, subst, ◌∙◌, rules}
 use Rattle.std.specs.Prelude.{fold}
-use Rattle.node_rules.specs.Kept.{Kept}
+use Rattle.node_rules.specs.NodeState.{NodeState}
 use Rattle.node_rules.specs.Records.{nothing_stored, stored_by}
 use Rattle.node_rules.specs.Turn.{with_doubt_of, kept_by}
 use Rattle.node_memory.specs.Parts.{kept_in}
@@ -12,18 +12,18 @@ use Rattle.node_memory.proofs.StartLaws.{started}
 use Rattle.node_memory.proofs.memory.Memory.start.Goals as goal
 
 pub replay-requires : goal.replay-requires
-replay-requires c = subst (λ (k : Kept). MayAllFollow k.stored c.args.records.now) (sym c.requires.none) c.requires.follow
+replay-requires c = subst (λ (k : NodeState). MayAllFollow k.stored c.args.records.now) (sym c.requires.none) c.requires.follow
 
 pub returns-clause-kept : goal.returns-clause-kept
 returns-clause-kept c =
     let rs = c.args.records.now in
     let m = kept_in c.replay.new.self in
     let is : m ≡ with_stored (kept_by nothing_stored) (stored_by nothing_stored rs) =
-    c.in_ok-replay.ensures.kept ∙ ap (λ (k : Kept). with_stored k (stored_by k.stored rs)) c.requires.none in
+    c.in_ok-replay.ensures.kept ∙ ap (λ (k : NodeState). with_stored k (stored_by k.stored rs)) c.requires.none in
     let doubts : c.as_slice.result.now ≡ c.in_ok-doubts.doubts.items = search rules in
     let keys = c.in_ok-hold_all.ensures
     ∙ ap (λ ds. fold (λ held r. with_keys_of held r.now) m.locks ds) doubts
-    ∙ ap (λ ls. fold (λ held r. with_keys_of held r.now) ls c.in_ok-doubts.doubts.items) (ap (λ (k : Kept). k.locks) is)
+    ∙ ap (λ ls. fold (λ held r. with_keys_of held r.now) ls c.in_ok-doubts.doubts.items) (ap (λ (k : NodeState). k.locks) is)
     ∙ locks_at_start (λ r. r.now) c.in_ok-doubts.doubts.items rs c.in_ok-doubts.ensures
-    ∙ sym (ap (λ (k : Kept). fold with_doubt_of k.locks k.stored.doubts) is) in
+    ∙ sym (ap (λ (k : NodeState). fold with_doubt_of k.locks k.stored.doubts) is) in
     started m rs c.meet.new.self c.hold_all.new.locks is (c.meet.ensures ∙ ap (max m.clock) c.now-scn.ensures) keys

@@ -6,7 +6,7 @@ use Rattle.dtx_values.specs.Limits.{branch_limit}
 use Rattle.tran_ids.specs.Listed.{item_at}
 use Rattle.session_tree.specs.declared.live.Live.{Live}
 use Rattle.session_tree.specs.Live.{add_edge}
-use Rattle.node_rules.specs.Kept.{live_id}
+use Rattle.node_rules.specs.NodeState.{live_id}
 use Rattle.node_state.specs.ByBranch.{AreKeyed}
 use Rattle.node_state.specs.Changed.{change_item}
 use Rattle.node_state.specs.Lives.{HasRoom}

@@ -3,7 +3,7 @@ use Rattle.std.specs.Option.{option_map}
 use Rattle.std.specs.Map.{lookup, keys_of, values_of}
 use Rattle.tran_ids.specs.Listed.{item_at}
 use Rattle.session_tree.specs.declared.live.Live.{Live}
-use Rattle.node_rules.specs.Kept.{live_id}
+use Rattle.node_rules.specs.NodeState.{live_id}
 use Rattle.prepare_phase.specs.Acts.{heard_act, after_answer}
 use Rattle.node_state.proofs.LiveLaws.{has_room, answered_keeps}
 use Rattle.node_state.specs.Changed.{change_item}

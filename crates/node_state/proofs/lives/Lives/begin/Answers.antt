@@ -4,7 +4,7 @@ use Rattle.indexmap.specs.IndexMap.{insert_entry}
 use Rattle.indexmap.proofs.CallerLemmas.{insert_entry-new}
 use Rattle.tran_ids.specs.Listed.{item_at}
 use Rattle.session_tree.specs.declared.live.Live.{Live}
-use Rattle.node_rules.specs.Kept.{live_id}
+use Rattle.node_rules.specs.NodeState.{live_id}
 use Rattle.node_state.specs.ByBranch.{AreKeyed}
 use Rattle.node_state.specs.Lives.{HasRoom}
 use Rattle.node_state.proofs.BranchLaws.{found_as, put_is, put_absent, absent_from, keyed_push}

@@ -1,6 +1,6 @@
 use Rattle.std.proofs.Common.{◌≡◌, ◌||◌, Option, None, Some, is_some, position, sym, ap, subst, ◌∙◌, refl}
 use Rattle.std.specs.Map.{lookup, keys_of}
-use Rattle.node_rules.specs.Kept.{live_id}
+use Rattle.node_rules.specs.NodeState.{live_id}
 use Rattle.session_tree.specs.declared.live.Live.{Live}
 use Rattle.node_state.specs.Lives.{changed_by}
 use Rattle.node_state.proofs.LiveLaws.{has_room, still_changed}

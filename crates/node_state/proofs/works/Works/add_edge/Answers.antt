@@ -3,7 +3,7 @@ use Rattle.std.specs.Map.{lookup, keys_of, values_of}
 use Rattle.indexmap.specs.Layout.{set_value_at}
 use Rattle.tran_ids.specs.Listed.{item_at, put_item}
 use Rattle.tran_ids.proofs.ListedLemmas.{item_is}
-use Rattle.node_rules.specs.Kept.{work_id, work_or}
+use Rattle.node_rules.specs.NodeState.{work_id, work_or}
 use Rattle.node_state.specs.ByBranch.{AreKeyed}
 use Rattle.node_state.specs.Works.{AnyWork, work_of, change_work, with_child}
 use Rattle.node_state.proofs.BranchLaws.{found_as, found, still_keyed, same_set, keyed_placed, none_there}

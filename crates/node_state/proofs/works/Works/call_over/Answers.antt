@@ -2,7 +2,7 @@ use Rattle.std.proofs.Common.{◌≡◌, None, sym, ap, subst, ◌∙◌}
 use Rattle.tran_ids.specs.Listed.{item_at, put_item}
 use Rattle.std.specs.Prelude.{◌<◌, ◌^◌}
 use Rattle.node_rules.specs.declared.work.Work.{Work}
-use Rattle.node_rules.specs.Kept.{work_id}
+use Rattle.node_rules.specs.NodeState.{work_id}
 use Rattle.node_rules.specs.Calls.{next_call}
 use Rattle.node_state.specs.Works.{work_of, called_over}
 use Rattle.node_state.proofs.WorkLaws.{on_err, work_branch}

@@ -17,32 +17,32 @@ pub push-requires : goal.push-requires
 push-requires c =
     let w = c.args.self.now in
     let is = boot_is w c.args.node c.next_boot-boot.result c.requires.begun (λ k at. c.next_boot-boot.ensures k (ap (λ (bs : List ℕ). numbered bs c.args.node) c.deref.ensures.value ∙ at)) in
-    subst (λ (r : RunSoFar). IsNext r (happenings.Started c.args.node c.next_boot-boot.result)) (sym (ap (λ (x : World). x.trace) c.tell_start.ensures.same))
+    subst (λ (r : RunSoFar). IsNext r (happenings.Started c.args.node c.next_boot-boot.result)) (sym (ap (λ (x : World). x.trace) c.report_start.ensures.same))
     (subst (λ (k : ℕ). IsNext w.trace (happenings.Started c.args.node k)) (sym is) c.requires.begun.next)
 
 pub returns-clause-booted : goal.returns-clause-booted
 returns-clause-booted c =
     let w = c.args.self.now in
     let n = c.args.node in
-    let same = c.tell_start.ensures.same in
+    let same = c.report_start.ensures.same in
     let is = boot_is w n c.next_boot-boot.result c.requires.begun (λ k at. c.next_boot-boot.ensures k (ap (λ (bs : List ℕ). numbered bs n) c.deref.ensures.value ∙ at)) in
-    let boots = c.tell_start.new.self.boots in
+    let boots = c.report_start.new.self.boots in
     let counted : c.count_boot.new.boots ≡ set_numbered boots.items n c.next_boot-boot.result = c.count_boot.ensures ∙ ap (λ (bs : List ℕ). set_numbered bs n c.next_boot-boot.result) c.deref_mut.ensures.value in
     let kept : (with_items boots c.count_boot.new.boots).items ≡ c.count_boot.new.boots =
     with_items_is boots c.count_boot.new.boots (ap (λ (bs : List ℕ). length bs) counted ∙ (set_length boots.items n c.next_boot-boot.result ∙ sym boots.ok.0)) in
-    boots_so w (record c.tell_start.new.self { trace = c.push.new.self; boots = with_items c.tell_start.new.self.boots c.count_boot.new.boots; net = c.start.new.self }) n c.requires.begun
-    (pushed_in w.trace c.tell_start.new.self.trace c.push.new.self (happenings.Started n (boot_at w n)) (ap (λ (x : World). x.trace) same)
-    (subst (λ (k : ℕ). IsPushed c.tell_start.new.self.trace c.push.new.self (happenings.Started n k)) is (record { is = c.in_ok-push.ensures.ok; past = c.in_ok-push.ensures.past; few = c.in_ok-push.ensures.few })))
+    boots_so w (record c.report_start.new.self { trace = c.push.new.self; boots = with_items c.report_start.new.self.boots c.count_boot.new.boots; net = c.start.new.self }) n c.requires.begun
+    (pushed_in w.trace c.report_start.new.self.trace c.push.new.self (happenings.Started n (boot_at w n)) (ap (λ (x : World). x.trace) same)
+    (subst (λ (k : ℕ). IsPushed c.report_start.new.self.trace c.push.new.self (happenings.Started n k)) is (record { is = c.in_ok-push.ensures.ok; past = c.in_ok-push.ensures.past; few = c.in_ok-push.ensures.few })))
     (record {
       running = ap (λ (x : World). x.running) same;
       losses = ap (λ (x : World). x.losses.items) same;
       to_stop = ap (λ (x : World). x.to_stop) same;
-      sites = ap (λ (x : World). x.sites.items) same;
+      slots = ap (λ (x : World). x.slots.items) same;
       shown = ap (λ (x : World). x.shown) same;
       net = c.start.ensures ∙ ap (λ (x : World). started x.net n) same;
       boots = kept
           ∙ (counted
           ∙ (ap (λ (x : World). set_numbered x.boots.items n c.next_boot-boot.result) same
           ∙ ap (λ (k : ℕ). set_numbered w.boots.items n k) is));
-      telling = c.in_ok-tell_start.ensures.tells;
+      run_report = c.in_ok-report_start.ensures.tells;
     })

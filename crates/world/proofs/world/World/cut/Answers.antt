@@ -1,6 +1,6 @@
 use Rattle.std.proofs.Common.{refl, ◌∙◌, ap}
 use Rattle.world.proofs.NetworkLemmas.{cut_steps}
-use Rattle.run_rules.specs.Telling.{Past}
+use Rattle.run_rules.specs.RunReport.{Past}
 use Rattle.run_trace.specs.Recorded.{past_of}
 use Rattle.world.proofs.FallLemmas.{orders_stay}
 use Rattle.world.proofs.NetworkLemmas.{next_cut}
@@ -8,9 +8,9 @@ use Rattle.world.proofs.world.World.cut.Goals as goal
 
 pub returns-clause-steps : goal.returns-clause-steps
 returns-clause-steps c =
-    cut_steps c.args.self.now _ c.requires.linked (record { running = refl; to_stop = refl; boots = refl; sites = refl; shown = refl }) c.act.ensures c.args.a c.args.b c.requires.due (record { is = c.in_ok-push.ensures.ok; past = c.in_ok-push.ensures.past; few = c.in_ok-push.ensures.few }) c.in_ok-lost.ensures.cut (c.in_ok-self.ensures ∙ (c.into_vec.ensures ∙ c.in_ok-lost.ensures.lost))
+    cut_steps c.args.self.now _ c.requires.linked (record { running = refl; to_stop = refl; boots = refl; slots = refl; shown = refl }) c.act.ensures c.args.a c.args.b c.requires.due (record { is = c.in_ok-push.ensures.ok; past = c.in_ok-push.ensures.past; few = c.in_ok-push.ensures.few }) c.in_ok-lost.ensures.cut (c.in_ok-self.ensures ∙ (c.into_vec.ensures ∙ c.in_ok-lost.ensures.lost))
 
 pub returns-clause-orders : goal.returns-clause-orders
 returns-clause-orders c =
     let w = c.args.self.now in
-    orders_stay w (record w { trace = c.push.new.self }) refl (ap (λ (p : Past). p.telling.orders) (c.in_ok-push.ensures.past ∙ next_cut w.trace.places w.trace.asked (past_of w.trace) c.args.a c.args.b)) c.requires.orders
+    orders_stay w (record w { trace = c.push.new.self }) refl (ap (λ (p : Past). p.run_report.orders) (c.in_ok-push.ensures.past ∙ next_cut w.trace.places w.trace.asked (past_of w.trace) c.args.a c.args.b)) c.requires.orders

@@ -1,8 +1,8 @@
 use Rattle.std.proofs.Common.{is_some, Option, sym, ap, ◌∙◌}
-use Rattle.node_rules.specs.Kept.{Kept}
+use Rattle.node_rules.specs.NodeState.{NodeState}
 use Rattle.run_rules.specs.Disks.{DiskOrders, Strike, struck}
 use Rattle.run_rules.specs.Facts.{is_up}
-use Rattle.run_rules.specs.Telling.{orders_at}
+use Rattle.run_rules.specs.RunReport.{orders_at}
 use Rattle.run_trace.specs.Recorded.{past_of}
 use Rattle.world.specs.declared.world.World.{World}
 use Rattle.world.specs.Halts.{HasHalted}
@@ -48,7 +48,7 @@ halt-requires-clause-up c =
     let w = c.args.self.now in
     let n = c.args.node in
     let down = start_is_down w n c.requires.linked c.requires.due c.starts_can_be_made.ensures.nodes c.starts_can_be_made.ensures.starts in
-    sym (ap (λ (x : World). is_up (past_of x.trace).facts n) c.try_start.ensures.same ∙ ap (λ (o : Option Kept). is_some o) down)
+    sym (ap (λ (x : World). is_up (past_of x.trace).facts n) c.try_start.ensures.same ∙ ap (λ (o : Option NodeState). is_some o) down)
 
 pub returns-in-None-clause-steps : goal.returns-in-None-clause-steps
 returns-in-None-clause-steps c =
@@ -62,7 +62,7 @@ returns-in-None-clause-steps c =
     (ap (λ (o : Option Strike). stands_in o) none) in
     on_ok c.boot.result (HasBooted n v c.boot.new.self) _ c.boot.ensures.booted (λ booted.
     booted_on w v c.boot.new.self n (ap (λ (x : World). x.trace) same) begun (ap (λ (x : World). due_in x.trace) same ∙ c.requires.due) booted
-    (ap (λ (x : World). struck 3 (orders_at (past_of x.trace).telling n)) same ∙ none))
+    (ap (λ (x : World). struck 3 (orders_at (past_of x.trace).run_report n)) same ∙ none))
 
 pub returns-else-strike-clause-orders : goal.returns-else-strike-clause-orders
 returns-else-strike-clause-orders c =

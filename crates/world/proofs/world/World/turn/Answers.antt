@@ -11,13 +11,13 @@ take_turn-requires-clause-there c =
 
 pub returns-in-Ok-clause-left : goal.returns-in-Ok-clause-left
 returns-in-Ok-clause-left c =
-    let still = served_still c.args.self.now c.take_turn.new.self c.requires.linked c.take_turn.ensures.trace c.take_turn.ensures.telling c.take_turn.ensures.shown in
+    let still = served_still c.args.self.now c.take_turn.new.self c.requires.linked c.take_turn.ensures.trace c.take_turn.ensures.run_report c.take_turn.ensures.shown in
     still_through c.turn_whole.result c.take_turn.new.self c.turn_whole.new.self still c.turn_whole.ensures.left
 
 pub returns-in-Err-Cut-clause-left : goal.returns-in-Err-Cut-clause-left
 returns-in-Err-Cut-clause-left c =
-    let still = served_still c.args.self.now c.take_turn.new.self c.requires.linked c.take_turn.ensures.trace c.take_turn.ensures.telling c.take_turn.ensures.shown in
+    let still = served_still c.args.self.now c.take_turn.new.self c.requires.linked c.take_turn.ensures.trace c.take_turn.ensures.run_report c.take_turn.ensures.shown in
     still_through c.turn_cut.result c.take_turn.new.self c.turn_cut.new.self still c.turn_cut.ensures.left
 
 pub returns-in-Err-NoMemory-clause-left : goal.returns-in-Err-NoMemory-clause-left
-returns-in-Err-NoMemory-clause-left c = served_still c.args.self.now c.take_turn.new.self c.requires.linked c.take_turn.ensures.trace c.take_turn.ensures.telling c.take_turn.ensures.shown
+returns-in-Err-NoMemory-clause-left c = served_still c.args.self.now c.take_turn.new.self c.requires.linked c.take_turn.ensures.trace c.take_turn.ensures.run_report c.take_turn.ensures.shown

@@ -1,0 +1,112 @@
+//! What is told of each command.
+ghost use Rattle.std.specs.Prelude.{◌≡◌, ◌++◌, flat_map, IfOk, OnOk};
+ghost use Rattle.report.specs.Report.{said_text};
+ghost use Rattle.chart_captions.specs.Tale.{wrapped as wrapped_text, answer_if, reported_of, tale_from};
+
+use crate::command::put_command;
+use book::{AnswerLine, Said};
+use dtx_values::{Bytes, Listing, Name};
+use report::{answer_lines, notice_lines};
+use chart_marks::Told;
+use script_read::Command;
+use std::alloc::{AllocError, Global};
+
+const LINE_WIDTH: usize = 58;
+
+// A text in lines.
+fn wrapped(alloc: Global, text: &[u8]) -> Result<Vec<Bytes>, AllocError>
+    ensures { IfOk result (λ lines. lines.items ≡ wrapped_text text.now) }
+{
+    let mut lines = Vec::new(alloc);
+    let mut line = Vec::new(alloc);
+    for byte in text {
+        if line.len() == LINE_WIDTH {
+            lines.push(Listing::of(line))?;
+            line = Vec::new(alloc);
+        }
+        line.push(*byte)?;
+    }
+    lines.push(Listing::of(line))?;
+    Ok(lines)
+}
+
+fn said_lines(alloc: Global, said: &Said) -> Result<Vec<Bytes>, AllocError>
+    ensures { IfOk result (λ lines. lines.items ≡ said_text said.now) }
+{
+    match said {
+        Said::Node(answer) => answer_lines(alloc, answer),
+        Said::World(notice) => notice_lines(alloc, notice),
+    }
+}
+
+fn put_all(lines: &mut Vec<Bytes>, alloc: Global, texts: &[Bytes]) -> Result<(), AllocError>
+    ensures { OnOk result (lines.new.items ≡ lines.old.items ++ flat_map wrapped_text texts.now) }
+{
+    for text in texts {
+        let mut more = wrapped(alloc, text.as_slice())?;
+        lines.append(&mut more)?;
+    }
+    Ok(())
+}
+
+fn put_answer(
+    lines: &mut Vec<Bytes>,
+    alloc: Global,
+    command: u64,
+    answer: &AnswerLine,
+) -> Result<(), AllocError>
+    ensures { OnOk result (lines.new.items ≡ lines.old.items ++ answer_if command answer.now) }
+{
+    if u64::from(answer.command) == command {
+        let said = said_lines(alloc, &answer.said)?;
+        put_all(lines, alloc, &said)?;
+    }
+    Ok(())
+}
+
+fn answer(alloc: Global, answers: &[AnswerLine], command: u64) -> Result<Vec<Bytes>, AllocError>
+    ensures { IfOk result (λ lines. lines.items ≡ flat_map (answer_if command) answers.now) }
+{
+    let mut lines = Vec::new(alloc);
+    for answer in answers {
+        put_answer(&mut lines, alloc, command, answer)?;
+    }
+    Ok(lines)
+}
+
+fn told(
+    alloc: Global,
+    names: &[Name],
+    answers: &[AnswerLine],
+    number: u64,
+    command: &Command,
+) -> Result<Told, AllocError>
+    ensures { IfOk result (λ told. told ≡ reported_of names.now answers.now number command.now) }
+{
+    let mut text = Vec::new(alloc);
+    put_command(&mut text, alloc, names, command)?;
+    let lines = wrapped(alloc, &text)?;
+    let answer = answer(alloc, answers, number)?;
+    Ok(Told {
+        text: Listing::of(lines),
+        answer: Listing::of(answer),
+    })
+}
+
+/// What is told of each command, where these are the names of all nodes. Fails where memory runs out.
+pub fn tale(
+    alloc: Global,
+    names: &[Name],
+    answers: &[AnswerLine],
+    commands: &[Command],
+) -> Result<Vec<Told>, AllocError>
+    ensures { IfOk result (λ tale. tale.items ≡ tale_from names.now answers.now 1 commands.now) }
+{
+    let mut tale = Vec::new(alloc);
+    let mut number: u64 = 1;
+    for command in commands {
+        tale.push(told(alloc, names, answers, number, command)?)?;
+        number += 1;
+    }
+    Ok(tale)
+}

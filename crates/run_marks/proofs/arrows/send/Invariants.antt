@@ -1,7 +1,0 @@
--- The messages so far are sent, and those to come are sent after them.
-use Rattle.std.proofs.Common.{◌≡◌, drop}
-use Rattle.run_marks.specs.Marks.{with_sent}
-use Rattle.run_marks.proofs.arrows.send.Given as goal
-
-abbrev pub invariant-loop-msg : goal.invariant-loop-msg
-invariant-loop-msg l = with_sent l.arrows.items l.row (drop l.msg-index l.sent) ≡ with_sent l.initial.arrows.items l.row l.sent

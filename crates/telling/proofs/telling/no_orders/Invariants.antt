@@ -1,7 +1,0 @@
--- So many nodes so far, each without an order.
-use Rattle.std.proofs.Common.{◌≡◌, replicate}
-use Rattle.run_rules.specs.Disks.{no_orders}
-use Rattle.telling.proofs.telling.no_orders.Given as goal
-
-abbrev pub invariant-loop : goal.invariant-loop
-invariant-loop l = l.orders.items ≡ replicate l.counter no_orders
