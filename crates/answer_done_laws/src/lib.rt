@@ -8,8 +8,8 @@
 //! such record has its line (`specs/ReportedDone.antt`).
 #![tactic(auto)]
 
-ghost use Rattle.answer_done_laws.specs.DoneLaws.{DoneIsWritten, EachIsAnswered, WrittenIsDone};
-ghost use Rattle.answer_done_laws.specs.StandLaws.{DoneStays, RecordsComeFromCalls};
+ghost use Rattle.answer_done_laws.specs.DoneLaws.{DoneIsWritten};
+ghost use Rattle.answer_done_laws.specs.StandLaws.{RecordsComeFromCalls};
 ghost use Rattle.run_claims.specs.ReportedDone.{DoneIsReported};
 ghost use Rattle.answer_done_laws.specs.TriedDone.{TheTriedDone};
 ghost use Rattle.answer_done_laws.specs.TriedTold.{TheTriedTold};
@@ -18,23 +18,6 @@ ghost use Rattle.answer_done_laws.specs.TriedTold.{TheTriedTold};
 /// what that record tells.
 pub fn done_is_written()
     ensures { DoneIsWritten }
-{}
-
-/// A record of such a statement is written only in a turn that came to a client's call of that very statement, and that
-/// answered it as done, and nothing else, unless the turn was cut.
-pub fn written_is_done()
-    ensures { WrittenIsDone }
-{}
-
-/// A call of such a statement is answered in its own turn, once: it is refused and nothing is written, or it is done, unless
-/// the turn was cut.
-pub fn each_is_answered()
-    ensures { EachIsAnswered }
-{}
-
-/// What is written for a call that is answered as done stays on the disk of its node, through stops and starts.
-pub fn done_stays()
-    ensures { DoneStays }
 {}
 
 /// Each record of such a statement on a disk was written by a turn of that node that came to its call.

@@ -4,12 +4,11 @@
 //! Where the answers of a run come from: the run of a statement at its table, over the Execs and the Replies of its session tree.
 #![tactic(auto)]
 
-ghost use Rattle.answer_origin_laws.specs.CallTurns.{PendingCallsCame, TurnsFindCallsCome, WhatComesIsPending};
+ghost use Rattle.answer_origin_laws.specs.CallTurns.{PendingCallsCame, TurnsFindCallsCome};
 ghost use Rattle.answer_origin_laws.specs.TriedCalls.{TheTriedCalls};
-ghost use Rattle.answer_origin_laws.specs.ReplyLaws.{RepliesComeFromRuns, LowerCallsAreTold};
+ghost use Rattle.answer_origin_laws.specs.ReplyLaws.{RepliesComeFromRuns};
 ghost use Rattle.answer_origin_laws.specs.TriedPlace.{TheTriedPlace};
-ghost use Rattle.answer_origin_laws.specs.ToldLaws.{LinesComeFromTurns};
-ghost use Rattle.answer_origin_laws.specs.LeadLaws.{RepliesLeadToRuns, KeptAnswersLeadToRuns, CallsEndAsReplied, CallsEndAtOnce};
+ghost use Rattle.answer_origin_laws.specs.LeadLaws.{RepliesLeadToRuns, KeptAnswersLeadToRuns};
 
 /// A pending call came in a turn of its session's node and has been pending since, with no other call of the session, unless
 /// it comes next.
@@ -20,11 +19,6 @@ pub fn pending_calls_came()
 /// In each turn each pending call comes, or has come before.
 pub fn turns_find_calls_come()
     ensures { TurnsFindCallsCome }
-{}
-
-/// What comes to a node as a client's call is the pending call of its session, with what its command asks.
-pub fn what_comes_is_pending()
-    ensures { WhatComesIsPending }
 {}
 
 /// None of this is about nothing: in a script of two nodes an INSERT over a link waits for its Reply, and a CREATE TABLE for
@@ -39,11 +33,6 @@ pub fn replies_come_from_runs()
     ensures { RepliesComeFromRuns }
 {}
 
-/// The last call that a live branch below a root took is told, and so is the run that the answer comes from which it keeps.
-pub fn lower_calls_are_told()
-    ensures { LowerCallsAreTold }
-{}
-
 /// That run is one that the Reply's call led to: an Exec brought the branch a statement, and the names of its table lead
 /// over links to the node and the table where it ran, with an Exec for each link, none of them after the run.
 pub fn replies_lead_to_runs()
@@ -53,24 +42,6 @@ pub fn replies_lead_to_runs()
 /// So is the run of an answer that a live branch below a root keeps for a call that comes again.
 pub fn kept_answers_lead_to_runs()
     ensures { KeptAnswersLeadToRuns }
-{}
-
-/// A client's call that ends on a Reply, and not with a refusal, ends with the answer of the run that the Reply came from.
-/// The call led to that run, which came no earlier than the call.
-pub fn calls_end_as_replied()
-    ensures { CallsEndAsReplied }
-{}
-
-/// A client's statement that is answered in the turn that it comes to, and not with a refusal, ran in that turn, at the root
-/// of its session.
-pub fn calls_end_at_once()
-    ensures { CallsEndAtOnce }
-{}
-
-/// Each line that has the answer of a node comes from a turn that ended the pending call of its command with that answer,
-/// and left the session none.
-pub fn lines_come_from_turns()
-    ensures { LinesComeFromTurns }
 {}
 
 /// No law of places is about nothing: in the tried run of two nodes B's Reply is told to come from its run of the statement

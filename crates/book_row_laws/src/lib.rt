@@ -5,30 +5,14 @@
 //! same row: locks kept the transactions that changed it in order (`specs/RowLaws.antt`).
 #![tactic(auto)]
 
-ghost use Rattle.book_row_laws.specs.RowLaws.{DoubtsAgree, OrdersAgree, RowsAgree, BookRowsFit};
+ghost use Rattle.book_row_laws.specs.RowLaws.{OrdersAgree};
 ghost use Rattle.book_row_laws.specs.TriedBookRows.{TheTriedBookRows};
 ghost use Rattle.book_row_laws.specs.TriedForcedRows.{TheTriedForcedRows};
-
-/// The keys in doubt by the book are those of the changes that the branches in doubt of the node hold back, in their order.
-pub fn doubts_agree()
-    ensures { DoubtsAgree }
-{}
 
 /// At each key that is not in doubt the commits of a node leave the same row in the order in which its branches learned them
 /// as in the order of the decisions: locks kept those that changed the key in order.
 pub fn orders_agree()
     ensures { OrdersAgree }
-{}
-
-/// So at each key that is not in doubt a node has the row that the committed transactions of the book leave there, or both
-/// have none.
-pub fn rows_agree()
-    ensures { RowsAgree }
-{}
-
-/// The rows that the committed transactions of the book leave at a node are rows of their tables.
-pub fn book_rows_fit()
-    ensures { BookRowsFit }
 {}
 
 /// These laws are not about nothing: in a run the book has a row at a node from the decision on, which the node itself has only

@@ -11,8 +11,8 @@
 
 ghost use Rattle.run_claims.specs.Undisturbed.{UndisturbedCommitsAreComplete};
 ghost use Rattle.commit_course_laws.specs.CompleteLaws.{LawfulCommitsAreComplete};
-ghost use Rattle.commit_course_laws.specs.CommandCalls.{HoldIsKept, CommandsFindNoCall, CommandsFindNothingInFlight, CommandsHoldTheirCall};
-ghost use Rattle.run_claims.specs.CommitCourse.{CommitsFlow, CommitsEnd, AnsweredCommitsAreReported, QuietCommitsAreComplete};
+ghost use Rattle.commit_course_laws.specs.CommandCalls.{HoldIsKept, CommandsFindNoCall, CommandsFindNothingInFlight};
+ghost use Rattle.run_claims.specs.CommitCourse.{CommitsFlow, CommitsEnd, QuietCommitsAreComplete};
 ghost use Rattle.commit_course_laws.specs.TriedCourse.{TheTriedCourse};
 
 /// An undisturbed COMMIT of a lawful run is complete when nothing is in flight any more: its call has one answer, Commit
@@ -41,11 +41,6 @@ pub fn commands_find_nothing_in_flight()
     ensures { CommandsFindNothingInFlight }
 {}
 
-/// While HOLD is off nothing but the call of the command that runs is pending, unless that is HOLD OFF.
-pub fn commands_hold_their_call()
-    ensures { CommandsHoldTheirCall }
-{}
-
 /// While messages are in flight in the command of a COMMIT that goes well, with HOLD off, the first of them is delivered next.
 pub fn commits_flow()
     ensures { CommitsFlow }
@@ -54,11 +49,6 @@ pub fn commits_flow()
 /// Where such a COMMIT has been answered and nothing is in flight any more, no call is pending and the next command is due.
 pub fn commits_end()
     ensures { CommitsEnd }
-{}
-
-/// Where such a COMMIT has been answered in its command, the report has its line, Commit complete.
-pub fn answered_commits_are_reported()
-    ensures { AnsweredCommitsAreReported }
 {}
 
 /// In the run of a script each quiet COMMIT is undisturbed, it is complete when its command is done, and the report says so.

@@ -7,8 +7,7 @@
 //! none said Abort, that none is Ready and that no row is left are premises here.
 #![tactic(auto)]
 
-ghost use Rattle.commit_leave_laws.specs.StrayLaws.{OpensAreSentOnce, EdgesHaveOneChild, UndisturbedBranchesAreAsked, UndisturbedBranchesLeave};
-ghost use Rattle.commit_leave_laws.specs.CallLaws.{UndisturbedCallsEnd};
+ghost use Rattle.commit_leave_laws.specs.StrayLaws.{OpensAreSentOnce, UndisturbedBranchesAreAsked};
 ghost use Rattle.commit_leave_laws.specs.TriedStray.{TheTriedStray};
 
 /// In every lawful run a branch sent the Open of each of its edges once at most.
@@ -16,25 +15,9 @@ pub fn opens_are_sent_once()
     ensures { OpensAreSentOnce }
 {}
 
-/// Two branches that began over one edge of a parent are one, where the node of neither has stopped since.
-pub fn edges_have_one_child()
-    ensures { EdgesHaveOneChild }
-{}
-
 /// Each branch of an undisturbed COMMIT's transaction was asked to prepare by its parent, where none below the root was dropped.
 pub fn undisturbed_branches_are_asked()
     ensures { UndisturbedBranchesAreAsked }
-{}
-
-/// So none of them is live any more, where none is Ready.
-pub fn undisturbed_branches_leave()
-    ensures { UndisturbedBranchesLeave }
-{}
-
-/// An undisturbed COMMIT has one answer, Commit complete, once no row of its root is left, where no branch below the root was
-/// dropped and none said Abort.
-pub fn undisturbed_calls_end()
-    ensures { UndisturbedCallsEnd }
 {}
 
 /// None of this is about nothing: in the tried run of two nodes one Open is sent, B is asked, and A's COMMIT waits with A and

@@ -5,33 +5,13 @@
 //! is dropped; its collect is over when nothing is in flight, and its root is live no more (`specs/StayLaws.antt`).
 #![tactic(auto)]
 
-ghost use Rattle.commit_stay_laws.specs.GotLaws.{CollectorsGotPrepare, LeaversGotPrepare, CommitsComeFirst};
-ghost use Rattle.commit_stay_laws.specs.StayLaws.{UndisturbedDropsNone, UndisturbedAbortsNone, UndisturbedCollectsAreOver, UndisturbedRootsAreGone};
+ghost use Rattle.commit_stay_laws.specs.GotLaws.{CollectorsGotPrepare};
+ghost use Rattle.commit_stay_laws.specs.StayLaws.{UndisturbedCollectsAreOver, UndisturbedRootsAreGone};
 ghost use Rattle.commit_stay_laws.specs.TriedStay.{TheTriedStay};
 
 /// A live branch below a root that is not working got Prepare of its parent.
 pub fn collectors_got_prepare()
     ensures { CollectorsGotPrepare }
-{}
-
-/// So did a branch below a root that has left, and was not dropped.
-pub fn leavers_got_prepare()
-    ensures { LeaversGotPrepare }
-{}
-
-/// No branch of a transaction has asked another to prepare when its COMMIT comes.
-pub fn commits_come_first()
-    ensures { CommitsComeFirst }
-{}
-
-/// No branch below the root of an undisturbed COMMIT was dropped.
-pub fn undisturbed_commits_drop_none()
-    ensures { UndisturbedDropsNone }
-{}
-
-/// No branch of the transaction of an undisturbed COMMIT said Abort.
-pub fn undisturbed_commits_abort_none()
-    ensures { UndisturbedAbortsNone }
 {}
 
 /// When nothing is in flight none of its branches collects any more.

@@ -2,7 +2,6 @@
 #![tactic(auto)]
 
 ghost use Rattle.node_ready_laws.specs.Rows.{RowsStayOfTables, NoRowsAtFirst};
-ghost use Rattle.node_ready_laws.specs.Shapes.{ShapesStay};
 ghost use Rattle.node_ready_laws.specs.Numbers.{ClocksRiseByOne, OneOpenATurn, SeqsRiseByOne, CallsRiseByOne};
 ghost use Rattle.node_ready_laws.specs.Ids.{IdsStay, NoIdsAtFirst, LivesAreFree, NewIdsAreNew};
 ghost use Rattle.node_ready_laws.specs.Sound.{RecordsFollow, RowsDoNotMatter};
@@ -26,13 +25,6 @@ pub fn numbers_rise_by_one()
     ensures opens { OneOpenATurn }
     ensures seqs { SeqsRiseByOne }
     ensures calls { CallsRiseByOne }
-{}
-
-/// Between turns a live branch has no more children than LINKS allows, with room for one more while it waits for an Opened; it
-/// has one call number for each; and none of them told of more than 256 branches. A turn leaves that so, if no Reply that
-/// it hears tells of more.
-pub fn shapes_stay()
-    ensures { ShapesStay }
 {}
 
 /// The id of each branch that a node deals with was given out by it: before its last start, to a transaction of a session, or

@@ -5,34 +5,10 @@
 //! a commit point site forgets once each neighbour's Ack came (`specs/ForgetLaws.antt`).
 #![tactic(auto)]
 
-ghost use Rattle.run_cause_laws.specs.AbortLaws.{AbortsAreDue};
-ghost use Rattle.run_cause_laws.specs.ForgetLaws.{SitesForgetDuly};
 ghost use Rattle.run_claims.specs.Headline.{EveryTurnKnows};
-ghost use Rattle.run_cause_laws.specs.PassLaws.{ExecsPassOn};
 ghost use Rattle.run_cause_laws.specs.TriedPass.{TheTriedPass};
-ghost use Rattle.run_cause_laws.specs.QuietLaws.{ReadOnlyIsDue};
 ghost use Rattle.run_cause_laws.specs.TriedQuiet.{TheTriedQuiet};
 ghost use Rattle.run_cause_laws.specs.TriedTurns.{TheTriedTurns};
-
-/// A branch says Abort on Prepare where it is gone, or on a child's Abort.
-pub fn aborts_are_due()
-    ensures { AbortsAreDue }
-{}
-
-/// A commit point site forgets once the Ack of each of its neighbours came.
-pub fn sites_forget_duly()
-    ensures { SitesForgetDuly }
-{}
-
-/// An Exec passes on the statement that its sender was asked, over the link that its table is behind.
-pub fn execs_pass_on()
-    ensures { ExecsPassOn }
-{}
-
-/// ReadOnly is said where neither its sender nor a branch below it has changes.
-pub fn read_only_is_due()
-    ensures { ReadOnlyIsDue }
-{}
 
 /// So each record of a turn, and each Exec, Abort, ReadOnly and Committed, has its cause in what came and what happened before.
 pub fn every_turn_knows()

@@ -17,18 +17,12 @@
 //! that is sealed, with the neighbours that its record names (`specs/NeighborLaws.antt`).
 #![tactic(auto)]
 
-ghost use Rattle.tree_cover_laws.specs.GoneLaws.{BranchesHoldWell, CallsFollowAnswers};
+ghost use Rattle.tree_cover_laws.specs.GoneLaws.{CallsFollowAnswers};
 ghost use Rattle.tree_cover_laws.specs.ToldLaws.{AnswersTellWeights};
 ghost use Rattle.run_claims.specs.Headline.{EveryDecisionCovers};
 ghost use Rattle.tree_cover_laws.specs.NeighborLaws.{SealsNameToward};
 ghost use Rattle.tree_cover_laws.specs.TriedNeighbors.{TheTriedNeighbors};
 ghost use Rattle.tree_cover_laws.specs.TriedDropped.{TheTriedDropped};
-
-/// A live branch holds of each child the weight of an answer that is no refusal of a gone branch, unless it waits for the answer,
-/// can only roll back, or its own last answer was such a refusal.
-pub fn branches_hold_well()
-    ensures { BranchesHoldWell }
-{}
 
 /// A branch makes the next call to a child only after an answer of the child to the call before that is no refusal of a gone
 /// branch.

@@ -10,8 +10,7 @@
 ghost use Rattle.tree_trail_laws.specs.ChildLaws.{ChildrenAreTold};
 ghost use Rattle.tree_trail_laws.specs.LowerLaws.{LowerAreTold};
 ghost use Rattle.tree_trail_laws.specs.LeaveLaws.{LowerLeaveAsTold};
-ghost use Rattle.tree_trail_laws.specs.SeenLaws.{SeenIsEnough, SeenIsEnoughToLeave};
-ghost use Rattle.tree_trail_laws.specs.OwnLaws.{AllIsSeen, DecisionsCover, LeavesAreDue};
+ghost use Rattle.tree_trail_laws.specs.OwnLaws.{DecisionsCover};
 ghost use Rattle.run_claims.specs.Headline.{EveryRunIsMeant, EverySiteDecides};
 ghost use Rattle.tree_trail_laws.specs.TriedTrail.{TheTriedTrail};
 ghost use Rattle.tree_trail_laws.specs.TriedOwns.{TheTriedOwns};
@@ -33,25 +32,6 @@ pub fn lower_leave_as_told()
     ensures { LowerLeaveAsTold }
 {}
 
-/// In a lawful run, where the happenings tell also of roots and of the changes of live branches what their nodes keep, each
-/// decision is made by the commit point site of its session tree, every other branch there with changes on it or below it is
-/// sealed before, and seals and decisions have the changes of their branches.
-pub fn seen_is_enough()
-    ensures { SeenIsEnough }
-{}
-
-/// In such a run each branch seals and decides on what is told to have come to it, roots too.
-pub fn seen_is_enough_to_leave()
-    ensures { SeenIsEnoughToLeave }
-{}
-
-/// In every lawful run all that the happenings tell of live branches, roots too, is what their nodes keep, before each
-/// happening: which are live, their parents and children, how far their commit is, their changes, and the transactions of
-/// sessions.
-pub fn all_is_seen()
-    ensures { AllIsSeen }
-{}
-
 /// So in every lawful run each decision is made by the commit point site of its session tree: the branch at which the walk
 /// by commit point strengths ended when the COMMIT was accepted.
 pub fn every_site_decides()
@@ -62,11 +42,6 @@ pub fn every_site_decides()
 /// of their branches.
 pub fn decisions_cover()
     ensures { DecisionsCover }
-{}
-
-/// Each branch seals and decides on what is told to have come to it.
-pub fn leaves_are_due()
-    ensures { LeavesAreDue }
 {}
 
 /// In every lawful run each answer of a run of a statement is meant: a query's rows are what it means over the rows that the

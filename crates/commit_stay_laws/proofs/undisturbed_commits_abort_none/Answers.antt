@@ -1,5 +1,0 @@
-use Rattle.commit_stay_laws.proofs.StayLemmas.{undisturbed_commits_abort_none}
-use Rattle.commit_stay_laws.proofs.undisturbed_commits_abort_none.Goals as goal
-
-pub returns : goal.returns
-returns c = undisturbed_commits_abort_none
