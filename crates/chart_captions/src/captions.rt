@@ -5,9 +5,9 @@ ghost use Rattle.chart_captions.specs.Tale.{wrapped as wrapped_text, answer_if, 
 
 use crate::command::put_command;
 use book::{AnswerLine, Said};
+use chart_marks::Told;
 use dtx_values::{Bytes, Listing, Name};
 use report::{answer_lines, notice_lines};
-use chart_marks::Told;
 use script_read::Command;
 use std::alloc::{AllocError, Global};
 

@@ -2,7 +2,7 @@
 //! width that fits beside the lanes. Calls fail where memory runs out and for no other reason.
 #![tactic(auto)]
 
-mod command;
 mod captions;
+mod command;
 
 pub use captions::tale;

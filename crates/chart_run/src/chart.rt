@@ -12,11 +12,11 @@ ghost use Rattle.chart_run.specs.Drawing.{marks_in, drawn, picture_of};
 ghost use Rattle.chart_run.specs.Ending.{usage_line, EndsLined, EndsShown, EndsUnread, EndsDrawn};
 
 use crate::words::{Choices, wanted};
+use chart_captions::tale;
+use chart_marks::{Marks, marks};
 use chart_text::{Window, plain, svg};
 use dtx_ports::{MemSink, Sink, Source, write_whole};
 use dtx_values::{Duplicate, Listing, Name, Names};
-use chart_marks::{Marks, marks};
-use chart_captions::tale;
 use script_read::Command;
 use script_run::{Outcome, Run, Status, run_script};
 use std::alloc::{AllocError, Global};

@@ -5,8 +5,8 @@ ghost use Rattle.chart_text.specs.Layout.{number_at, lines_at, band_line, band_t
 use crate::places::{answers_x, edge, width};
 use crate::shape::{LineKind, Shape, Spot, TextKind};
 use crate::window::Window;
-use dtx_values::{Duplicate, Listing, Texts};
 use chart_marks::Band;
+use dtx_values::{Duplicate, Listing, Texts};
 use std::alloc::{AllocError, Global};
 use tran_ids::put_decimal;
 

@@ -6,8 +6,8 @@ use crate::places::x_of;
 use crate::shape::{BarKind, LineKind, Shape, Spot, TextKind};
 use crate::window::Window;
 use crate::words::put_window;
-use dtx_values::{Listing, Name};
 use chart_marks::{Deed, Marks};
+use dtx_values::{Listing, Name};
 use std::alloc::{AllocError, Global};
 
 fn put_meaning(

@@ -6,8 +6,8 @@ use crate::drawn::Drawn;
 use crate::places::{edge, x_of, y_of};
 use crate::shape::{BarKind, LineKind, Shape, Spot};
 use crate::window::Window;
-use dtx_values::Name;
 use chart_marks::{Doubt, Outage};
+use dtx_values::Name;
 use std::alloc::{AllocError, Global};
 
 fn lane(window: Window, node: u64) -> Shape

@@ -7,8 +7,8 @@ use crate::places::{beside, gap, side_toward, x_of, y_of};
 use crate::shape::{LineKind, Shape, Spot, TextKind};
 use crate::window::{Window, end_row};
 use crate::words::put_message;
-use dtx_values::Listing;
 use chart_marks::{Arrow, End, Repeat};
+use dtx_values::Listing;
 use std::alloc::{AllocError, Global};
 
 /// A line in a row, from lane to lane.

@@ -8,8 +8,8 @@ use crate::places::{beside, x_of, y_of};
 use crate::shape::{LineKind, Shape, Spot, TextKind};
 use crate::window::Window;
 use crate::words::{put_deed, put_parting};
-use dtx_values::{Listing, Name};
 use chart_marks::{Note, Parting, Side};
+use dtx_values::{Listing, Name};
 use std::alloc::{AllocError, Global};
 
 /// The sign of what a node did or met.

@@ -5,8 +5,8 @@ ghost use Rattle.chart_text.specs.Plain.{legend as legend_line, names_from, end_
 
 use crate::window::{Window, end_row};
 use crate::words::{put_deed, put_message, put_parting, put_window};
-use dtx_values::{Bytes, Listing, Name};
 use chart_marks::{Arrow, Band, Doubt, End, Marks, Note, Outage, Parting, Repeat};
+use dtx_values::{Bytes, Listing, Name};
 use std::alloc::{AllocError, Global};
 use tran_ids::{node_name, put_decimal};
 

@@ -1,7 +1,7 @@
 //! What a picture is made of.
 
-use dtx_values::{Bytes, Texts};
 use chart_marks::{Deed, Side};
+use dtx_values::{Bytes, Texts};
 
 /// A point of a picture.
 #[derive(Clone, Copy, Debug)]

@@ -8,8 +8,8 @@ use crate::looks::{bar_look, is_crossed, line_look, sign_look, text_look};
 use crate::places::{edge, height, width};
 use crate::shape::{Shape, Spot, TextKind};
 use crate::window::Window;
-use dtx_values::Bytes;
 use chart_marks::Marks;
+use dtx_values::Bytes;
 use std::alloc::{AllocError, Global};
 use tran_ids::put_decimal;
 

@@ -3,8 +3,8 @@ ghost use Rattle.std.specs.Prelude.{◌≡◌, ◌++◌, OnOk};
 ghost use Rattle.chart_text.specs.Words.{title_words as title_start, window_text, message_text, deed_words as words_of, deed_number as number_of, number_text, parting_text};
 
 use crate::window::Window;
-use dtx_values::Name;
 use chart_marks::{Deed, Parting};
+use dtx_values::Name;
 use std::alloc::AllocError;
 use tran_ids::{node_name, put_decimal};
 use wire_msg::KindName;

@@ -169,7 +169,7 @@ module _ (k0 : NodeState) (input : Input) (g : BranchId) (a : Answer) where
           let one = abandon_its l l.parent is in
           let abort = aborts why in
           Hears_abort abort.0 (subst (λ i. Came input abort.0 i kinds.Abort) one.0 abort.1) (leaves_by k (now.near (acting_apart why)) l one.0 (acting_live why) (act_turn k l below acts.Abandon).after refl _ (abandon_silent (act_turn k l below acts.Abandon).after.clock l l.parent))
-              (subst (λ i. a ≡ tran_refusal 2050 i) one.0 one.1)
+          (subst (λ i. a ≡ tran_refusal 2050 i) one.0 one.1)
       act_ends l below acts.Rest why none = absurd none
       act_ends l below acts.AskDown why none = absurd none
       act_ends l below acts.SayReadOnly why none = absurd none

@@ -8,8 +8,8 @@ ghost use Rattle.record_log.specs.Held.{HoldRecords};
 ghost use Rattle.redo_record.specs.declared.record.RedoRecord.{RedoRecord as RedoRecordBy};
 
 use block_disk::{Disk, MemDisk};
-use node_spell_laws::messages_fit;
 use node_disk::Node;
+use node_spell_laws::messages_fit;
 use record_log::{RecordLog, Records, hold_one_list};
 use redo_record::{Decision, Place, RedoRecord};
 use std::alloc::Global;

@@ -7,10 +7,10 @@ ghost use Rattle.lone_node.specs.Played.{commits as commits_by, works as works_b
 
 use crate::coming::{Comes, incoming};
 use block_disk::MemDisk;
-use node_spell_laws::{messages_fit, records_fit};
 use node_disk::{CutAt, Effects, Incoming, Node, TurnErr};
 use node_points::Point;
 use node_ready_laws::turns_stay_ready;
+use node_spell_laws::{messages_fit, records_fit};
 use session_tree::{Live, Phase};
 use sql_statement::Stmt;
 use std::alloc::Global;

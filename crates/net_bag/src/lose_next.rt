@@ -29,8 +29,6 @@ impl LoseNext {
     pub(crate) fn fits(&self, msg: &Msg) -> bool
         ensures { result ≡ is_order_for msg.now self.now }
     {
-        self.kind.is(msg.kind.name())
-            && self.from == msg.from.node
-            && self.to == msg.to.node
+        self.kind.is(msg.kind.name()) && self.from == msg.from.node && self.to == msg.to.node
     }
 }

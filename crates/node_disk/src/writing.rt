@@ -23,9 +23,9 @@ ghost use Rattle.node_disk.specs.OnDisk.{StandsOn, HoldsNext, MayStand, turn_cal
 use crate::effects::Effects;
 use crate::err::{CutAt, CutTurn, TurnErr, Unwritten};
 use block_disk::Disk;
-use node_spell_laws::{has_few, record_fits};
 use node_points::{Passes, Point, Side, reaches};
 use node_ready_laws::records_follow;
+use node_spell_laws::{has_few, record_fits};
 use record_log::{AppendErr, RecordLog};
 use redo_record::RedoRecord;
 

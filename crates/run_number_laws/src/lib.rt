@@ -13,9 +13,9 @@ ghost use Rattle.run_number_laws.specs.There.{MessagesGoToNodes, DueMessagesAreT
 ghost use Rattle.run_number_laws.specs.Turns.{WhatIsDueMayHappen, DueTurnsFindAble};
 ghost use Rattle.run_number_laws.specs.RootLaws.{RootsWork, CommitsFindWork, TurnsFindWork};
 
-use run_ready_laws::{nodes_are_ready, the_run_is_lawful};
 use node_ready_laws::turns_stay_ready;
 use run_base_laws::commits_are_recorded;
+use run_ready_laws::{nodes_are_ready, the_run_is_lawful};
 
 /// In every lawful run the numbers of each node that is up are no more than the happenings so far: its clock, the sessions that
 /// it opened, the transactions of its sessions, the calls of its branches. So are the SCNs of every message that was sent, and

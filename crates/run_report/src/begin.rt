@@ -9,13 +9,13 @@ ghost use Rattle.run_report.specs.Known.{begun, calls_by, orders_by, told_by};
 use crate::RunReport;
 use book::Said;
 use dtx_values::{Duplicate, Listing};
+use run_report_parts::{
+    Call, CommandOutput, DiskOrders, StopOrder, call_at, opens_gate, orders_at, over, set_orders,
+};
 use script_read::Command;
 use sql_statement::Stmt;
 use std::alloc::{AllocError, Global};
 use std::mem;
-use run_report_parts::{
-    Call, DiskOrders, CommandOutput, StopOrder, call_at, opens_gate, orders_at, over, set_orders,
-};
 
 /// What is known of the facts of a run as a command begins.
 #[derive(Drop)]

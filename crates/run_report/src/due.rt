@@ -7,9 +7,9 @@ ghost use Rattle.run_report.specs.Due.{due_as, due_by, act_by, acts_once_by, flo
 
 use crate::RunReport;
 use dtx_values::{DELIVERY_LIMIT, Duplicate};
+use run_report_parts::{Call, call_at};
 use script_read::Command;
 use std::alloc::{AllocError, Global};
-use run_report_parts::{Call, call_at};
 
 /// What is due next.
 #[derive(Drop)]

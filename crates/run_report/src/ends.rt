@@ -8,12 +8,12 @@ use crate::RunReport;
 use book::{AnswerLine, Said};
 use dtx_values::Notice;
 use node_rules::{Ended, Finished};
-use std::alloc::{AllocError, Global};
-use std::mem;
 use run_report_parts::{
     Call, Ending, Point, call_at, change_calls, drop_call, ending_of, is_running, point_reached,
     reached_of,
 };
+use std::alloc::{AllocError, Global};
+use std::mem;
 use wire_msg::Input;
 
 impl RunReport {

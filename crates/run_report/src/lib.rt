@@ -10,13 +10,13 @@ mod begin;
 mod cut;
 mod due;
 mod ends;
-mod stops;
 mod run_report;
+mod stops;
 mod turn;
 
 pub use begin::BeginFacts;
 pub use cut::Cut;
 pub use due::{Due, DueFacts};
-pub use stops::StopFacts;
 pub use run_report::RunReport;
+pub use stops::StopFacts;
 pub use turn::TurnFacts;

@@ -10,9 +10,9 @@ ghost use Rattle.run_report.specs.Known.{told_by};
 
 use book::AnswerLine;
 use dtx_values::Listing;
+use run_report_parts::{Call, CommandOutput, DiskOrders, Point, call_at, orders_at};
 use std::alloc::{AllocError, Global};
 use std::marker::Model;
-use run_report_parts::{Call, DiskOrders, CommandOutput, Point, call_at, orders_at};
 
 /// What is told of a run so far, and what comes next beside its facts.
 #[derive(Drop)]

@@ -10,9 +10,9 @@ ghost use Rattle.run_report.specs.Known.{call_falls, calls_fall, fallen, is_fail
 use crate::RunReport;
 use book::Said;
 use dtx_values::Notice;
+use run_report_parts::{CallKey, Strike, down, keys_at, node_stopped};
 use script_read::Command;
 use std::alloc::{AllocError, Global};
-use run_report_parts::{CallKey, Strike, down, keys_at, node_stopped};
 
 /// What is known of the facts of a run as a node stops.
 #[derive(Clone, Copy, Debug)]

@@ -12,9 +12,9 @@ use book::{Took, Turn};
 use crash_points::point_of;
 use node_points::Passes;
 use node_rules::{Ended, Session};
+use run_report_parts::{Point, call_at};
 use sql_statement::Stmt;
 use std::alloc::{AllocError, Global};
-use run_report_parts::{Point, call_at};
 use wire_msg::Input;
 
 /// What is known of a turn beside its happening.

@@ -3,8 +3,8 @@
 
 ghost use Rattle.run_spell_laws.specs.ByteRuns.{NodesKeepBytes, MessagesHaveBytes, TurnsHaveBytes, ScriptsCallsAreSpelled, DueCallsAreSpelled, DueTurnsHaveBytes};
 
-use run_ready_laws::{nodes_are_ready, the_run_is_lawful};
 use node_spell_laws::{messages_fit, records_fit};
+use run_ready_laws::{nodes_are_ready, the_run_is_lawful};
 
 /// In every lawful run whose Replies tell of no more branches than a Reply may, and whose calls are of statements that texts spell,
 /// each node that is up keeps what has bytes, each message that was sent has bytes, and so have the record and the messages of

@@ -10,20 +10,20 @@ ghost use Rattle.world.specs.Ran.{IsRan, as_ending};
 ghost use Rattle.script_run.specs.Headline.{IsRun, nothing_done};
 ghost use Rattle.script_run.specs.Ending.{status_code};
 
+use answer_done_laws::done_is_reported;
 use answer_laws::every_answer_has_its_place;
 use book::{AnswerLines, Book, Trace};
 use book_laws::every_scn_is_later;
 use commit_course_laws::quiet_commits_are_complete;
-use answer_done_laws::done_is_reported;
 use dtx_values::Listing;
+use run_cause_laws::every_turn_knows;
 use run_ready_laws::the_run_is_lawful;
 use run_trace::Recorded;
 use script_read::Commands;
 use std::alloc::Global;
 use tree_cover_laws::every_decision_covers;
-use tree_trail_laws::{every_run_is_meant, every_site_decides};
 use tree_laws::every_book_agrees;
-use run_cause_laws::every_turn_knows;
+use tree_trail_laws::{every_run_is_meant, every_site_decides};
 use world::Ran;
 
 /// How a run of the program ends.

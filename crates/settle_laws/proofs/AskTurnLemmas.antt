@@ -236,8 +236,12 @@ module _ (t : History) (s_lawful : IsLawfulRun t) (u : Turn) (k : NodeState) whe
 
             by : (q : Bool) → same m.to b ≡ q → LivesAt g b ⊎ ((c : Live) × (live_at k m.to ≡ Some c) × (b ≡ m.to) × (d ≡ drops k0 c (post m.to m.from kinds.RolledBack)))
             by true that = inr (l, at, sym (equal_from_same m.to b that), is)
-            by false other = inl (record { node = d.after; up = up; live = x.live;
-              found = ap (λ (z : Deed). live_at z.after b) is ∙ (drop_leaves live_id k.lives l.me b (ap (λ c. same c b) me ∙ other) ∙ found) })
+            by false other = inl (record {
+              node = d.after;
+              up = up;
+              live = x.live;
+              found = ap (λ (z : Deed). live_at z.after b) is ∙ (drop_leaves live_id k.lives l.me b (ap (λ c. same c b) me ∙ other) ∙ found);
+            })
 
     -- ---- messages
 

@@ -87,7 +87,6 @@ use Rattle.tree_laws.specs.Forests.{forest_of}
 use Rattle.tree_laws.proofs.ForestRunLemmas.{runs_have_forests}
 use Rattle.tree_site_laws.proofs.TimeLemmas.{Part}
 
-
 -- where a row is changed it is found changed
 change_found : (b : BranchId) (h : Standing → Standing) → ((x : Standing) → (h x).me ≡ x.me) → (ks : List Standing) (s : Standing) → item_at standing_id ks b ≡ Some s → item_at standing_id (change_where (stands_at b) h ks) b ≡ Some (h s)
 change_found b h me [] s none = absurd cc
@@ -301,8 +300,12 @@ module _ (t : History) (s_lawful : IsLawfulRun t) (u : Turn) (k : NodeState) whe
     lives_on b x = elim (cases_nat u.node b.node) [
       | inr other ↦ record { node = x.node; up = (turn_elsewhere t.places t.commands f even u b.node other).0 ∙ x.up; live = x.live; found = x.found }
       | inl at ↦ (let both : Some k ≡ Some x.node = sym may.up ∙ subst (λ n. node_at f n ≡ Some x.node) (sym at) x.up in let same_node : k ≡ x.node = cc in
-          record { node = d.after; up = subst (λ n. node_at g n ≡ Some d.after) at here; live = x.live;
-            found = ap (λ (ls : List Live). item_at live_id ls b) (lives_same d result) ∙ subst (λ (z : NodeState). live_at z b ≡ Some x.live) (sym same_node) x.found })
+          record {
+            node = d.after;
+            up = subst (λ n. node_at g n ≡ Some d.after) at here;
+            live = x.live;
+            found = ap (λ (ls : List Live). item_at live_id ls b) (lives_same d result) ∙ subst (λ (z : NodeState). live_at z b ≡ Some x.live) (sym same_node) x.found;
+          })
     ]
 
     -- ---- messages

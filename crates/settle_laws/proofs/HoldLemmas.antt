@@ -82,8 +82,7 @@ pub tells_for : (t : List Event) (ks : List Standing) → AllByRecursion (Holds 
 tells_for t [] all = ([], tt)
 tells_for t (x ∷ ks) all =
     let rest = tells_for t ks all.1 in
-    let says : List Post = to_one x.me kinds.Ack x.toward in
-    (
+    let says : List Post = to_one x.me kinds.Ack x.toward in (
       rest.0 ++ says,
       (
         inl (all.0.0, λ knows fresh every. (let q = all.0.1 knows fresh every in (q.0, q.1, sent_new is_ack rest.0 says x.me q.0 (one_sent is_ack x.me kinds.Ack x.toward q.0 refl q.1)))),

@@ -81,7 +81,6 @@ use Rattle.tree_laws.specs.Forests.{forest_of}
 use Rattle.tree_laws.proofs.ForestRunLemmas.{runs_have_forests}
 use Rattle.tree_site_laws.proofs.TimeLemmas.{Part}
 
-
 -- Rollback, or RolledBack
 abbrev pub TellsRollback : Kind → Type 0
 TellsRollback kind = (kind ≡ kinds.Rollback) ⊎ (kind ≡ kinds.RolledBack)
@@ -241,7 +240,7 @@ module _ (t : History) (s_lawful : IsLawfulRun t) (u : Turn) (k : NodeState) whe
         by false other =
             Rests (λ s at toward undecided. not_both s x.live at found)
             (λ l at parent. (let both : Some l ≡ Some x.live = sym at ∙ found in let it : l ≡ x.live = cc in
-                let up : is_branch m.from x.live.parent ≡ true = ap (is_branch m.from) (ap (λ (z : Live). z.parent) (sym it) ∙ parent) ∙ same_from_equal m.from m.from refl in absurd (cc (up, other))))
+            let up : is_branch m.from x.live.parent ≡ true = ap (is_branch m.from) (ap (λ (z : Live). z.parent) (sym it) ∙ parent) ∙ same_from_equal m.from m.from refl in absurd (cc (up, other))))
             (ap (λ (w : Bool). if w then drops k0 x.live [] else nothing k0) other)
 
     result : Result d
@@ -337,8 +336,12 @@ module _ (t : History) (s_lawful : IsLawfulRun t) (u : Turn) (k : NodeState) whe
 
             by : (q : Bool) → same m.to b ≡ q → LivesAt g b ⊎ ((c : Live) × (live_at k m.to ≡ Some c) × (b ≡ m.to) × (d ≡ drops k0 c []))
             by true that = inr (l, at, sym (equal_from_same m.to b that), is)
-            by false other = inl (record { node = d.after; up = up; live = x.live;
-              found = ap (λ (z : Deed). live_at z.after b) is ∙ (drop_leaves live_id k.lives l.me b (ap (λ c. same c b) me ∙ other) ∙ found) })
+            by false other = inl (record {
+              node = d.after;
+              up = up;
+              live = x.live;
+              found = ap (λ (z : Deed). live_at z.after b) is ∙ (drop_leaves live_id k.lives l.me b (ap (λ c. same c b) me ∙ other) ∙ found);
+            })
 
     -- ---- messages
 
@@ -521,7 +524,7 @@ module _ (t : History) (s_lawful : IsLawfulRun t) (u : Turn) (k : NodeState) whe
     lives_after x (Dropped c live is) all =
         subst (λ (z : Deed). AllByRecursion (LiveSo g) z.after.lives) (sym is)
         (all_filter LiveHere (LiveSo g) (λ l. not (same l.me c.me)) (λ l stays so. live_on l so (λ at q parent from.
-            (let that : same l.me c.me ≡ true = same_from_equal l.me c.me (sym at ∙ sym (item_is live_id k.lives m.to c live)) in let no_that : same l.me c.me ≡ false = not-true (same l.me c.me) stays in absurd (cc (that, no_that))))) k.lives all)
+        (let that : same l.me c.me ≡ true = same_from_equal l.me c.me (sym at ∙ sym (item_is live_id k.lives m.to c live)) in let no_that : same l.me c.me ≡ false = not-true (same l.me c.me) stays in absurd (cc (that, no_that))))) k.lives all)
 
     -- a branch of another node is not told
     elsewhere : (n : ℕ) → u.node ≢ n → (b : BranchId) → b.node ≡ n → m.to ≡ b → ⊥

@@ -16,9 +16,9 @@ use crate::slots::{has_transaction, is_up};
 use block_disk::{Order, Stop};
 use book::Happening;
 use dtx_values::Duplicate;
+use run_report::BeginFacts;
 use script_read::Command;
 use std::alloc::{AllocError, Global};
-use run_report::BeginFacts;
 use world_parts::{left_by, order_net};
 
 impl World {

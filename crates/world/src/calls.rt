@@ -12,8 +12,8 @@ use crate::World;
 use crate::laws::what_is_due_can_happen;
 use book::Took;
 use node_disk::Incoming;
-use std::alloc::{AllocError, Global};
 use run_report_parts::Call;
+use std::alloc::{AllocError, Global};
 use world_parts::bytes_of;
 
 impl World {

@@ -9,9 +9,9 @@ ghost use Rattle.world.specs.Linked.{IsLinked};
 
 use crate::World;
 use crate::slots::{is_enabled, is_up};
+use run_report::{Due, DueFacts};
 use script_read::Command;
 use std::alloc::{AllocError, Global};
-use run_report::{Due, DueFacts};
 use world_parts::command_at;
 
 impl World {

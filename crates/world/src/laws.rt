@@ -1,11 +1,11 @@
 //! The laws of runs that the world stands on.
 ghost use Rattle.world.specs.Needs.{DueTurnsCanBeTaken, DueMessagesAreThere, DueNodesAreThere, EachStartsSeldom, DeliveriesAreFew};
 
+use run_number_laws::{
+    commits_find_work, deliveries_are_within, due_is_there, due_turns_find_able, each_starts_seldom,
+};
+use run_ready_laws::{counts_are_few, the_run_is_lawful};
 use run_spell_laws::{calls_are_spelled, runs_have_bytes};
-use run_ready_laws::counts_are_few;
-use run_ready_laws::the_run_is_lawful;
-use run_number_laws::{deliveries_are_within, due_is_there, due_turns_find_able, each_starts_seldom};
-use run_number_laws::commits_find_work;
 
 /// The turn that is due can be taken.
 #[tactic(auto, using(crate::proofs::NeedLemmas::turns_taken))]

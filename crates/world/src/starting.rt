@@ -28,7 +28,12 @@ use tran_ids::node_name;
 use world_parts::{count_boot, next_boot};
 
 // The start of the node of a number is tried, which is of this place.
-fn try_at(alloc: Global, slots: &mut Vec<NodeSlot>, node: u8, place: Place) -> Result<(), AllocError>
+fn try_at(
+    alloc: Global,
+    slots: &mut Vec<NodeSlot>,
+    node: u8,
+    place: Place,
+) -> Result<(), AllocError>
     requires there { IsNode (length slots.old.items) node }
     requires ready { (slot : NodeSlotBy) → numbered slots.old.items node ≡ Some slot → CanStart slot }
     ensures { OnOk result (TriesAt place node slots.old.items slots.new.items) }

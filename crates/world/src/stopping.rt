@@ -17,9 +17,9 @@ use crate::World;
 use crate::laws::what_is_due_can_happen;
 use crate::slots::is_up;
 use book::Happening;
+use run_report::StopFacts;
 use script_read::Command;
 use std::alloc::{AllocError, Global};
-use run_report::StopFacts;
 use tran_ids::node_name;
 use world_parts::{command_at, losses_of};
 

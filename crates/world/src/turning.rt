@@ -26,9 +26,9 @@ use book::{Happening, Took, Turn};
 use dtx_values::Listing;
 use node_disk::{CutTurn, Effects, Finished, Incoming, Mailed, TurnErr};
 use node_rules::{Ended, Session};
+use run_report::{Cut, TurnFacts};
 use std::alloc::{AllocError, Global};
 use std::collections::VecDeque;
-use run_report::{Cut, TurnFacts};
 use wire_msg::Msgs;
 use world_parts::take_message;
 

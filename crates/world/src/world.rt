@@ -20,11 +20,11 @@ use crate::slots::made_all;
 use book::Entry;
 use net_bag::Bag;
 use redo_record::Places;
+use run_report::{Due, RunReport};
 use run_trace::Trace;
 use script_read::Commands;
 use std::alloc::{AllocError, Global};
 use std::collections::VecDeque;
-use run_report::{Due, RunReport};
 use world_parts::{DisksShown, once_each};
 
 /// The world of a run so far.
