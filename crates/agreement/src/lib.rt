@@ -3,7 +3,7 @@
 //! events and of its book: branches end as their commit point site decided, mixed outcomes are marked, and the SCN of a
 //! decision exceeds those of the seals.
 //!
-//! Nothing is said here of how nodes work. The crate run_laws shows that the turns of nodes make such events.
+//! Nothing is said here of how nodes work. The crate run_branch_laws shows that the turns of nodes make such events.
 #![tactic(auto)]
 
 ghost use Rattle.agreement.specs.Laws.{RollbackMeansUndecided, CommitAsDecided, DecisionIsLater, DecisionCovers, CommitComesAfter, DoomedIsUndecided, BooksAgree, BooksAreMarked, DecisionsExceedSeals};

@@ -1,7 +1,7 @@
 //! The parts of what is told of a run: pending calls and how they end, the orders on the nodes' disks, the points of
 //! crash-test comments, and the lines of the command that runs.
 //!
-//! Nothing here knows a node or a message. The definitions of run_laws say what a part is and how it changes; each call
+//! Nothing here knows a node or a message. The definitions of run_rules say what a part is and how it changes; each call
 //! gives exactly that. What allocates fails where memory runs out, and for no other reason.
 #![tactic(auto)]
 

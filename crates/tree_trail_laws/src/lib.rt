@@ -1,6 +1,6 @@
 //! What the happenings of a run tell of its branches is what their nodes keep.
 //!
-//! The commit point site, and what a turn may write and say, are spoken of in run_laws by what the happenings tell: who the
+//! The commit point site, and what a turn may write and say, are spoken of in run_claims by what the happenings tell: who the
 //! children of a branch are, what it has changed, who has voted. In every lawful run that is what nodes keep: of live
 //! branches below roots (`specs/ChildLaws.antt`, `specs/LowerLaws.antt`); of roots, where it is so of changes
 //! (`specs/TopLaws.antt`), and of changes, where it is so of roots; so of all (`specs/OwnLaws.antt`). Where it is so of all
