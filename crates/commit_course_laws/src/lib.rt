@@ -1,12 +1,10 @@
-//! An undisturbed COMMIT is complete.
+//! An undisturbed COMMIT is complete, and in the run of a script it is complete in its own command.
 //!
-//! The laws of the crates below put together: no branch below the root is dropped, and none says Abort (`stay_laws`); the walk
-//! of CommitPoint ends where the site decides, or nobody had changes (`point_laws`); its commit reaches each sealed branch
-//! (`told_laws`), and all acknowledge and forget (`forget_laws`); each branch of the transaction was asked and has left, and
-//! the COMMIT is answered (`stray_laws`). `commit_laws` says what an undisturbed COMMIT is, and a complete one.
-//!
-//! The course of a COMMIT in the run of a script: with HOLD off its messages are delivered one after the other until none is
-//! in flight, and it is complete in its own command where nothing disturbs it.
+//! The laws of the crates below put together: no branch below the root is dropped, and none says Abort (commit_stay_laws); the
+//! walk of CommitPoint ends where the site decides, or nobody had changes (commit_point_laws); its commit reaches each sealed
+//! branch (commit_spread_laws), and all acknowledge and forget (commit_forget_laws); each branch of the transaction was asked
+//! and has left, and the COMMIT is answered (commit_leave_laws). `run_claims` says what an undisturbed COMMIT is, and a
+//! complete one. With HOLD off its messages are delivered one after the other until none is in flight.
 #![tactic(auto)]
 
 ghost use Rattle.run_claims.specs.Undisturbed.{UndisturbedCommitsAreComplete};

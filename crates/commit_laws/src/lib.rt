@@ -1,7 +1,7 @@
 //! What a COMMIT comes to that nothing disturbs, and for whom branches wait on the way.
 //!
 //! `specs/Undisturbed.antt` says what an undisturbed COMMIT is and what it leaves. That every undisturbed COMMIT is complete is
-//! proved in `complete_laws`. Proved here of every lawful run is what a delivered message has done (`specs/DeliveryLaws.antt`),
+//! proved in `commit_course_laws`. Proved here of every lawful run is what a delivered message has done (`specs/DeliveryLaws.antt`),
 //! for whom a branch waits that collects (`specs/WaitLaws.antt`), that Prepare is sent once (`specs/OnceLaws.antt`) and why a
 //! branch leaves in a turn (`specs/LeaveLaws.antt`); and of undisturbed COMMITs that their collect ends and their root leaves,
 //! where no branch below it was dropped (`specs/StillLaws.antt`).

@@ -1,10 +1,8 @@
-//! Laws of the run of a script, on which the code of its nodes rests: it is a lawful run, and its nodes are ready for what
-//! comes to them.
+//! The run of a script is a lawful run, and its nodes are ready for whatever comes to them next.
 //!
-//! The branches that Replies tell of, a law of every lawful run, and what it gives: the nodes of every run are ready.
-//!
-//! An Exec carries the room that its session tree still has, and a branch that takes it opens no more children than that. So its Reply tells
-//! of no more branches than its parent knew and the Exec had room for, and no Reply tells of more than a session tree may have.
+//! An Exec carries the room that its session tree still has, and a branch that takes it opens no more children than that. So
+//! its Reply tells of no more branches than its parent knew and the Exec had room for, and no Reply tells of more than a
+//! session tree may have (`specs/CountLaws.antt`).
 #![tactic(auto)]
 
 ghost use Rattle.run_rules.specs.Scripts.{TheRunIsLawful};
@@ -28,8 +26,6 @@ pub fn nodes_are_ready()
     starts_are_ready();
     records_follow();
 }
-
-use run_ready_laws::nodes_are_ready;
 
 /// No Reply tells of more branches than a session tree may have, and so none of more than a Reply may.
 pub fn counts_are_few()

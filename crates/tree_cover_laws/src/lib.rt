@@ -1,20 +1,16 @@
-//! Refusals of gone branches go up to the root: a law of every lawful run.
+//! Each decision covers its tree: every branch with changes is sealed before the commit point site decides, and a seal names
+//! its parent and its neighbour on the way to the site.
 //!
-//! A call that a gone branch refused is refused by each branch above it, and a root that hears of it needs a rollback
-//! (`specs/GoneLaws.antt`). So where a COMMIT is accepted every branch of the tree was answered by each child that it called.
-//!
-//! What a branch told of its weight is what the happenings tell of it: a law of every lawful run.
-//!
-//! A parent holds the weight that its child told with its last answer (`specs/ToldLaws.antt`). The child's node may stop then; the
-//! happenings tell its changes and its children as they were, so its weight is told as its parent holds it.
-//!
-//! Whom the seals of a run name: the parent of their branch, and its neighbour on the way to the commit point site.
-//!
-//! When the COMMIT comes the live branches of a session tree rest and weigh what their parents hold of them
-//! (`proofs/StandLemmas.antt`), and branches that were dropped are told with the weight that their parents hold of them (crate
-//! weigh_laws). So the walk that the happenings tell makes the steps that live branches make (`proofs/StepLemmas.antt`), and
-//! those that are asked later ask and tell by these steps (`proofs/StayLemmas.antt`). So the plan of the COMMIT has each branch
-//! that is sealed, with the neighbours that its record names (`specs/NeighborLaws.antt`).
+//! - Refusals of branches of which their node knows nothing any more go up to the root, and a root that hears of one needs a
+//!   rollback. So where a COMMIT is accepted, every branch of the tree was answered by each child that it called
+//!   (`specs/GoneLaws.antt`).
+//! - A parent holds the weight that its child sent with its last answer, and the happenings give the child that same weight,
+//!   also once the child's node has stopped (`specs/ToldLaws.antt`).
+//! - When the COMMIT comes, the live branches of a session tree rest and weigh what their parents hold of them
+//!   (`proofs/StandLemmas.antt`). So the walk by the happenings makes the steps that live branches make
+//!   (`proofs/StepLemmas.antt`), and those that are asked later ask and answer by these steps (`proofs/StayLemmas.antt`). The
+//!   plan of the COMMIT therefore has each branch that is sealed, with the neighbours that its record names
+//!   (`specs/NeighborLaws.antt`).
 #![tactic(auto)]
 
 ghost use Rattle.tree_cover_laws.specs.GoneLaws.{CallsFollowAnswers};
@@ -23,6 +19,8 @@ ghost use Rattle.run_claims.specs.Headline.{EveryDecisionCovers};
 ghost use Rattle.tree_cover_laws.specs.NeighborLaws.{SealsNameToward};
 ghost use Rattle.tree_cover_laws.specs.TriedNeighbors.{TheTriedNeighbors};
 ghost use Rattle.tree_cover_laws.specs.TriedDropped.{TheTriedDropped};
+
+use tree_trail_laws::decisions_cover;
 
 /// A branch makes the next call to a child only after an answer of the child to the call before that is no refusal of a gone
 /// branch.
@@ -34,8 +32,6 @@ pub fn calls_follow_answers()
 pub fn answers_tell_weights()
     ensures { AnswersTellWeights }
 {}
-
-use tree_trail_laws::decisions_cover;
 
 /// In every lawful run each seal is of a branch of the tree of the COMMIT, and names that branch's parent and its neighbour on
 /// the way to the commit point site.
