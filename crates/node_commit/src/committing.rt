@@ -86,7 +86,7 @@ fn learns(
 ) -> Result<Deed, AllocError>
     requires { IfSome deed.wrote (MayFollow (stored_in memory.old)) }
     ensures deed { IfOk result (λ same. same ≡ deed) }
-    ensures kept { OnOk result (kept_in memory.new ≡ record (with_wrote (kept_in memory.old) deed.wrote) { sessions = decided_sessions memory.old.sessions branch.now decision }) }
+    ensures kept { OnOk result (kept_in memory.new ≡ with_wrote (record (kept_in memory.old) { sessions = decided_sessions memory.old.sessions branch.now decision }) deed.wrote) }
     ensures place { memory.new.place ≡ memory.old.place }
 {
     end_decided(&mut memory.sessions, branch, decision);
@@ -102,7 +102,7 @@ fn forgets(
 ) -> Result<Deed, AllocError>
     requires { IfSome deed.wrote (MayFollow (stored_in memory.old)) }
     ensures deed { IfOk result (λ same. same ≡ deed) }
-    ensures kept { OnOk result (kept_in memory.new ≡ record (with_wrote (kept_in memory.old) deed.wrote) { sessions = commit_ended memory.old.sessions branch.now }) }
+    ensures kept { OnOk result (kept_in memory.new ≡ with_wrote (record (kept_in memory.old) { sessions = commit_ended memory.old.sessions branch.now }) deed.wrote) }
     ensures place { memory.new.place ≡ memory.old.place }
 {
     memory.sessions.end_commit(branch);
