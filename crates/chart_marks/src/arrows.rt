@@ -1,5 +1,6 @@
 //! The messages of a run, each with its end.
 ghost use Rattle.std.specs.Prelude.{◌≡◌, ◌<◌, ◌^◌, ◌++◌, ◌∷◌, IfOk, OnOk};
+ghost use Rattle.wire_msg.specs.Names.{name_of_kind};
 ghost use Rattle.chart_marks.specs.Data.ends;
 ghost use Rattle.chart_marks.specs.Rows.{rows_of};
 ghost use Rattle.chart_marks.specs.Marks.{sent_arrow, with_sent, with_end, ended, with_taken, arrows_after, is_flying, flying_in, shown_from, arrows_of, rows_with_flights};
@@ -9,7 +10,7 @@ use crate::mark::{Arrow, End, Told};
 use crate::walk::{Marked, marks_of};
 use book::{Happening, Took, Turn};
 use std::alloc::{AllocError, Global};
-use wire_msg::{Kind, KindName, Msg};
+use wire_msg::Msg;
 
 fn arrow(number: u64, row: u32, msg: &Msg) -> Arrow
     ensures { result ≡ record { number = number; kind = name_of_kind msg.now.kind; from = msg.now.from.node; to = msg.now.to.node; sent = row; end = ends.InFlight row } }
