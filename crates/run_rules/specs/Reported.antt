@@ -5,7 +5,7 @@ use Rattle.std.specs.List.{AllByRecursion}
 use Rattle.redo_log.specs.Cells.{bodies}
 use Rattle.redo_codec.specs.Record.{record_format}
 use Rattle.node_rules.specs.Data.{RedoRecord}
-use Rattle.run_rules.specs.Data.{Command, Said, AnswerLine}
+use Rattle.run_rules.specs.Data.{Command, Said, AnswerLine, Happening}
 use Rattle.run_rules.specs.Data.commands
 use Rattle.run_rules.specs.Data.said
 use Rattle.run_rules.specs.Data.notices
