@@ -2,12 +2,12 @@
 //! asked, and that the run's book agrees as far as each turn does what its session trees allow.
 #![tactic(auto)]
 
-ghost use Rattle.run_branch_laws.specs.Laws.{RunsArePlayed};
-ghost use Rattle.run_branch_laws.specs.EventLaws.{BookOfEvents, JustRunsAreLawful, JustRunsAgree, SealedAreKept, GoneAreDone};
+ghost use Rattle.run_base_laws.specs.Laws.{RunsArePlayed};
+ghost use Rattle.run_base_laws.specs.EventLaws.{BookOfEvents, JustRunsAreLawful, JustRunsAgree, SealedAreKept, GoneAreDone};
 ghost use Rattle.run_branch_laws.specs.HeardLaws.{AcksAreTrue};
 ghost use Rattle.run_branch_laws.specs.TriedRun.{TheTriedRun};
 ghost use Rattle.run_branch_laws.specs.VoteLaws.{LiveHaveNotVoted};
-ghost use Rattle.run_branch_laws.specs.FreezeLaws.{AskedHaveAnswered};
+ghost use Rattle.run_base_laws.specs.FreezeLaws.{AskedHaveAnswered};
 
 /// What a play computes is the run of its script: each happening is the one that is due.
 pub fn runs_are_played()

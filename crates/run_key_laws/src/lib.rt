@@ -2,7 +2,7 @@
 //! and what the book tells of the rows of a node.
 #![tactic(auto)]
 
-ghost use Rattle.run_key_laws.specs.NodeLaws.{HoldersAreThere};
+ghost use Rattle.run_base_laws.specs.NodeLaws.{HoldersAreThere};
 ghost use Rattle.run_key_laws.specs.TriedRows.{TheTriedRows};
 
 /// Each lock of a node is held by a branch that is live there, or in doubt.
