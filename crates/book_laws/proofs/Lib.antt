@@ -1,3 +1,4 @@
+pub mod OrderedLemmas
 pub mod PlaceLemmas
 pub mod DiskLemmas
 pub mod SealLemmas

@@ -27,7 +27,8 @@ use Rattle.run_key_laws.proofs.OrderLemmas.{keys_come_in_order}
 use Rattle.run_key_laws.proofs.CommitOrderLemmas.{has_learned, at_split}
 use Rattle.tree_laws.specs.Forests.{forest_of}
 use Rattle.tree_laws.proofs.ForestRunLemmas.{runs_have_forests}
-use Rattle.tree_laws.proofs.AgreeLemmas.{runs_agree, every_commit_comes_in_order}
+use Rattle.tree_laws.proofs.AgreeLemmas.{runs_agree}
+use Rattle.book_laws.proofs.OrderedLemmas.{every_commit_comes_in_order}
 use Rattle.book_laws.specs.DiskLaws.{node_of, is_of_node}
 use Rattle.book_laws.specs.SealLaws.{ComesFirst}
 use Rattle.book_laws.proofs.PlaceLemmas.{IsOne, found, finds, both_ways, one_of_flat, place_of, one_at, place_before, one_before, any_unfiltered, at_place}

@@ -1,3 +1,4 @@
+pub mod OrderedLaws
 pub mod DiskLaws
 pub mod SealLaws
 pub mod WriteLaws

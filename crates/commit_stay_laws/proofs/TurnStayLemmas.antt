@@ -33,7 +33,7 @@ use Rattle.tree_laws.proofs.PrefixLemmas.{so_far, f_at, e_at}
 use Rattle.tree_site_laws.proofs.FateLemmas.{among_found}
 use Rattle.tree_site_laws.proofs.LeaveLemmas.{messages_exit}
 use Rattle.tree_site_laws.proofs.TimeLemmas.{Part, part_of, part_lawful, fact_at, born_end}
-use Rattle.run_cause_laws.proofs.AbortStepLemmas.{Was_gone, Hears_one, AbortSo, aborts_on}
+use Rattle.run_branch_laws.proofs.AbortStepLemmas.{Was_gone, Hears_one, AbortSo, aborts_on}
 use Rattle.commit_laws.specs.LeaveLaws.{Reason, Seals, Decides, Says_read_only, Gets_rollback, Is_rolled_back, Is_asked, Hears_abort, TurnsHaveReasons}
 use Rattle.run_claims.specs.Undisturbed.{Commit, Undisturbed, branches_in, disturbs, is_disturbed, IsCalm}
 use Rattle.commit_laws.specs.WaitLaws.{HasStopped}

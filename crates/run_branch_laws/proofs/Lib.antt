@@ -7,6 +7,7 @@ pub mod PhaseLemmas
 pub mod TreeJustLemmas
 pub mod HeardLemmas
 pub mod QuietLemmas
+pub mod AbortStepLemmas
 pub mod HeardStandLemmas
 mod TriedRunLemmas
 pub mod TowardLemmas

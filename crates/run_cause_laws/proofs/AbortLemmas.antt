@@ -43,7 +43,7 @@ use Rattle.tree_trail_laws.proofs.SeenRunLemmas.{all_is_seen}
 use Rattle.run_cause_laws.specs.AbortLaws.{MayAbort, AbortsDuly, AbortsAreDue}
 use Rattle.run_cause_laws.proofs.LeftExitLemmas.{abort_first, abort_came}
 use Rattle.run_cause_laws.proofs.LeftLemmas.{IsToldLeft, left_are_told}
-use Rattle.run_cause_laws.proofs.AbortStepLemmas.{Was_gone, Hears_one, AbortSo, aborts_on}
+use Rattle.run_branch_laws.proofs.AbortStepLemmas.{Was_gone, Hears_one, AbortSo, aborts_on}
 
 -- ---- a branch of which its node knows nothing
 

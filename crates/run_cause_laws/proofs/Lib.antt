@@ -2,7 +2,6 @@ pub mod LeftStepLemmas
 pub mod LeftRecordLemmas
 pub mod LeftExitLemmas
 pub mod LeftLemmas
-pub mod AbortStepLemmas
 pub mod AbortLemmas
 pub mod AckStepLemmas
 pub mod OnceLemmas

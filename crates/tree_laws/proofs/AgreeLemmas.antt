@@ -13,8 +13,7 @@ use Rattle.run_base_laws.specs.EventLaws.{EachEventFrom}
 use Rattle.run_branch_laws.specs.TreeJust.{IsTreeAllowed, TreeSends, HappensByTree, GoByTree}
 use Rattle.run_branch_laws.proofs.TreeJustLemmas.{runs_by_trees_agree}
 use Rattle.run_claims.specs.Headline.{EveryBookAgrees, EveryMixedIsMarked}
-use Rattle.run_key_laws.proofs.CommitOrderLemmas.{commits_come_in_order}
-use Rattle.tree_laws.specs.AgreeLaws.{LeavesByForest, RunsGoByForest, RunsAgree, EveryCommitComesInOrder}
+use Rattle.tree_laws.specs.AgreeLaws.{LeavesByForest, RunsGoByForest, RunsAgree}
 use Rattle.tree_laws.specs.Forests.{forest_of}
 use Rattle.tree_laws.specs.MessageLaws.{AckByForest, AcksByForest, RollByForest, RollsByForest}
 use Rattle.tree_laws.specs.NameLaws.{WritesByForest}
@@ -73,6 +72,3 @@ every_book_agrees t lawful = (runs_agree t lawful).0
 
 pub every_mixed_is_marked : EveryMixedIsMarked
 every_mixed_is_marked t lawful = (runs_agree t lawful).1
-
-pub every_commit_comes_in_order : EveryCommitComesInOrder
-every_commit_comes_in_order t lawful = commits_come_in_order t lawful (forest_of t) (runs_have_forests t lawful) (runs_go_by_forest t lawful)

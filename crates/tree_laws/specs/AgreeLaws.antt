@@ -9,7 +9,6 @@ use Rattle.run_rules.specs.Book.{Agreement, MixedIsMarked, AboveSeals}
 use Rattle.run_rules.specs.Facts.{Facts, first_facts, node_at, facts_after, records_at}
 use Rattle.run_rules.specs.Lawful.{History, IsLawfulRun, facts_at}
 use Rattle.run_base_laws.specs.RunEvents.{events_of, lives_at, with_record}
-use Rattle.run_key_laws.specs.CommitOrderLaws.{LeavesAfter}
 use Rattle.run_base_laws.specs.EventLaws.{AtEachEvent}
 use Rattle.run_branch_laws.specs.TreeJust.{TreeLeaves, GoByTree}
 use Rattle.tree_laws.specs.Forests.{forest_of}
@@ -31,10 +30,3 @@ RunsGoByForest = (t : History) → IsLawfulRun t → GoByTree (forest_of t) t.pl
 -- exceeds those of all seals of its transaction.
 abbrev pub RunsAgree : Type 0
 RunsAgree = (t : History) → IsLawfulRun t → Agreement (trace_book t.trace) × MixedIsMarked (trace_book t.trace) × AboveSeals (trace_book t.trace)
-
--- And the transaction of a branch that was never forced has a lower SCN than that of a branch that left after it on one of its keys, where
--- both were committed.
-abbrev pub EveryCommitComesInOrder : Type 0
-EveryCommitComesInOrder = (t : History) → IsLawfulRun t → (n : ℕ) (first second : BranchId) (k m : ℕ) → LeavesAfter (records_at (facts_at t) n) first second
-    → forced (events_of t) first ≡ None → exit (events_of t) (site_of (forest_of t) first) ≡ Some (Decided k)
-    → exit (events_of t) (site_of (forest_of t) second) ≡ Some (Decided m) → k < m
