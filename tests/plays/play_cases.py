@@ -24,12 +24,12 @@ import pathlib
 import sys
 from dataclasses import replace
 
-from cases import NotRead, cases_in, read_case
 from compared import USES, case_blocks, comparison, computed
 from copies import Unchecked, copied_crates
 from files import file_text
+from outside_cases import NotRead, cases_in, read_case
+from play_tokens import command_texts
 from printed import command_at, place_of_difference, printed_from
-from tokens import command_texts
 
 PLAYED, DIFFERS, NOT_READ = "played", "DIFFERS", "not read"
 MORE = 3  # so many times as many happenings has a case that differs at first
