@@ -94,7 +94,7 @@ def put_case(folder, place, case):
 
 def why_said(line, case):
     """None where `rt try` says of a case that it ended as is due, else what it says."""
-    return None if f"status={case.status} " in f"{line} " else line
+    return None if f" run=ended status={case.status} " in line and " output=expected " in line else line
 
 
 def unproved():
