@@ -4,8 +4,9 @@
     docs/definitions.py NAME       each definition of that name: file and line, its comment, and which files cite it
     docs/definitions.py            all definitions, a line each: file and line, name, comment
     docs/definitions.py --reach    the files that the theorem reaches, with the comment at the head of each
-    docs/definitions.py --check    exits with 1 where a document links to a file that is not there, or READING.md does not link
-                                   to a file that the theorem reaches; each such file is a line, and the last line counts them
+    docs/definitions.py --check    exits with 1 where a document links to a file that is not there, READING.md does not link to a
+                                   file that the theorem reaches, or MESSAGES.md names a definition that is not there; each is a
+                                   line, and the last line counts them
 
 The theorem is the contract of run_script (crates/script_run/src/run.rt). It reaches the definitions that the contract names,
 and those that these name in turn.
@@ -26,6 +27,8 @@ THEOREM = ("script_run", "IsRun", "EndsUnread", "EndsRead", "IsComplete", "endin
 PUBLIC = re.compile(r"(?:abbrev |unfoldable )?pub (?:data |record )?(?!use |mod )(\S+)")
 IMPORT = re.compile(r"(?:ghost |pub )*use Rattle\.(\w+)\.specs\.([\w.]+)\.\{(.*)\};?$")
 WORD = re.compile(r"[^\s(){}\[\];,.]+")
+# the definitions that decide a message, and their crate, as MESSAGES.md has them
+DECIDED = re.compile(r"((?:`\w+`, )*`\w+`) \((\w+)\)")
 LINK = re.compile(r"\]\((?!https?:)([^)#\s]+)(?:#[^)]*)?\)")
 
 
@@ -191,10 +194,20 @@ def unlisted():
             yield f"docs/READING.md: the theorem reaches crates/{crate}/specs/{module}.antt"
 
 
+def unknown():
+    """Each definition that MESSAGES.md names and that is not there."""
+    known = {(crate, it.name) for crate, module, _ in specs() for it in definitions_in(crate, module)}
+    for line in (DOCS / "MESSAGES.md").read_text().splitlines():
+        for names, crate in DECIDED.findall(line.rpartition(" | ")[2]):
+            for name in names.replace("`", "").split(", "):
+                if (crate, name) not in known:
+                    yield f"docs/MESSAGES.md: {crate} has no definition {name}"
+
+
 def check():
     """Prints what is wrong with the documents."""
-    wrong = [*wrong_links(), *unlisted()]
-    print(*wrong, f"{len(wrong)} links are missing or lead nowhere", sep="\n")
+    wrong = [*wrong_links(), *unlisted(), *unknown()]
+    print(*wrong, f"{len(wrong)} links and names are missing or lead nowhere", sep="\n")
     return 1 if wrong else 0
 
 
