@@ -18,7 +18,7 @@ BAD = b"NODE A;\nFROB;\n"
 
 
 class Page(html.parser.HTMLParser):
-    """The texts of a page: those of its commands and of its answers, and how many pictures it has."""
+    """The texts of a page: those of its commands and of its answers, and how many places for a picture it has."""
 
     def __init__(self, text):
         super().__init__()
@@ -29,7 +29,7 @@ class Page(html.parser.HTMLParser):
         if tag == "pre":
             self.inside = self.answers if attributes else self.commands
             self.inside.append("")
-        self.pictures += tag == "svg"
+        self.pictures += ("id", "picture") in attributes
 
     def handle_endtag(self, tag):
         if tag == "pre":
@@ -55,7 +55,8 @@ def why_wrong(script):
         return "the commands are not those of the script"
     if page.answers != [line.partition(" ")[2] for line in script.with_suffix(".out").read_text().splitlines()]:
         return "the answers are not those of the report"
-    return None if page.pictures == 1 else f"{page.pictures} pictures"
+    has_picture = page.pictures == 1 and b'<div id="picture">\n<svg ' in done.stdout
+    return None if has_picture else "there is no picture"
 
 
 def main():
